@@ -1,0 +1,4 @@
+pub mod Names
+pub mod Outside
+pub mod Reading
+pub mod Memory

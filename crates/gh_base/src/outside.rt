@@ -1,0 +1,49 @@
+// The two traits, each with its meaning.
+
+ghost use Rattle.std.specs.Prelude.{◌≡◌, ℕ, ◌<◌, ◌≤◌, List, length, Option, IfOk, OnErr, Bool};
+ghost use Rattle.std.specs.Io.KnownBytes.{ReadConsumes, WriteAppends};
+ghost use Rattle.gh_base.specs.Outside.{HasCause, Begins, TakesSome, ReadsWithin, Table};
+
+/// The outside has failed.
+#[derive(Clone, Copy, Debug, PartialEq, Eq)]
+pub struct Failed;
+
+/// Named inputs, of which one at a time is read.
+pub trait Inputs {
+    /// The bytes for each name, where they are told.
+    ghost table: { Self → Option Table };
+
+    /// The bytes left of the input that was begun, where they are told.
+    ghost left: { Self → Option (List ℕ) };
+
+    /// How often the outside has failed.
+    ghost faults: { Self → ℕ };
+
+    /// Begins an input, and says whether there is one of this name.
+    fn begin(&mut self, name: &str) -> Result<bool, Failed>
+        ensures begins { Begins (table self.old) name.now result (left self.new) }
+        ensures table { table self.new ≡ table self.old }
+        ensures cause { HasCause (faults self.old) (faults self.new) result };
+
+    /// Takes the next bytes of the input.
+    fn read(&mut self, into: &mut [u8]) -> Result<usize, Failed>
+        ensures within { ReadsWithin result into.new }
+        ensures bytes { ReadConsumes (left self.old) (left self.new) result into.new }
+        ensures table { table self.new ≡ table self.old }
+        ensures cause { HasCause (faults self.old) (faults self.new) result };
+}
+
+/// A place that takes bytes.
+pub trait Sink {
+    /// The bytes written, where they are told.
+    ghost written: { Self → Option (List ℕ) };
+
+    /// How often the outside has failed.
+    ghost faults: { Self → ℕ };
+
+    /// Takes some bytes from the front of a piece.
+    fn write(&mut self, piece: &[u8]) -> Result<usize, Failed>
+        ensures some { TakesSome result piece.now }
+        ensures bytes { WriteAppends (written self.old) (written self.new) result piece.now }
+        ensures cause { HasCause (faults self.old) (faults self.new) result };
+}

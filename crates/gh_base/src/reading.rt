@@ -1,0 +1,69 @@
+// Reading a whole input.
+
+ghost use Rattle.std.specs.Prelude.{◌≡◌, ◌≤◌, length, IfOk, MatchResult, ⊤};
+ghost use Rattle.gh_base.specs.Reading.{told, IsWhole, IsCaused};
+ghost use Rattle.gh_base.specs.declared.reading.InputError.TheVariants.{ReadFault, OutOfMemory};
+
+use crate::outside::{Failed, Inputs};
+use crate::text::Text;
+use std::alloc::{AllocError, Global};
+use thiserror::Error;
+
+/// Why an input wasn't read.
+#[derive(Debug, Drop, Error)]
+pub enum InputError {
+    #[error("the input failed")]
+    ReadFault,
+    #[error("the input is too long")]
+    TooLong,
+    #[error("there is no such input")]
+    Absent,
+    #[error("out of memory")]
+    OutOfMemory,
+}
+
+impl From<Failed> for InputError {
+    ghost from_gives = { λ _ e. e ≡ ReadFault };
+
+    fn from(_: Failed) -> Self {
+        InputError::ReadFault
+    }
+}
+
+impl From<AllocError> for InputError {
+    ghost from_gives = { λ _ e. e ≡ OutOfMemory };
+
+    fn from(_: AllocError) -> Self {
+        InputError::OutOfMemory
+    }
+}
+
+/// All bytes of the input of a name, at most `limit` of them.
+pub fn read_input<I: Inputs>(
+    alloc: Global,
+    inputs: &mut I,
+    name: &str,
+    limit: usize,
+) -> Result<Text, InputError>
+    ensures ok { IfOk result (λ text. (length text ≤ limit) × IsWhole (told (I.table inputs.old) name.now) text) }
+    ensures refused { MatchResult result (λ _. ⊤) (λ e. IsCaused (told (I.table inputs.old) name.now) limit (I.faults inputs.old) (I.faults inputs.new) e) }
+    ensures table { I.table inputs.new ≡ I.table inputs.old }
+    ensures later { I.faults inputs.old ≤ I.faults inputs.new }
+{
+    if !inputs.begin(name)? {
+        return Err(InputError::Absent);
+    }
+    let mut text = Text::new(alloc);
+    let mut buffer = [0u8; 4096];
+    loop {
+        let wanted = (limit - text.bytes().len()).min(4095) + 1;
+        let count = inputs.read(&mut buffer[..wanted])?;
+        if count == 0 {
+            return Ok(text);
+        }
+        text.push(&buffer[..count])?;
+        if text.bytes().len() > limit {
+            return Err(InputError::TooLong);
+        }
+    }
+}
