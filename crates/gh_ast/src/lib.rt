@@ -1,6 +1,8 @@
 //! The syntax tree of the language, without meaning.
 #![tactic(auto)]
 
+pub mod sign;
+
 use gh_base::name::Name;
 use gh_base::place::Span;
 

@@ -1,0 +1,4 @@
+//! The parser: from the bytes of a text to its syntax tree.
+#![tactic(auto)]
+
+pub mod token;
