@@ -1,0 +1,2 @@
+//! What assertions mean of stores and heaps, walks in heaps, and ownership.
+#![tactic(auto)]

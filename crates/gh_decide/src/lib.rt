@@ -1,0 +1,2 @@
+//! Why valid conditions make good programs.
+#![tactic(auto)]

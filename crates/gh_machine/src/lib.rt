@@ -1,0 +1,2 @@
+//! Runs of programs, and which programs are good.
+#![tactic(auto)]

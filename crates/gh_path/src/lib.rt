@@ -1,0 +1,2 @@
+//! Bodies as graphs, their paths, and the conditions of a program.
+#![tactic(auto)]

@@ -1,0 +1,2 @@
+//! What the steps of a path do, counterexamples, and valid conditions.
+#![tactic(auto)]
