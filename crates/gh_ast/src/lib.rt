@@ -4,6 +4,8 @@
 use gh_base::name::Name;
 use gh_base::place::Span;
 
+pub mod typed;
+
 /// One occurrence of a name.
 #[derive(Debug, Drop)]
 pub struct Occ {
