@@ -1,6 +1,7 @@
 -- Words of programs: names, procedures by name, blocks in a row, and the variables that statements assign.
 use Rattle.std.specs.Prelude.{◌≡◌, ◌≢◌, ◌⊎◌, ℕ, List, [], ◌∷◌, ◌++◌, map, Option, Some, None, Contains}
 use Rattle.gh_ast.specs.declared.Occ.{Occ}
+use Rattle.gh_ast.specs.Occurrences.{variables_of}
 use Rattle.gh_ast.specs.Plain.{Statement, set, new, write, free, call, choice, loop, give, Statements, no_statements, statement_first, Inside, Procedure, Program}
 
 -- the characters of a name
@@ -24,19 +25,12 @@ abbrev pub statements_in : Option Inside → Statements
 statements_in None = no_statements
 statements_in (Some b) = b.statements
 
-abbrev pub locals_in : Option Inside → List Occ
-locals_in None = []
-locals_in (Some b) = b.locals
-
 abbrev pub body_of : Procedure → Statements
 body_of p = statements_in p.body
 
-abbrev pub locals_of : Procedure → List Name
-locals_of p = names (locals_in p.body)
-
--- the variables of a procedure, as they are numbered
-abbrev pub variables_of : Procedure → List Name
-variables_of p = parameters_of p ++ results_of p ++ locals_of p
+-- the names of the variables of a procedure, as they are numbered
+abbrev pub variable_names : Procedure → List Name
+variable_names p = names (variables_of p)
 
 -- the first procedure of the name
 abbrev pub IsFirstNamed : List Procedure → Name → Procedure → Type 0

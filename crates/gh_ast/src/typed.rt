@@ -1,0 +1,66 @@
+//! Programs that keep the type rules and the limits on a text.
+
+ghost use Rattle.std.specs.Prelude.{◌≡◌};
+ghost use Rattle.gh_ast.specs.Plain.{program_of};
+
+use crate::Program;
+use gh_base::place::Span;
+use std::marker::Model;
+
+/// A quantity that passes its limit.
+///
+/// Kind 1 counts the procedures, of which there may be 256; kind 2 the variables of a procedure,
+/// up to 32; kind 3 the atoms of an assertion, up to 32. `span` is the place of the procedure's
+/// name, for kind 1 that of the 257th. `count` is the counted number, or the greatest `u32` where
+/// that is greater.
+#[derive(Clone, Copy, Debug, PartialEq, Eq)]
+pub struct Limit {
+    pub kind: u8,
+    pub span: Span,
+    pub count: u32,
+}
+
+/// A program that keeps the type rules and the limits on a text.
+#[derive(Debug, Drop)]
+pub struct Typed {
+    program: Program,
+}
+
+impl Model for Typed {
+    ghost use Rattle.gh_ast.specs.declared.Program.{Program};
+    ghost use Rattle.gh_ast.specs.Plain.{program_of};
+    ghost use Rattle.gh_ast.specs.Rules.{IsTyped};
+    ghost use Rattle.gh_ast.specs.Limits.{KeepsLimits};
+    ghost use Rattle.gh_ast.specs.contracts.Program as whole;
+
+    ghost Value = { Program };
+
+    ghost coded = { whole.the_row.coded };
+
+    ghost view = { λ t. t.program };
+
+    ghost invariant = { λ t. IsTyped (program_of t.program) × KeepsLimits (program_of t.program) };
+}
+
+impl Typed {
+    ghost use Rattle.gh_ast.specs.Rules.{IsTyped};
+    ghost use Rattle.gh_ast.specs.Limits.{KeepsLimits};
+
+    /// Keeps a program.
+    pub fn new(program: Program) -> Typed
+        requires typed { IsTyped (program_of program) }
+        requires limits { KeepsLimits (program_of program) }
+        ensures { result ≡ program }
+    {
+        Typed { program }
+    }
+
+    /// The program.
+    pub fn program(&self) -> &Program
+        ensures same { result.now ≡ self.now }
+        ensures typed { IsTyped (program_of result.now) }
+        ensures limits { KeepsLimits (program_of result.now) }
+    {
+        &self.program
+    }
+}
