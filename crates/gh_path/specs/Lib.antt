@@ -1,3 +1,5 @@
 pub mod Graphs
 pub mod Paths
 pub mod Conditions
+pub mod Terms
+pub mod Admitted
