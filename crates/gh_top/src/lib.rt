@@ -1,0 +1,2 @@
+//! The top call: a request, its answer, and the text that is written.
+#![tactic(auto)]
