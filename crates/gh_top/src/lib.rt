@@ -1,2 +1,5 @@
 //! The top call: a request, its answer, and the text that is written.
 #![tactic(auto)]
+
+pub mod status;
+pub mod words;
