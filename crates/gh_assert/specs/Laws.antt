@@ -1,14 +1,34 @@
 -- The laws.
-use Rattle.std.specs.Prelude.{◌≡◌, ◌≢◌, ◌⊎◌, ◌↔◌, ℕ, ◌+◌, ◌≤◌, ◌<◌, List, length, None, Contains, Decides}
+use Rattle.std.specs.Prelude.{◌≡◌, ◌≢◌, ◌⊎◌, ◌↔◌, ℕ, ◌+◌, ◌≤◌, ◌<◌, List, length, map, None, Contains, Decides}
 use Rattle.std.specs.FinMap.{get, entries}
 use Rattle.gh_ast.specs.Plain.{Formula}
+use Rattle.gh_ast.specs.Programs.{Name}
+use Rattle.gh_ast.specs.Names.{FormulaIn}
 use Rattle.gh_assert.specs.Heaps.{Heap, Splits, IsPart, IsCell, Segment}
-use Rattle.gh_assert.specs.Meaning.{Store, Meaning}
+use Rattle.gh_assert.specs.Meaning.{Store, Meaning, HasPart}
 use Rattle.gh_assert.specs.Walks.{IsDistance, Meets, succ, walk, Reaches, Between, Allocated}
 use Rattle.gh_assert.specs.Tests.{reaches, is_between}
 use Rattle.gh_assert.specs.Ownership.{Owned, IsUnnamed, IsPointedToOnce, LastNamed}
 use Rattle.gh_assert.specs.Hops.{Hop}
 use Rattle.gh_assert.specs.Reading.{Covers, Reads, HasNames}
+
+-- splitting has no order and no grouping, and two of whole, part and rest give the third
+pub record SplitsCompose : Type 0 where
+  pub symmetric : (h a b : Heap) → Splits h a b → Splits h b a
+  pub associative : (h a b c d : Heap) → Splits h a b → Splits b c d → (k : Heap) × Splits h k d × Splits k a c
+  pub whole : (h k a b : Heap) → Splits h a b → Splits k a b → h ≡ k
+  pub rest : (h a b c : Heap) → Splits h a b → Splits h a c → b ≡ c
+
+-- at most one sub-heap meets an assertion
+abbrev pub HaveOneFootprint : Type 0
+HaveOneFootprint = (f : Formula) (s : Store) (a b h : Heap) → Meaning f s a → Meaning f s b → IsPart a h → IsPart b h → a ≡ b
+
+abbrev pub PartsAreDecided : Type 0
+PartsAreDecided = (f : Formula) (s : Store) (h : Heap) → get h 0 ≡ None → (HasPart f s h ⊎ (HasPart f s h → ⊥)) × (Meaning f s h ⊎ (Meaning f s h → ⊥))
+
+-- stores that agree on the names of an assertion are one to it: so any store that gives a callee's parameters the arguments will do
+abbrev pub NamesDecide : Type 0
+NamesDecide = (f : Formula) (xs : List Name) (s t : Store) (h : Heap) → FormulaIn f xs → map s xs ≡ map t xs → Meaning f s h ↔ Meaning f t h
 
 -- a part is what is split off
 abbrev pub PartsSplitOff : Type 0

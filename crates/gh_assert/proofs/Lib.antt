@@ -1,0 +1,17 @@
+pub mod Agree
+pub mod Betweens
+pub mod Cells
+pub mod Decide
+pub mod Frames
+pub mod Hops
+pub mod Kept
+pub mod Owned
+pub mod Reading
+pub mod Rows
+pub mod Segments
+pub mod Steps
+pub mod Tests
+pub mod Unions
+pub mod Unique
+pub mod WalkLaws
+pub mod Splitting
