@@ -1,3 +1,4 @@
 pub mod Graphs
 pub mod Paths
 pub mod Conditions
+pub mod Laws
