@@ -64,7 +64,7 @@ mutual
   same_meanings no_formulas xs s t h a i m = m
   same_meanings (formula_first f fs) xs s t h a i (b, c, split, m, ms) = (b, c, split, same_meaning f xs s t b a i.0 m, same_meanings fs xs s t c a i.1 ms)
 
-maps_agree : (xs : List Name) (s t : Store) → map s xs ≡ map t xs → Agree xs s t
+pub maps_agree : (xs : List Name) (s t : Store) → map s xs ≡ map t xs → Agree xs s t
 maps_agree [] s t e y i = absurd (no_member y i)
 maps_agree (x ∷ xs) s t e y i =
     let first : s x ≡ t x = cc in

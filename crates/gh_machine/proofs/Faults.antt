@@ -1,18 +1,14 @@
 -- A faulting configuration has no step.
 use Rattle.std.specs.Prelude.{◌≡◌, ℕ, List, [], ◌∷◌, Option, Some, None}
-use Rattle.std.proofs.Common.{◌∙◌, ap, inl, inr}
-use Rattle.gh_ast.specs.Plain.{set, new, write, free, call, choice, loop, give, Statements, no_statements, statement_first}
+use Rattle.std.proofs.Common.{◌∙◌, ap, subst, inl, inr}
+use Rattle.gh_ast.specs.Plain.{set, new, write, free, call, choice, loop, give, Statements, no_statements, statement_first, Program}
 use Rattle.gh_ast.specs.declared.Expr.{Expr}
 use Rattle.gh_assert.specs.Heaps.{Heap}
 use Rattle.gh_assert.specs.Meaning.{Store}
 use Rattle.gh_assert.specs.Values.{result, Give}
-use Rattle.gh_ast.specs.Programs.{Program}
-use Rattle.gh_machine.specs.Machine.{Config, StepOn, FaultOn, SomeUnread}
-use Rattle.gh_machine.specs.Laws.{FaultsStop}
-use Rattle.gh_ast.proofs.Lists.{member_cases, no_member}
-
-pub not_both : {A : Type 0} (o : Option A) (v : A) → o ≡ Some v → o ≡ None → ⊥
-not_both o v e f = absurd cc
+use Rattle.gh_machine.specs.Machine.{Config, Pops, StepOn, FaultOn, SomeUnread}
+use Rattle.gh_machine.specs.Laws.{FaultsStop, EndsStop}
+use Rattle.gh_ast.proofs.Lists.{member_cases, no_member, not_both}
 
 pub all_read : (s : Store) (h : Heap) (es : List Expr) (vs : List ℕ) → Give s h es vs → SomeUnread s h es → ⊥
 all_read s h [] vs g (e, there, none) = absurd (no_member e there)
@@ -35,3 +31,10 @@ faulty P (statement_first (give at es) rest) c d f st = all_read c.top.store c.h
 
 pub faults_stop : FaultsStop
 faults_stop P c d f st = faulty P c.top.rest c d f st
+
+ended : (P : Program) (rest : Statements) (c d : Config) → rest ≡ no_statements → c.below ≡ [] → StepOn P rest c d → ⊥
+ended P no_statements c d e alone st = subst (λ below. Pops below c.top.procedure c.top.store c.heap d) alone st
+ended P (statement_first s rest) c d e alone st = absurd cc
+
+pub ends_stop : EndsStop
+ends_stop P c d (e, alone) st = ended P c.top.rest c d e alone st

@@ -3,17 +3,14 @@ use Rattle.std.specs.Prelude.{◌≡◌, ℕ, List, [], ◌∷◌, map, Option, 
 use Rattle.std.specs.FinMap.{get, insert, remove}
 use Rattle.std.proofs.Common.{refl, sym, ◌∙◌, ap, subst, inl, inr}
 use Rattle.gh_ast.specs.declared.Expr.{Expr}
-use Rattle.gh_ast.specs.Plain.{set, new, write, free, call, choice, loop, give, Statements, no_statements, statement_first}
+use Rattle.gh_ast.specs.Plain.{set, new, write, free, call, choice, loop, give, Statements, no_statements, statement_first, Procedure, Program}
 use Rattle.gh_assert.specs.Heaps.{Heap, Splits}
 use Rattle.gh_assert.specs.Meaning.{Store}
 use Rattle.gh_assert.specs.Values.{result, Give, outcome}
-use Rattle.gh_ast.specs.Programs.{Procedure, Program}
 use Rattle.gh_machine.specs.Machine.{Activation, Config, Answers, Pops, StepOn, SomeUnread, FaultOn}
 use Rattle.gh_machine.specs.Laws.{holding, StepsKeepFrames}
-use Rattle.gh_ast.proofs.Lists.{member_first, member_later, same_values}
-use Rattle.gh_decide.proofs.Tests.{cons_both}
+use Rattle.gh_ast.proofs.Lists.{member_first, member_later, same_values, cons_both, one_value}
 use Rattle.gh_assert.proofs.Frames.{in_neither, not_in_frame, put_beside, remove_beside, reads_whole, gives_whole, outcome_whole}
-use Rattle.gh_decide.proofs.Sound.{one_value}
 
 pub there_is : {A : Type 0} (o : Option A) → (o ≡ None → ⊥) → (v : A) × (o ≡ Some v)
 there_is None f = absurd (f refl)

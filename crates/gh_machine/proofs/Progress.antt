@@ -8,16 +8,17 @@ use Rattle.std.proofs.lemmas.Slice.Eq.{bytes_eq-Decides}
 use Rattle.std.proofs.Common.{refl, sym, ◌∙◌, ap, subst, inl, inr, arith}
 use Rattle.gh_ast.specs.declared.Occ.{Occ}
 use Rattle.gh_ast.specs.declared.Expr.{Expr}
-use Rattle.gh_ast.specs.Plain.{set, new, write, free, call, choice, loop, give, Statements, no_statements, statement_first}
+use Rattle.gh_ast.specs.Plain.{set, new, write, free, call, choice, loop, give, Statements, no_statements, statement_first, Procedure, Program}
 use Rattle.gh_assert.specs.Heaps.{Heap}
 use Rattle.gh_assert.specs.Meaning.{Store}
 use Rattle.gh_assert.proofs.Unique.{apart}
-use Rattle.gh_assert.specs.Values.{Name, names, result, Give, outcome, Gets}
-use Rattle.gh_ast.specs.Programs.{Procedure, Program, joined}
+use Rattle.gh_assert.specs.Values.{result, Give, outcome, Gets}
+use Rattle.gh_ast.specs.Programs.{Name, names, parameters_of, results_of, joined}
 use Rattle.gh_machine.specs.Machine.{Activation, Config, starting, continuing, Answers, Pops, StepOn, FaultOn}
 use Rattle.gh_machine.specs.Fits.{AreDistinct, AllFit, ProgramFits, Awaits, StackFits, ConfigFits}
 use Rattle.gh_machine.specs.Laws.{StepsFit, RunsGoOn}
 use Rattle.gh_ast.proofs.Lists.{member_first, member_later}
+use Rattle.gh_ast.proofs.Declared.{is_member}
 use Rattle.gh_machine.proofs.Framed.{there_is, all_there}
 
 -- a store with one other value
@@ -85,7 +86,7 @@ free_place h = (suc (total (entries h)), (λ e. omega (arith, e)), get-entries h
 
 answered : (P : Program) (rest : Statements) (a : Activation) (below : List Activation) (q : Procedure) (t : Store) (h : Heap) → AllFit P a.procedure rest → Awaits rest q → (d : Config) × Answers rest a below q t h d
 answered P (statement_first (call xs f es) rest) a below q t h fit wait =
-    let u = some_gets a.store (names xs) (map t q.results) fit.0.2 (named_length xs ∙ wait ∙ sym (mapped_length t q.results)) in
+    let u = some_gets a.store (names xs) (map t (results_of q)) fit.0.2 (named_length xs ∙ wait ∙ sym (mapped_length t (results_of q))) in
     (record { heap = h; top = record { procedure = a.procedure; store = u.0; rest = rest }; below = below }, (u.0, u.1, refl))
 answered P rest a below q t h fit wait = absurd wait
 
@@ -93,7 +94,7 @@ popped : (P : Program) (below : List Activation) (q : Procedure) (t : Store) (h 
 popped P [] q t h fit = inl refl
 popped P (a ∷ below) q t h fit = inr (answered P a.rest a below q t h fit.1 fit.2)
 
-goes_on : (P : Program) → ProgramFits P → (rest : Statements) (c : Config) → Contains P c.top.procedure → AllFit P c.top.procedure rest → StackFits P c.top.procedure c.below → (FaultOn rest c.top.store c.heap → ⊥) → ((rest ≡ no_statements) × (c.below ≡ []) → ⊥) → (d : Config) × StepOn P rest c d
+goes_on : (P : Program) → ProgramFits P → (rest : Statements) (c : Config) → Contains P.procedures c.top.procedure → AllFit P c.top.procedure rest → StackFits P c.top.procedure c.below → (FaultOn rest c.top.store c.heap → ⊥) → ((rest ≡ no_statements) × (c.below ≡ []) → ⊥) → (d : Config) × StepOn P rest c d
 goes_on P all no_statements c is fit stack sound open' = elim (popped P c.below c.top.procedure c.top.store c.heap stack) [ inl none ↦ absurd (open' (refl, none)) | inr some ↦ some ]
 goes_on P all (statement_first (set x e) rest) c is fit stack sound open' =
     let v = there_is (result c.top.store c.heap e) sound in
@@ -114,8 +115,8 @@ goes_on P all (statement_first (call xs f es) rest) c is fit stack sound open' =
     let q = fit.0.0.0 in
     let decl = fit.0.0.1 in
     let vs = all_there c.top.store c.heap es sound in
-    let many : length q.parameters ≡ length vs.0 = sym ((fit.0.1 q decl).0) ∙ same_length c.top.store c.heap es vs.0 vs.1 in
-    let t = some_gets c.top.store q.parameters vs.0 (all q decl.0).parameters many in
+    let many : length (parameters_of q) ≡ length vs.0 = sym ((fit.0.1 q decl).0) ∙ same_length c.top.store c.heap es vs.0 vs.1 in
+    let t = some_gets c.top.store (parameters_of q) vs.0 (all q (is_member P.procedures f.name q decl)).parameters many in
     (starting q t.0 c.heap (c.top ∷ c.below), (q, vs.0, t.0, decl, vs.1, t.1.given, refl))
 goes_on P all (statement_first (choice test r1 c1 r2 c2) rest) c is fit stack sound open' =
     let way = there_is (outcome c.top.store c.heap test) sound in
@@ -125,8 +126,8 @@ goes_on P all (statement_first (loop at test inv body close) rest) c is fit stac
     (continuing c c.top.store c.heap (cond way.0 (joined body (statement_first (loop at test inv body close) rest)) rest), (way.0, way.1, refl))
 goes_on P all (statement_first (give at es) rest) c is fit stack sound open' =
     let vs = all_there c.top.store c.heap es sound in
-    let many : length c.top.procedure.results ≡ length vs.0 = sym fit.0 ∙ same_length c.top.store c.heap es vs.0 vs.1 in
-    let t = some_gets c.top.store c.top.procedure.results vs.0 (all c.top.procedure is).results many in
+    let many : length (results_of c.top.procedure) ≡ length vs.0 = sym fit.0 ∙ same_length c.top.store c.heap es vs.0 vs.1 in
+    let t = some_gets c.top.store (results_of c.top.procedure) vs.0 (all c.top.procedure is).results many in
     elim (popped P c.below c.top.procedure t.0 c.heap stack) [
       | inl none ↦ (continuing c t.0 c.heap no_statements, (vs.0, t.0, vs.1, t.1, inl (none, refl)))
       | inr some ↦ (some.0, (vs.0, t.0, vs.1, t.1, inr some.1))
@@ -143,7 +144,7 @@ way_fits : (P : Program) (p : Procedure) (way : Bool) (a b : Statements) → All
 way_fits P p true a b f g = f
 way_fits P p false a b f g = g
 
-answer_fits : (P : Program) (rest : Statements) (a : Activation) (below : List Activation) (q : Procedure) (t : Store) (h : Heap) (d : Config) → Contains P a.procedure → AllFit P a.procedure rest → StackFits P a.procedure below → Answers rest a below q t h d → ConfigFits P d
+answer_fits : (P : Program) (rest : Statements) (a : Activation) (below : List Activation) (q : Procedure) (t : Store) (h : Heap) (d : Config) → Contains P.procedures a.procedure → AllFit P a.procedure rest → StackFits P a.procedure below → Answers rest a below q t h d → ConfigFits P d
 answer_fits P (statement_first (call xs f es) rest) a below q t h d is fit stack (u, gets, to) = subst (ConfigFits P) (sym to) (is, fit.1, stack)
 answer_fits P rest a below q t h d is fit stack w = absurd w
 
@@ -151,7 +152,7 @@ pop_fits : (P : Program) (below : List Activation) (q : Procedure) (t : Store) (
 pop_fits P [] q t h d stack w = absurd w
 pop_fits P (a ∷ below) q t h d stack w = answer_fits P a.rest a below q t h d stack.0 stack.1 stack.3 w
 
-step_fits : (P : Program) → ProgramFits P → (rest : Statements) (c d : Config) → c.top.rest ≡ rest → Contains P c.top.procedure → AllFit P c.top.procedure rest → StackFits P c.top.procedure c.below → StepOn P rest c d → ConfigFits P d
+step_fits : (P : Program) → ProgramFits P → (rest : Statements) (c d : Config) → c.top.rest ≡ rest → Contains P.procedures c.top.procedure → AllFit P c.top.procedure rest → StackFits P c.top.procedure c.below → StepOn P rest c d → ConfigFits P d
 step_fits P all no_statements c d e is fit stack st = pop_fits P c.below c.top.procedure c.top.store c.heap d stack st
 step_fits P all (statement_first (set x v) rest) c d e is fit stack st = subst (ConfigFits P) (sym st.4) (is, fit.1, stack)
 step_fits P all (statement_first (new x) rest) c d e is fit stack st = subst (ConfigFits P) (sym st.6) (is, fit.1, stack)
@@ -160,7 +161,7 @@ step_fits P all (statement_first (free x) rest) c d e is fit stack st = subst (C
 step_fits P all (statement_first (call xs f es) rest) c d e is fit stack st =
     let waits : Awaits (statement_first (call xs f es) rest) st.0 = (fit.0.1 st.0 st.3).1 in
     subst (ConfigFits P) (sym st.6)
-    (st.3.0, (all st.0 st.3.0).body, (is, subst (AllFit P c.top.procedure) (sym e) fit, subst (λ r. Awaits r st.0) (sym e) waits, stack))
+    (is_member P.procedures f.name st.0 st.3, (all st.0 (is_member P.procedures f.name st.0 st.3)).body, (is, subst (AllFit P c.top.procedure) (sym e) fit, subst (λ r. Awaits r st.0) (sym e) waits, stack))
 step_fits P all (statement_first (choice test r1 c1 r2 c2) rest) c d e is fit stack st =
     subst (ConfigFits P) (sym st.2) (is, way_fits P c.top.procedure st.0 (joined r1 rest) (joined r2 rest) (joined_fit P c.top.procedure r1 rest fit.0.0 fit.1) (joined_fit P c.top.procedure r2 rest fit.0.1 fit.1), stack)
 step_fits P all (statement_first (loop at test inv body close) rest) c d e is fit stack st =

@@ -1,1 +1,4 @@
 pub mod Machine
+pub mod Choices
+pub mod Fits
+pub mod Laws

@@ -1,0 +1,4 @@
+pub mod Chosen
+pub mod Faults
+pub mod Framed
+pub mod Progress
