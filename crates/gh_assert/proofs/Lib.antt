@@ -15,3 +15,4 @@ pub mod Unions
 pub mod Unique
 pub mod WalkLaws
 pub mod Splitting
+pub mod Proper

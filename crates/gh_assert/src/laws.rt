@@ -1,10 +1,15 @@
 //! Laws of splitting, assertions, walks and ownership.
 
-ghost use Rattle.gh_assert.specs.Laws.{SplitsCompose, HaveOneFootprint, PartsAreDecided, NamesDecide, PartsSplitOff, WalksCompose, UnallocatedStay, WalksAreSimple, SegmentsExist, SegmentsAreWalks, RowsHold, WalksAreShort, TestsDecide, OnePointsThere, LastNamedExists, ReadingLaw, HopsExist, HopRowsHold, FootprintsAreOwned, FootprintsComeAndGo, CellsComeAndGo, UnionsAreOwned, HopsAreKept};
+ghost use Rattle.gh_assert.specs.Laws.{SplitsCompose, MetAreProper, HaveOneFootprint, PartsAreDecided, NamesDecide, PartsSplitOff, WalksCompose, UnallocatedStay, WalksAreSimple, SegmentsExist, SegmentsAreWalks, RowsHold, WalksAreShort, TestsDecide, OnePointsThere, LastNamedExists, ReadingLaw, HopsExist, HopRowsHold, FootprintsAreOwned, FootprintsComeAndGo, CellsComeAndGo, UnionsAreOwned, HopsAreKept};
 
 /// How heaps split.
 pub fn splits_compose()
     ensures { SplitsCompose }
+{}
+
+/// What meets an assertion has no cell at null.
+pub fn met_are_proper()
+    ensures { MetAreProper }
 {}
 
 /// In one store and one heap at most one sub-heap meets an assertion.

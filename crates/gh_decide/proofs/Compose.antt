@@ -5,15 +5,16 @@ use Rattle.std.proofs.Common.{refl, sym, ◌∙◌, ap, subst, inl, inr, arith}
 use Rattle.gh_base.specs.declared.place.Span.{Span}
 use Rattle.gh_ast.specs.declared.Occ.{Occ}
 use Rattle.gh_ast.specs.declared.Expr.{Expr}
-use Rattle.gh_ast.specs.Plain.{Test, Formula, Statement, set, new, write, free, call, choice, loop, give, Statements, no_statements, statement_first}
+use Rattle.gh_ast.specs.Plain.{Test, Formula, Statement, set, new, write, free, call, choice, loop, give, Statements, no_statements, statement_first, Procedure, Program}
 use Rattle.gh_assert.specs.Heaps.{Heap, Splits}
-use Rattle.gh_assert.specs.Meaning.{Store, Meaning}
+use Rattle.gh_assert.specs.Meaning.{Store, Meaning, HasPart}
 use Rattle.gh_assert.proofs.Unions.{union}
-use Rattle.gh_assert.specs.Values.{Name, names, Give, outcome}
-use Rattle.gh_ast.specs.Programs.{Procedure, Program, Declares, Assigns, SomeAssigns, joined}
+use Rattle.gh_assert.specs.Values.{Give, outcome}
+use Rattle.gh_ast.specs.Programs.{Name, names, parameters_of, results_of, body_of, Declares, Assigns, SomeAssigns, joined}
+use Rattle.gh_ast.proofs.Declared.{is_member}
 use Rattle.gh_machine.specs.Machine.{Activation, Config, Fault, IsRun, starting, EndsWell, IsGoodRun, IsGood}
-use Rattle.gh_path.specs.Graphs.{Graph, dead_end, ends, guarded, entry, loop_entry, loop_end, returned, all_reads, tested, called, looped, lowered, all_lowered, Start, round, whole_body, loops, all_loops}
-use Rattle.gh_trace.specs.Traces.{State, HasPart, Takes}
+use Rattle.gh_path.specs.Graphs.{Graph, dead_end, ends, guarded, entry, loop_entry, loop_end, returned, all_reads, tested, called, looped, lowered, all_lowered, Loop, while, once_around, round, rounds, whole_body, loops, all_loops, loops_of}
+use Rattle.gh_trace.specs.Traces.{State, Takes}
 use Rattle.gh_decide.specs.Rules.{ReturnsNot, AllReturnNot, LoopsReturnNot, AllLoopsReturnNot, IsTyped, AreTyped}
 use Rattle.gh_decide.specs.Safe.{Safe}
 use Rattle.gh_decide.specs.Laws.{Composition}
@@ -25,32 +26,25 @@ use Rattle.gh_assert.proofs.Frames.{gives_whole, set_aside, taken_back, aside_ap
 use Rattle.gh_assert.proofs.Agree.{Agree, same_meaning}
 use Rattle.gh_decide.proofs.Sound.{Sound, working, state, Keeps, Goes, Ending, keeps_on, not_empty, sound_set, sound_new, sound_write, sound_free, sound_give, sound_test, sound_loop_test}
 
--- each way around each loop is safe
-abbrev mutual
-  pub RoundsSafe : Program → Procedure → Statement → Type 0
-  RoundsSafe P p (choice t a c b d) = AllRoundsSafe P p a × AllRoundsSafe P p b
-  RoundsSafe P p (loop at t i body close) = ((x : State) → Meaning i x.store x.heap → Safe P (round p t i body close).graph x) × AllRoundsSafe P p body
-  RoundsSafe P p s = Unit {0}
-
-  pub AllRoundsSafe : Program → Procedure → Statements → Type 0
-  AllRoundsSafe P p no_statements = Unit {0}
-  AllRoundsSafe P p (statement_first s ss) = RoundsSafe P p s × AllRoundsSafe P p ss
+-- each way around each of the loops is safe
+abbrev pub RoundsSafe : Program → Procedure → List Loop → Type 0
+RoundsSafe P p ls = (l : Loop) → Contains ls l → (x : State) → Meaning l.invariant x.store x.heap → Safe P (once_around p l) x
 
 pub record Ready (P : Program) : Type 0 where
   pub typed : AreTyped P
-  pub bodies : (p : Procedure) → Contains P p → (x : State) → Meaning p.needs x.store x.heap → Safe P (whole_body p).graph x
-  pub rounds : (p : Procedure) → Contains P p → AllRoundsSafe P p p.body
+  pub bodies : (p : Procedure) → Contains P.procedures p → (x : State) → Meaning p.needs x.store x.heap → Safe P (whole_body p).graph x
+  pub rounds : (p : Procedure) → Contains P.procedures p → RoundsSafe P p (loops_of p)
 
 -- what is known of statements that stand in the block b
 pub record Fits (P : Program) (p : Procedure) (b r : Statements) : Type 0 where
   pub assigns : (y : Name) → SomeAssigns r y → SomeAssigns b y
-  pub rounds : AllRoundsSafe P p r
+  pub rounds : RoundsSafe P p (all_loops r)
   pub returns : AllLoopsReturnNot r
 
 -- the claim for up to n steps: statements that are safe, before a rest that is sound wherever they lead, are sound
 abbrev pub Claim : Program → (Config → Type 0) → ℕ → Type 0
 Claim P E n =
-    (m : ℕ) → m ≤ n → (p : Procedure) → Contains P p → (b : Statements) (xs : List Name) (s0 : Store) (F : Heap) (below : List Activation) (q : Statements) (k : Graph) (r : Statements) →
+    (m : ℕ) → m ≤ n → (p : Procedure) → Contains P.procedures p → (b : Statements) (xs : List Name) (s0 : Store) (F : Heap) (below : List Activation) (q : Statements) (k : Graph) (r : Statements) →
     Goes P E F b xs s0 k p q below m → AllReturnNot r ⊎ Ending P E F b xs s0 p below m → Fits P p b r →
     (s : Store) (a h : Heap) → Splits h a F → Safe P (all_lowered p r k) (state s a) → Keeps b xs s0 s → Sound P E m (working p s h (joined r q) below)
 
@@ -74,7 +68,7 @@ less_goes P E F b xs s0 g p rest below n m l go j k = go j (omega (arith, l, k))
 less_ending : (P : Program) (E : Config → Type 0) (F : Heap) (b : Statements) (xs : List Name) (s0 : Store) (p : Procedure) (below : List Activation) (n m : ℕ) → m ≤ n → Ending P E F b xs s0 p below n → Ending P E F b xs s0 p below m
 less_ending P E F b xs s0 p below n m l end = record { results_in = end.results_in; finish = λ j k. end.finish j (omega (arith, l, k)) }
 
-module _ (P : Program) (ready : Ready P) (E : Config → Type 0) (n : ℕ) (claim : Claim P E n) (p : Procedure) (is : Contains P p) (b : Statements) (xs : List Name) (s0 : Store) (F : Heap) (below : List Activation) (rest : Statements) (g : Graph) where
+module _ (P : Program) (ready : Ready P) (E : Config → Type 0) (n : ℕ) (claim : Claim P E n) (p : Procedure) (is : Contains P.procedures p) (b : Statements) (xs : List Name) (s0 : Store) (F : Heap) (below : List Activation) (rest : Statements) (g : Graph) where
   -- a call: the callee's run is shorter, and its end is the step of the path
   sound_call : (m : ℕ) → m ≤ n → (ts : List Occ) (f : Occ) (es : List Expr) → Goes P E F b xs s0 g p rest below m → ((y : Name) → Contains (names ts) y → SomeAssigns b y) → (s : Store) (a h : Heap) → Splits h a F →
       Safe P (all_reads es (guarded (entry f es) (called ts f es) g)) (state s a) → Keeps b xs s0 s → Sound P E (suc m) (working p s h (statement_first (call ts f es) rest) below)
@@ -95,28 +89,31 @@ module _ (P : Program) (ready : Ready P) (E : Config → Type 0) (n : ℕ) (clai
       caller : Activation
       caller = record { procedure = p; store = s; rest = statement_first (call ts f es) rest }
 
-      inside : (c : Procedure) (t : Store) → Declares P f.name c → map t c.parameters ≡ r.0 → Sound P E m (working c t h c.body (caller ∷ below))
+      inside : (c : Procedure) (t : Store) → Declares P f.name c → map t (parameters_of c) ≡ r.0 → Sound P E m (working c t h (body_of c) (caller ∷ below))
       inside c t decl params =
-          subst (λ body. Sound P E m (working c t h body (caller ∷ below))) (nothing_joined c.body)
-          (claim m l c decl.0 c.body c.results t (union part.1 F) (caller ∷ below) no_statements (ends (returned c.close c.gives)) c.body
+          subst (λ body. Sound P E m (working c t h body (caller ∷ below))) (nothing_joined (body_of c))
+          (claim m l c known (body_of c) (results_of c) t (union part.1 F) (caller ∷ below) no_statements (ends (returned c.close c.gives)) (body_of c)
           (λ j k u a' h' sp done keep. back j k u a' h' sp done keep)
           (inr (record { results_in = λ y i. i; finish = back }))
-          (record { assigns = λ y i. i; rounds = ready.rounds c decl.0; returns = typed.loops_return_not })
-          t part.0 h (set_aside h a F part.0 part.1 split part.2) (ready.bodies c decl.0 (state t part.0) part.3) (λ y _ _. refl))
+          (record { assigns = λ y i. i; rounds = ready.rounds c known; returns = typed.loops_return_not })
+          t part.0 h (set_aside h a F part.0 part.1 split part.2) (ready.bodies c known (state t part.0) part.3) (λ y _ _. refl))
         where
+          known : Contains P.procedures c
+          known = is_member P.procedures f.name c decl
+
           typed : IsTyped c
-          typed = ready.typed c decl.0
+          typed = ready.typed c known
 
           part : HasPart c.needs t a
           part = r.2.0 c r.0 t decl r.1 params
 
-          back : (j : ℕ) → j ≤ m → (u : Store) (a' h' : Heap) → Splits h' a' (union part.1 F) → Meaning c.gives u a' → Keeps c.body c.results t u → Sound P E j (working c u h' no_statements (caller ∷ below))
+          back : (j : ℕ) → j ≤ m → (u : Store) (a' h' : Heap) → Splits h' a' (union part.1 F) → Meaning c.gives u a' → Keeps (body_of c) (results_of c) t u → Sound P E j (working c u h' no_statements (caller ∷ below))
           back zero k u a' h' sp met keep = tt
           back (suc j) k u a' h' sp met keep = (
             λ fault. fault,
             λ ended. absurd (no_below caller below ended.1),
             λ d st.
-                let agree : Agree c.parameters t u = λ y i. sym (keep y (typed.parameters_stay y i) (typed.distinct y i)) in
+                let agree : Agree (parameters_of c) t u = λ y i. sym (keep y (typed.parameters_stay y i) (typed.distinct y i)) in
                 let whole = taken_back h' a' part.1 F sp (aside_apart h a F part.0 part.1 split part.2) in
                 let step : Takes P (called ts f es) (state s a) (state st.0 (union a' part.1)) = (
                   c,
@@ -125,27 +122,27 @@ module _ (P : Program) (ready : Ready P) (E : Config → Type 0) (n : ℕ) (clai
                   r.1,
                   record {
                     inside = u;
-                    arguments = sym (same_map c.parameters t u agree) ∙ params;
+                    arguments = sym (same_map (parameters_of c) t u agree) ∙ params;
                     targets = st.1;
                     replaced = record {
                       part = part.0;
                       frame = part.1;
                       other = a';
                       splits = part.2;
-                      met = same_meaning c.needs c.parameters t u part.0 agree typed.needs_in part.3;
+                      met = same_meaning c.needs (parameters_of c) t u part.0 agree typed.needs_in part.3;
                       joins = whole.1;
                       meets = met;
                     };
                   },
                 ) in
                 subst (Sound P E j) (sym st.2)
-                (go j (omega (arith, k)) st.0 (union a' part.1) h' whole.0 (r.2.1 (state st.0 (union a' part.1)) step) (keeps_on b xs s0 s (names ts) (map u c.results) st.0 keeps st.1 (λ y i. inl (mine y i)))),
+                (go j (omega (arith, k)) st.0 (union a' part.1) h' whole.0 (r.2.1 (state st.0 (union a' part.1)) step) (keeps_on b xs s0 s (names ts) (map u (results_of c)) st.0 keeps st.1 (λ y i. inl (mine y i)))),
           )
 
   -- a loop: round after round from its own start, and out by the step of the path
   sound_loop : (m : ℕ) → m ≤ n → (at : Span) (test : Test) (i : Formula) (body : Statements) (close : Span) → Goes P E F b xs s0 g p rest below m →
-      ((x : State) → Meaning i x.store x.heap → Safe P (round p test i body close).graph x) → AllRoundsSafe P p body → AllReturnNot body → AllLoopsReturnNot body → ((y : Name) → SomeAssigns body y → SomeAssigns b y) →
-      (s : Store) (a h : Heap) → Splits h a F → Safe P (guarded (loop_entry at i) (looped i body) (tested test dead_end g)) (state s a) → Keeps b xs s0 s → Sound P E (suc m) (working p s h (statement_first (loop at test i body close) rest) below)
+      ((x : State) → Meaning i x.store x.heap → Safe P (once_around p (while at test i body close)) x) → RoundsSafe P p (all_loops body) → AllReturnNot body → AllLoopsReturnNot body → ((y : Name) → SomeAssigns body y → SomeAssigns b y) →
+      (s : Store) (a h : Heap) → Splits h a F → Safe P (guarded (loop_entry (while at test i body close)) (looped (while at test i body close)) (tested test dead_end g)) (state s a) → Keeps b xs s0 s → Sound P E (suc m) (working p s h (statement_first (loop at test i body close) rest) below)
   sound_loop m l at test i body close go around rounds none inner mine s a h split safe keeps =
       again (suc m) (suc m) (omega arith) (omega arith) s part.0 h (set_aside h a F part.0 part.1 split part.2) part.3 (λ y _ _. refl)
     where
@@ -177,8 +174,8 @@ module _ (P : Program) (ready : Ready P) (E : Config → Type 0) (n : ℕ) (clai
           kept y nb nx = keep y (λ q. nb (mine y q)) (no_member y) ∙ keeps y nb nx
 
           both : (outcome t k test ≡ None → ⊥) × ((way : Bool) → outcome t k test ≡ Some way → Sound P E j (working p t k (cond way (joined body here) rest) below))
-          both = sound_loop_test P E j p t c part.1 k F (joined body here) rest below test (all_lowered p body (ends (loop_end close i))) g sp back.0 back.1 (around (state t c) met) out
-              (λ body_safe. claim j (omega (arith, v, l)) p is body [] s (union part.1 F) below here (ends (loop_end close i)) body
+          both = sound_loop_test P E j p t c part.1 k F (joined body here) rest below test (all_lowered p body (ends (loop_end (while at test i body close)))) g sp back.0 back.1 (around (state t c) met) out
+              (λ body_safe. claim j (omega (arith, v, l)) p is body [] s (union part.1 F) below here (ends (loop_end (while at test i body close))) body
               (λ e le t' c' k' sp' done keep'. more e le t' c' k' sp' done keep')
               (inl none) (record { assigns = λ y q. q; rounds = rounds; returns = inner }) t c k sp body_safe keep)
               (λ rest_safe. go j (omega (arith, v)) t (union c part.1) k back.0 rest_safe kept)
@@ -191,8 +188,8 @@ module _ (P : Program) (ready : Ready P) (E : Config → Type 0) (n : ℕ) (clai
 
 module _ (P : Program) (ready : Ready P) (E : Config → Type 0) where
   -- one statement, and then the rest of the block
-  by_first : (n : ℕ) → Claim P E n → (m : ℕ) → m ≤ n → (p : Procedure) → Contains P p → (b : Statements) (xs : List Name) (s0 : Store) (F : Heap) (below : List Activation) (q : Statements) (g : Graph) (st : Statement) →
-      Goes P E F b xs s0 g p q below m → ReturnsNot st ⊎ Ending P E F b xs s0 p below (suc m) → ((y : Name) → Assigns st y → SomeAssigns b y) → RoundsSafe P p st → LoopsReturnNot st →
+  by_first : (n : ℕ) → Claim P E n → (m : ℕ) → m ≤ n → (p : Procedure) → Contains P.procedures p → (b : Statements) (xs : List Name) (s0 : Store) (F : Heap) (below : List Activation) (q : Statements) (g : Graph) (st : Statement) →
+      Goes P E F b xs s0 g p q below m → ReturnsNot st ⊎ Ending P E F b xs s0 p below (suc m) → ((y : Name) → Assigns st y → SomeAssigns b y) → RoundsSafe P p (loops st) → LoopsReturnNot st →
       (s : Store) (a h : Heap) → Splits h a F → Safe P (lowered p st g) (state s a) → Keeps b xs s0 s → Sound P E (suc m) (working p s h (statement_first st q) below)
   by_first n claim m l p is b xs s0 F below q g (set x e) go end mine rounds returns s a h split safe keeps =
       sound_set P E F b xs s0 g p q below m s a h x e go split safe (mine x.name refl) keeps
@@ -206,8 +203,8 @@ module _ (P : Program) (ready : Ready P) (E : Config → Type 0) where
       sound_call P ready E n claim p is b xs s0 F below q g m l ts f es go mine s a h split safe keeps
   by_first n claim m l p is b xs s0 F below q g (choice t r1 c1 r2 c2) go end mine rounds returns s a h split safe keeps =
       let both = sound_test P E m p s a h F (joined r1 q) (joined r2 q) below t (all_lowered p r1 g) (all_lowered p r2 g) split safe
-      (λ one. claim m l p is b xs s0 F below q g r1 go (first_end end) (record { assigns = λ y i. mine y (inl i); rounds = rounds.0; returns = returns.0 }) s a h split one keeps)
-      (λ two. claim m l p is b xs s0 F below q g r2 go (second_end end) (record { assigns = λ y i. mine y (inr i); rounds = rounds.1; returns = returns.1 }) s a h split two keeps) in (
+      (λ one. claim m l p is b xs s0 F below q g r1 go (first_end end) (record { assigns = λ y i. mine y (inl i); rounds = λ l i. rounds l (Contains-append_left (all_loops r1) (all_loops r2) l i); returns = returns.0 }) s a h split one keeps)
+      (λ two. claim m l p is b xs s0 F below q g r2 go (second_end end) (record { assigns = λ y i. mine y (inr i); rounds = λ l i. rounds l (Contains-append_right (all_loops r1) (all_loops r2) l i); returns = returns.1 }) s a h split two keeps) in (
         both.0,
         λ ended. absurd (not_empty (choice t r1 c1 r2 c2) q ended.0),
         λ d st. subst (Sound P E m) (sym st.2) (both.1 st.0 st.1),
@@ -219,13 +216,13 @@ module _ (P : Program) (ready : Ready P) (E : Config → Type 0) where
       second_end : (AllReturnNot r1 × AllReturnNot r2) ⊎ Ending P E F b xs s0 p below (suc m) → AllReturnNot r2 ⊎ Ending P E F b xs s0 p below m
       second_end e = elim e [ inl none ↦ inl none.1 | inr some ↦ inr (less_ending P E F b xs s0 p below (suc m) m (omega arith) some) ]
   by_first n claim m l p is b xs s0 F below q g (loop at t i body close) go end mine rounds returns s a h split safe keeps =
-      sound_loop P ready E n claim p is b xs s0 F below q g m l at t i body close go rounds.0 rounds.1 returns.0 returns.1 mine s a h split safe keeps
+      sound_loop P ready E n claim p is b xs s0 F below q g m l at t i body close go (rounds (while at t i body close) (member_first (while at t i body close) (all_loops body))) (λ l there. rounds l (member_later (while at t i body close) l (all_loops body) there)) returns.0 returns.1 mine s a h split safe keeps
   by_first n claim m l p is b xs s0 F below q g (give at es) go end mine rounds returns s a h split safe keeps = elim end [
     | inl none ↦ absurd none
     | inr some ↦ sound_give P E F b xs s0 g p q below m s a h at es some split safe keeps
   ]
 
-  by_rest : (n : ℕ) → Claim P E n → (m : ℕ) → m ≤ suc n → (p : Procedure) → Contains P p → (b : Statements) (xs : List Name) (s0 : Store) (F : Heap) (below : List Activation) (q : Statements) (k : Graph) (r : Statements) →
+  by_rest : (n : ℕ) → Claim P E n → (m : ℕ) → m ≤ suc n → (p : Procedure) → Contains P.procedures p → (b : Statements) (xs : List Name) (s0 : Store) (F : Heap) (below : List Activation) (q : Statements) (k : Graph) (r : Statements) →
       Goes P E F b xs s0 k p q below m → AllReturnNot r ⊎ Ending P E F b xs s0 p below m → Fits P p b r →
       (s : Store) (a h : Heap) → Splits h a F → Safe P (all_lowered p r k) (state s a) → Keeps b xs s0 s → Sound P E m (working p s h (joined r q) below)
   by_rest n claim m l p is b xs s0 F below q k no_statements go end fits s a h split safe keeps = go m (omega arith) s a h split safe keeps
@@ -233,8 +230,8 @@ module _ (P : Program) (ready : Ready P) (E : Config → Type 0) where
   by_rest n claim (suc m) l p is b xs s0 F below q k (statement_first st r) go end fits s a h split safe keeps =
       by_first n claim m (omega (arith, l)) p is b xs s0 F below (joined r q) (all_lowered p r k) st
       (λ j lj t c h' sp sf kp. claim j (omega (arith, lj, l)) p is b xs s0 F below q k r (less_goes P E F b xs s0 k p q below (suc m) j (omega (arith, lj)) go) (rest_end j lj end)
-      (record { assigns = λ y i. fits.assigns y (inr i); rounds = fits.rounds.1; returns = fits.returns.1 }) t c h' sp sf kp)
-      (first_end end) (λ y i. fits.assigns y (inl i)) fits.rounds.0 fits.returns.0 s a h split safe keeps
+      (record { assigns = λ y i. fits.assigns y (inr i); rounds = λ l i. fits.rounds l (Contains-append_right (loops st) (all_loops r) l i); returns = fits.returns.1 }) t c h' sp sf kp)
+      (first_end end) (λ y i. fits.assigns y (inl i)) (λ l i. fits.rounds l (Contains-append_left (loops st) (all_loops r) l i)) fits.returns.0 s a h split safe keeps
     where
       first_end : (ReturnsNot st × AllReturnNot r) ⊎ Ending P E F b xs s0 p below (suc m) → ReturnsNot st ⊎ Ending P E F b xs s0 p below (suc m)
       first_end e = elim e [ inl none ↦ inl none.0 | inr some ↦ inr some ]
@@ -262,8 +259,8 @@ sound_run P p frame c (d ∷ ds) sound run =
 pub ready_is_good : (P : Program) → Ready P → IsGood P
 ready_is_good P ready p is s h part frame split met ds run =
     sound_run P p frame (starting p s h []) ds
-    (subst (λ body. Sound P E n (working p s h body [])) (nothing_joined p.body)
-    (every P ready E n n (omega arith) p is p.body p.results s frame [] no_statements (ends (returned p.close p.gives)) p.body
+    (subst (λ body. Sound P E n (working p s h body [])) (nothing_joined (body_of p))
+    (every P ready E n n (omega arith) p is (body_of p) (results_of p) s frame [] no_statements (ends (returned p.close p.gives)) (body_of p)
     (λ j l t a k sp done keep. finish j l t a k sp done keep)
     (inr (record { results_in = λ y i. i; finish = finish }))
     (record { assigns = λ y i. i; rounds = ready.rounds p is; returns = typed.loops_return_not })
@@ -279,38 +276,23 @@ ready_is_good P ready p is s h part frame split met ds run =
     typed : IsTyped p
     typed = ready.typed p is
 
-    finish : (j : ℕ) → j ≤ n → (t : Store) (a k : Heap) → Splits k a frame → Meaning p.gives t a → Keeps p.body p.results s t → Sound P E j (working p t k no_statements [])
+    finish : (j : ℕ) → j ≤ n → (t : Store) (a k : Heap) → Splits k a frame → Meaning p.gives t a → Keeps (body_of p) (results_of p) s t → Sound P E j (working p t k no_statements [])
     finish zero l t a k sp m keep = tt
     finish (suc j) l t a k sp m keep = (λ fault. fault, λ ended. (a, sp, m), λ d step. absurd step)
 
--- rounds from the list of starts
-mutual
-  rounds_from : (P : Program) (p : Procedure) (s : Statement) → ((a : Start) → Contains (loops p s) a → (x : State) → Meaning a.meets x.store x.heap → Safe P a.graph x) → RoundsSafe P p s
-  rounds_from P p (set x e) f = tt
-  rounds_from P p (new x) f = tt
-  rounds_from P p (write x e) f = tt
-  rounds_from P p (free x) f = tt
-  rounds_from P p (call ts g es) f = tt
-  rounds_from P p (give at es) f = tt
-  rounds_from P p (choice t a c b d) f = (
-    all_rounds_from P p a (λ r i. f r (Contains-append_left (all_loops p a) (all_loops p b) r i)),
-    all_rounds_from P p b (λ r i. f r (Contains-append_right (all_loops p a) (all_loops p b) r i)),
-  )
-  rounds_from P p (loop at t i body close) f = (
-    f (round p t i body close) (member_first (round p t i body close) (all_loops p body)),
-    all_rounds_from P p body (λ r there. f r (member_later (round p t i body close) r (all_loops p body) there)),
-  )
-
-  all_rounds_from : (P : Program) (p : Procedure) (ss : Statements) → ((a : Start) → Contains (all_loops p ss) a → (x : State) → Meaning a.meets x.store x.heap → Safe P a.graph x) → AllRoundsSafe P p ss
-  all_rounds_from P p no_statements f = tt
-  all_rounds_from P p (statement_first s ss) f = (
-    rounds_from P p s (λ r i. f r (Contains-append_left (loops p s) (all_loops p ss) r i)),
-    all_rounds_from P p ss (λ r i. f r (Contains-append_right (loops p s) (all_loops p ss) r i)),
-  )
+-- a loop of the procedure is one of its starts
+numbered : (p : Procedure) (n : ℕ) (ls : List Loop) (l : Loop) → Contains ls l → (k : ℕ) × Contains (rounds p n ls) (round p k l)
+numbered p n [] l i = absurd (no_member l i)
+numbered p n (m ∷ ls) l i = elim (member_cases m ls l i) [
+  | inl same ↦ (n, subst (λ q. Contains (rounds p n (m ∷ ls)) (round p n q)) same (member_first (round p n m) (rounds p (suc n) ls)))
+  | inr more ↦ let found = numbered p (suc n) ls l more in (found.0, member_later (round p n m) (round p found.0 l) (rounds p (suc n) ls) found.1)
+]
 
 pub composition : Composition
 composition P typed pass = ready_is_good P (record {
   typed = typed;
-  bodies = λ p is x met. from_paths P (whole_body p).graph x (pass p is (whole_body p) (member_first (whole_body p) (all_loops p p.body)) x met);
-  rounds = λ p is. all_rounds_from P p p.body (λ a there x met. from_paths P a.graph x (pass p is a (member_later (whole_body p) a (all_loops p p.body) there) x met));
+  bodies = λ p is x met. from_paths P (whole_body p).graph x (pass p is (whole_body p) (member_first (whole_body p) (rounds p 0 (loops_of p))) x met);
+  rounds = λ p is l there x met.
+      let found = numbered p 0 (loops_of p) l there in
+      from_paths P (once_around p l) x (pass p is (round p found.0 l) (member_later (whole_body p) (round p found.0 l) (rounds p 0 (loops_of p)) found.1) x met);
 })

@@ -1,6 +1,6 @@
 -- Safe states and whole paths.
 use Rattle.std.specs.Prelude.{List, [], ◌∷◌, true, false}
-use Rattle.gh_ast.specs.Programs.{Program}
+use Rattle.gh_ast.specs.Plain.{Program}
 use Rattle.gh_path.specs.Graphs.{Check, PathStep, assume, Graph, dead_end, ends, moves, guarded, fork}
 use Rattle.gh_path.specs.Paths.{Path, at_end, arrived, past, on, on_true, on_false}
 use Rattle.gh_trace.specs.Traces.{State, Passes, IsTrace, last_state}

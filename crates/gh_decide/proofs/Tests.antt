@@ -1,14 +1,14 @@
 -- Reads and tests in safe states.
 use Rattle.std.specs.Prelude.{◌≡◌, ℕ, List, [], ◌∷◌, map, Bool, true, false, not, cond, ◌==◌, Option, Some}
 use Rattle.std.proofs.Common.{refl, ◌∙◌, ap}
-use Rattle.gh_ast.specs.Plain.{Test, compare, negation, conjunction, disjunction, Tests, no_tests, test_first}
+use Rattle.gh_ast.specs.Plain.{Test, compare, negation, conjunction, disjunction, Tests, no_tests, test_first, Program}
 use Rattle.gh_ast.specs.declared.Occ.{Occ}
 use Rattle.gh_ast.specs.declared.Expr.{Expr}
 use Rattle.gh_ast.specs.declared.Expr.TheVariants.{Plain, Read}
 use Rattle.gh_assert.specs.Meaning.{value, agrees}
 use Rattle.gh_assert.specs.Walks.{Allocated}
 use Rattle.gh_assert.specs.Values.{result, Give, compared, opposite, and_then, or_then, outcome, all_outcome, some_outcome}
-use Rattle.gh_ast.specs.Programs.{Program}
+use Rattle.gh_ast.proofs.Lists.{cons_both}
 use Rattle.gh_path.specs.Graphs.{Graph, fork, visits, reads, all_reads, tested, all_tested, some_tested}
 use Rattle.gh_trace.specs.Traces.{State}
 use Rattle.gh_decide.specs.Safe.{Safe}
@@ -20,9 +20,6 @@ after_visit P o g x safe = (safe.0, safe.1 x (safe.0, refl))
 pub after_read : (P : Program) (e : Expr) (g : Graph) (x : State) → Safe P (reads e g) x → (v : ℕ) × (result x.store x.heap e ≡ Some v) × Safe P g x
 after_read P (Plain o) g x safe = (value x.store o, refl, safe)
 after_read P (Read o) g x safe = let seen = after_visit P o g x safe in (seen.0.0, seen.0.1, seen.1)
-
-pub cons_both : (o : Option ℕ) (v : ℕ) (os : List (Option ℕ)) (vs : List ℕ) → o ≡ Some v → os ≡ map Some vs → o ∷ os ≡ map Some (v ∷ vs)
-cons_both o v os vs e es = rw (e, es) refl
 
 pub after_reads : (P : Program) (es : List Expr) (g : Graph) (x : State) → Safe P (all_reads es g) x → (vs : List ℕ) × Give x.store x.heap es vs × Safe P g x
 after_reads P [] g x safe = ([], refl, safe)

@@ -58,7 +58,7 @@ from_procedure (q ∷ rest) p c i j = elim (member_cases q rest p i) [
   | inr more ↦ Contains-append_right (conditions_of q) (from_procedures rest) c (from_procedure rest p c more j)
 ]
 
-listed : (P : Program) (c : Condition) → IsCondition P c → Contains (conditions P) c
+pub listed : (P : Program) (c : Condition) → IsCondition P c → Contains (conditions P) c
 listed P c is = from_procedure P.procedures c.procedure c is.declared
     (from_start c.procedure (starts c.procedure) c.start c.way is.begins (((paths_have_one_list c.start.graph).is_list.members c.way).1 is.leads))
 

@@ -1,8 +1,7 @@
 -- A list of states has at most one first failure, and a counterexample has none.
 use Rattle.std.specs.Prelude.{◌≡◌, ℕ, suc, List, [], ◌∷◌}
 use Rattle.std.proofs.Common.{sym, ◌∙◌, ap, inl, inr}
-use Rattle.gh_ast.specs.Plain.{Formula}
-use Rattle.gh_ast.specs.Programs.{Program}
+use Rattle.gh_ast.specs.Plain.{Formula, Program}
 use Rattle.gh_path.specs.Graphs.{Check, PathStep}
 use Rattle.gh_trace.specs.Traces.{State, Passes, IsTrace, last_state, Counterexample}
 use Rattle.gh_trace.specs.Replay.{FailsAfter, FirstFailure}
