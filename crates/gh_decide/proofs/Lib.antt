@@ -3,3 +3,4 @@ pub mod Safe
 pub mod Sound
 pub mod Compose
 pub mod Valid
+pub mod Examples

@@ -7,6 +7,7 @@ use Rattle.gh_path.specs.Graphs.{Graph, tested}
 use Rattle.gh_trace.specs.Traces.{State}
 use Rattle.gh_trace.specs.Validity.{ListedAreValid}
 use Rattle.gh_decide.specs.Rules.{AreTyped}
+use Rattle.gh_decide.specs.Examples.{alone, cuts, leaks, frees_twice}
 use Rattle.gh_decide.specs.Safe.{Safe, PathsPass, AllPass}
 
 abbrev pub SafeMeansPathsPass : Type 0
@@ -26,3 +27,9 @@ ValidPass = (P : Program) → ListedAreValid P → AllPass P
 -- a program that keeps the rules is good where each of its conditions is valid
 abbrev pub ListedIsGood : Type 0
 ListedIsGood = (P : Program) → AreTyped P → ListedAreValid P → IsGood P
+
+-- of three small programs one is good, and those that leak or free twice are not
+pub record ExamplesHold : Type 0 where
+  pub cuts_is_good : IsGood (alone cuts)
+  pub leaks_is_not : IsGood (alone leaks) → ⊥
+  pub frees_twice_is_not : IsGood (alone frees_twice) → ⊥

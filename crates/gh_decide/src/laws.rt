@@ -1,6 +1,6 @@
 //! Why valid conditions make good programs.
 
-ghost use Rattle.gh_decide.specs.Laws.{SafeMeansPathsPass, TestsLead, Composition, ValidPass, ListedIsGood};
+ghost use Rattle.gh_decide.specs.Laws.{SafeMeansPathsPass, TestsLead, Composition, ValidPass, ListedIsGood, ExamplesHold};
 
 /// A state is safe exactly where each path's check is passed.
 pub fn safe_means_paths_pass()
@@ -25,4 +25,9 @@ pub fn valid_pass()
 /// A program that keeps the rules is good where each of its conditions is valid.
 pub fn listed_is_good()
     ensures { ListedIsGood }
+{}
+
+/// Of three small programs one is good, and those that leak or free twice are not.
+pub fn examples_hold()
+    ensures { ExamplesHold }
 {}
