@@ -8,7 +8,8 @@ use Rattle.gh_assert.specs.Heaps.{Heap, Splits}
 use Rattle.gh_assert.specs.Meaning.{Store}
 use Rattle.gh_assert.specs.Values.{result, Give, outcome}
 use Rattle.gh_machine.specs.Machine.{Activation, Config, Answers, Pops, StepOn, SomeUnread, FaultOn}
-use Rattle.gh_machine.specs.Laws.{holding, StepsKeepFrames}
+use Rattle.gh_machine.specs.Framed.{holding}
+use Rattle.gh_machine.specs.Laws.{StepsKeepFrames}
 use Rattle.gh_ast.proofs.Lists.{member_first, member_later, same_values, cons_both, one_value}
 use Rattle.gh_assert.proofs.Frames.{in_neither, not_in_frame, put_beside, remove_beside, reads_whole, gives_whole, outcome_whole}
 
