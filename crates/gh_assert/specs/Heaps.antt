@@ -32,3 +32,7 @@ Segment (suc n) x y h = (x ≢ y) × (x ≢ 0) × (z : ℕ) × (get h x ≡ Some
 -- b is a part of h
 abbrev pub IsPart : Heap → Heap → Type 0
 IsPart b h = (x v : ℕ) → get b x ≡ Some v → get h x ≡ Some v
+
+-- null is not allocated
+abbrev pub IsProper : Heap → Type 0
+IsProper h = get h 0 ≡ None

@@ -1,14 +1,38 @@
 -- The laws.
-use Rattle.std.specs.Prelude.{◌≡◌, ◌≢◌, ◌⊎◌, ◌↔◌, ℕ, ◌+◌, ◌≤◌, ◌<◌, List, length, None, Contains, Decides}
+use Rattle.std.specs.Prelude.{◌≡◌, ◌≢◌, ◌⊎◌, ◌↔◌, ℕ, ◌+◌, ◌≤◌, ◌<◌, List, length, map, None, Contains, Decides}
 use Rattle.std.specs.FinMap.{get, entries}
 use Rattle.gh_ast.specs.Plain.{Formula}
-use Rattle.gh_assert.specs.Heaps.{Heap, Splits, IsPart, IsCell, Segment}
-use Rattle.gh_assert.specs.Meaning.{Store, Meaning}
+use Rattle.gh_ast.specs.Programs.{Name}
+use Rattle.gh_ast.specs.Names.{FormulaIn}
+use Rattle.gh_assert.specs.Heaps.{Heap, IsProper, Splits, IsPart, IsCell, Segment}
+use Rattle.gh_assert.specs.Meaning.{Store, Meaning, HasPart}
 use Rattle.gh_assert.specs.Walks.{IsDistance, Meets, succ, walk, Reaches, Between, Allocated}
 use Rattle.gh_assert.specs.Tests.{reaches, is_between}
 use Rattle.gh_assert.specs.Ownership.{Owned, IsUnnamed, IsPointedToOnce, LastNamed}
 use Rattle.gh_assert.specs.Hops.{Hop}
 use Rattle.gh_assert.specs.Reading.{Covers, Reads, HasNames}
+
+-- splitting has no order and no grouping, and two of whole, part and rest give the third
+pub record SplitsCompose : Type 0 where
+  pub symmetric : (h a b : Heap) → Splits h a b → Splits h b a
+  pub associative : (h a b c d : Heap) → Splits h a b → Splits b c d → (k : Heap) × Splits h k d × Splits k a c
+  pub whole : (h k a b : Heap) → Splits h a b → Splits k a b → h ≡ k
+  pub rest : (h a b c : Heap) → Splits h a b → Splits h a c → b ≡ c
+
+-- what meets an assertion has no cell at null
+abbrev pub MetAreProper : Type 0
+MetAreProper = (f : Formula) (s : Store) (h : Heap) → Meaning f s h → IsProper h
+
+-- at most one sub-heap meets an assertion
+abbrev pub HaveOneFootprint : Type 0
+HaveOneFootprint = (f : Formula) (s : Store) (a b h : Heap) → Meaning f s a → Meaning f s b → IsPart a h → IsPart b h → a ≡ b
+
+abbrev pub PartsAreDecided : Type 0
+PartsAreDecided = (f : Formula) (s : Store) (h : Heap) → IsProper h → (HasPart f s h ⊎ (HasPart f s h → ⊥)) × (Meaning f s h ⊎ (Meaning f s h → ⊥))
+
+-- stores that agree on the names of an assertion are one to it: so any store that gives a callee's parameters the arguments will do
+abbrev pub NamesDecide : Type 0
+NamesDecide = (f : Formula) (xs : List Name) (s t : Store) (h : Heap) → FormulaIn f xs → map s xs ≡ map t xs → Meaning f s h ↔ Meaning f t h
 
 -- a part is what is split off
 abbrev pub PartsSplitOff : Type 0
@@ -32,7 +56,7 @@ WalksAreSimple = (h : Heap) (x y n : ℕ) → IsDistance (succ h) x y n → IsSi
 
 -- some part of h is a segment from x to y exactly where x reaches y
 abbrev pub SegmentsExist : Type 0
-SegmentsExist = (h : Heap) (x y : ℕ) → get h 0 ≡ None → ((n : ℕ) × (a : Heap) × IsPart a h × Segment n x y a) ↔ Reaches h x y
+SegmentsExist = (h : Heap) (x y : ℕ) → IsProper h → ((n : ℕ) × (a : Heap) × IsPart a h × Segment n x y a) ↔ Reaches h x y
 
 -- a part that is a segment has as many cells as y is away, and its places are those of the walk before y
 pub record IsWalk (h : Heap) (x y n : ℕ) (a : Heap) : Type 0 where
@@ -61,10 +85,10 @@ RowsHold = (h : Heap) → Rows (Between h)
 
 -- what is reached is reached in as many steps as there are cells
 abbrev pub WalksAreShort : Type 0
-WalksAreShort = (h : Heap) (x y : ℕ) → get h 0 ≡ None → Reaches h x y → (n : ℕ) × (n ≤ length (entries h)) × IsDistance (succ h) x y n
+WalksAreShort = (h : Heap) (x y : ℕ) → IsProper h → Reaches h x y → (n : ℕ) × (n ≤ length (entries h)) × IsDistance (succ h) x y n
 
 abbrev pub TestsDecide : Type 0
-TestsDecide = (h : Heap) → get h 0 ≡ None → ((x y : ℕ) → Decides (reaches h x y) (Reaches h x y)) × ((x y z : ℕ) → Decides (is_between h x y z) (Between h x y z))
+TestsDecide = (h : Heap) → IsProper h → ((x y : ℕ) → Decides (reaches h x y) (Reaches h x y)) × ((x y z : ℕ) → Decides (is_between h x y z) (Between h x y z))
 
 -- the other way to say the second part of ownership
 abbrev pub OnePointsThere : Type 0
@@ -81,11 +105,11 @@ pub record IsRead (V : List ℕ) (h : Heap) (s : Store) (f : Formula) : Type 0 w
   pub whole : Meaning f s h ↔ (Reads f s h V × ((z : ℕ) → Contains V z → Allocated h z ↔ Covers f s h z))
 
 abbrev pub ReadingLaw : Type 0
-ReadingLaw = (V : List ℕ) (h : Heap) (s : Store) (f : Formula) → get h 0 ≡ None → Owned V h → HasNames f s h V → IsRead V h s f
+ReadingLaw = (V : List ℕ) (h : Heap) (s : Store) (f : Formula) → IsProper h → Owned V h → HasNames f s h V → IsRead V h s f
 
 -- from a named cell some named value is met
 abbrev pub HopsExist : Type 0
-HopsExist = (V : List ℕ) (h : Heap) (x : ℕ) → get h 0 ≡ None → Owned V h → Contains V x → Allocated h x → (v : ℕ) × Hop V h x v
+HopsExist = (V : List ℕ) (h : Heap) (x : ℕ) → IsProper h → Owned V h → Contains V x → Allocated h x → (v : ℕ) × Hop V h x v
 
 -- rows 11, 12, 14 and 15, and the hop to a named content
 pub record HopRows (V : List ℕ) (h : Heap) : Type 0 where

@@ -119,8 +119,11 @@ abbrev pub whole_body : Procedure → Start
 whole_body p = record { origin = from_entry; meets = p.needs; graph = all_lowered p (body_of p) (ends (returned p.close p.gives)) }
 
 -- once around a loop
+abbrev pub once_around : Procedure → Loop → Graph
+once_around p l = tested l.test (all_lowered p l.body (ends (loop_end l))) dead_end
+
 abbrev pub round : Procedure → ℕ → Loop → Start
-round p n l = record { origin = from_loop n l; meets = l.invariant; graph = tested l.test (all_lowered p l.body (ends (loop_end l))) dead_end }
+round p n l = record { origin = from_loop n l; meets = l.invariant; graph = once_around p l }
 
 -- the loops of a list, numbered from n
 abbrev pub rounds : Procedure → ℕ → List Loop → List Start

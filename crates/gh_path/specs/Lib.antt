@@ -3,3 +3,4 @@ pub mod Paths
 pub mod Conditions
 pub mod Terms
 pub mod Admitted
+pub mod Laws

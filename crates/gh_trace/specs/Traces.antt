@@ -1,5 +1,5 @@
 -- What a path's steps do, and counterexamples.
-use Rattle.std.specs.Prelude.{◌≡◌, ◌≢◌, ℕ, List, [], ◌∷◌, map, Some, None, Contains}
+use Rattle.std.specs.Prelude.{◌≡◌, ◌≢◌, ℕ, List, [], ◌∷◌, map, Some, None}
 use Rattle.std.specs.FinMap.{get, insert, remove}
 use Rattle.gh_ast.specs.Plain.{Formula, Procedure, Program}
 use Rattle.gh_assert.specs.Heaps.{Heap, Splits}
@@ -7,8 +7,7 @@ use Rattle.gh_assert.specs.Meaning.{Store, Meaning, HasPart}
 use Rattle.gh_assert.specs.Walks.{Allocated}
 use Rattle.gh_assert.specs.Values.{result, Give, compared, Gets}
 use Rattle.gh_ast.specs.Programs.{Name, names, parameters_of, results_of, Declares, SomeAssigns}
-use Rattle.gh_path.specs.Graphs.{Check, access, entry, loop_entry, returned, loop_end, PathStep, accessed, assume, assigned, made, written, freed, called, looped, answered, Start, starts}
-use Rattle.gh_path.specs.Paths.{Path}
+use Rattle.gh_path.specs.Graphs.{Check, access, entry, loop_entry, returned, loop_end, PathStep, accessed, assume, assigned, made, written, freed, called, looped, answered}
 
 -- the store tells a value for every name: of a listed store it is the value that is listed, and 0 for a name that isn't there.
 -- A trace as it is drawn lists the variables of the condition's procedure, `variables_of`, in their order, in each of its states;
@@ -75,7 +74,3 @@ pub record Counterexample (P : Program) (f : Formula) (ps : List PathStep) (c : 
 
 abbrev pub IsValid : Program → Formula → List PathStep → Check → Type 0
 IsValid P f ps c = (x : State) (ys : List State) → Counterexample P f ps c x ys → ⊥
-
--- each condition of the program is valid
-abbrev pub AreValid : Program → Type 0
-AreValid P = (p : Procedure) → Contains P.procedures p → (a : Start) → Contains (starts p) a → (ps : List PathStep) (c : Check) → Path a.graph ps c → IsValid P a.meets ps c

@@ -1,0 +1,6 @@
+pub mod Tests
+pub mod Safe
+pub mod Sound
+pub mod Compose
+pub mod Valid
+pub mod Examples
