@@ -1,4 +1,5 @@
 pub mod Graphs
 pub mod Paths
 pub mod Conditions
+pub mod Examples
 pub mod Laws
