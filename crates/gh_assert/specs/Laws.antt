@@ -1,6 +1,6 @@
 -- The laws.
-use Rattle.std.specs.Prelude.{◌≡◌, ◌≢◌, ◌⊎◌, ◌↔◌, ℕ, ◌+◌, ◌≤◌, ◌<◌, List, length, map, None, Contains, Decides}
-use Rattle.std.specs.FinMap.{get, entries}
+use Rattle.std.specs.Prelude.{◌≡◌, ◌≢◌, ◌⊎◌, ◌↔◌, ℕ, ◌+◌, ◌≤◌, ◌<◌, List, length, map, Contains, Decides}
+use Rattle.std.specs.FinMap.{entries}
 use Rattle.gh_ast.specs.Plain.{Formula}
 use Rattle.gh_ast.specs.Programs.{Name}
 use Rattle.gh_ast.specs.Names.{FormulaIn}

@@ -2,7 +2,7 @@
 use Rattle.std.specs.Prelude.{◌≡◌, List, [], ◌∷◌, Contains}
 use Rattle.std.proofs.Common.{sym, ◌∙◌, subst, inl, inr}
 use Rattle.gh_ast.specs.Plain.{Procedure}
-use Rattle.gh_ast.specs.Programs.{Name, name_of, IsFirstNamed}
+use Rattle.gh_ast.specs.Programs.{Name, IsFirstNamed}
 use Rattle.gh_ast.proofs.Lists.{member_first, member_later}
 
 pub is_member : (ps : List Procedure) (f : Name) (p : Procedure) → IsFirstNamed ps f p → Contains ps p

@@ -1,5 +1,5 @@
 -- What a number of steps cannot spoil, and each statement without blocks and calls.
-use Rattle.std.specs.Prelude.{◌≡◌, ◌⊎◌, ℕ, zero, suc, ◌≤◌, List, [], ◌∷◌, Bool, true, false, cond, Option, Some, None, Contains}
+use Rattle.std.specs.Prelude.{◌≡◌, ◌⊎◌, ℕ, zero, suc, ◌≤◌, List, [], ◌∷◌, Bool, true, false, cond, Some, None, Contains}
 use Rattle.std.specs.FinMap.{get, insert, remove}
 use Rattle.std.proofs.Common.{refl, sym, ◌∙◌, ap, subst, inl, inr, arith}
 use Rattle.gh_base.specs.declared.place.Span.{Span}

@@ -1,6 +1,6 @@
 -- Where a condition has no counterexample, its check is passed.
 use Rattle.gh_assert.proofs.Proper.{met_proper}
-use Rattle.gh_path.specs.Conditions.{Condition, condition, conditions}
+use Rattle.gh_path.specs.Conditions.{condition}
 use Rattle.gh_path.proofs.Listed.{listed}
 use Rattle.gh_trace.specs.Traces.{last_state}
 use Rattle.gh_trace.proofs.Proper.{trace_proper, pass}

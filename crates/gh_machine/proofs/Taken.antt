@@ -1,5 +1,5 @@
 -- A step or a run of a part is one beside a frame, and back.
-use Rattle.std.specs.Prelude.{◌≡◌, ◌⊎◌, ℕ, List, [], ◌∷◌, cond, None}
+use Rattle.std.specs.Prelude.{◌≡◌, List, [], ◌∷◌, cond, None}
 use Rattle.std.specs.FinMap.{get, insert, remove}
 use Rattle.std.proofs.Common.{refl, sym, ◌∙◌, ap, subst, inl, inr}
 use Rattle.gh_ast.specs.Plain.{set, new, write, free, call, choice, loop, give, Statements, no_statements, statement_first, Procedure, Program}
@@ -11,7 +11,7 @@ use Rattle.gh_assert.proofs.Cells.{get_put}
 use Rattle.gh_assert.proofs.Frames.{in_whole, not_in_frame, put_beside, remove_beside, reads_whole, gives_whole, outcome_whole}
 use Rattle.gh_assert.proofs.Splitting.{whole}
 use Rattle.gh_assert.proofs.Proper.{none_both}
-use Rattle.gh_machine.specs.Machine.{Activation, Config, starting, continuing, Answers, Pops, Returns, Step, StepOn, Fault, IsRun}
+use Rattle.gh_machine.specs.Machine.{Activation, Config, starting, continuing, Answers, Pops, Step, StepOn, Fault, IsRun}
 use Rattle.gh_machine.specs.Framed.{holding, IsWithout, AreWithout}
 use Rattle.gh_machine.specs.Laws.{StepsTakeFrames, NeverFaults, RunsKeepFrames}
 use Rattle.gh_machine.proofs.Framed.{steps_keep_frames}
@@ -76,11 +76,16 @@ taken P (statement_first (choice test r1 c1 r2 c2) rest) b e W K F split after (
     (way, outcome_whole b.top.store W b.heap F split test way gives, goes_on b e b.top.store (cond way (joined r1 rest) (joined r2 rest)) W K F split after to)
 taken P (statement_first (loop at test inv body close) rest) b e W K F split after (way, gives, to) =
     (way, outcome_whole b.top.store W b.heap F split test way gives, goes_on b e b.top.store (cond way (joined body (statement_first (loop at test inv body close) rest)) rest) W K F split after to)
-taken P (statement_first (give at es) rest) b e W K F split after (vs, t, gives, gets, ends) =
-    (vs, t, gives_whole b.top.store W b.heap F split es vs gives, gets, elim ends [
-      | inl (alone, to) ↦ inl (alone, goes_on b e t no_statements W K F split after to)
-      | inr pops ↦ inr (pops_taken b.below b.top.procedure t W K F b.heap e split after pops)
-    ])
+taken P (statement_first (give at es) rest) b e W K F split after (vs, t, gives, gets, ends) = (
+  vs,
+  t,
+  gives_whole b.top.store W b.heap F split es vs gives,
+  gets,
+  elim ends [
+    | inl (alone, to) ↦ inl (alone, goes_on b e t no_statements W K F split after to)
+    | inr pops ↦ inr (pops_taken b.below b.top.procedure t W K F b.heap e split after pops)
+  ],
+)
 
 pub steps_take_frames : StepsTakeFrames
 steps_take_frames P b e W K F split after st = taken P b.top.rest b e W K F split after st
@@ -104,7 +109,7 @@ runs_off P F c b (d ∷ ds) without sound run =
     let step = steps_keep_frames P c d b.heap F split safe run.0 in
     let first : Step P b (holding d step.0) = subst (λ z. Step P z (holding d step.0)) (sym without.1) step.2 in
     let rest = runs_off P F d (holding d step.0) ds (step.1, refl)
-        (λ es r e there. sound (holding d step.0 ∷ es) (first, r) e (member_later b e (holding d step.0 ∷ es) there)) run.1 in
+    (λ es r e there. sound (holding d step.0 ∷ es) (first, r) e (member_later b e (holding d step.0 ∷ es) there)) run.1 in
     (holding d step.0 ∷ rest.0, (first, rest.1), (without, rest.2))
 
 pub runs_keep_frames : RunsKeepFrames

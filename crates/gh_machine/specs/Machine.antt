@@ -92,9 +92,9 @@ abbrev pub IsRun : Program → Config → List Config → Type 0
 IsRun P c [] = Unit {0}
 IsRun P c (d ∷ ds) = Step P c d × IsRun P d ds
 
-abbrev pub last : Config → List Config → Config
-last c [] = c
-last c (d ∷ ds) = last d ds
+abbrev pub last_of : Config → List Config → Config
+last_of c [] = c
+last_of c (d ∷ ds) = last_of d ds
 
 -- the heap is the frame and a heap that meets what the procedure gives
 abbrev pub EndsWell : Procedure → Heap → Config → Type 0
@@ -102,7 +102,7 @@ EndsWell p frame c = (h : Heap) × Splits c.heap h frame × Meaning p.gives c.to
 
 pub record IsGoodRun (p : Procedure) (frame : Heap) (c : Config) (ds : List Config) : Type 0 where
   pub never_faults : (d : Config) → Contains (c ∷ ds) d → Fault d → ⊥
-  pub ends_well : HasEnded (last c ds) → EndsWell p frame (last c ds)
+  pub ends_well : HasEnded (last_of c ds) → EndsWell p frame (last_of c ds)
 
 -- a program is good: every run of each procedure, from each part that meets what it needs, with any frame beside it
 abbrev pub IsGood : Program → Type 0

@@ -1,5 +1,5 @@
 -- Bodies as graphs: each statement is given what comes after it.
-use Rattle.std.specs.Prelude.{ℕ, zero, suc, List, [], ◌∷◌, ◌++◌, Bool}
+use Rattle.std.specs.Prelude.{ℕ, suc, List, [], ◌∷◌, ◌++◌, Bool}
 use Rattle.gh_base.specs.declared.place.Span.{Span}
 use Rattle.gh_ast.specs.declared.Occ.{Occ}
 use Rattle.gh_ast.specs.declared.Expr.{Expr}
@@ -26,6 +26,14 @@ pub data Check : Type 0 where
   loop_entry : Loop → Check
   returned : Span → Formula → Check
   loop_end : Loop → Check
+
+-- the place that a check is named by: of the variable, the callee, the word `while`, the word `return` or a last brace
+abbrev pub place_of : Check → Span
+place_of (access x) = x.span
+place_of (entry f es) = f.span
+place_of (loop_entry l) = l.at
+place_of (returned at f) = at
+place_of (loop_end l) = l.close
 
 -- `assume l e r way`: the comparison is true where `way` is, else false
 pub data PathStep : Type 0 where

@@ -1,6 +1,6 @@
 //! Laws of paths and of the list of conditions.
 
-ghost use Rattle.gh_path.specs.Laws.{PathsAreOrdered, PathsHaveOneList, AllAreListed};
+ghost use Rattle.gh_path.specs.Laws.{PathsAreOrdered, PathsHaveOneList, AllAreListed, ExamplesHold};
 
 /// No path stands before itself, and the order goes over.
 pub fn paths_are_ordered()
@@ -15,4 +15,9 @@ pub fn paths_have_one_list()
 /// The list of conditions has all conditions and nothing else.
 pub fn all_are_listed()
     ensures { AllAreListed }
+{}
+
+/// The conditions of two small programs.
+pub fn examples_hold()
+    ensures { ExamplesHold }
 {}

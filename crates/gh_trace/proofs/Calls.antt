@@ -1,23 +1,20 @@
 -- A call is judged by one store and one split.
-use Rattle.std.specs.Prelude.{◌≡◌, ◌++◌, ℕ, List, map, Some, Contains}
+use Rattle.std.specs.Prelude.{◌≡◌, ◌++◌, map, Contains}
 use Rattle.std.proofs.lemmas.List.Elements.{Contains-append_cases}
-use Rattle.std.proofs.Common.{refl, sym, ◌∙◌, ap, subst, inl, inr}
-use Rattle.gh_ast.specs.declared.Occ.{Occ}
-use Rattle.gh_ast.specs.declared.Expr.{Expr}
-use Rattle.gh_ast.specs.Plain.{Formula, Procedure, Program}
-use Rattle.gh_ast.specs.Programs.{Name, names, parameters_of, results_of, Declares}
+use Rattle.std.proofs.Common.{sym, ◌∙◌, ap, subst, inl, inr}
+use Rattle.gh_ast.specs.Plain.{Formula}
+use Rattle.gh_ast.specs.Programs.{Name, names, parameters_of, results_of}
 use Rattle.gh_ast.proofs.Lists.{same_values}
 use Rattle.gh_ast.proofs.Declared.{is_one}
 use Rattle.gh_assert.specs.Heaps.{Heap, Splits}
 use Rattle.gh_assert.specs.Meaning.{Store, Meaning, HasPart}
-use Rattle.gh_assert.specs.Values.{result, Give, Gets}
 use Rattle.gh_assert.proofs.Agree.{Agree, maps_agree, same_meaning}
 use Rattle.gh_assert.proofs.Splitting.{rest}
 use Rattle.gh_assert.proofs.Unique.{one_footprint}
 use Rattle.gh_assert.proofs.Unions.{split_part}
-use Rattle.gh_path.specs.Graphs.{entry, called}
-use Rattle.gh_trace.specs.Traces.{State, Replaced, Called, Takes, Passes}
-use Rattle.gh_trace.specs.Laws.{HasOwnNames, PartsAreReplaced, EntriesAreOne, CallsAreOne}
+use Rattle.gh_path.specs.Graphs.{entry}
+use Rattle.gh_trace.specs.Traces.{Replaced, Called, Passes}
+use Rattle.gh_trace.specs.Laws.{PartsAreReplaced, EntriesAreOne, CallsAreOne}
 
 pub parts_are_replaced : PartsAreReplaced
 parts_are_replaced f s h g t k part frame split met = (
@@ -71,6 +68,6 @@ calls_are_one P xs f es x y p vs inside own decl gives params results = (
         ] in (
           c.targets.kept,
           replaced_agrees p.needs p.gives c.inside c.inside inside inside x.heap y.heap
-          (λ a m. same_meaning p.needs (parameters_of p) c.inside inside a on_parameters own.needs_in m)
-          (λ a m. same_meaning p.gives (parameters_of p ++ results_of p) c.inside inside a on_both own.gives_in m) c.replaced,
+              (λ a m. same_meaning p.needs (parameters_of p) c.inside inside a on_parameters own.needs_in m)
+              (λ a m. same_meaning p.gives (parameters_of p ++ results_of p) c.inside inside a on_both own.gives_in m) c.replaced,
         )

@@ -1,5 +1,5 @@
 -- No state of a trace has a cell at null, so its checks are decided.
-use Rattle.std.specs.Prelude.{◌≡◌, List, [], ◌∷◌}
+use Rattle.std.specs.Prelude.{List, [], ◌∷◌}
 use Rattle.std.specs.FinMap.{get}
 use Rattle.std.proofs.Common.{sym, ◌∙◌, ap, inl, inr}
 use Rattle.gh_ast.specs.Plain.{Formula, Program}
@@ -11,7 +11,7 @@ use Rattle.gh_assert.proofs.Decide.{Decided, part_decided, meaning_decided}
 use Rattle.gh_assert.proofs.Frames.{in_neither}
 use Rattle.gh_assert.proofs.Proper.{none_both, met_proper, put_proper, at_proper}
 use Rattle.gh_path.specs.Graphs.{Check, access, entry, loop_entry, returned, loop_end, PathStep, accessed, assume, assigned, made, written, freed, called, looped, answered}
-use Rattle.gh_trace.specs.Traces.{State, Replaced, Takes, Passes, IsTrace, last_state, Counterexample}
+use Rattle.gh_trace.specs.Traces.{State, Replaced, Takes, Passes, IsTrace, last_state}
 use Rattle.gh_trace.specs.Laws.{TracesAreProper, ChecksAreDecided}
 
 replaced_proper : (f : Formula) (s : Store) (h : Heap) (g : Formula) (t : Store) (k : Heap) → Replaced f s h g t k → IsProper h → IsProper k

@@ -1,5 +1,5 @@
 -- The laws.
-use Rattle.std.specs.Prelude.{◌≡◌, ◌↔◌, ℕ, List, ◌∷◌, ◌++◌, map, Contains}
+use Rattle.std.specs.Prelude.{◌≡◌, ◌↔◌, ℕ, suc, ◌≤◌, List, length, ◌++◌, map, Contains}
 use Rattle.gh_ast.specs.declared.Occ.{Occ}
 use Rattle.gh_ast.specs.declared.Expr.{Expr}
 use Rattle.gh_ast.specs.Plain.{Formula, Procedure, Program}
@@ -9,15 +9,16 @@ use Rattle.gh_assert.specs.Heaps.{Heap, IsProper, Splits}
 use Rattle.gh_assert.specs.Meaning.{Store, Meaning, HasPart}
 use Rattle.gh_assert.specs.Values.{Give}
 use Rattle.gh_path.specs.Graphs.{Check, entry, PathStep, called}
-use Rattle.gh_trace.specs.Traces.{State, Replaced, Takes, Passes, IsTrace, last_state, Counterexample}
-use Rattle.gh_trace.specs.Replay.{FirstFailure}
+use Rattle.gh_path.specs.Conditions.{Condition}
+use Rattle.gh_trace.specs.Traces.{State, Replaced, Takes, Passes, IsTrace, last_state}
+use Rattle.gh_trace.specs.Replay.{Drawn, FirstFailure, Refutes}
 
--- a list of states has at most one first failure, and a counterexample has none
-abbrev pub FailuresAreOne : Type 0
-FailuresAreOne =
-    (P : Program) (f : Formula) (ps : List PathStep) (c : Check) →
-    ((xs : List State) (n m : ℕ) → FirstFailure P f ps c xs n → FirstFailure P f ps c xs m → n ≡ m) ×
-    ((x : State) (ys : List State) (n : ℕ) → Counterexample P f ps c x ys → FirstFailure P f ps c (x ∷ ys) n → ⊥)
+-- drawn states have at most one first failure; they have none where they refute the condition, and some where they don't
+pub record FailuresAreOne : Type 0 where
+  pub one : (P : Program) (c : Condition) (xs : List Drawn) (n m : ℕ) → FirstFailure P c xs n → FirstFailure P c xs m → n ≡ m
+  pub none : (P : Program) (c : Condition) (xs : List Drawn) → Refutes P c xs → (n : ℕ) → FirstFailure P c xs n → ⊥
+  pub some : (P : Program) (c : Condition) (xs : List Drawn) → ((n : ℕ) → FirstFailure P c xs n → ⊥) → (Refutes P c xs → ⊥) → ⊥
+  pub within : (P : Program) (c : Condition) (xs : List Drawn) (n : ℕ) → FirstFailure P c xs n → n ≤ suc (length c.way.steps)
 
 -- from a heap that meets an assertion no trace leads to a cell at null
 abbrev pub TracesAreProper : Type 0

@@ -9,9 +9,9 @@ use Rattle.gh_assert.specs.Values.{result, Give, compared, Gets}
 use Rattle.gh_ast.specs.Programs.{Name, names, parameters_of, results_of, Declares, SomeAssigns}
 use Rattle.gh_path.specs.Graphs.{Check, access, entry, loop_entry, returned, loop_end, PathStep, accessed, assume, assigned, made, written, freed, called, looped, answered}
 
--- the store tells a value for every name: of a listed store it is the value that is listed, and 0 for a name that isn't there.
--- A trace as it is drawn lists the variables of the condition's procedure, `variables_of`, in their order, in each of its states;
--- names beside these are never read nor assigned, and so stay 0
+-- the store tells a value for every name. A store that lists names with their values tells those, and 0 for each other name;
+-- whether it lists the variables of the procedure, in their order, is asked where a trace is drawn (`Refutes`, `FirstFailure`).
+-- A program that keeps the type rules neither reads nor assigns a name that is no variable
 pub record State : Type 0 where
   pub store : Store
   pub heap : Heap

@@ -2,7 +2,7 @@
 
 ghost use Rattle.gh_trace.specs.Laws.{FailuresAreOne, TracesAreProper, ChecksAreDecided, PartsAreReplaced, EntriesAreOne, CallsAreOne};
 
-/// A list of states has at most one first failure, and a counterexample has none.
+/// Drawn states have at most one first failure, and a counterexample has none.
 pub fn failures_are_one()
     ensures { FailuresAreOne }
 {}
