@@ -2,7 +2,7 @@
 use Rattle.std.specs.Prelude.{◌≡◌, ℕ, suc, ◌≤◌, List, [], ◌∷◌, length, map, Contains}
 use Rattle.std.proofs.Common.{refl, sym, ◌∙◌, ap, subst, inl, inr, arith}
 use Rattle.gh_ast.specs.Plain.{Formula, Program}
-use Rattle.gh_ast.specs.Programs.{Name, variables_of}
+use Rattle.gh_ast.specs.Programs.{Name, variable_names}
 use Rattle.gh_ast.proofs.Lists.{member_first, member_later, member_cases, no_member}
 use Rattle.gh_assert.specs.Meaning.{Meaning}
 use Rattle.gh_path.specs.Graphs.{Check, PathStep}
@@ -42,16 +42,16 @@ none_after P vs x (p ∷ ps) c (y ∷ ys) n over t fails f = elim f [
   | inr (takes, k, e, more) ↦ none_after P vs y.state ps c ys k (λ z i. over z (member_later y z ys i)) t.1 fails more
 ]
 
-none_first : (P : Program) (c : Condition) (x : Drawn) (ys : List Drawn) (n : ℕ) → AreOver (variables_of c.procedure) (x ∷ ys) → Meaning c.start.meets x.state.store x.state.heap → IsTrace P x.state c.way.steps (states ys) →
+none_first : (P : Program) (c : Condition) (x : Drawn) (ys : List Drawn) (n : ℕ) → AreOver (variable_names c.procedure) (x ∷ ys) → Meaning c.start.meets x.state.store x.state.heap → IsTrace P x.state c.way.steps (states ys) →
     (Passes P c.way.check (last_state x.state (states ys)) → ⊥) → FirstFailure P c (x ∷ ys) n → ⊥
 none_first P c x ys n over met t fails a = elim a [
   | inl (not, e) ↦ not (over x (member_first x ys), met)
-  | inr (begins, more) ↦ none_after P (variables_of c.procedure) x.state c.way.steps c.way.check ys n (λ z i. over z (member_later x z ys i)) t fails more
+  | inr (begins, more) ↦ none_after P (variable_names c.procedure) x.state c.way.steps c.way.check ys n (λ z i. over z (member_later x z ys i)) t fails more
 ]
 
 refutes : (P : Program) (c : Condition) (xs : List Drawn) → Refutes P c xs → (n : ℕ) → FirstFailure P c xs n → ⊥
 refutes P c xs is n a =
-    none_first P c is.first is.others n (subst (AreOver (variables_of c.procedure)) is.states is.over) is.counterexample.begins is.counterexample.leads is.counterexample.fails
+    none_first P c is.first is.others n (subst (AreOver (variable_names c.procedure)) is.states is.over) is.counterexample.begins is.counterexample.leads is.counterexample.fails
     (subst (λ zs. FirstFailure P c zs n) is.states a)
 
 within_after : (P : Program) (vs : List Name) (x : State) (ps : List PathStep) (c : Check) (ys : List Drawn) (n : ℕ) → FailsAfter P vs x ps c ys n → n ≤ suc (length ps)
@@ -84,12 +84,12 @@ some_after P vs x (p ∷ ps) c (y ∷ ys) f g = f 1 (inl (
 some_first : (P : Program) (c : Condition) (xs : List Drawn) → ((n : ℕ) → FirstFailure P c xs n → ⊥) → (Refutes P c xs → ⊥) → ⊥
 some_first P c [] f g = f 0 refl
 some_first P c (x ∷ ys) f g = f 0 (inl (
-  λ begins. some_after P (variables_of c.procedure) x.state c.way.steps c.way.check ys (λ n more. f n (inr (begins, more)))
+  λ begins. some_after P (variable_names c.procedure) x.state c.way.steps c.way.check ys (λ n more. f n (inr (begins, more)))
       (λ over t fails. g (record {
         first = x;
         others = ys;
         states = refl;
-        over = over_more (variables_of c.procedure) x ys begins.0 over;
+        over = over_more (variable_names c.procedure) x ys begins.0 over;
         counterexample = record { begins = begins.1; leads = t; fails = fails };
       })),
   refl,
@@ -97,8 +97,8 @@ some_first P c (x ∷ ys) f g = f 0 (inl (
 
 pub failures_are_one : FailuresAreOne
 failures_are_one = record {
-  one = λ P c xs n m a b. one_first P (variables_of c.procedure) c.start.meets c.way.steps c.way.check xs n m a b;
+  one = λ P c xs n m a b. one_first P (variable_names c.procedure) c.start.meets c.way.steps c.way.check xs n m a b;
   none = refutes;
   some = some_first;
-  within = λ P c xs n a. within_first P (variables_of c.procedure) c.start.meets c.way.steps c.way.check xs n a;
+  within = λ P c xs n a. within_first P (variable_names c.procedure) c.start.meets c.way.steps c.way.check xs n a;
 }

@@ -1,7 +1,7 @@
 -- Where a list of states first fails to be a counterexample.
 use Rattle.std.specs.Prelude.{◌≡◌, ◌⊎◌, ℕ, suc, List, [], ◌∷◌, map, Contains}
 use Rattle.gh_ast.specs.Plain.{Formula, Program}
-use Rattle.gh_ast.specs.Programs.{Name, variables_of}
+use Rattle.gh_ast.specs.Programs.{Name, variable_names}
 use Rattle.gh_assert.specs.Meaning.{Meaning}
 use Rattle.gh_path.specs.Graphs.{Check, PathStep}
 use Rattle.gh_path.specs.Conditions.{Condition}
@@ -33,12 +33,12 @@ FailsFirst P vs f ps c [] n = n ≡ 0
 FailsFirst P vs f ps c (x ∷ ys) n = ((Begins vs f x → ⊥) × (n ≡ 0)) ⊎ (Begins vs f x × FailsAfter P vs x.state ps c ys n)
 
 abbrev pub FirstFailure : Program → Condition → List Drawn → ℕ → Type 0
-FirstFailure P c xs n = FailsFirst P (variables_of c.procedure) c.start.meets c.way.steps c.way.check xs n
+FirstFailure P c xs n = FailsFirst P (variable_names c.procedure) c.start.meets c.way.steps c.way.check xs n
 
 -- all stores are over the variables, and the states are a counterexample
 pub record Refutes (P : Program) (c : Condition) (xs : List Drawn) : Type 0 where
   pub first : Drawn
   pub others : List Drawn
   pub states : xs ≡ first ∷ others
-  pub over : (x : Drawn) → Contains xs x → x.listed ≡ variables_of c.procedure
+  pub over : (x : Drawn) → Contains xs x → x.listed ≡ variable_names c.procedure
   pub counterexample : Counterexample P c.start.meets c.way.steps c.way.check first.state (map (λ x. x.state) others)
