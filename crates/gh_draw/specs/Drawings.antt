@@ -9,6 +9,10 @@ use Rattle.gh_trace.specs.Traces.{State}
 abbrev pub line_end : List ℕ
 line_end = 10 ∷ []
 
+-- a line of its own
+abbrev pub line : List ℕ → List ℕ
+line bytes = bytes ++ line_end
+
 -- ` NAME=VALUE`
 abbrev pub value_text : State → Name → List ℕ
 value_text x name = codes " " ++ name ++ codes "=" ++ decimal (x.store name)
@@ -20,7 +24,7 @@ cell_text c = codes " " ++ decimal c.0 ++ codes "->" ++ decimal c.1
 -- the variables in their order, and the cells in ascending order
 abbrev pub state_text : List Name → ℕ → State → List ℕ
 state_text names k x =
-    codes "state " ++ decimal k ++ line_end ++ codes "store" ++ flat_map (value_text x) names ++ line_end ++ codes "heap" ++ flat_map cell_text (entries x.heap) ++ line_end
+    line (codes "state " ++ decimal k) ++ line (codes "store" ++ flat_map (value_text x) names) ++ line (codes "heap" ++ flat_map cell_text (entries x.heap))
 
 -- states are numbered from k
 abbrev pub states_text : List Name → ℕ → List State → List ℕ
@@ -29,7 +33,7 @@ states_text names k (x ∷ xs) = state_text names k x ++ states_text names (suc 
 
 abbrev pub drawing : ℕ → List Name → List State → List ℕ
 drawing number names xs =
-    codes "drawing" ++ line_end ++ codes "condition " ++ decimal number ++ line_end ++ states_text names 0 xs ++ codes "end" ++ line_end
+    line (codes "drawing") ++ line (codes "condition " ++ decimal number) ++ states_text names 0 xs ++ line (codes "end")
 
 -- a drawing has no value past 32 bits
 pub record IsDrawable (names : List Name) (x : State) : Type 0 where
