@@ -1,3 +1,5 @@
 pub mod Lists
 pub mod Declared
 pub mod Members
+pub mod Sites
+pub mod TypedPrograms

@@ -15,7 +15,7 @@ use Rattle.gh_ast.proofs.Declared.{is_member}
 use Rattle.gh_machine.specs.Machine.{Activation, Config, Fault, IsRun, starting, EndsWell, IsGoodRun, IsGood}
 use Rattle.gh_path.specs.Graphs.{Graph, dead_end, ends, guarded, entry, loop_entry, loop_end, returned, all_reads, tested, called, looped, lowered, all_lowered, Loop, while, once_around, round, rounds, whole_body, loops, all_loops, loops_of}
 use Rattle.gh_trace.specs.Traces.{State, Takes}
-use Rattle.gh_decide.specs.Rules.{ReturnsNot, AllReturnNot, LoopsReturnNot, AllLoopsReturnNot, IsTyped, AreTyped}
+use Rattle.gh_decide.specs.Rules.{ReturnsNot, AllReturnNot, LoopsReturnNot, AllLoopsReturnNot, KeepsRules, AllKeepRules}
 use Rattle.gh_decide.specs.Safe.{Safe}
 use Rattle.gh_decide.specs.Laws.{Composition}
 use Rattle.gh_ast.proofs.Lists.{member_first, member_later, member_cases, no_member, same_values}
@@ -31,7 +31,7 @@ abbrev pub RoundsSafe : Program → Procedure → List Loop → Type 0
 RoundsSafe P p ls = (l : Loop) → Contains ls l → (x : State) → Meaning l.invariant x.store x.heap → Safe P (once_around p l) x
 
 pub record Ready (P : Program) : Type 0 where
-  pub typed : AreTyped P
+  pub typed : AllKeepRules P
   pub bodies : (p : Procedure) → Contains P.procedures p → (x : State) → Meaning p.needs x.store x.heap → Safe P (whole_body p).graph x
   pub rounds : (p : Procedure) → Contains P.procedures p → RoundsSafe P p (loops_of p)
 
@@ -101,7 +101,7 @@ module _ (P : Program) (ready : Ready P) (E : Config → Type 0) (n : ℕ) (clai
           known : Contains P.procedures c
           known = is_member P.procedures f.name c decl
 
-          typed : IsTyped c
+          typed : KeepsRules c
           typed = ready.typed c known
 
           part : HasPart c.needs t a
@@ -273,7 +273,7 @@ ready_is_good P ready p is s h part frame split met ds run =
     n : ℕ
     n = suc (length ds)
 
-    typed : IsTyped p
+    typed : KeepsRules p
     typed = ready.typed p is
 
     finish : (j : ℕ) → j ≤ n → (t : Store) (a k : Heap) → Splits k a frame → Meaning p.gives t a → Keeps (body_of p) (results_of p) s t → Sound P E j (working p t k no_statements [])

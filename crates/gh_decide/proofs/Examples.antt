@@ -12,7 +12,7 @@ use Rattle.gh_ast.specs.Programs.{body_of}
 use Rattle.gh_machine.specs.Machine.{Config, starting, continuing, IsRun, IsGoodRun, IsGood}
 use Rattle.gh_path.specs.Graphs.{Start, starts, whole_body}
 use Rattle.gh_trace.specs.Traces.{State}
-use Rattle.gh_decide.specs.Rules.{AreTyped, IsTyped}
+use Rattle.gh_decide.specs.Rules.{AllKeepRules, KeepsRules}
 use Rattle.gh_decide.specs.Examples.{x, with_cell, alone, cuts, leaks, frees_twice}
 use Rattle.gh_decide.specs.Safe.{Safe, PathsPass, AllPass}
 use Rattle.gh_decide.specs.Laws.{ExamplesHold}
@@ -69,8 +69,8 @@ cuts_safe s (to, is) = (
       subst (λ w. Meaning (cell x) w.store w.heap) (sym u.3) (u.0, cut_cell y.heap (y.store x.name) to u.0 met),
 )
 
-cuts_typed : AreTyped (alone cuts)
-cuts_typed p there = subst IsTyped (sym (only_member cuts p there)) (record {
+cuts_typed : AllKeepRules (alone cuts)
+cuts_typed p there = subst KeepsRules (sym (only_member cuts p there)) (record {
   parameters_stay = λ y i a. elim a [ inl n ↦ n | inr n ↦ n ];
   distinct = λ y i r. no_member y r;
   needs_in = member_first x.name [];

@@ -3,4 +3,5 @@ pub mod Safe
 pub mod Sound
 pub mod Compose
 pub mod Valid
+pub mod Rules
 pub mod Examples

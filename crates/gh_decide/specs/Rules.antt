@@ -26,11 +26,11 @@ abbrev mutual
   AllLoopsReturnNot no_statements = Unit {0}
   AllLoopsReturnNot (statement_first s ss) = LoopsReturnNot s × AllLoopsReturnNot ss
 
-pub record IsTyped (p : Procedure) : Type 0 where
+pub record KeepsRules (p : Procedure) : Type 0 where
   pub parameters_stay : (y : Name) → Contains (parameters_of p) y → SomeAssigns (body_of p) y → ⊥
   pub distinct : (y : Name) → Contains (parameters_of p) y → Contains (results_of p) y → ⊥
   pub needs_in : FormulaIn p.needs (parameters_of p)
   pub loops_return_not : AllLoopsReturnNot (body_of p)
 
-abbrev pub AreTyped : Program → Type 0
-AreTyped P = (p : Procedure) → Contains P.procedures p → IsTyped p
+abbrev pub AllKeepRules : Program → Type 0
+AllKeepRules P = (p : Procedure) → Contains P.procedures p → KeepsRules p

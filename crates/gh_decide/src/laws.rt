@@ -1,6 +1,6 @@
 //! Why valid conditions make good programs.
 
-ghost use Rattle.gh_decide.specs.Laws.{SafeMeansPathsPass, TestsLead, Composition, ValidPass, ListedIsGood, ExamplesHold};
+ghost use Rattle.gh_decide.specs.Laws.{SafeMeansPathsPass, TestsLead, Composition, ValidPass, ListedIsGood, TypedKeepRules, TypedIsGood, ExamplesHold};
 
 /// A state is safe exactly where each path's check is passed.
 pub fn safe_means_paths_pass()
@@ -25,6 +25,16 @@ pub fn valid_pass()
 /// A program that keeps the rules is good where each of its conditions is valid.
 pub fn listed_is_good()
     ensures { ListedIsGood }
+{}
+
+/// The type rules give what the composition needs.
+pub fn typed_keep_rules()
+    ensures { TypedKeepRules }
+{}
+
+/// A program that breaks no type rule is good where each of its conditions is valid.
+pub fn typed_is_good()
+    ensures { TypedIsGood }
 {}
 
 /// Of three small programs one is good, and those that leak or free twice are not.
