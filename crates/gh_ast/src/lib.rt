@@ -2,6 +2,7 @@
 #![tactic(auto)]
 
 pub mod sign;
+pub mod token_laws;
 
 use gh_base::name::Name;
 use gh_base::place::Span;
