@@ -1,5 +1,5 @@
 -- A text has at most one list of tokens.
-use Rattle.std.proofs.Common.{◌≡◌, ◌≢◌, ℕ, ◌+◌, ◌≤◌, List, [], ◌∷◌, ◌++◌, length, take, Option, Some, Bool, true, false, IsTrue, All, refl, sym, ◌∙◌, ap, subst, arith, append_assoc}
+use Rattle.std.proofs.Common.{◌≡◌, ◌≢◌, ℕ, List, [], ◌∷◌, ◌++◌, length, Option, Some, true, false, IsTrue, refl, sym, ◌∙◌, ap, subst, arith, append_assoc}
 use Rattle.std.specs.List.{find}
 use Rattle.std.specs.Str.{bytes_eq}
 use Rattle.std.proofs.lemmas.Bool.{both_ways}
@@ -13,7 +13,7 @@ use Rattle.gh_ast.specs.declared.sign.Keyword.{Keyword}
 use Rattle.gh_ast.specs.declared.sign.Keyword.TheVariants as keyword
 use Rattle.gh_ast.specs.Tokens.{Token, named, key, sign, cleared, first_place, moved_over, sign_text, keyword_text, is_blank, IsWord, IsFree, EndsWord, IsLongest, IsPiece, a_blank, a_name, a_keyword, a_sign, IsTokens, nothing, piece, HasTokens, IsStuck}
 use Rattle.gh_ast.specs.TokenLaws.{HaveOneList}
-use Rattle.gh_ast.proofs.Words.{first_of, after_first, IsSignText, sign_is_sign, keyword_is_word, name_not_blank, word_is_plain, one_run}
+use Rattle.gh_ast.proofs.Words.{first_of, after_first, sign_is_sign, keyword_is_word, name_not_blank, word_is_plain, one_run}
 use Rattle.gh_ast.proofs.Clearing.{IsPlain}
 
 abbrev signs : List Sign

@@ -1,5 +1,5 @@
 -- Blanks, words and signs begin differently.
-use Rattle.std.proofs.Common.{◌≡◌, ◌≢◌, ℕ, zero, suc, ◌+◌, ◌-◌, ◌<◌, ◌≤◌, List, [], ◌∷◌, ◌++◌, length, Bool, true, false, ◌||◌, ◌&&◌, nat_eq, nat_le, not, cond, IsTrue, All, refl, sym, ◌∙◌, ap, subst, arith, ◌⊎◌, inl, inr}
+use Rattle.std.proofs.Common.{◌≡◌, ◌≢◌, ℕ, List, [], ◌∷◌, ◌++◌, length, Bool, true, false, ◌||◌, ◌&&◌, nat_eq, nat_le, not, IsTrue, All, refl, sym, subst, arith, inl, inr}
 use Rattle.std.specs.List.{list_all}
 use Rattle.std.proofs.lemmas.Bool.{and_parts, and_from, or_cases, eqb-true, leb-true, both_ways}
 use Rattle.std.proofs.lemmas.List.Elements.{All-head, All-tail}
@@ -109,12 +109,15 @@ keyword_is_word k =
 pub name_not_blank : (b : ℕ) → is_name_byte b ≡ true → is_blank b ≡ true → ⊥
 name_not_blank b h q =
     elim (or_cases (((nat_eq b 32) || (nat_eq b 9)) || (nat_eq b 13)) (nat_eq b 10) q) [
-      inl r ↦ elim (or_cases ((nat_eq b 32) || (nat_eq b 9)) (nat_eq b 13) r) [
-        inl s ↦ elim (or_cases (nat_eq b 32) (nat_eq b 9) s) [
-          inl t ↦ apart is_name_byte b 32 h refl (eqb-true b 32 t)
-        | inr t ↦ apart is_name_byte b 9 h refl (eqb-true b 9 t) ]
-      | inr s ↦ apart is_name_byte b 13 h refl (eqb-true b 13 s) ]
-    | inr r ↦ apart is_name_byte b 10 h refl (eqb-true b 10 r) ]
+      | inl r ↦ elim (or_cases ((nat_eq b 32) || (nat_eq b 9)) (nat_eq b 13) r) [
+        | inl s ↦ elim (or_cases (nat_eq b 32) (nat_eq b 9) s) [
+          | inl t ↦ apart is_name_byte b 32 h refl (eqb-true b 32 t)
+          | inr t ↦ apart is_name_byte b 9 h refl (eqb-true b 9 t)
+        ]
+        | inr s ↦ apart is_name_byte b 13 h refl (eqb-true b 13 s)
+      ]
+      | inr r ↦ apart is_name_byte b 10 h refl (eqb-true b 10 r)
+    ]
 
 pub name_not_slash : (b : ℕ) → is_name_byte b ≡ true → b ≢ 47
 name_not_slash b h = apart is_name_byte b 47 h refl

@@ -5,5 +5,4 @@ ghost use Rattle.gh_ast.specs.TokenLaws.{HaveOneList};
 /// A text has at most one list of tokens.
 pub fn have_one_list_law()
     ensures { HaveOneList }
-{
-}
+{}
