@@ -2,5 +2,7 @@
 #![tactic(auto)]
 
 pub mod lexer;
+#[cfg(test)]
+mod lexer_tests;
 pub mod scan;
 pub mod token;
