@@ -2,6 +2,7 @@
 #![tactic(auto)]
 
 pub mod sign;
+pub mod token_laws;
 pub mod typed;
 
 use gh_base::name::Name;

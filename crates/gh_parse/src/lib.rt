@@ -1,4 +1,8 @@
 //! The parser: from the bytes of a text to its syntax tree.
 #![tactic(auto)]
 
+pub mod lexer;
+#[cfg(test)]
+mod lexer_tests;
+pub mod scan;
 pub mod token;
