@@ -6,3 +6,4 @@ pub mod lexer;
 mod lexer_tests;
 pub mod scan;
 pub mod token;
+pub mod parse;

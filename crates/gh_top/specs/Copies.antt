@@ -13,7 +13,8 @@ use Rattle.gh_ast.specs.Rules.{IsTyped}
 use Rattle.gh_assert.specs.Heaps.{Heap}
 use Rattle.gh_assert.specs.Meaning.{Store, value}
 use Rattle.gh_path.specs.Admitted.{HasManySteps, HasManyTerms}
-use Rattle.gh_path.specs.Conditions.{Condition, conditions_of}
+use Rattle.gh_path.specs.Conditions.{Condition, condition, conditions_of}
+use Rattle.gh_path.specs.Graphs.{PathStep, assigned, returned, whole_body}
 use Rattle.gh_trace.specs.Traces.{State}
 use Rattle.gh_trace.specs.Validity.{IsConditionValid, Refutes}
 
@@ -80,3 +81,16 @@ pub record RefutesProcedure (P : Program) (p : Procedure) (vs : List ℕ) : Type
   pub all : length vs ≡ length (variable_names p)
   pub small : All (λ v. v < 2 ^ 32) vs
   pub refutes : (c : Condition) → Contains (conditions_of p) c → Refutes P c (trace_of p vs)
+
+-- the steps of the copies
+abbrev pub copy_steps : Statements → List PathStep
+copy_steps no_statements = []
+copy_steps (statement_first (set x e) rest) = assigned x e ∷ copy_steps rest
+copy_steps (statement_first s rest) = []
+
+-- the one condition of a procedure of copies
+abbrev pub only_condition : Procedure → Condition
+only_condition p = condition p (whole_body p) (record { steps = copy_steps (body_of p); check = returned p.close p.gives })
+
+abbrev pub AreOfTyped : List Procedure → Type 0
+AreOfTyped ps = (p : Procedure) → Contains ps p → IsOfTyped p

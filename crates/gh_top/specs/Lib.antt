@@ -4,3 +4,6 @@ pub mod Statuses
 pub mod Refusals
 pub mod Reports
 pub mod Headline
+pub mod Judgements
+pub mod Verdicts
+pub mod Drawn

@@ -9,7 +9,7 @@ use Rattle.gh_ast.specs.Rules.{IsTyped, IsFirstBroken}
 use Rattle.gh_ast.specs.Limits.{KeepsLimits, IsLimit}
 use Rattle.gh_ast.specs.declared.typed.Limit.{Limit}
 use Rattle.gh_draw.specs.Descriptions.{place_text}
-use Rattle.gh_draw.specs.Drawings.{line_end}
+use Rattle.gh_draw.specs.Drawings.{line}
 
 pub data Refusal : Type 0 where
   too_long : Refusal
@@ -65,9 +65,6 @@ error_name n =
 abbrev pub kind_name : ℕ → List ℕ
 kind_name n =
     cond (n == 1) (codes "procedures") (cond (n == 2) (codes "variables") (cond (n == 3) (codes "atoms") (cond (n == 4) (codes "paths") (cond (n == 5) (codes "steps") (cond (n == 6) (codes "terms") (codes "versions"))))))
-
-abbrev pub line : List ℕ → List ℕ
-line bytes = bytes ++ line_end
 
 abbrev pub refused_at : List ℕ → Span → List ℕ
 refused_at name p = line (codes "refused: " ++ name ++ codes " at " ++ place_text p)

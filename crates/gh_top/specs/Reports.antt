@@ -10,7 +10,8 @@ use Rattle.gh_trace.specs.Validity.{IsConditionValid, ListedAreValid, Refutes}
 use Rattle.gh_draw.specs.Descriptions.{description}
 use Rattle.gh_draw.specs.Drawings.{drawing, IsDrawable}
 use Rattle.gh_top.specs.Copies.{IsOfCopies}
-use Rattle.gh_top.specs.Refusals.{Refusal, IsRefused, IsAccepted, refusal_text, refused_at, line}
+use Rattle.gh_top.specs.Refusals.{Refusal, IsRefused, IsAccepted, refusal_text, refused_at}
+use Rattle.gh_draw.specs.Drawings.{line}
 use Rattle.gh_top.specs.declared.status.Status.{Status}
 use Rattle.gh_top.specs.declared.status.Status.TheVariants.{Verified, Refuted, TextRefused}
 
@@ -20,7 +21,7 @@ pub record IsReached (P : Program) (k : ℕ) (c : Condition) : Type 0 where
   pub after : List Condition
   pub whole : conditions P ≡ before ++ c ∷ after
   pub number : k ≡ length before + 1
-  pub valid : All (IsConditionValid P) before
+  pub valid : (d : Condition) → Contains before d → IsConditionValid P d
 
 -- the first condition that isn't valid, with a trace that shows it
 pub record IsFirstRefuted (P : Program) (k : ℕ) (c : Condition) (xs : List State) : Type 0 where

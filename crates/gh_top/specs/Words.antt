@@ -13,3 +13,7 @@ pub record IsOperand (word : List ℕ) : Type 0 where
 -- `check FILE`
 abbrev pub IsRequest : List (List ℕ) → Request → Type 0
 IsRequest words (Check file) = All IsOperand words × (words ≡ codes "check" ∷ file ∷ [])
+
+-- the program's file
+abbrev pub file_of : Request → List ℕ
+file_of (Check file) = file

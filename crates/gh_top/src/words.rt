@@ -81,6 +81,19 @@ pub enum Request {
     Check { file: FileName },
 }
 
+impl Request {
+    ghost use Rattle.gh_top.specs.Words.{file_of};
+
+    /// The program's file.
+    pub fn file(&self) -> &str
+        ensures { result.now ≡ file_of self.now }
+    {
+        match self {
+            Request::Check { file } => file.as_str(),
+        }
+    }
+}
+
 /// The request that the words are, if they are one.
 pub fn read_words(alloc: Global, words: &Words) -> Result<Option<Request>, AllocError>
     ensures { IfOk result (λ o. MatchOption o ((r : Request) → IsRequest words.now r → ⊥) (λ r. IsRequest words.now r)) }

@@ -1,0 +1,4 @@
+pub mod VerdictLemmas
+pub mod ReportLemmas
+pub mod ConditionLemmas
+pub mod HeadlineLemmas

@@ -1,0 +1,4 @@
+//! The type check.
+#![tactic(auto)]
+
+pub mod check;
