@@ -5,9 +5,8 @@ use Rattle.std.specs.Str.{bytes_eq}
 use Rattle.std.specs.FinMap as map
 use Rattle.gh_ast.specs.declared.Occ.{Occ}
 use Rattle.gh_ast.specs.declared.Operand.{Operand}
-use Rattle.gh_ast.specs.declared.Expr.{Expr}
-use Rattle.gh_ast.specs.declared.Expr.TheVariants.{Plain, Read}
-use Rattle.gh_ast.specs.Plain.{Formula, empty, comparison, star, Formulas, no_formulas, formula_first, Statement, set, Statements, no_statements, statement_first, Procedure, Program}
+use Rattle.gh_ast.specs.declared.Expr.TheVariants.{Plain}
+use Rattle.gh_ast.specs.Plain.{Formula, empty, comparison, star, Formulas, no_formulas, formula_first, set, Statements, no_statements, statement_first, Procedure, Program}
 use Rattle.gh_ast.specs.Programs.{Name, body_of, variable_names}
 use Rattle.gh_ast.specs.Rules.{IsTyped}
 use Rattle.gh_assert.specs.Heaps.{Heap}

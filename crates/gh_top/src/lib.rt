@@ -1,2 +1,4 @@
 //! The top call: a request, its answer, and the text that is written.
 #![tactic(auto)]
+
+mod classes;
