@@ -1,16 +1,17 @@
 -- Classes: what a merge keeps, and what the labels say.
-use Rattle.std.proofs.Common.{◌≡◌, ◌≢◌, ◌⊎◌, ℕ, ◌+◌, ◌<◌, true, false, not, eqb, List, [], ◌∷◌, get_or, take, length, min, max, Vec, sym, refl, ap, ◌∙◌, subst, inl, inr, arith}
+use Rattle.std.proofs.Common.{◌≡◌, ◌≢◌, ◌⊎◌, ℕ, zero, suc, ◌+◌, ◌++◌, ◌<◌, true, false, not, eqb, List, [], ◌∷◌, get_or, take, length, min, max, Vec, sym, refl, ap, ◌∙◌, subst, inl, inr, arith}
 use Rattle.std.specs.Prelude.{All, Contains}
-use Rattle.std.specs.List.{list_any}
+use Rattle.std.specs.List.{list_any, range_with_len}
 use Rattle.std.proofs.Math.ListN.{get_or-map, length-map, length-take}
 use Rattle.std.specs.Vec.{with_items}
 use Rattle.std.proofs.lemmas.List.{get_or-take, take-take, with_items_is}
+use Rattle.std.proofs.lemmas.List.FromFn.{get_or-range_with_len, length-range_with_len}
 use Rattle.std.proofs.lemmas.List.Folds.{Any-from_list_any, list_any_at}
 use Rattle.std.proofs.lemmas.List.Elements.{All-nil, All-cons, All-head, All-tail, All-take, All-more, All-get_or, All-weaker, All-contains, All-from_get_or}
 use Rattle.std.proofs.lemmas.Bool.{cases_eq, cases_lt, cases_Bool, cond-true, cond-false, eqb-true, eqb-false, eq-eqb, ne_eqb, and_parts, and_from, not-true, true≢false}
 use Rattle.gh_assert.specs.Meaning.{agrees}
 use Rattle.gh_top.specs.declared.classes.Literal.{Literal}
-use Rattle.gh_top.specs.Classes.{Values, Holds, Follow, IsWithin, Counters, AreSeparate, label, relabel, merged, HoldsIfEqual, AreClasses, is_broken, is_entailed}
+use Rattle.gh_top.specs.Classes.{Values, Holds, Follow, IsWithin, Counters, label, relabel, merged, HoldsIfEqual, AreClasses, is_broken, is_entailed}
 
 -- what stands for a literal past the end of a list
 abbrev pub unread : Literal
@@ -61,14 +62,22 @@ label_merged xs i j k =
 pub joined_self : (a x : ℕ) → joined a a x ≡ x
 joined_self a x = elim (relabel_cases (min a a) (max a a) x) [ inl h ↦ h.1 ∙ omega (arith, h.0) | inr h ↦ h.1 ]
 
-pub separate_classes : (n : ℕ) (xs : List ℕ) → 0 < n → AreSeparate n xs → AreClasses n [] xs
-separate_classes n xs p s = record {
-    count = s.count;
-    null = s.own 0 p;
-    small = λ i h. let e = s.own i h in omega arith;
+range_end : (a n : ℕ) → range_with_len a (suc n) ≡ range_with_len a n ++ (a + n) ∷ []
+range_end a zero = ap (λ k. k ∷ []) (omega arith)
+range_end a (suc n) = ap (λ ks. a ∷ ks) (range_end (a + 1) n ∙ ap (λ k. range_with_len (a + 1) n ++ k ∷ []) (omega arith))
+
+-- one place more
+pub range_more : (n : ℕ) → range_with_len 0 (n + 1) ≡ range_with_len 0 n ++ n ∷ []
+range_more n = ap (range_with_len 0) (omega arith) ∙ (range_end 0 n ∙ ap (λ k. range_with_len 0 n ++ k ∷ []) (omega arith))
+
+pub separate_classes : (n : ℕ) (xs : List ℕ) → 0 < n → xs ≡ range_with_len 0 n → AreClasses n [] xs
+separate_classes n xs p e = subst (AreClasses n []) (sym e) (record {
+    count = length-range_with_len 0 n;
+    null = get_or-range_with_len 0 n 0 0 p;
+    small = λ i h. let e = get_or-range_with_len 0 n i 0 h in omega arith;
     met = All-nil _;
-    least = λ v z all i j a b e. ap v (sym (s.own i a) ∙ (e ∙ s.own j b));
-}
+    least = λ v z all i j a b e. let f = get_or-range_with_len 0 n i 0 a in let g = get_or-range_with_len 0 n j 0 b in ap v (omega arith);
+})
 
 -- equalities stay equalities
 kept_equal : (xs : List ℕ) (i j : ℕ) (l : Literal) → HoldsIfEqual (label xs) l → HoldsIfEqual (label (merged xs i j)) l

@@ -39,11 +39,6 @@ relabel kept lost x = cond (x == lost) kept x
 abbrev pub merged : List ℕ → ℕ → ℕ → List ℕ
 merged xs i j = map (relabel (min (label xs i) (label xs j)) (max (label xs i) (label xs j))) xs
 
--- each place is labelled by itself
-pub record AreSeparate (places : ℕ) (xs : List ℕ) : Type 0 where
-  pub count : length xs ≡ places
-  pub own : (i : ℕ) → i < places → label xs i ≡ i
-
 -- an equality holds
 abbrev pub HoldsIfEqual : Values → Literal → Type 0
 HoldsIfEqual v l = l.equal ≡ true → v l.left ≡ v l.right

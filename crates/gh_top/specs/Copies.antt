@@ -6,13 +6,14 @@ use Rattle.std.specs.FinMap as map
 use Rattle.gh_ast.specs.declared.Occ.{Occ}
 use Rattle.gh_ast.specs.declared.Operand.{Operand}
 use Rattle.gh_ast.specs.declared.Expr.TheVariants.{Plain}
-use Rattle.gh_ast.specs.Plain.{Formula, empty, comparison, star, Formulas, no_formulas, formula_first, set, Statements, no_statements, statement_first, Procedure, Program}
+use Rattle.gh_ast.specs.Plain.{Formula, empty, comparison, star, Formulas, no_formulas, formula_first, Statement, set, Statements, no_statements, statement_first, Procedure, Program}
 use Rattle.gh_ast.specs.Programs.{Name, body_of, variable_names}
 use Rattle.gh_ast.specs.Rules.{IsTyped}
 use Rattle.gh_assert.specs.Heaps.{Heap}
 use Rattle.gh_assert.specs.Meaning.{Store, value}
 use Rattle.gh_path.specs.Admitted.{HasManySteps, HasManyTerms}
-use Rattle.gh_path.specs.Conditions.{Condition, conditions_of}
+use Rattle.gh_path.specs.Conditions.{Condition, condition, conditions_of}
+use Rattle.gh_path.specs.Graphs.{PathStep, assigned, returned, whole_body}
 use Rattle.gh_trace.specs.Traces.{State}
 use Rattle.gh_trace.specs.Validity.{IsConditionValid, Refutes}
 
@@ -28,11 +29,15 @@ abbrev mutual
   ArePure no_formulas = Unit {0}
   ArePure (formula_first f fs) = IsPure f × ArePure fs
 
--- each statement copies a variable or null
+-- a copy of a variable or of null
+abbrev pub IsCopy : Statement → Type 0
+IsCopy (set x (Plain o)) = Unit {0}
+IsCopy s = ⊥
+
+-- each statement is a copy
 abbrev pub AreCopies : Statements → Type 0
 AreCopies no_statements = Unit {0}
-AreCopies (statement_first (set x (Plain o)) rest) = AreCopies rest
-AreCopies (statement_first s rest) = ⊥
+AreCopies (statement_first s rest) = IsCopy s × AreCopies rest
 
 -- a procedure that is decided by its equalities alone
 pub record IsOfCopies (P : Program) (p : Procedure) : Type 0 where
@@ -41,6 +46,20 @@ pub record IsOfCopies (P : Program) (p : Procedure) : Type 0 where
   pub copies : AreCopies (body_of p)
   pub steps : HasManySteps p → ⊥
   pub terms : HasManyTerms P p → ⊥
+
+-- a step for each copy
+abbrev pub copying : Statements → List PathStep
+copying no_statements = []
+copying (statement_first (set x e) rest) = assigned x e ∷ copying rest
+copying (statement_first s rest) = copying rest
+
+-- from the entry through all copies to the end of the body
+abbrev pub only_condition : Procedure → Condition
+only_condition p = condition p (whole_body p) (record { steps = copying (body_of p); check = returned p.close p.gives })
+
+-- a procedure of copies has one condition
+abbrev pub HaveOneCondition : Type 0
+HaveOneCondition = (P : Program) (p : Procedure) → IsOfCopies P p → conditions_of p ≡ only_condition p ∷ []
 
 -- a procedure of a program that keeps the type rules
 abbrev pub IsOfTyped : Procedure → Type 0

@@ -1,2 +1,4 @@
 pub mod Copies
 pub mod Classes
+pub mod Places
+pub mod Judgements

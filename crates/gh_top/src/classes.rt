@@ -1,8 +1,8 @@
 //! Comparisons of places, decided over classes of equal places.
 
 ghost use Rattle.std.specs.Prelude.{◌≡◌, ◌<◌, All, Contains, IfOk, MatchOption, length, true, false};
-ghost use Rattle.std.specs.List.{list_any};
-ghost use Rattle.gh_top.specs.Classes.{Follow, IsWithin, Counters, AreSeparate, AreClasses, relabel, merged, is_broken, is_entailed};
+ghost use Rattle.std.specs.List.{list_any, range_with_len};
+ghost use Rattle.gh_top.specs.Classes.{Follow, IsWithin, Counters, AreClasses, relabel, merged, is_broken, is_entailed};
 
 use std::alloc::{AllocError, Global};
 
@@ -34,9 +34,9 @@ fn merge(labels: &mut [usize], one: usize, other: usize)
     }
 }
 
-// Each place in a class of its own, labelled by itself.
-fn separate(alloc: Global, places: usize) -> Result<Vec<usize>, AllocError>
-    ensures { IfOk result (λ v. AreSeparate places v.items) }
+/// Each place in a class of its own, labelled by itself.
+pub fn separate(alloc: Global, places: usize) -> Result<Vec<usize>, AllocError>
+    ensures { IfOk result (λ v. v.items ≡ range_with_len 0 places) }
 {
     let mut labels = Vec::new(alloc);
     for place in 0..places {

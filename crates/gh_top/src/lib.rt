@@ -2,3 +2,5 @@
 #![tactic(auto)]
 
 mod classes;
+mod copies;
+mod variables;

@@ -1,8 +1,11 @@
 use Rattle.std.proofs.Common.{get_or, take, ◌+◌, arith, refl, subst}
 use Rattle.gh_top.specs.Classes.{AreClasses}
-use Rattle.gh_top.proofs.ClassLemmas.{unread, classes_merge, classes_pass, after_merge}
+use Rattle.gh_top.proofs.ClassLemmas.{unread, separate_classes, classes_merge, classes_pass, after_merge}
 use Rattle.gh_top.proofs.classes.classes.Goals as goal
 use Rattle.gh_top.proofs.classes.classes.Goals.{then-need, else-need}
+
+pub loop-need-init : goal.loop-need-init
+loop-need-init c = separate_classes c.args.places c.in_ok-labels.labels.items c.requires.null c.in_ok-labels.ensures
 
 pub loop-need-preserved : goal.loop-need-preserved
 loop-need-preserved c =
