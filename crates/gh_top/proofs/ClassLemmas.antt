@@ -33,21 +33,21 @@ joined_zero a b = elim (relabel_cases (min a b) (max a b) 0) [ inl h ↦ h.1 ∙
 pub joined_ends : (a b : ℕ) → joined a b a ≡ joined a b b
 joined_ends a b =
     elim (relabel_cases (min a b) (max a b) a) [
-        inl h ↦ elim (relabel_cases (min a b) (max a b) b) [ inl k ↦ h.1 ∙ sym k.1 | inr k ↦ h.1 ∙ (omega (arith, h.0, k.0) ∙ sym k.1) ]
-        | inr h ↦ elim (relabel_cases (min a b) (max a b) b) [ inl k ↦ h.1 ∙ (omega (arith, h.0, k.0) ∙ sym k.1) | inr k ↦ absurd (elim (ends_cases a b) [ inl e ↦ k.0 (sym e.1) | inr e ↦ h.0 (sym e.1) ]) ]
+      | inl h ↦ elim (relabel_cases (min a b) (max a b) b) [ inl k ↦ h.1 ∙ sym k.1 | inr k ↦ h.1 ∙ (omega (arith, h.0, k.0) ∙ sym k.1) ]
+      | inr h ↦ elim (relabel_cases (min a b) (max a b) b) [ inl k ↦ h.1 ∙ (omega (arith, h.0, k.0) ∙ sym k.1) | inr k ↦ absurd (elim (ends_cases a b) [ inl e ↦ k.0 (sym e.1) | inr e ↦ h.0 (sym e.1) ]) ]
     ]
 
 pub joined_back : (a b x y : ℕ) → joined a b x ≡ joined a b y → (x ≡ y) ⊎ (((x ≡ a) × (y ≡ b)) ⊎ ((x ≡ b) × (y ≡ a)))
 joined_back a b x y e =
     elim (relabel_cases (min a b) (max a b) x) [
-        inl h ↦ elim (relabel_cases (min a b) (max a b) y) [
-            inl k ↦ inl (h.0 ∙ sym k.0)
-            | inr k ↦ elim (ends_cases a b) [ inl m ↦ inr (inr (h.0 ∙ m.1, sym k.1 ∙ (sym e ∙ (h.1 ∙ m.0)))) | inr m ↦ inr (inl (h.0 ∙ m.1, sym k.1 ∙ (sym e ∙ (h.1 ∙ m.0)))) ]
-        ]
-        | inr h ↦ elim (relabel_cases (min a b) (max a b) y) [
-            inl k ↦ elim (ends_cases a b) [ inl m ↦ inr (inl (sym h.1 ∙ (e ∙ (k.1 ∙ m.0)), k.0 ∙ m.1)) | inr m ↦ inr (inr (sym h.1 ∙ (e ∙ (k.1 ∙ m.0)), k.0 ∙ m.1)) ]
-            | inr k ↦ inl (sym h.1 ∙ (e ∙ k.1))
-        ]
+      | inl h ↦ elim (relabel_cases (min a b) (max a b) y) [
+        | inl k ↦ inl (h.0 ∙ sym k.0)
+        | inr k ↦ elim (ends_cases a b) [ inl m ↦ inr (inr (h.0 ∙ m.1, sym k.1 ∙ (sym e ∙ (h.1 ∙ m.0)))) | inr m ↦ inr (inl (h.0 ∙ m.1, sym k.1 ∙ (sym e ∙ (h.1 ∙ m.0)))) ]
+      ]
+      | inr h ↦ elim (relabel_cases (min a b) (max a b) y) [
+        | inl k ↦ elim (ends_cases a b) [ inl m ↦ inr (inl (sym h.1 ∙ (e ∙ (k.1 ∙ m.0)), k.0 ∙ m.1)) | inr m ↦ inr (inr (sym h.1 ∙ (e ∙ (k.1 ∙ m.0)), k.0 ∙ m.1)) ]
+        | inr k ↦ inl (sym h.1 ∙ (e ∙ k.1))
+      ]
     ]
 
 pub joined_small : (a b x n : ℕ) → a < n → b < n → x < n → joined a b x < n
@@ -63,20 +63,23 @@ pub joined_self : (a x : ℕ) → joined a a x ≡ x
 joined_self a x = elim (relabel_cases (min a a) (max a a) x) [ inl h ↦ h.1 ∙ omega (arith, h.0) | inr h ↦ h.1 ]
 
 range_end : (a n : ℕ) → range_with_len a (suc n) ≡ range_with_len a n ++ (a + n) ∷ []
-range_end a zero = ap (λ k. k ∷ []) (omega arith)
-range_end a (suc n) = ap (λ ks. a ∷ ks) (range_end (a + 1) n ∙ ap (λ k. range_with_len (a + 1) n ++ k ∷ []) (omega arith))
+range_end a zero = let e : a ≡ a + 0 = omega arith in ap (λ k. k ∷ []) e
+range_end a (suc n) = let e : (a + 1) + n ≡ a + suc n = omega arith in ap (λ ks. a ∷ ks) (range_end (a + 1) n ∙ ap (λ k. range_with_len (a + 1) n ++ k ∷ []) e)
 
 -- one place more
 pub range_more : (n : ℕ) → range_with_len 0 (n + 1) ≡ range_with_len 0 n ++ n ∷ []
-range_more n = ap (range_with_len 0) (omega arith) ∙ (range_end 0 n ∙ ap (λ k. range_with_len 0 n ++ k ∷ []) (omega arith))
+range_more n =
+    let e : n + 1 ≡ suc n = omega arith in
+    let f : 0 + n ≡ n = omega arith in
+    ap (range_with_len 0) e ∙ (range_end 0 n ∙ ap (λ k. range_with_len 0 n ++ k ∷ []) f)
 
 pub separate_classes : (n : ℕ) (xs : List ℕ) → 0 < n → xs ≡ range_with_len 0 n → AreClasses n [] xs
 separate_classes n xs p e = subst (AreClasses n []) (sym e) (record {
-    count = length-range_with_len 0 n;
-    null = get_or-range_with_len 0 n 0 0 p;
-    small = λ i h. let e = get_or-range_with_len 0 n i 0 h in omega arith;
-    met = All-nil _;
-    least = λ v z all i j a b e. let f = get_or-range_with_len 0 n i 0 a in let g = get_or-range_with_len 0 n j 0 b in ap v (omega arith);
+  count = length-range_with_len 0 n;
+  null = get_or-range_with_len 0 n 0 0 p;
+  small = λ i h. let e = get_or-range_with_len 0 n i 0 h in omega arith;
+  met = All-nil _;
+  least = λ v z all i j a b e. let f = get_or-range_with_len 0 n i 0 a in let g = get_or-range_with_len 0 n j 0 b in ap v (omega arith);
 })
 
 -- equalities stay equalities
@@ -92,23 +95,23 @@ merged_least : (n : ℕ) (xs : List ℕ) (l : Literal) → IsWithin n l → (v :
     → (i j : ℕ) → i < n → j < n → label (merged xs l.left l.right) i ≡ label (merged xs l.left l.right) j → v i ≡ v j
 merged_least n xs l w v least e i j a b same =
     elim (joined_back (label xs l.left) (label xs l.right) (label xs i) (label xs j) (sym (label_merged xs l.left l.right i) ∙ (same ∙ label_merged xs l.left l.right j))) [
-        inl h ↦ least i j a b h
-        | inr t ↦ elim t [
-            inl h ↦ least i l.left a w.0 h.0 ∙ (e ∙ sym (least j l.right b w.1 h.1))
-            | inr h ↦ least i l.right a w.1 h.0 ∙ (sym e ∙ sym (least j l.left b w.0 h.1))
-        ]
+      | inl h ↦ least i j a b h
+      | inr t ↦ elim t [
+        | inl h ↦ least i l.left a w.0 h.0 ∙ (e ∙ sym (least j l.right b w.1 h.1))
+        | inr h ↦ least i l.right a w.1 h.0 ∙ (sym e ∙ sym (least j l.left b w.0 h.1))
+      ]
     ]
 
 -- one equality more
 pub merged_classes : (n : ℕ) (needs : List Literal) (xs : List ℕ) (l : Literal) → 0 < n → AreClasses n needs xs → IsWithin n l → l.equal ≡ true → AreClasses n (l ∷ needs) (merged xs l.left l.right)
 merged_classes n needs xs l p c w eq = record {
-    count = length-map xs (joined (label xs l.left) (label xs l.right)) ∙ c.count;
-    null = label_merged xs l.left l.right 0 ∙ (ap (joined (label xs l.left) (label xs l.right)) c.null ∙ joined_zero (label xs l.left) (label xs l.right));
-    small = λ i h. let s = joined_small (label xs l.left) (label xs l.right) (label xs i) n (c.small l.left w.0) (c.small l.right w.1) (c.small i h) in
-        let e = label_merged xs l.left l.right i in omega arith;
-    met = All-cons (HoldsIfEqual (label (merged xs l.left l.right))) l needs (λ _. merged_ends xs l.left l.right)
-        (All-weaker (HoldsIfEqual (label xs)) (HoldsIfEqual (label (merged xs l.left l.right))) (kept_equal xs l.left l.right) needs c.met);
-    least = λ v z all. merged_least n xs l w v (c.least v z (All-tail (HoldsIfEqual v) l needs all)) (All-head (HoldsIfEqual v) l needs all eq);
+  count = length-map xs (joined (label xs l.left) (label xs l.right)) ∙ c.count;
+  null = label_merged xs l.left l.right 0 ∙ (ap (joined (label xs l.left) (label xs l.right)) c.null ∙ joined_zero (label xs l.left) (label xs l.right));
+  small = λ i h. let s = joined_small (label xs l.left) (label xs l.right) (label xs i) n (c.small l.left w.0) (c.small l.right w.1) (c.small i h) in
+      let e = label_merged xs l.left l.right i in omega arith;
+  met = All-cons (HoldsIfEqual (label (merged xs l.left l.right))) l needs (λ _. merged_ends xs l.left l.right)
+      (All-weaker (HoldsIfEqual (label xs)) (HoldsIfEqual (label (merged xs l.left l.right))) (kept_equal xs l.left l.right) needs c.met);
+  least = λ v z all. merged_least n xs l w v (c.least v z (All-tail (HoldsIfEqual v) l needs all)) (All-head (HoldsIfEqual v) l needs all eq);
 }
 
 -- the same equalities, listed in another way
@@ -168,16 +171,16 @@ contradiction n needs l ys c within broken v z all h =
     let inside : IsWithin n x = subst (IsWithin n) is (within k x below) in
     holds_unequal v x (not-true x.equal parts.0) (subst (Holds v) is (all k x below))
     (c.least v z (All-cons (HoldsIfEqual v) l needs h (All-weaker (Holds v) (HoldsIfEqual v) (holds_if v) needs all)) x.left x.right inside.0 inside.1
-        (eqb-true (label ys x.left) (label ys x.right) parts.1))
+    (eqb-true (label ys x.left) (label ys x.right) parts.1))
 
 -- where no inequality has, the labels meet the literals
 unbroken : (needs : List Literal) (ys : List ℕ) → All (HoldsIfEqual (label ys)) needs → list_any (is_broken ys) needs ≡ false → All (Holds (label ys)) needs
 unbroken needs ys met none k d below =
     let x = get_or needs k d in
     elim (cases_Bool x.equal) [
-        inl e ↦ from_equal (label ys) x e (met k d below e)
-        | inr e ↦ from_unequal (label ys) x e
-            (λ same. true≢false (sym (list_any_at (is_broken ys) needs k d below (and_from (not x.equal) (eqb (label ys x.left) (label ys x.right)) (ap not e) (eq-eqb _ _ same))) ∙ none))
+      | inl e ↦ from_equal (label ys) x e (met k d below e)
+      | inr e ↦ from_unequal (label ys) x e
+          (λ same. true≢false (sym (list_any_at (is_broken ys) needs k d below (and_from (not x.equal) (eqb (label ys x.left) (label ys x.right)) (ap not e) (eq-eqb _ _ same))) ∙ none))
     ]
 
 -- an entailed literal holds wherever the literals do
@@ -186,10 +189,10 @@ entailed_holds : (n : ℕ) (needs : List Literal) (xs : List ℕ) (g : Literal) 
 unfolding is_entailed
 entailed_holds n needs xs g p c within w yes' v z all =
     elim (cases_Bool g.equal) [
-        inl e ↦ from_equal v g e (c.least v z (All-weaker (Holds v) (HoldsIfEqual v) (holds_if v) needs all) g.left g.right w.0 w.1
-            (eqb-true _ _ (sym (cond-true g.equal _ (list_any (is_broken (merged xs g.left g.right)) needs) e) ∙ yes')))
-        | inr e ↦ from_unequal v g e (λ same. contradiction n needs (equality g.left g.right) (merged xs g.left g.right) (merged_classes n needs xs (equality g.left g.right) p c w refl) within
-            (sym (cond-false g.equal (eqb (label xs g.left) (label xs g.right)) _ e) ∙ yes') v z all (λ _. same))
+      | inl e ↦ from_equal v g e (c.least v z (All-weaker (Holds v) (HoldsIfEqual v) (holds_if v) needs all) g.left g.right w.0 w.1
+          (eqb-true _ _ (sym (cond-true g.equal _ (list_any (is_broken (merged xs g.left g.right)) needs) e) ∙ yes')))
+      | inr e ↦ from_unequal v g e (λ same. contradiction n needs (equality g.left g.right) (merged xs g.left g.right) (merged_classes n needs xs (equality g.left g.right) p c w refl) within
+          (sym (cond-false g.equal (eqb (label xs g.left) (label xs g.right)) _ e) ∙ yes') v z all (λ _. same))
     ]
 
 -- all are entailed: they follow
@@ -204,11 +207,11 @@ none_meet n needs gives xs p c within broken v z met =
 
 counters : (n : ℕ) (needs more gives : List Literal) (g : Literal) (ys : List ℕ) → AreClasses n more ys → All (Holds (label ys)) needs → Contains gives g → (Holds (label ys) g → ⊥) → Counters n needs gives ys
 counters n needs more gives g ys c met at fails = record {
-    count = c.count;
-    null = c.null;
-    small = All-from_get_or (λ v. v < n) ys 0 (λ i h. c.small i (omega (arith, h, c.count)));
-    met = met;
-    fails = λ all. fails (All-contains (Holds (label ys)) gives g all at);
+  count = c.count;
+  null = c.null;
+  small = All-from_get_or (λ v. v < n) ys 0 (λ i h. c.small i (omega (arith, h, c.count)));
+  met = met;
+  fails = λ all. fails (All-contains (Holds (label ys)) gives g all at);
 }
 
 -- merging a place with itself changes no label

@@ -1,2 +1,7 @@
 pub mod ClassLemmas
 pub mod PlaceLemmas
+pub mod CopyLemmas
+pub mod TypedLemmas
+pub mod TraceLemmas
+pub mod CountLemmas
+pub mod JudgeLemmas

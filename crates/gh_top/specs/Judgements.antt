@@ -1,6 +1,6 @@
 -- What is answered about a procedure whose contracts and body may be comparisons and copies.
 use Rattle.std.specs.Prelude.{ℕ, ◌≤◌, List, length, map}
-use Rattle.gh_ast.specs.Plain.{Procedure, Program}
+use Rattle.gh_ast.specs.Plain.{Statements, Procedure, Program}
 use Rattle.gh_ast.specs.Programs.{body_of}
 use Rattle.gh_top.specs.declared.classes.Literal.{Literal}
 use Rattle.gh_top.specs.declared.copies.Judgement.{Judgement}
@@ -15,12 +15,16 @@ IsJudgement p NotBuilt = (P : Program) → IsOfCopies P p → ⊥
 IsJudgement p Valid = (P : Program) → IsOfCopies P p × IsValidProcedure P p
 IsJudgement p (Refuted vs) = (P : Program) → IsOfCopies P p × RefutesProcedure P p vs.items
 
+-- at most 256 copies and nothing else
+pub record AreFewCopies (ss : Statements) : Type 0 where
+  pub copies : AreCopies ss
+  pub few : length (copying ss) ≤ 256
+
 -- contracts of comparisons, and a body of few copies
 pub record HasForm (p : Procedure) : Type 0 where
   pub needs : IsPure p.needs
   pub gives : IsPure p.gives
-  pub copies : AreCopies (body_of p)
-  pub few : length (copying (body_of p)) ≤ 256
+  pub body : AreFewCopies (body_of p)
 
 -- the comparisons are decided over the numbers of listed places
 abbrev pub IsDecision : ℕ → List ℕ → List Literal → List Literal → Judgement → Type 0

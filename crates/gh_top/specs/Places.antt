@@ -1,13 +1,13 @@
 -- The places of variables: 0 is null's, and each variable has the one after its number. What a procedure of copies says of places.
-use Rattle.std.specs.Prelude.{◌≡◌, ℕ, ◌+◌, List, [], ◌∷◌, ◌++◌, length, slice_index, slice_set, position, map, cond, ◌==◌, ◌<◌, ◌^◌, All, unwrap_or, Option, Some, None, Bool}
+use Rattle.std.specs.Prelude.{◌≡◌, ℕ, ◌+◌, List, [], ◌∷◌, ◌++◌, length, slice_index, slice_set, position, cond, ◌==◌, ◌<◌, ◌^◌, All, unwrap_or, Bool}
 use Rattle.std.specs.List.{list_any, flat_map, range_with_len}
 use Rattle.std.specs.Option.{option_map_or}
 use Rattle.std.specs.Str.{bytes_eq}
 use Rattle.gh_ast.specs.declared.Occ.{Occ}
 use Rattle.gh_ast.specs.declared.Operand.{Operand}
 use Rattle.gh_ast.specs.declared.Operand.TheVariants.{Null, Var}
-use Rattle.gh_ast.specs.declared.Expr.TheVariants.{Plain, Read}
-use Rattle.gh_ast.specs.Plain.{Formula, empty, comparison, star, Formulas, no_formulas, formula_first, Statement, set, Statements, no_statements, statement_first, Procedure}
+use Rattle.gh_ast.specs.declared.Expr.TheVariants.{Plain}
+use Rattle.gh_ast.specs.Plain.{Formula, comparison, star, Formulas, no_formulas, formula_first, set, Statements, no_statements, statement_first, Procedure}
 use Rattle.gh_ast.specs.Programs.{Name, variable_names, body_of}
 use Rattle.gh_top.specs.declared.classes.Literal.{Literal}
 

@@ -3,13 +3,13 @@
 ghost use Rattle.std.specs.Prelude.{◌≡◌, ◌+◌, ◌++◌, ◌<◌, ◌≤◌, ◌↔◌, ◌==◌, ◌^◌, ◌∷◌, [], List, All, IfOk, OnOk, IsTrue, length, map, position};
 ghost use Rattle.gh_ast.specs.Plain.{procedure_of, formula_of, formulas_view, statement_of, statements_view};
 ghost use Rattle.gh_ast.specs.Programs.{names, variable_names, body_of};
-ghost use Rattle.gh_top.specs.Copies.{IsPure, ArePure, IsCopy, AreCopies, IsOfTyped};
+ghost use Rattle.gh_top.specs.Copies.{IsPure, ArePure, IsCopy, AreCopies, IsOfTyped, HaveOneCondition};
 ghost use Rattle.std.specs.List.{flat_map};
 ghost use Rattle.gh_top.specs.Places as Places;
 ghost use Rattle.gh_top.specs.Places.{source_of, literals, all_literals, after_copies, sources, sides, listed, all_listed, AreValues, needs_of, sources_of, gives_of};
-ghost use Rattle.gh_top.specs.Judgements.{HasForm, IsDecision, IsJudgement};
+ghost use Rattle.gh_top.specs.Judgements.{AreFewCopies, HasForm, IsDecision, IsJudgement};
 
-use crate::classes::{countermodel, separate, Literal};
+use crate::classes::{Literal, countermodel, separate};
 use crate::variables::Variables;
 use gh_ast::{Assertion, Expr, Operand, Procedure, Stmt};
 use std::alloc::{AllocError, Global};
@@ -73,7 +73,12 @@ fn source(variables: &Variables, now: &[usize], operand: &Operand) -> usize
 
 // Adds the comparisons of an assertion, between the places where the values come from.
 #[cycle(comparing)]
-fn add_literals(out: &mut Vec<Literal>, variables: &Variables, now: &[usize], assertion: &Assertion) -> Result<(), AllocError>
+fn add_literals(
+    out: &mut Vec<Literal>,
+    variables: &Variables,
+    now: &[usize],
+    assertion: &Assertion,
+) -> Result<(), AllocError>
     requires { length now.now ≡ length variables.now + 1 }
     ensures { OnOk result (out.new.items ≡ out.old.items ++ literals variables.now now.now (formula_of assertion.now)) }
 {
@@ -81,7 +86,11 @@ fn add_literals(out: &mut Vec<Literal>, variables: &Variables, now: &[usize], as
         Assertion::Pure { left, equal, right } => {
             let left = source(variables, now, left);
             let right = source(variables, now, right);
-            out.push(Literal { left, equal: *equal, right })?;
+            out.push(Literal {
+                left,
+                equal: *equal,
+                right,
+            })?;
             Ok(())
         }
         Assertion::Star(members) => add_all_literals(out, variables, now, members.as_slice()),
@@ -90,7 +99,12 @@ fn add_literals(out: &mut Vec<Literal>, variables: &Variables, now: &[usize], as
 }
 
 #[cycle(comparing)]
-fn add_all_literals(out: &mut Vec<Literal>, variables: &Variables, now: &[usize], members: &[Assertion]) -> Result<(), AllocError>
+fn add_all_literals(
+    out: &mut Vec<Literal>,
+    variables: &Variables,
+    now: &[usize],
+    members: &[Assertion],
+) -> Result<(), AllocError>
     requires { length now.now ≡ length variables.now + 1 }
     ensures { OnOk result (out.new.items ≡ out.old.items ++ all_literals variables.now now.now (formulas_view members.now)) }
 {
@@ -101,7 +115,12 @@ fn add_all_literals(out: &mut Vec<Literal>, variables: &Variables, now: &[usize]
 }
 
 // Makes the copies one after another, and adds the places where the copied values come from.
-fn copy_all(variables: &Variables, now: &mut [usize], out: &mut Vec<usize>, statements: &[Stmt]) -> Result<(), AllocError>
+fn copy_all(
+    variables: &Variables,
+    now: &mut [usize],
+    out: &mut Vec<usize>,
+    statements: &[Stmt],
+) -> Result<(), AllocError>
     requires { length now.old ≡ length variables.now + 1 }
     ensures places { OnOk result (now.new ≡ after_copies variables.now now.old (statements_view statements.now)) }
     ensures sources { OnOk result (out.new.items ≡ out.old.items ++ sources variables.now now.old (statements_view statements.now)) }
@@ -177,7 +196,12 @@ fn number_all(origins: &[usize], literals: &mut [Literal])
 }
 
 // The values of the variables, from those of the listed places.
-fn values(alloc: Global, count: usize, origins: &[usize], numbers: &[usize]) -> Result<Vec<u32>, AllocError>
+fn values(
+    alloc: Global,
+    count: usize,
+    origins: &[usize],
+    numbers: &[usize],
+) -> Result<Vec<u32>, AllocError>
     requires numbers { length numbers.now ≡ length origins.now }
     requires small { All (λ v. v < 2 ^ 32) numbers.now }
     ensures { IfOk result (λ us. AreValues count origins.now numbers.now us.items) }
@@ -203,15 +227,23 @@ fn statements(procedure: &Procedure) -> &[Stmt]
     }
 }
 
+fn are_few_copies(statements: &[Stmt]) -> bool
+    ensures { IsTrue result ↔ AreFewCopies (statements_view statements.now) }
+{
+    if !are_copies(statements) {
+        return false;
+    }
+    statements.len() <= 256
+}
+
 // Whether the contracts are comparisons and the body is a few copies.
 fn has_form(procedure: &Procedure) -> bool
     ensures { IsTrue result ↔ HasForm (procedure_of procedure.now) }
 {
-    let statements = statements(procedure);
-    is_pure(&procedure.needs)
-        && is_pure(&procedure.gives)
-        && are_copies(statements)
-        && statements.len() <= 256
+    if !is_pure(&procedure.needs) || !is_pure(&procedure.gives) {
+        return false;
+    }
+    are_few_copies(statements(procedure))
 }
 
 // What a procedure of copies compares, between the places where the values come from.
@@ -222,13 +254,17 @@ struct Comparisons {
     gives: Vec<Literal>,
 }
 
-fn compare(alloc: Global, procedure: &Procedure, variables: &Variables) -> Result<Comparisons, AllocError>
+fn compare(
+    alloc: Global,
+    procedure: &Procedure,
+    variables: &Variables,
+) -> Result<Comparisons, AllocError>
     requires { variables.now ≡ variable_names (procedure_of procedure.now) }
     ensures needs { IfOk result (λ c. c.needs.items ≡ needs_of (procedure_of procedure.now)) }
     ensures sources { IfOk result (λ c. c.sources.items ≡ sources_of (procedure_of procedure.now)) }
     ensures gives { IfOk result (λ c. c.gives.items ≡ gives_of (procedure_of procedure.now)) }
 {
-    let mut now = separate(alloc, variables.count() + 1)?;
+    let mut now = separate(alloc, variables.places())?;
     let mut needs = Vec::new(alloc);
     add_literals(&mut needs, variables, &now, &procedure.needs)?;
     let mut sources = Vec::new(alloc);
@@ -266,7 +302,12 @@ pub enum Judgement {
 }
 
 // Decides the comparisons over the numbers of the places.
-fn decide(alloc: Global, count: usize, origins: &[usize], comparisons: Comparisons) -> Result<Judgement, AllocError>
+fn decide(
+    alloc: Global,
+    count: usize,
+    origins: &[usize],
+    comparisons: Comparisons,
+) -> Result<Judgement, AllocError>
     requires some { 0 < length origins.now }
     requires few { length origins.now ≤ 20 }
     ensures { IfOk result (λ j. IsDecision count origins.now comparisons.needs.items comparisons.gives.items j) }
@@ -301,3 +342,8 @@ pub fn judge(alloc: Global, procedure: &Procedure) -> Result<Judgement, AllocErr
     }
     decide(alloc, variables.count(), &origins, comparisons)
 }
+
+/// A procedure of copies has one condition: from its entry through all copies to its last brace.
+pub fn one_condition()
+    ensures { HaveOneCondition }
+{}

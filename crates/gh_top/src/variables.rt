@@ -64,6 +64,13 @@ impl<'p> Variables<'p> {
         self.names.len()
     }
 
+    /// How many places there are: one for each variable, and null's.
+    pub fn places(&self) -> usize
+        ensures { result ≡ length self.now + 1 }
+    {
+        self.names.len() + 1
+    }
+
     /// The place of a name: one more than its number, 0 where it names no variable.
     pub fn place(&self, name: &Name) -> usize
         ensures place { result ≡ place_of self.now name.now }

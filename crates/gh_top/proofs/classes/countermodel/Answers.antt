@@ -23,12 +23,12 @@ returns-after-not-open c =
     let g = c.in-Some.open in
     let open' : is_entailed xs c.args.needs.now g ≡ false = rw c.deref-2.ensures.value at c.in-Some.ensures.1 in
     elim c.if-not-open.branch [
-        then-not-open w ↦ subst (Counters c.args.places c.args.needs.now c.args.gives.now)
-            (after_merge c.if-not-open.labels c.in_ok-labels.labels w.merge.new.labels w.deref_mut.result.now g.left g.right w.labels-is w.deref_mut.ensures.value w.merge.ensures)
-            (inequality_open c.args.places c.args.needs.now c.args.gives.now xs g c.requires.null c.in_ok-labels.ensures (All-contains (IsWithin c.args.places) c.args.gives.now g c.requires.gives c.in-Some.ensures.0) c.in-Some.ensures.0 open'
-                (not-true g.equal w.if-not-open.true))
-        | else-not-open w ↦ rw w.labels-is
-            (equality_open c.args.places c.args.needs.now c.args.gives.now xs g c.in_ok-labels.ensures
-                (subst (λ ys. list_any (is_broken (merged ys 0 0)) c.args.needs.now ≡ false) c.deref.ensures.value (sym c.breaks.ensures ∙ c.if-breaks.false))
-                c.in-Some.ensures.0 open' (not-false g.equal w.if-not-open.false))
+      | then-not-open w ↦ subst (Counters c.args.places c.args.needs.now c.args.gives.now)
+          (after_merge c.if-not-open.labels c.in_ok-labels.labels w.merge.new.labels w.deref_mut.result.now g.left g.right w.labels-is w.deref_mut.ensures.value w.merge.ensures)
+          (inequality_open c.args.places c.args.needs.now c.args.gives.now xs g c.requires.null c.in_ok-labels.ensures (All-contains (IsWithin c.args.places) c.args.gives.now g c.requires.gives c.in-Some.ensures.0) c.in-Some.ensures.0 open'
+          (not-true g.equal w.if-not-open.true))
+      | else-not-open w ↦ rw w.labels-is
+          (equality_open c.args.places c.args.needs.now c.args.gives.now xs g c.in_ok-labels.ensures
+          (subst (λ ys. list_any (is_broken (merged ys 0 0)) c.args.needs.now ≡ false) c.deref.ensures.value (sym c.breaks.ensures ∙ c.if-breaks.false))
+          c.in-Some.ensures.0 open' (not-false g.equal w.if-not-open.false))
     ]

@@ -9,4 +9,4 @@ loop-label-preserved c =
     let x = get_or c.loop-label.labels c.loop-label.label-index 0 in
     rw c.relabelled.ensures
     (map_over_more (relabel c.min-kept.result c.max-lost.result) c.args.labels.now c.loop-label.labels c.loop-label.label-index x (omega arith) c.loop-label.invariant
-        (get_or_default c.loop-label.labels c.loop-label.label-index 0 x (omega arith)))
+    (get_or_default c.loop-label.labels c.loop-label.label-index 0 x (omega arith)))

@@ -10,4 +10,4 @@ loop-literal-preserved c =
     let x = get_or c.loop-literal.literals c.loop-literal.literal-index unread in
     rw c.numbered.ensures
     (map_over_more (numbered c.args.origins.now) c.args.literals.now c.loop-literal.literals c.loop-literal.literal-index x (omega arith) c.loop-literal.invariant
-        (get_or_default c.loop-literal.literals c.loop-literal.literal-index unread x (omega arith)))
+    (get_or_default c.loop-literal.literals c.loop-literal.literal-index unread x (omega arith)))
