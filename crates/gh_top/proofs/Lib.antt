@@ -5,3 +5,4 @@ pub mod TypedLemmas
 pub mod TraceLemmas
 pub mod CountLemmas
 pub mod JudgeLemmas
+pub mod DrawnLemmas

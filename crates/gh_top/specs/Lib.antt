@@ -2,3 +2,4 @@ pub mod Copies
 pub mod Classes
 pub mod Places
 pub mod Judgements
+pub mod Drawn

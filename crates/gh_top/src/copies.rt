@@ -55,16 +55,16 @@ fn is_copy(statement: &Stmt) -> bool
 fn are_copies(statements: &[Stmt]) -> bool
     ensures { IsTrue result ↔ AreCopies (statements_view statements.now) }
 {
-    for statement in statements {
-        if !is_copy(statement) {
+    for candidate in statements {
+        if !is_copy(candidate) {
             return false;
         }
     }
     true
 }
 
-// Where the values come from that an operand has now.
-fn source(variables: &Variables, now: &[usize], operand: &Operand) -> usize
+/// Where the values come from that an operand has now.
+pub fn source(variables: &Variables, now: &[usize], operand: &Operand) -> usize
     requires { length now.now ≡ length variables.now + 1 }
     ensures { result ≡ source_of variables.now now.now operand.now }
 {
@@ -217,8 +217,8 @@ fn values(
     Ok(values)
 }
 
-// The statements of a procedure's body; none where there is no body.
-fn statements(procedure: &Procedure) -> &[Stmt]
+/// The statements of a procedure's body; none where there is no body.
+pub fn statements(procedure: &Procedure) -> &[Stmt]
     ensures { statements_view result.now ≡ body_of (procedure_of procedure.now) }
 {
     match &procedure.body {

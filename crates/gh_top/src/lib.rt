@@ -3,4 +3,7 @@
 
 mod classes;
 mod copies;
+mod states;
+#[cfg(test)]
+mod tests;
 mod variables;

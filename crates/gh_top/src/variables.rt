@@ -1,6 +1,6 @@
 //! The variables of a procedure, by number.
 
-ghost use Rattle.std.specs.Prelude.{◌≡◌, ◌+◌, ◌++◌, ◌<◌, ◌≤◌, List, IfOk, OnOk, length, map, suc};
+ghost use Rattle.std.specs.Prelude.{◌≡◌, ◌+◌, ◌++◌, ◌<◌, ◌≤◌, List, IfOk, OnOk, length, map, slice_get};
 ghost use Rattle.std.specs.Str.{bytes_eq};
 ghost use Rattle.gh_ast.specs.Plain.{procedure_of};
 ghost use Rattle.gh_ast.specs.Programs.{names, variable_names};
@@ -62,6 +62,14 @@ impl<'p> Variables<'p> {
         ensures { result ≡ length self.now }
     {
         self.names.len()
+    }
+
+    /// The name of the variable of a number.
+    pub fn name(&self, number: usize) -> &Name
+        requires { number < length self.now }
+        ensures { slice_get self.now number ≡ Some result.now }
+    {
+        self.names[number]
     }
 
     /// How many places there are: one for each variable, and null's.
