@@ -24,7 +24,7 @@ cell_text c = codes " " ++ decimal c.0 ++ codes "->" ++ decimal c.1
 -- the variables in their order, and the cells in ascending order
 abbrev pub state_text : List Name → ℕ → State → List ℕ
 state_text names k x =
-    line (codes "state " ++ decimal k) ++ line (codes "store" ++ flat_map (value_text x) names) ++ line (codes "heap" ++ flat_map cell_text (entries x.heap))
+    codes "state " ++ decimal k ++ line_end ++ codes "store" ++ flat_map (value_text x) names ++ line_end ++ codes "heap" ++ flat_map cell_text (entries x.heap) ++ line_end
 
 -- states are numbered from k
 abbrev pub states_text : List Name → ℕ → List State → List ℕ

@@ -20,39 +20,8 @@ use Rattle.gh_path.specs.Conditions.{Condition, condition, conditions_of, from_p
 use Rattle.gh_trace.specs.Traces.{State}
 use Rattle.gh_trace.specs.Validity.{IsConditionValid}
 use Rattle.gh_draw.specs.Drawings.{IsDrawable}
-use Rattle.gh_top.specs.Copies.{AreCopies, IsOfCopies, IsValidProcedure, copy_steps, only_condition, store_of, state_of, copied, following, trace_of, no_cells}
-
--- a body of copies has no loop
-no_loops : (ss : Statements) → AreCopies ss → all_loops ss ≡ []
-no_loops no_statements h = refl
-no_loops (statement_first (set x (Plain o)) rest) h = no_loops rest h
-no_loops (statement_first (set x (Read o)) rest) h = absurd h
-no_loops (statement_first (new x) rest) h = absurd h
-no_loops (statement_first (write x e) rest) h = absurd h
-no_loops (statement_first (free x) rest) h = absurd h
-no_loops (statement_first (call xs f es) rest) h = absurd h
-no_loops (statement_first (choice t a c b d) rest) h = absurd h
-no_loops (statement_first (loop s t i b c) rest) h = absurd h
-no_loops (statement_first (give s es) rest) h = absurd h
-
-abbrev way : Statements → Check → Way
-way ss c = record { steps = copy_steps ss; check = c }
-
--- and one path
-one_way : (p : Procedure) (c : Check) (ss : Statements) → AreCopies ss → ways (all_lowered p ss (ends c)) ≡ way ss c ∷ []
-one_way p c no_statements h = refl
-one_way p c (statement_first (set x (Plain o)) rest) h = rw (one_way p c rest h) refl
-one_way p c (statement_first (set x (Read o)) rest) h = absurd h
-one_way p c (statement_first (new x) rest) h = absurd h
-one_way p c (statement_first (write x e) rest) h = absurd h
-one_way p c (statement_first (free x) rest) h = absurd h
-one_way p c (statement_first (call xs f es) rest) h = absurd h
-one_way p c (statement_first (choice t a d b e) rest) h = absurd h
-one_way p c (statement_first (loop s t i b d) rest) h = absurd h
-one_way p c (statement_first (give s es) rest) h = absurd h
-
-pub one_condition : (p : Procedure) → AreCopies (body_of p) → conditions_of p ≡ only_condition p ∷ []
-one_condition p h = rw (no_loops (body_of p) h, one_way p (returned p.close p.gives) (body_of p) h) refl
+use Rattle.gh_top.proofs.TraceLemmas.{one_condition}
+use Rattle.gh_top.specs.Copies.{AreCopies, IsOfCopies, IsValidProcedure, copying, only_condition, store_of, state_of, copied, following, trace_of, no_cells}
 
 -- as many conditions as procedures
 pub counted : (P : Program) (ps : List Procedure) → All (IsOfCopies P) ps → length (from_procedures ps) ≡ length ps
@@ -70,10 +39,10 @@ all_valid P (p ∷ ps) h c i =
     elim (Contains-append_cases (conditions_of p) (from_procedures ps) c i) [ inl here ↦ first c here | inr there ↦ all_valid P ps rest c there ]
 
 -- the condition of a procedure stands after those of the procedures before it
-pub reached : (before : List Procedure) (p : Procedure) (after : List Procedure) → AreCopies (body_of p)
+pub reached : (P : Program) (before : List Procedure) (p : Procedure) (after : List Procedure) → IsOfCopies P p
     → from_procedures (before ++ p ∷ after) ≡ from_procedures before ++ only_condition p ∷ from_procedures after
-reached [] p after h = rw (one_condition p h) refl
-reached (q ∷ before) p after h = rw (reached before p after h) (simp append_assoc)
+reached P [] p after h = rw (one_condition p h.copies) refl
+reached P (q ∷ before) p after h = rw (reached P before p after h) (simp append_assoc)
 
 -- values that fit 32 bits
 abbrev IsSmall : Store → Type 0

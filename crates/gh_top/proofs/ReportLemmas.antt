@@ -14,10 +14,11 @@ use Rattle.std.specs.Fmt.{decimal}
 use Rattle.gh_draw.specs.Drawings.{line}
 use Rattle.gh_top.specs.Reports.{IsCheck, refused, not_built, verified, refuted, IsNotOfCopies, refuted_text, IsReached, IsFirstRefuted}
 use Rattle.gh_top.specs.Verdicts.{IsFirst}
-use Rattle.gh_top.specs.Drawn.{refuted_copies}
+use Rattle.gh_top.specs.Refuting.{refuted_copies}
 use Rattle.gh_top.specs.declared.status.Status.{Status}
 use Rattle.gh_top.specs.declared.status.Status.TheVariants.{Verified, Refuted, TextRefused}
-use Rattle.gh_top.proofs.ConditionLemmas.{one_condition, counted, all_valid, reached, drawable}
+use Rattle.gh_top.proofs.TraceLemmas.{one_condition}
+use Rattle.gh_top.proofs.ConditionLemmas.{counted, all_valid, reached, drawable}
 
 pub assembled : (r d h s e text one two first second third last : List ℕ) → text ≡ r → one ≡ d → first ≡ text ++ one → two ≡ h → second ≡ first ++ two
     → third ≡ second ++ s → last ≡ third ++ e → last ≡ r ++ d ++ (h ++ s ++ e)
@@ -65,7 +66,7 @@ first_refuted P k vs all f =
         record {
           before = from_procedures f.before;
           after = from_procedures f.after;
-          whole = rw f.whole (reached f.before f.here f.after here.copies);
+          whole = rw f.whole (reached P f.before f.here f.after here);
           number = rw (counted P f.before before, f.count) refl;
           valid = all_valid P f.before f.earlier;
         };

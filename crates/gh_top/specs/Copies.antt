@@ -5,8 +5,7 @@ use Rattle.std.specs.Str.{bytes_eq}
 use Rattle.std.specs.FinMap as map
 use Rattle.gh_ast.specs.declared.Occ.{Occ}
 use Rattle.gh_ast.specs.declared.Operand.{Operand}
-use Rattle.gh_ast.specs.declared.Expr.{Expr}
-use Rattle.gh_ast.specs.declared.Expr.TheVariants.{Plain, Read}
+use Rattle.gh_ast.specs.declared.Expr.TheVariants.{Plain}
 use Rattle.gh_ast.specs.Plain.{Formula, empty, comparison, star, Formulas, no_formulas, formula_first, Statement, set, Statements, no_statements, statement_first, Procedure, Program}
 use Rattle.gh_ast.specs.Programs.{Name, body_of, variable_names}
 use Rattle.gh_ast.specs.Rules.{IsTyped}
@@ -30,11 +29,15 @@ abbrev mutual
   ArePure no_formulas = Unit {0}
   ArePure (formula_first f fs) = IsPure f × ArePure fs
 
--- each statement copies a variable or null
+-- a copy of a variable or of null
+abbrev pub IsCopy : Statement → Type 0
+IsCopy (set x (Plain o)) = Unit {0}
+IsCopy s = ⊥
+
+-- each statement is a copy
 abbrev pub AreCopies : Statements → Type 0
 AreCopies no_statements = Unit {0}
-AreCopies (statement_first (set x (Plain o)) rest) = AreCopies rest
-AreCopies (statement_first s rest) = ⊥
+AreCopies (statement_first s rest) = IsCopy s × AreCopies rest
 
 -- a procedure that is decided by its equalities alone
 pub record IsOfCopies (P : Program) (p : Procedure) : Type 0 where
@@ -43,6 +46,20 @@ pub record IsOfCopies (P : Program) (p : Procedure) : Type 0 where
   pub copies : AreCopies (body_of p)
   pub steps : HasManySteps p → ⊥
   pub terms : HasManyTerms P p → ⊥
+
+-- a step for each copy
+abbrev pub copying : Statements → List PathStep
+copying no_statements = []
+copying (statement_first (set x e) rest) = assigned x e ∷ copying rest
+copying (statement_first s rest) = copying rest
+
+-- from the entry through all copies to the end of the body
+abbrev pub only_condition : Procedure → Condition
+only_condition p = condition p (whole_body p) (record { steps = copying (body_of p); check = returned p.close p.gives })
+
+-- a procedure of copies has one condition
+abbrev pub HaveOneCondition : Type 0
+HaveOneCondition = (P : Program) (p : Procedure) → IsOfCopies P p → conditions_of p ≡ only_condition p ∷ []
 
 -- a procedure of a program that keeps the type rules
 abbrev pub IsOfTyped : Procedure → Type 0
@@ -82,15 +99,6 @@ pub record RefutesProcedure (P : Program) (p : Procedure) (vs : List ℕ) : Type
   pub small : All (λ v. v < 2 ^ 32) vs
   pub refutes : (c : Condition) → Contains (conditions_of p) c → Refutes P c (trace_of p vs)
 
--- the steps of the copies
-abbrev pub copy_steps : Statements → List PathStep
-copy_steps no_statements = []
-copy_steps (statement_first (set x e) rest) = assigned x e ∷ copy_steps rest
-copy_steps (statement_first s rest) = []
-
--- the one condition of a procedure of copies
-abbrev pub only_condition : Procedure → Condition
-only_condition p = condition p (whole_body p) (record { steps = copy_steps (body_of p); check = returned p.close p.gives })
-
+-- procedures of programs that keep the type rules
 abbrev pub AreOfTyped : List Procedure → Type 0
 AreOfTyped ps = (p : Procedure) → Contains ps p → IsOfTyped p

@@ -1,10 +1,15 @@
 //! The top call: a request, its answer, and the text that is written.
 #![tactic(auto)]
 
-pub mod copies;
-pub mod lines;
-pub mod status;
-pub mod verdict;
-pub mod words;
-pub mod report;
+mod classes;
+mod copies;
+mod lines;
+mod report;
 pub mod run;
+mod states;
+pub mod status;
+#[cfg(test)]
+mod tests;
+mod variables;
+mod verdict;
+pub mod words;

@@ -10,9 +10,9 @@ ghost use Rattle.gh_top.specs.Copies.{IsOfTyped, AreCopies, AreOfTyped, only_con
 ghost use Rattle.gh_top.specs.Refusals.{IsText, most_bytes};
 ghost use Rattle.gh_draw.specs.Drawings.{line};
 ghost use Rattle.gh_top.specs.Reports.{IsCheck};
-ghost use Rattle.gh_top.specs.Drawn.{refuted_copies};
+ghost use Rattle.gh_top.specs.Refuting.{refuted_copies};
 
-use crate::copies::push_states;
+use crate::states::push_states;
 use crate::lines::{byte_line, description_line, drawing_lines, limit_line, name_of_error, plain_line, refused_line, refuted_line, verified_line};
 use crate::status::Status;
 use crate::verdict::{Verdict, judge_all};
@@ -61,7 +61,7 @@ fn refuted_report(
     let heading = drawing_lines(alloc, place + 1)?;
     text.push(description.bytes())?;
     text.push(heading.bytes())?;
-    push_states(&mut text, procedure, values)?;
+    push_states(alloc, &mut text, procedure, values)?;
     text.push(b"end\n")?;
     Ok(Report {
         status: Status::Refuted,

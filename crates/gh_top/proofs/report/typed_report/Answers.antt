@@ -8,7 +8,7 @@ use Rattle.gh_ast.specs.Rules.{IsTyped}
 use Rattle.gh_ast.specs.Limits.{KeepsLimits}
 use Rattle.gh_top.specs.Copies.{IsOfCopies, IsValidProcedure, RefutesProcedure}
 use Rattle.gh_top.specs.Refusals.{IsAccepted, IsText, refused_at}
-use Rattle.gh_top.specs.Drawn.{refuted_copies}
+use Rattle.gh_top.specs.Refuting.{refuted_copies}
 use Rattle.gh_top.specs.Verdicts.{IsFirst, IsVerdict}
 use Rattle.gh_top.proofs.HeadlineLemmas.{both_ok}
 use Rattle.gh_top.proofs.VerdictLemmas.{viewed_at}
