@@ -21,8 +21,8 @@ pub record RepeatedAt (os : List Occ) (s : Span) : Type 0 where
   pub span : here.span ≡ s
 
 -- a name in a call means the first procedure that has it
-abbrev pub Means : Program → List ℕ → Procedure → Type 0
-Means p name q = IsFirstWith (λ r. r.name.name ≡ name) p.procedures q
+abbrev pub Means : List Procedure → List ℕ → Procedure → Type 0
+Means ps name q = IsFirstWith (λ r. r.name.name ≡ name) ps q
 
 -- 1: an occurrence of a variable that names no variable of the procedure
 abbrev pub UnknownName : Procedure → Site → Span → Type 0
@@ -39,11 +39,11 @@ AssignToParameter q (assigned ts) s = Any (λ t. (t.span ≡ s) × HasName q.par
 AssignToParameter q _ s = ⊥
 
 -- 4: a call whose arguments or targets, or a return whose values, aren't as many as they should be
-abbrev pub WrongCount : Program → Procedure → Site → Span → Type 0
-WrongCount p q (called ts c es) s =
-    (c.span ≡ s) × ((r : Procedure) × Means p c.name r × ((length es ≢ length r.parameters) ⊎ (length ts ≢ length r.results)))
-WrongCount p q (returned inside w es) s = (w ≡ s) × (length es ≢ length q.results)
-WrongCount p q _ s = ⊥
+abbrev pub WrongCount : List Procedure → Procedure → Site → Span → Type 0
+WrongCount ps q (called ts c es) s =
+    (c.span ≡ s) × ((r : Procedure) × Means ps c.name r × ((length es ≢ length r.parameters) ⊎ (length ts ≢ length r.results)))
+WrongCount ps q (returned inside w es) s = (w ≡ s) × (length es ≢ length q.results)
+WrongCount ps q _ s = ⊥
 
 -- 5: a return inside a loop's body
 abbrev pub ReturnInLoop : Procedure → Site → Span → Type 0
@@ -51,9 +51,9 @@ ReturnInLoop q (returned true w es) s = w ≡ s
 ReturnInLoop q _ s = ⊥
 
 -- 6: a callee's name that no procedure has
-abbrev pub UnknownProcedure : Program → Procedure → Site → Span → Type 0
-UnknownProcedure p q (called ts c es) s = (c.span ≡ s) × (Any (λ r. r.name.name ≡ c.name) p.procedures → ⊥)
-UnknownProcedure p q _ s = ⊥
+abbrev pub UnknownProcedure : List Procedure → Procedure → Site → Span → Type 0
+UnknownProcedure ps q (called ts c es) s = (c.span ≡ s) × (Any (λ r. r.name.name ≡ c.name) ps → ⊥)
+UnknownProcedure ps q _ s = ⊥
 
 -- the one field that is allowed: `next`, of type `Node`
 abbrev pub IsLink : Field → Type 0
@@ -105,9 +105,9 @@ pub data Broken (p : Program) (number : ℕ) (s : Span) : Type 0 where
   unknown_name : number ≡ 1 → AtSome p UnknownName s → Broken p number s
   duplicate_name : number ≡ 2 → DuplicateName p s → Broken p number s
   assign_to_parameter : number ≡ 3 → AtSome p AssignToParameter s → Broken p number s
-  wrong_count : number ≡ 4 → AtSome p (WrongCount p) s → Broken p number s
+  wrong_count : number ≡ 4 → AtSome p (WrongCount p.procedures) s → Broken p number s
   return_in_loop : number ≡ 5 → AtSome p ReturnInLoop s → Broken p number s
-  unknown_procedure : number ≡ 6 → AtSome p (UnknownProcedure p) s → Broken p number s
+  unknown_procedure : number ≡ 6 → AtSome p (UnknownProcedure p.procedures) s → Broken p number s
   second_link : number ≡ 7 → SecondLink p s → Broken p number s
   data_field : number ≡ 8 → DataField p s → Broken p number s
   name_out_of_contract : number ≡ 9 → InSome p NameOutOfContract s → Broken p number s
@@ -127,7 +127,11 @@ Before s t = (s.line < t.line) ⊎ ((s.line ≡ t.line) × (s.col < t.col))
 abbrev pub GoesFirst : ℕ → Span → ℕ → Span → Type 0
 GoesFirst m s n t = Before s t ⊎ ((s ≡ t) × (m ≤ n))
 
--- the first of all errors: by place, and at one place by number
-pub record IsFirstBroken (p : Program) (number : ℕ) (s : Span) : Type 0 where
-  pub broken : Broken p number s
-  pub first : (n : ℕ) (t : Span) → Broken p n t → GoesFirst number s n t
+-- the first of some errors: by place, and at one place by number
+pub record IsFirstError (E : ℕ → Span → Type 0) (number : ℕ) (s : Span) : Type 0 where
+  pub here : E number s
+  pub first : (n : ℕ) (t : Span) → E n t → GoesFirst number s n t
+
+-- the first of all errors of a program
+abbrev pub IsFirstBroken : Program → ℕ → Span → Type 0
+IsFirstBroken p number s = IsFirstError (Broken p) number s

@@ -1,0 +1,1 @@
+// The statements of a body.

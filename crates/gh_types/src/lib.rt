@@ -1,0 +1,7 @@
+//! The type check of a program, and the limits on its text.
+#![tactic(auto)]
+
+mod body;
+mod fault;
+mod occurrences;
+mod scope;
