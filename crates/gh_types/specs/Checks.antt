@@ -20,10 +20,18 @@ abbrev pub OccurrenceErrors : Procedure → Setting → Occ → ℕ → Span →
 OccurrenceErrors q setting o n s =
     ((n ≡ 1) × (o.span ≡ s) × (HasName (variables_of q) o.name → ⊥)) ⊎ ((n ≡ 9) × (o.span ≡ s) × Forbidden q setting o.name)
 
+-- the errors of names that stand earlier in a list
+abbrev pub RepeatErrors : ℕ → List Occ → ℕ → Span → Type 0
+RepeatErrors number os n s = (n ≡ number) × RepeatedAt os s
+
+-- the errors of a target that is a parameter
+abbrev pub ParameterErrors : Procedure → Occ → ℕ → Span → Type 0
+ParameterErrors q t n s = (n ≡ 3) × (t.span ≡ s) × HasName q.parameters t.name
+
 -- the errors of the targets of one statement
 abbrev pub TargetErrors : Procedure → List Occ → ℕ → Span → Type 0
 TargetErrors q ts n s =
-    ((n ≡ 3) × Any (λ t. (t.span ≡ s) × HasName q.parameters t.name) ts) ⊎ ((n ≡ 10) × RepeatedAt ts s)
+    Any (λ t. ParameterErrors q t n s) ts ⊎ RepeatErrors 10 ts n s
 
 -- the errors of a site in a body
 abbrev pub SiteErrors : List Procedure → Procedure → Site → ℕ → Span → Type 0

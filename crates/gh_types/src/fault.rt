@@ -1,6 +1,6 @@
 // Errors with their places.
 
-ghost use Rattle.std.specs.Prelude.{◌≡◌, ◌↔◌, IsTrue};
+ghost use Rattle.std.specs.Prelude.{◌≡◌, ◌↔◌, IsTrue, false};
 ghost use Rattle.gh_types.specs.Faults.{IsEarlier};
 
 use gh_base::place::Span;
@@ -13,14 +13,17 @@ pub struct Fault {
 }
 
 impl Fault {
-    ghost use Rattle.gh_types.specs.Faults.{FaultGoesFirst};
+    ghost use Rattle.gh_types.specs.Faults.{FaultGoesFirst, IsFirstOf};
 
-    /// A fault.
-    pub fn new(number: u8, span: Span) -> Fault
-        ensures number { result.number ≡ number }
-        ensures span { result.span ≡ span }
+    /// An error at a place, unless all is well there.
+    pub fn unless(well: bool, number: u8, span: Span) -> Option<Fault>
+        ensures { IsFirstOf (λ n s. (well ≡ false) × (n ≡ number) × (span ≡ s)) result }
     {
-        Fault { number, span }
+        if well {
+            None
+        } else {
+            Some(Fault { number, span })
+        }
     }
 
     /// Whether this fault is the first of the two: by place, then by number.

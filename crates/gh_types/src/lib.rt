@@ -3,5 +3,6 @@
 
 mod body;
 mod fault;
+mod names;
 mod occurrences;
 mod scope;

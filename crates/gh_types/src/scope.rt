@@ -7,7 +7,8 @@ ghost use Rattle.gh_ast.specs.Rules.{HasName, Means};
 ghost use Rattle.gh_types.specs.Checks.{Forbidden, OccurrenceErrors};
 ghost use Rattle.gh_types.specs.Faults.{IsFirstOf};
 
-use crate::fault::Fault;
+use crate::fault::{Fault, earlier};
+use crate::names::locals;
 use gh_ast::{Occ, Procedure};
 
 /// Where an occurrence of a variable stands.
@@ -37,16 +38,6 @@ fn has_name(names: &[Occ], name: &Occ) -> bool
     ensures { IsTrue result ↔ HasName names.now name.now.name }
 {
     names.iter().any(|n| same_name(n, name))
-}
-
-/// The locals of a procedure.
-fn locals(procedure: &Procedure) -> &[Occ]
-    ensures { result.now ≡ locals_of (procedure_of procedure.now) }
-{
-    match &procedure.body {
-        Some(body) => body.locals.as_slice(),
-        None => &[],
-    }
 }
 
 impl<'a> Scope<'a> {
@@ -90,12 +81,9 @@ impl<'a> Scope<'a> {
     pub fn in_occurrence(self, setting: Setting, occurrence: &Occ) -> Option<Fault>
         ensures { IsFirstOf (OccurrenceErrors (procedure_of self.entry.own.now) setting occurrence.now) result }
     {
-        if !self.is_variable(occurrence) {
-            return Some(Fault::new(1, occurrence.span));
-        }
-        if self.is_forbidden(setting, occurrence) {
-            return Some(Fault::new(9, occurrence.span));
-        }
-        None
+        earlier(
+            Fault::unless(self.is_variable(occurrence), 1, occurrence.span),
+            Fault::unless(!self.is_forbidden(setting, occurrence), 9, occurrence.span),
+        )
     }
 }
