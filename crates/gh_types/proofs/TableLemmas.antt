@@ -6,7 +6,7 @@ use Rattle.std.proofs.lemmas.List.Elements.{Contains-append_cases, Contains-push
 use Rattle.std.proofs.lemmas.Map.Text.{btree_map_updates_str}
 use Rattle.std.proofs.lemmas.Bool.{cases_lt}
 use Rattle.std.proofs.lemmas.Slice.Eq.{bytes_eq-Decides}
-use Rattle.std.specs.Prelude.{Option, None, Some, is_some, is_none, Any, Contains}
+use Rattle.std.specs.Prelude.{Option, None, Some, is_some, is_none, IsSome, IfSome, MatchOption, Any, Contains}
 use Rattle.std.specs.Borrow.{Bor}
 use Rattle.std.specs.Bool.{Decides}
 use Rattle.std.specs.BTreeMap as tree
@@ -16,7 +16,9 @@ use Rattle.std.specs.Ordering.{nat_cmp}
 use Rattle.std.specs.Str.{bytes_eq}
 use Rattle.gh_base.specs.declared.place.Span.{Span}
 use Rattle.gh_ast.specs.declared.Occ.{Occ}
-use Rattle.gh_ast.specs.Rules.{HasName, RepeatedAt}
+use Rattle.gh_ast.specs.declared.Procedure.{Procedure}
+use Rattle.gh_ast.specs.Plain.{procedure_of}
+use Rattle.gh_ast.specs.Rules.{Means, HasName, RepeatedAt}
 use Rattle.gh_types.specs.declared.fault.Fault.{Fault}
 use Rattle.gh_types.specs.Checks.{RepeatErrors}
 use Rattle.gh_types.specs.Faults.{IsFirstOf, IsEarlier}
@@ -50,25 +52,38 @@ finds_new names name h = record {
     there : (j : ℕ) → j < length names → (d : List ℕ) → get_or names j d ≡ name → get_or names j name ≡ name
     there j l d e = get_or_default names j name d l ∙ e
 
+-- a table by what it has for each name
+pub finds : (names : List (List ℕ)) (t : Table) → IsTableOf names t → (name : List ℕ) → Finds names name (place_in t name)
+finds names t h name = by_case (place_in t name) refl
+  where
+    by_case : (o : Option ℕ) → place_in t name ≡ o → Finds names name o
+    by_case None e = h.absent name e
+    by_case (Some k) e = h.present name k e
+
+table_by : (names : List (List ℕ)) (t : Table) → ((name : List ℕ) → Finds names name (place_in t name)) → IsTableOf names t
+table_by names t f = record {
+  absent = λ name e. subst (Finds names name) e (f name);
+  present = λ name k e. subst (Finds names name) e (f name);
+}
+
 -- what a table has after an entry was added
 abbrev pub IsUpdated : Table → List ℕ → ℕ → Table → Type 0
 IsUpdated t name place n = tree.UpdatesBy (λ x y. slice_cmp nat_cmp x.now y.now) (λ k. slice_cmp nat_cmp name k.now) t n (Some place)
 
 pub table_more : (names : List (List ℕ)) (name : List ℕ) (place : ℕ) (t n : Table) → place ≡ length names → place_in t name ≡ None → IsUpdated t name place n → IsTableOf names t → IsTableOf (names ++ name ∷ []) n
-table_more names name place t n p none u h = record {
-  finds = λ q.
-      let new : place_in n q ≡ update bytes_eq (place_in t) name (Some place) q = btree_map_updates_str name t n (Some place) u q in
-      by_test q (bytes_eq name q) refl (new);
-}
+table_more names name place t n p none u h =
+    table_by (names ++ name ∷ []) n (λ q.
+        let new : place_in n q ≡ update bytes_eq (place_in t) name (Some place) q = btree_map_updates_str name t n (Some place) u q in
+        by_test q (bytes_eq name q) refl new)
   where
     by_test : (q : List ℕ) (b : Bool) → bytes_eq name q ≡ b → place_in n q ≡ cond (bytes_eq name q) (Some place) (place_in t q) → Finds (names ++ name ∷ []) q (place_in n q)
     by_test q true b e =
         let same : name ≡ q = (bytes_eq-Decides name q).0 b in
         let found : place_in n q ≡ Some (length names) = rw (e, b, p) refl in
-        rw found (rw (← same) (finds_new names name (subst (Finds names name) none (h.finds name))))
+        rw found (rw (← same) (finds_new names name (subst (Finds names name) none (finds names t h name))))
     by_test q false b e =
         let found : place_in n q ≡ place_in t q = rw (e, b) refl in
-        rw found (finds_other names name q (place_in t q) (λ _ same. let t : bytes_eq name q ≡ true = (bytes_eq-Decides name q).1 same in cc) (h.finds q))
+        rw found (finds_other names name q (place_in t q) (λ _ same. let t : bytes_eq name q ≡ true = (bytes_eq-Decides name q).1 same in cc) (finds names t h q))
 
 -- an option that isn't some
 pub none_of : {X : Type 0} (o : Option X) → is_some o ≡ false → o ≡ None
@@ -154,3 +169,50 @@ length_of_front f xs k h = let fits : k ≤ length xs = omega arith in rw (lengt
 
 pub map_all : {X Y : Type 0} (f : X → Y) (xs : List X) (k : ℕ) → length xs ≤ k → map f (take k xs) ≡ map f xs
 map_all f xs k h = ap (map f) (take_all k xs h)
+
+-- a name that is there already
+pub table_same : (names : List (List ℕ)) (name : List ℕ) (t : Table) → is_some (place_in t name) ≡ true → IsTableOf names t → IsTableOf (names ++ name ∷ []) t
+table_same names name t there h = table_by (names ++ name ∷ []) t (λ q. finds_other names name q (place_in t q) (apart q) (finds names t h q))
+  where
+    apart : (q : List ℕ) → place_in t q ≡ None → name ≡ q → ⊥
+    apart q none same = let e : is_some (place_in t name) ≡ false = ap (λ n. is_some (place_in t n)) same ∙ ap is_some none in cc
+
+-- a table tells whether a name is there
+pub table_tells : (os : List Occ) (name : List ℕ) (t : Table) → IsTableOf (map (λ o. o.name) os) t
+    → (is_some (place_in t name) ≡ true → HasName os name) × (HasName os name → is_some (place_in t name) ≡ true)
+table_tells os name t h = by_case (place_in t name) (finds (map (λ o. o.name) os) t h name)
+  where
+    by_case : (o : Option ℕ) → Finds (map (λ o. o.name) os) name o → (is_some o ≡ true → HasName os name) × (HasName os name → is_some o ≡ true)
+    by_case None f = (λ e. cc, λ n. absurd (f (name_contained os name n)))
+    by_case (Some k) f = (λ _. found_named os name (Some k) f refl, λ _. refl)
+
+map_at : {X Y : Type 0} (f : X → Y) (xs : List X) (k : ℕ) (x : X) → k < length xs → x ≡ get_or xs k x → get_or (map f xs) k (f x) ≡ f x
+map_at f [] k x h e = absurd (omega arith)
+map_at f (y ∷ xs) zero x h e = ap f (sym e)
+map_at f (y ∷ xs) (suc k) x h e = map_at f xs k x (omega arith) e
+
+-- the procedure that a name means, by the first place of the name
+pub meant_there : (ps : List Procedure) (name : List ℕ) (k : ℕ) (p : Procedure) → IsFirstPlace (map (λ r. r.name.name) ps) name k → p ≡ get_or ps k p → Means (map procedure_of ps) name (procedure_of p)
+meant_there ps name k p h e = record {
+  place = k;
+  within = rw length-map (rw length-map at h.within);
+  element = map_at procedure_of ps k p (rw length-map at h.within) e;
+  holds = sym (map_at (λ r. r.name.name) ps k p (rw length-map at h.within) e) ∙ (get_or_default (map (λ r. r.name.name) ps) k p.name.name name h.within ∙ h.here);
+  earlier = λ j d l same.
+      let short : j < length ps = omega (arith, rw length-map at h.within) in
+      let x = get_or ps j p in
+      let here : x ≡ get_or ps j x = get_or_default ps j p x short in
+      let named : (get_or (map procedure_of ps) j d).name.name ≡ x.name.name = ap (λ r. r.name.name) (get_or_default (map procedure_of ps) j d (procedure_of x) (rw length-map short) ∙ map_at procedure_of ps j x short here) in
+      h.earlier j x.name.name l (map_at (λ r. r.name.name) ps j x short here ∙ (sym named ∙ same));
+}
+
+pub meant_nowhere : (ps : List Procedure) (name : List ℕ) → (Contains (map (λ r. r.name.name) ps) name → ⊥) → Any (λ r. r.name.name ≡ name) (map procedure_of ps) → ⊥
+meant_nowhere ps name none a =
+    none (any_contained (map (λ r. r.name.name) ps) name (any_mapped (λ m. m ≡ name) (λ r. r.name.name) ps (any_map (λ r. r.name.name ≡ name) procedure_of ps a)))
+
+-- what the list of procedures has at the place of a name
+pub meant_got : (ps : List Procedure) (name : List ℕ) (k : ℕ) (o : Option (Bor Procedure)) → IsFirstPlace (map (λ r. r.name.name) ps) name k
+    → IfSome o (λ x. x.now ≡ get_or ps k x.now) → (k < length ps → IsSome o)
+    → MatchOption o (Any (λ r. r.name.name ≡ name) (map procedure_of ps) → ⊥) (λ r. Means (map procedure_of ps) name (procedure_of r.now))
+meant_got ps name k None h got some = let no : is_some {T = Bor Procedure} None ≡ true = some (rw length-map at h.within) in cc
+meant_got ps name k (Some x) h got some = meant_there ps name k x.now h got

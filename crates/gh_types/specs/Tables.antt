@@ -25,4 +25,5 @@ Finds names name found = MatchOption found (Contains names name → ⊥) (IsFirs
 
 -- a table has the first place of each of these names, and no other name
 pub record IsTableOf (names : List (List ℕ)) (t : Table) : Type 0 where
-  pub finds : (name : List ℕ) → Finds names name (place_in t name)
+  pub absent : (name : List ℕ) → place_in t name ≡ None → Contains names name → ⊥
+  pub present : (name : List ℕ) (k : ℕ) → place_in t name ≡ Some k → IsFirstPlace names name k

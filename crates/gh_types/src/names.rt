@@ -1,6 +1,8 @@
 // Tables of names.
 
 ghost use Rattle.std.specs.Prelude.{◌≡◌, [], ◌∷◌, ◌++◌, List, ℕ, length, IfOk, OnOk, is_none, IsTrue, ◌↔◌, Contains, Some, map};
+ghost use Rattle.gh_ast.specs.declared.Occ.{Occ as Whole};
+ghost use Rattle.gh_ast.specs.Rules.{HasName};
 ghost use Rattle.gh_ast.specs.Plain.{procedure_of};
 ghost use Rattle.gh_ast.specs.Occurrences.{locals_of, variables_of};
 ghost use Rattle.gh_types.specs.Faults.{IsFirstOf};
@@ -15,7 +17,7 @@ use std::collections::BTreeMap;
 /// The first places of the names of a list.
 #[derive(Drop)]
 pub struct Names<'a> {
-    places: BTreeMap<&'a [u8], usize>,
+    pub places: BTreeMap<&'a [u8], usize>,
 }
 
 impl<'a> Names<'a> {
@@ -35,6 +37,14 @@ impl<'a> Names<'a> {
         self.places.get(name).copied()
     }
 
+    /// Whether the name of an occurrence is there.
+    pub fn has(&self, occurrence: &Occ) -> bool
+        ensures { (os : List Whole) → IsTableOf (map (λ o. o.name) os) self.now.places →
+            (IsTrue result ↔ HasName os occurrence.now.name) }
+    {
+        self.places.contains_key(occurrence.name.bytes())
+    }
+
     /// Adds a name that stands at a place, unless it is there. Whether it was added.
     pub fn add(&mut self, name: &'a [u8], place: usize) -> Result<bool, AllocError>
         ensures added { IfOk result (λ added. added ≡ is_none (place_in self.old.places name.now)) }
@@ -50,8 +60,8 @@ impl<'a> Names<'a> {
 }
 
 /// The first place of each name among some occurrences.
-pub fn names_of<'a>(alloc: Global, occurrences: &'a [Occ]) -> Result<Names<'a>, AllocError>
-    ensures { IfOk result (λ names. IsTableOf (map (λ o. o.name) occurrences.now) names.places) }
+pub fn names_of<'a>(alloc: Global, occurrences: &[&'a Occ]) -> Result<Names<'a>, AllocError>
+    ensures { IfOk result (λ names. IsTableOf (map (λ o. o.name) (map (λ o. o.now) occurrences.now)) names.places) }
 {
     let mut names = Names::new(alloc);
     for (place, occurrence) in occurrences.iter().enumerate() {
@@ -75,6 +85,27 @@ pub fn repeated(
         first = earlier(first, Fault::unless(is_new, number, occurrence.span));
     }
     Ok(first)
+}
+
+/// The occurrences of a list, one by one.
+pub fn each<'a>(alloc: Global, occurrences: &'a [Occ]) -> Result<Vec<&'a Occ>, AllocError>
+    ensures { IfOk result (λ v. map (λ o. o.now) v.items ≡ occurrences.now) }
+{
+    occurrences.iter().collect(alloc)
+}
+
+/// The names of some procedures, in order.
+pub fn procedure_names<'a>(
+    alloc: Global,
+    procedures: &'a [Procedure],
+) -> Result<Vec<&'a Occ>, AllocError>
+    ensures { IfOk result (λ v. map (λ o. o.now) v.items ≡ map (λ p. p.name) procedures.now) }
+{
+    let mut names = Vec::with_capacity(alloc, procedures.len())?;
+    for procedure in procedures {
+        names.push(&procedure.name)?;
+    }
+    Ok(names)
 }
 
 /// The variables of a procedure, in order.

@@ -11,8 +11,8 @@ use gh_ast::{Assertion, Cond, Expr, Operand};
 
 impl<'a> Scope<'a> {
     /// The first error in an operand.
-    fn in_operand(self, setting: Setting, operand: &Operand) -> Option<Fault>
-        ensures { IsFirstIn (OccurrenceErrors (procedure_of self.entry.own.now) setting) (in_operand operand.now) result }
+    fn in_operand(&self, setting: Setting, operand: &Operand) -> Option<Fault>
+        ensures { IsFirstIn (OccurrenceErrors (procedure_of self.now.own.now) setting) (in_operand operand.now) result }
     {
         match operand {
             Operand::Null { .. } => None,
@@ -21,8 +21,8 @@ impl<'a> Scope<'a> {
     }
 
     /// The first error in an expression.
-    pub fn in_expr(self, setting: Setting, expr: &Expr) -> Option<Fault>
-        ensures { IsFirstIn (OccurrenceErrors (procedure_of self.entry.own.now) setting) (in_expr expr.now) result }
+    pub fn in_expr(&self, setting: Setting, expr: &Expr) -> Option<Fault>
+        ensures { IsFirstIn (OccurrenceErrors (procedure_of self.now.own.now) setting) (in_expr expr.now) result }
     {
         match expr {
             Expr::Plain(operand) => self.in_operand(setting, operand),
@@ -31,8 +31,8 @@ impl<'a> Scope<'a> {
     }
 
     /// The first error in some expressions.
-    pub fn in_exprs(self, setting: Setting, exprs: &[Expr]) -> Option<Fault>
-        ensures { IsFirstIn (OccurrenceErrors (procedure_of self.entry.own.now) setting) (in_exprs exprs.now) result }
+    pub fn in_exprs(&self, setting: Setting, exprs: &[Expr]) -> Option<Fault>
+        ensures { IsFirstIn (OccurrenceErrors (procedure_of self.now.own.now) setting) (in_exprs exprs.now) result }
     {
         let mut first = None;
         for expr in exprs {
@@ -43,8 +43,8 @@ impl<'a> Scope<'a> {
 
     /// The first error in a test.
     #[cycle(test)]
-    pub fn in_test(self, setting: Setting, test: &Cond) -> Option<Fault>
-        ensures { IsFirstIn (OccurrenceErrors (procedure_of self.entry.own.now) setting) (in_test (test_of test.now)) result }
+    pub fn in_test(&self, setting: Setting, test: &Cond) -> Option<Fault>
+        ensures { IsFirstIn (OccurrenceErrors (procedure_of self.now.own.now) setting) (in_test (test_of test.now)) result }
     {
         match test {
             Cond::Compare { left, right, .. } => {
@@ -58,8 +58,8 @@ impl<'a> Scope<'a> {
 
     /// The first error in some tests.
     #[cycle(test)]
-    fn in_tests(self, setting: Setting, tests: &[Cond]) -> Option<Fault>
-        ensures { IsFirstIn (OccurrenceErrors (procedure_of self.entry.own.now) setting) (in_tests (tests_view tests.now)) result }
+    fn in_tests(&self, setting: Setting, tests: &[Cond]) -> Option<Fault>
+        ensures { IsFirstIn (OccurrenceErrors (procedure_of self.now.own.now) setting) (in_tests (tests_view tests.now)) result }
     {
         let mut first = None;
         for test in tests {
@@ -70,8 +70,8 @@ impl<'a> Scope<'a> {
 
     /// The first error in an assertion.
     #[cycle(assertion)]
-    pub fn in_assertion(self, setting: Setting, assertion: &Assertion) -> Option<Fault>
-        ensures { IsFirstIn (OccurrenceErrors (procedure_of self.entry.own.now) setting) (in_formula (formula_of assertion.now)) result }
+    pub fn in_assertion(&self, setting: Setting, assertion: &Assertion) -> Option<Fault>
+        ensures { IsFirstIn (OccurrenceErrors (procedure_of self.now.own.now) setting) (in_formula (formula_of assertion.now)) result }
     {
         match assertion {
             Assertion::Emp => None,
@@ -96,8 +96,8 @@ impl<'a> Scope<'a> {
 
     /// The first error in some assertions.
     #[cycle(assertion)]
-    fn in_assertions(self, setting: Setting, assertions: &[Assertion]) -> Option<Fault>
-        ensures { IsFirstIn (OccurrenceErrors (procedure_of self.entry.own.now) setting) (in_formulas (formulas_view assertions.now)) result }
+    fn in_assertions(&self, setting: Setting, assertions: &[Assertion]) -> Option<Fault>
+        ensures { IsFirstIn (OccurrenceErrors (procedure_of self.now.own.now) setting) (in_formulas (formulas_view assertions.now)) result }
     {
         let mut first = None;
         for assertion in assertions {

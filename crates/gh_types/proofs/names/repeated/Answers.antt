@@ -1,7 +1,7 @@
 use Rattle.std.proofs.Common.{◌≡◌, ◌++◌, [], ◌∷◌, map, take, length, arith, sym, ◌∙◌, ◌+◌}
 use Rattle.std.proofs.lemmas.List.{map-append, length-map}
 use Rattle.gh_types.specs.Tables.{place_in}
-use Rattle.gh_types.proofs.TableLemmas.{map_more, map_all, length_of_front, repeat_step}
+use Rattle.gh_types.proofs.TableLemmas.{finds, map_more, map_all, length_of_front, repeat_step}
 use Rattle.gh_types.proofs.names.repeated.Goals as goal
 
 pub loop-place-preserved : goal.loop-place-preserved
@@ -14,7 +14,7 @@ loop-place-preserved c =
       table = rw (more, map-append, ← c.bytes.ensures.text) (c.in_ok-is_new.ensures.names _ size c.loop-place.invariant.table);
       first = rw more (
         repeat_step c.args.number front here (place_in c.loop-place.names.places here.name) c.in_ok-is_new.is_new _ _ _
-          (c.loop-place.invariant.table.finds here.name)
+          (finds _ _ c.loop-place.invariant.table here.name)
           (rw (← c.bytes.ensures.text) c.in_ok-is_new.ensures.added)
           c.earlier-first.ensures c.loop-place.invariant.first c.unless.ensures
       );
