@@ -15,7 +15,7 @@ use Rattle.gh_ast.specs.declared.Assertion.TheVariants.{Emp, Pure, PointsTo, Acc
 use Rattle.gh_ast.specs.declared.Block.{Block}
 use Rattle.gh_ast.specs.declared.Stmt.{Stmt}
 use Rattle.gh_ast.specs.declared.Stmt.TheOpen.{Stmt-F, Block-F}
-use Rattle.gh_ast.specs.declared.Stmt.TheFolds.{fold-roll-Stmt, fold-roll-Block}
+use Rattle.gh_ast.specs.declared.Stmt.TheFolds.{fold-roll-Stmt, fold_out-Block}
 use Rattle.gh_ast.specs.declared.Stmt.TheVariants.{Set, New, Write, Free, Call, If, While, Return, rolls-Set, rolls-New, rolls-Write, rolls-Free, rolls-Call, rolls-If, rolls-While, rolls-Return}
 use Rattle.gh_ast.specs.Plain.{Test, compare, negation, conjunction, disjunction, tests_view, test_step, test_of}
 use Rattle.gh_ast.specs.Plain.{Formula, empty, comparison, points_to, cell, segment, star, cases, formulas_view, formula_step, formula_of}
@@ -77,3 +77,6 @@ statement_of-While s t i b = ap statement_of (sym (rolls-While s t i b)) ∙ fol
 
 pub statement_of-Return : (s : Span) (vs : Vec Expr Global) → statement_of (Return s vs) ≡ give s vs.items
 statement_of-Return s vs = ap statement_of (sym (rolls-Return s vs)) ∙ fold-roll-Stmt Statement Part statement_step part_step (Stmt-F.Return s vs)
+
+pub part_of-statements : (b : Block) → (part_of b).statements ≡ statements_view b.statements.items
+part_of-statements b = ap (λ p. p.statements) (fold_out-Block Statement Part statement_step part_step b)

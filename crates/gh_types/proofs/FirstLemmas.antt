@@ -1,16 +1,18 @@
 -- The first of errors, part by part.
-use Rattle.std.proofs.Common.{◌≡◌, ℕ, zero, suc, ◌+◌, ◌<◌, ◌≤◌, ◌⊎◌, inl, inr, List, [], ◌∷◌, ◌++◌, length, take, get_or, refl, sym, ◌∙◌, ap, subst, arith, map, append_assoc, append-nil, add-one}
-use Rattle.std.proofs.lemmas.List.{take_all}
+use Rattle.std.proofs.Common.{◌≡◌, ℕ, zero, suc, ◌+◌, ◌<◌, ◌≤◌, ◌⊎◌, inl, inr, List, [], ◌∷◌, ◌++◌, length, take, get_or, refl, sym, ◌∙◌, ap, subst, arith, map, append_assoc, append-nil, add-one, Bool}
+use Rattle.std.proofs.lemmas.List.{take_all, take_more}
 use Rattle.std.specs.Prelude.{Any, Option, None, Some}
 use Rattle.std.specs.List.{flat_map}
 use Rattle.gh_base.specs.declared.place.Span.{Span}
 use Rattle.gh_ast.specs.declared.Occ.{Occ}
 use Rattle.gh_ast.specs.declared.Cond.{Cond}
 use Rattle.gh_ast.specs.declared.Assertion.{Assertion}
-use Rattle.gh_ast.specs.Plain.{test_of, tests_view, formula_of, formulas_view}
-use Rattle.gh_ast.specs.Occurrences.{in_test, in_tests, in_formula, in_formulas}
-use Rattle.gh_ast.specs.Rules.{HasName, GoesFirst, Before, IsFirstError}
+use Rattle.gh_ast.specs.declared.Stmt.{Stmt}
+use Rattle.gh_ast.specs.Plain.{test_of, tests_view, formula_of, formulas_view, statement_of, statements_view, Procedure}
+use Rattle.gh_ast.specs.Occurrences.{in_test, in_tests, in_formula, in_formulas, sites_in, all_sites_in}
+use Rattle.gh_ast.specs.Rules.{RepeatedAt, HasName, GoesFirst, Before, IsFirstError}
 use Rattle.gh_types.specs.declared.fault.Fault.{Fault}
+use Rattle.gh_types.specs.Checks.{ParameterErrors, TargetErrors}
 use Rattle.gh_types.specs.Faults.{FaultGoesFirst, IsFirstOf, IsFirstIn, IsEarlier}
 
 -- some member of a list: cases
@@ -186,3 +188,29 @@ in_tests_flat (t ∷ ts) = ap (λ r. in_test (test_of t) ++ r) (in_tests_flat ts
 pub in_formulas_flat : (fs : List Assertion) → in_formulas (formulas_view fs) ≡ flat_map (λ f. in_formula (formula_of f)) fs
 in_formulas_flat [] = refl
 in_formulas_flat (f ∷ fs) = ap (λ r. in_formula (formula_of f) ++ r) (in_formulas_flat fs)
+
+pub all_sites_flat : (inside : Bool) (ss : List Stmt) → all_sites_in inside (statements_view ss) ≡ flat_map (λ s. sites_in inside (statement_of s)) ss
+all_sites_flat inside [] = refl
+all_sites_flat inside (s ∷ ss) = ap (λ r. sites_in inside (statement_of s) ++ r) (all_sites_flat inside ss)
+
+-- one turn of a walk over the members themselves
+pub first_next : {X : Type 0} (E : X → ℕ → Span → Type 0) (xs : List X) (k : ℕ) (x : X) (a b r : Option Fault)
+    → k < length xs → x ≡ get_or xs k x → IsEarlier a b r → IsFirstIn E (take k xs) a → IsFirstOf (E x) b → IsFirstIn E (take (k + 1) xs) r
+first_next E xs k x a b r h e i p q = first_list E _ (take k xs ++ x ∷ []) r (take_more xs k x h ∙ ap (λ y. take k xs ++ y ∷ []) (sym e)) (first_append E (take k xs) (x ∷ []) a b r i p (first_one E x b q))
+
+pub first_whole : {X : Type 0} (E : X → ℕ → Span → Type 0) (xs : List X) (k : ℕ) (r : Option Fault) → length xs ≤ k → IsFirstIn E (take k xs) r → IsFirstIn E xs r
+first_whole E xs k r h p = rw (← take_all k xs h) p
+
+-- a statement's one target
+pub first_target : (q : Procedure) (t : Occ) (r : Option Fault) → IsFirstOf (ParameterErrors q t) r → IsFirstOf (TargetErrors q (t ∷ [])) r
+first_target q t r h =
+    first_same (ParameterErrors q t) (TargetErrors q (t ∷ [])) r
+      (λ n s e. inl (any_here (λ x. ParameterErrors q x n s) t [] e))
+      (λ n s e. elim e [
+        | inl a ↦ elim (any_cases (λ x. ParameterErrors q x n s) t [] a) [ inl e ↦ e | inr b ↦ absurd (any_none (λ x. ParameterErrors q x n s) b) ]
+        | inr (f, b) ↦ absurd (not_repeated s b)
+      ])
+      h
+  where
+    not_repeated : (s : Span) → RepeatedAt (t ∷ []) s → ⊥
+    not_repeated s b = any_none (λ o. o.name ≡ b.here.name) (let first : b.place ≡ 0 = omega (arith, b.within) in subst (λ (k : ℕ). HasName (take k (t ∷ [])) b.here.name) first b.earlier)
