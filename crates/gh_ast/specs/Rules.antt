@@ -60,18 +60,18 @@ abbrev pub IsLink : Field → Type 0
 IsLink f = (f.name.name ≡ codes "next") × (f.kind ≡ codes "Node")
 
 -- 7: a field of type `Node` that isn't `next`, or that is a later `next`
-pub record SecondLink (p : Program) (s : Span) : Type 0 where
+pub record SecondLink (fs : List Field) (s : Span) : Type 0 where
   pub here : Field
   pub place : ℕ
-  pub within : place < length p.fields
-  pub element : slice_index_or p.fields place here ≡ here
+  pub within : place < length fs
+  pub element : slice_index_or fs place here ≡ here
   pub kind : here.kind ≡ codes "Node"
-  pub second : (here.name.name ≢ codes "next") ⊎ Any IsLink (take place p.fields)
+  pub second : (here.name.name ≢ codes "next") ⊎ Any IsLink (take place fs)
   pub span : here.name.span ≡ s
 
 -- 8: a field of another type
-abbrev pub DataField : Program → Span → Type 0
-DataField p s = Any (λ f. (f.name.span ≡ s) × (f.kind ≢ codes "Node")) p.fields
+abbrev pub DataField : List Field → Span → Type 0
+DataField fs s = Any (λ f. (f.name.span ≡ s) × (f.kind ≢ codes "Node")) fs
 
 -- 9: in what a procedure requires, a result or a local; in what it ensures, a local
 abbrev pub NameOutOfContract : Procedure → Span → Type 0
@@ -108,8 +108,8 @@ pub data Broken (p : Program) (number : ℕ) (s : Span) : Type 0 where
   wrong_count : number ≡ 4 → AtSome p (WrongCount p.procedures) s → Broken p number s
   return_in_loop : number ≡ 5 → AtSome p ReturnInLoop s → Broken p number s
   unknown_procedure : number ≡ 6 → AtSome p (UnknownProcedure p.procedures) s → Broken p number s
-  second_link : number ≡ 7 → SecondLink p s → Broken p number s
-  data_field : number ≡ 8 → DataField p s → Broken p number s
+  second_link : number ≡ 7 → SecondLink p.fields s → Broken p number s
+  data_field : number ≡ 8 → DataField p.fields s → Broken p number s
   name_out_of_contract : number ≡ 9 → InSome p NameOutOfContract s → Broken p number s
   repeated_result : number ≡ 10 → AtSome p RepeatedResult s → Broken p number s
   no_body : number ≡ 11 → InSome p NoBody s → Broken p number s

@@ -1,16 +1,19 @@
 -- The first of errors, part by part.
-use Rattle.std.proofs.Common.{◌≡◌, ℕ, zero, suc, ◌+◌, ◌<◌, ◌≤◌, ◌⊎◌, inl, inr, List, [], ◌∷◌, ◌++◌, length, take, get_or, refl, sym, ◌∙◌, ap, subst, arith, map, append_assoc, append-nil, add-one, Bool}
+use Rattle.std.proofs.Common.{◌≡◌, ℕ, zero, suc, ◌+◌, ◌<◌, ◌≤◌, ◌⊎◌, inl, inr, List, [], ◌∷◌, ◌++◌, length, take, get_or, refl, sym, ◌∙◌, ap, subst, arith, map, append_assoc, append-nil, add-one, Bool, false}
 use Rattle.std.proofs.lemmas.List.{take_all, take_more}
-use Rattle.std.specs.Prelude.{Any, Option, None, Some}
+use Rattle.std.specs.Prelude.{Any, Option, None, Some, is_some}
 use Rattle.std.specs.List.{flat_map}
+use Rattle.std.specs.Option.{option_map}
 use Rattle.gh_base.specs.declared.place.Span.{Span}
 use Rattle.gh_ast.specs.declared.Occ.{Occ}
 use Rattle.gh_ast.specs.declared.Cond.{Cond}
 use Rattle.gh_ast.specs.declared.Assertion.{Assertion}
 use Rattle.gh_ast.specs.declared.Stmt.{Stmt}
-use Rattle.gh_ast.specs.Plain.{test_of, tests_view, formula_of, formulas_view, statement_of, statements_view, Procedure}
+use Rattle.gh_ast.specs.declared.Body.{Body}
+use Rattle.gh_ast.specs.declared.Procedure as whole
+use Rattle.gh_ast.specs.Plain.{test_of, tests_view, formula_of, formulas_view, statement_of, statements_view, Procedure, procedure_of, inside_of}
 use Rattle.gh_ast.specs.Occurrences.{in_test, in_tests, in_formula, in_formulas, sites_in, all_sites_in}
-use Rattle.gh_ast.specs.Rules.{RepeatedAt, HasName, GoesFirst, Before, IsFirstError}
+use Rattle.gh_ast.specs.Rules.{NoBody, RepeatedAt, HasName, GoesFirst, Before, IsFirstError}
 use Rattle.gh_types.specs.declared.fault.Fault.{Fault}
 use Rattle.gh_types.specs.Checks.{ParameterErrors, TargetErrors}
 use Rattle.gh_types.specs.Faults.{FaultGoesFirst, IsFirstOf, IsFirstIn, IsEarlier}
@@ -214,3 +217,18 @@ first_target q t r h =
   where
     not_repeated : (s : Span) → RepeatedAt (t ∷ []) s → ⊥
     not_repeated s b = any_none (λ o. o.name ≡ b.here.name) (let first : b.place ≡ 0 = omega (arith, b.within) in subst (λ (k : ℕ). HasName (take k (t ∷ [])) b.here.name) first b.earlier)
+
+-- a body that isn't there
+pub first_no_body : (p : whole.Procedure) (there : Bool) (r : Option Fault) → there ≡ is_some p.body
+    → IsFirstOf (λ n s. (there ≡ false) × (n ≡ 11) × (p.close ≡ s)) r → IsFirstOf (λ n s. (n ≡ 11) × NoBody (procedure_of p) s) r
+first_no_body p there r e h = first_same _ _ r
+  (λ n s (a, b, c). (b, (c, none p.body (sym e ∙ a))))
+  (λ n s (b, (c, d)). (e ∙ some p.body d, b, c))
+  h
+  where
+    none : (o : Option Body) → is_some o ≡ false → option_map inside_of o ≡ None
+    none None a = refl
+    none (Some x) a = cc
+    some : (o : Option Body) → option_map inside_of o ≡ None → is_some o ≡ false
+    some None a = refl
+    some (Some x) a = cc

@@ -216,3 +216,7 @@ pub meant_got : (ps : List Procedure) (name : List ℕ) (k : ℕ) (o : Option (B
     → MatchOption o (Any (λ r. r.name.name ≡ name) (map procedure_of ps) → ⊥) (λ r. Means (map procedure_of ps) name (procedure_of r.now))
 meant_got ps name k None h got some = let no : is_some {T = Bor Procedure} None ≡ true = some (rw length-map at h.within) in cc
 meant_got ps name k (Some x) h got some = meant_there ps name k x.now h got
+
+pub map_twice : {X Y Z : Type 0} (f : X → Y) (g : Y → Z) (xs : List X) → map g (map f xs) ≡ map (λ x. g (f x)) xs
+map_twice f g [] = refl
+map_twice f g (x ∷ xs) = ap (λ ys. g (f x) ∷ ys) (map_twice f g xs)

@@ -14,7 +14,7 @@ use gh_ast::{Expr, Occ, Stmt};
 use gh_base::place::Span;
 use std::alloc::{AllocError, Global};
 
-impl<'a> Scope<'a> {
+impl<'a, 'n> Scope<'a, 'n> {
     /// The error of a target that is a parameter.
     fn in_target(&self, target: &Occ) -> Option<Fault>
         ensures { IsFirstOf (ParameterErrors (procedure_of self.now.own.now) target.now) result }

@@ -3,6 +3,8 @@
 
 mod body;
 mod fault;
+mod fields;
 mod names;
+mod procedures;
 mod occurrences;
 mod scope;

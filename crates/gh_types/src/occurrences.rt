@@ -9,7 +9,7 @@ use crate::fault::{earlier, Fault};
 use crate::scope::{Scope, Setting};
 use gh_ast::{Assertion, Cond, Expr, Operand};
 
-impl<'a> Scope<'a> {
+impl<'a, 'n> Scope<'a, 'n> {
     /// The first error in an operand.
     fn in_operand(&self, setting: Setting, operand: &Operand) -> Option<Fault>
         ensures { IsFirstIn (OccurrenceErrors (procedure_of self.now.own.now) setting) (in_operand operand.now) result }

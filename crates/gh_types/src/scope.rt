@@ -23,10 +23,10 @@ pub enum Setting {
 
 /// The procedures of a program, the one whose text is checked, and its variables.
 #[derive(Drop)]
-pub struct Scope<'a> {
+pub struct Scope<'a, 'n> {
     pub procedures: &'a [Procedure],
     pub own: &'a Procedure,
-    firsts: &'a Names<'a>,
+    firsts: &'n Names<'a>,
     parameters: Names<'a>,
     results: Names<'a>,
     locals: Names<'a>,
@@ -36,16 +36,16 @@ pub struct Scope<'a> {
     ghost locals_are: { IsTableOf (map (λ o. o.name) (locals_of (procedure_of own.now))) locals.places },
 }
 
-impl<'a> Scope<'a> {
+impl<'a, 'n> Scope<'a, 'n> {
     ghost use Rattle.std.specs.Prelude.{IfOk};
 
     /// The scope of a procedure. `firsts` has the names of all procedures.
     pub fn new(
         alloc: Global,
         procedures: &'a [Procedure],
-        firsts: &'a Names<'a>,
+        firsts: &'n Names<'a>,
         own: &'a Procedure,
-    ) -> Result<Scope<'a>, AllocError>
+    ) -> Result<Scope<'a, 'n>, AllocError>
         requires { IsTableOf (map (λ p. p.name.name) procedures.now) firsts.now.places }
         ensures { IfOk result (λ s. (s.procedures.now ≡ procedures.now) × (s.own.now ≡ own.now)) }
     {
