@@ -89,8 +89,8 @@ abbrev pub NoBody : Procedure → Span → Type 0
 NoBody q s = (q.close ≡ s) × (q.body ≡ None)
 
 -- 12: the last brace of a struct without its link
-abbrev pub NoLink : Program → Span → Type 0
-NoLink p s = (p.close ≡ s) × (Any IsLink p.fields → ⊥)
+abbrev pub NoLink : List Field → Span → Span → Type 0
+NoLink fs close s = (close ≡ s) × (Any IsLink fs → ⊥)
 
 -- a rule on procedures is broken in some procedure
 abbrev pub InSome : Program → (Procedure → Span → Type 0) → Span → Type 0
@@ -113,7 +113,7 @@ pub data Broken (p : Program) (number : ℕ) (s : Span) : Type 0 where
   name_out_of_contract : number ≡ 9 → InSome p NameOutOfContract s → Broken p number s
   repeated_result : number ≡ 10 → AtSome p RepeatedResult s → Broken p number s
   no_body : number ≡ 11 → InSome p NoBody s → Broken p number s
-  no_link : number ≡ 12 → NoLink p s → Broken p number s
+  no_link : number ≡ 12 → NoLink p.fields p.close s → Broken p number s
 
 -- no rule is broken anywhere
 abbrev pub IsTyped : Program → Type 0

@@ -62,8 +62,12 @@ FieldErrors f linked n s =
     ((n ≡ 7) × (f.name.span ≡ s) × (f.kind ≡ codes "Node") × ((f.name.name ≢ codes "next") ⊎ (linked ≡ true)))
     ⊎ ((n ≡ 8) × (f.name.span ≡ s) × (f.kind ≢ codes "Node"))
 
+-- the errors of a struct: of its fields, and that it lacks the link
+abbrev pub StructErrors : List Field → Span → ℕ → Span → Type 0
+StructErrors fs close n s = FieldsErrors fs n s ⊎ ((n ≡ 12) × NoLink fs close s)
+
 -- the errors of a program: of its struct, the names of its procedures, and each procedure
 abbrev pub ProgramErrors : Program → ℕ → Span → Type 0
 ProgramErrors p n s =
-    (FieldsErrors p.fields n s ⊎ ((n ≡ 12) × NoLink p s))
+    StructErrors p.fields p.close n s
     ⊎ (RepeatErrors 2 (map (λ q. q.name) p.procedures) n s ⊎ Any (λ q. ProcedureErrors p.procedures q n s) p.procedures)

@@ -2,12 +2,13 @@
 
 ghost use Rattle.std.specs.Prelude.{◌≡◌, ◌⊎◌, ◌↔◌, IsTrue, codes};
 ghost use Rattle.gh_ast.specs.Rules.{IsLink};
-ghost use Rattle.gh_types.specs.Checks.{FieldErrors, FieldsErrors};
+ghost use Rattle.gh_types.specs.Checks.{FieldErrors, StructErrors};
 ghost use Rattle.gh_types.specs.Faults.{IsFirstOf};
 
 use crate::fault::{Fault, earlier};
 use gh_ast::Field;
 use gh_base::name::Name;
+use gh_base::place::Span;
 
 /// Whether a name is that of the link's field.
 fn is_next(name: &Name) -> bool
@@ -40,4 +41,17 @@ fn in_field(field: &Field, linked: bool) -> Option<Fault>
         Fault::unless(fine, 7, field.name.span),
         Fault::unless(node, 8, field.name.span),
     )
+}
+
+/// The first error of the struct: in its fields, or that it lacks its link.
+pub fn in_struct(fields: &[Field], close: Span) -> Option<Fault>
+    ensures { IsFirstOf (StructErrors fields.now close) result }
+{
+    let mut linked = false;
+    let mut first = None;
+    for field in fields {
+        first = earlier(first, in_field(field, linked));
+        linked |= is_link(field);
+    }
+    earlier(first, Fault::unless(linked, 12, close))
 }

@@ -2,6 +2,7 @@
 #![tactic(auto)]
 
 mod body;
+mod counts;
 mod fault;
 mod fields;
 mod names;
