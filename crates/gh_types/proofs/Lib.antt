@@ -1,3 +1,4 @@
 pub mod FirstLemmas
 pub mod TableLemmas
 pub mod FieldLemmas
+pub mod LimitLemmas

@@ -5,6 +5,7 @@ mod body;
 mod counts;
 mod fault;
 mod fields;
+mod limits;
 mod names;
 mod procedures;
 mod occurrences;
