@@ -2,3 +2,4 @@ pub mod FirstLemmas
 pub mod TableLemmas
 pub mod FieldLemmas
 pub mod LimitLemmas
+pub mod BrokenLemmas

@@ -2,6 +2,7 @@
 #![tactic(auto)]
 
 mod body;
+pub mod check;
 mod counts;
 mod fault;
 mod fields;
