@@ -6,3 +6,4 @@ pub mod TypedPrograms
 pub mod Clearing
 pub mod Words
 pub mod TokenLemmas
+pub mod PlainLemmas

@@ -23,7 +23,7 @@ abbrev mutual
   -- `emp`, cells, segments, points-to and comparisons, those in tests of cases included
   pub atoms : Formula → ℕ
   atoms (star fs) = all_atoms fs
-  atoms (cases t a b) = test_atoms t + atoms a + atoms b
+  atoms (cases t a b) = test_atoms t + (atoms a + atoms b)
   atoms _ = 1
 
   pub all_atoms : Formulas → ℕ
@@ -58,46 +58,52 @@ HasManyAtoms f = 32 < atoms f
 abbrev pub HasManyAtomsSomewhere : Procedure → Type 0
 HasManyAtomsSomewhere q = Any HasManyAtoms (assertions_of q)
 
+abbrev pub AreFew : Program → Type 0
+AreFew p = length p.procedures ≤ 256
+
+abbrev pub HaveFewVariables : Program → Type 0
+HaveFewVariables p = All (λ q. length (variables_of q) ≤ 32) p.procedures
+
+abbrev pub HaveFewAtoms : Program → Type 0
+HaveFewAtoms p = All (λ q. All (λ f. atoms f ≤ 32) (assertions_of q)) p.procedures
+
 -- each quantity is at most its limit
 pub record KeepsLimits (p : Program) : Type 0 where
-  pub procedures : length p.procedures ≤ 256
-  pub variables : All (λ q. length (variables_of q) ≤ 32) p.procedures
-  pub atoms : All (λ q. All (λ f. atoms f ≤ 32) (assertions_of q)) p.procedures
+  pub procedures : AreFew p
+  pub variables : HaveFewVariables p
+  pub atoms : HaveFewAtoms p
 
 -- a number as it is reported: the greatest number of 32 bits stands for each greater one
 abbrev pub reported : ℕ → ℕ
 reported n = min n 4294967295
 
 -- more than 256 procedures: the place is the 257th name
-pub record ProceduresPassed (p : Program) (l : Limit) : Type 0 where
+pub record ProceduresPassed (ps : List Procedure) (l : Limit) : Type 0 where
   pub kind : l.kind ≡ 1
-  pub passed : 256 < length p.procedures
-  pub span : HoldsAt (λ q. q.name.span ≡ l.span) p.procedures 256
-  pub count : l.count ≡ reported (length p.procedures)
+  pub passed : 256 < length ps
+  pub span : HoldsAt (λ q. q.name.span ≡ l.span) ps 256
+  pub count : l.count ≡ reported (length ps)
 
 -- the first procedure with more than 32 variables
-pub record VariablesPassed (p : Program) (l : Limit) : Type 0 where
+pub record VariablesPassed (ps : List Procedure) (l : Limit) : Type 0 where
   pub kind : l.kind ≡ 2
-  pub procedures : length p.procedures ≤ 256
   pub procedure : Procedure
-  pub first : IsFirstWith HasManyVariables p.procedures procedure
+  pub first : IsFirstWith HasManyVariables ps procedure
   pub span : procedure.name.span ≡ l.span
   pub count : l.count ≡ reported (length (variables_of procedure))
 
 -- the first procedure with an assertion of more than 32 atoms, and its first such assertion
-pub record AtomsPassed (p : Program) (l : Limit) : Type 0 where
+pub record AtomsPassed (ps : List Procedure) (l : Limit) : Type 0 where
   pub kind : l.kind ≡ 3
-  pub procedures : length p.procedures ≤ 256
-  pub variables : All (λ q. length (variables_of q) ≤ 32) p.procedures
   pub procedure : Procedure
   pub assertion : Formula
-  pub first : IsFirstWith HasManyAtomsSomewhere p.procedures procedure
+  pub first : IsFirstWith HasManyAtomsSomewhere ps procedure
   pub first_there : IsFirstWith HasManyAtoms (assertions_of procedure) assertion
   pub span : procedure.name.span ≡ l.span
   pub count : l.count ≡ reported (atoms assertion)
 
 -- the limit that is answered: procedures before variables, and variables before atoms, over the whole program
 pub data IsLimit (p : Program) (l : Limit) : Type 0 where
-  procedures : ProceduresPassed p l → IsLimit p l
-  variables : VariablesPassed p l → IsLimit p l
-  atoms_of_one : AtomsPassed p l → IsLimit p l
+  of_procedures : ProceduresPassed p.procedures l → IsLimit p l
+  of_variables : AreFew p → VariablesPassed p.procedures l → IsLimit p l
+  of_atoms : AreFew p → HaveFewVariables p → AtomsPassed p.procedures l → IsLimit p l

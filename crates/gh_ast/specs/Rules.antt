@@ -21,8 +21,8 @@ pub record RepeatedAt (os : List Occ) (s : Span) : Type 0 where
   pub span : here.span ≡ s
 
 -- a name in a call means the first procedure that has it
-abbrev pub Means : Program → List ℕ → Procedure → Type 0
-Means p name q = IsFirstWith (λ r. r.name.name ≡ name) p.procedures q
+abbrev pub Means : List Procedure → List ℕ → Procedure → Type 0
+Means ps name q = IsFirstWith (λ r. r.name.name ≡ name) ps q
 
 -- 1: an occurrence of a variable that names no variable of the procedure
 abbrev pub UnknownName : Procedure → Site → Span → Type 0
@@ -39,11 +39,11 @@ AssignToParameter q (assigned ts) s = Any (λ t. (t.span ≡ s) × HasName q.par
 AssignToParameter q _ s = ⊥
 
 -- 4: a call whose arguments or targets, or a return whose values, aren't as many as they should be
-abbrev pub WrongCount : Program → Procedure → Site → Span → Type 0
-WrongCount p q (called ts c es) s =
-    (c.span ≡ s) × ((r : Procedure) × Means p c.name r × ((length es ≢ length r.parameters) ⊎ (length ts ≢ length r.results)))
-WrongCount p q (returned inside w es) s = (w ≡ s) × (length es ≢ length q.results)
-WrongCount p q _ s = ⊥
+abbrev pub WrongCount : List Procedure → Procedure → Site → Span → Type 0
+WrongCount ps q (called ts c es) s =
+    (c.span ≡ s) × ((r : Procedure) × Means ps c.name r × ((length es ≢ length r.parameters) ⊎ (length ts ≢ length r.results)))
+WrongCount ps q (returned inside w es) s = (w ≡ s) × (length es ≢ length q.results)
+WrongCount ps q _ s = ⊥
 
 -- 5: a return inside a loop's body
 abbrev pub ReturnInLoop : Procedure → Site → Span → Type 0
@@ -51,27 +51,27 @@ ReturnInLoop q (returned true w es) s = w ≡ s
 ReturnInLoop q _ s = ⊥
 
 -- 6: a callee's name that no procedure has
-abbrev pub UnknownProcedure : Program → Procedure → Site → Span → Type 0
-UnknownProcedure p q (called ts c es) s = (c.span ≡ s) × (Any (λ r. r.name.name ≡ c.name) p.procedures → ⊥)
-UnknownProcedure p q _ s = ⊥
+abbrev pub UnknownProcedure : List Procedure → Procedure → Site → Span → Type 0
+UnknownProcedure ps q (called ts c es) s = (c.span ≡ s) × (Any (λ r. r.name.name ≡ c.name) ps → ⊥)
+UnknownProcedure ps q _ s = ⊥
 
 -- the one field that is allowed: `next`, of type `Node`
 abbrev pub IsLink : Field → Type 0
 IsLink f = (f.name.name ≡ codes "next") × (f.kind ≡ codes "Node")
 
 -- 7: a field of type `Node` that isn't `next`, or that is a later `next`
-pub record SecondLink (p : Program) (s : Span) : Type 0 where
+pub record SecondLink (fs : List Field) (s : Span) : Type 0 where
   pub here : Field
   pub place : ℕ
-  pub within : place < length p.fields
-  pub element : slice_index_or p.fields place here ≡ here
+  pub within : place < length fs
+  pub element : slice_index_or fs place here ≡ here
   pub kind : here.kind ≡ codes "Node"
-  pub second : (here.name.name ≢ codes "next") ⊎ Any IsLink (take place p.fields)
+  pub second : (here.name.name ≢ codes "next") ⊎ Any IsLink (take place fs)
   pub span : here.name.span ≡ s
 
 -- 8: a field of another type
-abbrev pub DataField : Program → Span → Type 0
-DataField p s = Any (λ f. (f.name.span ≡ s) × (f.kind ≢ codes "Node")) p.fields
+abbrev pub DataField : List Field → Span → Type 0
+DataField fs s = Any (λ f. (f.name.span ≡ s) × (f.kind ≢ codes "Node")) fs
 
 -- 9: in what a procedure requires, a result or a local; in what it ensures, a local
 abbrev pub NameOutOfContract : Procedure → Span → Type 0
@@ -89,8 +89,8 @@ abbrev pub NoBody : Procedure → Span → Type 0
 NoBody q s = (q.close ≡ s) × (q.body ≡ None)
 
 -- 12: the last brace of a struct without its link
-abbrev pub NoLink : Program → Span → Type 0
-NoLink p s = (p.close ≡ s) × (Any IsLink p.fields → ⊥)
+abbrev pub NoLink : List Field → Span → Span → Type 0
+NoLink fs close s = (close ≡ s) × (Any IsLink fs → ⊥)
 
 -- a rule on procedures is broken in some procedure
 abbrev pub InSome : Program → (Procedure → Span → Type 0) → Span → Type 0
@@ -105,15 +105,15 @@ pub data Broken (p : Program) (number : ℕ) (s : Span) : Type 0 where
   unknown_name : number ≡ 1 → AtSome p UnknownName s → Broken p number s
   duplicate_name : number ≡ 2 → DuplicateName p s → Broken p number s
   assign_to_parameter : number ≡ 3 → AtSome p AssignToParameter s → Broken p number s
-  wrong_count : number ≡ 4 → AtSome p (WrongCount p) s → Broken p number s
+  wrong_count : number ≡ 4 → AtSome p (WrongCount p.procedures) s → Broken p number s
   return_in_loop : number ≡ 5 → AtSome p ReturnInLoop s → Broken p number s
-  unknown_procedure : number ≡ 6 → AtSome p (UnknownProcedure p) s → Broken p number s
-  second_link : number ≡ 7 → SecondLink p s → Broken p number s
-  data_field : number ≡ 8 → DataField p s → Broken p number s
+  unknown_procedure : number ≡ 6 → AtSome p (UnknownProcedure p.procedures) s → Broken p number s
+  second_link : number ≡ 7 → SecondLink p.fields s → Broken p number s
+  data_field : number ≡ 8 → DataField p.fields s → Broken p number s
   name_out_of_contract : number ≡ 9 → InSome p NameOutOfContract s → Broken p number s
   repeated_result : number ≡ 10 → AtSome p RepeatedResult s → Broken p number s
   no_body : number ≡ 11 → InSome p NoBody s → Broken p number s
-  no_link : number ≡ 12 → NoLink p s → Broken p number s
+  no_link : number ≡ 12 → NoLink p.fields p.close s → Broken p number s
 
 -- no rule is broken anywhere
 abbrev pub IsTyped : Program → Type 0
@@ -127,7 +127,11 @@ Before s t = (s.line < t.line) ⊎ ((s.line ≡ t.line) × (s.col < t.col))
 abbrev pub GoesFirst : ℕ → Span → ℕ → Span → Type 0
 GoesFirst m s n t = Before s t ⊎ ((s ≡ t) × (m ≤ n))
 
--- the first of all errors: by place, and at one place by number
-pub record IsFirstBroken (p : Program) (number : ℕ) (s : Span) : Type 0 where
-  pub broken : Broken p number s
-  pub first : (n : ℕ) (t : Span) → Broken p n t → GoesFirst number s n t
+-- the first of some errors: by place, and at one place by number
+pub record IsFirstError (E : ℕ → Span → Type 0) (number : ℕ) (s : Span) : Type 0 where
+  pub here : E number s
+  pub first : (n : ℕ) (t : Span) → E n t → GoesFirst number s n t
+
+-- the first of all errors of a program
+abbrev pub IsFirstBroken : Program → ℕ → Span → Type 0
+IsFirstBroken p number s = IsFirstError (Broken p) number s

@@ -1,1 +1,6 @@
 pub mod Checking
+pub mod Causes
+pub mod Checks
+pub mod Faults
+pub mod LimitChecks
+pub mod Tables

@@ -1,4 +1,13 @@
-//! The type check.
+//! The type check of a program, and the limits on its text.
 #![tactic(auto)]
 
+mod body;
 pub mod check;
+mod counts;
+mod fault;
+mod fields;
+mod limits;
+mod names;
+mod procedures;
+mod occurrences;
+mod scope;

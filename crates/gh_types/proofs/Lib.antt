@@ -1,0 +1,5 @@
+pub mod FirstLemmas
+pub mod TableLemmas
+pub mod FieldLemmas
+pub mod LimitLemmas
+pub mod BrokenLemmas

@@ -1,0 +1,134 @@
+-- Searches for a passed limit, part by part.
+use Rattle.std.proofs.Common.{◌≡◌, ℕ, zero, suc, ◌+◌, ◌-◌, ◌<◌, ◌≤◌, ◌⊎◌, inl, inr, List, [], ◌∷◌, ◌++◌, length, take, drop, get_or, map, length-append, append_assoc, refl, sym, ◌∙◌, ap, subst, arith, add-one}
+use Rattle.std.proofs.lemmas.Bool.{cases_lt}
+use Rattle.std.proofs.lemmas.List.{take_all, take_more, length-map, get_or_append_left, get_or-append-add, get_or_default}
+use Rattle.std.specs.Prelude.{Option, None, Some, All, Any}
+use Rattle.std.specs.List.{flat_map}
+use Rattle.gh_ast.specs.declared.Stmt.{Stmt}
+use Rattle.gh_ast.specs.declared.Block.{Block}
+use Rattle.gh_ast.proofs.PlainLemmas.{part_of-statements}
+use Rattle.gh_ast.specs.declared.Procedure as whole
+use Rattle.gh_ast.specs.Plain.{Formula, Procedure, procedure_of, statement_of, statements_view, part_of}
+use Rattle.gh_ast.specs.Limits.{atoms, reported, invariants_in, all_invariants_in, HasManyAtoms}
+use Rattle.gh_ast.specs.Lists.{IsFirstWith}
+use Rattle.gh_types.specs.LimitChecks.{IsFirstLong, FindsLong}
+use Rattle.gh_types.proofs.FirstLemmas.{turn}
+
+-- the first with a property, in a front and in a back
+with_left : {X : Type 0} (P : X → Type 0) (xs ys : List X) (x : X) → IsFirstWith P xs x → IsFirstWith P (xs ++ ys) x
+with_left P xs ys x h = record {
+  place = h.place;
+  within = omega (arith, h.within, length-append xs ys);
+  element = get_or_append_left xs ys x h.place h.within ∙ h.element;
+  holds = h.holds;
+  earlier = λ j d l p. h.earlier j d l (subst P (get_or_append_left xs ys d j (omega (arith, h.within))) p);
+}
+
+with_right : {X : Type 0} (P : X → Type 0) (xs ys : List X) (y : X) → ((j : ℕ) (d : X) → j < length xs → P (get_or xs j d) → ⊥) → IsFirstWith P ys y → IsFirstWith P (xs ++ ys) y
+with_right P xs ys y none h = record {
+  place = length xs + h.place;
+  within = omega (arith, h.within, length-append xs ys);
+  element = get_or-append-add xs ys h.place y ∙ h.element;
+  holds = h.holds;
+  earlier = λ j d l p. elim (cases_lt j (length xs)) [
+    | inl a ↦ none j d a (subst P (get_or_append_left xs ys d j a) p)
+    | inr b ↦
+        let same : j ≡ length xs + (j - length xs) = omega arith in
+        h.earlier (j - length xs) d (omega arith) (subst P (ap (λ k. get_or (xs ++ ys) k d) same ∙ get_or-append-add xs ys (j - length xs) d) p)
+  ];
+}
+
+-- a search in a front and in a back
+pub finds_left : (xs ys : List Formula) (c : ℕ) → FindsLong xs (Some c) → FindsLong (xs ++ ys) (Some c)
+finds_left xs ys c h = record { says = record { assertion = h.says.assertion; first = with_left HasManyAtoms xs ys h.says.assertion h.says.first; count = h.says.count } }
+
+pub finds_right : (xs ys : List Formula) (found : Option ℕ) → FindsLong xs None → FindsLong ys found → FindsLong (xs ++ ys) found
+finds_right xs ys None h g = record { says = λ j d l. elim (cases_lt j (length xs)) [
+  | inl a ↦ subst (λ (f : Formula). atoms f ≤ 32) (sym (get_or_append_left xs ys d j a)) (h.says j d a)
+  | inr b ↦
+      let same : j ≡ length xs + (j - length xs) = omega arith in
+      let there : get_or (xs ++ ys) j d ≡ get_or ys (j - length xs) d = ap (λ k. get_or (xs ++ ys) k d) same ∙ get_or-append-add xs ys (j - length xs) d in
+      subst (λ (f : Formula). atoms f ≤ 32) (sym there) (g.says (j - length xs) d (omega (arith, length-append xs ys)))
+] }
+finds_right xs ys (Some c) h g = record {
+  says = record {
+    assertion = g.says.assertion;
+    first = with_right HasManyAtoms xs ys g.says.assertion (λ j d l p. omega (arith, h.says j d l)) g.says.first;
+    count = g.says.count;
+  };
+}
+
+pub finds_none : FindsLong [] None
+finds_none = record { says = λ j d l. absurd (omega arith) }
+
+-- lists of statements
+pub invariants_flat : (ss : List Stmt) → all_invariants_in (statements_view ss) ≡ flat_map (λ s. invariants_in (statement_of s)) ss
+invariants_flat [] = refl
+invariants_flat (s ∷ ss) = ap (λ r. invariants_in (statement_of s) ++ r) (invariants_flat ss)
+
+split_suc : {X Y : Type 0} (f : X → List Y) (xs : List X) (k : ℕ) (x : X) → k < length xs → x ≡ get_or xs k x → flat_map f xs ≡ flat_map f (take k xs) ++ (f x ++ flat_map f (drop (suc k) xs))
+split_suc f [] k x h e = absurd (omega arith)
+split_suc f (y ∷ xs) zero x h e = rw e refl
+split_suc f (y ∷ xs) (suc k) x h e = ap (λ r. f y ++ r) (split_suc f xs k x (omega arith) e) ∙ sym (append_assoc (f y) (flat_map f (take k xs)) (f x ++ flat_map f (drop (suc k) xs)))
+
+pub finds_here : (f : Stmt → List Formula) (ss : List Stmt) (k : ℕ) (s : Stmt) (c : ℕ) → k < length ss → s ≡ get_or ss k s
+    → FindsLong (flat_map f (take k ss)) None → FindsLong (f s) (Some c) → FindsLong (flat_map f ss) (Some c)
+finds_here f ss k s c h e none here =
+    rw (split_suc f ss k s h e)
+    (finds_right (flat_map f (take k ss)) (f s ++ flat_map f (drop (suc k) ss)) (Some c) none (finds_left (f s) (flat_map f (drop (suc k) ss)) c here))
+
+pub finds_more : (f : Stmt → List Formula) (ss : List Stmt) (k : ℕ) (s : Stmt) → k < length ss → s ≡ get_or ss k s
+    → FindsLong (flat_map f (take k ss)) None → FindsLong (f s) None → FindsLong (flat_map f (take (k + 1) ss)) None
+finds_more f ss k s h e none here = rw (turn f ss k s h e) (finds_right (flat_map f (take k ss)) (f s) None none here)
+
+pub finds_all : (f : Stmt → List Formula) (ss : List Stmt) (k : ℕ) → length ss ≤ k → FindsLong (flat_map f (take k ss)) None → FindsLong (flat_map f ss) None
+finds_all f ss k h none = subst (λ (xs : List Stmt). FindsLong (flat_map f xs) None) (take_all k ss h) none
+
+pub long_one : (f : Formula) (c : ℕ) → c ≡ reported (atoms f) → 32 < c → FindsLong (f ∷ []) (Some c)
+long_one f c e h = record {
+  says = record {
+    assertion = f;
+    first = record { place = 0; within = omega arith; element = refl; holds = omega arith; earlier = λ j d l _. omega arith };
+    count = e;
+  };
+}
+
+-- a walk over procedures in their plain forms
+map_here : {X Y : Type 0} (f : X → Y) (xs : List X) (k : ℕ) (x : X) (d : Y) → k < length xs → x ≡ get_or xs k x → get_or (map f xs) k d ≡ f x
+map_here f [] k x d h e = absurd (omega arith)
+map_here f (y ∷ xs) zero x d h e = ap f (sym e)
+map_here f (y ∷ xs) (suc k) x d h e = map_here f xs k x d (omega arith) e
+
+pub first_there : (P : Procedure → Type 0) (ps : List whole.Procedure) (k : ℕ) (p : whole.Procedure) → k < length ps → p ≡ get_or ps k p
+    → P (procedure_of p) → ((j : ℕ) (d : Procedure) → j < k → P (get_or (map procedure_of ps) j d) → ⊥) → IsFirstWith P (map procedure_of ps) (procedure_of p)
+first_there P ps k p h e here before = record {
+  place = k;
+  within = rw length-map h;
+  element = map_here procedure_of ps k p (procedure_of p) h e;
+  holds = here;
+  earlier = before;
+}
+
+-- each so far, and one more
+pub all_more : (Q : Procedure → Type 0) (ps : List whole.Procedure) (k : ℕ) (p : whole.Procedure) → k < length ps → p ≡ get_or ps k p
+    → ((j : ℕ) (d : Procedure) → j < k → Q (get_or (map procedure_of ps) j d)) → Q (procedure_of p) → (j : ℕ) (d : Procedure) → j < k + 1 → Q (get_or (map procedure_of ps) j d)
+all_more Q ps k p h e before here j d l = elim (cases_lt j k) [
+  | inl a ↦ before j d a
+  | inr b ↦
+      let same : k ≡ j = omega arith in
+      subst (λ (i : ℕ). Q (get_or (map procedure_of ps) i d)) same (subst Q (sym (map_here procedure_of ps k p d h e)) here)
+]
+
+pub all_whole : (Q : Procedure → Type 0) (ps : List whole.Procedure) (k : ℕ) → length ps ≤ k → ((j : ℕ) (d : Procedure) → j < k → Q (get_or (map procedure_of ps) j d)) → All Q (map procedure_of ps)
+all_whole Q ps k h all j d l = let short : j < length ps = rw length-map at l in all j d (omega arith)
+
+-- an assertion that is too long, and none
+pub some_long : (fs : List Formula) (c : ℕ) → FindsLong fs (Some c) → Any HasManyAtoms fs
+some_long fs c h = (h.says.first.place, h.says.assertion, h.says.first.within, h.says.first.element, h.says.first.holds)
+
+pub none_long : (fs : List Formula) → All (λ f. atoms f ≤ 32) fs → Any HasManyAtoms fs → ⊥
+none_long fs all (k, f, l, e, p) = let few : atoms f ≤ 32 = subst (λ (g : Formula). atoms g ≤ 32) e (all k f l) in omega arith
+
+-- what is found in the statements of a block
+pub at_items : (ss : List Stmt) (b : Block) (found : Option ℕ) → ss ≡ b.statements.items → FindsLong (all_invariants_in (statements_view ss)) found → FindsLong (all_invariants_in (part_of b).statements) found
+at_items ss b found e h = rw (part_of-statements b) (subst (λ (xs : List Stmt). FindsLong (all_invariants_in (statements_view xs)) found) e h)

@@ -1,0 +1,80 @@
+// How many atoms and variables there are.
+
+ghost use Rattle.std.specs.Prelude.{◌≡◌, ◌^◌, ◌-◌, min, length};
+ghost use Rattle.gh_ast.specs.Plain.{formula_of, formulas_view, procedure_of, test_of, tests_view};
+ghost use Rattle.gh_ast.specs.Limits.{all_atoms, atoms, reported, test_atoms, tests_atoms};
+ghost use Rattle.gh_ast.specs.Occurrences.{variables_of};
+
+use crate::names::locals;
+use gh_ast::{Assertion, Cond, Procedure};
+
+/// A number as it is reported.
+pub fn reported(count: usize) -> u32
+    ensures { result ≡ reported count }
+{
+    u32::try_from(count).unwrap_or(u32::MAX)
+}
+
+/// How many variables a procedure has, as it is reported.
+pub fn count_variables(procedure: &Procedure) -> u32
+    ensures { result ≡ reported (length (variables_of (procedure_of procedure.now))) }
+{
+    let own = reported(procedure.parameters.len()).saturating_add(reported(procedure.results.len()));
+    own.saturating_add(reported(locals(procedure).len()))
+}
+
+/// How many atoms a test has, as it is reported.
+#[cycle(test_count)]
+fn count_in_test(test: &Cond) -> u32
+    ensures { result ≡ reported (test_atoms (test_of test.now)) }
+{
+    match test {
+        Cond::Compare { .. } => 1,
+        Cond::Not(inner) => count_in_test(inner),
+        Cond::And(members) => count_in_tests(members.as_slice()),
+        Cond::Or(members) => count_in_tests(members.as_slice()),
+    }
+}
+
+/// How many atoms some tests have together.
+#[cycle(test_count)]
+fn count_in_tests(tests: &[Cond]) -> u32
+    ensures { result ≡ reported (tests_atoms (tests_view tests.now)) }
+{
+    let mut sum = 0u32;
+    for test in tests {
+        sum = sum.saturating_add(count_in_test(test));
+    }
+    sum
+}
+
+/// How many atoms an assertion has, as it is reported.
+#[cycle(atom_count)]
+pub fn count_atoms(assertion: &Assertion) -> u32
+    ensures { result ≡ reported (atoms (formula_of assertion.now)) }
+{
+    match assertion {
+        Assertion::Star(members) => count_all_atoms(members.as_slice()),
+        Assertion::Cases { test, yes, no } => {
+            let branches = count_atoms(yes).saturating_add(count_atoms(no));
+            count_in_test(test).saturating_add(branches)
+        }
+        Assertion::Emp
+        | Assertion::Pure { .. }
+        | Assertion::PointsTo { .. }
+        | Assertion::Acc { .. }
+        | Assertion::Lseg { .. } => 1,
+    }
+}
+
+/// How many atoms some assertions have together.
+#[cycle(atom_count)]
+fn count_all_atoms(assertions: &[Assertion]) -> u32
+    ensures { result ≡ reported (all_atoms (formulas_view assertions.now)) }
+{
+    let mut sum = 0u32;
+    for assertion in assertions {
+        sum = sum.saturating_add(count_atoms(assertion));
+    }
+    sum
+}

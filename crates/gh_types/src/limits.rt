@@ -1,0 +1,142 @@
+// The limits on a text.
+
+ghost use Rattle.std.specs.Prelude.{◌≡◌, ◌≤◌, [], ◌∷◌, map, length, All, MatchOption};
+ghost use Rattle.gh_ast.specs.Plain.{formula_of, procedure_of, program_of, statement_of, statements_view};
+ghost use Rattle.gh_ast.specs.Limits.{assertions_of, atoms, invariants_in, all_invariants_in, invariants_in_body, AtomsPassed, IsLimit, KeepsLimits, ProceduresPassed, VariablesPassed};
+ghost use Rattle.gh_ast.specs.Occurrences.{variables_of};
+ghost use Rattle.gh_types.specs.LimitChecks.{FindsLong};
+
+use crate::counts::{count_atoms, count_variables, reported};
+use gh_ast::typed::Limit;
+use gh_ast::{Assertion, Procedure, Program, Stmt};
+
+/// The number of an assertion's atoms, where they are too many.
+fn long(assertion: &Assertion) -> Option<u32>
+    ensures { FindsLong (formula_of assertion.now ∷ []) result }
+{
+    let count = count_atoms(assertion);
+    if count > 32 { Some(count) } else { None }
+}
+
+/// The first too long invariant in a statement.
+#[cycle(long)]
+fn long_in_statement(statement: &Stmt) -> Option<u32>
+    ensures { FindsLong (invariants_in (statement_of statement.now)) result }
+{
+    match statement {
+        Stmt::If {
+            taken, otherwise, ..
+        } => {
+            if let Some(count) = long_in_statements(taken.statements.as_slice()) {
+                return Some(count);
+            }
+            long_in_statements(otherwise.statements.as_slice())
+        }
+        Stmt::While {
+            invariant, body, ..
+        } => {
+            if let Some(count) = long(invariant) {
+                return Some(count);
+            }
+            long_in_statements(body.statements.as_slice())
+        }
+        _ => None,
+    }
+}
+
+/// The first too long invariant in some statements.
+#[cycle(long)]
+fn long_in_statements(statements: &[Stmt]) -> Option<u32>
+    ensures { FindsLong (all_invariants_in (statements_view statements.now)) result }
+{
+    for statement in statements {
+        if let Some(count) = long_in_statement(statement) {
+            return Some(count);
+        }
+    }
+    None
+}
+
+/// The first too long invariant of a procedure.
+fn long_in_body(procedure: &Procedure) -> Option<u32>
+    ensures { FindsLong (invariants_in_body (procedure_of procedure.now).body) result }
+{
+    match &procedure.body {
+        Some(body) => long_in_statements(body.block.statements.as_slice()),
+        None => None,
+    }
+}
+
+/// The first too long assertion of a procedure.
+fn long_in_procedure(procedure: &Procedure) -> Option<u32>
+    ensures { FindsLong (assertions_of (procedure_of procedure.now)) result }
+{
+    if let Some(count) = long(&procedure.needs) {
+        return Some(count);
+    }
+    if let Some(count) = long(&procedure.gives) {
+        return Some(count);
+    }
+    long_in_body(procedure)
+}
+
+/// The limit on the number of procedures, where it is passed.
+fn procedures_limit(procedures: &[Procedure]) -> Option<Limit>
+    ensures { MatchOption result (length (map procedure_of procedures.now) ≤ 256) (ProceduresPassed (map procedure_of procedures.now)) }
+{
+    if procedures.len() <= 256 {
+        return None;
+    }
+    Some(Limit {
+        kind: 1,
+        span: procedures[256].name.span,
+        count: reported(procedures.len()),
+    })
+}
+
+/// The limit on the variables of a procedure, where it is passed.
+fn variables_limit(procedures: &[Procedure]) -> Option<Limit>
+    ensures { MatchOption result (All (λ q. length (variables_of q) ≤ 32) (map procedure_of procedures.now)) (VariablesPassed (map procedure_of procedures.now)) }
+{
+    for procedure in procedures {
+        let count = count_variables(procedure);
+        if count > 32 {
+            return Some(Limit {
+                kind: 2,
+                span: procedure.name.span,
+                count,
+            });
+        }
+    }
+    None
+}
+
+/// The limit on the atoms of an assertion, where it is passed.
+fn atoms_limit(procedures: &[Procedure]) -> Option<Limit>
+    ensures { MatchOption result (All (λ q. All (λ f. atoms f ≤ 32) (assertions_of q)) (map procedure_of procedures.now)) (AtomsPassed (map procedure_of procedures.now)) }
+{
+    for procedure in procedures {
+        if let Some(count) = long_in_procedure(procedure) {
+            return Some(Limit {
+                kind: 3,
+                span: procedure.name.span,
+                count,
+            });
+        }
+    }
+    None
+}
+
+/// The first limit on a text that a program passes.
+pub fn passed_limit(program: &Program) -> Option<Limit>
+    ensures { MatchOption result (KeepsLimits (program_of program.now)) (IsLimit (program_of program.now)) }
+{
+    let procedures = program.procedures.as_slice();
+    if let Some(limit) = procedures_limit(procedures) {
+        return Some(limit);
+    }
+    if let Some(limit) = variables_limit(procedures) {
+        return Some(limit);
+    }
+    atoms_limit(procedures)
+}

@@ -1,0 +1,108 @@
+// The occurrences of variables in expressions, tests and assertions.
+
+ghost use Rattle.gh_ast.specs.Plain.{procedure_of, test_of, tests_view, formula_of, formulas_view};
+ghost use Rattle.gh_ast.specs.Occurrences.{in_operand, in_expr, in_exprs, in_test, in_tests, in_formula, in_formulas};
+ghost use Rattle.gh_types.specs.Checks.{OccurrenceErrors};
+ghost use Rattle.gh_types.specs.Faults.{IsFirstIn};
+
+use crate::fault::{earlier, Fault};
+use crate::scope::{Scope, Setting};
+use gh_ast::{Assertion, Cond, Expr, Operand};
+
+impl<'a, 'n> Scope<'a, 'n> {
+    /// The first error in an operand.
+    fn in_operand(&self, setting: Setting, operand: &Operand) -> Option<Fault>
+        ensures { IsFirstIn (OccurrenceErrors (procedure_of self.now.own.now) setting) (in_operand operand.now) result }
+    {
+        match operand {
+            Operand::Null { .. } => None,
+            Operand::Var(occurrence) => self.in_occurrence(setting, occurrence),
+        }
+    }
+
+    /// The first error in an expression.
+    pub fn in_expr(&self, setting: Setting, expr: &Expr) -> Option<Fault>
+        ensures { IsFirstIn (OccurrenceErrors (procedure_of self.now.own.now) setting) (in_expr expr.now) result }
+    {
+        match expr {
+            Expr::Plain(operand) => self.in_operand(setting, operand),
+            Expr::Read(occurrence) => self.in_occurrence(setting, occurrence),
+        }
+    }
+
+    /// The first error in some expressions.
+    pub fn in_exprs(&self, setting: Setting, exprs: &[Expr]) -> Option<Fault>
+        ensures { IsFirstIn (OccurrenceErrors (procedure_of self.now.own.now) setting) (in_exprs exprs.now) result }
+    {
+        let mut first = None;
+        for expr in exprs {
+            first = earlier(first, self.in_expr(setting, expr));
+        }
+        first
+    }
+
+    /// The first error in a test.
+    #[cycle(test)]
+    pub fn in_test(&self, setting: Setting, test: &Cond) -> Option<Fault>
+        ensures { IsFirstIn (OccurrenceErrors (procedure_of self.now.own.now) setting) (in_test (test_of test.now)) result }
+    {
+        match test {
+            Cond::Compare { left, right, .. } => {
+                earlier(self.in_expr(setting, left), self.in_expr(setting, right))
+            }
+            Cond::Not(inner) => self.in_test(setting, inner),
+            Cond::And(members) => self.in_tests(setting, members.as_slice()),
+            Cond::Or(members) => self.in_tests(setting, members.as_slice()),
+        }
+    }
+
+    /// The first error in some tests.
+    #[cycle(test)]
+    fn in_tests(&self, setting: Setting, tests: &[Cond]) -> Option<Fault>
+        ensures { IsFirstIn (OccurrenceErrors (procedure_of self.now.own.now) setting) (in_tests (tests_view tests.now)) result }
+    {
+        let mut first = None;
+        for test in tests {
+            first = earlier(first, self.in_test(setting, test));
+        }
+        first
+    }
+
+    /// The first error in an assertion.
+    #[cycle(assertion)]
+    pub fn in_assertion(&self, setting: Setting, assertion: &Assertion) -> Option<Fault>
+        ensures { IsFirstIn (OccurrenceErrors (procedure_of self.now.own.now) setting) (in_formula (formula_of assertion.now)) result }
+    {
+        match assertion {
+            Assertion::Emp => None,
+            Assertion::Pure { left, right, .. } => {
+                earlier(self.in_operand(setting, left), self.in_operand(setting, right))
+            }
+            Assertion::PointsTo { at, to } => {
+                earlier(self.in_occurrence(setting, at), self.in_operand(setting, to))
+            }
+            Assertion::Acc { at } => self.in_occurrence(setting, at),
+            Assertion::Lseg { from, to } => {
+                earlier(self.in_operand(setting, from), self.in_operand(setting, to))
+            }
+            Assertion::Star(members) => self.in_assertions(setting, members.as_slice()),
+            Assertion::Cases { test, yes, no } => {
+                let branches =
+                    earlier(self.in_assertion(setting, yes), self.in_assertion(setting, no));
+                earlier(self.in_test(setting, test), branches)
+            }
+        }
+    }
+
+    /// The first error in some assertions.
+    #[cycle(assertion)]
+    fn in_assertions(&self, setting: Setting, assertions: &[Assertion]) -> Option<Fault>
+        ensures { IsFirstIn (OccurrenceErrors (procedure_of self.now.own.now) setting) (in_formulas (formulas_view assertions.now)) result }
+    {
+        let mut first = None;
+        for assertion in assertions {
+            first = earlier(first, self.in_assertion(setting, assertion));
+        }
+        first
+    }
+}
