@@ -1,1 +1,4 @@
 pub mod OneValue
+pub mod OneTest
+pub mod Shorter
+pub mod OneAssertion
