@@ -60,3 +60,12 @@ no_end {closing = closing} {P = P} {us = us} {vs = vs} {x = x} unique e s h y re
 pub between : {X : Type 0} {opening closing : Sign} {P : List Token → X → List Token → Type 0} {ts us vs rest : List Token} {p q : Span} {x : X}
     → ts ≡ sign opening p ∷ us → P us x vs → vs ≡ sign closing q ∷ rest → IsBetween opening closing P ts x rest
 between {P = P} {us = us} {p = p} {q = q} {x = x} e s f = record { first = p; last = q; inner = us; front = e; within = subst (λ z. P us x z) f s }
+
+pub one_between : {X : Type 0} {opening closing : Sign} {P : List Token → X → List Token → Type 0} → ((z : List Token) → IsUnique (P z)) → (ts : List Token)
+    → IsUnique (IsBetween opening closing P ts)
+one_between {closing = closing} {P = P} unique ts x y r q a b =
+    let e = a.front in let f = b.front in
+    let i : b.inner ≡ a.inner = cc in
+    let one = unique a.inner x y (sign closing a.last ∷ r) (sign closing b.last ∷ q) a.within (subst (λ z. P z y (sign closing b.last ∷ q)) i b.within) in
+    let w = one.rest in
+    record { value = one.value; rest = cc }
