@@ -281,21 +281,6 @@ bracketed_rest (ahead.Key k) i n m h = absurd (m k refl)
 bracketed_rest (ahead.Sign s) i n m h = let g = subst (λ z. IsRefused (IsBetween sg.ParenOpen sg.ParenClose SpellsAssertion z)) i.2 h in rw i.2 (sign_bracketed g)
 bracketed_rest ahead.End i n m h = rw i none_spelled
 
--- no item begins with another word
-no_operand_key : {k : Keyword} {p : Span} {ts rest : List Token} {x : Operand} → (k ≡ kw.Null → ⊥) → SpellsOperand (key k p ∷ ts) x rest → ⊥
-no_operand_key n null_operand = n refl
-
-word_spelled : {k : Keyword} {p : Span} {ts : List Token} → (k ≡ kw.Emp → ⊥) → (k ≡ kw.Acc → ⊥) → (k ≡ kw.Lseg → ⊥) → (k ≡ kw.If → ⊥) → (k ≡ kw.Null → ⊥) → IsRefused (SpellsItem (key k p ∷ ts))
-word_spelled a b c d e _ rest emp = a refl
-word_spelled a b c d e _ rest acc = b refl
-word_spelled a b c d e _ rest (lseg s t) = c refl
-word_spelled a b c d e _ rest (by_cases s t u) = d refl
-word_spelled a b c d e _ rest (same s t) = no_operand_key e s
-word_spelled a b c d e _ rest (different s t) = no_operand_key e s
-
-pub no_word : {k : Keyword} {ts : List Token} → HasKey k ts → (k ≡ kw.Emp → ⊥) → (k ≡ kw.Acc → ⊥) → (k ≡ kw.Lseg → ⊥) → (k ≡ kw.If → ⊥) → (k ≡ kw.Null → ⊥) → IsRefused (SpellsItem ts)
-no_word h a b c d e = rw h.2 (word_spelled a b c d e)
-
 -- items with `&*&` between them
 pub assertion_alone : {ts us vs : List Token} {t : Formula} → SpellsItem ts t us → NoSign sg.Star us → vs ≡ us → SpellsAssertion ts t vs
 assertion_alone {ts = ts} {t = t} a n e = subst (λ z. SpellsAssertion ts t z) (sym e) (one_item a n)

@@ -1,6 +1,8 @@
 //! The parser: from the bytes of a text to its syntax tree.
 #![tactic(auto)]
 
+#[cfg(test)]
+mod assertion_tests;
 pub mod assertions;
 pub mod conditions;
 pub mod cursor;
