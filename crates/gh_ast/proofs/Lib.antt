@@ -7,3 +7,7 @@ pub mod Clearing
 pub mod Words
 pub mod TokenLemmas
 pub mod PlainLemmas
+pub mod OneValue
+pub mod OneTest
+pub mod Shorter
+pub mod OneAssertion

@@ -2,3 +2,9 @@ pub mod Lexemes
 pub mod Tables
 pub mod Lexing
 pub mod Scanning
+pub mod AssertionExits
+pub mod Exits
+pub mod Folds
+pub mod Turns
+pub mod TestExits
+pub mod ValueExits

@@ -2,3 +2,4 @@ pub mod Views
 pub mod Scanning
 pub mod Lexing
 pub mod Parsing
+pub mod Answers

@@ -2,8 +2,8 @@ use Rattle.std.specs.Prelude.{◌≡◌, ℕ, List, ⊤}
 use Rattle.gh_ast.specs.Plain.{Program}
 use Rattle.gh_ast.specs.Tokens.{IsFirstByte, IsFirstDeep, place_of}
 use Rattle.gh_ast.specs.Grammar.{Spells}
-use Rattle.gh_parse.specs.declared.parse.ParseError.{ParseError}
-use Rattle.gh_parse.specs.declared.parse.ParseError.TheVariants.{Byte, Deep, Syntax, OutOfMemory}
+use Rattle.gh_parse.specs.declared.error.ParseError.{ParseError}
+use Rattle.gh_parse.specs.declared.error.ParseError.TheVariants.{Byte, Deep, Syntax, OutOfMemory}
 
 abbrev pub NoByte : List ℕ → Type 0
 NoByte text = (k : ℕ) → IsFirstByte text k → ⊥

@@ -1,9 +1,16 @@
 //! The parser: from the bytes of a text to its syntax tree.
 #![tactic(auto)]
 
+#[cfg(test)]
+mod assertion_tests;
+pub mod assertions;
+pub mod conditions;
+pub mod cursor;
+pub mod error;
 pub mod lexer;
 #[cfg(test)]
 mod lexer_tests;
+pub mod parse;
 pub mod scan;
 pub mod token;
-pub mod parse;
+pub mod values;

@@ -19,7 +19,8 @@ use crate::verdict::{Verdict, judge_all};
 use gh_ast::{Procedure, Program};
 use gh_ast::typed::Typed;
 use gh_base::text::Text;
-use gh_parse::parse::{ParseError, parse};
+use gh_parse::error::ParseError;
+use gh_parse::parse::parse;
 use gh_types::check::{CheckError, check};
 use std::alloc::{AllocError, Global};
 

@@ -1,4 +1,3 @@
-pub mod Checking
 pub mod Causes
 pub mod Checks
 pub mod Faults
