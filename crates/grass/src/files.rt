@@ -1,5 +1,7 @@
 //! Files as inputs.
 
+ghost use Rattle.std.specs.Prelude.{None};
+
 use gh_base::outside::{Failed, Inputs};
 use std::fs;
 use std::io::{ErrorKind, Read};

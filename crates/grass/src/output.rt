@@ -1,5 +1,7 @@
 //! A writer as the sink.
 
+ghost use Rattle.std.specs.Prelude.{None};
+
 use gh_base::outside::{Failed, Sink};
 use std::io::Write;
 
