@@ -1,0 +1,2 @@
+pub mod OneStatement
+pub mod OneProgram
