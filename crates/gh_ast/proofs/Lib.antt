@@ -1,2 +1,6 @@
 pub mod OneStatement
 pub mod OneProgram
+pub mod NoStatement
+pub mod NoCall
+pub mod Begun
+pub mod NoProgram

@@ -24,7 +24,7 @@ one_inside h ts r q x y (no_locals {c = c} {a = l} a) (no_locals {c = d} {a = m}
 one_inside h _ r q x y (some_locals {c = c} {ts = ts} {us = us} {xs = xs} {ys = ys} {a = l} a i) (some_locals {c = d} {us = us2} {xs = xs2} {ys = ys2} {a = l2} b j) =
     let w = one_locals ts us us2 xs xs2 a b in
     let v = one_inside h us r q (record { locals = ys; statements = l; close = c }) (record { locals = ys2; statements = l2; close = d }) i
-        (subst (λ z. SpellsInside z (record { locals = ys2; statements = l2; close = d }) q) (sym w.rest) j) in
+    (subst (λ z. SpellsInside z (record { locals = ys2; statements = l2; close = d }) q) (sym w.rest) j) in
     let e1 = w.same in
     let e2 : ys ≡ ys2 = ap (λ k. k.locals) v.same in let e3 : l ≡ l2 = ap (λ k. k.statements) v.same in let e4 : c ≡ d = ap (λ k. k.close) v.same in
     record { same = cc; rest = v.rest }

@@ -36,7 +36,7 @@ pub tail_one : {t u : Token} {r q : List Token} → t ∷ r ≡ u ∷ q → r �
 tail_one e = cc
 
 -- what follows `:=` in a call is no value
-no_call_value : (f : Occ) (p q : Span) (ts rest : List Token) (e : Expr) → SpellsExpr true (named f ∷ sign sg.ParenOpen p ∷ ts) e (sign sg.Semicolon q ∷ rest) → ⊥
+pub no_call_value : (f : Occ) (p q : Span) (ts rest : List Token) (e : Expr) → SpellsExpr true (named f ∷ sign sg.ParenOpen p ∷ ts) e (sign sg.Semicolon q ∷ rest) → ⊥
 no_call_value f p q ts rest e (plain a n) = elim a [ ]
 
 -- no statement begins with a sign
@@ -63,7 +63,6 @@ mutual
       let w = h.test true ts (sign sg.ParenClose p ∷ us) (sign sg.ParenClose p2 ∷ us2) t t2 k k2 in
       let v = one_block h us r q l l2 c d a (subst (λ z. SpellsBlock z l2 d q) (sym (tail_one w.rest)) b) in
       let st = w.same in let sl = v.same in let sc = v.close in record { same = cc; rest = v.rest }
-
   one_statement h _ r q x y (an_if_else {r = p} {s = o} {c = c} {d = d} {ts = ts} {us = us} {vs = vs} {t = t} {a = l} {b = l3} k1 a m) (an_if_else {r = p2} {s = o2} {c = c2} {d = d2} {us = us2} {vs = vs2} {t = t2} {a = l2} {b = l4} k2 b n) =
       let w = h.test true ts (sign sg.ParenClose p ∷ us) (sign sg.ParenClose p2 ∷ us2) t t2 k1 k2 in
       let v = one_block h us (key kw.Else o ∷ vs) (key kw.Else o2 ∷ vs2) l l2 c c2 a (subst (λ z. SpellsBlock z l2 c2 (key kw.Else o2 ∷ vs2)) (sym (tail_one w.rest)) b) in
