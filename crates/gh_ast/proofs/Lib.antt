@@ -4,3 +4,4 @@ pub mod NoStatement
 pub mod NoCall
 pub mod Begun
 pub mod NoProgram
+pub mod Shorter

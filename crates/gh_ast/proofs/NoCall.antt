@@ -39,7 +39,7 @@ pub set_no_callee : FirstHalf → (o : Occ) (p q : Span) (ts us : List Token) (e
     → Nothing (SpellsStatement (named o ∷ sign sg.Assign p ∷ ts))
 set_no_callee h o p q ts us e s n x rest (a_set {q = k} {e = f} a) = let w = (h.expr true ts (sign sg.ParenOpen q ∷ us) (sign sg.Semicolon k ∷ rest) e f s a).rest in cc
 set_no_callee h o p q _ us e (plain s m) n x rest a_new = elim s [ ]
-set_no_callee h o p q _ us e s n x rest (a_call {f = f} {p = k} {us = vs} last_target v) = n f (h.expr true _ _ _ e _ s (called f k vs)).same
+set_no_callee h o p q _ us e s n x rest (a_call {f = f} {p = k} {us = vs} last_target v) = n f (h.expr true _ _ _ e _ s (called f k vs)).value
 
 -- names, `:=` and a call
 pub call_no_values : (ts us : List Token) (xs : List Occ) (f : Occ) (p : Span) → SpellsTargets ts xs (named f ∷ sign sg.ParenOpen p ∷ us) → Nothing (SpellsValues sg.ParenClose us) → Nothing (SpellsStatement ts)
