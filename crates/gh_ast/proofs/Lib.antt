@@ -5,3 +5,4 @@ pub mod NoCall
 pub mod Begun
 pub mod NoProgram
 pub mod Shorter
+pub mod OneValue

@@ -1,0 +1,153 @@
+//! The tokens that are left, and steps over them.
+
+ghost use Rattle.std.specs.Prelude.{◌≡◌, ◌∷◌, IfNone, MatchOption};
+ghost use Rattle.std.specs.Bool.{MatchBool};
+ghost use Rattle.gh_ast.specs.Grammar.{NoSign, NoKey};
+ghost use Rattle.gh_ast.specs.Tokens.{named, key, sign};
+ghost use Rattle.gh_parse.specs.Views.{token_of, tokens_of};
+ghost use Rattle.gh_parse.specs.Answers.{IsRead, IsAhead, HasSign, HasKey, IsSyntax, SpellsName, SpellsKey, SpellsSign};
+
+use crate::error::ParseError;
+use crate::token::{Symbol, Token};
+use gh_ast::Occ;
+use gh_ast::sign::{Keyword, Sign};
+use gh_base::name::Name;
+use gh_base::place::Span;
+use std::alloc::Global;
+
+/// What the next token is.
+#[derive(Clone, Copy)]
+pub enum Ahead {
+    Name,
+    Key(Keyword),
+    Sign(Sign),
+    End,
+}
+
+/// The tokens that are left, and the place after the last byte of the text.
+#[derive(Drop)]
+pub struct Parser<'t> {
+    pub rest: &'t [Token<'t>],
+    pub end: Span,
+}
+
+impl<'t> Parser<'t> {
+    /// What the next token is.
+    pub fn ahead(&self) -> Ahead
+        ensures { IsAhead result (tokens_of self.now.rest.now) }
+    {
+        match self.rest {
+            [] => Ahead::End,
+            [first, ..] => match first.symbol {
+                Symbol::Name(_) => Ahead::Name,
+                Symbol::Key(k) => Ahead::Key(k),
+                Symbol::Sign(s) => Ahead::Sign(s),
+            },
+        }
+    }
+
+    /// The refusal of the next token, or of the end.
+    pub fn unexpected(&self) -> ParseError
+        ensures { IsSyntax result }
+    {
+        let span = match self.rest {
+            [] => self.end,
+            [first, ..] => first.span,
+        };
+        ParseError::Syntax { span }
+    }
+
+    /// Takes a sign, where it is next.
+    pub fn take_sign(&mut self, wanted: Sign) -> Option<Span>
+        ensures taken { MatchOption result (NoSign wanted (tokens_of self.old.rest.now)) (λ p. tokens_of self.old.rest.now ≡ sign wanted p ∷ tokens_of self.new.rest.now) }
+        ensures stays { IfNone result (tokens_of self.new.rest.now ≡ tokens_of self.old.rest.now) }
+    {
+        match self.rest {
+            [first, rest @ ..] => match first.symbol {
+                Symbol::Sign(s) if s == wanted => {
+                    self.rest = rest;
+                    Some(first.span)
+                }
+                _ => None,
+            },
+            [] => None,
+        }
+    }
+
+    /// Takes a reserved word, where it is next.
+    pub fn take_key(&mut self, wanted: Keyword) -> Option<Span>
+        ensures taken { MatchOption result (NoKey wanted (tokens_of self.old.rest.now)) (λ p. tokens_of self.old.rest.now ≡ key wanted p ∷ tokens_of self.new.rest.now) }
+        ensures stays { IfNone result (tokens_of self.new.rest.now ≡ tokens_of self.old.rest.now) }
+    {
+        match self.rest {
+            [first, rest @ ..] => match first.symbol {
+                Symbol::Key(k) if k == wanted => {
+                    self.rest = rest;
+                    Some(first.span)
+                }
+                _ => None,
+            },
+            [] => None,
+        }
+    }
+
+    /// Whether a sign is next.
+    pub fn is_sign(&self, wanted: Sign) -> bool
+        ensures { MatchBool result (HasSign wanted (tokens_of self.now.rest.now)) (NoSign wanted (tokens_of self.now.rest.now)) }
+    {
+        match self.ahead() {
+            Ahead::Sign(s) => s == wanted,
+            _ => false,
+        }
+    }
+
+    /// Whether a reserved word is next.
+    pub fn is_key(&self, wanted: Keyword) -> bool
+        ensures { MatchBool result (HasKey wanted (tokens_of self.now.rest.now)) (NoKey wanted (tokens_of self.now.rest.now)) }
+    {
+        match self.ahead() {
+            Ahead::Key(k) => k == wanted,
+            _ => false,
+        }
+    }
+
+    /// Takes a sign.
+    pub fn expect_sign(&mut self, wanted: Sign) -> Result<Span, ParseError>
+        ensures { IsRead (SpellsSign wanted (tokens_of self.old.rest.now)) (λ p. p) result (tokens_of self.new.rest.now) }
+    {
+        match self.take_sign(wanted) {
+            Some(span) => Ok(span),
+            None => Err(self.unexpected()),
+        }
+    }
+
+    /// Takes a reserved word.
+    pub fn expect_key(&mut self, wanted: Keyword) -> Result<Span, ParseError>
+        ensures { IsRead (SpellsKey wanted (tokens_of self.old.rest.now)) (λ p. p) result (tokens_of self.new.rest.now) }
+    {
+        match self.take_key(wanted) {
+            Some(span) => Ok(span),
+            None => Err(self.unexpected()),
+        }
+    }
+
+    /// Takes a name.
+    pub fn expect_name(&mut self, alloc: Global) -> Result<Occ, ParseError>
+        ensures { IsRead (SpellsName (tokens_of self.old.rest.now)) (λ o. o) result (tokens_of self.new.rest.now) }
+    {
+        match self.rest {
+            [first, rest @ ..] => match first.symbol {
+                Symbol::Name(word) => {
+                    let name = Name::from_word(alloc, word.bytes)?;
+                    self.rest = rest;
+                    Ok(Occ {
+                        name,
+                        span: first.span,
+                    })
+                }
+                _ => Err(self.unexpected()),
+            },
+            [] => Err(self.unexpected()),
+        }
+    }
+}

@@ -1,0 +1,72 @@
+//! Operands and expressions.
+
+ghost use Rattle.std.specs.Prelude.{◌≢◌};
+ghost use Rattle.gh_ast.specs.Grammar.{SpellsOperand, SpellsExpr, SpellsExprs, SpellsValues};
+ghost use Rattle.gh_parse.specs.Views.{tokens_of};
+ghost use Rattle.gh_parse.specs.Answers.{IsRead};
+
+use crate::cursor::Parser;
+use crate::error::ParseError;
+use gh_ast::sign::{Keyword, Sign};
+use gh_ast::{Expr, Operand};
+use std::alloc::Global;
+
+impl<'t> Parser<'t> {
+    /// Reads a name or `null`.
+    #[tactic(auto, using(gh_ast::specs::Grammar::null_operand, gh_ast::specs::Grammar::variable))]
+    pub fn operand(&mut self, alloc: Global) -> Result<Operand, ParseError>
+        ensures { IsRead (SpellsOperand (tokens_of self.old.rest.now)) (λ o. o) result (tokens_of self.new.rest.now) }
+    {
+        if let Some(span) = self.take_key(Keyword::Null) {
+            return Ok(Operand::Null { span });
+        }
+        Ok(Operand::Var(self.expect_name(alloc)?))
+    }
+
+    /// Reads a name or `null`, or `NAME . next` where reads may stand.
+    #[tactic(auto, using(gh_ast::specs::Grammar::plain, gh_ast::specs::Grammar::read))]
+    pub fn expr(&mut self, alloc: Global, reads: bool) -> Result<Expr, ParseError>
+        ensures { IsRead (SpellsExpr reads (tokens_of self.old.rest.now)) (λ e. e) result (tokens_of self.new.rest.now) }
+    {
+        let operand = self.operand(alloc)?;
+        if !self.is_sign(Sign::Dot) {
+            return Ok(Expr::Plain(operand));
+        }
+        let Operand::Var(at) = operand else {
+            return Err(self.unexpected());
+        };
+        if !reads {
+            return Err(self.unexpected());
+        }
+        self.expect_sign(Sign::Dot)?;
+        self.expect_key(Keyword::Next)?;
+        Ok(Expr::Read(at))
+    }
+
+    /// Reads one or more expressions with commas between them, and the sign after them.
+    pub fn exprs(&mut self, alloc: Global, close: Sign) -> Result<Vec<Expr>, ParseError>
+        requires { close ≢ Sign.Comma }
+        ensures { IsRead (SpellsExprs close (tokens_of self.old.rest.now)) (λ es. es.items) result (tokens_of self.new.rest.now) }
+    {
+        let mut exprs = Vec::new(alloc);
+        'members: loop {
+            exprs.push(self.expr(alloc, true)?)?;
+            let Some(_) = self.take_sign(Sign::Comma) else {
+                self.expect_sign(close)?;
+                return Ok(exprs);
+            };
+        }
+    }
+
+    /// Reads none or more expressions with commas between them, and the sign after them.
+    #[tactic(auto, using(gh_ast::specs::Grammar::no_values, gh_ast::specs::Grammar::some_values))]
+    pub fn values(&mut self, alloc: Global, close: Sign) -> Result<Vec<Expr>, ParseError>
+        requires { close ≢ Sign.Comma }
+        ensures { IsRead (SpellsValues close (tokens_of self.old.rest.now)) (λ es. es.items) result (tokens_of self.new.rest.now) }
+    {
+        if let Some(_) = self.take_sign(close) {
+            return Ok(Vec::new(alloc));
+        }
+        self.exprs(alloc, close)
+    }
+}
