@@ -6,3 +6,6 @@ pub mod Begun
 pub mod NoProgram
 pub mod Shorter
 pub mod OneValue
+pub mod OneTest
+pub mod Shorter
+pub mod OneAssertion

@@ -1,15 +1,13 @@
 -- Operands and expressions are spelled in one way at most.
 use Rattle.std.proofs.Common.{◌≡◌, ◌⊎◌, inl, inr, List, [], ◌∷◌, Bool, true, refl, ap, subst}
 use Rattle.gh_base.specs.declared.place.Span.{Span}
-use Rattle.gh_ast.specs.declared.Operand.{Operand}
-use Rattle.gh_ast.specs.declared.Operand.TheVariants as operand
 use Rattle.gh_ast.specs.declared.Expr.{Expr}
 use Rattle.gh_ast.specs.declared.Expr.TheVariants as expr
 use Rattle.gh_ast.specs.declared.sign.Sign.{Sign}
 use Rattle.gh_ast.specs.declared.sign.Sign.TheVariants as sg
-use Rattle.gh_ast.specs.Tokens.{Token, named, key, sign}
-use Rattle.gh_ast.specs.Grammar.{NoSign, SpellsOperand, null_operand, variable, SpellsExpr, plain, read, SpellsExprs, last_expr, next_expr, SpellsValues, no_values, some_values}
-use Rattle.gh_ast.specs.Readings.{AreOne, IsUnique}
+use Rattle.gh_ast.specs.Tokens.{Token, sign}
+use Rattle.gh_ast.specs.Grammar.{SpellsOperand, null_operand, variable, SpellsExpr, plain, read, SpellsExprs, last_expr, next_expr, SpellsValues, no_values, some_values}
+use Rattle.gh_ast.specs.Readings.{IsUnique}
 
 pub one_operand : (ts : List Token) → IsUnique (SpellsOperand ts)
 one_operand _ x y r q null_operand null_operand = record { value = refl; rest = refl }

@@ -1,98 +1,73 @@
--- What is spelled takes at least one token.
-use Rattle.std.proofs.Common.{◌≡◌, ℕ, ◌<◌, ◌≤◌, List, [], ◌∷◌, Bool, length, arith}
-use Rattle.gh_base.specs.declared.place.Span.{Span}
-use Rattle.gh_ast.specs.declared.Occ.{Occ}
+-- Each rule takes at least one token.
+use Rattle.std.proofs.Common.{◌<◌, ◌≤◌, List, length, Bool, arith}
 use Rattle.gh_ast.specs.declared.Operand.{Operand}
 use Rattle.gh_ast.specs.declared.Expr.{Expr}
 use Rattle.gh_ast.specs.declared.sign.Sign.{Sign}
 use Rattle.gh_ast.specs.declared.sign.Keyword.{Keyword}
-use Rattle.gh_ast.specs.Plain.{Test, Tests, Formula, Formulas, Statement, Statements}
 use Rattle.gh_ast.specs.Tokens.{Token}
-use Rattle.gh_ast.specs.Grammar.{SpellsOperand, null_operand, variable, SpellsExpr, plain, read, SpellsExprs, last_expr, next_expr, SpellsValues, no_values, some_values, SpellsLit, negated, bracketed, equated, distinguished, SpellsConj, one_lit, lits, SpellsLits, last_lit, next_lit, SpellsTest, one_conj, conjs, SpellsConjs, last_conj, next_conj, SpellsItem, emp, acc, lseg, pointed, same, different, by_cases, in_brackets, SpellsAssertion, one_item, items, SpellsItems, last_item, next_item, SpellsClause, no_clause, a_clause, SpellsTargets, last_target, next_target, SpellsStatement, a_set, a_new, a_write, a_free, bare_call, a_call, an_if, an_if_else, a_while, a_return, SpellsBlock, a_block, SpellsStatements, no_more, one_more}
+use Rattle.gh_ast.specs.Plain.{Test, Tests, Formula, Formulas}
+use Rattle.gh_ast.specs.Grammar.{SpellsOperand, null_operand, variable, SpellsExpr, plain, read, SpellsExprs, last_expr, next_expr, SpellsValues, no_values, some_values}
+use Rattle.gh_ast.specs.Grammar.{SpellsLit, negated, bracketed, equated, distinguished, SpellsConj, one_lit, lits, SpellsLits, last_lit, next_lit, SpellsTest, one_conj, conjs, SpellsConjs, last_conj, next_conj}
+use Rattle.gh_ast.specs.Grammar.{SpellsItem, emp, acc, lseg, pointed, same, different, by_cases, in_brackets, SpellsAssertion, one_item, items, SpellsItems, last_item, next_item, SpellsClause, no_clause, a_clause}
 
-pub operand_less : (ts rest : List Token) (x : Operand) → SpellsOperand ts x rest → length rest < length ts
-operand_less _ rest x null_operand = omega arith
-operand_less _ rest x variable = omega arith
+pub shorter_operand : {ts rest : List Token} {x : Operand} → SpellsOperand ts x rest → length rest < length ts
+shorter_operand null_operand = omega arith
+shorter_operand variable = omega arith
 
-pub expr_less : (reads : Bool) (ts rest : List Token) (x : Expr) → SpellsExpr reads ts x rest → length rest < length ts
-expr_less reads ts rest x (plain a n) = operand_less ts rest _ a
-expr_less _ _ rest x read = omega arith
+pub shorter_expr : {reads : Bool} {ts rest : List Token} {x : Expr} → SpellsExpr reads ts x rest → length rest < length ts
+shorter_expr (plain a n) = shorter_operand a
+shorter_expr read = omega arith
 
-pub exprs_less : (close : Sign) (ts rest : List Token) (x : List Expr) → SpellsExprs close ts x rest → length rest < length ts
-exprs_less close ts rest x (last_expr {p = p} a) = let h = expr_less _ ts _ _ a in omega arith
-exprs_less close ts rest x (next_expr {us = us} a b) = let h = expr_less _ ts _ _ a in let k = exprs_less close us rest _ b in omega arith
+pub shorter_exprs : {close : Sign} {ts rest : List Token} {x : List Expr} → SpellsExprs close ts x rest → length rest < length ts
+shorter_exprs (last_expr a) = let h = shorter_expr a in omega arith
+shorter_exprs (next_expr a b) = let h = shorter_expr a in let k = shorter_exprs b in omega arith
 
-pub values_less : (close : Sign) (ts rest : List Token) (x : List Expr) → SpellsValues close ts x rest → length rest < length ts
-values_less close _ rest x no_values = omega arith
-values_less close ts rest x (some_values a) = exprs_less close ts rest x a
-
-mutual
-  pub lit_less : (reads : Bool) (ts rest : List Token) (x : Test) → SpellsLit reads ts x rest → length rest < length ts
-  lit_less reads _ rest x (negated {ts = ts} a) = let h = test_less reads ts _ _ a in omega arith
-  lit_less reads _ rest x (bracketed {ts = ts} a) = let h = test_less reads ts _ _ a in omega arith
-  lit_less reads ts rest x (equated {us = us} a b) = let h = expr_less reads ts _ _ a in let k = expr_less reads us _ _ b in omega arith
-  lit_less reads ts rest x (distinguished {us = us} a b) = let h = expr_less reads ts _ _ a in let k = expr_less reads us _ _ b in omega arith
-
-  pub conj_less : (reads : Bool) (ts rest : List Token) (x : Test) → SpellsConj reads ts x rest → length rest < length ts
-  conj_less reads ts rest x (one_lit a n) = lit_less reads ts rest x a
-  conj_less reads ts rest x (lits {us = us} a b) = let h = lit_less reads ts _ _ a in let k = lits_less reads us rest _ b in omega arith
-
-  pub lits_less : (reads : Bool) (ts rest : List Token) (x : Tests) → SpellsLits reads ts x rest → length rest < length ts
-  lits_less reads ts rest x (last_lit a n) = lit_less reads ts rest _ a
-  lits_less reads ts rest x (next_lit {us = us} a b) = let h = lit_less reads ts _ _ a in let k = lits_less reads us rest _ b in omega arith
-
-  pub test_less : (reads : Bool) (ts rest : List Token) (x : Test) → SpellsTest reads ts x rest → length rest < length ts
-  test_less reads ts rest x (one_conj a n) = conj_less reads ts rest x a
-  test_less reads ts rest x (conjs {us = us} a b) = let h = conj_less reads ts _ _ a in let k = conjs_less reads us rest _ b in omega arith
-
-  pub conjs_less : (reads : Bool) (ts rest : List Token) (x : Tests) → SpellsConjs reads ts x rest → length rest < length ts
-  conjs_less reads ts rest x (last_conj a n) = conj_less reads ts rest _ a
-  conjs_less reads ts rest x (next_conj {us = us} a b) = let h = conj_less reads ts _ _ a in let k = conjs_less reads us rest _ b in omega arith
+pub shorter_values : {close : Sign} {ts rest : List Token} {x : List Expr} → SpellsValues close ts x rest → length rest < length ts
+shorter_values no_values = omega arith
+shorter_values (some_values a) = shorter_exprs a
 
 mutual
-  pub item_less : (ts rest : List Token) (x : Formula) → SpellsItem ts x rest → length rest < length ts
-  item_less _ rest x emp = omega arith
-  item_less _ rest x acc = omega arith
-  item_less _ rest x (lseg {ts = ts} {us = us} a b) = let h = operand_less ts _ _ a in let k = operand_less us _ _ b in omega arith
-  item_less _ rest x (pointed {ts = ts} a) = let h = operand_less ts _ _ a in omega arith
-  item_less ts rest x (same {us = us} a b) = let h = operand_less ts _ _ a in let k = operand_less us _ _ b in omega arith
-  item_less ts rest x (different {us = us} a b) = let h = operand_less ts _ _ a in let k = operand_less us _ _ b in omega arith
-  item_less _ rest x (by_cases {ts = ts} {us = us} {vs = vs} a b c) = let h = test_less _ ts _ _ a in let k = assertion_less us _ _ b in let m = assertion_less vs _ _ c in omega arith
-  item_less _ rest x (in_brackets {ts = ts} a) = let h = assertion_less ts _ _ a in omega arith
+  pub shorter_literal : {reads : Bool} {ts rest : List Token} {x : Test} → SpellsLit reads ts x rest → length rest < length ts
+  shorter_literal (negated a) = let h = shorter_test a in omega arith
+  shorter_literal (bracketed a) = let h = shorter_test a in omega arith
+  shorter_literal (equated a b) = let h = shorter_expr a in let k = shorter_expr b in omega arith
+  shorter_literal (distinguished a b) = let h = shorter_expr a in let k = shorter_expr b in omega arith
 
-  pub assertion_less : (ts rest : List Token) (x : Formula) → SpellsAssertion ts x rest → length rest < length ts
-  assertion_less ts rest x (one_item a n) = item_less ts rest x a
-  assertion_less ts rest x (items {us = us} a b) = let h = item_less ts _ _ a in let k = items_less us rest _ b in omega arith
+  pub shorter_conjunction : {reads : Bool} {ts rest : List Token} {x : Test} → SpellsConj reads ts x rest → length rest < length ts
+  shorter_conjunction (one_lit a n) = shorter_literal a
+  shorter_conjunction (lits a b) = let h = shorter_literal a in let k = shorter_literals b in omega arith
 
-  pub items_less : (ts rest : List Token) (x : Formulas) → SpellsItems ts x rest → length rest < length ts
-  items_less ts rest x (last_item a n) = item_less ts rest _ a
-  items_less ts rest x (next_item {us = us} a b) = let h = item_less ts _ _ a in let k = items_less us rest _ b in omega arith
+  pub shorter_literals : {reads : Bool} {ts rest : List Token} {x : Tests} → SpellsLits reads ts x rest → length rest < length ts
+  shorter_literals (last_lit a n) = shorter_literal a
+  shorter_literals (next_lit a b) = let h = shorter_literal a in let k = shorter_literals b in omega arith
 
--- a clause may be missing
-pub clause_less : (k : Keyword) (ts rest : List Token) (x : Formula) → SpellsClause k ts x rest → length rest ≤ length ts
-clause_less k _ rest x (no_clause n) = omega arith
-clause_less k _ rest x (a_clause {ts = ts} a) = let h = assertion_less ts _ _ a in omega arith
+  pub shorter_test : {reads : Bool} {ts rest : List Token} {x : Test} → SpellsTest reads ts x rest → length rest < length ts
+  shorter_test (one_conj a n) = shorter_conjunction a
+  shorter_test (conjs a b) = let h = shorter_conjunction a in let k = shorter_conjunctions b in omega arith
 
-pub targets_less : (ts rest : List Token) (x : List Occ) → SpellsTargets ts x rest → length rest < length ts
-targets_less _ rest x last_target = omega arith
-targets_less _ rest x (next_target {ts = ts} a) = let h = targets_less ts _ _ a in omega arith
+  pub shorter_conjunctions : {reads : Bool} {ts rest : List Token} {x : Tests} → SpellsConjs reads ts x rest → length rest < length ts
+  shorter_conjunctions (last_conj a n) = shorter_conjunction a
+  shorter_conjunctions (next_conj a b) = let h = shorter_conjunction a in let k = shorter_conjunctions b in omega arith
 
 mutual
-  pub statement_less : (ts rest : List Token) (x : Statement) → SpellsStatement ts x rest → length rest < length ts
-  statement_less _ rest x (a_set {ts = ts} a) = let h = expr_less _ ts _ _ a in omega arith
-  statement_less _ rest x a_new = omega arith
-  statement_less _ rest x (a_write {ts = ts} a) = let h = expr_less _ ts _ _ a in omega arith
-  statement_less _ rest x a_free = omega arith
-  statement_less _ rest x (bare_call {ts = ts} a) = let h = values_less _ ts _ _ a in omega arith
-  statement_less ts rest x (a_call {us = us} a b) = let h = targets_less ts _ _ a in let k = values_less _ us _ _ b in omega arith
-  statement_less _ rest x (an_if {ts = ts} {us = us} a b n) = let h = test_less _ ts _ _ a in let k = block_less us _ _ _ b in omega arith
-  statement_less _ rest x (an_if_else {ts = ts} {us = us} {vs = vs} a b c) = let h = test_less _ ts _ _ a in let k = block_less us _ _ _ b in let m = block_less vs _ _ _ c in omega arith
-  statement_less _ rest x (a_while {ts = ts} {us = us} {vs = vs} a b c) = let h = test_less _ ts _ _ a in let k = clause_less _ us _ _ b in let m = block_less vs _ _ _ c in omega arith
-  statement_less _ rest x (a_return {ts = ts} a) = let h = values_less _ ts _ _ a in omega arith
+  pub shorter_item : {ts rest : List Token} {x : Formula} → SpellsItem ts x rest → length rest < length ts
+  shorter_item emp = omega arith
+  shorter_item acc = omega arith
+  shorter_item (lseg a b) = let h = shorter_operand a in let k = shorter_operand b in omega arith
+  shorter_item (pointed a) = let h = shorter_operand a in omega arith
+  shorter_item (same a b) = let h = shorter_operand a in let k = shorter_operand b in omega arith
+  shorter_item (different a b) = let h = shorter_operand a in let k = shorter_operand b in omega arith
+  shorter_item (by_cases t a b) = let i = shorter_test t in let h = shorter_assertion a in let k = shorter_assertion b in omega arith
+  shorter_item (in_brackets a) = let h = shorter_assertion a in omega arith
 
-  pub block_less : (ts rest : List Token) (x : Statements) (c : Span) → SpellsBlock ts x c rest → length rest < length ts
-  block_less _ rest x c (a_block {ts = ts} a) = let h = statements_less ts _ _ _ a in omega arith
+  pub shorter_assertion : {ts rest : List Token} {x : Formula} → SpellsAssertion ts x rest → length rest < length ts
+  shorter_assertion (one_item a n) = shorter_item a
+  shorter_assertion (items a b) = let h = shorter_item a in let k = shorter_items b in omega arith
 
-  pub statements_less : (ts rest : List Token) (x : Statements) (c : Span) → SpellsStatements ts x c rest → length rest < length ts
-  statements_less _ rest x c no_more = omega arith
-  statements_less ts rest x c (one_more {us = us} a b) = let h = statement_less ts _ _ a in let k = statements_less us _ _ _ b in omega arith
+  pub shorter_items : {ts rest : List Token} {x : Formulas} → SpellsItems ts x rest → length rest < length ts
+  shorter_items (last_item a n) = shorter_item a
+  shorter_items (next_item a b) = let h = shorter_item a in let k = shorter_items b in omega arith
+
+pub shorter_clause : {k : Keyword} {ts rest : List Token} {x : Formula} → SpellsClause k ts x rest → length rest ≤ length ts
+shorter_clause (no_clause n) = omega arith
+shorter_clause (a_clause a) = let h = shorter_assertion a in omega arith

@@ -1,5 +1,5 @@
 -- The characters of a text, its comments, and its tokens with their places.
-use Rattle.std.specs.Prelude.{◌≡◌, ◌≢◌, ℕ, ◌+◌, ◌<◌, ◌≤◌, List, [], ◌∷◌, ◌++◌, length, take, fold, count_by, slice_get, Some, Bool, true, false, ◌||◌, ◌&&◌, ◌==◌, not, nat_le, IsTrue, cond, codes, All}
+use Rattle.std.specs.Prelude.{◌≡◌, ◌≢◌, ℕ, ◌+◌, ◌<◌, ◌≤◌, List, [], ◌∷◌, ◌++◌, length, take, fold, count_by, slice_get, Some, Bool, false, ◌||◌, ◌&&◌, ◌==◌, nat_le, IsTrue, cond, codes, All}
 use Rattle.std.specs.List.{list_any}
 use Rattle.gh_base.specs.Names.{is_name_byte}
 use Rattle.gh_base.specs.declared.place.Span.{Span}

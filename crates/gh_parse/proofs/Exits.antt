@@ -1,11 +1,14 @@
 -- A refusal within a rule is a refusal of the rule.
-use Rattle.std.proofs.Common.{◌≡◌, List, Result}
+use Rattle.std.proofs.Common.{◌≡◌, List, ◌∷◌, Result, Ok, Err, subst}
 use Rattle.std.specs.Result.{IsErrAnd}
 use Rattle.std.proofs.lemmas.Result.{err_from_is_err_and}
-use Rattle.gh_ast.specs.Tokens.{Token}
+use Rattle.gh_base.specs.declared.place.Span.{Span}
+use Rattle.gh_ast.specs.declared.sign.Sign.{Sign}
+use Rattle.gh_ast.specs.Tokens.{Token, sign}
+use Rattle.gh_ast.specs.Readings.{IsUnique}
 use Rattle.gh_parse.specs.declared.error.ParseError.{ParseError}
 use Rattle.gh_parse.specs.declared.error.ParseError.TheVariants.{Byte, Deep, Syntax, OutOfMemory}
-use Rattle.gh_parse.specs.Answers.{IsRefused, IsRefusal, IsRead, IsSyntax}
+use Rattle.gh_parse.specs.Answers.{IsRefused, IsRefusal, IsRead, IsSyntax, SpellsSign, IsBetween}
 
 pub within : {X Y : Type 0} (P : X → List Token → Type 0) (Q : Y → List Token → Type 0) (e : ParseError)
     → (IsRefused P → IsRefused Q) → IsRefusal P e → IsRefusal Q e
@@ -25,3 +28,35 @@ refused Q (Byte offset) s h = s
 refused Q (Deep p) s h = s
 refused Q (Syntax p) s h = h
 refused Q OutOfMemory s h = tt
+
+-- an answer that is passed on
+pub along : {X Y : Type 0} (P Q : X → List Token → Type 0) (view : Y → X) (answer : Result Y ParseError) (rest : List Token)
+    → ((x : X) (r : List Token) → P x r → Q x r) → (IsRefused P → IsRefused Q) → IsRead P view answer rest → IsRead Q view answer rest
+along P Q view (Ok y) rest f g h = f (view y) rest h
+along P Q view (Err e) rest f g h = within P Q e g h
+
+pub moved : {X : Type 0} (P : List Token → X → List Token → Type 0) {ts us : List Token} → ts ≡ us → IsRefused (P us) → IsRefused (P ts)
+moved P e h = rw e h
+
+-- between two signs
+pub no_front : {X : Type 0} {opening closing : Sign} {P : List Token → X → List Token → Type 0} {ts : List Token} → IsRefused (SpellsSign opening ts) → IsRefused (IsBetween opening closing P ts)
+no_front h x rest b = h b.first b.inner b.front
+
+pub no_inner : {X : Type 0} {opening closing : Sign} {P : List Token → X → List Token → Type 0} {ts us : List Token} {p : Span} → ts ≡ sign opening p ∷ us → IsRefused (P us)
+    → IsRefused (IsBetween opening closing P ts)
+no_inner {closing = closing} {P = P} {us = us} e h x rest b =
+    let f = b.front in
+    let i : b.inner ≡ us = cc in
+    h x (sign closing b.last ∷ rest) (subst (λ z. P z x (sign closing b.last ∷ rest)) i b.within)
+
+pub no_end : {X : Type 0} {opening closing : Sign} {P : List Token → X → List Token → Type 0} {ts us vs : List Token} {p : Span} {x : X} → ((z : List Token) → IsUnique (P z))
+    → ts ≡ sign opening p ∷ us → P us x vs → IsRefused (SpellsSign closing vs) → IsRefused (IsBetween opening closing P ts)
+no_end {closing = closing} {P = P} {us = us} {vs = vs} {x = x} unique e s h y rest b =
+    let f = b.front in
+    let i : b.inner ≡ us = cc in
+    let one = unique us x y vs (sign closing b.last ∷ rest) s (subst (λ z. P z y (sign closing b.last ∷ rest)) i b.within) in
+    h b.last rest one.rest
+
+pub between : {X : Type 0} {opening closing : Sign} {P : List Token → X → List Token → Type 0} {ts us vs rest : List Token} {p q : Span} {x : X}
+    → ts ≡ sign opening p ∷ us → P us x vs → vs ≡ sign closing q ∷ rest → IsBetween opening closing P ts x rest
+between {P = P} {us = us} {p = p} {q = q} {x = x} e s f = record { first = p; last = q; inner = us; front = e; within = subst (λ z. P us x z) f s }

@@ -1,5 +1,5 @@
 -- Where operands and expressions are refused.
-use Rattle.std.proofs.Common.{◌≡◌, List, [], ◌∷◌, Bool, true, false, subst, refl, sym, ◌∙◌}
+use Rattle.std.proofs.Common.{◌≡◌, List, ◌∷◌, Bool, true, false, subst, refl, sym, ◌∙◌}
 use Rattle.gh_base.specs.declared.place.Span.{Span}
 use Rattle.gh_ast.specs.declared.Occ.{Occ}
 use Rattle.gh_ast.specs.declared.Operand.{Operand}
@@ -8,9 +8,8 @@ use Rattle.gh_ast.specs.declared.Expr.{Expr}
 use Rattle.gh_ast.specs.declared.sign.Sign.TheVariants as sg
 use Rattle.gh_ast.specs.declared.sign.Sign.{Sign}
 use Rattle.gh_ast.specs.declared.sign.Keyword.TheVariants as kw
-use Rattle.gh_ast.specs.Tokens.{Token, named, key, sign}
-use Rattle.gh_ast.specs.Grammar.{NoSign, SpellsOperand, null_operand, variable, SpellsExpr, plain, read, SpellsExprs, last_expr, next_expr}
-use Rattle.gh_ast.specs.Readings.{AreOne}
+use Rattle.gh_ast.specs.Tokens.{Token, key, sign}
+use Rattle.gh_ast.specs.Grammar.{NoSign, SpellsOperand, variable, SpellsExpr, plain, read, SpellsExprs, last_expr, next_expr}
 use Rattle.gh_ast.proofs.OneValue.{one_operand, one_expr}
 use Rattle.gh_parse.specs.Answers.{IsRefused, HasSign, SpellsKey, SpellsSign}
 

@@ -1,4 +1,4 @@
-use Rattle.std.proofs.Common.{◌≡◌, ℕ, ◌≤◌, List, [], ◌∷◌, length, get_or, sym, ap, subst, arith}
+use Rattle.std.proofs.Common.{◌≡◌, ◌≤◌, List, [], ◌∷◌, length, get_or, sym, ap, subst, arith}
 use Rattle.gh_ast.specs.Tokens.{Token}
 use Rattle.gh_parse.specs.Views.{tokens_of, token_of, symbol_at}
 use Rattle.gh_parse.specs.declared.token.Token as read
