@@ -1,11 +1,10 @@
+pub mod OneValue
+pub mod OneTest
+pub mod OneAssertion
 pub mod OneStatement
 pub mod OneProgram
 pub mod NoStatement
 pub mod NoCall
-pub mod Begun
 pub mod NoProgram
 pub mod Shorter
-pub mod OneValue
-pub mod OneTest
-pub mod Shorter
-pub mod OneAssertion
+pub mod ShorterStatement

@@ -10,7 +10,8 @@ use Rattle.gh_ast.specs.declared.sign.Keyword.TheVariants as kw
 use Rattle.gh_ast.specs.Plain.{Formula, Statement, Statements, Part, Inside, Procedure, Program}
 use Rattle.gh_ast.specs.Tokens.{Token, named, key, sign}
 use Rattle.gh_ast.specs.Grammar.{NoSign, NoKey, SpellsClause, SpellsTargets, last_target, next_target, SpellsStatement, SpellsBlock, a_block, SpellsStatements, no_more, one_more, SpellsLocals, last_local, next_local, SpellsInside, no_locals, some_locals, SpellsParams, last_param, next_param, SpellsHeader, no_params, params, SpellsResults, no_results, results, SpellsBody, no_body, a_body, SpellsProcedure, a_procedure, SpellsProcedures, no_procedures, one_procedure, SpellsWord, by_name, by_key, SpellsFields, no_fields, one_field, SpellsProgram, a_program}
-use Rattle.gh_ast.proofs.OneStatement.{FirstHalf, tail_one, one_targets, one_statement, no_sign_first, no_var_first}
+use Rattle.gh_ast.proofs.OneAssertion.{one_clause}
+use Rattle.gh_ast.proofs.OneStatement.{tail_one, one_targets, one_statement, no_sign_first, no_var_first}
 use Rattle.gh_ast.proofs.OneProgram.{one_locals, one_header, one_results, one_procedure_at, one_word, one_fields}
 use Rattle.gh_ast.proofs.NoStatement.{NoName, Nothing, NoBlock}
 
@@ -40,11 +41,11 @@ pub statements_neither : (ts : List Token) → NoSign sg.BraceClose ts → Nothi
 statements_neither _ m n x rest no_more = m _ _ refl
 statements_neither ts m n x rest (one_more i a) = n _ _ i
 
-pub statements_later : FirstHalf → (ts us : List Token) (s : Statement) → SpellsStatement ts s us
+pub statements_later : (ts us : List Token) (s : Statement) → SpellsStatement ts s us
     → ((a : Statements) (c : Span) (rest : List Token) → SpellsStatements us a c rest → ⊥) → (a : Statements) (c : Span) (rest : List Token) → SpellsStatements ts a c rest → ⊥
-statements_later h ts us s i n x c rest (one_more {us = vs} {s = s2} {a = l} j a) =
-    n l c rest (subst (λ z. SpellsStatements z l c rest) (sym (one_statement h ts us vs s s2 i j).rest) a)
-statements_later h _ us s i n x c rest no_more = absurd (no_sign_first i)
+statements_later ts us s i n x c rest (one_more {us = vs} {s = s2} {a = l} j a) =
+    n l c rest (subst (λ z. SpellsStatements z l c rest) (sym (one_statement ts us vs s s2 i j).rest) a)
+statements_later _ us s i n x c rest no_more = absurd (no_sign_first i)
 
 -- locals: names, and `: Node ;`
 pub locals_no_name : (ts : List Token) → NoName ts → Nothing (SpellsLocals ts)
@@ -146,29 +147,29 @@ procedure_no_needs p q o ts us vs xs ys s t n x rest (a_procedure {us = us2} {vs
     let d = sym (one_results us vs vs2 ys ys2 t (subst (λ z. SpellsResults z ys2 vs2) e r)).rest in
     n a ws (subst (λ z. SpellsClause kw.Requires z a ws) d f)
 
-pub procedure_no_gives : FirstHalf → (p q : Span) (o : Occ) (ts us vs ws : List Token) (xs ys : List Occ) (k : Formula) → SpellsHeader ts xs us → SpellsResults us ys vs
+pub procedure_no_gives : (p q : Span) (o : Occ) (ts us vs ws : List Token) (xs ys : List Occ) (k : Formula) → SpellsHeader ts xs us → SpellsResults us ys vs
     → SpellsClause kw.Requires vs k ws → Nothing (SpellsClause kw.Ensures ws) → Nothing (SpellsProcedure (key kw.Procedure p ∷ named o ∷ sign sg.ParenOpen q ∷ ts))
-procedure_no_gives w p q o ts us vs ws xs ys k s t u n x rest (a_procedure {us = us2} {vs = vs2} {ws = ws2} {zs = zs} {xs = xs2} {ys = ys2} {x = a} {y = y} h r f g b) =
+procedure_no_gives p q o ts us vs ws xs ys k s t u n x rest (a_procedure {us = us2} {vs = vs2} {ws = ws2} {zs = zs} {xs = xs2} {ys = ys2} {x = a} {y = y} h r f g b) =
     let e = sym (one_header ts us us2 xs xs2 s h).rest in
     let d = sym (one_results us vs vs2 ys ys2 t (subst (λ z. SpellsResults z ys2 vs2) e r)).rest in
-    let c = sym (w.clause kw.Requires vs ws ws2 k a u (subst (λ z. SpellsClause kw.Requires z a ws2) d f)).rest in
+    let c = sym (one_clause kw.Requires vs k a ws ws2 u (subst (λ z. SpellsClause kw.Requires z a ws2) d f)).rest in
     n y zs (subst (λ z. SpellsClause kw.Ensures z y zs) c g)
 
-pub procedure_no_body : FirstHalf → (p q : Span) (o : Occ) (ts us vs ws zs : List Token) (xs ys : List Occ) (k m : Formula) → SpellsHeader ts xs us → SpellsResults us ys vs
+pub procedure_no_body : (p q : Span) (o : Occ) (ts us vs ws zs : List Token) (xs ys : List Occ) (k m : Formula) → SpellsHeader ts xs us → SpellsResults us ys vs
     → SpellsClause kw.Requires vs k ws → SpellsClause kw.Ensures ws m zs → NoBody zs → Nothing (SpellsProcedure (key kw.Procedure p ∷ named o ∷ sign sg.ParenOpen q ∷ ts))
-procedure_no_body w p q o ts us vs ws zs xs ys k m s t u v n x rest (a_procedure {c = l} {us = us2} {vs = vs2} {ws = ws2} {zs = zs2} {xs = xs2} {ys = ys2} {x = a} {y = y} {b = i} h r f g b) =
+procedure_no_body p q o ts us vs ws zs xs ys k m s t u v n x rest (a_procedure {c = l} {us = us2} {vs = vs2} {ws = ws2} {zs = zs2} {xs = xs2} {ys = ys2} {x = a} {y = y} {b = i} h r f g b) =
     let e = sym (one_header ts us us2 xs xs2 s h).rest in
     let d = sym (one_results us vs vs2 ys ys2 t (subst (λ z. SpellsResults z ys2 vs2) e r)).rest in
-    let c = sym (w.clause kw.Requires vs ws ws2 k a u (subst (λ z. SpellsClause kw.Requires z a ws2) d f)).rest in
-    let j = sym (w.clause kw.Ensures ws zs zs2 m y v (subst (λ z. SpellsClause kw.Ensures z y zs2) c g)).rest in
+    let c = sym (one_clause kw.Requires vs k a ws ws2 u (subst (λ z. SpellsClause kw.Requires z a ws2) d f)).rest in
+    let j = sym (one_clause kw.Ensures ws m y zs zs2 v (subst (λ z. SpellsClause kw.Ensures z y zs2) c g)).rest in
     n i l rest (subst (λ z. SpellsBody z i l rest) j b)
 
 pub procedures_no_first : (t : Token) (ts : List Token) → Nothing (SpellsProcedure (t ∷ ts)) → (ps : List Procedure) → SpellsProcedures (t ∷ ts) ps → ⊥
 procedures_no_first t ts n ps (one_procedure a i) = n _ _ a
 
-pub procedures_later : FirstHalf → (ts us : List Token) (p : Procedure) → SpellsProcedure ts p us → ((ps : List Procedure) → SpellsProcedures us ps → ⊥) → (ps : List Procedure) → SpellsProcedures ts ps → ⊥
-procedures_later h ts us p s n ps (one_procedure {us = vs} {p = q} {ps = qs} a i) = n qs (subst (λ z. SpellsProcedures z qs) (sym (one_procedure_at h ts us vs p q s a).rest) i)
-procedures_later h _ us p s n ps no_procedures = elim s [ ]
+pub procedures_later : (ts us : List Token) (p : Procedure) → SpellsProcedure ts p us → ((ps : List Procedure) → SpellsProcedures us ps → ⊥) → (ps : List Procedure) → SpellsProcedures ts ps → ⊥
+procedures_later ts us p s n ps (one_procedure {us = vs} {p = q} {ps = qs} a i) = n qs (subst (λ z. SpellsProcedures z qs) (sym (one_procedure_at ts us vs p q s a).rest) i)
+procedures_later _ us p s n ps no_procedures = elim s [ ]
 
 -- words, fields and programs
 pub word_neither : (k : Keyword) (text : List ℕ) (ts : List Token) → NoKey k ts → NoName ts → Nothing (SpellsWord k text ts)

@@ -12,7 +12,10 @@ use Rattle.gh_ast.specs.declared.sign.Keyword.TheVariants as kw
 use Rattle.gh_ast.specs.Plain.{Test, Formula, Statement, Statements, Part}
 use Rattle.gh_ast.specs.Tokens.{Token, named, key, sign}
 use Rattle.gh_ast.specs.Grammar.{NoSign, NoKey, SpellsExpr, plain, variable, SpellsValues, SpellsTest, SpellsClause, SpellsTargets, last_target, next_target, SpellsStatement, a_set, a_new, a_write, a_free, bare_call, a_call, an_if, an_if_else, a_while, a_return, SpellsBlock, a_block, SpellsStatements, no_more, one_more}
-use Rattle.gh_ast.proofs.OneStatement.{FirstHalf, tail_one, one_targets, one_block, one_statement}
+use Rattle.gh_ast.proofs.OneValue.{one_expr, one_values}
+use Rattle.gh_ast.proofs.OneTest.{one_test}
+use Rattle.gh_ast.proofs.OneAssertion.{one_clause}
+use Rattle.gh_ast.proofs.OneStatement.{tail_one, one_targets, one_block, one_statement}
 
 -- a name isn't at the front
 abbrev pub NoName : List Token → Type 0
@@ -63,31 +66,31 @@ if_no_test p q ts n x rest (an_if t a m) = n _ _ t
 if_no_test p q ts n x rest (an_if_else t a b) = n _ _ t
 if_no_test p q ts n x rest (a_call t v) = elim t [ ]
 
-pub if_no_close : FirstHalf → (p q : Span) (ts us : List Token) (t : Test) → SpellsTest true ts t us → NoSign sg.ParenClose us → Nothing (SpellsStatement (key kw.If p ∷ sign sg.ParenOpen q ∷ ts))
-if_no_close h p q ts us t s n x rest (an_if k a m) = n _ _ (h.test true ts us _ t _ s k).rest
-if_no_close h p q ts us t s n x rest (an_if_else k a b) = n _ _ (h.test true ts us _ t _ s k).rest
-if_no_close h p q ts us t s n x rest (a_call k v) = elim k [ ]
+pub if_no_close : (p q : Span) (ts us : List Token) (t : Test) → SpellsTest true ts t us → NoSign sg.ParenClose us → Nothing (SpellsStatement (key kw.If p ∷ sign sg.ParenOpen q ∷ ts))
+if_no_close p q ts us t s n x rest (an_if k a m) = n _ _ (one_test true ts t _ us _ s k).rest
+if_no_close p q ts us t s n x rest (an_if_else k a b) = n _ _ (one_test true ts t _ us _ s k).rest
+if_no_close p q ts us t s n x rest (a_call k v) = elim k [ ]
 
-pub if_no_block : FirstHalf → (p q r : Span) (ts us : List Token) (t : Test) → SpellsTest true ts t (sign sg.ParenClose r ∷ us) → NoBlock us
+pub if_no_block : (p q r : Span) (ts us : List Token) (t : Test) → SpellsTest true ts t (sign sg.ParenClose r ∷ us) → NoBlock us
     → Nothing (SpellsStatement (key kw.If p ∷ sign sg.ParenOpen q ∷ ts))
-if_no_block h p q r ts us t s n x rest (an_if {c = c} {us = vs} {a = l} k a m) =
-    let e : vs ≡ us = let w = (h.test true ts _ _ t _ s k).rest in cc in
+if_no_block p q r ts us t s n x rest (an_if {c = c} {us = vs} {a = l} k a m) =
+    let e : vs ≡ us = let w = (one_test true ts t _ _ _ s k).rest in cc in
     n (record { statements = l; close = c }) rest (subst (λ z. SpellsBlock z l c rest) e a)
-if_no_block h p q r ts us t s n x rest (an_if_else {s = f} {c = c} {us = vs} {vs = ws} {a = l} k a b) =
-    let e : vs ≡ us = let w = (h.test true ts _ _ t _ s k).rest in cc in
+if_no_block p q r ts us t s n x rest (an_if_else {s = f} {c = c} {us = vs} {vs = ws} {a = l} k a b) =
+    let e : vs ≡ us = let w = (one_test true ts t _ _ _ s k).rest in cc in
     n (record { statements = l; close = c }) (key kw.Else f ∷ ws) (subst (λ z. SpellsBlock z l c (key kw.Else f ∷ ws)) e a)
-if_no_block h p q r ts us t s n x rest (a_call k v) = elim k [ ]
+if_no_block p q r ts us t s n x rest (a_call k v) = elim k [ ]
 
-pub if_no_otherwise : FirstHalf → (p q r o : Span) (ts us vs : List Token) (t : Test) (b : Part) → SpellsTest true ts t (sign sg.ParenClose r ∷ us)
+pub if_no_otherwise : (p q r o : Span) (ts us vs : List Token) (t : Test) (b : Part) → SpellsTest true ts t (sign sg.ParenClose r ∷ us)
     → SpellsBlock us b.statements b.close (key kw.Else o ∷ vs) → NoBlock vs → Nothing (SpellsStatement (key kw.If p ∷ sign sg.ParenOpen q ∷ ts))
-if_no_otherwise h p q r o ts us vs t b s i n x rest (an_if {c = c} {us = us2} {a = l} k a m) =
-    let e : us2 ≡ us = let w = (h.test true ts _ _ t _ s k).rest in cc in
-    m o vs (sym (one_block h us (key kw.Else o ∷ vs) rest b.statements l b.close c i (subst (λ z. SpellsBlock z l c rest) e a)).rest)
-if_no_otherwise h p q r o ts us vs t b s i n x rest (an_if_else {s = f} {c = c} {d = d} {us = us2} {vs = ws} {a = l} {b = l2} k a j) =
-    let e : us2 ≡ us = let w = (h.test true ts _ _ t _ s k).rest in cc in
-    let g : ws ≡ vs = let w = (one_block h us (key kw.Else o ∷ vs) (key kw.Else f ∷ ws) b.statements l b.close c i (subst (λ z. SpellsBlock z l c (key kw.Else f ∷ ws)) e a)).rest in cc in
+if_no_otherwise p q r o ts us vs t b s i n x rest (an_if {c = c} {us = us2} {a = l} k a m) =
+    let e : us2 ≡ us = let w = (one_test true ts t _ _ _ s k).rest in cc in
+    m o vs (sym (one_block us (key kw.Else o ∷ vs) rest b.statements l b.close c i (subst (λ z. SpellsBlock z l c rest) e a)).rest)
+if_no_otherwise p q r o ts us vs t b s i n x rest (an_if_else {s = f} {c = c} {d = d} {us = us2} {vs = ws} {a = l} {b = l2} k a j) =
+    let e : us2 ≡ us = let w = (one_test true ts t _ _ _ s k).rest in cc in
+    let g : ws ≡ vs = let w = (one_block us (key kw.Else o ∷ vs) (key kw.Else f ∷ ws) b.statements l b.close c i (subst (λ z. SpellsBlock z l c (key kw.Else f ∷ ws)) e a)).rest in cc in
     n (record { statements = l2; close = d }) rest (subst (λ z. SpellsBlock z l2 d rest) g j)
-if_no_otherwise h p q r o ts us vs t b s i n x rest (a_call k v) = elim k [ ]
+if_no_otherwise p q r o ts us vs t b s i n x rest (a_call k v) = elim k [ ]
 
 -- `while ( test )`, perhaps an invariant, and a block
 pub while_no_open : (p : Span) (ts : List Token) → NoSign sg.ParenOpen ts → Nothing (SpellsStatement (key kw.While p ∷ ts))
@@ -98,24 +101,24 @@ pub while_no_test : (p q : Span) (ts : List Token) → Nothing (SpellsTest true 
 while_no_test p q ts n x rest (a_while t i a) = n _ _ t
 while_no_test p q ts n x rest (a_call t v) = elim t [ ]
 
-pub while_no_close : FirstHalf → (p q : Span) (ts us : List Token) (t : Test) → SpellsTest true ts t us → NoSign sg.ParenClose us
+pub while_no_close : (p q : Span) (ts us : List Token) (t : Test) → SpellsTest true ts t us → NoSign sg.ParenClose us
     → Nothing (SpellsStatement (key kw.While p ∷ sign sg.ParenOpen q ∷ ts))
-while_no_close h p q ts us t s n x rest (a_while k i a) = n _ _ (h.test true ts us _ t _ s k).rest
-while_no_close h p q ts us t s n x rest (a_call k v) = elim k [ ]
+while_no_close p q ts us t s n x rest (a_while k i a) = n _ _ (one_test true ts t _ us _ s k).rest
+while_no_close p q ts us t s n x rest (a_call k v) = elim k [ ]
 
-pub while_no_clause : FirstHalf → (p q r : Span) (ts us : List Token) (t : Test) → SpellsTest true ts t (sign sg.ParenClose r ∷ us) → Nothing (SpellsClause kw.Invariant us)
+pub while_no_clause : (p q r : Span) (ts us : List Token) (t : Test) → SpellsTest true ts t (sign sg.ParenClose r ∷ us) → Nothing (SpellsClause kw.Invariant us)
     → Nothing (SpellsStatement (key kw.While p ∷ sign sg.ParenOpen q ∷ ts))
-while_no_clause h p q r ts us t s n x rest (a_while {us = us2} {vs = vs} {i = f} k i a) =
-    let e : us2 ≡ us = let w = (h.test true ts _ _ t _ s k).rest in cc in n f vs (subst (λ z. SpellsClause kw.Invariant z f vs) e i)
-while_no_clause h p q r ts us t s n x rest (a_call k v) = elim k [ ]
+while_no_clause p q r ts us t s n x rest (a_while {us = us2} {vs = vs} {i = f} k i a) =
+    let e : us2 ≡ us = let w = (one_test true ts t _ _ _ s k).rest in cc in n f vs (subst (λ z. SpellsClause kw.Invariant z f vs) e i)
+while_no_clause p q r ts us t s n x rest (a_call k v) = elim k [ ]
 
-pub while_no_block : FirstHalf → (p q r : Span) (ts us vs : List Token) (t : Test) (f : Formula) → SpellsTest true ts t (sign sg.ParenClose r ∷ us) → SpellsClause kw.Invariant us f vs → NoBlock vs
+pub while_no_block : (p q r : Span) (ts us vs : List Token) (t : Test) (f : Formula) → SpellsTest true ts t (sign sg.ParenClose r ∷ us) → SpellsClause kw.Invariant us f vs → NoBlock vs
     → Nothing (SpellsStatement (key kw.While p ∷ sign sg.ParenOpen q ∷ ts))
-while_no_block h p q r ts us vs t f s j n x rest (a_while {c = c} {us = us2} {vs = vs2} {i = g} {a = l} k i a) =
-    let e : us2 ≡ us = let w = (h.test true ts _ _ t _ s k).rest in cc in
-    let d : vs2 ≡ vs = sym (h.clause kw.Invariant us vs vs2 f g j (subst (λ z. SpellsClause kw.Invariant z g vs2) e i)).rest in
+while_no_block p q r ts us vs t f s j n x rest (a_while {c = c} {us = us2} {vs = vs2} {i = g} {a = l} k i a) =
+    let e : us2 ≡ us = let w = (one_test true ts t _ _ _ s k).rest in cc in
+    let d : vs2 ≡ vs = sym (one_clause kw.Invariant us f g vs vs2 j (subst (λ z. SpellsClause kw.Invariant z g vs2) e i)).rest in
     n (record { statements = l; close = c }) rest (subst (λ z. SpellsBlock z l c rest) d a)
-while_no_block h p q r ts us vs t f s j n x rest (a_call k v) = elim k [ ]
+while_no_block p q r ts us vs t f s j n x rest (a_call k v) = elim k [ ]
 
 -- `NAME` and none of `:=`, `,`, `(`, `.`
 pub name_alone : (o : Occ) (ts : List Token) → NoSign sg.Assign ts → NoSign sg.Comma ts → NoSign sg.ParenOpen ts → NoSign sg.Dot ts → Nothing (SpellsStatement (named o ∷ ts))
@@ -139,20 +142,20 @@ pub write_no_value : (o : Occ) (p q r : Span) (ts : List Token) → Nothing (Spe
 write_no_value o p q r ts n x rest (a_write a) = n _ _ a
 write_no_value o p q r ts n x rest (a_call t v) = elim t [ ]
 
-pub write_no_end : FirstHalf → (o : Occ) (p q r : Span) (ts us : List Token) (e : Expr) → SpellsExpr true ts e us → NoSign sg.Semicolon us
+pub write_no_end : (o : Occ) (p q r : Span) (ts us : List Token) (e : Expr) → SpellsExpr true ts e us → NoSign sg.Semicolon us
     → Nothing (SpellsStatement (named o ∷ sign sg.Dot p ∷ key kw.Next q ∷ sign sg.Assign r ∷ ts))
-write_no_end h o p q r ts us e s n x rest (a_write {e = f} a) = n _ _ (h.expr true ts us _ e f s a).rest
-write_no_end h o p q r ts us e s n x rest (a_call t v) = elim t [ ]
+write_no_end o p q r ts us e s n x rest (a_write {e = f} a) = n _ _ (one_expr true ts e f us _ s a).rest
+write_no_end o p q r ts us e s n x rest (a_call t v) = elim t [ ]
 
 -- `NAME ( values ) ;`
 pub bare_no_values : (o : Occ) (p : Span) (ts : List Token) → Nothing (SpellsValues sg.ParenClose ts) → Nothing (SpellsStatement (named o ∷ sign sg.ParenOpen p ∷ ts))
 bare_no_values o p ts n x rest (bare_call a) = n _ _ a
 bare_no_values o p ts n x rest (a_call t v) = elim t [ ]
 
-pub bare_no_end : FirstHalf → (o : Occ) (p : Span) (ts us : List Token) (es : List Expr) → SpellsValues sg.ParenClose ts es us → NoSign sg.Semicolon us
+pub bare_no_end : (o : Occ) (p : Span) (ts us : List Token) (es : List Expr) → SpellsValues sg.ParenClose ts es us → NoSign sg.Semicolon us
     → Nothing (SpellsStatement (named o ∷ sign sg.ParenOpen p ∷ ts))
-bare_no_end h o p ts us es s n x rest (bare_call {es = fs} a) = n _ _ (h.values sg.ParenClose ts us _ es fs s a).rest
-bare_no_end h o p ts us es s n x rest (a_call t v) = elim t [ ]
+bare_no_end o p ts us es s n x rest (bare_call {es = fs} a) = n _ _ (one_values sg.ParenClose ts (λ e. cc) es fs us _ s a).rest
+bare_no_end o p ts us es s n x rest (a_call t v) = elim t [ ]
 
 -- `NAME := new Node ;`
 pub new_no_node : (o : Occ) (p q : Span) (ts : List Token) → NoKey kw.Node ts → Nothing (SpellsStatement (named o ∷ sign sg.Assign p ∷ key kw.New q ∷ ts))

@@ -3,3 +3,7 @@ pub mod Folds
 pub mod Turns
 pub mod TestExits
 pub mod ValueExits
+pub mod StatementViews
+pub mod CallExits
+pub mod Runs
+pub mod StatementExits
