@@ -35,20 +35,7 @@ pub along : {X Y : Type 0} (P Q : X → List Token → Type 0) (view : Y → X) 
 along P Q view (Ok y) rest f g h = f (view y) rest h
 along P Q view (Err e) rest f g h = within P Q e g h
 
-pub moved : {X : Type 0} (P : List Token → X → List Token → Type 0) {ts us : List Token} → ts ≡ us → IsRefused (P us) → IsRefused (P ts)
-moved P e h = rw e h
-
 -- between two signs
-pub no_front : {X : Type 0} {opening closing : Sign} {P : List Token → X → List Token → Type 0} {ts : List Token} → IsRefused (SpellsSign opening ts) → IsRefused (IsBetween opening closing P ts)
-no_front h x rest b = h b.first b.inner b.front
-
-pub no_inner : {X : Type 0} {opening closing : Sign} {P : List Token → X → List Token → Type 0} {ts us : List Token} {p : Span} → ts ≡ sign opening p ∷ us → IsRefused (P us)
-    → IsRefused (IsBetween opening closing P ts)
-no_inner {closing = closing} {P = P} {us = us} e h x rest b =
-    let f = b.front in
-    let i : b.inner ≡ us = cc in
-    h x (sign closing b.last ∷ rest) (subst (λ z. P z x (sign closing b.last ∷ rest)) i b.within)
-
 pub no_end : {X : Type 0} {opening closing : Sign} {P : List Token → X → List Token → Type 0} {ts us vs : List Token} {p : Span} {x : X} → ((z : List Token) → IsUnique (P z))
     → ts ≡ sign opening p ∷ us → P us x vs → IsRefused (SpellsSign closing vs) → IsRefused (IsBetween opening closing P ts)
 no_end {closing = closing} {P = P} {us = us} {vs = vs} {x = x} unique e s h y rest b =
@@ -57,6 +44,11 @@ no_end {closing = closing} {P = P} {us = us} {vs = vs} {x = x} unique e s h y re
     let one = unique us x y vs (sign closing b.last ∷ rest) s (subst (λ z. P z y (sign closing b.last ∷ rest)) i b.within) in
     h b.last rest one.rest
 
-pub between : {X : Type 0} {opening closing : Sign} {P : List Token → X → List Token → Type 0} {ts us vs rest : List Token} {p q : Span} {x : X}
-    → ts ≡ sign opening p ∷ us → P us x vs → vs ≡ sign closing q ∷ rest → IsBetween opening closing P ts x rest
-between {P = P} {us = us} {p = p} {q = q} {x = x} e s f = record { first = p; last = q; inner = us; front = e; within = subst (λ z. P us x z) f s }
+pub one_between : {X : Type 0} {opening closing : Sign} {P : List Token → X → List Token → Type 0} → ((z : List Token) → IsUnique (P z)) → (ts : List Token)
+    → IsUnique (IsBetween opening closing P ts)
+one_between {closing = closing} {P = P} unique ts x y r q a b =
+    let e = a.front in let f = b.front in
+    let i : b.inner ≡ a.inner = cc in
+    let one = unique a.inner x y (sign closing a.last ∷ r) (sign closing b.last ∷ q) a.within (subst (λ z. P z y (sign closing b.last ∷ q)) i b.within) in
+    let w = one.rest in
+    record { value = one.value; rest = cc }

@@ -1,3 +1,4 @@
+pub mod AssertionExits
 pub mod Exits
 pub mod Folds
 pub mod Turns

@@ -1,0 +1,88 @@
+use Rattle.std.proofs.Common.{arith, ap, length}
+use Rattle.gh_ast.specs.Plain.{star, formula_first, no_formulas, formula_of}
+use Rattle.gh_ast.proofs.OneAssertion.{one_formula}
+use Rattle.gh_ast.proofs.Shorter.{shorter_item}
+use Rattle.gh_parse.proofs.Exits.{exit, along, no_end}
+use Rattle.gh_parse.proofs.Folds.{formula_of-emp, formula_of-cases, formula_of-star, formulas_before}
+use Rattle.gh_parse.proofs.Turns.{chain_more, chain_last, fewer}
+use Rattle.gh_parse.proofs.AssertionExits.{assertion_alone, assertion_start, items_first, items_rest, items_more, items_last}
+use Rattle.gh_parse.proofs.AssertionExits.{no_choosing, no_yes, no_else, no_no, chosen, bracketed, bracketed_rest, shorter_choosing, shorter_braced, empty_item}
+use Rattle.gh_parse.proofs.cursor.Parser.+assertion.Goals as goal
+
+pub assertion-returns-in_default : goal.assertion-returns-in_default
+assertion-returns-in_default t c = assertion_alone c.in_ok-first.ensures c.in_default.ensures.taken c.in_default.ensures.stays
+
+pub assertion-members-init : goal.assertion-members-init
+assertion-members-init t c = record {
+  goes = assertion_start _ _ _ c.in_ok-first.ensures c.in-Some.ensures.taken c.new-members.ensures.items c.in_ok-push.ensures.items;
+  shorter = fewer _ _ _ (shorter_item c.in_ok-first.ensures) c.in-Some.ensures.taken;
+}
+
+pub assertion-returns-in_err-item : goal.assertion-returns-in_err-item
+assertion-returns-in_err-item t c =
+    exit _ _ _ _ _ _ (λ h. c.members.invariant.goes.back (items_first h)) c.in_err-item.ensures c.from_residual-in_err-item.ensures.1
+
+pub assertion-members-smaller : goal.assertion-members-smaller
+assertion-members-smaller t c = fewer _ _ _ (shorter_item c.in_ok-item.ensures) c.in-Some-take_sign.ensures.taken
+
+pub assertion-members-preserved : goal.assertion-members-preserved
+assertion-members-preserved t c =
+    let step = fewer _ _ _ (shorter_item c.in_ok-item.ensures) c.in-Some-take_sign.ensures.taken in
+    record {
+      goes =
+          chain_more (λ d. formula_first (formula_of d)) star _ _ _ c.members.invariant.goes c.in_ok-push-2.ensures.items
+          (items_more c.in_ok-item.ensures c.in-Some-take_sign.ensures.taken) (items_rest c.in_ok-item.ensures c.in-Some-take_sign.ensures.taken);
+      shorter = omega (arith, step, c.members.invariant.shorter);
+    }
+
+pub assertion-returns-in_default-take_sign : goal.assertion-returns-in_default-take_sign
+assertion-returns-in_default-take_sign t c =
+    rw (formula_of-star c.push-in-members.new.self, ← formulas_before c.push-in-members.new.self.items)
+    (
+    chain_last (λ d. formula_first (formula_of d)) star _ _ _ no_formulas _ c.members.invariant.goes c.in_ok-push-2.ensures.items
+    (items_last c.in_ok-item.ensures c.in_default-take_sign.ensures.taken c.in_default-take_sign.ensures.stays)
+    )
+
+pub cases-returns-in_err-test : goal.cases-returns-in_err-test
+cases-returns-in_err-test t c = exit _ _ _ _ _ _ (no_choosing c.in_ok-expect_key.ensures) c.in_err-test.ensures c.from_residual-in_err-test.ensures.1
+
+pub cases-enclosed_assertion-requires : goal.cases-enclosed_assertion-requires
+cases-enclosed_assertion-requires t c =
+    let e = ap length c.in_ok-expect_key.ensures in
+    let h = shorter_choosing _ _ _ c.in_ok-test.ensures in
+    (omega (arith, e, h), tt)
+
+pub cases-returns-in_err-yes : goal.cases-returns-in_err-yes
+cases-returns-in_err-yes t c =
+    exit _ _ _ _ _ _ (no_yes c.in_ok-expect_key.ensures c.in_ok-test.ensures) c.in_err-yes.ensures c.from_residual-in_err-yes.ensures.1
+
+pub cases-returns-in_err-expect_key-2 : goal.cases-returns-in_err-expect_key-2
+cases-returns-in_err-expect_key-2 t c =
+    exit _ _ _ _ _ _ (no_else c.in_ok-expect_key.ensures c.in_ok-test.ensures c.in_ok-yes.ensures) c.in_err-expect_key-2.ensures c.from_residual-in_err-expect_key-2.ensures.1
+
+pub cases-enclosed_assertion-requires-2 : goal.cases-enclosed_assertion-requires-2
+cases-enclosed_assertion-requires-2 t c =
+    let e = ap length c.in_ok-expect_key.ensures in
+    let h = shorter_choosing _ _ _ c.in_ok-test.ensures in
+    let i = shorter_braced _ _ _ c.in_ok-yes.ensures in
+    let f = ap length c.in_ok-expect_key-2.ensures in
+    (omega (arith, e, h, i, f), tt)
+
+pub cases-returns-in_err-no : goal.cases-returns-in_err-no
+cases-returns-in_err-no t c =
+    exit _ _ _ _ _ _ (no_no c.in_ok-expect_key.ensures c.in_ok-test.ensures c.in_ok-yes.ensures c.in_ok-expect_key-2.ensures) c.in_err-no.ensures c.from_residual-in_err-no.ensures.1
+
+pub cases-returns : goal.cases-returns
+cases-returns t c =
+    rw (formula_of-cases c.in_ok-test.test c.in_ok-new.field-0 c.in_ok-new-2.field-0, c.in_ok-new.ensures.ok, c.in_ok-new-2.ensures.ok)
+    (chosen c.in_ok-expect_key.ensures c.in_ok-test.ensures c.in_ok-yes.ensures c.in_ok-expect_key-2.ensures c.in_ok-no.ensures)
+
+pub enclosed_assertion-returns-in_err-expect_sign-2 : goal.enclosed_assertion-returns-in_err-expect_sign-2
+enclosed_assertion-returns-in_err-expect_sign-2 t c =
+    exit _ _ _ _ _ _ (no_end one_formula c.in_ok-expect_sign.ensures c.in_ok-inner.ensures) c.in_err-expect_sign-2.ensures c.from_residual-in_err-expect_sign-2.ensures.1
+
+pub item-returns-in_default : goal.item-returns-in_default
+item-returns-in_default t c = along _ _ _ _ _ bracketed (bracketed_rest c.ahead.result c.ahead.ensures c.in_default.not-Name c.in_default.not-Key) c.enclosed_assertion.ensures
+
+pub item_by_word-returns-in_ok-expect_key-in-Emp : goal.item_by_word-returns-in_ok-expect_key-in-Emp
+item_by_word-returns-in_ok-expect_key-in-Emp t c = rw formula_of-emp (empty_item c.in_ok-expect_key-in-Emp.ensures)

@@ -1,0 +1,17 @@
+use Rattle.gh_ast.specs.declared.Operand.TheVariants as operand
+use Rattle.gh_parse.proofs.Exits.{exit}
+use Rattle.gh_parse.proofs.Folds.{formula_of-pure}
+use Rattle.gh_parse.proofs.AssertionExits.{no_null_sign, no_null_right, compared_null}
+use Rattle.gh_parse.proofs.cursor.Parser.null_item.Goals as goal
+
+pub returns-in_err-equal : goal.returns-in_err-equal
+returns-in_err-equal c = exit _ _ _ _ _ _ (no_null_sign c.in_ok-span.ensures) c.in_err-equal.ensures c.from_residual-in_err-equal.ensures.1
+
+pub returns-in_err-right : goal.returns-in_err-right
+returns-in_err-right c =
+    exit _ _ _ _ _ _ (no_null_right c.in_ok-equal.equal c.in_ok-span.ensures c.in_ok-equal.ensures) c.in_err-right.ensures c.from_residual-in_err-right.ensures.1
+
+pub returns : goal.returns
+returns c =
+    rw (formula_of-pure (operand.Null c.in_ok-span.span) c.in_ok-equal.equal c.in_ok-right.right)
+    (compared_null c.in_ok-equal.equal c.in_ok-span.ensures c.in_ok-equal.ensures c.in_ok-right.ensures)

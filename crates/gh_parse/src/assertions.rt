@@ -1,0 +1,170 @@
+//! Assertions.
+
+ghost use Rattle.gh_ast.specs.Grammar.{SpellsItem, SpellsAssertion, SpellsClause};
+ghost use Rattle.gh_ast.specs.Plain.{formula_of};
+ghost use Rattle.gh_parse.specs.Views.{tokens_of};
+ghost use Rattle.gh_parse.specs.Answers.{IsRead, IsBetween, IsAhead, HasKey};
+
+use crate::cursor::{Ahead, Parser};
+use crate::error::ParseError;
+use gh_ast::sign::{Keyword, Sign};
+use gh_ast::{Assertion, Operand};
+use std::alloc::Global;
+
+impl<'t> Parser<'t> {
+    /// Reads an assertion after its word. One that is missing is `emp`.
+    pub fn clause(&mut self, alloc: Global, word: Keyword) -> Result<Assertion, ParseError>
+        ensures { IsRead (SpellsClause word (tokens_of self.old.rest.now)) formula_of result (tokens_of self.new.rest.now) }
+    {
+        let Some(_) = self.take_key(word) else {
+            return Ok(Assertion::Emp);
+        };
+        self.assertion(alloc)
+    }
+
+    /// Reads an assertion: items with `&*&` between them.
+    #[cycle(assertion)]
+    pub fn assertion(&mut self, alloc: Global) -> Result<Assertion, ParseError>
+        ensures { IsRead (SpellsAssertion (tokens_of self.old.rest.now)) formula_of result (tokens_of self.new.rest.now) }
+    {
+        let first = self.item(alloc)?;
+        let Some(_) = self.take_sign(Sign::Star) else {
+            return Ok(first);
+        };
+        let mut members = Vec::new(alloc);
+        members.push(first)?;
+        'members: loop {
+            members.push(self.item(alloc)?)?;
+            let Some(_) = self.take_sign(Sign::Star) else {
+                return Ok(Assertion::Star(members));
+            };
+        }
+    }
+
+    // Reads one member of an assertion.
+    #[cycle(assertion)]
+    fn item(&mut self, alloc: Global) -> Result<Assertion, ParseError>
+        ensures { IsRead (SpellsItem (tokens_of self.old.rest.now)) formula_of result (tokens_of self.new.rest.now) }
+    {
+        match self.ahead() {
+            Ahead::Name => self.named_item(alloc),
+            Ahead::Key(word) => self.item_by_word(alloc, word),
+            _ => self.enclosed_assertion(alloc, Sign::ParenOpen, Sign::ParenClose),
+        }
+    }
+
+    // Reads a member that begins with a reserved word.
+    #[cycle(assertion)]
+    fn item_by_word(&mut self, alloc: Global, word: Keyword) -> Result<Assertion, ParseError>
+        requires { HasKey word (tokens_of self.old.rest.now) }
+        ensures { IsRead (SpellsItem (tokens_of self.old.rest.now)) formula_of result (tokens_of self.new.rest.now) }
+    {
+        match word {
+            Keyword::Emp => {
+                self.expect_key(Keyword::Emp)?;
+                Ok(Assertion::Emp)
+            }
+            Keyword::Acc => self.acc(alloc),
+            Keyword::Lseg => self.lseg(alloc),
+            Keyword::If => self.cases(alloc),
+            Keyword::Null => self.null_item(alloc),
+            _ => Err(self.unexpected()),
+        }
+    }
+
+    // Reads two assertions in braces, of which a test chooses.
+    #[cycle(assertion)]
+    fn cases(&mut self, alloc: Global) -> Result<Assertion, ParseError>
+        requires { HasKey Keyword.If (tokens_of self.old.rest.now) }
+        ensures { IsRead (SpellsItem (tokens_of self.old.rest.now)) formula_of result (tokens_of self.new.rest.now) }
+    {
+        self.expect_key(Keyword::If)?;
+        let test = self.enclosed_test(alloc, false)?;
+        let yes = self.enclosed_assertion(alloc, Sign::BraceOpen, Sign::BraceClose)?;
+        self.expect_key(Keyword::Else)?;
+        let no = self.enclosed_assertion(alloc, Sign::BraceOpen, Sign::BraceClose)?;
+        Ok(Assertion::Cases {
+            test,
+            yes: Box::new(alloc, yes)?,
+            no: Box::new(alloc, no)?,
+        })
+    }
+
+    // Reads an assertion between two signs.
+    #[cycle(assertion)]
+    fn enclosed_assertion(
+        &mut self,
+        alloc: Global,
+        opening: Sign,
+        closing: Sign,
+    ) -> Result<Assertion, ParseError>
+        ensures { IsRead (IsBetween opening closing SpellsAssertion (tokens_of self.old.rest.now)) formula_of result (tokens_of self.new.rest.now) }
+    {
+        self.expect_sign(opening)?;
+        let inner = self.assertion(alloc)?;
+        self.expect_sign(closing)?;
+        Ok(inner)
+    }
+
+    // Reads `acc ( NAME )`.
+    fn acc(&mut self, alloc: Global) -> Result<Assertion, ParseError>
+        requires { HasKey Keyword.Acc (tokens_of self.old.rest.now) }
+        ensures { IsRead (SpellsItem (tokens_of self.old.rest.now)) formula_of result (tokens_of self.new.rest.now) }
+    {
+        self.expect_key(Keyword::Acc)?;
+        self.expect_sign(Sign::ParenOpen)?;
+        let at = self.expect_name(alloc)?;
+        self.expect_sign(Sign::ParenClose)?;
+        Ok(Assertion::Acc { at })
+    }
+
+    // Reads `lseg ( operand , operand )`.
+    fn lseg(&mut self, alloc: Global) -> Result<Assertion, ParseError>
+        requires { HasKey Keyword.Lseg (tokens_of self.old.rest.now) }
+        ensures { IsRead (SpellsItem (tokens_of self.old.rest.now)) formula_of result (tokens_of self.new.rest.now) }
+    {
+        self.expect_key(Keyword::Lseg)?;
+        self.expect_sign(Sign::ParenOpen)?;
+        let from = self.operand(alloc)?;
+        self.expect_sign(Sign::Comma)?;
+        let to = self.operand(alloc)?;
+        self.expect_sign(Sign::ParenClose)?;
+        Ok(Assertion::Lseg { from, to })
+    }
+
+    // Reads a cell or a comparison that begins with a name.
+    fn named_item(&mut self, alloc: Global) -> Result<Assertion, ParseError>
+        requires { IsAhead Ahead.Name (tokens_of self.old.rest.now) }
+        ensures { IsRead (SpellsItem (tokens_of self.old.rest.now)) formula_of result (tokens_of self.new.rest.now) }
+    {
+        let at = self.expect_name(alloc)?;
+        if let Some(_) = self.take_sign(Sign::Dot) {
+            self.expect_key(Keyword::Next)?;
+            self.expect_sign(Sign::Arrow)?;
+            let to = self.operand(alloc)?;
+            return Ok(Assertion::PointsTo { at, to });
+        }
+        let equal = self.comparison_sign()?;
+        let right = self.operand(alloc)?;
+        Ok(Assertion::Pure {
+            left: Operand::Var(at),
+            equal,
+            right,
+        })
+    }
+
+    // Reads a comparison that begins with `null`.
+    fn null_item(&mut self, alloc: Global) -> Result<Assertion, ParseError>
+        requires { HasKey Keyword.Null (tokens_of self.old.rest.now) }
+        ensures { IsRead (SpellsItem (tokens_of self.old.rest.now)) formula_of result (tokens_of self.new.rest.now) }
+    {
+        let span = self.expect_key(Keyword::Null)?;
+        let equal = self.comparison_sign()?;
+        let right = self.operand(alloc)?;
+        Ok(Assertion::Pure {
+            left: Operand::Null { span },
+            equal,
+            right,
+        })
+    }
+}
