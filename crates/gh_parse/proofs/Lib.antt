@@ -8,3 +8,5 @@ pub mod StatementViews
 pub mod CallExits
 pub mod Runs
 pub mod StatementExits
+pub mod ProcedureExits
+pub mod ProgramExits

@@ -1,15 +1,15 @@
 //! The parser: from the bytes of a text to its syntax tree.
 #![tactic(auto)]
 
+#[cfg(test)]
+mod assertion_tests;
 pub mod assertions;
 pub mod calls;
 pub mod conditions;
 pub mod cursor;
 pub mod error;
+pub mod procedures;
+pub mod programs;
 pub mod statements;
 pub mod token;
 pub mod values;
-#[cfg(test)]
-mod assertion_tests;
-pub mod assertions;
-pub mod conditions;
