@@ -9,10 +9,9 @@ use Rattle.gh_ast.specs.declared.Assertion.{Assertion}
 use Rattle.gh_ast.specs.declared.Assertion.TheVariants as assertion_is
 use Rattle.gh_ast.specs.declared.Assertion.TheOpen.{Assertion-F}
 use Rattle.gh_ast.specs.declared.Assertion.TheFolds.{fold-roll-Assertion}
-use Rattle.gh_ast.specs.declared.Stmt.{Stmt}
 use Rattle.gh_ast.specs.declared.Block.{Block}
 use Rattle.gh_ast.specs.declared.Stmt.TheVariants as stmt_is
-use Rattle.gh_ast.specs.declared.Stmt.TheOpen.{Stmt-F, Block-F}
+use Rattle.gh_ast.specs.declared.Stmt.TheOpen.{Stmt-F}
 use Rattle.gh_ast.specs.declared.Stmt.TheFolds.{fold-roll-Stmt, fold_out-Block}
 use Rattle.gh_ast.specs.Plain.{Test, Formula, Statement, Part, negation, cases, choice, loop, test_step, formula_step, statement_step, part_step, test_of, formula_of, statement_of, part_of, statements_view}
 

@@ -1,16 +1,21 @@
 -- Texts of lists of tokens.
-use Rattle.std.proofs.Common.{◌≡◌, ℕ, ◌+◌, ◌<◌, List, [], ◌∷◌, ◌++◌, length, take, get_or, ◌≤◌, Bool, true, false, nat_eq, refl, sym, ◌∙◌, ap, subst, arith, append_assoc}
+use Rattle.std.proofs.Common.{◌≡◌, ℕ, ◌+◌, ◌<◌, List, [], ◌∷◌, ◌++◌, length, take, get_or, ◌≤◌, Bool, true, false, nat_eq, cond, map, refl, sym, ◌∙◌, ap, subst, append_assoc}
 use Rattle.std.proofs.lemmas.List.{take_more, take_all}
 use Rattle.gh_ast.specs.declared.sign.Sign.{Sign}
 use Rattle.gh_ast.specs.declared.Cond.{Cond}
 use Rattle.gh_ast.specs.declared.Assertion.{Assertion}
 use Rattle.gh_ast.specs.declared.Stmt.{Stmt}
-use Rattle.gh_ast.specs.declared.sign.Sign.TheVariants.{Star, ParenOpen, ParenClose, BraceOpen, BraceClose, Comma, Assign}
-use Rattle.gh_ast.specs.declared.sign.Keyword.TheVariants.{If, Else, While, Invariant}
+use Rattle.gh_ast.specs.declared.sign.Sign.TheVariants.{Star, ParenOpen, ParenClose, BraceOpen, BraceClose, Comma, Assign, Colon, Semicolon}
+use Rattle.gh_ast.specs.declared.sign.Keyword.{Keyword}
+use Rattle.gh_ast.specs.declared.sign.Keyword.TheVariants.{If, Else, While, Invariant, Returns, Var, Node}
+use Rattle.gh_ast.specs.declared.Procedure.{Procedure}
+use Rattle.std.specs.Str.{bytes_eq}
+use Rattle.std.proofs.lemmas.Slice.Eq.{bytes_eq-Decides}
+use Rattle.gh_ast.specs.Tokens.{keyword_text}
 use Rattle.gh_base.specs.declared.place.Span.{Span}
 use Rattle.gh_ast.specs.declared.Occ.{Occ}
-use Rattle.gh_ast.specs.Plain.{Test, Formula, cases, Statements, loop, test_of, tests_view, formula_of, formulas_view, statement_of, statements_view}
-use Rattle.gh_ast.specs.Printed.{Lexeme, reserved, mark, Adds, name_shown, targets_shown, otherwise_shown, spaced, followed, joined, lexeme_text, bracketed, is_list, test_shown, tests_shown, tests_followed, is_star, formula_shown, formulas_shown, formulas_followed, statement_shown, statements_shown}
+use Rattle.gh_ast.specs.Plain.{Test, Formula, cases, Statements, loop, test_of, tests_view, formula_of, formulas_view, statement_of, statements_view, procedure_of}
+use Rattle.gh_ast.specs.Printed.{Lexeme, reserved, mark, Adds, name_shown, targets_shown, otherwise_shown, word, word_or, parameter_shown, results_shown, locals_shown, procedure_shown, spaced, followed, joined, lexeme_text, bracketed, is_list, test_shown, tests_shown, tests_followed, is_star, formula_shown, formulas_shown, formulas_followed, statement_shown, statements_shown}
 use Rattle.std.specs.List.{flat_map}
 use Rattle.std.proofs.lemmas.Grind.{flat_map-append}
 
@@ -25,7 +30,6 @@ no_more (l ∷ a) = ap (λ t. l ∷ t) (no_more a)
 pub followed_push : {A : Type 0} (f : A → List Lexeme) (s : Sign) (xs : List A) (x : A) → followed f s (xs ++ x ∷ []) ≡ followed f s xs ++ mark s ∷ f x
 followed_push f s [] x = ap (λ t. mark s ∷ t) (no_more (f x))
 followed_push f s (y ∷ xs) x = ap (λ t. mark s ∷ f y ++ t) (followed_push f s xs x) ∙ ap (λ t. mark s ∷ t) (sym (append_assoc (f y) (followed f s xs) (mark s ∷ f x)))
-
 
 pub and_then : {a b c : List ℕ} {xs ys : List Lexeme} → Adds a b xs → Adds b c ys → Adds a c (xs ++ ys)
 and_then {a} {b} {c} {xs} {ys} e f =
@@ -139,3 +143,28 @@ loop_shown p c t i a d e f g =
     regroup ((((reserved While ∷ mark ParenOpen ∷ test_shown t ++ mark ParenClose ∷ []) ++ reserved Invariant ∷ []) ++ formula_shown i) ++ (mark BraceOpen ∷ statements_shown a ++ mark BraceClose ∷ []))
     (statement_shown (loop p t i a c)) (three (reserved While ∷ mark ParenOpen ∷ test_shown t) (formula_shown i) (mark BraceOpen ∷ statements_shown a) (mark ParenClose) (reserved Invariant) (mark BraceClose))
     (and_then (and_then (and_then d e) f) g)
+
+word_at : (k : Keyword) (w : List ℕ) (b : Bool) → bytes_eq w (keyword_text k) ≡ b → w ≡ lexeme_text (cond b (reserved k) (word w))
+word_at k w true e = (bytes_eq-Decides w (keyword_text k)).0 e
+word_at k w false e = refl
+
+word_is : (k : Keyword) (w : List ℕ) → w ≡ lexeme_text (word_or k w)
+word_is k w = word_at k w (bytes_eq w (keyword_text k)) refl
+
+-- a word is written as it is, reserved or not
+pub as_word : {before after : List ℕ} (k : Keyword) (w : List ℕ) → Adds before after (word w ∷ []) → Adds before after (word_or k w ∷ [])
+as_word {before} {after} k w a = record { same = a.same ∙ ap (λ t. before ++ ((32 ∷ t) ++ [])) (word_is k w) }
+
+pub some_results : {before after : List ℕ} (xs : List Occ) (b : Bool) → b ≡ nat_eq (length xs) 0 → b ≡ false
+    → Adds before after (reserved Returns ∷ mark ParenOpen ∷ joined parameter_shown Comma xs ++ mark ParenClose ∷ []) → Adds before after (results_shown xs)
+some_results [] b e f a = cc
+some_results (x ∷ xs) b e f a = a
+
+pub some_locals : {before after : List ℕ} (xs : List Occ) (b : Bool) → b ≡ nat_eq (length xs) 0 → b ≡ false
+    → Adds before after (reserved Var ∷ joined name_shown Comma xs ++ mark Colon ∷ reserved Node ∷ mark Semicolon ∷ []) → Adds before after (locals_shown xs)
+some_locals [] b e f a = cc
+some_locals (x ∷ xs) b e f a = a
+
+pub procedures_each : (xs : List Procedure) → flat_map (λ p. procedure_shown (procedure_of p)) xs ≡ flat_map procedure_shown (map procedure_of xs)
+procedures_each [] = refl
+procedures_each (x ∷ xs) = ap (λ t. procedure_shown (procedure_of x) ++ t) (procedures_each xs)

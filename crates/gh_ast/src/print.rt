@@ -1,8 +1,8 @@
 //! The text of a program.
 
-ghost use Rattle.std.specs.Prelude.{◌≡◌, ◌++◌, ◌∷◌, [], OnOk, IfOk};
+ghost use Rattle.std.specs.Prelude.{◌≡◌, ◌++◌, ◌∷◌, [], map, Some, option_map, OnOk, IfOk};
 ghost use Rattle.std.specs.List.{flat_map};
-ghost use Rattle.gh_ast.specs.Plain.{set, new, write, free, call, comparison, points_to, cell, segment, test_of, tests_view, formula_of, formulas_view, statement_of, statements_view, part_of, procedure_of, program_of};
+ghost use Rattle.gh_ast.specs.Plain.{set, new, write, free, call, comparison, points_to, cell, segment, test_of, tests_view, formula_of, formulas_view, statement_of, statements_view, part_of, inside_of, procedure_of, program_of};
 ghost use Rattle.gh_ast.specs.Printed.{word, reserved, mark, Adds, joined, name_shown, operand_shown, expr_shown, equality, bracketed, is_list, is_star, test_shown, tests_shown, tests_followed, formula_shown, formulas_shown, formulas_followed, targets_shown, statement_shown, statements_shown, otherwise_shown, field_shown, parameter_shown, results_shown, locals_shown, body_shown, procedure_shown, program_text};
 
 use crate::sign::{Keyword, Sign};
@@ -188,7 +188,12 @@ fn is_star_formula(assertion: &Assertion) -> bool
     matches!(assertion, Assertion::Star(_))
 }
 
-fn put_comparison(out: &mut Text, left: &Operand, equal: bool, right: &Operand) -> Result<(), AllocError>
+fn put_comparison(
+    out: &mut Text,
+    left: &Operand,
+    equal: bool,
+    right: &Operand,
+) -> Result<(), AllocError>
     ensures { OnOk result (Adds out.old out.new (formula_shown (comparison left.now equal right.now))) }
 {
     put_operand(out, left)?;
@@ -460,4 +465,129 @@ fn put_statement(out: &mut Text, statement: &Stmt) -> Result<(), AllocError>
         }
         Stmt::Return { values, .. } => put_return(out, values.as_slice()),
     }
+}
+
+fn put_field(out: &mut Text, field: &Field) -> Result<(), AllocError>
+    ensures { OnOk result (Adds out.old out.new (field_shown field.now)) }
+{
+    put_key(out, Keyword::Var)?;
+    put_name(out, &field.name)?;
+    put_sign(out, Sign::Colon)?;
+    put(out, field.kind.bytes())?;
+    put_sign(out, Sign::Semicolon)?;
+    Ok(())
+}
+
+fn put_fields(out: &mut Text, fields: &[Field]) -> Result<(), AllocError>
+    ensures { OnOk result (Adds out.old out.new (flat_map field_shown fields.now)) }
+{
+    for field in fields {
+        put_field(out, field)?;
+    }
+    Ok(())
+}
+
+// The results after `returns`, where there are some.
+fn put_results(out: &mut Text, results: &[Occ]) -> Result<(), AllocError>
+    ensures { OnOk result (Adds out.old out.new (results_shown results.now)) }
+{
+    if results.is_empty() {
+        return Ok(());
+    }
+    put_key(out, Keyword::Returns)?;
+    put_sign(out, Sign::ParenOpen)?;
+    put_parameters(out, results)?;
+    put_sign(out, Sign::ParenClose)?;
+    Ok(())
+}
+
+// One declaration of all locals, where there are some.
+fn put_locals(out: &mut Text, locals: &[Occ]) -> Result<(), AllocError>
+    ensures { OnOk result (Adds out.old out.new (locals_shown locals.now)) }
+{
+    if locals.is_empty() {
+        return Ok(());
+    }
+    put_key(out, Keyword::Var)?;
+    put_names(out, locals)?;
+    put_sign(out, Sign::Colon)?;
+    put_key(out, Keyword::Node)?;
+    put_sign(out, Sign::Semicolon)?;
+    Ok(())
+}
+
+fn put_body(out: &mut Text, body: &Body) -> Result<(), AllocError>
+    ensures { OnOk result (Adds out.old out.new (body_shown (Some (inside_of body.now)))) }
+{
+    put_sign(out, Sign::BraceOpen)?;
+    put_locals(out, body.locals.as_slice())?;
+    put_statements(out, body.block.statements.as_slice())?;
+    put_sign(out, Sign::BraceClose)?;
+    Ok(())
+}
+
+// The body, or `;` in its place.
+fn put_rest(out: &mut Text, body: &Option<Body>) -> Result<(), AllocError>
+    ensures { OnOk result (Adds out.old out.new (body_shown (option_map inside_of body.now))) }
+{
+    match body {
+        None => put_sign(out, Sign::Semicolon),
+        Some(body) => put_body(out, body),
+    }
+}
+
+// A condition after its word.
+fn put_clause(out: &mut Text, key: Keyword, condition: &Assertion) -> Result<(), AllocError>
+    ensures { OnOk result (Adds out.old out.new (reserved key ∷ formula_shown (formula_of condition.now))) }
+{
+    put_key(out, key)?;
+    put_assertion(out, condition)?;
+    Ok(())
+}
+
+// The name and the parameters.
+fn put_head(out: &mut Text, name: &Occ, parameters: &[Occ]) -> Result<(), AllocError>
+    ensures { OnOk result (Adds out.old out.new (reserved Keyword.Procedure ∷ word name.now.name ∷ mark Sign.ParenOpen ∷ joined parameter_shown Sign.Comma parameters.now ++ mark Sign.ParenClose ∷ [])) }
+{
+    put_key(out, Keyword::Procedure)?;
+    put_name(out, name)?;
+    put_sign(out, Sign::ParenOpen)?;
+    put_parameters(out, parameters)?;
+    put_sign(out, Sign::ParenClose)?;
+    Ok(())
+}
+
+fn put_procedure(out: &mut Text, procedure: &Procedure) -> Result<(), AllocError>
+    ensures { OnOk result (Adds out.old out.new (procedure_shown (procedure_of procedure.now))) }
+{
+    put_head(out, &procedure.name, procedure.parameters.as_slice())?;
+    put_results(out, procedure.results.as_slice())?;
+    put_clause(out, Keyword::Requires, &procedure.needs)?;
+    put_clause(out, Keyword::Ensures, &procedure.gives)?;
+    put_rest(out, &procedure.body)?;
+    Ok(())
+}
+
+fn put_procedures(out: &mut Text, procedures: &[Procedure]) -> Result<(), AllocError>
+    ensures { OnOk result (Adds out.old out.new (flat_map procedure_shown (map procedure_of procedures.now))) }
+{
+    for procedure in procedures {
+        put_procedure(out, procedure)?;
+    }
+    Ok(())
+}
+
+/// The text of a program: its tokens with one space between two, and a line feed last.
+pub fn print(alloc: Global, program: &Program) -> Result<Text, AllocError>
+    ensures { IfOk result (λ text. text ≡ program_text (program_of program.now)) }
+{
+    let mut text = Text::new(alloc);
+    text.push(Keyword::Struct.text())?;
+    put_key(&mut text, Keyword::Node)?;
+    put_sign(&mut text, Sign::BraceOpen)?;
+    put_fields(&mut text, program.fields.as_slice())?;
+    put_sign(&mut text, Sign::BraceClose)?;
+    put_procedures(&mut text, program.procedures.as_slice())?;
+    text.push(b"\n")?;
+    Ok(text)
 }

@@ -1,4 +1,4 @@
-use Rattle.std.proofs.Common.{List, [], ◌∷◌, ◌++◌, arith, subst, sym, ap, ◌∙◌}
+use Rattle.std.proofs.Common.{[], ◌∷◌, ◌++◌, arith, subst, sym, ap, ◌∙◌}
 use Rattle.gh_ast.specs.Plain.{test_of, formula_of, statement_of, statements_view, part_of}
 use Rattle.gh_ast.specs.Printed.{Adds, reserved, mark, statement_shown, statements_shown, otherwise_shown}
 use Rattle.gh_ast.specs.declared.sign.Sign.TheVariants.{BraceOpen, BraceClose}
