@@ -8,3 +8,8 @@ pub mod NoCall
 pub mod NoProgram
 pub mod Shorter
 pub mod ShorterStatement
+pub mod Clearing
+pub mod Words
+pub mod TokenLemmas
+pub mod Printing
+pub mod Folds

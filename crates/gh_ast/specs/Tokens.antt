@@ -133,21 +133,34 @@ abbrev pub EndsWord : List ℕ → Type 0
 EndsWord [] = Unit {0}
 EndsWord (b ∷ rest) = is_name_byte b ≡ false
 
--- the sign stands at the front of the text, and no longer sign does
-pub record IsLongest (s : Sign) (text rest : List ℕ) : Type 0 where
-  pub front : text ≡ sign_text s ++ rest
-  pub longest : (t : Sign) (more : List ℕ) → text ≡ sign_text t ++ more → length (sign_text t) ≤ length (sign_text s)
+-- no sign that stands at the front of the text is longer
+abbrev pub IsLongest : Sign → List ℕ → Type 0
+IsLongest s text = (t : Sign) (more : List ℕ) → text ≡ sign_text t ++ more → length (sign_text t) ≤ length (sign_text s)
 
--- the tokens of a text without comments, from a place on: the longest that fit, with blanks between them
-pub data IsTokens : Span → List ℕ → List Token → Type 0 where
-  nothing : {p : Span} → IsTokens p [] []
-  blank : {p : Span} {b : ℕ} {rest : List ℕ} {ts : List Token} → IsTrue (is_blank b) → IsTokens (moved p b) rest ts → IsTokens p (b ∷ rest) ts
-  a_name : {p : Span} {text w rest : List ℕ} {ts : List Token} → text ≡ w ++ rest → IsWord w → EndsWord rest → IsFree w
-      → IsTokens (moved_over p w) rest ts → IsTokens p text (named (record { name = w; span = p }) ∷ ts)
-  a_keyword : {p : Span} {text rest : List ℕ} {k : Keyword} {ts : List Token} → text ≡ keyword_text k ++ rest → EndsWord rest
-      → IsTokens (moved_over p (keyword_text k)) rest ts → IsTokens p text (key k p ∷ ts)
-  a_sign : {p : Span} {text rest : List ℕ} {s : Sign} {ts : List Token} → IsLongest s text rest
-      → IsTokens (moved_over p (sign_text s)) rest ts → IsTokens p text (sign s p ∷ ts)
+-- what a text without comments begins with, w, and the token that it is: a blank is none
+pub data IsPiece (place : Span) (w rest : List ℕ) : List Token → Type 0 where
+  a_blank : (b : ℕ) → w ≡ b ∷ [] → IsTrue (is_blank b) → IsPiece place w rest []
+  a_name : IsWord w → EndsWord rest → IsFree w → IsPiece place w rest (named (record { name = w; span = place }) ∷ [])
+  a_keyword : (k : Keyword) → w ≡ keyword_text k → EndsWord rest → IsPiece place w rest (key k place ∷ [])
+  a_sign : (s : Sign) → w ≡ sign_text s → IsLongest s (w ++ rest) → IsPiece place w rest (sign s place ∷ [])
+
+-- from a place on, the tokens at the front of a text without comments; then the place and the text after them
+pub data IsTokens : Span → List ℕ → List Token → Span → List ℕ → Type 0 where
+  nothing : {p : Span} {text : List ℕ} → IsTokens p text [] p text
+  piece : {p end : Span} {text w rest last : List ℕ} {us ts all : List Token}
+      → text ≡ w ++ rest → IsPiece p w rest us → IsTokens (moved_over p w) rest ts end last → all ≡ us ++ ts → IsTokens p text all end last
 
 abbrev pub HasTokens : List ℕ → List Token → Type 0
-HasTokens text ts = IsTokens first_place (cleared text) ts
+HasTokens text ts = (end : Span) × IsTokens first_place (cleared text) ts end []
+
+-- no blank and no token stands at the front of a text without comments
+abbrev pub IsStuck : List ℕ → Type 0
+IsStuck text = (place : Span) (w rest : List ℕ) (ts : List Token) → text ≡ w ++ rest → IsPiece place w rest ts → ⊥
+
+-- the place after the first tokens of the text, where no token fits though bytes are left
+pub record IsStuckAt (text : List ℕ) (place : Span) : Type 0 where
+  pub tokens : List Token
+  pub rest : List ℕ
+  pub before : IsTokens first_place (cleared text) tokens place rest
+  pub left : rest ≢ []
+  pub stuck : IsStuck rest

@@ -1,7 +1,9 @@
 //! The syntax tree of the language, without meaning.
 #![tactic(auto)]
 
+pub mod print;
 pub mod sign;
+pub mod token_laws;
 
 use gh_base::name::Name;
 use gh_base::place::Span;

@@ -10,3 +10,7 @@ pub mod Runs
 pub mod StatementExits
 pub mod ProcedureExits
 pub mod ProgramExits
+pub mod Lexemes
+pub mod Tables
+pub mod Lexing
+pub mod Scanning

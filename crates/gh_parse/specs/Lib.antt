@@ -2,3 +2,5 @@ pub mod Views
 pub mod Answers
 pub mod Statements
 pub mod Procedures
+pub mod Scanning
+pub mod Lexing

@@ -8,8 +8,12 @@ pub mod calls;
 pub mod conditions;
 pub mod cursor;
 pub mod error;
+pub mod lexer;
+#[cfg(test)]
+mod lexer_tests;
 pub mod procedures;
 pub mod programs;
+pub mod scan;
 pub mod statements;
 pub mod token;
 pub mod values;

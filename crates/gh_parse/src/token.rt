@@ -28,6 +28,22 @@ pub enum Symbol<'t> {
     Sign(Sign),
 }
 
+impl<'t> Symbol<'t> {
+    ghost use Rattle.std.specs.Prelude.{◌≡◌};
+    ghost use Rattle.gh_parse.specs.Views.{symbol_text};
+
+    /// How the symbol is written.
+    pub fn text(&self) -> &'t [u8]
+        ensures { result.now ≡ symbol_text self.now }
+    {
+        match self {
+            Symbol::Name(word) => word.bytes,
+            Symbol::Key(key) => key.text(),
+            Symbol::Sign(sign) => sign.text(),
+        }
+    }
+}
+
 /// A token with the place of its first byte.
 #[derive(Clone, Copy)]
 pub struct Token<'t> {
