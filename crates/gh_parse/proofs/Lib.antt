@@ -14,3 +14,4 @@ pub mod Lexemes
 pub mod Tables
 pub mod Lexing
 pub mod Scanning
+pub mod Parsed

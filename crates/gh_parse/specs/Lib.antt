@@ -4,3 +4,4 @@ pub mod Statements
 pub mod Procedures
 pub mod Scanning
 pub mod Lexing
+pub mod Parsing

@@ -11,6 +11,7 @@ pub mod error;
 pub mod lexer;
 #[cfg(test)]
 mod lexer_tests;
+pub mod parse;
 pub mod procedures;
 pub mod programs;
 pub mod scan;
