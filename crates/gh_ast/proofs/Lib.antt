@@ -11,3 +11,11 @@ pub mod OneValue
 pub mod OneTest
 pub mod Shorter
 pub mod OneAssertion
+pub mod OneStatement
+pub mod OneProgram
+pub mod NoStatement
+pub mod NoCall
+pub mod NoProgram
+pub mod ShorterStatement
+pub mod Printing
+pub mod Folds

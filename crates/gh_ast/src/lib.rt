@@ -1,6 +1,8 @@
 //! The syntax tree of the language, without meaning.
 #![tactic(auto)]
 
+pub mod grammar_laws;
+pub mod print;
 pub mod sign;
 pub mod token_laws;
 pub mod typed;

@@ -18,7 +18,7 @@ use Rattle.gh_ast.proofs.OneAssertion.{one_member, one_formula, clause_cases}
 use Rattle.gh_ast.proofs.Shorter.{shorter_test, shorter_assertion}
 use Rattle.gh_parse.specs.declared.cursor.Ahead.{Ahead}
 use Rattle.gh_parse.specs.declared.cursor.Ahead.TheVariants as ahead
-use Rattle.gh_parse.specs.Answers.{IsRefused, IsAhead, HasKey, SpellsSign, SpellsKey, SpellsComparison, IsBetween}
+use Rattle.gh_parse.specs.Answers.{IsRefused, IsAhead, SpellsSign, SpellsKey, SpellsComparison, IsBetween}
 use Rattle.gh_parse.proofs.Exits.{one_between}
 use Rattle.gh_parse.proofs.Turns.{Goes, before}
 

@@ -1,5 +1,7 @@
 pub mod Views
+pub mod Answers
+pub mod Statements
+pub mod Procedures
 pub mod Scanning
 pub mod Lexing
 pub mod Parsing
-pub mod Answers

@@ -4,6 +4,7 @@
 #[cfg(test)]
 mod assertion_tests;
 pub mod assertions;
+pub mod calls;
 pub mod conditions;
 pub mod cursor;
 pub mod error;
@@ -11,6 +12,9 @@ pub mod lexer;
 #[cfg(test)]
 mod lexer_tests;
 pub mod parse;
+pub mod procedures;
+pub mod programs;
 pub mod scan;
+pub mod statements;
 pub mod token;
 pub mod values;

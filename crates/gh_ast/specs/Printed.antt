@@ -1,0 +1,192 @@
+-- The text of a program: its tokens with one space between two, and a line feed last.
+use Rattle.std.specs.Prelude.{◌≡◌, ℕ, List, [], ◌∷◌, ◌++◌, Bool, true, false, cond, Option, Some, None}
+use Rattle.std.specs.List.{flat_map}
+use Rattle.std.specs.Str.{bytes_eq}
+use Rattle.gh_ast.specs.declared.Occ.{Occ}
+use Rattle.gh_ast.specs.declared.Operand.{Operand}
+use Rattle.gh_ast.specs.declared.Operand.TheVariants as operand
+use Rattle.gh_ast.specs.declared.Expr.{Expr}
+use Rattle.gh_ast.specs.declared.Expr.TheVariants as expr
+use Rattle.gh_ast.specs.declared.Field.{Field}
+use Rattle.gh_ast.specs.declared.sign.Sign.{Sign}
+use Rattle.gh_ast.specs.declared.sign.Sign.TheVariants as sg
+use Rattle.gh_ast.specs.declared.sign.Keyword.{Keyword}
+use Rattle.gh_ast.specs.declared.sign.Keyword.TheVariants as kw
+use Rattle.gh_ast.specs.Plain.{Test, compare, negation, conjunction, disjunction, Tests, no_tests, test_first, Formula, empty, comparison, points_to, cell, segment, star, cases, Formulas, no_formulas, formula_first, Statement, set, new, write, free, call, choice, loop, give, Statements, no_statements, statement_first, Inside, Procedure, Program}
+use Rattle.gh_ast.specs.Tokens.{Token, named, key, sign, sign_text, keyword_text}
+
+-- a token without its place
+pub data Lexeme : Type 0 where
+  word : List ℕ → Lexeme
+  reserved : Keyword → Lexeme
+  mark : Sign → Lexeme
+
+abbrev pub lexeme_of : Token → Lexeme
+lexeme_of (named o) = word o.name
+lexeme_of (key k p) = reserved k
+lexeme_of (sign s p) = mark s
+
+abbrev pub lexeme_text : Lexeme → List ℕ
+lexeme_text (word w) = w
+lexeme_text (reserved k) = keyword_text k
+lexeme_text (mark s) = sign_text s
+
+-- each token after a space
+abbrev pub spaced : List Lexeme → List ℕ
+spaced [] = []
+spaced (l ∷ ls) = 32 ∷ lexeme_text l ++ spaced ls
+
+-- the tokens were added to a text, each after a space
+pub record Adds (before after : List ℕ) (ls : List Lexeme) : Type 0 where
+  pub same : after ≡ before ++ spaced ls
+
+-- one space between two tokens, and a line feed last
+abbrev pub line_of : List Lexeme → List ℕ
+line_of [] = 10 ∷ []
+line_of (l ∷ ls) = lexeme_text l ++ spaced ls ++ 10 ∷ []
+
+-- members with a sign between two
+abbrev pub followed : {A : Type 0} → (A → List Lexeme) → Sign → List A → List Lexeme
+followed f s [] = []
+followed f s (x ∷ xs) = mark s ∷ f x ++ followed f s xs
+
+abbrev pub joined : {A : Type 0} → (A → List Lexeme) → Sign → List A → List Lexeme
+joined f s [] = []
+joined f s (x ∷ xs) = f x ++ followed f s xs
+
+abbrev pub name_shown : Occ → List Lexeme
+name_shown o = word o.name ∷ []
+
+abbrev pub operand_shown : Operand → List Lexeme
+operand_shown (operand.Null p) = reserved kw.Null ∷ []
+operand_shown (operand.Var o) = word o.name ∷ []
+
+abbrev pub expr_shown : Expr → List Lexeme
+expr_shown (expr.Plain o) = operand_shown o
+expr_shown (expr.Read o) = word o.name ∷ mark sg.Dot ∷ reserved kw.Next ∷ []
+
+abbrev pub equality : Bool → Sign
+equality true = sg.Equal
+equality false = sg.Unequal
+
+-- a list inside a list stands in brackets
+abbrev pub bracketed : Bool → List Lexeme → List Lexeme
+bracketed true ls = mark sg.ParenOpen ∷ ls ++ mark sg.ParenClose ∷ []
+bracketed false ls = ls
+
+abbrev pub is_list : Test → Bool
+is_list (compare l e r) = false
+is_list (negation t) = false
+is_list (conjunction ts) = true
+is_list (disjunction ts) = true
+
+abbrev mutual
+  pub test_shown : Test → List Lexeme
+  test_shown (compare l e r) = expr_shown l ++ mark (equality e) ∷ expr_shown r
+  test_shown (negation t) = mark sg.Bang ∷ mark sg.ParenOpen ∷ test_shown t ++ mark sg.ParenClose ∷ []
+  test_shown (conjunction ts) = tests_shown sg.And ts
+  test_shown (disjunction ts) = tests_shown sg.Or ts
+
+  pub tests_shown : Sign → Tests → List Lexeme
+  tests_shown s no_tests = []
+  tests_shown s (test_first t ts) = bracketed (is_list t) (test_shown t) ++ tests_followed s ts
+
+  pub tests_followed : Sign → Tests → List Lexeme
+  tests_followed s no_tests = []
+  tests_followed s (test_first t ts) = mark s ∷ bracketed (is_list t) (test_shown t) ++ tests_followed s ts
+
+abbrev pub is_star : Formula → Bool
+is_star empty = false
+is_star (comparison l e r) = false
+is_star (points_to o y) = false
+is_star (cell o) = false
+is_star (segment x y) = false
+is_star (star l) = true
+is_star (cases t x y) = false
+
+abbrev mutual
+  pub formula_shown : Formula → List Lexeme
+  formula_shown empty = reserved kw.Emp ∷ []
+  formula_shown (comparison l e r) = operand_shown l ++ mark (equality e) ∷ operand_shown r
+  formula_shown (points_to o y) = word o.name ∷ mark sg.Dot ∷ reserved kw.Next ∷ mark sg.Arrow ∷ operand_shown y
+  formula_shown (cell o) = reserved kw.Acc ∷ mark sg.ParenOpen ∷ word o.name ∷ mark sg.ParenClose ∷ []
+  formula_shown (segment x y) = reserved kw.Lseg ∷ mark sg.ParenOpen ∷ operand_shown x ++ mark sg.Comma ∷ operand_shown y ++ mark sg.ParenClose ∷ []
+  formula_shown (star l) = formulas_shown l
+  formula_shown (cases t x y) =
+      reserved kw.If ∷ mark sg.ParenOpen ∷ test_shown t ++ mark sg.ParenClose ∷ mark sg.BraceOpen ∷ formula_shown x
+      ++ mark sg.BraceClose ∷ reserved kw.Else ∷ mark sg.BraceOpen ∷ formula_shown y ++ mark sg.BraceClose ∷ []
+
+  pub formulas_shown : Formulas → List Lexeme
+  formulas_shown no_formulas = []
+  formulas_shown (formula_first x l) = bracketed (is_star x) (formula_shown x) ++ formulas_followed l
+
+  pub formulas_followed : Formulas → List Lexeme
+  formulas_followed no_formulas = []
+  formulas_followed (formula_first x l) = mark sg.Star ∷ bracketed (is_star x) (formula_shown x) ++ formulas_followed l
+
+-- the targets of a call and `:=`, where there are some
+abbrev pub targets_shown : List Occ → List Lexeme
+targets_shown [] = []
+targets_shown (x ∷ xs) = joined name_shown sg.Comma (x ∷ xs) ++ mark sg.Assign ∷ []
+
+abbrev mutual
+  pub statement_shown : Statement → List Lexeme
+  statement_shown (set o e) = word o.name ∷ mark sg.Assign ∷ expr_shown e ++ mark sg.Semicolon ∷ []
+  statement_shown (new o) = word o.name ∷ mark sg.Assign ∷ reserved kw.New ∷ reserved kw.Node ∷ mark sg.Semicolon ∷ []
+  statement_shown (write o e) = word o.name ∷ mark sg.Dot ∷ reserved kw.Next ∷ mark sg.Assign ∷ expr_shown e ++ mark sg.Semicolon ∷ []
+  statement_shown (free o) = reserved kw.Free ∷ word o.name ∷ mark sg.Semicolon ∷ []
+  statement_shown (call xs f es) =
+      targets_shown xs ++ word f.name ∷ mark sg.ParenOpen ∷ joined expr_shown sg.Comma es ++ mark sg.ParenClose ∷ mark sg.Semicolon ∷ []
+  statement_shown (choice t a c b d) =
+      reserved kw.If ∷ mark sg.ParenOpen ∷ test_shown t ++ mark sg.ParenClose ∷ mark sg.BraceOpen ∷ statements_shown a ++ mark sg.BraceClose ∷ []
+      ++ otherwise_shown b
+  statement_shown (loop p t i a c) =
+      reserved kw.While ∷ mark sg.ParenOpen ∷ test_shown t ++ mark sg.ParenClose ∷ reserved kw.Invariant ∷ formula_shown i
+      ++ mark sg.BraceOpen ∷ statements_shown a ++ mark sg.BraceClose ∷ []
+  statement_shown (give p es) = reserved kw.Return ∷ joined expr_shown sg.Comma es ++ mark sg.Semicolon ∷ []
+
+  pub statements_shown : Statements → List Lexeme
+  statements_shown no_statements = []
+  statements_shown (statement_first s a) = statement_shown s ++ statements_shown a
+
+  -- an empty block in the place of `else` is left out
+  pub otherwise_shown : Statements → List Lexeme
+  otherwise_shown no_statements = []
+  otherwise_shown (statement_first s a) =
+      reserved kw.Else ∷ mark sg.BraceOpen ∷ statement_shown s ++ statements_shown a ++ mark sg.BraceClose ∷ []
+
+-- a field's words may be reserved ones
+abbrev pub word_or : Keyword → List ℕ → Lexeme
+word_or k w = cond (bytes_eq w (keyword_text k)) (reserved k) (word w)
+
+abbrev pub field_shown : Field → List Lexeme
+field_shown f = reserved kw.Var ∷ word_or kw.Next f.name.name ∷ mark sg.Colon ∷ word_or kw.Node f.kind ∷ mark sg.Semicolon ∷ []
+
+abbrev pub parameter_shown : Occ → List Lexeme
+parameter_shown o = word o.name ∷ mark sg.Colon ∷ reserved kw.Node ∷ []
+
+abbrev pub results_shown : List Occ → List Lexeme
+results_shown [] = []
+results_shown (r ∷ rs) = reserved kw.Returns ∷ mark sg.ParenOpen ∷ joined parameter_shown sg.Comma (r ∷ rs) ++ mark sg.ParenClose ∷ []
+
+-- all locals stand in one declaration, where there are some
+abbrev pub locals_shown : List Occ → List Lexeme
+locals_shown [] = []
+locals_shown (o ∷ os) = reserved kw.Var ∷ joined name_shown sg.Comma (o ∷ os) ++ mark sg.Colon ∷ reserved kw.Node ∷ mark sg.Semicolon ∷ []
+
+abbrev pub body_shown : Option Inside → List Lexeme
+body_shown None = mark sg.Semicolon ∷ []
+body_shown (Some b) = mark sg.BraceOpen ∷ locals_shown b.locals ++ statements_shown b.statements ++ mark sg.BraceClose ∷ []
+
+-- missing conditions are written as `emp`
+abbrev pub procedure_shown : Procedure → List Lexeme
+procedure_shown p =
+    reserved kw.Procedure ∷ word p.name.name ∷ mark sg.ParenOpen ∷ joined parameter_shown sg.Comma p.parameters ++ mark sg.ParenClose ∷ []
+    ++ results_shown p.results ++ reserved kw.Requires ∷ formula_shown p.needs ++ reserved kw.Ensures ∷ formula_shown p.gives ++ body_shown p.body
+
+abbrev pub program_shown : Program → List Lexeme
+program_shown p =
+    reserved kw.Struct ∷ reserved kw.Node ∷ mark sg.BraceOpen ∷ flat_map field_shown p.fields ++ mark sg.BraceClose ∷ flat_map procedure_shown p.procedures
+
+abbrev pub program_text : Program → List ℕ
+program_text p = line_of (program_shown p)

@@ -1,0 +1,53 @@
+-- The plain form of each statement.
+use Rattle.std.proofs.Common.{◌≡◌, ◌∙◌, List, [], Vec, Global, map, sym, ap, refl, rules}
+use Rattle.gh_base.specs.declared.place.Span.{Span}
+use Rattle.gh_ast.specs.declared.Occ.{Occ}
+use Rattle.gh_ast.specs.declared.Expr.{Expr}
+use Rattle.gh_ast.specs.declared.Cond.{Cond}
+use Rattle.gh_ast.specs.declared.Assertion.{Assertion}
+use Rattle.gh_ast.specs.declared.Block.{Block, roll-Block}
+use Rattle.gh_ast.specs.declared.Stmt.{Stmt}
+use Rattle.gh_ast.specs.declared.Stmt.TheVariants as stmt
+use Rattle.gh_ast.specs.declared.Stmt.TheOpen.{Stmt-F, Block-F}
+use Rattle.gh_ast.specs.declared.Stmt.TheFolds.{fold-roll-Stmt, fold-roll-Block, fold_out-Block}
+use Rattle.gh_ast.specs.Plain.{Statement, Part, test_of, formula_of, part_of, statement_of, statements_of, no_statements, statement_step, part_step, set, new, write, free, call, choice, loop, give}
+
+pub write_view : (o : Occ) (e : Expr) → statement_of (stmt.Write o e) ≡ write o e
+write_view o e = ap statement_of (sym (stmt.rolls-Write o e)) ∙ fold-roll-Stmt Statement Part statement_step part_step (Stmt-F.Write o e)
+
+pub set_view : (o : Occ) (e : Expr) → statement_of (stmt.Set o e) ≡ set o e
+set_view o e = ap statement_of (sym (stmt.rolls-Set o e)) ∙ fold-roll-Stmt Statement Part statement_step part_step (Stmt-F.Set o e)
+
+pub new_view : (o : Occ) → statement_of (stmt.New o) ≡ new o
+new_view o = ap statement_of (sym (stmt.rolls-New o)) ∙ fold-roll-Stmt Statement Part statement_step part_step (Stmt-F.New o)
+
+pub free_view : (o : Occ) → statement_of (stmt.Free o) ≡ free o
+free_view o = ap statement_of (sym (stmt.rolls-Free o)) ∙ fold-roll-Stmt Statement Part statement_step part_step (Stmt-F.Free o)
+
+pub call_view : (xs : Vec Occ Global) (f : Occ) (es : Vec Expr Global) → statement_of (stmt.Call xs f es) ≡ call xs.items f es.items
+call_view xs f es = ap statement_of (sym (stmt.rolls-Call xs f es)) ∙ fold-roll-Stmt Statement Part statement_step part_step (Stmt-F.Call xs f es)
+
+pub return_view : (p : Span) (es : Vec Expr Global) → statement_of (stmt.Return p es) ≡ give p es.items
+return_view p es = ap statement_of (sym (stmt.rolls-Return p es)) ∙ fold-roll-Stmt Statement Part statement_step part_step (Stmt-F.Return p es)
+
+pub if_view : (t : Cond) (a b : Block) → statement_of (stmt.If t a b) ≡ choice (test_of t) (part_of a).statements (part_of a).close (part_of b).statements (part_of b).close
+if_view t a b = ap statement_of (sym (stmt.rolls-If t a b)) ∙ fold-roll-Stmt Statement Part statement_step part_step (Stmt-F.If t a b)
+
+pub while_view : (p : Span) (t : Cond) (i : Assertion) (b : Block) → statement_of (stmt.While p t i b) ≡ loop p (test_of t) (formula_of i) (part_of b).statements (part_of b).close
+while_view p t i b = ap statement_of (sym (stmt.rolls-While p t i b)) ∙ fold-roll-Stmt Statement Part statement_step part_step (Stmt-F.While p t i b)
+
+pub part_view : (v : Vec Stmt Global) (c : Span) → part_of (roll-Block (record { statements = v; close = c })) ≡ record { statements = statements_of (map statement_of v.items); close = c }
+part_view v c = fold-roll-Block Statement Part statement_step part_step (record { statements = v; close = c })
+
+pub close_view : (b : Block) → (part_of b).close ≡ b.close
+close_view b = ap (λ p. p.close) (fold_out-Block Statement Part statement_step part_step b)
+
+-- an `if` whose `else` is missing
+pub if_alone_view : (t : Cond) (a : Block) (v : Vec Stmt Global) → v.items ≡ []
+    → statement_of (stmt.If t a (roll-Block (record { statements = v; close = a.close }))) ≡ choice (test_of t) (part_of a).statements (part_of a).close no_statements (part_of a).close
+if_alone_view t a v e =
+    let part : part_of (roll-Block (record { statements = v; close = a.close })) ≡ record { statements = no_statements; close = (part_of a).close } =
+        part_view v a.close ∙ ap (λ (s : List Stmt). let p : Part = record { statements = statements_of (map statement_of s); close = a.close } in p) e
+        ∙ ap (λ (c : Span). let p : Part = record { statements = no_statements; close = c } in p) (sym (close_view a)) in
+    if_view t a (roll-Block (record { statements = v; close = a.close }))
+    ∙ ap (λ (q : Part). choice (test_of t) (part_of a).statements (part_of a).close q.statements q.close) part

@@ -1,0 +1,29 @@
+use Rattle.gh_parse.proofs.Exits.{exit}
+use Rattle.gh_parse.proofs.Turns.{goes_more, goes_last}
+use Rattle.gh_ast.proofs.NoProgram.{locals_no_name}
+use Rattle.gh_parse.proofs.ProcedureExits.{declared_no_colon, declared_no_node, declared_no_end, declared_last, declared_more, declared_rest}
+use Rattle.gh_parse.proofs.cursor.Parser.declaration.Goals as goal
+
+pub returns-in_err-expect_name : goal.returns-in_err-expect_name
+returns-in_err-expect_name c =
+    exit _ _ _ _ _ _ (λ h. c.names.invariant.back (λ xs rest s. locals_no_name _ h xs rest s)) c.in_err-expect_name.ensures c.from_residual.ensures.1
+
+pub returns-in_err-expect_sign : goal.returns-in_err-expect_sign
+returns-in_err-expect_sign c =
+    exit _ _ _ _ _ _ (λ h. c.names.invariant.back (declared_no_colon c.in_ok-expect_name.ensures c.if-not-is_sign.ensures h)) c.in_err-expect_sign.ensures c.from_residual-in_err-expect_sign.ensures.1
+
+pub returns-in_err-expect_key : goal.returns-in_err-expect_key
+returns-in_err-expect_key c =
+    exit _ _ _ _ _ _ (λ h. c.names.invariant.back (declared_no_node c.in_ok-expect_name.ensures c.in_ok-expect_sign.ensures h)) c.in_err-expect_key.ensures c.from_residual-in_err-expect_key.ensures.1
+
+pub returns-in_err-expect_sign-2 : goal.returns-in_err-expect_sign-2
+returns-in_err-expect_sign-2 c =
+    exit _ _ _ _ _ _ (λ h. c.names.invariant.back (declared_no_end c.in_ok-expect_name.ensures c.in_ok-expect_sign.ensures c.in_ok-expect_key.ensures h)) c.in_err-expect_sign-2.ensures c.from_residual-in_err-expect_sign-2.ensures.1
+
+pub returns-then-not-is_sign : goal.returns-then-not-is_sign
+returns-then-not-is_sign c =
+    goes_last (λ l. l) _ _ _ _ c.names.invariant c.in_ok-push.ensures.items (declared_last c.in_ok-expect_name.ensures c.in_ok-expect_sign.ensures c.in_ok-expect_key.ensures c.in_ok-expect_sign-2.ensures)
+
+pub names-preserved : goal.names-preserved
+names-preserved c =
+    goes_more (λ l. l) _ _ _ c.names.invariant c.in_ok-push.ensures.items (declared_more c.in_ok-expect_name.ensures c.in_ok-expect_sign-3.ensures) (declared_rest c.in_ok-expect_name.ensures c.in_ok-expect_sign-3.ensures)

@@ -1,0 +1,37 @@
+//! From a text to its program.
+
+ghost use Rattle.std.specs.Prelude.{◌<◌, ◌-◌, ◌^◌, length, IfOk, IfErr};
+ghost use Rattle.gh_ast.specs.Plain.{program_of};
+ghost use Rattle.gh_parse.specs.Parsing.{IsParsed, IsParseRefusal};
+
+use crate::cursor::Parser;
+use crate::error::ParseError;
+use crate::lexer::lex;
+use crate::scan::{deep_bracket, strange_byte};
+use gh_ast::Program;
+use std::alloc::Global;
+
+/// Reads a program. Of several refusals that a text deserves, `Byte` comes first, then `Deep`,
+/// then `Syntax`.
+pub fn parse(alloc: Global, text: &[u8]) -> Result<Program, ParseError>
+    requires { length text.now < 2 ^ 32 - 1 }
+    ensures parsed { IfOk result (λ p. IsParsed text.now (program_of p)) }
+    ensures refused { IfErr result (IsParseRefusal text.now) }
+{
+    if let Some(offset) = strange_byte(text) {
+        return Err(ParseError::Byte { offset });
+    }
+    if let Some(span) = deep_bracket(text) {
+        return Err(ParseError::Deep { span });
+    }
+    let lexed = lex(alloc, text)?;
+    let mut parser = Parser {
+        rest: lexed.tokens.as_slice(),
+        end: lexed.end,
+    };
+    let program = parser.program(alloc)?;
+    if !lexed.whole {
+        return Err(ParseError::Syntax { span: lexed.end });
+    }
+    Ok(program)
+}

@@ -1,0 +1,132 @@
+//! Procedures.
+
+ghost use Rattle.gh_ast.specs.Grammar.{SpellsInside, SpellsParams, SpellsHeader, SpellsResults, SpellsProcedure};
+ghost use Rattle.gh_ast.specs.Plain.{inside_of, procedure_of};
+ghost use Rattle.gh_parse.specs.Views.{tokens_of};
+ghost use Rattle.gh_parse.specs.Answers.{IsRead};
+ghost use Rattle.gh_parse.specs.Procedures.{AddsLocals, SpellsEnded, ended_of};
+
+use crate::cursor::Parser;
+use crate::error::ParseError;
+use gh_ast::sign::{Keyword, Sign};
+use gh_ast::{Body, Occ, Procedure};
+use gh_base::place::Span;
+use std::alloc::Global;
+
+/// A body, or none, and the place of the last brace or of the semicolon in its place.
+#[derive(Debug, Drop)]
+pub struct Ending {
+    pub body: Option<Body>,
+    pub close: Span,
+}
+
+impl<'t> Parser<'t> {
+    /// Reads a declaration from its first name on, and puts its names after the locals.
+    pub fn declaration(&mut self, alloc: Global, locals: &mut Vec<Occ>) -> Result<(), ParseError>
+        ensures { IsRead (AddsLocals (tokens_of self.old.rest.now) locals.old.items) (λ _. locals.new.items) result (tokens_of self.new.rest.now) }
+    {
+        'names: loop {
+            locals.push(self.expect_name(alloc)?)?;
+            if !self.is_sign(Sign::Comma) {
+                self.expect_sign(Sign::Colon)?;
+                self.expect_key(Keyword::Node)?;
+                self.expect_sign(Sign::Semicolon)?;
+                return Ok(());
+            }
+            self.expect_sign(Sign::Comma)?;
+        }
+    }
+
+    /// Reads declarations, statements and the brace after them.
+    pub fn inside(&mut self, alloc: Global) -> Result<Body, ParseError>
+        ensures { IsRead (SpellsInside (tokens_of self.old.rest.now)) inside_of result (tokens_of self.new.rest.now) }
+    {
+        let mut locals = Vec::new(alloc);
+        'declarations: while self.is_key(Keyword::Var) {
+            self.expect_key(Keyword::Var)?;
+            self.declaration(alloc, &mut locals)?;
+        }
+        let block = self.statements(alloc)?;
+        Ok(Body { locals, block })
+    }
+
+    /// Reads one or more parameters with commas between them, and the bracket after them.
+    pub fn parameters(&mut self, alloc: Global) -> Result<Vec<Occ>, ParseError>
+        ensures { IsRead (SpellsParams (tokens_of self.old.rest.now)) (λ v. v.items) result (tokens_of self.new.rest.now) }
+    {
+        let mut names = Vec::new(alloc);
+        'names: loop {
+            names.push(self.expect_name(alloc)?)?;
+            self.expect_sign(Sign::Colon)?;
+            self.expect_key(Keyword::Node)?;
+            if !self.is_sign(Sign::Comma) {
+                self.expect_sign(Sign::ParenClose)?;
+                return Ok(names);
+            }
+            self.expect_sign(Sign::Comma)?;
+        }
+    }
+
+    /// Reads none or more parameters, and the bracket after them.
+    pub fn header(&mut self, alloc: Global) -> Result<Vec<Occ>, ParseError>
+        ensures { IsRead (SpellsHeader (tokens_of self.old.rest.now)) (λ v. v.items) result (tokens_of self.new.rest.now) }
+    {
+        if !self.is_sign(Sign::ParenClose) {
+            return self.parameters(alloc);
+        }
+        self.expect_sign(Sign::ParenClose)?;
+        Ok(Vec::new(alloc))
+    }
+
+    /// Reads the results of a procedure, which may be missing.
+    pub fn results(&mut self, alloc: Global) -> Result<Vec<Occ>, ParseError>
+        ensures { IsRead (SpellsResults (tokens_of self.old.rest.now)) (λ v. v.items) result (tokens_of self.new.rest.now) }
+    {
+        if !self.is_key(Keyword::Returns) {
+            return Ok(Vec::new(alloc));
+        }
+        self.expect_key(Keyword::Returns)?;
+        self.expect_sign(Sign::ParenOpen)?;
+        self.header(alloc)
+    }
+
+    /// Reads a body, or a semicolon in its place.
+    pub fn ending(&mut self, alloc: Global) -> Result<Ending, ParseError>
+        ensures { IsRead (SpellsEnded (tokens_of self.old.rest.now)) ended_of result (tokens_of self.new.rest.now) }
+    {
+        if self.is_sign(Sign::Semicolon) {
+            let close = self.expect_sign(Sign::Semicolon)?;
+            return Ok(Ending { body: None, close });
+        }
+        self.expect_sign(Sign::BraceOpen)?;
+        let body = self.inside(alloc)?;
+        let close = body.block.close;
+        Ok(Ending {
+            body: Some(body),
+            close,
+        })
+    }
+
+    /// Reads a procedure. Missing contracts are `emp`.
+    pub fn procedure(&mut self, alloc: Global) -> Result<Procedure, ParseError>
+        ensures { IsRead (SpellsProcedure (tokens_of self.old.rest.now)) procedure_of result (tokens_of self.new.rest.now) }
+    {
+        self.expect_key(Keyword::Procedure)?;
+        let name = self.expect_name(alloc)?;
+        self.expect_sign(Sign::ParenOpen)?;
+        let parameters = self.header(alloc)?;
+        let results = self.results(alloc)?;
+        let needs = self.clause(alloc, Keyword::Requires)?;
+        let gives = self.clause(alloc, Keyword::Ensures)?;
+        let ending = self.ending(alloc)?;
+        Ok(Procedure {
+            name,
+            parameters,
+            results,
+            needs,
+            gives,
+            body: ending.body,
+            close: ending.close,
+        })
+    }
+}

@@ -1,0 +1,99 @@
+//! Fields, and whole programs.
+
+ghost use Rattle.std.specs.Prelude.{◌≡◌, ◌↔◌, [], IsTrue, map};
+ghost use Rattle.gh_ast.specs.Grammar.{SpellsWord};
+ghost use Rattle.gh_ast.specs.Tokens.{keyword_text};
+ghost use Rattle.gh_ast.specs.Plain.{procedure_of, program_of};
+ghost use Rattle.gh_parse.specs.Views.{tokens_of};
+ghost use Rattle.gh_parse.specs.Answers.{IsRead};
+ghost use Rattle.gh_parse.specs.Procedures.{SpellsField, SpellsShape, SpellsAll, SpellsWhole, shape_of};
+
+use crate::cursor::Parser;
+use crate::error::ParseError;
+use gh_ast::sign::{Keyword, Sign};
+use gh_ast::{Field, Occ, Procedure, Program};
+use gh_base::name::Name;
+use gh_base::place::Span;
+use std::alloc::Global;
+
+/// The fields of the struct, and the place of the brace after them.
+#[derive(Debug, Drop)]
+pub struct Fields {
+    pub fields: Vec<Field>,
+    pub close: Span,
+}
+
+impl<'t> Parser<'t> {
+    /// Whether no token is left.
+    pub fn is_end(&self) -> bool
+        ensures { IsTrue result ↔ (tokens_of self.now.rest.now ≡ []) }
+    {
+        self.rest.is_empty()
+    }
+
+    /// Reads a name, or a reserved word as if it were one.
+    pub fn word(&mut self, alloc: Global, reserved: Keyword) -> Result<Occ, ParseError>
+        ensures { IsRead (SpellsWord reserved (keyword_text reserved) (tokens_of self.old.rest.now)) (λ o. o) result (tokens_of self.new.rest.now) }
+    {
+        if !self.is_key(reserved) {
+            return self.expect_name(alloc);
+        }
+        let span = self.expect_key(reserved)?;
+        let name = Name::from_word(alloc, reserved.text())?;
+        Ok(Occ { name, span })
+    }
+
+    /// Reads a field.
+    pub fn field(&mut self, alloc: Global) -> Result<Field, ParseError>
+        ensures { IsRead (SpellsField (tokens_of self.old.rest.now)) (λ f. f) result (tokens_of self.new.rest.now) }
+    {
+        self.expect_key(Keyword::Var)?;
+        let name = self.word(alloc, Keyword::Next)?;
+        self.expect_sign(Sign::Colon)?;
+        let kind = self.word(alloc, Keyword::Node)?;
+        self.expect_sign(Sign::Semicolon)?;
+        Ok(Field {
+            name,
+            kind: kind.name,
+        })
+    }
+
+    /// Reads fields, and the brace after them.
+    pub fn fields(&mut self, alloc: Global) -> Result<Fields, ParseError>
+        ensures { IsRead (SpellsShape (tokens_of self.old.rest.now)) shape_of result (tokens_of self.new.rest.now) }
+    {
+        let mut fields = Vec::new(alloc);
+        'fields: while !self.is_sign(Sign::BraceClose) {
+            fields.push(self.field(alloc)?)?;
+        }
+        let close = self.expect_sign(Sign::BraceClose)?;
+        Ok(Fields { fields, close })
+    }
+
+    /// Reads procedures up to the end.
+    pub fn procedures(&mut self, alloc: Global) -> Result<Vec<Procedure>, ParseError>
+        ensures { IsRead (SpellsAll (tokens_of self.old.rest.now)) (λ v. map procedure_of v.items) result (tokens_of self.new.rest.now) }
+    {
+        let mut procedures = Vec::new(alloc);
+        'procedures: while !self.is_end() {
+            procedures.push(self.procedure(alloc)?)?;
+        }
+        Ok(procedures)
+    }
+
+    /// Reads a whole program.
+    pub fn program(&mut self, alloc: Global) -> Result<Program, ParseError>
+        ensures { IsRead (SpellsWhole (tokens_of self.old.rest.now)) program_of result (tokens_of self.new.rest.now) }
+    {
+        self.expect_key(Keyword::Struct)?;
+        self.expect_key(Keyword::Node)?;
+        self.expect_sign(Sign::BraceOpen)?;
+        let shape = self.fields(alloc)?;
+        let procedures = self.procedures(alloc)?;
+        Ok(Program {
+            fields: shape.fields,
+            close: shape.close,
+            procedures,
+        })
+    }
+}

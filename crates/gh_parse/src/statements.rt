@@ -1,0 +1,127 @@
+//! Statements and blocks.
+
+ghost use Rattle.gh_ast.specs.Grammar.{SpellsStatement};
+ghost use Rattle.gh_ast.specs.Plain.{statement_of, part_of};
+ghost use Rattle.gh_parse.specs.Views.{tokens_of};
+ghost use Rattle.gh_parse.specs.Answers.{IsRead, HasKey};
+ghost use Rattle.gh_parse.specs.Statements.{SpellsPart, SpellsRun};
+
+use crate::cursor::Parser;
+use crate::error::ParseError;
+use gh_ast::sign::{Keyword, Sign};
+use gh_ast::{Block, Stmt};
+use std::alloc::Global;
+
+impl<'t> Parser<'t> {
+    /// Reads `free` and what follows it.
+    pub fn free_statement(&mut self, alloc: Global) -> Result<Stmt, ParseError>
+        requires { HasKey Keyword.Free (tokens_of self.old.rest.now) }
+        ensures { IsRead (SpellsStatement (tokens_of self.old.rest.now)) statement_of result (tokens_of self.new.rest.now) }
+    {
+        self.expect_key(Keyword::Free)?;
+        let at = self.expect_name(alloc)?;
+        self.expect_sign(Sign::Semicolon)?;
+        Ok(Stmt::Free { at })
+    }
+
+    /// Reads `return` and what follows it.
+    pub fn return_statement(&mut self, alloc: Global) -> Result<Stmt, ParseError>
+        requires { HasKey Keyword.Return (tokens_of self.old.rest.now) }
+        ensures { IsRead (SpellsStatement (tokens_of self.old.rest.now)) statement_of result (tokens_of self.new.rest.now) }
+    {
+        let span = self.expect_key(Keyword::Return)?;
+        let values = self.values(alloc, Sign::Semicolon)?;
+        Ok(Stmt::Return { span, values })
+    }
+
+    /// Reads `if` and what follows it. A missing `else` is an empty block that closes where the
+    /// taken block does.
+    #[cycle(statement)]
+    pub fn if_statement(&mut self, alloc: Global) -> Result<Stmt, ParseError>
+        requires { HasKey Keyword.If (tokens_of self.old.rest.now) }
+        ensures { IsRead (SpellsStatement (tokens_of self.old.rest.now)) statement_of result (tokens_of self.new.rest.now) }
+    {
+        self.expect_key(Keyword::If)?;
+        let test = self.enclosed_test(alloc, true)?;
+        let taken = self.block(alloc)?;
+        if !self.is_key(Keyword::Else) {
+            let otherwise = Block {
+                statements: Vec::new(alloc),
+                close: taken.close,
+            };
+            return Ok(Stmt::If {
+                test,
+                taken,
+                otherwise,
+            });
+        }
+        self.expect_key(Keyword::Else)?;
+        let otherwise = self.block(alloc)?;
+        Ok(Stmt::If {
+            test,
+            taken,
+            otherwise,
+        })
+    }
+
+    /// Reads `while` and what follows it.
+    #[cycle(statement)]
+    pub fn while_statement(&mut self, alloc: Global) -> Result<Stmt, ParseError>
+        requires { HasKey Keyword.While (tokens_of self.old.rest.now) }
+        ensures { IsRead (SpellsStatement (tokens_of self.old.rest.now)) statement_of result (tokens_of self.new.rest.now) }
+    {
+        let span = self.expect_key(Keyword::While)?;
+        let test = self.enclosed_test(alloc, true)?;
+        let invariant = self.clause(alloc, Keyword::Invariant)?;
+        let body = self.block(alloc)?;
+        Ok(Stmt::While {
+            span,
+            test,
+            invariant,
+            body,
+        })
+    }
+
+    /// Reads a statement.
+    #[cycle(statement)]
+    pub fn statement(&mut self, alloc: Global) -> Result<Stmt, ParseError>
+        ensures { IsRead (SpellsStatement (tokens_of self.old.rest.now)) statement_of result (tokens_of self.new.rest.now) }
+    {
+        if self.is_key(Keyword::Free) {
+            return self.free_statement(alloc);
+        }
+        if self.is_key(Keyword::Return) {
+            return self.return_statement(alloc);
+        }
+        if self.is_key(Keyword::If) {
+            return self.if_statement(alloc);
+        }
+        if self.is_key(Keyword::While) {
+            return self.while_statement(alloc);
+        }
+        let name = self.expect_name(alloc)?;
+        self.named_statement(alloc, name)
+    }
+
+    /// Reads statements up to a brace that closes, and the brace.
+    #[cycle(statement)]
+    pub fn statements(&mut self, alloc: Global) -> Result<Block, ParseError>
+        ensures { IsRead (SpellsRun (tokens_of self.old.rest.now)) part_of result (tokens_of self.new.rest.now) }
+    {
+        let mut statements = Vec::new(alloc);
+        'run: while !self.is_sign(Sign::BraceClose) {
+            statements.push(self.statement(alloc)?)?;
+        }
+        let close = self.expect_sign(Sign::BraceClose)?;
+        Ok(Block { statements, close })
+    }
+
+    /// Reads statements between braces.
+    #[cycle(statement)]
+    pub fn block(&mut self, alloc: Global) -> Result<Block, ParseError>
+        ensures { IsRead (SpellsPart (tokens_of self.old.rest.now)) part_of result (tokens_of self.new.rest.now) }
+    {
+        self.expect_sign(Sign::BraceOpen)?;
+        self.statements(alloc)
+    }
+}
