@@ -1,0 +1,4 @@
+//! Congruence: what asserted literals say by equality alone.
+#![tactic(auto)]
+
+pub mod partition;
