@@ -51,9 +51,9 @@ not_false : (b : Bool) → not b ≡ false → b ≡ true
 not_false true e = refl
 not_false false e = cc
 
-pub link_holds : (m : Interpretation) (l : Link) → IsLitFalse m (disequality_of l) → m.class l.from.0 ≡ m.class l.to.0
-link_holds m l h =
-    let same : m.class (min l.from.0 l.to.0) ≡ m.class (max l.from.0 l.to.0) = eqb-true _ _ (not_false _ h) in
+-- an interpretation that gives a link's terms in order one class gives its terms one
+pub link_joins : (m : Interpretation) (l : Link) → m.class (min l.from.0 l.to.0) ≡ m.class (max l.from.0 l.to.0) → m.class l.from.0 ≡ m.class l.to.0
+link_joins m l same =
     elim (cases_lt l.from.0 l.to.0) as (λ _. m.class l.from.0 ≡ m.class l.to.0) [
         inl lt ↦
           let low : min l.from.0 l.to.0 ≡ l.from.0 = omega arith in
@@ -64,6 +64,9 @@ link_holds m l h =
           let high : max l.from.0 l.to.0 ≡ l.from.0 = omega arith in
           ap m.class (sym high) ∙ sym same ∙ ap m.class low
     ]
+
+pub link_holds : (m : Interpretation) (l : Link) → IsLitFalse m (disequality_of l) → m.class l.from.0 ≡ m.class l.to.0
+link_holds m l h = link_joins m l (eqb-true _ _ (not_false _ h))
 
 -- a link between two explained steps: the second starts at the link's other end
 explains_step : (links : List Link) (l : Link) (a b x y : Term) (before start mid after : List Lit) → Contains links l

@@ -1,3 +1,9 @@
 pub mod ListLemmas
 pub mod PartitionLemmas
 pub mod ExplainLemmas
+pub mod SignLemmas
+pub mod FilingLemmas
+pub mod TakingLemmas
+pub mod KeptLemmas
+pub mod AssertLemmas
+pub mod SameLemmas

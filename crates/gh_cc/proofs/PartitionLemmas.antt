@@ -315,7 +315,7 @@ moved_is r l old new t from to =
     ∙ ap (λ (x : ℕ). cond (eqb (r t) (r l.from.0)) (term x) (term (r t))) to
     ∙ term_cond (eqb (r t) (r l.from.0)) (r l.to.0) (r t)
 
-rep_more : (links : List Link) (l : Link) (t : ℕ) → rep (links ++ l ∷ []) (length (links ++ l ∷ [])) t ≡ relabel (rep links (length links)) l t
+pub rep_more : (links : List Link) (l : Link) (t : ℕ) → rep (links ++ l ∷ []) (length (links ++ l ∷ [])) t ≡ relabel (rep links (length links)) l t
 rep_more links l t =
     let d = length links in
     let long : length (links ++ l ∷ []) ≡ suc d = omega (arith, length_push links l) in

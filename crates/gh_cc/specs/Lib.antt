@@ -1,1 +1,4 @@
 pub mod Partitions
+pub mod Signs
+pub mod Asserted
+pub mod Kept

@@ -1,4 +1,8 @@
 //! Congruence: what asserted literals say by equality alone.
 #![tactic(auto)]
 
+pub mod clash;
+pub mod classes;
+mod filing;
 pub mod partition;
+pub mod signs;
