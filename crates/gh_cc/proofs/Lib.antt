@@ -7,3 +7,5 @@ pub mod TakingLemmas
 pub mod KeptLemmas
 pub mod AssertLemmas
 pub mod SameLemmas
+pub mod RefuteLemmas
+pub mod ConsistentLemmas

@@ -5,6 +5,7 @@ use Rattle.gh_base.specs.declared.atom.Atom.{Atom}
 use Rattle.gh_base.specs.declared.atom.Atom.TheVariants.{Eq, Btwn, Hop, Alloc, Def}
 use Rattle.gh_base.specs.declared.atom.Lit.{Lit}
 use Rattle.gh_base.specs.declared.sizes.Sizes.{Sizes}
+use Rattle.gh_base.specs.Meaning.{Interpretation, IsCongruence, atom_truth, lit_truth}
 use Rattle.gh_base.specs.Atoms.{IsInRange, AreInRange, number_of, count_of}
 use Rattle.gh_cc.specs.declared.partition.Link.{Link}
 use Rattle.gh_cc.specs.declared.signs.Entry.{Entry}
@@ -12,7 +13,7 @@ use Rattle.gh_cc.specs.declared.clash.Clash.{Clash}
 use Rattle.gh_cc.specs.declared.clash.Clash.TheVariants.{Unequal, Opposite}
 use Rattle.gh_cc.specs.declared.classes.Stage.{Stage}
 use Rattle.gh_cc.specs.declared.classes.ClashAt.{ClashAt}
-use Rattle.gh_cc.specs.Partitions.{Merged, rep, equality_of, AreMerges}
+use Rattle.gh_cc.specs.Partitions.{Merged, rep, equality_of, disequality_of, AreMerges}
 use Rattle.gh_cc.specs.Signs.{Filed, find_lit}
 use Rattle.gh_cc.specs.Asserted.{equality}
 
@@ -87,6 +88,12 @@ pub record IsState (s : Sizes) (lits : List Lit) (links : List Link) (entries : 
   pub joined : (a b : Term) → Contains lits (equality a b) → reps links a.0 ≡ reps links b.0
   pub named : All (IsEntry s (reps links) lits) entries
 
+-- literals in range, and classes whose links rest on them
+pub record AreLinked (s : Sizes) (lits : List Lit) (p : Merged) : Type 0 where
+  pub in_range : AreInRange s lits
+  pub terms : p.terms ≡ s.terms
+  pub linked : (l : Link) → Contains p.links l → Contains lits (equality_of l)
+
 -- literals, classes and entries that belong together
 pub record AreTied (s : Sizes) (lits : List Lit) (p : Merged) (f : Filed) : Type 0 where
   pub in_range : AreInRange s lits
@@ -157,3 +164,10 @@ pub record IsKept (c : Core) : Type 0 where
   pub each : (k : ℕ) → k ≤ length c.lits → IsStage c k (stage_at c k)
   pub clashed : (f : ClashAt) → c.clash ≡ Some f → f.place < length c.lits
   pub rising : (j k : ℕ) → j ≤ k → k ≤ length c.lits → IsBefore (stage_at c j) (stage_at c k)
+
+-- negated equalities of links were added to a clause, and where they hold the two atoms have one truth
+pub record ExplainsAtoms (s : Sizes) (links : List Link) (a b : Atom) (old new : List Lit) : Type 0 where
+  pub added : List Lit
+  pub more : new ≡ old ++ added
+  pub negated : All (λ l. (k : Link) × Contains links k × (l ≡ disequality_of k)) added
+  pub agrees : (m : Interpretation) → IsCongruence s m → All (λ l. lit_truth m l ≡ false) added → atom_truth m a ≡ atom_truth m b

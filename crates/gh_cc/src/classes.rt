@@ -1,15 +1,17 @@
 //! Asserted literals, with the classes of terms and the truth of atoms that they give.
 
-ghost use Rattle.std.specs.Prelude.{◌≡◌, ◌<◌, ◌≤◌, ◌∷◌, ◌++◌, ◌↔◌, [], IfOk, IsTrue, length, take};
+ghost use Rattle.std.specs.Prelude.{◌≡◌, ◌<◌, ◌≤◌, ◌∷◌, ◌++◌, ◌↔◌, [], IfOk, IfSome, IfNone, IsTrue, length, take};
 ghost use Rattle.gh_cc.specs.Kept.{first_clash, clash_before};
 ghost use Rattle.gh_base.specs.Atoms.{IsInRange};
-ghost use Rattle.gh_cc.specs.Asserted.{IsFree, AreEqual};
+ghost use Rattle.gh_cc.specs.Asserted.{IsFree, AreEqual, IsConsistent, IsConflict};
 
 use crate::clash::Clash;
 use crate::filing::take_in;
 use crate::partition::Partition;
+use crate::refuting::refutation;
 use crate::signs::Signs;
 use gh_base::atom::{Lit, Term};
+use gh_base::clause::Clause;
 use gh_base::sizes::Sizes;
 use std::alloc::{AllocError, Global};
 use std::marker::Model;
@@ -165,5 +167,21 @@ impl Classes {
         ensures { result ≡ length self.now.lits }
     {
         self.lits.len() as u32
+    }
+
+    /// A clause that follows from equality and congruence alone and whose literals negate asserted ones,
+    /// if there is one.
+    pub fn conflict(&self, alloc: Global) -> Result<Option<Clause>, AllocError>
+        ensures found { IfOk result (λ o. IfSome o (IsConflict self.now)) }
+        ensures none { IfOk result (λ o. IfNone o (IsConsistent self.now.sizes self.now.lits)) }
+    {
+        match self.clash {
+            None => Ok(None),
+            Some(found) => {
+                let lits = self.lits.as_slice();
+                let clause = refutation(alloc, self.sizes, lits, &self.partition, found.clash)?;
+                Ok(Some(clause))
+            }
+        }
     }
 }

@@ -5,4 +5,5 @@ pub mod clash;
 pub mod classes;
 mod filing;
 pub mod partition;
+mod refuting;
 pub mod signs;
