@@ -18,11 +18,10 @@ use Rattle.gh_cc.specs.Kept.{at, normal, reps, HasSign, IsFiledAs, IsFiled, AllF
 use Rattle.gh_cc.proofs.TakingLemmas.{no_lit}
 
 -- representatives as classes, and signs by normal forms
-pub model_of : (ℕ → ℕ) → (Atom → Bool) → Interpretation
+abbrev pub model_of : (ℕ → ℕ) → (Atom → Bool) → Interpretation
 model_of r sign = record { class = r; table = λ a. sign (normal r a) }
 
 pub model_congruence : (s : Sizes) (r : ℕ → ℕ) (sign : Atom → Bool) → IsCongruence s (model_of r sign)
-unfolding model_of
 model_congruence s r sign = record {
   btwn = λ v x y z p q t _ _ e f g. let n : Btwn v (at r x) (at r y) (at r z) ≡ Btwn v (at r p) (at r q) (at r t) = λ i. Btwn v (record { 0 = e i }) (record { 0 = f i }) (record { 0 = g i }) in ap sign n;
   hop = λ v x y p q _ _ e f. let n : Hop v (at r x) (at r y) ≡ Hop v (at r p) (at r q) = λ i. Hop v (record { 0 = e i }) (record { 0 = f i }) in ap sign n;
@@ -30,7 +29,7 @@ model_congruence s r sign = record {
 }
 
 -- what a literal asks of representatives and signs
-pub Agrees : (ℕ → ℕ) → (Atom → Bool) → Atom → Bool → Type 0
+abbrev pub Agrees : (ℕ → ℕ) → (Atom → Bool) → Atom → Bool → Type 0
 Agrees r sign (Eq a b) true = r a.0 ≡ r b.0
 Agrees r sign (Eq a b) false = r a.0 ≢ r b.0
 Agrees r sign (Btwn v x y z) p = sign (normal r (Btwn v x y z)) ≡ p
@@ -44,7 +43,6 @@ under_same false true e = cc
 under_same false false e = refl
 
 pub agrees_true : (r : ℕ → ℕ) (sign : Atom → Bool) (a : Atom) (p : Bool) → Agrees r sign a p → under p (atom_truth (model_of r sign) a) ≡ true
-unfolding Agrees model_of
 agrees_true r sign (Eq a b) true h = eq-eqb (r a.0) (r b.0) h
 agrees_true r sign (Eq a b) false h = ap not (ne_eqb (r a.0) (r b.0) h)
 agrees_true r sign (Btwn v x y z) p h = under_same p _ h
@@ -68,7 +66,6 @@ sign_found s lits entries a p h =
     ap (sign_of lits) h.found ∙ ap (λ (l : Lit). l.positive) (get_or_from_slice_get lits h.place h.lit no_lit h.there) ∙ h.signed
 
 filed_agrees : (s : Sizes) (r : ℕ → ℕ) (lits : List Lit) (entries : List Entry) (a : Atom) (p : Bool) → IsFiledAs s r lits entries a p → Agrees r (signs_in s lits entries) a p
-unfolding Agrees
 filed_agrees s r lits entries (Eq a b) true h = h
 filed_agrees s r lits entries (Eq a b) false h = h
 filed_agrees s r lits entries (Btwn v x y z) p h = sign_found s lits entries (normal r (Btwn v x y z)) p h

@@ -9,3 +9,4 @@ pub mod AssertLemmas
 pub mod SameLemmas
 pub mod RefuteLemmas
 pub mod ConsistentLemmas
+pub mod LemmaLemmas

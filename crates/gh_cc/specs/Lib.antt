@@ -2,3 +2,4 @@ pub mod Partitions
 pub mod Signs
 pub mod Asserted
 pub mod Kept
+pub mod Lemma

@@ -100,7 +100,7 @@ pub(crate) fn refile(sizes: Sizes, lits: &[Lit], partition: &Partition, signs: &
 }
 
 // The terms of an equality that is asserted to be true.
-fn equal_terms(lit: Lit) -> Option<(Term, Term)>
+pub(crate) fn equal_terms(lit: Lit) -> Option<(Term, Term)>
     ensures some { IfSome result (λ p. lit ≡ equality p.0 p.1) }
     ensures none { IfNone result ((a b : Term) → lit ≢ equality a b) }
 {

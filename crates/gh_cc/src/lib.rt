@@ -4,6 +4,7 @@
 pub mod clash;
 pub mod classes;
 mod filing;
+pub mod lemma;
 pub mod partition;
 mod refuting;
 pub mod signs;
