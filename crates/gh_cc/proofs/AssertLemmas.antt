@@ -86,7 +86,7 @@ last_stage c x p f found h t =
           rw (take_lits m, take_links m, take_entries m) (t.filed w.1 w.0);
       clash = λ g at lt.
           elim (clash_cases c.clash (length c.lits) found g at) as (λ _. IsClash (reps (take (length p.links) p.links)) (take (length (c.lits ++ x ∷ [])) (c.lits ++ x ∷ [])) g.clash) [
-              inl old ↦
+            | inl old ↦
                 let was = clash_keeps c.links t.added_links c.lits (c.lits ++ x ∷ []) g.clash (λ i l at. get_front c.lits (x ∷ []) i l at) (clash_now c h g old) in
                 rw (take_links m, take_lits m, t.links) was
             | inr new ↦ rw (take_links m, take_lits m) (t.clash g.clash new.1)
@@ -122,23 +122,23 @@ kept_assert c x p f found h inside free t =
       in_range = all;
       apart = apart;
       each = λ k below. elim (cases_lt (length c.lits) k) as (λ _. IsStage m k (stage_at m k)) [
-          inl new ↦
+        | inl new ↦
             let is : length (c.lits ++ x ∷ []) ≡ k = omega (arith, n) in
             rw (new_stage c x p f found h k new) (subst (λ j. IsStage m j (now_of m)) is (last_stage c x p f found h t))
         | inr old ↦ rw (old_stage c x p f found h k old) (early_stage c x p f found h t k old)
       ];
       clashed = λ g at. elim (clash_cases c.clash (length c.lits) found g at) as (λ _. g.place < length (c.lits ++ x ∷ [])) [
-          inl old ↦ let b = h.clashed g old in omega (arith, n)
+        | inl old ↦ let b = h.clashed g old in omega (arith, n)
         | inr new ↦ omega (arith, n, new.2)
       ];
       rising = λ j k jk below. elim (cases_lt (length c.lits) k) as (λ _. IsBefore (stage_at m j) (stage_at m k)) [
-          inl new ↦ elim (cases_lt (length c.lits) j) as (λ _. IsBefore (stage_at m j) (stage_at m k)) [
-              inl late ↦ rw (new_stage c x p f found h k new, new_stage c x p f found h j late) (record { depth = omega arith; entries = omega arith })
-            | inr early ↦
-                let s = h.each j early in
-                rw (new_stage c x p f found h k new, old_stage c x p f found h j early)
-                (record { depth = omega (arith, s.depth, long_links); entries = omega (arith, s.count, long_entries) })
-          ]
+        | inl new ↦ elim (cases_lt (length c.lits) j) as (λ _. IsBefore (stage_at m j) (stage_at m k)) [
+          | inl late ↦ rw (new_stage c x p f found h k new, new_stage c x p f found h j late) (record { depth = omega arith; entries = omega arith })
+          | inr early ↦
+              let s = h.each j early in
+              rw (new_stage c x p f found h k new, old_stage c x p f found h j early)
+              (record { depth = omega (arith, s.depth, long_links); entries = omega (arith, s.count, long_entries) })
+        ]
         | inr old ↦
             let j_old : j ≤ length c.lits = omega arith in
             rw (old_stage c x p f found h k old, old_stage c x p f found h j j_old) (h.rising j k jk old)
@@ -169,7 +169,7 @@ ltb_tells a b = elim (cases_lt a b) as (λ _. ((ltb a b ≡ true) × (a < b)) �
 clash_was : (mark : ℕ) (o : Option ClashAt) (f : ClashAt) → clash_before mark o ≡ Some f → (o ≡ Some f) × (f.place < mark)
 clash_was mark None f e = cc
 clash_was mark (Some g) f e = elim (ltb_tells g.place mark) as (λ _. (Some g ≡ Some f) × (f.place < mark)) [
-    inl h ↦
+  | inl h ↦
       let is : Some g ≡ Some f = sym (cond_yes _ (Some g) h.0) ∙ e in
       let same : g ≡ f = same_Some g f is in
       (is, subst (λ (k : ClashAt). k.place < mark) same h.1)
@@ -182,7 +182,7 @@ clash_left mark (Some g) f e lt =
     let same : g ≡ f = same_Some g f e in
     let below : g.place < mark = subst (λ (k : ClashAt). k.place < mark) (sym same) lt in
     elim (ltb_tells g.place mark) as (λ _. clash_before mark (Some g) ≡ Some f) [
-        inl h ↦ cond_yes _ (Some g) h.0 ∙ e
+      | inl h ↦ cond_yes _ (Some g) h.0 ∙ e
       | inr h ↦ absurd (omega (arith, h.1))
     ]
 
@@ -192,7 +192,7 @@ left_stage c mark k h within below =
     let m = less_core c mark u in
     let s = h.each mark (omega arith) in
     elim (cases_lt k mark) as (λ _. stage_at m k ≡ stage_at c k) [
-        inl lt ↦ get_or_front_of mark c.stages (now_of m) (now_of c) k lt (omega (arith, h.staged))
+      | inl lt ↦ get_or_front_of mark c.stages (now_of m) (now_of c) k lt (omega (arith, h.staged))
       | inr ge ↦
           let is : mark ≡ k = omega arith in
           let long : length (take mark c.stages) ≡ mark = length-take-le mark c.stages (omega (arith, h.staged)) in
@@ -222,11 +222,11 @@ kept_undo c mark h within =
           let before = h.rising k mark low (omega arith) in
           rw (left_stage c mark k h within low)
           (stage_keeps c (take mark c.lits) (take mark c.stages) (take u.depth c.links) (take u.entries c.entries) (clash_before mark c.clash) k t
-           (take_take k mark c.lits low) (take_take t.depth u.depth c.links before.depth) (take_take t.entries u.entries c.entries before.entries)
-           (omega (arith, links, before.depth)) (omega (arith, entries, before.entries))
-           (λ f at lt. (clash_was mark c.clash f at).0)
-           (λ f at lt. clash_left mark c.clash f at (omega arith))
-           (h.each k (omega arith)));
+          (take_take k mark c.lits low) (take_take t.depth u.depth c.links before.depth) (take_take t.entries u.entries c.entries before.entries)
+          (omega (arith, links, before.depth)) (omega (arith, entries, before.entries))
+          (λ f at lt. (clash_was mark c.clash f at).0)
+          (λ f at lt. clash_left mark c.clash f at (omega arith))
+          (h.each k (omega arith)));
       clashed = λ f at. let w = clash_was mark c.clash f at in omega (arith, w.1, n);
       rising = λ j k jk below.
           let low : k ≤ mark = omega (arith, n) in
@@ -274,7 +274,7 @@ pub kept_along : (c : Core) (lits : List Lit) (stages : List Stage) (links : Lis
     → IsKept (record { sizes = c.sizes; lits = lits; stages = stages; links = links; entries = entries; clash = clash })
 kept_along c lits stages links entries clash h a b d e f =
     let whole : c ≡ record { sizes = c.sizes; lits = lits; stages = stages; links = links; entries = entries; clash = clash } =
-        λ i. record { sizes = c.sizes; lits = sym a i; stages = sym b i; links = sym d i; entries = sym e i; clash = sym f i } in
+    λ i. record { sizes = c.sizes; lits = sym a i; stages = sym b i; links = sym d i; entries = sym e i; clash = sym f i } in
     subst IsKept whole h
 
 pub stage_is : (c : Core) (k : ℕ) (t : Stage) → k < length c.stages → t ≡ get_or c.stages k t → stage_at c k ≡ t

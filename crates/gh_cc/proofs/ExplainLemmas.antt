@@ -55,7 +55,7 @@ not_false false e = cc
 pub link_joins : (m : Interpretation) (l : Link) → m.class (min l.from.0 l.to.0) ≡ m.class (max l.from.0 l.to.0) → m.class l.from.0 ≡ m.class l.to.0
 link_joins m l same =
     elim (cases_lt l.from.0 l.to.0) as (λ _. m.class l.from.0 ≡ m.class l.to.0) [
-        inl lt ↦
+      | inl lt ↦
           let low : min l.from.0 l.to.0 ≡ l.from.0 = omega arith in
           let high : max l.from.0 l.to.0 ≡ l.to.0 = omega arith in
           ap m.class (sym low) ∙ same ∙ ap m.class high

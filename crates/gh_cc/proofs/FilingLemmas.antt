@@ -70,7 +70,7 @@ pub find_front : (xs ys : List Entry) (n k : ℕ) → find_lit xs n ≡ Some k �
 find_front [] ys n k e = cc
 find_front (x ∷ xs) ys n k e =
     elim (eqb_tells x.number n) as (λ _. find_lit (x ∷ (xs ++ ys)) n ≡ Some k) [
-        inl h ↦
+      | inl h ↦
           let was : find_lit (x ∷ xs) n ≡ Some x.lit = find_here x xs n h.0 in
           find_here x (xs ++ ys) n h.0 ∙ sym was ∙ e
       | inr h ↦ find_there x (xs ++ ys) n h.0 ∙ find_front xs ys n k (sym (find_there x xs n h.0) ∙ e)
@@ -80,7 +80,7 @@ pub find_push : (xs : List Entry) (y : Entry) → find_lit xs y.number ≡ None 
 find_push [] y e = find_here y [] y.number (eq-eqb y.number y.number refl)
 find_push (x ∷ xs) y e =
     elim (eqb_tells x.number y.number) as (λ _. find_lit (x ∷ (xs ++ y ∷ [])) y.number ≡ Some y.lit) [
-        inl h ↦ let was : find_lit (x ∷ xs) y.number ≡ Some x.lit = find_here x xs y.number h.0 in cc
+      | inl h ↦ let was : find_lit (x ∷ xs) y.number ≡ Some x.lit = find_here x xs y.number h.0 in cc
       | inr h ↦ find_there x (xs ++ y ∷ []) y.number h.0 ∙ find_push xs y (sym (find_there x xs y.number h.0) ∙ e)
     ]
 
@@ -181,7 +181,7 @@ put_files s lits p old new n place x t there relation is none now =
       same = normal_twice p.links x.atom;
     } in
     let found : find_lit new.entries (number_of s (normal (reps p.links) x.atom)) ≡ Some place =
-        ap (λ (m : ℕ). find_lit new.entries m) (sym is) ∙ ap (λ (es : List Entry). find_lit es n) entries ∙ find_push old.entries e none in
+    ap (λ (m : ℕ). find_lit new.entries m) (sym is) ∙ ap (λ (es : List Entry). find_lit es n) entries ∙ find_push old.entries e none in
     record {
       tied = record {
         in_range = t.in_range;

@@ -60,7 +60,7 @@ pub stage_keeps : (c : Core) (lits : List Lit) (stages : List Stage) (links : Li
     → IsStage c k t → IsStage (record { sizes = c.sizes; lits = lits; stages = stages; links = links; entries = entries; clash = clash }) k t
 stage_keeps c lits stages links entries clash k t same_lits same_links same_entries depth count was is s =
     let none : NoClashBefore clash k → NoClashBefore c.clash k = λ n f at.
-        elim (cases_lt f.place k) as (λ _. k ≤ f.place) [ inl lt ↦ n f (is f at lt) | inr ge ↦ ge ]
+    elim (cases_lt f.place k) as (λ _. k ≤ f.place) [ inl lt ↦ n f (is f at lt) | inr ge ↦ ge ]
     in record {
       depth = depth;
       count = count;
@@ -85,9 +85,15 @@ clash_keeps links more lits lits' (Unequal place) stay w =
     (w.0, w.1, stay place _ w.2, reps_later links more w.0.0 w.1.0 w.3)
 clash_keeps links more lits lits' (Opposite first second) stay w =
     let r = reps links in
-    let now = reps (links ++ more) in
-    (w.0, w.1, stay first w.0 w.2, stay second w.1 w.3, w.4,
-     sym (normal_coarser r now (reps_forget links more) w.0.atom) ∙ ap (normal now) w.5 ∙ normal_coarser r now (reps_forget links more) w.1.atom, w.6)
+    let now = reps (links ++ more) in (
+      w.0,
+      w.1,
+      stay first w.0 w.2,
+      stay second w.1 w.3,
+      w.4,
+      sym (normal_coarser r now (reps_forget links more) w.0.atom) ∙ ap (normal now) w.5 ∙ normal_coarser r now (reps_forget links more) w.1.atom,
+      w.6,
+    )
 
 -- literals of different atoms in range are at most as many as there are atoms
 numbers_apart : (s : Sizes) (lits : List Lit) → AreInRange s lits
@@ -98,11 +104,11 @@ numbers_apart s (x ∷ xs) all apart =
     let tail : AreInRange s xs = λ k d h. all (suc k) d (omega arith) in
     IsDistinct-cons eqb (f x) (map f xs)
     (recursion_from_All (λ y. eqb (f x) y ≡ false) (map f xs) (All-map (λ y. eqb (f x) y ≡ false) f xs (λ k d h.
-        let y = get_or xs k d in
-        let at : slice_get xs k ≡ Some y = slice_get-get_or xs k d h in
-        ne_eqb (f x) (f y) (λ e.
-            let same = atoms_apart s x.atom y.atom (all 0 x (omega arith)) (tail k d h) e in
-            let none : 0 ≡ suc k = apart 0 (suc k) x y refl at same in absurd (omega arith)))))
+    let y = get_or xs k d in
+    let at : slice_get xs k ≡ Some y = slice_get-get_or xs k d h in
+    ne_eqb (f x) (f y) (λ e.
+    let same = atoms_apart s x.atom y.atom (all 0 x (omega arith)) (tail k d h) e in
+    let none : 0 ≡ suc k = apart 0 (suc k) x y refl at same in absurd (omega arith)))))
     (numbers_apart s xs tail (λ i j l k at at' e. let h : suc i ≡ suc j = apart (suc i) (suc j) l k at at' e in omega arith))
 
 pub few_lits : (s : Sizes) (lits : List Lit) → AreInRange s lits
@@ -110,11 +116,11 @@ pub few_lits : (s : Sizes) (lits : List Lit) → AreInRange s lits
 few_lits s lits all apart =
     let f : Lit → ℕ = λ l. number_of s l.atom in
     let few = length-le_from_distinct_below (map f lits) (count_of s) (numbers_apart s lits all apart) (λ q there.
-        let w = Any-from_list_any (eqb q) (map f lits) there in
-        let below : All (λ n. n < count_of s) (map f lits) = All-map (λ n. n < count_of s) f lits (λ k d h. number_below s (get_or lits k d).atom (all k d h)) in
-        let is : q ≡ w.1 = eqb-true q w.1 w.4 in
-        let here : w.1 < count_of s = subst (λ n. n < count_of s) w.3 (below w.0 w.1 w.2) in
-        rw is here) in
+    let w = Any-from_list_any (eqb q) (map f lits) there in
+    let below : All (λ n. n < count_of s) (map f lits) = All-map (λ n. n < count_of s) f lits (λ k d h. number_below s (get_or lits k d).atom (all k d h)) in
+    let is : q ≡ w.1 = eqb-true q w.1 w.4 in
+    let here : w.1 < count_of s = subst (λ n. n < count_of s) w.3 (below w.0 w.1 w.2) in
+    rw is here) in
     omega (arith, few, length-map lits f)
 
 -- a new atom keeps the atoms apart
@@ -124,14 +130,14 @@ pub apart_push : (lits : List Lit) (x : Lit) → IsFree lits x.atom
 apart_push lits x free apart i j l k at at' e =
     let other : (n : ℕ) (y : Lit) → slice_get lits n ≡ Some y → y.atom ≢ x.atom = λ n y there. All-contains (λ (z : Lit). z.atom ≢ x.atom) lits y free (slice_get-contains lits n y there) in
     elim (get_push lits x i l at) as (λ _. i ≡ j) [
-        inl old ↦ elim (get_push lits x j k at') as (λ _. i ≡ j) [
-            inl old' ↦ apart i j l k old old' e
-          | inr new' ↦ absurd (other i l old (e ∙ ap (λ (y : Lit). y.atom) (sym new'.1)))
-        ]
+      | inl old ↦ elim (get_push lits x j k at') as (λ _. i ≡ j) [
+        | inl old' ↦ apart i j l k old old' e
+        | inr new' ↦ absurd (other i l old (e ∙ ap (λ (y : Lit). y.atom) (sym new'.1)))
+      ]
       | inr new ↦ elim (get_push lits x j k at') as (λ _. i ≡ j) [
-            inl old' ↦ absurd (other j k old' (sym e ∙ ap (λ (y : Lit). y.atom) (sym new.1)))
-          | inr new' ↦ new.0 ∙ sym new'.0
-        ]
+        | inl old' ↦ absurd (other j k old' (sym e ∙ ap (λ (y : Lit). y.atom) (sym new.1)))
+        | inr new' ↦ new.0 ∙ sym new'.0
+      ]
     ]
 
 abbrev pub now_of : Core → Stage

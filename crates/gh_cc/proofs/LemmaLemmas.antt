@@ -48,7 +48,7 @@ step_joins lits i x p a b h at within is order from to apart =
     record {
       merges = merges_more p.terms p.links k h.merges from to apart;
       linked = λ j there. elim (Contains-push_cases p.links k j there) as (λ _. Contains lits (disequality_of j)) [
-          inl old ↦ h.linked j old
+        | inl old ↦ h.linked j old
         | inr new ↦
             let here : x ≡ disequality_of k = negated_is x a b is ∙ ap opposite (sym (equality_is a b order)) in
             subst (λ (y : Lit). Contains lits y) (here ∙ ap disequality_of new) (slice_get-contains lits i x at)
@@ -56,22 +56,24 @@ step_joins lits i x p a b h at within is order from to apart =
       joined = All-more (IsJoined now) lits i x within
           (All-weaker (IsJoined p.links) (IsJoined now) (λ l j c d e. reps_same p.links k c.0 d.0 (j c d e)) (take i lits) h.joined)
           (rw (get_or_from_slice_get lits i x x at) (λ c d e.
-              let w = same_equality a b c d (sym is ∙ e) in same_along (reps now) a b c d w.0 w.1 (reps_joined p.links k)));
+          let w = same_equality a b c d (sym is ∙ e) in same_along (reps now) a b c d w.0 w.1 (reps_joined p.links k)));
     }
 
 pub step_some : (lits : List Lit) (i : ℕ) (x : Lit) (p now : Merged) (a b : Term) (r : Bool) → AreNegatedClasses lits (take i lits) p → slice_get lits i ≡ Some x → i < length lits → opposite x ≡ equality a b → a.0 ≤ b.0
     → a.0 < p.terms → b.0 < p.terms → MatchBool r (JoinsTerms p now a b) (HaveOneClass p now a b) → (now.terms ≡ p.terms) × AreNegatedClasses lits (take (i + 1) lits) now
-step_some lits i x p now a b true h at within is order from to did =
-    (ap (λ (q : Merged). q.terms) did.merged,
-     subst (AreNegatedClasses lits (take (i + 1) lits)) (sym did.merged) (step_joins lits i x p a b h at within is order from to did.apart))
-step_some lits i x p now a b false h at within is order from to did =
-    (ap (λ (q : Merged). q.terms) did.stays,
-     subst (AreNegatedClasses lits (take (i + 1) lits)) (sym did.stays) (record {
-       merges = h.merges;
-       linked = h.linked;
-       joined = All-more (IsJoined p.links) lits i x within h.joined
-           (rw (get_or_from_slice_get lits i x x at) (λ c d e. let w = same_equality a b c d (sym is ∙ e) in same_along (reps p.links) a b c d w.0 w.1 did.same));
-     }))
+step_some lits i x p now a b true h at within is order from to did = (
+  ap (λ (q : Merged). q.terms) did.merged,
+  subst (AreNegatedClasses lits (take (i + 1) lits)) (sym did.merged) (step_joins lits i x p a b h at within is order from to did.apart),
+)
+step_some lits i x p now a b false h at within is order from to did = (
+  ap (λ (q : Merged). q.terms) did.stays,
+  subst (AreNegatedClasses lits (take (i + 1) lits)) (sym did.stays) (record {
+    merges = h.merges;
+    linked = h.linked;
+    joined = All-more (IsJoined p.links) lits i x within h.joined
+        (rw (get_or_from_slice_get lits i x x at) (λ c d e. let w = same_equality a b c d (sym is ∙ e) in same_along (reps p.links) a b c d w.0 w.1 did.same));
+  }),
+)
 
 -- an atom has the truth of its normal form
 pub normal_truth : (m : Interpretation) (s : Sizes) (links : List Link) (a : Atom) → IsCongruence s m → Respects m.class links (length links) → AreMerges s.terms links → IsInRange s a
@@ -101,15 +103,15 @@ pub settled_follows : (s : Sizes) (lits : List Lit) (p : Merged) (l : Lit) → A
 settled_follows s lits p l all terms h there settled = record {
   in_range = all;
   follows = λ m congruence. elim (true_or_false m lits) as (λ _. IsClauseTrue m lits) [
-      inl t ↦ t
+    | inl t ↦ t
     | inr none ↦
         let links = p.links in
         let merges : AreMerges s.terms links = subst (λ n. AreMerges n links) terms h.merges in
         let holds : Respects m.class links (length links) = λ i k below at.
-            link_holds m k (All-contains (IsLitFalse m) lits (disequality_of k) none (h.linked k (slice_get-contains links i k at))) in
+        link_holds m k (All-contains (IsLitFalse m) lits (disequality_of k) none (h.linked k (slice_get-contains links i k at))) in
         let off : IsLitFalse m l = All-contains (IsLitFalse m) lits l none there in
         elim settled as (λ _. IsClauseTrue m lits) [
-            inl w ↦
+          | inl w ↦
               let same : m.class w.0.0 ≡ m.class w.1.0 = same_sound m.class links (length links) w.0.0 w.1.0 (omega arith) holds w.3 in
               let one : lit_truth m (equality w.0 w.1) ≡ true = eq-eqb _ _ same in
               let two : lit_truth m (equality w.0 w.1) ≡ false = subst (IsLitFalse m) w.2 off in
@@ -118,9 +120,9 @@ settled_follows s lits p l all terms h there settled = record {
               let k = w.1.0 in
               let range : (x : Lit) → Contains lits x → IsInRange s x.atom = λ x c. All-contains (λ (y : Lit). IsInRange s y.atom) lits x all c in
               let forms : normal (reps links) k.atom ≡ normal (reps links) l.atom =
-                  atoms_apart s _ _ (normal_range s links k.atom merges (range k w.1.1)) (normal_range s links l.atom merges (range l there)) w.1.2.key in
+              atoms_apart s _ _ (normal_range s links k.atom merges (range k w.1.1)) (normal_range s links l.atom merges (range l there)) w.1.2.key in
               let truths : atom_truth m k.atom ≡ atom_truth m l.atom =
-                  sym (normal_truth m s links k.atom congruence holds merges (range k w.1.1)) ∙ ap (atom_truth m) forms ∙ normal_truth m s links l.atom congruence holds merges (range l there) in
+              sym (normal_truth m s links k.atom congruence holds merges (range k w.1.1)) ∙ ap (atom_truth m) forms ∙ normal_truth m s links l.atom congruence holds merges (range l there) in
               let off' : IsLitFalse m k = All-contains (IsLitFalse m) lits k none w.1.1 in
               absurd (w.1.2.signs (both_false k.positive l.positive (atom_truth m l.atom) (ap (under k.positive) (sym truths) ∙ off') off))
         ]

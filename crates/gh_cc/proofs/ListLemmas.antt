@@ -51,4 +51,3 @@ pub get_some : {X : Type 0} (xs : List X) (i : ℕ) → i < length xs → (x : X
 get_some [] i h = absurd (omega arith)
 get_some (x ∷ xs) zero h = (x, refl)
 get_some (x ∷ xs) (suc i) h = get_some xs i (omega arith)
-

@@ -35,7 +35,7 @@ pub relabel_cases : (r : ℕ → ℕ) (l : Link) (t : ℕ)
     → ((r t ≡ r l.from.0) × (relabel r l t ≡ r l.to.0)) ⊎ ((r t ≢ r l.from.0) × (relabel r l t ≡ r t))
 relabel_cases r l t =
     elim (eqb_tells (r t) (r l.from.0)) as (λ _. ((r t ≡ r l.from.0) × (relabel r l t ≡ r l.to.0)) ⊎ ((r t ≢ r l.from.0) × (relabel r l t ≡ r t))) [
-        inl h ↦ inl (h.1, cond_true _ _ _ h.0)
+      | inl h ↦ inl (h.1, cond_true _ _ _ h.0)
       | inr h ↦ inr (h.1, cond_false _ _ _ h.0)
     ]
 
@@ -82,7 +82,7 @@ rep_range n links (suc d) t m h below =
     let facts = m d l w.1 in
     let step = rep_step links d l t w.1 in
     elim (relabel_cases (rep links d) l t) as (λ _. rep links (suc d) t < n) [
-        inl c ↦ rw (step ∙ c.1) (rep_range n links d l.to.0 m (omega arith) facts.1)
+      | inl c ↦ rw (step ∙ c.1) (rep_range n links d l.to.0 m (omega arith) facts.1)
       | inr c ↦ rw (step ∙ c.1) (rep_range n links d t m (omega arith) below)
     ]
 
@@ -93,16 +93,16 @@ rep_own links (suc d) t =
     let l = get_or links d no_link in
     let r = rep links d in
     elim (relabel_cases r l t) as (λ _. relabel r l (relabel r l t) ≡ relabel r l t) [
-        inl c ↦
+      | inl c ↦
           let own : r (r l.to.0) ≡ r l.to.0 = rep_own links d l.to.0 in
           elim (relabel_cases r l (r l.to.0)) as (λ _. relabel r l (relabel r l t) ≡ relabel r l t) [
-              inl k ↦ ap (relabel r l) c.1 ∙ k.1 ∙ sym c.1
+            | inl k ↦ ap (relabel r l) c.1 ∙ k.1 ∙ sym c.1
             | inr k ↦ ap (relabel r l) c.1 ∙ k.1 ∙ own ∙ sym c.1
           ]
       | inr c ↦
           let own : r (r t) ≡ r t = rep_own links d t in
           elim (relabel_cases r l (r t)) as (λ _. relabel r l (relabel r l t) ≡ relabel r l t) [
-              inl k ↦ absurd (c.0 (sym own ∙ k.0))
+            | inl k ↦ absurd (c.0 (sym own ∙ k.0))
             | inr k ↦ ap (relabel r l) c.1 ∙ k.1 ∙ own ∙ sym c.1
           ]
     ]
@@ -125,13 +125,13 @@ pub rep_joins : (links : List Link) (d : ℕ) (l : Link) → slice_get links d �
 rep_joins links d l at =
     let r = rep links d in
     let joined : relabel r l l.from.0 ≡ relabel r l l.to.0 =
-        elim (relabel_cases r l l.from.0) as (λ _. relabel r l l.from.0 ≡ relabel r l l.to.0) [
-            inl c ↦ elim (relabel_cases r l l.to.0) as (λ _. relabel r l l.from.0 ≡ relabel r l l.to.0) [
-                inl k ↦ c.1 ∙ sym k.1
-              | inr k ↦ c.1 ∙ sym k.1
-            ]
-          | inr c ↦ absurd (c.0 refl)
-        ]
+    elim (relabel_cases r l l.from.0) as (λ _. relabel r l l.from.0 ≡ relabel r l l.to.0) [
+      | inl c ↦ elim (relabel_cases r l l.to.0) as (λ _. relabel r l l.from.0 ≡ relabel r l l.to.0) [
+        | inl k ↦ c.1 ∙ sym k.1
+        | inr k ↦ c.1 ∙ sym k.1
+      ]
+      | inr c ↦ absurd (c.0 refl)
+    ]
     in
     rep_step links d l l.from.0 at ∙ joined ∙ sym (rep_step links d l l.to.0 at)
 
@@ -149,7 +149,7 @@ rep_sound class links (suc d) t h s =
     let inner : (u : ℕ) → class (r u) ≡ class u = λ u. rep_sound class links d u (omega arith) (λ i k below at. s i k (omega arith) at) in
     let step = rep_step links d l t w.1 in
     elim (relabel_cases r l t) as (λ _. class (rep links (suc d) t) ≡ class t) [
-        inl c ↦ ap class (step ∙ c.1) ∙ inner l.to.0 ∙ sym (s d l (omega arith) w.1) ∙ sym (inner l.from.0) ∙ ap class (sym c.0) ∙ inner t
+      | inl c ↦ ap class (step ∙ c.1) ∙ inner l.to.0 ∙ sym (s d l (omega arith) w.1) ∙ sym (inner l.from.0) ∙ ap class (sym c.0) ∙ inner t
       | inr c ↦ ap class (step ∙ c.1) ∙ inner t
     ]
 
@@ -161,14 +161,14 @@ pub merges_more : (n : ℕ) (links : List Link) (l : Link) → AreMerges n links
     → rep links (length links) l.from.0 ≢ rep links (length links) l.to.0 → AreMerges n (links ++ l ∷ [])
 merges_more n links l m from to apart d k at =
     elim (get_push links l d k at) as (λ _. (k.from.0 < n) × (k.to.0 < n) × (rep (links ++ l ∷ []) d k.from.0 ≢ rep (links ++ l ∷ []) d k.to.0)) [
-        inl old ↦
+      | inl old ↦
           let f = m d k old in
           let h = get_within links d k old in
           (f.0, f.1, λ e. f.2 (sym (rep_front links (l ∷ []) d k.from.0 (omega arith)) ∙ e ∙ rep_front links (l ∷ []) d k.to.0 (omega arith)))
       | inr new ↦
           subst (λ (j : Link). (j.from.0 < n) × (j.to.0 < n) × (rep (links ++ l ∷ []) d j.from.0 ≢ rep (links ++ l ∷ []) d j.to.0)) new.1
           (subst (λ i. (l.from.0 < n) × (l.to.0 < n) × (rep (links ++ l ∷ []) i l.from.0 ≢ rep (links ++ l ∷ []) i l.to.0)) (sym new.0)
-           (from, to, λ e. apart (sym (rep_front links (l ∷ []) (length links) l.from.0 (omega arith)) ∙ e ∙ rep_front links (l ∷ []) (length links) l.to.0 (omega arith))))
+          (from, to, λ e. apart (sym (rep_front links (l ∷ []) (length links) l.from.0 (omega arith)) ∙ e ∙ rep_front links (l ∷ []) (length links) l.to.0 (omega arith))))
     ]
 
 pub merges_take : (n m : ℕ) (links : List Link) → AreMerges n links → AreMerges n (take m links)
@@ -197,10 +197,10 @@ stays_fixed : (r : ℕ → ℕ) (l : Link) (n : ℕ) → ((t : ℕ) → r (r t) 
     → one_if (eqb (relabel r l n) n) ≡ one_if (eqb (r n) n)
 stays_fixed r l n own apart other =
     elim (relabel_cases r l n) as (λ _. one_if (eqb (relabel r l n) n) ≡ one_if (eqb (r n) n)) [
-        inl c ↦
+      | inl c ↦
           let new : relabel r l n ≢ n = λ e.
-              let at : r l.to.0 ≡ n = sym c.1 ∙ e in
-              apart (sym c.0 ∙ ap r (sym at) ∙ own l.to.0) in
+          let at : r l.to.0 ≡ n = sym c.1 ∙ e in
+          apart (sym c.0 ∙ ap r (sym at) ∙ own l.to.0) in
           let old : r n ≢ n = λ e. other (sym e ∙ c.0) in
           none_if_apart (relabel r l n) n new ∙ sym (none_if_apart (r n) n old)
       | inr c ↦ ap (λ x. one_if (eqb x n)) c.1
@@ -220,14 +220,14 @@ fewer_fixed : (r : ℕ → ℕ) (l : Link) (n : ℕ) → ((t : ℕ) → r (r t) 
 fewer_fixed r l zero own apart h = absurd (omega arith)
 fewer_fixed r l (suc n) own apart h =
     elim (cases_eq n (r l.from.0)) as (λ _. fixed (relabel r l) (suc n) + 1 ≡ fixed r (suc n)) [
-        inl e ↦
+      | inl e ↦
           let before = fixed_below r l n own apart (omega arith) in
           let was : one_if (eqb (r n) n) ≡ 1 = one_if_same (r n) n (ap r e ∙ own l.from.0 ∙ sym e) in
           let gone : relabel r l n ≢ n = λ same.
-              elim (relabel_cases r l n) as (λ _. ⊥) [
-                  inl c ↦ apart (sym e ∙ sym same ∙ c.1)
-                | inr c ↦ c.0 (ap r e ∙ own l.from.0)
-              ] in
+          elim (relabel_cases r l n) as (λ _. ⊥) [
+            | inl c ↦ apart (sym e ∙ sym same ∙ c.1)
+            | inr c ↦ c.0 (ap r e ∙ own l.from.0)
+          ] in
           let here = none_if_apart (relabel r l n) n gone in
           omega (arith, before, was, here)
       | inr ne ↦
@@ -251,7 +251,7 @@ fixed_count n links (suc d) m h =
     let inside = rep_range n links d l.from.0 m (omega arith) f.0 in
     let less = fewer_fixed (rep links d) l n (rep_own links d) f.2 inside in
     let step : fixed (rep links (suc d)) n ≡ fixed (relabel (rep links d) l) n =
-        ap (λ (r : ℕ → ℕ). fixed r n) (λ i. λ t. rep_step links d l t w.1 i) in
+    ap (λ (r : ℕ → ℕ). fixed r n) (λ i. λ t. rep_step links d l t w.1 i) in
     omega (arith, before, less, step)
 
 pub links_few : (n : ℕ) (links : List Link) → AreMerges n links → length links ≤ n
@@ -262,7 +262,7 @@ some_fixed : (r : ℕ → ℕ) (n a : ℕ) → a < n → r a ≡ a → 0 < fixed
 some_fixed r zero a h own = absurd (omega arith)
 some_fixed r (suc n) a h own =
     elim (cases_eq n a) as (λ _. 0 < fixed r (suc n)) [
-        inl e ↦ let here = one_if_same (r n) n (ap r e ∙ own ∙ sym e) in omega (arith, here)
+      | inl e ↦ let here = one_if_same (r n) n (ap r e ∙ own ∙ sym e) in omega (arith, here)
       | inr ne ↦ let before = some_fixed r n a (omega arith) own in omega (arith, before)
     ]
 
@@ -343,12 +343,12 @@ partition_merge links reps saved room l old new p from to apart is_old is_new =
       before = λ e below.
           let push = length_push links l in
           elim (cases_eq e d) as (λ _. (row : List Term) × (slice_get (slice_set saved d reps) e ≡ Some row)
-              × ((t : ℕ) → t < length (map (moved old new) reps) → slice_get row t ≡ Some (term (rep (links ++ l ∷ []) e t)))) [
-              inl same ↦ (
-                reps,
-                ap (λ (k : ℕ). slice_get (slice_set saved d reps) k) same ∙ get_set_same saved d reps (omega (arith, p.rows)),
-                λ t inside. p.present t (omega (arith, long)) ∙ ap (λ (x : ℕ). Some (term x)) (sym (rep_front links (l ∷ []) d t (omega arith)) ∙ ap (λ (k : ℕ). rep (links ++ l ∷ []) k t) (sym same)),
-              )
+          × ((t : ℕ) → t < length (map (moved old new) reps) → slice_get row t ≡ Some (term (rep (links ++ l ∷ []) e t)))) [
+            | inl same ↦ (
+              reps,
+              ap (λ (k : ℕ). slice_get (slice_set saved d reps) k) same ∙ get_set_same saved d reps (omega (arith, p.rows)),
+              λ t inside. p.present t (omega (arith, long)) ∙ ap (λ (x : ℕ). Some (term x)) (sym (rep_front links (l ∷ []) d t (omega arith)) ∙ ap (λ (k : ℕ). rep (links ++ l ∷ []) k t) (sym same)),
+            )
             | inr other ↦
                 let v = p.before e (omega arith) in (
                   v.0,
@@ -379,12 +379,12 @@ Crosses r l a b = ((r a ≡ r l.from.0) × (r l.to.0 ≡ r b)) ⊎ ((r a ≡ r l
 pub relabel_crosses : (r : ℕ → ℕ) (l : Link) (a b : ℕ) → relabel r l a ≡ relabel r l b → r a ≢ r b → Crosses r l a b
 relabel_crosses r l a b same apart =
     elim (relabel_cases r l a) as (λ _. ((r a ≡ r l.from.0) × (r l.to.0 ≡ r b)) ⊎ ((r a ≡ r l.to.0) × (r l.from.0 ≡ r b))) [
-        inl p ↦ elim (relabel_cases r l b) as (λ _. ((r a ≡ r l.from.0) × (r l.to.0 ≡ r b)) ⊎ ((r a ≡ r l.to.0) × (r l.from.0 ≡ r b))) [
-            inl q ↦ absurd (apart (p.0 ∙ sym q.0))
-          | inr q ↦ inl (p.0, sym p.1 ∙ same ∙ q.1)
-        ]
+      | inl p ↦ elim (relabel_cases r l b) as (λ _. ((r a ≡ r l.from.0) × (r l.to.0 ≡ r b)) ⊎ ((r a ≡ r l.to.0) × (r l.from.0 ≡ r b))) [
+        | inl q ↦ absurd (apart (p.0 ∙ sym q.0))
+        | inr q ↦ inl (p.0, sym p.1 ∙ same ∙ q.1)
+      ]
       | inr p ↦ elim (relabel_cases r l b) as (λ _. ((r a ≡ r l.from.0) × (r l.to.0 ≡ r b)) ⊎ ((r a ≡ r l.to.0) × (r l.from.0 ≡ r b))) [
-            inl q ↦ inr (sym p.1 ∙ same ∙ q.1, sym q.0)
-          | inr q ↦ absurd (apart (sym p.1 ∙ same ∙ q.1))
-        ]
+        | inl q ↦ inr (sym p.1 ∙ same ∙ q.1, sym q.0)
+        | inr q ↦ absurd (apart (sym p.1 ∙ same ∙ q.1))
+      ]
     ]

@@ -94,12 +94,12 @@ unequal_conflict s lits p a b start clause t there begun f =
     let whole : clause ≡ l ∷ f.added = f.more ∙ ap (λ (c : List Lit). c ++ f.added) begun in
     let inside : IsInRange s (Eq a b) = All-contains (λ (k : Lit). IsInRange s k.atom) lits (record { atom = Eq a b; positive = false }) t.in_range there in
     let serves : All (Serves s lits) (l ∷ f.added) =
-        All-cons (Serves s lits) l f.added (inside, there) (All-weaker (IsLinkNegated p.links) (Serves s lits) (λ k. negated_serves s lits p k t) f.added f.explains.negated) in
+    All-cons (Serves s lits) l f.added (inside, there) (All-weaker (IsLinkNegated p.links) (Serves s lits) (λ k. negated_serves s lits p k t) f.added f.explains.negated) in
     subst (λ (c : List Lit). IsConflict (record { sizes = s; lits = lits }) c) (sym whole)
     (conflict_from s lits (l ∷ f.added) serves (λ m congruence none.
-        let head : eqb (m.class a.0) (m.class b.0) ≡ false = none 0 l (omega arith) in
-        let same : m.class a.0 ≡ m.class b.0 = f.explains.joins m (All-back (IsLitFalse m) (l ∷ []) f.added none) in
-        let yes_equal = eq-eqb (m.class a.0) (m.class b.0) same in cc))
+    let head : eqb (m.class a.0) (m.class b.0) ≡ false = none 0 l (omega arith) in
+    let same : m.class a.0 ≡ m.class b.0 = f.explains.joins m (All-back (IsLitFalse m) (l ∷ []) f.added none) in
+    let yes_equal = eq-eqb (m.class a.0) (m.class b.0) same in cc))
 
 signs_same : (p q t : Bool) → not (under p t) ≡ false → not (under q t) ≡ false → p ≡ q
 signs_same true true t e f = refl
@@ -117,11 +117,11 @@ opposite_conflict s lits p l k start clause t there there' differ begun f =
     let one : Serves s lits (opposite l) = (range l there, subst (Contains lits) (sym (opposite_twice l)) there) in
     let other : Serves s lits (opposite k) = (range k there', subst (Contains lits) (sym (opposite_twice k)) there') in
     let serves : All (Serves s lits) (opposite l ∷ opposite k ∷ f.added) =
-        All-cons (Serves s lits) (opposite l) (opposite k ∷ f.added) one (All-cons (Serves s lits) (opposite k) f.added other
-        (All-weaker (IsLinkNegated p.links) (Serves s lits) (λ j. negated_serves s lits p j t) f.added f.negated)) in
+    All-cons (Serves s lits) (opposite l) (opposite k ∷ f.added) one (All-cons (Serves s lits) (opposite k) f.added other
+    (All-weaker (IsLinkNegated p.links) (Serves s lits) (λ j. negated_serves s lits p j t) f.added f.negated)) in
     subst (λ (c : List Lit). IsConflict (record { sizes = s; lits = lits }) c) (sym whole)
     (conflict_from s lits (opposite l ∷ opposite k ∷ f.added) serves (λ m congruence none.
-        let same : atom_truth m l.atom ≡ atom_truth m k.atom = f.agrees m congruence (All-back (IsLitFalse m) (opposite l ∷ opposite k ∷ []) f.added none) in
-        let first : not (under l.positive (atom_truth m l.atom)) ≡ false = sym (truth_of_opposite m l) ∙ none 0 (opposite l) (omega arith) in
-        let second : not (under k.positive (atom_truth m k.atom)) ≡ false = sym (truth_of_opposite m k) ∙ none 1 (opposite k) (omega arith) in
-        differ (signs_same l.positive k.positive (atom_truth m l.atom) first (ap (λ (b : Bool). not (under k.positive b)) same ∙ second))))
+    let same : atom_truth m l.atom ≡ atom_truth m k.atom = f.agrees m congruence (All-back (IsLitFalse m) (opposite l ∷ opposite k ∷ []) f.added none) in
+    let first : not (under l.positive (atom_truth m l.atom)) ≡ false = sym (truth_of_opposite m l) ∙ none 0 (opposite l) (omega arith) in
+    let second : not (under k.positive (atom_truth m k.atom)) ≡ false = sym (truth_of_opposite m k) ∙ none 1 (opposite k) (omega arith) in
+    differ (signs_same l.positive k.positive (atom_truth m l.atom) first (ap (λ (b : Bool). not (under k.positive b)) same ∙ second))))

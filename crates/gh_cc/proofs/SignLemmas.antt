@@ -46,7 +46,7 @@ pub find_sound : (entries : List Entry) (number lit : ℕ) → find_lit entries 
 find_sound [] number lit e = cc
 find_sound (x ∷ xs) number lit e =
     elim (eqb_tells x.number number) as (λ _. (i : ℕ) × (slice_get (x ∷ xs) i ≡ Some (record { number = number; lit = lit }))) [
-        inl h ↦
+      | inl h ↦
           let same : Some x.lit ≡ Some lit = sym (cond_yes _ (Some x.lit) (find_lit xs number) h.0) ∙ e in
           let lits : x.lit ≡ lit = cc in
           let numbers : x.number ≡ number = h.1 in
@@ -65,16 +65,16 @@ find_some (x ∷ xs) zero e at =
 find_some (x ∷ xs) (suc i) e at =
     let rest = find_some xs i e at in
     elim (eqb_tells x.number e.number) as (λ _. (lit : ℕ) × (find_lit (x ∷ xs) e.number ≡ Some lit)) [
-        inl h ↦ (x.lit, cond_yes _ (Some x.lit) (find_lit xs e.number) h.0)
+      | inl h ↦ (x.lit, cond_yes _ (Some x.lit) (find_lit xs e.number) h.0)
       | inr h ↦ (rest.0, cond_no _ (Some x.lit) (find_lit xs e.number) h.0 ∙ rest.1)
     ]
 
 -- what the table has is what is found
 pub table_is : (table : List (Option ℕ)) (entries : List Entry) (room n : ℕ) (o : Option ℕ) → AreSigns table entries room → slice_get table n ≡ Some o → o ≡ find_lit entries n
 table_is table entries room n None s at = none_is (find_lit entries n) refl where
-    none_is : (f : Option ℕ) → find_lit entries n ≡ f → None ≡ f
-    none_is None e = refl
-    none_is (Some lit) e = let w = find_sound entries n lit e in let there = s.on w.0 _ w.1 in cc
+  none_is : (f : Option ℕ) → find_lit entries n ≡ f → None ≡ f
+  none_is None e = refl
+  none_is (Some lit) e = let w = find_sound entries n lit e in let there = s.on w.0 _ w.1 in cc
 table_is table entries room n (Some lit) s at =
     let w = s.back n lit at in
     let f = find_some entries w.0 _ w.1 in
@@ -95,15 +95,15 @@ pub signs_more : (table : List (Option ℕ)) (entries : List Entry) (room : ℕ)
 signs_more table entries room y s h none =
     let free = table_free table entries room y.number s h none in
     let other : (i : ℕ) (x : Entry) → slice_get entries i ≡ Some x → x.number ≢ y.number = λ i x at e.
-        let there : slice_get table y.number ≡ Some (Some x.lit) = subst (λ n. slice_get table n ≡ Some (Some x.lit)) e (s.on i x at) in cc in
+    let there : slice_get table y.number ≡ Some (Some x.lit) = subst (λ n. slice_get table n ≡ Some (Some x.lit)) e (s.on i x at) in cc in
     let now = slice_set table y.number (Some y.lit) in
     record {
       on = λ i x at. elim (get_push entries y i x at) as (λ _. slice_get now x.number ≡ Some (Some x.lit)) [
-          inl old ↦ get_set_other table y.number x.number (Some y.lit) (other i x old) ∙ s.on i x old
+        | inl old ↦ get_set_other table y.number x.number (Some y.lit) (other i x old) ∙ s.on i x old
         | inr new ↦ subst (λ (z : Entry). slice_get now z.number ≡ Some (Some z.lit)) new.1 (get_set_same table y.number (Some y.lit) h)
       ];
       back = λ n lit at. elim (cases_eq n y.number) as (λ _. (i : ℕ) × (slice_get (entries ++ y ∷ []) i ≡ Some (record { number = n; lit = lit }))) [
-          inl e ↦
+        | inl e ↦
             let same : slice_get now n ≡ Some (Some y.lit) = subst (λ k. slice_get now k ≡ Some (Some y.lit)) (sym e) (get_set_same table y.number (Some y.lit) h) in
             let p : y.lit ≡ lit = cc in
             let numbers : y.number ≡ n = sym e in
@@ -113,14 +113,14 @@ signs_more table entries room y s h none =
             (w.0, get_front entries (y ∷ []) w.0 _ w.1)
       ];
       apart = λ i x j z at at' e. elim (get_push entries y i x at) as (λ _. i ≡ j) [
-          inl old ↦ elim (get_push entries y j z at') as (λ _. i ≡ j) [
-              inl old' ↦ s.apart i x j z old old' e
-            | inr new' ↦ absurd (other i x old (e ∙ ap (λ (t : Entry). t.number) (sym new'.1)))
-          ]
+        | inl old ↦ elim (get_push entries y j z at') as (λ _. i ≡ j) [
+          | inl old' ↦ s.apart i x j z old old' e
+          | inr new' ↦ absurd (other i x old (e ∙ ap (λ (t : Entry). t.number) (sym new'.1)))
+        ]
         | inr new ↦ elim (get_push entries y j z at') as (λ _. i ≡ j) [
-              inl old' ↦ absurd (other j z old' (sym e ∙ ap (λ (t : Entry). t.number) (sym new.1)))
-            | inr new' ↦ new.0 ∙ sym new'.0
-          ]
+          | inl old' ↦ absurd (other j z old' (sym e ∙ ap (λ (t : Entry). t.number) (sym new.1)))
+          | inr new' ↦ new.0 ∙ sym new'.0
+        ]
       ];
       counted = omega (arith, s.counted, fewer_left table y.number y.lit free, length_push entries y, length-set table y.number (Some y.lit));
       reserved = omega (arith, s.reserved, length-set table y.number (Some y.lit));
@@ -133,19 +133,19 @@ signs_less table entries room y s =
     let last = s.on (length entries) y (get_last entries y) in
     let here = get_within table y.number (Some y.lit) last in
     let away : (i : ℕ) (x : Entry) → slice_get entries i ≡ Some x → x.number ≢ y.number = λ i x at e.
-        let same = s.apart i x (length entries) y (get_front entries (y ∷ []) i x at) (get_last entries y) e in
-        let lt = get_within entries i x at in absurd (omega arith) in
+    let same = s.apart i x (length entries) y (get_front entries (y ∷ []) i x at) (get_last entries y) e in
+    let lt = get_within entries i x at in absurd (omega arith) in
     let now = slice_set table y.number None in
     let cleared : length now ≡ length table = length-set table y.number None in
     record {
       on = λ i x at. get_set_other table y.number x.number None (away i x at) ∙ s.on i x (get_front entries (y ∷ []) i x at);
       back = λ n lit at. elim (cases_eq n y.number) as (λ _. (i : ℕ) × (slice_get entries i ≡ Some (record { number = n; lit = lit }))) [
-          inl e ↦
+        | inl e ↦
             let none : slice_get now n ≡ Some None = subst (λ k. slice_get now k ≡ Some None) (sym e) (get_set_same table y.number None here) in cc
         | inr ne ↦
             let w = s.back n lit (sym (get_set_other table y.number n None ne) ∙ at) in
             elim (get_push entries y w.0 (record { number = n; lit = lit }) w.1) as (λ _. (i : ℕ) × (slice_get entries i ≡ Some (record { number = n; lit = lit }))) [
-                inl old ↦ (w.0, old)
+              | inl old ↦ (w.0, old)
               | inr new ↦ absurd (ne (ap (λ (t : Entry). t.number) (sym new.1)))
             ]
       ];

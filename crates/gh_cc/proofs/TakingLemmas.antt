@@ -42,7 +42,7 @@ tied_more s lits p f l t inside joins = record {
   state = record {
     linked = λ k there. Contains-append_left lits (l ∷ []) (equality_of k) (t.state.linked k there);
     joined = λ a b there. elim (Contains-push_cases lits l (equality a b) there) as (λ _. reps p.links a.0 ≡ reps p.links b.0) [
-        inl old ↦ t.state.joined a b old
+      | inl old ↦ t.state.joined a b old
       | inr new ↦ joins a b new
     ];
     named = All-weaker (IsEntry s (reps p.links) lits) (IsEntry s (reps p.links) (lits ++ l ∷ [])) (entry_front s (reps p.links) lits (l ∷ [])) f.entries t.state.named;
@@ -102,11 +102,11 @@ tied_merge s lits p f a b t inside apart =
       few = t.few;
       state = record {
         linked = λ j there. elim (Contains-push_cases p.links k j there) as (λ _. Contains (lits ++ l ∷ []) (equality_of j)) [
-            inl old ↦ Contains-append_left lits (l ∷ []) (equality_of j) (t.state.linked j old)
+          | inl old ↦ Contains-append_left lits (l ∷ []) (equality_of j) (t.state.linked j old)
           | inr new ↦ subst (λ (x : Lit). Contains (lits ++ l ∷ []) x) (sym (equality_is a b inside.0) ∙ ap equality_of new) (Contains-push lits l)
         ];
         joined = λ x y there. elim (Contains-push_cases lits l (equality x y) there) as (λ _. reps now x.0 ≡ reps now y.0) [
-            inl old ↦ reps_same p.links k x.0 y.0 (t.state.joined x y old)
+          | inl old ↦ reps_same p.links k x.0 y.0 (t.state.joined x y old)
           | inr new ↦
               let w = same_equality a b x y new in
               ap (λ (u : Term). reps now u.0) (sym w.0) ∙ reps_joined p.links k ∙ ap (λ (u : Term). reps now u.0) w.1
@@ -121,7 +121,7 @@ pub filed_push : (s : Sizes) (lits : List Lit) (links : List Link) (old new : Fi
 filed_push s lits links old new l g before here =
     All-push (IsFiled s (lits ++ l ∷ []) links new.entries) lits l
     (All-weaker (IsFiled s lits links old.entries) (IsFiled s (lits ++ l ∷ []) links new.entries)
-     (λ k h. filed_along s (reps links) lits (lits ++ l ∷ []) old.entries new.entries k.atom k.positive (λ i j at. get_front lits (l ∷ []) i j at) (grows_find old new g) h) lits before)
+    (λ k h. filed_along s (reps links) lits (lits ++ l ∷ []) old.entries new.entries k.atom k.positive (λ i j at. get_front lits (l ∷ []) i j at) (grows_find old new g) h) lits before)
     here
 
 pub grows_none : (f : Filed) → Grows f f
@@ -161,7 +161,7 @@ taken_merge s lits place p now f a b t long all is apart merged =
     let whole : take place lits ++ equality a b ∷ [] ≡ lits = ap (λ (l : Lit). take place lits ++ l ∷ []) (sym is) ∙ front_last lits place no_lit long in
     subst (λ (q : Merged). AreTied s lits q f) (sym merged)
     (subst (λ (ls : List Lit). AreTied s ls (record { terms = p.terms; links = p.links ++ (record { from = a; to = b }) ∷ [] }) f) whole
-     (tied_merge s (take place lits) p f a b t inside apart))
+    (tied_merge s (take place lits) p f a b t inside apart))
 
 pub taken_filed : (s : Sizes) (lits : List Lit) (place : ℕ) (links : List Link) (old new : Filed) → length lits ≡ place + 1 → Grows old new → AllFiled s (take place lits) links old.entries
     → IsFiled s lits links new.entries (last_of lits place) → AllFiled s lits links new.entries
@@ -169,7 +169,7 @@ taken_filed s lits place links old new long g before here =
     let whole = front_last lits place no_lit long in
     subst (λ (ls : List Lit). AllFiled s ls links new.entries) whole
     (filed_push s (take place lits) links old new (last_of lits place) g before
-     (subst (λ (ls : List Lit). IsFiled s ls links new.entries (last_of lits place)) (sym whole) here))
+    (subst (λ (ls : List Lit). IsFiled s ls links new.entries (last_of lits place)) (sym whole) here))
 
 pub same_along : (r : ℕ → ℕ) (a b x y : Term) → a ≡ x → b ≡ y → r a.0 ≡ r b.0 → r x.0 ≡ r y.0
 same_along r a b x y e f same = ap (λ (t : Term). r t.0) (sym e) ∙ same ∙ ap (λ (t : Term). r t.0) f

@@ -162,6 +162,20 @@ impl Classes {
         self.partition.rep(a).0 == self.partition.rep(b).0
     }
 
+    /// The literals that stand asserted, in order.
+    pub fn lits(&self) -> &[Lit]
+        ensures { result.now ≡ self.now.lits }
+    {
+        self.lits.as_slice()
+    }
+
+    /// The numbers of terms, versions and definitions.
+    pub fn sizes(&self) -> Sizes
+        ensures { result ≡ self.now.sizes }
+    {
+        self.sizes
+    }
+
     /// How many literals stand asserted.
     pub fn mark(&self) -> u32
         ensures { result ≡ length self.now.lits }

@@ -57,7 +57,13 @@ fn clash_of(lits: &[Lit], first: u32, second: u32) -> Option<Clash>
 }
 
 // Files the literal of a place under its atom's key, or finds a clash that it brings.
-pub(crate) fn file(sizes: Sizes, lits: &[Lit], partition: &Partition, signs: &mut Signs, place: u32) -> Option<Clash>
+pub(crate) fn file(
+    sizes: Sizes,
+    lits: &[Lit],
+    partition: &Partition,
+    signs: &mut Signs,
+    place: u32,
+) -> Option<Clash>
     requires tied { AreTied sizes lits.now partition.now signs.old }
     requires place { place < length lits.now }
     ensures tied { AreTied sizes lits.now partition.now signs.new }
@@ -83,7 +89,12 @@ pub(crate) fn file(sizes: Sizes, lits: &[Lit], partition: &Partition, signs: &mu
 }
 
 // Files each literal, up to the first clash.
-pub(crate) fn refile(sizes: Sizes, lits: &[Lit], partition: &Partition, signs: &mut Signs) -> Option<Clash>
+pub(crate) fn refile(
+    sizes: Sizes,
+    lits: &[Lit],
+    partition: &Partition,
+    signs: &mut Signs,
+) -> Option<Clash>
     requires tied { AreTied sizes lits.now partition.now signs.old }
     requires few { length lits.now ≤ count_of sizes }
     ensures tied { AreTied sizes lits.now partition.now signs.new }
@@ -105,13 +116,7 @@ pub(crate) fn equal_terms(lit: Lit) -> Option<(Term, Term)>
     ensures none { IfNone result ((a b : Term) → lit ≢ equality a b) }
 {
     match lit.atom {
-        Atom::Eq { a, b } => {
-            if lit.positive {
-                Some((a, b))
-            } else {
-                None
-            }
-        }
+        Atom::Eq { a, b } => { if lit.positive { Some((a, b)) } else { None } }
         _ => None,
     }
 }

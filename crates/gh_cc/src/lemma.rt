@@ -108,7 +108,13 @@ fn any_settled(sizes: Sizes, lits: &[Lit], partition: &Partition) -> bool
 
 /// Whether all atoms of a clause are in range and the clause follows from equality and congruence alone. It
 /// takes memory for the terms only, and time in the square of the clause's length.
-pub fn is_lemma(alloc: Global, clause: &Clause, terms: u8, versions: u8, defs: u32) -> Result<bool, AllocError>
+pub fn is_lemma(
+    alloc: Global,
+    clause: &Clause,
+    terms: u8,
+    versions: u8,
+    defs: u32,
+) -> Result<bool, AllocError>
     ensures { IfOk result (λ answer. IsTrue answer ↔ IsEqualityClause (record { terms = terms; versions = versions; defs = defs }) clause.now) }
 {
     let sizes = Sizes {

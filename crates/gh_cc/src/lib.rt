@@ -8,3 +8,5 @@ pub mod lemma;
 pub mod partition;
 mod refuting;
 pub mod signs;
+#[cfg(test)]
+mod tests;

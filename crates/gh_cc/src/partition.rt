@@ -173,7 +173,13 @@ impl Partition {
 
     // Explains by the first merges why two terms have one class: the merge that joined them, and on
     // each side of its link those before.
-    fn explain_by(&self, clause: &mut Clause, depth: usize, a: Term, b: Term) -> Result<(), AllocError>
+    fn explain_by(
+        &self,
+        clause: &mut Clause,
+        depth: usize,
+        a: Term,
+        b: Term,
+    ) -> Result<(), AllocError>
         requires depth { depth ≤ length self.now.links }
         requires a { a.0 < self.now.terms }
         requires b { b.0 < self.now.terms }

@@ -17,7 +17,13 @@ use gh_base::sizes::Sizes;
 use std::alloc::{AllocError, Global};
 
 // Explains why two atoms over terms of the same classes have one truth.
-fn explain_atoms(sizes: Sizes, partition: &Partition, clause: &mut Clause, a: Atom, b: Atom) -> Result<(), AllocError>
+fn explain_atoms(
+    sizes: Sizes,
+    partition: &Partition,
+    clause: &mut Clause,
+    a: Atom,
+    b: Atom,
+) -> Result<(), AllocError>
     requires a { IsInRange sizes a }
     requires b { IsInRange sizes b }
     requires terms { partition.now.terms ≡ sizes.terms }
@@ -28,7 +34,12 @@ fn explain_atoms(sizes: Sizes, partition: &Partition, clause: &mut Clause, a: At
     match a {
         Atom::Eq { .. } | Atom::Def { .. } => Ok(()),
         Atom::Btwn { x, y, z, .. } => match b {
-            Atom::Btwn { x: p, y: q, z: r, .. } => {
+            Atom::Btwn {
+                x: p,
+                y: q,
+                z: r,
+                ..
+            } => {
                 partition.explain(clause, x, p)?;
                 partition.explain(clause, y, q)?;
                 partition.explain(clause, z, r)
@@ -50,7 +61,14 @@ fn explain_atoms(sizes: Sizes, partition: &Partition, clause: &mut Clause, a: At
 }
 
 // The clause against a negated equality of terms of one class.
-fn refute_unequal(alloc: Global, sizes: Sizes, lits: &[Lit], partition: &Partition, a: Term, b: Term) -> Result<Clause, AllocError>
+fn refute_unequal(
+    alloc: Global,
+    sizes: Sizes,
+    lits: &[Lit],
+    partition: &Partition,
+    a: Term,
+    b: Term,
+) -> Result<Clause, AllocError>
     requires linked { AreLinked sizes lits.now partition.now }
     requires there { Contains lits.now (record { atom = Equal a b; positive = false }) }
     requires same { reps partition.now.links a.0 ≡ reps partition.now.links b.0 }
@@ -66,7 +84,14 @@ fn refute_unequal(alloc: Global, sizes: Sizes, lits: &[Lit], partition: &Partiti
 }
 
 // The clause against two literals of opposite signs over terms of the same classes.
-fn refute_opposite(alloc: Global, sizes: Sizes, lits: &[Lit], partition: &Partition, one: Lit, other: Lit) -> Result<Clause, AllocError>
+fn refute_opposite(
+    alloc: Global,
+    sizes: Sizes,
+    lits: &[Lit],
+    partition: &Partition,
+    one: Lit,
+    other: Lit,
+) -> Result<Clause, AllocError>
     requires linked { AreLinked sizes lits.now partition.now }
     requires one { Contains lits.now one }
     requires other { Contains lits.now other }
@@ -84,7 +109,13 @@ fn refute_opposite(alloc: Global, sizes: Sizes, lits: &[Lit], partition: &Partit
 
 /// The clause against a clash: it follows from equality and congruence, and each of its literals negates an
 /// asserted one.
-pub(crate) fn refutation(alloc: Global, sizes: Sizes, lits: &[Lit], partition: &Partition, clash: Clash) -> Result<Clause, AllocError>
+pub(crate) fn refutation(
+    alloc: Global,
+    sizes: Sizes,
+    lits: &[Lit],
+    partition: &Partition,
+    clash: Clash,
+) -> Result<Clause, AllocError>
     requires linked { AreLinked sizes lits.now partition.now }
     requires clash { IsClash (reps partition.now.links) lits.now clash }
     ensures { IfOk result (λ clause. IsConflict (record { sizes = sizes; lits = lits.now }) clause) }
@@ -97,7 +128,14 @@ pub(crate) fn refutation(alloc: Global, sizes: Sizes, lits: &[Lit], partition: &
             refute_unequal(alloc, sizes, lits, partition, a, b)
         }
         Clash::Opposite { first, second } => {
-            refute_opposite(alloc, sizes, lits, partition, lits[first as usize], lits[second as usize])
+            refute_opposite(
+                alloc,
+                sizes,
+                lits,
+                partition,
+                lits[first as usize],
+                lits[second as usize],
+            )
         }
     }
 }

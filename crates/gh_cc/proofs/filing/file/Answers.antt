@@ -20,7 +20,7 @@ clash_of-requires c =
     let lits = c.args.lits.now in
     let x = get_or lits c.args.place none in
     let found : find_lit c.args.signs.now.entries (number_of c.args.sizes (normal (reps c.args.partition.now.links) x.atom)) ≡ Some c.in-Some.first =
-        ap (find_lit c.args.signs.now.entries) (sym c.key-number.ensures.value) ∙ sym c.in-Some.ensures in
+    ap (find_lit c.args.signs.now.entries) (sym c.key-number.ensures.value) ∙ sym c.in-Some.ensures in
     let e = entry_found c.args.sizes lits c.args.partition.now c.args.signs.now x c.in-Some.first c.requires.tied found in
     record { first = get_within lits c.in-Some.first e.lit e.there; second = c.requires.place }
 
@@ -30,7 +30,7 @@ returns-in-None c =
     let x = get_or lits c.args.place none in
     let here : slice_get lits c.args.place ≡ Some x = slice_get-get_or lits c.args.place none c.requires.place in
     let f = put_files c.args.sizes lits c.args.partition.now c.args.signs.now c.put.new.self c.key-number.result c.args.place x c.requires.tied here
-        (relation_of x.atom c.in_default.not-Eq) c.key-number.ensures.value (sym c.in-None.ensures) c.put.ensures in
+    (relation_of x.atom c.in_default.not-Eq) c.key-number.ensures.value (sym c.in-None.ensures) c.put.ensures in
     record { tied = f.tied; grows = f.grows; filed = f.filed; clash = tt }
 
 pub returns-in-Some : goal.returns-in-Some
@@ -39,7 +39,7 @@ returns-in-Some c =
     let x = get_or lits c.args.place none in
     let here : slice_get lits c.args.place ≡ Some x = slice_get-get_or lits c.args.place none c.requires.place in
     let found : find_lit c.args.signs.now.entries (number_of c.args.sizes (normal (reps c.args.partition.now.links) x.atom)) ≡ Some c.in-Some.first =
-        ap (find_lit c.args.signs.now.entries) (sym c.key-number.ensures.value) ∙ sym c.in-Some.ensures in
+    ap (find_lit c.args.signs.now.entries) (sym c.key-number.ensures.value) ∙ sym c.in-Some.ensures in
     record {
       tied = c.requires.tied;
       grows = record { added = []; more = sym (append-nil c.args.signs.now.entries); count = refl };

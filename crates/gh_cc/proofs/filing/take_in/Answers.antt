@@ -44,5 +44,5 @@ file-requires-clause-tied c =
 pub returns-else-clashed-2-clause-filed : goal.returns-else-clashed-2-clause-filed
 returns-else-clashed-2-clause-filed c =
     IfNone_then c.file.result c.file.ensures.filed (λ here _ before.
-        taken_filed c.args.sizes c.args.lits.now c.args.place c.args.partition.now.links c.args.signs.now c.file.new.signs c.requires.last c.file.ensures.grows before
-        (here (last_of c.args.lits.now c.args.place) (last_at c.args.lits.now c.args.place c.requires.last)))
+    taken_filed c.args.sizes c.args.lits.now c.args.place c.args.partition.now.links c.args.signs.now c.file.new.signs c.requires.last c.file.ensures.grows before
+    (here (last_of c.args.lits.now c.args.place) (last_at c.args.lits.now c.args.place c.requires.last)))

@@ -22,14 +22,14 @@ loop-l-preserved c =
     let at : slice_get lits i ≡ Some x = slice_get-get_or lits i no_lit (omega arith) in
     let range : IsInRange c.args.sizes x.atom = c.requires.in_range i no_lit (omega arith) in
     elim c.match-equal_terms.branch [
-        in-Some w ↦
+      | in-Some w ↦
           let a = w.in-Some.a in
           let b = w.in-Some.b in
           let is : opposite x ≡ equality a b = sym c.negated.ensures ∙ w.in-Some.ensures.some in
           let inside : IsInRange c.args.sizes (Eq a b) = subst (λ (l : Lit). IsInRange c.args.sizes l.atom) is range in
           let terms : p.terms ≡ c.args.sizes.terms = c.loop-l.invariant.terms ∙ c.requires.terms in
           let step = step_some lits i x p w.join.new.partition a b w.join.result c.loop-l.invariant.classes at (omega arith) is inside.0
-              (omega (arith, terms, inside.0, inside.1)) (omega (arith, terms, inside.1)) w.join.ensures in
+          (omega (arith, terms, inside.0, inside.1)) (omega (arith, terms, inside.1)) w.join.ensures in
           record {
             terms = ap (λ (q : Merged). q.terms) w.partition-is ∙ step.0 ∙ c.loop-l.invariant.terms;
             classes = subst (λ (q : Merged). AreNegatedClasses lits (take (i + 1) lits) q) (sym w.partition-is) step.1;

@@ -11,7 +11,7 @@ pub index_mut-requires : goal.index_mut-requires
 index_mut-requires c =
     let l = c.loop-entries in
     let all : AreSigns l.table.items (c.pop.new.self.items ++ c.in-Some.entry ∷ []) (vec_capacity l.entries) =
-        subst (λ (es : List Entry). AreSigns l.table.items es (vec_capacity l.entries)) c.in-Some.ensures.items l.invariant.signs in
+    subst (λ (es : List Entry). AreSigns l.table.items es (vec_capacity l.entries)) c.in-Some.ensures.items l.invariant.signs in
     let w = get_within l.table.items c.in-Some.entry.number _ (all.on (length c.pop.new.self.items) c.in-Some.entry (get_last c.pop.new.self.items c.in-Some.entry)) in
     omega arith
 

@@ -21,7 +21,7 @@ push_reserved-requires c =
     let inside : IsInRange core.sizes c.args.lit.atom = rw (← c.self.view_is) at c.requires.in_range in
     let free : IsFree core.lits c.args.lit.atom = rw (← c.self.view_is) at c.requires.free in
     let more = few_lits core.sizes (core.lits ++ c.args.lit ∷ []) (All-push (λ (l : Lit). IsInRange core.sizes l.atom) core.lits c.args.lit kept.in_range inside)
-        (apart_push core.lits c.args.lit free kept.apart) in
+    (apart_push core.lits c.args.lit free kept.apart) in
     let long = length_push core.lits c.args.lit in
     omega (arith, more, long, kept.staged, c.self.invariant.5)
 
@@ -33,7 +33,7 @@ push_reserved-requires-2 c =
     let inside : IsInRange core.sizes c.args.lit.atom = rw (← c.self.view_is) at c.requires.in_range in
     let free : IsFree core.lits c.args.lit.atom = rw (← c.self.view_is) at c.requires.free in
     let more = few_lits core.sizes (core.lits ++ c.args.lit ∷ []) (All-push (λ (l : Lit). IsInRange core.sizes l.atom) core.lits c.args.lit kept.in_range inside)
-        (apart_push core.lits c.args.lit free kept.apart) in
+    (apart_push core.lits c.args.lit free kept.apart) in
     let long = length_push core.lits c.args.lit in
     omega (arith, more, long, c.self.invariant.4)
 
@@ -45,7 +45,7 @@ take_in-found-requires-clause-tied c =
     let inside : IsInRange core.sizes c.args.lit.atom = rw (← c.self.view_is) at c.requires.in_range in
     let free : IsFree core.lits c.args.lit.atom = rw (← c.self.view_is) at c.requires.free in
     let more = few_lits core.sizes (core.lits ++ c.args.lit ∷ []) (All-push (λ (l : Lit). IsInRange core.sizes l.atom) core.lits c.args.lit kept.in_range inside)
-        (apart_push core.lits c.args.lit free kept.apart) in
+    (apart_push core.lits c.args.lit free kept.apart) in
     let long = length_push core.lits c.args.lit in
     let place : c.len-place.result ≡ length core.lits = omega arith in
     let whole : c.as_slice.result.now ≡ core.lits ++ c.args.lit ∷ [] = c.as_slice.ensures.value ∙ c.push_reserved-2.ensures.items in
@@ -67,7 +67,7 @@ take_in-found-requires-clause-in_range c =
     let inside : IsInRange core.sizes c.args.lit.atom = rw (← c.self.view_is) at c.requires.in_range in
     let free : IsFree core.lits c.args.lit.atom = rw (← c.self.view_is) at c.requires.free in
     let more = few_lits core.sizes (core.lits ++ c.args.lit ∷ []) (All-push (λ (l : Lit). IsInRange core.sizes l.atom) core.lits c.args.lit kept.in_range inside)
-        (apart_push core.lits c.args.lit free kept.apart) in
+    (apart_push core.lits c.args.lit free kept.apart) in
     let long = length_push core.lits c.args.lit in
     let place : c.len-place.result ≡ length core.lits = omega arith in
     let whole : c.as_slice.result.now ≡ core.lits ++ c.args.lit ∷ [] = c.as_slice.ensures.value ∙ c.push_reserved-2.ensures.items in
@@ -81,7 +81,7 @@ take_in-found-requires-clause-few c =
     let inside : IsInRange core.sizes c.args.lit.atom = rw (← c.self.view_is) at c.requires.in_range in
     let free : IsFree core.lits c.args.lit.atom = rw (← c.self.view_is) at c.requires.free in
     let more = few_lits core.sizes (core.lits ++ c.args.lit ∷ []) (All-push (λ (l : Lit). IsInRange core.sizes l.atom) core.lits c.args.lit kept.in_range inside)
-        (apart_push core.lits c.args.lit free kept.apart) in
+    (apart_push core.lits c.args.lit free kept.apart) in
     let long = length_push core.lits c.args.lit in
     let place : c.len-place.result ≡ length core.lits = omega arith in
     let whole : c.as_slice.result.now ≡ core.lits ++ c.args.lit ∷ [] = c.as_slice.ensures.value ∙ c.push_reserved-2.ensures.items in
@@ -95,19 +95,19 @@ invariant_of-self c =
     let inside : IsInRange core.sizes c.args.lit.atom = rw (← c.self.view_is) at c.requires.in_range in
     let free : IsFree core.lits c.args.lit.atom = rw (← c.self.view_is) at c.requires.free in
     let more = few_lits core.sizes (core.lits ++ c.args.lit ∷ []) (All-push (λ (l : Lit). IsInRange core.sizes l.atom) core.lits c.args.lit kept.in_range inside)
-        (apart_push core.lits c.args.lit free kept.apart) in
+    (apart_push core.lits c.args.lit free kept.apart) in
     let long = length_push core.lits c.args.lit in
     let place : c.len-place.result ≡ length core.lits = omega arith in
     let whole : c.as_slice.result.now ≡ core.lits ++ c.args.lit ∷ [] = c.as_slice.ensures.value ∙ c.push_reserved-2.ensures.items in
     let t = c.take_in-found.ensures in
     let taken = taken_in core c.args.lit c.as_slice.result.now c.len-place.result i.partition c.take_in-found.new.partition c.take_in-found.new.signs c.take_in-found.result c.is_some.result
-        whole place c.is_some.ensures kept t.tied t.links t.grows.added t.grows.more t.filed t.clash in
+    whole place c.is_some.ensures kept t.tied t.links t.grows.added t.grows.more t.filed t.clash in
     let now = kept_assert core c.args.lit c.take_in-found.new.partition c.take_in-found.new.signs c.take_in-found.result kept inside free taken in
     let stage : c.push_reserved.new.self.items ≡ core.stages ++ now_of core ∷ [] =
-        c.push_reserved.ensures.items ∙ ap (λ (d : ℕ). core.stages ++ stage_of d c.len.result ∷ []) c.depth.ensures.depth
-        ∙ ap (λ (n : ℕ). core.stages ++ stage_of (length core.links) n ∷ []) c.len.ensures.len in
+    c.push_reserved.ensures.items ∙ ap (λ (d : ℕ). core.stages ++ stage_of d c.len.result ∷ []) c.depth.ensures.depth
+    ∙ ap (λ (n : ℕ). core.stages ++ stage_of (length core.links) n ∷ []) c.len.ensures.len in
     let clash : c.first_clash-self-inside.result ≡ first_clash core.clash (length core.lits) c.take_in-found.result =
-        c.first_clash-self-inside.ensures ∙ ap (λ (n : ℕ). first_clash core.clash n c.take_in-found.result) place in (
+    c.first_clash-self-inside.ensures ∙ ap (λ (n : ℕ). first_clash core.clash n c.take_in-found.result) place in (
       kept_along (more_core core c.args.lit c.take_in-found.new.partition c.take_in-found.new.signs c.take_in-found.result) _ _ _ _ _ now
           c.push_reserved-2.ensures.items stage (λ _. c.take_in-found.new.partition.links) (λ _. c.take_in-found.new.signs.entries) clash,
       t.tied.terms,

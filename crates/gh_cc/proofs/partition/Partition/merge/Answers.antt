@@ -18,8 +18,8 @@ copy_from_slice-requires c =
     let from = rw (← c.self.view_is) at c.requires.from in
     let row = c.index_mut-row.result.now in
     let long : length row ≡ length c.self.inside.reps.items =
-        subst (λ (r : List Term). length r ≡ length c.self.inside.reps.items) (sym c.index_mut-row.ensures.value)
-        (All-get_or (λ (r : List Term). length r ≡ length c.self.inside.reps.items) c.self.inside.saved.items c.len.result row (omega (arith, room_left _ _ _ p.merges from, p.rows)) p.long)
+    subst (λ (r : List Term). length r ≡ length c.self.inside.reps.items) (sym c.index_mut-row.ensures.value)
+    (All-get_or (λ (r : List Term). length r ≡ length c.self.inside.reps.items) c.self.inside.saved.items c.len.result row (omega (arith, room_left _ _ _ p.merges from, p.rows)) p.long)
     in
     omega (arith, ap length c.row.view_is, long, ap length c.as_slice.ensures.value)
 
