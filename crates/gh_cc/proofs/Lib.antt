@@ -1,0 +1,12 @@
+pub mod ListLemmas
+pub mod PartitionLemmas
+pub mod ExplainLemmas
+pub mod SignLemmas
+pub mod FilingLemmas
+pub mod TakingLemmas
+pub mod KeptLemmas
+pub mod AssertLemmas
+pub mod SameLemmas
+pub mod RefuteLemmas
+pub mod ConsistentLemmas
+pub mod LemmaLemmas

@@ -1,0 +1,175 @@
+-- A literal more.
+use Rattle.std.proofs.Common.{◌≡◌, ◌≢◌, ◌⊎◌, inl, inr, ℕ, zero, suc, ◌+◌, ◌<◌, ◌≤◌, Bool, true, false, min, max, List, [], ◌∷◌, ◌++◌, All, length, get_or, take, Option, Some, None, refl, sym, ap, ◌∙◌, subst, arith, take_all}
+use Rattle.std.specs.Prelude.{slice_get, Contains}
+use Rattle.std.proofs.lemmas.List.{length_push, append-nil, take_more}
+use Rattle.std.proofs.lemmas.List.Elements.{All-contains, All-weaker, All-push, Contains-append_left, Contains-push, Contains-push_cases}
+use Rattle.std.proofs.lemmas.Option.{slice_get-get_or}
+use Rattle.gh_base.specs.declared.atom.Term.{Term}
+use Rattle.gh_base.specs.declared.atom.Atom.TheVariants.{Eq}
+use Rattle.gh_base.specs.declared.atom.Lit.{Lit}
+use Rattle.gh_base.specs.declared.sizes.Sizes.{Sizes}
+use Rattle.gh_base.specs.Atoms.{IsInRange, AreInRange}
+use Rattle.gh_cc.specs.declared.partition.Link.{Link}
+use Rattle.gh_cc.specs.declared.signs.Entry.{Entry}
+use Rattle.gh_cc.specs.Partitions.{Merged, rep, relabel, equality_of, AreMerges}
+use Rattle.gh_cc.specs.Signs.{Filed, find_lit}
+use Rattle.gh_cc.specs.Asserted.{equality}
+use Rattle.gh_cc.specs.Kept.{normal, reps, IsEntry, IsFiled, AllFiled, IsState, AreTied, Grows, LinksMore}
+use Rattle.gh_cc.proofs.ListLemmas.{get_front, get_last}
+use Rattle.gh_cc.proofs.PartitionLemmas.{term, rep_own, rep_more, rep_joins, relabel_same, merges_more}
+use Rattle.gh_cc.proofs.FilingLemmas.{normal_coarser, filed_along, grows_find}
+
+pub entry_front : (s : Sizes) (r : ℕ → ℕ) (lits more : List Lit) (e : Entry) → IsEntry s r lits e → IsEntry s r (lits ++ more) e
+entry_front s r lits more e h = record {
+  lit = h.lit;
+  atom = h.atom;
+  there = get_front lits more e.lit h.lit h.there;
+  relation = h.relation;
+  in_range = h.in_range;
+  number = h.number;
+  same = h.same;
+}
+
+-- a literal that joins nothing new
+pub tied_more : (s : Sizes) (lits : List Lit) (p : Merged) (f : Filed) (l : Lit) → AreTied s lits p f → IsInRange s l.atom
+    → ((a b : Term) → l ≡ equality a b → reps p.links a.0 ≡ reps p.links b.0) → AreTied s (lits ++ l ∷ []) p f
+tied_more s lits p f l t inside joins = record {
+  in_range = All-push (λ (k : Lit). IsInRange s k.atom) lits l t.in_range inside;
+  terms = t.terms;
+  merges = t.merges;
+  count = t.count;
+  few = t.few;
+  state = record {
+    linked = λ k there. Contains-append_left lits (l ∷ []) (equality_of k) (t.state.linked k there);
+    joined = λ a b there. elim (Contains-push_cases lits l (equality a b) there) as (λ _. reps p.links a.0 ≡ reps p.links b.0) [
+      | inl old ↦ t.state.joined a b old
+      | inr new ↦ joins a b new
+    ];
+    named = All-weaker (IsEntry s (reps p.links) lits) (IsEntry s (reps p.links) (lits ++ l ∷ [])) (entry_front s (reps p.links) lits (l ∷ [])) f.entries t.state.named;
+  };
+}
+
+reps_step : (links : List Link) (l : Link) (t : ℕ) → reps (links ++ l ∷ []) t ≡ relabel (reps links) l t
+reps_step links l t = rep_more links l t
+
+pub reps_coarser : (links : List Link) (l : Link) (t : ℕ) → reps (links ++ l ∷ []) (reps links t) ≡ reps (links ++ l ∷ []) t
+reps_coarser links l t =
+    reps_step links l (reps links t)
+    ∙ relabel_same (reps links) l (reps links t) t (rep_own links (length links) t)
+    ∙ sym (reps_step links l t)
+
+pub reps_same : (links : List Link) (l : Link) (a b : ℕ) → reps links a ≡ reps links b → reps (links ++ l ∷ []) a ≡ reps (links ++ l ∷ []) b
+reps_same links l a b e = reps_step links l a ∙ relabel_same (reps links) l a b e ∙ sym (reps_step links l b)
+
+pub reps_joined : (links : List Link) (l : Link) → reps (links ++ l ∷ []) l.from.0 ≡ reps (links ++ l ∷ []) l.to.0
+reps_joined links l =
+    let long : suc (length links) ≡ length (links ++ l ∷ []) = omega (arith, length_push links l) in
+    subst (λ n. rep (links ++ l ∷ []) n l.from.0 ≡ rep (links ++ l ∷ []) n l.to.0) long (rep_joins (links ++ l ∷ []) (length links) l (get_last links l))
+
+pub equality_is : (a b : Term) → a.0 ≤ b.0 → equality_of (record { from = a; to = b }) ≡ equality a b
+equality_is a b h =
+    let low : min a.0 b.0 ≡ a.0 = omega arith in
+    let high : max a.0 b.0 ≡ b.0 = omega arith in
+    ap (λ (n : ℕ). equality (term n) (term (max a.0 b.0))) low ∙ ap (λ (n : ℕ). equality a (term n)) high
+
+pub same_equality : (a b x y : Term) → equality a b ≡ equality x y → (a ≡ x) × (b ≡ y)
+same_equality a b x y e = let f : Eq a b ≡ Eq x y = ap (λ (l : Lit). l.atom) e in (cc f, cc f)
+
+-- an equality that joins two classes
+pub tied_merge : (s : Sizes) (lits : List Lit) (p : Merged) (f : Filed) (a b : Term) → AreTied s lits p f → IsInRange s (Eq a b) → reps p.links a.0 ≢ reps p.links b.0
+    → AreTied s (lits ++ equality a b ∷ []) (record { terms = p.terms; links = p.links ++ (record { from = a; to = b }) ∷ [] }) f
+tied_merge s lits p f a b t inside apart =
+    let k : Link = record { from = a; to = b } in
+    let l = equality a b in
+    let now = p.links ++ k ∷ [] in
+    let turn : (e : Entry) → IsEntry s (reps p.links) lits e → IsEntry s (reps now) (lits ++ l ∷ []) e = λ e h. record {
+      lit = h.lit;
+      atom = h.atom;
+      there = get_front lits (l ∷ []) e.lit h.lit h.there;
+      relation = h.relation;
+      in_range = h.in_range;
+      number = h.number;
+      same =
+          sym (normal_coarser (reps p.links) (reps now) (reps_coarser p.links k) h.atom)
+          ∙ ap (normal (reps now)) h.same
+          ∙ normal_coarser (reps p.links) (reps now) (reps_coarser p.links k) h.lit.atom;
+    } in
+    record {
+      in_range = All-push (λ (j : Lit). IsInRange s j.atom) lits l t.in_range inside;
+      terms = t.terms;
+      merges = merges_more p.terms p.links k t.merges (omega (arith, t.terms, inside.0, inside.1)) (omega (arith, t.terms, inside.1)) apart;
+      count = t.count;
+      few = t.few;
+      state = record {
+        linked = λ j there. elim (Contains-push_cases p.links k j there) as (λ _. Contains (lits ++ l ∷ []) (equality_of j)) [
+          | inl old ↦ Contains-append_left lits (l ∷ []) (equality_of j) (t.state.linked j old)
+          | inr new ↦ subst (λ (x : Lit). Contains (lits ++ l ∷ []) x) (sym (equality_is a b inside.0) ∙ ap equality_of new) (Contains-push lits l)
+        ];
+        joined = λ x y there. elim (Contains-push_cases lits l (equality x y) there) as (λ _. reps now x.0 ≡ reps now y.0) [
+          | inl old ↦ reps_same p.links k x.0 y.0 (t.state.joined x y old)
+          | inr new ↦
+              let w = same_equality a b x y new in
+              ap (λ (u : Term). reps now u.0) (sym w.0) ∙ reps_joined p.links k ∙ ap (λ (u : Term). reps now u.0) w.1
+        ];
+        named = All-weaker (IsEntry s (reps p.links) lits) (IsEntry s (reps now) (lits ++ l ∷ [])) turn f.entries t.state.named;
+      };
+    }
+
+-- the literals before stay filed, and the last one is filed
+pub filed_push : (s : Sizes) (lits : List Lit) (links : List Link) (old new : Filed) (l : Lit) → Grows old new → AllFiled s lits links old.entries
+    → IsFiled s (lits ++ l ∷ []) links new.entries l → AllFiled s (lits ++ l ∷ []) links new.entries
+filed_push s lits links old new l g before here =
+    All-push (IsFiled s (lits ++ l ∷ []) links new.entries) lits l
+    (All-weaker (IsFiled s lits links old.entries) (IsFiled s (lits ++ l ∷ []) links new.entries)
+    (λ k h. filed_along s (reps links) lits (lits ++ l ∷ []) old.entries new.entries k.atom k.positive (λ i j at. get_front lits (l ∷ []) i j at) (grows_find old new g) h) lits before)
+    here
+
+pub grows_none : (f : Filed) → Grows f f
+grows_none f = record { added = []; more = sym (append-nil f.entries); count = refl }
+
+pub links_none : (p : Merged) → LinksMore p p
+links_none p = record { added = []; more = sym (append-nil p.links); terms = refl }
+
+-- a list is its front and its last element
+pub front_last : (lits : List Lit) (place : ℕ) (d : Lit) → length lits ≡ place + 1 → take place lits ++ get_or lits place d ∷ [] ≡ lits
+front_last lits place d long =
+    sym (take_more lits place d (omega arith)) ∙ take_all (place + 1) lits (omega arith)
+
+abbrev pub no_lit : Lit
+no_lit = record { atom = Eq (term 0) (term 0); positive = false }
+
+abbrev pub last_of : List Lit → ℕ → Lit
+last_of lits place = get_or lits place no_lit
+
+pub last_at : (lits : List Lit) (place : ℕ) → length lits ≡ place + 1 → slice_get lits place ≡ Some (last_of lits place)
+last_at lits place long = slice_get-get_or lits place no_lit (omega arith)
+
+pub last_range : (s : Sizes) (lits : List Lit) (place : ℕ) → AreInRange s lits → length lits ≡ place + 1 → IsInRange s (last_of lits place).atom
+last_range s lits place all long = all place no_lit (omega arith)
+
+-- the same, of a list and its last place
+pub taken_more : (s : Sizes) (lits : List Lit) (place : ℕ) (p : Merged) (f : Filed) → AreTied s (take place lits) p f → length lits ≡ place + 1 → AreInRange s lits
+    → ((a b : Term) → last_of lits place ≡ equality a b → reps p.links a.0 ≡ reps p.links b.0) → AreTied s lits p f
+taken_more s lits place p f t long all joins =
+    subst (λ (ls : List Lit). AreTied s ls p f) (front_last lits place no_lit long)
+    (tied_more s (take place lits) p f (last_of lits place) t (last_range s lits place all long) joins)
+
+pub taken_merge : (s : Sizes) (lits : List Lit) (place : ℕ) (p now : Merged) (f : Filed) (a b : Term) → AreTied s (take place lits) p f → length lits ≡ place + 1 → AreInRange s lits
+    → last_of lits place ≡ equality a b → reps p.links a.0 ≢ reps p.links b.0 → now ≡ record { terms = p.terms; links = p.links ++ (record { from = a; to = b }) ∷ [] } → AreTied s lits now f
+taken_merge s lits place p now f a b t long all is apart merged =
+    let inside : IsInRange s (Eq a b) = subst (λ (l : Lit). IsInRange s l.atom) is (last_range s lits place all long) in
+    let whole : take place lits ++ equality a b ∷ [] ≡ lits = ap (λ (l : Lit). take place lits ++ l ∷ []) (sym is) ∙ front_last lits place no_lit long in
+    subst (λ (q : Merged). AreTied s lits q f) (sym merged)
+    (subst (λ (ls : List Lit). AreTied s ls (record { terms = p.terms; links = p.links ++ (record { from = a; to = b }) ∷ [] }) f) whole
+    (tied_merge s (take place lits) p f a b t inside apart))
+
+pub taken_filed : (s : Sizes) (lits : List Lit) (place : ℕ) (links : List Link) (old new : Filed) → length lits ≡ place + 1 → Grows old new → AllFiled s (take place lits) links old.entries
+    → IsFiled s lits links new.entries (last_of lits place) → AllFiled s lits links new.entries
+taken_filed s lits place links old new long g before here =
+    let whole = front_last lits place no_lit long in
+    subst (λ (ls : List Lit). AllFiled s ls links new.entries) whole
+    (filed_push s (take place lits) links old new (last_of lits place) g before
+    (subst (λ (ls : List Lit). IsFiled s ls links new.entries (last_of lits place)) (sym whole) here))
+
+pub same_along : (r : ℕ → ℕ) (a b x y : Term) → a ≡ x → b ≡ y → r a.0 ≡ r b.0 → r x.0 ≡ r y.0
+same_along r a b x y e f same = ap (λ (t : Term). r t.0) (sym e) ∙ same ∙ ap (λ (t : Term). r t.0) f

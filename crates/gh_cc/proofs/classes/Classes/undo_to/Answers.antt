@@ -1,0 +1,25 @@
+use Rattle.std.proofs.Common.{◌≡◌, ◌<◌, ◌∙◌, length, ap, subst, arith}
+use Rattle.gh_cc.specs.Partitions.{Merged}
+use Rattle.gh_cc.specs.Signs.{Filed}
+use Rattle.gh_cc.specs.Kept.{Core, IsKept, stage_at}
+use Rattle.gh_cc.specs.declared.classes.Stage.{Stage}
+use Rattle.gh_cc.proofs.AssertLemmas.{kept_undo, kept_along, less_core, stage_is}
+use Rattle.gh_cc.proofs.classes.Classes.undo_to.Goals as goal
+
+pub invariant_of-self : goal.invariant_of-self
+invariant_of-self c =
+    let i = c.self.inside in
+    let core : Core = record { sizes = i.sizes; lits = i.lits.items; stages = i.stages.items; links = i.partition.links; entries = i.signs.entries; clash = i.clash } in
+    let kept : IsKept core = c.self.invariant.0 in
+    let within : c.args.mark < length core.lits = omega arith in
+    let stage = c.index-stage.result.now in
+    let at : stage_at core c.args.mark ≡ stage = stage_is core c.args.mark stage (omega (arith, kept.staged)) c.index-stage.ensures in
+    let now = subst (λ (t : Stage). IsKept (less_core core c.args.mark t)) at (kept_undo core c.args.mark kept within) in (
+      kept_along (less_core core c.args.mark stage) _ _ _ _ _ now
+          c.truncate.ensures.items c.truncate-then-left-len.ensures.items (ap (λ (p : Merged). p.links) c.cut.ensures) (ap (λ (f : Filed). f.entries) c.cut-then-left-len.ensures) c.clash_before-self-inside.ensures,
+      ap (λ (p : Merged). p.terms) c.cut.ensures ∙ c.self.invariant.1,
+      ap (λ (f : Filed). f.count) c.cut-then-left-len.ensures ∙ c.self.invariant.2,
+      c.self.invariant.3,
+      omega (arith, c.truncate.ensures.capacity, c.self.invariant.4),
+      omega (arith, c.truncate-then-left-len.ensures.capacity, c.self.invariant.5),
+    )

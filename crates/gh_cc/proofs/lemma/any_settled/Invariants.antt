@@ -1,0 +1,6 @@
+use Rattle.std.proofs.Common.{All, take}
+use Rattle.gh_cc.specs.Lemma.{IsSettled}
+use Rattle.gh_cc.proofs.lemma.any_settled.Given as goal
+
+abbrev pub invariant-loop-l : goal.invariant-loop-l
+invariant-loop-l l = All (λ k. IsSettled l.sizes l.partition.links l.lits k → ⊥) (take l.l-index l.lits)

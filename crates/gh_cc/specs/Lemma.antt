@@ -1,0 +1,44 @@
+-- When a clause follows from equality and congruence alone.
+use Rattle.std.specs.Prelude.{◌≡◌, ◌≢◌, ◌⊎◌, ◌∷◌, ◌++◌, [], List, All, Contains}
+use Rattle.gh_base.specs.declared.atom.Term.{Term}
+use Rattle.gh_base.specs.declared.atom.Lit.{Lit}
+use Rattle.gh_base.specs.declared.sizes.Sizes.{Sizes}
+use Rattle.gh_base.specs.Atoms.{opposite, number_of}
+use Rattle.gh_cc.specs.declared.partition.Link.{Link}
+use Rattle.gh_cc.specs.Partitions.{Merged, AreMerges, disequality_of}
+use Rattle.gh_cc.specs.Asserted.{equality}
+use Rattle.gh_cc.specs.Kept.{normal, reps, IsRelation}
+
+-- two literals of opposite signs over terms of the same classes
+pub record Opposes (s : Sizes) (links : List Link) (other l : Lit) : Type 0 where
+  pub key : number_of s (normal (reps links) other.atom) ≡ number_of s (normal (reps links) l.atom)
+  pub signs : other.positive ≢ l.positive
+
+-- some literal opposes it
+abbrev pub IsOpposed : Sizes → List Link → List Lit → Lit → Type 0
+IsOpposed s links lits l = (other : Lit) × Contains lits other × Opposes s links other l
+
+-- an equality of terms of one class, or a literal that is opposed
+abbrev pub IsSettled : Sizes → List Link → List Lit → Lit → Type 0
+IsSettled s links lits l =
+    ((a : Term) × (b : Term) × (l ≡ equality a b) × (reps links a.0 ≡ reps links b.0)) ⊎ (IsRelation l.atom × IsOpposed s links lits l)
+
+-- two terms were joined
+pub record JoinsTerms (old new : Merged) (a b : Term) : Type 0 where
+  pub apart : reps old.links a.0 ≢ reps old.links b.0
+  pub merged : new ≡ record { terms = old.terms; links = old.links ++ (record { from = a; to = b }) ∷ [] }
+
+-- two terms had one class
+pub record HaveOneClass (old new : Merged) (a b : Term) : Type 0 where
+  pub same : reps old.links a.0 ≡ reps old.links b.0
+  pub stays : new ≡ old
+
+-- the literal joins no two classes by its negation
+abbrev pub IsJoined : List Link → Lit → Type 0
+IsJoined links l = (a b : Term) → opposite l ≡ equality a b → reps links a.0 ≡ reps links b.0
+
+-- the classes are those of the first negated equalities of a clause
+pub record AreNegatedClasses (lits first : List Lit) (p : Merged) : Type 0 where
+  pub merges : AreMerges p.terms p.links
+  pub linked : (k : Link) → Contains p.links k → Contains lits (disequality_of k)
+  pub joined : All (IsJoined p.links) first

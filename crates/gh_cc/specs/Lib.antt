@@ -1,0 +1,5 @@
+pub mod Partitions
+pub mod Signs
+pub mod Asserted
+pub mod Kept
+pub mod Lemma

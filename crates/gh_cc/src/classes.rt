@@ -1,0 +1,201 @@
+//! Asserted literals, with the classes of terms and the truth of atoms that they give.
+
+ghost use Rattle.std.specs.Prelude.{◌≡◌, ◌<◌, ◌≤◌, ◌∷◌, ◌++◌, ◌↔◌, [], IfOk, IfSome, IfNone, IsTrue, length, take};
+ghost use Rattle.gh_cc.specs.Kept.{first_clash, clash_before};
+ghost use Rattle.gh_base.specs.Atoms.{IsInRange};
+ghost use Rattle.gh_cc.specs.Asserted.{IsFree, AreEqual, IsConsistent, IsConflict};
+
+use crate::clash::Clash;
+use crate::filing::take_in;
+use crate::partition::Partition;
+use crate::refuting::refutation;
+use crate::signs::Signs;
+use gh_base::atom::{Lit, Term};
+use gh_base::clause::Clause;
+use gh_base::sizes::Sizes;
+use std::alloc::{AllocError, Global};
+use std::marker::Model;
+
+/// How many links and entries there were before a literal was asserted.
+#[derive(Clone, Copy, Debug, PartialEq, Eq)]
+pub struct Stage {
+    pub depth: u8,
+    pub entries: u32,
+}
+
+/// The first clash, with the place of the literal whose assertion brought it.
+#[derive(Clone, Copy, Debug, PartialEq, Eq)]
+pub struct ClashAt {
+    pub place: u32,
+    pub clash: Clash,
+}
+
+/// Literals that stand asserted.
+#[derive(Debug, Drop)]
+pub struct Classes {
+    sizes: Sizes,
+    lits: Vec<Lit>,
+    stages: Vec<Stage>,
+    partition: Partition,
+    signs: Signs,
+    clash: Option<ClashAt>,
+}
+
+impl Model for Classes {
+    ghost use Rattle.gh_cc.specs.Asserted.{Asserted};
+
+    ghost Value = { Asserted };
+
+    ghost use Rattle.std.specs.Prelude.{◌≡◌, ◌≤◌, length, vec_capacity};
+    ghost use Rattle.gh_base.specs.Atoms.{count_of};
+    ghost use Rattle.gh_cc.specs.Kept.{IsKept};
+
+    ghost view = { λ c. record { sizes = c.sizes; lits = c.lits.items } };
+
+    ghost invariant = { λ c.
+        IsKept (record { sizes = c.sizes; lits = c.lits.items; stages = c.stages.items; links = c.partition.links; entries = c.signs.entries; clash = c.clash })
+        × (c.partition.terms ≡ c.sizes.terms)
+        × (c.signs.count ≡ count_of c.sizes)
+        × (count_of c.sizes ≤ 4294967294)
+        × (count_of c.sizes ≤ vec_capacity c.lits)
+        × (count_of c.sizes ≤ vec_capacity c.stages) };
+}
+
+// The clash that stands after a literal was taken in.
+fn first_clash(before: Option<ClashAt>, place: u32, found: Option<Clash>) -> Option<ClashAt>
+    ensures { result ≡ first_clash before place found }
+{
+    match before {
+        Some(_) => before,
+        None => match found {
+            None => None,
+            Some(clash) => Some(ClashAt { place, clash }),
+        },
+    }
+}
+
+// The clash that stands after the literals from a place on were taken back.
+fn clash_before(mark: u32, clash: Option<ClashAt>) -> Option<ClashAt>
+    ensures { result ≡ clash_before mark clash }
+{
+    match clash {
+        None => None,
+        Some(found) => {
+            if found.place < mark {
+                Some(found)
+            } else {
+                None
+            }
+        }
+    }
+}
+
+impl Classes {
+    /// Nothing stands asserted. Room for all atoms is taken here.
+    pub fn new(alloc: Global, terms: u8, versions: u8, defs: u32) -> Result<Classes, AllocError>
+        ensures { IfOk result (λ c. c ≡ record { sizes = record { terms = terms; versions = versions; defs = defs }; lits = [] }) }
+    {
+        let sizes = Sizes {
+            terms,
+            versions,
+            defs,
+        };
+        let count = sizes.count();
+        if count > 4294967294 {
+            return Err(AllocError);
+        }
+        Ok(Classes {
+            sizes,
+            lits: Vec::with_capacity(alloc, count)?,
+            stages: Vec::with_capacity(alloc, count)?,
+            partition: Partition::new(alloc, terms)?,
+            signs: Signs::new(alloc, count)?,
+            clash: None,
+        })
+    }
+
+    /// Asserts a literal.
+    pub fn assert(&mut self, lit: Lit)
+        requires in_range { IsInRange self.old.sizes lit.atom }
+        requires free { IsFree self.old.lits lit.atom }
+        ensures { self.new ≡ record self.old { lits = self.old.lits ++ lit ∷ [] } }
+    {
+        let place = self.lits.len() as u32;
+        self.stages.push_reserved(Stage {
+            depth: self.partition.depth() as u8,
+            entries: self.signs.len() as u32,
+        });
+        self.lits.push_reserved(lit);
+        let found = take_in(
+            self.sizes,
+            self.lits.as_slice(),
+            &mut self.partition,
+            &mut self.signs,
+            place,
+            self.clash.is_some(),
+        );
+        self.clash = first_clash(self.clash, place, found);
+    }
+
+    /// Takes the last literals back, so that the first `mark` stand.
+    pub fn undo_to(&mut self, mark: u32)
+        requires { mark ≤ length self.old.lits }
+        ensures { self.new ≡ record self.old { lits = take mark self.old.lits } }
+    {
+        let left = mark as usize;
+        if left < self.lits.len() {
+            let stage = self.stages[left];
+            self.partition.cut(stage.depth as usize);
+            self.signs.cut(stage.entries as usize);
+            self.lits.truncate(left);
+            self.stages.truncate(left);
+            self.clash = clash_before(mark, self.clash);
+        }
+    }
+
+    /// Whether the asserted equalities make two terms equal.
+    pub fn same(&self, a: Term, b: Term) -> bool
+        requires a { a.0 < self.now.sizes.terms }
+        requires b { b.0 < self.now.sizes.terms }
+        ensures { IsTrue result ↔ AreEqual self.now a b }
+    {
+        self.partition.rep(a).0 == self.partition.rep(b).0
+    }
+
+    /// The literals that stand asserted, in order.
+    pub fn lits(&self) -> &[Lit]
+        ensures { result.now ≡ self.now.lits }
+    {
+        self.lits.as_slice()
+    }
+
+    /// The numbers of terms, versions and definitions.
+    pub fn sizes(&self) -> Sizes
+        ensures { result ≡ self.now.sizes }
+    {
+        self.sizes
+    }
+
+    /// How many literals stand asserted.
+    pub fn mark(&self) -> u32
+        ensures { result ≡ length self.now.lits }
+    {
+        self.lits.len() as u32
+    }
+
+    /// A clause that follows from equality and congruence alone and whose literals negate asserted ones,
+    /// if there is one.
+    pub fn conflict(&self, alloc: Global) -> Result<Option<Clause>, AllocError>
+        ensures found { IfOk result (λ o. IfSome o (IsConflict self.now)) }
+        ensures none { IfOk result (λ o. IfNone o (IsConsistent self.now.sizes self.now.lits)) }
+    {
+        match self.clash {
+            None => Ok(None),
+            Some(found) => {
+                let lits = self.lits.as_slice();
+                let clause = refutation(alloc, self.sizes, lits, &self.partition, found.clash)?;
+                Ok(Some(clause))
+            }
+        }
+    }
+}

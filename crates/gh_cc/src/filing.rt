@@ -1,0 +1,162 @@
+//! Literals filed under the keys of their atoms.
+
+ghost use Rattle.std.specs.Prelude.{◌≡◌, ◌≢◌, ◌<◌, ◌≤◌, ◌+◌, false, take, IfSome, IfNone, Some, length, slice_get, All};
+ghost use Rattle.gh_base.specs.declared.atom.Lit.{Lit};
+ghost use Rattle.gh_base.specs.declared.atom.Term.{Term};
+ghost use Rattle.gh_base.specs.Atoms.{IsInRange, AreInRange, number_of, count_of};
+ghost use Rattle.gh_cc.specs.Asserted.{equality};
+ghost use Rattle.gh_cc.specs.Kept.{AreTied, Grows, LinksMore, IsClash, IsFiled, AllFiled, IsRelation, normal, reps};
+
+use crate::clash::Clash;
+use crate::partition::Partition;
+use crate::signs::Signs;
+use gh_base::atom::{Atom, Lit, Term};
+use gh_base::sizes::Sizes;
+
+// The number of an atom with representatives in the places of terms.
+pub(crate) fn key(sizes: Sizes, partition: &Partition, atom: Atom) -> usize
+    requires in_range { IsInRange sizes atom }
+    requires terms { partition.now.terms ≡ sizes.terms }
+    ensures value { result ≡ number_of sizes (normal (reps partition.now.links) atom) }
+    ensures below { result < count_of sizes }
+{
+    let atom = match atom {
+        Atom::Eq { .. } | Atom::Def { .. } => atom,
+        Atom::Btwn { version, x, y, z } => Atom::Btwn {
+            version,
+            x: partition.rep(x),
+            y: partition.rep(y),
+            z: partition.rep(z),
+        },
+        Atom::Hop { version, x, v } => Atom::Hop {
+            version,
+            x: partition.rep(x),
+            v: partition.rep(v),
+        },
+        Atom::Alloc { version, x } => Atom::Alloc {
+            version,
+            x: partition.rep(x),
+        },
+    };
+    sizes.number(atom)
+}
+
+// The clash of two literals of one key, if their signs differ.
+fn clash_of(lits: &[Lit], first: u32, second: u32) -> Option<Clash>
+    requires first { first < length lits.now }
+    requires second { second < length lits.now }
+    ensures same { IfNone result ((l k : Lit) → slice_get lits.now first ≡ Some l → slice_get lits.now second ≡ Some k → l.positive ≡ k.positive) }
+    ensures clash { IfSome result (λ c. c ≡ Clash.Opposite first second) }
+    ensures opposite { IfSome result (λ _. (l k : Lit) → slice_get lits.now first ≡ Some l → slice_get lits.now second ≡ Some k → l.positive ≢ k.positive) }
+{
+    if lits[first as usize].positive == lits[second as usize].positive {
+        None
+    } else {
+        Some(Clash::Opposite { first, second })
+    }
+}
+
+// Files the literal of a place under its atom's key, or finds a clash that it brings.
+pub(crate) fn file(
+    sizes: Sizes,
+    lits: &[Lit],
+    partition: &Partition,
+    signs: &mut Signs,
+    place: u32,
+) -> Option<Clash>
+    requires tied { AreTied sizes lits.now partition.now signs.old }
+    requires place { place < length lits.now }
+    ensures tied { AreTied sizes lits.now partition.now signs.new }
+    ensures grows { Grows signs.old signs.new }
+    ensures filed { IfNone result ((l : Lit) → slice_get lits.now place ≡ Some l → IsFiled sizes lits.now partition.now.links signs.new.entries l) }
+    ensures clash { IfSome result (λ c. IsClash (reps partition.now.links) lits.now c) }
+{
+    let lit = lits[place as usize];
+    if let Atom::Eq { a, b } = lit.atom {
+        if !lit.positive && partition.rep(a).0 == partition.rep(b).0 {
+            return Some(Clash::Unequal { place });
+        }
+        return None;
+    }
+    let number = key(sizes, partition, lit.atom);
+    match signs.get(number) {
+        None => {
+            signs.put(number, place);
+            None
+        }
+        Some(first) => clash_of(lits, first, place),
+    }
+}
+
+// Files each literal, up to the first clash.
+pub(crate) fn refile(
+    sizes: Sizes,
+    lits: &[Lit],
+    partition: &Partition,
+    signs: &mut Signs,
+) -> Option<Clash>
+    requires tied { AreTied sizes lits.now partition.now signs.old }
+    requires few { length lits.now ≤ count_of sizes }
+    ensures tied { AreTied sizes lits.now partition.now signs.new }
+    ensures grows { Grows signs.old signs.new }
+    ensures filed { IfNone result (All (IsFiled sizes lits.now partition.now.links signs.new.entries) lits.now) }
+    ensures clash { IfSome result (λ c. IsClash (reps partition.now.links) lits.now c) }
+{
+    for place in 0..lits.len() {
+        if let Some(clash) = file(sizes, lits, partition, signs, place as u32) {
+            return Some(clash);
+        }
+    }
+    None
+}
+
+// The terms of an equality that is asserted to be true.
+pub(crate) fn equal_terms(lit: Lit) -> Option<(Term, Term)>
+    ensures some { IfSome result (λ p. lit ≡ equality p.0 p.1) }
+    ensures none { IfNone result ((a b : Term) → lit ≢ equality a b) }
+{
+    match lit.atom {
+        Atom::Eq { a, b } => { if lit.positive { Some((a, b)) } else { None } }
+        _ => None,
+    }
+}
+
+// Takes in the last literal, and finds the clash that it brings. Once there is a clash, only classes are kept.
+pub(crate) fn take_in(
+    sizes: Sizes,
+    lits: &[Lit],
+    partition: &mut Partition,
+    signs: &mut Signs,
+    place: u32,
+    clashed: bool,
+) -> Option<Clash>
+    requires tied { AreTied sizes (take place lits.now) partition.old signs.old }
+    requires last { length lits.now ≡ place + 1 }
+    requires in_range { AreInRange sizes lits.now }
+    requires few { length lits.now ≤ count_of sizes }
+    ensures tied { AreTied sizes lits.now partition.new signs.new }
+    ensures links { LinksMore partition.old partition.new }
+    ensures grows { Grows signs.old signs.new }
+    ensures filed { IfNone result (clashed ≡ false → AllFiled sizes (take place lits.now) partition.old.links signs.old.entries → AllFiled sizes lits.now partition.new.links signs.new.entries) }
+    ensures clash { IfSome result (λ c. IsClash (reps partition.new.links) lits.now c) }
+{
+    let lit = lits[place as usize];
+    match equal_terms(lit) {
+        Some((a, b)) => {
+            if partition.rep(a).0 == partition.rep(b).0 {
+                return None;
+            }
+            partition.merge(a, b);
+            if clashed {
+                return None;
+            }
+            refile(sizes, lits, partition, signs)
+        }
+        None => {
+            if clashed {
+                return None;
+            }
+            file(sizes, lits, partition, signs, place)
+        }
+    }
+}

@@ -1,0 +1,110 @@
+//! Which literal gave an atom its truth, by the atom's number, with what was written in order.
+
+ghost use Rattle.std.specs.Prelude.{◌≡◌, ◌<◌, ◌≤◌, ◌^◌, ◌∷◌, ◌++◌, [], None, IfOk, All, length, take, vec_capacity};
+ghost use Rattle.gh_cc.specs.Signs.{AreSigns, free_places, find_lit};
+
+use std::alloc::{AllocError, Global};
+use std::marker::Model;
+
+/// An atom's number, and the place of the literal that gave the atom its truth.
+#[derive(Clone, Copy, Debug, PartialEq, Eq)]
+pub struct Entry {
+    pub number: u32,
+    pub lit: u32,
+}
+
+/// A table of literals by the numbers of atoms, which remembers the order of its entries.
+#[derive(Debug, Drop)]
+pub struct Signs {
+    table: Vec<Option<u32>>,
+    entries: Vec<Entry>,
+}
+
+impl Model for Signs {
+    ghost use Rattle.std.specs.Prelude.{length, vec_capacity};
+    ghost use Rattle.gh_cc.specs.Signs.{Filed, AreSigns};
+
+    ghost Value = { Filed };
+
+    ghost view = { λ s. record { count = length s.table.items; entries = s.entries.items } };
+
+    ghost invariant = { λ s. AreSigns s.table.items s.entries.items (vec_capacity s.entries) };
+}
+
+// A table with nothing for each number.
+#[tactic(auto, using(crate::proofs::SignLemmas::free_push))]
+fn empty_table(alloc: Global, count: usize) -> Result<Vec<Option<u32>>, AllocError>
+    ensures long { IfOk result (λ v. length v.items ≡ count) }
+    ensures free { IfOk result (λ v. free_places v.items ≡ count) }
+    ensures none { IfOk result (λ v. All (λ x. x ≡ None) v.items) }
+{
+    let mut table = Vec::with_capacity(alloc, count)?;
+    for _number in 0..count {
+        table.push(None)?;
+    }
+    Ok(table)
+}
+
+// Takes the entries from a place on off, the last one first.
+fn erase(table: &mut Vec<Option<u32>>, entries: &mut Vec<Entry>, len: usize)
+    requires { AreSigns table.old.items entries.old.items (vec_capacity entries.old) }
+    ensures signs { AreSigns table.new.items entries.new.items (vec_capacity entries.new) }
+    ensures entries { entries.new.items ≡ take len entries.old.items }
+    ensures long { length table.new.items ≡ length table.old.items }
+{
+    while entries.len() > len {
+        let Some(entry) = entries.pop() else {
+            break;
+        };
+        table[entry.number as usize] = None;
+    }
+}
+
+impl Signs {
+    /// No entry. Room for one of each number is taken here.
+    pub fn new(alloc: Global, count: usize) -> Result<Signs, AllocError>
+        requires { count < 2 ^ 32 }
+        ensures { IfOk result (λ s. s ≡ record { count = count; entries = [] }) }
+    {
+        Ok(Signs {
+            table: empty_table(alloc, count)?,
+            entries: Vec::with_capacity(alloc, count)?,
+        })
+    }
+
+    /// The literal of a number, if there is an entry.
+    pub fn get(&self, number: usize) -> Option<u32>
+        requires { number < self.now.count }
+        ensures { result ≡ find_lit self.now.entries number }
+    {
+        self.table[number]
+    }
+
+    /// Adds an entry last.
+    pub fn put(&mut self, number: usize, lit: u32)
+        requires number { number < self.old.count }
+        requires free { find_lit self.old.entries number ≡ None }
+        ensures { self.new ≡ record self.old { entries = self.old.entries ++ (record { number = number; lit = lit }) ∷ [] } }
+    {
+        self.entries.push_reserved(Entry {
+            number: number as u32,
+            lit,
+        });
+        self.table[number] = Some(lit);
+    }
+
+    /// How many entries there are.
+    pub fn len(&self) -> usize
+        ensures len { result ≡ length self.now.entries }
+        ensures bound { result < 2 ^ 32 }
+    {
+        self.entries.len()
+    }
+
+    /// Leaves the first entries.
+    pub fn cut(&mut self, len: usize)
+        ensures { self.new ≡ record self.old { entries = take len self.old.entries } }
+    {
+        erase(&mut self.table, &mut self.entries, len);
+    }
+}
