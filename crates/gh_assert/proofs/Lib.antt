@@ -16,3 +16,4 @@ pub mod Unique
 pub mod WalkLaws
 pub mod Splitting
 pub mod Proper
+pub mod CellLists

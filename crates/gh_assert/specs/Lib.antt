@@ -1,4 +1,5 @@
 pub mod Heaps
+pub mod Cells
 pub mod Meaning
 pub mod Values
 pub mod Walks

@@ -1,4 +1,5 @@
 //! What assertions mean of stores and heaps, walks in heaps, and ownership.
 #![tactic(auto)]
 
+pub mod heap;
 pub mod laws;
