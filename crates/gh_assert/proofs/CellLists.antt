@@ -49,11 +49,11 @@ find_here [] i at d b h e = absurd (omega arith)
 find_here (c ∷ cs) zero at d b h e = rw (cmp_same at c.at (sym e)) refl
 find_here (c ∷ cs) (suc i) at d b h e = let first = b 0 c (omega arith) in rw (cmp_more at c.at first) (find_here cs i at d (later c cs i at b) (omega arith) e)
 
-first_of : (a b : Bool) → T (a && b) → T a
+pub first_of : (a b : Bool) → T (a && b) → T a
 first_of true b p = tt
 first_of false b p = p
 
-second_of : (a b : Bool) → T (a && b) → T b
+pub second_of : (a b : Bool) → T (a && b) → T b
 second_of true b p = p
 second_of false b p = absurd p
 
@@ -68,7 +68,7 @@ lt_of a b e = grind (arith, nat_tests)
 far : (at x : ℕ) (es : List (ℕ × ℕ)) → at < x → T (below_all nat_cmp x es) → find nat_cmp at es ≡ None
 far at x [] h b = refl
 far at x (e ∷ es) h b =
-    let y : x < e.0 = lt_of x e.0 (less_of _ (first_of _ _ b)) in rw (cmp_less at e.0 (omega arith)) (far at x es h (second_of _ _ b))
+    let y : x < e.0 = lt_of x e.0 (less_of (nat_cmp x e.0) (first_of _ _ b)) in rw (cmp_less at e.0 (omega (arith, h, y))) (far at x es h (second_of _ _ b))
 
 pub find_none : (cs : List Cell) (i at : ℕ) → AreBelow cs i at → ((d : Cell) → i < length cs → at < (get_or cs i d).at) → T (is_sorted nat_cmp (pairs cs)) → find nat_cmp at (pairs cs) ≡ None
 find_none [] i at b a s = refl
@@ -123,7 +123,7 @@ map_here cs at to i m v a h = map_new cs (set cs i (cell at to)) at to m v a.asc
 pub map_gap : (cs : List Cell) (at to i : ℕ) (m : FinMap nat_cmp ℕ) → from_sorted (pairs cs) ≡ m → AreCells cs → IsGap cs at i → from_sorted (pairs (insert cs i (cell at to))) ≡ insert_key m at to
 map_gap cs at to i m v a h = map_new cs (insert cs i (cell at to)) at to m v a.ascending (put_gap cs at to i h)
 
-below_each : (at : ℕ) (cs : List Cell) → T (below_all nat_cmp at (pairs cs)) → (j : ℕ) (d : Cell) → j < length cs → at < (get_or cs j d).at
+pub below_each : (at : ℕ) (cs : List Cell) → T (below_all nat_cmp at (pairs cs)) → (j : ℕ) (d : Cell) → j < length cs → at < (get_or cs j d).at
 below_each at [] b j d l = absurd (omega (arith, l))
 below_each at (c ∷ cs) b zero d l = lt_of at c.at (less_of _ (first_of _ _ b))
 below_each at (c ∷ cs) b (suc j) d l = below_each at cs (second_of _ _ b) j d (omega (arith, l))
@@ -134,9 +134,6 @@ rises [] s i j d l w = absurd (omega (arith, w))
 rises (c ∷ cs) s i zero d l w = absurd (omega (arith, l))
 rises (c ∷ cs) s zero (suc j) d l w = below_each c.at cs (first_of _ _ s) j d (omega (arith, w))
 rises (c ∷ cs) s (suc i) (suc j) d l w = rises cs (second_of _ _ s) i j d (omega (arith, l)) (omega (arith, w))
-
-compared_less : (a b : ℕ) → nat_cmp a b ≡ Less → a < b
-compared_less a b e = grind (arith, nat_tests)
 
 compared_same : (a b : ℕ) → nat_cmp a b ≡ Equal → a ≡ b
 compared_same a b e = grind (arith, nat_tests)
@@ -167,7 +164,7 @@ searched cs at (Err i) s w gap =
     record {
       within = w;
       above = λ d l. compared_more (get_or cs i d).at at (parts.1 i d (omega arith) l);
-      below = λ k d l. compared_less (get_or cs k d).at at (parts.0 k d (omega arith) l);
+      below = λ k d l. lt_of (get_or cs k d).at at (parts.0 k d (omega arith) l);
     }
 
 -- the cell of a place taken out

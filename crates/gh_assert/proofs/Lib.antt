@@ -17,3 +17,5 @@ pub mod WalkLaws
 pub mod Splitting
 pub mod Proper
 pub mod CellLists
+pub mod Entries
+pub mod Marks

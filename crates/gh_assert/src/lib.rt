@@ -3,3 +3,6 @@
 
 pub mod heap;
 pub mod laws;
+pub mod meaning;
+pub mod remaining;
+pub mod store;
