@@ -19,3 +19,5 @@ pub mod Proper
 pub mod CellLists
 pub mod Entries
 pub mod Marks
+pub mod Taking
+pub mod PlainForms
