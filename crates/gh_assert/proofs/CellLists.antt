@@ -196,12 +196,12 @@ cells_taken cs i at a h = record { ascending = sorted_taken cs i at a h; not_nul
 
 pub map_taken : (cs : List Cell) (i at : ℕ) (m : Heap) → heap_of cs ≡ m → AreCells cs → IsHere cs at i → heap_of (remove cs i) ≡ remove_key m at
 map_taken cs i at m v a h = by_look_ups (heap_of (remove cs i)) (remove_key m at) (λ q.
-  get-from_sorted nat_cmp (pairs (remove cs i)) q (sorted_taken cs i at a h)
-  ∙ ap (find nat_cmp q) (sym (taken_out cs i at (cell at at) a.ascending h.within (h.here (cell at at))))
-  ∙ find-where_key nat_cmp (others at) q (λ x e. ap (others at) (sym (nat_cmp-IsAntisymmetric q x e))) (pairs cs)
-  ∙ turned q at (find nat_cmp q (pairs cs))
-  ∙ ap (cond (eq_by_cmp nat_cmp q at) None) (sym (get-from_sorted nat_cmp (pairs cs) q a.ascending) ∙ ap (λ n. get n q) v)
-  ∙ sym (get-remove nat_cmp_total m at q))
+    get-from_sorted nat_cmp (pairs (remove cs i)) q (sorted_taken cs i at a h)
+    ∙ ap (find nat_cmp q) (sym (taken_out cs i at (cell at at) a.ascending h.within (h.here (cell at at))))
+    ∙ find-where_key nat_cmp (others at) q (λ x e. ap (others at) (sym (nat_cmp-IsAntisymmetric q x e))) (pairs cs)
+    ∙ turned q at (find nat_cmp q (pairs cs))
+    ∙ ap (cond (eq_by_cmp nat_cmp q at) None) (sym (get-from_sorted nat_cmp (pairs cs) q a.ascending) ∙ ap (λ n. get n q) v)
+    ∙ sym (get-remove nat_cmp_total m at q))
   where
     turned : (q at : ℕ) (o : Option ℕ) → cond (others at q) o None ≡ cond (eq_by_cmp nat_cmp q at) None o
     turned q at o = elim (cases_eq q at) [

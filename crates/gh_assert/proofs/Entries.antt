@@ -71,6 +71,11 @@ unlisted (e ∷ es) name out =
     rw (other_name e.name name (λ same. out (subst (λ x. Contains (e.name ∷ listed_names es) x) same (member_first e.name (listed_names es)))))
     (unlisted es name (λ there. out (member_later e.name name (listed_names es) there)))
 
+pub there : (es : List Entry) (name : Name) (i : ℕ) → IsListedAt es name i → Contains (listed_names es) name
+there [] name i at = absurd (omega (arith, at.within))
+there (e ∷ es) name zero at = subst (λ x. Contains (e.name ∷ listed_names es) x) (at.named e) (member_first e.name (listed_names es))
+there (e ∷ es) name (suc i) at = member_later e.name name (listed_names es) (there es name i (later_at e es name i at))
+
 abbrev changed : Entry → ℕ → Entry
 changed e v = record { name = e.name; value = v }
 

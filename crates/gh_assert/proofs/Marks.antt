@@ -189,8 +189,8 @@ part_at false h (Some v) r e apart join = elim apart [ inl none ↦ none | inr n
 pub places_marked : (cs : List Cell) (ms : List Bool) (a : Heap) → T (is_sorted nat_cmp (pairs cs)) → Splits (heap_of cs) a (unmarked cs ms) → map (λ c. c.at) (marked_cells cs ms) ≡ keys a
 places_marked cs ms a s split =
     let same : heap_of (marked_cells cs ms) ≡ a = by_look_ups (heap_of (marked_cells cs ms)) a (λ q.
-      get-from_sorted nat_cmp (pairs (marked_cells cs ms)) q (sorted_marked cs ms s) ∙ find_marked cs ms q s ∙ ap (λ o. cond (is_marked cs ms q) o None) (sym (get-from_sorted nat_cmp (pairs cs) q s))
-      ∙ sym (part_at (is_marked cs ms q) (get (heap_of cs) q) (get a q) (get (unmarked cs ms) q) (get_unmarked cs ms q) (split.disjoint q) (split.union q))) in
+    get-from_sorted nat_cmp (pairs (marked_cells cs ms)) q (sorted_marked cs ms s) ∙ find_marked cs ms q s ∙ ap (λ o. cond (is_marked cs ms q) o None) (sym (get-from_sorted nat_cmp (pairs cs) q s))
+    ∙ sym (part_at (is_marked cs ms q) (get (heap_of cs) q) (get a q) (get (unmarked cs ms) q) (get_unmarked cs ms q) (split.disjoint q) (split.union q))) in
     places_of (marked_cells cs ms) ∙ ap (map (λ (e : ℕ × ℕ). e.0)) (sym (entries-from_sorted nat_cmp (pairs (marked_cells cs ms)) (sorted_marked cs ms s)) ∙ ap entries same)
   where
     places_of : (cs : List Cell) → map (λ c. c.at) cs ≡ map (λ (e : ℕ × ℕ). e.0) (pairs cs)

@@ -106,10 +106,10 @@ pub star_goes : (Q : Heap → Type 0) (f : Formula) (fs : Formulas) (s : Store) 
 star_goes Q f fs s h left later goes took = record {
   on = λ r t. goes.on r (let both = associative left took.part later t.part r took.splits t.splits in record { part = both.0; splits = both.1; meets = (took.part, t.part, both.2, took.meets, t.meets) });
   back = λ none. goes.back (λ c d split (a, b, parts, m, ms).
-    let outer : Splits left a (union b d) = set_aside left c d a b split parts in
-    let one : a ≡ took.part = one_footprint f s a took.part left m took.meets (split_part left a (union b d) outer) (split_part left took.part later took.splits) in
-    let same : union b d ≡ later = rest left took.part (union b d) later (subst (λ k. Splits left k (union b d)) one outer) took.splits in
-    none b d (subst (λ k. Splits k b d) same (record { disjoint = aside_apart left c d a b split parts; union = λ q. get_union b d q })) ms);
+      let outer : Splits left a (union b d) = set_aside left c d a b split parts in
+      let one : a ≡ took.part = one_footprint f s a took.part left m took.meets (split_part left a (union b d) outer) (split_part left took.part later took.splits) in
+      let same : union b d ≡ later = rest left took.part (union b d) later (subst (λ k. Splits left k (union b d)) one outer) took.splits in
+      none b d (subst (λ k. Splits k b d) same (record { disjoint = aside_apart left c d a b split parts; union = λ q. get_union b d q })) ms);
 }
 
 pub star_fails : (f : Formula) (fs : Formulas) (s : Store) (left : Heap) → NoPart (Meaning f s) left → NoPart (MeaningAll (formula_first f fs) s) left

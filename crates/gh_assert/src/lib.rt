@@ -6,3 +6,5 @@ pub mod laws;
 pub mod meaning;
 pub mod remaining;
 pub mod store;
+#[cfg(test)]
+mod worked;

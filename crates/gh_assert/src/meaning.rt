@@ -54,7 +54,11 @@ fn is_true(store: &Store, test: &Cond) -> bool
 {
     match test {
         Cond::Compare { left, equal, right } => {
-            compares(plain_expr_value(store, left), *equal, plain_expr_value(store, right))
+            compares(
+                plain_expr_value(store, left),
+                *equal,
+                plain_expr_value(store, right),
+            )
         }
         Cond::Not(inner) => !is_true(store, inner),
         Cond::And(members) => are_all_true(store, members.as_slice()),
@@ -110,14 +114,22 @@ fn take_part(store: &Store, remaining: &mut Remaining, assertion: &Assertion) ->
     match assertion {
         Assertion::Emp => true,
         Assertion::Pure { left, equal, right } => {
-            compares(operand_value(store, left), *equal, operand_value(store, right))
+            compares(
+                operand_value(store, left),
+                *equal,
+                operand_value(store, right),
+            )
         }
         Assertion::PointsTo { at, to } => {
             remaining.take(value_of(store, at)) == Some(operand_value(store, to))
         }
         Assertion::Acc { at } => remaining.take(value_of(store, at)).is_some(),
         Assertion::Lseg { from, to } => {
-            take_segment(remaining, operand_value(store, from), operand_value(store, to))
+            take_segment(
+                remaining,
+                operand_value(store, from),
+                operand_value(store, to),
+            )
         }
         Assertion::Star(members) => take_parts(store, remaining, members.as_slice()),
         Assertion::Cases { test, yes, no } => {
@@ -148,7 +160,12 @@ fn take_parts(store: &Store, remaining: &mut Remaining, members: &[Assertion]) -
 ///
 /// A name that the store doesn't list counts as null. The time is about the number of cells times the
 /// logarithm of it, and the assertion's length.
-pub fn holds(alloc: Global, store: &Store, heap: &Heap, assertion: &Assertion) -> Result<bool, AllocError>
+pub fn holds(
+    alloc: Global,
+    store: &Store,
+    heap: &Heap,
+    assertion: &Assertion,
+) -> Result<bool, AllocError>
     ensures { IfOk result (λ b. IsTrue b ↔ Meaning (formula_of assertion.now) (store_of store.now) heap.now) }
 {
     let mut remaining = Remaining::new(alloc, heap)?;

@@ -1,6 +1,6 @@
 //! Stores: names with values.
 
-ghost use Rattle.std.specs.Prelude.{◌≡◌, ◌∷◌, ◌++◌, [], OnOk, OnErr, position, Contains};
+ghost use Rattle.std.specs.Prelude.{◌≡◌, ◌↔◌, ◌∷◌, ◌++◌, [], OnOk, OnErr, IsSome, position, Contains};
 ghost use Rattle.std.specs.Str.{bytes_eq};
 ghost use Rattle.gh_assert.specs.Stores.{listed_names, AreDistinct, listed, IsSet};
 
@@ -64,7 +64,8 @@ impl Store {
 
     /// The value of a name, if it is listed.
     pub fn get(&self, name: &Name) -> Option<u32>
-        ensures { result ≡ listed self.now name.now }
+        ensures value { result ≡ listed self.now name.now }
+        ensures there { IsSome result ↔ Contains (listed_names self.now) name.now }
     {
         match place(self.entries.as_slice(), name.bytes()) {
             Some(i) => Some(self.entries[i].value),
