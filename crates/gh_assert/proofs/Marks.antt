@@ -1,8 +1,7 @@
 -- Marked cells, and the heap of the others.
-use Rattle.std.specs.Prelude.{◌≡◌, ◌≢◌, ◌⊎◌, ℕ, zero, suc, ◌+◌, ◌<◌, ◌≤◌, List, [], ◌∷◌, ◌++◌, map, length, get_or, set, take, replicate, Option, Some, None, Bool, true, false, not, cond, ◌&&◌, ◌||◌, ◌==◌, T, is_some, All}
+use Rattle.std.specs.Prelude.{◌≡◌, ◌≢◌, ◌⊎◌, ℕ, zero, suc, ◌+◌, ◌<◌, List, [], ◌∷◌, ◌++◌, map, length, get_or, set, take, replicate, Option, Some, None, Bool, true, false, not, cond, ◌&&◌, ◌||◌, ◌==◌, T, is_some, All}
 use Rattle.std.specs.Ordering.{nat_cmp, eq_by_cmp}
-use Rattle.std.specs.Cmp.{nat_cmp_total}
-use Rattle.std.specs.FinMap.{get, find, keys, entries, remove, is_sorted, get-retain_keys, get-remove, get-from_sorted, entries-from_sorted, nat_cmp-IsAntisymmetric}
+use Rattle.std.specs.FinMap.{get, find, keys, entries, remove, is_sorted, get-retain_keys, get-from_sorted, entries-from_sorted, nat_cmp-IsAntisymmetric}
 use Rattle.std.specs.FinMap.Entries.{below_all}
 use Rattle.std.proofs.lemmas.Bool.{cases_Bool, cases_eq}
 use Rattle.std.proofs.lemmas.List.{get_or_default}
@@ -10,7 +9,7 @@ use Rattle.gh_ast.proofs.Sites.{element_at}
 use Rattle.std.proofs.lemmas.Bool.Decides.{nat_tests}
 use Rattle.std.proofs.Common.{refl, sym, ◌∙◌, ap, subst, inl, inr, arith, add-one}
 use Rattle.gh_assert.specs.Heaps.{Heap, Splits, IsEmpty, or_else}
-use Rattle.gh_assert.specs.Cells.{pair_of, pairs, heap_of, is_marked, unmarked, AreCells, IsHere, IsGap}
+use Rattle.gh_assert.specs.Cells.{pairs, heap_of, is_marked, unmarked, AreCells, IsHere, IsGap}
 use Rattle.gh_assert.specs.declared.heap.Cell.{Cell}
 use Rattle.gh_assert.proofs.Unique.{tie, apart, get_removed, get_kept}
 use Rattle.gh_assert.proofs.Cells.{by_look_ups}

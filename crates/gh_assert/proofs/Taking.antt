@@ -1,15 +1,14 @@
 -- Parts that are taken one after another.
-use Rattle.std.specs.Prelude.{◌≡◌, ◌≢◌, ◌⊎◌, ◌↔◌, ℕ, zero, suc, ◌<◌, ◌-◌, Option, Some, None, Bool, true, false, ◌==◌, is_some, OnSome, cond}
+use Rattle.std.specs.Prelude.{◌≡◌, ◌≢◌, ◌↔◌, ℕ, zero, suc, ◌<◌, ◌-◌, Option, Some, None, Bool, true, false, ◌==◌, is_some, OnSome, cond}
 use Rattle.std.specs.Cmp.{nat_cmp_total}
-use Rattle.std.specs.FinMap.{get, insert, remove, len, len-remove, len-empty, empty_of_len, contains_key}
-use Rattle.std.specs.Ordering.{nat_cmp}
+use Rattle.std.specs.FinMap.{get, insert, remove, len, len-remove, empty_of_len}
 use Rattle.std.proofs.lemmas.Bool.{cases_eq, ne_eqb}
 use Rattle.std.proofs.Common.{refl, sym, ◌∙◌, ap, subst, inl, inr, arith, eqb, eq-eqb}
 use Rattle.std.specs.Option.{option_eq}
 use Rattle.gh_ast.specs.declared.Occ.{Occ}
 use Rattle.gh_ast.specs.declared.Operand.{Operand}
 use Rattle.gh_ast.specs.Plain.{Formula, comparison, points_to, cell, Formulas, formula_first}
-use Rattle.gh_assert.specs.Heaps.{Heap, Splits, IsPart, IsEmpty, IsCell, Segment, or_else}
+use Rattle.gh_assert.specs.Heaps.{Heap, Splits, IsEmpty, IsCell, Segment, or_else}
 use Rattle.gh_assert.specs.Meaning.{Store, Meaning, MeaningAll, value, agrees}
 use Rattle.gh_assert.specs.Footprints.{Takes, NoPart, Took}
 use Rattle.gh_assert.proofs.Cells.{by_look_ups, no_cells, get_nothing, get_put, get_beside}

@@ -6,5 +6,6 @@ pub mod laws;
 pub mod meaning;
 pub mod remaining;
 pub mod store;
+pub mod values;
 #[cfg(test)]
 mod worked;

@@ -1,8 +1,8 @@
 //! Whether a heap meets an assertion, and which part of it does.
 
-ghost use Rattle.std.specs.Prelude.{◌≡◌, ◌↔◌, ℕ, IfOk, IfNone, IfSome, IsTrue, ◌==◌};
+ghost use Rattle.std.specs.Prelude.{◌≡◌, ◌↔◌, ℕ, IfOk, IfNone, IfSome, IsTrue};
 ghost use Rattle.gh_ast.specs.Plain.{test_of, tests_view, formula_of, formulas_view};
-ghost use Rattle.gh_assert.specs.Meaning.{Meaning, MeaningAll, HasPart, value, plain_value, agrees, truth, all_true, some_true};
+ghost use Rattle.gh_assert.specs.Meaning.{Meaning, MeaningAll, HasPart, plain_value, truth, all_true, some_true};
 ghost use Rattle.gh_assert.specs.Stores.{store_of};
 ghost use Rattle.gh_assert.specs.Heaps.{Segment};
 ghost use Rattle.gh_assert.specs.Footprints.{Took, IsFootprint};
@@ -10,25 +10,9 @@ ghost use Rattle.gh_assert.specs.Footprints.{Took, IsFootprint};
 use crate::heap::Heap;
 use crate::remaining::Remaining;
 use crate::store::Store;
-use gh_ast::{Assertion, Cond, Expr, Occ, Operand};
+use crate::values::{compares, operand_value, value_of};
+use gh_ast::{Assertion, Cond, Expr};
 use std::alloc::{AllocError, Global};
-
-// The value of a variable; 0 where it isn't listed.
-fn value_of(store: &Store, variable: &Occ) -> u32
-    ensures { result ≡ store_of store.now variable.now.name }
-{
-    store.get(&variable.name).unwrap_or(0)
-}
-
-// The value of an operand.
-fn operand_value(store: &Store, operand: &Operand) -> u32
-    ensures { result ≡ value (store_of store.now) operand.now }
-{
-    match operand {
-        Operand::Null { .. } => 0,
-        Operand::Var(variable) => value_of(store, variable),
-    }
-}
 
 // The value of an expression in a test of cases, which has no reads.
 fn plain_expr_value(store: &Store, expr: &Expr) -> u32
@@ -38,13 +22,6 @@ fn plain_expr_value(store: &Store, expr: &Expr) -> u32
         Expr::Plain(operand) => operand_value(store, operand),
         Expr::Read(_) => 0,
     }
-}
-
-// Whether a comparison of two values is true.
-fn compares(left: u32, equal: bool, right: u32) -> bool
-    ensures { result ≡ agrees equal (left == right) }
-{
-    (left == right) == equal
 }
 
 // Whether a test of cases is true.

@@ -1,15 +1,14 @@
-use Rattle.std.proofs.Common.{◌≡◌, ◌<◌, ℕ, List, length, get_or, refl, ◌+◌, ◌∷◌, ◌∙◌, sym, ap, subst, drop, add-one, Some, None, true, false, rules, arith}
+use Rattle.std.proofs.Common.{◌≡◌, ◌<◌, ℕ, List, length, get_or, refl, ◌+◌, ◌∙◌, sym, ap, subst, drop, add-one}
 use Rattle.std.proofs.lemmas.List.{drop_all}
 use Rattle.std.proofs.Math.Seq.{drop-cons}
-use Rattle.gh_ast.specs.Plain.{Formula, formula_of, formulas_view, formula_first, no_formulas, empty, comparison, points_to, cell, segment}
+use Rattle.gh_ast.specs.Plain.{formula_of, formulas_view, formula_first, no_formulas, empty, segment}
 use Rattle.gh_ast.specs.declared.Assertion.{Assertion}
-use Rattle.gh_assert.specs.Meaning.{Store, Meaning, MeaningAll, value}
+use Rattle.gh_assert.specs.Meaning.{Meaning, MeaningAll}
 use Rattle.gh_assert.specs.Stores.{store_of}
 use Rattle.gh_assert.specs.Footprints.{Took, Takes, NoPart}
-use Rattle.gh_assert.specs.Heaps.{Heap}
-use Rattle.gh_assert.proofs.Cells.{no_cells, get_nothing}
+use Rattle.gh_assert.proofs.Cells.{get_nothing}
 use Rattle.gh_assert.proofs.PlainForms.{plain_emp, plain_pure, plain_points_to, plain_acc, plain_lseg}
-use Rattle.gh_assert.proofs.Taking.{takes_nothing, compared_takes, cell_took, points_took, GoesOn, FromTo, star_goes, star_fails}
+use Rattle.gh_assert.proofs.Taking.{takes_nothing, compared_takes, cell_took, points_took, GoesOn, star_goes, star_fails}
 use Rattle.gh_assert.proofs.meaning.+part.Goals as goal
 
 pub take_part-returns-in-Emp-clause-part : goal.take_part-returns-in-Emp-clause-part

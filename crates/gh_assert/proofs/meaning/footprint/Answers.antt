@@ -1,6 +1,6 @@
-use Rattle.std.proofs.Common.{◌≡◌, ◌∙◌, sym, ap, subst}
+use Rattle.std.proofs.Common.{◌≡◌, ◌∙◌, sym, subst}
 use Rattle.gh_ast.specs.Plain.{formula_of}
-use Rattle.gh_assert.specs.Heaps.{Heap, Splits}
+use Rattle.gh_assert.specs.Heaps.{Splits}
 use Rattle.gh_assert.specs.Meaning.{Meaning}
 use Rattle.gh_assert.specs.Stores.{store_of}
 use Rattle.gh_assert.specs.Footprints.{Takes}

@@ -1,7 +1,5 @@
-use Rattle.std.proofs.Common.{◌≡◌, ◌∙◌, sym, ap, subst, true, false, IsTrue}
-use Rattle.std.specs.Prelude.{◌↔◌}
+use Rattle.std.proofs.Common.{subst}
 use Rattle.gh_ast.specs.Plain.{formula_of}
-use Rattle.gh_assert.specs.Heaps.{Heap, IsEmpty}
 use Rattle.gh_assert.specs.Meaning.{Meaning}
 use Rattle.gh_assert.specs.Stores.{store_of}
 use Rattle.gh_assert.specs.Footprints.{Takes, NoPart}

@@ -1,8 +1,6 @@
-use Rattle.std.proofs.Common.{◌≡◌, ◌<◌, ◌∙◌, sym, ap, subst, Some, None}
-use Rattle.std.specs.FinMap.{get, len, remove}
-use Rattle.gh_assert.specs.Footprints.{NoPart}
-use Rattle.gh_assert.specs.Heaps.{Heap}
-use Rattle.gh_assert.proofs.Cells.{no_cells, get_nothing}
+use Rattle.std.proofs.Common.{◌<◌, ◌∙◌, sym, subst}
+use Rattle.std.specs.FinMap.{len}
+use Rattle.gh_assert.proofs.Cells.{get_nothing}
 use Rattle.gh_assert.proofs.Taking.{GoesOn, FromTo, takes_nothing, segment_goes, segment_ends, fewer}
 use Rattle.gh_assert.proofs.meaning.take_segment.Goals as goal
 

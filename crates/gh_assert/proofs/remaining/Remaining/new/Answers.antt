@@ -1,9 +1,8 @@
-use Rattle.std.proofs.Common.{◌≡◌, ◌∙◌, sym, ap, length, List, false, rules}
-use Rattle.std.specs.Prelude.{replicate, Bool}
+use Rattle.std.proofs.Common.{◌≡◌, ◌∙◌, ap, length, false}
+use Rattle.std.specs.Prelude.{replicate}
 use Rattle.std.specs.FinMap.{same_entries_map, entries-from_sorted}
 use Rattle.std.specs.Ordering.{nat_cmp}
-use Rattle.gh_assert.specs.Heaps.{Heap}
-use Rattle.gh_assert.specs.Cells.{pairs, heap_of, unmarked}
+use Rattle.gh_assert.specs.Cells.{pairs, unmarked}
 use Rattle.gh_assert.proofs.Marks.{all_unmarked}
 use Rattle.gh_assert.proofs.remaining.Remaining.new.Goals as goal
 

@@ -1,6 +1,5 @@
-use Rattle.std.proofs.Common.{◌≡◌, ◌∙◌, ◌++◌, ◌∷◌, [], List, ℕ, ◌+◌, ◌<◌, Bool, cond, refl, get_or, sym, ap, subst, length, map, take, rules, arith, true, false}
+use Rattle.std.proofs.Common.{◌≡◌, ◌∙◌, ◌++◌, ◌∷◌, [], List, ℕ, ◌+◌, ◌<◌, Bool, cond, refl, get_or, sym, ap, subst, length, map, take, arith, true, false}
 use Rattle.std.proofs.lemmas.List.{map-append, take_all, append-nil, get_or_default}
-use Rattle.std.specs.FinMap.{keys}
 use Rattle.gh_assert.specs.Heaps.{Heap, Splits}
 use Rattle.gh_assert.specs.Cells.{heap_of, unmarked}
 use Rattle.gh_assert.specs.declared.heap.Cell.{Cell}

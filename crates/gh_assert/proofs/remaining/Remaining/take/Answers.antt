@@ -1,8 +1,6 @@
-use Rattle.std.proofs.Common.{◌≡◌, ◌∙◌, sym, ap, subst, false, true}
+use Rattle.std.proofs.Common.{◌∙◌, sym, ap}
 use Rattle.std.specs.FinMap.{get, remove}
-use Rattle.gh_assert.specs.Heaps.{Heap}
 use Rattle.gh_assert.specs.declared.heap.Cell.{Cell}
-use Rattle.gh_assert.specs.Cells.{unmarked}
 use Rattle.gh_assert.proofs.CellLists.{map_untaken}
 use Rattle.gh_assert.proofs.Marks.{left_here, taken_here, left_gap, marking_removes}
 use Rattle.gh_assert.proofs.remaining.Remaining.take.Goals as goal

@@ -1,4 +1,4 @@
-use Rattle.std.proofs.Common.{sym, subst, ◌++◌, ◌∷◌, []}
+use Rattle.std.proofs.Common.{sym, subst}
 use Rattle.gh_assert.specs.Stores.{AreDistinct, listed_names}
 use Rattle.std.specs.Prelude.{Contains}
 use Rattle.gh_assert.specs.declared.store.Entry.{Entry}

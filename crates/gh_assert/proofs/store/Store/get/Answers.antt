@@ -1,4 +1,4 @@
-use Rattle.std.proofs.Common.{◌≡◌, ap, ◌∙◌, sym, subst, refl, Some, None}
+use Rattle.std.proofs.Common.{ap, ◌∙◌, sym, subst, refl, Some, None}
 use Rattle.std.specs.Prelude.{Contains}
 use Rattle.gh_assert.specs.Stores.{listed, listed_names, IsListedAt}
 use Rattle.gh_assert.proofs.Entries.{placed, listed_here, unlisted, there}
