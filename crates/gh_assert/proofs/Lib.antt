@@ -16,3 +16,8 @@ pub mod Unique
 pub mod WalkLaws
 pub mod Splitting
 pub mod Proper
+pub mod CellLists
+pub mod Entries
+pub mod Marks
+pub mod Taking
+pub mod PlainForms

@@ -1,9 +1,12 @@
 pub mod Heaps
+pub mod Cells
 pub mod Meaning
+pub mod Stores
 pub mod Values
 pub mod Walks
 pub mod Tests
 pub mod Ownership
 pub mod Reading
 pub mod Hops
+pub mod Footprints
 pub mod Laws
