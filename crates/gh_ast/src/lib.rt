@@ -1,10 +1,12 @@
 //! The syntax tree of the language, without meaning.
 #![tactic(auto)]
 
+pub mod sign;
+pub mod token_laws;
+pub mod typed;
+
 use gh_base::name::Name;
 use gh_base::place::Span;
-
-pub mod typed;
 
 /// One occurrence of a name.
 #[derive(Debug, Drop)]

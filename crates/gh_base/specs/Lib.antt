@@ -2,3 +2,9 @@ pub mod Names
 pub mod Outside
 pub mod Reading
 pub mod Memory
+pub mod Atoms
+pub mod Meaning
+pub mod Propagation
+pub mod Grounds
+pub mod Assignments
+pub mod Structures

@@ -1,12 +1,19 @@
-//! What every other crate stands on: places in a text, names, texts, and the outside.
+//! What every other crate stands on: places in a text, names, texts, the outside, and ground clauses.
 #![tactic(auto)]
 
+pub mod assignment;
+pub mod atom;
+pub mod clause;
+pub mod ground;
 pub mod memory;
 pub mod name;
 pub mod outside;
 pub mod place;
+pub mod propagation;
 pub mod reading;
 pub mod sink;
+pub mod sizes;
+pub mod structure;
 #[cfg(test)]
 mod tests;
 pub mod text;

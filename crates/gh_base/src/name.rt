@@ -52,6 +52,16 @@ impl Name {
         }))
     }
 
+    /// The name of a text that is known to be one.
+    pub fn from_word(alloc: Global, word: &[u8]) -> Result<Name, AllocError>
+        requires { IsNameText word.now }
+        ensures { IfOk result (λ n. n ≡ word.now) }
+    {
+        Ok(Name {
+            text: Vec::from_slice(alloc, word)?,
+        })
+    }
+
     /// The characters of the name.
     pub fn bytes(&self) -> &[u8]
         ensures text { result.now ≡ self.now }

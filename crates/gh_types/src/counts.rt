@@ -56,8 +56,8 @@ pub fn count_atoms(assertion: &Assertion) -> u32
     match assertion {
         Assertion::Star(members) => count_all_atoms(members.as_slice()),
         Assertion::Cases { test, yes, no } => {
-            let branches = count_atoms(yes).saturating_add(count_atoms(no));
-            count_in_test(test).saturating_add(branches)
+            let front = count_in_test(test).saturating_add(count_atoms(yes));
+            front.saturating_add(count_atoms(no))
         }
         Assertion::Emp
         | Assertion::Pure { .. }

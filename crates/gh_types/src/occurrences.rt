@@ -87,9 +87,11 @@ impl<'a, 'n> Scope<'a, 'n> {
             }
             Assertion::Star(members) => self.in_assertions(setting, members.as_slice()),
             Assertion::Cases { test, yes, no } => {
-                let branches =
-                    earlier(self.in_assertion(setting, yes), self.in_assertion(setting, no));
-                earlier(self.in_test(setting, test), branches)
+                let first = earlier(
+                    self.in_test(setting, test),
+                    self.in_assertion(setting, yes),
+                );
+                earlier(first, self.in_assertion(setting, no))
             }
         }
     }

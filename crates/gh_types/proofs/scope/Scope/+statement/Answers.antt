@@ -35,9 +35,9 @@ in_statement-returns-in_ok-third-in-If t c =
     let first = all_sites_in c.args.in_loop (statements_view c.as_slice-in-If.result.now) in
     let second = all_sites_in c.args.in_loop (statements_view c.as_slice-in-If-2.result.now) in
     rw (c.in-If.is, statement_of-If, part_of-statements c.in-If.taken, part_of-statements c.in-If.otherwise, ← c.as_slice-in-If.ensures.value, ← c.as_slice-in-If-2.ensures.value)
-    (first_append _ (map mentioned tests) (first ++ second) _ _ _ c.earlier-in-If-2.ensures
-      (first_map _ mentioned tests _ c.in_test-first.ensures)
-      (first_append _ first second _ _ _ c.earlier-in-If.ensures c.in_ok-second-in-If.ensures c.in_ok-third-in-If.ensures))
+    (first_append _ (map mentioned tests ++ first) second _ _ _ c.earlier-in-If-2.ensures
+      (first_append _ (map mentioned tests) first _ _ _ c.earlier-in-If.ensures (first_map _ mentioned tests _ c.in_test-first.ensures) c.in_ok-second-in-If.ensures)
+      c.in_ok-third-in-If.ensures)
 
 pub in_statement-returns-in_ok-third-in-While : goal.in_statement-returns-in_ok-third-in-While
 in_statement-returns-in_ok-third-in-While t c =

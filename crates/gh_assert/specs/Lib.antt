@@ -1,0 +1,9 @@
+pub mod Heaps
+pub mod Meaning
+pub mod Values
+pub mod Walks
+pub mod Tests
+pub mod Ownership
+pub mod Reading
+pub mod Hops
+pub mod Laws

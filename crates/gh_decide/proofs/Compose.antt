@@ -1,0 +1,298 @@
+-- Why a program whose conditions are valid is good: by the number of steps, for all procedures, states and frames at once.
+use Rattle.std.specs.Prelude.{◌≡◌, ◌⊎◌, ℕ, zero, suc, ◌≤◌, List, [], ◌∷◌, map, length, Bool, cond, Some, None, Contains}
+use Rattle.std.proofs.lemmas.List.Elements.{Contains-append_left, Contains-append_right}
+use Rattle.std.proofs.Common.{refl, sym, ◌∙◌, ap, subst, inl, inr, arith}
+use Rattle.gh_base.specs.declared.place.Span.{Span}
+use Rattle.gh_ast.specs.declared.Occ.{Occ}
+use Rattle.gh_ast.specs.declared.Expr.{Expr}
+use Rattle.gh_ast.specs.Plain.{Test, Formula, Statement, set, new, write, free, call, choice, loop, give, Statements, no_statements, statement_first, Procedure, Program}
+use Rattle.gh_assert.specs.Heaps.{Heap, Splits}
+use Rattle.gh_assert.specs.Meaning.{Store, Meaning, HasPart}
+use Rattle.gh_assert.proofs.Unions.{union}
+use Rattle.gh_assert.specs.Values.{Give, outcome}
+use Rattle.gh_ast.specs.Programs.{Name, names, parameters_of, results_of, body_of, Declares, Assigns, SomeAssigns, joined}
+use Rattle.gh_ast.proofs.Declared.{is_member}
+use Rattle.gh_machine.specs.Machine.{Activation, Config, Fault, IsRun, starting, EndsWell, IsGoodRun, IsGood}
+use Rattle.gh_path.specs.Graphs.{Graph, dead_end, ends, guarded, entry, loop_entry, loop_end, returned, all_reads, tested, called, looped, lowered, all_lowered, Loop, while, once_around, round, rounds, whole_body, loops, all_loops, loops_of}
+use Rattle.gh_trace.specs.Traces.{State, Takes}
+use Rattle.gh_decide.specs.Rules.{ReturnsNot, AllReturnNot, LoopsReturnNot, AllLoopsReturnNot, KeepsRules, AllKeepRules}
+use Rattle.gh_decide.specs.Safe.{Safe}
+use Rattle.gh_decide.specs.Laws.{Composition}
+use Rattle.gh_ast.proofs.Lists.{member_first, member_later, member_cases, no_member, same_values}
+use Rattle.gh_decide.proofs.Tests.{after_reads}
+use Rattle.gh_decide.proofs.Safe.{from_paths}
+use Rattle.gh_machine.proofs.Faults.{all_read}
+use Rattle.gh_assert.proofs.Frames.{gives_whole, set_aside, taken_back, aside_apart}
+use Rattle.gh_assert.proofs.Agree.{Agree, same_meaning}
+use Rattle.gh_decide.proofs.Sound.{Sound, working, state, Keeps, Goes, Ending, keeps_on, not_empty, sound_set, sound_new, sound_write, sound_free, sound_give, sound_test, sound_loop_test}
+
+-- each way around each of the loops is safe
+abbrev pub RoundsSafe : Program → Procedure → List Loop → Type 0
+RoundsSafe P p ls = (l : Loop) → Contains ls l → (x : State) → Meaning l.invariant x.store x.heap → Safe P (once_around p l) x
+
+pub record Ready (P : Program) : Type 0 where
+  pub typed : AllKeepRules P
+  pub bodies : (p : Procedure) → Contains P.procedures p → (x : State) → Meaning p.needs x.store x.heap → Safe P (whole_body p).graph x
+  pub rounds : (p : Procedure) → Contains P.procedures p → RoundsSafe P p (loops_of p)
+
+-- what is known of statements that stand in the block b
+pub record Fits (P : Program) (p : Procedure) (b r : Statements) : Type 0 where
+  pub assigns : (y : Name) → SomeAssigns r y → SomeAssigns b y
+  pub rounds : RoundsSafe P p (all_loops r)
+  pub returns : AllLoopsReturnNot r
+
+-- the claim for up to n steps: statements that are safe, before a rest that is sound wherever they lead, are sound
+abbrev pub Claim : Program → (Config → Type 0) → ℕ → Type 0
+Claim P E n =
+    (m : ℕ) → m ≤ n → (p : Procedure) → Contains P.procedures p → (b : Statements) (xs : List Name) (s0 : Store) (F : Heap) (below : List Activation) (q : Statements) (k : Graph) (r : Statements) →
+    Goes P E F b xs s0 k p q below m → AllReturnNot r ⊎ Ending P E F b xs s0 p below m → Fits P p b r →
+    (s : Store) (a h : Heap) → Splits h a F → Safe P (all_lowered p r k) (state s a) → Keeps b xs s0 s → Sound P E m (working p s h (joined r q) below)
+
+nothing_joined : (r : Statements) → joined r no_statements ≡ r
+nothing_joined no_statements = refl
+nothing_joined (statement_first s ss) = ap (statement_first s) (nothing_joined ss)
+
+no_below : (c : Activation) (cs : List Activation) → c ∷ cs ≡ [] → ⊥
+no_below c cs e = absurd cc
+
+same_map : (xs : List Name) (s t : Store) → Agree xs s t → map s xs ≡ map t xs
+same_map [] s t a = refl
+same_map (x ∷ xs) s t a =
+    let first : s x ≡ t x = a x (member_first x xs) in
+    let others : map s xs ≡ map t xs = same_map xs s t (λ y c. a y (member_later x y xs c)) in
+    rw (first, others) refl
+
+less_goes : (P : Program) (E : Config → Type 0) (F : Heap) (b : Statements) (xs : List Name) (s0 : Store) (g : Graph) (p : Procedure) (rest : Statements) (below : List Activation) (n m : ℕ) → m ≤ n → Goes P E F b xs s0 g p rest below n → Goes P E F b xs s0 g p rest below m
+less_goes P E F b xs s0 g p rest below n m l go j k = go j (omega (arith, l, k))
+
+less_ending : (P : Program) (E : Config → Type 0) (F : Heap) (b : Statements) (xs : List Name) (s0 : Store) (p : Procedure) (below : List Activation) (n m : ℕ) → m ≤ n → Ending P E F b xs s0 p below n → Ending P E F b xs s0 p below m
+less_ending P E F b xs s0 p below n m l end = record { results_in = end.results_in; finish = λ j k. end.finish j (omega (arith, l, k)) }
+
+module _ (P : Program) (ready : Ready P) (E : Config → Type 0) (n : ℕ) (claim : Claim P E n) (p : Procedure) (is : Contains P.procedures p) (b : Statements) (xs : List Name) (s0 : Store) (F : Heap) (below : List Activation) (rest : Statements) (g : Graph) where
+  -- a call: the callee's run is shorter, and its end is the step of the path
+  sound_call : (m : ℕ) → m ≤ n → (ts : List Occ) (f : Occ) (es : List Expr) → Goes P E F b xs s0 g p rest below m → ((y : Name) → Contains (names ts) y → SomeAssigns b y) → (s : Store) (a h : Heap) → Splits h a F →
+      Safe P (all_reads es (guarded (entry f es) (called ts f es) g)) (state s a) → Keeps b xs s0 s → Sound P E (suc m) (working p s h (statement_first (call ts f es) rest) below)
+  sound_call m l ts f es go mine s a h split safe keeps = (
+    λ fault. all_read s h es r.0 up fault,
+    λ ended. absurd (not_empty (call ts f es) rest ended.0),
+    λ d st.
+        let same : st.1 ≡ r.0 = same_values st.1 r.0 (sym st.4 ∙ up) in
+        subst (Sound P E m) (sym st.6) (inside st.0 st.2 st.3 (st.5 ∙ same)),
+  )
+    where
+      r : (vs : List ℕ) × Give s a es vs × Safe P (guarded (entry f es) (called ts f es) g) (state s a)
+      r = after_reads P es (guarded (entry f es) (called ts f es) g) (state s a) safe
+
+      up : Give s h es r.0
+      up = gives_whole s h a F split es r.0 r.1
+
+      caller : Activation
+      caller = record { procedure = p; store = s; rest = statement_first (call ts f es) rest }
+
+      inside : (c : Procedure) (t : Store) → Declares P f.name c → map t (parameters_of c) ≡ r.0 → Sound P E m (working c t h (body_of c) (caller ∷ below))
+      inside c t decl params =
+          subst (λ body. Sound P E m (working c t h body (caller ∷ below))) (nothing_joined (body_of c))
+          (claim m l c known (body_of c) (results_of c) t (union part.1 F) (caller ∷ below) no_statements (ends (returned c.close c.gives)) (body_of c)
+          (λ j k u a' h' sp done keep. back j k u a' h' sp done keep)
+          (inr (record { results_in = λ y i. i; finish = back }))
+          (record { assigns = λ y i. i; rounds = ready.rounds c known; returns = typed.loops_return_not })
+          t part.0 h (set_aside h a F part.0 part.1 split part.2) (ready.bodies c known (state t part.0) part.3) (λ y _ _. refl))
+        where
+          known : Contains P.procedures c
+          known = is_member P.procedures f.name c decl
+
+          typed : KeepsRules c
+          typed = ready.typed c known
+
+          part : HasPart c.needs t a
+          part = r.2.0 c r.0 t decl r.1 params
+
+          back : (j : ℕ) → j ≤ m → (u : Store) (a' h' : Heap) → Splits h' a' (union part.1 F) → Meaning c.gives u a' → Keeps (body_of c) (results_of c) t u → Sound P E j (working c u h' no_statements (caller ∷ below))
+          back zero k u a' h' sp met keep = tt
+          back (suc j) k u a' h' sp met keep = (
+            λ fault. fault,
+            λ ended. absurd (no_below caller below ended.1),
+            λ d st.
+                let agree : Agree (parameters_of c) t u = λ y i. sym (keep y (typed.parameters_stay y i) (typed.distinct y i)) in
+                let whole = taken_back h' a' part.1 F sp (aside_apart h a F part.0 part.1 split part.2) in
+                let step : Takes P (called ts f es) (state s a) (state st.0 (union a' part.1)) = (
+                  c,
+                  r.0,
+                  decl,
+                  r.1,
+                  record {
+                    inside = u;
+                    arguments = sym (same_map (parameters_of c) t u agree) ∙ params;
+                    targets = st.1;
+                    replaced = record {
+                      part = part.0;
+                      frame = part.1;
+                      other = a';
+                      splits = part.2;
+                      met = same_meaning c.needs (parameters_of c) t u part.0 agree typed.needs_in part.3;
+                      joins = whole.1;
+                      meets = met;
+                    };
+                  },
+                ) in
+                subst (Sound P E j) (sym st.2)
+                (go j (omega (arith, k)) st.0 (union a' part.1) h' whole.0 (r.2.1 (state st.0 (union a' part.1)) step) (keeps_on b xs s0 s (names ts) (map u (results_of c)) st.0 keeps st.1 (λ y i. inl (mine y i)))),
+          )
+
+  -- a loop: round after round from its own start, and out by the step of the path
+  sound_loop : (m : ℕ) → m ≤ n → (at : Span) (test : Test) (i : Formula) (body : Statements) (close : Span) → Goes P E F b xs s0 g p rest below m →
+      ((x : State) → Meaning i x.store x.heap → Safe P (once_around p (while at test i body close)) x) → RoundsSafe P p (all_loops body) → AllReturnNot body → AllLoopsReturnNot body → ((y : Name) → SomeAssigns body y → SomeAssigns b y) →
+      (s : Store) (a h : Heap) → Splits h a F → Safe P (guarded (loop_entry (while at test i body close)) (looped (while at test i body close)) (tested test dead_end g)) (state s a) → Keeps b xs s0 s → Sound P E (suc m) (working p s h (statement_first (loop at test i body close) rest) below)
+  sound_loop m l at test i body close go around rounds none inner mine s a h split safe keeps =
+      again (suc m) (suc m) (omega arith) (omega arith) s part.0 h (set_aside h a F part.0 part.1 split part.2) part.3 (λ y _ _. refl)
+    where
+      part : HasPart i s a
+      part = safe.0
+
+      here : Statements
+      here = statement_first (loop at test i body close) rest
+
+      once : (j : ℕ) → suc j ≤ suc m → (t : Store) (c k : Heap) → Splits k c (union part.1 F) → Meaning i t c → Keeps body [] s t →
+          ((e : ℕ) → e ≤ j → (t' : Store) (c' k' : Heap) → Splits k' c' (union part.1 F) → Meaning i t' c' → Keeps body [] s t' → Sound P E e (working p t' k' here below)) →
+          Sound P E (suc j) (working p t k here below)
+      once j v t c k sp met keep more = (
+        both.0,
+        λ ended. absurd (not_empty (loop at test i body close) rest ended.0),
+        λ d st. subst (Sound P E j) (sym st.2) (both.1 st.0 st.1),
+      )
+        where
+          back : Splits k (union c part.1) F × Splits (union c part.1) c part.1
+          back = taken_back k c part.1 F sp (aside_apart h a F part.0 part.1 split part.2)
+
+          out : Safe P (tested test dead_end g) (state t (union c part.1))
+          out = safe.1 (state t (union c part.1)) (
+            record { part = part.0; frame = part.1; other = c; splits = part.2; met = part.3; joins = back.1; meets = met },
+            λ y no. keep y no (no_member y),
+          )
+
+          kept : Keeps b xs s0 t
+          kept y nb nx = keep y (λ q. nb (mine y q)) (no_member y) ∙ keeps y nb nx
+
+          both : (outcome t k test ≡ None → ⊥) × ((way : Bool) → outcome t k test ≡ Some way → Sound P E j (working p t k (cond way (joined body here) rest) below))
+          both = sound_loop_test P E j p t c part.1 k F (joined body here) rest below test (all_lowered p body (ends (loop_end (while at test i body close)))) g sp back.0 back.1 (around (state t c) met) out
+              (λ body_safe. claim j (omega (arith, v, l)) p is body [] s (union part.1 F) below here (ends (loop_end (while at test i body close))) body
+              (λ e le t' c' k' sp' done keep'. more e le t' c' k' sp' done keep')
+              (inl none) (record { assigns = λ y q. q; rounds = rounds; returns = inner }) t c k sp body_safe keep)
+              (λ rest_safe. go j (omega (arith, v)) t (union c part.1) k back.0 rest_safe kept)
+
+      again : (f j : ℕ) → j ≤ f → j ≤ suc m → (t : Store) (c k : Heap) → Splits k c (union part.1 F) → Meaning i t c → Keeps body [] s t → Sound P E j (working p t k here below)
+      again f zero u v t c k sp met keep = tt
+      again zero (suc j) u v t c k sp met keep = absurd (omega (arith, u))
+      again (suc f) (suc j) u v t c k sp met keep =
+          once j v t c k sp met keep (λ e le t' c' k' sp' met' keep'. again f e (omega (arith, le, u)) (omega (arith, le, v)) t' c' k' sp' met' keep')
+
+module _ (P : Program) (ready : Ready P) (E : Config → Type 0) where
+  -- one statement, and then the rest of the block
+  by_first : (n : ℕ) → Claim P E n → (m : ℕ) → m ≤ n → (p : Procedure) → Contains P.procedures p → (b : Statements) (xs : List Name) (s0 : Store) (F : Heap) (below : List Activation) (q : Statements) (g : Graph) (st : Statement) →
+      Goes P E F b xs s0 g p q below m → ReturnsNot st ⊎ Ending P E F b xs s0 p below (suc m) → ((y : Name) → Assigns st y → SomeAssigns b y) → RoundsSafe P p (loops st) → LoopsReturnNot st →
+      (s : Store) (a h : Heap) → Splits h a F → Safe P (lowered p st g) (state s a) → Keeps b xs s0 s → Sound P E (suc m) (working p s h (statement_first st q) below)
+  by_first n claim m l p is b xs s0 F below q g (set x e) go end mine rounds returns s a h split safe keeps =
+      sound_set P E F b xs s0 g p q below m s a h x e go split safe (mine x.name refl) keeps
+  by_first n claim m l p is b xs s0 F below q g (new x) go end mine rounds returns s a h split safe keeps =
+      sound_new P E F b xs s0 g p q below m s a h x go split safe (mine x.name refl) keeps
+  by_first n claim m l p is b xs s0 F below q g (write x e) go end mine rounds returns s a h split safe keeps =
+      sound_write P E F b xs s0 g p q below m s a h x e go split safe keeps
+  by_first n claim m l p is b xs s0 F below q g (free x) go end mine rounds returns s a h split safe keeps =
+      sound_free P E F b xs s0 g p q below m s a h x go split safe keeps
+  by_first n claim m l p is b xs s0 F below q g (call ts f es) go end mine rounds returns s a h split safe keeps =
+      sound_call P ready E n claim p is b xs s0 F below q g m l ts f es go mine s a h split safe keeps
+  by_first n claim m l p is b xs s0 F below q g (choice t r1 c1 r2 c2) go end mine rounds returns s a h split safe keeps =
+      let both = sound_test P E m p s a h F (joined r1 q) (joined r2 q) below t (all_lowered p r1 g) (all_lowered p r2 g) split safe
+      (λ one. claim m l p is b xs s0 F below q g r1 go (first_end end) (record { assigns = λ y i. mine y (inl i); rounds = λ l i. rounds l (Contains-append_left (all_loops r1) (all_loops r2) l i); returns = returns.0 }) s a h split one keeps)
+      (λ two. claim m l p is b xs s0 F below q g r2 go (second_end end) (record { assigns = λ y i. mine y (inr i); rounds = λ l i. rounds l (Contains-append_right (all_loops r1) (all_loops r2) l i); returns = returns.1 }) s a h split two keeps) in (
+        both.0,
+        λ ended. absurd (not_empty (choice t r1 c1 r2 c2) q ended.0),
+        λ d st. subst (Sound P E m) (sym st.2) (both.1 st.0 st.1),
+      )
+    where
+      first_end : (AllReturnNot r1 × AllReturnNot r2) ⊎ Ending P E F b xs s0 p below (suc m) → AllReturnNot r1 ⊎ Ending P E F b xs s0 p below m
+      first_end e = elim e [ inl none ↦ inl none.0 | inr some ↦ inr (less_ending P E F b xs s0 p below (suc m) m (omega arith) some) ]
+
+      second_end : (AllReturnNot r1 × AllReturnNot r2) ⊎ Ending P E F b xs s0 p below (suc m) → AllReturnNot r2 ⊎ Ending P E F b xs s0 p below m
+      second_end e = elim e [ inl none ↦ inl none.1 | inr some ↦ inr (less_ending P E F b xs s0 p below (suc m) m (omega arith) some) ]
+  by_first n claim m l p is b xs s0 F below q g (loop at t i body close) go end mine rounds returns s a h split safe keeps =
+      sound_loop P ready E n claim p is b xs s0 F below q g m l at t i body close go (rounds (while at t i body close) (member_first (while at t i body close) (all_loops body))) (λ l there. rounds l (member_later (while at t i body close) l (all_loops body) there)) returns.0 returns.1 mine s a h split safe keeps
+  by_first n claim m l p is b xs s0 F below q g (give at es) go end mine rounds returns s a h split safe keeps = elim end [
+    | inl none ↦ absurd none
+    | inr some ↦ sound_give P E F b xs s0 g p q below m s a h at es some split safe keeps
+  ]
+
+  by_rest : (n : ℕ) → Claim P E n → (m : ℕ) → m ≤ suc n → (p : Procedure) → Contains P.procedures p → (b : Statements) (xs : List Name) (s0 : Store) (F : Heap) (below : List Activation) (q : Statements) (k : Graph) (r : Statements) →
+      Goes P E F b xs s0 k p q below m → AllReturnNot r ⊎ Ending P E F b xs s0 p below m → Fits P p b r →
+      (s : Store) (a h : Heap) → Splits h a F → Safe P (all_lowered p r k) (state s a) → Keeps b xs s0 s → Sound P E m (working p s h (joined r q) below)
+  by_rest n claim m l p is b xs s0 F below q k no_statements go end fits s a h split safe keeps = go m (omega arith) s a h split safe keeps
+  by_rest n claim zero l p is b xs s0 F below q k (statement_first st r) go end fits s a h split safe keeps = tt
+  by_rest n claim (suc m) l p is b xs s0 F below q k (statement_first st r) go end fits s a h split safe keeps =
+      by_first n claim m (omega (arith, l)) p is b xs s0 F below (joined r q) (all_lowered p r k) st
+      (λ j lj t c h' sp sf kp. claim j (omega (arith, lj, l)) p is b xs s0 F below q k r (less_goes P E F b xs s0 k p q below (suc m) j (omega (arith, lj)) go) (rest_end j lj end)
+      (record { assigns = λ y i. fits.assigns y (inr i); rounds = λ l i. fits.rounds l (Contains-append_right (loops st) (all_loops r) l i); returns = fits.returns.1 }) t c h' sp sf kp)
+      (first_end end) (λ y i. fits.assigns y (inl i)) (λ l i. fits.rounds l (Contains-append_left (loops st) (all_loops r) l i)) fits.returns.0 s a h split safe keeps
+    where
+      first_end : (ReturnsNot st × AllReturnNot r) ⊎ Ending P E F b xs s0 p below (suc m) → ReturnsNot st ⊎ Ending P E F b xs s0 p below (suc m)
+      first_end e = elim e [ inl none ↦ inl none.0 | inr some ↦ inr some ]
+
+      rest_end : (j : ℕ) → j ≤ m → (ReturnsNot st × AllReturnNot r) ⊎ Ending P E F b xs s0 p below (suc m) → AllReturnNot r ⊎ Ending P E F b xs s0 p below j
+      rest_end j lj e = elim e [ inl none ↦ inl none.1 | inr some ↦ inr (less_ending P E F b xs s0 p below (suc m) j (omega (arith, lj)) some) ]
+
+  pub every : (n : ℕ) → Claim P E n
+  every zero zero l p is b xs s0 F below q k r go end fits s a h split safe keeps = tt
+  every zero (suc m) l p is b xs s0 F below q k r go end fits s a h split safe keeps = absurd (omega (arith, l))
+  every (suc n) m l p is b xs s0 F below q k r go end fits s a h split safe keeps = by_rest n (every n) m l p is b xs s0 F below q k r go end fits s a h split safe keeps
+
+-- from enough steps to whole runs
+sound_run : (P : Program) (p : Procedure) (frame : Heap) (c : Config) (ds : List Config) → Sound P (EndsWell p frame) (suc (length ds)) c → IsRun P c ds → IsGoodRun p frame c ds
+sound_run P p frame c [] sound run = record {
+  never_faults = λ d there fault. elim (member_cases c [] d there) [ inl same ↦ sound.0 (subst Fault (sym same) fault) | inr none ↦ absurd (no_member d none) ];
+  ends_well = sound.1;
+}
+sound_run P p frame c (d ∷ ds) sound run =
+    let rest = sound_run P p frame d ds (sound.2 d run.0) run.1 in record {
+      never_faults = λ e there fault. elim (member_cases c (d ∷ ds) e there) [ inl same ↦ sound.0 (subst Fault (sym same) fault) | inr later ↦ rest.never_faults e later fault ];
+      ends_well = rest.ends_well;
+    }
+
+pub ready_is_good : (P : Program) → Ready P → IsGood P
+ready_is_good P ready p is s h part frame split met ds run =
+    sound_run P p frame (starting p s h []) ds
+    (subst (λ body. Sound P E n (working p s h body [])) (nothing_joined (body_of p))
+    (every P ready E n n (omega arith) p is (body_of p) (results_of p) s frame [] no_statements (ends (returned p.close p.gives)) (body_of p)
+    (λ j l t a k sp done keep. finish j l t a k sp done keep)
+    (inr (record { results_in = λ y i. i; finish = finish }))
+    (record { assigns = λ y i. i; rounds = ready.rounds p is; returns = typed.loops_return_not })
+    s part h split (ready.bodies p is (state s part) met) (λ y _ _. refl)))
+    run
+  where
+    E : Config → Type 0
+    E = EndsWell p frame
+
+    n : ℕ
+    n = suc (length ds)
+
+    typed : KeepsRules p
+    typed = ready.typed p is
+
+    finish : (j : ℕ) → j ≤ n → (t : Store) (a k : Heap) → Splits k a frame → Meaning p.gives t a → Keeps (body_of p) (results_of p) s t → Sound P E j (working p t k no_statements [])
+    finish zero l t a k sp m keep = tt
+    finish (suc j) l t a k sp m keep = (λ fault. fault, λ ended. (a, sp, m), λ d step. absurd step)
+
+-- a loop of the procedure is one of its starts
+numbered : (p : Procedure) (n : ℕ) (ls : List Loop) (l : Loop) → Contains ls l → (k : ℕ) × Contains (rounds p n ls) (round p k l)
+numbered p n [] l i = absurd (no_member l i)
+numbered p n (m ∷ ls) l i = elim (member_cases m ls l i) [
+  | inl same ↦ (n, subst (λ q. Contains (rounds p n (m ∷ ls)) (round p n q)) same (member_first (round p n m) (rounds p (suc n) ls)))
+  | inr more ↦ let found = numbered p (suc n) ls l more in (found.0, member_later (round p n m) (round p found.0 l) (rounds p (suc n) ls) found.1)
+]
+
+pub composition : Composition
+composition P typed pass = ready_is_good P (record {
+  typed = typed;
+  bodies = λ p is x met. from_paths P (whole_body p).graph x (pass p is (whole_body p) (member_first (whole_body p) (rounds p 0 (loops_of p))) x met);
+  rounds = λ p is l there x met.
+      let found = numbered p 0 (loops_of p) l there in
+      from_paths P (once_around p l) x (pass p is (round p found.0 l) (member_later (whole_body p) (round p found.0 l) (rounds p 0 (loops_of p)) found.1) x met);
+})

@@ -1,0 +1,4 @@
+pub mod Rules
+pub mod Safe
+pub mod Examples
+pub mod Laws

@@ -1,0 +1,43 @@
+//! Why valid conditions make good programs.
+
+ghost use Rattle.gh_decide.specs.Laws.{SafeMeansPathsPass, TestsLead, Composition, ValidPass, ListedIsGood, TypedKeepRules, TypedIsGood, ExamplesHold};
+
+/// A state is safe exactly where each path's check is passed.
+pub fn safe_means_paths_pass()
+    ensures { SafeMeansPathsPass }
+{}
+
+/// In a safe state a test has an outcome, and the way that it leads is safe.
+pub fn tests_lead()
+    ensures { TestsLead }
+{}
+
+/// Where each check of each path is passed, every run of every procedure is good.
+pub fn composition()
+    ensures { Composition }
+{}
+
+/// Where conditions have no counterexample, their checks are passed.
+pub fn valid_pass()
+    ensures { ValidPass }
+{}
+
+/// A program that keeps the rules is good where each of its conditions is valid.
+pub fn listed_is_good()
+    ensures { ListedIsGood }
+{}
+
+/// The type rules give what the composition needs.
+pub fn typed_keep_rules()
+    ensures { TypedKeepRules }
+{}
+
+/// A program that breaks no type rule is good where each of its conditions is valid.
+pub fn typed_is_good()
+    ensures { TypedIsGood }
+{}
+
+/// Of three small programs one is good, and those that leak or free twice are not.
+pub fn examples_hold()
+    ensures { ExamplesHold }
+{}

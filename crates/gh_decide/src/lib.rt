@@ -1,0 +1,4 @@
+//! Why valid conditions make good programs.
+#![tactic(auto)]
+
+pub mod laws;

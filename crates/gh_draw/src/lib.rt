@@ -1,0 +1,2 @@
+//! Descriptions of conditions, and drawings of traces.
+#![tactic(auto)]

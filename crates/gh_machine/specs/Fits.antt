@@ -1,0 +1,42 @@
+-- What keeps a run from standing still: callees are there, counts agree, and names that get values together are distinct.
+use Rattle.std.specs.Prelude.{◌≡◌, List, [], ◌∷◌, length, Contains}
+use Rattle.gh_ast.specs.Plain.{Statement, call, choice, loop, give, Statements, no_statements, statement_first, Procedure, Program}
+use Rattle.gh_ast.specs.Programs.{Name, names, parameters_of, results_of, body_of, Declares}
+use Rattle.gh_machine.specs.Machine.{Activation, Config}
+
+abbrev pub AreDistinct : List Name → Type 0
+AreDistinct [] = Unit {0}
+AreDistinct (x ∷ xs) = (Contains xs x → ⊥) × AreDistinct xs
+
+abbrev mutual
+  pub Fits : Program → Procedure → Statement → Type 0
+  Fits P p (call xs f es) =
+      ((q : Procedure) × Declares P f.name q) × ((q : Procedure) → Declares P f.name q → (length es ≡ length (parameters_of q)) × (length xs ≡ length (results_of q))) × AreDistinct (names xs)
+  Fits P p (choice t a c b d) = AllFit P p a × AllFit P p b
+  Fits P p (loop at t i body close) = AllFit P p body
+  Fits P p (give at es) = length es ≡ length (results_of p)
+  Fits P p s = Unit {0}
+
+  pub AllFit : Program → Procedure → Statements → Type 0
+  AllFit P p no_statements = Unit {0}
+  AllFit P p (statement_first s ss) = Fits P p s × AllFit P p ss
+
+pub record ProcedureFits (P : Program) (p : Procedure) : Type 0 where
+  pub body : AllFit P p (body_of p)
+  pub parameters : AreDistinct (parameters_of p)
+  pub results : AreDistinct (results_of p)
+
+abbrev pub ProgramFits : Program → Type 0
+ProgramFits P = (p : Procedure) → Contains P.procedures p → ProcedureFits P p
+
+-- a caller has the call first in its rest, with a target for each result
+abbrev pub Awaits : Statements → Procedure → Type 0
+Awaits (statement_first (call xs f es) rest) q = length xs ≡ length (results_of q)
+Awaits rest q = ⊥
+
+abbrev pub StackFits : Program → Procedure → List Activation → Type 0
+StackFits P q [] = Unit {0}
+StackFits P q (a ∷ below) = Contains P.procedures a.procedure × AllFit P a.procedure a.rest × Awaits a.rest q × StackFits P a.procedure below
+
+abbrev pub ConfigFits : Program → Config → Type 0
+ConfigFits P c = Contains P.procedures c.top.procedure × AllFit P c.top.procedure c.top.rest × StackFits P c.top.procedure c.below

@@ -1,0 +1,4 @@
+pub mod Lexemes
+pub mod Tables
+pub mod Lexing
+pub mod Scanning

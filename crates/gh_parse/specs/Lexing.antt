@@ -1,0 +1,51 @@
+-- What the lexer answers.
+use Rattle.std.specs.Prelude.{◌≡◌, ℕ, ◌+◌, ◌<◌, List, [], ◌∷◌, ◌++◌, length, take, drop, Option, Some, None, ⊤, Bool, IsTrue, ◌↔◌, codes}
+use Rattle.gh_base.specs.declared.place.Span.{Span}
+use Rattle.gh_ast.specs.Tokens.{Token, cleared, moved_over, first_place, IsPiece, IsTokens, HasTokens, IsStuck, IsStuckAt}
+use Rattle.gh_parse.specs.Views.{symbol_at, symbol_text}
+use Rattle.gh_parse.specs.declared.token.Symbol.{Symbol}
+use Rattle.gh_parse.specs.declared.lexer.Piece.{Piece}
+use Rattle.gh_parse.specs.declared.lexer.LexError.{LexError}
+use Rattle.gh_parse.specs.declared.lexer.LexError.TheVariants.{Syntax, OutOfMemory}
+
+-- the text begins with w
+abbrev pub BeginsWith : List ℕ → List ℕ → Type 0
+BeginsWith w text = (rest : List ℕ) × (text ≡ w ++ rest)
+
+-- a comment begins
+abbrev pub IsCommentAhead : List ℕ → Type 0
+IsCommentAhead text = BeginsWith (codes "//") text
+
+-- a line feed is in front, or nothing is left
+abbrev pub EndsLine : List ℕ → Type 0
+EndsLine [] = Unit {0}
+EndsLine (b ∷ rest) = b ≡ 10
+
+-- the token is in front
+pub record IsSymbolAhead (text : List ℕ) (s : Symbol) : Type 0 where
+  pub rest : List ℕ
+  pub front : text ≡ symbol_text s ++ rest
+  pub piece : (place : Span) → IsPiece place (symbol_text s) (cleared rest) (symbol_at s place ∷ [])
+
+abbrev pub tokens_at : Option Symbol → Span → List Token
+tokens_at None place = []
+tokens_at (Some symbol) place = symbol_at symbol place ∷ []
+
+-- the bytes of the piece are in front, and its token is that of the text without comments
+pub record IsAhead (text : List ℕ) (p : Piece) : Type 0 where
+  pub some : 0 < p.length
+  pub within : p.length < 1 + length text
+  pub reads : (place : Span)
+      → IsTokens place (cleared text) (tokens_at p.symbol place) (moved_over place (take p.length text)) (cleared (drop p.length text))
+
+-- the tokens at the front of a text, up to a place after which there are none
+pub record IsLexed (text : List ℕ) (tokens : List Token) (end : Span) (whole : Bool) : Type 0 where
+  pub rest : List ℕ
+  pub front : IsTokens first_place (cleared text) tokens end rest
+  pub stuck : IsStuck rest
+  pub all : IsTrue whole ↔ (rest ≡ [])
+
+-- why there are no tokens
+abbrev pub IsLexRefusal : List ℕ → LexError → Type 0
+IsLexRefusal text (Syntax place) = ((ts : List Token) → HasTokens text ts → ⊥) × IsStuckAt text place
+IsLexRefusal text OutOfMemory = ⊤

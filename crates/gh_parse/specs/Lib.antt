@@ -1,0 +1,4 @@
+pub mod Views
+pub mod Scanning
+pub mod Lexing
+pub mod Parsing

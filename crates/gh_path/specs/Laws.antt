@@ -1,0 +1,29 @@
+-- The laws.
+use Rattle.std.specs.Prelude.{◌≡◌, ◌↔◌, List, map, Contains}
+use Rattle.gh_ast.specs.Plain.{Program}
+use Rattle.gh_path.specs.Graphs.{PathStep, Graph}
+use Rattle.gh_path.specs.Paths.{Before, Way, IsListOf, ways}
+use Rattle.gh_path.specs.Conditions.{Condition, conditions, IsCondition}
+use Rattle.gh_path.specs.Examples.{reversal, concatenation, row_of, reversal_rows, concatenation_rows}
+
+-- no path stands before itself, and the order goes over
+pub record PathsAreOrdered : Type 0 where
+  pub never_itself : (ps : List PathStep) → Before ps ps → ⊥
+  pub goes_over : (ps qs rs : List PathStep) → Before ps qs → Before qs rs → Before ps rs
+
+-- the paths of a graph stand in one order: `ways` lists them, and no other list does
+pub record HasOneList (g : Graph) : Type 0 where
+  pub is_list : IsListOf g (ways g)
+  pub one : (xs : List Way) → IsListOf g xs → xs ≡ ways g
+
+abbrev pub PathsHaveOneList : Type 0
+PathsHaveOneList = (g : Graph) → HasOneList g
+
+-- the list has all conditions and nothing else
+abbrev pub AllAreListed : Type 0
+AllAreListed = (P : Program) (c : Condition) → Contains (conditions P) c ↔ IsCondition P c
+
+-- the conditions of two small programs stand where one expects them
+pub record ExamplesHold : Type 0 where
+  pub with_a_loop : map row_of (conditions reversal) ≡ reversal_rows
+  pub with_a_call : map row_of (conditions concatenation) ≡ concatenation_rows

@@ -1,0 +1,23 @@
+//! Laws of paths and of the list of conditions.
+
+ghost use Rattle.gh_path.specs.Laws.{PathsAreOrdered, PathsHaveOneList, AllAreListed, ExamplesHold};
+
+/// No path stands before itself, and the order goes over.
+pub fn paths_are_ordered()
+    ensures { PathsAreOrdered }
+{}
+
+/// One list has the paths of a graph, in order.
+pub fn paths_have_one_list()
+    ensures { PathsHaveOneList }
+{}
+
+/// The list of conditions has all conditions and nothing else.
+pub fn all_are_listed()
+    ensures { AllAreListed }
+{}
+
+/// The conditions of two small programs.
+pub fn examples_hold()
+    ensures { ExamplesHold }
+{}

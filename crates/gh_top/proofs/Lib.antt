@@ -1,0 +1,12 @@
+pub mod VerdictLemmas
+pub mod ReportLemmas
+pub mod ConditionLemmas
+pub mod HeadlineLemmas
+pub mod ClassLemmas
+pub mod PlaceLemmas
+pub mod CopyLemmas
+pub mod TypedLemmas
+pub mod TraceLemmas
+pub mod CountLemmas
+pub mod JudgeLemmas
+pub mod DrawnLemmas

@@ -1,0 +1,81 @@
+-- What a run answers, what it leaves written, and what its verdict means.
+use Rattle.std.specs.Prelude.{◌≡◌, ℕ, List, Option, Some, None, codes, ⊤}
+use Rattle.std.specs.Io.KnownBytes.{Appends, Keeps}
+use Rattle.gh_base.specs.Outside.{Table, Rose, AppendsFront}
+use Rattle.gh_ast.specs.Plain.{Program}
+use Rattle.gh_ast.specs.Grammar.{Spells}
+use Rattle.gh_machine.specs.Machine.{IsGood}
+use Rattle.gh_top.specs.Words.{IsRequest}
+use Rattle.gh_top.specs.Reports.{IsCheck}
+use Rattle.gh_top.specs.Refusals.{IsAccepted}
+use Rattle.gh_draw.specs.Drawings.{line}
+use Rattle.gh_top.specs.declared.words.Request.{Request}
+use Rattle.gh_top.specs.declared.words.Request.TheVariants.{Check}
+use Rattle.gh_top.specs.declared.run.Stop.{Stop}
+use Rattle.gh_top.specs.declared.run.Stop.TheVariants as stop
+use Rattle.gh_top.specs.declared.status.Status.{Status}
+use Rattle.gh_top.specs.declared.status.Status.TheVariants.{Verified, Usage, ReadFault, WriteFault, OutOfMemory}
+
+-- the status and the text that words and files give
+pub data HasResult : List (List ℕ) → Table → Status → List ℕ → Type 0 where
+  usage : {words : List (List ℕ)} {files : Table} → ((r : Request) → IsRequest words r → ⊥) → HasResult words files Usage (line (codes "refused: usage"))
+  check : {words : List (List ℕ)} {files : Table} {text : List ℕ} {status : Status} (file : List ℕ)
+      → IsRequest words (Check file) → IsCheck (files file) status text → HasResult words files status text
+
+-- the files hold what the inputs tell; where they tell nothing, any files do
+abbrev pub AreTold : Option Table → Table → Type 0
+AreTold None files = ⊤
+AreTold (Some table) files = files ≡ table
+
+-- the status and the text are the answer, over the files that are told
+pub record HasAnswer (table : Option Table) (words : List (List ℕ)) (status : Status) (text : List ℕ) : Type 0 where
+  pub files : Table
+  pub told : AreTold table files
+  pub result : HasResult words files status text
+
+-- the same for one file
+pub record HasCheck (table : Option Table) (file : List ℕ) (status : Status) (text : List ℕ) : Type 0 where
+  pub files : Table
+  pub told : AreTold table files
+  pub check : IsCheck (files file) status text
+
+-- exactly one text was appended, and it is the answer
+pub record IsAnswered (table : Option Table) (words : List (List ℕ)) (old new : Option (List ℕ)) (status : Status) : Type 0 where
+  pub text : List ℕ
+  pub answer : HasAnswer table words status text
+  pub written : Appends old new text
+
+-- a front of an answer's text was appended
+pub record IsCutOff (table : Option Table) (words : List (List ℕ)) (old new : Option (List ℕ)) : Type 0 where
+  pub status : Status
+  pub text : List ℕ
+  pub answer : HasAnswer table words status text
+  pub written : AppendsFront old new text
+
+-- where neither a fault nor want of memory came, the run is answered
+abbrev pub Answers : Option Table → List (List ℕ) → Option (List ℕ) → Option (List ℕ) → Status → Type 0
+Answers table words old new ReadFault = ⊤
+Answers table words old new WriteFault = ⊤
+Answers table words old new OutOfMemory = ⊤
+Answers table words old new status = IsAnswered table words old new status
+
+-- why there is nothing to write: a read fault comes only where the count rose
+abbrev pub IsStop : ℕ → ℕ → Stop → Type 0
+IsStop before now stop.ReadFault = Rose before now
+IsStop before now stop.OutOfMemory = ⊤
+
+-- the words name a file
+abbrev pub NamesFile : List (List ℕ) → Type 0
+NamesFile words = (r : Request) × IsRequest words r
+
+-- the program that was verified is good: no run of any procedure from a state that meets its precondition, beside any frame, faults, leaks or ends outside its postcondition
+pub record IsSound (table : Option Table) (words : List (List ℕ)) : Type 0 where
+  pub files : Table
+  pub told : AreTold table files
+  pub file : List ℕ
+  pub text : List ℕ
+  pub program : Program
+  pub request : IsRequest words (Check file)
+  pub bytes : files file ≡ Some text
+  pub accepted : IsAccepted text program
+  pub good : IsGood program

@@ -1,0 +1,12 @@
+pub mod Classes
+pub mod Copies
+pub mod Drawn
+pub mod Headline
+pub mod Judgements
+pub mod Places
+pub mod Refusals
+pub mod Refuting
+pub mod Reports
+pub mod Statuses
+pub mod Verdicts
+pub mod Words

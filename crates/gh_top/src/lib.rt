@@ -1,0 +1,15 @@
+//! The top call: a request, its answer, and the text that is written.
+#![tactic(auto)]
+
+mod classes;
+mod copies;
+mod lines;
+mod report;
+pub mod run;
+mod states;
+pub mod status;
+#[cfg(test)]
+mod tests;
+mod variables;
+mod verdict;
+pub mod words;

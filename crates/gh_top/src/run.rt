@@ -1,0 +1,119 @@
+//! The top call.
+
+ghost use Rattle.std.specs.Prelude.{◌≡◌, IfOk, IfErr, List, ℕ};
+ghost use Rattle.std.specs.Io.KnownBytes.{Keeps};
+ghost use Rattle.gh_base.specs.Outside.{Rose};
+ghost use Rattle.gh_draw.specs.Drawings.{line};
+ghost use Rattle.gh_top.specs.Words.{IsRequest};
+ghost use Rattle.gh_top.specs.Headline.{Answers, IsCutOff, IsSound, NamesFile, HasAnswer, HasCheck, IsStop};
+
+use crate::lines::plain_line;
+use crate::report::{Report, text_report};
+use crate::status::Status;
+use crate::words::{Request, Words, read_words};
+use gh_base::outside::{Inputs, Sink};
+use gh_base::reading::{InputError, read_input};
+use gh_base::writing::write_all;
+use std::alloc::{AllocError, Global};
+
+/// The longest program text, in bytes.
+pub const MOST_BYTES: usize = 1_048_576;
+
+/// Why there is nothing to write.
+#[derive(Clone, Copy, Debug)]
+enum Stop {
+    ReadFault,
+    OutOfMemory,
+}
+
+impl From<AllocError> for Stop {
+    ghost use Rattle.std.specs.Prelude.{◌≡◌};
+    ghost use Rattle.gh_top.specs.declared.run.Stop.TheVariants.{OutOfMemory};
+
+    ghost from_gives = { λ _ s. s ≡ OutOfMemory };
+
+    fn from(_: AllocError) -> Stop {
+        Stop::OutOfMemory
+    }
+}
+
+// The report on the bytes of a file, as far as they are read.
+fn file_report<I: Inputs>(alloc: Global, file: &str, inputs: &mut I) -> Result<Report, Stop>
+    ensures ok { IfOk result (λ r. HasCheck (I.table inputs.old) file.now r.status r.text) }
+    ensures stop { IfErr result (λ s. IsStop (I.faults inputs.old) (I.faults inputs.new) s) }
+{
+    match read_input(alloc, inputs, file, MOST_BYTES) {
+        Ok(text) => Ok(text_report(alloc, text.bytes())?),
+        Err(InputError::TooLong) => refused(alloc, "refused: TooLong"),
+        Err(InputError::Absent) => refused(alloc, "refused: Absent"),
+        Err(InputError::ReadFault) => Err(Stop::ReadFault),
+        Err(InputError::OutOfMemory) => Err(Stop::OutOfMemory),
+    }
+}
+
+// A text that is refused before it is read.
+fn refused(alloc: Global, words: &str) -> Result<Report, Stop>
+    ensures status { IfOk result (λ r. r.status ≡ Status.TextRefused) }
+    ensures text { IfOk result (λ r. r.text ≡ line words.now) }
+    ensures stop { IfErr result (λ s. s ≡ Stop.OutOfMemory) }
+{
+    Ok(Report {
+        status: Status::TextRefused,
+        text: plain_line(alloc, words)?,
+    })
+}
+
+// The report that a request asks for.
+fn request_report<I: Inputs>(
+    alloc: Global,
+    request: &Request,
+    inputs: &mut I,
+) -> Result<Report, Stop>
+    ensures ok { IfOk result (λ r. (words : List (List ℕ)) → IsRequest words request.now → HasAnswer (I.table inputs.old) words r.status r.text) }
+    ensures stop { IfErr result (λ s. IsStop (I.faults inputs.old) (I.faults inputs.new) s) }
+{
+    file_report(alloc, request.file(), inputs)
+}
+
+// What is to be written, before anything is.
+fn report<I: Inputs>(alloc: Global, words: &Words, inputs: &mut I) -> Result<Report, Stop>
+    ensures ok { IfOk result (λ r. HasAnswer (I.table inputs.old) words.now r.status r.text) }
+    ensures stop { IfErr result (λ s. IsStop (I.faults inputs.old) (I.faults inputs.new) s) }
+    ensures named { IfErr result (λ s. s ≡ Stop.ReadFault → NamesFile words.now) }
+{
+    match read_words(alloc, words)? {
+        Some(request) => request_report(alloc, &request, inputs),
+        None => Ok(Report {
+            status: Status::Usage,
+            text: plain_line(alloc, "refused: usage")?,
+        }),
+    }
+}
+
+/// Carries out what the words ask for: reads, decides, and writes the answer.
+pub fn run<I: Inputs, S: Sink>(
+    alloc: Global,
+    words: &Words,
+    inputs: &mut I,
+    out: &mut S,
+) -> Status
+    ensures answer { Answers (I.table inputs.old) words.now (S.written out.old) (S.written out.new) result }
+    ensures good { result ≡ Status.Verified → IsSound (I.table inputs.old) words.now }
+
+    // A fault has its cause, and want of memory or a read fault leaves nothing written.
+    ensures read { result ≡ Status.ReadFault → Rose (I.faults inputs.old) (I.faults inputs.new) }
+    ensures read_file { result ≡ Status.ReadFault → NamesFile words.now }
+    ensures read_silent { result ≡ Status.ReadFault → Keeps (S.written out.old) (S.written out.new) }
+    ensures write { result ≡ Status.WriteFault → Rose (S.faults out.old) (S.faults out.new) }
+    ensures write_front { result ≡ Status.WriteFault → IsCutOff (I.table inputs.old) words.now (S.written out.old) (S.written out.new) }
+    ensures memory_silent { result ≡ Status.OutOfMemory → Keeps (S.written out.old) (S.written out.new) }
+{
+    match report(alloc, words, inputs) {
+        Ok(report) => match write_all(out, report.text.bytes()) {
+            Ok(()) => report.status,
+            Err(_) => Status::WriteFault,
+        },
+        Err(Stop::ReadFault) => Status::ReadFault,
+        Err(Stop::OutOfMemory) => Status::OutOfMemory,
+    }
+}

@@ -1,0 +1,5 @@
+use Rattle.gh_trace.proofs.Replay.{failures_are_one}
+use Rattle.gh_trace.proofs.laws.failures_are_one.Goals as goal
+
+pub returns : goal.returns
+returns c = failures_are_one

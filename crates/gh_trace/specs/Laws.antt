@@ -1,0 +1,53 @@
+-- The laws.
+use Rattle.std.specs.Prelude.{◌≡◌, ◌↔◌, ℕ, suc, ◌≤◌, List, length, ◌++◌, map, Contains}
+use Rattle.gh_ast.specs.declared.Occ.{Occ}
+use Rattle.gh_ast.specs.declared.Expr.{Expr}
+use Rattle.gh_ast.specs.Plain.{Formula, Procedure, Program}
+use Rattle.gh_ast.specs.Programs.{Name, names, parameters_of, results_of, Declares}
+use Rattle.gh_ast.specs.Names.{FormulaIn}
+use Rattle.gh_assert.specs.Heaps.{Heap, IsProper, Splits}
+use Rattle.gh_assert.specs.Meaning.{Store, Meaning, HasPart}
+use Rattle.gh_assert.specs.Values.{Give}
+use Rattle.gh_path.specs.Graphs.{Check, entry, PathStep, called}
+use Rattle.gh_path.specs.Conditions.{Condition}
+use Rattle.gh_trace.specs.Traces.{State, Replaced, Takes, Passes, IsTrace, last_state}
+use Rattle.gh_trace.specs.Replay.{Drawn, FirstFailure, Refutes}
+
+-- drawn states have at most one first failure; they have none where they refute the condition, and some where they don't
+pub record FailuresAreOne : Type 0 where
+  pub one : (P : Program) (c : Condition) (xs : List Drawn) (n m : ℕ) → FirstFailure P c xs n → FirstFailure P c xs m → n ≡ m
+  pub none : (P : Program) (c : Condition) (xs : List Drawn) → Refutes P c xs → (n : ℕ) → FirstFailure P c xs n → ⊥
+  pub some : (P : Program) (c : Condition) (xs : List Drawn) → ((n : ℕ) → FirstFailure P c xs n → ⊥) → (Refutes P c xs → ⊥) → ⊥
+  pub within : (P : Program) (c : Condition) (xs : List Drawn) (n : ℕ) → FirstFailure P c xs n → n ≤ suc (length c.way.steps)
+
+-- from a heap that meets an assertion no trace leads to a cell at null
+abbrev pub TracesAreProper : Type 0
+TracesAreProper = (P : Program) (f : Formula) (x : State) (ps : List PathStep) (ys : List State) → Meaning f x.store x.heap → IsTrace P x ps ys → IsProper (last_state x ys).heap
+
+-- a check that doesn't fail is passed
+abbrev pub ChecksAreDecided : Type 0
+ChecksAreDecided = (P : Program) (c : Check) (x : State) → IsProper x.heap → ((Passes P c x → ⊥) → ⊥) → Passes P c x
+
+-- at most one part meets an assertion, so any split that shows it tells what stays
+abbrev pub PartsAreReplaced : Type 0
+PartsAreReplaced =
+    (f : Formula) (s : Store) (h : Heap) (g : Formula) (t : Store) (k part frame : Heap) → Splits h part frame → Meaning f s part →
+    Replaced f s h g t k ↔ ((other : Heap) × Splits k other frame × Meaning g t other)
+
+-- a callee's assertions speak of its parameters, `ensures` of its results too
+pub record HasOwnNames (p : Procedure) : Type 0 where
+  pub needs_in : FormulaIn p.needs (parameters_of p)
+  pub gives_in : FormulaIn p.gives (parameters_of p ++ results_of p)
+
+-- any store that gives the parameters the arguments' values decides the check of a call
+abbrev pub EntriesAreOne : Type 0
+EntriesAreOne =
+    (P : Program) (f : Occ) (es : List Expr) (x : State) (p : Procedure) (vs : List ℕ) (inside : Store) → HasOwnNames p → Declares P f.name p →
+    Give x.store x.heap es vs → map inside (parameters_of p) ≡ vs → Passes P (entry f es) x ↔ HasPart p.needs inside x.heap
+
+-- and one that also gives the results what the targets got decides its step
+abbrev pub CallsAreOne : Type 0
+CallsAreOne =
+    (P : Program) (xs : List Occ) (f : Occ) (es : List Expr) (x y : State) (p : Procedure) (vs : List ℕ) (inside : Store) → HasOwnNames p → Declares P f.name p →
+    Give x.store x.heap es vs → map inside (parameters_of p) ≡ vs → map inside (results_of p) ≡ map y.store (names xs) →
+    Takes P (called xs f es) x y ↔ (((n : Name) → (Contains (names xs) n → ⊥) → y.store n ≡ x.store n) × Replaced p.needs inside x.heap p.gives inside y.heap)

@@ -1,0 +1,4 @@
+pub mod Traces
+pub mod Replay
+pub mod Validity
+pub mod Laws
