@@ -19,7 +19,9 @@ pub fn reported(count: usize) -> u32
 pub fn count_variables(procedure: &Procedure) -> u32
     ensures { result ≡ reported (length (variables_of (procedure_of procedure.now))) }
 {
-    let own = reported(procedure.parameters.len()).saturating_add(reported(procedure.results.len()));
+    let own = reported(procedure.parameters.len()).saturating_add(reported(
+        procedure.results.len(),
+    ));
     own.saturating_add(reported(locals(procedure).len()))
 }
 

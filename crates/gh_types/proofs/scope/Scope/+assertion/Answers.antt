@@ -33,8 +33,8 @@ in_assertion-returns-in-Cases t c =
     let second = in_formula (formula_of c.deref-in-Cases.result.now) in
     rw (c.in-Cases.is, formula_of-Cases, ← c.deref.ensures, ← c.deref-in-Cases.ensures)
     (first_append _ (tests ++ first) second _ _ _ c.earlier-in-Cases.ensures
-      (first_append _ tests first _ _ _ c.earlier-first.ensures c.in_test.ensures c.in_assertion.ensures)
-      c.in_assertion-in-Cases.ensures)
+    (first_append _ tests first _ _ _ c.earlier-first.ensures c.in_test.ensures c.in_assertion.ensures)
+    c.in_assertion-in-Cases.ensures)
 
 pub in_assertions-loop-assertion-preserved : goal.in_assertions-loop-assertion-preserved
 in_assertions-loop-assertion-preserved t c =

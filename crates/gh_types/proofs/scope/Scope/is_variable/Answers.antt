@@ -19,8 +19,7 @@ returns-else-is_parameter c =
     let q = procedure_of c.args.self.now.own.now in
     let rest = q.results ++ locals_of q in
     let same : variables_of q ≡ q.parameters ++ rest = append_assoc q.parameters q.results (locals_of q) in
-    let named = λ (os : List Occ). HasName os c.args.name.now.name in
-    (
+    let named = λ (os : List Occ). HasName os c.args.name.now.name in (
       λ t. subst named (sym same) (name_right q.parameters rest _ (c.is_forbidden.ensures.0 t)),
       λ a. elim (name_parts q.parameters rest _ (subst named same a)) [
         | inl r ↦ let found : c.is_parameter.result ≡ true = c.is_parameter.ensures.1 r in cc
