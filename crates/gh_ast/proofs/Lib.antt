@@ -1,3 +1,4 @@
+pub mod PlainLemmas
 pub mod Lists
 pub mod Declared
 pub mod Members

@@ -23,7 +23,7 @@ abbrev mutual
   -- `emp`, cells, segments, points-to and comparisons, those in tests of cases included
   pub atoms : Formula → ℕ
   atoms (star fs) = all_atoms fs
-  atoms (cases t a b) = test_atoms t + (atoms a + atoms b)
+  atoms (cases t a b) = test_atoms t + atoms a + atoms b
   atoms _ = 1
 
   pub all_atoms : Formulas → ℕ

@@ -42,7 +42,7 @@ abbrev mutual
   in_formula (cell a) = a ∷ []
   in_formula (segment f t) = in_operand f ++ in_operand t
   in_formula (star fs) = in_formulas fs
-  in_formula (cases t a b) = in_test t ++ (in_formula a ++ in_formula b)
+  in_formula (cases t a b) = in_test t ++ in_formula a ++ in_formula b
 
   pub in_formulas : Formulas → List Occ
   in_formulas no_formulas = []
@@ -67,7 +67,7 @@ abbrev mutual
   sites_in inside (write a e) = map mentioned (a ∷ in_expr e)
   sites_in inside (free a) = mentioned a ∷ []
   sites_in inside (call ts c es) = assigned ts ∷ called ts c es ∷ map mentioned (ts ++ in_exprs es)
-  sites_in inside (choice t a ca b cb) = map mentioned (in_test t) ++ (all_sites_in inside a ++ all_sites_in inside b)
+  sites_in inside (choice t a ca b cb) = map mentioned (in_test t) ++ all_sites_in inside a ++ all_sites_in inside b
   sites_in inside (loop s t i b cb) = map mentioned (in_test t ++ in_formula i) ++ all_sites_in true b
   sites_in inside (give s es) = returned inside s es ∷ map mentioned (in_exprs es)
 
@@ -92,4 +92,4 @@ locals_of q = locals_in q.body
 
 -- the variables of a procedure, in the order of their numbers
 abbrev pub variables_of : Procedure → List Occ
-variables_of q = q.parameters ++ (q.results ++ locals_of q)
+variables_of q = q.parameters ++ q.results ++ locals_of q

@@ -65,7 +65,7 @@ cases_of fs f s h = elim (cases_lt h.place (length fs)) [
     element = sym (get_or_append_left fs (f ∷ []) h.here h.place l) ∙ h.element;
     kind = h.kind;
     second = let fits : h.place ≤ length fs = omega arith in
-      subst (λ (xs : List Field). (h.here.name.name ≢ codes "next") ⊎ Any IsLink xs) (take-append-le h.place fs (f ∷ []) fits) h.second;
+        subst (λ (xs : List Field). (h.here.name.name ≢ codes "next") ⊎ Any IsLink xs) (take-append-le h.place fs (f ∷ []) fits) h.second;
     span = h.span;
   })
   | inr l ↦
@@ -115,8 +115,10 @@ struct_whole fs close k linked a b r h p i x y =
   where
     tells : IsTrue linked ↔ Any IsLink fs
     tells = subst (λ (xs : List Field). IsTrue linked ↔ Any IsLink xs) (take_all k fs h) p
+
     none : (n : ℕ) (s : Span) → (linked ≡ false) × (n ≡ 12) × (close ≡ s) → (n ≡ 12) × NoLink fs close s
     none n s (u, e, o) = (e, (o, λ m. let t : linked ≡ true = tells.1 m in cc))
+
     unlinked : (Any IsLink fs → ⊥) → linked ≡ false
     unlinked m = by_case linked refl
       where

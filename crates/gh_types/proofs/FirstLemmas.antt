@@ -127,18 +127,18 @@ pub first_one : {X : Type 0} (E : X → ℕ → Span → Type 0) (x : X) (r : Op
 first_one E x r h =
     record {
       says = first_same (E x) _ r
-        (λ n s e. any_here (λ z. E z n s) x [] e)
-        (λ n s a. elim (any_cases (λ z. E z n s) x [] a) [ inl e ↦ e | inr b ↦ absurd (any_none (λ z. E z n s) b) ])
-        h;
+          (λ n s e. any_here (λ z. E z n s) x [] e)
+          (λ n s a. elim (any_cases (λ z. E z n s) x [] a) [ inl e ↦ e | inr b ↦ absurd (any_none (λ z. E z n s) b) ])
+          h;
     }
 
 pub first_append : {X : Type 0} (E : X → ℕ → Span → Type 0) (xs ys : List X) (a b r : Option Fault) → IsEarlier a b r → IsFirstIn E xs a → IsFirstIn E ys b → IsFirstIn E (xs ++ ys) r
 first_append E xs ys a b r i x y =
     record {
       says = first_same _ _ r
-        (λ n s e. elim e [ inl p ↦ any_left (λ z. E z n s) xs ys p | inr p ↦ any_right (λ z. E z n s) xs ys p ])
-        (λ n s p. any_parts (λ z. E z n s) xs ys p)
-        (first_either _ _ a b r i x.says y.says);
+          (λ n s e. elim e [ inl p ↦ any_left (λ z. E z n s) xs ys p | inr p ↦ any_right (λ z. E z n s) xs ys p ])
+          (λ n s p. any_parts (λ z. E z n s) xs ys p)
+          (first_either _ _ a b r i x.says y.says);
     }
 
 pub first_cons : {X : Type 0} (E : X → ℕ → Span → Type 0) (x : X) (ys : List X) (a b r : Option Fault) → IsEarlier a b r → IsFirstOf (E x) a → IsFirstIn E ys b → IsFirstIn E (x ∷ ys) r
@@ -148,9 +148,9 @@ pub first_map : {X Y : Type 0} (E : Y → ℕ → Span → Type 0) (f : X → Y)
 first_map E f xs r h =
     record {
       says = first_same _ _ r
-        (λ n s e. any_mapped (λ z. E z n s) f xs e)
-        (λ n s p. any_map (λ z. E z n s) f xs p)
-        h.says;
+          (λ n s e. any_mapped (λ z. E z n s) f xs e)
+          (λ n s p. any_map (λ z. E z n s) f xs p)
+          h.says;
     }
 
 pub first_list : {X : Type 0} (E : X → ℕ → Span → Type 0) (xs ys : List X) (r : Option Fault) → xs ≡ ys → IsFirstIn E ys r → IsFirstIn E xs r
@@ -208,12 +208,12 @@ first_whole E xs k r h p = rw (← take_all k xs h) p
 pub first_target : (q : Procedure) (t : Occ) (r : Option Fault) → IsFirstOf (ParameterErrors q t) r → IsFirstOf (TargetErrors q (t ∷ [])) r
 first_target q t r h =
     first_same (ParameterErrors q t) (TargetErrors q (t ∷ [])) r
-      (λ n s e. inl (any_here (λ x. ParameterErrors q x n s) t [] e))
-      (λ n s e. elim e [
-        | inl a ↦ elim (any_cases (λ x. ParameterErrors q x n s) t [] a) [ inl e ↦ e | inr b ↦ absurd (any_none (λ x. ParameterErrors q x n s) b) ]
-        | inr (f, b) ↦ absurd (not_repeated s b)
-      ])
-      h
+    (λ n s e. inl (any_here (λ x. ParameterErrors q x n s) t [] e))
+    (λ n s e. elim e [
+      | inl a ↦ elim (any_cases (λ x. ParameterErrors q x n s) t [] a) [ inl e ↦ e | inr b ↦ absurd (any_none (λ x. ParameterErrors q x n s) b) ]
+      | inr (f, b) ↦ absurd (not_repeated s b)
+    ])
+    h
   where
     not_repeated : (s : Span) → RepeatedAt (t ∷ []) s → ⊥
     not_repeated s b = any_none (λ o. o.name ≡ b.here.name) (let first : b.place ≡ 0 = omega (arith, b.within) in subst (λ (k : ℕ). HasName (take k (t ∷ [])) b.here.name) first b.earlier)
@@ -222,13 +222,14 @@ first_target q t r h =
 pub first_no_body : (p : whole.Procedure) (there : Bool) (r : Option Fault) → there ≡ is_some p.body
     → IsFirstOf (λ n s. (there ≡ false) × (n ≡ 11) × (p.close ≡ s)) r → IsFirstOf (λ n s. (n ≡ 11) × NoBody (procedure_of p) s) r
 first_no_body p there r e h = first_same _ _ r
-  (λ n s (a, b, c). (b, (c, none p.body (sym e ∙ a))))
-  (λ n s (b, (c, d)). (e ∙ some p.body d, b, c))
-  h
+    (λ n s (a, b, c). (b, (c, none p.body (sym e ∙ a))))
+    (λ n s (b, (c, d)). (e ∙ some p.body d, b, c))
+    h
   where
     none : (o : Option Body) → is_some o ≡ false → option_map inside_of o ≡ None
     none None a = refl
     none (Some x) a = cc
+
     some : (o : Option Body) → option_map inside_of o ≡ None → is_some o ≡ false
     some None a = refl
     some (Some x) a = cc

@@ -43,13 +43,15 @@ pub finds_left : (xs ys : List Formula) (c : ℕ) → FindsLong xs (Some c) → 
 finds_left xs ys c h = record { says = record { assertion = h.says.assertion; first = with_left HasManyAtoms xs ys h.says.assertion h.says.first; count = h.says.count } }
 
 pub finds_right : (xs ys : List Formula) (found : Option ℕ) → FindsLong xs None → FindsLong ys found → FindsLong (xs ++ ys) found
-finds_right xs ys None h g = record { says = λ j d l. elim (cases_lt j (length xs)) [
-  | inl a ↦ subst (λ (f : Formula). atoms f ≤ 32) (sym (get_or_append_left xs ys d j a)) (h.says j d a)
-  | inr b ↦
-      let same : j ≡ length xs + (j - length xs) = omega arith in
-      let there : get_or (xs ++ ys) j d ≡ get_or ys (j - length xs) d = ap (λ k. get_or (xs ++ ys) k d) same ∙ get_or-append-add xs ys (j - length xs) d in
-      subst (λ (f : Formula). atoms f ≤ 32) (sym there) (g.says (j - length xs) d (omega (arith, length-append xs ys)))
-] }
+finds_right xs ys None h g = record {
+  says = λ j d l. elim (cases_lt j (length xs)) [
+    | inl a ↦ subst (λ (f : Formula). atoms f ≤ 32) (sym (get_or_append_left xs ys d j a)) (h.says j d a)
+    | inr b ↦
+        let same : j ≡ length xs + (j - length xs) = omega arith in
+        let there : get_or (xs ++ ys) j d ≡ get_or ys (j - length xs) d = ap (λ k. get_or (xs ++ ys) k d) same ∙ get_or-append-add xs ys (j - length xs) d in
+        subst (λ (f : Formula). atoms f ≤ 32) (sym there) (g.says (j - length xs) d (omega (arith, length-append xs ys)))
+  ];
+}
 finds_right xs ys (Some c) h g = record {
   says = record {
     assertion = g.says.assertion;

@@ -73,8 +73,8 @@ IsUpdated t name place n = tree.UpdatesBy (λ x y. slice_cmp nat_cmp x.now y.now
 pub table_more : (names : List (List ℕ)) (name : List ℕ) (place : ℕ) (t n : Table) → place ≡ length names → place_in t name ≡ None → IsUpdated t name place n → IsTableOf names t → IsTableOf (names ++ name ∷ []) n
 table_more names name place t n p none u h =
     table_by (names ++ name ∷ []) n (λ q.
-        let new : place_in n q ≡ update bytes_eq (place_in t) name (Some place) q = btree_map_updates_str name t n (Some place) u q in
-        by_test q (bytes_eq name q) refl new)
+    let new : place_in n q ≡ update bytes_eq (place_in t) name (Some place) q = btree_map_updates_str name t n (Some place) u q in
+    by_test q (bytes_eq name q) refl new)
   where
     by_test : (q : List ℕ) (b : Bool) → bytes_eq name q ≡ b → place_in n q ≡ cond (bytes_eq name q) (Some place) (place_in t q) → Finds (names ++ name ∷ []) q (place_in n q)
     by_test q true b e =
@@ -157,6 +157,7 @@ repeat_step number os o found new a x r f e i h g = first_same _ _ r forth back 
     forth : (n : ℕ) (s : Span) → RepeatErrors number os n s ⊎ ((new ≡ false) × (n ≡ number) × (o.span ≡ s)) → RepeatErrors number (os ++ o ∷ []) n s
     forth n s (inl (c, k)) = (c, repeated_still os o s k)
     forth n s (inr (c, d, p)) = (d, subst (RepeatedAt _) p (repeated_here os o (found_named os o.name found f (sym e ∙ c))))
+
     back : (n : ℕ) (s : Span) → RepeatErrors number (os ++ o ∷ []) n s → RepeatErrors number os n s ⊎ ((new ≡ false) × (n ≡ number) × (o.span ≡ s))
     back n s (c, k) = elim (repeated_cases os o s k) [ inl k ↦ inl (c, k) | inr (m, p) ↦ inr (e ∙ named_found os o.name found f m, c, p) ]
 

@@ -48,8 +48,8 @@ abbrev pub ProcedureErrors : List Procedure → Procedure → ℕ → Span → T
 ProcedureErrors ps q n s =
     RepeatErrors 2 (variables_of q) n s
     ⊎ (
-      (Any (λ o. OccurrenceErrors q Requires o n s) (in_formula q.needs) ⊎ Any (λ o. OccurrenceErrors q Ensures o n s) (in_formula q.gives))
-      ⊎ (Any (λ x. SiteErrors ps q x n s) (sites_in_body q.body) ⊎ ((n ≡ 11) × NoBody q s))
+    (Any (λ o. OccurrenceErrors q Requires o n s) (in_formula q.needs) ⊎ Any (λ o. OccurrenceErrors q Ensures o n s) (in_formula q.gives))
+    ⊎ (Any (λ x. SiteErrors ps q x n s) (sites_in_body q.body) ⊎ ((n ≡ 11) × NoBody q s))
     )
 
 -- the errors of fields

@@ -1,4 +1,4 @@
-pub mod Causes
+pub mod Checking
 pub mod Checks
 pub mod Faults
 pub mod LimitChecks

@@ -117,7 +117,7 @@ impl<'a, 'n> Scope<'a, 'n> {
                 let first = self.in_test(Setting::Inside, test);
                 let second = self.in_statements(alloc, in_loop, taken.statements.as_slice())?;
                 let third = self.in_statements(alloc, in_loop, otherwise.statements.as_slice())?;
-                Ok(earlier(first, earlier(second, third)))
+                Ok(earlier(earlier(first, second), third))
             }
             Stmt::While {
                 test,

@@ -4,7 +4,7 @@ ghost use Rattle.std.specs.Prelude.{◌≡◌, IfErr, IfOk, OnOk};
 ghost use Rattle.gh_ast.specs.Plain.{program_of};
 ghost use Rattle.gh_ast.specs.Limits.{KeepsLimits};
 ghost use Rattle.gh_ast.specs.Rules.{IsTyped};
-ghost use Rattle.gh_types.specs.Causes.{IsCause};
+ghost use Rattle.gh_types.specs.Checking.{IsRefusal};
 ghost use Rattle.gh_types.specs.Checks.{ProgramErrors};
 ghost use Rattle.gh_types.specs.Faults.{IsFirstOf};
 
@@ -55,10 +55,10 @@ fn first_fault(alloc: Global, program: &Program) -> Result<Option<Fault>, AllocE
 
 /// Checks the type rules of a program and the limits on its text.
 pub fn check(alloc: Global, program: Program) -> Result<Typed, CheckError>
-    ensures same { IfOk result (λ typed. typed ≡ program) }
+    ensures ok { IfOk result (λ typed. typed ≡ program) }
     ensures rules { OnOk result (IsTyped (program_of program)) }
     ensures limits { OnOk result (KeepsLimits (program_of program)) }
-    ensures refused { IfErr result (IsCause (program_of program)) }
+    ensures err { IfErr result (IsRefusal (program_of program)) }
 {
     if let Some(fault) = first_fault(alloc, &program)? {
         return Err(CheckError::TypeError {

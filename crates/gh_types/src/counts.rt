@@ -19,7 +19,9 @@ pub fn reported(count: usize) -> u32
 pub fn count_variables(procedure: &Procedure) -> u32
     ensures { result ≡ reported (length (variables_of (procedure_of procedure.now))) }
 {
-    let own = reported(procedure.parameters.len()).saturating_add(reported(procedure.results.len()));
+    let own = reported(procedure.parameters.len()).saturating_add(reported(
+        procedure.results.len(),
+    ));
     own.saturating_add(reported(locals(procedure).len()))
 }
 
@@ -56,8 +58,8 @@ pub fn count_atoms(assertion: &Assertion) -> u32
     match assertion {
         Assertion::Star(members) => count_all_atoms(members.as_slice()),
         Assertion::Cases { test, yes, no } => {
-            let branches = count_atoms(yes).saturating_add(count_atoms(no));
-            count_in_test(test).saturating_add(branches)
+            let front = count_in_test(test).saturating_add(count_atoms(yes));
+            front.saturating_add(count_atoms(no))
         }
         Assertion::Emp
         | Assertion::Pure { .. }

@@ -8,6 +8,8 @@ mod fault;
 mod fields;
 mod limits;
 mod names;
-mod procedures;
 mod occurrences;
+mod procedures;
 mod scope;
+#[cfg(test)]
+mod tests;

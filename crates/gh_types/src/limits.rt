@@ -25,7 +25,9 @@ fn long_in_statement(statement: &Stmt) -> Option<u32>
 {
     match statement {
         Stmt::If {
-            taken, otherwise, ..
+            taken,
+            otherwise,
+            ..
         } => {
             if let Some(count) = long_in_statements(taken.statements.as_slice()) {
                 return Some(count);
@@ -33,7 +35,9 @@ fn long_in_statement(statement: &Stmt) -> Option<u32>
             long_in_statements(otherwise.statements.as_slice())
         }
         Stmt::While {
-            invariant, body, ..
+            invariant,
+            body,
+            ..
         } => {
             if let Some(count) = long(invariant) {
                 return Some(count);

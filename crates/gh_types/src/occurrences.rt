@@ -5,7 +5,7 @@ ghost use Rattle.gh_ast.specs.Occurrences.{in_operand, in_expr, in_exprs, in_tes
 ghost use Rattle.gh_types.specs.Checks.{OccurrenceErrors};
 ghost use Rattle.gh_types.specs.Faults.{IsFirstIn};
 
-use crate::fault::{earlier, Fault};
+use crate::fault::{Fault, earlier};
 use crate::scope::{Scope, Setting};
 use gh_ast::{Assertion, Cond, Expr, Operand};
 
@@ -76,10 +76,16 @@ impl<'a, 'n> Scope<'a, 'n> {
         match assertion {
             Assertion::Emp => None,
             Assertion::Pure { left, right, .. } => {
-                earlier(self.in_operand(setting, left), self.in_operand(setting, right))
+                earlier(
+                    self.in_operand(setting, left),
+                    self.in_operand(setting, right),
+                )
             }
             Assertion::PointsTo { at, to } => {
-                earlier(self.in_occurrence(setting, at), self.in_operand(setting, to))
+                earlier(
+                    self.in_occurrence(setting, at),
+                    self.in_operand(setting, to),
+                )
             }
             Assertion::Acc { at } => self.in_occurrence(setting, at),
             Assertion::Lseg { from, to } => {
@@ -87,9 +93,8 @@ impl<'a, 'n> Scope<'a, 'n> {
             }
             Assertion::Star(members) => self.in_assertions(setting, members.as_slice()),
             Assertion::Cases { test, yes, no } => {
-                let branches =
-                    earlier(self.in_assertion(setting, yes), self.in_assertion(setting, no));
-                earlier(self.in_test(setting, test), branches)
+                let first = earlier(self.in_test(setting, test), self.in_assertion(setting, yes));
+                earlier(first, self.in_assertion(setting, no))
             }
         }
     }

@@ -48,10 +48,7 @@ fn in_each<'a, 'n>(
 }
 
 /// The first error in the procedures of a program.
-pub fn in_procedures(
-    alloc: Global,
-    procedures: &[Procedure],
-) -> Result<Option<Fault>, AllocError>
+pub fn in_procedures(alloc: Global, procedures: &[Procedure]) -> Result<Option<Fault>, AllocError>
     ensures { IfOk result (IsFirstOf (λ n s. RepeatErrors 2 (map (λ q. q.name) (map procedure_of procedures.now)) n s
         ⊎ Any (λ q. ProcedureErrors (map procedure_of procedures.now) q n s) (map procedure_of procedures.now))) }
 {

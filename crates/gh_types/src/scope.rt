@@ -74,9 +74,7 @@ impl<'a, 'n> Scope<'a, 'n> {
         ensures { IsTrue result ↔ Forbidden (procedure_of self.now.own.now) setting name.now.name }
     {
         match setting {
-            Setting::Requires => {
-                self.results.has(name) || self.locals.has(name)
-            }
+            Setting::Requires => { self.results.has(name) || self.locals.has(name) }
             Setting::Ensures => self.locals.has(name),
             Setting::Inside => false,
         }

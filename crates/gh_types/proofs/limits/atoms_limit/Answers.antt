@@ -13,8 +13,8 @@ returns-in-Some c =
       procedure = q;
       assertion = c.in-Some.ensures.says.assertion;
       first = first_there HasManyAtomsSomewhere c.args.procedures.now c.loop-procedure.procedure-index c.procedure-item.result (omega arith) c.procedure-item.is
-        (some_long (assertions_of q) _ c.in-Some.ensures)
-        (λ j d l m. none_long (assertions_of (get_or (map procedure_of c.args.procedures.now) j d)) (c.loop-procedure.invariant j d l) m);
+          (some_long (assertions_of q) _ c.in-Some.ensures)
+          (λ j d l m. none_long (assertions_of (get_or (map procedure_of c.args.procedures.now) j d)) (c.loop-procedure.invariant j d l) m);
       first_there = c.in-Some.ensures.says.first;
       span = refl;
       count = c.in-Some.ensures.says.count;

@@ -13,11 +13,11 @@ loop-place-preserved c =
     record {
       table = rw (more, map-append, ← c.bytes.ensures.text) (c.in_ok-is_new.ensures.names _ size c.loop-place.invariant.table);
       first = rw more (
-        repeat_step c.args.number front here (place_in c.loop-place.names.places here.name) c.in_ok-is_new.is_new _ _ _
+          repeat_step c.args.number front here (place_in c.loop-place.names.places here.name) c.in_ok-is_new.is_new _ _ _
           (finds _ _ c.loop-place.invariant.table here.name)
           (rw (← c.bytes.ensures.text) c.in_ok-is_new.ensures.added)
           c.earlier-first.ensures c.loop-place.invariant.first c.unless.ensures
-      );
+          );
     }
 
 pub returns : goal.returns

@@ -28,9 +28,13 @@ in_assertion-returns-in-Star t c = rw (c.in-Star.is, formula_of-Star, ← c.as_s
 
 pub in_assertion-returns-in-Cases : goal.in_assertion-returns-in-Cases
 in_assertion-returns-in-Cases t c =
+    let tests = in_test (test_of c.in-Cases.test) in
+    let first = in_formula (formula_of c.deref.result.now) in
+    let second = in_formula (formula_of c.deref-in-Cases.result.now) in
     rw (c.in-Cases.is, formula_of-Cases, ← c.deref.ensures, ← c.deref-in-Cases.ensures)
-    (first_append _ (in_test (test_of c.in-Cases.test)) _ _ _ _ c.earlier-in-Cases.ensures c.in_test.ensures
-      (first_append _ (in_formula (formula_of c.deref.result.now)) (in_formula (formula_of c.deref-in-Cases.result.now)) _ _ _ c.earlier-branches.ensures c.in_assertion.ensures c.in_assertion-in-Cases.ensures))
+    (first_append _ (tests ++ first) second _ _ _ c.earlier-in-Cases.ensures
+    (first_append _ tests first _ _ _ c.earlier-first.ensures c.in_test.ensures c.in_assertion.ensures)
+    c.in_assertion-in-Cases.ensures)
 
 pub in_assertions-loop-assertion-preserved : goal.in_assertions-loop-assertion-preserved
 in_assertions-loop-assertion-preserved t c =

@@ -9,8 +9,8 @@ pub in_statement-returns-in-Set : goal.in_statement-returns-in-Set
 in_statement-returns-in-Set t c =
     rw (c.in-Set.is, statement_of-Set)
     (first_append _ (assigned (c.in-Set.target ∷ []) ∷ mentioned c.in-Set.target ∷ []) (map mentioned (in_expr c.in-Set.value)) _ _ _ c.earlier.ensures
-      c.in_assigned.ensures
-      (first_map _ mentioned (in_expr c.in-Set.value) _ c.in_expr.ensures))
+    c.in_assigned.ensures
+    (first_map _ mentioned (in_expr c.in-Set.value) _ c.in_expr.ensures))
 
 pub in_statement-returns-in-New : goal.in_statement-returns-in-New
 in_statement-returns-in-New t c = rw (c.in-New.is, statement_of-New) c.in_assigned-in-New.ensures
@@ -19,7 +19,7 @@ pub in_statement-returns-in-Write : goal.in_statement-returns-in-Write
 in_statement-returns-in-Write t c =
     rw (c.in-Write.is, statement_of-Write)
     (first_map _ mentioned (c.in-Write.at ∷ in_expr c.in-Write.value) _
-      (first_cons _ c.in-Write.at (in_expr c.in-Write.value) _ _ _ c.earlier-in-Write.ensures c.in_occurrence.ensures c.in_expr-in-Write.ensures))
+    (first_cons _ c.in-Write.at (in_expr c.in-Write.value) _ _ _ c.earlier-in-Write.ensures c.in_occurrence.ensures c.in_expr-in-Write.ensures))
 
 pub in_statement-returns-in-Free : goal.in_statement-returns-in-Free
 in_statement-returns-in-Free t c =
@@ -35,9 +35,9 @@ in_statement-returns-in_ok-third-in-If t c =
     let first = all_sites_in c.args.in_loop (statements_view c.as_slice-in-If.result.now) in
     let second = all_sites_in c.args.in_loop (statements_view c.as_slice-in-If-2.result.now) in
     rw (c.in-If.is, statement_of-If, part_of-statements c.in-If.taken, part_of-statements c.in-If.otherwise, ← c.as_slice-in-If.ensures.value, ← c.as_slice-in-If-2.ensures.value)
-    (first_append _ (map mentioned tests) (first ++ second) _ _ _ c.earlier-in-If-2.ensures
-      (first_map _ mentioned tests _ c.in_test-first.ensures)
-      (first_append _ first second _ _ _ c.earlier-in-If.ensures c.in_ok-second-in-If.ensures c.in_ok-third-in-If.ensures))
+    (first_append _ (map mentioned tests ++ first) second _ _ _ c.earlier-in-If-2.ensures
+    (first_append _ (map mentioned tests) first _ _ _ c.earlier-in-If.ensures (first_map _ mentioned tests _ c.in_test-first.ensures) c.in_ok-second-in-If.ensures)
+    c.in_ok-third-in-If.ensures)
 
 pub in_statement-returns-in_ok-third-in-While : goal.in_statement-returns-in_ok-third-in-While
 in_statement-returns-in_ok-third-in-While t c =
@@ -46,16 +46,16 @@ in_statement-returns-in_ok-third-in-While t c =
     let body = all_sites_in true (statements_view c.as_slice-in-While.result.now) in
     rw (c.in-While.is, statement_of-While, part_of-statements c.in-While.body, ← c.as_slice-in-While.ensures.value)
     (first_append _ (map mentioned (tests ++ names)) body _ _ _ c.earlier-in-While-2.ensures
-      (first_map _ mentioned (tests ++ names) _ (first_append _ tests names _ _ _ c.earlier-in-While.ensures c.in_test-first-in-While.ensures c.in_assertion-second.ensures))
-      c.in_ok-third-in-While.ensures)
+    (first_map _ mentioned (tests ++ names) _ (first_append _ tests names _ _ _ c.earlier-in-While.ensures c.in_test-first-in-While.ensures c.in_assertion-second.ensures))
+    c.in_ok-third-in-While.ensures)
 
 pub in_statement-returns-in-Return : goal.in_statement-returns-in-Return
 in_statement-returns-in-Return t c =
     let es = c.as_slice-in-Return.result.now in
     rw (c.in-Return.is, statement_of-Return, ← c.as_slice-in-Return.ensures.value)
     (first_cons _ (returned c.args.in_loop c.in-Return.span es) (map mentioned (in_exprs es)) _ _ _ c.earlier-in-Return.ensures
-      c.in_return.ensures
-      (first_map _ mentioned (in_exprs es) _ (rw (c.as_slice-in-Return.ensures.value, ← c.as_slice-in-Return-2.ensures.value) c.in_exprs.ensures)))
+    c.in_return.ensures
+    (first_map _ mentioned (in_exprs es) _ (rw (c.as_slice-in-Return.ensures.value, ← c.as_slice-in-Return-2.ensures.value) c.in_exprs.ensures)))
 
 pub in_statements-loop-statement-preserved : goal.in_statements-loop-statement-preserved
 in_statements-loop-statement-preserved t c =

@@ -8,5 +8,5 @@ pub returns : goal.returns
 returns c =
     let q = procedure_of c.args.self.now.own.now in
     first_cons _ (assigned (c.args.target.now ∷ [])) (mentioned c.args.target.now ∷ []) _ _ _ c.earlier.ensures
-      (first_target q c.args.target.now _ c.in_target.ensures)
-      (first_one _ (mentioned c.args.target.now) _ c.in_occurrence.ensures)
+    (first_target q c.args.target.now _ c.in_target.ensures)
+    (first_one _ (mentioned c.args.target.now) _ c.in_occurrence.ensures)

@@ -11,6 +11,6 @@ pub returns-in-Some : goal.returns-in-Some
 returns-in-Some c =
     let block = c.in-Some.body.block in
     let same : all_sites_in false (statements_view c.as_slice.result.now) ≡ sites_in_body (procedure_of c.args.self.now.own.now).body =
-        ap (all_sites_in false) (ap statements_view c.as_slice.ensures.value ∙ sym (part_of-statements block)) ∙ sym (ap (λ b. sites_in_body (option_map inside_of b)) c.in-Some.is)
+    ap (all_sites_in false) (ap statements_view c.as_slice.ensures.value ∙ sym (part_of-statements block)) ∙ sym (ap (λ b. sites_in_body (option_map inside_of b)) c.in-Some.is)
     in
     subst (λ (xs : List Site). IfOk c.in_statements.result (IsFirstIn (SiteErrors (map procedure_of c.args.self.now.procedures.now) (procedure_of c.args.self.now.own.now)) xs)) same c.in_statements.ensures

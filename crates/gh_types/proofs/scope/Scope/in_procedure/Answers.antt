@@ -16,7 +16,7 @@ returns c =
     let again = subst (λ (os : List Occ). IsFirstOf (RepeatErrors 2 os) c.in_ok-again.again) same c.in_ok-again.ensures in
     let missing = first_no_body c.args.self.now.own.now c.is_some.result c.unless-missing.result c.is_some.ensures c.unless-missing.ensures in
     first_either _ _ _ _ _ c.earlier-2.ensures again (
-      first_either _ _ _ _ _ c.earlier.ensures
-        (first_either _ _ _ _ _ c.earlier-contract.ensures c.in_assertion.ensures.says c.in_assertion-2.ensures.says)
-        (first_either _ _ _ _ _ c.earlier-body.ensures c.in_ok-in_body.ensures.says missing)
+    first_either _ _ _ _ _ c.earlier.ensures
+    (first_either _ _ _ _ _ c.earlier-contract.ensures c.in_assertion.ensures.says c.in_assertion-2.ensures.says)
+    (first_either _ _ _ _ _ c.earlier-body.ensures c.in_ok-in_body.ensures.says missing)
     )

@@ -9,6 +9,6 @@ returns-in_default c =
 pub returns : goal.returns
 returns c =
     meant_got c.args.self.now.procedures.now c.args.name.now.name c.in-Some.place c.get.result
-      (c.args.self.now.firsts_are.present c.args.name.now.name c.in-Some.place (rw (← c.bytes.ensures.text) (sym c.in-Some.ensures)))
-      c.get.ensures.lookup.1
-      c.get.ensures.lookup.2
+    (c.args.self.now.firsts_are.present c.args.name.now.name c.in-Some.place (rw (← c.bytes.ensures.text) (sym c.in-Some.ensures)))
+    c.get.ensures.lookup.1
+    c.get.ensures.lookup.2

@@ -1,0 +1,13 @@
+-- Why a program isn't admitted.
+use Rattle.std.specs.Prelude.{⊤}
+use Rattle.gh_ast.specs.Plain.{Program}
+use Rattle.gh_ast.specs.Rules.{IsTyped, IsFirstBroken}
+use Rattle.gh_ast.specs.Limits.{IsLimit}
+use Rattle.gh_types.specs.declared.check.CheckError.{CheckError}
+use Rattle.gh_types.specs.declared.check.CheckError.TheVariants.{TypeError, Limit, OutOfMemory}
+
+-- the cause of a refusal: the first of all broken rules; where none is broken, the limit that is passed; want of memory at any time
+abbrev pub IsRefusal : Program → CheckError → Type 0
+IsRefusal p (TypeError number span) = IsFirstBroken p number span
+IsRefusal p (Limit limit) = IsTyped p × IsLimit p limit
+IsRefusal p OutOfMemory = ⊤
