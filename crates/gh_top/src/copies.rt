@@ -14,6 +14,10 @@ use crate::variables::Variables;
 use gh_ast::{Assertion, Expr, Operand, Procedure, Stmt};
 use std::alloc::{AllocError, Global};
 
+// A procedure with more steps or more terms isn't judged.
+const MOST_STEPS: usize = 256;
+const MOST_TERMS: usize = 20;
+
 // Whether an assertion is made of `emp` and comparisons.
 #[cycle(purity)]
 fn is_pure(assertion: &Assertion) -> bool
@@ -233,7 +237,7 @@ fn are_few_copies(statements: &[Stmt]) -> bool
     if !are_copies(statements) {
         return false;
     }
-    statements.len() <= 256
+    statements.len() <= MOST_STEPS
 }
 
 // Whether the contracts are comparisons and the body is a few copies.
@@ -337,7 +341,7 @@ pub fn judge(alloc: Global, procedure: &Procedure) -> Result<Judgement, AllocErr
     let variables = Variables::new(alloc, procedure)?;
     let comparisons = compare(alloc, procedure, &variables)?;
     let origins = origins(alloc, &comparisons)?;
-    if origins.len() > 20 {
+    if origins.len() > MOST_TERMS {
         return Ok(Judgement::NotBuilt);
     }
     decide(alloc, variables.count(), &origins, comparisons)

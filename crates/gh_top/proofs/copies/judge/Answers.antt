@@ -6,8 +6,8 @@ use Rattle.gh_top.proofs.copies.judge.Goals as goal
 pub returns-then-not-has_form : goal.returns-then-not-has_form
 returns-then-not-has_form c = λ P h. (let e : c.has_form.result ≡ true = c.has_form.ensures.1 (form_of P (procedure_of c.args.procedure.now) h) in cc)
 
-pub returns-then-len-gt20 : goal.returns-then-len-gt20
-returns-then-len-gt20 c =
+pub returns-then-len-gt-MOST_TERMS : goal.returns-then-len-gt-MOST_TERMS
+returns-then-len-gt-MOST_TERMS c =
     let p = procedure_of c.args.procedure.now in
     let os = c.in_ok-origins.origins in
     let k = c.in_ok-comparisons.comparisons in
