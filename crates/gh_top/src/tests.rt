@@ -4,7 +4,12 @@ ghost use Rattle.std.specs.Prelude.{◌↔◌, All, IsTrue};
 ghost use Rattle.gh_top.specs.Classes.{IsWithin};
 
 use crate::classes::{Literal, countermodel};
+use crate::copies::{Judgement, decide_form};
+use gh_ast::{Assertion, Block, Body, Expr, Occ, Operand, Procedure, Stmt};
+use gh_base::name::Name;
+use gh_base::place::Span;
 use std::alloc::{AllocError, Global};
+use std::process::Abort;
 
 fn same(left: usize, right: usize) -> Literal {
     Literal {
@@ -73,6 +78,80 @@ fn which_comparisons_follow(rt: HostRuntime) -> Result<(), AllocError> {
     for (needs, gives, follow) in rows {
         let answer = follow_among_five(rt.alloc(), needs, gives)?;
         assert!(rt; answer == Some(follow));
+    }
+    Ok(())
+}
+
+fn here() -> Span {
+    Span { line: 1, col: 1 }
+}
+
+fn occurrence(rt: &impl Abort, alloc: Global, name: &str) -> Result<Occ, AllocError> {
+    Ok(Occ {
+        name: Name::new(alloc, name)?.expect(rt, "a name"),
+        span: here(),
+    })
+}
+
+fn occurrences(rt: &impl Abort, alloc: Global, name: &str) -> Result<Vec<Occ>, AllocError> {
+    let mut list = Vec::new(alloc);
+    list.push(occurrence(rt, alloc, name)?)?;
+    Ok(list)
+}
+
+fn variable(rt: &impl Abort, alloc: Global, name: &str) -> Result<Operand, AllocError> {
+    Ok(Operand::Var(occurrence(rt, alloc, name)?))
+}
+
+// What is decided of a procedure that takes `a`, requires that it isn't null, gives `b` after
+// `b := a;`, and ensures that `b` is null or that it isn't.
+fn decided(rt: &impl Abort, alloc: Global, null: bool) -> Result<Judgement, AllocError> {
+    let mut statements = Vec::new(alloc);
+    statements.push(Stmt::Set {
+        target: occurrence(rt, alloc, "b")?,
+        value: Expr::Plain(variable(rt, alloc, "a")?),
+    })?;
+    let procedure = Procedure {
+        name: occurrence(rt, alloc, "p")?,
+        parameters: occurrences(rt, alloc, "a")?,
+        results: occurrences(rt, alloc, "b")?,
+        needs: Assertion::Pure {
+            left: variable(rt, alloc, "a")?,
+            equal: false,
+            right: Operand::Null { span: here() },
+        },
+        gives: Assertion::Pure {
+            left: Operand::Null { span: here() },
+            equal: null,
+            right: variable(rt, alloc, "b")?,
+        },
+        body: Some(Body {
+            locals: Vec::new(alloc),
+            block: Block {
+                statements,
+                close: here(),
+            },
+        }),
+        close: here(),
+    };
+    decide_form(alloc, &procedure)
+}
+
+#[test]
+fn a_copy_that_keeps_what_is_ensured(rt: HostRuntime) -> Result<(), AllocError> {
+    assert!(rt; matches!(decided(&rt, rt.alloc(), false)?, Judgement::Valid));
+    Ok(())
+}
+
+#[test]
+fn a_copy_that_does_not(rt: HostRuntime) -> Result<(), AllocError> {
+    match decided(&rt, rt.alloc(), true)? {
+        // any value of `a` that isn't 0 fails
+        Judgement::Refuted(values) => {
+            assert!(rt; values.len() == 2);
+            assert!(rt; values[0] != 0);
+        }
+        _ => assert!(rt; false),
     }
     Ok(())
 }
