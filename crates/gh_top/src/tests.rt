@@ -4,10 +4,13 @@ ghost use Rattle.std.specs.Prelude.{◌↔◌, All, IsTrue};
 ghost use Rattle.gh_top.specs.Classes.{IsWithin};
 
 use crate::classes::{Literal, countermodel};
-use crate::copies::{Judgement, decide_form};
+use crate::copies::{Judgement, decide_form, statements};
+use crate::states::push_all;
+use crate::variables::Variables;
 use gh_ast::{Assertion, Block, Body, Expr, Occ, Operand, Procedure, Stmt};
 use gh_base::name::Name;
 use gh_base::place::Span;
+use gh_base::text::Text;
 use std::alloc::{AllocError, Global};
 use std::process::Abort;
 
@@ -103,15 +106,15 @@ fn variable(rt: &impl Abort, alloc: Global, name: &str) -> Result<Operand, Alloc
     Ok(Operand::Var(occurrence(rt, alloc, name)?))
 }
 
-// What is decided of a procedure that takes `a`, requires that it isn't null, gives `b` after
-// `b := a;`, and ensures that `b` is null or that it isn't.
-fn decided(rt: &impl Abort, alloc: Global, null: bool) -> Result<Judgement, AllocError> {
+// A procedure that takes `a`, requires that it isn't null, gives `b` after `b := a;`, and ensures
+// that `b` is null or that it isn't.
+fn copying(rt: &impl Abort, alloc: Global, null: bool) -> Result<Procedure, AllocError> {
     let mut statements = Vec::new(alloc);
     statements.push(Stmt::Set {
         target: occurrence(rt, alloc, "b")?,
         value: Expr::Plain(variable(rt, alloc, "a")?),
     })?;
-    let procedure = Procedure {
+    Ok(Procedure {
         name: occurrence(rt, alloc, "p")?,
         parameters: occurrences(rt, alloc, "a")?,
         results: occurrences(rt, alloc, "b")?,
@@ -133,25 +136,60 @@ fn decided(rt: &impl Abort, alloc: Global, null: bool) -> Result<Judgement, Allo
             },
         }),
         close: here(),
-    };
-    decide_form(alloc, &procedure)
+    })
 }
 
 #[test]
 fn a_copy_that_keeps_what_is_ensured(rt: HostRuntime) -> Result<(), AllocError> {
-    assert!(rt; matches!(decided(&rt, rt.alloc(), false)?, Judgement::Valid));
+    let procedure = copying(&rt, rt.alloc(), false)?;
+    assert!(rt; matches!(decide_form(rt.alloc(), &procedure)?, Judgement::Valid));
     Ok(())
 }
 
 #[test]
 fn a_copy_that_does_not(rt: HostRuntime) -> Result<(), AllocError> {
-    match decided(&rt, rt.alloc(), true)? {
+    let procedure = copying(&rt, rt.alloc(), true)?;
+    match decide_form(rt.alloc(), &procedure)? {
         // any value of `a` that isn't 0 fails
         Judgement::Refuted(values) => {
             assert!(rt; values.len() == 2);
             assert!(rt; values[0] != 0);
         }
         _ => assert!(rt; false),
+    }
+    Ok(())
+}
+
+// The states of a procedure from null's value and those of its variables, where there are as many.
+fn drawn(
+    alloc: Global,
+    procedure: &Procedure,
+    values: &mut [usize],
+) -> Result<Option<Text>, AllocError> {
+    let variables = Variables::new(alloc, procedure)?;
+    if variables.places() != values.len() {
+        return Ok(None);
+    }
+    let mut out = Text::new(alloc);
+    let mut digits = String::new(alloc);
+    push_all(
+        &mut out,
+        &mut digits,
+        &variables,
+        values,
+        statements(procedure),
+    )?;
+    Ok(Some(out))
+}
+
+#[test]
+fn states_of_a_copy(rt: HostRuntime) -> Result<(), AllocError> {
+    let procedure = copying(&rt, rt.alloc(), true)?;
+    let mut values = [0usize, 12, 3];
+    let text = b"state 0\nstore a=12 b=3\nheap\nstate 1\nstore a=12 b=12\nheap\n";
+    match drawn(rt.alloc(), &procedure, &mut values)? {
+        Some(out) => assert!(rt; out.bytes() == text.as_slice()),
+        None => assert!(rt; false),
     }
     Ok(())
 }
