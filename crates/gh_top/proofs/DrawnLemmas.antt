@@ -1,26 +1,25 @@
 -- The text of the states of a run of copies.
-use Rattle.std.proofs.Common.{◌≡◌, ◌≢◌, ◌⊎◌, ℕ, zero, suc, ◌+◌, ◌<◌, ◌≤◌, Bool, true, false, List, [], ◌∷◌, ◌++◌, get_or, drop, take, length, Option, Some, None, sym, refl, ap, ◌∙◌, subst, inl, inr, arith, append_assoc, drop-cons, add-one}
-use Rattle.std.specs.Prelude.{map, position, Contains, codes, slice_get}
+use Rattle.std.proofs.Common.{◌≡◌, ℕ, suc, ◌+◌, ◌<◌, List, [], ◌∷◌, ◌++◌, get_or, drop, length, Some, sym, refl, ap, ◌∙◌, subst, inl, inr, arith, append_assoc, drop-cons, add-one}
+use Rattle.std.specs.Prelude.{codes, slice_get}
 use Rattle.std.specs.List.{flat_map}
 use Rattle.std.specs.Option.{option_map_or}
 use Rattle.std.specs.Str.{bytes_eq}
 use Rattle.std.specs.Ordering.{nat_cmp}
 use Rattle.std.specs.Fmt.{decimal}
-use Rattle.std.specs.FinMap.{entries, len-empty, len-entries, empty}
+use Rattle.std.specs.FinMap.{entries, len-empty, len-entries}
 use Rattle.std.proofs.Math.ListN.{length-set, length-take}
 use Rattle.std.proofs.lemmas.Option.{get_or_from_slice_get}
 use Rattle.std.proofs.lemmas.Bool.{cases_order, true≢false}
 use Rattle.std.proofs.lemmas.List.{get_or-map, get_or_default, get_or-take, length-map, append-nil}
 use Rattle.std.proofs.lemmas.List.Quantifiers.{position-Some}
 use Rattle.gh_ast.specs.declared.Occ.{Occ}
-use Rattle.gh_ast.specs.declared.Expr.TheVariants.{Plain, Read}
-use Rattle.gh_ast.specs.Plain.{Statement, set, Statements, no_statements, statement_first, Procedure, Program}
+use Rattle.gh_ast.specs.declared.Expr.TheVariants.{Plain}
+use Rattle.gh_ast.specs.Plain.{set, Statements, no_statements, statement_first, Procedure}
 use Rattle.gh_ast.specs.Programs.{Name, names, variable_names, body_of}
 use Rattle.gh_ast.specs.Occurrences.{variables_of}
 use Rattle.gh_ast.specs.Rules.{RepeatedAt, duplicate_name}
 use Rattle.gh_trace.specs.Traces.{State}
 use Rattle.gh_draw.specs.Drawings.{line_end, value_text, cell_text, state_text, states_text}
-use Rattle.gh_assert.specs.Heaps.{Heap}
 use Rattle.gh_top.specs.Copies.{AreCopies, IsOfTyped, no_cells, store_of, state_of, copied, following, trace_of}
 use Rattle.gh_top.specs.Places.{place_of, source_of, after_copy}
 use Rattle.gh_top.specs.Drawn.{values_text, state_drawn, states_drawn}

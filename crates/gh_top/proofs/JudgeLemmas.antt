@@ -24,7 +24,7 @@ use Rattle.gh_top.specs.declared.copies.Judgement.TheVariants.{NotBuilt, Valid, 
 use Rattle.gh_top.specs.Classes.{Values, Holds, Follow, Counters, IsWithin}
 use Rattle.gh_top.specs.Copies.{AreCopies, IsOfCopies, IsOfTyped, copying, only_condition, no_cells, store_of, state_of, following, trace_of}
 use Rattle.gh_top.specs.Places.{place_of, sides, number_of, numbered, value_at, AreValues, all_listed, at_first, after_copies, needs_of, sources_of, gives_of, origins_of}
-use Rattle.gh_top.specs.Judgements.{IsJudgement, HasForm, IsDecision}
+use Rattle.gh_top.specs.Judgements.{IsJudgement, HasForm, IsDecision, IsDecided}
 use Rattle.gh_top.proofs.PlaceLemmas.{position_cases, place_known, number_found, position_is, all_listed_here, all_listed_first}
 use Rattle.gh_top.proofs.CopyLemmas.{Agree, All-append_parts, to_literals, from_literals}
 use Rattle.gh_top.proofs.TypedLemmas.{needs_known, gives_known, body_known}
@@ -170,11 +170,11 @@ of_copies P p t form few = record {
       omega (arith, h, few, terms_counted P p t form.needs form.gives form.body.copies);
 }
 
--- a decision of the comparisons judges the procedure
-pub judged : (p : Procedure) (j : Judgement) → IsOfTyped p → HasForm p → length (origins_of p) ≤ 20 → IsDecision (length (variable_names p)) (origins_of p) (needs_of p) (gives_of p) j → IsJudgement p j
-judged p NotBuilt t form few d = absurd d
-judged p Valid t form few d = λ P. (of_copies P p t form few, λ c m. subst (IsConditionValid P) (only p form.body.copies c m) (valid_condition P p t form d))
-judged p (Refuted us) t form few (vs, counters, values) = λ P. (
+-- what is decided of a typed procedure judges it
+pub judged : (p : Procedure) (j : Judgement) → IsOfTyped p → IsDecided p j → IsJudgement p j
+judged p NotBuilt t d = λ P c. too_many_terms P p t (d (form_of P p c)) c
+judged p Valid t (form, few, d) = λ P. (of_copies P p t form few, λ c m. subst (IsConditionValid P) (only p form.body.copies c m) (valid_condition P p t form d))
+judged p (Refuted us) t (form, few, (vs, counters, values)) = λ P. (
   of_copies P p t form few,
   record {
     all = values.all;
@@ -182,6 +182,10 @@ judged p (Refuted us) t form few (vs, counters, values) = λ P. (
     refutes = λ c m. subst (λ k. Refutes P k (trace_of p us.items)) (only p form.body.copies c m) (refuted_condition P p vs us.items t form counters values);
   },
 )
+
+pub judged_answer : {E : Type 0} (p : Procedure) (r : Result Judgement E) → IsOfTyped p → IfOk r (IsDecided p) → IfOk r (IsJudgement p)
+judged_answer p (Ok j) t d = judged p j t d
+judged_answer p (Err e) t d = d
 
 -- numbers of places are numbers of listed places
 pub all_within : (os : List ℕ) (ls : List Literal) → 0 < length os → All (IsWithin (length os)) (map (numbered os) ls)
@@ -212,15 +216,20 @@ origins_are p ns ss gs os a b c e =
     ∙ (ap (λ zs. all_listed (flat_map sides (needs_of p) ++ zs ++ flat_map sides gs) (0 ∷ [])) b
     ∙ ap (λ zs. all_listed (flat_map sides (needs_of p) ++ sources_of p ++ flat_map sides zs) (0 ∷ [])) c))
 
-judged_ok : {E : Type 0} (p : Procedure) (r : Result Judgement E) → IsOfTyped p → HasForm p → length (origins_of p) ≤ 20
-    → IfOk r (IsDecision (length (variable_names p)) (origins_of p) (needs_of p) (gives_of p)) → IfOk r (IsJudgement p)
-judged_ok p (Ok j) t form few d = judged p j t form few d
-judged_ok p (Err e) t form few d = d
+decided : (p : Procedure) (j : Judgement) → HasForm p → length (origins_of p) ≤ 20 → IsDecision (length (variable_names p)) (origins_of p) (needs_of p) (gives_of p) j → IsDecided p j
+decided p NotBuilt form few d = absurd d
+decided p Valid form few d = (form, few, d)
+decided p (Refuted us) form few d = (form, few, d)
 
-pub judged_answer : {E : Type 0} (p : Procedure) (r : Result Judgement E) (count : ℕ) (os : List ℕ) (ns gs : List Literal) → IsOfTyped p → HasForm p → length os ≤ 20
-    → count ≡ length (variable_names p) → os ≡ origins_of p → ns ≡ needs_of p → gs ≡ gives_of p → IfOk r (IsDecision count os ns gs) → IfOk r (IsJudgement p)
-judged_answer p r count os ns gs t form few a b c d h =
-    judged_ok p r t form (subst (λ zs. length zs ≤ 20) b few)
+decided_ok : {E : Type 0} (p : Procedure) (r : Result Judgement E) → HasForm p → length (origins_of p) ≤ 20
+    → IfOk r (IsDecision (length (variable_names p)) (origins_of p) (needs_of p) (gives_of p)) → IfOk r (IsDecided p)
+decided_ok p (Ok j) form few d = decided p j form few d
+decided_ok p (Err e) form few d = d
+
+pub decided_answer : {E : Type 0} (p : Procedure) (r : Result Judgement E) (count : ℕ) (os : List ℕ) (ns gs : List Literal) → HasForm p → length os ≤ 20
+    → count ≡ length (variable_names p) → os ≡ origins_of p → ns ≡ needs_of p → gs ≡ gives_of p → IfOk r (IsDecision count os ns gs) → IfOk r (IsDecided p)
+decided_answer p r count os ns gs form few a b c d h =
+    decided_ok p r form (subst (λ zs. length zs ≤ 20) b few)
     (subst (λ zs. IfOk r (IsDecision (length (variable_names p)) (origins_of p) (needs_of p) zs)) d
     (subst (λ zs. IfOk r (IsDecision (length (variable_names p)) (origins_of p) zs gs)) c
     (subst (λ zs. IfOk r (IsDecision (length (variable_names p)) zs ns gs)) b (subst (λ n. IfOk r (IsDecision n os ns gs)) a h))))

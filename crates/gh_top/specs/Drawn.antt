@@ -1,7 +1,7 @@
 -- The text of the states of a run of copies, from the values at the places of the variables.
 use Rattle.std.specs.Prelude.{ℕ, ◌+◌, List, [], ◌∷◌, ◌++◌, codes, drop}
 use Rattle.std.specs.Fmt.{decimal}
-use Rattle.gh_ast.specs.declared.Expr.TheVariants.{Plain, Read}
+use Rattle.gh_ast.specs.declared.Expr.TheVariants.{Plain}
 use Rattle.gh_ast.specs.Plain.{Statement, set, Statements, no_statements, statement_first}
 use Rattle.gh_ast.specs.Programs.{Name}
 use Rattle.gh_draw.specs.Drawings.{line_end}

@@ -1,13 +1,13 @@
 -- What is answered about a procedure whose contracts and body may be comparisons and copies.
-use Rattle.std.specs.Prelude.{ℕ, ◌≤◌, List, length, map}
+use Rattle.std.specs.Prelude.{ℕ, ◌<◌, ◌≤◌, List, length, map}
 use Rattle.gh_ast.specs.Plain.{Statements, Procedure, Program}
-use Rattle.gh_ast.specs.Programs.{body_of}
+use Rattle.gh_ast.specs.Programs.{body_of, variable_names}
 use Rattle.gh_top.specs.declared.classes.Literal.{Literal}
 use Rattle.gh_top.specs.declared.copies.Judgement.{Judgement}
 use Rattle.gh_top.specs.declared.copies.Judgement.TheVariants.{NotBuilt, Valid, Refuted}
 use Rattle.gh_top.specs.Classes.{Follow, Counters}
 use Rattle.gh_top.specs.Copies.{IsPure, AreCopies, IsOfCopies, IsValidProcedure, RefutesProcedure, copying}
-use Rattle.gh_top.specs.Places.{numbered, AreValues}
+use Rattle.gh_top.specs.Places.{numbered, AreValues, needs_of, gives_of, origins_of}
 
 -- whatever the program is: not a procedure of copies; or valid; or refuted by the values
 abbrev pub IsJudgement : Procedure → Judgement → Type 0
@@ -31,3 +31,8 @@ abbrev pub IsDecision : ℕ → List ℕ → List Literal → List Literal → J
 IsDecision count os needs gives NotBuilt = ⊥
 IsDecision count os needs gives Valid = Follow (map (numbered os) needs) (map (numbered os) gives)
 IsDecision count os needs gives (Refuted us) = (vs : List ℕ) × Counters (length os) (map (numbered os) needs) (map (numbered os) gives) vs × AreValues count os vs us.items
+
+-- what the form of a procedure and its comparisons decide
+abbrev pub IsDecided : Procedure → Judgement → Type 0
+IsDecided p NotBuilt = HasForm p → 20 < length (origins_of p)
+IsDecided p j = HasForm p × (length (origins_of p) ≤ 20) × IsDecision (length (variable_names p)) (origins_of p) (needs_of p) (gives_of p) j

@@ -7,12 +7,17 @@ ghost use Rattle.gh_top.specs.Copies.{IsPure, ArePure, IsCopy, AreCopies, IsOfTy
 ghost use Rattle.std.specs.List.{flat_map};
 ghost use Rattle.gh_top.specs.Places as Places;
 ghost use Rattle.gh_top.specs.Places.{source_of, literals, all_literals, after_copies, sources, sides, listed, all_listed, AreValues, needs_of, sources_of, gives_of};
-ghost use Rattle.gh_top.specs.Judgements.{AreFewCopies, HasForm, IsDecision, IsJudgement};
+ghost use Rattle.gh_top.specs.Judgements.{AreFewCopies, HasForm, IsDecided, IsDecision, IsJudgement};
 
 use crate::classes::{Literal, countermodel, separate};
 use crate::variables::Variables;
 use gh_ast::{Assertion, Expr, Operand, Procedure, Stmt};
 use std::alloc::{AllocError, Global};
+
+// A procedure with more steps or more terms isn't judged.
+const MOST_STEPS: usize = 256;
+
+const MOST_TERMS: usize = 20;
 
 // Whether an assertion is made of `emp` and comparisons.
 #[cycle(purity)]
@@ -233,7 +238,7 @@ fn are_few_copies(statements: &[Stmt]) -> bool
     if !are_copies(statements) {
         return false;
     }
-    statements.len() <= 256
+    statements.len() <= MOST_STEPS
 }
 
 // Whether the contracts are comparisons and the body is a few copies.
@@ -325,11 +330,9 @@ fn decide(
     }
 }
 
-/// Decides a procedure of copies: whether its condition is valid, or the values of the variables
-/// from which it fails.
-pub fn judge(alloc: Global, procedure: &Procedure) -> Result<Judgement, AllocError>
-    requires { IsOfTyped (procedure_of procedure.now) }
-    ensures { IfOk result (λ j. IsJudgement (procedure_of procedure.now) j) }
+/// What the form of a procedure and its comparisons decide, whether it keeps the type rules or not.
+pub fn decide_form(alloc: Global, procedure: &Procedure) -> Result<Judgement, AllocError>
+    ensures { IfOk result (λ j. IsDecided (procedure_of procedure.now) j) }
 {
     if !has_form(procedure) {
         return Ok(Judgement::NotBuilt);
@@ -337,10 +340,22 @@ pub fn judge(alloc: Global, procedure: &Procedure) -> Result<Judgement, AllocErr
     let variables = Variables::new(alloc, procedure)?;
     let comparisons = compare(alloc, procedure, &variables)?;
     let origins = origins(alloc, &comparisons)?;
-    if origins.len() > 20 {
+    if origins.len() > MOST_TERMS {
         return Ok(Judgement::NotBuilt);
     }
     decide(alloc, variables.count(), &origins, comparisons)
+}
+
+/// Decides a procedure of copies: whether its condition is valid, or the values of the variables
+/// from which it fails.
+///
+/// The comparisons are decided over classes of equal places: each place where a value comes from has
+/// a class, and null has one.
+pub fn judge(alloc: Global, procedure: &Procedure) -> Result<Judgement, AllocError>
+    requires { IsOfTyped (procedure_of procedure.now) }
+    ensures { IfOk result (λ j. IsJudgement (procedure_of procedure.now) j) }
+{
+    decide_form(alloc, procedure)
 }
 
 /// A procedure of copies has one condition: from its entry through all copies to its last brace.

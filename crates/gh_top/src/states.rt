@@ -88,8 +88,8 @@ fn copy(variables: &Variables, values: &mut [usize], statement: &Stmt)
     }
 }
 
-// Writes the states before, between and after some copies.
-fn push_all(
+/// Writes the states before, between and after some copies.
+pub fn push_all(
     out: &mut Text,
     digits: &mut String,
     variables: &Variables,

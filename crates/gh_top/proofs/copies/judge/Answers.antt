@@ -1,34 +1,6 @@
-use Rattle.std.proofs.Common.{◌≡◌, ◌<◌, ◌≤◌, true, ◌∙◌, sym, ap, subst, length, arith}
 use Rattle.gh_ast.specs.Plain.{procedure_of}
-use Rattle.gh_top.proofs.JudgeLemmas.{form_of, too_many_terms, judged_answer, origins_are, null_first}
+use Rattle.gh_top.proofs.JudgeLemmas.{judged_answer}
 use Rattle.gh_top.proofs.copies.judge.Goals as goal
 
-pub returns-then-not-has_form : goal.returns-then-not-has_form
-returns-then-not-has_form c = λ P h. (let e : c.has_form.result ≡ true = c.has_form.ensures.1 (form_of P (procedure_of c.args.procedure.now) h) in cc)
-
-pub returns-then-len-gt20 : goal.returns-then-len-gt20
-returns-then-len-gt20 c =
-    let p = procedure_of c.args.procedure.now in
-    let os = c.in_ok-origins.origins in
-    let k = c.in_ok-comparisons.comparisons in
-    let e = origins_are p k.needs.items k.sources.items k.gives.items os.items c.in_ok-comparisons.ensures.needs c.in_ok-comparisons.ensures.sources c.in_ok-comparisons.ensures.gives c.in_ok-origins.ensures in
-    let more : 20 < length os.items = omega (arith, os.ok.0) in
-    λ P h. too_many_terms P p c.requires (subst (λ zs. 20 < length zs) e more) h
-
-pub decide-requires-clause-some : goal.decide-requires-clause-some
-decide-requires-clause-some c =
-    let p = procedure_of c.args.procedure.now in
-    let os = c.in_ok-origins.origins in
-    let k = c.in_ok-comparisons.comparisons in
-    let e = origins_are p k.needs.items k.sources.items k.gives.items os.items c.in_ok-comparisons.ensures.needs c.in_ok-comparisons.ensures.sources c.in_ok-comparisons.ensures.gives c.in_ok-origins.ensures in
-    subst (λ zs. 0 < length zs) (sym (c.deref.ensures.value ∙ e)) (null_first p).0
-
 pub returns : goal.returns
-returns c =
-    let p = procedure_of c.args.procedure.now in
-    let os = c.in_ok-origins.origins in
-    let k = c.in_ok-comparisons.comparisons in
-    let e = origins_are p k.needs.items k.sources.items k.gives.items os.items c.in_ok-comparisons.ensures.needs c.in_ok-comparisons.ensures.sources c.in_ok-comparisons.ensures.gives c.in_ok-origins.ensures in
-    let few : length c.deref.result.now ≤ 20 = omega arith in
-    judged_answer p c.decide.result c.count.result c.deref.result.now k.needs.items k.gives.items c.requires (c.has_form.ensures.0 c.if-not-has_form.false) few
-    (c.count.ensures ∙ ap length c.in_ok-variables.ensures) (c.deref.ensures.value ∙ e) c.in_ok-comparisons.ensures.needs c.in_ok-comparisons.ensures.gives c.decide.ensures
+returns c = judged_answer (procedure_of c.args.procedure.now) c.decide_form.result c.requires c.decide_form.ensures

@@ -1,4 +1,4 @@
-use Rattle.std.proofs.Common.{◌≡◌, ◌++◌, ◌∷◌, ◌∙◌, ap, sym, subst}
+use Rattle.std.proofs.Common.{◌≡◌, ◌++◌, ◌∷◌, ◌∙◌, ap, subst}
 use Rattle.std.specs.Prelude.{OnOk}
 use Rattle.gh_ast.specs.Plain.{procedure_of, statements_view}
 use Rattle.gh_ast.specs.Programs.{variable_names}

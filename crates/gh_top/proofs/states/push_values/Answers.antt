@@ -1,4 +1,4 @@
-use Rattle.std.proofs.Common.{◌≡◌, ◌∙◌, arith, get_or}
+use Rattle.std.proofs.Common.{◌∙◌, arith}
 use Rattle.gh_top.proofs.DrawnLemmas.{values_turn}
 use Rattle.gh_top.proofs.states.push_values.Goals as goal
 
