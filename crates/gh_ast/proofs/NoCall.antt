@@ -1,5 +1,5 @@
 -- Where a step of an assignment or of a call fails, no statement stands at the front.
-use Rattle.std.proofs.Common.{◌≡◌, List, [], ◌∷◌, ◌++◌, true, refl, subst, sym}
+use Rattle.std.proofs.Common.{◌≡◌, List, ◌∷◌, true, refl}
 use Rattle.gh_base.specs.declared.place.Span.{Span}
 use Rattle.gh_ast.specs.declared.Occ.{Occ}
 use Rattle.gh_ast.specs.declared.Operand.TheVariants as operand
@@ -7,9 +7,9 @@ use Rattle.gh_ast.specs.declared.Expr.{Expr}
 use Rattle.gh_ast.specs.declared.Expr.TheVariants as expr
 use Rattle.gh_ast.specs.declared.sign.Sign.TheVariants as sg
 use Rattle.gh_ast.specs.declared.sign.Keyword.TheVariants as kw
-use Rattle.gh_ast.specs.Tokens.{Token, named, key, sign}
-use Rattle.gh_ast.specs.Grammar.{NoSign, NoKey, SpellsExpr, plain, variable, SpellsValues, SpellsTargets, last_target, next_target, SpellsStatement, a_set, a_new, a_write, a_free, bare_call, a_call, an_if, an_if_else, a_while, a_return}
-use Rattle.gh_ast.proofs.OneValue.{one_expr, one_values}
+use Rattle.gh_ast.specs.Tokens.{Token, named, sign}
+use Rattle.gh_ast.specs.Grammar.{NoSign, NoKey, SpellsExpr, plain, variable, SpellsValues, SpellsTargets, last_target, SpellsStatement, a_set, a_new, a_call}
+use Rattle.gh_ast.proofs.OneValue.{one_expr}
 use Rattle.gh_ast.proofs.OneStatement.{tail_one, one_targets, no_call_value}
 use Rattle.gh_ast.proofs.NoStatement.{NoName, Nothing}
 

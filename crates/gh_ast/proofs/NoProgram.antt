@@ -1,5 +1,5 @@
 -- Where a step of a list, of a procedure or of a program fails, none stands at the front.
-use Rattle.std.proofs.Common.{◌≡◌, ℕ, List, [], ◌∷◌, ◌++◌, Option, Some, None, refl, subst, sym}
+use Rattle.std.proofs.Common.{◌≡◌, ℕ, List, ◌∷◌, Option, refl, subst, sym}
 use Rattle.std.specs.Prelude.{codes}
 use Rattle.gh_base.specs.declared.place.Span.{Span}
 use Rattle.gh_ast.specs.declared.Occ.{Occ}
@@ -9,9 +9,9 @@ use Rattle.gh_ast.specs.declared.sign.Keyword.{Keyword}
 use Rattle.gh_ast.specs.declared.sign.Keyword.TheVariants as kw
 use Rattle.gh_ast.specs.Plain.{Formula, Statement, Statements, Part, Inside, Procedure, Program}
 use Rattle.gh_ast.specs.Tokens.{Token, named, key, sign}
-use Rattle.gh_ast.specs.Grammar.{NoSign, NoKey, SpellsClause, SpellsTargets, last_target, next_target, SpellsStatement, SpellsBlock, a_block, SpellsStatements, no_more, one_more, SpellsLocals, last_local, next_local, SpellsInside, no_locals, some_locals, SpellsParams, last_param, next_param, SpellsHeader, no_params, params, SpellsResults, no_results, results, SpellsBody, no_body, a_body, SpellsProcedure, a_procedure, SpellsProcedures, no_procedures, one_procedure, SpellsWord, by_name, by_key, SpellsFields, no_fields, one_field, SpellsProgram, a_program}
+use Rattle.gh_ast.specs.Grammar.{NoSign, NoKey, SpellsClause, SpellsTargets, last_target, next_target, SpellsStatement, a_block, SpellsStatements, no_more, one_more, SpellsLocals, last_local, next_local, SpellsInside, no_locals, some_locals, SpellsParams, last_param, next_param, SpellsHeader, no_params, params, SpellsResults, no_results, results, SpellsBody, SpellsProcedure, a_procedure, SpellsProcedures, no_procedures, one_procedure, SpellsWord, by_name, by_key, SpellsFields, one_field, SpellsProgram, a_program}
 use Rattle.gh_ast.proofs.OneAssertion.{one_clause}
-use Rattle.gh_ast.proofs.OneStatement.{tail_one, one_targets, one_statement, no_sign_first, no_var_first}
+use Rattle.gh_ast.proofs.OneStatement.{tail_one, one_statement, no_sign_first, no_var_first}
 use Rattle.gh_ast.proofs.OneProgram.{one_locals, one_header, one_results, one_procedure_at, one_word, one_fields}
 use Rattle.gh_ast.proofs.NoStatement.{NoName, Nothing, NoBlock}
 
@@ -20,10 +20,6 @@ pub targets_no_name : (ts : List Token) → NoName ts → Nothing (SpellsTargets
 targets_no_name _ n x rest last_target = n _ _ refl
 targets_no_name _ n x rest (next_target t) = n _ _ refl
 
-pub targets_no_end : (o : Occ) (ts : List Token) → NoSign sg.Comma ts → NoSign sg.Assign ts → Nothing (SpellsTargets (named o ∷ ts))
-targets_no_end o _ n m x rest last_target = m _ _ refl
-targets_no_end o _ n m x rest (next_target t) = n _ _ refl
-
 pub targets_later : (o : Occ) (p : Span) (ts : List Token) → Nothing (SpellsTargets ts) → Nothing (SpellsTargets (named o ∷ sign sg.Comma p ∷ ts))
 targets_later o p ts n x rest (next_target t) = n _ _ t
 
@@ -31,15 +27,8 @@ targets_later o p ts n x rest (next_target t) = n _ _ t
 abbrev pub NoStatements : List Token → Type 0
 NoStatements ts = (p : Part) (rest : List Token) → SpellsStatements ts p.statements p.close rest → ⊥
 
-pub block_no_open : (ts : List Token) → NoSign sg.BraceOpen ts → NoBlock ts
-block_no_open _ n x rest (a_block a) = n _ _ refl
-
 pub block_no_inside : (p : Span) (ts : List Token) → NoStatements ts → NoBlock (sign sg.BraceOpen p ∷ ts)
 block_no_inside p ts n x rest (a_block a) = n x rest a
-
-pub statements_neither : (ts : List Token) → NoSign sg.BraceClose ts → Nothing (SpellsStatement ts) → NoStatements ts
-statements_neither _ m n x rest no_more = m _ _ refl
-statements_neither ts m n x rest (one_more i a) = n _ _ i
 
 pub statements_later : (ts us : List Token) (s : Statement) → SpellsStatement ts s us
     → ((a : Statements) (c : Span) (rest : List Token) → SpellsStatements us a c rest → ⊥) → (a : Statements) (c : Span) (rest : List Token) → SpellsStatements ts a c rest → ⊥
@@ -80,10 +69,6 @@ inside_later p ts us xs s n x rest (some_locals {c = c} {us = vs} {xs = xs2} {ys
 inside_later p ts us xs s n x rest (no_locals a) = no_var_first a
 
 -- parameters
-pub params_no_name : (ts : List Token) → NoName ts → Nothing (SpellsParams ts)
-params_no_name _ n x rest last_param = n _ _ refl
-params_no_name _ n x rest (next_param t) = n _ _ refl
-
 pub params_no_colon : (o : Occ) (ts : List Token) → NoSign sg.Colon ts → Nothing (SpellsParams (named o ∷ ts))
 params_no_colon o _ n x rest last_param = n _ _ refl
 params_no_colon o _ n x rest (next_param t) = n _ _ refl
@@ -103,10 +88,6 @@ pub header_neither : (ts : List Token) → NoSign sg.ParenClose ts → Nothing (
 header_neither _ m n x rest no_params = m _ _ refl
 header_neither ts m n x rest (params t) = n _ _ t
 
-pub results_no_open : (p : Span) (ts : List Token) → NoSign sg.ParenOpen ts → Nothing (SpellsResults (key kw.Returns p ∷ ts))
-results_no_open p ts n x rest (no_results m) = m _ _ refl
-results_no_open p _ n x rest (results t) = n _ _ refl
-
 pub results_no_header : (p q : Span) (ts : List Token) → Nothing (SpellsHeader ts) → Nothing (SpellsResults (key kw.Returns p ∷ sign sg.ParenOpen q ∷ ts))
 results_no_header p q ts n x rest (no_results m) = m _ _ refl
 results_no_header p q ts n x rest (results t) = n _ _ t
@@ -115,26 +96,7 @@ results_no_header p q ts n x rest (results t) = n _ _ t
 abbrev pub NoBody : List Token → Type 0
 NoBody ts = (b : Option Inside) (c : Span) (rest : List Token) → SpellsBody ts b c rest → ⊥
 
-pub body_neither : (ts : List Token) → NoSign sg.Semicolon ts → NoSign sg.BraceOpen ts → NoBody ts
-body_neither _ n m b c rest no_body = n _ _ refl
-body_neither _ n m b c rest (a_body i) = m _ _ refl
-
-pub body_no_inside : (p : Span) (ts : List Token) → Nothing (SpellsInside ts) → NoBody (sign sg.BraceOpen p ∷ ts)
-body_no_inside p ts n b c rest (a_body i) = n _ _ i
-
 -- procedures
-pub procedure_no_word : (ts : List Token) → NoKey kw.Procedure ts → Nothing (SpellsProcedure ts)
-procedure_no_word _ n x rest (a_procedure h r f g b) = n _ _ refl
-
-pub procedure_no_name : (p : Span) (ts : List Token) → NoName ts → Nothing (SpellsProcedure (key kw.Procedure p ∷ ts))
-procedure_no_name p _ n x rest (a_procedure h r f g b) = n _ _ refl
-
-pub procedure_no_open : (p : Span) (o : Occ) (ts : List Token) → NoSign sg.ParenOpen ts → Nothing (SpellsProcedure (key kw.Procedure p ∷ named o ∷ ts))
-procedure_no_open p o _ n x rest (a_procedure h r f g b) = n _ _ refl
-
-pub procedure_no_header : (p q : Span) (o : Occ) (ts : List Token) → Nothing (SpellsHeader ts) → Nothing (SpellsProcedure (key kw.Procedure p ∷ named o ∷ sign sg.ParenOpen q ∷ ts))
-procedure_no_header p q o ts n x rest (a_procedure h r f g b) = n _ _ h
-
 pub procedure_no_results : (p q : Span) (o : Occ) (ts us : List Token) (xs : List Occ) → SpellsHeader ts xs us → Nothing (SpellsResults us)
     → Nothing (SpellsProcedure (key kw.Procedure p ∷ named o ∷ sign sg.ParenOpen q ∷ ts))
 procedure_no_results p q o ts us xs s n x rest (a_procedure {us = us2} {vs = vs} {xs = xs2} {ys = ys} h r f g b) =
@@ -164,9 +126,6 @@ procedure_no_body p q o ts us vs ws zs xs ys k m s t u v n x rest (a_procedure {
     let j = sym (one_clause kw.Ensures ws m y zs zs2 v (subst (λ z. SpellsClause kw.Ensures z y zs2) c g)).rest in
     n i l rest (subst (λ z. SpellsBody z i l rest) j b)
 
-pub procedures_no_first : (t : Token) (ts : List Token) → Nothing (SpellsProcedure (t ∷ ts)) → (ps : List Procedure) → SpellsProcedures (t ∷ ts) ps → ⊥
-procedures_no_first t ts n ps (one_procedure a i) = n _ _ a
-
 pub procedures_later : (ts us : List Token) (p : Procedure) → SpellsProcedure ts p us → ((ps : List Procedure) → SpellsProcedures us ps → ⊥) → (ps : List Procedure) → SpellsProcedures ts ps → ⊥
 procedures_later ts us p s n ps (one_procedure {us = vs} {p = q} {ps = qs} a i) = n qs (subst (λ z. SpellsProcedures z qs) (sym (one_procedure_at ts us vs p q s a).rest) i)
 procedures_later _ us p s n ps no_procedures = elim s [ ]
@@ -179,28 +138,6 @@ word_neither k text _ m n x rest by_key = m _ _ refl
 abbrev pub NoFields : List Token → Type 0
 NoFields ts = (l : List Field) (c : Span) (rest : List Token) → SpellsFields ts l c rest → ⊥
 
-pub fields_neither : (ts : List Token) → NoSign sg.BraceClose ts → NoKey kw.Var ts → NoFields ts
-fields_neither _ m n l c rest no_fields = m _ _ refl
-fields_neither _ m n l c rest (one_field a b i) = n _ _ refl
-
-pub fields_no_name : (p : Span) (ts : List Token) → Nothing (SpellsWord kw.Next (codes "next") ts) → NoFields (key kw.Var p ∷ ts)
-fields_no_name p ts n l c rest (one_field a b i) = n _ _ a
-
-pub fields_no_colon : (p : Span) (ts us : List Token) (o : Occ) → SpellsWord kw.Next (codes "next") ts o us → NoSign sg.Colon us → NoFields (key kw.Var p ∷ ts)
-fields_no_colon p ts us o s n l c rest (one_field {q = q} {us = vs} {o = o2} a b i) = n q vs (one_word kw.Next (codes "next") ts us (sign sg.Colon q ∷ vs) o o2 s a).rest
-
-pub fields_no_kind : (p q : Span) (ts us : List Token) (o : Occ) → SpellsWord kw.Next (codes "next") ts o (sign sg.Colon q ∷ us) → Nothing (SpellsWord kw.Node (codes "Node") us)
-    → NoFields (key kw.Var p ∷ ts)
-fields_no_kind p q ts us o s n l c rest (one_field {q = q2} {r = r} {us = vs} {vs = ws} {o = o2} {k = k} a b i) =
-    let e : vs ≡ us = sym (tail_one (one_word kw.Next (codes "next") ts (sign sg.Colon q ∷ us) (sign sg.Colon q2 ∷ vs) o o2 s a).rest) in
-    n k (sign sg.Semicolon r ∷ ws) (subst (λ z. SpellsWord kw.Node (codes "Node") z k (sign sg.Semicolon r ∷ ws)) e b)
-
-pub fields_no_end : (p q : Span) (ts us vs : List Token) (o k : Occ) → SpellsWord kw.Next (codes "next") ts o (sign sg.Colon q ∷ us) → SpellsWord kw.Node (codes "Node") us k vs
-    → NoSign sg.Semicolon vs → NoFields (key kw.Var p ∷ ts)
-fields_no_end p q ts us vs o k s t n l c rest (one_field {q = q2} {r = r} {us = us2} {vs = ws} {o = o2} {k = k2} a b i) =
-    let e : us2 ≡ us = sym (tail_one (one_word kw.Next (codes "next") ts (sign sg.Colon q ∷ us) (sign sg.Colon q2 ∷ us2) o o2 s a).rest) in
-    n r ws (one_word kw.Node (codes "Node") us vs (sign sg.Semicolon r ∷ ws) k k2 t (subst (λ z. SpellsWord kw.Node (codes "Node") z k2 (sign sg.Semicolon r ∷ ws)) e b)).rest
-
 pub fields_later : (p q r : Span) (ts us vs : List Token) (o k : Occ) → SpellsWord kw.Next (codes "next") ts o (sign sg.Colon q ∷ us) → SpellsWord kw.Node (codes "Node") us k (sign sg.Semicolon r ∷ vs)
     → NoFields vs → NoFields (key kw.Var p ∷ ts)
 fields_later p q r ts us vs o k s t n l c rest (one_field {q = q2} {r = r2} {us = us2} {vs = ws} {o = o2} {k = k2} {l = l2} a b i) =
@@ -210,15 +147,6 @@ fields_later p q r ts us vs o k s t n l c rest (one_field {q = q2} {r = r2} {us 
 
 abbrev pub NoProgram : List Token → Type 0
 NoProgram ts = (x : Program) → SpellsProgram ts x → ⊥
-
-pub program_no_struct : (ts : List Token) → NoKey kw.Struct ts → NoProgram ts
-program_no_struct _ n x (a_program a i) = n _ _ refl
-
-pub program_no_node : (p : Span) (ts : List Token) → NoKey kw.Node ts → NoProgram (key kw.Struct p ∷ ts)
-program_no_node p _ n x (a_program a i) = n _ _ refl
-
-pub program_no_open : (p q : Span) (ts : List Token) → NoSign sg.BraceOpen ts → NoProgram (key kw.Struct p ∷ key kw.Node q ∷ ts)
-program_no_open p q _ n x (a_program a i) = n _ _ refl
 
 pub program_no_fields : (p q r : Span) (ts : List Token) → NoFields ts → NoProgram (key kw.Struct p ∷ key kw.Node q ∷ sign sg.BraceOpen r ∷ ts)
 program_no_fields p q r ts n x (a_program a i) = n _ _ _ a

@@ -1,21 +1,17 @@
 -- Where a step of a statement fails, no statement stands at the front.
-use Rattle.std.proofs.Common.{◌≡◌, List, [], ◌∷◌, true, refl, subst, sym}
+use Rattle.std.proofs.Common.{◌≡◌, List, ◌∷◌, true, refl, subst, sym}
 use Rattle.gh_base.specs.declared.place.Span.{Span}
 use Rattle.gh_ast.specs.declared.Occ.{Occ}
-use Rattle.gh_ast.specs.declared.Operand.TheVariants as operand
 use Rattle.gh_ast.specs.declared.Expr.{Expr}
-use Rattle.gh_ast.specs.declared.Expr.TheVariants as expr
-use Rattle.gh_ast.specs.declared.sign.Sign.{Sign}
 use Rattle.gh_ast.specs.declared.sign.Sign.TheVariants as sg
-use Rattle.gh_ast.specs.declared.sign.Keyword.{Keyword}
 use Rattle.gh_ast.specs.declared.sign.Keyword.TheVariants as kw
-use Rattle.gh_ast.specs.Plain.{Test, Formula, Statement, Statements, Part}
+use Rattle.gh_ast.specs.Plain.{Test, Formula, Part}
 use Rattle.gh_ast.specs.Tokens.{Token, named, key, sign}
-use Rattle.gh_ast.specs.Grammar.{NoSign, NoKey, SpellsExpr, plain, variable, SpellsValues, SpellsTest, SpellsClause, SpellsTargets, last_target, next_target, SpellsStatement, a_set, a_new, a_write, a_free, bare_call, a_call, an_if, an_if_else, a_while, a_return, SpellsBlock, a_block, SpellsStatements, no_more, one_more}
-use Rattle.gh_ast.proofs.OneValue.{one_expr, one_values}
+use Rattle.gh_ast.specs.Grammar.{NoSign, NoKey, SpellsExpr, plain, SpellsTest, SpellsClause, SpellsStatement, a_set, a_new, a_write, a_call, an_if, an_if_else, a_while, SpellsBlock}
+use Rattle.gh_ast.proofs.OneValue.{one_expr}
 use Rattle.gh_ast.proofs.OneTest.{one_test}
 use Rattle.gh_ast.proofs.OneAssertion.{one_clause}
-use Rattle.gh_ast.proofs.OneStatement.{tail_one, one_targets, one_block, one_statement}
+use Rattle.gh_ast.proofs.OneStatement.{one_block}
 
 -- a name isn't at the front
 abbrev pub NoName : List Token → Type 0
@@ -28,49 +24,7 @@ Nothing {X} S = (x : X) (rest : List Token) → S x rest → ⊥
 abbrev pub NoBlock : List Token → Type 0
 NoBlock ts = (p : Part) (rest : List Token) → SpellsBlock ts p.statements p.close rest → ⊥
 
-pub neither : (ts : List Token) → NoKey kw.Free ts → NoKey kw.If ts → NoKey kw.While ts → NoKey kw.Return ts → NoName ts → Nothing (SpellsStatement ts)
-neither _ f i w r n x rest (a_set a) = n _ _ refl
-neither _ f i w r n x rest a_new = n _ _ refl
-neither _ f i w r n x rest (a_write a) = n _ _ refl
-neither _ f i w r n x rest a_free = f _ _ refl
-neither _ f i w r n x rest (bare_call a) = n _ _ refl
-neither _ f i w r n x rest (a_call last_target a) = n _ _ refl
-neither _ f i w r n x rest (a_call (next_target t) a) = n _ _ refl
-neither _ f i w r n x rest (an_if t a m) = i _ _ refl
-neither _ f i w r n x rest (an_if_else t a b) = i _ _ refl
-neither _ f i w r n x rest (a_while t a b) = w _ _ refl
-neither _ f i w r n x rest (a_return a) = r _ _ refl
-
--- `free NAME ;`
-pub free_no_name : (p : Span) (ts : List Token) → NoName ts → Nothing (SpellsStatement (key kw.Free p ∷ ts))
-free_no_name p _ n x rest a_free = n _ _ refl
-free_no_name p _ n x rest (a_call t v) = elim t [ ]
-
-pub free_no_end : (p : Span) (o : Occ) (ts : List Token) → NoSign sg.Semicolon ts → Nothing (SpellsStatement (key kw.Free p ∷ named o ∷ ts))
-free_no_end p o _ n x rest a_free = n _ _ refl
-free_no_end p o _ n x rest (a_call t v) = elim t [ ]
-
--- `return values ;`
-pub return_no_values : (p : Span) (ts : List Token) → Nothing (SpellsValues sg.Semicolon ts) → Nothing (SpellsStatement (key kw.Return p ∷ ts))
-return_no_values p ts n x rest (a_return a) = n _ _ a
-return_no_values p ts n x rest (a_call t v) = elim t [ ]
-
 -- `if ( test ) block` and perhaps `else block`
-pub if_no_open : (p : Span) (ts : List Token) → NoSign sg.ParenOpen ts → Nothing (SpellsStatement (key kw.If p ∷ ts))
-if_no_open p _ n x rest (an_if t a m) = n _ _ refl
-if_no_open p _ n x rest (an_if_else t a b) = n _ _ refl
-if_no_open p _ n x rest (a_call t v) = elim t [ ]
-
-pub if_no_test : (p q : Span) (ts : List Token) → Nothing (SpellsTest true ts) → Nothing (SpellsStatement (key kw.If p ∷ sign sg.ParenOpen q ∷ ts))
-if_no_test p q ts n x rest (an_if t a m) = n _ _ t
-if_no_test p q ts n x rest (an_if_else t a b) = n _ _ t
-if_no_test p q ts n x rest (a_call t v) = elim t [ ]
-
-pub if_no_close : (p q : Span) (ts us : List Token) (t : Test) → SpellsTest true ts t us → NoSign sg.ParenClose us → Nothing (SpellsStatement (key kw.If p ∷ sign sg.ParenOpen q ∷ ts))
-if_no_close p q ts us t s n x rest (an_if k a m) = n _ _ (one_test true ts t _ us _ s k).rest
-if_no_close p q ts us t s n x rest (an_if_else k a b) = n _ _ (one_test true ts t _ us _ s k).rest
-if_no_close p q ts us t s n x rest (a_call k v) = elim k [ ]
-
 pub if_no_block : (p q r : Span) (ts us : List Token) (t : Test) → SpellsTest true ts t (sign sg.ParenClose r ∷ us) → NoBlock us
     → Nothing (SpellsStatement (key kw.If p ∷ sign sg.ParenOpen q ∷ ts))
 if_no_block p q r ts us t s n x rest (an_if {c = c} {us = vs} {a = l} k a m) =
@@ -93,19 +47,6 @@ if_no_otherwise p q r o ts us vs t b s i n x rest (an_if_else {s = f} {c = c} {d
 if_no_otherwise p q r o ts us vs t b s i n x rest (a_call k v) = elim k [ ]
 
 -- `while ( test )`, perhaps an invariant, and a block
-pub while_no_open : (p : Span) (ts : List Token) → NoSign sg.ParenOpen ts → Nothing (SpellsStatement (key kw.While p ∷ ts))
-while_no_open p _ n x rest (a_while t i a) = n _ _ refl
-while_no_open p _ n x rest (a_call t v) = elim t [ ]
-
-pub while_no_test : (p q : Span) (ts : List Token) → Nothing (SpellsTest true ts) → Nothing (SpellsStatement (key kw.While p ∷ sign sg.ParenOpen q ∷ ts))
-while_no_test p q ts n x rest (a_while t i a) = n _ _ t
-while_no_test p q ts n x rest (a_call t v) = elim t [ ]
-
-pub while_no_close : (p q : Span) (ts us : List Token) (t : Test) → SpellsTest true ts t us → NoSign sg.ParenClose us
-    → Nothing (SpellsStatement (key kw.While p ∷ sign sg.ParenOpen q ∷ ts))
-while_no_close p q ts us t s n x rest (a_while k i a) = n _ _ (one_test true ts t _ us _ s k).rest
-while_no_close p q ts us t s n x rest (a_call k v) = elim k [ ]
-
 pub while_no_clause : (p q r : Span) (ts us : List Token) (t : Test) → SpellsTest true ts t (sign sg.ParenClose r ∷ us) → Nothing (SpellsClause kw.Invariant us)
     → Nothing (SpellsStatement (key kw.While p ∷ sign sg.ParenOpen q ∷ ts))
 while_no_clause p q r ts us t s n x rest (a_while {us = us2} {vs = vs} {i = f} k i a) =
@@ -120,42 +61,11 @@ while_no_block p q r ts us vs t f s j n x rest (a_while {c = c} {us = us2} {vs =
     n (record { statements = l; close = c }) rest (subst (λ z. SpellsBlock z l c rest) d a)
 while_no_block p q r ts us vs t f s j n x rest (a_call k v) = elim k [ ]
 
--- `NAME` and none of `:=`, `,`, `(`, `.`
-pub name_alone : (o : Occ) (ts : List Token) → NoSign sg.Assign ts → NoSign sg.Comma ts → NoSign sg.ParenOpen ts → NoSign sg.Dot ts → Nothing (SpellsStatement (named o ∷ ts))
-name_alone o _ n m k d x rest (a_set a) = n _ _ refl
-name_alone o _ n m k d x rest a_new = n _ _ refl
-name_alone o _ n m k d x rest (a_write a) = d _ _ refl
-name_alone o _ n m k d x rest (bare_call a) = k _ _ refl
-name_alone o _ n m k d x rest (a_call last_target a) = n _ _ refl
-name_alone o _ n m k d x rest (a_call (next_target t) a) = m _ _ refl
-
 -- `NAME . next := expression ;`
-pub write_no_next : (o : Occ) (p : Span) (ts : List Token) → NoKey kw.Next ts → Nothing (SpellsStatement (named o ∷ sign sg.Dot p ∷ ts))
-write_no_next o p _ n x rest (a_write a) = n _ _ refl
-write_no_next o p _ n x rest (a_call t v) = elim t [ ]
-
-pub write_no_assign : (o : Occ) (p q : Span) (ts : List Token) → NoSign sg.Assign ts → Nothing (SpellsStatement (named o ∷ sign sg.Dot p ∷ key kw.Next q ∷ ts))
-write_no_assign o p q _ n x rest (a_write a) = n _ _ refl
-write_no_assign o p q _ n x rest (a_call t v) = elim t [ ]
-
-pub write_no_value : (o : Occ) (p q r : Span) (ts : List Token) → Nothing (SpellsExpr true ts) → Nothing (SpellsStatement (named o ∷ sign sg.Dot p ∷ key kw.Next q ∷ sign sg.Assign r ∷ ts))
-write_no_value o p q r ts n x rest (a_write a) = n _ _ a
-write_no_value o p q r ts n x rest (a_call t v) = elim t [ ]
-
 pub write_no_end : (o : Occ) (p q r : Span) (ts us : List Token) (e : Expr) → SpellsExpr true ts e us → NoSign sg.Semicolon us
     → Nothing (SpellsStatement (named o ∷ sign sg.Dot p ∷ key kw.Next q ∷ sign sg.Assign r ∷ ts))
 write_no_end o p q r ts us e s n x rest (a_write {e = f} a) = n _ _ (one_expr true ts e f us _ s a).rest
 write_no_end o p q r ts us e s n x rest (a_call t v) = elim t [ ]
-
--- `NAME ( values ) ;`
-pub bare_no_values : (o : Occ) (p : Span) (ts : List Token) → Nothing (SpellsValues sg.ParenClose ts) → Nothing (SpellsStatement (named o ∷ sign sg.ParenOpen p ∷ ts))
-bare_no_values o p ts n x rest (bare_call a) = n _ _ a
-bare_no_values o p ts n x rest (a_call t v) = elim t [ ]
-
-pub bare_no_end : (o : Occ) (p : Span) (ts us : List Token) (es : List Expr) → SpellsValues sg.ParenClose ts es us → NoSign sg.Semicolon us
-    → Nothing (SpellsStatement (named o ∷ sign sg.ParenOpen p ∷ ts))
-bare_no_end o p ts us es s n x rest (bare_call {es = fs} a) = n _ _ (one_values sg.ParenClose ts (λ e. cc) es fs us _ s a).rest
-bare_no_end o p ts us es s n x rest (a_call t v) = elim t [ ]
 
 -- `NAME := new Node ;`
 pub new_no_node : (o : Occ) (p q : Span) (ts : List Token) → NoKey kw.Node ts → Nothing (SpellsStatement (named o ∷ sign sg.Assign p ∷ key kw.New q ∷ ts))

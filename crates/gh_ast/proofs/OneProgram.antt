@@ -1,17 +1,16 @@
 -- A list of tokens spells at most one program.
-use Rattle.std.proofs.Common.{◌≡◌, ℕ, List, [], ◌∷◌, ◌++◌, Option, Some, None, refl, ap, subst, sym}
+use Rattle.std.proofs.Common.{◌≡◌, ℕ, List, ◌∷◌, Option, Some, refl, ap, subst, sym}
 use Rattle.std.specs.Prelude.{codes}
 use Rattle.gh_base.specs.declared.place.Span.{Span}
 use Rattle.gh_ast.specs.declared.Occ.{Occ}
 use Rattle.gh_ast.specs.declared.Field.{Field}
-use Rattle.gh_ast.specs.declared.sign.Sign.{Sign}
 use Rattle.gh_ast.specs.declared.sign.Sign.TheVariants as sg
 use Rattle.gh_ast.specs.declared.sign.Keyword.{Keyword}
 use Rattle.gh_ast.specs.declared.sign.Keyword.TheVariants as kw
-use Rattle.gh_ast.specs.Plain.{Formula, Inside, Statements, Procedure, Program}
+use Rattle.gh_ast.specs.Plain.{Inside, Procedure, Program}
 use Rattle.gh_ast.specs.Readings.{AreOne}
-use Rattle.gh_ast.specs.Tokens.{Token, named, key, sign}
-use Rattle.gh_ast.specs.Grammar.{NoKey, SpellsClause, SpellsStatements, no_more, one_more, SpellsLocals, last_local, next_local, SpellsInside, no_locals, some_locals, SpellsParams, last_param, next_param, SpellsHeader, no_params, params, SpellsResults, no_results, results, SpellsBody, no_body, a_body, SpellsProcedure, a_procedure, SpellsProcedures, no_procedures, one_procedure, SpellsWord, by_name, by_key, SpellsFields, no_fields, one_field, SpellsProgram, a_program}
+use Rattle.gh_ast.specs.Tokens.{Token, sign}
+use Rattle.gh_ast.specs.Grammar.{SpellsClause, SpellsLocals, last_local, next_local, SpellsInside, no_locals, some_locals, SpellsParams, last_param, next_param, SpellsHeader, no_params, params, SpellsResults, no_results, results, SpellsBody, no_body, a_body, SpellsProcedure, a_procedure, SpellsProcedures, no_procedures, one_procedure, SpellsWord, by_name, by_key, SpellsFields, no_fields, one_field, SpellsProgram, a_program}
 use Rattle.gh_ast.proofs.OneAssertion.{one_clause}
 use Rattle.gh_ast.proofs.OneStatement.{tail_one, one_statements, no_var_first}
 

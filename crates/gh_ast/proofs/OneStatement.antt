@@ -1,16 +1,15 @@
 -- A list of tokens has at most one statement at its front, and at most one rest.
-use Rattle.std.proofs.Common.{◌≡◌, List, [], ◌∷◌, Bool, true, false, refl, ap, subst, sym}
+use Rattle.std.proofs.Common.{◌≡◌, List, [], ◌∷◌, true, refl, ap, subst, sym}
 use Rattle.gh_base.specs.declared.place.Span.{Span}
 use Rattle.gh_ast.specs.declared.Occ.{Occ}
 use Rattle.gh_ast.specs.declared.Expr.{Expr}
 use Rattle.gh_ast.specs.declared.sign.Sign.{Sign}
 use Rattle.gh_ast.specs.declared.sign.Sign.TheVariants as sg
-use Rattle.gh_ast.specs.declared.sign.Keyword.{Keyword}
 use Rattle.gh_ast.specs.declared.sign.Keyword.TheVariants as kw
-use Rattle.gh_ast.specs.Plain.{Test, Formula, Statement, Statements, no_statements, statement_first, set, new, write, free, call, choice, loop, give}
+use Rattle.gh_ast.specs.Plain.{Statement, Statements, set, write, call, give}
 use Rattle.gh_ast.specs.Readings.{AreOne}
 use Rattle.gh_ast.specs.Tokens.{Token, named, key, sign}
-use Rattle.gh_ast.specs.Grammar.{NoKey, SpellsExpr, plain, variable, SpellsValues, SpellsTest, SpellsClause, SpellsTargets, last_target, next_target, SpellsStatement, a_set, a_new, a_write, a_free, bare_call, a_call, an_if, an_if_else, a_while, a_return, SpellsBlock, a_block, SpellsStatements, no_more, one_more}
+use Rattle.gh_ast.specs.Grammar.{SpellsExpr, plain, SpellsValues, SpellsClause, SpellsTargets, last_target, next_target, SpellsStatement, a_set, a_new, a_write, a_free, bare_call, a_call, an_if, an_if_else, a_while, a_return, SpellsBlock, a_block, SpellsStatements, no_more, one_more}
 use Rattle.gh_ast.proofs.OneValue.{one_expr, one_values}
 use Rattle.gh_ast.proofs.OneTest.{one_test}
 use Rattle.gh_ast.proofs.OneAssertion.{one_clause}

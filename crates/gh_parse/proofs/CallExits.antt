@@ -1,5 +1,5 @@
 -- Where assignments and calls are read, and where they are refused.
-use Rattle.std.proofs.Common.{◌≡◌, List, [], ◌∷◌, ◌++◌, true, refl, sym, subst, ap}
+use Rattle.std.proofs.Common.{◌≡◌, List, [], ◌∷◌, true, refl, sym, subst}
 use Rattle.gh_base.specs.declared.place.Span.{Span}
 use Rattle.gh_ast.specs.declared.Occ.{Occ}
 use Rattle.gh_ast.specs.declared.Operand.TheVariants as operand
@@ -9,9 +9,8 @@ use Rattle.gh_ast.specs.declared.sign.Sign.TheVariants as sg
 use Rattle.gh_ast.specs.declared.sign.Keyword.TheVariants as kw
 use Rattle.gh_ast.specs.Plain.{Statement, set, new, write, call}
 use Rattle.gh_ast.specs.Tokens.{Token, named, key, sign}
-use Rattle.gh_ast.specs.Grammar.{NoSign, NoKey, SpellsExpr, SpellsValues, SpellsTargets, last_target, next_target, SpellsStatement, a_set, a_new, a_write, bare_call, a_call}
+use Rattle.gh_ast.specs.Grammar.{NoSign, NoKey, SpellsExpr, SpellsValues, SpellsTargets, last_target, SpellsStatement, a_set, a_new, a_write, bare_call, a_call}
 use Rattle.gh_ast.proofs.OneValue.{one_values}
-use Rattle.gh_ast.proofs.OneStatement.{tail_one}
 use Rattle.gh_ast.proofs.NoStatement.{write_no_end, new_no_node, new_no_end}
 use Rattle.gh_ast.proofs.NoCall.{variable_front, set_no_value, set_no_end, set_no_callee, one_no_values, many_no_callee, many_no_values}
 use Rattle.gh_ast.proofs.NoProgram.{targets_no_name, targets_later}

@@ -1,15 +1,15 @@
 -- Where procedures are read, and where they are refused.
-use Rattle.std.proofs.Common.{◌≡◌, ◌∙◌, ℕ, ◌<◌, List, [], ◌∷◌, ◌++◌, Option, Some, None, length, refl, sym, subst, ap, append_assoc, append-nil, arith}
+use Rattle.std.proofs.Common.{◌≡◌, ◌∙◌, ◌<◌, List, [], ◌∷◌, ◌++◌, Some, None, length, refl, sym, subst, ap, append_assoc, append-nil, arith}
 use Rattle.gh_base.specs.declared.place.Span.{Span}
 use Rattle.gh_ast.specs.declared.Occ.{Occ}
 use Rattle.gh_ast.specs.declared.sign.Sign.TheVariants as sg
 use Rattle.gh_ast.specs.declared.sign.Keyword.TheVariants as kw
 use Rattle.gh_ast.specs.Plain.{Formula, Part, Inside, Procedure}
 use Rattle.gh_ast.specs.Tokens.{Token, named, key, sign}
-use Rattle.gh_ast.specs.Grammar.{NoSign, NoKey, SpellsClause, SpellsStatements, SpellsLocals, last_local, next_local, SpellsInside, no_locals, some_locals, SpellsParams, last_param, next_param, SpellsHeader, no_params, params, SpellsResults, no_results, results, SpellsBody, no_body, a_body, SpellsProcedure, a_procedure}
-use Rattle.gh_ast.proofs.NoProgram.{locals_no_name, locals_no_colon, locals_no_node, locals_no_end, locals_later, inside_no_locals, inside_no_statements, inside_later, params_no_colon, params_no_node, params_no_end, params_later, header_neither, results_no_open, results_no_header, body_no_inside, procedure_no_results, procedure_no_needs, procedure_no_gives, procedure_no_body}
+use Rattle.gh_ast.specs.Grammar.{NoSign, NoKey, SpellsClause, SpellsLocals, last_local, next_local, SpellsInside, no_locals, some_locals, SpellsParams, last_param, next_param, SpellsHeader, no_params, params, SpellsResults, no_results, results, SpellsBody, no_body, a_body, SpellsProcedure, a_procedure}
+use Rattle.gh_ast.proofs.NoProgram.{locals_no_colon, locals_no_node, locals_no_end, locals_later, inside_no_locals, inside_no_statements, inside_later, params_no_colon, params_no_node, params_no_end, params_later, header_neither, results_no_header, procedure_no_results, procedure_no_needs, procedure_no_gives, procedure_no_body}
 use Rattle.gh_ast.proofs.ShorterStatement.{shorter_locals}
-use Rattle.gh_parse.specs.Answers.{IsRefused, HasSign, SpellsName, SpellsKey, SpellsSign}
+use Rattle.gh_parse.specs.Answers.{IsRefused, SpellsKey, SpellsSign}
 use Rattle.gh_parse.specs.Statements.{SpellsRun}
 use Rattle.gh_parse.specs.Procedures.{AddsLocals, Ended, SpellsEnded}
 use Rattle.gh_parse.proofs.Turns.{Goes}

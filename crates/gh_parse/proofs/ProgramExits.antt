@@ -1,5 +1,5 @@
 -- Where fields and programs are read, and where they are refused.
-use Rattle.std.proofs.Common.{◌≡◌, ◌∙◌, ℕ, ◌<◌, List, [], ◌∷◌, ◌++◌, map, length, refl, sym, subst, ap, append_assoc, append-nil, arith}
+use Rattle.std.proofs.Common.{◌≡◌, ◌∙◌, ℕ, List, [], ◌∷◌, ◌++◌, map, refl, sym, subst, ap, append_assoc, append-nil}
 use Rattle.std.proofs.lemmas.List.{map-append}
 use Rattle.std.specs.Prelude.{codes}
 use Rattle.gh_base.specs.declared.place.Span.{Span}
@@ -10,12 +10,11 @@ use Rattle.gh_ast.specs.declared.sign.Sign.TheVariants as sg
 use Rattle.gh_ast.specs.declared.sign.Keyword.{Keyword}
 use Rattle.gh_ast.specs.declared.sign.Keyword.TheVariants as kw
 use Rattle.gh_ast.specs.Plain.{Procedure, procedure_of}
-use Rattle.gh_ast.specs.Tokens.{Token, named, key, sign, keyword_text}
+use Rattle.gh_ast.specs.Tokens.{Token, key, sign}
 use Rattle.gh_ast.specs.Grammar.{NoSign, NoKey, SpellsWord, by_name, by_key, SpellsFields, no_fields, one_field, SpellsProcedure, SpellsProcedures, no_procedures, one_procedure, SpellsProgram, a_program}
-use Rattle.gh_ast.proofs.OneStatement.{tail_one}
 use Rattle.gh_ast.proofs.OneProgram.{one_word}
-use Rattle.gh_ast.proofs.NoProgram.{word_neither, fields_neither, fields_later, procedures_later, program_no_fields, program_no_procedures}
-use Rattle.gh_parse.specs.Answers.{IsRefused, HasSign, SpellsName, SpellsKey, SpellsSign}
+use Rattle.gh_ast.proofs.NoProgram.{word_neither, fields_later, procedures_later, program_no_fields, program_no_procedures}
+use Rattle.gh_parse.specs.Answers.{IsRefused, SpellsName, SpellsSign}
 use Rattle.gh_parse.specs.Procedures.{SpellsField, Shape, SpellsShape, SpellsAll, SpellsWhole}
 use Rattle.gh_parse.proofs.ProcedureExits.{refused_at}
 use Rattle.gh_parse.proofs.Turns.{Goes}
@@ -54,11 +53,6 @@ pub field_no_end : {ts us vs ws xs : List Token} {o k : Occ} {p q : Span} → ts
 field_no_end {ws = ws} {xs = xs} {k = k} e n d t h f rest s =
     let w = (one_word kw.Node (codes "Node") ws xs s.after_kind k s.kind t (kind_at e n d s)).rest in h s.end rest (w ∙ s.ends)
 
-pub field_spelled : {ts us vs ws xs rest : List Token} {o k : Occ} {p q r : Span} → ts ≡ key kw.Var p ∷ us → SpellsWord kw.Next (codes "next") us o vs → vs ≡ sign sg.Colon q ∷ ws
-    → SpellsWord kw.Node (codes "Node") ws k xs → xs ≡ sign sg.Semicolon r ∷ rest → SpellsField ts (record { name = o; kind = k.name }) rest
-field_spelled {us = us} {vs = vs} {ws = ws} {xs = xs} {k = k} {p = p} {q = q} {r = r} e n d t b =
-    record { var = p; colon = q; end = r; after_var = us; after_name = vs; after_colon = ws; after_kind = xs; kind = k; begins = e; name = n; middle = d; type = t; ends = b; same = refl }
-
 -- more fields in front
 abbrev pub shape_after : List Field → Shape → Shape
 shape_after xs s = record { fields = xs ++ s.fields; close = s.close }
@@ -83,7 +77,7 @@ shape_more {start = start} {ts = ts} {us = us} {f = f} xs ys g s e =
       back = λ n.
           g.back
           (refused_at SpellsShape s.begins
-            (λ b rest i. fields_later s.var s.colon s.end s.after_var s.after_colon us f.name s.kind name kind (λ l c r j. n (record { fields = l; close = c }) r j) b.fields b.close rest i));
+          (λ b rest i. fields_later s.var s.colon s.end s.after_var s.after_colon us f.name s.kind name kind (λ l c r j. n (record { fields = l; close = c }) r j) b.fields b.close rest i));
     }
 
 first_of_fields : {ts : List Token} → NoSign sg.BraceClose ts → IsRefused (SpellsField ts) → (l : List Field) (c : Span) (rest : List Token) → SpellsFields ts l c rest → ⊥

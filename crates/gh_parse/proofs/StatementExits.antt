@@ -1,5 +1,5 @@
 -- Where statements and blocks are read, and where they are refused.
-use Rattle.std.proofs.Common.{◌≡◌, ◌∙◌, ℕ, ◌+◌, ◌*◌, ◌<◌, ◌≤◌, List, [], ◌∷◌, ◌++◌, true, map, length, refl, sym, subst, ap, append-nil, arith}
+use Rattle.std.proofs.Common.{◌≡◌, ◌∙◌, ◌+◌, ◌*◌, ◌<◌, List, [], ◌∷◌, ◌++◌, true, map, length, refl, sym, subst, ap, arith}
 use Rattle.std.proofs.lemmas.List.{map-append}
 use Rattle.gh_base.specs.declared.place.Span.{Span}
 use Rattle.gh_ast.specs.declared.Occ.{Occ}
@@ -11,14 +11,14 @@ use Rattle.gh_ast.specs.Plain.{Test, Formula, Statement, no_statements, statemen
 use Rattle.gh_ast.specs.Tokens.{Token, named, key, sign}
 use Rattle.gh_ast.specs.Grammar.{NoKey, SpellsTest, SpellsClause, SpellsValues, SpellsStatement, a_free, an_if, an_if_else, a_while, a_return, a_call, SpellsBlock, a_block, SpellsStatements, no_more, one_more}
 use Rattle.gh_ast.proofs.NoStatement.{if_no_block, if_no_otherwise, while_no_clause, while_no_block}
-use Rattle.gh_ast.proofs.NoProgram.{block_no_inside, statements_neither, statements_later}
+use Rattle.gh_ast.proofs.NoProgram.{block_no_inside, statements_later}
 use Rattle.gh_ast.proofs.Shorter.{shorter_test, shorter_clause}
 use Rattle.gh_ast.proofs.ShorterStatement.{shorter_block, shorter_statement}
-use Rattle.gh_parse.specs.Answers.{IsRefused, IsBetween, HasSign}
+use Rattle.gh_parse.specs.Answers.{IsRefused, IsBetween}
 use Rattle.gh_parse.specs.Statements.{SpellsPart, SpellsRun}
 use Rattle.gh_parse.proofs.CallExits.{none_at, spelled_at}
-use Rattle.gh_parse.proofs.Turns.{Goes}
-use Rattle.gh_parse.proofs.Runs.{before, before-append, before-none, part_before, Runs}
+use Rattle.gh_parse.proofs.Turns.{before, before-append}
+use Rattle.gh_parse.proofs.Runs.{before-none, Runs}
 
 -- a test in brackets
 abbrev pub SpellsGuard : List Token → Test → List Token → Type 0
@@ -112,7 +112,7 @@ runs_more {start = start} {now = now} {rest = rest} {xs = xs} {ys = ys} {x = x} 
       goes =
           record {
             forth = λ p end i.
-                subst (λ z. SpellsStatements start z p.close end) (sym (ap (λ z. before z p.statements) e ∙ before-append xs x p.statements))
+                subst (λ z. SpellsStatements start z p.close end) (sym (ap (λ z. before statement_first z p.statements) e ∙ before-append statement_first xs x p.statements))
                 (r.goes.forth (record { statements = statement_first x p.statements; close = p.close }) end (one_more s i));
             back = λ n. r.goes.back (λ p end i. statements_later now rest x s (λ a c z j. n (record { statements = a; close = c }) z j) p.statements p.close end i);
           };

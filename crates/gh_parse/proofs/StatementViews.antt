@@ -1,5 +1,5 @@
 -- The plain form of each statement.
-use Rattle.std.proofs.Common.{◌≡◌, ◌∙◌, List, [], Vec, Global, map, sym, ap, refl, rules}
+use Rattle.std.proofs.Common.{◌≡◌, ◌∙◌, List, [], Vec, Global, map, sym, ap}
 use Rattle.gh_base.specs.declared.place.Span.{Span}
 use Rattle.gh_ast.specs.declared.Occ.{Occ}
 use Rattle.gh_ast.specs.declared.Expr.{Expr}
@@ -8,7 +8,7 @@ use Rattle.gh_ast.specs.declared.Assertion.{Assertion}
 use Rattle.gh_ast.specs.declared.Block.{Block, roll-Block}
 use Rattle.gh_ast.specs.declared.Stmt.{Stmt}
 use Rattle.gh_ast.specs.declared.Stmt.TheVariants as stmt
-use Rattle.gh_ast.specs.declared.Stmt.TheOpen.{Stmt-F, Block-F}
+use Rattle.gh_ast.specs.declared.Stmt.TheOpen.{Stmt-F}
 use Rattle.gh_ast.specs.declared.Stmt.TheFolds.{fold-roll-Stmt, fold-roll-Block, fold_out-Block}
 use Rattle.gh_ast.specs.Plain.{Statement, Part, test_of, formula_of, part_of, statement_of, statements_of, no_statements, statement_step, part_step, set, new, write, free, call, choice, loop, give}
 
@@ -47,7 +47,7 @@ pub if_alone_view : (t : Cond) (a : Block) (v : Vec Stmt Global) → v.items ≡
     → statement_of (stmt.If t a (roll-Block (record { statements = v; close = a.close }))) ≡ choice (test_of t) (part_of a).statements (part_of a).close no_statements (part_of a).close
 if_alone_view t a v e =
     let part : part_of (roll-Block (record { statements = v; close = a.close })) ≡ record { statements = no_statements; close = (part_of a).close } =
-        part_view v a.close ∙ ap (λ (s : List Stmt). let p : Part = record { statements = statements_of (map statement_of s); close = a.close } in p) e
-        ∙ ap (λ (c : Span). let p : Part = record { statements = no_statements; close = c } in p) (sym (close_view a)) in
+    part_view v a.close ∙ ap (λ (s : List Stmt). let p : Part = record { statements = statements_of (map statement_of s); close = a.close } in p) e
+    ∙ ap (λ (c : Span). let p : Part = record { statements = no_statements; close = c } in p) (sym (close_view a)) in
     if_view t a (roll-Block (record { statements = v; close = a.close }))
     ∙ ap (λ (q : Part). choice (test_of t) (part_of a).statements (part_of a).close q.statements q.close) part

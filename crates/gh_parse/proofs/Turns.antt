@@ -26,7 +26,7 @@ abbrev pub before : {X L : Type 0} → (X → L → L) → List X → L → L
 before first [] l = l
 before first (x ∷ xs) l = first x (before first xs l)
 
-before-append : {X L : Type 0} (first : X → L → L) (xs : List X) (x : X) (l : L) → before first (xs ++ x ∷ []) l ≡ before first xs (first x l)
+pub before-append : {X L : Type 0} (first : X → L → L) (xs : List X) (x : X) (l : L) → before first (xs ++ x ∷ []) l ≡ before first xs (first x l)
 before-append first [] x l = refl
 before-append first (y ∷ xs) x l = ap (first y) (before-append first xs x l)
 

@@ -12,6 +12,8 @@ pub mod lexer;
 #[cfg(test)]
 mod lexer_tests;
 pub mod parse;
+#[cfg(test)]
+mod parse_tests;
 pub mod procedures;
 pub mod programs;
 pub mod scan;

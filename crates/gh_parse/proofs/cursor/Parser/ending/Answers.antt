@@ -1,4 +1,4 @@
-use Rattle.gh_ast.specs.Plain.{part_of, inside_of}
+use Rattle.gh_ast.specs.Plain.{inside_of}
 use Rattle.gh_parse.proofs.StatementViews.{close_view}
 use Rattle.gh_parse.proofs.ProcedureExits.{ended_none, ended_some}
 use Rattle.gh_parse.proofs.cursor.Parser.ending.Goals as goal
