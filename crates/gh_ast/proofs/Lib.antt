@@ -7,7 +7,6 @@ pub mod TypedPrograms
 pub mod Clearing
 pub mod Words
 pub mod TokenLemmas
-pub mod PlainLemmas
 pub mod OneValue
 pub mod OneTest
 pub mod Shorter
