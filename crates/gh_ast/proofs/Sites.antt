@@ -84,8 +84,8 @@ mutual
   formula_in (segment f t) xs all = (operand_in f xs (all_left (in_operand f) (in_operand t) xs all), operand_in t xs (all_right (in_operand f) (in_operand t) xs all))
   formula_in (star fs) xs all = formulas_in fs xs all
   formula_in (cases t a b) xs all =
-      let late : AllIn (in_formula a ++ in_formula b) xs = all_right (in_test t) (in_formula a ++ in_formula b) xs all in
-      (test_in t xs (all_left (in_test t) (in_formula a ++ in_formula b) xs all), formula_in a xs (all_left (in_formula a) (in_formula b) xs late), formula_in b xs (all_right (in_formula a) (in_formula b) xs late))
+      let early : AllIn (in_test t ++ in_formula a) xs = all_left (in_test t ++ in_formula a) (in_formula b) xs all in
+      (test_in t xs (all_left (in_test t) (in_formula a) xs early), formula_in a xs (all_right (in_test t) (in_formula a) xs early), formula_in b xs (all_right (in_test t ++ in_formula a) (in_formula b) xs all))
 
   pub formulas_in : (fs : Formulas) (xs : List Name) → AllIn (in_formulas fs) xs → FormulasIn fs xs
   formulas_in no_formulas xs all = tt
@@ -130,8 +130,8 @@ in_row xs ys y first rest is = elim is [
   | inr h ↦ assigned_within ys (xs ++ ys) y (λ x there. Contains-append_right xs ys x there) (rest h)
 ]
 
-in_choice : {A B : Type 0} (ms xs ys : List Site) (y : Name) → (A → AssignedAt xs y) → (B → AssignedAt ys y) → A ⊎ B → AssignedAt (ms ++ (xs ++ ys)) y
-in_choice ms xs ys y first rest is = assigned_within (xs ++ ys) (ms ++ (xs ++ ys)) y (λ x there. Contains-append_right ms (xs ++ ys) x there) (in_row xs ys y first rest is)
+in_choice : {A B : Type 0} (ms xs ys : List Site) (y : Name) → (A → AssignedAt xs y) → (B → AssignedAt ys y) → A ⊎ B → AssignedAt (ms ++ xs ++ ys) y
+in_choice ms xs ys y first rest is = in_row (ms ++ xs) ys y (λ h. assigned_within xs (ms ++ xs) y (λ x there. Contains-append_right ms xs x there) (first h)) rest is
 
 mutual
   pub assigned_site : (inside : Bool) (s : Statement) (y : Name) → Assigns s y → AssignedAt (sites_in inside s) y

@@ -69,9 +69,7 @@ names_append os ps = map-append (λ o. o.name) os ps
 
 -- the variables are the parameters, the results and the locals
 pub variables_split : (q : Procedure) → variable_names q ≡ (parameters_of q ++ results_of q) ++ names (locals_of q)
-variables_split q =
-    names_append q.parameters (q.results ++ locals_of q) ∙ ap (λ rest. parameters_of q ++ rest) (names_append q.results (locals_of q))
-    ∙ sym (append_assoc (parameters_of q) (results_of q) (names (locals_of q)))
+variables_split q = names_append (q.parameters ++ q.results) (locals_of q) ∙ ap (λ front. front ++ names (locals_of q)) (names_append q.parameters q.results)
 
 pub parameters_first : (q : Procedure) → variable_names q ≡ parameters_of q ++ (results_of q ++ names (locals_of q))
 parameters_first q = variables_split q ∙ append_assoc (parameters_of q) (results_of q) (names (locals_of q))

@@ -22,11 +22,8 @@ none_left xs ys none w es there = none w es (Contains-append_left xs ys (returne
 none_right : (xs ys : List Site) → NoneInside (xs ++ ys) → NoneInside ys
 none_right xs ys none w es there = none w es (Contains-append_right xs ys (returned true w es) there)
 
-none_middle : (ms xs ys : List Site) → NoneInside (ms ++ (xs ++ ys)) → NoneInside xs
-none_middle ms xs ys none = none_left xs ys (none_right ms (xs ++ ys) none)
-
-none_last : (ms xs ys : List Site) → NoneInside (ms ++ (xs ++ ys)) → NoneInside ys
-none_last ms xs ys none = none_right xs ys (none_right ms (xs ++ ys) none)
+none_middle : (ms xs ys : List Site) → NoneInside (ms ++ xs ++ ys) → NoneInside xs
+none_middle ms xs ys none = none_right ms xs (none_left (ms ++ xs) ys none)
 
 -- inside a loop's body nothing returns
 mutual
@@ -38,7 +35,7 @@ mutual
   returns_not (call xs f es) none = tt
   returns_not (choice t a c b d) none = (
     all_return_not a (none_middle (map mentioned (in_test t)) (all_sites_in true a) (all_sites_in true b) none),
-    all_return_not b (none_last (map mentioned (in_test t)) (all_sites_in true a) (all_sites_in true b) none),
+    all_return_not b (none_right (map mentioned (in_test t) ++ all_sites_in true a) (all_sites_in true b) none),
   )
   returns_not (loop at t i body close) none = all_return_not body (none_right (map mentioned (in_test t ++ in_formula i)) (all_sites_in true body) none)
   returns_not (give at es) none = none at es (member_first (returned true at es) (map mentioned (in_exprs es)))
@@ -57,7 +54,7 @@ mutual
   loops_return_not inside (call xs f es) none = tt
   loops_return_not inside (choice t a c b d) none = (
     all_loops_return_not inside a (none_middle (map mentioned (in_test t)) (all_sites_in inside a) (all_sites_in inside b) none),
-    all_loops_return_not inside b (none_last (map mentioned (in_test t)) (all_sites_in inside a) (all_sites_in inside b) none),
+    all_loops_return_not inside b (none_right (map mentioned (in_test t) ++ all_sites_in inside a) (all_sites_in inside b) none),
   )
   loops_return_not inside (loop at t i body close) none =
       let within : NoneInside (all_sites_in true body) = none_right (map mentioned (in_test t ++ in_formula i)) (all_sites_in true body) none in
