@@ -63,13 +63,13 @@ first_refuted P k vs all f =
     let before : All (IsOfCopies P) f.before = λ j d l. subst (IsOfCopies P) (ap (λ ps. slice_index_or ps j d) f.whole ∙ before_seam f.before f.here d f.after j l) (all j d (rw f.whole (omega (arith, length-append f.before (f.here ∷ f.after))))) in
     record {
       reached =
-        record {
-          before = from_procedures f.before;
-          after = from_procedures f.after;
-          whole = rw f.whole (reached P f.before f.here f.after here);
-          number = rw (counted P f.before before, f.count) refl;
-          valid = all_valid P f.before f.earlier;
-        };
+          record {
+            before = from_procedures f.before;
+            after = from_procedures f.after;
+            whole = rw f.whole (reached P f.before f.here f.after here);
+            number = rw (counted P f.before before, f.count) refl;
+            valid = all_valid P f.before f.earlier;
+          };
       refutes = f.holds.refutes (only_condition f.here) (rw (one_condition f.here here.copies) (zero, omega arith, refl));
       drawable = drawable f.here vs f.holds.small;
     }
@@ -98,9 +98,9 @@ check_refuted text P k n vs p status t accepted copies f at e a b =
     let here : f.here ≡ p = sym (found_at (IsValidProcedure P) (λ q. RefutesProcedure P q vs) P.procedures k f p) ∙ at in
     let count : length (conditions P) ≡ n = counted P P.procedures copies ∙ sym e in
     let answer : IsCheck (Some text) Refuted (refuted_text P (k + 1) k (only_condition f.here) (trace_of f.here vs)) =
-      refuted P (k + 1) k (only_condition f.here) (trace_of f.here vs) accepted copies (first_refuted P k vs copies f) refl
+    refuted P (k + 1) k (only_condition f.here) (trace_of f.here vs) accepted copies (first_refuted P k vs copies f) refl
     in
     let told : refuted_text P (k + 1) k (only_condition f.here) (trace_of f.here vs) ≡ t =
-      ap (λ m. refuted_copies m k f.here vs) count ∙ ap (λ q. refuted_copies n k q vs) here ∙ sym b
+    ap (λ m. refuted_copies m k f.here vs) count ∙ ap (λ q. refuted_copies n k q vs) here ∙ sym b
     in
     rw a (subst (IsCheck (Some text) Refuted) told answer)

@@ -48,11 +48,10 @@ goes_on_valid P ps p (Refuted k vs) g c h = (All-push (IsOfCopies P) ps p g.0 c,
 pub goes_on_refuted : (P : Program) (ps : List Procedure) (p : Procedure) (v : Verdict) (k : ℕ) (vs : Vec ℕ Global) → IsGoing P ps v → length ps ≡ k → IsOfCopies P p → RefutesProcedure P p vs.items
     → IsGoing P (ps ++ p ∷ []) (noted v (Refuted k vs))
 goes_on_refuted P ps p (NotBuilt j) k vs g e c h = absurd g
-goes_on_refuted P ps p Valid k vs g e c h =
-    (
-      All-push (IsOfCopies P) ps p g.0 c,
-      record { before = ps; here = p; after = []; whole = refl; count = e; earlier = g.1; holds = h },
-    )
+goes_on_refuted P ps p Valid k vs g e c h = (
+  All-push (IsOfCopies P) ps p g.0 c,
+  record { before = ps; here = p; after = []; whole = refl; count = e; earlier = g.1; holds = h },
+)
 goes_on_refuted P ps p (Refuted j ws) k vs g e c h =
     (All-push (IsOfCopies P) ps p g.0 c, first_more (IsValidProcedure P) (λ q. RefutesProcedure P q ws.items) ps (p ∷ []) j g.1)
 

@@ -6,6 +6,8 @@ mod copies;
 mod lines;
 mod report;
 pub mod run;
+#[cfg(test)]
+mod run_tests;
 mod states;
 pub mod status;
 #[cfg(test)]

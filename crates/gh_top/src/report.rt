@@ -12,12 +12,15 @@ ghost use Rattle.gh_draw.specs.Drawings.{line};
 ghost use Rattle.gh_top.specs.Reports.{IsCheck};
 ghost use Rattle.gh_top.specs.Refuting.{refuted_copies};
 
+use crate::lines::{
+    byte_line, description_line, drawing_lines, limit_line, name_of_error, plain_line,
+    refused_line, refuted_line, verified_line,
+};
 use crate::states::push_states;
-use crate::lines::{byte_line, description_line, drawing_lines, limit_line, name_of_error, plain_line, refused_line, refuted_line, verified_line};
 use crate::status::Status;
 use crate::verdict::{Verdict, judge_all};
-use gh_ast::{Procedure, Program};
 use gh_ast::typed::Typed;
+use gh_ast::{Procedure, Program};
 use gh_base::text::Text;
 use gh_parse::error::ParseError;
 use gh_parse::parse::parse;

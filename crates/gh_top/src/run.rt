@@ -91,12 +91,7 @@ fn report<I: Inputs>(alloc: Global, words: &Words, inputs: &mut I) -> Result<Rep
 }
 
 /// Carries out what the words ask for: reads, decides, and writes the answer.
-pub fn run<I: Inputs, S: Sink>(
-    alloc: Global,
-    words: &Words,
-    inputs: &mut I,
-    out: &mut S,
-) -> Status
+pub fn run<I: Inputs, S: Sink>(alloc: Global, words: &Words, inputs: &mut I, out: &mut S) -> Status
     ensures answer { Answers (I.table inputs.old) words.now (S.written out.old) (S.written out.new) result }
     ensures good { result ≡ Status.Verified → IsSound (I.table inputs.old) words.now }
 

@@ -3,6 +3,8 @@
 
 mod files;
 mod output;
+#[cfg(test)]
+mod tests;
 
 use files::FileInputs;
 use gh_top::run::run;

@@ -68,12 +68,11 @@ refuted_report-requires-clause-typed c =
     let P = program_of c.args.typed.now in
     let v = rw c.in-Refuted.is at c.in_ok-place.ensures in
     let h = within {Q = IsValidProcedure P} {R = λ p. RefutesProcedure P p c.in-Refuted.values.items} c.as_slice-procedures.result.now c.in-Refuted.place (v P).1 in
-    let at = viewed_at c.as_slice-procedures.result.now c.in-Refuted.place c.index-procedures-place-in-Refuted.result h c.index-procedures-place-in-Refuted.is in
-    (
+    let at = viewed_at c.as_slice-procedures.result.now c.in-Refuted.place c.index-procedures-place-in-Refuted.result h c.index-procedures-place-in-Refuted.is in (
       program_of c.program.result.now,
       c.program.ensures.typed,
       subst (λ ps. Contains (map procedure_of ps) (procedure_of c.index-procedures-place-in-Refuted.result)) c.as_slice-procedures.ensures.value
-      (c.in-Refuted.place, omega (arith, length-map c.as_slice-procedures.result.now procedure_of), at),
+          (c.in-Refuted.place, omega (arith, length-map c.as_slice-procedures.result.now procedure_of), at),
     )
 
 pub refuted_report-requires-clause-copies : goal.refuted_report-requires-clause-copies
@@ -104,45 +103,45 @@ accepted text a b e spelled typed limits =
 pub returns-in_ok-text-in-NotBuilt : goal.returns-in_ok-text-in-NotBuilt
 returns-in_ok-text-in-NotBuilt c =
     λ text spelled.
-      let P = program_of c.args.typed.now in
-      let v = rw c.in-NotBuilt.is at c.in_ok-place.ensures in
-      let h = within {Q = IsOfCopies P} {R = not_copies P} c.as_slice-procedures.result.now c.in-NotBuilt.place (v P) in
-      let same : map procedure_of c.as_slice-procedures.result.now ≡ P.procedures =
-        ap (map procedure_of) c.as_slice-procedures.ensures.value ∙ ap (λ q. map procedure_of q.procedures.items) c.program.ensures.same
-      in
-      let p = procedure_of c.index-procedures-place.result in
-      let at = viewed_at c.as_slice-procedures.result.now c.in-NotBuilt.place c.index-procedures-place.result h c.index-procedures-place.is in
-      check_not_built text P c.in-NotBuilt.place p _ _ (accepted text _ _ c.program.ensures.same spelled c.program.ensures.typed c.program.ensures.limits)
-      (subst (λ ps. IsFirst (IsOfCopies P) (not_copies P) ps c.in-NotBuilt.place) same (v P)) (subst (λ ps. get_or ps c.in-NotBuilt.place p ≡ p) same at) c.refusal.ensures.status
-      (c.refusal.ensures.text ∙ c.in_ok-text-in-NotBuilt.ensures ∙ ap (λ (q : read.Procedure). refused_at (codes "NotYet") q.name.span) (sym c.index-procedures-place.is))
+    let P = program_of c.args.typed.now in
+    let v = rw c.in-NotBuilt.is at c.in_ok-place.ensures in
+    let h = within {Q = IsOfCopies P} {R = not_copies P} c.as_slice-procedures.result.now c.in-NotBuilt.place (v P) in
+    let same : map procedure_of c.as_slice-procedures.result.now ≡ P.procedures =
+    ap (map procedure_of) c.as_slice-procedures.ensures.value ∙ ap (λ q. map procedure_of q.procedures.items) c.program.ensures.same
+    in
+    let p = procedure_of c.index-procedures-place.result in
+    let at = viewed_at c.as_slice-procedures.result.now c.in-NotBuilt.place c.index-procedures-place.result h c.index-procedures-place.is in
+    check_not_built text P c.in-NotBuilt.place p _ _ (accepted text _ _ c.program.ensures.same spelled c.program.ensures.typed c.program.ensures.limits)
+    (subst (λ ps. IsFirst (IsOfCopies P) (not_copies P) ps c.in-NotBuilt.place) same (v P)) (subst (λ ps. get_or ps c.in-NotBuilt.place p ≡ p) same at) c.refusal.ensures.status
+    (c.refusal.ensures.text ∙ c.in_ok-text-in-NotBuilt.ensures ∙ ap (λ (q : read.Procedure). refused_at (codes "NotYet") q.name.span) (sym c.index-procedures-place.is))
 
 pub returns-in_ok-verified_line-in-Valid : goal.returns-in_ok-verified_line-in-Valid
 returns-in_ok-verified_line-in-Valid c =
     λ text spelled.
-      let P = program_of c.args.typed.now in
-      let v = rw c.in-Valid.is at c.in_ok-place.ensures in
-      let same : map procedure_of c.as_slice-procedures.result.now ≡ P.procedures =
-        ap (map procedure_of) c.as_slice-procedures.ensures.value ∙ ap (λ q. map procedure_of q.procedures.items) c.program.ensures.same
-      in
-      check_verified text P (length c.as_slice-procedures.result.now) _ (accepted text _ _ c.program.ensures.same spelled c.program.ensures.typed c.program.ensures.limits)
-      (subst (All (IsOfCopies P)) same (v P).0) (subst (All (IsValidProcedure P)) same (v P).1)
-      (sym (length-map c.as_slice-procedures.result.now procedure_of) ∙ ap length same) c.in_ok-verified_line-in-Valid.ensures
+    let P = program_of c.args.typed.now in
+    let v = rw c.in-Valid.is at c.in_ok-place.ensures in
+    let same : map procedure_of c.as_slice-procedures.result.now ≡ P.procedures =
+    ap (map procedure_of) c.as_slice-procedures.ensures.value ∙ ap (λ q. map procedure_of q.procedures.items) c.program.ensures.same
+    in
+    check_verified text P (length c.as_slice-procedures.result.now) _ (accepted text _ _ c.program.ensures.same spelled c.program.ensures.typed c.program.ensures.limits)
+    (subst (All (IsOfCopies P)) same (v P).0) (subst (All (IsValidProcedure P)) same (v P).1)
+    (sym (length-map c.as_slice-procedures.result.now procedure_of) ∙ ap length same) c.in_ok-verified_line-in-Valid.ensures
 
 pub returns-in-Refuted : goal.returns-in-Refuted
 returns-in-Refuted c =
     both_ok c.refuted_report.result _ _ _ c.refuted_report.ensures.status c.refuted_report.ensures.text
     (λ r status told text spelled.
-      let P = program_of c.args.typed.now in
-      let v = rw c.in-Refuted.is at c.in_ok-place.ensures in
-      let h = within {Q = IsValidProcedure P} {R = λ p. RefutesProcedure P p c.in-Refuted.values.items} c.as_slice-procedures.result.now c.in-Refuted.place (v P).1 in
-      let same : map procedure_of c.as_slice-procedures.result.now ≡ P.procedures =
-        ap (map procedure_of) c.as_slice-procedures.ensures.value ∙ ap (λ q. map procedure_of q.procedures.items) c.program.ensures.same
-      in
-      let p = procedure_of c.index-procedures-place-in-Refuted.result in
-      let at = viewed_at c.as_slice-procedures.result.now c.in-Refuted.place c.index-procedures-place-in-Refuted.result h c.index-procedures-place-in-Refuted.is in
-      check_refuted text P c.in-Refuted.place (length c.as_slice-procedures.result.now) c.in-Refuted.values.items p r.status r.text
-      (accepted text _ _ c.program.ensures.same spelled c.program.ensures.typed c.program.ensures.limits)
-      (subst (All (IsOfCopies P)) same (v P).0)
-      (subst (λ ps. IsFirst (IsValidProcedure P) (λ q. RefutesProcedure P q c.in-Refuted.values.items) ps c.in-Refuted.place) same (v P).1)
-      (subst (λ ps. get_or ps c.in-Refuted.place p ≡ p) same at) (sym (length-map c.as_slice-procedures.result.now procedure_of) ∙ ap length same) status
-      (told ∙ ap (refuted_copies (length c.as_slice-procedures.result.now) c.in-Refuted.place p) c.as_slice.ensures.value))
+    let P = program_of c.args.typed.now in
+    let v = rw c.in-Refuted.is at c.in_ok-place.ensures in
+    let h = within {Q = IsValidProcedure P} {R = λ p. RefutesProcedure P p c.in-Refuted.values.items} c.as_slice-procedures.result.now c.in-Refuted.place (v P).1 in
+    let same : map procedure_of c.as_slice-procedures.result.now ≡ P.procedures =
+    ap (map procedure_of) c.as_slice-procedures.ensures.value ∙ ap (λ q. map procedure_of q.procedures.items) c.program.ensures.same
+    in
+    let p = procedure_of c.index-procedures-place-in-Refuted.result in
+    let at = viewed_at c.as_slice-procedures.result.now c.in-Refuted.place c.index-procedures-place-in-Refuted.result h c.index-procedures-place-in-Refuted.is in
+    check_refuted text P c.in-Refuted.place (length c.as_slice-procedures.result.now) c.in-Refuted.values.items p r.status r.text
+    (accepted text _ _ c.program.ensures.same spelled c.program.ensures.typed c.program.ensures.limits)
+    (subst (All (IsOfCopies P)) same (v P).0)
+    (subst (λ ps. IsFirst (IsValidProcedure P) (λ q. RefutesProcedure P q c.in-Refuted.values.items) ps c.in-Refuted.place) same (v P).1)
+    (subst (λ ps. get_or ps c.in-Refuted.place p ≡ p) same at) (sym (length-map c.as_slice-procedures.result.now procedure_of) ∙ ap length same) status
+    (told ∙ ap (refuted_copies (length c.as_slice-procedures.result.now) c.in-Refuted.place p) c.as_slice.ensures.value))

@@ -8,5 +8,5 @@ pub returns-clause-ok : goal.returns-clause-ok
 returns-clause-ok g c =
     IfOk-weaker c.file_report.result _ _
     (λ r k words asked. request_answer (g.I.Inputs.table c.args.inputs.now) words c.args.request.now r.status r.text asked
-      (subst (λ f. HasCheck (g.I.Inputs.table c.args.inputs.now) f r.status r.text) c.file.ensures k))
+    (subst (λ f. HasCheck (g.I.Inputs.table c.args.inputs.now) f r.status r.text) c.file.ensures k))
     c.file_report.ensures.ok
