@@ -131,7 +131,7 @@ fn is_list_test(test: &Cond) -> bool
 }
 
 // A member of a list of tests.
-#[cycle(test)]
+#[cycle(condition)]
 fn put_member(out: &mut Text, test: &Cond) -> Result<(), AllocError>
     ensures { OnOk result (Adds out.old out.new (bracketed (is_list (test_of test.now)) (test_shown (test_of test.now)))) }
 {
@@ -144,7 +144,7 @@ fn put_member(out: &mut Text, test: &Cond) -> Result<(), AllocError>
     Ok(())
 }
 
-#[cycle(test)]
+#[cycle(condition)]
 fn put_tests(out: &mut Text, between: Sign, tests: &[Cond]) -> Result<(), AllocError>
     ensures { OnOk result (Adds out.old out.new (tests_shown between (tests_view tests.now))) }
 {
@@ -159,7 +159,7 @@ fn put_tests(out: &mut Text, between: Sign, tests: &[Cond]) -> Result<(), AllocE
     Ok(())
 }
 
-#[cycle(test)]
+#[cycle(condition)]
 fn put_test(out: &mut Text, test: &Cond) -> Result<(), AllocError>
     ensures { OnOk result (Adds out.old out.new (test_shown (test_of test.now))) }
 {

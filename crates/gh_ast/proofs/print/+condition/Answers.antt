@@ -3,7 +3,7 @@ use Rattle.gh_ast.specs.Plain.{negation, test_of}
 use Rattle.gh_ast.specs.Printed.{Adds, test_shown}
 use Rattle.gh_ast.proofs.Folds.{not_of}
 use Rattle.gh_ast.proofs.Printing.{member_shown, turn, and_then, in_brackets, whole_list, tests_joined}
-use Rattle.gh_ast.proofs.print.+test.Goals as goal
+use Rattle.gh_ast.proofs.print.+condition.Goals as goal
 
 pub put_member-returns : goal.put_member-returns
 put_member-returns t c =
