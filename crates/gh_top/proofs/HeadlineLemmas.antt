@@ -12,7 +12,7 @@ use Rattle.gh_draw.specs.Drawings.{line}
 use Rattle.gh_top.specs.Words.{IsRequest, file_of}
 use Rattle.gh_top.specs.Refusals.{IsAccepted, most_bytes, too_long}
 use Rattle.gh_top.specs.Reports.{IsCheck, absent, refused, not_built, verified, refuted}
-use Rattle.gh_top.specs.Headline.{HasResult, usage, check, AreTold, HasAnswer, HasCheck, IsAnswered, Answers, IsSound}
+use Rattle.gh_top.specs.Headline.{HasResult, usage, check, AreTold, HasAnswer, HasCheck, IsAnswered, Answers, IsGoodText}
 use Rattle.gh_top.specs.declared.words.Request.{Request}
 use Rattle.gh_top.specs.declared.words.Request.TheVariants.{Check}
 use Rattle.gh_top.specs.declared.status.Status.{Status}
@@ -71,40 +71,37 @@ said_result words files s u (check file r k) = said_check (files file) s u k
 pub said : (t : Option Table) (words : List (List ℕ)) (s : Status) (u : List ℕ) → HasAnswer t words s u → IsSaid s
 said t words s u a = said_result words a.files s u a.result
 
-pub answered : (t : Option Table) (words : List (List ℕ)) (old new : Option (List ℕ)) (s : Status) (u : List ℕ) → HasAnswer t words s u → Appends old new u → Answers t words old new s
-answered t words old new Verified u a w = record { text = u; answer = a; written = w }
-answered t words old new Listed u a w = record { text = u; answer = a; written = w }
-answered t words old new Refuted u a w = record { text = u; answer = a; written = w }
-answered t words old new Usage u a w = record { text = u; answer = a; written = w }
-answered t words old new ReadFault u a w = tt
-answered t words old new TextRefused u a w = record { text = u; answer = a; written = w }
-answered t words old new LogRefused u a w = record { text = u; answer = a; written = w }
-answered t words old new WriteFault u a w = tt
-answered t words old new OutOfMemory u a w = tt
-
 -- a program that is verified is good
-record IsGoodText (o : Option (List ℕ)) : Type 0 where
+record IsGoodBytes (o : Option (List ℕ)) : Type 0 where
   text : List ℕ
   program : Program
   bytes : o ≡ Some text
   accepted : IsAccepted text program
   good : IsGood program
 
-good_check : (o : Option (List ℕ)) (s : Status) (u : List ℕ) → IsCheck o s u → s ≡ Verified → IsGoodText o
+good_check : (o : Option (List ℕ)) (s : Status) (u : List ℕ) → IsCheck o s u → s ≡ Verified → IsGoodBytes o
 good_check o s u absent e = absurd cc
 good_check o s u (refused r h) e = absurd cc
 good_check o s u (not_built P p a f) e = absurd cc
 good_check _ s u (verified {text = text} P a b v) e = record { text = text; program = P; bytes = refl; accepted = a; good = typed_is_good P a.typed v }
 good_check o s u (refuted P k before c xs a b f g) e = absurd cc
 
-good_result : (t : Option Table) (words : List (List ℕ)) (files : Table) (s : Status) (u : List ℕ) → AreTold t files → HasResult words files s u → s ≡ Verified → IsSound t words
-good_result t words files s u told (usage h) e = absurd cc
-good_result t words files s u told (check file r k) e =
+good_result : (words : List (List ℕ)) (files : Table) (s : Status) (u : List ℕ) → HasResult words files s u → s ≡ Verified → IsGoodText words files
+good_result words files s u (usage h) e = absurd cc
+good_result words files s u (check file r k) e =
     let g = good_check (files file) s u k e in
-    record { files = files; told = told; file = file; text = g.text; program = g.program; request = r; bytes = g.bytes; accepted = g.accepted; good = g.good }
+    record { file = file; text = g.text; program = g.program; request = r; bytes = g.bytes; accepted = g.accepted; good = g.good }
 
-pub good : (t : Option Table) (words : List (List ℕ)) (s : Status) (u : List ℕ) → HasAnswer t words s u → s ≡ Verified → IsSound t words
-good t words s u a e = good_result t words a.files s u a.told a.result e
+pub answered : (t : Option Table) (words : List (List ℕ)) (old new : Option (List ℕ)) (s : Status) (u : List ℕ) → HasAnswer t words s u → Appends old new u → Answers t words old new s
+answered t words old new Verified u a w = record { text = u; answer = a; written = w; good = λ e. good_result words a.files Verified u a.result e }
+answered t words old new Listed u a w = record { text = u; answer = a; written = w; good = λ e. good_result words a.files Listed u a.result e }
+answered t words old new Refuted u a w = record { text = u; answer = a; written = w; good = λ e. good_result words a.files Refuted u a.result e }
+answered t words old new Usage u a w = record { text = u; answer = a; written = w; good = λ e. good_result words a.files Usage u a.result e }
+answered t words old new ReadFault u a w = tt
+answered t words old new TextRefused u a w = record { text = u; answer = a; written = w; good = λ e. good_result words a.files TextRefused u a.result e }
+answered t words old new LogRefused u a w = record { text = u; answer = a; written = w; good = λ e. good_result words a.files LogRefused u a.result e }
+answered t words old new WriteFault u a w = tt
+answered t words old new OutOfMemory u a w = tt
 
 pub usage_answer : (t : Option Table) (words : List (List ℕ)) (u : List ℕ) → ((r : Request) → IsRequest words r → ⊥) → u ≡ line (codes "refused: usage") → HasAnswer t words Usage u
 usage_answer None words u h e = record { files = λ n. None; told = tt; result = rw e (usage h) }

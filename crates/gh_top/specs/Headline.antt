@@ -39,11 +39,22 @@ pub record HasCheck (table : Option Table) (file : List ℕ) (status : Status) (
   pub told : AreTold table files
   pub check : IsCheck (files file) status text
 
--- exactly one text was appended, and it is the answer
+-- the program of the request is good: no run of any procedure from a state that meets its precondition, beside any frame, faults, leaks or ends outside its postcondition
+pub record IsGoodText (words : List (List ℕ)) (files : Table) : Type 0 where
+  pub file : List ℕ
+  pub text : List ℕ
+  pub program : Program
+  pub request : IsRequest words (Check file)
+  pub bytes : files file ≡ Some text
+  pub accepted : IsAccepted text program
+  pub good : IsGood program
+
+-- exactly one text was appended, it is the answer, and what is verified is good
 pub record IsAnswered (table : Option Table) (words : List (List ℕ)) (old new : Option (List ℕ)) (status : Status) : Type 0 where
   pub text : List ℕ
   pub answer : HasAnswer table words status text
   pub written : Appends old new text
+  pub good : status ≡ Verified → IsGoodText words answer.files
 
 -- a front of an answer's text was appended
 pub record IsCutOff (table : Option Table) (words : List (List ℕ)) (old new : Option (List ℕ)) : Type 0 where
@@ -67,15 +78,3 @@ IsStop before now stop.OutOfMemory = ⊤
 -- the words name a file
 abbrev pub NamesFile : List (List ℕ) → Type 0
 NamesFile words = (r : Request) × IsRequest words r
-
--- the program that was verified is good: no run of any procedure from a state that meets its precondition, beside any frame, faults, leaks or ends outside its postcondition
-pub record IsSound (table : Option Table) (words : List (List ℕ)) : Type 0 where
-  pub files : Table
-  pub told : AreTold table files
-  pub file : List ℕ
-  pub text : List ℕ
-  pub program : Program
-  pub request : IsRequest words (Check file)
-  pub bytes : files file ≡ Some text
-  pub accepted : IsAccepted text program
-  pub good : IsGood program

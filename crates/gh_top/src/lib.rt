@@ -14,4 +14,6 @@ pub mod status;
 mod tests;
 mod variables;
 mod verdict;
+#[cfg(test)]
+mod verdict_tests;
 pub mod words;

@@ -5,7 +5,7 @@ ghost use Rattle.std.specs.Io.KnownBytes.{Keeps};
 ghost use Rattle.gh_base.specs.Outside.{Rose};
 ghost use Rattle.gh_draw.specs.Drawings.{line};
 ghost use Rattle.gh_top.specs.Words.{IsRequest};
-ghost use Rattle.gh_top.specs.Headline.{Answers, IsCutOff, IsSound, NamesFile, HasAnswer, HasCheck, IsStop};
+ghost use Rattle.gh_top.specs.Headline.{Answers, IsCutOff, NamesFile, HasAnswer, HasCheck, IsStop};
 
 use crate::lines::plain_line;
 use crate::report::{Report, text_report};
@@ -93,7 +93,6 @@ fn report<I: Inputs>(alloc: Global, words: &Words, inputs: &mut I) -> Result<Rep
 /// Carries out what the words ask for: reads, decides, and writes the answer.
 pub fn run<I: Inputs, S: Sink>(alloc: Global, words: &Words, inputs: &mut I, out: &mut S) -> Status
     ensures answer { Answers (I.table inputs.old) words.now (S.written out.old) (S.written out.new) result }
-    ensures good { result ≡ Status.Verified → IsSound (I.table inputs.old) words.now }
 
     // A fault has its cause, and want of memory or a read fault leaves nothing written.
     ensures read { result ≡ Status.ReadFault → Rose (I.faults inputs.old) (I.faults inputs.new) }

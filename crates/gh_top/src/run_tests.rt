@@ -85,15 +85,118 @@ procedure second(x: Node) returns (y: Node)
 }
 
 #[test]
-fn no_request(rt: HostRuntime) -> Result<(), AllocError> {
+fn deep_long_and_limited(rt: HostRuntime) -> Result<(), AllocError> {
     let alloc = rt.alloc();
+    let refused = Status::TextRefused;
+    let mut deep = Vec::from_slice(alloc, b"struct Node { var next: Node; }\n")?;
+    for _ in 0..65u8 {
+        deep.push(b'(')?;
+    }
+    assert!(rt; answers(alloc, deep.as_slice(), refused, b"refused: Deep at 2:65\n")?);
+    let atoms = b"struct Node { var next: Node; }
+procedure p() requires emp &*& emp &*& emp &*& emp &*& emp &*& emp &*& emp &*& emp &*& emp &*& emp &*& emp &*& emp &*& emp &*& emp &*& emp &*& emp &*& emp &*& emp &*& emp &*& emp &*& emp &*& emp &*& emp &*& emp &*& emp &*& emp &*& emp &*& emp &*& emp &*& emp &*& emp &*& emp &*& emp { }
+";
+    let limit = b"refused: Limit atoms at 2:11, count 33\n";
+    assert!(rt; answers(alloc, atoms, refused, limit)?);
+    let most = padded(alloc, 1_048_576)?;
+    let verified = b"verified: 1 of 1 valid\n";
+    assert!(rt; answers(alloc, most.as_slice(), Status::Verified, verified)?);
+    let over = padded(alloc, 1_048_577)?;
+    assert!(rt; answers(alloc, over.as_slice(), refused, b"refused: TooLong\n")?);
+    Ok(())
+}
+
+// The smallest program, with a comment that makes its text this long.
+fn padded(alloc: Global, length: usize) -> Result<Vec<u8>, AllocError> {
+    let mut text = Vec::from_slice(alloc, NOP)?;
+    text.extend_from_slice(b"//")?;
+    for _ in NOP.len() + 2..length {
+        text.push(b'x')?;
+    }
+    Ok(text)
+}
+
+const NOP: &[u8] = b"struct Node { var next: Node; }
+procedure nop()
+  requires emp
+  ensures emp
+{ }
+";
+
+#[test]
+fn refuted_swap(rt: HostRuntime) -> Result<(), AllocError> {
+    let alloc = rt.alloc();
+    let text = b"struct Node { var next: Node; }
+procedure swap(a: Node, b: Node) returns (c: Node, d: Node)
+  requires a != b
+  ensures c == b &*& d == a &*& c != d
+{
+  var t: Node;
+  t := a;
+  c := a;
+  d := a;
+}
+";
     let mut words = Words::new(alloc);
     words.push(alloc, "check")?;
-    words.push(alloc, "-f")?;
+    words.push(alloc, "f")?;
+    let mut inputs = MemoryInputs::new(alloc, 16);
+    inputs.add(alloc, "f", text)?;
+    let mut out = MemorySink::new(alloc, 4096, 64)?;
+    let ended = run(alloc, &words, &mut inputs, &mut out);
+    let first = b"refuted: condition 1 of 1, 0 valid before it
+swap from entry: return at 10:1
+drawing
+";
+    assert!(rt; ended == Status::Refuted && out.bytes().starts_with(first));
+    Ok(())
+}
+
+// Whether these words are no request.
+fn is_usage(alloc: Global, texts: &[&str]) -> Result<bool, AllocError> {
+    let mut words = Words::new(alloc);
+    for text in texts {
+        words.push(alloc, text)?;
+    }
     let mut inputs = MemoryInputs::new(alloc, 16);
     let mut out = MemorySink::new(alloc, 64, 64)?;
     let ended = run(alloc, &words, &mut inputs, &mut out);
-    assert!(rt; ended == Status::Usage && out.bytes() == b"refused: usage\n".as_slice());
+    Ok(ended == Status::Usage && out.bytes() == b"refused: usage\n".as_slice())
+}
+
+#[test]
+fn no_requests(rt: HostRuntime) -> Result<(), AllocError> {
+    let alloc = rt.alloc();
+    assert!(rt; is_usage(alloc, &[])?);
+    assert!(rt; is_usage(alloc, &["check"])?);
+    assert!(rt; is_usage(alloc, &["verify", "f"])?);
+    assert!(rt; is_usage(alloc, &["check", "f", "g"])?);
+    assert!(rt; is_usage(alloc, &["check", "-f"])?);
+    assert!(rt; is_usage(alloc, &["check", ""])?);
+    Ok(())
+}
+
+// What `check` on the smallest program answers where a call fails or room ends, and what is written.
+fn faulty(alloc: Global, call: Option<u64>, room: usize) -> Result<(Status, usize), AllocError> {
+    let mut words = Words::new(alloc);
+    words.push(alloc, "check")?;
+    words.push(alloc, "f")?;
+    let mut inputs = MemoryInputs::new(alloc, 16);
+    inputs.add(alloc, "f", NOP)?;
+    if let Some(call) = call {
+        inputs.fail_at(call)?;
+    }
+    let mut out = MemorySink::new(alloc, room, 8)?;
+    let ended = run(alloc, &words, &mut inputs, &mut out);
+    Ok((ended, out.bytes().len()))
+}
+
+#[test]
+fn faults(rt: HostRuntime) -> Result<(), AllocError> {
+    let alloc = rt.alloc();
+    assert!(rt; faulty(alloc, Some(3), 64)? == (Status::ReadFault, 0));
+    assert!(rt; faulty(alloc, None, 8)? == (Status::WriteFault, 8));
+    assert!(rt; faulty(alloc, None, 23)? == (Status::Verified, 23));
     Ok(())
 }
 

@@ -17,7 +17,8 @@ use std::io::{self, ErrorKind};
 use std::process::ExitCode;
 use std::rt::Env;
 
-// The words after the program's name. Where one isn't UTF-8 there are none, which is no request.
+// The words after the program's name. Where they can't be had, as where one isn't UTF-8, there are
+// none, which is no request.
 fn words_of(rt: &(impl Env + Alloc<A = Global>)) -> Result<Words, AllocError> {
     let mut words = Words::new(rt.alloc());
     match env::args(rt) {
@@ -26,8 +27,8 @@ fn words_of(rt: &(impl Env + Alloc<A = Global>)) -> Result<Words, AllocError> {
                 words.push(rt.alloc(), argument.as_str())?;
             }
         }
-        Err(error) if error.kind() == ErrorKind::InvalidData => {}
-        Err(_) => return Err(AllocError),
+        Err(error) if error.kind() == ErrorKind::OutOfMemory => return Err(AllocError),
+        Err(_) => {}
     }
     Ok(words)
 }

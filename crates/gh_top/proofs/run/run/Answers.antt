@@ -1,9 +1,12 @@
-use Rattle.gh_top.proofs.HeadlineLemmas.{said, good}
+use Rattle.std.proofs.Common.{subst}
+use Rattle.std.specs.Io.KnownBytes.{Appends}
+use Rattle.gh_top.proofs.HeadlineLemmas.{said, answered}
 use Rattle.gh_top.proofs.run.run.Goals as goal
 
-pub returns-in-Ok-write_all-clause-good : goal.returns-in-Ok-write_all-clause-good
-returns-in-Ok-write_all-clause-good g c =
-    λ e. good (g.I.Inputs.table c.args.inputs.now) c.args.words.now c.in-Ok.report.status c.in-Ok.report.text c.in-Ok.ensures.ok e
+pub returns-in-Ok-write_all-clause-answer : goal.returns-in-Ok-write_all-clause-answer
+returns-in-Ok-write_all-clause-answer g c =
+    answered (g.I.Inputs.table c.args.inputs.now) c.args.words.now _ _ c.in-Ok.report.status c.in-Ok.report.text c.in-Ok.ensures.ok
+    (subst (λ t. Appends (g.S.Sink.written c.args.out.now) (g.S.Sink.written c.write_all.new.out) t) c.bytes.ensures c.in-Ok-write_all.ensures.ok)
 
 pub returns-in-Ok-write_all-clause-read : goal.returns-in-Ok-write_all-clause-read
 returns-in-Ok-write_all-clause-read g c =
