@@ -4,6 +4,8 @@
 mod classes;
 mod copies;
 mod lines;
+#[cfg(test)]
+mod refusal_tests;
 mod report;
 pub mod run;
 #[cfg(test)]
