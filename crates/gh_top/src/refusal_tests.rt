@@ -165,3 +165,51 @@ fn reads_and_shared_names(rt: HostRuntime) -> Result<(), AllocError> {
     assert!(rt; writes(alloc, shared, Status::Verified, b"verified: 1 of 1 valid\n")?);
     Ok(())
 }
+
+#[test]
+fn later_names(rt: HostRuntime) -> Result<(), AllocError> {
+    let alloc = rt.alloc();
+    let text =
+        b"struct Node { var next: Node; }\nprocedure p(x: Node) returns (y: Node)\n{ var t, t: Node; }\n";
+    assert!(rt; refuses(alloc, text, b"refused: DuplicateName at 3:10\n")?);
+    let text =
+        b"struct Node { var next: Node; }\nprocedure p(x: Node) returns (y: Node)\n{ y := x; x := y; }\n";
+    assert!(rt; refuses(alloc, text, b"refused: AssignToParameter at 3:11\n")?);
+    let text =
+        b"struct Node { var next: Node; }\nprocedure p(x: Node) returns (y: Node)\n{ y := x; return; }\n";
+    assert!(rt; refuses(alloc, text, b"refused: WrongCount at 3:11\n")?);
+    let text =
+        b"struct Node { var next: Node; }\nprocedure p(x: Node) returns (y: Node)\n{ while (x == y) { y := x; return x; } }\n";
+    assert!(rt; refuses(alloc, text, b"refused: ReturnInLoop at 3:28\n")?);
+    Ok(())
+}
+
+#[test]
+fn later_calls_and_contracts(rt: HostRuntime) -> Result<(), AllocError> {
+    let alloc = rt.alloc();
+    let text =
+        b"struct Node { var next: Node; }\nprocedure p(x: Node) returns (y: Node)\n{ y := p(x); y := q(x); }\n";
+    assert!(rt; refuses(alloc, text, b"refused: UnknownProcedure at 3:19\n")?);
+    let text =
+        b"struct Node { var next: Node; }\nprocedure p(x: Node) returns (y: Node)\nrequires x == x &*& y == x\n{ }\n";
+    assert!(rt; refuses(alloc, text, b"refused: NameOutOfContract at 3:21\n")?);
+    let text =
+        b"struct Node { var next: Node; }\nprocedure p(x: Node) returns (y: Node)\n{ y := x; y, y := p(x); }\n";
+    assert!(rt; refuses(alloc, text, b"refused: RepeatedResult at 3:14\n")?);
+    let text =
+        b"struct Node { var next: Node; }\nprocedure p(x: Node) returns (y: Node)\n{ }\nprocedure q();\n";
+    assert!(rt; refuses(alloc, text, b"refused: NoBody at 4:14\n")?);
+    Ok(())
+}
+
+#[test]
+fn later_fields(rt: HostRuntime) -> Result<(), AllocError> {
+    let alloc = rt.alloc();
+    let text = b"struct Node { var next: Node;\n  var prev: Node; }\n";
+    assert!(rt; refuses(alloc, text, b"refused: SecondLink at 2:7\n")?);
+    let text = b"struct Node { var next: Node;\n  var data: Int; }\n";
+    assert!(rt; refuses(alloc, text, b"refused: DataField at 2:7\n")?);
+    let text = b"struct Node {\n}\n";
+    assert!(rt; refuses(alloc, text, b"refused: NoLink at 2:1\n")?);
+    Ok(())
+}
