@@ -1,6 +1,7 @@
 pub mod Names
 pub mod Outside
 pub mod Reading
+pub mod Files
 pub mod Memory
 pub mod Atoms
 pub mod Meaning

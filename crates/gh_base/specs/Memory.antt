@@ -1,19 +1,70 @@
--- What the inputs in memory hold.
-use Rattle.std.specs.Prelude.{ℕ, List, [], Option, slice_get, position, unwrap_or, option_map}
+-- What the inputs and the sink in memory answer.
+use Rattle.std.specs.Prelude.{◌≡◌, ◌↔◌, ◌⊎◌, ℕ, ◌-◌, ◌<◌, min, cond, List, [], length, Option, Some, None, is_some, Bool, true, Contains, Result, IsErr, IfOk}
+use Rattle.std.specs.Result.{is_err}
 use Rattle.std.specs.Str.{bytes_eq}
-use Rattle.gh_base.specs.Outside.{Table}
-use Rattle.gh_base.specs.declared.memory.File.{File}
+use Rattle.gh_base.specs.Outside.{Table, next}
+use Rattle.gh_base.specs.Files.{left_of}
+use Rattle.gh_base.specs.declared.calls.Calls.{Calls}
+use Rattle.gh_base.specs.declared.memory.MemoryInputs.{MemoryInputs}
+use Rattle.gh_base.specs.declared.sink.MemorySink.{MemorySink}
 
-abbrev pub content : File → List ℕ
-content f = f.bytes.items
+-- no call has been made, and none is listed
+pub record AreFresh (c : Calls) : Type 0 where
+  pub failing : c.failing.items ≡ []
+  pub made : c.made ≡ 0
+  pub faults : c.faults ≡ 0
 
--- the bytes of the file at a place, none past the last
-abbrev pub bytes_at : List File → ℕ → List ℕ
-bytes_at files place = unwrap_or (option_map content (slice_get files place)) []
+-- the next call is listed
+abbrev pub IsListed : Calls → Type 0
+IsListed c = Contains c.failing.items (next c.made)
 
--- the place of the first file of a name
-abbrev pub place_of : List File → List ℕ → Option ℕ
-place_of files name = position (λ f. bytes_eq f.name.items name) files
+-- a call was counted, and a fault exactly where it failed
+pub record IsCounted (old new : Calls) (failed : Bool) : Type 0 where
+  pub failing : new.failing.items ≡ old.failing.items
+  pub made : new.made ≡ next old.made
+  pub faults : new.faults ≡ cond failed (next old.faults) old.faults
 
-abbrev pub table_of : List File → Table
-table_of files name = option_map (bytes_at files) (place_of files name)
+-- one name has these bytes now, and each other one what it had
+abbrev pub HasMore : Table → Table → List ℕ → List ℕ → Type 0
+HasMore old new name bytes = (n : List ℕ) → new n ≡ cond (bytes_eq name n) (Some bytes) (old n)
+
+-- no input, and nothing begun
+pub record AreNoInputs (m : MemoryInputs) (piece : ℕ) : Type 0 where
+  pub files : m.files.items ≡ []
+  pub piece_is : m.piece ≡ piece
+  pub begun : m.begun ≡ None
+  pub calls : AreFresh m.calls
+
+-- a `begin` fails exactly where its number is listed
+pub record IsBegin {E : Type 0} (old new : MemoryInputs) (result : Result Bool E) : Type 0 where
+  pub fails : IsErr result ↔ IsListed old.calls
+  pub counted : IsCounted old.calls new.calls (is_err result)
+  pub files : new.files ≡ old.files
+  pub piece : new.piece ≡ old.piece
+
+-- a `read` fails exactly where its number is listed and something is begun; it gives as much as there is and fits, at most a piece
+pub record IsRead {E : Type 0} (old new : MemoryInputs) (room : ℕ) (result : Result ℕ E) : Type 0 where
+  pub fails : IsErr result ↔ (IsListed old.calls × (is_some old.begun ≡ true))
+  pub given : IfOk result (λ n. n ≡ min (min (length (left_of old.files.items old.begun old.at)) room) old.piece)
+  pub counted : IsCounted old.calls new.calls (is_err result)
+  pub files : new.files ≡ old.files
+  pub piece : new.piece ≡ old.piece
+
+-- nothing written
+pub record IsNewSink (s : MemorySink) (room piece : ℕ) : Type 0 where
+  pub bytes : s.bytes.items ≡ []
+  pub room_is : s.room ≡ room
+  pub piece_is : s.piece ≡ piece
+  pub calls : AreFresh s.calls
+
+-- no room is left
+abbrev pub IsFull : MemorySink → Type 0
+IsFull s = s.room - length s.bytes.items ≡ 0
+
+-- a `write` of some bytes fails exactly where its number is listed or no room is left; it takes as much as fits, at most a piece
+pub record IsWrite {E : Type 0} (old new : MemorySink) (bytes : List ℕ) (result : Result ℕ E) : Type 0 where
+  pub fails : IsErr result ↔ ((0 < length bytes) × (IsListed old.calls ⊎ IsFull old))
+  pub taken : IfOk result (λ n. n ≡ min (min (length bytes) old.piece) (old.room - length old.bytes.items))
+  pub counted : IsCounted old.calls new.calls (is_err result)
+  pub room : new.room ≡ old.room
+  pub piece : new.piece ≡ old.piece

@@ -1,5 +1,5 @@
 -- The answers of a call that reads a whole input.
-use Rattle.std.specs.Prelude.{◌≡◌, ℕ, ◌<◌, List, ◌++◌, length, Option, Some, None, ⊤}
+use Rattle.std.specs.Prelude.{◌≡◌, ℕ, ◌<◌, ◌+◌, List, [], ◌++◌, length, drop, Option, Some, None, ⊤, Result, Ok, Err}
 use Rattle.gh_base.specs.Outside.{Table, Rose}
 use Rattle.gh_base.specs.declared.reading.InputError.{InputError}
 use Rattle.gh_base.specs.declared.reading.InputError.TheVariants.{ReadFault, TooLong, Absent, OutOfMemory}
@@ -27,6 +27,13 @@ IsCaused bytes limit before now ReadFault = Rose before now
 IsCaused bytes limit before now TooLong = IsLonger bytes limit
 IsCaused bytes limit before now Absent = IsAbsent bytes
 IsCaused bytes limit before now OutOfMemory = ⊤
+
+-- the input was read to its end, or one byte past the limit and no further
+abbrev pub ReadsTo : {T : Type 0} → Option (Option (List ℕ)) → ℕ → Result T InputError → Option (List ℕ) → Type 0
+ReadsTo None limit result left = ⊤
+ReadsTo (Some bytes) limit (Ok text) left = left ≡ Some []
+ReadsTo (Some bytes) limit (Err TooLong) left = (text : List ℕ) × (bytes ≡ Some text) × (left ≡ Some (drop (limit + 1) text))
+ReadsTo (Some bytes) limit (Err e) left = ⊤
 
 -- what has been read and what is left make up the whole
 abbrev pub IsReading : Option (Option (List ℕ)) → List ℕ → Option (List ℕ) → Type 0

@@ -5,7 +5,7 @@ ghost use Rattle.gh_base.specs.declared.atom.Atom.TheVariants.{Eq as Equality};
 ghost use Rattle.gh_base.specs.Atoms.{opposite};
 
 /// A term of a condition, by its position. Term 0 is null.
-#[derive(Clone, Copy, Debug, Default, PartialEq, Eq)]
+#[derive(Clone, Copy, Debug, Default, PartialEq, Eq, Hash)]
 pub struct Term(pub u8);
 
 /// An atomic statement about terms in one version of the heap, or a defined one.

@@ -1,6 +1,6 @@
 //! Clauses: disjunctions of literals.
 
-ghost use Rattle.std.specs.Prelude.{◌≡◌, ◌∷◌, ◌++◌, [], OnOk, OnErr, IfOk};
+ghost use Rattle.std.specs.Prelude.{◌≡◌, ◌≤◌, ◌∷◌, ◌++◌, [], OnOk, OnErr, IfOk};
 
 use crate::atom::Lit;
 use smallvec::SmallVec;
@@ -40,6 +40,18 @@ impl Clause {
         Ok(Clause {
             lits: SmallVec::from_slice(alloc, lits)?,
         })
+    }
+
+    /// The clause of at most four literals. It takes no memory.
+    pub fn from_array<const L: usize>(alloc: Global, few: [Lit; L]) -> Clause
+        requires { L ≤ 4 }
+        ensures { result ≡ few.entry }
+    {
+        let mut lits = SmallVec::new(alloc);
+        for i in 0..L {
+            lits.push_reserved(few[i]);
+        }
+        Clause { lits }
     }
 
     /// Adds a literal last.

@@ -3,6 +3,7 @@
 
 pub mod assignment;
 pub mod atom;
+pub mod calls;
 pub mod clause;
 pub mod ground;
 pub mod memory;
@@ -14,6 +15,7 @@ pub mod reading;
 pub mod sink;
 pub mod sizes;
 pub mod structure;
+pub mod term;
 #[cfg(test)]
 mod tests;
 pub mod text;

@@ -1,8 +1,8 @@
 // The two traits, each with its meaning.
 
-ghost use Rattle.std.specs.Prelude.{◌≡◌, ℕ, ◌<◌, ◌≤◌, List, length, Option, IfOk, OnErr, Bool};
+ghost use Rattle.std.specs.Prelude.{◌≡◌, ℕ, ◌<◌, ◌≤◌, List, length, Option, IfOk, OnErr, Bool, false};
 ghost use Rattle.std.specs.Io.KnownBytes.{ReadConsumes, WriteAppends};
-ghost use Rattle.gh_base.specs.Outside.{HasCause, Begins, TakesSome, ReadsWithin, Table};
+ghost use Rattle.gh_base.specs.Outside.{HasCause, Begins, TakesSome, ReadsWithin, Table, has_begun, GivesNothing};
 
 /// The outside has failed.
 #[derive(Clone, Copy, Debug, PartialEq, Eq)]
@@ -16,12 +16,16 @@ pub trait Inputs {
     /// The bytes left of the input that was begun, where they are told.
     ghost left: { Self → Option (List ℕ) };
 
+    /// Whether an input is begun.
+    ghost begun: { Self → Bool };
+
     /// How often the outside has failed.
     ghost faults: { Self → ℕ };
 
     /// Begins an input, and says whether there is one of this name.
     fn begin(&mut self, name: &str) -> Result<bool, Failed>
         ensures begins { Begins (table self.old) name.now result (left self.new) }
+        ensures begun { begun self.new ≡ has_begun result }
         ensures table { table self.new ≡ table self.old }
         ensures cause { HasCause (faults self.old) (faults self.new) result };
 
@@ -29,6 +33,8 @@ pub trait Inputs {
     fn read(&mut self, into: &mut [u8]) -> Result<usize, Failed>
         ensures within { ReadsWithin result into.new }
         ensures bytes { ReadConsumes (left self.old) (left self.new) result into.new }
+        ensures nothing { begun self.old ≡ false → GivesNothing (faults self.old) (faults self.new) result }
+        ensures begun { begun self.new ≡ begun self.old }
         ensures table { table self.new ≡ table self.old }
         ensures cause { HasCause (faults self.old) (faults self.new) result };
 }
@@ -45,5 +51,6 @@ pub trait Sink {
     fn write(&mut self, piece: &[u8]) -> Result<usize, Failed>
         ensures some { TakesSome result piece.now }
         ensures bytes { WriteAppends (written self.old) (written self.new) result piece.now }
+        ensures nothing { length piece.now ≡ 0 → GivesNothing (faults self.old) (faults self.new) result }
         ensures cause { HasCause (faults self.old) (faults self.new) result };
 }

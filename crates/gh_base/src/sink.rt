@@ -1,59 +1,20 @@
-//! A sink in memory, with room for so many bytes.
+//! A sink in memory, with room for so many bytes, of which listed calls fail.
 
-ghost use Rattle.std.specs.Prelude.{◌≡◌, ◌<◌, ◌≤◌, Some, IfOk, [], MatchResult};
-ghost use Rattle.gh_base.specs.Outside.{HasCause, TakesSome};
-ghost use Rattle.std.specs.Io.KnownBytes.{WriteAppends};
+ghost use Rattle.std.specs.Prelude.{◌<◌, ◌≤◌, length};
+ghost use Rattle.std.specs.Vec.{vec_capacity};
 
-use crate::outside::{Failed, Sink};
-use std::alloc::{AllocError, Global};
+mod writes;
 
-/// A sink in memory. Its room is reserved when it is made.
+use crate::calls::Calls;
+
+/// A sink in memory. Its room is reserved when it is made. A write takes at most `piece` bytes.
 #[derive(Drop)]
 pub struct MemorySink {
     bytes: Vec<u8>,
     room: usize,
     piece: usize,
-    faults: u64,
+    calls: Calls,
     ghost some: { 0 < piece },
-}
-
-impl MemorySink {
-    /// An empty sink with room for `room` bytes, of which a write takes at most `piece`.
-    pub fn new(alloc: Global, room: usize, piece: usize) -> Result<MemorySink, AllocError>
-        requires { 0 < piece }
-        ensures { IfOk result (λ s. s.bytes.items ≡ []) }
-    {
-        Ok(MemorySink {
-            bytes: Vec::with_capacity(alloc, room)?,
-            room,
-            piece,
-            faults: 0,
-        })
-    }
-
-    /// The bytes written.
-    pub fn bytes(&self) -> &[u8]
-        ensures { result.now ≡ self.now.bytes.items }
-    {
-        self.bytes.as_slice()
-    }
-}
-
-impl Sink for MemorySink {
-    ghost written = { λ s. Some s.bytes.items };
-
-    ghost faults = { λ s. s.faults };
-
-    fn write(&mut self, piece: &[u8]) -> Result<usize, Failed> {
-        if piece.is_empty() {
-            return Ok(0);
-        }
-        let left = self.room.saturating_sub(self.bytes.len());
-        let count = piece.len().min(self.piece).min(left);
-        if count == 0 || self.bytes.extend_from_slice(&piece[..count]).is_err() {
-            self.faults = self.faults.saturating_add(1);
-            return Err(Failed);
-        }
-        Ok(count)
-    }
+    ghost within: { length bytes.items ≤ room },
+    ghost reserved: { room ≤ vec_capacity bytes },
 }

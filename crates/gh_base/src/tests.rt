@@ -1,9 +1,16 @@
 // Reading from memory.
+
+ghost use Rattle.std.specs.Prelude.{◌≡◌, IfOk};
+
 use crate::memory::MemoryInputs;
+use crate::outside::{Failed, Sink};
 use crate::reading::{InputError, read_input};
+use crate::sink::MemorySink;
 use std::alloc::AllocError;
 
-fn text_inputs(rt: &HostRuntime) -> Result<MemoryInputs, AllocError> {
+fn text_inputs(rt: &HostRuntime) -> Result<MemoryInputs, AllocError>
+    ensures { IfOk result (λ m. m.calls.made ≡ 0) }
+{
     let mut inputs = MemoryInputs::new(rt.alloc(), 16);
     inputs.add(rt.alloc(), "a", b"a text of more than sixteen bytes")?;
     Ok(inputs)
@@ -33,5 +40,17 @@ fn too_long_and_absent(rt: HostRuntime) -> Result<(), InputError> {
     assert!(rt; matches!(&long, Err(InputError::TooLong)));
     let absent = read_input(rt.alloc(), &mut inputs, "b", 32);
     assert!(rt; matches!(&absent, Err(InputError::Absent)));
+    Ok(())
+}
+
+#[test]
+fn second_write_fails(rt: HostRuntime) -> Result<(), AllocError> {
+    let mut out = MemorySink::new(rt.alloc(), 8, 3)?;
+    out.fail_at(2)?;
+    assert!(rt; out.write(b"written") == Ok(3));
+    assert!(rt; out.write(b"ten") == Err(Failed));
+    assert!(rt; out.write(b"") == Ok(0));
+    assert!(rt; out.write(b"ten") == Ok(3));
+    assert!(rt; out.bytes() == b"writen".as_slice());
     Ok(())
 }

@@ -176,17 +176,26 @@ fn no_requests(rt: HostRuntime) -> Result<(), AllocError> {
     Ok(())
 }
 
-// What `check` on the smallest program answers where a call fails or room ends, and what is written.
-fn faulty(alloc: Global, call: Option<u64>, room: usize) -> Result<(Status, usize), AllocError> {
+// What `check` on the smallest program answers where a read, a write or room fails, and how much is
+// written. Call 0 is none.
+fn faulty(
+    alloc: Global,
+    input_call: u64,
+    sink_call: u64,
+    room: usize,
+) -> Result<(Status, usize), AllocError> {
     let mut words = Words::new(alloc);
     words.push(alloc, "check")?;
     words.push(alloc, "f")?;
     let mut inputs = MemoryInputs::new(alloc, 16);
     inputs.add(alloc, "f", NOP)?;
-    if let Some(call) = call {
-        inputs.fail_at(call)?;
+    if input_call > 0 {
+        inputs.fail_at(input_call)?;
     }
     let mut out = MemorySink::new(alloc, room, 8)?;
+    if sink_call > 0 {
+        out.fail_at(sink_call)?;
+    }
     let ended = run(alloc, &words, &mut inputs, &mut out);
     Ok((ended, out.bytes().len()))
 }
@@ -194,9 +203,12 @@ fn faulty(alloc: Global, call: Option<u64>, room: usize) -> Result<(Status, usiz
 #[test]
 fn faults(rt: HostRuntime) -> Result<(), AllocError> {
     let alloc = rt.alloc();
-    assert!(rt; faulty(alloc, Some(3), 64)? == (Status::ReadFault, 0));
-    assert!(rt; faulty(alloc, None, 8)? == (Status::WriteFault, 8));
-    assert!(rt; faulty(alloc, None, 23)? == (Status::Verified, 23));
+    assert!(rt; faulty(alloc, 1, 0, 64)? == (Status::ReadFault, 0));
+    assert!(rt; faulty(alloc, 3, 0, 64)? == (Status::ReadFault, 0));
+    assert!(rt; faulty(alloc, 0, 1, 64)? == (Status::WriteFault, 0));
+    assert!(rt; faulty(alloc, 0, 2, 64)? == (Status::WriteFault, 8));
+    assert!(rt; faulty(alloc, 0, 0, 8)? == (Status::WriteFault, 8));
+    assert!(rt; faulty(alloc, 0, 0, 23)? == (Status::Verified, 23));
     Ok(())
 }
 

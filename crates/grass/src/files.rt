@@ -1,6 +1,6 @@
 //! Files as inputs.
 
-ghost use Rattle.std.specs.Prelude.{None};
+ghost use Rattle.std.specs.Prelude.{◌≡◌, None, is_some};
 
 use gh_base::outside::{Failed, Inputs};
 use std::fs;
@@ -17,7 +17,10 @@ pub struct FileInputs<'r, R: Files> {
 
 impl<'r, R: Files> FileInputs<'r, R> {
     /// No file is begun.
-    pub fn new(rt: &'r R) -> Self {
+    pub fn new(rt: &'r R) -> Self
+        ensures begun { result.file ≡ None }
+        ensures faults { result.faults ≡ 0 }
+    {
         FileInputs {
             rt,
             file: None,
@@ -30,6 +33,8 @@ impl<R: Files> Inputs for FileInputs<'_, R> {
     ghost table = { λ _. None };
 
     ghost left = { λ _. None };
+
+    ghost begun = { λ f. is_some f.file };
 
     ghost faults = { λ f. f.faults };
 

@@ -1,0 +1,24 @@
+-- Named files, of which one may be begun.
+use Rattle.std.specs.Prelude.{ℕ, ◌<◌, List, [], length, Option, Some, None, slice_get, position, unwrap_or, option_map, drop}
+use Rattle.std.specs.Str.{bytes_eq}
+use Rattle.gh_base.specs.Outside.{Table}
+use Rattle.gh_base.specs.declared.memory.File.{File}
+
+abbrev pub content : File → List ℕ
+content f = f.bytes.items
+
+-- the bytes of the file at a place, none past the last
+abbrev pub bytes_at : List File → ℕ → List ℕ
+bytes_at files place = unwrap_or (option_map content (slice_get files place)) []
+
+-- the place of the first file of a name
+abbrev pub place_of : List File → List ℕ → Option ℕ
+place_of files name = position (λ f. bytes_eq f.name.items name) files
+
+abbrev pub table_of : List File → Table
+table_of files name = option_map (bytes_at files) (place_of files name)
+
+-- what is left of the file that was begun
+abbrev pub left_of : List File → Option ℕ → ℕ → List ℕ
+left_of files None at = []
+left_of files (Some place) at = drop at (bytes_at files place)
