@@ -19,3 +19,10 @@ pub mod NoProgram
 pub mod ShorterStatement
 pub mod Printing
 pub mod Folds
+pub mod Relexing
+pub mod Good
+pub mod Respelling
+pub mod FormulasAgain
+pub mod StatementsAgain
+pub mod ProgramsAgain
+pub mod Shown

@@ -1,16 +1,21 @@
 -- What a program that breaks no type rule keeps.
-use Rattle.std.specs.Prelude.{◌≡◌, ◌≢◌, ℕ, ◌+◌, ◌<◌, List, ◌++◌, length, get_or, true, false, Any, AllPairs, Contains}
+use Rattle.std.specs.Prelude.{◌≡◌, ◌≢◌, ◌⊎◌, ℕ, zero, suc, ◌+◌, ◌<◌, List, ◌++◌, length, get_or, true, false, [], ◌∷◌, Bool, Any, AllPairs, Contains}
 use Rattle.std.proofs.Common.{refl, sym, ◌∙◌, ap, subst, inl, inr, arith, append_assoc}
 use Rattle.std.proofs.lemmas.List.{get_or-map, get_or-take, length-take-le, length-map, length-append, map-append, get_or-append-add, get_or_append_left}
 use Rattle.std.proofs.lemmas.List.Elements.{Contains-append_left, Contains-append_cases}
+use Rattle.std.specs.Str.{bytes_eq}
+use Rattle.std.proofs.lemmas.Bool.{cases_Bool, cases_eq}
+use Rattle.std.proofs.lemmas.Slice.Eq.{bytes_eq-Decides}
 use Rattle.gh_base.specs.declared.place.Span.{Span}
 use Rattle.gh_ast.specs.declared.Occ.{Occ}
 use Rattle.gh_ast.specs.declared.Expr.{Expr}
 use Rattle.gh_ast.specs.Plain.{Procedure, Program}
-use Rattle.gh_ast.specs.Programs.{Name, names, parameters_of, results_of, body_of, variable_names, SomeAssigns}
+use Rattle.gh_ast.specs.Programs.{Name, names, parameters_of, results_of, body_of, variable_names, name_of, SomeAssigns, IsFirstNamed, Declares}
 use Rattle.gh_ast.specs.Names.{FormulaIn}
-use Rattle.gh_ast.specs.Occurrences.{Site, mentioned, assigned, returned, in_formula, all_sites_in, sites_of, locals_of, variables_of}
-use Rattle.gh_ast.specs.Rules.{HasName, RepeatedAt, UnknownName, AssignToParameter, ReturnInLoop, AtSome, NameOutOfContract, unknown_name, duplicate_name, assign_to_parameter, return_in_loop, name_out_of_contract, IsTyped}
+use Rattle.gh_ast.specs.Occurrences.{Site, mentioned, assigned, called, returned, in_formula, all_sites_in, sites_of, locals_of, variables_of}
+use Rattle.gh_ast.specs.Rules.{HasName, RepeatedAt, UnknownName, AssignToParameter, WrongCount, ReturnInLoop, UnknownProcedure, RepeatedResult, AtSome, NameOutOfContract, unknown_name, duplicate_name, assign_to_parameter, wrong_count, return_in_loop, unknown_procedure, repeated_result, name_out_of_contract, IsTyped}
+use Rattle.gh_ast.specs.Lists.{IsFirstWith}
+use Rattle.gh_ast.proofs.Lists.{member_cases}
 use Rattle.gh_ast.proofs.Members.{name_or}
 use Rattle.gh_ast.proofs.Sites.{any_of, element_at, has_name, name_had, formula_in, needs_mentioned, gives_mentioned, site_in_body, AssignedAt, assigned_sites}
 
@@ -41,19 +46,89 @@ repeated os i j o p before within first later same = record {
   span = refl;
 }
 
+-- where no occurrence is repeated, the names are distinct
+no_repeats : (os : List Occ) → ((s : Span) → RepeatedAt os s → ⊥) → AllPairs (λ x y. x ≢ y) (names os)
+no_repeats os none i j d before within same =
+    let count : length (names os) ≡ length os = length-map os (λ (o : Occ). o.name) in
+    let j_in : j < length os = omega (arith, within, count) in
+    let i_in : i < length os = omega (arith, before, j_in) in
+    apart (element_at os i i_in) (element_at os j j_in) i_in j_in
+  where
+    apart : (first : (o : Occ) × (get_or os i o ≡ o)) (later : (o : Occ) × (get_or os j o ≡ o)) → i < length os → j < length os → ⊥
+    apart (o, first) (p, later) i_in j_in =
+        let i_named : get_or (names os) i d ≡ o.name = get_or-map (λ o. o.name) os i o d i_in ∙ ap (λ (o : Occ). o.name) first in
+        let j_named : get_or (names os) j d ≡ p.name = get_or-map (λ o. o.name) os j p d j_in ∙ ap (λ (o : Occ). o.name) later in
+        none p.span (repeated os i j o p before j_in first later (sym i_named ∙ same ∙ j_named))
+
 -- no two variables of a procedure have one name
 pub variables_are_distinct : (P : Program) → IsTyped P → (q : Procedure) → Contains P.procedures q → AllPairs (λ x y. x ≢ y) (variable_names q)
-variables_are_distinct P typed q here i j d before within same =
-    let count : length (variable_names q) ≡ length (variables_of q) = length-map (variables_of q) (λ (o : Occ). o.name) in
-    let j_in : j < length (variables_of q) = omega (arith, within, count) in
-    let i_in : i < length (variables_of q) = omega (arith, before, j_in) in
-    apart (element_at (variables_of q) i i_in) (element_at (variables_of q) j j_in) i_in j_in
+variables_are_distinct P typed q here = no_repeats (variables_of q) (λ s repeats. typed 2 s (duplicate_name refl (inr (any_of (λ q. RepeatedAt (variables_of q) s) P.procedures q here repeats))))
+
+-- no two targets of a statement have one name
+pub targets_are_distinct : (P : Program) → IsTyped P → (q : Procedure) → Contains P.procedures q → (ts : List Occ) → Contains (sites_of q) (assigned ts) → AllPairs (λ x y. x ≢ y) (names ts)
+targets_are_distinct P typed q here ts there = no_repeats ts (λ s repeats. typed 10 s (repeated_result refl (at_some P RepeatedResult s q (assigned ts) here there repeats)))
+
+-- the first procedure of a name, or there is none
+first_named : (ps : List Procedure) (f : Name) → ((q : Procedure) × IsFirstNamed ps f q) ⊎ (Any (λ r. r.name.name ≡ f) ps → ⊥)
+first_named [] f = inr (λ any. absurd (omega (arith, any.2)))
+first_named (q ∷ qs) f = elim (cases_Bool (bytes_eq (name_of q) f)) [
+  | inl same ↦ inl (q, inl ((bytes_eq-Decides (name_of q) f).0 same, refl))
+  | inr other ↦
+      let differs : name_of q ≢ f = λ e. let same : bytes_eq (name_of q) f ≡ true = (bytes_eq-Decides (name_of q) f).1 e in absurd cc in
+      elim (first_named qs f) [
+        | inl found ↦ inl (found.0, inr (differs, found.1))
+        | inr none ↦ inr (λ any. elim (member_cases q qs any.1 (any.0, any.2, any.3)) [
+          | inl e ↦ differs (subst (λ r. name_of r ≡ f) (sym e) any.4)
+          | inr more ↦ none (any_of (λ r. r.name.name ≡ f) qs any.1 more any.4)
+        ])
+      ]
+]
+
+-- a call's callee is some procedure
+pub callee_is_known : (P : Program) → IsTyped P → (q : Procedure) → Contains P.procedures q → (ts : List Occ) (f : Occ) (es : List Expr) → Contains (sites_of q) (called ts f es) → (r : Procedure) × Declares P f.name r
+callee_is_known P typed q here ts f es there = elim (first_named P.procedures f.name) [
+  | inl found ↦ found
+  | inr none ↦ absurd (typed 6 f.span (unknown_procedure refl (at_some P (UnknownProcedure P.procedures) f.span q (called ts f es) here there (refl, none))))
+]
+
+-- what a name declares is what it means
+means : (ps : List Procedure) (f : Name) (q : Procedure) → IsFirstNamed ps f q → IsFirstWith (λ r. r.name.name ≡ f) ps q
+means [] f q d = absurd d
+means (r ∷ rs) f q d = elim d [
+  | inl (named, same) ↦ record {
+    place = 0;
+    within = omega arith;
+    element = sym same;
+    holds = subst (λ p. name_of p ≡ f) (sym same) named;
+    earlier = λ j d l. absurd (omega (arith, l));
+  }
+  | inr (other, more) ↦ after (means rs f q more) other
+]
   where
-    apart : (first : (o : Occ) × (get_or (variables_of q) i o ≡ o)) (later : (o : Occ) × (get_or (variables_of q) j o ≡ o)) → i < length (variables_of q) → j < length (variables_of q) → ⊥
-    apart (o, first) (p, later) i_in j_in =
-        let i_named : get_or (variable_names q) i d ≡ o.name = get_or-map (λ o. o.name) (variables_of q) i o d i_in ∙ ap (λ (o : Occ). o.name) first in
-        let j_named : get_or (variable_names q) j d ≡ p.name = get_or-map (λ o. o.name) (variables_of q) j p d j_in ∙ ap (λ (o : Occ). o.name) later in
-        typed 2 p.span (duplicate_name refl (inr (any_of (λ q. RepeatedAt (variables_of q) p.span) P.procedures q here (repeated (variables_of q) i j o p before j_in first later (sym i_named ∙ same ∙ j_named)))))
+    after : IsFirstWith (λ r. r.name.name ≡ f) rs q → name_of r ≢ f → IsFirstWith (λ r. r.name.name ≡ f) (r ∷ rs) q
+    after first other = record { place = suc first.place; within = omega (arith, first.within); element = first.element; holds = first.holds; earlier = early }
+      where
+        early : (j : ℕ) (d : Procedure) → j < suc first.place → (get_or (r ∷ rs) j d).name.name ≡ f → ⊥
+        early zero d l same = other same
+        early (suc j) d l same = first.earlier j d (omega (arith, l)) same
+
+-- a call has as many arguments and targets as its callee parameters and results
+pub counts_agree : (P : Program) → IsTyped P → (q : Procedure) → Contains P.procedures q → (ts : List Occ) (f : Occ) (es : List Expr) → Contains (sites_of q) (called ts f es) → (r : Procedure) → Declares P f.name r
+    → (length es ≡ length (parameters_of r)) × (length ts ≡ length (results_of r))
+counts_agree P typed q here ts f es there r declares = (
+  elim (cases_eq (length es) (length r.parameters)) [ inl same ↦ same ∙ sym (length-map r.parameters (λ (o : Occ). o.name)) | inr other ↦ absurd (wrong (inl other)) ],
+  elim (cases_eq (length ts) (length r.results)) [ inl same ↦ same ∙ sym (length-map r.results (λ (o : Occ). o.name)) | inr other ↦ absurd (wrong (inr other)) ],
+)
+  where
+    wrong : (length es ≢ length r.parameters) ⊎ (length ts ≢ length r.results) → ⊥
+    wrong differs = typed 4 f.span (wrong_count refl (at_some P (WrongCount P.procedures) f.span q (called ts f es) here there (refl, (r, means P.procedures f.name r declares, differs))))
+
+-- a return has as many values as there are results
+pub values_are_counted : (P : Program) → IsTyped P → (q : Procedure) → Contains P.procedures q → (inside : Bool) (w : Span) (es : List Expr) → Contains (sites_of q) (returned inside w es) → length es ≡ length (results_of q)
+values_are_counted P typed q here inside w es there = elim (cases_eq (length es) (length q.results)) [
+  | inl same ↦ same ∙ sym (length-map q.results (λ (o : Occ). o.name))
+  | inr other ↦ absurd (typed 4 w (wrong_count refl (at_some P (WrongCount P.procedures) w q (returned inside w es) here there (refl, other))))
+]
 
 -- no name of an earlier part of the variables stands in a later part
 pub parts_are_apart : (P : Program) → IsTyped P → (q : Procedure) → Contains P.procedures q → (xs ys : List Name) → variable_names q ≡ xs ++ ys → (y : Name) → Contains xs y → Contains ys y → ⊥

@@ -3,6 +3,7 @@
 ghost use Rattle.std.specs.Prelude.{◌≡◌, ◌++◌, ◌∷◌, [], map, Some, option_map, OnOk, IfOk};
 ghost use Rattle.std.specs.List.{flat_map};
 ghost use Rattle.gh_ast.specs.Plain.{set, new, write, free, call, comparison, points_to, cell, segment, test_of, tests_view, formula_of, formulas_view, statement_of, statements_view, part_of, inside_of, procedure_of, program_of};
+ghost use Rattle.gh_ast.specs.Bare.{ReadBack};
 ghost use Rattle.gh_ast.specs.Printed.{word, reserved, mark, Adds, joined, name_shown, operand_shown, expr_shown, equality, bracketed, is_list, is_star, test_shown, tests_shown, tests_followed, formula_shown, formulas_shown, formulas_followed, targets_shown, statement_shown, statements_shown, otherwise_shown, field_shown, parameter_shown, results_shown, locals_shown, body_shown, procedure_shown, program_text};
 
 use crate::sign::{Keyword, Sign};
@@ -591,3 +592,8 @@ pub fn print(alloc: Global, program: &Program) -> Result<Text, AllocError>
     text.push(b"\n")?;
     Ok(text)
 }
+
+/// The printed text of a program that a text can spell spells the same program, places aside.
+pub fn read_back_law()
+    ensures { ReadBack }
+{}

@@ -15,3 +15,4 @@ pub mod Tables
 pub mod Lexing
 pub mod Scanning
 pub mod Parsed
+pub mod ReadBack

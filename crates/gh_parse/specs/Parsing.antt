@@ -1,8 +1,10 @@
 -- What the parser answers for a text.
-use Rattle.std.specs.Prelude.{ℕ, List, ⊤}
+use Rattle.std.specs.Prelude.{◌≡◌, ℕ, List, ⊤}
 use Rattle.gh_ast.specs.Tokens.{IsFirstByte, IsFirstDeep}
 use Rattle.gh_ast.specs.Plain.{Program}
 use Rattle.gh_ast.specs.Grammar.{Spells}
+use Rattle.gh_ast.specs.Bare.{bare_program}
+use Rattle.gh_ast.specs.Printed.{program_text}
 use Rattle.gh_parse.specs.Scanning.{IsDeepPlace}
 use Rattle.gh_parse.specs.declared.error.ParseError.{ParseError}
 use Rattle.gh_parse.specs.declared.error.ParseError.TheVariants.{Byte, Deep, Syntax, OutOfMemory}
@@ -33,3 +35,7 @@ IsParseRefusal text (Byte offset) = IsFirstByte text offset
 IsParseRefusal text (Deep place) = HasCharacters text × IsDeepPlace text place
 IsParseRefusal text (Syntax place) = IsNoProgram text
 IsParseRefusal text OutOfMemory = ⊤
+
+-- a program that a text can give is given again by its printed text, places aside, where that text doesn't nest too deep
+abbrev pub PrintedParse : Type 0
+PrintedParse = (text : List ℕ) (p : Program) → IsParsed text p → IsShallow (program_text p) → (q : Program) × IsParsed (program_text p) q × (bare_program q ≡ bare_program p)

@@ -2,7 +2,7 @@
 
 ghost use Rattle.std.specs.Prelude.{◌<◌, ◌-◌, ◌^◌, length, IfOk, IfErr};
 ghost use Rattle.gh_ast.specs.Plain.{program_of};
-ghost use Rattle.gh_parse.specs.Parsing.{IsParsed, IsParseRefusal};
+ghost use Rattle.gh_parse.specs.Parsing.{IsParsed, IsParseRefusal, PrintedParse};
 
 use crate::cursor::Parser;
 use crate::error::ParseError;
@@ -35,3 +35,9 @@ pub fn parse(alloc: Global, text: &[u8]) -> Result<Program, ParseError>
     }
     Ok(program)
 }
+
+/// What `parse` gives for the printed text of a program that it has given is that program, places
+/// aside, where the brackets of that text don't nest too deep.
+pub fn printed_programs_parse_law()
+    ensures { PrintedParse }
+{}
