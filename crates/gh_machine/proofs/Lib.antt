@@ -3,3 +3,11 @@ pub mod Faults
 pub mod Framed
 pub mod Taken
 pub mod Progress
+pub mod TypedFits
+pub mod Rests
+pub mod Begun
+pub mod Stepping
+pub mod Made
+pub mod Kept
+pub mod Started
+pub mod Stacks

@@ -57,7 +57,7 @@ some_gets s (x ∷ xs) (v ∷ vs) d e =
 one_name : (x : Name) → AreDistinct (x ∷ [])
 one_name x = (λ i. absurd (omega (arith, i.1)), tt)
 
-same_length : (s : Store) (h : Heap) (es : List Expr) (vs : List ℕ) → Give s h es vs → length es ≡ length vs
+pub same_length : (s : Store) (h : Heap) (es : List Expr) (vs : List ℕ) → Give s h es vs → length es ≡ length vs
 same_length s h [] [] g = refl
 same_length s h [] (v ∷ vs) g = absurd cc
 same_length s h (e ∷ es) [] g = absurd cc

@@ -2,4 +2,8 @@ pub mod Machine
 pub mod Choices
 pub mod Framed
 pub mod Fits
+pub mod Stacks
 pub mod Laws
+pub mod Rests
+pub mod Configs
+pub mod Turns

@@ -1,6 +1,6 @@
 //! Laws of steps.
 
-ghost use Rattle.gh_machine.specs.Laws.{StepsAreChosen, FaultsStop, EndsStop, StepsKeepFrames, StepsTakeFrames, RunsKeepFrames, StepsFit, RunsGoOn};
+ghost use Rattle.gh_machine.specs.Laws.{StepsAreChosen, FaultsStop, EndsStop, StepsKeepFrames, StepsTakeFrames, RunsKeepFrames, TypedFit, StepsFit, RunsGoOn, RunsKeepStacks};
 
 /// A step is determined by the configuration and what it may choose.
 pub fn steps_are_chosen()
@@ -32,6 +32,11 @@ pub fn runs_keep_frames()
     ensures { RunsKeepFrames }
 {}
 
+/// A program that breaks no type rule fits the rules on counts.
+pub fn typed_fit()
+    ensures { TypedFit }
+{}
+
 /// What fits the rules on counts fits after a step.
 pub fn steps_fit()
     ensures { StepsFit }
@@ -40,4 +45,9 @@ pub fn steps_fit()
 /// A run goes on until it ends or faults.
 pub fn runs_go_on()
     ensures { RunsGoOn }
+{}
+
+/// A run over a stack is a run of its top over the rest, until the top ends.
+pub fn runs_keep_stacks()
+    ensures { RunsKeepStacks }
 {}

@@ -1,0 +1,93 @@
+-- Configurations as they are kept, and what a step answers.
+use Rattle.std.specs.Prelude.{◌≡◌, ◌≢◌, ◌⊎◌, ℕ, List, slice_index_or, [], ◌∷◌, ◌++◌, map, reverse, length, None, All, Contains}
+use Rattle.std.specs.FinMap.{get}
+use Rattle.gh_ast.specs.Plain.{new, call, give, Statements, statement_first, statements_view, procedure_of, Procedure, Program}
+use Rattle.gh_ast.specs.Programs.{Name, names, results_of, variable_names, Declares, SomeAssigns}
+use Rattle.gh_ast.specs.Occurrences.{locals_of}
+use Rattle.gh_ast.specs.Rules.{IsTyped}
+use Rattle.gh_assert.specs.Heaps.{Heap}
+use Rattle.gh_assert.specs.Stores.{listed_names, store_of}
+use Rattle.gh_assert.specs.declared.store.Entry.{Entry}
+use Rattle.gh_machine.specs.Machine as machine
+use Rattle.gh_machine.specs.Machine.{Step, HasEnded, starting}
+use Rattle.gh_machine.specs.Choices as choices
+use Rattle.gh_machine.specs.Choices.{StepBy}
+use Rattle.gh_machine.specs.Fits.{ConfigFits}
+use Rattle.gh_machine.specs.declared.config.Activation.{Activation}
+use Rattle.gh_machine.specs.declared.config.Config.{Config}
+use Rattle.gh_machine.specs.declared.step.Choice.{Choice}
+use Rattle.gh_machine.specs.declared.step.Next.{Next}
+use Rattle.gh_machine.specs.declared.step.Next.TheVariants.{Moved, Ended, Fault, NotAChoice}
+
+abbrev pub activation_of : Activation → machine.Activation
+activation_of a = record { procedure = procedure_of a.procedure.now; store = store_of a.store; rest = statements_view a.rest }
+
+-- the activations that wait are kept with the nearest caller last
+abbrev pub config_of : Config → machine.Config
+config_of c = record { heap = c.heap; top = activation_of c.top; below = map activation_of (reverse c.below.items) }
+
+-- names beside values, as far as both go
+abbrev pub beside : List Name → List ℕ → List Entry
+beside [] vs = []
+beside (x ∷ xs) [] = []
+beside (x ∷ xs) (v ∷ vs) = record { name = x; value = v } ∷ beside xs vs
+
+-- the variables of a procedure that are no parameters
+abbrev pub starts_of : Procedure → List Name
+starts_of p = results_of p ++ names (locals_of p)
+
+-- the variables, with the values with which they begin
+abbrev pub beginning : Procedure → List ℕ → List ℕ → List Entry
+beginning p arguments starts = beside (variable_names p) (arguments ++ starts)
+
+-- the procedure of the number at its start
+abbrev pub IsStart : Program → ℕ → List ℕ → List ℕ → Heap → machine.Config → Type 0
+IsStart P number arguments starts h c =
+    (d : Procedure) → c ≡ starting (slice_index_or P.procedures number d) (store_of (beginning (slice_index_or P.procedures number d) arguments starts)) h []
+
+-- the choice, where p is called
+abbrev pub chosen : Choice → Procedure → choices.Choice
+chosen c p = record { location = c.location; content = c.content; starts = store_of (beside (starts_of p) c.starts.items) }
+
+abbrev pub IsReturn : Statements → Type 0
+IsReturn (statement_first (give at es) rest) = Unit {0}
+IsReturn ss = ⊥
+
+-- the next statement is a return of the only activation
+abbrev pub ReturnsLast : machine.Config → Type 0
+ReturnsLast c = (c.below ≡ []) × IsReturn c.top.rest
+
+-- the location can't be had, or the values are not as many as the callee's results and locals
+abbrev pub Misfits : Program → Choice → Statements → Heap → Type 0
+Misfits P choice (statement_first (new x) rest) h = (choice.location ≡ 0) ⊎ (get h choice.location ≢ None)
+Misfits P choice (statement_first (call xs f es) rest) h = (p : Procedure) × Declares P f.name p × (length choice.starts.items ≢ length (starts_of p))
+Misfits P choice ss h = ⊥
+
+-- the answers of a step from c to d
+abbrev pub IsNext : Program → Choice → Next → machine.Config → machine.Config → Type 0
+IsNext P choice Moved c d = StepBy P (chosen choice d.top.procedure) c d × (ReturnsLast c → ⊥) × (Misfits P choice c.top.rest c.heap → ⊥)
+IsNext P choice Ended c d = (HasEnded c × (d ≡ c)) ⊎ (ReturnsLast c × Step P c d)
+IsNext P choice Fault c d = machine.Fault c × (d ≡ c)
+IsNext P choice NotAChoice c d = (machine.Fault c → ⊥) × Misfits P choice c.top.rest c.heap × (d ≡ c)
+
+-- what is left to do assigns variables of its procedure alone
+abbrev pub AssignsVariables : machine.Activation → Type 0
+AssignsVariables a = (y : Name) → SomeAssigns a.rest y → Contains (variable_names a.procedure) y
+
+abbrev pub AllAssignVariables : List machine.Activation → Type 0
+AllAssignVariables [] = Unit {0}
+AllAssignVariables (a ∷ below) = AssignsVariables a × AllAssignVariables below
+
+-- the store lists the variables of its procedure, in their order
+abbrev pub ListsVariables : Activation → Type 0
+ListsVariables a = listed_names a.store ≡ variable_names (procedure_of a.procedure.now)
+
+abbrev pub AllListVariables : Config → Type 0
+AllListVariables c = ListsVariables c.top × All ListsVariables c.below.items
+
+-- the configuration is one of the program, which breaks no rule
+pub record IsMadeFor (P : Program) (c : Config) : Type 0 where
+  pub typed : IsTyped P
+  pub fits : ConfigFits P (config_of c)
+  pub assigns : AllAssignVariables ((config_of c).top ∷ (config_of c).below)
+  pub lists : AllListVariables c
