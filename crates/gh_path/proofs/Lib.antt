@@ -1,3 +1,12 @@
 pub mod Order
 pub mod Listed
 pub mod Examples
+pub mod AheadLemmas
+pub mod PassedLemmas
+pub mod WalkLemmas
+pub mod TurnLemmas
+pub mod CalleeLemmas
+pub mod NumberLemmas
+pub mod FinderLemmas
+pub mod PlaceLemmas
+pub mod KeptLemmas

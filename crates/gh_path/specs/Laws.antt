@@ -4,6 +4,8 @@ use Rattle.gh_ast.specs.Plain.{Program}
 use Rattle.gh_path.specs.Graphs.{PathStep, Graph}
 use Rattle.gh_path.specs.Paths.{Before, Way, IsListOf, ways}
 use Rattle.gh_path.specs.Conditions.{Condition, conditions, IsCondition}
+use Rattle.gh_path.specs.Kept.{StandsFor}
+use Rattle.gh_path.specs.declared.condition.Condition as kept
 use Rattle.gh_path.specs.Examples.{reversal, concatenation, row_of, reversal_rows, concatenation_rows}
 
 -- no path stands before itself, and the order goes over
@@ -22,6 +24,10 @@ PathsHaveOneList = (g : Graph) → HasOneList g
 -- the list has all conditions and nothing else
 abbrev pub AllAreListed : Type 0
 AllAreListed = (P : Program) (c : Condition) → Contains (conditions P) c ↔ IsCondition P c
+
+-- a condition as it is kept stands for at most one condition of a program
+abbrev pub KeptStandForOne : Type 0
+KeptStandForOne = (P : Program) (r : kept.Condition) (c d : Condition) → IsCondition P c → IsCondition P d → StandsFor P r c → StandsFor P r d → c ≡ d
 
 -- the conditions of two small programs stand where one expects them
 pub record ExamplesHold : Type 0 where

@@ -1,7 +1,14 @@
 pub mod Graphs
 pub mod Paths
 pub mod Conditions
+pub mod Kept
+pub mod Counting
+pub mod Counted
+pub mod Walking
+pub mod Answers
+pub mod Walks
 pub mod Terms
 pub mod Admitted
+pub mod Refusals
 pub mod Examples
 pub mod Laws

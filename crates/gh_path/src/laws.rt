@@ -1,6 +1,6 @@
 //! Laws of paths and of the list of conditions.
 
-ghost use Rattle.gh_path.specs.Laws.{PathsAreOrdered, PathsHaveOneList, AllAreListed, ExamplesHold};
+ghost use Rattle.gh_path.specs.Laws.{PathsAreOrdered, PathsHaveOneList, AllAreListed, KeptStandForOne, ExamplesHold};
 
 /// No path stands before itself, and the order goes over.
 pub fn paths_are_ordered()
@@ -15,6 +15,11 @@ pub fn paths_have_one_list()
 /// The list of conditions has all conditions and nothing else.
 pub fn all_are_listed()
     ensures { AllAreListed }
+{}
+
+/// A condition as it is kept stands for at most one condition of a program.
+pub fn kept_stand_for_one()
+    ensures { KeptStandForOne }
 {}
 
 /// The conditions of two small programs.

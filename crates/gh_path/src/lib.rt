@@ -1,4 +1,18 @@
 //! Bodies as graphs, their paths, and the conditions of a program.
 #![tactic(auto)]
 
+mod ahead;
+mod body;
+pub mod condition;
+pub mod conditions;
+mod copies;
+mod counts;
+mod finder;
 pub mod laws;
+mod limits;
+pub mod listing;
+pub mod loops;
+#[cfg(test)]
+mod tests;
+pub mod walk;
+mod walker;

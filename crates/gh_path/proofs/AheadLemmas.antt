@@ -1,0 +1,179 @@
+-- What lies ahead by the text is what lies ahead in the graph, and that is how many ways there are and how long they are.
+use Rattle.std.specs.Prelude.{◌≡◌, ◌⊎◌, ◌↔◌, ℕ, zero, suc, ◌+◌, ◌<◌, ◌≤◌, min, max, List, [], ◌∷◌, ◌++◌, map, length, true, false, Any, Contains}
+use Rattle.std.proofs.Common.{refl, sym, ◌∙◌, ap, subst, inl, inr, arith}
+use Rattle.std.proofs.lemmas.List.{length-map, length-append}
+use Rattle.gh_ast.specs.declared.Expr.{Expr}
+use Rattle.gh_ast.specs.declared.Expr.TheVariants.{Plain, Read}
+use Rattle.gh_ast.specs.Plain.{Test, compare, negation, conjunction, disjunction, Tests, no_tests, test_first, Statement, set, new, write, free, call, choice, loop, give, Statements, no_statements, statement_first, Procedure}
+use Rattle.gh_ast.specs.Programs.{body_of}
+use Rattle.gh_ast.proofs.Lists.{member_first, member_later, member_cases, no_member}
+use Rattle.gh_path.specs.Graphs.{Graph, dead_end, ends, moves, guarded, fork, PathStep, assume, reads, all_reads, visits, tested, all_tested, some_tested, lowered, all_lowered, Loop, loops_of, once_around, Start, whole_body, round, rounds, starts, returned}
+use Rattle.gh_path.specs.Paths.{Way, ways, after_step}
+use Rattle.gh_path.specs.Conditions.{Condition, condition, from_starts, conditions_of}
+use Rattle.gh_path.specs.Counting.{nothing, one_end, stepped, checked, either, ahead, before_read, before_reads, before_test, before_all, before_some, before, before_block, entry_ahead, round_ahead, rounds_ahead, procedure_ahead}
+use Rattle.gh_path.specs.Admitted.{HasManyPaths, HasManySteps}
+use Rattle.gh_path.specs.declared.ahead.Ahead.{Ahead}
+use Rattle.gh_ast.proofs.Sites.{any_of}
+
+pub ahead_read : (e : Expr) (g : Graph) → ahead (reads e g) ≡ before_read e (ahead g)
+ahead_read (Plain o) g = refl
+ahead_read (Read o) g = refl
+
+pub ahead_reads : (es : List Expr) (g : Graph) → ahead (all_reads es g) ≡ before_reads es (ahead g)
+ahead_reads [] g = refl
+ahead_reads (e ∷ es) g = ahead_read e (all_reads es g) ∙ ap (before_read e) (ahead_reads es g)
+
+mutual
+  pub ahead_tested : (t : Test) (g k : Graph) → ahead (tested t g k) ≡ before_test t (ahead g) (ahead k)
+  ahead_tested (compare l e r) g k = ahead_read l (reads r (fork l e r g k)) ∙ ap (before_read l) (ahead_read r (fork l e r g k))
+  ahead_tested (negation t) g k = ahead_tested t k g
+  ahead_tested (conjunction ts) g k = ahead_all ts g k
+  ahead_tested (disjunction ts) g k = ahead_some ts g k
+
+  pub ahead_all : (ts : Tests) (g k : Graph) → ahead (all_tested ts g k) ≡ before_all ts (ahead g) (ahead k)
+  ahead_all no_tests g k = refl
+  ahead_all (test_first t ts) g k = ahead_tested t (all_tested ts g k) k ∙ ap (λ a. before_test t a (ahead k)) (ahead_all ts g k)
+
+  pub ahead_some : (ts : Tests) (g k : Graph) → ahead (some_tested ts g k) ≡ before_some ts (ahead g) (ahead k)
+  ahead_some no_tests g k = refl
+  ahead_some (test_first t ts) g k = ahead_tested t g (some_tested ts g k) ∙ ap (before_test t (ahead g)) (ahead_some ts g k)
+
+mutual
+  pub ahead_lowered : (p : Procedure) (s : Statement) (g : Graph) → ahead (lowered p s g) ≡ before s (ahead g)
+  ahead_lowered p (set x e) g = ahead_read e _
+  ahead_lowered p (new x) g = refl
+  ahead_lowered p (write x e) g = ahead_read e _
+  ahead_lowered p (free x) g = refl
+  ahead_lowered p (call xs f es) g = ahead_reads es _
+  ahead_lowered p (choice t a c b d) g =
+      ahead_tested t (all_lowered p a g) (all_lowered p b g)
+      ∙ ap (λ x. before_test t x (ahead (all_lowered p b g))) (ahead_block p a g)
+      ∙ ap (before_test t (before_block a (ahead g))) (ahead_block p b g)
+  ahead_lowered p (loop at t i body close) g = ap (λ a. checked (stepped a)) (ahead_tested t dead_end g)
+  ahead_lowered p (give at es) g = ahead_reads es _
+
+  pub ahead_block : (p : Procedure) (ss : Statements) (g : Graph) → ahead (all_lowered p ss g) ≡ before_block ss (ahead g)
+  ahead_block p no_statements g = refl
+  ahead_block p (statement_first s ss) g = ahead_lowered p s (all_lowered p ss g) ∙ ap (before s) (ahead_block p ss g)
+
+pub ahead_entry : (p : Procedure) → ahead (whole_body p).graph ≡ entry_ahead p
+ahead_entry p = ahead_block p (body_of p) (ends (returned p.close p.gives))
+
+pub ahead_round : (p : Procedure) (l : Loop) → ahead (once_around p l) ≡ round_ahead l
+ahead_round p l =
+    ahead_tested l.test (all_lowered p l.body _) dead_end ∙ ap (λ a. before_test l.test a nothing) (ahead_block p l.body _)
+
+-- one more than the greatest number, and 0 for an empty list
+abbrev pub reach_by : {A : Type 0} → (A → ℕ) → List A → ℕ
+reach_by f [] = 0
+reach_by f (x ∷ xs) = max (f x + 1) (reach_by f xs)
+
+reach_append : {A : Type 0} (f : A → ℕ) (xs ys : List A) → reach_by f (xs ++ ys) ≡ max (reach_by f xs) (reach_by f ys)
+reach_append f [] ys = omega arith
+reach_append f (x ∷ xs) ys = omega (arith, reach_append f xs ys)
+
+reach_map : {A B : Type 0} (f : B → ℕ) (h : A → B) (xs : List A) → reach_by f (map h xs) ≡ reach_by (λ x. f (h x)) xs
+reach_map f h [] = refl
+reach_map f h (x ∷ xs) = ap (max (f (h x) + 1)) (reach_map f h xs)
+
+abbrev pub steps_in : Way → ℕ
+steps_in w = length w.steps
+
+reach_step : (p : PathStep) (xs : List Way) → reach_by steps_in (map (after_step p) xs) ≡ reach_by steps_in xs + min (reach_by steps_in xs) 1
+reach_step p [] = refl
+reach_step p (w ∷ xs) = omega (arith, reach_step p xs, longer p w.steps)
+  where
+    longer : (p : PathStep) (ps : List PathStep) → length (p ∷ ps) ≡ length ps + 1
+    longer p ps = omega arith
+
+-- a graph has so many ways, and they have at most so many steps
+pub record Tells (a : Ahead) (n r : ℕ) : Type 0 where
+  pub count : a.count ≡ min n 1025
+  pub reach : a.reach ≡ min r 258
+
+pub ahead_tells : (g : Graph) → Tells (ahead g) (length (ways g)) (reach_by steps_in (ways g))
+ahead_tells dead_end = record { count = refl; reach = refl }
+ahead_tells (ends c) = record { count = refl; reach = refl }
+ahead_tells (moves p g) =
+    let below = ahead_tells g in
+    let count : length (map (after_step p) (ways g)) ≡ length (ways g) = length-map (ways g) (after_step p) in
+    record { count = omega (arith, below.count, count); reach = omega (arith, below.reach, reach_step p (ways g)) }
+ahead_tells (guarded c p g) =
+    let below = ahead_tells g in
+    let count : length (map (after_step p) (ways g)) ≡ length (ways g) = length-map (ways g) (after_step p) in
+    record { count = omega (arith, below.count, count); reach = omega (arith, below.reach, reach_step p (ways g)) }
+ahead_tells (fork l e r g k) =
+    let one = ahead_tells g in
+    let two = ahead_tells k in
+    let yes = map (after_step (assume l e r true)) (ways g) in
+    let no = map (after_step (assume l e r false)) (ways k) in
+    let first : length yes ≡ length (ways g) = length-map (ways g) (after_step (assume l e r true)) in
+    let second : length no ≡ length (ways k) = length-map (ways k) (after_step (assume l e r false)) in
+    record {
+      count = omega (arith, one.count, two.count, first, second, length-append yes no);
+      reach = omega (arith, one.reach, two.reach, reach_step (assume l e r true) (ways g), reach_step (assume l e r false) (ways k), reach_append steps_in yes no);
+    }
+
+abbrev pub steps_of : Condition → ℕ
+steps_of c = length c.way.steps
+
+-- of the conditions from some starts
+tells_start : (p : Procedure) (a : Start) → Tells (ahead a.graph) (length (map (condition p a) (ways a.graph))) (reach_by steps_of (map (condition p a) (ways a.graph)))
+tells_start p a =
+    let whole = ahead_tells a.graph in
+    let count : length (map (condition p a) (ways a.graph)) ≡ length (ways a.graph) = length-map (ways a.graph) (condition p a) in
+    record { count = whole.count ∙ ap (λ n. min n 1025) (sym count); reach = whole.reach ∙ ap (λ n. min n 258) (sym (reach_map steps_of (condition p a) (ways a.graph))) }
+
+tells_both : (a b : Ahead) (xs ys : List Condition) → Tells a (length xs) (reach_by steps_of xs) → Tells b (length ys) (reach_by steps_of ys) → Tells (either a b) (length (xs ++ ys)) (reach_by steps_of (xs ++ ys))
+tells_both a b xs ys one two = record {
+  count = omega (arith, one.count, two.count, length-append xs ys);
+  reach = omega (arith, one.reach, two.reach, reach_append steps_of xs ys);
+}
+
+tells_rounds : (p : Procedure) (n : ℕ) (ls : List Loop) → Tells (rounds_ahead ls) (length (from_starts p (rounds p n ls))) (reach_by steps_of (from_starts p (rounds p n ls)))
+tells_rounds p n [] = record { count = refl; reach = refl }
+tells_rounds p n (l ∷ ls) =
+    tells_both (round_ahead l) (rounds_ahead ls) (map (condition p (round p n l)) (ways (once_around p l))) (from_starts p (rounds p (suc n) ls))
+    (subst (λ a. Tells a (length (map (condition p (round p n l)) (ways (once_around p l)))) (reach_by steps_of (map (condition p (round p n l)) (ways (once_around p l))))) (ahead_round p l) (tells_start p (round p n l)))
+    (tells_rounds p (suc n) ls)
+
+pub procedure_tells : (p : Procedure) → Tells (procedure_ahead p) (length (conditions_of p)) (reach_by steps_of (conditions_of p))
+procedure_tells p =
+    tells_both (entry_ahead p) (rounds_ahead (loops_of p)) (map (condition p (whole_body p)) (ways (whole_body p).graph)) (from_starts p (rounds p 0 (loops_of p)))
+    (subst (λ a. Tells a (length (map (condition p (whole_body p)) (ways (whole_body p).graph))) (reach_by steps_of (map (condition p (whole_body p)) (ways (whole_body p).graph)))) (ahead_entry p) (tells_start p (whole_body p)))
+    (tells_rounds p 0 (loops_of p))
+
+-- some member is past a number exactly where the reach is
+pub reach_some : {A : Type 0} (f : A → ℕ) (n : ℕ) (xs : List A) → n + 1 < reach_by f xs → Any (λ x. n < f x) xs
+reach_some f n [] more = absurd (omega (arith, more))
+reach_some f n (x ∷ xs) more = elim (far_or n (f x)) [
+  | inl far ↦ any_of (λ x. n < f x) (x ∷ xs) x (member_first x xs) far
+  | inr near ↦ let there = reach_some f n xs (omega (arith, near, more)) in any_of (λ x. n < f x) (x ∷ xs) there.1 (member_later x there.1 xs (there.0, there.2, there.3)) there.4
+]
+  where
+    far_or : (n m : ℕ) → (n < m) ⊎ (m ≤ n)
+    far_or n m = grind arith
+
+pub some_reach : {A : Type 0} (f : A → ℕ) (n : ℕ) (xs : List A) (x : A) → Contains xs x → n < f x → n + 1 < reach_by f xs
+some_reach f n [] x i more = absurd (no_member x i)
+some_reach f n (w ∷ xs) x i more = elim (member_cases w xs x i) [
+  | inl same ↦ let at : n < f w = subst (λ y. n < f y) (sym same) more in omega (arith, at)
+  | inr later ↦ omega (arith, some_reach f n xs x later more)
+]
+
+-- the limits, read off what lies ahead
+pub many_paths : (p : Procedure) → 1024 < (procedure_ahead p).count → HasManyPaths p
+many_paths p more = omega (arith, (procedure_tells p).count, more)
+
+pub few_paths : (p : Procedure) → (procedure_ahead p).count ≤ 1024 → HasManyPaths p → ⊥
+few_paths p less many = omega (arith, (procedure_tells p).count, less, many)
+
+pub many_steps : (p : Procedure) → 257 < (procedure_ahead p).reach → HasManySteps p
+many_steps p more = reach_some steps_of 256 (conditions_of p) (omega (arith, (procedure_tells p).reach, more))
+
+pub few_steps : (p : Procedure) → (procedure_ahead p).reach ≤ 257 → HasManySteps p → ⊥
+few_steps p less many = omega (arith, (procedure_tells p).reach, less, some_reach steps_of 256 (conditions_of p) many.1 (many.0, many.2, many.3) many.4)
+
+-- where there are few, the number is exact
+pub count_is : (p : Procedure) → (procedure_ahead p).count ≤ 1024 → (procedure_ahead p).count ≡ length (conditions_of p)
+count_is p less = omega (arith, (procedure_tells p).count, less)

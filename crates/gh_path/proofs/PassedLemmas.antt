@@ -1,0 +1,112 @@
+-- The first procedure that passes a limit, and how many conditions there are together.
+use Rattle.std.specs.Prelude.{◌≡◌, ◌⊎◌, ℕ, ◌+◌, ◌*◌, ◌<◌, ◌≤◌, List, [], ◌∷◌, map, length, get_or, Contains}
+use Rattle.std.proofs.Common.{refl, sym, ◌∙◌, ap, subst, inl, inr, arith}
+use Rattle.std.proofs.lemmas.List.{length-map, length-append, get_or-map, get_or_default}
+use Rattle.gh_ast.specs.Lists.{IsFirstWith}
+use Rattle.gh_ast.specs.Plain.{Procedure, Program, procedure_of, program_of}
+use Rattle.gh_ast.specs.declared.Procedure as whole
+use Rattle.gh_ast.specs.declared.Program as program
+use Rattle.gh_ast.specs.declared.typed.Limit.{Limit}
+use Rattle.gh_ast.proofs.Lists.{member_first, member_later}
+use Rattle.gh_path.specs.Admitted.{HasManyPaths, HasManySteps, Passed, NoneHas}
+use Rattle.gh_path.specs.Conditions.{conditions_of, from_procedures}
+use Rattle.gh_path.specs.Counting.{procedure_ahead, all_counts}
+use Rattle.gh_path.specs.Refusals.{NoneOf, FirstOf}
+use Rattle.gh_path.specs.declared.ahead.Ahead.{Ahead}
+use Rattle.gh_path.proofs.AheadLemmas.{Tells, procedure_tells, many_paths, few_paths, many_steps, few_steps}
+
+abbrev pub IsWide : Ahead → Type 0
+IsWide a = 1024 < a.count
+
+abbrev pub IsLong : Ahead → Type 0
+IsLong a = 257 < a.reach
+
+-- a limit that is told by what lies ahead
+pub record IsTold (Q : Procedure → Type 0) (R : Ahead → Type 0) : Type 0 where
+  pub sound : (p : Procedure) → R (procedure_ahead p) → Q p
+  pub complete : (p : Procedure) → Q p → R (procedure_ahead p)
+
+over_or : (m n : ℕ) → (m < n) ⊎ (n ≤ m)
+over_or m n = grind arith
+
+pub paths_told : IsTold HasManyPaths IsWide
+paths_told = record {
+  sound = many_paths;
+  complete = λ p many. elim (over_or 1024 (procedure_ahead p).count) [ inl over ↦ over | inr few ↦ absurd (few_paths p few many) ];
+}
+
+pub steps_told : IsTold HasManySteps IsLong
+steps_told = record {
+  sound = many_steps;
+  complete = λ p many. elim (over_or 257 (procedure_ahead p).reach) [ inl over ↦ over | inr few ↦ absurd (few_steps p few many) ];
+}
+
+-- none of the first k
+abbrev pub NoneBefore : (Ahead → Type 0) → List Ahead → ℕ → Type 0
+NoneBefore R aheads k = (j : ℕ) (d : Ahead) → j < k → R (get_or aheads j d) → ⊥
+
+pub one_more : (R : Ahead → Type 0) (aheads : List Ahead) (k : ℕ) (d : Ahead) → k < length aheads → NoneBefore R aheads k → (R (get_or aheads k d) → ⊥) → NoneBefore R aheads (k + 1)
+one_more R aheads k d within none here j e less r = elim (over_or j k) [
+  | inl before ↦ none j e before r
+  | inr after ↦
+      let same : j ≡ k = omega (arith, after, less) in
+      here (subst R (ap (λ i. get_or aheads i e) same ∙ get_or_default aheads k e d within) r)
+]
+
+pub first_of : (Q : Procedure → Type 0) (R : Ahead → Type 0) → IsTold Q R → (ps : List Procedure) (aheads : List Ahead) → aheads ≡ map procedure_ahead ps
+    → (k : ℕ) (d : Procedure) (a : Ahead) → k < length ps → NoneBefore R aheads k → R (get_or aheads k a) → IsFirstWith Q ps (get_or ps k d)
+first_of Q R told ps aheads same k d a within none here = record {
+  place = k;
+  within = within;
+  element = get_or_default ps k (get_or ps k d) d within;
+  holds = told.sound (get_or ps k d) (subst R (ap (λ xs. get_or xs k a) same ∙ get_or-map procedure_ahead ps k d a within) here);
+  earlier = λ j e less q. none j a less
+      (subst R (sym (ap (λ xs. get_or xs j a) same ∙ get_or-map procedure_ahead ps j e a (omega (arith, less, within)))) (told.complete (get_or ps j e) q));
+}
+
+pub none_of : (Q : Procedure → Type 0) (R : Ahead → Type 0) → IsTold Q R → (ps : List Procedure) (aheads : List Ahead) → aheads ≡ map procedure_ahead ps → NoneBefore R aheads (length aheads) → NoneOf ps Q
+none_of Q R told ps aheads same none p there q =
+    let count : length aheads ≡ length ps = ap length same ∙ length-map ps procedure_ahead in
+    none there.0 (procedure_ahead p) (omega (arith, count, there.1))
+    (subst R (sym (ap (λ xs. get_or xs there.0 (procedure_ahead p)) same ∙ get_or-map procedure_ahead ps there.0 p (procedure_ahead p) there.1 ∙ ap procedure_ahead there.2)) (told.complete p q))
+
+-- with few conditions each
+pub exact : (p : Procedure) → (HasManyPaths p → ⊥) → (procedure_ahead p).count ≡ length (conditions_of p)
+exact p few = elim (over_or 1024 (length (conditions_of p))) [ inl many ↦ absurd (few many) | inr less ↦ omega (arith, less, (procedure_tells p).count) ]
+
+pub few_of : (p : Procedure) → (HasManyPaths p → ⊥) → length (conditions_of p) ≤ 1024
+few_of p few = elim (over_or 1024 (length (conditions_of p))) [ inl many ↦ absurd (few many) | inr less ↦ less ]
+
+pub together : (ps : List Procedure) → NoneOf ps HasManyPaths → all_counts (map procedure_ahead ps) ≡ length (from_procedures ps)
+together [] none = refl
+together (p ∷ ps) none =
+    omega (arith, exact p (none p (member_first p ps)), together ps (λ q there. none q (member_later p q ps there)), length-append (conditions_of p) (from_procedures ps))
+
+pub bounded : (ps : List Procedure) → NoneOf ps HasManyPaths → length (from_procedures ps) ≤ 1024 * length ps
+bounded [] none = omega arith
+bounded (p ∷ ps) none =
+    let longer : length (p ∷ ps) ≡ length ps + 1 = omega arith in
+    omega (arith, few_of p (none p (member_first p ps)), bounded ps (λ q there. none q (member_later p q ps there)), length-append (conditions_of p) (from_procedures ps), longer)
+
+pub first_limit : (Q : Procedure → Type 0) (R : Ahead → Type 0) → IsTold Q R → (ps : List whole.Procedure) (aheads : List Ahead) → aheads ≡ map procedure_ahead (map procedure_of ps)
+    → (k : ℕ) (r : whole.Procedure) (a : Ahead) (kind number : ℕ) (l : Limit) → k < length aheads → NoneBefore R aheads k → R (get_or aheads k a)
+    → l.kind ≡ kind → l.span ≡ (get_or ps k r).name.span → l.count ≡ number → FirstOf (map procedure_of ps) Q kind number l
+first_limit Q R told ps aheads same k r a kind number l within none here kind_is span count =
+    let long : length aheads ≡ length (map procedure_of ps) = ap length same ∙ length-map (map procedure_of ps) procedure_ahead in
+    let longer : length (map procedure_of ps) ≡ length ps = length-map ps procedure_of in
+    record {
+      procedure = get_or (map procedure_of ps) k (procedure_of r);
+      first = first_of Q R told (map procedure_of ps) aheads same k (procedure_of r) a (omega (arith, within, long)) none here;
+      kind_is = kind_is;
+      span = span ∙ sym (ap (λ (q : Procedure). q.name.span) (get_or-map procedure_of ps k r (procedure_of r) (omega (arith, within, long, longer))));
+      count = count;
+    }
+
+-- what is said of the list of procedures, said of the program
+pub passed : (P : Program) (Q : Procedure → Type 0) (kind number : ℕ) (l : Limit) → FirstOf P.procedures Q kind number l → Passed P Q kind number l
+passed P Q kind number l is = record { procedure = is.procedure; first = is.first; kind_is = is.kind_is; span = is.span; count = is.count }
+
+pub none_has : (Q : Procedure → Type 0) (ps : List whole.Procedure) (p q : program.Program) → ps ≡ p.procedures.items → p ≡ q → NoneOf (map procedure_of ps) Q → NoneHas (program_of q) Q
+none_has Q ps p q same whole none =
+    let all : ps ≡ q.procedures.items = same ∙ ap (λ (r : program.Program). r.procedures.items) whole in
+    subst (λ xs. NoneOf (map procedure_of xs) Q) all none

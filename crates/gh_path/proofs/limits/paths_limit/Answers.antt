@@ -1,0 +1,14 @@
+use Rattle.std.proofs.Common.{refl, arith, map, subst, length, ◌≤◌, ◌≡◌, ℕ, ◌<◌}
+use Rattle.gh_ast.specs.Plain.{procedure_of}
+use Rattle.gh_path.specs.Admitted.{HasManyPaths}
+use Rattle.gh_path.proofs.PassedLemmas.{IsWide, paths_told, NoneBefore, first_limit, none_of}
+use Rattle.gh_path.proofs.limits.paths_limit.Goals as goal
+
+pub returns-then-ahead-gt1024 : goal.returns-then-ahead-gt1024
+returns-then-ahead-gt1024 c =
+    first_limit HasManyPaths IsWide paths_told c.args.procedures.now c.args.aheads.now c.requires c.loop-place.place c.index-procedures-place.result _ 4 1025 _ (omega arith) c.loop-place.invariant c.if-ahead-gt1024.true refl refl refl
+
+pub returns : goal.returns
+returns c =
+    let end : c.loop-place.place ≡ length c.args.aheads.now = omega arith in
+    none_of HasManyPaths IsWide paths_told (map procedure_of c.args.procedures.now) c.args.aheads.now c.requires (subst (NoneBefore IsWide c.args.aheads.now) end c.loop-place.invariant)

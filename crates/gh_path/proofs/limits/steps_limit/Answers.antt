@@ -1,0 +1,14 @@
+use Rattle.std.proofs.Common.{refl, arith, map, subst, length, ◌≤◌, ◌≡◌, ℕ, ◌<◌}
+use Rattle.gh_ast.specs.Plain.{procedure_of}
+use Rattle.gh_path.specs.Admitted.{HasManySteps}
+use Rattle.gh_path.proofs.PassedLemmas.{IsLong, steps_told, NoneBefore, first_limit, none_of}
+use Rattle.gh_path.proofs.limits.steps_limit.Goals as goal
+
+pub returns-then-ahead-gt257 : goal.returns-then-ahead-gt257
+returns-then-ahead-gt257 c =
+    first_limit HasManySteps IsLong steps_told c.args.procedures.now c.args.aheads.now c.requires c.loop-place.place c.index-procedures-place.result _ 5 257 _ (omega arith) c.loop-place.invariant c.if-ahead-gt257.true refl refl refl
+
+pub returns : goal.returns
+returns c =
+    let end : c.loop-place.place ≡ length c.args.aheads.now = omega arith in
+    none_of HasManySteps IsLong steps_told (map procedure_of c.args.procedures.now) c.args.aheads.now c.requires (subst (NoneBefore IsLong c.args.aheads.now) end c.loop-place.invariant)

@@ -1,0 +1,175 @@
+//! How many conditions lie ahead of a place in a body, and how long their paths are, without a
+//! walk over the paths.
+
+ghost use Rattle.std.specs.Prelude.{◌≡◌};
+ghost use Rattle.gh_ast.specs.Plain.{test_of, tests_view, statement_of, statements_view};
+ghost use Rattle.gh_path.specs.Counting.{nothing, one_end, stepped, checked, either, before_read, before_reads, before_test, before_all, before_some, before, before_block};
+
+use gh_ast::{Cond, Expr, Stmt};
+
+/// What lies ahead of a place.
+///
+/// `count` is the number of conditions, counted up to 1,025. `reach` is one more than the number
+/// of steps of the longest path, up to 258, and 0 where there is no path.
+#[derive(Clone, Copy, Debug, PartialEq, Eq)]
+pub struct Ahead {
+    pub count: u32,
+    pub reach: u32,
+}
+
+impl Ahead {
+    /// Ahead of a dead end.
+    pub fn nothing() -> Ahead
+        ensures { result ≡ nothing }
+    {
+        Ahead { count: 0, reach: 0 }
+    }
+
+    /// Ahead of an end, with its check.
+    pub fn one_end() -> Ahead
+        ensures { result ≡ one_end }
+    {
+        Ahead { count: 1, reach: 1 }
+    }
+
+    /// With a step before it.
+    pub fn stepped(self) -> Ahead
+        ensures { result ≡ stepped self }
+    {
+        Ahead {
+            count: self.count,
+            reach: self.reach.saturating_add(self.reach.min(1)).min(258),
+        }
+    }
+
+    /// With a check before it.
+    pub fn checked(self) -> Ahead
+        ensures { result ≡ checked self }
+    {
+        Ahead {
+            count: self.count.saturating_add(1).min(1_025),
+            reach: self.reach.max(1),
+        }
+    }
+
+    /// This or the other.
+    pub fn either(self, other: Ahead) -> Ahead
+        ensures { result ≡ either self other }
+    {
+        Ahead {
+            count: self.count.saturating_add(other.count).min(1_025),
+            reach: self.reach.max(other.reach),
+        }
+    }
+}
+
+/// Ahead of an expression's read.
+pub fn before_read(expr: &Expr, after: Ahead) -> Ahead
+    ensures { result ≡ before_read expr.now after }
+{
+    match expr {
+        Expr::Plain(_) => after,
+        Expr::Read(_) => after.stepped().checked(),
+    }
+}
+
+/// Ahead of the reads of some expressions.
+pub fn before_reads(exprs: &[Expr], after: Ahead) -> Ahead
+    ensures { result ≡ before_reads exprs.now after }
+{
+    let mut ahead = after;
+    let mut left = exprs.len();
+    while left > 0 {
+        left -= 1;
+        ahead = before_read(&exprs[left], ahead);
+    }
+    ahead
+}
+
+/// Ahead of a test that leads to one of two places.
+#[cycle(test_ahead)]
+pub fn before_test(test: &Cond, yes: Ahead, no: Ahead) -> Ahead
+    ensures { result ≡ before_test (test_of test.now) yes no }
+{
+    match test {
+        Cond::Compare { left, right, .. } => {
+            before_read(left, before_read(right, yes.stepped().either(no.stepped())))
+        }
+        Cond::Not(inner) => before_test(inner, no, yes),
+        Cond::And(members) => before_all(members.as_slice(), yes, no),
+        Cond::Or(members) => before_some(members.as_slice(), yes, no),
+    }
+}
+
+/// Ahead of tests that have all to be true.
+#[cycle(test_ahead)]
+pub fn before_all(tests: &[Cond], yes: Ahead, no: Ahead) -> Ahead
+    ensures { result ≡ before_all (tests_view tests.now) yes no }
+{
+    let mut ahead = yes;
+    let mut left = tests.len();
+    while left > 0 {
+        left -= 1;
+        ahead = before_test(&tests[left], ahead, no);
+    }
+    ahead
+}
+
+/// Ahead of tests of which one has to be true.
+#[cycle(test_ahead)]
+pub fn before_some(tests: &[Cond], yes: Ahead, no: Ahead) -> Ahead
+    ensures { result ≡ before_some (tests_view tests.now) yes no }
+{
+    let mut ahead = no;
+    let mut left = tests.len();
+    while left > 0 {
+        left -= 1;
+        ahead = before_test(&tests[left], yes, ahead);
+    }
+    ahead
+}
+
+/// Ahead of a statement.
+#[cycle(block_ahead)]
+fn before(statement: &Stmt, after: Ahead) -> Ahead
+    ensures { result ≡ before (statement_of statement.now) after }
+{
+    match statement {
+        Stmt::Set { value, .. } => before_read(value, after.stepped()),
+        Stmt::New { .. } => after.stepped(),
+        Stmt::Write { value, .. } => before_read(value, after.stepped().stepped().checked()),
+        Stmt::Free { .. } => after.stepped().stepped().checked(),
+        Stmt::Call { arguments, .. } => {
+            before_reads(arguments.as_slice(), after.stepped().checked())
+        }
+        Stmt::If {
+            test,
+            taken,
+            otherwise,
+        } => before_test(
+            test,
+            before_block(taken.statements.as_slice(), after),
+            before_block(otherwise.statements.as_slice(), after),
+        ),
+        Stmt::While { test, .. } => before_test(test, Ahead::nothing(), after)
+            .stepped()
+            .checked(),
+        Stmt::Return { values, .. } => {
+            before_reads(values.as_slice(), Ahead::one_end().stepped())
+        }
+    }
+}
+
+/// Ahead of some statements.
+#[cycle(block_ahead)]
+pub fn before_block(statements: &[Stmt], after: Ahead) -> Ahead
+    ensures { result ≡ before_block (statements_view statements.now) after }
+{
+    let mut ahead = after;
+    let mut left = statements.len();
+    while left > 0 {
+        left -= 1;
+        ahead = before(&statements[left], ahead);
+    }
+    ahead
+}

@@ -1,0 +1,78 @@
+//! The conditions of a program, of which no list is kept.
+
+ghost use Rattle.std.specs.Prelude.{◌≡◌, map, length, IfOk};
+ghost use Rattle.gh_ast.specs.Plain.{program_of};
+ghost use Rattle.gh_ast.specs.Limits.{AreFew};
+ghost use Rattle.gh_path.specs.Answers.{IsNumbered};
+ghost use Rattle.gh_path.specs.Admitted.{HasManyPaths, HasManySteps, NoneHas};
+ghost use Rattle.gh_path.specs.Conditions.{conditions};
+ghost use Rattle.gh_path.specs.Counting.{procedure_ahead};
+
+use crate::ahead::Ahead;
+use crate::condition::Condition;
+use crate::finder::condition_of;
+use crate::limits::count_all;
+use gh_ast::typed::Typed;
+use std::alloc::{AllocError, Global};
+use std::marker::Model;
+
+/// The conditions of a program that keeps the limits on them, with how many of them each
+/// procedure has. Contracts see it as the program.
+#[derive(Debug, Drop)]
+pub struct Conditions<'t> {
+    typed: &'t Typed,
+    aheads: Vec<Ahead>,
+    count: u32,
+}
+
+impl<'t> Model for Conditions<'t> {
+    ghost use Rattle.gh_ast.specs.declared.Program.{Program};
+    ghost use Rattle.gh_ast.specs.Plain.{program_of};
+    ghost use Rattle.gh_path.specs.Counted.{IsCounted};
+    ghost use Rattle.gh_ast.specs.contracts.Program as whole;
+
+    ghost Value = { Program };
+
+    ghost coded = { whole.the_row.coded };
+
+    ghost view = { λ c. c.typed.now };
+
+    ghost invariant = { λ c. IsCounted (program_of c.typed.now) c.aheads.items c.count };
+}
+
+impl<'t> Conditions<'t> {
+    /// The conditions of a program, with what lies ahead of the starts of each procedure.
+    pub(crate) fn new(typed: &'t Typed, aheads: Vec<Ahead>) -> Conditions<'t>
+        requires few { AreFew (program_of typed.now) }
+        requires counts { aheads.items ≡ map procedure_ahead (program_of typed.now).procedures }
+        requires paths { NoneHas (program_of typed.now) HasManyPaths }
+        requires steps { NoneHas (program_of typed.now) HasManySteps }
+        ensures { result ≡ typed.now }
+    {
+        let count = count_all(aheads.as_slice());
+        Conditions {
+            typed,
+            aheads,
+            count,
+        }
+    }
+
+    /// How many conditions there are.
+    pub fn count(&self) -> u32
+        ensures { result ≡ length (conditions (program_of self.now)) }
+    {
+        self.count
+    }
+
+    /// The condition of a number. Numbers start at 1.
+    pub fn condition(&self, alloc: Global, number: u32) -> Result<Option<Condition>, AllocError>
+        ensures { IfOk result (IsNumbered (program_of self.now) number) }
+    {
+        if number == 0 {
+            return Ok(None);
+        }
+        let program = self.typed.program();
+        let found = condition_of(alloc, program, self.aheads.as_slice(), number - 1)?;
+        Ok(found)
+    }
+}

@@ -1,0 +1,56 @@
+//! The limits on the number of conditions and on the steps of their paths.
+
+ghost use Rattle.std.specs.Prelude.{◌≡◌, map, min, MatchOption};
+ghost use Rattle.gh_ast.specs.Plain.{procedure_of};
+ghost use Rattle.gh_path.specs.Admitted.{HasManyPaths, HasManySteps};
+ghost use Rattle.gh_path.specs.Counting.{procedure_ahead, all_counts};
+ghost use Rattle.gh_path.specs.Refusals.{NoneOf, FirstOf};
+
+use crate::ahead::Ahead;
+use gh_ast::Procedure;
+use gh_ast::typed::Limit;
+
+/// The limit on the conditions of a procedure, where it is passed.
+pub fn paths_limit(procedures: &[Procedure], aheads: &[Ahead]) -> Option<Limit>
+    requires { aheads.now ≡ map procedure_ahead (map procedure_of procedures.now) }
+    ensures { MatchOption result (NoneOf (map procedure_of procedures.now) HasManyPaths) (FirstOf (map procedure_of procedures.now) HasManyPaths 4 1025) }
+{
+    for (place, ahead) in aheads.iter().enumerate() {
+        if ahead.count > 1_024 {
+            return Some(Limit {
+                kind: 4,
+                span: procedures[place].name.span,
+                count: 1_025,
+            });
+        }
+    }
+    None
+}
+
+/// The limit on the steps of a condition, where it is passed.
+pub fn steps_limit(procedures: &[Procedure], aheads: &[Ahead]) -> Option<Limit>
+    requires { aheads.now ≡ map procedure_ahead (map procedure_of procedures.now) }
+    ensures { MatchOption result (NoneOf (map procedure_of procedures.now) HasManySteps) (FirstOf (map procedure_of procedures.now) HasManySteps 5 257) }
+{
+    for (place, ahead) in aheads.iter().enumerate() {
+        if ahead.reach > 257 {
+            return Some(Limit {
+                kind: 5,
+                span: procedures[place].name.span,
+                count: 257,
+            });
+        }
+    }
+    None
+}
+
+/// How many conditions there are together, counted up to the greatest `u32`.
+pub fn count_all(aheads: &[Ahead]) -> u32
+    ensures { result ≡ min (all_counts aheads.now) 4294967295 }
+{
+    let mut count = 0u32;
+    for ahead in aheads {
+        count = count.saturating_add(ahead.count);
+    }
+    count
+}
