@@ -1,3 +1,9 @@
-pub mod Replay
+pub mod Failures
 pub mod Proper
 pub mod Calls
+pub mod Lefts
+pub mod Listings
+pub mod StepLemmas
+pub mod Insides
+pub mod CallLemmas
+pub mod Following

@@ -1,4 +1,9 @@
 pub mod Traces
 pub mod Replay
 pub mod Validity
+pub mod Kept
+pub mod Left
+pub mod Targets
+pub mod Scenes
+pub mod Rest
 pub mod Laws

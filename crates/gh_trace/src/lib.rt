@@ -1,4 +1,16 @@
 //! What the steps of a path do, counterexamples, and valid conditions.
 #![tactic(auto)]
 
+mod checks;
+pub mod decider;
+mod heaps;
 pub mod laws;
+mod parts;
+pub mod replay;
+mod scene;
+pub mod state;
+mod steps;
+mod stores;
+mod targets;
+#[cfg(test)]
+mod worked;

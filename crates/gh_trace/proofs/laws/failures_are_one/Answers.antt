@@ -1,4 +1,4 @@
-use Rattle.gh_trace.proofs.Replay.{failures_are_one}
+use Rattle.gh_trace.proofs.Failures.{failures_are_one}
 use Rattle.gh_trace.proofs.laws.failures_are_one.Goals as goal
 
 pub returns : goal.returns

@@ -1,0 +1,118 @@
+use Rattle.std.proofs.Common.{sym, subst, inl, inr}
+use Rattle.std.specs.Prelude.{◌↔◌, IsTrue}
+use Rattle.std.proofs.lemmas.Result.{IfOk-weaker}
+use Rattle.gh_ast.specs.Plain.{procedure_of, program_of}
+use Rattle.gh_ast.specs.Programs.{results_of}
+use Rattle.gh_assert.specs.Values.{result}
+use Rattle.gh_path.specs.Graphs.{called, answered}
+use Rattle.gh_path.specs.Kept.{IsStep}
+use Rattle.gh_trace.specs.Kept.{state_of}
+use Rattle.gh_trace.specs.Traces.{Takes}
+use Rattle.gh_trace.proofs.StepLemmas.{opposite_false}
+use Rattle.gh_trace.proofs.steps.leads.Goals as goal
+
+pub returns-in-Access : goal.returns-in-Access
+returns-in-Access c =
+    let P = program_of c.args.scene.typed.now in
+    let p = procedure_of c.args.scene.procedure.now in
+    let x = state_of c.args.before.now in
+    let y = state_of c.args.after.now in
+    IfOk-weaker c.accesses.result _ _
+    (λ b w s is.
+    let e = subst (λ z. IsStep P p z s) c.in-Access.is is in
+    subst (λ z. IsTrue b ↔ Takes P z x y) (sym e) (w P)) c.accesses.ensures
+
+pub returns-in-Assume : goal.returns-in-Assume
+returns-in-Assume c =
+    let P = program_of c.args.scene.typed.now in
+    let p = procedure_of c.args.scene.procedure.now in
+    let x = state_of c.args.before.now in
+    let y = state_of c.args.after.now in
+    IfOk-weaker c.assumes.result _ _
+    (λ b w s is.
+    let e = subst (λ z. IsStep P p z s) c.in-Assume.is is in
+    elim e [
+      | inl same ↦ subst (λ z. IsTrue b ↔ Takes P z x y) (sym same) (w P)
+      | inr opposite ↦
+          let o = opposite_false c.in-Assume.equal (result x.store x.heap c.in-Assume.left) (result x.store x.heap c.in-Assume.right) in
+          subst (λ z. IsTrue b ↔ Takes P z x y) (sym opposite) (λ t. (let takes = (w P).0 t in (o.1 takes.0, takes.1)), λ takes. (w P).1 (o.0 takes.0, takes.1))
+    ]) c.assumes.ensures
+
+pub returns-in-Set : goal.returns-in-Set
+returns-in-Set c =
+    let P = program_of c.args.scene.typed.now in
+    let p = procedure_of c.args.scene.procedure.now in
+    let x = state_of c.args.before.now in
+    let y = state_of c.args.after.now in
+    IfOk-weaker c.assigns.result _ _
+    (λ b w s is.
+    let e = subst (λ z. IsStep P p z s) c.in-Set.is is in
+    subst (λ z. IsTrue b ↔ Takes P z x y) (sym e) (w P)) c.assigns.ensures
+
+pub returns-in-Write : goal.returns-in-Write
+returns-in-Write c =
+    let P = program_of c.args.scene.typed.now in
+    let p = procedure_of c.args.scene.procedure.now in
+    let x = state_of c.args.before.now in
+    let y = state_of c.args.after.now in
+    IfOk-weaker c.writes.result _ _
+    (λ b w s is.
+    let e = subst (λ z. IsStep P p z s) c.in-Write.is is in
+    subst (λ z. IsTrue b ↔ Takes P z x y) (sym e) (w P)) c.writes.ensures
+
+pub returns-in-New : goal.returns-in-New
+returns-in-New c =
+    let P = program_of c.args.scene.typed.now in
+    let p = procedure_of c.args.scene.procedure.now in
+    let x = state_of c.args.before.now in
+    let y = state_of c.args.after.now in
+    IfOk-weaker c.makes.result _ _
+    (λ b w s is.
+    let e = subst (λ z. IsStep P p z s) c.in-New.is is in
+    subst (λ z. IsTrue b ↔ Takes P z x y) (sym e) (w P)) c.makes.ensures
+
+pub returns-in-Free : goal.returns-in-Free
+returns-in-Free c =
+    let P = program_of c.args.scene.typed.now in
+    let p = procedure_of c.args.scene.procedure.now in
+    let x = state_of c.args.before.now in
+    let y = state_of c.args.after.now in
+    IfOk-weaker c.frees.result _ _
+    (λ b w s is.
+    let e = subst (λ z. IsStep P p z s) c.in-Free.is is in
+    subst (λ z. IsTrue b ↔ Takes P z x y) (sym e) (w P)) c.frees.ensures
+
+pub returns-in-Call : goal.returns-in-Call
+returns-in-Call c =
+    let P = program_of c.args.scene.typed.now in
+    let p = procedure_of c.args.scene.procedure.now in
+    let x = state_of c.args.before.now in
+    let y = state_of c.args.after.now in
+    IfOk-weaker c.calls.result _ _
+    (λ b w s is.
+    let e = subst (λ z. IsStep P p z s) c.in-Call.is is in
+    subst (λ z. IsTrue b ↔ Takes P z x y) (sym e.2)
+    (subst (λ es. IsTrue b ↔ Takes P (called c.in-Call.targets.items e.0 es) x y) c.as_slice-in-Call.ensures.value
+    (subst (λ xs. IsTrue b ↔ Takes P (called xs e.0 c.as_slice-in-Call.result.now) x y) c.as_slice.ensures.value (w e.0 e.1)))) c.calls.ensures
+
+pub returns-in-Loop : goal.returns-in-Loop
+returns-in-Loop c =
+    let P = program_of c.args.scene.typed.now in
+    let p = procedure_of c.args.scene.procedure.now in
+    let x = state_of c.args.before.now in
+    let y = state_of c.args.after.now in
+    IfOk-weaker c.goes_around.result _ _
+    (λ b w s is.
+    let e = subst (λ z. IsStep P p z s) c.in-Loop.is is in
+    subst (λ z. IsTrue b ↔ Takes P z x y) (sym e.2) (w e.0 e.1)) c.goes_around.ensures
+
+pub returns-in-Return : goal.returns-in-Return
+returns-in-Return c =
+    let P = program_of c.args.scene.typed.now in
+    let p = procedure_of c.args.scene.procedure.now in
+    let x = state_of c.args.before.now in
+    let y = state_of c.args.after.now in
+    IfOk-weaker c.answers.result _ _
+    (λ b w s is.
+    let e = subst (λ z. IsStep P p z s) c.in-Return.is is in
+    subst (λ z. IsTrue b ↔ Takes P z x y) (sym e) (subst (λ es. IsTrue b ↔ Takes P (answered (results_of p) es) x y) c.as_slice-in-Return.ensures.value (w P))) c.answers.ensures

@@ -1,0 +1,51 @@
+-- States and traces as they are kept, and what a kept condition asks of them.
+use Rattle.std.specs.Prelude.{◌≡◌, List, map}
+use Rattle.gh_ast.specs.Plain.{Program}
+use Rattle.gh_assert.specs.Stores.{listed_names, store_of}
+use Rattle.gh_path.specs.Conditions.{Condition, IsCondition}
+use Rattle.gh_path.specs.Kept.{StandsFor}
+use Rattle.gh_path.specs.declared.condition.Condition as kept_condition
+use Rattle.gh_trace.specs.Traces.{State}
+use Rattle.gh_trace.specs.Replay.{Drawn, FirstFailure, Refutes}
+use Rattle.gh_trace.specs.Validity.{IsConditionValid}
+use Rattle.gh_trace.specs.declared.state.State as kept_state
+use Rattle.gh_trace.specs.declared.state.Trace as kept_trace
+use Rattle.gh_trace.specs.declared.replay.ReplayError.{ReplayError}
+use Rattle.gh_trace.specs.declared.replay.ReplayError.TheVariants.{Step, OutOfMemory}
+
+abbrev pub state_of : kept_state.State → State
+state_of s = record { store = store_of s.store; heap = s.heap }
+
+-- the stores list the same names
+abbrev pub IsNext : kept_state.State → kept_state.State → Type 0
+IsNext x y = listed_names y.store ≡ listed_names x.store
+
+abbrev pub drawn : kept_state.State → Drawn
+drawn s = record { listed = listed_names s.store; state = state_of s }
+
+abbrev pub drawn_of : kept_trace.Trace → List Drawn
+drawn_of t = map drawn t.states.items
+
+-- the states refute the condition that is kept
+abbrev pub IsRefuted : Program → kept_condition.Condition → List Drawn → Type 0
+IsRefuted P r xs = (c : Condition) → StandsFor P r c → Refutes P c xs
+
+-- an error other than want of memory has the number of the first failure
+abbrev pub IsFailure : Program → kept_condition.Condition → List Drawn → ReplayError → Type 0
+IsFailure P r xs (Step n) = (c : Condition) → StandsFor P r c → FirstFailure P c xs n
+IsFailure P r xs OutOfMemory = Unit {0}
+
+-- the kept condition is one of the program's
+pub record IsKept (P : Program) (r : kept_condition.Condition) (c : Condition) : Type 0 where
+  pub stands : StandsFor P r c
+  pub there : IsCondition P c
+
+abbrev pub IsOne : Program → kept_condition.Condition → Type 0
+IsOne P r = (c : Condition) × IsKept P r c
+
+-- no states are a counterexample
+abbrev pub HasNoCounterexample : Program → kept_condition.Condition → Type 0
+HasNoCounterexample P r = (c : Condition) → IsKept P r c → IsConditionValid P c
+
+abbrev pub HasCounterexample : Program → kept_condition.Condition → List Drawn → Type 0
+HasCounterexample P r xs = (c : Condition) → IsKept P r c → Refutes P c xs

@@ -1,0 +1,150 @@
+//! Whether a state meets the start of a path, and whether it passes a check.
+
+ghost use Rattle.std.specs.Prelude.{◌≡◌, ◌↔◌, IfOk, IfNone, IfSome, IsTrue};
+ghost use Rattle.gh_base.specs.declared.place.Span.{Span};
+ghost use Rattle.gh_ast.specs.declared.Occ.{Occ};
+ghost use Rattle.gh_ast.specs.Plain.{formula_of, procedure_of, program_of, Program};
+ghost use Rattle.gh_path.specs.Graphs as graph;
+ghost use Rattle.gh_path.specs.Kept.{IsCallee, IsLoop, IsStart, IsKind};
+ghost use Rattle.gh_trace.specs.Traces.{Passes};
+ghost use Rattle.gh_trace.specs.Replay.{Begins};
+ghost use Rattle.gh_ast.specs.Programs.{variable_names};
+ghost use Rattle.gh_assert.specs.Stores.{listed_names};
+ghost use Rattle.gh_trace.specs.Kept.{state_of, drawn};
+ghost use Rattle.gh_trace.specs.Scenes.{HasLoops};
+
+use crate::parts::{Part, has_part};
+use crate::scene::{Scene, procedure_at};
+use crate::state::State;
+use crate::stores::{entered, is_over, value};
+use gh_assert::meaning::holds;
+use gh_assert::values::values_of;
+use gh_ast::{Assertion, Expr};
+use gh_path::condition::{CheckKind, Start};
+use std::alloc::{AllocError, Global};
+
+// What the first heap of a path meets.
+fn start_assertion<'t>(scene: Scene<'t>, start: Start) -> Option<&'t Assertion>
+    requires { HasLoops scene }
+    ensures some { IfSome result (λ f. (a : graph.Start) → IsStart (procedure_of scene.entry.procedure.now) start a → a.meets ≡ formula_of f.now) }
+    ensures none { IfNone result ((a : graph.Start) → IsStart (procedure_of scene.entry.procedure.now) start a → ⊥) }
+{
+    match start {
+        Start::Entry => Some(&scene.procedure.needs),
+        Start::Loop { number } => match scene.round(number) {
+            Some(round) => Some(round.invariant),
+            None => None,
+        },
+    }
+}
+
+/// Whether a path may begin in a state.
+pub fn begins(
+    alloc: Global,
+    scene: Scene<'_>,
+    start: Start,
+    state: &State,
+) -> Result<bool, AllocError>
+    requires { HasLoops scene }
+    ensures begins { IfOk result (λ b. (a : graph.Start) → IsStart (procedure_of scene.entry.procedure.now) start a → IsTrue b ↔ Begins (variable_names (procedure_of scene.entry.procedure.now)) a.meets (drawn state.now)) }
+    ensures over { IfOk result (λ b. IsTrue b → listed_names state.now.store ≡ variable_names (procedure_of scene.entry.procedure.now)) }
+{
+    let Some(assertion) = start_assertion(scene, start) else {
+        return Ok(false);
+    };
+    if !is_over(&state.store, scene.procedure) {
+        return Ok(false);
+    }
+    holds(alloc, &state.store, &state.heap, assertion)
+}
+
+// Some part of the heap meets what the callee needs. A call that gives no values, or another number
+// of them, is none.
+fn is_entered(
+    alloc: Global,
+    scene: Scene<'_>,
+    callee: u16,
+    arguments: &[Expr],
+    state: &State,
+) -> Result<bool, AllocError>
+    ensures { IfOk result (λ b. (f : Occ) → IsCallee (program_of scene.entry.typed.now) callee f.name → IsTrue b ↔ Passes (program_of scene.entry.typed.now) (graph.entry f arguments.now) (state_of state.now)) }
+{
+    let Some(callee) = procedure_at(scene.typed, callee) else {
+        return Ok(true);
+    };
+    let Some(given) = values_of(alloc, &state.store, &state.heap, arguments)? else {
+        return Ok(true);
+    };
+    if given.as_slice().len() != callee.parameters.as_slice().len() {
+        return Ok(true);
+    }
+    let inside = entered(alloc, callee, given.as_slice())?;
+    has_part(
+        alloc,
+        Part {
+            assertion: &callee.needs,
+            store: &inside,
+            heap: &state.heap,
+        },
+    )
+}
+
+// Some part of the heap meets the loop's invariant.
+fn is_loop_entered(
+    alloc: Global,
+    scene: Scene<'_>,
+    number: u16,
+    state: &State,
+) -> Result<bool, AllocError>
+    requires { HasLoops scene }
+    ensures { IfOk result (λ b. (l : graph.Loop) → IsLoop (procedure_of scene.entry.procedure.now) number l → (P : Program) → IsTrue b ↔ Passes P (graph.loop_entry l) (state_of state.now)) }
+{
+    let Some(round) = scene.round(number) else {
+        return Ok(true);
+    };
+    has_part(
+        alloc,
+        Part {
+            assertion: round.invariant,
+            store: &state.store,
+            heap: &state.heap,
+        },
+    )
+}
+
+// The whole heap meets the loop's invariant.
+fn is_loop_ended(
+    alloc: Global,
+    scene: Scene<'_>,
+    number: u16,
+    state: &State,
+) -> Result<bool, AllocError>
+    requires { HasLoops scene }
+    ensures { IfOk result (λ b. (l : graph.Loop) → IsLoop (procedure_of scene.entry.procedure.now) number l → (P : Program) → IsTrue b ↔ Passes P (graph.loop_end l) (state_of state.now)) }
+{
+    let Some(round) = scene.round(number) else {
+        return Ok(true);
+    };
+    holds(alloc, &state.store, &state.heap, round.invariant)
+}
+
+/// Whether a state passes a check.
+pub fn passes(
+    alloc: Global,
+    scene: Scene<'_>,
+    kind: &CheckKind,
+    state: &State,
+) -> Result<bool, AllocError>
+    requires { HasLoops scene }
+    ensures { IfOk result (λ b. (at : Span) (k : graph.Check) → IsKind (program_of scene.entry.typed.now) (procedure_of scene.entry.procedure.now) kind.now at k → IsTrue b ↔ Passes (program_of scene.entry.typed.now) k (state_of state.now)) }
+{
+    match kind {
+        CheckKind::Access { at } => Ok(state.heap.get(value(&state.store, at)).is_some()),
+        CheckKind::CalleeEntry { callee, arguments } => {
+            is_entered(alloc, scene, *callee, arguments.as_slice(), state)
+        }
+        CheckKind::LoopEntry { number } => is_loop_entered(alloc, scene, *number, state),
+        CheckKind::Return => holds(alloc, &state.store, &state.heap, &scene.procedure.gives),
+        CheckKind::LoopEnd { number } => is_loop_ended(alloc, scene, *number, state),
+    }
+}

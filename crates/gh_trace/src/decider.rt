@@ -1,0 +1,26 @@
+//! What decides conditions.
+
+ghost use Rattle.std.specs.Prelude.{IfOk, IfNone, IfSome};
+ghost use Rattle.gh_ast.specs.Plain.{program_of};
+ghost use Rattle.gh_path.specs.Admitted.{IsAdmitted};
+ghost use Rattle.gh_trace.specs.Kept.{drawn_of, IsOne, HasNoCounterexample, HasCounterexample};
+
+use crate::state::Trace;
+use gh_ast::typed::Typed;
+use gh_path::condition::Condition;
+use std::alloc::{AllocError, Global};
+
+/// Decides conditions of programs.
+pub trait Decider {
+    /// A counterexample of a condition of an admitted program; none where there is none.
+    fn settle(
+        &mut self,
+        alloc: Global,
+        typed: &Typed,
+        condition: &Condition,
+    ) -> Result<Option<Trace>, AllocError>
+        requires admitted { IsAdmitted (program_of typed.now) }
+        requires one { IsOne (program_of typed.now) condition.now }
+        ensures none { IfOk result (λ o. IfNone o (HasNoCounterexample (program_of typed.now) condition.now)) }
+        ensures some { IfOk result (λ o. IfSome o (λ t. HasCounterexample (program_of typed.now) condition.now (drawn_of t))) };
+}

@@ -1,0 +1,139 @@
+//! Whether a trace is a counterexample of a condition.
+
+ghost use Rattle.std.specs.Prelude.{◌≡◌, ◌≤◌, ◌↔◌, IfErr, IfOk, OnOk, IsTrue, length, map};
+ghost use Rattle.gh_ast.specs.Plain.{procedure_of, program_of};
+ghost use Rattle.gh_ast.specs.Programs.{variable_names};
+ghost use Rattle.gh_assert.specs.Stores.{listed_names};
+ghost use Rattle.gh_path.specs.Graphs as graph;
+ghost use Rattle.gh_path.specs.Kept.{IsStep};
+ghost use Rattle.gh_trace.specs.Replay.{LeadsTo};
+ghost use Rattle.gh_trace.specs.Kept.{state_of, drawn, drawn_of, IsRefuted, IsFailure};
+ghost use Rattle.gh_trace.specs.Rest.{IsRefutedAfter, IsFailureAfter};
+ghost use Rattle.gh_trace.specs.Scenes.{HasLoops};
+
+use crate::checks::{begins, passes};
+use crate::scene::{Scene, procedure_at};
+use crate::state::{State, Trace};
+use crate::steps::leads;
+use crate::stores::is_over;
+use gh_ast::typed::Typed;
+use gh_path::condition::{Condition, PathStep};
+use gh_path::loops::loops_of;
+use std::alloc::{AllocError, Global};
+use thiserror::Error;
+
+/// Why a trace is no counterexample, or why that isn't known.
+///
+/// `Step` has the number of the first failure. It is 0 where there is no first state, or its store
+/// isn't over the variables, or its heap doesn't meet what is given at the start; k where state k is
+/// missing, or step k doesn't lead to it; and one above the number of steps where the last state
+/// passes the check, or more states follow.
+#[derive(Debug, Drop, Error)]
+pub enum ReplayError {
+    #[error("step {number}")]
+    Step { number: u16 },
+    #[error("out of memory")]
+    OutOfMemory,
+}
+
+impl From<AllocError> for ReplayError {
+    ghost use Rattle.gh_trace.specs.declared.replay.ReplayError.TheVariants.{OutOfMemory};
+
+    ghost from_gives = { λ _ e. e ≡ OutOfMemory };
+
+    fn from(_: AllocError) -> Self {
+        ReplayError::OutOfMemory
+    }
+}
+
+// The failure of a number.
+fn failure(number: usize) -> ReplayError
+    requires { number ≤ 257 }
+    ensures { result ≡ ReplayError.Step number }
+{
+    ReplayError::Step {
+        number: number as u16,
+    }
+}
+
+// Whether the next state is over the variables, and the step leads to it.
+fn is_next(
+    alloc: Global,
+    scene: Scene<'_>,
+    step: &PathStep,
+    before: &State,
+    after: &State,
+) -> Result<bool, AllocError>
+    requires loops { HasLoops scene }
+    requires over { listed_names before.now.store ≡ variable_names (procedure_of scene.procedure.now) }
+    ensures next { IfOk result (λ b. (s : graph.PathStep) → IsStep (program_of scene.entry.typed.now) (procedure_of scene.entry.procedure.now) step.now s → IsTrue b ↔ LeadsTo (program_of scene.entry.typed.now) (variable_names (procedure_of scene.entry.procedure.now)) s (state_of before.now) (drawn after.now)) }
+    ensures over { IfOk result (λ b. IsTrue b → listed_names after.now.store ≡ variable_names (procedure_of scene.entry.procedure.now)) }
+{
+    if !is_over(&after.store, scene.procedure) {
+        return Ok(false);
+    }
+    leads(alloc, scene, step, before, after)
+}
+
+// Follows the steps from a first state.
+fn walk(
+    alloc: Global,
+    scene: Scene<'_>,
+    condition: &Condition,
+    first: &State,
+    others: &[State],
+) -> Result<(), ReplayError>
+    requires loops { HasLoops scene }
+    requires few { length condition.now.steps.items ≤ 256 }
+    requires over { listed_names first.now.store ≡ variable_names (procedure_of scene.procedure.now) }
+    ensures refuted { OnOk result (IsRefutedAfter (program_of scene.entry.typed.now) (procedure_of scene.entry.procedure.now) condition.now (state_of first.now) (map drawn others.now)) }
+    ensures failed { IfErr result (IsFailureAfter (program_of scene.entry.typed.now) (procedure_of scene.entry.procedure.now) condition.now (state_of first.now) (map drawn others.now)) }
+{
+    let mut before = first;
+    for (i, step) in condition.steps.iter().enumerate() {
+        let Some(after) = others.get(i) else {
+            return Err(failure(i + 1));
+        };
+        if !is_next(alloc, scene, step, before, after)? {
+            return Err(failure(i + 1));
+        }
+        before = after;
+    }
+    let count = condition.steps.len();
+    if others.len() > count {
+        return Err(failure(count + 1));
+    }
+    if passes(alloc, scene, &condition.check.kind, before)? {
+        return Err(failure(count + 1));
+    }
+    Ok(())
+}
+
+/// Whether a trace is a counterexample of a condition of a program.
+pub fn replay(
+    alloc: Global,
+    typed: &Typed,
+    condition: &Condition,
+    trace: &Trace,
+) -> Result<(), ReplayError>
+    requires { length condition.now.steps.items ≤ 256 }
+    ensures refuted { OnOk result (IsRefuted (program_of typed.now) condition.now (drawn_of trace.now)) }
+    ensures failed { IfErr result (IsFailure (program_of typed.now) condition.now (drawn_of trace.now)) }
+{
+    let Some(procedure) = procedure_at(typed, condition.procedure) else {
+        return Err(failure(0));
+    };
+    let loops = loops_of(alloc, procedure)?;
+    let scene = Scene {
+        typed,
+        procedure,
+        loops: loops.as_slice(),
+    };
+    let Some((first, others)) = trace.states.as_slice().split_first() else {
+        return Err(failure(0));
+    };
+    if !begins(alloc, scene, condition.start, first)? {
+        return Err(failure(0));
+    }
+    walk(alloc, scene, condition, first, others)
+}

@@ -1,0 +1,49 @@
+//! The procedure that a condition is of.
+
+ghost use Rattle.std.specs.Prelude.{◌≡◌, IfNone, IfSome, slice_get, Some, None};
+ghost use Rattle.gh_ast.specs.Plain.{procedure_of, program_of};
+ghost use Rattle.gh_path.specs.Graphs.{loops_of};
+ghost use Rattle.gh_path.specs.Walking.{loop_of};
+ghost use Rattle.gh_trace.specs.Scenes.{HasLoops, HasDistinctNames};
+ghost use Rattle.gh_trace.specs.Laws.{HasOwnNames};
+
+use gh_ast::typed::Typed;
+use gh_ast::{Procedure, Program};
+use gh_path::loops::While;
+
+/// A program, one of its procedures, and the loops of that.
+#[derive(Clone, Copy)]
+pub struct Scene<'t> {
+    pub typed: &'t Typed,
+    pub procedure: &'t Procedure,
+    pub loops: &'t [While<'t>],
+}
+
+// The procedure of a number in a program.
+fn procedure_in(program: &Program, number: u16) -> Option<&Procedure>
+    ensures some { IfSome result (λ q. slice_get (program_of program.now).procedures number ≡ Some (procedure_of q.now)) }
+    ensures none { IfNone result (slice_get (program_of program.now).procedures number ≡ None) }
+{
+    program.procedures.get(usize::from(number))
+}
+
+/// The procedure of a number.
+pub fn procedure_at(typed: &Typed, number: u16) -> Option<&Procedure>
+    ensures some { IfSome result (λ q. slice_get (program_of typed.now).procedures number ≡ Some (procedure_of q.now)) }
+    ensures none { IfNone result (slice_get (program_of typed.now).procedures number ≡ None) }
+    ensures own { IfSome result (λ q. HasOwnNames (procedure_of q.now)) }
+    ensures distinct { IfSome result (λ q. HasDistinctNames (procedure_of q.now)) }
+{
+    procedure_in(typed.program(), number)
+}
+
+impl<'t> Scene<'t> {
+    /// The loop of a number.
+    pub fn round(self, number: u16) -> Option<While<'t>>
+        requires { HasLoops self }
+        ensures some { IfSome result (λ w. slice_get (loops_of (procedure_of self.entry.procedure.now)) number ≡ Some (loop_of w)) }
+        ensures none { IfNone result (slice_get (loops_of (procedure_of self.entry.procedure.now)) number ≡ None) }
+    {
+        self.loops.get(usize::from(number)).copied()
+    }
+}

@@ -1,0 +1,303 @@
+//! Whether a step leads from one state to another.
+
+ghost use Rattle.std.specs.Prelude.{◌≡◌, ◌↔◌, IfOk, IsTrue, true};
+ghost use Rattle.gh_ast.specs.declared.Occ.{Occ};
+ghost use Rattle.gh_ast.specs.Plain.{procedure_of, program_of, Program};
+ghost use Rattle.gh_ast.specs.Programs.{results_of};
+ghost use Rattle.gh_path.specs.Graphs as graph;
+ghost use Rattle.gh_path.specs.Kept.{IsCallee, IsLoop, IsStep};
+ghost use Rattle.gh_assert.specs.Stores.{listed_names};
+ghost use Rattle.gh_trace.specs.Traces.{Takes};
+ghost use Rattle.gh_trace.specs.Kept.{state_of, IsNext};
+ghost use Rattle.gh_trace.specs.Scenes.{HasLoops};
+
+use crate::heaps::is_same_outside;
+use crate::parts::{Part, is_replaced};
+use crate::scene::{Scene, procedure_at};
+use crate::state::State;
+use crate::stores::{gets, inside, keeps, values};
+use crate::targets::Targets;
+use gh_assert::values::{compares, expr_value, value_of, values_of};
+use gh_ast::{Expr, Occ};
+use gh_path::condition::PathStep;
+use std::alloc::{AllocError, Global};
+use std::slice::from_ref;
+
+// Whether the state stays as it is.
+fn stays(alloc: Global, before: &State, after: &State) -> Result<bool, AllocError>
+    requires { IsNext before.now after.now }
+    ensures { IfOk result (λ b. IsTrue b ↔ (state_of after.now ≡ state_of before.now)) }
+{
+    if !keeps(&before.store, &after.store, Targets::Names(&[])) {
+        return Ok(false);
+    }
+    is_same_outside(alloc, &before.heap, &[], &after.heap, &[])
+}
+
+/// The place is allocated, and the state stays.
+pub fn accesses(alloc: Global, at: &Occ, before: &State, after: &State) -> Result<bool, AllocError>
+    requires { IsNext before.now after.now }
+    ensures { IfOk result (λ b. (P : Program) → IsTrue b ↔ Takes P (graph.accessed at.now) (state_of before.now) (state_of after.now)) }
+{
+    let place = value_of(&before.store, at);
+    if before.heap.get(place).is_none() {
+        return Ok(false);
+    }
+    stays(alloc, before, after)
+}
+
+/// The comparison is true, and the state stays.
+pub fn assumes(
+    alloc: Global,
+    left: &Expr,
+    equal: bool,
+    right: &Expr,
+    before: &State,
+    after: &State,
+) -> Result<bool, AllocError>
+    requires { IsNext before.now after.now }
+    ensures { IfOk result (λ b. (P : Program) → IsTrue b ↔ Takes P (graph.assume left.now equal right.now true) (state_of before.now) (state_of after.now)) }
+{
+    let Some(left) = expr_value(&before.store, &before.heap, left) else {
+        return Ok(false);
+    };
+    let Some(right) = expr_value(&before.store, &before.heap, right) else {
+        return Ok(false);
+    };
+    if !compares(left, equal, right) {
+        return Ok(false);
+    }
+    stays(alloc, before, after)
+}
+
+/// The variable has the value.
+pub fn assigns(
+    alloc: Global,
+    target: &Occ,
+    expr: &Expr,
+    before: &State,
+    after: &State,
+) -> Result<bool, AllocError>
+    requires { IsNext before.now after.now }
+    ensures { IfOk result (λ b. (P : Program) → IsTrue b ↔ Takes P (graph.assigned target.now expr.now) (state_of before.now) (state_of after.now)) }
+{
+    let Some(value) = expr_value(&before.store, &before.heap, expr) else {
+        return Ok(false);
+    };
+    if !gets(
+        alloc,
+        &before.store,
+        &after.store,
+        from_ref(target),
+        &[value],
+    )? {
+        return Ok(false);
+    }
+    is_same_outside(alloc, &before.heap, &[], &after.heap, &[])
+}
+
+/// The cell at the place has the value.
+pub fn writes(
+    alloc: Global,
+    at: &Occ,
+    expr: &Expr,
+    before: &State,
+    after: &State,
+) -> Result<bool, AllocError>
+    requires { IsNext before.now after.now }
+    ensures { IfOk result (λ b. (P : Program) → IsTrue b ↔ Takes P (graph.written at.now expr.now) (state_of before.now) (state_of after.now)) }
+{
+    let place = value_of(&before.store, at);
+    let Some(value) = expr_value(&before.store, &before.heap, expr) else {
+        return Ok(false);
+    };
+    if before.heap.get(place).is_none() {
+        return Ok(false);
+    }
+    if after.heap.get(place) != Some(value) {
+        return Ok(false);
+    }
+    if !keeps(&before.store, &after.store, Targets::Names(&[])) {
+        return Ok(false);
+    }
+    is_same_outside(alloc, &before.heap, &[place], &after.heap, &[place])
+}
+
+/// The variable has a place that was not allocated, and a cell is there.
+pub fn makes(alloc: Global, target: &Occ, before: &State, after: &State) -> Result<bool, AllocError>
+    requires { IsNext before.now after.now }
+    ensures { IfOk result (λ b. (P : Program) → IsTrue b ↔ Takes P (graph.made target.now) (state_of before.now) (state_of after.now)) }
+{
+    let place = value_of(&after.store, target);
+    if place == 0 {
+        return Ok(false);
+    }
+    if after.heap.get(place).is_none() {
+        return Ok(false);
+    }
+    if !keeps(
+        &before.store,
+        &after.store,
+        Targets::Names(from_ref(target)),
+    ) {
+        return Ok(false);
+    }
+    is_same_outside(alloc, &before.heap, &[], &after.heap, &[place])
+}
+
+/// The cell at the place is gone.
+pub fn frees(alloc: Global, at: &Occ, before: &State, after: &State) -> Result<bool, AllocError>
+    requires { IsNext before.now after.now }
+    ensures { IfOk result (λ b. (P : Program) → IsTrue b ↔ Takes P (graph.freed at.now) (state_of before.now) (state_of after.now)) }
+{
+    let place = value_of(&before.store, at);
+    if before.heap.get(place).is_none() {
+        return Ok(false);
+    }
+    if !keeps(&before.store, &after.store, Targets::Names(&[])) {
+        return Ok(false);
+    }
+    is_same_outside(alloc, &before.heap, &[place], &after.heap, &[])
+}
+
+// A part that meets what the callee needs gives way to one that meets what it gives, and the targets
+// have its results.
+fn calls(
+    alloc: Global,
+    scene: Scene<'_>,
+    targets: &[Occ],
+    callee: u16,
+    arguments: &[Expr],
+    before: &State,
+    after: &State,
+) -> Result<bool, AllocError>
+    requires { IsNext before.now after.now }
+    ensures { IfOk result (λ b. (f : Occ) → IsCallee (program_of scene.entry.typed.now) callee f.name → IsTrue b ↔ Takes (program_of scene.entry.typed.now) (graph.called targets.now f arguments.now) (state_of before.now) (state_of after.now)) }
+{
+    let Some(callee) = procedure_at(scene.typed, callee) else {
+        return Ok(false);
+    };
+    let Some(given) = values_of(alloc, &before.store, &before.heap, arguments)? else {
+        return Ok(false);
+    };
+    if given.as_slice().len() != callee.parameters.as_slice().len() {
+        return Ok(false);
+    }
+    if targets.len() != callee.results.as_slice().len() {
+        return Ok(false);
+    }
+    if !keeps(&before.store, &after.store, Targets::Names(targets)) {
+        return Ok(false);
+    }
+    let results = values(alloc, &after.store, targets)?;
+    let inside = inside(alloc, callee, given.as_slice(), results.as_slice())?;
+    let needed = Part {
+        assertion: &callee.needs,
+        store: &inside,
+        heap: &before.heap,
+    };
+    let promised = Part {
+        assertion: &callee.gives,
+        store: &inside,
+        heap: &after.heap,
+    };
+    is_replaced(alloc, needed, promised)
+}
+
+// A part that meets the invariant gives way to one that meets it again, and the variables that the
+// body assigns have any values.
+fn goes_around(
+    alloc: Global,
+    scene: Scene<'_>,
+    number: u16,
+    before: &State,
+    after: &State,
+) -> Result<bool, AllocError>
+    requires loops { HasLoops scene }
+    requires next { IsNext before.now after.now }
+    ensures { IfOk result (λ b. (l : graph.Loop) → IsLoop (procedure_of scene.entry.procedure.now) number l → IsTrue b ↔ Takes (program_of scene.entry.typed.now) (graph.looped l) (state_of before.now) (state_of after.now)) }
+{
+    let Some(round) = scene.round(number) else {
+        return Ok(false);
+    };
+    if !keeps(&before.store, &after.store, Targets::Body(round.body)) {
+        return Ok(false);
+    }
+    let old = Part {
+        assertion: round.invariant,
+        store: &before.store,
+        heap: &before.heap,
+    };
+    let new = Part {
+        assertion: round.invariant,
+        store: &after.store,
+        heap: &after.heap,
+    };
+    is_replaced(alloc, old, new)
+}
+
+// The results have the values, all at once.
+fn answers(
+    alloc: Global,
+    scene: Scene<'_>,
+    exprs: &[Expr],
+    before: &State,
+    after: &State,
+) -> Result<bool, AllocError>
+    requires { IsNext before.now after.now }
+    ensures { IfOk result (λ b. (P : Program) → IsTrue b ↔ Takes P (graph.answered (results_of (procedure_of scene.entry.procedure.now)) exprs.now) (state_of before.now) (state_of after.now)) }
+{
+    let Some(given) = values_of(alloc, &before.store, &before.heap, exprs)? else {
+        return Ok(false);
+    };
+    let results = scene.procedure.results.as_slice();
+    if !gets(
+        alloc,
+        &before.store,
+        &after.store,
+        results,
+        given.as_slice(),
+    )? {
+        return Ok(false);
+    }
+    is_same_outside(alloc, &before.heap, &[], &after.heap, &[])
+}
+
+/// Whether a step leads from one state to the next, whose store lists the same names.
+pub fn leads(
+    alloc: Global,
+    scene: Scene<'_>,
+    step: &PathStep,
+    before: &State,
+    after: &State,
+) -> Result<bool, AllocError>
+    requires loops { HasLoops scene }
+    requires next { IsNext before.now after.now }
+    ensures { IfOk result (λ b. (s : graph.PathStep) → IsStep (program_of scene.entry.typed.now) (procedure_of scene.entry.procedure.now) step.now s → IsTrue b ↔ Takes (program_of scene.entry.typed.now) s (state_of before.now) (state_of after.now)) }
+{
+    match step {
+        PathStep::Access { at } => accesses(alloc, at, before, after),
+        PathStep::Assume { left, equal, right } => {
+            assumes(alloc, left, *equal, right, before, after)
+        }
+        PathStep::Set { target, value } => assigns(alloc, target, value, before, after),
+        PathStep::Write { at, value } => writes(alloc, at, value, before, after),
+        PathStep::New { target } => makes(alloc, target, before, after),
+        PathStep::Free { at } => frees(alloc, at, before, after),
+        PathStep::Call {
+            targets,
+            callee,
+            arguments,
+        } => calls(
+            alloc,
+            scene,
+            targets.as_slice(),
+            *callee,
+            arguments.as_slice(),
+            before,
+            after,
+        ),
+        PathStep::Loop { number } => goes_around(alloc, scene, *number, before, after),
+        PathStep::Return { values } => answers(alloc, scene, values.as_slice(), before, after),
+    }
+}
