@@ -1,0 +1,29 @@
+-- Names with terms, as a list.
+use Rattle.std.specs.Prelude.{◌≡◌, ◌≢◌, ℕ, ◌<◌, List, length, slice_index_or, [], ◌∷◌, map, Option, Some, None, cond, AllPairs}
+use Rattle.std.specs.Str.{bytes_eq}
+use Rattle.gh_base.specs.declared.atom.Term.{Term}
+use Rattle.gh_ast.specs.Programs.{Name}
+use Rattle.gh_grass.specs.declared.binding.Bond.{Bond}
+
+abbrev pub bound_names : List Bond → List Name
+bound_names bs = map (λ b. b.name) bs
+
+-- no name is listed twice
+abbrev pub AreDistinct : List Bond → Type 0
+AreDistinct bs = AllPairs (λ x y. x ≢ y) (bound_names bs)
+
+-- the term of a name
+abbrev pub term_in : List Bond → Name → Option Term
+term_in [] name = None
+term_in (b ∷ bs) name = cond (bytes_eq b.name name) (Some b.term) (term_in bs name)
+
+-- the first entry of the name stands at i
+pub record IsListedAt (bs : List Bond) (name : Name) (i : ℕ) : Type 0 where
+  pub within : i < length bs
+  pub named : (d : Bond) → (slice_index_or bs i d).name ≡ name
+  pub earlier : (k : ℕ) (d : Bond) → k < i → (slice_index_or bs k d).name ≢ name
+
+-- one name gets a term, and all others keep theirs
+pub record IsBound (old new : List Bond) (name : Name) (term : Term) : Type 0 where
+  pub term_is : term_in new name ≡ Some term
+  pub others : (other : Name) → other ≢ name → term_in new other ≡ term_in old other

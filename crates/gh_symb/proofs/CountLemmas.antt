@@ -1,0 +1,70 @@
+-- How far the walk over a condition has come.
+use Rattle.std.specs.Prelude.{◌≡◌, ℕ, ◌<◌, ◌≤◌, List, [], ◌∷◌, length, get_or, map, slice_get, Some}
+use Rattle.std.proofs.Common.{sym, ◌∙◌, ap, subst, arith}
+use Rattle.std.proofs.lemmas.Option.{get_or_from_slice_get}
+use Rattle.std.proofs.Math.ListN.{get_or-map}
+use Rattle.gh_ast.specs.Plain.{Procedure, Program, procedure_of, program_of}
+use Rattle.gh_ast.specs.declared.Procedure as whole
+use Rattle.gh_ast.specs.declared.Program as whole_program
+use Rattle.gh_ast.specs.Programs.{variable_names}
+use Rattle.gh_path.specs.Graphs.{PathStep}
+use Rattle.gh_path.specs.Kept.{AreSteps, StandsFor}
+use Rattle.gh_path.specs.Conditions.{Condition}
+use Rattle.gh_path.specs.declared.condition.PathStep as kept_step
+use Rattle.gh_path.specs.declared.condition.Condition as kept_condition
+use Rattle.gh_path.specs.Terms.{Kind, Terms, walked, steps_walked, check_walked, condition_walked, terms_of, no_terms}
+use Rattle.gh_symb.specs.Steps.{IsStepped, EndsWith}
+use Rattle.gh_symb.specs.Remaining.{Remains}
+use Rattle.gh_symb.proofs.GrowLemmas.{size, steps_grow, check_grows}
+
+-- the procedure of a condition
+pub its_procedure : (P : whole_program.Program) (ps : List whole.Procedure) (n : ℕ) (q : whole.Procedure) (p : Procedure) → ps ≡ P.procedures.items → q ≡ get_or ps n q →
+    slice_get (program_of P).procedures n ≡ Some p → procedure_of q ≡ p
+its_procedure P ps n q p same is at =
+    let there : slice_get (map procedure_of ps) n ≡ Some p = ap (λ xs. slice_get (map procedure_of xs) n) same ∙ at in
+    let here : get_or (map procedure_of ps) n (procedure_of q) ≡ p = get_or_from_slice_get (map procedure_of ps) n p (procedure_of q) there in
+    ap procedure_of is ∙ sym (get_or-map procedure_of ps n q) ∙ here
+
+pub begun : (P : Program) (p : Procedure) (r : kept_condition.Condition) (c : Condition) (s : Terms) → p ≡ c.procedure → StandsFor P r c → s ≡ walked c.start.meets no_terms → Remains P p r.steps.items c s
+begun P p r c s same stands is = record {
+  steps = c.way.steps;
+  are_left = subst (λ q. AreSteps P q r.steps.items c.way.steps) (sym same) stands.steps;
+  lead = ap (steps_walked P (variable_names p) c.way.steps) is;
+}
+
+pub gone_on : (P : Program) (p : Procedure) (r : kept_step.PathStep) (rs : List kept_step.PathStep) (c : Condition) (s t : Terms) →
+    Remains P p (r ∷ rs) c s → IsStepped P p r s t → Remains P p rs c t
+gone_on P p r rs c s t left stepped = by_steps left.steps left.are_left left.lead
+  where
+    by_steps : (steps : List PathStep) → AreSteps P p (r ∷ rs) steps →
+        steps_walked P (variable_names p) steps s ≡ steps_walked P (variable_names p) c.way.steps (walked c.start.meets no_terms) → Remains P p rs c t
+    by_steps [] none lead = absurd none
+    by_steps (step ∷ steps) are lead = record {
+      steps = steps;
+      are_left = are.1;
+      lead = ap (steps_walked P (variable_names p) steps) (stepped step are.0) ∙ lead;
+    }
+
+-- a walk that has passed the limit has passed it at the end
+pub many : (P : Program) (p : Procedure) (rs : List kept_step.PathStep) (c : Condition) (s : Terms) → p ≡ c.procedure → Remains P p rs c s → 20 < length s.kinds → 20 < length (terms_of P c)
+many P p rs c s same left over =
+    let xs = variable_names p in
+    let last = steps_walked P xs c.way.steps (walked c.start.meets no_terms) in
+    let on : size s ≤ size last = subst (λ t. size s ≤ size t) left.lead (steps_grow P xs left.steps s) in
+    let end : size last ≤ size (check_walked P c.way.check last) = check_grows P c.way.check last in
+    let all : size (check_walked P c.way.check last) ≡ length (terms_of P c) =
+    ap (λ q. size (check_walked P c.way.check (steps_walked P (variable_names q) c.way.steps (walked c.start.meets no_terms)))) same in
+    omega (arith, over, on, end, all)
+
+-- where no step is left
+pub ended : (P : Program) (p : Procedure) (c : Condition) (s : Terms) → p ≡ c.procedure → Remains P p [] c s →
+    (kinds : List Kind) (version : ℕ) → EndsWith (check_walked P c.way.check s) kinds version → EndsWith (condition_walked P c) kinds version
+ended P p c s same left kinds version ends = by_steps left.steps left.are_left left.lead
+  where
+    by_steps : (steps : List PathStep) → AreSteps P p [] steps →
+        steps_walked P (variable_names p) steps s ≡ steps_walked P (variable_names p) c.way.steps (walked c.start.meets no_terms) → EndsWith (condition_walked P c) kinds version
+    by_steps (step ∷ steps) none lead = absurd none
+    by_steps [] are lead =
+        let all : s ≡ steps_walked P (variable_names c.procedure) c.way.steps (walked c.start.meets no_terms) =
+        lead ∙ ap (λ q. steps_walked P (variable_names q) c.way.steps (walked c.start.meets no_terms)) same in
+        subst (λ t. EndsWith (check_walked P c.way.check t) kinds version) all ends

@@ -1,0 +1,70 @@
+-- Loops by their numbers in lists that are put together.
+use Rattle.std.specs.Prelude.{◌≡◌, ℕ, suc, ◌+◌, ◌-◌, ◌<◌, List, [], ◌∷◌, ◌++◌, slice_get, length, get_or, drop, Some, MatchResult, Result, Ok, Err, None}
+use Rattle.std.specs.Result.{result_ok}
+use Rattle.std.proofs.Common.{refl, sym, ◌∙◌, ap, arith, subst}
+use Rattle.std.proofs.lemmas.List.{append_assoc, append-nil}
+use Rattle.gh_ast.specs.declared.Cond.{Cond}
+use Rattle.gh_ast.specs.declared.Assertion.{Assertion}
+use Rattle.gh_ast.specs.declared.Block.{Block}
+use Rattle.gh_ast.specs.declared.Stmt.{Stmt}
+use Rattle.gh_ast.specs.declared.Stmt.TheVariants.{If, While}
+use Rattle.gh_base.specs.declared.place.Span.{Span}
+use Rattle.gh_ast.specs.Plain.{test_of, formula_of, statement_of, statements_view, part_of}
+use Rattle.gh_ast.proofs.PlainLemmas.{statement_of-If, statement_of-While, part_of-statements}
+use Rattle.gh_path.specs.Graphs.{Loop, while, loops, all_loops}
+use Rattle.gh_symb.specs.declared.rounds.Round.{Round}
+use Rattle.gh_symb.specs.Rounds.{IsRound, IsRoundAt, IsRoundOf, IsLater}
+use Rattle.gh_symb.proofs.TableLemmas.{head_of}
+
+-- what is answered for a list and a number
+abbrev pub IsAnswer : List Loop → ℕ → Result Round ℕ → Type 0
+IsAnswer ls n r = MatchResult r (IsRoundAt ls n) (IsLater ls n)
+
+pub first_part : (ks ls : List Loop) (n : ℕ) (r : Round) → IsRoundAt ks n r → IsRoundAt (ks ++ ls) n r
+first_part ks ls n r at = λ ms.
+    let g = at (ls ++ ms) in
+    (g.0, ap (λ xs. slice_get xs n) (append_assoc ks ls ms) ∙ g.1, g.2)
+
+pub second_part : (ks ls : List Loop) (n left : ℕ) (r : Result Round ℕ) → IsLater ks n left → IsAnswer ls left r → IsAnswer (ks ++ ls) n r
+second_part ks ls n left (Ok r) past at = λ ms.
+    let g = at ms in
+    (g.0, ap (λ xs. slice_get xs n) (append_assoc ks ls ms) ∙ past (ls ++ ms) ∙ g.1, g.2)
+second_part ks ls n left (Err rest) past later = λ ms. ap (λ xs. slice_get xs n) (append_assoc ks ls ms) ∙ past (ls ++ ms) ∙ later ms
+
+pub here : (l : Loop) (ls : List Loop) (n : ℕ) (r : Round) → n ≡ 0 → IsRound r l → IsRoundAt (l ∷ ls) n r
+here l ls n r zero_is is = λ ms. (l, ap (λ k. slice_get (l ∷ ls ++ ms) k) zero_is, is)
+
+pub inside : (l : Loop) (ls : List Loop) (n : ℕ) (r : Result Round ℕ) → (n ≡ 0 → ⊥) → IsAnswer ls (n - 1) r → IsAnswer (l ∷ ls) n r
+inside l ls n r not_zero at = at_suc n (n - 1) (omega (arith, not_zero)) r at
+  where
+    at_suc : (n k : ℕ) → n ≡ suc k → (r : Result Round ℕ) → IsAnswer ls k r → IsAnswer (l ∷ ls) n r
+    at_suc n k e (Ok r) at = λ ms. let g = at ms in (g.0, ap (slice_get (l ∷ ls ++ ms)) e ∙ g.1, g.2)
+    at_suc n k e (Err rest) later = λ ms. ap (slice_get (l ∷ ls ++ ms)) e ∙ later ms
+
+pub loops-If : (t : Cond) (a b : Block) → loops (statement_of (If t a b)) ≡ all_loops (statements_view a.statements.items) ++ all_loops (statements_view b.statements.items)
+loops-If t a b = ap loops (statement_of-If t a b) ∙ rw (part_of-statements a, part_of-statements b) refl
+
+abbrev pub whole : Span → Cond → Assertion → Block → Loop
+whole s t i b = while s (test_of t) (formula_of i) (part_of b).statements (part_of b).close
+
+pub loops-While : (s : Span) (t : Cond) (i : Assertion) (b : Block) → loops (statement_of (While s t i b)) ≡ whole s t i b ∷ all_loops (statements_view b.statements.items)
+loops-While s t i b = ap loops (statement_of-While s t i b) ∙ ap (λ ss. whole s t i b ∷ all_loops ss) (part_of-statements b)
+
+pub found_among : (ss : List Stmt) (i : ℕ) (s : Stmt) (n left : ℕ) (r : Round) → i < length ss → s ≡ get_or ss i s →
+    ((ms : List Loop) → slice_get (all_loops (statements_view ss) ++ ms) n ≡ slice_get (all_loops (statements_view (drop i ss)) ++ ms) left) →
+    IsRoundAt (loops (statement_of s)) left r → IsRoundAt (all_loops (statements_view ss)) n r
+found_among ss i s n left r within is same at = λ ms.
+    let rest = all_loops (statements_view (drop (i + 1) ss)) in
+    let g = at (rest ++ ms) in
+    let heads = head_of ss i s within is in
+    (g.0, same ms ∙ ap (λ xs. slice_get (all_loops (statements_view xs) ++ ms) left) heads ∙ ap (λ xs. slice_get xs left) (append_assoc (loops (statement_of s)) rest ms) ∙ g.1, g.2)
+
+pub one_round : (ls : List Loop) (n : ℕ) (l : Loop) (r : Result Round ℕ) → IsAnswer ls n r → slice_get ls n ≡ Some l → IsRoundOf (result_ok r) l
+one_round ls n l (Ok r) at is =
+    let g = at [] in
+    let all : slice_get ls n ≡ Some g.0 = ap (λ xs. slice_get xs n) (sym (append-nil ls)) ∙ g.1 in
+    let same : g.0 ≡ l = cc in
+    subst (IsRound r) same g.2
+one_round ls n l (Err left) later is =
+    let none : slice_get ls n ≡ None = ap (λ xs. slice_get xs n) (sym (append-nil ls)) ∙ later [] in
+    absurd cc

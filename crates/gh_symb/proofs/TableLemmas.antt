@@ -1,0 +1,72 @@
+-- Tests and look-ups over lists that are seen by another form, and entries that are added last.
+use Rattle.std.specs.Prelude.{◌≡◌, ℕ, ◌+◌, ◌<◌, List, [], ◌∷◌, ◌++◌, map, length, take, Bool, Some, None, cond, position, ◌||◌}
+use Rattle.std.specs.List.{list_any, position_or_len}
+use Rattle.std.proofs.Common.{refl, sym, ◌∙◌, ap, arith, inl, inr, drop, get_or}
+use Rattle.std.specs.Prelude.{slice_get, ◌≤◌, suc}
+use Rattle.std.specs.Str.{bytes_eq}
+use Rattle.std.proofs.Math.Seq.{drop-cons}
+use Rattle.std.proofs.Math.ListN.{drop_of_length-le}
+use Rattle.std.proofs.lemmas.Option.{slice_get_within, get_or_from_slice_get, slice_get_cases}
+use Rattle.std.proofs.lemmas.List.{length-map, map-append, take_more}
+use Rattle.gh_ast.specs.Programs.{Name, names}
+use Rattle.gh_ast.specs.declared.Occ.{Occ}
+use Rattle.gh_path.specs.Terms.{Bindings, bound, unbound, all_bound}
+use Rattle.gh_symb.specs.Tables.{Bound, bound_from, bound_by, pair_of}
+use Rattle.gh_symb.specs.declared.scope.Entry.{Entry}
+
+pub any_map : {A B : Type 0} (p : B → Bool) (f : A → B) (xs : List A) → list_any p (map f xs) ≡ list_any (λ x. p (f x)) xs
+any_map p f [] = refl
+any_map p f (x ∷ xs) = ap (λ b. p (f x) || b) (any_map p f xs)
+
+first_map : {A B : Type 0} (p : B → Bool) (f : A → B) (xs : List A) → position_or_len p (map f xs) ≡ position_or_len (λ x. p (f x)) xs
+first_map p f [] = refl
+first_map p f (x ∷ xs) = rw (first_map p f xs) refl
+
+pub position_map : {A B : Type 0} (p : B → Bool) (f : A → B) (xs : List A) → position p (map f xs) ≡ position (λ x. p (f x)) xs
+position_map p f xs = rw (first_map p f xs, length-map xs f) refl
+
+from_more : (b : Bindings) (es : Bound) (x : Name) (t : ℕ) → bound_from b (es ++ (x, t) ∷ []) ≡ bound (bound_from b es) x t
+from_more b [] x t = refl
+from_more b ((y, u) ∷ es) x t = from_more (bound b y u) es x t
+
+-- an entry that is added last counts first
+pub bound_more : (es : Bound) (x : Name) (t : ℕ) → bound_by (es ++ (x, t) ∷ []) ≡ bound (bound_by es) x t
+bound_more es x t = from_more unbound es x t
+
+pub bound_push : (es : List Entry) (e : Entry) → bound_by (map pair_of (es ++ e ∷ [])) ≡ bound (bound_by (map pair_of es)) e.name.now e.term
+bound_push es e = ap bound_by (map-append pair_of es (e ∷ [])) ∙ bound_more (map pair_of es) e.name.now e.term
+
+-- where no terms are left, nothing more is bound
+pub none_left : (b : Bindings) (xs : List Name) → all_bound b xs [] ≡ b
+none_left b [] = refl
+none_left b (x ∷ xs) = refl
+
+pub head_of : {X : Type 0} (xs : List X) (i : ℕ) (x : X) → i < length xs → x ≡ get_or xs i x → drop i xs ≡ x ∷ drop (i + 1) xs
+head_of xs i x within is =
+    let one : suc i ≡ i + 1 = omega arith in
+    drop-cons xs i x within ∙ ap (λ y. y ∷ drop (suc i) xs) (sym is) ∙ ap (λ n. x ∷ drop n xs) one
+
+pub bound_here : (b c : Bindings) (os : List Occ) (o : Occ) (ts : List ℕ) (t i : ℕ) → i < length os → o ≡ get_or os i o → slice_get ts i ≡ Some t → c ≡ bound b o.name t →
+    all_bound c (names (drop (i + 1) os)) (drop (i + 1) ts) ≡ all_bound b (names (drop i os)) (drop i ts)
+bound_here b c os o ts t i within is got e =
+    let occs : drop i os ≡ o ∷ drop (i + 1) os = head_of os i o within is in
+    let terms : drop i ts ≡ t ∷ drop (i + 1) ts = head_of ts i t (slice_get_within ts i t got) (sym (get_or_from_slice_get ts i t t got)) in
+    rw (occs, terms, e) refl
+
+pub bound_past : (b : Bindings) (os : List Occ) (ts : List ℕ) (i : ℕ) → slice_get ts i ≡ None →
+    all_bound b (names (drop (i + 1) os)) (drop (i + 1) ts) ≡ all_bound b (names (drop i os)) (drop i ts)
+bound_past b os ts i none =
+    let past : length ts ≤ i = past_of ts i none in
+    let now : drop i ts ≡ [] = drop_of_length-le ts past in
+    let later : drop (i + 1) ts ≡ [] = drop_of_length-le ts (omega (arith, past)) in
+    rw (now, later, none_left b (names (drop i os))) (none_left b (names (drop (i + 1) os)))
+  where
+    past_of : (ts : List ℕ) (i : ℕ) → slice_get ts i ≡ None → length ts ≤ i
+    past_of ts i none = elim ((slice_get_cases ts i).1) [ inl some ↦ absurd cc | inr out ↦ out.0 ]
+
+-- the entries up to one more
+pub latest_more : (es : List Entry) (i : ℕ) (e : Entry) → i < length es → e ≡ get_or es i e → (y : Name) →
+    bound_by (map pair_of (take (i + 1) es)) y ≡ cond (bytes_eq y e.name.now) (Some e.term) (bound_by (map pair_of (take i es)) y)
+latest_more es i e within is y =
+    ap (λ xs. bound_by (map pair_of xs) y) (take_more es i e within ∙ ap (λ d. take i es ++ d ∷ []) (sym is))
+    ∙ ap (λ b. b y) (bound_push (take i es) e)

@@ -1,0 +1,60 @@
+use Rattle.std.proofs.Common.{◌≡◌, ◌∙◌, ◌+◌, ◌-◌, ◌≤◌, ap, inl, inr, arith, length, Some, None}
+use Rattle.std.specs.Prelude.{slice_get}
+use Rattle.gh_ast.specs.Plain.{program_of}
+use Rattle.gh_path.specs.Answers.{IsNumbered}
+use Rattle.gh_path.specs.Conditions.{conditions}
+use Rattle.gh_symb.specs.Limits.{HasTerms, HasVersions, Passes}
+use Rattle.gh_symb.specs.Met.{IsMet}
+use Rattle.gh_symb.proofs.AdmitLemmas.{one_more, met_more, first_passed, none_has, few_terms, many_terms}
+use Rattle.gh_symb.proofs.admit.admit.Goals as goal
+
+pub returns-in-Some-of_terms-clause-refused : goal.returns-in-Some-of_terms-clause-refused
+returns-in-Some-of_terms-clause-refused c =
+    let P = program_of c.args.typed.now in
+    let k = c.loop-place.place in
+    let found : IsNumbered P (k + 1) (Some c.in-Some.condition) = rw (c.in-Some.is, c.requires) at c.in_ok-condition.ensures in
+    let place : k ≡ k + 1 - 1 = omega arith in
+    let at : slice_get (conditions P) k ≡ Some found.0 = ap (slice_get (conditions P)) place ∙ found.2 in
+    let many = many_terms P found.0 c.in_ok-passed.passed c.in-Some-of_terms.limit (c.in_ok-passed.ensures found.0 found.3) c.in-Some-of_terms.ensures in
+    inl (first_passed P (HasTerms P) (k + 1) 6 21 c.in-Some-of_terms.limit
+    (record { place = k; condition = found.0; within = omega arith; at = at; holds = many.0; limit = many.1; earlier = c.loop-place.invariant.few }))
+
+pub loop-place-preserved : goal.loop-place-preserved
+loop-place-preserved c =
+    let P = program_of c.args.typed.now in
+    let k = c.loop-place.place in
+    let found : IsNumbered P (k + 1) (Some c.in-Some.condition) = rw (c.in-Some.is, c.requires) at c.in_ok-condition.ensures in
+    let place : k ≡ k + 1 - 1 = omega arith in
+    let at : slice_get (conditions P) k ≡ Some found.0 = ap (slice_get (conditions P)) place ∙ found.2 in
+    let passes : Passes P found.0 c.in_ok-passed.passed = c.in_ok-passed.ensures found.0 found.3 in
+    let few = few_terms P found.0 c.in_ok-passed.passed passes c.in_default-of_terms.ensures in
+    record {
+      few = one_more P (HasTerms P) k found.0 at c.loop-place.invariant.few few;
+      late = rw c.earlier-late.ensures (met_more P k found.0 c.loop-place.late c.in_ok-passed.passed at passes few c.loop-place.invariant.late);
+    }
+
+pub returns-in-Some-late-clause-refused : goal.returns-in-Some-late-clause-refused
+returns-in-Some-late-clause-refused c =
+    let P = program_of c.args.typed.now in
+    let k = c.loop-place.place in
+    let count : c.count-place-end.result ≡ length (conditions P) = rw c.requires at c.count-place-end.ensures in
+    let all : length (conditions P) ≤ k = omega (arith, count, c.loop-place-test.false) in
+    let met : IsMet P k (Some c.in-Some-late.limit) = rw c.in-Some-late.is at c.loop-place.invariant.late in
+    inr (none_has P (HasTerms P) k all c.loop-place.invariant.few, first_passed P (HasVersions P) k 7 11 c.in-Some-late.limit met)
+
+pub returns-in-None-clause-terms : goal.returns-in-None-clause-terms
+returns-in-None-clause-terms c =
+    let P = program_of c.args.typed.now in
+    let k = c.loop-place.place in
+    let count : c.count-place-end.result ≡ length (conditions P) = rw c.requires at c.count-place-end.ensures in
+    let all : length (conditions P) ≤ k = omega (arith, count, c.loop-place-test.false) in
+    none_has P (HasTerms P) k all c.loop-place.invariant.few
+
+pub returns-in-None-clause-versions : goal.returns-in-None-clause-versions
+returns-in-None-clause-versions c =
+    let P = program_of c.args.typed.now in
+    let k = c.loop-place.place in
+    let count : c.count-place-end.result ≡ length (conditions P) = rw c.requires at c.count-place-end.ensures in
+    let all : length (conditions P) ≤ k = omega (arith, count, c.loop-place-test.false) in
+    let met : IsMet P k None = rw c.in-None.is at c.loop-place.invariant.late in
+    none_has P (HasVersions P) k all met

@@ -1,0 +1,83 @@
+use Rattle.std.proofs.Common.{◌≡◌, ◌∙◌, ◌+◌, ◌∷◌, [], sym, ap, subst, arith, drop, length}
+use Rattle.std.proofs.Math.ListN.{drop_of_length-le}
+use Rattle.gh_ast.specs.Plain.{program_of, procedure_of}
+use Rattle.gh_path.specs.Kept.{IsStart, IsKind}
+use Rattle.gh_path.specs.Terms.{walked, no_terms, condition_walked}
+use Rattle.gh_symb.specs.Tables.{state}
+use Rattle.gh_symb.specs.Remaining.{Remains}
+use Rattle.gh_symb.specs.Steps.{EndsWith}
+use Rattle.gh_symb.proofs.TableLemmas.{head_of}
+use Rattle.gh_symb.proofs.CountLemmas.{its_procedure, begun, gone_on, many, ended}
+use Rattle.gh_symb.proofs.counted.counted.Goals as goal
+
+pub loop-step-init : goal.loop-step-init
+loop-step-init c = record {
+  few = omega arith;
+  left = λ d stands.
+      let P = c.args.typed.now in
+      let p = procedure_of c.index-procedure.result.now in
+      let same : p ≡ d.procedure =
+      its_procedure P c.program-program.result.now.procedures.items c.args.condition.now.procedure c.index-procedure.result.now d.procedure
+      (ap (λ x. x.procedures.items) c.program-program.ensures.same) c.index-procedure.ensures stands.procedure in
+      let started : state c.walk_start.new.kinds c.walk_start.new.self 0 ≡ walked d.start.meets no_terms =
+      rw (c.in_ok-kinds.ensures, c.new-scope.ensures) at (c.in_ok-walk_start.ensures d.start (subst (λ q. IsStart q c.args.condition.now.start d.start) (sym same) stands.start)) in
+      rw c.as_slice-step-items.ensures.value
+      (begun (program_of P) p c.args.condition.now d (state c.walk_start.new.kinds c.walk_start.new.self 0) same stands started);
+}
+
+pub walk_step-requires : goal.walk_step-requires
+walk_step-requires c =
+    omega (arith, c.loop-step.invariant.few, c.loop-step-test.true, ap length c.as_slice-step-items.ensures.value, c.args.condition.now.steps.ok, c.args.condition.now.steps.small)
+
+pub overflow_add-version : goal.overflow_add-version
+overflow_add-version c = let h = c.args.condition.now.steps.ok in
+    omega (arith, c.loop-step.invariant.few, c.loop-step.auto.step-index-end, ap length c.as_slice-step-items.ensures.value, c.args.condition.now.steps.ok, c.args.condition.now.steps.small)
+
+pub returns-then-count-gt20 : goal.returns-then-count-gt20
+returns-then-count-gt20 c = λ d stands.
+    let P = c.args.typed.now in
+    let p = procedure_of c.index-procedure.result.now in
+    let same : p ≡ d.procedure =
+    its_procedure P c.program-program.result.now.procedures.items c.args.condition.now.procedure c.index-procedure.result.now d.procedure
+    (ap (λ x. x.procedures.items) c.program-program.ensures.same) c.index-procedure.ensures stands.procedure in
+    let heads = head_of c.as_slice-step-items.result.now c.loop-step.step-index c.step-item.result c.loop-step-test.true c.step-item.is in
+    let now : Remains (program_of P) p (c.step-item.result ∷ drop (c.loop-step.step-index + 1) c.as_slice-step-items.result.now) d (state c.loop-step.kinds c.loop-step.scope c.loop-step.version) =
+    rw heads at (c.loop-step.invariant.left d stands) in
+    let stepped = rw c.program-program.ensures.same at c.in_ok-version.ensures.stepped in
+    let later = gone_on (program_of P) p c.step-item.result (drop (c.loop-step.step-index + 1) c.as_slice-step-items.result.now) d
+    (state c.loop-step.kinds c.loop-step.scope c.loop-step.version) (state c.walk_step.new.kinds c.walk_step.new.self c.in_ok-version.version) now stepped in
+    many (program_of P) p (drop (c.loop-step.step-index + 1) c.as_slice-step-items.result.now) d (state c.walk_step.new.kinds c.walk_step.new.self c.in_ok-version.version)
+    same later (omega (arith, c.if-count-gt20.true, c.count.ensures))
+
+pub loop-step-preserved : goal.loop-step-preserved
+loop-step-preserved c = record {
+  few = omega (arith, c.loop-step.invariant.few, c.in_ok-version.ensures.next);
+  left = λ d stands.
+      let P = c.args.typed.now in
+      let p = procedure_of c.index-procedure.result.now in
+      let heads = head_of c.as_slice-step-items.result.now c.loop-step.step-index c.step-item.result c.loop-step-test.true c.step-item.is in
+      let now : Remains (program_of P) p (c.step-item.result ∷ drop (c.loop-step.step-index + 1) c.as_slice-step-items.result.now) d (state c.loop-step.kinds c.loop-step.scope c.loop-step.version) =
+      rw heads at (c.loop-step.invariant.left d stands) in
+      let stepped = rw c.program-program.ensures.same at c.in_ok-version.ensures.stepped in
+      let later = gone_on (program_of P) p c.step-item.result (drop (c.loop-step.step-index + 1) c.as_slice-step-items.result.now) d
+      (state c.loop-step.kinds c.loop-step.scope c.loop-step.version) (state c.walk_step.new.kinds c.walk_step.new.self c.in_ok-version.version) now stepped in
+      later;
+}
+
+pub returns : goal.returns
+returns c = λ d stands.
+    let P = c.args.typed.now in
+    let p = procedure_of c.index-procedure.result.now in
+    let s = state c.loop-step.kinds c.loop-step.scope c.loop-step.version in
+    let same : p ≡ d.procedure =
+    its_procedure P c.program-program.result.now.procedures.items c.args.condition.now.procedure c.index-procedure.result.now d.procedure
+    (ap (λ x. x.procedures.items) c.program-program.ensures.same) c.index-procedure.ensures stands.procedure in
+    let none : drop c.loop-step.step-index c.as_slice-step-items.result.now ≡ [] = drop_of_length-le c.as_slice-step-items.result.now c.loop-step-test.false in
+    let last : Remains (program_of P) p [] d s = rw none at (c.loop-step.invariant.left d stands) in
+    let check = rw c.program-program.ensures.same at c.in_ok-walk_check.ensures in
+    let its : IsKind (program_of P) p c.args.condition.now.check.kind c.args.condition.now.check.span d.way.check =
+    subst (λ q. IsKind (program_of P) q c.args.condition.now.check.kind c.args.condition.now.check.span d.way.check) (sym same) stands.check in
+    let checked = check c.args.condition.now.check.span d.way.check its in
+    let all : EndsWith (condition_walked (program_of P) d) c.walk_check.new.kinds c.loop-step.version =
+    ended (program_of P) p d s same last c.walk_check.new.kinds c.loop-step.version checked in
+    c.new-2.ensures (program_of P) d (ap length (sym all.kinds_are) ∙ sym c.count-2.ensures) (ap (λ v. v + 1) (sym all.version_is))

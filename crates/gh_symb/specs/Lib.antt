@@ -1,0 +1,9 @@
+pub mod Tables
+pub mod Rounds
+pub mod Steps
+pub mod Remaining
+pub mod Limits
+pub mod Examples
+pub mod Met
+pub mod Symbolic
+pub mod Told

@@ -1,0 +1,34 @@
+-- The first k conditions of a program, and the limits that they pass.
+use Rattle.std.specs.Prelude.{◌≡◌, ℕ, ◌<◌, slice_get, Option, Some, None}
+use Rattle.gh_ast.specs.Plain.{Program}
+use Rattle.gh_ast.specs.declared.typed.Limit.{Limit}
+use Rattle.gh_path.specs.Conditions.{Condition, conditions}
+use Rattle.gh_symb.specs.Limits.{HasVersions, IsLimitOf}
+
+-- none of them has the property
+abbrev pub NoneMet : Program → (Condition → Type 0) → ℕ → Type 0
+NoneMet P Q k = (j : ℕ) (d : Condition) → j < k → slice_get (conditions P) j ≡ Some d → Q d → ⊥
+
+-- the limit is that of the first of them that has it
+pub record IsFirstMet (P : Program) (Q : Condition → Type 0) (k kind count : ℕ) (l : Limit) : Type 0 where
+  pub place : ℕ
+  pub condition : Condition
+  pub within : place < k
+  pub at : slice_get (conditions P) place ≡ Some condition
+  pub holds : Q condition
+  pub limit : IsLimitOf condition.procedure kind count l
+  pub earlier : NoneMet P Q place
+
+-- the first limit on versions that they pass
+abbrev pub IsMet : Program → ℕ → Option Limit → Type 0
+IsMet P k None = NoneMet P (HasVersions P) k
+IsMet P k (Some l) = IsFirstMet P (HasVersions P) k 7 11 l
+
+-- the limit, where it is one on terms
+abbrev pub IsOfTerms : Option Limit → Option Limit → Type 0
+IsOfTerms passed None = (l : Limit) → passed ≡ Some l → l.kind ≡ 6 → ⊥
+IsOfTerms passed (Some l) = (passed ≡ Some l) × (l.kind ≡ 6)
+
+abbrev pub earlier : Option Limit → Option Limit → Option Limit
+earlier (Some l) later = Some l
+earlier None later = later

@@ -1,0 +1,21 @@
+-- Loops of a text, as they are met again.
+use Rattle.std.specs.Prelude.{◌≡◌, ℕ, List, ◌++◌, slice_get, Option, Some, None}
+use Rattle.gh_ast.specs.Plain.{formula_of, part_of}
+use Rattle.gh_path.specs.Graphs.{Loop}
+use Rattle.gh_symb.specs.declared.rounds.Round.{Round}
+
+pub record IsRound (r : Round) (l : Loop) : Type 0 where
+  pub invariant : formula_of r.invariant.now ≡ l.invariant
+  pub body : (part_of r.body.now).statements ≡ l.body
+
+-- the loop of a number among those of a list, whatever loops come after them
+abbrev pub IsRoundAt : List Loop → ℕ → Round → Type 0
+IsRoundAt ls n r = (ms : List Loop) → (l : Loop) × (slice_get (ls ++ ms) n ≡ Some l) × IsRound r l
+
+-- the list has no loop of the number, which is this one among those after it
+abbrev pub IsLater : List Loop → ℕ → ℕ → Type 0
+IsLater ls n left = (ms : List Loop) → slice_get (ls ++ ms) n ≡ slice_get ms left
+
+abbrev pub IsRoundOf : Option Round → Loop → Type 0
+IsRoundOf (Some r) l = IsRound r l
+IsRoundOf None l = ⊥

@@ -1,0 +1,62 @@
+-- Walks over the parts of a condition as they are kept.
+use Rattle.std.specs.Prelude.{◌≡◌, ◌<◌, ◌≤◌, ℕ, List, length}
+use Rattle.gh_ast.specs.declared.Expr.{Expr}
+use Rattle.gh_ast.specs.Plain.{Procedure, Program}
+use Rattle.gh_ast.specs.Programs.{Name, variable_names}
+use Rattle.gh_path.specs.Graphs.{Check, PathStep, Start}
+use Rattle.gh_path.specs.Kept.{IsStep, IsKind, IsStart}
+use Rattle.gh_path.specs.Conditions.{Condition}
+use Rattle.gh_path.specs.declared.condition.PathStep as kept_step
+use Rattle.gh_path.specs.declared.condition.Start as kept_start
+use Rattle.gh_path.specs.declared.condition.CheckKind as kept_kind
+use Rattle.gh_path.specs.declared.condition.PathStep.TheVariants as step
+use Rattle.gh_base.specs.declared.place.Span.{Span}
+use Rattle.gh_path.specs.Terms.{Kind, Terms, exprs_used, exprs_terms, answered_inside, rebound, bound_inside, step_walked, check_walked, walked, terms_of, versions_of}
+use Rattle.gh_symb.specs.declared.count.Counted.{Counted}
+use Rattle.gh_symb.specs.declared.count.Counted.TheVariants.{Within, ManyTerms}
+
+-- a call of a procedure, once its arguments are used
+abbrev pub call_made : Procedure → List Name → List Expr → Terms → Terms
+call_made p xs es s = let t = exprs_used es s in answered_inside p xs t.bindings (rebound t (bound_inside p (exprs_terms es t)))
+
+-- the terms after a step that is kept
+abbrev pub IsStepped : Program → Procedure → kept_step.PathStep → Terms → Terms → Type 0
+IsStepped P p r s t = (step : PathStep) → IsStep P p r step → t ≡ step_walked P (variable_names p) step s
+
+-- the terms at a start that is kept
+abbrev pub IsStarted : Procedure → kept_start.Start → Terms → Terms → Type 0
+IsStarted p r s t = (start : Start) → IsStart p r start → t ≡ walked start.meets s
+
+-- the kinds and the version that a walk comes to
+pub record EndsWith (s : Terms) (kinds : List Kind) (version : ℕ) : Type 0 where
+  pub kinds_are : kinds ≡ s.kinds
+  pub version_is : version ≡ s.version
+
+-- the same after a check that is kept
+abbrev pub IsChecked : Program → Procedure → kept_kind.CheckKind → Span → Terms → List Kind → ℕ → Type 0
+IsChecked P p r at s kinds version = (check : Check) → IsKind P p r at check → EndsWith (check_walked P check s) kinds version
+
+-- what a procedure needs, once the arguments are used
+abbrev pub entry_made : Procedure → List Expr → Terms → Terms
+entry_made p es s = let t = exprs_used es s in walked p.needs (rebound t (bound_inside p (exprs_terms es t)))
+
+abbrev pub ChangesCell : kept_step.PathStep → Type 0
+ChangesCell (step.Write x e) = Unit {0}
+ChangesCell (step.New x) = Unit {0}
+ChangesCell (step.Free x) = Unit {0}
+ChangesCell s = ⊥
+
+abbrev pub ReplacesPart : kept_step.PathStep → Type 0
+ReplacesPart (step.Call xs n es) = Unit {0}
+ReplacesPart (step.Loop n) = Unit {0}
+ReplacesPart s = ⊥
+
+pub record AreCounted (P : Program) (c : Condition) (terms versions : ℕ) : Type 0 where
+  pub terms_are : length (terms_of P c) ≡ terms
+  pub versions_are : versions_of P c ≡ versions
+  pub few : terms ≤ 20
+
+-- the numbers of terms and versions of a condition, or that there are more than 20 terms
+abbrev pub IsCount : Program → Condition → Counted → Type 0
+IsCount P c (Within terms versions) = AreCounted P c terms versions
+IsCount P c ManyTerms = 20 < length (terms_of P c)

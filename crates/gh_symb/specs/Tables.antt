@@ -1,0 +1,30 @@
+-- Terms and what is bound to them, as lists.
+use Rattle.std.specs.Prelude.{ℕ, List, [], ◌∷◌}
+use Rattle.gh_ast.specs.Programs.{Name}
+use Rattle.gh_path.specs.Terms.{Kind, null, value, next, Bindings, unbound, bound, Terms, terms}
+use Rattle.gh_symb.specs.declared.scope.Entry.{Entry}
+use Rattle.gh_symb.specs.declared.kinds.Kind as kept
+use Rattle.gh_symb.specs.declared.kinds.Kind.TheVariants.{Null, Value, Next}
+
+abbrev pub kind_of : kept.Kind → Kind
+kind_of Null = null
+kind_of (Value n) = value n
+kind_of (Next i x) = next i x
+
+-- names with terms, in the order in which they were bound
+abbrev pub Bound : Type 0
+Bound = List (Name × ℕ)
+
+abbrev pub pair_of : Entry → Name × ℕ
+pair_of e = (e.name.now, e.term)
+
+abbrev pub bound_from : Bindings → Bound → Bindings
+bound_from b [] = b
+bound_from b ((x, t) ∷ es) = bound_from (bound b x t) es
+
+-- the last term of a name counts
+abbrev pub bound_by : Bound → Bindings
+bound_by es = bound_from unbound es
+
+abbrev pub state : List Kind → Bound → ℕ → Terms
+state ks es i = terms ks (bound_by es) i

@@ -1,0 +1,30 @@
+//! How many terms and versions of the heap a condition has.
+
+ghost use Rattle.std.specs.Prelude.{◌≡◌, length};
+ghost use Rattle.gh_ast.specs.Plain.{Program};
+ghost use Rattle.gh_path.specs.Conditions.{Condition};
+ghost use Rattle.gh_path.specs.Terms.{terms_of, versions_of};
+ghost use Rattle.gh_symb.specs.Steps.{IsCount};
+
+/// The number of terms of a condition, and that of its versions of the heap; or that it has more
+/// than 20 terms.
+#[derive(Clone, Copy, Debug, PartialEq, Eq)]
+pub enum Counted {
+    Within { terms: u8, versions: usize },
+    ManyTerms,
+}
+
+impl Counted {
+    /// These numbers, unless there are too many terms.
+    pub(crate) fn new(terms: usize, versions: usize) -> Counted
+        ensures { (P : Program) (c : Condition) → length (terms_of P c) ≡ terms → versions_of P c ≡ versions → IsCount P c result }
+    {
+        if terms > 20 {
+            return Counted::ManyTerms;
+        }
+        Counted::Within {
+            terms: terms as u8,
+            versions,
+        }
+    }
+}

@@ -1,0 +1,67 @@
+//! The limits on the terms and the versions of a condition.
+
+ghost use Rattle.std.specs.Prelude.{◌≡◌, IfOk};
+ghost use Rattle.gh_ast.specs.Plain.{procedure_of, program_of};
+ghost use Rattle.gh_path.specs.Conditions as plain;
+ghost use Rattle.gh_path.specs.Kept.{StandsFor};
+ghost use Rattle.gh_symb.specs.Limits.{IsLimitOf, Passes};
+
+use crate::count::Counted;
+use crate::counted::counted;
+use gh_ast::Procedure;
+use gh_ast::typed::{Limit, Typed};
+use gh_path::condition::Condition;
+use std::alloc::{AllocError, Global};
+use thiserror::Error;
+
+/// Why a condition isn't given over terms, or a program isn't admitted: a condition has more than
+/// 20 terms (kind 6) or more than 10 versions of the heap (kind 7).
+#[derive(Debug, Drop, Error)]
+pub enum SymbolicError {
+    #[error("a limit is passed")]
+    Limit(Limit),
+    #[error("out of memory")]
+    OutOfMemory,
+}
+
+impl From<AllocError> for SymbolicError {
+    ghost use Rattle.gh_symb.specs.declared.limits.SymbolicError.TheVariants.{OutOfMemory};
+
+    ghost from_gives = { λ _ e. e ≡ OutOfMemory };
+
+    fn from(_: AllocError) -> Self {
+        SymbolicError::OutOfMemory
+    }
+}
+
+/// A limit that a condition of a procedure passes.
+fn limit_at(procedure: &Procedure, kind: u8, count: u32) -> Limit
+    ensures { IsLimitOf (procedure_of procedure.now) kind count result }
+{
+    Limit {
+        kind,
+        span: procedure.name.span,
+        count,
+    }
+}
+
+/// The limit that a condition of a program passes, if it passes one: kind 6 before kind 7.
+pub fn passed_limit(
+    alloc: Global,
+    typed: &Typed,
+    condition: &Condition,
+) -> Result<Option<Limit>, AllocError>
+    requires { (c : plain.Condition) × StandsFor (program_of typed.now) condition.now c }
+    ensures { IfOk result (λ o. (c : plain.Condition) → StandsFor (program_of typed.now) condition.now c → Passes (program_of typed.now) c o) }
+{
+    let procedure = &typed.program().procedures[condition.procedure as usize];
+    match counted(alloc, typed, condition)? {
+        Counted::ManyTerms => Ok(Some(limit_at(procedure, 6, 21))),
+        Counted::Within { versions, .. } => {
+            if versions > 10 {
+                return Ok(Some(limit_at(procedure, 7, 11)));
+            }
+            Ok(None)
+        }
+    }
+}

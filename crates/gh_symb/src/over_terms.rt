@@ -1,0 +1,111 @@
+//! Conditions over terms.
+
+ghost use Rattle.std.specs.Prelude.{◌≡◌, slice_get};
+ghost use Rattle.std.specs.Option.{option_map};
+
+use gh_ast::Assertion;
+use gh_base::atom::Term;
+use gh_grass::binding::Binding;
+use gh_grass::terms::TermList;
+
+/// An assertion in a version of the heap, with the terms of its variables.
+#[derive(Debug, Drop)]
+pub struct Bound<'a> {
+    pub assertion: &'a Assertion,
+    pub binding: Binding,
+    pub version: u8,
+}
+
+/// What a step says of terms. `Same` changes no heap and says nothing. A `Part` of the heap that
+/// meets `before` is replaced by one that meets one of `after`, in the next version.
+#[derive(Debug, Drop)]
+pub enum TermStep<'a> {
+    Access {
+        x: Term,
+    },
+    Assume {
+        left: Term,
+        equal: bool,
+        right: Term,
+    },
+    Same,
+    Write {
+        x: Term,
+        value: Term,
+    },
+    New {
+        location: Term,
+        content: Term,
+    },
+    Free {
+        x: Term,
+    },
+    Part {
+        before: Bound<'a>,
+        after: Vec<Bound<'a>>,
+    },
+}
+
+/// What is asked at the end: that a term is allocated, that some part of the heap meets an
+/// assertion, or that the whole heap meets one of some assertions.
+#[derive(Debug, Drop)]
+pub enum TermCheck<'a> {
+    Access { x: Term },
+    Sub(Bound<'a>),
+    Whole(Vec<Bound<'a>>),
+}
+
+/// A condition over terms.
+#[derive(Debug, Drop)]
+pub struct Symbolic<'a> {
+    terms: TermList,
+    versions: u8,
+    start: Bound<'a>,
+    bindings: Vec<Binding>,
+    steps: Vec<TermStep<'a>>,
+    check: TermCheck<'a>,
+}
+
+impl<'a> Symbolic<'a> {
+    /// The kinds of the terms, in order.
+    pub fn terms(&self) -> &TermList
+        ensures { result.now ≡ self.now.terms }
+    {
+        &self.terms
+    }
+
+    /// How many versions of the heap there are.
+    pub fn versions(&self) -> u8
+        ensures { result ≡ self.now.versions }
+    {
+        self.versions
+    }
+
+    /// The start assertion.
+    pub fn start(&self) -> &Bound<'a>
+        ensures { result.now ≡ self.now.start }
+    {
+        &self.start
+    }
+
+    /// The steps in order.
+    pub fn steps(&self) -> &[TermStep<'a>]
+        ensures { result.now ≡ self.now.steps.items }
+    {
+        self.steps.as_slice()
+    }
+
+    /// The check.
+    pub fn check(&self) -> &TermCheck<'a>
+        ensures { result.now ≡ self.now.check }
+    {
+        &self.check
+    }
+
+    /// The terms of the variables at a state; none where the number is above that of the steps.
+    pub fn binding(&self, state: u16) -> Option<&Binding>
+        ensures { option_map (λ b. b.now) result ≡ slice_get self.now.bindings.items state }
+    {
+        self.bindings.as_slice().get(state as usize)
+    }
+}

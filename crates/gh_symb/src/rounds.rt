@@ -1,0 +1,117 @@
+//! The loops of a body by their numbers, and what a body assigns.
+
+ghost use Rattle.std.specs.Prelude.{◌≡◌, MatchResult};
+ghost use Rattle.std.specs.List.{list_any};
+ghost use Rattle.std.specs.Str.{bytes_eq};
+ghost use Rattle.gh_ast.specs.Plain.{statement_of, statements_view, procedure_of};
+ghost use Rattle.gh_ast.specs.Programs.{names};
+ghost use Rattle.gh_path.specs.Graphs.{Loop, loops, all_loops};
+ghost use Rattle.gh_path.specs.Kept.{IsLoop};
+ghost use Rattle.gh_path.specs.Terms.{assigns, some_assigns};
+ghost use Rattle.gh_symb.specs.Rounds.{IsRoundAt, IsRoundOf, IsLater};
+
+use gh_ast::{Assertion, Block, Occ, Procedure, Stmt};
+
+/// A loop of a text: its invariant and its body.
+#[derive(Clone, Copy, Debug)]
+pub struct Round<'a> {
+    pub invariant: &'a Assertion,
+    pub body: &'a Block,
+}
+
+/// The loop of a number in a statement, or the number's place among the loops after it.
+#[cycle(round_in)]
+fn round_in<'a>(statement: &'a Stmt, number: usize) -> Result<Round<'a>, usize>
+    ensures { MatchResult result (λ r. IsRoundAt (loops (statement_of statement.now)) number r) (λ left. IsLater (loops (statement_of statement.now)) number left) }
+{
+    match statement {
+        Stmt::If {
+            taken,
+            otherwise,
+            ..
+        } => match round_among(taken.statements.as_slice(), number) {
+            Ok(round) => Ok(round),
+            Err(left) => round_among(otherwise.statements.as_slice(), left),
+        },
+        Stmt::While {
+            invariant,
+            body,
+            ..
+        } => {
+            if number == 0 {
+                return Ok(Round { invariant, body });
+            }
+            round_among(body.statements.as_slice(), number - 1)
+        }
+        _ => Err(number),
+    }
+}
+
+/// The loop of a number in some statements, or the number's place among the loops after them.
+#[cycle(round_in)]
+fn round_among<'a>(statements: &'a [Stmt], number: usize) -> Result<Round<'a>, usize>
+    ensures { MatchResult result (λ r. IsRoundAt (all_loops (statements_view statements.now)) number r) (λ left. IsLater (all_loops (statements_view statements.now)) number left) }
+{
+    let mut left = number;
+    for statement in statements {
+        match round_in(statement, left) {
+            Ok(round) => return Ok(round),
+            Err(rest) => left = rest,
+        }
+    }
+    Err(left)
+}
+
+/// The loop of a number in a procedure, if there is one.
+pub fn round_of(procedure: &Procedure, number: usize) -> Option<Round<'_>>
+    ensures { (l : Loop) → IsLoop (procedure_of procedure.now) number l → IsRoundOf result l }
+{
+    match &procedure.body {
+        Some(body) => round_among(body.block.statements.as_slice(), number).ok(),
+        None => None,
+    }
+}
+
+/// Whether a name is that of one of some occurrences.
+fn is_among(occs: &[Occ], name: &[u8]) -> bool
+    ensures { result ≡ list_any (λ o. bytes_eq name.now o.name) occs.now }
+{
+    occs.iter().any(|occ| name == occ.name.bytes())
+}
+
+/// Whether a statement assigns a variable, itself or in a block of it.
+#[cycle(assigns)]
+fn assigns(statement: &Stmt, name: &[u8]) -> bool
+    ensures { result ≡ assigns (statement_of statement.now) name.now }
+{
+    match statement {
+        Stmt::Set { target, .. } => name == target.name.bytes(),
+        Stmt::New { target } => name == target.name.bytes(),
+        Stmt::Call { targets, .. } => is_among(targets.as_slice(), name),
+        Stmt::If {
+            taken,
+            otherwise,
+            ..
+        } => {
+            if some_assigns(taken.statements.as_slice(), name) {
+                return true;
+            }
+            some_assigns(otherwise.statements.as_slice(), name)
+        }
+        Stmt::While { body, .. } => some_assigns(body.statements.as_slice(), name),
+        _ => false,
+    }
+}
+
+/// Whether one of some statements assigns a variable.
+#[cycle(assigns)]
+pub fn some_assigns(statements: &[Stmt], name: &[u8]) -> bool
+    ensures { result ≡ some_assigns (statements_view statements.now) name.now }
+{
+    for statement in statements {
+        if assigns(statement, name) {
+            return true;
+        }
+    }
+    false
+}

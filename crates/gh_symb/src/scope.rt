@@ -1,0 +1,116 @@
+//! The variables that have terms.
+
+ghost use Rattle.std.specs.Prelude.{◌≡◌, [], ℕ, IfOk, OnOk, map, unwrap_or};
+ghost use Rattle.gh_ast.specs.Programs.{names};
+ghost use Rattle.gh_path.specs.Terms.{bound, all_bound, used, renewed};
+ghost use Rattle.gh_symb.specs.Tables.{pair_of, bound_by, state};
+
+use crate::kinds::Kinds;
+use gh_ast::Occ;
+use gh_base::name::Name;
+use std::alloc::{AllocError, Global};
+use std::marker::Model;
+
+/// A name and its term.
+#[derive(Clone, Copy, Debug)]
+pub struct Entry<'a> {
+    name: &'a Name,
+    term: usize,
+}
+
+/// Names with terms, in the order in which they were bound. The last term of a name counts.
+#[derive(Debug, Drop)]
+pub struct Scope<'a> {
+    entries: Vec<Entry<'a>>,
+}
+
+impl<'a> Model for Scope<'a> {
+    ghost use Rattle.std.specs.Prelude.{map};
+    ghost use Rattle.gh_symb.specs.Tables.{Bound, pair_of};
+
+    ghost Value = { Bound };
+
+    ghost view = { λ s. map pair_of s.entries.items };
+}
+
+// The last term of a name.
+fn latest(entries: &[Entry<'_>], name: &[u8]) -> Option<usize>
+    ensures { result ≡ bound_by (map pair_of entries.now) name.now }
+{
+    let mut found = None;
+    for entry in entries {
+        if name == entry.name.bytes() {
+            found = Some(entry.term);
+        }
+    }
+    found
+}
+
+impl<'a> Scope<'a> {
+    /// No variable has a term.
+    pub fn new(alloc: Global) -> Scope<'a>
+        ensures { result ≡ [] }
+    {
+        Scope {
+            entries: Vec::new(alloc),
+        }
+    }
+
+    /// The term of a variable, if it has one.
+    pub fn get(&self, name: &Name) -> Option<usize>
+        ensures { result ≡ bound_by self.now name.now }
+    {
+        latest(self.entries.as_slice(), name.bytes())
+    }
+
+    /// The term of a variable; 0 where it has none.
+    pub fn term(&self, name: &Name) -> usize
+        ensures { result ≡ unwrap_or (bound_by self.now name.now) 0 }
+    {
+        self.get(name).unwrap_or(0)
+    }
+
+    /// Binds a variable to a term.
+    pub fn bind(&mut self, name: &'a Name, term: usize) -> Result<(), AllocError>
+        ensures { OnOk result (bound_by self.new ≡ bound (bound_by self.old) name.now term) }
+    {
+        self.entries.push(Entry { name, term })?;
+        Ok(())
+    }
+
+    /// Binds variables to terms, each to its own.
+    pub fn bind_all(&mut self, occs: &'a [Occ], terms: &[usize]) -> Result<(), AllocError>
+        ensures { OnOk result (bound_by self.new ≡ all_bound (bound_by self.old) (names occs.now) terms.now) }
+    {
+        for (place, occ) in occs.iter().enumerate() {
+            if let Some(term) = terms.get(place) {
+                self.bind(&occ.name, *term)?;
+            }
+        }
+        Ok(())
+    }
+
+    /// A variable that has no term gets a new value.
+    pub fn use_name(&mut self, kinds: &mut Kinds, name: &'a Name) -> Result<(), AllocError>
+        ensures { OnOk result ((version : ℕ) → state kinds.new self.new version ≡ used name.now (state kinds.old self.old version)) }
+    {
+        match self.get(name) {
+            Some(_) => Ok(()),
+            None => {
+                let term = kinds.add_value()?;
+                self.bind(name, term)
+            }
+        }
+    }
+
+    /// Each of some variables gets a new value.
+    pub fn renew(&mut self, kinds: &mut Kinds, occs: &'a [Occ]) -> Result<(), AllocError>
+        ensures { OnOk result ((version : ℕ) → state kinds.new self.new version ≡ renewed (names occs.now) (state kinds.old self.old version)) }
+    {
+        for occ in occs {
+            let term = kinds.add_value()?;
+            self.bind(&occ.name, term)?;
+        }
+        Ok(())
+    }
+}

@@ -1,0 +1,204 @@
+//! Walks over expressions, tests and assertions.
+
+ghost use Rattle.std.specs.Prelude.{◌≡◌, ℕ, List, IfOk, OnOk, map, unwrap_or};
+ghost use Rattle.gh_ast.specs.Plain.{test_of, tests_view, formula_of, formulas_view};
+ghost use Rattle.gh_ast.specs.Programs.{names};
+ghost use Rattle.gh_path.specs.Terms.{Kind, used, followed, operand_used, operand_term, expr_used, expr_term, exprs_used, exprs_terms, test_walked, tests_walked, walked, all_walked};
+ghost use Rattle.gh_symb.specs.Tables.{bound_by, state};
+
+use crate::kinds::Kinds;
+use crate::scope::Scope;
+use gh_ast::{Assertion, Cond, Expr, Occ, Operand};
+use gh_base::name::Name;
+use std::alloc::{AllocError, Global};
+
+impl<'a> Scope<'a> {
+    /// A variable is used, and the content of the cell at its term is listed.
+    pub fn follow(
+        &mut self,
+        kinds: &mut Kinds,
+        name: &'a Name,
+        version: usize,
+    ) -> Result<(), AllocError>
+        ensures { OnOk result (state kinds.new self.new version ≡ followed name.now (used name.now (state kinds.old self.old version))) }
+    {
+        self.use_name(kinds, name)?;
+        kinds.add_next(version, self.term(name))?;
+        Ok(())
+    }
+
+    /// An operand is used.
+    pub fn use_operand(&mut self, kinds: &mut Kinds, operand: &'a Operand) -> Result<(), AllocError>
+        ensures { OnOk result ((version : ℕ) → state kinds.new self.new version ≡ operand_used operand.now (state kinds.old self.old version)) }
+    {
+        match operand {
+            Operand::Null { .. } => Ok(()),
+            Operand::Var(occ) => self.use_name(kinds, &occ.name),
+        }
+    }
+
+    /// An expression is used.
+    pub fn use_expr(
+        &mut self,
+        kinds: &mut Kinds,
+        expr: &'a Expr,
+        version: usize,
+    ) -> Result<(), AllocError>
+        ensures { OnOk result (state kinds.new self.new version ≡ expr_used expr.now (state kinds.old self.old version)) }
+    {
+        match expr {
+            Expr::Plain(operand) => self.use_operand(kinds, operand),
+            Expr::Read(occ) => self.follow(kinds, &occ.name, version),
+        }
+    }
+
+    /// Expressions are used in their order.
+    pub fn use_exprs(
+        &mut self,
+        kinds: &mut Kinds,
+        exprs: &'a [Expr],
+        version: usize,
+    ) -> Result<(), AllocError>
+        ensures { OnOk result (state kinds.new self.new version ≡ exprs_used exprs.now (state kinds.old self.old version)) }
+    {
+        for expr in exprs {
+            self.use_expr(kinds, expr, version)?;
+        }
+        Ok(())
+    }
+
+    /// The term of an operand.
+    fn operand_term(&self, operand: &Operand) -> usize
+        ensures { (kinds : List Kind) (version : ℕ) → result ≡ operand_term operand.now (state kinds self.now version) }
+    {
+        match operand {
+            Operand::Null { .. } => 0,
+            Operand::Var(occ) => self.term(&occ.name),
+        }
+    }
+
+    /// The term of an expression.
+    pub fn expr_term(&self, kinds: &Kinds, expr: &Expr, version: usize) -> usize
+        ensures { result ≡ expr_term expr.now (state kinds.now self.now version) }
+    {
+        match expr {
+            Expr::Plain(operand) => self.operand_term(operand),
+            Expr::Read(occ) => kinds.next(version, self.term(&occ.name)),
+        }
+    }
+
+    /// The terms of expressions.
+    pub fn exprs_terms(
+        &self,
+        alloc: Global,
+        kinds: &Kinds,
+        exprs: &[Expr],
+        version: usize,
+    ) -> Result<Vec<usize>, AllocError>
+        ensures { IfOk result (λ terms. terms.items ≡ exprs_terms exprs.now (state kinds.now self.now version)) }
+    {
+        let mut terms = Vec::new(alloc);
+        for expr in exprs {
+            terms.push(self.expr_term(kinds, expr, version))?;
+        }
+        Ok(terms)
+    }
+
+    /// The terms of variables.
+    pub fn terms(&self, alloc: Global, occs: &[Occ]) -> Result<Vec<usize>, AllocError>
+        ensures { IfOk result (λ terms. terms.items ≡ map (λ x. unwrap_or (bound_by self.now x) 0) (names occs.now)) }
+    {
+        let mut terms = Vec::new(alloc);
+        for occ in occs {
+            terms.push(self.term(&occ.name))?;
+        }
+        Ok(terms)
+    }
+
+    /// Walks over a test.
+    #[cycle(walk_test)]
+    pub fn walk_test(
+        &mut self,
+        kinds: &mut Kinds,
+        test: &'a Cond,
+        version: usize,
+    ) -> Result<(), AllocError>
+        ensures { OnOk result (state kinds.new self.new version ≡ test_walked (test_of test.now) (state kinds.old self.old version)) }
+    {
+        match test {
+            Cond::Compare { left, right, .. } => {
+                self.use_expr(kinds, left, version)?;
+                self.use_expr(kinds, right, version)
+            }
+            Cond::Not(inner) => self.walk_test(kinds, inner, version),
+            Cond::And(members) => self.walk_tests(kinds, members.as_slice(), version),
+            Cond::Or(members) => self.walk_tests(kinds, members.as_slice(), version),
+        }
+    }
+
+    /// Walks over tests in their order.
+    #[cycle(walk_test)]
+    fn walk_tests(
+        &mut self,
+        kinds: &mut Kinds,
+        tests: &'a [Cond],
+        version: usize,
+    ) -> Result<(), AllocError>
+        ensures { OnOk result (state kinds.new self.new version ≡ tests_walked (tests_view tests.now) (state kinds.old self.old version)) }
+    {
+        for test in tests {
+            self.walk_test(kinds, test, version)?;
+        }
+        Ok(())
+    }
+
+    /// Walks over an assertion.
+    #[cycle(walk)]
+    pub fn walk(
+        &mut self,
+        kinds: &mut Kinds,
+        assertion: &'a Assertion,
+        version: usize,
+    ) -> Result<(), AllocError>
+        ensures { OnOk result (state kinds.new self.new version ≡ walked (formula_of assertion.now) (state kinds.old self.old version)) }
+    {
+        match assertion {
+            Assertion::Emp => Ok(()),
+            Assertion::Pure { left, right, .. } => {
+                self.use_operand(kinds, left)?;
+                self.use_operand(kinds, right)
+            }
+            Assertion::PointsTo { at, to } => {
+                self.follow(kinds, &at.name, version)?;
+                self.use_operand(kinds, to)
+            }
+            Assertion::Acc { at } => self.follow(kinds, &at.name, version),
+            Assertion::Lseg { from, to } => {
+                self.use_operand(kinds, from)?;
+                self.use_operand(kinds, to)
+            }
+            Assertion::Star(members) => self.walk_all(kinds, members.as_slice(), version),
+            Assertion::Cases { test, yes, no } => {
+                self.walk_test(kinds, test, version)?;
+                self.walk(kinds, yes, version)?;
+                self.walk(kinds, no, version)
+            }
+        }
+    }
+
+    /// Walks over assertions in their order.
+    #[cycle(walk)]
+    fn walk_all(
+        &mut self,
+        kinds: &mut Kinds,
+        assertions: &'a [Assertion],
+        version: usize,
+    ) -> Result<(), AllocError>
+        ensures { OnOk result (state kinds.new self.new version ≡ all_walked (formulas_view assertions.now) (state kinds.old self.old version)) }
+    {
+        for assertion in assertions {
+            self.walk(kinds, assertion, version)?;
+        }
+        Ok(())
+    }
+}
