@@ -4,7 +4,7 @@ use Rattle.std.specs.Fmt.{decimal}
 use Rattle.gh_base.specs.declared.place.Span.{Span}
 use Rattle.gh_ast.specs.Plain.{Formula}
 use Rattle.gh_ast.specs.Programs.{name_of}
-use Rattle.gh_path.specs.Graphs.{Check, access, entry, loop_entry, returned, loop_end, Origin, from_entry, from_loop}
+use Rattle.gh_path.specs.Graphs.{Check, access, entry, loop_entry, returned, loop_end, place_of, Origin, from_entry, from_loop}
 use Rattle.gh_path.specs.Conditions.{Condition}
 
 -- `L:C`
@@ -22,13 +22,6 @@ check_text (loop_entry l) = codes "loop entry"
 check_text (returned p f) = codes "return"
 check_text (loop_end l) = codes "loop end"
 
-abbrev pub check_place : Check → Span
-check_place (access o) = o.span
-check_place (entry f es) = f.span
-check_place (loop_entry l) = l.at
-check_place (returned p f) = p
-check_place (loop_end l) = l.close
-
 abbrev pub description : Condition → List ℕ
 description c =
-    name_of c.procedure ++ codes " from " ++ origin_text c.start.origin ++ codes ": " ++ check_text c.way.check ++ codes " at " ++ place_text (check_place c.way.check)
+    name_of c.procedure ++ codes " from " ++ origin_text c.start.origin ++ codes ": " ++ check_text c.way.check ++ codes " at " ++ place_text (place_of c.way.check)

@@ -1,2 +1,3 @@
 pub mod Descriptions
+pub mod Kept
 pub mod Drawings

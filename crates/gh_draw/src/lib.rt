@@ -1,2 +1,4 @@
 //! Descriptions of conditions, and drawings of traces.
 #![tactic(auto)]
+
+pub mod describe;
