@@ -1,12 +1,12 @@
 -- A literal more, and the last ones taken back.
-use Rattle.std.proofs.Common.{◌≡◌, ◌≢◌, ◌⊎◌, inl, inr, ℕ, zero, suc, ◌+◌, ◌-◌, ◌<◌, ◌≤◌, Bool, true, false, cond, ltb, List, [], ◌∷◌, ◌++◌, All, length, get_or, take, Option, Some, None, refl, sym, ap, ◌∙◌, subst, arith, take_all, length-append}
-use Rattle.std.specs.Prelude.{slice_get, IfNone, IfSome, is_some}
+use Rattle.std.proofs.Common.{◌≡◌, ◌⊎◌, inl, inr, ℕ, ◌+◌, ◌<◌, ◌≤◌, Bool, true, false, cond, ltb, List, [], ◌∷◌, ◌++◌, length, get_or, take, Option, Some, None, refl, sym, ap, ◌∙◌, subst, arith, take_all, length-append}
+use Rattle.std.specs.Prelude.{IfNone, IfSome, is_some}
 use Rattle.std.proofs.lemmas.Bool.{cases_lt, lt-ltb, le-ltb}
 use Rattle.std.proofs.lemmas.Option.{same_Some, get_or_from_slice_get, slice_get_read}
 use Rattle.std.proofs.lemmas.List.{length_push, length-take-le, take-append-le}
 use Rattle.std.proofs.lemmas.List.Elements.{All-push, All-take}
 use Rattle.gh_base.specs.declared.atom.Lit.{Lit}
-use Rattle.gh_base.specs.Atoms.{IsInRange, AreInRange, count_of}
+use Rattle.gh_base.specs.Atoms.{IsInRange}
 use Rattle.gh_cc.specs.declared.partition.Link.{Link}
 use Rattle.gh_cc.specs.declared.signs.Entry.{Entry}
 use Rattle.gh_cc.specs.declared.clash.Clash.{Clash}
@@ -15,7 +15,7 @@ use Rattle.gh_cc.specs.declared.classes.ClashAt.{ClashAt}
 use Rattle.gh_cc.specs.Partitions.{Merged}
 use Rattle.gh_cc.specs.Signs.{Filed}
 use Rattle.gh_cc.specs.Asserted.{IsFree}
-use Rattle.gh_cc.specs.Kept.{reps, IsClash, IsState, AllFiled, AreTied, Grows, LinksMore, Core, stage_at, first_clash, clash_before, NoClashBefore, IsStage, IsBefore, IsKept}
+use Rattle.gh_cc.specs.Kept.{reps, IsClash, IsState, AllFiled, AreTied, LinksMore, Core, stage_at, first_clash, clash_before, IsStage, IsBefore, IsKept}
 use Rattle.gh_cc.proofs.ListLemmas.{get_front, get_take}
 use Rattle.gh_cc.proofs.KeptLemmas.{take_take, get_or_push, get_or_past, get_or_front_of, stage_keeps, clash_keeps, few_lits, apart_push, now_of, clash_cases, clash_stays, no_clash}
 

@@ -1,20 +1,18 @@
 -- Literals without a clash are consistent.
-use Rattle.std.proofs.Common.{◌≡◌, ◌≢◌, ℕ, ◌<◌, Bool, true, false, not, eqb, List, All, length, get_or, Option, Some, None, refl, sym, ap, ◌∙◌, subst, arith}
-use Rattle.std.specs.Prelude.{slice_get}
+use Rattle.std.proofs.Common.{◌≡◌, ◌≢◌, ℕ, Bool, true, false, not, List, All, get_or, Option, Some, None, refl, ap, ◌∙◌}
 use Rattle.std.proofs.lemmas.Bool.{eq-eqb, ne_eqb}
 use Rattle.std.proofs.lemmas.Option.{get_or_from_slice_get}
-use Rattle.gh_base.specs.declared.atom.Term.{Term}
 use Rattle.gh_base.specs.declared.atom.Atom.{Atom}
 use Rattle.gh_base.specs.declared.atom.Atom.TheVariants.{Eq, Btwn, Hop, Alloc, Def}
 use Rattle.gh_base.specs.declared.atom.Lit.{Lit}
 use Rattle.gh_base.specs.declared.sizes.Sizes.{Sizes}
 use Rattle.gh_base.specs.Atoms.{number_of}
-use Rattle.gh_base.specs.Meaning.{Interpretation, IsCongruence, IsLitTrue, atom_truth, lit_truth, under}
+use Rattle.gh_base.specs.Meaning.{Interpretation, IsCongruence, atom_truth, under}
 use Rattle.gh_cc.specs.declared.partition.Link.{Link}
 use Rattle.gh_cc.specs.declared.signs.Entry.{Entry}
 use Rattle.gh_cc.specs.Signs.{find_lit}
 use Rattle.gh_cc.specs.Asserted.{IsConsistent}
-use Rattle.gh_cc.specs.Kept.{at, normal, reps, HasSign, IsFiledAs, IsFiled, AllFiled, IsRelation}
+use Rattle.gh_cc.specs.Kept.{at, normal, reps, HasSign, IsFiledAs, AllFiled}
 use Rattle.gh_cc.proofs.TakingLemmas.{no_lit}
 
 -- representatives as classes, and signs by normal forms

@@ -1,15 +1,14 @@
 -- Why two terms have one class.
-use Rattle.std.proofs.Common.{◌≡◌, ◌≢◌, ◌⊎◌, inl, inr, ℕ, zero, suc, ◌+◌, ◌-◌, ◌<◌, ◌≤◌, Bool, true, false, not, eqb, min, max, List, [], ◌∷◌, ◌++◌, All, length, get_or, Some, refl, sym, ap, ◌∙◌, subst, arith, append_assoc}
+use Rattle.std.proofs.Common.{◌≡◌, ◌≢◌, inl, inr, ℕ, zero, suc, ◌-◌, ◌<◌, Bool, true, false, not, min, max, List, [], ◌∷◌, ◌++◌, All, Some, refl, sym, ap, ◌∙◌, subst, arith, append_assoc}
 use Rattle.std.specs.Prelude.{slice_get, Contains, Result, Ok, Err, OnOk}
 use Rattle.std.proofs.lemmas.Bool.{cases_lt, eqb-true}
-use Rattle.std.proofs.lemmas.List.{get_or_append_left}
-use Rattle.std.proofs.lemmas.List.Elements.{All-append, All-cons, All-nil}
+use Rattle.std.proofs.lemmas.List.Elements.{All-append, All-cons}
 use Rattle.gh_base.specs.declared.atom.Term.{Term}
 use Rattle.gh_base.specs.declared.atom.Lit.{Lit}
 use Rattle.gh_base.specs.Meaning.{Interpretation, lit_truth}
 use Rattle.gh_cc.specs.declared.partition.Link.{Link}
-use Rattle.gh_cc.specs.Partitions.{rep, relabel, disequality_of, Explains, ExplainsMore}
-use Rattle.gh_cc.proofs.PartitionLemmas.{Crosses, relabel_crosses, rep_step, slice_get-contains, term}
+use Rattle.gh_cc.specs.Partitions.{rep, relabel, disequality_of, ExplainsMore}
+use Rattle.gh_cc.proofs.PartitionLemmas.{Crosses, relabel_crosses, rep_step, slice_get-contains}
 
 abbrev pub IsLitFalse : Interpretation → Lit → Type 0
 IsLitFalse m l = lit_truth m l ≡ false

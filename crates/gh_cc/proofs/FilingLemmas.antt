@@ -1,26 +1,27 @@
 -- Literals under the keys of their atoms.
-use Rattle.std.proofs.Common.{◌≡◌, ◌≢◌, ◌⊎◌, inl, inr, ℕ, zero, suc, ◌+◌, ◌<◌, ◌≤◌, Bool, true, false, cond, eqb, List, [], ◌∷◌, ◌++◌, All, length, get_or, take, Option, Some, None, refl, sym, ap, ◌∙◌, subst, arith, append_assoc}
-use Rattle.std.specs.Prelude.{slice_get, Contains, IfNone, IfSome}
+use Rattle.std.proofs.Common.{◌≡◌, ◌≢◌, inl, inr, ℕ, ◌+◌, ◌<◌, Bool, true, false, cond, eqb, List, [], ◌∷◌, ◌++◌, All, length, take, Option, Some, None, refl, sym, ap, ◌∙◌, subst, arith, append_assoc}
+use Rattle.std.specs.Prelude.{slice_get, IfNone, IfSome}
 use Rattle.std.proofs.lemmas.Bool.{eq-eqb}
+use Rattle.std.proofs.lemmas.List.{append-nil}
 use Rattle.std.proofs.lemmas.Bool.Decides.{eqb_tells}
-use Rattle.std.proofs.lemmas.List.Elements.{All-contains, All-weaker, All-push, All-append, All-more}
+use Rattle.std.proofs.lemmas.List.Elements.{All-contains, All-weaker, All-push, All-more}
 use Rattle.std.proofs.lemmas.Option.{get_or_from_slice_get}
 use Rattle.gh_base.specs.declared.atom.Term.{Term}
 use Rattle.gh_base.specs.declared.atom.Atom.{Atom}
 use Rattle.gh_base.specs.declared.atom.Atom.TheVariants.{Eq, Btwn, Hop, Alloc, Def}
 use Rattle.gh_base.specs.declared.atom.Lit.{Lit}
 use Rattle.gh_base.specs.declared.sizes.Sizes.{Sizes}
-use Rattle.gh_base.specs.Atoms.{IsInRange, AreInRange, number_of, count_of}
+use Rattle.gh_base.specs.Atoms.{IsInRange, number_of}
 use Rattle.gh_base.proofs.NumberLemmas.{apart}
 use Rattle.gh_cc.specs.declared.partition.Link.{Link}
 use Rattle.gh_cc.specs.declared.signs.Entry.{Entry}
-use Rattle.gh_cc.specs.Partitions.{Merged, rep, AreMerges}
+use Rattle.gh_cc.specs.Partitions.{Merged, AreMerges}
 use Rattle.gh_cc.specs.Signs.{Filed, find_lit}
-use Rattle.gh_cc.specs.Kept.{at, normal, reps, IsRelation, IsEntry, HasSign, IsFiledAs, IsFiled, IsState, IsClash, AreTied, Grows}
+use Rattle.gh_cc.specs.Kept.{at, normal, reps, IsRelation, IsEntry, HasSign, IsFiledAs, IsFiled, IsClash, AreTied, Grows}
 use Rattle.gh_cc.specs.declared.clash.Clash.TheVariants.{Opposite}
 use Rattle.gh_cc.specs.declared.clash.Clash.{Clash}
-use Rattle.gh_cc.proofs.ListLemmas.{get_within, get_front, get_push, get_last, get_some}
-use Rattle.gh_cc.proofs.PartitionLemmas.{rep_range, rep_own, term, slice_get-contains, contains-slice_get}
+use Rattle.gh_cc.proofs.ListLemmas.{get_some}
+use Rattle.gh_cc.proofs.PartitionLemmas.{rep_range, rep_own, slice_get-contains}
 use Rattle.gh_cc.proofs.SignLemmas.{find_sound}
 
 pub reps_range : (n : ℕ) (links : List Link) (t : ℕ) → AreMerges n links → t < n → reps links t < n
@@ -109,6 +110,9 @@ grows_find old new g m k e = ap (λ (es : List Entry). find_lit es m) g.more ∙
 
 pub grows_filed : (s : Sizes) (lits : List Lit) (links : List Link) (old new : Filed) → Grows old new → (l : Lit) → IsFiled s lits links old.entries l → IsFiled s lits links new.entries l
 grows_filed s lits links old new g l h = filed_along s (reps links) lits lits old.entries new.entries l.atom l.positive (λ i k at. at) (grows_find old new g) h
+
+pub grows_none : (f : Filed) → Grows f f
+grows_none f = record { added = []; more = sym (append-nil f.entries); count = refl }
 
 pub grows_on : (a b c : Filed) → Grows a b → Grows b c → Grows a c
 grows_on a b c g h = record {

@@ -1,19 +1,17 @@
 -- What stays when a literal more is asserted, and when the last ones are taken back.
-use Rattle.std.proofs.Common.{◌≡◌, ◌≢◌, ◌⊎◌, inl, inr, ℕ, zero, suc, ◌+◌, ◌-◌, ◌<◌, ◌≤◌, Bool, true, false, cond, ltb, eqb, map, List, [], ◌∷◌, ◌++◌, All, length, get_or, take, Option, Some, None, refl, sym, ap, ◌∙◌, subst, arith, take_all, length-append}
-use Rattle.std.specs.Prelude.{slice_get, Contains, IfNone, IfSome, is_some}
-use Rattle.std.proofs.lemmas.Bool.{cases_lt, cases_eq, ne_eqb, eqb-true}
+use Rattle.std.proofs.Common.{◌≡◌, ◌≢◌, ◌⊎◌, inl, inr, ℕ, zero, suc, ◌<◌, ◌≤◌, false, eqb, map, List, [], ◌∷◌, ◌++◌, All, length, get_or, take, Option, Some, None, refl, sym, ap, ◌∙◌, subst, arith, length-append}
+use Rattle.std.specs.Prelude.{slice_get}
+use Rattle.std.proofs.lemmas.Bool.{cases_lt, ne_eqb, eqb-true}
 use Rattle.std.proofs.lemmas.Option.{slice_get-get_or, same_Some}
 use Rattle.std.proofs.lemmas.Map.Steps.{length-le_from_distinct_below}
 use Rattle.std.proofs.lemmas.Map.Keys.{IsDistinct-cons, IsDistinct-from_apart}
 use Rattle.std.proofs.lemmas.List.Folds.{Any-from_list_any}
 use Rattle.std.specs.List.{IsDistinct}
-use Rattle.std.proofs.lemmas.List.{length_push, length-take-le, take-append-le, get_or_append_left, length-map}
-use Rattle.std.proofs.lemmas.List.Elements.{All-push, All-take, All-contains, All-map, recursion_from_All}
-use Rattle.gh_base.specs.declared.atom.Term.{Term}
-use Rattle.gh_base.specs.declared.atom.Atom.{Atom}
+use Rattle.std.proofs.lemmas.List.{length-map}
+use Rattle.std.proofs.lemmas.List.Elements.{All-contains, All-map, recursion_from_All}
 use Rattle.gh_base.specs.declared.atom.Lit.{Lit}
 use Rattle.gh_base.specs.declared.sizes.Sizes.{Sizes}
-use Rattle.gh_base.specs.Atoms.{IsInRange, AreInRange, count_of, number_of}
+use Rattle.gh_base.specs.Atoms.{AreInRange, count_of, number_of}
 use Rattle.gh_base.proofs.NumberLemmas.{apart as atoms_apart, number_below}
 use Rattle.gh_cc.specs.declared.partition.Link.{Link}
 use Rattle.gh_cc.specs.declared.signs.Entry.{Entry}
@@ -21,11 +19,9 @@ use Rattle.gh_cc.specs.declared.clash.Clash.{Clash}
 use Rattle.gh_cc.specs.declared.clash.Clash.TheVariants.{Unequal, Opposite}
 use Rattle.gh_cc.specs.declared.classes.Stage.{Stage}
 use Rattle.gh_cc.specs.declared.classes.ClashAt.{ClashAt}
-use Rattle.gh_cc.specs.Partitions.{Merged, rep}
-use Rattle.gh_cc.specs.Signs.{Filed}
 use Rattle.gh_cc.specs.Asserted.{IsFree}
-use Rattle.gh_cc.specs.Kept.{normal, reps, IsClash, IsState, AllFiled, IsFiled, AreTied, Grows, LinksMore, Core, stage_at, first_clash, clash_before, NoClashBefore, IsStage, IsBefore, IsKept}
-use Rattle.gh_cc.proofs.ListLemmas.{get_within, get_front, get_push, get_last, get_take}
+use Rattle.gh_cc.specs.Kept.{normal, reps, IsClash, Core, first_clash, NoClashBefore, IsStage}
+use Rattle.gh_cc.proofs.ListLemmas.{get_push}
 use Rattle.gh_cc.proofs.PartitionLemmas.{rep_later, rep_front, rep_own, slice_get-contains}
 use Rattle.gh_cc.proofs.FilingLemmas.{normal_coarser}
 

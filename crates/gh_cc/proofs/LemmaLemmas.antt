@@ -1,8 +1,8 @@
 -- When a clause follows from equality and congruence alone.
-use Rattle.std.proofs.Common.{◌≡◌, ◌≢◌, ◌⊎◌, inl, inr, ℕ, zero, suc, ◌+◌, ◌<◌, ◌≤◌, Bool, true, false, not, ◌&&◌, eqb, List, [], ◌∷◌, ◌++◌, All, length, get_or, take, Some, IsTrue, ◌↔◌, refl, sym, ap, ◌∙◌, subst, arith}
+use Rattle.std.proofs.Common.{◌≡◌, ◌≢◌, inl, inr, ℕ, ◌+◌, ◌<◌, ◌≤◌, Bool, true, false, not, ◌&&◌, eqb, List, [], ◌∷◌, ◌++◌, length, get_or, take, Some, IsTrue, ◌↔◌, refl, sym, ap, ◌∙◌, subst, arith}
 use Rattle.std.specs.Prelude.{slice_get, Contains, MatchBool}
 use Rattle.std.specs.List.{list_any}
-use Rattle.std.proofs.lemmas.Bool.{eq-eqb, ne_eqb, cases_eq}
+use Rattle.std.proofs.lemmas.Bool.{eq-eqb, ne_eqb}
 use Rattle.std.proofs.lemmas.List.Folds.{list_any-from_Any, list_any_none}
 use Rattle.std.proofs.lemmas.List.Elements.{Contains-get_or, All-contains, All-more, All-weaker, Contains-push_cases}
 use Rattle.std.proofs.lemmas.Option.{get_or_from_slice_get}
@@ -12,11 +12,11 @@ use Rattle.gh_base.specs.declared.atom.Atom.TheVariants.{Eq, Btwn, Hop, Alloc, D
 use Rattle.gh_base.specs.declared.atom.Lit.{Lit}
 use Rattle.gh_base.specs.declared.sizes.Sizes.{Sizes}
 use Rattle.gh_base.specs.Atoms.{opposite, IsInRange, AreInRange, number_of}
-use Rattle.gh_base.specs.Meaning.{Interpretation, IsCongruence, IsEqualityValid, IsEqualityClause, IsClauseTrue, IsLitTrue, atom_truth, lit_truth, under}
+use Rattle.gh_base.specs.Meaning.{Interpretation, IsCongruence, IsEqualityClause, IsClauseTrue, atom_truth, lit_truth, under}
 use Rattle.gh_base.proofs.NumberLemmas.{apart as atoms_apart}
 use Rattle.gh_base.proofs.UnitLemmas.{true_or_false}
 use Rattle.gh_cc.specs.declared.partition.Link.{Link}
-use Rattle.gh_cc.specs.Partitions.{Merged, rep, AreMerges, equality_of, disequality_of}
+use Rattle.gh_cc.specs.Partitions.{Merged, AreMerges, disequality_of}
 use Rattle.gh_cc.specs.Asserted.{equality}
 use Rattle.gh_cc.specs.Kept.{at, normal, reps, IsRelation}
 use Rattle.gh_cc.specs.Lemma.{Opposes, IsOpposed, IsSettled, JoinsTerms, HaveOneClass, IsJoined, AreNegatedClasses}

@@ -10,3 +10,6 @@ pub mod SameLemmas
 pub mod RefuteLemmas
 pub mod ConsistentLemmas
 pub mod LemmaLemmas
+pub mod UseLemmas
+pub mod CountLemmas
+pub mod MoveLemmas

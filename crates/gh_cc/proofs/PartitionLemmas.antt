@@ -1,16 +1,17 @@
 -- Classes of terms under links.
-use Rattle.std.proofs.Common.{◌≡◌, ◌≢◌, ◌⊎◌, inl, inr, ℕ, zero, suc, ◌+◌, ◌-◌, ◌<◌, ◌≤◌, Bool, true, false, cond, eqb, ltb, List, [], ◌∷◌, ◌++◌, length, get_or, take, Option, Some, None, refl, sym, ap, ◌∙◌, subst, arith}
+use Rattle.std.proofs.Common.{◌≡◌, ◌≢◌, ◌⊎◌, inl, inr, ℕ, zero, suc, ◌+◌, ◌-◌, ◌<◌, ◌≤◌, Bool, true, false, cond, eqb, List, [], ◌∷◌, ◌++◌, length, get_or, take, Some, refl, sym, ap, ◌∙◌, subst, arith}
 use Rattle.std.specs.Prelude.{slice_get}
-use Rattle.std.proofs.lemmas.Bool.{cases_eq, cases_lt, eq-eqb, ne_eqb}
+use Rattle.std.proofs.lemmas.Bool.{cases_eq, eq-eqb, ne_eqb}
 use Rattle.std.proofs.lemmas.Bool.Decides.{eqb_tells}
 use Rattle.std.proofs.lemmas.Option.{get_or_from_slice_get, slice_get_read, slice_get-map}
 use Rattle.std.proofs.lemmas.List.{length-take-le, length_push, length-map, length-set}
 use Rattle.std.proofs.lemmas.List.Elements.{All-contains, All-set}
-use Rattle.std.specs.Prelude.{Contains, All, map, option_map, slice_set}
+use Rattle.std.specs.Prelude.{Contains, map, option_map, slice_set}
 use Rattle.gh_base.specs.declared.atom.Term.{Term}
 use Rattle.gh_cc.specs.declared.partition.Link.{Link}
 use Rattle.gh_cc.specs.Partitions.{no_link, relabel, rep, AreMerges, IsPartition, moved}
-use Rattle.gh_cc.proofs.ListLemmas.{get_within, get_front, get_push, get_last, get_some, get_take, get_set_same, get_set_other}
+use Rattle.gh_cc.specs.Uses.{one_if}
+use Rattle.gh_cc.proofs.ListLemmas.{get_within, get_push, get_last, get_some, get_take, get_set_same, get_set_other}
 
 -- the term of a number
 abbrev pub term : ℕ → Term
@@ -84,6 +85,21 @@ rep_range n links (suc d) t m h below =
     elim (relabel_cases (rep links d) l t) as (λ _. rep links (suc d) t < n) [
       | inl c ↦ rw (step ∙ c.1) (rep_range n links d l.to.0 m (omega arith) facts.1)
       | inr c ↦ rw (step ∙ c.1) (rep_range n links d t m (omega arith) below)
+    ]
+
+-- no link joins a term that isn't there
+pub rep_past : (n : ℕ) (links : List Link) (d t : ℕ) → AreMerges n links → d ≤ length links → n ≤ t → rep links d t ≡ t
+rep_past n links zero t m h past = refl
+rep_past n links (suc d) t m h past =
+    let w = get_some links d (omega arith) in
+    let l = w.0 in
+    let facts = m d l w.1 in
+    let step = rep_step links d l t w.1 in
+    let before = rep_past n links d t m (omega arith) past in
+    let below = rep_range n links d l.from.0 m (omega arith) facts.0 in
+    elim (relabel_cases (rep links d) l t) as (λ _. rep links (suc d) t ≡ t) [
+      | inl c ↦ let joined = c.0 in absurd (omega (arith, before, below, joined, past))
+      | inr c ↦ step ∙ c.1 ∙ before
     ]
 
 -- a representative is its own
@@ -176,10 +192,6 @@ merges_take n m links f d k at =
     let w = get_take m links d k at in
     let h = f d k w.1 in
     (h.0, h.1, λ e. h.2 (sym (rep_take m links d k.from.0 (omega arith)) ∙ e ∙ rep_take m links d k.to.0 (omega arith)))
-
-abbrev pub one_if : Bool → ℕ
-one_if true = 1
-one_if false = 0
 
 -- how many of the first numbers are their own
 abbrev pub fixed : (ℕ → ℕ) → ℕ → ℕ

@@ -1,21 +1,19 @@
 -- Clauses against clashes.
-use Rattle.std.proofs.Common.{◌≡◌, ◌≢◌, ◌⊎◌, inl, inr, ℕ, zero, suc, ◌+◌, ◌<◌, ◌≤◌, Bool, true, false, not, eqb, min, max, List, [], ◌∷◌, ◌++◌, All, length, get_or, Some, refl, sym, ap, ◌∙◌, subst, arith, append_assoc}
-use Rattle.std.specs.Prelude.{slice_get, Contains}
+use Rattle.std.proofs.Common.{◌≡◌, ◌≢◌, inl, inr, ℕ, Bool, true, false, not, eqb, List, [], ◌∷◌, ◌++◌, All, refl, sym, ap, ◌∙◌, subst, arith, append_assoc}
+use Rattle.std.specs.Prelude.{Contains}
 use Rattle.std.proofs.lemmas.Bool.{eq-eqb}
-use Rattle.std.proofs.lemmas.List.{append-nil}
-use Rattle.std.proofs.lemmas.List.Elements.{All-append, All-cons, All-nil, All-contains, All-weaker, All-push}
+use Rattle.std.proofs.lemmas.List.Elements.{All-append, All-cons, All-contains, All-weaker}
 use Rattle.gh_base.specs.declared.atom.Term.{Term}
-use Rattle.gh_base.specs.declared.atom.Atom.{Atom}
-use Rattle.gh_base.specs.declared.atom.Atom.TheVariants.{Eq, Btwn, Hop, Alloc, Def}
+use Rattle.gh_base.specs.declared.atom.Atom.TheVariants.{Eq, Btwn, Hop}
 use Rattle.gh_base.specs.declared.atom.Lit.{Lit}
 use Rattle.gh_base.specs.declared.sizes.Sizes.{Sizes}
-use Rattle.gh_base.specs.Atoms.{opposite, IsInRange, AreInRange}
-use Rattle.gh_base.specs.Meaning.{Interpretation, IsCongruence, IsClauseTrue, atom_truth, lit_truth, under}
+use Rattle.gh_base.specs.Atoms.{opposite, IsInRange}
+use Rattle.gh_base.specs.Meaning.{Interpretation, IsCongruence, IsClauseTrue, atom_truth, under}
 use Rattle.gh_base.proofs.UnitLemmas.{true_or_false, truth_of_opposite}
 use Rattle.gh_cc.specs.declared.partition.Link.{Link}
-use Rattle.gh_cc.specs.Partitions.{Merged, equality_of, disequality_of, ExplainsMore}
-use Rattle.gh_cc.specs.Asserted.{Asserted, equality, IsConflict}
-use Rattle.gh_cc.specs.Kept.{at, normal, reps, IsRelation, AreLinked, ExplainsAtoms}
+use Rattle.gh_cc.specs.Partitions.{Merged, equality_of, ExplainsMore}
+use Rattle.gh_cc.specs.Asserted.{equality, IsConflict}
+use Rattle.gh_cc.specs.Kept.{at, normal, AreLinked, ExplainsAtoms}
 use Rattle.gh_cc.proofs.ExplainLemmas.{IsLitFalse, IsLinkNegated, All-front, All-back}
 
 pub btwn_parts : (r : ℕ → ℕ) (v w : ℕ) (x y z p q t : Term) → normal r (Btwn v x y z) ≡ normal r (Btwn w p q t) → (v ≡ w) × (r x.0 ≡ r p.0) × (r y.0 ≡ r q.0) × (r z.0 ≡ r t.0)

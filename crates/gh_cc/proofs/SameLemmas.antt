@@ -1,20 +1,16 @@
 -- Whether the asserted equalities make two terms equal.
-use Rattle.std.proofs.Common.{◌≡◌, ℕ, ◌<◌, ◌≤◌, Bool, true, false, eqb, List, length, Some, IsTrue, ◌↔◌, refl, sym, ap, ◌∙◌, subst, arith}
-use Rattle.std.specs.Prelude.{slice_get, Contains}
+use Rattle.std.proofs.Common.{◌≡◌, ℕ, false, eqb, List, length, IsTrue, ◌↔◌, refl, sym, ◌∙◌, arith}
 use Rattle.std.proofs.lemmas.Bool.{eq-eqb, eqb-true}
 use Rattle.gh_base.specs.declared.atom.Term.{Term}
-use Rattle.gh_base.specs.declared.atom.Atom.{Atom}
 use Rattle.gh_base.specs.declared.atom.Lit.{Lit}
 use Rattle.gh_base.specs.declared.sizes.Sizes.{Sizes}
 use Rattle.gh_base.specs.Meaning.{Interpretation, IsCongruence}
 use Rattle.gh_cc.specs.declared.partition.Link.{Link}
 use Rattle.gh_cc.specs.declared.signs.Entry.{Entry}
-use Rattle.gh_cc.specs.Partitions.{rep, equality_of}
-use Rattle.gh_cc.specs.Asserted.{Asserted, EqualitiesHold, AreEqual}
-use Rattle.gh_cc.specs.Kept.{reps, IsState, Core, IsKept}
+use Rattle.gh_cc.specs.Asserted.{EqualitiesHold, AreEqual}
+use Rattle.gh_cc.specs.Kept.{reps, IsState}
 use Rattle.gh_cc.proofs.PartitionLemmas.{Respects, same_sound, slice_get-contains}
 use Rattle.gh_cc.proofs.ExplainLemmas.{link_joins}
-use Rattle.gh_cc.proofs.AssertLemmas.{tied_now}
 
 -- an interpretation that makes the asserted equalities true respects the links
 pub respects : (m : Interpretation) (s : Sizes) (lits : List Lit) (links : List Link) (entries : List Entry) → IsState s lits links entries → EqualitiesHold m lits → Respects m.class links (length links)

@@ -1,8 +1,8 @@
 -- A literal more.
-use Rattle.std.proofs.Common.{◌≡◌, ◌≢◌, ◌⊎◌, inl, inr, ℕ, zero, suc, ◌+◌, ◌<◌, ◌≤◌, Bool, true, false, min, max, List, [], ◌∷◌, ◌++◌, All, length, get_or, take, Option, Some, None, refl, sym, ap, ◌∙◌, subst, arith, take_all}
+use Rattle.std.proofs.Common.{◌≡◌, ◌≢◌, inl, inr, ℕ, suc, ◌+◌, ◌<◌, ◌≤◌, false, min, max, List, [], ◌∷◌, ◌++◌, length, get_or, take, Some, refl, sym, ap, ◌∙◌, subst, arith, take_all}
 use Rattle.std.specs.Prelude.{slice_get, Contains}
 use Rattle.std.proofs.lemmas.List.{length_push, append-nil, take_more}
-use Rattle.std.proofs.lemmas.List.Elements.{All-contains, All-weaker, All-push, Contains-append_left, Contains-push, Contains-push_cases}
+use Rattle.std.proofs.lemmas.List.Elements.{All-weaker, All-push, Contains-append_left, Contains-push, Contains-push_cases}
 use Rattle.std.proofs.lemmas.Option.{slice_get-get_or}
 use Rattle.gh_base.specs.declared.atom.Term.{Term}
 use Rattle.gh_base.specs.declared.atom.Atom.TheVariants.{Eq}
@@ -11,10 +11,11 @@ use Rattle.gh_base.specs.declared.sizes.Sizes.{Sizes}
 use Rattle.gh_base.specs.Atoms.{IsInRange, AreInRange}
 use Rattle.gh_cc.specs.declared.partition.Link.{Link}
 use Rattle.gh_cc.specs.declared.signs.Entry.{Entry}
-use Rattle.gh_cc.specs.Partitions.{Merged, rep, relabel, equality_of, AreMerges}
-use Rattle.gh_cc.specs.Signs.{Filed, find_lit}
+use Rattle.gh_cc.specs.Partitions.{Merged, rep, relabel, equality_of}
+use Rattle.gh_cc.specs.Signs.{Filed}
+use Rattle.gh_cc.specs.Uses.{AreEnds}
 use Rattle.gh_cc.specs.Asserted.{equality}
-use Rattle.gh_cc.specs.Kept.{normal, reps, IsEntry, IsFiled, AllFiled, IsState, AreTied, Grows, LinksMore}
+use Rattle.gh_cc.specs.Kept.{normal, reps, IsEntry, IsFiled, AllFiled, AreTied, Grows, LinksMore}
 use Rattle.gh_cc.proofs.ListLemmas.{get_front, get_last}
 use Rattle.gh_cc.proofs.PartitionLemmas.{term, rep_own, rep_more, rep_joins, relabel_same, merges_more}
 use Rattle.gh_cc.proofs.FilingLemmas.{normal_coarser, filed_along, grows_find}
@@ -72,14 +73,42 @@ equality_is a b h =
     let high : max a.0 b.0 ≡ b.0 = omega arith in
     ap (λ (n : ℕ). equality (term n) (term (max a.0 b.0))) low ∙ ap (λ (n : ℕ). equality a (term n)) high
 
+equality_turned : (a b : Term) → a.0 ≤ b.0 → equality_of (record { from = b; to = a }) ≡ equality a b
+equality_turned a b h =
+    let low : min b.0 a.0 ≡ a.0 = omega arith in
+    let high : max b.0 a.0 ≡ b.0 = omega arith in
+    ap (λ (n : ℕ). equality (term n) (term (max b.0 a.0))) low ∙ ap (λ (n : ℕ). equality a (term n)) high
+
+-- a link of two terms is of their equality, whichever way it goes
+pub ends_equality : (l : Link) (a b : Term) → AreEnds l a b → a.0 ≤ b.0 → equality_of l ≡ equality a b
+ends_equality l a b (inl e) h =
+    let is : l ≡ record { from = a; to = b } = λ i. record { from = e.0 i; to = e.1 i } in
+    ap equality_of is ∙ equality_is a b h
+ends_equality l a b (inr e) h =
+    let is : l ≡ record { from = b; to = a } = λ i. record { from = e.0 i; to = e.1 i } in
+    ap equality_of is ∙ equality_turned a b h
+
+-- what holds of both terms holds of both ends
+pub ends_range : (l : Link) (a b : Term) (n : ℕ) → AreEnds l a b → a.0 < n → b.0 < n → (l.from.0 < n) × (l.to.0 < n)
+ends_range l a b n (inl e) ha hb = (subst (λ (t : Term). t.0 < n) (sym e.0) ha, subst (λ (t : Term). t.0 < n) (sym e.1) hb)
+ends_range l a b n (inr e) ha hb = (subst (λ (t : Term). t.0 < n) (sym e.0) hb, subst (λ (t : Term). t.0 < n) (sym e.1) ha)
+
+pub ends_apart : (r : ℕ → ℕ) (l : Link) (a b : Term) → AreEnds l a b → r a.0 ≢ r b.0 → r l.from.0 ≢ r l.to.0
+ends_apart r l a b (inl e) apart = λ h. apart (ap (λ (t : Term). r t.0) (sym e.0) ∙ h ∙ ap (λ (t : Term). r t.0) e.1)
+ends_apart r l a b (inr e) apart = λ h. apart (ap (λ (t : Term). r t.0) (sym e.1) ∙ sym h ∙ ap (λ (t : Term). r t.0) e.0)
+
+pub ends_joined : (links : List Link) (l : Link) (a b : Term) → AreEnds l a b → reps (links ++ l ∷ []) a.0 ≡ reps (links ++ l ∷ []) b.0
+ends_joined links l a b (inl e) = ap (λ (t : Term). reps (links ++ l ∷ []) t.0) (sym e.0) ∙ reps_joined links l ∙ ap (λ (t : Term). reps (links ++ l ∷ []) t.0) e.1
+ends_joined links l a b (inr e) = ap (λ (t : Term). reps (links ++ l ∷ []) t.0) (sym e.1) ∙ sym (reps_joined links l) ∙ ap (λ (t : Term). reps (links ++ l ∷ []) t.0) e.0
+
 pub same_equality : (a b x y : Term) → equality a b ≡ equality x y → (a ≡ x) × (b ≡ y)
 same_equality a b x y e = let f : Eq a b ≡ Eq x y = ap (λ (l : Lit). l.atom) e in (cc f, cc f)
 
 -- an equality that joins two classes
-pub tied_merge : (s : Sizes) (lits : List Lit) (p : Merged) (f : Filed) (a b : Term) → AreTied s lits p f → IsInRange s (Eq a b) → reps p.links a.0 ≢ reps p.links b.0
-    → AreTied s (lits ++ equality a b ∷ []) (record { terms = p.terms; links = p.links ++ (record { from = a; to = b }) ∷ [] }) f
-tied_merge s lits p f a b t inside apart =
-    let k : Link = record { from = a; to = b } in
+pub tied_merge : (s : Sizes) (lits : List Lit) (p : Merged) (f : Filed) (k : Link) (a b : Term) → AreTied s lits p f → IsInRange s (Eq a b) → AreEnds k a b → reps p.links a.0 ≢ reps p.links b.0
+    → AreTied s (lits ++ equality a b ∷ []) (record { terms = p.terms; links = p.links ++ k ∷ [] }) f
+tied_merge s lits p f k a b t inside ends apart =
+    let below = ends_range k a b s.terms ends (omega (arith, inside.0, inside.1)) inside.1 in
     let l = equality a b in
     let now = p.links ++ k ∷ [] in
     let turn : (e : Entry) → IsEntry s (reps p.links) lits e → IsEntry s (reps now) (lits ++ l ∷ []) e = λ e h. record {
@@ -97,19 +126,19 @@ tied_merge s lits p f a b t inside apart =
     record {
       in_range = All-push (λ (j : Lit). IsInRange s j.atom) lits l t.in_range inside;
       terms = t.terms;
-      merges = merges_more p.terms p.links k t.merges (omega (arith, t.terms, inside.0, inside.1)) (omega (arith, t.terms, inside.1)) apart;
+      merges = merges_more p.terms p.links k t.merges (omega (arith, t.terms, below.0)) (omega (arith, t.terms, below.1)) (ends_apart (reps p.links) k a b ends apart);
       count = t.count;
       few = t.few;
       state = record {
         linked = λ j there. elim (Contains-push_cases p.links k j there) as (λ _. Contains (lits ++ l ∷ []) (equality_of j)) [
           | inl old ↦ Contains-append_left lits (l ∷ []) (equality_of j) (t.state.linked j old)
-          | inr new ↦ subst (λ (x : Lit). Contains (lits ++ l ∷ []) x) (sym (equality_is a b inside.0) ∙ ap equality_of new) (Contains-push lits l)
+          | inr new ↦ subst (λ (x : Lit). Contains (lits ++ l ∷ []) x) (sym (ends_equality k a b ends inside.0) ∙ ap equality_of new) (Contains-push lits l)
         ];
         joined = λ x y there. elim (Contains-push_cases lits l (equality x y) there) as (λ _. reps now x.0 ≡ reps now y.0) [
           | inl old ↦ reps_same p.links k x.0 y.0 (t.state.joined x y old)
           | inr new ↦
               let w = same_equality a b x y new in
-              ap (λ (u : Term). reps now u.0) (sym w.0) ∙ reps_joined p.links k ∙ ap (λ (u : Term). reps now u.0) w.1
+              ap (λ (u : Term). reps now u.0) (sym w.0) ∙ ends_joined p.links k a b ends ∙ ap (λ (u : Term). reps now u.0) w.1
         ];
         named = All-weaker (IsEntry s (reps p.links) lits) (IsEntry s (reps now) (lits ++ l ∷ [])) turn f.entries t.state.named;
       };
@@ -123,9 +152,6 @@ filed_push s lits links old new l g before here =
     (All-weaker (IsFiled s lits links old.entries) (IsFiled s (lits ++ l ∷ []) links new.entries)
     (λ k h. filed_along s (reps links) lits (lits ++ l ∷ []) old.entries new.entries k.atom k.positive (λ i j at. get_front lits (l ∷ []) i j at) (grows_find old new g) h) lits before)
     here
-
-pub grows_none : (f : Filed) → Grows f f
-grows_none f = record { added = []; more = sym (append-nil f.entries); count = refl }
 
 pub links_none : (p : Merged) → LinksMore p p
 links_none p = record { added = []; more = sym (append-nil p.links); terms = refl }
@@ -154,14 +180,14 @@ taken_more s lits place p f t long all joins =
     subst (λ (ls : List Lit). AreTied s ls p f) (front_last lits place no_lit long)
     (tied_more s (take place lits) p f (last_of lits place) t (last_range s lits place all long) joins)
 
-pub taken_merge : (s : Sizes) (lits : List Lit) (place : ℕ) (p now : Merged) (f : Filed) (a b : Term) → AreTied s (take place lits) p f → length lits ≡ place + 1 → AreInRange s lits
-    → last_of lits place ≡ equality a b → reps p.links a.0 ≢ reps p.links b.0 → now ≡ record { terms = p.terms; links = p.links ++ (record { from = a; to = b }) ∷ [] } → AreTied s lits now f
-taken_merge s lits place p now f a b t long all is apart merged =
+pub taken_merge : (s : Sizes) (lits : List Lit) (place : ℕ) (p now : Merged) (f : Filed) (k : Link) (a b : Term) → AreTied s (take place lits) p f → length lits ≡ place + 1 → AreInRange s lits
+    → last_of lits place ≡ equality a b → AreEnds k a b → reps p.links a.0 ≢ reps p.links b.0 → now ≡ record { terms = p.terms; links = p.links ++ k ∷ [] } → AreTied s lits now f
+taken_merge s lits place p now f k a b t long all is ends apart merged =
     let inside : IsInRange s (Eq a b) = subst (λ (l : Lit). IsInRange s l.atom) is (last_range s lits place all long) in
     let whole : take place lits ++ equality a b ∷ [] ≡ lits = ap (λ (l : Lit). take place lits ++ l ∷ []) (sym is) ∙ front_last lits place no_lit long in
     subst (λ (q : Merged). AreTied s lits q f) (sym merged)
-    (subst (λ (ls : List Lit). AreTied s ls (record { terms = p.terms; links = p.links ++ (record { from = a; to = b }) ∷ [] }) f) whole
-    (tied_merge s (take place lits) p f a b t inside apart))
+    (subst (λ (ls : List Lit). AreTied s ls (record { terms = p.terms; links = p.links ++ k ∷ [] }) f) whole
+    (tied_merge s (take place lits) p f k a b t inside ends apart))
 
 pub taken_filed : (s : Sizes) (lits : List Lit) (place : ℕ) (links : List Link) (old new : Filed) → length lits ≡ place + 1 → Grows old new → AllFiled s (take place lits) links old.entries
     → IsFiled s lits links new.entries (last_of lits place) → AllFiled s lits links new.entries

@@ -3,3 +3,4 @@ pub mod Signs
 pub mod Asserted
 pub mod Kept
 pub mod Lemma
+pub mod Uses

@@ -1,5 +1,5 @@
 -- Classes of terms that are merged one link after another.
-use Rattle.std.specs.Prelude.{◌≡◌, ◌≢◌, ◌<◌, ◌≤◌, ◌++◌, ℕ, zero, suc, List, Bool, true, false, All, Contains, Some, length, slice_get, slice_index_or, nat_eq, if◌then◌else◌, min, max}
+use Rattle.std.specs.Prelude.{◌≡◌, ◌≢◌, ◌<◌, ◌≤◌, ◌++◌, ℕ, zero, suc, List, true, false, All, Contains, Some, length, slice_get, slice_index_or, nat_eq, if◌then◌else◌, min, max}
 use Rattle.gh_base.specs.declared.atom.Term.{Term}
 use Rattle.gh_base.specs.declared.atom.Atom.TheVariants.{Eq}
 use Rattle.gh_base.specs.declared.atom.Lit.{Lit}

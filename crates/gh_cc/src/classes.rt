@@ -7,9 +7,11 @@ ghost use Rattle.gh_cc.specs.Asserted.{IsFree, AreEqual, IsConsistent, IsConflic
 
 use crate::clash::Clash;
 use crate::filing::take_in;
+use crate::moving::mention;
 use crate::partition::Partition;
 use crate::refuting::refutation;
 use crate::signs::Signs;
+use crate::uses::Uses;
 use gh_base::atom::{Lit, Term};
 use gh_base::clause::Clause;
 use gh_base::sizes::Sizes;
@@ -18,14 +20,14 @@ use std::marker::Model;
 
 /// How many links and entries there were before a literal was asserted.
 #[derive(Clone, Copy, Debug, PartialEq, Eq)]
-pub struct Stage {
+pub(crate) struct Stage {
     pub depth: u8,
     pub entries: u32,
 }
 
 /// The first clash, with the place of the literal whose assertion brought it.
 #[derive(Clone, Copy, Debug, PartialEq, Eq)]
-pub struct ClashAt {
+pub(crate) struct ClashAt {
     pub place: u32,
     pub clash: Clash,
 }
@@ -38,6 +40,7 @@ pub struct Classes {
     stages: Vec<Stage>,
     partition: Partition,
     signs: Signs,
+    uses: Uses,
     clash: Option<ClashAt>,
 }
 
@@ -46,9 +49,10 @@ impl Model for Classes {
 
     ghost Value = { Asserted };
 
-    ghost use Rattle.std.specs.Prelude.{◌≡◌, ◌≤◌, length, vec_capacity};
+    ghost use Rattle.std.specs.Prelude.{◌≡◌, ◌≤◌, ◌*◌, length, vec_capacity};
     ghost use Rattle.gh_base.specs.Atoms.{count_of};
     ghost use Rattle.gh_cc.specs.Kept.{IsKept};
+    ghost use Rattle.gh_cc.specs.Uses.{all_mentions};
 
     ghost view = { λ c. record { sizes = c.sizes; lits = c.lits.items } };
 
@@ -56,9 +60,12 @@ impl Model for Classes {
         IsKept (record { sizes = c.sizes; lits = c.lits.items; stages = c.stages.items; links = c.partition.links; entries = c.signs.entries; clash = c.clash })
         × (c.partition.terms ≡ c.sizes.terms)
         × (c.signs.count ≡ count_of c.sizes)
-        × (count_of c.sizes ≤ 4294967294)
+        × (count_of c.sizes ≤ 1431655764)
         × (count_of c.sizes ≤ vec_capacity c.lits)
-        × (count_of c.sizes ≤ vec_capacity c.stages) };
+        × (count_of c.sizes ≤ vec_capacity c.stages)
+        × (c.uses.terms ≡ c.sizes.terms)
+        × (3 * count_of c.sizes ≤ c.uses.room)
+        × (c.uses.list ≡ all_mentions c.lits.items) };
 }
 
 // The clash that stands after a literal was taken in.
@@ -101,7 +108,7 @@ impl Classes {
             defs,
         };
         let count = sizes.count();
-        if count > 4294967294 {
+        if count > 1431655764 {
             return Err(AllocError);
         }
         Ok(Classes {
@@ -110,11 +117,13 @@ impl Classes {
             stages: Vec::with_capacity(alloc, count)?,
             partition: Partition::new(alloc, terms)?,
             signs: Signs::new(alloc, count)?,
+            uses: Uses::new(alloc, terms, 3 * count)?,
             clash: None,
         })
     }
 
-    /// Asserts a literal.
+    /// Asserts a literal. It takes constant time but for an equality that merges two classes, and then time in how
+    /// often the class that is mentioned less is mentioned.
     pub fn assert(&mut self, lit: Lit)
         requires in_range { IsInRange self.old.sizes lit.atom }
         requires free { IsFree self.old.lits lit.atom }
@@ -126,18 +135,20 @@ impl Classes {
             entries: self.signs.len() as u32,
         });
         self.lits.push_reserved(lit);
+        mention(self.sizes, &mut self.uses, lit.atom);
         let found = take_in(
             self.sizes,
             self.lits.as_slice(),
             &mut self.partition,
             &mut self.signs,
+            &self.uses,
             place,
             self.clash.is_some(),
         );
         self.clash = first_clash(self.clash, place, found);
     }
 
-    /// Takes the last literals back, so that the first `mark` stand.
+    /// Takes the last literals back, so that the first `mark` stand. It takes at most the time of their assertion.
     pub fn undo_to(&mut self, mark: u32)
         requires { mark ≤ length self.old.lits }
         ensures { self.new ≡ record self.old { lits = take mark self.old.lits } }
@@ -147,19 +158,18 @@ impl Classes {
             let stage = self.stages[left];
             self.partition.cut(stage.depth as usize);
             self.signs.cut(stage.entries as usize);
+            self.uses.cut(3 * left);
             self.lits.truncate(left);
             self.stages.truncate(left);
             self.clash = clash_before(mark, self.clash);
         }
     }
 
-    /// Whether the asserted equalities make two terms equal.
+    /// Whether the asserted equalities make two terms equal. A term that isn't in range is equal to itself alone.
     pub fn same(&self, a: Term, b: Term) -> bool
-        requires a { a.0 < self.now.sizes.terms }
-        requires b { b.0 < self.now.sizes.terms }
         ensures { IsTrue result ↔ AreEqual self.now a b }
     {
-        self.partition.rep(a).0 == self.partition.rep(b).0
+        self.partition.class_of(a).0 == self.partition.class_of(b).0
     }
 
     /// The literals that stand asserted, in order.

@@ -5,11 +5,14 @@ ghost use Rattle.gh_base.specs.declared.atom.Lit.{Lit};
 ghost use Rattle.gh_base.specs.declared.atom.Term.{Term};
 ghost use Rattle.gh_base.specs.Atoms.{IsInRange, AreInRange, number_of, count_of};
 ghost use Rattle.gh_cc.specs.Asserted.{equality};
+ghost use Rattle.gh_cc.specs.Uses.{all_mentions};
 ghost use Rattle.gh_cc.specs.Kept.{AreTied, Grows, LinksMore, IsClash, IsFiled, AllFiled, IsRelation, normal, reps};
 
 use crate::clash::Clash;
+use crate::moving::{merge_lighter, refile_moved};
 use crate::partition::Partition;
 use crate::signs::Signs;
+use crate::uses::Uses;
 use gh_base::atom::{Atom, Lit, Term};
 use gh_base::sizes::Sizes;
 
@@ -88,28 +91,6 @@ pub(crate) fn file(
     }
 }
 
-// Files each literal, up to the first clash.
-pub(crate) fn refile(
-    sizes: Sizes,
-    lits: &[Lit],
-    partition: &Partition,
-    signs: &mut Signs,
-) -> Option<Clash>
-    requires tied { AreTied sizes lits.now partition.now signs.old }
-    requires few { length lits.now ≤ count_of sizes }
-    ensures tied { AreTied sizes lits.now partition.now signs.new }
-    ensures grows { Grows signs.old signs.new }
-    ensures filed { IfNone result (All (IsFiled sizes lits.now partition.now.links signs.new.entries) lits.now) }
-    ensures clash { IfSome result (λ c. IsClash (reps partition.now.links) lits.now c) }
-{
-    for place in 0..lits.len() {
-        if let Some(clash) = file(sizes, lits, partition, signs, place as u32) {
-            return Some(clash);
-        }
-    }
-    None
-}
-
 // The terms of an equality that is asserted to be true.
 pub(crate) fn equal_terms(lit: Lit) -> Option<(Term, Term)>
     ensures some { IfSome result (λ p. lit ≡ equality p.0 p.1) }
@@ -127,13 +108,15 @@ pub(crate) fn take_in(
     lits: &[Lit],
     partition: &mut Partition,
     signs: &mut Signs,
+    uses: &Uses,
     place: u32,
     clashed: bool,
 ) -> Option<Clash>
     requires tied { AreTied sizes (take place lits.now) partition.old signs.old }
     requires last { length lits.now ≡ place + 1 }
     requires in_range { AreInRange sizes lits.now }
-    requires few { length lits.now ≤ count_of sizes }
+    requires uses { uses.now.list ≡ all_mentions lits.now }
+    requires mentioned { uses.now.terms ≡ sizes.terms }
     ensures tied { AreTied sizes lits.now partition.new signs.new }
     ensures links { LinksMore partition.old partition.new }
     ensures grows { Grows signs.old signs.new }
@@ -146,11 +129,11 @@ pub(crate) fn take_in(
             if partition.rep(a).0 == partition.rep(b).0 {
                 return None;
             }
-            partition.merge(a, b);
+            merge_lighter(sizes, partition, uses, a, b);
             if clashed {
                 return None;
             }
-            refile(sizes, lits, partition, signs)
+            refile_moved(sizes, lits, partition, signs, uses)
         }
         None => {
             if clashed {

@@ -1,12 +1,14 @@
 //! Congruence: what asserted literals say by equality alone.
 #![tactic(auto)]
 
-pub mod clash;
+mod clash;
 pub mod classes;
 mod filing;
 pub mod lemma;
-pub mod partition;
+mod moving;
+mod partition;
 mod refuting;
-pub mod signs;
+mod signs;
 #[cfg(test)]
 mod tests;
+mod uses;

@@ -1,6 +1,7 @@
 //! Classes of terms: merged by relabelling, with the table before each merge kept for its undoing.
 
-ghost use Rattle.std.specs.Prelude.{◌≡◌, ◌≢◌, ◌<◌, ◌≤◌, ◌++◌, ◌∷◌, [], ℕ, List, Some, slice_get, IfOk, OnOk, length, take, map};
+ghost use Rattle.std.specs.Prelude.{◌≡◌, ◌≢◌, ◌<◌, ◌≤◌, ◌++◌, ◌∷◌, [], ℕ, List, Some, slice_get, IfOk, OnOk, MatchBool, length, take, map};
+ghost use Rattle.gh_cc.specs.Uses.{IsMoved};
 ghost use Rattle.gh_cc.specs.Partitions.{Merged, rep, rep_of, moved, AreMerges, ExplainsMore, disequality_of};
 
 use gh_base::atom::{Atom, Lit, Term};
@@ -114,6 +115,16 @@ impl Partition {
         self.reps[term.0 as usize]
     }
 
+    /// The representative of a term. A term that isn't there is its own.
+    pub(crate) fn class_of(&self, term: Term) -> Term
+        ensures { result.0 ≡ rep_of self.now term.0 }
+    {
+        if (term.0 as usize) < self.reps.len() {
+            return self.rep(term);
+        }
+        term
+    }
+
     /// How many merges there were.
     pub fn depth(&self) -> usize
         ensures depth { result ≡ length self.now.links }
@@ -169,6 +180,17 @@ impl Partition {
         ensures apart { rep self.now.links depth result.from.0 ≢ rep self.now.links depth result.to.0 }
     {
         self.links[depth]
+    }
+
+    /// Whether the last merge moved a term's class.
+    pub(crate) fn is_moved(&self, term: Term) -> bool
+        requires merged { 0 < length self.now.links }
+        requires term { term.0 < self.now.terms }
+        ensures { MatchBool result (IsMoved self.now.links term) (IsMoved self.now.links term → ⊥) }
+    {
+        let last = self.links.len() - 1;
+        let link = self.link(last);
+        self.rep_after(last, term).0 == self.rep_after(last, link.from).0
     }
 
     // Explains by the first merges why two terms have one class: the merge that joined them, and on

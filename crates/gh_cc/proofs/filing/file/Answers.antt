@@ -1,4 +1,4 @@
-use Rattle.std.proofs.Common.{◌≡◌, ◌<◌, ◌∙◌, sym, ap, ℕ, Some, None, length, get_or, false, refl, []}
+use Rattle.std.proofs.Common.{◌≡◌, ◌∙◌, sym, ap, Some, get_or, false, refl, []}
 use Rattle.std.specs.Prelude.{slice_get}
 use Rattle.std.proofs.lemmas.Option.{slice_get-get_or}
 use Rattle.std.proofs.lemmas.List.{append-nil}

@@ -1,9 +1,14 @@
-use Rattle.std.proofs.Common.{◌≡◌, ◌≢◌, ◌∙◌, sym, subst, false}
+use Rattle.std.proofs.Common.{◌≡◌, ◌≢◌, ◌<◌, ◌∙◌, ◌∷◌, ◌++◌, [], ℕ, List, Some, sym, ap, subst, arith, length}
+use Rattle.std.specs.Prelude.{slice_get}
+use Rattle.gh_base.specs.declared.atom.Term.{Term}
+use Rattle.gh_cc.specs.declared.partition.Link.{Link}
+use Rattle.gh_cc.specs.Partitions.{Merged}
+use Rattle.gh_cc.specs.Uses.{Mentions, IsMoved}
+use Rattle.gh_cc.proofs.MoveLemmas.{moved_filed, mentions_long}
 use Rattle.gh_base.specs.declared.atom.Lit.{Lit}
-use Rattle.gh_cc.specs.Asserted.{equality}
-use Rattle.gh_cc.specs.Kept.{IsFiled, reps}
-use Rattle.gh_cc.proofs.FilingLemmas.{IfNone_then}
-use Rattle.gh_cc.proofs.TakingLemmas.{taken_more, taken_merge, taken_filed, last_of, last_at, same_equality, grows_none, same_along}
+use Rattle.gh_cc.specs.Kept.{IsFiled, AllFiled, reps}
+use Rattle.gh_cc.proofs.FilingLemmas.{IfNone_then, grows_none}
+use Rattle.gh_cc.proofs.TakingLemmas.{taken_more, taken_merge, taken_filed, last_of, last_at, same_equality, same_along}
 use Rattle.gh_cc.proofs.filing.take_in.Goals as goal
 
 pub returns-then-rep-clause-tied : goal.returns-then-rep-clause-tied
@@ -21,17 +26,22 @@ returns-then-rep-clause-filed c =
     taken_filed c.args.sizes c.args.lits.now c.args.place c.args.partition.now.links c.args.signs.now c.args.signs.now c.requires.last (grows_none c.args.signs.now) before
     (subst (λ (l : Lit). IsFiled c.args.sizes c.args.lits.now c.args.partition.now.links c.args.signs.now.entries l) (sym c.in-Some.ensures.some) same)
 
+pub merge_lighter-requires-clause-few : goal.merge_lighter-requires-clause-few
+merge_lighter-requires-clause-few c = omega (arith, c.requires.last, c.ranges.place.fits, ap length c.requires.uses, mentions_long c.args.lits.now)
+
 pub returns-then-clashed-clause-tied : goal.returns-then-clashed-clause-tied
 returns-then-clashed-clause-tied c =
     let r = reps c.args.partition.now.links in
     let apart : r c.in-Some.a.0 ≢ r c.in-Some.b.0 = λ e. c.if-rep.false (c.rep.ensures.value ∙ e ∙ sym c.rep-in-Some.ensures.value) in
-    taken_merge c.args.sizes c.args.lits.now c.args.place c.args.partition.now c.merge.new.self c.args.signs.now c.in-Some.a c.in-Some.b c.requires.tied c.requires.last c.requires.in_range c.in-Some.ensures.some apart c.merge.ensures
+    let m = c.merge_lighter.ensures in
+    taken_merge c.args.sizes c.args.lits.now c.args.place c.args.partition.now c.merge_lighter.new.partition c.args.signs.now m.link c.in-Some.a c.in-Some.b c.requires.tied c.requires.last c.requires.in_range c.in-Some.ensures.some m.ends apart m.merged
 
-pub refile-requires-clause-tied : goal.refile-requires-clause-tied
-refile-requires-clause-tied c =
+pub refile_moved-requires-clause-tied : goal.refile_moved-requires-clause-tied
+refile_moved-requires-clause-tied c =
     let r = reps c.args.partition.now.links in
     let apart : r c.in-Some.a.0 ≢ r c.in-Some.b.0 = λ e. c.if-rep.false (c.rep.ensures.value ∙ e ∙ sym c.rep-in-Some.ensures.value) in
-    taken_merge c.args.sizes c.args.lits.now c.args.place c.args.partition.now c.merge.new.self c.args.signs.now c.in-Some.a c.in-Some.b c.requires.tied c.requires.last c.requires.in_range c.in-Some.ensures.some apart c.merge.ensures
+    let m = c.merge_lighter.ensures in
+    taken_merge c.args.sizes c.args.lits.now c.args.place c.args.partition.now c.merge_lighter.new.partition c.args.signs.now m.link c.in-Some.a c.in-Some.b c.requires.tied c.requires.last c.requires.in_range c.in-Some.ensures.some m.ends apart m.merged
 
 pub returns-then-clashed-2-clause-tied : goal.returns-then-clashed-2-clause-tied
 returns-then-clashed-2-clause-tied c =
@@ -46,3 +56,15 @@ returns-else-clashed-2-clause-filed c =
     IfNone_then c.file.result c.file.ensures.filed (λ here _ before.
     taken_filed c.args.sizes c.args.lits.now c.args.place c.args.partition.now.links c.args.signs.now c.file.new.signs c.requires.last c.file.ensures.grows before
     (here (last_of c.args.lits.now c.args.place) (last_at c.args.lits.now c.args.place c.requires.last)))
+
+pub returns-else-clashed-clause-filed : goal.returns-else-clashed-clause-filed
+returns-else-clashed-clause-filed c =
+    let m = c.merge_lighter.ensures in
+    let f = c.refile_moved.ensures in
+    let links : c.merge_lighter.new.partition.links ≡ c.args.partition.now.links ++ m.link ∷ [] = ap (λ (p : Merged). p.links) m.merged in
+    IfNone_then c.refile_moved.result f.filed (λ anew _ before.
+    subst (λ (ls : List Link). AllFiled c.args.sizes c.args.lits.now ls c.refile_moved.new.signs.entries) (sym links)
+    (moved_filed c.args.sizes c.args.lits.now c.args.place c.args.partition.now.links m.link c.args.signs.now c.refile_moved.new.signs c.in-Some.a c.in-Some.b
+    c.requires.last c.requires.in_range c.in-Some.ensures.some m.ends f.grows before
+    (subst (λ (ls : List Link). (i : ℕ) (k : Lit) (t : Term) → slice_get c.args.lits.now i ≡ Some k → Mentions k.atom t → t.0 < c.args.sizes.terms → IsMoved ls t
+    → IsFiled c.args.sizes c.args.lits.now ls c.refile_moved.new.signs.entries k) links anew)))

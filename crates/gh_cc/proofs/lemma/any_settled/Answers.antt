@@ -1,4 +1,4 @@
-use Rattle.std.proofs.Common.{◌≡◌, ◌<◌, All, List, length, take, take_all, arith, subst}
+use Rattle.std.proofs.Common.{◌≡◌, All, List, take, take_all, arith, subst}
 use Rattle.std.proofs.lemmas.List.Elements.{All-more, All-contains}
 use Rattle.gh_base.specs.declared.atom.Lit.{Lit}
 use Rattle.gh_cc.specs.Lemma.{IsSettled}

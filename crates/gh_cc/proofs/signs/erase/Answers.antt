@@ -1,5 +1,5 @@
-use Rattle.std.proofs.Common.{◌≡◌, ◌≤◌, ◌<◌, ◌+◌, ◌∷◌, [], ◌++◌, Some, None, take, length, arith, sym, ap, ◌∙◌, subst, length-set, List}
-use Rattle.std.specs.Prelude.{vec_capacity, slice_get}
+use Rattle.std.proofs.Common.{◌≡◌, ◌≤◌, ◌+◌, ◌∷◌, [], ◌++◌, take, length, arith, sym, ap, ◌∙◌, subst, length-set, List}
+use Rattle.std.specs.Prelude.{vec_capacity}
 use Rattle.std.proofs.lemmas.List.{take-append-le, length_push}
 use Rattle.gh_cc.specs.declared.signs.Entry.{Entry}
 use Rattle.gh_cc.specs.Signs.{AreSigns}

@@ -1,4 +1,4 @@
-use Rattle.std.proofs.Common.{◌≡◌, List, sym, subst, None}
+use Rattle.std.proofs.Common.{List, sym, subst}
 use Rattle.gh_base.specs.declared.atom.Lit.{Lit}
 use Rattle.gh_cc.specs.Kept.{Core, IsKept, AreLinked, IsClash, reps}
 use Rattle.gh_cc.proofs.AssertLemmas.{tied_now, filed_now, clash_now}

@@ -1,5 +1,4 @@
 use Rattle.std.proofs.Common.{arith}
-use Rattle.gh_cc.proofs.AssertLemmas.{kept_assert}
 use Rattle.gh_cc.proofs.classes.Classes.mark.Goals as goal
 
 pub overflow_cast-result : goal.overflow_cast-result

@@ -8,4 +8,4 @@ returns c =
     let i = c.self.inside in
     let core : Core = record { sizes = i.sizes; lits = i.lits.items; stages = i.stages.items; links = i.partition.links; entries = i.signs.entries; clash = i.clash } in
     rw (← c.self.view_is)
-    (same_terms core.sizes core.lits core.links core.entries c.args.a c.args.b c.rep.result.0 c.rep-2.result.0 (tied_now core c.self.invariant.0) c.rep.ensures.value c.rep-2.ensures.value)
+    (same_terms core.sizes core.lits core.links core.entries c.args.a c.args.b c.class_of.result.0 c.class_of-2.result.0 (tied_now core c.self.invariant.0) c.class_of.ensures c.class_of-2.ensures)

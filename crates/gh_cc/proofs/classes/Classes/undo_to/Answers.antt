@@ -1,8 +1,11 @@
-use Rattle.std.proofs.Common.{◌≡◌, ◌<◌, ◌∙◌, length, ap, subst, arith}
+use Rattle.std.proofs.Common.{◌≡◌, ◌<◌, ◌∙◌, length, take, List, Option, ◌*◌, sym, ap, subst, arith}
 use Rattle.gh_cc.specs.Partitions.{Merged}
 use Rattle.gh_cc.specs.Signs.{Filed}
 use Rattle.gh_cc.specs.Kept.{Core, IsKept, stage_at}
 use Rattle.gh_cc.specs.declared.classes.Stage.{Stage}
+use Rattle.gh_base.specs.declared.atom.Term.{Term}
+use Rattle.gh_cc.specs.Uses.{Mentioned, all_mentions}
+use Rattle.gh_cc.proofs.MoveLemmas.{mentions_take}
 use Rattle.gh_cc.proofs.AssertLemmas.{kept_undo, kept_along, less_core, stage_is}
 use Rattle.gh_cc.proofs.classes.Classes.undo_to.Goals as goal
 
@@ -22,4 +25,8 @@ invariant_of-self c =
       c.self.invariant.3,
       omega (arith, c.truncate.ensures.capacity, c.self.invariant.4),
       omega (arith, c.truncate-then-left-len.ensures.capacity, c.self.invariant.5),
+      ap (λ (u : Mentioned). u.terms) c.cut-then-left-len-2.ensures ∙ c.self.invariant.6,
+      omega (arith, ap (λ (u : Mentioned). u.room) c.cut-then-left-len-2.ensures, c.self.invariant.7),
+      ap (λ (u : Mentioned). u.list) c.cut-then-left-len-2.ensures
+          ∙ ap (λ (ts : List (Option Term)). take (3 * c.args.mark) ts) c.self.invariant.8 ∙ mentions_take c.args.mark core.lits ∙ ap all_mentions (sym c.truncate.ensures.items),
     )

@@ -1,4 +1,4 @@
-use Rattle.std.proofs.Common.{◌≡◌, ◌≢◌, ◌-◌, ◌∙◌, sym, arith, ap, List, ◌∷◌, [], ◌++◌}
+use Rattle.std.proofs.Common.{◌≡◌, ◌≢◌, ◌-◌, ◌∙◌, sym, arith, ap, ◌∷◌, [], ◌++◌}
 use Rattle.gh_base.specs.declared.atom.Lit.{Lit}
 use Rattle.gh_cc.specs.Partitions.{rep, ExplainsMore, disequality_of}
 use Rattle.gh_cc.proofs.ExplainLemmas.{some_depth, crosses_at, crosses_from, crosses_to, explains_from, explains_to, OnOk_then}

@@ -1,4 +1,4 @@
-use Rattle.std.proofs.Common.{◌≡◌, ◌<◌, refl, sym, ◌∙◌, Some, length, arith}
+use Rattle.std.proofs.Common.{◌≡◌, ◌<◌, refl, Some, length, arith}
 use Rattle.std.specs.Prelude.{slice_get}
 use Rattle.std.proofs.lemmas.Option.{slice_get_read}
 use Rattle.gh_cc.proofs.PartitionLemmas.{partition_cut, links_few}

@@ -1,4 +1,4 @@
-use Rattle.std.proofs.Common.{ℕ, subst}
+use Rattle.std.proofs.Common.{subst}
 use Rattle.gh_cc.specs.Partitions.{Merged, AreMerges}
 use Rattle.gh_cc.proofs.partition.Partition.depth.Goals as goal
 

@@ -1,6 +1,4 @@
-use Rattle.std.proofs.Common.{◌≡◌, ◌<◌, ◌∙◌, ap, sym, refl, Some, length, arith, subst, List}
-use Rattle.std.specs.Prelude.{slice_get}
-use Rattle.std.proofs.lemmas.Option.{slice_get_read}
+use Rattle.std.proofs.Common.{◌≡◌, ap, sym, length, arith, subst, List}
 use Rattle.std.proofs.lemmas.List.Elements.{All-get_or}
 use Rattle.gh_base.specs.declared.atom.Term.{Term}
 use Rattle.gh_cc.proofs.PartitionLemmas.{room_left, rep_read, partition_merge}

@@ -1,5 +1,3 @@
-use Rattle.gh_cc.specs.Partitions.{Merged}
-use Rattle.std.proofs.Common.{◌<◌, subst}
 use Rattle.gh_cc.proofs.PartitionLemmas.{rep_read}
 use Rattle.gh_cc.proofs.partition.Partition.rep.Goals as goal
 

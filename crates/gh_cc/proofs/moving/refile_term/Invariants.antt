@@ -1,0 +1,17 @@
+use Rattle.std.proofs.Common.{◌≡◌, ℕ, suc, ◌≤◌, ◌/◌, Some, length}
+use Rattle.std.specs.Prelude.{slice_get}
+use Rattle.gh_base.specs.declared.atom.Lit.{Lit}
+use Rattle.gh_cc.specs.Kept.{AreTied, Grows, IsFiled}
+use Rattle.gh_cc.proofs.moving.refile_term.Given as goal
+
+abbrev pub invariant-loop-next : goal.invariant-loop-next
+invariant-loop-next l = record {
+  tied : AreTied l.sizes l.lits l.partition l.signs;
+  grows : Grows l.initial.signs l.signs;
+  within : l.next ≤ length l.uses.list;
+  here : (n : ℕ) → l.next ≡ suc n → slice_get l.uses.list n ≡ Some (Some l.term);
+  filed : (j : ℕ) (k : Lit) → l.next ≤ j → slice_get l.uses.list j ≡ Some (Some l.term) → slice_get l.lits (j / 3) ≡ Some k → IsFiled l.sizes l.lits l.partition.links l.signs.entries k;
+}
+
+abbrev pub decreases-loop-next : goal.decreases-loop-next
+decreases-loop-next l = l.next

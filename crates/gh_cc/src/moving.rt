@@ -1,0 +1,134 @@
+//! Two classes are merged by moving the one that fewer literals mention, and these literals alone are filed anew.
+
+ghost use Rattle.std.specs.Prelude.{◌≡◌, ◌≢◌, ◌<◌, ◌≤◌, ◌+◌, ◌^◌, ◌∷◌, ◌++◌, [], ℕ, IfSome, IfNone, length, slice_get, Some};
+ghost use Rattle.gh_base.specs.declared.atom.Lit.{Lit};
+ghost use Rattle.gh_base.specs.declared.atom.Term.{Term};
+ghost use Rattle.gh_base.specs.Atoms.{IsInRange};
+ghost use Rattle.gh_cc.specs.Kept.{AreTied, Grows, IsClash, IsFiled, reps};
+ghost use Rattle.gh_cc.specs.Partitions.{rep_of};
+ghost use Rattle.gh_cc.specs.Uses.{all_mentions, first_term, second_term, third_term, Mentions, IsMoved, class_times, JoinsLighter};
+
+use crate::clash::Clash;
+use crate::filing::file;
+use crate::partition::Partition;
+use crate::signs::Signs;
+use crate::uses::Uses;
+use gh_base::atom::{Atom, Lit, Term};
+use gh_base::sizes::Sizes;
+
+// The terms of an atom.
+fn terms_of(atom: Atom) -> [Option<Term>; 3]
+    ensures { result ≡ first_term atom ∷ second_term atom ∷ third_term atom ∷ [] }
+{
+    match atom {
+        Atom::Eq { a, b } => [Some(a), Some(b), None],
+        Atom::Btwn { x, y, z, .. } => [Some(x), Some(y), Some(z)],
+        Atom::Hop { x, v, .. } => [Some(x), Some(v), None],
+        Atom::Alloc { x, .. } => [Some(x), None, None],
+        Atom::Def { .. } => [None, None, None],
+    }
+}
+
+// Adds the terms of an atom to the mentions.
+pub(crate) fn mention(sizes: Sizes, uses: &mut Uses, atom: Atom)
+    requires range { IsInRange sizes atom }
+    requires terms { uses.old.terms ≡ sizes.terms }
+    requires room { length uses.old.list + 3 ≤ uses.old.room }
+    requires small { length uses.old.list + 3 < 2 ^ 32 }
+    ensures { uses.new ≡ record uses.old { list = uses.old.list ++ first_term atom ∷ second_term atom ∷ third_term atom ∷ [] } }
+{
+    let [first, second, third] = terms_of(atom);
+    uses.push(first);
+    uses.push(second);
+    uses.push(third);
+}
+
+// How often the terms of a class are mentioned.
+fn class_times(sizes: Sizes, partition: &Partition, uses: &Uses, class: Term) -> usize
+    requires terms { partition.now.terms ≡ sizes.terms }
+    requires mentioned { uses.now.terms ≡ sizes.terms }
+    requires few { length uses.now.list < 2 ^ 34 }
+    ensures { result ≡ class_times uses.now.list (rep_of partition.now) class.0 sizes.terms }
+{
+    let mut sum = 0;
+    for t in 0..sizes.terms {
+        if partition.rep(Term(t)).0 == class.0 {
+            sum += uses.times(Term(t)) as usize;
+        }
+    }
+    sum
+}
+
+// Merges the classes of two terms, the one that is mentioned less into the other.
+pub(crate) fn merge_lighter(sizes: Sizes, partition: &mut Partition, uses: &Uses, a: Term, b: Term)
+    requires a { a.0 < sizes.terms }
+    requires b { b.0 < sizes.terms }
+    requires apart { rep_of partition.old a.0 ≢ rep_of partition.old b.0 }
+    requires terms { partition.old.terms ≡ sizes.terms }
+    requires mentioned { uses.now.terms ≡ sizes.terms }
+    requires few { length uses.now.list < 2 ^ 34 }
+    ensures { JoinsLighter uses.now.list partition.old partition.new a b }
+{
+    let first = class_times(sizes, partition, uses, partition.rep(a));
+    let second = class_times(sizes, partition, uses, partition.rep(b));
+    if first <= second {
+        partition.merge(a, b);
+    } else {
+        partition.merge(b, a);
+    }
+}
+
+// Files each literal that mentions a term, up to the first clash.
+fn refile_term(
+    sizes: Sizes,
+    lits: &[Lit],
+    partition: &Partition,
+    signs: &mut Signs,
+    uses: &Uses,
+    term: Term,
+) -> Option<Clash>
+    requires tied { AreTied sizes lits.now partition.now signs.old }
+    requires uses { uses.now.list ≡ all_mentions lits.now }
+    requires term { term.0 < uses.now.terms }
+    ensures tied { AreTied sizes lits.now partition.now signs.new }
+    ensures grows { Grows signs.old signs.new }
+    ensures filed { IfNone result ((i : ℕ) (l : Lit) → slice_get lits.now i ≡ Some l → Mentions l.atom term → IsFiled sizes lits.now partition.now.links signs.new.entries l) }
+    ensures clash { IfSome result (λ c. IsClash (reps partition.now.links) lits.now c) }
+{
+    let mut next = uses.last(term);
+    while next > 0 {
+        let place = next - 1;
+        if let Some(clash) = file(sizes, lits, partition, signs, place / 3) {
+            return Some(clash);
+        }
+        next = uses.before(place, term);
+    }
+    None
+}
+
+// Files each literal that mentions a term which the last merge moved, up to the first clash.
+pub(crate) fn refile_moved(
+    sizes: Sizes,
+    lits: &[Lit],
+    partition: &Partition,
+    signs: &mut Signs,
+    uses: &Uses,
+) -> Option<Clash>
+    requires tied { AreTied sizes lits.now partition.now signs.old }
+    requires uses { uses.now.list ≡ all_mentions lits.now }
+    requires terms { uses.now.terms ≡ sizes.terms }
+    requires merged { 0 < length partition.now.links }
+    ensures tied { AreTied sizes lits.now partition.now signs.new }
+    ensures grows { Grows signs.old signs.new }
+    ensures filed { IfNone result ((i : ℕ) (l : Lit) (t : Term) → slice_get lits.now i ≡ Some l → Mentions l.atom t → t.0 < sizes.terms → IsMoved partition.now.links t → IsFiled sizes lits.now partition.now.links signs.new.entries l) }
+    ensures clash { IfSome result (λ c. IsClash (reps partition.now.links) lits.now c) }
+{
+    for t in 0..sizes.terms {
+        if partition.is_moved(Term(t)) {
+            if let Some(clash) = refile_term(sizes, lits, partition, signs, uses, Term(t)) {
+                return Some(clash);
+            }
+        }
+    }
+    None
+}
