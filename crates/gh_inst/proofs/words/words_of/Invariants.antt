@@ -1,0 +1,13 @@
+use Rattle.std.proofs.Common.{◌≡◌, ◌<◌, ◌+◌, ◌*◌, ℕ, Some, length}
+use Rattle.std.specs.Prelude.{slice_get}
+use Rattle.std.specs.Int.{bit_at}
+use Rattle.gh_base.specs.Structures.{interpretation_of}
+use Rattle.gh_inst.specs.Words.{bit_of, is_between}
+use Rattle.gh_inst.proofs.words.words_of.Given as goal
+
+abbrev pub invariant-loop-place : goal.invariant-loop-place
+invariant-loop-place l = record {
+  long : length l.words ≡ 1024;
+  done : (x y z word : ℕ) → x < l.structure.sizes.terms → y < l.structure.sizes.terms → z < l.structure.sizes.terms → x * 32 + y < l.place → slice_get l.words (x * 32 + y) ≡ Some word
+      → bit_at word z ≡ bit_of (is_between (interpretation_of l.structure) l.version x y z);
+}

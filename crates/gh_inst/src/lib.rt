@@ -1,0 +1,14 @@
+//! The axiom rows and their instances.
+#![tactic(auto)]
+
+pub mod instances;
+pub mod laws;
+pub mod naming;
+pub mod schema;
+mod search;
+mod table;
+#[cfg(test)]
+mod tests;
+mod tuples;
+pub mod violation;
+mod words;

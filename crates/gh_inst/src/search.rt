@@ -1,0 +1,141 @@
+//! The first tuple at which a row is false.
+
+ghost use Rattle.std.specs.Prelude.{◌≡◌, ◌<◌, ◌≤◌, ◌-◌, ◌++◌, ◌↔◌, ℕ, List, IsTrue, All, take, option_map, []};
+ghost use Rattle.gh_base.specs.declared.atom.Term.{Term as GhostTerm};
+ghost use Rattle.gh_base.specs.Meaning.{IsLitTrue};
+ghost use Rattle.gh_base.specs.Structures.{interpretation_of};
+ghost use Rattle.gh_inst.specs.Schemas.{places_of, term_at, lit_over};
+ghost use Rattle.gh_inst.specs.Words.{AreWords};
+ghost use Rattle.gh_inst.specs.Search.{IsAmong, IsSearched, IsRowTrue, tuples_with};
+
+use crate::schema::{Pattern, Shape};
+use crate::words::{is_ruled_out, words_of};
+use gh_base::atom::Term;
+use gh_base::structure::Structure;
+
+impl Pattern {
+    // How many places it uses.
+    fn place_count(self) -> usize
+        ensures { result ≡ places_of self.shape }
+    {
+        match self.shape {
+            Shape::Alloc => 1,
+            Shape::Equal | Shape::Hop => 2,
+            Shape::Btwn => 3,
+        }
+    }
+
+    // Whether its variables are among the first ones.
+    fn is_among(self, first: usize) -> bool
+        ensures { IsTrue result ↔ IsAmong first self }
+    {
+        self.places[..self.place_count()]
+            .iter()
+            .all(|place| (*place as usize) < first)
+    }
+
+    // Whether it is true at some terms.
+    fn is_true(self, structure: &Structure, version: u8, tuple: &[Term; 4]) -> bool
+        requires version { version < structure.now.sizes.versions }
+        requires variables { IsAmong 4 self }
+        requires terms { (k : ℕ) → k < places_of self.shape → (term_at tuple.now self.places k).0 < structure.now.sizes.terms }
+        ensures { IsTrue result ↔ IsLitTrue (interpretation_of structure.now) (lit_over version tuple.now self) }
+    {
+        let lit = self.lit(version, tuple);
+        structure.holds(lit.atom) == lit.positive
+    }
+
+    // Whether its variables are among the first ones, and it is true whatever the others are.
+    fn settles(self, structure: &Structure, version: u8, tuple: &[Term; 4], first: usize) -> bool
+        requires version { version < structure.now.sizes.versions }
+        requires first { first ≤ 4 }
+        requires terms { All (λ t. t.0 < structure.now.sizes.terms) (take first tuple.now) }
+        ensures settled { IsTrue result → (rest : List GhostTerm) → IsLitTrue (interpretation_of structure.now) (lit_over version (take first tuple.now ++ rest) self) }
+        ensures open { ¬ IsTrue result → IsAmong first self → ¬ IsLitTrue (interpretation_of structure.now) (lit_over version (take first tuple.now) self) }
+    {
+        if self.is_among(first) {
+            return self.is_true(structure, version, tuple);
+        }
+        false
+    }
+}
+
+// Whether a literal over the first variables is true, so that the row is, whatever the others are.
+fn is_settled(
+    lits: &[Pattern],
+    structure: &Structure,
+    version: u8,
+    tuple: &[Term; 4],
+    first: usize,
+) -> bool
+    requires version { version < structure.now.sizes.versions }
+    requires first { first ≤ 4 }
+    requires terms { All (λ t. t.0 < structure.now.sizes.terms) (take first tuple.now) }
+    ensures settled { IsTrue result → (rest : List GhostTerm) → IsRowTrue (interpretation_of structure.now) version lits.now (take first tuple.now ++ rest) }
+    ensures open { ¬ IsTrue result → All (IsAmong first) lits.now → ¬ IsRowTrue (interpretation_of structure.now) version lits.now (take first tuple.now) }
+{
+    for pattern in lits {
+        if pattern.settles(structure, version, tuple, first) {
+            return true;
+        }
+    }
+    false
+}
+
+// The first tuple at which a row is false, among those that begin with the first terms of a tuple.
+fn first_from(
+    lits: &[Pattern],
+    variables: usize,
+    structure: &Structure,
+    version: u8,
+    words: &[u32],
+    start: [Term; 4],
+    first: usize,
+) -> Option<[Term; 4]>
+    requires version { version < structure.now.sizes.versions }
+    requires words { AreWords (interpretation_of structure.now) version structure.now.sizes.terms words.now }
+    requires variables { variables ≤ 4 }
+    requires first { first ≤ variables }
+    requires lits { All (IsAmong variables) lits.now }
+    requires terms { All (λ t. t.0 < structure.now.sizes.terms) (take first start) }
+    ensures { IsSearched (IsRowTrue (interpretation_of structure.now) version lits.now) (tuples_with (variables - first) structure.now.sizes.terms (take first start)) (option_map (take variables) result) }
+{
+    if is_settled(lits, structure, version, &start, first) {
+        return None;
+    }
+    if first == variables {
+        return Some(start);
+    }
+    if is_ruled_out(lits, words, &start, first, variables) {
+        return None;
+    }
+    let mut tuple = start;
+    for term in 0..structure.terms() {
+        tuple[first] = Term(term);
+        let found = first_from(lits, variables, structure, version, words, tuple, first + 1);
+        if found.is_some() {
+            return found;
+        }
+    }
+    None
+}
+
+/// The first tuple at which a row is false.
+pub(crate) fn first_tuple(
+    lits: &[Pattern],
+    variables: usize,
+    structure: &Structure,
+    version: u8,
+) -> Option<[Term; 4]>
+    requires version { version < structure.now.sizes.versions }
+    requires variables { variables ≤ 4 }
+    requires lits { All (IsAmong variables) lits.now }
+    ensures { IsSearched (IsRowTrue (interpretation_of structure.now) version lits.now) (tuples_with (variables - 0) structure.now.sizes.terms []) (option_map (take variables) result) }
+{
+    let start = [Term(0); 4];
+    if variables >= 3 && structure.terms() <= 32 {
+        let words = words_of(structure, version);
+        return first_from(lits, variables, structure, version, &words, start, 0);
+    }
+    first_from(lits, variables, structure, version, &[], start, 0)
+}

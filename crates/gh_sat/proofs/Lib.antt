@@ -1,0 +1,10 @@
+pub mod ListLemmas
+pub mod TrailLemmas
+pub mod StatusLemmas
+pub mod WatchLemmas
+pub mod MarkLemmas
+pub mod ResolveLemmas
+pub mod WholeLemmas
+pub mod LearnLemmas
+pub mod TheoryLemmas
+pub mod MeasureLemmas

@@ -1,0 +1,34 @@
+use Rattle.std.proofs.Common.{◌≡◌, ◌≤◌, ◌+◌, ◌∙◌, ◌++◌, ◌∷◌, [], ℕ, zero, suc, List, Some, None, arith, ap, sym, take, take_all, length}
+use Rattle.std.specs.Prelude.{slice_get}
+use Rattle.std.proofs.lemmas.List.{take_more}
+use Rattle.std.proofs.lemmas.Option.{get_or_from_slice_get}
+use Rattle.gh_base.specs.declared.atom.Lit.{Lit}
+use Rattle.gh_sat.specs.Trail.{State}
+use Rattle.gh_sat.specs.Learn.{add_clause}
+use Rattle.gh_sat.proofs.ListLemmas.{get_within}
+use Rattle.gh_sat.proofs.learner.Learner.new.Goals as goal
+
+none_past : {X : Type 0} (xs : List X) (i : ℕ) → slice_get xs i ≡ None → length xs ≤ i
+none_past [] i e = omega arith
+none_past (x ∷ xs) zero e = cc
+none_past (x ∷ xs) (suc i) e = omega (arith, none_past xs i e)
+
+pub loop-clause-preserved : goal.loop-clause-preserved
+loop-clause-preserved c =
+    let cs = c.args.ground.now.clauses in
+    let n = c.loop-clause.number in
+    let cl = c.in-Some.clause.now in
+    let at : slice_get cs n ≡ Some cl = sym c.in-Some.ensures.found in
+    let lt = get_within cs n cl at in
+    let longer : take (n + 1) cs ≡ take n cs ++ cl ∷ [] = take_more cs n cl lt ∙ ap (λ (x : List Lit). take n cs ++ x ∷ []) (get_or_from_slice_get cs n cl cl at) in
+    record {
+      within = omega arith;
+      so_far = c.in_ok-insert.ensures.ok ∙ ap (λ (t : State). add_clause t c.in_ok-copy.field-0) c.loop-clause.invariant.so_far
+          ∙ ap (λ (x : List (List Lit)). let t : State = record { sizes = c.args.ground.now.sizes; clauses = x; trail = []; starts = [] } in t) (ap (λ (x : List Lit). take n cs ++ x ∷ []) c.in_ok-copy.ensures ∙ sym longer);
+    }
+
+pub returns : goal.returns
+returns c =
+    let cs = c.args.ground.now.clauses in
+    let past : length cs ≤ c.loop-clause.number = none_past cs c.loop-clause.number (sym c.in_default.ensures.found) in
+    c.loop-clause.invariant.so_far ∙ ap (λ (x : List (List Lit)). let t : State = record { sizes = c.args.ground.now.sizes; clauses = x; trail = []; starts = [] } in t) (take_all c.loop-clause.number cs past)

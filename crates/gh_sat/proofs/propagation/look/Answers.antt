@@ -1,0 +1,67 @@
+use Rattle.std.proofs.Common.{◌≡◌, ◌∙◌, ◌++◌, ◌∷◌, [], ℕ, List, Some, ap, sym, subst, ◌<◌, length, inr, get_or, refl}
+use Rattle.std.specs.Prelude.{slice_get}
+use Rattle.std.proofs.lemmas.Option.{slice_get_read}
+use Rattle.std.proofs.lemmas.List.Elements.{All-contains}
+use Rattle.gh_base.specs.declared.atom.Lit.{Lit}
+use Rattle.gh_base.specs.Atoms.{opposite}
+use Rattle.gh_sat.specs.declared.trail.Step.{Step}
+use Rattle.gh_sat.specs.Trail.{Line, IsUnitIn, IsFalseIn, IsTrueIn, AreSteps}
+use Rattle.gh_sat.specs.Status.{IsBad, IsForced, Grows}
+use Rattle.gh_sat.proofs.StatusLemmas.{not_free_opposite}
+use Rattle.gh_sat.proofs.WatchLemmas.{grows_one, unit_good, one_unit}
+use Rattle.gh_sat.proofs.propagation.look.Goals as goal
+
+read : (clauses : List (List Lit)) (k : ℕ) (c lits : List Lit) → c ≡ get_or clauses k c → lits ≡ c → k < length clauses → slice_get clauses k ≡ Some lits
+read clauses k c lits e f h = slice_get_read clauses (length clauses) k c (λ _. length clauses) h e ∙ ap Some (sym f)
+
+same : (clauses : List (List Lit)) (k : ℕ) (c d : List Lit) → slice_get clauses k ≡ Some c → slice_get clauses k ≡ Some d → c ≡ d
+same clauses k c d e f = cc
+
+pub returns-in-False-clause-if_false : goal.returns-in-False-clause-if_false
+returns-in-False-clause-if_false c = λ _.
+    (c.lits.result.now, read c.args.clauses.now c.args.k c.index-clauses-k.result c.lits.result.now c.index-clauses-k.is c.lits.ensures c.requires.within, c.in-False.ensures)
+
+pub returns-in-False-clause-unit : goal.returns-in-False-clause-unit
+returns-in-False-clause-unit c = λ d u at i.
+    let is = same c.args.clauses.now c.args.k c.lits.result.now d (read c.args.clauses.now c.args.k c.index-clauses-k.result c.lits.result.now c.index-clauses-k.is c.lits.ensures c.requires.within) at in
+    let f : IsFalseIn c.args.trail.now.steps d = subst (IsFalseIn c.args.trail.now.steps) is c.in-False.ensures in
+    absurd (not_free_opposite c.args.trail.now.steps u (All-contains (λ (m : Lit). IsTrueIn c.args.trail.now.steps (opposite m)) d u f i.there) i.free)
+
+pub returns-in-Unit-clause-grows : goal.returns-in-Unit-clause-grows
+returns-in-Unit-clause-grows c =
+    let t = c.args.trail.now in
+    let x : Step = record { lit = c.in-Unit.lit; level = c.args.level; reason = Some c.args.k } in
+    let f : IsForced c.args.clauses.now c.args.level t.steps x = record {
+      number = c.args.k;
+      clause = c.lits.result.now;
+      at = read c.args.clauses.now c.args.k c.index-clauses-k.result c.lits.result.now c.index-clauses-k.is c.lits.ensures c.requires.within;
+      unit = c.in-Unit.ensures;
+      reason = refl;
+      level = refl;
+    } in
+    subst (λ (n : Line). Grows c.args.clauses.now c.args.level t.steps n.steps) (sym c.put.ensures.put) (grows_one c.args.clauses.now c.args.level t.steps x f)
+
+pub returns-in-Unit-clause-good : goal.returns-in-Unit-clause-good
+returns-in-Unit-clause-good c = λ d at bad.
+    let t = c.args.trail.now in
+    let x : Step = record { lit = c.in-Unit.lit; level = c.args.level; reason = Some c.args.k } in
+    let is = same c.args.clauses.now c.args.k c.lits.result.now d (read c.args.clauses.now c.args.k c.index-clauses-k.result c.lits.result.now c.index-clauses-k.is c.lits.ensures c.requires.within) at in
+    let i : IsUnitIn t.steps d c.in-Unit.lit = subst (λ (e : List Lit). IsUnitIn t.steps e c.in-Unit.lit) is c.in-Unit.ensures in
+    absurd (unit_good t d c.in-Unit.lit x (subst AreSteps c.put.ensures.put c.put.ensures.valid) refl i.there (subst (λ (n : Line). IsBad n.steps d) c.put.ensures.put bad))
+
+pub returns-in-Unit-clause-unit : goal.returns-in-Unit-clause-unit
+returns-in-Unit-clause-unit c = λ d u at i.
+    let t = c.args.trail.now in
+    let is = same c.args.clauses.now c.args.k c.lits.result.now d (read c.args.clauses.now c.args.k c.index-clauses-k.result c.lits.result.now c.index-clauses-k.is c.lits.ensures c.requires.within) at in
+    let mine : IsUnitIn t.steps d c.in-Unit.lit = subst (λ (e : List Lit). IsUnitIn t.steps e c.in-Unit.lit) is c.in-Unit.ensures in
+    ap (λ (n : Line). n.steps) c.put.ensures.put ∙ ap (λ (l : Lit). t.steps ++ (let x : Step = record { lit = l; level = c.args.level; reason = Some c.args.k } in x) ∷ []) (one_unit t d c.in-Unit.lit u mine i)
+
+pub returns-in-Open-clause-good : goal.returns-in-Open-clause-good
+returns-in-Open-clause-good c = λ d at bad.
+    let is = same c.args.clauses.now c.args.k c.lits.result.now d (read c.args.clauses.now c.args.k c.index-clauses-k.result c.lits.result.now c.index-clauses-k.is c.lits.ensures c.requires.within) at in
+    absurd (c.in-Open.ensures (subst (IsBad c.args.trail.now.steps) (sym is) bad))
+
+pub returns-in-Open-clause-unit : goal.returns-in-Open-clause-unit
+returns-in-Open-clause-unit c = λ d u at i.
+    let is = same c.args.clauses.now c.args.k c.lits.result.now d (read c.args.clauses.now c.args.k c.index-clauses-k.result c.lits.result.now c.index-clauses-k.is c.lits.ensures c.requires.within) at in
+    absurd (c.in-Open.ensures (subst (IsBad c.args.trail.now.steps) (sym is) (inr (u, i))))

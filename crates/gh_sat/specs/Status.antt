@@ -1,0 +1,43 @@
+-- What a clause is under a trail, and unit propagation.
+use Rattle.std.specs.Prelude.{◌≡◌, ◌⊎◌, ℕ, List, [], ◌∷◌, ◌++◌, Some, slice_get}
+use Rattle.gh_base.specs.declared.atom.Lit.{Lit}
+use Rattle.gh_sat.specs.declared.trail.Step.{Step}
+use Rattle.gh_sat.specs.declared.status.Status.{Status}
+use Rattle.gh_sat.specs.declared.status.Status.TheVariants.{False, Unit as IsOne, Open}
+use Rattle.gh_sat.specs.Trail.{State, IsFalseIn, IsUnitIn}
+
+-- the clause is false, or unit
+abbrev pub IsBad : List Step → List Lit → Type 0
+IsBad trail clause = IsFalseIn trail clause ⊎ ((u : Lit) × IsUnitIn trail clause u)
+
+abbrev pub IsStatus : List Step → List Lit → Status → Type 0
+IsStatus trail clause False = IsFalseIn trail clause
+IsStatus trail clause (IsOne unit) = IsUnitIn trail clause unit
+IsStatus trail clause Open = IsBad trail clause → ⊥
+
+-- no clause is false or unit
+pub record IsSettled (s : State) : Type 0 where
+  pub no_false : (k : ℕ) (c : List Lit) → slice_get s.clauses k ≡ Some c → IsFalseIn s.trail c → ⊥
+  pub no_unit : (k : ℕ) (c : List Lit) (u : Lit) → slice_get s.clauses k ≡ Some c → IsUnitIn s.trail c u → ⊥
+
+-- the step has the one literal with no truth of a clause whose other literals are false, at this level
+pub record IsForced (clauses : List (List Lit)) (at_level : ℕ) (trail : List Step) (x : Step) : Type 0 where
+  pub number : ℕ
+  pub clause : List Lit
+  pub at : slice_get clauses number ≡ Some clause
+  pub unit : IsUnitIn trail clause x.lit
+  pub reason : x.reason ≡ Some number
+  pub level : x.level ≡ at_level
+
+-- the steps are added one by one, each when it is forced
+abbrev pub AreForced : List (List Lit) → ℕ → List Step → List Step → Type 0
+AreForced clauses level trail [] = Unit {0}
+AreForced clauses level trail (x ∷ xs) = IsForced clauses level trail x × AreForced clauses level (trail ++ x ∷ []) xs
+
+-- steps were only added, each when it was forced
+abbrev pub Grows : List (List Lit) → ℕ → List Step → List Step → Type 0
+Grows clauses level old new = (added : List Step) × (new ≡ old ++ added) × AreForced clauses level old added
+
+-- the clause of this number is false
+abbrev pub IsFalseClause : List (List Lit) → List Step → ℕ → Type 0
+IsFalseClause clauses trail k = (c : List Lit) × (slice_get clauses k ≡ Some c) × IsFalseIn trail c

@@ -1,0 +1,39 @@
+-- A theory beside the clauses.
+use Rattle.std.specs.Prelude.{◌≡◌, ◌≢◌, ◌⊎◌, ℕ, ◌≤◌, List, [], ◌∷◌, ◌++◌, All, Contains, Option, Some, length, take, map, slice_get}
+use Rattle.gh_base.specs.declared.atom.Atom.{Atom}
+use Rattle.gh_base.specs.declared.atom.Lit.{Lit}
+use Rattle.gh_base.specs.Atoms.{opposite}
+use Rattle.gh_sat.specs.declared.trail.Step.{Step}
+use Rattle.gh_sat.specs.Trail.{State, IsFalseIn}
+use Rattle.gh_sat.specs.Status.{Grows}
+
+-- the opposite of each literal stands asserted
+abbrev pub IsRefutedBy : List Lit → List Lit → Type 0
+IsRefutedBy asserted clause = All (λ l. Contains asserted (opposite l)) clause
+
+-- the atom stands in none of the literals
+abbrev pub HasNoLit : List Lit → Atom → Type 0
+HasNoLit lits atom = All (λ l. l.atom ≢ atom) lits
+
+abbrev pub lits_of : List Step → List Lit
+lits_of trail = map (λ (x : Step). x.lit) trail
+
+-- a front of the trail is asserted
+abbrev pub IsTold : List Lit → List Step → Type 0
+IsTold asserted trail = (n : ℕ) × (n ≤ length trail) × (asserted ≡ lits_of (take n trail))
+
+-- no clause of the theory is false
+abbrev pub HasNoConflict : (List Lit → Type 0) → List Step → Type 0
+HasNoConflict valid trail = (c : List Lit) → valid c → IsFalseIn trail c → ⊥
+
+-- nor was one when a level was opened
+abbrev pub WereConsistent : (List Lit → Type 0) → List Step → List ℕ → Type 0
+WereConsistent valid trail starts = (level start : ℕ) → slice_get starts level ≡ Some start → HasNoConflict valid (take start trail)
+
+-- literals were only added to the trail, each when it was the one with no truth of a clause whose others are false, and
+-- at most one clause, of the theory, whose number is the answer
+pub record PropagatesBeside (valid : List Lit → Type 0) (old new : State) (answer : Option ℕ) : Type 0 where
+  pub sizes : new.sizes ≡ old.sizes
+  pub starts : new.starts ≡ old.starts
+  pub grows : Grows old.clauses (length old.starts) old.trail new.trail
+  pub clauses : (new.clauses ≡ old.clauses) ⊎ ((c : List Lit) × valid c × (new.clauses ≡ old.clauses ++ c ∷ []) × (answer ≡ Some (length old.clauses)))

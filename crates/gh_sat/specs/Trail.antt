@@ -1,0 +1,127 @@
+-- The trail of a search: the literals that are true, in the order in which they became so, and the levels that decisions open.
+use Rattle.std.specs.Prelude.{◌≡◌, ◌≢◌, ◌⊎◌, ℕ, zero, suc, ◌+◌, ◌<◌, ◌≤◌, List, [], ◌∷◌, ◌++◌, All, Contains, Bool, true, false, Option, Some, None, length, take, slice_get}
+use Rattle.gh_base.specs.declared.atom.Atom.{Atom}
+use Rattle.gh_base.specs.declared.atom.Lit.{Lit}
+use Rattle.gh_base.specs.declared.sizes.Sizes.{Sizes}
+use Rattle.gh_base.specs.Atoms.{opposite, IsInRange, AreInRange, number_of, count_of}
+use Rattle.gh_base.specs.Assignments.{Partial, value_of}
+use Rattle.gh_sat.specs.declared.trail.Step.{Step}
+
+-- what callers see of a `Trail`
+pub record Line : Type 0 where
+  pub sizes : Sizes
+  pub steps : List Step
+
+-- what callers see of a search: `starts` has the place at which level 1, 2, .. begins
+pub record State : Type 0 where
+  pub sizes : Sizes
+  pub clauses : List (List Lit)
+  pub trail : List Step
+  pub starts : List ℕ
+
+-- the literal is true by a step before place i
+abbrev pub Stands : List Step → ℕ → Lit → Type 0
+Stands trail i l = (j : ℕ) × (x : Step) × (j < i) × (slice_get trail j ≡ Some x) × (x.lit ≡ l)
+
+abbrev pub IsTrueIn : List Step → Lit → Type 0
+IsTrueIn trail l = Stands trail (length trail) l
+
+-- each literal is false
+abbrev pub IsFalseIn : List Step → List Lit → Type 0
+IsFalseIn trail clause = All (λ m. IsTrueIn trail (opposite m)) clause
+
+-- the atom has no truth
+abbrev pub IsFree : List Step → Atom → Type 0
+IsFree trail a = (i : ℕ) (x : Step) → slice_get trail i ≡ Some x → x.lit.atom ≢ a
+
+-- one literal has no truth, and the others are false
+pub record IsUnitIn (trail : List Step) (clause : List Lit) (unit : Lit) : Type 0 where
+  pub there : Contains clause unit
+  pub free : IsFree trail unit.atom
+  pub others : All (λ l. (l ≡ unit) ⊎ IsTrueIn trail (opposite l)) clause
+
+-- the truth of a literal
+abbrev pub IsValue : List Step → Lit → Option Bool → Type 0
+IsValue trail l (Some true) = IsTrueIn trail l
+IsValue trail l (Some false) = IsTrueIn trail (opposite l)
+IsValue trail l None = IsFree trail l.atom
+
+-- each atom is in range and stands once
+pub record AreSteps (t : Line) : Type 0 where
+  pub range : (i : ℕ) (x : Step) → slice_get t.steps i ≡ Some x → IsInRange t.sizes x.lit.atom
+  pub apart : (i : ℕ) (x : Step) (j : ℕ) (y : Step) → slice_get t.steps i ≡ Some x → slice_get t.steps j ≡ Some y → x.lit.atom ≡ y.lit.atom → i ≡ j
+  pub few : length t.steps ≤ count_of t.sizes
+  pub small : count_of t.sizes ≤ 4294967294
+
+-- clause k has the literal, and its other literals are false before place i
+pub record IsReason (clauses : List (List Lit)) (trail : List Step) (i : ℕ) (lit : Lit) (k : ℕ) : Type 0 where
+  pub clause : List Lit
+  pub at : slice_get clauses k ≡ Some clause
+  pub there : Contains clause lit
+  pub others : All (λ m. (m ≡ lit) ⊎ Stands trail i (opposite m)) clause
+
+-- place i is where the level begins
+abbrev pub IsStart : List ℕ → ℕ → ℕ → Type 0
+IsStart starts level i = (below : ℕ) × (level ≡ suc below) × (slice_get starts below ≡ Some i)
+
+abbrev pub IsCaused : List (List Lit) → List Step → List ℕ → ℕ → Lit → ℕ → Option ℕ → Type 0
+IsCaused clauses trail starts i lit level None = IsStart starts level i
+IsCaused clauses trail starts i lit level (Some k) = IsReason clauses trail i lit k
+
+-- what is true of every search
+pub record IsSound (s : State) : Type 0 where
+  pub in_range : All (AreInRange s.sizes) s.clauses
+  pub steps : AreSteps (record { sizes = s.sizes; steps = s.trail })
+  -- a decision opens its level, and each other literal has its reason
+  pub caused : (i : ℕ) (x : Step) → slice_get s.trail i ≡ Some x → IsCaused s.clauses s.trail s.starts i x.lit x.level x.reason
+  pub leveled : (i : ℕ) (x : Step) → slice_get s.trail i ≡ Some x → x.level ≤ length s.starts
+  -- the steps before a level's start are those of lower levels
+  pub split : (i : ℕ) (x : Step) (level start : ℕ) → slice_get s.trail i ≡ Some x → slice_get s.starts level ≡ Some start
+      → (x.level ≤ level → i < start) × (i < start → x.level ≤ level)
+  pub few : length s.starts ≤ length s.trail
+  -- each level has the step that opened it
+  pub starts : (level start : ℕ) → slice_get s.starts level ≡ Some start → (level ≤ start) × (x : Step) × (slice_get s.trail start ≡ Some x) × (x.level ≡ suc level)
+
+abbrev pub unassigned : List (Option Bool) → ℕ
+unassigned [] = 0
+unassigned (None ∷ vs) = suc (unassigned vs)
+unassigned (Some b ∷ vs) = unassigned vs
+
+-- the table of truth is that of the trail
+pub record AreValues (p : Partial) (trail : List Step) : Type 0 where
+  pub range : (i : ℕ) (x : Step) → slice_get trail i ≡ Some x → IsInRange p.sizes x.lit.atom
+  pub on : (i : ℕ) (x : Step) → slice_get trail i ≡ Some x → slice_get p.values (number_of p.sizes x.lit.atom) ≡ Some (Some x.lit.positive)
+  pub back : (l : Lit) → IsInRange p.sizes l.atom → slice_get p.values (number_of p.sizes l.atom) ≡ Some (Some l.positive) → IsTrueIn trail l
+  pub apart : (i : ℕ) (x : Step) (j : ℕ) (y : Step) → slice_get trail i ≡ Some x → slice_get trail j ≡ Some y → x.lit.atom ≡ y.lit.atom → i ≡ j
+  pub count : unassigned p.values + length trail ≡ length p.values
+  pub long : length p.values ≡ count_of p.sizes
+  pub small : count_of p.sizes ≤ 4294967294
+
+-- the table of places by atom is that of the trail
+abbrev pub ArePlaces : Sizes → List ℕ → List Step → Type 0
+ArePlaces s places trail = (i : ℕ) (x : Step) → slice_get trail i ≡ Some x → slice_get places (number_of s x.lit.atom) ≡ Some i
+
+-- the atoms whose numbers stand before the cursor have a truth
+abbrev pub IsPassed : List (Option Bool) → ℕ → Type 0
+IsPassed values cursor = (a : ℕ) → a < cursor → slice_get values a ≢ Some None
+
+-- an assignment that tells the truth of each literal by the trail
+pub record IsAssignmentOf (p : Partial) (t : Line) : Type 0 where
+  pub sizes : p.sizes ≡ t.sizes
+  pub tells : (l : Lit) → IsInRange t.sizes l.atom → IsValue t.steps l (value_of p l)
+
+-- the place at which the levels above this one begin
+abbrev pub end_of : List ℕ → ℕ → ℕ → ℕ
+end_of [] level n = n
+end_of (s ∷ ss) zero n = s
+end_of (s ∷ ss) (suc level) n = end_of ss level n
+
+abbrev pub cut : State → ℕ → State
+cut s level = record s { trail = take (end_of s.starts level (length s.trail)) s.trail; starts = take level s.starts }
+
+abbrev pub push : Line → Step → Line
+push t x = record t { steps = t.steps ++ x ∷ [] }
+
+-- a level more, opened by its decision
+abbrev pub open_level : State → Lit → State
+open_level s lit = record s { trail = s.trail ++ (record { lit = lit; level = length s.starts + 1; reason = None }) ∷ []; starts = s.starts ++ length s.trail ∷ [] }

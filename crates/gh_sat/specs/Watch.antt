@@ -1,0 +1,50 @@
+-- Which clauses are still to be looked at.
+use Rattle.std.specs.Prelude.{◌≡◌, ◌⊎◌, ℕ, ◌+◌, ◌*◌, ◌<◌, ◌≤◌, List, [], Bool, true, false, Some, Contains, length, take, slice_get, slice_index_or}
+use Rattle.gh_base.specs.declared.atom.Lit.{Lit}
+use Rattle.gh_base.specs.declared.sizes.Sizes.{Sizes}
+use Rattle.gh_base.specs.Atoms.{opposite, number_of}
+use Rattle.gh_sat.specs.declared.trail.Step.{Step}
+use Rattle.gh_sat.specs.Trail.{State, IsFalseIn}
+use Rattle.gh_sat.specs.Status.{IsBad}
+
+-- a literal of the clause became false at this place or later
+abbrev pub IsPending : List Step → ℕ → List Lit → Type 0
+IsPending trail head clause = (m : Lit) × Contains clause m × (j : ℕ) × (x : Step) × (head ≤ j) × (slice_get trail j ≡ Some x) × (x.lit ≡ opposite m)
+
+-- a clause that was looked at and is false or unit waits on the trail, or among the numbers that are left
+abbrev pub AreWatched : List (List Lit) → List Step → ℕ → ℕ → List ℕ → Type 0
+AreWatched clauses trail head looked rest =
+    (k : ℕ) (c : List Lit) → k < looked → slice_get clauses k ≡ Some c → IsBad trail c → IsPending trail head c ⊎ Contains rest k
+
+-- the numbers of literals: an atom's negative one, then its positive one
+abbrev pub sign : Bool → ℕ
+sign true = 1
+sign false = 0
+
+abbrev pub code_of : Sizes → Lit → ℕ
+code_of s l = 2 * number_of s l.atom + sign l.positive
+
+-- the numbers of the clauses that may have the literal
+abbrev pub clauses_of : Sizes → List (List ℕ) → Lit → List ℕ
+clauses_of s lists l = slice_index_or lists (code_of s l) []
+
+-- each clause stands in the lists of its literals
+abbrev pub AreListed : Sizes → List (List Lit) → List (List ℕ) → Type 0
+AreListed s clauses lists = (k : ℕ) (c : List Lit) (m : Lit) → slice_get clauses k ≡ Some c → Contains c m → Contains (clauses_of s lists m) k
+
+-- lists only grew
+pub record ListsMore (old new : List (List ℕ)) : Type 0 where
+  pub long : length new ≡ length old
+  pub keeps : (code k : ℕ) → Contains (slice_index_or old code []) k → Contains (slice_index_or new code []) k
+
+-- when a level was opened, so many clauses were there, and none of them was false or unit
+abbrev pub WereSettled : List (List Lit) → List Step → List ℕ → List ℕ → Type 0
+WereSettled clauses trail starts counts =
+    (level start count k : ℕ) (c : List Lit) → slice_get starts level ≡ Some start → slice_get counts level ≡ Some count → k < count → slice_get clauses k ≡ Some c → IsBad (take start trail) c → ⊥
+
+-- the clause wasn't false when a level was opened
+abbrev pub WasOpen : List Step → List ℕ → List Lit → Type 0
+WasOpen trail starts clause = (level start : ℕ) → slice_get starts level ≡ Some start → IsFalseIn (take start trail) clause → ⊥
+
+abbrev pub WereOpen : State → Type 0
+WereOpen s = (k : ℕ) (c : List Lit) → slice_get s.clauses k ≡ Some c → WasOpen s.trail s.starts c

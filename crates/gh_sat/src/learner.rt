@@ -1,0 +1,352 @@
+//! A search over clauses alone.
+
+ghost use Rattle.std.specs.Prelude.{◌≡◌, ◌≢◌, ℕ, ◌+◌, ◌*◌, ◌-◌, ◌<◌, ◌≤◌, ◌∷◌, ◌++◌, [], Bool, List, length, take, All, IfOk, OnOk, OnErr, IfSome, IfNone, IsTrue, MatchOption, Some, None, slice_get, slice_index_or, vec_capacity, option_copied};
+ghost use Rattle.gh_base.specs.declared.atom.Atom.{Atom};
+ghost use Rattle.gh_base.specs.declared.atom.Lit.{Lit};
+ghost use Rattle.gh_base.specs.Atoms.{opposite, IsInRange, AreInRange, count_of};
+ghost use Rattle.gh_sat.specs.declared.trail.Step.{Step};
+ghost use Rattle.gh_sat.specs.Trail.{Line, IsFalseIn, AreSteps};
+ghost use Rattle.gh_sat.specs.Learn.{IsTop};
+
+use crate::marks::{Marks, begin, resolve};
+use crate::occurrences::Occurrences;
+use crate::propagation;
+use crate::trail::{Step, Trail};
+use gh_base::assignment::Assignment;
+use gh_base::atom::Lit;
+use gh_base::clause::Clause;
+use gh_base::ground::Ground;
+use gh_base::sizes::Sizes;
+use std::alloc::{AllocError, Global};
+use std::marker::Model;
+
+/// What was learnt: a clause, the level to cut to, and the literal that is then its one unassigned one.
+#[derive(Debug, Drop)]
+pub struct Learnt {
+    pub clause: Clause,
+    pub level: u32,
+    pub unit: Lit,
+}
+
+/// The clauses, the trail with its levels, and what propagation and conflict analysis keep.
+#[derive(Drop)]
+pub(crate) struct Learner {
+    clauses: Vec<Clause>,
+    trail: Trail,
+    // The place at which level 1, 2, .. begins, and the number of clauses when it was opened.
+    starts: Vec<u32>,
+    counts: Vec<u32>,
+    // So many clauses were looked at, and the trail is propagated up to this place.
+    looked: u32,
+    head: u32,
+    occurrences: Occurrences,
+    marks: Marks,
+}
+
+impl Model for Learner {
+    ghost use Rattle.std.specs.Prelude.{◌≡◌, ◌≤◌, length, vec_capacity};
+    ghost use Rattle.gh_base.specs.Atoms.{count_of};
+    ghost use Rattle.gh_sat.specs.Trail.{State};
+    ghost use Rattle.gh_sat.specs.Learn.{marks_of, IsBounded};
+    ghost use Rattle.gh_sat.specs.Whole.{IsWhole};
+
+    ghost Value = { State };
+
+    ghost view = { λ s. record { sizes = s.trail.sizes; clauses = s.clauses.items; trail = s.trail.steps; starts = s.starts.items } };
+
+    ghost invariant = { λ s.
+        IsWhole (record { sizes = s.trail.sizes; clauses = s.clauses.items; trail = s.trail.steps; starts = s.starts.items }) s.counts.items s.looked s.head s.occurrences
+        × (count_of s.trail.sizes ≤ vec_capacity s.starts)
+        × (count_of s.trail.sizes ≤ vec_capacity s.counts)
+        × IsBounded (marks_of s.marks)
+        × (length s.marks.stamps.items ≡ count_of s.trail.sizes) };
+}
+
+// The greatest level of a clause's literals, if each of them is false.
+fn top_of(trail: &Trail, clause: &[Lit]) -> Option<u32>
+    requires range { AreInRange trail.now.sizes clause.now }
+    requires valid { AreSteps trail.now }
+    ensures is_false { IfSome result (λ top. IsFalseIn trail.now.steps clause.now) }
+    ensures top { IfSome result (λ top. IsTop trail.now.steps clause.now top) }
+    ensures none { IfNone result (IsFalseIn trail.now.steps clause.now → ⊥) }
+{
+    let mut top: u32 = 0;
+    for lit in clause {
+        match trail.value(*lit) {
+            None => return None,
+            Some(true) => return None,
+            Some(false) => {}
+        }
+        let place = trail.place(lit.atom) as usize;
+        top = top.max(trail.steps()[place].level);
+    }
+    Some(top)
+}
+
+// Where a level began, and how many clauses there were.
+#[derive(Clone, Copy)]
+struct Opening {
+    start: u32,
+    count: u32,
+}
+
+// Cuts a trail to a level below the present one.
+fn cut_to(trail: &mut Trail, starts: &mut Vec<u32>, counts: &mut Vec<u32>, level: u32) -> Opening
+    requires low { level < length starts.old.items }
+    requires counted { length counts.old.items ≡ length starts.old.items }
+    ensures start { slice_get starts.old.items level ≡ Some result.start }
+    ensures count { slice_get counts.old.items level ≡ Some result.count }
+    ensures sizes { trail.new.sizes ≡ trail.old.sizes }
+    ensures steps { trail.new.steps ≡ take result.start trail.old.steps }
+    ensures starts { starts.new.items ≡ take level starts.old.items }
+    ensures counts { counts.new.items ≡ take level counts.old.items }
+    ensures starts_room { vec_capacity starts.new ≡ vec_capacity starts.old }
+    ensures counts_room { vec_capacity counts.new ≡ vec_capacity counts.old }
+{
+    let start = starts[level as usize];
+    let count = counts[level as usize];
+    trail.erase(start as usize);
+    starts.truncate(level as usize);
+    counts.truncate(level as usize);
+    Opening { start, count }
+}
+
+impl Learner {
+    ghost use Rattle.gh_base.specs.Grounds.{Problem};
+    ghost use Rattle.gh_sat.specs.Trail.{State, IsFree, IsAssignmentOf, IsSound, cut, open_level};
+    ghost use Rattle.gh_sat.specs.Status.{IsSettled};
+    ghost use Rattle.gh_sat.specs.Watch.{WasOpen};
+    ghost use Rattle.gh_sat.specs.Learn.{IsConflict, IsLearnt, add_clause};
+    ghost use Rattle.gh_sat.specs.Whole.{PropagatesTo, GivesLast, Adds};
+
+    // A search with no clause.
+    fn empty(alloc: Global, sizes: Sizes) -> Result<Learner, AllocError>
+        ensures { IfOk result (λ s. s ≡ record { sizes = sizes; clauses = []; trail = []; starts = [] }) }
+    {
+        let trail = Trail::new(alloc, sizes)?;
+        let atoms = trail.sizes().count();
+        Ok(Learner {
+            clauses: Vec::new(alloc),
+            trail,
+            starts: Vec::with_capacity(alloc, atoms)?,
+            counts: Vec::with_capacity(alloc, atoms)?,
+            looked: 0,
+            head: 0,
+            occurrences: Occurrences::new(alloc, atoms)?,
+            marks: Marks {
+                stamps: vec![in alloc; 0; atoms]?,
+                round: 0,
+                lower: Vec::new(alloc),
+                level: 0,
+                start: 0,
+                end: 0,
+                waiting: 0,
+            },
+        })
+    }
+
+    /// A search over some clauses, with nothing on its trail.
+    pub fn new(alloc: Global, ground: &Ground) -> Result<Learner, AllocError>
+        ensures { IfOk result (λ s. s ≡ record { sizes = ground.now.sizes; clauses = ground.now.clauses; trail = []; starts = [] }) }
+    {
+        let mut learner = Learner::empty(alloc, ground.sizes())?;
+        let mut number = 0;
+        while let Some(clause) = ground.clause(number) {
+            learner.insert(clause.copy(alloc)?)?;
+            number += 1;
+        }
+        Ok(learner)
+    }
+
+    /// Adds a clause last that wasn't false when a level was opened.
+    pub fn insert(&mut self, clause: Clause) -> Result<(), AllocError>
+        requires range { AreInRange self.old.sizes clause }
+        requires was_open { WasOpen self.old.trail self.old.starts clause }
+        ensures ok { OnOk result (self.new ≡ add_clause self.old clause) }
+        ensures err { OnErr result (self.new ≡ self.old) }
+    {
+        if self.clauses.len() >= 4294967294 {
+            return Err(AllocError);
+        }
+        let number = self.clauses.len() as u32;
+        self.occurrences
+            .note(self.trail.sizes(), clause.lits(), number)?;
+        self.clauses.push(clause)?;
+        Ok(())
+    }
+
+    /// Adds a clause last. Where it is false under the trail, that is cut to the greatest level of its literals.
+    pub fn add(&mut self, clause: Clause) -> Result<(), AllocError>
+        requires { AreInRange self.old.sizes clause }
+        ensures ok { OnOk result (Adds self.old clause self.new) }
+        ensures err { OnErr result (self.new ≡ self.old) }
+    {
+        match top_of(&self.trail, clause.lits()) {
+            None => self.insert(clause),
+            Some(top) if (top as usize) < self.starts.len() => self.insert_under(clause, top),
+            Some(_) => self.insert(clause),
+        }
+    }
+
+    // Adds a false clause last, and cuts the trail to the greatest level of its literals, which is below the present one.
+    fn insert_under(&mut self, clause: Clause, top: u32) -> Result<(), AllocError>
+        requires range { AreInRange self.old.sizes clause }
+        requires top { IsTop self.old.trail clause top }
+        requires low { top < length self.old.starts }
+        ensures ok { OnOk result (self.new ≡ add_clause (cut self.old top) clause) }
+        ensures err { OnErr result (self.new ≡ self.old) }
+    {
+        if self.clauses.len() >= 4294967294 {
+            return Err(AllocError);
+        }
+        let number = self.clauses.len() as u32;
+        self.occurrences
+            .note(self.trail.sizes(), clause.lits(), number)?;
+        self.clauses.push(clause)?;
+        let (starts, counts) = (&mut self.starts, &mut self.counts);
+        let point = cut_to(&mut self.trail, starts, counts, top);
+        self.head = point.start;
+        self.looked = point.count;
+        Ok(())
+    }
+
+    /// The present level.
+    pub fn level(&self) -> u32
+        ensures { result ≡ length self.now.starts }
+    {
+        self.starts.len() as u32
+    }
+
+    /// How many clauses there are.
+    pub fn count(&self) -> u32
+        ensures { result ≡ length self.now.clauses }
+    {
+        self.clauses.len() as u32
+    }
+
+    /// Takes the steps from a place on, which stands in the present level, off the trail.
+    pub fn retract(&mut self, place: usize)
+        requires within { place ≤ length self.old.trail }
+        requires present { (level start : ℕ) → slice_get self.old.starts level ≡ Some start → start < place }
+        requires levels { length self.old.starts ≤ place }
+        ensures { self.new ≡ record self.old { trail = take place self.old.trail } }
+    {
+        self.trail.erase(place);
+        self.looked = 0;
+        self.head = place as u32;
+    }
+
+    /// The trail.
+    pub fn steps(&self) -> &[Step]
+        ensures steps { result.now ≡ self.now.trail }
+        ensures sound { IsSound self.now }
+    {
+        self.trail.steps()
+    }
+
+    /// The numbers of terms, versions and definitions.
+    pub fn sizes(&self) -> Sizes
+        ensures { result ≡ self.now.sizes }
+    {
+        self.trail.sizes()
+    }
+
+    /// The truth of each literal.
+    pub fn assignment(&self) -> &Assignment
+        ensures { IsAssignmentOf result.now (record { sizes = self.now.sizes; steps = self.now.trail }) }
+    {
+        self.trail.assignment()
+    }
+
+    /// The clause of a number.
+    pub fn clause(&self, k: u32) -> Option<&Clause>
+        ensures { option_copied result ≡ slice_get self.now.clauses k }
+    {
+        self.clauses.get(k as usize)
+    }
+
+    /// Adds what follows by units to the trail, up to a clause that is false.
+    pub fn propagate(&mut self) -> Option<u32>
+        ensures moves { PropagatesTo self.old self.new }
+        ensures last { GivesLast self.old self.new.trail }
+        ensures conflict { IfSome result (λ k. IsConflict self.new k) }
+        ensures settled { IfNone result (IsSettled self.new) }
+        ensures sound { IsSound self.new }
+    {
+        let level = self.starts.len() as u32;
+        propagation::propagate(
+            self.clauses.as_slice(),
+            &mut self.trail,
+            &self.occurrences,
+            &mut self.looked,
+            &mut self.head,
+            level,
+        )
+    }
+
+    /// Opens a level with the first atom that has no truth, made false, if there is one.
+    pub fn decide(&mut self) -> Option<Lit>
+        requires { IsSettled self.old }
+        ensures none { IfNone result ((self.new ≡ self.old) × ((a : Atom) → IsInRange self.old.sizes a → IsFree self.old.trail a → ⊥)) }
+        ensures some { IfSome result (λ lit. IsInRange self.old.sizes lit.atom × IsFree self.old.trail lit.atom × (self.new ≡ open_level self.old lit)) }
+        ensures sound { IsSound self.new }
+    {
+        let atom = self.trail.next_free()?;
+        let lit = Lit {
+            atom,
+            positive: false,
+        };
+        let start = self.trail.steps().len() as u32;
+        let level = self.starts.len() as u32 + 1;
+        self.trail.put(Step {
+            lit,
+            level,
+            reason: None,
+        });
+        self.starts.push_reserved(start);
+        self.counts.push_reserved(self.clauses.len() as u32);
+        Some(lit)
+    }
+
+    /// Cuts the trail to a level.
+    pub fn backjump(&mut self, level: u32)
+        requires { level ≤ length self.old.starts }
+        ensures { self.new ≡ cut self.old level }
+    {
+        if (level as usize) < self.starts.len() {
+            let (starts, counts) = (&mut self.starts, &mut self.counts);
+            let point = cut_to(&mut self.trail, starts, counts, level);
+            self.head = point.start;
+            self.looked = point.count;
+        }
+    }
+
+    /// Adds the clause of the first unique implication point of a false clause.
+    pub fn learn(&mut self, alloc: Global, conflict: u32) -> Result<Learnt, AllocError>
+        requires conflict { IsConflict self.old conflict }
+        requires level { 0 < length self.old.starts }
+        ensures learnt { IfOk result (λ l. IsLearnt self.old conflict l.clause l.level l.unit) }
+        ensures added { IfOk result (λ l. self.new ≡ add_clause self.old l.clause) }
+        ensures err { OnErr result (self.new ≡ self.old) }
+    {
+        let start = self.starts[self.starts.len() - 1] as usize;
+        begin(&mut self.marks, start, self.trail.steps().len());
+        let place = resolve(
+            &mut self.marks,
+            &self.trail,
+            self.clauses.as_slice(),
+            self.clauses[conflict as usize].lits(),
+        )?;
+        let unit = self.trail.steps()[place].lit.negated();
+        self.marks.lower.push(unit)?;
+        let level = self.marks.level;
+        let clause = Clause::from_lits(alloc, self.marks.lower.as_slice())?;
+        let added = clause.copy(alloc)?;
+        self.insert(added)?;
+        Ok(Learnt {
+            clause,
+            level,
+            unit,
+        })
+    }
+}

@@ -1,0 +1,14 @@
+//! Clause learning: a search over ground clauses beside a theory.
+#![tactic(auto)]
+
+pub mod learner;
+mod marks;
+pub mod measure;
+mod occurrences;
+mod propagation;
+pub mod search;
+mod status;
+#[cfg(test)]
+mod tests;
+pub mod theory;
+pub mod trail;

@@ -1,0 +1,28 @@
+//! Why a search ends.
+
+ghost use Rattle.gh_sat.specs.Measure.{StepsLeadFurther, UnitsAreAssigned, JumpsLeadFurther, StepsLeaveLess, JumpsLeaveLess};
+
+/// Decisions and propagated literals raise the measure.
+pub fn steps_lead_further()
+    ensures { StepsLeadFurther }
+{}
+
+/// A learnt unit is assigned at its level when propagation answers after the cut to that level.
+pub fn units_are_assigned()
+    ensures { UnitsAreAssigned }
+{}
+
+/// The measure is then greater than it was before the cut.
+pub fn jumps_lead_further()
+    ensures { JumpsLeadFurther }
+{}
+
+/// A number that falls where literals are added, for loops to end by.
+pub fn steps_leave_less()
+    ensures { StepsLeaveLess }
+{}
+
+/// It falls with a learnt unit too.
+pub fn jumps_leave_less()
+    ensures { JumpsLeaveLess }
+{}

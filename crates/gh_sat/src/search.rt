@@ -1,0 +1,209 @@
+//! A search over clauses beside a theory.
+
+ghost use Rattle.std.specs.Prelude.{◌≡◌, ◌⊎◌, ℕ, ◌≤◌, ◌<◌, List, [], ◌∷◌, ◌++◌, length, IfOk, OnOk, OnErr, IfSome, IfNone, Some, option_copied, slice_get};
+ghost use Rattle.gh_base.specs.declared.atom.Atom.{Atom};
+ghost use Rattle.gh_base.specs.declared.atom.Lit.{Lit};
+ghost use Rattle.gh_base.specs.Atoms.{IsInRange, AreInRange};
+ghost use Rattle.gh_sat.specs.Trail.{State, IsFree, IsFalseIn, IsAssignmentOf, IsSound, cut, open_level};
+ghost use Rattle.gh_sat.specs.Status.{IsSettled};
+ghost use Rattle.gh_sat.specs.Learn.{IsConflict, IsLearnt, add_clause};
+ghost use Rattle.gh_sat.specs.Whole.{GivesLast, Adds};
+ghost use Rattle.gh_sat.specs.Theory.{lits_of, IsTold, HasNoConflict, WereConsistent, PropagatesBeside};
+
+use crate::learner::{Learner, Learnt};
+use crate::theory::Theory;
+use crate::trail::Step;
+use gh_base::assignment::Assignment;
+use gh_base::atom::Lit;
+use gh_base::clause::Clause;
+use gh_base::ground::Ground;
+use std::alloc::{AllocError, Global};
+use std::marker::Model;
+
+/// Clauses, a trail with its levels, and a theory that knows a front of the trail.
+#[derive(Drop)]
+pub struct Search<T: Theory> {
+    learner: Learner,
+    theory: T,
+}
+
+impl<T: Theory> Model for Search<T> {
+    ghost use Rattle.std.specs.Prelude.{◌≡◌};
+    ghost use Rattle.gh_sat.specs.Trail.{State};
+    ghost use Rattle.gh_sat.specs.Theory.{IsTold, WereConsistent};
+
+    ghost Value = { State };
+
+    ghost view = { λ s. s.learner };
+
+    ghost invariant = { λ s.
+        IsTold (T.asserted s.theory) s.learner.trail
+        × (T.sizes s.theory ≡ s.learner.sizes)
+        × WereConsistent (T.valid s.learner.sizes) s.learner.trail s.learner.starts };
+}
+
+// Asserts what the theory doesn't know yet of the trail.
+fn tell<T: Theory>(learner: &Learner, theory: &mut T)
+    requires told { IsTold (T.asserted theory.old) learner.now.trail }
+    requires sizes { T.sizes theory.old ≡ learner.now.sizes }
+    ensures told { T.asserted theory.new ≡ lits_of learner.now.trail }
+    ensures sizes { T.sizes theory.new ≡ learner.now.sizes }
+    ensures sound { IsSound learner.now }
+{
+    let steps = learner.steps();
+    let mut place = theory.mark() as usize;
+    while place < steps.len() {
+        theory.assert(steps[place].lit);
+        place += 1;
+    }
+}
+
+// Adds a conflict of the theory as a clause, if there is one, and answers its number.
+fn refute<T: Theory>(
+    alloc: Global,
+    learner: &mut Learner,
+    theory: &T,
+) -> Result<Option<u32>, AllocError>
+    requires told { T.asserted theory.now ≡ lits_of learner.old.trail }
+    requires sizes { T.sizes theory.now ≡ learner.old.sizes }
+    requires sound { IsSound learner.old }
+    requires consistent { WereConsistent (T.valid learner.old.sizes) learner.old.trail learner.old.starts }
+    ensures number { IfOk result (λ o. IfSome o (λ k. k ≡ length learner.old.clauses)) }
+    ensures added { IfOk result (λ o. IfSome o (λ _. (c : List Lit) × T.valid learner.old.sizes c × (learner.new ≡ add_clause learner.old c))) }
+    ensures conflict { IfOk result (λ o. IfSome o (λ k. IsConflict learner.new k)) }
+    ensures none { IfOk result (λ o. IfNone o (HasNoConflict (T.valid learner.old.sizes) learner.old.trail)) }
+    ensures same { IfOk result (λ o. IfNone o (learner.new ≡ learner.old)) }
+    ensures sound { OnOk result (IsSound learner.new) }
+    ensures err { OnErr result (learner.new ≡ learner.old) }
+{
+    match theory.conflict(alloc)? {
+        None => Ok(None),
+        Some(clause) => {
+            let number = learner.count();
+            learner.insert(clause)?;
+            Ok(Some(number))
+        }
+    }
+}
+
+impl<T: Theory> Search<T> {
+    /// A search over the clauses of a ground problem, with nothing on its trail.
+    pub fn new(alloc: Global, ground: &Ground, theory: T) -> Result<Search<T>, AllocError>
+        requires none { T.asserted theory ≡ [] }
+        requires sizes { T.sizes theory ≡ ground.now.sizes }
+        ensures { IfOk result (λ s. s ≡ record { sizes = ground.now.sizes; clauses = ground.now.clauses; trail = []; starts = [] }) }
+    {
+        let learner = Learner::new(alloc, ground)?;
+        Ok(Search { learner, theory })
+    }
+
+    /// The present level.
+    pub fn level(&self) -> u32
+        ensures { result ≡ length self.now.starts }
+    {
+        self.learner.level()
+    }
+
+    /// The truth of each literal.
+    pub fn assignment(&self) -> &Assignment
+        ensures { IsAssignmentOf result.now (record { sizes = self.now.sizes; steps = self.now.trail }) }
+    {
+        self.learner.assignment()
+    }
+
+    /// The trail.
+    pub fn steps(&self) -> &[Step]
+        ensures steps { result.now ≡ self.now.trail }
+        ensures sound { IsSound self.now }
+    {
+        self.learner.steps()
+    }
+
+    /// How many clauses there are.
+    pub fn count(&self) -> u32
+        ensures { result ≡ length self.now.clauses }
+    {
+        self.learner.count()
+    }
+
+    /// The clause of a number: those of the ground problem first, then the added ones in their order.
+    pub fn clause(&self, k: u32) -> Option<&Clause>
+        ensures { option_copied result ≡ slice_get self.now.clauses k }
+    {
+        self.learner.clause(k)
+    }
+
+    /// Adds what follows by units to the trail, up to a clause that is false; where there is none, asks the theory. An
+    /// error leaves the search as it was.
+    pub fn propagate(&mut self, alloc: Global) -> Result<Option<u32>, AllocError>
+        ensures moves { IfOk result (λ o. PropagatesBeside (T.valid self.old.sizes) self.old self.new o) }
+        ensures last { OnOk result (GivesLast self.old self.new.trail) }
+        ensures conflict { IfOk result (λ o. IfSome o (λ k. IsConflict self.new k)) }
+        ensures settled { IfOk result (λ o. IfNone o (IsSettled self.new)) }
+        ensures consistent { IfOk result (λ o. IfNone o (HasNoConflict (T.valid self.new.sizes) self.new.trail)) }
+        ensures sound { OnOk result (IsSound self.new) }
+        ensures err { OnErr result (self.new ≡ self.old) }
+    {
+        let before = self.learner.steps().len();
+        let conflict = self.learner.propagate();
+        if conflict.is_some() {
+            return Ok(conflict);
+        }
+        tell(&self.learner, &mut self.theory);
+        match refute(alloc, &mut self.learner, &self.theory) {
+            Ok(answer) => Ok(answer),
+            Err(error) => {
+                self.learner.retract(before);
+                self.theory.undo_to(before as u32);
+                Err(error)
+            }
+        }
+    }
+
+    /// Opens a level with an unassigned atom, if there is one.
+    pub fn decide(&mut self) -> Option<Lit>
+        requires settled { IsSettled self.old }
+        requires consistent { HasNoConflict (T.valid self.old.sizes) self.old.trail }
+        ensures none { IfNone result ((self.new ≡ self.old) × ((a : Atom) → IsInRange self.old.sizes a → IsFree self.old.trail a → ⊥)) }
+        ensures some { IfSome result (λ lit. IsInRange self.old.sizes lit.atom × IsFree self.old.trail lit.atom × (self.new ≡ open_level self.old lit)) }
+    {
+        self.learner.decide()
+    }
+
+    /// Adds the clause of the first unique implication point of a false clause.
+    pub fn learn(&mut self, alloc: Global, k: u32) -> Result<Learnt, AllocError>
+        requires conflict { IsConflict self.old k }
+        requires level { 0 < length self.old.starts }
+        ensures learnt { IfOk result (λ l. IsLearnt self.old k l.clause l.level l.unit) }
+        ensures added { IfOk result (λ l. self.new ≡ add_clause self.old l.clause) }
+        ensures err { OnErr result (self.new ≡ self.old) }
+    {
+        self.learner.learn(alloc, k)
+    }
+
+    /// Cuts the trail to a level.
+    pub fn backjump(&mut self, level: u32)
+        requires { level ≤ length self.old.starts }
+        ensures { self.new ≡ cut self.old level }
+    {
+        self.learner.backjump(level);
+        let length = self.learner.steps().len() as u32;
+        if self.theory.mark() > length {
+            self.theory.undo_to(length);
+        }
+    }
+
+    /// Adds a clause last. Where it is false under the trail, that is cut to the greatest level of its literals.
+    pub fn add(&mut self, clause: Clause) -> Result<(), AllocError>
+        requires { AreInRange self.old.sizes clause }
+        ensures ok { OnOk result (Adds self.old clause self.new) }
+        ensures err { OnErr result (self.new ≡ self.old) }
+    {
+        self.learner.add(clause)?;
+        let length = self.learner.steps().len() as u32;
+        if self.theory.mark() > length {
+            self.theory.undo_to(length);
+        }
+        Ok(())
+    }
+}

@@ -1,0 +1,186 @@
+//! The trail: the literals that are true, in the order in which they became so.
+
+ghost use Rattle.std.specs.Prelude.{◌≡◌, ◌≢◌, ◌<◌, ◌≤◌, ℕ, IfOk, IfSome, IfNone, Some, None, [], length, take, slice_get, vec_capacity};
+ghost use Rattle.gh_base.specs.Atoms.{IsInRange, count_of, number_of};
+ghost use Rattle.gh_sat.specs.Trail.{IsPassed};
+
+use gh_base::assignment::Assignment;
+use gh_base::atom::{Atom, Lit};
+use gh_base::sizes::Sizes;
+use std::alloc::{AllocError, Global};
+use std::marker::Model;
+
+/// A literal of the trail, with its level and, where it was propagated, the number of the clause that made it true.
+#[derive(Clone, Copy, Debug, PartialEq, Eq)]
+pub struct Step {
+    pub lit: Lit,
+    pub level: u32,
+    pub reason: Option<u32>,
+}
+
+/// The steps, and tables by the numbers of atoms that tell each literal's truth and place. Room for all atoms is
+/// taken when it is made.
+#[derive(Drop)]
+pub(crate) struct Trail {
+    values: Assignment,
+    places: Vec<u32>,
+    steps: Vec<Step>,
+    // Each atom with a lower number has a truth.
+    cursor: u32,
+}
+
+impl Model for Trail {
+    ghost use Rattle.std.specs.Prelude.{◌≡◌, ◌≤◌, length, vec_capacity};
+    ghost use Rattle.gh_base.specs.Atoms.{count_of};
+    ghost use Rattle.gh_sat.specs.Trail.{Line, AreValues, ArePlaces, IsPassed};
+
+    ghost Value = { Line };
+
+    ghost view = { λ t. record { sizes = t.values.sizes; steps = t.steps.items } };
+
+    ghost invariant = { λ t.
+        AreValues t.values t.steps.items
+        × ArePlaces t.values.sizes t.places.items t.steps.items
+        × IsPassed t.values.values t.cursor
+        × (t.cursor ≤ count_of t.values.sizes)
+        × (length t.places.items ≡ count_of t.values.sizes)
+        × (count_of t.values.sizes ≤ vec_capacity t.steps) };
+}
+
+// The first number from this one on whose atom has no truth, or the number of all atoms.
+fn free_from(values: &Assignment, from: u32) -> u32
+    requires range { from ≤ count_of values.now.sizes }
+    ensures range { result ≤ count_of values.now.sizes }
+    ensures passed { IsPassed values.now.values from → IsPassed values.now.values result }
+    ensures free { result < count_of values.now.sizes → slice_get values.now.values result ≡ Some None }
+{
+    let sizes = values.sizes();
+    let mut number = from;
+    while (number as usize) < sizes.count() {
+        let atom = sizes.atom(number as usize);
+        let lit = Lit {
+            atom,
+            positive: true,
+        };
+        if values.value(lit).is_none() {
+            return number;
+        }
+        number += 1;
+    }
+    number
+}
+
+impl Trail {
+    ghost use Rattle.gh_base.specs.declared.atom.Atom.{Atom};
+    ghost use Rattle.gh_sat.specs.declared.trail.Step.{Step};
+    ghost use Rattle.gh_sat.specs.Trail.{Line, IsFree, IsValue, AreSteps, IsAssignmentOf, push};
+
+    /// A trail with no step.
+    pub fn new(alloc: Global, sizes: Sizes) -> Result<Trail, AllocError>
+        ensures { IfOk result (λ t. t ≡ record { sizes = sizes; steps = [] }) }
+    {
+        let values = Assignment::new(alloc, sizes.terms, sizes.versions, sizes.defs)?;
+        let count = values.sizes().count();
+        Ok(Trail {
+            values,
+            places: vec![in alloc; 0; count]?,
+            steps: Vec::with_capacity(alloc, count)?,
+            cursor: 0,
+        })
+    }
+
+    /// The numbers of terms, versions and definitions.
+    pub fn sizes(&self) -> Sizes
+        ensures sizes { result ≡ self.now.sizes }
+        ensures valid { AreSteps self.now }
+    {
+        self.values.sizes()
+    }
+
+    /// The steps.
+    pub fn steps(&self) -> &[Step]
+        ensures steps { result.now ≡ self.now.steps }
+        ensures valid { AreSteps self.now }
+    {
+        self.steps.as_slice()
+    }
+
+    /// The truth of each literal.
+    pub fn assignment(&self) -> &Assignment
+        ensures { IsAssignmentOf result.now self.now }
+    {
+        &self.values
+    }
+
+    /// The truth of a literal.
+    pub fn value(&self, lit: Lit) -> Option<bool>
+        requires { IsInRange self.now.sizes lit.atom }
+        ensures value { IsValue self.now.steps lit result }
+        ensures valid { AreSteps self.now }
+    {
+        self.values.value(lit)
+    }
+
+    /// The place at which an atom stands, if it does.
+    pub fn place(&self, atom: Atom) -> u32
+        requires { IsInRange self.now.sizes atom }
+        ensures { (i : ℕ) (x : Step) → slice_get self.now.steps i ≡ Some x → x.lit.atom ≡ atom → result ≡ i }
+    {
+        self.places[self.values.sizes().number(atom)]
+    }
+
+    /// Makes a literal true.
+    pub fn put(&mut self, step: Step)
+        requires range { IsInRange self.old.sizes step.lit.atom }
+        requires free { IsFree self.old.steps step.lit.atom }
+        ensures put { self.new ≡ push self.old step }
+        ensures valid { AreSteps self.new }
+    {
+        let number = self.values.sizes().number(step.lit.atom);
+        self.places[number] = self.steps.len() as u32;
+        self.steps.push_reserved(step);
+        self.values.set(step.lit);
+    }
+
+    // Takes the last step off.
+    fn pop(&mut self)
+        requires { 0 < length self.old.steps }
+        ensures { (x : Step) × (self.old ≡ push self.new x) }
+    {
+        let Some(step) = self.steps.pop() else {
+            return;
+        };
+        let number = self.values.sizes().number(step.lit.atom) as u32;
+        self.values.clear(step.lit.atom);
+        if number < self.cursor {
+            self.cursor = number;
+        }
+    }
+
+    /// Leaves the steps before a place.
+    pub fn erase(&mut self, start: usize)
+        ensures sizes { self.new.sizes ≡ self.old.sizes }
+        ensures steps { self.new.steps ≡ take start self.old.steps }
+        ensures valid { AreSteps self.new }
+    {
+        while self.steps.len() > start {
+            self.pop();
+        }
+    }
+
+    /// The first atom with no truth, in the order of their numbers, if there is one.
+    pub fn next_free(&mut self) -> Option<Atom>
+        ensures same { self.new ≡ self.old }
+        ensures some { IfSome result (λ a. IsInRange self.old.sizes a × IsFree self.old.steps a) }
+        ensures none { IfNone result ((a : Atom) → IsInRange self.old.sizes a → IsFree self.old.steps a → ⊥) }
+    {
+        let number = free_from(&self.values, self.cursor);
+        self.cursor = number;
+        let sizes = self.values.sizes();
+        if (number as usize) < sizes.count() {
+            Some(sizes.atom(number as usize))
+        } else {
+            None
+        }
+    }
+}
