@@ -10,3 +10,4 @@ pub mod TraceLemmas
 pub mod CountLemmas
 pub mod JudgeLemmas
 pub mod DrawnLemmas
+pub mod ListingLemmas

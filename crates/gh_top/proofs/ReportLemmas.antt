@@ -8,11 +8,11 @@ use Rattle.gh_ast.specs.Programs.{body_of}
 use Rattle.gh_path.specs.Conditions.{Condition, conditions, from_procedures}
 use Rattle.gh_trace.specs.Validity.{IsConditionValid}
 use Rattle.gh_top.specs.Copies.{IsOfCopies, IsValidProcedure, RefutesProcedure, only_condition, trace_of, IsOfTyped}
-use Rattle.gh_top.specs.Refusals.{Refusal, IsRefused, IsAccepted, refusal_text, refused_at}
+use Rattle.gh_top.specs.Refusals.{IsAccepted, refused_at}
 use Rattle.std.specs.Prelude.{codes}
 use Rattle.std.specs.Fmt.{decimal}
 use Rattle.gh_draw.specs.Drawings.{line}
-use Rattle.gh_top.specs.Reports.{IsCheck, refused, not_built, verified, refuted, IsNotOfCopies, refuted_text, IsReached, IsFirstRefuted}
+use Rattle.gh_top.specs.Reports.{IsCheck, not_built, verified, refuted, IsNotOfCopies, refuted_text, IsReached, IsFirstRefuted}
 use Rattle.gh_top.specs.Verdicts.{IsFirst}
 use Rattle.gh_top.specs.Refuting.{refuted_copies}
 use Rattle.gh_top.specs.declared.status.Status.{Status}
@@ -23,10 +23,6 @@ use Rattle.gh_top.proofs.ConditionLemmas.{counted, all_valid, reached, drawable}
 pub assembled : (r d h s e text one two first second third last : List ℕ) → text ≡ r → one ≡ d → first ≡ text ++ one → two ≡ h → second ≡ first ++ two
     → third ≡ second ++ s → last ≡ third ++ e → last ≡ r ++ d ++ (h ++ s ++ e)
 assembled r d h s e text one two first second third last a b c f g i j = rw (j, i, g, f, c, b, a) (simp append_assoc)
-
--- a text that is refused
-pub check_refused : (text : List ℕ) (r : Refusal) (status : Status) (t : List ℕ) → status ≡ TextRefused → t ≡ refusal_text r → IsRefused text r → IsCheck (Some text) status t
-check_refused text r status t a b h = rw (a, b) (refused r h)
 
 at_seam : {X : Type 0} (before : List X) (x d : X) (after : List X) → slice_index_or (before ++ x ∷ after) (length before) d ≡ x
 at_seam [] x d after = refl

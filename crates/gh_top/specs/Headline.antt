@@ -5,22 +5,32 @@ use Rattle.gh_base.specs.Outside.{Table, Rose, AppendsFront}
 use Rattle.gh_ast.specs.Plain.{Program}
 use Rattle.gh_ast.specs.Grammar.{Spells}
 use Rattle.gh_machine.specs.Machine.{IsGood}
-use Rattle.gh_top.specs.Words.{IsRequest}
+use Rattle.gh_top.specs.Words.{IsRequest, file_of}
 use Rattle.gh_top.specs.Reports.{IsCheck}
-use Rattle.gh_top.specs.Refusals.{IsAccepted}
+use Rattle.gh_top.specs.Listings.{IsPaths}
+use Rattle.gh_top.specs.Refusals.{IsText, IsAccepted}
 use Rattle.gh_draw.specs.Drawings.{line}
 use Rattle.gh_top.specs.declared.words.Request.{Request}
-use Rattle.gh_top.specs.declared.words.Request.TheVariants.{Check}
+use Rattle.gh_top.specs.declared.words.Request.TheVariants.{Check, Paths}
 use Rattle.gh_top.specs.declared.run.Stop.{Stop}
 use Rattle.gh_top.specs.declared.run.Stop.TheVariants as stop
 use Rattle.gh_top.specs.declared.status.Status.{Status}
 use Rattle.gh_top.specs.declared.status.Status.TheVariants.{Verified, Usage, ReadFault, WriteFault, OutOfMemory}
 
+-- the answer to a request for the bytes of its file, or for a file that isn't there
+abbrev pub IsReport : Request → Option (List ℕ) → Status → List ℕ → Type 0
+IsReport (Check file) bytes status text = IsCheck bytes status text
+IsReport (Paths file) bytes status text = IsPaths bytes status text
+
+-- the same for each text that spells the program
+abbrev pub IsReportOn : Request → Program → Status → List ℕ → Type 0
+IsReportOn r P status u = (text : List ℕ) → IsText text P → IsReport r (Some text) status u
+
 -- the status and the text that words and files give
 pub data HasResult : List (List ℕ) → Table → Status → List ℕ → Type 0 where
   usage : {words : List (List ℕ)} {files : Table} → ((r : Request) → IsRequest words r → ⊥) → HasResult words files Usage (line (codes "refused: usage"))
-  check : {words : List (List ℕ)} {files : Table} {text : List ℕ} {status : Status} (file : List ℕ)
-      → IsRequest words (Check file) → IsCheck (files file) status text → HasResult words files status text
+  asked : {words : List (List ℕ)} {files : Table} {text : List ℕ} {status : Status} (r : Request)
+      → IsRequest words r → IsReport r (files (file_of r)) status text → HasResult words files status text
 
 -- the files hold what the inputs tell; where they tell nothing, any files do
 abbrev pub AreTold : Option Table → Table → Type 0
@@ -33,11 +43,11 @@ pub record HasAnswer (table : Option Table) (words : List (List ℕ)) (status : 
   pub told : AreTold table files
   pub result : HasResult words files status text
 
--- the same for one file
-pub record HasCheck (table : Option Table) (file : List ℕ) (status : Status) (text : List ℕ) : Type 0 where
+-- the same for one request
+pub record HasReport (table : Option Table) (r : Request) (status : Status) (text : List ℕ) : Type 0 where
   pub files : Table
   pub told : AreTold table files
-  pub check : IsCheck (files file) status text
+  pub report : IsReport r (files (file_of r)) status text
 
 -- the program of the request is good: no run of any procedure from a state that meets its precondition, beside any frame, faults, leaks or ends outside its postcondition
 pub record IsGoodText (words : List (List ℕ)) (files : Table) : Type 0 where

@@ -3,6 +3,8 @@ pub mod Copies
 pub mod Drawn
 pub mod Headline
 pub mod Judgements
+pub mod Listed
+pub mod Listings
 pub mod Places
 pub mod Refusals
 pub mod Refuting

@@ -1,12 +1,12 @@
--- The first refusal of a program text: its length, a byte, the depth, the syntax, the first type error, the first limit on the text.
-use Rattle.std.specs.Prelude.{◌≡◌, ℕ, ◌<◌, ◌≤◌, List, [], ◌∷◌, ◌++◌, length, codes, cond, ◌==◌}
+-- The first refusal of a program text: its length, a byte, the depth, the syntax, the first type error, the first limit.
+use Rattle.std.specs.Prelude.{◌≡◌, ℕ, ◌<◌, ◌≤◌, List, ◌++◌, length, codes, cond, ◌==◌}
 use Rattle.std.specs.Fmt.{decimal}
 use Rattle.gh_base.specs.declared.place.Span.{Span}
 use Rattle.gh_ast.specs.Plain.{Program}
 use Rattle.gh_ast.specs.Tokens.{IsFirstByte, IsFirstDeep, place_of}
 use Rattle.gh_ast.specs.Grammar.{Spells}
 use Rattle.gh_ast.specs.Rules.{IsTyped, IsFirstBroken}
-use Rattle.gh_ast.specs.Limits.{KeepsLimits, IsLimit}
+use Rattle.gh_path.specs.Admitted.{IsFirstLimit, IsAdmitted}
 use Rattle.gh_ast.specs.declared.typed.Limit.{Limit}
 use Rattle.gh_draw.specs.Descriptions.{place_text}
 use Rattle.gh_draw.specs.Drawings.{line}
@@ -48,13 +48,12 @@ IsRefused text (byte k) = (length text ≤ most_bytes) × IsFirstByte text k
 IsRefused text (deep p) = IsTooDeep text p
 IsRefused text (syntax p) = IsReadable text × ((P : Program) → Spells text P → ⊥)
 IsRefused text (type_error n p) = (P : Program) × IsText text P × IsFirstBroken P n p
-IsRefused text (limit l) = (P : Program) × IsText text P × IsTyped P × IsLimit P l
+IsRefused text (limit l) = (P : Program) × IsText text P × IsTyped P × IsFirstLimit P l
 
--- the text spells a program that keeps the rules and the limits on a text
+-- the text spells an admitted program
 pub record IsAccepted (text : List ℕ) (P : Program) : Type 0 where
   pub spelled : IsText text P
-  pub typed : IsTyped P
-  pub limits : KeepsLimits P
+  pub admitted : IsAdmitted P
 
 -- the names of the type errors
 abbrev pub error_name : ℕ → List ℕ

@@ -4,8 +4,13 @@
 mod classes;
 mod copies;
 mod lines;
+mod listing;
+#[cfg(test)]
+mod paths_tests;
 #[cfg(test)]
 mod refusal_tests;
+#[cfg(test)]
+mod replay_tests;
 mod report;
 pub mod run;
 #[cfg(test)]

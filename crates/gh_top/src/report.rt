@@ -9,6 +9,10 @@ ghost use Rattle.gh_draw.specs.Drawings.{states_text};
 ghost use Rattle.gh_top.specs.Copies.{IsOfTyped, AreCopies, AreOfTyped, only_condition, trace_of};
 ghost use Rattle.gh_top.specs.Refusals.{IsText, most_bytes};
 ghost use Rattle.gh_draw.specs.Drawings.{line};
+ghost use Rattle.gh_ast.specs.Rules.{IsTyped};
+ghost use Rattle.gh_ast.specs.Limits.{KeepsLimits};
+ghost use Rattle.gh_path.specs.Admitted.{IsAdmitted};
+ghost use Rattle.gh_top.specs.Headline.{IsReport, IsReportOn};
 ghost use Rattle.gh_top.specs.Reports.{IsCheck};
 ghost use Rattle.gh_top.specs.Refuting.{refuted_copies};
 
@@ -16,14 +20,20 @@ use crate::lines::{
     byte_line, description_line, drawing_lines, limit_line, name_of_error, plain_line,
     refused_line, refuted_line, verified_line,
 };
+use crate::listing::listing_report;
 use crate::states::push_states;
 use crate::status::Status;
 use crate::verdict::{Verdict, judge_all};
+use crate::words::Request;
 use gh_ast::typed::Typed;
 use gh_ast::{Procedure, Program};
 use gh_base::text::Text;
 use gh_parse::error::ParseError;
 use gh_parse::parse::parse;
+use gh_path::conditions::Conditions;
+use gh_path::listing::{ConditionsError, conditions};
+use gh_symb::admit::admit;
+use gh_symb::limits::SymbolicError;
 use gh_types::check::{CheckError, check};
 use std::alloc::{AllocError, Global};
 
@@ -73,8 +83,9 @@ fn refuted_report(
     })
 }
 
-// The report on a program that keeps the rules and the limits on a text.
-fn typed_report(alloc: Global, typed: &Typed) -> Result<Report, AllocError>
+// The verdict on an admitted program.
+fn verdict_report(alloc: Global, typed: &Typed) -> Result<Report, AllocError>
+    requires { IsAdmitted (program_of typed.now) }
     ensures { IfOk result (λ r. (text : List ℕ) → IsText text (program_of typed.now) → IsCheck (Some text) r.status r.text) }
 {
     let procedures = typed.program().procedures.as_slice();
@@ -97,12 +108,47 @@ fn typed_report(alloc: Global, typed: &Typed) -> Result<Report, AllocError>
     }
 }
 
+// The report on an admitted program.
+fn admitted_report(
+    alloc: Global,
+    request: &Request,
+    typed: &Typed,
+    conditions: &Conditions,
+) -> Result<Report, AllocError>
+    requires same { conditions.now ≡ typed.now }
+    requires admitted { IsAdmitted (program_of typed.now) }
+    ensures { IfOk result (λ r. IsReportOn request.now (program_of typed.now) r.status r.text) }
+{
+    match request {
+        Request::Check { .. } => verdict_report(alloc, typed),
+        Request::Paths { .. } => listing_report(alloc, typed, conditions),
+    }
+}
+
+// The report on a program that keeps the rules and the limits on a text.
+fn typed_report(alloc: Global, request: &Request, typed: &Typed) -> Result<Report, AllocError>
+    requires typed { IsTyped (program_of typed.now) }
+    requires limits { KeepsLimits (program_of typed.now) }
+    ensures { IfOk result (λ r. IsReportOn request.now (program_of typed.now) r.status r.text) }
+{
+    let conditions = match conditions(alloc, typed) {
+        Ok(conditions) => conditions,
+        Err(ConditionsError::Limit(passed)) => return Ok(refusal(limit_line(alloc, passed)?)),
+        Err(ConditionsError::OutOfMemory) => return Err(AllocError),
+    };
+    match admit(alloc, typed, &conditions) {
+        Ok(()) => admitted_report(alloc, request, typed, &conditions),
+        Err(SymbolicError::Limit(passed)) => Ok(refusal(limit_line(alloc, passed)?)),
+        Err(SymbolicError::OutOfMemory) => Err(AllocError),
+    }
+}
+
 // The report on a program that a text spells.
-fn program_report(alloc: Global, program: Program) -> Result<Report, AllocError>
-    ensures { IfOk result (λ r. (text : List ℕ) → IsText text (program_of program) → IsCheck (Some text) r.status r.text) }
+fn program_report(alloc: Global, request: &Request, program: Program) -> Result<Report, AllocError>
+    ensures { IfOk result (λ r. IsReportOn request.now (program_of program) r.status r.text) }
 {
     match check(alloc, program) {
-        Ok(typed) => typed_report(alloc, &typed),
+        Ok(typed) => typed_report(alloc, request, &typed),
         Err(CheckError::TypeError { number, span }) => {
             Ok(refusal(refused_line(alloc, name_of_error(number), span)?))
         }
@@ -112,12 +158,12 @@ fn program_report(alloc: Global, program: Program) -> Result<Report, AllocError>
 }
 
 /// The report on a text that isn't too long.
-pub fn text_report(alloc: Global, text: &[u8]) -> Result<Report, AllocError>
+pub fn text_report(alloc: Global, request: &Request, text: &[u8]) -> Result<Report, AllocError>
     requires { length text.now ≤ most_bytes }
-    ensures { IfOk result (λ r. IsCheck (Some text.now) r.status r.text) }
+    ensures { IfOk result (λ r. IsReport request.now (Some text.now) r.status r.text) }
 {
     match parse(alloc, text) {
-        Ok(program) => program_report(alloc, program),
+        Ok(program) => program_report(alloc, request, program),
         Err(ParseError::Byte { offset }) => Ok(refusal(byte_line(alloc, offset)?)),
         Err(ParseError::Deep { span }) => Ok(refusal(refused_line(alloc, "Deep", span)?)),
         Err(ParseError::Syntax { span }) => Ok(refusal(refused_line(alloc, "Syntax", span)?)),

@@ -1,11 +1,10 @@
 //! The top call.
 
-ghost use Rattle.std.specs.Prelude.{◌≡◌, IfOk, IfErr, List, ℕ};
+ghost use Rattle.std.specs.Prelude.{◌≡◌, IfOk, IfErr};
 ghost use Rattle.std.specs.Io.KnownBytes.{Keeps};
 ghost use Rattle.gh_base.specs.Outside.{Rose};
 ghost use Rattle.gh_draw.specs.Drawings.{line};
-ghost use Rattle.gh_top.specs.Words.{IsRequest};
-ghost use Rattle.gh_top.specs.Headline.{Answers, IsCutOff, NamesFile, HasAnswer, HasCheck, IsStop};
+ghost use Rattle.gh_top.specs.Headline.{Answers, IsCutOff, NamesFile, HasAnswer, HasReport, IsStop};
 
 use crate::lines::plain_line;
 use crate::report::{Report, text_report};
@@ -37,13 +36,17 @@ impl From<AllocError> for Stop {
     }
 }
 
-// The report on the bytes of a file, as far as they are read.
-fn file_report<I: Inputs>(alloc: Global, file: &str, inputs: &mut I) -> Result<Report, Stop>
-    ensures ok { IfOk result (λ r. HasCheck (I.table inputs.old) file.now r.status r.text) }
+// The report that a request asks for, as far as its file is read.
+fn request_report<I: Inputs>(
+    alloc: Global,
+    request: &Request,
+    inputs: &mut I,
+) -> Result<Report, Stop>
+    ensures ok { IfOk result (λ r. HasReport (I.table inputs.old) request.now r.status r.text) }
     ensures stop { IfErr result (λ s. IsStop (I.faults inputs.old) (I.faults inputs.new) s) }
 {
-    match read_input(alloc, inputs, file, MOST_BYTES) {
-        Ok(text) => Ok(text_report(alloc, text.bytes())?),
+    match read_input(alloc, inputs, request.file(), MOST_BYTES) {
+        Ok(text) => Ok(text_report(alloc, request, text.bytes())?),
         Err(InputError::TooLong) => refused(alloc, "refused: TooLong"),
         Err(InputError::Absent) => refused(alloc, "refused: Absent"),
         Err(InputError::ReadFault) => Err(Stop::ReadFault),
@@ -61,18 +64,6 @@ fn refused(alloc: Global, words: &str) -> Result<Report, Stop>
         status: Status::TextRefused,
         text: plain_line(alloc, words)?,
     })
-}
-
-// The report that a request asks for.
-fn request_report<I: Inputs>(
-    alloc: Global,
-    request: &Request,
-    inputs: &mut I,
-) -> Result<Report, Stop>
-    ensures ok { IfOk result (λ r. (words : List (List ℕ)) → IsRequest words request.now → HasAnswer (I.table inputs.old) words r.status r.text) }
-    ensures stop { IfErr result (λ s. IsStop (I.faults inputs.old) (I.faults inputs.new) s) }
-{
-    file_report(alloc, request.file(), inputs)
 }
 
 // What is to be written, before anything is.

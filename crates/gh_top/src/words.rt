@@ -79,6 +79,9 @@ impl Words {
 pub enum Request {
     /// Decides a program.
     Check { file: FileName },
+
+    /// Lists the conditions of a program.
+    Paths { file: FileName },
 }
 
 impl Request {
@@ -89,7 +92,7 @@ impl Request {
         ensures { result.now ≡ file_of self.now }
     {
         match self {
-            Request::Check { file } => file.as_str(),
+            Request::Check { file } | Request::Paths { file } => file.as_str(),
         }
     }
 }
@@ -101,6 +104,11 @@ pub fn read_words(alloc: Global, words: &Words) -> Result<Option<Request>, Alloc
     match pair(words.words.as_slice()) {
         Some((mode, file)) if is_mode(mode, "check") && is_operand(file) => {
             Ok(Some(Request::Check {
+                file: FileName::new(alloc, file.as_str())?,
+            }))
+        }
+        Some((mode, file)) if is_mode(mode, "paths") && is_operand(file) => {
+            Ok(Some(Request::Paths {
                 file: FileName::new(alloc, file.as_str())?,
             }))
         }
