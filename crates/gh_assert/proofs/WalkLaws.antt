@@ -1,4 +1,4 @@
--- The laws of section 0, as they are cited.
+-- Heaps split, walks compose, segments and rows, and what an assertion reads: each law in the form in which it is cited.
 use Rattle.std.specs.Prelude.{ℕ, ◌+◌, ◌-◌}
 use Rattle.std.proofs.Common.{refl, sym, ◌∙◌, inl, inr, arith}
 use Rattle.gh_assert.specs.Heaps.{Heap, IsPart, Segment}

@@ -1,5 +1,5 @@
 -- Files by their names: one more, and what is left of one.
-use Rattle.std.specs.Prelude.{◌≡◌, ℕ, zero, suc, ◌+◌, ◌<◌, List, [], ◌∷◌, ◌++◌, length, Option, Some, None, Bool, true, false, cond, slice_get, position, option_map, unwrap_or, drop, take, min, nat_lt}
+use Rattle.std.specs.Prelude.{◌≡◌, ℕ, zero, suc, ◌+◌, ◌<◌, List, [], ◌∷◌, ◌++◌, length, Option, Some, None, Bool, true, false, cond, slice_get, option_map, unwrap_or, drop, take, min, nat_lt}
 use Rattle.std.specs.Str.{bytes_eq}
 use Rattle.std.specs.Option.{ForSome}
 use Rattle.std.specs.List.{position_or_len, find}
@@ -12,7 +12,7 @@ use Rattle.std.proofs.Math.Seq.{drop-nil}
 use Rattle.std.proofs.Common.{refl, sym, ◌∙◌, ap, subst, inl, inr, arith}
 use Rattle.gh_base.specs.declared.memory.File.{File}
 use Rattle.gh_base.specs.Memory.{HasMore}
-use Rattle.gh_base.specs.Files.{content, bytes_at, place_of, table_of, left_of}
+use Rattle.gh_base.specs.Files.{content, bytes_at, table_of, left_of}
 
 -- the table is that of the first file found
 table_is : (fs : List File) (n : List ℕ) → table_of fs n ≡ option_map content (find (λ f. bytes_eq f.name.items n) fs)

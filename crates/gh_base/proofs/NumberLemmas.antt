@@ -1,8 +1,8 @@
 -- Numbers of atoms.
-use Rattle.std.proofs.Common.{lit<, ◌≡◌, ℕ, suc, zero, ◌+◌, ◌-◌, ◌*◌, ◌/◌, ◌^◌, ◌<◌, ◌≤◌, ◌⊎◌, inl, inr, arith, sym, ap, refl, ◌∙◌, subst}
+use Rattle.std.proofs.Common.{lit<, ◌≡◌, ℕ, suc, zero, ◌+◌, ◌-◌, ◌*◌, ◌^◌, ◌<◌, ◌≤◌, inl, inr, arith, sym, ap, refl, ◌∙◌}
 use Rattle.std.proofs.lemmas.Bool.{cases_order, cases_lt}
 use Rattle.std.proofs.Math.Nat.{mul-le-mul_right}
-use Rattle.std.proofs.lemmas.Nat.{mul-add-lt, mul-lt, same_from_place, div_below}
+use Rattle.std.proofs.lemmas.Nat.{mul-add-lt, mul-lt, same_from_place}
 use Rattle.gh_base.specs.declared.atom.Term.{Term}
 use Rattle.gh_base.specs.declared.atom.Atom.{Atom}
 use Rattle.gh_base.specs.declared.atom.Atom.TheVariants.{Eq, Btwn, Hop, Alloc, Def}

@@ -1,11 +1,9 @@
 -- Writes to tables by the numbers of atoms.
-use Rattle.std.proofs.Common.{◌≡◌, ◌≢◌, ◌<◌, ℕ, Bool, Option, length, arith, refl, sym, ◌∙◌, get_or-set_other, get_or-set_same}
-use Rattle.gh_base.specs.declared.atom.Term.{Term}
+use Rattle.std.proofs.Common.{◌≡◌, ◌≢◌, ◌<◌, Bool, Option, length, arith, refl, ◌∙◌, get_or-set_other, get_or-set_same}
 use Rattle.gh_base.specs.declared.atom.Atom.{Atom}
 use Rattle.gh_base.specs.declared.atom.Atom.TheVariants.{Eq, Btwn, Hop, Alloc, Def}
-use Rattle.gh_base.specs.declared.sizes.Sizes.{Sizes}
-use Rattle.gh_base.specs.Atoms.{IsInRange, number_of, count_of}
-use Rattle.gh_base.specs.Assignments.{Partial, IsPartial, value_at, with_value, ChangesAtom}
+use Rattle.gh_base.specs.Atoms.{IsInRange, number_of}
+use Rattle.gh_base.specs.Assignments.{Partial, IsPartial, with_value, ChangesAtom}
 use Rattle.gh_base.specs.Structures.{Tables, AreTables, IsEquality, with_truth, ChangesTruth, interpretation_of}
 use Rattle.gh_base.specs.Meaning.{atom_truth}
 use Rattle.gh_base.proofs.NumberLemmas.{apart, number_below}

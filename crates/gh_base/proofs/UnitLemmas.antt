@@ -1,11 +1,10 @@
 -- Unit propagation.
-use Rattle.std.proofs.Common.{◌≡◌, ◌≢◌, ◌⊎◌, inl, inr, ℕ, zero, suc, ◌<◌, Bool, true, false, not, IsTrue, List, [], ◌∷◌, All, map, length, refl, sym, ◌∙◌, ap, arith, get_or}
-use Rattle.std.specs.Prelude.{Contains, Any}
+use Rattle.std.proofs.Common.{◌≡◌, ◌≢◌, ◌⊎◌, inl, inr, suc, Bool, true, false, not, List, [], ◌∷◌, All, map, refl, ◌∙◌, ap, arith, get_or}
 use Rattle.std.proofs.lemmas.List.Elements.{All-contains, All-cons, All-map}
 use Rattle.gh_base.specs.declared.atom.Lit.{Lit}
 use Rattle.gh_base.specs.Atoms.{opposite}
 use Rattle.gh_base.specs.Meaning.{Interpretation, lit_truth, under, atom_truth, IsLitTrue, IsClauseTrue}
-use Rattle.gh_base.specs.Propagation.{Propagated, given, forced, IsRefutedByUnits, FollowsByUnits, IsClosed, IsLeast, IsSound}
+use Rattle.gh_base.specs.Propagation.{Propagated, given, forced, IsLeast, IsSound}
 
 pub least : IsLeast
 least clauses assumed set h _ (given l there) = h.given l there

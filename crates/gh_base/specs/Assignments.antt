@@ -1,5 +1,5 @@
 -- Partial assignments, and what a clause is under one, as the set of its literals.
-use Rattle.std.specs.Prelude.{◌≡◌, ◌≢◌, ◌⊎◌, ◌≤◌, ℕ, List, Bool, true, false, Option, Some, None, All, Any, Contains, length, slice_index_or, slice_set, option_map}
+use Rattle.std.specs.Prelude.{◌≡◌, ◌≢◌, ◌≤◌, List, Bool, true, false, Option, Some, None, All, Any, Contains, length, slice_index_or, slice_set, option_map}
 use Rattle.gh_base.specs.declared.atom.Atom.{Atom}
 use Rattle.gh_base.specs.declared.atom.Lit.{Lit}
 use Rattle.gh_base.specs.declared.sizes.Sizes.{Sizes}

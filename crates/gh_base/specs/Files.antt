@@ -1,5 +1,5 @@
 -- Named files, of which one may be begun.
-use Rattle.std.specs.Prelude.{ℕ, ◌<◌, List, [], length, Option, Some, None, slice_get, position, unwrap_or, option_map, drop}
+use Rattle.std.specs.Prelude.{ℕ, List, [], Option, Some, None, slice_get, position, unwrap_or, option_map, drop}
 use Rattle.std.specs.Str.{bytes_eq}
 use Rattle.gh_base.specs.Outside.{Table}
 use Rattle.gh_base.specs.declared.memory.File.{File}

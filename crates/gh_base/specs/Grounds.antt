@@ -1,5 +1,5 @@
 -- Ground clauses: numbers of terms, versions and definitions, and a list of clauses over them.
-use Rattle.std.specs.Prelude.{◌≤◌, ◌<◌, List, All, length}
+use Rattle.std.specs.Prelude.{◌≤◌, List, All, length}
 use Rattle.gh_base.specs.declared.atom.Lit.{Lit}
 use Rattle.gh_base.specs.declared.sizes.Sizes.{Sizes}
 use Rattle.gh_base.specs.Atoms.{AreInRange}

@@ -1,11 +1,11 @@
 -- What literals and clauses mean: their truth in an interpretation, and interpretations whose equality is a congruence.
-use Rattle.std.specs.Prelude.{ℕ, ◌<◌, ◌≡◌, ◌⊎◌, List, Bool, true, false, not, IsTrue, nat_eq, All, Any, Contains}
+use Rattle.std.specs.Prelude.{ℕ, ◌≡◌, List, Bool, true, false, not, nat_eq, Any}
 use Rattle.gh_base.specs.declared.atom.Term.{Term}
 use Rattle.gh_base.specs.declared.atom.Atom.{Atom}
 use Rattle.gh_base.specs.declared.atom.Atom.TheVariants.{Eq, Btwn, Hop, Alloc, Def}
 use Rattle.gh_base.specs.declared.atom.Lit.{Lit}
 use Rattle.gh_base.specs.declared.sizes.Sizes.{Sizes}
-use Rattle.gh_base.specs.Atoms.{opposite, IsInRange, AreInRange}
+use Rattle.gh_base.specs.Atoms.{IsInRange, AreInRange}
 
 -- the class of each term, by its number, and the truth of each atom other than an equality
 pub record Interpretation : Type 0 where

@@ -1,5 +1,5 @@
 -- What the inputs and the sink in memory answer.
-use Rattle.std.specs.Prelude.{◌≡◌, ◌↔◌, ◌⊎◌, ℕ, ◌-◌, ◌<◌, min, cond, List, [], length, Option, Some, None, is_some, Bool, true, Contains, Result, IsErr, IfOk}
+use Rattle.std.specs.Prelude.{◌≡◌, ◌↔◌, ◌⊎◌, ℕ, ◌-◌, ◌<◌, min, cond, List, [], length, Some, None, is_some, Bool, true, Contains, Result, IsErr, IfOk}
 use Rattle.std.specs.Result.{is_err}
 use Rattle.std.specs.Str.{bytes_eq}
 use Rattle.gh_base.specs.Outside.{Table, next}

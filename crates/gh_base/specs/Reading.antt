@@ -1,5 +1,5 @@
 -- The answers of a call that reads a whole input.
-use Rattle.std.specs.Prelude.{◌≡◌, ℕ, ◌<◌, ◌+◌, List, [], ◌++◌, length, drop, Option, Some, None, ⊤, Result, Ok, Err}
+use Rattle.std.specs.Prelude.{◌≡◌, ◌⊎◌, ℕ, ◌<◌, ◌≤◌, ◌+◌, List, [], ◌++◌, length, drop, Option, Some, None, Bool, true, false, ⊤, Result, Ok, Err}
 use Rattle.gh_base.specs.Outside.{Table, Rose}
 use Rattle.gh_base.specs.declared.reading.InputError.{InputError}
 use Rattle.gh_base.specs.declared.reading.InputError.TheVariants.{ReadFault, TooLong, Absent, OutOfMemory}
@@ -28,12 +28,29 @@ IsCaused bytes limit before now TooLong = IsLonger bytes limit
 IsCaused bytes limit before now Absent = IsAbsent bytes
 IsCaused bytes limit before now OutOfMemory = ⊤
 
--- the input was read to its end, or one byte past the limit and no further
+-- only a fault of the inputs raises their count
+abbrev pub IsCalm : {T : Type 0} → ℕ → ℕ → Result T InputError → Type 0
+IsCalm before now (Err ReadFault) = ⊤
+IsCalm before now result = now ≡ before
+
+-- an input is begun but where there was none, or where a fault came
+abbrev pub HasBegun : {T : Type 0} → Result T InputError → Bool → Type 0
+HasBegun (Err Absent) begun = begun ≡ false
+HasBegun (Err ReadFault) begun = ⊤
+HasBegun result begun = begun ≡ true
+
+-- so many bytes of the input were read, at most `most`
+abbrev pub StandsWithin : Option (List ℕ) → ℕ → Option (List ℕ) → Type 0
+StandsWithin bytes most left = (text : List ℕ) × (n : ℕ) × (bytes ≡ Some text) × (n ≤ most) × (left ≡ Some (drop n text))
+
+-- the input was read to its end, or one byte past the limit and no further; or it stands where reading stopped
 abbrev pub ReadsTo : {T : Type 0} → Option (Option (List ℕ)) → ℕ → Result T InputError → Option (List ℕ) → Type 0
 ReadsTo None limit result left = ⊤
 ReadsTo (Some bytes) limit (Ok text) left = left ≡ Some []
 ReadsTo (Some bytes) limit (Err TooLong) left = (text : List ℕ) × (bytes ≡ Some text) × (left ≡ Some (drop (limit + 1) text))
-ReadsTo (Some bytes) limit (Err e) left = ⊤
+ReadsTo (Some bytes) limit (Err Absent) left = left ≡ Some []
+ReadsTo (Some bytes) limit (Err ReadFault) left = (left ≡ Some []) ⊎ StandsWithin bytes limit left
+ReadsTo (Some bytes) limit (Err OutOfMemory) left = StandsWithin bytes (limit + 1) left
 
 -- what has been read and what is left make up the whole
 abbrev pub IsReading : Option (Option (List ℕ)) → List ℕ → Option (List ℕ) → Type 0

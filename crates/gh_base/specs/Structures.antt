@@ -1,5 +1,5 @@
 -- Structures: classes of terms, and tables of truth.
-use Rattle.std.specs.Prelude.{◌≡◌, ◌≢◌, ◌≤◌, ◌<◌, ℕ, List, Bool, true, false, length, slice_index_or, slice_set}
+use Rattle.std.specs.Prelude.{◌≡◌, ◌≢◌, ◌≤◌, ◌<◌, ℕ, List, Bool, false, length, slice_index_or, slice_set, Option, unwrap_or}
 use Rattle.gh_base.specs.declared.atom.Term.{Term}
 use Rattle.gh_base.specs.declared.atom.Atom.{Atom}
 use Rattle.gh_base.specs.declared.atom.Atom.TheVariants.{Eq, Btwn, Hop, Alloc, Def}
@@ -42,6 +42,10 @@ IsEquality (Def number) = ⊥
 
 abbrev pub with_truth : Tables → Atom → Bool → Tables
 with_truth s atom value = record s { table = slice_set s.table (number_of s.sizes atom) value }
+
+-- the truth that is there, or false
+abbrev pub known_truth : Option Bool → Bool
+known_truth value = unwrap_or value false
 
 -- one atom has this truth, and each other one keeps its own
 pub record ChangesTruth (old new : Tables) (atom : Atom) (value : Bool) : Type 0 where

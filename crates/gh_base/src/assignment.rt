@@ -90,6 +90,13 @@ impl Assignment {
         self.values[number] = None;
     }
 
+    /// The truth of each atom, by the atom's number.
+    pub fn values(&self) -> &[Option<bool>]
+        ensures { result.now ≡ self.now.values }
+    {
+        self.values.as_slice()
+    }
+
     /// The numbers of terms, versions and definitions.
     pub fn sizes(&self) -> Sizes
         ensures sizes { result ≡ self.now.sizes }

@@ -1,7 +1,7 @@
 // Reading a whole input.
 
 ghost use Rattle.std.specs.Prelude.{◌≡◌, ◌≤◌, length, IfOk, MatchResult, ⊤};
-ghost use Rattle.gh_base.specs.Reading.{told, IsWhole, IsCaused, ReadsTo};
+ghost use Rattle.gh_base.specs.Reading.{told, IsWhole, IsCaused, IsCalm, HasBegun, ReadsTo};
 ghost use Rattle.gh_base.specs.declared.reading.InputError.TheVariants.{ReadFault, OutOfMemory};
 
 use crate::outside::{Failed, Inputs};
@@ -47,6 +47,8 @@ pub fn read_input<I: Inputs>(
 ) -> Result<Text, InputError>
     ensures ok { IfOk result (λ text. (length text ≤ limit) × IsWhole (told (I.table inputs.old) name.now) text) }
     ensures refused { MatchResult result (λ _. ⊤) (λ e. IsCaused (told (I.table inputs.old) name.now) limit (I.faults inputs.old) (I.faults inputs.new) e) }
+    ensures calm { IsCalm (I.faults inputs.old) (I.faults inputs.new) result }
+    ensures begun { HasBegun result (I.begun inputs.new) }
     ensures reads { ReadsTo (told (I.table inputs.old) name.now) limit result (I.left inputs.new) }
     ensures table { I.table inputs.new ≡ I.table inputs.old }
     ensures later { I.faults inputs.old ≤ I.faults inputs.new }

@@ -1,10 +1,11 @@
 //! Structures that give each atom a truth.
 
-ghost use Rattle.std.specs.Prelude.{◌≡◌, ◌≤◌, ◌<◌, false, IfOk, All, length, vec_len};
+ghost use Rattle.std.specs.Prelude.{◌≡◌, ◌≤◌, ◌<◌, false, IfOk, All, length, map, vec_len};
 ghost use Rattle.gh_base.specs.Atoms.{IsInRange};
 ghost use Rattle.gh_base.specs.Meaning.{atom_truth};
-ghost use Rattle.gh_base.specs.Structures.{AreClasses, AreTables, class_at, interpretation_of, IsEquality, with_truth, ChangesTruth};
+ghost use Rattle.gh_base.specs.Structures.{AreClasses, AreTables, class_at, interpretation_of, IsEquality, with_truth, ChangesTruth, known_truth};
 
+use crate::assignment::Assignment;
 use crate::atom::{Atom, Term};
 use crate::sizes::Sizes;
 use std::alloc::{AllocError, Global};
@@ -40,7 +41,40 @@ fn all_false(alloc: Global, count: usize) -> Result<Vec<bool>, AllocError>
     Ok(table)
 }
 
+// A table with the truths that are there, and false for the others.
+fn known_truths(alloc: Global, values: &[Option<bool>]) -> Result<Vec<bool>, AllocError>
+    ensures { IfOk result (λ v. v.items ≡ map known_truth values.now) }
+{
+    let mut table = Vec::with_capacity(alloc, values.len())?;
+    for value in values {
+        table.push(value.unwrap_or(false))?;
+    }
+    Ok(table)
+}
+
 impl Structure {
+    /// The structure in which term k has the class at place k, and each other atom has the truth that an assignment
+    /// gives it, or is false where it gives none.
+    pub fn from_assignment(
+        alloc: Global,
+        classes: &[Term],
+        assignment: &Assignment,
+    ) -> Result<Structure, AllocError>
+        requires some { 1 ≤ length classes.now }
+        requires all { length classes.now ≡ assignment.now.sizes.terms }
+        requires classes { AreClasses classes.now }
+        requires versions { 1 ≤ assignment.now.sizes.versions }
+        ensures sizes { IfOk result (λ s. s.sizes ≡ assignment.now.sizes) }
+        ensures classes { IfOk result (λ s. s.classes ≡ classes.now) }
+        ensures truths { IfOk result (λ s. s.table ≡ map known_truth assignment.now.values) }
+    {
+        Ok(Structure {
+            sizes: assignment.sizes(),
+            classes: Vec::from_slice(alloc, classes)?,
+            table: known_truths(alloc, assignment.values())?,
+        })
+    }
+
     /// The structure in which term k has the class at place k, and all else is false.
     pub fn new(
         alloc: Global,

@@ -1,11 +1,14 @@
-// Reading from memory.
+// Reading from memory, writing to it, and tables at the sizes of the largest questions that are asked.
 
 ghost use Rattle.std.specs.Prelude.{◌≡◌, IfOk};
 
+use crate::assignment::Assignment;
+use crate::atom::{Atom, Lit, Term};
 use crate::memory::MemoryInputs;
 use crate::outside::{Failed, Sink};
 use crate::reading::{InputError, read_input};
 use crate::sink::MemorySink;
+use crate::structure::Structure;
 use std::alloc::AllocError;
 
 fn text_inputs(rt: &HostRuntime) -> Result<MemoryInputs, AllocError>
@@ -20,7 +23,7 @@ fn text_inputs(rt: &HostRuntime) -> Result<MemoryInputs, AllocError>
 fn whole_text(rt: HostRuntime) -> Result<(), InputError> {
     let mut inputs = text_inputs(&rt)?;
     let text = read_input(rt.alloc(), &mut inputs, "a", 100)?;
-    assert!(rt; text.bytes().len() == 33);
+    assert!(rt; text.bytes() == b"a text of more than sixteen bytes".as_slice());
     Ok(())
 }
 
@@ -52,5 +55,28 @@ fn second_write_fails(rt: HostRuntime) -> Result<(), AllocError> {
     assert!(rt; out.write(b"") == Ok(0));
     assert!(rt; out.write(b"ten") == Ok(3));
     assert!(rt; out.bytes() == b"writen".as_slice());
+    Ok(())
+}
+
+#[test]
+fn all_unassigned(rt: HostRuntime) -> Result<(), AllocError> {
+    let values = Assignment::new(rt.alloc(), 20, 10, 100)?;
+    let lit = Lit {
+        atom: Atom::Def { number: 99 },
+        positive: true,
+    };
+    assert!(rt; values.value(lit).is_none());
+    Ok(())
+}
+
+#[test]
+fn one_class(rt: HostRuntime) -> Result<(), AllocError> {
+    let structure = Structure::new(rt.alloc(), &[Term(0); 20], 10, 100)?;
+    let equality = Atom::Eq {
+        a: Term(1),
+        b: Term(19),
+    };
+    assert!(rt; structure.holds(equality));
+    assert!(rt; !structure.holds(Atom::Def { number: 99 }));
     Ok(())
 }

@@ -1,13 +1,13 @@
 -- What is told of a loop and of a callee is what the numbers mean.
 use Rattle.std.specs.Prelude.{◌≡◌, ℕ, List, ◌++◌, codes, map, Some, None, Option, slice_get, slice_index_or, option_map}
-use Rattle.std.proofs.Common.{refl, sym, ◌∙◌, ap, subst}
+use Rattle.std.proofs.Common.{refl, sym, ◌∙◌, ap}
 use Rattle.std.proofs.lemmas.List.{append_assoc}
 use Rattle.std.proofs.lemmas.Option.{slice_get-map, get_or_from_slice_get}
 use Rattle.gh_ast.specs.declared.Program.{Program}
 use Rattle.gh_ast.specs.declared.Procedure.{Procedure}
 use Rattle.gh_ast.specs.Plain.{program_of, procedure_of}
 use Rattle.gh_ast.specs.Programs.{name_of}
-use Rattle.gh_path.specs.Graphs.{Loop, loops_of}
+use Rattle.gh_path.specs.Graphs.{loops_of}
 use Rattle.gh_path.specs.declared.loops.While.{While}
 use Rattle.gh_path.specs.Walking.{loop_of}
 use Rattle.gh_path.specs.declared.condition.Start.TheVariants as start
@@ -16,7 +16,7 @@ use Rattle.gh_draw.specs.Descriptions.{place_text, origin_text, check_text}
 use Rattle.gh_draw.specs.Kept.{TellsStart, TellsKind}
 
 -- what stands at a place of the mapped list is the image of what stands there
-image : {A B : Type 0} (f : A → B) (xs : List A) (n : ℕ) (x : A) (y : B) → x ≡ slice_index_or xs n x → slice_get (map f xs) n ≡ Some y → f x ≡ y
+pub image : {A B : Type 0} (f : A → B) (xs : List A) (n : ℕ) (x : A) (y : B) → x ≡ slice_index_or xs n x → slice_get (map f xs) n ≡ Some y → f x ≡ y
 image {A} {B} f xs n x y is there = by_cases (slice_get xs n) refl
   where
     by_cases : (o : Option A) → slice_get xs n ≡ o → f x ≡ y

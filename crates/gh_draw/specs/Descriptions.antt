@@ -1,8 +1,7 @@
 -- The description of a condition: `PROC from START: CHECK at L:C`.
-use Rattle.std.specs.Prelude.{ℕ, List, [], ◌∷◌, ◌++◌, codes}
+use Rattle.std.specs.Prelude.{ℕ, List, ◌++◌, codes}
 use Rattle.std.specs.Fmt.{decimal}
 use Rattle.gh_base.specs.declared.place.Span.{Span}
-use Rattle.gh_ast.specs.Plain.{Formula}
 use Rattle.gh_ast.specs.Programs.{name_of}
 use Rattle.gh_path.specs.Graphs.{Check, access, entry, loop_entry, returned, loop_end, place_of, Origin, from_entry, from_loop}
 use Rattle.gh_path.specs.Conditions.{Condition}

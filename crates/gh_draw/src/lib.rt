@@ -1,4 +1,8 @@
 //! Descriptions of conditions, and drawings of traces.
 #![tactic(auto)]
 
+mod cursor;
 pub mod describe;
+pub mod drawing;
+pub mod laws;
+pub mod reading;

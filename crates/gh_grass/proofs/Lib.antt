@@ -1,1 +1,4 @@
 pub mod Bonds
+pub mod ClaimLemmas
+pub mod TruthLemmas
+pub mod LawLemmas

@@ -1,7 +1,9 @@
 -- Names with terms, as a list.
-use Rattle.std.specs.Prelude.{◌≡◌, ◌≢◌, ℕ, ◌<◌, List, length, slice_index_or, [], ◌∷◌, map, Option, Some, None, cond, AllPairs}
+use Rattle.std.specs.Prelude.{◌≡◌, ◌≢◌, ℕ, ◌<◌, List, length, slice_index_or, [], ◌∷◌, map, Option, Some, None, cond, AllPairs, Bool, false, ◌==◌, ◌&&◌, position, unwrap_or}
 use Rattle.std.specs.Str.{bytes_eq}
 use Rattle.gh_base.specs.declared.atom.Term.{Term}
+use Rattle.gh_base.specs.declared.term.TermKind.{TermKind}
+use Rattle.gh_base.specs.declared.term.TermKind.TheVariants.{Null, Value, Next}
 use Rattle.gh_ast.specs.Programs.{Name}
 use Rattle.gh_grass.specs.declared.binding.Bond.{Bond}
 
@@ -27,3 +29,20 @@ pub record IsListedAt (bs : List Bond) (name : Name) (i : ℕ) : Type 0 where
 pub record IsBound (old new : List Bond) (name : Name) (term : Term) : Type 0 where
   pub term_is : term_in new name ≡ Some term
   pub others : (other : Name) → other ≢ name → term_in new other ≡ term_in old other
+
+abbrev pub term : ℕ → Term
+term k = record { 0 = k }
+
+-- the term of a name; one without a term counts as null
+abbrev pub bound_term : List Bond → Name → Term
+bound_term bs name = unwrap_or (term_in bs name) (term 0)
+
+-- the kind of the content of the cell at a term in a version
+abbrev pub is_next : ℕ → Term → TermKind → Bool
+is_next i x Null = false
+is_next i x (Value n) = false
+is_next i x (Next j y) = (i == j) && (x.0 == y.0)
+
+-- the term of a successor; one that isn't listed counts as null
+abbrev pub next_term : List TermKind → ℕ → Term → Term
+next_term ks i x = term (unwrap_or (position (is_next i x) ks) 0)

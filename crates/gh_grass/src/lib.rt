@@ -2,6 +2,10 @@
 #![tactic(auto)]
 
 pub mod binding;
+pub mod footprint;
+pub mod formula;
+pub mod laws;
 pub mod terms;
+pub mod tested;
 #[cfg(test)]
 mod tests;

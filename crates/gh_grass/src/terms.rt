@@ -1,7 +1,8 @@
 //! The terms of a condition, in order of first appearance.
 
-ghost use Rattle.std.specs.Prelude.{◌≡◌, ◌<◌, ◌∷◌, ◌++◌, [], length, Some, slice_get, IfOk, OnErr, IfSome, IfNone, Contains};
+ghost use Rattle.std.specs.Prelude.{◌≡◌, ◌<◌, ◌∷◌, ◌++◌, [], length, Some, slice_get, IfOk, OnErr, IfSome, IfNone, Contains, unwrap_or};
 ghost use Rattle.gh_base.specs.declared.term.TermKind.TheVariants.{Null, Next};
+ghost use Rattle.gh_grass.specs.Bindings.{term, next_term};
 
 use gh_base::atom::Term;
 use gh_base::term::TermKind;
@@ -68,6 +69,7 @@ impl TermList {
     pub fn next(&self, version: u8, of: Term) -> Option<Term>
         ensures found { IfSome result (λ term. slice_get self.now term.0 ≡ Some (Next version of)) }
         ensures missing { IfNone result (Contains self.now (Next version of) → ⊥) }
+        ensures place { unwrap_or result (term 0) ≡ next_term self.now version of }
     {
         let place = self.kinds.get_index_of(&TermKind::Next { version, of })?;
         Some(Term(place as u8))

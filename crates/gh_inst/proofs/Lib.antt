@@ -4,5 +4,6 @@ pub mod SearchLemmas
 pub mod ViolationLemmas
 pub mod WordLemmas
 pub mod ListedLemmas
+pub mod CollectingLemmas
 pub mod OnceLemmas
 pub mod RangeLemmas

@@ -18,7 +18,7 @@ use Rattle.gh_inst.proofs.SearchLemmas.{all_joined, range_below, tuples_are, IsT
 pub tuple_back : (number version : ℕ) (tuple : List Term) → tuple_of (name_of number version tuple) ≡ tuple
 tuple_back number version tuple = take_at tuple (replicate (4 - length tuple) (term 0)) (length tuple) refl
 
-one_listed : (n versions number version : ℕ) (r : AxiomRow) (tuple : List Term) → row_with number table ≡ Some r → version < versions → IsTuple r.variables n tuple
+pub one_listed : (n versions number version : ℕ) (r : AxiomRow) (tuple : List Term) → row_with number table ≡ Some r → version < versions → IsTuple r.variables n tuple
     → IsInstance n versions (name_of number version tuple)
 one_listed n versions number version r tuple found below is = record {
   row = ap (option_map (λ r. r.variables)) found ∙ ap Some (sym is.0);

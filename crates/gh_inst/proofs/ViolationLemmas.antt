@@ -17,7 +17,7 @@ use Rattle.gh_inst.proofs.SearchLemmas.{searched_map, got, among}
 use Rattle.gh_inst.proofs.ListedLemmas.{all_are_listed}
 
 -- the clause of an instance is that of its row at its tuple
-clause_there : (number version : ℕ) (r : AxiomRow) (tuple : List Term) → row_with number table ≡ Some r → clause_of (name_of number version tuple) ≡ clause_over version tuple r.lits
+pub clause_there : (number version : ℕ) (r : AxiomRow) (tuple : List Term) → row_with number table ≡ Some r → clause_of (name_of number version tuple) ≡ clause_over version tuple r.lits
 clause_there number version r tuple e =
     let name = name_of number version tuple in
     let here : tuple_of name ≡ tuple = take_at tuple (replicate (4 - length tuple) (term 0)) (length tuple) refl in

@@ -1,6 +1,7 @@
 //! The axiom rows and their instances.
 #![tactic(auto)]
 
+pub mod collecting;
 pub mod instances;
 pub mod laws;
 pub mod naming;

@@ -82,8 +82,8 @@ fn is_settled(
     false
 }
 
-// The first tuple at which a row is false, among those that begin with the first terms of a tuple.
-fn first_from(
+/// The first tuple at which a row is false, among those that begin with the first terms of a tuple.
+pub(crate) fn first_from(
     lits: &[Pattern],
     variables: usize,
     structure: &Structure,

@@ -2,6 +2,7 @@
 
 ghost use Rattle.std.specs.Prelude.{◌≤◌};
 
+use crate::collecting::false_instances;
 use crate::instances::Instances;
 use crate::naming::{InstanceName, instance};
 use crate::violation::{violated, violated_plainly};
@@ -325,5 +326,24 @@ fn plain_walk(rt: HostRuntime) -> Result<(), AllocError> {
         let many = ordered_but::<33>(rt.alloc(), atom)?;
         assert!(rt; both_name(rt.alloc(), &many, name));
     }
+    Ok(())
+}
+
+// Whether the false instances of a structure in which these atoms are true have these names.
+fn are_false(global: Global, atoms: &[Atom], names: &[InstanceName]) -> Result<bool, AllocError> {
+    let structure = structure_of(global, atoms)?;
+    let found = false_instances(global, &structure, 8)?;
+    Ok(found.as_slice() == names)
+}
+
+#[test]
+fn false_ones(rt: HostRuntime) -> Result<(), AllocError> {
+    let itself = [btwn(0, 0, 0, 0), btwn(0, 1, 1, 1), hop(0, 1, 0)];
+    let first = name(1, 0, 1, [1, 0, 0, 0]);
+    let to_term = name(11, 0, 2, [1, 0, 0, 0]);
+    let to_cell = name(15, 0, 2, [1, 0, 0, 0]);
+    assert!(rt; are_false(rt.alloc(), &itself[..1], &[first])?);
+    assert!(rt; are_false(rt.alloc(), &itself[..2], &[])?);
+    assert!(rt; are_false(rt.alloc(), &itself, &[to_term, to_cell])?);
     Ok(())
 }

@@ -18,8 +18,13 @@ use gh_base::atom::{Lit, Term};
 use gh_base::structure::Structure;
 use std::alloc::Global;
 
-// The name of a row's instance at the first terms.
-fn name_of_terms(number: u8, variables: u8, version: u8, terms: [Term; 4]) -> InstanceName
+/// The name of a row's instance at the first terms.
+pub(crate) fn name_of_terms(
+    number: u8,
+    variables: u8,
+    version: u8,
+    terms: [Term; 4],
+) -> InstanceName
     requires some { 1 ≤ variables }
     requires few { variables ≤ 4 }
     ensures { result ≡ name_of number version (take variables terms) }

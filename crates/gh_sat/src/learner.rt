@@ -30,7 +30,7 @@ pub struct Learnt {
 
 /// The clauses, the trail with its levels, and what propagation and conflict analysis keep.
 #[derive(Drop)]
-pub(crate) struct Learner {
+pub struct Learner {
     clauses: Vec<Clause>,
     trail: Trail,
     // The place at which level 1, 2, .. begins, and the number of clauses when it was opened.
@@ -119,8 +119,8 @@ impl Learner {
     ghost use Rattle.gh_sat.specs.Learn.{IsConflict, IsLearnt, add_clause};
     ghost use Rattle.gh_sat.specs.Whole.{PropagatesTo, GivesLast, Adds};
 
-    // A search with no clause.
-    fn empty(alloc: Global, sizes: Sizes) -> Result<Learner, AllocError>
+    /// A search with no clause.
+    pub fn empty(alloc: Global, sizes: Sizes) -> Result<Learner, AllocError>
         ensures { IfOk result (λ s. s ≡ record { sizes = sizes; clauses = []; trail = []; starts = [] }) }
     {
         let trail = Trail::new(alloc, sizes)?;
@@ -284,6 +284,25 @@ impl Learner {
         )
     }
 
+    /// Opens a level with a literal that has no truth.
+    pub fn assume(&mut self, lit: Lit)
+        requires settled { IsSettled self.old }
+        requires range { IsInRange self.old.sizes lit.atom }
+        requires free { IsFree self.old.trail lit.atom }
+        ensures opens { self.new ≡ open_level self.old lit }
+        ensures sound { IsSound self.new }
+    {
+        let start = self.trail.steps().len() as u32;
+        let level = self.starts.len() as u32 + 1;
+        self.trail.put(Step {
+            lit,
+            level,
+            reason: None,
+        });
+        self.starts.push_reserved(start);
+        self.counts.push_reserved(self.clauses.len() as u32);
+    }
+
     /// Opens a level with the first atom that has no truth, made false, if there is one.
     pub fn decide(&mut self) -> Option<Lit>
         requires { IsSettled self.old }
@@ -296,15 +315,7 @@ impl Learner {
             atom,
             positive: false,
         };
-        let start = self.trail.steps().len() as u32;
-        let level = self.starts.len() as u32 + 1;
-        self.trail.put(Step {
-            lit,
-            level,
-            reason: None,
-        });
-        self.starts.push_reserved(start);
-        self.counts.push_reserved(self.clauses.len() as u32);
+        self.assume(lit);
         Some(lit)
     }
 

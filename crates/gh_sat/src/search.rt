@@ -72,6 +72,7 @@ fn refute<T: Theory>(
     ensures added { IfOk result (λ o. IfSome o (λ _. (c : List Lit) × T.valid learner.old.sizes c × (learner.new ≡ add_clause learner.old c))) }
     ensures conflict { IfOk result (λ o. IfSome o (λ k. IsConflict learner.new k)) }
     ensures none { IfOk result (λ o. IfNone o (HasNoConflict (T.valid learner.old.sizes) learner.old.trail)) }
+    ensures known { IfOk result (λ o. IfNone o (T.known learner.old.sizes (lits_of learner.old.trail))) }
     ensures same { IfOk result (λ o. IfNone o (learner.new ≡ learner.old)) }
     ensures sound { OnOk result (IsSound learner.new) }
     ensures err { OnErr result (learner.new ≡ learner.old) }
@@ -141,6 +142,7 @@ impl<T: Theory> Search<T> {
         ensures conflict { IfOk result (λ o. IfSome o (λ k. IsConflict self.new k)) }
         ensures settled { IfOk result (λ o. IfNone o (IsSettled self.new)) }
         ensures consistent { IfOk result (λ o. IfNone o (HasNoConflict (T.valid self.new.sizes) self.new.trail)) }
+        ensures known { IfOk result (λ o. IfNone o (T.known self.new.sizes (lits_of self.new.trail))) }
         ensures sound { OnOk result (IsSound self.new) }
         ensures err { OnErr result (self.new ≡ self.old) }
     {

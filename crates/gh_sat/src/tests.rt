@@ -1,6 +1,6 @@
 //! Searches over definitions, beside a theory that forbids the last two of them together.
 
-ghost use Rattle.std.specs.Prelude.{◌≡◌, ◌∷◌, ◌-◌, ◌≤◌, ◌<◌, [], false, IfOk, IfSome, IfNone};
+ghost use Rattle.std.specs.Prelude.{◌≡◌, ◌∷◌, ◌-◌, ◌≤◌, ◌<◌, [], false, IfOk, IfSome, IfNone, ⊤};
 ghost use Rattle.gh_base.specs.declared.atom.Atom.TheVariants.{Def};
 ghost use Rattle.gh_sat.specs.Learn.{IsConflict};
 ghost use Rattle.gh_sat.specs.Measure.{left};
@@ -55,6 +55,8 @@ impl Theory for Apart {
     ghost asserted = { λ t. lits_of t.trail.steps };
 
     ghost valid = { λ z c. c ≡ (record { atom = Def (z.defs - 2); positive = false }) ∷ (record { atom = Def (z.defs - 1); positive = false }) ∷ [] };
+
+    ghost known = { λ z lits. ⊤ };
 
     fn assert(&mut self, lit: Lit) {
         self.trail.put(Step {

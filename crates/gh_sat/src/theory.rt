@@ -21,6 +21,9 @@ pub trait Theory: Drop {
     /// The clauses that the theory makes true.
     ghost valid: { Sizes → List Lit → Type 0 };
 
+    /// What is known of asserted literals that refute none of these clauses.
+    ghost known: { Sizes → List Lit → Type 0 };
+
     /// Asserts a literal. Takes no memory.
     fn assert(&mut self, lit: Lit)
         requires in_range { IsInRange (sizes self.old) lit.atom }
@@ -41,5 +44,6 @@ pub trait Theory: Drop {
     /// A clause of the theory that is false under what is asserted, if there is one.
     fn conflict(&self, alloc: Global) -> Result<Option<Clause>, AllocError>
         ensures found { IfOk result (λ o. IfSome o (λ c. valid (sizes self.now) c × IsRefutedBy (asserted self.now) c)) }
-        ensures none { IfOk result (λ o. IfNone o ((c : List Lit) → valid (sizes self.now) c → IsRefutedBy (asserted self.now) c → ⊥)) };
+        ensures none { IfOk result (λ o. IfNone o ((c : List Lit) → valid (sizes self.now) c → IsRefutedBy (asserted self.now) c → ⊥)) }
+        ensures known { IfOk result (λ o. IfNone o (known (sizes self.now) (asserted self.now))) };
 }

@@ -6,3 +6,8 @@ pub mod CountLemmas
 pub mod FirstLemmas
 pub mod Examples
 pub mod AdmitLemmas
+pub mod LackLemmas
+pub mod FollowLemmas
+pub mod BindingLemmas
+pub mod SayLemmas
+pub mod KindLemmas

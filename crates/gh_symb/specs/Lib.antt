@@ -7,3 +7,8 @@ pub mod Examples
 pub mod Met
 pub mod Symbolic
 pub mod Told
+pub mod Formulas
+pub mod Phases
+pub mod Following
+pub mod Asking
+pub mod Saying

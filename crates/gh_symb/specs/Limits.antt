@@ -36,3 +36,8 @@ Passes P c (Some l) = PassesLimit P c l
 abbrev pub IsRefusal : Program → SymbolicError → Type 0
 IsRefusal P (Limit l) = Passed P (HasManyTerms P) 6 21 l ⊎ (NoneHas P (HasManyTerms P) × Passed P (HasManyVersions P) 7 11 l)
 IsRefusal P OutOfMemory = ⊤
+
+-- the refusal of one condition
+abbrev pub IsRefused : Program → Condition → SymbolicError → Type 0
+IsRefused P c (Limit l) = PassesLimit P c l
+IsRefused P c OutOfMemory = ⊤

@@ -1,5 +1,5 @@
 -- Terms and what is bound to them, as lists.
-use Rattle.std.specs.Prelude.{ℕ, List, [], ◌∷◌}
+use Rattle.std.specs.Prelude.{◌≡◌, ℕ, List, [], ◌∷◌}
 use Rattle.gh_ast.specs.Programs.{Name}
 use Rattle.gh_path.specs.Terms.{Kind, null, value, next, Bindings, unbound, bound, Terms, terms}
 use Rattle.gh_symb.specs.declared.scope.Entry.{Entry}
@@ -10,6 +10,10 @@ abbrev pub kind_of : kept.Kind → Kind
 kind_of Null = null
 kind_of (Value n) = value n
 kind_of (Next i x) = next i x
+
+pub record BeginsWithNull (ks : List Kind) : Type 0 where
+  pub rest : List Kind
+  pub is : ks ≡ null ∷ rest
 
 -- names with terms, in the order in which they were bound
 abbrev pub Bound : Type 0

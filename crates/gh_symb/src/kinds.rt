@@ -1,10 +1,14 @@
 //! The kinds of the terms of a walk, in order of first appearance.
 
-ghost use Rattle.std.specs.Prelude.{◌≡◌, [], ◌∷◌, length, position, IfOk, OnOk};
+ghost use Rattle.std.specs.Prelude.{◌≡◌, ◌≤◌, [], ◌∷◌, length, map, position, IfOk, OnOk};
 ghost use Rattle.std.specs.List.{list_any};
 ghost use Rattle.gh_path.specs.Terms.{null, next, is_value, same_kind, place, added, with_value};
-ghost use Rattle.gh_symb.specs.Tables.{kind_of};
+ghost use Rattle.gh_symb.specs.Tables.{kind_of, BeginsWithNull};
+ghost use Rattle.gh_symb.specs.Told.{plain_kind};
 
+use crate::numbers::{short, term_of};
+use gh_base::term::TermKind;
+use gh_grass::terms::TermList;
 use std::alloc::{AllocError, Global};
 use std::marker::Model;
 
@@ -17,6 +21,24 @@ pub enum Kind {
 }
 
 impl Kind {
+    /// The same as it is told.
+    fn told(&self) -> Result<TermKind, AllocError>
+        ensures { IfOk result (λ kind. plain_kind kind ≡ kind_of self.now) }
+    {
+        match self {
+            Kind::Null => Ok(TermKind::Null),
+            Kind::Value { number } => match u16::try_from(*number) {
+                Ok(number) => Ok(TermKind::Value { number }),
+                Err(_) => Err(AllocError),
+            },
+            Kind::Next { version, of } => {
+                let version = short(*version)?;
+                let of = term_of(*of)?;
+                Ok(TermKind::Next { version, of })
+            }
+        }
+    }
+
     fn is_value(&self) -> bool
         ensures { result ≡ is_value (kind_of self.now) }
     {
@@ -47,6 +69,26 @@ fn next_place(kinds: &[Kind], version: usize, of: usize) -> Option<usize>
     kinds.iter().position(|kind| kind.is_next(version, of))
 }
 
+// Kinds as they are told.
+fn told_kinds(alloc: Global, kinds: &[Kind]) -> Result<TermList, AllocError>
+    requires few { length kinds.now ≤ 20 }
+    requires begins { BeginsWithNull (map kind_of kinds.now) }
+    ensures { IfOk result (λ terms. map plain_kind terms ≡ map kind_of kinds.now) }
+{
+    let mut terms = TermList::new(alloc)?;
+    for place in 1..kinds.len() {
+        let Some(found) = kinds.get(place) else {
+            return Ok(terms);
+        };
+        let kind = found.told()?;
+        let term = terms.add(kind)?;
+        if term.0 as usize != place {
+            return Err(AllocError);
+        }
+    }
+    Ok(terms)
+}
+
 /// Kinds in order. Contracts see them as a list.
 #[derive(Debug, Drop)]
 pub struct Kinds {
@@ -56,11 +98,13 @@ pub struct Kinds {
 impl Model for Kinds {
     ghost use Rattle.std.specs.Prelude.{List, map};
     ghost use Rattle.gh_path.specs.Terms as plain;
-    ghost use Rattle.gh_symb.specs.Tables.{kind_of};
+    ghost use Rattle.gh_symb.specs.Tables.{kind_of, BeginsWithNull};
 
     ghost Value = { List plain.Kind };
 
     ghost view = { λ k. map kind_of k.kinds.items };
+
+    ghost invariant = { λ k. BeginsWithNull (map kind_of k.kinds.items) };
 }
 
 impl Kinds {
@@ -108,5 +152,13 @@ impl Kinds {
         ensures { result ≡ place (next version of) self.now }
     {
         next_place(self.kinds.as_slice(), version, of).unwrap_or(self.kinds.len())
+    }
+    /// The kinds as they are told.
+    pub fn told(&self, alloc: Global) -> Result<TermList, AllocError>
+        requires { length self.now ≤ 20 }
+        ensures { IfOk result (λ terms. map plain_kind terms ≡ self.now) }
+    {
+        let terms = told_kinds(alloc, self.kinds.as_slice())?;
+        Ok(terms)
     }
 }

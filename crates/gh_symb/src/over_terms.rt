@@ -58,12 +58,12 @@ pub enum TermCheck<'a> {
 /// A condition over terms.
 #[derive(Debug, Drop)]
 pub struct Symbolic<'a> {
-    terms: TermList,
-    versions: u8,
-    start: Bound<'a>,
-    bindings: Vec<Binding>,
-    steps: Vec<TermStep<'a>>,
-    check: TermCheck<'a>,
+    pub(crate) terms: TermList,
+    pub(crate) versions: u8,
+    pub(crate) start: Bound<'a>,
+    pub(crate) bindings: Vec<Binding>,
+    pub(crate) steps: Vec<TermStep<'a>>,
+    pub(crate) check: TermCheck<'a>,
 }
 
 impl<'a> Symbolic<'a> {

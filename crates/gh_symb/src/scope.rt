@@ -3,6 +3,7 @@
 ghost use Rattle.std.specs.Prelude.{◌≡◌, [], ℕ, IfOk, OnOk, map, unwrap_or};
 ghost use Rattle.gh_ast.specs.Programs.{names};
 ghost use Rattle.gh_path.specs.Terms.{bound, all_bound, used, renewed};
+ghost use Rattle.gh_symb.specs.Phases.{bound_unless};
 ghost use Rattle.gh_symb.specs.Tables.{pair_of, bound_by, state};
 
 use crate::kinds::Kinds;
@@ -14,8 +15,8 @@ use std::marker::Model;
 /// A name and its term.
 #[derive(Clone, Copy, Debug)]
 pub struct Entry<'a> {
-    name: &'a Name,
-    term: usize,
+    pub name: &'a Name,
+    pub term: usize,
 }
 
 /// Names with terms, in the order in which they were bound. The last term of a name counts.
@@ -56,6 +57,21 @@ impl<'a> Scope<'a> {
         }
     }
 
+    /// The entries in order.
+    pub fn entries(&self) -> &[Entry<'a>]
+        ensures { map pair_of result.now ≡ self.now }
+    {
+        self.entries.as_slice()
+    }
+
+    /// A copy.
+    pub fn copy(&self, alloc: Global) -> Result<Scope<'a>, AllocError>
+        ensures { IfOk result (λ s. s ≡ self.now) }
+    {
+        let entries = Vec::from_slice(alloc, self.entries.as_slice())?;
+        Ok(Scope { entries })
+    }
+
     /// The term of a variable, if it has one.
     pub fn get(&self, name: &Name) -> Option<usize>
         ensures { result ≡ bound_by self.now name.now }
@@ -76,6 +92,16 @@ impl<'a> Scope<'a> {
     {
         self.entries.push(Entry { name, term })?;
         Ok(())
+    }
+
+    /// Binds the variable of an entry to its term, unless it had a term before.
+    pub fn learn_one(&mut self, before: &Scope<'a>, entry: &Entry<'a>) -> Result<(), AllocError>
+        ensures { OnOk result (bound_by self.new ≡ bound_unless (bound_by before.now entry.now.name.now) (bound_by self.old) entry.now.name.now entry.now.term) }
+    {
+        match before.get(entry.name) {
+            Some(_) => Ok(()),
+            None => self.bind(entry.name, entry.term),
+        }
     }
 
     /// Binds variables to terms, each to its own.

@@ -45,7 +45,7 @@ impl<'a> Scope<'a> {
     }
 
     /// Each variable of a procedure that statements assign gets a new value.
-    fn renew_all(
+    pub fn renew_all(
         &mut self,
         kinds: &mut Kinds,
         procedure: &'a Procedure,

@@ -1,9 +1,9 @@
 -- From a report to what the run promises.
-use Rattle.std.proofs.Common.{◌≡◌, ℕ, suc, ◌<◌, List, length, refl, sym, subst, arith, replicate, ◌∙◌}
+use Rattle.std.proofs.Common.{◌≡◌, ℕ, suc, ◌<◌, ◌≤◌, List, length, refl, sym, subst, arith, replicate, ◌∙◌}
 use Rattle.std.specs.Prelude.{Option, Some, None, codes, Result, Ok, Err, IfOk}
 use Rattle.std.proofs.lemmas.List.{length-replicate}
 use Rattle.std.specs.Io.KnownBytes.{Appends}
-use Rattle.gh_base.specs.Outside.{Table}
+use Rattle.gh_base.specs.Outside.{Table, Rose, next}
 use Rattle.gh_base.specs.Reading.{told, IsWhole, IsLonger, IsAbsent}
 use Rattle.gh_ast.specs.Plain.{Program}
 use Rattle.gh_machine.specs.Machine.{IsGood}
@@ -16,35 +16,65 @@ use Rattle.gh_top.specs.Reports.{IsCheck}
 use Rattle.gh_top.specs.Reports as check
 use Rattle.gh_top.specs.Listings.{IsPaths}
 use Rattle.gh_top.specs.Listings as paths
-use Rattle.gh_top.specs.Headline.{IsReport, HasResult, usage, asked, AreTold, HasAnswer, HasReport, IsAnswered, Answers, IsGoodText}
+use Rattle.gh_top.specs.Replays.{IsReplay, IsJudged}
+use Rattle.gh_top.specs.Replays as replays
+use Rattle.gh_top.specs.Headline.{IsReport, HasResult, usage, asked, AreTold, HasAnswer, HasReport, HasReportOf, HasReportOn, HasJudged, IsAnswered, Answers, IsGoodText, IsStop}
 use Rattle.gh_top.specs.declared.words.Request.{Request}
-use Rattle.gh_top.specs.declared.words.Request.TheVariants.{Check, Paths}
+use Rattle.gh_top.specs.declared.words.Request.TheVariants.{Check, Paths, Replay}
+use Rattle.gh_top.specs.declared.run.Stop.{Stop}
+use Rattle.gh_top.specs.declared.run.Stop.TheVariants as stop
 use Rattle.gh_top.specs.declared.status.Status.{Status}
 use Rattle.gh_top.specs.declared.status.Status.TheVariants.{Verified, Listed, Refuted, Usage, ReadFault, TextRefused, LogRefused, WriteFault, OutOfMemory}
 
--- files that hold the bytes that were read
-pub whole_report : (t : Option Table) (r : Request) (text : List ℕ) (s : Status) (u : List ℕ) → IsWhole (told t (file_of r)) text → IsReport r (Some text) s u → HasReport t r s u
-whole_report None r text s u h k = record { files = λ n. Some text; told = tt; report = k }
-whole_report (Some table) r text s u h k = record { files = table; told = refl; report = rw h k }
+-- some files that are told
+pub some_files : (t : Option Table) → (files : Table) × AreTold t files
+some_files None = (λ n. None, tt)
+some_files (Some table) = (table, refl)
 
-none_report : (r : Request) (s : Status) (u : List ℕ) → s ≡ TextRefused → u ≡ line (codes "refused: Absent") → IsReport r None s u
-none_report (Check file) s u a b = rw (a, b) check.absent
-none_report (Paths file) s u a b = rw (a, b) paths.absent
+-- files that hold the bytes that were read
+pub whole_report : (t : Option Table) (r : Request) (text : List ℕ) (s : Status) (u : List ℕ) → IsWhole (told t (file_of r)) text → HasReportOf t r (Some text) s u → HasReport t r s u
+whole_report None r text s u h k = record { files = λ n. Some text; told = tt; second = k.second; told_second = tt; report = k.report }
+whole_report (Some table) r text s u h k = record { files = table; told = refl; second = k.second; told_second = k.told; report = subst (λ o. IsReport r o k.second s u) (sym h) k.report }
+
+none_report : (r : Request) (second : Table) (s : Status) (u : List ℕ) → s ≡ TextRefused → u ≡ line (codes "refused: Absent") → IsReport r None second s u
+none_report (Check file) second s u a b = rw (a, b) check.absent
+none_report (Paths file) second s u a b = rw (a, b) paths.absent
+none_report (Replay file drawing) second s u a b = rw (a, b) replays.absent
 
 -- files without the name
 pub absent_report : (t : Option Table) (r : Request) (s : Status) (u : List ℕ) → IsAbsent (told t (file_of r)) → s ≡ TextRefused → u ≡ line (codes "refused: Absent") → HasReport t r s u
-absent_report None r s u h a b = record { files = λ n. None; told = tt; report = none_report r s u a b }
-absent_report (Some table) r s u h a b = record { files = table; told = refl; report = rw h (none_report r s u a b) }
+absent_report None r s u h a b = record { files = λ n. None; told = tt; second = λ n. None; told_second = tt; report = none_report r (λ n. None) s u a b }
+absent_report (Some table) r s u h a b = record { files = table; told = refl; second = table; told_second = refl; report = subst (λ o. IsReport r o table s u) (sym h) (none_report r table s u a b) }
 
 -- a text is refused whatever is asked of it
-pub refused_report : (r : Request) (text : List ℕ) (x : Refusal) (s : Status) (u : List ℕ) → IsRefused text x → s ≡ TextRefused → u ≡ refusal_text x → IsReport r (Some text) s u
-refused_report (Check file) text x s u h a b = rw (a, b) (check.refused x h)
-refused_report (Paths file) text x s u h a b = rw (a, b) (paths.refused x h)
+pub refused_report : (r : Request) (text : List ℕ) (second : Table) (x : Refusal) (s : Status) (u : List ℕ) → IsRefused text x → s ≡ TextRefused → u ≡ refusal_text x → IsReport r (Some text) second s u
+refused_report (Check file) text second x s u h a b = rw (a, b) (check.refused x h)
+refused_report (Paths file) text second x s u h a b = rw (a, b) (paths.refused x h)
+refused_report (Replay file drawing) text second x s u h a b = rw (a, b) (replays.refused x h)
+
+pub refused_of : (t : Option Table) (r : Request) (text : List ℕ) (x : Refusal) (s : Status) (u : List ℕ) → IsRefused text x → s ≡ TextRefused → u ≡ refusal_text x → HasReportOf t r (Some text) s u
+refused_of t r text x s u h a b = let files = some_files t in record { second = files.0; told = files.1; report = refused_report r text files.0 x s u h a b }
+
+pub refused_on : (t : Option Table) (r : Request) (P : Program) (x : Refusal) (s : Status) (u : List ℕ) → ((text : List ℕ) → IsText text P → IsRefused text x) → s ≡ TextRefused → u ≡ refusal_text x → HasReportOn t r P s u
+refused_on t r P x s u h a b = let files = some_files t in record { second = files.0; told = files.1; report = λ text spelled. refused_report r text files.0 x s u (h text spelled) a b }
+
+-- what holds of a program holds of each text that spells it
+pub spelled_report : (t : Option Table) (r : Request) (P : Program) (text : List ℕ) (s : Status) (u : List ℕ) → IsText text P → HasReportOn t r P s u → HasReportOf t r (Some text) s u
+spelled_report t r P text s u spelled k = record { second = k.second; told = k.told; report = k.report text spelled }
+
+-- an admitted program is decided
+pub checked_on : (t : Option Table) (r : Request) (file : List ℕ) → r ≡ Check file → (P : Program) (s : Status) (u : List ℕ) → ((text : List ℕ) → IsText text P → IsCheck (Some text) s u) → HasReportOn t r P s u
+checked_on t r file asks P s u k = let files = some_files t in record { second = files.0; told = files.1; report = rw asks k }
 
 -- an admitted program is listed
-pub listed_report : (r : Request) (file : List ℕ) → r ≡ Paths file → (P : Program) (text : List ℕ) (s : Status) (u : List ℕ) → IsText text P → IsAdmitted P → s ≡ Listed → u ≡ paths.listing P
-    → IsReport r (Some text) s u
-listed_report r file asks P text s u spelled admitted a b = rw (asks, a, b) (paths.listed P (record { spelled = spelled; admitted = admitted }))
+pub listed_on : (t : Option Table) (r : Request) (file : List ℕ) → r ≡ Paths file → (P : Program) (s : Status) (u : List ℕ) → IsAdmitted P → s ≡ Listed → u ≡ paths.listing P → HasReportOn t r P s u
+listed_on t r file asks P s u admitted a b =
+    let files = some_files t in
+    record { second = files.0; told = files.1; report = λ text spelled. rw (asks, a, b) (paths.listed P (record { spelled = spelled; admitted = admitted })) }
+
+-- a drawing is judged for an admitted program
+pub judged_on : (t : Option Table) (r : Request) (file drawing : List ℕ) → r ≡ Replay file drawing → (P : Program) (s : Status) (u : List ℕ) → IsAdmitted P → HasJudged t drawing P s u → HasReportOn t r P s u
+judged_on t r file drawing asks P s u admitted k = record { second = k.second; told = k.told; report = λ text spelled. rw asks (replays.judged P (record { spelled = spelled; admitted = admitted }) k.judged) }
 
 longer_than : (n : ℕ) → (text : List ℕ) × (n < length text)
 longer_than n = (replicate (suc n) 0, let e : length (replicate {A = ℕ} (suc n) 0) ≡ suc n = length-replicate {A = ℕ} (suc n) 0 in omega arith)
@@ -57,10 +87,36 @@ long_at n (Some table) name h = (table, refl, h)
 pub long_report : (t : Option Table) (r : Request) (s : Status) (u : List ℕ) → IsLonger (told t (file_of r)) 1048576 → s ≡ TextRefused → u ≡ line (codes "refused: TooLong") → HasReport t r s u
 long_report t r s u h a b =
     let l = long_at 1048576 t (file_of r) h in
-    record { files = l.0; told = l.1; report = subst (λ o. IsReport r o s u) (sym l.2.1) (refused_report r l.2.0 too_long s u l.2.2 a b) }
+    record { files = l.0; told = l.1; second = l.0; told_second = l.1; report = subst (λ o. IsReport r o l.0 s u) (sym l.2.1) (refused_report r l.2.0 l.0 too_long s u l.2.2 a b) }
+
+-- drawing files: read to their end, absent, too long
+
+pub whole_drawing : (t : Option Table) (name : List ℕ) (P : Program) (text : List ℕ) (s : Status) (u : List ℕ) → IsWhole (told t name) text → IsJudged P (Some text) s u → HasJudged t name P s u
+whole_drawing None name P text s u h k = record { second = λ n. Some text; told = tt; judged = k }
+whole_drawing (Some table) name P text s u h k = record { second = table; told = refl; judged = subst (λ o. IsJudged P o s u) (sym h) k }
+
+pub absent_drawing : (t : Option Table) (name : List ℕ) (P : Program) (s : Status) (u : List ℕ) → IsAbsent (told t name) → s ≡ LogRefused → u ≡ line (codes "refused: drawing Absent") → HasJudged t name P s u
+absent_drawing None name P s u h a b = record { second = λ n. None; told = tt; judged = rw (a, b) replays.absent }
+absent_drawing (Some table) name P s u h a b = record { second = table; told = refl; judged = subst (λ o. IsJudged P o s u) (sym h) (rw (a, b) replays.absent) }
+
+long_judged : (n : ℕ) (P : Program) (text : List ℕ) (s : Status) (u : List ℕ) → n < length text → n ≡ replays.most_drawn → s ≡ LogRefused → u ≡ line (codes "refused: drawing TooLong") → IsJudged P (Some text) s u
+long_judged n P text s u l e a b = rw (a, b) (replays.too_long (subst (λ m. m < length text) e l))
+
+pub long_drawing : (n : ℕ) (t : Option Table) (name : List ℕ) (P : Program) (s : Status) (u : List ℕ) → n ≡ replays.most_drawn → IsLonger (told t name) n → s ≡ LogRefused → u ≡ line (codes "refused: drawing TooLong") → HasJudged t name P s u
+long_drawing n t name P s u e h a b =
+    let l = long_at n t name h in
+    record { second = l.0; told = l.1; judged = subst (λ o. IsJudged P o s u) (sym l.2.1) (long_judged n P l.2.0 s u l.2.2 e a b) }
+
+-- a fault that comes later is one that comes from the beginning on
+rose_later : (a b c : ℕ) → a ≤ b → Rose b c → Rose a c
+rose_later a b c h r = omega (arith, h, r)
+
+pub stop_later : (a b c : ℕ) (s : Stop) → a ≤ b → IsStop b c s → IsStop a c s
+stop_later a b c stop.ReadFault h r = rose_later a b c h r
+stop_later a b c stop.OutOfMemory h r = tt
 
 pub request_answer : (t : Option Table) (words : List (List ℕ)) (r : Request) (s : Status) (u : List ℕ) → IsRequest words r → HasReport t r s u → HasAnswer t words s u
-request_answer t words r s u asks k = record { files = k.files; told = k.told; result = asked r asks k.report }
+request_answer t words r s u asks k = record { files = k.files; told = k.told; second = k.second; told_second = k.told_second; result = asked r asks k.report }
 
 -- a status that comes with a text
 pub record IsSaid (s : Status) : Type 0 where
@@ -80,16 +136,29 @@ said_paths o s u paths.absent = record { no_read_fault = λ e. absurd cc; no_wri
 said_paths o s u (paths.refused r h) = record { no_read_fault = λ e. absurd cc; no_write_fault = λ e. absurd cc; no_want = λ e. absurd cc }
 said_paths o s u (paths.listed P a) = record { no_read_fault = λ e. absurd cc; no_write_fault = λ e. absurd cc; no_want = λ e. absurd cc }
 
-said_report : (r : Request) (o : Option (List ℕ)) (s : Status) (u : List ℕ) → IsReport r o s u → IsSaid s
-said_report (Check file) o s u k = said_check o s u k
-said_report (Paths file) o s u k = said_paths o s u k
+said_judged : (P : Program) (o : Option (List ℕ)) (s : Status) (u : List ℕ) → IsJudged P o s u → IsSaid s
+said_judged P o s u replays.absent = record { no_read_fault = λ e. absurd cc; no_write_fault = λ e. absurd cc; no_want = λ e. absurd cc }
+said_judged P o s u (replays.too_long l) = record { no_read_fault = λ e. absurd cc; no_write_fault = λ e. absurd cc; no_want = λ e. absurd cc }
+said_judged P o s u (replays.no_drawing l n) = record { no_read_fault = λ e. absurd cc; no_write_fault = λ e. absurd cc; no_want = λ e. absurd cc }
+said_judged P o s u (replays.fails n k xs c l f a e) = record { no_read_fault = λ e. absurd cc; no_write_fault = λ e. absurd cc; no_want = λ e. absurd cc }
+said_judged P o s u (replays.refutes n xs c l f a e) = record { no_read_fault = λ e. absurd cc; no_write_fault = λ e. absurd cc; no_want = λ e. absurd cc }
 
-said_result : (words : List (List ℕ)) (files : Table) (s : Status) (u : List ℕ) → HasResult words files s u → IsSaid s
-said_result words files s u (usage h) = record { no_read_fault = λ e. absurd cc; no_write_fault = λ e. absurd cc; no_want = λ e. absurd cc }
-said_result words files s u (asked r asks k) = said_report r (files (file_of r)) s u k
+said_replay : (o d : Option (List ℕ)) (s : Status) (u : List ℕ) → IsReplay o d s u → IsSaid s
+said_replay o d s u replays.absent = record { no_read_fault = λ e. absurd cc; no_write_fault = λ e. absurd cc; no_want = λ e. absurd cc }
+said_replay o d s u (replays.refused r h) = record { no_read_fault = λ e. absurd cc; no_write_fault = λ e. absurd cc; no_want = λ e. absurd cc }
+said_replay o d s u (replays.judged P a j) = said_judged P d s u j
+
+said_report : (r : Request) (o : Option (List ℕ)) (second : Table) (s : Status) (u : List ℕ) → IsReport r o second s u → IsSaid s
+said_report (Check file) o second s u k = said_check o s u k
+said_report (Paths file) o second s u k = said_paths o s u k
+said_report (Replay file drawing) o second s u k = said_replay o (second drawing) s u k
+
+said_result : (words : List (List ℕ)) (files second : Table) (s : Status) (u : List ℕ) → HasResult words files second s u → IsSaid s
+said_result words files second s u (usage h) = record { no_read_fault = λ e. absurd cc; no_write_fault = λ e. absurd cc; no_want = λ e. absurd cc }
+said_result words files second s u (asked r asks k) = said_report r (files (file_of r)) second s u k
 
 pub said : (t : Option Table) (words : List (List ℕ)) (s : Status) (u : List ℕ) → HasAnswer t words s u → IsSaid s
-said t words s u a = said_result words a.files s u a.result
+said t words s u a = said_result words a.files a.second s u a.result
 
 -- a program that is verified is good
 record IsGoodBytes (o : Option (List ℕ)) : Type 0 where
@@ -111,30 +180,42 @@ never_verified o s u paths.absent e = absurd cc
 never_verified o s u (paths.refused r h) e = absurd cc
 never_verified o s u (paths.listed P a) e = absurd cc
 
-good_report : (words : List (List ℕ)) (files : Table) (s : Status) (u : List ℕ) (r : Request) → IsRequest words r → IsReport r (files (file_of r)) s u → s ≡ Verified → IsGoodText words files
-good_report words files s u (Check file) asks k e =
+judged_not_verified : (P : Program) (o : Option (List ℕ)) (s : Status) (u : List ℕ) → IsJudged P o s u → s ≡ Verified → ⊥
+judged_not_verified P o s u replays.absent e = absurd cc
+judged_not_verified P o s u (replays.too_long l) e = absurd cc
+judged_not_verified P o s u (replays.no_drawing l n) e = absurd cc
+judged_not_verified P o s u (replays.fails n k xs c l f a h) e = absurd cc
+judged_not_verified P o s u (replays.refutes n xs c l f a h) e = absurd cc
+
+replay_not_verified : (o d : Option (List ℕ)) (s : Status) (u : List ℕ) → IsReplay o d s u → s ≡ Verified → ⊥
+replay_not_verified o d s u replays.absent e = absurd cc
+replay_not_verified o d s u (replays.refused r h) e = absurd cc
+replay_not_verified o d s u (replays.judged P a j) e = judged_not_verified P d s u j e
+
+good_report : (words : List (List ℕ)) (files second : Table) (s : Status) (u : List ℕ) (r : Request) → IsRequest words r → IsReport r (files (file_of r)) second s u → s ≡ Verified → IsGoodText words files
+good_report words files second s u (Check file) asks k e =
     let g = good_check (files file) s u k e in
     record { file = file; text = g.text; program = g.program; request = asks; bytes = g.bytes; accepted = g.accepted; good = g.good }
-good_report words files s u (Paths file) asks k e = absurd (never_verified (files file) s u k e)
+good_report words files second s u (Paths file) asks k e = absurd (never_verified (files file) s u k e)
+good_report words files second s u (Replay file drawing) asks k e = absurd (replay_not_verified (files file) (second drawing) s u k e)
 
-good_result : (words : List (List ℕ)) (files : Table) (s : Status) (u : List ℕ) → HasResult words files s u → s ≡ Verified → IsGoodText words files
-good_result words files s u (usage h) e = absurd cc
-good_result words files s u (asked r asks k) e = good_report words files s u r asks k e
+good_result : (words : List (List ℕ)) (files second : Table) (s : Status) (u : List ℕ) → HasResult words files second s u → s ≡ Verified → IsGoodText words files
+good_result words files second s u (usage h) e = absurd cc
+good_result words files second s u (asked r asks k) e = good_report words files second s u r asks k e
 
 pub answered : (t : Option Table) (words : List (List ℕ)) (old new : Option (List ℕ)) (s : Status) (u : List ℕ) → HasAnswer t words s u → Appends old new u → Answers t words old new s
-answered t words old new Verified u a w = record { text = u; answer = a; written = w; good = λ e. good_result words a.files Verified u a.result e }
-answered t words old new Listed u a w = record { text = u; answer = a; written = w; good = λ e. good_result words a.files Listed u a.result e }
-answered t words old new Refuted u a w = record { text = u; answer = a; written = w; good = λ e. good_result words a.files Refuted u a.result e }
-answered t words old new Usage u a w = record { text = u; answer = a; written = w; good = λ e. good_result words a.files Usage u a.result e }
+answered t words old new Verified u a w = record { text = u; answer = a; written = w; good = λ e. good_result words a.files a.second Verified u a.result e }
+answered t words old new Listed u a w = record { text = u; answer = a; written = w; good = λ e. good_result words a.files a.second Listed u a.result e }
+answered t words old new Refuted u a w = record { text = u; answer = a; written = w; good = λ e. good_result words a.files a.second Refuted u a.result e }
+answered t words old new Usage u a w = record { text = u; answer = a; written = w; good = λ e. good_result words a.files a.second Usage u a.result e }
 answered t words old new ReadFault u a w = tt
-answered t words old new TextRefused u a w = record { text = u; answer = a; written = w; good = λ e. good_result words a.files TextRefused u a.result e }
-answered t words old new LogRefused u a w = record { text = u; answer = a; written = w; good = λ e. good_result words a.files LogRefused u a.result e }
+answered t words old new TextRefused u a w = record { text = u; answer = a; written = w; good = λ e. good_result words a.files a.second TextRefused u a.result e }
+answered t words old new LogRefused u a w = record { text = u; answer = a; written = w; good = λ e. good_result words a.files a.second LogRefused u a.result e }
 answered t words old new WriteFault u a w = tt
 answered t words old new OutOfMemory u a w = tt
 
 pub usage_answer : (t : Option Table) (words : List (List ℕ)) (u : List ℕ) → ((r : Request) → IsRequest words r → ⊥) → u ≡ line (codes "refused: usage") → HasAnswer t words Usage u
-usage_answer None words u h e = record { files = λ n. None; told = tt; result = rw e (usage h) }
-usage_answer (Some table) words u h e = record { files = table; told = refl; result = rw e (usage h) }
+usage_answer t words u h e = let files = some_files t in record { files = files.0; told = files.1; second = files.0; told_second = files.1; result = rw e (usage h) }
 
 pub both_ok : {A E : Type 0} (r : Result A E) (Q R S : A → Type 0) → IfOk r Q → IfOk r R → ((x : A) → Q x → R x → S x) → IfOk r S
 both_ok (Ok x) Q R S q r f = f x q r

@@ -11,3 +11,5 @@ pub mod CountLemmas
 pub mod JudgeLemmas
 pub mod DrawnLemmas
 pub mod ListingLemmas
+pub mod ReplayLemmas
+pub mod WordWalks

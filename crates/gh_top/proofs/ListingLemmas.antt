@@ -59,7 +59,7 @@ line_told : (k sp d c1 s c2 v c3 t c4 e old first second third : List ℕ) → f
     → third ≡ second ++ ((c1 ++ s ++ c2 ++ v ++ c3 ++ t ++ c4) ++ e) → third ≡ old ++ ((k ++ sp ++ d ++ c1 ++ s ++ c2 ++ v ++ c3 ++ t ++ c4) ++ e)
 line_told k sp d c1 s c2 v c3 t c4 e old first second third a b c = rw (c, b, a) (simp append_assoc)
 
-as_many : (P : Program) (p : Procedure) (rs : List kept_step.PathStep) (ss : List PathStep) → AreSteps P p rs ss → length rs ≡ length ss
+pub as_many : (P : Program) (p : Procedure) (rs : List kept_step.PathStep) (ss : List PathStep) → AreSteps P p rs ss → length rs ≡ length ss
 as_many P p [] [] h = refl
 as_many P p [] (s ∷ ss) h = absurd h
 as_many P p (r ∷ rs) [] h = absurd h
@@ -93,7 +93,7 @@ at_back (x ∷ xs) ys zero j e = absurd (omega (arith, e))
 at_back (x ∷ xs) ys (suc k) j e = at_back xs ys k j (omega (arith, e))
 
 -- no condition of the list has a property that no procedure has a condition with
-none_passes : (Q : Condition → Type 0) (ps : List Procedure) (k : ℕ) (c : Condition) → slice_get (from_procedures ps) k ≡ Some c
+pub none_passes : (Q : Condition → Type 0) (ps : List Procedure) (k : ℕ) (c : Condition) → slice_get (from_procedures ps) k ≡ Some c
     → ((p : Procedure) → Contains ps p → Any Q (conditions_of p) → ⊥) → Q c → ⊥
 none_passes Q [] k c there none holds = absurd cc
 none_passes Q (p ∷ ps) k c there none holds = elim (over_or k (length (conditions_of p))) [

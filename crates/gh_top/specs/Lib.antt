@@ -8,7 +8,9 @@ pub mod Listings
 pub mod Places
 pub mod Refusals
 pub mod Refuting
+pub mod Replays
 pub mod Reports
 pub mod Statuses
+pub mod Stress
 pub mod Verdicts
 pub mod Words

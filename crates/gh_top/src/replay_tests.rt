@@ -183,3 +183,60 @@ fn a_write_a_loop_a_call_and_a_new_cell(rt: HostRuntime) -> Result<(), AllocErro
     assert!(rt; ends(alloc, REUSE, 2, &[cell, cell, gone, (&[1, 1], &[(1, 0)])])? == 1000);
     Ok(())
 }
+
+const PAIR: &[u8] = b"struct Node { var next: Node; }
+procedure pair(a: Node) returns (b: Node, c: Node)
+  requires acc(a)
+  ensures b.next |-> c &*& b == a &*& c == null
+{ b := a; c := null; a.next := c; }
+procedure outer(x: Node) returns (r: Node, s: Node)
+  requires acc(x)
+  ensures acc(x) &*& r == s
+{ r, s := pair(x); }
+procedure turned(x: Node) returns (r: Node, s: Node)
+  requires acc(x)
+  ensures acc(x) &*& r == s
+{ s, r := pair(x); }
+";
+
+#[test]
+fn the_results_of_a_call_in_their_order(rt: HostRuntime) -> Result<(), AllocError> {
+    let alloc = rt.alloc();
+    let before: Drawn = (&[1, 0, 0], &[(1, 2)]);
+    let first: Drawn = (&[1, 1, 0], &[(1, 0)]);
+    let second: Drawn = (&[1, 0, 1], &[(1, 0)]);
+    assert!(rt; ends(alloc, PAIR, 4, &[before, first])? == 1000);
+    assert!(rt; ends(alloc, PAIR, 4, &[before, second])? == 1);
+    assert!(rt; ends(alloc, PAIR, 6, &[before, second])? == 1000);
+    assert!(rt; ends(alloc, PAIR, 6, &[before, first])? == 1);
+    Ok(())
+}
+
+const WALK: &[u8] = b"struct Node { var next: Node; }
+procedure walk(x: Node) returns (y: Node, z: Node)
+  requires lseg(x, null)
+  ensures lseg(x, null)
+{
+  z := x;
+  y := x;
+  while (y != null)
+    invariant lseg(y, null)
+  { if (y != z) { y := y.next; } else { y := y.next; } }
+}
+";
+
+#[test]
+fn what_a_loop_assigns(rt: HostRuntime) -> Result<(), AllocError> {
+    let alloc = rt.alloc();
+    let start: Drawn = (&[1, 0, 0], &[(1, 0)]);
+    let one: Drawn = (&[1, 0, 1], &[(1, 0)]);
+    let two: Drawn = (&[1, 1, 1], &[(1, 0)]);
+    let out: Drawn = (&[1, 0, 1], &[]);
+    let result: Drawn = (&[1, 0, 7], &[]);
+    let parameter: Drawn = (&[7, 0, 1], &[]);
+    assert!(rt; ends(alloc, WALK, 2, &[start, one, two, out, out])? == 1000);
+    assert!(rt; ends(alloc, WALK, 2, &[start, one, two, result, result])? == 3);
+    assert!(rt; ends(alloc, WALK, 2, &[start, one, two, parameter, parameter])? == 3);
+    assert!(rt; ends(alloc, WALK, 2, &[start, one, two, out, result])? == 4);
+    Ok(())
+}

@@ -1,6 +1,6 @@
 //! The report on a program text.
 
-ghost use Rattle.std.specs.Prelude.{◌≡◌, ◌≤◌, ◌<◌, ◌+◌, ◌++◌, IfOk, OnOk, List, ℕ, Some, length, codes, map, Contains};
+ghost use Rattle.std.specs.Prelude.{◌≡◌, ◌≤◌, ◌<◌, ◌+◌, ◌++◌, IfOk, IfErr, OnOk, List, ℕ, Some, length, codes, map, Contains};
 ghost use Rattle.std.specs.Fmt.{decimal};
 ghost use Rattle.gh_ast.specs.Plain.{program_of, procedure_of};
 ghost use Rattle.gh_ast.specs.Programs.{variable_names, body_of};
@@ -12,7 +12,7 @@ ghost use Rattle.gh_draw.specs.Drawings.{line};
 ghost use Rattle.gh_ast.specs.Rules.{IsTyped};
 ghost use Rattle.gh_ast.specs.Limits.{KeepsLimits};
 ghost use Rattle.gh_path.specs.Admitted.{IsAdmitted};
-ghost use Rattle.gh_top.specs.Headline.{IsReport, IsReportOn};
+ghost use Rattle.gh_top.specs.Headline.{HasReportOf, HasReportOn, IsStop, IsCalm};
 ghost use Rattle.gh_top.specs.Reports.{IsCheck};
 ghost use Rattle.gh_top.specs.Refuting.{refuted_copies};
 
@@ -21,12 +21,15 @@ use crate::lines::{
     refused_line, refuted_line, verified_line,
 };
 use crate::listing::listing_report;
+use crate::replaying::replay_report;
+use crate::run::Stop;
 use crate::states::push_states;
 use crate::status::Status;
 use crate::verdict::{Verdict, judge_all};
 use crate::words::Request;
 use gh_ast::typed::Typed;
 use gh_ast::{Procedure, Program};
+use gh_base::outside::Inputs;
 use gh_base::text::Text;
 use gh_parse::error::ParseError;
 use gh_parse::parse::parse;
@@ -109,64 +112,95 @@ fn verdict_report(alloc: Global, typed: &Typed) -> Result<Report, AllocError>
 }
 
 // The report on an admitted program.
-fn admitted_report(
+fn admitted_report<I: Inputs>(
     alloc: Global,
     request: &Request,
+    inputs: &mut I,
     typed: &Typed,
     conditions: &Conditions,
-) -> Result<Report, AllocError>
+) -> Result<Report, Stop>
     requires same { conditions.now ≡ typed.now }
     requires admitted { IsAdmitted (program_of typed.now) }
-    ensures { IfOk result (λ r. IsReportOn request.now (program_of typed.now) r.status r.text) }
+    ensures ok { IfOk result (λ r. HasReportOn (I.table inputs.old) request.now (program_of typed.now) r.status r.text) }
+    ensures stop { IfErr result (λ s. IsStop (I.faults inputs.old) (I.faults inputs.new) s) }
+    ensures calm { IsCalm (I.faults inputs.old) (I.faults inputs.new) result }
+    ensures table { I.table inputs.new ≡ I.table inputs.old }
 {
     match request {
-        Request::Check { .. } => verdict_report(alloc, typed),
-        Request::Paths { .. } => listing_report(alloc, typed, conditions),
+        Request::Check { .. } => Ok(verdict_report(alloc, typed)?),
+        Request::Paths { .. } => Ok(listing_report(alloc, typed, conditions)?),
+        Request::Replay { drawing, .. } => {
+            replay_report(alloc, inputs, drawing.as_str(), typed, conditions)
+        }
     }
 }
 
 // The report on a program that keeps the rules and the limits on a text.
-fn typed_report(alloc: Global, request: &Request, typed: &Typed) -> Result<Report, AllocError>
+fn typed_report<I: Inputs>(
+    alloc: Global,
+    request: &Request,
+    inputs: &mut I,
+    typed: &Typed,
+) -> Result<Report, Stop>
     requires typed { IsTyped (program_of typed.now) }
     requires limits { KeepsLimits (program_of typed.now) }
-    ensures { IfOk result (λ r. IsReportOn request.now (program_of typed.now) r.status r.text) }
+    ensures ok { IfOk result (λ r. HasReportOn (I.table inputs.old) request.now (program_of typed.now) r.status r.text) }
+    ensures stop { IfErr result (λ s. IsStop (I.faults inputs.old) (I.faults inputs.new) s) }
+    ensures calm { IsCalm (I.faults inputs.old) (I.faults inputs.new) result }
+    ensures table { I.table inputs.new ≡ I.table inputs.old }
 {
     let conditions = match conditions(alloc, typed) {
         Ok(conditions) => conditions,
         Err(ConditionsError::Limit(passed)) => return Ok(refusal(limit_line(alloc, passed)?)),
-        Err(ConditionsError::OutOfMemory) => return Err(AllocError),
+        Err(ConditionsError::OutOfMemory) => return Err(Stop::OutOfMemory),
     };
     match admit(alloc, typed, &conditions) {
-        Ok(()) => admitted_report(alloc, request, typed, &conditions),
+        Ok(()) => admitted_report(alloc, request, inputs, typed, &conditions),
         Err(SymbolicError::Limit(passed)) => Ok(refusal(limit_line(alloc, passed)?)),
-        Err(SymbolicError::OutOfMemory) => Err(AllocError),
+        Err(SymbolicError::OutOfMemory) => Err(Stop::OutOfMemory),
     }
 }
 
 // The report on a program that a text spells.
-fn program_report(alloc: Global, request: &Request, program: Program) -> Result<Report, AllocError>
-    ensures { IfOk result (λ r. IsReportOn request.now (program_of program) r.status r.text) }
+fn program_report<I: Inputs>(
+    alloc: Global,
+    request: &Request,
+    inputs: &mut I,
+    program: Program,
+) -> Result<Report, Stop>
+    ensures ok { IfOk result (λ r. HasReportOn (I.table inputs.old) request.now (program_of program) r.status r.text) }
+    ensures stop { IfErr result (λ s. IsStop (I.faults inputs.old) (I.faults inputs.new) s) }
+    ensures calm { IsCalm (I.faults inputs.old) (I.faults inputs.new) result }
+    ensures table { I.table inputs.new ≡ I.table inputs.old }
 {
     match check(alloc, program) {
-        Ok(typed) => typed_report(alloc, request, &typed),
+        Ok(typed) => typed_report(alloc, request, inputs, &typed),
         Err(CheckError::TypeError { number, span }) => {
             Ok(refusal(refused_line(alloc, name_of_error(number), span)?))
         }
         Err(CheckError::Limit(passed)) => Ok(refusal(limit_line(alloc, passed)?)),
-        Err(CheckError::OutOfMemory) => Err(AllocError),
+        Err(CheckError::OutOfMemory) => Err(Stop::OutOfMemory),
     }
 }
 
-/// The report on a text that isn't too long.
-pub fn text_report(alloc: Global, request: &Request, text: &[u8]) -> Result<Report, AllocError>
+/// The report on a text that isn't too long, for which a second file may be read.
+pub fn text_report<I: Inputs>(
+    alloc: Global,
+    request: &Request,
+    inputs: &mut I,
+    text: &[u8],
+) -> Result<Report, Stop>
     requires { length text.now ≤ most_bytes }
-    ensures { IfOk result (λ r. IsReport request.now (Some text.now) r.status r.text) }
+    ensures ok { IfOk result (λ r. HasReportOf (I.table inputs.old) request.now (Some text.now) r.status r.text) }
+    ensures stop { IfErr result (λ s. IsStop (I.faults inputs.old) (I.faults inputs.new) s) }
+    ensures calm { IsCalm (I.faults inputs.old) (I.faults inputs.new) result }
+    ensures table { I.table inputs.new ≡ I.table inputs.old }
 {
     match parse(alloc, text) {
-        Ok(program) => program_report(alloc, request, program),
+        Ok(program) => program_report(alloc, request, inputs, program),
         Err(ParseError::Byte { offset }) => Ok(refusal(byte_line(alloc, offset)?)),
         Err(ParseError::Deep { span }) => Ok(refusal(refused_line(alloc, "Deep", span)?)),
         Err(ParseError::Syntax { span }) => Ok(refusal(refused_line(alloc, "Syntax", span)?)),
-        Err(ParseError::OutOfMemory) => Err(AllocError),
+        Err(ParseError::OutOfMemory) => Err(Stop::OutOfMemory),
     }
 }

@@ -1,10 +1,10 @@
 //! The top call.
 
-ghost use Rattle.std.specs.Prelude.{◌≡◌, IfOk, IfErr};
+ghost use Rattle.std.specs.Prelude.{◌≡◌, ◌≢◌, IfOk, IfErr};
 ghost use Rattle.std.specs.Io.KnownBytes.{Keeps};
 ghost use Rattle.gh_base.specs.Outside.{Rose};
 ghost use Rattle.gh_draw.specs.Drawings.{line};
-ghost use Rattle.gh_top.specs.Headline.{Answers, IsCutOff, NamesFile, HasAnswer, HasReport, IsStop};
+ghost use Rattle.gh_top.specs.Headline.{Answers, IsCutOff, NamesFile, HasAnswer, HasReport, IsStop, IsCalm};
 
 use crate::lines::plain_line;
 use crate::report::{Report, text_report};
@@ -20,7 +20,7 @@ pub const MOST_BYTES: usize = 1_048_576;
 
 /// Why there is nothing to write.
 #[derive(Clone, Copy, Debug)]
-enum Stop {
+pub enum Stop {
     ReadFault,
     OutOfMemory,
 }
@@ -44,9 +44,11 @@ fn request_report<I: Inputs>(
 ) -> Result<Report, Stop>
     ensures ok { IfOk result (λ r. HasReport (I.table inputs.old) request.now r.status r.text) }
     ensures stop { IfErr result (λ s. IsStop (I.faults inputs.old) (I.faults inputs.new) s) }
+    ensures calm { IsCalm (I.faults inputs.old) (I.faults inputs.new) result }
+    ensures table { I.table inputs.new ≡ I.table inputs.old }
 {
     match read_input(alloc, inputs, request.file(), MOST_BYTES) {
-        Ok(text) => Ok(text_report(alloc, request, text.bytes())?),
+        Ok(text) => text_report(alloc, request, inputs, text.bytes()),
         Err(InputError::TooLong) => refused(alloc, "refused: TooLong"),
         Err(InputError::Absent) => refused(alloc, "refused: Absent"),
         Err(InputError::ReadFault) => Err(Stop::ReadFault),
@@ -71,6 +73,8 @@ fn report<I: Inputs>(alloc: Global, words: &Words, inputs: &mut I) -> Result<Rep
     ensures ok { IfOk result (λ r. HasAnswer (I.table inputs.old) words.now r.status r.text) }
     ensures stop { IfErr result (λ s. IsStop (I.faults inputs.old) (I.faults inputs.new) s) }
     ensures named { IfErr result (λ s. s ≡ Stop.ReadFault → NamesFile words.now) }
+    ensures calm { IsCalm (I.faults inputs.old) (I.faults inputs.new) result }
+    ensures table { I.table inputs.new ≡ I.table inputs.old }
 {
     match read_words(alloc, words)? {
         Some(request) => request_report(alloc, &request, inputs),
@@ -92,6 +96,11 @@ pub fn run<I: Inputs, S: Sink>(alloc: Global, words: &Words, inputs: &mut I, out
     ensures write { result ≡ Status.WriteFault → Rose (S.faults out.old) (S.faults out.new) }
     ensures write_front { result ≡ Status.WriteFault → IsCutOff (I.table inputs.old) words.now (S.written out.old) (S.written out.new) }
     ensures memory_silent { result ≡ Status.OutOfMemory → Keeps (S.written out.old) (S.written out.new) }
+
+    // No other answer hides a fault, and the files stay as they are told.
+    ensures read_calm { result ≢ Status.ReadFault → I.faults inputs.new ≡ I.faults inputs.old }
+    ensures write_calm { result ≢ Status.WriteFault → S.faults out.new ≡ S.faults out.old }
+    ensures table { I.table inputs.new ≡ I.table inputs.old }
 {
     match report(alloc, words, inputs) {
         Ok(report) => match write_all(out, report.text.bytes()) {

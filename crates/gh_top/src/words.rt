@@ -1,9 +1,15 @@
 //! The words of the command line, and what they ask for.
 
-ghost use Rattle.std.specs.Prelude.{◌≡◌, ◌∷◌, [], ◌++◌, OnOk, OnErr, IfOk, IfSome, IfNone, MatchOption, IsTrue, ◌↔◌, ◌≢◌, length};
-ghost use Rattle.gh_top.specs.Words.{IsRequest, IsOperand};
+ghost use Rattle.std.specs.Prelude.{◌≡◌, ◌∷◌, [], ◌++◌, ◌<◌, map, All, OnOk, OnErr, IfOk, IfErr, MatchOption, IsTrue, ◌↔◌, ◌≢◌, Some, codes, length};
+ghost use Rattle.clap.specs.Values.{kind_of};
+ghost use Rattle.clap.specs.Walk.{all_of, rows_of};
+ghost use Rattle.clap.specs.Matches.{found_of};
+ghost use Rattle.clap.specs.Simple.{app_of};
+ghost use Rattle.gh_top.specs.Words.{IsRequest, IsOperand, words_of, app};
 ghost use Rattle.gh_top.specs.declared.words.Request.{Request};
 
+use clap::error::ErrorKind;
+use clap::{Arg, ArgAction, ArgMatches, Command, Error};
 use std::alloc::{AllocError, Global};
 use std::marker::Model;
 
@@ -82,6 +88,9 @@ pub enum Request {
 
     /// Lists the conditions of a program.
     Paths { file: FileName },
+
+    /// Judges a drawing for a program.
+    Replay { file: FileName, drawing: FileName },
 }
 
 impl Request {
@@ -92,7 +101,9 @@ impl Request {
         ensures { result.now ≡ file_of self.now }
     {
         match self {
-            Request::Check { file } | Request::Paths { file } => file.as_str(),
+            Request::Check { file } | Request::Paths { file } | Request::Replay { file, .. } => {
+                file.as_str()
+            }
         }
     }
 }
@@ -101,35 +112,16 @@ impl Request {
 pub fn read_words(alloc: Global, words: &Words) -> Result<Option<Request>, AllocError>
     ensures { IfOk result (λ o. MatchOption o ((r : Request) → IsRequest words.now r → ⊥) (λ r. IsRequest words.now r)) }
 {
-    match pair(words.words.as_slice()) {
-        Some((mode, file)) if is_mode(mode, "check") && is_operand(file) => {
-            Ok(Some(Request::Check {
-                file: FileName::new(alloc, file.as_str())?,
-            }))
-        }
-        Some((mode, file)) if is_mode(mode, "paths") && is_operand(file) => {
-            Ok(Some(Request::Paths {
-                file: FileName::new(alloc, file.as_str())?,
-            }))
-        }
-        _ => Ok(None),
+    if words.words.is_empty() {
+        return Ok(None);
     }
-}
-
-// The two words that there are, if there are two.
-fn pair<'w>(words: &'w [FileName]) -> Option<(&'w FileName, &'w FileName)>
-    ensures { MatchOption result (length words.now ≢ 2) (λ p. words.now ≡ p.0.now ∷ p.1.now ∷ []) }
-{
-    match words {
-        [first, second] => Some((first, second)),
-        _ => None,
+    for word in &words.words {
+        if !is_operand(word) {
+            return Ok(None);
+        }
     }
-}
-
-fn is_mode(word: &FileName, mode: &str) -> bool
-    ensures { IsTrue result ↔ (word.now ≡ mode.now) }
-{
-    word.as_str() == mode
+    let texts = texts(alloc, words.words.as_slice())?;
+    read_plain(alloc, texts.as_slice())
 }
 
 // Whether a word isn't empty and doesn't begin with `-`.
@@ -139,5 +131,108 @@ fn is_operand(word: &FileName) -> bool
     match word.as_str().as_bytes() {
         [] => false,
         [first, ..] => *first != b'-',
+    }
+}
+
+// The texts of some words.
+fn texts<'w>(alloc: Global, words: &'w [FileName]) -> Result<Vec<&'w str>, AllocError>
+    ensures { IfOk result (λ v. map (λ w. w.now) v.items ≡ words.entry.now) }
+{
+    let mut texts = Vec::new(alloc);
+    for word in words {
+        texts.push(word.as_str())?;
+    }
+    Ok(texts)
+}
+
+// The request that plain words are, read as the positionals of a command.
+fn read_plain<'a>(alloc: Global, words: &'a [&'a str]) -> Result<Option<Request>, AllocError>
+    requires some { 0 < length words.now }
+    requires plain { All (λ w. IsOperand w.now) words.now }
+    ensures { IfOk result (λ o. MatchOption o ((r : Request) → map (λ w. w.now) words.entry.now ≡ words_of r → ⊥) (λ r. map (λ w. w.now) words.entry.now ≡ words_of r)) }
+{
+    let command = command(alloc)?;
+    let matches = match matches_at(command, words) {
+        Ok(matches) => matches,
+        Err(_) => return Err(AllocError),
+    };
+    match matches.get_strs("word") {
+        Some(positionals) => request_of(alloc, positionals),
+        None => Ok(None),
+    }
+}
+
+// The command line: one positional that takes every word.
+fn command<'a>(alloc: Global) -> Result<Command<'a>, AllocError>
+    ensures { IfOk result (λ c. app_of c ≡ app) }
+{
+    let word = Arg::new(alloc, "word").action(ArgAction::Append);
+    let command = Command::new(alloc, "grass").arg(word)?;
+    Ok(command.no_binary_name(true))
+}
+
+// The matches of the command at some words.
+fn matches_at<'a>(command: Command<'a>, words: &'a [&'a str]) -> Result<ArgMatches<'a>, Error>
+    requires some { 0 < length words.now }
+    requires plain { All (λ w. IsOperand w.now) words.now }
+    requires command { app_of command ≡ app }
+    ensures ok { IfOk result (λ m. all_of (codes "word") (rows_of (found_of m)) ≡ Some (map (λ w. w.now) words.entry.now)) }
+    ensures err { IfErr result (λ e. kind_of e ≡ ErrorKind.OutOfMemory) }
+{
+    command.try_get_matches_from(words)
+}
+
+// The request of a mode and its operands.
+fn request_of(alloc: Global, words: &[&str]) -> Result<Option<Request>, AllocError>
+    ensures { IfOk result (λ o. MatchOption o ((r : Request) → map (λ w. w.now) words.entry.now ≡ words_of r → ⊥) (λ r. map (λ w. w.now) words.entry.now ≡ words_of r)) }
+{
+    if let Some((mode, file)) = pair(words) {
+        return request_on_one(alloc, mode, file);
+    }
+    if let Some((mode, file, drawing)) = triple(words)
+        && mode == "replay"
+    {
+        return Ok(Some(Request::Replay {
+            file: FileName::new(alloc, file)?,
+            drawing: FileName::new(alloc, drawing)?,
+        }));
+    }
+    Ok(None)
+}
+
+// The request of a mode and one operand.
+fn request_on_one(alloc: Global, mode: &str, file: &str) -> Result<Option<Request>, AllocError>
+    ensures { IfOk result (λ o. MatchOption o ((r : Request) → mode.now ∷ file.now ∷ [] ≡ words_of r → ⊥) (λ r. mode.now ∷ file.now ∷ [] ≡ words_of r)) }
+{
+    if mode == "check" {
+        return Ok(Some(Request::Check {
+            file: FileName::new(alloc, file)?,
+        }));
+    }
+    if mode == "paths" {
+        return Ok(Some(Request::Paths {
+            file: FileName::new(alloc, file)?,
+        }));
+    }
+    Ok(None)
+}
+
+// The two words that there are, if there are two.
+fn pair<'w>(words: &[&'w str]) -> Option<(&'w str, &'w str)>
+    ensures { MatchOption result (length words.entry.now ≢ 2) (λ p. map (λ w. w.now) words.entry.now ≡ p.0.now ∷ p.1.now ∷ []) }
+{
+    match words {
+        [first, second] => Some((*first, *second)),
+        _ => None,
+    }
+}
+
+// The three words that there are, if there are three.
+fn triple<'w>(words: &[&'w str]) -> Option<(&'w str, &'w str, &'w str)>
+    ensures { MatchOption result (length words.entry.now ≢ 3) (λ p. map (λ w. w.now) words.entry.now ≡ p.0.now ∷ p.1.now ∷ p.2.now ∷ []) }
+{
+    match words {
+        [first, second, third] => Some((*first, *second, *third)),
+        _ => None,
     }
 }

@@ -12,6 +12,8 @@ fn absent_files_and_folders(rt: HostRuntime) -> Result<(), Fail> {
     let mut piece = [0u8; 4];
     assert!(rt; inputs.read(&mut piece) == Ok(0));
     assert!(rt; inputs.begin("no such file") == Ok(false));
+    assert!(rt; inputs.begin("/dev/null/below") == Err(Failed));
+    assert!(rt; inputs.read(&mut piece) == Ok(0));
     assert!(rt; inputs.begin(".") == Ok(true));
     assert!(rt; inputs.read(&mut piece) == Err(Failed));
     Ok(())

@@ -1,4 +1,4 @@
-use Rattle.std.proofs.Common.{arith, length-drop, ℕ}
+use Rattle.std.proofs.Common.{arith, length-drop, ℕ, ◌∙◌}
 use Rattle.gh_base.proofs.Appending.{appends_on, rest_of}
 use Rattle.gh_base.proofs.writing.write_all.Goals as goal
 
@@ -9,5 +9,5 @@ loop-done-preserved g c =
     record {
       within = omega (arith, some.0, length-drop {A = ℕ});
       written = appends_on _ (g.S.Sink.written c.loop-done.out) _ c.loop-done.done c.in_ok-done.field-0 c.args.text.now c.loop-done.invariant.written bytes;
-      later = omega (arith, c.in_ok-done.ensures.cause.later);
+      calm = c.in_ok-done.ensures.cause.calm ∙ c.loop-done.invariant.calm;
     }

@@ -1,4 +1,4 @@
-use Rattle.std.proofs.Common.{◌≤◌, ◌-◌, length, take}
+use Rattle.std.proofs.Common.{◌≡◌, ◌≤◌, ◌-◌, length, take}
 use Rattle.std.specs.Io.KnownBytes.{Appends}
 use Rattle.gh_base.proofs.writing.write_all.Given as goal
 
@@ -6,7 +6,7 @@ abbrev pub invariant-loop-done : goal.invariant-loop-done
 invariant-loop-done g l = record {
   within : l.done ≤ length l.text;
   written : Appends (g.S.Sink.written l.initial.out) (g.S.Sink.written l.out) (take l.done l.text);
-  later : g.S.Sink.faults l.initial.out ≤ g.S.Sink.faults l.out;
+  calm : g.S.Sink.faults l.out ≡ g.S.Sink.faults l.initial.out;
 }
 
 abbrev pub decreases-loop-done : goal.decreases-loop-done

@@ -1,10 +1,21 @@
+use Rattle.std.proofs.Common.{subst}
+use Rattle.std.proofs.lemmas.Result.{IfOk-weaker}
 use Rattle.gh_ast.specs.Plain.{program_of}
-use Rattle.gh_top.specs.Headline.{IsReportOn}
-use Rattle.gh_top.proofs.HeadlineLemmas.{listed_report, both_ok}
+use Rattle.gh_top.specs.Headline.{HasJudged}
+use Rattle.gh_top.proofs.HeadlineLemmas.{checked_on, listed_on, judged_on}
 use Rattle.gh_top.proofs.report.admitted_report.Goals as goal
 
-pub returns-in-Paths : goal.returns-in-Paths
-returns-in-Paths c =
+pub returns-in_ok-verdict_report-in-Check-clause-ok : goal.returns-in_ok-verdict_report-in-Check-clause-ok
+returns-in_ok-verdict_report-in-Check-clause-ok g c =
+    checked_on (g.I.Inputs.table c.args.inputs.now) c.args.request.now c.in-Check.file c.in-Check.is (program_of c.args.typed.now) _ _ c.in_ok-verdict_report-in-Check.ensures
+
+pub returns-in_ok-listing_report-in-Paths-clause-ok : goal.returns-in_ok-listing_report-in-Paths-clause-ok
+returns-in_ok-listing_report-in-Paths-clause-ok g c =
+    listed_on (g.I.Inputs.table c.args.inputs.now) c.args.request.now c.in-Paths.file c.in-Paths.is (program_of c.args.typed.now) _ _ c.requires.admitted c.in_ok-listing_report-in-Paths.ensures.status c.in_ok-listing_report-in-Paths.ensures.text
+
+pub returns-in-Replay-clause-ok : goal.returns-in-Replay-clause-ok
+returns-in-Replay-clause-ok g c =
     let P = program_of c.args.typed.now in
-    both_ok c.listing_report.result _ _ (λ r. IsReportOn c.args.request.now P r.status r.text) c.listing_report.ensures.status c.listing_report.ensures.text
-    (λ r status told text spelled. listed_report c.args.request.now c.in-Paths.file c.in-Paths.is P text r.status r.text spelled c.requires.admitted status told)
+    let t = g.I.Inputs.table c.args.inputs.now in
+    IfOk-weaker c.replay_report.result _ _
+    (λ r k. judged_on t c.args.request.now c.in-Replay.file c.in-Replay.drawing c.in-Replay.is P r.status r.text c.requires.admitted (subst (λ name. HasJudged t name P r.status r.text) c.as_str.ensures k)) c.replay_report.ensures.ok

@@ -1,15 +1,28 @@
-use Rattle.std.proofs.Common.{subst, sym}
+use Rattle.std.proofs.Common.{subst, sym, ◌∙◌}
 use Rattle.std.specs.Prelude.{Some, Result, Ok, Err, IfOk}
 use Rattle.gh_base.specs.Reading.{told, IsWhole, IsLonger, IsAbsent}
-use Rattle.gh_top.specs.Headline.{IsReport}
-use Rattle.gh_top.proofs.HeadlineLemmas.{whole_report, absent_report, long_report, both_ok}
+use Rattle.std.proofs.lemmas.Result.{IfOk-weaker, IfErr-weaker}
+use Rattle.gh_top.specs.Headline.{HasReportOf, IsCalm}
+use Rattle.gh_top.proofs.HeadlineLemmas.{whole_report, absent_report, long_report, both_ok, stop_later}
 use Rattle.gh_top.proofs.run.request_report.Goals as goal
 
-pub returns-in_ok-text_report-in-Ok-clause-ok : goal.returns-in_ok-text_report-in-Ok-clause-ok
-returns-in_ok-text_report-in-Ok-clause-ok g c =
-    whole_report (g.I.Inputs.table c.args.inputs.now) c.args.request.now c.in-Ok.text _ _
-    (subst (λ f. IsWhole (told (g.I.Inputs.table c.args.inputs.now) f) c.in-Ok.text) c.file.ensures c.in-Ok.ensures.ok.1)
-    (subst (λ t. IsReport c.args.request.now (Some t) c.in_ok-text_report-in-Ok.field-0.status c.in_ok-text_report-in-Ok.field-0.text) c.bytes.ensures c.in_ok-text_report-in-Ok.ensures)
+pub returns-in-Ok-clause-ok : goal.returns-in-Ok-clause-ok
+returns-in-Ok-clause-ok g c =
+    let t = g.I.Inputs.table c.args.inputs.now in
+    IfOk-weaker c.text_report.result _ _
+    (λ r k. whole_report t c.args.request.now c.in-Ok.text r.status r.text (subst (λ f. IsWhole (told t f) c.in-Ok.text) c.file.ensures c.in-Ok.ensures.ok.1)
+    (subst (λ tab. HasReportOf tab c.args.request.now (Some c.in-Ok.text) r.status r.text) c.read_input.ensures.table (subst (λ z. HasReportOf (g.I.Inputs.table c.read_input.new.inputs) c.args.request.now (Some z) r.status r.text) c.bytes.ensures k)))
+    c.text_report.ensures.ok
+
+pub returns-in-Ok-clause-stop : goal.returns-in-Ok-clause-stop
+returns-in-Ok-clause-stop g c =
+    IfErr-weaker c.text_report.result _ _ (λ s k. stop_later (g.I.Inputs.faults c.args.inputs.now) (g.I.Inputs.faults c.read_input.new.inputs) (g.I.Inputs.faults c.text_report.new.inputs) s c.read_input.ensures.later k) c.text_report.ensures.stop
+
+pub returns-in-Ok-clause-calm : goal.returns-in-Ok-clause-calm
+returns-in-Ok-clause-calm g c = subst (λ n. IsCalm n (g.I.Inputs.faults c.text_report.new.inputs) c.text_report.result) c.in-Ok.ensures.calm c.text_report.ensures.calm
+
+pub returns-in-Ok-clause-table : goal.returns-in-Ok-clause-table
+returns-in-Ok-clause-table g c = c.text_report.ensures.table ∙ c.read_input.ensures.table
 
 pub returns-in-Err-TooLong-clause-ok : goal.returns-in-Err-TooLong-clause-ok
 returns-in-Err-TooLong-clause-ok g c =

@@ -1,4 +1,4 @@
-use Rattle.std.proofs.Common.{Some, None}
+use Rattle.std.proofs.Common.{Some}
 use Rattle.gh_base.specs.contracts.assignment.Assignment.{the_view}
 use Rattle.gh_base.proofs.TableLemmas.{changes_atom}
 use Rattle.gh_base.proofs.assignment.Assignment.set.Goals as goal

@@ -1,4 +1,4 @@
-use Rattle.std.proofs.Common.{◌≡◌, take, length}
+use Rattle.std.proofs.Common.{◌≡◌, take}
 use Rattle.gh_base.proofs.clause.Clause.from_array.Given as goal
 
 abbrev pub invariant-loop-i : goal.invariant-loop-i

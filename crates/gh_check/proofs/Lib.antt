@@ -1,0 +1,2 @@
+pub mod AssumingLemmas
+pub mod SectionLemmas

@@ -1,0 +1,4 @@
+pub mod Names
+pub mod Assuming
+pub mod Lines
+pub mod Answers

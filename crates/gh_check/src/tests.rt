@@ -1,0 +1,328 @@
+//! Worked sections over the clauses of one condition.
+
+use crate::check::check_log;
+use crate::fault::{CheckError, LogFault};
+use crate::lines::are_in_range;
+use gh_base::atom::{Atom, Lit, Term};
+use gh_base::clause::Clause;
+use gh_base::ground::Ground;
+use gh_inst::naming::InstanceName;
+use gh_log::lines::{LogLine, Section};
+use std::alloc::{AllocError, AllocFailed, Global};
+use std::process::Abort;
+use std::test::Fail;
+
+// A clause in DIMACS form, its end filled with zeros: atoms 1 to 9 are definitions 0 to 8, 10 says that term 0 is
+// allocated, 11 that it leads to itself, 12 that it equals itself, and 13 is no atom of the ground clauses.
+type Dimacs = [i8; 3];
+
+const CLAUSES: [Dimacs; 25] = [
+    [-10, 0, 0],
+    [1, 10, 0],
+    [1, -11, 0],
+    [-1, -10, 11],
+    [1, 0, 0],
+    [2, 0, 0],
+    [-3, 0, 0],
+    [-4, -10, 3],
+    [-4, 10, -3],
+    [4, 10, 3],
+    [4, -10, -3],
+    [-5, 2, 0],
+    [-5, 4, 0],
+    [5, -2, -4],
+    [5, 0, 0],
+    [6, 0, 0],
+    [-7, 0, 0],
+    [-8, -10, 7],
+    [-8, 10, -7],
+    [8, 10, 7],
+    [8, -10, -7],
+    [-9, 6, 0],
+    [-9, 8, 0],
+    [9, -6, -8],
+    [-9, 0, 0],
+];
+
+// A line of a section.
+#[derive(Clone, Copy)]
+enum Plain {
+    Axiom { row: u8, term: u8 },
+    Ground(u32),
+    Lemma(Dimacs),
+    Learnt(Dimacs),
+}
+
+const END: Plain = Plain::Learnt([0, 0, 0]);
+
+fn atom_of(code: u8) -> Atom {
+    match code {
+        10 => Atom::Alloc {
+            version: 0,
+            x: Term(0),
+        },
+        11 => Atom::Hop {
+            version: 0,
+            x: Term(0),
+            v: Term(0),
+        },
+        12 => Atom::Eq {
+            a: Term(0),
+            b: Term(0),
+        },
+        _ => Atom::Def {
+            number: code.wrapping_sub(1) as u32,
+        },
+    }
+}
+
+fn clause_of(alloc: Global, codes: Dimacs) -> Result<Clause, AllocError> {
+    let mut clause = Clause::new(alloc);
+    for code in codes {
+        if code != 0 {
+            clause.push(Lit {
+                atom: atom_of(code.unsigned_abs()),
+                positive: code > 0,
+            })?;
+        }
+    }
+    Ok(clause)
+}
+
+// One term, one version, nine definitions and the clauses.
+fn ground_of(rt: &impl Abort, alloc: Global) -> Result<Ground, AllocError> {
+    let mut ground = Ground::new(alloc, 1, 1);
+    for _ in 0..9 {
+        assert!(rt; ground.defs() < 9);
+        ground.define();
+    }
+    for codes in CLAUSES {
+        let clause = clause_of(alloc, codes)?;
+        assert!(rt; are_in_range(ground.sizes(), clause.lits()));
+        assert!(rt; ground.count() < 25);
+        ground.push(clause)?;
+    }
+    Ok(ground)
+}
+
+fn line_of(alloc: Global, plain: Plain) -> Result<LogLine, AllocError> {
+    Ok(match plain {
+        Plain::Axiom { row, term } => LogLine::Axiom(InstanceName {
+            row,
+            version: 0,
+            terms: [Term(term), Term(0), Term(0), Term(0)],
+            arity: 1,
+        }),
+        Plain::Ground(number) => LogLine::Clause { number },
+        Plain::Lemma(codes) => LogLine::Lemma(clause_of(alloc, codes)?),
+        Plain::Learnt(codes) => LogLine::Learnt(clause_of(alloc, codes)?),
+    })
+}
+
+// The fault of the lines, of which the first is line 3 of its file.
+fn fault_of(
+    alloc: Global,
+    ground: &Ground,
+    plain: &[Plain],
+) -> Result<Option<LogFault>, CheckError> {
+    let mut lines = Vec::new(alloc);
+    for line in plain {
+        lines.push(line_of(alloc, *line)?)?;
+    }
+    if lines.len() > 100 {
+        return Err(CheckError::OutOfMemory);
+    }
+    let section = Section { first: 3, lines };
+    match check_log(alloc, ground, &section) {
+        Ok(()) => Ok(None),
+        Err(CheckError::Fault(fault)) => Ok(Some(fault)),
+        Err(CheckError::OutOfMemory) => Err(CheckError::OutOfMemory),
+    }
+}
+
+fn at(number: u8, line: u32) -> Option<LogFault> {
+    Some(LogFault { number, line })
+}
+
+// Lines, and their first fault.
+#[derive(Clone, Copy)]
+struct Row {
+    lines: &'static [Plain],
+    fault: Option<LogFault>,
+}
+
+const VALID: &[Plain] = &[
+    Plain::Ground(0),
+    Plain::Ground(15),
+    Plain::Ground(16),
+    Plain::Ground(19),
+    Plain::Ground(23),
+    Plain::Ground(24),
+    END,
+];
+
+// The valid section with one change each.
+#[test]
+fn changed_sections(rt: HostRuntime) -> Result<(), Fail> {
+    let alloc = rt.alloc();
+    let ground = ground_of(&rt, alloc)?;
+    let rows = [
+        Row {
+            lines: VALID,
+            fault: None,
+        },
+        Row {
+            lines: &[
+                Plain::Ground(0),
+                Plain::Ground(15),
+                Plain::Ground(19),
+                Plain::Ground(23),
+                Plain::Ground(24),
+                END,
+            ],
+            fault: at(4, 8),
+        },
+        Row {
+            lines: &[
+                Plain::Ground(0),
+                Plain::Ground(15),
+                Plain::Ground(16),
+                Plain::Ground(19),
+                Plain::Ground(23),
+                Plain::Ground(24),
+            ],
+            fault: at(5, 9),
+        },
+        Row {
+            lines: &[
+                Plain::Ground(0),
+                Plain::Ground(15),
+                Plain::Ground(16),
+                Plain::Ground(19),
+                Plain::Ground(23),
+                Plain::Ground(25),
+                END,
+            ],
+            fault: at(2, 8),
+        },
+        Row {
+            lines: &[
+                Plain::Lemma([-10, 0, 0]),
+                Plain::Ground(15),
+                Plain::Ground(16),
+                Plain::Ground(19),
+                Plain::Ground(23),
+                Plain::Ground(24),
+                END,
+            ],
+            fault: at(3, 3),
+        },
+        Row {
+            lines: &[
+                Plain::Axiom { row: 1, term: 1 },
+                Plain::Ground(15),
+                Plain::Ground(16),
+                Plain::Ground(19),
+                Plain::Ground(23),
+                Plain::Ground(24),
+                END,
+            ],
+            fault: at(1, 3),
+        },
+    ];
+    for row in rows {
+        assert_eq!(rt; fault_of(alloc, &ground, row.lines)?, row.fault);
+    }
+    Ok(())
+}
+
+// Sections with no end, lines of each kind, and clauses that propagation shows or doesn't.
+#[test]
+fn other_sections(rt: HostRuntime) -> Result<(), Fail> {
+    let alloc = rt.alloc();
+    let ground = ground_of(&rt, alloc)?;
+    let rows = [
+        Row {
+            lines: &[],
+            fault: at(5, 3),
+        },
+        Row {
+            lines: &[
+                Plain::Axiom { row: 1, term: 0 },
+                Plain::Lemma([12, 0, 0]),
+                Plain::Learnt([1, -1, 0]),
+            ],
+            fault: at(5, 6),
+        },
+        // Repeated literals count once.
+        Row {
+            lines: &[
+                Plain::Ground(0),
+                Plain::Learnt([-10, -10, 3]),
+                Plain::Learnt([1, 1, 0]),
+            ],
+            fault: at(4, 5),
+        },
+        Row {
+            lines: &[Plain::Learnt([13, -13, 0])],
+            fault: at(4, 3),
+        },
+        // Later lines don't count.
+        Row {
+            lines: &[Plain::Learnt([-10, 0, 0]), Plain::Ground(0), END],
+            fault: at(4, 3),
+        },
+        // What was assumed for one line doesn't hold for the next.
+        Row {
+            lines: &[
+                Plain::Ground(0),
+                Plain::Ground(19),
+                Plain::Learnt([7, 8, 0]),
+                Plain::Learnt([8, 0, 0]),
+            ],
+            fault: at(4, 6),
+        },
+        // From a contradiction everything in range follows.
+        Row {
+            lines: &[
+                Plain::Ground(14),
+                Plain::Learnt([5, 1, 0]),
+                Plain::Ground(11),
+                Plain::Ground(12),
+                Plain::Ground(4),
+                Plain::Ground(6),
+                Plain::Ground(16),
+                Plain::Ground(15),
+                Plain::Ground(24),
+                Plain::Ground(23),
+                Plain::Ground(0),
+                Plain::Ground(19),
+                Plain::Learnt([-1, 0, 0]),
+                Plain::Learnt([13, 0, 0]),
+            ],
+            fault: at(4, 16),
+        },
+    ];
+    for row in rows {
+        assert_eq!(rt; fault_of(alloc, &ground, row.lines)?, row.fault);
+    }
+    Ok(())
+}
+
+#[test]
+fn names(rt: HostRuntime) {
+    let names = [
+        "NotInstance",
+        "NotClause",
+        "NotLemma",
+        "NotImplied",
+        "NoEmptyClause",
+    ];
+    for i in 0..names.len() {
+        let fault = LogFault {
+            number: i as u8 + 1,
+            line: 3,
+        };
+        assert_eq!(rt; fault.name(), names[i]);
+    }
+}

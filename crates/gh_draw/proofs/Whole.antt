@@ -1,0 +1,113 @@
+-- A whole file: the states for a condition, and a drawing after the lines that are skipped.
+use Rattle.std.specs.Prelude.{◌≡◌, ◌≢◌, ◌⊎◌, ℕ, ◌-◌, ◌<◌, ◌≤◌, List, [], ◌∷◌, length, get_or, slice_get, Option, Some, None, true, false, ◌==◌, AllPairs, Contains}
+use Rattle.std.proofs.Common.{refl, sym, ◌∙◌, ap, subst, inl, inr, arith}
+use Rattle.std.proofs.lemmas.List.{length-map}
+use Rattle.std.proofs.lemmas.Bool.Decides.{nat_tests}
+use Rattle.std.proofs.lemmas.Option.{slice_get_within, get_or_from_slice_get}
+use Rattle.gh_ast.specs.declared.Program as read
+use Rattle.gh_ast.specs.Plain.{Program, program_of, procedure_of}
+use Rattle.gh_ast.specs.Programs.{Name, variable_names}
+use Rattle.gh_ast.specs.Rules.{IsTyped}
+use Rattle.gh_ast.proofs.TypedPrograms.{variables_are_distinct}
+use Rattle.gh_path.specs.Answers.{IsNumbered}
+use Rattle.gh_path.specs.Conditions.{Condition, conditions}
+use Rattle.gh_path.specs.declared.condition.Condition as kept
+use Rattle.gh_trace.specs.declared.state.State.{State}
+use Rattle.gh_draw.specs.Drawn.{IsFileOf}
+use Rattle.gh_draw.specs.Reading.{IsRead, ShowsStates, ShowsTrace, ShowsCondition, Skips}
+use Rattle.gh_draw.proofs.Fronts.{states_one, condition_one, skips_one}
+use Rattle.gh_draw.proofs.Shown.{file_shown, shown_file}
+use Rattle.gh_draw.proofs.Told.{image}
+
+-- the condition of the number is the one that a trace is for
+same_numbered : (P : Program) (n : ℕ) (t : List ℕ) (xs : List State) (c : Condition) → slice_get (conditions P) (n - 1) ≡ Some c → (s : ShowsTrace P n t xs) → s.condition ≡ c
+same_numbered P n t xs c there s = one (slice_get (conditions P) (n - 1)) s.condition c s.numbered there
+  where
+    one : (o : Option Condition) (c d : Condition) → o ≡ Some c → o ≡ Some d → c ≡ d
+    one o c d e f = cc
+
+pub trace_no_condition : (P : Program) (n : ℕ) (t : List ℕ) → IsNumbered P n None → (xs : List State) → ShowsTrace P n t xs → ⊥
+trace_no_condition P n t (inl none) xs s = absurd (omega (arith, none, s.low))
+trace_no_condition P n t (inr past) xs s = absurd (omega (arith, s.low, past, slice_get_within (conditions P) (n - 1) s.condition s.numbered))
+
+-- names that are the variables of the condition of a number
+pub record AreNamesFor (P : Program) (n : ℕ) (ns : List Name) : Type 0 where
+  pub condition : Condition
+  pub low : 1 ≤ n
+  pub numbered : slice_get (conditions P) (n - 1) ≡ Some condition
+  pub names : ns ≡ variable_names condition.procedure
+  pub there : Contains P.procedures condition.procedure
+
+pub names_for : (P : read.Program) (n : ℕ) (r : kept.Condition) (q : _) (ns : List Name) → IsNumbered (program_of P) n (Some r) → q ≡ get_or P.procedures.items r.procedure q → ns ≡ variable_names (procedure_of q)
+    → AreNamesFor (program_of P) n ns
+names_for P n r q ns (c, low, there, stands) is named = record {
+  condition = c;
+  low = low;
+  numbered = there;
+  names = named ∙ ap variable_names (image procedure_of P.procedures.items r.procedure q c.procedure is stands.procedure);
+  there =
+      (r.procedure, slice_get_within (program_of P).procedures r.procedure c.procedure stands.procedure, get_or_from_slice_get (program_of P).procedures r.procedure c.procedure c.procedure stands.procedure);
+}
+
+moved : (P : Program) (n : ℕ) (ns : List Name) (t : List ℕ) (xs : List State) → AreNamesFor P n ns → ShowsTrace P n t xs → ShowsStates ns 0 t xs []
+moved P n ns t xs a s =
+    let same = same_numbered P n t xs a.condition a.numbered s in
+    subst (λ z. ShowsStates z 0 t xs []) (sym a.names) (subst (λ (c : Condition). ShowsStates (variable_names c.procedure) 0 t xs []) same s.states)
+
+pub trace_no_states : (P : Program) (n : ℕ) (ns : List Name) (t left : List ℕ) → AreNamesFor P n ns → IsRead (ShowsStates ns 0) t left None → (xs : List State) → ShowsTrace P n t xs → ⊥
+trace_no_states P n ns t left a none xs s = none xs [] (moved P n ns t xs a s)
+
+pub trace_no_more : (P : Program) (n : ℕ) (ns : List Name) (t left : List ℕ) (ys : List State) → AreNamesFor P n ns → ShowsStates ns 0 t ys left → (ys ≡ []) ⊎ (left ≡ [] → ⊥) → (xs : List State) → ShowsTrace P n t xs → ⊥
+trace_no_more P n ns t left ys a shown bad xs s = by_case bad (states_one ns 0 t ys xs left [] shown (moved P n ns t xs a s))
+  where
+    by_case : (ys ≡ []) ⊎ (left ≡ [] → ⊥) → (ys ≡ xs) × (left ≡ []) → ⊥
+    by_case (inl none) one = s.some (sym one.0 ∙ none)
+    by_case (inr more) one = more one.1
+
+pub trace_whole : (P : Program) (n : ℕ) (ns : List Name) (t left : List ℕ) (ys : List State) → AreNamesFor P n ns → ShowsStates ns 0 t ys left → ys ≢ [] → left ≡ [] → ShowsTrace P n t ys
+trace_whole P n ns t left ys a shown some none = record {
+  condition = a.condition;
+  low = a.low;
+  numbered = a.numbered;
+  some = some;
+  states = subst (λ z. ShowsStates z 0 t ys []) a.names (subst (λ z. ShowsStates ns 0 t ys z) none shown);
+}
+
+pub within : (P : read.Program) (n : ℕ) (r : kept.Condition) → IsNumbered (program_of P) n (Some r) → r.procedure < length P.procedures.items
+within P n r (c, low, there, stands) = omega (arith, slice_get_within (program_of P).procedures r.procedure c.procedure stands.procedure, length-map P.procedures.items procedure_of)
+
+pub names_distinct : (P : Program) (n : ℕ) (ns : List Name) → IsTyped P → AreNamesFor P n ns → AllPairs (λ x y. x ≢ y) ns
+names_distinct P n ns typed a = subst (λ zs. AllPairs (λ x y. x ≢ y) zs) (sym a.names) (variables_are_distinct P typed a.condition.procedure a.there)
+
+is_other : (n : ℕ) → 0 < n → (n == 0) ≡ false
+is_other n p = grind (arith, nat_tests)
+
+no_zero : (n : ℕ) → 0 < n → true ≡ (n == 0) → ⊥
+no_zero n p e = let other : (n == 0) ≡ false = is_other n p in let bad : true ≡ false = e ∙ other in absurd cc
+
+pub is_nothing : {A : Type 0} (xs : List A) → true ≡ (length xs == 0) → xs ≡ []
+is_nothing [] e = refl
+is_nothing (x ∷ xs) e = absurd (no_zero (length (x ∷ xs)) (omega arith) e)
+
+pub is_something : {A : Type 0} (xs : List A) → false ≡ (length xs == 0) → xs ≡ [] → ⊥
+is_something [] e f = absurd cc
+is_something (x ∷ xs) e f = absurd cc
+
+-- the file
+
+pub file_no_drawing : (P : Program) (t : List ℕ) → ((rest : List ℕ) → Skips t rest → ⊥) → (n : ℕ) (xs : List State) → IsFileOf P t n xs → ⊥
+file_no_drawing P t none n xs f = none (file_shown P t n xs f).body (file_shown P t n xs f).skips
+
+pub file_no_number : (P : Program) (t now left : List ℕ) → Skips t now → IsRead ShowsCondition now left None → (n : ℕ) (xs : List State) → IsFileOf P t n xs → ⊥
+file_no_number P t now left skips none n xs f =
+    let s = file_shown P t n xs f in
+    none n s.states_text (subst (λ z. ShowsCondition z n s.states_text) (skips_one t s.body now s.skips skips) s.condition)
+
+pub file_no_trace : (P : Program) (t now left : List ℕ) (m : ℕ) → Skips t now → ShowsCondition now m left → ((xs : List State) → ShowsTrace P m left xs → ⊥) → (n : ℕ) (xs : List State) → IsFileOf P t n xs → ⊥
+file_no_trace P t now left m skips shown none n xs f =
+    let s = file_shown P t n xs f in
+    let both = condition_one now n m s.states_text left (subst (λ z. ShowsCondition z n s.states_text) (skips_one t s.body now s.skips skips) s.condition) shown in
+    none xs (subst (λ z. ShowsTrace P z left xs) both.0 (subst (λ z. ShowsTrace P n z xs) both.1 s.trace))
+
+pub file_whole : (P : Program) (t now left : List ℕ) (n : ℕ) (xs : List State) → Skips t now → ShowsCondition now n left → ShowsTrace P n left xs → IsFileOf P t n xs
+file_whole P t now left n xs skips shown trace = shown_file P t n xs (record { body = now; states_text = left; skips = skips; condition = shown; trace = trace })

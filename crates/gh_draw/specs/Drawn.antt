@@ -1,0 +1,65 @@
+-- Drawings as they are kept, and the files that have one.
+use Rattle.std.specs.Prelude.{◌≡◌, ◌≢◌, ℕ, suc, ◌-◌, ◌<◌, ◌≤◌, ◌^◌, List, [], ◌∷◌, ◌++◌, codes, All, Contains, Some, slice_get}
+use Rattle.std.specs.List.{flat_map}
+use Rattle.std.specs.Fmt.{decimal}
+use Rattle.std.specs.FinMap.{entries}
+use Rattle.gh_ast.specs.Plain.{Program}
+use Rattle.gh_ast.specs.Programs.{Name, variable_names}
+use Rattle.gh_assert.specs.declared.store.Entry.{Entry}
+use Rattle.gh_assert.specs.Stores.{listed_names}
+use Rattle.gh_path.specs.Conditions.{Condition, conditions}
+use Rattle.gh_trace.specs.declared.state.State.{State}
+use Rattle.gh_draw.specs.Drawings.{line, cell_text}
+
+-- ` NAME=VALUE`
+abbrev pub entry_text : Entry → List ℕ
+entry_text e = codes " " ++ e.name ++ codes "=" ++ decimal e.value
+
+-- the entries of the store in their order, and the cells in ascending order
+abbrev pub kept_text : ℕ → State → List ℕ
+kept_text k s =
+    codes "state " ++ decimal k ++ codes "\nstore" ++ flat_map entry_text s.store ++ codes "\nheap" ++ flat_map cell_text (entries s.heap) ++ codes "\n"
+
+-- states are numbered from k
+abbrev pub kept_texts : ℕ → List State → List ℕ
+kept_texts k [] = []
+kept_texts k (s ∷ ss) = kept_text k s ++ kept_texts (suc k) ss
+
+abbrev pub drawing_text : ℕ → List State → List ℕ
+drawing_text number ss = codes "drawing\ncondition " ++ decimal number ++ codes "\n" ++ kept_texts 0 ss ++ codes "end\n"
+
+abbrev pub IsValue : ℕ → Type 0
+IsValue n = n < 2 ^ 32
+
+-- the cell of a place that isn't null
+pub record IsDrawnCell (cell : ℕ × ℕ) : Type 0 where
+  pub not_null : cell.0 ≢ 0
+  pub place : IsValue cell.0
+  pub content : IsValue cell.1
+
+-- the store has these variables in their order
+pub record IsDrawnState (names : List Name) (s : State) : Type 0 where
+  pub over : listed_names s.store ≡ names
+  pub values : All (λ e. IsValue e.value) s.store
+  pub cells : All IsDrawnCell (entries s.heap)
+
+-- the states are drawn for the condition of the number, and there is at least one
+pub record IsDrawnFor (P : Program) (number : ℕ) (ss : List State) : Type 0 where
+  pub condition : Condition
+  pub low : 1 ≤ number
+  pub fits : IsValue number
+  pub numbered : slice_get (conditions P) (number - 1) ≡ Some condition
+  pub some : ss ≢ []
+  pub states : All (IsDrawnState (variable_names condition.procedure)) ss
+
+-- a line before the drawing
+pub record IsOtherLine (l : List ℕ) : Type 0 where
+  pub one : Contains l 10 → ⊥
+  pub other : l ≢ codes "drawing"
+
+-- lines that are skipped, and then the drawing alone
+pub record IsFileOf (P : Program) (text : List ℕ) (number : ℕ) (ss : List State) : Type 0 where
+  pub skipped : List (List ℕ)
+  pub others : All IsOtherLine skipped
+  pub whole : text ≡ flat_map line skipped ++ drawing_text number ss
+  pub drawn : IsDrawnFor P number ss

@@ -1,0 +1,148 @@
+-- What the parts of a drawing show at the front of a text, with what is left of it after them.
+use Rattle.std.specs.Prelude.{◌≡◌, ◌≢◌, ℕ, suc, ◌-◌, ◌<◌, ◌≤◌, ◌++◌, List, [], ◌∷◌, codes, Option, Some, None, ⊤, Bool, true, false, Contains, All, AllPairs, slice_get, slice_index, take, drop, length}
+use Rattle.std.specs.Int.{IsInRange}
+use Rattle.std.specs.Str.{all_ascii_digits}
+use Rattle.std.specs.Str.Parse.{digits_value}
+use Rattle.std.specs.List.{flat_map}
+use Rattle.std.specs.Fmt.{decimal}
+use Rattle.std.specs.FinMap.{entries}
+use Rattle.gh_ast.specs.Plain.{Program}
+use Rattle.gh_ast.specs.Programs.{Name, variable_names}
+use Rattle.gh_assert.specs.Heaps.{Heap}
+use Rattle.gh_assert.specs.declared.store.Entry.{Entry}
+use Rattle.gh_path.specs.Conditions.{Condition, conditions}
+use Rattle.gh_trace.specs.declared.state.State.{State}
+use Rattle.gh_draw.specs.Drawings.{line}
+use Rattle.gh_draw.specs.Drawn.{IsValue, IsOtherLine, IsFileOf}
+use Rattle.gh_draw.specs.declared.drawing.Drawing.{Drawing}
+
+-- found, with what is left; or nothing is shown at the front
+abbrev pub IsRead : {X : Type 0} → (List ℕ → X → List ℕ → Type 0) → List ℕ → List ℕ → Option X → Type 0
+IsRead Shows text left (Some x) = Shows text x left
+IsRead {X} Shows text left None = (x : X) (rest : List ℕ) → Shows text x rest → ⊥
+
+-- a word that is known
+abbrev pub ShowsWord : List ℕ → List ℕ → Unit {0} → List ℕ → Type 0
+ShowsWord word text u rest = text ≡ word ++ rest
+
+-- the word first
+abbrev pub After : {X : Type 0} → List ℕ → (List ℕ → X → List ℕ → Type 0) → List ℕ → X → List ℕ → Type 0
+After word Shows text x rest = (mid : List ℕ) × (text ≡ word ++ mid) × Shows mid x rest
+
+abbrev pub NoDigitFirst : List ℕ → Type 0
+NoDigitFirst [] = ⊤
+NoDigitFirst (c ∷ cs) = IsInRange 48 57 c → ⊥
+
+-- digits, and none after them
+pub record IsSplitAt (text : List ℕ) (count : ℕ) : Type 0 where
+  pub within : count ≤ length text
+  pub digits : all_ascii_digits (take count text) ≡ true
+  pub ends : NoDigitFirst (drop count text)
+
+abbrev pub HasLeadingZero : List ℕ → Type 0
+HasLeadingZero digits = (1 < length digits) × (slice_index digits 0 ≡ 48)
+
+-- the value of digits that fits 32 bits
+pub record IsParsed (digits : List ℕ) (n : ℕ) : Type 0 where
+  pub some : 0 < length digits
+  pub fits : IsValue n
+  pub value_is : n ≡ digits_value 10 digits
+
+-- a number in decimal, with all its digits
+pub record ShowsNumber (text : List ℕ) (n : ℕ) (rest : List ℕ) : Type 0 where
+  pub fits : IsValue n
+  pub shown : text ≡ decimal n ++ rest
+  pub ends : NoDigitFirst rest
+
+-- ` NAME=VALUE`
+abbrev pub ShowsValue : Name → List ℕ → ℕ → List ℕ → Type 0
+ShowsValue name = After (codes " ") (After name (After (codes "=") ShowsNumber))
+
+-- a value for each name
+abbrev pub ShowsEntries : List Name → List ℕ → List Entry → List ℕ → Type 0
+ShowsEntries [] text es rest = (es ≡ []) × (text ≡ rest)
+ShowsEntries (n ∷ ns) text es rest =
+    (v : ℕ) × (mid : List ℕ) × (fs : List Entry) × (es ≡ record { name = n; value = v } ∷ fs) × ShowsValue n text v mid × ShowsEntries ns mid fs rest
+
+-- `PLACE->CONTENT`
+abbrev pub ShowsCell : List ℕ → ℕ × ℕ → List ℕ → Type 0
+ShowsCell text c rest = (mid : List ℕ) × ShowsNumber text c.0 mid × After (codes "->") ShowsNumber mid c.1 rest
+
+-- the same after a space, above a place
+pub record ShowsCellAbove (low : ℕ) (text : List ℕ) (c : ℕ × ℕ) (rest : List ℕ) : Type 0 where
+  pub above : low < c.0
+  pub cell : After (codes " ") ShowsCell text c rest
+
+-- cells in ascending order above a place, and the end of the line
+abbrev pub ShowsCells : ℕ → List ℕ → List (ℕ × ℕ) → List ℕ → Type 0
+ShowsCells low text [] rest = text ≡ codes "\n" ++ rest
+ShowsCells low text (c ∷ cs) rest = (mid : List ℕ) × ShowsCellAbove low text c mid × ShowsCells c.0 mid cs rest
+
+abbrev pub ShowsHeap : List ℕ → Heap → List ℕ → Type 0
+ShowsHeap text h rest = ShowsCells 0 text (entries h) rest
+
+-- `state K` and the word before the values
+abbrev pub heading : ℕ → List ℕ
+heading k = codes "state " ++ decimal k ++ codes "\nstore"
+
+-- the state of a number over some names
+pub record ShowsState (names : List Name) (k : ℕ) (text : List ℕ) (s : State) (rest : List ℕ) : Type 0 where
+  pub values : List ℕ
+  pub cells : List ℕ
+  pub begins : text ≡ heading k ++ values
+  pub store : ShowsEntries names values s.store (codes "\nheap" ++ cells)
+  pub heap : ShowsHeap cells s.heap rest
+
+-- states from a number on, and the end
+abbrev pub ShowsStates : List Name → ℕ → List ℕ → List State → List ℕ → Type 0
+ShowsStates names k text [] rest = text ≡ codes "end\n" ++ rest
+ShowsStates names k text (s ∷ ss) rest = (mid : List ℕ) × ShowsState names k text s mid × ShowsStates names (suc k) mid ss rest
+
+-- `condition K`
+abbrev pub ShowsCondition : List ℕ → ℕ → List ℕ → Type 0
+ShowsCondition text n rest = (mid : List ℕ) × (text ≡ codes "condition " ++ mid) × ShowsNumber mid n (codes "\n" ++ rest)
+
+-- states for the condition of a number, to the end of the text
+pub record ShowsTrace (P : Program) (number : ℕ) (text : List ℕ) (ss : List State) : Type 0 where
+  pub condition : Condition
+  pub low : 1 ≤ number
+  pub numbered : slice_get (conditions P) (number - 1) ≡ Some condition
+  pub some : ss ≢ []
+  pub states : ShowsStates (variable_names condition.procedure) 0 text ss []
+
+-- found, or there is none
+abbrev pub IsFound : {X : Type 0} → (X → Type 0) → Option X → Type 0
+IsFound P (Some x) = P x
+IsFound {X} P None = (x : X) → P x → ⊥
+
+-- the place of the first line feed
+pub record IsLineEnd (text : List ℕ) (n : ℕ) : Type 0 where
+  pub within : n < length text
+  pub here : slice_index text n ≡ 10
+  pub before : (k : ℕ) → k < n → slice_index text k ≡ 10 → ⊥
+
+abbrev pub HasNoEnd : List ℕ → Type 0
+HasNoEnd text = (k : ℕ) → k < length text → slice_index text k ≡ 10 → ⊥
+
+-- one line with its line feed; where there is none, no line feed is left
+abbrev pub IsLine : List ℕ → List ℕ → Bool → Type 0
+IsLine text left true = (l : List ℕ) × (Contains l 10 → ⊥) × (text ≡ line l ++ left)
+IsLine text left false = HasNoEnd text
+
+-- other lines, and then the first that is `drawing`
+pub record Skips (text rest : List ℕ) : Type 0 where
+  pub skipped : List (List ℕ)
+  pub others : All IsOtherLine skipped
+  pub whole : text ≡ flat_map line skipped ++ (codes "drawing\n" ++ rest)
+
+abbrev pub IsSkipped : List ℕ → List ℕ → Bool → Type 0
+IsSkipped text left true = Skips text left
+IsSkipped text left false = (rest : List ℕ) → Skips text rest → ⊥
+
+abbrev pub AreDistinctNames : List Name → Type 0
+AreDistinctNames ns = AllPairs (λ x y. x ≢ y) ns
+
+-- the drawing that a file has, if it has one
+abbrev pub IsDrawingIn : Program → List ℕ → Option Drawing → Type 0
+IsDrawingIn P text None = (number : ℕ) (ss : List State) → IsFileOf P text number ss → ⊥
+IsDrawingIn P text (Some d) = IsFileOf P text d.condition d.trace.states.items

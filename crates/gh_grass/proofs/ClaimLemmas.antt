@@ -1,0 +1,80 @@
+-- Lists of formulas that are made one by one.
+use Rattle.std.specs.Prelude.{◌≡◌, ℕ, ◌+◌, ◌<◌, ◌≤◌, List, [], ◌∷◌, ◌++◌, map, length, drop, get_or}
+use Rattle.std.specs.List.{flat_map}
+use Rattle.std.proofs.Common.{refl, sym, ◌∙◌, ap, append_assoc, add-one, arith, Vec, Global}
+use Rattle.std.proofs.Math.Seq.{drop-cons}
+use Rattle.std.proofs.lemmas.List.{map-append, append-nil, drop_all}
+use Rattle.std.proofs.lemmas.List.FromFn.{map-range_with_len_more}
+use Rattle.gh_base.specs.declared.atom.Term.{Term}
+use Rattle.gh_ast.specs.declared.Assertion.{Assertion}
+use Rattle.gh_ast.specs.declared.Cond.{Cond}
+use Rattle.gh_ast.specs.Plain.{test_of, tests_view, test_first, no_tests, formula_of, formulas_of, formulas_view, formula_first, no_formulas, star, Formula as Plain}
+use Rattle.gh_grass.specs.declared.formula.Formula.{Formula}
+use Rattle.gh_grass.specs.declared.formula.Formula.TheOpen.{Formula-F}
+use Rattle.gh_grass.specs.declared.formula.Formula.TheFolds.{fold-roll-Formula}
+use Rattle.gh_grass.specs.declared.formula.Formula.TheVariants.{And, rolls-And}
+use Rattle.gh_grass.specs.Bindings.{term}
+use Rattle.gh_grass.specs.Claims.{Claim, claim_step, claim_of, claims_of, claims_list, claims_view, conjunction_of}
+use Rattle.gh_grass.specs.Footprints.{Variables, members, terms_below, all_apart, structure, structures}
+
+-- a formula is put last, and the claim of it was the first of those to come
+pub put_more : (fs : List Formula) (f : Formula) (here rest total : List Claim) → claims_list fs ++ here ≡ total → here ≡ claim_of f ∷ rest → claims_list (fs ++ f ∷ []) ++ rest ≡ total
+put_more fs f here rest total so first =
+    ap (λ ps. ps ++ rest) (map-append claim_of fs (f ∷ []))
+    ∙ append_assoc (claims_list fs) (claim_of f ∷ []) rest
+    ∙ ap (λ ps. claims_list fs ++ ps) (sym first)
+    ∙ so
+
+pub put_all : (xs here total : List Claim) → xs ++ here ≡ total → here ≡ [] → xs ≡ total
+put_all xs here total so none = sym (append-nil xs) ∙ ap (λ ps. xs ++ ps) (sym none) ∙ so
+
+-- the terms up to the next one
+pub below_more : (n : ℕ) → terms_below (n + 1) ≡ terms_below n ++ term n ∷ []
+below_more n = map-range_with_len_more term 0 n n (omega arith)
+
+pub map_below_more : {X : Type 0} (f : Term → X) (n : ℕ) → map f (terms_below (n + 1)) ≡ map f (terms_below n) ++ f (term n) ∷ []
+map_below_more f n = ap (map f) (below_more n) ∙ map-append f (terms_below n) (term n ∷ [])
+
+pub put_term : (f : Term → Claim) (fs : List Formula) (g : Formula) (first : List Claim) (n : ℕ) → claims_list fs ≡ first ++ map f (terms_below n) → claim_of g ≡ f (term n) →
+    claims_list (fs ++ g ∷ []) ≡ first ++ map f (terms_below (n + 1))
+put_term f fs g first n so is =
+    map-append claim_of fs (g ∷ [])
+    ∙ ap (λ ps. ps ++ claim_of g ∷ []) so
+    ∙ append_assoc first (map f (terms_below n)) (claim_of g ∷ [])
+    ∙ ap (λ c. first ++ (map f (terms_below n) ++ c ∷ [])) is
+    ∙ ap (λ ps. first ++ ps) (sym (map_below_more f n))
+
+-- the members from a place on
+pub formulas_from : (xs : List Assertion) (i : ℕ) (x : Assertion) → i < length xs → x ≡ get_or xs i x → formulas_view (drop i xs) ≡ formula_first (formula_of x) (formulas_view (drop (i + 1) xs))
+formulas_from xs i x within is = ap formulas_view (drop-cons xs i x within) ∙ rw (← is, add-one i) refl
+
+pub formula_list_from : (xs : List Assertion) (i : ℕ) (x : Assertion) → i < length xs → x ≡ get_or xs i x → map formula_of (drop i xs) ≡ formula_of x ∷ map formula_of (drop (i + 1) xs)
+formula_list_from xs i x within is = ap (map formula_of) (drop-cons xs i x within) ∙ rw (← is, add-one i) refl
+
+pub tests_from : (xs : List Cond) (i : ℕ) (x : Cond) → i < length xs → x ≡ get_or xs i x → tests_view (drop i xs) ≡ test_first (test_of x) (tests_view (drop (i + 1) xs))
+tests_from xs i x within is = ap tests_view (drop-cons xs i x within) ∙ rw (← is, add-one i) refl
+
+pub none_from : {A : Type 0} {B : Type 0} (f : List A → B) (xs : List A) (i : ℕ) → length xs ≤ i → f (drop i xs) ≡ f []
+none_from f xs i far = ap f (drop_all i xs far)
+
+-- some claims are put last, and they were the first of those to come
+pub put_some : (now old more here rest total : List Claim) → now ≡ old ++ more → old ++ here ≡ total → here ≡ more ++ rest → now ++ rest ≡ total
+put_some now old more here rest total is so first =
+    ap (λ ps. ps ++ rest) is ∙ append_assoc old more rest ∙ ap (λ ps. old ++ ps) (sym first) ∙ so
+
+-- the plain form of a variant
+pub claim_of-And : (v : Vec Formula Global) → claim_of (And v) ≡ conjunction_of (claims_view v.items)
+claim_of-And v = ap claim_of (sym (rolls-And v)) ∙ fold-roll-Formula Claim claim_step (Formula-F.And v)
+
+members_are : (fs : List Plain) → members (formulas_of fs) ≡ fs
+members_are [] = refl
+members_are (f ∷ fs) = ap (λ gs. f ∷ gs) (members_are fs)
+
+pub star_structure : (v : Vec Formula Global) (f : Plain) (b : Variables) (next : Term → Term) (i n : ℕ) (xs : List Assertion) (first : List Claim) →
+    f ≡ star (formulas_view xs) → first ≡ structures b next i n (formulas_view xs) → claims_list v.items ≡ first ++ all_apart b i n (map formula_of xs) →
+    claim_of (And v) ≡ structure b next i n f
+star_structure v f b next i n xs first is parts so =
+    claim_of-And v
+    ∙ ap (λ cs. conjunction_of (claims_of cs))
+    (so ∙ ap (λ cs. cs ++ all_apart b i n (map formula_of xs)) parts ∙ ap (λ ms. structures b next i n (formulas_view xs) ++ all_apart b i n ms) (sym (members_are (map formula_of xs))))
+    ∙ ap (structure b next i n) (sym is)

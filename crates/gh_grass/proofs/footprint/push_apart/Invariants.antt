@@ -1,0 +1,10 @@
+use Rattle.std.proofs.Common.{◌≡◌, ◌++◌, map}
+use Rattle.gh_ast.specs.Plain.{formula_of}
+use Rattle.gh_grass.specs.Bindings.{bound_term}
+use Rattle.gh_grass.specs.Claims.{claims_list}
+use Rattle.gh_grass.specs.Footprints.{apart_here, terms_below}
+use Rattle.gh_grass.proofs.footprint.push_apart.Given as goal
+
+abbrev pub invariant-loop-z : goal.invariant-loop-z
+invariant-loop-z l =
+    claims_list l.formulas.items ≡ claims_list l.initial.formulas.items ++ map (apart_here (bound_term l.binding) l.version (formula_of l.first) (formula_of l.second)) (terms_below l.z)

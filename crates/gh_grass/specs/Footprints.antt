@@ -1,0 +1,108 @@
+-- The ground formulas of an assertion: a term is in its footprint; some part of the heap meets it.
+use Rattle.std.specs.Prelude.{ℕ, List, [], ◌∷◌, ◌++◌, map, Bool, true, false}
+use Rattle.std.specs.List.{flat_map, range_with_len}
+use Rattle.gh_base.specs.declared.atom.Term.{Term}
+use Rattle.gh_base.specs.declared.atom.Atom.TheVariants.{Btwn, Alloc}
+use Rattle.gh_ast.specs.declared.Occ.{Occ}
+use Rattle.gh_ast.specs.declared.Operand.{Operand}
+use Rattle.gh_ast.specs.declared.Operand.TheVariants.{Null, Var}
+use Rattle.gh_ast.specs.declared.Expr.{Expr}
+use Rattle.gh_ast.specs.declared.Expr.TheVariants.{Plain, Read}
+use Rattle.gh_ast.specs.Plain.{Test, compare, negation, conjunction, disjunction, Tests, no_tests, test_first, Formula, empty, comparison, points_to, cell, segment, star, cases, Formulas, no_formulas, formula_first}
+use Rattle.gh_ast.specs.Programs.{Name}
+use Rattle.gh_grass.specs.Bindings.{term}
+use Rattle.gh_grass.specs.Claims.{Claim, atom, negation_of, all_of, one_of, equality}
+
+-- the terms of variables
+abbrev pub Variables : Type 0
+Variables = Name → Term
+
+-- null is term 0
+abbrev pub operand_term : Variables → Operand → Term
+operand_term b (Null span) = term 0
+operand_term b (Var o) = b o.name
+
+-- the tests of assertions have no reads (one would count as null)
+abbrev pub plain_term : Variables → Expr → Term
+plain_term b (Plain o) = operand_term b o
+plain_term b (Read o) = term 0
+
+-- two terms are equal, or they aren't
+abbrev pub compared : Term → Bool → Term → Claim
+compared l true r = equality l r
+compared l false r = negation_of (equality l r)
+
+abbrev mutual
+  pub tested : Variables → Test → Claim
+  tested b (compare l e r) = compared (plain_term b l) e (plain_term b r)
+  tested b (negation t) = negation_of (tested b t)
+  tested b (conjunction ts) = all_of (all_tested b ts)
+  tested b (disjunction ts) = one_of (all_tested b ts)
+
+  pub all_tested : Variables → Tests → List Claim
+  all_tested b no_tests = []
+  all_tested b (test_first t ts) = tested b t ∷ all_tested b ts
+
+-- one of two claims, by a test
+abbrev pub by_test : Claim → Claim → Claim → Claim
+by_test t f g = one_of (all_of (t ∷ f ∷ []) ∷ all_of (negation_of t ∷ g ∷ []) ∷ [])
+
+-- after x and before the first y: on the way to it, and not yet there
+abbrev pub before_end : ℕ → Term → Term → Term → Claim
+before_end i x z y = all_of (atom (Btwn i x z y) ∷ negation_of (equality z y) ∷ [])
+
+-- the term z is in the footprint of an assertion, in version i
+abbrev mutual
+  pub footprint : Variables → ℕ → Term → Formula → Claim
+  footprint b i z empty = one_of []
+  footprint b i z (comparison l e r) = one_of []
+  footprint b i z (points_to x y) = equality z (b x.name)
+  footprint b i z (cell x) = equality z (b x.name)
+  footprint b i z (segment x y) = before_end i (operand_term b x) z (operand_term b y)
+  footprint b i z (star fs) = one_of (footprints b i z fs)
+  footprint b i z (cases t f g) = by_test (tested b t) (footprint b i z f) (footprint b i z g)
+
+  pub footprints : Variables → ℕ → Term → Formulas → List Claim
+  footprints b i z no_formulas = []
+  footprints b i z (formula_first f fs) = footprint b i z f ∷ footprints b i z fs
+
+-- the members of a star
+abbrev pub members : Formulas → List Formula
+members no_formulas = []
+members (formula_first f fs) = f ∷ members fs
+
+-- the first n terms
+abbrev pub terms_below : ℕ → List Term
+terms_below n = map term (range_with_len 0 n)
+
+-- the term isn't in two footprints
+abbrev pub apart_here : Variables → ℕ → Formula → Formula → Term → Claim
+apart_here b i f g z = negation_of (all_of (footprint b i z f ∷ footprint b i z g ∷ []))
+
+-- no term is in two footprints, for each of n terms
+abbrev pub apart : Variables → ℕ → ℕ → Formula → Formula → List Claim
+apart b i n f g = map (apart_here b i f g) (terms_below n)
+
+-- no term is in the footprints of two members, for each pair of them in order
+abbrev pub all_apart : Variables → ℕ → ℕ → List Formula → List Claim
+all_apart b i n [] = []
+all_apart b i n (f ∷ fs) = flat_map (apart b i n f) fs ++ all_apart b i n fs
+
+-- there is a cell at x, and its content is y
+abbrev pub leads_to : Variables → (Term → Term) → ℕ → Occ → Operand → Claim
+leads_to b next i x y = all_of (atom (Alloc i (b x.name)) ∷ equality (next (b x.name)) (operand_term b y) ∷ [])
+
+-- some part of the heap meets the assertion, in version i of n terms; `next` gives the term of a successor in it
+abbrev mutual
+  pub structure : Variables → (Term → Term) → ℕ → ℕ → Formula → Claim
+  structure b next i n empty = all_of []
+  structure b next i n (comparison l e r) = compared (operand_term b l) e (operand_term b r)
+  structure b next i n (points_to x y) = leads_to b next i x y
+  structure b next i n (cell x) = atom (Alloc i (b x.name))
+  structure b next i n (segment x y) = atom (Btwn i (operand_term b x) (operand_term b y) (operand_term b y))
+  structure b next i n (star fs) = all_of (structures b next i n fs ++ all_apart b i n (members fs))
+  structure b next i n (cases t f g) = by_test (tested b t) (structure b next i n f) (structure b next i n g)
+
+  pub structures : Variables → (Term → Term) → ℕ → ℕ → Formulas → List Claim
+  structures b next i n no_formulas = []
+  structures b next i n (formula_first f fs) = structure b next i n f ∷ structures b next i n fs

@@ -1,0 +1,247 @@
+//! The formulas of an assertion: which terms are in its footprint, and that some part of the heap meets it.
+
+ghost use Rattle.std.specs.Prelude.{◌≡◌, ◌++◌, IfOk, OnOk, length, map};
+ghost use Rattle.std.specs.List.{flat_map};
+ghost use Rattle.gh_ast.specs.Plain.{formula_of, formulas_view};
+ghost use Rattle.gh_grass.specs.Bindings.{bound_term, next_term};
+ghost use Rattle.gh_grass.specs.Claims.{claim_of, claims_list};
+ghost use Rattle.gh_grass.specs.Footprints.{before_end, footprint, footprints, apart_here, apart, leads_to, all_apart, structure, structures};
+
+use crate::binding::Binding;
+use crate::formula::Formula;
+use crate::terms::TermList;
+use crate::tested::{cases, comparison, term_of, variable_term};
+use gh_ast::{Assertion, Occ, Operand};
+use gh_base::atom::{Atom, Term};
+use std::alloc::{AllocError, Global};
+
+// A term is met after `x` and before the first `y`.
+fn segment_footprint(
+    alloc: Global,
+    version: u8,
+    x: Term,
+    z: Term,
+    y: Term,
+) -> Result<Formula, AllocError>
+    ensures { IfOk result (λ f. claim_of f ≡ before_end version x z y) }
+{
+    let between = Formula::Atom(Atom::Btwn {
+        version,
+        x,
+        y: z,
+        z: y,
+    });
+    let not_yet = Formula::equal(z, y).negated(alloc)?;
+    Ok(between.and(alloc, not_yet)?)
+}
+
+/// The term `z` is in the footprint of an assertion in a version of the heap.
+///
+/// A name that isn't bound counts as null.
+#[cycle(footprint)]
+pub fn footprint_at(
+    alloc: Global,
+    assertion: &Assertion,
+    binding: &Binding,
+    version: u8,
+    z: Term,
+) -> Result<Formula, AllocError>
+    ensures { IfOk result (λ f. claim_of f ≡ footprint (bound_term binding.now) version z (formula_of assertion.now)) }
+{
+    match assertion {
+        Assertion::Emp => Ok(Formula::Or(Vec::new(alloc))),
+        Assertion::Pure { .. } => Ok(Formula::Or(Vec::new(alloc))),
+        Assertion::PointsTo { at, .. } => Ok(Formula::equal(z, variable_term(binding, at))),
+        Assertion::Acc { at } => Ok(Formula::equal(z, variable_term(binding, at))),
+        Assertion::Lseg { from, to } => {
+            let from = term_of(binding, from);
+            let to = term_of(binding, to);
+            Ok(segment_footprint(alloc, version, from, z, to)?)
+        }
+        Assertion::Star(members) => {
+            let formulas = footprints_at(alloc, members.as_slice(), binding, version, z)?;
+            Ok(Formula::Or(formulas))
+        }
+        Assertion::Cases { test, yes, no } => {
+            let taken = footprint_at(alloc, yes, binding, version, z)?;
+            let otherwise = footprint_at(alloc, no, binding, version, z)?;
+            Ok(cases(alloc, test, binding, taken, otherwise)?)
+        }
+    }
+}
+
+#[cycle(footprint)]
+fn footprints_at(
+    alloc: Global,
+    assertions: &[Assertion],
+    binding: &Binding,
+    version: u8,
+    z: Term,
+) -> Result<Vec<Formula>, AllocError>
+    ensures { IfOk result (λ fs. claims_list fs.items ≡ footprints (bound_term binding.now) version z (formulas_view assertions.now)) }
+{
+    let mut formulas = Vec::new(alloc);
+    for assertion in assertions {
+        formulas.push(footprint_at(alloc, assertion, binding, version, z)?)?;
+    }
+    Ok(formulas)
+}
+
+// The term is in at most one of two footprints.
+fn apart_at(
+    alloc: Global,
+    first: &Assertion,
+    second: &Assertion,
+    binding: &Binding,
+    version: u8,
+    z: Term,
+) -> Result<Formula, AllocError>
+    ensures { IfOk result (λ f. claim_of f ≡ apart_here (bound_term binding.now) version (formula_of first.now) (formula_of second.now) z) }
+{
+    let one = footprint_at(alloc, first, binding, version, z)?;
+    let other = footprint_at(alloc, second, binding, version, z)?;
+    Ok(one.and(alloc, other)?.negated(alloc)?)
+}
+
+// No term is in both footprints.
+fn push_apart(
+    alloc: Global,
+    first: &Assertion,
+    second: &Assertion,
+    binding: &Binding,
+    version: u8,
+    terms: u8,
+    formulas: &mut Vec<Formula>,
+) -> Result<(), AllocError>
+    ensures { OnOk result (claims_list formulas.new.items ≡ claims_list formulas.old.items ++ apart (bound_term binding.now) version terms (formula_of first.now) (formula_of second.now)) }
+{
+    for z in 0..terms {
+        formulas.push(apart_at(alloc, first, second, binding, version, Term(z))?)?;
+    }
+    Ok(())
+}
+
+// No term is in the footprint of an assertion and in that of one of the others.
+fn push_apart_from(
+    alloc: Global,
+    first: &Assertion,
+    others: &[Assertion],
+    binding: &Binding,
+    version: u8,
+    terms: u8,
+    formulas: &mut Vec<Formula>,
+) -> Result<(), AllocError>
+    ensures { OnOk result (claims_list formulas.new.items ≡ claims_list formulas.old.items ++ flat_map (apart (bound_term binding.now) version terms (formula_of first.now)) (map formula_of others.now)) }
+{
+    for second in others {
+        push_apart(alloc, first, second, binding, version, terms, formulas)?;
+    }
+    Ok(())
+}
+
+// No term is in the footprints of two members.
+fn push_all_apart(
+    alloc: Global,
+    members: &[Assertion],
+    binding: &Binding,
+    version: u8,
+    terms: u8,
+    formulas: &mut Vec<Formula>,
+) -> Result<(), AllocError>
+    ensures { OnOk result (claims_list formulas.new.items ≡ claims_list formulas.old.items ++ all_apart (bound_term binding.now) version terms (map formula_of members.now)) }
+{
+    for (i, first) in members.iter().enumerate() {
+        let others = &members[i + 1..];
+        push_apart_from(alloc, first, others, binding, version, terms, formulas)?;
+    }
+    Ok(())
+}
+
+// The cell at a variable is there, and its content is the operand.
+fn points_to(
+    alloc: Global,
+    at: &Occ,
+    to: &Operand,
+    binding: &Binding,
+    version: u8,
+    terms: &TermList,
+) -> Result<Formula, AllocError>
+    ensures { IfOk result (λ f. claim_of f ≡ leads_to (bound_term binding.now) (next_term terms.now version) version at.now to.now) }
+{
+    let x = variable_term(binding, at);
+    let next = terms.next(version, x).unwrap_or(Term(0));
+    let content = Formula::equal(next, term_of(binding, to));
+    Ok(Formula::Atom(Atom::Alloc { version, x }).and(alloc, content)?)
+}
+
+/// Some part of the heap meets an assertion in a version of it.
+///
+/// A name that isn't bound and a successor that isn't listed count as null.
+#[cycle(structure)]
+pub fn structure_of(
+    alloc: Global,
+    assertion: &Assertion,
+    binding: &Binding,
+    version: u8,
+    terms: &TermList,
+) -> Result<Formula, AllocError>
+    ensures { IfOk result (λ f. claim_of f ≡ structure (bound_term binding.now) (next_term terms.now version) version (length terms.now) (formula_of assertion.now)) }
+{
+    match assertion {
+        Assertion::Emp => Ok(Formula::And(Vec::new(alloc))),
+        Assertion::Pure { left, equal, right } => {
+            let left = term_of(binding, left);
+            let right = term_of(binding, right);
+            Ok(comparison(alloc, left, *equal, right)?)
+        }
+        Assertion::PointsTo { at, to } => Ok(points_to(alloc, at, to, binding, version, terms)?),
+        Assertion::Acc { at } => Ok(Formula::Atom(Atom::Alloc {
+            version,
+            x: variable_term(binding, at),
+        })),
+        Assertion::Lseg { from, to } => {
+            let to = term_of(binding, to);
+            Ok(Formula::Atom(Atom::Btwn {
+                version,
+                x: term_of(binding, from),
+                y: to,
+                z: to,
+            }))
+        }
+        Assertion::Star(members) => {
+            let members = members.as_slice();
+            let mut formulas = structures_of(alloc, members, binding, version, terms)?;
+            push_all_apart(
+                alloc,
+                members,
+                binding,
+                version,
+                terms.count(),
+                &mut formulas,
+            )?;
+            Ok(Formula::And(formulas))
+        }
+        Assertion::Cases { test, yes, no } => {
+            let taken = structure_of(alloc, yes, binding, version, terms)?;
+            let otherwise = structure_of(alloc, no, binding, version, terms)?;
+            Ok(cases(alloc, test, binding, taken, otherwise)?)
+        }
+    }
+}
+
+#[cycle(structure)]
+fn structures_of(
+    alloc: Global,
+    assertions: &[Assertion],
+    binding: &Binding,
+    version: u8,
+    terms: &TermList,
+) -> Result<Vec<Formula>, AllocError>
+    ensures { IfOk result (λ fs. claims_list fs.items ≡ structures (bound_term binding.now) (next_term terms.now version) version (length terms.now) (formulas_view assertions.now)) }
+{
+    let mut formulas = Vec::new(alloc);
+    for assertion in assertions {
+        formulas.push(structure_of(alloc, assertion, binding, version, terms)?)?;
+    }
+    Ok(formulas)
+}

@@ -1,0 +1,6 @@
+pub mod ConflictLemmas
+pub mod AlikeLemmas
+pub mod OpenLemmas
+pub mod KeptLemmas
+pub mod UnitsLemmas
+pub mod MissingLemmas

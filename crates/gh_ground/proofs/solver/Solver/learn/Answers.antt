@@ -1,0 +1,23 @@
+use Rattle.std.proofs.Common.{◌∙◌, ap}
+use Rattle.gh_sat.specs.Trail.{State, cut}
+use Rattle.gh_sat.proofs.MeasureLemmas.{turn_learnt}
+use Rattle.gh_ground.proofs.KeptLemmas.{keeps_learnt, keeps_then}
+use Rattle.gh_ground.proofs.solver.Solver.learn.Goals as goal
+
+pub returns-clause-less : goal.returns-clause-less
+returns-clause-less c =
+    let l = c.in_ok-learnt.learnt in
+    let p = c.in_ok-next.ensures in
+    turn_learnt c.args.self.now.search c.learn.new.self c.backjump.new.self c.propagate.new.self.search c.args.conflict l.clause l.level l.unit c.requires.sound c.in_ok-learnt.ensures.learnt c.in_ok-learnt.ensures.added
+    c.backjump.ensures p.moves.sizes p.last p.answered.sound
+
+pub returns-clause-keeps : goal.returns-clause-keeps
+returns-clause-keeps c =
+    let old = c.args.self.now in
+    let new = c.propagate.new.self in
+    let mid = c.backjump.new.self in
+    let lines = c.push.new.self.items in
+    let l = c.in_ok-learnt.learnt in
+    let is = c.backjump.ensures ∙ ap (λ (t : State). cut t l.level) c.in_ok-learnt.ensures.added in
+    keeps_then old.search mid new.search old.lines.items lines new.lines.items
+    (keeps_learnt old.search mid old.lines.items lines c.args.conflict l.clause l.level l.unit c.requires.sound c.in_ok-learnt.ensures.learnt is c.in_ok-push.ensures.items) c.in_ok-next.ensures.keeps

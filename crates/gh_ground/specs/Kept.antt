@@ -1,0 +1,48 @@
+-- What a solver keeps: a line of a section for each clause of its search.
+use Rattle.std.specs.Prelude.{◌≡◌, ◌++◌, ℕ, List, [], Option, Some, None, map, Contains, IfSome, IfNone}
+use Rattle.gh_base.specs.declared.atom.Atom.{Atom}
+use Rattle.gh_base.specs.declared.atom.Lit.{Lit}
+use Rattle.gh_base.specs.Atoms.{IsInRange}
+use Rattle.gh_base.specs.Grounds.{Problem, IsProblem}
+use Rattle.gh_base.specs.Meaning.{IsEqualityClause}
+use Rattle.gh_base.specs.Propagation.{FollowsByUnits}
+use Rattle.gh_cc.specs.Asserted.{IsConsistent}
+use Rattle.gh_log.specs.declared.lines.LogLine.{LogLine}
+use Rattle.gh_log.specs.Sections.{line_clause, AreOfKind}
+use Rattle.gh_sat.specs.Learn.{IsConflict}
+use Rattle.gh_sat.specs.Status.{IsSettled}
+use Rattle.gh_sat.specs.Theory.{lits_of, HasNoConflict}
+use Rattle.gh_sat.specs.Trail.{State, IsFree, IsSound}
+
+pub record IsKept (p : Problem) (s : State) (lines : List LogLine) : Type 0 where
+  pub problem : IsProblem p
+  pub sizes : s.sizes ≡ p.sizes
+  pub clauses : s.clauses ≡ map (line_clause p) lines
+  pub of_kind : AreOfKind p lines
+  pub ground : (c : List Lit) → Contains p.clauses c → Contains s.clauses c
+
+-- lines were added, and what was kept is
+pub record Keeps (old : State) (before : List LogLine) (new : State) (after : List LogLine) : Type 0 where
+  pub keeps : (p : Problem) → IsKept p old before → IsKept p new after
+  pub more : List LogLine
+  pub longer : after ≡ before ++ more
+
+-- what holds of a search after an answer of its propagation
+pub record IsAnswered (s : State) (answer : Option ℕ) : Type 0 where
+  pub sound : IsSound s
+  pub conflict : IfSome answer (IsConflict s)
+  pub settled : IfNone answer (IsSettled s)
+  pub consistent : IfNone answer (HasNoConflict (IsEqualityClause s.sizes) s.trail)
+  pub known : IfNone answer (IsConsistent s.sizes (lits_of s.trail))
+
+-- all atoms have a truth, and no clause is false, nor one of equality
+pub record IsOpen (s : State) : Type 0 where
+  pub sound : IsSound s
+  pub settled : IsSettled s
+  pub known : IsConsistent s.sizes (lits_of s.trail)
+  pub full : (a : Atom) → IsInRange s.sizes a → IsFree s.trail a → ⊥
+
+-- the clauses have a contradiction by units, if there was a conflict
+abbrev pub IsEnded : State → Option ℕ → Type 0
+IsEnded s None = IsOpen s
+IsEnded s (Some k) = FollowsByUnits s.clauses []

@@ -1,0 +1,26 @@
+-- What a decision of ground clauses answers.
+use Rattle.std.specs.Prelude.{◌≡◌, All}
+use Rattle.gh_base.specs.Grounds.{Problem}
+use Rattle.gh_base.specs.Meaning.{IsClauseTrue, IsCongruence}
+use Rattle.gh_base.specs.Structures.{Tables, interpretation_of}
+use Rattle.gh_inst.specs.Violations.{AreInstancesTrue}
+use Rattle.gh_log.specs.Sections.{IsValidSection}
+use Rattle.gh_log.specs.declared.lines.Section.{Section}
+use Rattle.gh_ground.specs.declared.solve.Answer.{Answer}
+use Rattle.gh_ground.specs.declared.solve.Answer.TheVariants.{Model, Refutation}
+
+-- the structure has the numbers of the problem and makes its clauses and all axiom instances true, and its equality is a congruence
+pub record IsModelOf (p : Problem) (s : Tables) : Type 0 where
+  pub sizes : s.sizes ≡ p.sizes
+  pub clauses : All (IsClauseTrue (interpretation_of s)) p.clauses
+  pub instances : AreInstancesTrue p.sizes (interpretation_of s)
+  pub congruence : IsCongruence p.sizes (interpretation_of s)
+
+-- the section is valid for the problem, and stands at the first line
+pub record IsRefutationOf (p : Problem) (s : Section) : Type 0 where
+  pub valid : IsValidSection p s.lines.items
+  pub first : s.first ≡ 1
+
+abbrev pub IsAnswer : Problem → Answer → Type 0
+IsAnswer p (Model s) = IsModelOf p s
+IsAnswer p (Refutation s) = IsRefutationOf p s

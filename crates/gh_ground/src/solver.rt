@@ -1,0 +1,218 @@
+//! A search whose clauses are the lines of a section.
+
+ghost use Rattle.std.specs.Prelude.{◌≡◌, ◌<◌, All, Contains, IfOk, OnOk, IfSome, IfNone, MatchBool, None, [], length, map, slice_get};
+ghost use Rattle.gh_base.specs.declared.atom.Lit.{Lit};
+ghost use Rattle.gh_base.specs.Grounds.{Problem};
+ghost use Rattle.gh_base.specs.Meaning.{IsClauseTrue, IsCongruence, IsEqualityClause};
+ghost use Rattle.gh_base.specs.Propagation.{FollowsByUnits};
+ghost use Rattle.gh_base.specs.Structures.{interpretation_of};
+ghost use Rattle.gh_inst.specs.Instances.{IsInstance};
+ghost use Rattle.gh_log.specs.declared.lines.LogLine.TheVariants.{Axiom};
+ghost use Rattle.gh_log.specs.Sections.{line_clause, AreOfKind};
+ghost use Rattle.gh_ground.specs.Kept.{IsKept, Keeps, IsAnswered, IsOpen, IsEnded};
+ghost use Rattle.gh_ground.specs.Solving.{IsRefutationOf};
+ghost use Rattle.gh_sat.specs.Learn.{IsConflict};
+ghost use Rattle.gh_sat.specs.Measure.{left};
+ghost use Rattle.gh_sat.specs.Theory.{PropagatesBeside};
+ghost use Rattle.gh_sat.specs.Trail.{IsSound};
+ghost use Rattle.gh_sat.specs.Whole.{GivesLast};
+
+use crate::congruence::Congruence;
+use crate::structures::structure_of;
+use gh_base::clause::Clause;
+use gh_base::ground::Ground;
+use gh_base::structure::Structure;
+use gh_inst::naming::{InstanceName, instance};
+use gh_log::lines::{LogLine, Section};
+use gh_sat::search::Search;
+use std::alloc::{AllocError, Global};
+
+/// A search over ground clauses beside equality and congruence, and a line for each of its clauses.
+#[derive(Drop)]
+pub(crate) struct Solver {
+    search: Search<Congruence>,
+    lines: Vec<LogLine>,
+}
+
+// A line for each clause of a ground problem.
+fn ground_lines(alloc: Global, ground: &Ground) -> Result<Vec<LogLine>, AllocError>
+    ensures clauses { IfOk result (λ v. map (line_clause ground.now) v.items ≡ ground.now.clauses) }
+    ensures of_kind { IfOk result (λ v. AreOfKind ground.now v.items) }
+{
+    let mut lines = Vec::with_capacity(alloc, ground.count() as usize)?;
+    for number in 0..ground.count() {
+        lines.push(LogLine::Clause { number })?;
+    }
+    Ok(lines)
+}
+
+// The clause of a number, if it is there.
+fn clause_at(
+    alloc: Global,
+    search: &Search<Congruence>,
+    number: u32,
+) -> Result<Option<Clause>, AllocError>
+    ensures { IfOk result (λ o. o ≡ slice_get search.now.clauses number) }
+{
+    match search.clause(number) {
+        None => Ok(None),
+        Some(clause) => Ok(Some(clause.copy(alloc)?)),
+    }
+}
+
+impl Solver {
+    /// Nothing is decided yet.
+    pub(crate) fn new(alloc: Global, ground: &Ground) -> Result<Solver, AllocError>
+        ensures { IfOk result (λ s. IsKept ground.now s.search s.lines.items) }
+    {
+        let sizes = ground.sizes();
+        let theory = Congruence::new(alloc, sizes.terms, sizes.versions, sizes.defs)?;
+        let search = Search::new(alloc, ground, theory)?;
+        let lines = ground_lines(alloc, ground)?;
+        Ok(Solver { search, lines })
+    }
+
+    // Propagates, and notes the lemma of a conflict of equality and congruence.
+    fn propagate(&mut self, alloc: Global) -> Result<Option<u32>, AllocError>
+        ensures moves { IfOk result (λ o. PropagatesBeside (IsEqualityClause self.old.search.sizes) self.old.search self.new.search o) }
+        ensures last { OnOk result (GivesLast self.old.search self.new.search.trail) }
+        ensures answered { IfOk result (λ o. IsAnswered self.new.search o) }
+        ensures keeps { OnOk result (Keeps self.old.search self.old.lines.items self.new.search self.new.lines.items) }
+    {
+        let before = self.search.count();
+        let answer = self.search.propagate(alloc)?;
+        match clause_at(alloc, &self.search, before)? {
+            None => Ok(answer),
+            Some(lemma) => {
+                self.lines.push(LogLine::Lemma(lemma))?;
+                Ok(answer)
+            }
+        }
+    }
+
+    // Decides an atom that has no truth, if there is one, and propagates.
+    fn decide(&mut self, alloc: Global) -> Result<Option<Option<u32>>, AllocError>
+        requires { IsAnswered self.old.search None }
+        ensures less { IfOk result (λ o. IfSome o (λ _. left self.new.search.sizes self.new.search.trail < left self.old.search.sizes self.old.search.trail)) }
+        ensures answered { IfOk result (λ o. IfSome o (IsAnswered self.new.search)) }
+        ensures open { IfOk result (λ o. IfNone o (IsOpen self.new.search)) }
+        ensures keeps { OnOk result (Keeps self.old.search self.old.lines.items self.new.search self.new.lines.items) }
+    {
+        match self.search.decide() {
+            None => Ok(None),
+            Some(_lit) => Ok(Some(self.propagate(alloc)?)),
+        }
+    }
+
+    // Learns from a false clause, jumps back and propagates.
+    fn learn(&mut self, alloc: Global, conflict: u32) -> Result<Option<u32>, AllocError>
+        requires sound { IsSound self.old.search }
+        requires conflict { IsConflict self.old.search conflict }
+        requires level { 0 < length self.old.search.starts }
+        ensures less { OnOk result (left self.new.search.sizes self.new.search.trail < left self.old.search.sizes self.old.search.trail) }
+        ensures answered { IfOk result (IsAnswered self.new.search) }
+        ensures keeps { OnOk result (Keeps self.old.search self.old.lines.items self.new.search self.new.lines.items) }
+    {
+        let learnt = self.search.learn(alloc, conflict)?;
+        self.search.backjump(learnt.level);
+        self.lines.push(LogLine::Learnt(learnt.clause))?;
+        let next = self.propagate(alloc)?;
+        Ok(next)
+    }
+
+    // A decision, or a lesson, and then the next answer of `propagate`. None where all is decided, and where the
+    // conflict stands at level 0.
+    fn turn(
+        &mut self,
+        alloc: Global,
+        answer: Option<u32>,
+    ) -> Result<Option<Option<u32>>, AllocError>
+        requires { IsAnswered self.old.search answer }
+        ensures less { IfOk result (λ o. IfSome o (λ _. left self.new.search.sizes self.new.search.trail < left self.old.search.sizes self.old.search.trail)) }
+        ensures answered { IfOk result (λ o. IfSome o (IsAnswered self.new.search)) }
+        ensures ended { IfOk result (λ o. IfNone o (IsEnded self.new.search answer)) }
+        ensures keeps { OnOk result (Keeps self.old.search self.old.lines.items self.new.search self.new.lines.items) }
+    {
+        match answer {
+            None => {
+                let next = self.decide(alloc)?;
+                Ok(next)
+            }
+            Some(conflict) => {
+                if self.search.level() == 0 {
+                    return Ok(None);
+                }
+                let next = self.learn(alloc, conflict)?;
+                Ok(Some(next))
+            }
+        }
+    }
+
+    /// Searches on until all atoms are assigned without conflict, or the clauses are refuted, and says whether it is the first.
+    pub(crate) fn is_open(&mut self, alloc: Global) -> Result<bool, AllocError>
+        ensures ended { IfOk result (λ b. MatchBool b (IsOpen self.new.search) (FollowsByUnits self.new.search.clauses [])) }
+        ensures keeps { OnOk result (Keeps self.old.search self.old.lines.items self.new.search self.new.lines.items) }
+    {
+        let mut answer = self.propagate(alloc)?;
+        while let Some(next) = self.turn(alloc, answer)? {
+            answer = next;
+        }
+        Ok(answer.is_none())
+    }
+
+    /// The structure of the present assignment.
+    pub(crate) fn structure(&self, alloc: Global) -> Result<Structure, AllocError>
+        requires open { IsOpen self.now.search }
+        requires kept { (p : Problem) × IsKept p self.now.search self.now.lines.items }
+        ensures sizes { IfOk result (λ s. s.sizes ≡ self.now.search.sizes) }
+        ensures clauses { IfOk result (λ s. All (IsClauseTrue (interpretation_of s)) self.now.search.clauses) }
+        ensures congruence { IfOk result (λ s. IsCongruence self.now.search.sizes (interpretation_of s)) }
+    {
+        let structure = structure_of(alloc, self.search.assignment())?;
+        Ok(structure)
+    }
+
+    // Adds an instance of an axiom row.
+    fn add_instance(&mut self, alloc: Global, name: InstanceName) -> Result<(), AllocError>
+        requires { IsInstance self.old.search.sizes.terms self.old.search.sizes.versions name }
+        ensures sizes { OnOk result (self.new.search.sizes ≡ self.old.search.sizes) }
+        ensures added { OnOk result (Contains self.new.lines.items (Axiom name)) }
+        ensures keeps { OnOk result (Keeps self.old.search self.old.lines.items self.new.search self.new.lines.items) }
+    {
+        let sizes = self.search.assignment().sizes();
+        let Some(clause) = instance(alloc, name, sizes.terms, sizes.versions) else {
+            return Ok(());
+        };
+        self.lines.push(LogLine::Axiom(name))?;
+        self.search.add(clause)?;
+        Ok(())
+    }
+
+    /// Adds instances of axiom rows.
+    pub(crate) fn add_instances(
+        &mut self,
+        alloc: Global,
+        names: &[InstanceName],
+    ) -> Result<(), AllocError>
+        requires { All (IsInstance self.old.search.sizes.terms self.old.search.sizes.versions) names.now }
+        ensures added { OnOk result (All (λ name. Contains self.new.lines.items (Axiom name)) names.now) }
+        ensures keeps { OnOk result (Keeps self.old.search self.old.lines.items self.new.search self.new.lines.items) }
+    {
+        for name in names {
+            self.add_instance(alloc, *name)?;
+        }
+        Ok(())
+    }
+
+    /// The section of a refutation.
+    pub(crate) fn into_section(mut self, alloc: Global) -> Result<Section, AllocError>
+        requires { FollowsByUnits self.search.clauses [] }
+        ensures { IfOk result (λ s. (p : Problem) → IsKept p self.search self.lines.items → IsRefutationOf p s) }
+    {
+        self.lines.push(LogLine::Learnt(Clause::new(alloc)))?;
+        Ok(Section {
+            first: 1,
+            lines: self.lines,
+        })
+    }
+}

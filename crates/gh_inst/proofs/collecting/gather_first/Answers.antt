@@ -1,0 +1,21 @@
+use Rattle.std.proofs.Common.{◌≡◌, ◌++◌, ◌∷◌, [], ◌-◌, ◌∙◌, sym, ap, subst, take, Some, option_map, length, arith}
+use Rattle.std.proofs.lemmas.List.{length-take}
+use Rattle.gh_base.specs.Structures.{interpretation_of}
+use Rattle.gh_inst.specs.Instances.{name_of}
+use Rattle.gh_inst.specs.Search.{IsSearched, IsRowTrue, tuples_with}
+use Rattle.gh_inst.specs.Collecting.{IsFalseInstance, GathersIn}
+use Rattle.gh_inst.proofs.CollectingLemmas.{one_added, found_false}
+use Rattle.gh_inst.proofs.collecting.gather_first.Goals as goal
+
+pub returns-in_ok-push : goal.returns-in_ok-push
+returns-in_ok-push c =
+    let r = c.args.row.now in
+    let l = c.requires.looked in
+    let s = r.structure.now in
+    let m = interpretation_of s in
+    let some : option_map (take r.variables) c.first_from.result ≡ Some (take r.variables c.in-Some.terms) = ap (option_map (take r.variables)) c.in-Some.is in
+    let searched = subst (IsSearched (IsRowTrue m r.version r.lits.now) (tuples_with (r.variables - c.args.first) s.sizes.terms (take c.args.first c.args.start))) some c.first_from.ensures in
+    let is : IsFalseInstance s.sizes m (name_of r.number r.version (take r.variables c.in-Some.terms)) =
+    found_false s.sizes m r.number r.version r.variables c.args.first r.lits.now (take c.args.first c.args.start) (take r.variables c.in-Some.terms) l.row_is l.version_there c.requires.first c.requires.long c.requires.terms searched in
+    subst (GathersIn r (take c.args.first c.args.start) (r.variables - c.args.first) c.args.found.now.items) (sym c.in_ok-push.ensures.items)
+    (one_added s.sizes m c.args.found.now.items c.name_of_terms.result (subst (IsFalseInstance s.sizes m) (sym c.name_of_terms.ensures) is))

@@ -1,0 +1,13 @@
+use Rattle.std.proofs.Common.{◌-◌, All, map, take}
+use Rattle.gh_base.specs.Structures.{interpretation_of}
+use Rattle.gh_inst.specs.Table.{table}
+use Rattle.gh_inst.specs.Tuples.{tuples}
+use Rattle.gh_inst.specs.Instances.{name_of}
+use Rattle.gh_inst.specs.Violations.{IsInstanceTrue}
+use Rattle.gh_inst.specs.Collecting.{Gathers, RowHolds}
+use Rattle.gh_inst.proofs.collecting.gather_rows.Given as goal
+
+abbrev pub invariant-loop-number : goal.invariant-loop-number
+invariant-loop-number l =
+    Gathers l.structure.sizes (interpretation_of l.structure) l.fn.found.items l.found.items
+    (All (RowHolds l.structure.sizes (interpretation_of l.structure) l.version) (take (l.number - 1) table))

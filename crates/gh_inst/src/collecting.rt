@@ -1,0 +1,168 @@
+//! Instances that are false in a structure, some of each row and version.
+
+ghost use Rattle.std.specs.Prelude.{◌≡◌, ◌<◌, ◌≤◌, ◌-◌, [], ◌∷◌, All, IfOk, OnOk, Some, length, map, take};
+ghost use Rattle.gh_base.specs.Structures.{interpretation_of};
+ghost use Rattle.gh_inst.specs.Table.{row_with, table, AxiomRow};
+ghost use Rattle.gh_inst.specs.Tuples.{tuples};
+ghost use Rattle.gh_inst.specs.Instances.{name_of};
+ghost use Rattle.gh_inst.specs.Words.{AreWords};
+ghost use Rattle.gh_inst.specs.Search.{IsRowTrue, tuples_with};
+ghost use Rattle.gh_inst.specs.Violations.{IsInstanceTrue, AreInstancesTrue};
+ghost use Rattle.gh_inst.specs.Collecting.{IsFalseInstance, Gathers, IsLooked, GathersIn, RowHolds, VersionHolds};
+
+use crate::naming::InstanceName;
+use crate::schema::Pattern;
+use crate::search::first_from;
+use crate::table::row_numbered;
+use crate::violation::name_of_terms;
+use crate::words::words_of;
+use gh_base::atom::Term;
+use gh_base::structure::Structure;
+use std::alloc::{AllocError, Global};
+
+// A row in a version of a structure, with the words of that version.
+#[derive(Drop)]
+struct Looked<'a> {
+    number: u8,
+    variables: u8,
+    lits: &'a [Pattern],
+    structure: &'a Structure,
+    version: u8,
+    words: &'a [u32],
+}
+
+// Adds the row's first false instance whose tuple begins with the first terms of a tuple.
+fn gather_first(
+    row: &Looked,
+    start: [Term; 4],
+    first: usize,
+    found: &mut Vec<InstanceName>,
+) -> Result<(), AllocError>
+    requires looked { IsLooked row.now }
+    requires first { first ≤ row.now.variables }
+    requires long { length (take first start) ≡ first }
+    requires terms { All (λ t. t.0 < row.now.structure.now.sizes.terms) (take first start) }
+    ensures { OnOk result (GathersIn row.now (take first start) (row.now.variables - first) found.old.items found.new.items) }
+{
+    let variables = row.variables as usize;
+    let (structure, version) = (row.structure, row.version);
+    if let Some(terms) = first_from(
+        row.lits, variables, structure, version, row.words, start, first,
+    ) {
+        found.push(name_of_terms(row.number, row.variables, version, terms))?;
+    }
+    Ok(())
+}
+
+// Adds false instances whose tuples begin with a term, the first one for each second term.
+fn gather_second(row: &Looked, x: Term, found: &mut Vec<InstanceName>) -> Result<(), AllocError>
+    requires looked { IsLooked row.now }
+    requires x { x.0 < row.now.structure.now.sizes.terms }
+    ensures { OnOk result (GathersIn row.now (x ∷ []) (row.now.variables - 1) found.old.items found.new.items) }
+{
+    if row.variables == 1 {
+        return gather_first(row, [x, Term(0), Term(0), Term(0)], 1, found);
+    }
+    for y in 0..row.structure.terms() {
+        gather_first(row, [x, Term(y), Term(0), Term(0)], 2, found)?;
+    }
+    Ok(())
+}
+
+// Adds false instances of the row, until there are so many.
+fn gather(row: &Looked, most: usize, found: &mut Vec<InstanceName>) -> Result<(), AllocError>
+    requires looked { IsLooked row.now }
+    requires room { length found.old.items < most }
+    ensures { OnOk result (GathersIn row.now [] (row.now.variables - 0) found.old.items found.new.items) }
+{
+    for x in 0..row.structure.terms() {
+        if found.len() >= most {
+            return Ok(());
+        }
+        gather_second(row, Term(x), found)?;
+    }
+    Ok(())
+}
+
+// Adds some false instances of a row in a version.
+fn gather_row(
+    number: u8,
+    structure: &Structure,
+    version: u8,
+    words: &[u32],
+    most: usize,
+    found: &mut Vec<InstanceName>,
+) -> Result<(), AllocError>
+    requires version { version < structure.now.sizes.versions }
+    requires words { AreWords (interpretation_of structure.now) version structure.now.sizes.terms words.now }
+    requires most { 1 ≤ most }
+    ensures { OnOk result ((r : AxiomRow) → row_with number table ≡ Some r → Gathers structure.now.sizes (interpretation_of structure.now) found.old.items found.new.items (RowHolds structure.now.sizes (interpretation_of structure.now) version r)) }
+{
+    if let Some(row) = row_numbered(number) {
+        let looked = Looked {
+            number,
+            variables: row.variables(),
+            lits: row.lits(),
+            structure,
+            version,
+            words,
+        };
+        gather(&looked, found.len().saturating_add(most), found)?;
+    }
+    Ok(())
+}
+
+// Adds some false instances of each row in a version.
+fn gather_version(
+    structure: &Structure,
+    version: u8,
+    most: usize,
+    found: &mut Vec<InstanceName>,
+) -> Result<(), AllocError>
+    requires version { version < structure.now.sizes.versions }
+    requires most { 1 ≤ most }
+    ensures { OnOk result (Gathers structure.now.sizes (interpretation_of structure.now) found.old.items found.new.items (VersionHolds structure.now.sizes (interpretation_of structure.now) version)) }
+{
+    if structure.terms() > 32 {
+        return gather_rows(structure, version, &[], most, found);
+    }
+    let words = words_of(structure, version);
+    gather_rows(structure, version, &words, most, found)
+}
+
+// Adds some false instances of each row in a version, of which the words are there.
+fn gather_rows(
+    structure: &Structure,
+    version: u8,
+    words: &[u32],
+    most: usize,
+    found: &mut Vec<InstanceName>,
+) -> Result<(), AllocError>
+    requires version { version < structure.now.sizes.versions }
+    requires words { AreWords (interpretation_of structure.now) version structure.now.sizes.terms words.now }
+    requires most { 1 ≤ most }
+    ensures { OnOk result (Gathers structure.now.sizes (interpretation_of structure.now) found.old.items found.new.items (VersionHolds structure.now.sizes (interpretation_of structure.now) version)) }
+{
+    for number in 1..16 {
+        gather_row(number, structure, version, words, most, found)?;
+    }
+    Ok(())
+}
+
+/// Names of instances that are false in a structure: of each row and version, for each pair of leading terms, the first one; no further first term is looked at once `most` were found. There is none
+/// only where every instance holds.
+pub fn false_instances(
+    alloc: Global,
+    structure: &Structure,
+    most: usize,
+) -> Result<Vec<InstanceName>, AllocError>
+    requires { 1 ≤ most }
+    ensures each { IfOk result (λ found. All (IsFalseInstance structure.now.sizes (interpretation_of structure.now)) found.items) }
+    ensures none { IfOk result (λ found. found.items ≡ [] → AreInstancesTrue structure.now.sizes (interpretation_of structure.now)) }
+{
+    let mut found = Vec::new(alloc);
+    for version in 0..structure.versions() {
+        gather_version(structure, version, most, &mut found)?;
+    }
+    Ok(found)
+}

@@ -1,0 +1,10 @@
+use Rattle.std.proofs.Common.{◌++◌, length}
+use Rattle.gh_log.specs.Reading.{SpellsClause}
+use Rattle.gh_log.proofs.AtomLemmas.{Goes}
+use Rattle.gh_log.proofs.cursor.Reader.clause.Given as goal
+
+abbrev pub invariant-literals : goal.invariant-literals
+invariant-literals l = Goes (SpellsClause l.self.rest.now) (SpellsClause l.fn.self.rest.now) (λ c. l.clause ++ c)
+
+abbrev pub decreases-literals : goal.decreases-literals
+decreases-literals l = length l.self.rest.now

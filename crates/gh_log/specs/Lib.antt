@@ -1,0 +1,5 @@
+pub mod Sections
+pub mod Texts
+pub mod Spelled
+pub mod Reading
+pub mod Laws

@@ -1,0 +1,122 @@
+-- What the parts of the grammar spell at the front of a text, and what the reader answers for a part.
+use Rattle.std.specs.Prelude.{◌≡◌, ◌≢◌, ◌⊎◌, ⊤, ◌+◌, ◌-◌, ◌≤◌, ℕ, List, [], ◌∷◌, ◌++◌, length, take, replicate, false, All, Result, MatchResult}
+use Rattle.std.specs.List.{flat_map}
+use Rattle.std.specs.Fmt.{decimal}
+use Rattle.std.specs.Char.{is_ascii_digit}
+use Rattle.gh_base.specs.declared.atom.Term.{Term}
+use Rattle.gh_base.specs.declared.atom.Atom.{Atom}
+use Rattle.gh_base.specs.declared.atom.Lit.{Lit}
+use Rattle.gh_inst.specs.Schemas.{term}
+use Rattle.gh_log.specs.declared.lines.LogLine.{LogLine}
+use Rattle.gh_log.specs.declared.lines.Section.{Section}
+use Rattle.gh_log.specs.declared.error.LogError.{LogError}
+use Rattle.gh_log.specs.declared.error.LogError.TheVariants.{Line, OutOfMemory as NoMemory}
+use Rattle.gh_log.specs.declared.error.Refusal.{Refusal}
+use Rattle.gh_log.specs.declared.error.Refusal.TheVariants.{Outside, OutOfMemory}
+use Rattle.gh_log.specs.Texts.{atom_text, sign_text, lits_text, term_text, line_text, header_text, section_text}
+use Rattle.gh_log.specs.Spelled.{IsSpelledAtom, AreSpelled, IsSpelledLine}
+
+-- the part spells nothing at the front
+abbrev pub IsRefused : {X : Type 0} → (X → List ℕ → Type 0) → Type 0
+IsRefused {X} P = (x : X) (rest : List ℕ) → P x rest → ⊥
+
+abbrev pub IsRefusal : {X : Type 0} → (X → List ℕ → Type 0) → Refusal → Type 0
+IsRefusal P Outside = IsRefused P
+IsRefusal P OutOfMemory = ⊤
+
+-- the answer is what the part spells at the front, and what is left
+abbrev pub IsRead : {X Y : Type 0} → (X → List ℕ → Type 0) → (Y → X) → Result Y Refusal → List ℕ → Type 0
+IsRead P view answer rest = MatchResult answer (λ y. P (view y) rest) (IsRefusal P)
+
+abbrev pub SpellsText : List ℕ → List ℕ → Unit {0} → List ℕ → Type 0
+SpellsText wanted text u rest = text ≡ wanted ++ rest
+
+abbrev pub SpellsByte : List ℕ → ℕ → List ℕ → Type 0
+SpellsByte text b rest = text ≡ b ∷ rest
+
+-- another byte is next, or none
+abbrev pub IsNotNext : ℕ → List ℕ → Type 0
+IsNotNext b [] = ⊤
+IsNotNext b (c ∷ rest) = c ≢ b
+
+-- no digit follows
+abbrev pub EndsNumber : List ℕ → Type 0
+EndsNumber [] = ⊤
+EndsNumber (b ∷ rest) = is_ascii_digit b ≡ false
+
+pub record SpellsNumber (limit : ℕ) (text : List ℕ) (n : ℕ) (rest : List ℕ) : Type 0 where
+  pub front : text ≡ decimal n ++ rest
+  pub within : n ≤ limit
+  pub ends : EndsNumber rest
+
+-- so many numbers below 256, each after the byte
+pub record SpellsBytes (mark count : ℕ) (text : List ℕ) (ns : List ℕ) (rest : List ℕ) : Type 0 where
+  pub front : text ≡ flat_map (λ n. mark ∷ decimal n) ns ++ rest
+  pub counted : length ns ≡ count
+  pub within : All (λ n. n ≤ 255) ns
+  pub ends : EndsNumber rest
+
+pub record SpellsAtom (text : List ℕ) (x : Atom) (rest : List ℕ) : Type 0 where
+  pub front : text ≡ atom_text x ++ rest
+  pub spelled : IsSpelledAtom x
+  pub ends : EndsNumber rest
+
+pub record SpellsLit (text : List ℕ) (l : Lit) (rest : List ℕ) : Type 0 where
+  pub front : text ≡ sign_text l ++ atom_text l.atom ++ rest
+  pub spelled : IsSpelledAtom l.atom
+  pub ends : EndsNumber rest
+
+-- literals, and the end of the line
+pub record SpellsClause (text : List ℕ) (c : List Lit) (rest : List ℕ) : Type 0 where
+  pub front : text ≡ lits_text c ++ 10 ∷ rest
+  pub spelled : AreSpelled c
+
+-- terms after k earlier ones, four at most, and the end of the line
+pub record SpellsTerms (k : ℕ) (text : List ℕ) (tuple : List Term) (rest : List ℕ) : Type 0 where
+  pub front : text ≡ flat_map term_text tuple ++ 10 ∷ rest
+  pub few : k + length tuple ≤ 4
+  pub within : All (λ t. t.0 ≤ 255) tuple
+
+-- four terms, of which those past the first ones are term 0
+pub record ArePadded (terms : List Term) (arity : ℕ) : Type 0 where
+  pub few : arity ≤ 4
+  pub four : length terms ≡ 4
+  pub zeros : terms ≡ take arity terms ++ replicate (4 - arity) (term 0)
+
+pub record SpellsLine (text : List ℕ) (l : LogLine) (rest : List ℕ) : Type 0 where
+  pub front : text ≡ line_text l ++ rest
+  pub spelled : IsSpelledLine l
+
+abbrev pub SpellsHeader : ℕ → List ℕ → Unit {0} → List ℕ → Type 0
+SpellsHeader number text u rest = text ≡ header_text number ++ rest
+
+-- the text ends, or a line that begins with `c`
+abbrev pub EndsSection : List ℕ → Type 0
+EndsSection [] = ⊤
+EndsSection (b ∷ rest) = b ≡ 99
+
+-- a section whose header is the file's line k
+pub record SpellsSection (number k : ℕ) (text : List ℕ) (s : Section) (rest : List ℕ) : Type 0 where
+  pub front : text ≡ section_text number s.lines.items ++ rest
+  pub spelled : All IsSpelledLine s.lines.items
+  pub first : s.first ≡ k + 1
+  pub ends : EndsSection rest
+
+-- after some lines of a section comes one that can't be there
+pub record IsStuck (number k : ℕ) (text : List ℕ) (stuck : ℕ) : Type 0 where
+  pub lines : List LogLine
+  pub rest : List ℕ
+  pub front : text ≡ section_text number lines ++ rest
+  pub spelled : All IsSpelledLine lines
+  pub number_is : stuck ≡ k + 1 + length lines
+  pub more : EndsSection rest → ⊥
+  pub refused : IsRefused (SpellsLine rest)
+
+-- the header's line or one of the section's is outside the grammar
+abbrev pub IsSectionRefusal : ℕ → ℕ → List ℕ → LogError → Type 0
+IsSectionRefusal number k text (Line stuck) = ((stuck ≡ k) × IsRefused (SpellsHeader number text)) ⊎ IsStuck number k text stuck
+IsSectionRefusal number k text NoMemory = ⊤
+
+abbrev pub error_at : Refusal → ℕ → LogError
+error_at Outside line = Line line
+error_at OutOfMemory line = NoMemory

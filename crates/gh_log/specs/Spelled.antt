@@ -1,0 +1,75 @@
+-- The logs that the grammar can spell, the places of their sections, and the first line of a text that is outside the grammar.
+use Rattle.std.specs.Prelude.{◌≡◌, ◌≢◌, ◌⊎◌, ⊤, ◌+◌, ◌≤◌, ℕ, List, [], ◌∷◌, ◌++◌, map, length, All, count_by, nat_eq}
+use Rattle.gh_base.specs.declared.atom.Atom.{Atom}
+use Rattle.gh_base.specs.declared.atom.Atom.TheVariants.{Eq, Btwn, Hop, Alloc, Def}
+use Rattle.gh_base.specs.declared.atom.Lit.{Lit}
+use Rattle.gh_inst.specs.declared.naming.InstanceName.{InstanceName}
+use Rattle.gh_inst.specs.Instances.{tuple_of, IsPadded}
+use Rattle.gh_log.specs.declared.lines.LogLine.{LogLine}
+use Rattle.gh_log.specs.declared.lines.LogLine.TheVariants as line
+use Rattle.gh_log.specs.declared.lines.Section.{Section}
+use Rattle.gh_log.specs.declared.error.LogError.{LogError}
+use Rattle.gh_log.specs.declared.error.LogError.TheVariants.{Line, OutOfMemory}
+use Rattle.gh_log.specs.Texts.{log_text}
+
+-- numbers are within their limits, and the terms of an equality stand in order
+abbrev pub IsSpelledAtom : Atom → Type 0
+IsSpelledAtom (Eq a b) = (a.0 ≤ b.0) × (b.0 ≤ 255)
+IsSpelledAtom (Btwn v x y z) = (v ≤ 255) × (x.0 ≤ 255) × (y.0 ≤ 255) × (z.0 ≤ 255)
+IsSpelledAtom (Hop v x y) = (v ≤ 255) × (x.0 ≤ 255) × (y.0 ≤ 255)
+IsSpelledAtom (Alloc v x) = (v ≤ 255) × (x.0 ≤ 255)
+IsSpelledAtom (Def number) = number ≤ 4294967295
+
+abbrev pub AreSpelled : List Lit → Type 0
+AreSpelled clause = All (λ l. IsSpelledAtom l.atom) clause
+
+-- one to four terms
+pub record IsSpelledName (name : InstanceName) : Type 0 where
+  pub row : name.row ≤ 255
+  pub version : name.version ≤ 255
+  pub some : 1 ≤ name.arity
+  pub few : name.arity ≤ 4
+  pub terms : All (λ t. t.0 ≤ 255) (tuple_of name)
+  pub padded : IsPadded name
+
+abbrev pub IsSpelledLine : LogLine → Type 0
+IsSpelledLine (line.Axiom name) = IsSpelledName name
+IsSpelledLine (line.Clause k) = k ≤ 4294967295
+IsSpelledLine (line.Lemma c) = AreSpelled c
+IsSpelledLine (line.Learnt c) = AreSpelled c
+
+pub record IsSpelled (sections : List (List LogLine)) : Type 0 where
+  pub lines : All (λ s. All IsSpelledLine s) sections
+  pub few : length sections ≤ 4294967295
+
+abbrev pub lines_of : List Section → List (List LogLine)
+lines_of sections = map (λ s. s.lines.items) sections
+
+-- the first line of each section comes after its header, where the first header is the file's line k
+abbrev pub ArePlaced : ℕ → List Section → Type 0
+ArePlaced k [] = ⊤
+ArePlaced k (s ∷ ss) = (s.first ≡ k + 1) × ArePlaced (k + 1 + length s.lines.items) ss
+
+-- the text of a log that the grammar can spell
+pub record IsLogText (text : List ℕ) : Type 0 where
+  pub sections : List (List LogLine)
+  pub text_is : text ≡ log_text sections
+  pub spelled : IsSpelled sections
+
+abbrev pub lines_before : List ℕ → ℕ
+lines_before front = count_by (λ b. nat_eq b 10) front
+
+-- Line k is the first one outside the grammar: the lines before it are the text of a log, or there are none, and they
+-- aren't with it and its line feed.
+pub record IsFirstOutside (text : List ℕ) (k : ℕ) : Type 0 where
+  pub front : List ℕ
+  pub rest : List ℕ
+  pub whole : text ≡ front ++ rest
+  pub number_is : k ≡ lines_before front + 1
+  pub before : (front ≡ []) ⊎ (IsLogText front × (rest ≢ []))
+  pub outside : (l after : List ℕ) → rest ≡ l ++ 10 ∷ after → All (λ b. b ≢ 10) l → IsLogText (front ++ l ++ 10 ∷ []) → ⊥
+
+-- why a text isn't read
+abbrev pub IsLogRefusal : List ℕ → LogError → Type 0
+IsLogRefusal text (Line k) = IsFirstOutside text k
+IsLogRefusal text OutOfMemory = ⊤

@@ -1,0 +1,12 @@
+//! Proof logs: sections of lines that end in the empty clause, and their text.
+#![tactic(auto)]
+
+mod cursor;
+pub mod error;
+pub mod laws;
+pub mod lines;
+mod literals;
+pub mod reading;
+#[cfg(test)]
+mod tests;
+pub mod writing;

@@ -1,0 +1,189 @@
+//! Writing a log.
+
+ghost use Rattle.std.specs.Prelude.{◌≡◌, ◌∷◌, ◌++◌, [], take, codes, OnOk, IfOk};
+ghost use Rattle.std.specs.List.{flat_map};
+ghost use Rattle.std.specs.Fmt.{decimal};
+ghost use Rattle.gh_log.specs.Texts.{Adds, dotted, atom_text, sign_text, lits_text, term_text, line_text, section_text, log_text};
+ghost use Rattle.gh_log.specs.Spelled.{lines_of};
+ghost use Rattle.gh_inst.specs.Instances.{tuple_of};
+
+use crate::lines::{Log, LogLine, Section};
+use gh_base::atom::{Atom, Lit, Term};
+use gh_base::text::Text;
+use gh_inst::naming::InstanceName;
+use itoa::Buffer;
+use std::alloc::{AllocError, Global};
+
+fn put(out: &mut Text, text: &[u8]) -> Result<(), AllocError>
+    ensures { OnOk result (Adds out.old out.new text.now) }
+{
+    out.push(text)?;
+    Ok(())
+}
+
+fn put_number(out: &mut Text, number: usize) -> Result<(), AllocError>
+    ensures { OnOk result (Adds out.old out.new (decimal number)) }
+{
+    put(out, Buffer::new().format(number).as_bytes())?;
+    Ok(())
+}
+
+// `.` and a number
+fn put_dotted(out: &mut Text, number: usize) -> Result<(), AllocError>
+    ensures { OnOk result (Adds out.old out.new (dotted number)) }
+{
+    put(out, b".")?;
+    put_number(out, number)?;
+    Ok(())
+}
+
+// `.` and the number of a term
+fn put_term(out: &mut Text, term: Term) -> Result<(), AllocError>
+    ensures { OnOk result (Adds out.old out.new (dotted term.0)) }
+{
+    put_dotted(out, usize::from(term.0))
+}
+
+// A letter and `.` and a version
+fn put_versioned(out: &mut Text, letter: &[u8], version: u8) -> Result<(), AllocError>
+    ensures { OnOk result (Adds out.old out.new (letter.now ++ dotted version)) }
+{
+    put(out, letter)?;
+    put_dotted(out, usize::from(version))?;
+    Ok(())
+}
+
+fn put_atom(out: &mut Text, atom: Atom) -> Result<(), AllocError>
+    ensures { OnOk result (Adds out.old out.new (atom_text atom)) }
+{
+    match atom {
+        Atom::Eq { a, b } => {
+            put(out, b"E")?;
+            put_term(out, a)?;
+            put_term(out, b)?;
+        }
+        Atom::Btwn { version, x, y, z } => {
+            put_versioned(out, b"B", version)?;
+            put_term(out, x)?;
+            put_term(out, y)?;
+            put_term(out, z)?;
+        }
+        Atom::Hop { version, x, v } => {
+            put_versioned(out, b"H", version)?;
+            put_term(out, x)?;
+            put_term(out, v)?;
+        }
+        Atom::Alloc { version, x } => {
+            put_versioned(out, b"A", version)?;
+            put_term(out, x)?;
+        }
+        Atom::Def { number } => {
+            put(out, b"D")?;
+            put_dotted(out, number as usize)?;
+        }
+    }
+    Ok(())
+}
+
+fn put_sign(out: &mut Text, positive: bool) -> Result<(), AllocError>
+    ensures { OnOk result (Adds out.old out.new (Rattle.std.specs.Prelude.cond positive [] (codes "-"))) }
+{
+    put(out, if positive { b"" } else { b"-" })
+}
+
+// A literal after a space
+fn put_lit(out: &mut Text, lit: Lit) -> Result<(), AllocError>
+    ensures { OnOk result (Adds out.old out.new (codes " " ++ sign_text lit ++ atom_text lit.atom)) }
+{
+    put(out, b" ")?;
+    put_sign(out, lit.positive)?;
+    put_atom(out, lit.atom)?;
+    Ok(())
+}
+
+// A letter, literals and the end of the line
+fn put_clause(out: &mut Text, letter: &[u8], lits: &[Lit]) -> Result<(), AllocError>
+    ensures { OnOk result (Adds out.old out.new (letter.now ++ lits_text lits.now ++ codes "\n")) }
+{
+    put(out, letter)?;
+    for lit in lits {
+        put_lit(out, *lit)?;
+    }
+    put(out, b"\n")?;
+    Ok(())
+}
+
+// Terms, each after a space
+fn put_terms(out: &mut Text, terms: &[Term]) -> Result<(), AllocError>
+    ensures { OnOk result (Adds out.old out.new (flat_map term_text terms.now)) }
+{
+    for term in terms {
+        put(out, b" ")?;
+        put_number(out, usize::from(term.0))?;
+    }
+    Ok(())
+}
+
+// The terms that count.
+fn tuple(name: &InstanceName) -> &[Term]
+    ensures { result.now ≡ tuple_of name.now }
+{
+    let arity = usize::from(name.arity);
+    if arity > 4 {
+        return &name.terms;
+    }
+    &name.terms[..arity]
+}
+
+// Row, version and terms
+fn put_name(out: &mut Text, name: &InstanceName) -> Result<(), AllocError>
+    ensures { OnOk result (Adds out.old out.new (codes "a " ++ decimal name.now.row ++ codes " " ++ decimal name.now.version ++ flat_map term_text (tuple_of name.now) ++ codes "\n")) }
+{
+    put(out, b"a ")?;
+    put_number(out, usize::from(name.row))?;
+    put(out, b" ")?;
+    put_number(out, usize::from(name.version))?;
+    put_terms(out, tuple(name))?;
+    put(out, b"\n")?;
+    Ok(())
+}
+
+fn put_line(out: &mut Text, line: &LogLine) -> Result<(), AllocError>
+    ensures { OnOk result (Adds out.old out.new (line_text line.now)) }
+{
+    match line {
+        LogLine::Axiom(name) => put_name(out, name)?,
+        LogLine::Clause { number } => {
+            put(out, b"g ")?;
+            put_number(out, *number as usize)?;
+            put(out, b"\n")?;
+        }
+        LogLine::Lemma(clause) => put_clause(out, b"e", clause.lits())?,
+        LogLine::Learnt(clause) => put_clause(out, b"l", clause.lits())?,
+    }
+    Ok(())
+}
+
+fn put_section(out: &mut Text, number: usize, section: &Section) -> Result<(), AllocError>
+    ensures { OnOk result (Adds out.old out.new (section_text number section.now.lines.items)) }
+{
+    put(out, b"condition ")?;
+    put_number(out, number)?;
+    put(out, b"\n")?;
+    for line in &section.lines {
+        put_line(out, line)?;
+    }
+    Ok(())
+}
+
+/// The text of a log. The places of its sections don't matter.
+pub fn write_log(alloc: Global, log: &Log) -> Result<Text, AllocError>
+    ensures { IfOk result (λ text. text ≡ log_text (lines_of log.now.sections.items)) }
+{
+    let mut out = Text::new(alloc);
+    put(&mut out, b"grass log 1\n")?;
+    for (index, section) in log.sections.iter().enumerate() {
+        put_section(&mut out, index + 1, section)?;
+    }
+    Ok(out)
+}

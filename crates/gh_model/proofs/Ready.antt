@@ -1,0 +1,125 @@
+-- A place that a path writes or frees was accessed right before.
+use Rattle.std.specs.Prelude.{◌≡◌, ℕ, suc, List, [], ◌∷◌, Option, Some, None, Contains}
+use Rattle.std.proofs.Common.{refl, subst, inl, inr}
+use Rattle.gh_ast.specs.declared.Expr.{Expr}
+use Rattle.gh_ast.specs.declared.Expr.TheVariants.{Plain, Read}
+use Rattle.gh_ast.specs.Plain.{Test, compare, negation, conjunction, disjunction, Tests, no_tests, test_first, Statement, set, new, write, free, call, choice, loop, give, Statements, no_statements, statement_first, Procedure}
+use Rattle.gh_ast.specs.Programs.{Name, body_of}
+use Rattle.gh_ast.proofs.Lists.{member_cases, no_member}
+use Rattle.gh_path.specs.Graphs.{Check, PathStep, accessed, assume, assigned, made, written, freed, called, looped, answered, Graph, dead_end, ends, moves, guarded, fork, reads, all_reads, tested, all_tested, some_tested, lowered, all_lowered, Loop, Start, rounds, round, starts, loops_of, once_around}
+use Rattle.gh_path.specs.Paths.{Path, at_end, arrived, past, on, on_true, on_false}
+
+-- the variable that a step accesses
+abbrev pub accesses : PathStep → Option Name
+accesses (accessed o) = Some o.name
+accesses (assume l e r way) = None
+accesses (assigned x e) = None
+accesses (made x) = None
+accesses (written x e) = None
+accesses (freed x) = None
+accesses (called ys f es) = None
+accesses (looped l) = None
+accesses (answered ys es) = None
+
+-- after an access of o
+abbrev pub IsReady : Option Name → PathStep → Type 0
+IsReady o (accessed x) = Unit {0}
+IsReady o (assume l e r way) = Unit {0}
+IsReady o (assigned x e) = Unit {0}
+IsReady o (made x) = Unit {0}
+IsReady o (written x e) = o ≡ Some x.name
+IsReady o (freed x) = o ≡ Some x.name
+IsReady o (called ys f es) = Unit {0}
+IsReady o (looped l) = Unit {0}
+IsReady o (answered ys es) = Unit {0}
+
+abbrev pub AreReady : Option Name → List PathStep → Type 0
+AreReady o [] = Unit {0}
+AreReady o (p ∷ ps) = IsReady o p × AreReady (accesses p) ps
+
+abbrev AllReady : Option Name → Graph → Type 0
+AllReady o dead_end = Unit {0}
+AllReady o (ends c) = Unit {0}
+AllReady o (moves p g) = IsReady o p × AllReady (accesses p) g
+AllReady o (guarded c p g) = IsReady o p × AllReady (accesses p) g
+AllReady o (fork l e r g k) = AllReady None g × AllReady None k
+
+path_ready : (o : Option Name) (g : Graph) (ps : List PathStep) (c : Check) → Path g ps c → AllReady o g → AreReady o ps
+path_ready o g ps c (at_end {c = d}) A = tt
+path_ready o g ps c (arrived {g = h} {p = p} {c = d}) A = tt
+path_ready o g ps c (past {g = h} {d = d} {p = p} {ps = qs} {c = k} rest) A = (A.0, path_ready (accesses p) h qs k rest A.1)
+path_ready o g ps c (on {g = h} {p = p} {ps = qs} {c = k} rest) A = (A.0, path_ready (accesses p) h qs k rest A.1)
+path_ready o g ps c (on_true {l = l} {e = e} {r = r} {g = h} {k = h'} {ps = qs} {c = k} rest) A = (tt, path_ready None h qs k rest A.0)
+path_ready o g ps c (on_false {l = l} {e = e} {r = r} {g = h} {k = h'} {ps = qs} {c = k} rest) A = (tt, path_ready None h' qs k rest A.1)
+
+none_ready : (o : Option Name) (p : PathStep) → IsReady None p → IsReady o p
+none_ready o (accessed x) A = tt
+none_ready o (assume l e r way) A = tt
+none_ready o (assigned x e) A = tt
+none_ready o (made x) A = tt
+none_ready o (written x e) A = absurd cc
+none_ready o (freed x) A = absurd cc
+none_ready o (called ys f es) A = tt
+none_ready o (looped l) A = tt
+none_ready o (answered ys es) A = tt
+
+weaker : (o : Option Name) (g : Graph) → AllReady None g → AllReady o g
+weaker o dead_end A = tt
+weaker o (ends c) A = tt
+weaker o (moves p g) A = (none_ready o p A.0, A.1)
+weaker o (guarded c p g) A = (none_ready o p A.0, A.1)
+weaker o (fork l e r g k) A = A
+
+reads_ready : (e : Expr) (g : Graph) → AllReady None g → AllReady None (reads e g)
+reads_ready (Plain o) g A = A
+reads_ready (Read o) g A = (tt, weaker (Some o.name) g A)
+
+all_reads_ready : (es : List Expr) (g : Graph) → AllReady None g → AllReady None (all_reads es g)
+all_reads_ready [] g A = A
+all_reads_ready (e ∷ es) g A = reads_ready e (all_reads es g) (all_reads_ready es g A)
+
+mutual
+  tested_ready : (t : Test) (g k : Graph) → AllReady None g → AllReady None k → AllReady None (tested t g k)
+  tested_ready (compare l e r) g k A B = reads_ready l (reads r (fork l e r g k)) (reads_ready r (fork l e r g k) (A, B))
+  tested_ready (negation t) g k A B = tested_ready t k g B A
+  tested_ready (conjunction ts) g k A B = all_tested_ready ts g k A B
+  tested_ready (disjunction ts) g k A B = some_tested_ready ts g k A B
+
+  all_tested_ready : (ts : Tests) (g k : Graph) → AllReady None g → AllReady None k → AllReady None (all_tested ts g k)
+  all_tested_ready no_tests g k A B = A
+  all_tested_ready (test_first t ts) g k A B = tested_ready t (all_tested ts g k) k (all_tested_ready ts g k A B) B
+
+  some_tested_ready : (ts : Tests) (g k : Graph) → AllReady None g → AllReady None k → AllReady None (some_tested ts g k)
+  some_tested_ready no_tests g k A B = B
+  some_tested_ready (test_first t ts) g k A B = tested_ready t g (some_tested ts g k) A (some_tested_ready ts g k A B)
+
+mutual
+  lowered_ready : (p : Procedure) (s : Statement) (g : Graph) → AllReady None g → AllReady None (lowered p s g)
+  lowered_ready p (set x e) g A = reads_ready e (moves (assigned x e) g) (tt, A)
+  lowered_ready p (new x) g A = (tt, A)
+  lowered_ready p (write x e) g A = reads_ready e _ (tt, (refl, A))
+  lowered_ready p (free x) g A = (tt, (refl, A))
+  lowered_ready p (call xs f es) g A = all_reads_ready es _ (tt, A)
+  lowered_ready p (choice t a c b d) g A = tested_ready t (all_lowered p a g) (all_lowered p b g) (all_ready p a g A) (all_ready p b g A)
+  lowered_ready p (loop at t i body close) g A = (tt, tested_ready t dead_end g tt A)
+  lowered_ready p (give at es) g A = all_reads_ready es _ (tt, tt)
+
+  all_ready : (p : Procedure) (ss : Statements) (g : Graph) → AllReady None g → AllReady None (all_lowered p ss g)
+  all_ready p no_statements g A = A
+  all_ready p (statement_first s ss) g A = lowered_ready p s (all_lowered p ss g) (all_ready p ss g A)
+
+round_ready : (p : Procedure) (l : Loop) → AllReady None (once_around p l)
+round_ready p l = tested_ready l.test _ dead_end (all_ready p l.body _ tt) tt
+
+rounds_ready : (p : Procedure) (n : ℕ) (ls : List Loop) (a : Start) → Contains (rounds p n ls) a → AllReady None a.graph
+rounds_ready p n [] a c = absurd (no_member a c)
+rounds_ready p n (l ∷ ls) a c = elim (member_cases (round p n l) (rounds p (suc n) ls) a c) [
+  | inl same ↦ subst (λ (b : Start). AllReady None b.graph) same (round_ready p l)
+  | inr later ↦ rounds_ready p (suc n) ls a later
+]
+
+pub start_ready : (p : Procedure) (a : Start) (ps : List PathStep) (c : Check) → Contains (starts p) a → Path a.graph ps c → AreReady None ps
+start_ready p a ps c here path = path_ready None a.graph ps c path (elim (member_cases _ (rounds p 0 (loops_of p)) a here) [
+  | inl same ↦ subst (λ (b : Start). AllReady None b.graph) same (all_ready p (body_of p) _ tt)
+  | inr later ↦ rounds_ready p 0 (loops_of p) a later
+])

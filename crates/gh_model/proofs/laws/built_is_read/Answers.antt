@@ -1,0 +1,5 @@
+use Rattle.gh_model.proofs.Built.{built_is_read}
+use Rattle.gh_model.proofs.laws.built_is_read.Goals as goal
+
+pub returns : goal.returns
+returns c = built_is_read

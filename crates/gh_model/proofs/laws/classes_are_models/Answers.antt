@@ -1,0 +1,5 @@
+use Rattle.gh_model.proofs.Classes.{classes_are_models}
+use Rattle.gh_model.proofs.laws.classes_are_models.Goals as goal
+
+pub returns : goal.returns
+returns c = classes_are_models

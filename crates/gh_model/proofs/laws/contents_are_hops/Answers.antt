@@ -1,0 +1,5 @@
+use Rattle.gh_model.proofs.Built.{contents_are_hops}
+use Rattle.gh_model.proofs.laws.contents_are_hops.Goals as goal
+
+pub returns : goal.returns
+returns c = contents_are_hops

@@ -1,0 +1,5 @@
+use Rattle.gh_model.proofs.Steps.{frees_are_built}
+use Rattle.gh_model.proofs.laws.frees_are_built.Goals as goal
+
+pub returns : goal.returns
+returns c = frees_are_built

@@ -1,0 +1,5 @@
+use Rattle.gh_model.proofs.Follows.{hops_agree}
+use Rattle.gh_model.proofs.laws.hops_agree.Goals as goal
+
+pub returns : goal.returns
+returns c = hops_agree

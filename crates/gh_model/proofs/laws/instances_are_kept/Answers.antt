@@ -1,0 +1,5 @@
+use Rattle.gh_model.proofs.Rows.{instances_are_kept}
+use Rattle.gh_model.proofs.laws.instances_are_kept.Goals as goal
+
+pub returns : goal.returns
+returns c = instances_are_kept

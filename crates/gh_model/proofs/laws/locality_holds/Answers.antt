@@ -1,0 +1,5 @@
+use Rattle.gh_model.proofs.Locality.{locality_holds}
+use Rattle.gh_model.proofs.laws.locality_holds.Goals as goal
+
+pub returns : goal.returns
+returns c = locality_holds

@@ -1,0 +1,5 @@
+use Rattle.gh_model.proofs.Steps.{next_is_successor}
+use Rattle.gh_model.proofs.laws.next_is_successor.Goals as goal
+
+pub returns : goal.returns
+returns c = next_is_successor

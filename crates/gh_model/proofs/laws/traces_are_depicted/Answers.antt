@@ -1,0 +1,5 @@
+use Rattle.gh_model.proofs.Depicted.{traces_are_depicted}
+use Rattle.gh_model.proofs.laws.traces_are_depicted.Goals as goal
+
+pub returns : goal.returns
+returns c = traces_are_depicted

@@ -1,0 +1,5 @@
+use Rattle.gh_model.proofs.TraceOwned.{traces_are_owned}
+use Rattle.gh_model.proofs.laws.traces_are_owned.Goals as goal
+
+pub returns : goal.returns
+returns c = traces_are_owned

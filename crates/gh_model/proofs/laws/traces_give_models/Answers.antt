@@ -1,0 +1,5 @@
+use Rattle.gh_model.proofs.ClauseModels.{traces_give_models}
+use Rattle.gh_model.proofs.laws.traces_give_models.Goals as goal
+
+pub returns : goal.returns
+returns c = traces_give_models

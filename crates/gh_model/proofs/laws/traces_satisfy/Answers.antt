@@ -1,0 +1,5 @@
+use Rattle.gh_model.proofs.Abstraction.{traces_satisfy}
+use Rattle.gh_model.proofs.laws.traces_satisfy.Goals as goal
+
+pub returns : goal.returns
+returns c = traces_satisfy

@@ -1,0 +1,66 @@
+-- The trace of an interpretation of a condition's terms.
+use Rattle.std.specs.Prelude.{ℕ, zero, suc, List, [], ◌∷◌, length, Option, Some, None, Bool, not, ◌&&◌, ◌==◌, cond}
+use Rattle.std.specs.FinMap.{empty, insert}
+use Rattle.gh_base.specs.Meaning.{Interpretation}
+use Rattle.gh_ast.specs.Plain.{Program}
+use Rattle.gh_ast.specs.Rules.{IsTyped}
+use Rattle.gh_assert.specs.Heaps.{Heap}
+use Rattle.gh_assert.specs.Meaning.{Store}
+use Rattle.gh_path.specs.Graphs.{PathStep}
+use Rattle.gh_path.specs.Conditions.{Condition, IsCondition}
+use Rattle.gh_path.specs.Terms.{Bindings}
+use Rattle.gh_symb.specs.Symbolic.{symbolic_of}
+use Rattle.gh_model.specs.Abstraction.{IsModelOf}
+use Rattle.gh_trace.specs.Traces.{State}
+use Rattle.gh_trace.specs.Validity.{Refutes}
+use Rattle.gh_model.specs.Built.{first}
+use Rattle.gh_model.specs.Classes.{numbers, class_of}
+use Rattle.gh_model.specs.Interpreted.{equal_in, version_of}
+use Rattle.gh_model.specs.TermValues.{version_after}
+
+-- the value of a variable: that of its term, or 0 where it has none
+abbrev pub value_under : (ℕ → ℕ) → Option ℕ → ℕ
+value_under at None = 0
+value_under at (Some t) = at t
+
+abbrev pub store_under : (ℕ → ℕ) → Bindings → Store
+store_under at b x = value_under at (b x)
+
+-- a cell stands at each class other than null's whose least term is allocated
+abbrev pub stands_at : Interpretation → ℕ → ℕ → ℕ → Bool
+stands_at m n i x = not (x == 0) && ((class_of (equal_in m) n x == x) && (version_of m i).alloc x)
+
+-- its content is the class of the least of n terms that it hops to; it is null where there is none
+abbrev pub content_at : Interpretation → ℕ → ℕ → ℕ → ℕ
+content_at m n i x = class_of (equal_in m) n (first ((version_of m i).hop x) (numbers 0 n))
+
+-- cells at the numbers below n that pass a test
+abbrev pub cells_below : (ℕ → Bool) → (ℕ → ℕ) → ℕ → Heap
+cells_below stands to zero = empty
+cells_below stands to (suc k) = cond (stands k) (insert (cells_below stands to k) k (to k)) (cells_below stands to k)
+
+abbrev pub heap_in : Interpretation → ℕ → ℕ → Heap
+heap_in m n i = cells_below (stands_at m n i) (content_at m n i) n
+
+-- the heap of a version, and the values of the variables' terms
+abbrev pub state_under : Interpretation → ℕ → ℕ → Bindings → State
+state_under m n i b = record { store = store_under (class_of (equal_in m) n) b; heap = heap_in m n i }
+
+-- the version of the heap in each state, from version i on
+abbrev pub versions_along : ℕ → List PathStep → List ℕ
+versions_along i [] = i ∷ []
+versions_along i (p ∷ ps) = i ∷ versions_along (version_after p i) ps
+
+-- a state for each version and the terms of the variables there
+abbrev pub states_under : Interpretation → ℕ → List ℕ → List Bindings → List State
+states_under m n [] bs = []
+states_under m n (i ∷ is) [] = []
+states_under m n (i ∷ is) (b ∷ bs) = state_under m n i b ∷ states_under m n is bs
+
+-- a term's value is its class, which is named by its least term
+abbrev pub built_trace : Program → Condition → Interpretation → List State
+built_trace P c m = states_under m (length (symbolic_of P c).terms) (versions_along 0 c.way.steps) (symbolic_of P c).bindings
+
+-- the trace of a model of a condition is a counterexample
+abbrev pub LocalityHolds : Type 0
+LocalityHolds = (P : Program) (c : Condition) (m : Interpretation) → IsTyped P → IsCondition P c → IsModelOf P c m → Refutes P c (built_trace P c m)

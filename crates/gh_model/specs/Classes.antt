@@ -1,0 +1,36 @@
+-- Terms are numbers below n. A class is named by its least term.
+use Rattle.std.specs.Prelude.{◌≡◌, ◌↔◌, ℕ, zero, suc, ◌<◌, List, [], ◌∷◌, map, Bool, IsTrue, Contains}
+use Rattle.gh_model.specs.Structures.{Structure, IsModel}
+use Rattle.gh_model.specs.Built.{first}
+
+-- k, k + 1, .. , n numbers
+abbrev pub numbers : ℕ → ℕ → List ℕ
+numbers k zero = []
+numbers k (suc n) = k ∷ numbers (suc k) n
+
+-- the least term that equals t
+abbrev pub class_of : (ℕ → ℕ → Bool) → ℕ → ℕ → ℕ
+class_of equal n t = first (equal t) (numbers 0 n)
+
+abbrev pub classes : (ℕ → ℕ → Bool) → ℕ → List ℕ
+classes equal n = map (class_of equal n) (numbers 0 n)
+
+-- equality is an equivalence, and what a structure says is the same of equal terms
+pub record IsCongruence (equal : ℕ → ℕ → Bool) (n : ℕ) (m : Structure) : Type 0 where
+  pub itself : (x : ℕ) → x < n → IsTrue (equal x x)
+  pub back : (x y : ℕ) → x < n → y < n → IsTrue (equal x y) → IsTrue (equal y x)
+  pub on : (x y z : ℕ) → x < n → y < n → z < n → IsTrue (equal x y) → IsTrue (equal y z) → IsTrue (equal x z)
+  pub alloc : (x y : ℕ) → x < n → y < n → IsTrue (equal x y) → IsTrue (m.alloc x) → IsTrue (m.alloc y)
+  pub hop : (x y v w : ℕ) → x < n → y < n → v < n → w < n → IsTrue (equal x y) → IsTrue (equal v w) → IsTrue (m.hop x v) → IsTrue (m.hop y w)
+  pub between : (x x' y y' z z' : ℕ) → x < n → x' < n → y < n → y' < n → z < n → z' < n → IsTrue (equal x x') → IsTrue (equal y y') → IsTrue (equal z z') → IsTrue (m.between x y z) → IsTrue (m.between x' y' z')
+
+-- the classes are a model, and terms have the values of their classes
+pub record HasClasses (equal : ℕ → ℕ → Bool) (n : ℕ) (m : Structure) : Type 0 where
+  pub model : IsModel (classes equal n) m
+  pub named : (t : ℕ) → t < n → Contains (classes equal n) (class_of equal n t)
+  pub own : (c : ℕ) → Contains (classes equal n) c → (c < n) × (class_of equal n c ≡ c)
+  pub null : class_of equal n 0 ≡ 0
+  pub agrees : (x y : ℕ) → x < n → y < n → IsTrue (equal x y) ↔ (class_of equal n x ≡ class_of equal n y)
+  pub alloc : (x : ℕ) → x < n → IsTrue (m.alloc x) ↔ IsTrue (m.alloc (class_of equal n x))
+  pub hop : (x v : ℕ) → x < n → v < n → IsTrue (m.hop x v) ↔ IsTrue (m.hop (class_of equal n x) (class_of equal n v))
+  pub between : (x y z : ℕ) → x < n → y < n → z < n → IsTrue (m.between x y z) ↔ IsTrue (m.between (class_of equal n x) (class_of equal n y) (class_of equal n z))

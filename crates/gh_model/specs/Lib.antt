@@ -1,0 +1,17 @@
+pub mod Structures
+pub mod Built
+pub mod Named
+pub mod Tells
+pub mod Steps
+pub mod Classes
+pub mod Interpreted
+pub mod TermValues
+pub mod TraceLaws
+pub mod Spoken
+pub mod StepLaws
+pub mod StepFormulas
+pub mod Abstraction
+pub mod Laws
+pub mod Sections
+pub mod BuiltTraces
+pub mod Depicted

@@ -1,0 +1,64 @@
+-- The values of the terms of a condition in a trace.
+use Rattle.std.specs.Prelude.{◌≡◌, ℕ, ◌+◌, List, [], ◌∷◌, length, map, slice_get, Some, Contains}
+use Rattle.std.specs.FinMap.{get}
+use Rattle.gh_ast.specs.Plain.{Procedure, Program}
+use Rattle.gh_ast.specs.Programs.{Name, names, results_of, Declares}
+use Rattle.gh_assert.specs.Meaning.{Store}
+use Rattle.gh_assert.specs.Walks.{succ}
+use Rattle.gh_path.specs.Graphs as path
+use Rattle.gh_path.specs.Conditions.{Condition}
+use Rattle.gh_path.specs.Terms.{Kind, next, Bindings}
+use Rattle.gh_symb.specs.Symbolic.{TermStep, accessed, assumed, same, written, made, freed, parts, symbolic_of}
+use Rattle.gh_trace.specs.Traces.{State}
+
+-- writes, new and freed cells, calls and loops begin the next version of the heap
+abbrev pub version_after : path.PathStep → ℕ → ℕ
+version_after (path.accessed o) i = i
+version_after (path.assume l e r way) i = i
+version_after (path.assigned x e) i = i
+version_after (path.made x) i = i + 1
+version_after (path.written x e) i = i + 1
+version_after (path.freed x) i = i + 1
+version_after (path.called ys f es) i = i + 1
+version_after (path.looped l) i = i + 1
+version_after (path.answered ys es) i = i
+
+-- in a state with heap version i: what follows a term has the value that follows its value, and a variable's term has what the store gives
+pub record HasStateValues (K : List Kind) (V : List ℕ) (i : ℕ) (b : Bindings) (x : State) : Type 0 where
+  pub next : (t u v : ℕ) → slice_get K t ≡ Some (next i u) → slice_get V u ≡ Some v → slice_get V t ≡ Some (succ x.heap v)
+  pub bound : (y : Name) (t : ℕ) → b y ≡ Some t → slice_get V t ≡ Some (x.store y)
+
+-- a new cell's place and content
+abbrev pub HasCellValues : List ℕ → TermStep → State → Type 0
+HasCellValues V (made l t) y = (v : ℕ) × (w : ℕ) × (slice_get V l ≡ Some v) × (slice_get V t ≡ Some w) × (get y.heap v ≡ Some w)
+HasCellValues V (accessed t) y = Unit {0}
+HasCellValues V (assumed t e u) y = Unit {0}
+HasCellValues V same y = Unit {0}
+HasCellValues V (written t u) y = Unit {0}
+HasCellValues V (freed t) y = Unit {0}
+HasCellValues V (parts b a) y = Unit {0}
+
+-- a call's results have the values that its targets get
+abbrev pub HasResultValues : Program → List ℕ → path.PathStep → TermStep → State → Type 0
+HasResultValues P V (path.called ys f es) (parts b (a ∷ as')) y =
+    (p : Procedure) (inside : Store) → Declares P f.name p → map inside (results_of p) ≡ map y.store (names ys) →
+    (r : Name) (t : ℕ) → Contains (results_of p) r → a.binding r ≡ Some t → slice_get V t ≡ Some (inside r)
+HasResultValues P V _ _ y = Unit {0}
+
+-- the states of a path, and the steps between them
+abbrev pub HaveValues : Program → List Kind → List ℕ → List path.PathStep → List TermStep → List Bindings → ℕ → State → List State → Type 0
+HaveValues P K V [] qs [] i x ys = ⊥
+HaveValues P K V [] qs (b ∷ bs) i x ys = HasStateValues K V i b x
+HaveValues P K V (p ∷ ps) [] bs i x ys = ⊥
+HaveValues P K V (p ∷ ps) (q ∷ qs) [] i x ys = ⊥
+HaveValues P K V (p ∷ ps) (q ∷ qs) (b ∷ bs) i x [] = ⊥
+HaveValues P K V (p ∷ ps) (q ∷ qs) (b ∷ bs) i x (y ∷ ys) =
+    HasStateValues K V i b x × HasCellValues V q y × HasResultValues P V p q y × HaveValues P K V ps qs bs (version_after p i) y ys
+
+-- a value for each term. In a program that keeps the type rules there is one such list: a successor's value comes from that of an earlier term in
+-- a state of its version, each version having one heap; a value was made for a variable that is bound to it in the state where it is used, for a
+-- variable that a loop assigns, bound to it in the state after, for a new cell, or for a result
+pub record AreTermValues (P : Program) (c : Condition) (x : State) (ys : List State) (V : List ℕ) : Type 0 where
+  pub count : length V ≡ length (symbolic_of P c).terms
+  pub null : slice_get V 0 ≡ Some 0
+  pub along : HaveValues P (symbolic_of P c).terms V c.way.steps (symbolic_of P c).steps (symbolic_of P c).bindings 0 x ys

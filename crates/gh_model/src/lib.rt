@@ -1,0 +1,4 @@
+//! From traces to structures, and back.
+#![tactic(auto)]
+
+pub mod laws;

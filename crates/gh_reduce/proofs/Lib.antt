@@ -1,0 +1,10 @@
+pub mod GrowthLemmas
+pub mod WithinLemmas
+pub mod InsideLemmas
+pub mod RowLemmas
+pub mod ToldLemmas
+pub mod SoundLemmas
+pub mod StepsInside
+pub mod ClauseLemmas
+pub mod LiteralLemmas
+pub mod WalkLemmas

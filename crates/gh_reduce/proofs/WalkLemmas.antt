@@ -1,0 +1,95 @@
+-- Loops over terms, steps and versions.
+use Rattle.std.specs.Prelude.{◌≡◌, ℕ, zero, suc, ◌+◌, ◌-◌, ◌<◌, ◌≤◌, List, [], ◌∷◌, ◌++◌, map, length, drop, get_or, slice_get, Some}
+use Rattle.std.specs.List.{flat_map, range_with_len}
+use Rattle.std.proofs.Common.{refl, sym, ◌∙◌, ap, subst, arith, add-one}
+use Rattle.std.proofs.Math.Seq.{drop-cons}
+use Rattle.gh_base.specs.declared.term.TermKind.{TermKind}
+use Rattle.gh_base.specs.Grounds.{Problem}
+use Rattle.gh_ast.specs.Plain.{Program}
+use Rattle.gh_path.specs.Conditions.{Condition}
+use Rattle.gh_path.specs.Terms.{Kind, next}
+use Rattle.gh_grass.specs.Claims.{Claim}
+use Rattle.gh_symb.specs.Symbolic as plain
+use Rattle.gh_symb.specs.Symbolic.{accessed, assumed, same, written, made, freed, parts}
+use Rattle.gh_symb.specs.Formulas.{version_after, versions_claims, meets_whole, check_claims, claims, problem, successor_claims, successors_from, steps_claims, step_claims}
+use Rattle.gh_symb.specs.Told.{plain_kind, IsSymbolic}
+use Rattle.gh_symb.specs.declared.over_terms.TermStep.{TermStep}
+use Rattle.gh_symb.specs.declared.over_terms.Symbolic.{Symbolic}
+use Rattle.gh_reduce.specs.Growth.{stated_in}
+use Rattle.gh_reduce.specs.Inside.{plain_of, step_of, IsReady, IsUnderInside, IsStepInside, AreStepsInside, IsCheckInside, IsInside}
+use Rattle.gh_reduce.proofs.GrowthLemmas.{stated_first, same_terms, same_versions}
+use Rattle.gh_reduce.proofs.ToldLemmas.{told_is}
+use Rattle.gh_reduce.proofs.StepsInside.{conditions_are_inside}
+
+-- the kinds from a place on
+pub kinds_from : (ks : List TermKind) (t : ℕ) (k : TermKind) → Some k ≡ slice_get ks t → drop t ks ≡ k ∷ drop (t + 1) ks
+kinds_from [] t k e = absurd cc
+kinds_from (j ∷ ks) zero k e = let first : j ≡ k = cc in ap (λ (x : TermKind). x ∷ ks) first
+kinds_from (j ∷ ks) (suc t) k e =
+    let later : suc t + 1 ≡ suc (t + 1) = omega arith in
+    kinds_from ks t k e ∙ ap (λ n. k ∷ drop n (j ∷ ks)) (sym later)
+
+pub kind_at : (ks : List TermKind) (t : ℕ) (k : TermKind) → Some k ≡ slice_get ks t → slice_get (map plain_kind ks) t ≡ Some (plain_kind k)
+kind_at [] t k e = absurd cc
+kind_at (j ∷ ks) zero k e = let first : j ≡ k = cc in ap (λ (x : TermKind). Some (plain_kind x)) first
+kind_at (j ∷ ks) (suc t) k e = kind_at ks t k e
+
+-- what the first of the kinds that are left says
+pub successors_first : (i : ℕ) (ks : List TermKind) (t : ℕ) (k : TermKind) → Some k ≡ slice_get ks t
+    → successors_from i t (map plain_kind (drop t ks)) ≡ successor_claims i t (plain_kind k) ++ successors_from i (t + 1) (map plain_kind (drop (t + 1) ks))
+successors_first i ks t k e = ap (λ xs. successors_from i t (map plain_kind xs)) (kinds_from ks t k e)
+
+pub steps_from : (ss : List TermStep) (i : ℕ) (s : TermStep) → i < length ss → s ≡ get_or ss i s → map step_of (drop i ss) ≡ step_of s ∷ map step_of (drop (i + 1) ss)
+steps_from ss i s within is = ap (map step_of) (drop-cons ss i s within) ∙ rw (← is, add-one i) refl
+
+-- a step inside begins no version too many
+pub step_version : (n v i : ℕ) (s : plain.TermStep) → IsStepInside n v i s → i < v → version_after i s < v
+step_version n v i (accessed x) h l = l
+step_version n v i (assumed a e b) h l = l
+step_version n v i same h l = l
+step_version n v i (written x e) h l = h.2
+step_version n v i (made a b) h l = h.2
+step_version n v i (freed x) h l = h.1
+step_version n v i (parts u us) h l = h.2
+
+-- a condition over terms that is told has its terms and versions
+pub inside_told : (s : Symbolic) → (P : Program) × (c : Condition) × IsSymbolic P c s → IsInside (plain_of s)
+inside_told s h = subst IsInside (sym (told_is h.0 h.1 s h.2)) (conditions_are_inside h.0 h.1)
+
+abbrev pub empty_problem : ℕ → ℕ → Problem
+empty_problem n v = record { sizes = record { terms = n; versions = v; defs = 0 }; clauses = [] }
+
+pub finished : (s : plain.Symbolic) (p q : Problem) (n v : ℕ) → p ≡ empty_problem n v → n ≡ length s.terms → v ≡ s.versions → q ≡ stated_in p (claims s) → q ≡ problem s
+finished s p q n v e terms versions h =
+    h
+    ∙ ap (λ (x : Problem). stated_in x (claims s)) (e ∙ ap (λ (k : ℕ). empty_problem k v) terms ∙ ap (empty_problem (length s.terms)) versions)
+
+pub told_problem : (P : Program) (c : Condition) (s : Symbolic) (q : Problem) → IsSymbolic P c s → q ≡ problem (plain_of s) → q ≡ problem (plain.symbolic_of P c)
+told_problem P c s q h e = e ∙ ap problem (told_is P c s h)
+
+-- what a condition says of its terms and versions, at the numbers of a problem
+pub record InsideAt (n v : ℕ) (kinds : List Kind) (s : plain.Symbolic) : Type 0 where
+  pub ready : IsReady n kinds
+  pub some : 1 ≤ v
+  pub start : IsUnderInside n v s.start
+  pub steps : AreStepsInside n v 0 s.steps
+  pub check : IsCheckInside n v s.check
+
+pub inside_at : (s : plain.Symbolic) (kinds : List Kind) (p : Problem) (n v : ℕ) → p ≡ empty_problem n v → n ≡ length s.terms → v ≡ s.versions → kinds ≡ s.terms → IsInside s → InsideAt p.sizes.terms p.sizes.versions kinds s
+inside_at s kinds p n v e terms versions listed h =
+    subst (λ (x : Problem). InsideAt x.sizes.terms x.sizes.versions kinds s) (sym (e ∙ ap (λ (k : ℕ). empty_problem k v) terms ∙ ap (empty_problem (length s.terms)) versions))
+    (subst (λ (ks : List Kind). InsideAt (length s.terms) s.versions ks s) (sym listed)
+    (record { ready = h.terms; some = h.some_versions; start = h.start; steps = h.steps; check = h.check }))
+
+pub inside_stays : (s : plain.Symbolic) (kinds : List Kind) (p q : Problem) (fs : List Claim) → q ≡ stated_in p fs → InsideAt p.sizes.terms p.sizes.versions kinds s → InsideAt q.sizes.terms q.sizes.versions kinds s
+inside_stays s kinds p q fs e h = subst (λ (x : Problem). InsideAt x.sizes.terms x.sizes.versions kinds s) (sym e) h
+
+pub claims_are : (s : plain.Symbolic) (ks : List Kind) (v w : ℕ) (u : plain.Under) (ss : List plain.TermStep) (k : plain.TermCheck) → ks ≡ s.terms → v ≡ s.versions → w ≡ s.versions → u ≡ s.start → ss ≡ s.steps → k ≡ s.check
+    → ((versions_claims ks v ++ meets_whole ks u ∷ []) ++ steps_claims ks 0 ss) ++ check_claims ks (w - 1) k ≡ claims s
+claims_are s ks v w u ss k a b c d e f =
+    ap (λ (x : List Kind). ((versions_claims x v ++ meets_whole x u ∷ []) ++ steps_claims x 0 ss) ++ check_claims x (w - 1) k) a
+    ∙ ap (λ (x : ℕ). ((versions_claims s.terms x ++ meets_whole s.terms u ∷ []) ++ steps_claims s.terms 0 ss) ++ check_claims s.terms (w - 1) k) b
+    ∙ ap (λ (x : ℕ). ((versions_claims s.terms s.versions ++ meets_whole s.terms u ∷ []) ++ steps_claims s.terms 0 ss) ++ check_claims s.terms (x - 1) k) c
+    ∙ ap (λ (x : plain.Under). ((versions_claims s.terms s.versions ++ meets_whole s.terms x ∷ []) ++ steps_claims s.terms 0 ss) ++ check_claims s.terms (s.versions - 1) k) d
+    ∙ ap (λ (x : List plain.TermStep). ((versions_claims s.terms s.versions ++ meets_whole s.terms s.start ∷ []) ++ steps_claims s.terms 0 x) ++ check_claims s.terms (s.versions - 1) k) e
+    ∙ ap (λ (x : plain.TermCheck). ((versions_claims s.terms s.versions ++ meets_whole s.terms s.start ∷ []) ++ steps_claims s.terms 0 s.steps) ++ check_claims s.terms (s.versions - 1) x) f

@@ -1,0 +1,40 @@
+use Rattle.std.proofs.Common.{◌≡◌, ◌<◌, ℕ, List, [], ◌∷◌, ◌++◌, ◌+◌, length, map, sym, ◌∙◌, ap, subst, arith}
+use Rattle.std.proofs.lemmas.List.{length-map}
+use Rattle.gh_base.specs.declared.atom.Term.{Term}
+use Rattle.gh_grass.specs.Bindings.{term}
+use Rattle.gh_grass.specs.Claims.{Claim, claim_of, negation_of, one_of, equality}
+use Rattle.gh_symb.specs.Formulas.{allocated, hops, each, each_pair, leads, meets, successors_from}
+use Rattle.gh_symb.specs.Told.{plain_kind}
+use Rattle.gh_reduce.specs.declared.rows.EachTerm.TheVariants.{Leads, Same, Made, Freed, Apart, Replaced}
+use Rattle.gh_reduce.specs.declared.rows.EachPair.TheVariants.{Others, Kept}
+use Rattle.gh_reduce.specs.Growth.{stated_in}
+use Rattle.gh_reduce.specs.Inside.{under_of}
+use Rattle.gh_reduce.specs.Rows.{of_term, of_pair}
+use Rattle.gh_reduce.proofs.WithinLemmas.{equality_within}
+use Rattle.gh_reduce.proofs.InsideLemmas.{meets_within}
+use Rattle.gh_reduce.proofs.RowLemmas.{term_stays, pair_stays, claim_stays, claim_within, one_more, terms_more, pairs_more, first_one, some_more, ready_stays, version_stays}
+use Rattle.gh_reduce.proofs.ground.add_successor.Goals as goal
+
+pub add_formula-requires : goal.add_formula-requires
+add_formula-requires c =
+    let v = c.requires.version in
+    let of = c.requires.of in
+    let t = c.requires.term in
+    claim_within c.args.ground.now.sizes _ (claim_of c.in_ok-next.next) c.in_ok-next.ensures ((v, of), ((v, of, t), tt))
+
+pub add_formula-requires-2 : goal.add_formula-requires-2
+add_formula-requires-2 c =
+    let p = c.args.ground.now in
+    let v = c.requires.version in
+    let of = c.requires.of in
+    let t = c.requires.term in
+    claim_stays p c.add_formula.new.ground (claim_of c.in_ok-next.next ∷ []) _ (claim_of c.in_ok-stays.stays) c.in_ok-add_formula.ensures c.in_ok-stays.ensures
+    ((v, of), (equality_within p.sizes c.args.x c.args.t of t, tt))
+
+pub returns : goal.returns
+returns c =
+    let p = c.args.ground.now in
+    let q = c.add_formula.new.ground in
+    let f = one_of (negation_of (allocated c.args.version c.args.x) ∷ hops c.args.version c.args.x c.args.t ∷ []) in
+    let g = one_of (allocated c.args.version c.args.x ∷ equality c.args.x c.args.t ∷ []) in
+    one_more p q c.add_formula-2.new.ground (f ∷ []) g (claim_of c.in_ok-stays.stays) (first_one p q f (claim_of c.in_ok-next.next) c.in_ok-add_formula.ensures c.in_ok-next.ensures) c.in_ok-add_formula-2.ensures c.in_ok-stays.ensures

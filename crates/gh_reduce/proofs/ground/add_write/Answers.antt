@@ -1,0 +1,48 @@
+use Rattle.std.proofs.Common.{◌≡◌, ◌<◌, ℕ, List, [], ◌∷◌, ◌++◌, ◌+◌, length, map, sym, ◌∙◌, ap, subst, arith}
+use Rattle.std.proofs.lemmas.List.{length-map}
+use Rattle.gh_base.specs.declared.atom.Term.{Term}
+use Rattle.gh_grass.specs.Bindings.{term}
+use Rattle.gh_grass.specs.Claims.{Claim, claim_of, negation_of, one_of, equality}
+use Rattle.gh_symb.specs.Formulas.{allocated, hops, each, each_pair, leads, meets, successors_from}
+use Rattle.gh_symb.specs.Told.{plain_kind}
+use Rattle.gh_reduce.specs.declared.rows.EachTerm.TheVariants.{Leads, Same, Made, Freed, Apart, Replaced}
+use Rattle.gh_reduce.specs.declared.rows.EachPair.TheVariants.{Others, Kept}
+use Rattle.gh_reduce.specs.Growth.{stated_in}
+use Rattle.gh_reduce.specs.Inside.{under_of}
+use Rattle.gh_reduce.specs.Rows.{of_term, of_pair}
+use Rattle.gh_reduce.proofs.WithinLemmas.{equality_within}
+use Rattle.gh_reduce.proofs.InsideLemmas.{meets_within}
+use Rattle.gh_reduce.proofs.RowLemmas.{term_stays, pair_stays, claim_stays, claim_within, one_more, terms_more, pairs_more, first_one, some_more, ready_stays, version_stays}
+use Rattle.gh_reduce.proofs.ground.add_write.Goals as goal
+
+pub add_each_term-requires : goal.add_each_term-requires
+add_each_term-requires c = let v = c.requires.version in (omega (arith, v), v)
+
+pub add_formula-requires : goal.add_formula-requires
+add_formula-requires c =
+    let p = c.args.ground.now in
+    claim_stays p c.add_each_term.new.ground (each p.sizes.terms (of_term (Same c.args.old (c.args.old + 1)))) _ (claim_of c.hops-leads.result) c.in_ok-add_each_term.ensures c.hops-leads.ensures
+    (c.requires.version, c.requires.x, c.requires.value)
+
+pub add_each_pair-requires : goal.add_each_pair-requires
+add_each_pair-requires c =
+    let p = c.args.ground.now in
+    let q = c.add_each_term.new.ground in
+    let r = c.add_formula.new.ground in
+    let i = c.args.old in
+    let v = c.requires.version in
+    let fs = each p.sizes.terms (of_term (Same i (i + 1))) in
+    let h = hops (i + 1) c.args.x c.args.value in
+    let e = one_more p q r fs h (claim_of c.hops-leads.result) c.in_ok-add_each_term.ensures c.in_ok-add_formula.ensures c.hops-leads.ensures in
+    pair_stays p r (fs ++ h ∷ []) (Others i (i + 1) c.args.x) e (omega (arith, v), v, c.requires.x)
+
+pub returns : goal.returns
+returns c =
+    let p = c.args.ground.now in
+    let q = c.add_each_term.new.ground in
+    let r = c.add_formula.new.ground in
+    let i = c.args.old in
+    let fs = each p.sizes.terms (of_term (Same i (i + 1))) in
+    let h = hops (i + 1) c.args.x c.args.value in
+    let e = one_more p q r fs h (claim_of c.hops-leads.result) c.in_ok-add_each_term.ensures c.in_ok-add_formula.ensures c.hops-leads.ensures in
+    pairs_more p r c.add_each_pair.new.ground (fs ++ h ∷ []) (of_pair (Others i (i + 1) c.args.x)) e c.in_ok-add_each_pair.ensures

@@ -1,0 +1,40 @@
+-- Ground clauses that grow by those of some formulas.
+use Rattle.std.specs.Prelude.{ℕ, List, ◌++◌}
+use Rattle.gh_base.specs.declared.atom.Lit.{Lit}
+use Rattle.gh_base.specs.declared.sizes.Sizes.{Sizes}
+use Rattle.gh_base.specs.Atoms.{IsInRange}
+use Rattle.gh_base.specs.Grounds.{Problem}
+use Rattle.gh_grass.specs.Claims.{Claim, atom, negation_of, conjunction_of, disjunction_of, equivalence_of, Claims, no_claims, claim_first}
+use Rattle.gh_grass.specs.Clauses.{Made, AllMade, made, all_made, next_after, clauses_from}
+
+abbrev pub sized : Sizes → ℕ → Sizes
+sized s defs = record { terms = s.terms; versions = s.versions; defs = defs }
+
+-- some clauses more, and definitions up to a number
+abbrev pub grown : Problem → ℕ → List (List Lit) → Problem
+grown p next clauses = record { sizes = sized p.sizes next; clauses = p.clauses ++ clauses }
+
+-- after the definitions of a formula
+abbrev pub defined_in : Problem → Claim → Problem
+defined_in p f = let r = made f p.sizes.defs in grown p r.next r.clauses
+
+-- after those of some formulas
+abbrev pub all_defined_in : Problem → Claims → Problem
+all_defined_in p fs = let s = all_made fs p.sizes.defs in grown p s.next s.clauses
+
+-- after some formulas were stated
+abbrev pub stated_in : Problem → List Claim → Problem
+stated_in p fs = grown p (next_after fs p.sizes.defs) (clauses_from fs p.sizes.defs)
+
+-- each atom of the formula is in range
+abbrev mutual
+  pub IsWithin : Sizes → Claim → Type 0
+  IsWithin s (atom a) = IsInRange s a
+  IsWithin s (negation_of f) = IsWithin s f
+  IsWithin s (conjunction_of fs) = AreWithin s fs
+  IsWithin s (disjunction_of fs) = AreWithin s fs
+  IsWithin s (equivalence_of f g) = IsWithin s f × IsWithin s g
+
+  pub AreWithin : Sizes → Claims → Type 0
+  AreWithin s no_claims = Unit {0}
+  AreWithin s (claim_first f fs) = IsWithin s f × AreWithin s fs

@@ -1,0 +1,4 @@
+pub mod Growth
+pub mod Inside
+pub mod Rows
+pub mod Examples

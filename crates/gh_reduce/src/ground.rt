@@ -1,0 +1,352 @@
+//! The ground clauses of a condition.
+
+ghost use Rattle.std.specs.Prelude.{◌≡◌, ◌+◌, ◌-◌, ◌<◌, ◌≤◌, ◌∷◌, [], ℕ, IfOk, OnOk, map, length};
+ghost use Rattle.gh_ast.specs.Plain.{Program};
+ghost use Rattle.gh_path.specs.Conditions.{Condition};
+ghost use Rattle.gh_path.specs.Terms.{next};
+ghost use Rattle.gh_symb.specs.Symbolic.{symbolic_of};
+ghost use Rattle.gh_symb.specs.Told.{plain_kind, IsSymbolic};
+ghost use Rattle.gh_symb.specs.Formulas as formulas;
+ghost use Rattle.gh_grass.specs.Claims.{negation_of};
+ghost use Rattle.gh_reduce.specs.Growth.{stated_in};
+ghost use Rattle.gh_reduce.specs.Inside.{plain_of, under_of, step_of, check_of, IsReady, IsUnderInside, IsStepInside, AreStepsInside, IsCheckInside, IsInside};
+
+use crate::clauses::add_formula;
+use crate::rows::{EachPair, EachTerm, add_each_pair, add_each_term};
+use crate::statements::{
+    allocated, free, hops, meets, meets_whole, next_where_allocated, same_where_free,
+};
+use gh_base::atom::Term;
+use gh_base::ground::Ground;
+use gh_base::term::TermKind;
+use gh_grass::terms::TermList;
+use gh_grass::tested::comparison;
+use gh_symb::over_terms::{Bound, Symbolic, TermCheck, TermStep};
+use std::alloc::{AllocError, Global};
+
+// The term `t` is the successor of `x` in a version.
+fn add_successor(
+    alloc: Global,
+    ground: &mut Ground,
+    version: u8,
+    x: Term,
+    t: Term,
+) -> Result<(), AllocError>
+    requires version { version < ground.old.sizes.versions }
+    requires of { x.0 < ground.old.sizes.terms }
+    requires term { t.0 < ground.old.sizes.terms }
+    ensures { OnOk result (ground.new ≡ stated_in ground.old (formulas.succeeds version x.0 t.0)) }
+{
+    let next = next_where_allocated(alloc, version, x, t)?;
+    add_formula(alloc, ground, &next)?;
+    let stays = same_where_free(alloc, version, x, t)?;
+    Ok(add_formula(alloc, ground, &stays)?)
+}
+
+// What a kind says of its term in a version.
+fn add_kind(
+    alloc: Global,
+    ground: &mut Ground,
+    version: u8,
+    t: Term,
+    kind: TermKind,
+) -> Result<(), AllocError>
+    requires version { version < ground.old.sizes.versions }
+    requires of { (i x : ℕ) → plain_kind kind ≡ next i x → x < ground.old.sizes.terms }
+    requires term { t.0 < ground.old.sizes.terms }
+    ensures { OnOk result (ground.new ≡ stated_in ground.old (formulas.successor_claims version t.0 (plain_kind kind))) }
+{
+    match kind {
+        TermKind::Null => Ok(()),
+        TermKind::Value { .. } => Ok(()),
+        TermKind::Next { version: since, of } => {
+            if since == version {
+                add_successor(alloc, ground, version, of, t)?;
+            }
+            Ok(())
+        }
+    }
+}
+
+// What the successors among the terms say in a version.
+fn add_successors(
+    alloc: Global,
+    ground: &mut Ground,
+    version: u8,
+    terms: &TermList,
+) -> Result<(), AllocError>
+    requires version { version < ground.old.sizes.versions }
+    requires ready { IsReady ground.old.sizes.terms (map plain_kind terms.now) }
+    ensures { OnOk result (ground.new ≡ stated_in ground.old (formulas.successors_from version 0 (map plain_kind terms.now))) }
+{
+    for t in 0..terms.count() {
+        let Some(kind) = terms.kind(Term(t)) else {
+            return Ok(());
+        };
+        add_kind(alloc, ground, version, Term(t), kind)?;
+    }
+    Ok(())
+}
+
+// What holds in each version.
+fn add_version(
+    alloc: Global,
+    ground: &mut Ground,
+    version: u8,
+    terms: &TermList,
+) -> Result<(), AllocError>
+    requires version { version < ground.old.sizes.versions }
+    requires ready { IsReady ground.old.sizes.terms (map plain_kind terms.now) }
+    ensures { OnOk result (ground.new ≡ stated_in ground.old (formulas.version_claims (map plain_kind terms.now) version)) }
+{
+    let null = free(alloc, version, Term(0))?;
+    add_formula(alloc, ground, &null)?;
+    let leads = EachTerm::Leads {
+        version,
+        terms: terms.count(),
+    };
+    add_each_term(alloc, ground, &leads)?;
+    Ok(add_successors(alloc, ground, version, terms)?)
+}
+
+fn add_versions(alloc: Global, ground: &mut Ground, terms: &TermList) -> Result<(), AllocError>
+    requires { IsReady ground.old.sizes.terms (map plain_kind terms.now) }
+    ensures { OnOk result (ground.new ≡ stated_in ground.old (formulas.versions_claims (map plain_kind terms.now) ground.old.sizes.versions)) }
+{
+    for version in 0..ground.versions() {
+        add_version(alloc, ground, version, terms)?;
+    }
+    Ok(())
+}
+
+// The cell at `x` gets the content `value`.
+fn add_write(
+    alloc: Global,
+    ground: &mut Ground,
+    old: u8,
+    x: Term,
+    value: Term,
+) -> Result<(), AllocError>
+    requires version { old + 1 < ground.old.sizes.versions }
+    requires few { ground.old.sizes.versions < 256 }
+    requires x { x.0 < ground.old.sizes.terms }
+    requires value { value.0 < ground.old.sizes.terms }
+    ensures { OnOk result (ground.new ≡ stated_in ground.old (formulas.written_claims ground.old.sizes.terms old x value)) }
+{
+    let new = old + 1;
+    let same = EachTerm::Same { old, new };
+    add_each_term(alloc, ground, &same)?;
+    let leads = hops(new, x, value);
+    add_formula(alloc, ground, &leads)?;
+    let others = EachPair::Others { old, new, x };
+    Ok(add_each_pair(alloc, ground, &others)?)
+}
+
+// A cell is made.
+fn add_new(
+    alloc: Global,
+    ground: &mut Ground,
+    old: u8,
+    location: Term,
+    content: Term,
+) -> Result<(), AllocError>
+    requires version { old + 1 < ground.old.sizes.versions }
+    requires few { ground.old.sizes.versions < 256 }
+    requires location { location.0 < ground.old.sizes.terms }
+    requires content { content.0 < ground.old.sizes.terms }
+    ensures { OnOk result (ground.new ≡ stated_in ground.old (formulas.made_claims ground.old.sizes.terms old location content)) }
+{
+    let new = old + 1;
+    let unused = free(alloc, old, location)?;
+    add_formula(alloc, ground, &unused)?;
+    let made = EachTerm::Made { old, new, location };
+    add_each_term(alloc, ground, &made)?;
+    let leads = hops(new, location, content);
+    add_formula(alloc, ground, &leads)?;
+    let others = EachPair::Others {
+        old,
+        new,
+        x: location,
+    };
+    Ok(add_each_pair(alloc, ground, &others)?)
+}
+
+// The cell at `x` is freed.
+fn add_free(alloc: Global, ground: &mut Ground, old: u8, x: Term) -> Result<(), AllocError>
+    requires version { old + 1 < ground.old.sizes.versions }
+    requires few { ground.old.sizes.versions < 256 }
+    requires x { x.0 < ground.old.sizes.terms }
+    ensures { OnOk result (ground.new ≡ stated_in ground.old (formulas.freed_claims ground.old.sizes.terms old x)) }
+{
+    let new = old + 1;
+    let freed = EachTerm::Freed { old, new, x };
+    add_each_term(alloc, ground, &freed)?;
+    let others = EachPair::Others { old, new, x };
+    Ok(add_each_pair(alloc, ground, &others)?)
+}
+
+// A part of the heap is replaced by another.
+fn add_part<'s, 'a>(
+    alloc: Global,
+    ground: &mut Ground,
+    old: u8,
+    before: &'s Bound<'a>,
+    after: &'s Bound<'a>,
+    terms: &TermList,
+) -> Result<(), AllocError>
+    requires version { old + 1 < ground.old.sizes.versions }
+    requires few { ground.old.sizes.versions < 256 }
+    requires ready { IsReady ground.old.sizes.terms (map plain_kind terms.now) }
+    requires before { IsUnderInside ground.old.sizes.terms ground.old.sizes.versions (under_of before.now) }
+    requires after { IsUnderInside ground.old.sizes.terms ground.old.sizes.versions (under_of after.now) }
+    ensures { OnOk result (ground.new ≡ stated_in ground.old (formulas.replaced_claims (map plain_kind terms.now) old (under_of before.now) (under_of after.now))) }
+{
+    let new = old + 1;
+    let taken = meets(alloc, before, terms)?;
+    add_formula(alloc, ground, &taken)?;
+    let put = meets(alloc, after, terms)?;
+    add_formula(alloc, ground, &put)?;
+    let apart = EachTerm::Apart { old, before, after };
+    add_each_term(alloc, ground, &apart)?;
+    let replaced = EachTerm::Replaced {
+        old,
+        new,
+        before,
+        after,
+    };
+    add_each_term(alloc, ground, &replaced)?;
+    let kept = EachPair::Kept { old, new, before };
+    Ok(add_each_pair(alloc, ground, &kept)?)
+}
+
+// What a step from a version says.
+fn add_step(
+    alloc: Global,
+    ground: &mut Ground,
+    version: u8,
+    step: &TermStep,
+    terms: &TermList,
+) -> Result<(), AllocError>
+    requires few { ground.old.sizes.versions < 256 }
+    requires ready { IsReady ground.old.sizes.terms (map plain_kind terms.now) }
+    requires inside { IsStepInside ground.old.sizes.terms ground.old.sizes.versions version (step_of step.now) }
+    ensures { OnOk result (ground.new ≡ stated_in ground.old (formulas.step_claims (map plain_kind terms.now) version (step_of step.now))) }
+{
+    match step {
+        TermStep::Access { x } => {
+            let there = allocated(version, *x);
+            Ok(add_formula(alloc, ground, &there)?)
+        }
+        TermStep::Assume { left, equal, right } => {
+            let compared = comparison(alloc, *left, *equal, *right)?;
+            Ok(add_formula(alloc, ground, &compared)?)
+        }
+        TermStep::Same => Ok(()),
+        TermStep::Write { x, value } => Ok(add_write(alloc, ground, version, *x, *value)?),
+        TermStep::New { location, content } => {
+            Ok(add_new(alloc, ground, version, *location, *content)?)
+        }
+        TermStep::Free { x } => Ok(add_free(alloc, ground, version, *x)?),
+        TermStep::Part { before, after } => match after.first() {
+            Some(after) => Ok(add_part(alloc, ground, version, before, after, terms)?),
+            None => Ok(()),
+        },
+    }
+}
+
+// How many versions a step begins.
+fn versions_begun(step: &TermStep) -> u8
+    ensures after { (i : ℕ) → formulas.version_after i (step_of step.now) ≡ i + result }
+    ensures few { result ≤ 1 }
+{
+    match step {
+        TermStep::Access { .. } => 0,
+        TermStep::Assume { .. } => 0,
+        TermStep::Same => 0,
+        TermStep::Write { .. } => 1,
+        TermStep::New { .. } => 1,
+        TermStep::Free { .. } => 1,
+        TermStep::Part { .. } => 1,
+    }
+}
+
+fn add_steps(
+    alloc: Global,
+    ground: &mut Ground,
+    steps: &[TermStep],
+    terms: &TermList,
+) -> Result<(), AllocError>
+    requires few { ground.old.sizes.versions < 256 }
+    requires ready { IsReady ground.old.sizes.terms (map plain_kind terms.now) }
+    requires some { 1 ≤ ground.old.sizes.versions }
+    requires inside { AreStepsInside ground.old.sizes.terms ground.old.sizes.versions 0 (map step_of steps.now) }
+    ensures { OnOk result (ground.new ≡ stated_in ground.old (formulas.steps_claims (map plain_kind terms.now) 0 (map step_of steps.now))) }
+{
+    let mut version = 0;
+    for step in steps {
+        add_step(alloc, ground, version, step, terms)?;
+        version += versions_begun(step);
+    }
+    Ok(())
+}
+
+// The whole heap doesn't meet an assertion.
+fn add_not_whole(
+    alloc: Global,
+    ground: &mut Ground,
+    bound: &Bound,
+    terms: &TermList,
+) -> Result<(), AllocError>
+    requires ready { IsReady ground.old.sizes.terms (map plain_kind terms.now) }
+    requires inside { IsUnderInside ground.old.sizes.terms ground.old.sizes.versions (under_of bound.now) }
+    ensures { OnOk result (ground.new ≡ stated_in ground.old (negation_of (formulas.meets_whole (map plain_kind terms.now) (under_of bound.now)) ∷ [])) }
+{
+    let fails = meets_whole(alloc, bound, terms)?.negated(alloc)?;
+    Ok(add_formula(alloc, ground, &fails)?)
+}
+
+// The check fails, in the last version.
+fn add_check(
+    alloc: Global,
+    ground: &mut Ground,
+    check: &TermCheck,
+    terms: &TermList,
+) -> Result<(), AllocError>
+    requires ready { IsReady ground.old.sizes.terms (map plain_kind terms.now) }
+    requires some { 1 ≤ ground.old.sizes.versions }
+    requires inside { IsCheckInside ground.old.sizes.terms ground.old.sizes.versions (check_of check.now) }
+    ensures { OnOk result (ground.new ≡ stated_in ground.old (formulas.check_claims (map plain_kind terms.now) (ground.old.sizes.versions - 1) (check_of check.now))) }
+{
+    match check {
+        TermCheck::Access { x } => {
+            let fails = free(alloc, ground.versions() - 1, *x)?;
+            Ok(add_formula(alloc, ground, &fails)?)
+        }
+        TermCheck::Sub(bound) => {
+            let fails = meets(alloc, bound, terms)?.negated(alloc)?;
+            Ok(add_formula(alloc, ground, &fails)?)
+        }
+        TermCheck::Whole(bounds) => match bounds.first() {
+            Some(bound) => Ok(add_not_whole(alloc, ground, bound, terms)?),
+            None => Ok(()),
+        },
+    }
+}
+
+/// The clauses of a condition, with the numbers of its terms, versions and definitions.
+///
+/// More than 4,294,967,294 clauses, or as many definitions as a number counts, are as want of memory.
+pub fn ground(alloc: Global, symbolic: &Symbolic) -> Result<Ground, AllocError>
+    requires { (P : Program) × (c : Condition) × IsSymbolic P c symbolic.now }
+    ensures is { IfOk result (λ g. g ≡ formulas.problem (plain_of symbolic.now)) }
+    ensures told { (P : Program) (c : Condition) → IsSymbolic P c symbolic.now → IfOk result (λ g. g ≡ formulas.problem (symbolic_of P c)) }
+{
+    let terms = symbolic.terms();
+    let mut ground = Ground::new(alloc, terms.count(), symbolic.versions());
+    add_versions(alloc, &mut ground, terms)?;
+    let start = meets_whole(alloc, symbolic.start(), terms)?;
+    add_formula(alloc, &mut ground, &start)?;
+    add_steps(alloc, &mut ground, symbolic.steps(), terms)?;
+    add_check(alloc, &mut ground, symbolic.check(), terms)?;
+    Ok(ground)
+}

@@ -1,0 +1,10 @@
+//! The ground clauses of a condition over terms.
+#![tactic(auto)]
+
+pub mod clauses;
+pub mod ground;
+pub mod laws;
+pub mod rows;
+pub mod statements;
+#[cfg(test)]
+mod tests;

@@ -1,0 +1,240 @@
+-- What is told of a condition, step by step.
+use Rattle.std.specs.Prelude.{◌≡◌, ◌⊎◌, ℕ, ◌+◌, ◌<◌, ◌≤◌, List, [], ◌∷◌, ◌++◌, length, map, filter, Option, Some, None}
+use Rattle.std.proofs.Common.{refl, sym, ◌∙◌, ap, subst, arith, inl, inr}
+use Rattle.std.proofs.lemmas.List.{append_assoc, append-nil}
+use Rattle.gh_ast.specs.Plain.{Procedure, Program}
+use Rattle.gh_ast.specs.Programs.{Name, variable_names}
+use Rattle.gh_path.specs.Graphs.{PathStep, accessed, assume, assigned, made, written, freed, called, looped, answered, Check, access, entry, loop_entry, returned, loop_end}
+use Rattle.gh_path.specs.Kept.{AreSteps}
+use Rattle.gh_path.specs.Conditions.{Condition}
+use Rattle.gh_path.specs.declared.condition.PathStep as kept_step
+use Rattle.gh_path.specs.Terms.{Kind, Bindings, Terms, moved_on, renewed, some_assigns, step_walked, steps_walked, check_walked, condition_walked, terms_of, no_terms}
+use Rattle.gh_grass.specs.declared.binding.Bond.{Bond}
+use Rattle.gh_symb.specs.Symbolic as plain
+use Rattle.gh_symb.specs.Symbolic.{under, term_step, term_steps, term_check, step_used, check_used, used_first, first_use, either_term, state_bindings}
+use Rattle.gh_symb.specs.Told.{Each, IsBinding, IsUnder, IsTermStep, IsTermCheck, IsSymbolic, plain_kind}
+use Rattle.gh_symb.specs.Phases.{told, step_done, step_says, check_says, check_ended, IsUsed, learned, both}
+use Rattle.gh_symb.specs.Saying.{IsFinished, IsSaid}
+use Rattle.gh_symb.specs.Following.{met, known, begins, first_uses, Follows, Followed}
+use Rattle.gh_symb.specs.Limits.{PassesNone}
+use Rattle.gh_symb.specs.declared.over_terms.TermStep.{TermStep}
+use Rattle.gh_symb.specs.declared.over_terms.Symbolic.{Symbolic}
+use Rattle.gh_symb.proofs.LackLemmas.{step_lacks, use_lacks}
+
+pub each_more : {A B : Type 0} (R : A → B → Type 0) (as' : List A) (bs : List B) (a : A) (b : B) → Each R as' bs → R a b → Each R (as' ++ a ∷ []) (bs ++ b ∷ [])
+each_more R [] [] a b all one = (one, tt)
+each_more R [] (y ∷ bs) a b all one = absurd all
+each_more R (x ∷ as') [] a b all one = absurd all
+each_more R (x ∷ as') (y ∷ bs) a b all one = (all.0, each_more R as' bs a b all.1 one)
+
+-- a step is its uses, and then the rest
+done_walked : (P : Program) (xs : List Name) (p : PathStep) (s : Terms) → step_done P xs p (step_used p s) ≡ step_walked P xs p s
+done_walked P xs (accessed o) s = refl
+done_walked P xs (assume l e r way) s = refl
+done_walked P xs (assigned x e) s = refl
+done_walked P xs (made x) s = refl
+done_walked P xs (written x e) s = refl
+done_walked P xs (freed x) s = refl
+done_walked P xs (called ys f es) s = refl
+done_walked P xs (looped l) s = refl
+done_walked P xs (answered ys es) s = refl
+
+says_step : (P : Program) (xs : List Name) (p : PathStep) (s t : Terms) → t ≡ step_used p s → t.version ≡ s.version → step_says P xs p t ≡ term_step P xs p s
+says_step P xs (accessed o) s t e v = ap (step_says P xs (accessed o)) e
+says_step P xs (assume l i r way) s t e v = ap (step_says P xs (assume l i r way)) e
+says_step P xs (assigned x i) s t e v = refl
+says_step P xs (made x) s t e v = ap (step_says P xs (made x)) e
+says_step P xs (written x i) s t e v = ap (step_says P xs (written x i)) e
+says_step P xs (freed x) s t e v = ap (step_says P xs (freed x)) e
+says_step P xs (called ys f es) s t e v = ap (step_says P xs (called ys f es)) e
+says_step P xs (looped l) s t e v =
+    ap (λ i. plain.parts (told l.invariant t.bindings i) (under l.invariant (renewed (filter (some_assigns l.body) xs) (moved_on t)) ∷ [])) v
+    ∙ ap (λ (q : Terms). plain.parts (told l.invariant q.bindings s.version) (under l.invariant (renewed (filter (some_assigns l.body) xs) (moved_on q)) ∷ [])) e
+says_step P xs (answered ys es) s t e v = refl
+
+pub ended_walked : (P : Program) (k : Check) (s : Terms) → check_ended P k (check_used k s) ≡ check_walked P k s
+ended_walked P (access o) s = refl
+ended_walked P (entry f es) s = refl
+ended_walked P (loop_entry l) s = refl
+ended_walked P (returned at f) s = refl
+ended_walked P (loop_end l) s = refl
+
+pub says_check : (P : Program) (k : Check) (s t : Terms) → t ≡ check_used k s → t.version ≡ s.version → check_says P k t ≡ term_check P k s
+says_check P (access o) s t e v = ap (check_says P (access o)) e
+says_check P (entry f es) s t e v = ap (check_says P (entry f es)) e
+says_check P (loop_entry l) s t e v =
+    ap (λ i. plain.sub (told l.invariant t.bindings i)) v ∙ ap (λ (q : Terms). plain.sub (told l.invariant q.bindings s.version)) e
+says_check P (returned at f) s t e v =
+    ap (λ i. plain.whole (told f t.bindings i ∷ [])) v ∙ ap (λ (q : Terms). plain.whole (told f q.bindings s.version ∷ [])) e
+says_check P (loop_end l) s t e v =
+    ap (λ i. plain.whole (told l.invariant t.bindings i ∷ [])) v ∙ ap (λ (q : Terms). plain.whole (told l.invariant q.bindings s.version ∷ [])) e
+
+-- what is known after a step is what was known before: `a` before it, `b` once it has used its variables, `c` after it
+turn : (a b c f later : Option ℕ) → (c ≡ None → b ≡ None) → (b ≡ None → a ≡ None) → (a ≡ None → f ≡ None) → known c (learned a b f) later ≡ known a f (used_first b c later)
+turn (Some i) (Some j) (Some k) f later one two three = refl
+turn None (Some j) (Some k) f later one two three = refl
+turn None None (Some k) f later one two three = three refl
+turn None None None f later one two three = refl
+turn (Some i) None c f later one two three = let no : Some i ≡ None = two refl in absurd cc
+turn a (Some j) None f later one two three = let no : Some j ≡ None = one refl in absurd cc
+
+last_turn : (a b f : Option ℕ) → (a ≡ None → f ≡ None) → learned a b f ≡ known a f b
+last_turn (Some i) b f lack = refl
+last_turn None (Some j) f lack = refl
+last_turn None None f lack = lack refl
+
+none_learned : (a b f : Option ℕ) → a ≡ None → b ≡ None → f ≡ None → learned a b f ≡ None
+none_learned a b f one two three = rw (one, two) three
+
+pub begun : (P : Program) (p : Procedure) (kept : List kept_step.PathStep) (c : Condition) (s : Terms) (firsts : Bindings) → AreSteps P p kept c.way.steps → s ≡ begins c → ((x : Name) → firsts x ≡ None) →
+    Follows P p kept c s firsts [] []
+begun P p kept c s firsts are same none = record {
+  steps = c.way.steps;
+  are_left = are;
+  lead = ap (steps_walked P (variable_names p) c.way.steps) same;
+  plain_said = [];
+  are_said = tt;
+  say = ap (term_steps P (variable_names p) c.way.steps) same;
+  meet = ap (met P (variable_names p) c.way.steps) same;
+  lack = λ x lacks. none x;
+  first = λ x.
+      ap (λ f. known (s.bindings x) f (first_use P (variable_names p) c.way.steps c.way.check s x)) (none x)
+      ∙ ap (λ (q : Terms). known (q.bindings x) None (first_use P (variable_names p) c.way.steps c.way.check q x)) same;
+}
+
+pub gone_on : (P : Program) (p : Procedure) (r : kept_step.PathStep) (rs : List kept_step.PathStep) (c : Condition) (s t u : Terms) (firsts learns : Bindings) (states : List Bindings) (said : List TermStep) (one : TermStep) →
+    Follows P p (r ∷ rs) c s firsts states said → IsUsed P p r s t → t.version ≡ s.version → IsFinished P p r t u → IsSaid P p r t one → ((x : Name) → learns x ≡ learned (s.bindings x) (t.bindings x) (firsts x)) →
+    Follows P p rs c u learns (states ++ s.bindings ∷ []) (said ++ one ∷ [])
+gone_on P p r rs c s t u firsts learns states said one left uses version does tells learn = by_steps left.steps left.are_left left.lead left.say left.meet left.first
+  where
+    by_steps : (steps : List PathStep) → AreSteps P p (r ∷ rs) steps →
+        steps_walked P (variable_names p) steps s ≡ steps_walked P (variable_names p) c.way.steps (begins c) →
+        left.plain_said ++ term_steps P (variable_names p) steps s ≡ term_steps P (variable_names p) c.way.steps (begins c) →
+        states ++ met P (variable_names p) steps s ≡ met P (variable_names p) c.way.steps (begins c) →
+        ((x : Name) → known (s.bindings x) (firsts x) (first_use P (variable_names p) steps c.way.check s x) ≡ first_uses P (variable_names p) c x) →
+        Follows P p rs c u learns (states ++ s.bindings ∷ []) (said ++ one ∷ [])
+    by_steps [] none lead say meet first = absurd none
+    by_steps (step ∷ steps) are lead say meet first =
+        let xs = variable_names p in
+        let used : t ≡ step_used step s = uses step are.0 in
+        let walks : u ≡ step_walked P xs step s = does step are.0 ∙ ap (step_done P xs step) used ∙ done_walked P xs step s in
+        let says : step_says P xs step t ≡ term_step P xs step s = says_step P xs step s t used version in
+        let after : (x : Name) → u.bindings x ≡ None → t.bindings x ≡ None =
+        λ x none. ap (λ (q : Terms). q.bindings x) used ∙ step_lacks P xs step s x (ap (λ (q : Terms). q.bindings x) (sym walks) ∙ none) in
+        let before : (x : Name) → t.bindings x ≡ None → s.bindings x ≡ None =
+        λ x none. use_lacks step s x (ap (λ (q : Terms). q.bindings x) (sym used) ∙ none) in
+        record {
+          steps = steps;
+          are_left = are.1;
+          lead = ap (steps_walked P xs steps) walks ∙ lead;
+          plain_said = left.plain_said ++ term_step P xs step s ∷ [];
+          are_said = each_more IsTermStep said left.plain_said one (term_step P xs step s) left.are_said (subst (IsTermStep one) says (tells step are.0));
+          say = append_assoc left.plain_said (term_step P xs step s ∷ []) (term_steps P xs steps u)
+              ∙ ap (λ q. left.plain_said ++ term_step P xs step s ∷ term_steps P xs steps q) walks ∙ say;
+          meet = append_assoc states (s.bindings ∷ []) (met P xs steps u) ∙ ap (λ q. states ++ s.bindings ∷ met P xs steps q) walks ∙ meet;
+          lack = λ x none.
+              let mid = after x none in
+              learn x ∙ none_learned (s.bindings x) (t.bindings x) (firsts x) (before x mid) mid (left.lack x (before x mid));
+          first = λ x.
+              ap (λ f. known (u.bindings x) f (first_use P xs steps c.way.check u x)) (learn x)
+              ∙ turn (s.bindings x) (t.bindings x) (u.bindings x) (firsts x) (first_use P xs steps c.way.check u x) (after x) (before x) (left.lack x)
+              ∙ ap (λ (q : Terms). known (s.bindings x) (firsts x) (used_first (q.bindings x) (u.bindings x) (first_use P xs steps c.way.check u x))) used
+              ∙ ap (λ (q : Terms). known (s.bindings x) (firsts x) (used_first ((step_used step s).bindings x) (q.bindings x) (first_use P xs steps c.way.check q x))) walks
+              ∙ first x;
+        }
+
+-- where no step is left, the check's uses are learned
+pub ended : (P : Program) (p : Procedure) (c : Condition) (s t : Terms) (firsts learns : Bindings) (states : List Bindings) (said : List TermStep) →
+    Follows P p [] c s firsts states said → t ≡ check_used c.way.check s → ((x : Name) → learns x ≡ learned (s.bindings x) (t.bindings x) (firsts x)) →
+    Followed P p c s learns (states ++ s.bindings ∷ []) said
+ended P p c s t firsts learns states said left used learn = by_steps left.steps left.are_left left.lead left.say left.meet left.first
+  where
+    by_steps : (steps : List PathStep) → AreSteps P p [] steps →
+        steps_walked P (variable_names p) steps s ≡ steps_walked P (variable_names p) c.way.steps (begins c) →
+        left.plain_said ++ term_steps P (variable_names p) steps s ≡ term_steps P (variable_names p) c.way.steps (begins c) →
+        states ++ met P (variable_names p) steps s ≡ met P (variable_names p) c.way.steps (begins c) →
+        ((x : Name) → known (s.bindings x) (firsts x) (first_use P (variable_names p) steps c.way.check s x) ≡ first_uses P (variable_names p) c x) →
+        Followed P p c s learns (states ++ s.bindings ∷ []) said
+    by_steps (step ∷ steps) none lead say meet first = absurd none
+    by_steps [] are lead say meet first = record {
+      last = lead;
+      are_said = subst (Each IsTermStep said) (sym (append-nil left.plain_said) ∙ say) left.are_said;
+      meet = meet;
+      first = λ x.
+          learn x ∙ last_turn (s.bindings x) (t.bindings x) (firsts x) (left.lack x)
+          ∙ ap (λ (q : Terms). known (s.bindings x) (firsts x) (q.bindings x)) used ∙ first x;
+    }
+
+-- a variable has its first use's term where it had none before
+same_either : (o u v : Option ℕ) → (o ≡ None → u ≡ v) → either_term o v ≡ either_term o u
+same_either (Some t) u v same = refl
+same_either None u v same = sym (same refl)
+
+passed : (a b later : Option ℕ) → a ≡ None → b ≡ None → later ≡ used_first a b later
+passed a b later one two = rw (one, two) refl
+
+all_told : (P : Program) (xs : List Name) (k : Check) (ps : List PathStep) (s : Terms) (firsts : Bindings) (bs : List (List Bond)) →
+    ((x : Name) → s.bindings x ≡ None → first_use P xs ps k s x ≡ firsts x) → Each IsBinding bs (map (λ b. both b firsts) (met P xs ps s)) → Each IsBinding bs (state_bindings P xs ps k s)
+all_told P xs k [] s firsts [] same all = absurd all
+all_told P xs k [] s firsts (b ∷ bs) same all =
+    (λ x. all.0 x ∙ same_either (s.bindings x) (first_use P xs [] k s x) (firsts x) (same x), all.1)
+all_told P xs k (p ∷ ps) s firsts [] same all = absurd all
+all_told P xs k (p ∷ ps) s firsts (b ∷ bs) same all =
+    (λ x. all.0 x ∙ same_either (s.bindings x) (first_use P xs (p ∷ ps) k s x) (firsts x) (same x), all_told P xs k ps (step_walked P xs p s) firsts bs later all.1)
+  where
+    later : (x : Name) → (step_walked P xs p s).bindings x ≡ None → first_use P xs ps k (step_walked P xs p s) x ≡ firsts x
+    later x none =
+        let mid : (step_used p s).bindings x ≡ None = step_lacks P xs p s x none in
+        passed ((step_used p s).bindings x) ((step_walked P xs p s).bindings x) (first_use P xs ps k (step_walked P xs p s) x) mid none ∙ same x (use_lacks p s x mid)
+
+-- the bindings at the states, once the first uses are known
+pub bindings_told : (P : Program) (xs : List Name) (c : Condition) (firsts : Bindings) (bs : List (List Bond)) →
+    ((x : Name) → firsts x ≡ first_uses P xs c x) → Each IsBinding bs (map (λ b. both b firsts) (met P xs c.way.steps (begins c))) →
+    Each IsBinding bs (state_bindings P xs c.way.steps c.way.check (begins c))
+bindings_told P xs c firsts bs first all = all_told P xs c.way.check c.way.steps (begins c) firsts bs at_start all
+  where
+    at_start : (x : Name) → (begins c).bindings x ≡ None → first_use P xs c.way.steps c.way.check (begins c) x ≡ firsts x
+    at_start x none = sym (first x ∙ ap (λ o. known o None (first_use P xs c.way.steps c.way.check (begins c) x)) none)
+
+pub gone_on_to : (P : Program) (p : Procedure) (r : kept_step.PathStep) (rs : List kept_step.PathStep) (c : Condition) (s t u : Terms) (firsts learns : Bindings) (states after : List Bindings) (said later : List TermStep) (one : TermStep) →
+    Follows P p (r ∷ rs) c s firsts states said → IsUsed P p r s t → t.version ≡ s.version → IsFinished P p r t u → IsSaid P p r t one → ((x : Name) → learns x ≡ learned (s.bindings x) (t.bindings x) (firsts x)) →
+    after ≡ states ++ s.bindings ∷ [] → later ≡ said ++ one ∷ [] → Follows P p rs c u learns after later
+gone_on_to P p r rs c s t u firsts learns states after said later one left uses version does tells learn a l =
+    subst (λ ss. Follows P p rs c u learns ss later) (sym a)
+    (subst (λ ts. Follows P p rs c u learns (states ++ s.bindings ∷ []) ts) (sym l) (gone_on P p r rs c s t u firsts learns states said one left uses version does tells learn))
+
+-- all that is kept is that of the condition
+pub is_symbolic : (P : Program) (p : Procedure) (c : Condition) (s t : Terms) (firsts : Bindings) (states : List Bindings) (kinds : List Kind) (r : Symbolic) → p ≡ c.procedure →
+    Followed P p c s firsts states r.steps.items → t ≡ check_used c.way.check s → t.version ≡ s.version → kinds ≡ (check_ended P c.way.check t).kinds → IsTermCheck r.check (check_says P c.way.check t) → t.version ≡ (check_ended P c.way.check t).version →
+    map plain_kind r.terms ≡ kinds → r.versions ≡ t.version + 1 → IsUnder r.start (under c.start.meets no_terms) → Each IsBinding r.bindings.items (map (λ b. both b firsts) states) → IsSymbolic P c r
+is_symbolic P p c s t firsts states kinds r same followed used version ends asks keeps terms versions start bindings =
+    let f : Followed P c.procedure c s firsts states r.steps.items = subst (λ q. Followed P q c s firsts states r.steps.items) same followed in
+    let whole : check_ended P c.way.check t ≡ condition_walked P c =
+    ap (check_ended P c.way.check) used ∙ ended_walked P c.way.check s ∙ ap (check_walked P c.way.check) f.last in
+    let says : check_says P c.way.check t ≡ term_check P c.way.check (steps_walked P (variable_names c.procedure) c.way.steps (begins c)) =
+    says_check P c.way.check s t used version ∙ ap (term_check P c.way.check) f.last in
+    record {
+      terms = terms ∙ ends ∙ ap (λ (q : Terms). q.kinds) whole;
+      versions = versions ∙ ap (λ v. v + 1) (keeps ∙ ap (λ (q : Terms). q.version) whole);
+      start = start;
+      steps = f.are_said;
+      check = subst (IsTermCheck r.check) says asks;
+      bindings = bindings_told P (variable_names c.procedure) c firsts r.bindings.items f.first
+          (subst (λ ms. Each IsBinding r.bindings.items (map (λ b. both b firsts) ms)) f.meet bindings);
+    }
+
+over_or : (m n : ℕ) → (m < n) ⊎ (n ≤ m)
+over_or m n = grind arith
+
+-- a condition that passes no limit has few terms
+pub few_kinds : (P : Program) (p : Procedure) (c : Condition) (s t : Terms) (firsts : Bindings) (states : List Bindings) (said : List TermStep) (kinds : List Kind) → p ≡ c.procedure →
+    Followed P p c s firsts states said → t ≡ check_used c.way.check s → kinds ≡ (check_ended P c.way.check t).kinds → PassesNone P c → length kinds ≤ 20
+few_kinds P p c s t firsts states said kinds same followed used ends passes =
+    let f : Followed P c.procedure c s firsts states said = subst (λ q. Followed P q c s firsts states said) same followed in
+    let whole : check_ended P c.way.check t ≡ condition_walked P c =
+    ap (check_ended P c.way.check) used ∙ ended_walked P c.way.check s ∙ ap (check_walked P c.way.check) f.last in
+    let is : length kinds ≡ length (terms_of P c) = ap length (ends ∙ ap (λ (q : Terms). q.kinds) whole) in
+    elim (over_or 20 (length (terms_of P c))) [
+      | inl many ↦ absurd (passes.terms many)
+      | inr few ↦ omega (arith, is, few)
+    ]

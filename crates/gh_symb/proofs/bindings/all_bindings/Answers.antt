@@ -1,0 +1,21 @@
+use Rattle.std.proofs.Common.{◌≡◌, ◌∙◌, ◌+◌, ◌++◌, ◌∷◌, [], sym, ap, subst, map, take}
+use Rattle.std.proofs.lemmas.List.{take_more, map-append}
+use Rattle.gh_symb.specs.Phases.{both}
+use Rattle.gh_symb.specs.Symbolic.{either_term}
+use Rattle.gh_symb.specs.Tables.{Bound, bound_by}
+use Rattle.gh_symb.specs.Told.{Each, IsBinding}
+use Rattle.gh_symb.proofs.FollowLemmas.{each_more}
+use Rattle.gh_symb.proofs.bindings.all_bindings.Goals as goal
+
+pub loop-state-preserved : goal.loop-state-preserved
+loop-state-preserved c =
+    let f = λ (es : Bound). both (bound_by es) (bound_by c.args.firsts.now) in
+    let ss = c.args.states.now in
+    let i = c.loop-state.state-index in
+    let item = c.state-item.result in
+    let more : take (i + 1) ss ≡ take i ss ++ item ∷ [] = take_more ss i item c.loop-state-test.true ∙ ap (λ e. take i ss ++ e ∷ []) (sym c.state-item.is) in
+    let all : map f (take (i + 1) ss) ≡ map f (take i ss) ++ f item ∷ [] = ap (map f) more ∙ map-append f (take i ss) (item ∷ []) in
+    subst (Each IsBinding c.push.new.self.items) (sym all)
+    (subst (λ bs. Each IsBinding bs (map f (take i ss) ++ f item ∷ [])) (sym c.in_ok-push.ensures.items)
+    (each_more IsBinding c.loop-state.bindings.items (map f (take i ss)) _ (f item) c.loop-state.invariant
+    (λ x. c.in_ok-over.ensures x ∙ ap (either_term (bound_by item x)) (c.in_ok-others.ensures x))))

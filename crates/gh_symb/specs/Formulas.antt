@@ -1,0 +1,169 @@
+-- The formulas of a condition over terms, and their clauses.
+use Rattle.std.specs.Prelude.{ℕ, ◌+◌, ◌-◌, List, [], ◌∷◌, ◌++◌, map, length, Bool, ◌==◌, cond, position, unwrap_or}
+use Rattle.std.specs.List.{flat_map, range_with_len}
+use Rattle.gh_base.specs.declared.atom.Term.{Term}
+use Rattle.gh_base.specs.declared.atom.Atom.TheVariants.{Hop, Alloc}
+use Rattle.gh_base.specs.Grounds.{Problem}
+use Rattle.gh_path.specs.Terms.{Kind, null, value, next, same_kind, Bindings}
+use Rattle.gh_grass.specs.Bindings.{term}
+use Rattle.gh_grass.specs.Claims.{Claim, atom, negation_of, equivalence_of, all_of, one_of, equality}
+use Rattle.gh_grass.specs.Footprints.{Variables, compared, footprint, structure, terms_below}
+use Rattle.gh_grass.specs.Clauses.{clauses_of, definitions_of}
+use Rattle.gh_symb.specs.Symbolic.{Under, TermStep, accessed, assumed, same, written, made, freed, parts, TermCheck, access, sub, whole, Symbolic}
+
+abbrev pub allocated : ℕ → Term → Claim
+allocated i x = atom (Alloc i x)
+
+-- the cell at x leads to v
+abbrev pub hops : ℕ → Term → Term → Claim
+hops i x v = atom (Hop i x v)
+
+-- a variable without a term counts as null
+abbrev pub variables : Bindings → Variables
+variables b x = term (unwrap_or (b x) 0)
+
+-- the term of a successor; one that isn't listed counts as null
+abbrev pub successor : List Kind → ℕ → Term → Term
+successor ks i x = term (unwrap_or (position (same_kind (next i x.0)) ks) 0)
+
+abbrev pub within : Under → Term → Claim
+within u z = footprint (variables u.binding) u.version z u.assertion
+
+-- some part of the heap meets it
+abbrev pub meets : List Kind → Under → Claim
+meets ks u = structure (variables u.binding) (successor ks u.version) u.version (length ks) u.assertion
+
+-- for each of n terms
+abbrev pub each : ℕ → (Term → Claim) → List Claim
+each n f = map f (terms_below n)
+
+-- the term is allocated exactly where it is in the footprint
+abbrev pub covers : Under → Term → Claim
+covers u z = equivalence_of (allocated u.version z) (within u z)
+
+-- the whole heap meets it: some part does, and the footprint is all that is allocated
+abbrev pub meets_whole : List Kind → Under → Claim
+meets_whole ks u = all_of (meets ks u ∷ each (length ks) (covers u))
+
+-- for each pair of n terms
+abbrev pub each_pair : ℕ → (Term → Term → Claim) → List Claim
+each_pair n f = flat_map (λ z. each n (f z)) (terms_below n)
+
+-- what is allocated leads to a term
+abbrev pub leads : ℕ → ℕ → Term → Claim
+leads n i x = one_of (negation_of (allocated i x) ∷ each n (hops i x))
+
+-- t is the successor of x: it is the next term where x is allocated, and x itself where it isn't
+abbrev pub succeeds : ℕ → ℕ → ℕ → List Claim
+succeeds i x t =
+    one_of (negation_of (allocated i (term x)) ∷ hops i (term x) (term t) ∷ [])
+    ∷ one_of (allocated i (term x) ∷ equality (term x) (term t) ∷ [])
+    ∷ []
+
+abbrev pub successor_claims : ℕ → ℕ → Kind → List Claim
+successor_claims i t null = []
+successor_claims i t (value n) = []
+successor_claims i t (next j x) = cond (j == i) (succeeds i x t) []
+
+-- for the terms from t on, those that are successors in version i
+abbrev pub successors_from : ℕ → ℕ → List Kind → List Claim
+successors_from i t [] = []
+successors_from i t (k ∷ ks) = successor_claims i t k ++ successors_from i (t + 1) ks
+
+abbrev pub version_claims : List Kind → ℕ → List Claim
+version_claims ks i = negation_of (allocated i (term 0)) ∷ each (length ks) (leads (length ks) i) ++ successors_from i 0 ks
+
+-- the cell at z leads where it led before
+abbrev pub keeps : ℕ → Term → Term → Claim
+keeps i z v = equivalence_of (hops (i + 1) z v) (hops i z v)
+
+-- each cell but that at x leads where it led
+abbrev pub others_keep : ℕ → ℕ → Term → List Claim
+others_keep n i x = each_pair n (λ z v. one_of (equality z x ∷ keeps i z v ∷ []))
+
+abbrev pub written_claims : ℕ → ℕ → Term → Term → List Claim
+written_claims n i x e =
+    each n (λ z. equivalence_of (allocated (i + 1) z) (allocated i z))
+    ++ hops (i + 1) x e ∷ []
+    ++ others_keep n i x
+
+abbrev pub made_claims : ℕ → ℕ → Term → Term → List Claim
+made_claims n i l c =
+    negation_of (allocated i l) ∷ []
+    ++ each n (λ z. equivalence_of (allocated (i + 1) z) (one_of (allocated i z ∷ equality z l ∷ [])))
+    ++ hops (i + 1) l c ∷ []
+    ++ others_keep n i l
+
+abbrev pub freed_claims : ℕ → ℕ → Term → List Claim
+freed_claims n i x =
+    each n (λ z. equivalence_of (allocated (i + 1) z) (all_of (allocated i z ∷ negation_of (equality z x) ∷ [])))
+    ++ others_keep n i x
+
+-- the cell at z is kept: it is allocated, and isn't in the part that is taken
+abbrev pub kept : ℕ → Under → Term → Claim
+kept i u z = all_of (allocated i z ∷ negation_of (within u z) ∷ [])
+
+-- a part u of the heap is replaced by a part q
+abbrev pub replaced_claims : List Kind → ℕ → Under → Under → List Claim
+replaced_claims ks i u q =
+    let n = length ks in
+    (meets ks u ∷ meets ks q ∷ [])
+    ++ each n (λ z. negation_of (all_of (kept i u z ∷ within q z ∷ [])))
+    ++ each n (λ z. equivalence_of (allocated (i + 1) z) (one_of (kept i u z ∷ within q z ∷ [])))
+    ++ each_pair n (λ z v. one_of (negation_of (kept i u z) ∷ keeps i z v ∷ []))
+
+-- what is put in the place of a part is one assertion
+abbrev pub parts_claims : List Kind → ℕ → Under → List Under → List Claim
+parts_claims ks i u [] = []
+parts_claims ks i u (q ∷ qs) = replaced_claims ks i u q
+
+-- a step from version i
+abbrev pub step_claims : List Kind → ℕ → TermStep → List Claim
+step_claims ks i (accessed x) = allocated i (term x) ∷ []
+step_claims ks i (assumed l e r) = compared (term l) e (term r) ∷ []
+step_claims ks i same = []
+step_claims ks i (written x e) = written_claims (length ks) i (term x) (term e)
+step_claims ks i (made l c) = made_claims (length ks) i (term l) (term c)
+step_claims ks i (freed x) = freed_claims (length ks) i (term x)
+step_claims ks i (parts u qs) = parts_claims ks i u qs
+
+-- the version after a step
+abbrev pub version_after : ℕ → TermStep → ℕ
+version_after i (accessed x) = i
+version_after i (assumed l e r) = i
+version_after i same = i
+version_after i (written x e) = i + 1
+version_after i (made l c) = i + 1
+version_after i (freed x) = i + 1
+version_after i (parts u qs) = i + 1
+
+abbrev pub steps_claims : List Kind → ℕ → List TermStep → List Claim
+steps_claims ks i [] = []
+steps_claims ks i (s ∷ ss) = step_claims ks i s ++ steps_claims ks (version_after i s) ss
+
+-- the check fails, in the last version i
+abbrev pub check_claims : List Kind → ℕ → TermCheck → List Claim
+check_claims ks i (access x) = negation_of (allocated i (term x)) ∷ []
+check_claims ks i (sub u) = negation_of (meets ks u) ∷ []
+check_claims ks i (whole []) = []
+check_claims ks i (whole (u ∷ us)) = negation_of (meets_whole ks u) ∷ []
+
+-- the formulas of the first versions
+abbrev pub versions_claims : List Kind → ℕ → List Claim
+versions_claims ks n = flat_map (version_claims ks) (range_with_len 0 n)
+
+-- the formulas of a condition: its versions, its start, its steps, its check
+abbrev pub claims : Symbolic → List Claim
+claims s =
+    versions_claims s.terms s.versions
+    ++ meets_whole s.terms s.start ∷ []
+    ++ steps_claims s.terms 0 s.steps
+    ++ check_claims s.terms (s.versions - 1) s.check
+
+-- the clauses of a condition, with the numbers of its terms, versions and definitions
+abbrev pub problem : Symbolic → Problem
+problem s =
+    record {
+      sizes = record { terms = length s.terms; versions = s.versions; defs = definitions_of (claims s) };
+      clauses = clauses_of (claims s);
+    }

@@ -1,0 +1,83 @@
+//! What names are bound to, as it is told.
+
+ghost use Rattle.std.specs.Prelude.{◌≡◌, IfOk, OnOk, map};
+ghost use Rattle.std.specs.Option.{option_map};
+ghost use Rattle.gh_ast.specs.Plain.{formula_of};
+ghost use Rattle.gh_ast.specs.Programs.{Name as Word};
+ghost use Rattle.gh_grass.specs.Bindings.{term_in};
+ghost use Rattle.gh_symb.specs.Symbolic.{either_term};
+ghost use Rattle.gh_symb.specs.Phases.{learned, told, value_in, both};
+ghost use Rattle.gh_symb.specs.Tables.{bound_by};
+ghost use Rattle.gh_symb.specs.Told.{Each, IsBinding, IsUnder};
+
+use crate::numbers::{short, term_of};
+use crate::over_terms::Bound;
+use crate::scope::Scope;
+use gh_ast::Assertion;
+use gh_grass::binding::Binding;
+use std::alloc::{AllocError, Global};
+
+impl<'a> Scope<'a> {
+    /// These terms, and beside them those of other variables.
+    pub fn over(&self, alloc: Global, others: Binding) -> Result<Binding, AllocError>
+        ensures { IfOk result (λ b. (x : Word) → value_in b x ≡ either_term (bound_by self.now x) (value_in others x)) }
+    {
+        let mut binding = others;
+        for entry in self.entries() {
+            binding.set(alloc, entry.name, term_of(entry.term)?)?;
+        }
+        Ok(binding)
+    }
+
+    /// The terms of the variables.
+    pub fn binding(&self, alloc: Global) -> Result<Binding, AllocError>
+        ensures { IfOk result (λ b. IsBinding b (bound_by self.now)) }
+    {
+        let binding = self.over(alloc, Binding::new(alloc))?;
+        Ok(binding)
+    }
+
+    /// An assertion in a version of the heap under these terms.
+    pub fn bound(
+        &self,
+        alloc: Global,
+        assertion: &'a Assertion,
+        version: usize,
+    ) -> Result<Bound<'a>, AllocError>
+        ensures { IfOk result (λ b. IsUnder b (told (formula_of assertion.now) (bound_by self.now) version)) }
+    {
+        let binding = self.binding(alloc)?;
+        let version = short(version)?;
+        Ok(Bound {
+            assertion,
+            binding,
+            version,
+        })
+    }
+
+    /// Variables that had no term before and have one now are remembered with it.
+    pub fn learn(&mut self, before: &Scope<'a>, now: &Scope<'a>) -> Result<(), AllocError>
+        ensures { OnOk result ((x : Word) → bound_by self.new x ≡ learned (bound_by before.now x) (bound_by now.now x) (bound_by self.old x)) }
+    {
+        for entry in now.entries() {
+            self.learn_one(before, entry)?;
+        }
+        Ok(())
+    }
+}
+
+/// The terms of the variables at each state: those that they have there, else their first ones.
+pub fn all_bindings(
+    alloc: Global,
+    states: &[Scope<'_>],
+    firsts: &Scope<'_>,
+) -> Result<Vec<Binding>, AllocError>
+    ensures { IfOk result (λ bs. Each IsBinding bs.items (map (λ es. both (bound_by es) (bound_by firsts.now)) states.now)) }
+{
+    let mut bindings = Vec::new(alloc);
+    for state in states {
+        let others = firsts.binding(alloc)?;
+        bindings.push(state.over(alloc, others)?)?;
+    }
+    Ok(bindings)
+}

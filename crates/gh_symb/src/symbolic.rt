@@ -1,0 +1,85 @@
+//! A condition over terms, made from a kept one.
+
+ghost use Rattle.std.specs.Prelude.{◌≡◌, IfOk, IfErr};
+ghost use Rattle.gh_ast.specs.Plain.{program_of};
+ghost use Rattle.gh_path.specs.Conditions as plain;
+ghost use Rattle.gh_path.specs.Kept.{StandsFor};
+ghost use Rattle.gh_symb.specs.Limits.{Passes, PassesNone, IsRefused};
+ghost use Rattle.gh_symb.specs.Told.{IsSymbolic};
+
+use crate::bindings::all_bindings;
+use crate::kinds::Kinds;
+use crate::limits::{SymbolicError, passed_limit};
+use crate::numbers::short;
+use crate::over_terms::Symbolic;
+use crate::scope::Scope;
+use gh_ast::typed::Typed;
+use gh_path::condition::Condition;
+use std::alloc::{AllocError, Global};
+
+/// The condition over terms of a condition that passes no limit.
+fn told<'a>(
+    alloc: Global,
+    typed: &'a Typed,
+    condition: &'a Condition,
+) -> Result<Symbolic<'a>, AllocError>
+    requires of { (c : plain.Condition) × StandsFor (program_of typed.now) condition.now c }
+    requires few { (c : plain.Condition) → StandsFor (program_of typed.now) condition.now c → PassesNone (program_of typed.now) c }
+    ensures { IfOk result (λ s. (c : plain.Condition) → StandsFor (program_of typed.now) condition.now c → IsSymbolic (program_of typed.now) c s) }
+{
+    let program = typed.program();
+    let procedure = &program.procedures[condition.procedure as usize];
+    let mut kinds = Kinds::new(alloc)?;
+    let mut scope = Scope::new(alloc);
+    let start = scope.ask_start(alloc, &mut kinds, procedure, condition.start)?;
+    let mut firsts = Scope::new(alloc);
+    let mut states = Vec::new(alloc);
+    let mut steps = Vec::new(alloc);
+    let mut version = 0;
+    for step in condition.steps.as_slice() {
+        let before = scope.copy(alloc)?;
+        scope.use_step(&mut kinds, procedure, step, version)?;
+        firsts.learn(&before, &scope)?;
+        states.push(before)?;
+        let said = scope.tell_step(alloc, &mut kinds, program, procedure, step, version)?;
+        version = said.version;
+        steps.push(said.step)?;
+    }
+    let before = scope.copy(alloc)?;
+    let check = &condition.check.kind;
+    scope.use_check(&mut kinds, procedure, check, version)?;
+    firsts.learn(&before, &scope)?;
+    states.push(before)?;
+    let check = scope.ask_check(alloc, &mut kinds, program, procedure, check, version)?;
+    let bindings = all_bindings(alloc, states.as_slice(), &firsts)?;
+    let terms = kinds.told(alloc)?;
+    let versions = short(version + 1)?;
+    Ok(Symbolic {
+        terms,
+        versions,
+        start,
+        bindings,
+        steps,
+        check,
+    })
+}
+
+/// The condition over terms that a condition of a program is, unless it passes a limit.
+pub fn symbolic<'a>(
+    alloc: Global,
+    typed: &'a Typed,
+    condition: &'a Condition,
+) -> Result<Symbolic<'a>, SymbolicError>
+    requires { (c : plain.Condition) × StandsFor (program_of typed.now) condition.now c }
+    ensures told { IfOk result (λ s. (c : plain.Condition) → StandsFor (program_of typed.now) condition.now c → IsSymbolic (program_of typed.now) c s) }
+    ensures few { IfOk result (λ s. (c : plain.Condition) → StandsFor (program_of typed.now) condition.now c → PassesNone (program_of typed.now) c) }
+    ensures refused { IfErr result (λ e. (c : plain.Condition) → StandsFor (program_of typed.now) condition.now c → IsRefused (program_of typed.now) c e) }
+{
+    match passed_limit(alloc, typed, condition)? {
+        Some(limit) => Err(SymbolicError::Limit(limit)),
+        None => {
+            let symbolic = told(alloc, typed, condition)?;
+            Ok(symbolic)
+        }
+    }
+}
