@@ -12,7 +12,7 @@ use Rattle.gh_base.specs.Atoms.{opposite, IsInRange, AreInRange, number_of}
 use Rattle.gh_base.specs.Propagation.{Propagated, given, forced, IsRefutedByUnits, FollowsByUnits}
 use Rattle.gh_base.proofs.NumberLemmas.{apart}
 use Rattle.gh_sat.specs.declared.trail.Step.{Step}
-use Rattle.gh_sat.specs.Trail.{Line, State, Stands, IsTrueIn, IsFalseIn, IsFree, IsCaused, IsSound, open_level}
+use Rattle.gh_sat.specs.Trail.{Line, State, IsTrueIn, IsFalseIn, IsFree, IsSound, open_level}
 use Rattle.gh_sat.specs.Status.{IsSettled, IsForced, AreForced}
 use Rattle.gh_sat.specs.Learn.{IsConflict}
 use Rattle.gh_sat.specs.Whole.{PropagatesTo}
@@ -21,6 +21,7 @@ use Rattle.gh_sat.proofs.TrailLemmas.{same_lit}
 use Rattle.gh_sat.proofs.StatusLemmas.{not_both}
 use Rattle.gh_sat.proofs.WatchLemmas.{append_nil}
 use Rattle.gh_sat.proofs.LearnLemmas.{in_get}
+use Rattle.gh_sat.proofs.FirstLevelLemmas.{given_below}
 use Rattle.gh_check.specs.Assuming.{AreGiven, IsRefuting, IsAssumed}
 
 pub in_place : {X : Type 0} (xs : List X) (x : X) → Contains xs x → (k : ℕ) × (slice_get xs k ≡ Some x)
@@ -48,25 +49,6 @@ given_more clauses assumed level trail [] f g = subst (AreGiven clauses assumed)
 given_more clauses assumed level trail (x ∷ xs) f g =
     subst (AreGiven clauses assumed) (append_assoc trail (x ∷ []) xs)
     (given_more clauses assumed level (trail ++ x ∷ []) xs f.1 (given_push clauses assumed trail x g (forced_given clauses assumed level trail x g f.0)))
-
--- what a step with no level to open is given by
-cause_given : (clauses : List (List Lit)) (assumed : List Lit) (trail : List Step) (starts : List ℕ) (i : ℕ) (lit : Lit) (level : ℕ) (reason : Option ℕ) → starts ≡ []
-    → ((j : ℕ) (y : Step) → j < i → slice_get trail j ≡ Some y → Propagated clauses assumed y.lit) → IsCaused clauses trail starts i lit level reason → Propagated clauses assumed lit
-cause_given clauses assumed trail starts i lit level None none before c =
-    let at : slice_get [] c.0 ≡ Some i = subst (λ (xs : List ℕ). slice_get xs c.0 ≡ Some i) none c.2 in
-    absurd (let lt = get_within [] c.0 i at in omega arith)
-cause_given clauses assumed trail starts i lit level (Some k) none before r =
-    forced r.clause lit (in_get clauses k r.clause r.at) r.there
-    (λ m in_c ne. elim (All-contains (λ l. (l ≡ lit) ⊎ Stands trail i (opposite l)) r.clause m r.others in_c) [
-      | inl e ↦ absurd (ne e)
-      | inr t ↦ subst (Propagated clauses assumed) t.4 (before t.0 t.1 t.2 t.3)
-    ])
-
-given_below : (s : State) (assumed : List Lit) → IsSound s → s.starts ≡ [] → (n i : ℕ) (x : Step) → i < n → slice_get s.trail i ≡ Some x → Propagated s.clauses assumed x.lit
-given_below s assumed h none zero i x lt at = absurd (omega arith)
-given_below s assumed h none (suc n) i x lt at =
-    cause_given s.clauses assumed s.trail s.starts i x.lit x.level x.reason none
-    (λ j y below there. given_below s assumed h none n j y (omega arith) there) (h.caused i x at)
 
 -- at level 0 nothing has to be assumed
 pub given_at_first : (s : State) (assumed : List Lit) → IsSound s → s.starts ≡ [] → AreGiven s.clauses assumed s.trail

@@ -1,18 +1,19 @@
 -- Sections, as lines are read.
 use Rattle.std.proofs.Common.{◌≡◌, ◌↔◌, ◌∙◌, ◌+◌, ◌<◌, ◌≤◌, ℕ, List, [], ◌∷◌, ◌++◌, Bool, false, Option, Some, None, IsTrue, inl, inr, refl, sym, ap, subst, arith, length, map, take, take_all, get_or}
 use Rattle.std.specs.Prelude.{slice_get, ◌==◌}
-use Rattle.std.proofs.lemmas.List.{take_more, take-append-le, length_push, map_push}
+use Rattle.std.proofs.lemmas.List.{take_more, length_push, map_push}
 use Rattle.std.proofs.lemmas.Option.{slice_get-get_or}
 use Rattle.std.proofs.lemmas.Bool.{eqb-true, cases_lt}
 use Rattle.gh_base.specs.declared.atom.Lit.{Lit}
 use Rattle.gh_base.specs.Grounds.{Problem}
 use Rattle.gh_log.specs.declared.lines.LogLine.{LogLine}
 use Rattle.gh_log.specs.Sections.{line_clause, IsOfKind, AreOfKind, EndsEmpty, IsValidSection, fault_of}
+use Rattle.gh_log.proofs.KindLemmas.{kind_push}
 use Rattle.gh_sat.specs.declared.trail.Step.{Step}
 use Rattle.gh_sat.specs.Trail.{State}
 use Rattle.gh_sat.specs.Watch.{WasOpen}
 use Rattle.gh_sat.specs.Learn.{add_clause}
-use Rattle.gh_sat.proofs.ListLemmas.{get_within, get_push, take_get}
+use Rattle.gh_sat.proofs.ListLemmas.{get_within, take_get}
 use Rattle.gh_sat.proofs.WholeLemmas.{take_take}
 use Rattle.gh_check.specs.declared.fault.CheckError.TheVariants.{Fault}
 use Rattle.gh_check.specs.Lines.{IsTaken, IsChecked}
@@ -42,15 +43,6 @@ one p lines n i m j (inl f) (inl g) = elim (cases_lt i j) [
 one p lines n i m j (inl f) (inr g) = absurd (f.faulty (g.of_kind i f.line f.at))
 one p lines n i m j (inr f) (inl g) = absurd (g.faulty (f.of_kind j g.line g.at))
 one p lines n i m j (inr f) (inr g) = (f.number_is ∙ sym g.number_is, f.place_is ∙ sym g.place_is)
-
--- one more line of its kind
-kind_push : (p : Problem) (xs : List LogLine) (x : LogLine) → AreOfKind p xs → IsOfKind p (map (line_clause p) xs) x → AreOfKind p (xs ++ x ∷ [])
-kind_push p xs x all one i l at = elim (get_push xs x i l at) [
-  | inl old ↦ subst (λ (ys : List LogLine). IsOfKind p (map (line_clause p) ys) l) (sym (take-append-le i xs (x ∷ []) (let lt = get_within xs i l old in omega arith))) (all i l old)
-  | inr new ↦
-      let whole : take i (xs ++ x ∷ []) ≡ xs = take-append-le i xs (x ∷ []) (omega (arith, new.0)) ∙ take_all i xs (omega (arith, new.0)) in
-      subst (λ (ys : List LogLine). IsOfKind p (map (line_clause p) ys) l) (sym whole) (subst (IsOfKind p (map (line_clause p) xs)) new.1 one)
-]
 
 -- the last of two equal lists with one more
 last_same : (xs ys : List LogLine) (x y : LogLine) → xs ++ x ∷ [] ≡ ys ++ y ∷ [] → x ≡ y

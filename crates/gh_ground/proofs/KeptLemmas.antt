@@ -1,7 +1,7 @@
 -- What a solver keeps, as lines are added.
-use Rattle.std.proofs.Common.{◌≡◌, ℕ, ◌+◌, ◌<◌, List, [], ◌∷◌, ◌++◌, length, take, take_all, get_or, map, Option, Some, None, inl, inr, refl, sym, ap, ◌∙◌, subst, arith, append_assoc, append-nil, Contains}
-use Rattle.std.specs.Prelude.{slice_get, IfSome, MatchBool, Bool, is_none, All}
-use Rattle.std.proofs.lemmas.List.{take_more, take-append-le, map_push}
+use Rattle.std.proofs.Common.{◌≡◌, ℕ, ◌+◌, ◌<◌, ◌≤◌, List, [], ◌∷◌, ◌++◌, length, take, get_or, map, Option, Some, None, inl, inr, refl, sym, ap, ◌∙◌, subst, arith, append_assoc, append-nil, Contains}
+use Rattle.std.specs.Prelude.{slice_get, IfSome, MatchBool, Bool, is_none, All, vec_len}
+use Rattle.std.proofs.lemmas.List.{take_more, map_push}
 use Rattle.std.proofs.lemmas.List.Elements.{Contains-append_left, All-push}
 use Rattle.gh_base.specs.declared.atom.Lit.{Lit}
 use Rattle.gh_base.specs.declared.sizes.Sizes.{Sizes}
@@ -15,24 +15,16 @@ use Rattle.gh_log.specs.declared.lines.LogLine.{LogLine}
 use Rattle.gh_log.specs.declared.lines.LogLine.TheVariants as line
 use Rattle.gh_log.specs.declared.lines.Section.{Section}
 use Rattle.gh_log.specs.Sections.{line_clause, IsOfKind, AreOfKind, IsValidSection}
+use Rattle.gh_log.proofs.KindLemmas.{kind_push}
 use Rattle.gh_sat.specs.Trail.{State, IsSound, cut}
 use Rattle.gh_sat.specs.Learn.{IsConflict, IsLearnt, add_clause}
 use Rattle.gh_sat.specs.Theory.{PropagatesBeside}
 use Rattle.gh_sat.specs.Whole.{Adds}
-use Rattle.gh_sat.proofs.ListLemmas.{get_within, get_push, get_last}
+use Rattle.gh_sat.proofs.ListLemmas.{get_within, get_last}
 use Rattle.gh_sat.proofs.LearnLemmas.{false_in_range}
 use Rattle.gh_sat.proofs.TheoryLemmas.{added_cut}
 use Rattle.gh_ground.specs.Kept.{IsKept, Keeps, IsAnswered, IsOpen, IsEnded}
 use Rattle.gh_ground.specs.Solving.{IsRefutationOf}
-
--- one more line of its kind
-pub kind_push : (p : Problem) (xs : List LogLine) (x : LogLine) → AreOfKind p xs → IsOfKind p (map (line_clause p) xs) x → AreOfKind p (xs ++ x ∷ [])
-kind_push p xs x all one i l at = elim (get_push xs x i l at) [
-  | inl old ↦ subst (λ (ys : List LogLine). IsOfKind p (map (line_clause p) ys) l) (sym (take-append-le i xs (x ∷ []) (let lt = get_within xs i l old in omega arith))) (all i l old)
-  | inr new ↦
-      let whole : take i (xs ++ x ∷ []) ≡ xs = take-append-le i xs (x ∷ []) (omega (arith, new.0)) ∙ take_all i xs (omega (arith, new.0)) in
-      subst (λ (ys : List LogLine). IsOfKind p (map (line_clause p) ys) l) (sym whole) (subst (IsOfKind p (map (line_clause p) xs)) new.1 one)
-]
 
 pub no_kinds : (p : Problem) → AreOfKind p []
 no_kinds p i l at = absurd (let lt = get_within [] i l at in omega arith)
@@ -134,13 +126,14 @@ keeps_instance old new before after name clause instance is adds pushed =
 
 -- the empty clause ends a section
 pub refutation_of : (p : Problem) (s : State) (lines ended : List LogLine) (end : List Lit) (section : Section) → FollowsByUnits s.clauses [] → IsKept p s lines → end ≡ [] → ended ≡ lines ++ line.Learnt end ∷ [] → section.lines.items ≡ ended → section.first ≡ 1
-    → IsRefutationOf p section
-refutation_of p s lines ended end section follows kept empty pushed is first =
+    → vec_len section.lines ≤ 4294967294 → IsRefutationOf p section
+refutation_of p s lines ended end section follows kept empty pushed is first few =
     let whole : section.lines.items ≡ lines ++ line.Learnt [] ∷ [] = is ∙ pushed ∙ ap (λ (c : List Lit). lines ++ line.Learnt c ∷ []) empty in
     let last : IsOfKind p (map (line_clause p) lines) (line.Learnt []) = (λ k d lt. absurd (omega arith), subst (λ (cs : List (List Lit)). FollowsByUnits cs []) kept.clauses follows) in
     record {
       valid = subst (IsValidSection p) (sym whole) (record { of_kind = kind_push p lines (line.Learnt []) kept.of_kind last; ends = (lines, line.Learnt [], refl, refl) });
       first = first;
+      few = few;
     }
 
 pub answered_some : (s : State) (a : Option ℕ) (k : ℕ) → IsAnswered s a → a ≡ Some k → IsConflict s k

@@ -1,5 +1,5 @@
 -- What a decision of ground clauses answers.
-use Rattle.std.specs.Prelude.{◌≡◌, All}
+use Rattle.std.specs.Prelude.{◌≡◌, ◌≤◌, All, vec_len}
 use Rattle.gh_base.specs.Grounds.{Problem}
 use Rattle.gh_base.specs.Meaning.{IsClauseTrue, IsCongruence}
 use Rattle.gh_base.specs.Structures.{Tables, interpretation_of}
@@ -16,10 +16,11 @@ pub record IsModelOf (p : Problem) (s : Tables) : Type 0 where
   pub instances : AreInstancesTrue p.sizes (interpretation_of s)
   pub congruence : IsCongruence p.sizes (interpretation_of s)
 
--- the section is valid for the problem, and stands at the first line
+-- the section is valid for the problem and stands at the first line, and 32 bits number its lines and the place after them
 pub record IsRefutationOf (p : Problem) (s : Section) : Type 0 where
   pub valid : IsValidSection p s.lines.items
   pub first : s.first ≡ 1
+  pub few : vec_len s.lines ≤ 4294967294
 
 abbrev pub IsAnswer : Problem → Answer → Type 0
 IsAnswer p (Model s) = IsModelOf p s

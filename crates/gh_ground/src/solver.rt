@@ -204,11 +204,14 @@ impl Solver {
         Ok(())
     }
 
-    /// The section of a refutation.
+    /// The section of a refutation. More lines than 32 bits can number count as want of memory.
     pub(crate) fn into_section(mut self, alloc: Global) -> Result<Section, AllocError>
         requires { FollowsByUnits self.search.clauses [] }
         ensures { IfOk result (λ s. (p : Problem) → IsKept p self.search self.lines.items → IsRefutationOf p s) }
     {
+        if self.lines.len() >= 4294967294 {
+            return Err(AllocError);
+        }
         self.lines.push(LogLine::Learnt(Clause::new(alloc)))?;
         Ok(Section {
             first: 1,

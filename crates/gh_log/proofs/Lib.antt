@@ -6,3 +6,4 @@ pub mod AtomLemmas
 pub mod LineLemmas
 pub mod LogLemmas
 pub mod PlaceLemmas
+pub mod KindLemmas

@@ -8,3 +8,4 @@ pub mod WholeLemmas
 pub mod LearnLemmas
 pub mod TheoryLemmas
 pub mod MeasureLemmas
+pub mod FirstLevelLemmas

@@ -1,7 +1,8 @@
 use Rattle.std.proofs.Common.{◌∙◌, ap, sym, subst, map, arith}
 use Rattle.gh_log.specs.declared.lines.LogLine.TheVariants as line
 use Rattle.gh_log.specs.Sections.{line_clause, AreOfKind}
-use Rattle.gh_ground.proofs.KeptLemmas.{clauses_more, kind_push}
+use Rattle.gh_log.proofs.KindLemmas.{kind_push}
+use Rattle.gh_ground.proofs.KeptLemmas.{clauses_more}
 use Rattle.gh_ground.proofs.solver.ground_lines.Goals as goal
 
 pub loop-number-preserved : goal.loop-number-preserved
