@@ -37,3 +37,11 @@ pub mod LocalChecks
 pub mod Locality
 pub mod Dated
 pub mod Depicted
+pub mod Building
+pub mod PathNames
+pub mod BoundNames
+pub mod Traced
+pub mod Walked
+pub mod OverTerms
+pub mod Counterexamples
+pub mod FewSteps

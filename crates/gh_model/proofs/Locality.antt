@@ -40,7 +40,7 @@ step_takes P xs m K V at N c R (path.looped l) ps s I = loop_takes P xs m K V at
 step_takes P xs m K V at N c R (path.answered ys es) ps s I = return_takes P xs m K V at N c R ys es ps s I
 
 -- the version after a step, as its formulas count it
-prepared_past : (P : Program) (xs : List Name) (R : Name → Type 0) (p : path.PathStep) (s : Terms) (i : ℕ) → IsPrepared P R p → version_past i (term_step P xs p s) ≡ version_after p i
+pub prepared_past : (P : Program) (xs : List Name) (R : Name → Type 0) (p : path.PathStep) (s : Terms) (i : ℕ) → IsPrepared P R p → version_past i (term_step P xs p s) ≡ version_after p i
 prepared_past P xs R (path.accessed o) s i A = refl
 prepared_past P xs R (path.assume l e r way) s i A = refl
 prepared_past P xs R (path.assigned x e) s i A = refl
@@ -157,7 +157,7 @@ along P xs m K V N c typed G R (p ∷ ps) s i I check =
     }) check in
     record { leads = (takes, rest.leads); fails = rest.fails }
 
-none_bounded : IsBounded no_terms
+pub none_bounded : IsBounded no_terms
 none_bounded = record { some = omega arith; below = λ y t e. absurd cc }
 
 pub locality_holds : LocalityHolds

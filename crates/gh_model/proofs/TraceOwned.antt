@@ -52,7 +52,7 @@ chain a b c f g i k e = g i k (f i k e)
 inside_within : (p : Procedure) (ys : List Name) (b : Bindings) (s : Terms) → Within s.kinds (answered_inside p ys b s).kinds
 inside_within p ys b s i k e = (walked_grows p.gives (with_results p s)).kinds i k (renewed_within (results_of p) (moved_on (walked p.needs s)) i k ((walked_grows p.needs s).kinds i k e))
 
-call_within : (o : Option Procedure) (ys : List Name) (ts : List ℕ) (s : Terms) → Within s.kinds (call_walked o ys ts s).kinds
+pub call_within : (o : Option Procedure) (ys : List Name) (ts : List ℕ) (s : Terms) → Within s.kinds (call_walked o ys ts s).kinds
 call_within None ys ts s = λ i k e. e
 call_within (Some p) ys ts s = inside_within p ys s.bindings (rebound s (bound_inside p ts))
 
@@ -73,7 +73,7 @@ pub steps_within : (P : Program) (xs : List Name) (ps : List path.PathStep) (s :
 steps_within P xs [] s = λ i k e. e
 steps_within P xs (p ∷ ps) s = chain s.kinds (step_walked P xs p s).kinds (steps_walked P xs (p ∷ ps) s).kinds (step_within P xs p s) (steps_within P xs ps (step_walked P xs p s))
 
-entry_within : (o : Option Procedure) (ts : List ℕ) (s : Terms) → Within s.kinds (entry_walked o ts s).kinds
+pub entry_within : (o : Option Procedure) (ts : List ℕ) (s : Terms) → Within s.kinds (entry_walked o ts s).kinds
 entry_within None ts s = λ i k e. e
 entry_within (Some p) ts s = (walked_grows p.needs (rebound s (bound_inside p ts))).kinds
 

@@ -15,3 +15,5 @@ pub mod Laws
 pub mod Sections
 pub mod BuiltTraces
 pub mod Depicted
+pub mod BoundNames
+pub mod Traced

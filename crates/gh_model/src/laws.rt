@@ -4,6 +4,8 @@ ghost use Rattle.gh_model.specs.StepLaws.{WritesAreSaid, NewsAreSaid, FreesAreSa
 ghost use Rattle.gh_model.specs.Abstraction.{TracesSatisfy, TracesGiveModels};
 ghost use Rattle.gh_model.specs.Depicted.{TracesAreDepicted};
 ghost use Rattle.gh_model.specs.BuiltTraces.{LocalityHolds};
+ghost use Rattle.gh_model.specs.BoundNames.{OnlyVariablesHaveTerms};
+ghost use Rattle.gh_model.specs.Traced.{BuiltIsCounterexample};
 ghost use Rattle.gh_model.specs.StepFormulas.{WritesSpeak, NewsSpeak, FreesSpeak, CallsSpeak};
 ghost use Rattle.gh_model.specs.Spoken.{FormulasSpeak, InstancesHold};
 ghost use Rattle.gh_model.specs.Sections.{SectionsShowValidity};
@@ -173,4 +175,14 @@ pub fn sections_show_validity()
 /// The trace of an interpretation in which the axioms and the clauses of a condition are true is a counterexample.
 pub fn locality_holds()
     ensures { LocalityHolds }
+{}
+
+/// At the states of a condition only variables of its procedure have terms.
+pub fn only_variables_have_terms()
+    ensures { OnlyVariablesHaveTerms }
+{}
+
+/// Drawn over the variables of the condition's procedure, this trace refutes the condition.
+pub fn built_is_counterexample()
+    ensures { BuiltIsCounterexample }
 {}

@@ -1,4 +1,7 @@
 //! From traces to structures, and back.
 #![tactic(auto)]
 
+pub mod build;
 pub mod laws;
+#[cfg(test)]
+mod tests;

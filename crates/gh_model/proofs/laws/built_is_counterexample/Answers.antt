@@ -1,0 +1,5 @@
+use Rattle.gh_model.proofs.Counterexamples.{built_is_counterexample}
+use Rattle.gh_model.proofs.laws.built_is_counterexample.Goals as goal
+
+pub returns : goal.returns
+returns c = built_is_counterexample
