@@ -6,3 +6,9 @@ pub mod Reader
 pub mod Skipping
 pub mod Shown
 pub mod Whole
+pub mod Texts
+pub mod Values
+pub mod Lines
+pub mod DescribedLines
+pub mod Refuted
+pub mod Reports

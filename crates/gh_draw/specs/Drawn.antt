@@ -1,5 +1,5 @@
 -- Drawings as they are kept, and the files that have one.
-use Rattle.std.specs.Prelude.{◌≡◌, ◌≢◌, ℕ, suc, ◌-◌, ◌<◌, ◌≤◌, ◌^◌, List, [], ◌∷◌, ◌++◌, codes, All, Contains, Some, slice_get}
+use Rattle.std.specs.Prelude.{◌≡◌, ◌≢◌, ℕ, suc, ◌-◌, ◌<◌, ◌≤◌, ◌^◌, List, [], ◌∷◌, ◌++◌, codes, All, Contains, Some, slice_get, map}
 use Rattle.std.specs.List.{flat_map}
 use Rattle.std.specs.Fmt.{decimal}
 use Rattle.std.specs.FinMap.{entries}
@@ -8,8 +8,10 @@ use Rattle.gh_ast.specs.Programs.{Name, variable_names}
 use Rattle.gh_assert.specs.declared.store.Entry.{Entry}
 use Rattle.gh_assert.specs.Stores.{listed_names}
 use Rattle.gh_path.specs.Conditions.{Condition, conditions}
+use Rattle.gh_trace.specs.Kept.{state_of}
+use Rattle.gh_trace.specs.Validity.{Refutes}
 use Rattle.gh_trace.specs.declared.state.State.{State}
-use Rattle.gh_draw.specs.Drawings.{line, cell_text}
+use Rattle.gh_draw.specs.Drawings.{line, cell_text, drawing, IsDrawable}
 
 -- ` NAME=VALUE`
 abbrev pub entry_text : Entry → List ℕ
@@ -30,6 +32,11 @@ drawing_text number ss = codes "drawing\ncondition " ++ decimal number ++ codes 
 
 abbrev pub IsValue : ℕ → Type 0
 IsValue n = n < 2 ^ 32
+
+-- all values of the variables and all cells are within 32 bits
+pub record HasValues (s : State) : Type 0 where
+  pub values : All (λ e. IsValue e.value) s.store
+  pub cells : All (λ c. IsValue c.0 × IsValue c.1) (entries s.heap)
 
 -- the cell of a place that isn't null
 pub record IsDrawnCell (cell : ℕ × ℕ) : Type 0 where
@@ -63,3 +70,9 @@ pub record IsFileOf (P : Program) (text : List ℕ) (number : ℕ) (ss : List St
   pub others : All IsOtherLine skipped
   pub whole : text ≡ flat_map line skipped ++ drawing_text number ss
   pub drawn : IsDrawnFor P number ss
+
+-- kept states of a condition, drawn under its number: the text is that of the states that they stand for, which refute it and have no greater values
+pub record IsTold (P : Program) (number : ℕ) (c : Condition) (ss : List State) : Type 0 where
+  pub text : drawing_text number ss ≡ drawing number (variable_names c.procedure) (map state_of ss)
+  pub refutes : Refutes P c (map state_of ss)
+  pub drawable : All (IsDrawable (variable_names c.procedure)) (map state_of ss)

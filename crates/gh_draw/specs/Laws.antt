@@ -1,8 +1,17 @@
 -- Drawings and their files.
-use Rattle.std.specs.Prelude.{◌≡◌, ℕ, List}
+use Rattle.std.specs.Prelude.{◌≡◌, ℕ, ◌-◌, ◌≤◌, List, ◌++◌, map, All, Contains, Some, slice_get}
+use Rattle.std.specs.List.{flat_map}
+use Rattle.gh_ast.specs.Grammar.{Spells}
 use Rattle.gh_ast.specs.Plain.{Program}
+use Rattle.gh_ast.specs.Programs.{variable_names}
+use Rattle.gh_ast.specs.Rules.{IsTyped}
+use Rattle.gh_path.specs.Conditions.{Condition, conditions}
+use Rattle.gh_trace.specs.Kept.{state_of, drawn}
+use Rattle.gh_trace.specs.Replay.{Refutes}
 use Rattle.gh_trace.specs.declared.state.State.{State}
-use Rattle.gh_draw.specs.Drawn.{drawing_text, IsDrawnFor, IsFileOf}
+use Rattle.gh_draw.specs.Descriptions.{description}
+use Rattle.gh_draw.specs.Drawings.{line, drawing}
+use Rattle.gh_draw.specs.Drawn.{drawing_text, IsValue, HasValues, IsDrawnFor, IsTold, IsOtherLine, IsFileOf}
 
 -- a file has at most one drawing of a condition of the program
 abbrev pub DrawingsAreOne : Type 0
@@ -11,3 +20,28 @@ DrawingsAreOne = (P : Program) (text : List ℕ) (n m : ℕ) (xs ys : List State
 -- the text of a drawing is a file that has it
 abbrev pub DrawingsAreFiles : Type 0
 DrawingsAreFiles = (P : Program) (n : ℕ) (xs : List State) → IsDrawnFor P n xs → IsFileOf P (drawing_text n xs) n xs
+
+-- the text of a drawing is that of its states over the variables of its condition
+abbrev pub DrawingsAreTold : Type 0
+DrawingsAreTold = (P : Program) (n : ℕ) (xs : List State) → IsTyped P → (d : IsDrawnFor P n xs) → drawing_text n xs ≡ drawing n (variable_names d.condition.procedure) (map state_of xs)
+
+-- a report that ends in a drawing, after other lines, is a file that has it
+abbrev pub ReportsAreFiles : Type 0
+ReportsAreFiles = (P : Program) (lines : List (List ℕ)) (n : ℕ) (xs : List State) → IsTyped P → All IsOtherLine lines → (d : IsDrawnFor P n xs)
+    → IsFileOf P (flat_map line lines ++ drawing n (variable_names d.condition.procedure) (map state_of xs)) n xs
+
+-- kept states that refute the condition of a number are told by their drawing
+abbrev pub RefutationsAreTold : Type 0
+RefutationsAreTold =
+    (P : Program) (n : ℕ) (c : Condition) (xs : List State) → IsTyped P → slice_get (conditions P) (n - 1) ≡ Some c → Refutes P c (map drawn xs) → All HasValues xs → IsTold P n c xs
+
+-- the description of a condition of a program that a text spells is a line that may stand before a drawing
+abbrev pub DescriptionsAreLines : Type 0
+DescriptionsAreLines = (source : List ℕ) (P : Program) (c : Condition) → Spells source P → Contains (conditions P) c → IsOtherLine (description c)
+
+-- and so the report on what they refute, a line, the description and the drawing, is a file that has them
+abbrev pub RefutationsAreFiles : Type 0
+RefutationsAreFiles =
+    (source : List ℕ) (P : Program) (first : List ℕ) (n : ℕ) (c : Condition) (xs : List State) → Spells source P → IsTyped P → IsOtherLine first → 1 ≤ n → IsValue n
+    → slice_get (conditions P) (n - 1) ≡ Some c → Refutes P c (map drawn xs) → All HasValues xs
+    → IsFileOf P (line first ++ line (description c) ++ drawing n (variable_names c.procedure) (map state_of xs)) n xs

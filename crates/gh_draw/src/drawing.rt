@@ -1,12 +1,12 @@
 //! Drawings and their texts.
 
-ghost use Rattle.std.specs.Prelude.{◌≡◌, ◌++◌, IfOk, OnOk};
+ghost use Rattle.std.specs.Prelude.{◌≡◌, ◌++◌, All, IfOk, OnOk};
 ghost use Rattle.std.specs.List.{flat_map};
 ghost use Rattle.std.specs.Fmt.{decimal};
 ghost use Rattle.std.specs.FinMap.{entries};
 ghost use Rattle.gh_assert.specs.Cells.{pair_of};
 ghost use Rattle.gh_draw.specs.Drawings.{cell_text};
-ghost use Rattle.gh_draw.specs.Drawn.{entry_text, kept_text, kept_texts, drawing_text};
+ghost use Rattle.gh_draw.specs.Drawn.{entry_text, kept_text, kept_texts, drawing_text, IsValue, HasValues};
 
 use gh_assert::heap::{Cell, Heap};
 use gh_assert::store::{Entry, Store};
@@ -32,7 +32,8 @@ fn push_number(out: &mut Text, digits: &mut String, number: usize) -> Result<(),
 }
 
 fn push_entry(out: &mut Text, digits: &mut String, entry: &Entry) -> Result<(), AllocError>
-    ensures { OnOk result (out.new ≡ out.old ++ entry_text entry.now) }
+    ensures text { OnOk result (out.new ≡ out.old ++ entry_text entry.now) }
+    ensures value { OnOk result (IsValue entry.now.value) }
 {
     out.push(b" ")?;
     out.push(entry.name.bytes())?;
@@ -42,7 +43,8 @@ fn push_entry(out: &mut Text, digits: &mut String, entry: &Entry) -> Result<(), 
 }
 
 fn push_cell(out: &mut Text, digits: &mut String, cell: &Cell) -> Result<(), AllocError>
-    ensures { OnOk result (out.new ≡ out.old ++ cell_text (pair_of cell.now)) }
+    ensures text { OnOk result (out.new ≡ out.old ++ cell_text (pair_of cell.now)) }
+    ensures values { OnOk result (IsValue cell.now.at × IsValue cell.now.to) }
 {
     out.push(b" ")?;
     push_number(out, digits, cell.at as usize)?;
@@ -52,7 +54,8 @@ fn push_cell(out: &mut Text, digits: &mut String, cell: &Cell) -> Result<(), All
 }
 
 fn push_store(out: &mut Text, digits: &mut String, store: &Store) -> Result<(), AllocError>
-    ensures { OnOk result (out.new ≡ out.old ++ flat_map entry_text store.now) }
+    ensures text { OnOk result (out.new ≡ out.old ++ flat_map entry_text store.now) }
+    ensures values { OnOk result (All (λ e. IsValue e.value) store.now) }
 {
     for entry in store.entries() {
         push_entry(out, digits, entry)?;
@@ -61,7 +64,8 @@ fn push_store(out: &mut Text, digits: &mut String, store: &Store) -> Result<(), 
 }
 
 fn push_heap(out: &mut Text, digits: &mut String, heap: &Heap) -> Result<(), AllocError>
-    ensures { OnOk result (out.new ≡ out.old ++ flat_map cell_text (entries heap.now)) }
+    ensures text { OnOk result (out.new ≡ out.old ++ flat_map cell_text (entries heap.now)) }
+    ensures values { OnOk result (All (λ c. IsValue c.0 × IsValue c.1) (entries heap.now)) }
 {
     for cell in heap.cells() {
         push_cell(out, digits, cell)?;
@@ -75,7 +79,8 @@ fn push_state(
     number: usize,
     state: &State,
 ) -> Result<(), AllocError>
-    ensures { OnOk result (out.new ≡ out.old ++ kept_text number state.now) }
+    ensures text { OnOk result (out.new ≡ out.old ++ kept_text number state.now) }
+    ensures values { OnOk result (HasValues state.now) }
 {
     out.push(b"state ")?;
     push_number(out, digits, number)?;
@@ -88,7 +93,8 @@ fn push_state(
 }
 
 fn push_states(out: &mut Text, digits: &mut String, states: &[State]) -> Result<(), AllocError>
-    ensures { OnOk result (out.new ≡ out.old ++ kept_texts 0 states.now) }
+    ensures text { OnOk result (out.new ≡ out.old ++ kept_texts 0 states.now) }
+    ensures values { OnOk result (All HasValues states.now) }
 {
     for (number, state) in states.iter().enumerate() {
         push_state(out, digits, number, state)?;
@@ -96,9 +102,10 @@ fn push_states(out: &mut Text, digits: &mut String, states: &[State]) -> Result<
     Ok(())
 }
 
-/// The text of a drawing.
+/// The text of a drawing. Its values are within 32 bits, as their types say.
 pub fn draw(alloc: Global, drawing: &Drawing) -> Result<Text, AllocError>
-    ensures { IfOk result (λ t. t ≡ drawing_text drawing.now.condition drawing.now.trace.states.items) }
+    ensures text { IfOk result (λ t. t ≡ drawing_text drawing.now.condition drawing.now.trace.states.items) }
+    ensures values { OnOk result (All HasValues drawing.now.trace.states.items) }
 {
     let mut text = Text::new(alloc);
     let mut digits = String::new(alloc);

@@ -1,7 +1,7 @@
 //! Laws of drawings. Together with what `draw` and `read_drawing` say, they make a drawing that is
 //! written read back as itself.
 
-ghost use Rattle.gh_draw.specs.Laws.{DrawingsAreOne, DrawingsAreFiles};
+ghost use Rattle.gh_draw.specs.Laws.{DrawingsAreOne, DrawingsAreFiles, DrawingsAreTold, ReportsAreFiles, RefutationsAreTold, DescriptionsAreLines, RefutationsAreFiles};
 
 /// A file has at most one drawing of a condition of a program.
 pub fn drawings_are_one()
@@ -11,4 +11,30 @@ pub fn drawings_are_one()
 /// The text of a drawing is a file that has it.
 pub fn drawings_are_files()
     ensures { DrawingsAreFiles }
+{}
+
+/// The text of a drawing is that of its states over the variables of its condition.
+pub fn drawings_are_told()
+    ensures { DrawingsAreTold }
+{}
+
+/// A report that ends in a drawing, after other lines, is a file that has it.
+pub fn reports_are_files()
+    ensures { ReportsAreFiles }
+{}
+
+/// The drawing of states that refute a condition is that of the plain states that they stand for,
+/// which refute it too.
+pub fn refutations_are_told()
+    ensures { RefutationsAreTold }
+{}
+
+/// A description is one line, and not the line that begins a drawing.
+pub fn descriptions_are_lines()
+    ensures { DescriptionsAreLines }
+{}
+
+/// The report on a refuted condition is a drawing file.
+pub fn refutations_are_files()
+    ensures { RefutationsAreFiles }
 {}

@@ -1,0 +1,93 @@
+-- The text of a drawing is that of its states over the variables of its condition.
+use Rattle.std.specs.Prelude.{◌≡◌, ◌≢◌, ℕ, suc, ◌+◌, ◌-◌, ◌<◌, List, [], ◌∷◌, ◌++◌, codes, length, map, All, AllPairs, Contains, Some, get_or, slice_get, unwrap_or}
+use Rattle.std.specs.List.{flat_map}
+use Rattle.std.specs.Fmt.{decimal}
+use Rattle.std.specs.FinMap.{entries}
+use Rattle.std.proofs.Common.{refl, sym, ◌∙◌, ap, subst, arith}
+use Rattle.std.proofs.lemmas.List.{get_or-map, get_or_default, length-map, append_assoc}
+use Rattle.std.proofs.lemmas.List.Elements.{All-head, All-tail}
+use Rattle.std.proofs.lemmas.Option.{slice_get_within, get_or_from_slice_get}
+use Rattle.gh_ast.specs.Plain.{Program}
+use Rattle.gh_ast.specs.Programs.{Name, variable_names}
+use Rattle.gh_ast.specs.Rules.{IsTyped}
+use Rattle.gh_ast.proofs.TypedPrograms.{variables_are_distinct}
+use Rattle.gh_assert.specs.declared.store.Entry.{Entry}
+use Rattle.gh_assert.specs.Stores.{listed_names, AreDistinct, store_of, IsListedAt}
+use Rattle.gh_assert.proofs.Entries.{listed_here}
+use Rattle.gh_path.specs.Conditions.{Condition, conditions}
+use Rattle.gh_path.proofs.Listed.{all_are_listed}
+use Rattle.gh_trace.specs.Kept.{state_of}
+use Rattle.gh_trace.specs.Traces as plain
+use Rattle.gh_trace.specs.declared.state.State.{State}
+use Rattle.gh_draw.specs.Drawings.{line, value_text, cell_text, state_text, states_text, drawing}
+use Rattle.gh_draw.specs.Drawn.{entry_text, kept_text, kept_texts, drawing_text, IsDrawnState, IsDrawnFor}
+
+-- each entry is the first of its name
+first_of_name : (es : List Entry) → AreDistinct es → (i : ℕ) (d : Entry) → i < length es → IsListedAt es (get_or es i d).name i
+first_of_name es apart i d h = record {
+  within = h;
+  named = λ e. ap (λ (x : Entry). x.name) (get_or_default es i e d h);
+  earlier = λ k e l same.
+      let here : get_or (listed_names es) i [] ≡ (get_or es i d).name = get_or-map (λ (x : Entry). x.name) es i d [] h in
+      let there : get_or (listed_names es) k [] ≡ (get_or es k e).name = get_or-map (λ (x : Entry). x.name) es k e [] (omega (arith, l, h)) in
+      apart k i [] l (omega (arith, h, length-map es (λ (x : Entry). x.name))) (there ∙ (same ∙ sym here));
+}
+
+-- the store tells what its entries list
+tells : (es : List Entry) → AreDistinct es → All (λ e. store_of es e.name ≡ e.value) es
+tells es apart i d h = ap (λ o. unwrap_or o 0) (listed_here es (get_or es i d).name i d (first_of_name es apart i d h))
+
+values_told : (x : plain.State) (es : List Entry) → All (λ e. x.store e.name ≡ e.value) es → flat_map entry_text es ≡ flat_map (value_text x) (listed_names es)
+values_told x [] p = refl
+values_told x (e ∷ es) p =
+    let first : x.store e.name ≡ e.value = All-head (λ (y : Entry). x.store y.name ≡ y.value) e es p in
+    let rest = values_told x es (All-tail (λ (y : Entry). x.store y.name ≡ y.value) e es p) in
+    ap (λ v. (codes " " ++ e.name ++ codes "=" ++ decimal v) ++ flat_map entry_text es) (sym first) ∙ ap (λ z. value_text x e.name ++ z) rest
+
+state_apart : (d e c : List ℕ) → (((((codes "state " ++ d) ++ codes "\nstore") ++ e) ++ codes "\nheap") ++ c) ++ codes "\n" ≡ ((((((codes "state " ++ d) ++ (10 ∷ [])) ++ codes "store") ++ e) ++ (10 ∷ [])) ++ codes "heap" ++ c) ++ (10 ∷ [])
+state_apart d e c = simp append_assoc
+
+state_told : (ns : List Name) (k : ℕ) (s : State) → AllPairs (λ x y. x ≢ y) ns → IsDrawnState ns s → kept_text k s ≡ state_text ns k (state_of s)
+state_told ns k s apart d =
+    let names : listed_names s.store ≡ ns = d.over in
+    let distinct : AreDistinct s.store = subst (λ (zs : List Name). AllPairs (λ x y. x ≢ y) zs) (sym names) apart in
+    let values : flat_map entry_text s.store ≡ flat_map (value_text (state_of s)) ns =
+    values_told (state_of s) s.store (tells s.store distinct) ∙ ap (λ zs. flat_map (value_text (state_of s)) zs) names in
+    state_apart (decimal k) (flat_map entry_text s.store) (flat_map cell_text (entries s.heap))
+    ∙ ap (λ z. codes "state " ++ decimal k ++ (10 ∷ []) ++ codes "store" ++ z ++ (10 ∷ []) ++ codes "heap" ++ flat_map cell_text (entries s.heap) ++ (10 ∷ [])) values
+
+states_told : (ns : List Name) (k : ℕ) (ss : List State) → AllPairs (λ x y. x ≢ y) ns → All (IsDrawnState ns) ss → kept_texts k ss ≡ states_text ns k (map state_of ss)
+states_told ns k [] apart p = refl
+states_told ns k (s ∷ ss) apart p =
+    ap (λ z. z ++ kept_texts (suc k) ss) (state_told ns k s apart (All-head (IsDrawnState ns) s ss p))
+    ∙ ap (λ z. state_text ns k (state_of s) ++ z) (states_told ns (suc k) ss apart (All-tail (IsDrawnState ns) s ss p))
+
+drawing_apart : (d s : List ℕ) → ((codes "drawing\ncondition " ++ d) ++ codes "\n") ++ s ++ codes "end\n" ≡ (((codes "drawing" ++ (10 ∷ [])) ++ ((codes "condition " ++ d) ++ (10 ∷ []))) ++ s) ++ (codes "end" ++ (10 ∷ []))
+drawing_apart d s = simp append_assoc
+
+at_split : (before after : List Condition) (c : Condition) → slice_get (before ++ c ∷ after) (length before) ≡ Some c
+at_split [] after c = refl
+at_split (b ∷ before) after c = at_split before after c
+
+-- the condition after all those before it has the next number
+pub numbered_by_split : (P : Program) (n : ℕ) (c : Condition) (before after : List Condition) → conditions P ≡ before ++ c ∷ after → n ≡ length before + 1 → slice_get (conditions P) (n - 1) ≡ Some c
+numbered_by_split P n c before after whole number =
+    let place : n - 1 ≡ length before = omega (arith, number) in
+    ap (λ k. slice_get (conditions P) k) place ∙ ap (λ cs. slice_get cs (length before)) whole ∙ at_split before after c
+
+-- the condition of a number is one of the program
+pub numbered_there : (P : Program) (n : ℕ) (c : Condition) → slice_get (conditions P) (n - 1) ≡ Some c → Contains (conditions P) c
+numbered_there P n c numbered = (n - 1, slice_get_within (conditions P) (n - 1) c numbered, get_or_from_slice_get (conditions P) (n - 1) c c numbered)
+
+names_apart : (P : Program) (n : ℕ) (c : Condition) → IsTyped P → slice_get (conditions P) (n - 1) ≡ Some c → AllPairs (λ x y. x ≢ y) (variable_names c.procedure)
+names_apart P n c typed numbered = variables_are_distinct P typed c.procedure ((all_are_listed P c).0 (numbered_there P n c numbered)).declared
+
+pub numbered_told : (P : Program) (n : ℕ) (c : Condition) (xs : List State) → IsTyped P → slice_get (conditions P) (n - 1) ≡ Some c → All (IsDrawnState (variable_names c.procedure)) xs
+    → drawing_text n xs ≡ drawing n (variable_names c.procedure) (map state_of xs)
+numbered_told P n c xs typed numbered are =
+    let ns = variable_names c.procedure in
+    drawing_apart (decimal n) (kept_texts 0 xs)
+    ∙ ap (λ z. line (codes "drawing") ++ line (codes "condition " ++ decimal n) ++ z ++ line (codes "end")) (states_told ns 0 xs (names_apart P n c typed numbered) are)
+
+pub drawing_told : (P : Program) (n : ℕ) (xs : List State) → IsTyped P → (d : IsDrawnFor P n xs) → drawing_text n xs ≡ drawing n (variable_names d.condition.procedure) (map state_of xs)
+drawing_told P n xs typed d = numbered_told P n d.condition xs typed d.numbered d.states
