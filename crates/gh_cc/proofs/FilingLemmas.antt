@@ -27,12 +27,15 @@ use Rattle.gh_cc.proofs.SignLemmas.{find_sound}
 pub reps_range : (n : ℕ) (links : List Link) (t : ℕ) → AreMerges n links → t < n → reps links t < n
 reps_range n links t m h = rep_range n links (length links) t m (omega arith) h
 
+pub normal_below : (s : Sizes) (r : ℕ → ℕ) (a : Atom) → ((t : ℕ) → t < s.terms → r t < s.terms) → IsInRange s a → IsInRange s (normal r a)
+normal_below s r (Eq a b) m h = h
+normal_below s r (Btwn v x y z) m h = (h.0, m x.0 h.1, m y.0 h.2, m z.0 h.3)
+normal_below s r (Hop v x y) m h = (h.0, m x.0 h.1, m y.0 h.2)
+normal_below s r (Alloc v x) m h = (h.0, m x.0 h.1)
+normal_below s r (Def k) m h = h
+
 pub normal_range : (s : Sizes) (links : List Link) (a : Atom) → AreMerges s.terms links → IsInRange s a → IsInRange s (normal (reps links) a)
-normal_range s links (Eq a b) m h = h
-normal_range s links (Btwn v x y z) m h = (h.0, reps_range s.terms links x.0 m h.1, reps_range s.terms links y.0 m h.2, reps_range s.terms links z.0 m h.3)
-normal_range s links (Hop v x y) m h = (h.0, reps_range s.terms links x.0 m h.1, reps_range s.terms links y.0 m h.2)
-normal_range s links (Alloc v x) m h = (h.0, reps_range s.terms links x.0 m h.1)
-normal_range s links (Def k) m h = h
+normal_range s links a m h = normal_below s (reps links) a (λ t below. reps_range s.terms links t m below) h
 
 -- coarser representatives forget finer ones
 pub normal_coarser : (r more : ℕ → ℕ) → ((t : ℕ) → more (r t) ≡ more t) → (a : Atom) → normal more (normal r a) ≡ normal more a

@@ -76,18 +76,18 @@ step_some lits i x p now a b false h at within is order from to did = (
 )
 
 -- an atom has the truth of its normal form
-pub normal_truth : (m : Interpretation) (s : Sizes) (links : List Link) (a : Atom) → IsCongruence s m → Respects m.class links (length links) → AreMerges s.terms links → IsInRange s a
+pub normal_truth : (m : Interpretation) (s : Sizes) (links : List Link) (a : Atom) → IsCongruence s m → Respects m.class links (length links) → IsInRange s (normal (reps links) a) → IsInRange s a
     → atom_truth m (normal (reps links) a) ≡ atom_truth m a
-normal_truth m s links (Eq a b) congruence h merges inside = refl
-normal_truth m s links (Btwn v x y z) congruence h merges inside =
-    congruence.btwn v _ _ _ x y z (normal_range s links (Btwn v x y z) merges inside) inside
+normal_truth m s links (Eq a b) congruence h form inside = refl
+normal_truth m s links (Btwn v x y z) congruence h form inside =
+    congruence.btwn v _ _ _ x y z form inside
     (rep_sound m.class links (length links) x.0 (omega arith) h) (rep_sound m.class links (length links) y.0 (omega arith) h) (rep_sound m.class links (length links) z.0 (omega arith) h)
-normal_truth m s links (Hop v x y) congruence h merges inside =
-    congruence.hop v _ _ x y (normal_range s links (Hop v x y) merges inside) inside
+normal_truth m s links (Hop v x y) congruence h form inside =
+    congruence.hop v _ _ x y form inside
     (rep_sound m.class links (length links) x.0 (omega arith) h) (rep_sound m.class links (length links) y.0 (omega arith) h)
-normal_truth m s links (Alloc v x) congruence h merges inside =
-    congruence.alloc v _ x (normal_range s links (Alloc v x) merges inside) inside (rep_sound m.class links (length links) x.0 (omega arith) h)
-normal_truth m s links (Def k) congruence h merges inside = refl
+normal_truth m s links (Alloc v x) congruence h form inside =
+    congruence.alloc v _ x form inside (rep_sound m.class links (length links) x.0 (omega arith) h)
+normal_truth m s links (Def k) congruence h form inside = refl
 
 both_false : (p q t : Bool) → under p t ≡ false → under q t ≡ false → p ≡ q
 both_false true true t e f = refl
@@ -119,10 +119,11 @@ settled_follows s lits p l all terms h there settled = record {
           | inr w ↦
               let k = w.1.0 in
               let range : (x : Lit) → Contains lits x → IsInRange s x.atom = λ x c. All-contains (λ (y : Lit). IsInRange s y.atom) lits x all c in
-              let forms : normal (reps links) k.atom ≡ normal (reps links) l.atom =
-              atoms_apart s _ _ (normal_range s links k.atom merges (range k w.1.1)) (normal_range s links l.atom merges (range l there)) w.1.2.key in
+              let form = normal_range s links k.atom merges (range k w.1.1) in
+              let form' = normal_range s links l.atom merges (range l there) in
+              let forms : normal (reps links) k.atom ≡ normal (reps links) l.atom = atoms_apart s _ _ form form' w.1.2.key in
               let truths : atom_truth m k.atom ≡ atom_truth m l.atom =
-              sym (normal_truth m s links k.atom congruence holds merges (range k w.1.1)) ∙ ap (atom_truth m) forms ∙ normal_truth m s links l.atom congruence holds merges (range l there) in
+              sym (normal_truth m s links k.atom congruence holds form (range k w.1.1)) ∙ ap (atom_truth m) forms ∙ normal_truth m s links l.atom congruence holds form' (range l there) in
               let off' : IsLitFalse m k = All-contains (IsLitFalse m) lits k none w.1.1 in
               absurd (w.1.2.signs (both_false k.positive l.positive (atom_truth m l.atom) (ap (under k.positive) (sym truths) ∙ off') off))
         ]

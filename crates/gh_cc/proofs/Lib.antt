@@ -10,6 +10,7 @@ pub mod SameLemmas
 pub mod RefuteLemmas
 pub mod ConsistentLemmas
 pub mod LemmaLemmas
+pub mod TruthLemmas
 pub mod UseLemmas
 pub mod CountLemmas
 pub mod MoveLemmas

@@ -75,17 +75,20 @@ rep_front links more d t h = sym (rep_agree links (links ++ more) d (λ i below.
 pub rep_take : (m : ℕ) (links : List Link) (d t : ℕ) → d ≤ m → rep (take m links) d t ≡ rep links d t
 rep_take m links d t h = rep_agree (take m links) links d (λ i below. get_or_take m links i (omega arith)) t
 
-pub rep_range : (n : ℕ) (links : List Link) (d t : ℕ) → AreMerges n links → d ≤ length links → t < n → rep links d t < n
-rep_range n links zero t m h below = below
-rep_range n links (suc d) t m h below =
+-- where links lead to terms below a bound, representatives stand below it
+pub rep_below : (n : ℕ) (links : List Link) (d t : ℕ) → ((i : ℕ) (l : Link) → slice_get links i ≡ Some l → l.to.0 < n) → d ≤ length links → t < n → rep links d t < n
+rep_below n links zero t m h below = below
+rep_below n links (suc d) t m h below =
     let w = get_some links d (omega arith) in
     let l = w.0 in
-    let facts = m d l w.1 in
     let step = rep_step links d l t w.1 in
     elim (relabel_cases (rep links d) l t) as (λ _. rep links (suc d) t < n) [
-      | inl c ↦ rw (step ∙ c.1) (rep_range n links d l.to.0 m (omega arith) facts.1)
-      | inr c ↦ rw (step ∙ c.1) (rep_range n links d t m (omega arith) below)
+      | inl c ↦ rw (step ∙ c.1) (rep_below n links d l.to.0 m (omega arith) (m d l w.1))
+      | inr c ↦ rw (step ∙ c.1) (rep_below n links d t m (omega arith) below)
     ]
+
+pub rep_range : (n : ℕ) (links : List Link) (d t : ℕ) → AreMerges n links → d ≤ length links → t < n → rep links d t < n
+rep_range n links d t m h below = rep_below n links d t (λ i l at. (m i l at).1) h below
 
 -- no link joins a term that isn't there
 pub rep_past : (n : ℕ) (links : List Link) (d t : ℕ) → AreMerges n links → d ≤ length links → n ≤ t → rep links d t ≡ t

@@ -3,16 +3,16 @@
 ghost use Rattle.std.specs.Prelude.{◌≡◌, ◌<◌, ◌≤◌, ◌∷◌, ◌++◌, ◌↔◌, [], IfOk, IfSome, IfNone, IsTrue, length, take};
 ghost use Rattle.gh_cc.specs.Kept.{first_clash, clash_before};
 ghost use Rattle.gh_base.specs.Atoms.{IsInRange};
-ghost use Rattle.gh_cc.specs.Asserted.{IsFree, AreEqual, IsConsistent, IsConflict};
+ghost use Rattle.gh_cc.specs.Asserted.{IsFree, AreEqual, HasTruth, IsConsistent, IsConflict};
 
 use crate::clash::Clash;
-use crate::filing::take_in;
+use crate::filing::{key, take_in};
 use crate::moving::mention;
 use crate::partition::Partition;
 use crate::refuting::refutation;
 use crate::signs::Signs;
 use crate::uses::Uses;
-use gh_base::atom::{Lit, Term};
+use gh_base::atom::{Atom, Lit, Term};
 use gh_base::clause::Clause;
 use gh_base::sizes::Sizes;
 use std::alloc::{AllocError, Global};
@@ -170,6 +170,19 @@ impl Classes {
         ensures { IsTrue result ↔ AreEqual self.now a b }
     {
         self.partition.class_of(a).0 == self.partition.class_of(b).0
+    }
+
+    /// A truth that equality and congruence give an atom: an equality of terms of one class is true, and any other atom
+    /// has the truth of an asserted one over terms of the same classes. It takes constant time.
+    pub fn truth_of(&self, atom: Atom) -> Option<bool>
+        requires in_range { IsInRange self.now.sizes atom }
+        ensures { IfSome result (HasTruth self.now atom) }
+    {
+        if let Atom::Eq { a, b } = atom {
+            return if self.same(a, b) { Some(true) } else { None };
+        }
+        let place = self.signs.get(key(self.sizes, &self.partition, atom))?;
+        Some(self.lits[place as usize].positive)
     }
 
     /// The literals that stand asserted, in order.

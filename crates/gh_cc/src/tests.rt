@@ -342,6 +342,42 @@ fn lemmas(rt: HostRuntime) -> Result<(), AllocError> {
     Ok(())
 }
 
+// The truth of an atom that is in range.
+fn truth_of(classes: &Classes, lit: Lit) -> Option<bool> {
+    if !classes.sizes().has(lit.atom) {
+        return None;
+    }
+    classes.truth_of(lit.atom)
+}
+
+#[test]
+fn truths(rt: HostRuntime) -> Result<(), AllocError> {
+    let rows = [
+        (eq(1, 3, true), Some(true)),
+        (eq(2, 2, true), Some(true)),
+        (eq(0, 4, true), None),
+        (hop(3, 0, true), Some(true)),
+        (hop(2, 0, true), Some(false)),
+        (alloc(1, 3, true), Some(false)),
+        (alloc(0, 3, true), None),
+        (def(0, true), Some(true)),
+        (def(1, true), None),
+    ];
+    let asserted = [
+        hop(1, 0, true),
+        hop(2, 0, false),
+        eq(1, 3, true),
+        alloc(1, 1, false),
+        def(0, true),
+    ];
+    let mut classes = Classes::new(rt.alloc(), TERMS, 2, 2)?;
+    assert!(rt; has_conflict(rt.alloc(), &mut classes, &asserted, 0)?);
+    for (lit, wanted) in rows {
+        assert!(rt; truth_of(&classes, lit) == wanted);
+    }
+    Ok(())
+}
+
 // Each even term is allocated and no odd one is, and each term leads to the next.
 fn literal_of(atom: Atom) -> Option<Lit> {
     match atom {

@@ -2,7 +2,7 @@
 
 ghost use Rattle.std.specs.Prelude.{◌≡◌, [], IfOk};
 
-use gh_base::atom::Lit;
+use gh_base::atom::{Atom, Lit};
 use gh_base::clause::Clause;
 use gh_cc::classes::Classes;
 use gh_sat::theory::Theory;
@@ -48,6 +48,11 @@ impl Theory for Congruence {
 
     fn undo_to(&mut self, mark: u32) {
         self.classes.undo_to(mark);
+    }
+
+    // The truth that an atom has by congruence, else false.
+    fn prefers(&self, atom: Atom) -> bool {
+        self.classes.truth_of(atom).unwrap_or(false)
     }
 
     fn conflict(&self, alloc: Global) -> Result<Option<Clause>, AllocError> {

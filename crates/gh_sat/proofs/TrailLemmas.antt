@@ -1,18 +1,18 @@
 -- The tables of a trail, as steps come and go.
-use Rattle.std.proofs.Common.{◌≡◌, ◌≢◌, ℕ, suc, ◌+◌, ◌<◌, ◌≤◌, List, [], ◌∷◌, ◌++◌, length, take, Option, Some, None, Bool, true, false, inl, inr, refl, sym, ap, ◌∙◌, subst, arith, All, length-set}
+use Rattle.std.proofs.Common.{◌≡◌, ◌≢◌, ℕ, suc, ◌+◌, ◌-◌, ◌<◌, ◌≤◌, List, [], ◌∷◌, ◌++◌, length, take, Option, Some, None, Bool, true, false, if◌then◌else◌, inl, inr, refl, sym, ap, ◌∙◌, subst, arith, All, length-set}
 use Rattle.std.specs.Prelude.{slice_get, slice_set, option_map, not}
-use Rattle.std.proofs.lemmas.Bool.{cases_eq, cases_lt}
+use Rattle.std.proofs.lemmas.Bool.{cases_eq, cases_lt, lt-ltb, le-ltb}
 use Rattle.std.proofs.lemmas.List.{length_push}
 use Rattle.std.proofs.lemmas.Option.{get_or_from_slice_get, slice_get-get_or}
 use Rattle.gh_base.specs.declared.atom.Atom.{Atom}
 use Rattle.gh_base.specs.declared.atom.Lit.{Lit}
 use Rattle.gh_base.specs.declared.sizes.Sizes.{Sizes}
-use Rattle.gh_base.specs.Atoms.{opposite, IsInRange, number_of, count_of}
+use Rattle.gh_base.specs.Atoms.{opposite, IsInRange, number_of, btwn_start, count_of}
 use Rattle.gh_base.specs.Meaning.{under}
 use Rattle.gh_base.specs.Assignments.{Partial, value_of, value_at, with_value}
 use Rattle.gh_base.proofs.NumberLemmas.{number_below, apart}
 use Rattle.gh_sat.specs.declared.trail.Step.{Step}
-use Rattle.gh_sat.specs.Trail.{Stands, IsFree, IsValue, AreSteps, AreValues, ArePlaces, IsPassed, IsAssignmentOf, unassigned}
+use Rattle.gh_sat.specs.Trail.{Stands, IsFree, IsValue, AreSteps, AreValues, ArePlaces, IsPassed, turned, IsAssignmentOf, unassigned}
 use Rattle.gh_sat.proofs.ListLemmas.{get_within, get_front, get_push, get_last, take_get, get_set_same, get_set_other, fewer_left, more_left, some_left}
 
 pub same_lit : (l u : Lit) → l.atom ≡ u.atom → l.positive ≡ u.positive → l ≡ u
@@ -171,17 +171,48 @@ values_less p trail y v =
       small = v.small;
     }
 
-pub passed_set : (values : List (Option Bool)) (cursor a : ℕ) (b : Bool) → IsPassed values cursor → IsPassed (slice_set values a (Some b)) cursor
-passed_set values cursor a b p c h e = elim (cases_eq c a) [
+turned_low : (s : Sizes) (n : ℕ) → n < btwn_start s → turned s n ≡ n
+turned_low s n h = ap (λ (b : Bool). if b then n else (btwn_start s + (count_of s - 1 - n))) (lt-ltb n (btwn_start s) h)
+
+turned_high : (s : Sizes) (n : ℕ) → btwn_start s ≤ n → turned s n ≡ btwn_start s + (count_of s - 1 - n)
+turned_high s n h = ap (λ (b : Bool). if b then n else (btwn_start s + (count_of s - 1 - n))) (le-ltb n (btwn_start s) h)
+
+turned_back : (first count n : ℕ) → first ≤ n → n < count → first + (count - 1 - (first + (count - 1 - n))) ≡ n
+turned_back first count n h k = omega arith
+
+pub turned_below : (s : Sizes) (n : ℕ) → n < count_of s → turned s n < count_of s
+turned_below s n h = elim (cases_lt n (btwn_start s)) as (λ _. turned s n < count_of s) [
+  | inl lt ↦ omega (arith, turned_low s n lt)
+  | inr ge ↦ omega (arith, turned_high s n ge)
+]
+
+-- the number at the place of a number is that number
+pub turned_twice : (s : Sizes) (n : ℕ) → n < count_of s → turned s (turned s n) ≡ n
+turned_twice s n h = elim (cases_lt n (btwn_start s)) as (λ _. turned s (turned s n) ≡ n) [
+  | inl lt ↦ ap (turned s) (turned_low s n lt) ∙ turned_low s n lt
+  | inr ge ↦
+      let high : btwn_start s ≤ btwn_start s + (count_of s - 1 - n) = omega arith in
+      ap (turned s) (turned_high s n ge) ∙ turned_high s (btwn_start s + (count_of s - 1 - n)) high ∙ turned_back (btwn_start s) (count_of s) n ge h
+]
+
+still_set : (values : List (Option Bool)) (c a : ℕ) (b : Bool) → slice_get values c ≢ Some None → slice_get (slice_set values a (Some b)) c ≢ Some None
+still_set values c a b h e = elim (cases_eq c a) [
   | inl same ↦ elim (cases_lt a (length values)) [
     | inl lt ↦ let t : slice_get (slice_set values a (Some b)) c ≡ Some (Some b) = subst (λ d. slice_get (slice_set values a (Some b)) d ≡ Some (Some b)) (sym same) (get_set_same values a (Some b) lt) in cc
     | inr ge ↦ let w = get_within (slice_set values a (Some b)) c None e in absurd (omega (arith, length-set values a (Some b)))
   ]
-  | inr n ↦ p c h (sym (get_set_other values a c (Some b) n) ∙ e)
+  | inr n ↦ h (sym (get_set_other values a c (Some b) n) ∙ e)
 ]
 
-pub passed_unset : (values : List (Option Bool)) (cursor less a : ℕ) → less ≤ cursor → less ≤ a → IsPassed values cursor → IsPassed (slice_set values a None) less
-passed_unset values cursor less a h k p c lt e = let n : c ≢ a = omega arith in p c (omega arith) (sym (get_set_other values a c None n) ∙ e)
+pub passed_set : (p : Partial) (cursor : ℕ) (atom : Atom) (b : Bool) → IsPassed p cursor → IsPassed (with_value p atom (Some b)) cursor
+passed_set p cursor atom b h i lt = still_set p.values (turned p.sizes i) (number_of p.sizes atom) b (h i lt)
+
+pub passed_unset : (p : Partial) (cursor less : ℕ) (atom : Atom) → less ≤ cursor → cursor ≤ count_of p.sizes → less ≤ turned p.sizes (number_of p.sizes atom) → IsPassed p cursor → IsPassed (with_value p atom None) less
+passed_unset p cursor less atom h up k passed i lt e =
+    let n : turned p.sizes i ≢ number_of p.sizes atom = λ same.
+    let back : turned p.sizes (number_of p.sizes atom) ≡ i = ap (turned p.sizes) (sym same) ∙ turned_twice p.sizes i (omega arith) in
+    absurd (omega (arith, back)) in
+    passed i (omega arith) (sym (get_set_other p.values (number_of p.sizes atom) (turned p.sizes i) None n) ∙ e)
 
 all_none : (values : List (Option Bool)) (a : ℕ) (b : Bool) → All (λ v. v ≡ None) values → slice_get values a ≡ Some (Some b) → ⊥
 all_none values a b none e =
@@ -207,5 +238,9 @@ values_none p none long small = record {
 }
 
 -- all atoms before the end have a truth
-pub none_free : (p : Partial) (trail : List Step) (number : ℕ) → AreValues p trail → IsPassed p.values number → count_of p.sizes ≤ number → (a : Atom) → IsInRange p.sizes a → IsFree trail a → ⊥
-none_free p trail number v passed ge a r free = passed (number_of p.sizes a) (omega (arith, number_below p.sizes a r)) (free_is_none p trail a v free r)
+pub none_free : (p : Partial) (trail : List Step) (place : ℕ) → AreValues p trail → IsPassed p place → count_of p.sizes ≤ place → (a : Atom) → IsInRange p.sizes a → IsFree trail a → ⊥
+none_free p trail place v passed ge a r free =
+    let n : ℕ = number_of p.sizes a in
+    let below : n < count_of p.sizes = number_below p.sizes a r in
+    let low : turned p.sizes n < place = omega (arith, turned_below p.sizes n below) in
+    passed (turned p.sizes n) low (ap (slice_get p.values) (turned_twice p.sizes n below) ∙ free_is_none p trail a v free r)

@@ -1,9 +1,9 @@
 -- The trail of a search: the literals that are true, in the order in which they became so, and the levels that decisions open.
-use Rattle.std.specs.Prelude.{◌≡◌, ◌≢◌, ◌⊎◌, ℕ, zero, suc, ◌+◌, ◌<◌, ◌≤◌, List, [], ◌∷◌, ◌++◌, All, Contains, Bool, true, false, Option, Some, None, length, take, slice_get}
+use Rattle.std.specs.Prelude.{◌≡◌, ◌≢◌, ◌⊎◌, ℕ, zero, suc, ◌+◌, ◌-◌, ◌<◌, ◌≤◌, nat_lt, if◌then◌else◌, List, [], ◌∷◌, ◌++◌, All, Contains, Bool, true, false, Option, Some, None, length, take, slice_get}
 use Rattle.gh_base.specs.declared.atom.Atom.{Atom}
 use Rattle.gh_base.specs.declared.atom.Lit.{Lit}
 use Rattle.gh_base.specs.declared.sizes.Sizes.{Sizes}
-use Rattle.gh_base.specs.Atoms.{opposite, IsInRange, AreInRange, number_of, count_of}
+use Rattle.gh_base.specs.Atoms.{opposite, IsInRange, AreInRange, number_of, btwn_start, count_of}
 use Rattle.gh_base.specs.Assignments.{Partial, value_of}
 use Rattle.gh_sat.specs.declared.trail.Step.{Step}
 
@@ -101,9 +101,14 @@ pub record AreValues (p : Partial) (trail : List Step) : Type 0 where
 abbrev pub ArePlaces : Sizes → List ℕ → List Step → Type 0
 ArePlaces s places trail = (i : ℕ) (x : Step) → slice_get trail i ≡ Some x → slice_get places (number_of s x.lit.atom) ≡ Some i
 
--- the atoms whose numbers stand before the cursor have a truth
-abbrev pub IsPassed : List (Option Bool) → ℕ → Type 0
-IsPassed values cursor = (a : ℕ) → a < cursor → slice_get values a ≢ Some None
+-- the order of decisions: equalities, then the other atoms from the greatest number down. It gives the number at a place,
+-- and the place of a number
+abbrev pub turned : Sizes → ℕ → ℕ
+turned s n = if nat_lt n (btwn_start s) then n else (btwn_start s + (count_of s - 1 - n))
+
+-- the atoms whose places stand before the cursor have a truth
+abbrev pub IsPassed : Partial → ℕ → Type 0
+IsPassed p cursor = (i : ℕ) → i < cursor → slice_get p.values (turned p.sizes i) ≢ Some None
 
 -- an assignment that tells the truth of each literal by the trail
 pub record IsAssignmentOf (p : Partial) (t : Line) : Type 0 where

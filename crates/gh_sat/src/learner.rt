@@ -13,7 +13,7 @@ use crate::occurrences::Occurrences;
 use crate::propagation;
 use crate::trail::{Step, Trail};
 use gh_base::assignment::Assignment;
-use gh_base::atom::Lit;
+use gh_base::atom::{Atom, Lit};
 use gh_base::clause::Clause;
 use gh_base::ground::Ground;
 use gh_base::sizes::Sizes;
@@ -303,14 +303,25 @@ impl Learner {
         self.counts.push_reserved(self.clauses.len() as u32);
     }
 
-    /// Opens a level with the first atom that has no truth, made false, if there is one.
+    /// The first atom with no truth, if there is one: equalities come first, then the other atoms from the greatest
+    /// number down.
+    pub fn next_free(&mut self) -> Option<Atom>
+        ensures same { self.new ≡ self.old }
+        ensures some { IfSome result (λ a. IsInRange self.old.sizes a × IsFree self.old.trail a) }
+        ensures none { IfNone result ((a : Atom) → IsInRange self.old.sizes a → IsFree self.old.trail a → ⊥) }
+        ensures sound { IsSound self.new }
+    {
+        self.trail.next_free()
+    }
+
+    /// Opens a level with the atom of `next_free`, made false, if there is one.
     pub fn decide(&mut self) -> Option<Lit>
         requires { IsSettled self.old }
         ensures none { IfNone result ((self.new ≡ self.old) × ((a : Atom) → IsInRange self.old.sizes a → IsFree self.old.trail a → ⊥)) }
         ensures some { IfSome result (λ lit. IsInRange self.old.sizes lit.atom × IsFree self.old.trail lit.atom × (self.new ≡ open_level self.old lit)) }
         ensures sound { IsSound self.new }
     {
-        let atom = self.trail.next_free()?;
+        let atom = self.next_free()?;
         let lit = Lit {
             atom,
             positive: false,

@@ -14,7 +14,7 @@ use crate::learner::{Learner, Learnt};
 use crate::theory::Theory;
 use crate::trail::Step;
 use gh_base::assignment::Assignment;
-use gh_base::atom::Lit;
+use gh_base::atom::{Atom, Lit};
 use gh_base::clause::Clause;
 use gh_base::ground::Ground;
 use std::alloc::{AllocError, Global};
@@ -162,14 +162,21 @@ impl<T: Theory> Search<T> {
         }
     }
 
-    /// Opens a level with an unassigned atom, if there is one.
+    /// Opens a level with the first atom that has no truth, if there is one: equalities come first, then the other
+    /// atoms from the greatest number down. The theory says which truth is tried first.
     pub fn decide(&mut self) -> Option<Lit>
         requires settled { IsSettled self.old }
         requires consistent { HasNoConflict (T.valid self.old.sizes) self.old.trail }
         ensures none { IfNone result ((self.new ≡ self.old) × ((a : Atom) → IsInRange self.old.sizes a → IsFree self.old.trail a → ⊥)) }
         ensures some { IfSome result (λ lit. IsInRange self.old.sizes lit.atom × IsFree self.old.trail lit.atom × (self.new ≡ open_level self.old lit)) }
     {
-        self.learner.decide()
+        let atom = self.learner.next_free()?;
+        let lit = Lit {
+            atom,
+            positive: self.theory.prefers(atom),
+        };
+        self.learner.assume(lit);
+        Some(lit)
     }
 
     /// Adds the clause of the first unique implication point of a false clause.

@@ -13,7 +13,7 @@ use crate::search::Search;
 use crate::status::{Status, status_of};
 use crate::theory::Theory;
 use crate::trail::{Step, Trail};
-use gh_base::atom::{Atom, Lit};
+use gh_base::atom::{Atom, Lit, Term};
 use gh_base::clause::Clause;
 use gh_base::ground::Ground;
 use gh_base::sizes::Sizes;
@@ -72,6 +72,14 @@ impl Theory for Apart {
 
     fn undo_to(&mut self, mark: u32) {
         self.trail.erase(mark as usize);
+    }
+
+    // The last definition is tried true first, each other atom false.
+    fn prefers(&self, atom: Atom) -> bool {
+        match atom {
+            Atom::Def { number } => number == self.trail.sizes().defs - 1,
+            _ => false,
+        }
     }
 
     fn conflict(&self, alloc: Global) -> Result<Option<Clause>, AllocError> {
@@ -370,48 +378,100 @@ fn is_learnt(alloc: Global, lesson: &Lesson) -> Result<bool, AllocError> {
     )
 }
 
-// Four other atoms are decided first, at levels 1 to 4, then the definitions in their order, all made false.
+// The equality is decided first, at level 1, then the definitions from the last down, that one made true and the others
+// false.
 #[test]
 fn lessons(rt: HostRuntime) -> Result<(), Fail> {
     let lessons = [
         Lesson {
             defs: 4,
-            clauses: &[&[1, 2], &[1, -2]],
-            learnt: &[1],
+            clauses: &[&[2, 1], &[2, -1]],
+            learnt: &[2],
             level: 0,
-            unit: 1,
+            unit: 2,
         },
-        // the example of Marques-Silva and Sakallah (GRASP, 1996): x9, the opposites of x12 and x13, x10, x11, the
-        // opposite of x1, then x2 to x8
+        // the example of Marques-Silva and Sakallah (GRASP, 1996): 13 is x9, 12 and 11 are the opposites of x12 and x13,
+        // 10 is x10, 9 is x11, 8 is the opposite of x1, and 7 to 1 are x2 to x8
         Lesson {
             defs: 15,
             clauses: &[
-                &[6, 7],
-                &[6, 8, 1],
-                &[-7, -8, 9],
-                &[-9, 10, 4],
-                &[-9, 11, 5],
-                &[-10, -11],
-                &[-6, 12, 2],
-                &[-6, 13],
-                &[-12, -13, 3],
+                &[8, 7],
+                &[8, 6, 13],
+                &[-7, -6, 5],
+                &[-5, 4, 10],
+                &[-5, 3, 9],
+                &[-4, -3],
+                &[-8, 2, 12],
+                &[-8, 1],
+                &[-2, -1, 11],
             ],
-            learnt: &[-9, 4, 5],
-            level: 9,
-            unit: -9,
+            learnt: &[-5, 10, 9],
+            level: 8,
+            unit: -5,
         },
         // a conflict of the theory
         Lesson {
             defs: 3,
-            clauses: &[&[1, 2], &[1, 3]],
-            learnt: &[1],
+            clauses: &[&[-3, 2]],
+            learnt: &[-3],
             level: 0,
-            unit: 1,
+            unit: -3,
         },
     ];
     for lesson in &lessons {
         assert!(rt; is_learnt(rt.alloc(), lesson)?, "{:?}", lesson.learnt);
     }
+    Ok(())
+}
+
+// Whether the first literals of the trail are these after all is decided over two terms and two definitions.
+fn begins(alloc: Global, wanted: &[Lit]) -> Result<bool, AllocError> {
+    let mut ground = Ground::new(alloc, 2, 1);
+    ground.define();
+    ground.define();
+    let theory = Apart::new(alloc, ground.sizes())?;
+    let mut search = Search::new(alloc, &ground, theory)?;
+    next_conflict(alloc, &mut search)?;
+    let steps = search.steps();
+    Ok(
+        wanted.iter().enumerate().all(|(place, lit)| match steps.get(place) {
+            None => false,
+            Some(step) => step.lit.is_same(*lit),
+        }),
+    )
+}
+
+// An equality of two terms, made false.
+fn unequal(a: u8, b: u8) -> Lit {
+    Lit {
+        atom: Atom::equal(Term(a), Term(b)),
+        positive: false,
+    }
+}
+
+// The term isn't allocated.
+fn unallocated(x: u8) -> Lit {
+    Lit {
+        atom: Atom::Alloc {
+            version: 0,
+            x: Term(x),
+        },
+        positive: false,
+    }
+}
+
+#[test]
+fn decisions(rt: HostRuntime) -> Result<(), Fail> {
+    let wanted = [
+        unequal(0, 0),
+        unequal(0, 1),
+        unequal(1, 1),
+        def(1, true),
+        def(0, false),
+        unallocated(1),
+        unallocated(0),
+    ];
+    assert!(rt; begins(rt.alloc(), &wanted)?);
     Ok(())
 }
 
@@ -438,9 +498,9 @@ fn level_with(alloc: Global, names: &[i32]) -> Result<Option<(u32, bool)>, Alloc
 fn added(rt: HostRuntime) -> Result<(), Fail> {
     let rows: [(&[i32], u32, bool); 5] = [
         (&[-1, 2], 8, false),
-        (&[1, 2], 6, true),
-        (&[3, 1], 7, true),
-        (&[1], 5, true),
+        (&[1, 2], 5, true),
+        (&[3, 2], 4, true),
+        (&[3], 3, true),
         (&[], 0, true),
     ];
     for (names, level, is_false) in rows {

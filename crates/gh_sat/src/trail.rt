@@ -2,7 +2,7 @@
 
 ghost use Rattle.std.specs.Prelude.{◌≡◌, ◌≢◌, ◌<◌, ◌≤◌, ℕ, IfOk, IfSome, IfNone, Some, None, [], length, take, slice_get, vec_capacity};
 ghost use Rattle.gh_base.specs.Atoms.{IsInRange, count_of, number_of};
-ghost use Rattle.gh_sat.specs.Trail.{IsPassed};
+ghost use Rattle.gh_sat.specs.Trail.{IsPassed, turned};
 
 use gh_base::assignment::Assignment;
 use gh_base::atom::{Atom, Lit};
@@ -25,7 +25,7 @@ pub(crate) struct Trail {
     values: Assignment,
     places: Vec<u32>,
     steps: Vec<Step>,
-    // Each atom with a lower number has a truth.
+    // Each atom with a lower place in the order of decisions has a truth.
     cursor: u32,
 }
 
@@ -41,33 +41,45 @@ impl Model for Trail {
     ghost invariant = { λ t.
         AreValues t.values t.steps.items
         × ArePlaces t.values.sizes t.places.items t.steps.items
-        × IsPassed t.values.values t.cursor
+        × IsPassed t.values t.cursor
         × (t.cursor ≤ count_of t.values.sizes)
         × (length t.places.items ≡ count_of t.values.sizes)
         × (count_of t.values.sizes ≤ vec_capacity t.steps) };
 }
 
-// The first number from this one on whose atom has no truth, or the number of all atoms.
+// The number of the atom at a place in the order of decisions, and the place of the atom of a number: equalities stand
+// first, then the other atoms from the greatest number down.
+fn turned(sizes: Sizes, number: usize) -> usize
+    requires { number < count_of sizes }
+    ensures turned { result ≡ turned sizes number }
+    ensures below { result < count_of sizes }
+{
+    let terms = sizes.terms as usize;
+    let equalities = terms * (terms + 1) / 2;
+    if number < equalities {
+        number
+    } else {
+        equalities + (sizes.count() - 1 - number)
+    }
+}
+
+// The first place from this one on whose atom has no truth, or the number of all atoms.
 fn free_from(values: &Assignment, from: u32) -> u32
     requires range { from ≤ count_of values.now.sizes }
     ensures range { result ≤ count_of values.now.sizes }
-    ensures passed { IsPassed values.now.values from → IsPassed values.now.values result }
-    ensures free { result < count_of values.now.sizes → slice_get values.now.values result ≡ Some None }
+    ensures passed { IsPassed values.now from → IsPassed values.now result }
+    ensures free { result < count_of values.now.sizes → slice_get values.now.values (turned values.now.sizes result) ≡ Some None }
 {
     let sizes = values.sizes();
-    let mut number = from;
-    while (number as usize) < sizes.count() {
-        let atom = sizes.atom(number as usize);
-        let lit = Lit {
-            atom,
-            positive: true,
-        };
-        if values.value(lit).is_none() {
-            return number;
+    let mut place = from;
+    while (place as usize) < sizes.count() {
+        let number = turned(sizes, place as usize);
+        if values.values()[number].is_none() {
+            return place;
         }
-        number += 1;
+        place += 1;
     }
-    number
+    place
 }
 
 impl Trail {
@@ -150,10 +162,11 @@ impl Trail {
         let Some(step) = self.steps.pop() else {
             return;
         };
-        let number = self.values.sizes().number(step.lit.atom) as u32;
+        let sizes = self.values.sizes();
+        let place = turned(sizes, sizes.number(step.lit.atom)) as u32;
         self.values.clear(step.lit.atom);
-        if number < self.cursor {
-            self.cursor = number;
+        if place < self.cursor {
+            self.cursor = place;
         }
     }
 
@@ -168,17 +181,18 @@ impl Trail {
         }
     }
 
-    /// The first atom with no truth, in the order of their numbers, if there is one.
+    /// The first atom with no truth, if there is one: equalities come first, then the other atoms from the greatest
+    /// number down.
     pub fn next_free(&mut self) -> Option<Atom>
         ensures same { self.new ≡ self.old }
         ensures some { IfSome result (λ a. IsInRange self.old.sizes a × IsFree self.old.steps a) }
         ensures none { IfNone result ((a : Atom) → IsInRange self.old.sizes a → IsFree self.old.steps a → ⊥) }
     {
-        let number = free_from(&self.values, self.cursor);
-        self.cursor = number;
+        let place = free_from(&self.values, self.cursor);
+        self.cursor = place;
         let sizes = self.values.sizes();
-        if (number as usize) < sizes.count() {
-            Some(sizes.atom(number as usize))
+        if (place as usize) < sizes.count() {
+            Some(sizes.atom(turned(sizes, place as usize)))
         } else {
             None
         }

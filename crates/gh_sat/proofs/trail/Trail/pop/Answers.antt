@@ -3,38 +3,42 @@ use Rattle.std.specs.Prelude.{vec_capacity}
 use Rattle.gh_base.specs.Assignments.{Partial, with_value}
 use Rattle.gh_base.specs.Atoms.{count_of, number_of}
 use Rattle.gh_sat.specs.declared.trail.Step.{Step}
-use Rattle.gh_sat.specs.Trail.{AreValues, ArePlaces, IsPassed}
+use Rattle.gh_sat.specs.Trail.{AreValues, ArePlaces, IsPassed, turned}
 use Rattle.gh_sat.proofs.ListLemmas.{get_front, le_along, le_le, le_same}
 use Rattle.gh_sat.proofs.TrailLemmas.{values_less, passed_unset}
 use Rattle.gh_sat.proofs.trail.Trail.pop.Goals as goal
 
-less : (p q : Partial) (places : List ℕ) (old new : List Step) (cursor low capacity capacity' : ℕ) (x : Step) → AreValues p old → ArePlaces p.sizes places old → IsPassed p.values cursor
+less : (p q : Partial) (places : List ℕ) (old new : List Step) (cursor low capacity capacity' : ℕ) (x : Step) → AreValues p old → ArePlaces p.sizes places old → IsPassed p cursor
     → cursor ≤ count_of p.sizes → length places ≡ count_of p.sizes → count_of p.sizes ≤ capacity → old ≡ new ++ x ∷ [] → q ≡ with_value p x.lit.atom None → capacity' ≡ capacity
-    → low ≤ cursor → low ≤ number_of p.sizes x.lit.atom
-    → AreValues q new × ArePlaces q.sizes places new × IsPassed q.values low × (low ≤ count_of q.sizes) × (length places ≡ count_of q.sizes) × (count_of q.sizes ≤ capacity')
+    → low ≤ cursor → low ≤ turned p.sizes (number_of p.sizes x.lit.atom)
+    → AreValues q new × ArePlaces q.sizes places new × IsPassed q low × (low ≤ count_of q.sizes) × (length places ≡ count_of q.sizes) × (count_of q.sizes ≤ capacity')
 less p q places old new cursor low capacity capacity' x v at passed up long room is made same h k =
     let next : AreValues (with_value p x.lit.atom None) new = values_less p new x (subst (AreValues p) is v) in
-    subst (λ (r : Partial). AreValues r new × ArePlaces r.sizes places new × IsPassed r.values low × (low ≤ count_of r.sizes) × (length places ≡ count_of r.sizes) × (count_of r.sizes ≤ capacity')) (sym made) (
+    subst (λ (r : Partial). AreValues r new × ArePlaces r.sizes places new × IsPassed r low × (low ≤ count_of r.sizes) × (length places ≡ count_of r.sizes) × (count_of r.sizes ≤ capacity')) (sym made) (
       next,
       λ i y here. subst (ArePlaces p.sizes places) is at i y (get_front new (x ∷ []) i y here),
-      passed_unset p.values cursor low (number_of p.sizes x.lit.atom) h k passed,
+      passed_unset p cursor low x.lit.atom h up k passed,
       le_le h up,
       long,
       le_along refl (sym same) room,
     )
 
-pub invariant_of-self-then-number-self : goal.invariant_of-self-then-number-self
-invariant_of-self-then-number-self c =
+pub invariant_of-self-then-place-self : goal.invariant_of-self-then-place-self
+invariant_of-self-then-place-self c =
     let s = c.self.inside in
     let i = c.self.invariant in
-    let number : c.number-number.result ≡ number_of s.values.sizes c.in-Some.step.lit.atom = c.number-number.ensures.number ∙ ap (λ z. number_of z c.in-Some.step.lit.atom) c.sizes.ensures.sizes in
-    less s.values c.clear.new.self s.places.items s.steps.items c.pop.new.self.items s.cursor c.number-number.result (vec_capacity s.steps) (vec_capacity c.pop.new.self) c.in-Some.step
-    i.0 i.1 i.2 i.3 i.4 i.5 c.in-Some.ensures.items c.clear.ensures.table c.pop.ensures.capacity (omega arith) (le_along refl number (le_same c.number-number.result))
+    let atom = c.in-Some.step.lit.atom in
+    let place : c.turned-place.result ≡ turned s.values.sizes (number_of s.values.sizes atom) =
+    c.turned-place.ensures.turned ∙ ap (turned c.sizes-sizes.result) c.number.ensures.number ∙ ap (λ z. turned z (number_of z atom)) c.sizes-sizes.ensures.sizes in
+    less s.values c.clear.new.self s.places.items s.steps.items c.pop.new.self.items s.cursor c.turned-place.result (vec_capacity s.steps) (vec_capacity c.pop.new.self) c.in-Some.step
+    i.0 i.1 i.2 i.3 i.4 i.5 c.in-Some.ensures.items c.clear.ensures.table c.pop.ensures.capacity (omega arith) (le_along refl place (le_same c.turned-place.result))
 
-pub invariant_of-self-else-number-self : goal.invariant_of-self-else-number-self
-invariant_of-self-else-number-self c =
+pub invariant_of-self-else-place-self : goal.invariant_of-self-else-place-self
+invariant_of-self-else-place-self c =
     let s = c.self.inside in
     let i = c.self.invariant in
-    let number : c.number-number.result ≡ number_of s.values.sizes c.in-Some.step.lit.atom = c.number-number.ensures.number ∙ ap (λ z. number_of z c.in-Some.step.lit.atom) c.sizes.ensures.sizes in
+    let atom = c.in-Some.step.lit.atom in
+    let place : c.turned-place.result ≡ turned s.values.sizes (number_of s.values.sizes atom) =
+    c.turned-place.ensures.turned ∙ ap (turned c.sizes-sizes.result) c.number.ensures.number ∙ ap (λ z. turned z (number_of z atom)) c.sizes-sizes.ensures.sizes in
     less s.values c.clear.new.self s.places.items s.steps.items c.pop.new.self.items s.cursor s.cursor (vec_capacity s.steps) (vec_capacity c.pop.new.self) c.in-Some.step
-    i.0 i.1 i.2 i.3 i.4 i.5 c.in-Some.ensures.items c.clear.ensures.table c.pop.ensures.capacity (le_same s.cursor) (le_along refl number c.if-number-self.false)
+    i.0 i.1 i.2 i.3 i.4 i.5 c.in-Some.ensures.items c.clear.ensures.table c.pop.ensures.capacity (le_same s.cursor) (le_along refl place c.if-place-self.false)

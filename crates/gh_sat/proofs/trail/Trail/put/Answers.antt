@@ -19,18 +19,18 @@ free s now x is h = subst (λ (t : Line). IsFree t.steps x.lit.atom) (sym is) h
 room : (s : Inside) (x : Step) → the_invariant s → IsInRange s.values.sizes x.lit.atom → IsFree s.steps.items x.lit.atom → length s.steps.items + 1 ≤ vec_capacity s.steps
 room s x i r f = le_le (room_for s.values s.steps.items x.lit.atom i.0 f r) (le_along (sym i.0.long) refl i.5)
 
-more : (p q : Partial) (places places' : List ℕ) (old new : List Step) (cursor number len capacity capacity' : ℕ) (x : Step) → AreValues p old → ArePlaces p.sizes places old → IsPassed p.values cursor
+more : (p q : Partial) (places places' : List ℕ) (old new : List Step) (cursor number len capacity capacity' : ℕ) (x : Step) → AreValues p old → ArePlaces p.sizes places old → IsPassed p cursor
     → cursor ≤ count_of p.sizes → length places ≡ count_of p.sizes → count_of p.sizes ≤ capacity → new ≡ old ++ x ∷ [] → q ≡ with_value p x.lit.atom (Some x.lit.positive) → capacity' ≡ capacity
     → number ≡ number_of p.sizes x.lit.atom → len ≡ length old → places' ≡ slice_set places number len → IsInRange p.sizes x.lit.atom → IsFree old x.lit.atom
-    → AreValues q new × ArePlaces q.sizes places' new × IsPassed q.values cursor × (cursor ≤ count_of q.sizes) × (length places' ≡ count_of q.sizes) × (count_of q.sizes ≤ capacity')
+    → AreValues q new × ArePlaces q.sizes places' new × IsPassed q cursor × (cursor ≤ count_of q.sizes) × (length places' ≡ count_of q.sizes) × (count_of q.sizes ≤ capacity')
 more p q places places' old new cursor number len capacity capacity' x v at passed up long room is made same num place set r f =
     let n : ℕ = number_of p.sizes x.lit.atom in
     let made_places : places' ≡ slice_set places n (length old) = set ∙ ap (λ k. slice_set places k len) num ∙ ap (slice_set places n) place in
-    let goal_of : Partial → List ℕ → List Step → Type 0 = λ w ps steps. AreValues w steps × ArePlaces w.sizes ps steps × IsPassed w.values cursor × (cursor ≤ count_of w.sizes) × (length ps ≡ count_of w.sizes) × (count_of w.sizes ≤ capacity') in
+    let goal_of : Partial → List ℕ → List Step → Type 0 = λ w ps steps. AreValues w steps × ArePlaces w.sizes ps steps × IsPassed w cursor × (cursor ≤ count_of w.sizes) × (length ps ≡ count_of w.sizes) × (count_of w.sizes ≤ capacity') in
     subst (λ (w : Partial). goal_of w places' new) (sym made) (subst (λ ps. goal_of (with_value p x.lit.atom (Some x.lit.positive)) ps new) (sym made_places) (subst (goal_of (with_value p x.lit.atom (Some x.lit.positive)) (slice_set places n (length old))) (sym is) (
       values_more p old x v f r,
       places_more p.sizes places old x at v.range f r long,
-      passed_set p.values cursor n x.lit.positive passed,
+      passed_set p cursor x.lit.atom x.lit.positive passed,
       up,
       length-set places n (length old) ∙ long,
       le_along refl (sym same) room,
