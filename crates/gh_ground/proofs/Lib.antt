@@ -4,3 +4,4 @@ pub mod OpenLemmas
 pub mod KeptLemmas
 pub mod UnitsLemmas
 pub mod MissingLemmas
+pub mod PlainLemmas

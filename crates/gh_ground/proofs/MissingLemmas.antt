@@ -166,7 +166,7 @@ bool_is true h = absurd (h refl)
 bool_is false h = refl
 
 -- a line that is there isn't false
-listed_true : (p : Problem) (s : State) (ls : List LogLine) (m : Interpretation) (n : InstanceName) → IsKept p s ls → All (IsClauseTrue m) s.clauses → Contains ls (line.Axiom n) → IsClauseTrue m (clause_of n)
+pub listed_true : (p : Problem) (s : State) (ls : List LogLine) (m : Interpretation) (n : InstanceName) → IsKept p s ls → All (IsClauseTrue m) s.clauses → Contains ls (line.Axiom n) → IsClauseTrue m (clause_of n)
 listed_true p s ls m n kept all w =
     All-contains (IsClauseTrue m) s.clauses (clause_of n) all (subst (λ (cs : List (List Lit)). Contains cs (clause_of n)) (sym kept.clauses) (in_map p ls (line.Axiom n) w))
 

@@ -1,6 +1,10 @@
 //! Small grounds, with models that make all true and sections that the checker accepts.
 
-ghost use Rattle.std.specs.Prelude.{◌<◌};
+ghost use Rattle.std.specs.Prelude.{◌+◌, ◌<◌, ◌≤◌, vec_len};
+ghost use Rattle.gh_ground.specs.Solving.{IsAnswer};
+
+mod plain;
+mod random;
 
 use crate::solve::{Answer, solve};
 use gh_base::atom::{Atom, Lit, Term};
@@ -38,8 +42,10 @@ fn is_model(structure: &Structure, ground: &Ground) -> bool {
     violated(structure).is_none()
 }
 
-fn is_accepted(alloc: Global, ground: &Ground, section: &Section) -> bool {
-    section.first == 1 && section.lines.len() < 100000 && check_log(alloc, ground, section).is_ok()
+fn is_accepted(alloc: Global, ground: &Ground, section: &Section) -> bool
+    requires { section.now.first + vec_len section.now.lines ≤ 4294967295 }
+{
+    section.first == 1 && check_log(alloc, ground, section).is_ok()
 }
 
 fn count_learnt(section: &Section) -> usize {
@@ -51,21 +57,28 @@ fn count_learnt(section: &Section) -> usize {
     learnt
 }
 
-fn decided(alloc: Global, ground: &Ground) -> Result<Verdict, AllocError> {
-    match solve(alloc, ground)? {
+// Whether an answer is right, and which it is.
+fn judged(alloc: Global, ground: &Ground, answer: Answer) -> Verdict
+    requires { IsAnswer ground.now answer }
+{
+    match answer {
         Answer::Model(structure) => {
             if is_model(&structure, ground) {
-                return Ok(Verdict::Model);
+                return Verdict::Model;
             }
         }
         Answer::Refutation(section) => {
             if is_accepted(alloc, ground, &section) {
                 let learnt = count_learnt(&section);
-                return Ok(Verdict::Refuted { learnt });
+                return Verdict::Refuted { learnt };
             }
         }
     }
-    Ok(Verdict::Wrong)
+    Verdict::Wrong
+}
+
+fn decided(alloc: Global, ground: &Ground) -> Result<Verdict, AllocError> {
+    Ok(judged(alloc, ground, solve(alloc, ground)?))
 }
 
 fn is_refuted(alloc: Global, ground: &Ground) -> Result<bool, AllocError> {
