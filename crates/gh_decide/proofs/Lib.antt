@@ -5,3 +5,7 @@ pub mod Compose
 pub mod Valid
 pub mod Rules
 pub mod Examples
+pub mod Parts
+pub mod Verdicts
+pub mod Listed
+pub mod Decided

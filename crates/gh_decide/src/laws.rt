@@ -1,5 +1,7 @@
-//! Why valid conditions make good programs.
+//! Why valid conditions make good programs, and what verdicts and logs tell.
 
+ghost use Rattle.gh_decide.specs.Verdicts.{VerdictsAreExact};
+ghost use Rattle.gh_decide.specs.Logs.{ValidLogsShowValidity};
 ghost use Rattle.gh_decide.specs.Laws.{SafeMeansPathsPass, TestsLead, Composition, ValidPass, ListedIsGood, TypedKeepRules, TypedIsGood, ExamplesHold};
 
 /// A state is safe exactly where each path's check is passed.
@@ -40,4 +42,15 @@ pub fn typed_is_good()
 /// Of three small programs one is good, and those that leak or free twice are not.
 pub fn examples_hold()
     ensures { ExamplesHold }
+{}
+
+/// A condition is answered valid exactly where it has no counterexample, and refuted exactly where
+/// that isn't so.
+pub fn verdicts_are_exact()
+    ensures { VerdictsAreExact }
+{}
+
+/// Where a log is valid for a program, all conditions are valid.
+pub fn valid_logs_show_validity()
+    ensures { ValidLogsShowValidity }
 {}

@@ -1,8 +1,17 @@
-//! Tests that cross crates: programs read from texts, their conditions over terms and the clauses of these.
+//! Tests that cross crates, on programs read from texts: runs, conditions over terms and their clauses,
+//! decisions, traces and drawings.
 #![tactic(auto)]
 
 #[cfg(test)]
+mod decide_tests;
+#[cfg(test)]
+mod draw_tests;
+#[cfg(test)]
 mod ground_tests;
+#[cfg(test)]
+mod machine_tests;
+#[cfg(test)]
+mod replay_tests;
 #[cfg(test)]
 mod symbolic_tests;
 #[cfg(test)]

@@ -1,12 +1,11 @@
 -- From a drawing file to what is answered for it.
-use Rattle.std.proofs.Common.{◌≡◌, ℕ, ◌-◌, ◌<◌, ◌≤◌, List, length, map, Some, None, inl, inr, refl, sym, ap, subst, arith, ◌∙◌}
-use Rattle.std.specs.Prelude.{◌⊎◌, slice_get}
+use Rattle.std.proofs.Common.{◌≡◌, ℕ, ◌-◌, ◌<◌, ◌≤◌, List, length, map, Some, None, inl, inr, sym, subst, arith}
+use Rattle.std.specs.Prelude.{◌⊎◌}
 use Rattle.std.proofs.lemmas.Option.{slice_get_within}
 use Rattle.gh_ast.specs.Plain.{Program}
 use Rattle.gh_path.specs.Admitted.{IsAdmitted}
 use Rattle.gh_path.specs.Answers.{IsNumbered}
-use Rattle.gh_path.specs.Conditions.{Condition, conditions}
-use Rattle.gh_path.specs.Kept.{StandsFor}
+use Rattle.gh_path.specs.Conditions.{conditions}
 use Rattle.gh_path.specs.declared.condition.Condition as kept
 use Rattle.gh_trace.specs.Kept.{drawn, IsRefuted, IsFailure}
 use Rattle.gh_trace.specs.declared.state.State.{State}

@@ -2,7 +2,6 @@
 use Rattle.std.specs.Prelude.{◌≡◌, ℕ, ◌-◌, ◌<◌, ◌≤◌, List, ◌++◌, length, map, codes, Option, Some, None, slice_get}
 use Rattle.std.specs.Fmt.{decimal}
 use Rattle.gh_ast.specs.Plain.{Program}
-use Rattle.gh_base.specs.Outside.{Table}
 use Rattle.gh_path.specs.Conditions.{Condition, conditions}
 use Rattle.gh_trace.specs.Kept.{drawn}
 use Rattle.gh_trace.specs.Replay.{FirstFailure, Refutes}

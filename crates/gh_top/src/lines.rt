@@ -5,11 +5,8 @@ ghost use Rattle.std.specs.Fmt.{decimal};
 ghost use Rattle.gh_top.specs.Refusals.{refused_at, error_name, kind_name, refusal_text};
 ghost use Rattle.gh_draw.specs.Drawings.{line};
 ghost use Rattle.gh_top.specs.Refusals.{byte, limit};
-ghost use Rattle.gh_draw.specs.Descriptions.{place_text, description};
-ghost use Rattle.gh_ast.specs.Plain.{procedure_of};
-ghost use Rattle.gh_top.specs.Copies.{only_condition};
+ghost use Rattle.gh_draw.specs.Descriptions.{place_text};
 
-use gh_ast::Procedure;
 use gh_ast::typed::Limit;
 use gh_base::place::Span;
 use gh_base::text::Text;
@@ -69,7 +66,7 @@ fn passed_line(alloc: Global, kind: &str, span: Span, count: u32) -> Result<Text
 }
 
 /// The line of a program whose conditions are all valid.
-pub fn verified_line(alloc: Global, count: usize) -> Result<Text, AllocError>
+pub fn verified_line(alloc: Global, count: u32) -> Result<Text, AllocError>
     ensures { IfOk result (λ t. t ≡ line (codes "verified: " ++ decimal count ++ codes " of " ++ decimal count ++ codes " valid")) }
 {
     let written = format!(in alloc; "verified: {count} of {count} valid\n")?;
@@ -78,13 +75,8 @@ pub fn verified_line(alloc: Global, count: usize) -> Result<Text, AllocError>
     Ok(text)
 }
 
-/// The line that says which condition is refuted.
-pub fn refuted_line(
-    alloc: Global,
-    number: usize,
-    count: usize,
-    before: usize,
-) -> Result<Text, AllocError>
+/// The front of a refuted report: the line that says which condition is refuted.
+pub fn refuted_line(alloc: Global, number: u32, count: u32, before: u32) -> Result<Text, AllocError>
     ensures { IfOk result (λ t. t ≡ line (codes "refuted: condition " ++ decimal number ++ codes " of " ++ decimal count ++ codes ", " ++ decimal before ++ codes " valid before it")) }
 {
     let which = format!(in alloc; "refuted: condition {number} of {count}")?;
@@ -95,26 +87,17 @@ pub fn refuted_line(
     Ok(text)
 }
 
-/// The description of the condition of a procedure of copies.
-pub fn description_line(alloc: Global, procedure: &Procedure) -> Result<Text, AllocError>
-    ensures { IfOk result (λ t. t ≡ line (description (only_condition (procedure_of procedure.now)))) }
+/// The line of the text that a number makes, where all its conditions are valid.
+pub fn stress_line(alloc: Global, n: u8, procedures: usize, count: u32) -> Result<Text, AllocError>
+    ensures { IfOk result (λ t. t ≡ line (codes "stress " ++ decimal n ++ codes ": " ++ decimal procedures ++ codes " procedures, " ++ decimal count ++ codes " conditions, verified")) }
 {
-    let row = procedure.close.line;
-    let column = procedure.close.col;
-    let written = format!(in alloc; " from entry: return at {row}:{column}\n")?;
+    let first = format!(in alloc; "stress {n}: ")?;
+    let second = format!(in alloc; "{procedures} procedures, ")?;
+    let third = format!(in alloc; "{count} conditions, verified\n")?;
     let mut text = Text::new(alloc);
-    text.push(procedure.name.name.bytes())?;
-    text.push(written.as_bytes())?;
-    Ok(text)
-}
-
-/// The first lines of a drawing.
-pub fn drawing_lines(alloc: Global, number: usize) -> Result<Text, AllocError>
-    ensures { IfOk result (λ t. t ≡ line (codes "drawing") ++ line (codes "condition " ++ decimal number)) }
-{
-    let written = format!(in alloc; "drawing\ncondition {number}\n")?;
-    let mut text = Text::new(alloc);
-    text.push(written.as_bytes())?;
+    text.push(first.as_bytes())?;
+    text.push(second.as_bytes())?;
+    text.push(third.as_bytes())?;
     Ok(text)
 }
 

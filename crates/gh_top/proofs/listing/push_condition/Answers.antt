@@ -1,9 +1,6 @@
 use Rattle.std.proofs.Common.{◌∙◌, ◌++◌, ap, length}
 use Rattle.std.proofs.lemmas.Result.{IfOk-weaker}
 use Rattle.gh_ast.specs.Plain.{program_of}
-use Rattle.gh_path.specs.Conditions.{Condition}
-use Rattle.gh_path.specs.Kept.{StandsFor}
-use Rattle.gh_symb.specs.Steps.{AreCounted, IsCount}
 use Rattle.gh_top.specs.Listed.{AddsLine}
 use Rattle.gh_top.proofs.ListingLemmas.{line_added}
 use Rattle.gh_top.proofs.listing.push_condition.Goals as goal

@@ -1,8 +1,6 @@
 use Rattle.std.proofs.Common.{subst, refl}
 use Rattle.std.specs.Prelude.{Some}
-use Rattle.std.proofs.lemmas.Result.{IfOk-weaker}
 use Rattle.gh_ast.specs.Plain.{program_of}
-use Rattle.gh_base.specs.Reading.{told}
 use Rattle.gh_top.specs.Replays.{IsJudged}
 use Rattle.gh_top.proofs.HeadlineLemmas.{whole_drawing, absent_drawing, long_drawing}
 use Rattle.gh_top.proofs.replaying.replay_report.Goals as goal

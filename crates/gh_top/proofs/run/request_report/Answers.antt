@@ -1,37 +1,18 @@
-use Rattle.std.proofs.Common.{subst, sym, ◌∙◌}
-use Rattle.std.specs.Prelude.{Some, Result, Ok, Err, IfOk}
-use Rattle.gh_base.specs.Reading.{told, IsWhole, IsLonger, IsAbsent}
-use Rattle.std.proofs.lemmas.Result.{IfOk-weaker, IfErr-weaker}
-use Rattle.gh_top.specs.Headline.{HasReportOf, IsCalm}
-use Rattle.gh_top.proofs.HeadlineLemmas.{whole_report, absent_report, long_report, both_ok, stop_later}
+use Rattle.std.proofs.Common.{◌∙◌}
+use Rattle.std.proofs.lemmas.Result.{IfOk-weaker}
+use Rattle.gh_top.specs.Words.{IsInLimits}
+use Rattle.gh_top.specs.declared.words.Request.TheVariants.{Stress}
+use Rattle.gh_top.proofs.HeadlineLemmas.{made_report}
+use Rattle.gh_top.proofs.StressLemmas.{short_text}
 use Rattle.gh_top.proofs.run.request_report.Goals as goal
 
-pub returns-in-Ok-clause-ok : goal.returns-in-Ok-clause-ok
-returns-in-Ok-clause-ok g c =
-    let t = g.I.Inputs.table c.args.inputs.now in
+pub text_report-requires : goal.text_report-requires
+text_report-requires g c =
+    let limits : IsInLimits (Stress c.in-Stress.n) = rw c.in-Stress.is at c.requires.limits in
+    short_text c.bytes.result.now c.in-Stress.n (c.bytes.ensures ∙ c.in_ok-text-in-Stress.ensures) limits.1
+
+pub returns-in_ok-text-in-Stress-clause-ok : goal.returns-in_ok-text-in-Stress-clause-ok
+returns-in_ok-text-in-Stress-clause-ok g c =
     IfOk-weaker c.text_report.result _ _
-    (λ r k. whole_report t c.args.request.now c.in-Ok.text r.status r.text (subst (λ f. IsWhole (told t f) c.in-Ok.text) c.file.ensures c.in-Ok.ensures.ok.1)
-    (subst (λ tab. HasReportOf tab c.args.request.now (Some c.in-Ok.text) r.status r.text) c.read_input.ensures.table (subst (λ z. HasReportOf (g.I.Inputs.table c.read_input.new.inputs) c.args.request.now (Some z) r.status r.text) c.bytes.ensures k)))
+    (λ r k. made_report (g.I.Inputs.table c.args.inputs.now) c.args.request.now c.in-Stress.n c.bytes.result.now r.status r.text c.in-Stress.is (c.bytes.ensures ∙ c.in_ok-text-in-Stress.ensures) k)
     c.text_report.ensures.ok
-
-pub returns-in-Ok-clause-stop : goal.returns-in-Ok-clause-stop
-returns-in-Ok-clause-stop g c =
-    IfErr-weaker c.text_report.result _ _ (λ s k. stop_later (g.I.Inputs.faults c.args.inputs.now) (g.I.Inputs.faults c.read_input.new.inputs) (g.I.Inputs.faults c.text_report.new.inputs) s c.read_input.ensures.later k) c.text_report.ensures.stop
-
-pub returns-in-Ok-clause-calm : goal.returns-in-Ok-clause-calm
-returns-in-Ok-clause-calm g c = subst (λ n. IsCalm n (g.I.Inputs.faults c.text_report.new.inputs) c.text_report.result) c.in-Ok.ensures.calm c.text_report.ensures.calm
-
-pub returns-in-Ok-clause-table : goal.returns-in-Ok-clause-table
-returns-in-Ok-clause-table g c = c.text_report.ensures.table ∙ c.read_input.ensures.table
-
-pub returns-in-Err-TooLong-clause-ok : goal.returns-in-Err-TooLong-clause-ok
-returns-in-Err-TooLong-clause-ok g c =
-    let cause = rw c.in-Err-TooLong.field-0-is at c.in-Err-TooLong.ensures.refused in
-    both_ok c.refused.result _ _ _ c.refused.ensures.status c.refused.ensures.text
-    (λ r status text. long_report (g.I.Inputs.table c.args.inputs.now) c.args.request.now r.status r.text (subst (λ f. IsLonger (told (g.I.Inputs.table c.args.inputs.now) f) 1048576) c.file.ensures cause) status text)
-
-pub returns-in-Err-Absent-clause-ok : goal.returns-in-Err-Absent-clause-ok
-returns-in-Err-Absent-clause-ok g c =
-    let cause = rw c.in-Err-Absent.field-0-is at c.in-Err-Absent.ensures.refused in
-    both_ok c.refused-in-Err-Absent.result _ _ _ c.refused-in-Err-Absent.ensures.status c.refused-in-Err-Absent.ensures.text
-    (λ r status text. absent_report (g.I.Inputs.table c.args.inputs.now) c.args.request.now r.status r.text (subst (λ f. IsAbsent (told (g.I.Inputs.table c.args.inputs.now) f)) c.file.ensures cause) status text)

@@ -1,6 +1,6 @@
-use Rattle.std.proofs.Common.{subst}
+use Rattle.std.proofs.Common.{subst, inr}
 use Rattle.std.specs.Io.KnownBytes.{Appends}
-use Rattle.gh_top.proofs.HeadlineLemmas.{said, answered}
+use Rattle.gh_top.proofs.HeadlineLemmas.{said, answered, is_answered}
 use Rattle.gh_top.proofs.run.run.Goals as goal
 
 pub returns-in-Ok-write_all-clause-answer : goal.returns-in-Ok-write_all-clause-answer
@@ -27,3 +27,9 @@ returns-in-Ok-write_all-clause-write g c =
 pub returns-in-Ok-write_all-clause-memory_silent : goal.returns-in-Ok-write_all-clause-memory_silent
 returns-in-Ok-write_all-clause-memory_silent g c =
     λ e. absurd ((said (g.I.Inputs.table c.args.inputs.now) c.args.words.now c.in-Ok.report.status c.in-Ok.report.text c.in-Ok.ensures.ok).no_want e)
+
+pub returns-in-Ok-write_all-clause-complete : goal.returns-in-Ok-write_all-clause-complete
+returns-in-Ok-write_all-clause-complete g c =
+    λ calm quiet.
+    inr (is_answered (g.I.Inputs.table c.args.inputs.now) c.args.words.now _ _ c.in-Ok.report.status c.in-Ok.report.text c.in-Ok.ensures.ok
+    (subst (λ t. Appends (g.S.Sink.written c.args.out.now) (g.S.Sink.written c.write_all.new.out) t) c.bytes.ensures c.in-Ok-write_all.ensures.ok))

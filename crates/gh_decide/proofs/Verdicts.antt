@@ -1,0 +1,23 @@
+-- The two answers are exact.
+use Rattle.std.specs.Prelude.{List}
+use Rattle.gh_ast.specs.Plain.{Program}
+use Rattle.gh_path.specs.declared.condition.Condition as kept
+use Rattle.gh_trace.specs.Kept.{drawn_of, IsOne, HasNoCounterexample, HasCounterexample}
+use Rattle.gh_trace.specs.Replay.{Drawn}
+use Rattle.gh_decide.specs.declared.decide.Verdict.TheVariants.{Valid, Refuted}
+use Rattle.gh_decide.specs.Verdicts.{VerdictsAreExact}
+
+not_both : (P : Program) (r : kept.Condition) (xs : List Drawn) → IsOne P r → HasNoCounterexample P r → HasCounterexample P r xs → ⊥
+not_both P r xs one none some =
+    let against = some one.0 one.1 in
+    none one.0 one.1 against.first.state _ against.counterexample
+
+pub verdicts_are_exact : VerdictsAreExact
+verdicts_are_exact P r (Valid s) one is = record {
+  valid = (λ u. is.valid, λ none. record {});
+  refuted = (λ no. absurd no, λ some. absurd (some is.valid));
+}
+verdicts_are_exact P r (Refuted t) one is = record {
+  valid = (λ no. absurd no, λ none. absurd (not_both P r (drawn_of t) one none is));
+  refuted = (λ u none. not_both P r (drawn_of t) one none is, λ some. record {});
+}

@@ -1,0 +1,24 @@
+-- Which logs are valid for a program.
+use Rattle.std.specs.Prelude.{List, [], ◌∷◌, ⊤}
+use Rattle.gh_ast.specs.Plain.{Program}
+use Rattle.gh_ast.specs.Rules.{IsTyped}
+use Rattle.gh_path.specs.Conditions.{Condition, conditions}
+use Rattle.gh_symb.specs.Symbolic.{symbolic_of}
+use Rattle.gh_symb.specs.Formulas.{problem}
+use Rattle.gh_trace.specs.Validity.{ListedAreValid}
+use Rattle.gh_log.specs.declared.lines.LogLine.{LogLine}
+use Rattle.gh_log.specs.Sections.{IsValidSection}
+
+-- the sections are as many as the conditions, and each is valid for the clauses of its condition
+abbrev pub AreValidSections : Program → List Condition → List (List LogLine) → Type 0
+AreValidSections P [] [] = ⊤
+AreValidSections P (c ∷ cs) (s ∷ ss) = IsValidSection (problem (symbolic_of P c)) s × AreValidSections P cs ss
+AreValidSections P _ _ = ⊥
+
+-- a valid section for each condition, in order
+abbrev pub IsValidLog : Program → List (List LogLine) → Type 0
+IsValidLog P log = AreValidSections P (conditions P) log
+
+-- where a log is valid for a program, all conditions are valid
+abbrev pub ValidLogsShowValidity : Type 0
+ValidLogsShowValidity = (P : Program) (log : List (List LogLine)) → IsTyped P → IsValidLog P log → ListedAreValid P

@@ -1,0 +1,38 @@
+-- What a decision of one condition answers.
+use Rattle.std.specs.Prelude.{◌≡◌, ◌↔◌}
+use Rattle.gh_ast.specs.Plain.{Program}
+use Rattle.gh_path.specs.Conditions.{Condition}
+use Rattle.gh_path.specs.declared.condition.Condition as kept
+use Rattle.gh_symb.specs.Symbolic.{symbolic_of}
+use Rattle.gh_symb.specs.Formulas.{problem}
+use Rattle.gh_trace.specs.Kept.{drawn_of, IsKept, IsOne, HasNoCounterexample, HasCounterexample}
+use Rattle.gh_log.specs.declared.lines.Section.{Section}
+use Rattle.gh_log.specs.Sections.{IsValidSection}
+use Rattle.gh_decide.specs.declared.decide.Verdict.{Verdict}
+use Rattle.gh_decide.specs.declared.decide.Verdict.TheVariants.{Valid, Refuted}
+
+-- the condition has no counterexample; the section is valid for its clauses, and stands at the first line
+pub record IsShown (P : Program) (r : kept.Condition) (s : Section) : Type 0 where
+  pub valid : HasNoCounterexample P r
+  pub section : (c : Condition) → IsKept P r c → IsValidSection (problem (symbolic_of P c)) s.lines.items
+  pub first : s.first ≡ 1
+
+abbrev pub IsVerdict : Program → kept.Condition → Verdict → Type 0
+IsVerdict P r (Valid s) = IsShown P r s
+IsVerdict P r (Refuted t) = HasCounterexample P r (drawn_of t)
+
+abbrev pub IsValid : Verdict → Type 0
+IsValid (Valid s) = Unit {0}
+IsValid (Refuted t) = ⊥
+
+abbrev pub IsRefuted : Verdict → Type 0
+IsRefuted (Valid s) = ⊥
+IsRefuted (Refuted t) = Unit {0}
+
+-- valid exactly where there is no counterexample, and refuted exactly where that isn't so
+pub record IsExact (P : Program) (r : kept.Condition) (v : Verdict) : Type 0 where
+  pub valid : IsValid v ↔ HasNoCounterexample P r
+  pub refuted : IsRefuted v ↔ (HasNoCounterexample P r → ⊥)
+
+abbrev pub VerdictsAreExact : Type 0
+VerdictsAreExact = (P : Program) (r : kept.Condition) (v : Verdict) → IsOne P r → IsVerdict P r v → IsExact P r v

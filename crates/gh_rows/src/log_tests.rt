@@ -1,0 +1,140 @@
+//! Proof logs that are written and judged.
+
+use crate::answers::{Table, answer, answers, wrong_row};
+use crate::texts::{NOP, REVERSE, wide};
+use gh_top::status::Status;
+use std::alloc::{AllocError, Global};
+
+const LOG: &[u8] = b"grass log 1
+condition 1
+g 0
+g 15
+g 16
+g 19
+g 23
+g 24
+l
+";
+
+// A log with one change in each row.
+const DAMAGED: Table<'static> = Table {
+    words: &["recheck", "text", "row"],
+    text: NOP,
+    head: b"grass log 1\n",
+    status: Status::LogRefused,
+    before: b"refused: log ",
+    after: b"\n",
+    rows: &[
+        (
+            b"condition 1\ng 0\ng 15\ng 19\ng 23\ng 24\nl\n",
+            b"line 8, NotImplied",
+        ),
+        (
+            b"condition 1\ng 0\ng 15\ng 16\ng 19\ng 23\ng 24\n",
+            b"line 9, NoEmptyClause",
+        ),
+        (
+            b"condition 1\ng 0\ng 15\ng 16\ng 19\ng 23\ng 25\nl\n",
+            b"line 8, NotClause",
+        ),
+        (
+            b"condition 1\ne -A.0.0\ng 15\ng 16\ng 19\ng 23\ng 24\nl\n",
+            b"line 3, NotLemma",
+        ),
+        (
+            b"condition 1\na 1 0 1\ng 15\ng 16\ng 19\ng 23\ng 24\nl\n",
+            b"line 3, NotInstance",
+        ),
+        (
+            b"condition 1\ng 00\ng 15\ng 16\ng 19\ng 23\ng 24\nl\n",
+            b"line 3",
+        ),
+        (
+            b"condition 1\ng 0\ng 15\ng 16\ng 19\ng 23\ng 24\nl\ncondition 2\nl\n",
+            b"sections 2 of 1",
+        ),
+        (
+            b"condition 1\ng 0\ng 15\ng 16\ng 19\ng 23\ng 24\nl",
+            b"line 9",
+        ),
+        (
+            b"condition 2\ng 0\ng 15\ng 16\ng 19\ng 23\ng 24\nl\n",
+            b"line 2",
+        ),
+        (
+            b"condition 1\ng 0\ng 15\ng 16\ng 19\ng 23\ng 24\nl E.0.0 E.1.0\n",
+            b"line 9",
+        ),
+    ],
+};
+
+#[test]
+fn judged_logs(rt: HostRuntime) -> Result<(), AllocError> {
+    let alloc = rt.alloc();
+    assert_eq!(rt; wrong_row(alloc, &DAMAGED)?, None);
+    let none = Table {
+        head: b"",
+        rows: &[(b"", b"line 1")],
+        ..DAMAGED
+    };
+    assert_eq!(rt; wrong_row(alloc, &none)?, None);
+    let valid = Table {
+        head: LOG,
+        status: Status::Verified,
+        before: b"rechecked: ",
+        after: b" valid\n",
+        rows: &[(b"", b"1 of 1")],
+        ..DAMAGED
+    };
+    assert_eq!(rt; wrong_row(alloc, &valid)?, None);
+    Ok(())
+}
+
+// The log of a program that is verified.
+fn log_of(alloc: Global, program: &[u8]) -> Result<Option<Vec<u8>>, AllocError> {
+    let found = answer(alloc, &["log", "row"], b"", program)?;
+    if found.status == Status::Verified {
+        Ok(Some(found.text))
+    } else {
+        Ok(None)
+    }
+}
+
+// Whether the log that is written for a program is valid.
+fn rechecks(alloc: Global, program: &[u8], line: &[u8]) -> Result<bool, AllocError> {
+    let Some(log) = log_of(alloc, program)? else {
+        return Ok(false);
+    };
+    let words = &["recheck", "text", "row"];
+    answers(
+        alloc,
+        words,
+        program,
+        log.as_slice(),
+        Status::Verified,
+        line,
+    )
+}
+
+#[test]
+fn written_logs(rt: HostRuntime) -> Result<(), AllocError> {
+    let alloc = rt.alloc();
+    assert!(rt; rechecks(alloc, NOP, b"rechecked: 1 of 1 valid\n")?);
+    assert!(rt; rechecks(alloc, REVERSE, b"rechecked: 5 of 5 valid\n")?);
+    Ok(())
+}
+
+// How many lines after the first are instances.
+fn count_instances(log: &[u8]) -> usize {
+    let start = b"\na ".as_slice();
+    log.windows(3).filter(|here| **here == *start).count()
+}
+
+#[test]
+fn few_instances(rt: HostRuntime) -> Result<(), AllocError> {
+    let alloc = rt.alloc();
+    let program = wide(alloc, 19)?;
+    let log = log_of(alloc, program.as_slice())?;
+    assert!(rt; log.is_some_and(|log| count_instances(log.as_slice()) < 10_000));
+    Ok(())
+}
