@@ -1,8 +1,8 @@
 -- The conditions that were decided so far, one by one.
-use Rattle.std.specs.Prelude.{◌≡◌, ◌⊎◌, ℕ, zero, suc, ◌+◌, ◌-◌, ◌<◌, ◌≤◌, List, [], ◌∷◌, ◌++◌, length, map, take, drop, slice_get, Some, None, Contains}
+use Rattle.std.specs.Prelude.{◌≡◌, ◌⊎◌, ℕ, zero, suc, ◌+◌, ◌-◌, ◌<◌, ◌≤◌, List, [], ◌∷◌, ◌++◌, length, map, take, drop, slice_get, Some, None, All, Contains}
 use Rattle.std.proofs.Common.{refl, sym, ◌∙◌, ap, subst, inl, inr, arith}
 use Rattle.std.proofs.lemmas.List.{map-append, take_all}
-use Rattle.std.proofs.lemmas.List.Elements.{Contains-append_cases}
+use Rattle.std.proofs.lemmas.List.Elements.{All-push, Contains-append_cases}
 use Rattle.gh_ast.specs.Plain.{Program}
 use Rattle.gh_ast.proofs.Lists.{no_member, only_member}
 use Rattle.gh_path.specs.Answers.{IsNumbered}
@@ -21,7 +21,7 @@ use Rattle.gh_log.specs.Spelled.{lines_of}
 use Rattle.gh_decide.specs.Decided.{AreDecided}
 use Rattle.gh_decide.specs.Logs.{AreValidSections}
 use Rattle.gh_decide.specs.Outcomes.{IsVerified, IsFirst}
-use Rattle.gh_decide.specs.Verdicts.{IsShown}
+use Rattle.gh_decide.specs.Verdicts.{IsPlaced, IsShown}
 use Rattle.gh_decide.proofs.Listed.{placed}
 
 sections_more : (P : Program) (cs : List Condition) (ss : List (List LogLine)) (c : Condition) (s : List LogLine) → AreValidSections P cs ss → IsValidSection (problem (symbolic_of P c)) s → AreValidSections P (cs ++ c ∷ []) (ss ++ s ∷ [])
@@ -61,7 +61,7 @@ is_there P k m count within (inl none) = omega (arith, none)
 is_there P k m count within (inr past) = omega (arith, past, count, within)
 
 pub none_decided : (P : Program) → AreDecided P 0 []
-none_decided P = record { valid = λ d i. absurd (no_member d i); log = record {} }
+none_decided P = record { valid = λ d i. absurd (no_member d i); log = record {}; placed = λ k d l. absurd (omega arith) }
 
 -- one condition more is valid
 pub decided_more : (P : Program) (k : ℕ) (r : kept.Condition) (s : Section) (old new : List Section) → IsNumbered P (k + 1) (Some r) → IsShown P r s → new ≡ old ++ s ∷ [] → AreDecided P k old → AreDecided P (k + 1) new
@@ -79,6 +79,7 @@ decided_more P k r s old new found shown pushed before =
         | inr last ↦ subst (IsConditionValid P) (sym (only_member c d last)) (shown.valid c one.2)
       ];
       log = subst (λ (xs : List Condition). AreValidSections P xs (lines_of new)) (sym taken) (subst (AreValidSections P (cs ++ c ∷ [])) (sym lines) sections);
+      placed = subst (All IsPlaced) (sym pushed) (All-push IsPlaced old s before.placed shown.placed);
     }
 
 -- the next condition is refuted
@@ -102,4 +103,5 @@ all_decided P k m log count past before =
     record {
       valid = λ c i. before.valid c (subst (λ (xs : List Condition). Contains xs c) (sym all) i);
       log = subst (λ (xs : List Condition). AreValidSections P xs (lines_of log.sections.items)) all before.log;
+      placed = before.placed;
     }

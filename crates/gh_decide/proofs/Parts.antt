@@ -87,7 +87,7 @@ pub shown : (P : Program) (r : kept.Condition) (p : Problem) (s : Section) → I
 shown P r p s typed ground is = record {
   valid = λ c one. section_shows P c s.lines.items typed one.there (at c one);
   section = at;
-  first = is.first;
+  placed = record { first = is.first; few = is.few };
 }
   where
     at : (c : Condition) → IsKept P r c → IsValidSection (problem (symbolic_of P c)) s.lines.items

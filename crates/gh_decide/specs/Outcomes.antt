@@ -1,5 +1,5 @@
 -- What the decision of all conditions of a program comes to.
-use Rattle.std.specs.Prelude.{◌≡◌, ℕ, ◌+◌, List, ◌∷◌, ◌++◌, length, Contains}
+use Rattle.std.specs.Prelude.{◌≡◌, ℕ, ◌+◌, List, ◌∷◌, ◌++◌, length, All, Contains}
 use Rattle.gh_ast.specs.Plain.{Program}
 use Rattle.gh_path.specs.Conditions.{Condition, conditions}
 use Rattle.gh_trace.specs.Validity.{IsConditionValid, ListedAreValid}
@@ -9,6 +9,7 @@ use Rattle.gh_trace.specs.declared.state.Trace.{Trace}
 use Rattle.gh_log.specs.declared.lines.Log.{Log}
 use Rattle.gh_log.specs.Spelled.{lines_of}
 use Rattle.gh_decide.specs.Logs.{IsValidLog}
+use Rattle.gh_decide.specs.Verdicts.{IsPlaced}
 use Rattle.gh_decide.specs.declared.outcome.Outcome.{Outcome}
 use Rattle.gh_decide.specs.declared.outcome.Outcome.TheVariants.{Verified, Refuted}
 
@@ -16,6 +17,7 @@ use Rattle.gh_decide.specs.declared.outcome.Outcome.TheVariants.{Verified, Refut
 pub record IsVerified (P : Program) (kept : Log) : Type 0 where
   pub valid : ListedAreValid P
   pub log : IsValidLog P (lines_of kept.sections.items)
+  pub placed : All IsPlaced kept.sections.items
 
 -- the condition of the number is the first that isn't valid, and the trace shows it
 pub record IsFirst (P : Program) (number : ℕ) (trace : Trace) : Type 0 where

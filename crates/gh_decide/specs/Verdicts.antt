@@ -1,5 +1,5 @@
 -- What a decision of one condition answers.
-use Rattle.std.specs.Prelude.{◌≡◌, ◌↔◌}
+use Rattle.std.specs.Prelude.{◌≡◌, ◌↔◌, ◌≤◌, vec_len}
 use Rattle.gh_ast.specs.Plain.{Program}
 use Rattle.gh_path.specs.Conditions.{Condition}
 use Rattle.gh_path.specs.declared.condition.Condition as kept
@@ -11,11 +11,16 @@ use Rattle.gh_log.specs.Sections.{IsValidSection}
 use Rattle.gh_decide.specs.declared.decide.Verdict.{Verdict}
 use Rattle.gh_decide.specs.declared.decide.Verdict.TheVariants.{Valid, Refuted}
 
--- the condition has no counterexample; the section is valid for its clauses, and stands at the first line
+-- a section of its own: it stands at the first line, and its lines have numbers of 32 bits, as has the one after them
+pub record IsPlaced (s : Section) : Type 0 where
+  pub first : s.first ≡ 1
+  pub few : vec_len s.lines ≤ 4294967294
+
+-- the condition has no counterexample, and the section is valid for its clauses
 pub record IsShown (P : Program) (r : kept.Condition) (s : Section) : Type 0 where
   pub valid : HasNoCounterexample P r
   pub section : (c : Condition) → IsKept P r c → IsValidSection (problem (symbolic_of P c)) s.lines.items
-  pub first : s.first ≡ 1
+  pub placed : IsPlaced s
 
 abbrev pub IsVerdict : Program → kept.Condition → Verdict → Type 0
 IsVerdict P r (Valid s) = IsShown P r s

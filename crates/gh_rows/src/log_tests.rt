@@ -1,7 +1,7 @@
 //! Proof logs that are written and judged.
 
 use crate::answers::{Table, answer, answers, wrong_row};
-use crate::texts::{NOP, REVERSE, wide};
+use crate::texts::{NOP, REVERSE, SECOND, wide};
 use gh_top::status::Status;
 use std::alloc::{AllocError, Global};
 
@@ -136,5 +136,28 @@ fn few_instances(rt: HostRuntime) -> Result<(), AllocError> {
     let program = wide(alloc, 19)?;
     let log = log_of(alloc, program.as_slice())?;
     assert!(rt; log.is_some_and(|log| count_instances(log.as_slice()) < 10_000));
+    Ok(())
+}
+
+// Whether a program has no log: `log` writes the report of `check`.
+fn is_refuted(alloc: Global, program: &[u8]) -> Result<bool, AllocError> {
+    let log = answer(alloc, &["log", "row"], b"", program)?;
+    let check = answer(alloc, &["check", "row"], b"", program)?;
+    Ok(log.status == Status::Refuted && log.text.as_slice() == check.text.as_slice())
+}
+
+#[test]
+fn no_log(rt: HostRuntime) -> Result<(), AllocError> {
+    assert!(rt; is_refuted(rt.alloc(), SECOND)?);
+    Ok(())
+}
+
+#[test]
+fn a_long_log(rt: HostRuntime) -> Result<(), AllocError> {
+    let alloc = rt.alloc();
+    let log = vec![in alloc; b'x'; 67_108_865]?;
+    let words = &["recheck", "text", "row"];
+    let line = b"refused: log TooLong\n";
+    assert!(rt; answers(alloc, words, NOP, log.as_slice(), Status::LogRefused, line)?);
     Ok(())
 }

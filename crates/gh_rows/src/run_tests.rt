@@ -108,10 +108,33 @@ fn faulty(
 fn faults(rt: HostRuntime) -> Result<(), AllocError> {
     let alloc = rt.alloc();
     assert!(rt; faulty(alloc, 1, 0, 64)? == (Status::ReadFault, 0));
-    assert!(rt; faulty(alloc, 3, 0, 64)? == (Status::ReadFault, 0));
+    assert!(rt; faulty(alloc, 8, 0, 64)? == (Status::ReadFault, 0));
+    assert!(rt; faulty(alloc, 9, 0, 64)? == (Status::Verified, 23));
     assert!(rt; faulty(alloc, 0, 1, 64)? == (Status::WriteFault, 0));
     assert!(rt; faulty(alloc, 0, 2, 64)? == (Status::WriteFault, 8));
     assert!(rt; faulty(alloc, 0, 0, 8)? == (Status::WriteFault, 8));
     assert!(rt; faulty(alloc, 0, 0, 23)? == (Status::Verified, 23));
+    Ok(())
+}
+
+// What a mode answers for a refused program where the call that would begin its second file fails.
+fn second_left(alloc: Global, mode: &str) -> Result<Status, AllocError> {
+    let mut words = Words::new(alloc);
+    words.push(alloc, mode)?;
+    words.push(alloc, "f")?;
+    words.push(alloc, "g")?;
+    let mut inputs = MemoryInputs::new(alloc, 4096);
+    inputs.add(alloc, "f", b"struct Node { }\n")?;
+    inputs.add(alloc, "g", NOP)?;
+    inputs.fail_at(4)?;
+    let mut out = MemorySink::new(alloc, 64, 64)?;
+    Ok(run(alloc, &words, &mut inputs, &mut out))
+}
+
+#[test]
+fn second_files_come_last(rt: HostRuntime) -> Result<(), AllocError> {
+    let alloc = rt.alloc();
+    assert!(rt; second_left(alloc, "recheck")? == Status::TextRefused);
+    assert!(rt; second_left(alloc, "replay")? == Status::TextRefused);
     Ok(())
 }

@@ -1,8 +1,11 @@
 //! Worked conditions that are decided, with traces that are replayed.
 
-ghost use Rattle.std.specs.Prelude.{◌≡◌};
+ghost use Rattle.std.specs.Prelude.{◌≡◌, ◌≤◌, length};
 ghost use Rattle.gh_ast.specs.Plain.{program_of};
 ghost use Rattle.gh_path.specs.Admitted.{IsAdmitted};
+ghost use Rattle.gh_path.specs.Conditions as plain;
+ghost use Rattle.gh_path.specs.Kept.{StandsFor};
+ghost use Rattle.gh_symb.specs.Told.{IsSymbolic};
 ghost use Rattle.gh_trace.specs.Kept.{IsOne};
 
 use crate::machine_tests::SECOND;
@@ -20,6 +23,7 @@ use gh_path::listing::conditions;
 use gh_reduce::ground::ground;
 use gh_symb::admit::admit;
 use gh_symb::limits::SymbolicError;
+use gh_symb::over_terms::Symbolic;
 use gh_symb::symbolic::symbolic;
 use gh_trace::decider::Decider;
 use gh_trace::replay::{ReplayError, replay};
@@ -63,6 +67,27 @@ fn decided(alloc: Global, typed: &Typed, condition: &Condition) -> Result<Option
     }
 }
 
+// The trace of a model of the clauses, if they have one.
+fn modelled(
+    alloc: Global,
+    typed: &Typed,
+    condition: &Condition,
+    over: &Symbolic<'_>,
+) -> Result<Option<Trace>, AllocError>
+    requires few { length condition.now.steps.items ≤ 256 }
+    requires one { IsOne (program_of typed.now) condition.now }
+    requires told { (c : plain.Condition) → StandsFor (program_of typed.now) condition.now c → IsSymbolic (program_of typed.now) c over.now }
+{
+    let clauses = ground(alloc, over)?;
+    match solve(alloc, &clauses)? {
+        Answer::Refutation(_) => Ok(None),
+        Answer::Model(structure) => {
+            let trace = build(alloc, typed, condition, over, &structure)?;
+            Ok(Some(trace))
+        }
+    }
+}
+
 // The trace that refutes a condition, from a model of its clauses.
 fn built(alloc: Global, typed: &Typed, condition: &Condition) -> Result<Option<Trace>, AllocError>
     requires one { IsOne (program_of typed.now) condition.now }
@@ -70,18 +95,10 @@ fn built(alloc: Global, typed: &Typed, condition: &Condition) -> Result<Option<T
     if condition.steps.as_slice().len() > 256 {
         return Ok(None);
     }
-    let over = match symbolic(alloc, typed, condition) {
-        Ok(over) => over,
-        Err(SymbolicError::Limit(_)) => return Ok(None),
-        Err(SymbolicError::OutOfMemory) => return Err(AllocError),
-    };
-    let clauses = ground(alloc, &over)?;
-    match solve(alloc, &clauses)? {
-        Answer::Refutation(_) => Ok(None),
-        Answer::Model(structure) => {
-            let trace = build(alloc, typed, condition, &over, &structure)?;
-            Ok(Some(trace))
-        }
+    match symbolic(alloc, typed, condition) {
+        Ok(over) => modelled(alloc, typed, condition, &over),
+        Err(SymbolicError::Limit(_)) => Ok(None),
+        Err(SymbolicError::OutOfMemory) => Err(AllocError),
     }
 }
 
