@@ -1,7 +1,9 @@
 //! Worked conditions that are decided, with traces that are replayed.
 
 ghost use Rattle.std.specs.Prelude.{◌≡◌, ◌≤◌, length};
+ghost use Rattle.gh_ast.specs.Limits.{KeepsLimits};
 ghost use Rattle.gh_ast.specs.Plain.{program_of};
+ghost use Rattle.gh_ast.specs.Rules.{IsTyped};
 ghost use Rattle.gh_path.specs.Admitted.{IsAdmitted};
 ghost use Rattle.gh_path.specs.Conditions as plain;
 ghost use Rattle.gh_path.specs.Kept.{StandsFor};
@@ -159,6 +161,21 @@ fn judged(
     }
 }
 
+// The same of a program that keeps the rules and the limits on a text.
+fn found_of(alloc: Global, typed: &Typed, number: u32, by: By) -> Result<Found, AllocError>
+    requires typed { IsTyped (program_of typed.now) }
+    requires limits { KeepsLimits (program_of typed.now) }
+{
+    let all = match conditions(alloc, typed) {
+        Ok(all) => all,
+        Err(_) => return Ok(Found::Wrong),
+    };
+    match admit(alloc, typed, &all) {
+        Ok(()) => judged(alloc, typed, &all, number, by),
+        Err(_) => Ok(Found::Wrong),
+    }
+}
+
 fn found_in(alloc: Global, text: &[u8], number: u32, by: By) -> Result<Found, AllocError> {
     if text.len() > 1_048_576 {
         return Ok(Found::Wrong);
@@ -166,16 +183,10 @@ fn found_in(alloc: Global, text: &[u8], number: u32, by: By) -> Result<Found, Al
     let Ok(program) = parse(alloc, text) else {
         return Ok(Found::Wrong);
     };
-    let Ok(typed) = check(alloc, program) else {
-        return Ok(Found::Wrong);
-    };
-    let Ok(all) = conditions(alloc, &typed) else {
-        return Ok(Found::Wrong);
-    };
-    let Ok(()) = admit(alloc, &typed, &all) else {
-        return Ok(Found::Wrong);
-    };
-    judged(alloc, &typed, &all, number, by)
+    match check(alloc, program) {
+        Ok(typed) => found_of(alloc, &typed, number, by),
+        Err(_) => Ok(Found::Wrong),
+    }
 }
 
 type Row<'a> = (&'a [u8], u32, Found);
