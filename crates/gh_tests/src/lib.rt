@@ -3,6 +3,8 @@
 #![tactic(auto)]
 
 #[cfg(test)]
+mod decide_tests;
+#[cfg(test)]
 mod draw_tests;
 #[cfg(test)]
 mod ground_tests;
