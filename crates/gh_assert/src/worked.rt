@@ -122,7 +122,7 @@ fn case(
     }
 }
 
-// The worked rows, then segments that run into cycles, past their ends and into shared tails.
+// Small heaps, then segments that run into cycles, past their ends and into shared tails.
 fn segments() -> [Row; 18] {
     use Member::{Acc, Lseg};
     [

@@ -1,4 +1,4 @@
-//! Worked ground clauses.
+//! Ground clauses of programs, counted by hand.
 
 use crate::symbolic_tests::{CASES, REUSE, TWICE, WALK};
 use crate::told::{Expected, Row, Word, are};

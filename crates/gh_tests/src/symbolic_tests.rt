@@ -1,4 +1,4 @@
-//! Worked conditions over terms.
+//! Conditions over terms of programs.
 
 use crate::told::{Asked, Expected, Made, NONE, Part, Row, Said, Told, are};
 use std::alloc::AllocError;
