@@ -10,7 +10,8 @@ ghost use Rattle.gh_sat.specs.Trail.{IsSound};
 
 use crate::learner::Learnt;
 use crate::search::Search;
-use crate::status::{Status, status_of};
+use crate::rows::Row;
+use crate::status::{Hint, Status, status_of};
 use crate::theory::Theory;
 use crate::trail::{Step, Trail};
 use gh_base::atom::{Atom, Lit, Term};
@@ -85,10 +86,11 @@ impl Theory for Apart {
     fn conflict(&self, alloc: Global) -> Result<Option<Clause>, AllocError> {
         let defs = self.trail.sizes().defs;
         let lits = [def(defs - 2, false), def(defs - 1, false)];
-        match status_of(&self.trail, &lits) {
+        let row = Row::new(alloc, self.trail.sizes(), &lits)?;
+        match status_of(&self.trail, &lits, row.lits(), Hint::default()) {
             Status::False => Ok(Some(Clause::from_lits(alloc, &lits)?)),
             Status::Unit(_) => Ok(None),
-            Status::Open => Ok(None),
+            Status::Open(_) => Ok(None),
         }
     }
 }
