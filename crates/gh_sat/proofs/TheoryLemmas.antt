@@ -261,4 +261,4 @@ pub beside_nothing : (V : Sizes → List Lit → Type 0) (a : List Lit) (z sizes
     → IsTold a s.trail × (z ≡ s.sizes) × WereConsistent (V s.sizes) s.trail s.starts
 beside_nothing V a z sizes cs s is none same =
     subst (λ (t : State). IsTold a t.trail × (z ≡ t.sizes) × WereConsistent (V t.sizes) t.trail t.starts) (sym is)
-      ((0, omega arith, none), same, none_open V)
+    ((0, omega arith, none), same, none_open V)
