@@ -1,11 +1,17 @@
 -- The status of a clause.
-use Rattle.std.proofs.Common.{◌≡◌, ◌⊎◌, ℕ, zero, suc, ◌<◌, List, [], ◌∷◌, ◌++◌, length, get_or, take, Some, Bool, true, false, inl, inr, refl, sym, ap, ◌∙◌, subst, arith, Contains}
-use Rattle.std.specs.Prelude.{slice_get, not}
+use Rattle.std.proofs.Common.{◌≡◌, ◌≢◌, ◌⊎◌, ℕ, zero, suc, ◌<◌, List, [], ◌∷◌, ◌++◌, length, get_or, take, Some, Bool, true, false, inl, inr, refl, sym, ap, ◌∙◌, subst, arith, Contains, Option, None}
+use Rattle.std.specs.Prelude.{slice_get, not, IfSome, ◌+◌, ◌≤◌}
 use Rattle.std.proofs.lemmas.List.Elements.{All-push, All-contains, Contains-append_left, Contains-push}
 use Rattle.gh_base.specs.declared.atom.Lit.{Lit}
 use Rattle.gh_base.specs.declared.atom.Atom.TheVariants.{Eq}
-use Rattle.gh_base.specs.Atoms.{opposite}
+use Rattle.gh_base.specs.declared.sizes.Sizes.{Sizes}
+use Rattle.gh_base.proofs.NumberLemmas.{apart}
+use Rattle.gh_sat.proofs.TrailLemmas.{same_lit}
+use Rattle.gh_base.specs.Atoms.{opposite, IsInRange, AreInRange}
+use Rattle.gh_sat.specs.declared.rows.Numbered.{Numbered}
+use Rattle.gh_sat.specs.Rows.{numbered, row_of}
 use Rattle.gh_sat.specs.declared.trail.Step.{Step}
+use Rattle.gh_sat.specs.declared.status.Hint.{Hint}
 use Rattle.gh_sat.specs.declared.status.Status.{Status}
 use Rattle.gh_sat.specs.declared.status.Status.TheVariants.{False, Unit as IsOne, Open}
 use Rattle.gh_sat.specs.Trail.{Line, IsTrueIn, IsFalseIn, IsFree, IsUnitIn, AreSteps}
@@ -50,14 +56,14 @@ two_good t c l u there there' f g n (inr (w, i)) =
     n (one u there' g ∙ sym (one l there f))
 
 module _ (trail : List Step) where
-  pub after_false : (xs : List Lit) (l : Lit) (s : Status) → (s ≡ Open → ⊥) → IsTrueIn trail (opposite l) → IsStatus trail xs s → IsStatus trail (xs ++ l ∷ []) s
+  pub after_false : (xs : List Lit) (l : Lit) (s : Status) → ((hint : Hint) → s ≡ Open hint → ⊥) → IsTrueIn trail (opposite l) → IsStatus trail xs s → IsStatus trail (xs ++ l ∷ []) s
   after_false xs l False n e h = All-push (λ m. IsTrueIn trail (opposite m)) xs l h e
   after_false xs l (IsOne u) n e h = record {
     there = Contains-append_left xs (l ∷ []) u h.there;
     free = h.free;
     others = All-push (λ m. (m ≡ u) ⊎ IsTrueIn trail (opposite m)) xs l h.others (inr e);
   }
-  after_false xs l Open n e h = absurd (n refl)
+  after_false xs l (Open hint) n e h = absurd (n hint refl)
 
   pub after_first : (xs : List Lit) (l : Lit) → IsFree trail l.atom → IsFalseIn trail xs → IsStatus trail (xs ++ l ∷ []) (IsOne l)
   after_first xs l e h = record {
@@ -84,3 +90,54 @@ pub in_at : (c : List Lit) (i : ℕ) (l : Lit) → i < length c → Contains c (
 in_at [] i l h = absurd (omega arith)
 in_at (x ∷ c) zero l h = (zero, omega arith, refl)
 in_at (x ∷ c) (suc i) l h = let r = in_at c i l (omega arith) in (suc r.0, omega (arith, r.1), r.2)
+
+-- the row of a clause at a place
+row_at : (s : Sizes) (c : List Lit) (i : ℕ) (d : Numbered) → i < length c → get_or (row_of s c) i d ≡ numbered s (get_or c i nothing)
+row_at s [] i d h = absurd (omega arith)
+row_at s (x ∷ c) zero d h = refl
+row_at s (x ∷ c) (suc i) d h = row_at s c i d (omega arith)
+
+row_long : (s : Sizes) (c : List Lit) → length (row_of s c) ≡ length c
+row_long s [] = refl
+row_long s (x ∷ c) = ap suc (row_long s c)
+
+pub row_within : (s : Sizes) (c : List Lit) (row : List Numbered) (i : ℕ) → row ≡ row_of s c → i < length row → i < length c
+row_within s c row i e h = let l = row_long s c in let m = ap (λ (r : List Numbered). length r) e in omega (arith, l, m)
+
+pub row_is : (s : Sizes) (c : List Lit) (row : List Numbered) (i : ℕ) (d : Numbered) → row ≡ row_of s c → i < length row → get_or row i d ≡ numbered s (get_or c i nothing)
+row_is s c row i d e h = ap (λ (r : List Numbered). get_or r i d) e ∙ row_at s c i d (row_within s c row i e h)
+
+pub row_range : (s : Sizes) (c : List Lit) (row : List Numbered) (i : ℕ) → AreInRange s c → row ≡ row_of s c → i < length row → IsInRange s (get_or c i nothing).atom
+row_range s c row i range e h = All-contains (λ (l : Lit). IsInRange s l.atom) c (get_or c i nothing) range (in_at c i nothing (row_within s c row i e h))
+
+-- the status of the literals before a place, from the place of the one that has no truth, if there is one
+abbrev pub status_from : List Lit → Option ℕ → Status
+status_from c None = False
+status_from c (Some i) = IsOne (get_or c i nothing)
+
+pub not_open : (c : List Lit) (o : Option ℕ) (hint : Hint) → status_from c o ≡ Open hint → ⊥
+not_open c None hint e = cc
+not_open c (Some i) hint e = cc
+
+-- what two literals of a clause show
+pub shown_good : (t : Line) (c : List Lit) (l m : Lit) → AreSteps t → Contains c l → Contains c m → IsTrueIn t.steps l ⊎ (IsTrueIn t.steps m ⊎ (IsFree t.steps l.atom × IsFree t.steps m.atom × (l ≢ m))) → IsBad t.steps c → ⊥
+shown_good t c l m h a b (inl s) = true_good t c l h a s
+shown_good t c l m h a b (inr (inl s)) = true_good t c m h b s
+shown_good t c l m h a b (inr (inr (f, g, n))) = two_good t c m l b a g f n
+
+-- two literals of a clause that have one number and sign are one
+pub row_one : (s : Sizes) (c : List Lit) (row : List Numbered) (i j : ℕ) (d e : Numbered) → AreInRange s c → row ≡ row_of s c → i < length row → j < length row
+    → get_or row i d ≡ get_or row j e → get_or c i nothing ≡ get_or c j nothing
+row_one s c row i j d e range is h k same =
+    let l = get_or c i nothing in
+    let m = get_or c j nothing in
+    let one : numbered s l ≡ numbered s m = sym (row_is s c row i d is h) ∙ same ∙ row_is s c row j e is k in
+    let atoms = apart s l.atom m.atom (row_range s c row i range is h) (row_range s c row j range is k) (ap (λ (n : Numbered). n.number) one) in
+    same_lit l m atoms (ap (λ (n : Numbered). n.positive) one)
+
+pub within_more : (o : Option ℕ) (i : ℕ) → IfSome o (λ k. k < i) → IfSome o (λ k. k < i + 1)
+within_more None i h = h
+within_more (Some k) i h = omega (arith, h)
+
+pub row_past : (s : Sizes) (c : List Lit) (row : List Numbered) (i : ℕ) → row ≡ row_of s c → length row ≤ i → length c ≤ i
+row_past s c row i e h = let l = row_long s c in let m = ap (λ (r : List Numbered). length r) e in omega (arith, l, m, h)

@@ -252,3 +252,13 @@ present_before s mid new before h p back e level start at =
     let low = starts_low s h level start (ap (λ xs. slice_get xs level) (sym starts) ∙ at) in
     let long = ap length e in
     omega arith
+
+none_open : (V : Sizes → List Lit → Type 0) {z : Sizes} → WereConsistent (V z) [] []
+none_open V level start at c v f = absurd (let e : None ≡ Some start = at in cc)
+
+-- what holds before anything is asserted
+pub beside_nothing : (V : Sizes → List Lit → Type 0) (a : List Lit) (z sizes : Sizes) (cs : List (List Lit)) (s : State) → s ≡ (record { sizes = sizes; clauses = cs; trail = []; starts = [] }) → a ≡ [] → z ≡ sizes
+    → IsTold a s.trail × (z ≡ s.sizes) × WereConsistent (V s.sizes) s.trail s.starts
+beside_nothing V a z sizes cs s is none same =
+    subst (λ (t : State). IsTold a t.trail × (z ≡ t.sizes) × WereConsistent (V t.sizes) t.trail t.starts) (sym is)
+    ((0, omega arith, none), same, none_open V)

@@ -1,6 +1,10 @@
 -- The tables of a trail, as steps come and go.
 use Rattle.std.proofs.Common.{◌≡◌, ◌≢◌, ℕ, suc, ◌+◌, ◌-◌, ◌<◌, ◌≤◌, List, [], ◌∷◌, ◌++◌, length, take, Option, Some, None, Bool, true, false, if◌then◌else◌, inl, inr, refl, sym, ap, ◌∙◌, subst, arith, All, length-set}
 use Rattle.std.specs.Prelude.{slice_get, slice_set, option_map, not}
+use Rattle.std.proofs.Common.{get_or}
+use mathlib.Core.Bool.{beq}
+use Rattle.gh_sat.specs.declared.rows.Numbered.{Numbered}
+use Rattle.gh_sat.specs.Rows.{numbered}
 use Rattle.std.proofs.lemmas.Bool.{cases_eq, cases_lt, lt-ltb, le-ltb}
 use Rattle.std.proofs.lemmas.List.{length_push}
 use Rattle.std.proofs.lemmas.Option.{get_or_from_slice_get, slice_get-get_or}
@@ -87,6 +91,28 @@ value_by p trail l (Some b) (Some false) v h e f =
 
 pub value_is : (p : Partial) (trail : List Step) (l : Lit) (r : Option Bool) → AreValues p trail → IsInRange p.sizes l.atom → r ≡ value_of p l → IsValue trail l r
 value_is p trail l r v h e = value_by p trail l (value_at p l.atom) r v h refl (sym e)
+
+-- the same, by the number of the atom
+pub number_fits : (p : Partial) (trail : List Step) (l : Lit) → AreValues p trail → IsInRange p.sizes l.atom → number_of p.sizes l.atom < length p.values
+number_fits p trail l v h = omega (arith, number_below p.sizes l.atom h, v.long)
+
+beq_under : (a b : Bool) → beq b a ≡ under a b
+beq_under true true = refl
+beq_under true false = refl
+beq_under false true = refl
+beq_under false false = refl
+
+truth_by : (p : Partial) (trail : List Step) (l : Lit) (o : Option Bool) → AreValues p trail → IsInRange p.sizes l.atom → value_at p l.atom ≡ o → IsValue trail l (option_map (λ t. beq t l.positive) o)
+truth_by p trail l None v h e = value_by p trail l None None v h e refl
+truth_by p trail l (Some b) v h e = subst (λ t. IsValue trail l (Some t)) (sym (beq_under l.positive b)) (value_by p trail l (Some b) (Some (under l.positive b)) v h e refl)
+
+pub truth_is : (p : Partial) (trail : List Step) (l : Lit) (n : Numbered) (d o : Option Bool) → AreValues p trail → IsInRange p.sizes l.atom → n ≡ numbered p.sizes l
+    → get_or p.values n.number d ≡ o → IsValue trail l (option_map (λ t. beq t n.positive) o)
+truth_is p trail l n d o v h e at =
+    let read = table_read p l.atom v.long h in
+    let here : get_or p.values (number_of p.sizes l.atom) d ≡ value_at p l.atom = get_or_from_slice_get p.values (number_of p.sizes l.atom) (value_at p l.atom) d read in
+    let same : value_at p l.atom ≡ o = sym here ∙ ap (λ (m : Numbered). get_or p.values m.number d) (sym e) ∙ at in
+    subst (λ (m : Numbered). IsValue trail l (option_map (λ t. beq t m.positive) o)) (sym e) (truth_by p trail l o v h same)
 
 pub assignment_is : (p : Partial) (trail : List Step) → AreValues p trail → IsAssignmentOf p (record { sizes = p.sizes; steps = trail })
 assignment_is p trail v = record { sizes = refl; tells = λ l h. value_is p trail l (value_of p l) v h refl }

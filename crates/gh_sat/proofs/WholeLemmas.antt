@@ -13,6 +13,9 @@ use Rattle.gh_sat.specs.Status.{IsBad, IsSettled, IsForced, AreForced, Grows}
 use Rattle.gh_sat.specs.Watch.{AreWatched, ListsMore, WasOpen, clauses_of, code_of}
 use Rattle.gh_sat.specs.Learn.{IsTop, IsConflict, add_clause}
 use Rattle.gh_sat.specs.Whole.{IsWhole}
+use Rattle.gh_sat.specs.declared.rows.Numbered.{Numbered}
+use Rattle.gh_sat.specs.Rows.{row_of, rows_of}
+use Rattle.std.proofs.lemmas.List.{map-append}
 use Rattle.gh_sat.proofs.ListLemmas.{get_within, get_front, get_push, get_last, get_take, take_get, get_some, end_of_at, end_of_past, le_le}
 use Rattle.gh_sat.proofs.TrailLemmas.{stands_push, stands_take}
 use Rattle.gh_sat.proofs.WatchLemmas.{get_front_back, watched_grow, append_nil, any_or_all}
@@ -439,3 +442,10 @@ whole_retract s counts looked head place lists h within present levels =
       below = h.below;
       room = h.room;
     }
+
+-- the rows of one clause more
+pub rows_push : (s z : Sizes) (cs : List (List Lit)) (rows : List (List Numbered)) (c : List Lit) (r : List Numbered) → rows ≡ rows_of s cs → r ≡ row_of z c → z ≡ s → rows ++ r ∷ [] ≡ rows_of s (cs ++ c ∷ [])
+rows_push s z cs rows c r e f g = ap (λ (x : List (List Numbered)). x ++ r ∷ []) e ∙ ap (λ (x : List Numbered). rows_of s cs ++ x ∷ []) (f ∙ ap (λ (y : Sizes). row_of y c) g) ∙ sym (map-append (row_of s) cs (c ∷ []))
+
+pub rows_sized : (s z : Sizes) (cs : List (List Lit)) (rows : List (List Numbered)) → rows ≡ rows_of s cs → z ≡ s → rows ≡ rows_of z cs
+rows_sized s z cs rows e f = e ∙ ap (λ (y : Sizes). rows_of y cs) (sym f)

@@ -1,3 +1,4 @@
+pub mod Rows
 pub mod Trail
 pub mod Status
 pub mod Watch

@@ -13,7 +13,7 @@ IsBad trail clause = IsFalseIn trail clause ⊎ ((u : Lit) × IsUnitIn trail cla
 abbrev pub IsStatus : List Step → List Lit → Status → Type 0
 IsStatus trail clause False = IsFalseIn trail clause
 IsStatus trail clause (IsOne unit) = IsUnitIn trail clause unit
-IsStatus trail clause Open = IsBad trail clause → ⊥
+IsStatus trail clause (Open hint) = IsBad trail clause → ⊥
 
 -- no clause is false or unit
 pub record IsSettled (s : State) : Type 0 where

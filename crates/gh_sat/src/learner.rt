@@ -5,12 +5,15 @@ ghost use Rattle.gh_base.specs.declared.atom.Atom.{Atom};
 ghost use Rattle.gh_base.specs.declared.atom.Lit.{Lit};
 ghost use Rattle.gh_base.specs.Atoms.{opposite, IsInRange, AreInRange, count_of};
 ghost use Rattle.gh_sat.specs.declared.trail.Step.{Step};
+ghost use Rattle.gh_sat.specs.Rows.{row_of};
 ghost use Rattle.gh_sat.specs.Trail.{Line, IsFalseIn, AreSteps};
 ghost use Rattle.gh_sat.specs.Learn.{IsTop};
 
 use crate::marks::{Marks, begin, resolve};
 use crate::occurrences::Occurrences;
 use crate::propagation;
+use crate::rows::Row;
+use crate::status::Hint;
 use crate::trail::{Step, Trail};
 use gh_base::assignment::Assignment;
 use gh_base::atom::{Atom, Lit};
@@ -32,6 +35,9 @@ pub struct Learnt {
 #[derive(Drop)]
 pub struct Learner {
     clauses: Vec<Clause>,
+    // The rows of the clauses, and the hints of their looks.
+    rows: Vec<Row>,
+    hints: Vec<Hint>,
     trail: Trail,
     // The place at which level 1, 2, .. begins, and the number of clauses when it was opened.
     starts: Vec<u32>,
@@ -41,6 +47,7 @@ pub struct Learner {
     head: u32,
     occurrences: Occurrences,
     marks: Marks,
+    alloc: Global,
 }
 
 impl Model for Learner {
@@ -48,6 +55,7 @@ impl Model for Learner {
     ghost use Rattle.gh_base.specs.Atoms.{count_of};
     ghost use Rattle.gh_sat.specs.Trail.{State};
     ghost use Rattle.gh_sat.specs.Learn.{marks_of, IsBounded};
+    ghost use Rattle.gh_sat.specs.Rows.{rows_of};
     ghost use Rattle.gh_sat.specs.Whole.{IsWhole};
 
     ghost Value = { State };
@@ -59,7 +67,8 @@ impl Model for Learner {
         × (count_of s.trail.sizes ≤ vec_capacity s.starts)
         × (count_of s.trail.sizes ≤ vec_capacity s.counts)
         × IsBounded (marks_of s.marks)
-        × (length s.marks.stamps.items ≡ count_of s.trail.sizes) };
+        × (length s.marks.stamps.items ≡ count_of s.trail.sizes)
+        × (s.rows.items ≡ rows_of s.trail.sizes s.clauses.items) };
 }
 
 // The greatest level of a clause's literals, if each of them is false.
@@ -111,6 +120,26 @@ fn cut_to(trail: &mut Trail, starts: &mut Vec<u32>, counts: &mut Vec<u32>, level
     Opening { start, count }
 }
 
+// The row of one more clause, for which there is then room, and a hint for it.
+fn next_row(
+    alloc: Global,
+    sizes: Sizes,
+    clause: &Clause,
+    rows: &mut Vec<Row>,
+    hints: &mut Vec<Hint>,
+) -> Result<Row, AllocError>
+    requires range { AreInRange sizes clause.now }
+    requires small { count_of sizes ≤ 4294967294 }
+    ensures row { IfOk result (λ r. r ≡ row_of sizes clause.now) }
+    ensures rows { rows.new.items ≡ rows.old.items }
+    ensures room { OnOk result (length rows.new.items < vec_capacity rows.new) }
+{
+    let row = Row::new(alloc, sizes, clause.lits())?;
+    hints.push(Hint::default())?;
+    rows.reserve(1)?;
+    Ok(row)
+}
+
 impl Learner {
     ghost use Rattle.gh_base.specs.Grounds.{Problem};
     ghost use Rattle.gh_sat.specs.Trail.{State, IsFree, IsAssignmentOf, IsSound, cut, open_level};
@@ -127,6 +156,8 @@ impl Learner {
         let atoms = trail.sizes().count();
         Ok(Learner {
             clauses: Vec::new(alloc),
+            rows: Vec::new(alloc),
+            hints: Vec::new(alloc),
             trail,
             starts: Vec::with_capacity(alloc, atoms)?,
             counts: Vec::with_capacity(alloc, atoms)?,
@@ -142,6 +173,7 @@ impl Learner {
                 end: 0,
                 waiting: 0,
             },
+            alloc,
         })
     }
 
@@ -171,7 +203,10 @@ impl Learner {
         let number = self.clauses.len() as u32;
         self.occurrences
             .note(self.trail.sizes(), clause.lits(), number)?;
+        let (rows, hints) = (&mut self.rows, &mut self.hints);
+        let row = next_row(self.alloc, self.trail.sizes(), &clause, rows, hints)?;
         self.clauses.push(clause)?;
+        self.rows.push_reserved(row);
         Ok(())
     }
 
@@ -202,7 +237,10 @@ impl Learner {
         let number = self.clauses.len() as u32;
         self.occurrences
             .note(self.trail.sizes(), clause.lits(), number)?;
+        let (rows, hints) = (&mut self.rows, &mut self.hints);
+        let row = next_row(self.alloc, self.trail.sizes(), &clause, rows, hints)?;
         self.clauses.push(clause)?;
+        self.rows.push_reserved(row);
         let (starts, counts) = (&mut self.starts, &mut self.counts);
         let point = cut_to(&mut self.trail, starts, counts, top);
         self.head = point.start;
@@ -276,6 +314,8 @@ impl Learner {
         let level = self.starts.len() as u32;
         propagation::propagate(
             self.clauses.as_slice(),
+            self.rows.as_slice(),
+            self.hints.as_mut_slice(),
             &mut self.trail,
             &self.occurrences,
             &mut self.looked,

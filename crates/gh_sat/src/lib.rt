@@ -6,6 +6,7 @@ mod marks;
 pub mod measure;
 mod occurrences;
 mod propagation;
+mod rows;
 pub mod search;
 mod status;
 #[cfg(test)]

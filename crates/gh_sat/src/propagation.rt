@@ -5,17 +5,42 @@ ghost use Rattle.gh_base.specs.declared.atom.Lit.{Lit};
 ghost use Rattle.gh_base.specs.Atoms.{AreInRange, count_of};
 ghost use Rattle.gh_sat.specs.declared.trail.Step.{Step};
 ghost use Rattle.gh_sat.specs.Trail.{IsFalseIn, IsUnitIn, AreSteps};
+ghost use Rattle.gh_sat.specs.Rows.{rows_of};
 ghost use Rattle.gh_sat.specs.Status.{IsBad, Grows, IsFalseClause};
 ghost use Rattle.gh_sat.specs.Watch.{AreWatched, AreListed};
 
 use crate::occurrences::Occurrences;
-use crate::status::{Status, status_of};
+use crate::rows::Row;
+use crate::status::{Hint, Status, status_of};
 use crate::trail::{Step, Trail};
 use gh_base::clause::Clause;
 
+// The hint of a clause.
+fn hint_at(hints: &[Hint], k: u32) -> Hint {
+    match hints.get(k as usize) {
+        None => Hint::default(),
+        Some(hint) => *hint,
+    }
+}
+
+// Keeps the hint of a clause, if there is room for it.
+fn keep_hint(hints: &mut [Hint], k: u32, hint: Hint) {
+    if (k as usize) < hints.len() {
+        hints[k as usize] = hint;
+    }
+}
+
 // Looks at a clause, and puts its literal on the trail if it is unit. Answers whether it is false.
-fn look(clauses: &[Clause], trail: &mut Trail, k: u32, level: u32) -> bool
+fn look(
+    clauses: &[Clause],
+    rows: &[Row],
+    hints: &mut [Hint],
+    trail: &mut Trail,
+    k: u32,
+    level: u32,
+) -> bool
     requires range { All (AreInRange trail.old.sizes) clauses.now }
+    requires rows { rows.now ≡ rows_of trail.old.sizes clauses.now }
     requires within { k < length clauses.now }
     requires valid { AreSteps trail.old }
     ensures valid { AreSteps trail.new }
@@ -26,7 +51,8 @@ fn look(clauses: &[Clause], trail: &mut Trail, k: u32, level: u32) -> bool
     ensures unit { (c : List Lit) (u : Lit) → slice_get clauses.now k ≡ Some c → IsUnitIn trail.old.steps c u
         → trail.new.steps ≡ trail.old.steps ++ (record { lit = u; level = level; reason = Some k }) ∷ [] }
 {
-    match status_of(trail, clauses[k as usize].lits()) {
+    let (lits, row) = (clauses[k as usize].lits(), rows[k as usize].lits());
+    match status_of(trail, lits, row, hint_at(hints, k)) {
         Status::False => true,
         Status::Unit(lit) => {
             trail.put(Step {
@@ -36,13 +62,23 @@ fn look(clauses: &[Clause], trail: &mut Trail, k: u32, level: u32) -> bool
             });
             false
         }
-        Status::Open => false,
+        Status::Open(hint) => {
+            keep_hint(hints, k, hint);
+            false
+        }
     }
 }
 
 // Looks at the clause that was added last, if there is one.
-fn look_at_last(clauses: &[Clause], trail: &mut Trail, level: u32) -> Option<u32>
+fn look_at_last(
+    clauses: &[Clause],
+    rows: &[Row],
+    hints: &mut [Hint],
+    trail: &mut Trail,
+    level: u32,
+) -> Option<u32>
     requires range { All (AreInRange trail.old.sizes) clauses.now }
+    requires rows { rows.now ≡ rows_of trail.old.sizes clauses.now }
     requires count { length clauses.now ≤ 4294967294 }
     requires valid { AreSteps trail.old }
     ensures valid { AreSteps trail.new }
@@ -53,15 +89,23 @@ fn look_at_last(clauses: &[Clause], trail: &mut Trail, level: u32) -> Option<u32
         → trail.new.steps ≡ trail.old.steps ++ (record { lit = u; level = level; reason = Some (length before) }) ∷ [] }
 {
     let count = clauses.len() as u32;
-    if count > 0 && look(clauses, trail, count - 1, level) {
+    if count > 0 && look(clauses, rows, hints, trail, count - 1, level) {
         return Some(count - 1);
     }
     None
 }
 
 // Looks at the clauses from `looked` on, up to one that is false.
-fn look_at_new(clauses: &[Clause], trail: &mut Trail, looked: &mut u32, level: u32) -> Option<u32>
+fn look_at_new(
+    clauses: &[Clause],
+    rows: &[Row],
+    hints: &mut [Hint],
+    trail: &mut Trail,
+    looked: &mut u32,
+    level: u32,
+) -> Option<u32>
     requires range { All (AreInRange trail.old.sizes) clauses.now }
+    requires rows { rows.now ≡ rows_of trail.old.sizes clauses.now }
     requires count { length clauses.now ≤ 4294967294 }
     requires looked { looked.old ≤ length clauses.now }
     requires valid { AreSteps trail.old }
@@ -75,7 +119,7 @@ fn look_at_new(clauses: &[Clause], trail: &mut Trail, looked: &mut u32, level: u
     ensures all { IfNone result (looked.new ≡ length clauses.now) }
 {
     while (*looked as usize) < clauses.len() {
-        if look(clauses, trail, *looked, level) {
+        if look(clauses, rows, hints, trail, *looked, level) {
             return Some(*looked);
         }
         *looked += 1;
@@ -84,8 +128,16 @@ fn look_at_new(clauses: &[Clause], trail: &mut Trail, looked: &mut u32, level: u
 }
 
 // Looks at the clauses of a list, up to one that is false. A number that is no clause's is left out.
-fn visit(clauses: &[Clause], trail: &mut Trail, list: &[u32], level: u32) -> Option<u32>
+fn visit(
+    clauses: &[Clause],
+    rows: &[Row],
+    hints: &mut [Hint],
+    trail: &mut Trail,
+    list: &[u32],
+    level: u32,
+) -> Option<u32>
     requires range { All (AreInRange trail.old.sizes) clauses.now }
+    requires rows { rows.now ≡ rows_of trail.old.sizes clauses.now }
     requires valid { AreSteps trail.old }
     ensures valid { AreSteps trail.new }
     ensures sizes { trail.new.sizes ≡ trail.old.sizes }
@@ -96,7 +148,7 @@ fn visit(clauses: &[Clause], trail: &mut Trail, list: &[u32], level: u32) -> Opt
 {
     for j in 0..list.len() {
         let k = list[j];
-        if (k as usize) < clauses.len() && look(clauses, trail, k, level) {
+        if (k as usize) < clauses.len() && look(clauses, rows, hints, trail, k, level) {
             return Some(k);
         }
     }
@@ -106,12 +158,15 @@ fn visit(clauses: &[Clause], trail: &mut Trail, list: &[u32], level: u32) -> Opt
 // Propagates from `head` on, up to a clause that is false.
 fn follow(
     clauses: &[Clause],
+    rows: &[Row],
+    hints: &mut [Hint],
     trail: &mut Trail,
     occurrences: &Occurrences,
     head: &mut u32,
     level: u32,
 ) -> Option<u32>
     requires range { All (AreInRange trail.old.sizes) clauses.now }
+    requires rows { rows.now ≡ rows_of trail.old.sizes clauses.now }
     requires head { head.old ≤ length trail.old.steps }
     requires lists { length occurrences.now ≡ 2 * count_of trail.old.sizes }
     requires listed { AreListed trail.old.sizes clauses.now occurrences.now }
@@ -128,7 +183,7 @@ fn follow(
     while trail.steps().len() > *head as usize {
         let lit = trail.steps()[*head as usize].lit.negated();
         let list = occurrences.of(trail.sizes(), lit);
-        let conflict = visit(clauses, trail, list, level);
+        let conflict = visit(clauses, rows, hints, trail, list, level);
         if conflict.is_some() {
             return conflict;
         }
@@ -141,6 +196,8 @@ fn follow(
 /// to a clause that is false.
 pub fn propagate(
     clauses: &[Clause],
+    rows: &[Row],
+    hints: &mut [Hint],
     trail: &mut Trail,
     occurrences: &Occurrences,
     looked: &mut u32,
@@ -148,6 +205,7 @@ pub fn propagate(
     level: u32,
 ) -> Option<u32>
     requires range { All (AreInRange trail.old.sizes) clauses.now }
+    requires rows { rows.now ≡ rows_of trail.old.sizes clauses.now }
     requires count { length clauses.now ≤ 4294967294 }
     requires looked { looked.old ≤ length clauses.now }
     requires head { head.old ≤ length trail.old.steps }
@@ -166,13 +224,13 @@ pub fn propagate(
     ensures last { (before : List (List Lit)) (c : List Lit) (u : Lit) → clauses.now ≡ before ++ c ∷ [] → IsUnitIn trail.old.steps c u
         → (more : List Step) × (trail.new.steps ≡ trail.old.steps ++ (record { lit = u; level = level; reason = Some (length before) }) ∷ [] ++ more) }
 {
-    let conflict = look_at_last(clauses, trail, level);
+    let conflict = look_at_last(clauses, rows, hints, trail, level);
     if conflict.is_some() {
         return conflict;
     }
-    let conflict = look_at_new(clauses, trail, looked, level);
+    let conflict = look_at_new(clauses, rows, hints, trail, looked, level);
     if conflict.is_some() {
         return conflict;
     }
-    follow(clauses, trail, occurrences, head, level)
+    follow(clauses, rows, hints, trail, occurrences, head, level)
 }

@@ -4,13 +4,15 @@ ghost use Rattle.std.specs.Prelude.{◌≡◌, ◌∷◌, ◌-◌, ◌≤◌, �
 ghost use Rattle.gh_base.specs.declared.atom.Atom.TheVariants.{Def};
 ghost use Rattle.gh_sat.specs.Learn.{IsConflict};
 ghost use Rattle.gh_sat.specs.Measure.{left};
-ghost use Rattle.gh_sat.specs.Status.{IsSettled};
+ghost use Rattle.gh_base.specs.Atoms.{AreInRange};
+ghost use Rattle.gh_sat.specs.Status.{IsSettled, IsStatus};
 ghost use Rattle.gh_sat.specs.Theory.{lits_of, HasNoConflict};
 ghost use Rattle.gh_sat.specs.Trail.{IsSound};
 
 use crate::learner::Learnt;
+use crate::rows::Row;
 use crate::search::Search;
-use crate::status::{Status, status_of};
+use crate::status::{Hint, Status, status_of};
 use crate::theory::Theory;
 use crate::trail::{Step, Trail};
 use gh_base::atom::{Atom, Lit, Term};
@@ -85,12 +87,22 @@ impl Theory for Apart {
     fn conflict(&self, alloc: Global) -> Result<Option<Clause>, AllocError> {
         let defs = self.trail.sizes().defs;
         let lits = [def(defs - 2, false), def(defs - 1, false)];
-        match status_of(&self.trail, &lits) {
+        let status = status_in(alloc, &self.trail, &lits)?;
+        match status {
             Status::False => Ok(Some(Clause::from_lits(alloc, &lits)?)),
             Status::Unit(_) => Ok(None),
-            Status::Open => Ok(None),
+            Status::Open(_) => Ok(None),
         }
     }
+}
+
+// The status of a clause, without a hint.
+fn status_in(alloc: Global, trail: &Trail, clause: &[Lit]) -> Result<Status, AllocError>
+    requires { AreInRange trail.now.sizes clause.now }
+    ensures { IfOk result (λ s. IsStatus trail.now.steps clause.now s) }
+{
+    let row = Row::new(alloc, trail.sizes(), clause)?;
+    Ok(status_of(trail, clause, row.lits(), Hint::default()))
 }
 
 // The literal of a name: a positive number n is definition n - 1, a negative one its opposite.

@@ -4,6 +4,7 @@ ghost use Rattle.std.specs.Prelude.{◌≡◌, ◌≢◌, ◌<◌, ◌≤◌, �
 ghost use Rattle.gh_base.specs.Atoms.{IsInRange, count_of, number_of};
 ghost use Rattle.gh_sat.specs.Trail.{IsPassed, turned};
 
+use crate::rows::Numbered;
 use gh_base::assignment::Assignment;
 use gh_base::atom::{Atom, Lit};
 use gh_base::sizes::Sizes;
@@ -85,6 +86,8 @@ fn free_from(values: &Assignment, from: u32) -> u32
 impl Trail {
     ghost use Rattle.gh_base.specs.declared.atom.Atom.{Atom};
     ghost use Rattle.gh_sat.specs.declared.trail.Step.{Step};
+    ghost use Rattle.gh_base.specs.declared.atom.Lit.{Lit};
+    ghost use Rattle.gh_sat.specs.Rows.{numbered};
     ghost use Rattle.gh_sat.specs.Trail.{Line, IsFree, IsValue, AreSteps, IsAssignmentOf, push};
 
     /// A trail with no step.
@@ -131,6 +134,18 @@ impl Trail {
         ensures valid { AreSteps self.now }
     {
         self.values.value(lit)
+    }
+
+    /// The truth of a literal by the number of its atom.
+    pub fn truth(&self, lit: Numbered) -> Option<bool>
+        requires { (l : Lit) × IsInRange self.now.sizes l.atom × (lit ≡ numbered self.now.sizes l) }
+        ensures value { (l : Lit) → IsInRange self.now.sizes l.atom → lit ≡ numbered self.now.sizes l → IsValue self.now.steps l result }
+        ensures valid { AreSteps self.now }
+    {
+        match self.values.values()[lit.number as usize] {
+            None => None,
+            Some(truth) => Some(truth == lit.positive),
+        }
     }
 
     /// The place at which an atom stands, if it does.

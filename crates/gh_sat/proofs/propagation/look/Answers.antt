@@ -19,11 +19,11 @@ same clauses k c d e f = cc
 
 pub returns-in-False-clause-if_false : goal.returns-in-False-clause-if_false
 returns-in-False-clause-if_false c = λ _.
-    (c.lits.result.now, read c.args.clauses.now c.args.k c.index-clauses-k.result c.lits.result.now c.index-clauses-k.is c.lits.ensures c.requires.within, c.in-False.ensures)
+    (c.lits-lits.result.now, read c.args.clauses.now c.args.k c.index-clauses-k.result c.lits-lits.result.now c.index-clauses-k.is c.lits-lits.ensures c.requires.within, c.in-False.ensures)
 
 pub returns-in-False-clause-unit : goal.returns-in-False-clause-unit
 returns-in-False-clause-unit c = λ d u at i.
-    let is = same c.args.clauses.now c.args.k c.lits.result.now d (read c.args.clauses.now c.args.k c.index-clauses-k.result c.lits.result.now c.index-clauses-k.is c.lits.ensures c.requires.within) at in
+    let is = same c.args.clauses.now c.args.k c.lits-lits.result.now d (read c.args.clauses.now c.args.k c.index-clauses-k.result c.lits-lits.result.now c.index-clauses-k.is c.lits-lits.ensures c.requires.within) at in
     let f : IsFalseIn c.args.trail.now.steps d = subst (IsFalseIn c.args.trail.now.steps) is c.in-False.ensures in
     absurd (not_free_opposite c.args.trail.now.steps u (All-contains (λ (m : Lit). IsTrueIn c.args.trail.now.steps (opposite m)) d u f i.there) i.free)
 
@@ -33,8 +33,8 @@ returns-in-Unit-clause-grows c =
     let x : Step = record { lit = c.in-Unit.lit; level = c.args.level; reason = Some c.args.k } in
     let f : IsForced c.args.clauses.now c.args.level t.steps x = record {
       number = c.args.k;
-      clause = c.lits.result.now;
-      at = read c.args.clauses.now c.args.k c.index-clauses-k.result c.lits.result.now c.index-clauses-k.is c.lits.ensures c.requires.within;
+      clause = c.lits-lits.result.now;
+      at = read c.args.clauses.now c.args.k c.index-clauses-k.result c.lits-lits.result.now c.index-clauses-k.is c.lits-lits.ensures c.requires.within;
       unit = c.in-Unit.ensures;
       reason = refl;
       level = refl;
@@ -45,23 +45,23 @@ pub returns-in-Unit-clause-good : goal.returns-in-Unit-clause-good
 returns-in-Unit-clause-good c = λ d at bad.
     let t = c.args.trail.now in
     let x : Step = record { lit = c.in-Unit.lit; level = c.args.level; reason = Some c.args.k } in
-    let is = same c.args.clauses.now c.args.k c.lits.result.now d (read c.args.clauses.now c.args.k c.index-clauses-k.result c.lits.result.now c.index-clauses-k.is c.lits.ensures c.requires.within) at in
+    let is = same c.args.clauses.now c.args.k c.lits-lits.result.now d (read c.args.clauses.now c.args.k c.index-clauses-k.result c.lits-lits.result.now c.index-clauses-k.is c.lits-lits.ensures c.requires.within) at in
     let i : IsUnitIn t.steps d c.in-Unit.lit = subst (λ (e : List Lit). IsUnitIn t.steps e c.in-Unit.lit) is c.in-Unit.ensures in
     absurd (unit_good t d c.in-Unit.lit x (subst AreSteps c.put.ensures.put c.put.ensures.valid) refl i.there (subst (λ (n : Line). IsBad n.steps d) c.put.ensures.put bad))
 
 pub returns-in-Unit-clause-unit : goal.returns-in-Unit-clause-unit
 returns-in-Unit-clause-unit c = λ d u at i.
     let t = c.args.trail.now in
-    let is = same c.args.clauses.now c.args.k c.lits.result.now d (read c.args.clauses.now c.args.k c.index-clauses-k.result c.lits.result.now c.index-clauses-k.is c.lits.ensures c.requires.within) at in
+    let is = same c.args.clauses.now c.args.k c.lits-lits.result.now d (read c.args.clauses.now c.args.k c.index-clauses-k.result c.lits-lits.result.now c.index-clauses-k.is c.lits-lits.ensures c.requires.within) at in
     let mine : IsUnitIn t.steps d c.in-Unit.lit = subst (λ (e : List Lit). IsUnitIn t.steps e c.in-Unit.lit) is c.in-Unit.ensures in
     ap (λ (n : Line). n.steps) c.put.ensures.put ∙ ap (λ (l : Lit). t.steps ++ (let x : Step = record { lit = l; level = c.args.level; reason = Some c.args.k } in x) ∷ []) (one_unit t d c.in-Unit.lit u mine i)
 
 pub returns-in-Open-clause-good : goal.returns-in-Open-clause-good
 returns-in-Open-clause-good c = λ d at bad.
-    let is = same c.args.clauses.now c.args.k c.lits.result.now d (read c.args.clauses.now c.args.k c.index-clauses-k.result c.lits.result.now c.index-clauses-k.is c.lits.ensures c.requires.within) at in
+    let is = same c.args.clauses.now c.args.k c.lits-lits.result.now d (read c.args.clauses.now c.args.k c.index-clauses-k.result c.lits-lits.result.now c.index-clauses-k.is c.lits-lits.ensures c.requires.within) at in
     absurd (c.in-Open.ensures (subst (IsBad c.args.trail.now.steps) (sym is) bad))
 
 pub returns-in-Open-clause-unit : goal.returns-in-Open-clause-unit
 returns-in-Open-clause-unit c = λ d u at i.
-    let is = same c.args.clauses.now c.args.k c.lits.result.now d (read c.args.clauses.now c.args.k c.index-clauses-k.result c.lits.result.now c.index-clauses-k.is c.lits.ensures c.requires.within) at in
+    let is = same c.args.clauses.now c.args.k c.lits-lits.result.now d (read c.args.clauses.now c.args.k c.index-clauses-k.result c.lits-lits.result.now c.index-clauses-k.is c.lits-lits.ensures c.requires.within) at in
     absurd (c.in-Open.ensures (subst (IsBad c.args.trail.now.steps) (sym is) (inr (u, i))))

@@ -11,6 +11,7 @@ use Rattle.gh_sat.specs.Whole.{IsWhole}
 use Rattle.gh_sat.specs.contracts.learner.Learner.{the_view}
 use Rattle.gh_sat.proofs.ListLemmas.{le_along, le_le}
 use Rattle.gh_sat.proofs.WholeLemmas.{whole_open}
+use Rattle.gh_sat.proofs.WholeLemmas.{rows_sized}
 use Rattle.gh_sat.proofs.learner.Learner.assume.Goals as goal
 
 more_than : {n a b : ℕ} → b ≡ a + 1 → n ≤ a → n + 1 ≤ b
@@ -75,6 +76,7 @@ invariant_of-self c =
       le_along sizes (sym c.push_reserved-2.ensures.capacity) i.2,
       i.3,
       i.4 ∙ sizes,
+      rows_sized s.sizes c.put.new.self.sizes s.clauses c.self.inside.rows.items i.5 (ap (λ (t : Line). t.sizes) put),
     )
 
 pub returns-clause-sound : goal.returns-clause-sound

@@ -3,6 +3,7 @@ use Rattle.gh_base.specs.Atoms.{count_of}
 use Rattle.gh_sat.specs.Trail.{State, cut}
 use Rattle.gh_sat.specs.contracts.learner.Learner.{the_view}
 use Rattle.gh_sat.proofs.ListLemmas.{le_along}
+use Rattle.gh_sat.proofs.WholeLemmas.{rows_sized}
 use Rattle.gh_sat.proofs.WholeLemmas.{cut_whole, cut_is, cut_none}
 use Rattle.gh_sat.proofs.learner.Learner.backjump.Goals as goal
 
@@ -18,6 +19,7 @@ invariant_of-self c =
       le_along count (sym e.counts_room) i.2,
       i.3,
       i.4 ∙ count,
+      rows_sized s.sizes c.cut_to-point.new.trail.sizes s.clauses c.self.inside.rows.items i.5 e.sizes,
     )
 
 pub returns-then-level-len : goal.returns-then-level-len

@@ -6,6 +6,9 @@ use Rattle.gh_sat.specs.Trail.{State, cut}
 use Rattle.gh_sat.specs.Watch.{clauses_of}
 use Rattle.gh_sat.specs.Learn.{IsTop, add_clause}
 use Rattle.gh_sat.specs.Whole.{IsWhole}
+use Rattle.gh_sat.specs.Rows.{rows_of}
+use Rattle.gh_sat.proofs.WholeLemmas.{rows_push, rows_sized}
+use Rattle.std.proofs.Common.{◌++◌, ◌∷◌, []}
 use Rattle.gh_sat.specs.contracts.learner.Learner.{the_view}
 use Rattle.gh_sat.proofs.ListLemmas.{le_along}
 use Rattle.gh_sat.proofs.WholeLemmas.{whole_lists, cut_add_whole, cut_is}
@@ -14,7 +17,7 @@ use Rattle.gh_sat.proofs.learner.Learner.insert_under.Goals as goal
 pub invariant_of-self : goal.invariant_of-self
 invariant_of-self c =
     let i = c.self.invariant in
-    (whole_lists (the_view c.self.inside) c.self.inside.counts.items c.self.inside.looked c.self.inside.head c.self.inside.occurrences c.note.new.self i.0 c.note.ensures.more, i.1, i.2, i.3, i.4)
+    (whole_lists (the_view c.self.inside) c.self.inside.counts.items c.self.inside.looked c.self.inside.head c.self.inside.occurrences c.note.new.self i.0 c.note.ensures.more, i.1, i.2, i.3, i.4, i.5)
 
 pub invariant_of-self-in_err-push : goal.invariant_of-self-in_err-push
 invariant_of-self-in_err-push c =
@@ -26,7 +29,13 @@ invariant_of-self-in_err-push c =
       i.2,
       i.3,
       i.4,
+      subst (λ (cs : List (List Lit)). c.next_row.new.rows.items ≡ rows_of s.sizes cs) (sym c.in_err-push.ensures.items) (c.next_row.ensures.rows ∙ i.5),
     )
+
+pub invariant_of-self-in_err-row : goal.invariant_of-self-in_err-row
+invariant_of-self-in_err-row c =
+    let i = c.self.invariant in
+    (whole_lists (the_view c.self.inside) c.self.inside.counts.items c.self.inside.looked c.self.inside.head c.self.inside.occurrences c.note.new.self i.0 c.note.ensures.more, i.1, i.2, i.3, i.4, c.next_row.ensures.rows ∙ i.5)
 
 pub invariant_of-self-2 : goal.invariant_of-self-2
 invariant_of-self-2 c =
@@ -48,6 +57,9 @@ invariant_of-self-2 c =
       le_along count (sym e.counts_room) i.2,
       i.3,
       i.4 ∙ count,
+      rows_sized s.sizes c.cut_to-point.new.trail.sizes c.push.new.self.items c.push_reserved.new.self.items
+          (c.push_reserved.ensures.items ∙ subst (λ (cs : List (List Lit)). c.next_row.new.rows.items ++ c.in_ok-row.row ∷ [] ≡ rows_of s.sizes cs) (sym c.in_ok-push.ensures.items)
+          (rows_push s.sizes c.sizes-2.result s.clauses c.next_row.new.rows.items c.args.clause c.in_ok-row.row (c.next_row.ensures.rows ∙ i.5) c.in_ok-row.ensures.row c.sizes-2.ensures.sizes)) e.sizes,
     )
 
 pub returns-clause-ok : goal.returns-clause-ok

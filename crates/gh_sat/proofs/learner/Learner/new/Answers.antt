@@ -3,6 +3,9 @@ use Rattle.std.specs.Prelude.{slice_get}
 use Rattle.std.proofs.lemmas.List.{take_more}
 use Rattle.std.proofs.lemmas.Option.{get_or_from_slice_get}
 use Rattle.gh_base.specs.declared.atom.Lit.{Lit}
+use Rattle.gh_base.specs.declared.sizes.Sizes.{Sizes}
+use Rattle.gh_base.specs.Atoms.{AreInRange}
+use Rattle.std.proofs.Common.{subst}
 use Rattle.gh_sat.specs.Trail.{State}
 use Rattle.gh_sat.specs.Learn.{add_clause}
 use Rattle.gh_sat.proofs.ListLemmas.{get_within}
@@ -32,3 +35,13 @@ returns c =
     let cs = c.args.ground.now.clauses in
     let past : length cs ≤ c.loop-clause.number = none_past cs c.loop-clause.number (sym c.in_default.ensures.found) in
     c.loop-clause.invariant.so_far ∙ ap (λ (x : List (List Lit)). let t : State = record { sizes = c.args.ground.now.sizes; clauses = x; trail = []; starts = [] } in t) (take_all c.loop-clause.number cs past)
+
+pub insert-requires-clause-range : goal.insert-requires-clause-range
+insert-requires-clause-range c =
+    let sized : c.loop-clause.learner.sizes ≡ c.args.ground.now.sizes = ap (λ (t : State). t.sizes) c.loop-clause.invariant.so_far in
+    let range : AreInRange c.loop-clause.learner.sizes c.in-Some.clause.now = subst (λ (z : Sizes). AreInRange z c.in-Some.clause.now) (sym sized) c.in-Some.ensures.in_range in
+    subst (λ (l : List Lit). AreInRange c.loop-clause.learner.sizes l) (sym c.in_ok-copy.ensures) range
+
+pub loop-clause-smaller : goal.loop-clause-smaller
+loop-clause-smaller c =
+    let lt = get_within c.args.ground.now.clauses c.loop-clause.number c.in-Some.clause.now (sym c.in-Some.ensures.found) in omega (arith, lt)

@@ -11,6 +11,7 @@ use Rattle.gh_sat.specs.Learn.{IsConflict}
 use Rattle.gh_sat.specs.Whole.{IsWhole, GivesLast}
 use Rattle.gh_sat.specs.contracts.learner.Learner.{the_view}
 use Rattle.gh_sat.proofs.ListLemmas.{le_along}
+use Rattle.gh_sat.proofs.WholeLemmas.{rows_sized}
 use Rattle.gh_sat.proofs.WholeLemmas.{whole_grow, conflict_of, settled_from}
 use Rattle.gh_sat.proofs.learner.Learner.propagate.Goals as goal
 
@@ -37,6 +38,7 @@ invariant_of-self c =
       le_along count refl i.2,
       i.3,
       i.4 ∙ count,
+      rows_sized s.sizes c.propagate.new.trail.sizes s.clauses c.self.inside.rows.items i.5 p.sizes,
     )
 
 pub returns-clause-last : goal.returns-clause-last

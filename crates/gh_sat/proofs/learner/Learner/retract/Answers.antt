@@ -7,6 +7,7 @@ use Rattle.gh_sat.specs.Trail.{State}
 use Rattle.gh_sat.specs.Whole.{IsWhole}
 use Rattle.gh_sat.specs.contracts.learner.Learner.{the_view}
 use Rattle.gh_sat.proofs.ListLemmas.{le_along}
+use Rattle.gh_sat.proofs.WholeLemmas.{rows_sized}
 use Rattle.gh_sat.proofs.WholeLemmas.{whole_retract}
 use Rattle.gh_sat.proofs.learner.Learner.retract.Goals as goal
 
@@ -27,4 +28,5 @@ invariant_of-self c =
       le_along count refl i.2,
       i.3,
       i.4 ∙ count,
+      rows_sized s.sizes c.erase.new.self.sizes s.clauses c.self.inside.rows.items i.5 e.sizes,
     )

@@ -5,6 +5,7 @@ use Rattle.gh_base.specs.declared.sizes.Sizes.{Sizes}
 use Rattle.gh_base.specs.Atoms.{opposite}
 use Rattle.gh_sat.specs.declared.trail.Step.{Step}
 use Rattle.gh_sat.specs.Trail.{IsTrueIn, IsFalseIn, IsUnitIn}
+use Rattle.gh_sat.specs.Status.{IsStatus}
 use Rattle.gh_sat.specs.Theory.{lits_of, IsRefutedBy}
 use Rattle.gh_sat.proofs.StatusLemmas.{not_free_opposite}
 use Rattle.gh_sat.proofs.TheoryLemmas.{refuted_false, false_refuted}
@@ -31,16 +32,16 @@ pub returns-in_ok-from_lits-in-False-clause-found : goal.returns-in_ok-from_lits
 returns-in_ok-from_lits-in-False-clause-found c =
     let t = c.args.self.now.trail in
     found t.sizes t.steps (c.def.result ∷ c.def-2.result ∷ []) c.in_ok-from_lits-in-False.field-0 (is_pair t.sizes c.sizes-defs.result c.def.result c.def-2.result c.sizes-defs.ensures.sizes c.def.ensures c.def-2.ensures)
-    c.in_ok-from_lits-in-False.ensures c.in-False.ensures
+    c.in_ok-from_lits-in-False.ensures (subst (IsStatus t.steps (c.def.result ∷ c.def-2.result ∷ [])) c.in-False.is c.in_ok-status.ensures)
 
 pub returns-in-Unit-clause-none : goal.returns-in-Unit-clause-none
 returns-in-Unit-clause-none c =
     let t = c.args.self.now.trail in
     let ls = c.def.result ∷ c.def-2.result ∷ [] in
-    good t.sizes t.steps ls (is_pair t.sizes c.sizes-defs.result c.def.result c.def-2.result c.sizes-defs.ensures.sizes c.def.ensures c.def-2.ensures) (unit_good t.steps ls c.in-Unit.field-0 c.in-Unit.ensures)
+    good t.sizes t.steps ls (is_pair t.sizes c.sizes-defs.result c.def.result c.def-2.result c.sizes-defs.ensures.sizes c.def.ensures c.def-2.ensures) (unit_good t.steps ls c.in-Unit.field-0 (subst (IsStatus t.steps (c.def.result ∷ c.def-2.result ∷ [])) c.in-Unit.is c.in_ok-status.ensures))
 
 pub returns-in-Open-clause-none : goal.returns-in-Open-clause-none
 returns-in-Open-clause-none c =
     let t = c.args.self.now.trail in
     let ls = c.def.result ∷ c.def-2.result ∷ [] in
-    good t.sizes t.steps ls (is_pair t.sizes c.sizes-defs.result c.def.result c.def-2.result c.sizes-defs.ensures.sizes c.def.ensures c.def-2.ensures) (λ f. c.in-Open.ensures (inl f))
+    good t.sizes t.steps ls (is_pair t.sizes c.sizes-defs.result c.def.result c.def-2.result c.sizes-defs.ensures.sizes c.def.ensures c.def-2.ensures) (λ f. (subst (IsStatus t.steps (c.def.result ∷ c.def-2.result ∷ [])) c.in-Open.is c.in_ok-status.ensures) (inl f))
