@@ -3,6 +3,7 @@ pub mod InstanceLemmas
 pub mod SearchLemmas
 pub mod ViolationLemmas
 pub mod WordLemmas
+pub mod OpenLemmas
 pub mod ListedLemmas
 pub mod CollectingLemmas
 pub mod OnceLemmas

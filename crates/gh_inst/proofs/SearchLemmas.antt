@@ -105,7 +105,7 @@ index_front (suc first) [] rest x a b = absurd (omega arith)
 index_front (suc first) (t ∷ ts) rest zero a b = refl
 index_front (suc first) (t ∷ ts) rest (suc x) a b = index_front first ts rest x (omega arith) (omega (arith, b))
 
-place_among : (n : ℕ) (places : List ℕ) (first k : ℕ) → All (λ x. x < first) (take n places) → k < n → n ≤ length places → slice_index_or places k 0 < first
+pub place_among : (n : ℕ) (places : List ℕ) (first k : ℕ) → All (λ x. x < first) (take n places) → k < n → n ≤ length places → slice_index_or places k 0 < first
 place_among zero places first k h a b = absurd (omega arith)
 place_among (suc n) [] first k h a b = absurd (omega arith)
 place_among (suc n) (x ∷ xs) first zero h a b = h zero x (omega arith)

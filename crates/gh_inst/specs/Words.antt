@@ -1,12 +1,13 @@
--- Betweenness of one version in words: a bit for each third term.
-use Rattle.std.specs.Prelude.{ℕ, ◌≡◌, ◌<◌, ◌≤◌, ◌+◌, ◌*◌, List, Bool, true, false, length, slice_get, slice_index_or, Some}
+-- Betweenness of one version in words: a bit for each third term; what a word leaves open.
+use Rattle.std.specs.Prelude.{ℕ, ◌≡◌, ◌≢◌, ◌<◌, ◌≤◌, ◌+◌, ◌*◌, ◌++◌, All, take, List, Bool, true, false, length, slice_get, slice_index_or, Some}
 use Rattle.std.specs.Int.{bit_at}
 use Rattle.gh_base.specs.declared.atom.Term.{Term}
 use Rattle.gh_base.specs.declared.atom.Atom.TheVariants.{Btwn}
-use Rattle.gh_base.specs.Meaning.{Interpretation}
+use Rattle.gh_base.specs.Meaning.{Interpretation, IsLitTrue}
 use Rattle.gh_inst.specs.declared.schema.Shape.TheVariants.{Btwn as Between}
 use Rattle.gh_inst.specs.declared.schema.Pattern.{Pattern}
-use Rattle.gh_inst.specs.Schemas.{term}
+use Rattle.gh_inst.specs.Schemas.{term, lit_over}
+use Rattle.gh_inst.specs.Search.{IsAmong, IsRowTrue}
 
 abbrev pub bit_of : Bool → ℕ
 bit_of true = 1
@@ -18,12 +19,31 @@ is_between m version x y z = m.table (Btwn version (term x) (term y) (term z))
 -- the words of two terms have their bits right, where there are words at all
 pub record AreWords (m : Interpretation) (version n : ℕ) (words : List ℕ) : Type 0 where
   pub few : 0 < length words → n ≤ 32
+  pub full : 0 < length words → length words ≡ 1024
   pub bits : (x y z word : ℕ) → x < n → y < n → z < n → slice_get words (x * 32 + y) ≡ Some word → bit_at word z ≡ bit_of (is_between m version x y z)
 
--- a literal on betweenness, of which the first two terms are known and the third is the last of the tuple
-pub record IsPair (p : Pattern) (tuple : List Term) (first last place : ℕ) : Type 0 where
+-- a literal on betweenness, of which the first two terms are known
+pub record IsPair (p : Pattern) (tuple : List Term) (first place : ℕ) : Type 0 where
   pub shape : p.shape ≡ Between
   pub x_known : slice_index_or p.places 0 0 < first
   pub y_known : slice_index_or p.places 1 0 < first
-  pub z_last : slice_index_or p.places 2 0 ≡ last
   pub place_is : place ≡ (slice_index_or tuple (slice_index_or p.places 0 0) (term 0)).0 * 32 + (slice_index_or tuple (slice_index_or p.places 1 0) (term 0)).0
+
+-- the bits of a word are the third terms at which a literal is false
+pub record AreThirds (m : Interpretation) (version n : ℕ) (p : Pattern) (tuple : List Term) (first word : ℕ) : Type 0 where
+  pub holds : (z : ℕ) (rest : List Term) → z < n → slice_index_or (take first tuple ++ rest) (slice_index_or p.places 2 0) (term 0) ≡ term z
+      → bit_at word z ≡ 0 → IsLitTrue m (lit_over version (take first tuple ++ rest) p)
+  pub fails : (z : ℕ) (rest : List Term) → z < n → slice_index_or (take first tuple ++ rest) (slice_index_or p.places 2 0) (term 0) ≡ term z
+      → bit_at word z ≢ 0 → ¬ IsLitTrue m (lit_over version (take first tuple ++ rest) p)
+
+-- a literal is true, whatever comes later, where the next term's bit isn't there; with a bit it is false, if it is known
+pub record IsLitOpen (m : Interpretation) (version n : ℕ) (p : Pattern) (tuple : List Term) (first word : ℕ) : Type 0 where
+  pub closed : (z : ℕ) (rest : List Term) → z < n → All (λ t. t.0 < n) rest → slice_index_or (take first tuple ++ rest) first (term 0) ≡ term z
+      → bit_at word z ≡ 0 → IsLitTrue m (lit_over version (take first tuple ++ rest) p)
+  pub known : word ≢ 0 → IsAmong first p → ¬ IsLitTrue m (lit_over version (take first tuple) p)
+
+-- the same of a row
+pub record IsOpen (m : Interpretation) (version n : ℕ) (lits : List Pattern) (tuple : List Term) (first word : ℕ) : Type 0 where
+  pub closed : (z : ℕ) (rest : List Term) → z < n → All (λ t. t.0 < n) rest → slice_index_or (take first tuple ++ rest) first (term 0) ≡ term z
+      → bit_at word z ≡ 0 → IsRowTrue m version lits (take first tuple ++ rest)
+  pub known : word ≢ 0 → All (IsAmong first) lits → ¬ IsRowTrue m version lits (take first tuple)

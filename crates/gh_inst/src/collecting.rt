@@ -1,18 +1,18 @@
 //! Instances that are false in a structure, some of each row and version.
 
-ghost use Rattle.std.specs.Prelude.{◌≡◌, ◌<◌, ◌≤◌, ◌-◌, [], ◌∷◌, All, IfOk, OnOk, Some, length, map, take};
+ghost use Rattle.std.specs.Prelude.{◌≡◌, ◌<◌, ◌≤◌, ◌-◌, [], ◌∷◌, All, IfOk, OnOk, Some, length, map, option_map, take};
 ghost use Rattle.gh_base.specs.Structures.{interpretation_of};
 ghost use Rattle.gh_inst.specs.Table.{row_with, table, AxiomRow};
 ghost use Rattle.gh_inst.specs.Tuples.{tuples};
 ghost use Rattle.gh_inst.specs.Instances.{name_of};
 ghost use Rattle.gh_inst.specs.Words.{AreWords};
-ghost use Rattle.gh_inst.specs.Search.{IsRowTrue, tuples_with};
+ghost use Rattle.gh_inst.specs.Search.{IsRowTrue, IsSearched, tuples_with};
 ghost use Rattle.gh_inst.specs.Violations.{IsInstanceTrue, AreInstancesTrue};
 ghost use Rattle.gh_inst.specs.Collecting.{IsFalseInstance, Gathers, IsLooked, GathersIn, RowHolds, VersionHolds};
 
 use crate::naming::InstanceName;
 use crate::schema::Pattern;
-use crate::search::first_from;
+use crate::search::{first_by_words, first_from};
 use crate::table::row_numbered;
 use crate::violation::name_of_terms;
 use crate::words::words_of;
@@ -31,6 +31,24 @@ struct Looked<'a> {
     words: &'a [u32],
 }
 
+// The row's first false tuple among those that begin with the first terms of a tuple.
+fn first_in(row: &Looked, start: [Term; 4], first: usize) -> Option<[Term; 4]>
+    requires looked { IsLooked row.now }
+    requires some { 0 < row.now.structure.now.sizes.terms }
+    requires first { first ≤ row.now.variables }
+    requires terms { All (λ t. t.0 < row.now.structure.now.sizes.terms) (take first start) }
+    ensures { IsSearched (IsRowTrue (interpretation_of row.now.structure.now) row.now.version row.now.lits.now) (tuples_with (row.now.variables - first) row.now.structure.now.sizes.terms (take first start)) (option_map (take row.now.variables) result) }
+{
+    let variables = row.variables as usize;
+    let (structure, version) = (row.structure, row.version);
+    if row.words.is_empty() {
+        return first_from(row.lits, variables, structure, version, start, first);
+    }
+    first_by_words(
+        row.lits, variables, structure, version, row.words, start, first,
+    )
+}
+
 // Adds the row's first false instance whose tuple begins with the first terms of a tuple.
 fn gather_first(
     row: &Looked,
@@ -39,17 +57,14 @@ fn gather_first(
     found: &mut Vec<InstanceName>,
 ) -> Result<(), AllocError>
     requires looked { IsLooked row.now }
+    requires some { 0 < row.now.structure.now.sizes.terms }
     requires first { first ≤ row.now.variables }
     requires long { length (take first start) ≡ first }
     requires terms { All (λ t. t.0 < row.now.structure.now.sizes.terms) (take first start) }
     ensures { OnOk result (GathersIn row.now (take first start) (row.now.variables - first) found.old.items found.new.items) }
 {
-    let variables = row.variables as usize;
-    let (structure, version) = (row.structure, row.version);
-    if let Some(terms) = first_from(
-        row.lits, variables, structure, version, row.words, start, first,
-    ) {
-        found.push(name_of_terms(row.number, row.variables, version, terms))?;
+    if let Some(terms) = first_in(row, start, first) {
+        found.push(name_of_terms(row.number, row.variables, row.version, terms))?;
     }
     Ok(())
 }

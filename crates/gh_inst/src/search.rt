@@ -1,15 +1,15 @@
 //! The first tuple at which a row is false.
 
-ghost use Rattle.std.specs.Prelude.{◌≡◌, ◌<◌, ◌≤◌, ◌-◌, ◌++◌, ◌↔◌, ℕ, List, IsTrue, All, take, option_map, []};
+ghost use Rattle.std.specs.Prelude.{◌≡◌, ◌<◌, ◌≤◌, ◌-◌, ◌++◌, ◌↔◌, ℕ, List, IsTrue, All, length, take, option_map, []};
 ghost use Rattle.gh_base.specs.declared.atom.Term.{Term as GhostTerm};
 ghost use Rattle.gh_base.specs.Meaning.{IsLitTrue};
 ghost use Rattle.gh_base.specs.Structures.{interpretation_of};
 ghost use Rattle.gh_inst.specs.Schemas.{places_of, term_at, lit_over};
-ghost use Rattle.gh_inst.specs.Words.{AreWords};
+ghost use Rattle.gh_inst.specs.Words.{AreWords, IsOpen};
 ghost use Rattle.gh_inst.specs.Search.{IsAmong, IsSearched, IsRowTrue, tuples_with};
 
 use crate::schema::{Pattern, Shape};
-use crate::words::{is_ruled_out, words_of};
+use crate::words::{open_terms, words_of};
 use gh_base::atom::Term;
 use gh_base::structure::Structure;
 
@@ -46,7 +46,7 @@ impl Pattern {
     }
 
     // Whether its variables are among the first ones, and it is true whatever the others are.
-    fn settles(self, structure: &Structure, version: u8, tuple: &[Term; 4], first: usize) -> bool
+    pub(crate) fn settles(self, structure: &Structure, version: u8, tuple: &[Term; 4], first: usize) -> bool
         requires version { version < structure.now.sizes.versions }
         requires first { first ≤ 4 }
         requires terms { All (λ t. t.0 < structure.now.sizes.terms) (take first tuple.now) }
@@ -88,12 +88,10 @@ pub(crate) fn first_from(
     variables: usize,
     structure: &Structure,
     version: u8,
-    words: &[u32],
     start: [Term; 4],
     first: usize,
 ) -> Option<[Term; 4]>
     requires version { version < structure.now.sizes.versions }
-    requires words { AreWords (interpretation_of structure.now) version structure.now.sizes.terms words.now }
     requires variables { variables ≤ 4 }
     requires first { first ≤ variables }
     requires lits { All (IsAmong variables) lits.now }
@@ -106,18 +104,91 @@ pub(crate) fn first_from(
     if first == variables {
         return Some(start);
     }
-    if is_ruled_out(lits, words, &start, first, variables) {
-        return None;
-    }
     let mut tuple = start;
     for term in 0..structure.terms() {
         tuple[first] = Term(term);
-        let found = first_from(lits, variables, structure, version, words, tuple, first + 1);
+        let found = first_from(lits, variables, structure, version, tuple, first + 1);
         if found.is_some() {
             return found;
         }
     }
     None
+}
+
+// The first tuple at which a row is false, among those that begin with the first terms of a tuple, of which the open next
+// terms are known.
+fn first_open(
+    lits: &[Pattern],
+    variables: usize,
+    structure: &Structure,
+    version: u8,
+    words: &[u32],
+    start: [Term; 4],
+    first: usize,
+    left: u32,
+) -> Option<[Term; 4]>
+    requires version { version < structure.now.sizes.versions }
+    requires few { structure.now.sizes.terms ≤ 32 }
+    requires some { 0 < structure.now.sizes.terms }
+    requires words { AreWords (interpretation_of structure.now) version structure.now.sizes.terms words.now }
+    requires full { length words.now ≡ 1024 }
+    requires variables { variables ≤ 4 }
+    requires first { first < variables }
+    requires lits { All (IsAmong variables) lits.now }
+    requires terms { All (λ t. t.0 < structure.now.sizes.terms) (take first start) }
+    requires left { IsOpen (interpretation_of structure.now) version structure.now.sizes.terms lits.now start first left }
+    ensures { IsSearched (IsRowTrue (interpretation_of structure.now) version lits.now) (tuples_with (variables - first) structure.now.sizes.terms (take first start)) (option_map (take variables) result) }
+{
+    let mut tuple = start;
+    for term in 0..structure.terms() {
+        if left >> term & 1 == 0 {
+            continue;
+        }
+        tuple[first] = Term(term);
+        let next = open_terms(lits, structure, version, words, &tuple, first + 1);
+        if next == 0 {
+            continue;
+        }
+        if first + 1 == variables {
+            return Some(tuple);
+        }
+        let found = first_open(lits, variables, structure, version, words, tuple, first + 1, next);
+        if found.is_some() {
+            return found;
+        }
+    }
+    None
+}
+
+/// The first tuple at which a row is false, among those that begin with the first terms of a tuple, by the words.
+pub(crate) fn first_by_words(
+    lits: &[Pattern],
+    variables: usize,
+    structure: &Structure,
+    version: u8,
+    words: &[u32],
+    start: [Term; 4],
+    first: usize,
+) -> Option<[Term; 4]>
+    requires version { version < structure.now.sizes.versions }
+    requires few { structure.now.sizes.terms ≤ 32 }
+    requires some { 0 < structure.now.sizes.terms }
+    requires words { AreWords (interpretation_of structure.now) version structure.now.sizes.terms words.now }
+    requires full { length words.now ≡ 1024 }
+    requires variables { variables ≤ 4 }
+    requires first { first ≤ variables }
+    requires lits { All (IsAmong variables) lits.now }
+    requires terms { All (λ t. t.0 < structure.now.sizes.terms) (take first start) }
+    ensures { IsSearched (IsRowTrue (interpretation_of structure.now) version lits.now) (tuples_with (variables - first) structure.now.sizes.terms (take first start)) (option_map (take variables) result) }
+{
+    let left = open_terms(lits, structure, version, words, &start, first);
+    if left == 0 {
+        return None;
+    }
+    if first == variables {
+        return Some(start);
+    }
+    first_open(lits, variables, structure, version, words, start, first, left)
 }
 
 /// The first tuple at which a row is false.
@@ -133,9 +204,9 @@ pub(crate) fn first_tuple(
     ensures { IsSearched (IsRowTrue (interpretation_of structure.now) version lits.now) (tuples_with (variables - 0) structure.now.sizes.terms []) (option_map (take variables) result) }
 {
     let start = [Term(0); 4];
-    if variables >= 3 && structure.terms() <= 32 {
+    if variables >= 3 && structure.terms() >= 1 && structure.terms() <= 32 {
         let words = words_of(structure, version);
-        return first_from(lits, variables, structure, version, &words, start, 0);
+        return first_by_words(lits, variables, structure, version, &words, start, 0);
     }
-    first_from(lits, variables, structure, version, &[], start, 0)
+    first_from(lits, variables, structure, version, start, 0)
 }

@@ -1,14 +1,12 @@
-//! Betweenness of one version in words, a bit for each third term, and the last terms that they leave open.
+//! Betweenness of one version in words, a bit for each third term, and the next terms that they leave open.
 
-ghost use Rattle.std.specs.Prelude.{◌≡◌, ◌≢◌, ◌<◌, ◌≤◌, ◌+◌, ◌*◌, ◌-◌, ◌++◌, ℕ, List, IsTrue, All, IfSome, length, take, slice_index_or};
+ghost use Rattle.std.specs.Prelude.{◌≡◌, ◌≢◌, ◌<◌, ◌≤◌, ◌+◌, ◌*◌, ℕ, IsTrue, All, IfSome, None, length, take};
 ghost use Rattle.std.specs.Int.{bit_at};
-ghost use Rattle.gh_base.specs.declared.atom.Term.{Term as GhostTerm};
-ghost use Rattle.gh_base.specs.Meaning.{Interpretation, IsLitTrue};
+ghost use Rattle.gh_base.specs.Meaning.{Interpretation};
 ghost use Rattle.gh_base.specs.Structures.{interpretation_of};
 ghost use Rattle.gh_inst.specs.declared.schema.Shape.TheVariants.{Btwn as OnTerms};
-ghost use Rattle.gh_inst.specs.Schemas.{term, lit_over};
-ghost use Rattle.gh_inst.specs.Search.{IsRowTrue};
-ghost use Rattle.gh_inst.specs.Words.{bit_of, is_between, AreWords, IsPair};
+ghost use Rattle.gh_inst.specs.Search.{IsAmong};
+ghost use Rattle.gh_inst.specs.Words.{bit_of, is_between, AreWords, IsPair, AreThirds, IsLitOpen, IsOpen};
 
 use crate::schema::{Pattern, Shape};
 use gh_base::atom::{Atom, Term};
@@ -79,69 +77,123 @@ pub(crate) fn words_of(structure: &Structure, version: u8) -> [u32; 1024]
 }
 
 impl Pattern {
-    // The place of the first two terms, where the third is the last of the tuple.
-    fn pair_between(self, tuple: &[Term; 4], first: usize, last: usize) -> Option<usize>
+    // The place of the first two terms of a literal on betweenness, if these are known.
+    fn pair(self, tuple: &[Term; 4], first: usize) -> Option<usize>
         requires shape { self.shape ≡ OnTerms }
         requires first { first ≤ 4 }
-        ensures { IfSome result (λ place. IsPair self tuple.now first last place) }
+        requires terms { All (λ t. t.0 < 32) (take first tuple.now) }
+        ensures pair { IfSome result (λ place. IsPair self tuple.now first place) }
+        ensures below { IfSome result (λ place. place < 1024) }
+        ensures none { result ≡ None → ¬ IsAmong first self }
     {
         let x = self.places[0] as usize;
         let y = self.places[1] as usize;
-        if x >= first || y >= first || self.places[2] as usize != last {
+        if x >= first {
+            return None;
+        }
+        if y >= first {
             return None;
         }
         Some(tuple[x].0 as usize * 32 + tuple[y].0 as usize)
     }
 
-    // The same, where it is a literal on betweenness.
-    fn pair(self, tuple: &[Term; 4], first: usize, last: usize) -> Option<usize>
-        requires { first ≤ 4 }
-        ensures { IfSome result (λ place. IsPair self tuple.now first last place) }
+    // The third terms at which a literal on betweenness is false, as bits, if its first two terms are known.
+    fn thirds(self, words: &[u32], tuple: &[Term; 4], first: usize) -> Option<u32>
+        requires shape { self.shape ≡ OnTerms }
+        requires first { first ≤ 4 }
+        requires terms { All (λ t. t.0 < 32) (take first tuple.now) }
+        requires full { length words.now ≡ 1024 }
+        ensures some { IfSome result (λ word. (m : Interpretation) (version n : ℕ) → AreWords m version n words.now → All (λ t. t.0 < n) (take first tuple.now) → AreThirds m version n self tuple.now first word) }
+        ensures none { result ≡ None → ¬ IsAmong first self }
     {
-        match self.shape {
-            Shape::Btwn => self.pair_between(tuple, first, last),
-            Shape::Equal | Shape::Hop | Shape::Alloc => None,
+        let pair = self.pair(tuple, first)?;
+        let word = words[pair];
+        if self.positive {
+            return Some(!word);
         }
+        Some(word)
     }
 
-    // The last terms at which the words leave it open whether it is true, as bits.
-    fn last_terms(self, words: &[u32], tuple: &[Term; 4], first: usize, last: usize) -> u32
-        requires { first ≤ 4 }
-        ensures { (m : Interpretation) (version n z : ℕ) (rest : List GhostTerm) → AreWords m version n words.now → n ≤ 32 → All (λ t. t.0 < n) (take first tuple.now)
-            → z < n → slice_index_or (take first tuple.now ++ rest) last (term 0) ≡ term z → bit_at result z ≡ 0 → IsLitTrue m (lit_over version (take first tuple.now ++ rest) self) }
+    // The next terms at which a literal on betweenness may be false, as bits.
+    fn next_between(self, words: &[u32], tuple: &[Term; 4], first: usize) -> u32
+        requires shape { self.shape ≡ OnTerms }
+        requires first { first ≤ 4 }
+        requires terms { All (λ t. t.0 < 32) (take first tuple.now) }
+        requires full { length words.now ≡ 1024 }
+        ensures { (m : Interpretation) (version n : ℕ) → AreWords m version n words.now → 0 < n → All (λ t. t.0 < n) (take first tuple.now) → IsLitOpen m version n self tuple.now first result }
     {
-        let Some(pair) = self.pair(tuple, first, last) else {
+        let Some(word) = self.thirds(words, tuple, first) else {
             return u32::MAX;
         };
-        let Some(word) = words.get(pair) else {
+        let z = self.places[2] as usize;
+        if z < first {
+            if word >> tuple[z].0 & 1 == 0 {
+                return 0;
+            }
             return u32::MAX;
-        };
-        if self.positive {
-            return !*word;
         }
-        *word
+        if z == first {
+            return word;
+        }
+        if word == 0 {
+            return 0;
+        }
+        u32::MAX
+    }
+
+    // The next terms at which it may be false, as bits.
+    fn next_terms(
+        self,
+        structure: &Structure,
+        version: u8,
+        words: &[u32],
+        tuple: &[Term; 4],
+        first: usize,
+    ) -> u32
+        requires version { version < structure.now.sizes.versions }
+        requires few { structure.now.sizes.terms ≤ 32 }
+        requires some { 0 < structure.now.sizes.terms }
+        requires words { AreWords (interpretation_of structure.now) version structure.now.sizes.terms words.now }
+        requires full { length words.now ≡ 1024 }
+        requires first { first ≤ 4 }
+        requires terms { All (λ t. t.0 < structure.now.sizes.terms) (take first tuple.now) }
+        ensures { IsLitOpen (interpretation_of structure.now) version structure.now.sizes.terms self tuple.now first result }
+    {
+        match self.shape {
+            Shape::Btwn => return self.next_between(words, tuple, first),
+            Shape::Equal | Shape::Hop | Shape::Alloc => {}
+        }
+        if self.settles(structure, version, tuple, first) {
+            return 0;
+        }
+        u32::MAX
     }
 }
 
-/// Whether the words make some literal true whatever the terms after the first ones are.
-pub(crate) fn is_ruled_out(
+/// The next terms at which a row may be false, as bits.
+pub(crate) fn open_terms(
     lits: &[Pattern],
+    structure: &Structure,
+    version: u8,
     words: &[u32],
     tuple: &[Term; 4],
     first: usize,
-    variables: usize,
-) -> bool
-    requires first { first < variables }
-    requires variables { variables ≤ 4 }
-    ensures { IsTrue result → (m : Interpretation) (version n : ℕ) (rest : List GhostTerm) → AreWords m version n words.now → All (λ t. t.0 < n) (take first tuple.now)
-        → length rest ≡ variables - first → All (λ t. t.0 < n) rest → IsRowTrue m version lits.now (take first tuple.now ++ rest) }
+) -> u32
+    requires version { version < structure.now.sizes.versions }
+    requires few { structure.now.sizes.terms ≤ 32 }
+    requires some { 0 < structure.now.sizes.terms }
+    requires words { AreWords (interpretation_of structure.now) version structure.now.sizes.terms words.now }
+    requires full { length words.now ≡ 1024 }
+    requires first { first ≤ 4 }
+    requires terms { All (λ t. t.0 < structure.now.sizes.terms) (take first tuple.now) }
+    ensures { IsOpen (interpretation_of structure.now) version structure.now.sizes.terms lits.now tuple.now first result }
 {
-    if words.is_empty() {
-        return false;
-    }
     let mut terms = u32::MAX;
     for pattern in lits {
-        terms &= pattern.last_terms(words, tuple, first, variables - 1);
+        terms &= pattern.next_terms(structure, version, words, tuple, first);
+        if terms == 0 {
+            return 0;
+        }
     }
-    terms == 0
+    terms
 }

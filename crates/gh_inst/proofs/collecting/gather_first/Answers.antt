@@ -13,8 +13,8 @@ returns-in_ok-push c =
     let l = c.requires.looked in
     let s = r.structure.now in
     let m = interpretation_of s in
-    let some : option_map (take r.variables) c.first_from.result ≡ Some (take r.variables c.in-Some.terms) = ap (option_map (take r.variables)) c.in-Some.is in
-    let searched = subst (IsSearched (IsRowTrue m r.version r.lits.now) (tuples_with (r.variables - c.args.first) s.sizes.terms (take c.args.first c.args.start))) some c.first_from.ensures in
+    let some : option_map (take r.variables) c.first_in.result ≡ Some (take r.variables c.in-Some.terms) = ap (option_map (take r.variables)) c.in-Some.is in
+    let searched = subst (IsSearched (IsRowTrue m r.version r.lits.now) (tuples_with (r.variables - c.args.first) s.sizes.terms (take c.args.first c.args.start))) some c.first_in.ensures in
     let is : IsFalseInstance s.sizes m (name_of r.number r.version (take r.variables c.in-Some.terms)) =
     found_false s.sizes m r.number r.version r.variables c.args.first r.lits.now (take c.args.first c.args.start) (take r.variables c.in-Some.terms) l.row_is l.version_there c.requires.first c.requires.long c.requires.terms searched in
     subst (GathersIn r (take c.args.first c.args.start) (r.variables - c.args.first) c.args.found.now.items) (sym c.in_ok-push.ensures.items)

@@ -6,7 +6,7 @@ use Rattle.gh_inst.specs.Schemas.{term}
 use Rattle.gh_inst.specs.Tuples.{terms_below}
 use Rattle.gh_inst.specs.Search.{IsRowTrue, tuples_with}
 use Rattle.gh_inst.proofs.TupleLemmas.{term_there, terms_length}
-use Rattle.gh_inst.proofs.SearchLemmas.{block_true, block_ruled_out, block_false, blocks_of, blocks_end, found_in_block, none_in_block, is_some_map, one_term_more}
+use Rattle.gh_inst.proofs.SearchLemmas.{block_true, block_false, blocks_of, blocks_end, found_in_block, none_in_block, is_some_map, one_term_more}
 use Rattle.gh_inst.proofs.search.+first_from.Goals as goal
 
 pub returns-then-is_settled : goal.returns-then-is_settled
@@ -19,13 +19,6 @@ returns-then-first-variables t c =
     let a = c.args in
     block_false (interpretation_of a.structure.now) a.version a.variables a.first a.structure.now.sizes.terms a.lits.now a.start c.if-first-variables.true
     (c.is_settled.ensures.open (λ h. absurd cc) (rw c.if-first-variables.true c.requires.lits))
-
-pub returns-then-is_ruled_out : goal.returns-then-is_ruled_out
-returns-then-is_ruled_out t c =
-    let a = c.args in
-    let n = a.structure.now.sizes.terms in
-    block_ruled_out (interpretation_of a.structure.now) a.version (a.variables - a.first) n a.lits.now (take a.first a.start)
-    (λ rest long below. c.is_ruled_out.ensures c.if-is_ruled_out.true (interpretation_of a.structure.now) a.version n rest c.requires.words c.requires.terms long below)
 
 pub returns-then-is_some : goal.returns-then-is_some
 returns-then-is_some t c =
