@@ -74,9 +74,9 @@ pub third_none : (m : Interpretation) (version n first : ℕ) (p : Pattern) (tup
 third_none m version n first p tuple word t none some below =
     lit_settled m version n p tuple first
     (λ rest later.
-        let full = take first tuple ++ rest in
-        let z = (slice_index_or full (slice_index_or p.places 2 0) (term 0)).0 in
-        t.holds z rest (any_below n (slice_index_or p.places 2 0) full some (All-append (λ t. t.0 < n) (take first tuple) rest below later)) refl (ap (λ w. bit_at w z) none ∙ bit_at-zero z))
+    let full = take first tuple ++ rest in
+    let z = (slice_index_or full (slice_index_or p.places 2 0) (term 0)).0 in
+    t.holds z rest (any_below n (slice_index_or p.places 2 0) full some (All-append (λ t. t.0 < n) (take first tuple) rest below later)) refl (ap (λ w. bit_at w z) none ∙ bit_at-zero z))
 
 -- a block in which no next term is open
 pub closed_block : (m : Interpretation) (version more n : ℕ) (lits : List Pattern) (tuple : List Term) (first word : ℕ) → IsOpen m version n lits tuple first word → word ≡ 0 → 0 < n
@@ -84,9 +84,9 @@ pub closed_block : (m : Interpretation) (version more n : ℕ) (lits : List Patt
 closed_block m version more n lits tuple first word o none some below =
     block_ruled_out m version more n lits (take first tuple)
     (λ rest long later.
-        let full = take first tuple ++ rest in
-        let z = (slice_index_or full first (term 0)).0 in
-        o.closed z rest (any_below n first full some (All-append (λ t. t.0 < n) (take first tuple) rest below later)) later refl (ap (λ w. bit_at w z) none ∙ bit_at-zero z))
+    let full = take first tuple ++ rest in
+    let z = (slice_index_or full first (term 0)).0 in
+    o.closed z rest (any_below n first full some (All-append (λ t. t.0 < n) (take first tuple) rest below later)) later refl (ap (λ w. bit_at w z) none ∙ bit_at-zero z))
 
 index_here : (first : ℕ) (tuple : List Term) (x : Term) (rest : List Term) → first ≤ length tuple → slice_index_or (take first tuple ++ x ∷ rest) first (term 0) ≡ x
 index_here zero tuple x rest h = refl
