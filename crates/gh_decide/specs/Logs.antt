@@ -8,6 +8,8 @@ use Rattle.gh_symb.specs.Formulas.{problem}
 use Rattle.gh_trace.specs.Validity.{ListedAreValid}
 use Rattle.gh_log.specs.declared.lines.LogLine.{LogLine}
 use Rattle.gh_log.specs.Sections.{IsValidSection}
+use Rattle.gh_base.specs.Meaning.{Interpretation}
+use Rattle.gh_model.specs.Abstraction.{IsModelOf}
 
 -- the sections are as many as the conditions, and each is valid for the clauses of its condition
 abbrev pub AreValidSections : Program → List Condition → List (List LogLine) → Type 0
@@ -22,3 +24,7 @@ IsValidLog P log = AreValidSections P (conditions P) log
 -- where a log is valid for a program, all conditions are valid
 abbrev pub ValidLogsShowValidity : Type 0
 ValidLogsShowValidity = (P : Program) (log : List (List LogLine)) → IsTyped P → IsValidLog P log → ListedAreValid P
+
+-- where a section is valid for a condition's clauses, these have no model
+abbrev pub ValidSectionsHaveNoModel : Type 0
+ValidSectionsHaveNoModel = (P : Program) (c : Condition) (lines : List LogLine) (m : Interpretation) → IsValidSection (problem (symbolic_of P c)) lines → IsModelOf P c m → ⊥

@@ -1,7 +1,7 @@
 //! Why valid conditions make good programs, and what verdicts and logs tell.
 
 ghost use Rattle.gh_decide.specs.Verdicts.{VerdictsAreExact};
-ghost use Rattle.gh_decide.specs.Logs.{ValidLogsShowValidity};
+ghost use Rattle.gh_decide.specs.Logs.{ValidLogsShowValidity, ValidSectionsHaveNoModel};
 ghost use Rattle.gh_decide.specs.Laws.{SafeMeansPathsPass, TestsLead, Composition, ValidPass, ListedIsGood, TypedKeepRules, TypedIsGood, ExamplesHold};
 
 /// A state is safe exactly where each path's check is passed.
@@ -53,4 +53,9 @@ pub fn verdicts_are_exact()
 /// Where a log is valid for a program, all conditions are valid.
 pub fn valid_logs_show_validity()
     ensures { ValidLogsShowValidity }
+{}
+
+/// Where a section is valid for a condition's clauses, these have no model.
+pub fn valid_sections_have_no_model()
+    ensures { ValidSectionsHaveNoModel }
 {}
