@@ -46,7 +46,13 @@ impl Pattern {
     }
 
     // Whether its variables are among the first ones, and it is true whatever the others are.
-    pub(crate) fn settles(self, structure: &Structure, version: u8, tuple: &[Term; 4], first: usize) -> bool
+    pub(crate) fn settles(
+        self,
+        structure: &Structure,
+        version: u8,
+        tuple: &[Term; 4],
+        first: usize,
+    ) -> bool
         requires version { version < structure.now.sizes.versions }
         requires first { first ≤ 4 }
         requires terms { All (λ t. t.0 < structure.now.sizes.terms) (take first tuple.now) }
@@ -131,7 +137,7 @@ fn first_open(
     requires few { structure.now.sizes.terms ≤ 32 }
     requires some { 0 < structure.now.sizes.terms }
     requires words { AreWords (interpretation_of structure.now) version structure.now.sizes.terms words.now }
-    requires full { length words.now ≡ 1024 }
+    requires full { length words.now ≡ 1088 }
     requires variables { variables ≤ 4 }
     requires first { first < variables }
     requires lits { All (IsAmong variables) lits.now }
@@ -152,7 +158,16 @@ fn first_open(
         if first + 1 == variables {
             return Some(tuple);
         }
-        let found = first_open(lits, variables, structure, version, words, tuple, first + 1, next);
+        let found = first_open(
+            lits,
+            variables,
+            structure,
+            version,
+            words,
+            tuple,
+            first + 1,
+            next,
+        );
         if found.is_some() {
             return found;
         }
@@ -174,7 +189,7 @@ pub(crate) fn first_by_words(
     requires few { structure.now.sizes.terms ≤ 32 }
     requires some { 0 < structure.now.sizes.terms }
     requires words { AreWords (interpretation_of structure.now) version structure.now.sizes.terms words.now }
-    requires full { length words.now ≡ 1024 }
+    requires full { length words.now ≡ 1088 }
     requires variables { variables ≤ 4 }
     requires first { first ≤ variables }
     requires lits { All (IsAmong variables) lits.now }
@@ -188,7 +203,9 @@ pub(crate) fn first_by_words(
     if first == variables {
         return Some(start);
     }
-    first_open(lits, variables, structure, version, words, start, first, left)
+    first_open(
+        lits, variables, structure, version, words, start, first, left,
+    )
 }
 
 /// The first tuple at which a row is false.

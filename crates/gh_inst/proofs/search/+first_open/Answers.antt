@@ -1,4 +1,4 @@
-use Rattle.std.proofs.Common.{List, Some, None, refl, ◌≡◌, ◌<◌, ◌-◌, ◌+◌, ◌++◌, ◌∷◌, [], ◌∙◌, arith, sym, take, set, option_map, length-set}
+use Rattle.std.proofs.Common.{List, Some, None, refl, ◌-◌, ◌+◌, ◌++◌, ◌∷◌, [], ◌∙◌, arith, sym, take, set, option_map, length-set}
 use Rattle.std.proofs.lemmas.Nat.Bits.{shr_and_one}
 use Rattle.std.proofs.lemmas.List.{take-set}
 use Rattle.gh_base.specs.declared.atom.Term.{Term}
@@ -37,7 +37,7 @@ loop-term-preserved-then-next-eq0 t c =
     let P : List Term → Type 0 = IsRowTrue m a.version a.lits.now in
     let f : Term → List (List Term) = λ t. tuples_with more n (take a.first a.start ++ t ∷ []) in
     let below = set_below n a.first l.term l.tuple a.start (omega (arith, l.invariant.long)) l.invariant.begins c.requires.terms (omega arith) in
-    let here = one_term_more P more n a.first l.term l.tuple a.start None (omega (arith, l.invariant.long)) l.invariant.begins 
+    let here = one_term_more P more n a.first l.term l.tuple a.start None (omega (arith, l.invariant.long)) l.invariant.begins
     (closed_block m a.version more n a.lits.now (set l.tuple a.first (term l.term)) (a.first + 1) c.open_terms-next.result c.open_terms-next.ensures c.if-next-eq0.true c.requires.some below) in
     record {
       long = length-set l.tuple a.first (term l.term) ∙ l.invariant.long;
@@ -55,7 +55,7 @@ returns-then-first-variables t c =
     let P : List Term → Type 0 = IsRowTrue m a.version a.lits.now in
     let f : Term → List (List Term) = λ t. tuples_with more n (take a.first a.start ++ t ∷ []) in
     let full = set l.tuple a.first (term l.term) in
-    let here = one_term_more P more n a.first l.term l.tuple a.start (Some (take a.variables full)) (omega (arith, l.invariant.long)) l.invariant.begins 
+    let here = one_term_more P more n a.first l.term l.tuple a.start (Some (take a.variables full)) (omega (arith, l.invariant.long)) l.invariant.begins
     (block_false m a.version a.variables (a.first + 1) n a.lits.now full c.if-first-variables.true (c.open_terms-next.ensures.known c.if-next-eq0.false (rw c.if-first-variables.true c.requires.lits))) in
     rw (blocks_of a.variables a.first n (take a.first a.start) c.requires.first)
     (found_in_block P f (terms_below n) l.term (term l.term) (Some (take a.variables full)) refl (term_there n l.term (omega arith)) l.invariant.searched here)
