@@ -1,25 +1,24 @@
 -- What the open terms of literals and rows say.
-use Rattle.std.proofs.Common.{◌≡◌, ◌≢◌, inl, inr, ℕ, zero, suc, ◌+◌, ◌-◌, ◌<◌, ◌≤◌, List, [], ◌∷◌, ◌++◌, length, Some, None, refl, sym, ap, subst, ◌∙◌, arith, append_assoc, append-nil, take, set, All}
-use Rattle.std.specs.Prelude.{slice_index_or, bit_and}
+use Rattle.std.proofs.Common.{◌≡◌, ◌≢◌, ℕ, zero, suc, ◌+◌, ◌<◌, ◌≤◌, List, [], ◌∷◌, ◌++◌, length, None, refl, sym, ap, subst, ◌∙◌, arith, append_assoc, append-nil, take, set, All}
+use Rattle.std.specs.Prelude.{slice_index_or}
 use Rattle.std.specs.Int.{bit_at}
-use Rattle.std.proofs.lemmas.Nat.Bits.{bit_at-zero, bit_at-lt}
+use Rattle.std.proofs.lemmas.Nat.Bits.{bit_at-zero}
 use Rattle.std.proofs.lemmas.List.{take_more_set}
 use Rattle.std.proofs.lemmas.List.Elements.{All-append, All-cons, All-nil}
 use Rattle.gh_base.specs.declared.atom.Term.{Term}
 use Rattle.gh_base.specs.Meaning.{Interpretation, IsLitTrue}
 use Rattle.gh_inst.specs.declared.schema.Pattern.{Pattern}
-use Rattle.gh_inst.specs.declared.schema.Shape.TheVariants.{Btwn as Between}
 use Rattle.gh_inst.specs.Schemas.{term, lit_over, places_of}
 use Rattle.gh_inst.specs.Search.{IsAmong, IsSearched, IsRowTrue, tuples_with}
-use Rattle.gh_inst.specs.Words.{AreThirds, IsLitOpen, IsOpen}
-use Rattle.gh_inst.proofs.SearchLemmas.{index_front, index_below, place_among, block_ruled_out}
+use Rattle.gh_inst.specs.Words.{AreFalse, IsLitOpen, IsOpen}
+use Rattle.gh_inst.proofs.SearchLemmas.{index_front, index_below, few_places, place_among, block_ruled_out}
 use Rattle.gh_inst.proofs.WordLemmas.{all_ones}
 
--- a literal on betweenness whose variable at a place is not there yet
-pub not_among : (first k : ℕ) (p : Pattern) → p.shape ≡ Between → length p.places ≡ 3 → k < 3 → first ≤ slice_index_or p.places k 0 → ¬ IsAmong first p
-not_among first k p shape three h late among =
-    let used : All (λ x. x < first) (take 3 p.places) = subst (λ s. All (λ x. x < first) (take (places_of s) p.places)) shape among in
-    let early : slice_index_or p.places k 0 < first = place_among 3 p.places first k used h (omega (arith, three)) in
+-- a literal whose variable at a place is not there yet
+pub not_among : (first k : ℕ) (p : Pattern) → length p.places ≡ 3 → k < places_of p.shape → first ≤ slice_index_or p.places k 0 → ¬ IsAmong first p
+not_among first k p three used late among =
+    let few = few_places p.shape in
+    let early : slice_index_or p.places k 0 < first = place_among (places_of p.shape) p.places first k among used (omega (arith, three, few)) in
     absurd (omega (arith, early, late))
 
 -- a literal that is true whatever comes next
@@ -44,39 +43,39 @@ any_below n i [] some h = some
 any_below n zero (t ∷ ts) some h = h zero t (omega arith)
 any_below n (suc i) (t ∷ ts) some h = any_below n i ts some (λ j d l. h (suc j) d (omega (arith, l)))
 
--- a literal on betweenness with the bits of a word, when its third term is known
-pub third_true : (m : Interpretation) (version n first : ℕ) (p : Pattern) (tuple : List Term) (word : ℕ) → AreThirds m version n p tuple first word → first ≤ length tuple
-    → All (λ t. t.0 < n) (take first tuple) → slice_index_or p.places 2 0 < first → bit_at word (slice_index_or tuple (slice_index_or p.places 2 0) (term 0)).0 ≡ 0
+-- a literal with the bits of a word, when the term at the place is known
+pub term_true : (m : Interpretation) (version n first k : ℕ) (p : Pattern) (tuple : List Term) (word : ℕ) → AreFalse m version n p tuple first k word → first ≤ length tuple
+    → All (λ t. t.0 < n) (take first tuple) → slice_index_or p.places k 0 < first → bit_at word (slice_index_or tuple (slice_index_or p.places k 0) (term 0)).0 ≡ 0
     → IsLitOpen m version n p tuple first 0
-third_true m version n first p tuple word t long below known bit =
+term_true m version n first k p tuple word t long below known bit =
     lit_settled m version n p tuple first
-    (λ rest later. t.holds _ rest (index_below first n tuple (slice_index_or p.places 2 0) known long below) (index_front first tuple rest (slice_index_or p.places 2 0) known long) bit)
+    (λ rest later. t.holds _ rest (index_below first n tuple (slice_index_or p.places k 0) known long below) (index_front first tuple rest (slice_index_or p.places k 0) known long) bit)
 
-pub third_false : (m : Interpretation) (version n first : ℕ) (p : Pattern) (tuple : List Term) (word : ℕ) → AreThirds m version n p tuple first word → first ≤ length tuple → n ≤ 32
-    → All (λ t. t.0 < n) (take first tuple) → slice_index_or p.places 2 0 < first → bit_at word (slice_index_or tuple (slice_index_or p.places 2 0) (term 0)).0 ≢ 0
+pub term_false : (m : Interpretation) (version n first k : ℕ) (p : Pattern) (tuple : List Term) (word : ℕ) → AreFalse m version n p tuple first k word → first ≤ length tuple → n ≤ 32
+    → All (λ t. t.0 < n) (take first tuple) → slice_index_or p.places k 0 < first → bit_at word (slice_index_or tuple (slice_index_or p.places k 0) (term 0)).0 ≢ 0
     → IsLitOpen m version n p tuple first 4294967295
-third_false m version n first p tuple word t long few below known bit =
+term_false m version n first k p tuple word t long few below known bit =
     lit_open m version n p tuple first few
     (λ among. subst (λ ts. ¬ IsLitTrue m (lit_over version ts p)) (append-nil (take first tuple))
-    (t.fails _ [] (index_below first n tuple (slice_index_or p.places 2 0) known long below) (index_front first tuple [] (slice_index_or p.places 2 0) known long) bit))
+    (t.fails _ [] (index_below first n tuple (slice_index_or p.places k 0) known long below) (index_front first tuple [] (slice_index_or p.places k 0) known long) bit))
 
 -- when it is the next term
-pub third_next : (m : Interpretation) (version n first : ℕ) (p : Pattern) (tuple : List Term) (word : ℕ) → AreThirds m version n p tuple first word → slice_index_or p.places 2 0 ≡ first
+pub term_next : (m : Interpretation) (version n first k : ℕ) (p : Pattern) (tuple : List Term) (word : ℕ) → AreFalse m version n p tuple first k word → slice_index_or p.places k 0 ≡ first
     → ¬ IsAmong first p → IsLitOpen m version n p tuple first word
-third_next m version n first p tuple word t next late = record {
-  closed = λ z rest below later end bit. t.holds z rest below (ap (λ k. slice_index_or (take first tuple ++ rest) k (term 0)) next ∙ end) bit;
+term_next m version n first k p tuple word t next late = record {
+  closed = λ z rest below later end bit. t.holds z rest below (ap (λ i. slice_index_or (take first tuple ++ rest) i (term 0)) next ∙ end) bit;
   known = λ some among. absurd (late among);
 }
 
 -- when it is false at none
-pub third_none : (m : Interpretation) (version n first : ℕ) (p : Pattern) (tuple : List Term) (word : ℕ) → AreThirds m version n p tuple first word → word ≡ 0 → 0 < n → All (λ t. t.0 < n) (take first tuple)
+pub term_none : (m : Interpretation) (version n first k : ℕ) (p : Pattern) (tuple : List Term) (word : ℕ) → AreFalse m version n p tuple first k word → word ≡ 0 → 0 < n → All (λ t. t.0 < n) (take first tuple)
     → IsLitOpen m version n p tuple first 0
-third_none m version n first p tuple word t none some below =
+term_none m version n first k p tuple word t none some below =
     lit_settled m version n p tuple first
     (λ rest later.
     let full = take first tuple ++ rest in
-    let z = (slice_index_or full (slice_index_or p.places 2 0) (term 0)).0 in
-    t.holds z rest (any_below n (slice_index_or p.places 2 0) full some (All-append (λ t. t.0 < n) (take first tuple) rest below later)) refl (ap (λ w. bit_at w z) none ∙ bit_at-zero z))
+    let z = (slice_index_or full (slice_index_or p.places k 0) (term 0)).0 in
+    t.holds z rest (any_below n (slice_index_or p.places k 0) full some (All-append (λ t. t.0 < n) (take first tuple) rest below later)) refl (ap (λ w. bit_at w z) none ∙ bit_at-zero z))
 
 -- a block in which no next term is open
 pub closed_block : (m : Interpretation) (version more n : ℕ) (lits : List Pattern) (tuple : List Term) (first word : ℕ) → IsOpen m version n lits tuple first word → word ≡ 0 → 0 < n

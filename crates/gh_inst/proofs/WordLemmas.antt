@@ -1,17 +1,16 @@
 -- What words say of literals.
-use Rattle.std.proofs.Common.{◌≡◌, ◌≢◌, ◌^◌, w32, ◌⊎◌, inl, inr, ℕ, zero, suc, ◌-◌, ◌<◌, ◌≤◌, List, [], ◌∷◌, ◌++◌, length, Some, Bool, true, false, refl, sym, ap, ◌∙◌, arith, take, length-append, length-take-le, All}
-use Rattle.std.specs.Prelude.{slice_get, slice_index_or, slice_set, bit_and, min, nat_lt, nat_eq}
+use Rattle.std.proofs.Common.{◌≡◌, ◌≢◌, ◌^◌, w32, ◌⊎◌, inl, inr, ℕ, zero, suc, ◌<◌, ◌≤◌, List, [], ◌∷◌, ◌++◌, length, Some, Bool, true, false, refl, sym, ap, subst, ◌+◌, ◌∙◌, arith, take, All}
+use Rattle.std.specs.Prelude.{slice_get, slice_index_or, slice_set, bit_and, min, nat_eq}
 use Rattle.std.specs.Int.{bit_at, bit_not}
 use Rattle.std.proofs.lemmas.Nat.Bits.{bit_at_and, bit_at_ones, bit_at_not, bit_at-lt}
-use Rattle.std.proofs.lemmas.Bool.{ltb-true}
-use Rattle.std.proofs.lemmas.List.Elements.{All-append}
 use Rattle.gh_base.specs.declared.atom.Term.{Term}
-use Rattle.gh_base.specs.declared.atom.Atom.TheVariants.{Btwn}
-use Rattle.gh_base.specs.Meaning.{Interpretation, IsLitTrue, under, atom_truth, lit_truth}
+use Rattle.gh_base.specs.declared.atom.Atom.TheVariants.{Btwn, Hop}
+use Rattle.gh_inst.specs.declared.schema.Shape.TheVariants.{Btwn as Between, Hop as Step}
+use Rattle.gh_base.specs.Meaning.{Interpretation, under, atom_truth, lit_truth}
 use Rattle.gh_inst.specs.declared.schema.Pattern.{Pattern}
-use Rattle.gh_inst.specs.Schemas.{term, term_at, atom_of, lit_over}
-use Rattle.gh_inst.specs.Words.{bit_of, is_between, AreWords, IsPair, AreThirds}
-use Rattle.gh_inst.proofs.SearchLemmas.{index_front, index_below, got}
+use Rattle.gh_inst.specs.Schemas.{term, places_of, term_at, atom_of, lit_over}
+use Rattle.gh_inst.specs.Words.{bit_of, is_between, is_hop, AreWords, IsPair, AreTruths, AreFalse}
+use Rattle.gh_inst.proofs.SearchLemmas.{index_front, index_below}
 
 pub bit_zero : (b : Bool) → bit_of b ≡ 0 → b ≡ false
 bit_zero true e = absurd (omega arith)
@@ -80,34 +79,81 @@ pub some_words : (k : ℕ) (b : Bool) → b ≡ nat_eq k 0 → b ≡ false → 0
 some_words zero b e f = cc
 some_words (suc k) b e f = omega arith
 
--- the word of a negative literal has the bits at which it is false
-pub negative_thirds : (m : Interpretation) (version n first place word : ℕ) (words : List ℕ) (tuple : List Term) (p : Pattern) → AreWords m version n words → IsPair p tuple first place
-    → first ≤ length tuple → All (λ t. t.0 < n) (take first tuple) → slice_get words place ≡ Some word → p.positive ≡ false → AreThirds m version n p tuple first word
-negative_thirds m version n first place word words tuple p w pair long below got_word negative =
-    let truth : ℕ → Bool = λ z. is_between m version (slice_index_or tuple (slice_index_or p.places 0 0) (term 0)).0 (slice_index_or tuple (slice_index_or p.places 1 0) (term 0)).0 z in
+-- the truths of a literal on betweenness whose first two terms are known, by the third
+pub pair_truths : (m : Interpretation) (version n first place word : ℕ) (words : List ℕ) (tuple : List Term) (p : Pattern) → AreWords m version n words → IsPair p tuple first place
+    → first ≤ length tuple → All (λ t. t.0 < n) (take first tuple) → slice_get words place ≡ Some word → AreTruths m version n p tuple first 2 word
+pair_truths m version n first place word words tuple p w pair long below got_word = record {
+  truth = λ z. is_between m version (slice_index_or tuple (slice_index_or p.places 0 0) (term 0)).0 (slice_index_or tuple (slice_index_or p.places 1 0) (term 0)).0 z;
+  used = subst (λ s. 2 < places_of s) (sym pair.shape) (omega arith);
+  says = λ z rest h end. pair_truth m version first place z tuple rest p pair long end;
+  bits = λ z h. pair_bit m version n first place z word words tuple p w pair long below h got_word;
+}
+
+-- of one whose second and third term are the same, by these
+pub reach_truths : (m : Interpretation) (version n first word : ℕ) (words : List ℕ) (tuple : List Term) (p : Pattern) → AreWords m version n words → p.shape ≡ Between
+    → slice_index_or p.places 1 0 ≡ slice_index_or p.places 2 0 → slice_index_or p.places 0 0 < first → first ≤ length tuple → All (λ t. t.0 < n) (take first tuple)
+    → slice_get words (1024 + (slice_index_or tuple (slice_index_or p.places 0 0) (term 0)).0) ≡ Some word → AreTruths m version n p tuple first 2 word
+reach_truths m version n first word words tuple p w shape same known long below got_word =
+    let x : Term = slice_index_or tuple (slice_index_or p.places 0 0) (term 0) in
     record {
-      holds = λ z rest h end bit.
-          let is : truth z ≡ false = bit_zero (truth z) (sym (pair_bit m version n first place z word words tuple p w pair long below h got_word) ∙ bit) in
-          pair_truth m version first place z tuple rest p pair long end ∙ ap (λ b. under b (truth z)) negative ∙ ap (under false) is;
-      fails = λ z rest h end bit holds.
-          let is : under false (truth z) ≡ true = sym (ap (λ b. under b (truth z)) negative) ∙ sym (pair_truth m version first place z tuple rest p pair long end) ∙ holds in
-          bit (pair_bit m version n first place z word words tuple p w pair long below h got_word ∙ ap bit_of (not_true (truth z) is));
+      truth = λ z. is_between m version x.0 z z;
+      used = subst (λ s. 2 < places_of s) (sym shape) (omega arith);
+      says = λ z rest h end.
+          let at : ℕ → Term = term_at (take first tuple ++ rest) p.places in
+          let front : at 0 ≡ x = index_front first tuple rest (slice_index_or p.places 0 0) known long in
+          let third : at 2 ≡ term z = end in
+          let second : at 1 ≡ term z = ap (λ k. slice_index_or (take first tuple ++ rest) k (term 0)) same ∙ end in
+          ap (λ s. under p.positive (atom_truth m (atom_of s version at))) shape
+          ∙ ap (λ t. under p.positive (m.table (Btwn version t (at 1) (at 2)))) front
+          ∙ ap (λ t. under p.positive (m.table (Btwn version x t (at 2)))) second
+          ∙ ap (λ t. under p.positive (m.table (Btwn version x (term z) t))) third;
+      bits = λ z h. w.reach x.0 z word (index_below first n tuple (slice_index_or p.places 0 0) known long below) h got_word;
     }
 
--- the opposite word of a positive one has them
-pub positive_thirds : (m : Interpretation) (version n first place word : ℕ) (words : List ℕ) (tuple : List Term) (p : Pattern) → AreWords m version n words → IsPair p tuple first place
-    → first ≤ length tuple → All (λ t. t.0 < n) (take first tuple) → slice_get words place ≡ Some word → p.positive ≡ true → n ≤ 32 → word < 2 ^ 32
-    → AreThirds m version n p tuple first (bit_not w32 word)
-positive_thirds m version n first place word words tuple p w pair long below got_word positive few small =
-    let truth : ℕ → Bool = λ z. is_between m version (slice_index_or tuple (slice_index_or p.places 0 0) (term 0)).0 (slice_index_or tuple (slice_index_or p.places 1 0) (term 0)).0 z in
+-- of one on a cell, by the term that it leads to
+pub hop_truths : (m : Interpretation) (version n first word : ℕ) (words : List ℕ) (tuple : List Term) (p : Pattern) → AreWords m version n words → p.shape ≡ Step
+    → slice_index_or p.places 0 0 < first → first ≤ length tuple → All (λ t. t.0 < n) (take first tuple)
+    → slice_get words (1056 + (slice_index_or tuple (slice_index_or p.places 0 0) (term 0)).0) ≡ Some word → AreTruths m version n p tuple first 1 word
+hop_truths m version n first word words tuple p w shape known long below got_word =
+    let x : Term = slice_index_or tuple (slice_index_or p.places 0 0) (term 0) in
     record {
-      holds = λ z rest h end bit.
-          let one : bit_at word z ≡ 1 = opposite_bit word z small (omega (arith, h, few)) bit in
-          let is : truth z ≡ true = bit_one (truth z) (sym (pair_bit m version n first place z word words tuple p w pair long below h got_word) ∙ one) in
-          pair_truth m version first place z tuple rest p pair long end ∙ ap (λ b. under b (truth z)) positive ∙ ap (under true) is;
-      fails = λ z rest h end bit holds.
-          let is : under true (truth z) ≡ true = sym (ap (λ b. under b (truth z)) positive) ∙ sym (pair_truth m version first place z tuple rest p pair long end) ∙ holds in
-          let one : bit_at word z ≡ 1 = pair_bit m version n first place z word words tuple p w pair long below h got_word ∙ ap bit_of is in
-          let opposite = bit_at_not w32 word z small (omega (arith, h, few)) in
-          bit (omega (arith, opposite, one));
+      truth = λ z. is_hop m version x.0 z;
+      used = subst (λ s. 1 < places_of s) (sym shape) (omega arith);
+      says = λ z rest h end.
+          let at : ℕ → Term = term_at (take first tuple ++ rest) p.places in
+          let front : at 0 ≡ x = index_front first tuple rest (slice_index_or p.places 0 0) known long in
+          let second : at 1 ≡ term z = end in
+          ap (λ s. under p.positive (atom_truth m (atom_of s version at))) shape
+          ∙ ap (λ t. under p.positive (m.table (Hop version t (at 1)))) front
+          ∙ ap (λ t. under p.positive (m.table (Hop version x t))) second;
+      bits = λ z h. w.hops x.0 z word (index_below first n tuple (slice_index_or p.places 0 0) known long below) h got_word;
     }
+
+-- a negative literal is false where its atom is true
+pub negative_false : (m : Interpretation) (version n first place word : ℕ) (tuple : List Term) (p : Pattern) → AreTruths m version n p tuple first place word → p.positive ≡ false
+    → AreFalse m version n p tuple first place word
+negative_false m version n first place word tuple p t negative = record {
+  used = t.used;
+  holds = λ z rest h end bit.
+      let is : t.truth z ≡ false = bit_zero (t.truth z) (sym (t.bits z h) ∙ bit) in
+      t.says z rest h end ∙ ap (λ b. under b (t.truth z)) negative ∙ ap (under false) is;
+  fails = λ z rest h end bit holds.
+      let is : under false (t.truth z) ≡ true = sym (ap (λ b. under b (t.truth z)) negative) ∙ sym (t.says z rest h end) ∙ holds in
+      bit (t.bits z h ∙ ap bit_of (not_true (t.truth z) is));
+}
+
+-- and a positive one where it is not
+pub positive_false : (m : Interpretation) (version n first place word : ℕ) (tuple : List Term) (p : Pattern) → AreTruths m version n p tuple first place word → p.positive ≡ true → n ≤ 32 → word < 2 ^ 32
+    → AreFalse m version n p tuple first place (bit_not w32 word)
+positive_false m version n first place word tuple p t positive few small = record {
+  used = t.used;
+  holds = λ z rest h end bit.
+      let one : bit_at word z ≡ 1 = opposite_bit word z small (omega (arith, h, few)) bit in
+      let is : t.truth z ≡ true = bit_one (t.truth z) (sym (t.bits z h) ∙ one) in
+      t.says z rest h end ∙ ap (λ b. under b (t.truth z)) positive ∙ ap (under true) is;
+  fails = λ z rest h end bit holds.
+      let is : under true (t.truth z) ≡ true = sym (ap (λ b. under b (t.truth z)) positive) ∙ sym (t.says z rest h end) ∙ holds in
+      let one : bit_at word z ≡ 1 = t.bits z h ∙ ap bit_of is in
+      let opposite = bit_at_not w32 word z small (omega (arith, h, few)) in
+      bit (omega (arith, opposite, one));
+}

@@ -2,11 +2,11 @@
 use Rattle.std.specs.Prelude.{ℕ, ◌≡◌, ◌≢◌, ◌<◌, ◌≤◌, ◌+◌, ◌*◌, ◌++◌, All, take, List, Bool, true, false, length, slice_get, slice_index_or, Some}
 use Rattle.std.specs.Int.{bit_at}
 use Rattle.gh_base.specs.declared.atom.Term.{Term}
-use Rattle.gh_base.specs.declared.atom.Atom.TheVariants.{Btwn}
-use Rattle.gh_base.specs.Meaning.{Interpretation, IsLitTrue}
+use Rattle.gh_base.specs.declared.atom.Atom.TheVariants.{Btwn, Hop}
+use Rattle.gh_base.specs.Meaning.{Interpretation, IsLitTrue, under, lit_truth}
 use Rattle.gh_inst.specs.declared.schema.Shape.TheVariants.{Btwn as Between}
 use Rattle.gh_inst.specs.declared.schema.Pattern.{Pattern}
-use Rattle.gh_inst.specs.Schemas.{term, lit_over}
+use Rattle.gh_inst.specs.Schemas.{term, places_of, lit_over}
 use Rattle.gh_inst.specs.Search.{IsAmong, IsRowTrue}
 
 abbrev pub bit_of : Bool → ℕ
@@ -16,11 +16,16 @@ bit_of false = 0
 abbrev pub is_between : Interpretation → ℕ → ℕ → ℕ → ℕ → Bool
 is_between m version x y z = m.table (Btwn version (term x) (term y) (term z))
 
--- the words of two terms have their bits right, where there are words at all
+abbrev pub is_hop : Interpretation → ℕ → ℕ → ℕ → Bool
+is_hop m version x y = m.table (Hop version (term x) (term y))
+
+-- the words of two terms, and those of one term, have their bits right, where there are words at all
 pub record AreWords (m : Interpretation) (version n : ℕ) (words : List ℕ) : Type 0 where
   pub few : 0 < length words → n ≤ 32
-  pub full : 0 < length words → length words ≡ 1024
+  pub full : 0 < length words → length words ≡ 1088
   pub bits : (x y z word : ℕ) → x < n → y < n → z < n → slice_get words (x * 32 + y) ≡ Some word → bit_at word z ≡ bit_of (is_between m version x y z)
+  pub reach : (x y word : ℕ) → x < n → y < n → slice_get words (1024 + x) ≡ Some word → bit_at word y ≡ bit_of (is_between m version x y y)
+  pub hops : (x y word : ℕ) → x < n → y < n → slice_get words (1056 + x) ≡ Some word → bit_at word y ≡ bit_of (is_hop m version x y)
 
 -- a literal on betweenness, of which the first two terms are known
 pub record IsPair (p : Pattern) (tuple : List Term) (first place : ℕ) : Type 0 where
@@ -29,11 +34,20 @@ pub record IsPair (p : Pattern) (tuple : List Term) (first place : ℕ) : Type 0
   pub y_known : slice_index_or p.places 1 0 < first
   pub place_is : place ≡ (slice_index_or tuple (slice_index_or p.places 0 0) (term 0)).0 * 32 + (slice_index_or tuple (slice_index_or p.places 1 0) (term 0)).0
 
--- the bits of a word are the third terms at which a literal is false
-pub record AreThirds (m : Interpretation) (version n : ℕ) (p : Pattern) (tuple : List Term) (first word : ℕ) : Type 0 where
-  pub holds : (z : ℕ) (rest : List Term) → z < n → slice_index_or (take first tuple ++ rest) (slice_index_or p.places 2 0) (term 0) ≡ term z
+-- the bits of a word are the truths of the atom, by the term at one of its places
+pub record AreTruths (m : Interpretation) (version n : ℕ) (p : Pattern) (tuple : List Term) (first place word : ℕ) : Type 0 where
+  pub truth : ℕ → Bool
+  pub used : place < places_of p.shape
+  pub says : (z : ℕ) (rest : List Term) → z < n → slice_index_or (take first tuple ++ rest) (slice_index_or p.places place 0) (term 0) ≡ term z
+      → lit_truth m (lit_over version (take first tuple ++ rest) p) ≡ under p.positive (truth z)
+  pub bits : (z : ℕ) → z < n → bit_at word z ≡ bit_of (truth z)
+
+-- the bits of a word are the terms at one of its places at which a literal is false
+pub record AreFalse (m : Interpretation) (version n : ℕ) (p : Pattern) (tuple : List Term) (first place word : ℕ) : Type 0 where
+  pub used : place < places_of p.shape
+  pub holds : (z : ℕ) (rest : List Term) → z < n → slice_index_or (take first tuple ++ rest) (slice_index_or p.places place 0) (term 0) ≡ term z
       → bit_at word z ≡ 0 → IsLitTrue m (lit_over version (take first tuple ++ rest) p)
-  pub fails : (z : ℕ) (rest : List Term) → z < n → slice_index_or (take first tuple ++ rest) (slice_index_or p.places 2 0) (term 0) ≡ term z
+  pub fails : (z : ℕ) (rest : List Term) → z < n → slice_index_or (take first tuple ++ rest) (slice_index_or p.places place 0) (term 0) ≡ term z
       → bit_at word z ≢ 0 → ¬ IsLitTrue m (lit_over version (take first tuple ++ rest) p)
 
 -- a literal is true, whatever comes later, where the next term's bit isn't there; with a bit it is false, if it is known

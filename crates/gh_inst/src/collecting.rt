@@ -1,10 +1,12 @@
 //! Instances that are false in a structure, some of each row and version.
 
-ghost use Rattle.std.specs.Prelude.{◌≡◌, ◌<◌, ◌≤◌, ◌-◌, [], ◌∷◌, All, IfOk, OnOk, Some, length, map, option_map, take};
+ghost use Rattle.std.specs.Prelude.{◌≡◌, ◌<◌, ◌≤◌, ◌-◌, [], ◌∷◌, ℕ, All, IfOk, OnOk, Some, length, map, option_map, take};
+ghost use Rattle.std.specs.Int.{bit_at};
 ghost use Rattle.gh_base.specs.Structures.{interpretation_of};
 ghost use Rattle.gh_inst.specs.Table.{row_with, table, AxiomRow};
 ghost use Rattle.gh_inst.specs.Tuples.{tuples};
 ghost use Rattle.gh_inst.specs.Instances.{name_of};
+ghost use Rattle.gh_inst.specs.Schemas.{term};
 ghost use Rattle.gh_inst.specs.Words.{AreWords};
 ghost use Rattle.gh_inst.specs.Search.{IsRowTrue, IsSearched, tuples_with};
 ghost use Rattle.gh_inst.specs.Violations.{IsInstanceTrue, AreInstancesTrue};
@@ -15,7 +17,7 @@ use crate::schema::Pattern;
 use crate::search::{first_by_words, first_from};
 use crate::table::row_numbered;
 use crate::violation::name_of_terms;
-use crate::words::words_of;
+use crate::words::{open_terms, words_of};
 use gh_base::atom::Term;
 use gh_base::structure::Structure;
 use std::alloc::{AllocError, Global};
@@ -69,6 +71,20 @@ fn gather_first(
     Ok(())
 }
 
+// The second terms after which the row may be false, as bits.
+fn second_terms(row: &Looked, x: Term) -> u32
+    requires looked { IsLooked row.now }
+    requires x { x.0 < row.now.structure.now.sizes.terms }
+    ensures { (y : ℕ) → y < row.now.structure.now.sizes.terms → y < 32 → bit_at result y ≡ 0
+        → All (IsRowTrue (interpretation_of row.now.structure.now) row.now.version row.now.lits.now) (tuples_with (row.now.variables - 2) row.now.structure.now.sizes.terms (x ∷ term y ∷ [])) }
+{
+    if row.words.is_empty() {
+        return u32::MAX;
+    }
+    let start = [x, Term(0), Term(0), Term(0)];
+    open_terms(row.lits, row.structure, row.version, row.words, &start, 1)
+}
+
 // Adds false instances whose tuples begin with a term, the first one for each second term.
 fn gather_second(row: &Looked, x: Term, found: &mut Vec<InstanceName>) -> Result<(), AllocError>
     requires looked { IsLooked row.now }
@@ -78,7 +94,11 @@ fn gather_second(row: &Looked, x: Term, found: &mut Vec<InstanceName>) -> Result
     if row.variables == 1 {
         return gather_first(row, [x, Term(0), Term(0), Term(0)], 1, found);
     }
+    let seconds = second_terms(row, x);
     for y in 0..row.structure.terms() {
+        if y < 32 && seconds >> y & 1 == 0 {
+            continue;
+        }
         gather_first(row, [x, Term(y), Term(0), Term(0)], 2, found)?;
     }
     Ok(())
@@ -164,8 +184,9 @@ fn gather_rows(
     Ok(())
 }
 
-/// Names of instances that are false in a structure: of each row and version, for each pair of leading terms, the first one; no further first term is looked at once `most` were found. There is none
-/// only where every instance holds.
+/// Names of instances that are false in a structure: of each row and version, for each pair of leading terms, the first
+/// one; no further first term is looked at once `most` of that row and version were found. There is none only where every
+/// instance holds.
 pub fn false_instances(
     alloc: Global,
     structure: &Structure,

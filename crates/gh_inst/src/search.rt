@@ -137,7 +137,7 @@ fn first_open(
     requires few { structure.now.sizes.terms ≤ 32 }
     requires some { 0 < structure.now.sizes.terms }
     requires words { AreWords (interpretation_of structure.now) version structure.now.sizes.terms words.now }
-    requires full { length words.now ≡ 1024 }
+    requires full { length words.now ≡ 1088 }
     requires variables { variables ≤ 4 }
     requires first { first < variables }
     requires lits { All (IsAmong variables) lits.now }
@@ -189,7 +189,7 @@ pub(crate) fn first_by_words(
     requires few { structure.now.sizes.terms ≤ 32 }
     requires some { 0 < structure.now.sizes.terms }
     requires words { AreWords (interpretation_of structure.now) version structure.now.sizes.terms words.now }
-    requires full { length words.now ≡ 1024 }
+    requires full { length words.now ≡ 1088 }
     requires variables { variables ≤ 4 }
     requires first { first ≤ variables }
     requires lits { All (IsAmong variables) lits.now }

@@ -1,12 +1,13 @@
 //! Betweenness of one version in words, a bit for each third term, and the next terms that they leave open.
 
-ghost use Rattle.std.specs.Prelude.{◌≡◌, ◌≢◌, ◌<◌, ◌≤◌, ◌+◌, ◌*◌, ℕ, IsTrue, All, IfSome, None, length, take};
+ghost use Rattle.std.specs.Prelude.{◌≡◌, ◌≢◌, ◌<◌, ◌≤◌, ◌+◌, ◌*◌, ℕ, List, IsTrue, All, IfSome, Some, None, length, slice_get, take};
 ghost use Rattle.std.specs.Int.{bit_at};
+ghost use Rattle.gh_base.specs.declared.atom.Term.{Term as GhostTerm};
 ghost use Rattle.gh_base.specs.Meaning.{Interpretation};
 ghost use Rattle.gh_base.specs.Structures.{interpretation_of};
-ghost use Rattle.gh_inst.specs.declared.schema.Shape.TheVariants.{Btwn as OnTerms};
+ghost use Rattle.gh_inst.specs.declared.schema.Shape.TheVariants.{Btwn as OnTerms, Hop as OnCell};
 ghost use Rattle.gh_inst.specs.Search.{IsAmong};
-ghost use Rattle.gh_inst.specs.Words.{bit_of, is_between, AreWords, IsPair, AreThirds, IsLitOpen, IsOpen};
+ghost use Rattle.gh_inst.specs.Words.{bit_of, is_between, is_hop, AreWords, IsPair, AreTruths, AreFalse, IsLitOpen, IsOpen};
 
 use crate::schema::{Pattern, Shape};
 use gh_base::atom::{Atom, Term};
@@ -45,51 +46,103 @@ fn word_of(structure: &Structure, version: u8, x: Term, y: Term) -> u32
     word
 }
 
-// The word at a place.
+// The word of one term: to which others it leads.
+fn reach_of(structure: &Structure, version: u8, x: Term) -> u32
+    requires version { version < structure.now.sizes.versions }
+    requires few { structure.now.sizes.terms ≤ 32 }
+    requires x { x.0 < structure.now.sizes.terms }
+    ensures { (y : ℕ) → y < structure.now.sizes.terms → bit_at result y ≡ bit_of (is_between (interpretation_of structure.now) version x.0 y y) }
+{
+    let mut word = 0;
+    for y in 0..structure.terms() {
+        let truth = structure.holds(Atom::Btwn {
+            version,
+            x,
+            y: Term(y),
+            z: Term(y),
+        });
+        word = with_bit(word, y, truth);
+    }
+    word
+}
+
+// The word of one term: to which others its cell leads.
+fn hops_of(structure: &Structure, version: u8, x: Term) -> u32
+    requires version { version < structure.now.sizes.versions }
+    requires few { structure.now.sizes.terms ≤ 32 }
+    requires x { x.0 < structure.now.sizes.terms }
+    ensures { (y : ℕ) → y < structure.now.sizes.terms → bit_at result y ≡ bit_of (is_hop (interpretation_of structure.now) version x.0 y) }
+{
+    let mut word = 0;
+    for y in 0..structure.terms() {
+        let truth = structure.holds(Atom::Hop {
+            version,
+            x,
+            v: Term(y),
+        });
+        word = with_bit(word, y, truth);
+    }
+    word
+}
+
+// The word at a place: first those of two terms, then those of one.
 fn word_at(structure: &Structure, version: u8, place: usize) -> u32
     requires version { version < structure.now.sizes.versions }
     requires few { structure.now.sizes.terms ≤ 32 }
-    requires place { place < 1024 }
-    ensures { (x y z : ℕ) → x < structure.now.sizes.terms → y < structure.now.sizes.terms → z < structure.now.sizes.terms → place ≡ x * 32 + y → bit_at result z ≡ bit_of (is_between (interpretation_of structure.now) version x y z) }
+    requires place { place < 1088 }
+    ensures pair { (x y z : ℕ) → x < structure.now.sizes.terms → y < structure.now.sizes.terms → z < structure.now.sizes.terms → place ≡ x * 32 + y → bit_at result z ≡ bit_of (is_between (interpretation_of structure.now) version x y z) }
+    ensures reach { (x y : ℕ) → x < structure.now.sizes.terms → y < structure.now.sizes.terms → place ≡ 1024 + x → bit_at result y ≡ bit_of (is_between (interpretation_of structure.now) version x y y) }
+    ensures hops { (x y : ℕ) → x < structure.now.sizes.terms → y < structure.now.sizes.terms → place ≡ 1056 + x → bit_at result y ≡ bit_of (is_hop (interpretation_of structure.now) version x y) }
 {
     let x = (place / 32) as u8;
     let y = (place % 32) as u8;
-    if x >= structure.terms() {
+    if y >= structure.terms() {
         return 0;
     }
-    if y >= structure.terms() {
+    if place >= 1056 {
+        return hops_of(structure, version, Term(y));
+    }
+    if place >= 1024 {
+        return reach_of(structure, version, Term(y));
+    }
+    if x >= structure.terms() {
         return 0;
     }
     word_of(structure, version, Term(x), Term(y))
 }
 
-/// The words of all pairs of terms.
-pub(crate) fn words_of(structure: &Structure, version: u8) -> [u32; 1024]
+/// The words of all pairs of terms, then those of each term.
+pub(crate) fn words_of(structure: &Structure, version: u8) -> [u32; 1088]
     requires version { version < structure.now.sizes.versions }
     requires few { structure.now.sizes.terms ≤ 32 }
     ensures { AreWords (interpretation_of structure.now) version structure.now.sizes.terms result }
 {
-    let mut words = [0; 1024];
-    for place in 0..1024 {
+    let mut words = [0; 1088];
+    for place in 0..1088 {
         words[place] = word_at(structure, version, place);
     }
     words
 }
 
 impl Pattern {
-    // The place of the first two terms of a literal on betweenness, if these are known.
-    fn pair(self, tuple: &[Term; 4], first: usize) -> Option<usize>
-        requires shape { self.shape ≡ OnTerms }
+    // The place of the word of a literal on betweenness, if its first two terms are known, or only the first one, where the
+    // other two are the same.
+    fn between_at(&self, tuple: &[Term; 4], first: usize) -> Option<usize>
+        requires shape { self.now.shape ≡ OnTerms }
         requires first { first ≤ 4 }
         requires terms { All (λ t. t.0 < 32) (take first tuple.now) }
-        ensures pair { IfSome result (λ place. IsPair self tuple.now first place) }
-        ensures below { IfSome result (λ place. place < 1024) }
-        ensures none { result ≡ None → ¬ IsAmong first self }
+        ensures some { IfSome result (λ at. (m : Interpretation) (version n word : ℕ) (words : List ℕ) → AreWords m version n words → All (λ t. t.0 < n) (take first tuple.now)
+            → slice_get words at ≡ Some word → AreTruths m version n self.now tuple.now first 2 word) }
+        ensures below { IfSome result (λ at. at < 1088) }
+        ensures none { result ≡ None → ¬ IsAmong first self.now }
     {
         let x = self.places[0] as usize;
         let y = self.places[1] as usize;
         if x >= first {
             return None;
+        }
+        if y == self.places[2] as usize {
+            return Some(1024 + tuple[x].0 as usize);
         }
         if y >= first {
             return None;
@@ -97,53 +150,74 @@ impl Pattern {
         Some(tuple[x].0 as usize * 32 + tuple[y].0 as usize)
     }
 
-    // The third terms at which a literal on betweenness is false, as bits, if its first two terms are known.
-    fn thirds(self, words: &[u32], tuple: &[Term; 4], first: usize) -> Option<u32>
-        requires shape { self.shape ≡ OnTerms }
-        requires first { first ≤ 4 }
-        requires terms { All (λ t. t.0 < 32) (take first tuple.now) }
-        requires full { length words.now ≡ 1024 }
-        ensures some { IfSome result (λ word. (m : Interpretation) (version n : ℕ) → AreWords m version n words.now → All (λ t. t.0 < n) (take first tuple.now) → AreThirds m version n self tuple.now first word) }
-        ensures none { result ≡ None → ¬ IsAmong first self }
+    // The terms at which it is false, by those at which its atom is true, as bits.
+    fn false_terms(&self, word: u32) -> u32
+        ensures { (m : Interpretation) (version n : ℕ) (tuple : List GhostTerm) (first place : ℕ) → n ≤ 32 → AreTruths m version n self.now tuple first place word → AreFalse m version n self.now tuple first place result }
     {
-        let pair = self.pair(tuple, first)?;
-        let word = words[pair];
         if self.positive {
-            return Some(!word);
+            return !word;
         }
-        Some(word)
+        word
     }
 
-    // The next terms at which a literal on betweenness may be false, as bits.
-    fn next_between(self, words: &[u32], tuple: &[Term; 4], first: usize) -> u32
-        requires shape { self.shape ≡ OnTerms }
+    // The next terms at which it may be false, by the terms at a place at which its atom is true, as bits.
+    fn next_by(&self, word: u32, place: usize, tuple: &[Term; 4], first: usize) -> u32
+        requires place { place < 3 }
         requires first { first ≤ 4 }
         requires terms { All (λ t. t.0 < 32) (take first tuple.now) }
-        requires full { length words.now ≡ 1024 }
-        ensures { (m : Interpretation) (version n : ℕ) → AreWords m version n words.now → 0 < n → All (λ t. t.0 < n) (take first tuple.now) → IsLitOpen m version n self tuple.now first result }
+        ensures { (m : Interpretation) (version n : ℕ) → n ≤ 32 → 0 < n → All (λ t. t.0 < n) (take first tuple.now) → AreTruths m version n self.now tuple.now first place word
+            → IsLitOpen m version n self.now tuple.now first result }
     {
-        let Some(word) = self.thirds(words, tuple, first) else {
-            return u32::MAX;
-        };
-        let z = self.places[2] as usize;
+        let left = self.false_terms(word);
+        let z = self.places[place] as usize;
         if z < first {
-            if word >> tuple[z].0 & 1 == 0 {
+            if left >> tuple[z].0 & 1 == 0 {
                 return 0;
             }
             return u32::MAX;
         }
         if z == first {
-            return word;
+            return left;
         }
-        if word == 0 {
+        if left == 0 {
             return 0;
         }
         u32::MAX
     }
 
+    // The next terms at which a literal on betweenness may be false, as bits.
+    fn next_between(&self, words: &[u32], tuple: &[Term; 4], first: usize) -> u32
+        requires shape { self.now.shape ≡ OnTerms }
+        requires first { first ≤ 4 }
+        requires terms { All (λ t. t.0 < 32) (take first tuple.now) }
+        requires full { length words.now ≡ 1088 }
+        ensures { (m : Interpretation) (version n : ℕ) → AreWords m version n words.now → 0 < n → All (λ t. t.0 < n) (take first tuple.now) → IsLitOpen m version n self.now tuple.now first result }
+    {
+        match self.between_at(tuple, first) {
+            Some(at) => self.next_by(words[at], 2, tuple, first),
+            None => u32::MAX,
+        }
+    }
+
+    // The next terms at which a literal on a cell may be false, as bits.
+    fn next_hop(&self, words: &[u32], tuple: &[Term; 4], first: usize) -> u32
+        requires shape { self.now.shape ≡ OnCell }
+        requires first { first ≤ 4 }
+        requires terms { All (λ t. t.0 < 32) (take first tuple.now) }
+        requires full { length words.now ≡ 1088 }
+        ensures { (m : Interpretation) (version n : ℕ) → AreWords m version n words.now → 0 < n → All (λ t. t.0 < n) (take first tuple.now) → IsLitOpen m version n self.now tuple.now first result }
+    {
+        let x = self.places[0] as usize;
+        if x >= first {
+            return u32::MAX;
+        }
+        let word = words[1056 + tuple[x].0 as usize];
+        self.next_by(word, 1, tuple, first)
+    }
+
     // The next terms at which it may be false, as bits.
     fn next_terms(
-        self,
+        &self,
         structure: &Structure,
         version: u8,
         words: &[u32],
@@ -154,14 +228,15 @@ impl Pattern {
         requires few { structure.now.sizes.terms ≤ 32 }
         requires some { 0 < structure.now.sizes.terms }
         requires words { AreWords (interpretation_of structure.now) version structure.now.sizes.terms words.now }
-        requires full { length words.now ≡ 1024 }
+        requires full { length words.now ≡ 1088 }
         requires first { first ≤ 4 }
         requires terms { All (λ t. t.0 < structure.now.sizes.terms) (take first tuple.now) }
-        ensures { IsLitOpen (interpretation_of structure.now) version structure.now.sizes.terms self tuple.now first result }
+        ensures { IsLitOpen (interpretation_of structure.now) version structure.now.sizes.terms self.now tuple.now first result }
     {
         match self.shape {
             Shape::Btwn => return self.next_between(words, tuple, first),
-            Shape::Equal | Shape::Hop | Shape::Alloc => {}
+            Shape::Hop => return self.next_hop(words, tuple, first),
+            Shape::Equal | Shape::Alloc => {}
         }
         if self.settles(structure, version, tuple, first) {
             return 0;
@@ -183,7 +258,7 @@ pub(crate) fn open_terms(
     requires few { structure.now.sizes.terms ≤ 32 }
     requires some { 0 < structure.now.sizes.terms }
     requires words { AreWords (interpretation_of structure.now) version structure.now.sizes.terms words.now }
-    requires full { length words.now ≡ 1024 }
+    requires full { length words.now ≡ 1088 }
     requires first { first ≤ 4 }
     requires terms { All (λ t. t.0 < structure.now.sizes.terms) (take first tuple.now) }
     ensures { IsOpen (interpretation_of structure.now) version structure.now.sizes.terms lits.now tuple.now first result }

@@ -1,4 +1,4 @@
-use Rattle.std.proofs.Common.{◌≡◌, ◌+◌, ◌<◌, ◌∙◌, ℕ, [], ◌++◌, arith, sym}
+use Rattle.std.proofs.Common.{◌∙◌, [], arith, sym}
 use Rattle.gh_base.specs.Structures.{interpretation_of}
 use Rattle.gh_inst.proofs.CollectingLemmas.{version_next, versions_hold}
 use Rattle.gh_inst.proofs.collecting.false_instances.Goals as goal

@@ -1,11 +1,9 @@
-use Rattle.std.proofs.Common.{◌≡◌, ◌<◌, ◌≤◌, ◌-◌, ◌+◌, ◌∷◌, [], ◌∙◌, arith, sym, ap, subst, List}
+use Rattle.std.proofs.Common.{◌-◌, ◌∷◌, [], arith, List}
 use Rattle.gh_base.specs.declared.atom.Term.{Term}
 use Rattle.gh_base.specs.Structures.{interpretation_of}
-use Rattle.gh_inst.specs.Tuples.{terms_below}
 use Rattle.gh_inst.specs.Search.{IsRowTrue, tuples_with}
-use Rattle.gh_inst.specs.Collecting.{Gathers, GathersIn}
 use Rattle.gh_inst.proofs.SearchLemmas.{blocks_of}
-use Rattle.gh_inst.proofs.CollectingLemmas.{next_added, all_added, some_added}
+use Rattle.gh_inst.proofs.CollectingLemmas.{next_added, all_added}
 use Rattle.gh_inst.proofs.collecting.gather.Goals as goal
 
 pub loop-x-preserved : goal.loop-x-preserved

@@ -1,5 +1,4 @@
-use Rattle.std.proofs.Common.{◌≡◌, ◌++◌, ◌∷◌, [], ◌-◌, ◌∙◌, sym, ap, subst, take, Some, option_map, length, arith}
-use Rattle.std.proofs.lemmas.List.{length-take}
+use Rattle.std.proofs.Common.{◌≡◌, ◌-◌, sym, ap, subst, take, Some, option_map}
 use Rattle.gh_base.specs.Structures.{interpretation_of}
 use Rattle.gh_inst.specs.Instances.{name_of}
 use Rattle.gh_inst.specs.Search.{IsSearched, IsRowTrue, tuples_with}

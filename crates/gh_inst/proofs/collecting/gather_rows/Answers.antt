@@ -1,4 +1,4 @@
-use Rattle.std.proofs.Common.{◌≡◌, ◌+◌, ◌-◌, ◌≤◌, ◌<◌, arith, subst, All, take}
+use Rattle.std.proofs.Common.{◌≡◌, ◌+◌, ◌-◌, arith, subst, All, take}
 use Rattle.gh_base.specs.Structures.{interpretation_of}
 use Rattle.gh_inst.specs.Table.{table}
 use Rattle.gh_inst.specs.Collecting.{Gathers, RowHolds}

@@ -1,9 +1,6 @@
-use Rattle.std.proofs.Common.{◌-◌, All, map, take}
+use Rattle.std.proofs.Common.{◌-◌, All, take}
 use Rattle.gh_base.specs.Structures.{interpretation_of}
 use Rattle.gh_inst.specs.Table.{table}
-use Rattle.gh_inst.specs.Tuples.{tuples}
-use Rattle.gh_inst.specs.Instances.{name_of}
-use Rattle.gh_inst.specs.Violations.{IsInstanceTrue}
 use Rattle.gh_inst.specs.Collecting.{Gathers, RowHolds}
 use Rattle.gh_inst.proofs.collecting.gather_rows.Given as goal
 

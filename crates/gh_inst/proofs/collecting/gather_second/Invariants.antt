@@ -1,4 +1,4 @@
-use Rattle.std.proofs.Common.{◌-◌, ◌++◌, ◌∷◌, [], All, take}
+use Rattle.std.proofs.Common.{◌-◌, ◌∷◌, [], All, take}
 use Rattle.std.specs.List.{flat_map}
 use Rattle.gh_base.specs.Structures.{interpretation_of}
 use Rattle.gh_inst.specs.Tuples.{terms_below}

@@ -1,4 +1,4 @@
-use Rattle.std.proofs.Common.{List, Some, None, refl, ◌≡◌, ◌<◌, ◌-◌, ◌+◌, ◌++◌, ◌∷◌, [], ◌∙◌, arith, sym, take, set, option_map, length-set}
+use Rattle.std.proofs.Common.{List, Some, None, refl, ◌-◌, ◌+◌, ◌++◌, ◌∷◌, [], ◌∙◌, arith, sym, take, set, option_map, length-set}
 use Rattle.std.proofs.lemmas.Nat.Bits.{shr_and_one}
 use Rattle.std.proofs.lemmas.List.{take-set}
 use Rattle.gh_base.specs.declared.atom.Term.{Term}

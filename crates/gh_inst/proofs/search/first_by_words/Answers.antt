@@ -1,5 +1,4 @@
-use Rattle.std.proofs.Common.{◌≡◌, ◌-◌, take, arith}
-use Rattle.std.proofs.lemmas.Bool.{eqb-true}
+use Rattle.std.proofs.Common.{◌-◌}
 use Rattle.gh_base.specs.Structures.{interpretation_of}
 use Rattle.gh_inst.proofs.SearchLemmas.{block_false}
 use Rattle.gh_inst.proofs.OpenLemmas.{closed_block}

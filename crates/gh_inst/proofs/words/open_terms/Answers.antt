@@ -1,4 +1,4 @@
-use Rattle.std.proofs.Common.{◌≡◌, ◌≤◌, ◌++◌, inl, inr, take, All, arith, length, refl, ap, subst, take_all, ◌∙◌}
+use Rattle.std.proofs.Common.{◌++◌, inl, inr, take, All, arith, refl, ap, subst, take_all, ◌∙◌}
 use Rattle.std.specs.Int.{bit_at}
 use Rattle.std.proofs.lemmas.Nat.Bits.{bit_at-zero}
 use Rattle.std.specs.Int.Bits.{and_zero_r}
