@@ -46,3 +46,6 @@ returns-then-is_empty c =
 
 pub into_section-requires : goal.into_section-requires
 into_section-requires c = MatchBool-at_false _ _ c.if-branch.false c.in_ok-is_open.ensures.ended
+
+pub returns : goal.returns
+returns c = c.in_ok-into_section.ensures c.args.ground.now (c.in_ok-is_open.ensures.keeps.keeps c.args.ground.now c.loop-solver.invariant)
