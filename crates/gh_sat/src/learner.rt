@@ -140,6 +140,31 @@ fn next_row(
     Ok(row)
 }
 
+// Notes that the atoms of some literals stood in a conflict.
+fn bump_lits(trail: &mut Trail, lits: &[Lit]) -> Result<(), AllocError>
+    ensures same { trail.new ≡ trail.old }
+{
+    for lit in lits {
+        trail.bump(lit.atom)?;
+    }
+    Ok(())
+}
+
+// Notes that the atoms of the learnt literals, and of the marked steps from a place on, stood in a conflict. That of the
+// place counts twice, since it is in both.
+fn bump_marked(trail: &mut Trail, marks: &Marks, place: usize) -> Result<(), AllocError>
+    ensures same { trail.new ≡ trail.old }
+{
+    bump_lits(trail, marks.lower.as_slice())?;
+    for i in place..trail.steps().len() {
+        if i < trail.steps().len() && marks.stamps.get(i) == Some(&marks.round) {
+            trail.bump(trail.steps()[i].lit.atom)?;
+        }
+    }
+    trail.end_conflict();
+    Ok(())
+}
+
 impl Learner {
     ghost use Rattle.gh_base.specs.Grounds.{Problem};
     ghost use Rattle.gh_sat.specs.Trail.{State, IsFree, IsAssignmentOf, IsSound, cut, open_level};
@@ -343,8 +368,8 @@ impl Learner {
         self.counts.push_reserved(self.clauses.len() as u32);
     }
 
-    /// The first atom with no truth, if there is one: equalities come first, then the other atoms from the greatest
-    /// number down.
+    /// An atom with no truth, if there is one: after some conflicts the one that stood in most and latest of them, else
+    /// the first in the order of decisions. There equalities come first, then the others from the greatest number down.
     pub fn next_free(&mut self) -> Option<Atom>
         ensures same { self.new ≡ self.old }
         ensures some { IfSome result (λ a. IsInRange self.old.sizes a × IsFree self.old.trail a) }
@@ -404,6 +429,7 @@ impl Learner {
         let level = self.marks.level;
         let clause = Clause::from_lits(alloc, self.marks.lower.as_slice())?;
         let added = clause.copy(alloc)?;
+        bump_marked(&mut self.trail, &self.marks, place)?;
         self.insert(added)?;
         Ok(Learnt {
             clause,

@@ -1,6 +1,7 @@
 //! Clause learning: a search over ground clauses beside a theory.
 #![tactic(auto)]
 
+mod activity;
 pub mod learner;
 mod marks;
 pub mod measure;

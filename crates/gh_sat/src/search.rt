@@ -162,8 +162,7 @@ impl<T: Theory> Search<T> {
         }
     }
 
-    /// Opens a level with the first atom that has no truth, if there is one: equalities come first, then the other
-    /// atoms from the greatest number down. The theory says which truth is tried first.
+    /// Opens a level with the atom of the learner's `next_free`, if there is one. The theory says which truth is tried first.
     pub fn decide(&mut self) -> Option<Lit>
         requires settled { IsSettled self.old }
         requires consistent { HasNoConflict (T.valid self.old.sizes) self.old.trail }

@@ -9,6 +9,7 @@ ghost use Rattle.gh_sat.specs.Status.{IsSettled, IsStatus};
 ghost use Rattle.gh_sat.specs.Theory.{lits_of, HasNoConflict};
 ghost use Rattle.gh_sat.specs.Trail.{IsSound};
 
+use crate::activity::Activity;
 use crate::learner::Learnt;
 use crate::rows::Row;
 use crate::search::Search;
@@ -390,8 +391,8 @@ fn is_learnt(alloc: Global, lesson: &Lesson) -> Result<bool, AllocError> {
     )
 }
 
-// The equality is decided first, at level 1, then the definitions from the last down, that one made true and the others
-// false.
+// With few conflicts the order is fixed: the equality is decided first, at level 1, then the definitions from the last
+// down, that one made true and the others false.
 #[test]
 fn lessons(rt: HostRuntime) -> Result<(), Fail> {
     let lessons = [
@@ -451,6 +452,37 @@ fn begins(alloc: Global, wanted: &[Lit]) -> Result<bool, AllocError> {
             Some(step) => step.lit.is_same(*lit),
         }),
     )
+}
+
+// What the heap gives, in turn, after 60 conflicts: the last one of some atoms, each earlier one of the others.
+fn taken(alloc: Global, late: &[u32], early: &[u32]) -> Result<[Option<u32>; 3], AllocError> {
+    let mut activity = Activity::new(alloc, 8)?;
+    for conflict in 0..60 {
+        for place in if conflict == 59 { late } else { early } {
+            activity.bump(*place)?;
+        }
+        activity.end_conflict();
+    }
+    for place in 0..8 {
+        activity.offer(place);
+        activity.offer(place);
+    }
+    Ok([activity.take(), activity.take(), activity.take()])
+}
+
+// Atoms of more conflicts go first, among equals the first in the order of decisions. Those of no conflict don't wait.
+#[test]
+fn activities(rt: HostRuntime) -> Result<(), Fail> {
+    let rows: [(&[u32], &[u32], [Option<u32>; 3]); 4] = [
+        (&[], &[], [None, None, None]),
+        (&[5, 2, 7], &[], [Some(2), Some(5), Some(7)]),
+        (&[2], &[6, 3], [Some(3), Some(6), Some(2)]),
+        (&[6, 1], &[6, 3], [Some(6), Some(3), Some(1)]),
+    ];
+    for (late, early, wanted) in rows {
+        assert_eq!(rt; taken(rt.alloc(), late, early)?, wanted);
+    }
+    Ok(())
 }
 
 // An equality of two terms, made false.

@@ -4,6 +4,7 @@ ghost use Rattle.std.specs.Prelude.{◌≡◌, ◌≢◌, ◌<◌, ◌≤◌, �
 ghost use Rattle.gh_base.specs.Atoms.{IsInRange, count_of, number_of};
 ghost use Rattle.gh_sat.specs.Trail.{IsPassed, turned};
 
+use crate::activity::Activity;
 use crate::rows::Numbered;
 use gh_base::assignment::Assignment;
 use gh_base::atom::{Atom, Lit};
@@ -28,6 +29,7 @@ pub(crate) struct Trail {
     steps: Vec<Step>,
     // Each atom with a lower place in the order of decisions has a truth.
     cursor: u32,
+    activity: Activity,
 }
 
 impl Model for Trail {
@@ -83,6 +85,22 @@ fn free_from(values: &Assignment, from: u32) -> u32
     place
 }
 
+// The first place, by activity, whose atom has no truth, if one is in the heap; those before it leave the heap.
+fn free_of(values: &Assignment, activity: &mut Activity) -> Option<u32>
+    ensures range { IfSome result (λ place. place < count_of values.now.sizes) }
+    ensures free { IfSome result (λ place. slice_get values.now.values (turned values.now.sizes place) ≡ Some None) }
+{
+    let sizes = values.sizes();
+    while let Some(place) = activity.take() {
+        if (place as usize) < sizes.count()
+            && values.values()[turned(sizes, place as usize)].is_none()
+        {
+            return Some(place);
+        }
+    }
+    None
+}
+
 impl Trail {
     ghost use Rattle.gh_base.specs.declared.atom.Atom.{Atom};
     ghost use Rattle.gh_sat.specs.declared.trail.Step.{Step};
@@ -101,6 +119,7 @@ impl Trail {
             places: vec![in alloc; 0; count]?,
             steps: Vec::with_capacity(alloc, count)?,
             cursor: 0,
+            activity: Activity::new(alloc, count)?,
         })
     }
 
@@ -180,6 +199,7 @@ impl Trail {
         let sizes = self.values.sizes();
         let place = turned(sizes, sizes.number(step.lit.atom)) as u32;
         self.values.clear(step.lit.atom);
+        self.activity.offer(place);
         if place < self.cursor {
             self.cursor = place;
         }
@@ -196,16 +216,38 @@ impl Trail {
         }
     }
 
-    /// The first atom with no truth, if there is one: equalities come first, then the other atoms from the greatest
-    /// number down.
+    /// Notes that an atom stood in a conflict, if it is in range.
+    pub fn bump(&mut self, atom: Atom) -> Result<(), AllocError>
+        ensures same { self.new ≡ self.old }
+    {
+        let sizes = self.values.sizes();
+        if sizes.has(atom) {
+            self.activity
+                .bump(turned(sizes, sizes.number(atom)) as u32)?;
+        }
+        Ok(())
+    }
+
+    /// Ends a conflict: the atoms of later ones go before those of earlier ones.
+    pub fn end_conflict(&mut self)
+        ensures same { self.new ≡ self.old }
+    {
+        self.activity.end_conflict();
+    }
+
+    /// An atom with no truth, if there is one: after some conflicts the one that stood in most and latest of them, else
+    /// the first in the order of decisions. There equalities come first, then the others from the greatest number down.
     pub fn next_free(&mut self) -> Option<Atom>
         ensures same { self.new ≡ self.old }
         ensures some { IfSome result (λ a. IsInRange self.old.sizes a × IsFree self.old.steps a) }
         ensures none { IfNone result ((a : Atom) → IsInRange self.old.sizes a → IsFree self.old.steps a → ⊥) }
     {
+        let sizes = self.values.sizes();
+        if let Some(place) = free_of(&self.values, &mut self.activity) {
+            return Some(sizes.atom(turned(sizes, place as usize)));
+        }
         let place = free_from(&self.values, self.cursor);
         self.cursor = place;
-        let sizes = self.values.sizes();
         if (place as usize) < sizes.count() {
             Some(sizes.atom(turned(sizes, place as usize)))
         } else {

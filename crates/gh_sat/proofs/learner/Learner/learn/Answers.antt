@@ -5,7 +5,8 @@ use Rattle.std.proofs.lemmas.Option.{get_or_from_slice_get, slice_get_read}
 use Rattle.gh_base.specs.declared.atom.Lit.{Lit}
 use Rattle.gh_base.specs.Atoms.{opposite, AreInRange}
 use Rattle.gh_sat.specs.declared.trail.Step.{Step}
-use Rattle.gh_sat.specs.Trail.{State, IsSound, IsFalseIn}
+use Rattle.gh_sat.specs.Trail.{Line, State, IsSound, IsFalseIn}
+use Rattle.gh_sat.specs.Watch.{WasOpen}
 use Rattle.gh_sat.specs.Learn.{Marking, HaveReasons, IsConflict, IsLearnt, marks_of, IsLeft}
 use Rattle.gh_sat.specs.contracts.learner.Learner.{the_view}
 use Rattle.gh_sat.proofs.ListLemmas.{get_within, le_along}
@@ -112,7 +113,7 @@ insert-requires-clause-range c =
     let p = left s c.as_slice.result.now c.lits.result.now m c.in_ok-place.place c.as_slice.ensures.value c.in_ok-place.ensures.point in
     let r = made s m c.args.conflict c.index.result.now c.in_ok-place.place c.lits.result.now c.steps-2.result.now c.negated-unit.result c.in_ok-added.added i.0.sound b (c.in_ok-place.ensures.start ∙ c.begin.ensures.start) p c.steps-2.ensures.steps c.negated-unit.ensures
     (c.in_ok-added.ensures ∙ c.in_ok-clause.ensures ∙ c.as_slice-2.ensures.value ∙ c.in_ok-push.ensures.items) in
-    false_in_range s c.in_ok-added.added i.0.sound r.is_false
+    subst (λ (t : Line). AreInRange t.sizes c.in_ok-added.added) (sym c.bump_marked.ensures.same) (false_in_range s c.in_ok-added.added i.0.sound r.is_false)
 
 pub insert-requires-clause-was_open : goal.insert-requires-clause-was_open
 insert-requires-clause-was_open c =
@@ -124,7 +125,7 @@ insert-requires-clause-was_open c =
     let r = made s m c.args.conflict c.index.result.now c.in_ok-place.place c.lits.result.now c.steps-2.result.now c.negated-unit.result c.in_ok-added.added i.0.sound b (c.in_ok-place.ensures.start ∙ c.begin.ensures.start) p c.steps-2.ensures.steps c.negated-unit.ensures
     (c.in_ok-added.ensures ∙ c.in_ok-clause.ensures ∙ c.as_slice-2.ensures.value ∙ c.in_ok-push.ensures.items) in
     let x = r.present in
-    was_open s c.in_ok-added.added c.negated-unit.result r.place x.0 i.0.sound r.there x.1 x.2 x.3
+    subst (λ (t : Line). WasOpen t.steps s.starts c.in_ok-added.added) (sym c.bump_marked.ensures.same) (was_open s c.in_ok-added.added c.negated-unit.result r.place x.0 i.0.sound r.there x.1 x.2 x.3)
 
 pub returns-clause-learnt : goal.returns-clause-learnt
 returns-clause-learnt c =
