@@ -11,7 +11,8 @@ use Rattle.gh_ast.specs.Grammar as g
 use Rattle.gh_ast.specs.Printed.{Lexeme, word, reserved, mark, operand_shown, bracketed, is_star, test_shown, formula_shown, formulas_shown, formulas_followed}
 use Rattle.gh_ast.specs.Bare.{bare_occ, bare_operand, bare_test, bare_formula, bare_formulas}
 use Rattle.gh_ast.proofs.Printing.{no_more}
-use Rattle.gh_ast.proofs.Good.{GoodFormula, GoodFormulas, AreItems}
+use Rattle.gh_ast.specs.WellFormed.{AreManyFormulas}
+use Rattle.gh_ast.proofs.Good.{GoodFormula, GoodFormulas}
 use Rattle.gh_ast.proofs.Respelling.{shapes, IsRespelled, take_key, take_sign, take_name, leads, no_sign, operand_again, AsTest, test_again}
 
 abbrev pub is_sep : Sign → Bool
@@ -179,7 +180,7 @@ more_items x (formula_first y l) h us rest e n =
       same = ap (λ v. formula_first v (bare_formulas b.value)) r.same ∙ ap (formula_first (bare_formula x)) b.same;
     }
 
-star_again : (l : Formulas) → AreItems l → Items l → AsAssertion (star l)
+star_again : (l : Formulas) → AreManyFormulas l → Items l → AsAssertion (star l)
 star_again no_formulas many h us rest e n = absurd many
 star_again (formula_first x no_formulas) many h us rest e n = absurd many
 star_again (formula_first x (formula_first y l)) many h us rest e n =

@@ -13,6 +13,7 @@ use Rattle.gh_ast.specs.declared.sign.Keyword.TheVariants as kw
 use Rattle.gh_ast.specs.Plain.{Test, compare, negation, conjunction, disjunction, Tests, no_tests, test_first, Formula, empty, comparison, points_to, cell, segment, star, cases, Formulas, no_formulas, formula_first, Statement, set, new, write, free, call, choice, loop, give, Statements, no_statements, statement_first, Inside, Procedure, Program}
 use Rattle.gh_ast.specs.Tokens.{Token, named, key, sign, keyword_text, IsPiece, a_blank, a_name, a_keyword, a_sign, IsTokens, nothing, piece}
 use Rattle.gh_ast.specs.TokenLaws.{IsNameWord}
+use Rattle.gh_ast.specs.WellFormed.{AreManyTests, AreManyFormulas}
 use Rattle.gh_ast.specs.Grammar as g
 
 abbrev pub GoodOcc : Occ → Type 0
@@ -30,26 +31,16 @@ abbrev pub AllGood : {A : Type 0} → (A → Type 0) → List A → Type 0
 AllGood P [] = Unit {0}
 AllGood P (x ∷ xs) = P x × AllGood P xs
 
-abbrev pub AreMany : Tests → Type 0
-AreMany no_tests = ⊥
-AreMany (test_first t no_tests) = ⊥
-AreMany (test_first t (test_first u us)) = Unit {0}
-
 abbrev mutual
   pub GoodTest : Bool → Test → Type 0
   GoodTest reads (compare l e r) = GoodExpr reads l × GoodExpr reads r
   GoodTest reads (negation t) = GoodTest reads t
-  GoodTest reads (conjunction ts) = AreMany ts × GoodTests reads ts
-  GoodTest reads (disjunction ts) = AreMany ts × GoodTests reads ts
+  GoodTest reads (conjunction ts) = AreManyTests ts × GoodTests reads ts
+  GoodTest reads (disjunction ts) = AreManyTests ts × GoodTests reads ts
 
   pub GoodTests : Bool → Tests → Type 0
   GoodTests reads no_tests = Unit {0}
   GoodTests reads (test_first t ts) = GoodTest reads t × GoodTests reads ts
-
-abbrev pub AreItems : Formulas → Type 0
-AreItems no_formulas = ⊥
-AreItems (formula_first x no_formulas) = ⊥
-AreItems (formula_first x (formula_first y l)) = Unit {0}
 
 abbrev mutual
   pub GoodFormula : Formula → Type 0
@@ -58,7 +49,7 @@ abbrev mutual
   GoodFormula (points_to o y) = GoodOcc o × GoodOperand y
   GoodFormula (cell o) = GoodOcc o
   GoodFormula (segment x y) = GoodOperand x × GoodOperand y
-  GoodFormula (star l) = AreItems l × GoodFormulas l
+  GoodFormula (star l) = AreManyFormulas l × GoodFormulas l
   GoodFormula (cases t x y) = GoodTest false t × GoodFormula x × GoodFormula y
 
   pub GoodFormulas : Formulas → Type 0
@@ -119,15 +110,15 @@ pub values_are_good : {close : Sign} {ts rest : List Token} {es : List Expr} →
 values_are_good g.no_values h = (tt, h.1)
 values_are_good (g.some_values l) h = exprs_are_good l h
 
-some_lits : {reads : Bool} {ts rest : List Token} {l : Tests} → g.SpellsLits reads ts l rest → (t : Test) → AreMany (test_first t l)
+pub some_lits : {reads : Bool} {ts rest : List Token} {l : Tests} → g.SpellsLits reads ts l rest → (t : Test) → AreManyTests (test_first t l)
 some_lits (g.last_lit s n) t = tt
 some_lits (g.next_lit s l) t = tt
 
-some_conjs : {reads : Bool} {ts rest : List Token} {l : Tests} → g.SpellsConjs reads ts l rest → (t : Test) → AreMany (test_first t l)
+pub some_conjs : {reads : Bool} {ts rest : List Token} {l : Tests} → g.SpellsConjs reads ts l rest → (t : Test) → AreManyTests (test_first t l)
 some_conjs (g.last_conj s n) t = tt
 some_conjs (g.next_conj s l) t = tt
 
-some_items : {ts rest : List Token} {l : Formulas} → g.SpellsItems ts l rest → (x : Formula) → AreItems (formula_first x l)
+pub some_items : {ts rest : List Token} {l : Formulas} → g.SpellsItems ts l rest → (x : Formula) → AreManyFormulas (formula_first x l)
 some_items (g.last_item s n) x = tt
 some_items (g.next_item s l) x = tt
 
@@ -209,12 +200,18 @@ abbrev pub GoodBody : Option Inside → Type 0
 GoodBody None = Unit {0}
 GoodBody (Some b) = GoodInside b
 
+-- one alternative
+pub record GoodAlternatives (fs : List Formula) : Type 0 where
+  pub only : Formula
+  pub one : fs ≡ only ∷ []
+  pub good : GoodFormula only
+
 pub record GoodProcedure (p : Procedure) : Type 0 where
   pub name : GoodOcc p.name
   pub parameters : AllGood GoodOcc p.parameters
   pub results : AllGood GoodOcc p.results
   pub needs : GoodFormula p.needs
-  pub gives : GoodFormula p.gives
+  pub gives : GoodAlternatives p.gives
   pub body : GoodBody p.body
 
 -- a word of a field: a name, or the one reserved word
@@ -259,9 +256,9 @@ body_is_good g.no_body h = (tt, h.1)
 body_is_good (g.a_body i) h = inside_is_good i h.1
 
 procedure_is_good : {ts rest : List Token} {p : Procedure} → g.SpellsProcedure ts p rest → AreGood ts → GoodProcedure p × AreGood rest
-procedure_is_good (g.a_procedure x y n e b) h =
+procedure_is_good (g.a_procedure {y = gives} x y n e b) h =
     let a = header_is_good x h.1.1.1 in let r = results_are_good y a.1 in let c = clause_is_good n r.1 in let d = clause_is_good e c.1 in let f = body_is_good b d.1 in
-    (record { name = h.1.0; parameters = a.0; results = r.0; needs = c.0; gives = d.0; body = f.0 }, f.1)
+    (record { name = h.1.0; parameters = a.0; results = r.0; needs = c.0; gives = record { only = gives; one = refl; good = d.0 }; body = f.0 }, f.1)
 
 procedures_are_good : {ts : List Token} {ps : List Procedure} → g.SpellsProcedures ts ps → AreGood ts → AllGood GoodProcedure ps
 procedures_are_good g.no_procedures h = tt

@@ -1,5 +1,5 @@
 -- The plain form of each variant.
-use Rattle.std.proofs.Common.{◌≡◌, List, [], ◌∷◌, Bool, Box, Vec, Global, sym, ◌∙◌, ap, refl}
+use Rattle.std.proofs.Common.{◌≡◌, Bool, Box, Vec, Global, sym, ◌∙◌, ap}
 use Rattle.gh_base.specs.declared.place.Span.{Span}
 use Rattle.gh_ast.specs.declared.Occ.{Occ}
 use Rattle.gh_ast.specs.declared.Operand.{Operand}
@@ -13,8 +13,7 @@ use Rattle.gh_ast.specs.declared.Assertion.TheOpen.{Assertion-F}
 use Rattle.gh_ast.specs.declared.Assertion.TheFolds.{fold-roll-Assertion}
 use Rattle.gh_ast.specs.declared.Assertion.TheVariants.{Emp, Pure, PointsTo, Acc, Lseg, Star, Cases, rolls-Emp, rolls-Pure, rolls-PointsTo, rolls-Acc, rolls-Lseg, rolls-Star, rolls-Cases}
 use Rattle.gh_ast.specs.declared.Block.{Block}
-use Rattle.gh_ast.specs.declared.Stmt.{Stmt}
-use Rattle.gh_ast.specs.declared.Stmt.TheOpen.{Stmt-F, Block-F}
+use Rattle.gh_ast.specs.declared.Stmt.TheOpen.{Stmt-F}
 use Rattle.gh_ast.specs.declared.Stmt.TheFolds.{fold-roll-Stmt, fold_out-Block}
 use Rattle.gh_ast.specs.declared.Stmt.TheVariants.{Set, New, Write, Free, Call, If, While, Return, rolls-Set, rolls-New, rolls-Write, rolls-Free, rolls-Call, rolls-If, rolls-While, rolls-Return}
 use Rattle.gh_ast.specs.Plain.{Test, compare, negation, conjunction, disjunction, tests_view, test_step, test_of}

@@ -165,6 +165,15 @@ pub some_locals : {before after : List ℕ} (xs : List Occ) (b : Bool) → b ≡
 some_locals [] b e f a = cc
 some_locals (x ∷ xs) b e f a = a
 
+-- members with a sign between two, by their plain forms
+pub joined_map : {A B : Type 0} (f : B → List Lexeme) (g : A → B) (s : Sign) (xs : List A) → joined (λ x. f (g x)) s xs ≡ joined f s (map g xs)
+joined_map f g s [] = refl
+joined_map {A} f g s (x ∷ xs) = ap (λ t. f (g x) ++ t) (rest xs)
+  where
+    rest : (ys : List A) → followed (λ x. f (g x)) s ys ≡ followed f s (map g ys)
+    rest [] = refl
+    rest (y ∷ ys) = ap (λ t. mark s ∷ f (g y) ++ t) (rest ys)
+
 pub procedures_each : (xs : List Procedure) → flat_map (λ p. procedure_shown (procedure_of p)) xs ≡ flat_map procedure_shown (map procedure_of xs)
 procedures_each [] = refl
 procedures_each (x ∷ xs) = ap (λ t. procedure_shown (procedure_of x) ++ t) (procedures_each xs)

@@ -15,10 +15,10 @@ use Rattle.gh_ast.specs.Plain.{Formula, Statements, Inside, Procedure, Program}
 use Rattle.gh_ast.specs.Tokens.{Token, named, key, sign, keyword_text, first_place}
 use Rattle.gh_ast.specs.TokenLaws.{IsNameWord}
 use Rattle.gh_ast.specs.Grammar as g
-use Rattle.gh_ast.specs.Printed.{Lexeme, word, reserved, mark, joined, name_shown, formula_shown, statements_shown, word_or, field_shown, parameter_shown, results_shown, locals_shown, body_shown, procedure_shown, program_shown}
+use Rattle.gh_ast.specs.Printed.{Lexeme, word, reserved, mark, joined, name_shown, formula_shown, statements_shown, word_or, field_shown, parameter_shown, results_shown, locals_shown, body_shown, alternatives_shown, procedure_shown, program_shown}
 use Rattle.gh_ast.specs.Bare.{bare_occ, bare_formula, bare_statements, bare_inside, bare_field, bare_procedure, bare_program}
 use Rattle.gh_ast.proofs.Printing.{no_more}
-use Rattle.gh_ast.proofs.Good.{GoodFormula, GoodStatements, GoodBody, GoodProcedure, GoodWord, GoodField, GoodProgram, AllGood}
+use Rattle.gh_ast.proofs.Good.{GoodFormula, GoodStatements, GoodBody, GoodAlternatives, GoodProcedure, GoodWord, GoodField, GoodProgram, AllGood}
 use Rattle.gh_ast.proofs.Respelling.{shapes, IsRespelled, take_key, take_sign, take_name, leads}
 use Rattle.gh_ast.proofs.FormulasAgain.{assoc3, is_sep, formula_again}
 use Rattle.gh_ast.proofs.StatementsAgain.{heads, no_key, statements_again}
@@ -83,6 +83,21 @@ clause_again k x h us rest e n =
     let w = take_key k us (formula_shown x ++ rest) e in
     let r = (formula_again x h).whole w.after rest w.left n in
     record { value = r.value; after = r.after; spells = subst (λ u. g.SpellsClause k u r.value r.after) (sym w.here) (g.a_clause r.spells); left = r.left; same = r.same }
+
+-- one alternative after its word
+record IsEnsured (us : List Token) (fs : List Formula) (rest : List Lexeme) : Type 0 where
+  pub value : Formula
+  pub after : List Token
+  pub spells : g.SpellsClause kw.Ensures us value after
+  pub left : shapes after ≡ rest
+  pub same : bare_formula value ∷ [] ≡ map bare_formula fs
+
+ensures_again : (fs : List Formula) → GoodAlternatives fs → (us : List Token) (rest : List Lexeme) → shapes us ≡ reserved kw.Ensures ∷ alternatives_shown fs ++ rest → leads is_sep rest ≡ false
+    → IsEnsured us fs rest
+ensures_again fs h us rest e n =
+    let shown : alternatives_shown fs ≡ formula_shown h.only = ap alternatives_shown h.one ∙ no_more (formula_shown h.only) in
+    let r = clause_again kw.Ensures h.only h.good us rest (e ∙ ap (λ l. reserved kw.Ensures ∷ l ++ rest) shown) n in
+    record { value = r.value; after = r.after; spells = r.spells; left = r.left; same = ap (λ f. f ∷ []) r.same ∙ ap (map bare_formula) (sym h.one) }
 
 locals_again : (x : Occ) (xs : List Occ) (us : List Token) (rest : List Lexeme)
     → shapes us ≡ joined name_shown sg.Comma (x ∷ xs) ++ mark sg.Colon ∷ reserved kw.Node ∷ mark sg.Semicolon ∷ rest → IsRespelled g.SpellsLocals (map bare_occ) us (x ∷ xs) rest
@@ -162,7 +177,7 @@ assoc6 : (a b c d e f r : List Lexeme) → (((((a ++ b) ++ c) ++ d) ++ e) ++ f) 
 assoc6 a b c d e f r =
     append_assoc ((((a ++ b) ++ c) ++ d) ++ e) f r ∙ append_assoc (((a ++ b) ++ c) ++ d) e (f ++ r) ∙ append_assoc ((a ++ b) ++ c) d (e ++ (f ++ r)) ∙ assoc3 a b c (d ++ (e ++ (f ++ r)))
 
-abbrev procedure : Occ → List Occ → List Occ → Formula → Formula → Option Inside → Span → Procedure
+abbrev procedure : Occ → List Occ → List Occ → Formula → List Formula → Option Inside → Span → Procedure
 procedure f xs ys n v b c = record { name = f; parameters = xs; results = ys; needs = n; gives = v; body = b; close = c }
 
 body_leads : (b : Option Inside) (rest : List Lexeme) → leads is_sep (body_shown b ++ rest) ≡ false
@@ -173,33 +188,33 @@ procedure_again : (p : Procedure) → GoodProcedure p → (us : List Token) (res
 procedure_again p h us rest e =
     let params = joined parameter_shown sg.Comma p.parameters in
     let r5 = body_shown p.body ++ rest in
-    let r4 = reserved kw.Ensures ∷ formula_shown p.gives ++ r5 in
+    let r4 = reserved kw.Ensures ∷ alternatives_shown p.gives ++ r5 in
     let r3 = reserved kw.Requires ∷ formula_shown p.needs ++ r4 in
     let r2 = results_shown p.results ++ r3 in
-    let body = (params ++ mark sg.ParenClose ∷ []) ++ results_shown p.results ++ reserved kw.Requires ∷ formula_shown p.needs ++ reserved kw.Ensures ∷ formula_shown p.gives ++ body_shown p.body ++ rest in
+    let body = (params ++ mark sg.ParenClose ∷ []) ++ results_shown p.results ++ reserved kw.Requires ∷ formula_shown p.needs ++ reserved kw.Ensures ∷ alternatives_shown p.gives ++ body_shown p.body ++ rest in
     let k = take_key kw.Procedure us (word p.name.name ∷ mark sg.ParenOpen ∷ body) e in
     let w = take_name p.name k.after (mark sg.ParenOpen ∷ body) k.left in
     let o = take_sign sg.ParenOpen w.after body w.left in
     let a = header_again p.parameters o.after r2
-    (o.left ∙ assoc6 params (mark sg.ParenClose ∷ []) (results_shown p.results) (reserved kw.Requires ∷ formula_shown p.needs) (reserved kw.Ensures ∷ formula_shown p.gives) (body_shown p.body) rest) in
+    (o.left ∙ assoc6 params (mark sg.ParenClose ∷ []) (results_shown p.results) (reserved kw.Requires ∷ formula_shown p.needs) (reserved kw.Ensures ∷ alternatives_shown p.gives) (body_shown p.body) rest) in
     let b = results_again p.results a.after r3 a.left refl in
     let n = clause_again kw.Requires p.needs h.needs b.after r4 b.left refl in
-    let v = clause_again kw.Ensures p.gives h.gives n.after r5 n.left (body_leads p.body rest) in
+    let v = ensures_again p.gives h.gives n.after r5 n.left (body_leads p.body rest) in
     let d = body_again p.body h.body v.after rest v.left in
     let here = k.here ∙ ap (λ u. key kw.Procedure k.place ∷ u) (w.here ∙ ap (λ u. named w.value ∷ u) o.here) in
-    let q = procedure w.value a.value b.value n.value v.value d.value d.place in
+    let q = procedure w.value a.value b.value n.value (v.value ∷ []) d.value d.place in
     record {
       value = q;
       after = d.after;
       spells = subst (λ u. g.SpellsProcedure u q d.after) (sym here) (g.a_procedure a.spells b.spells n.spells v.spells d.spells);
       left = d.left;
       same =
-          ap (λ x. procedure x (map bare_occ a.value) (map bare_occ b.value) (bare_formula n.value) (bare_formula v.value) (option_map bare_inside d.value) first_place) w.same
-          ∙ ap (λ x. procedure (bare_occ p.name) x (map bare_occ b.value) (bare_formula n.value) (bare_formula v.value) (option_map bare_inside d.value) first_place) a.same
-          ∙ ap (λ x. procedure (bare_occ p.name) (map bare_occ p.parameters) x (bare_formula n.value) (bare_formula v.value) (option_map bare_inside d.value) first_place) b.same
-          ∙ ap (λ x. procedure (bare_occ p.name) (map bare_occ p.parameters) (map bare_occ p.results) x (bare_formula v.value) (option_map bare_inside d.value) first_place) n.same
+          ap (λ x. procedure x (map bare_occ a.value) (map bare_occ b.value) (bare_formula n.value) (bare_formula v.value ∷ []) (option_map bare_inside d.value) first_place) w.same
+          ∙ ap (λ x. procedure (bare_occ p.name) x (map bare_occ b.value) (bare_formula n.value) (bare_formula v.value ∷ []) (option_map bare_inside d.value) first_place) a.same
+          ∙ ap (λ x. procedure (bare_occ p.name) (map bare_occ p.parameters) x (bare_formula n.value) (bare_formula v.value ∷ []) (option_map bare_inside d.value) first_place) b.same
+          ∙ ap (λ x. procedure (bare_occ p.name) (map bare_occ p.parameters) (map bare_occ p.results) x (bare_formula v.value ∷ []) (option_map bare_inside d.value) first_place) n.same
           ∙ ap (λ x. procedure (bare_occ p.name) (map bare_occ p.parameters) (map bare_occ p.results) (bare_formula p.needs) x (option_map bare_inside d.value) first_place) v.same
-          ∙ ap (λ x. procedure (bare_occ p.name) (map bare_occ p.parameters) (map bare_occ p.results) (bare_formula p.needs) (bare_formula p.gives) x first_place) d.same;
+          ∙ ap (λ x. procedure (bare_occ p.name) (map bare_occ p.parameters) (map bare_occ p.results) (bare_formula p.needs) (map bare_formula p.gives) x first_place) d.same;
     }
 
 record AreProcedures (us : List Token) (ps : List Procedure) : Type 0 where

@@ -17,7 +17,8 @@ use Rattle.gh_ast.specs.Grammar as g
 use Rattle.gh_ast.specs.Printed.{Lexeme, word, reserved, mark, lexeme_of, operand_shown, expr_shown, bracketed, is_list, test_shown, tests_shown, tests_followed}
 use Rattle.gh_ast.specs.Bare.{bare_occ, bare_operand, bare_expr, bare_test, bare_tests}
 use Rattle.gh_ast.proofs.Printing.{no_more}
-use Rattle.gh_ast.proofs.Good.{GoodExpr, GoodTest, GoodTests, AreMany}
+use Rattle.gh_ast.specs.WellFormed.{AreManyTests}
+use Rattle.gh_ast.proofs.Good.{GoodExpr, GoodTest, GoodTests}
 
 abbrev pub shapes : List Token → List Lexeme
 shapes = map lexeme_of
@@ -226,7 +227,7 @@ more_conjs reads t (test_first u ts) h us rest e ends =
       same = ap (λ x. test_first x (bare_tests b.value)) r.same ∙ ap (test_first (bare_test t)) b.same;
     }
 
-conj_again : (reads : Bool) (ts : Tests) → AreMany ts → Members reads ts → AsTest reads (conjunction ts)
+conj_again : (reads : Bool) (ts : Tests) → AreManyTests ts → Members reads ts → AsTest reads (conjunction ts)
 conj_again reads no_tests many h us rest e ends = absurd many
 conj_again reads (test_first t no_tests) many h us rest e ends = absurd many
 conj_again reads (test_first t (test_first u ts)) many h us rest e ends =
@@ -241,7 +242,7 @@ conj_again reads (test_first t (test_first u ts)) many h us rest e ends =
       same = ap (λ x. conjunction (test_first x (bare_tests b.value))) r.same ∙ ap (λ x. conjunction (test_first (bare_test t) x)) b.same;
     }
 
-disj_again : (reads : Bool) (ts : Tests) → AreMany ts → Members reads ts → AsTest reads (disjunction ts)
+disj_again : (reads : Bool) (ts : Tests) → AreManyTests ts → Members reads ts → AsTest reads (disjunction ts)
 disj_again reads no_tests many h us rest e ends = absurd many
 disj_again reads (test_first t no_tests) many h us rest e ends = absurd many
 disj_again reads (test_first t (test_first u ts)) many h us rest e ends =

@@ -14,9 +14,9 @@ use Rattle.gh_ast.specs.declared.sign.Keyword.TheVariants as kw
 use Rattle.gh_ast.specs.Plain.{Test, compare, negation, conjunction, disjunction, Tests, no_tests, test_first, Formula, empty, comparison, points_to, cell, segment, star, cases, Formulas, no_formulas, formula_first, Statement, set, new, write, free, call, choice, loop, give, Statements, no_statements, statement_first, Inside, Procedure, Program}
 use Rattle.gh_ast.specs.Tokens.{first_place, cleared}
 use Rattle.gh_ast.specs.TokenLaws.{IsLexeme, AreLexemes}
-use Rattle.gh_ast.specs.Printed.{Lexeme, word, reserved, mark, followed, joined, name_shown, operand_shown, expr_shown, equality, bracketed, is_list, test_shown, tests_shown, tests_followed, is_star, formula_shown, formulas_shown, formulas_followed, targets_shown, statement_shown, statements_shown, otherwise_shown, word_or, field_shown, parameter_shown, results_shown, locals_shown, body_shown, procedure_shown, program_shown}
+use Rattle.gh_ast.specs.Printed.{Lexeme, word, reserved, mark, followed, joined, name_shown, operand_shown, expr_shown, equality, bracketed, is_list, test_shown, tests_shown, tests_followed, is_star, formula_shown, formulas_shown, formulas_followed, targets_shown, statement_shown, statements_shown, otherwise_shown, word_or, field_shown, parameter_shown, results_shown, locals_shown, body_shown, alternatives_shown, procedure_shown, program_shown}
 use Rattle.gh_ast.specs.Bare.{ReadBack}
-use Rattle.gh_ast.proofs.Good.{GoodOcc, GoodOperand, GoodExpr, AllGood, GoodTest, GoodTests, GoodFormula, GoodFormulas, SomeGood, GoodStatement, GoodStatements, GoodBody, GoodProcedure, GoodWord, GoodField, GoodProgram, tokens_are_good, program_is_good}
+use Rattle.gh_ast.proofs.Good.{GoodOcc, GoodOperand, GoodExpr, AllGood, GoodTest, GoodTests, GoodFormula, GoodFormulas, SomeGood, GoodStatement, GoodStatements, GoodBody, GoodAlternatives, GoodProcedure, GoodWord, GoodField, GoodProgram, tokens_are_good, program_is_good}
 use Rattle.gh_ast.proofs.ProgramsAgain.{free_word, key_word, program_again}
 use Rattle.gh_ast.proofs.Relexing.{line_reads}
 
@@ -202,24 +202,27 @@ body_ok (Some b) h = (
       (join (locals_shown b.locals) (statements_shown b.statements) (locals_ok b.locals h.0) (statements_ok b.statements h.1)) (tt, tt),
 )
 
+alternatives_ok : (fs : List Formula) → GoodAlternatives fs → AreLexemes (alternatives_shown fs)
+alternatives_ok fs h = subst (λ l. AreLexemes (alternatives_shown l)) (sym h.one) (joined_ok formula_shown sg.Or (h.only ∷ []) (formula_ok h.only h.good, tt))
+
 procedure_ok : (p : Procedure) → GoodProcedure p → AreLexemes (procedure_shown p)
 procedure_ok p h =
     let params = joined parameter_shown sg.Comma p.parameters in
     let a = params ++ mark sg.ParenClose ∷ [] in
     let b = a ++ results_shown p.results in
     let c = b ++ reserved kw.Requires ∷ formula_shown p.needs in
-    let d = c ++ reserved kw.Ensures ∷ formula_shown p.gives in (
+    let d = c ++ reserved kw.Ensures ∷ alternatives_shown p.gives in (
       tt,
       (
         h.name,
         (
           tt,
           join d (body_shown p.body)
-              (join c (reserved kw.Ensures ∷ formula_shown p.gives)
+              (join c (reserved kw.Ensures ∷ alternatives_shown p.gives)
               (join b (reserved kw.Requires ∷ formula_shown p.needs)
               (join a (results_shown p.results) (join params (mark sg.ParenClose ∷ []) (parameters_ok p.parameters h.parameters) (tt, tt)) (results_ok p.results h.results))
               (tt, formula_ok p.needs h.needs))
-              (tt, formula_ok p.gives h.gives))
+              (tt, alternatives_ok p.gives h.gives))
               (body_ok p.body h.body),
         ),
       ),

@@ -12,7 +12,7 @@ use Rattle.gh_ast.specs.Plain.{Formula, empty, comparison, points_to, cell, segm
 use Rattle.gh_ast.specs.Plain.{Statement, set, new, write, free, call, choice, loop, give, Statements, no_statements, statement_first, Inside, Procedure}
 use Rattle.gh_ast.specs.Programs.{Name, names, statements_in, body_of, Assigns, SomeAssigns}
 use Rattle.gh_ast.specs.Names.{OperandIn, ExprIn, TestIn, TestsIn, FormulaIn, FormulasIn}
-use Rattle.gh_ast.specs.Occurrences.{in_operand, in_expr, in_exprs, in_test, in_tests, in_formula, in_formulas, Site, mentioned, assigned, called, sites_in, all_sites_in, sites_in_body, sites_of}
+use Rattle.gh_ast.specs.Occurrences.{in_operand, in_expr, in_exprs, in_test, in_tests, in_formula, in_formulas, in_alternatives, Site, mentioned, assigned, called, sites_in, all_sites_in, sites_in_body, sites_of}
 use Rattle.gh_ast.specs.Rules.{HasName}
 use Rattle.gh_ast.proofs.Lists.{member_first, member_later, member_cases, no_member}
 
@@ -91,20 +91,28 @@ mutual
   formulas_in no_formulas xs all = tt
   formulas_in (formula_first f fs) xs all = (formula_in f xs (all_left (in_formula f) (in_formulas fs) xs all), formulas_in fs xs (all_right (in_formula f) (in_formulas fs) xs all))
 
+-- an occurrence in one alternative is one of the alternatives
+pub in_alternative : (fs : List Formula) (f : Formula) (o : Occ) → Contains fs f → Contains (in_formula f) o → Contains (in_alternatives fs) o
+in_alternative [] f o there inside = absurd (no_member f there)
+in_alternative (d ∷ fs) f o there inside = elim (member_cases d fs f there) [
+  | inl same ↦ Contains-append_left (in_formula d) (in_alternatives fs) o (subst (λ x. Contains (in_formula x) o) (sym same) inside)
+  | inr more ↦ Contains-append_right (in_formula d) (in_alternatives fs) o (in_alternative fs f o more inside)
+]
+
 -- each occurrence in what a procedure needs or gives is mentioned at a site of it
 pub needs_mentioned : (q : Procedure) (o : Occ) → Contains (in_formula q.needs) o → Contains (sites_of q) (mentioned o)
 needs_mentioned q o there =
-    Contains-append_left (map mentioned (in_formula q.needs ++ in_formula q.gives)) (sites_in_body q.body) (mentioned o)
-    (member_map mentioned (in_formula q.needs ++ in_formula q.gives) o (Contains-append_left (in_formula q.needs) (in_formula q.gives) o there))
+    Contains-append_left (map mentioned (in_formula q.needs ++ in_alternatives q.gives)) (sites_in_body q.body) (mentioned o)
+    (member_map mentioned (in_formula q.needs ++ in_alternatives q.gives) o (Contains-append_left (in_formula q.needs) (in_alternatives q.gives) o there))
 
-pub gives_mentioned : (q : Procedure) (o : Occ) → Contains (in_formula q.gives) o → Contains (sites_of q) (mentioned o)
+pub gives_mentioned : (q : Procedure) (o : Occ) → Contains (in_alternatives q.gives) o → Contains (sites_of q) (mentioned o)
 gives_mentioned q o there =
-    Contains-append_left (map mentioned (in_formula q.needs ++ in_formula q.gives)) (sites_in_body q.body) (mentioned o)
-    (member_map mentioned (in_formula q.needs ++ in_formula q.gives) o (Contains-append_right (in_formula q.needs) (in_formula q.gives) o there))
+    Contains-append_left (map mentioned (in_formula q.needs ++ in_alternatives q.gives)) (sites_in_body q.body) (mentioned o)
+    (member_map mentioned (in_formula q.needs ++ in_alternatives q.gives) o (Contains-append_right (in_formula q.needs) (in_alternatives q.gives) o there))
 
 -- a site of a body is a site of its procedure
 pub site_in_body : (q : Procedure) (x : Site) → Contains (all_sites_in false (body_of q)) x → Contains (sites_of q) x
-site_in_body q x there = Contains-append_right (map mentioned (in_formula q.needs ++ in_formula q.gives)) (sites_in_body q.body) x (by_body q.body x there)
+site_in_body q x there = Contains-append_right (map mentioned (in_formula q.needs ++ in_alternatives q.gives)) (sites_in_body q.body) x (by_body q.body x there)
   where
     by_body : (b : Option Inside) (x : Site) → Contains (all_sites_in false (statements_in b)) x → Contains (sites_in_body b) x
     by_body None x there = there

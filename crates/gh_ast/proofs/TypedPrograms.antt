@@ -1,5 +1,5 @@
 -- What a program that breaks no type rule keeps.
-use Rattle.std.specs.Prelude.{◌≡◌, ◌≢◌, ◌⊎◌, ℕ, zero, suc, ◌+◌, ◌<◌, List, ◌++◌, length, get_or, true, false, [], ◌∷◌, Bool, Any, AllPairs, Contains}
+use Rattle.std.specs.Prelude.{◌≡◌, ◌≢◌, ◌⊎◌, ℕ, ◌+◌, ◌<◌, List, ◌++◌, length, get_or, true, false, [], ◌∷◌, Bool, Any, AllPairs, Contains}
 use Rattle.std.proofs.Common.{refl, sym, ◌∙◌, ap, subst, inl, inr, arith, append_assoc}
 use Rattle.std.proofs.lemmas.List.{get_or-map, get_or-take, length-take-le, length-map, length-append, map-append, get_or-append-add, get_or_append_left}
 use Rattle.std.proofs.lemmas.List.Elements.{Contains-append_left, Contains-append_cases}
@@ -9,15 +9,14 @@ use Rattle.std.proofs.lemmas.Slice.Eq.{bytes_eq-Decides}
 use Rattle.gh_base.specs.declared.place.Span.{Span}
 use Rattle.gh_ast.specs.declared.Occ.{Occ}
 use Rattle.gh_ast.specs.declared.Expr.{Expr}
-use Rattle.gh_ast.specs.Plain.{Procedure, Program}
-use Rattle.gh_ast.specs.Programs.{Name, names, parameters_of, results_of, body_of, variable_names, name_of, SomeAssigns, IsFirstNamed, Declares}
+use Rattle.gh_ast.specs.Plain.{Formula, empty, Procedure, Program}
+use Rattle.gh_ast.specs.Programs.{Name, names, parameters_of, results_of, body_of, variable_names, name_of, SomeAssigns, IsFirstNamed, Declares, first_alternative, ensured}
 use Rattle.gh_ast.specs.Names.{FormulaIn}
-use Rattle.gh_ast.specs.Occurrences.{Site, mentioned, assigned, called, returned, in_formula, all_sites_in, sites_of, locals_of, variables_of}
+use Rattle.gh_ast.specs.Occurrences.{Site, mentioned, assigned, called, returned, in_formula, in_alternatives, all_sites_in, sites_of, locals_of, variables_of}
 use Rattle.gh_ast.specs.Rules.{HasName, RepeatedAt, UnknownName, AssignToParameter, WrongCount, ReturnInLoop, UnknownProcedure, RepeatedResult, AtSome, NameOutOfContract, unknown_name, duplicate_name, assign_to_parameter, wrong_count, return_in_loop, unknown_procedure, repeated_result, name_out_of_contract, IsTyped}
-use Rattle.gh_ast.specs.Lists.{IsFirstWith}
-use Rattle.gh_ast.proofs.Lists.{member_cases}
+use Rattle.gh_ast.proofs.Lists.{member_first, member_cases}
 use Rattle.gh_ast.proofs.Members.{name_or}
-use Rattle.gh_ast.proofs.Sites.{any_of, element_at, has_name, name_had, formula_in, needs_mentioned, gives_mentioned, site_in_body, AssignedAt, assigned_sites}
+use Rattle.gh_ast.proofs.Sites.{any_of, element_at, has_name, name_had, formula_in, needs_mentioned, gives_mentioned, in_alternative, site_in_body, AssignedAt, assigned_sites}
 
 at_some : (P : Program) (R : Procedure → Site → Span → Type 0) (s : Span) (q : Procedure) (x : Site) → Contains P.procedures q → Contains (sites_of q) x → R q x s → AtSome P R s
 at_some P R s q x here there broken = any_of (λ q. Any (λ x. R q x s) (sites_of q)) P.procedures q here (any_of (λ x. R q x s) (sites_of q) x there broken)
@@ -32,8 +31,16 @@ mention_is_variable P typed q here o there = elim (name_or (variable_names q) o.
 pub needs_are_variables : (P : Program) → IsTyped P → (q : Procedure) → Contains P.procedures q → FormulaIn q.needs (variable_names q)
 needs_are_variables P typed q here = formula_in q.needs (variable_names q) (λ o there. mention_is_variable P typed q here o (needs_mentioned q o there))
 
-pub gives_are_variables : (P : Program) → IsTyped P → (q : Procedure) → Contains P.procedures q → FormulaIn q.gives (variable_names q)
-gives_are_variables P typed q here = formula_in q.gives (variable_names q) (λ o there. mention_is_variable P typed q here o (gives_mentioned q o there))
+pub gives_are_variables : (P : Program) → IsTyped P → (q : Procedure) → Contains P.procedures q → (f : Formula) → Contains q.gives f → FormulaIn f (variable_names q)
+gives_are_variables P typed q here f one = formula_in f (variable_names q) (λ o there. mention_is_variable P typed q here o (gives_mentioned q o (in_alternative q.gives f o one there)))
+
+-- what holds of each alternative holds of the one that is read, if it holds of `emp`
+of_ensured : (P : Formula → Type 0) (fs : List Formula) → P empty → ((f : Formula) → Contains fs f → P f) → P (first_alternative fs)
+of_ensured P [] none each = none
+of_ensured P (f ∷ fs) none each = each f (member_first f fs)
+
+pub ensured_is_of_variables : (P : Program) → IsTyped P → (q : Procedure) → Contains P.procedures q → FormulaIn (ensured q) (variable_names q)
+ensured_is_of_variables P typed q here = of_ensured (λ f. FormulaIn f (variable_names q)) q.gives tt (gives_are_variables P typed q here)
 
 -- an occurrence whose name stands earlier is a repeated one
 repeated : (os : List Occ) (i j : ℕ) (o p : Occ) → i < j → j < length os → get_or os i o ≡ o → get_or os j p ≡ p → o.name ≡ p.name → RepeatedAt os p.span
@@ -91,27 +98,6 @@ callee_is_known P typed q here ts f es there = elim (first_named P.procedures f.
   | inr none ↦ absurd (typed 6 f.span (unknown_procedure refl (at_some P (UnknownProcedure P.procedures) f.span q (called ts f es) here there (refl, none))))
 ]
 
--- what a name declares is what it means
-means : (ps : List Procedure) (f : Name) (q : Procedure) → IsFirstNamed ps f q → IsFirstWith (λ r. r.name.name ≡ f) ps q
-means [] f q d = absurd d
-means (r ∷ rs) f q d = elim d [
-  | inl (named, same) ↦ record {
-    place = 0;
-    within = omega arith;
-    element = sym same;
-    holds = subst (λ p. name_of p ≡ f) (sym same) named;
-    earlier = λ j d l. absurd (omega (arith, l));
-  }
-  | inr (other, more) ↦ after (means rs f q more) other
-]
-  where
-    after : IsFirstWith (λ r. r.name.name ≡ f) rs q → name_of r ≢ f → IsFirstWith (λ r. r.name.name ≡ f) (r ∷ rs) q
-    after first other = record { place = suc first.place; within = omega (arith, first.within); element = first.element; holds = first.holds; earlier = early }
-      where
-        early : (j : ℕ) (d : Procedure) → j < suc first.place → (get_or (r ∷ rs) j d).name.name ≡ f → ⊥
-        early zero d l same = other same
-        early (suc j) d l same = first.earlier j d (omega (arith, l)) same
-
 -- a call has as many arguments and targets as its callee parameters and results
 pub counts_agree : (P : Program) → IsTyped P → (q : Procedure) → Contains P.procedures q → (ts : List Occ) (f : Occ) (es : List Expr) → Contains (sites_of q) (called ts f es) → (r : Procedure) → Declares P f.name r
     → (length es ≡ length (parameters_of r)) × (length ts ≡ length (results_of r))
@@ -121,7 +107,7 @@ counts_agree P typed q here ts f es there r declares = (
 )
   where
     wrong : (length es ≢ length r.parameters) ⊎ (length ts ≢ length r.results) → ⊥
-    wrong differs = typed 4 f.span (wrong_count refl (at_some P (WrongCount P.procedures) f.span q (called ts f es) here there (refl, (r, means P.procedures f.name r declares, differs))))
+    wrong differs = typed 4 f.span (wrong_count refl (at_some P (WrongCount P.procedures) f.span q (called ts f es) here there (refl, (r, declares, differs))))
 
 -- a return has as many values as there are results
 pub values_are_counted : (P : Program) → IsTyped P → (q : Procedure) → Contains P.procedures q → (inside : Bool) (w : Span) (es : List Expr) → Contains (sites_of q) (returned inside w es) → length es ≡ length (results_of q)
@@ -162,18 +148,21 @@ needs_are_parameters P typed q here = formula_in q.needs (parameters_of q) param
               (refl, has_name (q.results ++ locals_of q) o.name (subst (λ xs. Contains xs o.name) (sym (names_append q.results (locals_of q))) other)))))))
         ]
 
--- what a procedure gives names its parameters and results only
-pub gives_are_contract : (P : Program) → IsTyped P → (q : Procedure) → Contains P.procedures q → FormulaIn q.gives (parameters_of q ++ results_of q)
-gives_are_contract P typed q here = formula_in q.gives (parameters_of q ++ results_of q) named
+-- each alternative that a procedure gives names its parameters and results only
+pub gives_are_contract : (P : Program) → IsTyped P → (q : Procedure) → Contains P.procedures q → (f : Formula) → Contains q.gives f → FormulaIn f (parameters_of q ++ results_of q)
+gives_are_contract P typed q here f one = formula_in f (parameters_of q ++ results_of q) (λ o inside. named o (in_alternative q.gives f o one inside))
   where
-    named : (o : Occ) → Contains (in_formula q.gives) o → Contains (parameters_of q ++ results_of q) o.name
+    named : (o : Occ) → Contains (in_alternatives q.gives) o → Contains (parameters_of q ++ results_of q) o.name
     named o there =
         elim (Contains-append_cases (parameters_of q ++ results_of q) (names (locals_of q)) o.name
         (subst (λ xs. Contains xs o.name) (variables_split q) (mention_is_variable P typed q here o (gives_mentioned q o there)))) [
           | inl fine ↦ fine
           | inr local ↦ absurd (typed 9 o.span (name_out_of_contract refl (any_of (λ q. NameOutOfContract q o.span) P.procedures q here
-              (inr (any_of (λ o'. (o'.span ≡ o.span) × HasName (locals_of q) o'.name) (in_formula q.gives) o there (refl, has_name (locals_of q) o.name local))))))
+              (inr (any_of (λ o'. (o'.span ≡ o.span) × HasName (locals_of q) o'.name) (in_alternatives q.gives) o there (refl, has_name (locals_of q) o.name local))))))
         ]
+
+pub ensured_is_of_contract : (P : Program) → IsTyped P → (q : Procedure) → Contains P.procedures q → FormulaIn (ensured q) (parameters_of q ++ results_of q)
+ensured_is_of_contract P typed q here = of_ensured (λ f. FormulaIn f (parameters_of q ++ results_of q)) q.gives tt (gives_are_contract P typed q here)
 
 -- no statement assigns a parameter
 pub parameters_stay : (P : Program) → IsTyped P → (q : Procedure) → Contains P.procedures q → (y : Name) → Contains (parameters_of q) y → SomeAssigns (body_of q) y → ⊥

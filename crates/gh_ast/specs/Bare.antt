@@ -76,7 +76,7 @@ bare_procedure p =
       parameters = map bare_occ p.parameters;
       results = map bare_occ p.results;
       needs = bare_formula p.needs;
-      gives = bare_formula p.gives;
+      gives = map bare_formula p.gives;
       body = option_map bare_inside p.body;
       close = first_place;
     }

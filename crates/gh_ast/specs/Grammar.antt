@@ -189,7 +189,7 @@ pub data SpellsProcedure : List Token → Procedure → List Token → Type 0 wh
   a_procedure : {f : Occ} {p q c : Span} {ts us vs ws zs rest : List Token} {xs ys : List Occ} {x y : Formula} {b : Option Inside}
       → SpellsHeader ts xs us → SpellsResults us ys vs → SpellsClause kw.Requires vs x ws → SpellsClause kw.Ensures ws y zs → SpellsBody zs b c rest
       → SpellsProcedure (key kw.Procedure p ∷ named f ∷ sign sg.ParenOpen q ∷ ts)
-      (record { name = f; parameters = xs; results = ys; needs = x; gives = y; body = b; close = c }) rest
+      (record { name = f; parameters = xs; results = ys; needs = x; gives = y ∷ []; body = b; close = c }) rest
 
 pub data SpellsProcedures : List Token → List Procedure → Type 0 where
   no_procedures : SpellsProcedures [] []

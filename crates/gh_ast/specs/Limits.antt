@@ -1,8 +1,8 @@
--- The limits on a program's text: its procedures, the variables of a procedure, the atoms of an assertion.
-use Rattle.std.specs.Prelude.{◌≡◌, ℕ, ◌+◌, ◌<◌, ◌≤◌, List, [], ◌∷◌, ◌++◌, length, Option, None, Some, All, Any, min}
+-- The limits on a program's text: its procedures, the variables of a procedure, the atoms of what it requires, ensures or keeps in a loop.
+use Rattle.std.specs.Prelude.{◌≡◌, ℕ, ◌+◌, ◌<◌, ◌≤◌, List, [], ◌∷◌, ◌++◌, length, map, sum, Option, None, Some, All, Any, min}
 use Rattle.std.specs.List.{HoldsAt}
 use Rattle.gh_ast.specs.Plain.{Test, compare, negation, conjunction, disjunction, Tests, no_tests, test_first}
-use Rattle.gh_ast.specs.Plain.{Formula, empty, comparison, points_to, cell, segment, star, cases, Formulas, no_formulas, formula_first}
+use Rattle.gh_ast.specs.Plain.{Formula, star, cases, Formulas, no_formulas, formula_first}
 use Rattle.gh_ast.specs.Plain.{Statement, choice, loop, Statements, no_statements, statement_first, Inside, Procedure, Program}
 use Rattle.gh_ast.specs.Lists.{IsFirstWith}
 use Rattle.gh_ast.specs.Occurrences.{variables_of}
@@ -45,18 +45,15 @@ abbrev pub invariants_in_body : Option Inside → List Formula
 invariants_in_body None = []
 invariants_in_body (Some b) = all_invariants_in b.statements
 
--- the assertions of a procedure in order: what it requires, what it ensures, its invariants
-abbrev pub assertions_of : Procedure → List Formula
-assertions_of q = q.needs ∷ q.gives ∷ invariants_in_body q.body
+-- how many atoms stand in what a procedure requires, in all alternatives of what it ensures together, and in each invariant
+abbrev pub atom_counts : Procedure → List ℕ
+atom_counts q = atoms q.needs ∷ sum (map atoms q.gives) ∷ map atoms (invariants_in_body q.body)
 
 abbrev pub HasManyVariables : Procedure → Type 0
 HasManyVariables q = 32 < length (variables_of q)
 
-abbrev pub HasManyAtoms : Formula → Type 0
-HasManyAtoms f = 32 < atoms f
-
 abbrev pub HasManyAtomsSomewhere : Procedure → Type 0
-HasManyAtomsSomewhere q = Any HasManyAtoms (assertions_of q)
+HasManyAtomsSomewhere q = Any (λ n. 32 < n) (atom_counts q)
 
 abbrev pub AreFew : Program → Type 0
 AreFew p = length p.procedures ≤ 256
@@ -65,7 +62,7 @@ abbrev pub HaveFewVariables : Program → Type 0
 HaveFewVariables p = All (λ q. length (variables_of q) ≤ 32) p.procedures
 
 abbrev pub HaveFewAtoms : Program → Type 0
-HaveFewAtoms p = All (λ q. All (λ f. atoms f ≤ 32) (assertions_of q)) p.procedures
+HaveFewAtoms p = All (λ q. All (λ n. n ≤ 32) (atom_counts q)) p.procedures
 
 -- each quantity is at most its limit
 pub record KeepsLimits (p : Program) : Type 0 where
@@ -92,15 +89,15 @@ pub record VariablesPassed (ps : List Procedure) (l : Limit) : Type 0 where
   pub span : procedure.name.span ≡ l.span
   pub count : l.count ≡ reported (length (variables_of procedure))
 
--- the first procedure with an assertion of more than 32 atoms, and its first such assertion
+-- the first procedure with more than 32 atoms in what it requires, in what it ensures or in an invariant, and the first such number of it
 pub record AtomsPassed (ps : List Procedure) (l : Limit) : Type 0 where
   pub kind : l.kind ≡ 3
   pub procedure : Procedure
-  pub assertion : Formula
+  pub number : ℕ
   pub first : IsFirstWith HasManyAtomsSomewhere ps procedure
-  pub first_there : IsFirstWith HasManyAtoms (assertions_of procedure) assertion
+  pub first_there : IsFirstWith (λ n. 32 < n) (atom_counts procedure) number
   pub span : procedure.name.span ≡ l.span
-  pub count : l.count ≡ reported (atoms assertion)
+  pub count : l.count ≡ reported number
 
 -- the limit that is answered: procedures before variables, and variables before atoms, over the whole program
 pub data IsLimit (p : Program) (l : Limit) : Type 0 where

@@ -48,6 +48,10 @@ abbrev mutual
   in_formulas no_formulas = []
   in_formulas (formula_first f fs) = in_formula f ++ in_formulas fs
 
+-- in the alternatives of what a procedure ensures, in order
+abbrev pub in_alternatives : List Formula → List Occ
+in_alternatives fs = flat_map in_formula fs
+
 -- what a rule may look at
 pub data Site : Type 0 where
   -- an occurrence of a variable
@@ -81,7 +85,7 @@ sites_in_body (Some b) = all_sites_in false b.statements
 
 -- the sites of a procedure: its contracts and its body
 abbrev pub sites_of : Procedure → List Site
-sites_of q = map mentioned (in_formula q.needs ++ in_formula q.gives) ++ sites_in_body q.body
+sites_of q = map mentioned (in_formula q.needs ++ in_alternatives q.gives) ++ sites_in_body q.body
 
 abbrev pub locals_in : Option Inside → List Occ
 locals_in None = []

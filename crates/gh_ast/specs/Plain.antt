@@ -136,7 +136,8 @@ pub record Procedure : Type 0 where
   pub parameters : List Occ
   pub results : List Occ
   pub needs : Formula
-  pub gives : Formula
+  -- the alternatives of what is ensured
+  pub gives : List Formula
   pub body : Option Inside
   pub close : Span
 
@@ -155,7 +156,7 @@ procedure_of p =
       parameters = p.parameters.items;
       results = p.results.items;
       needs = formula_of p.needs;
-      gives = formula_of p.gives;
+      gives = map formula_of p.gives.items;
       body = option_map inside_of p.body;
       close = p.close;
     }

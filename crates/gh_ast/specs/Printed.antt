@@ -178,11 +178,15 @@ abbrev pub body_shown : Option Inside → List Lexeme
 body_shown None = mark sg.Semicolon ∷ []
 body_shown (Some b) = mark sg.BraceOpen ∷ locals_shown b.locals ++ statements_shown b.statements ++ mark sg.BraceClose ∷ []
 
+-- alternatives with `||` between two
+abbrev pub alternatives_shown : List Formula → List Lexeme
+alternatives_shown = joined formula_shown sg.Or
+
 -- missing conditions are written as `emp`
 abbrev pub procedure_shown : Procedure → List Lexeme
 procedure_shown p =
     reserved kw.Procedure ∷ word p.name.name ∷ mark sg.ParenOpen ∷ joined parameter_shown sg.Comma p.parameters ++ mark sg.ParenClose ∷ []
-    ++ results_shown p.results ++ reserved kw.Requires ∷ formula_shown p.needs ++ reserved kw.Ensures ∷ formula_shown p.gives ++ body_shown p.body
+    ++ results_shown p.results ++ reserved kw.Requires ∷ formula_shown p.needs ++ reserved kw.Ensures ∷ alternatives_shown p.gives ++ body_shown p.body
 
 abbrev pub program_shown : Program → List Lexeme
 program_shown p =

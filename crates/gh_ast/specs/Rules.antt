@@ -4,8 +4,8 @@ use Rattle.gh_base.specs.declared.place.Span.{Span}
 use Rattle.gh_ast.specs.declared.Occ.{Occ}
 use Rattle.gh_ast.specs.declared.Field.{Field}
 use Rattle.gh_ast.specs.Plain.{Procedure, Program}
-use Rattle.gh_ast.specs.Lists.{IsFirstWith}
-use Rattle.gh_ast.specs.Occurrences.{Site, mentioned, assigned, called, returned, sites_of, in_formula, locals_of, variables_of}
+use Rattle.gh_ast.specs.Occurrences.{Site, mentioned, assigned, called, returned, sites_of, in_formula, in_alternatives, locals_of, variables_of}
+use Rattle.gh_ast.specs.Programs.{IsFirstNamed}
 
 -- some of these occurrences has this name
 abbrev pub HasName : List Occ → List ℕ → Type 0
@@ -19,10 +19,6 @@ pub record RepeatedAt (os : List Occ) (s : Span) : Type 0 where
   pub element : slice_index_or os place here ≡ here
   pub earlier : HasName (take place os) here.name
   pub span : here.span ≡ s
-
--- a name in a call means the first procedure that has it
-abbrev pub Means : List Procedure → List ℕ → Procedure → Type 0
-Means ps name q = IsFirstWith (λ r. r.name.name ≡ name) ps q
 
 -- 1: an occurrence of a variable that names no variable of the procedure
 abbrev pub UnknownName : Procedure → Site → Span → Type 0
@@ -41,7 +37,7 @@ AssignToParameter q _ s = ⊥
 -- 4: a call whose arguments or targets, or a return whose values, aren't as many as they should be
 abbrev pub WrongCount : List Procedure → Procedure → Site → Span → Type 0
 WrongCount ps q (called ts c es) s =
-    (c.span ≡ s) × ((r : Procedure) × Means ps c.name r × ((length es ≢ length r.parameters) ⊎ (length ts ≢ length r.results)))
+    (c.span ≡ s) × ((r : Procedure) × IsFirstNamed ps c.name r × ((length es ≢ length r.parameters) ⊎ (length ts ≢ length r.results)))
 WrongCount ps q (returned inside w es) s = (w ≡ s) × (length es ≢ length q.results)
 WrongCount ps q _ s = ⊥
 
@@ -73,11 +69,11 @@ pub record SecondLink (fs : List Field) (s : Span) : Type 0 where
 abbrev pub DataField : List Field → Span → Type 0
 DataField fs s = Any (λ f. (f.name.span ≡ s) × (f.kind ≢ codes "Node")) fs
 
--- 9: in what a procedure requires, a result or a local; in what it ensures, a local
+-- 9: in what a procedure requires, a result or a local; in an alternative of what it ensures, a local
 abbrev pub NameOutOfContract : Procedure → Span → Type 0
 NameOutOfContract q s =
     Any (λ o. (o.span ≡ s) × HasName (q.results ++ locals_of q) o.name) (in_formula q.needs)
-    ⊎ Any (λ o. (o.span ≡ s) × HasName (locals_of q) o.name) (in_formula q.gives)
+    ⊎ Any (λ o. (o.span ≡ s) × HasName (locals_of q) o.name) (in_alternatives q.gives)
 
 -- 10: a target that stands earlier among the same targets
 abbrev pub RepeatedResult : Procedure → Site → Span → Type 0

@@ -1,6 +1,8 @@
 //! The syntax tree of the language, without meaning.
 #![tactic(auto)]
 
+ghost use Rattle.std.specs.Prelude.{◌<◌, length};
+
 pub mod grammar_laws;
 pub mod print;
 pub mod sign;
@@ -134,16 +136,31 @@ pub struct Body {
     pub block: Block,
 }
 
-/// A procedure.
+/// A procedure. `needs` is what it requires, and `gives` what it ensures: its alternatives, at
+/// least one.
 #[derive(Debug, Drop)]
 pub struct Procedure {
     pub name: Occ,
     pub parameters: Vec<Occ>,
     pub results: Vec<Occ>,
     pub needs: Assertion,
-    pub gives: Assertion,
+    pub gives: Vec<Assertion>,
     pub body: Option<Body>,
     pub close: Span,
+    ghost some: { 0 < length gives.items },
+}
+
+impl Procedure {
+    ghost use Rattle.std.specs.Prelude.{◌≡◌};
+    ghost use Rattle.gh_ast.specs.Plain.{formula_of, procedure_of};
+    ghost use Rattle.gh_ast.specs.Programs.{ensured};
+
+    /// What it ensures: its first alternative, the only one in a well-formed program.
+    pub fn ensured(&self) -> &Assertion
+        ensures { formula_of result.now ≡ ensured (procedure_of self.now) }
+    {
+        &self.gives[0]
+    }
 }
 
 /// A whole text.

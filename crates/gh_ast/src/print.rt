@@ -4,7 +4,7 @@ ghost use Rattle.std.specs.Prelude.{◌≡◌, ◌++◌, ◌∷◌, [], map, Som
 ghost use Rattle.std.specs.List.{flat_map};
 ghost use Rattle.gh_ast.specs.Plain.{set, new, write, free, call, comparison, points_to, cell, segment, test_of, tests_view, formula_of, formulas_view, statement_of, statements_view, part_of, inside_of, procedure_of, program_of};
 ghost use Rattle.gh_ast.specs.Bare.{ReadBack};
-ghost use Rattle.gh_ast.specs.Printed.{word, reserved, mark, Adds, joined, name_shown, operand_shown, expr_shown, equality, bracketed, is_list, is_star, test_shown, tests_shown, tests_followed, formula_shown, formulas_shown, formulas_followed, targets_shown, statement_shown, statements_shown, otherwise_shown, field_shown, parameter_shown, results_shown, locals_shown, body_shown, procedure_shown, program_text};
+ghost use Rattle.gh_ast.specs.Printed.{word, reserved, mark, Adds, joined, name_shown, operand_shown, expr_shown, equality, bracketed, is_list, is_star, test_shown, tests_shown, tests_followed, formula_shown, formulas_shown, formulas_followed, targets_shown, statement_shown, statements_shown, otherwise_shown, field_shown, parameter_shown, results_shown, locals_shown, body_shown, alternatives_shown, procedure_shown, program_text};
 
 use crate::sign::{Keyword, Sign};
 use crate::{Assertion, Block, Body, Cond, Expr, Field, Occ, Operand, Procedure, Program, Stmt};
@@ -537,12 +537,34 @@ fn put_rest(out: &mut Text, body: &Option<Body>) -> Result<(), AllocError>
     }
 }
 
-// A condition after its word.
-fn put_clause(out: &mut Text, key: Keyword, condition: &Assertion) -> Result<(), AllocError>
-    ensures { OnOk result (Adds out.old out.new (reserved key ∷ formula_shown (formula_of condition.now))) }
+// Alternatives with `||` between two.
+fn put_alternatives(out: &mut Text, alternatives: &[Assertion]) -> Result<(), AllocError>
+    ensures { OnOk result (Adds out.old out.new (alternatives_shown (map formula_of alternatives.now))) }
 {
-    put_key(out, key)?;
+    let Some((first, rest)) = alternatives.split_first() else {
+        return Ok(());
+    };
+    put_assertion(out, first)?;
+    for alternative in rest {
+        put_sign(out, Sign::Or)?;
+        put_assertion(out, alternative)?;
+    }
+    Ok(())
+}
+
+fn put_requires(out: &mut Text, condition: &Assertion) -> Result<(), AllocError>
+    ensures { OnOk result (Adds out.old out.new (reserved Keyword.Requires ∷ formula_shown (formula_of condition.now))) }
+{
+    put_key(out, Keyword::Requires)?;
     put_assertion(out, condition)?;
+    Ok(())
+}
+
+fn put_ensures(out: &mut Text, alternatives: &[Assertion]) -> Result<(), AllocError>
+    ensures { OnOk result (Adds out.old out.new (reserved Keyword.Ensures ∷ alternatives_shown (map formula_of alternatives.now))) }
+{
+    put_key(out, Keyword::Ensures)?;
+    put_alternatives(out, alternatives)?;
     Ok(())
 }
 
@@ -563,8 +585,8 @@ fn put_procedure(out: &mut Text, procedure: &Procedure) -> Result<(), AllocError
 {
     put_head(out, &procedure.name, procedure.parameters.as_slice())?;
     put_results(out, procedure.results.as_slice())?;
-    put_clause(out, Keyword::Requires, &procedure.needs)?;
-    put_clause(out, Keyword::Ensures, &procedure.gives)?;
+    put_requires(out, &procedure.needs)?;
+    put_ensures(out, procedure.gives.as_slice())?;
     put_rest(out, &procedure.body)?;
     Ok(())
 }

@@ -1,4 +1,4 @@
-//! Programs that keep the type rules and the limits on a text.
+//! Well-formed programs that keep the type rules and the limits on a text.
 
 ghost use Rattle.std.specs.Prelude.{◌≡◌};
 ghost use Rattle.gh_ast.specs.Plain.{program_of};
@@ -10,9 +10,9 @@ use std::marker::Model;
 /// A quantity that passes its limit.
 ///
 /// Kind 1 counts the procedures, of which there may be 256; kind 2 the variables of a procedure,
-/// up to 32; kind 3 the atoms of an assertion, up to 32. `span` is the place of the procedure's
-/// name, for kind 1 that of the 257th. `count` is the counted number, or the greatest `u32` where
-/// that is greater.
+/// up to 32; kind 3 the atoms of what a procedure requires, of all alternatives of what it ensures
+/// together, or of an invariant, up to 32. `span` is the place of the procedure's name, for kind 1
+/// that of the 257th. `count` is the counted number, or the greatest `u32` where that is greater.
 #[derive(Clone, Copy, Debug, PartialEq, Eq)]
 pub struct Limit {
     pub kind: u8,
@@ -20,7 +20,7 @@ pub struct Limit {
     pub count: u32,
 }
 
-/// A program that keeps the type rules and the limits on a text.
+/// A well-formed program that keeps the type rules and the limits on a text.
 #[derive(Debug, Drop)]
 pub struct Typed {
     program: Program,
@@ -31,6 +31,7 @@ impl Model for Typed {
     ghost use Rattle.gh_ast.specs.Plain.{program_of};
     ghost use Rattle.gh_ast.specs.Rules.{IsTyped};
     ghost use Rattle.gh_ast.specs.Limits.{KeepsLimits};
+    ghost use Rattle.gh_ast.specs.WellFormed.{IsWellFormed};
     ghost use Rattle.gh_ast.specs.contracts.Program as whole;
 
     ghost Value = { Program };
@@ -39,17 +40,19 @@ impl Model for Typed {
 
     ghost view = { λ t. t.program };
 
-    ghost invariant = { λ t. IsTyped (program_of t.program) × KeepsLimits (program_of t.program) };
+    ghost invariant = { λ t. IsTyped (program_of t.program) × KeepsLimits (program_of t.program) × IsWellFormed (program_of t.program) };
 }
 
 impl Typed {
     ghost use Rattle.gh_ast.specs.Rules.{IsTyped};
     ghost use Rattle.gh_ast.specs.Limits.{KeepsLimits};
+    ghost use Rattle.gh_ast.specs.WellFormed.{IsWellFormed};
 
     /// Keeps a program.
     pub fn new(program: Program) -> Typed
         requires typed { IsTyped (program_of program) }
         requires limits { KeepsLimits (program_of program) }
+        requires formed { IsWellFormed (program_of program) }
         ensures { result ≡ program }
     {
         Typed { program }
@@ -60,6 +63,7 @@ impl Typed {
         ensures same { result.now ≡ self.now }
         ensures typed { IsTyped (program_of result.now) }
         ensures limits { KeepsLimits (program_of result.now) }
+        ensures formed { IsWellFormed (program_of result.now) }
     {
         &self.program
     }

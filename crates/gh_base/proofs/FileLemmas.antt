@@ -10,9 +10,8 @@ use Rattle.std.proofs.lemmas.List.Folds.{find_at}
 use Rattle.std.proofs.lemmas.List.{drop-drop, take-append-drop}
 use Rattle.std.proofs.Math.Seq.{drop-nil}
 use Rattle.std.proofs.Common.{refl, sym, ◌∙◌, ap, subst, inl, inr, arith}
-use Rattle.gh_base.specs.declared.memory.File.{File}
-use Rattle.gh_base.specs.Memory.{HasMore}
-use Rattle.gh_base.specs.Files.{content, bytes_at, table_of, left_of}
+use Rattle.gh_base.specs.declared.files.File.{File}
+use Rattle.gh_base.specs.Files.{content, bytes_at, table_of, left_of, HasMore}
 
 -- the table is that of the first file found
 table_is : (fs : List File) (n : List ℕ) → table_of fs n ≡ option_map content (find (λ f. bytes_eq f.name.items n) fs)
@@ -79,12 +78,12 @@ empty (x ∷ xs) none = absurd (omega (arith, none))
 
 -- what was given and what is then left make up what was left; with room for some, nothing is given only where nothing is left
 pub given_and_left : (fs : List File) (begun : Option ℕ) (at n most : ℕ) (rest into : List ℕ) → rest ≡ left_of fs begun at
-    → n ≡ min (min (length rest) (length into)) most → take n into ≡ take n rest → 0 < most
+    → n ≡ min (min (length rest) (length into)) most → take n into ≡ take n rest → (0 < length into → 0 < most)
     → (left_of fs begun at ≡ take n into ++ left_of fs begun (at + n)) × (n ≡ 0 → 0 < length into → left_of fs begun (at + n) ≡ [])
 given_and_left fs begun at n most rest into is count given some =
     let after : left_of fs begun (at + n) ≡ drop n rest = left_after fs begun at n ∙ ap (drop n) (sym is) in (
       sym is ∙ sym (take-append-drop n rest) ∙ ap (λ xs. xs ++ drop n rest) (sym given) ∙ ap (λ xs. take n into ++ xs) (sym after),
-      λ none room. after ∙ ap (drop n) (empty rest (omega (arith, none, room, count, some))) ∙ drop-nil n,
+      λ none room. after ∙ ap (drop n) (empty rest (let most_some : 0 < most = some room in omega (arith, none, room, count, most_some))) ∙ drop-nil n,
     )
 
 pub added : (fs now : List File) (f : File) (name bytes : List ℕ) → now ≡ fs ++ f ∷ [] → f.name.items ≡ name → f.bytes.items ≡ bytes

@@ -6,6 +6,7 @@ pub mod Memory
 pub mod Atoms
 pub mod Meaning
 pub mod Propagation
+pub mod Hints
 pub mod Grounds
 pub mod Assignments
 pub mod Structures

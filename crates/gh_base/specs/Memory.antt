@@ -1,9 +1,8 @@
 -- What the inputs and the sink in memory answer.
-use Rattle.std.specs.Prelude.{◌≡◌, ◌↔◌, ◌⊎◌, ℕ, ◌-◌, ◌<◌, min, cond, List, [], length, Some, None, is_some, Bool, true, Contains, Result, IsErr, IfOk}
+use Rattle.std.specs.Prelude.{◌≡◌, ◌↔◌, ◌⊎◌, ℕ, ◌-◌, ◌<◌, min, cond, List, [], length, is_some, Bool, true, false, Contains, Result, IsErr, IfOk}
 use Rattle.std.specs.Result.{is_err}
-use Rattle.std.specs.Str.{bytes_eq}
-use Rattle.gh_base.specs.Outside.{Table, next}
-use Rattle.gh_base.specs.Files.{left_of}
+use Rattle.gh_base.specs.Outside.{next}
+use Rattle.gh_base.specs.Files.{AreNoFiles, left_in}
 use Rattle.gh_base.specs.declared.calls.Calls.{Calls}
 use Rattle.gh_base.specs.declared.memory.MemoryInputs.{MemoryInputs}
 use Rattle.gh_base.specs.declared.sink.MemorySink.{MemorySink}
@@ -24,30 +23,25 @@ pub record IsCounted (old new : Calls) (failed : Bool) : Type 0 where
   pub made : new.made ≡ next old.made
   pub faults : new.faults ≡ cond failed (next old.faults) old.faults
 
--- one name has these bytes now, and each other one what it had
-abbrev pub HasMore : Table → Table → List ℕ → List ℕ → Type 0
-HasMore old new name bytes = (n : List ℕ) → new n ≡ cond (bytes_eq name n) (Some bytes) (old n)
-
 -- no input, and nothing begun
 pub record AreNoInputs (m : MemoryInputs) (piece : ℕ) : Type 0 where
-  pub files : m.files.items ≡ []
+  pub files : AreNoFiles m.files
   pub piece_is : m.piece ≡ piece
-  pub begun : m.begun ≡ None
   pub calls : AreFresh m.calls
 
 -- a `begin` fails exactly where its number is listed
 pub record IsBegin {E : Type 0} (old new : MemoryInputs) (result : Result Bool E) : Type 0 where
   pub fails : IsErr result ↔ IsListed old.calls
   pub counted : IsCounted old.calls new.calls (is_err result)
-  pub files : new.files ≡ old.files
+  pub files : new.files.list ≡ old.files.list
   pub piece : new.piece ≡ old.piece
 
 -- a `read` fails exactly where its number is listed and something is begun; it gives as much as there is and fits, at most a piece
 pub record IsRead {E : Type 0} (old new : MemoryInputs) (room : ℕ) (result : Result ℕ E) : Type 0 where
-  pub fails : IsErr result ↔ (IsListed old.calls × (is_some old.begun ≡ true))
-  pub given : IfOk result (λ n. n ≡ min (min (length (left_of old.files.items old.begun old.at)) room) old.piece)
+  pub fails : IsErr result ↔ (IsListed old.calls × (is_some old.files.begun ≡ true))
+  pub given : IfOk result (λ n. n ≡ min (min (length (left_in old.files)) room) old.piece)
   pub counted : IsCounted old.calls new.calls (is_err result)
-  pub files : new.files ≡ old.files
+  pub files : new.files.list ≡ old.files.list
   pub piece : new.piece ≡ old.piece
 
 -- nothing written
@@ -55,6 +49,7 @@ pub record IsNewSink (s : MemorySink) (room piece : ℕ) : Type 0 where
   pub bytes : s.bytes.items ≡ []
   pub room_is : s.room ≡ room
   pub piece_is : s.piece ≡ piece
+  pub failed : s.failed ≡ false
   pub calls : AreFresh s.calls
 
 -- no room is left

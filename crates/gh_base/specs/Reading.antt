@@ -1,5 +1,5 @@
 -- The answers of a call that reads a whole input.
-use Rattle.std.specs.Prelude.{◌≡◌, ◌⊎◌, ℕ, ◌<◌, ◌≤◌, ◌+◌, List, [], ◌++◌, length, drop, Option, Some, None, Bool, true, false, ⊤, Result, Ok, Err}
+use Rattle.std.specs.Prelude.{◌≡◌, ◌⊎◌, ℕ, ◌<◌, ◌≤◌, ◌+◌, min, List, [], ◌++◌, length, drop, Option, Some, None, Bool, true, false, ⊤, Result, Ok, Err}
 use Rattle.gh_base.specs.Outside.{Table, Rose}
 use Rattle.gh_base.specs.declared.reading.InputError.{InputError}
 use Rattle.gh_base.specs.declared.reading.InputError.TheVariants.{ReadFault, TooLong, Absent, OutOfMemory}
@@ -56,3 +56,10 @@ ReadsTo (Some bytes) limit (Err OutOfMemory) left = StandsWithin bytes (limit + 
 abbrev pub IsReading : Option (Option (List ℕ)) → List ℕ → Option (List ℕ) → Type 0
 IsReading None text left = ⊤
 IsReading (Some bytes) text left = (rest : List ℕ) × (left ≡ Some rest) × (bytes ≡ Some (text ++ rest))
+
+-- the most calls that reading an input takes: one `begin`, a `read` for each byte that is taken, and one that gives nothing, fails, or takes the
+-- byte past the limit
+abbrev pub calls_for : Option (Option (List ℕ)) → ℕ → ℕ
+calls_for None limit = limit + 2
+calls_for (Some None) limit = 1
+calls_for (Some (Some text)) limit = min (length text) limit + 2

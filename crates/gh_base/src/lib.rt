@@ -5,6 +5,7 @@ pub mod assignment;
 pub mod atom;
 pub mod calls;
 pub mod clause;
+mod files;
 pub mod ground;
 pub mod memory;
 pub mod name;
@@ -14,6 +15,8 @@ pub mod propagation;
 pub mod reading;
 pub mod sink;
 pub mod sizes;
+pub mod steady_inputs;
+pub mod steady_sink;
 pub mod structure;
 pub mod term;
 #[cfg(test)]

@@ -1,8 +1,9 @@
 // The two traits, each with its meaning.
 
 ghost use Rattle.std.specs.Prelude.{◌≡◌, ℕ, ◌<◌, ◌≤◌, List, length, Option, IfOk, OnErr, Bool, false};
+ghost use Rattle.std.specs.Result.{is_err};
 ghost use Rattle.std.specs.Io.KnownBytes.{ReadConsumes, WriteAppends};
-ghost use Rattle.gh_base.specs.Outside.{HasCause, Begins, TakesSome, ReadsWithin, Table, has_begun, GivesNothing};
+ghost use Rattle.gh_base.specs.Outside.{HasCause, Begins, TakesSome, ReadsWithin, Table, has_begun, GivesNothing, Counts, AddsName};
 
 /// The outside has failed.
 #[derive(Clone, Copy, Debug, PartialEq, Eq)]
@@ -22,12 +23,20 @@ pub trait Inputs {
     /// How often the outside has failed.
     ghost faults: { Self → ℕ };
 
+    /// How many calls of `begin` and `read` were made, together, where that is told.
+    ghost calls: { Self → Option ℕ };
+
+    /// The names that were begun, in their order, where they are told.
+    ghost names: { Self → Option (List (List ℕ)) };
+
     /// Begins an input, and says whether there is one of this name.
     fn begin(&mut self, name: &str) -> Result<bool, Failed>
         ensures begins { Begins (table self.old) name.now result (left self.new) }
         ensures begun { begun self.new ≡ has_begun result }
         ensures table { table self.new ≡ table self.old }
-        ensures cause { HasCause (faults self.old) (faults self.new) result };
+        ensures cause { HasCause (faults self.old) (faults self.new) result }
+        ensures called { Counts (calls self.old) (calls self.new) }
+        ensures named { AddsName (names self.old) (names self.new) name.now };
 
     /// Takes the next bytes of the input.
     fn read(&mut self, into: &mut [u8]) -> Result<usize, Failed>
@@ -36,7 +45,9 @@ pub trait Inputs {
         ensures nothing { begun self.old ≡ false → GivesNothing (faults self.old) (faults self.new) result }
         ensures begun { begun self.new ≡ begun self.old }
         ensures table { table self.new ≡ table self.old }
-        ensures cause { HasCause (faults self.old) (faults self.new) result };
+        ensures cause { HasCause (faults self.old) (faults self.new) result }
+        ensures called { Counts (calls self.old) (calls self.new) }
+        ensures names { names self.new ≡ names self.old };
 }
 
 /// A place that takes bytes.
@@ -47,10 +58,18 @@ pub trait Sink {
     /// How often the outside has failed.
     ghost faults: { Self → ℕ };
 
+    /// How many calls of `write` were made, where that is told.
+    ghost calls: { Self → Option ℕ };
+
+    /// Whether the last call failed.
+    ghost failed: { Self → Bool };
+
     /// Takes some bytes from the front of a piece.
     fn write(&mut self, piece: &[u8]) -> Result<usize, Failed>
         ensures some { TakesSome result piece.now }
         ensures bytes { WriteAppends (written self.old) (written self.new) result piece.now }
         ensures nothing { length piece.now ≡ 0 → GivesNothing (faults self.old) (faults self.new) result }
-        ensures cause { HasCause (faults self.old) (faults self.new) result };
+        ensures cause { HasCause (faults self.old) (faults self.new) result }
+        ensures called { Counts (calls self.old) (calls self.new) }
+        ensures failed { failed self.new ≡ is_err result };
 }

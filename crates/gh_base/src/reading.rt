@@ -1,7 +1,8 @@
 // Reading a whole input.
 
 ghost use Rattle.std.specs.Prelude.{◌≡◌, ◌≤◌, length, IfOk, MatchResult, ⊤};
-ghost use Rattle.gh_base.specs.Reading.{told, IsWhole, IsCaused, IsCalm, HasBegun, ReadsTo};
+ghost use Rattle.gh_base.specs.Outside.{MakesAtMost, AddsName};
+ghost use Rattle.gh_base.specs.Reading.{told, IsWhole, IsCaused, IsCalm, HasBegun, ReadsTo, calls_for};
 ghost use Rattle.gh_base.specs.declared.reading.InputError.TheVariants.{ReadFault, OutOfMemory};
 
 use crate::outside::{Failed, Inputs};
@@ -52,6 +53,8 @@ pub fn read_input<I: Inputs>(
     ensures reads { ReadsTo (told (I.table inputs.old) name.now) limit result (I.left inputs.new) }
     ensures table { I.table inputs.new ≡ I.table inputs.old }
     ensures later { I.faults inputs.old ≤ I.faults inputs.new }
+    ensures few { MakesAtMost (calls_for (told (I.table inputs.old) name.now) limit) (I.calls inputs.old) (I.calls inputs.new) }
+    ensures named { AddsName (I.names inputs.old) (I.names inputs.new) name.now }
 {
     if !inputs.begin(name)? {
         return Err(InputError::Absent);

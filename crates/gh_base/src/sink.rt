@@ -14,6 +14,7 @@ pub struct MemorySink {
     room: usize,
     piece: usize,
     calls: Calls,
+    failed: bool,
     ghost some: { 0 < piece },
     ghost within: { length bytes.items ≤ room },
     ghost reserved: { room ≤ vec_capacity bytes },

@@ -8,7 +8,10 @@ use crate::memory::MemoryInputs;
 use crate::outside::{Failed, Sink};
 use crate::reading::{InputError, read_input};
 use crate::sink::MemorySink;
+use crate::steady_inputs::SteadyInputs;
+use crate::steady_sink::SteadySink;
 use crate::structure::Structure;
+use crate::writing::write_all;
 use std::alloc::AllocError;
 
 fn text_inputs(rt: &HostRuntime) -> Result<MemoryInputs, AllocError>
@@ -56,6 +59,25 @@ fn second_write_fails(rt: HostRuntime) -> Result<(), AllocError> {
     assert!(rt; out.write(b"ten") == Ok(3));
     assert!(rt; out.bytes() == b"writen".as_slice());
     Ok(())
+}
+
+#[test]
+fn steady_text(rt: HostRuntime) -> Result<(), InputError> {
+    let mut inputs = SteadyInputs::new(rt.alloc());
+    inputs.add(rt.alloc(), "a", b"a text")?;
+    let text = read_input(rt.alloc(), &mut inputs, "a", 6)?;
+    assert!(rt; text.bytes() == b"a text".as_slice());
+    let absent = read_input(rt.alloc(), &mut inputs, "b", 6);
+    assert!(rt; matches!(&absent, Err(InputError::Absent)));
+    Ok(())
+}
+
+#[test]
+fn steady_writes(rt: HostRuntime) {
+    let mut out = SteadySink::new();
+    assert!(rt; write_all(&mut out, b"written").is_ok());
+    assert!(rt; write_all(&mut out, b"").is_ok());
+    assert!(rt; out.taken() == 7);
 }
 
 #[test]

@@ -20,7 +20,7 @@ with_cell gives body =
       parameters = x ∷ [];
       results = [];
       needs = cell x;
-      gives = gives;
+      gives = gives ∷ [];
       body = Some (record { locals = []; statements = body; close = somewhere });
       close = somewhere;
     }

@@ -7,7 +7,7 @@ use Rattle.gh_assert.specs.Heaps.{Heap, Splits}
 use Rattle.gh_assert.specs.Meaning.{Store, Meaning}
 use Rattle.gh_assert.specs.Walks.{Allocated}
 use Rattle.gh_assert.specs.Values.{result, Give, outcome, Gets}
-use Rattle.gh_ast.specs.Programs.{names, parameters_of, results_of, body_of, Declares, joined}
+use Rattle.gh_ast.specs.Programs.{names, parameters_of, results_of, body_of, Declares, joined, ensured}
 
 -- a procedure at work: its variables, and what it has still to do
 pub record Activation : Type 0 where
@@ -98,7 +98,7 @@ last_of c (d ∷ ds) = last_of d ds
 
 -- the heap is the frame and a heap that meets what the procedure gives
 abbrev pub EndsWell : Procedure → Heap → Config → Type 0
-EndsWell p frame c = (h : Heap) × Splits c.heap h frame × Meaning p.gives c.top.store h
+EndsWell p frame c = (h : Heap) × Splits c.heap h frame × Meaning (ensured p) c.top.store h
 
 pub record IsGoodRun (p : Procedure) (frame : Heap) (c : Config) (ds : List Config) : Type 0 where
   pub never_faults : (d : Config) → Contains (c ∷ ds) d → Fault d → ⊥

@@ -9,7 +9,7 @@ use Rattle.gh_ast.specs.declared.Expr.{Expr}
 use Rattle.gh_ast.specs.declared.Expr.TheVariants.{Plain, Read}
 use Rattle.gh_ast.specs.Plain.{Test, compare, negation, conjunction, disjunction, Tests, no_tests, test_first}
 use Rattle.gh_ast.specs.Plain.{Formula, empty, comparison, points_to, cell, segment, star, cases, Formulas, no_formulas, formula_first, Procedure, Program}
-use Rattle.gh_ast.specs.Programs.{Name, names, results_of, variable_names}
+use Rattle.gh_ast.specs.Programs.{Name, names, results_of, variable_names, ensured}
 use Rattle.gh_ast.specs.Rules.{IsTyped}
 use Rattle.gh_assert.specs.Heaps.{Heap}
 use Rattle.gh_assert.specs.Walks.{succ}
@@ -110,7 +110,7 @@ both_up f g xs s B = walked_up g (renewed xs (moved_on (walked f s))) (renewed_u
 
 call_up : (o : Option Procedure) (xs : List Name) (ts : List ℕ) (s : Terms) → UpToNow s → UpToNow (call_walked o xs ts s)
 call_up None xs ts s B = B
-call_up (Some p) xs ts s B = both_up p.needs p.gives (results_of p) (rebound s (bound_inside p ts)) B
+call_up (Some p) xs ts s B = both_up p.needs (ensured p) (results_of p) (rebound s (bound_inside p ts)) B
 
 step_up : (P : Program) (xs : List Name) (p : path.PathStep) (s : Terms) → UpToNow s → UpToNow (step_walked P xs p s)
 step_up P xs (path.accessed o) s B = visited_up o.name s B

@@ -10,7 +10,7 @@ use Rattle.gh_ast.specs.declared.Expr.{Expr}
 use Rattle.gh_ast.specs.declared.Expr.TheVariants.{Plain, Read}
 use Rattle.gh_ast.specs.Plain.{Test, compare, negation, conjunction, disjunction, Tests, no_tests, test_first}
 use Rattle.gh_ast.specs.Plain.{Formula, empty, comparison, points_to, cell, segment, star, cases, Formulas, no_formulas, formula_first, Procedure}
-use Rattle.gh_ast.specs.Programs.{Name, parameters_of, results_of}
+use Rattle.gh_ast.specs.Programs.{Name, parameters_of, results_of, ensured}
 use Rattle.gh_ast.specs.Names.{OperandIn, ExprIn, TestIn, TestsIn, FormulaIn, FormulasIn}
 use Rattle.gh_ast.proofs.Lists.{member_first, member_later, member_cases, no_member}
 use Rattle.gh_assert.specs.Heaps.{Heap}
@@ -194,22 +194,22 @@ with_results p s = renewed (results_of p) (moved_on (walked p.needs s))
 
 -- what a callee gives is walked in the next version
 pub inside_after : (K : List Kind) (V : List ℕ) (k : Heap) (p : Procedure) (ts vs : List ℕ) (t : Terms) (inside : Store)
-    → FormulaIn p.needs (parameters_of p) → FormulaIn p.gives (parameters_of p ++ results_of p) → map (slice_get V) ts ≡ map Some vs → map inside (parameters_of p) ≡ vs
-    → slice_get V 0 ≡ Some 0 → Within (walked p.gives (with_results p (rebound t (bound_inside p ts)))).kinds K → Follows K V (t.version + 1) k
-    → ((r : Name) (j : ℕ) → Contains (results_of p) r → (walked p.gives (with_results p (rebound t (bound_inside p ts)))).bindings r ≡ Some j → slice_get V j ≡ Some (inside r))
-    → Sound K V inside k (walked p.gives (with_results p (rebound t (bound_inside p ts))))
+    → FormulaIn p.needs (parameters_of p) → FormulaIn (ensured p) (parameters_of p ++ results_of p) → map (slice_get V) ts ≡ map Some vs → map inside (parameters_of p) ≡ vs
+    → slice_get V 0 ≡ Some 0 → Within (walked (ensured p) (with_results p (rebound t (bound_inside p ts)))).kinds K → Follows K V (t.version + 1) k
+    → ((r : Name) (j : ℕ) → Contains (results_of p) r → (walked (ensured p) (with_results p (rebound t (bound_inside p ts)))).bindings r ≡ Some j → slice_get V j ≡ Some (inside r))
+    → Sound K V inside k (walked (ensured p) (with_results p (rebound t (bound_inside p ts))))
 inside_after K V k p ts vs t inside own own' e f null within N R =
     let s = rebound t (bound_inside p ts) in
     let g = walked_grows p.needs s in
-    let g' = walked_grows p.gives (with_results p s) in
+    let g' = walked_grows (ensured p) (with_results p s) in
     let A = parameters_bound V p ts vs t inside e f in
     let keep : (walked p.needs s).bindings ≡ s.bindings = walk_keeps p.needs (parameters_of p) s own A in
     let B : AllBound (with_results p s) (parameters_of p ++ results_of p) = λ x c. renewed_known (results_of p) (moved_on (walked p.needs s)) x (elim (Contains-append_cases (parameters_of p) (results_of p) x c) [
       | inl there ↦ inr (let a = A x there in (a.0, ap (λ b. b x) keep ∙ a.1))
       | inr there ↦ inl there
     ]) in
-    let keep' : (walked p.gives (with_results p s)).bindings ≡ (with_results p s).bindings = walk_keeps p.gives (parameters_of p ++ results_of p) (with_results p s) own' B in
-    let version : (walked p.gives (with_results p s)).version ≡ t.version + 1 = g'.version ∙ renewed_version (results_of p) (moved_on (walked p.needs s)) ∙ ap (λ i. i + 1) g.version in
+    let keep' : (walked (ensured p) (with_results p s)).bindings ≡ (with_results p s).bindings = walk_keeps (ensured p) (parameters_of p ++ results_of p) (with_results p s) own' B in
+    let version : (walked (ensured p) (with_results p s)).version ≡ t.version + 1 = g'.version ∙ renewed_version (results_of p) (moved_on (walked p.needs s)) ∙ ap (λ i. i + 1) g.version in
     record {
       null = null;
       kinds = within;

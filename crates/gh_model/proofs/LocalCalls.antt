@@ -11,7 +11,7 @@ use Rattle.gh_base.specs.Meaning.{Interpretation}
 use Rattle.gh_ast.specs.declared.Occ.{Occ}
 use Rattle.gh_ast.specs.declared.Expr.{Expr}
 use Rattle.gh_ast.specs.Plain.{Formula, empty, comparison, points_to, cell, segment, star, cases, Formulas, no_formulas, formula_first, Statement, set, new, write, free, call, choice, loop, give, Statements, no_statements, statement_first, Program}
-use Rattle.gh_ast.specs.Programs.{Name, names, parameters_of, results_of, Assigns, SomeAssigns}
+use Rattle.gh_ast.specs.Programs.{Name, names, parameters_of, results_of, Assigns, SomeAssigns, ensured}
 use Rattle.gh_ast.specs.Names.{FormulaIn}
 use Rattle.gh_ast.specs.Occurrences.{in_formula}
 use Rattle.gh_ast.proofs.Declared.{is_member}
@@ -182,12 +182,12 @@ call_takes P xs m K V at N c R ys f es ps s I =
     let r : Terms = rebound T (bound_inside q ts) in
     let u : Terms = walked q.needs r in
     let mid : Terms = with_results q r in
-    let after : Terms = walked q.gives mid in
+    let after : Terms = walked (ensured q) mid in
     let st = store_under at (here P xs (p ∷ ps) c s) in
     let inside : Store = store_under at after.bindings in
-    let claims : AreTrue m (replaced_claims K i (under q.needs r) (under q.gives mid)) = subst (λ o. AreTrue m (step_claims K i (call_parts o ts T))) found I.claims in
+    let claims : AreTrue m (replaced_claims K i (under q.needs r) (under (ensured q) mid)) = subst (λ o. AreTrue m (step_claims K i (call_parts o ts T))) found I.claims in
     let all : Within after.kinds K = subst (λ o. Within (call_walked o (names ys) ts T).kinds K) found I.within in
-    let some : Within u.kinds K = λ j k e. all j k ((walked_grows q.gives mid).kinds j k (renewed_within (results_of q) (moved_on u) j k e)) in
+    let some : Within u.kinds K = λ j k e. all j k ((walked_grows (ensured q) mid).kinds j k (renewed_within (results_of q) (moved_on u) j k e)) in
     let few : Within T.kinds K = λ j k e. all j k (call_within q r j k e) in
     let S : Sound K V st (heap_of m V i) T = sound_used P xs m K V at N c R p ps s I few in
     let (vs, gives) = exprs_result R st (heap_of m V i) es I.prepared.0 I.ready in
@@ -199,7 +199,7 @@ call_takes P xs m K V at N c R ys f es ps s I =
       | inl here' ↦ inr (let a = A x here' in (a.0, ap (λ (b : Bindings). b x) keep ∙ a.1))
       | inr here' ↦ inl here'
     ]) in
-    let keep' : after.bindings ≡ mid.bindings = walk_keeps q.gives (parameters_of q ++ results_of q) mid own.gives_in B in
+    let keep' : after.bindings ≡ mid.bindings = walk_keeps (ensured q) (parameters_of q ++ results_of q) mid own.gives_in B in
     let same : (n : Name) → Contains (parameters_of q) n → after.bindings n ≡ all_bound unbound (parameters_of q) ts n = λ n there.
     ap (λ (b : Bindings). b n) keep' ∙ renewed_outside (results_of q) (moved_on u) n (λ other. results_are_not_parameters P I.typed q member n there other) ∙ ap (λ (b : Bindings). b n) keep in
     let params : map inside (parameters_of q) ≡ vs = parameter_values m K V at N G after.bindings (parameters_of q) ts vs apart.0 count args same in
@@ -210,11 +210,11 @@ call_takes P xs m K V at N c R ys f es ps s I =
     let last : Sound K V inside (heap_of m V (T.version + 1)) after = inside_after K V (heap_of m V (T.version + 1)) q ts vs T inside own.needs_in own.gives_in args params G.null all (G.next (T.version + 1) next')
     (λ n j there e. G.listed j (still_below after.kinds K j all (bounded.below n j e)) ∙ ap Some (sym (value_is at after.bindings n j e))) in
     let version' : mid.version ≡ T.version + 1 = renewed_version (results_of q) (moved_on u) ∙ ap (λ j. j + 1) (walked_grows q.needs r).version in
-    let claims' : AreTrue m (replaced_claims K T.version (under q.needs r) (under q.gives mid)) = subst (λ j. AreTrue m (replaced_claims K j (under q.needs r) (under q.gives mid))) (sym version) claims in
-    let done = replaced m K V at N G q.needs q.gives inside inside r mid before next' version' first last claims' in
-    let done' : Replaced q.needs inside (heap_of m V i) q.gives inside (heap_of m V (i + 1)) = subst (λ j. Replaced q.needs inside (heap_of m V j) q.gives inside (heap_of m V (j + 1))) version done in
+    let claims' : AreTrue m (replaced_claims K T.version (under q.needs r) (under (ensured q) mid)) = subst (λ j. AreTrue m (replaced_claims K j (under q.needs r) (under (ensured q) mid))) (sym version) claims in
+    let done = replaced m K V at N G q.needs (ensured q) inside inside r mid before next' version' first last claims' in
+    let done' : Replaced q.needs inside (heap_of m V i) (ensured q) inside (heap_of m V (i + 1)) = subst (λ j. Replaced q.needs inside (heap_of m V j) (ensured q) inside (heap_of m V (j + 1))) version done in
     let rs = map (λ x. term_of x after) (results_of q) in
-    let known : (x : Name) → Contains (results_of q) x → Knows after.bindings x = λ x there. (let k = renewed_known (results_of q) (moved_on u) x (inl there) in (k.0, (walked_grows q.gives mid).bindings x k.0 k.1)) in
+    let known : (x : Name) → Contains (results_of q) x → Knows after.bindings x = λ x there. (let k = renewed_known (results_of q) (moved_on u) x (inl there) in (k.0, (walked_grows (ensured q) mid).bindings x k.0 k.1)) in
     let targets = step_gets P xs m K V at N c p ps s G (names ys) rs (map inside (results_of q)) (ap (λ o. (call_walked o (names ys) ts T).bindings) found) fit.distinct (length-map (results_of q) (λ x. term_of x after) ∙ sym fit.targets)
     (result_terms V inside after (results_of q) last.bound known) in
     (q, vs, fit.entry.declares, gives, record { inside = inside; arguments = params; targets = targets; replaced = done' })

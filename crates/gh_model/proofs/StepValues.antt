@@ -6,7 +6,7 @@ use Rattle.std.proofs.lemmas.List.{length-map, length-append}
 use Rattle.gh_ast.specs.declared.Occ.{Occ}
 use Rattle.gh_ast.specs.declared.Expr.{Expr}
 use Rattle.gh_ast.specs.Plain.{Procedure, Program}
-use Rattle.gh_ast.specs.Programs.{Name, names, parameters_of, results_of, Declares}
+use Rattle.gh_ast.specs.Programs.{Name, names, parameters_of, results_of, Declares, ensured}
 use Rattle.gh_ast.proofs.Declared.{is_one}
 use Rattle.gh_ast.proofs.Lists.{member_first, member_later, member_cases, no_member}
 use Rattle.gh_ast.proofs.Members.{name_or}
@@ -136,11 +136,11 @@ call_values H V P p ys f es vs T x y S at args declares C =
     let start : Valued H V C.inside s = record { kinds = S.kinds; gives = all_give V C.inside unbound (parameters_of p) ts vs args C.arguments (λ n t e. absurd cc) } in
     let E = walked_valued H C.inside p.needs V s start in
     let F = renewed_valued H C.inside (results_of p) E.values (moved_on (walked p.needs s)) E.valued.kinds (λ n t e. inr (E.valued.gives n t e)) in
-    let G = walked_valued H C.inside p.gives F.values (with_results p s) F.valued in
-    let after : Terms = walked p.gives (with_results p s) in
+    let G = walked_valued H C.inside (ensured p) F.values (with_results p s) F.valued in
+    let after : Terms = walked (ensured p) (with_results p s) in
     let more : More V G.values = λ t v e. G.more t v (F.more t v (E.more t v e)) in
     let known : (r : Name) → Contains (results_of p) r → Knows after.bindings r = λ r c.
-    (let k = renewed_known (results_of p) (moved_on (walked p.needs s)) r (inl c) in (k.0, (walked_grows p.gives (with_results p s)).bindings r k.0 k.1)) in
+    (let k = renewed_known (results_of p) (moved_on (walked p.needs s)) r (inl c) in (k.0, (walked_grows (ensured p) (with_results p s)).bindings r k.0 k.1)) in
     let terms' : map (slice_get G.values) (map (λ r. term_of r after) (results_of p)) ≡ map Some (map C.inside (results_of p)) = result_terms G.values C.inside after (results_of p) G.valued.gives known in
     let outer : Gives G.values x.store T.bindings = gives_more V G.values x.store T.bindings more S.gives in
     let A = assign H G.values (names ys) (map (λ r. term_of r after) (results_of p)) (map C.inside (results_of p)) (rebound after T.bindings) x y (record { kinds = G.valued.kinds; gives = outer }) terms' C.targets in

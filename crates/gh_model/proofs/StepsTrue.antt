@@ -7,7 +7,7 @@ use Rattle.gh_base.specs.Meaning.{Interpretation}
 use Rattle.gh_ast.specs.declared.Occ.{Occ}
 use Rattle.gh_ast.specs.declared.Expr.{Expr}
 use Rattle.gh_ast.specs.Plain.{Formula, Procedure, Program}
-use Rattle.gh_ast.specs.Programs.{Name, names, results_of}
+use Rattle.gh_ast.specs.Programs.{Name, names, results_of, ensured}
 use Rattle.gh_ast.proofs.Declared.{is_member}
 use Rattle.gh_assert.specs.Heaps.{Heap, IsProper}
 use Rattle.gh_assert.specs.Meaning.{Store, agrees}
@@ -192,8 +192,8 @@ called_true P xs K V H M A c ys f es ps s x y I at at' =
     let found' = callee_found P.procedures f.name p declares in
     let own = I.own_names p (is_member P.procedures f.name p declares) in
     let s1 : Terms = rebound T (bound_inside p ts) in
-    let all : Within (walked p.gives (with_results p s1)).kinds K = subst (λ o. Within (call_walked o (names ys) ts T).kinds K) found' I.within in
-    let some : Within (walked p.needs s1).kinds K = λ i k e. all i k ((walked_grows p.gives (with_results p s1)).kinds i k (renewed_within (results_of p) (moved_on (walked p.needs s1)) i k e)) in
+    let all : Within (walked (ensured p) (with_results p s1)).kinds K = subst (λ o. Within (call_walked o (names ys) ts T).kinds K) found' I.within in
+    let some : Within (walked p.needs s1).kinds K = λ i k e. all i k ((walked_grows (ensured p) (with_results p s1)).kinds i k (renewed_within (results_of p) (moved_on (walked p.needs s1)) i k e)) in
     let few : Within T.kinds K = λ i k e. some i k ((walked_grows p.needs s1).kinds i k e) in
     let S : Sound K V x.store x.heap T = sound_used P xs K V c (path.called ys f es) ps s x y I few in
     let values = exprs_values K V x.store x.heap es vs s S give in
@@ -203,7 +203,7 @@ called_true P xs K V H M A c ys f es ps s x y I at at' =
     let last = inside_after K V y.heap p ts vs T C.inside own.needs_in own.gives_in values C.arguments I.null all (λ t u v e. I.after.next t u v (e ∙ ap (λ i. Some (next (i + 1) u)) version)) (R p C.inside declares (sym C.targets.given)) in
     let later : (with_results p s1).version ≡ s.version + 1 = renewed_version (results_of p) (moved_on (walked p.needs s1)) ∙ ap (λ i. i + 1) ((walked_grows p.needs s1).version ∙ version) in
     subst (λ o. AreTrue (reflection V M) (step_claims K s.version (call_parts o ts T))) (sym found')
-    (replaced_true K V H M A p.needs p.gives s1 (with_results p s1) s.version C.inside C.inside x.heap y.heap version later at at' first last C.replaced)
+    (replaced_true K V H M A p.needs (ensured p) s1 (with_results p s1) s.version C.inside C.inside x.heap y.heap version later at at' first last C.replaced)
 
 looped_true : (P : Program) (xs : List Name) (K : List Kind) (V : List ℕ) (H : ℕ → Heap) (M : ℕ → Structure) → AreVersions V K H M → (c : path.Check) (l : path.Loop) (ps : List path.PathStep) (s : Terms) (x y : State) → IsStep P xs K V c (path.looped l) ps s x y → H s.version ≡ x.heap → H (s.version + 1) ≡ y.heap → AreTrue (reflection V M) (step_claims K s.version (term_step P xs (path.looped l) s))
 looped_true P xs K V H M A c l ps s x y I at at' =

@@ -8,11 +8,11 @@ use Rattle.std.proofs.lemmas.Slice.Eq.{bytes_eq-Decides}
 use Rattle.gh_ast.specs.declared.Occ.{Occ}
 use Rattle.gh_ast.specs.declared.Expr.{Expr}
 use Rattle.gh_ast.specs.Plain.{Formula, Procedure, Program}
-use Rattle.gh_ast.specs.Programs.{Name, name_of, names, results_of, variable_names, IsFirstNamed}
+use Rattle.gh_ast.specs.Programs.{Name, name_of, names, results_of, variable_names, IsFirstNamed, ensured}
 use Rattle.gh_ast.specs.Rules.{IsTyped}
 use Rattle.gh_ast.proofs.Declared.{is_member}
 use Rattle.gh_ast.proofs.Lists.{member_cases, only_member}
-use Rattle.gh_ast.proofs.TypedPrograms.{needs_are_parameters, gives_are_contract}
+use Rattle.gh_ast.proofs.TypedPrograms.{needs_are_parameters, ensured_is_of_contract}
 use Rattle.gh_assert.specs.Heaps.{Heap, IsProper}
 use Rattle.gh_assert.specs.Meaning.{Store}
 use Rattle.gh_assert.specs.Walks.{succ}
@@ -50,7 +50,7 @@ chain : (a b c : List Kind) → Within a b → Within b c → Within a c
 chain a b c f g i k e = g i k (f i k e)
 
 inside_within : (p : Procedure) (ys : List Name) (b : Bindings) (s : Terms) → Within s.kinds (answered_inside p ys b s).kinds
-inside_within p ys b s i k e = (walked_grows p.gives (with_results p s)).kinds i k (renewed_within (results_of p) (moved_on (walked p.needs s)) i k ((walked_grows p.needs s).kinds i k e))
+inside_within p ys b s i k e = (walked_grows (ensured p) (with_results p s)).kinds i k (renewed_within (results_of p) (moved_on (walked p.needs s)) i k ((walked_grows p.needs s).kinds i k e))
 
 pub call_within : (o : Option Procedure) (ys : List Name) (ts : List ℕ) (s : Terms) → Within s.kinds (call_walked o ys ts s).kinds
 call_within None ys ts s = λ i k e. e
@@ -97,7 +97,7 @@ used_step_grows (path.answered ys es) s = exprs_grow es s
 
 -- the version after a step that a trace takes
 inside_version : (p : Procedure) (ys : List Name) (b : Bindings) (s : Terms) → (answered_inside p ys b s).version ≡ s.version + 1
-inside_version p ys b s = (walked_grows p.gives (with_results p s)).version ∙ renewed_version (results_of p) (moved_on (walked p.needs s)) ∙ ap (λ i. i + 1) (walked_grows p.needs s).version
+inside_version p ys b s = (walked_grows (ensured p) (with_results p s)).version ∙ renewed_version (results_of p) (moved_on (walked p.needs s)) ∙ ap (λ i. i + 1) (walked_grows p.needs s).version
 
 call_version : (o : Option Procedure) (p : Procedure) → o ≡ Some p → (ys : List Name) (ts : List ℕ) (s : Terms) → (call_walked o ys ts s).version ≡ s.version + 1
 call_version o p e ys ts s = ap (λ q. (call_walked q ys ts s).version) e ∙ inside_version p ys s.bindings (rebound s (bound_inside p ts))
@@ -213,8 +213,8 @@ called_owned P xs K V c ys f es ps s x y I =
     let ts = exprs_terms es T in
     let found = callee_found P.procedures f.name p declares in
     let own = I.own_names p (is_member P.procedures f.name p declares) in
-    let all : Within (walked p.gives (with_results p (rebound T (bound_inside p ts)))).kinds K = subst (λ o. Within (call_walked o (names ys) ts T).kinds K) found I.within in
-    let some : Within (walked p.needs (rebound T (bound_inside p ts))).kinds K = λ i k e. all i k ((walked_grows p.gives (with_results p (rebound T (bound_inside p ts)))).kinds i k (renewed_within (results_of p) (moved_on (walked p.needs (rebound T (bound_inside p ts)))) i k e)) in
+    let all : Within (walked (ensured p) (with_results p (rebound T (bound_inside p ts)))).kinds K = subst (λ o. Within (call_walked o (names ys) ts T).kinds K) found I.within in
+    let some : Within (walked p.needs (rebound T (bound_inside p ts))).kinds K = λ i k e. all i k ((walked_grows (ensured p) (with_results p (rebound T (bound_inside p ts)))).kinds i k (renewed_within (results_of p) (moved_on (walked p.needs (rebound T (bound_inside p ts)))) i k e)) in
     let few : Within T.kinds K = λ i k e. some i k ((walked_grows p.needs (rebound T (bound_inside p ts))).kinds i k e) in
     let S : Sound K V x.store x.heap T = sound_used P xs K V c (path.called ys f es) ps s x y I few in
     let values = exprs_values K V x.store x.heap es vs s S give in
@@ -222,9 +222,9 @@ called_owned P xs K V c ys f es ps s x y I =
     let version : T.version ≡ s.version = (exprs_grow es s).version in
     let first = inside_before K V x.heap p ts vs T C.inside own.needs_in values C.arguments I.null some (λ t u v e. I.values.next t u v (e ∙ ap (λ i. Some (next i u)) version)) in
     let last = inside_after K V y.heap p ts vs T C.inside own.needs_in own.gives_in values C.arguments I.null all (λ t u v e. I.after.next t u v (e ∙ ap (λ i. Some (next (i + 1) u)) version)) (R p C.inside declares (sym C.targets.given)) in
-    replaced_owned V p.needs C.inside x.heap p.gives C.inside y.heap C.replaced
+    replaced_owned V p.needs C.inside x.heap (ensured p) C.inside y.heap C.replaced
     (formula_named K V C.inside x.heap p.needs (rebound T (bound_inside p ts)) first)
-    (formula_named K V C.inside y.heap p.gives (with_results p (rebound T (bound_inside p ts))) last)
+    (formula_named K V C.inside y.heap (ensured p) (with_results p (rebound T (bound_inside p ts))) last)
     I.owned
 
 looped_owned : (P : Program) (xs : List Name) (K : List Kind) (V : List ℕ) (c : path.Check) (l : path.Loop) (ps : List path.PathStep) (s : Terms) (x y : State) → IsStep P xs K V c (path.looped l) ps s x y → Owned V y.heap
@@ -299,7 +299,7 @@ owned_along P xs K V c N null (p ∷ ps) s last x (y ∷ ys) w H T proper r A ow
     ]
 
 pub own_names : (P : Program) → IsTyped P → (q : Procedure) → Contains P.procedures q → HasOwnNames q
-own_names P typed q q' = record { needs_in = needs_are_parameters P typed q q'; gives_in = gives_are_contract P typed q q' }
+own_names P typed q q' = record { needs_in = needs_are_parameters P typed q q'; gives_in = ensured_is_of_contract P typed q q' }
 
 pub traces_are_owned : TracesAreOwned
 traces_are_owned P c x ys V typed is C values =

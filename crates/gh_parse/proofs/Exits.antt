@@ -1,54 +1,50 @@
--- A refusal within a rule is a refusal of the rule.
-use Rattle.std.proofs.Common.{◌≡◌, List, ◌∷◌, Result, Ok, Err, subst}
+-- An answer of `?`, and one that is passed on.
+use Rattle.std.proofs.Common.{◌≡◌, List, ◌∷◌, Result, Ok, Err, MatchResult, false, sym, subst}
 use Rattle.std.specs.Result.{IsErrAnd}
 use Rattle.std.proofs.lemmas.Result.{err_from_is_err_and}
-use Rattle.gh_base.specs.declared.place.Span.{Span}
-use Rattle.gh_ast.specs.declared.sign.Sign.{Sign}
-use Rattle.gh_ast.specs.Tokens.{Token, sign}
-use Rattle.gh_ast.specs.Readings.{IsUnique}
-use Rattle.gh_parse.specs.declared.error.ParseError.{ParseError}
-use Rattle.gh_parse.specs.declared.error.ParseError.TheVariants.{Byte, Deep, Syntax, OutOfMemory}
-use Rattle.gh_parse.specs.Answers.{IsRefused, IsRefusal, IsRead, IsSyntax, SpellsSign, IsBetween}
+use Rattle.gh_ast.specs.Tokens.{Token}
+use Rattle.gh_parse.specs.declared.error.ReadError.{ReadError}
+use Rattle.gh_parse.specs.declared.error.ReadError.TheVariants.{Unexpected, OutOfMemory}
+use Rattle.gh_parse.specs.Stops.{NoToken, Tok, Any, goes_on, Stops}
+use Rattle.gh_parse.specs.Answers.{IsRefusal, IsRead, IsMissing, IsTaken}
+use Rattle.gh_parse.proofs.Rules.{stops_tok}
 
-pub within : {X Y : Type 0} (P : X → List Token → Type 0) (Q : Y → List Token → Type 0) (e : ParseError)
-    → (IsRefused P → IsRefused Q) → IsRefusal P e → IsRefusal Q e
-within P Q (Byte offset) f h = h
-within P Q (Deep p) f h = h
-within P Q (Syntax p) f h = f h
-within P Q OutOfMemory f h = tt
+pub within : {F G : List Token → Type 0} {P Q : List Token → List Token → Type 0} {ts us left : List Token} (e : ReadError)
+    → (Stops F P us left → Stops G Q ts left) → IsRefusal F P us left e → IsRefusal G Q ts left e
+within Unexpected f h = f h
+within OutOfMemory f h = tt
 
 -- at the exit of a `?`
-pub exit : {X Y Z : Type 0} (P : X → List Token → Type 0) (Q : Y → List Token → Type 0) (view : Z → Y) (answer : Result Z ParseError) (rest : List Token) (e : ParseError)
-    → (IsRefused P → IsRefused Q) → IsRefusal P e → IsErrAnd answer (λ d. d ≡ e) → IsRead Q view answer rest
-exit P Q view answer rest e f h r =
-    let p = err_from_is_err_and answer r in rw (p.1, p.2) (within P Q e f h)
-
-pub refused : {Y : Type 0} (Q : Y → List Token → Type 0) (e : ParseError) → IsSyntax e → IsRefused Q → IsRefusal Q e
-refused Q (Byte offset) s h = s
-refused Q (Deep p) s h = s
-refused Q (Syntax p) s h = h
-refused Q OutOfMemory s h = tt
+pub exit : {Y : Type 0} {F G : List Token → Type 0} {P Q : List Token → List Token → Type 0} {ts us left : List Token} (Good : Y → Type 0) (answer : Result Y ReadError) (e : ReadError)
+    → (Stops F P us left → Stops G Q ts left) → IsRefusal F P us left e → IsErrAnd answer (λ d. d ≡ e) → MatchResult answer Good (IsRefusal G Q ts left)
+exit Good answer e f h r =
+    let p = err_from_is_err_and answer r in rw (p.1, p.2) (within e f h)
 
 -- an answer that is passed on
-pub along : {X Y : Type 0} (P Q : X → List Token → Type 0) (view : Y → X) (answer : Result Y ParseError) (rest : List Token)
-    → ((x : X) (r : List Token) → P x r → Q x r) → (IsRefused P → IsRefused Q) → IsRead P view answer rest → IsRead Q view answer rest
-along P Q view (Ok y) rest f g h = f (view y) rest h
-along P Q view (Err e) rest f g h = within P Q e g h
+pub along : {X Y : Type 0} {F G : List Token → Type 0} {P Q : List Token → X → List Token → Type 0} {ts us left : List Token} (view : Y → X) (answer : Result Y ReadError)
+    → ((x : X) → P us x left → Q ts x left) → (Stops F (Any P) us left → Stops G (Any Q) ts left) → IsRead F P us view answer left → IsRead G Q ts view answer left
+along view (Ok y) f g h = f (view y) h
+along view (Err e) f g h = within e g h
 
--- between two signs
-pub no_end : {X : Type 0} {opening closing : Sign} {P : List Token → X → List Token → Type 0} {ts us vs : List Token} {p : Span} {x : X} → ((z : List Token) → IsUnique (P z))
-    → ts ≡ sign opening p ∷ us → P us x vs → IsRefused (SpellsSign closing vs) → IsRefused (IsBetween opening closing P ts)
-no_end {closing = closing} {P = P} {us = us} {vs = vs} {x = x} unique e s h y rest b =
-    let f = b.front in
-    let i : b.inner ≡ us = cc in
-    let one = unique us x y vs (sign closing b.last ∷ rest) s (subst (λ z. P z y (sign closing b.last ∷ rest)) i b.within) in
-    h b.last rest one.rest
+-- a token that isn't there
+pub missing : {X : Type 0} (F : List Token → Type 0) (k : X → Token) (ts left : List Token) (e : ReadError) (p : X) → goes_on (k p) ≡ false → IsMissing k ts left e → IsRefusal F (Tok k) ts left e
+missing F k ts left Unexpected p f h = subst (λ z. Stops F (Tok k) ts z) (sym h.stays) (stops_tok p f h.none)
+missing F k ts left OutOfMemory p f h = tt
 
-pub one_between : {X : Type 0} {opening closing : Sign} {P : List Token → X → List Token → Type 0} → ((z : List Token) → IsUnique (P z)) → (ts : List Token)
-    → IsUnique (IsBetween opening closing P ts)
-one_between {closing = closing} {P = P} unique ts x y r q a b =
-    let e = a.front in let f = b.front in
-    let i : b.inner ≡ a.inner = cc in
-    let one = unique a.inner x y (sign closing a.last ∷ r) (sign closing b.last ∷ q) a.within (subst (λ z. P z y (sign closing b.last ∷ q)) i b.within) in
-    let w = one.rest in
-    record { value = one.value; rest = cc }
+-- an answer for one token that is passed on
+pub along_token : {X : Type 0} {G : List Token → Type 0} {Q : List Token → X → List Token → Type 0} {k : X → Token} {ts left : List Token} (answer : Result X ReadError) (p : X)
+    → goes_on (k p) ≡ false → ((x : X) → ts ≡ k x ∷ left → Q ts x left) → (Stops G (Tok k) ts left → Stops G (Any Q) ts left) → IsTaken k ts answer left
+    → IsRead G Q ts (λ x. x) answer left
+along_token (Ok x) p g f s h = f x h
+along_token {G = G} {k = k} {ts = ts} {left = left} (Err e) p g f s h = within e s (missing G k ts left e p g h)
+
+-- one by which something could have gone on
+within_any : {X : Type 0} {k : X → Token} {G : List Token → Type 0} {Q : List Token → List Token → Type 0} {ts us : List Token} (left : List Token) (e : ReadError)
+    → (NoToken k us → Stops G Q ts us) → IsMissing k us left e → IsRefusal G Q ts left e
+within_any {G = G} {Q = Q} {ts = ts} left Unexpected f h = subst (λ z. Stops G Q ts z) (sym h.stays) (f h.none)
+within_any left OutOfMemory f h = tt
+
+pub exit_missing : {X Y : Type 0} {G : List Token → Type 0} {Q : List Token → List Token → Type 0} {k : X → Token} {ts us : List Token} (left : List Token) (Good : Y → Type 0) (answer : Result Y ReadError) (e : ReadError)
+    → (NoToken k us → Stops G Q ts us) → IsMissing k us left e → IsErrAnd answer (λ d. d ≡ e) → MatchResult answer Good (IsRefusal G Q ts left)
+exit_missing left Good answer e f h r =
+    let p = err_from_is_err_and answer r in rw (p.1, p.2) (within_any left e f h)

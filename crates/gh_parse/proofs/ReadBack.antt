@@ -1,5 +1,5 @@
 -- A text that spells a program has the characters of the grammar alone, so a printed program is read again.
-use Rattle.std.proofs.Common.{◌≡◌, ℕ, List, [], ◌∷◌, ◌++◌, length, get_or, Bool, true, false, ◌||◌, IsTrue, All, refl, sym, subst}
+use Rattle.std.proofs.Common.{◌≡◌, ℕ, List, [], ◌∷◌, Bool, true, false, ◌||◌, IsTrue, refl, sym, subst}
 use Rattle.std.specs.Prelude.{codes, ◌==◌}
 use Rattle.std.specs.List.{list_all, list_any, AllPass}
 use Rattle.std.proofs.lemmas.Bool.{both_ways}
@@ -12,13 +12,10 @@ use Rattle.gh_ast.specs.declared.sign.Sign.{Sign}
 use Rattle.gh_ast.specs.declared.sign.Sign.TheVariants.{BraceOpen, BraceClose, ParenOpen, ParenClose, Comma, Semicolon, Colon, Dot, Assign, Equal, Unequal, Bang, And, Or, Star, Arrow}
 use Rattle.gh_ast.specs.declared.sign.Keyword.{Keyword}
 use Rattle.gh_ast.specs.declared.sign.Keyword.TheVariants as keyword
-use Rattle.gh_ast.specs.Tokens.{Token, cleared, is_blank, is_character, keyword_text, sign_text, IsPiece, a_blank, a_name, a_keyword, a_sign, IsTokens, nothing, piece, HasTokens, IsFirstByte}
-use Rattle.gh_ast.specs.Grammar.{Spells}
-use Rattle.gh_ast.specs.Plain.{Program}
-use Rattle.gh_ast.specs.Bare.{bare_program}
+use Rattle.gh_ast.specs.Tokens.{Token, cleared, is_blank, is_character, keyword_text, sign_text, IsPiece, a_blank, a_name, a_keyword, a_sign, IsTokens, nothing, piece, HasTokens}
 use Rattle.gh_ast.specs.Printed.{program_text}
 use Rattle.gh_ast.proofs.Shown.{read_back}
-use Rattle.gh_parse.specs.Parsing.{HasCharacters, IsShallow, IsParsed, PrintedParse}
+use Rattle.gh_parse.specs.Parsing.{HasCharacters, PrintedParse}
 
 abbrev AreKnown : List ℕ → Type 0
 AreKnown = AllPass is_character

@@ -6,35 +6,34 @@ use Rattle.gh_ast.specs.declared.sign.Sign as signs
 use Rattle.gh_ast.specs.declared.sign.Sign.TheVariants as sg
 use Rattle.gh_ast.specs.declared.sign.Keyword as words
 use Rattle.gh_ast.specs.Tokens.{Token, named, key, sign}
-use Rattle.gh_parse.specs.declared.error.ParseError.{ParseError}
-use Rattle.gh_parse.specs.declared.error.ParseError.TheVariants.{Byte, Deep, Syntax, OutOfMemory}
+use Rattle.gh_ast.specs.Place.{begin_of}
+use Rattle.gh_parse.specs.Stops.{NoToken, Any, Stops}
+use Rattle.gh_parse.specs.declared.error.ReadError.{ReadError}
+use Rattle.gh_parse.specs.declared.error.ReadError.TheVariants.{Unexpected, OutOfMemory}
 use Rattle.gh_parse.specs.declared.cursor.Ahead.{Ahead}
 use Rattle.gh_parse.specs.declared.cursor.Ahead.TheVariants.{Name, Key, Sign, End}
 
--- the rule spells nothing at the front
-abbrev pub IsRefused : {X : Type 0} → (X → List Token → Type 0) → Type 0
-IsRefused {X} P = (x : X) (rest : List Token) → P x rest → ⊥
+-- a token is unexpected exactly where reading stops
+abbrev pub IsRefusal : (List Token → Type 0) → (List Token → List Token → Type 0) → List Token → List Token → ReadError → Type 0
+IsRefusal Follows P ts left Unexpected = Stops Follows P ts left
+IsRefusal Follows P ts left OutOfMemory = ⊤
 
--- syntax errors come only where nothing is spelled
-abbrev pub IsRefusal : {X : Type 0} → (X → List Token → Type 0) → ParseError → Type 0
-IsRefusal P (Byte offset) = ⊥
-IsRefusal P (Deep p) = ⊥
-IsRefusal P (Syntax p) = IsRefused P
-IsRefusal P OutOfMemory = ⊤
+-- the answer is what the rule spells at the front, or reading stops where the tokens are left
+abbrev pub IsRead : {X Y : Type 0} → (List Token → Type 0) → (List Token → X → List Token → Type 0) → List Token → (Y → X) → Result Y ReadError → List Token → Type 0
+IsRead Follows P ts view answer left = MatchResult answer (λ y. P ts (view y) left) (IsRefusal Follows (Any P) ts left)
 
--- the answer is what the rule spells at the front, and what is left
-abbrev pub IsRead : {X Y : Type 0} → (X → List Token → Type 0) → (Y → X) → Result Y ParseError → List Token → Type 0
-IsRead P view answer rest = MatchResult answer (λ y. P (view y) rest) (IsRefusal P)
+-- a token that isn't there: nothing is taken
+pub record IsGap {X : Type 0} (k : X → Token) (ts left : List Token) : Type 0 where
+  pub stays : left ≡ ts
+  pub none : NoToken k ts
 
--- the rules of one token
-abbrev pub SpellsName : List Token → Occ → List Token → Type 0
-SpellsName ts o rest = ts ≡ named o ∷ rest
+abbrev pub IsMissing : {X : Type 0} → (X → Token) → List Token → List Token → ReadError → Type 0
+IsMissing k ts left Unexpected = IsGap k ts left
+IsMissing k ts left OutOfMemory = ⊤
 
-abbrev pub SpellsKey : words.Keyword → List Token → Span → List Token → Type 0
-SpellsKey k ts p rest = ts ≡ key k p ∷ rest
-
-abbrev pub SpellsSign : signs.Sign → List Token → Span → List Token → Type 0
-SpellsSign s ts p rest = ts ≡ sign s p ∷ rest
+-- the answer for one token
+abbrev pub IsTaken : {X : Type 0} → (X → Token) → List Token → Result X ReadError → List Token → Type 0
+IsTaken k ts answer left = MatchResult answer (λ x. ts ≡ k x ∷ left) (IsMissing k ts left)
 
 -- the next token is this sign, or this reserved word
 abbrev pub HasSign : signs.Sign → List Token → Type 0
@@ -50,11 +49,10 @@ IsAhead (Key k) ts = HasKey k ts
 IsAhead (Sign s) ts = HasSign s ts
 IsAhead End ts = ts ≡ []
 
-abbrev pub IsSyntax : ParseError → Type 0
-IsSyntax (Byte offset) = ⊥
-IsSyntax (Deep p) = ⊥
-IsSyntax (Syntax p) = ⊤
-IsSyntax OutOfMemory = ⊥
+-- where the next token begins, or the text ends
+abbrev pub next_place : Span → List Token → Span
+next_place end [] = end
+next_place end (t ∷ ts) = begin_of t
 
 -- the sign of an equation, or of a comparison that is to fail
 abbrev pub comparison_sign : Bool → signs.Sign

@@ -1,4 +1,5 @@
 pub mod Views
+pub mod Stops
 pub mod Answers
 pub mod Statements
 pub mod Procedures

@@ -2,7 +2,9 @@
 use Rattle.std.specs.Prelude.{◌≡◌, ℕ, List, ⊤}
 use Rattle.gh_ast.specs.Tokens.{IsFirstByte, IsFirstDeep}
 use Rattle.gh_ast.specs.Plain.{Program}
+use Rattle.gh_base.specs.declared.place.Span.{Span}
 use Rattle.gh_ast.specs.Grammar.{Spells}
+use Rattle.gh_ast.specs.Place.{IsPlace, IsProgram}
 use Rattle.gh_ast.specs.Bare.{bare_program}
 use Rattle.gh_ast.specs.Printed.{program_text}
 use Rattle.gh_parse.specs.Scanning.{IsDeepPlace}
@@ -23,17 +25,18 @@ pub record IsParsed (text : List ℕ) (p : Program) : Type 0 where
   pub shallow : IsShallow text
   pub spelled : Spells text p
 
--- the text is well formed, and spells no program
-pub record IsNoProgram (text : List ℕ) : Type 0 where
+-- the text is well formed, and spells no program; this is the place of its error
+pub record IsNoProgram (text : List ℕ) (span : Span) : Type 0 where
   pub characters : HasCharacters text
   pub shallow : IsShallow text
   pub none : (p : Program) → Spells text p → ⊥
+  pub place : IsPlace IsProgram text span
 
 -- the first byte that is no character comes before all, then the first bracket that nests too deep
 abbrev pub IsParseRefusal : List ℕ → ParseError → Type 0
 IsParseRefusal text (Byte offset) = IsFirstByte text offset
 IsParseRefusal text (Deep place) = HasCharacters text × IsDeepPlace text place
-IsParseRefusal text (Syntax place) = IsNoProgram text
+IsParseRefusal text (Syntax place) = IsNoProgram text place
 IsParseRefusal text OutOfMemory = ⊤
 
 -- a program that a text can give is given again by its printed text, places aside, where that text doesn't nest too deep

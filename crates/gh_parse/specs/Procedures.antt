@@ -13,7 +13,7 @@ use Rattle.gh_parse.specs.declared.procedures.Ending.{Ending}
 use Rattle.gh_parse.specs.declared.programs.Fields.{Fields}
 
 -- the locals of a declaration stand after those before
-pub record AddsLocals (ts : List Token) (old new : List Occ) (rest : List Token) : Type 0 where
+pub record AddsLocals (old : List Occ) (ts : List Token) (new : List Occ) (rest : List Token) : Type 0 where
   pub locals : List Occ
   pub spelled : SpellsLocals ts locals rest
   pub added : new ≡ old ++ locals

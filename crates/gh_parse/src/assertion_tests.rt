@@ -3,10 +3,11 @@
 ghost use Rattle.gh_base.specs.Names.{IsNameText};
 
 use crate::cursor::Parser;
-use crate::error::ParseError;
+use crate::error::ReadError;
 use crate::token::{Symbol, Token, Word};
 use gh_ast::sign::{Keyword, Sign};
 use gh_base::place::Span;
+use std::alloc::AllocError;
 
 fn name<'t>(bytes: &'t [u8]) -> Symbol<'t>
     requires { IsNameText bytes.now }
@@ -15,7 +16,7 @@ fn name<'t>(bytes: &'t [u8]) -> Symbol<'t>
 }
 
 // Whether an assertion stands at the front, and the number of the first token that isn't read.
-fn read(rt: &HostRuntime, symbols: &[Symbol<'_>]) -> Result<(bool, u32), ParseError> {
+fn read(rt: &HostRuntime, symbols: &[Symbol<'_>]) -> Result<(bool, u32), AllocError> {
     let mut tokens = Vec::new(rt.alloc());
     let mut col = 0;
     for symbol in symbols {
@@ -29,22 +30,17 @@ fn read(rt: &HostRuntime, symbols: &[Symbol<'_>]) -> Result<(bool, u32), ParseEr
     let end = Span { line: 1, col };
     let mut parser = Parser {
         rest: tokens.as_slice(),
-        end,
     };
-    let answer = parser.assertion(rt.alloc());
-    let accepted = answer.is_ok();
-    let refusal = match answer {
-        Ok(_) => parser.unexpected(),
-        Err(e) => e,
+    let accepted = match parser.assertion(rt.alloc()) {
+        Ok(_) => true,
+        Err(ReadError::Unexpected) => false,
+        Err(ReadError::OutOfMemory) => return Err(AllocError),
     };
-    match refusal {
-        ParseError::Syntax { span } => Ok((accepted, span.col)),
-        e => Err(e),
-    }
+    Ok((accepted, parser.place(end).col))
 }
 
 #[test]
-fn items(rt: HostRuntime) -> Result<(), ParseError> {
+fn items(rt: HostRuntime) -> Result<(), AllocError> {
     let x = name(b"x");
     let null = Symbol::Key(Keyword::Null);
     let next = Symbol::Key(Keyword::Next);
@@ -79,7 +75,7 @@ fn items(rt: HostRuntime) -> Result<(), ParseError> {
 }
 
 #[test]
-fn cases(rt: HostRuntime) -> Result<(), ParseError> {
+fn cases(rt: HostRuntime) -> Result<(), AllocError> {
     let x = name(b"x");
     let word = Symbol::Key(Keyword::If);
     let other = Symbol::Key(Keyword::Else);

@@ -1,20 +1,24 @@
 //! Assertions.
 
+ghost use Rattle.std.specs.Prelude.{◌≡◌, false};
+ghost use Rattle.gh_base.specs.declared.place.Span.{Span};
+ghost use Rattle.gh_ast.specs.Tokens.{sign};
 ghost use Rattle.gh_ast.specs.Grammar.{SpellsItem, SpellsAssertion, SpellsClause};
 ghost use Rattle.gh_ast.specs.Plain.{formula_of};
 ghost use Rattle.gh_parse.specs.Views.{tokens_of};
+ghost use Rattle.gh_parse.specs.Stops.{IsPlain, IsAny, goes_on};
 ghost use Rattle.gh_parse.specs.Answers.{IsRead, IsBetween, IsAhead, HasKey};
 
 use crate::cursor::{Ahead, Parser};
-use crate::error::ParseError;
+use crate::error::ReadError;
 use gh_ast::sign::{Keyword, Sign};
 use gh_ast::{Assertion, Operand};
 use std::alloc::Global;
 
 impl<'t> Parser<'t> {
     /// Reads an assertion after its word. One that is missing is `emp`.
-    pub fn clause(&mut self, alloc: Global, word: Keyword) -> Result<Assertion, ParseError>
-        ensures { IsRead (SpellsClause word (tokens_of self.old.rest.now)) formula_of result (tokens_of self.new.rest.now) }
+    pub fn clause(&mut self, alloc: Global, word: Keyword) -> Result<Assertion, ReadError>
+        ensures { IsRead IsPlain (SpellsClause word) (tokens_of self.old.rest.now) formula_of result (tokens_of self.new.rest.now) }
     {
         let Some(_) = self.take_key(word) else {
             return Ok(Assertion::Emp);
@@ -24,8 +28,8 @@ impl<'t> Parser<'t> {
 
     /// Reads an assertion: items with `&*&` between them.
     #[cycle(assertion)]
-    pub fn assertion(&mut self, alloc: Global) -> Result<Assertion, ParseError>
-        ensures { IsRead (SpellsAssertion (tokens_of self.old.rest.now)) formula_of result (tokens_of self.new.rest.now) }
+    pub fn assertion(&mut self, alloc: Global) -> Result<Assertion, ReadError>
+        ensures { IsRead IsPlain SpellsAssertion (tokens_of self.old.rest.now) formula_of result (tokens_of self.new.rest.now) }
     {
         let first = self.item(alloc)?;
         let Some(_) = self.take_sign(Sign::Star) else {
@@ -43,8 +47,8 @@ impl<'t> Parser<'t> {
 
     // Reads one member of an assertion.
     #[cycle(assertion)]
-    fn item(&mut self, alloc: Global) -> Result<Assertion, ParseError>
-        ensures { IsRead (SpellsItem (tokens_of self.old.rest.now)) formula_of result (tokens_of self.new.rest.now) }
+    fn item(&mut self, alloc: Global) -> Result<Assertion, ReadError>
+        ensures { IsRead IsPlain SpellsItem (tokens_of self.old.rest.now) formula_of result (tokens_of self.new.rest.now) }
     {
         match self.ahead() {
             Ahead::Name => self.named_item(alloc),
@@ -55,9 +59,9 @@ impl<'t> Parser<'t> {
 
     // Reads a member that begins with a reserved word.
     #[cycle(assertion)]
-    fn item_by_word(&mut self, alloc: Global, word: Keyword) -> Result<Assertion, ParseError>
+    fn item_by_word(&mut self, alloc: Global, word: Keyword) -> Result<Assertion, ReadError>
         requires { HasKey word (tokens_of self.old.rest.now) }
-        ensures { IsRead (SpellsItem (tokens_of self.old.rest.now)) formula_of result (tokens_of self.new.rest.now) }
+        ensures { IsRead IsPlain SpellsItem (tokens_of self.old.rest.now) formula_of result (tokens_of self.new.rest.now) }
     {
         match word {
             Keyword::Emp => {
@@ -68,15 +72,15 @@ impl<'t> Parser<'t> {
             Keyword::Lseg => self.lseg(alloc),
             Keyword::If => self.cases(alloc),
             Keyword::Null => self.null_item(alloc),
-            _ => Err(self.unexpected()),
+            _ => Err(ReadError::Unexpected),
         }
     }
 
     // Reads two assertions in braces, of which a test chooses.
     #[cycle(assertion)]
-    fn cases(&mut self, alloc: Global) -> Result<Assertion, ParseError>
+    fn cases(&mut self, alloc: Global) -> Result<Assertion, ReadError>
         requires { HasKey Keyword.If (tokens_of self.old.rest.now) }
-        ensures { IsRead (SpellsItem (tokens_of self.old.rest.now)) formula_of result (tokens_of self.new.rest.now) }
+        ensures { IsRead IsPlain SpellsItem (tokens_of self.old.rest.now) formula_of result (tokens_of self.new.rest.now) }
     {
         self.expect_key(Keyword::If)?;
         let test = self.enclosed_test(alloc, false)?;
@@ -97,8 +101,10 @@ impl<'t> Parser<'t> {
         alloc: Global,
         opening: Sign,
         closing: Sign,
-    ) -> Result<Assertion, ParseError>
-        ensures { IsRead (IsBetween opening closing SpellsAssertion (tokens_of self.old.rest.now)) formula_of result (tokens_of self.new.rest.now) }
+    ) -> Result<Assertion, ReadError>
+        requires begins { (p : Span) → goes_on (sign opening p) ≡ false }
+        requires ends { (p : Span) → goes_on (sign closing p) ≡ false }
+        ensures { IsRead IsAny (IsBetween opening closing SpellsAssertion) (tokens_of self.old.rest.now) formula_of result (tokens_of self.new.rest.now) }
     {
         self.expect_sign(opening)?;
         let inner = self.assertion(alloc)?;
@@ -107,9 +113,9 @@ impl<'t> Parser<'t> {
     }
 
     // Reads `acc ( NAME )`.
-    fn acc(&mut self, alloc: Global) -> Result<Assertion, ParseError>
+    fn acc(&mut self, alloc: Global) -> Result<Assertion, ReadError>
         requires { HasKey Keyword.Acc (tokens_of self.old.rest.now) }
-        ensures { IsRead (SpellsItem (tokens_of self.old.rest.now)) formula_of result (tokens_of self.new.rest.now) }
+        ensures { IsRead IsPlain SpellsItem (tokens_of self.old.rest.now) formula_of result (tokens_of self.new.rest.now) }
     {
         self.expect_key(Keyword::Acc)?;
         self.expect_sign(Sign::ParenOpen)?;
@@ -119,9 +125,9 @@ impl<'t> Parser<'t> {
     }
 
     // Reads `lseg ( operand , operand )`.
-    fn lseg(&mut self, alloc: Global) -> Result<Assertion, ParseError>
+    fn lseg(&mut self, alloc: Global) -> Result<Assertion, ReadError>
         requires { HasKey Keyword.Lseg (tokens_of self.old.rest.now) }
-        ensures { IsRead (SpellsItem (tokens_of self.old.rest.now)) formula_of result (tokens_of self.new.rest.now) }
+        ensures { IsRead IsPlain SpellsItem (tokens_of self.old.rest.now) formula_of result (tokens_of self.new.rest.now) }
     {
         self.expect_key(Keyword::Lseg)?;
         self.expect_sign(Sign::ParenOpen)?;
@@ -133,9 +139,9 @@ impl<'t> Parser<'t> {
     }
 
     // Reads a cell or a comparison that begins with a name.
-    fn named_item(&mut self, alloc: Global) -> Result<Assertion, ParseError>
+    fn named_item(&mut self, alloc: Global) -> Result<Assertion, ReadError>
         requires { IsAhead Ahead.Name (tokens_of self.old.rest.now) }
-        ensures { IsRead (SpellsItem (tokens_of self.old.rest.now)) formula_of result (tokens_of self.new.rest.now) }
+        ensures { IsRead IsPlain SpellsItem (tokens_of self.old.rest.now) formula_of result (tokens_of self.new.rest.now) }
     {
         let at = self.expect_name(alloc)?;
         if let Some(_) = self.take_sign(Sign::Dot) {
@@ -154,9 +160,9 @@ impl<'t> Parser<'t> {
     }
 
     // Reads a comparison that begins with `null`.
-    fn null_item(&mut self, alloc: Global) -> Result<Assertion, ParseError>
+    fn null_item(&mut self, alloc: Global) -> Result<Assertion, ReadError>
         requires { HasKey Keyword.Null (tokens_of self.old.rest.now) }
-        ensures { IsRead (SpellsItem (tokens_of self.old.rest.now)) formula_of result (tokens_of self.new.rest.now) }
+        ensures { IsRead IsPlain SpellsItem (tokens_of self.old.rest.now) formula_of result (tokens_of self.new.rest.now) }
     {
         let span = self.expect_key(Keyword::Null)?;
         let equal = self.comparison_sign()?;

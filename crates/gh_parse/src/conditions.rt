@@ -4,10 +4,11 @@ ghost use Rattle.gh_ast.specs.declared.sign.Sign.TheVariants.{ParenOpen, ParenCl
 ghost use Rattle.gh_ast.specs.Grammar.{SpellsLit, SpellsConj, SpellsTest, NoSign};
 ghost use Rattle.gh_ast.specs.Plain.{test_of};
 ghost use Rattle.gh_parse.specs.Views.{tokens_of};
+ghost use Rattle.gh_parse.specs.Stops.{IsPlain};
 ghost use Rattle.gh_parse.specs.Answers.{IsRead, IsBetween, SpellsComparison};
 
 use crate::cursor::Parser;
-use crate::error::ParseError;
+use crate::error::ReadError;
 use gh_ast::Cond;
 use gh_ast::sign::Sign;
 use std::alloc::Global;
@@ -16,8 +17,8 @@ impl<'t> Parser<'t> {
     /// Reads a test: conjunctions with `||` between them. Reads of cells stand in it where
     /// `reads` says so.
     #[cycle(test)]
-    pub fn test(&mut self, alloc: Global, reads: bool) -> Result<Cond, ParseError>
-        ensures { IsRead (SpellsTest reads (tokens_of self.old.rest.now)) test_of result (tokens_of self.new.rest.now) }
+    pub fn test(&mut self, alloc: Global, reads: bool) -> Result<Cond, ReadError>
+        ensures { IsRead IsPlain (SpellsTest reads) (tokens_of self.old.rest.now) test_of result (tokens_of self.new.rest.now) }
     {
         let first = self.conjunction(alloc, reads)?;
         let Some(_) = self.take_sign(Sign::Or) else {
@@ -35,8 +36,8 @@ impl<'t> Parser<'t> {
 
     // Reads literals with `&&` between them.
     #[cycle(test)]
-    fn conjunction(&mut self, alloc: Global, reads: bool) -> Result<Cond, ParseError>
-        ensures { IsRead (SpellsConj reads (tokens_of self.old.rest.now)) test_of result (tokens_of self.new.rest.now) }
+    fn conjunction(&mut self, alloc: Global, reads: bool) -> Result<Cond, ReadError>
+        ensures { IsRead IsPlain (SpellsConj reads) (tokens_of self.old.rest.now) test_of result (tokens_of self.new.rest.now) }
     {
         let first = self.literal(alloc, reads)?;
         let Some(_) = self.take_sign(Sign::And) else {
@@ -54,8 +55,8 @@ impl<'t> Parser<'t> {
 
     // Reads a comparison, or a test in brackets that may be denied.
     #[cycle(test)]
-    fn literal(&mut self, alloc: Global, reads: bool) -> Result<Cond, ParseError>
-        ensures { IsRead (SpellsLit reads (tokens_of self.old.rest.now)) test_of result (tokens_of self.new.rest.now) }
+    fn literal(&mut self, alloc: Global, reads: bool) -> Result<Cond, ReadError>
+        ensures { IsRead IsPlain (SpellsLit reads) (tokens_of self.old.rest.now) test_of result (tokens_of self.new.rest.now) }
     {
         if self.is_sign(Sign::ParenOpen) {
             return self.enclosed_test(alloc, reads);
@@ -69,8 +70,8 @@ impl<'t> Parser<'t> {
 
     /// Reads a test in round brackets.
     #[cycle(test)]
-    pub fn enclosed_test(&mut self, alloc: Global, reads: bool) -> Result<Cond, ParseError>
-        ensures { IsRead (IsBetween ParenOpen ParenClose (SpellsTest reads) (tokens_of self.old.rest.now)) test_of result (tokens_of self.new.rest.now) }
+    pub fn enclosed_test(&mut self, alloc: Global, reads: bool) -> Result<Cond, ReadError>
+        ensures { IsRead IsPlain (IsBetween ParenOpen ParenClose (SpellsTest reads)) (tokens_of self.old.rest.now) test_of result (tokens_of self.new.rest.now) }
     {
         self.expect_sign(Sign::ParenOpen)?;
         let test = self.test(alloc, reads)?;
@@ -79,10 +80,10 @@ impl<'t> Parser<'t> {
     }
 
     // Reads a comparison of two expressions.
-    fn equation(&mut self, alloc: Global, reads: bool) -> Result<Cond, ParseError>
+    fn equation(&mut self, alloc: Global, reads: bool) -> Result<Cond, ReadError>
         requires plain { NoSign Bang (tokens_of self.old.rest.now) }
         requires bare { NoSign ParenOpen (tokens_of self.old.rest.now) }
-        ensures { IsRead (SpellsLit reads (tokens_of self.old.rest.now)) test_of result (tokens_of self.new.rest.now) }
+        ensures { IsRead IsPlain (SpellsLit reads) (tokens_of self.old.rest.now) test_of result (tokens_of self.new.rest.now) }
     {
         let left = self.expr(alloc, reads)?;
         let equal = self.comparison_sign()?;
@@ -91,8 +92,8 @@ impl<'t> Parser<'t> {
     }
 
     /// Reads `==` or `!=`, and says whether it is `==`.
-    pub fn comparison_sign(&mut self) -> Result<bool, ParseError>
-        ensures { IsRead (SpellsComparison (tokens_of self.old.rest.now)) (λ b. b) result (tokens_of self.new.rest.now) }
+    pub fn comparison_sign(&mut self) -> Result<bool, ReadError>
+        ensures { IsRead IsPlain SpellsComparison (tokens_of self.old.rest.now) (λ b. b) result (tokens_of self.new.rest.now) }
     {
         if let Some(_) = self.take_sign(Sign::Equal) {
             return Ok(true);

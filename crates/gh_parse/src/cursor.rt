@@ -5,9 +5,9 @@ ghost use Rattle.std.specs.Bool.{MatchBool};
 ghost use Rattle.gh_ast.specs.Grammar.{NoSign, NoKey};
 ghost use Rattle.gh_ast.specs.Tokens.{named, key, sign};
 ghost use Rattle.gh_parse.specs.Views.{token_of, tokens_of};
-ghost use Rattle.gh_parse.specs.Answers.{IsRead, IsAhead, HasSign, HasKey, IsSyntax, SpellsName, SpellsKey, SpellsSign};
+ghost use Rattle.gh_parse.specs.Answers.{IsTaken, IsAhead, HasSign, HasKey, next_place};
 
-use crate::error::ParseError;
+use crate::error::ReadError;
 use crate::token::{Symbol, Token};
 use gh_ast::Occ;
 use gh_ast::sign::{Keyword, Sign};
@@ -24,11 +24,10 @@ pub enum Ahead {
     End,
 }
 
-/// The tokens that are left, and the place after the last byte of the text.
+/// The tokens that are left.
 #[derive(Drop)]
 pub struct Parser<'t> {
     pub rest: &'t [Token<'t>],
-    pub end: Span,
 }
 
 impl<'t> Parser<'t> {
@@ -46,15 +45,14 @@ impl<'t> Parser<'t> {
         }
     }
 
-    /// The refusal of the next token, or of the end.
-    pub fn unexpected(&self) -> ParseError
-        ensures { IsSyntax result }
+    /// The place of the next token, or the end of the text.
+    pub fn place(&self, end: Span) -> Span
+        ensures { result ≡ next_place end (tokens_of self.now.rest.now) }
     {
-        let span = match self.rest {
-            [] => self.end,
+        match self.rest {
+            [] => end,
             [first, ..] => first.span,
-        };
-        ParseError::Syntax { span }
+        }
     }
 
     /// Takes a sign, where it is next.
@@ -112,28 +110,28 @@ impl<'t> Parser<'t> {
     }
 
     /// Takes a sign.
-    pub fn expect_sign(&mut self, wanted: Sign) -> Result<Span, ParseError>
-        ensures { IsRead (SpellsSign wanted (tokens_of self.old.rest.now)) (λ p. p) result (tokens_of self.new.rest.now) }
+    pub fn expect_sign(&mut self, wanted: Sign) -> Result<Span, ReadError>
+        ensures { IsTaken (sign wanted) (tokens_of self.old.rest.now) result (tokens_of self.new.rest.now) }
     {
         match self.take_sign(wanted) {
             Some(span) => Ok(span),
-            None => Err(self.unexpected()),
+            None => Err(ReadError::Unexpected),
         }
     }
 
     /// Takes a reserved word.
-    pub fn expect_key(&mut self, wanted: Keyword) -> Result<Span, ParseError>
-        ensures { IsRead (SpellsKey wanted (tokens_of self.old.rest.now)) (λ p. p) result (tokens_of self.new.rest.now) }
+    pub fn expect_key(&mut self, wanted: Keyword) -> Result<Span, ReadError>
+        ensures { IsTaken (key wanted) (tokens_of self.old.rest.now) result (tokens_of self.new.rest.now) }
     {
         match self.take_key(wanted) {
             Some(span) => Ok(span),
-            None => Err(self.unexpected()),
+            None => Err(ReadError::Unexpected),
         }
     }
 
     /// Takes a name.
-    pub fn expect_name(&mut self, alloc: Global) -> Result<Occ, ParseError>
-        ensures { IsRead (SpellsName (tokens_of self.old.rest.now)) (λ o. o) result (tokens_of self.new.rest.now) }
+    pub fn expect_name(&mut self, alloc: Global) -> Result<Occ, ReadError>
+        ensures { IsTaken named (tokens_of self.old.rest.now) result (tokens_of self.new.rest.now) }
     {
         match self.rest {
             [first, rest @ ..] => match first.symbol {
@@ -145,9 +143,9 @@ impl<'t> Parser<'t> {
                         span: first.span,
                     })
                 }
-                _ => Err(self.unexpected()),
+                _ => Err(ReadError::Unexpected),
             },
-            [] => Err(self.unexpected()),
+            [] => Err(ReadError::Unexpected),
         }
     }
 }

@@ -1,7 +1,8 @@
 //! Why a text isn't parsed.
 
 ghost use Rattle.std.specs.Prelude.{◌≡◌};
-ghost use Rattle.gh_parse.specs.declared.error.ParseError.TheVariants.{OutOfMemory};
+ghost use Rattle.gh_parse.specs.declared.error.ParseError.TheVariants as parsing;
+ghost use Rattle.gh_parse.specs.declared.error.ReadError.TheVariants as reading;
 
 use gh_base::place::Span;
 use std::alloc::{AllocError, AllocFailed};
@@ -16,7 +17,8 @@ pub enum ParseError {
     /// Too many brackets stand open.
     #[error("too many brackets are open")]
     Deep { span: Span },
-    /// The text is no program. The place is that of the first token that doesn't fit.
+    /// The text is no program. The place is that of the first token with which the tokens are no
+    /// prefix of any program's, or that after the last byte.
     #[error("syntax error")]
     Syntax { span: Span },
     #[error("out of memory")]
@@ -24,17 +26,35 @@ pub enum ParseError {
 }
 
 impl From<AllocError> for ParseError {
-    ghost from_gives = { λ _ e. e ≡ OutOfMemory };
+    ghost from_gives = { λ _ e. e ≡ parsing.OutOfMemory };
 
     fn from(_: AllocError) -> Self {
         ParseError::OutOfMemory
     }
 }
 
-impl<T: Drop> From<AllocFailed<T>> for ParseError {
-    ghost from_gives = { λ _ e. e ≡ OutOfMemory };
+/// Why a rule of the grammar isn't read.
+#[derive(Debug, Drop, Error)]
+pub enum ReadError {
+    /// The next token doesn't fit, or the end doesn't.
+    #[error("a token is unexpected")]
+    Unexpected,
+    #[error("out of memory")]
+    OutOfMemory,
+}
+
+impl From<AllocError> for ReadError {
+    ghost from_gives = { λ _ e. e ≡ reading.OutOfMemory };
+
+    fn from(_: AllocError) -> Self {
+        ReadError::OutOfMemory
+    }
+}
+
+impl<T: Drop> From<AllocFailed<T>> for ReadError {
+    ghost from_gives = { λ _ e. e ≡ reading.OutOfMemory };
 
     fn from(_: AllocFailed<T>) -> Self {
-        ParseError::OutOfMemory
+        ReadError::OutOfMemory
     }
 }

@@ -2,10 +2,11 @@
 
 ghost use Rattle.std.specs.Prelude.{◌<◌, ◌-◌, ◌^◌, length, IfOk, IfErr};
 ghost use Rattle.gh_ast.specs.Plain.{program_of};
+ghost use Rattle.gh_ast.specs.WellFormed.{IsWellFormed};
 ghost use Rattle.gh_parse.specs.Parsing.{IsParsed, IsParseRefusal, PrintedParse};
 
 use crate::cursor::Parser;
-use crate::error::ParseError;
+use crate::error::{ParseError, ReadError};
 use crate::lexer::lex;
 use crate::scan::{deep_bracket, strange_byte};
 use gh_ast::Program;
@@ -16,6 +17,7 @@ use std::alloc::Global;
 pub fn parse(alloc: Global, text: &[u8]) -> Result<Program, ParseError>
     requires { length text.now < 2 ^ 32 - 1 }
     ensures parsed { IfOk result (λ p. IsParsed text.now (program_of p)) }
+    ensures formed { IfOk result (λ p. IsWellFormed (program_of p)) }
     ensures refused { IfErr result (IsParseRefusal text.now) }
 {
     if let Some(offset) = strange_byte(text) {
@@ -27,13 +29,20 @@ pub fn parse(alloc: Global, text: &[u8]) -> Result<Program, ParseError>
     let lexed = lex(alloc, text)?;
     let mut parser = Parser {
         rest: lexed.tokens.as_slice(),
-        end: lexed.end,
     };
-    let program = parser.program(alloc)?;
-    if !lexed.whole {
-        return Err(ParseError::Syntax { span: lexed.end });
+    match parser.program(alloc) {
+        Ok(program) => {
+            if !lexed.whole {
+                return Err(ParseError::Syntax { span: lexed.end });
+            }
+            Ok(program)
+        }
+        Err(ReadError::Unexpected) => {
+            let span = parser.place(lexed.end);
+            Err(ParseError::Syntax { span })
+        }
+        Err(ReadError::OutOfMemory) => Err(ParseError::OutOfMemory),
     }
-    Ok(program)
 }
 
 /// What `parse` gives for the printed text of a program that it has given is that program, places

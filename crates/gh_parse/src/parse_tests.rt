@@ -74,6 +74,26 @@ fn whole_texts(rt: HostRuntime) -> Result<(), AllocError> {
     Ok(())
 }
 
+// A sign that is no token, the ends of a text, and a word that is too long.
+#[test]
+fn places(rt: HostRuntime) -> Result<(), AllocError> {
+    let rows: [(&[u8], u32, u32); 4] = [
+        (b"procedure p() { x = null; }", 2, 19),
+        (b"procedure p()\n", 3, 1),
+        (b"procedure p()", 2, 14),
+        (
+            b"procedure aaaaaaaaaaaaaaaaaaaaaaaaaaaaaaaaaaaaaaaaaaaaaaaaaaaaaaaaaaaaaaaaa",
+            2,
+            11,
+        ),
+    ];
+    for (text, line, col) in rows {
+        let found = answer_within(rt.alloc(), b"struct Node { var next: Node; }\n", text, b"")?;
+        assert!(rt; found == Answer::Syntax(line, col));
+    }
+    Ok(())
+}
+
 #[test]
 fn procedures(rt: HostRuntime) -> Result<(), AllocError> {
     let rows: [(&[u8], Answer); 12] = [

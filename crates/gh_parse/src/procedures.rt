@@ -3,11 +3,12 @@
 ghost use Rattle.gh_ast.specs.Grammar.{SpellsInside, SpellsParams, SpellsHeader, SpellsResults, SpellsProcedure};
 ghost use Rattle.gh_ast.specs.Plain.{inside_of, procedure_of};
 ghost use Rattle.gh_parse.specs.Views.{tokens_of};
+ghost use Rattle.gh_parse.specs.Stops.{IsPlain};
 ghost use Rattle.gh_parse.specs.Answers.{IsRead};
 ghost use Rattle.gh_parse.specs.Procedures.{AddsLocals, SpellsEnded, ended_of};
 
 use crate::cursor::Parser;
-use crate::error::ParseError;
+use crate::error::ReadError;
 use gh_ast::sign::{Keyword, Sign};
 use gh_ast::{Body, Occ, Procedure};
 use gh_base::place::Span;
@@ -22,8 +23,8 @@ pub struct Ending {
 
 impl<'t> Parser<'t> {
     /// Reads a declaration from its first name on, and puts its names after the locals.
-    pub fn declaration(&mut self, alloc: Global, locals: &mut Vec<Occ>) -> Result<(), ParseError>
-        ensures { IsRead (AddsLocals (tokens_of self.old.rest.now) locals.old.items) (λ _. locals.new.items) result (tokens_of self.new.rest.now) }
+    pub fn declaration(&mut self, alloc: Global, locals: &mut Vec<Occ>) -> Result<(), ReadError>
+        ensures { IsRead IsPlain (AddsLocals locals.old.items) (tokens_of self.old.rest.now) (λ _. locals.new.items) result (tokens_of self.new.rest.now) }
     {
         'names: loop {
             locals.push(self.expect_name(alloc)?)?;
@@ -38,8 +39,8 @@ impl<'t> Parser<'t> {
     }
 
     /// Reads declarations, statements and the brace after them.
-    pub fn inside(&mut self, alloc: Global) -> Result<Body, ParseError>
-        ensures { IsRead (SpellsInside (tokens_of self.old.rest.now)) inside_of result (tokens_of self.new.rest.now) }
+    pub fn inside(&mut self, alloc: Global) -> Result<Body, ReadError>
+        ensures { IsRead IsPlain SpellsInside (tokens_of self.old.rest.now) inside_of result (tokens_of self.new.rest.now) }
     {
         let mut locals = Vec::new(alloc);
         'declarations: while self.is_key(Keyword::Var) {
@@ -51,8 +52,8 @@ impl<'t> Parser<'t> {
     }
 
     /// Reads one or more parameters with commas between them, and the bracket after them.
-    pub fn parameters(&mut self, alloc: Global) -> Result<Vec<Occ>, ParseError>
-        ensures { IsRead (SpellsParams (tokens_of self.old.rest.now)) (λ v. v.items) result (tokens_of self.new.rest.now) }
+    pub fn parameters(&mut self, alloc: Global) -> Result<Vec<Occ>, ReadError>
+        ensures { IsRead IsPlain SpellsParams (tokens_of self.old.rest.now) (λ v. v.items) result (tokens_of self.new.rest.now) }
     {
         let mut names = Vec::new(alloc);
         'names: loop {
@@ -68,8 +69,8 @@ impl<'t> Parser<'t> {
     }
 
     /// Reads none or more parameters, and the bracket after them.
-    pub fn header(&mut self, alloc: Global) -> Result<Vec<Occ>, ParseError>
-        ensures { IsRead (SpellsHeader (tokens_of self.old.rest.now)) (λ v. v.items) result (tokens_of self.new.rest.now) }
+    pub fn header(&mut self, alloc: Global) -> Result<Vec<Occ>, ReadError>
+        ensures { IsRead IsPlain SpellsHeader (tokens_of self.old.rest.now) (λ v. v.items) result (tokens_of self.new.rest.now) }
     {
         if !self.is_sign(Sign::ParenClose) {
             return self.parameters(alloc);
@@ -79,8 +80,8 @@ impl<'t> Parser<'t> {
     }
 
     /// Reads the results of a procedure, which may be missing.
-    pub fn results(&mut self, alloc: Global) -> Result<Vec<Occ>, ParseError>
-        ensures { IsRead (SpellsResults (tokens_of self.old.rest.now)) (λ v. v.items) result (tokens_of self.new.rest.now) }
+    pub fn results(&mut self, alloc: Global) -> Result<Vec<Occ>, ReadError>
+        ensures { IsRead IsPlain SpellsResults (tokens_of self.old.rest.now) (λ v. v.items) result (tokens_of self.new.rest.now) }
     {
         if !self.is_key(Keyword::Returns) {
             return Ok(Vec::new(alloc));
@@ -91,8 +92,8 @@ impl<'t> Parser<'t> {
     }
 
     /// Reads a body, or a semicolon in its place.
-    pub fn ending(&mut self, alloc: Global) -> Result<Ending, ParseError>
-        ensures { IsRead (SpellsEnded (tokens_of self.old.rest.now)) ended_of result (tokens_of self.new.rest.now) }
+    pub fn ending(&mut self, alloc: Global) -> Result<Ending, ReadError>
+        ensures { IsRead IsPlain SpellsEnded (tokens_of self.old.rest.now) ended_of result (tokens_of self.new.rest.now) }
     {
         if self.is_sign(Sign::Semicolon) {
             let close = self.expect_sign(Sign::Semicolon)?;
@@ -108,8 +109,8 @@ impl<'t> Parser<'t> {
     }
 
     /// Reads a procedure. Missing contracts are `emp`.
-    pub fn procedure(&mut self, alloc: Global) -> Result<Procedure, ParseError>
-        ensures { IsRead (SpellsProcedure (tokens_of self.old.rest.now)) procedure_of result (tokens_of self.new.rest.now) }
+    pub fn procedure(&mut self, alloc: Global) -> Result<Procedure, ReadError>
+        ensures { IsRead IsPlain SpellsProcedure (tokens_of self.old.rest.now) procedure_of result (tokens_of self.new.rest.now) }
     {
         self.expect_key(Keyword::Procedure)?;
         let name = self.expect_name(alloc)?;
@@ -119,12 +120,14 @@ impl<'t> Parser<'t> {
         let needs = self.clause(alloc, Keyword::Requires)?;
         let gives = self.clause(alloc, Keyword::Ensures)?;
         let ending = self.ending(alloc)?;
+        let mut alternatives = Vec::new(alloc);
+        alternatives.push(gives)?;
         Ok(Procedure {
             name,
             parameters,
             results,
             needs,
-            gives,
+            gives: alternatives,
             body: ending.body,
             close: ending.close,
         })

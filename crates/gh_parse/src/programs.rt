@@ -5,11 +5,12 @@ ghost use Rattle.gh_ast.specs.Grammar.{SpellsWord};
 ghost use Rattle.gh_ast.specs.Tokens.{keyword_text};
 ghost use Rattle.gh_ast.specs.Plain.{procedure_of, program_of};
 ghost use Rattle.gh_parse.specs.Views.{tokens_of};
+ghost use Rattle.gh_parse.specs.Stops.{IsPlain, IsEnd};
 ghost use Rattle.gh_parse.specs.Answers.{IsRead};
 ghost use Rattle.gh_parse.specs.Procedures.{SpellsField, SpellsShape, SpellsAll, SpellsWhole, shape_of};
 
 use crate::cursor::Parser;
-use crate::error::ParseError;
+use crate::error::ReadError;
 use gh_ast::sign::{Keyword, Sign};
 use gh_ast::{Field, Occ, Procedure, Program};
 use gh_base::name::Name;
@@ -32,8 +33,8 @@ impl<'t> Parser<'t> {
     }
 
     /// Reads a name, or a reserved word as if it were one.
-    pub fn word(&mut self, alloc: Global, reserved: Keyword) -> Result<Occ, ParseError>
-        ensures { IsRead (SpellsWord reserved (keyword_text reserved) (tokens_of self.old.rest.now)) (λ o. o) result (tokens_of self.new.rest.now) }
+    pub fn word(&mut self, alloc: Global, reserved: Keyword) -> Result<Occ, ReadError>
+        ensures { IsRead IsPlain (SpellsWord reserved (keyword_text reserved)) (tokens_of self.old.rest.now) (λ o. o) result (tokens_of self.new.rest.now) }
     {
         if !self.is_key(reserved) {
             return self.expect_name(alloc);
@@ -44,8 +45,8 @@ impl<'t> Parser<'t> {
     }
 
     /// Reads a field.
-    pub fn field(&mut self, alloc: Global) -> Result<Field, ParseError>
-        ensures { IsRead (SpellsField (tokens_of self.old.rest.now)) (λ f. f) result (tokens_of self.new.rest.now) }
+    pub fn field(&mut self, alloc: Global) -> Result<Field, ReadError>
+        ensures { IsRead IsPlain SpellsField (tokens_of self.old.rest.now) (λ f. f) result (tokens_of self.new.rest.now) }
     {
         self.expect_key(Keyword::Var)?;
         let name = self.word(alloc, Keyword::Next)?;
@@ -59,8 +60,8 @@ impl<'t> Parser<'t> {
     }
 
     /// Reads fields, and the brace after them.
-    pub fn fields(&mut self, alloc: Global) -> Result<Fields, ParseError>
-        ensures { IsRead (SpellsShape (tokens_of self.old.rest.now)) shape_of result (tokens_of self.new.rest.now) }
+    pub fn fields(&mut self, alloc: Global) -> Result<Fields, ReadError>
+        ensures { IsRead IsPlain SpellsShape (tokens_of self.old.rest.now) shape_of result (tokens_of self.new.rest.now) }
     {
         let mut fields = Vec::new(alloc);
         'fields: while !self.is_sign(Sign::BraceClose) {
@@ -71,8 +72,8 @@ impl<'t> Parser<'t> {
     }
 
     /// Reads procedures up to the end.
-    pub fn procedures(&mut self, alloc: Global) -> Result<Vec<Procedure>, ParseError>
-        ensures { IsRead (SpellsAll (tokens_of self.old.rest.now)) (λ v. map procedure_of v.items) result (tokens_of self.new.rest.now) }
+    pub fn procedures(&mut self, alloc: Global) -> Result<Vec<Procedure>, ReadError>
+        ensures { IsRead IsEnd SpellsAll (tokens_of self.old.rest.now) (λ v. map procedure_of v.items) result (tokens_of self.new.rest.now) }
     {
         let mut procedures = Vec::new(alloc);
         'procedures: while !self.is_end() {
@@ -82,8 +83,8 @@ impl<'t> Parser<'t> {
     }
 
     /// Reads a whole program.
-    pub fn program(&mut self, alloc: Global) -> Result<Program, ParseError>
-        ensures { IsRead (SpellsWhole (tokens_of self.old.rest.now)) program_of result (tokens_of self.new.rest.now) }
+    pub fn program(&mut self, alloc: Global) -> Result<Program, ReadError>
+        ensures { IsRead IsEnd SpellsWhole (tokens_of self.old.rest.now) program_of result (tokens_of self.new.rest.now) }
     {
         self.expect_key(Keyword::Struct)?;
         self.expect_key(Keyword::Node)?;

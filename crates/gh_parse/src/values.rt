@@ -1,12 +1,15 @@
 //! Operands and expressions.
 
-ghost use Rattle.std.specs.Prelude.{◌≢◌};
+ghost use Rattle.std.specs.Prelude.{◌≡◌, ◌≢◌, false};
+ghost use Rattle.gh_base.specs.declared.place.Span.{Span};
+ghost use Rattle.gh_ast.specs.Tokens.{sign};
 ghost use Rattle.gh_ast.specs.Grammar.{SpellsOperand, SpellsExpr, SpellsExprs, SpellsValues};
 ghost use Rattle.gh_parse.specs.Views.{tokens_of};
+ghost use Rattle.gh_parse.specs.Stops.{IsPlain, goes_on};
 ghost use Rattle.gh_parse.specs.Answers.{IsRead};
 
 use crate::cursor::Parser;
-use crate::error::ParseError;
+use crate::error::ReadError;
 use gh_ast::sign::{Keyword, Sign};
 use gh_ast::{Expr, Operand};
 use std::alloc::Global;
@@ -14,8 +17,8 @@ use std::alloc::Global;
 impl<'t> Parser<'t> {
     /// Reads a name or `null`.
     #[tactic(auto, using(gh_ast::specs::Grammar::null_operand, gh_ast::specs::Grammar::variable))]
-    pub fn operand(&mut self, alloc: Global) -> Result<Operand, ParseError>
-        ensures { IsRead (SpellsOperand (tokens_of self.old.rest.now)) (λ o. o) result (tokens_of self.new.rest.now) }
+    pub fn operand(&mut self, alloc: Global) -> Result<Operand, ReadError>
+        ensures { IsRead IsPlain SpellsOperand (tokens_of self.old.rest.now) (λ o. o) result (tokens_of self.new.rest.now) }
     {
         if let Some(span) = self.take_key(Keyword::Null) {
             return Ok(Operand::Null { span });
@@ -25,18 +28,18 @@ impl<'t> Parser<'t> {
 
     /// Reads a name or `null`, or `NAME . next` where reads may stand.
     #[tactic(auto, using(gh_ast::specs::Grammar::plain, gh_ast::specs::Grammar::read))]
-    pub fn expr(&mut self, alloc: Global, reads: bool) -> Result<Expr, ParseError>
-        ensures { IsRead (SpellsExpr reads (tokens_of self.old.rest.now)) (λ e. e) result (tokens_of self.new.rest.now) }
+    pub fn expr(&mut self, alloc: Global, reads: bool) -> Result<Expr, ReadError>
+        ensures { IsRead IsPlain (SpellsExpr reads) (tokens_of self.old.rest.now) (λ e. e) result (tokens_of self.new.rest.now) }
     {
         let operand = self.operand(alloc)?;
         if !self.is_sign(Sign::Dot) {
             return Ok(Expr::Plain(operand));
         }
         let Operand::Var(at) = operand else {
-            return Err(self.unexpected());
+            return Err(ReadError::Unexpected);
         };
         if !reads {
-            return Err(self.unexpected());
+            return Err(ReadError::Unexpected);
         }
         self.expect_sign(Sign::Dot)?;
         self.expect_key(Keyword::Next)?;
@@ -44,9 +47,10 @@ impl<'t> Parser<'t> {
     }
 
     /// Reads one or more expressions with commas between them, and the sign after them.
-    pub fn exprs(&mut self, alloc: Global, close: Sign) -> Result<Vec<Expr>, ParseError>
-        requires { close ≢ Sign.Comma }
-        ensures { IsRead (SpellsExprs close (tokens_of self.old.rest.now)) (λ es. es.items) result (tokens_of self.new.rest.now) }
+    pub fn exprs(&mut self, alloc: Global, close: Sign) -> Result<Vec<Expr>, ReadError>
+        requires apart { close ≢ Sign.Comma }
+        requires ends { (p : Span) → goes_on (sign close p) ≡ false }
+        ensures { IsRead IsPlain (SpellsExprs close) (tokens_of self.old.rest.now) (λ es. es.items) result (tokens_of self.new.rest.now) }
     {
         let mut exprs = Vec::new(alloc);
         'members: loop {
@@ -60,9 +64,10 @@ impl<'t> Parser<'t> {
 
     /// Reads none or more expressions with commas between them, and the sign after them.
     #[tactic(auto, using(gh_ast::specs::Grammar::no_values, gh_ast::specs::Grammar::some_values))]
-    pub fn values(&mut self, alloc: Global, close: Sign) -> Result<Vec<Expr>, ParseError>
-        requires { close ≢ Sign.Comma }
-        ensures { IsRead (SpellsValues close (tokens_of self.old.rest.now)) (λ es. es.items) result (tokens_of self.new.rest.now) }
+    pub fn values(&mut self, alloc: Global, close: Sign) -> Result<Vec<Expr>, ReadError>
+        requires apart { close ≢ Sign.Comma }
+        requires ends { (p : Span) → goes_on (sign close p) ≡ false }
+        ensures { IsRead IsPlain (SpellsValues close) (tokens_of self.old.rest.now) (λ es. es.items) result (tokens_of self.new.rest.now) }
     {
         if let Some(_) = self.take_sign(close) {
             return Ok(Vec::new(alloc));

@@ -51,7 +51,7 @@ reverse =
       parameters = named (120 ∷ []) (at 2 19) ∷ [];
       results = named (121 ∷ []) (at 2 37) ∷ [];
       needs = segment (var 120 3 17) (null 3 20);
-      gives = segment (var 121 4 16) (null 4 19);
+      gives = segment (var 121 4 16) (null 4 19) ∷ [];
       body = Some (record { locals = named (99 ∷ []) (at 6 7) ∷ named (116 ∷ []) (at 6 10) ∷ []; statements = reverses; close = at 17 1 });
       close = at 17 1;
     }
@@ -81,7 +81,7 @@ concat =
       parameters = named (97 ∷ []) (at 2 18) ∷ named (98 ∷ []) (at 2 27) ∷ [];
       results = named (114 ∷ []) (at 2 45) ∷ [];
       needs = star (formula_first (segment (var 97 3 17) (null 3 20)) (formula_first (segment (var 98 3 35) (null 3 38)) no_formulas));
-      gives = segment (var 114 4 16) (null 4 19);
+      gives = segment (var 114 4 16) (null 4 19) ∷ [];
       body = Some (record { locals = named (110 ∷ []) (at 6 7) ∷ []; statements = concatenates; close = at 14 1 });
       close = at 14 1;
     }

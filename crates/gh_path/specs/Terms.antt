@@ -9,7 +9,7 @@ use Rattle.gh_ast.specs.declared.Expr.TheVariants.{Plain, Read}
 use Rattle.gh_ast.specs.Plain.{Test, compare, negation, conjunction, disjunction, Tests, no_tests, test_first}
 use Rattle.gh_ast.specs.Plain.{Formula, empty, comparison, points_to, cell, segment, star, cases, Formulas, no_formulas, formula_first}
 use Rattle.gh_ast.specs.Plain.{Statement, set, new, write, free, call, choice, loop, give, Statements, no_statements, statement_first, Procedure, Program}
-use Rattle.gh_ast.specs.Programs.{Name, names, name_of, parameters_of, results_of, variable_names}
+use Rattle.gh_ast.specs.Programs.{Name, names, name_of, parameters_of, results_of, variable_names, ensured}
 use Rattle.gh_path.specs.Graphs.{Check, access, entry, loop_entry, returned, loop_end, PathStep, accessed, assume, assigned, made, written, freed, called, looped, answered}
 use Rattle.gh_path.specs.Conditions.{Condition}
 
@@ -166,7 +166,7 @@ bound_inside p ts = all_bound unbound (parameters_of p) ts
 -- `outside` are the caller's bindings, in which the targets get the results' terms
 abbrev pub answered_inside : Procedure → List Name → Bindings → Terms → Terms
 answered_inside p xs outside s =
-    let after = walked p.gives (renewed (results_of p) (moved_on (walked p.needs s))) in
+    let after = walked (ensured p) (renewed (results_of p) (moved_on (walked p.needs s))) in
     rebound after (all_bound outside xs (map (λ x. term_of x after) (results_of p)))
 
 abbrev pub call_walked : Option Procedure → List Name → List ℕ → Terms → Terms

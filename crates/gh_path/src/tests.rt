@@ -46,12 +46,14 @@ fn procedure(alloc: Global, statements: Vec<Stmt>) -> Result<Procedure, AllocErr
         statements,
         close: PLACE,
     };
+    let mut gives = Vec::new(alloc);
+    gives.push(Assertion::Emp)?;
     Ok(Procedure {
         name: occ(alloc)?,
         parameters: Vec::new(alloc),
         results: Vec::new(alloc),
         needs: Assertion::Emp,
-        gives: Assertion::Emp,
+        gives,
         body: Some(Body {
             locals: Vec::new(alloc),
             block: inside,

@@ -3,7 +3,7 @@ use Rattle.std.specs.Prelude.{◌≡◌, ℕ, ◌+◌, ◌<◌, ◌≤◌, List,
 use Rattle.std.proofs.Common.{refl, sym, ◌∙◌, ap, subst, arith}
 use Rattle.gh_ast.specs.declared.Expr.{Expr}
 use Rattle.gh_ast.specs.Plain.{Formula, Procedure, Program}
-use Rattle.gh_ast.specs.Programs.{Name, names, parameters_of, results_of, variable_names}
+use Rattle.gh_ast.specs.Programs.{Name, names, parameters_of, results_of, variable_names, ensured}
 use Rattle.gh_path.specs.Graphs as path
 use Rattle.gh_path.specs.Conditions.{Condition}
 use Rattle.gh_path.specs.Terms.{Kind, value, Bindings, unbound, bound, all_bound, Terms, terms, with_value, used, term_of, followed, expr_used, expr_term, exprs_used, exprs_terms, walked, moved_on, rebound, renewed, some_assigns, callee_in, bound_inside, answered_inside, call_walked, step_walked, steps_walked, entry_walked, check_walked, no_terms, terms_of, versions_of}
@@ -98,8 +98,8 @@ call_goes (Some p) xs ts s h k =
     let first = rebound s (bound_inside p ts) in
     let sound = inside_sound p ts s h k in
     let mid = middle p first in
-    let last = walked p.gives mid in
-    let whole = goes_onto (middle_goes p first) (walked_goes p.gives mid) in
+    let last = walked (ensured p) mid in
+    let whole = goes_onto (middle_goes p first) (walked_goes (ensured p) mid) in
     let size = whole.size in
     record {
       size = whole.size;
@@ -114,14 +114,14 @@ call_inside n v (Some p) xs ts s h k =
     let first = rebound s (bound_inside p ts) in
     let sound = inside_sound p ts s h k in
     let mid = middle p first in
-    let last = walked p.gives mid in
-    let up = (goes_onto (moved (walked p.needs first)) (goes_onto (renewed_goes (results_of p) (moved_on (walked p.needs first))) (walked_goes p.gives mid))).size in
+    let last = walked (ensured p) mid in
+    let up = (goes_onto (moved (walked p.needs first)) (goes_onto (renewed_goes (results_of p) (moved_on (walked p.needs first))) (walked_goes (ensured p) mid))).size in
     let at_mid = middle_version p first in
-    let at_last = (walked_extends p.gives mid).version in
+    let at_last = (walked_extends (ensured p) mid).version in
     record {
       inside = λ l m. (
         under_inside n v p.needs first sound (omega (arith, l, up)) (omega (arith, m, at_mid, at_last)),
-        under_inside n v p.gives mid ((middle_goes p first).sound sound) l (omega (arith, m, at_last)),
+        under_inside n v (ensured p) mid ((middle_goes p first).sound sound) l (omega (arith, m, at_last)),
         omega (arith, m, at_mid, at_last),
       );
       after = sym (at_last ∙ at_mid);

@@ -8,6 +8,8 @@ mod check_tests;
 #[cfg(test)]
 mod drawing_tests;
 #[cfg(test)]
+mod fault_tests;
+#[cfg(test)]
 mod limit_tests;
 #[cfg(test)]
 mod log_tests;

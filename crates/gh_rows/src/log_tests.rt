@@ -1,20 +1,9 @@
 //! Proof logs that are written and judged.
 
 use crate::answers::{Table, answer, answers, wrong_row};
-use crate::texts::{NOP, REVERSE, SECOND, wide};
+use crate::texts::{LOG, NOP, REVERSE, SECOND, wide};
 use gh_top::status::Status;
 use std::alloc::{AllocError, Global};
-
-const LOG: &[u8] = b"grass log 1
-condition 1
-g 0
-g 15
-g 16
-g 19
-g 23
-g 24
-l
-";
 
 // A log with one change in each row.
 const DAMAGED: Table<'static> = Table {

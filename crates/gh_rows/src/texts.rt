@@ -14,6 +14,18 @@ procedure nop()
 { }
 ";
 
+// A log of it.
+pub(crate) const LOG: &[u8] = b"grass log 1
+condition 1
+g 0
+g 15
+g 16
+g 19
+g 23
+g 24
+l
+";
+
 // A list is reversed.
 pub(crate) const REVERSE: &[u8] = b"struct Node { var next: Node; }
 procedure reverse(x: Node) returns (y: Node)

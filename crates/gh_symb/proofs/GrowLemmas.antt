@@ -9,7 +9,7 @@ use Rattle.gh_ast.specs.declared.Expr.{Expr}
 use Rattle.gh_ast.specs.declared.Expr.TheVariants.{Plain, Read}
 use Rattle.gh_ast.specs.Plain.{Test, compare, negation, conjunction, disjunction, Tests, no_tests, test_first}
 use Rattle.gh_ast.specs.Plain.{Formula, empty, comparison, points_to, cell, segment, star, cases, Formulas, no_formulas, formula_first, Procedure, Program}
-use Rattle.gh_ast.specs.Programs.{Name, names, results_of}
+use Rattle.gh_ast.specs.Programs.{Name, names, results_of, ensured}
 use Rattle.gh_path.specs.Graphs.{Check, access, entry, loop_entry, returned, loop_end, PathStep, accessed, assume, assigned, made, written, freed, called, looped, answered}
 use Rattle.gh_path.specs.Terms.{Kind, next, same_kind, added, with_value, Bindings, bound, Terms, terms, used, used_as, term_of, followed, operand_used, expr_used, exprs_used, exprs_terms, test_walked, tests_walked, walked, all_walked, moved_on, rebound, renewed, callee_in, bound_inside, answered_inside, call_walked, step_walked, steps_walked, entry_walked, check_walked, some_assigns}
 
@@ -89,7 +89,7 @@ renewed_grows (x ∷ xs) s = onto (value_grows s.kinds) (renewed_grows xs (terms
 inside_grows : (p : Procedure) (xs : List Name) (b : Bindings) (s : Terms) → size s ≤ size (answered_inside p xs b s)
 inside_grows p xs b s =
     onto (walked_grows p.needs s)
-    (onto (renewed_grows (results_of p) (moved_on (walked p.needs s))) (walked_grows p.gives (renewed (results_of p) (moved_on (walked p.needs s)))))
+    (onto (renewed_grows (results_of p) (moved_on (walked p.needs s))) (walked_grows (ensured p) (renewed (results_of p) (moved_on (walked p.needs s)))))
 
 call_grows : (o : Option Procedure) (xs : List Name) (ts : List ℕ) (s : Terms) → size s ≤ size (call_walked o xs ts s)
 call_grows None xs ts s = same (size s)

@@ -16,7 +16,7 @@ nop =
       parameters = [];
       results = [];
       needs = empty;
-      gives = empty;
+      gives = empty ∷ [];
       body = Some (record { locals = []; statements = no_statements; close = at 5 3 });
       close = at 5 3;
     }
@@ -32,7 +32,7 @@ reuse =
       parameters = named (120 ∷ []) (at 2 17) ∷ [];
       results = named (121 ∷ []) (at 2 35) ∷ [];
       needs = cell (named (120 ∷ []) (at 3 16));
-      gives = star (formula_first (cell (named (121 ∷ []) (at 4 15))) (formula_first (comparison (var 120 4 22) false (var 121 4 27)) no_formulas));
+      gives = star (formula_first (cell (named (121 ∷ []) (at 4 15))) (formula_first (comparison (var 120 4 22) false (var 121 4 27)) no_formulas)) ∷ [];
       body = Some (record {
         locals = [];
         statements = statement_first (free (named (120 ∷ []) (at 6 8))) (statement_first (new (named (121 ∷ []) (at 7 3))) no_statements);
@@ -72,7 +72,7 @@ late =
       parameters = named (120 ∷ []) (at 2 16) ∷ [];
       results = named (121 ∷ []) (at 2 34) ∷ [];
       needs = empty;
-      gives = empty;
+      gives = empty ∷ [];
       body = Some (record {
         locals = named (99 ∷ []) (at 4 7) ∷ [];
         statements = statement_first (set (named (121 ∷ []) (at 5 3)) (Plain (var 120 5 8))) (statement_first (set (named (121 ∷ []) (at 6 3)) (Plain (var 99 6 8))) no_statements);

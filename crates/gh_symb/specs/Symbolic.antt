@@ -1,7 +1,7 @@
 -- A condition over terms: what its start, its steps and its check say of terms, and the terms of the variables at each state.
 use Rattle.std.specs.Prelude.{ℕ, ◌+◌, List, [], ◌∷◌, length, filter, Bool, not, cond, Option, Some, None}
 use Rattle.gh_ast.specs.Plain.{Formula, Procedure, Program}
-use Rattle.gh_ast.specs.Programs.{Name, results_of, variable_names}
+use Rattle.gh_ast.specs.Programs.{Name, results_of, variable_names, ensured}
 use Rattle.gh_path.specs.Graphs as path
 use Rattle.gh_path.specs.Conditions.{Condition}
 use Rattle.gh_path.specs.Terms.{Kind, Bindings, Terms, used, term_of, expr_used, expr_term, exprs_used, exprs_terms, walked, moved_on, rebound, renewed, some_assigns, callee_in, bound_inside, step_walked, no_terms, terms_of, versions_of, steps_walked}
@@ -37,7 +37,7 @@ abbrev pub call_parts : Option Procedure → List ℕ → Terms → TermStep
 call_parts None ts s = same
 call_parts (Some p) ts s =
     let inside = rebound s (bound_inside p ts) in
-    parts (under p.needs inside) (under p.gives (renewed (results_of p) (moved_on (walked p.needs inside))) ∷ [])
+    parts (under p.needs inside) (under (ensured p) (renewed (results_of p) (moved_on (walked p.needs inside))) ∷ [])
 
 -- what a step says, from the terms before it
 abbrev pub term_step : Program → List Name → path.PathStep → Terms → TermStep

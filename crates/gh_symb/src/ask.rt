@@ -116,7 +116,7 @@ impl<'a> Scope<'a> {
                 Ok(TermCheck::Sub(bound))
             }
             CheckKind::Return => {
-                let bound = self.bound(alloc, &procedure.gives, version)?;
+                let bound = self.bound(alloc, procedure.ensured(), version)?;
                 let asked = whole(alloc, bound)?;
                 Ok(asked)
             }

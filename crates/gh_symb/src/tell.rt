@@ -160,8 +160,9 @@ impl<'a> Scope<'a> {
         inside.walk(kinds, &callee.needs, version)?;
         let before = inside.bound(alloc, &callee.needs, version)?;
         inside.renew(kinds, callee.results.as_slice())?;
-        inside.walk(kinds, &callee.gives, version + 1)?;
-        let after = inside.bound(alloc, &callee.gives, version + 1)?;
+        let ensured = callee.ensured();
+        inside.walk(kinds, ensured, version + 1)?;
+        let after = inside.bound(alloc, ensured, version + 1)?;
         let results = inside.terms(alloc, callee.results.as_slice())?;
         self.bind_all(targets, results.as_slice())?;
         let step = part(alloc, before, after)?;

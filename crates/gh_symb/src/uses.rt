@@ -82,7 +82,7 @@ impl<'a> Scope<'a> {
             CheckKind::LoopEntry { number } | CheckKind::LoopEnd { number } => {
                 self.walk_invariant(kinds, procedure, *number, version)
             }
-            CheckKind::Return => self.walk(kinds, &procedure.gives, version),
+            CheckKind::Return => self.walk(kinds, procedure.ensured(), version),
         }
     }
 }

@@ -1,193 +1,103 @@
--- From a report to what the run promises.
-use Rattle.std.proofs.Common.{◌≡◌, ℕ, suc, ◌<◌, ◌≤◌, List, length, refl, sym, subst, arith, replicate, ◌∙◌}
-use Rattle.std.specs.Prelude.{Option, Some, None, codes, Result, Ok, Err, IfOk}
-use Rattle.std.proofs.lemmas.List.{length-replicate}
+-- From an answer to what the run promises.
+use Rattle.std.proofs.Common.{◌≡◌, ℕ, ◌+◌, ◌*◌, ◌≤◌, List, [], ◌∷◌, length, refl, sym, ap, subst, arith, ◌∙◌}
+use Rattle.std.specs.Prelude.{Option, Some, None, codes, Result, Ok, Err, IfOk, slice_get, unwrap_or}
+use Rattle.std.specs.Fmt.{decimal}
+use Rattle.std.proofs.lemmas.Fmt.{decimal_injective}
 use Rattle.std.specs.Io.KnownBytes.{Appends}
-use Rattle.gh_base.specs.Outside.{Table, Rose}
-use Rattle.gh_base.specs.Reading.{told, IsWhole, IsLonger, IsAbsent}
-use Rattle.gh_ast.specs.Plain.{Program}
+use Rattle.gh_base.specs.Outside.{Table}
+use Rattle.gh_base.specs.Reading.{told}
+use Rattle.gh_ast.specs.Plain.{Program, program_of}
+use Rattle.gh_ast.specs.declared.Program as whole
+use Rattle.gh_ast.specs.Grammar.{Spells, SpellsProgram}
+use Rattle.gh_ast.proofs.TokenLemmas.{one_whole}
+use Rattle.gh_ast.proofs.OneProgram.{one_program}
 use Rattle.gh_machine.specs.Machine.{IsGood}
-use Rattle.gh_decide.proofs.Rules.{typed_is_good}
-use Rattle.gh_draw.specs.Drawings.{line}
 use Rattle.gh_path.specs.Admitted.{IsAdmitted}
-use Rattle.gh_top.specs.Words.{IsRequest}
-use Rattle.gh_top.specs.Refusals.{Refusal, IsRefused, IsText, IsAccepted, refusal_text, too_long}
-use Rattle.gh_top.specs.Reports.{IsVerdict}
-use Rattle.gh_top.specs.Reports as verdicts
-use Rattle.gh_top.specs.Decisions.{IsDecision, SaysVerified, SaysLog, SaysStress}
-use Rattle.gh_top.specs.Decisions as decisions
-use Rattle.gh_top.specs.Listings.{IsPaths}
-use Rattle.gh_top.specs.Listings as paths
-use Rattle.gh_top.specs.Rechecks.{IsRecheck, IsRechecked}
-use Rattle.gh_top.specs.Rechecks as rechecks
-use Rattle.gh_top.specs.Replays.{IsReplay, IsJudged}
-use Rattle.gh_top.specs.Replays as replays
-use Rattle.gh_top.specs.Stress.{stress_text}
-use Rattle.gh_top.specs.Headline.{program_text, IsReport, HasResult, usage, asked, AreTold, HasAnswer, HasReport, HasReportOf, HasReportOn, HasJudged, HasRechecked, IsAnswered, Answers, IsGoodText, IsStop, IsOnFiles}
+use Rattle.gh_decide.proofs.Rules.{typed_is_good}
+use Rattle.gh_decide.proofs.Listed.{valid_logs_show_validity}
+use Rattle.gh_draw.specs.Drawings.{line}
+use Rattle.gh_top.specs.Words.{IsRequest, IsInLimits, words_of}
+use Rattle.gh_top.specs.Files.{Shows, IsRead, IsProgramRead}
+use Rattle.gh_top.specs.Fronts.{IsTextOf, IsFrontError}
+use Rattle.gh_top.specs.declared.front.FrontError.TheVariants.{Refused}
+use Rattle.gh_top.specs.Causes.{IsOnFiles}
+use Rattle.gh_top.specs.Refusals.{IsText, IsRefused, refusal_text, most_bytes}
+use Rattle.gh_top.specs.Headline.{Files, program_text, Asks, Answer, usage, refused, check_verified, check_refuted, log_verified, log_refuted, recheck_refused, recheck_verified, paths_listed, replay_refused, replay_refuted, stress_verified, stress_refuted, HasAnswer, IsGoodFor, IsWhole, IsAnswered, IsReadFault, IsWriteFault, NamesFile}
+use Rattle.gh_top.specs.Listings.{listing}
+use Rattle.gh_top.specs.Replies.{Replies, RepliesOn}
+use Rattle.gh_top.specs.declared.file.FileText.{FileText}
+use Rattle.gh_top.specs.declared.refusal.Refusal.{Refusal}
+use Rattle.gh_top.specs.declared.report.Stop.{Stop}
+use Rattle.gh_top.specs.declared.report.Stop.TheVariants as stop
 use Rattle.gh_top.specs.declared.words.Request.{Request}
 use Rattle.gh_top.specs.declared.words.Request.TheVariants.{Check, Log, Recheck, Paths, Replay, Stress}
-use Rattle.gh_top.specs.declared.run.Stop.{Stop}
-use Rattle.gh_top.specs.declared.run.Stop.TheVariants as stop
 use Rattle.gh_top.specs.declared.status.Status.{Status}
 use Rattle.gh_top.specs.declared.status.Status.TheVariants.{Verified, Listed, Refuted, Usage, ReadFault, TextRefused, LogRefused, WriteFault, OutOfMemory}
-use Rattle.gh_decide.proofs.Listed.{valid_logs_show_validity}
+use Rattle.gh_top.proofs.FileLemmas.{one_file, two_files, some_files, IsWord}
 
--- some files that are told
-pub some_files : (t : Option Table) → (files : Table) × AreTold t files
-some_files None = (λ n. None, tt)
-some_files (Some table) = (table, refl)
+-- words are one request at most
 
--- the program's text is that of a file
-abbrev pub IsOf : Request → List ℕ → Type 0
-IsOf r name = (files : Table) → program_text r files ≡ files name
+one_number : (n m : ℕ) → n ≤ 255 → m ≤ 255 → decimal n ≡ decimal m → n ≡ m
+one_number n m a b e = decimal_injective n m (omega (arith, a)) (omega (arith, b)) e
 
--- files that hold the bytes that were read
-pub whole_report : (t : Option Table) (r : Request) (name text : List ℕ) (s : Status) (u : List ℕ) → IsOf r name → IsWhole (told t name) text → HasReportOf t r (Some text) s u → HasReport t r s u
-whole_report None r name text s u of h k =
-    record { files = λ n. Some text; told = tt; second = k.second; told_second = tt; report = subst (λ o. IsReport r o k.second s u) (sym (of (λ n. Some text))) k.report }
-whole_report (Some table) r name text s u of h k =
-    record { files = table; told = refl; second = k.second; told_second = k.told; report = subst (λ o. IsReport r o k.second s u) (sym (of table ∙ h)) k.report }
+-- a number that tells the modes apart: ten times the mode's first byte, and how many follow
+abbrev key : List (List ℕ) → ℕ
+key ((x ∷ xs) ∷ ws) = x * 10 + length xs
+key _ = 0
 
-none_report : (r : Request) (second : Table) (s : Status) (u : List ℕ) → s ≡ TextRefused → u ≡ line (codes "refused: Absent") → IsReport r None second s u
-none_report (Check file) second s u a b = rw (a, b) decisions.absent
-none_report (Log file) second s u a b = rw (a, b) decisions.absent
-none_report (Recheck file log) second s u a b = rw (a, b) rechecks.absent
-none_report (Paths file) second s u a b = rw (a, b) paths.absent
-none_report (Replay file drawing) second s u a b = rw (a, b) replays.absent
-none_report (Stress n) second s u a b = rw (a, b) decisions.absent
+abbrev word : ℕ → List (List ℕ) → List ℕ
+word k words = unwrap_or (slice_get words k) []
 
--- files without the name
-pub absent_report : (t : Option Table) (r : Request) (name : List ℕ) (s : Status) (u : List ℕ) → IsOf r name → IsAbsent (told t name) → s ≡ TextRefused → u ≡ line (codes "refused: Absent") → HasReport t r s u
-absent_report None r name s u of h a b =
-    let files : Table = λ n. None in
-    record { files = files; told = tt; second = files; told_second = tt; report = subst (λ o. IsReport r o files s u) (sym (of files)) (none_report r files s u a b) }
-absent_report (Some table) r name s u of h a b =
-    record { files = table; told = refl; second = table; told_second = refl; report = subst (λ o. IsReport r o table s u) (sym (of table ∙ h)) (none_report r table s u a b) }
+one_words : (r q : Request) → IsInLimits r → IsInLimits q → words_of r ≡ words_of q → r ≡ q
+one_words (Check file) (Check file2) h k e = let d : file ≡ file2 = ap (word 1) e in ap Check d
+one_words (Check file) (Log file2) h k e = let d : 994 ≡ 1082 = ap key e in absurd (omega (arith, d))
+one_words (Check file) (Recheck file2 log2) h k e = let d : 994 ≡ 1146 = ap key e in absurd (omega (arith, d))
+one_words (Check file) (Paths file2) h k e = let d : 994 ≡ 1124 = ap key e in absurd (omega (arith, d))
+one_words (Check file) (Replay file2 drawing2) h k e = let d : 994 ≡ 1145 = ap key e in absurd (omega (arith, d))
+one_words (Check file) (Stress n2) h k e = let d : 994 ≡ 1155 = ap key e in absurd (omega (arith, d))
+one_words (Log file) (Check file2) h k e = let d : 1082 ≡ 994 = ap key e in absurd (omega (arith, d))
+one_words (Log file) (Log file2) h k e = let d : file ≡ file2 = ap (word 1) e in ap Log d
+one_words (Log file) (Recheck file2 log2) h k e = let d : 1082 ≡ 1146 = ap key e in absurd (omega (arith, d))
+one_words (Log file) (Paths file2) h k e = let d : 1082 ≡ 1124 = ap key e in absurd (omega (arith, d))
+one_words (Log file) (Replay file2 drawing2) h k e = let d : 1082 ≡ 1145 = ap key e in absurd (omega (arith, d))
+one_words (Log file) (Stress n2) h k e = let d : 1082 ≡ 1155 = ap key e in absurd (omega (arith, d))
+one_words (Recheck file log) (Check file2) h k e = let d : 1146 ≡ 994 = ap key e in absurd (omega (arith, d))
+one_words (Recheck file log) (Log file2) h k e = let d : 1146 ≡ 1082 = ap key e in absurd (omega (arith, d))
+one_words (Recheck file log) (Recheck file2 log2) h k e = let d : file ≡ file2 = ap (word 1) e in let f : log ≡ log2 = ap (word 2) e in rw (d, f) refl
+one_words (Recheck file log) (Paths file2) h k e = let d : 1146 ≡ 1124 = ap key e in absurd (omega (arith, d))
+one_words (Recheck file log) (Replay file2 drawing2) h k e = let d : 1146 ≡ 1145 = ap key e in absurd (omega (arith, d))
+one_words (Recheck file log) (Stress n2) h k e = let d : 1146 ≡ 1155 = ap key e in absurd (omega (arith, d))
+one_words (Paths file) (Check file2) h k e = let d : 1124 ≡ 994 = ap key e in absurd (omega (arith, d))
+one_words (Paths file) (Log file2) h k e = let d : 1124 ≡ 1082 = ap key e in absurd (omega (arith, d))
+one_words (Paths file) (Recheck file2 log2) h k e = let d : 1124 ≡ 1146 = ap key e in absurd (omega (arith, d))
+one_words (Paths file) (Paths file2) h k e = let d : file ≡ file2 = ap (word 1) e in ap Paths d
+one_words (Paths file) (Replay file2 drawing2) h k e = let d : 1124 ≡ 1145 = ap key e in absurd (omega (arith, d))
+one_words (Paths file) (Stress n2) h k e = let d : 1124 ≡ 1155 = ap key e in absurd (omega (arith, d))
+one_words (Replay file drawing) (Check file2) h k e = let d : 1145 ≡ 994 = ap key e in absurd (omega (arith, d))
+one_words (Replay file drawing) (Log file2) h k e = let d : 1145 ≡ 1082 = ap key e in absurd (omega (arith, d))
+one_words (Replay file drawing) (Recheck file2 log2) h k e = let d : 1145 ≡ 1146 = ap key e in absurd (omega (arith, d))
+one_words (Replay file drawing) (Paths file2) h k e = let d : 1145 ≡ 1124 = ap key e in absurd (omega (arith, d))
+one_words (Replay file drawing) (Replay file2 drawing2) h k e = let d : file ≡ file2 = ap (word 1) e in let f : drawing ≡ drawing2 = ap (word 2) e in rw (d, f) refl
+one_words (Replay file drawing) (Stress n2) h k e = let d : 1145 ≡ 1155 = ap key e in absurd (omega (arith, d))
+one_words (Stress n) (Check file2) h k e = let d : 1155 ≡ 994 = ap key e in absurd (omega (arith, d))
+one_words (Stress n) (Log file2) h k e = let d : 1155 ≡ 1082 = ap key e in absurd (omega (arith, d))
+one_words (Stress n) (Recheck file2 log2) h k e = let d : 1155 ≡ 1146 = ap key e in absurd (omega (arith, d))
+one_words (Stress n) (Paths file2) h k e = let d : 1155 ≡ 1124 = ap key e in absurd (omega (arith, d))
+one_words (Stress n) (Replay file2 drawing2) h k e = let d : 1155 ≡ 1145 = ap key e in absurd (omega (arith, d))
+one_words (Stress n) (Stress n2) h k e = let d : decimal n ≡ decimal n2 = ap (word 1) e in ap Stress (one_number n n2 h.1 k.1 d)
 
--- a text is refused whatever is asked of it
-pub refused_report : (r : Request) (text : List ℕ) (second : Table) (x : Refusal) (s : Status) (u : List ℕ) → IsRefused text x → s ≡ TextRefused → u ≡ refusal_text x → IsReport r (Some text) second s u
-refused_report (Check file) text second x s u h a b = rw (a, b) (decisions.refused x h)
-refused_report (Log file) text second x s u h a b = rw (a, b) (decisions.refused x h)
-refused_report (Recheck file log) text second x s u h a b = rw (a, b) (rechecks.refused x h)
-refused_report (Paths file) text second x s u h a b = rw (a, b) (paths.refused x h)
-refused_report (Replay file drawing) text second x s u h a b = rw (a, b) (replays.refused x h)
-refused_report (Stress n) text second x s u h a b = rw (a, b) (decisions.refused x h)
+pub one_request : (words : List (List ℕ)) (r q : Request) → IsRequest words r → IsRequest words q → r ≡ q
+one_request words r q a b = one_words r q a.spelled.limits b.spelled.limits (sym a.spelled.words_are ∙ b.spelled.words_are)
 
-pub refused_of : (t : Option Table) (r : Request) (text : List ℕ) (x : Refusal) (s : Status) (u : List ℕ) → IsRefused text x → s ≡ TextRefused → u ≡ refusal_text x → HasReportOf t r (Some text) s u
-refused_of t r text x s u h a b = let files = some_files t in record { second = files.0; told = files.1; report = refused_report r text files.0 x s u h a b }
+one_spelled : (text : List ℕ) (P Q : Program) → Spells text P → Spells text Q → P ≡ Q
+one_spelled text P Q a b = one_program a.0 P Q a.2 (subst (λ z. SpellsProgram z Q) (sym (one_whole text a.0 b.0 a.1 b.1)) b.2)
 
-pub refused_on : (t : Option Table) (r : Request) (P : Program) (x : Refusal) (s : Status) (u : List ℕ) → ((text : List ℕ) → IsText text P → IsRefused text x) → s ≡ TextRefused → u ≡ refusal_text x → HasReportOn t r P s u
-refused_on t r P x s u h a b = let files = some_files t in record { second = files.0; told = files.1; report = λ text spelled. refused_report r text files.0 x s u (h text spelled) a b }
-
--- what holds of a program holds of each text that spells it
-pub spelled_report : (t : Option Table) (r : Request) (P : Program) (text : List ℕ) (s : Status) (u : List ℕ) → IsText text P → HasReportOn t r P s u → HasReportOf t r (Some text) s u
-spelled_report t r P text s u spelled k = record { second = k.second; told = k.told; report = k.report text spelled }
-
--- an admitted program is decided
-pub checked_on : (t : Option Table) (r : Request) (file : List ℕ) → r ≡ Check file → (P : Program) (s : Status) (u : List ℕ) → IsAdmitted P → IsVerdict P (SaysVerified P) s u → HasReportOn t r P s u
-checked_on t r file asks P s u admitted k =
-    let files = some_files t in
-    record { second = files.0; told = files.1; report = λ text spelled. rw asks (decisions.decided P (record { spelled = spelled; admitted = admitted }) k) }
-
-pub logged_on : (t : Option Table) (r : Request) (file : List ℕ) → r ≡ Log file → (P : Program) (s : Status) (u : List ℕ) → IsAdmitted P → IsVerdict P (SaysLog P) s u → HasReportOn t r P s u
-logged_on t r file asks P s u admitted k =
-    let files = some_files t in
-    record { second = files.0; told = files.1; report = λ text spelled. rw asks (decisions.decided P (record { spelled = spelled; admitted = admitted }) k) }
-
-pub stressed_on : (t : Option Table) (r : Request) (n : ℕ) → r ≡ Stress n → (P : Program) (s : Status) (u : List ℕ) → IsAdmitted P → IsVerdict P (SaysStress n P) s u → HasReportOn t r P s u
-stressed_on t r n asks P s u admitted k =
-    let files = some_files t in
-    record { second = files.0; told = files.1; report = λ text spelled. rw asks (decisions.decided P (record { spelled = spelled; admitted = admitted }) k) }
-
--- an admitted program is listed
-pub listed_on : (t : Option Table) (r : Request) (file : List ℕ) → r ≡ Paths file → (P : Program) (s : Status) (u : List ℕ) → IsAdmitted P → s ≡ Listed → u ≡ paths.listing P → HasReportOn t r P s u
-listed_on t r file asks P s u admitted a b =
-    let files = some_files t in
-    record { second = files.0; told = files.1; report = λ text spelled. rw (asks, a, b) (paths.listed P (record { spelled = spelled; admitted = admitted })) }
-
--- a drawing is judged for an admitted program
-pub judged_on : (t : Option Table) (r : Request) (file drawing : List ℕ) → r ≡ Replay file drawing → (P : Program) (s : Status) (u : List ℕ) → IsAdmitted P → HasJudged t drawing P s u → HasReportOn t r P s u
-judged_on t r file drawing asks P s u admitted k = record { second = k.second; told = k.told; report = λ text spelled. rw asks (replays.judged P (record { spelled = spelled; admitted = admitted }) k.judged) }
-
--- a log is judged for an admitted program
-pub rechecked_on : (t : Option Table) (r : Request) (file log : List ℕ) → r ≡ Recheck file log → (P : Program) (s : Status) (u : List ℕ) → IsAdmitted P → HasRechecked t log P s u → HasReportOn t r P s u
-rechecked_on t r file log asks P s u admitted k = record { second = k.second; told = k.told; report = λ text spelled. rw asks (rechecks.judged P (record { spelled = spelled; admitted = admitted }) k.judged) }
-
-longer_than : (n : ℕ) → (text : List ℕ) × (n < length text)
-longer_than n = (replicate (suc n) 0, let e : length (replicate {A = ℕ} (suc n) 0) ≡ suc n = length-replicate {A = ℕ} (suc n) 0 in omega arith)
-
-long_at : (n : ℕ) (t : Option Table) (name : List ℕ) → IsLonger (told t name) n → (files : Table) × AreTold t files × ((text : List ℕ) × (files name ≡ Some text) × (n < length text))
-long_at n None name h = let l = longer_than n in (λ m. Some l.0, tt, (l.0, refl, l.1))
-long_at n (Some table) name h = (table, refl, h)
-
--- files that hold too many bytes
-pub long_report : (t : Option Table) (r : Request) (name : List ℕ) (s : Status) (u : List ℕ) → IsOf r name → IsLonger (told t name) 1048576 → s ≡ TextRefused → u ≡ line (codes "refused: TooLong") → HasReport t r s u
-long_report t r name s u of h a b =
-    let l = long_at 1048576 t name h in
-    record { files = l.0; told = l.1; second = l.0; told_second = l.1; report = subst (λ o. IsReport r o l.0 s u) (sym (of l.0 ∙ l.2.1)) (refused_report r l.2.0 l.0 too_long s u l.2.2 a b) }
-
--- the text that a number makes
-pub made_report : (t : Option Table) (r : Request) (n : ℕ) (text : List ℕ) (s : Status) (u : List ℕ) → r ≡ Stress n → text ≡ stress_text n → HasReportOf t r (Some text) s u → HasReport t r s u
-made_report t r n text s u asks made k =
-    let files = some_files t in
-    let bytes : program_text r files.0 ≡ Some text = rw (asks, made) refl in
-    record { files = files.0; told = files.1; second = k.second; told_second = k.told; report = subst (λ o. IsReport r o k.second s u) (sym bytes) k.report }
-
--- drawing files: read to their end, absent, too long
-
-pub whole_drawing : (t : Option Table) (name : List ℕ) (P : Program) (text : List ℕ) (s : Status) (u : List ℕ) → IsWhole (told t name) text → IsJudged P (Some text) s u → HasJudged t name P s u
-whole_drawing None name P text s u h k = record { second = λ n. Some text; told = tt; judged = k }
-whole_drawing (Some table) name P text s u h k = record { second = table; told = refl; judged = subst (λ o. IsJudged P o s u) (sym h) k }
-
-pub absent_drawing : (t : Option Table) (name : List ℕ) (P : Program) (s : Status) (u : List ℕ) → IsAbsent (told t name) → s ≡ LogRefused → u ≡ line (codes "refused: drawing Absent") → HasJudged t name P s u
-absent_drawing None name P s u h a b = record { second = λ n. None; told = tt; judged = rw (a, b) replays.absent }
-absent_drawing (Some table) name P s u h a b = record { second = table; told = refl; judged = subst (λ o. IsJudged P o s u) (sym h) (rw (a, b) replays.absent) }
-
-long_judged : (n : ℕ) (P : Program) (text : List ℕ) (s : Status) (u : List ℕ) → n < length text → n ≡ replays.most_drawn → s ≡ LogRefused → u ≡ line (codes "refused: drawing TooLong") → IsJudged P (Some text) s u
-long_judged n P text s u l e a b = rw (a, b) (replays.too_long (subst (λ m. m < length text) e l))
-
-pub long_drawing : (n : ℕ) (t : Option Table) (name : List ℕ) (P : Program) (s : Status) (u : List ℕ) → n ≡ replays.most_drawn → IsLonger (told t name) n → s ≡ LogRefused → u ≡ line (codes "refused: drawing TooLong") → HasJudged t name P s u
-long_drawing n t name P s u e h a b =
-    let l = long_at n t name h in
-    record { second = l.0; told = l.1; judged = subst (λ o. IsJudged P o s u) (sym l.2.1) (long_judged n P l.2.0 s u l.2.2 e a b) }
-
--- log files: the same
-
-pub whole_log : (t : Option Table) (name : List ℕ) (P : Program) (text : List ℕ) (s : Status) (u : List ℕ) → IsWhole (told t name) text → IsRechecked P (Some text) s u → HasRechecked t name P s u
-whole_log None name P text s u h k = record { second = λ n. Some text; told = tt; judged = k }
-whole_log (Some table) name P text s u h k = record { second = table; told = refl; judged = subst (λ o. IsRechecked P o s u) (sym h) k }
-
-pub absent_log : (t : Option Table) (name : List ℕ) (P : Program) (s : Status) (u : List ℕ) → IsAbsent (told t name) → s ≡ LogRefused → u ≡ line (codes "refused: log Absent") → HasRechecked t name P s u
-absent_log None name P s u h a b = record { second = λ n. None; told = tt; judged = rw (a, b) rechecks.absent }
-absent_log (Some table) name P s u h a b = record { second = table; told = refl; judged = subst (λ o. IsRechecked P o s u) (sym h) (rw (a, b) rechecks.absent) }
-
-long_rechecked : (n : ℕ) (P : Program) (text : List ℕ) (s : Status) (u : List ℕ) → n < length text → n ≡ rechecks.most_logged → s ≡ LogRefused → u ≡ line (codes "refused: log TooLong") → IsRechecked P (Some text) s u
-long_rechecked n P text s u l e a b = rw (a, b) (rechecks.too_long (subst (λ m. m < length text) e l))
-
-pub long_log : (n : ℕ) (t : Option Table) (name : List ℕ) (P : Program) (s : Status) (u : List ℕ) → n ≡ rechecks.most_logged → IsLonger (told t name) n → s ≡ LogRefused → u ≡ line (codes "refused: log TooLong") → HasRechecked t name P s u
-long_log n t name P s u e h a b =
-    let l = long_at n t name h in
-    record { second = l.0; told = l.1; judged = subst (λ o. IsRechecked P o s u) (sym l.2.1) (long_rechecked n P l.2.0 s u l.2.2 e a b) }
-
--- a fault that comes later is one that comes from the beginning on
-rose_later : (a b c : ℕ) → a ≤ b → Rose b c → Rose a c
-rose_later a b c h r = omega (arith, h, r)
-
-pub stop_later : (a b c : ℕ) (s : Stop) → a ≤ b → IsStop b c s → IsStop a c s
-stop_later a b c stop.ReadFault h r = rose_later a b c h r
-stop_later a b c stop.OutOfMemory h r = tt
-
-pub request_answer : (t : Option Table) (words : List (List ℕ)) (r : Request) (s : Status) (u : List ℕ) → IsRequest words r → HasReport t r s u → HasAnswer t words s u
-request_answer t words r s u asks k = record { files = k.files; told = k.told; second = k.second; told_second = k.told_second; result = asked r asks k.report }
-
--- the request of a file is about files
-pub on_files : (r : Request) (name : List ℕ) → IsOf r name → IsOnFiles r
-on_files (Check file) name of = tt
-on_files (Log file) name of = tt
-on_files (Recheck file log) name of = tt
-on_files (Paths file) name of = tt
-on_files (Replay file drawing) name of = tt
-on_files (Stress n) name of = let none : Some (stress_text n) ≡ None = of (λ m. None) in absurd cc
+pub one_program_asked : (words : List (List ℕ)) (files : Files) (r q : Request) (P Q : Program) → Asks words files r P → Asks words files q Q → P ≡ Q
+one_program_asked words files r q P Q a b =
+    let same = one_request words r q a.request b.request in
+    let texts : Some a.text ≡ Some b.text = sym a.bytes ∙ ap (λ x. program_text x files) same ∙ b.bytes in
+    let text : a.text ≡ b.text = cc in
+    one_spelled a.text P Q a.accepted.spelled.spells (subst (λ t. Spells t Q) (sym text) b.accepted.spelled.spells)
 
 -- a status that comes with a text
 pub record IsSaid (s : Status) : Type 0 where
@@ -213,138 +123,151 @@ said_listed = record { no_read_fault = λ e. absurd cc; no_write_fault = λ e. a
 said_usage : IsSaid Usage
 said_usage = record { no_read_fault = λ e. absurd cc; no_write_fault = λ e. absurd cc; no_want = λ e. absurd cc }
 
-said_verdict : (P : Program) (Says : List ℕ → Type 0) (s : Status) (u : List ℕ) → IsVerdict P Says s u → IsSaid s
-said_verdict P Says s u (verdicts.verified v w) = said_verified
-said_verdict P Says s u (verdicts.refuted f) = said_refuted
-
-said_decision : (Says : Program → List ℕ → Type 0) (o : Option (List ℕ)) (s : Status) (u : List ℕ) → IsDecision Says o s u → IsSaid s
-said_decision Says o s u decisions.absent = said_text_refused
-said_decision Says o s u (decisions.refused r h) = said_text_refused
-said_decision Says o s u (decisions.decided P a v) = said_verdict P (Says P) s u v
-
-said_paths : (o : Option (List ℕ)) (s : Status) (u : List ℕ) → IsPaths o s u → IsSaid s
-said_paths o s u paths.absent = said_text_refused
-said_paths o s u (paths.refused r h) = said_text_refused
-said_paths o s u (paths.listed P a) = said_listed
-
-said_judged : (P : Program) (o : Option (List ℕ)) (s : Status) (u : List ℕ) → IsJudged P o s u → IsSaid s
-said_judged P o s u replays.absent = said_log_refused
-said_judged P o s u (replays.too_long l) = said_log_refused
-said_judged P o s u (replays.no_drawing l n) = said_log_refused
-said_judged P o s u (replays.fails n k xs c l f a e) = said_log_refused
-said_judged P o s u (replays.refutes n xs c l f a e) = said_refuted
-
-said_replay : (o d : Option (List ℕ)) (s : Status) (u : List ℕ) → IsReplay o d s u → IsSaid s
-said_replay o d s u replays.absent = said_text_refused
-said_replay o d s u (replays.refused r h) = said_text_refused
-said_replay o d s u (replays.judged P a j) = said_judged P d s u j
-
-said_rechecked : (P : Program) (o : Option (List ℕ)) (s : Status) (u : List ℕ) → IsRechecked P o s u → IsSaid s
-said_rechecked P o s u rechecks.absent = said_log_refused
-said_rechecked P o s u (rechecks.too_long l) = said_log_refused
-said_rechecked P o s u (rechecks.outside k l f) = said_log_refused
-said_rechecked P o s u (rechecks.other_number log l n) = said_log_refused
-said_rechecked P o s u (rechecks.fails log number at l n f) = said_log_refused
-said_rechecked P o s u (rechecks.valid log l v) = said_verified
-
-said_recheck : (o d : Option (List ℕ)) (s : Status) (u : List ℕ) → IsRecheck o d s u → IsSaid s
-said_recheck o d s u rechecks.absent = said_text_refused
-said_recheck o d s u (rechecks.refused r h) = said_text_refused
-said_recheck o d s u (rechecks.judged P a j) = said_rechecked P d s u j
-
-said_report : (r : Request) (o : Option (List ℕ)) (second : Table) (s : Status) (u : List ℕ) → IsReport r o second s u → IsSaid s
-said_report (Check file) o second s u k = said_decision SaysVerified o s u k
-said_report (Log file) o second s u k = said_decision SaysLog o s u k
-said_report (Recheck file log) o second s u k = said_recheck o (second log) s u k
-said_report (Paths file) o second s u k = said_paths o s u k
-said_report (Replay file drawing) o second s u k = said_replay o (second drawing) s u k
-said_report (Stress n) o second s u k = said_decision (SaysStress n) o s u k
-
-said_result : (words : List (List ℕ)) (files second : Table) (s : Status) (u : List ℕ) → HasResult words files second s u → IsSaid s
-said_result words files second s u (usage h) = said_usage
-said_result words files second s u (asked r asks k) = said_report r (program_text r files) second s u k
-
-pub said : (t : Option Table) (words : List (List ℕ)) (s : Status) (u : List ℕ) → HasAnswer t words s u → IsSaid s
-said t words s u a = said_result words a.files a.second s u a.result
+pub said : (words : List (List ℕ)) (files : Files) (s : Status) (u : List ℕ) → Answer words files s u → IsSaid s
+said words files s u (usage h) = said_usage
+said words files s u (refused x a h) = said_text_refused
+said words files s u (check_verified a v) = said_verified
+said words files s u (check_refuted a f) = said_refuted
+said words files s u (log_verified log a v l) = said_verified
+said words files s u (log_refuted a f) = said_refuted
+said words files s u (recheck_refused a w) = said_log_refused
+said words files s u (recheck_verified a v) = said_verified
+said words files s u (paths_listed a) = said_listed
+said words files s u (replay_refused a w) = said_log_refused
+said words files s u (replay_refuted a f) = said_refuted
+said words files s u (stress_verified a v) = said_verified
+said words files s u (stress_refuted a f) = said_refuted
 
 -- a program that is verified is good
-record IsGoodBytes (o : Option (List ℕ)) : Type 0 where
-  text : List ℕ
-  program : Program
-  bytes : o ≡ Some text
-  accepted : IsAccepted text program
-  good : IsGood program
 
-good_verdict : (P : Program) (Says : List ℕ → Type 0) (s : Status) (u : List ℕ) → IsAdmitted P → IsVerdict P Says s u → s ≡ Verified → IsGood P
-good_verdict P Says s u admitted (verdicts.verified v w) e = typed_is_good P admitted.typed v
-good_verdict P Says s u admitted (verdicts.refuted f) e = absurd cc
+good_one : (words : List (List ℕ)) (files : Files) (r : Request) (P : Program) → Asks words files r P → IsGood P → IsGoodFor words files
+good_one words files r P a g q Q b = subst IsGood (one_program_asked words files r q P Q a b) g
 
-good_decision : (Says : Program → List ℕ → Type 0) (o : Option (List ℕ)) (s : Status) (u : List ℕ) → IsDecision Says o s u → s ≡ Verified → IsGoodBytes o
-good_decision Says o s u decisions.absent e = absurd cc
-good_decision Says o s u (decisions.refused r h) e = absurd cc
-good_decision Says _ s u (decisions.decided {text = text} P a v) e = record { text = text; program = P; bytes = refl; accepted = a; good = good_verdict P (Says P) s u a.admitted v e }
+pub good : (words : List (List ℕ)) (files : Files) (s : Status) (u : List ℕ) → Answer words files s u → s ≡ Verified → IsGoodFor words files
+good words files s u (usage h) e = absurd cc
+good words files s u (refused x a h) e = absurd cc
+good words files s u (check_verified a v) e = good_one words files _ _ a (typed_is_good _ a.accepted.admitted.typed v)
+good words files s u (check_refuted a f) e = absurd cc
+good words files s u (log_verified log a v l) e = good_one words files _ _ a (typed_is_good _ a.accepted.admitted.typed v)
+good words files s u (log_refuted a f) e = absurd cc
+good words files s u (recheck_refused a w) e = absurd cc
+good words files s u (recheck_verified a v) e = good_one words files _ _ a (typed_is_good _ a.accepted.admitted.typed (valid_logs_show_validity _ v.log a.accepted.admitted.typed v.valid))
+good words files s u (paths_listed a) e = absurd cc
+good words files s u (replay_refused a w) e = absurd cc
+good words files s u (replay_refuted a f) e = absurd cc
+good words files s u (stress_verified a v) e = good_one words files _ _ a (typed_is_good _ a.accepted.admitted.typed v)
+good words files s u (stress_refuted a f) e = absurd cc
 
-good_rechecked : (P : Program) (o : Option (List ℕ)) (s : Status) (u : List ℕ) → IsAdmitted P → IsRechecked P o s u → s ≡ Verified → IsGood P
-good_rechecked P o s u admitted rechecks.absent e = absurd cc
-good_rechecked P o s u admitted (rechecks.too_long l) e = absurd cc
-good_rechecked P o s u admitted (rechecks.outside k l f) e = absurd cc
-good_rechecked P o s u admitted (rechecks.other_number log l n) e = absurd cc
-good_rechecked P o s u admitted (rechecks.fails log number at l n f) e = absurd cc
-good_rechecked P o s u admitted (rechecks.valid log l v) e = typed_is_good P admitted.typed (valid_logs_show_validity P log admitted.typed v)
+pub is_whole : (t : Option Table) (words : List (List ℕ)) (old new : Option (List ℕ)) (s : Status) (u : List ℕ) → HasAnswer t words s u → Appends old new u → IsWhole t words old new s
+is_whole t words old new s u a w = record { text = u; given = a; written = w; good = λ e. good words a.files s u a.answer e }
 
-good_recheck : (o d : Option (List ℕ)) (s : Status) (u : List ℕ) → IsRecheck o d s u → s ≡ Verified → IsGoodBytes o
-good_recheck o d s u rechecks.absent e = absurd cc
-good_recheck o d s u (rechecks.refused r h) e = absurd cc
-good_recheck _ d s u (rechecks.judged {text = text} P a j) e = record { text = text; program = P; bytes = refl; accepted = a; good = good_rechecked P d s u a.admitted j e }
-
-never_verified : (o : Option (List ℕ)) (s : Status) (u : List ℕ) → IsPaths o s u → s ≡ Verified → ⊥
-never_verified o s u paths.absent e = absurd cc
-never_verified o s u (paths.refused r h) e = absurd cc
-never_verified o s u (paths.listed P a) e = absurd cc
-
-judged_not_verified : (P : Program) (o : Option (List ℕ)) (s : Status) (u : List ℕ) → IsJudged P o s u → s ≡ Verified → ⊥
-judged_not_verified P o s u replays.absent e = absurd cc
-judged_not_verified P o s u (replays.too_long l) e = absurd cc
-judged_not_verified P o s u (replays.no_drawing l n) e = absurd cc
-judged_not_verified P o s u (replays.fails n k xs c l f a h) e = absurd cc
-judged_not_verified P o s u (replays.refutes n xs c l f a h) e = absurd cc
-
-replay_not_verified : (o d : Option (List ℕ)) (s : Status) (u : List ℕ) → IsReplay o d s u → s ≡ Verified → ⊥
-replay_not_verified o d s u replays.absent e = absurd cc
-replay_not_verified o d s u (replays.refused r h) e = absurd cc
-replay_not_verified o d s u (replays.judged P a j) e = judged_not_verified P d s u j e
-
-good_bytes : (r : Request) (o : Option (List ℕ)) (second : Table) (s : Status) (u : List ℕ) → IsReport r o second s u → s ≡ Verified → IsGoodBytes o
-good_bytes (Check file) o second s u k e = good_decision SaysVerified o s u k e
-good_bytes (Log file) o second s u k e = good_decision SaysLog o s u k e
-good_bytes (Recheck file log) o second s u k e = good_recheck o (second log) s u k e
-good_bytes (Paths file) o second s u k e = absurd (never_verified o s u k e)
-good_bytes (Replay file drawing) o second s u k e = absurd (replay_not_verified o (second drawing) s u k e)
-good_bytes (Stress n) o second s u k e = good_decision (SaysStress n) o s u k e
-
-good_result : (words : List (List ℕ)) (files second : Table) (s : Status) (u : List ℕ) → HasResult words files second s u → s ≡ Verified → IsGoodText words files
-good_result words files second s u (usage h) e = absurd cc
-good_result words files second s u (asked r asks k) e =
-    let g = good_bytes r (program_text r files) second s u k e in
-    record { request = r; asked = asks; text = g.text; bytes = g.bytes; program = g.program; accepted = g.accepted; good = g.good }
-
-pub is_answered : (t : Option Table) (words : List (List ℕ)) (old new : Option (List ℕ)) (s : Status) (u : List ℕ) → HasAnswer t words s u → Appends old new u → IsAnswered t words old new s
-is_answered t words old new s u a w = record { text = u; answer = a; written = w; good = λ e. good_result words a.files a.second s u a.result e }
-
-pub answered : (t : Option Table) (words : List (List ℕ)) (old new : Option (List ℕ)) (s : Status) (u : List ℕ) → HasAnswer t words s u → Appends old new u → Answers t words old new s
-answered t words old new Verified u a w = is_answered t words old new Verified u a w
-answered t words old new Listed u a w = is_answered t words old new Listed u a w
-answered t words old new Refuted u a w = is_answered t words old new Refuted u a w
-answered t words old new Usage u a w = is_answered t words old new Usage u a w
+pub answered : (t : Option Table) (words : List (List ℕ)) (old new : Option (List ℕ)) (s : Status) (u : List ℕ) → HasAnswer t words s u → Appends old new u → IsAnswered t words old new s
+answered t words old new Verified u a w = is_whole t words old new Verified u a w
+answered t words old new Listed u a w = is_whole t words old new Listed u a w
+answered t words old new Refuted u a w = is_whole t words old new Refuted u a w
+answered t words old new Usage u a w = is_whole t words old new Usage u a w
 answered t words old new ReadFault u a w = tt
-answered t words old new TextRefused u a w = is_answered t words old new TextRefused u a w
-answered t words old new LogRefused u a w = is_answered t words old new LogRefused u a w
+answered t words old new TextRefused u a w = is_whole t words old new TextRefused u a w
+answered t words old new LogRefused u a w = is_whole t words old new LogRefused u a w
 answered t words old new WriteFault u a w = tt
 answered t words old new OutOfMemory u a w = tt
 
+-- the counts stand still where an answer is given
+
+pub calm_read : (words : List (List ℕ)) (before now : ℕ) (old new : Option (List ℕ)) (s : Status) → IsSaid s → now ≡ before → IsReadFault words before now old new s
+calm_read words before now old new Verified h e = e
+calm_read words before now old new Listed h e = e
+calm_read words before now old new Refuted h e = e
+calm_read words before now old new Usage h e = e
+calm_read words before now old new ReadFault h e = absurd (h.no_read_fault refl)
+calm_read words before now old new TextRefused h e = e
+calm_read words before now old new LogRefused h e = e
+calm_read words before now old new WriteFault h e = e
+calm_read words before now old new OutOfMemory h e = e
+
+pub calm_write : (t : Option Table) (words : List (List ℕ)) (before now : ℕ) (old new : Option (List ℕ)) (s : Status) → IsSaid s → now ≡ before → IsWriteFault t words before now old new s
+calm_write t words before now old new Verified h e = e
+calm_write t words before now old new Listed h e = e
+calm_write t words before now old new Refuted h e = e
+calm_write t words before now old new Usage h e = e
+calm_write t words before now old new ReadFault h e = e
+calm_write t words before now old new TextRefused h e = e
+calm_write t words before now old new LogRefused h e = e
+calm_write t words before now old new WriteFault h e = absurd (h.no_write_fault refl)
+calm_write t words before now old new OutOfMemory h e = e
+
+-- the answers
+
 pub usage_answer : (t : Option Table) (words : List (List ℕ)) (u : List ℕ) → ((r : Request) → IsRequest words r → ⊥) → u ≡ line (codes "refused: usage") → HasAnswer t words Usage u
-usage_answer t words u h e = let files = some_files t in record { files = files.0; told = files.1; second = files.0; told_second = files.1; result = rw e (usage h) }
+usage_answer None words u h e = record { files = λ k. None; told = tt; answer = rw e (usage h) }
+usage_answer (Some table) words u h e = let f = some_files table words in record { files = f.0; told = f.1; answer = rw e (usage h) }
+
+-- the program text is refused
+pub text_refused : (t : Option Table) (r : Request) (file : FileText) (x : Refusal) (s : Status) (u : List ℕ) → IsProgramRead t r file
+    → ((bytes : Option (List ℕ)) → Shows most_bytes bytes file → IsRefused bytes x) → s ≡ TextRefused → u ≡ refusal_text x → (words : List (List ℕ)) → IsRequest words r → HasAnswer t words s u
+text_refused t r file x s u read why a b words asks =
+    let f = one_file t words r read.bytes asks read.are in
+    record { files = f.0; told = f.1; answer = rw (a, b) (refused x asks (subst (λ o. IsRefused o x) (sym f.2) (why read.bytes read.shows))) }
+
+pub asks_of : (words : List (List ℕ)) (files : Files) (r : Request) (P : Program) (bytes : Option (List ℕ)) → IsRequest words r → program_text r files ≡ bytes → IsTextOf bytes P → IsAdmitted P → Asks words files r P
+asks_of words files r P bytes asks e t admitted = record { request = asks; text = t.text; bytes = e ∙ t.bytes_are; accepted = record { spelled = t.spelled; admitted = admitted } }
+
+-- a mode replies
+pub replied : (t : Option Table) (r : Request) (file : FileText) (P : Program) (s : Status) (u : List ℕ) → IsProgramRead t r file → ((bytes : Option (List ℕ)) → Shows most_bytes bytes file → IsTextOf bytes P)
+    → IsAdmitted P → Replies r P s u → (words : List (List ℕ)) → IsRequest words r → HasAnswer t words s u
+replied t r file P s u read front admitted k words asks =
+    let f = one_file t words r read.bytes asks read.are in
+    record { files = f.0; told = f.1; answer = k words f.0 (asks_of words f.0 r P read.bytes asks f.2 (front read.bytes read.shows) admitted) }
+
+-- a mode with a second file replies
+pub replied_on : (t : Option Table) (r : Request) (file second : FileText) (name : List ℕ) (limit : ℕ) (P : Program) (s : Status) (u : List ℕ) → IsProgramRead t r file
+    → ((bytes : Option (List ℕ)) → Shows most_bytes bytes file → IsTextOf bytes P) → IsAdmitted P → IsRead (told t name) limit second
+    → ((bytes : Option (List ℕ)) → Shows limit bytes second → RepliesOn r P bytes s u) → ((words : List (List ℕ)) → IsRequest words r → IsWord words 2 name)
+    → (words : List (List ℕ)) → IsRequest words r → HasAnswer t words s u
+replied_on t r file second name limit P s u read front admitted other k word words asks =
+    let f = two_files t words r read.bytes name other.bytes asks read.are (word words asks) other.are in
+    record { files = f.files; told = f.told; answer = k other.bytes other.shows words f.files (asks_of words f.files r P read.bytes asks f.first (front read.bytes read.shows) admitted) f.other }
+
+pub second_word : (r : Request) (file name : List ℕ) → r ≡ Recheck file name → (words : List (List ℕ)) → IsRequest words r → IsWord words 2 name
+second_word r file name is words asks = let e : words ≡ words_of (Recheck file name) = asks.spelled.words_are ∙ ap words_of is in rw e refl
+
+pub drawing_word : (r : Request) (file name : List ℕ) → r ≡ Replay file name → (words : List (List ℕ)) → IsRequest words r → IsWord words 2 name
+drawing_word r file name is words asks = let e : words ≡ words_of (Replay file name) = asks.spelled.words_are ∙ ap words_of is in rw e refl
+
+-- the request of a file is about files
+names_file : (words : List (List ℕ)) (r : Request) → IsRequest words r → IsOnFiles r → NamesFile words
+names_file words r asks on = record { request = r; asked = asks; on_files = λ n e. not_stress r n e on }
+  where
+    not_stress : (r : Request) (n : ℕ) → r ≡ Stress n → IsOnFiles r → ⊥
+    not_stress r n e on = let made : IsOnFiles (Stress n) = subst IsOnFiles e on in made
+
+pub stopped_named : (words : List (List ℕ)) (r : Request) (s : Stop) → IsRequest words r → (s ≡ stop.ReadFault → IsOnFiles r) → s ≡ stop.ReadFault → NamesFile words
+stopped_named words r s asks h e = names_file words r asks (h e)
 
 pub both_ok : {A E : Type 0} (r : Result A E) (Q R S : A → Type 0) → IfOk r Q → IfOk r R → ((x : A) → Q x → R x → S x) → IfOk r S
 both_ok (Ok x) Q R S q r f = f x q r
 both_ok (Err e) Q R S q r f = tt
+
+pub paths_reply : (P : Program) (u : List ℕ) → u ≡ listing P → (file : List ℕ) → Replies (Paths file) P Listed u
+paths_reply P u e file words files asks = rw e (paths_listed asks)
+
+-- the steps of a reply, as they are kept
+
+pub late_refused : (file : FileText) (P : Program) (x : Refusal) → ((bytes : Option (List ℕ)) → Shows most_bytes bytes file → IsTextOf bytes P)
+    → ((text : List ℕ) → IsText text P → IsFrontError (Some text) (Refused x)) → (bytes : Option (List ℕ)) → Shows most_bytes bytes file → IsRefused bytes x
+late_refused file P x front k bytes shows = let t = front bytes shows in subst (λ o. IsRefused o x) (sym t.bytes_are) (k t.text t.spelled)
+
+pub replied_at : (t : Option Table) (r q : Request) (file : FileText) (typed admitted : whole.Program) (s : Status) (u : List ℕ) → r ≡ q → admitted ≡ typed → IsProgramRead t r file
+    → ((bytes : Option (List ℕ)) → Shows most_bytes bytes file → IsTextOf bytes (program_of typed)) → IsAdmitted (program_of typed) → Replies q (program_of admitted) s u
+    → (words : List (List ℕ)) → IsRequest words r → HasAnswer t words s u
+replied_at t r q file typed admitted s u is same read front ok k =
+    replied t r file (program_of typed) s u read front ok (subst (λ p. Replies r (program_of p) s u) same (subst (λ x. Replies x (program_of admitted) s u) (sym is) k))
+
+pub replied_on_at : (t t2 : Option Table) (r q : Request) (file second : FileText) (name name2 : List ℕ) (limit : ℕ) (typed admitted : whole.Program) (s : Status) (u : List ℕ) → r ≡ q → t2 ≡ t → name2 ≡ name → admitted ≡ typed
+    → IsProgramRead t r file → ((bytes : Option (List ℕ)) → Shows most_bytes bytes file → IsTextOf bytes (program_of typed)) → IsAdmitted (program_of typed) → IsRead (told t2 name2) limit second
+    → ((bytes : Option (List ℕ)) → Shows limit bytes second → RepliesOn q (program_of admitted) bytes s u) → ((words : List (List ℕ)) → IsRequest words r → IsWord words 2 name)
+    → (words : List (List ℕ)) → IsRequest words r → HasAnswer t words s u
+replied_on_at t t2 r q file second name name2 limit typed admitted s u is tables names same read front ok other k word =
+    replied_on t r file second name limit (program_of typed) s u read front ok
+    (subst (λ o. IsRead (told o name) limit second) tables (subst (λ n. IsRead (told t2 n) limit second) names other))
+    (λ bytes shows. subst (λ p. RepliesOn r (program_of p) bytes s u) same (subst (λ x. RepliesOn x (program_of admitted) bytes s u) (sym is) (k bytes shows))) word

@@ -1,7 +1,10 @@
 pub mod HeadlineLemmas
+pub mod VerdictLemmas
+pub mod FileLemmas
+pub mod FrontLemmas
 pub mod DecidingLemmas
 pub mod RecheckLemmas
-pub mod StressLemmas
 pub mod ListingLemmas
 pub mod ReplayLemmas
 pub mod WordWalks
+pub mod ReadLemmas

@@ -1,149 +1,120 @@
 -- What a run answers, what it leaves written, and what its verdict means.
-use Rattle.std.specs.Prelude.{◌≡◌, ◌⊎◌, ℕ, List, Option, Some, None, Result, Err, codes, ⊤}
-use Rattle.std.specs.Io.KnownBytes.{Appends}
+use Rattle.std.specs.Prelude.{◌≡◌, ◌⊎◌, ℕ, List, Option, Some, None, ⊤, slice_get, codes}
+use Rattle.std.specs.Io.KnownBytes.{Appends, Keeps}
 use Rattle.gh_base.specs.Outside.{Table, Rose, AppendsFront}
 use Rattle.gh_ast.specs.Plain.{Program}
 use Rattle.gh_machine.specs.Machine.{IsGood}
-use Rattle.gh_top.specs.Words.{IsRequest}
-use Rattle.gh_top.specs.Decisions.{IsCheck, IsLog, IsStress}
-use Rattle.gh_top.specs.Listings.{IsPaths}
-use Rattle.gh_top.specs.Rechecks.{IsRecheck, IsRechecked}
-use Rattle.gh_top.specs.Replays.{IsReplay, IsJudged}
-use Rattle.gh_top.specs.Refusals.{IsText, IsAccepted}
-use Rattle.gh_top.specs.Stress.{stress_text}
+use Rattle.gh_trace.specs.Validity.{ListedAreValid}
+use Rattle.gh_log.specs.declared.lines.LogLine.{LogLine}
+use Rattle.gh_log.specs.Texts.{log_text}
+use Rattle.gh_decide.specs.Logs.{IsValidLog}
 use Rattle.gh_draw.specs.Drawings.{line}
+use Rattle.gh_top.specs.Words.{IsRequest}
+use Rattle.gh_top.specs.Refusals.{IsAccepted, IsRefused, refusal_text}
+use Rattle.gh_top.specs.Reports.{IsRefutation, verified_text, stressed_text}
+use Rattle.gh_top.specs.Listings.{listing}
+use Rattle.gh_top.specs.Rechecks.{IsLogRefusal, IsValidLogFile, rechecked_text}
+use Rattle.gh_top.specs.Replays.{IsDrawingRefusal, IsRefutingFile, replayed_text}
+use Rattle.gh_top.specs.Stress.{stress_text}
+use Rattle.gh_top.specs.declared.refusal.Refusal.{Refusal}
 use Rattle.gh_top.specs.declared.words.Request.{Request}
 use Rattle.gh_top.specs.declared.words.Request.TheVariants.{Check, Log, Recheck, Paths, Replay, Stress}
-use Rattle.gh_top.specs.declared.run.Stop.{Stop}
-use Rattle.gh_top.specs.declared.run.Stop.TheVariants as stop
 use Rattle.gh_top.specs.declared.status.Status.{Status}
-use Rattle.gh_top.specs.declared.status.Status.TheVariants.{Verified, Usage, ReadFault, WriteFault, OutOfMemory}
+use Rattle.gh_top.specs.declared.status.Status.TheVariants.{Verified, Listed, Refuted, Usage, ReadFault, TextRefused, LogRefused, WriteFault, OutOfMemory}
 
--- the program text that a request is about: the bytes of its file, none if it isn't there; `stress` makes its own
-abbrev pub program_text : Request → Table → Option (List ℕ)
-program_text (Check file) files = files file
-program_text (Log file) files = files file
-program_text (Recheck file log) files = files file
-program_text (Paths file) files = files file
-program_text (Replay file drawing) files = files file
+-- The files that the words name, each by the place of its name among the words: file 1 is the program's, file 2 the log or the drawing.
+-- A file is the bytes that it held when it was read, or none where there was no such file.
+abbrev pub Files : Type 0
+Files = ℕ → Option (List ℕ)
+
+-- where the inputs tell what each name holds, the files are that
+abbrev pub AreTold : Option Table → List (List ℕ) → Files → Type 0
+AreTold None words files = ⊤
+AreTold (Some table) words files = (k : ℕ) (name : List ℕ) → slice_get words k ≡ Some name → files k ≡ table name
+
+-- the program text that a request is about; `stress` makes its own
+abbrev pub program_text : Request → Files → Option (List ℕ)
 program_text (Stress n) files = Some (stress_text n)
+program_text r files = files 1
 
--- the answer to a request for the bytes of its program text, over the files from which a second one is read
-abbrev pub IsReport : Request → Option (List ℕ) → Table → Status → List ℕ → Type 0
-IsReport (Check file) bytes second status text = IsCheck bytes status text
-IsReport (Log file) bytes second status text = IsLog bytes status text
-IsReport (Recheck file log) bytes second status text = IsRecheck bytes (second log) status text
-IsReport (Paths file) bytes second status text = IsPaths bytes status text
-IsReport (Replay file drawing) bytes second status text = IsReplay bytes (second drawing) status text
-IsReport (Stress n) bytes second status text = IsStress n bytes status text
+-- the words are the request, and the program text that it is about spells the admitted program
+pub record Asks (words : List (List ℕ)) (files : Files) (r : Request) (P : Program) : Type 0 where
+  pub request : IsRequest words r
+  pub text : List ℕ
+  pub bytes : program_text r files ≡ Some text
+  pub accepted : IsAccepted text P
 
--- the same for each text that spells the program
-abbrev pub IsReportOn : Request → Program → Table → Status → List ℕ → Type 0
-IsReportOn r P second status u = (text : List ℕ) → IsText text P → IsReport r (Some text) second status u
+-- THE ANSWER: the status and the text that words and files give. A row is a line.
+pub data Answer (words : List (List ℕ)) (files : Files) : Status → List ℕ → Type 0 where
+  -- in any mode: the words are no request, or the program text is refused
+  usage : ((r : Request) → IsRequest words r → ⊥) → Answer words files Usage (line (codes "refused: usage"))
+  refused : {r : Request} (x : Refusal) → IsRequest words r → IsRefused (program_text r files) x → Answer words files TextRefused (refusal_text x)
+  -- check FILE
+  check_verified : {f : List ℕ} {P : Program} → Asks words files (Check f) P → ListedAreValid P → Answer words files Verified (verified_text P)
+  check_refuted : {f u : List ℕ} {P : Program} → Asks words files (Check f) P → IsRefutation P u → Answer words files Refuted u
+  -- log FILE
+  log_verified : {f : List ℕ} {P : Program} (log : List (List LogLine)) → Asks words files (Log f) P → ListedAreValid P → IsValidLog P log → Answer words files Verified (log_text log)
+  log_refuted : {f u : List ℕ} {P : Program} → Asks words files (Log f) P → IsRefutation P u → Answer words files Refuted u
+  -- recheck FILE LOG
+  recheck_refused : {f l u : List ℕ} {P : Program} → Asks words files (Recheck f l) P → IsLogRefusal P (files 2) u → Answer words files LogRefused u
+  recheck_verified : {f l : List ℕ} {P : Program} → Asks words files (Recheck f l) P → IsValidLogFile P (files 2) → Answer words files Verified (rechecked_text P)
+  -- paths FILE
+  paths_listed : {f : List ℕ} {P : Program} → Asks words files (Paths f) P → Answer words files Listed (listing P)
+  -- replay FILE DRAWING
+  replay_refused : {f d u : List ℕ} {P : Program} → Asks words files (Replay f d) P → IsDrawingRefusal P (files 2) u → Answer words files LogRefused u
+  replay_refuted : {f d : List ℕ} {n : ℕ} {P : Program} → Asks words files (Replay f d) P → IsRefutingFile P (files 2) n → Answer words files Refuted (replayed_text P n)
+  -- stress N
+  stress_verified : {n : ℕ} {P : Program} → Asks words files (Stress n) P → ListedAreValid P → Answer words files Verified (stressed_text n P)
+  stress_refuted : {n : ℕ} {u : List ℕ} {P : Program} → Asks words files (Stress n) P → IsRefutation P u → Answer words files Refuted u
 
--- the status and the text that words and files give
-pub data HasResult : List (List ℕ) → Table → Table → Status → List ℕ → Type 0 where
-  usage : {words : List (List ℕ)} {files second : Table} → ((r : Request) → IsRequest words r → ⊥) → HasResult words files second Usage (line (codes "refused: usage"))
-  asked : {words : List (List ℕ)} {files second : Table} {text : List ℕ} {status : Status} (r : Request)
-      → IsRequest words r → IsReport r (program_text r files) second status text → HasResult words files second status text
-
--- the files hold what the inputs tell; where they tell nothing, any files do
-abbrev pub AreTold : Option Table → Table → Type 0
-AreTold None files = ⊤
-AreTold (Some table) files = files ≡ table
-
--- the status and the text are the answer, over the files that are told: a program's file is read from the first ones, another file from the second ones
+-- some files that are told give this answer
 pub record HasAnswer (table : Option Table) (words : List (List ℕ)) (status : Status) (text : List ℕ) : Type 0 where
-  pub files : Table
-  pub told : AreTold table files
-  pub second : Table
-  pub told_second : AreTold table second
-  pub result : HasResult words files second status text
+  pub files : Files
+  pub told : AreTold table words files
+  pub answer : Answer words files status text
 
--- the same for one request
-pub record HasReport (table : Option Table) (r : Request) (status : Status) (text : List ℕ) : Type 0 where
-  pub files : Table
-  pub told : AreTold table files
-  pub second : Table
-  pub told_second : AreTold table second
-  pub report : IsReport r (program_text r files) second status text
+-- the program that the words ask about is good: no run of any procedure from a state that meets its precondition, beside any
+-- frame, faults, leaks or ends outside its postcondition
+abbrev pub IsGoodFor : List (List ℕ) → Files → Type 0
+IsGoodFor words files = (r : Request) (P : Program) → Asks words files r P → IsGood P
 
--- the same for bytes that are read
-pub record HasReportOf (table : Option Table) (r : Request) (bytes : Option (List ℕ)) (status : Status) (text : List ℕ) : Type 0 where
-  pub second : Table
-  pub told : AreTold table second
-  pub report : IsReport r bytes second status text
-
--- the same for a program that is spelled
-pub record HasReportOn (table : Option Table) (r : Request) (P : Program) (status : Status) (text : List ℕ) : Type 0 where
-  pub second : Table
-  pub told : AreTold table second
-  pub report : IsReportOn r P second status text
-
--- the same for a drawing file of a program
-pub record HasJudged (table : Option Table) (drawing : List ℕ) (P : Program) (status : Status) (text : List ℕ) : Type 0 where
-  pub second : Table
-  pub told : AreTold table second
-  pub judged : IsJudged P (second drawing) status text
-
--- the same for a log file of a program
-pub record HasRechecked (table : Option Table) (log : List ℕ) (P : Program) (status : Status) (text : List ℕ) : Type 0 where
-  pub second : Table
-  pub told : AreTold table second
-  pub judged : IsRechecked P (second log) status text
-
--- the program of the request is good: no run of any procedure from a state that meets its precondition, beside any frame, faults, leaks or ends outside its postcondition
-pub record IsGoodText (words : List (List ℕ)) (files : Table) : Type 0 where
-  pub request : Request
-  pub asked : IsRequest words request
+-- exactly one text was written, it is the answer, and what is verified is good
+pub record IsWhole (table : Option Table) (words : List (List ℕ)) (old new : Option (List ℕ)) (status : Status) : Type 0 where
   pub text : List ℕ
-  pub bytes : program_text request files ≡ Some text
-  pub program : Program
-  pub accepted : IsAccepted text program
-  pub good : IsGood program
-
--- exactly one text was appended, it is the answer, and what is verified is good
-pub record IsAnswered (table : Option Table) (words : List (List ℕ)) (old new : Option (List ℕ)) (status : Status) : Type 0 where
-  pub text : List ℕ
-  pub answer : HasAnswer table words status text
+  pub given : HasAnswer table words status text
   pub written : Appends old new text
-  pub good : status ≡ Verified → IsGoodText words answer.files
+  pub good : status ≡ Verified → IsGoodFor words given.files
 
--- a front of an answer's text was appended
-pub record IsCutOff (table : Option Table) (words : List (List ℕ)) (old new : Option (List ℕ)) : Type 0 where
-  pub status : Status
-  pub text : List ℕ
-  pub answer : HasAnswer table words status text
-  pub written : AppendsFront old new text
-
--- where neither a fault nor want of memory came, the run is answered
-abbrev pub Answers : Option Table → List (List ℕ) → Option (List ℕ) → Option (List ℕ) → Status → Type 0
-Answers table words old new ReadFault = ⊤
-Answers table words old new WriteFault = ⊤
-Answers table words old new OutOfMemory = ⊤
-Answers table words old new status = IsAnswered table words old new status
-
--- want of memory, or the answer with its whole text
-abbrev pub IsComplete : Option Table → List (List ℕ) → Option (List ℕ) → Option (List ℕ) → Status → Type 0
-IsComplete table words old new status = (status ≡ OutOfMemory) ⊎ IsAnswered table words old new status
-
--- why there is nothing to write: a read fault comes only where the count rose
-abbrev pub IsStop : ℕ → ℕ → Stop → Type 0
-IsStop before now stop.ReadFault = Rose before now
-IsStop before now stop.OutOfMemory = ⊤
-
--- only a read fault raises the count
-abbrev pub IsCalm : {T : Type 0} → ℕ → ℕ → Result T Stop → Type 0
-IsCalm before now (Err stop.ReadFault) = ⊤
-IsCalm before now result = now ≡ before
-
--- the request is about files
-abbrev pub IsOnFiles : Request → Type 0
-IsOnFiles (Stress n) = ⊥
-IsOnFiles r = ⊤
+-- THE SENTENCE, 1: but for a fault and want of memory, the answer is written whole
+abbrev pub IsAnswered : Option Table → List (List ℕ) → Option (List ℕ) → Option (List ℕ) → Status → Type 0
+IsAnswered table words old new ReadFault = ⊤
+IsAnswered table words old new WriteFault = ⊤
+IsAnswered table words old new OutOfMemory = ⊤
+IsAnswered table words old new status = IsWhole table words old new status
 
 -- the words name a file
 pub record NamesFile (words : List (List ℕ)) : Type 0 where
   pub request : Request
   pub asked : IsRequest words request
-  pub on_files : IsOnFiles request
+  pub on_files : (n : ℕ) → request ≡ Stress n → ⊥
+
+-- 2: a read fault comes where the words name a file and the inputs' count of faults rose, and nothing is written; else the count stands still
+abbrev pub IsReadFault : List (List ℕ) → ℕ → ℕ → Option (List ℕ) → Option (List ℕ) → Status → Type 0
+IsReadFault words before now old new ReadFault = NamesFile words × Rose before now × Keeps old new
+IsReadFault words before now old new status = now ≡ before
+
+-- a front of an answer's text was written
+pub record IsCutOff (table : Option Table) (words : List (List ℕ)) (old new : Option (List ℕ)) : Type 0 where
+  pub status : Status
+  pub text : List ℕ
+  pub given : HasAnswer table words status text
+  pub written : AppendsFront old new text
+
+-- 3: a write fault comes where the sink's count of faults rose, and a front of the answer is written; else the count stands still
+abbrev pub IsWriteFault : Option Table → List (List ℕ) → ℕ → ℕ → Option (List ℕ) → Option (List ℕ) → Status → Type 0
+IsWriteFault table words before now old new WriteFault = Rose before now × IsCutOff table words old new
+IsWriteFault table words before now old new status = now ≡ before
+
+-- 5: where no count rises, the answer is written whole, or memory runs out (4: and then nothing is written)
+abbrev pub IsComplete : Option Table → List (List ℕ) → Option (List ℕ) → Option (List ℕ) → Status → Type 0
+IsComplete table words old new status = (status ≡ OutOfMemory) ⊎ IsWhole table words old new status

@@ -1,11 +1,16 @@
-pub mod Decisions
+pub mod Causes
 pub mod Faults
+pub mod Files
+pub mod Fronts
 pub mod Headline
+pub mod Laws
 pub mod Listed
 pub mod Listings
 pub mod Rechecks
+pub mod Reads
 pub mod Refusals
 pub mod Replays
+pub mod Replies
 pub mod Reports
 pub mod Statuses
 pub mod Stress

@@ -1,23 +1,17 @@
--- The first refusal of a program text: its length, a byte, the depth, the syntax, the first type error, the first limit.
-use Rattle.std.specs.Prelude.{◌≡◌, ℕ, ◌<◌, ◌≤◌, List, ◌++◌, length, codes, cond, ◌==◌}
+-- The first refusal of a program text: it is absent, its length, a byte, the depth, the syntax, the first type error, the first limit.
+use Rattle.std.specs.Prelude.{◌≡◌, ℕ, ◌-◌, ◌<◌, ◌≤◌, List, [], ◌∷◌, ◌++◌, length, codes, Option, Some, None, slice_get, unwrap_or}
 use Rattle.std.specs.Fmt.{decimal}
 use Rattle.gh_base.specs.declared.place.Span.{Span}
 use Rattle.gh_ast.specs.Plain.{Program}
 use Rattle.gh_ast.specs.Tokens.{IsFirstByte, IsFirstDeep, place_of}
 use Rattle.gh_ast.specs.Grammar.{Spells}
+use Rattle.gh_ast.specs.Place.{IsPlace, IsProgram}
 use Rattle.gh_ast.specs.Rules.{IsTyped, IsFirstBroken}
 use Rattle.gh_path.specs.Admitted.{IsFirstLimit, IsAdmitted}
-use Rattle.gh_ast.specs.declared.typed.Limit.{Limit}
+use Rattle.gh_top.specs.declared.refusal.Refusal.{Refusal}
+use Rattle.gh_top.specs.declared.refusal.Refusal.TheVariants.{Absent, TooLong, Byte, Deep, Syntax, TypeError, Limit}
 use Rattle.gh_draw.specs.Descriptions.{place_text}
 use Rattle.gh_draw.specs.Drawings.{line}
-
-pub data Refusal : Type 0 where
-  too_long : Refusal
-  byte : ℕ → Refusal
-  deep : Span → Refusal
-  syntax : Span → Refusal
-  type_error : ℕ → Span → Refusal
-  limit : Limit → Refusal
 
 -- the longest text that is taken
 abbrev pub most_bytes : ℕ
@@ -41,38 +35,54 @@ pub record IsTooDeep (text : List ℕ) (p : Span) : Type 0 where
   pub deep : IsFirstDeep text offset
   pub place : p ≡ place_of text offset
 
--- the line and column of a syntax error are free
-abbrev pub IsRefused : List ℕ → Refusal → Type 0
-IsRefused text too_long = most_bytes < length text
-IsRefused text (byte k) = (length text ≤ most_bytes) × IsFirstByte text k
-IsRefused text (deep p) = IsTooDeep text p
-IsRefused text (syntax p) = IsReadable text × ((P : Program) → Spells text P → ⊥)
-IsRefused text (type_error n p) = (P : Program) × IsText text P × IsFirstBroken P n p
-IsRefused text (limit l) = (P : Program) × IsText text P × IsTyped P × IsFirstLimit P l
+-- the first refusal of the bytes of a program text
+abbrev pub IsRefused : Option (List ℕ) → Refusal → Type 0
+IsRefused bytes Absent = bytes ≡ None
+IsRefused bytes TooLong = (text : List ℕ) × (bytes ≡ Some text) × (most_bytes < length text)
+IsRefused bytes (Byte k) = (text : List ℕ) × (bytes ≡ Some text) × (length text ≤ most_bytes) × IsFirstByte text k
+IsRefused bytes (Deep p) = (text : List ℕ) × (bytes ≡ Some text) × IsTooDeep text p
+IsRefused bytes (Syntax p) = (text : List ℕ) × (bytes ≡ Some text) × IsReadable text × ((P : Program) → Spells text P → ⊥) × IsPlace IsProgram text p
+IsRefused bytes (TypeError n p) = (text : List ℕ) × (P : Program) × (bytes ≡ Some text) × IsText text P × IsFirstBroken P n p
+IsRefused bytes (Limit l) = (text : List ℕ) × (P : Program) × (bytes ≡ Some text) × IsText text P × IsTyped P × IsFirstLimit P l
 
 -- the text spells an admitted program
 pub record IsAccepted (text : List ℕ) (P : Program) : Type 0 where
   pub spelled : IsText text P
   pub admitted : IsAdmitted P
 
--- the names of the type errors
-abbrev pub error_name : ℕ → List ℕ
-error_name n =
-    cond (n == 1) (codes "UnknownName") (cond (n == 2) (codes "DuplicateName") (cond (n == 3) (codes "AssignToParameter") (cond (n == 4) (codes "WrongCount") (cond (n == 5) (codes "ReturnInLoop") (cond (n == 6) (codes "UnknownProcedure") (cond (n == 7) (codes "SecondLink") (cond (n == 8) (codes "DataField") (cond (n == 9) (codes "NameOutOfContract") (cond (n == 10) (codes "RepeatedResult") (cond (n == 11) (codes "NoBody") (codes "NoLink")))))))))))
+-- the type rules by their numbers, from 1 on
+abbrev pub rule_names : List (List ℕ)
+rule_names =
+    codes "UnknownName"
+    ∷ codes "DuplicateName"
+    ∷ codes "AssignToParameter"
+    ∷ codes "WrongCount"
+    ∷ codes "ReturnInLoop"
+    ∷ codes "UnknownProcedure"
+    ∷ codes "SecondLink"
+    ∷ codes "DataField"
+    ∷ codes "NameOutOfContract"
+    ∷ codes "RepeatedResult"
+    ∷ codes "NoBody"
+    ∷ codes "NoLink"
+    ∷ []
 
--- the kinds of limits
-abbrev pub kind_name : ℕ → List ℕ
-kind_name n =
-    cond (n == 1) (codes "procedures") (cond (n == 2) (codes "variables") (cond (n == 3) (codes "atoms") (cond (n == 4) (codes "paths") (cond (n == 5) (codes "steps") (cond (n == 6) (codes "terms") (codes "versions"))))))
+-- the kinds of limits by their numbers, from 1 on
+abbrev pub kind_names : List (List ℕ)
+kind_names = codes "procedures" ∷ codes "variables" ∷ codes "atoms" ∷ codes "paths" ∷ codes "steps" ∷ codes "terms" ∷ codes "versions" ∷ []
+
+-- the name of a number in such a list
+abbrev pub name_in : List (List ℕ) → ℕ → List ℕ
+name_in names n = unwrap_or (slice_get names (n - 1)) []
 
 abbrev pub refused_at : List ℕ → Span → List ℕ
 refused_at name p = line (codes "refused: " ++ name ++ codes " at " ++ place_text p)
 
 abbrev pub refusal_text : Refusal → List ℕ
-refusal_text too_long = line (codes "refused: TooLong")
-refusal_text (byte k) = line (codes "refused: Byte at offset " ++ decimal k)
-refusal_text (deep p) = refused_at (codes "Deep") p
-refusal_text (syntax p) = refused_at (codes "Syntax") p
-refusal_text (type_error n p) = refused_at (error_name n) p
-refusal_text (limit l) =
-    line (codes "refused: Limit " ++ kind_name l.kind ++ codes " at " ++ place_text l.span ++ codes ", count " ++ decimal l.count)
+refusal_text Absent = line (codes "refused: Absent")
+refusal_text TooLong = line (codes "refused: TooLong")
+refusal_text (Byte k) = line (codes "refused: Byte at offset " ++ decimal k)
+refusal_text (Deep p) = refused_at (codes "Deep") p
+refusal_text (Syntax p) = refused_at (codes "Syntax") p
+refusal_text (TypeError n p) = refused_at (name_in rule_names n) p
+refusal_text (Limit l) = line (codes "refused: Limit " ++ name_in kind_names l.kind ++ codes " at " ++ place_text l.span ++ codes ", count " ++ decimal l.count)

@@ -1,13 +1,20 @@
 //! The top call: a request, its answer, and the text that is written.
 #![tactic(auto)]
 
-mod deciding;
+mod check;
+mod file;
+mod front;
+pub mod laws;
 mod lines;
-mod listing;
-mod rechecking;
-mod replaying;
+mod log;
+mod paths;
+mod recheck;
+pub mod refusal;
+mod replay;
 mod report;
 pub mod run;
 pub mod status;
+pub mod steady;
 pub mod stress;
+mod verdict;
 pub mod words;

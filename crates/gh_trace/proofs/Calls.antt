@@ -3,7 +3,7 @@ use Rattle.std.specs.Prelude.{◌≡◌, ◌++◌, map, Contains}
 use Rattle.std.proofs.lemmas.List.Elements.{Contains-append_cases}
 use Rattle.std.proofs.Common.{sym, ◌∙◌, ap, subst, inl, inr}
 use Rattle.gh_ast.specs.Plain.{Formula}
-use Rattle.gh_ast.specs.Programs.{Name, names, parameters_of, results_of}
+use Rattle.gh_ast.specs.Programs.{Name, names, parameters_of, results_of, ensured}
 use Rattle.gh_ast.proofs.Lists.{same_values}
 use Rattle.gh_ast.proofs.Declared.{is_one}
 use Rattle.gh_assert.specs.Heaps.{Heap, Splits}
@@ -58,7 +58,7 @@ calls_are_one P xs f es x y p vs inside own decl gives params results = (
   ),
 )
   where
-    one : Called p vs (names xs) x y → ((n : Name) → (Contains (names xs) n → ⊥) → y.store n ≡ x.store n) × Replaced p.needs inside x.heap p.gives inside y.heap
+    one : Called p vs (names xs) x y → ((n : Name) → (Contains (names xs) n → ⊥) → y.store n ≡ x.store n) × Replaced p.needs inside x.heap (ensured p) inside y.heap
     one c =
         let on_parameters : Agree (parameters_of p) c.inside inside = maps_agree (parameters_of p) c.inside inside (c.arguments ∙ sym params) in
         let on_results : Agree (results_of p) c.inside inside = maps_agree (results_of p) c.inside inside (sym c.targets.given ∙ sym results) in
@@ -67,7 +67,7 @@ calls_are_one P xs f es x y p vs inside own decl gives params results = (
           | inr right ↦ on_results n right
         ] in (
           c.targets.kept,
-          replaced_agrees p.needs p.gives c.inside c.inside inside inside x.heap y.heap
+          replaced_agrees p.needs (ensured p) c.inside c.inside inside inside x.heap y.heap
               (λ a m. same_meaning p.needs (parameters_of p) c.inside inside a on_parameters own.needs_in m)
-              (λ a m. same_meaning p.gives (parameters_of p ++ results_of p) c.inside inside a on_both own.gives_in m) c.replaced,
+              (λ a m. same_meaning (ensured p) (parameters_of p ++ results_of p) c.inside inside a on_both own.gives_in m) c.replaced,
         )

@@ -11,7 +11,7 @@ use Rattle.gh_ast.specs.Occurrences.{locals_of}
 use Rattle.gh_ast.specs.Programs.{Name, names, name_of, parameters_of, results_of, IsFirstNamed, Declares}
 use Rattle.gh_ast.specs.Rules.{IsTyped}
 use Rattle.gh_ast.proofs.Lists.{member_first, member_later, one_value}
-use Rattle.gh_ast.proofs.TypedPrograms.{variables_are_distinct, variables_split, needs_are_parameters, gives_are_contract}
+use Rattle.gh_ast.proofs.TypedPrograms.{variables_are_distinct, variables_split, needs_are_parameters, ensured_is_of_contract}
 use Rattle.gh_assert.specs.declared.store.Entry.{Entry}
 use Rattle.gh_assert.specs.Stores.{listed_names, store_of, AreDistinct}
 use Rattle.gh_path.specs.Kept.{IsCallee}
@@ -124,7 +124,7 @@ contained_at ps n q at = (n, slice_get_within ps n q at, get_or_from_slice_get p
 
 pub own_names : (P : Program) (n : ℕ) (q : Procedure) → IsTyped P → slice_get P.procedures n ≡ Some q → HasOwnNames q
 own_names P n q typed at =
-    record { needs_in = needs_are_parameters P typed q (contained_at P.procedures n q at); gives_in = gives_are_contract P typed q (contained_at P.procedures n q at) }
+    record { needs_in = needs_are_parameters P typed q (contained_at P.procedures n q at); gives_in = ensured_is_of_contract P typed q (contained_at P.procedures n q at) }
 
 pub distinct_names : (P : Program) (n : ℕ) (q : Procedure) → IsTyped P → slice_get P.procedures n ≡ Some q → HasDistinctNames q
 distinct_names P n q typed at =

@@ -13,6 +13,7 @@ use Rattle.gh_assert.proofs.Proper.{none_both, met_proper, put_proper, at_proper
 use Rattle.gh_path.specs.Graphs.{Check, access, entry, loop_entry, returned, loop_end, PathStep, accessed, assume, assigned, made, written, freed, called, looped, answered}
 use Rattle.gh_trace.specs.Traces.{State, Replaced, Takes, Passes, IsTrace, last_state}
 use Rattle.gh_trace.specs.Laws.{TracesAreProper, ChecksAreDecided}
+use Rattle.gh_ast.specs.Programs.{ensured}
 
 replaced_proper : (f : Formula) (s : Store) (h : Heap) (g : Formula) (t : Store) (k : Heap) → Replaced f s h g t k → IsProper h → IsProper k
 replaced_proper f s h g t k r p =
@@ -25,7 +26,7 @@ step_proper P (assigned o e) x y t p = ap (λ k. get k 0) t.3 ∙ p
 step_proper P (made o) x y t p = ap (λ k. get k 0) t.5 ∙ put_proper x.heap t.0 t.1 t.2 p
 step_proper P (written o e) x y t p = ap (λ z. get z.heap 0) t.3 ∙ put_proper x.heap (x.store o.name) t.0 (at_proper x.heap (x.store o.name) t.2 p) p
 step_proper P (freed o) x y t p = ap (λ z. get z.heap 0) t.1 ∙ get_kept x.heap (x.store o.name) 0 (λ e. at_proper x.heap (x.store o.name) t.0 p (sym e)) ∙ p
-step_proper P (called xs f es) x y t p = replaced_proper t.0.needs t.4.inside x.heap t.0.gives t.4.inside y.heap t.4.replaced p
+step_proper P (called xs f es) x y t p = replaced_proper t.0.needs t.4.inside x.heap (ensured t.0) t.4.inside y.heap t.4.replaced p
 step_proper P (looped l) x y t p = replaced_proper l.invariant x.store x.heap l.invariant y.store y.heap t.0 p
 step_proper P (answered xs es) x y t p = ap (λ k. get k 0) t.3 ∙ p
 

@@ -3,7 +3,7 @@ use Rattle.std.specs.Prelude.{◌≡◌, ◌↔◌, ℕ, suc, ◌≤◌, List, l
 use Rattle.gh_ast.specs.declared.Occ.{Occ}
 use Rattle.gh_ast.specs.declared.Expr.{Expr}
 use Rattle.gh_ast.specs.Plain.{Formula, Procedure, Program}
-use Rattle.gh_ast.specs.Programs.{Name, names, parameters_of, results_of, Declares}
+use Rattle.gh_ast.specs.Programs.{Name, names, parameters_of, results_of, Declares, ensured}
 use Rattle.gh_ast.specs.Names.{FormulaIn}
 use Rattle.gh_assert.specs.Heaps.{Heap, IsProper, Splits}
 use Rattle.gh_assert.specs.Meaning.{Store, Meaning, HasPart}
@@ -37,7 +37,7 @@ PartsAreReplaced =
 -- a callee's assertions speak of its parameters, `ensures` of its results too
 pub record HasOwnNames (p : Procedure) : Type 0 where
   pub needs_in : FormulaIn p.needs (parameters_of p)
-  pub gives_in : FormulaIn p.gives (parameters_of p ++ results_of p)
+  pub gives_in : FormulaIn (ensured p) (parameters_of p ++ results_of p)
 
 -- any store that gives the parameters the arguments' values decides the check of a call
 abbrev pub EntriesAreOne : Type 0
@@ -50,4 +50,4 @@ abbrev pub CallsAreOne : Type 0
 CallsAreOne =
     (P : Program) (xs : List Occ) (f : Occ) (es : List Expr) (x y : State) (p : Procedure) (vs : List ℕ) (inside : Store) → HasOwnNames p → Declares P f.name p →
     Give x.store x.heap es vs → map inside (parameters_of p) ≡ vs → map inside (results_of p) ≡ map y.store (names xs) →
-    Takes P (called xs f es) x y ↔ (((n : Name) → (Contains (names xs) n → ⊥) → y.store n ≡ x.store n) × Replaced p.needs inside x.heap p.gives inside y.heap)
+    Takes P (called xs f es) x y ↔ (((n : Name) → (Contains (names xs) n → ⊥) → y.store n ≡ x.store n) × Replaced p.needs inside x.heap (ensured p) inside y.heap)

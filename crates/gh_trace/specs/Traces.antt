@@ -6,7 +6,7 @@ use Rattle.gh_assert.specs.Heaps.{Heap, Splits}
 use Rattle.gh_assert.specs.Meaning.{Store, Meaning, HasPart}
 use Rattle.gh_assert.specs.Walks.{Allocated}
 use Rattle.gh_assert.specs.Values.{result, Give, compared, Gets}
-use Rattle.gh_ast.specs.Programs.{Name, names, parameters_of, results_of, Declares, SomeAssigns}
+use Rattle.gh_ast.specs.Programs.{Name, names, parameters_of, results_of, Declares, SomeAssigns, ensured}
 use Rattle.gh_path.specs.Graphs.{Check, access, entry, loop_entry, returned, loop_end, PathStep, accessed, assume, assigned, made, written, freed, called, looped, answered}
 
 -- the store tells a value for every name. A store that lists names with their values tells those, and 0 for each other name;
@@ -31,7 +31,7 @@ pub record Called (p : Procedure) (vs : List ℕ) (xs : List Name) (x y : State)
   pub inside : Store
   pub arguments : map inside (parameters_of p) ≡ vs
   pub targets : Gets x.store xs (map inside (results_of p)) y.store
-  pub replaced : Replaced p.needs inside x.heap p.gives inside y.heap
+  pub replaced : Replaced p.needs inside x.heap (ensured p) inside y.heap
 
 -- a step leads from one state to another
 abbrev pub Takes : Program → PathStep → State → State → Type 0

@@ -144,7 +144,7 @@ pub fn passes(
             is_entered(alloc, scene, *callee, arguments.as_slice(), state)
         }
         CheckKind::LoopEntry { number } => is_loop_entered(alloc, scene, *number, state),
-        CheckKind::Return => holds(alloc, &state.store, &state.heap, &scene.procedure.gives),
+        CheckKind::Return => holds(alloc, &state.store, &state.heap, scene.procedure.ensured()),
         CheckKind::LoopEnd { number } => is_loop_ended(alloc, scene, *number, state),
     }
 }

@@ -197,7 +197,7 @@ fn calls(
         heap: &before.heap,
     };
     let promised = Part {
-        assertion: &callee.gives,
+        assertion: callee.ensured(),
         store: &inside,
         heap: &after.heap,
     };

@@ -60,12 +60,14 @@ fn procedure(alloc: Global) -> Result<Procedure, Fail> {
     parameters.push(occ(alloc, "x")?)?;
     let mut results = Vec::new(alloc);
     results.push(occ(alloc, "y")?)?;
+    let mut gives = Vec::new(alloc);
+    gives.push(Assertion::Emp)?;
     Ok(Procedure {
         name: occ(alloc, "p")?,
         parameters,
         results,
         needs: Assertion::Emp,
-        gives: Assertion::Emp,
+        gives,
         body: None,
         close: Span { line: 1, col: 1 },
     })

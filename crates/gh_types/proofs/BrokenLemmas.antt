@@ -4,41 +4,39 @@ use Rattle.std.specs.Prelude.{Any, Option, None, Some}
 use Rattle.gh_base.specs.declared.place.Span.{Span}
 use Rattle.gh_ast.specs.declared.Occ.{Occ}
 use Rattle.gh_ast.specs.Plain.{Procedure, Program}
-use Rattle.gh_ast.specs.Occurrences.{Site, mentioned, assigned, called, returned, sites_of, sites_in_body, in_formula}
-use Rattle.gh_ast.specs.Rules.{IsTyped, IsFirstBroken, UnknownName, AssignToParameter, WrongCount, ReturnInLoop, UnknownProcedure, RepeatedResult, NameOutOfContract, NoBody, Broken, unknown_name, duplicate_name, assign_to_parameter, wrong_count, return_in_loop, unknown_procedure, second_link, data_field, name_out_of_contract, repeated_result, no_body, no_link}
-use Rattle.gh_types.specs.declared.scope.Setting.{Setting}
-use Rattle.gh_types.specs.declared.scope.Setting.TheVariants.{Requires, Ensures, Inside}
-use Rattle.gh_types.specs.Checks.{OccurrenceErrors, ParameterErrors, TargetErrors, SiteErrors, ProcedureErrors, ProgramErrors}
+use Rattle.gh_ast.specs.Occurrences.{Site, mentioned, assigned, called, returned, sites_of, sites_in_body, in_formula, in_alternatives}
+use Rattle.gh_ast.specs.Rules.{IsTyped, IsFirstBroken, UnknownName, AssignToParameter, WrongCount, ReturnInLoop, UnknownProcedure, RepeatedResult, NameOutOfContract, Broken, unknown_name, duplicate_name, assign_to_parameter, wrong_count, return_in_loop, unknown_procedure, second_link, data_field, name_out_of_contract, repeated_result, no_body, no_link}
+use Rattle.gh_types.specs.Checks.{SiteErrors, ProcedureErrors, ProgramErrors}
 use Rattle.gh_types.specs.declared.fault.Fault.{Fault}
 use Rattle.gh_types.specs.Faults.{IsFirstOf}
 use Rattle.gh_types.proofs.FirstLemmas.{any_left, any_right, any_parts, any_map, any_mapped, any_weaker}
 
 -- a site of a body, and an occurrence in a contract, are sites of the procedure
 in_body : (P : Site → Type 0) (q : Procedure) → Any P (sites_in_body q.body) → Any P (sites_of q)
-in_body P q a = any_right P (map mentioned (in_formula q.needs ++ in_formula q.gives)) (sites_in_body q.body) a
+in_body P q a = any_right P (map mentioned (in_formula q.needs ++ in_alternatives q.gives)) (sites_in_body q.body) a
 
 in_needs : (P : Site → Type 0) (q : Procedure) → Any (λ o. P (mentioned o)) (in_formula q.needs) → Any P (sites_of q)
 in_needs P q a =
-    any_left P (map mentioned (in_formula q.needs ++ in_formula q.gives)) (sites_in_body q.body)
-    (any_mapped P mentioned (in_formula q.needs ++ in_formula q.gives) (any_left (λ o. P (mentioned o)) (in_formula q.needs) (in_formula q.gives) a))
+    any_left P (map mentioned (in_formula q.needs ++ in_alternatives q.gives)) (sites_in_body q.body)
+    (any_mapped P mentioned (in_formula q.needs ++ in_alternatives q.gives) (any_left (λ o. P (mentioned o)) (in_formula q.needs) (in_alternatives q.gives) a))
 
-in_gives : (P : Site → Type 0) (q : Procedure) → Any (λ o. P (mentioned o)) (in_formula q.gives) → Any P (sites_of q)
+in_gives : (P : Site → Type 0) (q : Procedure) → Any (λ o. P (mentioned o)) (in_alternatives q.gives) → Any P (sites_of q)
 in_gives P q a =
-    any_left P (map mentioned (in_formula q.needs ++ in_formula q.gives)) (sites_in_body q.body)
-    (any_mapped P mentioned (in_formula q.needs ++ in_formula q.gives) (any_right (λ o. P (mentioned o)) (in_formula q.needs) (in_formula q.gives) a))
+    any_left P (map mentioned (in_formula q.needs ++ in_alternatives q.gives)) (sites_in_body q.body)
+    (any_mapped P mentioned (in_formula q.needs ++ in_alternatives q.gives) (any_right (λ o. P (mentioned o)) (in_formula q.needs) (in_alternatives q.gives) a))
 
 -- a site of a procedure stands in its contract or in its body
 parts_of : (P : Site → Type 0) (q : Procedure) → Any P (sites_of q)
-    → (Any (λ o. P (mentioned o)) (in_formula q.needs) ⊎ Any (λ o. P (mentioned o)) (in_formula q.gives)) ⊎ Any P (sites_in_body q.body)
-parts_of P q a = elim (any_parts P (map mentioned (in_formula q.needs ++ in_formula q.gives)) (sites_in_body q.body) a) [
-  | inl b ↦ inl (any_parts (λ o. P (mentioned o)) (in_formula q.needs) (in_formula q.gives) (any_map P mentioned (in_formula q.needs ++ in_formula q.gives) b))
+    → (Any (λ o. P (mentioned o)) (in_formula q.needs) ⊎ Any (λ o. P (mentioned o)) (in_alternatives q.gives)) ⊎ Any P (sites_in_body q.body)
+parts_of P q a = elim (any_parts P (map mentioned (in_formula q.needs ++ in_alternatives q.gives)) (sites_in_body q.body) a) [
+  | inl b ↦ inl (any_parts (λ o. P (mentioned o)) (in_formula q.needs) (in_alternatives q.gives) (any_map P mentioned (in_formula q.needs ++ in_alternatives q.gives) b))
   | inr b ↦ inr b
 ]
 
 -- a rule that isn't on occurrences is broken in the body
 body_of : (P : Site → Type 0) (q : Procedure) → ((o : Occ) → P (mentioned o) → ⊥) → Any P (sites_of q) → Any P (sites_in_body q.body)
 body_of P q never a = elim (parts_of P q a) [
-  | inl b ↦ absurd (elim b [ inl c ↦ no (in_formula q.needs) c | inr c ↦ no (in_formula q.gives) c ])
+  | inl b ↦ absurd (elim b [ inl c ↦ no (in_formula q.needs) c | inr c ↦ no (in_alternatives q.gives) c ])
   | inr b ↦ b
 ]
   where

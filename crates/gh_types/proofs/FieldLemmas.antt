@@ -6,7 +6,7 @@ use Rattle.std.proofs.lemmas.List.{take_all, take_more, take-append-le, get_or_a
 use Rattle.std.specs.Prelude.{Any, Option, codes}
 use Rattle.gh_base.specs.declared.place.Span.{Span}
 use Rattle.gh_ast.specs.declared.Field.{Field}
-use Rattle.gh_ast.specs.Rules.{IsLink, SecondLink, DataField, NoLink}
+use Rattle.gh_ast.specs.Rules.{IsLink, SecondLink, NoLink}
 use Rattle.gh_types.specs.declared.fault.Fault.{Fault}
 use Rattle.gh_types.specs.Checks.{FieldErrors, FieldsErrors, StructErrors}
 use Rattle.gh_types.specs.Faults.{IsFirstOf, IsEarlier}

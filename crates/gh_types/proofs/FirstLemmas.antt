@@ -12,11 +12,11 @@ use Rattle.gh_ast.specs.declared.Stmt.{Stmt}
 use Rattle.gh_ast.specs.declared.Body.{Body}
 use Rattle.gh_ast.specs.declared.Procedure as whole
 use Rattle.gh_ast.specs.Plain.{test_of, tests_view, formula_of, formulas_view, statement_of, statements_view, Procedure, procedure_of, inside_of}
-use Rattle.gh_ast.specs.Occurrences.{in_test, in_tests, in_formula, in_formulas, sites_in, all_sites_in}
-use Rattle.gh_ast.specs.Rules.{NoBody, RepeatedAt, HasName, GoesFirst, Before, IsFirstError}
+use Rattle.gh_ast.specs.Occurrences.{in_test, in_tests, in_formula, in_formulas, in_alternatives, sites_in, all_sites_in}
+use Rattle.gh_ast.specs.Rules.{NoBody, RepeatedAt, HasName, GoesFirst, Before}
 use Rattle.gh_types.specs.declared.fault.Fault.{Fault}
 use Rattle.gh_types.specs.Checks.{ParameterErrors, TargetErrors}
-use Rattle.gh_types.specs.Faults.{FaultGoesFirst, IsFirstOf, IsFirstIn, IsEarlier}
+use Rattle.gh_types.specs.Faults.{IsFirstOf, IsFirstIn, IsEarlier}
 
 -- some member of a list: cases
 pub any_none : {X : Type 0} (P : X → Type 0) → Any P [] → ⊥
@@ -191,6 +191,10 @@ in_tests_flat (t ∷ ts) = ap (λ r. in_test (test_of t) ++ r) (in_tests_flat ts
 pub in_formulas_flat : (fs : List Assertion) → in_formulas (formulas_view fs) ≡ flat_map (λ f. in_formula (formula_of f)) fs
 in_formulas_flat [] = refl
 in_formulas_flat (f ∷ fs) = ap (λ r. in_formula (formula_of f) ++ r) (in_formulas_flat fs)
+
+pub in_alternatives_flat : (fs : List Assertion) → in_alternatives (map formula_of fs) ≡ in_formulas (formulas_view fs)
+in_alternatives_flat [] = refl
+in_alternatives_flat (f ∷ fs) = ap (λ r. in_formula (formula_of f) ++ r) (in_alternatives_flat fs)
 
 pub all_sites_flat : (inside : Bool) (ss : List Stmt) → all_sites_in inside (statements_view ss) ≡ flat_map (λ s. sites_in inside (statement_of s)) ss
 all_sites_flat inside [] = refl

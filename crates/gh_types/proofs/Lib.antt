@@ -3,3 +3,4 @@ pub mod TableLemmas
 pub mod FieldLemmas
 pub mod LimitLemmas
 pub mod BrokenLemmas
+pub mod CallLemmas

@@ -2,13 +2,12 @@
 use Rattle.std.proofs.Common.{◌≡◌, ◌≢◌, ℕ, zero, suc, ◌+◌, ◌<◌, ◌≤◌, take, ◌⊎◌, inl, inr, Bool, true, false, cond, List, [], ◌∷◌, ◌++◌, length, get_or, length-append, refl, map, sym, ◌∙◌, ap, subst, arith}
 use Rattle.std.proofs.Math.Seq.{get_or-append_seam, take-length}
 use Rattle.std.proofs.lemmas.List.{take_all, take_more, length-take-le, length-map, map-append, take-append-le, get_or_append_left, get_or_default}
-use Rattle.std.proofs.lemmas.List.Elements.{Contains-append_cases, Contains-push}
+use Rattle.std.proofs.lemmas.List.Elements.{Contains-append_cases}
 use Rattle.std.proofs.lemmas.Map.Text.{btree_map_updates_str}
 use Rattle.std.proofs.lemmas.Bool.{cases_lt}
 use Rattle.std.proofs.lemmas.Slice.Eq.{bytes_eq-Decides}
 use Rattle.std.specs.Prelude.{Option, None, Some, is_some, is_none, IsSome, IfSome, MatchOption, Any, Contains}
 use Rattle.std.specs.Borrow.{Bor}
-use Rattle.std.specs.Bool.{Decides}
 use Rattle.std.specs.BTreeMap as tree
 use Rattle.std.specs.Cmp.Lexicographic.{slice_cmp}
 use Rattle.std.specs.Map.{update}
@@ -18,7 +17,8 @@ use Rattle.gh_base.specs.declared.place.Span.{Span}
 use Rattle.gh_ast.specs.declared.Occ.{Occ}
 use Rattle.gh_ast.specs.declared.Procedure.{Procedure}
 use Rattle.gh_ast.specs.Plain.{procedure_of}
-use Rattle.gh_ast.specs.Rules.{Means, HasName, RepeatedAt}
+use Rattle.gh_ast.specs.Rules.{HasName, RepeatedAt}
+use Rattle.gh_ast.specs.Programs.{IsFirstNamed}
 use Rattle.gh_types.specs.declared.fault.Fault.{Fault}
 use Rattle.gh_types.specs.Checks.{RepeatErrors}
 use Rattle.gh_types.specs.Faults.{IsFirstOf, IsEarlier}
@@ -193,19 +193,14 @@ map_at f (y ∷ xs) zero x h e = ap f (sym e)
 map_at f (y ∷ xs) (suc k) x h e = map_at f xs k x (omega arith) e
 
 -- the procedure that a name means, by the first place of the name
-pub meant_there : (ps : List Procedure) (name : List ℕ) (k : ℕ) (p : Procedure) → IsFirstPlace (map (λ r. r.name.name) ps) name k → p ≡ get_or ps k p → Means (map procedure_of ps) name (procedure_of p)
-meant_there ps name k p h e = record {
-  place = k;
-  within = rw length-map (rw length-map at h.within);
-  element = map_at procedure_of ps k p (rw length-map at h.within) e;
-  holds = sym (map_at (λ r. r.name.name) ps k p (rw length-map at h.within) e) ∙ (get_or_default (map (λ r. r.name.name) ps) k p.name.name name h.within ∙ h.here);
-  earlier = λ j d l same.
-      let short : j < length ps = omega (arith, rw length-map at h.within) in
-      let x = get_or ps j p in
-      let here : x ≡ get_or ps j x = get_or_default ps j p x short in
-      let named : (get_or (map procedure_of ps) j d).name.name ≡ x.name.name = ap (λ r. r.name.name) (get_or_default (map procedure_of ps) j d (procedure_of x) (rw length-map short) ∙ map_at procedure_of ps j x short here) in
-      h.earlier j x.name.name l (map_at (λ r. r.name.name) ps j x short here ∙ (sym named ∙ same));
-}
+pub meant_there : (ps : List Procedure) (name : List ℕ) (k : ℕ) (p : Procedure) → IsFirstPlace (map (λ r. r.name.name) ps) name k → p ≡ get_or ps k p
+    → IsFirstNamed (map procedure_of ps) name (procedure_of p)
+meant_there [] name k p h e = absurd (omega (arith, h.within))
+meant_there (q ∷ ps) name zero p h e = inl (h.here, ap procedure_of e)
+meant_there (q ∷ ps) name (suc k) p h e = inr (h.earlier 0 name (omega arith), meant_there ps name k p later e)
+  where
+    later : IsFirstPlace (map (λ r. r.name.name) ps) name k
+    later = record { within = omega (arith, h.within); here = h.here; earlier = λ j d l. h.earlier (suc j) d (omega (arith, l)) }
 
 pub meant_nowhere : (ps : List Procedure) (name : List ℕ) → (Contains (map (λ r. r.name.name) ps) name → ⊥) → Any (λ r. r.name.name ≡ name) (map procedure_of ps) → ⊥
 meant_nowhere ps name none a =
@@ -214,7 +209,7 @@ meant_nowhere ps name none a =
 -- what the list of procedures has at the place of a name
 pub meant_got : (ps : List Procedure) (name : List ℕ) (k : ℕ) (o : Option (Bor Procedure)) → IsFirstPlace (map (λ r. r.name.name) ps) name k
     → IfSome o (λ x. x.now ≡ get_or ps k x.now) → (k < length ps → IsSome o)
-    → MatchOption o (Any (λ r. r.name.name ≡ name) (map procedure_of ps) → ⊥) (λ r. Means (map procedure_of ps) name (procedure_of r.now))
+    → MatchOption o (Any (λ r. r.name.name ≡ name) (map procedure_of ps) → ⊥) (λ r. IsFirstNamed (map procedure_of ps) name (procedure_of r.now))
 meant_got ps name k None h got some = let no : is_some {T = Bor Procedure} None ≡ true = some (rw length-map at h.within) in cc
 meant_got ps name k (Some x) h got some = meant_there ps name k x.now h got
 

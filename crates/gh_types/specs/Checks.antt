@@ -2,10 +2,9 @@
 use Rattle.std.specs.Prelude.{◌≡◌, ◌≢◌, ℕ, ◌⊎◌, List, ◌++◌, Any, Bool, true, map, codes}
 use Rattle.gh_base.specs.declared.place.Span.{Span}
 use Rattle.gh_ast.specs.declared.Occ.{Occ}
-use Rattle.gh_ast.specs.declared.Expr.{Expr}
 use Rattle.gh_ast.specs.declared.Field.{Field}
 use Rattle.gh_ast.specs.Plain.{Procedure, Program}
-use Rattle.gh_ast.specs.Occurrences.{Site, mentioned, assigned, called, returned, sites_in_body, in_formula, locals_of, variables_of}
+use Rattle.gh_ast.specs.Occurrences.{Site, mentioned, assigned, called, returned, sites_in_body, in_formula, in_alternatives, locals_of, variables_of}
 use Rattle.gh_ast.specs.Rules.{HasName, RepeatedAt, WrongCount, UnknownProcedure, ReturnInLoop, SecondLink, DataField, NoLink, NoBody}
 use Rattle.gh_types.specs.declared.scope.Setting.{Setting}
 use Rattle.gh_types.specs.declared.scope.Setting.TheVariants.{Requires, Ensures, Inside}
@@ -48,7 +47,7 @@ abbrev pub ProcedureErrors : List Procedure → Procedure → ℕ → Span → T
 ProcedureErrors ps q n s =
     RepeatErrors 2 (variables_of q) n s
     ⊎ (
-    (Any (λ o. OccurrenceErrors q Requires o n s) (in_formula q.needs) ⊎ Any (λ o. OccurrenceErrors q Ensures o n s) (in_formula q.gives))
+    (Any (λ o. OccurrenceErrors q Requires o n s) (in_formula q.needs) ⊎ Any (λ o. OccurrenceErrors q Ensures o n s) (in_alternatives q.gives))
     ⊎ (Any (λ x. SiteErrors ps q x n s) (sites_in_body q.body) ⊎ ((n ≡ 11) × NoBody q s))
     )
 

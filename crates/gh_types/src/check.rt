@@ -4,6 +4,7 @@ ghost use Rattle.std.specs.Prelude.{◌≡◌, IfErr, IfOk, OnOk};
 ghost use Rattle.gh_ast.specs.Plain.{program_of};
 ghost use Rattle.gh_ast.specs.Limits.{KeepsLimits};
 ghost use Rattle.gh_ast.specs.Rules.{IsTyped};
+ghost use Rattle.gh_ast.specs.WellFormed.{IsWellFormed};
 ghost use Rattle.gh_types.specs.Checking.{IsRefusal};
 ghost use Rattle.gh_types.specs.Checks.{ProgramErrors};
 ghost use Rattle.gh_types.specs.Faults.{IsFirstOf};
@@ -53,8 +54,9 @@ fn first_fault(alloc: Global, program: &Program) -> Result<Option<Fault>, AllocE
     Ok(earlier(in_fields, in_rest))
 }
 
-/// Checks the type rules of a program and the limits on its text.
+/// Checks the type rules of a well-formed program and the limits on its text.
 pub fn check(alloc: Global, program: Program) -> Result<Typed, CheckError>
+    requires formed { IsWellFormed (program_of program) }
     ensures ok { IfOk result (λ typed. typed ≡ program) }
     ensures rules { OnOk result (IsTyped (program_of program)) }
     ensures limits { OnOk result (KeepsLimits (program_of program)) }

@@ -71,7 +71,7 @@ pub fn count_atoms(assertion: &Assertion) -> u32
 
 /// How many atoms some assertions have together.
 #[cycle(atom_count)]
-fn count_all_atoms(assertions: &[Assertion]) -> u32
+pub fn count_all_atoms(assertions: &[Assertion]) -> u32
     ensures { result ≡ reported (all_atoms (formulas_view assertions.now)) }
 {
     let mut sum = 0u32;

@@ -1,27 +1,40 @@
 // The limits on a text.
 
-ghost use Rattle.std.specs.Prelude.{◌≡◌, ◌≤◌, [], ◌∷◌, map, length, All, MatchOption};
+ghost use Rattle.std.specs.Prelude.{◌≡◌, ◌<◌, ◌≤◌, [], ◌∷◌, map, length, sum, All, MatchOption};
 ghost use Rattle.gh_ast.specs.Plain.{formula_of, procedure_of, program_of, statement_of, statements_view};
-ghost use Rattle.gh_ast.specs.Limits.{assertions_of, atoms, invariants_in, all_invariants_in, invariants_in_body, AtomsPassed, IsLimit, KeepsLimits, ProceduresPassed, VariablesPassed};
+ghost use Rattle.gh_ast.specs.Limits.{atom_counts, atoms, invariants_in, all_invariants_in, invariants_in_body, AtomsPassed, IsLimit, KeepsLimits, ProceduresPassed, VariablesPassed};
 ghost use Rattle.gh_ast.specs.Occurrences.{variables_of};
-ghost use Rattle.gh_types.specs.LimitChecks.{FindsLong};
+ghost use Rattle.gh_types.specs.LimitChecks.{FindsMany};
 
-use crate::counts::{count_atoms, count_variables, reported};
+use crate::counts::{count_all_atoms, count_atoms, count_variables, reported};
 use gh_ast::typed::Limit;
 use gh_ast::{Assertion, Procedure, Program, Stmt};
 
+/// A number of atoms, where it passes the limit.
+fn over_limit(count: u32) -> Option<u32>
+    ensures { MatchOption result (count ≤ 32) (λ n. (n ≡ count) × (32 < count)) }
+{
+    if count > 32 { Some(count) } else { None }
+}
+
 /// The number of an assertion's atoms, where they are too many.
 fn long(assertion: &Assertion) -> Option<u32>
-    ensures { FindsLong (formula_of assertion.now ∷ []) result }
+    ensures { FindsMany (atoms (formula_of assertion.now) ∷ []) result }
 {
-    let count = count_atoms(assertion);
-    if count > 32 { Some(count) } else { None }
+    over_limit(count_atoms(assertion))
+}
+
+/// The number of the atoms of all alternatives together, where they are too many.
+fn long_together(alternatives: &[Assertion]) -> Option<u32>
+    ensures { FindsMany (sum (map atoms (map formula_of alternatives.now)) ∷ []) result }
+{
+    over_limit(count_all_atoms(alternatives))
 }
 
 /// The first too long invariant in a statement.
 #[cycle(long)]
 fn long_in_statement(statement: &Stmt) -> Option<u32>
-    ensures { FindsLong (invariants_in (statement_of statement.now)) result }
+    ensures { FindsMany (map atoms (invariants_in (statement_of statement.now))) result }
 {
     match statement {
         Stmt::If {
@@ -51,7 +64,7 @@ fn long_in_statement(statement: &Stmt) -> Option<u32>
 /// The first too long invariant in some statements.
 #[cycle(long)]
 fn long_in_statements(statements: &[Stmt]) -> Option<u32>
-    ensures { FindsLong (all_invariants_in (statements_view statements.now)) result }
+    ensures { FindsMany (map atoms (all_invariants_in (statements_view statements.now))) result }
 {
     for statement in statements {
         if let Some(count) = long_in_statement(statement) {
@@ -63,7 +76,7 @@ fn long_in_statements(statements: &[Stmt]) -> Option<u32>
 
 /// The first too long invariant of a procedure.
 fn long_in_body(procedure: &Procedure) -> Option<u32>
-    ensures { FindsLong (invariants_in_body (procedure_of procedure.now).body) result }
+    ensures { FindsMany (map atoms (invariants_in_body (procedure_of procedure.now).body)) result }
 {
     match &procedure.body {
         Some(body) => long_in_statements(body.block.statements.as_slice()),
@@ -71,14 +84,14 @@ fn long_in_body(procedure: &Procedure) -> Option<u32>
     }
 }
 
-/// The first too long assertion of a procedure.
+/// The first too long part of a procedure: what it requires, what it ensures, or an invariant.
 fn long_in_procedure(procedure: &Procedure) -> Option<u32>
-    ensures { FindsLong (assertions_of (procedure_of procedure.now)) result }
+    ensures { FindsMany (atom_counts (procedure_of procedure.now)) result }
 {
     if let Some(count) = long(&procedure.needs) {
         return Some(count);
     }
-    if let Some(count) = long(&procedure.gives) {
+    if let Some(count) = long_together(procedure.gives.as_slice()) {
         return Some(count);
     }
     long_in_body(procedure)
@@ -115,9 +128,9 @@ fn variables_limit(procedures: &[Procedure]) -> Option<Limit>
     None
 }
 
-/// The limit on the atoms of an assertion, where it is passed.
+/// The limit on atoms, where it is passed.
 fn atoms_limit(procedures: &[Procedure]) -> Option<Limit>
-    ensures { MatchOption result (All (λ q. All (λ f. atoms f ≤ 32) (assertions_of q)) (map procedure_of procedures.now)) (AtomsPassed (map procedure_of procedures.now)) }
+    ensures { MatchOption result (All (λ q. All (λ n. n ≤ 32) (atom_counts q)) (map procedure_of procedures.now)) (AtomsPassed (map procedure_of procedures.now)) }
 {
     for procedure in procedures {
         if let Some(count) = long_in_procedure(procedure) {

@@ -101,7 +101,7 @@ impl<'a, 'n> Scope<'a, 'n> {
 
     /// The first error in some assertions.
     #[cycle(assertion)]
-    fn in_assertions(&self, setting: Setting, assertions: &[Assertion]) -> Option<Fault>
+    pub fn in_assertions(&self, setting: Setting, assertions: &[Assertion]) -> Option<Fault>
         ensures { IsFirstIn (OccurrenceErrors (procedure_of self.now.own.now) setting) (in_formulas (formulas_view assertions.now)) result }
     {
         let mut first = None;

@@ -21,7 +21,7 @@ impl<'a, 'n> Scope<'a, 'n> {
         let again = repeated(alloc, 2, names.as_slice())?;
         let contract = earlier(
             self.in_assertion(Setting::Requires, &self.own.needs),
-            self.in_assertion(Setting::Ensures, &self.own.gives),
+            self.in_assertions(Setting::Ensures, self.own.gives.as_slice()),
         );
         let missing = Fault::unless(self.own.body.is_some(), 11, self.own.close);
         let body = earlier(self.in_body(alloc)?, missing);

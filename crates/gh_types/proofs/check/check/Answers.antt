@@ -1,6 +1,3 @@
-use Rattle.std.proofs.Common.{◌≡◌, ℕ}
-use Rattle.std.specs.Prelude.{Option, None, Some}
-use Rattle.gh_base.specs.declared.place.Span.{Span}
 use Rattle.gh_ast.specs.Plain.{program_of}
 use Rattle.gh_types.proofs.BrokenLemmas.{first_of_some, none_broken}
 use Rattle.gh_types.proofs.check.check.Goals as goal

@@ -1,5 +1,3 @@
-use Rattle.std.proofs.Common.{◌≡◌, List, map, subst}
-use Rattle.gh_base.specs.declared.place.Span.{Span}
 use Rattle.gh_types.proofs.FirstLemmas.{first_either}
 use Rattle.gh_types.proofs.check.first_fault.Goals as goal
 

@@ -1,8 +1,8 @@
-use Rattle.std.proofs.Common.{arith, refl, ◌≤◌, ◌<◌, length, get_or, map}
+use Rattle.std.proofs.Common.{arith, refl, ◌≤◌, get_or, map}
 use Rattle.std.specs.Prelude.{All}
 use Rattle.gh_ast.specs.Plain.{procedure_of}
-use Rattle.gh_ast.specs.Limits.{HasManyAtomsSomewhere, assertions_of, atoms}
-use Rattle.gh_types.proofs.LimitLemmas.{first_there, all_more, all_whole, some_long, none_long}
+use Rattle.gh_ast.specs.Limits.{HasManyAtomsSomewhere, atom_counts}
+use Rattle.gh_types.proofs.LimitLemmas.{first_there, all_more, all_whole, some_many, none_many}
 use Rattle.gh_types.proofs.limits.atoms_limit.Goals as goal
 
 pub returns-in-Some : goal.returns-in-Some
@@ -11,10 +11,10 @@ returns-in-Some c =
     record {
       kind = refl;
       procedure = q;
-      assertion = c.in-Some.ensures.says.assertion;
+      number = c.in-Some.ensures.says.many;
       first = first_there HasManyAtomsSomewhere c.args.procedures.now c.loop-procedure.procedure-index c.procedure-item.result (omega arith) c.procedure-item.is
-          (some_long (assertions_of q) _ c.in-Some.ensures)
-          (λ j d l m. none_long (assertions_of (get_or (map procedure_of c.args.procedures.now) j d)) (c.loop-procedure.invariant j d l) m);
+          (some_many (atom_counts q) _ c.in-Some.ensures)
+          (λ j d l m. none_many (atom_counts (get_or (map procedure_of c.args.procedures.now) j d)) (c.loop-procedure.invariant j d l) m);
       first_there = c.in-Some.ensures.says.first;
       span = refl;
       count = c.in-Some.ensures.says.count;
@@ -22,4 +22,7 @@ returns-in-Some c =
 
 pub loop-procedure-preserved : goal.loop-procedure-preserved
 loop-procedure-preserved c =
-    all_more (λ q. All (λ f. atoms f ≤ 32) (assertions_of q)) c.args.procedures.now c.loop-procedure.procedure-index c.procedure-item.result (omega arith) c.procedure-item.is c.loop-procedure.invariant c.in_default.ensures.says
+    all_more (λ q. All (λ n. n ≤ 32) (atom_counts q)) c.args.procedures.now c.loop-procedure.procedure-index c.procedure-item.result (omega arith) c.procedure-item.is c.loop-procedure.invariant c.in_default.ensures.says
+
+pub returns : goal.returns
+returns c = all_whole (λ q. All (λ n. n ≤ 32) (atom_counts q)) c.args.procedures.now c.loop-procedure.procedure-index (omega arith) c.loop-procedure.invariant

@@ -1,5 +1,5 @@
-use Rattle.gh_types.proofs.LimitLemmas.{long_one}
+use Rattle.gh_types.proofs.LimitLemmas.{one_found}
 use Rattle.gh_types.proofs.limits.long.Goals as goal
 
-pub returns-then-count-gt32 : goal.returns-then-count-gt32
-returns-then-count-gt32 c = long_one _ _ c.count_atoms-count.ensures c.if-count-gt32.true
+pub returns : goal.returns
+returns c = one_found _ _ _ c.count_atoms.ensures c.over_limit.ensures

@@ -1,8 +1,8 @@
-use Rattle.std.proofs.Common.{arith, refl, ◌≤◌, ◌<◌, length, get_or, map}
+use Rattle.std.proofs.Common.{arith, refl, ◌≤◌, ◌<◌, length}
 use Rattle.gh_ast.specs.Plain.{procedure_of}
 use Rattle.gh_ast.specs.Limits.{HasManyVariables}
 use Rattle.gh_ast.specs.Occurrences.{variables_of}
-use Rattle.gh_types.proofs.LimitLemmas.{first_there, all_more, all_whole}
+use Rattle.gh_types.proofs.LimitLemmas.{first_there, all_more}
 use Rattle.gh_types.proofs.limits.variables_limit.Goals as goal
 
 pub returns-then-count-gt32 : goal.returns-then-count-gt32

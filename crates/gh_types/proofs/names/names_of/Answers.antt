@@ -1,4 +1,4 @@
-use Rattle.std.proofs.Common.{◌≡◌, ◌++◌, [], ◌∷◌, map, take, length, arith, sym, ◌∙◌, ◌+◌}
+use Rattle.std.proofs.Common.{◌≡◌, map, take, length, arith, sym, ◌∙◌}
 use Rattle.std.proofs.lemmas.List.{map-append, length-map}
 use Rattle.gh_types.proofs.TableLemmas.{map_more, map_all, length_of_front}
 use Rattle.gh_types.proofs.names.names_of.Goals as goal

@@ -1,4 +1,4 @@
-use Rattle.std.proofs.Common.{◌≡◌, ◌++◌, [], ◌∷◌, List, take, map, arith, subst}
+use Rattle.std.proofs.Common.{[], ◌∷◌, List, take, map, arith, subst}
 use Rattle.gh_ast.specs.Plain.{Procedure, procedure_of}
 use Rattle.gh_types.specs.Checks.{ProcedureErrors}
 use Rattle.gh_types.specs.Faults.{IsFirstIn, IsFirstOf}

@@ -1,12 +1,15 @@
-use Rattle.std.proofs.Common.{arith, ap, length}
+use Rattle.std.proofs.Common.{refl, arith, ap, length}
+use Rattle.gh_ast.specs.Tokens.{first_place}
 use Rattle.gh_ast.specs.Plain.{star, formula_first, no_formulas, formula_of}
-use Rattle.gh_ast.proofs.OneAssertion.{one_formula}
 use Rattle.gh_ast.proofs.Shorter.{shorter_item}
-use Rattle.gh_parse.proofs.Exits.{exit, along, no_end}
+use Rattle.gh_parse.specs.Stops.{any}
+use Rattle.gh_parse.proofs.Rules.{by, form, told, first, first_any, form_first, next, after, after_between, breaks_tok, each, of_any, ends_tok, ends_seq, ends_opt, sentences_tok}
+use Rattle.gh_parse.proofs.Exits.{exit, exit_missing, along, missing}
 use Rattle.gh_parse.proofs.Folds.{formula_of-emp, formula_of-cases, formula_of-star, formulas_before}
 use Rattle.gh_parse.proofs.Turns.{chain_more, chain_last, fewer}
-use Rattle.gh_parse.proofs.AssertionExits.{assertion_alone, assertion_start, items_first, items_rest, items_more, items_last}
-use Rattle.gh_parse.proofs.AssertionExits.{no_choosing, no_yes, no_else, no_no, chosen, bracketed, bracketed_rest, shorter_choosing, shorter_braced, empty_item}
+use Rattle.gh_parse.proofs.TestForms.{make_between, part_between, exact_guard}
+use Rattle.gh_parse.proofs.AssertionForms.{assertion_alone, assertion_start, items_rest, items_more, items_last, make_assertion, part_assertion, make_items, part_items, make_choice, part_choice}
+use Rattle.gh_parse.proofs.AssertionForms.{exact_assertion, ends_assertion, ends_choice, ends_braced, exact_braced, no_item, in_bracketed, chosen, bracketed, shorter_choosing, shorter_braced, empty_item}
 use Rattle.gh_parse.proofs.cursor.Parser.+assertion.Goals as goal
 
 pub assertion-returns-in_default : goal.assertion-returns-in_default
@@ -20,7 +23,7 @@ assertion-members-init t c = record {
 
 pub assertion-returns-in_err-item : goal.assertion-returns-in_err-item
 assertion-returns-in_err-item t c =
-    exit _ _ _ _ _ _ (λ h. c.members.invariant.goes.back (items_first h)) c.in_err-item.ensures c.from_residual-in_err-item.ensures.1
+    exit _ _ _ (λ s. c.members.invariant.goes.back _ (form make_items part_items (first (ends_opt (λ p. refl)) s))) c.in_err-item.ensures c.from_residual-in_err-item.ensures.1
 
 pub assertion-members-smaller : goal.assertion-members-smaller
 assertion-members-smaller t c = fewer _ _ _ (shorter_item c.in_ok-item.ensures) c.in-Some-take_sign.ensures.taken
@@ -44,21 +47,32 @@ assertion-returns-in_default-take_sign t c =
     )
 
 pub cases-returns-in_err-test : goal.cases-returns-in_err-test
-cases-returns-in_err-test t c = exit _ _ _ _ _ _ (no_choosing c.in_ok-expect_key.ensures) c.in_err-test.ensures c.from_residual-in_err-test.ensures.1
+cases-returns-in_err-test t c =
+    exit _ _ _ (λ s. by make_choice (told _ _ _ c.in_ok-expect_key.ensures part_choice) (after _ c.in_ok-expect_key.ensures (first ends_choice s))) c.in_err-test.ensures
+    c.from_residual-in_err-test.ensures.1
 
 pub cases-enclosed_assertion-requires : goal.cases-enclosed_assertion-requires
 cases-enclosed_assertion-requires t c =
     let e = ap length c.in_ok-expect_key.ensures in
     let h = shorter_choosing _ _ _ c.in_ok-test.ensures in
-    (omega (arith, e, h), tt)
+    (omega (arith, e, h), (λ p. refl, λ p. refl))
 
 pub cases-returns-in_err-yes : goal.cases-returns-in_err-yes
 cases-returns-in_err-yes t c =
-    exit _ _ _ _ _ _ (no_yes c.in_ok-expect_key.ensures c.in_ok-test.ensures) c.in_err-yes.ensures c.from_residual-in_err-yes.ensures.1
+    exit _ _ _
+    (λ s. by make_choice (told _ _ _ c.in_ok-expect_key.ensures part_choice)
+    (after _ c.in_ok-expect_key.ensures (next exact_guard (any c.in_ok-test.ensures) (first_any (sentences_tok first_place (ends_braced _)) s)))) c.in_err-yes.ensures
+    c.from_residual-in_err-yes.ensures.1
 
 pub cases-returns-in_err-expect_key-2 : goal.cases-returns-in_err-expect_key-2
 cases-returns-in_err-expect_key-2 t c =
-    exit _ _ _ _ _ _ (no_else c.in_ok-expect_key.ensures c.in_ok-test.ensures c.in_ok-yes.ensures) c.in_err-expect_key-2.ensures c.from_residual-in_err-expect_key-2.ensures.1
+    exit_missing _ _ _ _
+    (λ n. by make_choice (told _ _ _ c.in_ok-expect_key.ensures part_choice)
+    (after _ c.in_ok-expect_key.ensures
+    (next exact_guard (any c.in_ok-test.ensures)
+    (form_first make_between part_between
+    (after_between (each exact_assertion) (part_between _ _ (any c.in_ok-yes.ensures)) (breaks_tok first_place (ends_braced _) n)))))) c.in_err-expect_key-2.ensures
+    c.from_residual-in_err-expect_key-2.ensures.1
 
 pub cases-enclosed_assertion-requires-2 : goal.cases-enclosed_assertion-requires-2
 cases-enclosed_assertion-requires-2 t c =
@@ -66,23 +80,46 @@ cases-enclosed_assertion-requires-2 t c =
     let h = shorter_choosing _ _ _ c.in_ok-test.ensures in
     let i = shorter_braced _ _ _ c.in_ok-yes.ensures in
     let f = ap length c.in_ok-expect_key-2.ensures in
-    (omega (arith, e, h, i, f), tt)
+    (omega (arith, e, h, i, f), (λ p. refl, λ p. refl))
 
 pub cases-returns-in_err-no : goal.cases-returns-in_err-no
 cases-returns-in_err-no t c =
-    exit _ _ _ _ _ _ (no_no c.in_ok-expect_key.ensures c.in_ok-test.ensures c.in_ok-yes.ensures c.in_ok-expect_key-2.ensures) c.in_err-no.ensures c.from_residual-in_err-no.ensures.1
+    exit _ _ _
+    (λ s. by make_choice (told _ _ _ c.in_ok-expect_key.ensures part_choice)
+    (after _ c.in_ok-expect_key.ensures
+    (next exact_guard (any c.in_ok-test.ensures) (next exact_braced (any c.in_ok-yes.ensures) (after _ c.in_ok-expect_key-2.ensures (of_any s)))))) c.in_err-no.ensures
+    c.from_residual-in_err-no.ensures.1
 
 pub cases-returns : goal.cases-returns
 cases-returns t c =
     rw (formula_of-cases c.in_ok-test.test c.in_ok-new.field-0 c.in_ok-new-2.field-0, c.in_ok-new.ensures.ok, c.in_ok-new-2.ensures.ok)
     (chosen c.in_ok-expect_key.ensures c.in_ok-test.ensures c.in_ok-yes.ensures c.in_ok-expect_key-2.ensures c.in_ok-no.ensures)
 
+pub enclosed_assertion-returns-in_err-expect_sign : goal.enclosed_assertion-returns-in_err-expect_sign
+enclosed_assertion-returns-in_err-expect_sign t c =
+    exit _ _ _ (λ s. form make_between part_between (first (ends_seq ends_assertion (ends_tok first_place (c.requires.ends first_place))) s))
+    (missing _ _ _ _ _ first_place (c.requires.begins first_place) c.in_err-expect_sign.ensures) c.from_residual.ensures.1
+
+pub enclosed_assertion-returns-in_err-inner : goal.enclosed_assertion-returns-in_err-inner
+enclosed_assertion-returns-in_err-inner t c =
+    exit _ _ _ (λ s. form make_between part_between (after _ c.in_ok-expect_sign.ensures (first (ends_tok first_place (c.requires.ends first_place)) s))) c.in_err-inner.ensures
+    c.from_residual-in_err-inner.ensures.1
+
 pub enclosed_assertion-returns-in_err-expect_sign-2 : goal.enclosed_assertion-returns-in_err-expect_sign-2
 enclosed_assertion-returns-in_err-expect_sign-2 t c =
-    exit _ _ _ _ _ _ (no_end one_formula c.in_ok-expect_sign.ensures c.in_ok-inner.ensures) c.in_err-expect_sign-2.ensures c.from_residual-in_err-expect_sign-2.ensures.1
+    exit _ _ _ (λ s. form make_between part_between (after _ c.in_ok-expect_sign.ensures (next (each exact_assertion) (any c.in_ok-inner.ensures) s)))
+    (missing _ _ _ _ _ first_place (c.requires.ends first_place) c.in_err-expect_sign-2.ensures) c.from_residual-in_err-expect_sign-2.ensures.1
 
 pub item-returns-in_default : goal.item-returns-in_default
-item-returns-in_default t c = along _ _ _ _ _ bracketed (bracketed_rest c.ahead.result c.ahead.ensures c.in_default.not-Name c.in_default.not-Key) c.enclosed_assertion.ensures
+item-returns-in_default t c =
+    along _ _ (λ x h. bracketed x _ h) (λ s. in_bracketed c.ahead.result c.ahead.ensures c.in_default.not-Name c.in_default.not-Key (of_any s)) c.enclosed_assertion.ensures
 
 pub item_by_word-returns-in_ok-expect_key-in-Emp : goal.item_by_word-returns-in_ok-expect_key-in-Emp
 item_by_word-returns-in_ok-expect_key-in-Emp t c = rw formula_of-emp (empty_item c.in_ok-expect_key-in-Emp.ensures)
+
+pub assertion-returns-in_err-first : goal.assertion-returns-in_err-first
+assertion-returns-in_err-first t c = exit _ _ _ (λ s. form make_assertion part_assertion (first (ends_opt (λ p. refl)) s)) c.in_err-first.ensures c.from_residual.ensures.1
+
+pub item_by_word-returns-in_default : goal.item_by_word-returns-in_default
+item_by_word-returns-in_default t c =
+    no_item c.requires c.in_default.not-Emp c.in_default.not-Acc c.in_default.not-Lseg c.in_default.not-If c.in_default.not-Null

@@ -1,17 +1,32 @@
-use Rattle.std.proofs.Common.{arith}
+use Rattle.std.proofs.Common.{refl, arith}
+use Rattle.gh_ast.specs.Tokens.{first_place}
 use Rattle.gh_ast.specs.Plain.{part_of}
 use Rattle.gh_ast.proofs.ShorterStatement.{shorter_statement}
+use Rattle.gh_parse.specs.Stops.{any}
+use Rattle.gh_parse.proofs.Rules.{by, form, told, begins_not, first, next, after, in_opt, ends_seq, ends_opt}
+use Rattle.gh_parse.proofs.Exits.{exit, along, missing}
 use Rattle.gh_parse.proofs.StatementViews.{if_view, while_view, part_view, if_alone_view}
-use Rattle.gh_parse.proofs.Exits.{exit, along}
-use Rattle.gh_parse.proofs.StatementExits.{if_refused_test, if_refused_taken, if_refused_otherwise, if_spelled, if_else_spelled, while_refused_test, while_refused_clause, while_refused_body, while_spelled, taken_less, otherwise_less, body_less, runs_more, runs_end, block_spelled, block_refused, pushed}
+use Rattle.gh_parse.proofs.ValueForms.{a_name}
+use Rattle.gh_parse.proofs.TestForms.{exact_guard}
+use Rattle.gh_parse.proofs.AssertionForms.{exact_clause, ends_clause}
+use Rattle.gh_parse.proofs.CallForms.{spelled_at, in_named}
+use Rattle.gh_parse.proofs.StatementForms.{make_if, part_if, make_while, part_while, make_more, part_more, make_block, part_block, exact_part, ends_run, ends_block, no_statement}
+use Rattle.gh_parse.proofs.StatementForms.{if_spelled, if_else_spelled, while_spelled, taken_less, otherwise_less, body_less, runs_more, runs_end, block_spelled, pushed}
 use Rattle.gh_parse.proofs.cursor.Parser.+statement.Goals as goal
+
+pub block-returns-in_err-expect_sign : goal.block-returns-in_err-expect_sign
+block-returns-in_err-expect_sign t c =
+    exit _ _ _ (λ s. form make_block part_block (first ends_run s)) (missing _ _ _ _ _ first_place refl c.in_err-expect_sign.ensures) c.from_residual.ensures.1
 
 pub block-returns : goal.block-returns
 block-returns t c =
-    along _ _ _ _ _ (block_spelled c.in_ok-expect_sign.ensures) (block_refused c.in_ok-expect_sign.ensures) c.statements.ensures
+    along _ _ (λ x h. block_spelled c.in_ok-expect_sign.ensures x _ h) (λ s. form make_block part_block (after _ c.in_ok-expect_sign.ensures s)) c.statements.ensures
 
 pub if_statement-returns-in_err-test : goal.if_statement-returns-in_err-test
-if_statement-returns-in_err-test t c = exit _ _ _ _ _ _ (if_refused_test c.in_ok-expect_key.ensures) c.in_err-test.ensures c.from_residual-in_err-test.ensures.1
+if_statement-returns-in_err-test t c =
+    exit _ _ _
+    (λ s. by make_if (told _ _ _ c.in_ok-expect_key.ensures part_if) (after _ c.in_ok-expect_key.ensures (first (ends_seq ends_block (ends_opt (λ p. refl))) s)))
+    c.in_err-test.ensures c.from_residual-in_err-test.ensures.1
 
 pub if_statement-block-requires : goal.if_statement-block-requires
 if_statement-block-requires t c =
@@ -19,7 +34,10 @@ if_statement-block-requires t c =
 
 pub if_statement-returns-in_err-taken : goal.if_statement-returns-in_err-taken
 if_statement-returns-in_err-taken t c =
-    exit _ _ _ _ _ _ (if_refused_taken c.in_ok-expect_key.ensures c.in_ok-test.ensures) c.in_err-taken.ensures c.from_residual-in_err-taken.ensures.1
+    exit _ _ _
+    (λ s. by make_if (told _ _ _ c.in_ok-expect_key.ensures part_if)
+    (after _ c.in_ok-expect_key.ensures (next exact_guard (any c.in_ok-test.ensures) (first (ends_opt (λ p. refl)) s)))) c.in_err-taken.ensures
+    c.from_residual-in_err-taken.ensures.1
 
 pub if_statement-returns-then-not-is_key : goal.if_statement-returns-then-not-is_key
 if_statement-returns-then-not-is_key t c =
@@ -32,12 +50,28 @@ if_statement-block-requires-2 t c =
 
 pub if_statement-returns-in_err-otherwise : goal.if_statement-returns-in_err-otherwise
 if_statement-returns-in_err-otherwise t c =
-    exit _ _ _ _ _ _ (if_refused_otherwise c.in_ok-expect_key.ensures c.in_ok-test.ensures c.in_ok-taken.ensures c.in_ok-expect_key-2.ensures) c.in_err-otherwise.ensures
-    c.from_residual-in_err-otherwise.ensures.1
+    exit _ _ _
+    (λ s. by make_if (told _ _ _ c.in_ok-expect_key.ensures part_if)
+    (after _ c.in_ok-expect_key.ensures
+    (next exact_guard (any c.in_ok-test.ensures) (next exact_part (any {x = part_of c.in_ok-taken.taken} c.in_ok-taken.ensures) (in_opt _ c.in_ok-expect_key-2.ensures s)))))
+    c.in_err-otherwise.ensures c.from_residual-in_err-otherwise.ensures.1
 
 pub if_statement-returns : goal.if_statement-returns
 if_statement-returns t c =
     rw if_view (if_else_spelled c.in_ok-expect_key.ensures c.in_ok-test.ensures c.in_ok-taken.ensures c.in_ok-expect_key-2.ensures c.in_ok-otherwise.ensures)
+
+pub statement-returns-in_err-name : goal.statement-returns-in_err-name
+statement-returns-in_err-name t c =
+    exit _ _ _ (λ s. no_statement c.if-is_key.ensures c.if-is_key-2.ensures c.if-is_key-3.ensures c.if-is_key-4.ensures s)
+    (missing _ _ _ _ _ a_name refl c.in_err-name.ensures) c.from_residual.ensures.1
+
+pub statement-returns : goal.statement-returns
+statement-returns t c = along _ _ (λ x h. spelled_at c.in_ok-name.ensures h) (λ s. in_named c.in_ok-name.ensures s) c.named_statement.ensures
+
+pub statements-returns-in_err-statement : goal.statements-returns-in_err-statement
+statements-returns-in_err-statement t c =
+    exit _ _ _ (λ s. c.run.invariant.goes.back _ (by make_more (λ xs r d h. part_more xs r (begins_not c.run-test.ensures d) h) (first ends_run s))) c.in_err-statement.ensures
+    c.from_residual.ensures.1
 
 pub statements-run-smaller : goal.statements-run-smaller
 statements-run-smaller t c =
@@ -45,7 +79,7 @@ statements-run-smaller t c =
 
 pub statements-run-preserved : goal.statements-run-preserved
 statements-run-preserved t c =
-    runs_more c.run.invariant c.in_ok-statement.ensures (pushed _ _ _ c.in_ok-push.ensures.items)
+    runs_more c.run.invariant c.in_ok-statement.ensures c.run-test.ensures (pushed _ _ _ c.in_ok-push.ensures.items)
 
 pub statements-returns : goal.statements-returns
 statements-returns t c =
@@ -53,11 +87,15 @@ statements-returns t c =
 
 pub while_statement-returns-in_err-test : goal.while_statement-returns-in_err-test
 while_statement-returns-in_err-test t c =
-    exit _ _ _ _ _ _ (while_refused_test c.in_ok-span.ensures) c.in_err-test.ensures c.from_residual-in_err-test.ensures.1
+    exit _ _ _
+    (λ s. by make_while (told _ _ _ c.in_ok-span.ensures part_while) (after _ c.in_ok-span.ensures (first (ends_seq (ends_clause (λ p. refl)) ends_block) s)))
+    c.in_err-test.ensures c.from_residual-in_err-test.ensures.1
 
 pub while_statement-returns-in_err-invariant : goal.while_statement-returns-in_err-invariant
 while_statement-returns-in_err-invariant t c =
-    exit _ _ _ _ _ _ (while_refused_clause c.in_ok-span.ensures c.in_ok-test.ensures) c.in_err-invariant.ensures c.from_residual-in_err-invariant.ensures.1
+    exit _ _ _
+    (λ s. by make_while (told _ _ _ c.in_ok-span.ensures part_while) (after _ c.in_ok-span.ensures (next exact_guard (any c.in_ok-test.ensures) (first ends_block s))))
+    c.in_err-invariant.ensures c.from_residual-in_err-invariant.ensures.1
 
 pub while_statement-block-requires : goal.while_statement-block-requires
 while_statement-block-requires t c =
@@ -65,7 +103,10 @@ while_statement-block-requires t c =
 
 pub while_statement-returns-in_err-body : goal.while_statement-returns-in_err-body
 while_statement-returns-in_err-body t c =
-    exit _ _ _ _ _ _ (while_refused_body c.in_ok-span.ensures c.in_ok-test.ensures c.in_ok-invariant.ensures) c.in_err-body.ensures c.from_residual-in_err-body.ensures.1
+    exit _ _ _
+    (λ s. by make_while (told _ _ _ c.in_ok-span.ensures part_while)
+    (after _ c.in_ok-span.ensures (next exact_guard (any c.in_ok-test.ensures) (next (exact_clause (λ p. refl)) (any c.in_ok-invariant.ensures) s))))
+    c.in_err-body.ensures c.from_residual-in_err-body.ensures.1
 
 pub while_statement-returns : goal.while_statement-returns
 while_statement-returns t c =

@@ -1,12 +1,15 @@
-use Rattle.std.proofs.Common.{arith}
+use Rattle.std.proofs.Common.{refl, arith}
+use Rattle.gh_ast.specs.Tokens.{first_place}
 use Rattle.gh_ast.specs.Plain.{conjunction, disjunction, test_first, no_tests, test_of}
-use Rattle.gh_ast.proofs.OneTest.{one_test}
 use Rattle.gh_ast.proofs.Shorter.{shorter_literal, shorter_conjunction}
-use Rattle.gh_parse.proofs.Exits.{exit, along, no_end}
+use Rattle.gh_parse.specs.Stops.{any}
+use Rattle.gh_parse.proofs.Rules.{by, form, told, first, next, after, each, ends_tok, ends_seq, ends_opt}
+use Rattle.gh_parse.proofs.Exits.{exit, along, missing}
 use Rattle.gh_parse.proofs.Folds.{test_of-not, test_of-and, test_of-or, tests_before}
 use Rattle.gh_parse.proofs.Turns.{chain_more, chain_last, fewer}
-use Rattle.gh_parse.proofs.TestExits.{conjunction_alone, conjunction_start, literals_first, literals_rest, literals_more, literals_last}
-use Rattle.gh_parse.proofs.TestExits.{test_alone, test_start, conjunctions_first, conjunctions_rest, conjunctions_more, conjunctions_last, denied, denied_rest, bare, bare_rest}
+use Rattle.gh_parse.proofs.TestForms.{make_between, part_between, make_negated, part_negated, make_bracketed, part_bracketed, make_conj, part_conj, make_lits, part_lits, make_test, part_test, make_conjs, part_conjs}
+use Rattle.gh_parse.proofs.TestForms.{exact_test, ends_test, denied, bare}
+use Rattle.gh_parse.proofs.TestForms.{conjunction_alone, conjunction_start, literals_rest, literals_more, literals_last, test_alone, test_start, conjunctions_rest, conjunctions_more, conjunctions_last}
 use Rattle.gh_parse.proofs.cursor.Parser.+test.Goals as goal
 
 pub conjunction-returns-in_default : goal.conjunction-returns-in_default
@@ -20,7 +23,7 @@ conjunction-members-init t c = record {
 
 pub conjunction-returns-in_err-literal : goal.conjunction-returns-in_err-literal
 conjunction-returns-in_err-literal t c =
-    exit _ _ _ _ _ _ (λ h. c.members.invariant.goes.back (literals_first h)) c.in_err-literal.ensures c.from_residual-in_err-literal.ensures.1
+    exit _ _ _ (λ s. c.members.invariant.goes.back _ (form make_lits part_lits (first (ends_opt (λ p. refl)) s))) c.in_err-literal.ensures c.from_residual-in_err-literal.ensures.1
 
 pub conjunction-members-smaller : goal.conjunction-members-smaller
 conjunction-members-smaller t c = fewer _ _ _ (shorter_literal c.in_ok-literal.ensures) c.in-Some-take_sign.ensures.taken
@@ -54,7 +57,7 @@ test-members-init t c = record {
 
 pub test-returns-in_err-conjunction : goal.test-returns-in_err-conjunction
 test-returns-in_err-conjunction t c =
-    exit _ _ _ _ _ _ (λ h. c.members.invariant.goes.back (conjunctions_first h)) c.in_err-conjunction.ensures c.from_residual-in_err-conjunction.ensures.1
+    exit _ _ _ (λ s. c.members.invariant.goes.back _ (form make_conjs part_conjs (first (ends_opt (λ p. refl)) s))) c.in_err-conjunction.ensures c.from_residual-in_err-conjunction.ensures.1
 
 pub test-members-smaller : goal.test-members-smaller
 test-members-smaller t c = fewer _ _ _ (shorter_conjunction c.in_ok-conjunction.ensures) c.in-Some-take_sign.ensures.taken
@@ -77,15 +80,34 @@ test-returns-in_default-take_sign t c =
     (conjunctions_last c.in_ok-conjunction.ensures c.in_default-take_sign.ensures.taken c.in_default-take_sign.ensures.stays)
     )
 
+pub conjunction-returns-in_err-first : goal.conjunction-returns-in_err-first
+conjunction-returns-in_err-first t c = exit _ _ _ (λ s. form make_conj part_conj (first (ends_opt (λ p. refl)) s)) c.in_err-first.ensures c.from_residual.ensures.1
+
+pub test-returns-in_err-first : goal.test-returns-in_err-first
+test-returns-in_err-first t c = exit _ _ _ (λ s. form make_test part_test (first (ends_opt (λ p. refl)) s)) c.in_err-first.ensures c.from_residual.ensures.1
+
+pub enclosed_test-returns-in_err-expect_sign : goal.enclosed_test-returns-in_err-expect_sign
+enclosed_test-returns-in_err-expect_sign t c =
+    exit _ _ _ (λ s. form make_between part_between (first (ends_seq (ends_test _) (ends_tok first_place refl)) s))
+    (missing _ _ _ _ _ first_place refl c.in_err-expect_sign.ensures) c.from_residual.ensures.1
+
+pub enclosed_test-returns-in_err-test : goal.enclosed_test-returns-in_err-test
+enclosed_test-returns-in_err-test t c =
+    exit _ _ _ (λ s. form make_between part_between (after _ c.in_ok-expect_sign.ensures (first (ends_tok first_place refl) s))) c.in_err-test.ensures
+    c.from_residual-in_err-test.ensures.1
+
 pub enclosed_test-returns-in_err-expect_sign-2 : goal.enclosed_test-returns-in_err-expect_sign-2
 enclosed_test-returns-in_err-expect_sign-2 t c =
-    exit _ _ _ _ _ _ (no_end (one_test c.args.reads) c.in_ok-expect_sign.ensures c.in_ok-test.ensures) c.in_err-expect_sign-2.ensures c.from_residual-in_err-expect_sign-2.ensures.1
+    exit _ _ _ (λ s. form make_between part_between (after _ c.in_ok-expect_sign.ensures (next (each exact_test) (any c.in_ok-test.ensures) s)))
+    (missing _ _ _ _ _ first_place refl c.in_err-expect_sign-2.ensures) c.from_residual-in_err-expect_sign-2.ensures.1
 
 pub literal-returns-in_err-inner : goal.literal-returns-in_err-inner
-literal-returns-in_err-inner t c = exit _ _ _ _ _ _ (denied_rest c.in-Some.ensures.taken) c.in_err-inner.ensures c.from_residual.ensures.1
+literal-returns-in_err-inner t c =
+    exit _ _ _ (λ s. by make_negated (told _ _ _ c.in-Some.ensures.taken part_negated) (after _ c.in-Some.ensures.taken s)) c.in_err-inner.ensures c.from_residual.ensures.1
 
 pub literal-returns : goal.literal-returns
 literal-returns t c = rw (test_of-not c.in_ok-new.field-0, c.in_ok-new.ensures.ok) (denied c.in-Some.ensures.taken c.in_ok-inner.ensures)
 
 pub literal-returns-then-is_sign : goal.literal-returns-then-is_sign
-literal-returns-then-is_sign t c = along _ _ _ _ _ bare (bare_rest c.if-is_sign.ensures) c.enclosed_test.ensures
+literal-returns-then-is_sign t c =
+    along _ _ (λ x h. bare x _ h) (λ s. by make_bracketed (told _ _ _ c.if-is_sign.ensures.2 part_bracketed) s) c.enclosed_test.ensures

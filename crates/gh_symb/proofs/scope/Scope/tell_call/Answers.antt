@@ -20,4 +20,5 @@ returns-clause-says c =
     rw (c.new-inside.ensures, c.as_slice.ensures.value, c.as_slice-2.ensures.value, c.in_ok-terms.ensures) at c.in_ok-bind_all.ensures in
     let enters : i ≡ rebound s (bound_inside p ts) = ap (λ b. terms c.args.kinds.now b v) binds in
     let renew : r ≡ renewed (results_of p) (moved_on n) = rw c.as_slice-3.ensures.value at (c.in_ok-renew.ensures (v + 1)) in
-    call_says p ts s i n r t c.in_ok-before.before c.in_ok-after.after c.in_ok-step.step enters c.in_ok-walk.ensures refl c.in_ok-before.ensures renew c.in_ok-walk-2.ensures refl c.in_ok-after.ensures c.in_ok-step.ensures
+    call_says p ts s i n r t c.in_ok-before.before c.in_ok-after.after c.in_ok-step.step enters c.in_ok-walk.ensures refl c.in_ok-before.ensures renew
+    (rw c.ensured-ensured.ensures at c.in_ok-walk-2.ensures) refl (rw c.ensured-ensured.ensures at c.in_ok-after.ensures) c.in_ok-step.ensures

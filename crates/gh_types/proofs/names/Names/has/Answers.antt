@@ -1,4 +1,3 @@
-use Rattle.std.proofs.Common.{◌≡◌}
 use Rattle.gh_types.proofs.TableLemmas.{table_tells}
 use Rattle.gh_types.proofs.names.Names.has.Goals as goal
 

@@ -1,7 +1,7 @@
-use Rattle.std.proofs.Common.{◌≡◌, ◌++◌, [], ◌∷◌, rules, arith}
-use Rattle.gh_ast.specs.Plain.{test_of, formula_of, formulas_view}
-use Rattle.gh_ast.specs.Occurrences.{in_operand, in_test, in_formula, in_formulas}
-use Rattle.gh_ast.proofs.PlainLemmas.{formula_of-Emp, formula_of-Pure, formula_of-PointsTo, formula_of-Acc, formula_of-Lseg, formula_of-Star, formula_of-Cases}
+use Rattle.std.proofs.Common.{◌++◌, arith}
+use Rattle.gh_ast.specs.Plain.{test_of, formula_of}
+use Rattle.gh_ast.specs.Occurrences.{in_operand, in_test, in_formula}
+use Rattle.gh_ast.proofs.PlainLemmas.{formula_of-Pure, formula_of-PointsTo, formula_of-Acc, formula_of-Lseg, formula_of-Star, formula_of-Cases}
 use Rattle.gh_types.proofs.FirstLemmas.{first_one, first_cons, first_append, first_list, first_more, first_all, in_formulas_flat}
 use Rattle.gh_types.proofs.scope.Scope.+assertion.Goals as goal
 

@@ -1,5 +1,5 @@
 use Rattle.std.proofs.Common.{◌++◌, [], ◌∷◌, map, true, arith}
-use Rattle.gh_ast.specs.Plain.{procedure_of, test_of, formula_of, statement_of, statements_view}
+use Rattle.gh_ast.specs.Plain.{test_of, formula_of, statement_of, statements_view}
 use Rattle.gh_ast.specs.Occurrences.{assigned, mentioned, returned, in_expr, in_exprs, in_test, in_formula, sites_in, all_sites_in}
 use Rattle.gh_ast.proofs.PlainLemmas.{statement_of-Set, statement_of-New, statement_of-Write, statement_of-Free, statement_of-Call, statement_of-If, statement_of-While, statement_of-Return, part_of-statements}
 use Rattle.gh_types.proofs.FirstLemmas.{first_one, first_cons, first_append, first_map, first_list, first_more, first_all, all_sites_flat}

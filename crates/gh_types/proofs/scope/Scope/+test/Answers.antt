@@ -1,6 +1,6 @@
-use Rattle.std.proofs.Common.{◌≡◌, ◌++◌, rules, arith}
-use Rattle.gh_ast.specs.Plain.{test_of, tests_view}
-use Rattle.gh_ast.specs.Occurrences.{in_expr, in_test, in_tests}
+use Rattle.std.proofs.Common.{arith}
+use Rattle.gh_ast.specs.Plain.{test_of}
+use Rattle.gh_ast.specs.Occurrences.{in_expr, in_test}
 use Rattle.gh_ast.proofs.PlainLemmas.{test_of-Compare, test_of-Not, test_of-And, test_of-Or}
 use Rattle.gh_types.proofs.FirstLemmas.{first_append, first_list, first_more, first_all, in_tests_flat}
 use Rattle.gh_types.proofs.scope.Scope.+test.Goals as goal

@@ -1,7 +1,7 @@
 use Rattle.std.proofs.Common.{◌≡◌, List, IfOk, map, false, ap, sym, ◌∙◌, subst}
 use Rattle.std.specs.Option.{option_map}
 use Rattle.gh_ast.specs.Occurrences.{Site, all_sites_in, sites_in_body}
-use Rattle.gh_ast.specs.Plain.{procedure_of, inside_of, part_of, statements_view}
+use Rattle.gh_ast.specs.Plain.{procedure_of, inside_of, statements_view}
 use Rattle.gh_ast.proofs.PlainLemmas.{part_of-statements}
 use Rattle.gh_types.specs.Checks.{SiteErrors}
 use Rattle.gh_types.specs.Faults.{IsFirstIn}

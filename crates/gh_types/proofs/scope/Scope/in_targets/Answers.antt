@@ -1,8 +1,8 @@
-use Rattle.std.proofs.Common.{◌≡◌, map, arith, sym, ap, ◌∙◌, subst, List}
+use Rattle.std.proofs.Common.{◌≡◌, map, arith, ap, ◌∙◌, subst, List}
 use Rattle.gh_ast.specs.declared.Occ.{Occ}
 use Rattle.gh_ast.specs.Plain.{procedure_of}
 use Rattle.gh_types.specs.Checks.{ParameterErrors, RepeatErrors}
-use Rattle.gh_types.specs.Faults.{IsFirstIn, IsFirstOf}
+use Rattle.gh_types.specs.Faults.{IsFirstOf}
 use Rattle.gh_types.proofs.FirstLemmas.{first_next, first_whole, first_either}
 use Rattle.gh_types.proofs.scope.Scope.in_targets.Goals as goal
 

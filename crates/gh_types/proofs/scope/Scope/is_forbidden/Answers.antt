@@ -1,4 +1,4 @@
-use Rattle.std.proofs.Common.{◌≡◌, true, false, inl, inr}
+use Rattle.std.proofs.Common.{◌≡◌, true, inl, inr}
 use Rattle.gh_ast.specs.Plain.{procedure_of}
 use Rattle.gh_ast.specs.Occurrences.{locals_of}
 use Rattle.gh_types.proofs.FirstLemmas.{name_left, name_right, name_parts}

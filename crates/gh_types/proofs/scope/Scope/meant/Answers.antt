@@ -1,4 +1,4 @@
-use Rattle.std.proofs.Common.{◌≡◌, sym}
+use Rattle.std.proofs.Common.{sym}
 use Rattle.gh_types.proofs.TableLemmas.{meant_got, meant_nowhere}
 use Rattle.gh_types.proofs.scope.Scope.meant.Goals as goal
 

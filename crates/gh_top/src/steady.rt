@@ -1,0 +1,23 @@
+//! Runs over an outside that never fails.
+
+ghost use Rattle.gh_base.specs.Files.{table_in};
+ghost use Rattle.gh_top.specs.Headline.{IsComplete};
+
+use crate::run::run;
+use crate::status::Status;
+use crate::words::Words;
+use gh_base::steady_inputs::SteadyInputs;
+use gh_base::steady_sink::SteadySink;
+use std::alloc::Global;
+
+/// `run` where no fault comes: the answer is taken whole, or memory runs out.
+pub fn steady_run(
+    alloc: Global,
+    words: &Words,
+    inputs: &mut SteadyInputs,
+    out: &mut SteadySink,
+) -> Status
+    ensures { IsComplete (Some (table_in inputs.old.files)) words.now None None result }
+{
+    run(alloc, words, inputs, out)
+}
