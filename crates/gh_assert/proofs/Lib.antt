@@ -1,4 +1,5 @@
 pub mod Agree
+pub mod Alternatives
 pub mod Betweens
 pub mod Cells
 pub mod Decide

@@ -1,5 +1,5 @@
 -- What an assertion says of a store and a heap.
-use Rattle.std.specs.Prelude.{◌≡◌, ℕ, List, Bool, true, false, not, ◌&&◌, ◌||◌, ◌==◌, MatchBool}
+use Rattle.std.specs.Prelude.{◌≡◌, ℕ, List, Contains, Bool, true, false, not, ◌&&◌, ◌||◌, ◌==◌, MatchBool}
 use Rattle.gh_ast.specs.Plain.{Test, compare, negation, conjunction, disjunction, Tests, no_tests, test_first, Formula, empty, comparison, points_to, cell, segment, star, cases, Formulas, no_formulas, formula_first}
 use Rattle.gh_ast.specs.declared.Operand.{Operand}
 use Rattle.gh_ast.specs.declared.Operand.TheVariants.{Null, Var}
@@ -56,3 +56,7 @@ abbrev mutual
 -- some sub-heap meets the assertion
 abbrev pub HasPart : Formula → Store → Heap → Type 0
 HasPart f s h = (a : Heap) × (b : Heap) × Splits h a b × Meaning f s a
+
+-- the heap meets one of some alternatives
+abbrev pub MeetsOneOf : List Formula → Store → Heap → Type 0
+MeetsOneOf fs s h = (f : Formula) × Contains fs f × Meaning f s h

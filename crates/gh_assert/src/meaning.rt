@@ -1,8 +1,8 @@
 //! Whether a heap meets an assertion, and which part of it does.
 
-ghost use Rattle.std.specs.Prelude.{◌≡◌, ◌↔◌, ℕ, IfOk, IfNone, IfSome, IsTrue};
+ghost use Rattle.std.specs.Prelude.{◌≡◌, ◌↔◌, ℕ, map, IfOk, IfNone, IfSome, IsTrue};
 ghost use Rattle.gh_ast.specs.Plain.{test_of, tests_view, formula_of, formulas_view};
-ghost use Rattle.gh_assert.specs.Meaning.{Meaning, MeaningAll, HasPart, plain_value, truth, all_true, some_true};
+ghost use Rattle.gh_assert.specs.Meaning.{Meaning, MeaningAll, MeetsOneOf, HasPart, plain_value, truth, all_true, some_true};
 ghost use Rattle.gh_assert.specs.Stores.{store_of};
 ghost use Rattle.gh_assert.specs.Heaps.{Segment};
 ghost use Rattle.gh_assert.specs.Footprints.{Took, IsFootprint};
@@ -150,6 +150,25 @@ pub fn holds(
         return Ok(false);
     }
     Ok(remaining.is_empty())
+}
+
+/// Whether a heap meets one of some alternatives.
+///
+/// A name that the store doesn't list counts as null. The time is that of `holds`, for each alternative.
+pub fn meets_one_of(
+    alloc: Global,
+    store: &Store,
+    heap: &Heap,
+    alternatives: &[Assertion],
+) -> Result<bool, AllocError>
+    ensures { IfOk result (λ b. IsTrue b ↔ MeetsOneOf (map formula_of alternatives.now) (store_of store.now) heap.now) }
+{
+    for alternative in alternatives {
+        if holds(alloc, store, heap, alternative)? {
+            return Ok(true);
+        }
+    }
+    Ok(false)
 }
 
 /// The places of the one part of a heap that meets an assertion, ascending; none where no part does.

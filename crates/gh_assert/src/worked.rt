@@ -1,7 +1,7 @@
 // The evaluator on worked assertions, and each call once.
 
 use crate::heap::{Cell, Heap};
-use crate::meaning::{footprint, holds};
+use crate::meaning::{footprint, holds, meets_one_of};
 use crate::store::Store;
 use gh_ast::{Assertion, Cond, Expr, Occ, Operand};
 use gh_base::name::Name;
@@ -264,6 +264,29 @@ fn choices(rt: HostRuntime) -> Result<(), Fail> {
     assert!(rt; !holds(rt.alloc(), &store, &second, &taken)?);
     assert!(rt; holds(rt.alloc(), &store, &second, &otherwise)?);
     assert!(rt; !holds(rt.alloc(), &store, &first, &otherwise)?);
+    Ok(())
+}
+
+// `acc(x) || acc(y)`
+fn alternatives(alloc: Global) -> Result<Vec<Assertion>, Fail> {
+    let mut all = Vec::new(alloc);
+    for letter in ["x", "y"] {
+        all.push(one_member(alloc, Member::Acc(letter))?)?;
+    }
+    Ok(all)
+}
+
+#[test]
+fn one_of_some_alternatives(rt: HostRuntime) -> Result<(), Fail> {
+    let store = store(rt.alloc())?;
+    let first = heap(rt.alloc(), &[(1, 0)])?;
+    let second = heap(rt.alloc(), &[(2, 0)])?;
+    let both = heap(rt.alloc(), &[(1, 0), (2, 0)])?;
+    let all = alternatives(rt.alloc())?;
+    assert!(rt; meets_one_of(rt.alloc(), &store, &first, all.as_slice())?);
+    assert!(rt; meets_one_of(rt.alloc(), &store, &second, all.as_slice())?);
+    assert!(rt; !meets_one_of(rt.alloc(), &store, &both, all.as_slice())?);
+    assert!(rt; !meets_one_of(rt.alloc(), &store, &first, &[])?);
     Ok(())
 }
 

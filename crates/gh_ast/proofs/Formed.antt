@@ -1,11 +1,11 @@
 -- What a text spells is well formed.
-use Rattle.std.proofs.Common.{List, [], Bool, Option, refl}
+use Rattle.std.proofs.Common.{◌≤◌, List, [], length, Bool, Option, refl, arith}
 use Rattle.std.specs.Prelude.{All}
 use Rattle.std.proofs.lemmas.List.Elements.{All-nil, All-cons}
 use Rattle.gh_base.specs.declared.place.Span.{Span}
 use Rattle.gh_ast.specs.declared.Expr.{Expr}
 use Rattle.gh_ast.specs.declared.sign.Keyword.{Keyword}
-use Rattle.gh_ast.specs.Plain.{Test, Tests, Formula, Formulas, Statement, Statements, Inside, Procedure, Program}
+use Rattle.gh_ast.specs.Plain.{Test, Tests, Formula, empty, Formulas, Statement, Statements, Inside, Procedure, Program}
 use Rattle.gh_ast.specs.Tokens.{Token}
 use Rattle.gh_ast.specs.Grammar as g
 use Rattle.gh_ast.specs.WellFormed.{MayStand, IsFormedTest, AreFormedTests, IsFormedFormula, AreFormedFormulas, IsFormedStatement, AreFormedStatements, IsFormedBody, IsFormedProcedure, IsWellFormed}
@@ -61,6 +61,17 @@ clause_is_formed : {k : Keyword} {ts rest : List Token} {x : Formula} → g.Spel
 clause_is_formed (g.no_clause n) = tt
 clause_is_formed (g.a_clause s) = assertion_is_formed s
 
+abbrev AreFormed : List Formula → Type 0
+AreFormed l = (1 ≤ length l) × All IsFormedFormula l
+
+alternatives_are_formed : {ts rest : List Token} {l : List Formula} → g.SpellsAlternatives ts l rest → AreFormed l
+alternatives_are_formed (g.last_alternative {x = x} s n) = (omega arith, All-cons IsFormedFormula x [] (assertion_is_formed s) (All-nil IsFormedFormula))
+alternatives_are_formed (g.next_alternative {x = x} {l = l} s m) = (omega arith, All-cons IsFormedFormula x l (assertion_is_formed s) (alternatives_are_formed m).1)
+
+ensures_are_formed : {ts rest : List Token} {l : List Formula} → g.SpellsEnsures ts l rest → AreFormed l
+ensures_are_formed (g.no_clause n) = (omega arith, All-cons IsFormedFormula empty [] tt (All-nil IsFormedFormula))
+ensures_are_formed (g.a_clause s) = alternatives_are_formed s
+
 mutual
   statement_is_formed : {ts rest : List Token} {s : Statement} → g.SpellsStatement ts s rest → IsFormedStatement s
   statement_is_formed (g.a_set e) = tt
@@ -90,12 +101,8 @@ body_is_formed g.no_body = tt
 body_is_formed (g.a_body i) = inside_is_formed i
 
 procedure_is_formed : {ts rest : List Token} {p : Procedure} → g.SpellsProcedure ts p rest → IsFormedProcedure p
-procedure_is_formed (g.a_procedure {y = gives} x y n e b) = record {
-  needs = clause_is_formed n;
-  one = refl;
-  gives = All-cons IsFormedFormula gives [] (clause_is_formed e) (All-nil IsFormedFormula);
-  body = body_is_formed b;
-}
+procedure_is_formed (g.a_procedure x y n e b) =
+    let l = ensures_are_formed e in record { needs = clause_is_formed n; some = l.0; gives = l.1; body = body_is_formed b }
 
 procedures_are_formed : {ts : List Token} {ps : List Procedure} → g.SpellsProcedures ts ps → All IsFormedProcedure ps
 procedures_are_formed g.no_procedures = All-nil IsFormedProcedure

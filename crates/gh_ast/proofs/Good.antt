@@ -165,9 +165,26 @@ mutual
   items_are_good (g.last_item s n) h = let a = item_is_good s h in ((a.0, tt), a.1)
   items_are_good (g.next_item s l) h = let a = item_is_good s h in let b = items_are_good l a.1.1 in ((a.0, b.0), b.1)
 
+-- one alternative or more
+abbrev pub GoodAlternatives : List Formula → Type 0
+GoodAlternatives [] = ⊥
+GoodAlternatives (f ∷ fs) = GoodFormula f × AllGood GoodFormula fs
+
+all_of_them : (fs : List Formula) → GoodAlternatives fs → AllGood GoodFormula fs
+all_of_them [] h = tt
+all_of_them (f ∷ fs) h = h
+
 pub clause_is_good : {k : Keyword} {ts rest : List Token} {x : Formula} → g.SpellsClause k ts x rest → AreGood ts → GoodFormula x × AreGood rest
 clause_is_good (g.no_clause n) h = (tt, h)
 clause_is_good (g.a_clause s) h = assertion_is_good s h.1
+
+alternatives_are_good : {ts rest : List Token} {l : List Formula} → g.SpellsAlternatives ts l rest → AreGood ts → GoodAlternatives l × AreGood rest
+alternatives_are_good (g.last_alternative s n) h = let a = assertion_is_good s h in ((a.0, tt), a.1)
+alternatives_are_good (g.next_alternative s l) h = let a = assertion_is_good s h in let b = alternatives_are_good l a.1.1 in ((a.0, all_of_them _ b.0), b.1)
+
+ensures_are_good : {ts rest : List Token} {l : List Formula} → g.SpellsEnsures ts l rest → AreGood ts → GoodAlternatives l × AreGood rest
+ensures_are_good (g.no_clause n) h = ((tt, tt), h)
+ensures_are_good (g.a_clause s) h = alternatives_are_good s h.1
 
 pub targets_are_good : {ts rest : List Token} {l : List Occ} → g.SpellsTargets ts l rest → AreGood ts → AllGood GoodOcc l × AreGood rest
 targets_are_good g.last_target h = ((h.0, tt), h.1.1)
@@ -201,11 +218,6 @@ GoodBody None = Unit {0}
 GoodBody (Some b) = GoodInside b
 
 -- one alternative
-pub record GoodAlternatives (fs : List Formula) : Type 0 where
-  pub only : Formula
-  pub one : fs ≡ only ∷ []
-  pub good : GoodFormula only
-
 pub record GoodProcedure (p : Procedure) : Type 0 where
   pub name : GoodOcc p.name
   pub parameters : AllGood GoodOcc p.parameters
@@ -256,9 +268,9 @@ body_is_good g.no_body h = (tt, h.1)
 body_is_good (g.a_body i) h = inside_is_good i h.1
 
 procedure_is_good : {ts rest : List Token} {p : Procedure} → g.SpellsProcedure ts p rest → AreGood ts → GoodProcedure p × AreGood rest
-procedure_is_good (g.a_procedure {y = gives} x y n e b) h =
-    let a = header_is_good x h.1.1.1 in let r = results_are_good y a.1 in let c = clause_is_good n r.1 in let d = clause_is_good e c.1 in let f = body_is_good b d.1 in
-    (record { name = h.1.0; parameters = a.0; results = r.0; needs = c.0; gives = record { only = gives; one = refl; good = d.0 }; body = f.0 }, f.1)
+procedure_is_good (g.a_procedure x y n e b) h =
+    let a = header_is_good x h.1.1.1 in let r = results_are_good y a.1 in let c = clause_is_good n r.1 in let d = ensures_are_good e c.1 in let f = body_is_good b d.1 in
+    (record { name = h.1.0; parameters = a.0; results = r.0; needs = c.0; gives = d.0; body = f.0 }, f.1)
 
 procedures_are_good : {ts : List Token} {ps : List Procedure} → g.SpellsProcedures ts ps → AreGood ts → AllGood GoodProcedure ps
 procedures_are_good g.no_procedures h = tt

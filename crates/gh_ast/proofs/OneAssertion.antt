@@ -1,5 +1,5 @@
 -- Assertions are spelled in one way at most.
-use Rattle.std.proofs.Common.{◌≡◌, ◌⊎◌, inl, inr, List, ◌∷◌, Bool, false, refl, sym, ap, subst}
+use Rattle.std.proofs.Common.{◌≡◌, ◌⊎◌, inl, inr, List, [], ◌∷◌, Bool, false, refl, sym, ap, subst}
 use Rattle.gh_base.specs.declared.place.Span.{Span}
 use Rattle.gh_ast.specs.declared.Operand.{Operand}
 use Rattle.gh_ast.specs.declared.sign.Sign.{Sign}
@@ -9,7 +9,7 @@ use Rattle.gh_ast.specs.declared.sign.Keyword.TheVariants as kw
 use Rattle.gh_ast.specs.Tokens.{Token, key, sign}
 use Rattle.gh_ast.specs.Plain.{Test, Formula, comparison, points_to, cell, segment, star, cases, Formulas, no_formulas, formula_first}
 use Rattle.gh_ast.specs.Plain as plain
-use Rattle.gh_ast.specs.Grammar.{NoKey, SpellsOperand, SpellsItem, emp, acc, lseg, pointed, same, different, by_cases, in_brackets, SpellsAssertion, one_item, items, SpellsItems, last_item, next_item, SpellsClause, no_clause, a_clause}
+use Rattle.gh_ast.specs.Grammar.{NoKey, SpellsOperand, SpellsItem, emp, acc, lseg, pointed, same, different, by_cases, in_brackets, SpellsAssertion, one_item, items, SpellsItems, last_item, next_item, SpellsAlternatives, last_alternative, next_alternative, SpellsAfter, no_clause, a_clause, SpellsClause, SpellsEnsures}
 use Rattle.gh_ast.specs.Readings.{AreOne, IsUnique}
 use Rattle.gh_ast.proofs.OneValue.{one_operand}
 use Rattle.gh_ast.proofs.OneTest.{one_test}
@@ -113,38 +113,61 @@ mutual
       record { value = cc; rest = two.rest }
 
 -- none, or the word and an assertion
-pub record IsMissing (k : Keyword) (ts : List Token) (x : Formula) (rest : List Token) : Type 0 where
+pub record IsMissing (X : Type 0) (missing : X) (k : Keyword) (ts : List Token) (x : X) (rest : List Token) : Type 0 where
   pub absent : NoKey k ts
-  pub empty : x ≡ plain.empty
+  pub empty : x ≡ missing
   pub same : ts ≡ rest
 
-pub record IsThere (k : Keyword) (ts : List Token) (x : Formula) (rest : List Token) : Type 0 where
+pub record IsThere (X : Type 0) (Part : List Token → X → List Token → Type 0) (k : Keyword) (ts : List Token) (x : X) (rest : List Token) : Type 0 where
   pub place : Span
   pub inner : List Token
   pub front : ts ≡ key k place ∷ inner
-  pub formula : SpellsAssertion inner x rest
+  pub part : Part inner x rest
 
-pub clause_cases : (k : Keyword) (ts : List Token) (x : Formula) (rest : List Token) → SpellsClause k ts x rest → IsMissing k ts x rest ⊎ IsThere k ts x rest
-clause_cases k ts _ _ (no_clause n) = inl (record { absent = n; empty = refl; same = refl })
-clause_cases k _ x rest (a_clause {p = p} {ts = ts} a) = inr (record { place = p; inner = ts; front = refl; formula = a })
+after_cases : (X : Type 0) (Part : List Token → X → List Token → Type 0) (missing : X) (k : Keyword) (ts : List Token) (x : X) (rest : List Token)
+    → SpellsAfter X Part missing k ts x rest → IsMissing X missing k ts x rest ⊎ IsThere X Part k ts x rest
+after_cases X Part missing k ts _ _ (no_clause n) = inl (record { absent = n; empty = refl; same = refl })
+after_cases X Part missing k _ x rest (a_clause {p = p} {ts = ts} a) = inr (record { place = p; inner = ts; front = refl; part = a })
 
-both_there : (k : Keyword) (ts : List Token) (x y : Formula) (r q : List Token) → IsThere k ts x r → IsThere k ts y q → AreOne x y r q
-both_there k ts x y r q a b =
+both_there : (X : Type 0) (Part : List Token → X → List Token → Type 0) → ((ts : List Token) → IsUnique (Part ts)) → (k : Keyword) (ts : List Token) (x y : X) (r q : List Token)
+    → IsThere X Part k ts x r → IsThere X Part k ts y q → AreOne x y r q
+both_there X Part one k ts x y r q a b =
     let e = a.front in let f = b.front in
     let o : b.inner ≡ a.inner = cc in
-    one_formula a.inner x y r q a.formula (subst (λ z. SpellsAssertion z y q) o b.formula)
+    one a.inner x y r q a.part (subst (λ z. Part z y q) o b.part)
 
-pub one_clause : (k : Keyword) (ts : List Token) → IsUnique (SpellsClause k ts)
-one_clause k ts x y r q s t =
-    elim (clause_cases k ts x r s) [
+-- a part after its word is one where the part is
+one_after : (X : Type 0) (Part : List Token → X → List Token → Type 0) → ((ts : List Token) → IsUnique (Part ts)) → (missing : X) (k : Keyword) (ts : List Token)
+    → IsUnique (SpellsAfter X Part missing k ts)
+one_after X Part one missing k ts x y r q s t =
+    elim (after_cases X Part missing k ts x r s) [
       | inl a ↦
-          elim (clause_cases k ts y q t) [
+          elim (after_cases X Part missing k ts y q t) [
             | inl b ↦ (let e = a.empty in let f = b.empty in let g = a.same in let h = b.same in record { value = cc; rest = cc })
             | inr b ↦ absurd (a.absent b.place b.inner b.front)
           ]
       | inr a ↦
-          elim (clause_cases k ts y q t) [
+          elim (after_cases X Part missing k ts y q t) [
             | inl b ↦ absurd (b.absent a.place a.inner a.front)
-            | inr b ↦ both_there k ts x y r q a b
+            | inr b ↦ both_there X Part one k ts x y r q a b
           ]
     ]
+
+pub one_clause : (k : Keyword) (ts : List Token) → IsUnique (SpellsClause k ts)
+one_clause = one_after Formula SpellsAssertion one_formula plain.empty
+
+pub one_alternatives : (ts : List Token) → IsUnique (SpellsAlternatives ts)
+one_alternatives ts _ _ r q (last_alternative a n) (last_alternative b m) =
+    let one = one_formula ts _ _ r q a b in record { value = ap (λ t. t ∷ []) one.value; rest = one.rest }
+one_alternatives ts _ _ r q (last_alternative a n) (next_alternative {p = p} {us = us} b m) = let one = one_formula ts _ _ _ _ a b in absurd (n p us one.rest)
+one_alternatives ts _ _ r q (next_alternative {p = p} {us = us} a m) (last_alternative b n) = let one = one_formula ts _ _ _ _ a b in absurd (n p us (sym one.rest))
+one_alternatives ts _ _ r q (next_alternative {us = us} {l = l} a d) (next_alternative {us = vs} {l = m} b e) =
+    let one = one_formula ts _ _ _ _ a b in
+    let w = one.rest in
+    let o : vs ≡ us = cc in
+    let two = one_alternatives us l m r q d (subst (λ z. SpellsAlternatives z m q) o e) in
+    let u = one.value in let v = two.value in
+    record { value = cc; rest = two.rest }
+
+pub one_ensures : (ts : List Token) → IsUnique (SpellsEnsures ts)
+one_ensures = one_after (List Formula) SpellsAlternatives one_alternatives (plain.empty ∷ []) kw.Ensures

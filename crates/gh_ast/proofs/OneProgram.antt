@@ -10,8 +10,8 @@ use Rattle.gh_ast.specs.declared.sign.Keyword.TheVariants as kw
 use Rattle.gh_ast.specs.Plain.{Inside, Procedure, Program}
 use Rattle.gh_ast.specs.Readings.{AreOne}
 use Rattle.gh_ast.specs.Tokens.{Token, sign}
-use Rattle.gh_ast.specs.Grammar.{SpellsClause, SpellsLocals, last_local, next_local, SpellsInside, no_locals, some_locals, SpellsParams, last_param, next_param, SpellsHeader, no_params, params, SpellsResults, no_results, results, SpellsBody, no_body, a_body, SpellsProcedure, a_procedure, SpellsProcedures, no_procedures, one_procedure, SpellsWord, by_name, by_key, SpellsFields, no_fields, one_field, SpellsProgram, a_program}
-use Rattle.gh_ast.proofs.OneAssertion.{one_clause}
+use Rattle.gh_ast.specs.Grammar.{SpellsClause, SpellsEnsures, SpellsLocals, last_local, next_local, SpellsInside, no_locals, some_locals, SpellsParams, last_param, next_param, SpellsHeader, no_params, params, SpellsResults, no_results, results, SpellsBody, no_body, a_body, SpellsProcedure, a_procedure, SpellsProcedures, no_procedures, one_procedure, SpellsWord, by_name, by_key, SpellsFields, no_fields, one_field, SpellsProgram, a_program}
+use Rattle.gh_ast.proofs.OneAssertion.{one_clause, one_ensures}
 use Rattle.gh_ast.proofs.OneStatement.{tail_one, one_statements, no_var_first}
 
 pub one_locals : (ts r q : List Token) (xs ys : List Occ) → SpellsLocals ts xs r → SpellsLocals ts ys q → AreOne xs ys r q
@@ -60,12 +60,12 @@ one_body _ r q x y c d (a_body {ts = ts} {b = i} a) (a_body {b = j} b) =
     let e = one_inside ts r q i j a b in record { value = ap Some e.value; close = ap (λ k. k.close) e.value; rest = e.rest }
 
 pub one_procedure_at : (ts r q : List Token) (x y : Procedure) → SpellsProcedure ts x r → SpellsProcedure ts y q → AreOne x y r q
-one_procedure_at _ r q x y (a_procedure {c = c} {ts = ts} {us = us} {vs = vs} {ws = ws} {zs = zs} {xs = xs} {ys = ys} {x = f} {y = g} {b = b} h1 r1 n1 e1 b1)
-    (a_procedure {c = c2} {us = us2} {vs = vs2} {ws = ws2} {zs = zs2} {xs = xs2} {ys = ys2} {x = f2} {y = g2} {b = d} h2 r2 n2 e2 b2) =
+one_procedure_at _ r q x y (a_procedure {c = c} {ts = ts} {us = us} {vs = vs} {ws = ws} {zs = zs} {xs = xs} {ys = ys} {x = f} {l = g} {b = b} h1 r1 n1 e1 b1)
+    (a_procedure {c = c2} {us = us2} {vs = vs2} {ws = ws2} {zs = zs2} {xs = xs2} {ys = ys2} {x = f2} {l = g2} {b = d} h2 r2 n2 e2 b2) =
     let p1 = one_header ts us us2 xs xs2 h1 h2 in
     let p2 = one_results us vs vs2 ys ys2 r1 (subst (λ z. SpellsResults z ys2 vs2) (sym p1.rest) r2) in
     let p3 = one_clause kw.Requires vs f f2 ws ws2 n1 (subst (λ z. SpellsClause kw.Requires z f2 ws2) (sym p2.rest) n2) in
-    let p4 = one_clause kw.Ensures ws g g2 zs zs2 e1 (subst (λ z. SpellsClause kw.Ensures z g2 zs2) (sym p3.rest) e2) in
+    let p4 = one_ensures ws g g2 zs zs2 e1 (subst (λ z. SpellsEnsures z g2 zs2) (sym p3.rest) e2) in
     let p5 = one_body zs r q b d c c2 b1 (subst (λ z. SpellsBody z d c2 q) (sym p4.rest) b2) in
     let s1 = p1.value in let s2 = p2.value in let s3 = p3.value in let s4 = p4.value in let s5 = p5.value in let s6 = p5.close in
     record { value = cc; rest = p5.rest }

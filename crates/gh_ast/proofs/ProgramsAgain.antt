@@ -8,6 +8,7 @@ use Rattle.std.proofs.lemmas.Slice.Eq.{bytes_eq-Decides}
 use Rattle.gh_base.specs.declared.place.Span.{Span}
 use Rattle.gh_ast.specs.declared.Occ.{Occ}
 use Rattle.gh_ast.specs.declared.Field.{Field}
+use Rattle.gh_ast.specs.declared.sign.Sign.{Sign}
 use Rattle.gh_ast.specs.declared.sign.Sign.TheVariants as sg
 use Rattle.gh_ast.specs.declared.sign.Keyword.{Keyword}
 use Rattle.gh_ast.specs.declared.sign.Keyword.TheVariants as kw
@@ -19,7 +20,7 @@ use Rattle.gh_ast.specs.Printed.{Lexeme, word, reserved, mark, joined, name_show
 use Rattle.gh_ast.specs.Bare.{bare_occ, bare_formula, bare_statements, bare_inside, bare_field, bare_procedure, bare_program}
 use Rattle.gh_ast.proofs.Printing.{no_more}
 use Rattle.gh_ast.proofs.Good.{GoodFormula, GoodStatements, GoodBody, GoodAlternatives, GoodProcedure, GoodWord, GoodField, GoodProgram, AllGood}
-use Rattle.gh_ast.proofs.Respelling.{shapes, IsRespelled, take_key, take_sign, take_name, leads}
+use Rattle.gh_ast.proofs.Respelling.{shapes, IsRespelled, take_key, take_sign, take_name, leads, no_sign}
 use Rattle.gh_ast.proofs.FormulasAgain.{assoc3, is_sep, formula_again}
 use Rattle.gh_ast.proofs.StatementsAgain.{heads, no_key, statements_again}
 
@@ -84,20 +85,35 @@ clause_again k x h us rest e n =
     let r = (formula_again x h).whole w.after rest w.left n in
     record { value = r.value; after = r.after; spells = subst (λ u. g.SpellsClause k u r.value r.after) (sym w.here) (g.a_clause r.spells); left = r.left; same = r.same }
 
--- one alternative after its word
-record IsEnsured (us : List Token) (fs : List Formula) (rest : List Lexeme) : Type 0 where
-  pub value : Formula
-  pub after : List Token
-  pub spells : g.SpellsClause kw.Ensures us value after
-  pub left : shapes after ≡ rest
-  pub same : bare_formula value ∷ [] ≡ map bare_formula fs
+abbrev is_or : Sign → Bool
+is_or sg.Or = true
+is_or _ = false
 
-ensures_again : (fs : List Formula) → GoodAlternatives fs → (us : List Token) (rest : List Lexeme) → shapes us ≡ reserved kw.Ensures ∷ alternatives_shown fs ++ rest → leads is_sep rest ≡ false
-    → IsEnsured us fs rest
-ensures_again fs h us rest e n =
-    let shown : alternatives_shown fs ≡ formula_shown h.only = ap alternatives_shown h.one ∙ no_more (formula_shown h.only) in
-    let r = clause_again kw.Ensures h.only h.good us rest (e ∙ ap (λ l. reserved kw.Ensures ∷ l ++ rest) shown) n in
-    record { value = r.value; after = r.after; spells = r.spells; left = r.left; same = ap (λ f. f ∷ []) r.same ∙ ap (map bare_formula) (sym h.one) }
+alternatives_again : (f : Formula) (fs : List Formula) → GoodFormula f → AllGood GoodFormula fs → (us : List Token) (rest : List Lexeme) → shapes us ≡ alternatives_shown (f ∷ fs) ++ rest
+    → leads is_sep rest ≡ false → leads is_or rest ≡ false → IsRespelled g.SpellsAlternatives (map bare_formula) us (f ∷ fs) rest
+alternatives_again f [] h hs us rest e n m =
+    let r = (formula_again f h).whole us rest (e ∙ ap (λ v. v ++ rest) (no_more (formula_shown f))) n in
+    record { value = r.value ∷ []; after = r.after; spells = g.last_alternative r.spells (no_sign is_or sg.Or r.after rest refl r.left m); left = r.left; same = ap (λ v. v ∷ []) r.same }
+alternatives_again f (x ∷ fs) h hs us rest e n m =
+    let more = alternatives_shown (x ∷ fs) ++ rest in
+    let r = (formula_again f h).whole us (mark sg.Or ∷ more) (e ∙ append_assoc (formula_shown f) (mark sg.Or ∷ alternatives_shown (x ∷ fs)) rest) refl in
+    let q = take_sign sg.Or r.after more r.left in
+    let b = alternatives_again x fs hs.0 hs.1 q.after rest q.left n m in
+    record {
+      value = r.value ∷ b.value;
+      after = b.after;
+      spells = g.next_alternative (subst (λ u. g.SpellsAssertion us r.value u) q.here r.spells) b.spells;
+      left = b.left;
+      same = ap (λ v. v ∷ map bare_formula b.value) r.same ∙ ap (λ l. bare_formula f ∷ l) b.same;
+    }
+
+ensures_again : (fs : List Formula) → GoodAlternatives fs → (us : List Token) (rest : List Lexeme) → shapes us ≡ reserved kw.Ensures ∷ alternatives_shown fs ++ rest
+    → leads is_sep rest ≡ false → leads is_or rest ≡ false → IsRespelled g.SpellsEnsures (map bare_formula) us fs rest
+ensures_again [] h us rest e n m = absurd h
+ensures_again (f ∷ fs) h us rest e n m =
+    let w = take_key kw.Ensures us (alternatives_shown (f ∷ fs) ++ rest) e in
+    let r = alternatives_again f fs h.0 h.1 w.after rest w.left n m in
+    record { value = r.value; after = r.after; spells = subst (λ u. g.SpellsEnsures u r.value r.after) (sym w.here) (g.a_clause r.spells); left = r.left; same = r.same }
 
 locals_again : (x : Occ) (xs : List Occ) (us : List Token) (rest : List Lexeme)
     → shapes us ≡ joined name_shown sg.Comma (x ∷ xs) ++ mark sg.Colon ∷ reserved kw.Node ∷ mark sg.Semicolon ∷ rest → IsRespelled g.SpellsLocals (map bare_occ) us (x ∷ xs) rest
@@ -184,6 +200,10 @@ body_leads : (b : Option Inside) (rest : List Lexeme) → leads is_sep (body_sho
 body_leads None rest = refl
 body_leads (Some b) rest = refl
 
+body_starts : (b : Option Inside) (rest : List Lexeme) → leads is_or (body_shown b ++ rest) ≡ false
+body_starts None rest = refl
+body_starts (Some b) rest = refl
+
 procedure_again : (p : Procedure) → GoodProcedure p → (us : List Token) (rest : List Lexeme) → shapes us ≡ procedure_shown p ++ rest → IsRespelled g.SpellsProcedure bare_procedure us p rest
 procedure_again p h us rest e =
     let params = joined parameter_shown sg.Comma p.parameters in
@@ -199,20 +219,20 @@ procedure_again p h us rest e =
     (o.left ∙ assoc6 params (mark sg.ParenClose ∷ []) (results_shown p.results) (reserved kw.Requires ∷ formula_shown p.needs) (reserved kw.Ensures ∷ alternatives_shown p.gives) (body_shown p.body) rest) in
     let b = results_again p.results a.after r3 a.left refl in
     let n = clause_again kw.Requires p.needs h.needs b.after r4 b.left refl in
-    let v = ensures_again p.gives h.gives n.after r5 n.left (body_leads p.body rest) in
+    let v = ensures_again p.gives h.gives n.after r5 n.left (body_leads p.body rest) (body_starts p.body rest) in
     let d = body_again p.body h.body v.after rest v.left in
     let here = k.here ∙ ap (λ u. key kw.Procedure k.place ∷ u) (w.here ∙ ap (λ u. named w.value ∷ u) o.here) in
-    let q = procedure w.value a.value b.value n.value (v.value ∷ []) d.value d.place in
+    let q = procedure w.value a.value b.value n.value v.value d.value d.place in
     record {
       value = q;
       after = d.after;
       spells = subst (λ u. g.SpellsProcedure u q d.after) (sym here) (g.a_procedure a.spells b.spells n.spells v.spells d.spells);
       left = d.left;
       same =
-          ap (λ x. procedure x (map bare_occ a.value) (map bare_occ b.value) (bare_formula n.value) (bare_formula v.value ∷ []) (option_map bare_inside d.value) first_place) w.same
-          ∙ ap (λ x. procedure (bare_occ p.name) x (map bare_occ b.value) (bare_formula n.value) (bare_formula v.value ∷ []) (option_map bare_inside d.value) first_place) a.same
-          ∙ ap (λ x. procedure (bare_occ p.name) (map bare_occ p.parameters) x (bare_formula n.value) (bare_formula v.value ∷ []) (option_map bare_inside d.value) first_place) b.same
-          ∙ ap (λ x. procedure (bare_occ p.name) (map bare_occ p.parameters) (map bare_occ p.results) x (bare_formula v.value ∷ []) (option_map bare_inside d.value) first_place) n.same
+          ap (λ x. procedure x (map bare_occ a.value) (map bare_occ b.value) (bare_formula n.value) (map bare_formula v.value) (option_map bare_inside d.value) first_place) w.same
+          ∙ ap (λ x. procedure (bare_occ p.name) x (map bare_occ b.value) (bare_formula n.value) (map bare_formula v.value) (option_map bare_inside d.value) first_place) a.same
+          ∙ ap (λ x. procedure (bare_occ p.name) (map bare_occ p.parameters) x (bare_formula n.value) (map bare_formula v.value) (option_map bare_inside d.value) first_place) b.same
+          ∙ ap (λ x. procedure (bare_occ p.name) (map bare_occ p.parameters) (map bare_occ p.results) x (map bare_formula v.value) (option_map bare_inside d.value) first_place) n.same
           ∙ ap (λ x. procedure (bare_occ p.name) (map bare_occ p.parameters) (map bare_occ p.results) (bare_formula p.needs) x (option_map bare_inside d.value) first_place) v.same
           ∙ ap (λ x. procedure (bare_occ p.name) (map bare_occ p.parameters) (map bare_occ p.results) (bare_formula p.needs) (map bare_formula p.gives) x first_place) d.same;
     }

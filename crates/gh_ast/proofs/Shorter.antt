@@ -8,7 +8,7 @@ use Rattle.gh_ast.specs.Tokens.{Token}
 use Rattle.gh_ast.specs.Plain.{Test, Tests, Formula, Formulas}
 use Rattle.gh_ast.specs.Grammar.{SpellsOperand, null_operand, variable, SpellsExpr, plain, read, SpellsExprs, last_expr, next_expr, SpellsValues, no_values, some_values}
 use Rattle.gh_ast.specs.Grammar.{SpellsLit, negated, bracketed, equated, distinguished, SpellsConj, one_lit, lits, SpellsLits, last_lit, next_lit, SpellsTest, one_conj, conjs, SpellsConjs, last_conj, next_conj}
-use Rattle.gh_ast.specs.Grammar.{SpellsItem, emp, acc, lseg, pointed, same, different, by_cases, in_brackets, SpellsAssertion, one_item, items, SpellsItems, last_item, next_item, SpellsClause, no_clause, a_clause}
+use Rattle.gh_ast.specs.Grammar.{SpellsItem, emp, acc, lseg, pointed, same, different, by_cases, in_brackets, SpellsAssertion, one_item, items, SpellsItems, last_item, next_item, SpellsAlternatives, last_alternative, next_alternative, SpellsClause, SpellsEnsures, no_clause, a_clause}
 
 pub shorter_operand : {ts rest : List Token} {x : Operand} → SpellsOperand ts x rest → length rest < length ts
 shorter_operand null_operand = omega arith
@@ -71,3 +71,11 @@ mutual
 pub shorter_clause : {k : Keyword} {ts rest : List Token} {x : Formula} → SpellsClause k ts x rest → length rest ≤ length ts
 shorter_clause (no_clause n) = omega arith
 shorter_clause (a_clause a) = let h = shorter_assertion a in omega arith
+
+shorter_alternatives : {ts rest : List Token} {l : List Formula} → SpellsAlternatives ts l rest → length rest < length ts
+shorter_alternatives (last_alternative a n) = shorter_assertion a
+shorter_alternatives (next_alternative a b) = let h = shorter_assertion a in let k = shorter_alternatives b in omega arith
+
+pub shorter_ensures : {ts rest : List Token} {l : List Formula} → SpellsEnsures ts l rest → length rest ≤ length ts
+shorter_ensures (no_clause n) = omega arith
+shorter_ensures (a_clause a) = let h = shorter_alternatives a in omega arith

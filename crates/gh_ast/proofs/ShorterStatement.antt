@@ -7,7 +7,7 @@ use Rattle.gh_ast.specs.Plain.{Statement, Statements, Inside, Procedure}
 use Rattle.gh_ast.specs.Grammar.{SpellsTargets, last_target, next_target, SpellsStatement, a_set, a_new, a_write, a_free, bare_call, a_call, an_if, an_if_else, a_while, a_return, SpellsBlock, a_block, SpellsStatements, no_more, one_more}
 use Rattle.gh_ast.specs.Grammar.{SpellsLocals, last_local, next_local, SpellsInside, no_locals, some_locals, SpellsParams, last_param, next_param, SpellsHeader, no_params, params, SpellsResults, no_results, results}
 use Rattle.gh_ast.specs.Grammar.{SpellsBody, no_body, a_body, SpellsProcedure, a_procedure}
-use Rattle.gh_ast.proofs.Shorter.{shorter_expr, shorter_values, shorter_test, shorter_clause}
+use Rattle.gh_ast.proofs.Shorter.{shorter_expr, shorter_values, shorter_test, shorter_clause, shorter_ensures}
 
 pub shorter_targets : {ts rest : List Token} {x : List Occ} → SpellsTargets ts x rest → length rest < length ts
 shorter_targets last_target = omega arith
@@ -59,4 +59,4 @@ shorter_body (a_body a) = let h = shorter_inside a in omega arith
 
 pub shorter_procedure : {ts rest : List Token} {x : Procedure} → SpellsProcedure ts x rest → length rest < length ts
 shorter_procedure (a_procedure h r f g b) =
-    let i = shorter_header h in let j = shorter_results r in let k = shorter_clause f in let l = shorter_clause g in let m = shorter_body b in omega arith
+    let i = shorter_header h in let j = shorter_results r in let k = shorter_clause f in let l = shorter_ensures g in let m = shorter_body b in omega arith

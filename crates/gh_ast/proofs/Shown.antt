@@ -203,7 +203,12 @@ body_ok (Some b) h = (
 )
 
 alternatives_ok : (fs : List Formula) → GoodAlternatives fs → AreLexemes (alternatives_shown fs)
-alternatives_ok fs h = subst (λ l. AreLexemes (alternatives_shown l)) (sym h.one) (joined_ok formula_shown sg.Or (h.only ∷ []) (formula_ok h.only h.good, tt))
+alternatives_ok [] h = absurd h
+alternatives_ok (f ∷ fs) h = joined_ok formula_shown sg.Or (f ∷ fs) (formula_ok f h.0, all_ok fs h.1)
+  where
+    all_ok : (l : List Formula) → AllGood GoodFormula l → AllGood (λ x. AreLexemes (formula_shown x)) l
+    all_ok [] hs = tt
+    all_ok (x ∷ l) hs = (formula_ok x hs.0, all_ok l hs.1)
 
 procedure_ok : (p : Procedure) → GoodProcedure p → AreLexemes (procedure_shown p)
 procedure_ok p h =

@@ -9,12 +9,12 @@ use Rattle.std.proofs.lemmas.Slice.Eq.{bytes_eq-Decides}
 use Rattle.gh_base.specs.declared.place.Span.{Span}
 use Rattle.gh_ast.specs.declared.Occ.{Occ}
 use Rattle.gh_ast.specs.declared.Expr.{Expr}
-use Rattle.gh_ast.specs.Plain.{Formula, empty, Procedure, Program}
-use Rattle.gh_ast.specs.Programs.{Name, names, parameters_of, results_of, body_of, variable_names, name_of, SomeAssigns, IsFirstNamed, Declares, first_alternative, ensured}
+use Rattle.gh_ast.specs.Plain.{Formula, Procedure, Program}
+use Rattle.gh_ast.specs.Programs.{Name, names, parameters_of, results_of, body_of, variable_names, name_of, SomeAssigns, IsFirstNamed, Declares}
 use Rattle.gh_ast.specs.Names.{FormulaIn}
 use Rattle.gh_ast.specs.Occurrences.{Site, mentioned, assigned, called, returned, in_formula, in_alternatives, all_sites_in, sites_of, locals_of, variables_of}
 use Rattle.gh_ast.specs.Rules.{HasName, RepeatedAt, UnknownName, AssignToParameter, WrongCount, ReturnInLoop, UnknownProcedure, RepeatedResult, AtSome, NameOutOfContract, unknown_name, duplicate_name, assign_to_parameter, wrong_count, return_in_loop, unknown_procedure, repeated_result, name_out_of_contract, IsTyped}
-use Rattle.gh_ast.proofs.Lists.{member_first, member_cases}
+use Rattle.gh_ast.proofs.Lists.{member_cases}
 use Rattle.gh_ast.proofs.Members.{name_or}
 use Rattle.gh_ast.proofs.Sites.{any_of, element_at, has_name, name_had, formula_in, needs_mentioned, gives_mentioned, in_alternative, site_in_body, AssignedAt, assigned_sites}
 
@@ -33,14 +33,6 @@ needs_are_variables P typed q here = formula_in q.needs (variable_names q) (λ o
 
 pub gives_are_variables : (P : Program) → IsTyped P → (q : Procedure) → Contains P.procedures q → (f : Formula) → Contains q.gives f → FormulaIn f (variable_names q)
 gives_are_variables P typed q here f one = formula_in f (variable_names q) (λ o there. mention_is_variable P typed q here o (gives_mentioned q o (in_alternative q.gives f o one there)))
-
--- what holds of each alternative holds of the one that is read, if it holds of `emp`
-of_ensured : (P : Formula → Type 0) (fs : List Formula) → P empty → ((f : Formula) → Contains fs f → P f) → P (first_alternative fs)
-of_ensured P [] none each = none
-of_ensured P (f ∷ fs) none each = each f (member_first f fs)
-
-pub ensured_is_of_variables : (P : Program) → IsTyped P → (q : Procedure) → Contains P.procedures q → FormulaIn (ensured q) (variable_names q)
-ensured_is_of_variables P typed q here = of_ensured (λ f. FormulaIn f (variable_names q)) q.gives tt (gives_are_variables P typed q here)
 
 -- an occurrence whose name stands earlier is a repeated one
 repeated : (os : List Occ) (i j : ℕ) (o p : Occ) → i < j → j < length os → get_or os i o ≡ o → get_or os j p ≡ p → o.name ≡ p.name → RepeatedAt os p.span
@@ -160,9 +152,6 @@ gives_are_contract P typed q here f one = formula_in f (parameters_of q ++ resul
           | inr local ↦ absurd (typed 9 o.span (name_out_of_contract refl (any_of (λ q. NameOutOfContract q o.span) P.procedures q here
               (inr (any_of (λ o'. (o'.span ≡ o.span) × HasName (locals_of q) o'.name) (in_alternatives q.gives) o there (refl, has_name (locals_of q) o.name local))))))
         ]
-
-pub ensured_is_of_contract : (P : Program) → IsTyped P → (q : Procedure) → Contains P.procedures q → FormulaIn (ensured q) (parameters_of q ++ results_of q)
-ensured_is_of_contract P typed q here = of_ensured (λ f. FormulaIn f (parameters_of q ++ results_of q)) q.gives tt (gives_are_contract P typed q here)
 
 -- no statement assigns a parameter
 pub parameters_stay : (P : Program) → IsTyped P → (q : Procedure) → Contains P.procedures q → (y : Name) → Contains (parameters_of q) y → SomeAssigns (body_of q) y → ⊥

@@ -106,10 +106,24 @@ mutual
     next_item : {p : Span} {ts us rest : List Token} {x : Formula} {l : Formulas}
         → SpellsItem ts x (sign sg.Star p ∷ us) → SpellsItems us l rest → SpellsItems ts (formula_first x l) rest
 
--- an assertion after its word; a missing one is `emp`
-pub data SpellsClause : Keyword → List Token → Formula → List Token → Type 0 where
-  no_clause : {k : Keyword} {rest : List Token} → NoKey k rest → SpellsClause k rest empty rest
-  a_clause : {k : Keyword} {p : Span} {ts rest : List Token} {x : Formula} → SpellsAssertion ts x rest → SpellsClause k (key k p ∷ ts) x rest
+-- one assertion or more with `||` between two
+pub data SpellsAlternatives : List Token → List Formula → List Token → Type 0 where
+  last_alternative : {ts rest : List Token} {x : Formula} → SpellsAssertion ts x rest → NoSign sg.Or rest → SpellsAlternatives ts (x ∷ []) rest
+  next_alternative : {p : Span} {ts us rest : List Token} {x : Formula} {l : List Formula}
+      → SpellsAssertion ts x (sign sg.Or p ∷ us) → SpellsAlternatives us l rest → SpellsAlternatives ts (x ∷ l) rest
+
+-- a part after its word, or what stands for it where the word is missing
+pub data SpellsAfter (X : Type 0) (Part : List Token → X → List Token → Type 0) (missing : X) (k : Keyword) : List Token → X → List Token → Type 0 where
+  no_clause : {rest : List Token} → NoKey k rest → SpellsAfter X Part missing k rest missing rest
+  a_clause : {p : Span} {ts rest : List Token} {x : X} → Part ts x rest → SpellsAfter X Part missing k (key k p ∷ ts) x rest
+
+-- an assertion; a missing one is `emp`
+abbrev pub SpellsClause : Keyword → List Token → Formula → List Token → Type 0
+SpellsClause = SpellsAfter Formula SpellsAssertion empty
+
+-- alternatives; missing ones are `emp` alone
+abbrev pub SpellsEnsures : List Token → List Formula → List Token → Type 0
+SpellsEnsures = SpellsAfter (List Formula) SpellsAlternatives (empty ∷ []) kw.Ensures
 
 -- one or more names with commas between them, and then `:=`
 pub data SpellsTargets : List Token → List Occ → List Token → Type 0 where
@@ -186,10 +200,10 @@ pub data SpellsBody : List Token → Option Inside → Span → List Token → T
   a_body : {p : Span} {ts rest : List Token} {b : Inside} → SpellsInside ts b rest → SpellsBody (sign sg.BraceOpen p ∷ ts) (Some b) b.close rest
 
 pub data SpellsProcedure : List Token → Procedure → List Token → Type 0 where
-  a_procedure : {f : Occ} {p q c : Span} {ts us vs ws zs rest : List Token} {xs ys : List Occ} {x y : Formula} {b : Option Inside}
-      → SpellsHeader ts xs us → SpellsResults us ys vs → SpellsClause kw.Requires vs x ws → SpellsClause kw.Ensures ws y zs → SpellsBody zs b c rest
+  a_procedure : {f : Occ} {p q c : Span} {ts us vs ws zs rest : List Token} {xs ys : List Occ} {x : Formula} {l : List Formula} {b : Option Inside}
+      → SpellsHeader ts xs us → SpellsResults us ys vs → SpellsClause kw.Requires vs x ws → SpellsEnsures ws l zs → SpellsBody zs b c rest
       → SpellsProcedure (key kw.Procedure p ∷ named f ∷ sign sg.ParenOpen q ∷ ts)
-      (record { name = f; parameters = xs; results = ys; needs = x; gives = y ∷ []; body = b; close = c }) rest
+      (record { name = f; parameters = xs; results = ys; needs = x; gives = l; body = b; close = c }) rest
 
 pub data SpellsProcedures : List Token → List Procedure → Type 0 where
   no_procedures : SpellsProcedures [] []

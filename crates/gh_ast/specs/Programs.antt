@@ -2,7 +2,7 @@
 use Rattle.std.specs.Prelude.{◌≡◌, ◌≢◌, ◌⊎◌, ℕ, List, [], ◌∷◌, map, Option, Some, None, Contains}
 use Rattle.gh_ast.specs.declared.Occ.{Occ}
 use Rattle.gh_ast.specs.Occurrences.{variables_of}
-use Rattle.gh_ast.specs.Plain.{Formula, empty, Statement, set, new, write, free, call, choice, loop, give, Statements, no_statements, statement_first, Inside, Procedure, Program}
+use Rattle.gh_ast.specs.Plain.{Statement, set, new, write, free, call, choice, loop, give, Statements, no_statements, statement_first, Inside, Procedure, Program}
 
 -- the characters of a name
 abbrev pub Name : Type 0
@@ -31,14 +31,6 @@ body_of p = statements_in p.body
 -- the names of the variables of a procedure, as they are numbered
 abbrev pub variable_names : Procedure → List Name
 variable_names p = names (variables_of p)
-
--- what a procedure ensures: its one alternative, where the program is well formed (`emp` where there is none)
-abbrev pub first_alternative : List Formula → Formula
-first_alternative [] = empty
-first_alternative (f ∷ fs) = f
-
-abbrev pub ensured : Procedure → Formula
-ensured p = first_alternative p.gives
 
 -- the first procedure of the name
 abbrev pub IsFirstNamed : List Procedure → Name → Procedure → Type 0

@@ -1,6 +1,6 @@
 -- Programs in the shape that texts give them: lists of tests, of parts of an assertion and of alternatives have no fewer members than
 -- a text can spell, and no test of an assertion's cases has a read.
-use Rattle.std.specs.Prelude.{◌≡◌, length, Bool, true, false, Option, None, Some, All}
+use Rattle.std.specs.Prelude.{◌≡◌, ◌≤◌, length, Bool, true, false, Option, None, Some, All}
 use Rattle.gh_ast.specs.declared.Expr.{Expr}
 use Rattle.gh_ast.specs.declared.Expr.TheVariants.{Plain, Read}
 use Rattle.gh_ast.specs.Plain.{Test, compare, negation, conjunction, disjunction, Tests, no_tests, test_first}
@@ -61,8 +61,7 @@ IsFormedBody (Some b) = AreFormedStatements b.statements
 
 pub record IsFormedProcedure (q : Procedure) : Type 0 where
   pub needs : IsFormedFormula q.needs
-  -- one alternative, as many as a text can spell
-  pub one : length q.gives ≡ 1
+  pub some : 1 ≤ length q.gives
   pub gives : All IsFormedFormula q.gives
   pub body : IsFormedBody q.body
 

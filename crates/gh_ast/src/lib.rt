@@ -150,19 +150,6 @@ pub struct Procedure {
     ghost some: { 0 < length gives.items },
 }
 
-impl Procedure {
-    ghost use Rattle.std.specs.Prelude.{◌≡◌};
-    ghost use Rattle.gh_ast.specs.Plain.{formula_of, procedure_of};
-    ghost use Rattle.gh_ast.specs.Programs.{ensured};
-
-    /// What it ensures: its first alternative, the only one in a well-formed program.
-    pub fn ensured(&self) -> &Assertion
-        ensures { formula_of result.now ≡ ensured (procedure_of self.now) }
-    {
-        &self.gives[0]
-    }
-}
-
 /// A whole text.
 #[derive(Debug, Drop)]
 pub struct Program {

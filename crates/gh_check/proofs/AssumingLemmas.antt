@@ -14,6 +14,7 @@ use Rattle.gh_base.proofs.NumberLemmas.{apart}
 use Rattle.gh_sat.specs.declared.trail.Step.{Step}
 use Rattle.gh_sat.specs.Trail.{Line, State, IsTrueIn, IsFalseIn, IsFree, IsSound, open_level}
 use Rattle.gh_sat.specs.Status.{IsSettled, IsForced, AreForced}
+use Rattle.gh_sat.specs.Watch.{WasOpen}
 use Rattle.gh_sat.specs.Learn.{IsConflict}
 use Rattle.gh_sat.specs.Whole.{PropagatesTo}
 use Rattle.gh_sat.proofs.ListLemmas.{get_within, get_front, get_push, get_last}
@@ -113,7 +114,7 @@ not_itself : (b : Bool) → b ≡ not b → ⊥
 not_itself true e = cc
 not_itself false e = cc
 
-lit_cases : (z : Sizes) (a b : Lit) → IsInRange z a.atom → IsInRange z b.atom → (a ≡ b) ⊎ (a ≢ b)
+pub lit_cases : (z : Sizes) (a b : Lit) → IsInRange z a.atom → IsInRange z b.atom → (a ≡ b) ⊎ (a ≢ b)
 lit_cases z a b h k = elim (cases_eq (number_of z a.atom) (number_of z b.atom)) [
   | inl e ↦ elim (bool_cases a.positive b.positive) [
     | inl f ↦ inl (same_lit a b (apart z a.atom b.atom h k e) f)
@@ -227,7 +228,7 @@ first_refutes old new lits (Some k) b none moves conflict h is holds =
     subst (λ (cs : List (List Lit)). IsRefutedByUnits cs (map opposite lits)) moves.clauses
     (conflict_refutes new (map opposite lits) k conflict (given_at_first new (map opposite lits) h (moves.starts ∙ none)))
 
-in_opposites : (xs : List Lit) (i : ℕ) (d : Lit) → i < length xs → Contains (map opposite xs) (opposite (get_or xs i d))
+pub in_opposites : (xs : List Lit) (i : ℕ) (d : Lit) → i < length xs → Contains (map opposite xs) (opposite (get_or xs i d))
 in_opposites [] i d lt = absurd (omega arith)
 in_opposites (x ∷ xs) zero d lt = (zero, omega arith, refl)
 in_opposites (x ∷ xs) (suc i) d lt = let r = in_opposites xs i d (omega arith) in (suc r.0, omega (arith, r.1), r.2)
@@ -257,3 +258,7 @@ goes_on first s lits n long g follows =
 
 pub goes_range : (first s : State) (lits : List Lit) (i : ℕ) (d l : Lit) → i < length lits → l ≡ get_or lits i d → Goes first lits i s → AreInRange first.sizes lits → IsInRange s.sizes l.atom
 goes_range first s lits i d l lt at g h = subst (λ (z : Sizes). IsInRange z l.atom) (sym g.sizes) (subst (λ (x : Lit). IsInRange first.sizes x.atom) (sym at) (h i d lt))
+
+-- nothing was false when a level was opened, where none was
+pub was_open : (trail : List Step) (starts : List ℕ) (c : List Lit) → starts ≡ [] → WasOpen trail starts c
+was_open trail starts c none level start at f = absurd (let lt = get_within [] level start (subst (λ (xs : List ℕ). slice_get xs level ≡ Some start) none at) in omega arith)

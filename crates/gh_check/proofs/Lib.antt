@@ -1,2 +1,6 @@
 pub mod AssumingLemmas
+pub mod KeptLemmas
+pub mod TruthLemmas
+pub mod LineLemmas
+pub mod UnitsLemmas
 pub mod SectionLemmas

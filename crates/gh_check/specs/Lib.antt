@@ -1,4 +1,6 @@
 pub mod Names
 pub mod Assuming
+pub mod Kept
+pub mod Truths
 pub mod Lines
 pub mod Answers

@@ -1,18 +1,42 @@
 -- The check of one line.
-use Rattle.std.specs.Prelude.{◌≡◌, List, Option, Some, None}
+use Rattle.std.specs.Prelude.{◌≡◌, ⊤, List, [], ◌∷◌, ◌++◌, Option}
 use Rattle.gh_base.specs.declared.atom.Lit.{Lit}
-use Rattle.gh_base.specs.Atoms.{AreInRange}
 use Rattle.gh_base.specs.Grounds.{Problem}
 use Rattle.gh_log.specs.declared.lines.LogLine.{LogLine}
-use Rattle.gh_log.specs.Sections.{IsOfKind, line_clause}
+use Rattle.gh_log.specs.Sections.{IsOfKind, IsFaultOf, line_clause}
+use Rattle.gh_base.specs.declared.sizes.Sizes.{Sizes}
+use Rattle.gh_check.specs.Kept.{Kept, with_line, IsKept, IsWithin, AreWithin}
+use Rattle.gh_check.specs.Assuming.{IsBehind}
+use Rattle.gh_check.specs.declared.lines.Earlier.{Earlier}
+use Rattle.gh_check.specs.declared.lines.Outcome.{Outcome}
+use Rattle.gh_check.specs.declared.lines.Outcome.TheVariants.{Faulty, Holds}
 
--- the line is of its kind after lines with these clauses, and has this clause
-pub record IsTaken (p : Problem) (earlier : List (List Lit)) (line : LogLine) (clause : List Lit) : Type 0 where
+-- the line is of its kind after these lines, and has this clause
+pub record IsTaken (p : Problem) (earlier : List LogLine) (line : LogLine) (clause : Option (List Lit)) : Type 0 where
   pub kind : IsOfKind p earlier line
   pub is : clause ≡ line_clause p line
-  pub in_range : AreInRange p.sizes clause
+  pub within : IsWithin p.sizes clause
 
--- the clause of a line that is of its kind, none of one that isn't
-abbrev pub IsChecked : Problem → List (List Lit) → LogLine → Option (List Lit) → Type 0
-IsChecked p earlier line None = IsOfKind p earlier line → ⊥
-IsChecked p earlier line (Some clause) = IsTaken p earlier line clause
+-- the clause of a line that is of its kind, the fault of one that isn't
+abbrev pub IsChecked : Problem → List LogLine → LogLine → Outcome → Type 0
+IsChecked p earlier line (Faulty number) = (IsOfKind p earlier line → ⊥) × IsFaultOf p earlier line number
+IsChecked p earlier line (Holds clause) = IsTaken p earlier line clause
+
+-- with the clause of a line that is of its kind, this is kept of it and the lines before
+abbrev pub IsKeptAfter : Problem → List LogLine → LogLine → Outcome → Kept → Type 0
+IsKeptAfter p earlier line (Faulty number) k = ⊤
+IsKeptAfter p earlier line (Holds clause) k = IsKept p (earlier ++ line ∷ []) (with_line k clause)
+
+-- the outcome for a line after all lines of which this is kept
+abbrev pub Answers : Problem → Kept → LogLine → Outcome → Type 0
+Answers p k line o = (earlier : List LogLine) → IsKept p earlier k → IsChecked p earlier line o
+
+-- what is kept after that
+abbrev pub Leaves : Problem → Kept → LogLine → Outcome → Kept → Type 0
+Leaves p old line o new = (earlier : List LogLine) → IsKept p earlier old → IsKeptAfter p earlier line o new
+
+-- what is kept fits clauses over these numbers
+pub record IsReady (sizes : Sizes) (e : Earlier) : Type 0 where
+  pub within : AreWithin sizes e.kept.clauses
+  pub behind : IsBehind sizes e.kept.clauses e.units
+  pub truths : e.truths.sizes ≡ sizes

@@ -1,16 +1,15 @@
 //! What is wrong with a section.
 
 ghost use Rattle.std.specs.Prelude.{◌≡◌};
-ghost use Rattle.gh_log.specs.Sections.{fault_of};
 ghost use Rattle.gh_check.specs.Names.{fault_name};
 
-use gh_log::lines::LogLine;
 use std::alloc::{AllocError, AllocFailed};
 use thiserror::Error;
 
 /// The first line that isn't of its kind, by its number in the file: 1 is no instance, 2 no ground clause's number, 3 no
-/// clause of equality and congruence, 4 not implied by unit propagation. 5 is a section with no fault but that it
-/// doesn't end in the empty clause, and has the number of the line after it.
+/// clause of equality and congruence, 4 not implied by unit propagation, 6 a line whose hints or deleted positions
+/// don't all stand, or that deletes one twice. 5 is a section with no fault but that it doesn't end in the empty
+/// clause, and has the number of the line after it.
 #[derive(Clone, Copy, Debug, PartialEq, Eq)]
 pub struct LogFault {
     pub number: u8,
@@ -46,18 +45,6 @@ impl<T: Drop> From<AllocFailed<T>> for CheckError {
     }
 }
 
-/// The number of the fault of a line that isn't of its kind.
-pub fn number_of_fault(line: &LogLine) -> u8
-    ensures { result ≡ fault_of line.now }
-{
-    match line {
-        LogLine::Axiom(_) => 1,
-        LogLine::Clause { .. } => 2,
-        LogLine::Lemma(_) => 3,
-        LogLine::Learnt(_) => 4,
-    }
-}
-
 impl LogFault {
     /// The name of the fault.
     pub fn name(self) -> &'static str
@@ -68,7 +55,8 @@ impl LogFault {
             2 => "NotClause",
             3 => "NotLemma",
             4 => "NotImplied",
-            _ => "NoEmptyClause",
+            5 => "NoEmptyClause",
+            _ => "NoSuchLine",
         }
     }
 }

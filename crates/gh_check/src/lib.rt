@@ -3,8 +3,10 @@
 
 pub mod check;
 pub mod fault;
+mod hints;
 pub mod laws;
 mod lines;
+mod positions;
 #[cfg(test)]
 mod tests;
 mod units;

@@ -1,13 +1,19 @@
 //! Lines, each after those before it.
 
-ghost use Rattle.std.specs.Prelude.{◌≡◌, ◌↔◌, List, [], IfOk, IsTrue};
+ghost use Rattle.std.specs.Prelude.{◌≡◌, ◌↔◌, List, Option, [], ◌∷◌, ◌++◌, IfOk, OnOk, IsTrue};
 ghost use Rattle.gh_base.specs.declared.atom.Lit.{Lit};
 ghost use Rattle.gh_base.specs.declared.sizes.Sizes.{Sizes};
 ghost use Rattle.gh_base.specs.Atoms.{AreInRange};
+ghost use Rattle.gh_log.specs.declared.lines.LogLine.{LogLine};
 ghost use Rattle.gh_log.specs.declared.lines.LogLine.TheVariants as line_kind;
-ghost use Rattle.gh_check.specs.Lines.{IsChecked};
+ghost use Rattle.gh_base.specs.Grounds.{Problem};
+ghost use Rattle.gh_check.specs.Kept.{AreWithin};
+ghost use Rattle.gh_check.specs.Lines.{IsChecked, Answers, Leaves, IsReady};
+ghost use Rattle.gh_check.specs.Assuming.{IsBehind};
 
-use crate::units::is_implied;
+use crate::hints::Truths;
+use crate::positions::Positions;
+use crate::units::Units;
 use gh_base::atom::Lit;
 use gh_base::clause::Clause;
 use gh_base::ground::Ground;
@@ -15,8 +21,22 @@ use gh_base::sizes::Sizes;
 use gh_cc::lemma::is_lemma;
 use gh_inst::naming::{InstanceName, instance};
 use gh_log::lines::LogLine;
-use gh_sat::learner::Learner;
 use std::alloc::{AllocError, Global};
+
+/// What the check of a line answers: the number of its fault, or its clause, if it has one.
+#[derive(Drop)]
+pub enum Outcome {
+    Faulty(u8),
+    Holds(Option<Clause>),
+}
+
+/// What the check of a section keeps: the lines before, and what clauses are shown by.
+#[derive(Drop)]
+pub struct Earlier {
+    pub kept: Positions,
+    pub units: Units,
+    pub truths: Truths,
+}
 
 /// Whether each atom is in range.
 pub fn are_in_range(sizes: Sizes, lits: &[Lit]) -> bool
@@ -26,79 +46,135 @@ pub fn are_in_range(sizes: Sizes, lits: &[Lit]) -> bool
 }
 
 // The clause of an instance, if it is one.
-fn checked_axiom(alloc: Global, ground: &Ground, name: InstanceName) -> Option<Clause>
-    ensures { (earlier : List (List Lit)) → IsChecked ground.now earlier (line_kind.Axiom name) result }
+fn checked_axiom(alloc: Global, ground: &Ground, name: InstanceName) -> Outcome
+    ensures { (earlier : List LogLine) → IsChecked ground.now earlier (line_kind.Axiom name) result }
 {
-    instance(alloc, name, ground.terms(), ground.versions())
+    match instance(alloc, name, ground.terms(), ground.versions()) {
+        None => Outcome::Faulty(1),
+        Some(clause) => Outcome::Holds(Some(clause)),
+    }
 }
 
 // The ground clause of a number, if there is one.
-fn checked_clause(alloc: Global, ground: &Ground, number: u32) -> Result<Option<Clause>, AllocError>
-    ensures { IfOk result (λ o. (earlier : List (List Lit)) → IsChecked ground.now earlier (line_kind.Clause number) o) }
+fn checked_clause(alloc: Global, ground: &Ground, number: u32) -> Result<Outcome, AllocError>
+    ensures { IfOk result (λ o. (earlier : List LogLine) → IsChecked ground.now earlier (line_kind.Clause number) o) }
 {
     match ground.clause(number) {
-        None => Ok(None),
-        Some(clause) => Ok(Some(clause.copy(alloc)?)),
+        None => Ok(Outcome::Faulty(2)),
+        Some(clause) => Ok(Outcome::Holds(Some(clause.copy(alloc)?))),
     }
 }
 
 // A clause that follows from equality and congruence alone.
-fn checked_lemma(
-    alloc: Global,
-    ground: &Ground,
-    clause: &Clause,
-) -> Result<Option<Clause>, AllocError>
-    ensures { IfOk result (λ o. (earlier : List (List Lit)) → IsChecked ground.now earlier (line_kind.Lemma clause.now) o) }
+fn checked_lemma(alloc: Global, ground: &Ground, clause: &Clause) -> Result<Outcome, AllocError>
+    ensures { IfOk result (λ o.
+        (earlier : List LogLine) → IsChecked ground.now earlier (line_kind.Lemma clause.now) o) }
 {
     let sizes = ground.sizes();
-    if is_lemma(alloc, clause, sizes.terms, sizes.versions, sizes.defs)? {
-        Ok(Some(clause.copy(alloc)?))
-    } else {
-        Ok(None)
+    if !is_lemma(alloc, clause, sizes.terms, sizes.versions, sizes.defs)? {
+        return Ok(Outcome::Faulty(3));
     }
+    Ok(Outcome::Holds(Some(clause.copy(alloc)?)))
 }
 
-// A clause over atoms in range that unit propagation shows.
+// A clause over atoms in range that unit propagation shows from all lines before. No search is made for one that has a
+// literal and its opposite.
 fn checked_learnt(
     alloc: Global,
     ground: &Ground,
-    learner: &mut Learner,
+    kept: &Positions,
+    units: &mut Units,
+    truths: &mut Truths,
     clause: &Clause,
-) -> Result<Option<Clause>, AllocError>
-    requires sizes { learner.old.sizes ≡ ground.now.sizes }
-    requires level { learner.old.starts ≡ [] }
-    ensures checked { IfOk result (IsChecked ground.now learner.old.clauses (line_kind.Learnt clause.now)) }
-    ensures sizes { learner.new.sizes ≡ learner.old.sizes }
-    ensures clauses { learner.new.clauses ≡ learner.old.clauses }
-    ensures level { learner.new.starts ≡ [] }
+) -> Result<Outcome, AllocError>
+    requires behind { IsBehind ground.now.sizes kept.now.clauses units.old }
+    requires sizes { truths.old.sizes ≡ ground.now.sizes }
+    requires within { AreWithin ground.now.sizes kept.now.clauses }
+    ensures checked { IfOk result (Answers ground.now kept.now (line_kind.Learnt clause.now)) }
+    ensures behind { OnOk result (IsBehind ground.now.sizes kept.now.clauses units.new) }
+    ensures sizes { OnOk result (truths.new.sizes ≡ ground.now.sizes) }
 {
     if !are_in_range(ground.sizes(), clause.lits()) {
-        return Ok(None);
+        return Ok(Outcome::Faulty(4));
     }
-    if !is_implied(learner, clause.lits()) {
-        return Ok(None);
+    if truths.have_opposites(clause.lits())? {
+        return Ok(Outcome::Holds(Some(clause.copy(alloc)?)));
     }
-    Ok(Some(clause.copy(alloc)?))
+    if !units.are_implied(alloc, ground.sizes(), kept, clause.lits())? {
+        return Ok(Outcome::Faulty(4));
+    }
+    Ok(Outcome::Holds(Some(clause.copy(alloc)?)))
 }
 
-/// The clause of a line, if the line is of its kind after lines with the search's clauses.
+// A clause over atoms in range that its hints show, which all stand.
+fn checked_hinted(
+    alloc: Global,
+    ground: &Ground,
+    kept: &Positions,
+    truths: &mut Truths,
+    clause: &Clause,
+    hints: &Vec<u32>,
+) -> Result<Outcome, AllocError>
+    requires sizes { truths.old.sizes ≡ ground.now.sizes }
+    requires within { AreWithin ground.now.sizes kept.now.clauses }
+    ensures checked { IfOk result (Answers ground.now kept.now (line_kind.Hinted clause.now hints.now)) }
+    ensures sizes { OnOk result (truths.new.sizes ≡ ground.now.sizes) }
+{
+    if !kept.all_stand(hints.as_slice()) {
+        return Ok(Outcome::Faulty(6));
+    }
+    if !are_in_range(ground.sizes(), clause.lits()) {
+        return Ok(Outcome::Faulty(4));
+    }
+    if !truths.are_shown(kept, clause.lits(), hints.as_slice())? {
+        return Ok(Outcome::Faulty(4));
+    }
+    Ok(Outcome::Holds(Some(clause.copy(alloc)?)))
+}
+
+// A deletion of positions that stand and are distinct.
+fn checked_deletion(kept: &mut Positions, positions: &Vec<u32>) -> Outcome
+    ensures clauses { kept.new.clauses ≡ kept.old.clauses }
+    ensures checked { (p : Problem) → Answers p kept.old (line_kind.Delete positions.now) result }
+    ensures deleted { (p : Problem) → Leaves p kept.old (line_kind.Delete positions.now) result kept.new }
+{
+    if kept.delete(positions.as_slice()) {
+        Outcome::Holds(None)
+    } else {
+        Outcome::Faulty(6)
+    }
+}
+
+/// Checks a line after those that are kept. Where it holds, what is kept is to have its clause too.
 pub fn checked(
     alloc: Global,
     ground: &Ground,
-    learner: &mut Learner,
+    before: &mut Earlier,
     line: &LogLine,
-) -> Result<Option<Clause>, AllocError>
-    requires sizes { learner.old.sizes ≡ ground.now.sizes }
-    requires level { learner.old.starts ≡ [] }
-    ensures checked { IfOk result (IsChecked ground.now learner.old.clauses line.now) }
-    ensures sizes { learner.new.sizes ≡ learner.old.sizes }
-    ensures clauses { learner.new.clauses ≡ learner.old.clauses }
-    ensures level { learner.new.starts ≡ [] }
+) -> Result<Outcome, AllocError>
+    requires { IsReady ground.now.sizes before.old }
+    ensures checked { IfOk result (Answers ground.now before.old.kept line.now) }
+    ensures kept { IfOk result (λ o. Leaves ground.now before.old.kept line.now o before.new.kept) }
+    ensures ready { OnOk result (IsReady ground.now.sizes before.new) }
 {
     match line {
         LogLine::Axiom(name) => Ok(checked_axiom(alloc, ground, *name)),
         LogLine::Clause { number } => Ok(checked_clause(alloc, ground, *number)?),
         LogLine::Lemma(clause) => Ok(checked_lemma(alloc, ground, clause)?),
-        LogLine::Learnt(clause) => Ok(checked_learnt(alloc, ground, learner, clause)?),
+        LogLine::Learnt(clause) => {
+            let (units, truths) = (&mut before.units, &mut before.truths);
+            Ok(checked_learnt(alloc, ground, &before.kept, units, truths, clause)?)
+        }
+        LogLine::Hinted { clause, hints } => {
+            Ok(checked_hinted(
+                alloc,
+                ground,
+                &before.kept,
+                &mut before.truths,
+                clause,
+                hints,
+            )?)
+        }
+        LogLine::Delete { positions } => Ok(checked_deletion(&mut before.kept, positions)),
     }
 }

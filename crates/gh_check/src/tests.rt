@@ -51,9 +51,13 @@ enum Plain {
     Ground(u32),
     Lemma(Dimacs),
     Learnt(Dimacs),
+    Hinted(Dimacs, &'static [u32]),
+    Delete(&'static [u32]),
 }
 
-const END: Plain = Plain::Learnt([0, 0, 0]);
+const NONE: Dimacs = [0, 0, 0];
+
+const END: Plain = Plain::Learnt(NONE);
 
 fn atom_of(code: u8) -> Atom {
     match code {
@@ -116,6 +120,13 @@ fn line_of(alloc: Global, plain: Plain) -> Result<LogLine, AllocError> {
         Plain::Ground(number) => LogLine::Clause { number },
         Plain::Lemma(codes) => LogLine::Lemma(clause_of(alloc, codes)?),
         Plain::Learnt(codes) => LogLine::Learnt(clause_of(alloc, codes)?),
+        Plain::Hinted(codes, hints) => LogLine::Hinted {
+            clause: clause_of(alloc, codes)?,
+            hints: hints.to_vec(alloc)?,
+        },
+        Plain::Delete(positions) => LogLine::Delete {
+            positions: positions.to_vec(alloc)?,
+        },
     })
 }
 
@@ -309,6 +320,149 @@ fn other_sections(rt: HostRuntime) -> Result<(), Fail> {
     Ok(())
 }
 
+// The fault of six ground clauses that have a contradiction, and the lines after them.
+fn fault_after(
+    alloc: Global,
+    ground: &Ground,
+    after: &[Plain],
+) -> Result<Option<LogFault>, CheckError> {
+    let mut lines = Vec::new(alloc);
+    for number in [0, 15, 16, 19, 23, 24] {
+        lines.push(Plain::Ground(number))?;
+    }
+    for line in after {
+        lines.push(*line)?;
+    }
+    fault_of(alloc, ground, lines.as_slice())
+}
+
+// The valid section with hints, which the last line needs in their order.
+#[test]
+fn hinted_sections(rt: HostRuntime) -> Result<(), Fail> {
+    let alloc = rt.alloc();
+    let ground = ground_of(&rt, alloc)?;
+    let rows = [
+        Row {
+            lines: &[Plain::Hinted(NONE, &[1, 2, 3, 4, 5, 6])],
+            fault: None,
+        },
+        Row {
+            lines: &[Plain::Hinted(NONE, &[1, 2, 3, 4, 5])],
+            fault: at(4, 9),
+        },
+        Row {
+            lines: &[Plain::Hinted(NONE, &[1, 2, 4, 3, 5, 6])],
+            fault: at(4, 9),
+        },
+        Row {
+            lines: &[Plain::Hinted(NONE, &[1, 2, 3, 4, 5, 7])],
+            fault: at(6, 9),
+        },
+        Row {
+            lines: &[Plain::Hinted(NONE, &[0, 1, 2, 3, 4, 5, 6])],
+            fault: at(6, 9),
+        },
+        // A hint that no line needs is a fault too, and comes before an atom out of range.
+        Row {
+            lines: &[Plain::Hinted([13, 0, 0], &[8])],
+            fault: at(6, 9),
+        },
+        Row {
+            lines: &[Plain::Hinted([13, -13, 0], &[])],
+            fault: at(4, 9),
+        },
+        // Opposite literals need no hint. A true literal isn't false, and is the one that isn't.
+        Row {
+            lines: &[
+                Plain::Hinted([1, -1, 0], &[]),
+                Plain::Hinted([10, 0, 0], &[1, 1]),
+            ],
+            fault: at(4, 10),
+        },
+        // A line that hints show is a hint of later ones.
+        Row {
+            lines: &[
+                Plain::Hinted([8, 8, 0], &[1, 3, 4]),
+                Plain::Hinted(NONE, &[6, 7, 5]),
+            ],
+            fault: at(4, 10),
+        },
+        Row {
+            lines: &[
+                Plain::Hinted([8, 7, 0], &[1, 4]),
+                Plain::Hinted([8, 0, 0], &[3, 7]),
+                Plain::Hinted(NONE, &[2, 8, 5, 6]),
+            ],
+            fault: None,
+        },
+    ];
+    for row in rows {
+        assert_eq!(rt; fault_after(alloc, &ground, row.lines)?, row.fault);
+    }
+    Ok(())
+}
+
+// Deletions, and lines after them.
+#[test]
+fn deleted_lines(rt: HostRuntime) -> Result<(), Fail> {
+    let alloc = rt.alloc();
+    let ground = ground_of(&rt, alloc)?;
+    let rows = [
+        Row {
+            lines: &[
+                Plain::Delete(&[2]),
+                Plain::Hinted(NONE, &[1, 2, 3, 4, 5, 6]),
+            ],
+            fault: at(6, 10),
+        },
+        Row {
+            lines: &[
+                Plain::Hinted(NONE, &[1, 2, 3, 4, 5, 6]),
+                Plain::Delete(&[1]),
+            ],
+            fault: at(5, 11),
+        },
+        Row {
+            lines: &[Plain::Delete(&[2, 2])],
+            fault: at(6, 9),
+        },
+        Row {
+            lines: &[Plain::Delete(&[7])],
+            fault: at(6, 9),
+        },
+        Row {
+            lines: &[Plain::Delete(&[0])],
+            fault: at(6, 9),
+        },
+        Row {
+            lines: &[Plain::Delete(&[2]), Plain::Delete(&[3, 2])],
+            fault: at(6, 10),
+        },
+        // A deletion has a position, and no clause.
+        Row {
+            lines: &[Plain::Delete(&[]), Plain::Hinted(NONE, &[7])],
+            fault: at(6, 10),
+        },
+        Row {
+            lines: &[
+                Plain::Ground(0),
+                Plain::Delete(&[1]),
+                Plain::Hinted(NONE, &[7, 2, 3, 4, 5, 6]),
+            ],
+            fault: None,
+        },
+        // Propagation from all lines has deleted ones too.
+        Row {
+            lines: &[Plain::Delete(&[1, 2, 3]), END],
+            fault: None,
+        },
+    ];
+    for row in rows {
+        assert_eq!(rt; fault_after(alloc, &ground, row.lines)?, row.fault);
+    }
+    Ok(())
+}
+
 #[test]
 fn names(rt: HostRuntime) {
     let names = [
@@ -317,6 +471,7 @@ fn names(rt: HostRuntime) {
         "NotLemma",
         "NotImplied",
         "NoEmptyClause",
+        "NoSuchLine",
     ];
     for i in 0..names.len() {
         let fault = LogFault {

@@ -1,14 +1,21 @@
 //! Reverse unit propagation by the trail of a search.
 
-ghost use Rattle.std.specs.Prelude.{◌≡◌, ◌↔◌, [], IsTrue};
+ghost use Rattle.std.specs.Prelude.{◌≡◌, ◌↔◌, ◌∷◌, ◌++◌, [], List, Option, IsTrue, IfOk, OnOk, MatchOption};
+ghost use Rattle.gh_base.specs.declared.atom.Lit.{Lit};
+ghost use Rattle.gh_base.specs.declared.sizes.Sizes.{Sizes};
 ghost use Rattle.gh_base.specs.Atoms.{IsInRange, AreInRange, opposite};
 ghost use Rattle.gh_base.specs.Propagation.{FollowsByUnits};
 ghost use Rattle.gh_sat.specs.Trail.{IsSound};
 ghost use Rattle.gh_sat.specs.Status.{IsSettled};
-ghost use Rattle.gh_check.specs.Assuming.{IsRefuting, IsAssumed};
+ghost use Rattle.gh_check.specs.Assuming.{IsRefuting, IsAssumed, no_clauses, IsBehind};
+ghost use Rattle.gh_check.specs.Kept.{IsWithin, AreWithin, present};
 
+use crate::positions::Positions;
 use gh_base::atom::Lit;
+use gh_base::clause::Clause;
+use gh_base::sizes::Sizes;
 use gh_sat::learner::Learner;
+use std::alloc::{AllocError, Global};
 
 // Makes a literal false, and propagates. Answers whether that is a contradiction.
 fn refutes(learner: &mut Learner, lit: Lit) -> bool
@@ -49,8 +56,8 @@ fn all_refute(learner: &mut Learner, lits: &[Lit]) -> bool
     false
 }
 
-/// Whether unit propagation shows the clause of these literals from those of the search, which is at level 0.
-pub fn is_implied(learner: &mut Learner, lits: &[Lit]) -> bool
+// Whether unit propagation shows the clause of these literals from those of the search, which is at level 0.
+fn is_implied(learner: &mut Learner, lits: &[Lit]) -> bool
     requires range { AreInRange learner.old.sizes lits.now }
     requires level { learner.old.starts ≡ [] }
     ensures exact { IsTrue result ↔ FollowsByUnits learner.old.clauses lits.now }
@@ -61,4 +68,96 @@ pub fn is_implied(learner: &mut Learner, lits: &[Lit]) -> bool
     let implied = all_refute(learner, lits);
     learner.backjump(0);
     implied
+}
+
+/// The search by which clauses are shown from all lines before. It is made at the first such clause, and has the
+/// clauses of so many positions.
+#[derive(Drop)]
+pub struct Units {
+    learner: Option<Learner>,
+    taken: usize,
+}
+
+// A search that was begun, or one with no clause.
+fn begun(alloc: Global, sizes: Sizes, learner: Option<Learner>) -> Result<Learner, AllocError>
+    ensures { IfOk result (λ s. MatchOption learner (s ≡ no_clauses sizes) (λ old. s ≡ old)) }
+{
+    match learner {
+        Some(learner) => Ok(learner),
+        None => Ok(Learner::empty(alloc, sizes)?),
+    }
+}
+
+// Adds the clause of a position, if it has one.
+fn insert_entry(
+    alloc: Global,
+    learner: &mut Learner,
+    entry: &Option<Clause>,
+) -> Result<(), AllocError>
+    requires level { learner.old.starts ≡ [] }
+    requires within { IsWithin learner.old.sizes entry.now }
+    ensures clauses { OnOk result (learner.new.clauses ≡ learner.old.clauses ++ present (entry.now ∷ [])) }
+    ensures sizes { OnOk result (learner.new.sizes ≡ learner.old.sizes) }
+    ensures level { OnOk result (learner.new.starts ≡ []) }
+{
+    match entry {
+        None => Ok(()),
+        Some(clause) => {
+            learner.insert(clause.copy(alloc)?)?;
+            Ok(())
+        }
+    }
+}
+
+// Adds the clauses of positions.
+fn insert_all(
+    alloc: Global,
+    learner: &mut Learner,
+    entries: &[Option<Clause>],
+) -> Result<(), AllocError>
+    requires level { learner.old.starts ≡ [] }
+    requires within { AreWithin learner.old.sizes entries.now }
+    ensures clauses { OnOk result (learner.new.clauses ≡ learner.old.clauses ++ present entries.now) }
+    ensures sizes { OnOk result (learner.new.sizes ≡ learner.old.sizes) }
+    ensures level { OnOk result (learner.new.starts ≡ []) }
+{
+    for entry in entries {
+        insert_entry(alloc, learner, entry)?;
+    }
+    Ok(())
+}
+
+impl Units {
+    /// No search yet.
+    pub fn new() -> Units
+        ensures { (sizes : Sizes) (entries : List (Option (List Lit))) → IsBehind sizes entries result }
+    {
+        Units {
+            learner: None,
+            taken: 0,
+        }
+    }
+
+    /// Whether unit propagation shows the clause of some literals from those of all positions.
+    pub fn are_implied(
+        &mut self,
+        alloc: Global,
+        sizes: Sizes,
+        kept: &Positions,
+        lits: &[Lit],
+    ) -> Result<bool, AllocError>
+        requires behind { IsBehind sizes kept.now.clauses self.old }
+        requires range { AreInRange sizes lits.now }
+        requires within { AreWithin sizes kept.now.clauses }
+        ensures exact { IfOk result (λ b. IsTrue b ↔ FollowsByUnits (present kept.now.clauses) lits.now) }
+        ensures behind { OnOk result (IsBehind sizes kept.now.clauses self.new) }
+    {
+        let mut learner = begun(alloc, sizes, self.learner.take())?;
+        let entries = kept.clauses();
+        insert_all(alloc, &mut learner, &entries[self.taken..])?;
+        let implied = is_implied(&mut learner, lits);
+        self.taken = entries.len();
+        self.learner = Some(learner);
+        Ok(implied)
+    }
 }

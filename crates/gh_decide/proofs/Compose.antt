@@ -7,10 +7,10 @@ use Rattle.gh_ast.specs.declared.Occ.{Occ}
 use Rattle.gh_ast.specs.declared.Expr.{Expr}
 use Rattle.gh_ast.specs.Plain.{Test, Formula, Statement, set, new, write, free, call, choice, loop, give, Statements, no_statements, statement_first, Procedure, Program}
 use Rattle.gh_assert.specs.Heaps.{Heap, Splits}
-use Rattle.gh_assert.specs.Meaning.{Store, Meaning, HasPart}
+use Rattle.gh_assert.specs.Meaning.{Store, Meaning, MeetsOneOf, HasPart}
 use Rattle.gh_assert.proofs.Unions.{union}
 use Rattle.gh_assert.specs.Values.{Give, outcome}
-use Rattle.gh_ast.specs.Programs.{Name, names, parameters_of, results_of, body_of, Declares, Assigns, SomeAssigns, joined, ensured}
+use Rattle.gh_ast.specs.Programs.{Name, names, parameters_of, results_of, body_of, Declares, Assigns, SomeAssigns, joined}
 use Rattle.gh_ast.proofs.Declared.{is_member}
 use Rattle.gh_machine.specs.Machine.{Activation, Config, Fault, IsRun, starting, EndsWell, IsGoodRun, IsGood}
 use Rattle.gh_path.specs.Graphs.{Graph, dead_end, ends, guarded, entry, loop_entry, loop_end, returned, all_reads, tested, called, looped, lowered, all_lowered, Loop, while, once_around, round, rounds, whole_body, loops, all_loops, loops_of}
@@ -92,7 +92,7 @@ module _ (P : Program) (ready : Ready P) (E : Config → Type 0) (n : ℕ) (clai
       inside : (c : Procedure) (t : Store) → Declares P f.name c → map t (parameters_of c) ≡ r.0 → Sound P E m (working c t h (body_of c) (caller ∷ below))
       inside c t decl params =
           subst (λ body. Sound P E m (working c t h body (caller ∷ below))) (nothing_joined (body_of c))
-          (claim m l c known (body_of c) (results_of c) t (union part.1 F) (caller ∷ below) no_statements (ends (returned c.close (ensured c))) (body_of c)
+          (claim m l c known (body_of c) (results_of c) t (union part.1 F) (caller ∷ below) no_statements (ends (returned c.close c.gives)) (body_of c)
           (λ j k u a' h' sp done keep. back j k u a' h' sp done keep)
           (inr (record { results_in = λ y i. i; finish = back }))
           (record { assigns = λ y i. i; rounds = ready.rounds c known; returns = typed.loops_return_not })
@@ -107,7 +107,7 @@ module _ (P : Program) (ready : Ready P) (E : Config → Type 0) (n : ℕ) (clai
           part : HasPart c.needs t a
           part = r.2.0 c r.0 t decl r.1 params
 
-          back : (j : ℕ) → j ≤ m → (u : Store) (a' h' : Heap) → Splits h' a' (union part.1 F) → Meaning (ensured c) u a' → Keeps (body_of c) (results_of c) t u → Sound P E j (working c u h' no_statements (caller ∷ below))
+          back : (j : ℕ) → j ≤ m → (u : Store) (a' h' : Heap) → Splits h' a' (union part.1 F) → MeetsOneOf c.gives u a' → Keeps (body_of c) (results_of c) t u → Sound P E j (working c u h' no_statements (caller ∷ below))
           back zero k u a' h' sp met keep = tt
           back (suc j) k u a' h' sp met keep = (
             λ fault. fault,
@@ -260,7 +260,7 @@ pub ready_is_good : (P : Program) → Ready P → IsGood P
 ready_is_good P ready p is s h part frame split met ds run =
     sound_run P p frame (starting p s h []) ds
     (subst (λ body. Sound P E n (working p s h body [])) (nothing_joined (body_of p))
-    (every P ready E n n (omega arith) p is (body_of p) (results_of p) s frame [] no_statements (ends (returned p.close (ensured p))) (body_of p)
+    (every P ready E n n (omega arith) p is (body_of p) (results_of p) s frame [] no_statements (ends (returned p.close p.gives)) (body_of p)
     (λ j l t a k sp done keep. finish j l t a k sp done keep)
     (inr (record { results_in = λ y i. i; finish = finish }))
     (record { assigns = λ y i. i; rounds = ready.rounds p is; returns = typed.loops_return_not })
@@ -276,7 +276,7 @@ ready_is_good P ready p is s h part frame split met ds run =
     typed : KeepsRules p
     typed = ready.typed p is
 
-    finish : (j : ℕ) → j ≤ n → (t : Store) (a k : Heap) → Splits k a frame → Meaning (ensured p) t a → Keeps (body_of p) (results_of p) s t → Sound P E j (working p t k no_statements [])
+    finish : (j : ℕ) → j ≤ n → (t : Store) (a k : Heap) → Splits k a frame → MeetsOneOf p.gives t a → Keeps (body_of p) (results_of p) s t → Sound P E j (working p t k no_statements [])
     finish zero l t a k sp m keep = tt
     finish (suc j) l t a k sp m keep = (λ fault. fault, λ ended. (a, sp, m), λ d step. absurd step)
 

@@ -1,5 +1,5 @@
 -- The conditions that were decided so far, one by one.
-use Rattle.std.specs.Prelude.{◌≡◌, ◌⊎◌, ℕ, zero, suc, ◌+◌, ◌-◌, ◌<◌, ◌≤◌, List, [], ◌∷◌, ◌++◌, length, map, take, drop, slice_get, Some, None, All, Contains}
+use Rattle.std.specs.Prelude.{◌≡◌, ℕ, zero, suc, ◌+◌, ◌-◌, ◌<◌, ◌≤◌, List, [], ◌∷◌, ◌++◌, length, take, drop, slice_get, Some, None, All, Contains}
 use Rattle.std.proofs.Common.{refl, sym, ◌∙◌, ap, subst, inl, inr, arith}
 use Rattle.std.proofs.lemmas.List.{map-append, take_all}
 use Rattle.std.proofs.lemmas.List.Elements.{All-push, Contains-append_cases}
@@ -97,11 +97,12 @@ first_refuted P k r t ss found against before =
     }
 
 -- all conditions were decided
-pub all_decided : (P : Program) (k m : ℕ) (log : Log) → m ≡ length (conditions P) → m ≤ k → AreDecided P k log.sections.items → IsVerified P log
-all_decided P k m log count past before =
+pub all_decided : (P : Program) (k m : ℕ) (log : Log) → log.version ≡ 2 → m ≡ length (conditions P) → m ≤ k → AreDecided P k log.sections.items → IsVerified P log
+all_decided P k m log two count past before =
     let all : take k (conditions P) ≡ conditions P = take_all k (conditions P) (omega (arith, count, past)) in
     record {
       valid = λ c i. before.valid c (subst (λ (xs : List Condition). Contains xs c) (sym all) i);
+      version = two;
       log = subst (λ (xs : List Condition). AreValidSections P xs (lines_of log.sections.items)) all before.log;
       placed = before.placed;
     }

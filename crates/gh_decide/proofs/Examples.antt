@@ -4,7 +4,8 @@ use Rattle.std.specs.FinMap.{get, insert, remove}
 use Rattle.std.proofs.Common.{refl, sym, ◌∙◌, ap, subst, inl, inr, arith}
 use Rattle.gh_ast.specs.Plain.{Formula, empty, cell, free, Statements, no_statements, statement_first, Procedure}
 use Rattle.gh_assert.specs.Heaps.{Heap, Splits, IsCell, or_else}
-use Rattle.gh_assert.specs.Meaning.{Store, Meaning}
+use Rattle.gh_assert.specs.Meaning.{Store, Meaning, MeetsOneOf}
+use Rattle.gh_assert.proofs.Alternatives.{first_met}
 use Rattle.gh_assert.proofs.Unique.{get_removed}
 use Rattle.gh_assert.proofs.Cells.{no_cells, get_nothing, get_put, get_beside}
 use Rattle.gh_assert.proofs.Unions.{one_cell, is_one_cell}
@@ -41,10 +42,14 @@ good_run : (gives : Formula) (body : Statements) → IsGood (alone (with_cell gi
     IsGoodRun (with_cell gives body) no_cells (starting (with_cell gives body) ones cell_heap []) ds
 good_run gives body good ds run = good (with_cell gives body) (member_first (with_cell gives body) []) ones cell_heap cell_heap no_cells whole_cell (0, one_there) ds run
 
+-- one alternative, of the empty heap
+nothing_met : (s : Store) (h : Heap) → MeetsOneOf (empty ∷ []) s h → (q : ℕ) → get h q ≡ None
+nothing_met s h (f, there, met) = subst (λ g. Meaning g s h) (only_member empty f there) met
+
 leaks_not_good : IsGood (alone leaks) → ⊥
 leaks_not_good good =
     let ends = (good_run empty no_statements good [] tt).ends_well (refl, refl) in
-    let none : get cell_heap 1 ≡ None = ends.1.union 1 ∙ ap (λ o. or_else o (get no_cells 1)) (ends.2 1) ∙ get_nothing 1 in
+    let none : get cell_heap 1 ≡ None = ends.1.union 1 ∙ ap (λ o. or_else o (get no_cells 1)) (nothing_met ones ends.0 ends.2 1) ∙ get_nothing 1 in
     let here : get cell_heap 1 ≡ Some 0 = one_there.here in
     absurd cc
 
@@ -66,7 +71,7 @@ cuts_safe s (to, is) = (
   λ y t z u.
       let same : y ≡ s = t.1 in
       let met : IsCell (y.store x.name) to y.heap = subst (λ w. IsCell (w.store x.name) to w.heap) (sym same) is in
-      subst (λ w. Meaning (cell x) w.store w.heap) (sym u.3) (u.0, cut_cell y.heap (y.store x.name) to u.0 met),
+      subst (λ w. MeetsOneOf (cell x ∷ []) w.store w.heap) (sym u.3) (first_met (cell x) [] y.store (insert y.heap (y.store x.name) u.0) (u.0, cut_cell y.heap (y.store x.name) to u.0 met)),
 )
 
 cuts_typed : AllKeepRules (alone cuts)

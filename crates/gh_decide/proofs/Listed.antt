@@ -7,12 +7,12 @@ use Rattle.gh_ast.specs.Rules.{IsTyped}
 use Rattle.gh_ast.proofs.Lists.{member_cases, no_member}
 use Rattle.gh_path.specs.Conditions.{Condition, conditions, IsCondition}
 use Rattle.gh_path.proofs.Listed.{all_are_listed}
-use Rattle.gh_trace.specs.Validity.{IsConditionValid, ListedAreValid}
+use Rattle.gh_trace.specs.Validity.{IsConditionValid}
 use Rattle.gh_symb.specs.Symbolic.{symbolic_of}
 use Rattle.gh_symb.specs.Formulas.{problem}
 use Rattle.gh_log.specs.declared.lines.LogLine.{LogLine}
 use Rattle.gh_log.specs.Sections.{IsValidSection}
-use Rattle.gh_decide.specs.Logs.{AreValidSections, IsValidLog, ValidLogsShowValidity}
+use Rattle.gh_decide.specs.Logs.{AreValidSections, ValidLogsShowValidity}
 use Rattle.gh_decide.proofs.Parts.{section_shows}
 
 all_shown : (P : Program) (cs : List Condition) (ss : List (List LogLine)) (c : Condition) → IsTyped P → IsCondition P c → AreValidSections P cs ss → Contains cs c → IsConditionValid P c

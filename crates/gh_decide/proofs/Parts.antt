@@ -3,7 +3,7 @@ use Rattle.std.specs.Prelude.{◌≡◌, ◌⊎◌, ℕ, suc, ◌<◌, ◌≤◌
 use Rattle.std.proofs.Common.{refl, sym, ap, subst, inl, inr, arith}
 use Rattle.std.proofs.lemmas.List.{append-nil}
 use Rattle.gh_base.specs.Grounds.{Problem}
-use Rattle.gh_base.specs.Meaning.{IsClauseTrue, IsCongruence}
+use Rattle.gh_base.specs.Meaning.{IsCongruence}
 use Rattle.gh_base.specs.Structures.{Tables, interpretation_of}
 use Rattle.gh_ast.specs.Plain.{Program}
 use Rattle.gh_ast.specs.Programs.{Name, variable_names}
@@ -25,7 +25,7 @@ use Rattle.gh_trace.specs.Traces.{State, Counterexample}
 use Rattle.gh_trace.specs.Validity as plain
 use Rattle.gh_trace.specs.Validity.{IsConditionValid}
 use Rattle.gh_trace.specs.Replay.{Drawn, Refutes}
-use Rattle.gh_trace.specs.Kept.{IsKept, HasNoCounterexample, HasCounterexample}
+use Rattle.gh_trace.specs.Kept.{IsKept, HasCounterexample}
 use Rattle.gh_log.specs.Sections.{IsValidSection}
 use Rattle.gh_log.specs.declared.lines.LogLine.{LogLine}
 use Rattle.gh_log.specs.declared.lines.Section.{Section}
@@ -87,7 +87,7 @@ pub shown : (P : Program) (r : kept.Condition) (p : Problem) (s : Section) → I
 shown P r p s typed ground is = record {
   valid = λ c one. section_shows P c s.lines.items typed one.there (at c one);
   section = at;
-  placed = record { first = is.first; few = is.few };
+  placed = record { first = is.first; few = is.few; version = is.version };
 }
   where
     at : (c : Condition) → IsKept P r c → IsValidSection (problem (symbolic_of P c)) s.lines.items

@@ -7,10 +7,10 @@ use Rattle.gh_ast.specs.declared.Occ.{Occ}
 use Rattle.gh_ast.specs.declared.Expr.{Expr}
 use Rattle.gh_ast.specs.Plain.{Test, Statement, set, new, write, free, give, Statements, no_statements, statement_first, Procedure, Program}
 use Rattle.gh_assert.specs.Heaps.{Heap, Splits}
-use Rattle.gh_assert.specs.Meaning.{Store, Meaning}
+use Rattle.gh_assert.specs.Meaning.{Store, MeetsOneOf}
 use Rattle.gh_assert.proofs.Unions.{union}
 use Rattle.gh_assert.specs.Values.{result, Give, outcome, Gets}
-use Rattle.gh_ast.specs.Programs.{Name, results_of, SomeAssigns, ensured}
+use Rattle.gh_ast.specs.Programs.{Name, results_of, SomeAssigns}
 use Rattle.gh_machine.specs.Machine.{Activation, Config, Step, Fault, HasEnded}
 use Rattle.gh_path.specs.Graphs.{Graph, dead_end, ends, moves, returned, visits, reads, all_reads, tested, assigned, made, written, freed, answered}
 use Rattle.gh_trace.specs.Traces.{State}
@@ -43,7 +43,7 @@ Goes P E F b xs s0 g p rest below n =
 -- where a procedure may return: its end is sound
 pub record Ending (P : Program) (E : Config → Type 0) (F : Heap) (b : Statements) (xs : List Name) (s0 : Store) (p : Procedure) (below : List Activation) (n : ℕ) : Type 0 where
   pub results_in : (y : Name) → Contains (results_of p) y → Contains xs y
-  pub finish : (j : ℕ) → j ≤ n → (t : Store) (a h : Heap) → Splits h a F → Meaning (ensured p) t a → Keeps b xs s0 t → Sound P E j (working p t h no_statements below)
+  pub finish : (j : ℕ) → j ≤ n → (t : Store) (a h : Heap) → Splits h a F → MeetsOneOf p.gives t a → Keeps b xs s0 t → Sound P E j (working p t h no_statements below)
 
 pub keeps_on : (b : Statements) (xs : List Name) (s0 s : Store) (ys : List Name) (vs : List ℕ) (t : Store) → Keeps b xs s0 s → Gets s ys vs t → ((y : Name) → Contains ys y → SomeAssigns b y ⊎ Contains xs y) → Keeps b xs s0 t
 keeps_on b xs s0 s ys vs t keeps gets in_either y nb nx = gets.kept y (λ c. elim (in_either y c) [ inl l ↦ nb l | inr r ↦ nx r ]) ∙ keeps y nb nx
@@ -100,16 +100,16 @@ module _ (P : Program) (E : Config → Type 0) (F : Heap) (b : Statements) (xs :
             (go n (omega arith) s (remove a (s x.name)) (remove h (s x.name)) (remove_beside h a F (s x.name) split (not_in_frame h a F split (s x.name) w.0)) (w.1 (state s (remove a (s x.name))) (w.0, refl)) keeps),
       )
 
-  pub sound_give : (at : Span) (es : List Expr) → Ending P E F b xs s0 p below (suc n) → Splits h a F → Safe P (all_reads es (moves (answered (results_of p) es) (ends (returned at (ensured p))))) (state s a) → Keeps b xs s0 s → Sound P E (suc n) (working p s h (statement_first (give at es) rest) below)
+  pub sound_give : (at : Span) (es : List Expr) → Ending P E F b xs s0 p below (suc n) → Splits h a F → Safe P (all_reads es (moves (answered (results_of p) es) (ends (returned at p.gives)))) (state s a) → Keeps b xs s0 s → Sound P E (suc n) (working p s h (statement_first (give at es) rest) below)
   sound_give at es end split safe keeps =
-      let r = after_reads P es (moves (answered (results_of p) es) (ends (returned at (ensured p)))) (state s a) safe in
+      let r = after_reads P es (moves (answered (results_of p) es) (ends (returned at p.gives))) (state s a) safe in
       let up : Give s h es r.0 = gives_whole s h a F split es r.0 r.1 in (
         λ f. all_read s h es r.0 up f,
         λ ended. absurd (not_empty (give at es) rest ended.0),
         λ d st.
             let same : st.0 ≡ r.0 = same_values st.0 r.0 (sym st.2 ∙ up) in
             let gets : Gets s (results_of p) r.0 st.1 = subst (λ vs. Gets s (results_of p) vs st.1) same st.3 in
-            let met : Meaning (ensured p) st.1 a = (r.2 (state st.1 a) (r.0, r.1, gets, refl)) in
+            let met : MeetsOneOf p.gives st.1 a = (r.2 (state st.1 a) (r.0, r.1, gets, refl)) in
             let kept : Keeps b xs s0 st.1 = keeps_on b xs s0 s (results_of p) r.0 st.1 keeps gets (λ y c. inr (end.results_in y c)) in
             elim st.4 [
               | inl (alone, to) ↦ subst (Sound P E n) (sym to) (end.finish n (omega arith) st.1 a h split met kept)

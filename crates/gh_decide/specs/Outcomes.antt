@@ -13,9 +13,10 @@ use Rattle.gh_decide.specs.Verdicts.{IsPlaced}
 use Rattle.gh_decide.specs.declared.outcome.Outcome.{Outcome}
 use Rattle.gh_decide.specs.declared.outcome.Outcome.TheVariants.{Verified, Refuted}
 
--- all conditions are valid, and the log shows it
+-- all conditions are valid, and the log, of version 2, shows it
 pub record IsVerified (P : Program) (kept : Log) : Type 0 where
   pub valid : ListedAreValid P
+  pub version : kept.version ≡ 2
   pub log : IsValidLog P (lines_of kept.sections.items)
   pub placed : All IsPlaced kept.sections.items
 

@@ -12,8 +12,8 @@ use gh_path::conditions::Conditions;
 use gh_trace::state::Trace;
 use std::alloc::{AllocError, Global};
 
-/// What is decided of a program: all conditions are valid, with a section of a log for each; or
-/// the trace is a counterexample of the condition of this number, and those before it are valid.
+/// What is decided of a program: all conditions are valid, with a log of version 2 that has a section for
+/// each; or the trace is a counterexample of the condition of this number, and those before it are valid.
 #[derive(Debug, Drop)]
 pub enum Outcome {
     Verified { log: Log },
@@ -43,6 +43,9 @@ pub fn decide_all(
         }
     }
     Ok(Outcome::Verified {
-        log: Log { sections },
+        log: Log {
+            version: 2,
+            sections,
+        },
     })
 }

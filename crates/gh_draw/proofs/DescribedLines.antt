@@ -8,7 +8,7 @@ use Rattle.gh_ast.specs.declared.Expr.{Expr}
 use Rattle.gh_ast.specs.declared.Expr.TheVariants.{Plain, Read}
 use Rattle.gh_ast.specs.Grammar.{Spells}
 use Rattle.gh_ast.specs.Plain.{Test, compare, negation, conjunction, disjunction, Tests, no_tests, test_first, Statement, set, new, write, free, call, choice, loop, give, Statements, no_statements, statement_first, Inside, Procedure, Program}
-use Rattle.gh_ast.specs.Programs.{name_of, body_of, results_of, statements_in, ensured}
+use Rattle.gh_ast.specs.Programs.{name_of, body_of, results_of, statements_in}
 use Rattle.gh_ast.specs.Tokens.{first_place, cleared}
 use Rattle.gh_ast.proofs.Good.{AllGood, GoodExpr, SomeGood, GoodTest, GoodTests, GoodStatement, GoodStatements, GoodBody, GoodProcedure, tokens_are_good, program_is_good}
 use Rattle.gh_ast.proofs.Lists.{member_cases, no_member}
@@ -67,7 +67,7 @@ mutual
   statement_words p (call xs f es) g h w = all_read_words es (guarded (entry f es) (called xs f es) g) h.2 (name_line f.name h.1, w)
   statement_words p (choice t a c b d) g h w = test_words t (all_lowered p a g) (all_lowered p b g) h.0 (block_words p a g h.1 w) (block_words p b g h.2 w)
   statement_words p (loop at t i body close) g h w = (tt, test_words t dead_end g h.0 tt w)
-  statement_words p (give at es) g h w = all_read_words es (moves (answered (results_of p) es) (ends (returned at (ensured p)))) h tt
+  statement_words p (give at es) g h w = all_read_words es (moves (answered (results_of p) es) (ends (returned at p.gives))) h tt
 
   block_words : (p : Procedure) (ss : Statements) (g : Graph) → GoodStatements ss → NameWords g → NameWords (all_lowered p ss g)
   block_words p no_statements g h w = w
@@ -109,7 +109,7 @@ round_words p n (l ∷ ls) h a there = elim (member_cases (round p n l) (rounds 
 
 start_words : (p : Procedure) → GoodProcedure p → (a : Start) → Contains (starts p) a → NameWords a.graph
 start_words p h a there = elim (member_cases (whole_body p) (rounds p 0 (loops_of p)) a there) [
-  | inl same ↦ subst (λ (s : Start). NameWords s.graph) same (block_words p (body_of p) (ends (returned p.close (ensured p))) (body_good p.body h.body) tt)
+  | inl same ↦ subst (λ (s : Start). NameWords s.graph) same (block_words p (body_of p) (ends (returned p.close p.gives)) (body_good p.body h.body) tt)
   | inr later ↦ round_words p 0 (loops_of p) (all_good_loops (body_of p) (body_good p.body h.body)) a later
 ]
 

@@ -1,46 +1,108 @@
 -- What a solver keeps, as lines are added.
-use Rattle.std.proofs.Common.{◌≡◌, ℕ, ◌+◌, ◌<◌, ◌≤◌, List, [], ◌∷◌, ◌++◌, length, take, get_or, map, Option, Some, None, inl, inr, refl, sym, ap, ◌∙◌, subst, arith, append_assoc, append-nil, Contains}
-use Rattle.std.specs.Prelude.{slice_get, IfSome, MatchBool, Bool, is_none, All, vec_len}
+use Rattle.std.proofs.Common.{◌≡◌, ℕ, zero, suc, ◌+◌, ◌<◌, ◌≤◌, List, [], ◌∷◌, ◌++◌, length, take, get_or, map, Option, Some, None, inl, inr, refl, sym, ap, ◌∙◌, subst, arith, append_assoc, append-nil, Contains, Vec, Global}
+use Rattle.std.specs.Prelude.{slice_get, slice_index_or, IfSome, All, vec_len}
 use Rattle.std.proofs.lemmas.List.{take_more, map_push}
-use Rattle.std.proofs.lemmas.List.Elements.{Contains-append_left, All-push}
+use Rattle.std.proofs.lemmas.Option.{get_or_from_slice_get}
+use Rattle.std.proofs.lemmas.List.Elements.{Contains-append_left, All-push, All-cons, All-tail}
 use Rattle.gh_base.specs.declared.atom.Lit.{Lit}
 use Rattle.gh_base.specs.declared.sizes.Sizes.{Sizes}
 use Rattle.gh_base.specs.Atoms.{AreInRange}
 use Rattle.gh_base.specs.Grounds.{Problem, IsProblem}
 use Rattle.gh_base.specs.Meaning.{IsEqualityClause}
-use Rattle.gh_base.specs.Propagation.{FollowsByUnits}
 use Rattle.gh_inst.specs.declared.naming.InstanceName.{InstanceName}
 use Rattle.gh_inst.specs.Instances.{IsInstance, clause_of}
 use Rattle.gh_log.specs.declared.lines.LogLine.{LogLine}
 use Rattle.gh_log.specs.declared.lines.LogLine.TheVariants as line
 use Rattle.gh_log.specs.declared.lines.Section.{Section}
-use Rattle.gh_log.specs.Sections.{line_clause, IsOfKind, AreOfKind, IsValidSection}
+use Rattle.gh_log.specs.Sections.{line_clause, Deletes, HasClauseAt, Stands, AllStand, AreAt, IsHinted, IsOfKind, AreOfKind, IsValidSection}
+use Rattle.gh_log.specs.Spelled.{IsOfVersion}
 use Rattle.gh_log.proofs.KindLemmas.{kind_push}
 use Rattle.gh_sat.specs.Trail.{State, IsSound, cut}
-use Rattle.gh_sat.specs.Learn.{IsConflict, IsLearnt, add_clause}
+use Rattle.gh_sat.specs.Learn.{IsConflict, IsLearnt, AreReasons, add_clause}
 use Rattle.gh_sat.specs.Theory.{PropagatesBeside}
 use Rattle.gh_sat.specs.Whole.{Adds}
-use Rattle.gh_sat.proofs.ListLemmas.{get_within, get_last}
+use Rattle.gh_sat.proofs.ListLemmas.{get_within, get_some, get_last}
 use Rattle.gh_sat.proofs.LearnLemmas.{false_in_range}
 use Rattle.gh_sat.proofs.TheoryLemmas.{added_cut}
-use Rattle.gh_ground.specs.Kept.{IsKept, Keeps, IsAnswered, IsOpen, IsEnded}
-use Rattle.gh_ground.specs.Solving.{IsRefutationOf}
+use Rattle.gh_ground.specs.Kept.{IsKept, Keeps, IsAnswered, IsOpen, IsRefuted, IsEnded}
+use Rattle.gh_ground.specs.Solving.{IsNoDeletion, IsRefutationOf}
+
+-- the line of a clause with hints
+abbrev pub IsHintedLine : List Lit → List ℕ → LogLine → Type 0
+IsHintedLine clause hints l = (v : Vec ℕ Global) × (l ≡ line.Hinted clause v) × (v.items ≡ hints)
+
+-- what stands at a place of two lists that are one, read by two functions
+same_at : {X Y Z : Type 0} (f : X → Z) (g : Y → Z) (xs : List X) (ys : List Y) (k : ℕ) (y : Y) → map f xs ≡ map g ys → slice_get ys k ≡ Some y → (x : X) × (slice_get xs k ≡ Some x) × (f x ≡ g y)
+same_at f g [] [] k y e at = cc
+same_at f g [] (z ∷ ys) k y e at = absurd (let l = ap length e in omega arith)
+same_at f g (x ∷ xs) [] k y e at = cc
+same_at f g (x ∷ xs) (z ∷ ys) zero y e at = (x, refl, (let same : z ≡ y = cc in let one : f x ≡ g z = cc in one ∙ ap g same))
+same_at f g (x ∷ xs) (z ∷ ys) (suc k) y e at = same_at f g xs ys k y (cc) at
+
+-- a line with a clause deletes nothing
+no_deletion : (p : Problem) (l : LogLine) (c : List Lit) → line_clause p l ≡ Some c → IsNoDeletion l
+no_deletion p (line.Axiom n) c e = tt
+no_deletion p (line.Clause k) c e = tt
+no_deletion p (line.Lemma d) c e = tt
+no_deletion p (line.Learnt d) c e = tt
+no_deletion p (line.Hinted d hints) c e = tt
+no_deletion p (line.Delete positions) c e = cc
+
+pub deletes_nothing : (l : LogLine) (k : ℕ) → IsNoDeletion l → Deletes l k → ⊥
+deletes_nothing (line.Axiom n) k t d = d
+deletes_nothing (line.Clause i) k t d = d
+deletes_nothing (line.Lemma c) k t d = d
+deletes_nothing (line.Learnt c) k t d = d
+deletes_nothing (line.Hinted c hints) k t d = d
+deletes_nothing (line.Delete positions) k t d = t
+
+all_clauses : (p : Problem) (lines : List LogLine) (cs : List (List Lit)) → map (line_clause p) lines ≡ map Some cs → All IsNoDeletion lines
+all_clauses p [] cs e = λ k d lt. absurd (omega arith)
+all_clauses p (l ∷ lines) [] e = absurd (let n = ap length e in omega arith)
+all_clauses p (l ∷ lines) (c ∷ cs) e = All-cons IsNoDeletion l lines (no_deletion p l c (cc)) (all_clauses p lines cs (cc))
+
+pub no_deletions : (p : Problem) (s : State) (lines : List LogLine) → IsKept p s lines → All IsNoDeletion lines
+no_deletions p s lines kept = all_clauses p lines s.clauses kept.clauses
+
+-- the clauses by number stand at the positions of their lines
+stand_at : (p : Problem) (s : State) (lines : List LogLine) (ks : List ℕ) → IsKept p s lines → All (λ k. k < length s.clauses) ks
+    → AllStand p lines (map (λ k. k + 1) ks) × AreAt p lines (map (λ k. k + 1) ks) (map (λ k. slice_index_or s.clauses k []) ks)
+stand_at p s lines [] kept within = (λ k d lt. absurd (omega arith), tt)
+stand_at p s lines (k ∷ ks) kept within =
+    let c = get_some s.clauses k (within 0 0 (omega arith)) in
+    let is : slice_index_or s.clauses k [] ≡ c.0 = get_or_from_slice_get s.clauses k c.0 [] c.1 in
+    let l = same_at (line_clause p) Some lines s.clauses k c.0 kept.clauses c.1 in
+    let there : HasClauseAt p lines (k + 1) c.0 = record { place = k; position_is = refl; line = l.0; at = l.1; has = l.2 } in
+    let rest = stand_at p s lines ks kept (All-tail (λ n. n < length s.clauses) k ks within) in
+    let none = no_deletions p s lines kept in
+    let stands : Stands p lines (k + 1) = record { clause = c.0; there = there; kept = λ j d lt. deletes_nothing (get_or lines j d) (k + 1) (none j d lt) } in
+    (All-cons (Stands p lines) (k + 1) (map (λ n. n + 1) ks) stands rest.0, (subst (HasClauseAt p lines (k + 1)) (sym is) there, rest.1))
+
+-- reasons are hints
+hinted_by : (p : Problem) (s : State) (lines : List LogLine) (reasons hints : List ℕ) (clause : List Lit) → IsKept p s lines → AreReasons s.clauses reasons clause → hints ≡ map (λ k. k + 1) reasons → IsHinted p lines clause hints
+hinted_by p s lines reasons hints clause kept shown is =
+    let w = stand_at p s lines reasons kept shown.within in
+    subst (IsHinted p lines clause) (sym is) (record { stand = w.0; clauses = map (λ k. slice_index_or s.clauses k []) reasons; at = w.1; shown = shown.shows })
 
 pub no_kinds : (p : Problem) → AreOfKind p []
 no_kinds p i l at = absurd (let lt = get_within [] i l at in omega arith)
 
 -- one more line for a ground clause
-pub clauses_more : (p : Problem) (lines : List LogLine) (n : ℕ) → n < length p.clauses → map (line_clause p) lines ≡ take n p.clauses → map (line_clause p) (lines ++ line.Clause n ∷ []) ≡ take (n + 1) p.clauses
-clauses_more p lines n lt h = map_push (line_clause p) lines (line.Clause n) ∙ ap (λ (cs : List (List Lit)). cs ++ get_or p.clauses n [] ∷ []) h ∙ sym (take_more p.clauses n [] lt)
+pub clauses_more : (p : Problem) (lines : List LogLine) (n : ℕ) → n < length p.clauses → map (line_clause p) lines ≡ map Some (take n p.clauses) → map (line_clause p) (lines ++ line.Clause n ∷ []) ≡ map Some (take (n + 1) p.clauses)
+clauses_more p lines n lt h =
+    map_push (line_clause p) lines (line.Clause n) ∙ ap (λ (cs : List (Option (List Lit))). cs ++ Some (get_or p.clauses n []) ∷ []) h
+    ∙ sym (map_push Some (take n p.clauses) (get_or p.clauses n [])) ∙ ap (map Some) (sym (take_more p.clauses n [] lt))
 
-pub kept_first : (p : Problem) (s : State) (lines : List LogLine) → IsProblem p → s ≡ record { sizes = p.sizes; clauses = p.clauses; trail = []; starts = [] } → map (line_clause p) lines ≡ p.clauses → AreOfKind p lines → IsKept p s lines
-kept_first p s lines problem is clauses kinds =
+pub kept_first : (p : Problem) (s : State) (lines : List LogLine) → IsProblem p → s ≡ record { sizes = p.sizes; clauses = p.clauses; trail = []; starts = [] } → map (line_clause p) lines ≡ map Some p.clauses → AreOfKind p lines
+    → All (IsOfVersion 2) lines → IsKept p s lines
+kept_first p s lines problem is clauses kinds version =
     let same : s.clauses ≡ p.clauses = ap (λ (t : State). t.clauses) is in
     record {
       problem = problem;
       sizes = ap (λ (t : State). t.sizes) is;
-      clauses = same ∙ sym clauses;
+      clauses = clauses ∙ ap (map Some) (sym same);
       of_kind = kinds;
+      version = version;
       ground = λ c there. subst (λ (cs : List (List Lit)). Contains cs c) (sym same) there;
     }
 
@@ -49,8 +111,9 @@ keeps_same old new lines sizes clauses = record {
   keeps = λ p h. record {
     problem = h.problem;
     sizes = sizes ∙ h.sizes;
-    clauses = clauses ∙ h.clauses;
+    clauses = h.clauses ∙ ap (map Some) (sym clauses);
     of_kind = h.of_kind;
+    version = h.version;
     ground = λ c there. subst (λ (cs : List (List Lit)). Contains cs c) (sym clauses) (h.ground c there);
   };
   more = [];
@@ -65,18 +128,18 @@ keeps_then a b c k l m f g = record {
 }
 
 -- a line more for a clause more
-pub keeps_push : (old new : State) (before after : List LogLine) (l : LogLine) (clause : List Lit) → after ≡ before ++ l ∷ [] → new.sizes ≡ old.sizes → new.clauses ≡ old.clauses ++ clause ∷ []
-    → ((p : Problem) → IsKept p old before → (line_clause p l ≡ clause) × IsOfKind p old.clauses l) → Keeps old before new after
-keeps_push old new before after l clause pushed sizes clauses one = record {
+pub keeps_push : (old new : State) (before after : List LogLine) (l : LogLine) (clause : List Lit) → after ≡ before ++ l ∷ [] → new.sizes ≡ old.sizes → new.clauses ≡ old.clauses ++ clause ∷ [] → IsOfVersion 2 l
+    → ((p : Problem) → IsKept p old before → (line_clause p l ≡ Some clause) × IsOfKind p before l) → Keeps old before new after
+keeps_push old new before after l clause pushed sizes clauses version one = record {
   keeps = λ p h.
       let o = one p h in
-      let kind : IsOfKind p (map (line_clause p) before) l = subst (λ (cs : List (List Lit)). IsOfKind p cs l) h.clauses o.1 in
       record {
         problem = h.problem;
         sizes = sizes ∙ h.sizes;
-        clauses = clauses ∙ ap (λ (cs : List (List Lit)). cs ++ clause ∷ []) h.clauses ∙ ap (λ (c : List Lit). map (line_clause p) before ++ c ∷ []) (sym o.0) ∙ sym (map_push (line_clause p) before l)
-            ∙ ap (map (line_clause p)) (sym pushed);
-        of_kind = subst (AreOfKind p) (sym pushed) (kind_push p before l h.of_kind kind);
+        clauses = ap (map (line_clause p)) pushed ∙ map_push (line_clause p) before l ∙ ap (λ (c : Option (List Lit)). map (line_clause p) before ++ c ∷ []) o.0
+            ∙ ap (λ (cs : List (Option (List Lit))). cs ++ Some clause ∷ []) h.clauses ∙ sym (map_push Some old.clauses clause) ∙ ap (map Some) (sym clauses);
+        of_kind = subst (AreOfKind p) (sym pushed) (kind_push p before l h.of_kind o.1);
+        version = subst (All (IsOfVersion 2)) (sym pushed) (All-push (IsOfVersion 2) before l h.version version);
         ground = λ c there. subst (λ (cs : List (List Lit)). Contains cs c) (sym clauses) (Contains-append_left old.clauses (clause ∷ []) c (h.ground c there));
       };
   more = l ∷ [];
@@ -105,14 +168,16 @@ keeps_lemma old new before after c answer moves some pushed = elim moves.clauses
       let is : w.0 ≡ c = sym (some_same c w.0 (some ∙ at)) in
       let clauses : new.clauses ≡ old.clauses ++ c ∷ [] = w.2 ∙ ap (λ (x : List Lit). old.clauses ++ x ∷ []) is in
       let valid : IsEqualityClause old.sizes c = subst (IsEqualityClause old.sizes) is w.1 in
-      keeps_push old new before after (line.Lemma c) c pushed moves.sizes clauses (λ p h. (refl, subst (λ (z : Sizes). IsEqualityClause z c) h.sizes valid))
+      keeps_push old new before after (line.Lemma c) c pushed moves.sizes clauses tt (λ p h. (refl, subst (λ (z : Sizes). IsEqualityClause z c) h.sizes valid))
 ]
 
-pub keeps_learnt : (old new : State) (before after : List LogLine) (k : ℕ) (clause : List Lit) (level : ℕ) (unit : Lit) → IsSound old → IsLearnt old k clause level unit → new ≡ cut (add_clause old clause) level
-    → after ≡ before ++ line.Learnt clause ∷ [] → Keeps old before new after
-keeps_learnt old new before after k clause level unit h learnt is pushed =
-    keeps_push old new before after (line.Learnt clause) clause pushed (ap (λ (t : State). t.sizes) is) (ap (λ (t : State). t.clauses) is)
-    (λ p kept. (refl, (subst (λ (z : Sizes). AreInRange z clause) kept.sizes (false_in_range old clause h learnt.is_false), learnt.follows)))
+-- the line of a learnt clause has its reasons as hints
+pub keeps_learnt : (old new : State) (before after : List LogLine) (k : ℕ) (clause : List Lit) (level : ℕ) (unit : Lit) (reasons : List ℕ) (l : LogLine) → IsSound old → IsLearnt old k clause level unit → AreReasons old.clauses reasons clause
+    → new ≡ cut (add_clause old clause) level → IsHintedLine clause (map (λ k. k + 1) reasons) l → after ≡ before ++ l ∷ [] → Keeps old before new after
+keeps_learnt old new before after k clause level unit reasons l h learnt shown is hinted pushed =
+    let made : l ≡ line.Hinted clause hinted.0 = hinted.1 in
+    keeps_push old new before after (line.Hinted clause hinted.0) clause (pushed ∙ ap (λ (x : LogLine). before ++ x ∷ []) made) (ap (λ (t : State). t.sizes) is) (ap (λ (t : State). t.clauses) is) refl
+    (λ p kept. (refl, (subst (λ (z : Sizes). AreInRange z clause) kept.sizes (false_in_range old clause h learnt.is_false), hinted_by p old before reasons hinted.0.items clause kept shown hinted.2)))
 
 pub sizes_added : (old new : State) (clause : List Lit) → Adds old clause new → new.sizes ≡ old.sizes
 sizes_added old new clause adds = let w = added_cut old new clause adds in ap (λ (t : State). t.sizes) w.1
@@ -121,27 +186,38 @@ pub keeps_instance : (old new : State) (before after : List LogLine) (name : Ins
     → after ≡ before ++ line.Axiom name ∷ [] → Keeps old before new after
 keeps_instance old new before after name clause instance is adds pushed =
     let w = added_cut old new clause adds in
-    keeps_push old new before after (line.Axiom name) clause pushed (ap (λ (t : State). t.sizes) w.1) (ap (λ (t : State). t.clauses) w.1)
-    (λ p kept. (sym is, subst (λ (z : Sizes). IsInstance z.terms z.versions name) kept.sizes instance))
+    keeps_push old new before after (line.Axiom name) clause pushed (ap (λ (t : State). t.sizes) w.1) (ap (λ (t : State). t.clauses) w.1) tt
+    (λ p kept. (ap Some (sym is), subst (λ (z : Sizes). IsInstance z.terms z.versions name) kept.sizes instance))
 
 -- the empty clause ends a section
-pub refutation_of : (p : Problem) (s : State) (lines ended : List LogLine) (end : List Lit) (section : Section) → FollowsByUnits s.clauses [] → IsKept p s lines → end ≡ [] → ended ≡ lines ++ line.Learnt end ∷ [] → section.lines.items ≡ ended → section.first ≡ 1
-    → vec_len section.lines ≤ 4294967294 → IsRefutationOf p section
-refutation_of p s lines ended end section follows kept empty pushed is first few =
-    let whole : section.lines.items ≡ lines ++ line.Learnt [] ∷ [] = is ∙ pushed ∙ ap (λ (c : List Lit). lines ++ line.Learnt c ∷ []) empty in
-    let last : IsOfKind p (map (line_clause p) lines) (line.Learnt []) = (λ k d lt. absurd (omega arith), subst (λ (cs : List (List Lit)). FollowsByUnits cs []) kept.clauses follows) in
+pub refutation_of : (p : Problem) (s : State) (lines ended : List LogLine) (reasons : List ℕ) (end : LogLine) (section : Section) → AreReasons s.clauses reasons [] → IsKept p s lines → IsHintedLine [] (map (λ k. k + 1) reasons) end
+    → ended ≡ lines ++ end ∷ [] → section.lines.items ≡ ended → section.first ≡ 1 → vec_len section.lines ≤ 4294967294 → IsRefutationOf p section
+refutation_of p s lines ended reasons end section shown kept hinted pushed is first few =
+    let last : LogLine = line.Hinted [] hinted.0 in
+    let whole : section.lines.items ≡ lines ++ last ∷ [] = is ∙ pushed ∙ ap (λ (x : LogLine). lines ++ x ∷ []) hinted.1 in
+    let of_kind : IsOfKind p lines last = (λ k d lt. absurd (omega arith), hinted_by p s lines reasons hinted.0.items [] kept shown hinted.2) in
     record {
-      valid = subst (IsValidSection p) (sym whole) (record { of_kind = kind_push p lines (line.Learnt []) kept.of_kind last; ends = (lines, line.Learnt [], refl, refl) });
+      valid = subst (IsValidSection p) (sym whole) (record { of_kind = kind_push p lines last kept.of_kind of_kind; ends = (lines, last, refl, refl) });
+      version = subst (All (IsOfVersion 2)) (sym whole) (All-push (IsOfVersion 2) lines last kept.version refl);
+      no_deletions = subst (All IsNoDeletion) (sym whole) (All-push IsNoDeletion lines last (no_deletions p s lines kept) tt);
       first = first;
       few = few;
     }
 
+pub none_left : (xs : List ℕ) → length xs ≡ 0 → xs ≡ []
+none_left [] e = λ i. []
+none_left (x ∷ xs) e = absurd (omega arith)
+
 pub answered_some : (s : State) (a : Option ℕ) (k : ℕ) → IsAnswered s a → a ≡ Some k → IsConflict s k
 answered_some s a k h e = subst (λ (o : Option ℕ). IfSome o (IsConflict s)) e h.conflict
 
-pub ended_match : (s : State) (a : Option ℕ) (b : Bool) → b ≡ is_none a → IsEnded s a → MatchBool b (IsOpen s) (FollowsByUnits s.clauses [])
-ended_match s None b e h = subst (λ (x : Bool). MatchBool x (IsOpen s) (FollowsByUnits s.clauses [])) (sym e) h
-ended_match s (Some k) b e h = subst (λ (x : Bool). MatchBool x (IsOpen s) (FollowsByUnits s.clauses [])) (sym e) h
+-- what an answer says
+pub ended_open : (s : State) (o : Option ℕ) → IsEnded s o → ((k : ℕ) → o ≡ Some k → ⊥) → IsOpen s
+ended_open s None h none = h
+ended_open s (Some k) h none = absurd (none k refl)
+
+pub ended_refuted : (s : State) (o : Option ℕ) (k : ℕ) → IsEnded s o → o ≡ Some k → IsRefuted s k
+ended_refuted s o k h e = subst (IsEnded s) e h
 
 pub kept_longer : (n : InstanceName) (before after more : List LogLine) → after ≡ before ++ more → Contains before (line.Axiom n) → Contains after (line.Axiom n)
 kept_longer n before after more is there = subst (λ (ls : List LogLine). Contains ls (line.Axiom n)) (sym is) (Contains-append_left before more (line.Axiom n) there)

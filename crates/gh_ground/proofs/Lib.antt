@@ -2,6 +2,6 @@ pub mod ConflictLemmas
 pub mod AlikeLemmas
 pub mod OpenLemmas
 pub mod KeptLemmas
-pub mod UnitsLemmas
 pub mod MissingLemmas
 pub mod PlainLemmas
+pub mod TrimLemmas

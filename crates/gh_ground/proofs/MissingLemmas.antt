@@ -1,5 +1,5 @@
 -- How many instances have no line yet.
-use Rattle.std.proofs.Common.{◌≡◌, ◌⊎◌, ℕ, zero, suc, ◌+◌, ◌<◌, ◌≤◌, List, [], ◌∷◌, ◌++◌, length, get_or, map, Bool, true, false, inl, inr, refl, sym, ap, ◌∙◌, subst, arith, All, Contains}
+use Rattle.std.proofs.Common.{◌≡◌, ◌⊎◌, ℕ, zero, suc, ◌+◌, ◌<◌, ◌≤◌, List, [], ◌∷◌, ◌++◌, length, get_or, map, Option, Some, Bool, true, false, inl, inr, refl, sym, ap, ◌∙◌, subst, arith, All, Contains}
 use Rattle.std.specs.Prelude.{nat_eq, ◌&&◌, ◌||◌}
 use Rattle.std.proofs.lemmas.Bool.{eqb-true, eq-eqb, false≢true}
 use Rattle.std.proofs.lemmas.List.Elements.{All-contains, All-head, Contains-append_left, Contains-get_or}
@@ -36,6 +36,8 @@ is_named n (line.Axiom m) = same_name n m
 is_named n (line.Clause k) = false
 is_named n (line.Lemma c) = false
 is_named n (line.Learnt c) = false
+is_named n (line.Hinted c hints) = false
+is_named n (line.Delete positions) = false
 
 -- a line has the name
 abbrev has_name : InstanceName → List LogLine → Bool
@@ -111,6 +113,8 @@ named_is n (line.Axiom m) e = ap line.Axiom (sym (same_name_is n m e))
 named_is n (line.Clause k) e = cc
 named_is n (line.Lemma c) e = cc
 named_is n (line.Learnt c) e = cc
+named_is n (line.Hinted c hints) e = cc
+named_is n (line.Delete positions) e = cc
 
 axiom_named : (n : InstanceName) → is_named n (line.Axiom n) ≡ true
 axiom_named n = name_same n
@@ -165,10 +169,16 @@ bool_is : (b : Bool) → (b ≡ true → ⊥) → b ≡ false
 bool_is true h = absurd (h refl)
 bool_is false h = refl
 
+in_some : (cs : List (List Lit)) (c : List Lit) → Contains (map Some cs) (Some c) → Contains cs c
+in_some [] c w = absurd (let lt = w.1 in omega arith)
+in_some (x ∷ cs) c (zero, lt, e) = (zero, omega arith, cc)
+in_some (x ∷ cs) c (suc i, lt, e) = let r = in_some cs c (i, omega arith, e) in (suc r.0, omega (arith, r.1), r.2)
+
 -- a line that is there isn't false
 pub listed_true : (p : Problem) (s : State) (ls : List LogLine) (m : Interpretation) (n : InstanceName) → IsKept p s ls → All (IsClauseTrue m) s.clauses → Contains ls (line.Axiom n) → IsClauseTrue m (clause_of n)
 listed_true p s ls m n kept all w =
-    All-contains (IsClauseTrue m) s.clauses (clause_of n) all (subst (λ (cs : List (List Lit)). Contains cs (clause_of n)) (sym kept.clauses) (in_map p ls (line.Axiom n) w))
+    All-contains (IsClauseTrue m) s.clauses (clause_of n) all
+    (in_some s.clauses (clause_of n) (subst (λ (cs : List (Option (List Lit))). Contains cs (Some (clause_of n))) kept.clauses (in_map p ls (line.Axiom n) w)))
 
 -- after a round fewer are missing
 pub round_less : (p : Problem) (s0 s1 s2 : State) (l0 l1 l2 : List LogLine) (m : Interpretation) (z : Sizes) (names : List InstanceName) → z ≡ p.sizes → Keeps s0 l0 s1 l1 → IsKept p s1 l1 → All (IsClauseTrue m) s1.clauses

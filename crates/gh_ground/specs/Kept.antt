@@ -1,14 +1,14 @@
 -- What a solver keeps: a line of a section for each clause of its search.
-use Rattle.std.specs.Prelude.{◌≡◌, ◌++◌, ℕ, List, [], Option, Some, None, map, Contains, IfSome, IfNone}
+use Rattle.std.specs.Prelude.{◌≡◌, ◌++◌, ℕ, List, [], Option, Some, None, map, All, Contains, IfSome, IfNone}
 use Rattle.gh_base.specs.declared.atom.Atom.{Atom}
 use Rattle.gh_base.specs.declared.atom.Lit.{Lit}
 use Rattle.gh_base.specs.Atoms.{IsInRange}
 use Rattle.gh_base.specs.Grounds.{Problem, IsProblem}
 use Rattle.gh_base.specs.Meaning.{IsEqualityClause}
-use Rattle.gh_base.specs.Propagation.{FollowsByUnits}
 use Rattle.gh_cc.specs.Asserted.{IsConsistent}
 use Rattle.gh_log.specs.declared.lines.LogLine.{LogLine}
 use Rattle.gh_log.specs.Sections.{line_clause, AreOfKind}
+use Rattle.gh_log.specs.Spelled.{IsOfVersion}
 use Rattle.gh_sat.specs.Learn.{IsConflict}
 use Rattle.gh_sat.specs.Status.{IsSettled}
 use Rattle.gh_sat.specs.Theory.{lits_of, HasNoConflict}
@@ -17,8 +17,10 @@ use Rattle.gh_sat.specs.Trail.{State, IsFree, IsSound}
 pub record IsKept (p : Problem) (s : State) (lines : List LogLine) : Type 0 where
   pub problem : IsProblem p
   pub sizes : s.sizes ≡ p.sizes
-  pub clauses : s.clauses ≡ map (line_clause p) lines
+  -- a line for each clause, at its number
+  pub clauses : map (line_clause p) lines ≡ map Some s.clauses
   pub of_kind : AreOfKind p lines
+  pub version : All (IsOfVersion 2) lines
   pub ground : (c : List Lit) → Contains p.clauses c → Contains s.clauses c
 
 -- lines were added, and what was kept is
@@ -42,7 +44,11 @@ pub record IsOpen (s : State) : Type 0 where
   pub known : IsConsistent s.sizes (lits_of s.trail)
   pub full : (a : Atom) → IsInRange s.sizes a → IsFree s.trail a → ⊥
 
--- the clauses have a contradiction by units, if there was a conflict
+-- the clause of number k is false at level 0
+pub record IsRefuted (s : State) (k : ℕ) : Type 0 where
+  pub conflict : IsConflict s k
+  pub first : s.starts ≡ []
+
 abbrev pub IsEnded : State → Option ℕ → Type 0
 IsEnded s None = IsOpen s
-IsEnded s (Some k) = FollowsByUnits s.clauses []
+IsEnded s (Some k) = IsRefuted s k

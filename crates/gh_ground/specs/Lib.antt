@@ -1,3 +1,4 @@
 pub mod Solving
 pub mod Totals
 pub mod Kept
+pub mod Trimming

@@ -1,10 +1,13 @@
 -- What a decision of ground clauses answers.
-use Rattle.std.specs.Prelude.{◌≡◌, ◌≤◌, All, vec_len}
+use Rattle.std.specs.Prelude.{◌≡◌, ◌≤◌, ⊤, All, vec_len}
 use Rattle.gh_base.specs.Grounds.{Problem}
 use Rattle.gh_base.specs.Meaning.{IsClauseTrue, IsCongruence}
 use Rattle.gh_base.specs.Structures.{Tables, interpretation_of}
 use Rattle.gh_inst.specs.Violations.{AreInstancesTrue}
 use Rattle.gh_log.specs.Sections.{IsValidSection}
+use Rattle.gh_log.specs.Spelled.{IsOfVersion}
+use Rattle.gh_log.specs.declared.lines.LogLine.{LogLine}
+use Rattle.gh_log.specs.declared.lines.LogLine.TheVariants as line
 use Rattle.gh_log.specs.declared.lines.Section.{Section}
 use Rattle.gh_ground.specs.declared.solve.Answer.{Answer}
 use Rattle.gh_ground.specs.declared.solve.Answer.TheVariants.{Model, Refutation}
@@ -16,9 +19,17 @@ pub record IsModelOf (p : Problem) (s : Tables) : Type 0 where
   pub instances : AreInstancesTrue p.sizes (interpretation_of s)
   pub congruence : IsCongruence p.sizes (interpretation_of s)
 
--- the section is valid for the problem and stands at the first line, and 32 bits number its lines and the place after them
+-- no line deletes others
+abbrev pub IsNoDeletion : LogLine → Type 0
+IsNoDeletion (line.Delete positions) = ⊥
+IsNoDeletion _ = ⊤
+
+-- the section is valid for the problem, is of version 2 without deletions and stands at the first line, and 32 bits number
+-- its lines and the place after them
 pub record IsRefutationOf (p : Problem) (s : Section) : Type 0 where
   pub valid : IsValidSection p s.lines.items
+  pub version : All (IsOfVersion 2) s.lines.items
+  pub no_deletions : All IsNoDeletion s.lines.items
   pub first : s.first ≡ 1
   pub few : vec_len s.lines ≤ 4294967294
 

@@ -7,3 +7,4 @@ mod solver;
 mod structures;
 #[cfg(test)]
 mod tests;
+mod trim;

@@ -4,6 +4,7 @@ ghost use Rattle.std.specs.Prelude.{IfOk};
 ghost use Rattle.gh_ground.specs.Solving.{IsAnswer};
 
 use crate::solver::Solver;
+use crate::trim::trim;
 use gh_base::ground::Ground;
 use gh_base::structure::Structure;
 use gh_inst::collecting::false_instances;
@@ -22,7 +23,11 @@ pub fn solve(alloc: Global, ground: &Ground) -> Result<Answer, AllocError>
     ensures { IfOk result (λ answer. IsAnswer ground.now answer) }
 {
     let mut solver = Solver::new(alloc, ground)?;
-    while solver.is_open(alloc)? {
+    loop {
+        if let Some(conflict) = solver.conflict(alloc)? {
+            let section = solver.into_section(alloc, conflict)?;
+            return Ok(Answer::Refutation(trim(alloc, &section)?));
+        }
         let structure = solver.structure(alloc)?;
         let names = false_instances(alloc, &structure, 150)?;
         if names.is_empty() {
@@ -30,5 +35,4 @@ pub fn solve(alloc: Global, ground: &Ground) -> Result<Answer, AllocError>
         }
         solver.add_instances(alloc, names.as_slice())?;
     }
-    Ok(Answer::Refutation(solver.into_section(alloc)?))
 }

@@ -1,15 +1,15 @@
 //! A search whose clauses are the lines of a section.
 
-ghost use Rattle.std.specs.Prelude.{◌≡◌, ◌<◌, All, Contains, IfOk, OnOk, IfSome, IfNone, MatchBool, None, [], length, map, slice_get};
+ghost use Rattle.std.specs.Prelude.{◌≡◌, ◌<◌, ◌+◌, All, Contains, IfOk, OnOk, IfSome, IfNone, Some, None, [], length, map, slice_get};
 ghost use Rattle.gh_base.specs.declared.atom.Lit.{Lit};
 ghost use Rattle.gh_base.specs.Grounds.{Problem};
 ghost use Rattle.gh_base.specs.Meaning.{IsClauseTrue, IsCongruence, IsEqualityClause};
-ghost use Rattle.gh_base.specs.Propagation.{FollowsByUnits};
 ghost use Rattle.gh_base.specs.Structures.{interpretation_of};
 ghost use Rattle.gh_inst.specs.Instances.{IsInstance};
 ghost use Rattle.gh_log.specs.declared.lines.LogLine.TheVariants.{Axiom};
 ghost use Rattle.gh_log.specs.Sections.{line_clause, AreOfKind};
-ghost use Rattle.gh_ground.specs.Kept.{IsKept, Keeps, IsAnswered, IsOpen, IsEnded};
+ghost use Rattle.gh_log.specs.Spelled.{IsOfVersion};
+ghost use Rattle.gh_ground.specs.Kept.{IsKept, Keeps, IsAnswered, IsOpen, IsRefuted, IsEnded};
 ghost use Rattle.gh_ground.specs.Solving.{IsRefutationOf};
 ghost use Rattle.gh_sat.specs.Learn.{IsConflict};
 ghost use Rattle.gh_sat.specs.Measure.{left};
@@ -24,6 +24,7 @@ use gh_base::ground::Ground;
 use gh_base::structure::Structure;
 use gh_inst::naming::{InstanceName, instance};
 use gh_log::lines::{LogLine, Section};
+use gh_sat::learner::Learnt;
 use gh_sat::search::Search;
 use std::alloc::{AllocError, Global};
 
@@ -36,8 +37,9 @@ pub(crate) struct Solver {
 
 // A line for each clause of a ground problem.
 fn ground_lines(alloc: Global, ground: &Ground) -> Result<Vec<LogLine>, AllocError>
-    ensures clauses { IfOk result (λ v. map (line_clause ground.now) v.items ≡ ground.now.clauses) }
+    ensures clauses { IfOk result (λ v. map (line_clause ground.now) v.items ≡ map Some ground.now.clauses) }
     ensures of_kind { IfOk result (λ v. AreOfKind ground.now v.items) }
+    ensures version { IfOk result (λ v. All (IsOfVersion 2) v.items) }
 {
     let mut lines = Vec::with_capacity(alloc, ground.count() as usize)?;
     for number in 0..ground.count() {
@@ -58,6 +60,17 @@ fn clause_at(
         None => Ok(None),
         Some(clause) => Ok(Some(clause.copy(alloc)?)),
     }
+}
+
+// The positions of the lines of some clauses. Those count from 1, and a clause's line stands at its number.
+fn positions(alloc: Global, numbers: &[u32]) -> Result<Vec<u32>, AllocError>
+    ensures { IfOk result (λ v. v.items ≡ map (λ k. k + 1) numbers.now) }
+{
+    let mut positions = Vec::with_capacity(alloc, numbers.len())?;
+    for number in numbers {
+        positions.push(number.checked_add(1).ok_or(AllocError)?)?;
+    }
+    Ok(positions)
 }
 
 impl Solver {
@@ -115,7 +128,9 @@ impl Solver {
     {
         let learnt = self.search.learn(alloc, conflict)?;
         self.search.backjump(learnt.level);
-        self.lines.push(LogLine::Learnt(learnt.clause))?;
+        let hints = positions(alloc, learnt.reasons.as_slice())?;
+        let Learnt { clause, .. } = learnt;
+        self.lines.push(LogLine::Hinted { clause, hints })?;
         let next = self.propagate(alloc)?;
         Ok(next)
     }
@@ -148,16 +163,16 @@ impl Solver {
         }
     }
 
-    /// Searches on until all atoms are assigned without conflict, or the clauses are refuted, and says whether it is the first.
-    pub(crate) fn is_open(&mut self, alloc: Global) -> Result<bool, AllocError>
-        ensures ended { IfOk result (λ b. MatchBool b (IsOpen self.new.search) (FollowsByUnits self.new.search.clauses [])) }
+    /// Searches on until all atoms are assigned without conflict, or a clause is false at level 0, and answers its number.
+    pub(crate) fn conflict(&mut self, alloc: Global) -> Result<Option<u32>, AllocError>
+        ensures ended { IfOk result (IsEnded self.new.search) }
         ensures keeps { OnOk result (Keeps self.old.search self.old.lines.items self.new.search self.new.lines.items) }
     {
-        let mut answer = self.propagate(alloc)?;
-        while let Some(next) = self.turn(alloc, answer)? {
-            answer = next;
+        let mut found = self.propagate(alloc)?;
+        while let Some(next) = self.turn(alloc, found)? {
+            found = next;
         }
-        Ok(answer.is_none())
+        Ok(found)
     }
 
     /// The structure of the present assignment.
@@ -204,15 +219,26 @@ impl Solver {
         Ok(())
     }
 
-    /// The section of a refutation. More lines than 32 bits can number count as want of memory.
-    pub(crate) fn into_section(mut self, alloc: Global) -> Result<Section, AllocError>
-        requires { FollowsByUnits self.search.clauses [] }
+    /// The section of a refutation: a clause is false at level 0. More lines than 32 bits can number count as want of
+    /// memory.
+    pub(crate) fn into_section(
+        mut self,
+        alloc: Global,
+        conflict: u32,
+    ) -> Result<Section, AllocError>
+        requires { IsRefuted self.search conflict }
         ensures { IfOk result (λ s. (p : Problem) → IsKept p self.search self.lines.items → IsRefutationOf p s) }
     {
         if self.lines.len() >= 4294967294 {
             return Err(AllocError);
         }
-        self.lines.push(LogLine::Learnt(Clause::new(alloc)))?;
+        let reasons = self.search.refutation(alloc, conflict)?;
+        let hints = positions(alloc, reasons.as_slice())?;
+        let last = LogLine::Hinted {
+            clause: Clause::new(alloc),
+            hints,
+        };
+        self.lines.push(last)?;
         Ok(Section {
             first: 1,
             lines: self.lines,

@@ -1,15 +1,15 @@
 -- Atoms, literals and clauses at the front of a text.
 use Rattle.std.proofs.Common.{◌≡◌, ◌≢◌, ℕ, ◌^◌, ◌<◌, ◌≤◌, List, [], ◌∷◌, ◌++◌, length, get_or, Bool, true, false, not, cond, nat_eq, codes, All, refl, sym, ◌∙◌, ap, subst, arith, append_assoc, MatchBool}
 use Rattle.std.specs.Fmt.{decimal}
-use Rattle.std.proofs.lemmas.List.{append-nil}
+use Rattle.std.proofs.lemmas.List.{append-nil, append_cancel_left}
 use Rattle.std.proofs.lemmas.List.Elements.{All-head, All-tail, All-cons}
 use Rattle.gh_base.specs.declared.atom.Atom.{Atom}
 use Rattle.gh_base.specs.declared.atom.Atom.TheVariants.{Eq, Btwn, Hop, Alloc, Def}
 use Rattle.gh_base.specs.declared.atom.Lit.{Lit}
 use Rattle.gh_inst.specs.Schemas.{term}
-use Rattle.gh_log.specs.Texts.{atom_text, sign_text, lits_text}
+use Rattle.gh_log.specs.Texts.{atom_text, sign_text, lits_text, line_end}
 use Rattle.gh_log.specs.Spelled.{IsSpelledAtom}
-use Rattle.gh_log.specs.Reading.{IsRefused, IsNotNext, EndsNumber, SpellsBytes, SpellsAtom, SpellsLit, SpellsClause}
+use Rattle.gh_log.specs.Reading.{IsRefused, IsNotNext, EndsNumber, SpellsBytes, SpellsAtom, SpellsLit, SpellsLits, SpellsClause, SpellsShown}
 use Rattle.gh_log.proofs.NumberLemmas.{AreOne, AreSmall, marked, one_marked, one_bytes, bytes_small}
 
 -- the letter of an atom, and its numbers
@@ -200,95 +200,131 @@ one_lit text l m r q a b =
     let one = one_atom t.1 l.atom m.atom r q (record { front = t.3; spelled = a.spelled; ends = a.ends }) (record { front = s.1; spelled = b.spelled; ends = b.ends }) in
     record { value = same_parts l m one.value (t.4 ∙ sym s.0); rest = one.rest }
 
--- a clause begins with a literal, or is at its end
-pub ends_lits : (ls : List Lit) (rest : List ℕ) → EndsNumber (lits_text ls ++ 10 ∷ rest)
-ends_lits [] rest = refl
-ends_lits (l ∷ ls) rest = refl
-
-pub record HasFirst (text : List ℕ) (l : Lit) (ls : List Lit) (rest : List ℕ) : Type 0 where
-  pub middle : List ℕ
-  pub after : List ℕ
-  pub front : text ≡ 32 ∷ middle
-  pub first : SpellsLit middle l after
-  pub others : SpellsClause after ls rest
-
-pub first_lit : (text : List ℕ) (l : Lit) (ls : List Lit) (rest : List ℕ) → SpellsClause text (l ∷ ls) rest → HasFirst text l ls rest
-first_lit text l ls rest s =
-    record {
-      middle = ((sign_text l ++ atom_text l.atom) ++ lits_text ls) ++ 10 ∷ rest;
-      after = lits_text ls ++ 10 ∷ rest;
-      front = s.front;
-      first = record {
-        front = append_assoc (sign_text l ++ atom_text l.atom) (lits_text ls) (10 ∷ rest);
-        spelled = All-head (λ k. IsSpelledAtom k.atom) l ls s.spelled;
-        ends = ends_lits ls rest;
-      };
-      others = record { front = refl; spelled = All-tail (λ k. IsSpelledAtom k.atom) l ls s.spelled };
-    }
-
-pub lit_first : (text middle after rest : List ℕ) (l : Lit) (ls : List Lit) → text ≡ 32 ∷ middle → SpellsLit middle l after → SpellsClause after ls rest → SpellsClause text (l ∷ ls) rest
-lit_first text middle after rest l ls e a b =
-    record {
-      front = e ∙ ap (λ t. 32 ∷ t) (a.front ∙ ap (λ t. (sign_text l ++ atom_text l.atom) ++ t) b.front ∙ sym (append_assoc (sign_text l ++ atom_text l.atom) (lits_text ls) (10 ∷ rest)));
-      spelled = All-cons (λ k. IsSpelledAtom k.atom) l ls a.spelled b.spelled;
-    }
-
 -- a line feed is no space
 pub ends_or_more : (x y : List ℕ) → 10 ∷ x ≡ 32 ∷ y → ⊥
 ends_or_more x y e = let d : ◌≡◌ {A = ℕ} 10 32 = cc in absurd (omega (arith, d))
 
-pub one_clause : (text : List ℕ) (c d : List Lit) (r q : List ℕ) → SpellsClause text c r → SpellsClause text d q → AreOne c d r q
-one_clause text [] [] r q a b = let f = a.front in let g = b.front in record { value = refl; rest = cc }
-one_clause text [] (m ∷ d) r q a b = let g = first_lit text m d q b in absurd (ends_or_more r g.middle (sym a.front ∙ g.front))
-one_clause text (l ∷ c) [] r q a b = let g = first_lit text l c r a in absurd (ends_or_more q g.middle (sym b.front ∙ g.front))
-one_clause text (l ∷ c) (m ∷ d) r q a b =
-    let f = first_lit text l c r a in let g = first_lit text m d q b in
+-- what ends literals begins with no digit, and with no literal after a space
+pub record IsEnd (end : List ℕ) : Type 0 where
+  pub ends : (rest : List ℕ) → EndsNumber (end ++ rest)
+  pub apart : (x y z : List ℕ) (l : Lit) → end ++ x ≡ 32 ∷ y → SpellsLit y l z → ⊥
+
+pub feed_ends : IsEnd line_end
+feed_ends = record { ends = λ rest. refl; apart = λ x y z l e s. ends_or_more x y e }
+
+-- the sign before hints begins no literal
+no_sign : (x : List ℕ) → IsRefused (SpellsLit (59 ∷ x))
+no_sign x =
+    no_lit false (59 ∷ x) (59 ∷ x) (refl, λ e. absurd (omega (arith, e)))
+    (no_kind 59 x (λ e. absurd (omega (arith, e))) (λ e. absurd (omega (arith, e))) (λ e. absurd (omega (arith, e))) (λ e. absurd (omega (arith, e))) (λ e. absurd (omega (arith, e))))
+
+pub sign_ends : IsEnd (codes " ;")
+sign_ends =
+    record {
+      ends = λ rest. refl;
+      apart = λ x y z l e s. let tail : y ≡ 59 ∷ x = cc in no_sign x l z (subst (λ t. SpellsLit t l z) tail s);
+    }
+
+-- a clause begins with a literal, or is at its end
+pub ends_lits : (end : List ℕ) → IsEnd end → (ls : List Lit) (rest : List ℕ) → EndsNumber (lits_text ls ++ (end ++ rest))
+ends_lits end h [] rest = h.ends rest
+ends_lits end h (l ∷ ls) rest = refl
+
+pub record HasFirst (end text : List ℕ) (l : Lit) (ls : List Lit) (rest : List ℕ) : Type 0 where
+  pub middle : List ℕ
+  pub after : List ℕ
+  pub front : text ≡ 32 ∷ middle
+  pub first : SpellsLit middle l after
+  pub others : SpellsLits end after ls rest
+
+pub first_lit : (end : List ℕ) → IsEnd end → (text : List ℕ) (l : Lit) (ls : List Lit) (rest : List ℕ) → SpellsLits end text (l ∷ ls) rest → HasFirst end text l ls rest
+first_lit end h text l ls rest s =
+    record {
+      middle = ((sign_text l ++ atom_text l.atom) ++ lits_text ls) ++ (end ++ rest);
+      after = lits_text ls ++ (end ++ rest);
+      front = s.front;
+      first = record {
+        front = append_assoc (sign_text l ++ atom_text l.atom) (lits_text ls) (end ++ rest);
+        spelled = All-head (λ k. IsSpelledAtom k.atom) l ls s.spelled;
+        ends = ends_lits end h ls rest;
+      };
+      others = record { front = refl; spelled = All-tail (λ k. IsSpelledAtom k.atom) l ls s.spelled };
+    }
+
+pub lit_first : (end text middle after rest : List ℕ) (l : Lit) (ls : List Lit) → text ≡ 32 ∷ middle → SpellsLit middle l after → SpellsLits end after ls rest → SpellsLits end text (l ∷ ls) rest
+lit_first end text middle after rest l ls e a b =
+    record {
+      front = e ∙ ap (λ t. 32 ∷ t) (a.front ∙ ap (λ t. (sign_text l ++ atom_text l.atom) ++ t) b.front ∙ sym (append_assoc (sign_text l ++ atom_text l.atom) (lits_text ls) (end ++ rest)));
+      spelled = All-cons (λ k. IsSpelledAtom k.atom) l ls a.spelled b.spelled;
+    }
+
+pub one_lits : (end : List ℕ) → IsEnd end → (text : List ℕ) (c d : List Lit) (r q : List ℕ) → SpellsLits end text c r → SpellsLits end text d q → AreOne c d r q
+one_lits end h text [] [] r q a b = record { value = refl; rest = append_cancel_left end r q (sym a.front ∙ b.front) }
+one_lits end h text [] (m ∷ d) r q a b = let g = first_lit end h text m d q b in absurd (h.apart r g.middle g.after m (sym a.front ∙ g.front) g.first)
+one_lits end h text (l ∷ c) [] r q a b = let g = first_lit end h text l c r a in absurd (h.apart q g.middle g.after l (sym b.front ∙ g.front) g.first)
+one_lits end h text (l ∷ c) (m ∷ d) r q a b =
+    let f = first_lit end h text l c r a in let g = first_lit end h text m d q b in
     let fe = f.front in let ge = g.front in
     let middles : g.middle ≡ f.middle = cc in
     let one = one_lit f.middle l m f.after g.after f.first (subst (λ t. SpellsLit t m g.after) middles g.first) in
-    let more = one_clause f.after c d r q f.others (subst (λ t. SpellsClause t d q) (sym one.rest) g.others) in
+    let more = one_lits end h f.after c d r q f.others (subst (λ t. SpellsLits end t d q) (sym one.rest) g.others) in
     let here : l ≡ m = one.value in
     let there : c ≡ d = more.value in
     record { value = cc; rest = more.rest }
 
 pub no_clause_here : (text : List ℕ) → IsNotNext 10 text → IsNotNext 32 text → IsRefused (SpellsClause text)
 no_clause_here text h k [] rest s = subst (IsNotNext 10) s.front h refl
-no_clause_here text h k (l ∷ ls) rest s = subst (IsNotNext 32) (first_lit text l ls rest s).front k refl
+no_clause_here text h k (l ∷ ls) rest s = subst (IsNotNext 32) (first_lit line_end feed_ends text l ls rest s).front k refl
 
 pub no_lit_here : (text middle : List ℕ) → text ≡ 32 ∷ middle → IsRefused (SpellsLit middle) → IsRefused (SpellsClause text)
 no_lit_here text middle e h [] rest s = ends_or_more rest middle (sym s.front ∙ e)
 no_lit_here text middle e h (l ∷ ls) rest s =
-    let f = first_lit text l ls rest s in
+    let f = first_lit line_end feed_ends text l ls rest s in
     let fe = f.front in
     let middles : f.middle ≡ middle = cc in
     h l f.after (subst (λ t. SpellsLit t l f.after) middles f.first)
 
--- what is left of a clause, put after what was read, is the whole
+pub no_shown_here : (text : List ℕ) → IsNotNext 32 text → IsRefused (SpellsShown text)
+no_shown_here text k [] rest s = subst (IsNotNext 32) s.front k refl
+no_shown_here text k (l ∷ ls) rest s = subst (IsNotNext 32) (first_lit (codes " ;") sign_ends text l ls rest s).front k refl
+
+pub no_shown_lit : (text middle : List ℕ) → text ≡ 32 ∷ middle → IsNotNext 59 middle → IsRefused (SpellsLit middle) → IsRefused (SpellsShown text)
+no_shown_lit text middle e n h [] rest s =
+    let f = s.front in
+    let tail : middle ≡ 59 ∷ rest = cc in
+    subst (IsNotNext 59) tail n refl
+no_shown_lit text middle e n h (l ∷ ls) rest s =
+    let f = first_lit (codes " ;") sign_ends text l ls rest s in
+    let fe = f.front in
+    let middles : f.middle ≡ middle = cc in
+    h l f.after (subst (λ t. SpellsLit t l f.after) middles f.first)
+
+-- what is left of a part, put after what was read, is the whole
 pub record Goes {X Y : Type 0} (P : X → List ℕ → Type 0) (Q : Y → List ℕ → Type 0) (put : X → Y) : Type 0 where
   pub forth : (x : X) (rest : List ℕ) → P x rest → Q (put x) rest
   pub back : IsRefused P → IsRefused Q
 
-pub goes_none : (text : List ℕ) (c : List Lit) → c ≡ [] → Goes (SpellsClause text) (SpellsClause text) (λ d. c ++ d)
-goes_none text c e = record { forth = λ d rest s. subst (λ b. SpellsClause text (b ++ d) rest) (sym e) s; back = λ h. h }
+pub goes_none : (end text : List ℕ) (c : List Lit) → c ≡ [] → Goes (SpellsLits end text) (SpellsLits end text) (λ d. c ++ d)
+goes_none end text c e = record { forth = λ d rest s. subst (λ b. SpellsLits end text (b ++ d) rest) (sym e) s; back = λ h. h }
 
-pub goes_lit : (whole text middle after : List ℕ) (c d : List Lit) (l : Lit) → Goes (SpellsClause text) (SpellsClause whole) (λ e. c ++ e) → text ≡ 32 ∷ middle → SpellsLit middle l after
-    → d ≡ c ++ l ∷ [] → Goes (SpellsClause after) (SpellsClause whole) (λ e. d ++ e)
-goes_lit whole text middle after c d l g e s f =
+pub goes_lit : (end : List ℕ) → IsEnd end → (whole text middle after : List ℕ) (c d : List Lit) (l : Lit) → Goes (SpellsLits end text) (SpellsLits end whole) (λ e. c ++ e)
+    → text ≡ 32 ∷ middle → SpellsLit middle l after → d ≡ c ++ l ∷ [] → Goes (SpellsLits end after) (SpellsLits end whole) (λ e. d ++ e)
+goes_lit end i whole text middle after c d l g e s f =
     record {
       forth = λ ls rest h.
-          subst (λ b. SpellsClause whole b rest) (sym (ap (λ b. b ++ ls) f ∙ append_assoc c (l ∷ []) ls)) (g.forth (l ∷ ls) rest (lit_first text middle after rest l ls e s h));
-      back = λ h. g.back (no_more text middle after l e s h);
+          subst (λ b. SpellsLits end whole b rest) (sym (ap (λ b. b ++ ls) f ∙ append_assoc c (l ∷ []) ls)) (g.forth (l ∷ ls) rest (lit_first end text middle after rest l ls e s h));
+      back = λ h. g.back (no_more end i text middle after l e s h);
     }
   where
-    no_more : (text middle after : List ℕ) (l : Lit) → text ≡ 32 ∷ middle → SpellsLit middle l after → IsRefused (SpellsClause after) → IsRefused (SpellsClause text)
-    no_more text middle after l e s h [] rest k = ends_or_more rest middle (sym k.front ∙ e)
-    no_more text middle after l e s h (m ∷ ls) rest k =
-        let f = first_lit text m ls rest k in
+    no_more : (end : List ℕ) → IsEnd end → (text middle after : List ℕ) (l : Lit) → text ≡ 32 ∷ middle → SpellsLit middle l after → IsRefused (SpellsLits end after) → IsRefused (SpellsLits end text)
+    no_more end i text middle after l e s h [] rest k = i.apart rest middle after l (sym k.front ∙ e) s
+    no_more end i text middle after l e s h (m ∷ ls) rest k =
+        let f = first_lit end i text m ls rest k in
         let fe = f.front in
         let middles : f.middle ≡ middle = cc in
         let one = one_lit middle l m after f.after s (subst (λ t. SpellsLit t m f.after) middles f.first) in
-        h ls rest (subst (λ t. SpellsClause t ls rest) (sym one.rest) f.others)
+        h ls rest (subst (λ t. SpellsLits end t ls rest) (sym one.rest) f.others)
 
-pub goes_end : (whole text after : List ℕ) (c : List Lit) → Goes (SpellsClause text) (SpellsClause whole) (λ e. c ++ e) → text ≡ 10 ∷ after → SpellsClause whole c after
-goes_end whole text after c g e =
-    subst (λ b. SpellsClause whole b after) (append-nil c) (g.forth [] after (record { front = e; spelled = λ k d l. absurd (omega arith) }))
+pub goes_end : (end whole text after : List ℕ) (c : List Lit) → Goes (SpellsLits end text) (SpellsLits end whole) (λ e. c ++ e) → text ≡ end ++ after → SpellsLits end whole c after
+goes_end end whole text after c g e =
+    subst (λ b. SpellsLits end whole b after) (append-nil c) (g.forth [] after (record { front = e; spelled = λ k d l. absurd (omega arith) }))

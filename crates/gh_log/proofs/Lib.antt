@@ -1,8 +1,10 @@
+pub mod ClauseLemmas
 pub mod SectionLemmas
 pub mod WritingLemmas
 pub mod Exits
 pub mod NumberLemmas
 pub mod AtomLemmas
+pub mod PositionLemmas
 pub mod LineLemmas
 pub mod LogLemmas
 pub mod PlaceLemmas

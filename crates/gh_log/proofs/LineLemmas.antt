@@ -1,20 +1,22 @@
 -- Lines and headers at the front of a text.
-use Rattle.std.proofs.Common.{◌≡◌, ◌≢◌, ℕ, zero, suc, ◌+◌, ◌-◌, ◌<◌, ◌≤◌, List, [], ◌∷◌, ◌++◌, length, take, set, replicate, codes, refl, sym, ◌∙◌, ap, subst, arith, append_assoc, add-one}
+use Rattle.std.proofs.Common.{◌≡◌, ◌≢◌, inl, inr, ℕ, zero, suc, ◌+◌, ◌-◌, ◌<◌, ◌≤◌, List, [], ◌∷◌, ◌++◌, length, take, set, replicate, codes, refl, sym, ◌∙◌, ap, subst, arith, append_assoc, add-one, Vec, Global}
 use Rattle.std.specs.List.{flat_map}
 use Rattle.std.specs.Fmt.{decimal}
 use Rattle.std.proofs.lemmas.List.{append-nil, append_cancel_left, length-take-le}
 use Rattle.std.proofs.Math.ListN.{length-set}
 use Rattle.std.proofs.lemmas.List.Elements.{All-head, All-tail, All-cons}
 use Rattle.gh_base.specs.declared.atom.Term.{Term}
+use Rattle.gh_base.specs.declared.atom.Lit.{Lit}
 use Rattle.gh_inst.specs.declared.naming.InstanceName.{InstanceName}
 use Rattle.gh_inst.specs.Schemas.{term}
 use Rattle.gh_inst.specs.Instances.{tuple_of, IsPadded}
 use Rattle.gh_log.specs.declared.lines.LogLine.{LogLine}
 use Rattle.gh_log.specs.declared.lines.LogLine.TheVariants as line
-use Rattle.gh_log.specs.Texts.{term_text, lits_text, header_text}
-use Rattle.gh_log.specs.Reading.{IsRefused, IsNotNext, EndsNumber, SpellsNumber, SpellsBytes, SpellsClause, SpellsTerms, ArePadded, SpellsLine, SpellsHeader}
+use Rattle.gh_log.specs.Texts.{term_text, lits_text, numbers_text, header_text}
+use Rattle.gh_log.specs.Spelled.{IsVersion, IsOfVersion}
+use Rattle.gh_log.specs.Reading.{IsRefused, SpellsText, IsNotNext, EndsNumber, SpellsNumber, SpellsBytes, SpellsClause, SpellsShown, SpellsNumbers, SpellsTerms, ArePadded, SpellsParts, SpellsLine, first_line, SpellsVersion, SpellsHeader}
 use Rattle.gh_log.proofs.NumberLemmas.{AreOne, one_number, one_bytes}
-use Rattle.gh_log.proofs.AtomLemmas.{IsByte, a_byte, ends_or_more, Goes}
+use Rattle.gh_log.proofs.AtomLemmas.{IsByte, a_byte, ends_or_more, sign_ends, one_lits, Goes}
 
 abbrev pub IsSmallTerm : Term → Type 0
 IsSmallTerm t = t.0 ≤ 255
@@ -148,7 +150,7 @@ regroup r v t rest = simp (append_assoc, append-nil)
 pub tail_is : (x y : ℕ) (xs ys : List ℕ) → x ∷ xs ≡ y ∷ ys → xs ≡ ys
 tail_is x y xs ys e = cc
 
-pub name_parts : (text : List ℕ) (name : InstanceName) (rest : List ℕ) → SpellsLine (97 ∷ text) (line.Axiom name) rest → HasName text name rest
+pub name_parts : (text : List ℕ) (name : InstanceName) (rest : List ℕ) → SpellsParts (97 ∷ text) (line.Axiom name) rest → HasName text name rest
 name_parts text name rest s =
     let n = s.spelled in
     let arity : name.arity ≡ length (tuple_of name) = ap (λ m. m.arity) n.padded in
@@ -171,7 +173,7 @@ is_padded row version arity terms p =
     λ i. record { row = row; version = version; terms = zeros i; arity = long i }
 
 pub name_read : (text middle rest : List ℕ) (row version arity : ℕ) (terms : List Term) → SpellsBytes 32 2 text (row ∷ version ∷ []) middle → SpellsTerms 0 middle (take arity terms) rest
-    → ArePadded terms arity → arity ≢ 0 → SpellsLine (97 ∷ text) (line.Axiom (record { row = row; version = version; terms = terms; arity = arity })) rest
+    → ArePadded terms arity → arity ≢ 0 → SpellsParts (97 ∷ text) (line.Axiom (record { row = row; version = version; terms = terms; arity = arity })) rest
 name_read text middle rest row version arity terms a b p some =
     record {
       front = ap (λ t. 97 ∷ t) (a.front ∙ ap (λ t. (32 ∷ (decimal row ++ 32 ∷ (decimal version ++ []))) ++ t) b.front ∙ ap (λ t. 32 ∷ t) (sym (regroup (decimal row) (decimal version) (flat_map term_text (take arity terms)) rest)));
@@ -185,10 +187,10 @@ name_read text middle rest row version arity terms a b p some =
       };
     }
 
-pub no_pair : (text : List ℕ) → IsRefused (SpellsBytes 32 2 text) → IsRefused (λ n. SpellsLine (97 ∷ text) (line.Axiom n))
+pub no_pair : (text : List ℕ) → IsRefused (SpellsBytes 32 2 text) → IsRefused (λ n. SpellsParts (97 ∷ text) (line.Axiom n))
 no_pair text h name rest s = let w = name_parts text name rest s in h (name.row ∷ name.version ∷ []) w.middle w.numbers
 
-pub no_terms : (text middle : List ℕ) (row version : ℕ) → SpellsBytes 32 2 text (row ∷ version ∷ []) middle → IsRefused (SpellsTerms 0 middle) → IsRefused (λ n. SpellsLine (97 ∷ text) (line.Axiom n))
+pub no_terms : (text middle : List ℕ) (row version : ℕ) → SpellsBytes 32 2 text (row ∷ version ∷ []) middle → IsRefused (SpellsTerms 0 middle) → IsRefused (λ n. SpellsParts (97 ∷ text) (line.Axiom n))
 no_terms text middle row version a h name rest s =
     let w = name_parts text name rest s in
     let one = one_bytes 32 2 text (row ∷ version ∷ []) (name.row ∷ name.version ∷ []) middle w.middle refl a w.numbers in
@@ -196,7 +198,7 @@ no_terms text middle row version a h name rest s =
 
 -- a name has a term
 pub no_term : (text middle after : List ℕ) (row version arity : ℕ) (terms : List Term) → SpellsBytes 32 2 text (row ∷ version ∷ []) middle → SpellsTerms 0 middle (take arity terms) after → arity ≡ 0
-    → IsRefused (λ n. SpellsLine (97 ∷ text) (line.Axiom n))
+    → IsRefused (λ n. SpellsParts (97 ∷ text) (line.Axiom n))
 no_term text middle after row version arity terms a b e name rest s =
     let w = name_parts text name rest s in
     let one = one_bytes 32 2 text (row ∷ version ∷ []) (name.row ∷ name.version ∷ []) middle w.middle refl a w.numbers in
@@ -212,60 +214,190 @@ letter_of (line.Axiom name) = 97
 letter_of (line.Clause k) = 103
 letter_of (line.Lemma c) = 101
 letter_of (line.Learnt c) = 108
+letter_of (line.Hinted c hints) = 108
+letter_of (line.Delete positions) = 100
 
-pub letter_is : (b : ℕ) (text : List ℕ) (l : LogLine) (rest : List ℕ) → SpellsLine (b ∷ text) l rest → letter_of l ≡ b
+pub letter_is : (b : ℕ) (text : List ℕ) (l : LogLine) (rest : List ℕ) → SpellsParts (b ∷ text) l rest → letter_of l ≡ b
 letter_is b text (line.Axiom name) rest s = sym (head_is b 97 _ _ s.front)
 letter_is b text (line.Clause k) rest s = sym (head_is b 103 _ _ s.front)
 letter_is b text (line.Lemma c) rest s = sym (head_is b 101 _ _ s.front)
 letter_is b text (line.Learnt c) rest s = sym (head_is b 108 _ _ s.front)
+letter_is b text (line.Hinted c hints) rest s = sym (head_is b 108 _ _ s.front)
+letter_is b text (line.Delete positions) rest s = sym (head_is b 100 _ _ s.front)
 
-pub no_letter : (b : ℕ) (text : List ℕ) → b ≢ 97 → b ≢ 103 → b ≢ 101 → b ≢ 108 → IsRefused (SpellsLine (b ∷ text))
-no_letter b text p q r t (line.Axiom name) rest s = p (sym (letter_is b text (line.Axiom name) rest s))
-no_letter b text p q r t (line.Clause k) rest s = q (sym (letter_is b text (line.Clause k) rest s))
-no_letter b text p q r t (line.Lemma c) rest s = r (sym (letter_is b text (line.Lemma c) rest s))
-no_letter b text p q r t (line.Learnt c) rest s = t (sym (letter_is b text (line.Learnt c) rest s))
+pub no_letter : (version b : ℕ) (text : List ℕ) → b ≢ 97 → b ≢ 103 → b ≢ 101 → b ≢ 108 → b ≢ 100 → IsRefused (SpellsLine version (b ∷ text))
+no_letter version b text p q r t u (line.Axiom name) rest s = p (sym (letter_is b text (line.Axiom name) rest s.parts))
+no_letter version b text p q r t u (line.Clause k) rest s = q (sym (letter_is b text (line.Clause k) rest s.parts))
+no_letter version b text p q r t u (line.Lemma c) rest s = r (sym (letter_is b text (line.Lemma c) rest s.parts))
+no_letter version b text p q r t u (line.Learnt c) rest s = t (sym (letter_is b text (line.Learnt c) rest s.parts))
+no_letter version b text p q r t u (line.Hinted c hints) rest s = t (sym (letter_is b text (line.Hinted c hints) rest s.parts))
+no_letter version b text p q r t u (line.Delete positions) rest s = u (sym (letter_is b text (line.Delete positions) rest s.parts))
 
-pub no_line_at_end : IsRefused (SpellsLine [])
-no_line_at_end (line.Axiom name) rest s = let f = s.front in absurd (cc)
-no_line_at_end (line.Clause k) rest s = let f = s.front in absurd (cc)
-no_line_at_end (line.Lemma c) rest s = let f = s.front in absurd (cc)
-no_line_at_end (line.Learnt c) rest s = let f = s.front in absurd (cc)
+-- a text that a line begins
+pub letter_front : (l : LogLine) (text rest : List ℕ) → SpellsParts text l rest → (tail : List ℕ) × (text ≡ letter_of l ∷ tail)
+letter_front (line.Axiom name) text rest s = (_, s.front)
+letter_front (line.Clause k) text rest s = (_, s.front)
+letter_front (line.Lemma c) text rest s = (_, s.front)
+letter_front (line.Learnt c) text rest s = (_, s.front)
+letter_front (line.Hinted c hints) text rest s = (_, s.front)
+letter_front (line.Delete positions) text rest s = (_, s.front)
 
-pub no_axiom : (text : List ℕ) → IsRefused (λ n. SpellsLine (97 ∷ text) (line.Axiom n)) → IsRefused (SpellsLine (97 ∷ text))
-no_axiom text h (line.Axiom name) rest s = h name rest s
-no_axiom text h (line.Clause k) rest s = absurd (omega (arith, letter_is 97 text (line.Clause k) rest s))
-no_axiom text h (line.Lemma c) rest s = absurd (omega (arith, letter_is 97 text (line.Lemma c) rest s))
-no_axiom text h (line.Learnt c) rest s = absurd (omega (arith, letter_is 97 text (line.Learnt c) rest s))
+pub no_line_at_end : (version : ℕ) → IsRefused (SpellsLine version [])
+no_line_at_end version l rest s = let t = letter_front l [] rest s.parts in let e = t.1 in absurd (cc)
 
-pub no_ground : (text : List ℕ) → IsRefused (λ k. SpellsLine (103 ∷ text) (line.Clause k)) → IsRefused (SpellsLine (103 ∷ text))
-no_ground text h (line.Axiom name) rest s = absurd (omega (arith, letter_is 103 text (line.Axiom name) rest s))
-no_ground text h (line.Clause k) rest s = h k rest s
-no_ground text h (line.Lemma c) rest s = absurd (omega (arith, letter_is 103 text (line.Lemma c) rest s))
-no_ground text h (line.Learnt c) rest s = absurd (omega (arith, letter_is 103 text (line.Learnt c) rest s))
+-- the kind of a line is that of its letter
+pub is_axiom : (l : LogLine) → letter_of l ≡ 97 → (name : InstanceName) × (l ≡ line.Axiom name)
+is_axiom (line.Axiom name) e = (name, refl)
+is_axiom (line.Clause k) e = absurd (omega (arith, e))
+is_axiom (line.Lemma c) e = absurd (omega (arith, e))
+is_axiom (line.Learnt c) e = absurd (omega (arith, e))
+is_axiom (line.Hinted c hints) e = absurd (omega (arith, e))
+is_axiom (line.Delete positions) e = absurd (omega (arith, e))
 
-pub lemma_parts : (text : List ℕ) (c : List _) (rest : List ℕ) → SpellsLine (101 ∷ text) (line.Lemma c) rest → SpellsClause text c rest
+pub is_ground : (l : LogLine) → letter_of l ≡ 103 → (k : ℕ) × (l ≡ line.Clause k)
+is_ground (line.Axiom name) e = absurd (omega (arith, e))
+is_ground (line.Clause k) e = (k, refl)
+is_ground (line.Lemma c) e = absurd (omega (arith, e))
+is_ground (line.Learnt c) e = absurd (omega (arith, e))
+is_ground (line.Hinted c hints) e = absurd (omega (arith, e))
+is_ground (line.Delete positions) e = absurd (omega (arith, e))
+
+pub is_lemma : (l : LogLine) → letter_of l ≡ 101 → (c : List Lit) × (l ≡ line.Lemma c)
+is_lemma (line.Axiom name) e = absurd (omega (arith, e))
+is_lemma (line.Clause k) e = absurd (omega (arith, e))
+is_lemma (line.Lemma c) e = (c, refl)
+is_lemma (line.Learnt c) e = absurd (omega (arith, e))
+is_lemma (line.Hinted c hints) e = absurd (omega (arith, e))
+is_lemma (line.Delete positions) e = absurd (omega (arith, e))
+
+pub is_learnt : (version : ℕ) (l : LogLine) → version ≡ 1 → IsOfVersion version l → letter_of l ≡ 108 → (c : List Lit) × (l ≡ line.Learnt c)
+is_learnt version (line.Axiom name) v o e = absurd (omega (arith, e))
+is_learnt version (line.Clause k) v o e = absurd (omega (arith, e))
+is_learnt version (line.Lemma c) v o e = absurd (omega (arith, e))
+is_learnt version (line.Learnt c) v o e = (c, refl)
+is_learnt version (line.Hinted c hints) v o e = absurd (omega (arith, v, o))
+is_learnt version (line.Delete positions) v o e = absurd (omega (arith, e))
+
+pub is_hinted : (version : ℕ) (l : LogLine) → version ≡ 2 → IsOfVersion version l → letter_of l ≡ 108 → (c : List Lit) × (hints : Vec ℕ Global) × (l ≡ line.Hinted c hints)
+is_hinted version (line.Axiom name) v o e = absurd (omega (arith, e))
+is_hinted version (line.Clause k) v o e = absurd (omega (arith, e))
+is_hinted version (line.Lemma c) v o e = absurd (omega (arith, e))
+is_hinted version (line.Learnt c) v o e = absurd (omega (arith, v, o))
+is_hinted version (line.Hinted c hints) v o e = (c, hints, refl)
+is_hinted version (line.Delete positions) v o e = absurd (omega (arith, e))
+
+pub is_delete : (l : LogLine) → letter_of l ≡ 100 → (positions : Vec ℕ Global) × (l ≡ line.Delete positions)
+is_delete (line.Axiom name) e = absurd (omega (arith, e))
+is_delete (line.Clause k) e = absurd (omega (arith, e))
+is_delete (line.Lemma c) e = absurd (omega (arith, e))
+is_delete (line.Learnt c) e = absurd (omega (arith, e))
+is_delete (line.Hinted c hints) e = absurd (omega (arith, e))
+is_delete (line.Delete positions) e = (positions, refl)
+
+-- lines of version 1 or 2
+pub two_versions : (version : ℕ) → IsVersion version → version ≢ 1 → version ≡ 2
+two_versions version (inl e) ne = absurd (ne e)
+two_versions version (inr e) ne = e
+
+-- a line read after its letter
+pub of_any : (version : ℕ) (text : List ℕ) (l : LogLine) (rest : List ℕ) → IsOfVersion version l → SpellsParts text l rest → SpellsLine version text l rest
+of_any version text l rest o s = record { of_version = o; parts = s }
+
+moved : (text : List ℕ) (l m : LogLine) (rest : List ℕ) → l ≡ m → SpellsParts text l rest → SpellsParts text m rest
+moved text l m rest e s = subst (λ k. SpellsParts text k rest) e s
+
+pub no_axiom : (version : ℕ) (text : List ℕ) → IsRefused (λ n. SpellsParts (97 ∷ text) (line.Axiom n)) → IsRefused (SpellsLine version (97 ∷ text))
+no_axiom version text h l rest s =
+    let w = is_axiom l (letter_is 97 text l rest s.parts) in
+    h w.0 rest (moved (97 ∷ text) l (line.Axiom w.0) rest w.1 s.parts)
+
+pub no_ground : (version : ℕ) (text : List ℕ) → IsRefused (λ k. SpellsParts (103 ∷ text) (line.Clause k)) → IsRefused (SpellsLine version (103 ∷ text))
+no_ground version text h l rest s =
+    let w = is_ground l (letter_is 103 text l rest s.parts) in
+    h w.0 rest (moved (103 ∷ text) l (line.Clause w.0) rest w.1 s.parts)
+
+pub lemma_parts : (text : List ℕ) (c : List Lit) (rest : List ℕ) → SpellsParts (101 ∷ text) (line.Lemma c) rest → SpellsClause text c rest
 lemma_parts text c rest s = record { front = tail_is 101 101 _ _ s.front ∙ append_assoc (lits_text c) (10 ∷ []) rest; spelled = s.spelled }
 
-pub learnt_parts : (text : List ℕ) (c : List _) (rest : List ℕ) → SpellsLine (108 ∷ text) (line.Learnt c) rest → SpellsClause text c rest
+pub learnt_parts : (text : List ℕ) (c : List Lit) (rest : List ℕ) → SpellsParts (108 ∷ text) (line.Learnt c) rest → SpellsClause text c rest
 learnt_parts text c rest s = record { front = tail_is 108 108 _ _ s.front ∙ append_assoc (lits_text c) (10 ∷ []) rest; spelled = s.spelled }
 
-pub lemma_read : (text : List ℕ) (c : List _) (rest : List ℕ) → SpellsClause text c rest → SpellsLine (101 ∷ text) (line.Lemma c) rest
-lemma_read text c rest s = record { front = ap (λ t. 101 ∷ t) (s.front ∙ sym (append_assoc (lits_text c) (10 ∷ []) rest)); spelled = s.spelled }
+pub lemma_read : (version : ℕ) (text : List ℕ) (c : List Lit) (rest : List ℕ) → SpellsClause text c rest → SpellsLine version (101 ∷ text) (line.Lemma c) rest
+lemma_read version text c rest s =
+    of_any version (101 ∷ text) (line.Lemma c) rest tt (record { front = ap (λ t. 101 ∷ t) (s.front ∙ sym (append_assoc (lits_text c) (10 ∷ []) rest)); spelled = s.spelled })
 
-pub learnt_read : (text : List ℕ) (c : List _) (rest : List ℕ) → SpellsClause text c rest → SpellsLine (108 ∷ text) (line.Learnt c) rest
-learnt_read text c rest s = record { front = ap (λ t. 108 ∷ t) (s.front ∙ sym (append_assoc (lits_text c) (10 ∷ []) rest)); spelled = s.spelled }
+pub learnt_read : (version : ℕ) (text : List ℕ) (c : List Lit) (rest : List ℕ) → version ≡ 1 → SpellsClause text c rest → SpellsLine version (108 ∷ text) (line.Learnt c) rest
+learnt_read version text c rest v s =
+    of_any version (108 ∷ text) (line.Learnt c) rest v (record { front = ap (λ t. 108 ∷ t) (s.front ∙ sym (append_assoc (lits_text c) (10 ∷ []) rest)); spelled = s.spelled })
 
-pub no_lemma : (text : List ℕ) → IsRefused (SpellsClause text) → IsRefused (SpellsLine (101 ∷ text))
-no_lemma text h (line.Axiom name) rest s = absurd (omega (arith, letter_is 101 text (line.Axiom name) rest s))
-no_lemma text h (line.Clause k) rest s = absurd (omega (arith, letter_is 101 text (line.Clause k) rest s))
-no_lemma text h (line.Lemma c) rest s = h c rest (lemma_parts text c rest s)
-no_lemma text h (line.Learnt c) rest s = absurd (omega (arith, letter_is 101 text (line.Learnt c) rest s))
+pub no_lemma : (version : ℕ) (text : List ℕ) → IsRefused (SpellsClause text) → IsRefused (SpellsLine version (101 ∷ text))
+no_lemma version text h l rest s =
+    let w = is_lemma l (letter_is 101 text l rest s.parts) in
+    h w.0 rest (lemma_parts text w.0 rest (moved (101 ∷ text) l (line.Lemma w.0) rest w.1 s.parts))
 
-pub no_learnt : (text : List ℕ) → IsRefused (SpellsClause text) → IsRefused (SpellsLine (108 ∷ text))
-no_learnt text h (line.Axiom name) rest s = absurd (omega (arith, letter_is 108 text (line.Axiom name) rest s))
-no_learnt text h (line.Clause k) rest s = absurd (omega (arith, letter_is 108 text (line.Clause k) rest s))
-no_learnt text h (line.Lemma c) rest s = absurd (omega (arith, letter_is 108 text (line.Lemma c) rest s))
-no_learnt text h (line.Learnt c) rest s = h c rest (learnt_parts text c rest s)
+pub no_learnt : (version : ℕ) (text : List ℕ) → version ≡ 1 → IsRefused (SpellsClause text) → IsRefused (SpellsLine version (108 ∷ text))
+no_learnt version text v h l rest s =
+    let w = is_learnt version l v s.of_version (letter_is 108 text l rest s.parts) in
+    h w.0 rest (learnt_parts text w.0 rest (moved (108 ∷ text) l (line.Learnt w.0) rest w.1 s.parts))
+
+-- literals and hints after the letter
+pub record HasHints (text : List ℕ) (c : List Lit) (ns rest : List ℕ) : Type 0 where
+  pub middle : List ℕ
+  pub lits : SpellsShown text c middle
+  pub numbers : SpellsNumbers middle ns rest
+
+regroup_hints : (l n rest : List ℕ) → (((l ++ 32 ∷ 59 ∷ []) ++ n) ++ 10 ∷ []) ++ rest ≡ l ++ (32 ∷ 59 ∷ (n ++ 10 ∷ rest))
+regroup_hints l n rest = simp append_assoc
+
+pub hinted_parts : (text : List ℕ) (c : List Lit) (hints : Vec ℕ Global) (rest : List ℕ) → SpellsParts (108 ∷ text) (line.Hinted c hints) rest → HasHints text c hints.items rest
+hinted_parts text c hints rest s =
+    record {
+      middle = numbers_text hints.items ++ 10 ∷ rest;
+      lits = record { front = tail_is 108 108 _ _ s.front ∙ regroup_hints (lits_text c) (numbers_text hints.items) rest; spelled = s.spelled.0 };
+      numbers = record { front = refl; within = s.spelled.1 };
+    }
+
+pub hinted_read : (version : ℕ) (text : List ℕ) (c : List Lit) (hints : Vec ℕ Global) (middle rest : List ℕ) → version ≡ 2 → SpellsShown text c middle → SpellsNumbers middle hints.items rest
+    → SpellsLine version (108 ∷ text) (line.Hinted c hints) rest
+hinted_read version text c hints middle rest v s n =
+    of_any version (108 ∷ text) (line.Hinted c hints) rest v
+    (record {
+      front = ap (λ t. 108 ∷ t) (s.front ∙ ap (λ t. lits_text c ++ (32 ∷ 59 ∷ t)) n.front ∙ sym (regroup_hints (lits_text c) (numbers_text hints.items) rest));
+      spelled = (s.spelled, n.within);
+    })
+
+pub no_shown : (version : ℕ) (text : List ℕ) → version ≡ 2 → IsRefused (SpellsShown text) → IsRefused (SpellsLine version (108 ∷ text))
+no_shown version text v h l rest s =
+    let w = is_hinted version l v s.of_version (letter_is 108 text l rest s.parts) in
+    let parts = hinted_parts text w.0 w.1 rest (moved (108 ∷ text) l (line.Hinted w.0 w.1) rest w.2 s.parts) in
+    h w.0 parts.middle parts.lits
+
+pub no_hints : (version : ℕ) (text : List ℕ) (c : List Lit) (middle : List ℕ) → version ≡ 2 → SpellsShown text c middle → IsRefused (SpellsNumbers middle) → IsRefused (SpellsLine version (108 ∷ text))
+no_hints version text c middle v a h l rest s =
+    let w = is_hinted version l v s.of_version (letter_is 108 text l rest s.parts) in
+    let parts = hinted_parts text w.0 w.1 rest (moved (108 ∷ text) l (line.Hinted w.0 w.1) rest w.2 s.parts) in
+    let one = one_lits _ sign_ends text c w.0 middle parts.middle a parts.lits in
+    h w.1.items rest (subst (λ t. SpellsNumbers t w.1.items rest) (sym one.rest) parts.numbers)
+
+pub delete_parts : (text : List ℕ) (positions : Vec ℕ Global) (rest : List ℕ) → SpellsParts (100 ∷ text) (line.Delete positions) rest → SpellsNumbers text positions.items rest
+delete_parts text positions rest s =
+    record { front = tail_is 100 100 _ _ s.front ∙ append_assoc (numbers_text positions.items) (10 ∷ []) rest; within = s.spelled }
+
+pub delete_read : (version : ℕ) (text : List ℕ) (positions : Vec ℕ Global) (rest : List ℕ) → version ≡ 2 → SpellsNumbers text positions.items rest
+    → SpellsLine version (100 ∷ text) (line.Delete positions) rest
+delete_read version text positions rest v n =
+    of_any version (100 ∷ text) (line.Delete positions) rest v
+    (record { front = ap (λ t. 100 ∷ t) (n.front ∙ sym (append_assoc (numbers_text positions.items) (10 ∷ []) rest)); spelled = n.within })
+
+pub no_delete : (version : ℕ) (text : List ℕ) → version ≢ 2 → IsRefused (SpellsLine version (100 ∷ text))
+no_delete version text v l rest s =
+    let w = is_delete l (letter_is 100 text l rest s.parts) in
+    v (subst (IsOfVersion version) w.1 s.of_version)
+
+pub no_positions : (version : ℕ) (text : List ℕ) → IsRefused (SpellsNumbers text) → IsRefused (SpellsLine version (100 ∷ text))
+no_positions version text h l rest s =
+    let w = is_delete l (letter_is 100 text l rest s.parts) in
+    h w.0.items rest (delete_parts text w.0 rest (moved (100 ∷ text) l (line.Delete w.0) rest w.1 s.parts))
 
 -- the number of a ground clause after its letter
 pub record HasGround (text : List ℕ) (k : ℕ) (rest : List ℕ) : Type 0 where
@@ -273,7 +405,7 @@ pub record HasGround (text : List ℕ) (k : ℕ) (rest : List ℕ) : Type 0 wher
   pub front : text ≡ 32 ∷ middle
   pub number : SpellsNumber 4294967295 middle k (10 ∷ rest)
 
-pub ground_parts : (text : List ℕ) (k : ℕ) (rest : List ℕ) → SpellsLine (103 ∷ text) (line.Clause k) rest → HasGround text k rest
+pub ground_parts : (text : List ℕ) (k : ℕ) (rest : List ℕ) → SpellsParts (103 ∷ text) (line.Clause k) rest → HasGround text k rest
 ground_parts text k rest s =
     record {
       middle = decimal k ++ 10 ∷ rest;
@@ -281,11 +413,11 @@ ground_parts text k rest s =
       number = record { front = refl; within = s.spelled; ends = refl };
     }
 
-pub ground_read : (text middle rest : List ℕ) (k : ℕ) → text ≡ 32 ∷ middle → SpellsNumber 4294967295 middle k (10 ∷ rest) → SpellsLine (103 ∷ text) (line.Clause k) rest
+pub ground_read : (text middle rest : List ℕ) (k : ℕ) → text ≡ 32 ∷ middle → SpellsNumber 4294967295 middle k (10 ∷ rest) → SpellsParts (103 ∷ text) (line.Clause k) rest
 ground_read text middle rest k e s =
     record { front = ap (λ t. 103 ∷ t) (e ∙ ap (λ t. 32 ∷ t) (s.front ∙ sym (append_assoc (decimal k) (10 ∷ []) rest))); spelled = s.within }
 
-pub one_ground : (text middle after : List ℕ) (k : ℕ) → text ≡ 32 ∷ middle → SpellsNumber 4294967295 middle k after → IsNotNext 10 after → IsRefused (λ k. SpellsLine (103 ∷ text) (line.Clause k))
+pub one_ground : (text middle after : List ℕ) (k : ℕ) → text ≡ 32 ∷ middle → SpellsNumber 4294967295 middle k after → IsNotNext 10 after → IsRefused (λ k. SpellsParts (103 ∷ text) (line.Clause k))
 one_ground text middle after k e a n m rest s =
     let w = ground_parts text m rest s in
     let f = w.front in
@@ -315,3 +447,56 @@ header_goes_on text middle after k j e a small n u rest f =
 
 pub no_number_there : (text middle : List ℕ) (j : ℕ) → text ≡ codes "condition " ++ middle → j < 4294967296 → IsRefused (SpellsNumber 4294967295 middle) → IsRefused (SpellsHeader j text)
 no_number_there text middle j e small h u rest f = h j (10 ∷ rest) (record { front = header_middle text middle rest j e f; within = omega arith; ends = refl })
+
+-- the first line of a log
+pub small_version : (version : ℕ) → IsVersion version → version ≤ 2
+small_version version (inl e) = omega (arith, e)
+small_version version (inr e) = omega (arith, e)
+
+pub version_parts : (version : ℕ) (rest : List ℕ) → first_line version ++ rest ≡ codes "grass log " ++ (decimal version ++ 10 ∷ rest)
+version_parts version rest = append_assoc (codes "grass log " ++ decimal version) (10 ∷ []) rest ∙ append_assoc (codes "grass log ") (decimal version) (10 ∷ rest)
+
+pub one_version : (m n : ℕ) (r q : List ℕ) → IsVersion m → IsVersion n → first_line m ++ r ≡ first_line n ++ q → AreOne m n r q
+one_version m n r q a b e =
+    let t : decimal m ++ 10 ∷ r ≡ decimal n ++ 10 ∷ q = append_cancel_left (codes "grass log ") _ _ (sym (version_parts m r) ∙ e ∙ version_parts n q) in
+    let one = one_number m n (10 ∷ r) (10 ∷ q) (omega (arith, small_version m a)) (omega (arith, small_version n b)) refl refl t in
+    record { value = one.value; rest = tail_is 10 10 r q one.rest }
+
+version_middle : (text middle rest : List ℕ) (version : ℕ) → text ≡ codes "grass log " ++ middle → SpellsVersion text version rest → middle ≡ decimal version ++ 10 ∷ rest
+version_middle text middle rest version e s = append_cancel_left (codes "grass log ") middle (decimal version ++ 10 ∷ rest) (sym e ∙ s.front ∙ version_parts version rest)
+
+pub is_version : (n : ℕ) → n ≤ 2 → n ≢ 0 → IsVersion n
+is_version zero h some = absurd (some refl)
+is_version (suc zero) h some = inl refl
+is_version (suc (suc zero)) h some = inr refl
+is_version (suc (suc (suc n))) h some = absurd (omega arith)
+
+pub version_read : (text middle rest : List ℕ) (n : ℕ) → text ≡ codes "grass log " ++ middle → SpellsNumber 2 middle n (10 ∷ rest) → n ≢ 0 → SpellsVersion text n rest
+version_read text middle rest n e s some =
+    record { front = e ∙ ap (λ t. codes "grass log " ++ t) s.front ∙ sym (version_parts n rest); is = is_version n s.within some }
+
+pub no_version_text : (text : List ℕ) → IsRefused (SpellsText (codes "grass log ") text) → IsRefused (SpellsVersion text)
+no_version_text text h version rest s = h tt (decimal version ++ 10 ∷ rest) (s.front ∙ version_parts version rest)
+
+pub no_version_number : (text middle : List ℕ) → text ≡ codes "grass log " ++ middle → IsRefused (SpellsNumber 2 middle) → IsRefused (SpellsVersion text)
+no_version_number text middle e h version rest s =
+    h version (10 ∷ rest) (record { front = version_middle text middle rest version e s; within = small_version version s.is; ends = refl })
+
+same_version : (text middle after : List ℕ) (n version : ℕ) (rest : List ℕ) → text ≡ codes "grass log " ++ middle → SpellsNumber 2 middle n after → SpellsVersion text version rest
+    → AreOne n version after (10 ∷ rest)
+same_version text middle after n version rest e a s =
+    one_number n version after (10 ∷ rest) (omega (arith, a.within)) (omega (arith, small_version version s.is)) a.ends refl (sym a.front ∙ version_middle text middle rest version e s)
+
+not_zero : (version : ℕ) → IsVersion version → version ≢ 0
+not_zero version (inl e) z = absurd (omega (arith, e, z))
+not_zero version (inr e) z = absurd (omega (arith, e, z))
+
+pub no_version_zero : (text middle after : List ℕ) (n : ℕ) → text ≡ codes "grass log " ++ middle → SpellsNumber 2 middle n after → n ≡ 0 → IsRefused (SpellsVersion text)
+no_version_zero text middle after n e a z version rest s =
+    let one = same_version text middle after n version rest e a s in
+    not_zero version s.is (sym one.value ∙ z)
+
+pub version_goes_on : (text middle after : List ℕ) (n : ℕ) → text ≡ codes "grass log " ++ middle → SpellsNumber 2 middle n after → IsNotNext 10 after → IsRefused (SpellsVersion text)
+version_goes_on text middle after n e a not_there version rest s =
+    let one = same_version text middle after n version rest e a s in
+    subst (IsNotNext 10) one.rest not_there refl

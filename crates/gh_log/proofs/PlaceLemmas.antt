@@ -6,7 +6,7 @@ use Rattle.std.specs.Str.Parse.{AllDigits}
 use Rattle.std.proofs.lemmas.Bool.{eqb-true}
 use Rattle.std.proofs.lemmas.List.{append-nil, map-append}
 use Rattle.std.proofs.lemmas.List.Sums.{sum_by-append, sum_by-cons, count_by-le-length}
-use Rattle.std.proofs.lemmas.List.Elements.{All-head, All-tail, All-push}
+use Rattle.std.proofs.lemmas.List.Elements.{All-head, All-tail, All-push, All-weaker}
 use Rattle.std.proofs.lemmas.Str.Parse.{tells_digits}
 use Rattle.std.proofs.lemmas.Fmt.{decimal_is_IsNumeral}
 use Rattle.gh_base.specs.declared.atom.Term.{Term}
@@ -21,13 +21,13 @@ use Rattle.gh_log.specs.declared.error.LogError.{LogError}
 use Rattle.gh_log.specs.declared.error.LogError.TheVariants.{Line, OutOfMemory as NoMemory}
 use Rattle.gh_log.specs.declared.error.Refusal.{Refusal}
 use Rattle.gh_log.specs.declared.error.Refusal.TheVariants.{Outside, OutOfMemory}
-use Rattle.gh_log.specs.Texts.{atom_text, sign_text, lits_text, term_text, line_text, header_text, section_text, sections_text, log_text}
-use Rattle.gh_log.specs.Spelled.{IsSpelledLine, IsSpelledAtom, AreSpelled, IsSpelled, ArePlaced, IsFirstOutside, IsLogRefusal, lines_of, lines_before}
-use Rattle.gh_log.specs.Reading.{IsRefused, IsRefusal, SpellsText, SpellsLine, SpellsHeader, SpellsSection, EndsSection, IsSectionRefusal, error_at}
+use Rattle.gh_log.specs.Texts.{atom_text, sign_text, lits_text, term_text, numbers_text, line_text, header_text, section_text, sections_text, log_text}
+use Rattle.gh_log.specs.Spelled.{HasSpelledParts, IsSpelledLine, IsVersion, AreNumbers, IsSpelledAtom, AreSpelled, IsSpelled, ArePlaced, IsFirstOutside, IsLogRefusal, lines_of, lines_before}
+use Rattle.gh_log.specs.Reading.{IsRefused, IsRefusal, first_line, SpellsVersion, SpellsLine, SpellsHeader, SpellsSection, EndsSection, IsSectionRefusal, error_at}
 use Rattle.gh_log.proofs.NumberLemmas.{AreSmall, marked}
 use Rattle.gh_log.proofs.AtomLemmas.{kind_of, numbers_of, numbers_small, atom_parts}
-use Rattle.gh_log.proofs.LineLemmas.{IsSmallTerm, letter_is, head_is}
-use Rattle.gh_log.proofs.LogLemmas.{first_line, outside_after, letter_front, not_c}
+use Rattle.gh_log.proofs.LineLemmas.{IsSmallTerm, letter_is, letter_front, head_is, small_version}
+use Rattle.gh_log.proofs.LogLemmas.{outside_after, not_c}
 
 abbrev one_if : Bool → ℕ
 one_if b = cond b 1 0
@@ -100,8 +100,11 @@ quiet_terms (t ∷ ts) h =
 one_feed : (a : List ℕ) → IsQuiet a → lines_before (a ++ 10 ∷ []) ≡ 1
 one_feed a q = feeds_append a (10 ∷ []) ∙ ap (λ n. n + 1) q
 
+quiet_numbers : (ns : List ℕ) → AreNumbers ns → IsQuiet (numbers_text ns)
+quiet_numbers ns h = quiet_marked 32 ns (λ e. absurd (omega (arith, e))) (All-weaker (λ n. n ≤ 4294967295) (λ n. n < 2 ^ 64) (λ n l. omega (arith, l)) ns h)
+
 -- each line has one line feed
-feeds_line : (l : LogLine) → IsSpelledLine l → lines_before (line_text l) ≡ 1
+feeds_line : (l : LogLine) → HasSpelledParts l → lines_before (line_text l) ≡ 1
 feeds_line (line.Axiom name) h =
     one_feed (codes "a " ++ decimal name.row ++ codes " " ++ decimal name.version ++ flat_map term_text (tuple_of name))
     (quiet_append (codes "a " ++ decimal name.row ++ codes " " ++ decimal name.version) (flat_map term_text (tuple_of name))
@@ -112,22 +115,28 @@ feeds_line (line.Axiom name) h =
 feeds_line (line.Clause k) h = one_feed (codes "g " ++ decimal k) (quiet_append (codes "g ") (decimal k) refl (quiet_decimal k (omega (arith, h))))
 feeds_line (line.Lemma c) h = one_feed (codes "e" ++ lits_text c) (quiet_append (codes "e") (lits_text c) refl (quiet_lits c h))
 feeds_line (line.Learnt c) h = one_feed (codes "l" ++ lits_text c) (quiet_append (codes "l") (lits_text c) refl (quiet_lits c h))
+feeds_line (line.Hinted c hints) h =
+    one_feed (codes "l" ++ lits_text c ++ codes " ;" ++ numbers_text hints.items)
+    (quiet_append (codes "l" ++ lits_text c ++ codes " ;") (numbers_text hints.items)
+    (quiet_append (codes "l" ++ lits_text c) (codes " ;") (quiet_append (codes "l") (lits_text c) refl (quiet_lits c h.0)) refl) (quiet_numbers hints.items h.1))
+feeds_line (line.Delete positions) h = one_feed (codes "d" ++ numbers_text positions.items) (quiet_append (codes "d") (numbers_text positions.items) refl (quiet_numbers positions.items h))
 
-feeds_lines : (ls : List LogLine) → All IsSpelledLine ls → lines_before (flat_map line_text ls) ≡ length ls
-feeds_lines [] h = refl
-feeds_lines (l ∷ ls) h =
-    let here = feeds_line l (All-head IsSpelledLine l ls h) in
-    let there = feeds_lines ls (All-tail IsSpelledLine l ls h) in
+feeds_lines : (version : ℕ) (ls : List LogLine) → All (IsSpelledLine version) ls → lines_before (flat_map line_text ls) ≡ length ls
+feeds_lines version [] h = refl
+feeds_lines version (l ∷ ls) h =
+    let spelled = All-head (IsSpelledLine version) l ls h in
+    let here = feeds_line l spelled.1 in
+    let there = feeds_lines version ls (All-tail (IsSpelledLine version) l ls h) in
     let both = feeds_append (line_text l) (flat_map line_text ls) in
     omega (arith, here, there, both)
 
 feeds_header : (k : ℕ) → k ≤ 4294967295 → lines_before (header_text k) ≡ 1
 feeds_header k h = one_feed (codes "condition " ++ decimal k) (quiet_append (codes "condition ") (decimal k) refl (quiet_decimal k (omega (arith, h))))
 
-pub feeds_section : (k : ℕ) (ls : List LogLine) → k ≤ 4294967295 → All IsSpelledLine ls → lines_before (section_text k ls) ≡ 1 + length ls
-feeds_section k ls h a =
+pub feeds_section : (version k : ℕ) (ls : List LogLine) → k ≤ 4294967295 → All (IsSpelledLine version) ls → lines_before (section_text k ls) ≡ 1 + length ls
+feeds_section version k ls h a =
     let here = feeds_header k h in
-    let there = feeds_lines ls a in
+    let there = feeds_lines version ls a in
     let both = feeds_append (header_text k) (flat_map line_text ls) in
     omega (arith, here, there, both)
 
@@ -136,6 +145,8 @@ some_in_line (line.Axiom name) = omega arith
 some_in_line (line.Clause k) = omega arith
 some_in_line (line.Lemma c) = omega arith
 some_in_line (line.Learnt c) = omega arith
+some_in_line (line.Hinted c hints) = omega arith
+some_in_line (line.Delete positions) = omega arith
 
 long_lines : (ls : List LogLine) → length ls ≤ length (flat_map line_text ls)
 long_lines [] = omega arith
@@ -160,11 +171,11 @@ long_sections k (s ∷ ss) =
     let both = length-append (section_text k s) (sections_text (suc k) ss) in
     omega (arith, here, there, both)
 
-pub shorter : (text rest : List ℕ) (l : LogLine) → SpellsLine text l rest → length rest < length text
-shorter text rest l s =
+pub shorter : (version : ℕ) (text rest : List ℕ) (l : LogLine) → SpellsLine version text l rest → length rest < length text
+shorter version text rest l s =
     let some = some_in_line l in
     let both = length-append (line_text l) rest in
-    let e = ap length s.front in
+    let e = ap length s.parts.front in
     omega (arith, some, both, e)
 
 -- the line of the header that comes after some sections
@@ -172,12 +183,12 @@ abbrev pub line_after : ℕ → List Section → ℕ
 line_after k [] = k
 line_after k (s ∷ ss) = line_after (k + 1 + length s.lines.items) ss
 
-feeds_sections : (j k : ℕ) (ss : List Section) → All (λ s. All IsSpelledLine s) (lines_of ss) → j + length ss ≤ 4294967296 → lines_before (sections_text j (lines_of ss)) + k ≡ line_after k ss
-feeds_sections j k [] a h = omega arith
-feeds_sections j k (s ∷ ss) a h =
+feeds_sections : (version j k : ℕ) (ss : List Section) → All (λ s. All (IsSpelledLine version) s) (lines_of ss) → j + length ss ≤ 4294967296 → lines_before (sections_text j (lines_of ss)) + k ≡ line_after k ss
+feeds_sections version j k [] a h = omega arith
+feeds_sections version j k (s ∷ ss) a h =
     let ls = s.lines.items in
-    let here = feeds_section j ls (omega arith) (All-head (λ s. All IsSpelledLine s) ls (lines_of ss) a) in
-    let there = feeds_sections (suc j) (k + 1 + length ls) ss (All-tail (λ s. All IsSpelledLine s) ls (lines_of ss) a) (omega arith) in
+    let here = feeds_section version j ls (omega arith) (All-head (λ s. All (IsSpelledLine version) s) ls (lines_of ss) a) in
+    let there = feeds_sections version (suc j) (k + 1 + length ls) ss (All-tail (λ s. All (IsSpelledLine version) s) ls (lines_of ss) a) (omega arith) in
     let both = feeds_append (section_text j ls) (sections_text (suc j) (lines_of ss)) in
     omega (arith, here, there, both)
 
@@ -196,46 +207,60 @@ sections_push k (t ∷ ss) s =
     ap (λ x. section_text k t ++ x) (sections_push (suc k) ss s ∙ ap (λ j. sections_text (suc k) ss ++ section_text j s) n)
     ∙ sym (append_assoc (section_text k t) (sections_text (suc k) ss) (section_text (k + suc (length ss)) s))
 
-log_push : (ss : List (List LogLine)) (s : List LogLine) → log_text (ss ++ s ∷ []) ≡ log_text ss ++ section_text (length ss + 1) s
-log_push ss s =
+log_push : (version : ℕ) (ss : List (List LogLine)) (s : List LogLine) → log_text version (ss ++ s ∷ []) ≡ log_text version ss ++ section_text (length ss + 1) s
+log_push version ss s =
     let n : 1 + length ss ≡ length ss + 1 = omega arith in
-    ap (λ x. first_line ++ x) (sections_push 1 ss s ∙ ap (λ j. sections_text 1 ss ++ section_text j s) n) ∙ sym (append_assoc first_line (sections_text 1 ss) (section_text (length ss + 1) s))
+    ap (λ x. first_line version ++ x) (sections_push 1 ss s ∙ ap (λ j. sections_text 1 ss ++ section_text j s) n)
+    ∙ sym (append_assoc (first_line version) (sections_text 1 ss) (section_text (length ss + 1) s))
 
 length_lines_of : (ss : List Section) → length (lines_of ss) ≡ length ss
 length_lines_of [] = refl
 length_lines_of (s ∷ ss) = ap suc (length_lines_of ss)
 
 -- some sections are read, and the next header would be this line of the file
-pub record IsUpTo (text : List ℕ) (sections : List Section) (at : ℕ) (rest : List ℕ) : Type 0 where
-  pub front : text ≡ log_text (lines_of sections) ++ rest
-  pub spelled : All (λ s. All IsSpelledLine s) (lines_of sections)
+pub record IsUpTo (text : List ℕ) (version : ℕ) (sections : List Section) (at : ℕ) (rest : List ℕ) : Type 0 where
+  pub front : text ≡ log_text version (lines_of sections) ++ rest
+  pub version_is : IsVersion version
+  pub spelled : All (λ s. All (IsSpelledLine version) s) (lines_of sections)
   pub at_is : at ≡ line_after 2 sections
   pub placed : ArePlaced 2 sections
   pub ends : (lines_of sections ≢ []) → EndsSection rest
 
-pub up_to_start : (text rest : List ℕ) → text ≡ first_line ++ rest → IsUpTo text [] 2 rest
-up_to_start text rest e = record { front = e; spelled = λ k d l. absurd (omega arith); at_is = refl; placed = tt; ends = λ h. absurd (h refl) }
+pub up_to_start : (text : List ℕ) (version : ℕ) (rest : List ℕ) → SpellsVersion text version rest → IsUpTo text version [] 2 rest
+up_to_start text version rest e =
+    record {
+      front = e.front ∙ ap (λ x. x ++ rest) (sym (append-nil (first_line version)));
+      version_is = e.is;
+      spelled = λ k d l. absurd (omega arith);
+      at_is = refl;
+      placed = tt;
+      ends = λ h. absurd (h refl);
+    }
 
-pub up_to_fits : (text : List ℕ) (ss : List Section) (at : ℕ) (rest : List ℕ) → IsUpTo text ss at rest → length text < 4294967295
-    → (at + length rest < 4294967296) × (length ss + 1 < 4294967296) × (at ≡ lines_before (log_text (lines_of ss)) + 1)
-up_to_fits text ss at rest u small =
+feeds_first : (version : ℕ) → IsVersion version → lines_before (first_line version) ≡ 1
+feeds_first version h =
+    one_feed (codes "grass log " ++ decimal version)
+    (quiet_append (codes "grass log ") (decimal version) refl (quiet_decimal version (omega (arith, small_version version h))))
+
+pub up_to_fits : (text : List ℕ) (version : ℕ) (ss : List Section) (at : ℕ) (rest : List ℕ) → IsUpTo text version ss at rest → length text < 4294967295
+    → (at + length rest < 4294967296) × (length ss + 1 < 4294967296) × (at ≡ lines_before (log_text version (lines_of ss)) + 1)
+up_to_fits text version ss at rest u small =
     let whole = ap length u.front in
-    let parts = length-append (log_text (lines_of ss)) rest in
-    let head = length-append first_line (sections_text 1 (lines_of ss)) in
-    let twelve : length first_line ≡ 12 = refl in
+    let parts = length-append (log_text version (lines_of ss)) rest in
+    let head = length-append (first_line version) (sections_text 1 (lines_of ss)) in
     let long = long_sections 1 (lines_of ss) in
     let count = length_lines_of ss in
-    let few : length ss + 1 < 4294967296 = omega (arith, whole, parts, head, twelve, long, count, small) in
-    let feeds = feeds_sections 1 2 ss u.spelled (omega (arith, few)) in
-    let both = feeds_append first_line (sections_text 1 (lines_of ss)) in
-    let one : lines_before first_line ≡ 1 = refl in
+    let few : length ss + 1 < 4294967296 = omega (arith, whole, parts, head, long, count, small) in
+    let feeds = feeds_sections version 1 2 ss u.spelled (omega (arith, few)) in
+    let both = feeds_append (first_line version) (sections_text 1 (lines_of ss)) in
+    let one = feeds_first version u.version_is in
     let at_is = u.at_is in
-    let place : at ≡ lines_before (log_text (lines_of ss)) + 1 = omega (arith, feeds, both, one, at_is) in
-    let bound = count_by-le-length (λ b. nat_eq b 10) (log_text (lines_of ss)) in
+    let place : at ≡ lines_before (log_text version (lines_of ss)) + 1 = omega (arith, feeds, both, one, at_is) in
+    let bound = count_by-le-length (λ b. nat_eq b 10) (log_text version (lines_of ss)) in
     (omega (arith, place, bound, whole, parts, small), few, place)
 
-pub section_fits : (number at : ℕ) (text : List ℕ) (s : Section) (rest : List ℕ) → SpellsSection number at text s rest → at + length text < 4294967296 → s.first + length s.lines.items < 4294967296
-section_fits number at text s rest h small =
+pub section_fits : (version number at : ℕ) (text : List ℕ) (s : Section) (rest : List ℕ) → SpellsSection version number at text s rest → at + length text < 4294967296 → s.first + length s.lines.items < 4294967296
+section_fits version number at text s rest h small =
     let whole = ap length h.front in
     let parts = length-append (section_text number s.lines.items) rest in
     let long = long_section number s.lines.items in
@@ -245,9 +270,9 @@ section_fits number at text s rest h small =
 all_lines_push : (ss : List Section) (s : Section) → lines_of (ss ++ s ∷ []) ≡ lines_of ss ++ s.lines.items ∷ []
 all_lines_push ss s = map-append (λ t. t.lines.items) ss (s ∷ [])
 
-pub up_to_more : (text : List ℕ) (ss new : List Section) (at after : ℕ) (rest left : List ℕ) (s : Section) → IsUpTo text ss at rest → SpellsSection (length ss + 1) at rest s left
-    → new ≡ ss ++ s ∷ [] → after ≡ s.first + length s.lines.items → IsUpTo text new after left
-up_to_more text ss new at after rest left s u h e f =
+pub up_to_more : (text : List ℕ) (version : ℕ) (ss new : List Section) (at after : ℕ) (rest left : List ℕ) (s : Section) → IsUpTo text version ss at rest
+    → SpellsSection version (length ss + 1) at rest s left → new ≡ ss ++ s ∷ [] → after ≡ s.first + length s.lines.items → IsUpTo text version new after left
+up_to_more text version ss new at after rest left s u h e f =
     let n : length ss ≡ length (lines_of ss) = sym (length_lines_of ss) in
     let pushed : lines_of new ≡ lines_of ss ++ s.lines.items ∷ [] = ap lines_of e ∙ all_lines_push ss s in
     let first = h.first in
@@ -255,10 +280,11 @@ up_to_more text ss new at after rest left s u h e f =
     let line = line_after_push 2 ss s in
     let there = ap (line_after 2) e in
     record {
-      front = u.front ∙ ap (λ x. log_text (lines_of ss) ++ x) (h.front ∙ ap (λ k. section_text (k + 1) s.lines.items ++ left) n)
-          ∙ sym (append_assoc (log_text (lines_of ss)) (section_text (length (lines_of ss) + 1) s.lines.items) left)
-          ∙ ap (λ x. x ++ left) (sym (log_push (lines_of ss) s.lines.items)) ∙ ap (λ x. log_text x ++ left) (sym pushed);
-      spelled = subst (All (λ s. All IsSpelledLine s)) (sym pushed) (All-push (λ s. All IsSpelledLine s) (lines_of ss) s.lines.items u.spelled h.spelled);
+      front = u.front ∙ ap (λ x. log_text version (lines_of ss) ++ x) (h.front ∙ ap (λ k. section_text (k + 1) s.lines.items ++ left) n)
+          ∙ sym (append_assoc (log_text version (lines_of ss)) (section_text (length (lines_of ss) + 1) s.lines.items) left)
+          ∙ ap (λ x. x ++ left) (sym (log_push version (lines_of ss) s.lines.items)) ∙ ap (λ x. log_text version x ++ left) (sym pushed);
+      version_is = u.version_is;
+      spelled = subst (All (λ s. All (IsSpelledLine version) s)) (sym pushed) (All-push (λ s. All (IsSpelledLine version) s) (lines_of ss) s.lines.items u.spelled h.spelled);
       at_is = omega (arith, f, first, at_is, line, there);
       placed = subst (ArePlaced 2) (sym e) (placed_push 2 ss s u.placed (first ∙ ap (λ k. k + 1) at_is));
       ends = λ _. h.ends;
@@ -268,21 +294,21 @@ nothing : (rest : List ℕ) → length rest ≡ 0 → rest ≡ []
 nothing [] e = refl
 nothing (b ∷ rest) e = absurd (omega (arith, e))
 
-pub up_to_end : (text : List ℕ) (ss : List Section) (at : ℕ) (rest : List ℕ) → IsUpTo text ss at rest → length rest ≡ 0 → text ≡ log_text (lines_of ss)
-up_to_end text ss at rest u e = u.front ∙ ap (λ x. log_text (lines_of ss) ++ x) (nothing rest e) ∙ append-nil (log_text (lines_of ss))
+pub up_to_end : (text : List ℕ) (version : ℕ) (ss : List Section) (at : ℕ) (rest : List ℕ) → IsUpTo text version ss at rest → length rest ≡ 0 → text ≡ log_text version (lines_of ss)
+up_to_end text version ss at rest u e = u.front ∙ ap (λ x. log_text version (lines_of ss) ++ x) (nothing rest e) ∙ append-nil (log_text version (lines_of ss))
 
-pub up_to_spelled : (text : List ℕ) (ss : List Section) (at : ℕ) (rest : List ℕ) → IsUpTo text ss at rest → length text < 4294967295 → IsSpelled (lines_of ss)
-up_to_spelled text ss at rest u small =
-    let fits = up_to_fits text ss at rest u small in
+pub up_to_spelled : (text : List ℕ) (version : ℕ) (ss : List Section) (at : ℕ) (rest : List ℕ) → IsUpTo text version ss at rest → length text < 4294967295 → IsSpelled version (lines_of ss)
+up_to_spelled text version ss at rest u small =
+    let fits = up_to_fits text version ss at rest u small in
     let count = length_lines_of ss in
-    record { lines = u.spelled; few = omega (arith, fits.1, count) }
+    record { known = u.version_is; lines = u.spelled; few = omega (arith, fits.1, count) }
 
 -- refusals
 pub at_line : {X : Type 0} (P : X → List ℕ → Type 0) (Q : LogError → Type 0) (r : Refusal) (k : ℕ) (e : LogError) → IsRefusal P r → (IsRefused P → Q (Line k)) → Q NoMemory → e ≡ error_at r k → Q e
 at_line P Q Outside k e h f g i = subst Q (sym i) (f h)
 at_line P Q OutOfMemory k e h f g i = subst Q (sym i) g
 
-pub no_first_line : (text : List ℕ) → IsRefused (SpellsText first_line text) → IsFirstOutside text 1
+pub no_first_line : (text : List ℕ) → IsRefused (SpellsVersion text) → IsFirstOutside text 1
 no_first_line text h =
     record {
       front = [];
@@ -291,57 +317,62 @@ no_first_line text h =
       number_is = refl;
       before = inl refl;
       outside = λ l after e _ t.
-          h tt (sections_text 1 t.sections ++ after)
-          (e ∙ sym (append_assoc l (10 ∷ []) after) ∙ ap (λ x. x ++ after) t.text_is ∙ append_assoc first_line (sections_text 1 t.sections) after);
+          h t.version (sections_text 1 t.sections ++ after)
+          (record {
+            front = e ∙ sym (append_assoc l (10 ∷ []) after) ∙ ap (λ x. x ++ after) t.text_is ∙ append_assoc (first_line t.version) (sections_text 1 t.sections) after;
+            is = t.spelled.known;
+          });
     }
 
-not_line_there : (rest : List ℕ) → EndsSection rest → IsRefused (SpellsLine rest)
-not_line_there [] h l after s = let t = letter_front l [] after s in let e = t.1 in absurd (cc)
-not_line_there (b ∷ rest) h l after s = not_c l (letter_is b rest l after s ∙ h)
+not_line_there : (version : ℕ) (rest : List ℕ) → EndsSection rest → IsRefused (SpellsLine version rest)
+not_line_there version [] h l after s = let t = letter_front l [] after s.parts in let e = t.1 in absurd (cc)
+not_line_there version (b ∷ rest) h l after s = not_c l (letter_is b rest l after s.parts ∙ h)
 
 not_header_there : (rest : List ℕ) (k : ℕ) → (EndsSection rest → ⊥) → IsRefused (SpellsHeader k rest)
 not_header_there [] k h u after e = h tt
 not_header_there (b ∷ rest) k h u after e = h (head_is b 99 rest _ e)
 
-pub refused_after : (text : List ℕ) (ss : List Section) (at : ℕ) (rest : List ℕ) (e : LogError) → IsUpTo text ss at rest → 0 < length rest → length text < 4294967295
-    → IsSectionRefusal (length ss + 1) at rest e → IsLogRefusal text e
-refused_after text ss at rest NoMemory u some small h = tt
-refused_after text ss at rest (Line k) u some small (inl h) =
-    let fits = up_to_fits text ss at rest u small in
+pub refused_after : (text : List ℕ) (version : ℕ) (ss : List Section) (at : ℕ) (rest : List ℕ) (e : LogError) → IsUpTo text version ss at rest → 0 < length rest → length text < 4294967295
+    → IsSectionRefusal version (length ss + 1) at rest e → IsLogRefusal text e
+refused_after text version ss at rest NoMemory u some small h = tt
+refused_after text version ss at rest (Line k) u some small (inl h) =
+    let fits = up_to_fits text version ss at rest u small in
     let n : length ss ≡ length (lines_of ss) = sym (length_lines_of ss) in
-    let spelled = up_to_spelled text ss at rest u small in
+    let spelled = up_to_spelled text version ss at rest u small in
     record {
-      front = log_text (lines_of ss);
+      front = log_text version (lines_of ss);
       rest = rest;
       whole = u.front;
       number_is = h.0 ∙ fits.2;
-      before = inr (record { sections = lines_of ss; text_is = refl; spelled = spelled }, λ e. let z = ap length e in omega (arith, z, some));
-      outside = λ l after e _ t. outside_after (lines_of ss) rest spelled (subst (λ j. IsRefused (SpellsHeader (j + 1) rest)) n h.1) (λ ne. not_line_there rest (u.ends ne)) l after e t;
+      before = inr (record { version = version; sections = lines_of ss; text_is = refl; spelled = spelled }, λ e. let z = ap length e in omega (arith, z, some));
+      outside = λ l after e _ t.
+          outside_after version (lines_of ss) rest spelled (subst (λ j. IsRefused (SpellsHeader (j + 1) rest)) n h.1) (λ ne. not_line_there version rest (u.ends ne)) l after e t;
     }
-refused_after text ss at rest (Line k) u some small (inr h) =
-    let fits = up_to_fits text ss at rest u small in
+refused_after text version ss at rest (Line k) u some small (inr h) =
+    let fits = up_to_fits text version ss at rest u small in
     let n : length ss ≡ length (lines_of ss) = sym (length_lines_of ss) in
     let count = length_lines_of ss in
     let all = lines_of ss ++ h.lines ∷ [] in
-    let whole : text ≡ log_text all ++ h.rest =
-    u.front ∙ ap (λ x. log_text (lines_of ss) ++ x) (h.front ∙ ap (λ j. section_text (j + 1) h.lines ++ h.rest) n)
-    ∙ sym (append_assoc (log_text (lines_of ss)) (section_text (length (lines_of ss) + 1) h.lines) h.rest) ∙ ap (λ x. x ++ h.rest) (sym (log_push (lines_of ss) h.lines)) in
+    let whole : text ≡ log_text version all ++ h.rest =
+    u.front ∙ ap (λ x. log_text version (lines_of ss) ++ x) (h.front ∙ ap (λ j. section_text (j + 1) h.lines ++ h.rest) n)
+    ∙ sym (append_assoc (log_text version (lines_of ss)) (section_text (length (lines_of ss) + 1) h.lines) h.rest) ∙ ap (λ x. x ++ h.rest) (sym (log_push version (lines_of ss) h.lines)) in
     let length_all : length all ≡ length (lines_of ss) + 1 = length-append (lines_of ss) (h.lines ∷ []) in
-    let spelled : IsSpelled all = record {
-      lines = All-push (λ s. All IsSpelledLine s) (lines_of ss) h.lines u.spelled h.spelled;
+    let spelled : IsSpelled version all = record {
+      known = u.version_is;
+      lines = All-push (λ s. All (IsSpelledLine version) s) (lines_of ss) h.lines u.spelled h.spelled;
       few = omega (arith, length_all, count, fits.1);
     } in
-    let feeds : lines_before (log_text all) ≡ lines_before (log_text (lines_of ss)) + lines_before (section_text (length (lines_of ss) + 1) h.lines) =
-    ap lines_before (log_push (lines_of ss) h.lines) ∙ feeds_append (log_text (lines_of ss)) (section_text (length (lines_of ss) + 1) h.lines) in
-    let more = feeds_section (length (lines_of ss) + 1) h.lines (omega (arith, count, fits.1)) h.spelled in
+    let feeds : lines_before (log_text version all) ≡ lines_before (log_text version (lines_of ss)) + lines_before (section_text (length (lines_of ss) + 1) h.lines) =
+    ap lines_before (log_push version (lines_of ss) h.lines) ∙ feeds_append (log_text version (lines_of ss)) (section_text (length (lines_of ss) + 1) h.lines) in
+    let more = feeds_section version (length (lines_of ss) + 1) h.lines (omega (arith, count, fits.1)) h.spelled in
     let number = h.number_is in
     record {
-      front = log_text all;
+      front = log_text version all;
       rest = h.rest;
       whole = whole;
       number_is = omega (arith, number, fits.2, feeds, more);
-      before = inr (record { sections = all; text_is = refl; spelled = spelled }, λ e. h.more (subst EndsSection (sym e) tt));
-      outside = λ l after e _ t. outside_after all h.rest spelled (not_header_there h.rest (length all + 1) h.more) (λ _. h.refused) l after e t;
+      before = inr (record { version = version; sections = all; text_is = refl; spelled = spelled }, λ e. h.more (subst EndsSection (sym e) tt));
+      outside = λ l after e _ t. outside_after version all h.rest spelled (not_header_there h.rest (length all + 1) h.more) (λ _. h.refused) l after e t;
     }
 
 pub lines_fit : (number at : ℕ) (text rest : List ℕ) (ls : List LogLine) → text ≡ section_text number ls ++ rest → at + length text < 4294967296 → at + 1 + length ls < 4294967296

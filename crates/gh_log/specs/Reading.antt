@@ -1,5 +1,5 @@
 -- What the parts of the grammar spell at the front of a text, and what the reader answers for a part.
-use Rattle.std.specs.Prelude.{◌≡◌, ◌≢◌, ◌⊎◌, ⊤, ◌+◌, ◌-◌, ◌≤◌, ℕ, List, [], ◌∷◌, ◌++◌, length, take, replicate, false, All, Result, MatchResult}
+use Rattle.std.specs.Prelude.{◌≡◌, ◌≢◌, ◌⊎◌, ⊤, ◌+◌, ◌-◌, ◌≤◌, ℕ, List, [], ◌∷◌, ◌++◌, length, take, replicate, codes, false, All, Result, MatchResult}
 use Rattle.std.specs.List.{flat_map}
 use Rattle.std.specs.Fmt.{decimal}
 use Rattle.std.specs.Char.{is_ascii_digit}
@@ -13,8 +13,8 @@ use Rattle.gh_log.specs.declared.error.LogError.{LogError}
 use Rattle.gh_log.specs.declared.error.LogError.TheVariants.{Line, OutOfMemory as NoMemory}
 use Rattle.gh_log.specs.declared.error.Refusal.{Refusal}
 use Rattle.gh_log.specs.declared.error.Refusal.TheVariants.{Outside, OutOfMemory}
-use Rattle.gh_log.specs.Texts.{atom_text, sign_text, lits_text, term_text, line_text, header_text, section_text}
-use Rattle.gh_log.specs.Spelled.{IsSpelledAtom, AreSpelled, IsSpelledLine}
+use Rattle.gh_log.specs.Texts.{atom_text, sign_text, lits_text, term_text, numbers_text, line_end, line_text, header_text, section_text}
+use Rattle.gh_log.specs.Spelled.{IsSpelledAtom, AreSpelled, IsVersion, IsOfVersion, AreNumbers, HasSpelledParts, IsSpelledLine}
 
 -- the part spells nothing at the front
 abbrev pub IsRefused : {X : Type 0} → (X → List ℕ → Type 0) → Type 0
@@ -66,10 +66,23 @@ pub record SpellsLit (text : List ℕ) (l : Lit) (rest : List ℕ) : Type 0 wher
   pub spelled : IsSpelledAtom l.atom
   pub ends : EndsNumber rest
 
--- literals, and the end of the line
-pub record SpellsClause (text : List ℕ) (c : List Lit) (rest : List ℕ) : Type 0 where
-  pub front : text ≡ lits_text c ++ 10 ∷ rest
+-- literals, and what ends them
+pub record SpellsLits (end text : List ℕ) (c : List Lit) (rest : List ℕ) : Type 0 where
+  pub front : text ≡ lits_text c ++ (end ++ rest)
   pub spelled : AreSpelled c
+
+-- literals, and the end of the line
+abbrev pub SpellsClause : List ℕ → List Lit → List ℕ → Type 0
+SpellsClause = SpellsLits line_end
+
+-- literals, and the sign before hints
+abbrev pub SpellsShown : List ℕ → List Lit → List ℕ → Type 0
+SpellsShown = SpellsLits (codes " ;")
+
+-- numbers within 32 bits, each after a space, and the end of the line
+pub record SpellsNumbers (text ns rest : List ℕ) : Type 0 where
+  pub front : text ≡ numbers_text ns ++ 10 ∷ rest
+  pub within : AreNumbers ns
 
 -- terms after k earlier ones, four at most, and the end of the line
 pub record SpellsTerms (k : ℕ) (text : List ℕ) (tuple : List Term) (rest : List ℕ) : Type 0 where
@@ -83,9 +96,22 @@ pub record ArePadded (terms : List Term) (arity : ℕ) : Type 0 where
   pub four : length terms ≡ 4
   pub zeros : terms ≡ take arity terms ++ replicate (4 - arity) (term 0)
 
-pub record SpellsLine (text : List ℕ) (l : LogLine) (rest : List ℕ) : Type 0 where
+-- a line of a log of some version
+pub record SpellsParts (text : List ℕ) (l : LogLine) (rest : List ℕ) : Type 0 where
   pub front : text ≡ line_text l ++ rest
-  pub spelled : IsSpelledLine l
+  pub spelled : HasSpelledParts l
+
+pub record SpellsLine (version : ℕ) (text : List ℕ) (l : LogLine) (rest : List ℕ) : Type 0 where
+  pub of_version : IsOfVersion version l
+  pub parts : SpellsParts text l rest
+
+-- the first line of a log
+abbrev pub first_line : ℕ → List ℕ
+first_line version = codes "grass log " ++ decimal version ++ line_end
+
+pub record SpellsVersion (text : List ℕ) (version : ℕ) (rest : List ℕ) : Type 0 where
+  pub front : text ≡ first_line version ++ rest
+  pub is : IsVersion version
 
 abbrev pub SpellsHeader : ℕ → List ℕ → Unit {0} → List ℕ → Type 0
 SpellsHeader number text u rest = text ≡ header_text number ++ rest
@@ -96,26 +122,27 @@ EndsSection [] = ⊤
 EndsSection (b ∷ rest) = b ≡ 99
 
 -- a section whose header is the file's line k
-pub record SpellsSection (number k : ℕ) (text : List ℕ) (s : Section) (rest : List ℕ) : Type 0 where
+pub record SpellsSection (version number k : ℕ) (text : List ℕ) (s : Section) (rest : List ℕ) : Type 0 where
   pub front : text ≡ section_text number s.lines.items ++ rest
-  pub spelled : All IsSpelledLine s.lines.items
+  pub spelled : All (IsSpelledLine version) s.lines.items
   pub first : s.first ≡ k + 1
   pub ends : EndsSection rest
 
 -- after some lines of a section comes one that can't be there
-pub record IsStuck (number k : ℕ) (text : List ℕ) (stuck : ℕ) : Type 0 where
+pub record IsStuck (version number k : ℕ) (text : List ℕ) (stuck : ℕ) : Type 0 where
   pub lines : List LogLine
   pub rest : List ℕ
   pub front : text ≡ section_text number lines ++ rest
-  pub spelled : All IsSpelledLine lines
+  pub spelled : All (IsSpelledLine version) lines
   pub number_is : stuck ≡ k + 1 + length lines
   pub more : EndsSection rest → ⊥
-  pub refused : IsRefused (SpellsLine rest)
+  pub refused : IsRefused (SpellsLine version rest)
 
 -- the header's line or one of the section's is outside the grammar
-abbrev pub IsSectionRefusal : ℕ → ℕ → List ℕ → LogError → Type 0
-IsSectionRefusal number k text (Line stuck) = ((stuck ≡ k) × IsRefused (SpellsHeader number text)) ⊎ IsStuck number k text stuck
-IsSectionRefusal number k text NoMemory = ⊤
+abbrev pub IsSectionRefusal : ℕ → ℕ → ℕ → List ℕ → LogError → Type 0
+IsSectionRefusal version number k text (Line stuck) =
+    ((stuck ≡ k) × IsRefused (SpellsHeader number text)) ⊎ IsStuck version number k text stuck
+IsSectionRefusal version number k text NoMemory = ⊤
 
 abbrev pub error_at : Refusal → ℕ → LogError
 error_at Outside line = Line line

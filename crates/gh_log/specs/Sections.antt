@@ -1,57 +1,104 @@
 -- The lines of a section, and when it is valid for a list of clauses with its numbers of terms, versions and definitions.
-use Rattle.std.specs.Prelude.{◌≡◌, ◌⊎◌, ◌<◌, ℕ, List, [], ◌∷◌, ◌++◌, map, take, length, slice_get, slice_index_or, Some, All}
+use Rattle.std.specs.Prelude.{◌≡◌, ◌⊎◌, ⊤, ◌+◌, ◌<◌, ℕ, List, [], ◌∷◌, ◌++◌, take, length, slice_get, slice_index_or, Option, Some, None, All, Contains, filter_map, AllPairs, ◌≢◌}
 use Rattle.gh_base.specs.declared.atom.Lit.{Lit}
 use Rattle.gh_base.specs.Atoms.{AreInRange}
 use Rattle.gh_base.specs.Grounds.{Problem}
 use Rattle.gh_base.specs.Meaning.{Interpretation, IsCongruence, IsClauseTrue, IsEqualityClause}
 use Rattle.gh_base.specs.Propagation.{FollowsByUnits}
+use Rattle.gh_base.specs.Hints.{IsShownByHints}
 use Rattle.gh_inst.specs.Instances.{IsInstance, clause_of}
 use Rattle.gh_inst.specs.Violations.{AreInstancesTrue}
 use Rattle.gh_log.specs.declared.lines.LogLine.{LogLine}
 use Rattle.gh_log.specs.declared.lines.LogLine.TheVariants as line
 
--- that of an instance or of a ground clause, or the line's own
-abbrev pub line_clause : Problem → LogLine → List Lit
-line_clause p (line.Axiom name) = clause_of name
-line_clause p (line.Clause k) = slice_index_or p.clauses k []
-line_clause p (line.Lemma c) = c
-line_clause p (line.Learnt c) = c
+-- that of an instance or of a ground clause, or the line's own; a deletion has none
+abbrev pub line_clause : Problem → LogLine → Option (List Lit)
+line_clause p (line.Axiom name) = Some (clause_of name)
+line_clause p (line.Clause k) = Some (slice_index_or p.clauses k [])
+line_clause p (line.Lemma c) = Some c
+line_clause p (line.Learnt c) = Some c
+line_clause p (line.Hinted c hints) = Some c
+line_clause p (line.Delete positions) = None
 
--- a line is of its kind, after lines with these clauses
-abbrev pub IsOfKind : Problem → List (List Lit) → LogLine → Type 0
+-- the clauses of the lines that have one, in order
+abbrev pub clauses_of : Problem → List LogLine → List (List Lit)
+clauses_of p lines = filter_map (line_clause p) lines
+
+abbrev pub Deletes : LogLine → ℕ → Type 0
+Deletes (line.Delete positions) k = Contains positions.items k
+Deletes _ k = ⊥
+
+-- the line at the position, counted from 1, has this clause
+pub record HasClauseAt (p : Problem) (lines : List LogLine) (position : ℕ) (clause : List Lit) : Type 0 where
+  pub place : ℕ
+  pub position_is : position ≡ place + 1
+  pub line : LogLine
+  pub at : slice_get lines place ≡ Some line
+  pub has : line_clause p line ≡ Some clause
+
+-- the position is that of a line with a clause which no line deletes
+pub record Stands (p : Problem) (lines : List LogLine) (position : ℕ) : Type 0 where
+  pub clause : List Lit
+  pub there : HasClauseAt p lines position clause
+  pub kept : All (λ l. Deletes l position → ⊥) lines
+
+abbrev pub AllStand : Problem → List LogLine → List ℕ → Type 0
+AllStand p lines positions = All (Stands p lines) positions
+
+-- the clauses at the positions, one by one
+abbrev pub AreAt : Problem → List LogLine → List ℕ → List (List Lit) → Type 0
+AreAt p lines [] [] = ⊤
+AreAt p lines [] (c ∷ cs) = ⊥
+AreAt p lines (k ∷ ks) [] = ⊥
+AreAt p lines (k ∷ ks) (c ∷ cs) = HasClauseAt p lines k c × AreAt p lines ks cs
+
+-- the clauses at the hints, which all stand, show the clause by unit propagation in their order
+pub record IsHinted (p : Problem) (earlier : List LogLine) (clause : List Lit) (hints : List ℕ) : Type 0 where
+  pub stand : AllStand p earlier hints
+  pub clauses : List (List Lit)
+  pub at : AreAt p earlier hints clauses
+  pub shown : IsShownByHints clauses clause
+
+-- a line is of its kind, after these lines
+abbrev pub IsOfKind : Problem → List LogLine → LogLine → Type 0
 IsOfKind p earlier (line.Axiom name) = IsInstance p.sizes.terms p.sizes.versions name
 IsOfKind p earlier (line.Clause k) = k < length p.clauses
 IsOfKind p earlier (line.Lemma c) = IsEqualityClause p.sizes c
-IsOfKind p earlier (line.Learnt c) = AreInRange p.sizes c × FollowsByUnits earlier c
+IsOfKind p earlier (line.Learnt c) = AreInRange p.sizes c × FollowsByUnits (clauses_of p earlier) c
+IsOfKind p earlier (line.Hinted c hints) = AreInRange p.sizes c × IsHinted p earlier c hints.items
+IsOfKind p earlier (line.Delete positions) = AllStand p earlier positions.items × AllPairs ◌≢◌ positions.items
 
 -- each line is of its kind, after the lines before it
 abbrev pub AreOfKind : Problem → List LogLine → Type 0
-AreOfKind p lines = (i : ℕ) (l : LogLine) → slice_get lines i ≡ Some l → IsOfKind p (map (line_clause p) (take i lines)) l
+AreOfKind p lines = (i : ℕ) (l : LogLine) → slice_get lines i ≡ Some l → IsOfKind p (take i lines) l
 
--- the last line's clause is empty
+-- the last line has a clause, and that is empty
 abbrev pub EndsEmpty : Problem → List LogLine → Type 0
-EndsEmpty p lines = (before : List LogLine) × (last : LogLine) × (lines ≡ before ++ last ∷ []) × (line_clause p last ≡ [])
+EndsEmpty p lines = (before : List LogLine) × (last : LogLine) × (lines ≡ before ++ last ∷ []) × (line_clause p last ≡ Some [])
 
 pub record IsValidSection (p : Problem) (lines : List LogLine) : Type 0 where
   pub of_kind : AreOfKind p lines
   pub ends : EndsEmpty p lines
 
--- the number of the fault of a line that isn't of its kind
-abbrev pub fault_of : LogLine → ℕ
-fault_of (line.Axiom name) = 1
-fault_of (line.Clause k) = 2
-fault_of (line.Lemma c) = 3
-fault_of (line.Learnt c) = 4
+-- the number of the fault of a line that isn't of its kind after these lines
+abbrev pub IsFaultOf : Problem → List LogLine → LogLine → ℕ → Type 0
+IsFaultOf p earlier (line.Axiom name) number = number ≡ 1
+IsFaultOf p earlier (line.Clause k) number = number ≡ 2
+IsFaultOf p earlier (line.Lemma c) number = number ≡ 3
+IsFaultOf p earlier (line.Learnt c) number = number ≡ 4
+IsFaultOf p earlier (line.Hinted c hints) number =
+    (AllStand p earlier hints.items × (number ≡ 4)) ⊎ ((AllStand p earlier hints.items → ⊥) × (number ≡ 6))
+IsFaultOf p earlier (line.Delete positions) number = number ≡ 6
 
 -- a line that isn't of its kind, after lines that are
 pub record IsFirstFaulty (p : Problem) (lines : List LogLine) (number place : ℕ) : Type 0 where
   pub line : LogLine
   pub at : slice_get lines place ≡ Some line
   pub earlier : AreOfKind p (take place lines)
-  pub faulty : IsOfKind p (map (line_clause p) (take place lines)) line → ⊥
-  pub number_is : number ≡ fault_of line
+  pub faulty : IsOfKind p (take place lines) line → ⊥
+  pub number_is : IsFaultOf p (take place lines) line number
 
--- every line is of its kind, and there is none or the last one's clause isn't empty
+-- every line is of its kind, and there is none or the last one has no clause or one that isn't empty
 pub record HasNoEnd (p : Problem) (lines : List LogLine) (number place : ℕ) : Type 0 where
   pub of_kind : AreOfKind p lines
   pub no_end : EndsEmpty p lines → ⊥

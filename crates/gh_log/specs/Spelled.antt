@@ -32,14 +32,39 @@ pub record IsSpelledName (name : InstanceName) : Type 0 where
   pub terms : All (λ t. t.0 ≤ 255) (tuple_of name)
   pub padded : IsPadded name
 
-abbrev pub IsSpelledLine : LogLine → Type 0
-IsSpelledLine (line.Axiom name) = IsSpelledName name
-IsSpelledLine (line.Clause k) = k ≤ 4294967295
-IsSpelledLine (line.Lemma c) = AreSpelled c
-IsSpelledLine (line.Learnt c) = AreSpelled c
+abbrev pub IsVersion : ℕ → Type 0
+IsVersion version = (version ≡ 1) ⊎ (version ≡ 2)
 
-pub record IsSpelled (sections : List (List LogLine)) : Type 0 where
-  pub lines : All (λ s. All IsSpelledLine s) sections
+-- lines that all earlier ones show are of version 1 alone, those with hints and deletions of version 2 alone
+abbrev pub IsOfVersion : ℕ → LogLine → Type 0
+IsOfVersion version (line.Learnt c) = version ≡ 1
+IsOfVersion version (line.Hinted c hints) = version ≡ 2
+IsOfVersion version (line.Delete positions) = version ≡ 2
+IsOfVersion version _ = ⊤
+
+abbrev pub AreOfVersion : ℕ → List (List LogLine) → Type 0
+AreOfVersion version sections = All (λ s. All (IsOfVersion version) s) sections
+
+-- numbers within 32 bits
+abbrev pub AreNumbers : List ℕ → Type 0
+AreNumbers ns = All (λ n. n ≤ 4294967295) ns
+
+-- the grammar can spell the line's parts
+abbrev pub HasSpelledParts : LogLine → Type 0
+HasSpelledParts (line.Axiom name) = IsSpelledName name
+HasSpelledParts (line.Clause k) = k ≤ 4294967295
+HasSpelledParts (line.Lemma c) = AreSpelled c
+HasSpelledParts (line.Learnt c) = AreSpelled c
+HasSpelledParts (line.Hinted c hints) = AreSpelled c × AreNumbers hints.items
+HasSpelledParts (line.Delete positions) = AreNumbers positions.items
+
+-- a line of a log of this version
+abbrev pub IsSpelledLine : ℕ → LogLine → Type 0
+IsSpelledLine version l = IsOfVersion version l × HasSpelledParts l
+
+pub record IsSpelled (version : ℕ) (sections : List (List LogLine)) : Type 0 where
+  pub known : IsVersion version
+  pub lines : All (λ s. All (IsSpelledLine version) s) sections
   pub few : length sections ≤ 4294967295
 
 abbrev pub lines_of : List Section → List (List LogLine)
@@ -50,11 +75,12 @@ abbrev pub ArePlaced : ℕ → List Section → Type 0
 ArePlaced k [] = ⊤
 ArePlaced k (s ∷ ss) = (s.first ≡ k + 1) × ArePlaced (k + 1 + length s.lines.items) ss
 
--- the text of a log that the grammar can spell
+-- the text of a log of either version that the grammar can spell
 pub record IsLogText (text : List ℕ) : Type 0 where
+  pub version : ℕ
   pub sections : List (List LogLine)
-  pub text_is : text ≡ log_text sections
-  pub spelled : IsSpelled sections
+  pub text_is : text ≡ log_text version sections
+  pub spelled : IsSpelled version sections
 
 abbrev pub lines_before : List ℕ → ℕ
 lines_before front = count_by (λ b. nat_eq b 10) front

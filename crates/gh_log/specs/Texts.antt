@@ -38,11 +38,17 @@ lits_text lits = flat_map (λ l. codes " " ++ sign_text l ++ atom_text l.atom) l
 abbrev pub term_text : Term → List ℕ
 term_text t = codes " " ++ decimal t.0
 
+-- each number after a space
+abbrev pub numbers_text : List ℕ → List ℕ
+numbers_text ns = flat_map (λ n. codes " " ++ decimal n) ns
+
 abbrev pub line_text : LogLine → List ℕ
 line_text (line.Axiom name) = codes "a " ++ decimal name.row ++ codes " " ++ decimal name.version ++ flat_map term_text (tuple_of name) ++ line_end
 line_text (line.Clause k) = codes "g " ++ decimal k ++ line_end
 line_text (line.Lemma c) = codes "e" ++ lits_text c ++ line_end
 line_text (line.Learnt c) = codes "l" ++ lits_text c ++ line_end
+line_text (line.Hinted c hints) = codes "l" ++ lits_text c ++ codes " ;" ++ numbers_text hints.items ++ line_end
+line_text (line.Delete positions) = codes "d" ++ numbers_text positions.items ++ line_end
 
 -- the first line of a section
 abbrev pub header_text : ℕ → List ℕ
@@ -56,5 +62,6 @@ abbrev pub sections_text : ℕ → List (List LogLine) → List ℕ
 sections_text k [] = []
 sections_text k (s ∷ ss) = section_text k s ++ sections_text (suc k) ss
 
-abbrev pub log_text : List (List LogLine) → List ℕ
-log_text ss = codes "grass log 1" ++ line_end ++ sections_text 1 ss
+-- a log of this version
+abbrev pub log_text : ℕ → List (List LogLine) → List ℕ
+log_text version ss = codes "grass log " ++ decimal version ++ line_end ++ sections_text 1 ss

@@ -50,6 +50,14 @@ impl From<AllocError> for Refusal {
     }
 }
 
+impl<T: Drop> From<AllocFailed<T>> for Refusal {
+    ghost from_gives = { λ _ e. e ≡ NoMemory };
+
+    fn from(_: AllocFailed<T>) -> Self {
+        Refusal::OutOfMemory
+    }
+}
+
 impl Refusal {
     /// The error where it is in this line.
     pub(crate) fn at(self, line: u32) -> LogError

@@ -9,7 +9,8 @@ pub fn valid_sections_refute()
     ensures { ValidSectionsRefute }
 {}
 
-/// A text is that of at most one list of sections that the grammar can spell.
+/// A text is that of at most one log that the grammar can spell: its version is determined, and its lines are, where
+/// positions are compared as lists.
 pub fn texts_are_one()
     ensures { HaveOneText }
 {}

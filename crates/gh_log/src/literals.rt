@@ -1,7 +1,7 @@
 //! Atoms, literals and clauses in a text.
 
 ghost use Rattle.std.specs.Prelude.{◌∷◌, [], IfOk};
-ghost use Rattle.gh_log.specs.Reading.{IsRead, SpellsAtom, SpellsLit, SpellsClause, SpellsBytes};
+ghost use Rattle.gh_log.specs.Reading.{IsRead, SpellsAtom, SpellsLit, SpellsClause, SpellsShown, SpellsNumbers, SpellsBytes};
 
 use crate::cursor::Reader;
 use crate::error::Refusal;
@@ -112,6 +112,38 @@ impl<'t> Reader<'t> {
                 return Err(Refusal::Outside);
             }
             clause.push(self.lit()?)?;
+        }
+    }
+
+    /// Reads literals, each after a space, to the sign before hints.
+    pub fn shown(&mut self, alloc: Global) -> Result<Clause, Refusal>
+        ensures { IsRead (SpellsShown self.old.rest.now) (λ c. c) result self.new.rest.now }
+    {
+        let mut clause = Clause::new(alloc);
+        'literals: loop {
+            if !self.take(b' ') {
+                return Err(Refusal::Outside);
+            }
+            if self.take(b';') {
+                return Ok(clause);
+            }
+            clause.push(self.lit()?)?;
+        }
+    }
+
+    /// Reads numbers, each after a space, to the end of the line.
+    pub fn numbers(&mut self, alloc: Global) -> Result<Vec<u32>, Refusal>
+        ensures { IsRead (SpellsNumbers self.old.rest.now) (λ v. v.items) result self.new.rest.now }
+    {
+        let mut numbers = Vec::new(alloc);
+        'numbers: loop {
+            if self.take(b'\n') {
+                return Ok(numbers);
+            }
+            if !self.take(b' ') {
+                return Err(Refusal::Outside);
+            }
+            numbers.push(self.number(u32::MAX)?)?;
         }
     }
 }

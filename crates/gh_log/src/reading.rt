@@ -1,10 +1,10 @@
 //! Reading a log.
 
-ghost use Rattle.std.specs.Prelude.{◌≡◌, ◌+◌, ◌<◌, ◌≤◌, ◌^◌, ◌∷◌, take, length, IfOk, IfErr};
+ghost use Rattle.std.specs.Prelude.{◌≡◌, ◌⊎◌, ◌+◌, ◌<◌, ◌≤◌, ◌^◌, ◌∷◌, take, length, IfOk, IfErr};
 ghost use Rattle.gh_log.specs.Texts.{log_text};
-ghost use Rattle.gh_log.specs.Spelled.{IsSpelled, ArePlaced, IsLogRefusal, lines_of};
+ghost use Rattle.gh_log.specs.Spelled.{IsVersion, IsSpelled, ArePlaced, IsLogRefusal, lines_of};
 ghost use Rattle.gh_log.specs.declared.lines.LogLine.TheVariants.{Axiom, Clause as Ground};
-ghost use Rattle.gh_log.specs.Reading.{IsRead, SpellsTerms, ArePadded, SpellsLine, SpellsHeader, EndsSection, SpellsSection, IsSectionRefusal};
+ghost use Rattle.gh_log.specs.Reading.{IsRead, SpellsTerms, ArePadded, SpellsParts, SpellsLine, SpellsVersion, SpellsHeader, EndsSection, SpellsSection, IsSectionRefusal};
 ghost use Rattle.std.specs.Bool.{MatchBool};
 
 use crate::cursor::Reader;
@@ -13,6 +13,15 @@ use crate::lines::{Log, LogLine, Section};
 use gh_base::atom::Term;
 use gh_inst::naming::InstanceName;
 use std::alloc::Global;
+
+// The version in which clauses are shown by all earlier lines.
+const WITHOUT_HINTS: u8 = 1;
+
+// The version in which clauses are shown along hints, and lines are deleted.
+const WITH_HINTS: u8 = 2;
+
+// The last version there is.
+const LAST_VERSION: u32 = 2;
 
 impl<'t> Reader<'t> {
     // Reads up to four terms, each after a space, to the end of the line, and counts them.
@@ -35,7 +44,7 @@ impl<'t> Reader<'t> {
 
     // Reads the name of an instance after the letter of its line, to the end of the line.
     fn name(&mut self) -> Result<InstanceName, Refusal>
-        ensures { IsRead (λ n. SpellsLine (97 ∷ self.old.rest.now) (Axiom n)) (λ n. n) result self.new.rest.now }
+        ensures { IsRead (λ n. SpellsParts (97 ∷ self.old.rest.now) (Axiom n)) (λ n. n) result self.new.rest.now }
     {
         let (row, version) = self.pair(b' ')?;
         let (terms, arity) = self.terms()?;
@@ -52,7 +61,7 @@ impl<'t> Reader<'t> {
 
     // Reads the number of a ground clause after the letter of its line, to the end of the line.
     fn ground(&mut self) -> Result<u32, Refusal>
-        ensures { IsRead (λ k. SpellsLine (103 ∷ self.old.rest.now) (Ground k)) (λ k. k) result self.new.rest.now }
+        ensures { IsRead (λ k. SpellsParts (103 ∷ self.old.rest.now) (Ground k)) (λ k. k) result self.new.rest.now }
     {
         if !self.take(b' ') {
             return Err(Refusal::Outside);
@@ -64,9 +73,34 @@ impl<'t> Reader<'t> {
         Ok(number)
     }
 
-    // Reads a line of a section.
-    fn line(&mut self, alloc: Global) -> Result<LogLine, Refusal>
-        ensures { IsRead (SpellsLine self.old.rest.now) (λ l. l) result self.new.rest.now }
+    // Reads a clause that earlier lines show, after the letter of its line, to the end of the line.
+    fn inferred(&mut self, alloc: Global, version: u8) -> Result<LogLine, Refusal>
+        requires { IsVersion version }
+        ensures { IsRead (SpellsLine version (108 ∷ self.old.rest.now)) (λ l. l) result self.new.rest.now }
+    {
+        if version == WITHOUT_HINTS {
+            return Ok(LogLine::Learnt(self.clause(alloc)?));
+        }
+        let clause = self.shown(alloc)?;
+        let hints = self.numbers(alloc)?;
+        Ok(LogLine::Hinted { clause, hints })
+    }
+
+    // Reads a deletion after the letter of its line, to the end of the line.
+    fn deletion(&mut self, alloc: Global, version: u8) -> Result<LogLine, Refusal>
+        ensures { IsRead (SpellsLine version (100 ∷ self.old.rest.now)) (λ l. l) result self.new.rest.now }
+    {
+        if version != WITH_HINTS {
+            return Err(Refusal::Outside);
+        }
+        let positions = self.numbers(alloc)?;
+        Ok(LogLine::Delete { positions })
+    }
+
+    // Reads a line of a section of a log of this version.
+    fn line(&mut self, alloc: Global, version: u8) -> Result<LogLine, Refusal>
+        requires { IsVersion version }
+        ensures { IsRead (SpellsLine version self.old.rest.now) (λ l. l) result self.new.rest.now }
     {
         match self.any()? {
             b'a' => Ok(LogLine::Axiom(self.name()?)),
@@ -74,9 +108,25 @@ impl<'t> Reader<'t> {
                 number: self.ground()?,
             }),
             b'e' => Ok(LogLine::Lemma(self.clause(alloc)?)),
-            b'l' => Ok(LogLine::Learnt(self.clause(alloc)?)),
+            b'l' => self.inferred(alloc, version),
+            b'd' => self.deletion(alloc, version),
             _ => Err(Refusal::Outside),
         }
+    }
+
+    // Reads the first line of a log.
+    fn version(&mut self) -> Result<u8, Refusal>
+        ensures { IsRead (SpellsVersion self.old.rest.now) (λ v. v) result self.new.rest.now }
+    {
+        self.expect(b"grass log ")?;
+        let version = self.number(LAST_VERSION)?;
+        if version == 0 {
+            return Err(Refusal::Outside);
+        }
+        if !self.take(b'\n') {
+            return Err(Refusal::Outside);
+        }
+        Ok(version as u8)
     }
 
     // Reads the first line of the section with this number.
@@ -104,17 +154,24 @@ impl<'t> Reader<'t> {
     }
 
     // Reads a section, whose first line is the file's with this number.
-    fn section(&mut self, alloc: Global, number: u32, at: u32) -> Result<Section, LogError>
-        requires { at + length self.old.rest.now < 2 ^ 32 }
-        ensures read { IfOk result (λ s. SpellsSection number at self.old.rest.now s self.new.rest.now) }
-        ensures refused { IfErr result (λ e. IsSectionRefusal number at self.old.rest.now e) }
+    fn section(
+        &mut self,
+        alloc: Global,
+        version: u8,
+        number: u32,
+        at: u32,
+    ) -> Result<Section, LogError>
+        requires version { IsVersion version }
+        requires small { at + length self.old.rest.now < 2 ^ 32 }
+        ensures read { IfOk result (λ s. SpellsSection version number at self.old.rest.now s self.new.rest.now) }
+        ensures refused { IfErr result (λ e. IsSectionRefusal version number at self.old.rest.now e) }
     {
         if let Err(refusal) = self.header(number) {
             return Err(refusal.at(at));
         }
         let mut lines = Vec::new(alloc);
         'lines: while !self.ends_section() {
-            match self.line(alloc) {
+            match self.line(alloc, version) {
                 Ok(line) => lines.push(line)?,
                 Err(refusal) => return Err(refusal.at(at + 1 + lines.len() as u32)),
             }
@@ -126,24 +183,26 @@ impl<'t> Reader<'t> {
     }
 }
 
-/// Reads a log. Otherwise the error has the number of the first line that is outside the grammar, from 1.
+/// Reads a log of either version. Otherwise the error has the number of the first line that is outside the grammar,
+/// from 1.
 pub fn read_log(alloc: Global, text: &[u8]) -> Result<Log, LogError>
     requires { length text.now < 4294967295 }
-    ensures text { IfOk result (λ log. text.now ≡ log_text (lines_of log.sections.items)) }
-    ensures spelled { IfOk result (λ log. IsSpelled (lines_of log.sections.items)) }
+    ensures text { IfOk result (λ log. text.now ≡ log_text log.version (lines_of log.sections.items)) }
+    ensures spelled { IfOk result (λ log. IsSpelled log.version (lines_of log.sections.items)) }
     ensures places { IfOk result (λ log. ArePlaced 2 log.sections.items) }
     ensures refused { IfErr result (λ e. IsLogRefusal text.now e) }
 {
     let mut reader = Reader { rest: text };
-    if let Err(refusal) = reader.expect(b"grass log 1\n") {
-        return Err(refusal.at(1));
-    }
+    let version = match reader.version() {
+        Ok(version) => version,
+        Err(refusal) => return Err(refusal.at(1)),
+    };
     let mut sections = Vec::new(alloc);
     let mut at = 2;
     'sections: while !reader.rest.is_empty() {
-        let section = reader.section(alloc, sections.len() as u32 + 1, at)?;
+        let section = reader.section(alloc, version, sections.len() as u32 + 1, at)?;
         at = section.first + section.lines.len() as u32;
         sections.push(section)?;
     }
-    Ok(Log { sections })
+    Ok(Log { version, sections })
 }

@@ -3,8 +3,8 @@
 ghost use Rattle.std.specs.Prelude.{◌≡◌, ◌∷◌, ◌++◌, [], take, codes, OnOk, IfOk};
 ghost use Rattle.std.specs.List.{flat_map};
 ghost use Rattle.std.specs.Fmt.{decimal};
-ghost use Rattle.gh_log.specs.Texts.{Adds, dotted, atom_text, sign_text, lits_text, term_text, line_text, section_text, log_text};
-ghost use Rattle.gh_log.specs.Spelled.{lines_of};
+ghost use Rattle.gh_log.specs.Texts.{Adds, dotted, atom_text, sign_text, lits_text, term_text, numbers_text, line_text, section_text, log_text};
+ghost use Rattle.gh_log.specs.Spelled.{IsVersion, AreOfVersion, lines_of};
 ghost use Rattle.gh_inst.specs.Instances.{tuple_of};
 
 use crate::lines::{Log, LogLine, Section};
@@ -101,14 +101,36 @@ fn put_lit(out: &mut Text, lit: Lit) -> Result<(), AllocError>
     Ok(())
 }
 
-// A letter, literals and the end of the line
-fn put_clause(out: &mut Text, letter: &[u8], lits: &[Lit]) -> Result<(), AllocError>
-    ensures { OnOk result (Adds out.old out.new (letter.now ++ lits_text lits.now ++ codes "\n")) }
+// A letter, literals and what ends them
+fn put_clause(out: &mut Text, letter: &[u8], lits: &[Lit], end: &[u8]) -> Result<(), AllocError>
+    ensures { OnOk result (Adds out.old out.new (letter.now ++ lits_text lits.now ++ end.now)) }
 {
     put(out, letter)?;
     for lit in lits {
         put_lit(out, *lit)?;
     }
+    put(out, end)?;
+    Ok(())
+}
+
+// Numbers, each after a space
+fn put_numbers(out: &mut Text, numbers: &[u32]) -> Result<(), AllocError>
+    ensures { OnOk result (Adds out.old out.new (numbers_text numbers.now)) }
+{
+    for number in numbers {
+        put(out, b" ")?;
+        put_number(out, *number as usize)?;
+    }
+    Ok(())
+}
+
+// A clause that hints show, and the end of the line
+fn put_hinted(out: &mut Text, lits: &[Lit], hints: &[u32]) -> Result<(), AllocError>
+    ensures { OnOk result (Adds out.old out.new
+        (codes "l" ++ lits_text lits.now ++ codes " ;" ++ numbers_text hints.now ++ codes "\n")) }
+{
+    put_clause(out, b"l", lits, b" ;")?;
+    put_numbers(out, hints)?;
     put(out, b"\n")?;
     Ok(())
 }
@@ -158,8 +180,14 @@ fn put_line(out: &mut Text, line: &LogLine) -> Result<(), AllocError>
             put_number(out, *number as usize)?;
             put(out, b"\n")?;
         }
-        LogLine::Lemma(clause) => put_clause(out, b"e", clause.lits())?,
-        LogLine::Learnt(clause) => put_clause(out, b"l", clause.lits())?,
+        LogLine::Lemma(clause) => put_clause(out, b"e", clause.lits(), b"\n")?,
+        LogLine::Learnt(clause) => put_clause(out, b"l", clause.lits(), b"\n")?,
+        LogLine::Hinted { clause, hints } => put_hinted(out, clause.lits(), hints.as_slice())?,
+        LogLine::Delete { positions } => {
+            put(out, b"d")?;
+            put_numbers(out, positions.as_slice())?;
+            put(out, b"\n")?;
+        }
     }
     Ok(())
 }
@@ -176,12 +204,16 @@ fn put_section(out: &mut Text, number: usize, section: &Section) -> Result<(), A
     Ok(())
 }
 
-/// The text of a log. The places of its sections don't matter.
+/// The text of a log of its version. The places of its sections don't matter.
 pub fn write_log(alloc: Global, log: &Log) -> Result<Text, AllocError>
-    ensures { IfOk result (λ text. text ≡ log_text (lines_of log.now.sections.items)) }
+    requires version { IsVersion log.now.version }
+    requires lines { AreOfVersion log.now.version (lines_of log.now.sections.items) }
+    ensures { IfOk result (λ text. text ≡ log_text log.now.version (lines_of log.now.sections.items)) }
 {
     let mut out = Text::new(alloc);
-    put(&mut out, b"grass log 1\n")?;
+    put(&mut out, b"grass log ")?;
+    put_number(&mut out, usize::from(log.version))?;
+    put(&mut out, b"\n")?;
     for (index, section) in log.sections.iter().enumerate() {
         put_section(&mut out, index + 1, section)?;
     }

@@ -4,10 +4,10 @@ use Rattle.std.specs.FinMap.{get, insert, remove}
 use Rattle.gh_ast.specs.Plain.{set, new, write, free, call, choice, loop, give, Statements, no_statements, statement_first, Procedure, Program}
 use Rattle.gh_ast.specs.declared.Expr.{Expr}
 use Rattle.gh_assert.specs.Heaps.{Heap, Splits}
-use Rattle.gh_assert.specs.Meaning.{Store, Meaning}
+use Rattle.gh_assert.specs.Meaning.{Store, Meaning, MeetsOneOf}
 use Rattle.gh_assert.specs.Walks.{Allocated}
 use Rattle.gh_assert.specs.Values.{result, Give, outcome, Gets}
-use Rattle.gh_ast.specs.Programs.{names, parameters_of, results_of, body_of, Declares, joined, ensured}
+use Rattle.gh_ast.specs.Programs.{names, parameters_of, results_of, body_of, Declares, joined}
 
 -- a procedure at work: its variables, and what it has still to do
 pub record Activation : Type 0 where
@@ -96,9 +96,9 @@ abbrev pub last_of : Config → List Config → Config
 last_of c [] = c
 last_of c (d ∷ ds) = last_of d ds
 
--- the heap is the frame and a heap that meets what the procedure gives
+-- the heap is the frame and a heap that meets one alternative of what the procedure gives
 abbrev pub EndsWell : Procedure → Heap → Config → Type 0
-EndsWell p frame c = (h : Heap) × Splits c.heap h frame × Meaning (ensured p) c.top.store h
+EndsWell p frame c = (h : Heap) × Splits c.heap h frame × MeetsOneOf p.gives c.top.store h
 
 pub record IsGoodRun (p : Procedure) (frame : Heap) (c : Config) (ds : List Config) : Type 0 where
   pub never_faults : (d : Config) → Contains (c ∷ ds) d → Fault d → ⊥

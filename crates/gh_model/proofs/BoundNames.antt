@@ -1,5 +1,6 @@
 -- Only variables of a condition's procedure have terms at its states.
-use Rattle.std.specs.Prelude.{◌≡◌, ◌⊎◌, ℕ, List, [], ◌∷◌, filter, Option, Some, None, Bool, true, false, cond, Contains}
+use Rattle.std.specs.Prelude.{◌≡◌, ◌⊎◌, ℕ, List, [], ◌∷◌, filter, Option, Some, None, Bool, true, false, cond, Contains, All}
+use Rattle.std.proofs.lemmas.List.Elements.{All-head, All-tail}
 use Rattle.std.proofs.Common.{refl, sym, subst, inl, inr}
 use Rattle.gh_ast.specs.declared.Operand.{Operand}
 use Rattle.gh_ast.specs.declared.Operand.TheVariants.{Null, Var}
@@ -11,7 +12,7 @@ use Rattle.gh_ast.specs.Programs.{Name, names, variable_names}
 use Rattle.gh_ast.specs.Names.{OperandIn, ExprIn, TestIn, TestsIn, FormulaIn, FormulasIn}
 use Rattle.gh_ast.proofs.Lists.{member_first, member_later, member_cases}
 use Rattle.gh_path.specs.Graphs.{Check, access, entry, loop_entry, returned, loop_end, PathStep, accessed, assume, assigned, made, written, freed, called, looped, answered}
-use Rattle.gh_path.specs.Terms.{with_value, Bindings, bound, all_bound, Terms, terms, used, used_as, followed, operand_used, expr_used, expr_term, exprs_used, exprs_terms, test_walked, tests_walked, walked, all_walked, moved_on, renewed, some_assigns, callee_in, call_walked, step_walked, no_terms}
+use Rattle.gh_path.specs.Terms.{with_value, Bindings, bound, all_bound, Terms, terms, used, used_as, followed, operand_used, expr_used, expr_term, exprs_used, exprs_terms, test_walked, tests_walked, walked, all_walked, moved_on, renewed, some_assigns, callee_in, call_walked, step_walked, no_terms, each_walked}
 use Rattle.gh_symb.specs.Symbolic.{step_used, check_used, used_first, first_use, either_term, state_bindings}
 use Rattle.gh_model.specs.BoundNames.{AreOf, AllAreOf, OnlyVariablesHaveTerms}
 use Rattle.gh_model.proofs.Growing.{bound_cases}
@@ -87,6 +88,11 @@ filter_of p (x ∷ xs) y c = by_test (filter_of p xs y) (p x) c
     ]
     by_test rest false d = member_later x y xs (rest d)
 
+-- alternatives
+each_of : (xs : List Name) (fs : List Formula) (s : Terms) → All (λ f. FormulaIn f xs) fs → AreOf xs s.bindings → AreOf xs (each_walked fs s).bindings
+each_of xs [] s c B = B
+each_of xs (f ∷ fs) s c B = each_of xs fs (walked f s) (All-tail (λ g. FormulaIn g xs) f fs c) (walked_of xs f s (All-head (λ g. FormulaIn g xs) f fs c) B)
+
 call_of : (xs : List Name) (o : Option Procedure) (ys : List Name) (ts : List ℕ) (s : Terms) → AllOf ys xs → AreOf xs s.bindings → AreOf xs (call_walked o ys ts s).bindings
 call_of xs None ys ts s A B = B
 call_of xs (Some p) ys ts s A B = all_bound_of xs s.bindings ys _ A B
@@ -119,7 +125,7 @@ check_used_of : (xs : List Name) (k : Check) (s : Terms) → CheckIn xs k → Ar
 check_used_of xs (access o) s c B = used_of xs o.name s c B
 check_used_of xs (entry f es) s c B = exprs_of xs es s c B
 check_used_of xs (loop_entry l) s c B = walked_of xs l.invariant s c B
-check_used_of xs (returned at f) s c B = walked_of xs f s c B
+check_used_of xs (returned at fs) s c B = each_of xs fs s c B
 check_used_of xs (loop_end l) s c B = walked_of xs l.invariant s c B
 
 pub first_cases : (o q r : Option ℕ) (t : ℕ) → used_first o q r ≡ Some t → (o ≡ Some t) ⊎ (r ≡ Some t)

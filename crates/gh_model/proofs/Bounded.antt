@@ -9,11 +9,11 @@ use Rattle.gh_ast.specs.declared.Expr.{Expr}
 use Rattle.gh_ast.specs.declared.Expr.TheVariants.{Plain, Read}
 use Rattle.gh_ast.specs.Plain.{Test, compare, negation, conjunction, disjunction, Tests, no_tests, test_first}
 use Rattle.gh_ast.specs.Plain.{Formula, empty, comparison, points_to, cell, segment, star, cases, Formulas, no_formulas, formula_first, Procedure, Program}
-use Rattle.gh_ast.specs.Programs.{Name, names, parameters_of, results_of, ensured}
+use Rattle.gh_ast.specs.Programs.{Name, names, parameters_of, results_of}
 use Rattle.gh_path.specs.Graphs as path
-use Rattle.gh_path.specs.Terms.{Kind, next, same_kind, added, with_value, Bindings, unbound, bound, all_bound, Terms, terms, used, used_as, term_of, followed, operand_used, expr_used, expr_term, exprs_used, exprs_terms, test_walked, tests_walked, walked, all_walked, moved_on, rebound, renewed, some_assigns, callee_in, bound_inside, answered_inside, call_walked, step_walked, steps_walked, entry_walked, check_walked}
+use Rattle.gh_path.specs.Terms.{Kind, next, same_kind, added, with_value, Bindings, unbound, bound, all_bound, Terms, terms, used, used_as, term_of, followed, operand_used, expr_used, expr_term, exprs_used, exprs_terms, test_walked, tests_walked, walked, all_walked, each_walked, moved_on, rebound, renewed, some_assigns, callee_in, bound_inside, answered_inside, call_walked, step_walked, steps_walked, entry_walked, check_walked}
 use Rattle.gh_symb.specs.Symbolic.{step_used}
-use Rattle.gh_model.proofs.Growing.{Within, Grows, stays, onto, bound_cases, used_bound, followed_there, used_grows, visited_grows, expr_grows, exprs_grow, walked_grows, place_there}
+use Rattle.gh_model.proofs.Growing.{Within, Grows, stays, onto, bound_cases, used_bound, followed_there, used_grows, visited_grows, expr_grows, exprs_grow, walked_grows, each_grows, place_there}
 use Rattle.gh_model.proofs.Inside.{with_results, renewed_within, renewed_version}
 
 -- null is listed, and each variable's term
@@ -182,12 +182,17 @@ inside_bounded p es s B =
     let C = exprs_bounded es s B in
     rebound_bounded T unbound (parameters_of p) (exprs_terms es T) (exprs_below es s T (stays T) C) C.some (λ y u e. absurd cc)
 
--- what a callee gives
-pub results_bounded : (p : Procedure) (s : Terms) → IsBounded s → IsBounded (walked (ensured p) (with_results p s))
-results_bounded p s B = walked_bounded (ensured p) (with_results p s) (renewed_bounded (results_of p) (moved_on (walked p.needs s)) (moved_bounded (walked p.needs s) (walked_bounded p.needs s B)))
+-- alternatives
+pub each_bounded : (fs : List Formula) (s : Terms) → IsBounded s → IsBounded (each_walked fs s)
+each_bounded [] s B = B
+each_bounded (f ∷ fs) s B = each_bounded fs (walked f s) (walked_bounded f s B)
 
-pub call_within : (p : Procedure) (r : Terms) → Within r.kinds (walked (ensured p) (with_results p r)).kinds
-call_within p r i k e = (walked_grows (ensured p) (with_results p r)).kinds i k (renewed_within (results_of p) (moved_on (walked p.needs r)) i k ((walked_grows p.needs r).kinds i k e))
+-- what a callee gives
+pub results_bounded : (p : Procedure) (s : Terms) → IsBounded s → IsBounded (each_walked p.gives (with_results p s))
+results_bounded p s B = each_bounded p.gives (with_results p s) (renewed_bounded (results_of p) (moved_on (walked p.needs s)) (moved_bounded (walked p.needs s) (walked_bounded p.needs s B)))
+
+pub call_within : (p : Procedure) (r : Terms) → Within r.kinds (each_walked p.gives (with_results p r)).kinds
+call_within p r i k e = (each_grows p.gives (with_results p r)).kinds i k (renewed_within (results_of p) (moved_on (walked p.needs r)) i k ((walked_grows p.needs r).kinds i k e))
 
 call_bounded : (o : Option Procedure) (ys : List Name) (es : List Expr) (s : Terms) → IsBounded s → IsBounded (call_walked o ys (exprs_terms es (exprs_used es s)) (exprs_used es s))
 call_bounded None ys es s B = exprs_bounded es s B
@@ -195,7 +200,7 @@ call_bounded (Some p) ys es s B =
     let T = exprs_used es s in
     let C = exprs_bounded es s B in
     let r = rebound T (bound_inside p (exprs_terms es T)) in
-    let after = walked (ensured p) (with_results p r) in
+    let after = each_walked p.gives (with_results p r) in
     let D = results_bounded p r (inside_bounded p es s B) in
     rebound_bounded after T.bindings ys (map (λ x. term_of x after) (results_of p)) (terms_below (results_of p) after D) D.some (λ y u e. still_below T.kinds after.kinds u (call_within p r) (C.below y u e))
 
@@ -236,7 +241,7 @@ step_bounded P xs (path.answered ys es) s B =
 
 -- versions
 inside_up : (p : Procedure) (ys : List Name) (b : Bindings) (s : Terms) → (answered_inside p ys b s).version ≡ s.version + 1
-inside_up p ys b s = (walked_grows (ensured p) (with_results p s)).version ∙ renewed_version (results_of p) (moved_on (walked p.needs s)) ∙ ap (λ i. i + 1) (walked_grows p.needs s).version
+inside_up p ys b s = (each_grows p.gives (with_results p s)).version ∙ renewed_version (results_of p) (moved_on (walked p.needs s)) ∙ ap (λ i. i + 1) (walked_grows p.needs s).version
 
 call_up : (o : Option Procedure) (ys : List Name) (ts : List ℕ) (s : Terms) → s.version ≤ (call_walked o ys ts s).version
 call_up None ys ts s = omega arith
@@ -267,5 +272,5 @@ pub check_version : (P : Program) (c : path.Check) (s : Terms) → (check_walked
 check_version P (path.access o) s = (used_grows o.name s).version
 check_version P (path.entry f es) s = entry_version (callee_in P.procedures f.name) (exprs_terms es (exprs_used es s)) (exprs_used es s) ∙ (exprs_grow es s).version
 check_version P (path.loop_entry l) s = (walked_grows l.invariant s).version
-check_version P (path.returned at f) s = (walked_grows f s).version
+check_version P (path.returned at fs) s = (each_grows fs s).version
 check_version P (path.loop_end l) s = (walked_grows l.invariant s).version

@@ -17,16 +17,17 @@ use Rattle.gh_path.specs.Terms.{Kind, next, Bindings, Terms, used, term_of, expr
 use Rattle.gh_grass.specs.Bindings.{term}
 use Rattle.gh_grass.specs.Claims.{Claim, negation_of}
 use Rattle.gh_grass.specs.Truth.{truth, AreTrue}
-use Rattle.gh_symb.specs.Symbolic.{under, needs_under, term_check, term_steps, check_used, first_use, either_term, state_bindings}
+use Rattle.gh_symb.specs.Symbolic.{under, each_under, needs_under, term_check, term_steps, check_used, first_use, either_term, state_bindings}
 use Rattle.gh_symb.specs.Formulas.{allocated, meets, meets_whole, check_claims}
 use Rattle.gh_trace.specs.Traces.{State, Passes, IsTrace, last_state}
 use Rattle.gh_trace.specs.Laws.{HasOwnNames}
 use Rattle.gh_model.specs.Structures.{Structure}
 use Rattle.gh_model.specs.Tells.{Tells, IsTold}
 use Rattle.gh_model.specs.TermValues.{version_after, HasStateValues, HaveValues}
-use Rattle.gh_model.proofs.Growing.{Within, Grows, stays, used_grows, exprs_grow, walked_grows}
+use Rattle.gh_model.proofs.Growing.{Within, Grows, stays, used_grows, exprs_grow, walked_grows, each_grows}
 use Rattle.gh_model.proofs.Naming.{Sound, listed, term_at, formula_named, exprs_values}
 use Rattle.gh_model.proofs.Inside.{inside_before}
+use Rattle.gh_model.proofs.Alternatives.{alternative_told, alternative_sound, Fails, none_met}
 use Rattle.gh_model.proofs.Told.{heaps_are_told}
 use Rattle.gh_model.proofs.TraceOwned.{callee_found, step_version, here, sound_from}
 use Rattle.gh_model.proofs.TraceValues.{HeapsAre}
@@ -53,7 +54,7 @@ used_check_grows : (c : path.Check) (s : Terms) → Grows s (check_used c s)
 used_check_grows (path.access o) s = used_grows o.name s
 used_check_grows (path.entry f es) s = exprs_grow es s
 used_check_grows (path.loop_entry l) s = walked_grows l.invariant s
-used_check_grows (path.returned at f) s = walked_grows f s
+used_check_grows (path.returned at fs) s = each_grows fs s
 used_check_grows (path.loop_end l) s = walked_grows l.invariant s
 
 entry_version : (o : Option Procedure) (ts : List ℕ) (t : Terms) → (entry_walked o ts t).version ≡ t.version
@@ -64,7 +65,7 @@ pub check_version : (P : Program) (c : path.Check) (s : Terms) → (check_walked
 check_version P (path.access o) s = (used_grows o.name s).version
 check_version P (path.entry f es) s = entry_version (callee_in P.procedures f.name) (exprs_terms es (exprs_used es s)) (exprs_used es s) ∙ (exprs_grow es s).version
 check_version P (path.loop_entry l) s = (walked_grows l.invariant s).version
-check_version P (path.returned at f) s = (walked_grows f s).version
+check_version P (path.returned at fs) s = (each_grows fs s).version
 check_version P (path.loop_end l) s = (walked_grows l.invariant s).version
 
 entry_more : (o : Option Procedure) (ts : List ℕ) (t : Terms) → Within t.kinds (entry_walked o ts t).kinds
@@ -75,7 +76,7 @@ used_within : (P : Program) (c : path.Check) (s : Terms) → Within (check_used 
 used_within P (path.access o) s = λ i k e. e
 used_within P (path.entry f es) s = entry_more (callee_in P.procedures f.name) (exprs_terms es (exprs_used es s)) (exprs_used es s)
 used_within P (path.loop_entry l) s = λ i k e. e
-used_within P (path.returned at f) s = λ i k e. e
+used_within P (path.returned at fs) s = λ i k e. e
 used_within P (path.loop_end l) s = λ i k e. e
 
 used_term : (P : Program) (xs : List Name) (c : path.Check) (s : Terms) (y : Name) (t : ℕ) → (check_used c s).bindings y ≡ Some t → here P xs [] c s y ≡ Some t
@@ -146,5 +147,8 @@ check_true P xs K V H M A N c s z i version w values at fails = by_check c s z i
         one_claim (reflection V M) (negation_of (allocated i (term t))) (off_test ((M i).alloc (value_at V t)) (λ a. fails ((T.alloc (z.store o.name) (listed V t (z.store o.name) is)).0 (sym (ap (M i).alloc (value_of V t (z.store o.name) is)) ∙ a))))
     by_check (path.entry f es) s z i version w values at fails S = entry_true P xs K V H M A N f es s z i values at S fails (callee_in P.procedures f.name) refl w
     by_check (path.loop_entry l) s z i version w values at fails S = one_claim (reflection V M) (negation_of (meets K (under l.invariant s))) (part_fails K V H M A z.store z.heap l.invariant s at S fails)
-    by_check (path.returned w' f) s z i version w values at fails S = one_claim (reflection V M) (negation_of (meets_whole K (under f s))) (whole_fails K V H M A z.store z.heap f s at S fails)
+    by_check (path.returned w' fs) s z i version w values at fails S = none_met (reflection V M) K i (each_under fs s) (λ u there.
+        let (f, t, is, W) = alternative_told fs s u there in
+        subst (Fails (reflection V M) K) (sym is)
+        (whole_fails K V H M A z.store z.heap f t (ap H W.first.version ∙ at) (alternative_sound K V z.store z.heap fs s f t W S) (λ met. fails (f, W.member, met))))
     by_check (path.loop_end l) s z i version w values at fails S = one_claim (reflection V M) (negation_of (meets_whole K (under l.invariant s))) (whole_fails K V H M A z.store z.heap l.invariant s at S fails)

@@ -25,7 +25,7 @@ use Rattle.gh_grass.specs.Truth.{HasEarlier, HaveEarlier, IsOneBefore}
 use Rattle.gh_grass.proofs.LawLemmas.{formulas_give_clauses}
 use Rattle.gh_path.specs.Terms.{Kind, null, value, next}
 use Rattle.gh_symb.specs.Symbolic.{Under, TermStep, accessed, assumed, same, written, made, freed, parts, TermCheck, access, sub, whole, Symbolic, symbolic_of}
-use Rattle.gh_symb.specs.Formulas.{allocated, variables, successor, within, meets, meets_whole, each, each_pair, leads, hops, succeeds, successor_claims, successors_from, version_claims, versions_claims, keeps, others_keep, written_claims, made_claims, freed_claims, kept, replaced_claims, step_claims, version_after, steps_claims, check_claims, claims, problem}
+use Rattle.gh_symb.specs.Formulas.{allocated, variables, successor, within, meets, meets_whole, each, each_pair, leads, hops, succeeds, successor_claims, successors_from, version_claims, versions_claims, keeps, others_keep, written_claims, made_claims, freed_claims, kept, placed_claims, kept_claims, alternatives_claims, parts_claims, step_claims, version_after, steps_claims, check_claims, claims, problem}
 use Rattle.gh_model.specs.Abstraction.{Satisfies, IsModelOf, TracesGiveModels}
 use Rattle.gh_model.proofs.Abstraction.{traces_satisfy}
 
@@ -132,18 +132,25 @@ plain_others n i x = plain_pairs n _ (λ z v. (tt, ((tt, tt), tt)))
 plain_kept : (i : ℕ) (u : Under) (z : Term) → HasEarlier 0 (kept i u z)
 plain_kept i u z = (tt, (plain_within u z, tt))
 
-plain_replaced : (ks : List Kind) (i : ℕ) (u q : Under) → Plain (replaced_claims ks i u q)
-plain_replaced ks i u q =
+plain_placed : (ks : List Kind) (i : ℕ) (u q : Under) → Plain (placed_claims ks i u q)
+plain_placed ks i u q =
     let n = length ks in
     let P : Term → Claim = λ z. negation_of (all_of (kept i u z ∷ within q z ∷ [])) in
     let Q : Term → Claim = λ z. equivalence_of (allocated (i + 1) z) (one_of (kept i u z ∷ within q z ∷ [])) in
-    let R : Term → Term → Claim = λ z v. one_of (negation_of (kept i u z) ∷ keeps i z v ∷ []) in
-    let both : List Claim = meets ks u ∷ meets ks q ∷ [] in
-    let a : Plain both = (plain_meets ks u, (plain_meets ks q, tt)) in
     let p : Plain (each n P) = plain_map P (terms_below n) (λ z. (plain_kept i u z, (plain_within q z, tt))) in
     let r : Plain (each n Q) = plain_map Q (terms_below n) (λ z. (tt, (plain_kept i u z, (plain_within q z, tt)))) in
-    let t : Plain (each_pair n R) = plain_pairs n R (λ z v. (plain_kept i u z, ((tt, tt), tt))) in
-    plain_append (both ++ each n P ++ each n Q) (each_pair n R) (plain_append (both ++ each n P) (each n Q) (plain_append both (each n P) a p) r) t
+    plain_append (meets ks q ∷ each n P) (each n Q) (plain_meets ks q, p) r
+
+plain_alternatives : (ks : List Kind) (i : ℕ) (u : Under) (qs : List Under) → Plain (alternatives_claims ks i u qs)
+plain_alternatives ks i u [] = (tt, tt)
+plain_alternatives ks i u (q ∷ []) = plain_placed ks i u q
+plain_alternatives ks i u (q ∷ r ∷ qs) = (plain_map (λ a. all_of (placed_claims ks i u a)) (q ∷ r ∷ qs) (plain_placed ks i u), tt)
+
+plain_parts : (ks : List Kind) (i : ℕ) (u : Under) (qs : List Under) → Plain (parts_claims ks i u qs)
+plain_parts ks i u qs =
+    let R : Term → Term → Claim = λ z v. one_of (negation_of (kept i u z) ∷ keeps i z v ∷ []) in
+    plain_append (meets ks u ∷ alternatives_claims ks i u qs) (kept_claims (length ks) i u) (plain_meets ks u, plain_alternatives ks i u qs)
+    (plain_pairs (length ks) R (λ z v. (plain_kept i u z, ((tt, tt), tt))))
 
 plain_written : (n i : ℕ) (x e : Term) → Plain (written_claims n i x e)
 plain_written n i x e =
@@ -169,8 +176,7 @@ plain_step ks i same = tt
 plain_step ks i (written x e) = plain_written (length ks) i _ _
 plain_step ks i (made l c) = plain_made (length ks) i _ _
 plain_step ks i (freed x) = plain_freed (length ks) i _
-plain_step ks i (parts u []) = tt
-plain_step ks i (parts u (q ∷ qs)) = plain_replaced ks i u q
+plain_step ks i (parts u qs) = plain_parts ks i u qs
 
 plain_steps : (ks : List Kind) (i : ℕ) (ss : List TermStep) → Plain (steps_claims ks i ss)
 plain_steps ks i [] = tt
@@ -180,7 +186,8 @@ plain_check : (ks : List Kind) (i : ℕ) (c : TermCheck) → Plain (check_claims
 plain_check ks i (access x) = (tt, tt)
 plain_check ks i (sub u) = (plain_meets ks u, tt)
 plain_check ks i (whole []) = tt
-plain_check ks i (whole (u ∷ us)) = (plain_whole ks u, tt)
+plain_check ks i (whole (u ∷ [])) = (plain_whole ks u, tt)
+plain_check ks i (whole (u ∷ v ∷ us)) = (plain_map (meets_whole ks) (u ∷ v ∷ us) (plain_whole ks), tt)
 
 plain_claims : (s : Symbolic) → Plain (claims s)
 plain_claims s =

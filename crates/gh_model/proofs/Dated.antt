@@ -9,13 +9,13 @@ use Rattle.gh_ast.specs.declared.Expr.{Expr}
 use Rattle.gh_ast.specs.declared.Expr.TheVariants.{Plain, Read}
 use Rattle.gh_ast.specs.Plain.{Test, compare, negation, conjunction, disjunction, Tests, no_tests, test_first}
 use Rattle.gh_ast.specs.Plain.{Formula, empty, comparison, points_to, cell, segment, star, cases, Formulas, no_formulas, formula_first, Procedure, Program}
-use Rattle.gh_ast.specs.Programs.{Name, names, results_of, variable_names, ensured}
+use Rattle.gh_ast.specs.Programs.{Name, names, results_of, variable_names}
 use Rattle.gh_ast.specs.Rules.{IsTyped}
 use Rattle.gh_assert.specs.Heaps.{Heap}
 use Rattle.gh_assert.specs.Walks.{succ}
 use Rattle.gh_path.specs.Graphs as path
 use Rattle.gh_path.specs.Conditions.{Condition, IsCondition}
-use Rattle.gh_path.specs.Terms.{Kind, next, same_kind, added, with_value, bound, Terms, terms, used, used_as, term_of, followed, operand_used, expr_used, exprs_used, exprs_terms, test_walked, tests_walked, walked, all_walked, moved_on, rebound, renewed, some_assigns, callee_in, bound_inside, call_walked, step_walked, steps_walked, entry_walked, check_walked, no_terms}
+use Rattle.gh_path.specs.Terms.{Kind, next, same_kind, added, with_value, bound, Terms, terms, used, used_as, term_of, followed, operand_used, expr_used, exprs_used, exprs_terms, test_walked, tests_walked, walked, all_walked, each_walked, moved_on, rebound, renewed, some_assigns, callee_in, bound_inside, call_walked, step_walked, steps_walked, entry_walked, check_walked, no_terms}
 use Rattle.gh_symb.specs.Symbolic.{term_steps, state_bindings, symbolic_of}
 use Rattle.gh_trace.specs.Traces.{State, IsTrace}
 use Rattle.gh_model.specs.TermValues.{version_after, HaveValues, AreTermValues}
@@ -104,13 +104,20 @@ renewed_up : (xs : List Name) (s : Terms) → UpToNow s → UpToNow (renewed xs 
 renewed_up [] s B = B
 renewed_up (x ∷ xs) s B = renewed_up xs (terms (with_value s.kinds) (bound s.bindings x (length s.kinds)) s.version) (value_up s.kinds s.version B)
 
--- what is walked, then new values in the next version, then what is walked in it
-both_up : (f g : Formula) (xs : List Name) (s : Terms) → UpToNow s → UpToNow (walked g (renewed xs (moved_on (walked f s))))
-both_up f g xs s B = walked_up g (renewed xs (moved_on (walked f s))) (renewed_up xs (moved_on (walked f s)) (moved_up (walked f s).kinds (walked f s).version (walked_up f s B)))
+-- alternatives
+each_up : (fs : List Formula) (s : Terms) → UpToNow s → UpToNow (each_walked fs s)
+each_up [] s B = B
+each_up (f ∷ fs) s B = each_up fs (walked f s) (walked_up f s B)
+
+-- what is walked, then new values in the next version
+then_up : (f : Formula) (xs : List Name) (s : Terms) → UpToNow s → UpToNow (renewed xs (moved_on (walked f s)))
+then_up f xs s B = renewed_up xs (moved_on (walked f s)) (moved_up (walked f s).kinds (walked f s).version (walked_up f s B))
 
 call_up : (o : Option Procedure) (xs : List Name) (ts : List ℕ) (s : Terms) → UpToNow s → UpToNow (call_walked o xs ts s)
 call_up None xs ts s B = B
-call_up (Some p) xs ts s B = both_up p.needs (ensured p) (results_of p) (rebound s (bound_inside p ts)) B
+call_up (Some p) xs ts s B =
+    let r = rebound s (bound_inside p ts) in
+    each_up p.gives (renewed (results_of p) (moved_on (walked p.needs r))) (then_up p.needs (results_of p) r B)
 
 step_up : (P : Program) (xs : List Name) (p : path.PathStep) (s : Terms) → UpToNow s → UpToNow (step_walked P xs p s)
 step_up P xs (path.accessed o) s B = visited_up o.name s B
@@ -120,7 +127,9 @@ step_up P xs (path.made x) s B = moved_up (with_value (with_value s.kinds)) s.ve
 step_up P xs (path.written x e) s B = moved_up (expr_used e (used x.name s)).kinds (expr_used e (used x.name s)).version (expr_up e (used x.name s) (used_up x.name s B))
 step_up P xs (path.freed x) s B = moved_up (used x.name s).kinds (used x.name s).version (used_up x.name s B)
 step_up P xs (path.called ys f es) s B = call_up (callee_in P.procedures f.name) (names ys) (exprs_terms es (exprs_used es s)) (exprs_used es s) (exprs_up es s B)
-step_up P xs (path.looped l) s B = both_up l.invariant l.invariant (filter (some_assigns l.body) xs) s B
+step_up P xs (path.looped l) s B =
+    let zs = filter (some_assigns l.body) xs in
+    walked_up l.invariant (renewed zs (moved_on (walked l.invariant s))) (then_up l.invariant zs s B)
 step_up P xs (path.answered ys es) s B = exprs_up es s B
 
 steps_up : (P : Program) (xs : List Name) (ps : List path.PathStep) (s : Terms) → UpToNow s → UpToNow (steps_walked P xs ps s)
@@ -135,7 +144,7 @@ check_up : (P : Program) (c : path.Check) (s : Terms) → UpToNow s → UpToNow 
 check_up P (path.access o) s B = used_up o.name s B
 check_up P (path.entry f es) s B = entry_up (callee_in P.procedures f.name) (exprs_terms es (exprs_used es s)) (exprs_used es s) (exprs_up es s B)
 check_up P (path.loop_entry l) s B = walked_up l.invariant s B
-check_up P (path.returned at f) s B = walked_up f s B
+check_up P (path.returned at fs) s B = each_up fs s B
 check_up P (path.loop_end l) s B = walked_up l.invariant s B
 
 null_up : UpToNow no_terms

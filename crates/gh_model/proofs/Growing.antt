@@ -12,7 +12,7 @@ use Rattle.gh_ast.specs.declared.Expr.TheVariants.{Plain, Read}
 use Rattle.gh_ast.specs.Plain.{Test, compare, negation, conjunction, disjunction, Tests, no_tests, test_first}
 use Rattle.gh_ast.specs.Plain.{Formula, empty, comparison, points_to, cell, segment, star, cases, Formulas, no_formulas, formula_first}
 use Rattle.gh_ast.specs.Programs.{Name}
-use Rattle.gh_path.specs.Terms.{Kind, null, value, next, same_kind, added, with_value, Bindings, bound, Terms, used, used_as, term_of, followed, operand_used, expr_used, exprs_used, test_walked, tests_walked, walked, all_walked, place}
+use Rattle.gh_path.specs.Terms.{Kind, null, value, next, same_kind, added, with_value, Bindings, bound, Terms, used, used_as, term_of, followed, operand_used, expr_used, exprs_used, test_walked, tests_walked, walked, all_walked, each_walked, place}
 
 abbrev pub Within : List Kind → List Kind → Type 0
 Within ks ls = (i : ℕ) (k : Kind) → slice_get ks i ≡ Some k → slice_get ls i ≡ Some k
@@ -161,6 +161,11 @@ mutual
   pub all_grow : (fs : Formulas) (s : Terms) → Grows s (all_walked fs s)
   all_grow no_formulas s = stays s
   all_grow (formula_first f fs) s = onto (walked_grows f s) (all_grow fs (walked f s))
+
+-- alternatives are walked in order
+pub each_grows : (fs : List Formula) (s : Terms) → Grows s (each_walked fs s)
+each_grows [] s = stays s
+each_grows (f ∷ fs) s = onto (walked_grows f s) (each_grows fs (walked f s))
 
 -- the first place of a successor
 abbrev pub first_at : ℕ → ℕ → List Kind → ℕ

@@ -1,23 +1,23 @@
 -- The terms of a callee's variables.
-use Rattle.std.specs.Prelude.{◌≡◌, ◌⊎◌, ℕ, ◌+◌, List, [], ◌∷◌, ◌++◌, length, map, slice_get, Option, Some, Bool, true, false, cond, Contains}
+use Rattle.std.specs.Prelude.{◌≡◌, ◌⊎◌, ℕ, ◌+◌, List, [], ◌∷◌, ◌++◌, length, map, slice_get, Option, Some, Bool, true, false, cond, All, Contains}
 use Rattle.std.specs.Str.{bytes_eq}
 use Rattle.std.proofs.Common.{refl, sym, ◌∙◌, ap, subst, inl, inr, arith}
 use Rattle.std.proofs.lemmas.List.{length-map}
-use Rattle.std.proofs.lemmas.List.Elements.{Contains-append_cases}
+use Rattle.std.proofs.lemmas.List.Elements.{Contains-append_cases, All-head, All-tail}
 use Rattle.gh_ast.specs.declared.Operand.{Operand}
 use Rattle.gh_ast.specs.declared.Operand.TheVariants.{Null, Var}
 use Rattle.gh_ast.specs.declared.Expr.{Expr}
 use Rattle.gh_ast.specs.declared.Expr.TheVariants.{Plain, Read}
 use Rattle.gh_ast.specs.Plain.{Test, compare, negation, conjunction, disjunction, Tests, no_tests, test_first}
 use Rattle.gh_ast.specs.Plain.{Formula, empty, comparison, points_to, cell, segment, star, cases, Formulas, no_formulas, formula_first, Procedure}
-use Rattle.gh_ast.specs.Programs.{Name, parameters_of, results_of, ensured}
+use Rattle.gh_ast.specs.Programs.{Name, parameters_of, results_of}
 use Rattle.gh_ast.specs.Names.{OperandIn, ExprIn, TestIn, TestsIn, FormulaIn, FormulasIn}
 use Rattle.gh_ast.proofs.Lists.{member_first, member_later, member_cases, no_member}
 use Rattle.gh_assert.specs.Heaps.{Heap}
 use Rattle.gh_assert.specs.Meaning.{Store}
 use Rattle.gh_assert.specs.Walks.{succ}
-use Rattle.gh_path.specs.Terms.{Kind, next, with_value, Bindings, unbound, bound, all_bound, Terms, terms, used, followed, operand_used, expr_used, test_walked, tests_walked, walked, all_walked, moved_on, rebound, renewed, bound_inside}
-use Rattle.gh_model.proofs.Growing.{Within, Grows, value_within, bound_same, bound_cases, used_known, walked_grows}
+use Rattle.gh_path.specs.Terms.{Kind, next, with_value, Bindings, unbound, bound, all_bound, Terms, terms, used, followed, operand_used, expr_used, test_walked, tests_walked, walked, all_walked, each_walked, moved_on, rebound, renewed, bound_inside}
+use Rattle.gh_model.proofs.Growing.{Within, Grows, value_within, bound_same, bound_cases, used_known, walked_grows, each_grows}
 use Rattle.gh_model.proofs.Naming.{Sound}
 
 cons_values : (a b : ℕ) (as' bs : List ℕ) → a ∷ as' ≡ b ∷ bs → (a ≡ b) × (as' ≡ bs)
@@ -124,6 +124,13 @@ mutual
       let first = walk_keeps f xs s c.0 A in
       walks_keep fs xs (walked f s) c.1 (still xs s (walked f s) first A) ∙ first
 
+-- alternatives
+pub each_keeps : (fs : List Formula) (xs : List Name) (s : Terms) → All (λ f. FormulaIn f xs) fs → AllBound s xs → (each_walked fs s).bindings ≡ s.bindings
+each_keeps [] xs s c A = refl
+each_keeps (f ∷ fs) xs s c A =
+    let first = walk_keeps f xs s (All-head (λ g. FormulaIn g xs) f fs c) A in
+    each_keeps fs xs (walked f s) (All-tail (λ g. FormulaIn g xs) f fs c) (still xs s (walked f s) first A) ∙ first
+
 abbrev renewed_one : Name → Terms → Terms
 renewed_one x s = terms (with_value s.kinds) (bound s.bindings x (length s.kinds)) s.version
 
@@ -194,28 +201,28 @@ with_results p s = renewed (results_of p) (moved_on (walked p.needs s))
 
 -- what a callee gives is walked in the next version
 pub inside_after : (K : List Kind) (V : List ℕ) (k : Heap) (p : Procedure) (ts vs : List ℕ) (t : Terms) (inside : Store)
-    → FormulaIn p.needs (parameters_of p) → FormulaIn (ensured p) (parameters_of p ++ results_of p) → map (slice_get V) ts ≡ map Some vs → map inside (parameters_of p) ≡ vs
-    → slice_get V 0 ≡ Some 0 → Within (walked (ensured p) (with_results p (rebound t (bound_inside p ts)))).kinds K → Follows K V (t.version + 1) k
-    → ((r : Name) (j : ℕ) → Contains (results_of p) r → (walked (ensured p) (with_results p (rebound t (bound_inside p ts)))).bindings r ≡ Some j → slice_get V j ≡ Some (inside r))
-    → Sound K V inside k (walked (ensured p) (with_results p (rebound t (bound_inside p ts))))
+    → FormulaIn p.needs (parameters_of p) → All (λ f. FormulaIn f (parameters_of p ++ results_of p)) p.gives → map (slice_get V) ts ≡ map Some vs → map inside (parameters_of p) ≡ vs
+    → slice_get V 0 ≡ Some 0 → Within (each_walked p.gives (with_results p (rebound t (bound_inside p ts)))).kinds K → Follows K V (t.version + 1) k
+    → ((r : Name) (j : ℕ) → Contains (results_of p) r → (with_results p (rebound t (bound_inside p ts))).bindings r ≡ Some j → slice_get V j ≡ Some (inside r))
+    → Sound K V inside k (each_walked p.gives (with_results p (rebound t (bound_inside p ts))))
 inside_after K V k p ts vs t inside own own' e f null within N R =
     let s = rebound t (bound_inside p ts) in
     let g = walked_grows p.needs s in
-    let g' = walked_grows (ensured p) (with_results p s) in
+    let g' = each_grows p.gives (with_results p s) in
     let A = parameters_bound V p ts vs t inside e f in
     let keep : (walked p.needs s).bindings ≡ s.bindings = walk_keeps p.needs (parameters_of p) s own A in
     let B : AllBound (with_results p s) (parameters_of p ++ results_of p) = λ x c. renewed_known (results_of p) (moved_on (walked p.needs s)) x (elim (Contains-append_cases (parameters_of p) (results_of p) x c) [
       | inl there ↦ inr (let a = A x there in (a.0, ap (λ b. b x) keep ∙ a.1))
       | inr there ↦ inl there
     ]) in
-    let keep' : (walked (ensured p) (with_results p s)).bindings ≡ (with_results p s).bindings = walk_keeps (ensured p) (parameters_of p ++ results_of p) (with_results p s) own' B in
-    let version : (walked (ensured p) (with_results p s)).version ≡ t.version + 1 = g'.version ∙ renewed_version (results_of p) (moved_on (walked p.needs s)) ∙ ap (λ i. i + 1) g.version in
+    let keep' : (each_walked p.gives (with_results p s)).bindings ≡ (with_results p s).bindings = each_keeps p.gives (parameters_of p ++ results_of p) (with_results p s) own' B in
+    let version : (each_walked p.gives (with_results p s)).version ≡ t.version + 1 = g'.version ∙ renewed_version (results_of p) (moved_on (walked p.needs s)) ∙ ap (λ i. i + 1) g.version in
     record {
       null = null;
       kinds = within;
       next = λ j u v a. N j u v (a ∙ ap (λ i. Some (next i u)) version);
       bound = λ y j a. elim (renewed_cases (results_of p) (moved_on (walked p.needs s)) y j (ap (λ b. b y) (sym keep') ∙ a)) [
-        | inl there ↦ R y j there a
+        | inl there ↦ R y j there (ap (λ b. b y) (sym keep') ∙ a)
         | inr old ↦ all_give V inside unbound (parameters_of p) ts vs e f (nothing_bound V inside) y j (ap (λ b. b y) (sym keep) ∙ old)
       ];
     }

@@ -9,6 +9,7 @@ pub mod Classes
 pub mod Truths
 pub mod Rows
 pub mod Growing
+pub mod Alternatives
 pub mod Naming
 pub mod Inside
 pub mod Ready

@@ -11,7 +11,7 @@ use Rattle.gh_base.specs.Meaning.{Interpretation}
 use Rattle.gh_ast.specs.declared.Occ.{Occ}
 use Rattle.gh_ast.specs.declared.Expr.{Expr}
 use Rattle.gh_ast.specs.Plain.{Formula, empty, comparison, points_to, cell, segment, star, cases, Formulas, no_formulas, formula_first, Statement, set, new, write, free, call, choice, loop, give, Statements, no_statements, statement_first, Program}
-use Rattle.gh_ast.specs.Programs.{Name, names, parameters_of, results_of, Assigns, SomeAssigns, ensured}
+use Rattle.gh_ast.specs.Programs.{Name, names, parameters_of, results_of, Assigns, SomeAssigns}
 use Rattle.gh_ast.specs.Names.{FormulaIn}
 use Rattle.gh_ast.specs.Occurrences.{in_formula}
 use Rattle.gh_ast.proofs.Declared.{is_member}
@@ -20,13 +20,13 @@ use Rattle.gh_ast.proofs.Members.{name_or}
 use Rattle.gh_ast.proofs.Sites.{member_map, occurrence_of, formula_in}
 use Rattle.gh_ast.proofs.TypedPrograms.{results_are_not_parameters}
 use Rattle.gh_assert.specs.Heaps.{Heap}
-use Rattle.gh_assert.specs.Meaning.{Store}
+use Rattle.gh_assert.specs.Meaning.{Store, Meaning, MeetsOneOf}
 use Rattle.gh_assert.specs.Reading.{HasNames, HaveNames}
 use Rattle.gh_path.specs.Graphs as path
-use Rattle.gh_path.specs.Terms.{Kind, with_value, Bindings, unbound, bound, all_bound, Terms, terms, term_of, exprs_used, expr_term, exprs_terms, walked, moved_on, rebound, renewed, assigns, some_assigns, bound_inside, call_walked}
+use Rattle.gh_path.specs.Terms.{Kind, with_value, Bindings, unbound, bound, all_bound, Terms, terms, term_of, exprs_used, expr_term, exprs_terms, walked, each_walked, moved_on, rebound, renewed, assigns, some_assigns, bound_inside, call_walked}
 use Rattle.gh_grass.specs.Truth.{AreTrue}
-use Rattle.gh_symb.specs.Symbolic.{under, call_parts}
-use Rattle.gh_symb.specs.Formulas.{variables, successor, replaced_claims, step_claims}
+use Rattle.gh_symb.specs.Symbolic.{under, each_under, call_parts}
+use Rattle.gh_symb.specs.Formulas.{variables, successor, parts_claims, step_claims}
 use Rattle.gh_trace.specs.Traces.{Replaced, Takes}
 use Rattle.gh_trace.specs.Laws.{HasOwnNames}
 use Rattle.gh_model.specs.Named.{IsNamed, AreNamed}
@@ -34,9 +34,10 @@ use Rattle.gh_model.specs.Interpreted.{version_of}
 use Rattle.gh_model.specs.Steps.{IsCalled}
 use Rattle.gh_model.specs.Spoken.{IsSpoken}
 use Rattle.gh_model.specs.BuiltTraces.{value_under, store_under}
-use Rattle.gh_model.proofs.Growing.{Within, exprs_grow, walked_grows}
+use Rattle.gh_model.proofs.Growing.{Within, exprs_grow, walked_grows, each_grows}
 use Rattle.gh_model.proofs.Naming.{Sound, formula_named, exprs_values}
-use Rattle.gh_model.proofs.Inside.{Gives, Knows, AllBound, all_known, renewed_known, renewed_version, renewed_within, walk_keeps, with_results, inside_before, inside_after}
+use Rattle.gh_model.proofs.Inside.{Gives, Knows, AllBound, all_known, renewed_known, renewed_version, renewed_within, walk_keeps, each_keeps, with_results, inside_before, inside_after}
+use Rattle.gh_model.proofs.Alternatives.{alternative_told, alternative_sound, one_part, met_one}
 use Rattle.gh_model.proofs.Steps.{calls_are_built}
 use Rattle.gh_model.proofs.StepFormulas.{calls_speak}
 use Rattle.gh_model.proofs.Reflected.{value_at, formula_known}
@@ -63,8 +64,8 @@ mutual
 
 -- a part that meets an assertion, walked under the terms of s, gives way to one that meets another, walked under those of t
 replaced : (m : Interpretation) (K : List Kind) (V : List ℕ) (at : ℕ → ℕ) (N : ℕ) → AreGround m K V at N → (f g : Formula) (st st' : Store) (s t : Terms) → s.version < N → s.version + 1 < N → t.version ≡ s.version + 1
-    → Sound K V st (heap_of m V s.version) (walked f s) → Sound K V st' (heap_of m V (s.version + 1)) (walked g t) → AreTrue m (replaced_claims K s.version (under f s) (under g t))
-    → Replaced f st (heap_of m V s.version) g st' (heap_of m V (s.version + 1))
+    → Sound K V st (heap_of m V s.version) (walked f s) → Sound K V st' (heap_of m V (s.version + 1)) (walked g t) → AreTrue m (parts_claims K s.version (under f s) (under g t ∷ []))
+    → Replaced f st (heap_of m V s.version) (Meaning g st') (heap_of m V (s.version + 1))
 replaced m K V at N G f g st st' s t before after version S S' A =
     let i = s.version in
     let n = length K in
@@ -135,7 +136,7 @@ loop_takes P xs m K V at N c R l ps s I =
     let st' = store_under at (here P xs ps c (walked f mid)) in
     let few : Within u.kinds K = λ i k e. I.within i k ((walked_grows f mid).kinds i k (renewed_within zs (moved_on u) i k e)) in
     let version : mid.version ≡ s.version + 1 = renewed_version zs (moved_on u) ∙ ap (λ i. i + 1) (walked_grows f s).version in
-    let r : Replaced f st (heap_of m V s.version) f st' (heap_of m V (s.version + 1)) = replaced m K V at N I.ground f f st st' s mid I.before I.after version
+    let r : Replaced f st (heap_of m V s.version) (Meaning f st') (heap_of m V (s.version + 1)) = replaced m K V at N I.ground f f st st' s mid I.before I.after version
     (sound_used P xs m K V at N c R p ps s I few) (sound_after P xs m K V at N c R p ps s I (prepared_version P xs R p s I.prepared)) I.claims in
     let ns = names (in_formula f) in
     let own : FormulaIn f ns = formula_in f ns (λ o c. member_map (λ (q : Occ). q.name) (in_formula f) o c) in
@@ -182,12 +183,12 @@ call_takes P xs m K V at N c R ys f es ps s I =
     let r : Terms = rebound T (bound_inside q ts) in
     let u : Terms = walked q.needs r in
     let mid : Terms = with_results q r in
-    let after : Terms = walked (ensured q) mid in
+    let after : Terms = each_walked q.gives mid in
     let st = store_under at (here P xs (p ∷ ps) c s) in
     let inside : Store = store_under at after.bindings in
-    let claims : AreTrue m (replaced_claims K i (under q.needs r) (under (ensured q) mid)) = subst (λ o. AreTrue m (step_claims K i (call_parts o ts T))) found I.claims in
+    let claims : AreTrue m (parts_claims K i (under q.needs r) (each_under q.gives mid)) = subst (λ o. AreTrue m (step_claims K i (call_parts o ts T))) found I.claims in
     let all : Within after.kinds K = subst (λ o. Within (call_walked o (names ys) ts T).kinds K) found I.within in
-    let some : Within u.kinds K = λ j k e. all j k ((walked_grows (ensured q) mid).kinds j k (renewed_within (results_of q) (moved_on u) j k e)) in
+    let some : Within u.kinds K = λ j k e. all j k ((each_grows q.gives mid).kinds j k (renewed_within (results_of q) (moved_on u) j k e)) in
     let few : Within T.kinds K = λ j k e. all j k (call_within q r j k e) in
     let S : Sound K V st (heap_of m V i) T = sound_used P xs m K V at N c R p ps s I few in
     let (vs, gives) = exprs_result R st (heap_of m V i) es I.prepared.0 I.ready in
@@ -199,7 +200,7 @@ call_takes P xs m K V at N c R ys f es ps s I =
       | inl here' ↦ inr (let a = A x here' in (a.0, ap (λ (b : Bindings). b x) keep ∙ a.1))
       | inr here' ↦ inl here'
     ]) in
-    let keep' : after.bindings ≡ mid.bindings = walk_keeps (ensured q) (parameters_of q ++ results_of q) mid own.gives_in B in
+    let keep' : after.bindings ≡ mid.bindings = each_keeps q.gives (parameters_of q ++ results_of q) mid own.gives_in B in
     let same : (n : Name) → Contains (parameters_of q) n → after.bindings n ≡ all_bound unbound (parameters_of q) ts n = λ n there.
     ap (λ (b : Bindings). b n) keep' ∙ renewed_outside (results_of q) (moved_on u) n (λ other. results_are_not_parameters P I.typed q member n there other) ∙ ap (λ (b : Bindings). b n) keep in
     let params : map inside (parameters_of q) ≡ vs = parameter_values m K V at N G after.bindings (parameters_of q) ts vs apart.0 count args same in
@@ -208,13 +209,18 @@ call_takes P xs m K V at N c R ys f es ps s I =
     let first : Sound K V inside (heap_of m V T.version) u = inside_before K V (heap_of m V T.version) q ts vs T inside own.needs_in args params G.null some (G.next T.version before) in
     let bounded : IsBounded after = results_bounded q r (inside_bounded q es s I.bounded) in
     let last : Sound K V inside (heap_of m V (T.version + 1)) after = inside_after K V (heap_of m V (T.version + 1)) q ts vs T inside own.needs_in own.gives_in args params G.null all (G.next (T.version + 1) next')
-    (λ n j there e. G.listed j (still_below after.kinds K j all (bounded.below n j e)) ∙ ap Some (sym (value_is at after.bindings n j e))) in
+    (λ n j there e. let e' = (each_grows q.gives mid).bindings n j e in G.listed j (still_below after.kinds K j all (bounded.below n j e')) ∙ ap Some (sym (value_is at after.bindings n j e'))) in
     let version' : mid.version ≡ T.version + 1 = renewed_version (results_of q) (moved_on u) ∙ ap (λ j. j + 1) (walked_grows q.needs r).version in
-    let claims' : AreTrue m (replaced_claims K T.version (under q.needs r) (under (ensured q) mid)) = subst (λ j. AreTrue m (replaced_claims K j (under q.needs r) (under (ensured q) mid))) (sym version) claims in
-    let done = replaced m K V at N G q.needs (ensured q) inside inside r mid before next' version' first last claims' in
-    let done' : Replaced q.needs inside (heap_of m V i) (ensured q) inside (heap_of m V (i + 1)) = subst (λ j. Replaced q.needs inside (heap_of m V j) (ensured q) inside (heap_of m V (j + 1))) version done in
+    let (v, chosen, one) = one_part m K i (under q.needs r) (each_under q.gives mid) claims in
+    let (g, t, is, W) = alternative_told q.gives mid v chosen in
+    let claims' : AreTrue m (parts_claims K T.version (under q.needs r) (under g t ∷ [])) =
+    subst (λ j. AreTrue m (parts_claims K j (under q.needs r) (under g t ∷ []))) (sym version) (subst (λ w. AreTrue m (parts_claims K i (under q.needs r) (w ∷ []))) is one) in
+    let done = replaced m K V at N G q.needs g inside inside r t before next' (W.first.version ∙ version') first (alternative_sound K V inside (heap_of m V (T.version + 1)) q.gives mid g t W last) claims' in
+    let done' : Replaced q.needs inside (heap_of m V i) (MeetsOneOf q.gives inside) (heap_of m V (i + 1)) =
+    subst (λ j. Replaced q.needs inside (heap_of m V j) (MeetsOneOf q.gives inside) (heap_of m V (j + 1))) version
+    (met_one q.needs inside (heap_of m V T.version) q.gives g inside (heap_of m V (T.version + 1)) W.member done) in
     let rs = map (λ x. term_of x after) (results_of q) in
-    let known : (x : Name) → Contains (results_of q) x → Knows after.bindings x = λ x there. (let k = renewed_known (results_of q) (moved_on u) x (inl there) in (k.0, (walked_grows (ensured q) mid).bindings x k.0 k.1)) in
+    let known : (x : Name) → Contains (results_of q) x → Knows after.bindings x = λ x there. (let k = renewed_known (results_of q) (moved_on u) x (inl there) in (k.0, (each_grows q.gives mid).bindings x k.0 k.1)) in
     let targets = step_gets P xs m K V at N c p ps s G (names ys) rs (map inside (results_of q)) (ap (λ o. (call_walked o (names ys) ts T).bindings) found) fit.distinct (length-map (results_of q) (λ x. term_of x after) ∙ sym fit.targets)
     (result_terms V inside after (results_of q) last.bound known) in
     (q, vs, fit.entry.declares, gives, record { inside = inside; arguments = params; targets = targets; replaced = done' })

@@ -1,8 +1,9 @@
 -- In the last state of a built trace the check fails.
 use Rattle.std.specs.Prelude.{◌≡◌, ℕ, ◌<◌, List, [], ◌∷◌, length, map, slice_get, Option, Some, None}
+use Rattle.gh_model.proofs.Alternatives.{walked_there, alternative_sound, met_none}
 use Rattle.std.proofs.Common.{refl, sym, ◌∙◌, ap, subst}
 use Rattle.std.proofs.lemmas.List.{length-map}
-use Rattle.std.proofs.lemmas.List.Elements.{All-head}
+use Rattle.std.proofs.lemmas.List.Elements.{All-head, All-cons, All-nil}
 use Rattle.gh_base.specs.declared.atom.Atom.TheVariants.{Alloc}
 use Rattle.gh_base.specs.Meaning.{Interpretation}
 use Rattle.gh_ast.specs.declared.Occ.{Occ}
@@ -20,17 +21,17 @@ use Rattle.gh_path.specs.Terms.{Kind, Terms, used, term_of, exprs_used, expr_ter
 use Rattle.gh_grass.specs.Bindings.{term}
 use Rattle.gh_grass.specs.Claims.{negation_of}
 use Rattle.gh_grass.specs.Truth.{truth, AreTrue}
-use Rattle.gh_symb.specs.Symbolic.{under, term_check, check_used, needs_under, either_term}
+use Rattle.gh_symb.specs.Symbolic.{under, term_check, check_used, needs_under, either_term, each_under}
 use Rattle.gh_symb.specs.Formulas.{allocated, meets, meets_whole, check_claims}
 use Rattle.gh_trace.specs.Traces.{Passes}
 use Rattle.gh_model.specs.Interpreted.{version_of}
 use Rattle.gh_model.specs.BuiltTraces.{store_under}
-use Rattle.gh_model.proofs.Growing.{Within, Grows, stays, used_grows, exprs_grow, walked_grows}
+use Rattle.gh_model.proofs.Growing.{Within, Grows, stays, used_grows, exprs_grow, walked_grows, each_grows}
 use Rattle.gh_model.proofs.Naming.{Sound, expr_value, exprs_values}
 use Rattle.gh_model.proofs.Inside.{inside_before}
 use Rattle.gh_model.proofs.TraceOwned.{callee_found, here, own_names}
 use Rattle.gh_model.proofs.Prepared.{IsCheckPrepared, parameters_and_results}
-use Rattle.gh_model.proofs.Bounded.{IsBounded, used_bounded, exprs_bounded, walked_bounded}
+use Rattle.gh_model.proofs.Bounded.{IsBounded, used_bounded, exprs_bounded, walked_bounded, each_bounded}
 use Rattle.gh_model.proofs.LocalFacts.{T, AreGround, no_more, state_sound, part_is, whole_is}
 use Rattle.gh_model.proofs.LocalSteps.{heap_of, state_with, alloc_is, exprs_result}
 use Rattle.gh_model.proofs.LocalCalls.{parameter_values}
@@ -50,14 +51,14 @@ check_grows : (c : path.Check) (s : Terms) → Grows s (check_used c s)
 check_grows (path.access o) s = used_grows o.name s
 check_grows (path.entry f es) s = exprs_grow es s
 check_grows (path.loop_entry l) s = walked_grows l.invariant s
-check_grows (path.returned w f) s = walked_grows f s
+check_grows (path.returned w fs) s = each_grows fs s
 check_grows (path.loop_end l) s = walked_grows l.invariant s
 
 check_bounded : (c : path.Check) (s : Terms) → IsBounded s → IsBounded (check_used c s)
 check_bounded (path.access o) s B = used_bounded o.name s B
 check_bounded (path.entry f es) s B = exprs_bounded es s B
 check_bounded (path.loop_entry l) s B = walked_bounded l.invariant s B
-check_bounded (path.returned w f) s B = walked_bounded f s B
+check_bounded (path.returned w fs) s B = each_bounded fs s B
 check_bounded (path.loop_end l) s B = walked_bounded l.invariant s B
 
 -- the term of a variable that the check uses
@@ -128,7 +129,15 @@ pub check_fails : (P : Program) (xs : List Name) (m : Interpretation) (K : List 
 check_fails P xs m K V at N (path.access o) R s I = access_fails P xs m K V at N R o s I
 check_fails P xs m K V at N (path.entry f es) R s I = entry_fails P xs m K V at N R f es s I
 check_fails P xs m K V at N (path.loop_entry l) R s I = loop_fails P xs m K V at N R l s I
-check_fails P xs m K V at N (path.returned w f) R s I =
-    whole_fails m K V at N I.ground (store_under at (here P xs [] (path.returned w f) s)) f s I.before (sound_checked P xs m K V at N (path.returned w f) R s I I.within) I.claims
+check_fails P xs m K V at N (path.returned w fs) R s I = λ passes.
+    let c = path.returned w fs in
+    let st = store_under at (here P xs [] c s) in
+    let (f, there, met) = passes in
+    let (t, W) = walked_there fs s f there in
+    let version : t.version ≡ s.version = W.first.version in
+    let S : Sound K V st (heap_of m V s.version) (walked f t) = alternative_sound K V st (heap_of m V s.version) fs s f t W (sound_checked P xs m K V at N c R s I I.within) in
+    whole_fails m K V at N I.ground st f t (subst (λ j. j < N) (sym version) I.before) (subst (λ j. Sound K V st (heap_of m V j) (walked f t)) (sym version) S)
+    (All-cons (T m) (negation_of (meets_whole K (under f t))) [] (met_none m K s.version (each_under fs s) (under f t) W.told I.claims) (All-nil (T m)))
+    (subst (λ j. Meaning f st (heap_of m V j)) (sym version) met)
 check_fails P xs m K V at N (path.loop_end l) R s I =
     whole_fails m K V at N I.ground (store_under at (here P xs [] (path.loop_end l) s)) l.invariant s I.before (sound_checked P xs m K V at N (path.loop_end l) R s I I.within) I.claims

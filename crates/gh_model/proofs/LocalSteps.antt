@@ -15,7 +15,7 @@ use Rattle.gh_ast.specs.declared.Operand.TheVariants.{Var}
 use Rattle.gh_ast.specs.declared.Expr.{Expr}
 use Rattle.gh_ast.specs.declared.Expr.TheVariants.{Plain, Read}
 use Rattle.gh_ast.specs.Plain.{Procedure, Program}
-use Rattle.gh_ast.specs.Programs.{Name, names, results_of, ensured}
+use Rattle.gh_ast.specs.Programs.{Name, names, results_of}
 use Rattle.gh_ast.specs.Rules.{IsTyped}
 use Rattle.gh_ast.proofs.Lists.{member_first, member_later, no_member, cons_both, one_value}
 use Rattle.gh_assert.specs.Heaps.{Heap}
@@ -39,7 +39,7 @@ use Rattle.gh_model.specs.Interpreted.{version_of}
 use Rattle.gh_model.specs.Steps.{IsPut, IsFreed, SaysNew}
 use Rattle.gh_model.specs.TermValues.{version_after}
 use Rattle.gh_model.specs.BuiltTraces.{value_under, store_under}
-use Rattle.gh_model.proofs.Growing.{Within, stays, onto, bound_same, used_grows, visited_grows, expr_grows, exprs_grow, walked_grows}
+use Rattle.gh_model.proofs.Growing.{Within, stays, onto, bound_same, used_grows, visited_grows, expr_grows, exprs_grow, walked_grows, each_grows}
 use Rattle.gh_model.proofs.Naming.{Sound, listed, expr_value, exprs_values}
 use Rattle.gh_model.proofs.Inside.{with_results, renewed_version}
 use Rattle.gh_model.proofs.Built.{models_are_built}
@@ -381,7 +381,7 @@ free_takes P xs m K V at N c R o ps s I =
 call_version : (o : Option Procedure) (q : Procedure) → o ≡ Some q → (ys : List Name) (ts : List ℕ) (s : Terms) → (call_walked o ys ts s).version ≡ s.version + 1
 call_version o q e ys ts s =
     let r = rebound s (bound_inside q ts) in
-    ap (λ u. (call_walked u ys ts s).version) e ∙ (walked_grows (ensured q) (with_results q r)).version ∙ renewed_version (results_of q) (moved_on (walked q.needs r)) ∙ ap (λ i. i + 1) (walked_grows q.needs r).version
+    ap (λ u. (call_walked u ys ts s).version) e ∙ (each_grows q.gives (with_results q r)).version ∙ renewed_version (results_of q) (moved_on (walked q.needs r)) ∙ ap (λ i. i + 1) (walked_grows q.needs r).version
 
 pub prepared_version : (P : Program) (xs : List Name) (R : Name → Type 0) (p : path.PathStep) (s : Terms) → IsPrepared P R p → (step_walked P xs p s).version ≡ version_after p s.version
 prepared_version P xs R (path.accessed o) s A = (visited_grows o.name s).version

@@ -41,7 +41,7 @@ use Rattle.gh_model.proofs.Growing.{Within, walked_grows}
 use Rattle.gh_model.proofs.Inside.{renewed_within}
 use Rattle.gh_model.proofs.TraceOwned.{here, call_within, entry_within, step_within, steps_within, check_within}
 use Rattle.gh_model.proofs.Prepared.{Nowhere, ArePrepared, ready_after, paths_are_prepared}
-use Rattle.gh_model.proofs.Bounded.{IsBounded, still_below, follow_within, used_bounded, exprs_bounded, walked_bounded, used_step_bounded, step_bounded, steps_up, check_version}
+use Rattle.gh_model.proofs.Bounded.{IsBounded, still_below, follow_within, used_bounded, exprs_bounded, walked_bounded, used_step_bounded, step_bounded, steps_up, check_version, each_bounded}
 use Rattle.gh_model.proofs.LocalSteps.{prepared_version}
 use Rattle.gh_model.proofs.Locality.{prepared_past, none_bounded}
 use Rattle.gh_model.proofs.BoundNames.{first_cases, either_cases, no_term_outside, only_variables_have_terms}
@@ -102,14 +102,14 @@ check_used_within : (P : Program) (c : path.Check) (s : Terms) → Within (check
 check_used_within P (path.access o) s = λ i k f. f
 check_used_within P (path.entry g es) s = entry_within (callee_in P.procedures g.name) (exprs_terms es (exprs_used es s)) (exprs_used es s)
 check_used_within P (path.loop_entry l) s = λ i k f. f
-check_used_within P (path.returned at g) s = λ i k f. f
+check_used_within P (path.returned at gs) s = λ i k f. f
 check_used_within P (path.loop_end l) s = λ i k f. f
 
 check_used_bounded : (c : path.Check) (s : Terms) → IsBounded s → IsBounded (check_used c s)
 check_used_bounded (path.access o) s B = used_bounded o.name s B
 check_used_bounded (path.entry g es) s B = exprs_bounded es s B
 check_used_bounded (path.loop_entry l) s B = walked_bounded l.invariant s B
-check_used_bounded (path.returned at g) s B = walked_bounded g s B
+check_used_bounded (path.returned at gs) s B = each_bounded gs s B
 check_used_bounded (path.loop_end l) s B = walked_bounded l.invariant s B
 
 -- all terms that are listed at the end of a path

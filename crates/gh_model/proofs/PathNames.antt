@@ -1,20 +1,21 @@
 -- The names on a path of a typed program are variables of the procedure.
-use Rattle.std.specs.Prelude.{ℕ, suc, List, [], ◌∷◌, ◌++◌, map, Bool, true, false, Contains}
+use Rattle.std.specs.Prelude.{ℕ, suc, List, [], ◌∷◌, ◌++◌, map, Bool, true, false, Contains, All}
 use Rattle.std.proofs.Common.{sym, subst, inl, inr}
 use Rattle.std.proofs.lemmas.List.Elements.{Contains-append_left, Contains-append_right, Contains-append_cases}
 use Rattle.gh_ast.specs.declared.Occ.{Occ}
 use Rattle.gh_ast.specs.declared.Expr.{Expr}
 use Rattle.gh_ast.specs.declared.Expr.TheVariants.{Plain, Read}
 use Rattle.gh_ast.specs.Plain.{Test, compare, negation, conjunction, disjunction, Tests, no_tests, test_first, Statement, set, new, write, free, call, choice, loop, give, Statements, no_statements, statement_first, Procedure, Program}
-use Rattle.gh_ast.specs.Programs.{Name, names, body_of, results_of, variable_names, ensured}
+use Rattle.gh_ast.specs.Programs.{Name, names, body_of, results_of, variable_names}
 use Rattle.gh_ast.specs.Names.{ExprIn, TestIn, TestsIn, FormulaIn}
 use Rattle.gh_ast.specs.Occurrences.{in_expr, in_exprs, in_test, in_formula, Site, mentioned, assigned as assigned_at, called as called_at, returned as returned_at, sites_in, all_sites_in, locals_of}
 use Rattle.gh_ast.specs.Rules.{IsTyped}
 use Rattle.gh_ast.proofs.Lists.{member_first, member_later, member_cases, no_member}
 use Rattle.gh_ast.proofs.Sites.{AllIn, member_map, occurrence_of, expr_in, test_in, formula_in, site_in_body}
-use Rattle.gh_ast.proofs.TypedPrograms.{mention_is_variable, needs_are_variables, ensured_is_of_variables, variables_split}
+use Rattle.gh_ast.proofs.TypedPrograms.{mention_is_variable, needs_are_variables, gives_are_variables, variables_split}
 use Rattle.gh_path.specs.Graphs.{Check, access, entry, loop_entry, returned, loop_end, PathStep, accessed, assume, assigned, made, written, freed, called, looped, answered, Graph, dead_end, ends, moves, guarded, fork, reads, all_reads, visits, tested, all_tested, some_tested, lowered, all_lowered, Loop, loops, all_loops, loops_of, Start, rounds, round, starts}
 use Rattle.gh_path.specs.Paths.{Path, at_end, arrived, past, on, on_true, on_false}
+use Rattle.gh_model.proofs.Alternatives.{all_of_members}
 
 abbrev pub AllOf : List Name → List Name → Type 0
 AllOf ys xs = (y : Name) → Contains ys y → Contains xs y
@@ -38,7 +39,7 @@ abbrev pub CheckIn : List Name → Check → Type 0
 CheckIn xs (access o) = Contains xs o.name
 CheckIn xs (entry f es) = ExprsIn es xs
 CheckIn xs (loop_entry l) = FormulaIn l.invariant xs
-CheckIn xs (returned at f) = FormulaIn f xs
+CheckIn xs (returned at fs) = All (λ f. FormulaIn f xs) fs
 CheckIn xs (loop_end l) = FormulaIn l.invariant xs
 
 abbrev pub PathIn : List Name → List PathStep → Check → Type 0
@@ -108,7 +109,7 @@ targets_in xs os A y c = let found = occurrence_of os y c in subst (Contains xs)
 
 -- what a procedure gives, and its results
 record IsOwn (q : Procedure) (xs : List Name) : Type 0 where
-  gives : FormulaIn (ensured q) xs
+  gives : All (λ f. FormulaIn f xs) q.gives
   results : AllOf (results_of q) xs
 
 mutual
@@ -141,7 +142,7 @@ mutual
       (I, I, tested_in xs t dead_end g (test_in t xs (λ o c. all o (Contains-append_left (in_test t) (in_formula i) o c))) tt A)
   lowered_in xs q inside (give at es) g O S A =
       let E = exprs_in xs es (mentions_in xs (in_exprs es) (sites_past xs (returned_at inside at es) (map mentioned (in_exprs es)) S)) in
-      all_reads_in xs es (moves (answered (results_of q) es) (ends (returned at (ensured q)))) E ((O.results, E), O.gives)
+      all_reads_in xs es (moves (answered (results_of q) es) (ends (returned at q.gives))) E ((O.results, E), O.gives)
 
   all_lowered_in : (xs : List Name) (q : Procedure) (inside : Bool) (ss : Statements) (g : Graph) → IsOwn q xs → SitesIn xs (all_sites_in inside ss) → GraphIn xs g → GraphIn xs (all_lowered q ss g)
   all_lowered_in xs q inside no_statements g O S A = A
@@ -211,10 +212,10 @@ results_are_variables q y c = subst (λ ys. Contains ys y) (sym (variables_split
 pub start_in : (P : Program) → IsTyped P → (q : Procedure) → Contains P.procedures q → (a : Start) → Contains (starts q) a → StartIn (variable_names q) a
 start_in P typed q here a at =
     let xs = variable_names q in
-    let O : IsOwn q xs = record { gives = ensured_is_of_variables P typed q here; results = results_are_variables q } in
+    let O : IsOwn q xs = record { gives = all_of_members (λ f. FormulaIn f xs) q.gives (gives_are_variables P typed q here); results = results_are_variables q } in
     let S : SitesIn xs (all_sites_in false (body_of q)) = λ o c. mention_is_variable P typed q here o (site_in_body q (mentioned o) c) in
     elim (member_cases _ (rounds q 0 (loops_of q)) a at) [
       | inl same ↦ subst (λ (b : Start). StartIn xs b) same
-          (record { meets = needs_are_variables P typed q here; graph = λ ps k way. path_in xs (all_lowered q (body_of q) (ends (returned q.close (ensured q)))) ps k way (all_lowered_in xs q false (body_of q) (ends (returned q.close (ensured q))) O S O.gives) })
+          (record { meets = needs_are_variables P typed q here; graph = λ ps k way. path_in xs (all_lowered q (body_of q) (ends (returned q.close q.gives))) ps k way (all_lowered_in xs q false (body_of q) (ends (returned q.close q.gives)) O S O.gives) })
       | inr more ↦ rounds_in xs q 0 (loops_of q) a O (λ l m. loops_in xs false (body_of q) l S m) more
     ]

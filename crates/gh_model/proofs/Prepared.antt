@@ -7,7 +7,7 @@ use Rattle.gh_ast.specs.declared.Occ.{Occ}
 use Rattle.gh_ast.specs.declared.Expr.{Expr}
 use Rattle.gh_ast.specs.declared.Expr.TheVariants.{Plain, Read}
 use Rattle.gh_ast.specs.Plain.{Test, compare, negation, conjunction, disjunction, Tests, no_tests, test_first, Statement, set, new, write, free, call, choice, loop, give, Statements, no_statements, statement_first, Procedure, Program}
-use Rattle.gh_ast.specs.Programs.{Name, names, body_of, parameters_of, results_of, Declares, ensured}
+use Rattle.gh_ast.specs.Programs.{Name, names, body_of, parameters_of, results_of, Declares}
 use Rattle.gh_ast.specs.Occurrences.{in_exprs, in_test, in_formula, Site, mentioned, assigned as assigned_at, called as called_at, returned as returned_at, sites_in, all_sites_in, sites_of, locals_of}
 use Rattle.gh_ast.specs.Rules.{IsTyped}
 use Rattle.gh_ast.proofs.Lists.{member_first, member_later, member_cases, no_member}
@@ -57,7 +57,7 @@ abbrev pub IsCheckPrepared : Program → (Name → Type 0) → Check → Type 0
 IsCheckPrepared P R (access o) = Unit {0}
 IsCheckPrepared P R (entry f es) = ExprsReady R es × IsFitEntry P f es
 IsCheckPrepared P R (loop_entry l) = Unit {0}
-IsCheckPrepared P R (returned at f) = Unit {0}
+IsCheckPrepared P R (returned at fs) = Unit {0}
 IsCheckPrepared P R (loop_end l) = Unit {0}
 
 abbrev pub Nowhere : Name → Type 0
@@ -158,7 +158,7 @@ mutual
       (all_prepared P q inside b g D (fit_right P q (map mentioned (in_test t) ++ all_sites_in inside a) (all_sites_in inside b) F) A)
   lowered_prepared P q inside (loop at t i body close) g D F A = (tt, tt, tested_prepared P t dead_end g tt A)
   lowered_prepared P q inside (give at es) g D F A =
-      all_reads_prepared P Nowhere es (moves (answered (results_of q) es) (ends (returned at (ensured q)))) (λ S h a. ((a, F (returned_at inside at es) (member_first (returned_at inside at es) (map mentioned (in_exprs es))), D), tt))
+      all_reads_prepared P Nowhere es (moves (answered (results_of q) es) (ends (returned at q.gives))) (λ S h a. ((a, F (returned_at inside at es) (member_first (returned_at inside at es) (map mentioned (in_exprs es))), D), tt))
 
   all_prepared : (P : Program) (q : Procedure) (inside : Bool) (ss : Statements) (g : Graph) → Distinct (results_of q) → AreFit P q (all_sites_in inside ss) → AllPrepared P Nowhere g → AllPrepared P Nowhere (all_lowered q ss g)
   all_prepared P q inside no_statements g D F A = A
@@ -236,6 +236,6 @@ paths_are_prepared P typed q here a ps c at way =
     let D = (parameters_and_results P typed q here).1 in
     let F : AreFit P q (all_sites_in false (body_of q)) = λ x there. sites_fit P typed q here x (site_in_body q x there) in
     path_prepared P Nowhere a.graph ps c way (elim (member_cases _ (rounds q 0 (loops_of q)) a at) [
-      | inl same ↦ subst (λ (b : Start). AllPrepared P Nowhere b.graph) same (all_prepared P q false (body_of q) (ends (returned q.close (ensured q))) D F tt)
+      | inl same ↦ subst (λ (b : Start). AllPrepared P Nowhere b.graph) same (all_prepared P q false (body_of q) (ends (returned q.close q.gives)) D F tt)
       | inr more ↦ rounds_prepared P q 0 (loops_of q) a D (λ l m. loops_fit P q false (body_of q) l F m) more
     ])

@@ -13,7 +13,7 @@ use Rattle.gh_grass.specs.Claims.{Claim, negation_of, equivalence_of, claims_of,
 use Rattle.gh_grass.specs.Truth.{truth, all_true, AreTrue}
 use Rattle.gh_path.specs.Terms.{Kind}
 use Rattle.gh_symb.specs.Symbolic.{Under}
-use Rattle.gh_symb.specs.Formulas.{allocated, hops, within, meets, each, each_pair, keeps, others_keep, kept, written_claims, made_claims, freed_claims, replaced_claims, variables, successor}
+use Rattle.gh_symb.specs.Formulas.{allocated, hops, within, meets, each, each_pair, keeps, others_keep, kept, written_claims, made_claims, freed_claims, parts_claims, variables, successor}
 use Rattle.gh_model.specs.Structures.{Structure}
 use Rattle.gh_model.specs.Tells.{IsInside, Fits}
 use Rattle.gh_model.specs.Steps.{KeepsHops, IsKept}
@@ -22,7 +22,7 @@ use Rattle.gh_model.specs.StepFormulas.{WritesSpeak, NewsSpeak, FreesSpeak, Call
 use Rattle.gh_model.proofs.Spoken.{and_is, or_is, not_is, last_and, agree_is, equal_is, all_in_row, each_term, over_values}
 
 -- a list of claims, by one test
-are_true : (m : Interpretation) (fs : List Claim) → AreTrue m fs ↔ IsTrue (all_true m (claims_of fs))
+pub are_true : (m : Interpretation) (fs : List Claim) → AreTrue m fs ↔ IsTrue (all_true m (claims_of fs))
 are_true m fs = (to fs, from fs)
   where
     to : (gs : List Claim) → AreTrue m gs → IsTrue (all_true m (claims_of gs))
@@ -172,7 +172,7 @@ calls_speak m at V M N ks u q s t S S' I J =
     let one = all_in_row m (meets ks u ∷ meets ks q ∷ []) (each n apart_claim) X AllQ both apart in
     let two = all_in_row m ((meets ks u ∷ meets ks q ∷ []) ++ each n apart_claim) (each n alloc_claim) (X × AllQ) AllR one alloc in
     let three = all_in_row m ((meets ks u ∷ meets ks q ∷ []) ++ each n apart_claim ++ each n alloc_claim) (each_pair n keep_claim) ((X × AllQ) × AllR) AllW two keep in
-    let all = are_true m (replaced_claims ks i u q) in (
+    let all = are_true m (parts_claims ks i u (q ∷ [])) in (
       λ e. (
           let w = three.0 (all.0 e) in
           record {

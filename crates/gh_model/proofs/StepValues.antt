@@ -6,7 +6,7 @@ use Rattle.std.proofs.lemmas.List.{length-map, length-append}
 use Rattle.gh_ast.specs.declared.Occ.{Occ}
 use Rattle.gh_ast.specs.declared.Expr.{Expr}
 use Rattle.gh_ast.specs.Plain.{Procedure, Program}
-use Rattle.gh_ast.specs.Programs.{Name, names, parameters_of, results_of, Declares, ensured}
+use Rattle.gh_ast.specs.Programs.{Name, names, parameters_of, results_of, Declares}
 use Rattle.gh_ast.proofs.Declared.{is_one}
 use Rattle.gh_ast.proofs.Lists.{member_first, member_later, member_cases, no_member}
 use Rattle.gh_ast.proofs.Members.{name_or}
@@ -15,14 +15,15 @@ use Rattle.gh_assert.specs.Meaning.{Store}
 use Rattle.gh_assert.specs.Values.{Gets}
 use Rattle.gh_assert.proofs.Cells.{get_put}
 use Rattle.gh_path.specs.Graphs as path
-use Rattle.gh_path.specs.Terms.{Bindings, unbound, all_bound, Terms, terms, used, term_of, followed, expr_used, expr_term, exprs_used, exprs_terms, walked, moved_on, rebound, renewed, with_value, some_assigns, bound_inside, call_walked, step_walked}
-use Rattle.gh_symb.specs.Symbolic.{TermStep, call_parts, term_step, step_used}
+use Rattle.gh_path.specs.Terms.{Bindings, unbound, all_bound, Terms, terms, used, term_of, followed, expr_used, expr_term, exprs_used, exprs_terms, walked, moved_on, rebound, renewed, with_value, some_assigns, bound_inside, call_walked, step_walked, each_walked}
+use Rattle.gh_symb.specs.Symbolic.{Under, TermStep, call_parts, term_step, step_used}
+use Rattle.gh_model.proofs.Alternatives.{alternative_told}
 use Rattle.gh_trace.specs.Traces.{State, Called, Takes}
 use Rattle.gh_model.specs.TermValues.{HasCellValues, HasResultValues}
-use Rattle.gh_model.proofs.Growing.{stays, expr_grows, exprs_grow, walked_grows}
+use Rattle.gh_model.proofs.Growing.{stays, expr_grows, exprs_grow, walked_grows, each_grows}
 use Rattle.gh_model.proofs.Naming.{expr_value, exprs_values}
 use Rattle.gh_model.proofs.Inside.{Gives, Knows, all_give, all_known, renewed_known, with_results}
-use Rattle.gh_model.proofs.Valued.{More, front_of, last_of, KindsValued, Valued, later, value_more, gives_more, used_valued, visited_valued, expr_valued, exprs_valued, walked_valued, GivesBut, renewed_valued, assigned_give, sound_of}
+use Rattle.gh_model.proofs.Valued.{More, front_of, last_of, KindsValued, Valued, later, value_more, gives_more, used_valued, visited_valued, expr_valued, exprs_valued, walked_valued, GivesBut, renewed_valued, assigned_give, sound_of, each_valued}
 use Rattle.gh_model.proofs.LoopNames.{IsOver, assigned_listed}
 use Rattle.gh_model.proofs.TraceOwned.{callee_found}
 
@@ -136,11 +137,11 @@ call_values H V P p ys f es vs T x y S at args declares C =
     let start : Valued H V C.inside s = record { kinds = S.kinds; gives = all_give V C.inside unbound (parameters_of p) ts vs args C.arguments (λ n t e. absurd cc) } in
     let E = walked_valued H C.inside p.needs V s start in
     let F = renewed_valued H C.inside (results_of p) E.values (moved_on (walked p.needs s)) E.valued.kinds (λ n t e. inr (E.valued.gives n t e)) in
-    let G = walked_valued H C.inside (ensured p) F.values (with_results p s) F.valued in
-    let after : Terms = walked (ensured p) (with_results p s) in
+    let G = each_valued H C.inside p.gives F.values (with_results p s) F.valued in
+    let after : Terms = each_walked p.gives (with_results p s) in
     let more : More V G.values = λ t v e. G.more t v (F.more t v (E.more t v e)) in
     let known : (r : Name) → Contains (results_of p) r → Knows after.bindings r = λ r c.
-    (let k = renewed_known (results_of p) (moved_on (walked p.needs s)) r (inl c) in (k.0, (walked_grows (ensured p) (with_results p s)).bindings r k.0 k.1)) in
+    (let k = renewed_known (results_of p) (moved_on (walked p.needs s)) r (inl c) in (k.0, (each_grows p.gives (with_results p s)).bindings r k.0 k.1)) in
     let terms' : map (slice_get G.values) (map (λ r. term_of r after) (results_of p)) ≡ map Some (map C.inside (results_of p)) = result_terms G.values C.inside after (results_of p) G.valued.gives known in
     let outer : Gives G.values x.store T.bindings = gives_more V G.values x.store T.bindings more S.gives in
     let A = assign H G.values (names ys) (map (λ r. term_of r after) (results_of p)) (map C.inside (results_of p)) (rebound after T.bindings) x y (record { kinds = G.valued.kinds; gives = outer }) terms' C.targets in
@@ -150,11 +151,13 @@ call_values H V P p ys f es vs T x y S at args declares C =
       valued = A.valued;
       used = outer;
       cells = tt;
-      results = λ q inside' declares' targets r t c e.
+      results = λ q inside' declares' targets a chosen r t c e.
+          let (g, u, is, W) = alternative_told p.gives (with_results p s) a chosen in
+          let e' : after.bindings r ≡ Some t = W.last.bindings r t (ap (λ (w : Under). w.binding r) (sym is) ∙ e) in
           let same : q ≡ p = is_one P.procedures f.name q p declares' declares in
           let c' : Contains (results_of p) r = subst (λ (z : Procedure). Contains (results_of z) r) same c in
           let targets' : map inside' (results_of p) ≡ map y.store (names ys) = subst (λ (z : Procedure). map inside' (results_of z) ≡ map y.store (names ys)) same targets in
-          G.valued.gives r t e ∙ ap Some (sym (same_at inside' C.inside (results_of p) r (targets' ∙ C.targets.given) c'));
+          G.valued.gives r t e' ∙ ap Some (sym (same_at inside' C.inside (results_of p) r (targets' ∙ C.targets.given) c'));
       kept = A.kept;
     }
 

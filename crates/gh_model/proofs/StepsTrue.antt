@@ -7,22 +7,22 @@ use Rattle.gh_base.specs.Meaning.{Interpretation}
 use Rattle.gh_ast.specs.declared.Occ.{Occ}
 use Rattle.gh_ast.specs.declared.Expr.{Expr}
 use Rattle.gh_ast.specs.Plain.{Formula, Procedure, Program}
-use Rattle.gh_ast.specs.Programs.{Name, names, results_of, ensured}
+use Rattle.gh_ast.specs.Programs.{Name, names, results_of}
 use Rattle.gh_ast.proofs.Declared.{is_member}
 use Rattle.gh_assert.specs.Heaps.{Heap, IsProper}
-use Rattle.gh_assert.specs.Meaning.{Store, agrees}
+use Rattle.gh_assert.specs.Meaning.{Store, Meaning, agrees}
 use Rattle.gh_assert.specs.Values.{result, compared as outcome_of}
 use Rattle.gh_assert.specs.Ownership.{Owned}
 use Rattle.gh_assert.proofs.Cells.{get_put, get_beside}
 use Rattle.gh_assert.proofs.Unique.{get_removed, get_kept}
 use Rattle.gh_path.specs.Graphs as path
-use Rattle.gh_path.specs.Terms.{Kind, next, Terms, used, term_of, expr_used, expr_term, exprs_used, exprs_terms, walked, moved_on, rebound, renewed, some_assigns, bound_inside, call_walked, step_walked, steps_walked}
+use Rattle.gh_path.specs.Terms.{Kind, next, Terms, used, term_of, expr_used, expr_term, exprs_used, exprs_terms, walked, each_walked, moved_on, rebound, renewed, some_assigns, bound_inside, call_walked, step_walked, steps_walked}
 use Rattle.gh_grass.specs.Bindings.{term}
 use Rattle.gh_grass.specs.Claims.{Claim}
 use Rattle.gh_grass.specs.Footprints.{compared}
 use Rattle.gh_grass.specs.Truth.{truth, AreTrue}
-use Rattle.gh_symb.specs.Symbolic.{under, call_parts, term_step, term_steps, state_bindings}
-use Rattle.gh_symb.specs.Formulas.{allocated, variables, successor, replaced_claims, step_claims, steps_claims, version_after as version_past}
+use Rattle.gh_symb.specs.Symbolic.{under, each_under, call_parts, term_step, term_steps, state_bindings}
+use Rattle.gh_symb.specs.Formulas.{allocated, variables, successor, parts_claims, step_claims, steps_claims, version_after as version_past}
 use Rattle.gh_trace.specs.Traces.{State, Replaced, Takes, IsTrace}
 use Rattle.gh_trace.specs.Laws.{HasOwnNames}
 use Rattle.gh_model.specs.Structures.{Structure}
@@ -31,9 +31,10 @@ use Rattle.gh_model.specs.Steps.{IsPut, IsFreed, IsCalled, SaysWrite, SaysNew, S
 use Rattle.gh_model.specs.StepLaws.{AreTold}
 use Rattle.gh_model.specs.Spoken.{Speaks, IsSpoken}
 use Rattle.gh_model.specs.TermValues.{version_after, HasResultValues, HaveValues}
-use Rattle.gh_model.proofs.Growing.{Within, stays, bound_same, followed_grows, expr_grows, exprs_grow, walked_grows}
+use Rattle.gh_model.proofs.Growing.{Within, stays, bound_same, followed_grows, expr_grows, exprs_grow, walked_grows, each_grows}
 use Rattle.gh_model.proofs.Naming.{Sound, listed, term_at, formula_named, expr_value, exprs_values}
 use Rattle.gh_model.proofs.Inside.{with_results, renewed_within, renewed_version, inside_before, inside_after}
+use Rattle.gh_model.proofs.Alternatives.{walked_there, alternative_sound, one_met, part_one}
 use Rattle.gh_model.proofs.Spoken.{compared_truth, value_truth}
 use Rattle.gh_model.proofs.StepFormulas.{writes_speak, news_speak, frees_speak, calls_speak}
 use Rattle.gh_model.proofs.Said.{writes_are_said, news_are_said, frees_are_said, calls_are_said}
@@ -74,7 +75,7 @@ put_of h k a v e = record { here = ap (λ g. get g a) e ∙ get_put h a v; elsew
 freed_of : (h k : Heap) (a : ℕ) → k ≡ remove h a → IsFreed h k a
 freed_of h k a e = record { here = ap (λ g. get g a) e ∙ get_removed h a; elsewhere = λ q away. ap (λ g. get g q) e ∙ get_kept h a q away }
 
-called_of : (f g : Formula) (s t : Store) (h k : Heap) → Replaced f s h g t k → IsCalled h k f g s t
+called_of : (f g : Formula) (s t : Store) (h k : Heap) → Replaced f s h (Meaning g t) k → IsCalled h k f g s t
 called_of f g s t h k R = record { given = R.part; back = R.other; rest = R.frame; before = R.splits; after = R.joins; meets = R.met; returns = R.meets }
 
 -- what a comparison gave
@@ -169,8 +170,8 @@ free_true P xs K V H M A c o ps s x y I at at' =
     (subst (λ u. SaysFree V (M i) (M (i + 1)) u) (sym (value_of V tx (x.store o.name) ex)) says)
 
 -- a part that gives way, and one that comes
-replaced_true : (K : List Kind) (V : List ℕ) (H : ℕ → Heap) (M : ℕ → Structure) → AreVersions V K H M → (f g : Formula) (s r : Terms) (i : ℕ) (st st' : Store) (h k : Heap) → s.version ≡ i → r.version ≡ i + 1 → H i ≡ h → H (i + 1) ≡ k → Sound K V st h (walked f s) → Sound K V st' k (walked g r) → Replaced f st h g st' k
-    → AreTrue (reflection V M) (replaced_claims K i (under f s) (under g r))
+replaced_true : (K : List Kind) (V : List ℕ) (H : ℕ → Heap) (M : ℕ → Structure) → AreVersions V K H M → (f g : Formula) (s r : Terms) (i : ℕ) (st st' : Store) (h k : Heap) → s.version ≡ i → r.version ≡ i + 1 → H i ≡ h → H (i + 1) ≡ k → Sound K V st h (walked f s) → Sound K V st' k (walked g r) → Replaced f st h (Meaning g st') k
+    → AreTrue (reflection V M) (parts_claims K i (under f s) (under g r ∷ []))
 replaced_true K V H M A f g s r i st st' h k vs vr at at' S S' R =
     let n = length K in
     let m = reflection V M in
@@ -178,11 +179,11 @@ replaced_true K V H M A f g s r i st st' h k vs vr at at' S S' R =
     let J : IsSpoken m (i + 1) n (value_at V) V (M (i + 1)) (variables (walked g r).bindings) (successor K (i + 1)) st' g = under_speaks K V H M A st' k g r (i + 1) vr at' S' in
     let says = calls_are_said V h k (M i) (M (i + 1)) f g st st' (told_both K V H M A i (i + 1) h k at at') (formula_named K V st h f s S) (formula_named K V st' k g r S') (called_of f g st st' h k R) in
     let i' = s.version in
-    let step : AreTrue m (replaced_claims K i' (under f s) (under g r)) = (calls_speak m (value_at V) V (M i') (M (i' + 1)) K (under f s) (under g r) st st' (speaks_at K V H M A i') (speaks_at K V H M A (i' + 1))
+    let step : AreTrue m (parts_claims K i' (under f s) (under g r ∷ [])) = (calls_speak m (value_at V) V (M i') (M (i' + 1)) K (under f s) (under g r) st st' (speaks_at K V H M A i') (speaks_at K V H M A (i' + 1))
     (subst (λ j. IsSpoken m j n (value_at V) V (M j) (variables (walked f s).bindings) (successor K j) st f) (sym vs) I)
     (subst (λ j. IsSpoken m r.version n (value_at V) V (M (j + 1)) (variables (walked g r).bindings) (successor K r.version) st' g) (sym vs) (subst (λ j. IsSpoken m j n (value_at V) V (M (i + 1)) (variables (walked g r).bindings) (successor K j) st' g) (sym vr) J))).1
     (subst (λ j. SaysCall V (M j) (M (j + 1)) f g st st') (sym vs) says) in
-    subst (λ j. AreTrue m (replaced_claims K j (under f s) (under g r))) vs step
+    subst (λ j. AreTrue m (parts_claims K j (under f s) (under g r ∷ []))) vs step
 
 called_true : (P : Program) (xs : List Name) (K : List Kind) (V : List ℕ) (H : ℕ → Heap) (M : ℕ → Structure) → AreVersions V K H M → (c : path.Check) (ys : List Occ) (f : Occ) (es : List Expr) (ps : List path.PathStep) (s : Terms) (x y : State) → IsStep P xs K V c (path.called ys f es) ps s x y → H s.version ≡ x.heap → H (s.version + 1) ≡ y.heap → AreTrue (reflection V M) (step_claims K s.version (term_step P xs (path.called ys f es) s))
 called_true P xs K V H M A c ys f es ps s x y I at at' =
@@ -192,18 +193,24 @@ called_true P xs K V H M A c ys f es ps s x y I at at' =
     let found' = callee_found P.procedures f.name p declares in
     let own = I.own_names p (is_member P.procedures f.name p declares) in
     let s1 : Terms = rebound T (bound_inside p ts) in
-    let all : Within (walked (ensured p) (with_results p s1)).kinds K = subst (λ o. Within (call_walked o (names ys) ts T).kinds K) found' I.within in
-    let some : Within (walked p.needs s1).kinds K = λ i k e. all i k ((walked_grows (ensured p) (with_results p s1)).kinds i k (renewed_within (results_of p) (moved_on (walked p.needs s1)) i k e)) in
+    let mid : Terms = with_results p s1 in
+    let all : Within (each_walked p.gives mid).kinds K = subst (λ o. Within (call_walked o (names ys) ts T).kinds K) found' I.within in
+    let some : Within (walked p.needs s1).kinds K = λ i k e. all i k ((each_grows p.gives mid).kinds i k (renewed_within (results_of p) (moved_on (walked p.needs s1)) i k e)) in
     let few : Within T.kinds K = λ i k e. some i k ((walked_grows p.needs s1).kinds i k e) in
     let S : Sound K V x.store x.heap T = sound_used P xs K V c (path.called ys f es) ps s x y I few in
     let values = exprs_values K V x.store x.heap es vs s S give in
     let R : HasResultValues P V (path.called ys f es) (call_parts (Some p) ts T) y = subst (λ o. HasResultValues P V (path.called ys f es) (call_parts o ts T) y) found' I.results in
     let version : T.version ≡ s.version = (exprs_grow es s).version in
     let first = inside_before K V x.heap p ts vs T C.inside own.needs_in values C.arguments I.null some (λ t u v e. I.values.next t u v (e ∙ ap (λ i. Some (next i u)) version)) in
-    let last = inside_after K V y.heap p ts vs T C.inside own.needs_in own.gives_in values C.arguments I.null all (λ t u v e. I.after.next t u v (e ∙ ap (λ i. Some (next (i + 1) u)) version)) (R p C.inside declares (sym C.targets.given)) in
-    let later : (with_results p s1).version ≡ s.version + 1 = renewed_version (results_of p) (moved_on (walked p.needs s1)) ∙ ap (λ i. i + 1) ((walked_grows p.needs s1).version ∙ version) in
+    let (g, there, R') = one_met p.needs C.inside x.heap p.gives C.inside y.heap C.replaced in
+    let (t, W) = walked_there p.gives mid g there in
+    let results : (r : Name) (j : ℕ) → Contains (results_of p) r → mid.bindings r ≡ Some j → slice_get V j ≡ Some (C.inside r) =
+    λ r j c e. R p C.inside declares (sym C.targets.given) (under g t) W.told r j c ((walked_grows g t).bindings r j (W.first.bindings r j e)) in
+    let last = inside_after K V y.heap p ts vs T C.inside own.needs_in own.gives_in values C.arguments I.null all (λ t u v e. I.after.next t u v (e ∙ ap (λ i. Some (next (i + 1) u)) version)) results in
+    let later : mid.version ≡ s.version + 1 = renewed_version (results_of p) (moved_on (walked p.needs s1)) ∙ ap (λ i. i + 1) ((walked_grows p.needs s1).version ∙ version) in
+    let one = replaced_true K V H M A p.needs g s1 t s.version C.inside C.inside x.heap y.heap version (W.first.version ∙ later) at at' first (alternative_sound K V C.inside y.heap p.gives mid g t W last) R' in
     subst (λ o. AreTrue (reflection V M) (step_claims K s.version (call_parts o ts T))) (sym found')
-    (replaced_true K V H M A p.needs (ensured p) s1 (with_results p s1) s.version C.inside C.inside x.heap y.heap version later at at' first last C.replaced)
+    (part_one (reflection V M) K s.version (under p.needs s1) (each_under p.gives mid) (under g t) W.told one)
 
 looped_true : (P : Program) (xs : List Name) (K : List Kind) (V : List ℕ) (H : ℕ → Heap) (M : ℕ → Structure) → AreVersions V K H M → (c : path.Check) (l : path.Loop) (ps : List path.PathStep) (s : Terms) (x y : State) → IsStep P xs K V c (path.looped l) ps s x y → H s.version ≡ x.heap → H (s.version + 1) ≡ y.heap → AreTrue (reflection V M) (step_claims K s.version (term_step P xs (path.looped l) s))
 looped_true P xs K V H M A c l ps s x y I at at' =

@@ -1,5 +1,5 @@
 -- The heaps of a counterexample are owned over the values of the terms.
-use Rattle.std.specs.Prelude.{◌≡◌, ℕ, ◌+◌, List, [], ◌∷◌, length, filter, slice_get, Option, Some, None, cond, Contains}
+use Rattle.std.specs.Prelude.{◌≡◌, ℕ, ◌+◌, List, [], ◌∷◌, ◌++◌, length, filter, slice_get, Option, Some, None, cond, Contains}
 use Rattle.std.specs.FinMap.{get}
 use Rattle.std.specs.Str.{bytes_eq}
 use Rattle.std.proofs.Common.{refl, sym, ◌∙◌, ap, subst, inl, inr}
@@ -8,13 +8,14 @@ use Rattle.std.proofs.lemmas.Slice.Eq.{bytes_eq-Decides}
 use Rattle.gh_ast.specs.declared.Occ.{Occ}
 use Rattle.gh_ast.specs.declared.Expr.{Expr}
 use Rattle.gh_ast.specs.Plain.{Formula, Procedure, Program}
-use Rattle.gh_ast.specs.Programs.{Name, name_of, names, results_of, variable_names, IsFirstNamed, ensured}
+use Rattle.gh_ast.specs.Programs.{Name, name_of, names, parameters_of, results_of, variable_names, IsFirstNamed}
+use Rattle.gh_ast.specs.Names.{FormulaIn}
 use Rattle.gh_ast.specs.Rules.{IsTyped}
 use Rattle.gh_ast.proofs.Declared.{is_member}
 use Rattle.gh_ast.proofs.Lists.{member_cases, only_member}
-use Rattle.gh_ast.proofs.TypedPrograms.{needs_are_parameters, ensured_is_of_contract}
+use Rattle.gh_ast.proofs.TypedPrograms.{needs_are_parameters, gives_are_contract}
 use Rattle.gh_assert.specs.Heaps.{Heap, IsProper}
-use Rattle.gh_assert.specs.Meaning.{Store}
+use Rattle.gh_assert.specs.Meaning.{Store, Meaning}
 use Rattle.gh_assert.specs.Walks.{succ}
 use Rattle.gh_assert.specs.Ownership.{Owned}
 use Rattle.gh_assert.specs.Reading.{HasNames}
@@ -22,16 +23,17 @@ use Rattle.gh_assert.proofs.Cells.{get_put, succ_at}
 use Rattle.gh_assert.proofs.Kept.{footprints_are_owned, footprints_come_and_go}
 use Rattle.gh_assert.proofs.Proper.{met_are_proper}
 use Rattle.gh_path.specs.Graphs as path
-use Rattle.gh_path.specs.Terms.{Kind, next, Bindings, Terms, used, expr_used, exprs_used, exprs_terms, walked, moved_on, rebound, renewed, with_value, some_assigns, callee_in, bound_inside, answered_inside, call_walked, entry_walked, check_walked, step_walked, steps_walked, no_terms, followed}
-use Rattle.gh_symb.specs.Symbolic.{call_parts, term_step, term_steps, step_used, first_use, used_first, either_term, state_bindings, symbolic_of}
+use Rattle.gh_path.specs.Terms.{Kind, next, Bindings, Terms, used, expr_used, exprs_used, exprs_terms, walked, each_walked, moved_on, rebound, renewed, with_value, some_assigns, callee_in, bound_inside, answered_inside, call_walked, entry_walked, check_walked, step_walked, steps_walked, no_terms, followed}
+use Rattle.gh_symb.specs.Symbolic.{under, call_parts, term_step, term_steps, step_used, first_use, used_first, either_term, state_bindings, symbolic_of}
 use Rattle.gh_trace.specs.Traces.{State, Replaced, Takes, IsTrace}
 use Rattle.gh_trace.specs.Laws.{HasOwnNames}
 use Rattle.gh_trace.proofs.Proper.{step_proper}
 use Rattle.gh_model.specs.TermValues.{version_after, HasStateValues, HasCellValues, HasResultValues, HaveValues}
 use Rattle.gh_model.specs.TraceLaws.{TracesAreOwned}
-use Rattle.gh_model.proofs.Growing.{Within, Grows, stays, onto, value_within, bound_same, used_grows, visited_grows, expr_grows, exprs_grow, walked_grows}
+use Rattle.gh_model.proofs.Growing.{Within, Grows, stays, onto, value_within, bound_same, used_grows, visited_grows, expr_grows, exprs_grow, walked_grows, each_grows}
 use Rattle.gh_model.proofs.Naming.{Sound, before, listed, variable_named, cell_named, formula_named, expr_value, exprs_values}
 use Rattle.gh_model.proofs.Inside.{with_results, renewed_within, renewed_version, inside_before, inside_after}
+use Rattle.gh_model.proofs.Alternatives.{all_of_members, walked_there, alternative_sound, one_met}
 use Rattle.gh_model.proofs.Touched.{not_null, owned_freed, owned_made, owned_written}
 use Rattle.gh_model.proofs.Ready.{accesses, IsReady, AreReady, start_ready}
 
@@ -50,7 +52,7 @@ chain : (a b c : List Kind) → Within a b → Within b c → Within a c
 chain a b c f g i k e = g i k (f i k e)
 
 inside_within : (p : Procedure) (ys : List Name) (b : Bindings) (s : Terms) → Within s.kinds (answered_inside p ys b s).kinds
-inside_within p ys b s i k e = (walked_grows (ensured p) (with_results p s)).kinds i k (renewed_within (results_of p) (moved_on (walked p.needs s)) i k ((walked_grows p.needs s).kinds i k e))
+inside_within p ys b s i k e = (each_grows p.gives (with_results p s)).kinds i k (renewed_within (results_of p) (moved_on (walked p.needs s)) i k ((walked_grows p.needs s).kinds i k e))
 
 pub call_within : (o : Option Procedure) (ys : List Name) (ts : List ℕ) (s : Terms) → Within s.kinds (call_walked o ys ts s).kinds
 call_within None ys ts s = λ i k e. e
@@ -81,7 +83,7 @@ pub check_within : (P : Program) (c : path.Check) (s : Terms) → Within s.kinds
 check_within P (path.access o) s = (used_grows o.name s).kinds
 check_within P (path.entry f es) s = chain s.kinds (exprs_used es s).kinds (check_walked P (path.entry f es) s).kinds (exprs_grow es s).kinds (entry_within (callee_in P.procedures f.name) (exprs_terms es (exprs_used es s)) (exprs_used es s))
 check_within P (path.loop_entry l) s = (walked_grows l.invariant s).kinds
-check_within P (path.returned at f) s = (walked_grows f s).kinds
+check_within P (path.returned at fs) s = (each_grows fs s).kinds
 check_within P (path.loop_end l) s = (walked_grows l.invariant s).kinds
 
 pub used_step_grows : (p : path.PathStep) (s : Terms) → Grows s (step_used p s)
@@ -97,7 +99,7 @@ used_step_grows (path.answered ys es) s = exprs_grow es s
 
 -- the version after a step that a trace takes
 inside_version : (p : Procedure) (ys : List Name) (b : Bindings) (s : Terms) → (answered_inside p ys b s).version ≡ s.version + 1
-inside_version p ys b s = (walked_grows (ensured p) (with_results p s)).version ∙ renewed_version (results_of p) (moved_on (walked p.needs s)) ∙ ap (λ i. i + 1) (walked_grows p.needs s).version
+inside_version p ys b s = (each_grows p.gives (with_results p s)).version ∙ renewed_version (results_of p) (moved_on (walked p.needs s)) ∙ ap (λ i. i + 1) (walked_grows p.needs s).version
 
 call_version : (o : Option Procedure) (p : Procedure) → o ≡ Some p → (ys : List Name) (ts : List ℕ) (s : Terms) → (call_walked o ys ts s).version ≡ s.version + 1
 call_version o p e ys ts s = ap (λ q. (call_walked q ys ts s).version) e ∙ inside_version p ys s.bindings (rebound s (bound_inside p ts))
@@ -202,7 +204,7 @@ freed_owned P xs K V c o ps s x y last I A r =
     subst (λ (z : State). Owned V z.heap) (sym to) (owned_freed V x.heap (x.store o.name) w (not_null x.heap (x.store o.name) w I.proper at) at a (old_named V last x o.name w A r at) I.owned)
 
 -- a footprint goes, and another comes
-replaced_owned : (V : List ℕ) (f : Formula) (st : Store) (h : Heap) (g : Formula) (tt' : Store) (k : Heap) → Replaced f st h g tt' k → HasNames f st h V → HasNames g tt' k V → Owned V h → Owned V k
+replaced_owned : (V : List ℕ) (f : Formula) (st : Store) (h : Heap) (g : Formula) (tt' : Store) (k : Heap) → Replaced f st h (Meaning g tt') k → HasNames f st h V → HasNames g tt' k V → Owned V h → Owned V k
 replaced_owned V f st h g t k R n m own =
     (footprints_come_and_go V k R.other R.frame t g R.joins m R.meets).1 ((footprints_come_and_go V h R.part R.frame st f R.splits n R.met).0 own)
 
@@ -213,18 +215,23 @@ called_owned P xs K V c ys f es ps s x y I =
     let ts = exprs_terms es T in
     let found = callee_found P.procedures f.name p declares in
     let own = I.own_names p (is_member P.procedures f.name p declares) in
-    let all : Within (walked (ensured p) (with_results p (rebound T (bound_inside p ts)))).kinds K = subst (λ o. Within (call_walked o (names ys) ts T).kinds K) found I.within in
-    let some : Within (walked p.needs (rebound T (bound_inside p ts))).kinds K = λ i k e. all i k ((walked_grows (ensured p) (with_results p (rebound T (bound_inside p ts)))).kinds i k (renewed_within (results_of p) (moved_on (walked p.needs (rebound T (bound_inside p ts)))) i k e)) in
+    let mid = with_results p (rebound T (bound_inside p ts)) in
+    let all : Within (each_walked p.gives mid).kinds K = subst (λ o. Within (call_walked o (names ys) ts T).kinds K) found I.within in
+    let some : Within (walked p.needs (rebound T (bound_inside p ts))).kinds K = λ i k e. all i k ((each_grows p.gives mid).kinds i k (renewed_within (results_of p) (moved_on (walked p.needs (rebound T (bound_inside p ts)))) i k e)) in
     let few : Within T.kinds K = λ i k e. some i k ((walked_grows p.needs (rebound T (bound_inside p ts))).kinds i k e) in
     let S : Sound K V x.store x.heap T = sound_used P xs K V c (path.called ys f es) ps s x y I few in
     let values = exprs_values K V x.store x.heap es vs s S give in
     let R : HasResultValues P V (path.called ys f es) (call_parts (Some p) ts T) y = subst (λ o. HasResultValues P V (path.called ys f es) (call_parts o ts T) y) found I.results in
     let version : T.version ≡ s.version = (exprs_grow es s).version in
     let first = inside_before K V x.heap p ts vs T C.inside own.needs_in values C.arguments I.null some (λ t u v e. I.values.next t u v (e ∙ ap (λ i. Some (next i u)) version)) in
-    let last = inside_after K V y.heap p ts vs T C.inside own.needs_in own.gives_in values C.arguments I.null all (λ t u v e. I.after.next t u v (e ∙ ap (λ i. Some (next (i + 1) u)) version)) (R p C.inside declares (sym C.targets.given)) in
-    replaced_owned V p.needs C.inside x.heap (ensured p) C.inside y.heap C.replaced
+    let (g, there, R') = one_met p.needs C.inside x.heap p.gives C.inside y.heap C.replaced in
+    let (t, W) = walked_there p.gives mid g there in
+    let results : (r : Name) (j : ℕ) → Contains (results_of p) r → mid.bindings r ≡ Some j → slice_get V j ≡ Some (C.inside r) =
+    λ r j c e. R p C.inside declares (sym C.targets.given) (under g t) W.told r j c ((walked_grows g t).bindings r j (W.first.bindings r j e)) in
+    let last = inside_after K V y.heap p ts vs T C.inside own.needs_in own.gives_in values C.arguments I.null all (λ t u v e. I.after.next t u v (e ∙ ap (λ i. Some (next (i + 1) u)) version)) results in
+    replaced_owned V p.needs C.inside x.heap g C.inside y.heap R'
     (formula_named K V C.inside x.heap p.needs (rebound T (bound_inside p ts)) first)
-    (formula_named K V C.inside y.heap (ensured p) (with_results p (rebound T (bound_inside p ts))) last)
+    (formula_named K V C.inside y.heap g t (alternative_sound K V C.inside y.heap p.gives mid g t W last))
     I.owned
 
 looped_owned : (P : Program) (xs : List Name) (K : List Kind) (V : List ℕ) (c : path.Check) (l : path.Loop) (ps : List path.PathStep) (s : Terms) (x y : State) → IsStep P xs K V c (path.looped l) ps s x y → Owned V y.heap
@@ -299,7 +306,7 @@ owned_along P xs K V c N null (p ∷ ps) s last x (y ∷ ys) w H T proper r A ow
     ]
 
 pub own_names : (P : Program) → IsTyped P → (q : Procedure) → Contains P.procedures q → HasOwnNames q
-own_names P typed q q' = record { needs_in = needs_are_parameters P typed q q'; gives_in = ensured_is_of_contract P typed q q' }
+own_names P typed q q' = record { needs_in = needs_are_parameters P typed q q'; gives_in = all_of_members (λ f. FormulaIn f (parameters_of q ++ results_of q)) q.gives (gives_are_contract P typed q q') }
 
 pub traces_are_owned : TracesAreOwned
 traces_are_owned P c x ys V typed is C values =

@@ -19,7 +19,7 @@ use Rattle.gh_model.specs.TraceLaws.{IsCounterexample, ValuesExist}
 use Rattle.gh_model.proofs.Growing.{Grows, stays, onto, bound_cases, exprs_grow, walked_grows}
 use Rattle.gh_model.proofs.Naming.{Sound, expr_some}
 use Rattle.gh_model.proofs.Inside.{Gives}
-use Rattle.gh_model.proofs.Valued.{More, KindsValued, Valued, gives_more, used_valued, exprs_valued, walked_valued, sound_of}
+use Rattle.gh_model.proofs.Valued.{More, KindsValued, Valued, gives_more, used_valued, exprs_valued, walked_valued, sound_of, each_valued}
 use Rattle.gh_model.proofs.LoopNames.{AreOver, loops_are_over}
 use Rattle.gh_model.proofs.StepValues.{step_values}
 use Rattle.gh_model.proofs.TraceOwned.{here, step_version}
@@ -141,7 +141,7 @@ check_values H V P (path.entry f es) x s S at =
     let F = entry_values H E.values (callee_in P.procedures f.name) (exprs_terms es T) T E.valued.kinds (exprs_listed T.kinds E.values x.store x.heap es s T (stays T) sound) in
     record { values = F.0; more = λ t v e. F.1 t v (E.more t v e); kinds = F.2; used = gives_more E.values F.0 x.store T.bindings F.1 E.valued.gives }
 check_values H V P (path.loop_entry l) x s S at = let E = walked_valued H x.store l.invariant V s S in record { values = E.values; more = E.more; kinds = E.valued.kinds; used = E.valued.gives }
-check_values H V P (path.returned w f) x s S at = let E = walked_valued H x.store f V s S in record { values = E.values; more = E.more; kinds = E.valued.kinds; used = E.valued.gives }
+check_values H V P (path.returned w fs) x s S at = let E = each_valued H x.store fs V s S in record { values = E.values; more = E.more; kinds = E.valued.kinds; used = E.valued.gives }
 check_values H V P (path.loop_end l) x s S at = let E = walked_valued H x.store l.invariant V s S in record { values = E.values; more = E.more; kinds = E.valued.kinds; used = E.valued.gives }
 
 same_term : (t u : ℕ) → Some t ≡ Some u → t ≡ u
@@ -201,8 +201,7 @@ cells_more V W (freed t) y m c = tt
 cells_more V W (parts b a) y m c = tt
 
 results_more : (P : Program) (V W : List ℕ) (p : path.PathStep) (q : TermStep) (y : State) → More V W → HasResultValues P V p q y → HasResultValues P W p q y
-results_more P V W (path.called ys f es) (parts b []) y m R = tt
-results_more P V W (path.called ys f es) (parts b (a ∷ as')) y m R = λ p inside d e r t c g. m t (inside r) (R p inside d e r t c g)
+results_more P V W (path.called ys f es) (parts b as') y m R = λ p inside d e a there r t c g. m t (inside r) (R p inside d e a there r t c g)
 results_more P V W (path.called ys f es) (made l t) y m R = tt
 results_more P V W (path.called ys f es) (accessed t) y m R = tt
 results_more P V W (path.called ys f es) (assumed t e u) y m R = tt

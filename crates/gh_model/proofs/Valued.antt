@@ -14,7 +14,7 @@ use Rattle.gh_ast.proofs.Lists.{member_cases, no_member}
 use Rattle.gh_assert.specs.Heaps.{Heap}
 use Rattle.gh_assert.specs.Meaning.{Store}
 use Rattle.gh_assert.specs.Walks.{succ}
-use Rattle.gh_path.specs.Terms.{Kind, next, same_kind, with_value, Bindings, bound, all_bound, Terms, terms, used, used_as, term_of, followed, operand_used, expr_used, exprs_used, test_walked, tests_walked, walked, all_walked, renewed}
+use Rattle.gh_path.specs.Terms.{Kind, next, same_kind, with_value, Bindings, bound, all_bound, Terms, terms, used, used_as, term_of, followed, operand_used, expr_used, exprs_used, test_walked, tests_walked, walked, all_walked, each_walked, renewed}
 use Rattle.gh_model.proofs.Growing.{used_bound, bound_same, bound_cases}
 use Rattle.gh_model.proofs.Naming.{Sound}
 use Rattle.gh_model.proofs.Inside.{Gives}
@@ -231,3 +231,8 @@ sound_of H V st h s at S = record {
       f.2 ∙ ap (λ w. Some (succ (H s.version) w)) (same_term f.0 v (sym f.1 ∙ a)) ∙ ap (λ k. Some (succ k v)) at;
   bound = S.gives;
 }
+
+-- alternatives
+pub each_valued : (H : ℕ → Heap) (st : Store) (fs : List Formula) (V : List ℕ) (s : Terms) → Valued H V st s → Extended H V st (each_walked fs s)
+each_valued H st [] V s S = done H V st s S
+each_valued H st (f ∷ fs) V s S = later H V st (walked f s) (each_walked (f ∷ fs) s) (walked_valued H st f V s S) (λ W T. each_valued H st fs W (walked f s) T)

@@ -8,7 +8,7 @@ use Rattle.gh_assert.specs.Walks.{succ}
 use Rattle.gh_path.specs.Graphs as path
 use Rattle.gh_path.specs.Conditions.{Condition}
 use Rattle.gh_path.specs.Terms.{Kind, next, Bindings}
-use Rattle.gh_symb.specs.Symbolic.{TermStep, accessed, assumed, same, written, made, freed, parts, symbolic_of}
+use Rattle.gh_symb.specs.Symbolic.{Under, TermStep, accessed, assumed, same, written, made, freed, parts, symbolic_of}
 use Rattle.gh_trace.specs.Traces.{State}
 
 -- writes, new and freed cells, calls and loops begin the next version of the heap
@@ -38,11 +38,11 @@ HasCellValues V (written t u) y = Unit {0}
 HasCellValues V (freed t) y = Unit {0}
 HasCellValues V (parts b a) y = Unit {0}
 
--- a call's results have the values that its targets get
+-- a call's results have the values that its targets get, whatever alternative speaks of them
 abbrev pub HasResultValues : Program → List ℕ → path.PathStep → TermStep → State → Type 0
-HasResultValues P V (path.called ys f es) (parts b (a ∷ as')) y =
+HasResultValues P V (path.called ys f es) (parts b as') y =
     (p : Procedure) (inside : Store) → Declares P f.name p → map inside (results_of p) ≡ map y.store (names ys) →
-    (r : Name) (t : ℕ) → Contains (results_of p) r → a.binding r ≡ Some t → slice_get V t ≡ Some (inside r)
+    (a : Under) → Contains as' a → (r : Name) (t : ℕ) → Contains (results_of p) r → a.binding r ≡ Some t → slice_get V t ≡ Some (inside r)
 HasResultValues P V _ _ y = Unit {0}
 
 -- the states of a path, and the steps between them

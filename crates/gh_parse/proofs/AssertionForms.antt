@@ -1,5 +1,6 @@
 -- How assertions are made, and their rules as those that are put together.
-use Rattle.std.proofs.Common.{◌≡◌, List, [], ◌∷◌, ◌++◌, Bool, true, false, refl, sym, subst, ap, length, ◌<◌, arith}
+use Rattle.std.proofs.Common.{◌≡◌, ◌∙◌, List, [], ◌∷◌, ◌++◌, map, Bool, true, false, refl, sym, subst, ap, length, ◌<◌, arith}
+use Rattle.std.proofs.lemmas.List.{map-append}
 use Rattle.gh_base.specs.declared.place.Span.{Span}
 use Rattle.gh_ast.specs.declared.Occ.{Occ}
 use Rattle.gh_ast.specs.declared.Operand.{Operand}
@@ -10,8 +11,8 @@ use Rattle.gh_ast.specs.declared.sign.Keyword.{Keyword}
 use Rattle.gh_ast.specs.declared.sign.Keyword.TheVariants as kw
 use Rattle.gh_ast.specs.Tokens.{Token, named, key, sign, first_place}
 use Rattle.gh_ast.specs.Plain.{Test, Formula, empty, comparison, points_to, cell, segment, star, cases, Formulas, no_formulas, formula_first, formula_of}
-use Rattle.gh_ast.specs.Grammar.{NoSign, NoKey, SpellsOperand, null_operand, variable, SpellsTest, SpellsItem, emp, acc, lseg, pointed, same, different, by_cases, in_brackets, SpellsAssertion, one_item, items, SpellsItems, last_item, next_item, SpellsClause, no_clause, a_clause}
-use Rattle.gh_ast.proofs.OneAssertion.{one_member, one_formula, one_members, one_clause}
+use Rattle.gh_ast.specs.Grammar.{NoSign, NoKey, SpellsOperand, null_operand, variable, SpellsTest, SpellsItem, emp, acc, lseg, pointed, same, different, by_cases, in_brackets, SpellsAssertion, one_item, items, SpellsItems, last_item, next_item, SpellsAlternatives, last_alternative, next_alternative, SpellsClause, SpellsEnsures, no_clause, a_clause}
+use Rattle.gh_ast.proofs.OneAssertion.{one_member, one_formula, one_members, one_clause, one_alternatives, one_ensures}
 use Rattle.gh_ast.proofs.Shorter.{shorter_test, shorter_assertion}
 use Rattle.gh_parse.specs.declared.cursor.Ahead.{Ahead}
 use Rattle.gh_parse.specs.declared.cursor.Ahead.TheVariants as ahead
@@ -324,3 +325,65 @@ clause_missing {k = k} {ts = ts} n e = subst (λ z. SpellsClause k ts empty z) (
 
 pub clause_there : {k : Keyword} {ts us : List Token} {p : Span} → ts ≡ key k p ∷ us → (x : Formula) (rest : List Token) → SpellsAssertion us x rest → SpellsClause k ts x rest
 clause_there e x rest a = rw e (a_clause a)
+
+-- alternatives
+abbrev pub Alternatives : List Token → List Token → Type 0
+Alternatives = Seq (Any SpellsAssertion) (Opt (sign sg.Or) (Any SpellsAlternatives))
+
+pub make_alternatives : (xs r : List Token) → Alternatives xs r → Any SpellsAlternatives xs r
+make_alternatives _ _ (seq (any a) (without n)) = any (last_alternative a n)
+make_alternatives _ _ (seq (any a) (with (any b))) = any (next_alternative a b)
+
+pub part_alternatives : (xs r : List Token) → Any SpellsAlternatives xs r → Alternatives xs r
+part_alternatives _ _ (any (last_alternative a n)) = seq (any a) (without n)
+part_alternatives _ _ (any (next_alternative a b)) = seq (any a) (with (any b))
+
+exact_alternatives : (ts : List Token) (l : List Formula) (us : List Token) → SpellsAlternatives ts l us → Exact (Any SpellsAlternatives) ts us
+exact_alternatives _ _ _ (last_alternative a n) =
+    kept _ (one_alternatives _) (last_alternative a n) make_alternatives (exact_seq (exact_assertion _ _ _ a) (exact_without (λ p. refl) n))
+exact_alternatives _ _ _ (next_alternative a b) =
+    kept _ (one_alternatives _) (next_alternative a b) make_alternatives (exact_seq (exact_assertion _ _ _ a) (exact_with _ (exact_alternatives _ _ _ b)))
+
+-- what is ensured
+abbrev pub Ensures : List Token → List Token → Type 0
+Ensures = Opt (key kw.Ensures) (Any SpellsAlternatives)
+
+pub make_ensures : (xs r : List Token) → Ensures xs r → Any SpellsEnsures xs r
+make_ensures _ _ (without n) = any (no_clause n)
+make_ensures _ _ (with (any a)) = any (a_clause a)
+
+pub part_ensures : (xs r : List Token) → Any SpellsEnsures xs r → Ensures xs r
+part_ensures _ _ (any (no_clause n)) = without n
+part_ensures _ _ (any (a_clause a)) = with (any a)
+
+pub exact_ensures : (ts us : List Token) → Any SpellsEnsures ts us → Exact (Any SpellsEnsures) ts us
+exact_ensures _ _ (any (no_clause n)) = kept _ (one_ensures _) (no_clause n) make_ensures (exact_without (λ p. refl) n)
+exact_ensures _ _ (any (a_clause a)) = kept _ (one_ensures _) (a_clause a) make_ensures (exact_with _ (exact_alternatives _ _ _ a))
+
+pub ends_ensures : Ends IsPlain (Any SpellsEnsures)
+ends_ensures = ends_by make_ensures (ends_opt (λ p. refl))
+
+pub ensures_missing : {ts us : List Token} → NoKey kw.Ensures ts → us ≡ ts → SpellsEnsures ts (empty ∷ []) us
+ensures_missing {ts = ts} n e = subst (λ z. SpellsEnsures ts (empty ∷ []) z) (sym e) (no_clause n)
+
+pub ensures_there : {ts us : List Token} {p : Span} → ts ≡ key kw.Ensures p ∷ us → (l : List Formula) (rest : List Token) → SpellsAlternatives us l rest → SpellsEnsures ts l rest
+ensures_there e l rest a = rw e (a_clause a)
+
+pub alternative_last : {ts us vs : List Token} {f : Formula} → SpellsAssertion ts f us → NoSign sg.Or us → vs ≡ us → SpellsAlternatives ts (f ∷ []) vs
+alternative_last {ts = ts} {f = f} a n e = subst (λ z. SpellsAlternatives ts (f ∷ []) z) (sym e) (last_alternative a n)
+
+pub alternative_more : {ts us vs : List Token} {f : Formula} {p : Span} → SpellsAssertion ts f us → us ≡ sign sg.Or p ∷ vs → (l : List Formula) (rest : List Token) → SpellsAlternatives vs l rest
+    → SpellsAlternatives ts (f ∷ l) rest
+alternative_more {ts = ts} {f = f} a e l rest h = next_alternative (subst (λ z. SpellsAssertion ts f z) e a) h
+
+pub alternatives_rest : {ts us vs : List Token} {f : Formula} {p : Span} → SpellsAssertion ts f us → us ≡ sign sg.Or p ∷ vs
+    → (left : List Token) → Stops IsPlain (Any SpellsAlternatives) vs left → Stops IsPlain (Any SpellsAlternatives) ts left
+alternatives_rest {p = p} a e left s = form make_alternatives part_alternatives (next (each exact_assertion) (any a) (in_opt p e s))
+
+-- an assertion more
+pub shown_more : (xs ys : List Assertion) (c : Assertion) → ys ≡ xs ++ c ∷ [] → map formula_of ys ≡ map formula_of xs ++ formula_of c ∷ []
+shown_more xs ys c e = ap (map formula_of) e ∙ map-append formula_of xs (c ∷ [])
+
+pub shown_missing : {ts us : List Token} (xs ys : List Assertion) (c : Assertion) → NoKey kw.Ensures ts → us ≡ ts → xs ≡ [] → ys ≡ xs ++ c ∷ [] → formula_of c ≡ empty
+    → SpellsEnsures ts (map formula_of ys) us
+shown_missing xs ys c n e none one is = rw (one, none, is) (ensures_missing n e)

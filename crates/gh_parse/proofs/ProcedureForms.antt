@@ -6,7 +6,7 @@ use Rattle.gh_ast.specs.declared.sign.Sign.TheVariants as sg
 use Rattle.gh_ast.specs.declared.sign.Keyword.TheVariants as kw
 use Rattle.gh_ast.specs.Plain.{Formula, Part, Inside, Procedure}
 use Rattle.gh_ast.specs.Tokens.{Token, named, key, sign, first_place}
-use Rattle.gh_ast.specs.Grammar.{NoSign, NoKey, SpellsClause, SpellsLocals, last_local, next_local, SpellsInside, no_locals, some_locals, SpellsParams, last_param, next_param, SpellsHeader, no_params, params, SpellsResults, no_results, results, SpellsBody, no_body, a_body, SpellsProcedure, a_procedure}
+use Rattle.gh_ast.specs.Grammar.{NoSign, NoKey, SpellsClause, SpellsEnsures, SpellsLocals, last_local, next_local, SpellsInside, no_locals, some_locals, SpellsParams, last_param, next_param, SpellsHeader, no_params, params, SpellsResults, no_results, results, SpellsBody, no_body, a_body, SpellsProcedure, a_procedure}
 use Rattle.gh_ast.specs.Readings.{IsUnique}
 use Rattle.gh_ast.proofs.OneStatement.{no_var_first}
 use Rattle.gh_ast.proofs.OneProgram.{one_locals, one_inside, one_params, one_header, one_results, one_body, one_procedure_at}
@@ -16,7 +16,7 @@ use Rattle.gh_parse.specs.Statements.{SpellsRun}
 use Rattle.gh_parse.specs.Procedures.{AddsLocals, Ended, SpellsEnded}
 use Rattle.gh_parse.proofs.Rules.{Exact, exact_tok, exact_seq, exact_with, exact_without, exact_ended, exact_further, kept, kept_rest, each, apart, apart_seq, by, form, told, next, after, Ends, ends_tok, ends_seq, ends_opt, ends_tail, ends_by}
 use Rattle.gh_parse.proofs.Turns.{Goes}
-use Rattle.gh_parse.proofs.AssertionForms.{exact_clause, ends_clause}
+use Rattle.gh_parse.proofs.AssertionForms.{exact_clause, ends_clause, exact_ensures, ends_ensures}
 use Rattle.gh_parse.proofs.StatementForms.{ARun, a_run, exact_run, ends_run}
 
 -- names with commas between them, and `: Node ;`
@@ -262,7 +262,7 @@ pub headed : {ts us vs ws : List Token} {f : Occ} {p q : Span} → ts ≡ key kw
 headed {p = p} {q = q} a b c = record { word = p; bracket = q; front = cc }
 
 abbrev pub AfterResults : List Token → List Token → Type 0
-AfterResults = Seq (Any (SpellsClause kw.Requires)) (Seq (Any (SpellsClause kw.Ensures)) AnEnd)
+AfterResults = Seq (Any (SpellsClause kw.Requires)) (Seq (Any SpellsEnsures) AnEnd)
 
 abbrev pub AfterBracket : List Token → List Token → Type 0
 AfterBracket = Seq (Any SpellsHeader) (Seq (Any SpellsResults) AfterResults)
@@ -286,10 +286,10 @@ exact_procedure _ _ _ (a_procedure h r f g b) =
     (exact_seq (exact_tok tok)
     (exact_seq (exact_tok tok)
     (exact_seq (exact_header _ _ _ h)
-    (exact_seq (exact_results _ _ _ r) (exact_seq (exact_clause (λ p. refl) _ _ (any f)) (exact_seq (exact_clause (λ p. refl) _ _ (any g)) (exact_body b))))))))
+    (exact_seq (exact_results _ _ _ r) (exact_seq (exact_clause (λ p. refl) _ _ (any f)) (exact_seq (exact_ensures _ _ (any g)) (exact_body b))))))))
 
 pub ends_after_results : Ends IsPlain AfterResults
-ends_after_results = ends_seq (ends_clause (λ p. refl)) (ends_seq (ends_clause (λ p. refl)) ends_end)
+ends_after_results = ends_seq (ends_clause (λ p. refl)) (ends_seq ends_ensures ends_end)
 
 pub ends_after_bracket : Ends IsPlain AfterBracket
 ends_after_bracket = ends_seq ends_header (ends_seq ends_results ends_after_results)
@@ -299,10 +299,9 @@ pub in_header : {F : List Token → Type 0} {ts us vs ws left : List Token} {f :
     → Stops F AfterBracket ws left → Stops F (Any SpellsProcedure) ts left
 in_header a b c s = form make_procedure part_procedure (after _ a (after _ b (after _ c s)))
 
-pub procedure_spelled : {ts us vs ws zs ends rest : List Token} {f : Occ} {xs ys : List Occ} {k m : Formula} {gs : List Formula} {e : Ended} → IsHeaded ts f us → SpellsHeader us xs vs → SpellsResults vs ys ws
-    → SpellsClause kw.Requires ws k zs → SpellsClause kw.Ensures zs m ends → SpellsEnded ends e rest → gs ≡ m ∷ []
-    → SpellsProcedure ts (record { name = f; parameters = xs; results = ys; needs = k; gives = gs; body = e.body; close = e.close }) rest
-procedure_spelled {ts = ts} {rest = rest} {f = f} {xs = xs} {ys = ys} {k = k} {m = m} {e = e} h s r c d b one =
-    let x : Procedure = record { name = f; parameters = xs; results = ys; needs = k; gives = m ∷ []; body = e.body; close = e.close } in
-    subst (λ fs. SpellsProcedure ts (record { name = f; parameters = xs; results = ys; needs = k; gives = fs; body = e.body; close = e.close }) rest) (sym one)
-    (subst (λ z. SpellsProcedure z x rest) (sym h.front) (a_procedure s r c d b))
+pub procedure_spelled : {ts us vs ws zs ends rest : List Token} {f : Occ} {xs ys : List Occ} {k : Formula} {l : List Formula} {e : Ended} → IsHeaded ts f us → SpellsHeader us xs vs → SpellsResults vs ys ws
+    → SpellsClause kw.Requires ws k zs → SpellsEnsures zs l ends → SpellsEnded ends e rest
+    → SpellsProcedure ts (record { name = f; parameters = xs; results = ys; needs = k; gives = l; body = e.body; close = e.close }) rest
+procedure_spelled {rest = rest} {f = f} {xs = xs} {ys = ys} {k = k} {l = l} {e = e} h s r c d b =
+    let x : Procedure = record { name = f; parameters = xs; results = ys; needs = k; gives = l; body = e.body; close = e.close } in
+    subst (λ z. SpellsProcedure z x rest) (sym h.front) (a_procedure s r c d b)

@@ -1,9 +1,9 @@
 //! Assertions.
 
-ghost use Rattle.std.specs.Prelude.{◌≡◌, false};
+ghost use Rattle.std.specs.Prelude.{◌≡◌, ◌<◌, false, IfOk, length, map};
 ghost use Rattle.gh_base.specs.declared.place.Span.{Span};
 ghost use Rattle.gh_ast.specs.Tokens.{sign};
-ghost use Rattle.gh_ast.specs.Grammar.{SpellsItem, SpellsAssertion, SpellsClause};
+ghost use Rattle.gh_ast.specs.Grammar.{SpellsItem, SpellsAssertion, SpellsAlternatives, SpellsClause, SpellsEnsures};
 ghost use Rattle.gh_ast.specs.Plain.{formula_of};
 ghost use Rattle.gh_parse.specs.Views.{tokens_of};
 ghost use Rattle.gh_parse.specs.Stops.{IsPlain, IsAny, goes_on};
@@ -24,6 +24,33 @@ impl<'t> Parser<'t> {
             return Ok(Assertion::Emp);
         };
         self.assertion(alloc)
+    }
+
+    /// Reads what comes after `ensures`, if the word is there: alternatives. Missing ones are `emp` alone.
+    pub fn ensured(&mut self, alloc: Global) -> Result<Vec<Assertion>, ReadError>
+        ensures read { IsRead IsPlain SpellsEnsures (tokens_of self.old.rest.now) (λ fs. map formula_of fs.items) result (tokens_of self.new.rest.now) }
+        ensures some { IfOk result (λ fs. 0 < length fs.items) }
+    {
+        let Some(_) = self.take_key(Keyword::Ensures) else {
+            let mut missing = Vec::new(alloc);
+            missing.push(Assertion::Emp)?;
+            return Ok(missing);
+        };
+        self.alternatives(alloc)
+    }
+
+    // Reads one assertion or more with `||` between two.
+    fn alternatives(&mut self, alloc: Global) -> Result<Vec<Assertion>, ReadError>
+        ensures read { IsRead IsPlain SpellsAlternatives (tokens_of self.old.rest.now) (λ fs. map formula_of fs.items) result (tokens_of self.new.rest.now) }
+        ensures some { IfOk result (λ fs. 0 < length fs.items) }
+    {
+        let mut alternatives = Vec::new(alloc);
+        'members: loop {
+            alternatives.push(self.assertion(alloc)?)?;
+            let Some(_) = self.take_sign(Sign::Or) else {
+                return Ok(alternatives);
+            };
+        }
     }
 
     /// Reads an assertion: items with `&*&` between them.

@@ -96,8 +96,12 @@ fn places(rt: HostRuntime) -> Result<(), AllocError> {
 
 #[test]
 fn procedures(rt: HostRuntime) -> Result<(), AllocError> {
-    let rows: [(&[u8], Answer); 12] = [
+    let rows: [(&[u8], Answer); 16] = [
         (b"f();", Answer::Program),
+        (b"f()ensures emp||x==y&*&emp||acc(x){}", Answer::Program),
+        (b"f()requires emp||emp;", Answer::Syntax(1, 16)),
+        (b"f()ensures emp||;", Answer::Syntax(1, 17)),
+        (b"f()ensures (emp||emp);", Answer::Syntax(1, 16)),
         (
             b"f(x:Node,y:Node)returns(z:Node,w:Node)requires emp ensures x==y{}",
             Answer::Program,
@@ -252,8 +256,12 @@ fn depth(rt: HostRuntime) -> Result<(), AllocError> {
 
 #[test]
 fn trees(rt: HostRuntime) -> Result<(), AllocError> {
-    let rows: [(&[u8], &[u8]); 4] = [
+    let rows: [(&[u8], &[u8]); 5] = [
         (b"f ( ) { }", b"f ( ) requires emp ensures emp { }"),
+        (
+            b"f()ensures x==y||emp&*&acc(x)||lseg(x,y);",
+            b"f ( ) requires emp ensures x == y || emp &*& acc ( x ) || lseg ( x , y ) ;",
+        ),
         (
             b"f(x:Node)returns(y:Node){var z:Node;if((x==z)){y:=x;}else{}return(x==z);}",
             b"",

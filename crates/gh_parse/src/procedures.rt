@@ -118,16 +118,14 @@ impl<'t> Parser<'t> {
         let parameters = self.header(alloc)?;
         let results = self.results(alloc)?;
         let needs = self.clause(alloc, Keyword::Requires)?;
-        let gives = self.clause(alloc, Keyword::Ensures)?;
+        let gives = self.ensured(alloc)?;
         let ending = self.ending(alloc)?;
-        let mut alternatives = Vec::new(alloc);
-        alternatives.push(gives)?;
         Ok(Procedure {
             name,
             parameters,
             results,
             needs,
-            gives: alternatives,
+            gives,
             body: ending.body,
             close: ending.close,
         })

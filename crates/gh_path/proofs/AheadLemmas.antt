@@ -1,16 +1,16 @@
 -- What lies ahead by the text is what lies ahead in the graph, and that is how many ways there are and how long they are.
-use Rattle.std.specs.Prelude.{◌≡◌, ◌⊎◌, ◌↔◌, ℕ, zero, suc, ◌+◌, ◌<◌, ◌≤◌, min, max, List, [], ◌∷◌, ◌++◌, map, length, true, false, Any, Contains}
+use Rattle.std.specs.Prelude.{◌≡◌, ◌⊎◌, ℕ, suc, ◌+◌, ◌<◌, ◌≤◌, min, max, List, [], ◌∷◌, ◌++◌, map, length, true, false, Any, Contains}
 use Rattle.std.proofs.Common.{refl, sym, ◌∙◌, ap, subst, inl, inr, arith}
 use Rattle.std.proofs.lemmas.List.{length-map, length-append}
 use Rattle.gh_ast.specs.declared.Expr.{Expr}
 use Rattle.gh_ast.specs.declared.Expr.TheVariants.{Plain, Read}
 use Rattle.gh_ast.specs.Plain.{Test, compare, negation, conjunction, disjunction, Tests, no_tests, test_first, Statement, set, new, write, free, call, choice, loop, give, Statements, no_statements, statement_first, Procedure}
-use Rattle.gh_ast.specs.Programs.{body_of, ensured}
+use Rattle.gh_ast.specs.Programs.{body_of}
 use Rattle.gh_ast.proofs.Lists.{member_first, member_later, member_cases, no_member}
-use Rattle.gh_path.specs.Graphs.{Graph, dead_end, ends, moves, guarded, fork, PathStep, assume, reads, all_reads, visits, tested, all_tested, some_tested, lowered, all_lowered, Loop, loops_of, once_around, Start, whole_body, round, rounds, starts, returned}
+use Rattle.gh_path.specs.Graphs.{Graph, dead_end, ends, moves, guarded, fork, PathStep, assume, reads, all_reads, tested, all_tested, some_tested, lowered, all_lowered, Loop, loops_of, once_around, Start, whole_body, round, rounds, returned}
 use Rattle.gh_path.specs.Paths.{Way, ways, after_step}
 use Rattle.gh_path.specs.Conditions.{Condition, condition, from_starts, conditions_of}
-use Rattle.gh_path.specs.Counting.{nothing, one_end, stepped, checked, either, ahead, before_read, before_reads, before_test, before_all, before_some, before, before_block, entry_ahead, round_ahead, rounds_ahead, procedure_ahead}
+use Rattle.gh_path.specs.Counting.{nothing, stepped, checked, either, ahead, before_read, before_reads, before_test, before_all, before_some, before, before_block, entry_ahead, round_ahead, rounds_ahead, procedure_ahead}
 use Rattle.gh_path.specs.Admitted.{HasManyPaths, HasManySteps}
 use Rattle.gh_path.specs.declared.ahead.Ahead.{Ahead}
 use Rattle.gh_ast.proofs.Sites.{any_of}
@@ -57,7 +57,7 @@ mutual
   ahead_block p (statement_first s ss) g = ahead_lowered p s (all_lowered p ss g) ∙ ap (before s) (ahead_block p ss g)
 
 pub ahead_entry : (p : Procedure) → ahead (whole_body p).graph ≡ entry_ahead p
-ahead_entry p = ahead_block p (body_of p) (ends (returned p.close (ensured p)))
+ahead_entry p = ahead_block p (body_of p) (ends (returned p.close p.gives))
 
 pub ahead_round : (p : Procedure) (l : Loop) → ahead (once_around p l) ≡ round_ahead l
 ahead_round p l =

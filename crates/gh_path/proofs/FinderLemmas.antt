@@ -8,8 +8,8 @@ use Rattle.std.proofs.lemmas.Option.{slice_get-map, slice_get_read}
 use Rattle.gh_ast.specs.declared.Block.{Block}
 use Rattle.gh_ast.specs.declared.Stmt.{Stmt}
 use Rattle.gh_ast.specs.declared.Stmt.TheFolds.{fold_out-Block}
-use Rattle.gh_ast.specs.Plain.{Procedure, Program, Test, Statement, set, new, write, free, call, choice, loop, give, Statements, no_statements, statement_first, statements_view, Part, part_of, statement_step, part_step}
-use Rattle.gh_ast.specs.Programs.{body_of, ensured}
+use Rattle.gh_ast.specs.Plain.{Procedure, Program, Statement, set, new, write, free, call, choice, loop, give, Statements, no_statements, statement_first, statements_view, Part, part_of, statement_step, part_step}
+use Rattle.gh_ast.specs.Programs.{body_of}
 use Rattle.gh_path.specs.Graphs.{Graph, dead_end, ends, returned, loop_end, Loop, loops, all_loops, loops_of, all_lowered, once_around, whole_body, Start, round, rounds}
 use Rattle.gh_path.specs.Kept.{IsLoop, IsStart, AreSteps, IsCheck, IsKind}
 use Rattle.gh_path.specs.Conditions.{Condition, condition, from_starts}
@@ -26,7 +26,7 @@ use Rattle.gh_path.specs.declared.finder.Found.{Found}
 use Rattle.gh_path.specs.declared.loops.While.{While}
 use Rattle.gh_path.specs.declared.walker.Trail.{Trail}
 use Rattle.gh_path.specs.declared.walker.Turn.{Turn}
-use Rattle.gh_path.proofs.AheadLemmas.{Tells, ahead_block, ahead_tells, steps_in, reach_by}
+use Rattle.gh_path.proofs.AheadLemmas.{ahead_block, ahead_tells}
 use Rattle.gh_path.proofs.WalkLemmas.{next, same_some, no_some, got_left, got_right}
 use Rattle.gh_path.proofs.NumberLemmas.{got_front, got_back}
 use Rattle.gh_path.proofs.TurnLemmas.{Tests, turned}
@@ -78,9 +78,9 @@ mutual
 
 -- from the entry
 pub entry_leads : (P : Program) (p : Procedure) (s t : Trail) (xs : List Stmt) (found : Option Check) (e : Ahead) → statements_view xs ≡ body_of p → e ≡ one_end
-    → ((g : Graph) → e ≡ ahead g → AreNumbered p 0 (all_loops (statements_view xs)) → Leads P p s (all_lowered p (statements_view xs) g) t found g) → Leads P p s (whole_body p).graph t found (ends (returned p.close (ensured p)))
+    → ((g : Graph) → e ≡ ahead g → AreNumbered p 0 (all_loops (statements_view xs)) → Leads P p s (all_lowered p (statements_view xs) g) t found g) → Leads P p s (whole_body p).graph t found (ends (returned p.close p.gives))
 entry_leads P p s t xs found e same one walks =
-    let last : Graph = ends (returned p.close (ensured p)) in
+    let last : Graph = ends (returned p.close p.gives) in
     subst (λ ys. Leads P p s (all_lowered p ys last) t found last) same (walks last one numbered)
   where
     numbered : AreNumbered p 0 (all_loops (statements_view xs))

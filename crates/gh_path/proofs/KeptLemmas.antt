@@ -5,8 +5,8 @@ use Rattle.gh_ast.specs.declared.Expr.{Expr}
 use Rattle.gh_ast.specs.Plain.{Procedure, Program}
 use Rattle.gh_path.specs.Graphs.{Check, PathStep, assume, accessed, assigned, written, made, freed, called, looped, answered, Graph, dead_end, ends, moves, guarded, fork, Start, round}
 use Rattle.gh_path.specs.Paths.{Path, at_end, arrived, past, on, on_true, on_false, Way}
-use Rattle.gh_path.specs.Conditions.{Condition, condition, IsCondition}
-use Rattle.gh_path.specs.Kept.{IsStep, AreSteps, IsStart, StandsFor}
+use Rattle.gh_path.specs.Conditions.{condition}
+use Rattle.gh_path.specs.Kept.{IsStep, AreSteps, IsStart}
 use Rattle.gh_path.specs.Laws.{KeptStandForOne}
 use Rattle.gh_path.specs.declared.condition.PathStep as kept
 use Rattle.gh_path.specs.declared.condition.PathStep.TheVariants as step

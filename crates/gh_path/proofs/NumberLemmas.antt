@@ -1,5 +1,5 @@
 -- Loops by their numbers, and a walk through statements.
-use Rattle.std.specs.Prelude.{◌≡◌, ℕ, zero, suc, ◌+◌, ◌-◌, ◌<◌, ◌≤◌, min, List, [], ◌∷◌, ◌++◌, length, get_or, take, drop, Option, Some, None, slice_get}
+use Rattle.std.specs.Prelude.{◌≡◌, ℕ, zero, suc, ◌+◌, ◌-◌, ◌<◌, ◌≤◌, min, List, [], ◌∷◌, ◌++◌, length, get_or, take, drop, Option, Some, slice_get}
 use Rattle.std.proofs.Common.{refl, sym, ◌∙◌, ap, subst, arith}
 use Rattle.std.proofs.lemmas.List.{take_all, length-drop}
 use Rattle.std.proofs.Math.ListN.{drop_of_length-le}
@@ -9,16 +9,16 @@ use Rattle.gh_ast.specs.declared.Cond.{Cond}
 use Rattle.gh_ast.specs.declared.Stmt.TheVariants.{If}
 use Rattle.gh_ast.specs.Plain.{Procedure, Program, Statement, test_of, statement_of, statements_view, part_of, choice}
 use Rattle.gh_ast.proofs.PlainLemmas.{statement_of-If, part_of-statements}
-use Rattle.gh_path.specs.Graphs.{Graph, Loop, loops, all_loops, lowered, all_lowered, loops_of}
+use Rattle.gh_path.specs.Graphs.{Graph, Loop, loops, all_loops, lowered, all_lowered}
 use Rattle.gh_path.specs.Kept.{IsLoop}
 use Rattle.gh_path.specs.Counting.{ahead, before_block}
 use Rattle.gh_path.specs.Paths.{Way}
-use Rattle.gh_path.specs.Walking.{AreNumbered, IsOn, IsWalked, IsCome, Leads}
+use Rattle.gh_path.specs.Walking.{AreNumbered, IsOn, Leads}
 use Rattle.gh_path.specs.declared.ahead.Ahead.{Ahead}
 use Rattle.gh_path.specs.declared.condition.Check.{Check}
 use Rattle.gh_path.specs.declared.walker.Trail.{Trail}
 use Rattle.gh_path.proofs.AheadLemmas.{ahead_block}
-use Rattle.gh_path.proofs.WalkLemmas.{next, ended, came}
+use Rattle.gh_path.proofs.WalkLemmas.{next}
 
 pub got_front : {A : Type 0} (xs ys : List A) (j : ℕ) (x : A) → slice_get xs j ≡ Some x → slice_get (xs ++ ys) j ≡ Some x
 got_front [] ys j x e = absurd cc

@@ -1,5 +1,5 @@
 -- The first procedure that passes a limit, and how many conditions there are together.
-use Rattle.std.specs.Prelude.{◌≡◌, ◌⊎◌, ℕ, ◌+◌, ◌*◌, ◌<◌, ◌≤◌, List, [], ◌∷◌, map, length, get_or, Contains}
+use Rattle.std.specs.Prelude.{◌≡◌, ◌⊎◌, ℕ, ◌+◌, ◌*◌, ◌<◌, ◌≤◌, List, [], ◌∷◌, map, length, get_or}
 use Rattle.std.proofs.Common.{refl, sym, ◌∙◌, ap, subst, inl, inr, arith}
 use Rattle.std.proofs.lemmas.List.{length-map, length-append, get_or-map, get_or_default}
 use Rattle.gh_ast.specs.Lists.{IsFirstWith}
@@ -13,7 +13,7 @@ use Rattle.gh_path.specs.Conditions.{conditions_of, from_procedures}
 use Rattle.gh_path.specs.Counting.{procedure_ahead, all_counts}
 use Rattle.gh_path.specs.Refusals.{NoneOf, FirstOf}
 use Rattle.gh_path.specs.declared.ahead.Ahead.{Ahead}
-use Rattle.gh_path.proofs.AheadLemmas.{Tells, procedure_tells, many_paths, few_paths, many_steps, few_steps}
+use Rattle.gh_path.proofs.AheadLemmas.{procedure_tells, many_paths, few_paths, many_steps, few_steps}
 
 abbrev pub IsWide : Ahead → Type 0
 IsWide a = 1024 < a.count

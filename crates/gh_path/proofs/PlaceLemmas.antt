@@ -1,7 +1,7 @@
 -- Conditions of a program by place.
-use Rattle.std.specs.Prelude.{◌≡◌, ℕ, suc, ◌+◌, ◌-◌, ◌<◌, ◌≤◌, List, [], ◌∷◌, ◌++◌, map, length, Option, Some, None, slice_get, get_or, take, drop, Contains, Ok}
+use Rattle.std.specs.Prelude.{◌≡◌, ℕ, suc, ◌+◌, ◌-◌, ◌<◌, ◌≤◌, List, ◌∷◌, ◌++◌, map, length, Option, Some, None, slice_get, get_or, take, drop, Contains, Ok}
 use Rattle.std.specs.Option.{option_map}
-use Rattle.std.proofs.Common.{refl, sym, ◌∙◌, ap, subst, inl, inr, arith}
+use Rattle.std.proofs.Common.{refl, sym, ◌∙◌, ap, subst, inr, arith}
 use Rattle.std.proofs.lemmas.List.{drop_more, get_or-map, length-map}
 use Rattle.std.proofs.lemmas.Option.{slice_get-map, slice_get_read, slice_get_within, get_or_from_slice_get}
 use Rattle.std.proofs.Math.ListN.{drop_of_length-le}
@@ -11,13 +11,13 @@ use Rattle.gh_path.specs.Admitted.{HasManyPaths, NoneHas}
 use Rattle.gh_path.specs.Answers.{IsPlaced, IsNumbered}
 use Rattle.gh_path.specs.Conditions.{Condition, conditions_of, conditions, from_procedures}
 use Rattle.gh_path.specs.Counting.{procedure_ahead}
-use Rattle.gh_path.specs.Walking.{IsAfter, IsSought, IsFound}
+use Rattle.gh_path.specs.Walking.{IsAfter, IsSought}
 use Rattle.gh_path.specs.Walks.{left_of, IsGiven}
 use Rattle.gh_path.specs.declared.walk.Walk.{Walk}
 use Rattle.gh_path.specs.declared.ahead.Ahead.{Ahead}
 use Rattle.gh_path.specs.declared.condition.Condition as kept
 use Rattle.gh_path.specs.declared.finder.Found.{Found}
-use Rattle.gh_path.proofs.FinderLemmas.{after_first, after_next, after_none, got, stands, placed_first}
+use Rattle.gh_path.proofs.FinderLemmas.{after_none, got, stands}
 use Rattle.gh_path.proofs.PassedLemmas.{exact, few_of}
 use Rattle.gh_path.proofs.WalkLemmas.{same_some}
 

@@ -1,5 +1,5 @@
 -- A walk through a test.
-use Rattle.std.specs.Prelude.{◌≡◌, ℕ, suc, ◌+◌, ◌-◌, ◌<◌, List, [], ◌∷◌, Bool, Option, Some, None, length, get_or, take, drop}
+use Rattle.std.specs.Prelude.{◌≡◌, ℕ, suc, ◌+◌, ◌-◌, ◌<◌, List, Bool, Option, Some, None, length, get_or, take, drop}
 use Rattle.std.proofs.Common.{refl, sym, ◌∙◌, ap, subst, arith}
 use Rattle.std.proofs.lemmas.List.{take_all, length-drop}
 use Rattle.gh_ast.specs.declared.Cond.{Cond}
@@ -10,7 +10,7 @@ use Rattle.gh_path.specs.Kept.{IsLoop}
 use Rattle.gh_path.specs.Paths.{Way}
 use Rattle.gh_path.specs.declared.condition.PathStep.TheVariants as step
 use Rattle.gh_path.specs.Counting.{nothing, ahead, before_all, before_some}
-use Rattle.gh_path.specs.Walking.{IsPushed, IsOn, IsWalked, Leads, IsTurned, Turns, opposite}
+use Rattle.gh_path.specs.Walking.{IsPushed, IsOn, Leads, IsTurned, Turns, opposite}
 use Rattle.gh_path.specs.declared.ahead.Ahead.{Ahead}
 use Rattle.gh_path.specs.declared.condition.Check.{Check}
 use Rattle.gh_path.specs.declared.walker.Trail.{Trail}

@@ -9,15 +9,14 @@ use Rattle.gh_path.specs.Graphs.{Graph, dead_end, ends, moves, guarded, fork, Pa
 use Rattle.gh_path.specs.Paths.{Way, ways, after_step}
 use Rattle.gh_path.specs.Kept.{IsStep, AreSteps, IsCheck}
 use Rattle.gh_path.specs.Counting.{ahead}
-use Rattle.gh_path.specs.Walking.{IsPushed, IsOn, IsWalked, IsCome, Leads, IsTurned, Turns}
+use Rattle.gh_path.specs.Walking.{IsPushed, IsOn, IsWalked, IsCome, Leads, Turns}
 use Rattle.gh_path.specs.declared.ahead.Ahead.{Ahead}
 use Rattle.gh_path.specs.declared.condition.Check.{Check}
 use Rattle.gh_path.specs.declared.condition.PathStep as kept
 use Rattle.gh_path.specs.declared.condition.PathStep.TheVariants.{Assume}
 use Rattle.gh_path.specs.declared.walker.Trail.{Trail}
-use Rattle.gh_path.specs.declared.walker.Turn.{Turn}
-use Rattle.gh_path.specs.declared.walker.Turn.TheVariants.{Arrived, Yes, No}
-use Rattle.gh_path.proofs.AheadLemmas.{Tells, ahead_tells, steps_in, reach_by}
+use Rattle.gh_path.specs.declared.walker.Turn.TheVariants.{Yes, No}
+use Rattle.gh_path.proofs.AheadLemmas.{ahead_tells}
 
 -- members by place
 pub same_some : {A : Type 0} (x y : A) → Some x ≡ Some y → x ≡ y

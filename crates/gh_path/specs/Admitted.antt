@@ -1,12 +1,11 @@
 -- The limits on conditions, and admitted programs.
-use Rattle.std.specs.Prelude.{◌≡◌, ◌⊎◌, ℕ, ◌<◌, ◌≤◌, List, length, All, Any, Contains}
-use Rattle.gh_base.specs.declared.place.Span.{Span}
+use Rattle.std.specs.Prelude.{◌≡◌, ℕ, ◌+◌, ◌<◌, length, Any, Contains}
 use Rattle.gh_ast.specs.Plain.{Procedure, Program}
 use Rattle.gh_ast.specs.Lists.{IsFirstWith}
 use Rattle.gh_ast.specs.Rules.{IsTyped}
 use Rattle.gh_ast.specs.Limits.{KeepsLimits, IsLimit}
 use Rattle.gh_ast.specs.declared.typed.Limit.{Limit}
-use Rattle.gh_path.specs.Conditions.{Condition, conditions_of}
+use Rattle.gh_path.specs.Conditions.{conditions_of}
 use Rattle.gh_path.specs.Terms.{terms_of, versions_of}
 
 -- 4: more than 1,024 conditions
@@ -17,13 +16,20 @@ HasManyPaths p = 1024 < length (conditions_of p)
 abbrev pub HasManySteps : Procedure → Type 0
 HasManySteps p = Any (λ c. 256 < length c.way.steps) (conditions_of p)
 
--- 6: a condition with more than 20 terms
-abbrev pub HasManyTerms : Program → Procedure → Type 0
-HasManyTerms P p = Any (λ c. 20 < length (terms_of P c)) (conditions_of p)
+-- the most terms, and the most versions of the heap, of a condition
+abbrev pub most_terms : ℕ
+most_terms = 32
 
--- 7: a condition with more than 10 versions of the heap
+abbrev pub most_versions : ℕ
+most_versions = 24
+
+-- 6: a condition with more terms
+abbrev pub HasManyTerms : Program → Procedure → Type 0
+HasManyTerms P p = Any (λ c. most_terms < length (terms_of P c)) (conditions_of p)
+
+-- 7: a condition with more versions of the heap
 abbrev pub HasManyVersions : Program → Procedure → Type 0
-HasManyVersions P p = Any (λ c. 10 < versions_of P c) (conditions_of p)
+HasManyVersions P p = Any (λ c. most_versions < versions_of P c) (conditions_of p)
 
 -- no procedure of the program passes the limit
 abbrev pub NoneHas : Program → (Procedure → Type 0) → Type 0
@@ -42,8 +48,8 @@ pub data IsFirstLimit (P : Program) (l : Limit) : Type 0 where
   of_text : IsLimit P l → IsFirstLimit P l
   paths : KeepsLimits P → Passed P HasManyPaths 4 1025 l → IsFirstLimit P l
   steps : KeepsLimits P → NoneHas P HasManyPaths → Passed P HasManySteps 5 257 l → IsFirstLimit P l
-  terms : KeepsLimits P → NoneHas P HasManyPaths → NoneHas P HasManySteps → Passed P (HasManyTerms P) 6 21 l → IsFirstLimit P l
-  versions : KeepsLimits P → NoneHas P HasManyPaths → NoneHas P HasManySteps → NoneHas P (HasManyTerms P) → Passed P (HasManyVersions P) 7 11 l → IsFirstLimit P l
+  terms : KeepsLimits P → NoneHas P HasManyPaths → NoneHas P HasManySteps → Passed P (HasManyTerms P) 6 (most_terms + 1) l → IsFirstLimit P l
+  versions : KeepsLimits P → NoneHas P HasManyPaths → NoneHas P HasManySteps → NoneHas P (HasManyTerms P) → Passed P (HasManyVersions P) 7 (most_versions + 1) l → IsFirstLimit P l
 
 -- no rule is broken, and no counted quantity passes its limit
 pub record IsAdmitted (P : Program) : Type 0 where

@@ -5,7 +5,7 @@ use Rattle.gh_ast.specs.declared.Occ.{Occ}
 use Rattle.gh_ast.specs.declared.Expr.{Expr}
 use Rattle.gh_ast.specs.declared.Expr.TheVariants.{Plain, Read}
 use Rattle.gh_ast.specs.Plain.{Test, compare, negation, conjunction, disjunction, Tests, no_tests, test_first, Formula, Statement, set, new, write, free, call, choice, loop, give, Statements, no_statements, statement_first, Procedure}
-use Rattle.gh_ast.specs.Programs.{Name, results_of, body_of, ensured}
+use Rattle.gh_ast.specs.Programs.{Name, results_of, body_of}
 
 -- a `while`: the places of its word and of its last brace, and its parts
 pub record Loop : Type 0 where
@@ -19,12 +19,12 @@ abbrev pub while : Span → Test → Formula → Statements → Span → Loop
 while at t i body close = record { at = at; test = t; invariant = i; body = body; close = close }
 
 -- what is asked at a node: the place is allocated; some part meets what the callee needs; some part meets the loop's invariant;
--- the whole heap meets what the procedure gives, or the loop's invariant
+-- the whole heap meets one alternative of what the procedure gives, or the loop's invariant
 pub data Check : Type 0 where
   access : Occ → Check
   entry : Occ → List Expr → Check
   loop_entry : Loop → Check
-  returned : Span → Formula → Check
+  returned : Span → List Formula → Check
   loop_end : Loop → Check
 
 -- the place that a check is named by: of the variable, the callee, the word `while`, the word `return` or a last brace
@@ -92,7 +92,7 @@ abbrev mutual
   lowered p (call xs f es) g = all_reads es (guarded (entry f es) (called xs f es) g)
   lowered p (choice t a c b d) g = tested t (all_lowered p a g) (all_lowered p b g)
   lowered p (loop at t i body close) g = guarded (loop_entry (while at t i body close)) (looped (while at t i body close)) (tested t dead_end g)
-  lowered p (give at es) g = all_reads es (moves (answered (results_of p) es) (ends (returned at (ensured p))))
+  lowered p (give at es) g = all_reads es (moves (answered (results_of p) es) (ends (returned at p.gives)))
 
   pub all_lowered : Procedure → Statements → Graph → Graph
   all_lowered p no_statements g = g
@@ -124,7 +124,7 @@ pub record Start : Type 0 where
   pub graph : Graph
 
 abbrev pub whole_body : Procedure → Start
-whole_body p = record { origin = from_entry; meets = p.needs; graph = all_lowered p (body_of p) (ends (returned p.close (ensured p))) }
+whole_body p = record { origin = from_entry; meets = p.needs; graph = all_lowered p (body_of p) (ends (returned p.close p.gives)) }
 
 -- once around a loop
 abbrev pub once_around : Procedure → Loop → Graph

@@ -3,7 +3,7 @@ use Rattle.std.specs.Prelude.{◌≡◌, ◌≢◌, ◌⊎◌, ℕ, List, [], �
 use Rattle.gh_base.specs.declared.place.Span.{Span}
 use Rattle.gh_ast.specs.declared.Occ.{Occ}
 use Rattle.gh_ast.specs.Plain.{Procedure, Program}
-use Rattle.gh_ast.specs.Programs.{Name, name_of, results_of, ensured}
+use Rattle.gh_ast.specs.Programs.{Name, name_of, results_of}
 use Rattle.gh_path.specs.Graphs.{Loop, Check, access, entry, loop_entry, returned, loop_end, PathStep, accessed, assume, assigned, made, written, freed, called, looped, answered, loops_of, Start, whole_body, round}
 use Rattle.gh_path.specs.Conditions.{Condition}
 use Rattle.gh_path.specs.declared.condition.PathStep as kept_step
@@ -54,7 +54,7 @@ abbrev pub IsKind : Program → Procedure → kept_kind.CheckKind → Span → C
 IsKind P p (kind.Access x) at c = c ≡ access (record { name = x; span = at })
 IsKind P p (kind.CalleeEntry n es) at c = (f : Occ) × IsCallee P n f.name × (f.span ≡ at) × (c ≡ entry f es.items)
 IsKind P p (kind.LoopEntry n) at c = (l : Loop) × IsLoop p n l × (l.at ≡ at) × (c ≡ loop_entry l)
-IsKind P p kind.Return at c = c ≡ returned at (ensured p)
+IsKind P p kind.Return at c = c ≡ returned at p.gives
 IsKind P p (kind.LoopEnd n) at c = (l : Loop) × IsLoop p n l × (l.close ≡ at) × (c ≡ loop_end l)
 
 abbrev pub IsCheck : Program → Procedure → kept_check.Check → Check → Type 0

@@ -1,5 +1,5 @@
 -- The terms of a path condition, in order of first appearance, and its heap versions.
-use Rattle.std.specs.Prelude.{◌≡◌, ℕ, ◌+◌, List, [], ◌∷◌, ◌++◌, length, map, filter, fold, count_by, position, Option, Some, None, Bool, true, false, ◌==◌, ◌||◌, ◌&&◌, unwrap_or, cond}
+use Rattle.std.specs.Prelude.{ℕ, ◌+◌, List, [], ◌∷◌, ◌++◌, length, map, filter, count_by, position, Option, Some, None, Bool, true, false, ◌==◌, ◌||◌, ◌&&◌, unwrap_or, cond}
 use Rattle.std.specs.List.{list_any}
 use Rattle.std.specs.Str.{bytes_eq}
 use Rattle.gh_ast.specs.declared.Operand.{Operand}
@@ -8,8 +8,8 @@ use Rattle.gh_ast.specs.declared.Expr.{Expr}
 use Rattle.gh_ast.specs.declared.Expr.TheVariants.{Plain, Read}
 use Rattle.gh_ast.specs.Plain.{Test, compare, negation, conjunction, disjunction, Tests, no_tests, test_first}
 use Rattle.gh_ast.specs.Plain.{Formula, empty, comparison, points_to, cell, segment, star, cases, Formulas, no_formulas, formula_first}
-use Rattle.gh_ast.specs.Plain.{Statement, set, new, write, free, call, choice, loop, give, Statements, no_statements, statement_first, Procedure, Program}
-use Rattle.gh_ast.specs.Programs.{Name, names, name_of, parameters_of, results_of, variable_names, ensured}
+use Rattle.gh_ast.specs.Plain.{Statement, set, new, call, choice, loop, Statements, no_statements, statement_first, Procedure, Program}
+use Rattle.gh_ast.specs.Programs.{Name, names, name_of, parameters_of, results_of, variable_names}
 use Rattle.gh_path.specs.Graphs.{Check, access, entry, loop_entry, returned, loop_end, PathStep, accessed, assume, assigned, made, written, freed, called, looped, answered}
 use Rattle.gh_path.specs.Conditions.{Condition}
 
@@ -127,6 +127,11 @@ abbrev mutual
   all_walked no_formulas s = s
   all_walked (formula_first f fs) s = all_walked fs (walked f s)
 
+-- alternatives are walked in order
+abbrev pub each_walked : List Formula → Terms → Terms
+each_walked [] s = s
+each_walked (f ∷ fs) s = each_walked fs (walked f s)
+
 -- the next version of the heap
 abbrev pub moved_on : Terms → Terms
 moved_on s = terms s.kinds s.bindings (s.version + 1)
@@ -162,11 +167,11 @@ callee_in (p ∷ ps) f = cond (bytes_eq (name_of p) f) (Some p) (callee_in ps f)
 abbrev pub bound_inside : Procedure → List ℕ → Bindings
 bound_inside p ts = all_bound unbound (parameters_of p) ts
 
--- what the callee requires is walked, the results get new values, and what it ensures is walked in the next version;
+-- what the callee requires is walked, the results get new values, and what it ensures, each alternative, is walked in the next version;
 -- `outside` are the caller's bindings, in which the targets get the results' terms
 abbrev pub answered_inside : Procedure → List Name → Bindings → Terms → Terms
 answered_inside p xs outside s =
-    let after = walked (ensured p) (renewed (results_of p) (moved_on (walked p.needs s))) in
+    let after = each_walked p.gives (renewed (results_of p) (moved_on (walked p.needs s))) in
     rebound after (all_bound outside xs (map (λ x. term_of x after) (results_of p)))
 
 abbrev pub call_walked : Option Procedure → List Name → List ℕ → Terms → Terms
@@ -202,7 +207,7 @@ abbrev pub check_walked : Program → Check → Terms → Terms
 check_walked P (access o) s = used o.name s
 check_walked P (entry f es) s = let t = exprs_used es s in entry_walked (callee_in P.procedures f.name) (exprs_terms es t) t
 check_walked P (loop_entry l) s = walked l.invariant s
-check_walked P (returned at f) s = walked f s
+check_walked P (returned at fs) s = each_walked fs s
 check_walked P (loop_end l) s = walked l.invariant s
 
 -- null alone, no variable with a term, the first version

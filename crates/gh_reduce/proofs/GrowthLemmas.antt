@@ -1,5 +1,5 @@
 -- Ground clauses that grow: by definitions, and by formulas that are stated.
-use Rattle.std.specs.Prelude.{◌≡◌, ℕ, zero, suc, ◌+◌, ◌<◌, ◌≤◌, List, [], ◌∷◌, ◌++◌, map, length, drop, All, get_or}
+use Rattle.std.specs.Prelude.{◌≡◌, ℕ, zero, suc, ◌+◌, ◌≤◌, List, [], ◌∷◌, ◌++◌, get_or}
 use Rattle.std.specs.List.{flat_map, range_with_len}
 use Rattle.std.proofs.Common.{refl, sym, ◌∙◌, ap, subst, append_assoc, arith}
 use Rattle.std.proofs.lemmas.List.{append-nil}
@@ -10,16 +10,15 @@ use Rattle.gh_base.specs.declared.atom.Atom.{Atom}
 use Rattle.gh_base.specs.declared.atom.Atom.TheVariants.{Eq, Btwn, Hop, Alloc, Def}
 use Rattle.gh_base.specs.declared.atom.Lit.{Lit}
 use Rattle.gh_base.specs.declared.sizes.Sizes.{Sizes}
-use Rattle.gh_base.specs.Atoms.{opposite, IsInRange, AreInRange}
+use Rattle.gh_base.specs.Atoms.{IsInRange, AreInRange}
 use Rattle.gh_base.specs.Grounds.{Problem}
-use Rattle.gh_grass.specs.declared.formula.Formula.{Formula}
 use Rattle.gh_grass.specs.Bindings.{term}
-use Rattle.gh_grass.specs.Claims.{Claim, atom, negation_of, conjunction_of, disjunction_of, equivalence_of, Claims, no_claims, claim_first, claim_of, claims_view}
+use Rattle.gh_grass.specs.Claims.{Claim, atom, negation_of, conjunction_of, disjunction_of, equivalence_of, Claims, no_claims, claim_first}
 use Rattle.gh_grass.specs.Footprints.{terms_below}
 use Rattle.gh_grass.specs.Clauses.{made, all_made, stated, next_after, clauses_from}
 use Rattle.gh_grass.proofs.LawLemmas.{made_grows, all_made_grows}
 use Rattle.gh_grass.proofs.ClaimLemmas.{below_more, map_below_more}
-use Rattle.gh_symb.specs.Formulas.{each, each_pair}
+use Rattle.gh_symb.specs.Formulas.{each}
 use Rattle.gh_reduce.specs.Growth.{sized, grown, defined_in, all_defined_in, stated_in, IsWithin, AreWithin}
 
 -- what is in range stays in range

@@ -1,5 +1,5 @@
 -- Conditions over terms as they are kept and as plain values, and what is stated of their parts.
-use Rattle.std.specs.Prelude.{◌≡◌, ℕ, zero, suc, ◌+◌, ◌<◌, ◌≤◌, ◌==◌, ◌&&◌, List, [], ◌∷◌, ◌++◌, map, length, Bool, true, false, Option, Some, None, cond, position, unwrap_or, nat_lt, slice_get}
+use Rattle.std.specs.Prelude.{◌≡◌, ℕ, ◌<◌, List, [], ◌∷◌, map, length, Bool, true, false, Option, Some, None, cond, position, unwrap_or, nat_lt}
 use Rattle.std.specs.List.{position_or_len}
 use Rattle.std.specs.Option.{option_map}
 use Rattle.std.proofs.Common.{refl, sym, ◌∙◌, ap, subst, arith}
@@ -8,12 +8,11 @@ use Rattle.gh_base.specs.declared.atom.Term.{Term}
 use Rattle.gh_base.specs.declared.term.TermKind.{TermKind}
 use Rattle.gh_base.specs.declared.term.TermKind.TheVariants.{Null, Value, Next}
 use Rattle.gh_base.specs.declared.sizes.Sizes.{Sizes}
-use Rattle.gh_ast.specs.Programs.{Name}
 use Rattle.gh_ast.specs.Plain.{formula_of}
 use Rattle.gh_path.specs.Terms.{Kind, next, same_kind}
 use Rattle.gh_grass.specs.declared.binding.Bond.{Bond}
 use Rattle.gh_grass.specs.Bindings.{term, term_in, bound_term, is_next, next_term}
-use Rattle.gh_grass.specs.Claims.{Claim, claims_of}
+use Rattle.gh_grass.specs.Claims.{claims_of}
 use Rattle.gh_grass.specs.Footprints.{Variables, structure, footprint, terms_below}
 use Rattle.gh_symb.specs.Symbolic.{Under}
 use Rattle.gh_symb.specs.Formulas.{variables, successor, within, meets, meets_whole, covers}

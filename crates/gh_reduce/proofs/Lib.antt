@@ -8,3 +8,4 @@ pub mod StepsInside
 pub mod ClauseLemmas
 pub mod LiteralLemmas
 pub mod WalkLemmas
+pub mod PartLemmas

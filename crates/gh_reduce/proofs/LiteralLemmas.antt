@@ -1,5 +1,5 @@
 -- The definitions of formulas, by their kinds.
-use Rattle.std.specs.Prelude.{◌≡◌, ℕ, zero, suc, ◌+◌, ◌<◌, ◌≤◌, List, [], ◌∷◌, ◌++◌, map, length, drop, get_or}
+use Rattle.std.specs.Prelude.{◌≡◌, ℕ, zero, suc, ◌+◌, ◌<◌, List, [], ◌∷◌, ◌++◌, length, drop, get_or}
 use Rattle.std.proofs.Common.{refl, sym, ◌∙◌, ap, subst, add-one, arith, Vec, Box, Global}
 use Rattle.std.proofs.Math.Seq.{drop-cons}
 use Rattle.gh_base.specs.declared.atom.Lit.{Lit}
@@ -12,7 +12,7 @@ use Rattle.gh_grass.specs.declared.formula.Formula.TheVariants.{Not, Or, Iff, ro
 use Rattle.gh_grass.specs.Claims.{Claim, claim_step, claim_of, claims_view, atom, negation_of, conjunction_of, disjunction_of, equivalence_of, Claims, no_claims, claim_first}
 use Rattle.gh_grass.specs.Clauses.{made, all_made, conjunction_clauses, disjunction_clauses, equivalence_clauses}
 use Rattle.gh_grass.proofs.LawLemmas.{made_grows}
-use Rattle.gh_reduce.specs.Growth.{sized, grown, defined_in, all_defined_in, IsWithin, AreWithin}
+use Rattle.gh_reduce.specs.Growth.{grown, defined_in, all_defined_in, IsWithin, AreWithin}
 use Rattle.gh_reduce.proofs.GrowthLemmas.{in_range_more, within_more, made_within, all_made_within, grown_grown}
 
 pub claim_of-Or : (v : Vec Formula Global) → claim_of (Or v) ≡ disjunction_of (claims_view v.items)

@@ -1,5 +1,5 @@
 -- A walk gives variables and successors terms that are listed.
-use Rattle.std.specs.Prelude.{◌≡◌, ℕ, zero, suc, ◌+◌, ◌<◌, ◌≤◌, ◌||◌, List, [], ◌∷◌, ◌++◌, map, length, Bool, true, false, Option, Some, None, cond, position, unwrap_or, nat_lt, slice_get}
+use Rattle.std.specs.Prelude.{◌≡◌, ℕ, zero, suc, ◌+◌, ◌<◌, ◌≤◌, ◌||◌, List, [], ◌∷◌, ◌++◌, length, Bool, true, false, Option, Some, None, cond, unwrap_or, nat_lt, slice_get}
 use Rattle.std.specs.List.{position_or_len, list_any}
 use Rattle.std.specs.Str.{bytes_eq}
 use Rattle.std.proofs.Common.{refl, sym, ◌∙◌, ap, subst, arith, append_assoc}
@@ -13,7 +13,7 @@ use Rattle.gh_ast.specs.Plain.{Test, compare, negation, conjunction, disjunction
 use Rattle.gh_ast.specs.Plain.{Formula, empty, comparison, points_to, cell, segment, star, cases, Formulas, no_formulas, formula_first}
 use Rattle.gh_ast.specs.Programs.{Name}
 use Rattle.gh_grass.proofs.Bonds.{same_name}
-use Rattle.gh_path.specs.Terms.{Kind, null, value, next, is_value, same_kind, Bindings, unbound, bound, all_bound, Terms, terms, place, added, with_value, used, used_as, term_of, followed, operand_used, operand_term, expr_used, expr_term, exprs_used, exprs_terms, test_walked, tests_walked, walked, all_walked}
+use Rattle.gh_path.specs.Terms.{Kind, null, value, next, same_kind, Bindings, unbound, bound, all_bound, Terms, place, added, with_value, used, used_as, term_of, followed, operand_used, operand_term, expr_used, expr_term, exprs_used, exprs_terms, test_walked, tests_walked, walked, all_walked}
 
 -- each successor is that of one of n terms
 abbrev pub AreSuccessors : ℕ → List Kind → Type 0

@@ -1,16 +1,17 @@
 -- The terms and versions of a condition over terms are those of the condition.
-use Rattle.std.specs.Prelude.{◌≡◌, ℕ, ◌+◌, ◌<◌, ◌≤◌, List, [], ◌∷◌, ◌++◌, map, filter, length, Bool, not, Option, Some, None, cond, unwrap_or}
+use Rattle.std.specs.Prelude.{◌≡◌, ℕ, ◌+◌, ◌<◌, ◌≤◌, List, [], ◌∷◌, map, filter, length, Option, Some, None}
 use Rattle.std.proofs.Common.{refl, sym, ◌∙◌, ap, subst, arith}
+use Rattle.std.proofs.lemmas.List.Elements.{All-nil, All-cons}
 use Rattle.gh_ast.specs.declared.Expr.{Expr}
 use Rattle.gh_ast.specs.Plain.{Formula, Procedure, Program}
-use Rattle.gh_ast.specs.Programs.{Name, names, parameters_of, results_of, variable_names, ensured}
+use Rattle.gh_ast.specs.Programs.{Name, names, parameters_of, results_of, variable_names}
 use Rattle.gh_path.specs.Graphs as path
 use Rattle.gh_path.specs.Conditions.{Condition}
-use Rattle.gh_path.specs.Terms.{Kind, value, Bindings, unbound, bound, all_bound, Terms, terms, with_value, used, term_of, followed, expr_used, expr_term, exprs_used, exprs_terms, walked, moved_on, rebound, renewed, some_assigns, callee_in, bound_inside, answered_inside, call_walked, step_walked, steps_walked, entry_walked, check_walked, no_terms, terms_of, versions_of}
-use Rattle.gh_symb.specs.Symbolic.{Under, TermStep, under, call_parts, term_step, term_steps, needs_under, term_check, symbolic_of}
+use Rattle.gh_path.specs.Terms.{Bindings, unbound, bound, all_bound, Terms, terms, with_value, used, term_of, followed, expr_used, expr_term, exprs_used, exprs_terms, walked, each_walked, moved_on, rebound, renewed, some_assigns, callee_in, bound_inside, call_walked, step_walked, steps_walked, entry_walked, check_walked, no_terms}
+use Rattle.gh_symb.specs.Symbolic.{Under, TermStep, under, each_under, call_parts, term_step, term_steps, needs_under, term_check, symbolic_of}
 use Rattle.gh_symb.specs.Formulas.{variables, version_after}
-use Rattle.gh_reduce.specs.Inside.{IsUnderInside, FirstIsInside, IsStepInside, AreStepsInside, IsCheckInside, IsReady, IsInside}
-use Rattle.gh_reduce.proofs.SoundLemmas.{Sound, AreBound, AreBelow, AreSuccessors, Extends, extends_same, extends_onto, extends_size, successors_more, successor_at, bound_more, bound_one, nothing_bound, all_bound_in, value_sound, value_size, term_there, used_extends, used_has, followed_extends, expr_extends, exprs_extend, expr_there, exprs_there, walked_extends}
+use Rattle.gh_reduce.specs.Inside.{IsUnderInside, AllAreInside, IsStepInside, AreStepsInside, IsCheckInside, IsInside}
+use Rattle.gh_reduce.proofs.SoundLemmas.{Sound, AreBound, AreBelow, Extends, extends_same, extends_onto, extends_size, successor_at, bound_more, bound_one, nothing_bound, all_bound_in, value_sound, value_size, term_there, used_extends, followed_extends, expr_extends, exprs_extend, expr_there, exprs_there, walked_extends}
 
 -- a step adds terms and versions
 record Goes (s t : Terms) : Type 0 where
@@ -62,11 +63,31 @@ renewed_version (x ∷ xs) s = renewed_version xs (terms (with_value s.kinds) (b
 walked_goes : (f : Formula) (s : Terms) → Goes s (walked f s)
 walked_goes f s = extended s (walked f s) (walked_extends f s)
 
+-- what alternatives are walked to
+each_extends : (fs : List Formula) (s : Terms) → Extends s (each_walked fs s)
+each_extends [] s = extends_same s
+each_extends (f ∷ fs) s = extends_onto (walked_extends f s) (each_extends fs (walked f s))
+
+each_goes : (fs : List Formula) (s : Terms) → Goes s (each_walked fs s)
+each_goes fs s = extended s (each_walked fs s) (each_extends fs s)
+
 variables_there : (n : ℕ) (s : Terms) → Sound s → length s.kinds ≤ n → (x : Name) → (variables s.bindings x).0 < n
 variables_there n s h l x = let k = term_there x s h in omega (arith, k)
 
 under_inside : (n v : ℕ) (f : Formula) (s : Terms) → Sound s → length (walked f s).kinds ≤ n → s.version < v → IsUnderInside n v (under f s)
 under_inside n v f s h l k = record { version = k; terms = variables_there n (walked f s) ((walked_extends f s).sound h) l }
+
+each_inside : (n v : ℕ) (fs : List Formula) (s : Terms) → Sound s → length (each_walked fs s).kinds ≤ n → s.version < v → AllAreInside n v (each_under fs s)
+each_inside n v [] s h l k = All-nil (IsUnderInside n v)
+each_inside n v (f ∷ fs) s h l k =
+    let t = walked f s in
+    let g = walked_extends f s in
+    let size = extends_size t (each_walked fs t) (each_extends fs t) in
+    let same = g.version in
+    All-cons (IsUnderInside n v) (under f s) (each_under fs t) (under_inside n v f s h (omega (arith, l, size)) k) (each_inside n v fs t (g.sound h) l (omega (arith, k, same)))
+
+one_inside : (n v : ℕ) (u : Under) → IsUnderInside n v u → AllAreInside n v (u ∷ [])
+one_inside n v u h = All-cons (IsUnderInside n v) u [] h (All-nil (IsUnderInside n v))
 
 terms_below_all : (xs : List Name) (s : Terms) → Sound s → AreBelow (length s.kinds) (map (λ x. term_of x s) xs)
 terms_below_all [] s h = tt
@@ -98,8 +119,8 @@ call_goes (Some p) xs ts s h k =
     let first = rebound s (bound_inside p ts) in
     let sound = inside_sound p ts s h k in
     let mid = middle p first in
-    let last = walked (ensured p) mid in
-    let whole = goes_onto (middle_goes p first) (walked_goes (ensured p) mid) in
+    let last = each_walked p.gives mid in
+    let whole = goes_onto (middle_goes p first) (each_goes p.gives mid) in
     let size = whole.size in
     record {
       size = whole.size;
@@ -114,14 +135,14 @@ call_inside n v (Some p) xs ts s h k =
     let first = rebound s (bound_inside p ts) in
     let sound = inside_sound p ts s h k in
     let mid = middle p first in
-    let last = walked (ensured p) mid in
-    let up = (goes_onto (moved (walked p.needs first)) (goes_onto (renewed_goes (results_of p) (moved_on (walked p.needs first))) (walked_goes (ensured p) mid))).size in
+    let last = each_walked p.gives mid in
+    let up = (goes_onto (moved (walked p.needs first)) (goes_onto (renewed_goes (results_of p) (moved_on (walked p.needs first))) (each_goes p.gives mid))).size in
     let at_mid = middle_version p first in
-    let at_last = (walked_extends (ensured p) mid).version in
+    let at_last = (each_extends p.gives mid).version in
     record {
       inside = λ l m. (
         under_inside n v p.needs first sound (omega (arith, l, up)) (omega (arith, m, at_mid, at_last)),
-        under_inside n v (ensured p) mid ((middle_goes p first).sound sound) l (omega (arith, m, at_last)),
+        each_inside n v p.gives mid ((middle_goes p first).sound sound) l (omega (arith, m, at_last)),
         omega (arith, m, at_mid, at_last),
       );
       after = sym (at_last ∙ at_mid);
@@ -235,7 +256,7 @@ step_inside n v P xs (path.looped l) s h =
     record {
       inside = λ k m. (
         under_inside n v l.invariant s h (omega (arith, k, size)) (omega (arith, m, at_a, at_b, at_end)),
-        under_inside n v l.invariant b (to_b.sound h) k (omega (arith, m, at_end)),
+        one_inside n v (under l.invariant b) (under_inside n v l.invariant b (to_b.sound h) k (omega (arith, m, at_end))),
         omega (arith, m, at_a, at_b, at_end),
       );
       after = sym (at_end ∙ at_b ∙ ap (λ i. i + 1) at_a);
@@ -261,7 +282,7 @@ steps_inside n v P xs (p ∷ ps) s h l m =
     )
 
 entry_inside : (n v : ℕ) (o : Option Procedure) (ts : List ℕ) (s : Terms) → Sound s → AreBelow (length s.kinds) ts → length (entry_walked o ts s).kinds ≤ n → s.version < v → IsCheckInside n v (needs_under o ts s)
-entry_inside n v None ts s h k l m = tt
+entry_inside n v None ts s h k l m = All-nil (IsUnderInside n v)
 entry_inside n v (Some p) ts s h k l m = under_inside n v p.needs (rebound s (bound_inside p ts)) (inside_sound p ts s h k) l m
 
 check_inside : (n v : ℕ) (P : Program) (k : path.Check) (s : Terms) → Sound s → length (check_walked P k s).kinds ≤ n → s.version < v → IsCheckInside n v (term_check P k s)
@@ -272,8 +293,8 @@ check_inside n v P (path.entry f es) s h l m =
     let same = g.version in
     entry_inside n v (callee_in P.procedures f.name) (exprs_terms es t) t (g.sound h) (arguments_below es s h) l (omega (arith, m, same))
 check_inside n v P (path.loop_entry r) s h l m = under_inside n v r.invariant s h l m
-check_inside n v P (path.returned at f) s h l m = under_inside n v f s h l m
-check_inside n v P (path.loop_end r) s h l m = under_inside n v r.invariant s h l m
+check_inside n v P (path.returned at fs) s h l m = each_inside n v fs s h l m
+check_inside n v P (path.loop_end r) s h l m = one_inside n v (under r.invariant s) (under_inside n v r.invariant s h l m)
 
 entry_goes : (o : Option Procedure) (ts : List ℕ) (s : Terms) → Sound s → AreBelow (length s.kinds) ts → Goes s (entry_walked o ts s)
 entry_goes None ts s h k = goes_same s
@@ -288,7 +309,7 @@ check_goes P (path.entry f es) s h =
     let g = exprs_extend es s in
     goes_onto (extended s t g) (entry_goes (callee_in P.procedures f.name) (exprs_terms es t) t (g.sound h) (arguments_below es s h))
 check_goes P (path.loop_entry r) s h = walked_goes r.invariant s
-check_goes P (path.returned at f) s h = walked_goes f s
+check_goes P (path.returned at fs) s h = each_goes fs s
 check_goes P (path.loop_end r) s h = walked_goes r.invariant s
 
 no_terms_sound : Sound no_terms

@@ -1,5 +1,5 @@
 -- What a kept condition tells is its plain value.
-use Rattle.std.specs.Prelude.{◌≡◌, ℕ, List, [], ◌∷◌, map}
+use Rattle.std.specs.Prelude.{◌≡◌, List, [], ◌∷◌, map}
 use Rattle.std.proofs.Common.{refl, sym, ◌∙◌, ap}
 use Rattle.gh_ast.specs.Plain.{Program}
 use Rattle.gh_path.specs.Conditions.{Condition}
@@ -7,7 +7,7 @@ use Rattle.gh_path.specs.Terms.{Bindings}
 use Rattle.gh_grass.specs.declared.binding.Bond.{Bond}
 use Rattle.gh_symb.specs.Symbolic as plain
 use Rattle.gh_symb.specs.Symbolic.{parts, sub, whole, symbolic_of}
-use Rattle.gh_symb.specs.Told.{plain_kind, Each, IsBinding, IsUnder, IsTermStep, IsTermCheck, IsSymbolic}
+use Rattle.gh_symb.specs.Told.{Each, IsBinding, IsUnder, IsTermStep, IsTermCheck, IsSymbolic}
 use Rattle.gh_symb.specs.declared.over_terms.Bound.{Bound}
 use Rattle.gh_symb.specs.declared.over_terms.TermStep.{TermStep}
 use Rattle.gh_symb.specs.declared.over_terms.TermStep.TheVariants as step

@@ -1,23 +1,21 @@
 -- Loops over terms, steps and versions.
 use Rattle.std.specs.Prelude.{◌≡◌, ℕ, zero, suc, ◌+◌, ◌-◌, ◌<◌, ◌≤◌, List, [], ◌∷◌, ◌++◌, map, length, drop, get_or, slice_get, Some}
-use Rattle.std.specs.List.{flat_map, range_with_len}
 use Rattle.std.proofs.Common.{refl, sym, ◌∙◌, ap, subst, arith, add-one}
 use Rattle.std.proofs.Math.Seq.{drop-cons}
 use Rattle.gh_base.specs.declared.term.TermKind.{TermKind}
 use Rattle.gh_base.specs.Grounds.{Problem}
 use Rattle.gh_ast.specs.Plain.{Program}
 use Rattle.gh_path.specs.Conditions.{Condition}
-use Rattle.gh_path.specs.Terms.{Kind, next}
+use Rattle.gh_path.specs.Terms.{Kind}
 use Rattle.gh_grass.specs.Claims.{Claim}
 use Rattle.gh_symb.specs.Symbolic as plain
 use Rattle.gh_symb.specs.Symbolic.{accessed, assumed, same, written, made, freed, parts}
-use Rattle.gh_symb.specs.Formulas.{version_after, versions_claims, meets_whole, check_claims, claims, problem, successor_claims, successors_from, steps_claims, step_claims}
+use Rattle.gh_symb.specs.Formulas.{version_after, versions_claims, meets_whole, check_claims, claims, problem, successor_claims, successors_from, steps_claims}
 use Rattle.gh_symb.specs.Told.{plain_kind, IsSymbolic}
 use Rattle.gh_symb.specs.declared.over_terms.TermStep.{TermStep}
 use Rattle.gh_symb.specs.declared.over_terms.Symbolic.{Symbolic}
 use Rattle.gh_reduce.specs.Growth.{stated_in}
 use Rattle.gh_reduce.specs.Inside.{plain_of, step_of, IsReady, IsUnderInside, IsStepInside, AreStepsInside, IsCheckInside, IsInside}
-use Rattle.gh_reduce.proofs.GrowthLemmas.{stated_first, same_terms, same_versions}
 use Rattle.gh_reduce.proofs.ToldLemmas.{told_is}
 use Rattle.gh_reduce.proofs.StepsInside.{conditions_are_inside}
 

@@ -5,7 +5,7 @@ use Rattle.gh_base.specs.declared.sizes.Sizes.{Sizes}
 use Rattle.gh_base.specs.Atoms.{IsInRange}
 use Rattle.gh_base.specs.Grounds.{Problem}
 use Rattle.gh_grass.specs.Claims.{Claim, atom, negation_of, conjunction_of, disjunction_of, equivalence_of, Claims, no_claims, claim_first}
-use Rattle.gh_grass.specs.Clauses.{Made, AllMade, made, all_made, next_after, clauses_from}
+use Rattle.gh_grass.specs.Clauses.{made, all_made, next_after, clauses_from}
 
 abbrev pub sized : Sizes → ℕ → Sizes
 sized s defs = record { terms = s.terms; versions = s.versions; defs = defs }

@@ -1,5 +1,5 @@
 -- Conditions over terms as plain values, and that their terms and versions are there.
-use Rattle.std.specs.Prelude.{◌≡◌, ℕ, ◌+◌, ◌<◌, ◌≤◌, List, [], ◌∷◌, map, length, slice_get, Some}
+use Rattle.std.specs.Prelude.{◌≡◌, ℕ, ◌+◌, ◌<◌, ◌≤◌, List, [], ◌∷◌, map, length, slice_get, Some, All}
 use Rattle.std.specs.Option.{option_map}
 use Rattle.gh_base.specs.declared.atom.Term.{Term}
 use Rattle.gh_ast.specs.Plain.{formula_of}
@@ -54,9 +54,8 @@ pub record IsUnderInside (n versions : ℕ) (u : plain.Under) : Type 0 where
   pub version : u.version < versions
   pub terms : (x : Name) → (variables u.binding x).0 < n
 
-abbrev pub FirstIsInside : ℕ → ℕ → List plain.Under → Type 0
-FirstIsInside n versions [] = Unit {0}
-FirstIsInside n versions (u ∷ us) = IsUnderInside n versions u
+abbrev pub AllAreInside : ℕ → ℕ → List plain.Under → Type 0
+AllAreInside n versions us = All (IsUnderInside n versions) us
 
 abbrev pub IsStepInside : ℕ → ℕ → ℕ → plain.TermStep → Type 0
 IsStepInside n versions i (accessed x) = (x < n) × (i < versions)
@@ -65,7 +64,7 @@ IsStepInside n versions i same = Unit {0}
 IsStepInside n versions i (written x e) = (x < n) × (e < n) × (i + 1 < versions)
 IsStepInside n versions i (made l c) = (l < n) × (c < n) × (i + 1 < versions)
 IsStepInside n versions i (freed x) = (x < n) × (i + 1 < versions)
-IsStepInside n versions i (parts u us) = IsUnderInside n versions u × FirstIsInside n versions us × (i + 1 < versions)
+IsStepInside n versions i (parts u us) = IsUnderInside n versions u × AllAreInside n versions us × (i + 1 < versions)
 
 -- the steps from version i on
 abbrev pub AreStepsInside : ℕ → ℕ → ℕ → List plain.TermStep → Type 0
@@ -75,7 +74,7 @@ AreStepsInside n versions i (s ∷ ss) = IsStepInside n versions i s × AreSteps
 abbrev pub IsCheckInside : ℕ → ℕ → plain.TermCheck → Type 0
 IsCheckInside n versions (access x) = x < n
 IsCheckInside n versions (sub u) = IsUnderInside n versions u
-IsCheckInside n versions (whole us) = FirstIsInside n versions us
+IsCheckInside n versions (whole us) = AllAreInside n versions us
 
 -- there are n terms, and each successor in the list is that of one of them
 pub record IsReady (n : ℕ) (kinds : List Kind) : Type 0 where

@@ -2,7 +2,7 @@
 
 ghost use Rattle.std.specs.Prelude.{◌≡◌, ◌+◌, ◌∷◌, ◌++◌, [], IfOk, OnOk, map};
 ghost use Rattle.gh_base.specs.Atoms.{opposite, IsInRange, AreInRange};
-ghost use Rattle.gh_grass.specs.Claims.{claim_of, claims_view};
+ghost use Rattle.gh_grass.specs.Claims.{claim_of, claims_list, claims_view};
 ghost use Rattle.gh_grass.specs.Clauses.{defined, made, all_made, conjunction_clauses, disjunction_clauses, equivalence_clauses};
 ghost use Rattle.gh_reduce.specs.Growth.{sized, grown, defined_in, all_defined_in, stated_in, IsWithin, AreWithin};
 
@@ -176,4 +176,19 @@ pub fn add_formula(alloc: Global, ground: &mut Ground, formula: &Formula) -> Res
 {
     let lit = literal(alloc, ground, formula)?;
     Ok(add(ground, Clause::from_array(alloc, [lit]))?)
+}
+
+/// States some formulas, in order.
+pub fn add_formulas(
+    alloc: Global,
+    ground: &mut Ground,
+    formulas: &[Formula],
+) -> Result<(), AllocError>
+    requires { AreWithin ground.old.sizes (claims_view formulas.now) }
+    ensures { OnOk result (ground.new ≡ stated_in ground.old (claims_list formulas.now)) }
+{
+    for formula in formulas {
+        add_formula(alloc, ground, formula)?;
+    }
+    Ok(())
 }

@@ -7,18 +7,20 @@ ghost use Rattle.gh_path.specs.Terms.{next};
 ghost use Rattle.gh_symb.specs.Symbolic.{symbolic_of};
 ghost use Rattle.gh_symb.specs.Told.{plain_kind, IsSymbolic};
 ghost use Rattle.gh_symb.specs.Formulas as formulas;
-ghost use Rattle.gh_grass.specs.Claims.{negation_of};
-ghost use Rattle.gh_reduce.specs.Growth.{stated_in};
-ghost use Rattle.gh_reduce.specs.Inside.{plain_of, under_of, step_of, check_of, IsReady, IsUnderInside, IsStepInside, AreStepsInside, IsCheckInside, IsInside};
+ghost use Rattle.gh_grass.specs.Claims.{claim_of, negation_of};
+ghost use Rattle.gh_reduce.specs.Growth.{stated_in, IsWithin};
+ghost use Rattle.gh_reduce.specs.Inside.{plain_of, under_of, step_of, check_of, AllAreInside, IsReady, IsStepInside, AreStepsInside, IsCheckInside, IsInside};
 
 use crate::clauses::add_formula;
+use crate::parts::add_part;
 use crate::rows::{EachPair, EachTerm, add_each_pair, add_each_term};
 use crate::statements::{
-    allocated, free, hops, meets, meets_whole, next_where_allocated, same_where_free,
+    allocated, free, hops, meets, meets_one, meets_whole, next_where_allocated, same_where_free,
 };
 use gh_base::atom::Term;
 use gh_base::ground::Ground;
 use gh_base::term::TermKind;
+use gh_grass::formula::Formula;
 use gh_grass::terms::TermList;
 use gh_grass::tested::comparison;
 use gh_symb::over_terms::{Bound, Symbolic, TermCheck, TermStep};
@@ -185,40 +187,6 @@ fn add_free(alloc: Global, ground: &mut Ground, old: u8, x: Term) -> Result<(), 
     Ok(add_each_pair(alloc, ground, &others)?)
 }
 
-// A part of the heap is replaced by another.
-fn add_part<'s, 'a>(
-    alloc: Global,
-    ground: &mut Ground,
-    old: u8,
-    before: &'s Bound<'a>,
-    after: &'s Bound<'a>,
-    terms: &TermList,
-) -> Result<(), AllocError>
-    requires version { old + 1 < ground.old.sizes.versions }
-    requires few { ground.old.sizes.versions < 256 }
-    requires ready { IsReady ground.old.sizes.terms (map plain_kind terms.now) }
-    requires before { IsUnderInside ground.old.sizes.terms ground.old.sizes.versions (under_of before.now) }
-    requires after { IsUnderInside ground.old.sizes.terms ground.old.sizes.versions (under_of after.now) }
-    ensures { OnOk result (ground.new ≡ stated_in ground.old (formulas.replaced_claims (map plain_kind terms.now) old (under_of before.now) (under_of after.now))) }
-{
-    let new = old + 1;
-    let taken = meets(alloc, before, terms)?;
-    add_formula(alloc, ground, &taken)?;
-    let put = meets(alloc, after, terms)?;
-    add_formula(alloc, ground, &put)?;
-    let apart = EachTerm::Apart { old, before, after };
-    add_each_term(alloc, ground, &apart)?;
-    let replaced = EachTerm::Replaced {
-        old,
-        new,
-        before,
-        after,
-    };
-    add_each_term(alloc, ground, &replaced)?;
-    let kept = EachPair::Kept { old, new, before };
-    Ok(add_each_pair(alloc, ground, &kept)?)
-}
-
 // What a step from a version says.
 fn add_step(
     alloc: Global,
@@ -247,10 +215,9 @@ fn add_step(
             Ok(add_new(alloc, ground, version, *location, *content)?)
         }
         TermStep::Free { x } => Ok(add_free(alloc, ground, version, *x)?),
-        TermStep::Part { before, after } => match after.first() {
-            Some(after) => Ok(add_part(alloc, ground, version, before, after, terms)?),
-            None => Ok(()),
-        },
+        TermStep::Part { before, after } => {
+            Ok(add_part(alloc, ground, version, before, after.as_slice(), terms)?)
+        }
     }
 }
 
@@ -290,19 +257,32 @@ fn add_steps(
     Ok(())
 }
 
-// The whole heap doesn't meet an assertion.
+// A formula is false.
+fn add_failing(alloc: Global, ground: &mut Ground, formula: Formula) -> Result<(), AllocError>
+    requires { IsWithin ground.old.sizes (claim_of formula) }
+    ensures { OnOk result (ground.new ≡ stated_in ground.old (negation_of (claim_of formula) ∷ [])) }
+{
+    let fails = formula.negated(alloc)?;
+    Ok(add_formula(alloc, ground, &fails)?)
+}
+
+// The whole heap meets none of some alternatives.
 fn add_not_whole(
     alloc: Global,
     ground: &mut Ground,
-    bound: &Bound,
+    bounds: &[Bound],
     terms: &TermList,
 ) -> Result<(), AllocError>
     requires ready { IsReady ground.old.sizes.terms (map plain_kind terms.now) }
-    requires inside { IsUnderInside ground.old.sizes.terms ground.old.sizes.versions (under_of bound.now) }
-    ensures { OnOk result (ground.new ≡ stated_in ground.old (negation_of (formulas.meets_whole (map plain_kind terms.now) (under_of bound.now)) ∷ [])) }
+    requires inside { AllAreInside ground.old.sizes.terms ground.old.sizes.versions (map under_of bounds.now) }
+    ensures { OnOk result (let ks = map plain_kind terms.now in
+        ground.new ≡ stated_in ground.old (map negation_of (formulas.meets_one_of ks (map under_of bounds.now)))) }
 {
-    let fails = meets_whole(alloc, bound, terms)?.negated(alloc)?;
-    Ok(add_formula(alloc, ground, &fails)?)
+    match bounds {
+        [] => Ok(()),
+        [only] => Ok(add_failing(alloc, ground, meets_whole(alloc, only, terms)?)?),
+        _ => Ok(add_failing(alloc, ground, meets_one(alloc, bounds, terms)?)?),
+    }
 }
 
 // The check fails, in the last version.
@@ -326,10 +306,7 @@ fn add_check(
             let fails = meets(alloc, bound, terms)?.negated(alloc)?;
             Ok(add_formula(alloc, ground, &fails)?)
         }
-        TermCheck::Whole(bounds) => match bounds.first() {
-            Some(bound) => Ok(add_not_whole(alloc, ground, bound, terms)?),
-            None => Ok(()),
-        },
+        TermCheck::Whole(bounds) => Ok(add_not_whole(alloc, ground, bounds.as_slice(), terms)?),
     }
 }
 

@@ -4,6 +4,7 @@
 pub mod clauses;
 pub mod ground;
 pub mod laws;
+mod parts;
 pub mod rows;
 pub mod statements;
 #[cfg(test)]

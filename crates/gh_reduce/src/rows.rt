@@ -1,7 +1,7 @@
 //! What is stated of each term, or of each two terms.
 
-ghost use Rattle.std.specs.Prelude.{◌≡◌, ◌<◌, IfOk, OnOk};
-ghost use Rattle.gh_grass.specs.Claims.{claim_of};
+ghost use Rattle.std.specs.Prelude.{◌≡◌, ◌<◌, ◌++◌, IfOk, OnOk};
+ghost use Rattle.gh_grass.specs.Claims.{claim_of, claims_list};
 ghost use Rattle.gh_symb.specs.Formulas as formulas;
 ghost use Rattle.gh_reduce.specs.Growth.{stated_in};
 ghost use Rattle.gh_reduce.specs.Rows.{of_term, of_pair, IsEachTermInside, IsEachPairInside};
@@ -118,6 +118,22 @@ impl EachPair<'_, '_> {
             }
         }
     }
+}
+
+/// Adds it for each of some terms to other formulas.
+pub fn push_each_term(
+    alloc: Global,
+    members: &mut Vec<Formula>,
+    each: &EachTerm,
+    terms: u8,
+) -> Result<(), AllocError>
+    ensures { OnOk result (claims_list members.new.items
+        ≡ claims_list members.old.items ++ formulas.each terms (of_term each.now)) }
+{
+    for z in 0..terms {
+        members.push(each.formula(alloc, Term(z))?)?;
+    }
+    Ok(())
 }
 
 /// States it of each term.

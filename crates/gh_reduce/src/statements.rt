@@ -14,6 +14,13 @@ use gh_grass::terms::TermList;
 use gh_symb::over_terms::Bound;
 use std::alloc::{AllocError, Global};
 
+/// A formula that is false.
+pub fn never(alloc: Global) -> Formula
+    ensures { claim_of result ≡ one_of [] }
+{
+    Formula::Or(Vec::new(alloc))
+}
+
 /// A term is allocated.
 pub fn allocated(version: u8, x: Term) -> Formula
     ensures { claim_of result ≡ formulas.allocated version x }
@@ -118,4 +125,16 @@ pub fn meets_whole(alloc: Global, bound: &Bound, terms: &TermList) -> Result<For
         members.push(covers(alloc, bound, Term(z))?)?;
     }
     Ok(Formula::And(members))
+}
+
+/// The whole heap meets one of some assertions.
+pub fn meets_one(alloc: Global, bounds: &[Bound], terms: &TermList) -> Result<Formula, AllocError>
+    ensures { IfOk result (λ f. let ks = map plain_kind terms.now in
+        claim_of f ≡ one_of (map (formulas.meets_whole ks) (map under_of bounds.now))) }
+{
+    let mut members = Vec::new(alloc);
+    for bound in bounds {
+        members.push(meets_whole(alloc, bound, terms)?)?;
+    }
+    Ok(Formula::Or(members))
 }

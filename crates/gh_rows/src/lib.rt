@@ -2,6 +2,8 @@
 #![tactic(auto)]
 
 #[cfg(test)]
+mod alternative_tests;
+#[cfg(test)]
 mod answers;
 #[cfg(test)]
 mod check_tests;

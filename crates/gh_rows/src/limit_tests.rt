@@ -1,6 +1,6 @@
 //! Texts at each limit and one past it.
 
-use crate::answers::{repeated, reports};
+use crate::answers::{answer, repeated, reports};
 use crate::texts::{NODE, wide};
 use gh_top::status::Status;
 use std::alloc::{AllocError, Global};
@@ -80,6 +80,22 @@ fn how_many_atoms(rt: HostRuntime) -> Result<(), AllocError> {
     Ok(())
 }
 
+// A procedure that ensures the empty heap, and so often in one alternative more.
+fn alternatives(alloc: Global, more: u16) -> Result<Vec<u8>, AllocError> {
+    let first = b"struct Node { var next: Node; }\nprocedure p() ensures emp";
+    repeated(alloc, first, b" || emp", more, b" { }\n")
+}
+
+#[test]
+fn how_many_atoms_of_alternatives(rt: HostRuntime) -> Result<(), AllocError> {
+    let alloc = rt.alloc();
+    let most = alternatives(alloc, 31)?;
+    let over = alternatives(alloc, 32)?;
+    let refused = b"refused: Limit atoms at 2:11, count 33\n";
+    assert!(rt; turns(alloc, most.as_slice(), ONE, over.as_slice(), refused)?);
+    Ok(())
+}
+
 // So many tests, one after the other.
 fn tests(alloc: Global, count: u16) -> Result<Vec<u8>, AllocError> {
     let first = b"struct Node { var next: Node; }\nprocedure many(x: Node)\n{\n";
@@ -125,9 +141,9 @@ fn how_many_steps(rt: HostRuntime) -> Result<(), AllocError> {
 #[test]
 fn how_many_terms(rt: HostRuntime) -> Result<(), AllocError> {
     let alloc = rt.alloc();
-    let most = wide(alloc, 19)?;
-    let over = wide(alloc, 20)?;
-    let refused = b"refused: Limit terms at 2:11, count 21\n";
+    let most = wide(alloc, 31)?;
+    let over = wide(alloc, 32)?;
+    let refused = b"refused: Limit terms at 2:11, count 33\n";
     assert!(rt; turns(alloc, most.as_slice(), ONE, over.as_slice(), refused)?);
     Ok(())
 }
@@ -142,10 +158,11 @@ fn writes(alloc: Global, count: u16) -> Result<Vec<u8>, AllocError> {
 #[test]
 fn how_many_versions(rt: HostRuntime) -> Result<(), AllocError> {
     let alloc = rt.alloc();
-    let most = writes(alloc, 9)?;
-    let over = writes(alloc, 10)?;
-    let verified = b"verified: 10 of 10 valid\n";
-    let refused = b"refused: Limit versions at 2:11, count 11\n";
-    assert!(rt; turns(alloc, most.as_slice(), verified, over.as_slice(), refused)?);
+    let most = answer(alloc, &["paths", "row"], b"", writes(alloc, 23)?.as_slice())?;
+    assert!(rt; most.status == Status::Listed && most.text.ends_with(b"\n24 conditions\n"));
+    let over = writes(alloc, 24)?;
+    let refused = b"refused: Limit versions at 2:11, count 25\n";
+    let over = over.as_slice();
+    assert!(rt; reports(alloc, "paths", over, Status::TextRefused, refused)?);
     Ok(())
 }

@@ -79,6 +79,35 @@ fn judged_logs(rt: HostRuntime) -> Result<(), AllocError> {
     Ok(())
 }
 
+// A log of version 2 with one change in each row.
+const HINTED: Table<'static> = Table {
+    head: b"grass log 2\ncondition 1\ng 0\ng 15\ng 16\ng 19\ng 23\ng 24\n",
+    rows: &[
+        (b"l ; 1 2 3 4 5\n", b"line 9, NotImplied"),
+        (b"l ; 1 2 4 3 5 6\n", b"line 9, NotImplied"),
+        (b"l ; 1 2 3 4 5 7\n", b"line 9, NoSuchLine"),
+        (b"d 2\nl ; 1 2 3 4 5 6\n", b"line 10, NoSuchLine"),
+        (b"l ; 1 2 3 4 5 6\nd 1\n", b"line 11, NoEmptyClause"),
+        (b"l\n", b"line 9"),
+    ],
+    ..DAMAGED
+};
+
+#[test]
+fn judged_hints(rt: HostRuntime) -> Result<(), AllocError> {
+    let alloc = rt.alloc();
+    assert_eq!(rt; wrong_row(alloc, &HINTED)?, None);
+    let valid = Table {
+        status: Status::Verified,
+        before: b"rechecked: ",
+        after: b" valid\n",
+        rows: &[(b"l ; 1 2 3 4 5 6\n", b"1 of 1")],
+        ..HINTED
+    };
+    assert_eq!(rt; wrong_row(alloc, &valid)?, None);
+    Ok(())
+}
+
 // The log of a program that is verified.
 fn log_of(alloc: Global, program: &[u8]) -> Result<Option<Vec<u8>>, AllocError> {
     let found = answer(alloc, &["log", "row"], b"", program)?;

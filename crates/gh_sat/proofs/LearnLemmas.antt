@@ -17,7 +17,7 @@ use Rattle.gh_sat.proofs.TrailLemmas.{opposite_twice}
 use Rattle.gh_sat.proofs.MarkLemmas.{marks_some}
 use Rattle.gh_sat.proofs.ResolveLemmas.{reached_more, reached_within, complete, mark_at}
 
-reason_or_start : (s : State) (i : ℕ) (lit : Lit) (level : ℕ) (o : Option ℕ) → IsCaused s.clauses s.trail s.starts i lit level o → ((k : ℕ) × (o ≡ Some k) × IsReason s.clauses s.trail i lit k) ⊎ IsStart s.starts level i
+pub reason_or_start : (s : State) (i : ℕ) (lit : Lit) (level : ℕ) (o : Option ℕ) → IsCaused s.clauses s.trail s.starts i lit level o → ((k : ℕ) × (o ≡ Some k) × IsReason s.clauses s.trail i lit k) ⊎ IsStart s.starts level i
 reason_or_start s i lit level None h = inr h
 reason_or_start s i lit level (Some k) h = inl (k, refl, h)
 
@@ -65,7 +65,7 @@ unit_after s clause level u h there place step at is top others lt =
 pub in_get : {X : Type 0} (xs : List X) (k : ℕ) (x : X) → slice_get xs k ≡ Some x → Contains xs x
 in_get xs k x at = (k, get_within xs k x at, get_or_from_slice_get xs k x x at)
 
-in_map : (xs : List Lit) (y l : Lit) → Contains xs y → opposite y ≡ l → Contains (map opposite xs) l
+pub in_map : (xs : List Lit) (y l : Lit) → Contains xs y → opposite y ≡ l → Contains (map opposite xs) l
 in_map [] y l h e = absurd (let k = h.1 in omega arith)
 in_map (x ∷ xs) y l (zero, h, is) e = (zero, omega arith, ap opposite is ∙ e)
 in_map (x ∷ xs) y l (suc k, h, is) e = let r = in_map xs y l (k, omega arith, is) e in (suc r.0, omega (arith, r.1), r.2)
@@ -94,7 +94,7 @@ module _ (s : State) (conflict : List Lit) (m : Marking) (place last : ℕ)
   marked_reached : (j : ℕ) → IsMarked m j → Reached s.clauses s.trail conflict (suc place) j
   marked_reached j mark = reached_more s.clauses s.trail conflict (place + 1) (suc place) j (omega arith) (p.reached j mark)
 
-  only_place : (j : ℕ) → IsMarked m j → m.start ≤ j → j ≤ place → j ≡ place
+  pub only_place : (j : ℕ) → IsMarked m j → m.start ≤ j → j ≤ place → j ≡ place
   only_place j mark ge le = elim (cases_eq j place) [
     | inl e ↦ e
     | inr ne ↦ absurd (let e = p.end in let some = marks_some s.trail m j p.marks ge (omega arith) mark in let z = p.none in omega arith)

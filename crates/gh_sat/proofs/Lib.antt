@@ -6,6 +6,7 @@ pub mod MarkLemmas
 pub mod ResolveLemmas
 pub mod WholeLemmas
 pub mod LearnLemmas
+pub mod ReasonLemmas
 pub mod TheoryLemmas
 pub mod MeasureLemmas
 pub mod FirstLevelLemmas

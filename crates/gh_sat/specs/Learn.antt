@@ -1,8 +1,10 @@
 -- Learnt clauses.
-use Rattle.std.specs.Prelude.{◌≡◌, ◌⊎◌, ℕ, suc, ◌+◌, ◌<◌, ◌≤◌, List, [], ◌∷◌, ◌++◌, All, Contains, Some, length, take, drop, slice_get, cond, nat_eq}
+use Rattle.std.specs.Prelude.{◌≡◌, ◌⊎◌, ℕ, suc, ◌+◌, ◌<◌, ◌≤◌, if◌then◌else◌, List, [], ◌∷◌, ◌++◌, All, Contains, Some, length, map, take, drop, slice_get, slice_index_or, cond, nat_eq}
+use Rattle.std.specs.List.{cons_option}
 use Rattle.gh_base.specs.declared.atom.Lit.{Lit}
 use Rattle.gh_base.specs.Atoms.{opposite}
 use Rattle.gh_base.specs.Propagation.{FollowsByUnits}
+use Rattle.gh_base.specs.Hints.{IsShownByHints}
 use Rattle.gh_sat.specs.declared.trail.Step.{Step}
 use Rattle.gh_sat.specs.declared.marks.Marks.{Marks}
 use Rattle.gh_sat.specs.Trail.{State, cut, IsFalseIn, IsReason, IsUnitIn}
@@ -56,6 +58,11 @@ pub record IsLearnt (s : State) (k : ℕ) (clause : List Lit) (level : ℕ) (uni
   pub least : (level ≡ 0) ⊎ ((i : ℕ) × (x : Step) × (slice_get s.trail i ≡ Some x) × Contains clause (opposite x.lit) × (x.level ≡ level))
   -- after the cut it is unit
   pub unit_then : IsUnitIn (cut s level).trail clause unit
+
+-- numbers of clauses that, taken as hints in this order, show a clause
+pub record AreReasons (clauses : List (List Lit)) (numbers : List ℕ) (clause : List Lit) : Type 0 where
+  pub within : All (λ k. k < length clauses) numbers
+  pub shows : IsShownByHints (map (λ k. slice_index_or clauses k []) numbers) clause
 
 abbrev pub add_clause : State → List Lit → State
 add_clause s c = record s { clauses = s.clauses ++ c ∷ [] }
@@ -136,6 +143,16 @@ AreReached clauses trail conflict m from = (j : ℕ) → IsMarked m j → Reache
 -- each step after the start has its reason
 abbrev pub HaveReasons : List (List Lit) → List Step → ℕ → Type 0
 HaveReasons clauses trail start = (i : ℕ) (x : Step) → slice_get trail i ≡ Some x → start < i → (k : ℕ) × (x.reason ≡ Some k) × IsReason clauses trail i x.lit k
+
+-- each step has one
+abbrev pub AllHaveReasons : List (List Lit) → List Step → Type 0
+AllHaveReasons clauses trail = (i : ℕ) (x : Step) → slice_get trail i ≡ Some x → (k : ℕ) × (x.reason ≡ Some k) × IsReason clauses trail i x.lit k
+
+-- the reasons of those steps whose stamps are of the round, in the order of the steps
+abbrev pub reasons_of : ℕ → List ℕ → List Step → List ℕ
+reasons_of round [] steps = []
+reasons_of round (s ∷ ss) [] = []
+reasons_of round (s ∷ ss) (x ∷ xs) = if nat_eq s round then cons_option x.reason (reasons_of round ss xs) else reasons_of round ss xs
 
 -- the one place from the start on to which resolving later places leads
 pub record IsAlone (clauses : List (List Lit)) (trail : List Step) (conflict : List Lit) (start place : ℕ) : Type 0 where

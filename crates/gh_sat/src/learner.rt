@@ -12,6 +12,7 @@ ghost use Rattle.gh_sat.specs.Learn.{IsTop};
 use crate::marks::{Marks, begin, resolve};
 use crate::occurrences::Occurrences;
 use crate::propagation;
+use crate::reasons::{mark_reached, reasons_from};
 use crate::rows::Row;
 use crate::status::Hint;
 use crate::trail::{Step, Trail};
@@ -23,12 +24,14 @@ use gh_base::sizes::Sizes;
 use std::alloc::{AllocError, Global};
 use std::marker::Model;
 
-/// What was learnt: a clause, the level to cut to, and the literal that is then its one unassigned one.
+/// What was learnt: a clause, the level to cut to, the literal that is then its one unassigned one, and numbers of
+/// earlier clauses that, taken as hints in this order, show the clause.
 #[derive(Debug, Drop)]
 pub struct Learnt {
     pub clause: Clause,
     pub level: u32,
     pub unit: Lit,
+    pub reasons: Vec<u32>,
 }
 
 /// The clauses, the trail with its levels, and what propagation and conflict analysis keep.
@@ -170,7 +173,7 @@ impl Learner {
     ghost use Rattle.gh_sat.specs.Trail.{State, IsFree, IsAssignmentOf, IsSound, cut, open_level};
     ghost use Rattle.gh_sat.specs.Status.{IsSettled};
     ghost use Rattle.gh_sat.specs.Watch.{WasOpen};
-    ghost use Rattle.gh_sat.specs.Learn.{IsConflict, IsLearnt, add_clause};
+    ghost use Rattle.gh_sat.specs.Learn.{IsConflict, IsLearnt, AreReasons, add_clause};
     ghost use Rattle.gh_sat.specs.Whole.{PropagatesTo, GivesLast, Adds};
 
     /// A search with no clause.
@@ -414,6 +417,7 @@ impl Learner {
         requires level { 0 < length self.old.starts }
         ensures learnt { IfOk result (λ l. IsLearnt self.old conflict l.clause l.level l.unit) }
         ensures added { IfOk result (λ l. self.new ≡ add_clause self.old l.clause) }
+        ensures reasons { IfOk result (λ l. AreReasons self.old.clauses l.reasons.items l.clause) }
         ensures err { OnErr result (self.new ≡ self.old) }
     {
         let start = self.starts[self.starts.len() - 1] as usize;
@@ -425,6 +429,7 @@ impl Learner {
             self.clauses[conflict as usize].lits(),
         )?;
         let unit = self.trail.steps()[place].lit.negated();
+        let reasons = reasons_from(alloc, &self.marks, &self.trail, place + 1, conflict)?;
         self.marks.lower.push(unit)?;
         let level = self.marks.level;
         let clause = Clause::from_lits(alloc, self.marks.lower.as_slice())?;
@@ -435,6 +440,26 @@ impl Learner {
             clause,
             level,
             unit,
+            reasons,
         })
+    }
+
+    /// Where a clause is false at level 0, numbers of clauses that, taken as hints in this order, show the empty clause:
+    /// the reasons of all that it is reached from, and itself.
+    pub fn refutation(&mut self, alloc: Global, conflict: u32) -> Result<Vec<u32>, AllocError>
+        requires conflict { IsConflict self.old conflict }
+        requires level { self.old.starts ≡ [] }
+        ensures reasons { IfOk result (λ v. AreReasons self.old.clauses v.items []) }
+        ensures same { self.new ≡ self.old }
+    {
+        begin(&mut self.marks, 0, self.trail.steps().len());
+        mark_reached(
+            &mut self.marks,
+            &self.trail,
+            self.clauses.as_slice(),
+            self.clauses[conflict as usize].lits(),
+        )?;
+        let reasons = reasons_from(alloc, &self.marks, &self.trail, 0, conflict)?;
+        Ok(reasons)
     }
 }

@@ -7,6 +7,7 @@ mod marks;
 pub mod measure;
 mod occurrences;
 mod propagation;
+mod reasons;
 mod rows;
 pub mod search;
 mod status;

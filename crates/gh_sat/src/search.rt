@@ -6,7 +6,7 @@ ghost use Rattle.gh_base.specs.declared.atom.Lit.{Lit};
 ghost use Rattle.gh_base.specs.Atoms.{IsInRange, AreInRange};
 ghost use Rattle.gh_sat.specs.Trail.{State, IsFree, IsFalseIn, IsAssignmentOf, IsSound, cut, open_level};
 ghost use Rattle.gh_sat.specs.Status.{IsSettled};
-ghost use Rattle.gh_sat.specs.Learn.{IsConflict, IsLearnt, add_clause};
+ghost use Rattle.gh_sat.specs.Learn.{IsConflict, IsLearnt, AreReasons, add_clause};
 ghost use Rattle.gh_sat.specs.Whole.{GivesLast, Adds};
 ghost use Rattle.gh_sat.specs.Theory.{lits_of, IsTold, HasNoConflict, WereConsistent, PropagatesBeside};
 
@@ -184,9 +184,20 @@ impl<T: Theory> Search<T> {
         requires level { 0 < length self.old.starts }
         ensures learnt { IfOk result (λ l. IsLearnt self.old k l.clause l.level l.unit) }
         ensures added { IfOk result (λ l. self.new ≡ add_clause self.old l.clause) }
+        ensures reasons { IfOk result (λ l. AreReasons self.old.clauses l.reasons.items l.clause) }
         ensures err { OnErr result (self.new ≡ self.old) }
     {
         self.learner.learn(alloc, k)
+    }
+
+    /// Where a clause is false at level 0, numbers of clauses that, taken as hints in this order, show the empty clause.
+    pub fn refutation(&mut self, alloc: Global, k: u32) -> Result<Vec<u32>, AllocError>
+        requires conflict { IsConflict self.old k }
+        requires level { self.old.starts ≡ [] }
+        ensures reasons { IfOk result (λ v. AreReasons self.old.clauses v.items []) }
+        ensures same { self.new ≡ self.old }
+    {
+        self.learner.refutation(alloc, k)
     }
 
     /// Cuts the trail to a level.

@@ -305,6 +305,48 @@ fn pigeonholes(rt: HostRuntime) -> Result<(), Fail> {
     Ok(())
 }
 
+// The numbers of the clauses of a refutation, if there is one.
+fn refutation_of(
+    alloc: Global,
+    search: &mut Search<Apart>,
+) -> Result<Option<Vec<u32>>, AllocError> {
+    for _round in 0..100000 {
+        let Some(k) = next_conflict(alloc, search)? else {
+            return Ok(None);
+        };
+        if search.level() == 0 {
+            return Ok(Some(search.refutation(alloc, k)?));
+        }
+        let learnt = search.learn(alloc, k)?;
+        search.backjump(learnt.level);
+    }
+    Ok(None)
+}
+
+// How many clauses are in a refutation, if there is one that shows the empty clause.
+fn refuting(alloc: Global, ground: &Ground) -> Result<Option<usize>, AllocError> {
+    if ground.defs() < 2 {
+        return Ok(None);
+    }
+    let theory = Apart::new(alloc, ground.sizes())?;
+    let mut search = Search::new(alloc, ground, theory)?;
+    let Some(reasons) = refutation_of(alloc, &mut search)? else {
+        return Ok(None);
+    };
+    let is_shown = are_reasons(alloc, &search, reasons.as_slice(), &[])?;
+    Ok(is_shown.then_some(reasons.len()))
+}
+
+#[test]
+fn refutations(rt: HostRuntime) -> Result<(), Fail> {
+    let pigeonhole = pigeons(rt.alloc(), 5, 4)?;
+    assert!(rt; refuting(rt.alloc(), &pigeonhole)?.is_some());
+    // three clauses refute each other; the unit before them isn't needed
+    let units = problem(rt.alloc(), 6, &[&[4], &[1], &[-1, 2], &[-2, -1]])?;
+    assert_eq!(rt; refuting(rt.alloc(), &units)?, Some(3));
+    Ok(())
+}
+
 // A clause on both definitions of a pair.
 fn push_pair(
     alloc: Global,
@@ -368,7 +410,39 @@ fn has_names(clause: &Clause, names: &[i32]) -> bool {
         && names.iter().all(|name| clause.lits().iter().any(|lit| lit.is_same(named(*name))))
 }
 
-// Whether the lesson is learnt, and its unit is then true at its level.
+// The literals of a clause whose opposites aren't in a set.
+fn missing(alloc: Global, set: &[Lit], clause: &Clause) -> Result<Vec<Lit>, AllocError> {
+    let mut left = Vec::new(alloc);
+    for lit in clause.lits() {
+        if !set.iter().any(|other| other.is_same(lit.negated())) {
+            left.push(*lit)?;
+        }
+    }
+    Ok(left)
+}
+
+// Whether clauses by their numbers, taken as hints in this order, show a clause: a walk with a set of literals.
+fn are_reasons(
+    alloc: Global,
+    search: &Search<Apart>,
+    reasons: &[u32],
+    clause: &[Lit],
+) -> Result<bool, AllocError> {
+    let mut set: Vec<Lit> = clause.iter().map(|lit| lit.negated()).collect(alloc)?;
+    for number in reasons {
+        let Some(hint) = search.clause(*number) else {
+            return Ok(false);
+        };
+        match missing(alloc, set.as_slice(), hint)?.as_slice() {
+            [] => return Ok(true),
+            [lit] => set.push(*lit)?,
+            _ => return Ok(false),
+        }
+    }
+    Ok(false)
+}
+
+// Whether the lesson is learnt, its reasons show it, and its unit is then true at its level.
 fn is_learnt(alloc: Global, lesson: &Lesson) -> Result<bool, AllocError> {
     let ground = problem(alloc, lesson.defs, lesson.clauses)?;
     if ground.defs() < 2 {
@@ -381,8 +455,10 @@ fn is_learnt(alloc: Global, lesson: &Lesson) -> Result<bool, AllocError> {
         return Ok(false);
     };
     let unit = named(lesson.unit);
+    let (reasons, lits) = (learnt.reasons.as_slice(), learnt.clause.lits());
     Ok(
-        has_names(&learnt.clause, lesson.learnt)
+        are_reasons(alloc, &search, reasons, lits)?
+            && has_names(&learnt.clause, lesson.learnt)
             && learnt.level == lesson.level
             && learnt.unit.is_same(unit)
             && search.level() == lesson.level

@@ -4,7 +4,7 @@ use Rattle.std.proofs.Common.{refl, sym, ◌∙◌, ap, subst, inl, inr, arith}
 use Rattle.std.proofs.lemmas.Option.{slice_get_within}
 use Rattle.gh_ast.specs.Plain.{Program}
 use Rattle.gh_ast.specs.declared.typed.Limit.{Limit}
-use Rattle.gh_path.specs.Admitted.{NoneHas, Passed}
+use Rattle.gh_path.specs.Admitted.{NoneHas, Passed, most_terms, most_versions}
 use Rattle.gh_path.specs.Conditions.{Condition, conditions, conditions_of}
 use Rattle.gh_symb.specs.Limits.{HasTerms, HasVersions, IsLimitOf, PassesLimit, Passes}
 use Rattle.gh_symb.specs.Met.{NoneMet, IsFirstMet, IsMet, IsOfTerms, earlier}
@@ -33,7 +33,7 @@ first_later P Q k kind count l met = record { place = met.place; condition = met
 -- a condition that passes no limit on terms is met
 pub met_more : (P : Program) (k : ℕ) (c : Condition) (late passed : Option Limit) → slice_get (conditions P) k ≡ Some c → Passes P c passed → (HasTerms P c → ⊥) →
     IsMet P k late → IsMet P (k + 1) (earlier late passed)
-met_more P k c (Some l) passed here is few met = first_later P (HasVersions P) k 7 11 l met
+met_more P k c (Some l) passed here is few met = first_later P (HasVersions P) k 7 (most_versions + 1) l met
 met_more P k c None None here is few met = one_more P (HasVersions P) k c here met is.versions
 met_more P k c None (Some l) here (inl many) few met = absurd (few many.0)
 met_more P k c None (Some l) here (inr many) few met = record { place = k; condition = c; within = omega arith; at = here; holds = many.1; limit = many.2; earlier = met }
@@ -56,12 +56,12 @@ few_terms P c None is none many = is.terms many
 few_terms P c (Some l) (inl at) none many = none l refl at.1.kind_is
 few_terms P c (Some l) (inr at) none many = at.0 many
 
-pub many_terms : (P : Program) (c : Condition) (passed : Option Limit) (l : Limit) → Passes P c passed → IsOfTerms passed (Some l) → HasTerms P c × IsLimitOf c.procedure 6 21 l
+pub many_terms : (P : Program) (c : Condition) (passed : Option Limit) (l : Limit) → Passes P c passed → IsOfTerms passed (Some l) → HasTerms P c × IsLimitOf c.procedure 6 (most_terms + 1) l
 many_terms P c None l is of = absurd cc
 many_terms P c (Some m) l is of = by_limit m is of.0 of.1
   where
-    by_limit : (m : Limit) → PassesLimit P c m → Some m ≡ Some l → l.kind ≡ 6 → HasTerms P c × IsLimitOf c.procedure 6 21 l
-    by_limit m (inl at) same six = let is : m ≡ l = cc in (at.0, subst (IsLimitOf c.procedure 6 21) is at.1)
+    by_limit : (m : Limit) → PassesLimit P c m → Some m ≡ Some l → l.kind ≡ 6 → HasTerms P c × IsLimitOf c.procedure 6 (most_terms + 1) l
+    by_limit m (inl at) same six = let is : m ≡ l = cc in (at.0, subst (IsLimitOf c.procedure 6 (most_terms + 1)) is at.1)
     by_limit m (inr at) same six =
         let is : m ≡ l = cc in
         let seven : l.kind ≡ 7 = ap (λ (k : Limit). k.kind) (sym is) ∙ at.2.kind_is in

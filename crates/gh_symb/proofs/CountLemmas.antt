@@ -7,6 +7,7 @@ use Rattle.gh_ast.specs.Plain.{Procedure, Program, procedure_of, program_of}
 use Rattle.gh_ast.specs.declared.Procedure as whole
 use Rattle.gh_ast.specs.declared.Program as whole_program
 use Rattle.gh_ast.specs.Programs.{variable_names}
+use Rattle.gh_path.specs.Admitted.{most_terms}
 use Rattle.gh_path.specs.Graphs.{PathStep}
 use Rattle.gh_path.specs.Kept.{AreSteps, StandsFor}
 use Rattle.gh_path.specs.Conditions.{Condition}
@@ -46,7 +47,7 @@ gone_on P p r rs c s t left stepped = by_steps left.steps left.are_left left.lea
     }
 
 -- a walk that has passed the limit has passed it at the end
-pub many : (P : Program) (p : Procedure) (rs : List kept_step.PathStep) (c : Condition) (s : Terms) → p ≡ c.procedure → Remains P p rs c s → 20 < length s.kinds → 20 < length (terms_of P c)
+pub many : (P : Program) (p : Procedure) (rs : List kept_step.PathStep) (c : Condition) (s : Terms) → p ≡ c.procedure → Remains P p rs c s → most_terms < length s.kinds → most_terms < length (terms_of P c)
 many P p rs c s same left over =
     let xs = variable_names p in
     let last = steps_walked P xs c.way.steps (walked c.start.meets no_terms) in

@@ -4,7 +4,8 @@ use Rattle.std.proofs.Common.{refl, sym, ◌∙◌, ap, subst, arith, inl, inr}
 use Rattle.std.proofs.lemmas.List.{append_assoc, append-nil}
 use Rattle.gh_ast.specs.Plain.{Procedure, Program}
 use Rattle.gh_ast.specs.Programs.{Name, variable_names}
-use Rattle.gh_path.specs.Graphs.{PathStep, accessed, assume, assigned, made, written, freed, called, looped, answered, Check, access, entry, loop_entry, returned, loop_end}
+use Rattle.gh_path.specs.Admitted.{most_terms}
+use Rattle.gh_path.specs.Graphs.{PathStep, accessed, assume, assigned, made, written, freed, called, looped, answered, Check}
 use Rattle.gh_path.specs.Kept.{AreSteps}
 use Rattle.gh_path.specs.Conditions.{Condition}
 use Rattle.gh_path.specs.declared.condition.PathStep as kept_step
@@ -13,7 +14,8 @@ use Rattle.gh_grass.specs.declared.binding.Bond.{Bond}
 use Rattle.gh_symb.specs.Symbolic as plain
 use Rattle.gh_symb.specs.Symbolic.{under, term_step, term_steps, term_check, step_used, check_used, used_first, first_use, either_term, state_bindings}
 use Rattle.gh_symb.specs.Told.{Each, IsBinding, IsUnder, IsTermStep, IsTermCheck, IsSymbolic, plain_kind}
-use Rattle.gh_symb.specs.Phases.{told, step_done, step_says, check_says, check_ended, IsUsed, learned, both}
+use Rattle.gh_symb.specs.Phases.{told, step_done, step_says, IsUsed, learned, both}
+use Rattle.gh_symb.specs.Steps.{EndsWith}
 use Rattle.gh_symb.specs.Saying.{IsFinished, IsSaid}
 use Rattle.gh_symb.specs.Following.{met, known, begins, first_uses, Follows, Followed}
 use Rattle.gh_symb.specs.Limits.{PassesNone}
@@ -51,23 +53,6 @@ says_step P xs (looped l) s t e v =
     ap (λ i. plain.parts (told l.invariant t.bindings i) (under l.invariant (renewed (filter (some_assigns l.body) xs) (moved_on t)) ∷ [])) v
     ∙ ap (λ (q : Terms). plain.parts (told l.invariant q.bindings s.version) (under l.invariant (renewed (filter (some_assigns l.body) xs) (moved_on q)) ∷ [])) e
 says_step P xs (answered ys es) s t e v = refl
-
-pub ended_walked : (P : Program) (k : Check) (s : Terms) → check_ended P k (check_used k s) ≡ check_walked P k s
-ended_walked P (access o) s = refl
-ended_walked P (entry f es) s = refl
-ended_walked P (loop_entry l) s = refl
-ended_walked P (returned at f) s = refl
-ended_walked P (loop_end l) s = refl
-
-pub says_check : (P : Program) (k : Check) (s t : Terms) → t ≡ check_used k s → t.version ≡ s.version → check_says P k t ≡ term_check P k s
-says_check P (access o) s t e v = ap (check_says P (access o)) e
-says_check P (entry f es) s t e v = ap (check_says P (entry f es)) e
-says_check P (loop_entry l) s t e v =
-    ap (λ i. plain.sub (told l.invariant t.bindings i)) v ∙ ap (λ (q : Terms). plain.sub (told l.invariant q.bindings s.version)) e
-says_check P (returned at f) s t e v =
-    ap (λ i. plain.whole (told f t.bindings i ∷ [])) v ∙ ap (λ (q : Terms). plain.whole (told f q.bindings s.version ∷ [])) e
-says_check P (loop_end l) s t e v =
-    ap (λ i. plain.whole (told l.invariant t.bindings i ∷ [])) v ∙ ap (λ (q : Terms). plain.whole (told l.invariant q.bindings s.version ∷ [])) e
 
 -- what is known after a step is what was known before: `a` before it, `b` once it has used its variables, `c` after it
 turn : (a b c f later : Option ℕ) → (c ≡ None → b ≡ None) → (b ≡ None → a ≡ None) → (a ≡ None → f ≡ None) → known c (learned a b f) later ≡ known a f (used_first b c later)
@@ -144,10 +129,10 @@ gone_on P p r rs c s t u firsts learns states said one left uses version does te
         }
 
 -- where no step is left, the check's uses are learned
-pub ended : (P : Program) (p : Procedure) (c : Condition) (s t : Terms) (firsts learns : Bindings) (states : List Bindings) (said : List TermStep) →
-    Follows P p [] c s firsts states said → t ≡ check_used c.way.check s → ((x : Name) → learns x ≡ learned (s.bindings x) (t.bindings x) (firsts x)) →
+pub ended : (P : Program) (p : Procedure) (c : Condition) (s : Terms) (b firsts learns : Bindings) (states : List Bindings) (said : List TermStep) →
+    Follows P p [] c s firsts states said → b ≡ (check_used c.way.check s).bindings → ((x : Name) → learns x ≡ learned (s.bindings x) (b x) (firsts x)) →
     Followed P p c s learns (states ++ s.bindings ∷ []) said
-ended P p c s t firsts learns states said left used learn = by_steps left.steps left.are_left left.lead left.say left.meet left.first
+ended P p c s b firsts learns states said left used learn = by_steps left.steps left.are_left left.lead left.say left.meet left.first
   where
     by_steps : (steps : List PathStep) → AreSteps P p [] steps →
         steps_walked P (variable_names p) steps s ≡ steps_walked P (variable_names p) c.way.steps (begins c) →
@@ -161,8 +146,8 @@ ended P p c s t firsts learns states said left used learn = by_steps left.steps 
       are_said = subst (Each IsTermStep said) (sym (append-nil left.plain_said) ∙ say) left.are_said;
       meet = meet;
       first = λ x.
-          learn x ∙ last_turn (s.bindings x) (t.bindings x) (firsts x) (left.lack x)
-          ∙ ap (λ (q : Terms). known (s.bindings x) (firsts x) (q.bindings x)) used ∙ first x;
+          learn x ∙ last_turn (s.bindings x) (b x) (firsts x) (left.lack x)
+          ∙ ap (λ (q : Bindings). known (s.bindings x) (firsts x) (q x)) used ∙ first x;
     }
 
 -- a variable has its first use's term where it had none before
@@ -204,21 +189,18 @@ gone_on_to P p r rs c s t u firsts learns states after said later one left uses 
     (subst (λ ts. Follows P p rs c u learns (states ++ s.bindings ∷ []) ts) (sym l) (gone_on P p r rs c s t u firsts learns states said one left uses version does tells learn))
 
 -- all that is kept is that of the condition
-pub is_symbolic : (P : Program) (p : Procedure) (c : Condition) (s t : Terms) (firsts : Bindings) (states : List Bindings) (kinds : List Kind) (r : Symbolic) → p ≡ c.procedure →
-    Followed P p c s firsts states r.steps.items → t ≡ check_used c.way.check s → t.version ≡ s.version → kinds ≡ (check_ended P c.way.check t).kinds → IsTermCheck r.check (check_says P c.way.check t) → t.version ≡ (check_ended P c.way.check t).version →
-    map plain_kind r.terms ≡ kinds → r.versions ≡ t.version + 1 → IsUnder r.start (under c.start.meets no_terms) → Each IsBinding r.bindings.items (map (λ b. both b firsts) states) → IsSymbolic P c r
-is_symbolic P p c s t firsts states kinds r same followed used version ends asks keeps terms versions start bindings =
+pub is_symbolic : (P : Program) (p : Procedure) (c : Condition) (s : Terms) (firsts : Bindings) (states : List Bindings) (kinds : List Kind) (version : ℕ) (r : Symbolic) → p ≡ c.procedure →
+    Followed P p c s firsts states r.steps.items → EndsWith (check_walked P c.way.check s) kinds version → IsTermCheck r.check (term_check P c.way.check s) →
+    map plain_kind r.terms ≡ kinds → r.versions ≡ version + 1 → IsUnder r.start (under c.start.meets no_terms) → Each IsBinding r.bindings.items (map (λ b. both b firsts) states) → IsSymbolic P c r
+is_symbolic P p c s firsts states kinds version r same followed ends asks terms versions start bindings =
     let f : Followed P c.procedure c s firsts states r.steps.items = subst (λ q. Followed P q c s firsts states r.steps.items) same followed in
-    let whole : check_ended P c.way.check t ≡ condition_walked P c =
-    ap (check_ended P c.way.check) used ∙ ended_walked P c.way.check s ∙ ap (check_walked P c.way.check) f.last in
-    let says : check_says P c.way.check t ≡ term_check P c.way.check (steps_walked P (variable_names c.procedure) c.way.steps (begins c)) =
-    says_check P c.way.check s t used version ∙ ap (term_check P c.way.check) f.last in
+    let whole : EndsWith (condition_walked P c) kinds version = subst (λ q. EndsWith (check_walked P c.way.check q) kinds version) f.last ends in
     record {
-      terms = terms ∙ ends ∙ ap (λ (q : Terms). q.kinds) whole;
-      versions = versions ∙ ap (λ v. v + 1) (keeps ∙ ap (λ (q : Terms). q.version) whole);
+      terms = terms ∙ whole.kinds_are;
+      versions = versions ∙ ap (λ v. v + 1) whole.version_is;
       start = start;
       steps = f.are_said;
-      check = subst (IsTermCheck r.check) says asks;
+      check = subst (λ q. IsTermCheck r.check (term_check P c.way.check q)) f.last asks;
       bindings = bindings_told P (variable_names c.procedure) c firsts r.bindings.items f.first
           (subst (λ ms. Each IsBinding r.bindings.items (map (λ b. both b firsts) ms)) f.meet bindings);
     }
@@ -227,14 +209,13 @@ over_or : (m n : ℕ) → (m < n) ⊎ (n ≤ m)
 over_or m n = grind arith
 
 -- a condition that passes no limit has few terms
-pub few_kinds : (P : Program) (p : Procedure) (c : Condition) (s t : Terms) (firsts : Bindings) (states : List Bindings) (said : List TermStep) (kinds : List Kind) → p ≡ c.procedure →
-    Followed P p c s firsts states said → t ≡ check_used c.way.check s → kinds ≡ (check_ended P c.way.check t).kinds → PassesNone P c → length kinds ≤ 20
-few_kinds P p c s t firsts states said kinds same followed used ends passes =
+pub few_kinds : (P : Program) (p : Procedure) (c : Condition) (s : Terms) (firsts : Bindings) (states : List Bindings) (said : List TermStep) (kinds : List Kind) (version : ℕ) → p ≡ c.procedure →
+    Followed P p c s firsts states said → EndsWith (check_walked P c.way.check s) kinds version → PassesNone P c → length kinds ≤ most_terms
+few_kinds P p c s firsts states said kinds version same followed ends passes =
     let f : Followed P c.procedure c s firsts states said = subst (λ q. Followed P q c s firsts states said) same followed in
-    let whole : check_ended P c.way.check t ≡ condition_walked P c =
-    ap (check_ended P c.way.check) used ∙ ended_walked P c.way.check s ∙ ap (check_walked P c.way.check) f.last in
-    let is : length kinds ≡ length (terms_of P c) = ap length (ends ∙ ap (λ (q : Terms). q.kinds) whole) in
-    elim (over_or 20 (length (terms_of P c))) [
+    let whole : EndsWith (condition_walked P c) kinds version = subst (λ q. EndsWith (check_walked P c.way.check q) kinds version) f.last ends in
+    let is : length kinds ≡ length (terms_of P c) = ap length whole.kinds_are in
+    elim (over_or most_terms (length (terms_of P c))) [
       | inl many ↦ absurd (passes.terms many)
       | inr few ↦ omega (arith, is, few)
     ]

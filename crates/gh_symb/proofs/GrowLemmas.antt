@@ -9,9 +9,9 @@ use Rattle.gh_ast.specs.declared.Expr.{Expr}
 use Rattle.gh_ast.specs.declared.Expr.TheVariants.{Plain, Read}
 use Rattle.gh_ast.specs.Plain.{Test, compare, negation, conjunction, disjunction, Tests, no_tests, test_first}
 use Rattle.gh_ast.specs.Plain.{Formula, empty, comparison, points_to, cell, segment, star, cases, Formulas, no_formulas, formula_first, Procedure, Program}
-use Rattle.gh_ast.specs.Programs.{Name, names, results_of, ensured}
+use Rattle.gh_ast.specs.Programs.{Name, names, results_of}
 use Rattle.gh_path.specs.Graphs.{Check, access, entry, loop_entry, returned, loop_end, PathStep, accessed, assume, assigned, made, written, freed, called, looped, answered}
-use Rattle.gh_path.specs.Terms.{Kind, next, same_kind, added, with_value, Bindings, bound, Terms, terms, used, used_as, term_of, followed, operand_used, expr_used, exprs_used, exprs_terms, test_walked, tests_walked, walked, all_walked, moved_on, rebound, renewed, callee_in, bound_inside, answered_inside, call_walked, step_walked, steps_walked, entry_walked, check_walked, some_assigns}
+use Rattle.gh_path.specs.Terms.{Kind, next, same_kind, added, with_value, Bindings, bound, Terms, terms, used, used_as, term_of, followed, operand_used, expr_used, exprs_used, exprs_terms, test_walked, tests_walked, walked, all_walked, each_walked, moved_on, rebound, renewed, callee_in, bound_inside, answered_inside, call_walked, step_walked, steps_walked, entry_walked, check_walked, some_assigns}
 
 abbrev pub size : Terms → ℕ
 size s = length s.kinds
@@ -82,6 +82,10 @@ mutual
   all_grow no_formulas s = same (size s)
   all_grow (formula_first f fs) s = onto (walked_grows f s) (all_grow fs (walked f s))
 
+each_grows : (fs : List Formula) (s : Terms) → size s ≤ size (each_walked fs s)
+each_grows [] s = same (size s)
+each_grows (f ∷ fs) s = onto (walked_grows f s) (each_grows fs (walked f s))
+
 renewed_grows : (xs : List Name) (s : Terms) → size s ≤ size (renewed xs s)
 renewed_grows [] s = same (size s)
 renewed_grows (x ∷ xs) s = onto (value_grows s.kinds) (renewed_grows xs (terms (with_value s.kinds) (bound s.bindings x (length s.kinds)) s.version))
@@ -89,7 +93,7 @@ renewed_grows (x ∷ xs) s = onto (value_grows s.kinds) (renewed_grows xs (terms
 inside_grows : (p : Procedure) (xs : List Name) (b : Bindings) (s : Terms) → size s ≤ size (answered_inside p xs b s)
 inside_grows p xs b s =
     onto (walked_grows p.needs s)
-    (onto (renewed_grows (results_of p) (moved_on (walked p.needs s))) (walked_grows (ensured p) (renewed (results_of p) (moved_on (walked p.needs s)))))
+    (onto (renewed_grows (results_of p) (moved_on (walked p.needs s))) (each_grows p.gives (renewed (results_of p) (moved_on (walked p.needs s)))))
 
 call_grows : (o : Option Procedure) (xs : List Name) (ts : List ℕ) (s : Terms) → size s ≤ size (call_walked o xs ts s)
 call_grows None xs ts s = same (size s)
@@ -124,5 +128,5 @@ check_grows P (entry f es) s =
     let t = exprs_used es s in
     onto (exprs_grow es s) (entry_grows (callee_in P.procedures f.name) (exprs_terms es t) t)
 check_grows P (loop_entry l) s = walked_grows l.invariant s
-check_grows P (returned at f) s = walked_grows f s
+check_grows P (returned at fs) s = each_grows fs s
 check_grows P (loop_end l) s = walked_grows l.invariant s

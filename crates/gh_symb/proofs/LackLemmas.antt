@@ -7,9 +7,9 @@ use Rattle.gh_ast.specs.declared.Expr.{Expr}
 use Rattle.gh_ast.specs.declared.Expr.TheVariants.{Plain, Read}
 use Rattle.gh_ast.specs.Plain.{Test, compare, negation, conjunction, disjunction, Tests, no_tests, test_first}
 use Rattle.gh_ast.specs.Plain.{Formula, empty, comparison, points_to, cell, segment, star, cases, Formulas, no_formulas, formula_first, Procedure, Program}
-use Rattle.gh_ast.specs.Programs.{Name, names, results_of, ensured}
+use Rattle.gh_ast.specs.Programs.{Name, names, results_of}
 use Rattle.gh_path.specs.Graphs.{PathStep, accessed, assume, assigned, made, written, freed, called, looped, answered}
-use Rattle.gh_path.specs.Terms.{with_value, Bindings, bound, all_bound, Terms, terms, used, used_as, term_of, followed, operand_used, expr_used, expr_term, exprs_used, exprs_terms, test_walked, tests_walked, walked, all_walked, moved_on, rebound, renewed, callee_in, bound_inside, answered_inside, call_walked, step_walked, some_assigns}
+use Rattle.gh_path.specs.Terms.{with_value, Bindings, bound, all_bound, Terms, terms, used, used_as, term_of, followed, operand_used, expr_used, expr_term, exprs_used, exprs_terms, test_walked, tests_walked, walked, all_walked, each_walked, moved_on, rebound, renewed, callee_in, bound_inside, answered_inside, call_walked, step_walked, some_assigns}
 use Rattle.gh_symb.specs.Symbolic.{step_used}
 
 abbrev pub Lacks : Terms → Name → Type 0
@@ -78,7 +78,7 @@ renewed_lacks (y ∷ ys) s x none =
 
 inside_lacks : (p : Procedure) (ys : List Name) (b : Bindings) (s : Terms) (x : Name) → Lacks (answered_inside p ys b s) x → b x ≡ None
 inside_lacks p ys b s x none =
-    all_bound_lacks b ys (map (λ r. term_of r (walked (ensured p) (renewed (results_of p) (moved_on (walked p.needs s))))) (results_of p)) x none
+    all_bound_lacks b ys (map (λ r. term_of r (each_walked p.gives (renewed (results_of p) (moved_on (walked p.needs s))))) (results_of p)) x none
 
 call_lacks : (o : Option Procedure) (ys : List Name) (ts : List ℕ) (s : Terms) (x : Name) → Lacks (call_walked o ys ts s) x → Lacks s x
 call_lacks None ys ts s x none = none

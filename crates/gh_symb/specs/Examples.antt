@@ -1,10 +1,10 @@
--- Four programs, and how many versions and terms their conditions have.
-use Rattle.std.specs.Prelude.{◌≡◌, ℕ, List, [], ◌∷◌, map, length, Option, Some, None, false, codes}
+-- Six programs, and how many versions and terms their conditions have.
+use Rattle.std.specs.Prelude.{◌≡◌, ℕ, List, [], ◌∷◌, map, length, Option, Some, None, true, false, codes}
 use Rattle.gh_ast.specs.declared.Expr.TheVariants.{Plain}
 use Rattle.gh_ast.specs.Programs.{variable_names}
-use Rattle.gh_ast.specs.Plain.{empty, cell, comparison, star, no_formulas, formula_first, set, new, free, no_statements, statement_first, Procedure, Program}
+use Rattle.gh_ast.specs.Plain.{Formula, empty, cell, points_to, segment, comparison, star, no_formulas, formula_first, set, new, free, call, no_statements, statement_first, Procedure, Program}
 use Rattle.gh_path.specs.Conditions.{Condition, conditions}
-use Rattle.gh_path.specs.Examples.{at, named, var, reversal, concatenation}
+use Rattle.gh_path.specs.Examples.{at, named, var, null, reversal, concatenation}
 use Rattle.gh_path.specs.Terms.{terms_of, versions_of}
 use Rattle.gh_symb.specs.Symbolic.{accessed, freed, made, symbolic_of}
 
@@ -44,6 +44,47 @@ reuse =
 abbrev pub freed_again : Program
 freed_again = record { fields = []; close = at 1 32; procedures = reuse ∷ [] }
 
+-- y := x; where the first of two alternatives is `y == null &*& x == null`
+abbrev pub pick : Formula → Procedure
+pick other =
+    record {
+      name = named (codes "pick") (at 1 11);
+      parameters = named (120 ∷ []) (at 1 16) ∷ [];
+      results = named (121 ∷ []) (at 1 34) ∷ [];
+      needs = segment (var 120 2 17) (null 2 20);
+      gives = star (formula_first (comparison (var 121 3 11) true (null 3 16)) (formula_first (comparison (var 120 3 25) true (null 3 30)) no_formulas)) ∷ other ∷ [];
+      body = Some (record { locals = []; statements = statement_first (set (named (121 ∷ []) (at 5 3)) (Plain (var 120 5 8))) no_statements; close = at 6 1 });
+      close = at 6 1;
+    }
+
+-- `y != null &*& lseg(y, null)`
+abbrev pub some_list : Formula
+some_list = star (formula_first (comparison (var 121 3 38) false (null 3 43)) (formula_first (segment (var 121 3 57) (null 3 60)) no_formulas))
+
+-- y := pick(x);
+abbrev pub use_pick : Procedure
+use_pick =
+    record {
+      name = named (codes "use") (at 7 11);
+      parameters = named (120 ∷ []) (at 7 15) ∷ [];
+      results = named (121 ∷ []) (at 7 33) ∷ [];
+      needs = segment (var 120 8 17) (null 8 20);
+      gives = segment (var 121 9 16) (null 9 19) ∷ [];
+      body = Some (record {
+        locals = [];
+        statements = statement_first (call (named (121 ∷ []) (at 11 3) ∷ []) (named (codes "pick") (at 11 8)) (Plain (var 120 11 13) ∷ [])) no_statements;
+        close = at 12 1;
+      });
+      close = at 12 1;
+    }
+
+abbrev pub picked : Program
+picked = record { fields = []; close = at 1 32; procedures = pick some_list ∷ use_pick ∷ [] }
+
+-- its second alternative is `x.next |-> null`
+abbrev pub picked_first : Program
+picked_first = record { fields = []; close = at 1 32; procedures = pick (points_to (named (120 ∷ []) (at 3 38)) (null 3 49)) ∷ [] }
+
 pub record Size : Type 0 where
   pub versions : ℕ
   pub terms : ℕ
@@ -63,6 +104,8 @@ pub record ExamplesHold : Type 0 where
   pub with_a_loop : sizes reversal ≡ size 1 2 ∷ size 2 5 ∷ size 1 3 ∷ size 1 4 ∷ size 2 4 ∷ []
   pub with_a_call : sizes concatenation ≡ size 1 3 ∷ size 1 3 ∷ size 1 4 ∷ size 2 5 ∷ size 3 6 ∷ []
   pub with_a_new_cell : sizes freed_again ≡ size 1 3 ∷ size 3 6 ∷ []
+  pub with_alternatives : sizes picked ≡ size 1 2 ∷ size 1 2 ∷ size 2 3 ∷ []
+  pub with_a_later_cell : sizes picked_first ≡ size 1 3 ∷ []
 
 -- y := x; y := c;
 abbrev pub late : Procedure

@@ -1,5 +1,5 @@
 -- The formulas of a condition over terms, and their clauses.
-use Rattle.std.specs.Prelude.{ℕ, ◌+◌, ◌-◌, List, [], ◌∷◌, ◌++◌, map, length, Bool, ◌==◌, cond, position, unwrap_or}
+use Rattle.std.specs.Prelude.{ℕ, ◌+◌, ◌-◌, List, [], ◌∷◌, ◌++◌, map, length, ◌==◌, cond, position, unwrap_or}
 use Rattle.std.specs.List.{flat_map, range_with_len}
 use Rattle.gh_base.specs.declared.atom.Term.{Term}
 use Rattle.gh_base.specs.declared.atom.Atom.TheVariants.{Hop, Alloc}
@@ -103,19 +103,26 @@ freed_claims n i x =
 abbrev pub kept : ℕ → Under → Term → Claim
 kept i u z = all_of (allocated i z ∷ negation_of (within u z) ∷ [])
 
--- a part u of the heap is replaced by a part q
-abbrev pub replaced_claims : List Kind → ℕ → Under → Under → List Claim
-replaced_claims ks i u q =
+-- a part q stands beside what is kept of the heap without the part u, and nothing else is allocated
+abbrev pub placed_claims : List Kind → ℕ → Under → Under → List Claim
+placed_claims ks i u q =
     let n = length ks in
-    (meets ks u ∷ meets ks q ∷ [])
-    ++ each n (λ z. negation_of (all_of (kept i u z ∷ within q z ∷ [])))
+    meets ks q ∷ each n (λ z. negation_of (all_of (kept i u z ∷ within q z ∷ [])))
     ++ each n (λ z. equivalence_of (allocated (i + 1) z) (one_of (kept i u z ∷ within q z ∷ [])))
-    ++ each_pair n (λ z v. one_of (negation_of (kept i u z) ∷ keeps i z v ∷ []))
 
--- what is put in the place of a part is one assertion
+-- what is kept leads where it led
+abbrev pub kept_claims : ℕ → ℕ → Under → List Claim
+kept_claims n i u = each_pair n (λ z v. one_of (negation_of (kept i u z) ∷ keeps i z v ∷ []))
+
+-- one alternative is in its place; of several, one is, and of none, none is
+abbrev pub alternatives_claims : List Kind → ℕ → Under → List Under → List Claim
+alternatives_claims ks i u [] = one_of [] ∷ []
+alternatives_claims ks i u (q ∷ []) = placed_claims ks i u q
+alternatives_claims ks i u (q ∷ r ∷ qs) = one_of (map (λ a. all_of (placed_claims ks i u a)) (q ∷ r ∷ qs)) ∷ []
+
+-- a part u of the heap gives way to an alternative
 abbrev pub parts_claims : List Kind → ℕ → Under → List Under → List Claim
-parts_claims ks i u [] = []
-parts_claims ks i u (q ∷ qs) = replaced_claims ks i u q
+parts_claims ks i u qs = meets ks u ∷ alternatives_claims ks i u qs ++ kept_claims (length ks) i u
 
 -- a step from version i
 abbrev pub step_claims : List Kind → ℕ → TermStep → List Claim
@@ -141,12 +148,17 @@ abbrev pub steps_claims : List Kind → ℕ → List TermStep → List Claim
 steps_claims ks i [] = []
 steps_claims ks i (s ∷ ss) = step_claims ks i s ++ steps_claims ks (version_after i s) ss
 
+-- the whole heap meets the one alternative, or one of several
+abbrev pub meets_one_of : List Kind → List Under → List Claim
+meets_one_of ks [] = []
+meets_one_of ks (u ∷ []) = meets_whole ks u ∷ []
+meets_one_of ks (u ∷ v ∷ us) = one_of (map (meets_whole ks) (u ∷ v ∷ us)) ∷ []
+
 -- the check fails, in the last version i
 abbrev pub check_claims : List Kind → ℕ → TermCheck → List Claim
 check_claims ks i (access x) = negation_of (allocated i (term x)) ∷ []
 check_claims ks i (sub u) = negation_of (meets ks u) ∷ []
-check_claims ks i (whole []) = []
-check_claims ks i (whole (u ∷ us)) = negation_of (meets_whole ks u) ∷ []
+check_claims ks i (whole us) = map negation_of (meets_one_of ks us)
 
 -- the formulas of the first versions
 abbrev pub versions_claims : List Kind → ℕ → List Claim

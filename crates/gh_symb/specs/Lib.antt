@@ -10,5 +10,4 @@ pub mod Told
 pub mod Formulas
 pub mod Phases
 pub mod Following
-pub mod Asking
 pub mod Saying

@@ -1,18 +1,18 @@
 -- The limits on terms and versions that one condition passes.
-use Rattle.std.specs.Prelude.{◌≡◌, ◌⊎◌, ⊤, ℕ, ◌<◌, length, Option, Some, None}
+use Rattle.std.specs.Prelude.{◌≡◌, ◌⊎◌, ⊤, ℕ, ◌+◌, ◌<◌, length, Option, Some, None}
 use Rattle.gh_ast.specs.Plain.{Procedure, Program}
 use Rattle.gh_ast.specs.declared.typed.Limit as limit
-use Rattle.gh_path.specs.Admitted.{HasManyTerms, HasManyVersions, NoneHas, Passed}
+use Rattle.gh_path.specs.Admitted.{most_terms, most_versions, HasManyTerms, HasManyVersions, NoneHas, Passed}
 use Rattle.gh_path.specs.Conditions.{Condition}
 use Rattle.gh_path.specs.Terms.{terms_of, versions_of}
 use Rattle.gh_symb.specs.declared.limits.SymbolicError.{SymbolicError}
 use Rattle.gh_symb.specs.declared.limits.SymbolicError.TheVariants.{Limit, OutOfMemory}
 
 abbrev pub HasTerms : Program → Condition → Type 0
-HasTerms P c = 20 < length (terms_of P c)
+HasTerms P c = most_terms < length (terms_of P c)
 
 abbrev pub HasVersions : Program → Condition → Type 0
-HasVersions P c = 10 < versions_of P c
+HasVersions P c = most_versions < versions_of P c
 
 -- counting stops one past the limit
 pub record IsLimitOf (p : Procedure) (kind count : ℕ) (l : limit.Limit) : Type 0 where
@@ -22,7 +22,7 @@ pub record IsLimitOf (p : Procedure) (kind count : ℕ) (l : limit.Limit) : Type
 
 -- the limit that a condition passes, terms before versions
 abbrev pub PassesLimit : Program → Condition → limit.Limit → Type 0
-PassesLimit P c l = (HasTerms P c × IsLimitOf c.procedure 6 21 l) ⊎ ((HasTerms P c → ⊥) × HasVersions P c × IsLimitOf c.procedure 7 11 l)
+PassesLimit P c l = (HasTerms P c × IsLimitOf c.procedure 6 (most_terms + 1) l) ⊎ ((HasTerms P c → ⊥) × HasVersions P c × IsLimitOf c.procedure 7 (most_versions + 1) l)
 
 pub record PassesNone (P : Program) (c : Condition) : Type 0 where
   pub terms : HasTerms P c → ⊥
@@ -34,7 +34,7 @@ Passes P c (Some l) = PassesLimit P c l
 
 -- the first procedure with a condition that passes: terms over the whole program before versions
 abbrev pub IsRefusal : Program → SymbolicError → Type 0
-IsRefusal P (Limit l) = Passed P (HasManyTerms P) 6 21 l ⊎ (NoneHas P (HasManyTerms P) × Passed P (HasManyVersions P) 7 11 l)
+IsRefusal P (Limit l) = Passed P (HasManyTerms P) 6 (most_terms + 1) l ⊎ (NoneHas P (HasManyTerms P) × Passed P (HasManyVersions P) 7 (most_versions + 1) l)
 IsRefusal P OutOfMemory = ⊤
 
 -- the refusal of one condition

@@ -1,7 +1,8 @@
 -- The first k conditions of a program, and the limits that they pass.
-use Rattle.std.specs.Prelude.{◌≡◌, ℕ, ◌<◌, slice_get, Option, Some, None}
+use Rattle.std.specs.Prelude.{◌≡◌, ℕ, ◌+◌, ◌<◌, slice_get, Option, Some, None}
 use Rattle.gh_ast.specs.Plain.{Program}
 use Rattle.gh_ast.specs.declared.typed.Limit.{Limit}
+use Rattle.gh_path.specs.Admitted.{most_versions}
 use Rattle.gh_path.specs.Conditions.{Condition, conditions}
 use Rattle.gh_symb.specs.Limits.{HasVersions, IsLimitOf}
 
@@ -22,7 +23,7 @@ pub record IsFirstMet (P : Program) (Q : Condition → Type 0) (k kind count : �
 -- the first limit on versions that they pass
 abbrev pub IsMet : Program → ℕ → Option Limit → Type 0
 IsMet P k None = NoneMet P (HasVersions P) k
-IsMet P k (Some l) = IsFirstMet P (HasVersions P) k 7 11 l
+IsMet P k (Some l) = IsFirstMet P (HasVersions P) k 7 (most_versions + 1) l
 
 -- the limit, where it is one on terms
 abbrev pub IsOfTerms : Option Limit → Option Limit → Type 0

@@ -12,9 +12,9 @@ use Rattle.gh_path.specs.Kept.{IsStep, IsKind, IsStart}
 use Rattle.gh_path.specs.declared.condition.PathStep as kept_step
 use Rattle.gh_path.specs.declared.condition.Start as kept_start
 use Rattle.gh_path.specs.declared.condition.CheckKind as kept_kind
-use Rattle.gh_path.specs.Terms.{Bindings, bound, all_bound, Terms, terms, with_value, term_of, followed, expr_term, exprs_terms, walked, moved_on, rebound, renewed, some_assigns, callee_in, call_walked, entry_walked}
+use Rattle.gh_path.specs.Terms.{Bindings, bound, all_bound, Terms, terms, with_value, term_of, followed, expr_term, exprs_terms, walked, moved_on, rebound, renewed, some_assigns, callee_in, call_walked}
 use Rattle.gh_symb.specs.Symbolic as plain
-use Rattle.gh_symb.specs.Symbolic.{under, call_parts, needs_under, step_used, check_used, either_term}
+use Rattle.gh_symb.specs.Symbolic.{under, call_parts, step_used, check_used, either_term}
 use Rattle.gh_symb.specs.Told.{IsUnder}
 use Rattle.gh_symb.specs.declared.over_terms.Bound.{Bound}
 
@@ -47,28 +47,13 @@ step_says P xs (path.looped l) t =
     plain.parts (told l.invariant t.bindings t.version) (under l.invariant (renewed (filter (some_assigns l.body) xs) (moved_on t)) ∷ [])
 step_says P xs (path.answered ys es) t = plain.same
 
--- what a check says, once its variables are used
-abbrev pub check_says : Program → path.Check → Terms → plain.TermCheck
-check_says P (path.access o) t = plain.access (term_of o.name t)
-check_says P (path.entry f es) t = needs_under (callee_in P.procedures f.name) (exprs_terms es t) t
-check_says P (path.loop_entry l) t = plain.sub (told l.invariant t.bindings t.version)
-check_says P (path.returned at f) t = plain.whole (told f t.bindings t.version ∷ [])
-check_says P (path.loop_end l) t = plain.whole (told l.invariant t.bindings t.version ∷ [])
-
--- the terms after a check whose variables are used
-abbrev pub check_ended : Program → path.Check → Terms → Terms
-check_ended P (path.access o) t = t
-check_ended P (path.entry f es) t = entry_walked (callee_in P.procedures f.name) (exprs_terms es t) t
-check_ended P (path.loop_entry l) t = t
-check_ended P (path.returned at f) t = t
-check_ended P (path.loop_end l) t = t
-
--- the variables of a kept step, start or check are used
+-- the variables of a kept step are used
 abbrev pub IsUsed : Program → Procedure → kept_step.PathStep → Terms → Terms → Type 0
 IsUsed P p r s t = (step : path.PathStep) → IsStep P p r step → t ≡ step_used step s
 
-abbrev pub IsCheckUsed : Program → Procedure → kept_kind.CheckKind → Span → Terms → Terms → Type 0
-IsCheckUsed P p r at s t = (check : path.Check) → IsKind P p r at check → t ≡ check_used check s
+-- the variables of a kept check are used
+abbrev pub IsCheckUsed : Program → Procedure → kept_kind.CheckKind → Span → Terms → Bindings → Type 0
+IsCheckUsed P p r at s b = (check : path.Check) → IsKind P p r at check → b ≡ (check_used check s).bindings
 
 -- the start assertion of a kept start, once it is walked
 abbrev pub IsBegun : Procedure → kept_start.Start → Terms → Terms → Bound → Type 0

@@ -1,15 +1,18 @@
--- What is done and said at a kept step, once its variables are used.
-use Rattle.std.specs.Prelude.{◌≡◌, List}
+-- What is done and said at a kept step, once its variables are used, and asked at a kept check.
+use Rattle.std.specs.Prelude.{◌≡◌, List, Some}
 use Rattle.gh_base.specs.declared.place.Span.{Span}
+use Rattle.gh_ast.specs.declared.Expr.{Expr}
 use Rattle.gh_ast.specs.Plain.{Procedure, Program}
 use Rattle.gh_ast.specs.Programs.{variable_names}
 use Rattle.gh_path.specs.Graphs.{PathStep, Check}
 use Rattle.gh_path.specs.Kept.{IsStep, IsKind}
 use Rattle.gh_path.specs.declared.condition.PathStep as kept_step
 use Rattle.gh_path.specs.declared.condition.CheckKind as kept_kind
-use Rattle.gh_path.specs.Terms.{Kind, Terms}
+use Rattle.gh_path.specs.Terms.{Terms, exprs_used, exprs_terms}
 use Rattle.gh_symb.specs.Told.{IsTermStep, IsTermCheck}
-use Rattle.gh_symb.specs.Phases.{step_done, step_says, check_ended, check_says}
+use Rattle.gh_symb.specs.Symbolic as plain
+use Rattle.gh_symb.specs.Symbolic.{term_check, needs_under}
+use Rattle.gh_symb.specs.Phases.{step_done, step_says}
 use Rattle.gh_symb.specs.declared.over_terms.TermStep.{TermStep}
 use Rattle.gh_symb.specs.declared.over_terms.TermCheck.{TermCheck}
 
@@ -19,10 +22,10 @@ IsFinished P p r s t = (step : PathStep) → IsStep P p r step → t ≡ step_do
 abbrev pub IsSaid : Program → Procedure → kept_step.PathStep → Terms → TermStep → Type 0
 IsSaid P p r s said = (step : PathStep) → IsStep P p r step → IsTermStep said (step_says P (variable_names p) step s)
 
--- the kinds after a check
-abbrev pub HasEnded : Program → Procedure → kept_kind.CheckKind → Span → Terms → List Kind → Type 0
-HasEnded P p r at s kinds = (check : Check) → IsKind P p r at check → kinds ≡ (check_ended P check s).kinds
-
 -- what a check asks
 abbrev pub IsAsking : Program → Procedure → kept_kind.CheckKind → Span → Terms → TermCheck → Type 0
-IsAsking P p r at s asked = (check : Check) → IsKind P p r at check → IsTermCheck asked (check_says P check s)
+IsAsking P p r at s asked = (check : Check) → IsKind P p r at check → IsTermCheck asked (term_check P check s)
+
+-- what is asked at a call, once its arguments are used
+abbrev pub needs_asked : Procedure → List Expr → Terms → plain.TermCheck
+needs_asked p es s = let t = exprs_used es s in needs_under (Some p) (exprs_terms es t) t

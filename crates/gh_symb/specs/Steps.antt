@@ -3,6 +3,7 @@ use Rattle.std.specs.Prelude.{◌≡◌, ◌<◌, ◌≤◌, ℕ, List, length}
 use Rattle.gh_ast.specs.declared.Expr.{Expr}
 use Rattle.gh_ast.specs.Plain.{Procedure, Program}
 use Rattle.gh_ast.specs.Programs.{Name, variable_names}
+use Rattle.gh_path.specs.Admitted.{most_terms}
 use Rattle.gh_path.specs.Graphs.{Check, PathStep, Start}
 use Rattle.gh_path.specs.Kept.{IsStep, IsKind, IsStart}
 use Rattle.gh_path.specs.Conditions.{Condition}
@@ -54,9 +55,9 @@ ReplacesPart s = ⊥
 pub record AreCounted (P : Program) (c : Condition) (terms versions : ℕ) : Type 0 where
   pub terms_are : length (terms_of P c) ≡ terms
   pub versions_are : versions_of P c ≡ versions
-  pub few : terms ≤ 20
+  pub few : terms ≤ most_terms
 
--- the numbers of terms and versions of a condition, or that there are more than 20 terms
+-- the numbers of terms and versions of a condition, or that there are too many terms
 abbrev pub IsCount : Program → Condition → Counted → Type 0
 IsCount P c (Within terms versions) = AreCounted P c terms versions
-IsCount P c ManyTerms = 20 < length (terms_of P c)
+IsCount P c ManyTerms = most_terms < length (terms_of P c)

@@ -1,10 +1,10 @@
 -- A condition over terms: what its start, its steps and its check say of terms, and the terms of the variables at each state.
 use Rattle.std.specs.Prelude.{ℕ, ◌+◌, List, [], ◌∷◌, length, filter, Bool, not, cond, Option, Some, None}
 use Rattle.gh_ast.specs.Plain.{Formula, Procedure, Program}
-use Rattle.gh_ast.specs.Programs.{Name, results_of, variable_names, ensured}
+use Rattle.gh_ast.specs.Programs.{Name, results_of, variable_names}
 use Rattle.gh_path.specs.Graphs as path
 use Rattle.gh_path.specs.Conditions.{Condition}
-use Rattle.gh_path.specs.Terms.{Kind, Bindings, Terms, used, term_of, expr_used, expr_term, exprs_used, exprs_terms, walked, moved_on, rebound, renewed, some_assigns, callee_in, bound_inside, step_walked, no_terms, terms_of, versions_of, steps_walked}
+use Rattle.gh_path.specs.Terms.{Kind, Bindings, Terms, used, term_of, expr_used, expr_term, exprs_used, exprs_terms, walked, each_walked, moved_on, rebound, renewed, some_assigns, callee_in, bound_inside, step_walked, no_terms, terms_of, versions_of, steps_walked}
 
 -- an assertion in a version of the heap, and the terms of its variables
 pub record Under : Type 0 where
@@ -12,7 +12,7 @@ pub record Under : Type 0 where
   pub binding : Bindings
   pub version : ℕ
 
--- `parts`: what is taken from the heap, and what is put in its place
+-- `parts`: what is taken from the heap, and the alternatives of what is put in its place
 pub data TermStep : Type 0 where
   accessed : ℕ → TermStep
   assumed : ℕ → Bool → ℕ → TermStep
@@ -22,7 +22,7 @@ pub data TermStep : Type 0 where
   freed : ℕ → TermStep
   parts : Under → List Under → TermStep
 
--- the term is allocated; some part of the heap meets it; the whole heap meets it
+-- the term is allocated; some part of the heap meets it; the whole heap meets one of some alternatives
 pub data TermCheck : Type 0 where
   access : ℕ → TermCheck
   sub : Under → TermCheck
@@ -32,12 +32,17 @@ pub data TermCheck : Type 0 where
 abbrev pub under : Formula → Terms → Under
 under f s = record { assertion = f; binding = (walked f s).bindings; version = s.version }
 
+-- alternatives, each once its variables have terms
+abbrev pub each_under : List Formula → Terms → List Under
+each_under [] s = []
+each_under (f ∷ fs) s = under f s ∷ each_under fs (walked f s)
+
 -- a procedure's contract, its parameters bound to the terms of the arguments; its results get new values in between
 abbrev pub call_parts : Option Procedure → List ℕ → Terms → TermStep
 call_parts None ts s = same
 call_parts (Some p) ts s =
     let inside = rebound s (bound_inside p ts) in
-    parts (under p.needs inside) (under (ensured p) (renewed (results_of p) (moved_on (walked p.needs inside))) ∷ [])
+    parts (under p.needs inside) (each_under p.gives (renewed (results_of p) (moved_on (walked p.needs inside))))
 
 -- what a step says, from the terms before it
 abbrev pub term_step : Program → List Name → path.PathStep → Terms → TermStep
@@ -64,7 +69,7 @@ abbrev pub term_check : Program → path.Check → Terms → TermCheck
 term_check P (path.access o) s = access (term_of o.name (used o.name s))
 term_check P (path.entry f es) s = let t = exprs_used es s in needs_under (callee_in P.procedures f.name) (exprs_terms es t) t
 term_check P (path.loop_entry l) s = sub (under l.invariant s)
-term_check P (path.returned at f) s = whole (under f s ∷ [])
+term_check P (path.returned at fs) s = whole (each_under fs s)
 term_check P (path.loop_end l) s = whole (under l.invariant s ∷ [])
 
 -- the variables that a step uses have terms, and nothing is assigned yet
@@ -83,7 +88,7 @@ abbrev pub check_used : path.Check → Terms → Terms
 check_used (path.access o) s = used o.name s
 check_used (path.entry f es) s = exprs_used es s
 check_used (path.loop_entry l) s = walked l.invariant s
-check_used (path.returned at f) s = walked f s
+check_used (path.returned at fs) s = each_walked fs s
 check_used (path.loop_end l) s = walked l.invariant s
 
 -- used in a step; else assigned in it; else what comes later

@@ -5,12 +5,12 @@ ghost use Rattle.gh_ast.specs.Plain.{formula_of, procedure_of, program_of};
 ghost use Rattle.gh_base.specs.declared.place.Span.{Span};
 ghost use Rattle.gh_path.specs.Graphs.{Start as PlainStart};
 ghost use Rattle.gh_path.specs.Kept.{IsStart};
-ghost use Rattle.gh_symb.specs.Asking.{CallKeepsVersion, KeepsVersion};
-ghost use Rattle.gh_path.specs.Terms.{entry_walked, exprs_terms};
-ghost use Rattle.gh_symb.specs.Phases.{IsBegun};
-ghost use Rattle.gh_symb.specs.Saying.{HasEnded, IsAsking};
-ghost use Rattle.gh_symb.specs.Symbolic.{Under, needs_under, whole};
-ghost use Rattle.gh_symb.specs.Tables.{state};
+ghost use Rattle.gh_path.specs.Terms.{exprs_used};
+ghost use Rattle.gh_symb.specs.Phases.{IsBegun, IsCheckUsed};
+ghost use Rattle.gh_symb.specs.Saying.{IsAsking, needs_asked};
+ghost use Rattle.gh_symb.specs.Steps.{EndsWith, IsChecked, entry_made};
+ghost use Rattle.gh_symb.specs.Symbolic.{Under, whole};
+ghost use Rattle.gh_symb.specs.Tables.{bound_by, state};
 ghost use Rattle.gh_symb.specs.Told.{IsUnder, IsTermCheck};
 
 use crate::kinds::Kinds;
@@ -56,48 +56,54 @@ impl<'a> Scope<'a> {
         ensures { IfOk result (λ b. IsBegun (procedure_of procedure.now) start (state kinds.old self.old 0) (state kinds.new self.new 0) b) }
     {
         let assertion = start_of(procedure, start);
-        self.walk(kinds, assertion, 0)?;
-        let bound = self.bound(alloc, assertion, 0)?;
+        let bound = self.walk_bound(alloc, kinds, assertion, 0)?;
         Ok(bound)
     }
 
-    /// What a callee needs, once the arguments are used.
+    /// Uses the arguments of a callee, and asks what it needs.
     fn ask_callee(
-        &self,
+        &mut self,
         alloc: Global,
         kinds: &mut Kinds,
         callee: &'a Procedure,
-        arguments: &[Expr],
+        arguments: &'a [Expr],
         version: usize,
     ) -> Result<TermCheck<'a>, AllocError>
-        ensures kept { IfOk result (λ asked. CallKeepsVersion (procedure_of callee.now) arguments.now (state kinds.old self.now version)) }
-        ensures ended { IfOk result (λ asked. kinds.new ≡ (let s = state kinds.old self.now version in entry_walked (Some (procedure_of callee.now)) (exprs_terms arguments.now s) s).kinds) }
-        ensures says { IfOk result (λ asked. IsTermCheck asked (let s = state kinds.old self.now version in needs_under (Some (procedure_of callee.now)) (exprs_terms arguments.now s) s)) }
+        ensures used { IfOk result (λ asked.
+            bound_by self.new ≡ (exprs_used arguments.now (state kinds.old self.old version)).bindings) }
+        ensures ended { IfOk result (λ asked. let s = state kinds.old self.old version in
+            EndsWith (entry_made (procedure_of callee.now) arguments.now s) kinds.new version) }
+        ensures says { IfOk result (λ asked. let s = state kinds.old self.old version in
+            IsTermCheck asked (needs_asked (procedure_of callee.now) arguments.now s)) }
     {
+        self.use_exprs(kinds, arguments, version)?;
         let terms = self.exprs_terms(alloc, kinds, arguments, version)?;
         let mut inside = Scope::new(alloc);
         inside.bind_all(callee.parameters.as_slice(), terms.as_slice())?;
-        inside.walk(kinds, &callee.needs, version)?;
-        let bound = inside.bound(alloc, &callee.needs, version)?;
+        let bound = inside.walk_bound(alloc, kinds, &callee.needs, version)?;
         Ok(TermCheck::Sub(bound))
     }
 
-    /// What a check says, once its variables are used.
+    /// Uses the variables of a check, and gives what it asks.
     pub fn ask_check(
-        &self,
+        &mut self,
         alloc: Global,
         kinds: &mut Kinds,
         program: &'a Program,
         procedure: &'a Procedure,
-        check: &CheckKind,
+        check: &'a CheckKind,
         version: usize,
     ) -> Result<TermCheck<'a>, AllocError>
-        ensures kept { IfOk result (λ asked. (at : Span) → KeepsVersion (program_of program.now) (procedure_of procedure.now) check.now at (state kinds.old self.now version)) }
-        ensures ended { IfOk result (λ asked. (at : Span) → HasEnded (program_of program.now) (procedure_of procedure.now) check.now at (state kinds.old self.now version) kinds.new) }
-        ensures says { IfOk result (λ asked. (at : Span) → IsAsking (program_of program.now) (procedure_of procedure.now) check.now at (state kinds.old self.now version) asked) }
+        ensures used { IfOk result (λ asked. (at : Span) → let s = state kinds.old self.old version in
+            IsCheckUsed (program_of program.now) (procedure_of procedure.now) check.now at s (bound_by self.new)) }
+        ensures ended { IfOk result (λ asked. (at : Span) → let s = state kinds.old self.old version in
+            IsChecked (program_of program.now) (procedure_of procedure.now) check.now at s kinds.new version) }
+        ensures says { IfOk result (λ asked. (at : Span) → let s = state kinds.old self.old version in
+            IsAsking (program_of program.now) (procedure_of procedure.now) check.now at s asked) }
     {
         match check {
             CheckKind::Access { at } => {
+                self.use_name(kinds, at)?;
                 let x = term_of(self.term(at))?;
                 Ok(TermCheck::Access { x })
             }
@@ -112,19 +118,19 @@ impl<'a> Scope<'a> {
                 let Some(round) = round_of(procedure, *number as usize) else {
                     return Ok(TermCheck::Whole(Vec::new(alloc)));
                 };
-                let bound = self.bound(alloc, round.invariant, version)?;
+                let bound = self.walk_bound(alloc, kinds, round.invariant, version)?;
                 Ok(TermCheck::Sub(bound))
             }
             CheckKind::Return => {
-                let bound = self.bound(alloc, procedure.ensured(), version)?;
-                let asked = whole(alloc, bound)?;
-                Ok(asked)
+                let gives = procedure.gives.as_slice();
+                let bounds = self.walk_bounds(alloc, kinds, gives, version)?;
+                Ok(TermCheck::Whole(bounds))
             }
             CheckKind::LoopEnd { number } => {
                 let Some(round) = round_of(procedure, *number as usize) else {
                     return Ok(TermCheck::Whole(Vec::new(alloc)));
                 };
-                let bound = self.bound(alloc, round.invariant, version)?;
+                let bound = self.walk_bound(alloc, kinds, round.invariant, version)?;
                 let asked = whole(alloc, bound)?;
                 Ok(asked)
             }

@@ -5,11 +5,13 @@ ghost use Rattle.std.specs.Option.{option_map};
 ghost use Rattle.gh_ast.specs.Plain.{formula_of};
 ghost use Rattle.gh_ast.specs.Programs.{Name as Word};
 ghost use Rattle.gh_grass.specs.Bindings.{term_in};
-ghost use Rattle.gh_symb.specs.Symbolic.{either_term};
+ghost use Rattle.gh_path.specs.Terms.{walked, each_walked};
+ghost use Rattle.gh_symb.specs.Symbolic.{either_term, under, each_under};
 ghost use Rattle.gh_symb.specs.Phases.{learned, told, value_in, both};
-ghost use Rattle.gh_symb.specs.Tables.{bound_by};
+ghost use Rattle.gh_symb.specs.Tables.{bound_by, state};
 ghost use Rattle.gh_symb.specs.Told.{Each, IsBinding, IsUnder};
 
+use crate::kinds::Kinds;
 use crate::numbers::{short, term_of};
 use crate::over_terms::Bound;
 use crate::scope::Scope;
@@ -53,6 +55,44 @@ impl<'a> Scope<'a> {
             binding,
             version,
         })
+    }
+
+    /// Walks over an assertion, and gives it.
+    pub fn walk_bound(
+        &mut self,
+        alloc: Global,
+        kinds: &mut Kinds,
+        assertion: &'a Assertion,
+        version: usize,
+    ) -> Result<Bound<'a>, AllocError>
+        ensures made { IfOk result (λ b.
+            state kinds.new self.new version ≡ walked (formula_of assertion.now) (state kinds.old self.old version)) }
+        ensures says { IfOk result (λ b.
+            IsUnder b (under (formula_of assertion.now) (state kinds.old self.old version))) }
+    {
+        self.walk(kinds, assertion, version)?;
+        let bound = self.bound(alloc, assertion, version)?;
+        Ok(bound)
+    }
+
+    /// Walks over alternatives in their order, and gives each once it is walked.
+    pub fn walk_bounds(
+        &mut self,
+        alloc: Global,
+        kinds: &mut Kinds,
+        alternatives: &'a [Assertion],
+        version: usize,
+    ) -> Result<Vec<Bound<'a>>, AllocError>
+        ensures made { IfOk result (λ bs. state kinds.new self.new version
+            ≡ each_walked (map formula_of alternatives.now) (state kinds.old self.old version)) }
+        ensures say { IfOk result (λ bs. let s = state kinds.old self.old version in
+            Each IsUnder bs.items (each_under (map formula_of alternatives.now) s)) }
+    {
+        let mut bounds = Vec::new(alloc);
+        for alternative in alternatives {
+            bounds.push(self.walk_bound(alloc, kinds, alternative, version)?)?;
+        }
+        Ok(bounds)
     }
 
     /// Variables that had no term before and have one now are remembered with it.

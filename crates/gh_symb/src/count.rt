@@ -6,8 +6,14 @@ ghost use Rattle.gh_path.specs.Conditions.{Condition};
 ghost use Rattle.gh_path.specs.Terms.{terms_of, versions_of};
 ghost use Rattle.gh_symb.specs.Steps.{IsCount};
 
+/// The most terms of a condition.
+pub const MOST_TERMS: usize = 32;
+
+/// The most versions of the heap of a condition.
+pub const MOST_VERSIONS: usize = 24;
+
 /// The number of terms of a condition, and that of its versions of the heap; or that it has more
-/// than 20 terms.
+/// than `MOST_TERMS` terms.
 #[derive(Clone, Copy, Debug, PartialEq, Eq)]
 pub enum Counted {
     Within { terms: u8, versions: usize },
@@ -19,7 +25,7 @@ impl Counted {
     pub(crate) fn new(terms: usize, versions: usize) -> Counted
         ensures { (P : Program) (c : Condition) → length (terms_of P c) ≡ terms → versions_of P c ≡ versions → IsCount P c result }
     {
-        if terms > 20 {
+        if terms > MOST_TERMS {
             return Counted::ManyTerms;
         }
         Counted::Within {

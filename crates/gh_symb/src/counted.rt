@@ -6,7 +6,7 @@ ghost use Rattle.gh_path.specs.Conditions as plain;
 ghost use Rattle.gh_path.specs.Kept.{StandsFor};
 ghost use Rattle.gh_symb.specs.Steps.{IsCount};
 
-use crate::count::Counted;
+use crate::count::{Counted, MOST_TERMS};
 use crate::kinds::Kinds;
 use crate::scope::Scope;
 use gh_ast::typed::Typed;
@@ -26,7 +26,7 @@ pub fn counted(alloc: Global, typed: &Typed, condition: &Condition) -> Result<Co
     scope.walk_start(&mut kinds, procedure, condition.start, version)?;
     for step in condition.steps.as_slice() {
         version = scope.walk_step(alloc, &mut kinds, program, procedure, step, version)?;
-        if kinds.count() > 20 {
+        if kinds.count() > MOST_TERMS {
             return Ok(Counted::ManyTerms);
         }
     }

@@ -2,6 +2,7 @@
 
 ghost use Rattle.std.specs.Prelude.{◌≡◌, ◌≤◌, [], ◌∷◌, length, map, position, IfOk, OnOk};
 ghost use Rattle.std.specs.List.{list_any};
+ghost use Rattle.gh_path.specs.Admitted.{most_terms};
 ghost use Rattle.gh_path.specs.Terms.{null, next, is_value, same_kind, place, added, with_value};
 ghost use Rattle.gh_symb.specs.Tables.{kind_of, BeginsWithNull};
 ghost use Rattle.gh_symb.specs.Told.{plain_kind};
@@ -71,7 +72,7 @@ fn next_place(kinds: &[Kind], version: usize, of: usize) -> Option<usize>
 
 // Kinds as they are told.
 fn told_kinds(alloc: Global, kinds: &[Kind]) -> Result<TermList, AllocError>
-    requires few { length kinds.now ≤ 20 }
+    requires few { length kinds.now ≤ most_terms }
     requires begins { BeginsWithNull (map kind_of kinds.now) }
     ensures { IfOk result (λ terms. map plain_kind terms ≡ map kind_of kinds.now) }
 {
@@ -155,7 +156,7 @@ impl Kinds {
     }
     /// The kinds as they are told.
     pub fn told(&self, alloc: Global) -> Result<TermList, AllocError>
-        requires { length self.now ≤ 20 }
+        requires { length self.now ≤ most_terms }
         ensures { IfOk result (λ terms. map plain_kind terms ≡ self.now) }
     {
         let terms = told_kinds(alloc, self.kinds.as_slice())?;

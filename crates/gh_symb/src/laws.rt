@@ -2,7 +2,7 @@
 
 ghost use Rattle.gh_symb.specs.Examples.{ExamplesHold, StatesHold};
 
-/// The versions and terms of the conditions of four programs.
+/// The versions and terms of the conditions of six programs.
 pub fn examples_hold()
     ensures { ExamplesHold }
 {}

@@ -6,7 +6,7 @@ ghost use Rattle.gh_path.specs.Conditions as plain;
 ghost use Rattle.gh_path.specs.Kept.{StandsFor};
 ghost use Rattle.gh_symb.specs.Limits.{IsLimitOf, Passes};
 
-use crate::count::Counted;
+use crate::count::{Counted, MOST_TERMS, MOST_VERSIONS};
 use crate::counted::counted;
 use gh_ast::Procedure;
 use gh_ast::typed::{Limit, Typed};
@@ -15,7 +15,7 @@ use std::alloc::{AllocError, Global};
 use thiserror::Error;
 
 /// Why a condition isn't given over terms, or a program isn't admitted: a condition has more than
-/// 20 terms (kind 6) or more than 10 versions of the heap (kind 7).
+/// `MOST_TERMS` terms (kind 6) or more than `MOST_VERSIONS` versions of the heap (kind 7).
 #[derive(Debug, Drop, Error)]
 pub enum SymbolicError {
     #[error("a limit is passed")]
@@ -56,10 +56,10 @@ pub fn passed_limit(
 {
     let procedure = &typed.program().procedures[condition.procedure as usize];
     match counted(alloc, typed, condition)? {
-        Counted::ManyTerms => Ok(Some(limit_at(procedure, 6, 21))),
+        Counted::ManyTerms => Ok(Some(limit_at(procedure, 6, MOST_TERMS as u32 + 1))),
         Counted::Within { versions, .. } => {
-            if versions > 10 {
-                return Ok(Some(limit_at(procedure, 7, 11)));
+            if versions > MOST_VERSIONS {
+                return Ok(Some(limit_at(procedure, 7, MOST_VERSIONS as u32 + 1)));
             }
             Ok(None)
         }

@@ -238,7 +238,7 @@ impl<'a> Scope<'a> {
                 };
                 self.walk(kinds, round.invariant, version)
             }
-            CheckKind::Return => self.walk(kinds, procedure.ensured(), version),
+            CheckKind::Return => self.walk_each(kinds, procedure.gives.as_slice(), version),
         }
     }
 }

@@ -96,7 +96,7 @@ impl<'a> Scope<'a> {
         inside.bind_all(callee.parameters.as_slice(), terms.as_slice())?;
         inside.walk(kinds, &callee.needs, version)?;
         inside.renew(kinds, callee.results.as_slice())?;
-        inside.walk(kinds, callee.ensured(), version + 1)?;
+        inside.walk_each(kinds, callee.gives.as_slice(), version + 1)?;
         let results = inside.terms(alloc, callee.results.as_slice())?;
         self.bind_all(targets, results.as_slice())?;
         Ok(())

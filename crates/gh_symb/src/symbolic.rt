@@ -47,10 +47,9 @@ fn told<'a>(
     }
     let before = scope.copy(alloc)?;
     let check = &condition.check.kind;
-    scope.use_check(&mut kinds, procedure, check, version)?;
+    let check = scope.ask_check(alloc, &mut kinds, program, procedure, check, version)?;
     firsts.learn(&before, &scope)?;
     states.push(before)?;
-    let check = scope.ask_check(alloc, &mut kinds, program, procedure, check, version)?;
     let bindings = all_bindings(alloc, states.as_slice(), &firsts)?;
     let terms = kinds.told(alloc)?;
     let versions = short(version + 1)?;

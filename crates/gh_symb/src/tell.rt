@@ -134,8 +134,7 @@ impl<'a> Scope<'a> {
     {
         let before = self.bound(alloc, round.invariant, version)?;
         self.renew_all(kinds, procedure, round.body.statements.as_slice())?;
-        self.walk(kinds, round.invariant, version + 1)?;
-        let after = self.bound(alloc, round.invariant, version + 1)?;
+        let after = self.walk_bound(alloc, kinds, round.invariant, version + 1)?;
         let step = part(alloc, before, after)?;
         Ok(step)
     }
@@ -157,16 +156,12 @@ impl<'a> Scope<'a> {
         let terms = self.exprs_terms(alloc, kinds, arguments, version)?;
         let mut inside = Scope::new(alloc);
         inside.bind_all(callee.parameters.as_slice(), terms.as_slice())?;
-        inside.walk(kinds, &callee.needs, version)?;
-        let before = inside.bound(alloc, &callee.needs, version)?;
+        let before = inside.walk_bound(alloc, kinds, &callee.needs, version)?;
         inside.renew(kinds, callee.results.as_slice())?;
-        let ensured = callee.ensured();
-        inside.walk(kinds, ensured, version + 1)?;
-        let after = inside.bound(alloc, ensured, version + 1)?;
+        let after = inside.walk_bounds(alloc, kinds, callee.gives.as_slice(), version + 1)?;
         let results = inside.terms(alloc, callee.results.as_slice())?;
         self.bind_all(targets, results.as_slice())?;
-        let step = part(alloc, before, after)?;
-        Ok(step)
+        Ok(TermStep::Part { before, after })
     }
 
     /// Does a call, or a loop on the way.

@@ -1,19 +1,18 @@
-//! What a step or a check uses before anything is assigned.
+//! What a step uses before anything is assigned.
 
 ghost use Rattle.std.specs.Prelude.{◌≡◌, OnOk};
 ghost use Rattle.gh_ast.specs.Plain.{Program as Plain, procedure_of};
-ghost use Rattle.gh_base.specs.declared.place.Span.{Span};
 ghost use Rattle.gh_path.specs.Graphs.{Loop};
 ghost use Rattle.gh_path.specs.Kept.{IsLoop};
 ghost use Rattle.gh_path.specs.Terms.{walked};
-ghost use Rattle.gh_symb.specs.Phases.{IsUsed, IsCheckUsed};
+ghost use Rattle.gh_symb.specs.Phases.{IsUsed};
 ghost use Rattle.gh_symb.specs.Tables.{state};
 
 use crate::kinds::Kinds;
 use crate::rounds::round_of;
 use crate::scope::Scope;
 use gh_ast::Procedure;
-use gh_path::condition::{CheckKind, PathStep};
+use gh_path::condition::PathStep;
 use std::alloc::AllocError;
 
 impl<'a> Scope<'a> {
@@ -61,28 +60,6 @@ impl<'a> Scope<'a> {
             }
             PathStep::Loop { number } => { self.walk_invariant(kinds, procedure, *number, version) }
             PathStep::Return { values } => self.use_exprs(kinds, values.as_slice(), version),
-        }
-    }
-
-    /// The variables that a check uses get terms.
-    pub fn use_check(
-        &mut self,
-        kinds: &mut Kinds,
-        procedure: &'a Procedure,
-        check: &'a CheckKind,
-        version: usize,
-    ) -> Result<(), AllocError>
-        ensures { OnOk result ((P : Plain) (at : Span) → IsCheckUsed P (procedure_of procedure.now) check.now at (state kinds.old self.old version) (state kinds.new self.new version)) }
-    {
-        match check {
-            CheckKind::Access { at } => self.use_name(kinds, at),
-            CheckKind::CalleeEntry { arguments, .. } => {
-                self.use_exprs(kinds, arguments.as_slice(), version)
-            }
-            CheckKind::LoopEntry { number } | CheckKind::LoopEnd { number } => {
-                self.walk_invariant(kinds, procedure, *number, version)
-            }
-            CheckKind::Return => self.walk(kinds, procedure.ensured(), version),
         }
     }
 }

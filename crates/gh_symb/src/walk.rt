@@ -3,7 +3,7 @@
 ghost use Rattle.std.specs.Prelude.{◌≡◌, ℕ, List, IfOk, OnOk, map, unwrap_or};
 ghost use Rattle.gh_ast.specs.Plain.{test_of, tests_view, formula_of, formulas_view};
 ghost use Rattle.gh_ast.specs.Programs.{names};
-ghost use Rattle.gh_path.specs.Terms.{Kind, used, followed, operand_used, operand_term, expr_used, expr_term, exprs_used, exprs_terms, test_walked, tests_walked, walked, all_walked};
+ghost use Rattle.gh_path.specs.Terms.{Kind, used, followed, operand_used, operand_term, expr_used, expr_term, exprs_used, exprs_terms, test_walked, tests_walked, walked, all_walked, each_walked};
 ghost use Rattle.gh_symb.specs.Tables.{bound_by, state};
 
 use crate::kinds::Kinds;
@@ -198,6 +198,22 @@ impl<'a> Scope<'a> {
     {
         for assertion in assertions {
             self.walk(kinds, assertion, version)?;
+        }
+        Ok(())
+    }
+
+    /// Walks over alternatives in their order.
+    pub fn walk_each(
+        &mut self,
+        kinds: &mut Kinds,
+        alternatives: &'a [Assertion],
+        version: usize,
+    ) -> Result<(), AllocError>
+        ensures { OnOk result (state kinds.new self.new version
+            ≡ each_walked (map formula_of alternatives.now) (state kinds.old self.old version)) }
+    {
+        for alternative in alternatives {
+            self.walk(kinds, alternative, version)?;
         }
         Ok(())
     }

@@ -5,10 +5,10 @@ use Rattle.std.proofs.lemmas.List.{length-map}
 use Rattle.gh_ast.specs.declared.Occ.{Occ}
 use Rattle.gh_ast.specs.declared.Expr.{Expr}
 use Rattle.gh_ast.specs.Plain.{Procedure, Program}
-use Rattle.gh_ast.specs.Programs.{names, parameters_of, results_of, Declares, ensured}
+use Rattle.gh_ast.specs.Programs.{names, parameters_of, results_of, Declares}
 use Rattle.gh_ast.proofs.Declared.{is_one}
 use Rattle.gh_ast.proofs.Lists.{same_values}
-use Rattle.gh_assert.specs.Meaning.{Store, HasPart}
+use Rattle.gh_assert.specs.Meaning.{Store, MeetsOneOf, HasPart}
 use Rattle.gh_assert.specs.Values.{Give}
 use Rattle.gh_path.specs.Graphs.{called, entry}
 use Rattle.gh_path.specs.Kept.{IsCallee}
@@ -41,7 +41,7 @@ count_targets P n f q xs es x y at callee (p, vs, declares, give, c) =
     sym (length-map (names xs) y.store ∙ length-map xs (λ (o : Occ). o.name)) ∙ ap length c.targets.given ∙ length-map (results_of p) c.inside ∙ length-map p.results (λ (o : Occ). o.name) ∙ ap (λ (r : Procedure). length r.results) same
 
 pub calls_where : (P : Program) (n : ℕ) (f : Occ) (q : Procedure) (xs : List Occ) (es : List Expr) (x y : State) (given : List ℕ) (inside : Store) → IsCall P n f q es x given → HasOwnNames q → map inside (parameters_of q) ≡ given
-    → map inside (results_of q) ≡ map y.store (names xs) → Kept (names xs) x.store y.store → Replaced q.needs inside x.heap (ensured q) inside y.heap ↔ Takes P (called xs f es) x y
+    → map inside (results_of q) ≡ map y.store (names xs) → Kept (names xs) x.store y.store → Replaced q.needs inside x.heap (MeetsOneOf q.gives inside) y.heap ↔ Takes P (called xs f es) x y
 calls_where P n f q xs es x y given inside call own arguments results kept =
     let r = calls_are_one P xs f es x y q given inside own (declares_at P n f.name q call.at call.callee) call.gives arguments results in
     (λ replaced. r.1 (kept, replaced), λ takes. (r.0 takes).1)

@@ -1,17 +1,18 @@
 -- The store of a callee.
-use Rattle.std.specs.Prelude.{◌≡◌, ◌≢◌, ℕ, zero, suc, ◌+◌, List, [], ◌∷◌, ◌++◌, length, map, take, slice_get, Option, Some, None, true, false, IfSome, AllPairs, Contains}
+use Rattle.std.specs.Prelude.{◌≡◌, ◌≢◌, ℕ, zero, suc, ◌+◌, List, [], ◌∷◌, ◌++◌, length, map, take, slice_get, Option, Some, None, true, false, IfSome, IfNone, All, AllPairs, Contains, get_or}
 use Rattle.std.specs.Str.{bytes_eq}
 use Rattle.std.proofs.Common.{refl, sym, ◌∙◌, ap, subst, inl, inr, arith}
 use Rattle.std.proofs.lemmas.Slice.Eq.{bytes_eq-Decides}
 use Rattle.std.proofs.lemmas.Bool.{cases_Bool}
-use Rattle.std.proofs.lemmas.List.{length-append, get_or_append_left}
+use Rattle.std.proofs.lemmas.List.{length-append, get_or_append_left, get_or_default}
 use Rattle.std.proofs.lemmas.Option.{slice_get_within, get_or_from_slice_get}
 use Rattle.gh_ast.specs.Plain.{Procedure, Program}
 use Rattle.gh_ast.specs.Occurrences.{locals_of}
 use Rattle.gh_ast.specs.Programs.{Name, names, name_of, parameters_of, results_of, IsFirstNamed, Declares}
+use Rattle.gh_ast.specs.Names.{FormulaIn}
 use Rattle.gh_ast.specs.Rules.{IsTyped}
 use Rattle.gh_ast.proofs.Lists.{member_first, member_later, one_value}
-use Rattle.gh_ast.proofs.TypedPrograms.{variables_are_distinct, variables_split, needs_are_parameters, ensured_is_of_contract}
+use Rattle.gh_ast.proofs.TypedPrograms.{variables_are_distinct, variables_split, needs_are_parameters, gives_are_contract}
 use Rattle.gh_assert.specs.declared.store.Entry.{Entry}
 use Rattle.gh_assert.specs.Stores.{listed_names, store_of, AreDistinct}
 use Rattle.gh_path.specs.Kept.{IsCallee}
@@ -122,9 +123,14 @@ declares_at P n f q at callee =
 pub contained_at : (ps : List Procedure) (n : ℕ) (q : Procedure) → slice_get ps n ≡ Some q → Contains ps q
 contained_at ps n q at = (n, slice_get_within ps n q at, get_or_from_slice_get ps n q q at)
 
+each_is : {X : Type 0} (P : X → Type 0) (xs : List X) → ((x : X) → Contains xs x → P x) → All P xs
+each_is P xs f k d within = f (get_or xs k d) (k, within, get_or_default xs k (get_or xs k d) d within)
+
 pub own_names : (P : Program) (n : ℕ) (q : Procedure) → IsTyped P → slice_get P.procedures n ≡ Some q → HasOwnNames q
-own_names P n q typed at =
-    record { needs_in = needs_are_parameters P typed q (contained_at P.procedures n q at); gives_in = ensured_is_of_contract P typed q (contained_at P.procedures n q at) }
+own_names P n q typed at = record {
+  needs_in = needs_are_parameters P typed q (contained_at P.procedures n q at);
+  gives_in = each_is (λ f. FormulaIn f (parameters_of q ++ results_of q)) q.gives (λ f there. gives_are_contract P typed q (contained_at P.procedures n q at) f there);
+}
 
 pub distinct_names : (P : Program) (n : ℕ) (q : Procedure) → IsTyped P → slice_get P.procedures n ≡ Some q → HasDistinctNames q
 distinct_names P n q typed at =
@@ -133,3 +139,7 @@ distinct_names P n q typed at =
 pub if_some : {V : Type 0} (P Q : V → Type 0) (o : Option V) → ((v : V) → P v → Q v) → IfSome o P → IfSome o Q
 if_some P Q None f is = tt
 if_some P Q (Some v) f is = f v is
+
+pub if_none : {V : Type 0} {P Q : Type 0} (o : Option V) → (P → Q) → IfNone o P → IfNone o Q
+if_none None f is = f is
+if_none (Some v) f is = tt

@@ -16,7 +16,7 @@ use Rattle.gh_assert.specs.Heaps.{Heap, IsEmpty, Splits, or_else}
 use Rattle.gh_assert.specs.Meaning.{Store, HasPart}
 use Rattle.gh_assert.specs.Footprints.{IsFootprint}
 use Rattle.gh_assert.proofs.Cells.{by_look_ups}
-use Rattle.gh_assert.proofs.Splitting.{rest}
+use Rattle.gh_assert.proofs.Splitting.{symmetric, rest}
 use Rattle.gh_assert.proofs.Unions.{split_part}
 use Rattle.gh_assert.proofs.Unique.{apart, get_removed, get_kept, one_footprint}
 use Rattle.gh_trace.specs.Left.{left}
@@ -53,7 +53,7 @@ same_ends a b c d so = (
   λ is. λ q. sym (ap (λ h. get h q) (so.same.1 is)) ∙ so.among q refl,
 )
 
-drop-cons_at : (cells : List Cell) (i : ℕ) (d : Cell) → i < length cells → drop i cells ≡ get_or cells i d ∷ drop (i + 1) cells
+pub drop-cons_at : (cells : List Cell) (i : ℕ) (d : Cell) → i < length cells → drop i cells ≡ get_or cells i d ∷ drop (i + 1) cells
 drop-cons_at cells i d within = drop-cons cells i d within ∙ rw (add-one i) refl
 
 -- what `!=` says of two contents
@@ -98,37 +98,42 @@ pub left_is_rest : (h a b : Heap) → Splits h a b → left h (keys a) ≡ b
 left_is_rest h a b split = by_look_ups (left h (keys a)) b (λ q.
     get_left (keys a) h q ∙ ap (λ t. cond t None (get h q)) (sym (contains_key-keys a q)) ∙ beside (get h q) (get a q) (get b q) (split.disjoint q) (split.union q))
 
--- a part is replaced exactly where the same is left without the two footprints
-pub replaced_where_same : (f : Formula) (s : Store) (h : Heap) (g : Formula) (t : Store) (k : Heap) (ps qs : List ℕ) → IsFootprint f s h ps → IsFootprint g t k qs → (left h ps ≡ left k qs) ↔ Replaced f s h g t k
-replaced_where_same f s h g t k ps qs a b = (
-  λ same. record {
-    part = a.part;
-    frame = a.rest;
-    other = b.part;
-    splits = a.splits;
-    met = a.meets;
-    joins = subst (Splits k b.part) (sym (sym left_a ∙ same ∙ left_b)) b.splits;
-    meets = b.meets;
-  },
-  λ r.
-      let first : r.part ≡ a.part = one_footprint f s r.part a.part h r.met a.meets (split_part h r.part r.frame r.splits) (split_part h a.part a.rest a.splits) in
-      let second : r.other ≡ b.part = one_footprint g t r.other b.part k r.meets b.meets (split_part k r.other r.frame r.joins) (split_part k b.part b.rest b.splits) in
-      let one : r.frame ≡ a.rest = rest h a.part r.frame a.rest (subst (λ z. Splits h z r.frame) first r.splits) a.splits in
-      let other : r.frame ≡ b.rest = rest k b.part r.frame b.rest (subst (λ z. Splits k z r.frame) second r.joins) b.splits in
-      left_a ∙ sym one ∙ other ∙ sym left_b,
+left_of : (f : Formula) (s : Store) (h : Heap) (ps : List ℕ) (a : IsFootprint f s h ps) → left h ps ≡ a.rest
+left_of f s h ps a = ap (left h) a.places_are ∙ left_is_rest h a.part a.rest a.splits
+
+-- the frame of a replacement is what is left without the footprint
+frame_left : (f : Formula) (s : Store) (h k : Heap) (Q : Heap → Type 0) (ps : List ℕ) → IsFootprint f s h ps → (r : Replaced f s h Q k) → r.frame ≡ left h ps
+frame_left f s h k Q ps a r =
+    let one : r.part ≡ a.part = one_footprint f s r.part a.part h r.met a.meets (split_part h r.part r.frame r.splits) (split_part h a.part a.rest a.splits) in
+    rest h a.part r.frame a.rest (subst (λ z. Splits h z r.frame) one r.splits) a.splits ∙ sym (left_of f s h ps a)
+
+-- the cells beside that frame stand in the place of the part
+pub other_stands : (f : Formula) (s : Store) (h k : Heap) (ps : List ℕ) (other : Heap) → IsFootprint f s h ps → Splits k other (left h ps) → Replaced f s h (λ z. z ≡ other) k
+other_stands f s h k ps other a split =
+    record { part = a.part; frame = a.rest; other = other; splits = a.splits; met = a.meets; joins = subst (Splits k other) (left_of f s h ps a) split; meets = refl }
+
+pub no_other_stands : (f : Formula) (s : Store) (h k : Heap) (ps : List ℕ) → IsFootprint f s h ps → ((other : Heap) → Splits k other (left h ps) → ⊥) → (other : Heap) → Replaced f s h (λ z. z ≡ other) k → ⊥
+no_other_stands f s h k ps a none other r = none r.other (subst (Splits k r.other) (frame_left f s h k (λ z. z ≡ other) ps a r) r.joins)
+
+pub no_part_stands : (f : Formula) (s : Store) (h k : Heap) → (HasPart f s h → ⊥) → (other : Heap) → Replaced f s h (λ z. z ≡ other) k → ⊥
+no_part_stands f s h k none other r = none (r.part, r.frame, r.splits, r.met)
+
+-- what stands in the place of the part decides
+pub stands_where : (f : Formula) (s : Store) (h k other : Heap) (Q : Heap → Type 0) → Replaced f s h (λ z. z ≡ other) k → Q other ↔ Replaced f s h Q k
+stands_where f s h k other Q r = (
+  λ met. record { part = r.part; frame = r.frame; other = other; splits = r.splits; met = r.met; joins = here; meets = met },
+  λ t.
+      let one : t.part ≡ r.part = one_footprint f s t.part r.part h t.met r.met (split_part h t.part t.frame t.splits) (split_part h r.part r.frame r.splits) in
+      let same : t.frame ≡ r.frame = rest h r.part t.frame r.frame (subst (λ z. Splits h z t.frame) one t.splits) r.splits in
+      let there : t.other ≡ other = rest k r.frame t.other other (symmetric k t.other r.frame (subst (Splits k t.other) same t.joins)) (symmetric k other r.frame here) in
+      subst Q there t.meets,
 )
   where
-    left_a : left h ps ≡ a.rest
-    left_a = ap (left h) a.places_are ∙ left_is_rest h a.part a.rest a.splits
+    here : Splits k other r.frame
+    here = subst (λ z. Splits k z r.frame) r.meets r.joins
 
-    left_b : left k qs ≡ b.rest
-    left_b = ap (left k) b.places_are ∙ left_is_rest k b.part b.rest b.splits
-
-pub part_needed : (f : Formula) (s : Store) (h : Heap) (g : Formula) (t : Store) (k : Heap) → Replaced f s h g t k → HasPart f s h
-part_needed f s h g t k r = (r.part, r.frame, r.splits, r.met)
-
-pub part_given : (f : Formula) (s : Store) (h : Heap) (g : Formula) (t : Store) (k : Heap) → Replaced f s h g t k → HasPart g t k
-part_given f s h g t k r = (r.other, r.frame, r.joins, r.meets)
+pub nothing_stands : (f : Formula) (s : Store) (h k : Heap) (Q : Heap → Type 0) → ((other : Heap) → Replaced f s h (λ z. z ≡ other) k → ⊥) → Replaced f s h Q k → ⊥
+nothing_stands f s h k Q none r = none r.other (record { part = r.part; frame = r.frame; other = r.other; splits = r.splits; met = r.met; joins = r.joins; meets = refl })
 
 pub footprint_has : (f : Formula) (s : Store) (h : Heap) (ps : List ℕ) → IsFootprint f s h ps → HasPart f s h
 footprint_has f s h ps a = (a.part, a.rest, a.splits, a.meets)

@@ -2,6 +2,7 @@ pub mod Failures
 pub mod Proper
 pub mod Calls
 pub mod Lefts
+pub mod Besides
 pub mod Listings
 pub mod StepLemmas
 pub mod Insides

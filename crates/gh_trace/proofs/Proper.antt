@@ -4,7 +4,8 @@ use Rattle.std.specs.FinMap.{get}
 use Rattle.std.proofs.Common.{sym, ◌∙◌, ap, inl, inr}
 use Rattle.gh_ast.specs.Plain.{Formula, Program}
 use Rattle.gh_assert.specs.Heaps.{Heap, IsProper}
-use Rattle.gh_assert.specs.Meaning.{Store}
+use Rattle.gh_assert.specs.Meaning.{Store, Meaning, MeetsOneOf}
+use Rattle.gh_assert.proofs.Alternatives.{one_met_proper, one_met_decided}
 use Rattle.gh_assert.proofs.Unique.{get_kept}
 use Rattle.gh_assert.proofs.Cells.{allocated_or}
 use Rattle.gh_assert.proofs.Decide.{Decided, part_decided, meaning_decided}
@@ -13,11 +14,10 @@ use Rattle.gh_assert.proofs.Proper.{none_both, met_proper, put_proper, at_proper
 use Rattle.gh_path.specs.Graphs.{Check, access, entry, loop_entry, returned, loop_end, PathStep, accessed, assume, assigned, made, written, freed, called, looped, answered}
 use Rattle.gh_trace.specs.Traces.{State, Replaced, Takes, Passes, IsTrace, last_state}
 use Rattle.gh_trace.specs.Laws.{TracesAreProper, ChecksAreDecided}
-use Rattle.gh_ast.specs.Programs.{ensured}
 
-replaced_proper : (f : Formula) (s : Store) (h : Heap) (g : Formula) (t : Store) (k : Heap) → Replaced f s h g t k → IsProper h → IsProper k
-replaced_proper f s h g t k r p =
-    none_both (get k 0) (get r.other 0) (get r.frame 0) (r.joins.union 0) (met_proper g t r.other r.meets) (in_neither h r.part r.frame r.splits 0 p).1
+replaced_proper : (f : Formula) (s : Store) (h : Heap) (Q : Heap → Type 0) (k : Heap) → ((a : Heap) → Q a → IsProper a) → Replaced f s h Q k → IsProper h → IsProper k
+replaced_proper f s h Q k proper r p =
+    none_both (get k 0) (get r.other 0) (get r.frame 0) (r.joins.union 0) (proper r.other r.meets) (in_neither h r.part r.frame r.splits 0 p).1
 
 pub step_proper : (P : Program) (p : PathStep) (x y : State) → Takes P p x y → IsProper x.heap → IsProper y.heap
 step_proper P (accessed o) x y t p = ap (λ z. get z.heap 0) t.1 ∙ p
@@ -26,8 +26,8 @@ step_proper P (assigned o e) x y t p = ap (λ k. get k 0) t.3 ∙ p
 step_proper P (made o) x y t p = ap (λ k. get k 0) t.5 ∙ put_proper x.heap t.0 t.1 t.2 p
 step_proper P (written o e) x y t p = ap (λ z. get z.heap 0) t.3 ∙ put_proper x.heap (x.store o.name) t.0 (at_proper x.heap (x.store o.name) t.2 p) p
 step_proper P (freed o) x y t p = ap (λ z. get z.heap 0) t.1 ∙ get_kept x.heap (x.store o.name) 0 (λ e. at_proper x.heap (x.store o.name) t.0 p (sym e)) ∙ p
-step_proper P (called xs f es) x y t p = replaced_proper t.0.needs t.4.inside x.heap (ensured t.0) t.4.inside y.heap t.4.replaced p
-step_proper P (looped l) x y t p = replaced_proper l.invariant x.store x.heap l.invariant y.store y.heap t.0 p
+step_proper P (called xs f es) x y t p = replaced_proper t.0.needs t.4.inside x.heap (MeetsOneOf t.0.gives t.4.inside) y.heap (λ a m. one_met_proper t.0.gives t.4.inside a m) t.4.replaced p
+step_proper P (looped l) x y t p = replaced_proper l.invariant x.store x.heap (Meaning l.invariant y.store) y.heap (λ a m. met_proper l.invariant y.store a m) t.0 p
 step_proper P (answered xs es) x y t p = ap (λ k. get k 0) t.3 ∙ p
 
 pub trace_proper : (P : Program) (x : State) (ps : List PathStep) (ys : List State) → IsTrace P x ps ys → IsProper x.heap → IsProper (last_state x ys).heap
@@ -43,7 +43,7 @@ pub pass : (P : Program) (c : Check) (x : State) → IsProper x.heap → ((Passe
 pass P (access o) x p f = elim (allocated_or x.heap (x.store o.name)) [ inl a ↦ a | inr none ↦ absurd (f (λ there. let e = there.1 in absurd cc)) ]
 pass P (entry g es) x p f = λ c vs inside decl gives params. settled (part_decided c.needs inside x.heap p) (λ none. f (λ all. none (all c vs inside decl gives params)))
 pass P (loop_entry l) x p f = settled (part_decided l.invariant x.store x.heap p) f
-pass P (returned at g) x p f = settled (meaning_decided g x.store x.heap p) f
+pass P (returned at fs) x p f = settled (one_met_decided fs x.store x.heap p) f
 pass P (loop_end l) x p f = settled (meaning_decided l.invariant x.store x.heap p) f
 
 pub traces_are_proper : TracesAreProper

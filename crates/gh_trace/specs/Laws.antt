@@ -1,12 +1,12 @@
 -- The laws.
-use Rattle.std.specs.Prelude.{◌≡◌, ◌↔◌, ℕ, suc, ◌≤◌, List, length, ◌++◌, map, Contains}
+use Rattle.std.specs.Prelude.{◌≡◌, ◌↔◌, ℕ, suc, ◌≤◌, List, length, ◌++◌, map, Contains, All}
 use Rattle.gh_ast.specs.declared.Occ.{Occ}
 use Rattle.gh_ast.specs.declared.Expr.{Expr}
 use Rattle.gh_ast.specs.Plain.{Formula, Procedure, Program}
-use Rattle.gh_ast.specs.Programs.{Name, names, parameters_of, results_of, Declares, ensured}
+use Rattle.gh_ast.specs.Programs.{Name, names, parameters_of, results_of, Declares}
 use Rattle.gh_ast.specs.Names.{FormulaIn}
 use Rattle.gh_assert.specs.Heaps.{Heap, IsProper, Splits}
-use Rattle.gh_assert.specs.Meaning.{Store, Meaning, HasPart}
+use Rattle.gh_assert.specs.Meaning.{Store, Meaning, HasPart, MeetsOneOf}
 use Rattle.gh_assert.specs.Values.{Give}
 use Rattle.gh_path.specs.Graphs.{Check, entry, PathStep, called}
 use Rattle.gh_path.specs.Conditions.{Condition}
@@ -28,16 +28,20 @@ TracesAreProper = (P : Program) (f : Formula) (x : State) (ps : List PathStep) (
 abbrev pub ChecksAreDecided : Type 0
 ChecksAreDecided = (P : Program) (c : Check) (x : State) → IsProper x.heap → ((Passes P c x → ⊥) → ⊥) → Passes P c x
 
--- at most one part meets an assertion, so any split that shows it tells what stays
-abbrev pub PartsAreReplaced : Type 0
-PartsAreReplaced =
-    (f : Formula) (s : Store) (h : Heap) (g : Formula) (t : Store) (k part frame : Heap) → Splits h part frame → Meaning f s part →
-    Replaced f s h g t k ↔ ((other : Heap) × Splits k other frame × Meaning g t other)
+-- any split that shows the part tells what stays: the rest of the heap is judged by Q
+abbrev pub IsToldBySplits : Formula → Store → Heap → (Heap → Type 0) → Heap → Type 0
+IsToldBySplits f s h Q k =
+    (part frame : Heap) → Splits h part frame → Meaning f s part → Replaced f s h Q k ↔ ((other : Heap) × Splits k other frame × Q other)
+
+-- at most one part meets an assertion, so splits tell a replacement by one assertion, and by one of some alternatives
+pub record PartsAreReplaced : Type 0 where
+  pub one : (f g : Formula) (s t : Store) (h k : Heap) → IsToldBySplits f s h (Meaning g t) k
+  pub one_of : (f : Formula) (gs : List Formula) (s t : Store) (h k : Heap) → IsToldBySplits f s h (MeetsOneOf gs t) k
 
 -- a callee's assertions speak of its parameters, `ensures` of its results too
 pub record HasOwnNames (p : Procedure) : Type 0 where
   pub needs_in : FormulaIn p.needs (parameters_of p)
-  pub gives_in : FormulaIn (ensured p) (parameters_of p ++ results_of p)
+  pub gives_in : All (λ f. FormulaIn f (parameters_of p ++ results_of p)) p.gives
 
 -- any store that gives the parameters the arguments' values decides the check of a call
 abbrev pub EntriesAreOne : Type 0
@@ -50,4 +54,4 @@ abbrev pub CallsAreOne : Type 0
 CallsAreOne =
     (P : Program) (xs : List Occ) (f : Occ) (es : List Expr) (x y : State) (p : Procedure) (vs : List ℕ) (inside : Store) → HasOwnNames p → Declares P f.name p →
     Give x.store x.heap es vs → map inside (parameters_of p) ≡ vs → map inside (results_of p) ≡ map y.store (names xs) →
-    Takes P (called xs f es) x y ↔ (((n : Name) → (Contains (names xs) n → ⊥) → y.store n ≡ x.store n) × Replaced p.needs inside x.heap (ensured p) inside y.heap)
+    Takes P (called xs f es) x y ↔ (((n : Name) → (Contains (names xs) n → ⊥) → y.store n ≡ x.store n) × Replaced p.needs inside x.heap (MeetsOneOf p.gives inside) y.heap)

@@ -3,6 +3,7 @@ pub mod Replay
 pub mod Validity
 pub mod Kept
 pub mod Left
+pub mod Parts
 pub mod Targets
 pub mod Scenes
 pub mod Rest

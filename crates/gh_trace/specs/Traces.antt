@@ -3,10 +3,10 @@ use Rattle.std.specs.Prelude.{◌≡◌, ◌≢◌, ℕ, List, [], ◌∷◌, ma
 use Rattle.std.specs.FinMap.{get, insert, remove}
 use Rattle.gh_ast.specs.Plain.{Formula, Procedure, Program}
 use Rattle.gh_assert.specs.Heaps.{Heap, Splits}
-use Rattle.gh_assert.specs.Meaning.{Store, Meaning, HasPart}
+use Rattle.gh_assert.specs.Meaning.{Store, Meaning, HasPart, MeetsOneOf}
 use Rattle.gh_assert.specs.Walks.{Allocated}
 use Rattle.gh_assert.specs.Values.{result, Give, compared, Gets}
-use Rattle.gh_ast.specs.Programs.{Name, names, parameters_of, results_of, Declares, SomeAssigns, ensured}
+use Rattle.gh_ast.specs.Programs.{Name, names, parameters_of, results_of, Declares, SomeAssigns}
 use Rattle.gh_path.specs.Graphs.{Check, access, entry, loop_entry, returned, loop_end, PathStep, accessed, assume, assigned, made, written, freed, called, looped, answered}
 
 -- the store tells a value for every name. A store that lists names with their values tells those, and 0 for each other name;
@@ -16,22 +16,22 @@ pub record State : Type 0 where
   pub store : Store
   pub heap : Heap
 
--- a part that meets the first assertion gives way to one that meets the second; the rest stays
-pub record Replaced (f : Formula) (s : Store) (h : Heap) (g : Formula) (t : Store) (k : Heap) : Type 0 where
+-- a part that meets the assertion gives way to one of which Q holds; the rest stays
+pub record Replaced (f : Formula) (s : Store) (h : Heap) (Q : Heap → Type 0) (k : Heap) : Type 0 where
   pub part : Heap
   pub frame : Heap
   pub other : Heap
   pub splits : Splits h part frame
   pub met : Meaning f s part
   pub joins : Splits k other frame
-  pub meets : Meaning g t other
+  pub meets : Q other
 
 -- the callee's variables: the parameters have the arguments' values, the results those that the targets get
 pub record Called (p : Procedure) (vs : List ℕ) (xs : List Name) (x y : State) : Type 0 where
   pub inside : Store
   pub arguments : map inside (parameters_of p) ≡ vs
   pub targets : Gets x.store xs (map inside (results_of p)) y.store
-  pub replaced : Replaced p.needs inside x.heap (ensured p) inside y.heap
+  pub replaced : Replaced p.needs inside x.heap (MeetsOneOf p.gives inside) y.heap
 
 -- a step leads from one state to another
 abbrev pub Takes : Program → PathStep → State → State → Type 0
@@ -43,7 +43,7 @@ Takes P (written o e) x y =
     (v : ℕ) × (result x.store x.heap e ≡ Some v) × Allocated x.heap (x.store o.name) × (y ≡ record { store = x.store; heap = insert x.heap (x.store o.name) v })
 Takes P (freed o) x y = Allocated x.heap (x.store o.name) × (y ≡ record { store = x.store; heap = remove x.heap (x.store o.name) })
 Takes P (called xs f es) x y = (p : Procedure) × (vs : List ℕ) × Declares P f.name p × Give x.store x.heap es vs × Called p vs (names xs) x y
-Takes P (looped l) x y = Replaced l.invariant x.store x.heap l.invariant y.store y.heap × ((n : Name) → (SomeAssigns l.body n → ⊥) → y.store n ≡ x.store n)
+Takes P (looped l) x y = Replaced l.invariant x.store x.heap (Meaning l.invariant y.store) y.heap × ((n : Name) → (SomeAssigns l.body n → ⊥) → y.store n ≡ x.store n)
 Takes P (answered xs es) x y = (vs : List ℕ) × Give x.store x.heap es vs × Gets x.store xs vs y.store × (y.heap ≡ x.heap)
 
 -- the check is passed in the state
@@ -52,7 +52,7 @@ Passes P (access o) x = Allocated x.heap (x.store o.name)
 Passes P (entry f es) x =
     (p : Procedure) (vs : List ℕ) (inside : Store) → Declares P f.name p → Give x.store x.heap es vs → map inside (parameters_of p) ≡ vs → HasPart p.needs inside x.heap
 Passes P (loop_entry l) x = HasPart l.invariant x.store x.heap
-Passes P (returned at f) x = Meaning f x.store x.heap
+Passes P (returned at fs) x = MeetsOneOf fs x.store x.heap
 Passes P (loop_end l) x = Meaning l.invariant x.store x.heap
 
 -- one state for each step, after the first state

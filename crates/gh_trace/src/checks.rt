@@ -6,6 +6,7 @@ ghost use Rattle.gh_ast.specs.declared.Occ.{Occ};
 ghost use Rattle.gh_ast.specs.Plain.{formula_of, procedure_of, program_of, Program};
 ghost use Rattle.gh_path.specs.Graphs as graph;
 ghost use Rattle.gh_path.specs.Kept.{IsCallee, IsLoop, IsStart, IsKind};
+ghost use Rattle.gh_trace.specs.Parts.{IsReturned};
 ghost use Rattle.gh_trace.specs.Traces.{Passes};
 ghost use Rattle.gh_trace.specs.Replay.{Begins};
 ghost use Rattle.gh_ast.specs.Programs.{variable_names};
@@ -17,9 +18,9 @@ use crate::parts::{Part, has_part};
 use crate::scene::{Scene, procedure_at};
 use crate::state::State;
 use crate::stores::{entered, is_over, value};
-use gh_assert::meaning::holds;
+use gh_assert::meaning::{holds, meets_one_of};
 use gh_assert::values::values_of;
-use gh_ast::{Assertion, Expr};
+use gh_ast::{Assertion, Expr, Procedure};
 use gh_path::condition::{CheckKind, Start};
 use std::alloc::{AllocError, Global};
 
@@ -128,6 +129,13 @@ fn is_loop_ended(
     holds(alloc, &state.store, &state.heap, round.invariant)
 }
 
+/// Whether the whole heap meets an alternative of what the procedure gives.
+pub fn is_returned(alloc: Global, procedure: &Procedure, state: &State) -> Result<bool, AllocError>
+    ensures { IfOk result (λ b. IsTrue b ↔ IsReturned (procedure_of procedure.now) (state_of state.now)) }
+{
+    meets_one_of(alloc, &state.store, &state.heap, procedure.gives.as_slice())
+}
+
 /// Whether a state passes a check.
 pub fn passes(
     alloc: Global,
@@ -144,7 +152,7 @@ pub fn passes(
             is_entered(alloc, scene, *callee, arguments.as_slice(), state)
         }
         CheckKind::LoopEntry { number } => is_loop_entered(alloc, scene, *number, state),
-        CheckKind::Return => holds(alloc, &state.store, &state.heap, scene.procedure.ensured()),
+        CheckKind::Return => is_returned(alloc, scene.procedure, state),
         CheckKind::LoopEnd { number } => is_loop_ended(alloc, scene, *number, state),
     }
 }

@@ -1,16 +1,17 @@
 //! A part of a heap that gives way to another.
 
-ghost use Rattle.std.specs.Prelude.{◌↔◌, IfOk, IsTrue};
-ghost use Rattle.gh_ast.specs.Plain.{formula_of};
+ghost use Rattle.std.specs.Prelude.{◌↔◌, IfOk, IfSome, IfNone, IsTrue};
+ghost use Rattle.gh_ast.specs.Plain.{formula_of, procedure_of};
+ghost use Rattle.gh_assert.specs.Heaps.{Heap};
 ghost use Rattle.gh_assert.specs.Meaning.{HasPart};
 ghost use Rattle.gh_assert.specs.Stores.{store_of};
-ghost use Rattle.gh_trace.specs.Traces.{Replaced};
+ghost use Rattle.gh_trace.specs.Parts.{Meets, GivesWay, Stands, IsAnswered};
 
-use crate::heaps::is_same_outside;
+use crate::heaps::outside_frame;
 use gh_assert::heap::Heap;
-use gh_assert::meaning::footprint;
+use gh_assert::meaning::{footprint, holds, meets_one_of};
 use gh_assert::store::Store;
-use gh_ast::Assertion;
+use gh_ast::{Assertion, Procedure};
 use std::alloc::{AllocError, Global};
 
 /// An assertion on a part of a heap.
@@ -29,23 +30,52 @@ pub fn has_part(alloc: Global, part: Part<'_>) -> Result<bool, AllocError>
     Ok(places.is_some())
 }
 
-/// Whether a part that meets an assertion gives way to one that meets another, and the rest stays.
+/// What stands in a heap in the place of the part of another that meets an assertion, where the rest stays.
 ///
-/// At most one part of each heap meets its assertion, so what is left of the two heaps must be one.
-pub fn is_replaced(alloc: Global, before: Part<'_>, after: Part<'_>) -> Result<bool, AllocError>
-    ensures { IfOk result (λ b. IsTrue b ↔ Replaced (formula_of before.entry.assertion.now) (store_of before.entry.store.now) before.entry.heap.now (formula_of after.entry.assertion.now) (store_of after.entry.store.now) after.entry.heap.now) }
+/// At most one part meets the assertion, so what stays is one heap.
+pub fn replacement(
+    alloc: Global,
+    before: Part<'_>,
+    after: &Heap,
+) -> Result<Option<Heap>, AllocError>
+    ensures found { IfOk result (λ o. IfSome o (Stands before.entry after.now)) }
+    ensures none { IfOk result (λ o. IfNone o ((other : Heap) → Stands before.entry after.now other → ⊥)) }
 {
     let Some(places) = footprint(alloc, before.store, before.heap, before.assertion)? else {
+        return Ok(None);
+    };
+    outside_frame(alloc, after, before.heap, places.as_slice())
+}
+
+/// Whether a part that meets an assertion gives way to one that meets another, and the rest stays.
+pub fn is_replaced(alloc: Global, before: Part<'_>, after: Part<'_>) -> Result<bool, AllocError>
+    ensures { IfOk result (λ b. IsTrue b ↔ GivesWay before.entry (Meets after.entry) after.entry.heap.now) }
+{
+    let Some(other) = replacement(alloc, before, after.heap)? else {
         return Ok(false);
     };
-    let Some(others) = footprint(alloc, after.store, after.heap, after.assertion)? else {
+    holds(alloc, after.store, &other, after.assertion)
+}
+
+/// Whether a part that meets what a procedure needs gives way to one that meets an alternative of
+/// what it gives, and the rest stays.
+pub fn is_answered(
+    alloc: Global,
+    procedure: &Procedure,
+    inside: &Store,
+    before: &Heap,
+    after: &Heap,
+) -> Result<bool, AllocError>
+    ensures { let p = procedure_of procedure.now in
+        IfOk result (λ b. IsTrue b ↔ IsAnswered p (store_of inside.now) before.now after.now) }
+{
+    let needed = Part {
+        assertion: &procedure.needs,
+        store: inside,
+        heap: before,
+    };
+    let Some(other) = replacement(alloc, needed, after)? else {
         return Ok(false);
     };
-    is_same_outside(
-        alloc,
-        before.heap,
-        places.as_slice(),
-        after.heap,
-        others.as_slice(),
-    )
+    meets_one_of(alloc, inside, &other, procedure.gives.as_slice())
 }

@@ -12,7 +12,7 @@ ghost use Rattle.gh_trace.specs.Kept.{state_of, IsNext};
 ghost use Rattle.gh_trace.specs.Scenes.{HasLoops};
 
 use crate::heaps::is_same_outside;
-use crate::parts::{Part, is_replaced};
+use crate::parts::{Part, is_answered, is_replaced};
 use crate::scene::{Scene, procedure_at};
 use crate::state::State;
 use crate::stores::{gets, inside, keeps, values};
@@ -160,8 +160,8 @@ pub fn frees(alloc: Global, at: &Occ, before: &State, after: &State) -> Result<b
     is_same_outside(alloc, &before.heap, &[place], &after.heap, &[])
 }
 
-// A part that meets what the callee needs gives way to one that meets what it gives, and the targets
-// have its results.
+// A part that meets what the callee needs gives way to one that meets an alternative of what it gives,
+// and the targets have its results.
 fn calls(
     alloc: Global,
     scene: Scene<'_>,
@@ -191,17 +191,7 @@ fn calls(
     }
     let results = values(alloc, &after.store, targets)?;
     let inside = inside(alloc, callee, given.as_slice(), results.as_slice())?;
-    let needed = Part {
-        assertion: &callee.needs,
-        store: &inside,
-        heap: &before.heap,
-    };
-    let promised = Part {
-        assertion: callee.ensured(),
-        store: &inside,
-        heap: &after.heap,
-    };
-    is_replaced(alloc, needed, promised)
+    is_answered(alloc, callee, &inside, &before.heap, &after.heap)
 }
 
 // A part that meets the invariant gives way to one that meets it again, and the variables that the

@@ -1,6 +1,9 @@
 // Steps on worked states, with each thing wrong that a step fixes.
 
-use crate::parts::{Part, has_part, is_replaced};
+ghost use Rattle.std.specs.Prelude.{◌<◌, length};
+
+use crate::checks::is_returned;
+use crate::parts::{Part, has_part, is_answered, is_replaced};
 use crate::state::State;
 use crate::steps::{accesses, assigns, assumes, frees, makes, writes};
 use crate::stores::{is_over, keeps};
@@ -54,23 +57,30 @@ fn null() -> Operand {
     }
 }
 
-// `procedure p(x: Node) returns (y: Node)`
-fn procedure(alloc: Global) -> Result<Procedure, Fail> {
+// `procedure p(x: Node) returns (y: Node)` with a contract.
+fn with_contract(alloc: Global, needs: Assertion, gives: Vec<Assertion>) -> Result<Procedure, Fail>
+    requires { 0 < length gives.items }
+{
     let mut parameters = Vec::new(alloc);
     parameters.push(occ(alloc, "x")?)?;
     let mut results = Vec::new(alloc);
     results.push(occ(alloc, "y")?)?;
-    let mut gives = Vec::new(alloc);
-    gives.push(Assertion::Emp)?;
     Ok(Procedure {
         name: occ(alloc, "p")?,
         parameters,
         results,
-        needs: Assertion::Emp,
+        needs,
         gives,
         body: None,
         close: Span { line: 1, col: 1 },
     })
+}
+
+// `procedure p(x: Node) returns (y: Node)`
+fn procedure(alloc: Global) -> Result<Procedure, Fail> {
+    let mut gives = Vec::new(alloc);
+    gives.push(Assertion::Emp)?;
+    with_contract(alloc, Assertion::Emp, gives)
 }
 
 fn store(alloc: Global, values: &[(&'static str, u32)]) -> Result<Store, Fail> {
@@ -291,25 +301,35 @@ fn stores_over_variables(rt: HostRuntime) -> Result<(), Fail> {
     Ok(())
 }
 
-// Whether the variables that `y := x;` doesn't assign keep their values.
-fn keeps_unassigned(alloc: Global, x: u32, y: u32) -> Result<bool, Fail> {
-    let procedure = procedure(alloc)?;
-    let before = store(alloc, &[("x", 1), ("y", 2)])?;
-    let after = store(alloc, &[("x", x), ("y", y)])?;
+// `y := x;`
+fn sets_y(alloc: Global) -> Result<Block, Fail> {
     let mut statements = Vec::new(alloc);
     statements.push(Stmt::Set {
         target: occ(alloc, "y")?,
         value: Expr::Plain(Operand::Var(occ(alloc, "x")?)),
     })?;
     let close = Span { line: 1, col: 1 };
-    let body = Block { statements, close };
-    if !is_over(&before, &procedure) {
-        return Err(Fail::from(AllocError));
+    Ok(Block { statements, close })
+}
+
+// Whether two stores are over the variables, and those that a body doesn't assign keep their values.
+fn both_keep(procedure: &Procedure, before: &Store, after: &Store, body: &Block) -> bool {
+    if !is_over(before, procedure) {
+        return false;
     }
-    if !is_over(&after, &procedure) {
-        return Err(Fail::from(AllocError));
+    if !is_over(after, procedure) {
+        return false;
     }
-    Ok(keeps(&before, &after, Targets::Body(&body)))
+    keeps(before, after, Targets::Body(body))
+}
+
+// Whether the variables that `y := x;` doesn't assign keep their values.
+fn keeps_unassigned(alloc: Global, x: u32, y: u32) -> Result<bool, Fail> {
+    let procedure = procedure(alloc)?;
+    let before = store(alloc, &[("x", 1), ("y", 2)])?;
+    let after = store(alloc, &[("x", x), ("y", y)])?;
+    let body = sets_y(alloc)?;
+    Ok(both_keep(&procedure, &before, &after, &body))
 }
 
 #[test]
@@ -317,5 +337,77 @@ fn unassigned_variables(rt: HostRuntime) -> Result<(), Fail> {
     assert!(rt; keeps_unassigned(rt.alloc(), 1, 2)?);
     assert!(rt; keeps_unassigned(rt.alloc(), 1, 7)?);
     assert!(rt; !keeps_unassigned(rt.alloc(), 7, 2)?);
+    Ok(())
+}
+
+fn is_null(alloc: Global, letter: &'static str) -> Result<Assertion, Fail> {
+    Ok(Assertion::Pure {
+        left: Operand::Var(occ(alloc, letter)?),
+        equal: true,
+        right: null(),
+    })
+}
+
+// `y == null &*& x == null`
+fn both_null(alloc: Global) -> Result<Assertion, Fail> {
+    let mut members = Vec::new(alloc);
+    for letter in ["y", "x"] {
+        members.push(is_null(alloc, letter)?)?;
+    }
+    Ok(Assertion::Star(members))
+}
+
+// `requires lseg(x, null)`, `ensures y == null &*& x == null || x.next |-> null`
+fn pick(alloc: Global) -> Result<Procedure, Fail> {
+    let needs = Assertion::Lseg {
+        from: Operand::Var(occ(alloc, "x")?),
+        to: null(),
+    };
+    let cell = Assertion::PointsTo {
+        at: occ(alloc, "x")?,
+        to: null(),
+    };
+    let mut gives = Vec::new(alloc);
+    gives.push(both_null(alloc)?)?;
+    gives.push(cell)?;
+    with_contract(alloc, needs, gives)
+}
+
+fn returns(alloc: Global, drawn: Drawn) -> Result<bool, Fail> {
+    let procedure = pick(alloc)?;
+    let state = state(alloc, drawn)?;
+    Ok(is_returned(alloc, &procedure, &state)?)
+}
+
+#[test]
+fn returns_by_one_alternative(rt: HostRuntime) -> Result<(), Fail> {
+    assert!(rt; returns(rt.alloc(), at(0, 0, &[]))?);
+    assert!(rt; returns(rt.alloc(), at(1, 1, &[(1, 0)]))?);
+    assert!(rt; !returns(rt.alloc(), at(1, 1, &[(1, 2), (2, 0)]))?);
+    assert!(rt; !returns(rt.alloc(), at(0, 1, &[]))?);
+    Ok(())
+}
+
+// Whether one heap gives way to another, with x and y as drawn.
+fn calls(alloc: Global, before: &'static [(u32, u32)], after: Drawn) -> Result<bool, Fail> {
+    let procedure = pick(alloc)?;
+    let before = heap(alloc, before)?;
+    let after = state(alloc, after)?;
+    Ok(is_answered(alloc, &procedure, &after.store, &before, &after.heap)?)
+}
+
+#[test]
+fn calls_by_one_alternative(rt: HostRuntime) -> Result<(), Fail> {
+    assert!(rt; calls(rt.alloc(), &[(3, 0)], at(0, 0, &[(3, 0)]))?);
+    assert!(rt;
+        calls(
+            rt.alloc(),
+            &[(1, 2), (2, 0), (3, 0)],
+            at(1, 1, &[(1, 0), (3, 0)])
+        )?
+    );
+    assert!(rt; !calls(rt.alloc(), &[(1, 0), (3, 0)], at(1, 1, &[(1, 0)]))?);
+    assert!(rt; !calls(rt.alloc(), &[(1, 0), (3, 0)], at(1, 1, &[(1, 0), (3, 7)]))?);
+    assert!(rt; !calls(rt.alloc(), &[(1, 0), (3, 0)], at(1, 1, &[(3, 0)]))?);
     Ok(())
 }

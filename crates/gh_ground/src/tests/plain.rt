@@ -29,8 +29,9 @@ pub(crate) fn solve_plainly(alloc: Global, ground: &Ground) -> Result<Answer, Al
     let mut solver = Solver::new(alloc, ground)?;
     let names = all_names(alloc, ground.terms(), ground.versions())?;
     solver.add_instances(alloc, names.as_slice())?;
-    if solver.is_open(alloc)? {
-        return Ok(Answer::Model(solver.structure(alloc)?));
+    if let Some(conflict) = solver.conflict(alloc)? {
+        let section = solver.into_section(alloc, conflict)?;
+        return Ok(Answer::Refutation(section));
     }
-    Ok(Answer::Refutation(solver.into_section(alloc)?))
+    Ok(Answer::Model(solver.structure(alloc)?))
 }

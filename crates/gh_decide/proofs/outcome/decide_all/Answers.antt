@@ -1,4 +1,4 @@
-use Rattle.std.proofs.Common.{◌≡◌, ◌+◌, length, Some}
+use Rattle.std.proofs.Common.{◌≡◌, ◌+◌, length, Some, refl}
 use Rattle.gh_ast.specs.Plain.{program_of}
 use Rattle.gh_path.specs.Answers.{IsNumbered}
 use Rattle.gh_path.specs.Conditions.{conditions}
@@ -31,4 +31,4 @@ pub returns : goal.returns
 returns c =
     let P = program_of c.args.typed.now in
     let count : c.count-place-end.result ≡ length (conditions P) = rw c.requires.same at c.count-place-end.ensures in
-    all_decided P c.loop-place.place c.count-place-end.result (record { sections = c.loop-place.sections }) count c.loop-place-test.false c.loop-place.invariant
+    all_decided P c.loop-place.place c.count-place-end.result (record { version = 2; sections = c.loop-place.sections }) refl count c.loop-place-test.false c.loop-place.invariant

@@ -1,25 +1,25 @@
 use Rattle.std.proofs.Common.{◌∙◌, All, Contains, arith, subst, vec_len}
-use Rattle.std.proofs.lemmas.Bool.{MatchBool-at_true, MatchBool-at_false}
 use Rattle.gh_base.specs.Structures.{interpretation_of}
 use Rattle.gh_log.specs.declared.lines.LogLine.TheVariants as line
+use Rattle.gh_ground.proofs.KeptLemmas.{ended_open, ended_refuted}
 use Rattle.gh_ground.proofs.MissingLemmas.{round_less, none_there, some_there, are_instances, model_is}
 use Rattle.gh_ground.proofs.solve.solve.Goals as goal
 
 pub structure-requires-clause-open : goal.structure-requires-clause-open
-structure-requires-clause-open c = MatchBool-at_true _ _ c.if-branch.true c.in_ok-is_open.ensures.ended
+structure-requires-clause-open c = ended_open c.conflict.new.self.search _ c.in_ok-conflict.ensures.ended c.in_default.not-Some
 
 pub structure-requires-clause-kept : goal.structure-requires-clause-kept
-structure-requires-clause-kept c = (c.args.ground.now, c.in_ok-is_open.ensures.keeps.keeps c.args.ground.now c.loop-solver.invariant)
+structure-requires-clause-kept c = (c.args.ground.now, c.in_ok-conflict.ensures.keeps.keeps c.args.ground.now c.loop-solver.invariant)
 
 pub add_instances-requires : goal.add_instances-requires
 add_instances-requires c =
     let t = c.in_ok-structure.structure in
-    are_instances t.sizes c.is_open.new.self.search.sizes (interpretation_of t) c.in_ok-names.names.items c.as_slice.result.now c.in_ok-structure.ensures.sizes c.as_slice.ensures.value c.in_ok-names.ensures.each
+    are_instances t.sizes c.conflict.new.self.search.sizes (interpretation_of t) c.in_ok-names.names.items c.as_slice.result.now c.in_ok-structure.ensures.sizes c.as_slice.ensures.value c.in_ok-names.ensures.each
 
 pub loop-solver-preserved : goal.loop-solver-preserved
 loop-solver-preserved c =
     let p = c.args.ground.now in
-    c.in_ok-add_instances.ensures.keeps.keeps p (c.in_ok-is_open.ensures.keeps.keeps p c.loop-solver.invariant)
+    c.in_ok-add_instances.ensures.keeps.keeps p (c.in_ok-conflict.ensures.keeps.keeps p c.loop-solver.invariant)
 
 pub loop-solver-smaller : goal.loop-solver-smaller
 loop-solver-smaller c =
@@ -27,25 +27,27 @@ loop-solver-smaller c =
     let t = c.in_ok-structure.structure in
     let names = c.in_ok-names.names in
     let first = c.loop-solver.solver in
-    let mid = c.is_open.new.self in
+    let mid = c.conflict.new.self in
     let last = c.add_instances.new.self in
-    let kept = c.in_ok-is_open.ensures.keeps.keeps p c.loop-solver.invariant in
+    let kept = c.in_ok-conflict.ensures.keeps.keeps p c.loop-solver.invariant in
     let some = some_there (vec_len names) names.items c.is_empty.result (omega (arith, names.ok.0)) c.is_empty.ensures c.if-is_empty.false in
     let added = subst (All (λ n. Contains last.lines.items (line.Axiom n))) c.as_slice.ensures.value c.in_ok-add_instances.ensures.added in
-    round_less p first.search mid.search last.search first.lines.items mid.lines.items last.lines.items (interpretation_of t) t.sizes names.items (c.in_ok-structure.ensures.sizes ∙ kept.sizes) c.in_ok-is_open.ensures.keeps kept
+    round_less p first.search mid.search last.search first.lines.items mid.lines.items last.lines.items (interpretation_of t) t.sizes names.items (c.in_ok-structure.ensures.sizes ∙ kept.sizes) c.in_ok-conflict.ensures.keeps kept
     c.in_ok-structure.ensures.clauses c.in_ok-names.ensures.each some c.in_ok-add_instances.ensures.keeps added
 
 pub returns-then-is_empty : goal.returns-then-is_empty
 returns-then-is_empty c =
     let p = c.args.ground.now in
-    let mid = c.is_open.new.self in
+    let mid = c.conflict.new.self in
     let names = c.in_ok-names.names in
     let none = none_there (vec_len names) names.items c.is_empty.result (omega (arith, names.ok.0)) c.is_empty.ensures c.if-is_empty.true in
-    model_is p mid.search mid.lines.items c.in_ok-structure.structure (c.in_ok-is_open.ensures.keeps.keeps p c.loop-solver.invariant) c.in_ok-structure.ensures.sizes c.in_ok-structure.ensures.clauses c.in_ok-structure.ensures.congruence
+    model_is p mid.search mid.lines.items c.in_ok-structure.structure (c.in_ok-conflict.ensures.keeps.keeps p c.loop-solver.invariant) c.in_ok-structure.ensures.sizes c.in_ok-structure.ensures.clauses c.in_ok-structure.ensures.congruence
     (c.in_ok-names.ensures.none none)
 
 pub into_section-requires : goal.into_section-requires
-into_section-requires c = MatchBool-at_false _ _ c.if-branch.false c.in_ok-is_open.ensures.ended
+into_section-requires c = ended_refuted c.conflict.new.self.search _ c.in-Some.conflict c.in_ok-conflict.ensures.ended c.in-Some.is
 
-pub returns : goal.returns
-returns c = c.in_ok-into_section.ensures c.args.ground.now (c.in_ok-is_open.ensures.keeps.keeps c.args.ground.now c.loop-solver.invariant)
+pub returns-in-Some : goal.returns-in-Some
+returns-in-Some c =
+    let p = c.args.ground.now in
+    c.in_ok-trim.ensures p (c.in_ok-section.ensures p (c.in_ok-conflict.ensures.keeps.keeps p c.loop-solver.invariant))

@@ -1,6 +1,8 @@
-use Rattle.std.proofs.Common.{◌∙◌, ap, sym, subst, map, arith}
+use Rattle.std.proofs.Common.{◌∙◌, All, ap, sym, subst, map, arith}
 use Rattle.gh_log.specs.declared.lines.LogLine.TheVariants as line
 use Rattle.gh_log.specs.Sections.{line_clause, AreOfKind}
+use Rattle.gh_log.specs.Spelled.{IsOfVersion}
+use Rattle.std.proofs.lemmas.List.Elements.{All-push}
 use Rattle.gh_log.proofs.KindLemmas.{kind_push}
 use Rattle.gh_ground.proofs.KeptLemmas.{clauses_more}
 use Rattle.gh_ground.proofs.solver.ground_lines.Goals as goal
@@ -14,4 +16,5 @@ loop-number-preserved c =
     record {
       clauses = ap (map (line_clause p)) is ∙ clauses_more p old n (omega arith) c.loop-number.invariant.clauses;
       of_kind = subst (AreOfKind p) (sym is) (kind_push p old (line.Clause n) c.loop-number.invariant.of_kind (omega arith));
+      version = subst (All (IsOfVersion 2)) (sym is) (All-push (IsOfVersion 2) old (line.Clause n) c.loop-number.invariant.version tt);
     }

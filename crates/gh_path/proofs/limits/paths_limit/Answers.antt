@@ -1,4 +1,4 @@
-use Rattle.std.proofs.Common.{refl, arith, map, subst, length, ◌≤◌, ◌≡◌, ℕ, ◌<◌}
+use Rattle.std.proofs.Common.{refl, arith, map, subst, length, ◌≡◌}
 use Rattle.gh_ast.specs.Plain.{procedure_of}
 use Rattle.gh_path.specs.Admitted.{HasManyPaths}
 use Rattle.gh_path.proofs.PassedLemmas.{IsWide, paths_told, NoneBefore, first_limit, none_of}

@@ -1,4 +1,4 @@
-use Rattle.std.proofs.Common.{refl, arith, map, subst, length, ◌≤◌, ◌≡◌, ℕ, ◌<◌}
+use Rattle.std.proofs.Common.{refl, arith, map, subst, length, ◌≡◌}
 use Rattle.gh_ast.specs.Plain.{procedure_of}
 use Rattle.gh_path.specs.Admitted.{HasManySteps}
 use Rattle.gh_path.proofs.PassedLemmas.{IsLong, steps_told, NoneBefore, first_limit, none_of}

@@ -1,4 +1,4 @@
-use Rattle.std.proofs.Common.{◌≡◌, ◌++◌, ◌∷◌, [], ◌+◌, List, arith, sym, ◌∙◌, ap, subst, drop}
+use Rattle.std.proofs.Common.{◌≡◌, ◌+◌, List, arith, sym, ◌∙◌, ap, subst, drop}
 use Rattle.gh_base.specs.declared.atom.Lit.{Lit}
 use Rattle.gh_grass.specs.declared.formula.Formula.{Formula}
 use Rattle.gh_grass.specs.Claims.{Claim, claim_of, claims_view, negation_of, conjunction_of, disjunction_of, equivalence_of}

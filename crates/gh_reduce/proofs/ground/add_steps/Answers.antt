@@ -1,4 +1,4 @@
-use Rattle.std.proofs.Common.{◌≡◌, ◌<◌, ◌+◌, ℕ, List, ◌∷◌, map, drop, sym, ◌∙◌, ap, subst, arith}
+use Rattle.std.proofs.Common.{◌≡◌, ◌<◌, ◌+◌, ℕ, List, map, drop, sym, ◌∙◌, ap, subst, arith}
 use Rattle.gh_base.specs.Grounds.{Problem}
 use Rattle.gh_symb.specs.Symbolic.{TermStep}
 use Rattle.gh_symb.specs.Formulas.{step_claims, steps_claims, version_after}

@@ -1,7 +1,6 @@
-use Rattle.std.proofs.Common.{◌≡◌, ◌<◌, ◌+◌, ℕ, Some, map, drop, length, sym, ◌∙◌, ap, subst, arith}
+use Rattle.std.proofs.Common.{◌+◌, Some, map, drop, ◌∙◌, ap, arith}
 use Rattle.std.proofs.lemmas.List.{length-map}
-use Rattle.gh_base.specs.declared.term.TermKind.{TermKind}
-use Rattle.gh_path.specs.Terms.{Kind, next}
+use Rattle.gh_path.specs.Terms.{Kind}
 use Rattle.gh_symb.specs.Formulas.{successor_claims, successors_from}
 use Rattle.gh_symb.specs.Told.{plain_kind}
 use Rattle.gh_reduce.specs.Growth.{stated_in}

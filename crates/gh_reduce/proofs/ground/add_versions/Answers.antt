@@ -1,4 +1,4 @@
-use Rattle.std.proofs.Common.{◌<◌, map, arith}
+use Rattle.std.proofs.Common.{map, arith}
 use Rattle.gh_symb.specs.Formulas.{version_claims, versions_claims}
 use Rattle.gh_symb.specs.Told.{plain_kind}
 use Rattle.gh_reduce.proofs.GrowthLemmas.{numbers_more, same_versions}

@@ -1,8 +1,8 @@
-use Rattle.std.proofs.Common.{◌≡◌, ◌<◌, ◌≤◌, ◌-◌, ◌++◌, ◌∷◌, [], ℕ, List, map, length, sym, ◌∙◌, ap, subst, arith}
+use Rattle.std.proofs.Common.{◌≡◌, ◌-◌, ◌++◌, ◌∷◌, [], List, map, length, sym, ◌∙◌, ap, subst, arith}
 use Rattle.std.proofs.lemmas.List.{length-map}
 use Rattle.gh_base.specs.Grounds.{Problem}
-use Rattle.gh_grass.specs.Claims.{Claim, claim_of}
-use Rattle.gh_symb.specs.Formulas.{versions_claims, meets_whole, steps_claims, check_claims, claims}
+use Rattle.gh_grass.specs.Claims.{claim_of}
+use Rattle.gh_symb.specs.Formulas.{versions_claims, meets_whole, steps_claims, check_claims}
 use Rattle.gh_symb.specs.Told.{plain_kind}
 use Rattle.gh_symb.specs.declared.over_terms.Bound.{Bound}
 use Rattle.gh_symb.specs.declared.over_terms.TermStep.{TermStep}

@@ -1,8 +1,7 @@
-use Rattle.std.proofs.Common.{◌≡◌, ℕ, [], ◌∷◌, map, length, sym, ap, ◌∙◌}
-use Rattle.std.proofs.lemmas.List.{length-map}
-use Rattle.gh_grass.specs.Claims.{claims_list, claims_of, conjunction_of}
-use Rattle.gh_grass.proofs.ClaimLemmas.{put_term, claim_of-And}
-use Rattle.gh_symb.specs.Formulas.{meets, covers, each}
+use Rattle.std.proofs.Common.{[], ◌∷◌, map, ap, ◌∙◌}
+use Rattle.gh_grass.specs.Claims.{claims_list}
+use Rattle.gh_grass.proofs.ClaimLemmas.{put_term}
+use Rattle.gh_symb.specs.Formulas.{meets, covers}
 use Rattle.gh_symb.specs.Told.{plain_kind}
 use Rattle.gh_reduce.specs.Inside.{under_of}
 use Rattle.gh_reduce.proofs.statements.meets_whole.Goals as goal

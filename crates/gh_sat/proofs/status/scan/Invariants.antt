@@ -1,4 +1,4 @@
-use Rattle.std.proofs.Common.{◌≡◌, ◌<◌, take, length}
+use Rattle.std.proofs.Common.{◌<◌, take}
 use Rattle.std.specs.Prelude.{IfSome}
 use Rattle.gh_sat.specs.Status.{IsStatus}
 use Rattle.gh_sat.proofs.StatusLemmas.{status_from}

@@ -1,4 +1,4 @@
-use Rattle.std.proofs.Common.{◌≡◌, get_or, arith}
+use Rattle.std.proofs.Common.{get_or, arith}
 use Rattle.gh_sat.proofs.StatusLemmas.{nothing, row_is, row_range, row_within, in_at, shown_good}
 use Rattle.gh_sat.proofs.status.shows_open.Goals as goal
 

@@ -1,4 +1,4 @@
-use Rattle.std.proofs.Common.{rules, arith}
+use Rattle.std.proofs.Common.{rules}
 use Rattle.gh_sat.proofs.tests.level_with.Goals as goal
 
 pub add-requires : goal.add-requires

@@ -1,6 +1,7 @@
 use Rattle.std.proofs.Common.{◌≡◌, ◌∙◌, ◌+◌, ◌-◌, ◌≤◌, ap, inl, inr, arith, length, Some, None}
 use Rattle.std.specs.Prelude.{slice_get}
 use Rattle.gh_ast.specs.Plain.{program_of}
+use Rattle.gh_path.specs.Admitted.{most_terms, most_versions}
 use Rattle.gh_path.specs.Answers.{IsNumbered}
 use Rattle.gh_path.specs.Conditions.{conditions}
 use Rattle.gh_symb.specs.Limits.{HasTerms, HasVersions, Passes}
@@ -16,7 +17,7 @@ returns-in-Some-of_terms-clause-refused c =
     let place : k ≡ k + 1 - 1 = omega arith in
     let at : slice_get (conditions P) k ≡ Some found.0 = ap (slice_get (conditions P)) place ∙ found.2 in
     let many = many_terms P found.0 c.in_ok-passed.passed c.in-Some-of_terms.limit (c.in_ok-passed.ensures found.0 found.3) c.in-Some-of_terms.ensures in
-    inl (first_passed P (HasTerms P) (k + 1) 6 21 c.in-Some-of_terms.limit
+    inl (first_passed P (HasTerms P) (k + 1) 6 (most_terms + 1) c.in-Some-of_terms.limit
     (record { place = k; condition = found.0; within = omega arith; at = at; holds = many.0; limit = many.1; earlier = c.loop-place.invariant.few }))
 
 pub loop-place-preserved : goal.loop-place-preserved
@@ -40,7 +41,7 @@ returns-in-Some-late-clause-refused c =
     let count : c.count-place-end.result ≡ length (conditions P) = rw c.requires at c.count-place-end.ensures in
     let all : length (conditions P) ≤ k = omega (arith, count, c.loop-place-test.false) in
     let met : IsMet P k (Some c.in-Some-late.limit) = rw c.in-Some-late.is at c.loop-place.invariant.late in
-    inr (none_has P (HasTerms P) k all c.loop-place.invariant.few, first_passed P (HasVersions P) k 7 11 c.in-Some-late.limit met)
+    inr (none_has P (HasTerms P) k all c.loop-place.invariant.few, first_passed P (HasVersions P) k 7 (most_versions + 1) c.in-Some-late.limit met)
 
 pub returns-in-None-clause-terms : goal.returns-in-None-clause-terms
 returns-in-None-clause-terms c =

@@ -33,8 +33,8 @@ pub overflow_add-version : goal.overflow_add-version
 overflow_add-version c = let h = c.args.condition.now.steps.ok in
     omega (arith, c.loop-step.invariant.few, c.loop-step.auto.step-index-end, ap length c.as_slice-step-items.ensures.value, c.args.condition.now.steps.ok, c.args.condition.now.steps.small)
 
-pub returns-then-count-gt20 : goal.returns-then-count-gt20
-returns-then-count-gt20 c = λ d stands.
+pub returns-then-count-gt-MOST_TERMS : goal.returns-then-count-gt-MOST_TERMS
+returns-then-count-gt-MOST_TERMS c = λ d stands.
     let P = c.args.typed.now in
     let p = procedure_of c.index-procedure.result.now in
     let same : p ≡ d.procedure =
@@ -47,7 +47,7 @@ returns-then-count-gt20 c = λ d stands.
     let later = gone_on (program_of P) p c.step-item.result (drop (c.loop-step.step-index + 1) c.as_slice-step-items.result.now) d
     (state c.loop-step.kinds c.loop-step.scope c.loop-step.version) (state c.walk_step.new.kinds c.walk_step.new.self c.in_ok-version.version) now stepped in
     many (program_of P) p (drop (c.loop-step.step-index + 1) c.as_slice-step-items.result.now) d (state c.walk_step.new.kinds c.walk_step.new.self c.in_ok-version.version)
-    same later (omega (arith, c.if-count-gt20.true, c.count.ensures))
+    same later (omega (arith, c.if-count-gt-MOST_TERMS.true, c.count.ensures))
 
 pub loop-step-preserved : goal.loop-step-preserved
 loop-step-preserved c = record {

@@ -1,5 +1,5 @@
 use Rattle.std.proofs.Common.{◌≡◌, ◌∙◌, ap, inl}
-use Rattle.gh_ast.specs.Plain.{procedure_of, program_of}
+use Rattle.gh_ast.specs.Plain.{procedure_of}
 use Rattle.gh_symb.proofs.CountLemmas.{its_procedure}
 use Rattle.gh_symb.proofs.limits.passed_limit.Goals as goal
 

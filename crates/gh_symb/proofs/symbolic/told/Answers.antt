@@ -68,7 +68,6 @@ told-requires c =
     let d = c.requires.of.0 in
     let stands = c.requires.of.1 in
     let s = state c.loop-step.kinds c.loop-step.scope c.loop-step.version in
-    let t = state c.use_check.new.kinds c.use_check.new.self c.loop-step.version in
     let same : p ≡ d.procedure =
     its_procedure P c.program-program.result.now.procedures.items c.args.condition.now.procedure c.index-procedure.result.now d.procedure
     (ap (λ x. x.procedures.items) c.program-program.ensures.same) c.index-procedure.ensures stands.procedure in
@@ -76,19 +75,18 @@ told-requires c =
     let last : Follows (program_of P) p [] d s (bound_by c.loop-step.firsts) (map bound_by c.loop-step.states.items) c.loop-step.steps.items = rw none at (c.loop-step.invariant.left d stands) in
     let its : IsKind (program_of P) p c.args.condition.now.check.kind c.args.condition.now.check.span d.way.check =
     subst (λ q. IsKind (program_of P) q c.args.condition.now.check.kind c.args.condition.now.check.span d.way.check) (sym same) stands.check in
-    let used : t ≡ check_used d.way.check s = c.in_ok-use_check.ensures (program_of P) c.args.condition.now.check.span d.way.check its in
-    let learns : (x : Name) → bound_by c.learn-2.new.self x ≡ learned (s.bindings x) (t.bindings x) (bound_by c.loop-step.firsts x) =
+    let used : bound_by c.ask_check.new.self ≡ (check_used d.way.check s).bindings = (rw c.program-program.ensures.same at c.in_ok-check.ensures.used) c.args.condition.now.check.span d.way.check its in
+    let learns : (x : Name) → bound_by c.learn-2.new.self x ≡ learned (s.bindings x) (bound_by c.ask_check.new.self x) (bound_by c.loop-step.firsts x) =
     λ x. rw c.in_ok-before-2.ensures at (c.in_ok-learn-2.ensures x) in
-    let followed = ended (program_of P) p d s t (bound_by c.loop-step.firsts) (bound_by c.learn-2.new.self) (map bound_by c.loop-step.states.items) c.loop-step.steps.items last used learns in
+    let followed = ended (program_of P) p d s (bound_by c.ask_check.new.self) (bound_by c.loop-step.firsts) (bound_by c.learn-2.new.self) (map bound_by c.loop-step.states.items) c.loop-step.steps.items last used learns in
     let ends = (rw c.program-program.ensures.same at c.in_ok-check.ensures.ended) c.args.condition.now.check.span d.way.check its in
-    few_kinds (program_of P) p d s t (bound_by c.learn-2.new.self) (map bound_by c.loop-step.states.items ++ s.bindings ∷ []) c.loop-step.steps.items c.ask_check.new.kinds same followed used ends (c.requires.few d stands)
+    few_kinds (program_of P) p d s (bound_by c.learn-2.new.self) (map bound_by c.loop-step.states.items ++ s.bindings ∷ []) c.loop-step.steps.items c.ask_check.new.kinds c.loop-step.version same followed ends (c.requires.few d stands)
 
 pub returns : goal.returns
 returns c = λ d stands.
     let P = c.args.typed.now in
     let p = procedure_of c.index-procedure.result.now in
     let s = state c.loop-step.kinds c.loop-step.scope c.loop-step.version in
-    let t = state c.use_check.new.kinds c.use_check.new.self c.loop-step.version in
     let same : p ≡ d.procedure =
     its_procedure P c.program-program.result.now.procedures.items c.args.condition.now.procedure c.index-procedure.result.now d.procedure
     (ap (λ x. x.procedures.items) c.program-program.ensures.same) c.index-procedure.ensures stands.procedure in
@@ -96,19 +94,18 @@ returns c = λ d stands.
     let last : Follows (program_of P) p [] d s (bound_by c.loop-step.firsts) (map bound_by c.loop-step.states.items) c.loop-step.steps.items = rw none at (c.loop-step.invariant.left d stands) in
     let its : IsKind (program_of P) p c.args.condition.now.check.kind c.args.condition.now.check.span d.way.check =
     subst (λ q. IsKind (program_of P) q c.args.condition.now.check.kind c.args.condition.now.check.span d.way.check) (sym same) stands.check in
-    let used : t ≡ check_used d.way.check s = c.in_ok-use_check.ensures (program_of P) c.args.condition.now.check.span d.way.check its in
-    let learns : (x : Name) → bound_by c.learn-2.new.self x ≡ learned (s.bindings x) (t.bindings x) (bound_by c.loop-step.firsts x) =
+    let used : bound_by c.ask_check.new.self ≡ (check_used d.way.check s).bindings = (rw c.program-program.ensures.same at c.in_ok-check.ensures.used) c.args.condition.now.check.span d.way.check its in
+    let learns : (x : Name) → bound_by c.learn-2.new.self x ≡ learned (s.bindings x) (bound_by c.ask_check.new.self x) (bound_by c.loop-step.firsts x) =
     λ x. rw c.in_ok-before-2.ensures at (c.in_ok-learn-2.ensures x) in
-    let followed = ended (program_of P) p d s t (bound_by c.loop-step.firsts) (bound_by c.learn-2.new.self) (map bound_by c.loop-step.states.items) c.loop-step.steps.items last used learns in
+    let followed = ended (program_of P) p d s (bound_by c.ask_check.new.self) (bound_by c.loop-step.firsts) (bound_by c.learn-2.new.self) (map bound_by c.loop-step.states.items) c.loop-step.steps.items last used learns in
     let ends = (rw c.program-program.ensures.same at c.in_ok-check.ensures.ended) c.args.condition.now.check.span d.way.check its in
     let asks = (rw c.program-program.ensures.same at c.in_ok-check.ensures.says) c.args.condition.now.check.span d.way.check its in
-    let keeps = (rw c.program-program.ensures.same at c.in_ok-check.ensures.kept) c.args.condition.now.check.span d.way.check its in
     let begin = c.in_ok-start.ensures d.start (subst (λ q. IsStart q c.args.condition.now.start d.start) (sym same) stands.start) in
     let started : IsUnder c.in_ok-start.start (under d.start.meets no_terms) = rw (c.in_ok-kinds.ensures, c.new-scope.ensures) at begin.1 in
     let met : map bound_by c.push-2.new.self.items ≡ map bound_by c.loop-step.states.items ++ s.bindings ∷ [] =
     ap (map bound_by) c.in_ok-push-3.ensures.items ∙ map-append bound_by c.loop-step.states.items (c.in_ok-before-2.before ∷ [])
     ∙ ap (λ es. map bound_by c.loop-step.states.items ++ bound_by es ∷ []) c.in_ok-before-2.ensures in
-    is_symbolic (program_of P) p d s t (bound_by c.learn-2.new.self) (map bound_by c.loop-step.states.items ++ s.bindings ∷ []) c.ask_check.new.kinds _ same followed used refl ends asks keeps
+    is_symbolic (program_of P) p d s (bound_by c.learn-2.new.self) (map bound_by c.loop-step.states.items ++ s.bindings ∷ []) c.ask_check.new.kinds c.loop-step.version _ same followed ends asks
     c.in_ok-terms.ensures c.in_ok-versions.ensures started
     (subst (λ ms. Each IsBinding c.in_ok-bindings.bindings.items ms) (states_both (bound_by c.learn-2.new.self) c.push-2.new.self.items ∙ ap (map (λ b. both b (bound_by c.learn-2.new.self))) met)
     (rw c.as_slice.ensures.value at c.in_ok-bindings.ensures))

@@ -40,3 +40,11 @@ returns-in-LoopEnd c =
     (λ b w at k is.
     let e = subst (λ z. IsKind P (procedure_of c.args.scene.procedure.now) z at k) c.in-LoopEnd.is is in
     subst (λ z. IsTrue b ↔ Passes P z (state_of c.args.state.now)) (sym e.3) (w e.0 e.1 P)) c.is_loop_ended.ensures
+
+pub returns-in-Return : goal.returns-in-Return
+returns-in-Return c =
+    let P = program_of c.args.scene.typed.now in
+    IfOk-weaker c.is_returned.result _ _
+    (λ b w at k is.
+    let e = subst (λ z. IsKind P (procedure_of c.args.scene.procedure.now) z at k) c.in-Return.is is in
+    subst (λ z. IsTrue b ↔ Passes P z (state_of c.args.state.now)) (sym e) w) c.is_returned.ensures

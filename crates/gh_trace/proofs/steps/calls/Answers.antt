@@ -49,9 +49,9 @@ returns c =
     let es = c.args.arguments.now in
     let xs = c.args.targets.now in
     let gives : Give x.store x.heap es c.in-Some-2.given.items = subst (λ o. IfSome o (λ vs. Give x.store x.heap es vs.items)) c.in-Some-2.is c.in_ok-given.ensures.all in
-    IfOk-weaker c.is_replaced.result _ _
+    IfOk-weaker c.is_answered.result _ _
     (λ b w f callee.
     let call : IsCall P c.args.callee f q es x c.as_slice-4.result.now = record { at = c.in-Some.ensures.some; callee = callee; gives = subst (λ vs. Give x.store x.heap es vs) (sym c.as_slice-4.ensures.value) gives } in
     let r = calls_where P c.args.callee f q xs es x y c.as_slice-4.result.now (store_of c.in_ok-inside.inside) call c.in-Some.ensures.own c.in_ok-inside.ensures.given
     (c.in_ok-inside.ensures.results ∙ c.as_slice-5.ensures.value ∙ c.in_ok-results.ensures) (c.keeps.ensures.0 c.if-not-keeps.false) in
-    (λ t. r.0 (w.0 t), λ takes. w.1 (r.1 takes))) (rw c.ensured.ensures at c.is_replaced.ensures)
+    (λ t. r.0 (w.0 t), λ takes. w.1 (r.1 takes))) c.is_answered.ensures

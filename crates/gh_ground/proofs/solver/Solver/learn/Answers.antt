@@ -1,7 +1,8 @@
-use Rattle.std.proofs.Common.{◌∙◌, ap}
+use Rattle.std.proofs.Common.{◌∙◌, ◌+◌, ap, map, refl}
 use Rattle.gh_sat.specs.Trail.{State, cut}
 use Rattle.gh_sat.proofs.MeasureLemmas.{turn_learnt}
-use Rattle.gh_ground.proofs.KeptLemmas.{keeps_learnt, keeps_then}
+use Rattle.gh_log.specs.declared.lines.LogLine.TheVariants as line
+use Rattle.gh_ground.proofs.KeptLemmas.{IsHintedLine, keeps_learnt, keeps_then}
 use Rattle.gh_ground.proofs.solver.Solver.learn.Goals as goal
 
 pub returns-clause-less : goal.returns-clause-less
@@ -18,6 +19,10 @@ returns-clause-keeps c =
     let mid = c.backjump.new.self in
     let lines = c.push.new.self.items in
     let l = c.in_ok-learnt.learnt in
+    let hints = c.in_ok-hints.hints in
+    let reasons = l.reasons.items in
     let is = c.backjump.ensures ∙ ap (λ (t : State). cut t l.level) c.in_ok-learnt.ensures.added in
+    let hinted : IsHintedLine l.clause (map (λ k. k + 1) reasons) (line.Hinted l.clause hints) = (hints, refl, c.in_ok-hints.ensures ∙ ap (map (λ k. k + 1)) c.as_slice.ensures.value) in
     keeps_then old.search mid new.search old.lines.items lines new.lines.items
-    (keeps_learnt old.search mid old.lines.items lines c.args.conflict l.clause l.level l.unit c.requires.sound c.in_ok-learnt.ensures.learnt is c.in_ok-push.ensures.items) c.in_ok-next.ensures.keeps
+    (keeps_learnt old.search mid old.lines.items lines c.args.conflict l.clause l.level l.unit reasons (line.Hinted l.clause hints) c.requires.sound c.in_ok-learnt.ensures.learnt c.in_ok-learnt.ensures.reasons is hinted
+    c.in_ok-push.ensures.items) c.in_ok-next.ensures.keeps

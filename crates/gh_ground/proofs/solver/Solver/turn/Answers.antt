@@ -1,8 +1,7 @@
 use Rattle.std.proofs.Common.{Option, ℕ, sym, subst, arith}
 use Rattle.std.specs.Prelude.{IfNone}
 use Rattle.gh_ground.specs.Kept.{IsAnswered, IsEnded}
-use Rattle.gh_ground.proofs.KeptLemmas.{answered_some}
-use Rattle.gh_ground.proofs.UnitsLemmas.{empty_follows}
+use Rattle.gh_ground.proofs.KeptLemmas.{answered_some, none_left}
 use Rattle.gh_ground.proofs.solver.Solver.turn.Goals as goal
 
 pub decide-requires : goal.decide-requires
@@ -18,4 +17,4 @@ learn-requires-clause-conflict c = answered_some c.args.self.now.search c.args.a
 pub returns-then-level-eq0-clause-ended : goal.returns-then-level-eq0-clause-ended
 returns-then-level-eq0-clause-ended c =
     let s = c.args.self.now.search in
-    subst (IsEnded s) (sym c.in-Some.is) (empty_follows s c.in-Some.conflict c.requires.sound (answered_some s c.args.answer c.in-Some.conflict c.requires c.in-Some.is) (omega arith))
+    subst (IsEnded s) (sym c.in-Some.is) (record { conflict = answered_some s c.args.answer c.in-Some.conflict c.requires c.in-Some.is; first = none_left s.starts (omega arith) })

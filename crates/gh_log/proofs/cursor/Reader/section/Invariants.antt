@@ -6,7 +6,7 @@ use Rattle.gh_log.proofs.cursor.Reader.section.Given as goal
 abbrev pub invariant-lines : goal.invariant-lines
 invariant-lines l = record {
   front : l.fn.self.rest.now ≡ section_text l.fn.number l.lines.items ++ l.self.rest.now;
-  spelled : All IsSpelledLine l.lines.items;
+  spelled : All (IsSpelledLine l.version) l.lines.items;
 }
 
 abbrev pub decreases-lines : goal.decreases-lines

@@ -1,11 +1,10 @@
-use Rattle.std.proofs.Common.{[], ◌∷◌, ◌++◌, ◌∙◌, map, ap, refl}
-use Rattle.gh_ast.specs.Plain.{formula_of}
+use Rattle.std.proofs.Common.{refl}
 use Rattle.gh_ast.specs.Tokens.{first_place}
 use Rattle.gh_parse.specs.Stops.{any}
 use Rattle.gh_parse.proofs.Rules.{form, first, next, after, each, ends_tok, ends_seq}
 use Rattle.gh_parse.proofs.Exits.{exit, missing}
 use Rattle.gh_parse.proofs.ValueForms.{a_name}
-use Rattle.gh_parse.proofs.AssertionForms.{exact_clause, ends_clause}
+use Rattle.gh_parse.proofs.AssertionForms.{exact_clause, exact_ensures, ends_ensures}
 use Rattle.gh_parse.proofs.ProcedureForms.{make_procedure, part_procedure, in_header, exact_header, exact_results, ends_results, ends_end, ends_after_results, ends_after_bracket, headed, procedure_spelled}
 use Rattle.gh_parse.proofs.cursor.Parser.procedure.Goals as goal
 
@@ -37,7 +36,7 @@ pub returns-in_err-needs : goal.returns-in_err-needs
 returns-in_err-needs c =
     exit _ _ _
     (λ s. in_header c.in_ok-expect_key.ensures c.in_ok-name.ensures c.in_ok-expect_sign.ensures
-    (next (each exact_header) (any c.in_ok-parameters.ensures) (next (each exact_results) (any c.in_ok-results.ensures) (first (ends_seq (ends_clause (λ p. refl)) ends_end) s))))
+    (next (each exact_header) (any c.in_ok-parameters.ensures) (next (each exact_results) (any c.in_ok-results.ensures) (first (ends_seq ends_ensures ends_end) s))))
     c.in_err-needs.ensures c.from_residual-in_err-needs.ensures.1
 
 pub returns-in_err-gives : goal.returns-in_err-gives
@@ -46,7 +45,7 @@ returns-in_err-gives c =
     (λ s. in_header c.in_ok-expect_key.ensures c.in_ok-name.ensures c.in_ok-expect_sign.ensures
     (next (each exact_header) (any c.in_ok-parameters.ensures)
     (next (each exact_results) (any c.in_ok-results.ensures) (next (exact_clause (λ p. refl)) (any c.in_ok-needs.ensures) (first ends_end s)))))
-    c.in_err-gives.ensures c.from_residual-in_err-gives.ensures.1
+    c.in_err-gives.ensures.read c.from_residual-in_err-gives.ensures.1
 
 pub returns-in_err-ending : goal.returns-in_err-ending
 returns-in_err-ending c =
@@ -54,10 +53,9 @@ returns-in_err-ending c =
     (λ s. in_header c.in_ok-expect_key.ensures c.in_ok-name.ensures c.in_ok-expect_sign.ensures
     (next (each exact_header) (any c.in_ok-parameters.ensures)
     (next (each exact_results) (any c.in_ok-results.ensures)
-    (next (exact_clause (λ p. refl)) (any c.in_ok-needs.ensures) (next (exact_clause (λ p. refl)) (any c.in_ok-gives.ensures) s)))))
+    (next (exact_clause (λ p. refl)) (any c.in_ok-needs.ensures) (next exact_ensures (any c.in_ok-gives.ensures.read) s)))))
     c.in_err-ending.ensures c.from_residual-in_err-ending.ensures.1
 
 pub returns : goal.returns
 returns c =
-    procedure_spelled (headed c.in_ok-expect_key.ensures c.in_ok-name.ensures c.in_ok-expect_sign.ensures) c.in_ok-parameters.ensures c.in_ok-results.ensures c.in_ok-needs.ensures c.in_ok-gives.ensures c.in_ok-ending.ensures
-    (ap (map formula_of) (c.in_ok-push.ensures.items ∙ ap (λ fs. fs ++ c.in_ok-gives.gives ∷ []) c.new-alternatives.ensures.items))
+    procedure_spelled (headed c.in_ok-expect_key.ensures c.in_ok-name.ensures c.in_ok-expect_sign.ensures) c.in_ok-parameters.ensures c.in_ok-results.ensures c.in_ok-needs.ensures c.in_ok-gives.ensures.read c.in_ok-ending.ensures

@@ -1,6 +1,5 @@
-use Rattle.std.proofs.Common.{◌≡◌, ◌≤◌, ◌∙◌, ap, map, length, arith, ◌*◌, min}
+use Rattle.std.proofs.Common.{◌≡◌, ◌∙◌, ap, map, arith}
 use Rattle.gh_ast.specs.Plain.{program_of}
-use Rattle.gh_path.specs.Conditions.{conditions}
 use Rattle.gh_path.specs.Counting.{procedure_ahead, all_counts}
 use Rattle.gh_path.proofs.PassedLemmas.{together, bounded}
 use Rattle.gh_path.proofs.conditions.Conditions.new.Goals as goal

@@ -1,8 +1,7 @@
 use Rattle.std.proofs.Common.{refl, sym, ap, ◌∙◌, arith, subst, ◌≡◌, ◌+◌, ◌-◌, min, length, take, drop, ◌++◌}
-use Rattle.std.specs.Prelude.{Some, None}
 use Rattle.gh_ast.specs.Plain.{program_of, procedure_of, test_of, formula_of, statement_of, statements_view, part_of}
 use Rattle.gh_ast.proofs.PlainLemmas.{statement_of-New, statement_of-While}
-use Rattle.gh_path.specs.Graphs.{all_lowered, loops, all_loops, made, moves, while}
+use Rattle.gh_path.specs.Graphs.{all_lowered, loops, all_loops, made, while}
 use Rattle.gh_path.specs.Counting.{ahead}
 use Rattle.gh_path.specs.Walking.{AreNumbered}
 use Rattle.gh_path.specs.declared.walker.Turn.TheVariants.{Arrived, Yes, No}

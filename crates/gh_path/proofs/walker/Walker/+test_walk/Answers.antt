@@ -1,5 +1,5 @@
-use Rattle.std.proofs.Common.{refl, sym, ap, ◌∙◌, arith}
-use Rattle.gh_ast.specs.Plain.{negation, program_of, procedure_of, test_of, tests_view}
+use Rattle.std.proofs.Common.{sym, ap, ◌∙◌, arith}
+use Rattle.gh_ast.specs.Plain.{negation, program_of, procedure_of, test_of}
 use Rattle.gh_ast.proofs.PlainLemmas.{test_of-Compare, test_of-Not}
 use Rattle.gh_path.proofs.TurnLemmas.{turned, not_turns, left_ends, right_ends, compares, all_turns, some_turns}
 use Rattle.gh_path.proofs.walker.Walker.+test_walk.Goals as goal

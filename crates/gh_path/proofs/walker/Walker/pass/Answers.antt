@@ -1,4 +1,4 @@
-use Rattle.std.proofs.Common.{sym, ap, refl, arith, subst, ◌-◌, ◌<◌}
+use Rattle.std.proofs.Common.{sym, refl, arith, subst, ◌-◌, ◌<◌}
 use Rattle.gh_ast.specs.Plain.{program_of, procedure_of, test_of}
 use Rattle.gh_path.specs.Kept.{IsLoop}
 use Rattle.gh_path.proofs.WalkLemmas.{pushed_after, no_way}

@@ -1,4 +1,4 @@
-use Rattle.std.proofs.Common.{arith, ◌+◌, ◌≡◌, drop, ◌∷◌, subst}
+use Rattle.std.proofs.Common.{arith, ◌+◌, drop, ◌∷◌, subst}
 use Rattle.gh_ast.specs.Plain.{program_of, procedure_of}
 use Rattle.gh_path.specs.Graphs.{Graph, reads, all_reads}
 use Rattle.gh_path.specs.Walking.{IsOn}

@@ -1,4 +1,4 @@
-use Rattle.std.proofs.Common.{sym, ap, ◌∙◌, refl}
+use Rattle.std.proofs.Common.{sym, ap, ◌∙◌}
 use Rattle.gh_ast.specs.Plain.{program_of, procedure_of}
 use Rattle.gh_path.specs.Graphs.{reads, moves, assigned}
 use Rattle.gh_path.proofs.WalkLemmas.{ended, came, goes}

@@ -1,4 +1,4 @@
-use Rattle.std.proofs.Common.{refl, sym, ap, arith, ◌≡◌, ◌-◌}
+use Rattle.std.proofs.Common.{refl, sym, ap, arith, ◌-◌}
 use Rattle.gh_ast.specs.Plain.{program_of, procedure_of}
 use Rattle.gh_path.specs.Graphs.{accessed, access}
 use Rattle.gh_path.proofs.WalkLemmas.{goes_past, pushed_after}

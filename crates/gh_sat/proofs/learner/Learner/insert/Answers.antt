@@ -6,7 +6,7 @@ use Rattle.gh_sat.specs.Trail.{State}
 use Rattle.gh_sat.specs.Watch.{WasOpen, clauses_of}
 use Rattle.gh_sat.specs.Whole.{IsWhole}
 use Rattle.gh_sat.specs.Rows.{rows_of}
-use Rattle.gh_sat.proofs.WholeLemmas.{rows_push, rows_sized}
+use Rattle.gh_sat.proofs.WholeLemmas.{rows_push}
 use Rattle.std.proofs.Common.{◌++◌, ◌∷◌, [], ◌∙◌}
 use Rattle.gh_sat.specs.contracts.learner.Learner.{the_view}
 use Rattle.gh_sat.proofs.WholeLemmas.{whole_add, whole_lists}

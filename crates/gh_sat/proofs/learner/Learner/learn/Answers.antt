@@ -1,4 +1,4 @@
-use Rattle.std.proofs.Common.{◌≡◌, ◌<◌, ◌≤◌, ◌+◌, ◌-◌, ◌∙◌, ◌++◌, ◌∷◌, [], ℕ, List, arith, sym, ap, subst, refl, get_or, length, Some, None, inl, inr, Contains}
+use Rattle.std.proofs.Common.{◌≡◌, ◌<◌, ◌≤◌, ◌+◌, ◌-◌, ◌∙◌, ◌++◌, ◌∷◌, [], ℕ, List, arith, sym, ap, subst, refl, get_or, length, drop, Some, None, inl, inr, Contains}
 use Rattle.std.specs.Prelude.{slice_get}
 use Rattle.std.proofs.lemmas.Bool.{cases_lt}
 use Rattle.std.proofs.lemmas.Option.{get_or_from_slice_get, slice_get_read}
@@ -7,11 +7,12 @@ use Rattle.gh_base.specs.Atoms.{opposite, AreInRange}
 use Rattle.gh_sat.specs.declared.trail.Step.{Step}
 use Rattle.gh_sat.specs.Trail.{Line, State, IsSound, IsFalseIn}
 use Rattle.gh_sat.specs.Watch.{WasOpen}
-use Rattle.gh_sat.specs.Learn.{Marking, HaveReasons, IsConflict, IsLearnt, marks_of, IsLeft}
+use Rattle.gh_sat.specs.Learn.{Marking, HaveReasons, IsConflict, IsLearnt, AreReasons, marks_of, reasons_of, IsLeft}
 use Rattle.gh_sat.specs.contracts.learner.Learner.{the_view}
 use Rattle.gh_sat.proofs.ListLemmas.{get_within, le_along}
 use Rattle.gh_sat.proofs.StatusLemmas.{nothing}
 use Rattle.gh_sat.proofs.LearnLemmas.{have_reasons, learnt, was_open, false_in_range}
+use Rattle.gh_sat.proofs.ReasonLemmas.{learnt_shows}
 use Rattle.gh_sat.proofs.learner.Learner.learn.Goals as goal
 
 -- what is known once the present level's start and the clause are read
@@ -98,6 +99,18 @@ made s m k start place lits steps u clause h b at p same is e =
     (subst (λ w. IsLearnt s k (m.lower ++ w ∷ []) m.level w) unit
     (learnt s lits m place b.last h here b.long p k (b.conflict.at ∙ ap Some b.same) (subst (IsFalseIn s.trail) b.same b.conflict.is_false)))
 
+-- and its reasons
+made_reasons : (s : State) (m : Marking) (k start place : ℕ) (lits : List Lit) (steps : List Step) (u : Lit) (clause : List Lit) (reasons : List ℕ)
+    → IsSound s → Begun s k start lits → m.start ≡ start → IsLeft s.clauses s.trail lits m place → steps ≡ s.trail → u ≡ opposite (get_or steps place no_step).lit
+    → clause ≡ m.lower ++ u ∷ [] → reasons ≡ reasons_of m.round (drop (place + 1) m.stamps) (drop (place + 1) s.trail) ++ k ∷ [] → AreReasons s.clauses reasons clause
+made_reasons s m k start place lits steps u clause reasons h b at p same is e all =
+    let here : slice_get s.starts b.last ≡ Some m.start = b.here ∙ ap Some (sym at) in
+    let unit : opposite p.step.lit ≡ u = ap (λ (x : Step). opposite x.lit) (sym (get_or_from_slice_get s.trail place p.step no_step p.at)) ∙ ap (λ (t : List Step). opposite (get_or t place no_step).lit) (sym same) ∙ sym is in
+    let whole : m.lower ++ opposite p.step.lit ∷ [] ≡ clause = ap (λ w. m.lower ++ w ∷ []) unit ∙ sym e in
+    subst (λ (ks : List ℕ). AreReasons s.clauses ks clause) (sym all)
+    (subst (AreReasons s.clauses (reasons_of m.round (drop (place + 1) m.stamps) (drop (place + 1) s.trail) ++ k ∷ [])) whole
+    (learnt_shows s lits m place b.last k h here b.long p (b.conflict.at ∙ ap Some b.same) (subst (IsFalseIn s.trail) b.same b.conflict.is_false)))
+
 pub bounds-steps-place : goal.bounds-steps-place
 bounds-steps-place c =
     let p = left (the_view c.self.inside) c.as_slice.result.now c.lits.result.now (marks_of c.resolve.new.marks) c.in_ok-place.place c.as_slice.ensures.value c.in_ok-place.ensures.point in
@@ -137,3 +150,14 @@ returns-clause-learnt c =
     let r = made s m c.args.conflict c.index.result.now c.in_ok-place.place c.lits.result.now c.steps-2.result.now c.negated-unit.result c.in_ok-clause.clause i.0.sound b (c.in_ok-place.ensures.start ∙ c.begin.ensures.start) p c.steps-2.ensures.steps c.negated-unit.ensures
     (c.in_ok-clause.ensures ∙ c.as_slice-2.ensures.value ∙ c.in_ok-push.ensures.items) in
     subst (λ (t : State). IsLearnt t c.args.conflict c.in_ok-clause.clause m.level c.negated-unit.result) c.self.view_is r
+
+pub returns-clause-reasons : goal.returns-clause-reasons
+returns-clause-reasons c =
+    let s = the_view c.self.inside in
+    let i = c.self.invariant in
+    let b = begun s c.args.self.now c.args.conflict c.len.result c.index.result.now c.index-2.result.now c.lits.result.now i.0.sound c.self.view_is c.requires.conflict c.requires.level (omega arith) c.index.ensures c.index-2.ensures c.lits.ensures in
+    let m = marks_of c.resolve.new.marks in
+    let p = left s c.as_slice.result.now c.lits.result.now m c.in_ok-place.place c.as_slice.ensures.value c.in_ok-place.ensures.point in
+    let r = made_reasons s m c.args.conflict c.index.result.now c.in_ok-place.place c.lits.result.now c.steps-2.result.now c.negated-unit.result c.in_ok-clause.clause c.in_ok-reasons.reasons.items i.0.sound b
+    (c.in_ok-place.ensures.start ∙ c.begin.ensures.start) p c.steps-2.ensures.steps c.negated-unit.ensures (c.in_ok-clause.ensures ∙ c.as_slice-2.ensures.value ∙ c.in_ok-push.ensures.items) c.in_ok-reasons.ensures in
+    subst (λ (t : State). AreReasons t.clauses c.in_ok-reasons.reasons.items c.in_ok-clause.clause) c.self.view_is r

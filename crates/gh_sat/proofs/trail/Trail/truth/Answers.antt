@@ -1,4 +1,4 @@
-use Rattle.std.proofs.Common.{◌≡◌, ◌<◌, subst, sym, ap, length, Some, None, Bool, arith}
+use Rattle.std.proofs.Common.{◌≡◌, ◌<◌, subst, ap, length, Some, None, arith}
 use mathlib.Core.Bool.{beq}
 use Rattle.gh_base.specs.declared.atom.Lit.{Lit}
 use Rattle.gh_base.specs.Atoms.{IsInRange}

@@ -1,37 +1,37 @@
-use Rattle.std.proofs.Common.{◌≡◌, ◌∙◌, ap, refl}
+use Rattle.std.proofs.Common.{◌≡◌, ◌∙◌, ap, subst, Some}
 use Rattle.gh_ast.specs.Plain.{procedure_of}
-use Rattle.gh_path.specs.Terms.{Terms, exprs_terms, rebound, bound_inside, walked, terms}
+use Rattle.gh_path.specs.Terms.{Terms, exprs_used, exprs_terms, walked, rebound, bound_inside, terms}
+use Rattle.gh_symb.specs.Steps.{EndsWith}
+use Rattle.gh_symb.specs.Symbolic.{needs_under}
 use Rattle.gh_symb.specs.Tables.{bound_by, state}
+use Rattle.gh_symb.specs.Told.{IsTermCheck}
+use Rattle.gh_symb.specs.declared.over_terms.TermCheck.TheVariants as check
 use Rattle.gh_symb.proofs.SayLemmas.{entry_says}
 use Rattle.gh_symb.proofs.scope.Scope.ask_callee.Goals as goal
-
-pub returns-clause-kept : goal.returns-clause-kept
-returns-clause-kept c =
-    let v = c.args.version in
-    let p = procedure_of c.args.callee.now in
-    let s = state c.args.kinds.now c.args.self.now v in
-    let binds : bound_by c.bind_all.new.self ≡ bound_inside p (exprs_terms c.args.arguments.now s) =
-    rw (c.new-inside.ensures, c.as_slice.ensures.value, c.as_slice-2.ensures.value, c.in_ok-terms.ensures) at c.in_ok-bind_all.ensures in
-    ap (λ (q : Terms). q.version) (c.in_ok-walk.ensures ∙ ap (λ b. walked p.needs (terms c.args.kinds.now b v)) binds)
 
 pub returns-clause-ended : goal.returns-clause-ended
 returns-clause-ended c =
     let v = c.args.version in
     let p = procedure_of c.args.callee.now in
-    let s = state c.args.kinds.now c.args.self.now v in
-    let binds : bound_by c.bind_all.new.self ≡ bound_inside p (exprs_terms c.args.arguments.now s) =
+    let es = c.args.arguments.now in
+    let t = state c.use_exprs.new.kinds c.use_exprs.new.self v in
+    let used : t ≡ exprs_used es (state c.args.kinds.now c.args.self.now v) = c.in_ok-use_exprs.ensures in
+    let binds : bound_by c.bind_all.new.self ≡ bound_inside p (exprs_terms es t) =
     rw (c.new-inside.ensures, c.as_slice.ensures.value, c.as_slice-2.ensures.value, c.in_ok-terms.ensures) at c.in_ok-bind_all.ensures in
-    ap (λ (q : Terms). q.kinds) (c.in_ok-walk.ensures ∙ ap (λ b. walked p.needs (terms c.args.kinds.now b v)) binds)
+    let walks = c.in_ok-bound.ensures.made ∙ ap (λ b. walked p.needs (terms c.use_exprs.new.kinds b v)) binds in
+    subst (λ (q : Terms). EndsWith (walked p.needs (rebound q (bound_inside p (exprs_terms es q)))) c.walk_bound.new.kinds v) used
+    (record { kinds_are = ap (λ (q : Terms). q.kinds) walks; version_is = ap (λ (q : Terms). q.version) walks })
 
 pub returns-clause-says : goal.returns-clause-says
 returns-clause-says c =
     let v = c.args.version in
     let p = procedure_of c.args.callee.now in
-    let s = state c.args.kinds.now c.args.self.now v in
-    let ts = exprs_terms c.args.arguments.now s in
-    let i = state c.args.kinds.now c.bind_all.new.self v in
-    let n = state c.walk.new.kinds c.walk.new.self v in
+    let es = c.args.arguments.now in
+    let t = state c.use_exprs.new.kinds c.use_exprs.new.self v in
+    let used : t ≡ exprs_used es (state c.args.kinds.now c.args.self.now v) = c.in_ok-use_exprs.ensures in
+    let ts = exprs_terms es t in
+    let i = state c.use_exprs.new.kinds c.bind_all.new.self v in
     let binds : bound_by c.bind_all.new.self ≡ bound_inside p ts =
     rw (c.new-inside.ensures, c.as_slice.ensures.value, c.as_slice-2.ensures.value, c.in_ok-terms.ensures) at c.in_ok-bind_all.ensures in
-    let enters : i ≡ rebound s (bound_inside p ts) = ap (λ b. terms c.args.kinds.now b v) binds in
-    entry_says p ts s i n c.in_ok-bound.bound enters c.in_ok-walk.ensures refl c.in_ok-bound.ensures
+    let enters : i ≡ rebound t (bound_inside p ts) = ap (λ b. terms c.use_exprs.new.kinds b v) binds in
+    subst (λ (q : Terms). IsTermCheck (check.Sub c.in_ok-bound.bound) (needs_under (Some p) (exprs_terms es q) q)) used (entry_says p ts t i c.in_ok-bound.bound enters c.in_ok-bound.ensures.says)

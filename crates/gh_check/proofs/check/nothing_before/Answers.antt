@@ -1,0 +1,12 @@
+use Rattle.std.proofs.Common.{◌∙◌, ap}
+use Rattle.gh_check.specs.Truths.{TruthSet}
+use Rattle.gh_check.proofs.KeptLemmas.{kept_first}
+use Rattle.gh_check.proofs.check.nothing_before.Goals as goal
+
+pub returns-clause-ready : goal.returns-clause-ready
+returns-clause-ready c =
+    record {
+      within = (kept_first c.args.ground.now c.in_ok-kept.kept c.in_ok-kept.ensures).within;
+      behind = c.new-3.ensures c.args.ground.now.sizes c.in_ok-kept.kept.clauses;
+      truths = ap (λ (t : TruthSet). t.sizes) c.in_ok-truths.ensures ∙ c.sizes.ensures.sizes;
+    }

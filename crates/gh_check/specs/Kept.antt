@@ -1,0 +1,64 @@
+-- What is kept of the lines before: their clauses by their positions, and which positions a line deletes.
+use Rattle.std.specs.Prelude.{◌≡◌, ◌≢◌, ◌↔◌, ◌&&◌, ℕ, List, [], ◌∷◌, ◌++◌, map, filter_map, Bool, false, not, Option, Some, None, All, AllPairs, Contains, IsTrue, is_some, unwrap_or, slice_index_or}
+use Rattle.gh_base.specs.declared.atom.Lit.{Lit}
+use Rattle.gh_base.specs.declared.sizes.Sizes.{Sizes}
+use Rattle.gh_base.specs.Atoms.{AreInRange}
+use Rattle.gh_base.specs.Grounds.{Problem}
+use Rattle.gh_log.specs.declared.lines.LogLine.{LogLine}
+use Rattle.gh_log.specs.Sections.{line_clause, Deletes}
+
+-- what callers see of `Positions`, by position. Position 0 is that of no line
+pub record Kept : Type 0 where
+  pub clauses : List (Option (List Lit))
+  pub deleted : List Bool
+
+-- before the first line
+abbrev pub no_line : Kept
+no_line = record { clauses = None ∷ []; deleted = false ∷ [] }
+
+-- with one more line, by its clause, if it has one
+abbrev pub with_line : Kept → Option (List Lit) → Kept
+with_line k clause = record { clauses = k.clauses ++ clause ∷ []; deleted = k.deleted ++ false ∷ [] }
+
+-- no line deletes the position
+abbrev pub IsLeft : Kept → ℕ → Type 0
+IsLeft k position = slice_index_or k.deleted position false ≡ false
+
+-- there is a clause at the position, and the position isn't deleted
+abbrev pub stands_in : Kept → ℕ → Bool
+stands_in k position = is_some (slice_index_or k.clauses position None) && not (slice_index_or k.deleted position false)
+
+-- the clause at the position, and the empty one where there is none
+abbrev pub clause_at : Kept → ℕ → List Lit
+clause_at k position = unwrap_or (slice_index_or k.clauses position None) []
+
+-- the clauses at the positions
+abbrev pub named : Kept → List ℕ → List (List Lit)
+named k positions = map (clause_at k) positions
+
+abbrev pub IsWithin : Sizes → Option (List Lit) → Type 0
+IsWithin s entry = (c : List Lit) → entry ≡ Some c → AreInRange s c
+
+-- each clause that is kept is in range
+abbrev pub AreWithin : Sizes → List (Option (List Lit)) → Type 0
+AreWithin s entries = All (IsWithin s) entries
+
+-- the clauses that are there
+abbrev pub present : List (Option (List Lit)) → List (List Lit)
+present entries = filter_map (λ o. o) entries
+
+-- some positions were deleted besides
+pub record AreDeleted (old new : Kept) (positions : List ℕ) : Type 0 where
+  pub clauses : new.clauses ≡ old.clauses
+  pub deleted : (k : ℕ) → IsLeft new k ↔ (IsLeft old k × (Contains positions k → ⊥))
+
+-- the positions stand, and are distinct
+pub record MayBeDeleted (k : Kept) (positions : List ℕ) : Type 0 where
+  pub stand : All (λ position. IsTrue (stands_in k position)) positions
+  pub distinct : AllPairs ◌≢◌ positions
+
+-- this is kept of some lines
+pub record IsKept (p : Problem) (lines : List LogLine) (k : Kept) : Type 0 where
+  pub clauses : k.clauses ≡ None ∷ map (line_clause p) lines
+  pub stand : (position : ℕ) → IsLeft k position ↔ All (λ l. Deletes l position → ⊥) lines
+  pub within : AreWithin p.sizes k.clauses

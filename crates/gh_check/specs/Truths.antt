@@ -1,0 +1,48 @@
+-- Truths of literals, as a set and in a table, and what a clause is under them.
+use Rattle.std.specs.Prelude.{List, Option, Some, None, Bool, true, false, All, Contains, map}
+use Rattle.gh_base.specs.declared.atom.Lit.{Lit}
+use Rattle.gh_base.specs.declared.sizes.Sizes.{Sizes}
+use Rattle.gh_base.specs.Atoms.{opposite, IsInRange, AreInRange}
+use Rattle.gh_base.specs.Assignments.{Partial, value_of}
+use Rattle.gh_base.specs.Hints.{HasAllButOne}
+use Rattle.gh_check.specs.declared.hints.Look.{Look}
+use Rattle.gh_check.specs.declared.hints.Look.TheVariants.{False, Unit as One, Open}
+
+-- what callers see of `Truths`: the literals that are true
+pub record TruthSet : Type 0 where
+  pub sizes : Sizes
+  pub lits : List Lit
+
+-- the truth of a literal where a set of literals is true
+abbrev pub IsValueIn : List Lit → Lit → Option Bool → Type 0
+IsValueIn set l (Some true) = Contains set l
+IsValueIn set l (Some false) = Contains set (opposite l)
+IsValueIn set l None = (Contains set l → ⊥) × (Contains set (opposite l) → ⊥)
+
+-- no literal and its opposite
+abbrev pub IsConsistent : List Lit → Type 0
+IsConsistent set = (l : Lit) → Contains set l → Contains set (opposite l) → ⊥
+
+-- the table has the truths of a set that has no literal and its opposite
+pub record IsTable (table : Partial) (set : List Lit) : Type 0 where
+  pub range : AreInRange table.sizes set
+  pub apart : IsConsistent set
+  pub tells : (l : Lit) → IsInRange table.sizes l.atom → IsValueIn set l (value_of table l)
+
+-- the set has the opposites of all literals
+abbrev pub IsFalseBy : List Lit → List Lit → Type 0
+IsFalseBy set clause = All (λ m. Contains set (opposite m)) clause
+
+-- a literal of the clause that isn't false
+abbrev pub IsOpenIn : List Lit → List Lit → Lit → Type 0
+IsOpenIn set clause l = Contains clause l × (Contains set (opposite l) → ⊥)
+
+-- a literal and its opposite are among those that make the clause false
+abbrev pub HasOpposites : List Lit → Type 0
+HasOpposites clause = (l : Lit) × Contains (map opposite clause) l × Contains (map opposite clause) (opposite l)
+
+-- what a clause is, as the set of its literals
+abbrev pub IsLook : List Lit → List Lit → Look → Type 0
+IsLook set clause False = IsFalseBy set clause
+IsLook set clause (One l) = HasAllButOne set clause l
+IsLook set clause Open = (IsFalseBy set clause → ⊥) × ((l : Lit) → HasAllButOne set clause l → ⊥)

@@ -1,0 +1,214 @@
+//! Unit propagation along hints.
+
+ghost use Rattle.std.specs.Prelude.{◌≡◌, ◌≢◌, ◌⊎◌, ◌↔◌, ◌∷◌, ◌++◌, [], List, map, false, Some, None, All, Contains, IfOk, OnOk, IsTrue, MatchOption};
+ghost use Rattle.gh_base.specs.declared.atom.Lit.{Lit};
+ghost use Rattle.gh_base.specs.Atoms.{opposite, IsInRange, AreInRange};
+ghost use Rattle.gh_base.specs.Assignments.{value_of};
+ghost use Rattle.gh_base.specs.Hints.{IsRefutedByHints, IsShownByHints};
+ghost use Rattle.gh_base.specs.Propagation.{FollowsByUnits};
+ghost use Rattle.gh_check.specs.Kept.{named, AreWithin};
+ghost use Rattle.gh_check.specs.Truths.{IsTable, IsConsistent, IsFalseBy, IsOpenIn, HasOpposites, IsLook};
+
+use crate::positions::Positions;
+use gh_base::assignment::Assignment;
+use gh_base::atom::Lit;
+use gh_base::sizes::Sizes;
+use std::alloc::{AllocError, Global};
+use std::marker::Model;
+
+/// What a clause is under some truths.
+#[derive(Clone, Copy)]
+pub enum Look {
+    /// Each literal is false.
+    False,
+    /// Each literal but this one is false.
+    Unit(Lit),
+    /// Two literals aren't false.
+    Open,
+}
+
+/// The literals that are true: a table by atom, and a list by which the table is cleared.
+#[derive(Drop)]
+pub struct Truths {
+    table: Assignment,
+    lits: Vec<Lit>,
+}
+
+impl Model for Truths {
+    ghost use Rattle.gh_check.specs.Truths.{TruthSet, IsTable};
+
+    ghost Value = { TruthSet };
+
+    ghost view = { λ t. record { sizes = t.table.sizes; lits = t.lits.items } };
+
+    ghost invariant = { λ t. IsTable t.table t.lits.items };
+}
+
+// Takes the truth of some literals from a table.
+fn erase(table: &mut Assignment, lits: &[Lit])
+    requires { IsTable table.old lits.now }
+    ensures sizes { table.new.sizes ≡ table.old.sizes }
+    ensures none { (l : Lit) → IsInRange table.old.sizes l.atom → value_of table.new l ≡ None }
+{
+    for lit in lits {
+        table.clear(lit.atom);
+    }
+}
+
+impl Truths {
+    /// No literal is true.
+    pub fn new(alloc: Global, sizes: Sizes) -> Result<Truths, AllocError>
+        ensures { IfOk result (λ t. t ≡ record { sizes = sizes; lits = [] }) }
+    {
+        Ok(Truths {
+            table: Assignment::new(alloc, sizes.terms, sizes.versions, sizes.defs)?,
+            lits: Vec::new(alloc),
+        })
+    }
+
+    // Makes a literal true that isn't false.
+    fn add(&mut self, lit: Lit) -> Result<(), AllocError>
+        requires range { IsInRange self.old.sizes lit.atom }
+        requires not_false { Contains self.old.lits (opposite lit) → ⊥ }
+        ensures added { OnOk result (self.new ≡ record self.old { lits = self.old.lits ++ lit ∷ [] }) }
+        ensures consistent { OnOk result (IsConsistent self.new.lits) }
+    {
+        self.lits.push(lit)?;
+        self.table.set(lit);
+        Ok(())
+    }
+
+    // Leaves no literal true.
+    fn clear(&mut self)
+        ensures { self.new ≡ record self.old { lits = [] } }
+    {
+        erase(&mut self.table, self.lits.as_slice());
+        self.lits.clear();
+    }
+
+    // Whether a literal is false.
+    fn is_false(&self, lit: Lit) -> bool
+        requires { IsInRange self.now.sizes lit.atom }
+        ensures { IsTrue result ↔ Contains self.now.lits (opposite lit) }
+    {
+        match self.table.value(lit) {
+            None => false,
+            Some(truth) => !truth,
+        }
+    }
+
+    // Whether a literal is this one or false.
+    fn is_false_or(&self, lit: Lit, one: Lit) -> bool
+        requires { IsInRange self.now.sizes lit.atom }
+        ensures { IsTrue result ↔ ((lit ≡ one) ⊎ Contains self.now.lits (opposite lit)) }
+    {
+        if lit.is_same(one) {
+            return true;
+        }
+        self.is_false(lit)
+    }
+
+    // The first literal that isn't false.
+    fn first_open(&self, clause: &[Lit]) -> Option<Lit>
+        requires { AreInRange self.now.sizes clause.now }
+        ensures { MatchOption result (IsFalseBy self.now.lits clause.now) (IsOpenIn self.now.lits clause.now) }
+    {
+        for lit in clause {
+            if !self.is_false(*lit) {
+                return Some(*lit);
+            }
+        }
+        None
+    }
+
+    // Whether each literal but this one is false.
+    fn are_false_but(&self, clause: &[Lit], one: Lit) -> bool
+        requires { AreInRange self.now.sizes clause.now }
+        ensures { IsTrue result ↔ All (λ l. (l ≡ one) ⊎ Contains self.now.lits (opposite l)) clause.now }
+    {
+        for lit in clause {
+            if !self.is_false_or(*lit, one) {
+                return false;
+            }
+        }
+        true
+    }
+
+    // What a clause is.
+    fn look(&self, clause: &[Lit]) -> Look
+        requires { AreInRange self.now.sizes clause.now }
+        ensures { IsLook self.now.lits clause.now result }
+    {
+        let Some(one) = self.first_open(clause) else {
+            return Look::False;
+        };
+        if self.are_false_but(clause, one) {
+            return Look::Unit(one);
+        }
+        Look::Open
+    }
+
+    // Makes literals false, where none is true. Answers whether one of them and its opposite are among them.
+    fn falsify(&mut self, lits: &[Lit]) -> Result<bool, AllocError>
+        requires none { self.old.lits ≡ [] }
+        requires range { AreInRange self.old.sizes lits.now }
+        ensures sizes { OnOk result (self.new.sizes ≡ self.old.sizes) }
+        ensures clash { IfOk result (λ b. IsTrue b → HasOpposites lits.now) }
+        ensures set { IfOk result (λ b. (IsTrue b → ⊥) → self.new.lits ≡ map opposite lits.now) }
+        ensures consistent { IfOk result (λ b. (IsTrue b → ⊥) → IsConsistent (map opposite lits.now)) }
+    {
+        for lit in lits {
+            let negated = lit.negated();
+            if self.is_false(negated) {
+                return Ok(true);
+            }
+            self.add(negated)?;
+        }
+        Ok(false)
+    }
+
+    // Takes hints in order. Answers whether the clause of one of them comes to be false.
+    fn follow(&mut self, kept: &Positions, hints: &[u32]) -> Result<bool, AllocError>
+        requires { AreWithin self.old.sizes kept.now.clauses }
+        ensures exact { IfOk result (λ b. IsTrue b ↔ IsRefutedByHints (named kept.now hints.now) self.old.lits) }
+        ensures sizes { OnOk result (self.new.sizes ≡ self.old.sizes) }
+    {
+        for hint in hints {
+            match self.look(kept.lits(*hint)) {
+                Look::False => return Ok(true),
+                Look::Unit(lit) => self.add(lit)?,
+                Look::Open => return Ok(false),
+            }
+        }
+        Ok(false)
+    }
+
+    /// Whether a literal and its opposite are among some literals. Then propagation shows their clause from none.
+    pub fn have_opposites(&mut self, lits: &[Lit]) -> Result<bool, AllocError>
+        requires { AreInRange self.old.sizes lits.now }
+        ensures shown { IfOk result (λ b. IsTrue b → (clauses : List (List Lit)) → FollowsByUnits clauses lits.now) }
+        ensures sizes { OnOk result (self.new.sizes ≡ self.old.sizes) }
+    {
+        self.clear();
+        Ok(self.falsify(lits)?)
+    }
+
+    /// Whether the clauses at the hints, taken in order, show the clause of some literals.
+    pub fn are_shown(
+        &mut self,
+        kept: &Positions,
+        lits: &[Lit],
+        hints: &[u32],
+    ) -> Result<bool, AllocError>
+        requires range { AreInRange self.old.sizes lits.now }
+        requires within { AreWithin self.old.sizes kept.now.clauses }
+        ensures exact { IfOk result (λ b. IsTrue b ↔ IsShownByHints (named kept.now hints.now) lits.now) }
+        ensures sizes { OnOk result (self.new.sizes ≡ self.old.sizes) }
+    {
+        self.clear();
+        if self.falsify(lits)? {
+            return Ok(true);
+        }
+        Ok(self.follow(kept, hints)?)
+    }
+}

@@ -1,0 +1,22 @@
+use Rattle.std.proofs.Common.{◌≡◌, ◌+◌, ◌-◌, length, subst, arith}
+use Rattle.std.proofs.lemmas.Option.{slice_get_read}
+use Rattle.gh_ground.specs.Trimming.{AreNeeded}
+use Rattle.gh_ground.proofs.TrimLemmas.{needed_step, needed_whole}
+use Rattle.gh_ground.proofs.trim.needed.Goals as goal
+
+pub loop-place-preserved : goal.loop-place-preserved
+loop-place-preserved c =
+    let lines = c.args.lines.now in
+    let old = c.loop-place.kept.items in
+    let i = c.loop-place.invariant in
+    let e = c.keep_hints.ensures in
+    let l = c.index-lines-place.result in
+    let at = slice_get_read lines (length lines) (c.loop-place.place - 1) l (λ _. length lines) (omega arith) c.index-lines-place.is in
+    let up : c.loop-place.place ≡ (c.loop-place.place - 1) + 1 = omega arith in
+    record {
+      within = omega arith;
+      needed = needed_step lines old c.keep_hints.new.kept.items (c.loop-place.place - 1) l e.long e.keeps e.later e.hints at (subst (AreNeeded lines old) up i.needed);
+    }
+
+pub returns : goal.returns
+returns c = needed_whole c.args.lines.now c.loop-place.kept.items c.loop-place.place c.loop-place-test.false c.loop-place.invariant.needed

@@ -1,0 +1,30 @@
+-- Sections without the lines that nothing later needs.
+use Rattle.std.specs.Prelude.{◌≡◌, ◌+◌, ◌-◌, ◌<◌, ◌≤◌, ⊤, ℕ, List, [], Bool, true, Some, All, length, map, slice_get, slice_index, Vec}
+use Rattle.std.specs.declared.alloc.Global.{Global}
+use Rattle.gh_log.specs.declared.lines.LogLine.{LogLine}
+use Rattle.gh_log.specs.declared.lines.LogLine.TheVariants as line
+
+-- the positions that a line has as hints
+abbrev pub hints_of : LogLine → List ℕ
+hints_of (line.Hinted c hints) = hints.items
+hints_of _ = []
+
+abbrev pub IsKeptAt : List Bool → ℕ → Type 0
+IsKeptAt kept k = slice_get kept k ≡ Some true
+
+-- the earlier lines at some positions are kept
+abbrev pub AreKeptBefore : List Bool → ℕ → List ℕ → Type 0
+AreKeptBefore kept place positions = All (λ h. (k : ℕ) → h ≡ k + 1 → k < place → IsKeptAt kept k) positions
+
+-- the last line is kept and, with each line from a place on, the earlier lines at its hints
+pub record AreNeeded (lines : List LogLine) (kept : List Bool) (from : ℕ) : Type 0 where
+  pub long : length kept ≡ length lines
+  pub last : (k : ℕ) → length lines ≡ k + 1 → IsKeptAt kept k
+  pub hints : (i : ℕ) (l : LogLine) → from ≤ i → slice_get lines i ≡ Some l → IsKeptAt kept i → AreKeptBefore kept i (hints_of l)
+
+-- the same line, with its hints moved by a table of new positions; deletions aren't kept
+abbrev pub IsMoved : List ℕ → LogLine → LogLine → Type 0
+IsMoved positions (line.Hinted c hints) new =
+    (v : Vec ℕ Global) × (new ≡ line.Hinted c v) × (v.items ≡ map (λ h. slice_index positions (h - 1)) hints.items)
+IsMoved positions (line.Delete deleted) new = ⊤
+IsMoved positions old new = new ≡ old

@@ -1,0 +1,183 @@
+//! Sections without the lines that nothing later needs.
+
+ghost use Rattle.std.specs.Prelude.{◌≡◌, ◌+◌, ◌-◌, ◌<◌, ◌≤◌, ◌++◌, ◌∷◌, [], ℕ, IfOk, OnOk, length, map, slice_get, slice_index};
+ghost use Rattle.gh_base.specs.Grounds.{Problem};
+ghost use Rattle.gh_log.specs.declared.lines.LogLine.{LogLine};
+ghost use Rattle.gh_ground.specs.Solving.{IsRefutationOf};
+ghost use Rattle.gh_ground.specs.Trimming.{hints_of, IsKeptAt, AreKeptBefore, AreNeeded, IsMoved};
+
+use gh_log::lines::{LogLine, Section};
+use std::alloc::{AllocError, Global};
+
+// Keeps the line at a position, if it stands before a place.
+fn keep(kept: &mut Vec<bool>, position: u32, place: usize)
+    requires { place ≤ length kept.old.items }
+    ensures long { length kept.new.items ≡ length kept.old.items }
+    ensures keeps { (k : ℕ) → IsKeptAt kept.old.items k → IsKeptAt kept.new.items k }
+    ensures later { (k : ℕ) → place ≤ k → slice_get kept.new.items k ≡ slice_get kept.old.items k }
+    ensures is { (k : ℕ) → position ≡ k + 1 → k < place → IsKeptAt kept.new.items k }
+{
+    let position = position as usize;
+    if position == 0 {
+        return;
+    }
+    if position > place {
+        return;
+    }
+    kept[position - 1] = true;
+}
+
+// Keeps the lines at some positions that stand before a place.
+fn keep_all(kept: &mut Vec<bool>, positions: &[u32], place: usize)
+    requires { place ≤ length kept.old.items }
+    ensures long { length kept.new.items ≡ length kept.old.items }
+    ensures keeps { (k : ℕ) → IsKeptAt kept.old.items k → IsKeptAt kept.new.items k }
+    ensures later { (k : ℕ) → place ≤ k → slice_get kept.new.items k ≡ slice_get kept.old.items k }
+    ensures all { AreKeptBefore kept.new.items place positions.now }
+{
+    for position in positions {
+        keep(kept, *position, place);
+    }
+}
+
+// Where the line at a place is kept, keeps the earlier lines at its hints.
+fn keep_hints(kept: &mut Vec<bool>, line: &LogLine, place: usize)
+    requires { place < length kept.old.items }
+    ensures long { length kept.new.items ≡ length kept.old.items }
+    ensures keeps { (k : ℕ) → IsKeptAt kept.old.items k → IsKeptAt kept.new.items k }
+    ensures later { (k : ℕ) → place ≤ k → slice_get kept.new.items k ≡ slice_get kept.old.items k }
+    ensures hints { IsKeptAt kept.old.items place → AreKeptBefore kept.new.items place (hints_of line.now) }
+{
+    if !kept[place] {
+        return;
+    }
+    match line {
+        LogLine::Hinted { hints, .. } => keep_all(kept, hints.as_slice(), place),
+        _ => {}
+    }
+}
+
+// Only the last one of some lines is kept.
+fn only_last(alloc: Global, count: usize) -> Result<Vec<bool>, AllocError>
+    ensures long { IfOk result (λ v. length v.items ≡ count) }
+    ensures last { IfOk result (λ v. (k : ℕ) → count ≡ k + 1 → IsKeptAt v.items k) }
+{
+    let mut kept = vec![in alloc; false; count]?;
+    if count == 0 {
+        return Ok(kept);
+    }
+    kept[count - 1] = true;
+    Ok(kept)
+}
+
+// Which lines are needed: the last one, and with each line the earlier ones at its hints.
+fn needed(alloc: Global, lines: &[LogLine]) -> Result<Vec<bool>, AllocError>
+    ensures { IfOk result (λ v. AreNeeded lines.now v.items 0) }
+{
+    let mut kept = only_last(alloc, lines.len())?;
+    let mut place = lines.len();
+    while place > 0 {
+        place -= 1;
+        keep_hints(&mut kept, &lines[place], place);
+    }
+    Ok(kept)
+}
+
+// The new position of the line at a position.
+fn position_of(positions: &[u32], position: u32) -> u32
+    ensures { result ≡ slice_index positions.now (position - 1) }
+{
+    positions
+        .get((position as usize).saturating_sub(1))
+        .copied()
+        .unwrap_or(0)
+}
+
+// The new positions of hints.
+fn moved_hints(alloc: Global, hints: &[u32], positions: &[u32]) -> Result<Vec<u32>, AllocError>
+    ensures { IfOk result (λ v. v.items ≡ map (λ h. slice_index positions.now (h - 1)) hints.now) }
+{
+    let mut moved = Vec::with_capacity(alloc, hints.len())?;
+    for hint in hints {
+        moved.push(position_of(positions, *hint))?;
+    }
+    Ok(moved)
+}
+
+// A line with its hints moved. A deletion, of which no section here has one, deletes nothing then.
+fn moved(alloc: Global, line: &LogLine, positions: &[u32]) -> Result<LogLine, AllocError>
+    ensures { IfOk result (IsMoved positions.now line.now) }
+{
+    match line {
+        LogLine::Axiom(name) => Ok(LogLine::Axiom(*name)),
+        LogLine::Clause { number } => Ok(LogLine::Clause { number: *number }),
+        LogLine::Lemma(clause) => Ok(LogLine::Lemma(clause.copy(alloc)?)),
+        LogLine::Learnt(clause) => Ok(LogLine::Learnt(clause.copy(alloc)?)),
+        LogLine::Hinted { clause, hints } => {
+            let clause = clause.copy(alloc)?;
+            let hints = moved_hints(alloc, hints.as_slice(), positions)?;
+            Ok(LogLine::Hinted { clause, hints })
+        }
+        LogLine::Delete { .. } => Ok(LogLine::Delete {
+            positions: Vec::new(alloc),
+        }),
+    }
+}
+
+// The lines that were kept so far, and by the place of each line that was looked at how many were kept with it: where it
+// is kept, its new position.
+#[derive(Drop)]
+struct Trimmed {
+    lines: Vec<LogLine>,
+    positions: Vec<u32>,
+}
+
+impl Trimmed {
+    // Leaves a line out.
+    fn pass(&mut self) -> Result<(), AllocError>
+        requires { length self.old.lines.items ≤ 4294967295 }
+        ensures lines { self.new.lines.items ≡ self.old.lines.items }
+        ensures positions { OnOk result (self.new.positions.items ≡ self.old.positions.items ++ length self.old.lines.items ∷ []) }
+    {
+        self.positions.push(self.lines.len() as u32)?;
+        Ok(())
+    }
+
+    // Keeps a line.
+    fn take(&mut self, alloc: Global, line: &LogLine) -> Result<(), AllocError>
+        requires { length self.old.lines.items < 4294967295 }
+        ensures line { OnOk result ((l : LogLine) × IsMoved self.old.positions.items line.now l × (self.new.lines.items ≡ self.old.lines.items ++ l ∷ [])) }
+        ensures positions { OnOk result (self.new.positions.items ≡ self.old.positions.items ++ (length self.old.lines.items + 1) ∷ []) }
+    {
+        let kept = moved(alloc, line, self.positions.as_slice())?;
+        self.lines.push(kept)?;
+        self.positions.push(self.lines.len() as u32)?;
+        Ok(())
+    }
+}
+
+/// A section without the lines that nothing later needs. More lines than 32 bits can number count as want of memory.
+pub(crate) fn trim(alloc: Global, section: &Section) -> Result<Section, AllocError>
+    ensures { IfOk result (λ s. (p : Problem) → IsRefutationOf p section.now → IsRefutationOf p s) }
+{
+    let lines = section.lines.as_slice();
+    if lines.len() > 4294967294 {
+        return Err(AllocError);
+    }
+    let kept = needed(alloc, lines)?;
+    let mut trimmed = Trimmed {
+        lines: Vec::new(alloc),
+        positions: Vec::with_capacity(alloc, lines.len())?,
+    };
+    for place in 0..lines.len() {
+        if kept[place] {
+            trimmed.take(alloc, &lines[place])?;
+        } else {
+            trimmed.pass()?;
+        }
+    }
+    Ok(Section {
+        first: 1,
+        lines: trimmed.lines,
+    })
+}

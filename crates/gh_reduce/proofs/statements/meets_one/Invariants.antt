@@ -1,0 +1,10 @@
+use Rattle.std.proofs.Common.{◌≡◌, ◌++◌, map, drop}
+use Rattle.gh_grass.specs.Claims.{claims_list}
+use Rattle.gh_symb.specs.Formulas.{meets_whole}
+use Rattle.gh_symb.specs.Told.{plain_kind}
+use Rattle.gh_reduce.specs.Inside.{under_of}
+use Rattle.gh_reduce.proofs.statements.meets_one.Given as goal
+
+abbrev pub invariant-loop-bound : goal.invariant-loop-bound
+invariant-loop-bound l =
+    claims_list l.members.items ++ map (meets_whole (map plain_kind l.terms)) (map under_of (drop l.bound-index l.bounds)) ≡ map (meets_whole (map plain_kind l.terms)) (map under_of l.bounds)

@@ -1,0 +1,83 @@
+//! Which clauses show what a false clause leads to: those that are reached from it, in the order of the trail.
+
+ghost use Rattle.std.specs.Prelude.{◌≡◌, ◌<◌, ◌≤◌, ◌+◌, ◌∷◌, ◌++◌, [], length, drop, All, OnOk, IfOk};
+ghost use Rattle.std.specs.List.{cons_option};
+ghost use Rattle.gh_base.specs.Atoms.{AreInRange};
+ghost use Rattle.gh_sat.specs.Trail.{IsFalseIn, AreSteps};
+ghost use Rattle.gh_sat.specs.Learn.{marks_of, AllMarked, IsBounded, AreMarks, AllHaveReasons, ResolvedFrom, reasons_of};
+
+use crate::marks::{Marks, last_marked, mark_all};
+use crate::trail::Trail;
+use gh_base::atom::Lit;
+use gh_base::clause::Clause;
+use std::alloc::{AllocError, Global};
+
+/// Marks the places of all that a false clause is reached from, where each step has a reason.
+pub fn mark_reached(
+    marks: &mut Marks,
+    trail: &Trail,
+    clauses: &[Clause],
+    conflict: &[Lit],
+) -> Result<(), AllocError>
+    requires marks { AreMarks trail.now.steps (marks_of marks.old) }
+    requires bounded { IsBounded (marks_of marks.old) }
+    requires start { marks.old.start ≡ 0 }
+    requires end { marks.old.end ≡ length trail.now.steps }
+    requires range { All (AreInRange trail.now.sizes) clauses.now }
+    requires conflict_range { AreInRange trail.now.sizes conflict.now }
+    requires reasons { AllHaveReasons clauses.now trail.now.steps }
+    requires all_false { IsFalseIn trail.now.steps conflict.now }
+    requires valid { AreSteps trail.now }
+    ensures all { OnOk result (AllMarked trail.now.steps (marks_of marks.new) conflict.now) }
+    ensures resolved { OnOk result (ResolvedFrom clauses.now trail.now.steps (marks_of marks.new) 0) }
+    ensures bounded { IsBounded (marks_of marks.new) }
+    ensures long { length marks.new.stamps.items ≡ length marks.old.stamps.items }
+{
+    mark_all(marks, trail, conflict)?;
+    while marks.waiting > 0 {
+        let place = last_marked(marks);
+        marks.end = place;
+        marks.waiting -= 1;
+        let Some(k) = trail.steps()[place].reason else {
+            unreachable!()
+        };
+        mark_all(marks, trail, clauses[k as usize].lits())?;
+    }
+    Ok(())
+}
+
+// The reason of the step at a place, if that is marked.
+fn marked_reason(marks: &Marks, trail: &Trail, place: usize) -> Option<u32>
+    requires within { place < length trail.now.steps }
+    requires long { length trail.now.steps ≤ length marks.now.stamps.items }
+    ensures { reasons_of marks.now.round (drop place marks.now.stamps.items) (drop place trail.now.steps)
+        ≡ cons_option result (reasons_of marks.now.round (drop (place + 1) marks.now.stamps.items) (drop (place + 1) trail.now.steps)) }
+{
+    if marks.stamps[place] == marks.round {
+        trail.steps()[place].reason
+    } else {
+        None
+    }
+}
+
+/// The reasons of the marked steps from a place on, in the order of the trail, and the false clause last.
+pub fn reasons_from(
+    alloc: Global,
+    marks: &Marks,
+    trail: &Trail,
+    from: usize,
+    conflict: u32,
+) -> Result<Vec<u32>, AllocError>
+    requires { length trail.now.steps ≤ length marks.now.stamps.items }
+    ensures { IfOk result
+        (λ v. v.items ≡ reasons_of marks.now.round (drop from marks.now.stamps.items) (drop from trail.now.steps) ++ conflict ∷ []) }
+{
+    let mut reasons = Vec::new(alloc);
+    for place in from..trail.steps().len() {
+        if let Some(reason) = marked_reason(marks, trail, place) {
+            reasons.push(reason)?;
+        }
+    }
+    reasons.push(conflict)?;
+    Ok(reasons)
+}

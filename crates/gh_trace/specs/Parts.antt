@@ -1,0 +1,28 @@
+-- Parts of heaps that give way to others.
+use Rattle.std.specs.Prelude.{◌≡◌}
+use Rattle.gh_ast.specs.Plain.{Procedure, formula_of}
+use Rattle.gh_assert.specs.Heaps.{Heap}
+use Rattle.gh_assert.specs.Meaning.{Store, Meaning, MeetsOneOf}
+use Rattle.gh_assert.specs.Stores.{store_of}
+use Rattle.gh_trace.specs.declared.parts.Part.{Part}
+use Rattle.gh_trace.specs.Traces.{State, Replaced}
+
+-- the heap meets the assertion
+abbrev pub Meets : Part → Heap → Type 0
+Meets p h = Meaning (formula_of p.assertion.now) (store_of p.store.now) h
+
+-- in p's heap a part that meets its assertion gives way to one of which Q holds; the rest stays
+abbrev pub GivesWay : Part → (Heap → Type 0) → Heap → Type 0
+GivesWay p Q k = Replaced (formula_of p.assertion.now) (store_of p.store.now) p.heap.now Q k
+
+-- the heap stands in k in the place of that part
+abbrev pub Stands : Part → Heap → Heap → Type 0
+Stands p k other = GivesWay p (λ h. h ≡ other) k
+
+-- a part that meets what the procedure needs gives way to one that meets an alternative of what it gives
+abbrev pub IsAnswered : Procedure → Store → Heap → Heap → Type 0
+IsAnswered p s h k = Replaced p.needs s h (MeetsOneOf p.gives s) k
+
+-- the state's heap meets an alternative of what the procedure gives
+abbrev pub IsReturned : Procedure → State → Type 0
+IsReturned p x = MeetsOneOf p.gives x.store x.heap
