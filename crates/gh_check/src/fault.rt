@@ -7,9 +7,9 @@ use std::alloc::{AllocError, AllocFailed};
 use thiserror::Error;
 
 /// The first line that isn't of its kind, by its number in the file: 1 is no instance, 2 no ground clause's number, 3 no
-/// clause of equality and congruence, 4 not implied by unit propagation, 6 a line whose hints or deleted positions
-/// don't all stand, or that deletes one twice. 5 is a section with no fault but that it doesn't end in the empty
-/// clause, and has the number of the line after it.
+/// clause of equality and congruence, 4 an atom out of range or a clause that unit propagation doesn't show, 6 a line
+/// whose hints or deleted positions don't all stand, or that deletes one twice. 5 is a section with no fault but that it
+/// doesn't end in the empty clause, and has the number of the line after it.
 #[derive(Clone, Copy, Debug, PartialEq, Eq)]
 pub struct LogFault {
     pub number: u8,

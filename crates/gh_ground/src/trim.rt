@@ -70,7 +70,8 @@ fn only_last(alloc: Global, count: usize) -> Result<Vec<bool>, AllocError>
     Ok(kept)
 }
 
-// Which lines are needed: the last one, and with each line the earlier ones at its hints.
+// Which lines are kept: the last one, and with each that is kept the earlier ones at its hints. That no other is kept isn't
+// told.
 fn needed(alloc: Global, lines: &[LogLine]) -> Result<Vec<bool>, AllocError>
     ensures { IfOk result (λ v. AreNeeded lines.now v.items 0) }
 {
@@ -156,7 +157,8 @@ impl Trimmed {
     }
 }
 
-/// A section without the lines that nothing later needs. More lines than 32 bits can number count as want of memory.
+/// A section without lines that nothing later needs, a refutation where it was one. More lines than 32 bits can number
+/// count as want of memory.
 pub(crate) fn trim(alloc: Global, section: &Section) -> Result<Section, AllocError>
     ensures { IfOk result (λ s. (p : Problem) → IsRefutationOf p section.now → IsRefutationOf p s) }
 {

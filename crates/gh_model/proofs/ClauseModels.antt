@@ -228,7 +228,7 @@ row_stays : (m n : Interpretation) → IsOneBefore 0 m n → (name : InstanceNam
 row_stays m n B name None = refl
 row_stays m n B name (Some r) = clause_stays m n B name.version (tuple_of name) r.lits
 
-instance_stays : (m n : Interpretation) → IsOneBefore 0 m n → (name : InstanceName) → IsInstanceTrue m name → IsInstanceTrue n name
+pub instance_stays : (m n : Interpretation) → IsOneBefore 0 m n → (name : InstanceName) → IsInstanceTrue m name → IsInstanceTrue n name
 instance_stays m n B name t = Any-from_list_any (lit_truth n) (clause_of name) (sym (row_stays m n B name (row_with name.row table)) ∙ list_any-from_Any (lit_truth m) (clause_of name) t)
 
 -- definitions can be given values that make all clauses true

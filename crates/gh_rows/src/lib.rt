@@ -22,6 +22,10 @@ mod refusal_tests;
 #[cfg(test)]
 mod run_tests;
 #[cfg(test)]
+mod smallest_tests;
+#[cfg(test)]
+mod smt_tests;
+#[cfg(test)]
 mod stress_tests;
 #[cfg(test)]
 mod texts;

@@ -1,8 +1,9 @@
 -- From an answer to what the run promises.
 use Rattle.std.proofs.Common.{◌≡◌, ℕ, ◌+◌, ◌*◌, ◌≤◌, List, [], ◌∷◌, length, refl, sym, ap, subst, arith, ◌∙◌}
-use Rattle.std.specs.Prelude.{Option, Some, None, codes, Result, Ok, Err, IfOk, slice_get, unwrap_or}
+use Rattle.std.specs.Prelude.{Option, Some, None, codes, Result, Ok, Err, IfOk, slice_get, unwrap_or, cond, ◌==◌}
 use Rattle.std.specs.Fmt.{decimal}
-use Rattle.std.proofs.lemmas.Fmt.{decimal_injective}
+use Rattle.std.specs.Str.Parse.{digits_value}
+use Rattle.std.proofs.lemmas.Fmt.{decimal_is_IsNumeral}
 use Rattle.std.specs.Io.KnownBytes.{Appends}
 use Rattle.gh_base.specs.Outside.{Table}
 use Rattle.gh_base.specs.Reading.{told}
@@ -22,7 +23,7 @@ use Rattle.gh_top.specs.Fronts.{IsTextOf, IsFrontError}
 use Rattle.gh_top.specs.declared.front.FrontError.TheVariants.{Refused}
 use Rattle.gh_top.specs.Causes.{IsOnFiles}
 use Rattle.gh_top.specs.Refusals.{IsText, IsRefused, refusal_text, most_bytes}
-use Rattle.gh_top.specs.Headline.{Files, program_text, Asks, Answer, usage, refused, check_verified, check_refuted, log_verified, log_refuted, recheck_refused, recheck_verified, paths_listed, replay_refused, replay_refuted, stress_verified, stress_refuted, HasAnswer, IsGoodFor, IsWhole, IsAnswered, IsReadFault, IsWriteFault, NamesFile}
+use Rattle.gh_top.specs.Headline.{Files, program_text, Asks, Answer, usage, refused, check_verified, check_refuted, log_verified, log_refuted, recheck_refused, recheck_verified, paths_listed, replay_refused, replay_refuted, smallest_verified, smallest_refuted, stress_verified, stress_refuted, HasAnswer, IsGoodFor, IsWhole, IsAnswered, IsReadFault, IsWriteFault, NamesFile, smt_listed, smt_no_condition, smt_too_long}
 use Rattle.gh_top.specs.Listings.{listing}
 use Rattle.gh_top.specs.Replies.{Replies, RepliesOn}
 use Rattle.gh_top.specs.declared.file.FileText.{FileText}
@@ -30,15 +31,12 @@ use Rattle.gh_top.specs.declared.refusal.Refusal.{Refusal}
 use Rattle.gh_top.specs.declared.report.Stop.{Stop}
 use Rattle.gh_top.specs.declared.report.Stop.TheVariants as stop
 use Rattle.gh_top.specs.declared.words.Request.{Request}
-use Rattle.gh_top.specs.declared.words.Request.TheVariants.{Check, Log, Recheck, Paths, Replay, Stress}
+use Rattle.gh_top.specs.declared.words.Request.TheVariants.{Check, Log, Recheck, Paths, Replay, Smallest, Stress, Smt}
 use Rattle.gh_top.specs.declared.status.Status.{Status}
 use Rattle.gh_top.specs.declared.status.Status.TheVariants.{Verified, Listed, Refuted, Usage, ReadFault, TextRefused, LogRefused, WriteFault, OutOfMemory}
 use Rattle.gh_top.proofs.FileLemmas.{one_file, two_files, some_files, IsWord}
 
 -- words are one request at most
-
-one_number : (n m : ℕ) → n ≤ 255 → m ≤ 255 → decimal n ≡ decimal m → n ≡ m
-one_number n m a b e = decimal_injective n m (omega (arith, a)) (omega (arith, b)) e
 
 -- a number that tells the modes apart: ten times the mode's first byte, and how many follow
 abbrev key : List (List ℕ) → ℕ
@@ -48,43 +46,25 @@ key _ = 0
 abbrev word : ℕ → List (List ℕ) → List ℕ
 word k words = unwrap_or (slice_get words k) []
 
+-- the request that words are, if they are one
+abbrev meant : ℕ → List (List ℕ) → Request
+meant k ws =
+    cond (k == 994) (Check (word 1 ws))
+    (cond (k == 1082) (Log (word 1 ws))
+    (cond (k == 1146) (Recheck (word 1 ws) (word 2 ws)) (cond (k == 1124) (Paths (word 1 ws)) (cond (k == 1145) (Replay (word 1 ws) (word 2 ws)) (cond (k == 1157) (Smallest (word 1 ws)) (cond (k == 1152) (Smt (word 1 ws) (digits_value 10 (word 2 ws))) (Stress (digits_value 10 (word 1 ws)))))))))
+
+meant_is : (r : Request) → IsInLimits r → meant (key (words_of r)) (words_of r) ≡ r
+meant_is (Check file) h = refl
+meant_is (Log file) h = refl
+meant_is (Recheck file log) h = refl
+meant_is (Paths file) h = refl
+meant_is (Replay file drawing) h = refl
+meant_is (Smallest file) h = refl
+meant_is (Smt file n) h = ap (Smt file) (decimal_is_IsNumeral n (omega (arith, h.1))).1
+meant_is (Stress n) h = ap Stress (decimal_is_IsNumeral n (omega (arith, h.1))).1
+
 one_words : (r q : Request) → IsInLimits r → IsInLimits q → words_of r ≡ words_of q → r ≡ q
-one_words (Check file) (Check file2) h k e = let d : file ≡ file2 = ap (word 1) e in ap Check d
-one_words (Check file) (Log file2) h k e = let d : 994 ≡ 1082 = ap key e in absurd (omega (arith, d))
-one_words (Check file) (Recheck file2 log2) h k e = let d : 994 ≡ 1146 = ap key e in absurd (omega (arith, d))
-one_words (Check file) (Paths file2) h k e = let d : 994 ≡ 1124 = ap key e in absurd (omega (arith, d))
-one_words (Check file) (Replay file2 drawing2) h k e = let d : 994 ≡ 1145 = ap key e in absurd (omega (arith, d))
-one_words (Check file) (Stress n2) h k e = let d : 994 ≡ 1155 = ap key e in absurd (omega (arith, d))
-one_words (Log file) (Check file2) h k e = let d : 1082 ≡ 994 = ap key e in absurd (omega (arith, d))
-one_words (Log file) (Log file2) h k e = let d : file ≡ file2 = ap (word 1) e in ap Log d
-one_words (Log file) (Recheck file2 log2) h k e = let d : 1082 ≡ 1146 = ap key e in absurd (omega (arith, d))
-one_words (Log file) (Paths file2) h k e = let d : 1082 ≡ 1124 = ap key e in absurd (omega (arith, d))
-one_words (Log file) (Replay file2 drawing2) h k e = let d : 1082 ≡ 1145 = ap key e in absurd (omega (arith, d))
-one_words (Log file) (Stress n2) h k e = let d : 1082 ≡ 1155 = ap key e in absurd (omega (arith, d))
-one_words (Recheck file log) (Check file2) h k e = let d : 1146 ≡ 994 = ap key e in absurd (omega (arith, d))
-one_words (Recheck file log) (Log file2) h k e = let d : 1146 ≡ 1082 = ap key e in absurd (omega (arith, d))
-one_words (Recheck file log) (Recheck file2 log2) h k e = let d : file ≡ file2 = ap (word 1) e in let f : log ≡ log2 = ap (word 2) e in rw (d, f) refl
-one_words (Recheck file log) (Paths file2) h k e = let d : 1146 ≡ 1124 = ap key e in absurd (omega (arith, d))
-one_words (Recheck file log) (Replay file2 drawing2) h k e = let d : 1146 ≡ 1145 = ap key e in absurd (omega (arith, d))
-one_words (Recheck file log) (Stress n2) h k e = let d : 1146 ≡ 1155 = ap key e in absurd (omega (arith, d))
-one_words (Paths file) (Check file2) h k e = let d : 1124 ≡ 994 = ap key e in absurd (omega (arith, d))
-one_words (Paths file) (Log file2) h k e = let d : 1124 ≡ 1082 = ap key e in absurd (omega (arith, d))
-one_words (Paths file) (Recheck file2 log2) h k e = let d : 1124 ≡ 1146 = ap key e in absurd (omega (arith, d))
-one_words (Paths file) (Paths file2) h k e = let d : file ≡ file2 = ap (word 1) e in ap Paths d
-one_words (Paths file) (Replay file2 drawing2) h k e = let d : 1124 ≡ 1145 = ap key e in absurd (omega (arith, d))
-one_words (Paths file) (Stress n2) h k e = let d : 1124 ≡ 1155 = ap key e in absurd (omega (arith, d))
-one_words (Replay file drawing) (Check file2) h k e = let d : 1145 ≡ 994 = ap key e in absurd (omega (arith, d))
-one_words (Replay file drawing) (Log file2) h k e = let d : 1145 ≡ 1082 = ap key e in absurd (omega (arith, d))
-one_words (Replay file drawing) (Recheck file2 log2) h k e = let d : 1145 ≡ 1146 = ap key e in absurd (omega (arith, d))
-one_words (Replay file drawing) (Paths file2) h k e = let d : 1145 ≡ 1124 = ap key e in absurd (omega (arith, d))
-one_words (Replay file drawing) (Replay file2 drawing2) h k e = let d : file ≡ file2 = ap (word 1) e in let f : drawing ≡ drawing2 = ap (word 2) e in rw (d, f) refl
-one_words (Replay file drawing) (Stress n2) h k e = let d : 1145 ≡ 1155 = ap key e in absurd (omega (arith, d))
-one_words (Stress n) (Check file2) h k e = let d : 1155 ≡ 994 = ap key e in absurd (omega (arith, d))
-one_words (Stress n) (Log file2) h k e = let d : 1155 ≡ 1082 = ap key e in absurd (omega (arith, d))
-one_words (Stress n) (Recheck file2 log2) h k e = let d : 1155 ≡ 1146 = ap key e in absurd (omega (arith, d))
-one_words (Stress n) (Paths file2) h k e = let d : 1155 ≡ 1124 = ap key e in absurd (omega (arith, d))
-one_words (Stress n) (Replay file2 drawing2) h k e = let d : 1155 ≡ 1145 = ap key e in absurd (omega (arith, d))
-one_words (Stress n) (Stress n2) h k e = let d : decimal n ≡ decimal n2 = ap (word 1) e in ap Stress (one_number n n2 h.1 k.1 d)
+one_words r q h k e = sym (meant_is r h) ∙ ap (λ ws. meant (key ws) ws) e ∙ meant_is q k
 
 pub one_request : (words : List (List ℕ)) (r q : Request) → IsRequest words r → IsRequest words q → r ≡ q
 one_request words r q a b = one_words r q a.spelled.limits b.spelled.limits (sym a.spelled.words_are ∙ b.spelled.words_are)
@@ -135,8 +115,13 @@ said words files s u (recheck_verified a v) = said_verified
 said words files s u (paths_listed a) = said_listed
 said words files s u (replay_refused a w) = said_log_refused
 said words files s u (replay_refuted a f) = said_refuted
+said words files s u (smallest_verified a v) = said_verified
+said words files s u (smallest_refuted a f) = said_refuted
 said words files s u (stress_verified a v) = said_verified
 said words files s u (stress_refuted a f) = said_refuted
+said words files s u (smt_listed c a at few) = said_listed
+said words files s u (smt_no_condition a past) = said_log_refused
+said words files s u (smt_too_long c a at many) = said_text_refused
 
 -- a program that is verified is good
 
@@ -155,8 +140,13 @@ good words files s u (recheck_verified a v) e = good_one words files _ _ a (type
 good words files s u (paths_listed a) e = absurd cc
 good words files s u (replay_refused a w) e = absurd cc
 good words files s u (replay_refuted a f) e = absurd cc
+good words files s u (smallest_verified a v) e = good_one words files _ _ a (typed_is_good _ a.accepted.admitted.typed v)
+good words files s u (smallest_refuted a f) e = absurd cc
 good words files s u (stress_verified a v) e = good_one words files _ _ a (typed_is_good _ a.accepted.admitted.typed v)
 good words files s u (stress_refuted a f) e = absurd cc
+good words files s u (smt_listed c a at few) e = absurd cc
+good words files s u (smt_no_condition a past) e = absurd cc
+good words files s u (smt_too_long c a at many) e = absurd cc
 
 pub is_whole : (t : Option Table) (words : List (List ℕ)) (old new : Option (List ℕ)) (s : Status) (u : List ℕ) → HasAnswer t words s u → Appends old new u → IsWhole t words old new s
 is_whole t words old new s u a w = record { text = u; given = a; written = w; good = λ e. good words a.files s u a.answer e }

@@ -1,3 +1,4 @@
+pub mod SmallestLemmas
 pub mod HeadlineLemmas
 pub mod VerdictLemmas
 pub mod FileLemmas
@@ -8,3 +9,4 @@ pub mod ListingLemmas
 pub mod ReplayLemmas
 pub mod WordWalks
 pub mod ReadLemmas
+pub mod SmtLemmas

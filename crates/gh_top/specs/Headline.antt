@@ -1,9 +1,10 @@
 -- What a run answers, what it leaves written, and what its verdict means.
-use Rattle.std.specs.Prelude.{◌≡◌, ◌⊎◌, ℕ, List, Option, Some, None, ⊤, slice_get, codes}
+use Rattle.std.specs.Prelude.{◌≡◌, ◌⊎◌, ◌≤◌, ◌<◌, ℕ, List, length, Option, Some, None, ⊤, slice_get, codes}
 use Rattle.std.specs.Io.KnownBytes.{Appends, Keeps}
 use Rattle.gh_base.specs.Outside.{Table, Rose, AppendsFront}
 use Rattle.gh_ast.specs.Plain.{Program}
 use Rattle.gh_machine.specs.Machine.{IsGood}
+use Rattle.gh_path.specs.Conditions.{Condition, conditions}
 use Rattle.gh_trace.specs.Validity.{ListedAreValid}
 use Rattle.gh_log.specs.declared.lines.LogLine.{LogLine}
 use Rattle.gh_log.specs.Spelled.{AreOfVersion}
@@ -13,13 +14,15 @@ use Rattle.gh_draw.specs.Drawings.{line}
 use Rattle.gh_top.specs.Words.{IsRequest}
 use Rattle.gh_top.specs.Refusals.{IsAccepted, IsRefused, refusal_text}
 use Rattle.gh_top.specs.Reports.{IsRefutation, verified_text, stressed_text}
+use Rattle.gh_top.specs.Smallests.{IsSmallestReport}
 use Rattle.gh_top.specs.Listings.{listing}
 use Rattle.gh_top.specs.Rechecks.{IsLogRefusal, IsValidLogFile, rechecked_text}
-use Rattle.gh_top.specs.Replays.{IsDrawingRefusal, IsRefutingFile, replayed_text}
+use Rattle.gh_top.specs.Replays.{IsAt, IsDrawingRefusal, IsRefutingFile, replayed_text}
+use Rattle.gh_top.specs.Smts.{most_asserted, asserted_count, smt_text, unnumbered_text, too_long_text}
 use Rattle.gh_top.specs.Stress.{stress_text}
 use Rattle.gh_top.specs.declared.refusal.Refusal.{Refusal}
 use Rattle.gh_top.specs.declared.words.Request.{Request}
-use Rattle.gh_top.specs.declared.words.Request.TheVariants.{Check, Log, Recheck, Paths, Replay, Stress}
+use Rattle.gh_top.specs.declared.words.Request.TheVariants.{Check, Log, Recheck, Paths, Replay, Smallest, Stress, Smt}
 use Rattle.gh_top.specs.declared.status.Status.{Status}
 use Rattle.gh_top.specs.declared.status.Status.TheVariants.{Verified, Listed, Refuted, Usage, ReadFault, TextRefused, LogRefused, WriteFault, OutOfMemory}
 
@@ -64,9 +67,16 @@ pub data Answer (words : List (List ℕ)) (files : Files) : Status → List ℕ 
   -- replay FILE DRAWING
   replay_refused : {f d u : List ℕ} {P : Program} → Asks words files (Replay f d) P → IsDrawingRefusal P (files 2) u → Answer words files LogRefused u
   replay_refuted : {f d : List ℕ} {n : ℕ} {P : Program} → Asks words files (Replay f d) P → IsRefutingFile P (files 2) n → Answer words files Refuted (replayed_text P n)
+  -- smallest FILE
+  smallest_verified : {f : List ℕ} {P : Program} → Asks words files (Smallest f) P → ListedAreValid P → Answer words files Verified (verified_text P)
+  smallest_refuted : {f u : List ℕ} {P : Program} → Asks words files (Smallest f) P → IsSmallestReport P u → Answer words files Refuted u
   -- stress N
   stress_verified : {n : ℕ} {P : Program} → Asks words files (Stress n) P → ListedAreValid P → Answer words files Verified (stressed_text n P)
   stress_refuted : {n : ℕ} {u : List ℕ} {P : Program} → Asks words files (Stress n) P → IsRefutation P u → Answer words files Refuted u
+  -- smt FILE K
+  smt_listed : {f : List ℕ} {n : ℕ} {P : Program} (c : Condition) → Asks words files (Smt f n) P → IsAt P n c → asserted_count P c ≤ most_asserted → Answer words files Listed (smt_text P c)
+  smt_no_condition : {f : List ℕ} {n : ℕ} {P : Program} → Asks words files (Smt f n) P → length (conditions P) < n → Answer words files LogRefused (unnumbered_text P n)
+  smt_too_long : {f : List ℕ} {n : ℕ} {P : Program} (c : Condition) → Asks words files (Smt f n) P → IsAt P n c → most_asserted < asserted_count P c → Answer words files TextRefused (too_long_text P c)
 
 -- some files that are told give this answer
 pub record HasAnswer (table : Option Table) (words : List (List ℕ)) (status : Status) (text : List ℕ) : Type 0 where

@@ -12,6 +12,8 @@ pub mod Refusals
 pub mod Replays
 pub mod Replies
 pub mod Reports
+pub mod Smallests
 pub mod Statuses
 pub mod Stress
+pub mod Smts
 pub mod Words

@@ -1,5 +1,5 @@
 -- Which files a run begins, in which order, and in how many calls.
-use Rattle.std.specs.Prelude.{◌≡◌, ℕ, ◌+◌, ◌≤◌, List, [], ◌∷◌, ◌++◌, Option, Some, None, ⊤}
+use Rattle.std.specs.Prelude.{◌≡◌, ℕ, ◌+◌, List, [], ◌∷◌, ◌++◌, Option, Some, None, ⊤}
 use Rattle.gh_base.specs.Outside.{Table, AddsName, MakesAtMost}
 use Rattle.gh_base.specs.Reading.{told, calls_for}
 use Rattle.gh_ast.specs.Plain.{Program}
@@ -9,7 +9,7 @@ use Rattle.gh_top.specs.Rechecks.{most_logged}
 use Rattle.gh_top.specs.Replays.{most_drawn}
 use Rattle.gh_top.specs.Headline.{Files, AreTold, Asks}
 use Rattle.gh_top.specs.declared.words.Request.{Request}
-use Rattle.gh_top.specs.declared.words.Request.TheVariants.{Check, Log, Recheck, Paths, Replay, Stress}
+use Rattle.gh_top.specs.declared.words.Request.TheVariants.{Check, Log, Recheck, Paths, Replay, Smallest, Stress, Smt}
 
 -- the file of the program that a request is about; `stress` reads none
 abbrev pub program_file : Request → Option (List ℕ)
@@ -18,6 +18,8 @@ program_file (Log file) = Some file
 program_file (Recheck file log) = Some file
 program_file (Paths file) = Some file
 program_file (Replay file drawing) = Some file
+program_file (Smallest file) = Some file
+program_file (Smt file n) = Some file
 program_file (Stress n) = None
 
 -- the second file of a request, and the most bytes that are taken of it

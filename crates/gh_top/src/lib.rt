@@ -13,6 +13,8 @@ pub mod refusal;
 mod replay;
 mod report;
 pub mod run;
+mod smallest;
+mod smt;
 pub mod status;
 pub mod steady;
 pub mod stress;

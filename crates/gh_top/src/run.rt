@@ -19,6 +19,8 @@ use crate::recheck::{MOST_LOGGED, recheck};
 use crate::refusal::refused;
 use crate::replay::{MOST_DRAWN, replay};
 use crate::report::{Report, Stop};
+use crate::smallest::smallest;
+use crate::smt::smt;
 use crate::status::Status;
 use crate::stress::{stress, stress_text};
 use crate::words::{Request, Words, read_words};
@@ -46,6 +48,8 @@ fn program_text<I: Inputs>(
         Request::Recheck { file, .. } => read_file(alloc, inputs, file.as_str(), MOST_BYTES),
         Request::Paths { file } => read_file(alloc, inputs, file.as_str(), MOST_BYTES),
         Request::Replay { file, .. } => read_file(alloc, inputs, file.as_str(), MOST_BYTES),
+        Request::Smallest { file } => read_file(alloc, inputs, file.as_str(), MOST_BYTES),
+        Request::Smt { file, .. } => read_file(alloc, inputs, file.as_str(), MOST_BYTES),
     }
 }
 
@@ -81,6 +85,8 @@ fn reply<I: Inputs>(alloc: Global, request: &Request, inputs: &mut I) -> Result<
             let drawing = read_file(alloc, inputs, drawing.as_str(), MOST_DRAWN)?;
             Ok(replay(alloc, &admitted, &drawing)?)
         }
+        Request::Smallest { .. } => Ok(smallest(alloc, &admitted)?),
+        Request::Smt { number, .. } => Ok(smt(alloc, &admitted, *number)?),
         Request::Stress { n } => Ok(stress(alloc, *n, &admitted)?),
     }
 }

@@ -10,7 +10,7 @@ use gh_base::steady_inputs::SteadyInputs;
 use gh_base::steady_sink::SteadySink;
 use std::alloc::Global;
 
-/// `run` where no fault comes: the answer is taken whole, or memory runs out.
+/// `run` where no fault comes: the status is that of an answer, or memory runs out. What the sink took isn't told.
 pub fn steady_run(
     alloc: Global,
     words: &Words,

@@ -1,6 +1,6 @@
 use Rattle.std.proofs.Common.{ap}
 use Rattle.gh_ast.specs.Plain.{program_of}
-use Rattle.gh_top.specs.declared.words.Request.TheVariants.{Check, Log, Recheck, Paths, Replay, Stress}
+use Rattle.gh_top.specs.declared.words.Request.TheVariants.{Check, Log, Recheck, Paths, Replay, Smallest, Stress, Smt}
 use Rattle.gh_top.proofs.HeadlineLemmas.{text_refused, late_refused, replied_at, replied_on_at, second_word, drawing_word}
 use Rattle.gh_top.specs.Reads.{program_file, second_file}
 use Rattle.gh_top.proofs.ReadLemmas.{first_ordered, second_ordered}
@@ -145,3 +145,32 @@ returns-in-Replay-clause-order g c = λ words asks.
     second_ordered (g.I.Inputs.table c.args.inputs.now) (g.I.Inputs.table c.program_text.new.inputs) words c.args.request.now c.in-Replay.file c.in-Replay.drawing c.as_str-in-Replay.result.now 4194304 c.in_ok-text.text
     (program_of c.in-Ok.typed) _ _ _ _ _ _ c.program_text.ensures.table (ap program_file c.in-Replay.is) (ap second_file c.in-Replay.is) c.as_str-in-Replay.ensures c.in_ok-text.ensures.read c.in-Ok.ensures.text c.in-Ok-new.ensures.admitted
     c.program_text.ensures.first c.read_file-in-Replay.ensures.begun c.read_file-in-Replay.ensures.calls asks
+
+pub returns-in-Smallest-clause-ok : goal.returns-in-Smallest-clause-ok
+returns-in-Smallest-clause-ok g c =
+    replied_at (g.I.Inputs.table c.args.inputs.now) c.args.request.now (Smallest c.in-Smallest.file) c.in_ok-text.text c.in-Ok.typed c.in-Ok-new.admitted _ _ c.in-Smallest.is c.in-Ok-new.ensures.same c.in_ok-text.ensures.read
+    c.in-Ok.ensures.text c.in-Ok-new.ensures.admitted (c.in_ok-smallest-in-Smallest.ensures c.in-Smallest.file)
+
+pub returns-in_err-smallest-in-Smallest-clause-order : goal.returns-in_err-smallest-in-Smallest-clause-order
+returns-in_err-smallest-in-Smallest-clause-order g c =
+    λ words asks. first_ordered (g.I.Inputs.table c.args.inputs.now) words c.args.request.now _ _ _ _ c.program_text.ensures.first asks
+
+pub returns-in-Smallest-clause-order : goal.returns-in-Smallest-clause-order
+returns-in-Smallest-clause-order g c =
+    λ words asks. first_ordered (g.I.Inputs.table c.args.inputs.now) words c.args.request.now _ _ _ _ c.program_text.ensures.first asks
+
+pub smt-requires : goal.smt-requires
+smt-requires g c = (rw c.in-Smt.is at c.requires).limits.0
+
+pub returns-in-Smt-clause-ok : goal.returns-in-Smt-clause-ok
+returns-in-Smt-clause-ok g c =
+    replied_at (g.I.Inputs.table c.args.inputs.now) c.args.request.now (Smt c.in-Smt.file c.in-Smt.number) c.in_ok-text.text c.in-Ok.typed c.in-Ok-new.admitted _ _ c.in-Smt.is c.in-Ok-new.ensures.same c.in_ok-text.ensures.read
+    c.in-Ok.ensures.text c.in-Ok-new.ensures.admitted (c.in_ok-smt-in-Smt.ensures c.in-Smt.file)
+
+pub returns-in_err-smt-in-Smt-clause-order : goal.returns-in_err-smt-in-Smt-clause-order
+returns-in_err-smt-in-Smt-clause-order g c =
+    λ words asks. first_ordered (g.I.Inputs.table c.args.inputs.now) words c.args.request.now _ _ _ _ c.program_text.ensures.first asks
+
+pub returns-in-Smt-clause-order : goal.returns-in-Smt-clause-order
+returns-in-Smt-clause-order g c =
+    λ words asks. first_ordered (g.I.Inputs.table c.args.inputs.now) words c.args.request.now _ _ _ _ c.program_text.ensures.first asks

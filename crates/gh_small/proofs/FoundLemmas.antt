@@ -1,0 +1,12 @@
+-- What is found is exact.
+use Rattle.std.proofs.Common.{Some, None, refl}
+use Rattle.gh_small.specs.Smallest.{FoundIsExact}
+
+pub found_is_exact : FoundIsExact
+found_is_exact P r None one is = (λ e. is, λ valid. refl)
+found_is_exact P r (Some s) one is = (
+  λ e. absurd (cc (e)),
+  λ valid.
+      let against = is.counterexample one.0 one.1 in
+      absurd (valid one.0 one.1 against.first.state _ against.counterexample),
+)

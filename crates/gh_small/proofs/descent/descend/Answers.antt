@@ -1,0 +1,22 @@
+use Rattle.std.proofs.Common.{◌≤◌, arith}
+use Rattle.gh_ground.specs.Solving.{IsAnswer}
+use Rattle.gh_ground.specs.declared.solve.Answer.TheVariants.{Model}
+use Rattle.gh_small.specs.Bounded.{bounded_by}
+use Rattle.gh_small.proofs.DescentLemmas.{next_model, next_below}
+use Rattle.gh_small.proofs.descent.descend.Goals as goal
+
+pub loop-cells-smaller : goal.loop-cells-smaller
+loop-cells-smaller c =
+    let p = c.args.ground.now in
+    let k = c.loop-cells.cells in
+    let some : 1 ≤ k = omega arith in
+    let is : IsAnswer (bounded_by p k) (Model c.in-Model.next) = rw c.in-Model.is at c.in_ok-next.ensures in
+    next_below p k c.in_ok-cells-in-Model.cells c.in-Model.next c.sizes-sizes.ensures.valid some is c.in_ok-cells-in-Model.ensures.few
+
+pub loop-cells-preserved : goal.loop-cells-preserved
+loop-cells-preserved c =
+    let p = c.args.ground.now in
+    let k = c.loop-cells.cells in
+    let some : 1 ≤ k = omega arith in
+    let is : IsAnswer (bounded_by p k) (Model c.in-Model.next) = rw c.in-Model.is at c.in_ok-next.ensures in
+    record { model = next_model p k c.in-Model.next c.sizes-sizes.ensures.valid some is; count = c.in_ok-cells-in-Model.ensures.count }

@@ -1,0 +1,34 @@
+use Rattle.gh_ast.specs.Plain.{program_of}
+use Rattle.gh_ground.specs.Solving.{IsAnswer}
+use Rattle.gh_ground.specs.declared.solve.Answer.TheVariants.{Model, Refutation}
+use Rattle.gh_decide.proofs.Parts.{IsGroundOf, few_steps, shown}
+use Rattle.gh_small.proofs.DescentLemmas.{first_model}
+use Rattle.gh_small.proofs.SmallestLemmas.{smallest_found}
+use Rattle.gh_small.proofs.smallest.smallest.Goals as goal
+
+pub returns-in-Refutation : goal.returns-in-Refutation
+returns-in-Refutation c =
+    let P = program_of c.args.typed.now in
+    let r = c.args.condition.now in
+    let p = c.in_ok-ground.ground in
+    let ground : IsGroundOf P r p = λ k stands. c.in_ok-ground.ensures.told P k (c.in_ok-symbolic.ensures k stands) in
+    let is : IsAnswer p (Refutation c.in-Refutation.field-0) = rw c.in-Refutation.is at c.in_ok-answer.ensures in
+    (shown P r p c.in-Refutation.field-0 c.requires.admitted.typed ground is).valid
+
+pub descend-requires : goal.descend-requires
+descend-requires c =
+    let p = c.in_ok-ground.ground in
+    let is : IsAnswer p (Model c.in-Model.first) = rw c.in-Model.is at c.in_ok-answer.ensures in
+    first_model p c.in-Model.first is
+
+pub build-requires-clause-few : goal.build-requires-clause-few
+build-requires-clause-few c = few_steps (program_of c.args.typed.now) c.args.condition.now c.requires.one.0 c.requires.admitted c.requires.one.1
+
+pub returns : goal.returns
+returns c =
+    let P = program_of c.args.typed.now in
+    let r = c.args.condition.now in
+    let p = c.in_ok-ground.ground in
+    let ground : IsGroundOf P r p = λ k stands. c.in_ok-ground.ensures.told P k (c.in_ok-symbolic.ensures k stands) in
+    smallest_found P r p c.in_ok-fewest-in-Model.fewest c.in_ok-trace-in-Model.trace c.requires.admitted.typed ground c.sizes-sizes.ensures.valid c.in_ok-fewest-in-Model.ensures
+    c.in_ok-trace-in-Model.ensures c.requires.one

@@ -1,0 +1,36 @@
+-- Ground clauses that also say: fewer than k classes are allocated in version 0.
+use Rattle.std.specs.Prelude.{ℕ, ◌+◌, ◌*◌, ◌^◌, ◌<◌, ◌≤◌, ◌≡◌, ◌++◌, List, length}
+use Rattle.gh_base.specs.declared.atom.Lit.{Lit}
+use Rattle.gh_base.specs.declared.sizes.Sizes.{Sizes}
+use Rattle.gh_base.specs.Grounds.{Problem}
+use Rattle.gh_small.specs.declared.bounding.Numbers.{Numbers}
+use Rattle.gh_small.specs.Fewer.{fewer}
+
+abbrev pub with_more : Problem → List (List Lit) → Problem
+with_more p cs = record p { clauses = p.clauses ++ cs }
+
+-- the number of definitions with the new ones
+abbrev pub defs_after : Sizes → ℕ → ℕ
+defs_after s k = s.defs + s.terms + s.terms * k
+
+abbrev pub bounded_by : Problem → ℕ → Problem
+bounded_by p k = record {
+  sizes = record p.sizes { defs = defs_after p.sizes k };
+  clauses = p.clauses ++ fewer p.sizes.terms p.sizes.defs k;
+}
+
+-- 32 bits number the clauses and the definitions
+pub record HasRoom (p : Problem) (k : ℕ) : Type 0 where
+  pub clauses : length (bounded_by p k).clauses ≤ 4294967294
+  pub defs : defs_after p.sizes k < 2 ^ 32
+
+-- 32 bits number the definitions
+pub record IsNumbered (c : Numbers) : Type 0 where
+  pub some : 1 ≤ c.cells
+  pub room : c.first + c.terms + c.terms * c.cells < 2 ^ 32
+
+-- the definitions are there
+pub record IsWithin (c : Numbers) (s : Sizes) : Type 0 where
+  pub terms : s.terms ≡ c.terms
+  pub versions : 1 ≤ s.versions
+  pub defs : c.first + c.terms + c.terms * c.cells ≤ s.defs

@@ -1,0 +1,73 @@
+-- The clauses that say: fewer than k classes of the first n terms are allocated in version 0.
+-- Definitions are numbered from d on: first one for each term, then k for each term.
+use Rattle.std.specs.Prelude.{ℕ, zero, suc, ◌+◌, ◌-◌, ◌*◌, List, [], ◌∷◌, ◌++◌, true, false}
+use Rattle.gh_base.specs.declared.atom.Term.{Term}
+use Rattle.gh_base.specs.declared.atom.Atom.{Atom}
+use Rattle.gh_base.specs.declared.atom.Atom.TheVariants.{Eq, Alloc, Def}
+use Rattle.gh_base.specs.declared.atom.Lit.{Lit}
+
+abbrev pub term : ℕ → Term
+term t = record { 0 = t }
+
+abbrev pub positive : Atom → Lit
+positive a = record { atom = a; positive = true }
+
+abbrev pub negative : Atom → Lit
+negative a = record { atom = a; positive = false }
+
+-- the lists of the numbers below n, one after the other
+abbrev pub each : {A : Type 0} → ℕ → (ℕ → List A) → List A
+each zero f = []
+each (suc n) f = each n f ++ f n
+
+abbrev pub is_allocated : ℕ → Atom
+is_allocated t = Alloc 0 (term t)
+
+-- that t is allocated and equal to no term before it
+abbrev pub leader : ℕ → ℕ → Atom
+leader d t = Def (d + t)
+
+-- that more than j of the terms up to t are leaders
+abbrev pub counter : ℕ → ℕ → ℕ → ℕ → ℕ → Atom
+counter n d k t j = Def (d + n + t * k + j)
+
+-- that a term before t equals t
+abbrev pub earlier : ℕ → List Lit
+earlier t = each t (λ u. positive (Eq (term u) (term t)) ∷ [])
+
+abbrev pub leader_clause : ℕ → ℕ → List Lit
+leader_clause d t = positive (leader d t) ∷ negative (is_allocated t) ∷ earlier t
+
+-- a leader t makes one
+abbrev pub begins : ℕ → ℕ → ℕ → ℕ → List Lit
+begins n d k t = positive (counter n d k t 0) ∷ negative (leader d t) ∷ []
+
+-- the term after t makes one more than the terms up to t
+abbrev pub raises : ℕ → ℕ → ℕ → ℕ → ℕ → List Lit
+raises n d k t j = positive (counter n d k (suc t) (suc j)) ∷ negative (leader d (suc t)) ∷ negative (counter n d k t j) ∷ []
+
+-- and never less
+abbrev pub keeps : ℕ → ℕ → ℕ → ℕ → ℕ → List Lit
+keeps n d k t j = positive (counter n d k (suc t) j) ∷ negative (counter n d k t j) ∷ []
+
+abbrev pub counter_clauses : ℕ → ℕ → ℕ → ℕ → ℕ → List (List Lit)
+counter_clauses n d k zero zero = begins n d k 0 ∷ []
+counter_clauses n d k zero (suc j) = []
+counter_clauses n d k (suc t) zero = begins n d k (suc t) ∷ keeps n d k t 0 ∷ []
+counter_clauses n d k (suc t) (suc j) = raises n d k t j ∷ keeps n d k t (suc j) ∷ []
+
+abbrev pub all_leaders : ℕ → ℕ → List (List Lit)
+all_leaders n d = each n (λ t. leader_clause d t ∷ [])
+
+-- for each number
+abbrev pub counter_row : ℕ → ℕ → ℕ → ℕ → List (List Lit)
+counter_row n d k t = each k (counter_clauses n d k t)
+
+abbrev pub all_counters : ℕ → ℕ → ℕ → List (List Lit)
+all_counters n d k = each n (counter_row n d k)
+
+abbrev pub last_clause : ℕ → ℕ → ℕ → List Lit
+last_clause n d k = negative (counter n d k (n - 1) (k - 1)) ∷ []
+
+abbrev pub fewer : ℕ → ℕ → ℕ → List (List Lit)
+fewer n d k = all_leaders n d ++ all_counters n d k ++ last_clause n d k ∷ []

@@ -1,0 +1,73 @@
+-- The laws.
+use Rattle.std.specs.Prelude.{ℕ, ◌+◌, ◌-◌, ◌*◌, ◌<◌, ◌≤◌, ◌≡◌, ◌≢◌, ◌↔◌, List, length, true, All, AllPairs, Contains}
+use Rattle.std.specs.FinMap.{len}
+use Rattle.gh_base.specs.declared.sizes.Sizes.{Sizes}
+use Rattle.gh_base.specs.Meaning.{Interpretation, IsClauseTrue, IsCongruence}
+use Rattle.gh_base.specs.Grounds.{Problem, IsProblem}
+use Rattle.gh_ast.specs.Plain.{Program}
+use Rattle.gh_ast.specs.Rules.{IsTyped}
+use Rattle.gh_path.specs.Conditions.{Condition, IsCondition}
+use Rattle.gh_grass.specs.Truth.{IsOneBefore}
+use Rattle.gh_symb.specs.Symbolic.{symbolic_of}
+use Rattle.gh_symb.specs.Formulas.{problem}
+use Rattle.gh_log.specs.declared.lines.LogLine.{LogLine}
+use Rattle.gh_log.specs.Sections.{IsValidSection}
+use Rattle.gh_trace.specs.Traces.{State}
+use Rattle.gh_model.specs.TraceLaws.{IsCounterexample}
+use Rattle.gh_small.specs.Fewer.{is_allocated, fewer}
+use Rattle.gh_small.specs.Leaders.{allocated_classes}
+use Rattle.gh_small.specs.Bounded.{bounded_by}
+use Rattle.gh_small.specs.Models.{IsModel}
+use Rattle.gh_small.specs.Smallest.{IsLeast}
+
+-- where the clauses are true, fewer than k classes are allocated
+abbrev pub FewerIsSound : Type 0
+FewerIsSound = (m : Interpretation) (n d k : ℕ) → 1 ≤ n → 1 ≤ k → All (IsClauseTrue m) (fewer n d k) → allocated_classes m n < k
+
+-- where fewer than k are, truths of the new definitions make the clauses true
+abbrev pub FewerIsPossible : Type 0
+FewerIsPossible =
+    (m : Interpretation) (n d k : ℕ) → 1 ≤ n → 1 ≤ k → allocated_classes m n < k
+    → (w : Interpretation) × IsOneBefore d m w × All (IsClauseTrue w) (fewer n d k)
+
+-- how many clauses there are
+abbrev pub FewerIsCounted : Type 0
+FewerIsCounted = (n d k : ℕ) → 1 ≤ n → 1 ≤ k → length (fewer n d k) ≡ n + (n - 1) * (2 * k) + 2
+
+-- a value of a list is the class of an allocated one of the first n terms, and the other way
+abbrev pub AreAllocated : Interpretation → ℕ → List ℕ → Type 0
+AreAllocated m n values = (v : ℕ) → Contains values v ↔ ((t : ℕ) × (t < n) × (m.table (is_allocated t) ≡ true) × (m.class t ≡ v))
+
+-- the leaders are as many as there are allocated classes
+abbrev pub ClassesAreCounted : Type 0
+ClassesAreCounted =
+    (s : Sizes) (m : Interpretation) (values : List ℕ) → 1 ≤ s.versions → IsCongruence s m → AllPairs (λ a b. a ≢ b) values → AreAllocated m s.terms values
+    → allocated_classes m s.terms ≡ length values
+
+-- without a congruence: terms have values, those of one value are of one class, and each allocated term has one of these values
+abbrev pub ClassesAreFew : Type 0
+ClassesAreFew =
+    (m : Interpretation) (at : ℕ → ℕ) (n : ℕ) (values : List ℕ) → ((t u : ℕ) → t < n → u < n → at t ≡ at u → m.class t ≡ m.class u)
+    → ((t : ℕ) → t < n → m.table (is_allocated t) ≡ true → Contains values (at t)) → allocated_classes m n ≤ length values
+
+-- a model of the bounded clauses is one of the clauses, with fewer than k allocated classes
+abbrev pub BoundedIsSound : Type 0
+BoundedIsSound = (p : Problem) (k : ℕ) (m : Interpretation) → IsProblem p → 1 ≤ k → IsModel (bounded_by p k) m → IsModel p m × (allocated_classes m p.sizes.terms < k)
+
+-- and a model with fewer than k of them becomes one of the bounded clauses by truths of the new definitions alone
+abbrev pub BoundedIsPossible : Type 0
+BoundedIsPossible =
+    (p : Problem) (k : ℕ) (m : Interpretation) → IsProblem p → 1 ≤ k → IsModel p m → allocated_classes m p.sizes.terms < k
+    → (w : Interpretation) × IsOneBefore p.sizes.defs m w × IsModel (bounded_by p k) w
+
+-- a counterexample with fewer than k first cells gives a model of the bounded clauses of its condition
+abbrev pub SmallTracesAreModels : Type 0
+SmallTracesAreModels =
+    (P : Program) (c : Condition) (x : State) (ys : List State) (k : ℕ) → IsTyped P → IsCondition P c → IsProblem (problem (symbolic_of P c)) → 1 ≤ k
+    → IsCounterexample P c x ys → len x.heap < k → (m : Interpretation) × IsModel (bounded_by (problem (symbolic_of P c)) k) m
+
+-- so where a section is valid for these clauses, no counterexample has fewer than k first cells
+abbrev pub SectionsShowLeast : Type 0
+SectionsShowLeast =
+    (P : Program) (c : Condition) (lines : List LogLine) (k : ℕ) → IsTyped P → IsCondition P c → IsProblem (problem (symbolic_of P c)) → 1 ≤ k
+    → IsValidSection (bounded_by (problem (symbolic_of P c)) k) lines → IsLeast P c k

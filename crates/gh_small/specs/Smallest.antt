@@ -1,0 +1,39 @@
+-- Counterexamples with the fewest cells in the first heap.
+use Rattle.std.specs.Prelude.{◌≡◌, ◌↔◌, ◌≤◌, ℕ, List, [], ◌∷◌, Option, Some, None}
+use Rattle.std.specs.FinMap.{len}
+use Rattle.gh_ast.specs.Plain.{Program}
+use Rattle.gh_path.specs.Conditions.{Condition}
+use Rattle.gh_path.specs.declared.condition.Condition as kept
+use Rattle.gh_symb.specs.Symbolic.{symbolic_of}
+use Rattle.gh_symb.specs.Formulas.{problem}
+use Rattle.gh_trace.specs.Traces.{State}
+use Rattle.gh_trace.specs.Replay.{Drawn}
+use Rattle.gh_trace.specs.Kept.{drawn_of, IsKept, IsOne, HasNoCounterexample, HasCounterexample}
+use Rattle.gh_model.specs.TraceLaws.{IsCounterexample}
+use Rattle.gh_small.specs.Models.{IsLowest}
+use Rattle.gh_small.specs.declared.found.Smallest.{Smallest}
+
+-- how many cells the first heap of a trace has
+abbrev pub first_cells : List Drawn → ℕ
+first_cells [] = 0
+first_cells (x ∷ xs) = len x.state.heap
+
+-- no counterexample of the condition has fewer cells in its first heap
+abbrev pub IsLeast : Program → Condition → ℕ → Type 0
+IsLeast P c cells = (x : State) (ys : List State) → IsCounterexample P c x ys → cells ≤ len x.heap
+
+-- the trace is a counterexample with so many first cells, and none has fewer; where there is a cell, the section shows that
+pub record IsSmallest (P : Program) (r : kept.Condition) (s : Smallest) : Type 0 where
+  pub counterexample : HasCounterexample P r (drawn_of s.trace)
+  pub count : s.cells ≡ first_cells (drawn_of s.trace)
+  pub least : (c : Condition) → IsKept P r c → IsLeast P c s.cells
+  pub lowest : (c : Condition) → IsKept P r c → IsLowest (problem (symbolic_of P c)) s.cells s.section
+
+-- the condition is valid, or this is the smallest of its counterexamples
+abbrev pub IsFound : Program → kept.Condition → Option Smallest → Type 0
+IsFound P r None = HasNoCounterexample P r
+IsFound P r (Some s) = IsSmallest P r s
+
+-- there is none exactly where the condition has no counterexample
+abbrev pub FoundIsExact : Type 0
+FoundIsExact = (P : Program) (r : kept.Condition) (found : Option Smallest) → IsOne P r → IsFound P r found → (found ≡ None) ↔ HasNoCounterexample P r

@@ -1,0 +1,14 @@
+pub mod Adding
+pub mod MeaningLemmas
+pub mod StructureLemmas
+pub mod ScriptLemmas
+pub mod CountLemmas
+pub mod MakingLemmas
+pub mod FrontLemmas
+pub mod Exits
+pub mod AtomLemmas
+pub mod LitLemmas
+pub mod ItemLemmas
+pub mod AssertionLemmas
+pub mod DeclaredLemmas
+pub mod ReadingLemmas

@@ -1,0 +1,112 @@
+-- What the script of a condition means.
+use Rattle.std.proofs.Common.{◌≡◌, ℕ, zero, suc, ◌+◌, ◌<◌, ◌≤◌, List, [], ◌∷◌, ◌++◌, length, get_or, map, All, refl, sym, ◌∙◌, ap, subst, arith}
+use Rattle.std.specs.Prelude.{Any, Contains, ◌↔◌}
+use Rattle.std.proofs.lemmas.List.Elements.{All-cons, All-head, All-tail, All-append, All-weaker, All-map, All-contains_itself, All-contains}
+use Rattle.gh_base.specs.declared.atom.Lit.{Lit}
+use Rattle.gh_base.specs.declared.sizes.Sizes.{Sizes}
+use Rattle.gh_base.specs.Atoms.{AreInRange}
+use Rattle.gh_base.specs.Grounds.{Problem, IsProblem}
+use Rattle.gh_base.specs.Meaning as ground
+use Rattle.gh_base.specs.Meaning.{Interpretation, IsCongruence}
+use Rattle.gh_inst.specs.declared.naming.InstanceName.{InstanceName}
+use Rattle.gh_inst.specs.Instances.{instances, clause_of, IsInstance}
+use Rattle.gh_inst.specs.Violations.{IsInstanceTrue, AreInstancesTrue}
+use Rattle.gh_inst.proofs.ListedLemmas.{all_are_listed}
+use Rattle.gh_inst.proofs.RangeLemmas.{instance_in_range}
+use Rattle.gh_ast.specs.Plain.{Program}
+use Rattle.gh_ast.specs.Rules.{IsTyped}
+use Rattle.gh_path.specs.Conditions.{Condition, IsCondition}
+use Rattle.gh_grass.specs.Truth.{AreClausesTrue}
+use Rattle.gh_symb.specs.Symbolic.{symbolic_of}
+use Rattle.gh_symb.specs.Formulas.{problem}
+use Rattle.gh_trace.specs.Traces.{State, IsValid}
+use Rattle.gh_trace.specs.Validity.{IsConditionValid, Refutes}
+use Rattle.gh_model.specs.TraceLaws.{IsCounterexample}
+use Rattle.gh_model.specs.Abstraction.{IsModelOf}
+use Rattle.gh_model.specs.BuiltTraces.{built_trace}
+use Rattle.gh_model.proofs.Locality.{locality_holds}
+use Rattle.gh_model.proofs.ClauseModels.{traces_give_models}
+use Rattle.gh_log.proofs.NumberLemmas.{all_before, all_after}
+use Rattle.gh_smt.specs.Scripts.{script_of}
+use Rattle.gh_smt.specs.Meaning.{SmtModel, IsAssertionTrue, IsSatisfiable}
+use Rattle.gh_smt.specs.Laws.{IsModel, HasModel, ScriptsMeanModels, HasCounterexample, DecidesCondition, ScriptsDecide}
+use Rattle.gh_smt.proofs.MeaningLemmas.{structure_of, is_congruence, structure_clause}
+use Rattle.gh_smt.proofs.StructureLemmas.{model_of, model_clause}
+
+-- what holds of the images
+pub all_mapped : {X Y : Type 0} (P : Y → Type 0) (f : X → Y) (xs : List X) → All P (map f xs) → All (λ x. P (f x)) xs
+all_mapped P f [] h = λ k d l. absurd (omega arith)
+all_mapped P f (x ∷ xs) h = All-cons (λ x. P (f x)) x xs (All-head P (f x) (map f xs) h) (all_mapped P f xs (All-tail P (f x) (map f xs) h))
+
+pub all_are_instances : (n versions : ℕ) → All (IsInstance n versions) (instances n versions)
+all_are_instances n versions =
+    All-weaker (Contains (instances n versions)) (IsInstance n versions) (λ name h. (all_are_listed n versions name).0 h) (instances n versions)
+    (All-contains_itself (instances n versions))
+
+-- all atoms of a script are in range
+pub script_in_range : (p : Problem) → All (AreInRange p.sizes) p.clauses → All (AreInRange p.sizes) (script_of p).clauses
+script_in_range p h =
+    All-append (AreInRange p.sizes) p.clauses (map clause_of (instances p.sizes.terms p.sizes.versions)) h
+    (All-map (AreInRange p.sizes) clause_of (instances p.sizes.terms p.sizes.versions)
+    (All-weaker (IsInstance p.sizes.terms p.sizes.versions) (λ name. AreInRange p.sizes (clause_of name)) (instance_in_range p.sizes)
+    (instances p.sizes.terms p.sizes.versions) (all_are_instances p.sizes.terms p.sizes.versions)))
+
+-- the clauses and the instances are true
+parts : (p : Problem) (m : Interpretation) → AreClausesTrue m (script_of p).clauses → AreClausesTrue m p.clauses × AreInstancesTrue p.sizes m
+parts p m h =
+    let is = map clause_of (instances p.sizes.terms p.sizes.versions) in (
+      all_before (ground.IsClauseTrue m) p.clauses is h,
+      all_mapped (ground.IsClauseTrue m) clause_of (instances p.sizes.terms p.sizes.versions) (all_after (ground.IsClauseTrue m) p.clauses is h),
+    )
+
+whole : (p : Problem) (m : Interpretation) → AreClausesTrue m p.clauses → AreInstancesTrue p.sizes m → AreClausesTrue m (script_of p).clauses
+whole p m h k =
+    let is = map clause_of (instances p.sizes.terms p.sizes.versions) in
+    All-append (ground.IsClauseTrue m) p.clauses is h (All-map (ground.IsClauseTrue m) clause_of (instances p.sizes.terms p.sizes.versions) k)
+
+pub to_model : (p : Problem) → IsSatisfiable (script_of p) → HasModel p
+to_model p (m, h) =
+    let t = parts p (structure_of m) (All-weaker (IsAssertionTrue m) (ground.IsClauseTrue (structure_of m)) (structure_clause m) (script_of p).clauses h) in
+    (structure_of m, record { congruence = is_congruence p.sizes m; instances = t.1; clauses = t.0 })
+
+all_in_model : (s : Sizes) (m : Interpretation) → IsCongruence s m → (cs : List (List Lit)) → All (AreInRange s) cs → AreClausesTrue m cs → All (IsAssertionTrue (model_of s m)) cs
+all_in_model s m g [] r h = λ k d l. absurd (omega arith)
+all_in_model s m g (c ∷ cs) r h =
+    All-cons (IsAssertionTrue (model_of s m)) c cs (model_clause s m g c (All-head (AreInRange s) c cs r) (All-head (ground.IsClauseTrue m) c cs h))
+    (all_in_model s m g cs (All-tail (AreInRange s) c cs r) (All-tail (ground.IsClauseTrue m) c cs h))
+
+pub from_model : (p : Problem) → All (AreInRange p.sizes) p.clauses → HasModel p → IsSatisfiable (script_of p)
+from_model p r (m, h) =
+    (model_of p.sizes m, all_in_model p.sizes m h.congruence (script_of p).clauses (script_in_range p r) (whole p m h.clauses h.instances))
+
+pub scripts_mean_models : ScriptsMeanModels
+scripts_mean_models p is = (to_model p, from_model p is.in_range)
+
+-- a list of states that refutes
+refuting : (P : Program) (c : Condition) (xs : List State) → Refutes P c xs → HasCounterexample P c
+refuting P c [] h = absurd h
+refuting P c (x ∷ ys) h = (x, ys, h)
+
+to_counterexample : (P : Program) (c : Condition) → IsTyped P → IsCondition P c → HasModel (problem (symbolic_of P c)) → HasCounterexample P c
+to_counterexample P c t is (m, h) =
+    refuting P c (built_trace P c m) (locality_holds P c m t is (record { congruence = h.congruence; instances = h.instances; clauses = h.clauses }))
+
+from_counterexample : (P : Program) (c : Condition) → IsTyped P → IsCondition P c → HasCounterexample P c → HasModel (problem (symbolic_of P c))
+from_counterexample P c t is (x, ys, h) =
+    let m = traces_give_models P c x ys t is h in
+    (m.0, record { congruence = m.1.congruence; instances = m.1.instances; clauses = m.1.clauses })
+
+pub scripts_decide : ScriptsDecide
+scripts_decide P c t is p =
+    let s = problem (symbolic_of P c) in
+    let satisfied : HasCounterexample P c → IsSatisfiable (script_of s) = λ h. from_model s p.in_range (from_counterexample P c t is h) in
+    let refuted : IsSatisfiable (script_of s) → HasCounterexample P c = λ h. to_counterexample P c t is (to_model s h) in
+    record {
+      satisfiable = (refuted, satisfied);
+      unsatisfiable = (λ none x ys h. none (satisfied (x, ys, h)), λ valid h. let w = refuted h in valid w.0 w.1 w.2);
+    }
+
+-- the same of a script and a problem that are those
+pub script_decides : (P : Program) (c : Condition) (p s : Problem) → IsTyped P → IsCondition P c → p ≡ problem (symbolic_of P c) → IsProblem p → s ≡ script_of p → DecidesCondition P c s
+script_decides P c p s t is e i same =
+    subst (DecidesCondition P c) (sym (same ∙ ap script_of e)) (scripts_decide P c t is (subst IsProblem e i))

@@ -1,0 +1,24 @@
+use Rattle.std.proofs.Common.{◌≡◌, ◌∙◌, ap, sym, subst, arith}
+use Rattle.gh_reduce.specs.Inside.{plain_of}
+use Rattle.gh_smt.specs.Scripts.{IsSized, script_of}
+use Rattle.gh_smt.proofs.MakingLemmas.{made, short_enough, terms_are, versions_are}
+use Rattle.gh_smt.proofs.CountLemmas.{is_script}
+use Rattle.gh_smt.proofs.ScriptLemmas.{script_decides}
+use Rattle.gh_smt.proofs.making.script.Goals as goal
+
+pub returns : goal.returns
+returns c =
+    let s = c.args.symbolic.now in let p = c.args.ground.now in
+    let terms = terms_are s p c.terms.result.now c.count-terms.result c.count-terms.ensures c.terms.ensures c.requires in
+    let versions = versions_are s p c.versions-versions.result c.versions-versions.ensures c.requires in
+    let same : c.new.result ≡ script_of p =
+    made p c.new.result c.sizes-sizes.result c.count-terms.result c.versions-versions.result _ _ _ c.sizes-sizes.ensures.sizes terms versions c.in_ok-asserted.ensures.items c.in_ok-add_clauses.ensures
+    c.in_ok-add_instances.ensures c.new.ensures in
+    let sized : IsSized c.sizes-sizes.result = record { terms = omega arith; versions = omega arith; defs = omega arith } in
+    record {
+      short = short_enough p _ _ _ _ _ c.from.ensures c.count.ensures.count c.count_instances.ensures.value terms versions c.if-count-gt-MOST.false;
+      is = same;
+      written = is_script (plain_of s) p c.new.result c.requires c.sizes-sizes.ensures.valid (subst IsSized c.sizes-sizes.ensures.sizes sized) same;
+      refused = tt;
+      decides = λ P d t is e. script_decides P d p c.new.result t is e c.sizes-sizes.ensures.valid same;
+    }

@@ -1,0 +1,47 @@
+-- The laws.
+use Rattle.std.specs.Prelude.{◌≡◌, ◌↔◌, List}
+use Rattle.gh_base.specs.Grounds.{Problem, IsProblem}
+use Rattle.gh_base.specs.Meaning.{Interpretation, IsCongruence}
+use Rattle.gh_ast.specs.Plain.{Program}
+use Rattle.gh_ast.specs.Rules.{IsTyped}
+use Rattle.gh_path.specs.Conditions.{Condition, IsCondition}
+use Rattle.gh_grass.specs.Truth.{AreClausesTrue}
+use Rattle.gh_symb.specs.Symbolic.{symbolic_of}
+use Rattle.gh_symb.specs.Formulas.{problem}
+use Rattle.gh_inst.specs.Violations.{AreInstancesTrue}
+use Rattle.gh_trace.specs.Traces.{State}
+use Rattle.gh_trace.specs.Validity.{IsConditionValid}
+use Rattle.gh_model.specs.TraceLaws.{IsCounterexample}
+use Rattle.gh_smt.specs.Scripts.{IsScript, script_of}
+use Rattle.gh_smt.specs.Texts.{script_text}
+use Rattle.gh_smt.specs.Meaning.{IsSatisfiable}
+
+-- equality is a congruence, and all clauses and all instances of the axioms are true
+pub record IsModel (p : Problem) (m : Interpretation) : Type 0 where
+  pub congruence : IsCongruence p.sizes m
+  pub instances : AreInstancesTrue p.sizes m
+  pub clauses : AreClausesTrue m p.clauses
+
+abbrev pub HasModel : Problem → Type 0
+HasModel p = (m : Interpretation) × IsModel p m
+
+-- a script is satisfiable exactly where the clauses and all instances have a model
+abbrev pub ScriptsMeanModels : Type 0
+ScriptsMeanModels = (p : Problem) → IsProblem p → IsSatisfiable (script_of p) ↔ HasModel p
+
+abbrev pub HasCounterexample : Program → Condition → Type 0
+HasCounterexample P c = (x : State) × (ys : List State) × IsCounterexample P c x ys
+
+-- a script is satisfiable exactly where a condition has a counterexample, and isn't exactly where the condition is valid
+pub record DecidesCondition (P : Program) (c : Condition) (script : Problem) : Type 0 where
+  pub satisfiable : IsSatisfiable script ↔ HasCounterexample P c
+  pub unsatisfiable : (IsSatisfiable script → ⊥) ↔ IsConditionValid P c
+
+-- that of a condition is
+abbrev pub ScriptsDecide : Type 0
+ScriptsDecide =
+    (P : Program) (c : Condition) → IsTyped P → IsCondition P c → IsProblem (problem (symbolic_of P c)) → DecidesCondition P c (script_of (problem (symbolic_of P c)))
+
+-- two scripts that have one text are one
+abbrev pub TextsAreOne : Type 0
+TextsAreOne = (p o : Problem) → IsScript p → IsScript o → script_text p ≡ script_text o → p ≡ o

@@ -1,0 +1,14 @@
+//! Conditions as SMT-LIB scripts.
+#![tactic(auto)]
+
+mod cursor;
+pub mod error;
+mod kind;
+pub mod laws;
+mod literals;
+pub mod making;
+pub mod reading;
+pub mod script;
+#[cfg(test)]
+mod tests;
+pub mod writing;

@@ -1,0 +1,123 @@
+-- From a smallest counterexample to what is answered for it.
+use Rattle.std.proofs.Common.{◌≡◌, ℕ, ◌-◌, List, [], ◌∷◌, ◌++◌, length, map, Option, Some, None, refl, sym, ap, subst, append_assoc, ◌∙◌}
+use Rattle.std.specs.Prelude.{codes, All, IfSome}
+use Rattle.std.specs.Fmt.{decimal}
+use Rattle.std.proofs.lemmas.List.Elements.{All-nil, All-cons}
+use Rattle.gh_ast.specs.Plain.{Program}
+use Rattle.gh_ast.specs.Rules.{IsTyped}
+use Rattle.gh_path.specs.Answers.{IsNumbered}
+use Rattle.gh_path.specs.Conditions.{Condition, conditions}
+use Rattle.gh_path.specs.Kept.{StandsFor}
+use Rattle.gh_path.specs.declared.condition.Condition as kept
+use Rattle.gh_symb.specs.Symbolic.{symbolic_of}
+use Rattle.gh_symb.specs.Formulas.{problem}
+use Rattle.gh_trace.specs.Kept.{state_of, drawn, IsKept, IsOne, HasNoCounterexample}
+use Rattle.gh_trace.specs.declared.state.State.{State}
+use Rattle.gh_trace.specs.declared.state.Trace.{Trace}
+use Rattle.gh_log.specs.declared.lines.LogLine.{LogLine}
+use Rattle.gh_log.specs.declared.lines.Section.{Section}
+use Rattle.gh_log.specs.Spelled.{IsOfVersion}
+use Rattle.gh_decide.proofs.Listed.{placed}
+use Rattle.gh_decide.specs.Outcomes.{IsFirst, IsVerified}
+use Rattle.gh_draw.specs.Descriptions.{description}
+use Rattle.gh_draw.specs.Drawings.{line}
+use Rattle.gh_draw.specs.Drawn.{drawing_text, HasValues}
+use Rattle.gh_draw.specs.Kept.{Describes}
+use Rattle.gh_draw.proofs.Refuted.{told_of_refuted}
+use Rattle.gh_small.specs.Models.{IsLowest}
+use Rattle.gh_small.specs.Smallest.{first_cells, IsSmallest}
+use Rattle.gh_small.specs.declared.found.Smallest.{Smallest}
+use Rattle.gh_log.specs.declared.lines.Log.{Log}
+use Rattle.gh_top.specs.Headline.{smallest_verified, smallest_refuted}
+use Rattle.gh_top.specs.Replies.{Replies}
+use Rattle.gh_top.specs.Smallests.{cells_at_first, IsBoundText, no_cell, some_cells, section_text, IsSmallestReport}
+use Rattle.gh_top.specs.declared.words.Request.TheVariants as request
+use Rattle.gh_top.specs.declared.status.Status.{Status}
+use Rattle.gh_top.specs.declared.status.Status.TheVariants.{Verified, Refuted}
+use Rattle.gh_top.proofs.DecidingLemmas.{first_at}
+
+-- the condition that is kept is the first that isn't valid
+pub kept_first : (P : Program) (k : ℕ) (t : Trace) (r : kept.Condition) → (f : IsFirst P k t) → IsNumbered P k (Some r) → IsKept P r f.condition
+kept_first P k t r f (c, low, there, stands) =
+    let at = first_at P k t f in
+    let same : c ≡ f.condition = cc in
+    record { stands = subst (StandsFor P r) same stands; there = placed P (k - 1) f.condition at }
+
+pub first_one : (P : Program) (k : ℕ) (t : Trace) (r : kept.Condition) → IsFirst P k t → IsNumbered P k (Some r) → IsOne P r
+first_one P k t r f n = (f.condition, kept_first P k t r f n)
+
+pub never_valid : (P : Program) (k : ℕ) (t : Trace) (r : kept.Condition) → IsFirst P k t → IsNumbered P k (Some r) → HasNoCounterexample P r → ⊥
+never_valid P k t r f n valid = valid f.condition (kept_first P k t r f n) f.refutes.first.state _ f.refutes.counterexample
+
+-- the smallest counterexample is one of that condition
+pub still_first : (P : Program) (k : ℕ) (t : Trace) (r : kept.Condition) (s : Smallest) → IsFirst P k t → IsNumbered P k (Some r) → IsSmallest P r s → IsFirst P k s.trace
+still_first P k t r s f n is = record {
+  before = f.before;
+  condition = f.condition;
+  after = f.after;
+  whole = f.whole;
+  number_is = f.number_is;
+  valid = f.valid;
+  refutes = is.counterexample f.condition (kept_first P k t r f n);
+}
+
+second_version : (P : Program) (c : Condition) (cells : ℕ) (o : Option Section) → IsLowest (problem (symbolic_of P c)) cells o → IfSome o (λ s. All (IsOfVersion 2) s.lines.items)
+second_version P c cells None h = tt
+second_version P c cells (Some s) h = h.1.placed.version
+
+-- its section is of version 2
+pub of_second : (P : Program) (k : ℕ) (r : kept.Condition) (s : Smallest) → IsFirst P k s.trace → IsNumbered P k (Some r) → IsSmallest P r s → IfSome s.section (λ x. All (IsOfVersion 2) x.lines.items)
+of_second P k r s f n is = second_version P f.condition s.cells s.section (is.lowest f.condition (kept_first P k s.trace r f n))
+
+bound_told : (P : Program) (c : Condition) (cells : ℕ) (o : Option Section) → IsLowest (problem (symbolic_of P c)) cells o → IsBoundText P c cells (section_text o)
+bound_told P c cells None e = subst (λ n. IsBoundText P c n []) (sym e) no_cell
+bound_told P c cells (Some s) h =
+    some_cells s.lines.items h.0 h.1.valid (All-cons (λ (ls : List LogLine). All (IsOfVersion 2) ls) s.lines.items [] h.1.placed.version (All-nil (λ (ls : List LogLine). All (IsOfVersion 2) ls)))
+
+same_cells : (ss : List State) → first_cells (map drawn ss) ≡ cells_at_first (map state_of ss)
+same_cells [] = refl
+same_cells (s ∷ ss) = refl
+
+assembled : (front d e shown bound first second third fourth : List ℕ) → first ≡ front ++ d → second ≡ first ++ e → third ≡ second ++ shown → fourth ≡ third ++ bound → fourth ≡ (front ++ (d ++ e) ++ shown) ++ bound
+assembled front d e shown bound first second third fourth a b c f = rw (f, c, b, a) (simp append_assoc)
+
+-- the pieces of the report make it up
+pub reported : (P : Program) (k n : ℕ) (s : Smallest) (r : kept.Condition) (front d shown bound first second third fourth : List ℕ) → IsTyped P → IsFirst P k s.trace → IsNumbered P k (Some r) → IsSmallest P r s
+    → All HasValues s.trace.states.items → n ≡ length (conditions P)
+    → front ≡ line (codes "smallest: condition " ++ decimal k ++ codes " of " ++ decimal n ++ codes ", " ++ decimal s.cells ++ codes " cells")
+    → Describes P r d → shown ≡ drawing_text k s.trace.states.items → bound ≡ section_text s.section
+    → first ≡ front ++ d → second ≡ first ++ codes "\n" → third ≡ second ++ shown → fourth ≡ third ++ bound → IsSmallestReport P fourth
+reported P k n s r front d shown bound first second third fourth typed f there is values count begun described told_by bounded a b e g =
+    let c : Condition = f.condition in
+    let keeps = kept_first P k s.trace r f there in
+    let told = told_of_refuted P k c s.trace.states.items typed (first_at P k s.trace f) f.refutes values in
+    let text : d ≡ description c = described c keeps.stands in
+    record {
+      number = k;
+      cells = s.cells;
+      condition = c;
+      states = map state_of s.trace.states.items;
+      bound = bound;
+      first =
+          record {
+            reached = record { before = f.before; after = f.after; whole = f.whole; number = f.number_is; valid = f.valid };
+            refutes = told.refutes;
+            drawable = told.drawable;
+          };
+      count = is.count ∙ same_cells s.trace.states.items;
+      least = is.least c keeps;
+      shown = subst (IsBoundText P c s.cells) (sym bounded) (bound_told P c s.cells s.section (is.lowest c keeps));
+      text_is =
+          assembled front d (codes "\n") shown bound first second third fourth a b e g
+          ∙ ap (λ z. (z ++ (d ++ codes "\n") ++ shown) ++ bound) begun
+          ∙ ap (λ m. (line (codes "smallest: condition " ++ decimal k ++ codes " of " ++ decimal m ++ codes ", " ++ decimal s.cells ++ codes " cells") ++ (d ++ codes "\n") ++ shown) ++ bound) count
+          ∙ ap (λ z. (line (codes "smallest: condition " ++ decimal k ++ codes " of " ++ decimal (length (conditions P)) ++ codes ", " ++ decimal s.cells ++ codes " cells") ++ (z ++ codes "\n") ++ shown) ++ bound) text
+          ∙ ap (λ z. (line (codes "smallest: condition " ++ decimal k ++ codes " of " ++ decimal (length (conditions P)) ++ codes ", " ++ decimal s.cells ++ codes " cells") ++ line (description c) ++ z) ++ bound) (told_by ∙ told.text);
+    }
+
+pub smallest_valid : (P : Program) (n : ℕ) (log : Log) (s : Status) (u : List ℕ) → IsVerified P log → n ≡ length (conditions P) → s ≡ Verified
+    → u ≡ line (codes "verified: " ++ decimal n ++ codes " of " ++ decimal n ++ codes " valid") → (file : List ℕ) → Replies (request.Smallest file) P s u
+smallest_valid P n log s u v count a b file words files asks = rw (a, b, count) (smallest_verified asks v.valid)
+
+pub smallest_fails : (P : Program) (s : Status) (u : List ℕ) → s ≡ Refuted → IsSmallestReport P u → (file : List ℕ) → Replies (request.Smallest file) P s u
+smallest_fails P s u a f file words files asks = rw a (smallest_refuted asks f)

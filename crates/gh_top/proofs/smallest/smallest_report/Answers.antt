@@ -1,0 +1,20 @@
+use Rattle.std.proofs.Common.{◌≡◌, ◌∙◌, ◌++◌, ap, length}
+use Rattle.gh_ast.specs.Plain.{program_of}
+use Rattle.gh_path.specs.Conditions.{conditions}
+use Rattle.gh_draw.specs.Kept.{Describes}
+use Rattle.gh_top.proofs.SmallestLemmas.{of_second, reported}
+use Rattle.gh_top.proofs.smallest.smallest_report.Goals as goal
+
+pub bound_text-requires : goal.bound_text-requires
+bound_text-requires c = of_second (program_of c.args.admitted.now) c.args.number c.args.condition.now c.args.found c.requires.first c.requires.numbered c.requires.smallest
+
+pub returns-clause-text : goal.returns-clause-text
+returns-clause-text c =
+    let P = program_of c.args.admitted.now in
+    let count : c.count.result ≡ length (conditions P) = c.count.ensures ∙ ap (λ p. length (conditions (program_of p))) c.conditions-conditions.ensures in
+    let described : Describes P c.args.condition.now c.in_ok-description.description = rw c.typed-typed.ensures.same at c.in_ok-description.ensures in
+    reported P c.args.number c.count.result c.args.found c.args.condition.now c.in_ok-text.text c.in_ok-description.description c.in_ok-drawn.drawn c.in_ok-bound.bound
+    c.push.new.self c.push-2.new.self c.push-3.new.self c.push-4.new.self
+    c.typed-typed.ensures.admitted.typed c.requires.first c.requires.numbered c.requires.smallest c.in_ok-drawn.ensures.values count c.in_ok-text.ensures described c.in_ok-drawn.ensures.text c.in_ok-bound.ensures
+    (c.in_ok-push.ensures.ok ∙ ap (λ t. c.in_ok-text.text ++ t) c.bytes.ensures) c.in_ok-push-2.ensures.ok (c.in_ok-push-3.ensures.ok ∙ ap (λ t. c.push-2.new.self ++ t) c.bytes-2.ensures)
+    (c.in_ok-push-4.ensures.ok ∙ ap (λ t. c.push-3.new.self ++ t) c.bytes-3.ensures)

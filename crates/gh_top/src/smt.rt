@@ -1,0 +1,103 @@
+//! The mode `smt`: a condition of a program as an SMT-LIB script.
+
+ghost use Rattle.std.specs.Prelude.{◌≡◌, ◌≤◌, ◌++◌, IfOk, List, ℕ, codes};
+ghost use Rattle.std.specs.Fmt.{decimal};
+ghost use Rattle.gh_ast.specs.Plain.{program_of};
+ghost use Rattle.gh_path.specs.Admitted.{IsAdmitted};
+ghost use Rattle.gh_path.specs.Conditions as plain;
+ghost use Rattle.gh_path.specs.Kept.{StandsFor};
+ghost use Rattle.gh_trace.specs.Kept.{IsOne};
+ghost use Rattle.gh_draw.specs.Descriptions.{place_text};
+ghost use Rattle.gh_draw.specs.Drawings.{line};
+ghost use Rattle.gh_top.specs.Smts.{IsScriptReport};
+ghost use Rattle.gh_top.specs.Replies.{Replies};
+ghost use Rattle.gh_top.specs.declared.words.Request.TheVariants.{Smt};
+
+use crate::front::Admitted;
+use crate::report::Report;
+use crate::status::Status;
+use gh_ast::typed::Typed;
+use gh_base::place::Span;
+use gh_base::text::Text;
+use gh_decide::decide::over_terms;
+use gh_path::condition::Condition;
+use gh_reduce::ground::ground;
+use gh_smt::error::ScriptError;
+use gh_smt::making::script;
+use gh_smt::writing::write_script;
+use std::alloc::{AllocError, Global};
+
+// There is no condition of the number.
+fn unnumbered(alloc: Global, number: u32, count: u32) -> Result<Report, AllocError>
+    ensures status { IfOk result (λ r. r.status ≡ Status.LogRefused) }
+    ensures text { IfOk result (λ r. r.text ≡ line (codes "refused: no condition " ++ decimal number ++ codes " of " ++ decimal count)) }
+{
+    let written = format!(in alloc; "refused: no condition {number} of {count}\n")?;
+    let mut text = Text::new(alloc);
+    text.push(written.as_bytes())?;
+    Ok(Report {
+        status: Status::LogRefused,
+        text,
+    })
+}
+
+// The place of the name of a condition's procedure.
+fn place(typed: &Typed, condition: &Condition) -> Span
+    requires { (c : plain.Condition) × StandsFor (program_of typed.now) condition.now c }
+    ensures { (c : plain.Condition) → StandsFor (program_of typed.now) condition.now c → result ≡ c.procedure.name.span }
+{
+    let procedure = &typed.program().procedures[condition.procedure as usize];
+    procedure.name.span
+}
+
+// The script would have so many assertions, which are too many.
+fn too_long(alloc: Global, span: Span, count: u64) -> Result<Report, AllocError>
+    ensures status { IfOk result (λ r. r.status ≡ Status.TextRefused) }
+    ensures text { IfOk result (λ r. r.text ≡ line (codes "refused: Limit script at " ++ place_text span ++ codes ", count " ++ decimal count)) }
+{
+    let row = span.line;
+    let column = span.col;
+    let place = format!(in alloc; "refused: Limit script at {row}:{column}")?;
+    let number = format!(in alloc; ", count {count}\n")?;
+    let mut text = Text::new(alloc);
+    text.push(place.as_bytes())?;
+    text.push(number.as_bytes())?;
+    Ok(Report {
+        status: Status::TextRefused,
+        text,
+    })
+}
+
+// The script of a condition, or that it is too long.
+fn script_report(alloc: Global, typed: &Typed, condition: &Condition) -> Result<Report, AllocError>
+    requires admitted { IsAdmitted (program_of typed.now) }
+    requires one { IsOne (program_of typed.now) condition.now }
+    ensures { IfOk result (λ r. (c : plain.Condition) → StandsFor (program_of typed.now) condition.now c → IsScriptReport (program_of typed.now) c r.status r.text) }
+{
+    let symbolic = over_terms(alloc, typed, condition)?;
+    let ground = ground(alloc, &symbolic)?;
+    match script(alloc, &symbolic, &ground) {
+        Ok(script) => Ok(Report {
+            status: Status::Listed,
+            text: write_script(alloc, &script)?,
+        }),
+        Err(ScriptError::TooLong { count }) => {
+            let span = place(typed, condition);
+            Ok(too_long(alloc, span, count)?)
+        }
+        Err(ScriptError::OutOfMemory) => Err(AllocError),
+    }
+}
+
+/// What `smt` answers for an admitted program and the number of a condition.
+pub fn smt(alloc: Global, admitted: &Admitted, number: u32) -> Result<Report, AllocError>
+    requires { 1 ≤ number }
+    ensures { IfOk result (λ r. (file : List ℕ) → Replies (Smt file number) (program_of admitted.now) r.status r.text) }
+{
+    let typed = admitted.typed();
+    let conditions = admitted.conditions();
+    match conditions.condition(alloc, number)? {
+        Some(condition) => Ok(script_report(alloc, typed, &condition)?),
+        None => Ok(unnumbered(alloc, number, conditions.count())?),
+    }
+}
