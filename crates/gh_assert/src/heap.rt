@@ -1,6 +1,6 @@
 //! Heaps: cells with distinct places.
 
-ghost use Rattle.std.specs.Prelude.{◌≡◌, ◌≢◌, OnOk, OnErr, MatchResult, T};
+ghost use Rattle.std.specs.Prelude.{◌≡◌, ◌≢◌, OnOk, OnErr, IfOk, MatchResult, T};
 ghost use Rattle.std.specs.Ordering.{nat_cmp};
 ghost use Rattle.std.specs.FinMap as map;
 ghost use Rattle.gh_assert.specs.Cells.{pairs, AreCells, IsHere, IsGap};
@@ -88,6 +88,15 @@ impl Heap {
             Ok(i) => Some(self.cells.remove(i).to),
             Err(_) => None,
         }
+    }
+
+    /// A copy of the heap.
+    pub fn copy(&self, alloc: Global) -> Result<Heap, AllocError>
+        ensures { IfOk result (λ h. h ≡ self.now) }
+    {
+        Ok(Heap {
+            cells: Vec::from_slice(alloc, self.cells.as_slice())?,
+        })
     }
 
     /// All cells, ascending.

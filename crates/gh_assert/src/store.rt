@@ -1,6 +1,6 @@
 //! Stores: names with values.
 
-ghost use Rattle.std.specs.Prelude.{◌≡◌, ◌↔◌, ◌∷◌, ◌++◌, [], OnOk, OnErr, IsSome, position, Contains};
+ghost use Rattle.std.specs.Prelude.{◌≡◌, ◌↔◌, ◌∷◌, ◌++◌, [], OnOk, OnErr, IfOk, IsSome, position, Contains};
 ghost use Rattle.std.specs.Str.{bytes_eq};
 ghost use Rattle.gh_assert.specs.Stores.{listed_names, AreDistinct, listed, IsSet};
 
@@ -81,6 +81,21 @@ impl Store {
         if let Some(i) = place(self.entries.as_slice(), name.bytes()) {
             self.entries[i].value = value;
         }
+    }
+
+    /// A copy of the store.
+    pub fn copy(&self, alloc: Global) -> Result<Store, AllocError>
+        ensures { IfOk result (λ s. s ≡ self.now) }
+    {
+        let mut entries = Vec::new(alloc);
+        for entry in self.entries.as_slice() {
+            let name = entry.name.copy(alloc)?;
+            entries.push(Entry {
+                name,
+                value: entry.value,
+            })?;
+        }
+        Ok(Store { entries })
     }
 
     /// All entries, in their order.

@@ -1,5 +1,7 @@
 //! What settles each condition by a decision of its own.
 
+ghost use Rattle.std.specs.Prelude.{◌≡◌};
+
 use crate::decide::{Verdict, decide};
 use gh_ast::typed::Typed;
 use gh_path::condition::Condition;
@@ -7,23 +9,39 @@ use gh_trace::decider::Decider;
 use gh_trace::state::Trace;
 use std::alloc::{AllocError, Global};
 
-/// Decides each condition that it is asked for, and keeps nothing.
+/// Decides each condition that it is asked for, and keeps nothing but how often it was asked.
 #[derive(Debug, Drop)]
-pub struct Direct {}
+pub struct Direct {
+    calls: u64,
+}
 
 impl Direct {
-    pub fn new() -> Direct {
-        Direct {}
+    pub fn new() -> Direct
+        ensures { result.calls ≡ 0 }
+    {
+        Direct { calls: 0 }
+    }
+
+    /// How often it was asked. The count stays at its type's last value.
+    pub fn calls(&self) -> u64
+        ensures { result ≡ self.now.calls }
+    {
+        self.calls
     }
 }
 
 impl Decider for Direct {
+    ghost calls = { λ d. d.calls };
+
+    ghost last = { 18446744073709551615 };
+
     fn settle(
         &mut self,
         alloc: Global,
         typed: &Typed,
         condition: &Condition,
     ) -> Result<Option<Trace>, AllocError> {
+        self.calls = self.calls.saturating_add(1);
         match decide(alloc, typed, condition)? {
             Verdict::Valid(_) => Ok(None),
             Verdict::Refuted(trace) => Ok(Some(trace)),

@@ -25,7 +25,7 @@ use Rattle.gh_sat.proofs.ListLemmas.{get_within, get_some, get_last}
 use Rattle.gh_sat.proofs.LearnLemmas.{false_in_range}
 use Rattle.gh_sat.proofs.TheoryLemmas.{added_cut}
 use Rattle.gh_ground.specs.Kept.{IsKept, Keeps, IsAnswered, IsOpen, IsRefuted, IsEnded}
-use Rattle.gh_ground.specs.Solving.{IsNoDeletion, IsRefutationOf}
+use Rattle.gh_ground.specs.Solving.{IsNoDeletion, Refutes}
 
 -- the line of a clause with hints
 abbrev pub IsHintedLine : List Lit → List ℕ → LogLine → Type 0
@@ -191,7 +191,7 @@ keeps_instance old new before after name clause instance is adds pushed =
 
 -- the empty clause ends a section
 pub refutation_of : (p : Problem) (s : State) (lines ended : List LogLine) (reasons : List ℕ) (end : LogLine) (section : Section) → AreReasons s.clauses reasons [] → IsKept p s lines → IsHintedLine [] (map (λ k. k + 1) reasons) end
-    → ended ≡ lines ++ end ∷ [] → section.lines.items ≡ ended → section.first ≡ 1 → vec_len section.lines ≤ 4294967294 → IsRefutationOf p section
+    → ended ≡ lines ++ end ∷ [] → section.lines.items ≡ ended → section.first ≡ 1 → vec_len section.lines ≤ 4294967294 → Refutes p section
 refutation_of p s lines ended reasons end section shown kept hinted pushed is first few =
     let last : LogLine = line.Hinted [] hinted.0 in
     let whole : section.lines.items ≡ lines ++ last ∷ [] = is ∙ pushed ∙ ap (λ (x : LogLine). lines ++ x ∷ []) hinted.1 in

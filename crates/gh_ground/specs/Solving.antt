@@ -1,5 +1,5 @@
 -- What a decision of ground clauses answers.
-use Rattle.std.specs.Prelude.{◌≡◌, ◌≤◌, ⊤, All, vec_len}
+use Rattle.std.specs.Prelude.{◌≡◌, ◌+◌, ◌<◌, ◌≤◌, ⊤, ℕ, List, [], Some, All, Contains, length, slice_get, vec_len}
 use Rattle.gh_base.specs.Grounds.{Problem}
 use Rattle.gh_base.specs.Meaning.{IsClauseTrue, IsCongruence}
 use Rattle.gh_base.specs.Structures.{Tables, interpretation_of}
@@ -24,14 +24,40 @@ abbrev pub IsNoDeletion : LogLine → Type 0
 IsNoDeletion (line.Delete positions) = ⊥
 IsNoDeletion _ = ⊤
 
+-- the positions that a line has as hints
+abbrev pub hints_of : LogLine → List ℕ
+hints_of (line.Hinted c hints) = hints.items
+hints_of _ = []
+
+-- a later line has the position of the line at a place as a hint
+pub record IsHintLater (lines : List LogLine) (k : ℕ) : Type 0 where
+  pub place : ℕ
+  pub later : k < place
+  pub line : LogLine
+  pub at : slice_get lines place ≡ Some line
+  pub hint : Contains (hints_of line) (k + 1)
+
+-- each line but the last is at a hint of a later one
+abbrev pub IsTrimmed : List LogLine → Type 0
+IsTrimmed lines = (k : ℕ) → k + 1 < length lines → IsHintLater lines k
+
 -- the section is valid for the problem, is of version 2 without deletions and stands at the first line, and 32 bits number
--- its lines and the place after them
+-- its lines and the place after them; it may have lines that nothing later needs
+pub record Refutes (p : Problem) (s : Section) : Type 0 where
+  pub valid : IsValidSection p s.lines.items
+  pub version : All (IsOfVersion 2) s.lines.items
+  pub no_deletions : All IsNoDeletion s.lines.items
+  pub first : s.first ≡ 1
+  pub few : vec_len s.lines ≤ 4294967294
+
+-- the section refutes the problem, and each line but the last is needed later
 pub record IsRefutationOf (p : Problem) (s : Section) : Type 0 where
   pub valid : IsValidSection p s.lines.items
   pub version : All (IsOfVersion 2) s.lines.items
   pub no_deletions : All IsNoDeletion s.lines.items
   pub first : s.first ≡ 1
   pub few : vec_len s.lines ≤ 4294967294
+  pub trimmed : IsTrimmed s.lines.items
 
 abbrev pub IsAnswer : Problem → Answer → Type 0
 IsAnswer p (Model s) = IsModelOf p s

@@ -1,13 +1,9 @@
 -- Sections without the lines that nothing later needs.
-use Rattle.std.specs.Prelude.{◌≡◌, ◌+◌, ◌-◌, ◌<◌, ◌≤◌, ⊤, ℕ, List, [], Bool, true, Some, All, length, map, slice_get, slice_index, Vec}
+use Rattle.std.specs.Prelude.{◌≡◌, ◌⊎◌, ◌+◌, ◌-◌, ◌<◌, ◌≤◌, ⊤, ℕ, List, Bool, true, Some, All, Contains, length, map, slice_get, slice_index, Vec}
 use Rattle.std.specs.declared.alloc.Global.{Global}
 use Rattle.gh_log.specs.declared.lines.LogLine.{LogLine}
 use Rattle.gh_log.specs.declared.lines.LogLine.TheVariants as line
-
--- the positions that a line has as hints
-abbrev pub hints_of : LogLine → List ℕ
-hints_of (line.Hinted c hints) = hints.items
-hints_of _ = []
+use Rattle.gh_ground.specs.Solving.{hints_of}
 
 abbrev pub IsKeptAt : List Bool → ℕ → Type 0
 IsKeptAt kept k = slice_get kept k ≡ Some true
@@ -16,11 +12,25 @@ IsKeptAt kept k = slice_get kept k ≡ Some true
 abbrev pub AreKeptBefore : List Bool → ℕ → List ℕ → Type 0
 AreKeptBefore kept place positions = All (λ h. (k : ℕ) → h ≡ k + 1 → k < place → IsKeptAt kept k) positions
 
--- the last line is kept and, with each line from a place on, the earlier lines at its hints
+-- the only lines that are newly kept are earlier ones at some positions
+abbrev pub KeepsOnly : List Bool → List Bool → ℕ → List ℕ → Type 0
+KeepsOnly old new place positions = (k : ℕ) → IsKeptAt new k → IsKeptAt old k ⊎ ((k < place) × Contains positions (k + 1))
+
+-- a later line that is kept has the position of the line at a place as a hint
+pub record IsHintOfKept (lines : List LogLine) (kept : List Bool) (k : ℕ) : Type 0 where
+  pub place : ℕ
+  pub later : k < place
+  pub line : LogLine
+  pub at : slice_get lines place ≡ Some line
+  pub kept_too : IsKeptAt kept place
+  pub hint : Contains (hints_of line) (k + 1)
+
+-- the last line is kept and, with each line from a place on, the earlier lines at its hints, and no other is
 pub record AreNeeded (lines : List LogLine) (kept : List Bool) (from : ℕ) : Type 0 where
   pub long : length kept ≡ length lines
   pub last : (k : ℕ) → length lines ≡ k + 1 → IsKeptAt kept k
   pub hints : (i : ℕ) (l : LogLine) → from ≤ i → slice_get lines i ≡ Some l → IsKeptAt kept i → AreKeptBefore kept i (hints_of l)
+  pub only : (k : ℕ) → IsKeptAt kept k → (length lines ≡ k + 1) ⊎ IsHintOfKept lines kept k
 
 -- the same line, with its hints moved by a table of new positions; deletions aren't kept
 abbrev pub IsMoved : List ℕ → LogLine → LogLine → Type 0

@@ -10,7 +10,7 @@ ghost use Rattle.gh_log.specs.declared.lines.LogLine.TheVariants.{Axiom};
 ghost use Rattle.gh_log.specs.Sections.{line_clause, AreOfKind};
 ghost use Rattle.gh_log.specs.Spelled.{IsOfVersion};
 ghost use Rattle.gh_ground.specs.Kept.{IsKept, Keeps, IsAnswered, IsOpen, IsRefuted, IsEnded};
-ghost use Rattle.gh_ground.specs.Solving.{IsRefutationOf};
+ghost use Rattle.gh_ground.specs.Solving.{Refutes};
 ghost use Rattle.gh_sat.specs.Learn.{IsConflict};
 ghost use Rattle.gh_sat.specs.Measure.{left};
 ghost use Rattle.gh_sat.specs.Theory.{PropagatesBeside};
@@ -227,7 +227,7 @@ impl Solver {
         conflict: u32,
     ) -> Result<Section, AllocError>
         requires { IsRefuted self.search conflict }
-        ensures { IfOk result (λ s. (p : Problem) → IsKept p self.search self.lines.items → IsRefutationOf p s) }
+        ensures { IfOk result (λ s. (p : Problem) → IsKept p self.search self.lines.items → Refutes p s) }
     {
         if self.lines.len() >= 4294967294 {
             return Err(AllocError);

@@ -1,10 +1,10 @@
 //! Sections without the lines that nothing later needs.
 
-ghost use Rattle.std.specs.Prelude.{◌≡◌, ◌+◌, ◌-◌, ◌<◌, ◌≤◌, ◌++◌, ◌∷◌, [], ℕ, IfOk, OnOk, length, map, slice_get, slice_index};
+ghost use Rattle.std.specs.Prelude.{◌≡◌, ◌⊎◌, ◌+◌, ◌-◌, ◌<◌, ◌≤◌, ◌++◌, ◌∷◌, [], ℕ, IfOk, OnOk, length, map, slice_get, slice_index};
 ghost use Rattle.gh_base.specs.Grounds.{Problem};
 ghost use Rattle.gh_log.specs.declared.lines.LogLine.{LogLine};
-ghost use Rattle.gh_ground.specs.Solving.{IsRefutationOf};
-ghost use Rattle.gh_ground.specs.Trimming.{hints_of, IsKeptAt, AreKeptBefore, AreNeeded, IsMoved};
+ghost use Rattle.gh_ground.specs.Solving.{hints_of, Refutes, IsRefutationOf};
+ghost use Rattle.gh_ground.specs.Trimming.{IsKeptAt, AreKeptBefore, KeepsOnly, AreNeeded, IsMoved};
 
 use gh_log::lines::{LogLine, Section};
 use std::alloc::{AllocError, Global};
@@ -16,6 +16,7 @@ fn keep(kept: &mut Vec<bool>, position: u32, place: usize)
     ensures keeps { (k : ℕ) → IsKeptAt kept.old.items k → IsKeptAt kept.new.items k }
     ensures later { (k : ℕ) → place ≤ k → slice_get kept.new.items k ≡ slice_get kept.old.items k }
     ensures is { (k : ℕ) → position ≡ k + 1 → k < place → IsKeptAt kept.new.items k }
+    ensures only { KeepsOnly kept.old.items kept.new.items place (position ∷ []) }
 {
     let position = position as usize;
     if position == 0 {
@@ -34,6 +35,7 @@ fn keep_all(kept: &mut Vec<bool>, positions: &[u32], place: usize)
     ensures keeps { (k : ℕ) → IsKeptAt kept.old.items k → IsKeptAt kept.new.items k }
     ensures later { (k : ℕ) → place ≤ k → slice_get kept.new.items k ≡ slice_get kept.old.items k }
     ensures all { AreKeptBefore kept.new.items place positions.now }
+    ensures only { KeepsOnly kept.old.items kept.new.items place positions.now }
 {
     for position in positions {
         keep(kept, *position, place);
@@ -47,6 +49,8 @@ fn keep_hints(kept: &mut Vec<bool>, line: &LogLine, place: usize)
     ensures keeps { (k : ℕ) → IsKeptAt kept.old.items k → IsKeptAt kept.new.items k }
     ensures later { (k : ℕ) → place ≤ k → slice_get kept.new.items k ≡ slice_get kept.old.items k }
     ensures hints { IsKeptAt kept.old.items place → AreKeptBefore kept.new.items place (hints_of line.now) }
+    ensures only { KeepsOnly kept.old.items kept.new.items place (hints_of line.now) }
+    ensures needed { IsKeptAt kept.old.items place ⊎ (kept.new.items ≡ kept.old.items) }
 {
     if !kept[place] {
         return;
@@ -61,6 +65,7 @@ fn keep_hints(kept: &mut Vec<bool>, line: &LogLine, place: usize)
 fn only_last(alloc: Global, count: usize) -> Result<Vec<bool>, AllocError>
     ensures long { IfOk result (λ v. length v.items ≡ count) }
     ensures last { IfOk result (λ v. (k : ℕ) → count ≡ k + 1 → IsKeptAt v.items k) }
+    ensures only { IfOk result (λ v. (k : ℕ) → IsKeptAt v.items k → count ≡ k + 1) }
 {
     let mut kept = vec![in alloc; false; count]?;
     if count == 0 {
@@ -70,8 +75,7 @@ fn only_last(alloc: Global, count: usize) -> Result<Vec<bool>, AllocError>
     Ok(kept)
 }
 
-// Which lines are kept: the last one, and with each that is kept the earlier ones at its hints. That no other is kept isn't
-// told.
+// Which lines are kept: the last one, and with each that is kept the earlier ones at its hints; no other.
 fn needed(alloc: Global, lines: &[LogLine]) -> Result<Vec<bool>, AllocError>
     ensures { IfOk result (λ v. AreNeeded lines.now v.items 0) }
 {
@@ -157,10 +161,10 @@ impl Trimmed {
     }
 }
 
-/// A section without lines that nothing later needs, a refutation where it was one. More lines than 32 bits can number
+/// A section without the lines that nothing later needs, a refutation where it was one. More lines than 32 bits can number
 /// count as want of memory.
 pub(crate) fn trim(alloc: Global, section: &Section) -> Result<Section, AllocError>
-    ensures { IfOk result (λ s. (p : Problem) → IsRefutationOf p section.now → IsRefutationOf p s) }
+    ensures { IfOk result (λ s. (p : Problem) → Refutes p section.now → IsRefutationOf p s) }
 {
     let lines = section.lines.as_slice();
     if lines.len() > 4294967294 {

@@ -1,8 +1,8 @@
 -- Assertions at the front of a text.
-use Rattle.std.proofs.Common.{◌≡◌, ◌≢◌, ℕ, zero, suc, ◌<◌, ◌≤◌, List, [], ◌∷◌, ◌++◌, length, Bool, true, false, codes, All, refl, sym, ◌∙◌, ap, subst, arith, append_assoc}
+use Rattle.std.proofs.Common.{◌≡◌, ℕ, ◌<◌, ◌≤◌, List, [], ◌∷◌, ◌++◌, length, Bool, true, false, codes, refl, sym, ◌∙◌, ap, arith, append_assoc}
 use Rattle.std.specs.List.{flat_map}
 use Rattle.std.proofs.lemmas.List.{append_cancel_left}
-use Rattle.std.proofs.lemmas.List.Elements.{All-head, All-tail, All-cons}
+use Rattle.std.proofs.lemmas.List.Elements.{All-head, All-cons}
 use Rattle.gh_base.specs.declared.atom.Atom.{Atom}
 use Rattle.gh_base.specs.declared.atom.Atom.TheVariants.{Eq, Btwn, Hop, Alloc, Def}
 use Rattle.gh_base.specs.declared.atom.Lit.{Lit}
@@ -10,7 +10,7 @@ use Rattle.gh_base.specs.declared.sizes.Sizes.{Sizes}
 use Rattle.gh_log.specs.Reading.{IsRefused}
 use Rattle.gh_log.proofs.NumberLemmas.{AreOne}
 use Rattle.gh_smt.specs.Texts.{atom_text, lit_text, spaced_lit, signed_text, assertion_text, foot_text}
-use Rattle.gh_smt.specs.Reading.{IsNotFront, IsSpelledLit, SpellsLit, SpellsSpaced, SpellsItems, lits_end, SpellsLits, IsSpelledAssertion, SpellsAssertion}
+use Rattle.gh_smt.specs.Reading.{IsNotFront, IsSpelledLit, SpellsLit, SpellsSpaced, lits_end, SpellsLits, IsSpelledAssertion, SpellsAssertion}
 use Rattle.gh_smt.proofs.ItemLemmas.{AreItems, one_items}
 use Rattle.gh_smt.proofs.LitLemmas.{one_lit, ends_lit, are_lits}
 

@@ -1,21 +1,18 @@
 -- Atoms and literals at the front of a text.
-use Rattle.std.proofs.Common.{◌≡◌, ◌≢◌, ℕ, zero, suc, ◌^◌, ◌+◌, ◌<◌, ◌≤◌, List, [], ◌∷◌, ◌++◌, length, get_or, Bool, true, false, not, cond, nat_eq, codes, All, refl, sym, ◌∙◌, ap, subst, arith, append_assoc, MatchBool}
+use Rattle.std.proofs.Common.{◌≡◌, ◌≢◌, ℕ, zero, suc, ◌≤◌, List, [], ◌∷◌, ◌++◌, get_or, cond, nat_eq, codes, All, refl, sym, ◌∙◌, ap, subst, arith, append_assoc}
 use Rattle.std.specs.Fmt.{decimal}
 use Rattle.std.specs.List.{flat_map}
-use Rattle.std.specs.Char.{is_ascii_digit}
-use Rattle.std.proofs.lemmas.List.{append-nil, append_cancel_left}
+use Rattle.std.proofs.lemmas.List.{append_cancel_left}
 use Rattle.std.proofs.lemmas.List.Elements.{All-head, All-tail, All-cons}
 use Rattle.gh_base.specs.declared.atom.Term.{Term}
 use Rattle.gh_base.specs.declared.atom.Atom.{Atom}
 use Rattle.gh_base.specs.declared.atom.Atom.TheVariants.{Eq, Btwn, Hop, Alloc, Def}
-use Rattle.gh_base.specs.declared.atom.Lit.{Lit}
 use Rattle.gh_base.specs.declared.sizes.Sizes.{Sizes}
 use Rattle.gh_base.specs.Atoms.{IsInRange}
 use Rattle.gh_inst.specs.Schemas.{term}
 use Rattle.gh_log.specs.Reading.{IsRefused, EndsNumber, SpellsNumber}
 use Rattle.gh_log.proofs.NumberLemmas.{AreOne, one_number}
-use Rattle.gh_smt.specs.Texts.{atom_text, lit_text, signed_text, spaced_term}
-use Rattle.gh_smt.specs.Reading.{IsNotFront, SpellsTerm, spaced_number, SpellsTerms, FitsAtom, EndsAtom, SpellsForm, SpellsAtom, EndsLit, IsSpelledLit, SpellsLit, SpellsSpaced}
+use Rattle.gh_smt.specs.Reading.{IsNotFront, SpellsTerm, spaced_number, SpellsTerms, SpellsForm, SpellsAtom}
 
 none : (P : ℕ → Type 0) → All P []
 none P k d l = absurd (omega arith)

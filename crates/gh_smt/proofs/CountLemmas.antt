@@ -1,5 +1,5 @@
 -- How many instances there are, and that no assertion is empty.
-use Rattle.std.proofs.Common.{◌≡◌, ℕ, zero, suc, ◌+◌, ◌*◌, ◌^◌, ◌<◌, ◌≤◌, Bool, true, List, [], ◌∷◌, ◌++◌, length, map, get_or, All, Some, option_map, refl, sym, ◌∙◌, ap, subst, arith}
+use Rattle.std.proofs.Common.{◌≡◌, ℕ, ◌+◌, ◌*◌, ◌^◌, ◌<◌, Bool, true, List, [], ◌∷◌, ◌++◌, length, map, get_or, All, refl, sym, ◌∙◌, ap, subst, arith}
 use Rattle.std.proofs.Math.Nat.{pow-suc, pow-zero}
 use Rattle.std.specs.List.{list_all}
 use Rattle.std.proofs.Math.Dec.{ltb}
@@ -8,11 +8,10 @@ use Rattle.std.proofs.lemmas.List.Sums.{AllPass-from_list_all}
 use Rattle.std.proofs.lemmas.List.{length-map}
 use Rattle.std.proofs.lemmas.List.Elements.{All-cons, All-append, All-weaker, All-map, All-contains}
 use Rattle.gh_base.specs.declared.atom.Lit.{Lit}
-use Rattle.gh_base.specs.declared.sizes.Sizes.{Sizes}
 use Rattle.gh_base.specs.Grounds.{Problem, IsProblem}
 use Rattle.gh_base.specs.Atoms.{opposite}
 use Rattle.gh_grass.specs.Claims.{Claim, atom, negation_of, conjunction_of, disjunction_of, equivalence_of, Claims, no_claims, claim_first}
-use Rattle.gh_grass.specs.Clauses.{made, all_made, stated, clauses_from, clauses_of, defined, conjunction_clauses, disjunction_clauses, equivalence_clauses, Made, AllMade}
+use Rattle.gh_grass.specs.Clauses.{made, all_made, stated, clauses_from, defined, conjunction_clauses, disjunction_clauses, equivalence_clauses}
 use Rattle.gh_symb.specs.Formulas.{problem}
 use Rattle.gh_symb.specs.Symbolic.{Symbolic}
 use Rattle.gh_inst.specs.declared.naming.InstanceName.{InstanceName}

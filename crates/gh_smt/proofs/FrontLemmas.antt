@@ -1,5 +1,5 @@
 -- The fronts of texts.
-use Rattle.std.proofs.Common.{◌≡◌, ℕ, ◌++◌, List, Bool, true, false, refl, sym, ◌∙◌, ap, subst, length, drop, MatchBool}
+use Rattle.std.proofs.Common.{◌≡◌, ℕ, ◌++◌, List, Bool, true, false, refl, MatchBool}
 use Rattle.std.proofs.lemmas.Bool.{false≢true}
 use Rattle.gh_smt.specs.Reading.{IsNotFront}
 

@@ -1,5 +1,5 @@
 -- Literals at the front of a text.
-use Rattle.std.proofs.Common.{◌≡◌, ◌≢◌, ℕ, zero, suc, List, [], ◌∷◌, ◌++◌, Bool, true, false, codes, refl, sym, ◌∙◌, ap, subst, arith, append_assoc}
+use Rattle.std.proofs.Common.{◌≡◌, ℕ, List, [], ◌∷◌, ◌++◌, Bool, true, false, codes, refl, sym, ◌∙◌, ap, subst, arith, append_assoc}
 use Rattle.std.specs.Char.{is_ascii_digit}
 use Rattle.std.specs.List.{flat_map}
 use Rattle.std.proofs.lemmas.List.{append_cancel_left}
@@ -10,7 +10,7 @@ use Rattle.gh_base.specs.declared.sizes.Sizes.{Sizes}
 use Rattle.gh_log.specs.Reading.{IsRefused}
 use Rattle.gh_log.proofs.NumberLemmas.{AreOne}
 use Rattle.gh_smt.specs.Texts.{atom_text, lit_text, spaced_lit, signed_text}
-use Rattle.gh_smt.specs.Reading.{IsNotFront, EndsAtom, SpellsForm, SpellsAtom, EndsLit, IsSpelledLit, SpellsLit, SpellsSpaced, lits_end}
+use Rattle.gh_smt.specs.Reading.{IsNotFront, EndsAtom, SpellsAtom, EndsLit, IsSpelledLit, SpellsLit, SpellsSpaced, lits_end}
 use Rattle.gh_smt.proofs.AtomLemmas.{one_form}
 use Rattle.gh_smt.proofs.ItemLemmas.{AreItems}
 

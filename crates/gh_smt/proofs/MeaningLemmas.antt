@@ -1,17 +1,13 @@
 -- The truth of literals in the interpretations of scripts and in those of clauses.
-use Rattle.std.proofs.Common.{◌≡◌, ℕ, zero, suc, ◌+◌, ◌<◌, ◌≤◌, List, [], ◌∷◌, ◌++◌, length, get_or, Bool, true, false, not, nat_eq, ◌&&◌, ◌||◌, cond, IsTrue, All, refl, sym, ◌∙◌, ap, subst, arith, eq-eqb, eqb-true, map, inl, inr, ◌⊎◌}
+use Rattle.std.proofs.Common.{◌≡◌, ℕ, zero, suc, List, [], ◌∷◌, Bool, true, false, nat_eq, ◌&&◌, ◌||◌, refl, ◌∙◌, ap, arith, eq-eqb, eqb-true, inl, inr, ◌⊎◌}
 use Rattle.std.specs.Prelude.{Any, Contains}
 use Rattle.std.proofs.lemmas.Bool.{false≢true}
-use Rattle.std.proofs.lemmas.List.Elements.{All-cons, All-head, All-tail, All-append, All-weaker, All-map, All-contains_itself, Contains-append_left, Contains-append_right, Contains-append_cases}
-use Rattle.gh_base.specs.declared.atom.Term.{Term}
 use Rattle.gh_base.specs.declared.atom.Atom.{Atom}
 use Rattle.gh_base.specs.declared.atom.Atom.TheVariants.{Eq, Btwn, Hop, Alloc, Def}
 use Rattle.gh_base.specs.declared.atom.Lit.{Lit}
 use Rattle.gh_base.specs.declared.sizes.Sizes.{Sizes}
-use Rattle.gh_base.specs.Atoms.{IsInRange, AreInRange}
 use Rattle.gh_base.specs.Meaning as ground
 use Rattle.gh_base.specs.Meaning.{Interpretation, IsCongruence, atom_truth, under}
-use Rattle.gh_inst.specs.Schemas.{term}
 use Rattle.gh_smt.specs.Meaning.{SmtModel, IsAtomTrue, Signed, IsLitTrue, IsAssertionTrue}
 
 -- a test is true exactly where a fact holds

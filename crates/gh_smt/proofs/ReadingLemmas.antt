@@ -1,6 +1,5 @@
 -- Whole scripts at the front of a text.
-use Rattle.std.proofs.Common.{◌≡◌, ◌≢◌, ℕ, zero, suc, ◌+◌, ◌<◌, ◌≤◌, List, [], ◌∷◌, ◌++◌, length, get_or, codes, All, Bool, true, false, nat_eq, Option, Some, None, refl, sym, ◌∙◌, ap, subst, arith, append_assoc}
-use Rattle.std.specs.Prelude.{MatchOption}
+use Rattle.std.proofs.Common.{◌≡◌, ◌≢◌, ℕ, zero, suc, List, [], ◌∷◌, ◌++◌, length, get_or, All, Bool, true, false, nat_eq, Some, refl, sym, ◌∙◌, ap, subst, arith, append_assoc}
 use Rattle.std.specs.List.{flat_map, range_with_len}
 use Rattle.std.proofs.lemmas.Bool.{both_ways, eqb-true}
 use Rattle.std.proofs.lemmas.List.{append-nil, append_cancel_left}
@@ -15,7 +14,7 @@ use Rattle.gh_log.specs.Reading.{IsRefused}
 use Rattle.gh_log.proofs.NumberLemmas.{AreOne}
 use Rattle.gh_smt.specs.declared.kind.Kind.{Kind}
 use Rattle.gh_smt.specs.declared.kind.Kind.TheVariants.{Term, Version, Definition}
-use Rattle.gh_smt.specs.Kinds.{declared_text, start_text}
+use Rattle.gh_smt.specs.Kinds.{start_text}
 use Rattle.gh_smt.specs.Scripts.{HasLits, IsSized, IsScript}
 use Rattle.gh_smt.specs.Texts.{head_text, foot_text, term_declared, version_declared, definition_declared, assertion_text, script_text}
 use Rattle.gh_smt.specs.Reading.{IsNotFront, FitsAtom, IsSpelledLit, IsSpelledAssertion, SpellsAssertion, SpellsAssertions, SpellsDeclared, SpellsScript, IsNoScript}

@@ -1,16 +1,15 @@
 -- What the script of a condition means.
-use Rattle.std.proofs.Common.{◌≡◌, ℕ, zero, suc, ◌+◌, ◌<◌, ◌≤◌, List, [], ◌∷◌, ◌++◌, length, get_or, map, All, refl, sym, ◌∙◌, ap, subst, arith}
-use Rattle.std.specs.Prelude.{Any, Contains, ◌↔◌}
-use Rattle.std.proofs.lemmas.List.Elements.{All-cons, All-head, All-tail, All-append, All-weaker, All-map, All-contains_itself, All-contains}
+use Rattle.std.proofs.Common.{◌≡◌, ℕ, List, [], ◌∷◌, map, All, sym, ◌∙◌, ap, subst, arith}
+use Rattle.std.specs.Prelude.{Contains}
+use Rattle.std.proofs.lemmas.List.Elements.{All-cons, All-head, All-tail, All-append, All-weaker, All-map, All-contains_itself}
 use Rattle.gh_base.specs.declared.atom.Lit.{Lit}
 use Rattle.gh_base.specs.declared.sizes.Sizes.{Sizes}
 use Rattle.gh_base.specs.Atoms.{AreInRange}
 use Rattle.gh_base.specs.Grounds.{Problem, IsProblem}
 use Rattle.gh_base.specs.Meaning as ground
 use Rattle.gh_base.specs.Meaning.{Interpretation, IsCongruence}
-use Rattle.gh_inst.specs.declared.naming.InstanceName.{InstanceName}
 use Rattle.gh_inst.specs.Instances.{instances, clause_of, IsInstance}
-use Rattle.gh_inst.specs.Violations.{IsInstanceTrue, AreInstancesTrue}
+use Rattle.gh_inst.specs.Violations.{AreInstancesTrue}
 use Rattle.gh_inst.proofs.ListedLemmas.{all_are_listed}
 use Rattle.gh_inst.proofs.RangeLemmas.{instance_in_range}
 use Rattle.gh_ast.specs.Plain.{Program}
@@ -19,17 +18,15 @@ use Rattle.gh_path.specs.Conditions.{Condition, IsCondition}
 use Rattle.gh_grass.specs.Truth.{AreClausesTrue}
 use Rattle.gh_symb.specs.Symbolic.{symbolic_of}
 use Rattle.gh_symb.specs.Formulas.{problem}
-use Rattle.gh_trace.specs.Traces.{State, IsValid}
-use Rattle.gh_trace.specs.Validity.{IsConditionValid, Refutes}
-use Rattle.gh_model.specs.TraceLaws.{IsCounterexample}
-use Rattle.gh_model.specs.Abstraction.{IsModelOf}
+use Rattle.gh_trace.specs.Traces.{State}
+use Rattle.gh_trace.specs.Validity.{Refutes}
 use Rattle.gh_model.specs.BuiltTraces.{built_trace}
 use Rattle.gh_model.proofs.Locality.{locality_holds}
 use Rattle.gh_model.proofs.ClauseModels.{traces_give_models}
 use Rattle.gh_log.proofs.NumberLemmas.{all_before, all_after}
 use Rattle.gh_smt.specs.Scripts.{script_of}
-use Rattle.gh_smt.specs.Meaning.{SmtModel, IsAssertionTrue, IsSatisfiable}
-use Rattle.gh_smt.specs.Laws.{IsModel, HasModel, ScriptsMeanModels, HasCounterexample, DecidesCondition, ScriptsDecide}
+use Rattle.gh_smt.specs.Meaning.{IsAssertionTrue, IsSatisfiable}
+use Rattle.gh_smt.specs.Laws.{HasModel, ScriptsMeanModels, HasCounterexample, DecidesCondition, ScriptsDecide}
 use Rattle.gh_smt.proofs.MeaningLemmas.{structure_of, is_congruence, structure_clause}
 use Rattle.gh_smt.proofs.StructureLemmas.{model_of, model_clause}
 

@@ -1,9 +1,8 @@
 -- The interpretation of a script that a structure gives, where its equality is a congruence.
-use Rattle.std.proofs.Common.{◌≡◌, ℕ, zero, suc, ◌+◌, ◌<◌, ◌≤◌, List, [], ◌∷◌, ◌++◌, length, get_or, Bool, true, false, not, nat_eq, IsTrue, All, refl, sym, ◌∙◌, ap, subst, arith, eq-eqb, eqb-true, inl, inr, ◌⊎◌}
-use Rattle.std.specs.Prelude.{Any, Contains}
+use Rattle.std.proofs.Common.{◌≡◌, ℕ, zero, suc, ◌<◌, List, [], ◌∷◌, ◌++◌, Bool, true, false, refl, sym, ◌∙◌, ap, subst, arith, eq-eqb, eqb-true, inl, inr, ◌⊎◌}
+use Rattle.std.specs.Prelude.{Contains}
 use Rattle.std.proofs.lemmas.Bool.{false≢true, cases_lt}
 use Rattle.std.proofs.lemmas.List.Elements.{Contains-append_left, Contains-append_right, Contains-append_cases, All-contains}
-use Rattle.gh_base.specs.declared.atom.Term.{Term}
 use Rattle.gh_base.specs.declared.atom.Atom.{Atom}
 use Rattle.gh_base.specs.declared.atom.Atom.TheVariants.{Eq, Btwn, Hop, Alloc, Def}
 use Rattle.gh_base.specs.declared.atom.Lit.{Lit}
@@ -12,7 +11,7 @@ use Rattle.gh_base.specs.Atoms.{IsInRange, AreInRange}
 use Rattle.gh_base.specs.Meaning as ground
 use Rattle.gh_base.specs.Meaning.{Interpretation, IsCongruence, atom_truth, under}
 use Rattle.gh_inst.specs.Schemas.{term}
-use Rattle.gh_smt.specs.Meaning.{SmtModel, IsAtomTrue, Signed, IsLitTrue, IsAssertionTrue}
+use Rattle.gh_smt.specs.Meaning.{SmtModel, IsAtomTrue, IsLitTrue, IsAssertionTrue}
 use Rattle.gh_smt.proofs.MeaningLemmas.{Says, signed_says, any_weaker}
 
 -- an element where a test is true

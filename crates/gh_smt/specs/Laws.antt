@@ -32,7 +32,7 @@ ScriptsMeanModels = (p : Problem) → IsProblem p → IsSatisfiable (script_of p
 abbrev pub HasCounterexample : Program → Condition → Type 0
 HasCounterexample P c = (x : State) × (ys : List State) × IsCounterexample P c x ys
 
--- a script is satisfiable exactly where a condition has a counterexample, and isn't exactly where the condition is valid
+-- satisfiable exactly where the condition has a counterexample, unsatisfiable exactly where it is valid
 pub record DecidesCondition (P : Program) (c : Condition) (script : Problem) : Type 0 where
   pub satisfiable : IsSatisfiable script ↔ HasCounterexample P c
   pub unsatisfiable : (IsSatisfiable script → ⊥) ↔ IsConditionValid P c
@@ -40,7 +40,8 @@ pub record DecidesCondition (P : Program) (c : Condition) (script : Problem) : T
 -- that of a condition is
 abbrev pub ScriptsDecide : Type 0
 ScriptsDecide =
-    (P : Program) (c : Condition) → IsTyped P → IsCondition P c → IsProblem (problem (symbolic_of P c)) → DecidesCondition P c (script_of (problem (symbolic_of P c)))
+    (P : Program) (c : Condition) → IsTyped P → IsCondition P c → IsProblem (problem (symbolic_of P c))
+    → DecidesCondition P c (script_of (problem (symbolic_of P c)))
 
 -- two scripts that have one text are one
 abbrev pub TextsAreOne : Type 0

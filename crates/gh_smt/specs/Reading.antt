@@ -1,5 +1,5 @@
 -- What the parts of a script's text spell at the front of a text, and what the reader answers for a part.
-use Rattle.std.specs.Prelude.{◌≡◌, ℕ, ◌+◌, ◌≤◌, List, [], ◌∷◌, ◌++◌, length, codes, Bool, true, false, All, ⊤, Result, MatchResult}
+use Rattle.std.specs.Prelude.{◌≡◌, ℕ, ◌+◌, ◌≤◌, List, ◌∷◌, ◌++◌, length, codes, Bool, true, false, All, ⊤, Result, MatchResult}
 use Rattle.std.specs.List.{flat_map, range_with_len}
 use Rattle.std.specs.Fmt.{decimal}
 use Rattle.gh_base.specs.declared.atom.Atom.{Atom}
@@ -86,7 +86,8 @@ pub record SpellsSpaced (s : Sizes) (text : List ℕ) (l : Lit) (rest : List ℕ
   pub lit : SpellsLit s middle l rest
 
 -- some of one kind, and what ends them
-pub record SpellsItems {X : Type 0} (print : X → List ℕ) (W : X → Type 0) (end text : List ℕ) (xs : List X) (rest : List ℕ) : Type 0 where
+pub record SpellsItems {X : Type 0} (print : X → List ℕ) (W : X → Type 0) (end text : List ℕ) (xs : List X) (rest : List ℕ)
+    : Type 0 where
   pub front : text ≡ flat_map print xs ++ (end ++ rest)
   pub spelled : All W xs
 

@@ -31,4 +31,5 @@ assertion_count p = length p.clauses + instance_count p.sizes.terms p.sizes.vers
 
 -- the script of a condition: its clauses by number, then all instances in order
 abbrev pub script_of : Problem → Problem
-script_of p = record { sizes = p.sizes; clauses = p.clauses ++ map clause_of (instances p.sizes.terms p.sizes.versions) }
+script_of p =
+    record { sizes = p.sizes; clauses = p.clauses ++ map clause_of (instances p.sizes.terms p.sizes.versions) }

@@ -70,14 +70,16 @@ fn number_of(digits: &[u8]) -> Option<u32>
 impl<'t> Reader<'t> {
     /// Whether a text is next.
     pub fn is_next(&self, wanted: &[u8]) -> bool
-        ensures { MatchBool result (IsNotFront wanted.now self.now.rest.now → ⊥) (IsNotFront wanted.now self.now.rest.now) }
+        ensures { MatchBool result (IsNotFront wanted.now self.now.rest.now → ⊥)
+            (IsNotFront wanted.now self.now.rest.now) }
     {
         self.rest.starts_with(wanted)
     }
 
     /// Takes a text, where it is next.
     pub fn skip(&mut self, wanted: &[u8]) -> bool
-        ensures { MatchBool result (self.old.rest.now ≡ wanted.now ++ self.new.rest.now) ((self.new.rest.now ≡ self.old.rest.now) × IsNotFront wanted.now self.old.rest.now) }
+        ensures { MatchBool result (self.old.rest.now ≡ wanted.now ++ self.new.rest.now)
+            ((self.new.rest.now ≡ self.old.rest.now) × IsNotFront wanted.now self.old.rest.now) }
     {
         if !self.rest.starts_with(wanted) {
             return false;

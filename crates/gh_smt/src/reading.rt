@@ -35,7 +35,8 @@ impl<'t> Reader<'t> {
     // Takes a number between two texts.
     fn around(&mut self, before: &[u8], number: u32, after: &[u8]) -> Result<(), Refusal>
         requires { (rest : List ℕ) → EndsNumber (after.now ++ rest) }
-        ensures { IsRead (SpellsText (before.now ++ (decimal number ++ after.now)) self.old.rest.now) (λ u. u) result self.new.rest.now }
+        ensures { IsRead (SpellsText (before.now ++ (decimal number ++ after.now)) self.old.rest.now) (λ u. u) result
+            self.new.rest.now }
     {
         if !self.skip(before) {
             return Err(Refusal::Outside);
@@ -88,7 +89,8 @@ impl<'t> Reader<'t> {
 
     // Reads an assertion of several literals after its first words.
     fn several(&mut self, alloc: Global, sizes: Sizes) -> Result<Clause, Refusal>
-        ensures { IsRead (SpellsAssertion sizes (codes "(assert (or" ++ self.old.rest.now)) (λ c. c) result self.new.rest.now }
+        ensures { IsRead (SpellsAssertion sizes (codes "(assert (or" ++ self.old.rest.now)) (λ c. c) result
+            self.new.rest.now }
     {
         let clause = self.lits(alloc, sizes)?;
         if clause.lits().len() < SEVERAL {
@@ -100,7 +102,8 @@ impl<'t> Reader<'t> {
     // Reads an assertion of one literal after its first word.
     fn single(&mut self, alloc: Global, sizes: Sizes) -> Result<Clause, Refusal>
         requires { IsNotFront (codes "(or") self.old.rest.now }
-        ensures { IsRead (SpellsAssertion sizes (codes "(assert " ++ self.old.rest.now)) (λ c. c) result self.new.rest.now }
+        ensures { IsRead (SpellsAssertion sizes (codes "(assert " ++ self.old.rest.now)) (λ c. c) result
+            self.new.rest.now }
     {
         let lit = self.lit(sizes)?;
         if !self.skip(b")\n") {

@@ -21,7 +21,10 @@ impl Model for Script {
 
     ghost Value = { Problem };
 
-    ghost view = { λ s. record { sizes = record { terms = s.terms; versions = s.versions; defs = s.defs }; clauses = s.asserted.items } };
+    ghost view = { λ s. record {
+      sizes = record { terms = s.terms; versions = s.versions; defs = s.defs };
+      clauses = s.asserted.items;
+    } };
 }
 
 impl Script {

@@ -13,6 +13,8 @@ mod machine_tests;
 #[cfg(test)]
 mod replay_tests;
 #[cfg(test)]
+mod session_tests;
+#[cfg(test)]
 mod smallest_tests;
 #[cfg(test)]
 mod symbolic_tests;

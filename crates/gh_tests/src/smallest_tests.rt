@@ -72,6 +72,15 @@ fn judge(
     Ok(Judged { modelled, shown })
 }
 
+// The clauses of a condition.
+fn clauses_of(alloc: Global, typed: &Typed, condition: &Condition) -> Result<Ground, AllocError>
+    requires admitted { IsAdmitted (program_of typed.now) }
+    requires one { IsOne (program_of typed.now) condition.now }
+{
+    let over = over_terms(alloc, typed, condition)?;
+    ground(alloc, &over)
+}
+
 // What is found of the section of a condition's smallest counterexample.
 fn bounds(alloc: Global, typed: &Typed, condition: &Condition) -> Result<Option<Sides>, AllocError>
     requires admitted { IsAdmitted (program_of typed.now) }
@@ -80,17 +89,16 @@ fn bounds(alloc: Global, typed: &Typed, condition: &Condition) -> Result<Option<
     let Some(found) = smallest(alloc, typed, condition)? else {
         return Ok(None);
     };
-    let Some(section) = found.section else {
+    let Some(section) = &found.section else {
         return Ok(None);
     };
     let cells = found.cells;
     if cells == 0 || cells > 254 {
         return Ok(None);
     }
-    let over = over_terms(alloc, typed, condition)?;
-    let clauses = ground(alloc, &over)?;
-    let at = judge(alloc, &clauses, cells, &section)?;
-    let above = judge(alloc, &clauses, cells + 1, &section)?;
+    let clauses = clauses_of(alloc, typed, condition)?;
+    let at = judge(alloc, &clauses, cells, section)?;
+    let above = judge(alloc, &clauses, cells + 1, section)?;
     Ok(Some(Sides { cells, at, above }))
 }
 

@@ -119,7 +119,7 @@ said words files s u (smallest_verified a v) = said_verified
 said words files s u (smallest_refuted a f) = said_refuted
 said words files s u (stress_verified a v) = said_verified
 said words files s u (stress_refuted a f) = said_refuted
-said words files s u (smt_listed c a at few) = said_listed
+said words files s u (smt_listed c a at few decides) = said_listed
 said words files s u (smt_no_condition a past) = said_log_refused
 said words files s u (smt_too_long c a at many) = said_text_refused
 
@@ -144,7 +144,7 @@ good words files s u (smallest_verified a v) e = good_one words files _ _ a (typ
 good words files s u (smallest_refuted a f) e = absurd cc
 good words files s u (stress_verified a v) e = good_one words files _ _ a (typed_is_good _ a.accepted.admitted.typed v)
 good words files s u (stress_refuted a f) e = absurd cc
-good words files s u (smt_listed c a at few) e = absurd cc
+good words files s u (smt_listed c a at few decides) e = absurd cc
 good words files s u (smt_no_condition a past) e = absurd cc
 good words files s u (smt_too_long c a at many) e = absurd cc
 

@@ -1,13 +1,11 @@
 -- From a condition of a number to what is answered for it.
-use Rattle.std.proofs.Common.{◌≡◌, ℕ, zero, ◌-◌, ◌<◌, ◌≤◌, List, ◌∷◌, ◌++◌, length, get_or, map, codes, refl, sym, ◌∙◌, ap, subst, arith, inl, inr}
-use Rattle.std.specs.Prelude.{Option, Some, None, slice_get, ◌⊎◌}
+use Rattle.std.proofs.Common.{◌≡◌, ℕ, ◌-◌, ◌<◌, ◌≤◌, List, ◌++◌, length, codes, ◌∙◌, ap, subst, arith, inl, inr}
+use Rattle.std.specs.Prelude.{Some, None, slice_get}
 use Rattle.std.specs.Fmt.{decimal}
 use Rattle.gh_base.specs.declared.place.Span.{Span}
-use Rattle.gh_ast.specs.Plain.{Program, procedure_of, program_of}
-use Rattle.gh_ast.specs.declared.Program as whole_program
-use Rattle.gh_ast.specs.declared.Procedure as whole
+use Rattle.gh_ast.specs.Plain.{Program}
 use Rattle.gh_path.specs.Answers.{IsNumbered}
-use Rattle.gh_path.specs.Conditions.{Condition, conditions}
+use Rattle.gh_path.specs.Conditions.{Condition, IsCondition, conditions}
 use Rattle.gh_path.specs.Kept.{StandsFor}
 use Rattle.gh_path.specs.declared.condition.Condition as kept
 use Rattle.gh_base.specs.Grounds.{Problem}
@@ -17,10 +15,11 @@ use Rattle.gh_trace.specs.Kept.{IsOne}
 use Rattle.gh_decide.proofs.Listed.{placed}
 use Rattle.gh_smt.specs.Scripts.{assertion_count, script_of}
 use Rattle.gh_smt.specs.Texts.{script_text}
+use Rattle.gh_smt.specs.Laws.{DecidesCondition}
 use Rattle.gh_draw.specs.Descriptions.{place_text}
 use Rattle.gh_draw.specs.Drawings.{line}
 use Rattle.gh_top.specs.Headline.{smt_listed, smt_no_condition, smt_too_long}
-use Rattle.gh_top.specs.Smts.{most_asserted, asserted_count, smt_text, unnumbered_text, too_long_text, IsScriptReport, listed, too_long}
+use Rattle.gh_top.specs.Smts.{asserted_count, script_for, smt_text, unnumbered_text, too_long_text, IsScriptReport, listed, too_long}
 use Rattle.gh_top.specs.Replies.{Replies}
 use Rattle.gh_top.specs.declared.words.Request.TheVariants.{Smt}
 use Rattle.gh_top.specs.declared.status.Status.{Status}
@@ -29,10 +28,11 @@ use Rattle.gh_top.specs.declared.status.Status.TheVariants.{Listed, LogRefused, 
 pub one_there : (P : Program) (n : ℕ) (r : kept.Condition) → IsNumbered P n (Some r) → IsOne P r
 one_there P n r (c, low, there, stands) = (c, record { stands = stands; there = placed P (n - 1) c there })
 
-pub is_listed : (P : Program) (c : Condition) (p q : Problem) (s : Status) (u : List ℕ) → p ≡ problem (symbolic_of P c) → assertion_count p ≤ 2000000 → q ≡ script_of p → s ≡ Listed → u ≡ script_text q → IsScriptReport P c s u
-is_listed P c p q s u e few is a b =
-    let text : u ≡ smt_text P c = b ∙ ap script_text (is ∙ ap script_of e) in
-    rw (a, text) (listed (subst (λ k. k ≤ 2000000) (ap assertion_count e) few))
+pub is_listed : (P : Program) (c : Condition) (p q : Problem) (s : Status) (u : List ℕ) → p ≡ problem (symbolic_of P c) → assertion_count p ≤ 2000000 → q ≡ script_of p → DecidesCondition P c q → s ≡ Listed → u ≡ script_text q → IsScriptReport P c s u
+is_listed P c p q s u e few is decides a b =
+    let same : q ≡ script_for P c = is ∙ ap script_of e in
+    let text : u ≡ smt_text P c = b ∙ ap script_text same in
+    rw (a, text) (listed (subst (λ k. k ≤ 2000000) (ap assertion_count e) few) (subst (λ o. DecidesCondition P c o) same decides))
 
 pub is_too_long : (P : Program) (c : Condition) (p : Problem) (span : Span) (count : ℕ) (s : Status) (u : List ℕ) → p ≡ problem (symbolic_of P c) → count ≡ assertion_count p → 2000000 < count → span ≡ c.procedure.name.span → s ≡ TextRefused
     → u ≡ line (codes "refused: Limit script at " ++ place_text span ++ codes ", count " ++ decimal count) → IsScriptReport P c s u
@@ -44,11 +44,11 @@ is_too_long P c p span count s u e counted many at a b =
     rw (a, text) (too_long (subst (λ k. 2000000 < k) count_is many))
 
 reported : (P : Program) (n : ℕ) (c : Condition) (s : Status) (u : List ℕ) → slice_get (conditions P) (n - 1) ≡ Some c → IsScriptReport P c s u → (file : List ℕ) → Replies (Smt file n) P s u
-reported P n c s u at (listed few) file words files asks = smt_listed c asks at few
+reported P n c s u at (listed few decides) file words files asks = smt_listed c asks at few decides
 reported P n c s u at (too_long many) file words files asks = smt_too_long c asks at many
 
-pub script_replies : (P : Program) (n : ℕ) (r : kept.Condition) (s : Status) (u : List ℕ) → IsNumbered P n (Some r) → ((c : Condition) → StandsFor P r c → IsScriptReport P c s u) → (file : List ℕ) → Replies (Smt file n) P s u
-script_replies P n r s u (c, low, there, stands) k = reported P n c s u there (k c stands)
+pub script_replies : (P : Program) (n : ℕ) (r : kept.Condition) (s : Status) (u : List ℕ) → IsNumbered P n (Some r) → ((c : Condition) → IsCondition P c → StandsFor P r c → IsScriptReport P c s u) → (file : List ℕ) → Replies (Smt file n) P s u
+script_replies P n r s u (c, low, there, stands) k = reported P n c s u there (k c (placed P (n - 1) c there) stands)
 
 pub none_replies : (P : Program) (n m : ℕ) (s : Status) (u : List ℕ) → 1 ≤ n → IsNumbered P n None → m ≡ length (conditions P) → s ≡ LogRefused
     → u ≡ line (codes "refused: no condition " ++ decimal n ++ codes " of " ++ decimal m) → (file : List ℕ) → Replies (Smt file n) P s u

@@ -18,7 +18,7 @@ use Rattle.gh_top.specs.Smallests.{IsSmallestReport}
 use Rattle.gh_top.specs.Listings.{listing}
 use Rattle.gh_top.specs.Rechecks.{IsLogRefusal, IsValidLogFile, rechecked_text}
 use Rattle.gh_top.specs.Replays.{IsAt, IsDrawingRefusal, IsRefutingFile, replayed_text}
-use Rattle.gh_top.specs.Smts.{most_asserted, asserted_count, smt_text, unnumbered_text, too_long_text}
+use Rattle.gh_top.specs.Smts.{IsDecidedByScript, most_asserted, asserted_count, smt_text, unnumbered_text, too_long_text}
 use Rattle.gh_top.specs.Stress.{stress_text}
 use Rattle.gh_top.specs.declared.refusal.Refusal.{Refusal}
 use Rattle.gh_top.specs.declared.words.Request.{Request}
@@ -74,7 +74,7 @@ pub data Answer (words : List (List ℕ)) (files : Files) : Status → List ℕ 
   stress_verified : {n : ℕ} {P : Program} → Asks words files (Stress n) P → ListedAreValid P → Answer words files Verified (stressed_text n P)
   stress_refuted : {n : ℕ} {u : List ℕ} {P : Program} → Asks words files (Stress n) P → IsRefutation P u → Answer words files Refuted u
   -- smt FILE K
-  smt_listed : {f : List ℕ} {n : ℕ} {P : Program} (c : Condition) → Asks words files (Smt f n) P → IsAt P n c → asserted_count P c ≤ most_asserted → Answer words files Listed (smt_text P c)
+  smt_listed : {f : List ℕ} {n : ℕ} {P : Program} (c : Condition) → Asks words files (Smt f n) P → IsAt P n c → asserted_count P c ≤ most_asserted → IsDecidedByScript P c → Answer words files Listed (smt_text P c)
   smt_no_condition : {f : List ℕ} {n : ℕ} {P : Program} → Asks words files (Smt f n) P → length (conditions P) < n → Answer words files LogRefused (unnumbered_text P n)
   smt_too_long : {f : List ℕ} {n : ℕ} {P : Program} (c : Condition) → Asks words files (Smt f n) P → IsAt P n c → most_asserted < asserted_count P c → Answer words files TextRefused (too_long_text P c)
 

@@ -5,7 +5,9 @@ use Rattle.gh_ast.specs.Plain.{Program}
 use Rattle.gh_path.specs.Conditions.{Condition, conditions}
 use Rattle.gh_symb.specs.Symbolic.{symbolic_of}
 use Rattle.gh_symb.specs.Formulas.{problem}
+use Rattle.gh_base.specs.Grounds.{Problem}
 use Rattle.gh_smt.specs.Scripts.{assertion_count, script_of}
+use Rattle.gh_smt.specs.Laws.{DecidesCondition}
 use Rattle.gh_smt.specs.Texts.{script_text}
 use Rattle.gh_draw.specs.Descriptions.{place_text}
 use Rattle.gh_draw.specs.Drawings.{line}
@@ -20,19 +22,28 @@ most_asserted = 2000000
 abbrev pub asserted_count : Program → Condition → ℕ
 asserted_count P c = assertion_count (problem (symbolic_of P c))
 
--- its text
+abbrev pub script_for : Program → Condition → Problem
+script_for P c = script_of (problem (symbolic_of P c))
+
+-- the script decides the condition: it is satisfiable exactly where the condition has a counterexample
+abbrev pub IsDecidedByScript : Program → Condition → Type 0
+IsDecidedByScript P c = DecidesCondition P c (script_for P c)
+
 abbrev pub smt_text : Program → Condition → List ℕ
-smt_text P c = script_text (script_of (problem (symbolic_of P c)))
+smt_text P c = script_text (script_for P c)
 
 -- the program has fewer conditions
 abbrev pub unnumbered_text : Program → ℕ → List ℕ
-unnumbered_text P n = line (codes "refused: no condition " ++ decimal n ++ codes " of " ++ decimal (length (conditions P)))
+unnumbered_text P n =
+    line (codes "refused: no condition " ++ decimal n ++ codes " of " ++ decimal (length (conditions P)))
 
 -- the script would have more assertions: at the name of the condition's procedure
 abbrev pub too_long_text : Program → Condition → List ℕ
-too_long_text P c = line (codes "refused: Limit script at " ++ place_text c.procedure.name.span ++ codes ", count " ++ decimal (asserted_count P c))
+too_long_text P c =
+    line (codes "refused: Limit script at " ++ place_text c.procedure.name.span ++ codes ", count "
+    ++ decimal (asserted_count P c))
 
 -- the script of a condition, or that it is too long
 pub data IsScriptReport (P : Program) (c : Condition) : Status → List ℕ → Type 0 where
-  listed : asserted_count P c ≤ most_asserted → IsScriptReport P c Listed (smt_text P c)
+  listed : asserted_count P c ≤ most_asserted → IsDecidedByScript P c → IsScriptReport P c Listed (smt_text P c)
   too_long : most_asserted < asserted_count P c → IsScriptReport P c TextRefused (too_long_text P c)

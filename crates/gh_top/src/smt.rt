@@ -30,7 +30,8 @@ use std::alloc::{AllocError, Global};
 // There is no condition of the number.
 fn unnumbered(alloc: Global, number: u32, count: u32) -> Result<Report, AllocError>
     ensures status { IfOk result (λ r. r.status ≡ Status.LogRefused) }
-    ensures text { IfOk result (λ r. r.text ≡ line (codes "refused: no condition " ++ decimal number ++ codes " of " ++ decimal count)) }
+    ensures text { IfOk result (λ r. r.text
+        ≡ line (codes "refused: no condition " ++ decimal number ++ codes " of " ++ decimal count)) }
 {
     let written = format!(in alloc; "refused: no condition {number} of {count}\n")?;
     let mut text = Text::new(alloc);
@@ -44,7 +45,8 @@ fn unnumbered(alloc: Global, number: u32, count: u32) -> Result<Report, AllocErr
 // The place of the name of a condition's procedure.
 fn place(typed: &Typed, condition: &Condition) -> Span
     requires { (c : plain.Condition) × StandsFor (program_of typed.now) condition.now c }
-    ensures { (c : plain.Condition) → StandsFor (program_of typed.now) condition.now c → result ≡ c.procedure.name.span }
+    ensures { (c : plain.Condition) → StandsFor (program_of typed.now) condition.now c
+        → result ≡ c.procedure.name.span }
 {
     let procedure = &typed.program().procedures[condition.procedure as usize];
     procedure.name.span
@@ -53,7 +55,8 @@ fn place(typed: &Typed, condition: &Condition) -> Span
 // The script would have so many assertions, which are too many.
 fn too_long(alloc: Global, span: Span, count: u64) -> Result<Report, AllocError>
     ensures status { IfOk result (λ r. r.status ≡ Status.TextRefused) }
-    ensures text { IfOk result (λ r. r.text ≡ line (codes "refused: Limit script at " ++ place_text span ++ codes ", count " ++ decimal count)) }
+    ensures text { IfOk result (λ r. r.text
+        ≡ line (codes "refused: Limit script at " ++ place_text span ++ codes ", count " ++ decimal count)) }
 {
     let row = span.line;
     let column = span.col;
@@ -72,7 +75,8 @@ fn too_long(alloc: Global, span: Span, count: u64) -> Result<Report, AllocError>
 fn script_report(alloc: Global, typed: &Typed, condition: &Condition) -> Result<Report, AllocError>
     requires admitted { IsAdmitted (program_of typed.now) }
     requires one { IsOne (program_of typed.now) condition.now }
-    ensures { IfOk result (λ r. (c : plain.Condition) → StandsFor (program_of typed.now) condition.now c → IsScriptReport (program_of typed.now) c r.status r.text) }
+    ensures { IfOk result (λ r. (c : plain.Condition) → plain.IsCondition (program_of typed.now) c
+        → StandsFor (program_of typed.now) condition.now c → IsScriptReport (program_of typed.now) c r.status r.text) }
 {
     let symbolic = over_terms(alloc, typed, condition)?;
     let ground = ground(alloc, &symbolic)?;

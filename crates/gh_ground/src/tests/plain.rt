@@ -6,6 +6,7 @@ ghost use Rattle.gh_ground.specs.Solving.{IsAnswer};
 
 use crate::solve::Answer;
 use crate::solver::Solver;
+use crate::trim::trim;
 use gh_base::ground::Ground;
 use gh_inst::instances::Instances;
 use gh_inst::naming::InstanceName;
@@ -31,7 +32,7 @@ pub(crate) fn solve_plainly(alloc: Global, ground: &Ground) -> Result<Answer, Al
     solver.add_instances(alloc, names.as_slice())?;
     if let Some(conflict) = solver.conflict(alloc)? {
         let section = solver.into_section(alloc, conflict)?;
-        return Ok(Answer::Refutation(section));
+        return Ok(Answer::Refutation(trim(alloc, &section)?));
     }
     Ok(Answer::Model(solver.structure(alloc)?))
 }

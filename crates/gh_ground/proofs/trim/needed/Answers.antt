@@ -15,7 +15,7 @@ loop-place-preserved c =
     let up : c.loop-place.place ≡ (c.loop-place.place - 1) + 1 = omega arith in
     record {
       within = omega arith;
-      needed = needed_step lines old c.keep_hints.new.kept.items (c.loop-place.place - 1) l e.long e.keeps e.later e.hints at (subst (AreNeeded lines old) up i.needed);
+      needed = needed_step lines old c.keep_hints.new.kept.items (c.loop-place.place - 1) l e.long e.keeps e.later e.hints e.only e.needed at (subst (AreNeeded lines old) up i.needed);
     }
 
 pub returns : goal.returns

@@ -1,4 +1,4 @@
-use Rattle.std.proofs.Common.{◌≡◌, ◌∙◌, ◌+◌, ◌<◌, ◌++◌, ◌∷◌, [], ℕ, List, Bool, length, get_or, true, false, Some, ap, arith, refl, subst, sym}
+use Rattle.std.proofs.Common.{◌≡◌, ◌∙◌, ◌+◌, ◌<◌, ◌++◌, ◌∷◌, [], ℕ, List, Bool, length, true, false, Some, ap, arith, refl, subst, sym}
 use Rattle.std.specs.Prelude.{slice_get}
 use Rattle.std.proofs.lemmas.List.{length_push}
 use Rattle.std.proofs.lemmas.Option.{slice_get_read}
@@ -6,27 +6,23 @@ use Rattle.gh_base.specs.Grounds.{Problem}
 use Rattle.gh_log.specs.declared.lines.LogLine.{LogLine}
 use Rattle.gh_ground.specs.declared.trim.Trimmed.{Trimmed}
 use Rattle.gh_ground.specs.Trimming.{AreNeeded, IsMoved}
-use Rattle.gh_ground.proofs.TrimLemmas.{IsGood, IsTrimmed, trim_kept, trim_passed, trimmed_refutes}
+use Rattle.gh_ground.proofs.TrimLemmas.{IsGood, IsRenumbered, read_mark, trim_kept, trim_passed, trimmed_refutes}
 use Rattle.gh_ground.proofs.trim.trim.Goals as goal
 use Rattle.gh_ground.proofs.trim.trim.Goals.{then-index+in_ok-take, else-index+in_ok-pass}
 
--- what the code reads as a place's mark
-read_mark : (kept : List Bool) (place : ℕ) (read mark : Bool) → place < length kept → read ≡ get_or kept place read → read ≡ mark → slice_get kept place ≡ Some mark
-read_mark kept place read mark lt at is = slice_get_read kept (length kept) place read (λ _. length kept) lt at ∙ ap Some is
-
 -- a line more was kept
 turn_kept : (p : Problem) (lines : List LogLine) (kept : List Bool) (place : ℕ) (old new : List LogLine) (positions moved : List ℕ) (l : LogLine) → AreNeeded lines kept 0 → slice_get lines place ≡ Some l → slice_get kept place ≡ Some true
-    → (w : (m : LogLine) × IsMoved positions l m × (new ≡ old ++ m ∷ [])) → moved ≡ positions ++ (length old + 1) ∷ [] → IsGood p lines → IsTrimmed p lines kept place old positions → IsTrimmed p lines kept (place + 1) new moved
+    → (w : (m : LogLine) × IsMoved positions l m × (new ≡ old ++ m ∷ [])) → moved ≡ positions ++ (length old + 1) ∷ [] → IsGood p lines → IsRenumbered p lines kept place old positions → IsRenumbered p lines kept (place + 1) new moved
 turn_kept p lines kept place old new positions moved l needed at is w e good h =
-    subst (λ (ls : List LogLine). IsTrimmed p lines kept (place + 1) ls moved) (sym w.2)
-    (subst (λ (ks : List ℕ). IsTrimmed p lines kept (place + 1) (old ++ w.0 ∷ []) ks) (sym e) (trim_kept p lines kept place old positions good h l w.0 needed at is w.1))
+    subst (λ (ls : List LogLine). IsRenumbered p lines kept (place + 1) ls moved) (sym w.2)
+    (subst (λ (ks : List ℕ). IsRenumbered p lines kept (place + 1) (old ++ w.0 ∷ []) ks) (sym e) (trim_kept p lines kept place old positions good h l w.0 needed at is w.1))
 
 -- a line was left out
 turn_passed : (p : Problem) (lines : List LogLine) (kept : List Bool) (place : ℕ) (old new : List LogLine) (positions moved : List ℕ) → slice_get kept place ≡ Some false
-    → new ≡ old → moved ≡ positions ++ length old ∷ [] → IsGood p lines → IsTrimmed p lines kept place old positions → IsTrimmed p lines kept (place + 1) new moved
+    → new ≡ old → moved ≡ positions ++ length old ∷ [] → IsGood p lines → IsRenumbered p lines kept place old positions → IsRenumbered p lines kept (place + 1) new moved
 turn_passed p lines kept place old new positions moved out same e good h =
-    subst (λ (ls : List LogLine). IsTrimmed p lines kept (place + 1) ls moved) (sym same)
-    (subst (λ (ks : List ℕ). IsTrimmed p lines kept (place + 1) old ks) (sym e) (trim_passed p lines kept place old positions good h out))
+    subst (λ (ls : List LogLine). IsRenumbered p lines kept (place + 1) ls moved) (sym same)
+    (subst (λ (ks : List ℕ). IsRenumbered p lines kept (place + 1) old ks) (sym e) (trim_passed p lines kept place old positions good h out))
 
 pub loop-place-preserved : goal.loop-place-preserved
 loop-place-preserved c =
@@ -70,5 +66,5 @@ returns c =
     let needed = subst (λ (ls : List LogLine). AreNeeded ls kept 0) is c.in_ok-kept.ensures in
     let end : place ≡ length c.as_slice-lines.result.now = omega (arith, c.loop-place.auto.place-end, c.loop-place-test.false) in
     λ p h. trimmed_refutes p c.args.section.now _ kept place new.positions.items needed (end ∙ ap length is)
-    (subst (λ (ls : List LogLine). IsGood p ls → IsTrimmed p ls kept place new.lines.items new.positions.items) is (i.trimmed p)) refl
+    (subst (λ (ls : List LogLine). IsGood p ls → IsRenumbered p ls kept place new.lines.items new.positions.items) is (i.trimmed p)) refl
     (omega (arith, new.lines.ok.0, i.few, end, c.if-lines-gt4294967294.false)) h

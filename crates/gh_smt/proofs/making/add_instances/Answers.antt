@@ -1,4 +1,4 @@
-use Rattle.std.proofs.Common.{rules, ◌≡◌, ◌++◌, ◌∷◌, map, ap, sym, subst, All}
+use Rattle.std.proofs.Common.{rules, ◌≡◌, ◌++◌, map, ap, sym, subst, All}
 use Rattle.std.proofs.lemmas.List.Elements.{All-tail}
 use Rattle.gh_inst.specs.Instances.{instances, clause_of, IsInstance}
 use Rattle.gh_smt.proofs.ScriptLemmas.{all_are_instances}

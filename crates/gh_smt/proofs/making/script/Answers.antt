@@ -1,4 +1,4 @@
-use Rattle.std.proofs.Common.{◌≡◌, ◌∙◌, ap, sym, subst, arith}
+use Rattle.std.proofs.Common.{◌≡◌, subst, arith}
 use Rattle.gh_reduce.specs.Inside.{plain_of}
 use Rattle.gh_smt.specs.Scripts.{IsSized, script_of}
 use Rattle.gh_smt.proofs.MakingLemmas.{made, short_enough, terms_are, versions_are}

@@ -1,4 +1,4 @@
-use Rattle.gh_smt.proofs.ReadingLemmas.{goes_on, read_back, found_text, nothing_left, something_left}
+use Rattle.gh_smt.proofs.ReadingLemmas.{goes_on, read_back, nothing_left, something_left}
 use Rattle.gh_smt.proofs.reading.read_script.Goals as goal
 
 pub returns-then-not-is_empty-clause-found : goal.returns-then-not-is_empty-clause-found

@@ -3,7 +3,6 @@ use Rattle.std.specs.Fmt.{decimal}
 use Rattle.gh_smt.specs.Scripts.{assertion_count}
 use Rattle.gh_draw.specs.Descriptions.{place_text}
 use Rattle.gh_draw.specs.Drawings.{line}
-use Rattle.gh_base.specs.Grounds.{Problem}
 use Rattle.gh_ast.specs.Plain.{program_of}
 use Rattle.gh_symb.specs.Symbolic.{symbolic_of}
 use Rattle.gh_symb.specs.Formulas.{problem}
@@ -13,14 +12,15 @@ use Rattle.gh_top.proofs.smt.script_report.Goals as goal
 
 pub returns-in-Ok : goal.returns-in-Ok
 returns-in-Ok c =
-    λ d stands.
+    λ d is stands.
     let P = program_of c.args.typed.now in
     let e : c.in_ok-ground.ground ≡ problem (symbolic_of P d) = c.in_ok-ground.ensures.told P d (c.in_ok-symbolic.ensures d stands) in
-    is_listed P d c.in_ok-ground.ground c.in-Ok.script Listed _ e c.in-Ok.ensures.short c.in-Ok.ensures.is refl c.in_ok-write_script-in-Ok.ensures
+    is_listed P d c.in_ok-ground.ground c.in-Ok.script Listed _ e c.in-Ok.ensures.short c.in-Ok.ensures.is
+    (c.in-Ok.ensures.decides P d c.requires.admitted.typed is e) refl c.in_ok-write_script-in-Ok.ensures
 
 pub returns-in-Err-TooLong : goal.returns-in-Err-TooLong
 returns-in-Err-TooLong c =
-    λ d stands.
+    λ d is stands.
     let P = program_of c.args.typed.now in
     let p = c.in_ok-ground.ground in
     let e : p ≡ problem (symbolic_of P d) = c.in_ok-ground.ensures.told P d (c.in_ok-symbolic.ensures d stands) in

@@ -1,8 +1,8 @@
-use Rattle.std.proofs.Common.{◌≡◌, ◌∙◌, length, ap, sym, subst}
+use Rattle.std.proofs.Common.{◌∙◌, length, ap, sym, subst}
 use Rattle.std.specs.Prelude.{Some, None}
 use Rattle.gh_ast.specs.Plain.{program_of}
 use Rattle.gh_path.specs.Answers.{IsNumbered}
-use Rattle.gh_path.specs.Conditions.{Condition, conditions}
+use Rattle.gh_path.specs.Conditions.{Condition, IsCondition, conditions}
 use Rattle.gh_path.specs.Kept.{StandsFor}
 use Rattle.gh_trace.specs.Kept.{IsOne}
 use Rattle.gh_top.specs.Smts.{IsScriptReport}
@@ -23,7 +23,7 @@ returns-in_ok-script_report-in-Some c =
     let found : IsNumbered P c.args.number (Some c.in-Some.condition) = subst (λ p. IsNumbered (program_of p) c.args.number (Some c.in-Some.condition)) c.conditions-conditions.ensures
     (subst (λ o. IsNumbered (program_of c.conditions-conditions.result.now) c.args.number o) c.in-Some.is c.in_ok-condition.ensures) in
     script_replies P c.args.number c.in-Some.condition r.status r.text found
-    (subst (λ p. (d : Condition) → StandsFor (program_of p) c.in-Some.condition d → IsScriptReport (program_of p) d r.status r.text) c.typed-typed.ensures.same c.in_ok-script_report-in-Some.ensures)
+    (subst (λ p. (d : Condition) → IsCondition (program_of p) d → StandsFor (program_of p) c.in-Some.condition d → IsScriptReport (program_of p) d r.status r.text) c.typed-typed.ensures.same c.in_ok-script_report-in-Some.ensures)
 
 pub returns-in_ok-unnumbered-in-None : goal.returns-in_ok-unnumbered-in-None
 returns-in_ok-unnumbered-in-None c =

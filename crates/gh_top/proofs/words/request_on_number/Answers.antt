@@ -1,4 +1,4 @@
-use Rattle.std.proofs.Common.{◌≡◌, ◌∷◌, [], codes, refl, sym}
+use Rattle.std.proofs.Common.{◌∷◌, [], codes, refl, sym}
 use Rattle.gh_top.proofs.words.request_on_number.Goals as goal
 
 pub returns : goal.returns

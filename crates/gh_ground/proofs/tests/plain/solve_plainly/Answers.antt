@@ -33,4 +33,4 @@ into_section-requires c = ended_refuted c.conflict.new.self.search _ c.in-Some.c
 pub returns-in-Some : goal.returns-in-Some
 returns-in-Some c =
     let p = c.args.ground.now in
-    c.in_ok-section.ensures p (c.in_ok-conflict.ensures.keeps.keeps p (c.in_ok-add_instances.ensures.keeps.keeps p c.in_ok-solver.ensures))
+    c.in_ok-trim.ensures p (c.in_ok-section.ensures p (c.in_ok-conflict.ensures.keeps.keeps p (c.in_ok-add_instances.ensures.keeps.keeps p c.in_ok-solver.ensures)))

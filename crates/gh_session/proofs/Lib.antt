@@ -1,0 +1,15 @@
+pub mod Placing
+pub mod Places
+pub mod LoopNames
+pub mod Deciding
+pub mod Alike
+pub mod Copies
+pub mod Finding
+pub mod Assembling
+pub mod Sameness
+pub mod Learning
+pub mod Growing
+pub mod Placings
+pub mod Cutting
+pub mod Separating
+pub mod PieceLemmas

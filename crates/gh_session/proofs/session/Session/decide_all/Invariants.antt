@@ -1,0 +1,13 @@
+use Rattle.std.proofs.Common.{◌≤◌, ◌+◌}
+use Rattle.gh_ast.specs.Plain.{program_of}
+use Rattle.gh_session.specs.Places.{knowledge}
+use Rattle.gh_session.specs.Decided.{AreDecided}
+use Rattle.gh_session.proofs.session.Session.decide_all.Given as goal
+
+abbrev pub invariant-loop-place : goal.invariant-loop-place
+invariant-loop-place g l = record {
+  decided : AreDecided (program_of l.typed) l.place (knowledge l.fn.self) l.decided (knowledge l.self);
+  few : l.decided ≤ l.place;
+  calls : g.D.Decider.calls l.decider ≤ g.D.Decider.calls l.fn.decider + l.decided;
+  rises : g.D.Decider.calls l.fn.decider ≤ g.D.Decider.calls l.decider;
+}

@@ -1,0 +1,138 @@
+-- The essence of a condition: all that its counterexamples depend on, with its procedures and loops numbered as they appear and each
+-- place forgotten.
+use Rattle.std.specs.Prelude.{ℕ, List, [], ◌∷◌, ◌++◌, map, filter, flat_map, get_or, Bool}
+use Rattle.gh_ast.specs.declared.Expr.{Expr}
+use Rattle.gh_ast.specs.Plain.{Formula, empty, Procedure, Program}
+use Rattle.gh_ast.specs.Programs.{Name, names, parameters_of, results_of, variable_names}
+use Rattle.gh_ast.specs.Bare.{bare_expr, bare_formula}
+use Rattle.gh_path.specs.Graphs.{Loop, loops_of}
+use Rattle.gh_path.specs.Terms.{some_assigns}
+use Rattle.gh_path.specs.declared.condition.PathStep as kept_step
+use Rattle.gh_path.specs.declared.condition.PathStep.TheVariants as step
+use Rattle.gh_path.specs.declared.condition.Start as kept_start
+use Rattle.gh_path.specs.declared.condition.Start.TheVariants as start
+use Rattle.gh_path.specs.declared.condition.CheckKind as kept_kind
+use Rattle.gh_path.specs.declared.condition.CheckKind.TheVariants as kind
+use Rattle.gh_path.specs.declared.condition.Condition as kept_condition
+use Rattle.gh_session.specs.Numbering.{listed, place}
+
+pub record Contract : Type 0 where
+  pub parameters : List Name
+  pub results : List Name
+  pub needs : Formula
+  -- the alternatives of what is ensured
+  pub gives : List Formula
+
+-- an invariant, and the variables that the body assigns, in the order of the procedure's
+pub record Round : Type 0 where
+  pub invariant : Formula
+  pub assigned : List Name
+
+-- a procedure is a place in the list of contracts, a loop one in the list of loops
+pub data Step : Type 0 where
+  accessed : Name → Step
+  assumed : Expr → Bool → Expr → Step
+  assigned : Name → Expr → Step
+  made : Name → Step
+  written : Name → Expr → Step
+  freed : Name → Step
+  called : List Name → ℕ → List Expr → Step
+  looped : ℕ → Step
+  answered : List Expr → Step
+
+pub data Start : Type 0 where
+  from_entry : Start
+  from_loop : ℕ → Start
+
+pub data Check : Type 0 where
+  access : Name → Check
+  entry : ℕ → List Expr → Check
+  loop_entry : ℕ → Check
+  returned : Check
+  loop_end : ℕ → Check
+
+pub record Essence : Type 0 where
+  pub variables : List Name
+  pub contracts : List Contract
+  pub loops : List Round
+  pub start : Start
+  pub steps : List Step
+  pub check : Check
+
+abbrev pub contract_of : Procedure → Contract
+contract_of q = record { parameters = parameters_of q; results = results_of q; needs = bare_formula q.needs; gives = map bare_formula q.gives }
+
+-- a loop of a procedure with the variables xs
+abbrev pub round_of : List Name → Loop → Round
+round_of xs l = record { invariant = bare_formula l.invariant; assigned = filter (some_assigns l.body) xs }
+
+-- what stands for a procedure or a loop that isn't there; a condition of a program has none such
+abbrev pub no_contract : Contract
+no_contract = record { parameters = []; results = []; needs = empty; gives = [] }
+
+abbrev pub no_round : Round
+no_round = record { invariant = empty; assigned = [] }
+
+-- the procedures and the loops that a condition names, as they stand in it
+abbrev pub callees_in : kept_step.PathStep → List ℕ
+callees_in (step.Call xs n es) = n ∷ []
+callees_in _ = []
+
+abbrev pub callees_at : kept_kind.CheckKind → List ℕ
+callees_at (kind.CalleeEntry n es) = n ∷ []
+callees_at _ = []
+
+abbrev pub loops_from : kept_start.Start → List ℕ
+loops_from start.Entry = []
+loops_from (start.Loop n) = n ∷ []
+
+abbrev pub loops_in : kept_step.PathStep → List ℕ
+loops_in (step.Loop n) = n ∷ []
+loops_in _ = []
+
+abbrev pub loops_at : kept_kind.CheckKind → List ℕ
+loops_at (kind.LoopEntry n) = n ∷ []
+loops_at (kind.LoopEnd n) = n ∷ []
+loops_at _ = []
+
+-- each once: its own procedure first, and the loop that it starts at first
+abbrev pub procedures_of : kept_condition.Condition → List ℕ
+procedures_of r = listed (r.procedure ∷ []) (flat_map callees_in r.steps.items ++ callees_at r.check.kind)
+
+abbrev pub rounds_of : kept_condition.Condition → List ℕ
+rounds_of r = listed (loops_from r.start) (flat_map loops_in r.steps.items ++ loops_at r.check.kind)
+
+-- a start, a step and a check over the lists ps of procedures and ls of loops
+abbrev pub start_in : List ℕ → kept_start.Start → Start
+start_in ls start.Entry = from_entry
+start_in ls (start.Loop n) = from_loop (place n ls)
+
+abbrev pub step_in : List ℕ → List ℕ → kept_step.PathStep → Step
+step_in ps ls (step.Access x) = accessed x.name
+step_in ps ls (step.Assume l e r) = assumed (bare_expr l) e (bare_expr r)
+step_in ps ls (step.Set x e) = assigned x.name (bare_expr e)
+step_in ps ls (step.Write x e) = written x.name (bare_expr e)
+step_in ps ls (step.New x) = made x.name
+step_in ps ls (step.Free x) = freed x.name
+step_in ps ls (step.Call xs n es) = called (names xs.items) (place n ps) (map bare_expr es.items)
+step_in ps ls (step.Loop n) = looped (place n ls)
+step_in ps ls (step.Return es) = answered (map bare_expr es.items)
+
+abbrev pub check_in : List ℕ → List ℕ → kept_kind.CheckKind → Check
+check_in ps ls (kind.Access x) = access x
+check_in ps ls (kind.CalleeEntry n es) = entry (place n ps) (map bare_expr es.items)
+check_in ps ls (kind.LoopEntry n) = loop_entry (place n ls)
+check_in ps ls kind.Return = returned
+check_in ps ls (kind.LoopEnd n) = loop_end (place n ls)
+
+-- of the condition r of the procedure p of the program P
+abbrev pub essence : Program → Procedure → kept_condition.Condition → Essence
+essence P p r =
+    record {
+      variables = variable_names p;
+      contracts = map (λ n. get_or (map contract_of P.procedures) n no_contract) (procedures_of r);
+      loops = map (λ n. get_or (map (round_of (variable_names p)) (loops_of p)) n no_round) (rounds_of r);
+      start = start_in (rounds_of r) r.start;
+      steps = map (step_in (procedures_of r) (rounds_of r)) r.steps.items;
+      check = check_in (procedures_of r) (rounds_of r) r.check.kind;
+    }

@@ -1,0 +1,12 @@
+pub mod Numbering
+pub mod Essences
+pub mod Meaning
+pub mod Laws
+pub mod Views
+pub mod Fingerprint
+pub mod Known
+pub mod Places
+pub mod Decided
+pub mod Pieces
+pub mod Lines
+pub mod Parts

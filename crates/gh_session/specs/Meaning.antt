@@ -1,0 +1,75 @@
+-- What states say of an essence.
+use Rattle.std.specs.Prelude.{◌≡◌, ◌≢◌, ℕ, List, [], ◌∷◌, map, get_or, Some, None, true, Contains}
+use Rattle.std.specs.FinMap.{get, insert, remove}
+use Rattle.gh_ast.specs.Programs.{Name}
+use Rattle.gh_assert.specs.Meaning.{Store, Meaning, HasPart, MeetsOneOf}
+use Rattle.gh_assert.specs.Walks.{Allocated}
+use Rattle.gh_assert.specs.Values.{result, Give, compared, Gets}
+use Rattle.gh_trace.specs.Traces.{State, Replaced, last_state}
+use Rattle.gh_trace.specs.Replay.{Drawn}
+use Rattle.gh_session.specs.Essences.{Contract, Round, no_contract, no_round, Step, accessed, assumed, assigned, made, written, freed, called, looped, answered, Start, from_entry, from_loop, Check, access, entry, loop_entry, returned, loop_end, Essence}
+
+abbrev pub contract_at : Essence → ℕ → Contract
+contract_at E n = get_or E.contracts n no_contract
+
+abbrev pub round_at : Essence → ℕ → Round
+round_at E n = get_or E.loops n no_round
+
+-- the contract of the condition's own procedure
+abbrev pub own : Essence → Contract
+own E = contract_at E 0
+
+abbrev pub StartsIn : Essence → Start → State → Type 0
+StartsIn E from_entry x = Meaning (own E).needs x.store x.heap
+StartsIn E (from_loop n) x = Meaning (round_at E n).invariant x.store x.heap
+
+pub record Called (k : Contract) (vs : List ℕ) (xs : List Name) (x y : State) : Type 0 where
+  pub inside : Store
+  pub arguments : map inside k.parameters ≡ vs
+  pub targets : Gets x.store xs (map inside k.results) y.store
+  pub replaced : Replaced k.needs inside x.heap (MeetsOneOf k.gives inside) y.heap
+
+abbrev pub Takes : Essence → Step → State → State → Type 0
+Takes E (accessed a) x y = Allocated x.heap (x.store a) × (y ≡ x)
+Takes E (assumed l e r) x y = (compared e (result x.store x.heap l) (result x.store x.heap r) ≡ Some true) × (y ≡ x)
+Takes E (assigned a e) x y = (v : ℕ) × (result x.store x.heap e ≡ Some v) × Gets x.store (a ∷ []) (v ∷ []) y.store × (y.heap ≡ x.heap)
+Takes E (made a) x y = (l : ℕ) × (v : ℕ) × (l ≢ 0) × (get x.heap l ≡ None) × Gets x.store (a ∷ []) (l ∷ []) y.store × (y.heap ≡ insert x.heap l v)
+Takes E (written a e) x y =
+    (v : ℕ) × (result x.store x.heap e ≡ Some v) × Allocated x.heap (x.store a) × (y ≡ record { store = x.store; heap = insert x.heap (x.store a) v })
+Takes E (freed a) x y = Allocated x.heap (x.store a) × (y ≡ record { store = x.store; heap = remove x.heap (x.store a) })
+Takes E (called xs n es) x y = (vs : List ℕ) × Give x.store x.heap es vs × Called (contract_at E n) vs xs x y
+Takes E (looped n) x y =
+    Replaced (round_at E n).invariant x.store x.heap (Meaning (round_at E n).invariant y.store) y.heap × ((a : Name) → (Contains (round_at E n).assigned a → ⊥) → y.store a ≡ x.store a)
+Takes E (answered es) x y = (vs : List ℕ) × Give x.store x.heap es vs × Gets x.store (own E).results vs y.store × (y.heap ≡ x.heap)
+
+abbrev pub Passes : Essence → Check → State → Type 0
+Passes E (access a) x = Allocated x.heap (x.store a)
+Passes E (entry n es) x =
+    (vs : List ℕ) (inside : Store) → Give x.store x.heap es vs → map inside (contract_at E n).parameters ≡ vs → HasPart (contract_at E n).needs inside x.heap
+Passes E (loop_entry n) x = HasPart (round_at E n).invariant x.store x.heap
+Passes E returned x = MeetsOneOf (own E).gives x.store x.heap
+Passes E (loop_end n) x = Meaning (round_at E n).invariant x.store x.heap
+
+-- one state for each step, after the first state
+abbrev pub IsTrace : Essence → State → List Step → List State → Type 0
+IsTrace E x [] [] = Unit {0}
+IsTrace E x [] (y ∷ ys) = ⊥
+IsTrace E x (p ∷ ps) [] = ⊥
+IsTrace E x (p ∷ ps) (y ∷ ys) = Takes E p x y × IsTrace E y ps ys
+
+-- the states start as the essence says and follow its steps, and the last one doesn't pass its check
+pub record Counterexample (E : Essence) (x : State) (ys : List State) : Type 0 where
+  pub begins : StartsIn E E.start x
+  pub leads : IsTrace E x E.steps ys
+  pub fails : Passes E E.check (last_state x ys) → ⊥
+
+-- all stores are over the variables, and the states are a counterexample
+pub record Refutes (E : Essence) (xs : List Drawn) : Type 0 where
+  pub first : Drawn
+  pub others : List Drawn
+  pub states : xs ≡ first ∷ others
+  pub over : (x : Drawn) → Contains xs x → x.listed ≡ E.variables
+  pub counterexample : Counterexample E first.state (map (λ x. x.state) others)
+
+abbrev pub IsValid : Essence → Type 0
+IsValid E = (x : State) (ys : List State) → Counterexample E x ys → ⊥

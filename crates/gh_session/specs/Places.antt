@@ -1,0 +1,26 @@
+-- What is kept, and the places at which it is filed under fingerprints.
+use Rattle.std.specs.Prelude.{◌≡◌, ℕ, List, [], Some, map, Vec, slice_get, nat_eq, Contains}
+use Rattle.std.specs.Option.{option_map, unwrap_or}
+use Rattle.std.specs.Global.{Global}
+use Rattle.std.specs.HashMap as hash
+use Rattle.gh_session.specs.Fingerprint.{fingerprint}
+use Rattle.gh_session.specs.Views.{essence_view}
+use Rattle.gh_session.specs.Known.{Known, known, AreRight}
+use Rattle.gh_session.specs.declared.kept.Kept.{Kept}
+
+abbrev pub known_of : Kept → Known
+known_of k = known (essence_view k.essence) k.answer
+
+-- what a session knows that keeps this
+abbrev pub knowledge : List Kept → List Known
+knowledge = map known_of
+
+module _ {S : Type 0} where
+  -- the places under a fingerprint
+  abbrev pub filed : hash.HashMap ℕ (Vec ℕ Global) S → ℕ → List ℕ
+  filed table q = unwrap_or (option_map (λ v. v.items) (hash.get nat_eq table q)) []
+
+  -- each essence is filed under its fingerprint at the place where it stands, and all answers are right
+  pub record IsFiled (kept : List Kept) (table : hash.HashMap ℕ (Vec ℕ Global) S) : Type 0 where
+    pub places : (n : ℕ) (k : Kept) → slice_get kept n ≡ Some k → Contains (filed table (fingerprint (essence_view k.essence))) n
+    pub right : AreRight (knowledge kept)

@@ -1,0 +1,52 @@
+-- Essences as they are kept.
+use Rattle.std.specs.Prelude.{map}
+use Rattle.gh_ast.specs.Plain.{formula_of}
+use Rattle.gh_session.specs.Essences as plain
+use Rattle.gh_session.specs.declared.essence.Contract as kept_contract
+use Rattle.gh_session.specs.declared.essence.Round as kept_round
+use Rattle.gh_session.specs.declared.essence.Start as kept_start
+use Rattle.gh_session.specs.declared.essence.Start.TheVariants as start
+use Rattle.gh_session.specs.declared.essence.Step as kept_step
+use Rattle.gh_session.specs.declared.essence.Step.TheVariants as step
+use Rattle.gh_session.specs.declared.essence.Check as kept_check
+use Rattle.gh_session.specs.declared.essence.Check.TheVariants as check
+use Rattle.gh_session.specs.declared.essence.Essence as kept_essence
+
+abbrev pub contract_view : kept_contract.Contract → plain.Contract
+contract_view k = record { parameters = k.parameters.items; results = k.results.items; needs = formula_of k.needs; gives = map formula_of k.gives.items }
+
+abbrev pub round_view : kept_round.Round → plain.Round
+round_view l = record { invariant = formula_of l.invariant; assigned = l.assigned.items }
+
+abbrev pub start_view : kept_start.Start → plain.Start
+start_view start.Entry = plain.from_entry
+start_view (start.Loop n) = plain.from_loop n
+
+abbrev pub step_view : kept_step.Step → plain.Step
+step_view (step.Access a) = plain.accessed a
+step_view (step.Assume l e r) = plain.assumed l e r
+step_view (step.Set a e) = plain.assigned a e
+step_view (step.New a) = plain.made a
+step_view (step.Write a e) = plain.written a e
+step_view (step.Free a) = plain.freed a
+step_view (step.Call xs n es) = plain.called xs.items n es.items
+step_view (step.Loop n) = plain.looped n
+step_view (step.Return es) = plain.answered es.items
+
+abbrev pub check_view : kept_check.Check → plain.Check
+check_view (check.Access a) = plain.access a
+check_view (check.Entry n es) = plain.entry n es.items
+check_view (check.LoopEntry n) = plain.loop_entry n
+check_view check.Return = plain.returned
+check_view (check.LoopEnd n) = plain.loop_end n
+
+abbrev pub essence_view : kept_essence.Essence → plain.Essence
+essence_view e =
+    record {
+      variables = e.variables.items;
+      contracts = map contract_view e.contracts.items;
+      loops = map round_view e.loops.items;
+      start = start_view e.start;
+      steps = map step_view e.steps.items;
+      check = check_view e.check;
+    }

@@ -1,0 +1,139 @@
+//! Copies in which every place is 1:1.
+
+ghost use Rattle.std.specs.Prelude.{◌≡◌, map, IfOk};
+ghost use Rattle.gh_ast.specs.Plain.{test_of, formula_of};
+ghost use Rattle.gh_ast.specs.Bare.{bare_occ, bare_operand, bare_expr, bare_test, bare_formula};
+ghost use Rattle.gh_ast.specs.Programs.{names};
+
+use gh_ast::{Assertion, Cond, Expr, Occ, Operand};
+use gh_base::name::Name;
+use gh_base::place::Span;
+use std::alloc::{AllocError, Global};
+
+// Where each part stands that is copied here.
+const FIRST: Span = Span { line: 1, col: 1 };
+
+/// An occurrence at 1:1.
+fn occ(alloc: Global, occ: &Occ) -> Result<Occ, AllocError>
+    ensures { IfOk result (λ o. o ≡ bare_occ occ.now) }
+{
+    Ok(Occ {
+        name: occ.name.copy(alloc)?,
+        span: FIRST,
+    })
+}
+
+/// An operand at 1:1.
+fn operand(alloc: Global, operand: &Operand) -> Result<Operand, AllocError>
+    ensures { IfOk result (λ o. o ≡ bare_operand operand.now) }
+{
+    match operand {
+        Operand::Null { .. } => Ok(Operand::Null { span: FIRST }),
+        Operand::Var(variable) => Ok(Operand::Var(occ(alloc, variable)?)),
+    }
+}
+
+/// An expression at 1:1.
+pub fn expr(alloc: Global, expr: &Expr) -> Result<Expr, AllocError>
+    ensures { IfOk result (λ e. e ≡ bare_expr expr.now) }
+{
+    match expr {
+        Expr::Plain(plain) => Ok(Expr::Plain(operand(alloc, plain)?)),
+        Expr::Read(variable) => Ok(Expr::Read(occ(alloc, variable)?)),
+    }
+}
+
+/// Some expressions at 1:1.
+pub fn exprs(alloc: Global, exprs: &[Expr]) -> Result<Vec<Expr>, AllocError>
+    ensures { IfOk result (λ v. v.items ≡ map bare_expr exprs.now) }
+{
+    let mut copies = Vec::new(alloc);
+    for one in exprs {
+        copies.push(expr(alloc, one)?)?;
+    }
+    Ok(copies)
+}
+
+/// The names of some occurrences.
+pub fn names(alloc: Global, occs: &[Occ]) -> Result<Vec<Name>, AllocError>
+    ensures { IfOk result (λ v. v.items ≡ names occs.now) }
+{
+    let mut copies = Vec::new(alloc);
+    for one in occs {
+        copies.push(one.name.copy(alloc)?)?;
+    }
+    Ok(copies)
+}
+
+/// A test at 1:1.
+#[cycle(test)]
+fn test(alloc: Global, test: &Cond) -> Result<Cond, AllocError>
+    ensures { IfOk result (λ t. test_of t ≡ bare_test (test_of test.now)) }
+{
+    match test {
+        Cond::Compare { left, equal, right } => Ok(Cond::Compare {
+            left: expr(alloc, left)?,
+            equal: *equal,
+            right: expr(alloc, right)?,
+        }),
+        Cond::Not(inner) => Ok(Cond::Not(Box::new(alloc, crate::bare::test(alloc, inner)?)?)),
+        Cond::And(members) => Ok(Cond::And(tests(alloc, members.as_slice())?)),
+        Cond::Or(members) => Ok(Cond::Or(tests(alloc, members.as_slice())?)),
+    }
+}
+
+/// Some tests at 1:1.
+#[cycle(test)]
+fn tests(alloc: Global, members: &[Cond]) -> Result<Vec<Cond>, AllocError>
+    ensures { IfOk result (λ v. map test_of v.items ≡ map (λ t. bare_test (test_of t)) members.now) }
+{
+    let mut copies = Vec::new(alloc);
+    for member in members {
+        copies.push(test(alloc, member)?)?;
+    }
+    Ok(copies)
+}
+
+/// An assertion at 1:1.
+#[cycle(assertion)]
+pub fn assertion(alloc: Global, whole: &Assertion) -> Result<Assertion, AllocError>
+    ensures { IfOk result (λ a. formula_of a ≡ bare_formula (formula_of whole.now)) }
+{
+    match whole {
+        Assertion::Emp => Ok(Assertion::Emp),
+        Assertion::Pure { left, equal, right } => Ok(Assertion::Pure {
+            left: operand(alloc, left)?,
+            equal: *equal,
+            right: operand(alloc, right)?,
+        }),
+        Assertion::PointsTo { at, to } => Ok(Assertion::PointsTo {
+            at: occ(alloc, at)?,
+            to: operand(alloc, to)?,
+        }),
+        Assertion::Acc { at } => Ok(Assertion::Acc {
+            at: occ(alloc, at)?,
+        }),
+        Assertion::Lseg { from, to } => Ok(Assertion::Lseg {
+            from: operand(alloc, from)?,
+            to: operand(alloc, to)?,
+        }),
+        Assertion::Star(members) => Ok(Assertion::Star(assertions(alloc, members.as_slice())?)),
+        Assertion::Cases { test, yes, no } => Ok(Assertion::Cases {
+            test: crate::bare::test(alloc, test)?,
+            yes: Box::new(alloc, assertion(alloc, yes)?)?,
+            no: Box::new(alloc, assertion(alloc, no)?)?,
+        }),
+    }
+}
+
+/// Some assertions at 1:1.
+#[cycle(assertion)]
+pub fn assertions(alloc: Global, members: &[Assertion]) -> Result<Vec<Assertion>, AllocError>
+    ensures { IfOk result (λ v. map formula_of v.items ≡ map (λ f. bare_formula (formula_of f)) members.now) }
+{
+    let mut copies = Vec::new(alloc);
+    for member in members {
+        copies.push(assertion(alloc, member)?)?;
+    }
+    Ok(copies)
+}

@@ -1,0 +1,275 @@
+//! Whether two essences are one.
+
+ghost use Rattle.std.specs.Prelude.{◌≡◌, ◌↔◌, map, IsTrue};
+ghost use Rattle.gh_session.specs.Views.{contract_view, round_view, start_view, step_view, check_view, essence_view};
+
+use crate::essence::{Check, Contract, Essence, Round, Start, Step};
+use crate::same::{are_same_assertions, is_same_assertion, is_same_expr, is_same_name};
+use gh_ast::Expr;
+use gh_base::name::Name;
+
+// Whether two lists of names are one.
+fn are_same_names(some: &[Name], others: &[Name]) -> bool
+    ensures { IsTrue result ↔ (some.now ≡ others.now) }
+{
+    let mut left = others;
+    for one in some {
+        let Some((other, rest)) = left.split_first() else {
+            return false;
+        };
+        if !is_same_name(one, other) {
+            return false;
+        }
+        left = rest;
+    }
+    left.is_empty()
+}
+
+// Whether two lists of expressions are one.
+fn are_same_exprs(some: &[Expr], others: &[Expr]) -> bool
+    ensures { IsTrue result ↔ (some.now ≡ others.now) }
+{
+    let mut left = others;
+    for one in some {
+        let Some((other, rest)) = left.split_first() else {
+            return false;
+        };
+        if !is_same_expr(one, other) {
+            return false;
+        }
+        left = rest;
+    }
+    left.is_empty()
+}
+
+// Whether two contracts are one.
+fn is_same_contract(one: &Contract, other: &Contract) -> bool
+    ensures { IsTrue result ↔ (contract_view one.now ≡ contract_view other.now) }
+{
+    are_same_names(one.parameters.as_slice(), other.parameters.as_slice())
+        && are_same_names(one.results.as_slice(), other.results.as_slice())
+        && is_same_assertion(&one.needs, &other.needs)
+        && are_same_assertions(one.gives.as_slice(), other.gives.as_slice())
+}
+
+// Whether two lists of contracts are one.
+fn are_same_contracts(some: &[Contract], others: &[Contract]) -> bool
+    ensures { IsTrue result ↔ (map contract_view some.now ≡ map contract_view others.now) }
+{
+    let mut left = others;
+    for one in some {
+        let Some((other, rest)) = left.split_first() else {
+            return false;
+        };
+        if !is_same_contract(one, other) {
+            return false;
+        }
+        left = rest;
+    }
+    left.is_empty()
+}
+
+// Whether two loops are one.
+fn is_same_round(one: &Round, other: &Round) -> bool
+    ensures { IsTrue result ↔ (round_view one.now ≡ round_view other.now) }
+{
+    is_same_assertion(&one.invariant, &other.invariant)
+        && are_same_names(one.assigned.as_slice(), other.assigned.as_slice())
+}
+
+// Whether two lists of loops are one.
+fn are_same_rounds(some: &[Round], others: &[Round]) -> bool
+    ensures { IsTrue result ↔ (map round_view some.now ≡ map round_view others.now) }
+{
+    let mut left = others;
+    for one in some {
+        let Some((other, rest)) = left.split_first() else {
+            return false;
+        };
+        if !is_same_round(one, other) {
+            return false;
+        }
+        left = rest;
+    }
+    left.is_empty()
+}
+
+// Whether two starts are one.
+fn is_same_start(one: &Start, other: &Start) -> bool
+    ensures { IsTrue result ↔ (start_view one.now ≡ start_view other.now) }
+{
+    match one {
+        Start::Entry => {
+            let Start::Entry = other else {
+                return false;
+            };
+            true
+        }
+        Start::Loop { number } => {
+            let Start::Loop { number: place } = other else {
+                return false;
+            };
+            number == place
+        }
+    }
+}
+
+// Whether two steps are one.
+fn is_same_step(one: &Step, other: &Step) -> bool
+    ensures { IsTrue result ↔ (step_view one.now ≡ step_view other.now) }
+{
+    match one {
+        Step::Access { at } => {
+            let Step::Access { at: place } = other else {
+                return false;
+            };
+            is_same_name(at, place)
+        }
+        Step::Assume { left, equal, right } => {
+            let Step::Assume {
+                left: first,
+                equal: way,
+                right: second,
+            } = other
+            else {
+                return false;
+            };
+            is_same_expr(left, first) && equal == way && is_same_expr(right, second)
+        }
+        Step::Set { target, value } => {
+            let Step::Set {
+                target: name,
+                value: content,
+            } = other
+            else {
+                return false;
+            };
+            is_same_name(target, name) && is_same_expr(value, content)
+        }
+        Step::New { target } => {
+            let Step::New { target: name } = other else {
+                return false;
+            };
+            is_same_name(target, name)
+        }
+        Step::Write { at, value } => {
+            let Step::Write {
+                at: place,
+                value: content,
+            } = other
+            else {
+                return false;
+            };
+            is_same_name(at, place) && is_same_expr(value, content)
+        }
+        Step::Free { at } => {
+            let Step::Free { at: place } = other else {
+                return false;
+            };
+            is_same_name(at, place)
+        }
+        Step::Call {
+            targets,
+            contract,
+            arguments,
+        } => {
+            let Step::Call {
+                targets: names,
+                contract: place,
+                arguments: values,
+            } = other
+            else {
+                return false;
+            };
+            are_same_names(targets.as_slice(), names.as_slice())
+                && contract == place
+                && are_same_exprs(arguments.as_slice(), values.as_slice())
+        }
+        Step::Loop { number } => {
+            let Step::Loop { number: place } = other else {
+                return false;
+            };
+            number == place
+        }
+        Step::Return { values } => {
+            let Step::Return { values: contents } = other else {
+                return false;
+            };
+            are_same_exprs(values.as_slice(), contents.as_slice())
+        }
+    }
+}
+
+// Whether two lists of steps are one.
+fn are_same_steps(some: &[Step], others: &[Step]) -> bool
+    ensures { IsTrue result ↔ (map step_view some.now ≡ map step_view others.now) }
+{
+    let mut left = others;
+    for one in some {
+        let Some((other, rest)) = left.split_first() else {
+            return false;
+        };
+        if !is_same_step(one, other) {
+            return false;
+        }
+        left = rest;
+    }
+    left.is_empty()
+}
+
+// Whether two checks are one.
+fn is_same_check(one: &Check, other: &Check) -> bool
+    ensures { IsTrue result ↔ (check_view one.now ≡ check_view other.now) }
+{
+    match one {
+        Check::Access { at } => {
+            let Check::Access { at: place } = other else {
+                return false;
+            };
+            is_same_name(at, place)
+        }
+        Check::Entry {
+            contract,
+            arguments,
+        } => {
+            let Check::Entry {
+                contract: place,
+                arguments: values,
+            } = other
+            else {
+                return false;
+            };
+            contract == place && are_same_exprs(arguments.as_slice(), values.as_slice())
+        }
+        Check::LoopEntry { number } => {
+            let Check::LoopEntry { number: place } = other else {
+                return false;
+            };
+            number == place
+        }
+        Check::Return => {
+            let Check::Return = other else {
+                return false;
+            };
+            true
+        }
+        Check::LoopEnd { number } => {
+            let Check::LoopEnd { number: place } = other else {
+                return false;
+            };
+            number == place
+        }
+    }
+}
+
+/// Whether two essences are one.
+pub fn is_same_essence(one: &Essence, other: &Essence) -> bool
+    ensures { IsTrue result ↔ (essence_view one.now ≡ essence_view other.now) }
+{
+    are_same_names(one.variables.as_slice(), other.variables.as_slice())
+        && are_same_contracts(one.contracts.as_slice(), other.contracts.as_slice())
+        && are_same_rounds(one.loops.as_slice(), other.loops.as_slice())
+        && is_same_start(&one.start, &other.start)
+        && are_same_steps(one.steps.as_slice(), other.steps.as_slice())
+        && is_same_check(&one.check, &other.check)
+}
