@@ -26,3 +26,6 @@ pub mod StatementsAgain
 pub mod ProgramsAgain
 pub mod Shown
 pub mod OnePlace
+pub mod QuestionViews
+pub mod OneQuestion
+pub mod ShorterQuestion

@@ -5,6 +5,8 @@ ghost use Rattle.std.specs.Prelude.{◌<◌, length};
 
 pub mod grammar_laws;
 pub mod print;
+pub mod question;
+pub mod question_laws;
 pub mod sign;
 pub mod token_laws;
 pub mod typed;
