@@ -14,3 +14,4 @@ pub mod TruthLemmas
 pub mod UseLemmas
 pub mod CountLemmas
 pub mod MoveLemmas
+pub mod PartialLemmas

@@ -4,3 +4,5 @@ pub mod Asserted
 pub mod Kept
 pub mod Lemma
 pub mod Uses
+pub mod Partials
+pub mod Laws

@@ -4,6 +4,7 @@
 mod clash;
 pub mod classes;
 mod filing;
+pub mod laws;
 pub mod lemma;
 mod moving;
 mod partition;

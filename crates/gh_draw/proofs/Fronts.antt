@@ -150,7 +150,7 @@ line_one l m a b p q e =
 pub line_first : (l x y : List ℕ) → (line l ++ x) ++ y ≡ l ++ 10 ∷ (x ++ y)
 line_first l x y = append_assoc (line l) x y ∙ append_assoc l (10 ∷ []) (x ++ y)
 
-no_member_of : (l : List ℕ) → Each IsNotEnd l → Contains l 10 → ⊥
+pub no_member_of : (l : List ℕ) → Each IsNotEnd l → Contains l 10 → ⊥
 no_member_of [] h there = no_member 10 there
 no_member_of (c ∷ cs) h there = elim (member_cases c cs 10 there) [ inl same ↦ h.0 same | inr later ↦ no_member_of cs h.1 later ]
 

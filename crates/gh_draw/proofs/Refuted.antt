@@ -38,7 +38,7 @@ value_fits [] p name = omega arith
 value_fits (e ∷ es) p name =
     either_fits (bytes_eq e.name name) e.value (listed es name) (All-head (λ (x : Entry). IsValue x.value) e es p) (value_fits es (All-tail (λ (x : Entry). IsValue x.value) e es p) name)
 
-state_drawable : (ns : List Name) (s : State) → HasValues s → IsDrawable ns (state_of s)
+pub state_drawable : (ns : List Name) (s : State) → HasValues s → IsDrawable ns (state_of s)
 state_drawable ns s h = record { values = λ k d w. value_fits s.store h.values (get_or ns k d); cells = h.cells }
 
 states_drawable : (ns : List Name) (ss : List State) → All HasValues ss → All (IsDrawable ns) (map state_of ss)

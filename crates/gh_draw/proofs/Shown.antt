@@ -32,7 +32,7 @@ after_entries : (es : List Entry) (rest : List ℕ) → NoDigitFirst rest → No
 after_entries [] rest h = h
 after_entries (e ∷ es) rest h = λ r. absurd (omega (arith, r.0))
 
-entries_shown : (es : List Entry) (rest : List ℕ) → All (λ e. IsValue e.value) es → NoDigitFirst rest → ShowsEntries (listed_names es) (flat_map entry_text es ++ rest) es rest
+pub entries_shown : (es : List Entry) (rest : List ℕ) → All (λ e. IsValue e.value) es → NoDigitFirst rest → ShowsEntries (listed_names es) (flat_map entry_text es ++ rest) es rest
 entries_shown [] rest p h = (refl, refl)
 entries_shown (e ∷ es) rest p h =
     let F = flat_map entry_text es in
@@ -42,10 +42,10 @@ entries_shown (e ∷ es) rest p h =
     (e.value, F ++ rest, es, refl, value, entries_shown es rest (All-tail (λ (x : Entry). IsValue x.value) e es p) h)
 
 -- what entries show
-record AreEntries (ns : List Name) (t : List ℕ) (es : List Entry) (rest : List ℕ) : Type 0 where
-  over : listed_names es ≡ ns
-  values : All (λ e. IsValue e.value) es
-  text : t ≡ flat_map entry_text es ++ rest
+pub record AreEntries (ns : List Name) (t : List ℕ) (es : List Entry) (rest : List ℕ) : Type 0 where
+  pub over : listed_names es ≡ ns
+  pub values : All (λ e. IsValue e.value) es
+  pub text : t ≡ flat_map entry_text es ++ rest
 
 value_text : (n : Name) (t mid : List ℕ) (v : ℕ) → ShowsValue n t v mid → (f r : List ℕ) → mid ≡ f ++ r → t ≡ (entry_text (entry n v) ++ f) ++ r
 value_text n t mid v (a, p, (b, q, (c, r', s))) f r e =
@@ -54,7 +54,7 @@ value_text n t mid v (a, p, (b, q, (c, r', s))) f r e =
 value_fits : (n : Name) (t mid : List ℕ) (v : ℕ) → ShowsValue n t v mid → IsValue v
 value_fits n t mid v (a, p, (b, q, (c, r', s))) = s.fits
 
-are_entries : (ns : List Name) (t : List ℕ) (es : List Entry) (rest : List ℕ) → ShowsEntries ns t es rest → AreEntries ns t es rest
+pub are_entries : (ns : List Name) (t : List ℕ) (es : List Entry) (rest : List ℕ) → ShowsEntries ns t es rest → AreEntries ns t es rest
 are_entries [] t es rest (p, q) = subst (λ z. AreEntries [] t z rest) (sym p) (record { over = refl; values = All-nil (λ (x : Entry). IsValue x.value); text = q })
 are_entries (n ∷ ns) t es rest (v, mid, fs, is, s, ss) =
     let others = are_entries ns mid fs rest ss in
@@ -89,7 +89,7 @@ less_of Greater p = absurd p
 lt_of : (a b : ℕ) → nat_cmp a b ≡ Less → a < b
 lt_of a b e = grind (arith, nat_tests)
 
-cells_above : (low : ℕ) (cs : List (ℕ × ℕ)) (rest : List ℕ) → T (below_all nat_cmp low cs) → T (is_sorted nat_cmp cs) → All IsDrawnCell cs → ShowsCells low (flat_map cell_text cs ++ 10 ∷ rest) cs rest
+pub cells_above : (low : ℕ) (cs : List (ℕ × ℕ)) (rest : List ℕ) → T (below_all nat_cmp low cs) → T (is_sorted nat_cmp cs) → All IsDrawnCell cs → ShowsCells low (flat_map cell_text cs ++ 10 ∷ rest) cs rest
 cells_above low [] rest b s p = refl
 cells_above low (c ∷ cs) rest b s p =
     let F = flat_map cell_text cs in
@@ -105,7 +105,7 @@ cells_above low (c ∷ cs) rest b s p =
     (R, above, cells_above c.0 cs rest (first_of _ _ s) (second_of _ _ s) (All-tail IsDrawnCell c cs p))
 
 -- no cell at null: all places lie above it
-all_above : (cs : List (ℕ × ℕ)) → All IsDrawnCell cs → T (below_all nat_cmp 0 cs)
+pub all_above : (cs : List (ℕ × ℕ)) → All IsDrawnCell cs → T (below_all nat_cmp 0 cs)
 all_above [] p = tt
 all_above (c ∷ cs) p =
     let drawn = All-head IsDrawnCell c cs p in
@@ -121,9 +121,9 @@ all_above (c ∷ cs) p =
         compared : (n : ℕ) → n ≢ 0 → nat_cmp 0 n ≡ Less
         compared n h = grind (arith, nat_tests)
 
-record AreCells (low : ℕ) (t : List ℕ) (cs : List (ℕ × ℕ)) (rest : List ℕ) : Type 0 where
-  cells : All IsDrawnCell cs
-  text : t ≡ flat_map cell_text cs ++ 10 ∷ rest
+pub record AreCells (low : ℕ) (t : List ℕ) (cs : List (ℕ × ℕ)) (rest : List ℕ) : Type 0 where
+  pub cells : All IsDrawnCell cs
+  pub text : t ≡ flat_map cell_text cs ++ 10 ∷ rest
 
 above_text : (low : ℕ) (t mid : List ℕ) (c : ℕ × ℕ) → ShowsCellAbove low t c mid → (f r : List ℕ) → mid ≡ f ++ r → t ≡ (cell_text c ++ f) ++ r
 above_text low t mid c s f r e = parts s.cell
@@ -138,7 +138,7 @@ above_cell low t mid c s = parts s.cell
     parts : After (codes " ") ShowsCell t c mid → IsDrawnCell c
     parts (a, p, (b, n, (d, q, m))) = record { not_null = λ e. absurd (omega (arith, s.above, e)); place = n.fits; content = m.fits }
 
-are_cells : (low : ℕ) (t : List ℕ) (cs : List (ℕ × ℕ)) (rest : List ℕ) → ShowsCells low t cs rest → AreCells low t cs rest
+pub are_cells : (low : ℕ) (t : List ℕ) (cs : List (ℕ × ℕ)) (rest : List ℕ) → ShowsCells low t cs rest → AreCells low t cs rest
 are_cells low t [] rest s = record { cells = All-nil IsDrawnCell; text = s }
 are_cells low t (c ∷ cs) rest (mid, s, ss) =
     let others = are_cells c.0 mid cs rest ss in
@@ -149,8 +149,11 @@ are_cells low t (c ∷ cs) rest (mid, s, ss) =
 
 -- states
 
-state_apart : (a e c r : List ℕ) → ((((a ++ codes "\nstore") ++ e) ++ codes "\nheap") ++ c ++ codes "\n") ++ r ≡ (a ++ codes "\nstore") ++ (e ++ (codes "\nheap" ++ (c ++ (10 ∷ r))))
-state_apart a e c r = simp append_assoc
+words_apart : (a n s e h c r : List ℕ) → ((a ++ n) ++ (((s ++ e) ++ n) ++ ((h ++ c) ++ n))) ++ r ≡ (a ++ (n ++ s)) ++ (e ++ ((n ++ h) ++ (c ++ (n ++ r))))
+words_apart a n s e h c r = simp append_assoc
+
+state_apart : (a e c r : List ℕ) → ((a ++ (10 ∷ [])) ++ (((codes "store" ++ e) ++ (10 ∷ [])) ++ ((codes "heap" ++ c) ++ (10 ∷ [])))) ++ r ≡ (a ++ codes "\nstore") ++ (e ++ (codes "\nheap" ++ (c ++ (10 ∷ r))))
+state_apart a e c r = words_apart a (10 ∷ []) (codes "store") e (codes "heap") c r
 
 state_shown : (ns : List Name) (k : ℕ) (x : State) (rest : List ℕ) → IsDrawnState ns x → ShowsState ns k (kept_text k x ++ rest) x rest
 state_shown ns k x rest d =

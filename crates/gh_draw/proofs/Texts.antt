@@ -2,7 +2,6 @@
 use Rattle.std.specs.Prelude.{◌≡◌, ◌≢◌, ℕ, suc, ◌+◌, ◌-◌, ◌<◌, List, [], ◌∷◌, ◌++◌, codes, length, map, All, AllPairs, Contains, Some, get_or, slice_get, unwrap_or}
 use Rattle.std.specs.List.{flat_map}
 use Rattle.std.specs.Fmt.{decimal}
-use Rattle.std.specs.FinMap.{entries}
 use Rattle.std.proofs.Common.{refl, sym, ◌∙◌, ap, subst, arith}
 use Rattle.std.proofs.lemmas.List.{get_or-map, get_or_default, length-map, append_assoc}
 use Rattle.std.proofs.lemmas.List.Elements.{All-head, All-tail}
@@ -19,8 +18,8 @@ use Rattle.gh_path.proofs.Listed.{all_are_listed}
 use Rattle.gh_trace.specs.Kept.{state_of}
 use Rattle.gh_trace.specs.Traces as plain
 use Rattle.gh_trace.specs.declared.state.State.{State}
-use Rattle.gh_draw.specs.Drawings.{line, value_text, cell_text, state_text, states_text, drawing}
-use Rattle.gh_draw.specs.Drawn.{entry_text, kept_text, kept_texts, drawing_text, IsDrawnState, IsDrawnFor}
+use Rattle.gh_draw.specs.Drawings.{line, value_text, heap_line, state_lines, state_text, states_text, drawing}
+use Rattle.gh_draw.specs.Drawn.{entry_text, kept_lines, kept_text, kept_texts, drawing_text, IsDrawnState, IsDrawnFor}
 
 -- each entry is the first of its name
 first_of_name : (es : List Entry) → AreDistinct es → (i : ℕ) (d : Entry) → i < length es → IsListedAt es (get_or es i d).name i
@@ -44,26 +43,29 @@ values_told x (e ∷ es) p =
     let rest = values_told x es (All-tail (λ (y : Entry). x.store y.name ≡ y.value) e es p) in
     ap (λ v. (codes " " ++ e.name ++ codes "=" ++ decimal v) ++ flat_map entry_text es) (sym first) ∙ ap (λ z. value_text x e.name ++ z) rest
 
-state_apart : (d e c : List ℕ) → (((((codes "state " ++ d) ++ codes "\nstore") ++ e) ++ codes "\nheap") ++ c) ++ codes "\n" ≡ ((((((codes "state " ++ d) ++ (10 ∷ [])) ++ codes "store") ++ e) ++ (10 ∷ [])) ++ codes "heap" ++ c) ++ (10 ∷ [])
-state_apart d e c = simp append_assoc
+-- the lines of kept states are those of the states that they stand for
+pub lines_told : (s : State) → AreDistinct s.store → kept_lines s ≡ state_lines (listed_names s.store) (state_of s)
+lines_told s apart = ap (λ z. line (codes "store" ++ z) ++ line (heap_line s.heap)) (values_told (state_of s) s.store (tells s.store apart))
 
-state_told : (ns : List Name) (k : ℕ) (s : State) → AllPairs (λ x y. x ≢ y) ns → IsDrawnState ns s → kept_text k s ≡ state_text ns k (state_of s)
-state_told ns k s apart d =
-    let names : listed_names s.store ≡ ns = d.over in
+state_told : (ns : List Name) (k : ℕ) (s : State) → AllPairs (λ x y. x ≢ y) ns → listed_names s.store ≡ ns → kept_text k s ≡ state_text ns k (state_of s)
+state_told ns k s apart names =
     let distinct : AreDistinct s.store = subst (λ (zs : List Name). AllPairs (λ x y. x ≢ y) zs) (sym names) apart in
-    let values : flat_map entry_text s.store ≡ flat_map (value_text (state_of s)) ns =
-    values_told (state_of s) s.store (tells s.store distinct) ∙ ap (λ zs. flat_map (value_text (state_of s)) zs) names in
-    state_apart (decimal k) (flat_map entry_text s.store) (flat_map cell_text (entries s.heap))
-    ∙ ap (λ z. codes "state " ++ decimal k ++ (10 ∷ []) ++ codes "store" ++ z ++ (10 ∷ []) ++ codes "heap" ++ flat_map cell_text (entries s.heap) ++ (10 ∷ [])) values
+    ap (λ z. line (codes "state " ++ decimal k) ++ z) (lines_told s distinct ∙ ap (λ zs. state_lines zs (state_of s)) names)
 
 states_told : (ns : List Name) (k : ℕ) (ss : List State) → AllPairs (λ x y. x ≢ y) ns → All (IsDrawnState ns) ss → kept_texts k ss ≡ states_text ns k (map state_of ss)
 states_told ns k [] apart p = refl
 states_told ns k (s ∷ ss) apart p =
-    ap (λ z. z ++ kept_texts (suc k) ss) (state_told ns k s apart (All-head (IsDrawnState ns) s ss p))
+    ap (λ z. z ++ kept_texts (suc k) ss) (state_told ns k s apart (All-head (IsDrawnState ns) s ss p).over)
     ∙ ap (λ z. state_text ns k (state_of s) ++ z) (states_told ns (suc k) ss apart (All-tail (IsDrawnState ns) s ss p))
 
 drawing_apart : (d s : List ℕ) → ((codes "drawing\ncondition " ++ d) ++ codes "\n") ++ s ++ codes "end\n" ≡ (((codes "drawing" ++ (10 ∷ [])) ++ ((codes "condition " ++ d) ++ (10 ∷ []))) ++ s) ++ (codes "end" ++ (10 ∷ []))
 drawing_apart d s = simp append_assoc
+
+-- the text of a drawing of one state
+pub one_told : (ns : List Name) (n : ℕ) (s : State) → AllPairs (λ x y. x ≢ y) ns → listed_names s.store ≡ ns → drawing_text n (s ∷ []) ≡ drawing n ns (state_of s ∷ [])
+one_told ns n s apart names =
+    drawing_apart (decimal n) (kept_text 0 s ++ [])
+    ∙ ap (λ z. line (codes "drawing") ++ line (codes "condition " ++ decimal n) ++ (z ++ []) ++ line (codes "end")) (state_told ns 0 s apart names)
 
 at_split : (before after : List Condition) (c : Condition) → slice_get (before ++ c ∷ after) (length before) ≡ Some c
 at_split [] after c = refl

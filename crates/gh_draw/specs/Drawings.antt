@@ -4,6 +4,7 @@ use Rattle.std.specs.List.{flat_map}
 use Rattle.std.specs.Fmt.{decimal}
 use Rattle.std.specs.FinMap.{entries}
 use Rattle.gh_ast.specs.Programs.{Name}
+use Rattle.gh_assert.specs.Heaps.{Heap}
 use Rattle.gh_trace.specs.Traces.{State}
 
 abbrev pub line_end : List ℕ
@@ -21,10 +22,20 @@ value_text x name = codes " " ++ name ++ codes "=" ++ decimal (x.store name)
 abbrev pub cell_text : ℕ × ℕ → List ℕ
 cell_text c = codes " " ++ decimal c.0 ++ codes "->" ++ decimal c.1
 
--- the variables in their order, and the cells in ascending order
+-- the variables in their order
+abbrev pub store_line : List Name → State → List ℕ
+store_line names x = codes "store" ++ flat_map (value_text x) names
+
+-- the cells in ascending order
+abbrev pub heap_line : Heap → List ℕ
+heap_line h = codes "heap" ++ flat_map cell_text (entries h)
+
+-- the two lines that tell a state
+abbrev pub state_lines : List Name → State → List ℕ
+state_lines names x = line (store_line names x) ++ line (heap_line x.heap)
+
 abbrev pub state_text : List Name → ℕ → State → List ℕ
-state_text names k x =
-    codes "state " ++ decimal k ++ line_end ++ codes "store" ++ flat_map (value_text x) names ++ line_end ++ codes "heap" ++ flat_map cell_text (entries x.heap) ++ line_end
+state_text names k x = line (codes "state " ++ decimal k) ++ state_lines names x
 
 -- states are numbered from k
 abbrev pub states_text : List Name → ℕ → List State → List ℕ

@@ -11,16 +11,22 @@ use Rattle.gh_path.specs.Conditions.{Condition, conditions}
 use Rattle.gh_trace.specs.Kept.{state_of}
 use Rattle.gh_trace.specs.Validity.{Refutes}
 use Rattle.gh_trace.specs.declared.state.State.{State}
-use Rattle.gh_draw.specs.Drawings.{line, cell_text, drawing, IsDrawable}
+use Rattle.gh_draw.specs.Drawings.{line, heap_line, drawing, IsDrawable}
 
 -- ` NAME=VALUE`
 abbrev pub entry_text : Entry → List ℕ
 entry_text e = codes " " ++ e.name ++ codes "=" ++ decimal e.value
 
--- the entries of the store in their order, and the cells in ascending order
+-- the entries in their order
+abbrev pub entries_line : List Entry → List ℕ
+entries_line es = codes "store" ++ flat_map entry_text es
+
+-- the two lines that tell a kept state
+abbrev pub kept_lines : State → List ℕ
+kept_lines s = line (entries_line s.store) ++ line (heap_line s.heap)
+
 abbrev pub kept_text : ℕ → State → List ℕ
-kept_text k s =
-    codes "state " ++ decimal k ++ codes "\nstore" ++ flat_map entry_text s.store ++ codes "\nheap" ++ flat_map cell_text (entries s.heap) ++ codes "\n"
+kept_text k s = line (codes "state " ++ decimal k) ++ kept_lines s
 
 -- states are numbered from k
 abbrev pub kept_texts : ℕ → List State → List ℕ

@@ -59,8 +59,8 @@ fn value_of(digits: &[u8]) -> Option<u32>
     }
 }
 
-// Where the first line feed stands.
-fn line_end(text: &[u8]) -> Option<usize>
+/// Where the first line feed stands.
+pub fn line_end(text: &[u8]) -> Option<usize>
     ensures { MatchOption result (HasNoEnd text.now) (IsLineEnd text.now) }
 {
     for (i, byte) in text.iter().enumerate() {

@@ -5,8 +5,10 @@ ghost use Rattle.std.specs.List.{flat_map};
 ghost use Rattle.std.specs.Fmt.{decimal};
 ghost use Rattle.std.specs.FinMap.{entries};
 ghost use Rattle.gh_assert.specs.Cells.{pair_of};
-ghost use Rattle.gh_draw.specs.Drawings.{cell_text};
-ghost use Rattle.gh_draw.specs.Drawn.{entry_text, kept_text, kept_texts, drawing_text, IsValue, HasValues};
+ghost use Rattle.gh_assert.specs.Stores.{listed_names};
+ghost use Rattle.gh_trace.specs.Kept.{state_of};
+ghost use Rattle.gh_draw.specs.Drawings.{cell_text, state_lines as lines_of};
+ghost use Rattle.gh_draw.specs.Drawn.{entry_text, kept_lines, kept_text, kept_texts, drawing_text, IsValue, HasValues};
 
 use gh_assert::heap::{Cell, Heap};
 use gh_assert::store::{Entry, Store};
@@ -73,6 +75,18 @@ fn push_heap(out: &mut Text, digits: &mut String, heap: &Heap) -> Result<(), All
     Ok(())
 }
 
+fn push_lines(out: &mut Text, digits: &mut String, state: &State) -> Result<(), AllocError>
+    ensures text { OnOk result (out.new ≡ out.old ++ kept_lines state.now) }
+    ensures values { OnOk result (HasValues state.now) }
+{
+    out.push(b"store")?;
+    push_store(out, digits, &state.store)?;
+    out.push(b"\nheap")?;
+    push_heap(out, digits, &state.heap)?;
+    out.push(b"\n")?;
+    Ok(())
+}
+
 fn push_state(
     out: &mut Text,
     digits: &mut String,
@@ -84,11 +98,8 @@ fn push_state(
 {
     out.push(b"state ")?;
     push_number(out, digits, number)?;
-    out.push(b"\nstore")?;
-    push_store(out, digits, &state.store)?;
-    out.push(b"\nheap")?;
-    push_heap(out, digits, &state.heap)?;
     out.push(b"\n")?;
+    push_lines(out, digits, state)?;
     Ok(())
 }
 
@@ -100,6 +111,18 @@ fn push_states(out: &mut Text, digits: &mut String, states: &[State]) -> Result<
         push_state(out, digits, number, state)?;
     }
     Ok(())
+}
+
+/// The two lines of a drawing that tell a state: `store` with the variables in their order, and
+/// `heap` with the cells in ascending order.
+pub fn state_lines(alloc: Global, state: &State) -> Result<Text, AllocError>
+    ensures { IfOk result (λ t. t ≡ lines_of (listed_names state.now.store) (state_of state.now)) }
+{
+    let mut text = Text::new(alloc);
+    let mut digits = String::new(alloc);
+    let _entries = state.store.entries();
+    push_lines(&mut text, &mut digits, state)?;
+    Ok(text)
 }
 
 /// The text of a drawing. Its values are within 32 bits, as their types say.

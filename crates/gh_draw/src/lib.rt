@@ -1,7 +1,7 @@
 //! Descriptions of conditions, and drawings of traces.
 #![tactic(auto)]
 
-mod cursor;
+pub mod cursor;
 pub mod describe;
 pub mod drawing;
 pub mod laws;

@@ -26,8 +26,8 @@ fn push_names(alloc: Global, all: &mut Vec<Name>, variables: &[Occ]) -> Result<(
     Ok(())
 }
 
-// The names of the variables of a procedure, in their order.
-fn variables(alloc: Global, procedure: &Procedure) -> Result<Vec<Name>, AllocError>
+/// The names of the variables of a procedure, in their order.
+pub fn variables(alloc: Global, procedure: &Procedure) -> Result<Vec<Name>, AllocError>
     ensures { IfOk result (λ v. v.items ≡ variable_names (procedure_of procedure.now)) }
 {
     let mut all = Vec::new(alloc);
@@ -39,8 +39,8 @@ fn variables(alloc: Global, procedure: &Procedure) -> Result<Vec<Name>, AllocErr
     Ok(all)
 }
 
-// A store with a value for each name.
-fn read_store(
+/// A store with a value for each name, in their order; none where the text shows no such values.
+pub fn read_store(
     alloc: Global,
     cursor: &mut Cursor<'_>,
     names: &[Name],
@@ -58,8 +58,8 @@ fn read_store(
     Ok(Some(store))
 }
 
-// The cells up to the end of the line.
-fn read_heap(alloc: Global, cursor: &mut Cursor<'_>) -> Result<Option<Heap>, AllocError>
+/// The cells up to the end of the line, and that end; none where the text shows no ascending cells there.
+pub fn read_heap(alloc: Global, cursor: &mut Cursor<'_>) -> Result<Option<Heap>, AllocError>
     ensures { IfOk result (IsRead ShowsHeap cursor.old.text.now cursor.new.text.now) }
 {
     let mut heap = Heap::new(alloc);

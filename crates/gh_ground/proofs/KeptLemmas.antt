@@ -172,9 +172,9 @@ keeps_lemma old new before after c answer moves some pushed = elim moves.clauses
 ]
 
 -- the line of a learnt clause has its reasons as hints
-pub keeps_learnt : (old new : State) (before after : List LogLine) (k : ℕ) (clause : List Lit) (level : ℕ) (unit : Lit) (reasons : List ℕ) (l : LogLine) → IsSound old → IsLearnt old k clause level unit → AreReasons old.clauses reasons clause
-    → new ≡ cut (add_clause old clause) level → IsHintedLine clause (map (λ k. k + 1) reasons) l → after ≡ before ++ l ∷ [] → Keeps old before new after
-keeps_learnt old new before after k clause level unit reasons l h learnt shown is hinted pushed =
+pub keeps_learnt : (old new : State) (before after : List LogLine) (k : ℕ) (clause : List Lit) (level : ℕ) (unit : Lit) (to : ℕ) (reasons : List ℕ) (l : LogLine) → IsSound old → IsLearnt old k clause level unit
+    → AreReasons old.clauses reasons clause → new ≡ cut (add_clause old clause) to → IsHintedLine clause (map (λ k. k + 1) reasons) l → after ≡ before ++ l ∷ [] → Keeps old before new after
+keeps_learnt old new before after k clause level unit to reasons l h learnt shown is hinted pushed =
     let made : l ≡ line.Hinted clause hinted.0 = hinted.1 in
     keeps_push old new before after (line.Hinted clause hinted.0) clause (pushed ∙ ap (λ (x : LogLine). before ++ x ∷ []) made) (ap (λ (t : State). t.sizes) is) (ap (λ (t : State). t.clauses) is) refl
     (λ p kept. (refl, (subst (λ (z : Sizes). AreInRange z clause) kept.sizes (false_in_range old clause h learnt.is_false), hinted_by p old before reasons hinted.0.items clause kept shown hinted.2)))

@@ -1,5 +1,6 @@
 pub mod ConflictLemmas
-pub mod AlikeLemmas
+pub mod ClassLemmas
+pub mod GivenLemmas
 pub mod OpenLemmas
 pub mod KeptLemmas
 pub mod MissingLemmas

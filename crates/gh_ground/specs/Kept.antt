@@ -1,8 +1,6 @@
 -- What a solver keeps: a line of a section for each clause of its search.
 use Rattle.std.specs.Prelude.{◌≡◌, ◌++◌, ℕ, List, [], Option, Some, None, map, All, Contains, IfSome, IfNone}
-use Rattle.gh_base.specs.declared.atom.Atom.{Atom}
 use Rattle.gh_base.specs.declared.atom.Lit.{Lit}
-use Rattle.gh_base.specs.Atoms.{IsInRange}
 use Rattle.gh_base.specs.Grounds.{Problem, IsProblem}
 use Rattle.gh_base.specs.Meaning.{IsEqualityClause}
 use Rattle.gh_cc.specs.Asserted.{IsConsistent}
@@ -10,9 +8,9 @@ use Rattle.gh_log.specs.declared.lines.LogLine.{LogLine}
 use Rattle.gh_log.specs.Sections.{line_clause, AreOfKind}
 use Rattle.gh_log.specs.Spelled.{IsOfVersion}
 use Rattle.gh_sat.specs.Learn.{IsConflict}
-use Rattle.gh_sat.specs.Status.{IsSettled}
+use Rattle.gh_sat.specs.Status.{IsSettled, AreAssigned}
 use Rattle.gh_sat.specs.Theory.{lits_of, HasNoConflict}
-use Rattle.gh_sat.specs.Trail.{State, IsFree, IsSound}
+use Rattle.gh_sat.specs.Trail.{State, IsSound}
 
 pub record IsKept (p : Problem) (s : State) (lines : List LogLine) : Type 0 where
   pub problem : IsProblem p
@@ -37,12 +35,12 @@ pub record IsAnswered (s : State) (answer : Option ℕ) : Type 0 where
   pub consistent : IfNone answer (HasNoConflict (IsEqualityClause s.sizes) s.trail)
   pub known : IfNone answer (IsConsistent s.sizes (lits_of s.trail))
 
--- all atoms have a truth, and no clause is false, nor one of equality
+-- all atoms of clauses have a truth, and no clause is false, nor one of equality
 pub record IsOpen (s : State) : Type 0 where
   pub sound : IsSound s
   pub settled : IsSettled s
   pub known : IsConsistent s.sizes (lits_of s.trail)
-  pub full : (a : Atom) → IsInRange s.sizes a → IsFree s.trail a → ⊥
+  pub assigned : AreAssigned s
 
 -- the clause of number k is false at level 0
 pub record IsRefuted (s : State) (k : ℕ) : Type 0 where

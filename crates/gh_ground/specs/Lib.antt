@@ -1,4 +1,5 @@
 pub mod Solving
-pub mod Totals
+pub mod Making
+pub mod Laws
 pub mod Kept
 pub mod Trimming

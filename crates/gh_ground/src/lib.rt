@@ -1,7 +1,9 @@
 //! The solver of ground clauses: a model, or a section of a proof log.
 #![tactic(auto)]
 
+mod classes;
 pub mod congruence;
+pub mod laws;
 pub mod solve;
 mod solver;
 mod structures;

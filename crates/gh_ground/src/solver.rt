@@ -1,6 +1,6 @@
 //! A search whose clauses are the lines of a section.
 
-ghost use Rattle.std.specs.Prelude.{◌≡◌, ◌<◌, ◌+◌, All, Contains, IfOk, OnOk, IfSome, IfNone, Some, None, [], length, map, slice_get};
+ghost use Rattle.std.specs.Prelude.{◌≡◌, ◌<◌, ◌≤◌, ◌+◌, All, Contains, IfOk, OnOk, IfSome, IfNone, Some, None, [], length, map, slice_get};
 ghost use Rattle.gh_base.specs.declared.atom.Lit.{Lit};
 ghost use Rattle.gh_base.specs.Grounds.{Problem};
 ghost use Rattle.gh_base.specs.Meaning.{IsClauseTrue, IsCongruence, IsEqualityClause};
@@ -73,6 +73,20 @@ fn positions(alloc: Global, numbers: &[u32]) -> Result<Vec<u32>, AllocError>
     Ok(positions)
 }
 
+// The level to cut to after a lesson: its own, or the one below the present level where that is more than a thousand
+// levels away, since most of what a long cut undoes is decided again.
+fn cut_level(present: u32, level: u32) -> u32
+    requires { level < present }
+    ensures low { level ≤ result }
+    ensures high { result < present }
+{
+    if present - level > 1000 {
+        present - 1
+    } else {
+        level
+    }
+}
+
 impl Solver {
     /// Nothing is decided yet.
     pub(crate) fn new(alloc: Global, ground: &Ground) -> Result<Solver, AllocError>
@@ -103,7 +117,7 @@ impl Solver {
         }
     }
 
-    // Decides an atom that has no truth, if there is one, and propagates.
+    // Decides an atom of a clause that has no truth, if there is one, and propagates.
     fn decide(&mut self, alloc: Global) -> Result<Option<Option<u32>>, AllocError>
         requires { IsAnswered self.old.search None }
         ensures less { IfOk result (λ o. IfSome o (λ _. left self.new.search.sizes self.new.search.trail < left self.old.search.sizes self.old.search.trail)) }
@@ -111,7 +125,7 @@ impl Solver {
         ensures open { IfOk result (λ o. IfNone o (IsOpen self.new.search)) }
         ensures keeps { OnOk result (Keeps self.old.search self.old.lines.items self.new.search self.new.lines.items) }
     {
-        match self.search.decide() {
+        match self.search.decide_needed() {
             None => Ok(None),
             Some(_lit) => Ok(Some(self.propagate(alloc)?)),
         }
@@ -127,7 +141,8 @@ impl Solver {
         ensures keeps { OnOk result (Keeps self.old.search self.old.lines.items self.new.search self.new.lines.items) }
     {
         let learnt = self.search.learn(alloc, conflict)?;
-        self.search.backjump(learnt.level);
+        self.search
+            .backjump(cut_level(self.search.level(), learnt.level));
         let hints = positions(alloc, learnt.reasons.as_slice())?;
         let Learnt { clause, .. } = learnt;
         self.lines.push(LogLine::Hinted { clause, hints })?;
@@ -135,8 +150,8 @@ impl Solver {
         Ok(next)
     }
 
-    // A decision, or a lesson, and then the next answer of `propagate`. None where all is decided, and where the
-    // conflict stands at level 0.
+    // A decision, or a lesson, and then the next answer of `propagate`. None where all atoms of clauses are assigned,
+    // and where the conflict stands at level 0.
     fn turn(
         &mut self,
         alloc: Global,
@@ -163,7 +178,8 @@ impl Solver {
         }
     }
 
-    /// Searches on until all atoms are assigned without conflict, or a clause is false at level 0, and answers its number.
+    /// Searches on until all atoms of clauses are assigned without conflict, or a clause is false at level 0, and answers
+    /// its number.
     pub(crate) fn conflict(&mut self, alloc: Global) -> Result<Option<u32>, AllocError>
         ensures ended { IfOk result (IsEnded self.new.search) }
         ensures keeps { OnOk result (Keeps self.old.search self.old.lines.items self.new.search self.new.lines.items) }
@@ -175,7 +191,7 @@ impl Solver {
         Ok(found)
     }
 
-    /// The structure of the present assignment.
+    /// The structure of what the trail asserts.
     pub(crate) fn structure(&self, alloc: Global) -> Result<Structure, AllocError>
         requires open { IsOpen self.now.search }
         requires kept { (p : Problem) × IsKept p self.now.search self.now.lines.items }
@@ -183,7 +199,8 @@ impl Solver {
         ensures clauses { IfOk result (λ s. All (IsClauseTrue (interpretation_of s)) self.now.search.clauses) }
         ensures congruence { IfOk result (λ s. IsCongruence self.now.search.sizes (interpretation_of s)) }
     {
-        let structure = structure_of(alloc, self.search.assignment())?;
+        let sizes = self.search.assignment().sizes();
+        let structure = structure_of(alloc, sizes, self.search.steps())?;
         Ok(structure)
     }
 

@@ -1,67 +1,174 @@
-//! The structure of an assignment to all atoms.
+//! The structure of what a trail asserts.
 
-ghost use Rattle.std.specs.Prelude.{◌≡◌, ◌≤◌, ◌<◌, false, length, IfOk, unwrap_or};
-ghost use Rattle.gh_base.specs.Assignments.{value_of};
-ghost use Rattle.gh_base.specs.Atoms.{IsInRange};
-ghost use Rattle.gh_base.specs.Meaning.{Interpretation};
+ghost use Rattle.std.specs.Prelude.{◌≡◌, ◌≤◌, ◌<◌, ◌∷◌, ◌++◌, ◌↔◌, [], IfOk, IsTrue, List};
+ghost use Rattle.gh_base.specs.declared.atom.Atom.TheVariants.{Btwn, Hop, Alloc};
+ghost use Rattle.gh_base.specs.declared.atom.Lit.{Lit};
+ghost use Rattle.gh_base.specs.Atoms.{IsInRange, AreInRange};
 ghost use Rattle.gh_base.specs.Structures.{interpretation_of};
-ghost use Rattle.gh_ground.specs.Totals.{IsTotal, IsLeastEqual, AreLeast, IsAlike};
+ghost use Rattle.gh_cc.specs.Kept.{IsRelation};
+ghost use Rattle.gh_cc.specs.Partials.{IsStructureOf};
+ghost use Rattle.gh_sat.specs.Theory.{lits_of};
+ghost use Rattle.gh_ground.specs.Making.{AreGiven, Gives, IsAtom, IsOver, IsLike, KeepsClasses};
 
-use gh_base::assignment::Assignment;
+use crate::classes::classes_of;
 use gh_base::atom::{Atom, Lit, Term};
+use gh_base::sizes::Sizes;
 use gh_base::structure::Structure;
+use gh_sat::trail::Step;
 use std::alloc::{AllocError, Global};
 
-// Whether a literal is true.
-fn is_true(assignment: &Assignment, lit: Lit) -> bool
-    requires { IsInRange assignment.now.sizes lit.atom }
-    ensures { result ≡ unwrap_or (value_of assignment.now lit) false }
+// Makes an atom true.
+fn give(structure: &mut Structure, atom: Atom)
+    requires range { IsInRange structure.old.sizes atom }
+    requires relation { IsRelation atom }
+    ensures { Gives (IsAtom atom) structure.old structure.new }
 {
-    assignment.value(lit).unwrap_or(false)
+    structure.set(atom, true);
 }
 
-// The least term that is equal to a term.
-fn least_equal(assignment: &Assignment, term: Term) -> Term
-    requires { term.0 < assignment.now.sizes.terms }
-    ensures { (m : Interpretation) → IsTotal assignment.now m → IsLeastEqual m term.0 result.0 }
+// Makes the atoms true over the terms of a class.
+fn give_alloc(structure: &mut Structure, version: u8, x: Term)
+    requires range { IsInRange structure.old.sizes (Alloc version x) }
+    ensures { Gives (IsOver x (λ t. IsAtom (Alloc version t))) structure.old structure.new }
 {
-    for other in 0..term.0 {
-        let lit = Lit {
-            atom: Atom::Eq {
-                a: Term(other),
-                b: term,
-            },
-            positive: true,
-        };
-        if is_true(assignment, lit) {
-            return Term(other);
+    let class = structure.class(x).0;
+    for other in 0..structure.terms() {
+        if structure.class(Term(other)).0 == class {
+            let x = Term(other);
+            give(structure, Atom::Alloc { version, x });
         }
     }
-    term
 }
 
-// The class of each term.
-fn classes_of(alloc: Global, assignment: &Assignment) -> Result<Vec<Term>, AllocError>
-    ensures all { IfOk result (λ v. length v.items ≡ assignment.now.sizes.terms) }
-    ensures least { IfOk result (λ v. (m : Interpretation) → IsTotal assignment.now m → AreLeast m v.items) }
+// Makes the atoms true whose second term is of a class.
+fn give_content(structure: &mut Structure, version: u8, x: Term, v: Term)
+    requires range { IsInRange structure.old.sizes (Hop version x v) }
+    ensures { Gives (IsOver v (λ t. IsAtom (Hop version x t))) structure.old structure.new }
 {
-    let terms = assignment.sizes().terms;
-    let mut classes = Vec::with_capacity(alloc, terms as usize)?;
-    for term in 0..terms {
-        classes.push(least_equal(assignment, Term(term)))?;
+    let class = structure.class(v).0;
+    for other in 0..structure.terms() {
+        if structure.class(Term(other)).0 == class {
+            let v = Term(other);
+            give(structure, Atom::Hop { version, x, v });
+        }
     }
-    Ok(classes)
 }
 
-/// The structure in which each atom has its truth under an assignment.
-pub(crate) fn structure_of(alloc: Global, assignment: &Assignment) -> Result<Structure, AllocError>
-    requires total { (m : Interpretation) × IsTotal assignment.now m }
-    requires terms { 1 ≤ assignment.now.sizes.terms }
-    requires versions { 1 ≤ assignment.now.sizes.versions }
-    ensures sizes { IfOk result (λ s. s.sizes ≡ assignment.now.sizes) }
-    ensures alike { IfOk result (λ s. (m : Interpretation) → IsTotal assignment.now m → IsAlike assignment.now.sizes (interpretation_of s) m) }
+// Makes the atoms true over the terms of two classes.
+fn give_hop(structure: &mut Structure, version: u8, x: Term, v: Term)
+    requires range { IsInRange structure.old.sizes (Hop version x v) }
+    ensures { Gives (IsOver x (λ t. IsOver v (λ u. IsAtom (Hop version t u)))) structure.old structure.new }
 {
-    let classes = classes_of(alloc, assignment)?;
-    let structure = Structure::from_assignment(alloc, classes.as_slice(), assignment)?;
+    let class = structure.class(x).0;
+    for other in 0..structure.terms() {
+        if structure.class(Term(other)).0 == class {
+            give_content(structure, version, Term(other), v);
+        }
+    }
+}
+
+// Makes the atoms true whose third term is of a class.
+fn give_third(structure: &mut Structure, version: u8, x: Term, y: Term, z: Term)
+    requires range { IsInRange structure.old.sizes (Btwn version x y z) }
+    ensures { Gives (IsOver z (λ t. IsAtom (Btwn version x y t))) structure.old structure.new }
+{
+    let class = structure.class(z).0;
+    for other in 0..structure.terms() {
+        if structure.class(Term(other)).0 == class {
+            let z = Term(other);
+            give(structure, Atom::Btwn { version, x, y, z });
+        }
+    }
+}
+
+// Makes the atoms true whose second and third terms are of two classes.
+fn give_second(structure: &mut Structure, version: u8, x: Term, y: Term, z: Term)
+    requires range { IsInRange structure.old.sizes (Btwn version x y z) }
+    ensures { Gives (IsOver y (λ t. IsOver z (λ u. IsAtom (Btwn version x t u)))) structure.old structure.new }
+{
+    let class = structure.class(y).0;
+    for other in 0..structure.terms() {
+        if structure.class(Term(other)).0 == class {
+            give_third(structure, version, x, Term(other), z);
+        }
+    }
+}
+
+// Makes the atoms true over the terms of three classes.
+fn give_btwn(structure: &mut Structure, version: u8, x: Term, y: Term, z: Term)
+    requires range { IsInRange structure.old.sizes (Btwn version x y z) }
+    ensures { Gives (IsOver x (λ t. IsOver y (λ u. IsOver z (λ w. IsAtom (Btwn version t u w))))) structure.old structure.new }
+{
+    let class = structure.class(x).0;
+    for other in 0..structure.terms() {
+        if structure.class(Term(other)).0 == class {
+            give_second(structure, version, Term(other), y, z);
+        }
+    }
+}
+
+// Makes an atom true, over all terms of its classes.
+fn give_like(structure: &mut Structure, atom: Atom)
+    requires range { IsInRange structure.old.sizes atom }
+    requires relation { IsRelation atom }
+    ensures { Gives (IsLike atom) structure.old structure.new }
+{
+    match atom {
+        Atom::Eq { .. } => unreachable!(),
+        Atom::Btwn { version, x, y, z } => give_btwn(structure, version, x, y, z),
+        Atom::Hop { version, x, v } => give_hop(structure, version, x, v),
+        Atom::Alloc { version, x } => give_alloc(structure, version, x),
+        Atom::Def { .. } => give(structure, atom),
+    }
+}
+
+// Whether an atom is no equality.
+fn is_relation(atom: Atom) -> bool
+    ensures { IsTrue result ↔ IsRelation atom }
+{
+    match atom {
+        Atom::Eq { .. } => false,
+        Atom::Btwn { .. } => true,
+        Atom::Hop { .. } => true,
+        Atom::Alloc { .. } => true,
+        Atom::Def { .. } => true,
+    }
+}
+
+// Takes a literal in, if it is positive and no equality. Where its atom is true, so are those over the same classes.
+fn take_in(structure: &mut Structure, lit: Lit)
+    requires { IsInRange structure.old.sizes lit.atom }
+    ensures keeps { KeepsClasses structure.old structure.new }
+    ensures given { (lits : List Lit) → AreGiven lits structure.old → AreGiven (lits ++ lit ∷ []) structure.new }
+{
+    if !lit.positive {
+        return;
+    }
+    if !is_relation(lit.atom) {
+        return;
+    }
+    if structure.holds(lit.atom) {
+        return;
+    }
+    give_like(structure, lit.atom);
+}
+
+/// The structure of what a trail asserts.
+pub(crate) fn structure_of(
+    alloc: Global,
+    sizes: Sizes,
+    steps: &[Step],
+) -> Result<Structure, AllocError>
+    requires range { AreInRange sizes (lits_of steps.now) }
+    requires terms { 1 ≤ sizes.terms }
+    requires versions { 1 ≤ sizes.versions }
+    ensures sizes { IfOk result (λ s. s.sizes ≡ sizes) }
+    ensures structure { IfOk result (λ s. IsStructureOf sizes (lits_of steps.now) (interpretation_of s)) }
+{
+    let classes = classes_of(alloc, sizes, steps)?;
+    let mut structure = Structure::new(alloc, classes.as_slice(), sizes.versions, sizes.defs)?;
+    for step in steps {
+        take_in(&mut structure, step.lit);
+    }
     Ok(structure)
 }

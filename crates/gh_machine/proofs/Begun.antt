@@ -1,5 +1,5 @@
 -- Stores that begin, and values that are given.
-use Rattle.std.specs.Prelude.{◌≡◌, ◌≢◌, ℕ, zero, suc, ◌+◌, ◌-◌, ◌<◌, List, [], ◌∷◌, ◌++◌, length, map, take, drop, get_or, Option, Some, None, cond, unwrap_or, false, OnSome, All, AllPairs, Contains}
+use Rattle.std.specs.Prelude.{◌≡◌, ◌≢◌, ℕ, zero, suc, ◌+◌, ◌-◌, ◌<◌, ◌≤◌, List, [], ◌∷◌, ◌++◌, length, map, take, drop, get_or, Option, Some, None, cond, unwrap_or, false, OnSome, All, AllPairs, Contains}
 use Rattle.std.specs.FinMap.{get, entries, find, get-entries}
 use Rattle.std.specs.Ordering.{nat_cmp}
 use Rattle.std.specs.Str.{bytes_eq}
@@ -8,11 +8,14 @@ use Rattle.std.proofs.lemmas.Bool.{cases_Bool}
 use Rattle.std.proofs.lemmas.List.{map-append, get_or-take, get_or-map, get_or-append-add, length-take-le, length-map, length-append, take_more, take-append-drop, get_or_default}
 use Rattle.std.proofs.lemmas.Grind.{common_steps}
 use Rattle.std.proofs.Math.Seq.{take-append-add}
-use Rattle.std.proofs.Common.{refl, sym, ◌∙◌, ap, subst, inl, inr, append_assoc, arith}
+use Rattle.std.proofs.Common.{refl, sym, ◌∙◌, ap, subst, inl, inr, append_assoc, arith, Fits, Fits-lit, w32}
+use Rattle.std.proofs.Math.Facts.{Fits-lt}
+use Rattle.std.proofs.lemmas.List.Elements.{All-contains}
 use Rattle.gh_ast.specs.declared.Occ.{Occ}
-use Rattle.gh_ast.specs.Plain.{Procedure}
+use Rattle.gh_ast.specs.Plain.{Procedure, Program}
 use Rattle.gh_ast.specs.Programs.{Name, names, parameters_of, results_of, variable_names}
-use Rattle.gh_ast.specs.Occurrences.{locals_of}
+use Rattle.gh_ast.specs.Occurrences.{locals_of, variables_of}
+use Rattle.gh_ast.specs.Limits.{KeepsLimits}
 use Rattle.gh_ast.proofs.Lists.{member_first, member_later, member_cases}
 use Rattle.gh_ast.proofs.TypedPrograms.{parameters_first, variables_split}
 use Rattle.gh_assert.specs.declared.store.Entry.{Entry}
@@ -256,3 +259,12 @@ rest_of n ss = grind (arith, common_steps)
 
 pub cut_whole : (n : ℕ) (ss : List ℕ) → take n ss ++ take (length ss - n) (drop n ss) ≡ ss
 cut_whole n ss = ap (λ us. take n ss ++ us) (rest_of n ss) ∙ take-append-drop n ss
+
+-- a procedure within the limits has few results and locals
+pub starts_fit : (P : Program) (q : Procedure) (n : ℕ) → KeepsLimits P → Contains P.procedures q → n ≡ length (starts_of q) → Fits w32 n
+starts_fit P q n limits here is =
+    let few : length (variables_of q) ≤ 32 = All-contains (λ (r : Procedure). length (variables_of r) ≤ 32) P.procedures q limits.variables here in
+    let count : length (variable_names q) ≡ length (variables_of q) = length-map (variables_of q) (λ (o : Occ). o.name) in
+    let split = ap length (parameters_first q) in
+    let parts = length-append (parameters_of q) (results_of q ++ names (locals_of q)) in
+    Fits-lt (omega (arith, is, few, count, split, parts)) (Fits-lit {w = w32} {n = 33} tt)

@@ -49,6 +49,11 @@ IsStart P number arguments starts h c =
 abbrev pub chosen : Choice → Procedure → choices.Choice
 chosen c p = record { location = c.location; content = c.content; starts = store_of (beside (starts_of p) c.starts.items) }
 
+-- how many values the next statement leaves to choose for a callee's results and locals
+abbrev pub WantsStarts : Program → Statements → ℕ → Type 0
+WantsStarts P (statement_first (call xs f es) rest) n = (p : Procedure) × Declares P f.name p × (n ≡ length (starts_of p))
+WantsStarts P ss n = n ≡ 0
+
 abbrev pub IsReturn : Statements → Type 0
 IsReturn (statement_first (give at es) rest) = Unit {0}
 IsReturn ss = ⊥

@@ -6,7 +6,7 @@ ghost use Rattle.gh_ast.specs.Plain.{program_of, procedure_of, statements_view, 
 ghost use Rattle.gh_ast.specs.Programs.{Declares};
 ghost use Rattle.gh_assert.specs.Stores.{listed_names};
 ghost use Rattle.gh_machine.specs.Fits.{Awaits};
-ghost use Rattle.gh_machine.specs.Configs.{config_of, IsNext, IsMadeFor, AllListVariables};
+ghost use Rattle.gh_machine.specs.Configs.{config_of, IsNext, IsMadeFor, AllListVariables, WantsStarts};
 ghost use Rattle.gh_machine.specs.Turns.{Comes, CallComes, ChoiceComes, LoopComes, ReturnComes, Calls, AlwaysNext, IsPopped, IsMadeForSome};
 
 use crate::config::Config;
@@ -233,6 +233,23 @@ fn give(alloc: Global, config: &mut Config, values: &[Expr]) -> Result<Next, All
         return Ok(Next::Ended);
     }
     Ok(pop(config))
+}
+
+impl Config<'_> {
+    /// How many values a choice has to have in `starts`: the number of the callee's results and locals
+    /// where a call comes next, else 0.
+    pub fn starts_wanted(&self, typed: &Typed) -> u32
+        requires made { IsMadeFor (program_of typed.now) self.now }
+        ensures wanted { WantsStarts (program_of typed.now) (config_of self.now).top.rest result }
+    {
+        let Some(Stmt::Call { callee, .. }) = self.top.rest.first() else {
+            return 0;
+        };
+        let Some(procedure) = find(typed.program(), &callee.name) else {
+            return 0;
+        };
+        count_starts(procedure) as u32
+    }
 }
 
 /// Makes one step under a choice.

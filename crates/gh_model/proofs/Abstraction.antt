@@ -142,7 +142,7 @@ successors_true V K H M A i t (k ∷ ks) F =
     (kind_true V K H M A i t k (ap (slice_get K) (sym here') ∙ F 0 k refl))
     (successors_true V K H M A i (t + 1) ks (λ j l e. let up : t + 1 + j ≡ t + suc j = omega arith in ap (slice_get K) up ∙ F (suc j) l e))
 
-version_true : (V : List ℕ) (K : List Kind) (H : ℕ → Heap) (M : ℕ → Structure) → AreVersions V K H M → (i : ℕ) → AreTrue (reflection V M) (version_claims K i)
+pub version_true : (V : List ℕ) (K : List Kind) (H : ℕ → Heap) (M : ℕ → Structure) → AreVersions V K H M → (i : ℕ) → AreTrue (reflection V M) (version_claims K i)
 version_true V K H M A i =
     let m = reflection V M in
     let T : Claim → Type 0 = λ g. truth m g ≡ true in

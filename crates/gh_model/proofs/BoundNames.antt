@@ -55,7 +55,7 @@ mutual
   tests_of xs (test_first t ts) s c B = tests_of xs ts (test_walked t s) c.1 (test_of xs t s c.0 B)
 
 mutual
-  walked_of : (xs : List Name) (f : Formula) (s : Terms) → FormulaIn f xs → AreOf xs s.bindings → AreOf xs (walked f s).bindings
+  pub walked_of : (xs : List Name) (f : Formula) (s : Terms) → FormulaIn f xs → AreOf xs s.bindings → AreOf xs (walked f s).bindings
   walked_of xs empty s c B = B
   walked_of xs (comparison l e r) s c B = operand_of xs r (operand_used l s) c.1 (operand_of xs l s c.0 B)
   walked_of xs (points_to x y) s c B = operand_of xs y (followed x.name (used x.name s)) c.1 (used_of xs x.name s c.0 B)

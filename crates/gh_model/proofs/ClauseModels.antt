@@ -30,10 +30,10 @@ use Rattle.gh_model.specs.Abstraction.{Satisfies, IsModelOf, TracesGiveModels}
 use Rattle.gh_model.proofs.Abstraction.{traces_satisfy}
 
 -- some claims define nothing
-abbrev Plain : List Claim → Type 0
+abbrev pub Plain : List Claim → Type 0
 Plain fs = HaveEarlier 0 (claims_of fs)
 
-plain_append : (fs gs : List Claim) → Plain fs → Plain gs → Plain (fs ++ gs)
+pub plain_append : (fs gs : List Claim) → Plain fs → Plain gs → Plain (fs ++ gs)
 plain_append [] gs p q = q
 plain_append (f ∷ fs) gs p q = (p.0, plain_append fs gs p.1 q)
 
@@ -45,7 +45,7 @@ plain_rows : {X : Type 0} (P : X → List Claim) (zs : List X) → ((z : X) → 
 plain_rows P [] h = tt
 plain_rows P (z ∷ zs) h = plain_append (P z) (flat_map P zs) (h z) (plain_rows P zs h)
 
-all_plain : (fs : List Claim) → Plain fs → All (HasEarlier 0) fs
+pub all_plain : (fs : List Claim) → Plain fs → All (HasEarlier 0) fs
 all_plain [] p = All-nil (HasEarlier 0)
 all_plain (f ∷ fs) p = All-cons (HasEarlier 0) f fs p.0 (all_plain fs p.1)
 
@@ -104,7 +104,7 @@ plain_within u z = plain_footprint (variables u.binding) u.version z u.assertion
 plain_meets : (ks : List Kind) (u : Under) → HasEarlier 0 (meets ks u)
 plain_meets ks u = plain_structure (variables u.binding) (successor ks u.version) u.version (length ks) u.assertion
 
-plain_whole : (ks : List Kind) (u : Under) → HasEarlier 0 (meets_whole ks u)
+pub plain_whole : (ks : List Kind) (u : Under) → HasEarlier 0 (meets_whole ks u)
 plain_whole ks u = (plain_meets ks u, plain_map _ (terms_below (length ks)) (λ z. (tt, plain_within u z)))
 
 plain_kind : (i t : ℕ) (k : Kind) → Plain (successor_claims i t k)
@@ -120,7 +120,7 @@ plain_kinds : (i t : ℕ) (ks : List Kind) → Plain (successors_from i t ks)
 plain_kinds i t [] = tt
 plain_kinds i t (k ∷ ks) = plain_append (successor_claims i t k) (successors_from i (t + 1) ks) (plain_kind i t k) (plain_kinds i (t + 1) ks)
 
-plain_version : (ks : List Kind) (i : ℕ) → Plain (version_claims ks i)
+pub plain_version : (ks : List Kind) (i : ℕ) → Plain (version_claims ks i)
 plain_version ks i = (tt, plain_append (each (length ks) (leads (length ks) i)) (successors_from i 0 ks) (plain_map (leads (length ks) i) (terms_below (length ks)) (λ x. (tt, plain_map (hops i x) (terms_below (length ks)) (λ z. tt)))) (plain_kinds i 0 ks))
 
 plain_pairs : (n : ℕ) (P : Term → Term → Claim) → ((z v : Term) → HasEarlier 0 (P z v)) → Plain (each_pair n P)
@@ -202,7 +202,7 @@ plain_claims s =
 same_class : (m n : Interpretation) → IsOneBefore 0 m n → (x : ℕ) → n.class x ≡ m.class x
 same_class m n B x = ap (λ f. f x) B.class
 
-congruence_stays : (s : Sizes) (m n : Interpretation) → IsOneBefore 0 m n → IsCongruence s m → IsCongruence s n
+pub congruence_stays : (s : Sizes) (m n : Interpretation) → IsOneBefore 0 m n → IsCongruence s m → IsCongruence s n
 congruence_stays s m n B C = record {
   btwn = λ v x y z x' y' z' r r' a b c. B.table (Btwn v x y z) tt ∙ C.btwn v x y z x' y' z' r r' (to x.0 x'.0 a) (to y.0 y'.0 b) (to z.0 z'.0 c) ∙ sym (B.table (Btwn v x' y' z') tt);
   hop = λ v x y x' y' r r' a b. B.table (Hop v x y) tt ∙ C.hop v x y x' y' r r' (to x.0 x'.0 a) (to y.0 y'.0 b) ∙ sym (B.table (Hop v x' y') tt);

@@ -97,7 +97,7 @@ some_at m f k (suc n) e = elim (either (truth m (f (term k))) (some_true m (clai
   | inr later ↦ let r = some_at m f (k + 1) n later in (r.0, omega (arith, r.1), r.2)
 ]
 
-has_hops : (m : Interpretation) (K : List Kind) (i : ℕ) → AreTrue m (version_claims K i) → HasHops (length K) (version_of m i)
+pub has_hops : (m : Interpretation) (K : List Kind) (i : ℕ) → AreTrue m (version_claims K i) → HasHops (length K) (version_of m i)
 has_hops m K i A =
     let n = length K in
     let front = all_front m (_ ∷ each n (leads n i)) (successors_from i 0 K) A in
@@ -121,11 +121,11 @@ successors_at m i t (k ∷ ks) A (suc j) u e =
     subst (λ s. AreTrue m (succeeds i u s)) at (successors_at m i (t + 1) ks (all_back m (successor_claims i t k) (successors_from i (t + 1) ks) A) j u e)
 
 -- the classes, listed by term
-count_numbers : (k n : ℕ) → length (numbers k n) ≡ n
+pub count_numbers : (k n : ℕ) → length (numbers k n) ≡ n
 count_numbers k zero = refl
 count_numbers k (suc n) = ap (λ a. suc a) (count_numbers (suc k) n)
 
-class_at : (f : ℕ → ℕ) (k n t : ℕ) → t < n → slice_get (map f (numbers k n)) t ≡ Some (f (k + t))
+pub class_at : (f : ℕ → ℕ) (k n t : ℕ) → t < n → slice_get (map f (numbers k n)) t ≡ Some (f (k + t))
 class_at f k zero t l = absurd (omega arith)
 class_at f k (suc n) zero l = let at : k ≡ k + 0 = omega arith in ap (λ u. Some (f u)) at
 class_at f k (suc n) (suc t) l = let at : suc k + t ≡ k + suc t = omega arith in class_at f (suc k) n t (omega (arith, l)) ∙ ap (λ u. Some (f u)) at
@@ -140,7 +140,7 @@ pub record AreGround (m : Interpretation) (K : List Kind) (V : List ℕ) (at : �
   pub next : (i : ℕ) → i < N → Follows K V i (built V (version_of m i))
   pub heap : (i : ℕ) → i < N → heap_in m (length K) i ≡ built V (version_of m i)
 
-classes_speak : (m : Interpretation) (i n : ℕ) (V : List ℕ) → 0 < n → V ≡ classes (equal_in m) n → length V ≡ n → slice_get V 0 ≡ Some 0 → ((t : ℕ) → t < n → slice_get V t ≡ Some (class_of (equal_in m) n t)) → HasClasses (equal_in m) n (version_of m i) → Speaks m i n (value_at V) V (version_of m i)
+pub classes_speak : (m : Interpretation) (i n : ℕ) (V : List ℕ) → 0 < n → V ≡ classes (equal_in m) n → length V ≡ n → slice_get V 0 ≡ Some 0 → ((t : ℕ) → t < n → slice_get V t ≡ Some (class_of (equal_in m) n t)) → HasClasses (equal_in m) n (version_of m i) → Speaks m i n (value_at V) V (version_of m i)
 classes_speak m i n V some is count first at C =
     let v : (t : ℕ) → t < n → class_of (equal_in m) n t ≡ value_at V t = λ t l. sym (value_of V t (class_of (equal_in m) n t) (at t l)) in
     let M = version_of m i in
@@ -159,7 +159,7 @@ classes_speak m i n V some is count first at C =
     }
 
 -- a term for what follows another has the value that follows
-follows_said : (m : Interpretation) (K : List Kind) (V : List ℕ) (i : ℕ) → length V ≡ length K → IsModel V (version_of m i) → Speaks m i (length K) (value_at V) V (version_of m i) → AreTrue m (successors_from i 0 K) → Follows K V i (built V (version_of m i))
+pub follows_said : (m : Interpretation) (K : List Kind) (V : List ℕ) (i : ℕ) → length V ≡ length K → IsModel V (version_of m i) → Speaks m i (length K) (value_at V) V (version_of m i) → AreTrue m (successors_from i 0 K) → Follows K V i (built V (version_of m i))
 follows_said m K V i count model S A t u v e a =
     let M = version_of m i in
     let n = length K in
@@ -199,7 +199,7 @@ cells_at stands to (suc k) q l e = elim (cases_eq q k) [
       ]
 ]
 
-cells_not : (stands : ℕ → Bool) (to : ℕ → ℕ) (n q : ℕ) → (q < n → stands q ≡ true → ⊥) → get (cells_below stands to n) q ≡ None
+pub cells_not : (stands : ℕ → Bool) (to : ℕ → ℕ) (n q : ℕ) → (q < n → stands q ≡ true → ⊥) → get (cells_below stands to n) q ≡ None
 cells_not stands to zero q out = get_nothing q
 cells_not stands to (suc k) q out =
     let earlier = cells_not stands to k q (λ l e. out (omega (arith, l)) e) in
@@ -220,7 +220,7 @@ parts_of true true c e = (refl, e)
 parts_of true false c e = absurd (false≢true e)
 parts_of false b c e = absurd (false≢true e)
 
-heap_is : (m : Interpretation) (n i : ℕ) → HasClasses (equal_in m) n (version_of m i) → heap_in m n i ≡ built (classes (equal_in m) n) (version_of m i)
+pub heap_is : (m : Interpretation) (n i : ℕ) → HasClasses (equal_in m) n (version_of m i) → heap_in m n i ≡ built (classes (equal_in m) n) (version_of m i)
 heap_is m n i C = by_look_ups (heap_in m n i) (built V M) (λ q. elim (allocated_or (built V M) q) [
   | inl (v, e) ↦ let r = there q v e in here q r.0 r.1
   | inr none ↦ cells_not (stands_at m n i) (content_at m n i) n q (λ l e. let some = here q l e in let full = cells_at (stands_at m n i) (content_at m n i) n q l e in let both : Some (content_at m n i q) ≡ None = sym full ∙ some ∙ none in absurd cc) ∙ sym none

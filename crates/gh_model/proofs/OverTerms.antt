@@ -48,7 +48,7 @@ use Rattle.gh_model.proofs.BoundNames.{first_cases, either_cases, no_term_outsid
 use Rattle.gh_model.proofs.Traced.{listed_under}
 
 -- a listed name has its value, and a name that isn't listed has 0
-store_is : (S : Store) (xs : List Name) (y : Name) → ((Contains xs y → ⊥) → S y ≡ 0) → store_of (entries_under S xs) y ≡ S y
+pub store_is : (S : Store) (xs : List Name) (y : Name) → ((Contains xs y → ⊥) → S y ≡ 0) → store_of (entries_under S xs) y ≡ S y
 store_is S [] y out = sym (out (λ there. no_member y there))
 store_is S (x ∷ xs) y out = elim (cases_Bool (bytes_eq x y)) [
   | inl on ↦ ap (λ b. unwrap_or (cond b (Some (S x)) (listed (entries_under S xs) y)) 0) on ∙ ap S ((bytes_eq-Decides x y).0 on)

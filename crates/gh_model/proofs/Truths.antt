@@ -15,7 +15,7 @@ use Rattle.gh_assert.proofs.Tests.{tests_decide}
 use Rattle.gh_model.specs.Laws.{TruthsExist}
 
 -- the first named value after x is one
-one_hop : (V : List ℕ) (h : Heap) (x v w : ℕ) → Hop V h x v → Hop V h x w → v ≡ w
+pub one_hop : (V : List ℕ) (h : Heap) (x v w : ℕ) → Hop V h x v → Hop V h x w → v ≡ w
 one_hop V h x v w t u = elim (cases_order t.between u.between) [
   | inl same ↦ sym t.arrives ∙ ap (λ i. walk h (suc i) x) same ∙ u.arrives
   | inr other ↦ elim other [
@@ -41,7 +41,7 @@ hops_decide : (V : List ℕ) (h : Heap) (x v : ℕ) (o : MaybeHop V h x) → Con
 hops_decide V h x v (inl (w, t)) c = (λ e. subst (Hop V h x) (eqb-true w v e) t, λ u. eq-eqb w v (one_hop V h x w v t u))
 hops_decide V h x v (inr none) c = (λ e. absurd (false≢true e), λ u. absurd (none c u.allocated))
 
-some_decides : (o : Option ℕ) → Decides (is_some o) ((v : ℕ) × (o ≡ Some v))
+pub some_decides : (o : Option ℕ) → Decides (is_some o) ((v : ℕ) × (o ≡ Some v))
 some_decides (Some v) = (λ e. (v, refl), λ u. refl)
 some_decides None = (λ e. absurd (false≢true e), λ u. let there = u.1 in absurd cc)
 

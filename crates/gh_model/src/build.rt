@@ -60,7 +60,7 @@ fn content(structure: &Structure, version: u8, x: Term) -> u32
 
 /// The heap of a version: a cell at each class other than null's whose least term is allocated, with
 /// the class of the least term that it hops to.
-pub fn heap(alloc: Global, structure: &Structure, version: u8) -> Result<Heap, AllocError>
+pub fn heap_of(alloc: Global, structure: &Structure, version: u8) -> Result<Heap, AllocError>
     requires { version < structure.now.sizes.versions }
     ensures { IfOk result (λ h. h ≡ heap_in (interpretation_of structure.now) structure.now.sizes.terms version) }
 {
@@ -86,8 +86,8 @@ fn value(structure: &Structure, binding: &Binding, name: &Name) -> u32
     }
 }
 
-// Adds variables with their values.
-fn add_all(
+/// Adds variables with their values in a structure.
+pub fn add_all(
     alloc: Global,
     store: &mut Store,
     structure: &Structure,
@@ -160,7 +160,7 @@ fn state(
 {
     Ok(State {
         store: store(alloc, structure, binding, procedure)?,
-        heap: heap(alloc, structure, version)?,
+        heap: heap_of(alloc, structure, version)?,
     })
 }
 

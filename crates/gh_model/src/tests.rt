@@ -2,7 +2,7 @@
 
 ghost use Rattle.std.specs.Prelude.{◌≡◌, IfOk};
 
-use crate::build::heap;
+use crate::build::heap_of;
 use gh_base::atom::{Atom, Term};
 use gh_base::structure::Structure;
 use std::alloc::{AllocError, Global};
@@ -28,7 +28,7 @@ fn cycle(global: Global) -> Result<Structure, AllocError>
 #[test]
 fn cells(rt: HostRuntime) -> Result<(), AllocError> {
     let structure = cycle(rt.alloc())?;
-    let heap = heap(rt.alloc(), &structure, 0)?;
+    let heap = heap_of(rt.alloc(), &structure, 0)?;
     assert!(rt; heap.get(1) == Some(1));
     assert!(rt; heap.cells().len() == 1);
     Ok(())

@@ -11,6 +11,8 @@ pub mod Runs
 pub mod StatementForms
 pub mod ProcedureForms
 pub mod ProgramForms
+pub mod ClaimForms
+pub mod QuestionForms
 pub mod Lexemes
 pub mod Tables
 pub mod Lexing

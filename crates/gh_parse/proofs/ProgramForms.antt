@@ -15,7 +15,7 @@ use Rattle.gh_ast.specs.Grammar.{NoSign, NoKey, SpellsWord, by_name, by_key, Spe
 use Rattle.gh_ast.specs.Readings.{IsUnique}
 use Rattle.gh_ast.proofs.OneProgram.{one_word, one_fields}
 use Rattle.gh_parse.specs.Stops.{Tok, tok, Any, any, Seq, seq, IsPlain, IsEnd, SameNext, same, none}
-use Rattle.gh_parse.specs.Procedures.{SpellsField, Shape, SpellsShape, SpellsAll, SpellsWhole}
+use Rattle.gh_parse.specs.Procedures.{SpellsField, Shape, SpellsShape, SpellsAll, IsWhole}
 use Rattle.gh_parse.proofs.Rules.{Exact, exact_tok, exact_seq, exact_by, kept, kept_rest, each, taken_tok, by, begins_not, next, Ends, ends_tok, ends_seq, ends_by, plain_end}
 use Rattle.gh_parse.proofs.Turns.{Goes}
 use Rattle.gh_parse.proofs.ValueForms.{a_name}
@@ -179,21 +179,21 @@ procedure_pushed xs ys x e = ap (λ z. map procedure_of z) e ∙ map-append proc
 abbrev pub AProgram : List Token → List Token → Type 0
 AProgram = Seq (Tok (key kw.Struct)) (Seq (Tok (key kw.Node)) (Seq (Tok (sign sg.BraceOpen)) (Seq AShape AllProcedures)))
 
-pub make_program : (xs r : List Token) → AProgram xs r → Any SpellsWhole xs r
+pub make_program : (xs r : List Token) → AProgram xs r → Any (IsWhole SpellsProgram) xs r
 make_program _ _ (seq tok (seq tok (seq tok (seq (any {x = s} a) (any {x = ps} b))))) =
-    any {x = record { fields = s.fields; close = s.close; procedures = ps }} (record { program = a_program a b.procedures; end = b.end })
+    any {x = record { fields = s.fields; close = s.close; procedures = ps }} (record { spelled = a_program a b.procedures; end = b.end })
 
 program_parts : {ts rest : List Token} {x : Program} → rest ≡ [] → SpellsProgram ts x → AProgram ts rest
 program_parts e (a_program a i) = seq tok (seq tok (seq tok (seq (a_shape a) (any (record { procedures = i; end = e })))))
 
-pub part_program : (xs r : List Token) → Any SpellsWhole xs r → AProgram xs r
-part_program _ _ (any w) = program_parts w.end w.program
+pub part_program : (xs r : List Token) → Any (IsWhole SpellsProgram) xs r → AProgram xs r
+part_program _ _ (any w) = program_parts w.end w.spelled
 
 pub ends_after_brace : Ends IsEnd (Seq AShape AllProcedures)
 ends_after_brace = ends_seq ends_shape ends_all
 
 pub program_spelled : {ts us vs ws xs rest : List Token} {p q r : Span} {s : Shape} {ps : List Procedure} → ts ≡ key kw.Struct p ∷ us → us ≡ key kw.Node q ∷ vs → vs ≡ sign sg.BraceOpen r ∷ ws
-    → SpellsShape ws s xs → SpellsAll xs ps rest → SpellsWhole ts (record { fields = s.fields; close = s.close; procedures = ps }) rest
+    → SpellsShape ws s xs → SpellsAll xs ps rest → IsWhole SpellsProgram ts (record { fields = s.fields; close = s.close; procedures = ps }) rest
 program_spelled {ts = ts} {ws = ws} {p = p} {q = q} {r = r} {s = s} {ps = ps} a b c d i =
     let e : ts ≡ key kw.Struct p ∷ key kw.Node q ∷ sign sg.BraceOpen r ∷ ws = cc in
-    record { program = subst (λ z. SpellsProgram z (record { fields = s.fields; close = s.close; procedures = ps })) (sym e) (a_program d i.procedures); end = i.end }
+    record { spelled = subst (λ z. SpellsProgram z (record { fields = s.fields; close = s.close; procedures = ps })) (sym e) (a_program d i.procedures); end = i.end }

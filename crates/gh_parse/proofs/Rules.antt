@@ -132,7 +132,7 @@ stops_tok {k = k} {ts = ts} p f n =
     }
 
 -- in the first of two
-stuck_seq : {A B : List Token → List Token → Type 0} {ts rest : List Token} → ((us : List Token) → A ts us → ⊥) → Seq A B ts rest → ⊥
+pub stuck_seq : {A B : List Token → List Token → Type 0} {ts rest : List Token} → ((us : List Token) → A ts us → ⊥) → Seq A B ts rest → ⊥
 stuck_seq n (seq a b) = n _ a
 
 pub first : {F : List Token → Type 0} {A B : List Token → List Token → Type 0} {ts left : List Token} → Ends F B → Stops IsPlain A ts left → Stops F (Seq A B) ts left
@@ -200,7 +200,7 @@ pub form : {F : List Token → Type 0} {P Q : List Token → List Token → Type
     → ((xs r : List Token) → P xs r → Q xs r) → ((xs r : List Token) → Q xs r → P xs r) → Stops F P us left → Stops F Q us left
 form make part s = by make (λ xs r d h. part xs r h) s
 
-opt_rest : {X : Type 0} {k : X → Token} {A : List Token → List Token → Type 0} {xs ts rest : List Token} (p : X) → xs ≡ k p ∷ ts → Opt k A xs rest → A ts rest
+pub opt_rest : {X : Type 0} {k : X → Token} {A : List Token → List Token → Type 0} {xs ts rest : List Token} (p : X) → xs ≡ k p ∷ ts → Opt k A xs rest → A ts rest
 opt_rest p e (without n) = absurd (n _ _ e)
 opt_rest {A = A} {ts = ts} {rest = rest} p e (with {ts = ys} a) = let p : ys ≡ ts = cc in subst (λ z. A z rest) p a
 

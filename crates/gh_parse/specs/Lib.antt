@@ -3,6 +3,7 @@ pub mod Stops
 pub mod Answers
 pub mod Statements
 pub mod Procedures
+pub mod Questions
 pub mod Scanning
 pub mod Lexing
 pub mod Parsing

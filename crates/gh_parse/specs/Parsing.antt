@@ -1,15 +1,21 @@
 -- What the parser answers for a text.
-use Rattle.std.specs.Prelude.{◌≡◌, ℕ, List, ⊤}
-use Rattle.gh_ast.specs.Tokens.{IsFirstByte, IsFirstDeep}
+use Rattle.std.specs.Prelude.{◌≡◌, ℕ, List, Bool, true, false, ⊤, Result, Ok, Err}
+use Rattle.gh_ast.specs.Tokens.{Token, HasTokens, IsFirstByte, IsFirstDeep}
 use Rattle.gh_ast.specs.Plain.{Program}
+use Rattle.gh_ast.specs.Questions.{Question}
 use Rattle.gh_base.specs.declared.place.Span.{Span}
-use Rattle.gh_ast.specs.Grammar.{Spells}
-use Rattle.gh_ast.specs.Place.{IsPlace, IsProgram}
+use Rattle.gh_ast.specs.Grammar.{SpellsProgram}
+use Rattle.gh_ast.specs.QuestionGrammar.{SpellsQuestion}
+use Rattle.gh_ast.specs.Place.{IsPlace}
 use Rattle.gh_ast.specs.Bare.{bare_program}
 use Rattle.gh_ast.specs.Printed.{program_text}
 use Rattle.gh_parse.specs.Scanning.{IsDeepPlace}
+use Rattle.gh_parse.specs.Lexing.{IsLexed}
+use Rattle.gh_parse.specs.Answers.{next_place}
 use Rattle.gh_parse.specs.declared.error.ParseError.{ParseError}
 use Rattle.gh_parse.specs.declared.error.ParseError.TheVariants.{Byte, Deep, Syntax, OutOfMemory}
+use Rattle.gh_parse.specs.declared.error.ReadError.{ReadError}
+use Rattle.gh_parse.specs.declared.error.ReadError.TheVariants as read
 
 -- every byte outside comments is a character of the grammar
 abbrev pub HasCharacters : List ℕ → Type 0
@@ -19,25 +25,59 @@ HasCharacters text = (k : ℕ) → IsFirstByte text k → ⊥
 abbrev pub IsShallow : List ℕ → Type 0
 IsShallow text = (k : ℕ) → IsFirstDeep text k → ⊥
 
--- the text is well formed, and spells the program
-pub record IsParsed (text : List ℕ) (p : Program) : Type 0 where
+-- the text is well formed, and its tokens spell the value
+pub record IsParsedAs {X : Type 0} (Spells : List Token → X → Type 0) (text : List ℕ) (x : X) : Type 0 where
   pub characters : HasCharacters text
   pub shallow : IsShallow text
-  pub spelled : Spells text p
+  pub spelled : (ts : List Token) × HasTokens text ts × Spells ts x
 
--- the text is well formed, and spells no program; this is the place of its error
-pub record IsNoProgram (text : List ℕ) (span : Span) : Type 0 where
+-- the text is well formed, and its tokens spell no value; this is the place of its error
+pub record IsMisspelled {X : Type 0} (Spells : List Token → X → Type 0) (text : List ℕ) (span : Span) : Type 0 where
   pub characters : HasCharacters text
   pub shallow : IsShallow text
-  pub none : (p : Program) → Spells text p → ⊥
-  pub place : IsPlace IsProgram text span
+  pub none : (x : X) → (ts : List Token) × HasTokens text ts × Spells ts x → ⊥
+  pub place : IsPlace (λ ts. (x : X) × Spells ts x) text span
 
 -- the first byte that is no character comes before all, then the first bracket that nests too deep
+abbrev pub IsRefusalOf : {X : Type 0} → (List Token → X → Type 0) → List ℕ → ParseError → Type 0
+IsRefusalOf Spells text (Byte offset) = IsFirstByte text offset
+IsRefusalOf Spells text (Deep place) = HasCharacters text × IsDeepPlace text place
+IsRefusalOf Spells text (Syntax place) = IsMisspelled Spells text place
+IsRefusalOf Spells text OutOfMemory = ⊤
+
+-- programs
+abbrev pub IsParsed : List ℕ → Program → Type 0
+IsParsed = IsParsedAs SpellsProgram
+
 abbrev pub IsParseRefusal : List ℕ → ParseError → Type 0
-IsParseRefusal text (Byte offset) = IsFirstByte text offset
-IsParseRefusal text (Deep place) = HasCharacters text × IsDeepPlace text place
-IsParseRefusal text (Syntax place) = IsNoProgram text place
-IsParseRefusal text OutOfMemory = ⊤
+IsParseRefusal = IsRefusalOf SpellsProgram
+
+-- questions
+abbrev pub IsAsked : List ℕ → Question → Type 0
+IsAsked = IsParsedAs SpellsQuestion
+
+abbrev pub IsQuestionRefusal : List ℕ → ParseError → Type 0
+IsQuestionRefusal = IsRefusalOf SpellsQuestion
+
+-- the text is well formed, and these are its tokens
+pub record IsScanned (text : List ℕ) (tokens : List Token) (end : Span) (whole : Bool) : Type 0 where
+  pub characters : HasCharacters text
+  pub shallow : IsShallow text
+  pub lexed : IsLexed text tokens end whole
+
+-- why a text isn't scanned
+abbrev pub IsScanRefusal : List ℕ → ParseError → Type 0
+IsScanRefusal text (Byte offset) = IsFirstByte text offset
+IsScanRefusal text (Deep place) = HasCharacters text × IsDeepPlace text place
+IsScanRefusal text (Syntax place) = ⊥
+IsScanRefusal text OutOfMemory = ⊤
+
+-- what is answered for a text by what a rule of the grammar answers for its tokens: a text that isn't all tokens is refused where they end
+abbrev pub answered : {X : Type 0} → Bool → Span → List Token → Result X ReadError → Result X ParseError
+answered true end left (Ok x) = Ok x
+answered false end left (Ok x) = Err (Syntax end)
+answered whole end left (Err read.Unexpected) = Err (Syntax (next_place end left))
+answered whole end left (Err read.OutOfMemory) = Err OutOfMemory
 
 -- a program that a text can give is given again by its printed text, places aside, where that text doesn't nest too deep
 abbrev pub PrintedParse : Type 0

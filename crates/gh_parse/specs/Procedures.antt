@@ -8,7 +8,7 @@ use Rattle.gh_ast.specs.declared.sign.Sign.TheVariants as sg
 use Rattle.gh_ast.specs.declared.sign.Keyword.TheVariants as kw
 use Rattle.gh_ast.specs.Plain as plain
 use Rattle.gh_ast.specs.Tokens.{Token, key, sign}
-use Rattle.gh_ast.specs.Grammar.{SpellsLocals, SpellsBody, SpellsWord, SpellsFields, SpellsProcedures, SpellsProgram}
+use Rattle.gh_ast.specs.Grammar.{SpellsLocals, SpellsBody, SpellsWord, SpellsFields, SpellsProcedures}
 use Rattle.gh_parse.specs.declared.procedures.Ending.{Ending}
 use Rattle.gh_parse.specs.declared.programs.Fields.{Fields}
 
@@ -57,11 +57,12 @@ shape_of f = record { fields = f.fields.items; close = f.close }
 abbrev pub SpellsShape : List Token → Shape → List Token → Type 0
 SpellsShape ts s rest = SpellsFields ts s.fields s.close rest
 
--- procedures up to the end, and a whole program: no token is left
+-- procedures up to the end: no token is left
 pub record SpellsAll (ts : List Token) (ps : List plain.Procedure) (rest : List Token) : Type 0 where
   pub procedures : SpellsProcedures ts ps
   pub end : rest ≡ []
 
-pub record SpellsWhole (ts : List Token) (p : plain.Program) (rest : List Token) : Type 0 where
-  pub program : SpellsProgram ts p
+-- what a rule spells of all tokens: none is left
+pub record IsWhole {X : Type 0} (Spells : List Token → X → Type 0) (ts : List Token) (x : X) (rest : List Token) : Type 0 where
+  pub spelled : Spells ts x
   pub end : rest ≡ []

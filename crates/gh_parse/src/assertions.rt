@@ -121,9 +121,9 @@ impl<'t> Parser<'t> {
         })
     }
 
-    // Reads an assertion between two signs.
+    /// Reads an assertion between two signs.
     #[cycle(assertion)]
-    fn enclosed_assertion(
+    pub fn enclosed_assertion(
         &mut self,
         alloc: Global,
         opening: Sign,

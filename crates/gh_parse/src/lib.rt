@@ -5,6 +5,7 @@
 mod assertion_tests;
 pub mod assertions;
 pub mod calls;
+pub mod claims;
 pub mod conditions;
 pub mod cursor;
 pub mod error;
@@ -16,6 +17,9 @@ pub mod parse;
 mod parse_tests;
 pub mod procedures;
 pub mod programs;
+#[cfg(test)]
+mod question_tests;
+pub mod questions;
 pub mod scan;
 pub mod statements;
 pub mod token;

@@ -1,13 +1,13 @@
 //! Fields, and whole programs.
 
 ghost use Rattle.std.specs.Prelude.{◌≡◌, ◌↔◌, [], IsTrue, map};
-ghost use Rattle.gh_ast.specs.Grammar.{SpellsWord};
+ghost use Rattle.gh_ast.specs.Grammar.{SpellsWord, SpellsProgram};
 ghost use Rattle.gh_ast.specs.Tokens.{keyword_text};
 ghost use Rattle.gh_ast.specs.Plain.{procedure_of, program_of};
 ghost use Rattle.gh_parse.specs.Views.{tokens_of};
 ghost use Rattle.gh_parse.specs.Stops.{IsPlain, IsEnd};
 ghost use Rattle.gh_parse.specs.Answers.{IsRead};
-ghost use Rattle.gh_parse.specs.Procedures.{SpellsField, SpellsShape, SpellsAll, SpellsWhole, shape_of};
+ghost use Rattle.gh_parse.specs.Procedures.{SpellsField, SpellsShape, SpellsAll, IsWhole, shape_of};
 
 use crate::cursor::Parser;
 use crate::error::ReadError;
@@ -84,7 +84,7 @@ impl<'t> Parser<'t> {
 
     /// Reads a whole program.
     pub fn program(&mut self, alloc: Global) -> Result<Program, ReadError>
-        ensures { IsRead IsEnd SpellsWhole (tokens_of self.old.rest.now) program_of result (tokens_of self.new.rest.now) }
+        ensures { IsRead IsEnd (IsWhole SpellsProgram) (tokens_of self.old.rest.now) program_of result (tokens_of self.new.rest.now) }
     {
         self.expect_key(Keyword::Struct)?;
         self.expect_key(Keyword::Node)?;

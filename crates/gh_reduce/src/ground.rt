@@ -90,8 +90,8 @@ fn add_successors(
     Ok(())
 }
 
-// What holds in each version.
-fn add_version(
+/// Adds what holds in a version.
+pub fn add_version(
     alloc: Global,
     ground: &mut Ground,
     version: u8,

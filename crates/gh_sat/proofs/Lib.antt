@@ -10,3 +10,5 @@ pub mod ReasonLemmas
 pub mod TheoryLemmas
 pub mod MeasureLemmas
 pub mod FirstLevelLemmas
+pub mod NeededLemmas
+pub mod ListsLemmas

@@ -1,6 +1,6 @@
 -- The tables of a trail, as steps come and go.
 use Rattle.std.proofs.Common.{◌≡◌, ◌≢◌, ℕ, suc, ◌+◌, ◌-◌, ◌<◌, ◌≤◌, List, [], ◌∷◌, ◌++◌, length, take, Option, Some, None, Bool, true, false, if◌then◌else◌, inl, inr, refl, sym, ap, ◌∙◌, subst, arith, All, length-set}
-use Rattle.std.specs.Prelude.{slice_get, slice_set, option_map, not}
+use Rattle.std.specs.Prelude.{slice_get, slice_set, option_map, not, nat_lt}
 use Rattle.std.proofs.Common.{get_or}
 use mathlib.Core.Bool.{beq}
 use Rattle.gh_sat.specs.declared.rows.Numbered.{Numbered}
@@ -11,7 +11,7 @@ use Rattle.std.proofs.lemmas.Option.{get_or_from_slice_get, slice_get-get_or}
 use Rattle.gh_base.specs.declared.atom.Atom.{Atom}
 use Rattle.gh_base.specs.declared.atom.Lit.{Lit}
 use Rattle.gh_base.specs.declared.sizes.Sizes.{Sizes}
-use Rattle.gh_base.specs.Atoms.{opposite, IsInRange, number_of, btwn_start, count_of}
+use Rattle.gh_base.specs.Atoms.{opposite, IsInRange, number_of, btwn_start, def_start, count_of}
 use Rattle.gh_base.specs.Meaning.{under}
 use Rattle.gh_base.specs.Assignments.{Partial, value_of, value_at, with_value}
 use Rattle.gh_base.proofs.NumberLemmas.{number_below, apart}
@@ -198,27 +198,41 @@ values_less p trail y v =
     }
 
 turned_low : (s : Sizes) (n : ℕ) → n < btwn_start s → turned s n ≡ n
-turned_low s n h = ap (λ (b : Bool). if b then n else (btwn_start s + (count_of s - 1 - n))) (lt-ltb n (btwn_start s) h)
+turned_low s n h = ap (λ (b : Bool). if b then n else (if nat_lt n (def_start s) then btwn_start s + (def_start s - 1 - n) else n)) (lt-ltb n (btwn_start s) h)
 
-turned_high : (s : Sizes) (n : ℕ) → btwn_start s ≤ n → turned s n ≡ btwn_start s + (count_of s - 1 - n)
-turned_high s n h = ap (λ (b : Bool). if b then n else (btwn_start s + (count_of s - 1 - n))) (le-ltb n (btwn_start s) h)
+turned_high : (s : Sizes) (n : ℕ) → btwn_start s ≤ n → turned s n ≡ if nat_lt n (def_start s) then btwn_start s + (def_start s - 1 - n) else n
+turned_high s n h = ap (λ (b : Bool). if b then n else (if nat_lt n (def_start s) then btwn_start s + (def_start s - 1 - n) else n)) (le-ltb n (btwn_start s) h)
 
-turned_back : (first count n : ℕ) → first ≤ n → n < count → first + (count - 1 - (first + (count - 1 - n))) ≡ n
-turned_back first count n h k = omega arith
+turned_middle : (s : Sizes) (n : ℕ) → btwn_start s ≤ n → n < def_start s → turned s n ≡ btwn_start s + (def_start s - 1 - n)
+turned_middle s n h k = turned_high s n h ∙ ap (λ (b : Bool). if b then btwn_start s + (def_start s - 1 - n) else n) (lt-ltb n (def_start s) k)
+
+turned_last : (s : Sizes) (n : ℕ) → btwn_start s ≤ n → def_start s ≤ n → turned s n ≡ n
+turned_last s n h k = turned_high s n h ∙ ap (λ (b : Bool). if b then btwn_start s + (def_start s - 1 - n) else n) (le-ltb n (def_start s) k)
+
+turned_back : (first end n : ℕ) → first ≤ n → n < end → first + (end - 1 - (first + (end - 1 - n))) ≡ n
+turned_back first end n h k = omega arith
 
 pub turned_below : (s : Sizes) (n : ℕ) → n < count_of s → turned s n < count_of s
 turned_below s n h = elim (cases_lt n (btwn_start s)) as (λ _. turned s n < count_of s) [
   | inl lt ↦ omega (arith, turned_low s n lt)
-  | inr ge ↦ omega (arith, turned_high s n ge)
+  | inr ge ↦ elim (cases_lt n (def_start s)) as (λ _. turned s n < count_of s) [
+    | inl low ↦ omega (arith, turned_middle s n ge low)
+    | inr high ↦ omega (arith, turned_last s n ge high)
+  ]
 ]
 
 -- the number at the place of a number is that number
 pub turned_twice : (s : Sizes) (n : ℕ) → n < count_of s → turned s (turned s n) ≡ n
 turned_twice s n h = elim (cases_lt n (btwn_start s)) as (λ _. turned s (turned s n) ≡ n) [
   | inl lt ↦ ap (turned s) (turned_low s n lt) ∙ turned_low s n lt
-  | inr ge ↦
-      let high : btwn_start s ≤ btwn_start s + (count_of s - 1 - n) = omega arith in
-      ap (turned s) (turned_high s n ge) ∙ turned_high s (btwn_start s + (count_of s - 1 - n)) high ∙ turned_back (btwn_start s) (count_of s) n ge h
+  | inr ge ↦ elim (cases_lt n (def_start s)) as (λ _. turned s (turned s n) ≡ n) [
+    | inl low ↦
+        let place : ℕ = btwn_start s + (def_start s - 1 - n) in
+        let up : btwn_start s ≤ place = omega arith in
+        let down : place < def_start s = omega arith in
+        ap (turned s) (turned_middle s n ge low) ∙ turned_middle s place up down ∙ turned_back (btwn_start s) (def_start s) n ge low
+    | inr high ↦ ap (turned s) (turned_last s n ge high) ∙ turned_last s n ge high
+  ]
 ]
 
 still_set : (values : List (Option Bool)) (c a : ℕ) (b : Bool) → slice_get values c ≢ Some None → slice_get (slice_set values a (Some b)) c ≢ Some None

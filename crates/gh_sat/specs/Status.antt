@@ -1,10 +1,10 @@
 -- What a clause is under a trail, and unit propagation.
-use Rattle.std.specs.Prelude.{◌≡◌, ◌⊎◌, ℕ, List, [], ◌∷◌, ◌++◌, Some, slice_get}
+use Rattle.std.specs.Prelude.{◌≡◌, ◌⊎◌, ℕ, List, [], ◌∷◌, ◌++◌, All, Some, slice_get}
 use Rattle.gh_base.specs.declared.atom.Lit.{Lit}
 use Rattle.gh_sat.specs.declared.trail.Step.{Step}
 use Rattle.gh_sat.specs.declared.status.Status.{Status}
 use Rattle.gh_sat.specs.declared.status.Status.TheVariants.{False, Unit as IsOne, Open}
-use Rattle.gh_sat.specs.Trail.{State, IsFalseIn, IsUnitIn}
+use Rattle.gh_sat.specs.Trail.{State, IsFree, IsFalseIn, IsUnitIn}
 
 -- the clause is false, or unit
 abbrev pub IsBad : List Step → List Lit → Type 0
@@ -14,6 +14,14 @@ abbrev pub IsStatus : List Step → List Lit → Status → Type 0
 IsStatus trail clause False = IsFalseIn trail clause
 IsStatus trail clause (IsOne unit) = IsUnitIn trail clause unit
 IsStatus trail clause (Open hint) = IsBad trail clause → ⊥
+
+-- each atom of the clause has a truth
+abbrev pub IsAssigned : List Step → List Lit → Type 0
+IsAssigned trail clause = All (λ l. IsFree trail l.atom → ⊥) clause
+
+-- each atom of each clause has one
+abbrev pub AreAssigned : State → Type 0
+AreAssigned s = All (IsAssigned s.trail) s.clauses
 
 -- no clause is false or unit
 pub record IsSettled (s : State) : Type 0 where

@@ -3,7 +3,7 @@ use Rattle.std.specs.Prelude.{◌≡◌, ◌≢◌, ◌⊎◌, ℕ, zero, suc, �
 use Rattle.gh_base.specs.declared.atom.Atom.{Atom}
 use Rattle.gh_base.specs.declared.atom.Lit.{Lit}
 use Rattle.gh_base.specs.declared.sizes.Sizes.{Sizes}
-use Rattle.gh_base.specs.Atoms.{opposite, IsInRange, AreInRange, number_of, btwn_start, count_of}
+use Rattle.gh_base.specs.Atoms.{opposite, IsInRange, AreInRange, number_of, btwn_start, def_start, count_of}
 use Rattle.gh_base.specs.Assignments.{Partial, value_of}
 use Rattle.gh_sat.specs.declared.trail.Step.{Step}
 
@@ -101,10 +101,10 @@ pub record AreValues (p : Partial) (trail : List Step) : Type 0 where
 abbrev pub ArePlaces : Sizes → List ℕ → List Step → Type 0
 ArePlaces s places trail = (i : ℕ) (x : Step) → slice_get trail i ≡ Some x → slice_get places (number_of s x.lit.atom) ≡ Some i
 
--- the order of decisions: equalities, then the other atoms from the greatest number down. It gives the number at a place,
--- and the place of a number
+-- the order of decisions: equalities, then the atoms with a version from the greatest number down, then definitions. It
+-- gives the number at a place, and the place of a number
 abbrev pub turned : Sizes → ℕ → ℕ
-turned s n = if nat_lt n (btwn_start s) then n else (btwn_start s + (count_of s - 1 - n))
+turned s n = if nat_lt n (btwn_start s) then n else (if nat_lt n (def_start s) then btwn_start s + (def_start s - 1 - n) else n)
 
 -- the atoms whose places stand before the cursor have a truth
 abbrev pub IsPassed : Partial → ℕ → Type 0

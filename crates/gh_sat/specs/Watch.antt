@@ -1,5 +1,5 @@
 -- Which clauses are still to be looked at.
-use Rattle.std.specs.Prelude.{◌≡◌, ◌⊎◌, ℕ, ◌+◌, ◌*◌, ◌<◌, ◌≤◌, List, [], Bool, true, false, Some, Contains, length, take, slice_get, slice_index_or}
+use Rattle.std.specs.Prelude.{◌≡◌, ◌⊎◌, ℕ, ◌+◌, ◌*◌, ◌<◌, ◌≤◌, List, [], Bool, true, false, Some, All, Contains, length, map, take, slice_get, slice_index_or}
 use Rattle.gh_base.specs.declared.atom.Lit.{Lit}
 use Rattle.gh_base.specs.declared.sizes.Sizes.{Sizes}
 use Rattle.gh_base.specs.Atoms.{opposite, number_of}
@@ -27,6 +27,16 @@ code_of s l = 2 * number_of s l.atom + sign l.positive
 -- the numbers of the clauses that may have the literal
 abbrev pub clauses_of : Sizes → List (List ℕ) → Lit → List ℕ
 clauses_of s lists l = slice_index_or lists (code_of s l) []
+
+-- the list of each literal, where each has the number of one
+abbrev pub lists_by : List (List ℕ) → List ℕ → List (List ℕ)
+lists_by lists numbers = map (λ n. slice_index_or lists n []) numbers
+
+-- each number is that of a list, and the first list has nothing
+pub record AreLists (lists : List (List ℕ)) (numbers : List ℕ) : Type 0 where
+  pub within : All (λ n. n < length lists) numbers
+  pub some : 0 < length lists
+  pub empty : slice_index_or lists 0 [] ≡ []
 
 -- each clause stands in the lists of its literals
 abbrev pub AreListed : Sizes → List (List Lit) → List (List ℕ) → Type 0

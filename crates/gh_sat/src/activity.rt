@@ -2,7 +2,7 @@
 //! conflicts before the others. No clause speaks of it, and no invariant is kept: with any scores a search gives the
 //! same answers, in other times.
 
-ghost use Rattle.std.specs.Prelude.{◌<◌, IfSome};
+ghost use Rattle.std.specs.Prelude.{◌≡◌, ◌<◌, ◌≤◌, ◌+◌, IfOk, IfSome};
 
 use std::alloc::{AllocError, Global};
 
@@ -43,7 +43,10 @@ pub(crate) struct Activity {
 
 impl Activity {
     /// So many atoms, none of which stood in a conflict.
-    pub fn new(alloc: Global, atoms: usize) -> Result<Activity, AllocError> {
+    pub fn new(alloc: Global, atoms: usize) -> Result<Activity, AllocError>
+        ensures waiting { IfOk result (λ a. a.waiting ≡ 0) }
+        ensures conflicts { IfOk result (λ a. a.conflicts ≡ 0) }
+    {
         Ok(Activity {
             numbers: vec![in alloc; 0; atoms]?,
             entries: Vec::new(alloc),
@@ -54,8 +57,10 @@ impl Activity {
         })
     }
 
-    /// Notes that an atom stood in a conflict.
-    pub fn bump(&mut self, place: u32) -> Result<(), AllocError> {
+    /// Notes that an atom stood in a conflict, where there is a number for its entry.
+    pub fn bump(&mut self, place: u32) -> Result<(), AllocError>
+        ensures waiting { self.new.waiting ≡ self.old.waiting }
+    {
         let number = match self.number(place) {
             None => self.enter(place)?,
             Some(number) => number,
@@ -71,7 +76,10 @@ impl Activity {
     }
 
     /// Ends a conflict: what comes later adds more.
-    pub fn end_conflict(&mut self) {
+    pub fn end_conflict(&mut self)
+        ensures waiting { self.new.waiting ≡ self.old.waiting }
+        ensures conflicts { self.old.conflicts ≤ self.new.conflicts }
+    {
         self.conflicts = self.conflicts.saturating_add(1);
         self.step = self.step.saturating_add(self.step / 19);
         if self.step > GREATEST_STEP {
@@ -83,7 +91,10 @@ impl Activity {
     }
 
     /// Notes that an atom has no truth any more.
-    pub fn offer(&mut self, place: u32) {
+    pub fn offer(&mut self, place: u32)
+        ensures more { self.old.waiting ≤ self.new.waiting }
+        ensures one { self.new.waiting ≤ self.old.waiting + 1 }
+    {
         let Some(number) = self.number(place) else {
             return;
         };
@@ -123,11 +134,14 @@ impl Activity {
         }
     }
 
-    // Makes an entry for an atom, for which the heap then has room, and answers its number.
-    fn enter(&mut self, place: u32) -> Result<u32, AllocError> {
+    // Makes an entry for an atom, for which the heap then has room, and answers its number. Where the place or the number
+    // is none, no entry has the number that is answered.
+    fn enter(&mut self, place: u32) -> Result<u32, AllocError>
+        ensures waiting { self.new.waiting ≡ self.old.waiting }
+    {
         let number = self.entries.len();
         if number >= 4294967294 || place as usize >= self.numbers.len() {
-            return Err(AllocError);
+            return Ok(u32::MAX);
         }
         self.heap.push(0)?;
         self.entries.push(Entry {
@@ -161,7 +175,9 @@ impl Activity {
     }
 
     // Puts an entry at a spot of the heap.
-    fn put(&mut self, spot: usize, number: u32) {
+    fn put(&mut self, spot: usize, number: u32)
+        ensures waiting { self.new.waiting ≡ self.old.waiting }
+    {
         if spot < self.heap.len() && (number as usize) < self.entries.len() {
             self.heap[spot] = number;
             self.entries[number as usize].spot = Some(spot);
@@ -169,7 +185,9 @@ impl Activity {
     }
 
     // Puts an entry at a spot of the heap, or above it, where it goes before those above.
-    fn rise(&mut self, from: usize, number: u32) {
+    fn rise(&mut self, from: usize, number: u32)
+        ensures waiting { self.new.waiting ≡ self.old.waiting }
+    {
         let mut spot = from;
         while spot > 0 {
             let above = (spot - 1) / 2;

@@ -10,6 +10,7 @@ ghost use Rattle.gh_sat.specs.Trail.{Line, IsFalseIn, AreSteps};
 ghost use Rattle.gh_sat.specs.Learn.{IsTop};
 
 use crate::marks::{Marks, begin, resolve};
+use crate::needed::first_free;
 use crate::occurrences::Occurrences;
 use crate::propagation;
 use crate::reasons::{mark_reached, reasons_from};
@@ -50,6 +51,8 @@ pub struct Learner {
     head: u32,
     occurrences: Occurrences,
     marks: Marks,
+    // The atoms of so many clauses were hinted at.
+    noted: usize,
     alloc: Global,
 }
 
@@ -168,10 +171,21 @@ fn bump_marked(trail: &mut Trail, marks: &Marks, place: usize) -> Result<(), All
     Ok(())
 }
 
+// Hints at the atoms of the rows from a place on.
+fn hint_rows(trail: &mut Trail, rows: &[Row], from: usize)
+    ensures { trail.new ≡ trail.old }
+{
+    for index in from..rows.len() {
+        for lit in rows[index].lits() {
+            trail.hint(lit.number as usize);
+        }
+    }
+}
+
 impl Learner {
     ghost use Rattle.gh_base.specs.Grounds.{Problem};
     ghost use Rattle.gh_sat.specs.Trail.{State, IsFree, IsAssignmentOf, IsSound, cut, open_level};
-    ghost use Rattle.gh_sat.specs.Status.{IsSettled};
+    ghost use Rattle.gh_sat.specs.Status.{IsSettled, AreAssigned};
     ghost use Rattle.gh_sat.specs.Watch.{WasOpen};
     ghost use Rattle.gh_sat.specs.Learn.{IsConflict, IsLearnt, AreReasons, add_clause};
     ghost use Rattle.gh_sat.specs.Whole.{PropagatesTo, GivesLast, Adds};
@@ -201,6 +215,7 @@ impl Learner {
                 end: 0,
                 waiting: 0,
             },
+            noted: 0,
             alloc,
         })
     }
@@ -372,7 +387,8 @@ impl Learner {
     }
 
     /// An atom with no truth, if there is one: after some conflicts the one that stood in most and latest of them, else
-    /// the first in the order of decisions. There equalities come first, then the others from the greatest number down.
+    /// the first in the order of decisions. There equalities come first, then the atoms with a version from the greatest
+    /// number down, then definitions.
     pub fn next_free(&mut self) -> Option<Atom>
         ensures same { self.new ≡ self.old }
         ensures some { IfSome result (λ a. IsInRange self.old.sizes a × IsFree self.old.trail a) }
@@ -380,6 +396,23 @@ impl Learner {
         ensures sound { IsSound self.new }
     {
         self.trail.next_free()
+    }
+
+    /// An atom of a clause with no truth, if there is one: after some conflicts the one that stood in most and latest of
+    /// them, else mostly the first in the order of decisions.
+    pub fn next_needed(&mut self) -> Option<Atom>
+        ensures same { self.new ≡ self.old }
+        ensures some { IfSome result (λ a. IsInRange self.old.sizes a × IsFree self.old.trail a) }
+        ensures none { IfNone result (AreAssigned self.old) }
+        ensures sound { IsSound self.new }
+    {
+        hint_rows(&mut self.trail, self.rows.as_slice(), self.noted);
+        self.noted = self.rows.len();
+        let hinted = self.trail.next_hinted();
+        if hinted.is_some() {
+            return hinted;
+        }
+        first_free(&self.trail, self.clauses.as_slice(), self.rows.as_slice())
     }
 
     /// Opens a level with the atom of `next_free`, made false, if there is one.

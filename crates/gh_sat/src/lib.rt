@@ -2,9 +2,11 @@
 #![tactic(auto)]
 
 mod activity;
+mod hinted;
 pub mod learner;
 mod marks;
 pub mod measure;
+mod needed;
 mod occurrences;
 mod propagation;
 mod reasons;

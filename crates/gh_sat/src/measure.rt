@@ -7,7 +7,7 @@ pub fn steps_lead_further()
     ensures { StepsLeadFurther }
 {}
 
-/// A learnt unit is assigned at its level when propagation answers after the cut to that level.
+/// A learnt unit is assigned at the level of the cut when propagation answers after a cut to the lesson's level or above.
 pub fn units_are_assigned()
     ensures { UnitsAreAssigned }
 {}

@@ -3,7 +3,7 @@
 ghost use Rattle.std.specs.Prelude.{◌≡◌, ◌++◌, ◌*◌, ◌∷◌, ◌<◌, ◌≤◌, ℕ, [], All, Contains, IfOk, OnOk, OnErr, length, slice_index_or, replicate};
 ghost use Rattle.gh_base.specs.declared.atom.Lit.{Lit};
 ghost use Rattle.gh_base.specs.Atoms.{IsInRange, AreInRange, count_of};
-ghost use Rattle.gh_sat.specs.Watch.{code_of, clauses_of, ListsMore};
+ghost use Rattle.gh_sat.specs.Watch.{code_of, clauses_of, lists_by, AreLists, ListsMore};
 
 use gh_base::atom::Lit;
 use gh_base::sizes::Sizes;
@@ -51,18 +51,24 @@ impl Numbers {
     }
 }
 
-/// The lists, by literal.
+/// The lists, by literal. A list is made for a literal when it gets its first number.
 #[derive(Drop)]
 pub struct Occurrences {
+    // The number of each literal's list. The first list has nothing, and stands for all literals with no number.
+    numbers: Vec<u32>,
     lists: Vec<Numbers>,
+    alloc: Global,
 }
 
 impl Model for Occurrences {
     ghost use Rattle.std.specs.Prelude.{ℕ, List};
+    ghost use Rattle.gh_sat.specs.Watch.{lists_by, AreLists};
 
     ghost Value = { List (List ℕ) };
 
-    ghost view = { λ o. o.lists.items };
+    ghost view = { λ o. lists_by o.lists.items o.numbers.items };
+
+    ghost invariant = { λ o. AreLists o.lists.items o.numbers.items };
 }
 
 // The dense number of a literal.
@@ -75,18 +81,48 @@ fn code(sizes: Sizes, lit: Lit) -> usize
     2 * sizes.number(lit.atom) + if lit.positive { 1 } else { 0 }
 }
 
+// The number of a literal's list, which is its own. It is made if the literal has none yet. More lists than 32 bits can
+// number count as want of memory.
+fn own_list(
+    alloc: Global,
+    numbers: &mut Vec<u32>,
+    lists: &mut Vec<Numbers>,
+    code: usize,
+) -> Result<usize, AllocError>
+    requires within { code < length numbers.old.items }
+    requires lists { AreLists lists.old.items numbers.old.items }
+    ensures lists { AreLists lists.new.items numbers.new.items }
+    ensures same { lists_by lists.new.items numbers.new.items ≡ lists_by lists.old.items numbers.old.items }
+    ensures own { IfOk result (λ n. 0 < n) }
+    ensures number { IfOk result (λ n. slice_index_or numbers.new.items code 0 ≡ n) }
+{
+    let number = numbers[code] as usize;
+    if number > 0 {
+        return Ok(number);
+    }
+    let next = lists.len();
+    if next > 4294967295 {
+        return Err(AllocError);
+    }
+    lists.push(Numbers::new(alloc))?;
+    numbers[code] = next as u32;
+    Ok(next)
+}
+
 impl Occurrences {
-    /// An empty list for each literal of so many atoms.
+    /// No list has anything, for so many atoms.
     pub fn new(alloc: Global, atoms: usize) -> Result<Occurrences, AllocError>
         requires { atoms ≤ 4294967294 }
         ensures { IfOk result (λ o. o ≡ replicate (2 * atoms) []) }
     {
-        let count = 2 * atoms;
-        let mut lists = Vec::with_capacity(alloc, count)?;
-        for number in 0..count {
-            lists.push(Numbers::new(alloc))?;
-        }
-        Ok(Occurrences { lists })
+        let numbers = vec![in alloc; 0; 2 * atoms]?;
+        let mut lists = Vec::new(alloc);
+        lists.push(Numbers::new(alloc))?;
+        Ok(Occurrences {
+            numbers,
+            lists,
+            alloc,
+        })
     }
 
     /// The numbers of the clauses that may have a literal.
@@ -96,7 +132,7 @@ impl Occurrences {
         requires long { length self.now ≡ 2 * count_of sizes }
         ensures { result.now ≡ clauses_of sizes self.now lit }
     {
-        self.lists[code(sizes, lit)].items()
+        self.lists[self.numbers[code(sizes, lit)] as usize].items()
     }
 
     // Adds a number to a literal's list.
@@ -107,7 +143,9 @@ impl Occurrences {
         ensures listed { OnOk result (Contains (clauses_of sizes self.new lit) number) }
         ensures more { ListsMore self.old self.new }
     {
-        self.lists[code(sizes, lit)].push(number)
+        let (numbers, lists) = (&mut self.numbers, &mut self.lists);
+        let own = own_list(self.alloc, numbers, lists, code(sizes, lit))?;
+        self.lists[own].push(number)
     }
 
     /// Adds a clause's number to the lists of its literals.

@@ -5,7 +5,7 @@ ghost use Rattle.gh_base.specs.declared.atom.Atom.{Atom};
 ghost use Rattle.gh_base.specs.declared.atom.Lit.{Lit};
 ghost use Rattle.gh_base.specs.Atoms.{IsInRange, AreInRange};
 ghost use Rattle.gh_sat.specs.Trail.{State, IsFree, IsFalseIn, IsAssignmentOf, IsSound, cut, open_level};
-ghost use Rattle.gh_sat.specs.Status.{IsSettled};
+ghost use Rattle.gh_sat.specs.Status.{IsSettled, AreAssigned};
 ghost use Rattle.gh_sat.specs.Learn.{IsConflict, IsLearnt, AreReasons, add_clause};
 ghost use Rattle.gh_sat.specs.Whole.{GivesLast, Adds};
 ghost use Rattle.gh_sat.specs.Theory.{lits_of, IsTold, HasNoConflict, WereConsistent, PropagatesBeside};
@@ -170,6 +170,22 @@ impl<T: Theory> Search<T> {
         ensures some { IfSome result (λ lit. IsInRange self.old.sizes lit.atom × IsFree self.old.trail lit.atom × (self.new ≡ open_level self.old lit)) }
     {
         let atom = self.learner.next_free()?;
+        let lit = Lit {
+            atom,
+            positive: self.theory.prefers(atom),
+        };
+        self.learner.assume(lit);
+        Some(lit)
+    }
+
+    /// Opens a level with an atom of a clause that has no truth, if there is one. The theory says which truth is tried first.
+    pub fn decide_needed(&mut self) -> Option<Lit>
+        requires settled { IsSettled self.old }
+        requires consistent { HasNoConflict (T.valid self.old.sizes) self.old.trail }
+        ensures none { IfNone result ((self.new ≡ self.old) × AreAssigned self.old) }
+        ensures some { IfSome result (λ lit. IsInRange self.old.sizes lit.atom × IsFree self.old.trail lit.atom × (self.new ≡ open_level self.old lit)) }
+    {
+        let atom = self.learner.next_needed()?;
         let lit = Lit {
             atom,
             positive: self.theory.prefers(atom),

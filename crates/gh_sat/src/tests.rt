@@ -256,6 +256,39 @@ fn satisfiable(rt: HostRuntime) -> Result<(), Fail> {
     Ok(())
 }
 
+// How many decisions come before each atom of each clause has a truth, where no clause is false on the way.
+fn decided(alloc: Global, ground: &Ground) -> Result<Option<u32>, AllocError> {
+    if ground.defs() < 2 {
+        return Ok(None);
+    }
+    let theory = Apart::new(alloc, ground.sizes())?;
+    let mut search = Search::new(alloc, ground, theory)?;
+    for count in 0..1000 {
+        if search.propagate(alloc)?.is_some() {
+            return Ok(None);
+        }
+        if search.decide_needed().is_none() {
+            return Ok(Some(count));
+        }
+    }
+    Ok(None)
+}
+
+// Atoms that stand in no clause are never decided: none of thirty, and of one clause none but its own.
+#[test]
+fn needed(rt: HostRuntime) -> Result<(), Fail> {
+    let rows: [(&[&[i32]], u32); 3] = [(&[], 0), (&[&[1]], 0), (&[&[3, 4, 5]], 2)];
+    for (number, (clauses, wanted)) in rows.iter().enumerate() {
+        let ground = problem(rt.alloc(), 30, clauses)?;
+        assert_eq!(rt;
+            decided(rt.alloc(), &ground)?,
+            Some(*wanted),
+            "row {number}"
+        );
+    }
+    Ok(())
+}
+
 // The pigeon is in the hole, or isn't.
 fn placed(pigeon: u8, hole: u8, positive: bool) -> Lit {
     def(u32::from(pigeon) * 8 + u32::from(hole), positive)
@@ -467,44 +500,44 @@ fn is_learnt(alloc: Global, lesson: &Lesson) -> Result<bool, AllocError> {
     )
 }
 
-// With few conflicts the order is fixed: the equality is decided first, at level 1, then the definitions from the last
-// down, that one made true and the others false.
+// With few conflicts the order is fixed: the equality and the three atoms with a version are decided first, at levels 1 to
+// 4, then the definitions from the first on, each made false.
 #[test]
 fn lessons(rt: HostRuntime) -> Result<(), Fail> {
     let lessons = [
         Lesson {
             defs: 4,
-            clauses: &[&[2, 1], &[2, -1]],
-            learnt: &[2],
+            clauses: &[&[1, 2], &[1, -2]],
+            learnt: &[1],
             level: 0,
-            unit: 2,
+            unit: 1,
         },
-        // the example of Marques-Silva and Sakallah (GRASP, 1996): 13 is x9, 12 and 11 are the opposites of x12 and x13,
-        // 10 is x10, 9 is x11, 8 is the opposite of x1, and 7 to 1 are x2 to x8
+        // the example of Marques-Silva and Sakallah (GRASP, 1996): 1 is x9, 2 and 3 are the opposites of x12 and x13, 4 is
+        // x10, 5 is x11, 6 is the opposite of x1, and 7 to 13 are x2 to x8
         Lesson {
             defs: 15,
             clauses: &[
-                &[8, 7],
-                &[8, 6, 13],
-                &[-7, -6, 5],
-                &[-5, 4, 10],
-                &[-5, 3, 9],
-                &[-4, -3],
-                &[-8, 2, 12],
-                &[-8, 1],
-                &[-2, -1, 11],
+                &[6, 7],
+                &[6, 8, 1],
+                &[-7, -8, 9],
+                &[-9, 10, 4],
+                &[-9, 11, 5],
+                &[-10, -11],
+                &[-6, 12, 2],
+                &[-6, 13],
+                &[-12, -13, 3],
             ],
-            learnt: &[-5, 10, 9],
-            level: 8,
-            unit: -5,
+            learnt: &[-9, 4, 5],
+            level: 9,
+            unit: -9,
         },
         // a conflict of the theory
         Lesson {
             defs: 3,
-            clauses: &[&[-3, 2]],
-            learnt: &[-3],
+            clauses: &[&[1, 2], &[1, 3]],
+            learnt: &[1],
             level: 0,
-            unit: -3,
+            unit: 1,
         },
     ];
     for lesson in &lessons {
@@ -513,8 +546,8 @@ fn lessons(rt: HostRuntime) -> Result<(), Fail> {
     Ok(())
 }
 
-// Whether the first literals of the trail are these after all is decided over two terms and two definitions.
-fn begins(alloc: Global, wanted: &[Lit]) -> Result<bool, AllocError> {
+// Whether these literals stand at their places of the trail after all is decided over two terms and two definitions.
+fn stand(alloc: Global, wanted: &[(usize, Lit)]) -> Result<bool, AllocError> {
     let mut ground = Ground::new(alloc, 2, 1);
     ground.define();
     ground.define();
@@ -523,7 +556,7 @@ fn begins(alloc: Global, wanted: &[Lit]) -> Result<bool, AllocError> {
     next_conflict(alloc, &mut search)?;
     let steps = search.steps();
     Ok(
-        wanted.iter().enumerate().all(|(place, lit)| match steps.get(place) {
+        wanted.iter().all(|(place, lit)| match steps.get(*place) {
             None => false,
             Some(step) => step.lit.is_same(*lit),
         }),
@@ -583,15 +616,16 @@ fn unallocated(x: u8) -> Lit {
 #[test]
 fn decisions(rt: HostRuntime) -> Result<(), Fail> {
     let wanted = [
-        unequal(0, 0),
-        unequal(0, 1),
-        unequal(1, 1),
-        def(1, true),
-        def(0, false),
-        unallocated(1),
-        unallocated(0),
+        (0, unequal(0, 0)),
+        (1, unequal(0, 1)),
+        (2, unequal(1, 1)),
+        (3, unallocated(1)),
+        (4, unallocated(0)),
+        // after them four atoms of contents and eight of segments
+        (17, def(0, false)),
+        (18, def(1, true)),
     ];
-    assert!(rt; begins(rt.alloc(), &wanted)?);
+    assert!(rt; stand(rt.alloc(), &wanted)?);
     Ok(())
 }
 
@@ -618,9 +652,9 @@ fn level_with(alloc: Global, names: &[i32]) -> Result<Option<(u32, bool)>, Alloc
 fn added(rt: HostRuntime) -> Result<(), Fail> {
     let rows: [(&[i32], u32, bool); 5] = [
         (&[-1, 2], 8, false),
-        (&[1, 2], 5, true),
-        (&[3, 2], 4, true),
-        (&[3], 3, true),
+        (&[1, 2], 6, true),
+        (&[3, 2], 7, true),
+        (&[2], 6, true),
         (&[], 0, true),
     ];
     for (names, level, is_false) in rows {

@@ -5,6 +5,7 @@ ghost use Rattle.gh_base.specs.Atoms.{IsInRange, count_of, number_of};
 ghost use Rattle.gh_sat.specs.Trail.{IsPassed, turned};
 
 use crate::activity::Activity;
+use crate::hinted::Hinted;
 use crate::rows::Numbered;
 use gh_base::assignment::Assignment;
 use gh_base::atom::{Atom, Lit};
@@ -30,6 +31,8 @@ pub(crate) struct Trail {
     // Each atom with a lower place in the order of decisions has a truth.
     cursor: u32,
     activity: Activity,
+    // Places in the order of decisions at which a free atom of a clause may stand.
+    hinted: Hinted,
 }
 
 impl Model for Trail {
@@ -51,7 +54,7 @@ impl Model for Trail {
 }
 
 // The number of the atom at a place in the order of decisions, and the place of the atom of a number: equalities stand
-// first, then the other atoms from the greatest number down.
+// first, then the atoms with a version from the greatest number down, then definitions.
 fn turned(sizes: Sizes, number: usize) -> usize
     requires { number < count_of sizes }
     ensures turned { result ≡ turned sizes number }
@@ -59,11 +62,14 @@ fn turned(sizes: Sizes, number: usize) -> usize
 {
     let terms = sizes.terms as usize;
     let equalities = terms * (terms + 1) / 2;
+    let definitions = sizes.count() - sizes.defs as usize;
     if number < equalities {
-        number
-    } else {
-        equalities + (sizes.count() - 1 - number)
+        return number;
     }
+    if number >= definitions {
+        return number;
+    }
+    equalities + (definitions - 1 - number)
 }
 
 // The first place from this one on whose atom has no truth, or the number of all atoms.
@@ -101,6 +107,23 @@ fn free_of(values: &Assignment, activity: &mut Activity) -> Option<u32>
     None
 }
 
+// The first place at which a hint points and whose atom has no truth, if there is one.
+fn hinted_of(values: &Assignment, hinted: &mut Hinted) -> Option<usize>
+    ensures range { IfSome result (λ place. place < count_of values.now.sizes) }
+    ensures free { IfSome result (λ place. slice_get values.now.values (turned values.now.sizes place) ≡ Some None) }
+{
+    let sizes = values.sizes();
+    for _attempt in 0..sizes.count() {
+        let Some(place) = hinted.take() else {
+            return None;
+        };
+        if place < sizes.count() && values.values()[turned(sizes, place)].is_none() {
+            return Some(place);
+        }
+    }
+    None
+}
+
 impl Trail {
     ghost use Rattle.gh_base.specs.declared.atom.Atom.{Atom};
     ghost use Rattle.gh_sat.specs.declared.trail.Step.{Step};
@@ -120,6 +143,7 @@ impl Trail {
             steps: Vec::with_capacity(alloc, count)?,
             cursor: 0,
             activity: Activity::new(alloc, count)?,
+            hinted: Hinted::new(alloc, count)?,
         })
     }
 
@@ -200,6 +224,7 @@ impl Trail {
         let place = turned(sizes, sizes.number(step.lit.atom)) as u32;
         self.values.clear(step.lit.atom);
         self.activity.offer(place);
+        self.hinted.set(place as usize);
         if place < self.cursor {
             self.cursor = place;
         }
@@ -236,7 +261,7 @@ impl Trail {
     }
 
     /// An atom with no truth, if there is one: after some conflicts the one that stood in most and latest of them, else
-    /// the first in the order of decisions. There equalities come first, then the others from the greatest number down.
+    /// the first in the order of decisions.
     pub fn next_free(&mut self) -> Option<Atom>
         ensures same { self.new ≡ self.old }
         ensures some { IfSome result (λ a. IsInRange self.old.sizes a × IsFree self.old.steps a) }
@@ -252,6 +277,31 @@ impl Trail {
             Some(sizes.atom(turned(sizes, place as usize)))
         } else {
             None
+        }
+    }
+
+    /// Hints at an atom by its number.
+    pub fn hint(&mut self, number: usize)
+        ensures same { self.new ≡ self.old }
+    {
+        let sizes = self.values.sizes();
+        if number < sizes.count() {
+            self.hinted.set(turned(sizes, number));
+        }
+    }
+
+    /// An atom with no truth at which a hint points, or that stood in conflicts, if there is one.
+    pub fn next_hinted(&mut self) -> Option<Atom>
+        ensures same { self.new ≡ self.old }
+        ensures some { IfSome result (λ a. IsInRange self.old.sizes a × IsFree self.old.steps a) }
+    {
+        let sizes = self.values.sizes();
+        if let Some(place) = free_of(&self.values, &mut self.activity) {
+            return Some(sizes.atom(turned(sizes, place as usize)));
+        }
+        match hinted_of(&self.values, &mut self.hinted) {
+            None => None,
+            Some(place) => Some(sizes.atom(turned(sizes, place))),
         }
     }
 }

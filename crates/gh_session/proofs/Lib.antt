@@ -13,3 +13,4 @@ pub mod Placings
 pub mod Cutting
 pub mod Separating
 pub mod PieceLemmas
+pub mod Unique

@@ -1,8 +1,10 @@
 -- The laws.
-use Rattle.std.specs.Prelude.{◌≡◌, ◌↔◌, List, Some, slice_get}
+use Rattle.std.specs.Prelude.{◌≡◌, ◌↔◌, ℕ, List, Some, slice_get, Contains}
 use Rattle.gh_ast.specs.Plain.{Procedure, Program}
 use Rattle.gh_ast.specs.Rules.{IsTyped}
 use Rattle.gh_path.specs.Conditions.{Condition}
+use Rattle.gh_path.specs.Graphs.{Loop}
+use Rattle.gh_path.specs.Kept.{IsLoop}
 use Rattle.gh_path.specs.declared.condition.Condition as kept
 use Rattle.gh_trace.specs.Traces.{State, Counterexample}
 use Rattle.gh_trace.specs.Kept.{IsKept, IsOne, HasCounterexample, HasNoCounterexample}
@@ -18,6 +20,15 @@ pub record HasEssence (P : Program) (r : kept.Condition) (E : Essence) : Type 0 
   pub procedure : Procedure
   pub at : slice_get P.procedures r.procedure ≡ Some procedure
   pub is : essence P procedure r ≡ E
+
+-- no two loops of a procedure are one; in a text they differ by their places
+abbrev pub HasDifferentLoops : Program → Type 0
+HasDifferentLoops P = (p : Procedure) → Contains P.procedures p → (i j : ℕ) (l : Loop) → IsLoop p i l → IsLoop p j l → i ≡ j
+
+-- a condition has one essence, however it is kept
+abbrev pub HaveOneEssence : Type 0
+HaveOneEssence =
+    (P : Program) (r s : kept.Condition) (c : Condition) (E F : Essence) → HasDifferentLoops P → IsKept P r c → IsKept P s c → HasEssence P r E → HasEssence P s F → E ≡ F
 
 -- a condition has the counterexamples of its essence
 pub record Decides (P : Program) (c : Condition) (E : Essence) : Type 0 where

@@ -1,6 +1,7 @@
 //! Whether two essences are one.
 
 ghost use Rattle.std.specs.Prelude.{◌≡◌, ◌↔◌, map, IsTrue};
+ghost use Rattle.gh_session.specs.Essences as plain;
 ghost use Rattle.gh_session.specs.Views.{contract_view, round_view, start_view, step_view, check_view, essence_view};
 
 use crate::essence::{Check, Contract, Essence, Round, Start, Step};
@@ -114,6 +115,76 @@ fn is_same_start(one: &Start, other: &Start) -> bool
     }
 }
 
+// Whether a step assumes this comparison.
+fn is_assume(left: &Expr, equal: bool, right: &Expr, step: &Step) -> bool
+    ensures { IsTrue result ↔ (plain.assumed left.now equal right.now ≡ step_view step.now) }
+{
+    let Step::Assume {
+        left: first,
+        equal: way,
+        right: second,
+    } = step
+    else {
+        return false;
+    };
+    is_same_expr(left, first) && equal == *way && is_same_expr(right, second)
+}
+
+// Whether a step sets this variable to this value.
+fn is_set(target: &Name, value: &Expr, step: &Step) -> bool
+    ensures { IsTrue result ↔ (plain.assigned target.now value.now ≡ step_view step.now) }
+{
+    let Step::Set {
+        target: name,
+        value: content,
+    } = step
+    else {
+        return false;
+    };
+    is_same_name(target, name) && is_same_expr(value, content)
+}
+
+// Whether a step writes this value at this variable.
+fn is_write(at: &Name, value: &Expr, step: &Step) -> bool
+    ensures { IsTrue result ↔ (plain.written at.now value.now ≡ step_view step.now) }
+{
+    let Step::Write {
+        at: place,
+        value: content,
+    } = step
+    else {
+        return false;
+    };
+    is_same_name(at, place) && is_same_expr(value, content)
+}
+
+// Whether a step is this call.
+fn is_call(targets: &[Name], contract: usize, arguments: &[Expr], step: &Step) -> bool
+    ensures { IsTrue result ↔ (plain.called targets.now contract arguments.now ≡ step_view step.now) }
+{
+    let Step::Call {
+        targets: names,
+        contract: place,
+        arguments: values,
+    } = step
+    else {
+        return false;
+    };
+    are_same_names(targets, names.as_slice())
+        && contract == *place
+        && are_same_exprs(arguments, values.as_slice())
+}
+
+// Whether a step returns these values.
+fn is_return(values: &[Expr], step: &Step) -> bool
+    ensures { IsTrue result ↔ (plain.answered values.now ≡ step_view step.now) }
+{
+    let Step::Return { values: contents } = step else {
+        return false;
+    };
+    are_same_exprs(values, contents.as_slice())
+}
+
 // Whether two steps are one.
 fn is_same_step(one: &Step, other: &Step) -> bool
     ensures { IsTrue result ↔ (step_view one.now ≡ step_view other.now) }
@@ -125,43 +196,15 @@ fn is_same_step(one: &Step, other: &Step) -> bool
             };
             is_same_name(at, place)
         }
-        Step::Assume { left, equal, right } => {
-            let Step::Assume {
-                left: first,
-                equal: way,
-                right: second,
-            } = other
-            else {
-                return false;
-            };
-            is_same_expr(left, first) && equal == way && is_same_expr(right, second)
-        }
-        Step::Set { target, value } => {
-            let Step::Set {
-                target: name,
-                value: content,
-            } = other
-            else {
-                return false;
-            };
-            is_same_name(target, name) && is_same_expr(value, content)
-        }
+        Step::Assume { left, equal, right } => is_assume(left, *equal, right, other),
+        Step::Set { target, value } => is_set(target, value, other),
         Step::New { target } => {
             let Step::New { target: name } = other else {
                 return false;
             };
             is_same_name(target, name)
         }
-        Step::Write { at, value } => {
-            let Step::Write {
-                at: place,
-                value: content,
-            } = other
-            else {
-                return false;
-            };
-            is_same_name(at, place) && is_same_expr(value, content)
-        }
+        Step::Write { at, value } => is_write(at, value, other),
         Step::Free { at } => {
             let Step::Free { at: place } = other else {
                 return false;
@@ -172,31 +215,14 @@ fn is_same_step(one: &Step, other: &Step) -> bool
             targets,
             contract,
             arguments,
-        } => {
-            let Step::Call {
-                targets: names,
-                contract: place,
-                arguments: values,
-            } = other
-            else {
-                return false;
-            };
-            are_same_names(targets.as_slice(), names.as_slice())
-                && contract == place
-                && are_same_exprs(arguments.as_slice(), values.as_slice())
-        }
+        } => is_call(targets.as_slice(), *contract, arguments.as_slice(), other),
         Step::Loop { number } => {
             let Step::Loop { number: place } = other else {
                 return false;
             };
             number == place
         }
-        Step::Return { values } => {
-            let Step::Return { values: contents } = other else {
-                return false;
-            };
-            are_same_exprs(values.as_slice(), contents.as_slice())
-        }
+        Step::Return { values } => is_return(values.as_slice(), other),
     }
 }
 
@@ -217,6 +243,20 @@ fn are_same_steps(some: &[Step], others: &[Step]) -> bool
     left.is_empty()
 }
 
+// Whether a check is that of this call's entry.
+fn is_entry(contract: usize, arguments: &[Expr], check: &Check) -> bool
+    ensures { IsTrue result ↔ (plain.entry contract arguments.now ≡ check_view check.now) }
+{
+    let Check::Entry {
+        contract: place,
+        arguments: values,
+    } = check
+    else {
+        return false;
+    };
+    contract == *place && are_same_exprs(arguments, values.as_slice())
+}
+
 // Whether two checks are one.
 fn is_same_check(one: &Check, other: &Check) -> bool
     ensures { IsTrue result ↔ (check_view one.now ≡ check_view other.now) }
@@ -231,16 +271,7 @@ fn is_same_check(one: &Check, other: &Check) -> bool
         Check::Entry {
             contract,
             arguments,
-        } => {
-            let Check::Entry {
-                contract: place,
-                arguments: values,
-            } = other
-            else {
-                return false;
-            };
-            contract == place && are_same_exprs(arguments.as_slice(), values.as_slice())
-        }
+        } => is_entry(*contract, arguments.as_slice(), other),
         Check::LoopEntry { number } => {
             let Check::LoopEntry { number: place } = other else {
                 return false;

@@ -2,6 +2,7 @@
 
 ghost use Rattle.std.specs.Prelude.{◌≡◌, ◌++◌, map, filter, get_or, slice_get, Some, None, IfOk, IfSome, IfNone};
 ghost use Rattle.gh_ast.specs.Plain.{procedure_of, program_of, statements_view};
+ghost use Rattle.gh_ast.specs.Bare.{bare_expr};
 ghost use Rattle.gh_ast.specs.Programs.{names, variable_names};
 ghost use Rattle.gh_path.specs.Terms.{some_assigns};
 ghost use Rattle.gh_path.specs.Walking.{loop_of};
@@ -193,6 +194,53 @@ fn rounds_of(alloc: Global, condition: &Condition) -> Result<Vec<u16>, AllocErro
     Ok(numbers)
 }
 
+// The step that assumes a comparison.
+fn assume(alloc: Global, left: &Expr, equal: bool, right: &Expr) -> Result<Step, AllocError>
+    ensures { IfOk result (λ s. step_view s ≡ plain.assumed (bare_expr left.now) equal (bare_expr right.now)) }
+{
+    Ok(Step::Assume {
+        left: expr(alloc, left)?,
+        equal,
+        right: expr(alloc, right)?,
+    })
+}
+
+// The step that sets a variable.
+fn set(alloc: Global, target: &Occ, value: &Expr) -> Result<Step, AllocError>
+    ensures { IfOk result (λ s. step_view s ≡ plain.assigned target.now.name (bare_expr value.now)) }
+{
+    Ok(Step::Set {
+        target: target.name.copy(alloc)?,
+        value: expr(alloc, value)?,
+    })
+}
+
+// The step that writes a cell.
+fn write(alloc: Global, at: &Occ, value: &Expr) -> Result<Step, AllocError>
+    ensures { IfOk result (λ s. step_view s ≡ plain.written at.now.name (bare_expr value.now)) }
+{
+    Ok(Step::Write {
+        at: at.name.copy(alloc)?,
+        value: expr(alloc, value)?,
+    })
+}
+
+// The call of the procedure with a contract.
+fn call(
+    alloc: Global,
+    targets: &[Occ],
+    contract: usize,
+    arguments: &[Expr],
+) -> Result<Step, AllocError>
+    ensures { IfOk result (λ s. step_view s ≡ plain.called (names targets.now) contract (map bare_expr arguments.now)) }
+{
+    Ok(Step::Call {
+        targets: names(alloc, targets)?,
+        contract,
+        arguments: exprs(alloc, arguments)?,
+    })
+}
+
 // A step, its procedures and loops numbered by the lists.
 fn step_in(
     alloc: Global,
@@ -206,19 +254,9 @@ fn step_in(
         PathStep::Access { at } => Ok(Step::Access {
             at: at.name.copy(alloc)?,
         }),
-        PathStep::Assume { left, equal, right } => Ok(Step::Assume {
-            left: expr(alloc, left)?,
-            equal: *equal,
-            right: expr(alloc, right)?,
-        }),
-        PathStep::Set { target, value } => Ok(Step::Set {
-            target: target.name.copy(alloc)?,
-            value: expr(alloc, value)?,
-        }),
-        PathStep::Write { at, value } => Ok(Step::Write {
-            at: at.name.copy(alloc)?,
-            value: expr(alloc, value)?,
-        }),
+        PathStep::Assume { left, equal, right } => Ok(assume(alloc, left, *equal, right)?),
+        PathStep::Set { target, value } => Ok(set(alloc, target, value)?),
+        PathStep::Write { at, value } => Ok(write(alloc, at, value)?),
         PathStep::New { target } => Ok(Step::New {
             target: target.name.copy(alloc)?,
         }),
@@ -229,11 +267,10 @@ fn step_in(
             targets,
             callee,
             arguments,
-        } => Ok(Step::Call {
-            targets: names(alloc, targets.as_slice())?,
-            contract: place(*callee, procedures),
-            arguments: exprs(alloc, arguments.as_slice())?,
-        }),
+        } => {
+            let contract = place(*callee, procedures);
+            Ok(call(alloc, targets.as_slice(), contract, arguments.as_slice())?)
+        }
         PathStep::Loop { number } => Ok(Step::Loop {
             number: place(*number, loops),
         }),

@@ -1,11 +1,12 @@
 //! A number of an essence's content, by which it is found.
 
 ghost use Rattle.std.specs.Prelude.{◌≡◌, map};
+ghost use Rattle.gh_ast.specs.Plain.{test_of, tests_view, comparison, formula_of, formulas_view};
 ghost use Rattle.gh_session.specs.Fingerprint as plain;
 ghost use Rattle.gh_session.specs.Views.{contract_view, round_view, start_view, step_view, check_view, essence_view};
 
 use crate::essence::{Check, Contract, Essence, Round, Start, Step};
-use gh_ast::{Expr, Operand};
+use gh_ast::{Assertion, Cond, Expr, Operand};
 use gh_base::name::Name;
 
 // A number with one more mixed in.
@@ -19,7 +20,7 @@ fn mix(hash: u64, number: u64) -> u64
 fn with_name(hash: u64, name: &Name) -> u64
     ensures { result ≡ plain.with_name hash name.now }
 {
-    let mut mixed = hash;
+    let mut mixed = mix(hash, name.bytes().len() as u64);
     for byte in name.bytes() {
         mixed = mix(mixed, u64::from(*byte));
     }
@@ -28,9 +29,9 @@ fn with_name(hash: u64, name: &Name) -> u64
 
 // With some names mixed in.
 fn with_names(hash: u64, names: &[Name]) -> u64
-    ensures { result ≡ plain.over plain.with_name hash names.now }
+    ensures { result ≡ plain.counted plain.with_name hash names.now }
 {
-    let mut mixed = hash;
+    let mut mixed = mix(hash, names.len() as u64);
     for name in names {
         mixed = with_name(mixed, name);
     }
@@ -59,11 +60,89 @@ fn with_expr(hash: u64, expr: &Expr) -> u64
 
 // With some expressions mixed in.
 fn with_exprs(hash: u64, exprs: &[Expr]) -> u64
-    ensures { result ≡ plain.over plain.with_expr hash exprs.now }
+    ensures { result ≡ plain.counted plain.with_expr hash exprs.now }
 {
-    let mut mixed = hash;
+    let mut mixed = mix(hash, exprs.len() as u64);
     for expr in exprs {
         mixed = with_expr(mixed, expr);
+    }
+    mixed
+}
+
+// With a test mixed in.
+#[cycle(test)]
+fn with_test(hash: u64, test: &Cond) -> u64
+    ensures { result ≡ plain.with_test hash (test_of test.now) }
+{
+    match test {
+        Cond::Compare { left, equal, right } => {
+            let way = if *equal { 21 } else { 22 };
+            with_expr(with_expr(mix(hash, way), left), right)
+        }
+        Cond::Not(inner) => with_test(mix(hash, 23), inner),
+        Cond::And(members) => with_tests(mix(hash, 24), members.as_slice()),
+        Cond::Or(members) => with_tests(mix(hash, 25), members.as_slice()),
+    }
+}
+
+// With the members of a test mixed in.
+#[cycle(test)]
+fn with_tests(hash: u64, members: &[Cond]) -> u64
+    ensures { result ≡ plain.with_tests hash (tests_view members.now) }
+{
+    let mut mixed = hash;
+    for member in members {
+        mixed = with_test(mixed, member);
+    }
+    mix(mixed, 26)
+}
+
+// With a comparison of an assertion mixed in.
+fn with_comparison(hash: u64, left: &Operand, equal: bool, right: &Operand) -> u64
+    ensures { result ≡ plain.with_formula hash (comparison left.now equal right.now) }
+{
+    let way = if equal { 28 } else { 29 };
+    with_operand(with_operand(mix(hash, way), left), right)
+}
+
+// With an assertion mixed in.
+#[cycle(assertion)]
+fn with_assertion(hash: u64, whole: &Assertion) -> u64
+    ensures { result ≡ plain.with_formula hash (formula_of whole.now) }
+{
+    match whole {
+        Assertion::Emp => mix(hash, 27),
+        Assertion::Pure { left, equal, right } => with_comparison(hash, left, *equal, right),
+        Assertion::PointsTo { at, to } => with_operand(with_name(mix(hash, 30), &at.name), to),
+        Assertion::Acc { at } => with_name(mix(hash, 31), &at.name),
+        Assertion::Lseg { from, to } => with_operand(with_operand(mix(hash, 32), from), to),
+        Assertion::Star(members) => with_assertions(mix(hash, 33), members.as_slice()),
+        Assertion::Cases { test, yes, no } => {
+            let tested = with_test(mix(hash, 34), test);
+            with_assertion(with_assertion(tested, yes), no)
+        }
+    }
+}
+
+// With the members of an assertion mixed in.
+#[cycle(assertion)]
+fn with_assertions(hash: u64, members: &[Assertion]) -> u64
+    ensures { result ≡ plain.with_formulas hash (formulas_view members.now) }
+{
+    let mut mixed = hash;
+    for member in members {
+        mixed = with_assertion(mixed, member);
+    }
+    mix(mixed, 35)
+}
+
+// With some alternatives mixed in.
+fn counted_assertions(hash: u64, members: &[Assertion]) -> u64
+    ensures { result ≡ plain.counted plain.with_formula hash (map formula_of members.now) }
+{
+    let mut mixed = mix(hash, members.len() as u64);
+    for member in members {
+        mixed = with_assertion(mixed, member);
     }
     mixed
 }
@@ -74,27 +153,38 @@ fn with_contract(hash: u64, contract: &Contract) -> u64
 {
     let parameters = with_names(hash, contract.parameters.as_slice());
     let results = with_names(parameters, contract.results.as_slice());
-    mix(results, contract.gives.len() as u64)
+    let needs = with_assertion(results, &contract.needs);
+    counted_assertions(needs, contract.gives.as_slice())
 }
 
 // With some contracts mixed in.
 fn with_contracts(hash: u64, contracts: &[Contract]) -> u64
-    ensures { result ≡ plain.over plain.with_contract hash (map contract_view contracts.now) }
+    ensures { result ≡ plain.counted plain.with_contract hash (map contract_view contracts.now) }
 {
-    let mut mixed = hash;
+    let mut mixed = mix(hash, contracts.len() as u64);
     for contract in contracts {
         mixed = with_contract(mixed, contract);
     }
     mixed
 }
 
+// With a loop mixed in.
+fn with_round(hash: u64, round: &Round) -> u64
+    ensures { result ≡ plain.with_round hash (round_view round.now) }
+{
+    with_assertion(
+        with_names(hash, round.assigned.as_slice()),
+        &round.invariant,
+    )
+}
+
 // With some loops mixed in.
 fn with_rounds(hash: u64, rounds: &[Round]) -> u64
-    ensures { result ≡ plain.over plain.with_round hash (map round_view rounds.now) }
+    ensures { result ≡ plain.counted plain.with_round hash (map round_view rounds.now) }
 {
-    let mut mixed = hash;
+    let mut mixed = mix(hash, rounds.len() as u64);
     for round in rounds {
-        mixed = with_names(mixed, round.assigned.as_slice());
+        mixed = with_round(mixed, round);
     }
     mixed
 }
@@ -138,9 +228,9 @@ fn with_step(hash: u64, step: &Step) -> u64
 
 // With some steps mixed in.
 fn with_steps(hash: u64, steps: &[Step]) -> u64
-    ensures { result ≡ plain.over plain.with_step hash (map step_view steps.now) }
+    ensures { result ≡ plain.counted plain.with_step hash (map step_view steps.now) }
 {
-    let mut mixed = hash;
+    let mut mixed = mix(hash, steps.len() as u64);
     for step in steps {
         mixed = with_step(mixed, step);
     }

@@ -1,6 +1,11 @@
 //! Laws of essences.
 
-ghost use Rattle.gh_session.specs.Laws.{EssencesAnswer, EssencesDecide, SameAnswers, SameCounterexamples};
+ghost use Rattle.gh_session.specs.Laws.{EssencesAnswer, EssencesDecide, HaveOneEssence, SameAnswers, SameCounterexamples};
+
+/// A condition has one essence, however it is kept.
+pub fn have_one_essence()
+    ensures { HaveOneEssence }
+{}
 
 /// States refute a condition where they refute its essence.
 pub fn essences_decide()

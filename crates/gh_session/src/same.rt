@@ -1,7 +1,7 @@
 //! Whether two parts of essences are one.
 
 ghost use Rattle.std.specs.Prelude.{◌≡◌, ◌↔◌, map, IsTrue};
-ghost use Rattle.gh_ast.specs.Plain.{test_of, formula_of};
+ghost use Rattle.gh_ast.specs.Plain.{test_of, comparison, points_to, segment, formula_of};
 
 use gh_ast::{Assertion, Cond, Expr, Occ, Operand};
 use gh_base::name::Name;
@@ -108,6 +108,49 @@ fn are_same_tests(some: &[Cond], others: &[Cond]) -> bool
     left.is_empty()
 }
 
+// Whether an assertion is this comparison.
+fn is_comparison(left: &Operand, equal: bool, right: &Operand, assertion: &Assertion) -> bool
+    ensures { IsTrue result ↔ (comparison left.now equal right.now ≡ formula_of assertion.now) }
+{
+    let Assertion::Pure {
+        left: first,
+        equal: way,
+        right: second,
+    } = assertion
+    else {
+        return false;
+    };
+    is_same_operand(left, first) && equal == *way && is_same_operand(right, second)
+}
+
+// Whether an assertion is this cell with its content.
+fn is_points_to(at: &Occ, to: &Operand, assertion: &Assertion) -> bool
+    ensures { IsTrue result ↔ (points_to at.now to.now ≡ formula_of assertion.now) }
+{
+    let Assertion::PointsTo {
+        at: place,
+        to: content,
+    } = assertion
+    else {
+        return false;
+    };
+    is_same_occ(at, place) && is_same_operand(to, content)
+}
+
+// Whether an assertion is this segment.
+fn is_segment(from: &Operand, to: &Operand, assertion: &Assertion) -> bool
+    ensures { IsTrue result ↔ (segment from.now to.now ≡ formula_of assertion.now) }
+{
+    let Assertion::Lseg {
+        from: first,
+        to: second,
+    } = assertion
+    else {
+        return false;
+    };
+    is_same_operand(from, first) && is_same_operand(to, second)
+}
+
 /// Whether two assertions are one.
 #[cycle(assertion)]
 pub fn is_same_assertion(one: &Assertion, other: &Assertion) -> bool
@@ -120,43 +163,15 @@ pub fn is_same_assertion(one: &Assertion, other: &Assertion) -> bool
             };
             true
         }
-        Assertion::Pure { left, equal, right } => {
-            let Assertion::Pure {
-                left: first,
-                equal: way,
-                right: second,
-            } = other
-            else {
-                return false;
-            };
-            is_same_operand(left, first) && equal == way && is_same_operand(right, second)
-        }
-        Assertion::PointsTo { at, to } => {
-            let Assertion::PointsTo {
-                at: place,
-                to: content,
-            } = other
-            else {
-                return false;
-            };
-            is_same_occ(at, place) && is_same_operand(to, content)
-        }
+        Assertion::Pure { left, equal, right } => is_comparison(left, *equal, right, other),
+        Assertion::PointsTo { at, to } => is_points_to(at, to, other),
         Assertion::Acc { at } => {
             let Assertion::Acc { at: place } = other else {
                 return false;
             };
             is_same_occ(at, place)
         }
-        Assertion::Lseg { from, to } => {
-            let Assertion::Lseg {
-                from: first,
-                to: second,
-            } = other
-            else {
-                return false;
-            };
-            is_same_operand(from, first) && is_same_operand(to, second)
-        }
+        Assertion::Lseg { from, to } => is_segment(from, to, other),
         Assertion::Star(members) => {
             let Assertion::Star(parts) = other else {
                 return false;

@@ -13,7 +13,7 @@ use gh_base::ground::Ground;
 use gh_base::structure::Structure;
 use gh_ground::solve::{Answer, solve};
 use gh_log::lines::Section;
-use gh_model::build::heap;
+use gh_model::build::heap_of;
 use std::alloc::{AllocError, Global};
 
 /// A model, how many cells its first heap has, and where it has one, the section that shows that no model
@@ -32,7 +32,7 @@ pub fn first_cells(alloc: Global, structure: &Structure) -> Result<u32, AllocErr
 {
     let _sizes = structure.sizes();
     let _terms = structure.terms();
-    let heap = heap(alloc, structure, 0)?;
+    let heap = heap_of(alloc, structure, 0)?;
     Ok(heap.cells().len() as u32)
 }
 

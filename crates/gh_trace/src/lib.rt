@@ -5,7 +5,7 @@ mod checks;
 pub mod decider;
 mod heaps;
 pub mod laws;
-mod parts;
+pub mod parts;
 pub mod replay;
 mod scene;
 pub mod state;

@@ -3,11 +3,11 @@
 
 mod body;
 pub mod check;
-mod counts;
-mod fault;
+pub mod counts;
+pub mod fault;
 mod fields;
 mod limits;
-mod names;
+pub mod names;
 mod occurrences;
 mod procedures;
 mod scope;

@@ -1,17 +1,21 @@
-use Rattle.std.proofs.Common.{ap}
+use Rattle.std.proofs.Common.{ap, subst, sym, IfOk, IfErr}
+use Rattle.gh_ast.specs.Grammar.{SpellsProgram}
+use Rattle.gh_ast.specs.Plain.{program_of}
+use Rattle.gh_ast.specs.WellFormed.{IsWellFormed}
 use Rattle.gh_ast.proofs.Formed.{program_is_formed}
+use Rattle.gh_parse.specs.Parsing.{IsParseRefusal, IsScanned}
 use Rattle.gh_parse.specs.Views.{tokens_of}
-use Rattle.gh_parse.proofs.Parsed.{refused_at, cut_short}
+use Rattle.gh_parse.proofs.Parsed.{answer_keeps, answer_refused}
 use Rattle.gh_parse.proofs.parse.parse.Goals as goal
 
-pub returns-then-not-lexed-clause-refused : goal.returns-then-not-lexed-clause-refused
-returns-then-not-lexed-clause-refused c =
-    cut_short c.in_default.ensures c.in_default-deep_bracket.ensures c.in_ok-lexed.ensures (ap tokens_of c.as_slice.ensures.value) c.in-Ok.ensures c.if-not-lexed.true
+pub returns-clause-formed : goal.returns-clause-formed
+returns-clause-formed c =
+    subst (λ r. IfOk r (λ p. IsWellFormed (program_of p))) (sym c.answer.ensures)
+    (answer_keeps SpellsProgram _ _ _ c.in_ok-lexed.lexed.whole program_of c.program-read.result (λ p. IsWellFormed (program_of p)) (λ p s. program_is_formed s) c.program-read.ensures)
 
-pub returns-in-Err-Unexpected-clause-refused : goal.returns-in-Err-Unexpected-clause-refused
-returns-in-Err-Unexpected-clause-refused c =
-    refused_at _ c.in_default.ensures c.in_default-deep_bracket.ensures c.in_ok-lexed.ensures (ap tokens_of c.as_slice.ensures.value) c.in-Err-Unexpected.field-0-is
-    c.in-Err-Unexpected.ensures c.place-span.ensures
-
-pub returns-in-Ok-clause-formed : goal.returns-in-Ok-clause-formed
-returns-in-Ok-clause-formed c = program_is_formed c.in-Ok.ensures.program
+pub returns-clause-refused : goal.returns-clause-refused
+returns-clause-refused c =
+    let lexed = c.in_ok-lexed.lexed in
+    subst (λ r. IfErr r (IsParseRefusal c.args.text.now)) (sym c.answer.ensures)
+    (answer_refused SpellsProgram _ lexed.whole program_of c.program-read.result
+    (subst (λ ts. IsScanned c.args.text.now ts lexed.end lexed.whole) (sym (ap tokens_of c.as_slice.ensures.value)) c.in_ok-lexed.ensures) c.program-read.ensures)

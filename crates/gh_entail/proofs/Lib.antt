@@ -1,0 +1,17 @@
+pub mod Witnesses
+pub mod Depictions
+pub mod Looking
+pub mod Walking
+pub mod Moving
+pub mod Valuing
+pub mod Saying
+pub mod Reflecting
+pub mod Failing
+pub mod Improper
+pub mod Sections
+pub mod Examples
+pub mod Leaves
+pub mod Faults
+pub mod Inside
+pub mod Stating
+pub mod Answering

@@ -1,0 +1,12 @@
+pub mod Meaning
+pub mod Rules
+pub mod Checks
+pub mod Limits
+pub mod Terms
+pub mod Formulas
+pub mod Alike
+pub mod Hops
+pub mod Laws
+pub mod Examples
+pub mod Asked
+pub mod Answers

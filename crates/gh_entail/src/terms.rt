@@ -1,0 +1,81 @@
+//! The terms of a question.
+
+ghost use Rattle.std.specs.Prelude.{◌≡◌, ◌<◌, ◌≤◌, IfOk, OnOk, MatchOption};
+ghost use Rattle.gh_ast.specs.Questions.{claim_of, claims_view, question_of};
+ghost use Rattle.gh_symb.specs.Tables.{state};
+ghost use Rattle.gh_entail.specs.Asked.{AreTerms};
+ghost use Rattle.gh_entail.specs.Limits.{count_terms};
+ghost use Rattle.gh_entail.specs.Terms.{claim_walked, claims_walked};
+
+use gh_ast::question::{Claim, Question};
+use gh_grass::binding::Binding;
+use gh_grass::terms::TermList;
+use gh_symb::count::MOST_TERMS;
+use gh_symb::kinds::Kinds;
+use gh_symb::scope::Scope;
+use std::alloc::{AllocError, Global};
+
+/// The terms of a question, and those of its variables.
+#[derive(Debug, Drop)]
+pub struct QuestionTerms {
+    pub terms: TermList,
+    pub binding: Binding,
+}
+
+// Walks over a claim: after each negative leaf there is one value more.
+#[cycle(walk_claim)]
+fn walk_claim<'a>(
+    scope: &mut Scope<'a>,
+    kinds: &mut Kinds,
+    claim: &'a Claim,
+    negative: bool,
+) -> Result<(), AllocError>
+    ensures { OnOk result (state kinds.new scope.new 0 ≡ claim_walked negative (claim_of claim.now) (state kinds.old scope.old 0)) }
+{
+    match claim {
+        Claim::Leaf(assertion) => {
+            scope.walk(kinds, assertion, 0)?;
+            if negative {
+                kinds.add_value()?;
+            }
+            Ok(())
+        }
+        Claim::Not(inner) => walk_claim(scope, kinds, inner, !negative),
+        Claim::And(members) => walk_claims(scope, kinds, members.as_slice(), negative),
+        Claim::Or(members) => walk_claims(scope, kinds, members.as_slice(), negative),
+    }
+}
+
+// Walks over claims in their order.
+#[cycle(walk_claim)]
+fn walk_claims<'a>(
+    scope: &mut Scope<'a>,
+    kinds: &mut Kinds,
+    claims: &'a [Claim],
+    negative: bool,
+) -> Result<(), AllocError>
+    ensures { OnOk result (state kinds.new scope.new 0 ≡ claims_walked negative (claims_view claims.now) (state kinds.old scope.old 0)) }
+{
+    for claim in claims {
+        walk_claim(scope, kinds, claim, negative)?;
+    }
+    Ok(())
+}
+
+/// The terms of a question, unless there are more than `MOST_TERMS`.
+pub fn terms_of(alloc: Global, question: &Question) -> Result<Option<QuestionTerms>, AllocError>
+    ensures { IfOk result (λ o. MatchOption o
+        (32 < count_terms (question_of question.now))
+        (λ t. AreTerms (question_of question.now) t × (count_terms (question_of question.now) ≤ 32))) }
+{
+    let mut kinds = Kinds::new(alloc)?;
+    let mut scope = Scope::new(alloc);
+    walk_claim(&mut scope, &mut kinds, &question.left, false)?;
+    walk_claim(&mut scope, &mut kinds, &question.right, true)?;
+    if kinds.count() > MOST_TERMS {
+        return Ok(None);
+    }
+    let terms = kinds.told(alloc)?;
+    let binding = scope.binding(alloc)?;
+    Ok(Some(QuestionTerms { terms, binding }))
+}

@@ -1,0 +1,12 @@
+pub mod Gaps
+pub mod Ruled
+pub mod Starting
+pub mod Leading
+pub mod Reporting
+pub mod Procedures
+pub mod Finding
+pub mod LineLemmas
+pub mod Telling
+pub mod Refuting
+pub mod OneReport
+pub mod OneFile

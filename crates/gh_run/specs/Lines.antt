@@ -1,0 +1,36 @@
+-- What the lines of a state file show, with what is left of the text after them.
+use Rattle.std.specs.Prelude.{◌≡◌, ℕ, List, [], ◌++◌, codes, Some, slice_get}
+use Rattle.gh_ast.specs.Plain.{Procedure, Program}
+use Rattle.gh_ast.specs.Programs.{Name, name_of}
+use Rattle.gh_assert.specs.Heaps.{Heap}
+use Rattle.gh_assert.specs.declared.store.Entry.{Entry}
+use Rattle.gh_draw.specs.Drawings.{line}
+use Rattle.gh_draw.specs.Reading.{After, ShowsEntries, ShowsHeap}
+use Rattle.gh_run.specs.StateFiles.{IsOneLine}
+
+-- the first line, and what follows its line feed
+pub record IsFirstLine (text l rest : List ℕ) : Type 0 where
+  pub whole : text ≡ line l ++ rest
+  pub one : IsOneLine l
+
+-- the procedure of the number has the name
+pub record IsNumberOf (P : Program) (name : Name) (n : ℕ) : Type 0 where
+  pub procedure : Procedure
+  pub numbered : slice_get P.procedures n ≡ Some procedure
+  pub named : name_of procedure ≡ name
+
+-- a line that names a procedure
+pub record ShowsProcedure (P : Program) (text : List ℕ) (n : ℕ) (rest : List ℕ) : Type 0 where
+  pub name : Name
+  pub first : IsFirstLine text (codes "procedure " ++ name) rest
+  pub number : IsNumberOf P name n
+
+-- a line with a value for each name
+pub record ShowsStore (names : List Name) (text : List ℕ) (es : List Entry) (rest : List ℕ) : Type 0 where
+  pub whole : List ℕ
+  pub first : IsFirstLine text whole rest
+  pub shown : After (codes "store") (ShowsEntries names) whole es []
+
+-- a line of cells
+abbrev pub ShowsCellLine : List ℕ → Heap → List ℕ → Type 0
+ShowsCellLine = After (codes "heap") ShowsHeap

@@ -1,0 +1,5 @@
+use Rattle.gh_session.proofs.Unique.{have_one_essence}
+use Rattle.gh_session.proofs.laws.have_one_essence.Goals as goal
+
+pub returns : goal.returns
+returns c = have_one_essence
