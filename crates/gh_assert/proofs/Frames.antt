@@ -12,7 +12,7 @@ use Rattle.gh_assert.proofs.Unique.{left_at, get_removed, get_kept}
 use Rattle.gh_assert.specs.Walks.{Allocated}
 use Rattle.gh_assert.proofs.Cells.{get_put, get_beside}
 use Rattle.gh_assert.proofs.Unions.{union, get_union}
-use Rattle.gh_assert.specs.Values.{result, Give, compared, opposite, and_then, or_then, outcome, all_outcome, some_outcome}
+use Rattle.gh_assert.specs.Values.{result, Give, compared, not_outcome, and_then, or_then, outcome, all_outcome, some_outcome}
 
 pub in_whole : (h a b : Heap) → Splits h a b → (x v : ℕ) → get a x ≡ Some v → get h x ≡ Some v
 in_whole h a b split x v e = left_at (get h x) (get a x) (get b x) v (split.union x) e
@@ -126,7 +126,7 @@ stays_compared e (Some v) (Some u) c d f g w eq =
     let right : d ≡ Some u = g u refl in
     rw (left, right) eq
 
-stays_opposite : (o p : Option Bool) → Stays o p → Stays (opposite o) (opposite p)
+stays_opposite : (o p : Option Bool) → Stays o p → Stays (not_outcome o) (not_outcome p)
 stays_opposite None p f w eq = absurd cc
 stays_opposite (Some v) p f w eq = let same : p ≡ Some v = f v refl in rw same eq
 

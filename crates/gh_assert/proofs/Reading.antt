@@ -9,7 +9,7 @@ use Rattle.gh_assert.specs.Meaning.{Store, Meaning, MeaningAll, value, truth}
 use Rattle.gh_assert.proofs.Unique.{left_at, right_at, part_left, part_right}
 use Rattle.gh_assert.specs.Walks.{succ, walk, Allocated, Between}
 use Rattle.gh_assert.specs.Ownership.{Owned}
-use Rattle.gh_assert.specs.Laws.{IsRead}
+use Rattle.gh_assert.specs.Laws.{IsReadOff}
 use Rattle.gh_assert.specs.Reading.{Covers, CoversAny, Reads, ReadsAll, HasNames, HaveNames}
 use Rattle.gh_assert.proofs.Rows.{between_itself}
 use Rattle.gh_assert.proofs.Cells.{no_cells, no_cells_part, get_nothing, by_look_ups, allocated_or, succ_at, at_succ, allocated_before}
@@ -228,7 +228,7 @@ whole_met V h s f null own n r agree =
     ]) in
     subst (Meaning f s) same met.2
 
-pub reading : (V : List ℕ) (h : Heap) (s : Store) (f : Formula) → get h 0 ≡ None → Owned V h → HasNames f s h V → IsRead V h s f
+pub reading : (V : List ℕ) (h : Heap) (s : Store) (f : Formula) → get h 0 ≡ None → Owned V h → HasNames f s h V → IsReadOff V h s f
 reading V h s f null own n = record {
   part = (is_met f s h V null own n, λ met. reads f s met.0 h V met.2 met.1);
   footprint = λ a p m z. (covered f s a h m p z, covering f s a h m p z);

@@ -99,13 +99,13 @@ abbrev pub LastNamedExists : Type 0
 LastNamedExists = (V : List ℕ) (h : Heap) → Owned V h → (c : ℕ) → Allocated h c → IsUnnamed V c → LastNamed V h c
 
 -- three facts on an assertion, read off the named values
-pub record IsRead (V : List ℕ) (h : Heap) (s : Store) (f : Formula) : Type 0 where
+pub record IsReadOff (V : List ℕ) (h : Heap) (s : Store) (f : Formula) : Type 0 where
   pub part : Reads f s h V ↔ ((a : Heap) × IsPart a h × Meaning f s a)
   pub footprint : (a : Heap) → IsPart a h → Meaning f s a → (z : ℕ) → Allocated a z ↔ Covers f s h z
   pub whole : Meaning f s h ↔ (Reads f s h V × ((z : ℕ) → Contains V z → Allocated h z ↔ Covers f s h z))
 
 abbrev pub ReadingLaw : Type 0
-ReadingLaw = (V : List ℕ) (h : Heap) (s : Store) (f : Formula) → IsProper h → Owned V h → HasNames f s h V → IsRead V h s f
+ReadingLaw = (V : List ℕ) (h : Heap) (s : Store) (f : Formula) → IsProper h → Owned V h → HasNames f s h V → IsReadOff V h s f
 
 -- from a named cell some named value is met
 abbrev pub HopsExist : Type 0

@@ -22,9 +22,9 @@ compared e (Some a) (Some b) = Some (agrees e (a == b))
 compared e (Some a) None = None
 compared e None o = None
 
-abbrev pub opposite : Option Bool → Option Bool
-opposite None = None
-opposite (Some b) = Some (not b)
+abbrev pub not_outcome : Option Bool → Option Bool
+not_outcome None = None
+not_outcome (Some b) = Some (not b)
 
 abbrev pub and_then : Option Bool → Option Bool → Option Bool
 and_then None o = None
@@ -40,7 +40,7 @@ or_then (Some false) o = o
 abbrev mutual
   pub outcome : Store → Heap → Test → Option Bool
   outcome s h (compare l e r) = compared e (result s h l) (result s h r)
-  outcome s h (negation t) = opposite (outcome s h t)
+  outcome s h (negation t) = not_outcome (outcome s h t)
   outcome s h (conjunction ts) = all_outcome s h ts
   outcome s h (disjunction ts) = some_outcome s h ts
 

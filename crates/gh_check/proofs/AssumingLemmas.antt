@@ -12,7 +12,7 @@ use Rattle.gh_base.specs.Atoms.{opposite, IsInRange, AreInRange, number_of}
 use Rattle.gh_base.specs.Propagation.{Propagated, given, forced, IsRefutedByUnits, FollowsByUnits}
 use Rattle.gh_base.proofs.NumberLemmas.{apart}
 use Rattle.gh_sat.specs.declared.trail.Step.{Step}
-use Rattle.gh_sat.specs.Trail.{Line, State, IsTrueIn, IsFalseIn, IsFree, IsSound, open_level}
+use Rattle.gh_sat.specs.Trail.{Line, SearchState, IsTrueIn, IsFalseIn, IsFree, IsSound, open_level}
 use Rattle.gh_sat.specs.Status.{IsSettled, IsForced, AreForced}
 use Rattle.gh_sat.specs.Watch.{WasOpen}
 use Rattle.gh_sat.specs.Learn.{IsConflict}
@@ -52,32 +52,32 @@ given_more clauses assumed level trail (x ∷ xs) f g =
     (given_more clauses assumed level (trail ++ x ∷ []) xs f.1 (given_push clauses assumed trail x g (forced_given clauses assumed level trail x g f.0)))
 
 -- at level 0 nothing has to be assumed
-pub given_at_first : (s : State) (assumed : List Lit) → IsSound s → s.starts ≡ [] → AreGiven s.clauses assumed s.trail
+pub given_at_first : (s : SearchState) (assumed : List Lit) → IsSound s → s.starts ≡ [] → AreGiven s.clauses assumed s.trail
 given_at_first s assumed h none i x at = given_below s assumed h none (suc i) i x (omega arith) at
 
 -- a false clause is a contradiction
 pub false_refutes : (clauses : List (List Lit)) (assumed : List Lit) (trail : List Step) (k : ℕ) (c : List Lit) → slice_get clauses k ≡ Some c → IsFalseIn trail c → AreGiven clauses assumed trail → IsRefutedByUnits clauses assumed
 false_refutes clauses assumed trail k c at f g = inr (c, in_get clauses k c at, λ j d lt. given_true clauses assumed trail (opposite (get_or c j d)) g (f j d lt))
 
-pub conflict_refutes : (s : State) (assumed : List Lit) (k : ℕ) → IsConflict s k → AreGiven s.clauses assumed s.trail → IsRefutedByUnits s.clauses assumed
+pub conflict_refutes : (s : SearchState) (assumed : List Lit) (k : ℕ) → IsConflict s k → AreGiven s.clauses assumed s.trail → IsRefutedByUnits s.clauses assumed
 conflict_refutes s assumed k c g = false_refutes s.clauses assumed s.trail k c.clause c.at c.is_false g
 
 -- a literal that is true already
-pub true_refutes : (s : State) (lit : Lit) → IsTrueIn s.trail lit → IsRefuting s (opposite lit)
+pub true_refutes : (s : SearchState) (lit : Lit) → IsTrueIn s.trail lit → IsRefuting s (opposite lit)
 true_refutes s lit t assumed there g = inl (lit, given_true s.clauses assumed s.trail lit g t, given (opposite lit) there)
 
-module _ (s mid new : State) (lit : Lit) (opens : mid ≡ open_level s lit) (moves : PropagatesTo mid new) where
+module _ (s mid new : SearchState) (lit : Lit) (opens : mid ≡ open_level s lit) (moves : PropagatesTo mid new) where
   same_clauses : new.clauses ≡ s.clauses
-  same_clauses = moves.clauses ∙ ap (λ (t : State). t.clauses) opens
+  same_clauses = moves.clauses ∙ ap (λ (t : SearchState). t.clauses) opens
 
   given_then : (assumed : List Lit) → Contains assumed lit → AreGiven s.clauses assumed s.trail → AreGiven s.clauses assumed new.trail
   given_then assumed there g =
       let y : Step = record { lit = lit; level = length s.starts + 1; reason = None } in
       let first : AreGiven s.clauses assumed (s.trail ++ y ∷ []) = given_push s.clauses assumed s.trail y g (given lit there) in
-      let opened : AreGiven mid.clauses assumed mid.trail = subst (λ (t : State). AreGiven t.clauses assumed t.trail) (sym opens) first in
+      let opened : AreGiven mid.clauses assumed mid.trail = subst (λ (t : SearchState). AreGiven t.clauses assumed t.trail) (sym opens) first in
       let grows = moves.grows in
       let then : AreGiven mid.clauses assumed (mid.trail ++ grows.0) = given_more mid.clauses assumed (length mid.starts) mid.trail grows.0 grows.2 opened in
-      subst (λ (cs : List (List Lit)). AreGiven cs assumed new.trail) (ap (λ (t : State). t.clauses) opens) (subst (AreGiven mid.clauses assumed) (sym grows.1) then)
+      subst (λ (cs : List (List Lit)). AreGiven cs assumed new.trail) (ap (λ (t : SearchState). t.clauses) opens) (subst (AreGiven mid.clauses assumed) (sym grows.1) then)
 
   pub refuting_after : (k : ℕ) → IsConflict new k → IsRefuting s lit
   refuting_after k c assumed there g =
@@ -91,7 +91,7 @@ module _ (s mid new : State) (lit : Lit) (opens : mid ≡ open_level s lit) (mov
       subst (λ (tr : List Step). IsTrueIn tr l) (sym grows.1) (t.0, t.1, get_within (mid.trail ++ grows.0) t.0 t.1 at, at, t.4)
 
   opened_true : (l : Lit) → IsTrueIn (open_level s lit).trail l → IsTrueIn new.trail l
-  opened_true l t = keeps_true l (subst (λ (w : State). IsTrueIn w.trail l) (sym opens) t)
+  opened_true l t = keeps_true l (subst (λ (w : SearchState). IsTrueIn w.trail l) (sym opens) t)
 
   pub assumed_after : IsSettled new → IsSound new → IsAssumed s new lit
   assumed_after calm h =
@@ -143,7 +143,7 @@ found z (y ∷ ys) a r h = elim (cases_eq (number_of z y.lit.atom) (number_of z 
 ]
 
 -- a literal is true, or false, or its atom has no truth
-truth_of : (s : State) (l : Lit) → IsSound s → IsInRange s.sizes l.atom → IsTrueIn s.trail l ⊎ (IsTrueIn s.trail (opposite l) ⊎ IsFree s.trail l.atom)
+truth_of : (s : SearchState) (l : Lit) → IsSound s → IsInRange s.sizes l.atom → IsTrueIn s.trail l ⊎ (IsTrueIn s.trail (opposite l) ⊎ IsFree s.trail l.atom)
 truth_of s l h r = elim (found s.sizes s.trail l.atom h.steps.range r) [
   | inl w ↦ elim (bool_cases w.1.lit.positive l.positive) [
     | inl e ↦ inl (w.0, w.1, get_within s.trail w.0 w.1 w.2, w.2, same_lit w.1.lit l w.3 e)
@@ -153,7 +153,7 @@ truth_of s l h r = elim (found s.sizes s.trail l.atom h.steps.range r) [
 ]
 
 -- where no clause is false or unit, what is true is closed under propagation
-closed : (s : State) (c : List Lit) (l : Lit) → IsSound s → IsSettled s → Contains s.clauses c → Contains c l → ((m : Lit) → Contains c m → m ≢ l → IsTrueIn s.trail (opposite m)) → IsTrueIn s.trail l
+closed : (s : SearchState) (c : List Lit) (l : Lit) → IsSound s → IsSettled s → Contains s.clauses c → Contains c l → ((m : Lit) → Contains c m → m ≢ l → IsTrueIn s.trail (opposite m)) → IsTrueIn s.trail l
 closed s c l h calm among there rest =
     let all : AreInRange s.sizes c = All-contains (AreInRange s.sizes) s.clauses c h.in_range among in
     let ranged : (m : Lit) → Contains c m → IsInRange s.sizes m.atom = λ m in_c. All-contains (λ (x : Lit). IsInRange s.sizes x.atom) c m all in_c in
@@ -178,13 +178,13 @@ closed s c l h calm among there rest =
     ]
 
 -- then all that propagation gives from true literals is true
-pub all_true : (s : State) (assumed : List Lit) → IsSound s → IsSettled s → ((l : Lit) → Contains assumed l → IsTrueIn s.trail l) → (l : Lit) → Propagated s.clauses assumed l → IsTrueIn s.trail l
+pub all_true : (s : SearchState) (assumed : List Lit) → IsSound s → IsSettled s → ((l : Lit) → Contains assumed l → IsTrueIn s.trail l) → (l : Lit) → Propagated s.clauses assumed l → IsTrueIn s.trail l
 all_true s assumed h calm base _ (given l there) = base l there
 all_true s assumed h calm base _ (forced c l among there rest) =
     closed s c l h calm among there (λ m in_c ne. all_true s assumed h calm base (opposite m) (rest m in_c ne))
 
 -- and there is no contradiction
-pub never_refuted : (s : State) (clause : List Lit) → IsSound s → IsSettled s → IsFalseIn s.trail clause → FollowsByUnits s.clauses clause → ⊥
+pub never_refuted : (s : SearchState) (clause : List Lit) → IsSound s → IsSettled s → IsFalseIn s.trail clause → FollowsByUnits s.clauses clause → ⊥
 never_refuted s clause h calm f follows =
     let t : Line = record { sizes = s.sizes; steps = s.trail } in
     let base : (l : Lit) → Contains (map opposite clause) l → IsTrueIn s.trail l = λ l there. All-contains (IsTrueIn s.trail) (map opposite clause) l (All-map (IsTrueIn s.trail) opposite clause f) there in
@@ -194,16 +194,16 @@ never_refuted s clause h calm f follows =
       | inr w ↦ let place = in_place s.clauses w.0 w.1 in calm.no_false place.0 w.0 place.1 (λ k d lt. all (opposite (get_or w.0 k d)) (w.2 k d lt))
     ]
 
-pub refuting_if : (s mid new : State) (lit lit' : Lit) (r : Option ℕ) (b : Bool) → lit' ≡ lit → mid ≡ open_level s lit' → PropagatesTo mid new → IfSome r (IsConflict new) → b ≡ is_some r → IsTrue b → IsRefuting s lit
+pub refuting_if : (s mid new : SearchState) (lit lit' : Lit) (r : Option ℕ) (b : Bool) → lit' ≡ lit → mid ≡ open_level s lit' → PropagatesTo mid new → IfSome r (IsConflict new) → b ≡ is_some r → IsTrue b → IsRefuting s lit
 refuting_if s mid new lit lit' None b same opens moves conflict is holds = cc
 refuting_if s mid new lit lit' (Some k) b same opens moves conflict is holds = subst (IsRefuting s) same (refuting_after s mid new lit' opens moves k conflict)
 
-pub assumed_if : (s mid new : State) (lit lit' : Lit) (r : Option ℕ) (b : Bool) → lit' ≡ lit → mid ≡ open_level s lit' → PropagatesTo mid new → IfNone r (IsSettled new) → IsSound new → b ≡ is_some r → (IsTrue b → ⊥) → IsAssumed s new lit
+pub assumed_if : (s mid new : SearchState) (lit lit' : Lit) (r : Option ℕ) (b : Bool) → lit' ≡ lit → mid ≡ open_level s lit' → PropagatesTo mid new → IfNone r (IsSettled new) → IsSound new → b ≡ is_some r → (IsTrue b → ⊥) → IsAssumed s new lit
 assumed_if s mid new lit lit' None b same opens moves calm h is fails = subst (IsAssumed s new) same (assumed_after s mid new lit' opens moves calm h)
 assumed_if s mid new lit lit' (Some k) b same opens moves calm h is fails = absurd (fails is)
 
 -- the first i literals were made false, one after the other, with no contradiction
-pub record Goes (first : State) (lits : List Lit) (i : ℕ) (s : State) : Type 0 where
+pub record Goes (first : SearchState) (lits : List Lit) (i : ℕ) (s : SearchState) : Type 0 where
   pub sizes : s.sizes ≡ first.sizes
   pub clauses : s.clauses ≡ first.clauses
   pub settled : IsSettled s
@@ -211,7 +211,7 @@ pub record Goes (first : State) (lits : List Lit) (i : ℕ) (s : State) : Type 0
   pub falses : IsFalseIn s.trail (take i lits)
   pub given : AreGiven s.clauses (map opposite lits) s.trail
 
-pub goes_first : (old new : State) (lits : List Lit) (r : Option ℕ) (b : Bool) → old.starts ≡ [] → PropagatesTo old new → IfNone r (IsSettled new) → IsSound new → b ≡ is_some r → (IsTrue b → ⊥) → Goes old lits 0 new
+pub goes_first : (old new : SearchState) (lits : List Lit) (r : Option ℕ) (b : Bool) → old.starts ≡ [] → PropagatesTo old new → IfNone r (IsSettled new) → IsSound new → b ≡ is_some r → (IsTrue b → ⊥) → Goes old lits 0 new
 goes_first old new lits None b none moves calm h is fails = record {
   sizes = moves.sizes;
   clauses = moves.clauses;
@@ -222,7 +222,7 @@ goes_first old new lits None b none moves calm h is fails = record {
 }
 goes_first old new lits (Some k) b none moves calm h is fails = absurd (fails is)
 
-pub first_refutes : (old new : State) (lits : List Lit) (r : Option ℕ) (b : Bool) → old.starts ≡ [] → PropagatesTo old new → IfSome r (IsConflict new) → IsSound new → b ≡ is_some r → IsTrue b → FollowsByUnits old.clauses lits
+pub first_refutes : (old new : SearchState) (lits : List Lit) (r : Option ℕ) (b : Bool) → old.starts ≡ [] → PropagatesTo old new → IfSome r (IsConflict new) → IsSound new → b ≡ is_some r → IsTrue b → FollowsByUnits old.clauses lits
 first_refutes old new lits None b none moves conflict h is holds = cc
 first_refutes old new lits (Some k) b none moves conflict h is holds =
     subst (λ (cs : List (List Lit)). IsRefutedByUnits cs (map opposite lits)) moves.clauses
@@ -233,7 +233,7 @@ in_opposites [] i d lt = absurd (omega arith)
 in_opposites (x ∷ xs) zero d lt = (zero, omega arith, refl)
 in_opposites (x ∷ xs) (suc i) d lt = let r = in_opposites xs i d (omega arith) in (suc r.0, omega (arith, r.1), r.2)
 
-pub goes_more : (first old new : State) (lits : List Lit) (i : ℕ) (d l : Lit) → i < length lits → l ≡ get_or lits i d → Goes first lits i old → new.sizes ≡ old.sizes → new.clauses ≡ old.clauses → IsAssumed old new (opposite l) → Goes first lits (i + 1) new
+pub goes_more : (first old new : SearchState) (lits : List Lit) (i : ℕ) (d l : Lit) → i < length lits → l ≡ get_or lits i d → Goes first lits i old → new.sizes ≡ old.sizes → new.clauses ≡ old.clauses → IsAssumed old new (opposite l) → Goes first lits (i + 1) new
 goes_more first old new lits i d l lt at g sizes clauses a =
     let longer : take (i + 1) lits ≡ take i lits ++ l ∷ [] = take_more lits i d lt ∙ ap (λ (x : Lit). take i lits ++ x ∷ []) (sym at) in
     record {
@@ -246,17 +246,17 @@ goes_more first old new lits i d l lt at g sizes clauses a =
           (a.given (map opposite lits) (subst (λ (x : Lit). Contains (map opposite lits) (opposite x)) (sym at) (in_opposites lits i d lt)) g.given);
     }
 
-pub goes_refutes : (first old : State) (lits : List Lit) (i : ℕ) (d l : Lit) → i < length lits → l ≡ get_or lits i d → Goes first lits i old → IsRefuting old (opposite l) → FollowsByUnits first.clauses lits
+pub goes_refutes : (first old : SearchState) (lits : List Lit) (i : ℕ) (d l : Lit) → i < length lits → l ≡ get_or lits i d → Goes first lits i old → IsRefuting old (opposite l) → FollowsByUnits first.clauses lits
 goes_refutes first old lits i d l lt at g r =
     subst (λ (cs : List (List Lit)). IsRefutedByUnits cs (map opposite lits)) g.clauses
     (r (map opposite lits) (subst (λ (x : Lit). Contains (map opposite lits) (opposite x)) (sym at) (in_opposites lits i d lt)) g.given)
 
-pub goes_on : (first s : State) (lits : List Lit) (n : ℕ) → length lits ≤ n → Goes first lits n s → FollowsByUnits first.clauses lits → ⊥
+pub goes_on : (first s : SearchState) (lits : List Lit) (n : ℕ) → length lits ≤ n → Goes first lits n s → FollowsByUnits first.clauses lits → ⊥
 goes_on first s lits n long g follows =
     never_refuted s lits g.sound g.settled (subst (IsFalseIn s.trail) (take_all n lits long) g.falses)
     (subst (λ (cs : List (List Lit)). IsRefutedByUnits cs (map opposite lits)) (sym g.clauses) follows)
 
-pub goes_range : (first s : State) (lits : List Lit) (i : ℕ) (d l : Lit) → i < length lits → l ≡ get_or lits i d → Goes first lits i s → AreInRange first.sizes lits → IsInRange s.sizes l.atom
+pub goes_range : (first s : SearchState) (lits : List Lit) (i : ℕ) (d l : Lit) → i < length lits → l ≡ get_or lits i d → Goes first lits i s → AreInRange first.sizes lits → IsInRange s.sizes l.atom
 goes_range first s lits i d l lt at g h = subst (λ (z : Sizes). IsInRange z l.atom) (sym g.sizes) (subst (λ (x : Lit). IsInRange first.sizes x.atom) (sym at) (h i d lt))
 
 -- nothing was false when a level was opened, where none was

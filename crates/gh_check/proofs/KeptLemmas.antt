@@ -12,7 +12,7 @@ use Rattle.gh_base.specs.Hints.{IsShownByHints}
 use Rattle.gh_log.specs.declared.lines.LogLine.{LogLine}
 use Rattle.gh_log.specs.Sections.{line_clause, clauses_of, Deletes, HasClauseAt, Stands, AllStand, AreAt, IsHinted}
 use Rattle.gh_log.proofs.NumberLemmas.{all_before}
-use Rattle.gh_check.specs.Kept.{Kept, stands_in, clause_at, named, IsWithin, AreWithin, present, AreDeleted, MayBeDeleted, IsKept}
+use Rattle.gh_check.specs.Kept.{Kept, stands_in, clause_at, named, IsWithin, AreWithin, present, AreDeleted, MayBeDeleted, AreLinesKept}
 
 -- the clause of the line at a place
 entry_at : (p : Problem) (lines : List LogLine) (place : ℕ) (c : List Lit) → slice_index_or (map (line_clause p) lines) place None ≡ Some c
@@ -39,7 +39,7 @@ some_is : (o : Option (List Lit)) → is_some o ≡ true → (c : List Lit) × (
 some_is (Some c) e = (c, refl)
 some_is None e = absurd (cc)
 
-module _ (p : Problem) (lines : List LogLine) (k : Kept) (h : IsKept p lines k) where
+module _ (p : Problem) (lines : List LogLine) (k : Kept) (h : AreLinesKept p lines k) where
   read : (place : ℕ) → slice_index_or k.clauses (suc place) None ≡ slice_index_or (map (line_clause p) lines) place None
   read place = ap (λ xs. slice_index_or xs (suc place) None) h.clauses
 
@@ -106,7 +106,7 @@ present_map : (p : Problem) (lines : List LogLine) → present (map (line_clause
 present_map p [] = refl
 present_map p (l ∷ ls) = ap (λ cs. cons_option (line_clause p l) cs) (present_map p ls)
 
-pub present_is : (p : Problem) (lines : List LogLine) (k : Kept) → IsKept p lines k → present k.clauses ≡ clauses_of p lines
+pub present_is : (p : Problem) (lines : List LogLine) (k : Kept) → AreLinesKept p lines k → present k.clauses ≡ clauses_of p lines
 present_is p lines k h = ap present h.clauses ∙ present_map p lines
 
 -- one more line
@@ -116,9 +116,9 @@ pushed_false [] (suc n) = refl
 pushed_false (d ∷ ds) zero = refl
 pushed_false (d ∷ ds) (suc n) = pushed_false ds n
 
-pub kept_then : (p : Problem) (lines : List LogLine) (old new : Kept) (l : LogLine) (o : Option (List Lit)) → IsKept p lines old → new.clauses ≡ old.clauses
+pub kept_then : (p : Problem) (lines : List LogLine) (old new : Kept) (l : LogLine) (o : Option (List Lit)) → AreLinesKept p lines old → new.clauses ≡ old.clauses
     → ((n : ℕ) → (slice_index_or new.deleted n false ≡ false) ↔ ((slice_index_or old.deleted n false ≡ false) × (Deletes l n → ⊥))) → o ≡ line_clause p l → IsWithin p.sizes o
-    → IsKept p (lines ++ l ∷ []) (record { clauses = new.clauses ++ o ∷ []; deleted = new.deleted ++ false ∷ [] })
+    → AreLinesKept p (lines ++ l ∷ []) (record { clauses = new.clauses ++ o ∷ []; deleted = new.deleted ++ false ∷ [] })
 kept_then p lines old new l o h same marks is within =
     record {
       clauses = ap (λ xs. xs ++ o ∷ []) (same ∙ h.clauses) ∙ ap (λ x. None ∷ (map (line_clause p) lines ++ x ∷ [])) is ∙ ap (λ xs. None ∷ xs) (sym (map-append (line_clause p) lines (l ∷ [])));
@@ -130,12 +130,12 @@ kept_then p lines old new l o h same marks is within =
     }
 
 -- a line that deletes nothing
-pub kept_push : (p : Problem) (lines : List LogLine) (k : Kept) (l : LogLine) (o : Option (List Lit)) → IsKept p lines k → ((n : ℕ) → Deletes l n → ⊥) → o ≡ line_clause p l → IsWithin p.sizes o
-    → IsKept p (lines ++ l ∷ []) (record { clauses = k.clauses ++ o ∷ []; deleted = k.deleted ++ false ∷ [] })
+pub kept_push : (p : Problem) (lines : List LogLine) (k : Kept) (l : LogLine) (o : Option (List Lit)) → AreLinesKept p lines k → ((n : ℕ) → Deletes l n → ⊥) → o ≡ line_clause p l → IsWithin p.sizes o
+    → AreLinesKept p (lines ++ l ∷ []) (record { clauses = k.clauses ++ o ∷ []; deleted = k.deleted ++ false ∷ [] })
 kept_push p lines k l o h none is within = kept_then p lines k k l o h refl (λ n. ((λ e. (e, none n)), (λ w. w.0))) is within
 
-pub kept_first : (p : Problem) (k : Kept) → k ≡ record { clauses = None ∷ []; deleted = false ∷ [] } → IsKept p [] k
-kept_first p k e = subst (IsKept p []) (sym e) (record {
+pub kept_first : (p : Problem) (k : Kept) → k ≡ record { clauses = None ∷ []; deleted = false ∷ [] } → AreLinesKept p [] k
+kept_first p k e = subst (AreLinesKept p []) (sym e) (record {
   clauses = refl;
   stand = λ n. ((λ _. λ i d lt. absurd (omega arith)), (λ _. pushed_false [] n));
   within = All-cons (IsWithin p.sizes) None [] (λ c f. absurd (cc)) (λ i d lt. absurd (omega arith));

@@ -13,7 +13,7 @@ use Rattle.gh_log.specs.declared.lines.LogLine.TheVariants as line
 use Rattle.gh_log.specs.Sections.{AllStand, Deletes}
 use Rattle.gh_check.specs.declared.lines.Outcome.{Outcome}
 use Rattle.gh_check.specs.declared.lines.Outcome.TheVariants.{Faulty, Holds}
-use Rattle.gh_check.specs.Kept.{Kept, named, present, AreDeleted, MayBeDeleted, IsKept}
+use Rattle.gh_check.specs.Kept.{Kept, named, present, AreDeleted, MayBeDeleted, AreLinesKept}
 use Rattle.gh_check.specs.Lines.{IsTaken, IsChecked, IsKeptAfter}
 use Rattle.gh_check.proofs.KeptLemmas.{all_forth, all_back, hinted_forth, hinted_back, present_is, kept_push, kept_then}
 
@@ -30,10 +30,10 @@ axiom_taken p n v name clause terms versions exact is range earlier =
     }
 
 -- a clause from all lines before
-pub learnt_refused : (p : Problem) (earlier : List LogLine) (k : Kept) (c : List Lit) → IsKept p earlier k → (FollowsByUnits (present k.clauses) c → ⊥) → IsChecked p earlier (line.Learnt c) (Faulty 4)
+pub learnt_refused : (p : Problem) (earlier : List LogLine) (k : Kept) (c : List Lit) → AreLinesKept p earlier k → (FollowsByUnits (present k.clauses) c → ⊥) → IsChecked p earlier (line.Learnt c) (Faulty 4)
 learnt_refused p earlier k c h fails = ((λ kind. fails (subst (λ cs. FollowsByUnits cs c) (sym (present_is p earlier k h)) kind.1)), refl)
 
-pub learnt_taken : (p : Problem) (earlier : List LogLine) (k : Kept) (c d : List Lit) → IsKept p earlier k → AreInRange p.sizes c → FollowsByUnits (present k.clauses) c → d ≡ c
+pub learnt_taken : (p : Problem) (earlier : List LogLine) (k : Kept) (c d : List Lit) → AreLinesKept p earlier k → AreInRange p.sizes c → FollowsByUnits (present k.clauses) c → d ≡ c
     → IsTaken p earlier (line.Learnt c) (Some d)
 learnt_taken p earlier k c d h range follows same =
     record {
@@ -50,11 +50,11 @@ pub range_refused : (p : Problem) (earlier : List LogLine) (c : List Lit) (hints
     → IsChecked p earlier (line.Hinted c hints) (Faulty 4)
 range_refused p earlier c hints stand fails = ((λ kind. fails kind.0), inl (stand, refl))
 
-pub hinted_refused : (p : Problem) (earlier : List LogLine) (k : Kept) (c : List Lit) (hints : Vec ℕ Global) → IsKept p earlier k → AllStand p earlier hints.items
+pub hinted_refused : (p : Problem) (earlier : List LogLine) (k : Kept) (c : List Lit) (hints : Vec ℕ Global) → AreLinesKept p earlier k → AllStand p earlier hints.items
     → (IsShownByHints (named k hints.items) c → ⊥) → IsChecked p earlier (line.Hinted c hints) (Faulty 4)
 hinted_refused p earlier k c hints h stand fails = ((λ kind. fails (hinted_back p earlier k h c hints.items kind.1)), inl (stand, refl))
 
-pub hinted_taken : (p : Problem) (earlier : List LogLine) (k : Kept) (c d : List Lit) (hints : Vec ℕ Global) → IsKept p earlier k → AllStand p earlier hints.items → AreInRange p.sizes c
+pub hinted_taken : (p : Problem) (earlier : List LogLine) (k : Kept) (c d : List Lit) (hints : Vec ℕ Global) → AreLinesKept p earlier k → AllStand p earlier hints.items → AreInRange p.sizes c
     → IsShownByHints (named k hints.items) c → d ≡ c → IsTaken p earlier (line.Hinted c hints) (Some d)
 hinted_taken p earlier k c d hints h stand range shown same =
     record {
@@ -64,20 +64,20 @@ hinted_taken p earlier k c d hints h stand range shown same =
     }
 
 -- deletions
-pub deletion_taken : (p : Problem) (earlier : List LogLine) (k : Kept) (positions : Vec ℕ Global) → IsKept p earlier k → MayBeDeleted k positions.items → IsTaken p earlier (line.Delete positions) None
+pub deletion_taken : (p : Problem) (earlier : List LogLine) (k : Kept) (positions : Vec ℕ Global) → AreLinesKept p earlier k → MayBeDeleted k positions.items → IsTaken p earlier (line.Delete positions) None
 deletion_taken p earlier k positions h may =
     record { kind = (all_forth p earlier k h positions.items may.stand, may.distinct); is = refl; within = λ c e. absurd (cc) }
 
-pub deletion_refused : (p : Problem) (earlier : List LogLine) (k : Kept) (positions : Vec ℕ Global) → IsKept p earlier k → (MayBeDeleted k positions.items → ⊥)
+pub deletion_refused : (p : Problem) (earlier : List LogLine) (k : Kept) (positions : Vec ℕ Global) → AreLinesKept p earlier k → (MayBeDeleted k positions.items → ⊥)
     → IsChecked p earlier (line.Delete positions) (Faulty 6)
 deletion_refused p earlier k positions h fails =
     ((λ kind. fails (record { stand = all_back p earlier k h positions.items kind.0; distinct = kind.1 })), refl)
 
-pub deletion_kept : (p : Problem) (earlier : List LogLine) (old new : Kept) (positions : Vec ℕ Global) → IsKept p earlier old → AreDeleted old new positions.items
+pub deletion_kept : (p : Problem) (earlier : List LogLine) (old new : Kept) (positions : Vec ℕ Global) → AreLinesKept p earlier old → AreDeleted old new positions.items
     → IsKeptAfter p earlier (line.Delete positions) (Holds None) new
 deletion_kept p earlier old new positions h d = kept_then p earlier old new (line.Delete positions) None h d.clauses d.deleted refl (λ c e. absurd (cc))
 
 -- what a line that deletes nothing leaves
-pub kept_after : (p : Problem) (earlier : List LogLine) (k : Kept) (l : LogLine) (o : Outcome) → ((n : ℕ) → Deletes l n → ⊥) → IsKept p earlier k → IsChecked p earlier l o → IsKeptAfter p earlier l o k
+pub kept_after : (p : Problem) (earlier : List LogLine) (k : Kept) (l : LogLine) (o : Outcome) → ((n : ℕ) → Deletes l n → ⊥) → AreLinesKept p earlier k → IsChecked p earlier l o → IsKeptAfter p earlier l o k
 kept_after p earlier k l (Faulty number) none h checked = tt
 kept_after p earlier k l (Holds clause) none h checked = kept_push p earlier k l clause h none checked.is checked.within

@@ -15,9 +15,9 @@ use Rattle.gh_sat.proofs.WholeLemmas.{take_take}
 use Rattle.gh_check.specs.declared.fault.CheckError.TheVariants.{Fault}
 use Rattle.gh_check.specs.declared.lines.Earlier.{Earlier}
 use Rattle.gh_check.specs.declared.lines.Outcome.TheVariants.{Faulty}
-use Rattle.gh_check.specs.Kept.{IsKept}
+use Rattle.gh_check.specs.Kept.{AreLinesKept}
 use Rattle.gh_check.specs.Lines.{IsTaken, IsChecked, IsReady}
-use Rattle.gh_check.specs.Answers.{IsRefusal, AreApart, AreOne}
+use Rattle.gh_check.specs.Answers.{IsSectionError, AreApart, AreOne}
 
 pub apart : AreApart
 apart p lines number place valid (inl f) = f.faulty (valid.of_kind place f.line f.at)
@@ -72,14 +72,14 @@ no_line p e = let n : length (let ls : List LogLine = [] in ls) ≡ length (e.0 
 
 -- the first i lines were read, and this is kept of them
 pub record Reads (p : Problem) (first : ℕ) (lines : List LogLine) (i : ℕ) (e : Earlier) (line : ℕ) (is_empty : Bool) : Type 0 where
-  pub kept : IsKept p (take i lines) e.kept
+  pub kept : AreLinesKept p (take i lines) e.kept
   pub ready : IsReady p.sizes e
   pub of_kind : AreOfKind p (take i lines)
   pub number : line ≡ first + i
   pub ends : IsTrue is_empty → EndsEmpty p (take i lines)
   pub no_end : (IsTrue is_empty → ⊥) → EndsEmpty p (take i lines) → ⊥
 
-pub reads_first : (p : Problem) (first : ℕ) (lines : List LogLine) (e : Earlier) → IsKept p [] e.kept → IsReady p.sizes e → Reads p first lines 0 e first false
+pub reads_first : (p : Problem) (first : ℕ) (lines : List LogLine) (e : Earlier) → AreLinesKept p [] e.kept → IsReady p.sizes e → Reads p first lines 0 e first false
 reads_first p first lines e kept ready = record {
   kept = kept;
   ready = ready;
@@ -90,13 +90,13 @@ reads_first p first lines e kept ready = record {
 }
 
 pub reads_more : (p : Problem) (first : ℕ) (lines : List LogLine) (i : ℕ) (d l : LogLine) (e new : Earlier) (clause : Option (List Lit)) (line : ℕ) (was is_empty : Bool) → i < length lines → l ≡ get_or lines i d
-    → Reads p first lines i e line was → IsTaken p (take i lines) l clause → IsKept p (take i lines ++ l ∷ []) new.kept → IsReady p.sizes new → (IsTrue is_empty ↔ (clause ≡ Some []))
+    → Reads p first lines i e line was → IsTaken p (take i lines) l clause → AreLinesKept p (take i lines ++ l ∷ []) new.kept → IsReady p.sizes new → (IsTrue is_empty ↔ (clause ≡ Some []))
     → Reads p first lines (i + 1) new (line + 1) is_empty
 reads_more p first lines i d l e new clause line was is_empty lt at r taken kept ready empty =
     let front : List LogLine = take i lines in
     let longer : take (i + 1) lines ≡ front ++ l ∷ [] = take_more lines i d lt ∙ ap (λ (x : LogLine). front ++ x ∷ []) (sym at) in
     record {
-      kept = subst (λ (ls : List LogLine). IsKept p ls new.kept) (sym longer) kept;
+      kept = subst (λ (ls : List LogLine). AreLinesKept p ls new.kept) (sym longer) kept;
       ready = ready;
       of_kind = subst (AreOfKind p) (sym longer) (kind_push p front l r.of_kind taken.kind);
       number = let n = r.number in omega arith;
@@ -105,7 +105,7 @@ reads_more p first lines i d l e new clause line was is_empty lt at r taken kept
     }
 
 pub line_refused : (p : Problem) (first : ℕ) (lines : List LogLine) (i : ℕ) (d l : LogLine) (e : Earlier) (line number : ℕ) (was : Bool) → i < length lines → l ≡ get_or lines i d → Reads p first lines i e line was
-    → IsChecked p (take i lines) l (Faulty number) → IsRefusal p first lines (Fault (record { number = number; line = line }))
+    → IsChecked p (take i lines) l (Faulty number) → IsSectionError p first lines (Fault (record { number = number; line = line }))
 line_refused p first lines i d l e line number was lt at r faulty = (
   i,
   inl (record {
@@ -124,7 +124,7 @@ all_read p first lines n e line is_empty long r holds =
     record { of_kind = subst (AreOfKind p) whole r.of_kind; ends = subst (EndsEmpty p) whole (r.ends holds) }
 
 pub end_refused : (p : Problem) (first : ℕ) (lines : List LogLine) (n : ℕ) (e : Earlier) (line : ℕ) (is_empty : Bool) → length lines ≤ n → n ≤ length lines → Reads p first lines n e line is_empty → (IsTrue is_empty → ⊥)
-    → IsRefusal p first lines (Fault (record { number = 5; line = line }))
+    → IsSectionError p first lines (Fault (record { number = 5; line = line }))
 end_refused p first lines n e line is_empty long short r fails =
     let whole : take n lines ≡ lines = take_all n lines long in (
       length lines,

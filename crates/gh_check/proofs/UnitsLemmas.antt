@@ -4,7 +4,7 @@ use Rattle.std.proofs.lemmas.List.{take_more, take-append-drop, take-append-le}
 use Rattle.std.proofs.lemmas.List.Elements.{filter_map-append}
 use Rattle.gh_base.specs.declared.atom.Lit.{Lit}
 use Rattle.gh_base.specs.declared.sizes.Sizes.{Sizes}
-use Rattle.gh_sat.specs.Trail.{State}
+use Rattle.gh_sat.specs.Trail.{SearchState}
 use Rattle.gh_check.specs.Kept.{present, IsWithin, AreWithin}
 use Rattle.gh_check.specs.Assuming.{HasClauses, IsBehind}
 use Rattle.gh_check.specs.declared.units.Units.{Units}
@@ -33,14 +33,14 @@ behind_push sizes entries e u b =
     }
 
 -- the search that was begun has the first clauses
-pub begun_has : (sizes : Sizes) (entries : Entries) (taken : ℕ) (learner : Option State) (s : State) → MatchOption learner (taken ≡ 0) (λ t. HasClauses sizes (present (take taken entries)) t)
+pub begun_has : (sizes : Sizes) (entries : Entries) (taken : ℕ) (learner : Option SearchState) (s : SearchState) → MatchOption learner (taken ≡ 0) (λ t. HasClauses sizes (present (take taken entries)) t)
     → MatchOption learner (s ≡ record { sizes = sizes; clauses = []; trail = []; starts = [] }) (λ old. s ≡ old) → HasClauses sizes (present (take taken entries)) s
 begun_has sizes entries taken (Some t) s b e = subst (HasClauses sizes (present (take taken entries))) (sym e) b
 begun_has sizes entries taken None s b e =
     record {
-      sizes_are = ap (λ (t : State). t.sizes) e;
-      clauses_are = ap (λ (t : State). t.clauses) e ∙ sym (ap (λ n. present (take n entries)) b);
-      level = ap (λ (t : State). t.starts) e;
+      sizes_are = ap (λ (t : SearchState). t.sizes) e;
+      clauses_are = ap (λ (t : SearchState). t.clauses) e ∙ sym (ap (λ n. present (take n entries)) b);
+      level = ap (λ (t : SearchState). t.starts) e;
     }
 
 pub filled : (entries : Entries) (taken : ℕ) (first new : List (List Lit)) → first ≡ present (take taken entries) → new ≡ first ++ present (drop taken entries) → new ≡ present entries
@@ -53,7 +53,7 @@ within_rest sizes entries taken a = all_after (IsWithin sizes) (take taken entri
 pub tail_is : {X : Type 0} (n : ℕ) (xs : List X) → take (length xs - n) (drop n xs) ≡ drop n xs
 tail_is n xs = take_all (length xs - n) (drop n xs) (omega (arith, length-drop n xs))
 
-pub all_taken : (sizes : Sizes) (entries : Entries) (n : ℕ) (s : State) → n ≡ length entries → HasClauses sizes (present entries) s → IsBehind sizes entries (record { learner = Some s; taken = n })
+pub all_taken : (sizes : Sizes) (entries : Entries) (n : ℕ) (s : SearchState) → n ≡ length entries → HasClauses sizes (present entries) s → IsBehind sizes entries (record { learner = Some s; taken = n })
 all_taken sizes entries n s e has =
     record {
       within = omega (arith, e);

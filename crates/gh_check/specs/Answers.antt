@@ -7,9 +7,9 @@ use Rattle.gh_check.specs.declared.fault.CheckError.{CheckError}
 use Rattle.gh_check.specs.declared.fault.CheckError.TheVariants.{Fault, OutOfMemory}
 
 -- the first fault of a section whose first line has this number in the file
-abbrev pub IsRefusal : Problem → ℕ → List LogLine → CheckError → Type 0
-IsRefusal p first lines (Fault f) = (place : ℕ) × IsFirstFault p lines f.number place × (f.line ≡ first + place)
-IsRefusal p first lines OutOfMemory = Unit {0}
+abbrev pub IsSectionError : Problem → ℕ → List LogLine → CheckError → Type 0
+IsSectionError p first lines (Fault f) = (place : ℕ) × IsFirstFault p lines f.number place × (f.line ≡ first + place)
+IsSectionError p first lines OutOfMemory = Unit {0}
 
 -- a valid section has no first fault
 abbrev pub AreApart : Type 0

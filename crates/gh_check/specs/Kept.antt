@@ -58,7 +58,7 @@ pub record MayBeDeleted (k : Kept) (positions : List ℕ) : Type 0 where
   pub distinct : AllPairs ◌≢◌ positions
 
 -- this is kept of some lines
-pub record IsKept (p : Problem) (lines : List LogLine) (k : Kept) : Type 0 where
+pub record AreLinesKept (p : Problem) (lines : List LogLine) (k : Kept) : Type 0 where
   pub clauses : k.clauses ≡ None ∷ map (line_clause p) lines
   pub stand : (position : ℕ) → IsLeft k position ↔ All (λ l. Deletes l position → ⊥) lines
   pub within : AreWithin p.sizes k.clauses

@@ -5,7 +5,7 @@ use Rattle.gh_base.specs.Grounds.{Problem}
 use Rattle.gh_log.specs.declared.lines.LogLine.{LogLine}
 use Rattle.gh_log.specs.Sections.{IsOfKind, IsFaultOf, line_clause}
 use Rattle.gh_base.specs.declared.sizes.Sizes.{Sizes}
-use Rattle.gh_check.specs.Kept.{Kept, with_line, IsKept, IsWithin, AreWithin}
+use Rattle.gh_check.specs.Kept.{Kept, with_line, AreLinesKept, IsWithin, AreWithin}
 use Rattle.gh_check.specs.Assuming.{IsBehind}
 use Rattle.gh_check.specs.declared.lines.Earlier.{Earlier}
 use Rattle.gh_check.specs.declared.lines.Outcome.{Outcome}
@@ -25,15 +25,15 @@ IsChecked p earlier line (Holds clause) = IsTaken p earlier line clause
 -- with the clause of a line that is of its kind, this is kept of it and the lines before
 abbrev pub IsKeptAfter : Problem → List LogLine → LogLine → Outcome → Kept → Type 0
 IsKeptAfter p earlier line (Faulty number) k = ⊤
-IsKeptAfter p earlier line (Holds clause) k = IsKept p (earlier ++ line ∷ []) (with_line k clause)
+IsKeptAfter p earlier line (Holds clause) k = AreLinesKept p (earlier ++ line ∷ []) (with_line k clause)
 
 -- the outcome for a line after all lines of which this is kept
 abbrev pub Answers : Problem → Kept → LogLine → Outcome → Type 0
-Answers p k line o = (earlier : List LogLine) → IsKept p earlier k → IsChecked p earlier line o
+Answers p k line o = (earlier : List LogLine) → AreLinesKept p earlier k → IsChecked p earlier line o
 
 -- what is kept after that
 abbrev pub Leaves : Problem → Kept → LogLine → Outcome → Kept → Type 0
-Leaves p old line o new = (earlier : List LogLine) → IsKept p earlier old → IsKeptAfter p earlier line o new
+Leaves p old line o new = (earlier : List LogLine) → AreLinesKept p earlier old → IsKeptAfter p earlier line o new
 
 -- what is kept fits clauses over these numbers
 pub record IsReady (sizes : Sizes) (e : Earlier) : Type 0 where

@@ -2,8 +2,8 @@
 
 ghost use Rattle.std.specs.Prelude.{◌≡◌, ◌↔◌, ◌+◌, ◌≤◌, ◌∷◌, ◌++◌, [], false, Some, IfOk, IfErr, OnOk, IsTrue, vec_len};
 ghost use Rattle.gh_log.specs.Sections.{IsValidSection};
-ghost use Rattle.gh_check.specs.Answers.{IsRefusal};
-ghost use Rattle.gh_check.specs.Kept.{with_line, IsKept, IsWithin};
+ghost use Rattle.gh_check.specs.Answers.{IsSectionError};
+ghost use Rattle.gh_check.specs.Kept.{with_line, AreLinesKept, IsWithin};
 ghost use Rattle.gh_check.specs.Lines.{IsReady};
 
 use crate::fault::{CheckError, LogFault};
@@ -19,7 +19,7 @@ use std::alloc::{AllocError, Global};
 
 // What is kept before the first line.
 fn nothing_before(alloc: Global, ground: &Ground) -> Result<Earlier, AllocError>
-    ensures kept { IfOk result (λ e. IsKept ground.now [] e.kept) }
+    ensures kept { IfOk result (λ e. AreLinesKept ground.now [] e.kept) }
     ensures ready { IfOk result (λ e. IsReady ground.now.sizes e) }
 {
     let kept = Positions::new(alloc)?;
@@ -56,7 +56,7 @@ fn keep(before: &mut Earlier, sizes: Sizes, clause: Option<Clause>) -> Result<()
 pub fn check_log(alloc: Global, ground: &Ground, section: &Section) -> Result<(), CheckError>
     requires { section.now.first + vec_len section.now.lines ≤ 4294967295 }
     ensures valid { OnOk result (IsValidSection ground.now section.now.lines.items) }
-    ensures refused { IfErr result (IsRefusal ground.now section.now.first section.now.lines.items) }
+    ensures refused { IfErr result (IsSectionError ground.now section.now.first section.now.lines.items) }
 {
     let mut before = nothing_before(alloc, ground)?;
     let mut line = section.first;

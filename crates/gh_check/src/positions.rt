@@ -4,7 +4,7 @@ ghost use Rattle.std.specs.Prelude.{List, ◌≡◌, ◌↔◌, ◌∷◌, ◌++
 ghost use Rattle.gh_base.specs.Grounds.{Problem};
 ghost use Rattle.gh_log.specs.declared.lines.LogLine.{LogLine};
 ghost use Rattle.gh_log.specs.Sections.{AllStand};
-ghost use Rattle.gh_check.specs.Kept.{no_line, with_line, IsKept, stands_in, clause_at, AreDeleted, MayBeDeleted};
+ghost use Rattle.gh_check.specs.Kept.{no_line, with_line, AreLinesKept, stands_in, clause_at, AreDeleted, MayBeDeleted};
 
 use gh_base::atom::Lit;
 use gh_base::clause::Clause;
@@ -95,7 +95,7 @@ impl Positions {
 
     /// Whether all positions stand after the lines of which this is kept.
     pub fn all_stand(&self, positions: &[u32]) -> bool
-        ensures { (p : Problem) (lines : List LogLine) → IsKept p lines self.now
+        ensures { (p : Problem) (lines : List LogLine) → AreLinesKept p lines self.now
             → IsTrue result ↔ AllStand p lines positions.now }
     {
         self.are_standing(positions)

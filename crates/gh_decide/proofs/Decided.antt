@@ -10,7 +10,7 @@ use Rattle.gh_path.specs.Conditions.{Condition, conditions}
 use Rattle.gh_path.specs.declared.condition.Condition as kept
 use Rattle.gh_symb.specs.Symbolic.{symbolic_of}
 use Rattle.gh_symb.specs.Formulas.{problem}
-use Rattle.gh_trace.specs.Kept.{drawn_of, IsKept, IsOne, HasCounterexample}
+use Rattle.gh_trace.specs.Kept.{drawn_of, IsOfProgram, IsOne, HasCounterexample}
 use Rattle.gh_trace.specs.Validity.{IsConditionValid}
 use Rattle.gh_trace.specs.declared.state.Trace.{Trace}
 use Rattle.gh_log.specs.declared.lines.LogLine.{LogLine}
@@ -47,7 +47,7 @@ parted (d ∷ ds) zero c there = ap (λ e. e ∷ ds) cc
 parted (d ∷ ds) (suc n) c there = ap (λ t. d ∷ t) (parted ds n c there)
 
 -- the condition of the next number
-next_one : (P : Program) (k : ℕ) (r : kept.Condition) → IsNumbered P (k + 1) (Some r) → (c : Condition) × (slice_get (conditions P) k ≡ Some c) × IsKept P r c
+next_one : (P : Program) (k : ℕ) (r : kept.Condition) → IsNumbered P (k + 1) (Some r) → (c : Condition) × (slice_get (conditions P) k ≡ Some c) × IsOfProgram P r c
 next_one P k r (c, low, there, stands) =
     let place : k ≡ k + 1 - 1 = omega arith in
     let at : slice_get (conditions P) k ≡ Some c = ap (slice_get (conditions P)) place ∙ there in

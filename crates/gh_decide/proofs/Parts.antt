@@ -25,7 +25,7 @@ use Rattle.gh_trace.specs.Traces.{State, Counterexample}
 use Rattle.gh_trace.specs.Validity as plain
 use Rattle.gh_trace.specs.Validity.{IsConditionValid}
 use Rattle.gh_trace.specs.Replay.{Drawn, Refutes}
-use Rattle.gh_trace.specs.Kept.{IsKept, HasCounterexample}
+use Rattle.gh_trace.specs.Kept.{IsOfProgram, HasCounterexample}
 use Rattle.gh_log.specs.Sections.{IsValidSection}
 use Rattle.gh_log.specs.declared.lines.LogLine.{LogLine}
 use Rattle.gh_log.specs.declared.lines.Section.{Section}
@@ -65,7 +65,7 @@ over_or : (m n : ℕ) → (m < n) ⊎ (n ≤ m)
 over_or m n = grind arith
 
 -- and has few steps
-pub few_steps : (P : Program) (r : kept.Condition) (c : Condition) → IsAdmitted P → IsKept P r c → length r.steps.items ≤ 256
+pub few_steps : (P : Program) (r : kept.Condition) (c : Condition) → IsAdmitted P → IsOfProgram P r c → length r.steps.items ≤ 256
 few_steps P r c admitted is =
     let same : length r.steps.items ≡ length c.way.steps = as_many P c r.steps.items c.way.steps is.stands.steps in
     elim (over_or 256 (length c.way.steps)) [
@@ -90,7 +90,7 @@ shown P r p s typed ground is = record {
   placed = record { first = is.first; few = is.few; version = is.version };
 }
   where
-    at : (c : Condition) → IsKept P r c → IsValidSection (problem (symbolic_of P c)) s.lines.items
+    at : (c : Condition) → IsOfProgram P r c → IsValidSection (problem (symbolic_of P c)) s.lines.items
     at c one = subst (λ q. IsValidSection q s.lines.items) (ground c one.stands) is.valid
 
 -- a model of the clauses is one of the condition
@@ -113,7 +113,7 @@ undrawn xs [] = refl
 undrawn xs (y ∷ ys) = ap (λ t. y ∷ t) (undrawn xs ys)
 
 -- a counterexample whose stores list the variables
-drawn_refutes : (P : Program) (c : Condition) (ys : List State) → plain.Refutes P c ys → Refutes P c (drawn_over (variable_names c.procedure) ys)
+drawn_refutes : (P : Program) (c : Condition) (ys : List State) → plain.AreCounterexample P c ys → Refutes P c (drawn_over (variable_names c.procedure) ys)
 drawn_refutes P c [] h = absurd h
 drawn_refutes P c (y ∷ ys) h =
     let xs = variable_names c.procedure in
@@ -127,7 +127,7 @@ drawn_refutes P c (y ∷ ys) h =
 
 -- the trace of a model refutes the condition
 pub refuted : (P : Program) (r : kept.Condition) (p : Problem) (s : Tables) (xs : List Drawn) → IsTyped P → IsGroundOf P r p → IsModelOf p s
-    → ((c : Condition) → IsKept P r c → xs ≡ drawn_over (variable_names c.procedure) (built_trace P c (interpretation_of s))) → HasCounterexample P r xs
+    → ((c : Condition) → IsOfProgram P r c → xs ≡ drawn_over (variable_names c.procedure) (built_trace P c (interpretation_of s))) → HasCounterexample P r xs
 refuted P r p s xs typed ground is drawn c one =
     let m = interpretation_of s in
     subst (Refutes P c) (sym (drawn c one)) (drawn_refutes P c (built_trace P c m) (locality_holds P c m typed one.there (models P c p s (ground c one.stands) is)))

@@ -7,7 +7,7 @@ use Rattle.gh_ast.specs.declared.Expr.{Expr}
 use Rattle.gh_ast.specs.declared.Expr.TheVariants.{Plain, Read}
 use Rattle.gh_assert.specs.Meaning.{value, agrees}
 use Rattle.gh_assert.specs.Walks.{Allocated}
-use Rattle.gh_assert.specs.Values.{result, Give, compared, opposite, and_then, or_then, outcome, all_outcome, some_outcome}
+use Rattle.gh_assert.specs.Values.{result, Give, compared, not_outcome, and_then, or_then, outcome, all_outcome, some_outcome}
 use Rattle.gh_ast.proofs.Lists.{cons_both}
 use Rattle.gh_path.specs.Graphs.{Graph, fork, visits, reads, all_reads, tested, all_tested, some_tested}
 use Rattle.gh_trace.specs.Traces.{State}
@@ -57,7 +57,7 @@ mutual
       (agrees e (a.0 == b.0), both, at_fork P l e r g k x (agrees e (a.0 == b.0)) both b.2)
   lead P (negation t) g k x safe =
       let way = lead P t k g x safe in
-      (not way.0, ap opposite way.1, turned P g k x way.0 way.2)
+      (not way.0, ap not_outcome way.1, turned P g k x way.0 way.2)
   lead P (conjunction ts) g k x safe = lead_all P ts g k x safe
   lead P (disjunction ts) g k x safe = lead_some P ts g k x safe
 

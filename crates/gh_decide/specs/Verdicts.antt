@@ -5,7 +5,7 @@ use Rattle.gh_path.specs.Conditions.{Condition}
 use Rattle.gh_path.specs.declared.condition.Condition as kept
 use Rattle.gh_symb.specs.Symbolic.{symbolic_of}
 use Rattle.gh_symb.specs.Formulas.{problem}
-use Rattle.gh_trace.specs.Kept.{drawn_of, IsKept, IsOne, HasNoCounterexample, HasCounterexample}
+use Rattle.gh_trace.specs.Kept.{drawn_of, IsOfProgram, IsOne, HasNoCounterexample, HasCounterexample}
 use Rattle.gh_log.specs.declared.lines.Section.{Section}
 use Rattle.gh_log.specs.Sections.{IsValidSection}
 use Rattle.gh_log.specs.Spelled.{IsOfVersion}
@@ -21,7 +21,7 @@ pub record IsPlaced (s : Section) : Type 0 where
 -- the condition has no counterexample, and the section is valid for its clauses
 pub record IsShown (P : Program) (r : kept.Condition) (s : Section) : Type 0 where
   pub valid : HasNoCounterexample P r
-  pub section : (c : Condition) → IsKept P r c → IsValidSection (problem (symbolic_of P c)) s.lines.items
+  pub section : (c : Condition) → IsOfProgram P r c → IsValidSection (problem (symbolic_of P c)) s.lines.items
   pub placed : IsPlaced s
 
 abbrev pub IsVerdict : Program → kept.Condition → Verdict → Type 0

@@ -32,11 +32,13 @@ pub fn decide_all(
     ensures { IfOk result (IsOutcome (program_of typed.now)) }
 {
     let mut sections = Vec::new(alloc);
+    let mut walk = conditions.walk(alloc);
     for place in 0..conditions.count() {
         let number = place + 1;
-        let Some(condition) = conditions.condition(alloc, number)? else {
+        let Some(item) = walk.next() else {
             unreachable!();
         };
+        let condition = item?;
         match decide(alloc, typed, &condition)? {
             Verdict::Valid(section) => sections.push(section)?,
             Verdict::Refuted(trace) => return Ok(Outcome::Refuted { number, trace }),

@@ -13,7 +13,7 @@ use Rattle.gh_ast.specs.Tokens.{first_place, cleared}
 use Rattle.gh_ast.proofs.Good.{AllGood, GoodExpr, SomeGood, GoodTest, GoodTests, GoodStatement, GoodStatements, GoodBody, GoodProcedure, tokens_are_good, program_is_good}
 use Rattle.gh_ast.proofs.Lists.{member_cases, no_member}
 use Rattle.gh_path.specs.Conditions.{Condition, conditions}
-use Rattle.gh_path.specs.Graphs.{Check, access, entry, loop_entry, returned, loop_end, place_of, PathStep, assigned, written, called, answered, Graph, dead_end, ends, moves, guarded, fork, visits, reads, all_reads, tested, all_tested, some_tested, lowered, all_lowered, Loop, loops, all_loops, loops_of, Origin, from_entry, from_loop, Start, whole_body, round, rounds, starts}
+use Rattle.gh_path.specs.Graphs.{Check, access, entry, loop_entry, returned, loop_end, check_place, PathStep, assigned, written, called, answered, Graph, dead_end, ends, moves, guarded, fork, visits, reads, all_reads, tested, all_tested, some_tested, lowered, all_lowered, Loop, loops, all_loops, loops_of, Origin, from_entry, from_loop, Start, whole_body, round, rounds, starts}
 use Rattle.gh_path.specs.Paths.{Path, at_end, arrived, past, on, on_true, on_false}
 use Rattle.gh_path.proofs.Listed.{all_are_listed}
 use Rattle.gh_draw.specs.Descriptions.{place_text, origin_text, check_text, description}
@@ -167,5 +167,5 @@ description_is_other source P c (ts, has, spells) there =
     let is = (all_are_listed P c).0 there in
     let good = one_good P.procedures c.procedure (program_is_good spells (tokens_are_good first_place has.0 (cleared source) [] ts has.1)).procedures is.declared in
     let words = path_words is.leads (start_words c.procedure good c.start is.begins) in
-    parts_other (name_of c.procedure) (origin_text c.start.origin) (check_text c.way.check) (place_text (place_of c.way.check)) (name_line (name_of c.procedure) good.name) (origin_line c.start.origin) (check_line c.way.check words)
-    (place_line (place_of c.way.check))
+    parts_other (name_of c.procedure) (origin_text c.start.origin) (check_text c.way.check) (place_text (check_place c.way.check)) (name_line (name_of c.procedure) good.name) (origin_line c.start.origin) (check_line c.way.check words)
+    (place_line (check_place c.way.check))

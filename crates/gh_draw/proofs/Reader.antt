@@ -14,30 +14,30 @@ use Rattle.gh_assert.specs.Heaps.{Heap}
 use Rattle.gh_assert.specs.declared.store.Entry.{Entry}
 use Rattle.gh_assert.specs.Stores.{listed_names}
 use Rattle.gh_trace.specs.declared.state.State.{State}
-use Rattle.gh_draw.specs.Reading.{IsRead, After, ShowsWord, ShowsNumber, ShowsValue, ShowsEntries, ShowsCell, ShowsCellAbove, ShowsCells, ShowsHeap, ShowsState, ShowsStates, ShowsCondition, heading, AreDistinctNames}
+use Rattle.gh_draw.specs.Reading.{IsFrontRead, After, ShowsWord, ShowsNumber, ShowsValue, ShowsEntries, ShowsCell, ShowsCellAbove, ShowsCells, ShowsHeap, ShowsState, ShowsStates, ShowsCondition, heading, AreDistinctNames}
 use Rattle.gh_draw.proofs.Going.{Goes, Turns, goes_begin, goes_more}
 use Rattle.gh_draw.proofs.Fronts.{entry, number_one, after_one, value_one, entries_one, cell_one, above_one, state_one}
 
 -- what is read after a word
-pub read_after : {X : Type 0} (w : List ℕ) (S : List ℕ → X → List ℕ → Type 0) (old mid new : List ℕ) (r : Option X) → old ≡ w ++ mid → IsRead S mid new r → IsRead (After w S) old new r
+pub read_after : {X : Type 0} (w : List ℕ) (S : List ℕ → X → List ℕ → Type 0) (old mid new : List ℕ) (r : Option X) → old ≡ w ++ mid → IsFrontRead S mid new r → IsFrontRead (After w S) old new r
 read_after {X} w S old mid new (Some x) e h = (mid, e, h)
 read_after {X} w S old mid new None e h = λ x rest s. h x rest (subst (λ z. S z x rest) (append_cancel_left w s.0 mid (sym s.1 ∙ e)) s.2)
 
 -- the word is missing
-pub missing_after : {X : Type 0} (w : List ℕ) (S : List ℕ → X → List ℕ → Type 0) (old new : List ℕ) → IsRead (ShowsWord w) old new None → IsRead (After w S) old new None
+pub missing_after : {X : Type 0} (w : List ℕ) (S : List ℕ → X → List ℕ → Type 0) (old new : List ℕ) → IsFrontRead (ShowsWord w) old new None → IsFrontRead (After w S) old new None
 missing_after {X} w S old new h = λ x rest s. h tt s.0 s.1
 
 -- cells
 
-pub cell_missing_to : (old mid new : List ℕ) (at : ℕ) → ShowsNumber old at mid → IsRead (After (codes "->") ShowsNumber) mid new None → (c : ℕ × ℕ) (rest : List ℕ) → ShowsCell old c rest → ⊥
+pub cell_missing_to : (old mid new : List ℕ) (at : ℕ) → ShowsNumber old at mid → IsFrontRead (After (codes "->") ShowsNumber) mid new None → (c : ℕ × ℕ) (rest : List ℕ) → ShowsCell old c rest → ⊥
 cell_missing_to old mid new at first h c rest (m, s, u) =
     let one = number_one old at c.0 mid m first s in
     h c.1 rest (subst (λ z. After (codes "->") ShowsNumber z c.1 rest) (sym one.1) u)
 
-pub cell_missing : (old new : List ℕ) → IsRead ShowsNumber old new None → (c : ℕ × ℕ) (rest : List ℕ) → ShowsCell old c rest → ⊥
+pub cell_missing : (old new : List ℕ) → IsFrontRead ShowsNumber old new None → (c : ℕ × ℕ) (rest : List ℕ) → ShowsCell old c rest → ⊥
 cell_missing old new h c rest (m, s, u) = h c.0 m s
 
-pub above_missing : (low : ℕ) (old new : List ℕ) → IsRead (After (codes " ") ShowsCell) old new None → (c : ℕ × ℕ) (rest : List ℕ) → ShowsCellAbove low old c rest → ⊥
+pub above_missing : (low : ℕ) (old new : List ℕ) → IsFrontRead (After (codes " ") ShowsCell) old new None → (c : ℕ × ℕ) (rest : List ℕ) → ShowsCellAbove low old c rest → ⊥
 above_missing low old new h c rest s = h c rest s.cell
 
 pub above_low : (low : ℕ) (old new : List ℕ) (d : ℕ × ℕ) → After (codes " ") ShowsCell old d new → d.0 ≤ low → (c : ℕ × ℕ) (rest : List ℕ) → ShowsCellAbove low old c rest → ⊥
@@ -88,7 +88,7 @@ states_turn ns k x old new more_to_come s = record {
 -- exits of the loops
 
 pub entries_missing : (n : Name) (ns ms : List Name) (now old new : List ℕ) (done : List Entry) → Goes (ShowsEntries (n ∷ ns) now) (ShowsEntries ms old) done
-    → IsRead (ShowsValue n) now new None → (es : List Entry) (rest : List ℕ) → ShowsEntries ms old es rest → ⊥
+    → IsFrontRead (ShowsValue n) now new None → (es : List Entry) (rest : List ℕ) → ShowsEntries ms old es rest → ⊥
 entries_missing n ns ms now old new done g h es rest s = at (g.whole es rest s)
   where
     at : (fs : List Entry) × (es ≡ done ++ fs) × ShowsEntries (n ∷ ns) now fs rest → ⊥
@@ -102,7 +102,7 @@ pub entries_end : (ms : List Name) (now old : List ℕ) (done : List Entry) → 
 entries_end ms now old done g = subst (λ z. ShowsEntries ms old z now) (no_more done) (g.sound [] now (refl, refl))
 
 pub cells_missing : (low : ℕ) (now old new : List ℕ) (h : Heap) → Goes (ShowsCells low now) (ShowsCells 0 old) (entries h) → ((rest : List ℕ) → now ≡ codes "\n" ++ rest → ⊥)
-    → IsRead (ShowsCellAbove low) now new None → (g : Heap) (rest : List ℕ) → ShowsHeap old g rest → ⊥
+    → IsFrontRead (ShowsCellAbove low) now new None → (g : Heap) (rest : List ℕ) → ShowsHeap old g rest → ⊥
 cells_missing low now old new h goes more_to_come none g rest s = at (goes.whole (entries g) rest s)
   where
     at : (es : List (ℕ × ℕ)) × (entries g ≡ entries h ++ es) × ShowsCells low now es rest → ⊥
@@ -113,7 +113,7 @@ pub cells_end : (low : ℕ) (now old new : List ℕ) (h : Heap) → Goes (ShowsC
 cells_end low now old new h goes e = subst (λ z. ShowsCells 0 old z new) (no_more (entries h)) (goes.sound [] new e)
 
 pub states_missing : (ns : List Name) (k : ℕ) (now old new : List ℕ) (done : List State) → Goes (ShowsStates ns k now) (ShowsStates ns 0 old) done → ((rest : List ℕ) → now ≡ codes "end\n" ++ rest → ⊥)
-    → IsRead (ShowsState ns k) now new None → (xs : List State) (rest : List ℕ) → ShowsStates ns 0 old xs rest → ⊥
+    → IsFrontRead (ShowsState ns k) now new None → (xs : List State) (rest : List ℕ) → ShowsStates ns 0 old xs rest → ⊥
 states_missing ns k now old new done goes more_to_come none xs rest s = at (goes.whole xs rest s)
   where
     at : (es : List State) × (xs ≡ done ++ es) × ShowsStates ns k now es rest → ⊥
@@ -125,10 +125,10 @@ states_end ns k now old new done goes e = subst (λ z. ShowsStates ns 0 old z ne
 
 -- a state part by part
 
-pub state_no_heading : (ns : List Name) (k : ℕ) (old new : List ℕ) → IsRead (ShowsWord (heading k)) old new None → IsRead (ShowsState ns k) old new None
+pub state_no_heading : (ns : List Name) (k : ℕ) (old new : List ℕ) → IsFrontRead (ShowsWord (heading k)) old new None → IsFrontRead (ShowsState ns k) old new None
 state_no_heading ns k old new h = λ x rest s. h tt s.values s.begins
 
-pub state_no_store : (ns : List Name) (k : ℕ) (old mid new last : List ℕ) → old ≡ heading k ++ mid → IsRead (ShowsEntries ns) mid new None → IsRead (ShowsState ns k) old last None
+pub state_no_store : (ns : List Name) (k : ℕ) (old mid new last : List ℕ) → old ≡ heading k ++ mid → IsFrontRead (ShowsEntries ns) mid new None → IsFrontRead (ShowsState ns k) old last None
 state_no_store ns k old mid new last e h = λ x rest s.
     h x.store (codes "\nheap" ++ s.cells) (subst (λ z. ShowsEntries ns z x.store (codes "\nheap" ++ s.cells)) (append_cancel_left (heading k) s.values mid (sym s.begins ∙ e)) s.store)
 
@@ -136,10 +136,10 @@ store_same : (ns : List Name) (k : ℕ) (old mid new : List ℕ) (es : List Entr
 store_same ns k old mid new es e t x rest s =
     (entries_one ns mid es x.store new (codes "\nheap" ++ s.cells) t (subst (λ z. ShowsEntries ns z x.store (codes "\nheap" ++ s.cells)) (append_cancel_left (heading k) s.values mid (sym s.begins ∙ e)) s.store)).1
 
-pub state_no_word : (ns : List Name) (k : ℕ) (old mid new last : List ℕ) (es : List Entry) → old ≡ heading k ++ mid → ShowsEntries ns mid es new → IsRead (ShowsWord (codes "\nheap")) new last None → IsRead (ShowsState ns k) old last None
+pub state_no_word : (ns : List Name) (k : ℕ) (old mid new last : List ℕ) (es : List Entry) → old ≡ heading k ++ mid → ShowsEntries ns mid es new → IsFrontRead (ShowsWord (codes "\nheap")) new last None → IsFrontRead (ShowsState ns k) old last None
 state_no_word ns k old mid new last es e t h = λ x rest s. h tt s.cells (store_same ns k old mid new es e t x rest s)
 
-pub state_no_cells : (ns : List Name) (k : ℕ) (old mid new cells left last : List ℕ) (es : List Entry) → old ≡ heading k ++ mid → ShowsEntries ns mid es new → new ≡ codes "\nheap" ++ cells → IsRead ShowsHeap cells left None → IsRead (ShowsState ns k) old last None
+pub state_no_cells : (ns : List Name) (k : ℕ) (old mid new cells left last : List ℕ) (es : List Entry) → old ≡ heading k ++ mid → ShowsEntries ns mid es new → new ≡ codes "\nheap" ++ cells → IsFrontRead ShowsHeap cells left None → IsFrontRead (ShowsState ns k) old last None
 state_no_cells ns k old mid new cells left last es e t f h = λ x rest s.
     h x.heap rest (subst (λ z. ShowsHeap z x.heap rest) (append_cancel_left (codes "\nheap") s.cells cells (sym (store_same ns k old mid new es e t x rest s) ∙ f)) s.heap)
 
@@ -149,16 +149,16 @@ state_whole ns k old mid new cells left es h e t f u = record { values = mid; ce
 
 -- the number of the condition
 
-pub condition_no_end : (old mid new last : List ℕ) (n : ℕ) → old ≡ codes "condition " ++ mid → ShowsNumber mid n new → IsRead (ShowsWord (codes "\n")) new last None → IsRead ShowsCondition old last None
+pub condition_no_end : (old mid new last : List ℕ) (n : ℕ) → old ≡ codes "condition " ++ mid → ShowsNumber mid n new → IsFrontRead (ShowsWord (codes "\n")) new last None → IsFrontRead ShowsCondition old last None
 condition_no_end old mid new last n e s h = λ m rest u.
     let same : u.0 ≡ mid = append_cancel_left (codes "condition ") u.0 mid (sym u.1 ∙ e) in
     h tt rest ((number_one mid n m new (codes "\n" ++ rest) s (subst (λ z. ShowsNumber z m (codes "\n" ++ rest)) same u.2)).1)
 
-pub condition_no_number : (old mid new last : List ℕ) → old ≡ codes "condition " ++ mid → IsRead ShowsNumber mid new None → IsRead ShowsCondition old last None
+pub condition_no_number : (old mid new last : List ℕ) → old ≡ codes "condition " ++ mid → IsFrontRead ShowsNumber mid new None → IsFrontRead ShowsCondition old last None
 condition_no_number old mid new last e h = λ m rest u.
     h m (codes "\n" ++ rest) (subst (λ z. ShowsNumber z m (codes "\n" ++ rest)) (append_cancel_left (codes "condition ") u.0 mid (sym u.1 ∙ e)) u.2)
 
-pub condition_no_word : (old new : List ℕ) → IsRead (ShowsWord (codes "condition ")) old new None → IsRead ShowsCondition old new None
+pub condition_no_word : (old new : List ℕ) → IsFrontRead (ShowsWord (codes "condition ")) old new None → IsFrontRead ShowsCondition old new None
 condition_no_word old new h = λ m rest u. h tt u.0 u.1
 
 -- a heap's next cell comes last
@@ -191,7 +191,7 @@ store_more ns i n v now next old done new is within g s e =
     rw (add-one, e) gone
 
 pub store_missing : (ns : List Name) (i : ℕ) (n : Name) (now new old : List ℕ) (done : List Entry) → n ≡ get_or ns i n → i < length ns
-    → Goes (ShowsEntries (drop i ns) now) (ShowsEntries ns old) done → IsRead (ShowsValue n) now new None → IsRead (ShowsEntries ns) old new None
+    → Goes (ShowsEntries (drop i ns) now) (ShowsEntries ns old) done → IsFrontRead (ShowsValue n) now new None → IsFrontRead (ShowsEntries ns) old new None
 store_missing ns i n now new old done is within g none =
     let front : drop i ns ≡ n ∷ drop (suc i) ns = drop-cons ns i n within ∙ ap (λ z. z ∷ drop (suc i) ns) (sym is) in
     entries_missing n (drop (suc i) ns) ns now old new done (subst (λ z. Goes (ShowsEntries z now) (ShowsEntries ns old) done) front g) none
@@ -245,11 +245,11 @@ name_is_new ns i n distinct is within (k, low, same) =
 
 -- whether a word was taken
 
-pub word_missing : (w old new : List ℕ) (o : Option (Unit {0})) → IsRead (ShowsWord w) old new o → is_some o ≡ false → IsRead (ShowsWord w) old new None
+pub word_missing : (w old new : List ℕ) (o : Option (Unit {0})) → IsFrontRead (ShowsWord w) old new o → is_some o ≡ false → IsFrontRead (ShowsWord w) old new None
 word_missing w old new None h e = h
 word_missing w old new (Some u) h e = absurd cc
 
-pub word_taken : (w old new : List ℕ) (o : Option (Unit {0})) → IsRead (ShowsWord w) old new o → is_some o ≡ true → old ≡ w ++ new
+pub word_taken : (w old new : List ℕ) (o : Option (Unit {0})) → IsFrontRead (ShowsWord w) old new o → is_some o ≡ true → old ≡ w ++ new
 word_taken w old new None h e = absurd cc
 word_taken w old new (Some u) h e = h
 

@@ -20,7 +20,7 @@ use Rattle.gh_trace.specs.Kept.{state_of, drawn}
 use Rattle.gh_trace.specs.Replay as replay
 use Rattle.gh_trace.specs.Traces as plain
 use Rattle.gh_trace.specs.Traces.{IsTrace, Counterexample}
-use Rattle.gh_trace.specs.Validity.{Refutes}
+use Rattle.gh_trace.specs.Validity.{AreCounterexample}
 use Rattle.gh_trace.specs.declared.state.State.{State}
 use Rattle.gh_trace.proofs.Proper.{step_proper}
 use Rattle.gh_draw.specs.Drawings.{IsDrawable}
@@ -86,7 +86,7 @@ all_proper P s [] (x ∷ xs) t p = absurd t
 all_proper P s (q ∷ ps) [] t p = absurd t
 all_proper P s (q ∷ ps) (x ∷ xs) t p = All-cons HasProper s (x ∷ xs) p (all_proper P x ps xs t.1 (step_proper P q (state_of s) (state_of x) t.0 p))
 
-refuted_proper : (P : Program) (c : Condition) (ss : List State) → Refutes P c (map state_of ss) → All HasProper ss
+refuted_proper : (P : Program) (c : Condition) (ss : List State) → AreCounterexample P c (map state_of ss) → All HasProper ss
 refuted_proper P c [] r = absurd r
 refuted_proper P c (s ∷ ss) r = all_proper P s c.way.steps ss r.leads (met_proper c.start.meets (store_of s.store) s.heap r.begins)
 
@@ -94,7 +94,7 @@ states_of : (ss : List State) → map (λ x. x.state) (map drawn ss) ≡ map sta
 states_of [] = refl
 states_of (s ∷ ss) = ap (λ xs. state_of s ∷ xs) (states_of ss)
 
-plain_refutes : (P : Program) (c : Condition) (ss : List State) → replay.Refutes P c (map drawn ss) → Refutes P c (map state_of ss)
+plain_refutes : (P : Program) (c : Condition) (ss : List State) → replay.Refutes P c (map drawn ss) → AreCounterexample P c (map state_of ss)
 plain_refutes P c [] r = let none : [] ≡ r.first ∷ r.others = r.states in absurd cc
 plain_refutes P c (s ∷ ss) r =
     let first : r.first ≡ drawn s = cc in

@@ -14,7 +14,7 @@ use Rattle.gh_path.specs.Conditions.{Condition, conditions}
 use Rattle.gh_path.specs.declared.condition.Condition as kept
 use Rattle.gh_trace.specs.declared.state.State.{State}
 use Rattle.gh_draw.specs.Drawn.{IsFileOf}
-use Rattle.gh_draw.specs.Reading.{IsRead, ShowsStates, ShowsTrace, ShowsCondition, Skips}
+use Rattle.gh_draw.specs.Reading.{IsFrontRead, ShowsStates, ShowsTrace, ShowsCondition, Skips}
 use Rattle.gh_draw.proofs.Fronts.{states_one, condition_one, skips_one}
 use Rattle.gh_draw.proofs.Shown.{file_shown, shown_file}
 use Rattle.gh_draw.proofs.Told.{image}
@@ -54,7 +54,7 @@ moved P n ns t xs a s =
     let same = same_numbered P n t xs a.condition a.numbered s in
     subst (λ z. ShowsStates z 0 t xs []) (sym a.names) (subst (λ (c : Condition). ShowsStates (variable_names c.procedure) 0 t xs []) same s.states)
 
-pub trace_no_states : (P : Program) (n : ℕ) (ns : List Name) (t left : List ℕ) → AreNamesFor P n ns → IsRead (ShowsStates ns 0) t left None → (xs : List State) → ShowsTrace P n t xs → ⊥
+pub trace_no_states : (P : Program) (n : ℕ) (ns : List Name) (t left : List ℕ) → AreNamesFor P n ns → IsFrontRead (ShowsStates ns 0) t left None → (xs : List State) → ShowsTrace P n t xs → ⊥
 trace_no_states P n ns t left a none xs s = none xs [] (moved P n ns t xs a s)
 
 pub trace_no_more : (P : Program) (n : ℕ) (ns : List Name) (t left : List ℕ) (ys : List State) → AreNamesFor P n ns → ShowsStates ns 0 t ys left → (ys ≡ []) ⊎ (left ≡ [] → ⊥) → (xs : List State) → ShowsTrace P n t xs → ⊥
@@ -98,7 +98,7 @@ is_something (x ∷ xs) e f = absurd cc
 pub file_no_drawing : (P : Program) (t : List ℕ) → ((rest : List ℕ) → Skips t rest → ⊥) → (n : ℕ) (xs : List State) → IsFileOf P t n xs → ⊥
 file_no_drawing P t none n xs f = none (file_shown P t n xs f).body (file_shown P t n xs f).skips
 
-pub file_no_number : (P : Program) (t now left : List ℕ) → Skips t now → IsRead ShowsCondition now left None → (n : ℕ) (xs : List State) → IsFileOf P t n xs → ⊥
+pub file_no_number : (P : Program) (t now left : List ℕ) → Skips t now → IsFrontRead ShowsCondition now left None → (n : ℕ) (xs : List State) → IsFileOf P t n xs → ⊥
 file_no_number P t now left skips none n xs f =
     let s = file_shown P t n xs f in
     none n s.states_text (subst (λ z. ShowsCondition z n s.states_text) (skips_one t s.body now s.skips skips) s.condition)

@@ -3,7 +3,7 @@ use Rattle.std.specs.Prelude.{ℕ, List, ◌++◌, codes}
 use Rattle.std.specs.Fmt.{decimal}
 use Rattle.gh_base.specs.declared.place.Span.{Span}
 use Rattle.gh_ast.specs.Programs.{name_of}
-use Rattle.gh_path.specs.Graphs.{Check, access, entry, loop_entry, returned, loop_end, place_of, Origin, from_entry, from_loop}
+use Rattle.gh_path.specs.Graphs.{Check, access, entry, loop_entry, returned, loop_end, check_place, Origin, from_entry, from_loop}
 use Rattle.gh_path.specs.Conditions.{Condition}
 
 -- `L:C`
@@ -23,4 +23,4 @@ check_text (loop_end l) = codes "loop end"
 
 abbrev pub description : Condition → List ℕ
 description c =
-    name_of c.procedure ++ codes " from " ++ origin_text c.start.origin ++ codes ": " ++ check_text c.way.check ++ codes " at " ++ place_text (place_of c.way.check)
+    name_of c.procedure ++ codes " from " ++ origin_text c.start.origin ++ codes ": " ++ check_text c.way.check ++ codes " at " ++ place_text (check_place c.way.check)

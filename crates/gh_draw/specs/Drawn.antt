@@ -9,7 +9,7 @@ use Rattle.gh_assert.specs.declared.store.Entry.{Entry}
 use Rattle.gh_assert.specs.Stores.{listed_names}
 use Rattle.gh_path.specs.Conditions.{Condition, conditions}
 use Rattle.gh_trace.specs.Kept.{state_of}
-use Rattle.gh_trace.specs.Validity.{Refutes}
+use Rattle.gh_trace.specs.Validity.{AreCounterexample}
 use Rattle.gh_trace.specs.declared.state.State.{State}
 use Rattle.gh_draw.specs.Drawings.{line, heap_line, drawing, IsDrawable}
 
@@ -80,5 +80,5 @@ pub record IsFileOf (P : Program) (text : List ℕ) (number : ℕ) (ss : List St
 -- kept states of a condition, drawn under its number: the text is that of the states that they stand for, which refute it and have no greater values
 pub record IsTold (P : Program) (number : ℕ) (c : Condition) (ss : List State) : Type 0 where
   pub text : drawing_text number ss ≡ drawing number (variable_names c.procedure) (map state_of ss)
-  pub refutes : Refutes P c (map state_of ss)
+  pub refutes : AreCounterexample P c (map state_of ss)
   pub drawable : All (IsDrawable (variable_names c.procedure)) (map state_of ss)

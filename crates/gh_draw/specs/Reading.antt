@@ -17,9 +17,9 @@ use Rattle.gh_draw.specs.Drawn.{IsValue, IsOtherLine, IsFileOf}
 use Rattle.gh_draw.specs.declared.drawing.Drawing.{Drawing}
 
 -- found, with what is left; or nothing is shown at the front
-abbrev pub IsRead : {X : Type 0} → (List ℕ → X → List ℕ → Type 0) → List ℕ → List ℕ → Option X → Type 0
-IsRead Shows text left (Some x) = Shows text x left
-IsRead {X} Shows text left None = (x : X) (rest : List ℕ) → Shows text x rest → ⊥
+abbrev pub IsFrontRead : {X : Type 0} → (List ℕ → X → List ℕ → Type 0) → List ℕ → List ℕ → Option X → Type 0
+IsFrontRead Shows text left (Some x) = Shows text x left
+IsFrontRead {X} Shows text left None = (x : X) (rest : List ℕ) → Shows text x rest → ⊥
 
 -- a word that is known
 abbrev pub ShowsWord : List ℕ → List ℕ → Unit {0} → List ℕ → Type 0

@@ -5,7 +5,7 @@ ghost use Rattle.std.specs.Str.Parse.{digits_value};
 ghost use Rattle.std.specs.Str.{all_ascii_digits};
 ghost use Rattle.std.specs.Fmt.{decimal};
 ghost use Rattle.gh_draw.specs.Drawn.{IsValue};
-ghost use Rattle.gh_draw.specs.Reading.{IsRead, ShowsWord, ShowsNumber, ShowsValue, ShowsCell, IsLine, IsSplitAt, IsParsed, HasLeadingZero, IsLineEnd, HasNoEnd};
+ghost use Rattle.gh_draw.specs.Reading.{IsFrontRead, ShowsWord, ShowsNumber, ShowsValue, ShowsCell, IsLine, IsSplitAt, IsParsed, HasLeadingZero, IsLineEnd, HasNoEnd};
 
 use std::str;
 
@@ -74,7 +74,7 @@ pub fn line_end(text: &[u8]) -> Option<usize>
 impl<'t> Cursor<'t> {
     /// Takes a word, where it is next.
     pub fn take(&mut self, word: &[u8]) -> Option<()>
-        ensures read { IsRead (ShowsWord word.now) self.old.text.now self.new.text.now result }
+        ensures read { IsFrontRead (ShowsWord word.now) self.old.text.now self.new.text.now result }
         ensures stays { IfNone result (self.new.text.now ≡ self.old.text.now) }
     {
         self.text = self.text.strip_prefix(word)?;
@@ -83,7 +83,7 @@ impl<'t> Cursor<'t> {
 
     /// A number without leading zeros.
     pub fn number(&mut self) -> Option<u32>
-        ensures { IsRead ShowsNumber self.old.text.now self.new.text.now result }
+        ensures { IsFrontRead ShowsNumber self.old.text.now self.new.text.now result }
     {
         let (digits, rest) = self.text.split_at(digits_first(self.text));
         let value = value_of(digits)?;
@@ -93,7 +93,7 @@ impl<'t> Cursor<'t> {
 
     /// A value of the variable of a name.
     pub fn value(&mut self, name: &[u8]) -> Option<u32>
-        ensures { IsRead (ShowsValue name.now) self.old.text.now self.new.text.now result }
+        ensures { IsFrontRead (ShowsValue name.now) self.old.text.now self.new.text.now result }
     {
         self.take(b" ")?;
         self.take(name)?;
@@ -103,7 +103,7 @@ impl<'t> Cursor<'t> {
 
     /// A place and its content.
     pub fn cell(&mut self) -> Option<(u32, u32)>
-        ensures { IsRead ShowsCell self.old.text.now self.new.text.now result }
+        ensures { IsFrontRead ShowsCell self.old.text.now self.new.text.now result }
     {
         let at = self.number()?;
         self.take(b"->")?;

@@ -3,7 +3,7 @@
 ghost use Rattle.std.specs.Prelude.{◌≡◌, ◌++◌, IfOk, OnOk, option_map};
 ghost use Rattle.gh_ast.specs.Plain.{program_of, procedure_of};
 ghost use Rattle.gh_ast.specs.Programs.{names, variable_names};
-ghost use Rattle.gh_draw.specs.Reading.{IsRead, IsFound, ShowsWord, heading, ShowsEntries, ShowsCellAbove, ShowsState, ShowsStates, ShowsHeap, ShowsCondition, ShowsTrace, IsSkipped, AreDistinctNames, IsDrawingIn};
+ghost use Rattle.gh_draw.specs.Reading.{IsFrontRead, IsFound, ShowsWord, heading, ShowsEntries, ShowsCellAbove, ShowsState, ShowsStates, ShowsHeap, ShowsCondition, ShowsTrace, IsSkipped, AreDistinctNames, IsDrawingIn};
 
 use crate::cursor::Cursor;
 use crate::drawing::Drawing;
@@ -46,7 +46,7 @@ pub fn read_store(
     names: &[Name],
 ) -> Result<Option<Store>, AllocError>
     requires { AreDistinctNames names.now }
-    ensures { IfOk result (IsRead (ShowsEntries names.now) cursor.old.text.now cursor.new.text.now) }
+    ensures { IfOk result (IsFrontRead (ShowsEntries names.now) cursor.old.text.now cursor.new.text.now) }
 {
     let mut store = Store::new(alloc);
     for name in names {
@@ -60,7 +60,7 @@ pub fn read_store(
 
 /// The cells up to the end of the line, and that end; none where the text shows no ascending cells there.
 pub fn read_heap(alloc: Global, cursor: &mut Cursor<'_>) -> Result<Option<Heap>, AllocError>
-    ensures { IfOk result (IsRead ShowsHeap cursor.old.text.now cursor.new.text.now) }
+    ensures { IfOk result (IsFrontRead ShowsHeap cursor.old.text.now cursor.new.text.now) }
 {
     let mut heap = Heap::new(alloc);
     let mut low = 0;
@@ -76,7 +76,7 @@ pub fn read_heap(alloc: Global, cursor: &mut Cursor<'_>) -> Result<Option<Heap>,
 
 // A cell above a place.
 fn read_cell(cursor: &mut Cursor<'_>, low: u32) -> Option<(u32, u32)>
-    ensures { IsRead (ShowsCellAbove low) cursor.old.text.now cursor.new.text.now result }
+    ensures { IsFrontRead (ShowsCellAbove low) cursor.old.text.now cursor.new.text.now result }
 {
     cursor.take(b" ")?;
     let (at, to) = cursor.cell()?;
@@ -92,7 +92,7 @@ fn read_heading(
     cursor: &mut Cursor<'_>,
     number: usize,
 ) -> Result<Option<()>, AllocError>
-    ensures { IfOk result (IsRead (ShowsWord (heading number)) cursor.old.text.now cursor.new.text.now) }
+    ensures { IfOk result (IsFrontRead (ShowsWord (heading number)) cursor.old.text.now cursor.new.text.now) }
 {
     let heading = format!(in alloc; "state {number}\nstore")?;
     Ok(cursor.take(heading.as_bytes()))
@@ -106,7 +106,7 @@ fn read_state(
     names: &[Name],
 ) -> Result<Option<State>, AllocError>
     requires { AreDistinctNames names.now }
-    ensures { IfOk result (IsRead (ShowsState names.now number) cursor.old.text.now cursor.new.text.now) }
+    ensures { IfOk result (IsFrontRead (ShowsState names.now number) cursor.old.text.now cursor.new.text.now) }
 {
     if read_heading(alloc, cursor, number)?.is_none() {
         return Ok(None);
@@ -130,7 +130,7 @@ fn read_states(
     names: &[Name],
 ) -> Result<Option<Vec<State>>, AllocError>
     requires { AreDistinctNames names.now }
-    ensures { IfOk result (λ o. IsRead (ShowsStates names.now 0) cursor.old.text.now cursor.new.text.now (option_map (λ v. v.items) o)) }
+    ensures { IfOk result (λ o. IsFrontRead (ShowsStates names.now 0) cursor.old.text.now cursor.new.text.now (option_map (λ v. v.items) o)) }
 {
     let mut states = Vec::new(alloc);
     'states: while cursor.take(b"end\n").is_none() {
@@ -157,7 +157,7 @@ fn skip(cursor: &mut Cursor<'_>) -> bool
 
 // The number of the condition.
 fn read_number(cursor: &mut Cursor<'_>) -> Option<u32>
-    ensures { IsRead ShowsCondition cursor.old.text.now cursor.new.text.now result }
+    ensures { IsFrontRead ShowsCondition cursor.old.text.now cursor.new.text.now result }
 {
     cursor.take(b"condition ")?;
     let number = cursor.number()?;

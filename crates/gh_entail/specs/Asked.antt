@@ -29,7 +29,7 @@ pub record IsAdmitted (q : Question) : Type 0 where
   pub limits : KeepsLimits q
 
 -- the cause of a refusal: the first of all broken rules; where none is broken, the limit that is passed; want of memory at any time
-abbrev pub IsRefusal : Question → AskError → Type 0
-IsRefusal q (ask.TypeError number span) = IsFirstBroken q number span
-IsRefusal q (ask.Limit limit) = IsTyped q × IsLimit q limit
-IsRefusal q ask.OutOfMemory = ⊤
+abbrev pub IsAskRefusal : Question → AskError → Type 0
+IsAskRefusal q (ask.TypeError number span) = IsFirstBroken q number span
+IsAskRefusal q (ask.Limit limit) = IsTyped q × IsLimit q limit
+IsAskRefusal q ask.OutOfMemory = ⊤

@@ -26,8 +26,8 @@ abbrev pub nil : Operand
 nil = Null somewhere
 
 -- `requires { lseg(x, y) &*& lseg(y, null) } ensures { lseg(x, null) }`
-abbrev pub joined : Question
-joined = record { variables = letter 120 ∷ letter 121 ∷ []; span = somewhere; left = leaf (star (formula_first (segment x y) (formula_first (segment y nil) no_formulas))); right = leaf (segment x nil) }
+abbrev pub composed_segments : Question
+composed_segments = record { variables = letter 120 ∷ letter 121 ∷ []; span = somewhere; left = leaf (star (formula_first (segment x y) (formula_first (segment y nil) no_formulas))); right = leaf (segment x nil) }
 
 -- `requires { lseg(x, null) } && !{ emp } ensures !{ x == null } && !{ x != null }`
 abbrev pub not_empty : Question
@@ -45,6 +45,6 @@ nowhere = record { variables = letter 120 ∷ []; span = somewhere; left = leaf 
 
 -- the last value of each is a witness: that of the right claim, of `!{ emp }`, of the right claim
 pub record ExamplesHold : Type 0 where
-  pub joined_terms : (question_walked joined).kinds ≡ null ∷ value 0 ∷ value 1 ∷ value 2 ∷ []
+  pub joined_terms : (question_walked composed_segments).kinds ≡ null ∷ value 0 ∷ value 1 ∷ value 2 ∷ []
   pub not_empty_terms : (question_walked not_empty).kinds ≡ null ∷ value 0 ∷ value 1 ∷ []
   pub nowhere_terms : (question_walked nowhere).kinds ≡ null ∷ value 0 ∷ next 0 1 ∷ value 1 ∷ []

@@ -7,7 +7,7 @@ ghost use Rattle.gh_ast.specs.declared.Occ.{Occ as Declared};
 ghost use Rattle.gh_types.specs.Faults.{IsFirstIn, IsFirstOf};
 ghost use Rattle.gh_types.specs.Tables.{IsTableOf};
 ghost use Rattle.gh_entail.specs.Checks.{UndeclaredErrors};
-ghost use Rattle.gh_entail.specs.Asked.{AreTerms, IsAdmitted, IsRefusal};
+ghost use Rattle.gh_entail.specs.Asked.{AreTerms, IsAdmitted, IsAskRefusal};
 ghost use Rattle.gh_entail.specs.Limits.{IsLimit, KeepsLimits, count_atoms};
 ghost use Rattle.gh_entail.specs.Rules.{Broken, DuplicateName, UnknownName};
 
@@ -151,7 +151,7 @@ fn passed_limit(question: &Question) -> Option<Limit>
 fn judged(alloc: Global, question: &Question) -> Result<QuestionTerms, AskError>
     ensures told { IfOk result (AreTerms (question_of question.now)) }
     ensures admitted { OnOk result (IsAdmitted (question_of question.now)) }
-    ensures refused { IfErr result (IsRefusal (question_of question.now)) }
+    ensures refused { IfErr result (IsAskRefusal (question_of question.now)) }
 {
     if let Some(fault) = first_fault(alloc, question)? {
         return Err(AskError::TypeError {
@@ -177,7 +177,7 @@ fn judged(alloc: Global, question: &Question) -> Result<QuestionTerms, AskError>
 pub fn admit_question(alloc: Global, question: Question) -> Result<Asked, AskError>
     ensures same { IfOk result (λ asked. asked.question ≡ question) }
     ensures admitted { IfOk result (λ asked. IsAdmitted (question_of asked.question)) }
-    ensures refused { IfErr result (IsRefusal (question_of question)) }
+    ensures refused { IfErr result (IsAskRefusal (question_of question)) }
 {
     let over = judged(alloc, &question)?;
     Ok(Asked { question, over })

@@ -17,9 +17,9 @@ use Rattle.gh_inst.proofs.ListedLemmas.{all_are_listed}
 use Rattle.gh_log.specs.declared.lines.LogLine.{LogLine}
 use Rattle.gh_log.specs.declared.lines.LogLine.TheVariants as line
 use Rattle.gh_log.specs.Sections.{line_clause}
-use Rattle.gh_sat.specs.Trail.{State}
+use Rattle.gh_sat.specs.Trail.{SearchState}
 use Rattle.gh_sat.proofs.ListLemmas.{lt_le}
-use Rattle.gh_ground.specs.Kept.{IsKept, Keeps}
+use Rattle.gh_ground.specs.Kept.{HasLineEach, Keeps}
 use Rattle.gh_ground.specs.Solving.{IsModelOf}
 
 abbrev same_terms : List Term → List Term → Bool
@@ -175,13 +175,13 @@ in_some (x ∷ cs) c (zero, lt, e) = (zero, omega arith, cc)
 in_some (x ∷ cs) c (suc i, lt, e) = let r = in_some cs c (i, omega arith, e) in (suc r.0, omega (arith, r.1), r.2)
 
 -- a line that is there isn't false
-pub listed_true : (p : Problem) (s : State) (ls : List LogLine) (m : Interpretation) (n : InstanceName) → IsKept p s ls → All (IsClauseTrue m) s.clauses → Contains ls (line.Axiom n) → IsClauseTrue m (clause_of n)
+pub listed_true : (p : Problem) (s : SearchState) (ls : List LogLine) (m : Interpretation) (n : InstanceName) → HasLineEach p s ls → All (IsClauseTrue m) s.clauses → Contains ls (line.Axiom n) → IsClauseTrue m (clause_of n)
 listed_true p s ls m n kept all w =
     All-contains (IsClauseTrue m) s.clauses (clause_of n) all
     (in_some s.clauses (clause_of n) (subst (λ (cs : List (Option (List Lit))). Contains cs (Some (clause_of n))) kept.clauses (in_map p ls (line.Axiom n) w)))
 
 -- after a round fewer are missing
-pub round_less : (p : Problem) (s0 s1 s2 : State) (l0 l1 l2 : List LogLine) (m : Interpretation) (z : Sizes) (names : List InstanceName) → z ≡ p.sizes → Keeps s0 l0 s1 l1 → IsKept p s1 l1 → All (IsClauseTrue m) s1.clauses
+pub round_less : (p : Problem) (s0 s1 s2 : SearchState) (l0 l1 l2 : List LogLine) (m : Interpretation) (z : Sizes) (names : List InstanceName) → z ≡ p.sizes → Keeps s0 l0 s1 l1 → HasLineEach p s1 l1 → All (IsClauseTrue m) s1.clauses
     → All (IsFalseInstance z m) names → (names ≡ [] → ⊥) → Keeps s1 l1 s2 l2 → All (λ n. Contains l2 (line.Axiom n)) names
     → unlisted p l2 < unlisted p l0
 unfolding unlisted
@@ -210,7 +210,7 @@ pub are_instances : (z s : Sizes) (m : Interpretation) (names slice : List Insta
 are_instances z s m names slice same e all =
     subst (All (IsInstance s.terms s.versions)) (sym e) (λ k d lt. subst (λ (w : Sizes). IsInstance w.terms w.versions (get_or names k d)) same (all k d lt).0)
 
-pub model_is : (p : Problem) (s : State) (lines : List LogLine) (t : Tables) → IsKept p s lines → t.sizes ≡ s.sizes → All (IsClauseTrue (interpretation_of t)) s.clauses → IsCongruence s.sizes (interpretation_of t)
+pub model_is : (p : Problem) (s : SearchState) (lines : List LogLine) (t : Tables) → HasLineEach p s lines → t.sizes ≡ s.sizes → All (IsClauseTrue (interpretation_of t)) s.clauses → IsCongruence s.sizes (interpretation_of t)
     → AreInstancesTrue t.sizes (interpretation_of t) → IsModelOf p t
 model_is p s lines t kept same clauses congruence instances = record {
   sizes = same ∙ kept.sizes;

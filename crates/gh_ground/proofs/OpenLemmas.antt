@@ -10,15 +10,15 @@ use Rattle.gh_base.specs.Meaning.{Interpretation, IsClauseTrue, IsCongruence}
 use Rattle.gh_log.specs.declared.lines.LogLine.{LogLine}
 use Rattle.gh_sat.specs.declared.trail.Step.{Step}
 use Rattle.gh_sat.specs.Theory.{lits_of}
-use Rattle.gh_sat.specs.Trail.{State, IsSound}
-use Rattle.gh_ground.specs.Kept.{IsKept, IsOpen}
+use Rattle.gh_sat.specs.Trail.{SearchState, IsSound}
+use Rattle.gh_ground.specs.Kept.{HasLineEach, IsOpen}
 use Rattle.gh_sat.proofs.TheoryLemmas.{in_lits, no_lit_free, refuted_false}
 use Rattle.gh_cc.specs.Partials.{IsStructureOf}
 use Rattle.gh_cc.proofs.PartialLemmas.{are_congruences, are_assigned_true}
 use Rattle.gh_ground.specs.Laws.{AreClausesTrue}
 
 -- the literals of a trail are in range
-pub trail_range : (s : State) → IsSound s → AreInRange s.sizes (lits_of s.trail)
+pub trail_range : (s : SearchState) → IsSound s → AreInRange s.sizes (lits_of s.trail)
 trail_range s sound k d lt =
     let l : Lit = get_or (lits_of s.trail) k d in
     let w = in_lits s.trail l (Contains-get_or (lits_of s.trail) k d lt) in
@@ -31,16 +31,16 @@ are_clauses_true s m st sound settled known assigned k d lt =
     (λ j e lt' free. assigned k d lt j e lt' (no_lit_free s.trail (get_or c j e).atom free))
     (λ f. settled.no_false k c (slice_get-get_or s.clauses k d lt) (refuted_false s.trail c f))
 
-pub range_of : (s : State) (sizes : Sizes) (steps : List Step) → IsSound s → sizes ≡ s.sizes → steps ≡ s.trail → AreInRange sizes (lits_of steps)
+pub range_of : (s : SearchState) (sizes : Sizes) (steps : List Step) → IsSound s → sizes ≡ s.sizes → steps ≡ s.trail → AreInRange sizes (lits_of steps)
 range_of s sizes steps sound e f = subst (λ (z : Sizes). AreInRange z (lits_of steps)) (sym e) (subst (λ (t : List Step). AreInRange s.sizes (lits_of t)) (sym f) (trail_range s sound))
 
-pub some_terms : (p : Problem) (s : State) (lines : List LogLine) (sizes : Sizes) → IsKept p s lines → sizes ≡ s.sizes → 1 ≤ sizes.terms
+pub some_terms : (p : Problem) (s : SearchState) (lines : List LogLine) (sizes : Sizes) → HasLineEach p s lines → sizes ≡ s.sizes → 1 ≤ sizes.terms
 some_terms p s lines sizes k e = subst (λ (z : Sizes). 1 ≤ z.terms) (sym (e ∙ k.sizes)) k.problem.terms
 
-pub some_versions : (p : Problem) (s : State) (lines : List LogLine) (sizes : Sizes) → IsKept p s lines → sizes ≡ s.sizes → 1 ≤ sizes.versions
+pub some_versions : (p : Problem) (s : SearchState) (lines : List LogLine) (sizes : Sizes) → HasLineEach p s lines → sizes ≡ s.sizes → 1 ≤ sizes.versions
 some_versions p s lines sizes k e = subst (λ (z : Sizes). 1 ≤ z.versions) (sym (e ∙ k.sizes)) k.problem.versions
 
-module _ (s : State) (sizes : Sizes) (steps : List Step) (m : Interpretation) (e : sizes ≡ s.sizes) (f : steps ≡ s.trail) (made : IsStructureOf sizes (lits_of steps) m) where
+module _ (s : SearchState) (sizes : Sizes) (steps : List Step) (m : Interpretation) (e : sizes ≡ s.sizes) (f : steps ≡ s.trail) (made : IsStructureOf sizes (lits_of steps) m) where
   structure : IsStructureOf s.sizes (lits_of s.trail) m
   structure = subst (λ (z : Sizes). IsStructureOf z (lits_of s.trail) m) e (subst (λ (t : List Step). IsStructureOf sizes (lits_of t) m) f made)
 

@@ -11,8 +11,8 @@ use Rattle.gh_inst.specs.Violations.{IsInstanceTrue, AreInstancesTrue}
 use Rattle.gh_inst.proofs.ListedLemmas.{all_are_listed}
 use Rattle.gh_log.specs.declared.lines.LogLine.{LogLine}
 use Rattle.gh_log.specs.declared.lines.LogLine.TheVariants as line
-use Rattle.gh_sat.specs.Trail.{State}
-use Rattle.gh_ground.specs.Kept.{IsKept, Keeps}
+use Rattle.gh_sat.specs.Trail.{SearchState}
+use Rattle.gh_ground.specs.Kept.{HasLineEach, Keeps}
 use Rattle.gh_ground.specs.Solving.{IsModelOf}
 use Rattle.gh_ground.proofs.KeptLemmas.{kept_longer}
 use Rattle.gh_ground.proofs.MissingLemmas.{listed_true, model_is}
@@ -26,14 +26,14 @@ all_instances z s slice same all k d lt =
     let there : Contains (instances z.terms z.versions) n = subst (λ (ns : List InstanceName). Contains ns n) all (Contains-get_or slice k d lt) in
     subst (λ (w : Sizes). IsInstance w.terms w.versions n) (sym same) ((all_are_listed z.terms z.versions n).0 there)
 
-listed_all_true : (p : Problem) (mid end : State) (before lines : List LogLine) (m : Interpretation) (names : List InstanceName) → Keeps mid before end lines → IsKept p end lines → All (IsClauseTrue m) end.clauses
+listed_all_true : (p : Problem) (mid end : SearchState) (before lines : List LogLine) (m : Interpretation) (names : List InstanceName) → Keeps mid before end lines → HasLineEach p end lines → All (IsClauseTrue m) end.clauses
     → All (λ n. Contains before (line.Axiom n)) names → All (IsInstanceTrue m) names
 listed_all_true p mid end before lines m names then kept all listed k d lt =
     let n : InstanceName = get_or names k d in
     listed_true p end lines m n kept all (kept_longer n before lines then.more then.longer (listed k d lt))
 
 -- each instance has its line, so it is true where the clauses are
-pub plain_model : (p : Problem) (mid end : State) (before lines : List LogLine) (t : Tables) (slice : List InstanceName) → slice ≡ instances p.sizes.terms p.sizes.versions → Keeps mid before end lines → IsKept p end lines → t.sizes ≡ end.sizes
+pub plain_model : (p : Problem) (mid end : SearchState) (before lines : List LogLine) (t : Tables) (slice : List InstanceName) → slice ≡ instances p.sizes.terms p.sizes.versions → Keeps mid before end lines → HasLineEach p end lines → t.sizes ≡ end.sizes
     → All (IsClauseTrue (interpretation_of t)) end.clauses → IsCongruence end.sizes (interpretation_of t) → All (λ n. Contains before (line.Axiom n)) slice → IsModelOf p t
 plain_model p mid end before lines t slice all then kept same clauses congruence added =
     let m : Interpretation = interpretation_of t in

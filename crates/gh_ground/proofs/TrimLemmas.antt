@@ -14,7 +14,7 @@ use Rattle.gh_log.specs.Sections.{line_clause, HasClauseAt, Stands, AllStand, Ar
 use Rattle.gh_log.specs.Spelled.{IsOfVersion}
 use Rattle.gh_log.proofs.KindLemmas.{kind_push}
 use Rattle.gh_sat.proofs.ListLemmas.{get_within, get_front, get_last, get_push, get_take}
-use Rattle.gh_ground.specs.Solving.{hints_of, IsNoDeletion, IsHintLater, IsTrimmed, Refutes, IsRefutationOf}
+use Rattle.gh_ground.specs.Solving.{hints_of, IsNoDeletion, IsHintLater, IsTrimmed, RefutesProblem, IsRefutationOf}
 use Rattle.gh_ground.specs.Trimming.{IsKeptAt, AreKeptBefore, KeepsOnly, IsHintOfKept, AreNeeded, IsMoved}
 use Rattle.gh_ground.proofs.KeptLemmas.{no_kinds, deletes_nothing}
 
@@ -300,7 +300,7 @@ none_left p lines kept place new positions needed end h = λ q lt.
 
 -- what was trimmed is a refutation
 pub trimmed_refutes : (p : Problem) (s t : Section) (kept : List Bool) (place : ℕ) (positions : List ℕ) → AreNeeded s.lines.items kept 0 → place ≡ length s.lines.items
-    → (IsGood p s.lines.items → IsRenumbered p s.lines.items kept place t.lines.items positions) → t.first ≡ 1 → vec_len t.lines ≤ 4294967294 → Refutes p s → IsRefutationOf p t
+    → (IsGood p s.lines.items → IsRenumbered p s.lines.items kept place t.lines.items positions) → t.first ≡ 1 → vec_len t.lines ≤ 4294967294 → RefutesProblem p s → IsRefutationOf p t
 trimmed_refutes p s t kept place positions needed end trimmed first few h =
     let w = trimmed (record { kinds = h.valid.of_kind; version = h.version; none = h.no_deletions }) in
     let ends = h.valid.ends in

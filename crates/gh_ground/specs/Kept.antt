@@ -10,9 +10,9 @@ use Rattle.gh_log.specs.Spelled.{IsOfVersion}
 use Rattle.gh_sat.specs.Learn.{IsConflict}
 use Rattle.gh_sat.specs.Status.{IsSettled, AreAssigned}
 use Rattle.gh_sat.specs.Theory.{lits_of, HasNoConflict}
-use Rattle.gh_sat.specs.Trail.{State, IsSound}
+use Rattle.gh_sat.specs.Trail.{SearchState, IsSound}
 
-pub record IsKept (p : Problem) (s : State) (lines : List LogLine) : Type 0 where
+pub record HasLineEach (p : Problem) (s : SearchState) (lines : List LogLine) : Type 0 where
   pub problem : IsProblem p
   pub sizes : s.sizes ≡ p.sizes
   -- a line for each clause, at its number
@@ -22,13 +22,13 @@ pub record IsKept (p : Problem) (s : State) (lines : List LogLine) : Type 0 wher
   pub ground : (c : List Lit) → Contains p.clauses c → Contains s.clauses c
 
 -- lines were added, and what was kept is
-pub record Keeps (old : State) (before : List LogLine) (new : State) (after : List LogLine) : Type 0 where
-  pub keeps : (p : Problem) → IsKept p old before → IsKept p new after
+pub record Keeps (old : SearchState) (before : List LogLine) (new : SearchState) (after : List LogLine) : Type 0 where
+  pub keeps : (p : Problem) → HasLineEach p old before → HasLineEach p new after
   pub more : List LogLine
   pub longer : after ≡ before ++ more
 
 -- what holds of a search after an answer of its propagation
-pub record IsAnswered (s : State) (answer : Option ℕ) : Type 0 where
+pub record IsAnswered (s : SearchState) (answer : Option ℕ) : Type 0 where
   pub sound : IsSound s
   pub conflict : IfSome answer (IsConflict s)
   pub settled : IfNone answer (IsSettled s)
@@ -36,17 +36,17 @@ pub record IsAnswered (s : State) (answer : Option ℕ) : Type 0 where
   pub known : IfNone answer (IsConsistent s.sizes (lits_of s.trail))
 
 -- all atoms of clauses have a truth, and no clause is false, nor one of equality
-pub record IsOpen (s : State) : Type 0 where
+pub record IsOpen (s : SearchState) : Type 0 where
   pub sound : IsSound s
   pub settled : IsSettled s
   pub known : IsConsistent s.sizes (lits_of s.trail)
   pub assigned : AreAssigned s
 
 -- the clause of number k is false at level 0
-pub record IsRefuted (s : State) (k : ℕ) : Type 0 where
+pub record IsRefuted (s : SearchState) (k : ℕ) : Type 0 where
   pub conflict : IsConflict s k
   pub first : s.starts ≡ []
 
-abbrev pub IsEnded : State → Option ℕ → Type 0
+abbrev pub IsEnded : SearchState → Option ℕ → Type 0
 IsEnded s None = IsOpen s
 IsEnded s (Some k) = IsRefuted s k

@@ -43,7 +43,7 @@ IsTrimmed lines = (k : ℕ) → k + 1 < length lines → IsHintLater lines k
 
 -- the section is valid for the problem, is of version 2 without deletions and stands at the first line, and 32 bits number
 -- its lines and the place after them; it may have lines that nothing later needs
-pub record Refutes (p : Problem) (s : Section) : Type 0 where
+pub record RefutesProblem (p : Problem) (s : Section) : Type 0 where
   pub valid : IsValidSection p s.lines.items
   pub version : All (IsOfVersion 2) s.lines.items
   pub no_deletions : All IsNoDeletion s.lines.items

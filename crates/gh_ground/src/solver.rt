@@ -9,8 +9,8 @@ ghost use Rattle.gh_inst.specs.Instances.{IsInstance};
 ghost use Rattle.gh_log.specs.declared.lines.LogLine.TheVariants.{Axiom};
 ghost use Rattle.gh_log.specs.Sections.{line_clause, AreOfKind};
 ghost use Rattle.gh_log.specs.Spelled.{IsOfVersion};
-ghost use Rattle.gh_ground.specs.Kept.{IsKept, Keeps, IsAnswered, IsOpen, IsRefuted, IsEnded};
-ghost use Rattle.gh_ground.specs.Solving.{Refutes};
+ghost use Rattle.gh_ground.specs.Kept.{HasLineEach, Keeps, IsAnswered, IsOpen, IsRefuted, IsEnded};
+ghost use Rattle.gh_ground.specs.Solving.{RefutesProblem};
 ghost use Rattle.gh_sat.specs.Learn.{IsConflict};
 ghost use Rattle.gh_sat.specs.Measure.{left};
 ghost use Rattle.gh_sat.specs.Theory.{PropagatesBeside};
@@ -33,6 +33,8 @@ use std::alloc::{AllocError, Global};
 pub(crate) struct Solver {
     search: Search<Congruence>,
     lines: Vec<LogLine>,
+    // A far lesson cuts so many levels and one more.
+    stride: u32,
 }
 
 // A line for each clause of a ground problem.
@@ -73,30 +75,38 @@ fn positions(alloc: Global, numbers: &[u32]) -> Result<Vec<u32>, AllocError>
     Ok(positions)
 }
 
-// The level to cut to after a lesson: its own, or the one below the present level where that is more than a thousand
-// levels away, since most of what a long cut undoes is decided again.
-fn cut_level(present: u32, level: u32) -> u32
+// A lesson is far if more levels than these lie between its own and the present one.
+const FAR: u32 = 20;
+
+// The level to cut to after a lesson: its own, or where it is far `stride` and one below the present level, since most of
+// what a long cut undoes is decided again.
+fn cut_level(present: u32, level: u32, stride: u32) -> u32
     requires { level < present }
     ensures low { level ≤ result }
     ensures high { result < present }
 {
-    if present - level > 1000 {
-        present - 1
-    } else {
+    let least = present - 1 - level;
+    if least < FAR {
         level
+    } else {
+        present - 1 - stride.min(least)
     }
 }
 
 impl Solver {
     /// Nothing is decided yet.
     pub(crate) fn new(alloc: Global, ground: &Ground) -> Result<Solver, AllocError>
-        ensures { IfOk result (λ s. IsKept ground.now s.search s.lines.items) }
+        ensures { IfOk result (λ s. HasLineEach ground.now s.search s.lines.items) }
     {
         let sizes = ground.sizes();
         let theory = Congruence::new(alloc, sizes.terms, sizes.versions, sizes.defs)?;
         let search = Search::new(alloc, ground, theory)?;
         let lines = ground_lines(alloc, ground)?;
-        Ok(Solver { search, lines })
+        Ok(Solver {
+            search,
+            lines,
+            stride: 0,
+        })
     }
 
     // Propagates, and notes the lemma of a conflict of equality and congruence.
@@ -127,11 +137,15 @@ impl Solver {
     {
         match self.search.decide_needed() {
             None => Ok(None),
-            Some(_lit) => Ok(Some(self.propagate(alloc)?)),
+            Some(_lit) => {
+                self.stride = 0;
+                Ok(Some(self.propagate(alloc)?))
+            }
         }
     }
 
-    // Learns from a false clause, jumps back and propagates.
+    // Learns from a false clause, jumps back and propagates. Far lessons with no decision between them cut one level,
+    // then two, six, 22 and so on, so that a row of them soon comes to the level of the last one.
     fn learn(&mut self, alloc: Global, conflict: u32) -> Result<Option<u32>, AllocError>
         requires sound { IsSound self.old.search }
         requires conflict { IsConflict self.old.search conflict }
@@ -142,7 +156,8 @@ impl Solver {
     {
         let learnt = self.search.learn(alloc, conflict)?;
         self.search
-            .backjump(cut_level(self.search.level(), learnt.level));
+            .backjump(cut_level(self.search.level(), learnt.level, self.stride));
+        self.stride = self.stride.saturating_mul(4).saturating_add(1);
         let hints = positions(alloc, learnt.reasons.as_slice())?;
         let Learnt { clause, .. } = learnt;
         self.lines.push(LogLine::Hinted { clause, hints })?;
@@ -194,7 +209,7 @@ impl Solver {
     /// The structure of what the trail asserts.
     pub(crate) fn structure(&self, alloc: Global) -> Result<Structure, AllocError>
         requires open { IsOpen self.now.search }
-        requires kept { (p : Problem) × IsKept p self.now.search self.now.lines.items }
+        requires kept { (p : Problem) × HasLineEach p self.now.search self.now.lines.items }
         ensures sizes { IfOk result (λ s. s.sizes ≡ self.now.search.sizes) }
         ensures clauses { IfOk result (λ s. All (IsClauseTrue (interpretation_of s)) self.now.search.clauses) }
         ensures congruence { IfOk result (λ s. IsCongruence self.now.search.sizes (interpretation_of s)) }
@@ -244,7 +259,7 @@ impl Solver {
         conflict: u32,
     ) -> Result<Section, AllocError>
         requires { IsRefuted self.search conflict }
-        ensures { IfOk result (λ s. (p : Problem) → IsKept p self.search self.lines.items → Refutes p s) }
+        ensures { IfOk result (λ s. (p : Problem) → HasLineEach p self.search self.lines.items → RefutesProblem p s) }
     {
         if self.lines.len() >= 4294967294 {
             return Err(AllocError);

@@ -3,7 +3,7 @@
 ghost use Rattle.std.specs.Prelude.{◌≡◌, ◌⊎◌, ◌+◌, ◌-◌, ◌<◌, ◌≤◌, ◌++◌, ◌∷◌, [], ℕ, IfOk, OnOk, length, map, slice_get, slice_index};
 ghost use Rattle.gh_base.specs.Grounds.{Problem};
 ghost use Rattle.gh_log.specs.declared.lines.LogLine.{LogLine};
-ghost use Rattle.gh_ground.specs.Solving.{hints_of, Refutes, IsRefutationOf};
+ghost use Rattle.gh_ground.specs.Solving.{hints_of, RefutesProblem, IsRefutationOf};
 ghost use Rattle.gh_ground.specs.Trimming.{IsKeptAt, AreKeptBefore, KeepsOnly, AreNeeded, IsMoved};
 
 use gh_log::lines::{LogLine, Section};
@@ -164,7 +164,7 @@ impl Trimmed {
 /// A section without the lines that nothing later needs, a refutation where it was one. More lines than 32 bits can number
 /// count as want of memory.
 pub(crate) fn trim(alloc: Global, section: &Section) -> Result<Section, AllocError>
-    ensures { IfOk result (λ s. (p : Problem) → Refutes p section.now → IsRefutationOf p s) }
+    ensures { IfOk result (λ s. (p : Problem) → RefutesProblem p section.now → IsRefutationOf p s) }
 {
     let lines = section.lines.as_slice();
     if lines.len() > 4294967294 {

@@ -9,7 +9,7 @@ use Rattle.gh_base.specs.declared.atom.Lit.{Lit}
 use Rattle.gh_inst.specs.Schemas.{term}
 use Rattle.gh_log.specs.Texts.{atom_text, sign_text, lits_text, line_end}
 use Rattle.gh_log.specs.Spelled.{IsSpelledAtom}
-use Rattle.gh_log.specs.Reading.{IsRefused, IsNotNext, EndsNumber, SpellsBytes, SpellsAtom, SpellsLit, SpellsLits, SpellsClause, SpellsShown}
+use Rattle.gh_log.specs.Reading.{SpellsNothing, IsNotNext, EndsNumber, SpellsBytes, SpellsAtom, SpellsLit, SpellsLits, SpellsClause, SpellsShown}
 use Rattle.gh_log.proofs.NumberLemmas.{AreOne, AreSmall, marked, one_marked, one_bytes, bytes_small}
 
 -- the letter of an atom, and its numbers
@@ -133,11 +133,11 @@ bytes_of k text x rest no_def s =
       },
     )
 
-pub no_numbers : (k : ℕ) (text : List ℕ) → k ≢ 68 → IsRefused (SpellsBytes 46 (count_at k) text) → IsRefused (SpellsAtom (k ∷ text))
+pub no_numbers : (k : ℕ) (text : List ℕ) → k ≢ 68 → SpellsNothing (SpellsBytes 46 (count_at k) text) → SpellsNothing (SpellsAtom (k ∷ text))
 no_numbers k text no_def h x rest s = let t = bytes_of k text x rest no_def s in h (numbers_of x) rest t.1
 
 -- an equality whose terms don't stand in order
-pub out_of_order : (a b : ℕ) (text rest : List ℕ) → SpellsBytes 46 2 text (a ∷ b ∷ []) rest → b < a → IsRefused (SpellsAtom (69 ∷ text))
+pub out_of_order : (a b : ℕ) (text rest : List ℕ) → SpellsBytes 46 2 text (a ∷ b ∷ []) rest → b < a → SpellsNothing (SpellsAtom (69 ∷ text))
 out_of_order a b text rest here h x q s =
     let t = bytes_of 69 text x q (λ e. absurd (omega (arith, e))) s in
     let one = one_bytes 46 2 text (a ∷ b ∷ []) (numbers_of x) rest q refl here t.1 in
@@ -146,7 +146,7 @@ out_of_order a b text rest here h x q s =
     omega (arith, order.0, h)
 
 -- a letter of no atom
-pub no_kind : (b : ℕ) (text : List ℕ) → b ≢ 69 → b ≢ 66 → b ≢ 72 → b ≢ 65 → b ≢ 68 → IsRefused (SpellsAtom (b ∷ text))
+pub no_kind : (b : ℕ) (text : List ℕ) → b ≢ 69 → b ≢ 66 → b ≢ 72 → b ≢ 65 → b ≢ 68 → SpellsNothing (SpellsAtom (b ∷ text))
 no_kind b text p q r s t (Eq x y) rest h = let f = (parts_of (b ∷ text) (Eq x y) rest h.front).front in p (cc)
 no_kind b text p q r s t (Btwn v x y z) rest h = let f = (parts_of (b ∷ text) (Btwn v x y z) rest h.front).front in q (cc)
 no_kind b text p q r s t (Hop v x y) rest h = let f = (parts_of (b ∷ text) (Hop v x y) rest h.front).front in r (cc)
@@ -154,7 +154,7 @@ no_kind b text p q r s t (Alloc v x) rest h = let f = (parts_of (b ∷ text) (Al
 no_kind b text p q r s t (Def n) rest h = let f = (parts_of (b ∷ text) (Def n) rest h.front).front in t (cc)
 
 -- no text is at its end where an atom is to come
-pub no_atom_at_end : IsRefused (SpellsAtom [])
+pub no_atom_at_end : SpellsNothing (SpellsAtom [])
 no_atom_at_end x rest s = let f = (parts_of [] x rest s.front).front in absurd (cc)
 
 not_sign : (x : Atom) → kind_of x ≢ 45
@@ -178,7 +178,7 @@ same_lit true false text middle rest x t e = (refl, cc)
 same_lit false true text middle rest x t e = (refl, t.0 ∙ e)
 same_lit false false text middle rest x t e = absurd (subst (IsNotNext 45) e t.1 refl)
 
-pub no_lit : (b : Bool) (text middle : List ℕ) → TakesSign b text middle → IsRefused (SpellsAtom middle) → IsRefused (SpellsLit text)
+pub no_lit : (b : Bool) (text middle : List ℕ) → TakesSign b text middle → SpellsNothing (SpellsAtom middle) → SpellsNothing (SpellsLit text)
 no_lit b text middle t h l rest s =
     let m = same_lit b l.positive text middle rest l.atom t s.front in
     h l.atom rest (record { front = m.1; spelled = s.spelled; ends = s.ends })
@@ -213,7 +213,7 @@ pub feed_ends : IsEnd line_end
 feed_ends = record { ends = λ rest. refl; apart = λ x y z l e s. ends_or_more x y e }
 
 -- the sign before hints begins no literal
-no_sign : (x : List ℕ) → IsRefused (SpellsLit (59 ∷ x))
+no_sign : (x : List ℕ) → SpellsNothing (SpellsLit (59 ∷ x))
 no_sign x =
     no_lit false (59 ∷ x) (59 ∷ x) (refl, λ e. absurd (omega (arith, e)))
     (no_kind 59 x (λ e. absurd (omega (arith, e))) (λ e. absurd (omega (arith, e))) (λ e. absurd (omega (arith, e))) (λ e. absurd (omega (arith, e))) (λ e. absurd (omega (arith, e))))
@@ -272,11 +272,11 @@ one_lits end h text (l ∷ c) (m ∷ d) r q a b =
     let there : c ≡ d = more.value in
     record { value = cc; rest = more.rest }
 
-pub no_clause_here : (text : List ℕ) → IsNotNext 10 text → IsNotNext 32 text → IsRefused (SpellsClause text)
+pub no_clause_here : (text : List ℕ) → IsNotNext 10 text → IsNotNext 32 text → SpellsNothing (SpellsClause text)
 no_clause_here text h k [] rest s = subst (IsNotNext 10) s.front h refl
 no_clause_here text h k (l ∷ ls) rest s = subst (IsNotNext 32) (first_lit line_end feed_ends text l ls rest s).front k refl
 
-pub no_lit_here : (text middle : List ℕ) → text ≡ 32 ∷ middle → IsRefused (SpellsLit middle) → IsRefused (SpellsClause text)
+pub no_lit_here : (text middle : List ℕ) → text ≡ 32 ∷ middle → SpellsNothing (SpellsLit middle) → SpellsNothing (SpellsClause text)
 no_lit_here text middle e h [] rest s = ends_or_more rest middle (sym s.front ∙ e)
 no_lit_here text middle e h (l ∷ ls) rest s =
     let f = first_lit line_end feed_ends text l ls rest s in
@@ -284,11 +284,11 @@ no_lit_here text middle e h (l ∷ ls) rest s =
     let middles : f.middle ≡ middle = cc in
     h l f.after (subst (λ t. SpellsLit t l f.after) middles f.first)
 
-pub no_shown_here : (text : List ℕ) → IsNotNext 32 text → IsRefused (SpellsShown text)
+pub no_shown_here : (text : List ℕ) → IsNotNext 32 text → SpellsNothing (SpellsShown text)
 no_shown_here text k [] rest s = subst (IsNotNext 32) s.front k refl
 no_shown_here text k (l ∷ ls) rest s = subst (IsNotNext 32) (first_lit (codes " ;") sign_ends text l ls rest s).front k refl
 
-pub no_shown_lit : (text middle : List ℕ) → text ≡ 32 ∷ middle → IsNotNext 59 middle → IsRefused (SpellsLit middle) → IsRefused (SpellsShown text)
+pub no_shown_lit : (text middle : List ℕ) → text ≡ 32 ∷ middle → IsNotNext 59 middle → SpellsNothing (SpellsLit middle) → SpellsNothing (SpellsShown text)
 no_shown_lit text middle e n h [] rest s =
     let f = s.front in
     let tail : middle ≡ 59 ∷ rest = cc in
@@ -302,7 +302,7 @@ no_shown_lit text middle e n h (l ∷ ls) rest s =
 -- what is left of a part, put after what was read, is the whole
 pub record Goes {X Y : Type 0} (P : X → List ℕ → Type 0) (Q : Y → List ℕ → Type 0) (put : X → Y) : Type 0 where
   pub forth : (x : X) (rest : List ℕ) → P x rest → Q (put x) rest
-  pub back : IsRefused P → IsRefused Q
+  pub back : SpellsNothing P → SpellsNothing Q
 
 pub goes_none : (end text : List ℕ) (c : List Lit) → c ≡ [] → Goes (SpellsLits end text) (SpellsLits end text) (λ d. c ++ d)
 goes_none end text c e = record { forth = λ d rest s. subst (λ b. SpellsLits end text (b ++ d) rest) (sym e) s; back = λ h. h }
@@ -316,7 +316,7 @@ goes_lit end i whole text middle after c d l g e s f =
       back = λ h. g.back (no_more end i text middle after l e s h);
     }
   where
-    no_more : (end : List ℕ) → IsEnd end → (text middle after : List ℕ) (l : Lit) → text ≡ 32 ∷ middle → SpellsLit middle l after → IsRefused (SpellsLits end after) → IsRefused (SpellsLits end text)
+    no_more : (end : List ℕ) → IsEnd end → (text middle after : List ℕ) (l : Lit) → text ≡ 32 ∷ middle → SpellsLit middle l after → SpellsNothing (SpellsLits end after) → SpellsNothing (SpellsLits end text)
     no_more end i text middle after l e s h [] rest k = i.apart rest middle after l (sym k.front ∙ e) s
     no_more end i text middle after l e s h (m ∷ ls) rest k =
         let f = first_lit end i text m ls rest k in

@@ -14,7 +14,7 @@ use Rattle.gh_log.specs.declared.lines.LogLine.{LogLine}
 use Rattle.gh_log.specs.declared.lines.LogLine.TheVariants as line
 use Rattle.gh_log.specs.Texts.{term_text, lits_text, numbers_text, header_text}
 use Rattle.gh_log.specs.Spelled.{IsVersion, IsOfVersion}
-use Rattle.gh_log.specs.Reading.{IsRefused, SpellsText, IsNotNext, EndsNumber, SpellsNumber, SpellsBytes, SpellsClause, SpellsShown, SpellsNumbers, SpellsTerms, ArePadded, SpellsParts, SpellsLine, first_line, SpellsVersion, SpellsHeader}
+use Rattle.gh_log.specs.Reading.{SpellsNothing, SpellsText, IsNotNext, EndsNumber, SpellsNumber, SpellsBytes, SpellsClause, SpellsShown, SpellsNumbers, SpellsTerms, ArePadded, SpellsParts, SpellsLine, first_line, SpellsVersion, SpellsHeader}
 use Rattle.gh_log.proofs.NumberLemmas.{AreOne, one_number, one_bytes}
 use Rattle.gh_log.proofs.AtomLemmas.{IsByte, a_byte, ends_or_more, sign_ends, one_lits, Goes}
 
@@ -74,15 +74,15 @@ one_terms k text (t ∷ ts) (u ∷ us) r q a b =
     let there : ts ≡ us = more.value in
     record { value = cc; rest = more.rest }
 
-pub no_terms_here : (k : ℕ) (text : List ℕ) → IsNotNext 10 text → IsRefused (SpellsBytes 32 1 text) → IsRefused (SpellsTerms k text)
+pub no_terms_here : (k : ℕ) (text : List ℕ) → IsNotNext 10 text → SpellsNothing (SpellsBytes 32 1 text) → SpellsNothing (SpellsTerms k text)
 no_terms_here k text n h [] rest s = subst (IsNotNext 10) s.front n refl
 no_terms_here k text n h (t ∷ ts) rest s = let f = first_term k text t ts rest s in h (t.0 ∷ []) f.after f.first
 
-pub no_fifth : (k : ℕ) (text : List ℕ) → 4 ≤ k → IsNotNext 10 text → IsRefused (SpellsTerms k text)
+pub no_fifth : (k : ℕ) (text : List ℕ) → 4 ≤ k → IsNotNext 10 text → SpellsNothing (SpellsTerms k text)
 no_fifth k text four n [] rest s = subst (IsNotNext 10) s.front n refl
 no_fifth k text four n (t ∷ ts) rest s = let few = s.few in absurd (omega (arith, few))
 
-pub no_more_terms : (k : ℕ) (text after : List ℕ) (t : Term) → SpellsBytes 32 1 text (t.0 ∷ []) after → IsRefused (SpellsTerms (k + 1) after) → IsRefused (SpellsTerms k text)
+pub no_more_terms : (k : ℕ) (text after : List ℕ) (t : Term) → SpellsBytes 32 1 text (t.0 ∷ []) after → SpellsNothing (SpellsTerms (k + 1) after) → SpellsNothing (SpellsTerms k text)
 no_more_terms k text after t a h [] rest s = ends_or_more rest _ (sym s.front ∙ a.front)
 no_more_terms k text after t a h (u ∷ us) rest s =
     let f = first_term k text u us rest s in
@@ -187,10 +187,10 @@ name_read text middle rest row version arity terms a b p some =
       };
     }
 
-pub no_pair : (text : List ℕ) → IsRefused (SpellsBytes 32 2 text) → IsRefused (λ n. SpellsParts (97 ∷ text) (line.Axiom n))
+pub no_pair : (text : List ℕ) → SpellsNothing (SpellsBytes 32 2 text) → SpellsNothing (λ n. SpellsParts (97 ∷ text) (line.Axiom n))
 no_pair text h name rest s = let w = name_parts text name rest s in h (name.row ∷ name.version ∷ []) w.middle w.numbers
 
-pub no_terms : (text middle : List ℕ) (row version : ℕ) → SpellsBytes 32 2 text (row ∷ version ∷ []) middle → IsRefused (SpellsTerms 0 middle) → IsRefused (λ n. SpellsParts (97 ∷ text) (line.Axiom n))
+pub no_terms : (text middle : List ℕ) (row version : ℕ) → SpellsBytes 32 2 text (row ∷ version ∷ []) middle → SpellsNothing (SpellsTerms 0 middle) → SpellsNothing (λ n. SpellsParts (97 ∷ text) (line.Axiom n))
 no_terms text middle row version a h name rest s =
     let w = name_parts text name rest s in
     let one = one_bytes 32 2 text (row ∷ version ∷ []) (name.row ∷ name.version ∷ []) middle w.middle refl a w.numbers in
@@ -198,7 +198,7 @@ no_terms text middle row version a h name rest s =
 
 -- a name has a term
 pub no_term : (text middle after : List ℕ) (row version arity : ℕ) (terms : List Term) → SpellsBytes 32 2 text (row ∷ version ∷ []) middle → SpellsTerms 0 middle (take arity terms) after → arity ≡ 0
-    → IsRefused (λ n. SpellsParts (97 ∷ text) (line.Axiom n))
+    → SpellsNothing (λ n. SpellsParts (97 ∷ text) (line.Axiom n))
 no_term text middle after row version arity terms a b e name rest s =
     let w = name_parts text name rest s in
     let one = one_bytes 32 2 text (row ∷ version ∷ []) (name.row ∷ name.version ∷ []) middle w.middle refl a w.numbers in
@@ -225,7 +225,7 @@ letter_is b text (line.Learnt c) rest s = sym (head_is b 108 _ _ s.front)
 letter_is b text (line.Hinted c hints) rest s = sym (head_is b 108 _ _ s.front)
 letter_is b text (line.Delete positions) rest s = sym (head_is b 100 _ _ s.front)
 
-pub no_letter : (version b : ℕ) (text : List ℕ) → b ≢ 97 → b ≢ 103 → b ≢ 101 → b ≢ 108 → b ≢ 100 → IsRefused (SpellsLine version (b ∷ text))
+pub no_letter : (version b : ℕ) (text : List ℕ) → b ≢ 97 → b ≢ 103 → b ≢ 101 → b ≢ 108 → b ≢ 100 → SpellsNothing (SpellsLine version (b ∷ text))
 no_letter version b text p q r t u (line.Axiom name) rest s = p (sym (letter_is b text (line.Axiom name) rest s.parts))
 no_letter version b text p q r t u (line.Clause k) rest s = q (sym (letter_is b text (line.Clause k) rest s.parts))
 no_letter version b text p q r t u (line.Lemma c) rest s = r (sym (letter_is b text (line.Lemma c) rest s.parts))
@@ -242,7 +242,7 @@ letter_front (line.Learnt c) text rest s = (_, s.front)
 letter_front (line.Hinted c hints) text rest s = (_, s.front)
 letter_front (line.Delete positions) text rest s = (_, s.front)
 
-pub no_line_at_end : (version : ℕ) → IsRefused (SpellsLine version [])
+pub no_line_at_end : (version : ℕ) → SpellsNothing (SpellsLine version [])
 no_line_at_end version l rest s = let t = letter_front l [] rest s.parts in let e = t.1 in absurd (cc)
 
 -- the kind of a line is that of its letter
@@ -306,12 +306,12 @@ of_any version text l rest o s = record { of_version = o; parts = s }
 moved : (text : List ℕ) (l m : LogLine) (rest : List ℕ) → l ≡ m → SpellsParts text l rest → SpellsParts text m rest
 moved text l m rest e s = subst (λ k. SpellsParts text k rest) e s
 
-pub no_axiom : (version : ℕ) (text : List ℕ) → IsRefused (λ n. SpellsParts (97 ∷ text) (line.Axiom n)) → IsRefused (SpellsLine version (97 ∷ text))
+pub no_axiom : (version : ℕ) (text : List ℕ) → SpellsNothing (λ n. SpellsParts (97 ∷ text) (line.Axiom n)) → SpellsNothing (SpellsLine version (97 ∷ text))
 no_axiom version text h l rest s =
     let w = is_axiom l (letter_is 97 text l rest s.parts) in
     h w.0 rest (moved (97 ∷ text) l (line.Axiom w.0) rest w.1 s.parts)
 
-pub no_ground : (version : ℕ) (text : List ℕ) → IsRefused (λ k. SpellsParts (103 ∷ text) (line.Clause k)) → IsRefused (SpellsLine version (103 ∷ text))
+pub no_ground : (version : ℕ) (text : List ℕ) → SpellsNothing (λ k. SpellsParts (103 ∷ text) (line.Clause k)) → SpellsNothing (SpellsLine version (103 ∷ text))
 no_ground version text h l rest s =
     let w = is_ground l (letter_is 103 text l rest s.parts) in
     h w.0 rest (moved (103 ∷ text) l (line.Clause w.0) rest w.1 s.parts)
@@ -330,12 +330,12 @@ pub learnt_read : (version : ℕ) (text : List ℕ) (c : List Lit) (rest : List 
 learnt_read version text c rest v s =
     of_any version (108 ∷ text) (line.Learnt c) rest v (record { front = ap (λ t. 108 ∷ t) (s.front ∙ sym (append_assoc (lits_text c) (10 ∷ []) rest)); spelled = s.spelled })
 
-pub no_lemma : (version : ℕ) (text : List ℕ) → IsRefused (SpellsClause text) → IsRefused (SpellsLine version (101 ∷ text))
+pub no_lemma : (version : ℕ) (text : List ℕ) → SpellsNothing (SpellsClause text) → SpellsNothing (SpellsLine version (101 ∷ text))
 no_lemma version text h l rest s =
     let w = is_lemma l (letter_is 101 text l rest s.parts) in
     h w.0 rest (lemma_parts text w.0 rest (moved (101 ∷ text) l (line.Lemma w.0) rest w.1 s.parts))
 
-pub no_learnt : (version : ℕ) (text : List ℕ) → version ≡ 1 → IsRefused (SpellsClause text) → IsRefused (SpellsLine version (108 ∷ text))
+pub no_learnt : (version : ℕ) (text : List ℕ) → version ≡ 1 → SpellsNothing (SpellsClause text) → SpellsNothing (SpellsLine version (108 ∷ text))
 no_learnt version text v h l rest s =
     let w = is_learnt version l v s.of_version (letter_is 108 text l rest s.parts) in
     h w.0 rest (learnt_parts text w.0 rest (moved (108 ∷ text) l (line.Learnt w.0) rest w.1 s.parts))
@@ -366,13 +366,13 @@ hinted_read version text c hints middle rest v s n =
       spelled = (s.spelled, n.within);
     })
 
-pub no_shown : (version : ℕ) (text : List ℕ) → version ≡ 2 → IsRefused (SpellsShown text) → IsRefused (SpellsLine version (108 ∷ text))
+pub no_shown : (version : ℕ) (text : List ℕ) → version ≡ 2 → SpellsNothing (SpellsShown text) → SpellsNothing (SpellsLine version (108 ∷ text))
 no_shown version text v h l rest s =
     let w = is_hinted version l v s.of_version (letter_is 108 text l rest s.parts) in
     let parts = hinted_parts text w.0 w.1 rest (moved (108 ∷ text) l (line.Hinted w.0 w.1) rest w.2 s.parts) in
     h w.0 parts.middle parts.lits
 
-pub no_hints : (version : ℕ) (text : List ℕ) (c : List Lit) (middle : List ℕ) → version ≡ 2 → SpellsShown text c middle → IsRefused (SpellsNumbers middle) → IsRefused (SpellsLine version (108 ∷ text))
+pub no_hints : (version : ℕ) (text : List ℕ) (c : List Lit) (middle : List ℕ) → version ≡ 2 → SpellsShown text c middle → SpellsNothing (SpellsNumbers middle) → SpellsNothing (SpellsLine version (108 ∷ text))
 no_hints version text c middle v a h l rest s =
     let w = is_hinted version l v s.of_version (letter_is 108 text l rest s.parts) in
     let parts = hinted_parts text w.0 w.1 rest (moved (108 ∷ text) l (line.Hinted w.0 w.1) rest w.2 s.parts) in
@@ -389,12 +389,12 @@ delete_read version text positions rest v n =
     of_any version (100 ∷ text) (line.Delete positions) rest v
     (record { front = ap (λ t. 100 ∷ t) (n.front ∙ sym (append_assoc (numbers_text positions.items) (10 ∷ []) rest)); spelled = n.within })
 
-pub no_delete : (version : ℕ) (text : List ℕ) → version ≢ 2 → IsRefused (SpellsLine version (100 ∷ text))
+pub no_delete : (version : ℕ) (text : List ℕ) → version ≢ 2 → SpellsNothing (SpellsLine version (100 ∷ text))
 no_delete version text v l rest s =
     let w = is_delete l (letter_is 100 text l rest s.parts) in
     v (subst (IsOfVersion version) w.1 s.of_version)
 
-pub no_positions : (version : ℕ) (text : List ℕ) → IsRefused (SpellsNumbers text) → IsRefused (SpellsLine version (100 ∷ text))
+pub no_positions : (version : ℕ) (text : List ℕ) → SpellsNothing (SpellsNumbers text) → SpellsNothing (SpellsLine version (100 ∷ text))
 no_positions version text h l rest s =
     let w = is_delete l (letter_is 100 text l rest s.parts) in
     h w.0.items rest (delete_parts text w.0 rest (moved (100 ∷ text) l (line.Delete w.0) rest w.1 s.parts))
@@ -417,7 +417,7 @@ pub ground_read : (text middle rest : List ℕ) (k : ℕ) → text ≡ 32 ∷ mi
 ground_read text middle rest k e s =
     record { front = ap (λ t. 103 ∷ t) (e ∙ ap (λ t. 32 ∷ t) (s.front ∙ sym (append_assoc (decimal k) (10 ∷ []) rest))); spelled = s.within }
 
-pub one_ground : (text middle after : List ℕ) (k : ℕ) → text ≡ 32 ∷ middle → SpellsNumber 4294967295 middle k after → IsNotNext 10 after → IsRefused (λ k. SpellsParts (103 ∷ text) (line.Clause k))
+pub one_ground : (text middle after : List ℕ) (k : ℕ) → text ≡ 32 ∷ middle → SpellsNumber 4294967295 middle k after → IsNotNext 10 after → SpellsNothing (λ k. SpellsParts (103 ∷ text) (line.Clause k))
 one_ground text middle after k e a n m rest s =
     let w = ground_parts text m rest s in
     let f = w.front in
@@ -435,17 +435,17 @@ header_read text middle rest k e f = e ∙ ap (λ t. codes "condition " ++ t) f 
 header_middle : (text middle rest : List ℕ) (j : ℕ) → text ≡ codes "condition " ++ middle → text ≡ header_text j ++ rest → middle ≡ decimal j ++ 10 ∷ rest
 header_middle text middle rest j e f = append_cancel_left (codes "condition ") middle (decimal j ++ 10 ∷ rest) (sym e ∙ header_parts text j rest f)
 
-pub other_header : (text middle after : List ℕ) (k j : ℕ) → text ≡ codes "condition " ++ middle → SpellsNumber 4294967295 middle k after → j < 4294967296 → k ≢ j → IsRefused (SpellsHeader j text)
+pub other_header : (text middle after : List ℕ) (k j : ℕ) → text ≡ codes "condition " ++ middle → SpellsNumber 4294967295 middle k after → j < 4294967296 → k ≢ j → SpellsNothing (SpellsHeader j text)
 other_header text middle after k j e a small other u rest f =
     let one = one_number k j after (10 ∷ rest) (omega (arith, a.within)) (omega arith) a.ends refl (sym a.front ∙ header_middle text middle rest j e f) in
     other one.value
 
-pub header_goes_on : (text middle after : List ℕ) (k j : ℕ) → text ≡ codes "condition " ++ middle → SpellsNumber 4294967295 middle k after → j < 4294967296 → IsNotNext 10 after → IsRefused (SpellsHeader j text)
+pub header_goes_on : (text middle after : List ℕ) (k j : ℕ) → text ≡ codes "condition " ++ middle → SpellsNumber 4294967295 middle k after → j < 4294967296 → IsNotNext 10 after → SpellsNothing (SpellsHeader j text)
 header_goes_on text middle after k j e a small n u rest f =
     let one = one_number k j after (10 ∷ rest) (omega (arith, a.within)) (omega arith) a.ends refl (sym a.front ∙ header_middle text middle rest j e f) in
     subst (IsNotNext 10) one.rest n refl
 
-pub no_number_there : (text middle : List ℕ) (j : ℕ) → text ≡ codes "condition " ++ middle → j < 4294967296 → IsRefused (SpellsNumber 4294967295 middle) → IsRefused (SpellsHeader j text)
+pub no_number_there : (text middle : List ℕ) (j : ℕ) → text ≡ codes "condition " ++ middle → j < 4294967296 → SpellsNothing (SpellsNumber 4294967295 middle) → SpellsNothing (SpellsHeader j text)
 no_number_there text middle j e small h u rest f = h j (10 ∷ rest) (record { front = header_middle text middle rest j e f; within = omega arith; ends = refl })
 
 -- the first line of a log
@@ -475,10 +475,10 @@ pub version_read : (text middle rest : List ℕ) (n : ℕ) → text ≡ codes "g
 version_read text middle rest n e s some =
     record { front = e ∙ ap (λ t. codes "grass log " ++ t) s.front ∙ sym (version_parts n rest); is = is_version n s.within some }
 
-pub no_version_text : (text : List ℕ) → IsRefused (SpellsText (codes "grass log ") text) → IsRefused (SpellsVersion text)
+pub no_version_text : (text : List ℕ) → SpellsNothing (SpellsText (codes "grass log ") text) → SpellsNothing (SpellsVersion text)
 no_version_text text h version rest s = h tt (decimal version ++ 10 ∷ rest) (s.front ∙ version_parts version rest)
 
-pub no_version_number : (text middle : List ℕ) → text ≡ codes "grass log " ++ middle → IsRefused (SpellsNumber 2 middle) → IsRefused (SpellsVersion text)
+pub no_version_number : (text middle : List ℕ) → text ≡ codes "grass log " ++ middle → SpellsNothing (SpellsNumber 2 middle) → SpellsNothing (SpellsVersion text)
 no_version_number text middle e h version rest s =
     h version (10 ∷ rest) (record { front = version_middle text middle rest version e s; within = small_version version s.is; ends = refl })
 
@@ -491,12 +491,12 @@ not_zero : (version : ℕ) → IsVersion version → version ≢ 0
 not_zero version (inl e) z = absurd (omega (arith, e, z))
 not_zero version (inr e) z = absurd (omega (arith, e, z))
 
-pub no_version_zero : (text middle after : List ℕ) (n : ℕ) → text ≡ codes "grass log " ++ middle → SpellsNumber 2 middle n after → n ≡ 0 → IsRefused (SpellsVersion text)
+pub no_version_zero : (text middle after : List ℕ) (n : ℕ) → text ≡ codes "grass log " ++ middle → SpellsNumber 2 middle n after → n ≡ 0 → SpellsNothing (SpellsVersion text)
 no_version_zero text middle after n e a z version rest s =
     let one = same_version text middle after n version rest e a s in
     not_zero version s.is (sym one.value ∙ z)
 
-pub version_goes_on : (text middle after : List ℕ) (n : ℕ) → text ≡ codes "grass log " ++ middle → SpellsNumber 2 middle n after → IsNotNext 10 after → IsRefused (SpellsVersion text)
+pub version_goes_on : (text middle after : List ℕ) (n : ℕ) → text ≡ codes "grass log " ++ middle → SpellsNumber 2 middle n after → IsNotNext 10 after → SpellsNothing (SpellsVersion text)
 version_goes_on text middle after n e a not_there version rest s =
     let one = same_version text middle after n version rest e a s in
     subst (IsNotNext 10) one.rest not_there refl

@@ -13,7 +13,7 @@ use Rattle.gh_log.specs.declared.lines.LogLine.TheVariants as line
 use Rattle.gh_log.specs.Texts.{line_text, header_text, sections_text, log_text}
 use Rattle.gh_log.specs.Spelled.{IsSpelledLine, IsSpelled, IsLogText}
 use Rattle.gh_log.specs.Laws.{PlainLine, instance_line, ground_line, lemma_line, learnt_line, hinted_line, delete_line, plain_line, plain_lines, HaveOneText}
-use Rattle.gh_log.specs.Reading.{IsRefused, SpellsParts, SpellsLine, SpellsNumbers, SpellsHeader, SpellsTerms, first_line}
+use Rattle.gh_log.specs.Reading.{SpellsNothing, SpellsParts, SpellsLine, SpellsNumbers, SpellsHeader, SpellsTerms, first_line}
 use Rattle.gh_log.proofs.NumberLemmas.{AreOne, one_bytes, one_number, all_after}
 use Rattle.gh_log.proofs.AtomLemmas.{feed_ends, sign_ends, one_lits}
 use Rattle.gh_log.proofs.PositionLemmas.{one_numbers}
@@ -311,8 +311,8 @@ was_body (head j) p e = absurd (cc)
 was_body (body l) p e = (l, refl)
 
 -- a line that can't stand after some sections is outside the grammar
-pub outside_after : (version : ℕ) (ss : List (List LogLine)) (rest : List ℕ) → IsSpelled version ss → IsRefused (SpellsHeader (length ss + 1) rest)
-    → (ss ≢ [] → IsRefused (SpellsLine version rest)) → (l after : List ℕ) → rest ≡ l ++ 10 ∷ after → IsLogText (log_text version ss ++ l ++ 10 ∷ []) → ⊥
+pub outside_after : (version : ℕ) (ss : List (List LogLine)) (rest : List ℕ) → IsSpelled version ss → SpellsNothing (SpellsHeader (length ss + 1) rest)
+    → (ss ≢ [] → SpellsNothing (SpellsLine version rest)) → (l after : List ℕ) → rest ≡ l ++ 10 ∷ after → IsLogText (log_text version ss ++ l ++ 10 ∷ []) → ⊥
 outside_after version ss rest a no_header no_line l after e t =
     let ts = t.sections in
     let next = l ++ 10 ∷ [] in
@@ -325,8 +325,8 @@ outside_after version ss rest a no_header no_line l after e t =
     let there : rest ≡ next ++ after = e ∙ sym (append_assoc l (10 ∷ []) after) in
     by_items version ss ts rest next after w.first w.others no_header no_line there w.parts w.same w.text fine_ts (some_line l)
   where
-    by_items : (version : ℕ) (ss ts : List (List LogLine)) (rest next after : List ℕ) (ws zs : Lines) → IsRefused (SpellsHeader (length ss + 1) rest)
-        → (ss ≢ [] → IsRefused (SpellsLine version rest)) → rest ≡ next ++ after → items 1 ts ≡ ws ++ zs → map plain_item ws ≡ map plain_item (items 1 ss) → next ≡ flat_map item_text zs
+    by_items : (version : ℕ) (ss ts : List (List LogLine)) (rest next after : List ℕ) (ws zs : Lines) → SpellsNothing (SpellsHeader (length ss + 1) rest)
+        → (ss ≢ [] → SpellsNothing (SpellsLine version rest)) → rest ≡ next ++ after → items 1 ts ≡ ws ++ zs → map plain_item ws ≡ map plain_item (items 1 ss) → next ≡ flat_map item_text zs
         → All (IsFine version) (items 1 ts) → next ≢ [] → ⊥
     by_items version ss ts rest next after ws [] no_header no_line e f p g fine some = some g
     by_items version ss ts rest next after ws (z ∷ zs) no_header no_line e f p g fine some =

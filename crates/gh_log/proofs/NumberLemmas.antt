@@ -13,7 +13,7 @@ use Rattle.std.proofs.lemmas.Int.Digits.{digits_value_push}
 use Rattle.std.proofs.lemmas.Str.{digit_value_digit}
 use Rattle.std.proofs.lemmas.Str.Parse.{tells_digits, digit_at, numerals_by_value, digits_value_short, digits_value-take-le, IsNumeralModel}
 use Rattle.std.proofs.lemmas.Fmt.{digits_decimal, digits_value-decimal, decimal-digits_value, decimal_injective, length-decimal-le, first_decimal, decimal_nonempty, decimal_digit}
-use Rattle.gh_log.specs.Reading.{EndsNumber, SpellsNumber, SpellsBytes, IsRefused}
+use Rattle.gh_log.specs.Reading.{EndsNumber, SpellsNumber, SpellsBytes, SpellsNothing}
 
 own : IsNumeralModel (AllDigits 10) (digits_value 10)
 own = numerals_by_value (AllDigits 10) tells_digits
@@ -102,12 +102,12 @@ writes_its_value ds h some zeros small = sym (decimal-digits_value own ds h some
 
 -- a number is read from its digits
 pub no_number : (limit : ℕ) (digits rest text : List ℕ) → limit < 2 ^ 32 → digits ++ rest ≡ text → AllDigits 10 digits → EndsNumber rest
-    → ((n : ℕ) → n < 2 ^ 32 → digits ≡ decimal n → ⊥) → IsRefused (SpellsNumber limit text)
+    → ((n : ℕ) → n < 2 ^ 32 → digits ≡ decimal n → ⊥) → SpellsNothing (SpellsNumber limit text)
 no_number limit digits rest text small e h ends none n r s =
     let one = one_run digits rest (decimal n) r h ends (digits_decimal own n (omega (arith, s.within))) s.ends (e ∙ s.front) in
     none n (omega (arith, s.within)) one.value
 
-pub too_great : (limit m : ℕ) (digits rest text : List ℕ) → m < 2 ^ 32 → limit < m → digits ≡ decimal m → digits ++ rest ≡ text → EndsNumber rest → IsRefused (SpellsNumber limit text)
+pub too_great : (limit m : ℕ) (digits rest text : List ℕ) → m < 2 ^ 32 → limit < m → digits ≡ decimal m → digits ++ rest ≡ text → EndsNumber rest → SpellsNothing (SpellsNumber limit text)
 too_great limit m digits rest text small great is e ends n r s =
     let one = one_number m n rest r (omega arith) (omega (arith, s.within)) ends s.ends (ap (λ d. d ++ rest) (sym is) ∙ e ∙ s.front) in
     omega (arith, one.value, s.within)
@@ -189,11 +189,11 @@ join_bytes mark i j text ns middle ms rest a b =
       ends = b.ends;
     }
 
-pub no_first : (mark i j : ℕ) (text : List ℕ) → is_ascii_digit mark ≡ false → IsRefused (SpellsBytes mark i text) → IsRefused (SpellsBytes mark (i + j) text)
+pub no_first : (mark i j : ℕ) (text : List ℕ) → is_ascii_digit mark ≡ false → SpellsNothing (SpellsBytes mark i text) → SpellsNothing (SpellsBytes mark (i + j) text)
 no_first mark i j text m h ns rest s = let w = split_bytes mark i j text ns rest m s in h (take i ns) w.middle w.first
 
-pub no_second : (mark i j : ℕ) (text ns middle : List ℕ) → is_ascii_digit mark ≡ false → SpellsBytes mark i text ns middle → IsRefused (SpellsBytes mark j middle)
-    → IsRefused (SpellsBytes mark (i + j) text)
+pub no_second : (mark i j : ℕ) (text ns middle : List ℕ) → is_ascii_digit mark ≡ false → SpellsBytes mark i text ns middle → SpellsNothing (SpellsBytes mark j middle)
+    → SpellsNothing (SpellsBytes mark (i + j) text)
 no_second mark i j text ns middle m a h ms rest s =
     let w = split_bytes mark i j text ms rest m s in
     let one = one_bytes mark i text ns (take i ms) middle w.middle m a w.first in

@@ -23,7 +23,7 @@ use Rattle.gh_log.specs.declared.error.Refusal.{Refusal}
 use Rattle.gh_log.specs.declared.error.Refusal.TheVariants.{Outside, OutOfMemory}
 use Rattle.gh_log.specs.Texts.{atom_text, sign_text, lits_text, term_text, numbers_text, line_text, header_text, section_text, sections_text, log_text}
 use Rattle.gh_log.specs.Spelled.{HasSpelledParts, IsSpelledLine, IsVersion, AreNumbers, IsSpelledAtom, AreSpelled, IsSpelled, ArePlaced, IsFirstOutside, IsLogRefusal, lines_of, lines_before}
-use Rattle.gh_log.specs.Reading.{IsRefused, IsRefusal, first_line, SpellsVersion, SpellsLine, SpellsHeader, SpellsSection, EndsSection, IsSectionRefusal, error_at}
+use Rattle.gh_log.specs.Reading.{SpellsNothing, IsLogPartRefusal, first_line, SpellsVersion, SpellsLine, SpellsHeader, SpellsSection, EndsSection, IsSectionRefusal, error_at}
 use Rattle.gh_log.proofs.NumberLemmas.{AreSmall, marked}
 use Rattle.gh_log.proofs.AtomLemmas.{kind_of, numbers_of, numbers_small, atom_parts}
 use Rattle.gh_log.proofs.LineLemmas.{IsSmallTerm, letter_is, letter_front, head_is, small_version}
@@ -304,11 +304,11 @@ up_to_spelled text version ss at rest u small =
     record { known = u.version_is; lines = u.spelled; few = omega (arith, fits.1, count) }
 
 -- refusals
-pub at_line : {X : Type 0} (P : X → List ℕ → Type 0) (Q : LogError → Type 0) (r : Refusal) (k : ℕ) (e : LogError) → IsRefusal P r → (IsRefused P → Q (Line k)) → Q NoMemory → e ≡ error_at r k → Q e
+pub at_line : {X : Type 0} (P : X → List ℕ → Type 0) (Q : LogError → Type 0) (r : Refusal) (k : ℕ) (e : LogError) → IsLogPartRefusal P r → (SpellsNothing P → Q (Line k)) → Q NoMemory → e ≡ error_at r k → Q e
 at_line P Q Outside k e h f g i = subst Q (sym i) (f h)
 at_line P Q OutOfMemory k e h f g i = subst Q (sym i) g
 
-pub no_first_line : (text : List ℕ) → IsRefused (SpellsVersion text) → IsFirstOutside text 1
+pub no_first_line : (text : List ℕ) → SpellsNothing (SpellsVersion text) → IsFirstOutside text 1
 no_first_line text h =
     record {
       front = [];
@@ -324,11 +324,11 @@ no_first_line text h =
           });
     }
 
-not_line_there : (version : ℕ) (rest : List ℕ) → EndsSection rest → IsRefused (SpellsLine version rest)
+not_line_there : (version : ℕ) (rest : List ℕ) → EndsSection rest → SpellsNothing (SpellsLine version rest)
 not_line_there version [] h l after s = let t = letter_front l [] after s.parts in let e = t.1 in absurd (cc)
 not_line_there version (b ∷ rest) h l after s = not_c l (letter_is b rest l after s.parts ∙ h)
 
-not_header_there : (rest : List ℕ) (k : ℕ) → (EndsSection rest → ⊥) → IsRefused (SpellsHeader k rest)
+not_header_there : (rest : List ℕ) (k : ℕ) → (EndsSection rest → ⊥) → SpellsNothing (SpellsHeader k rest)
 not_header_there [] k h u after e = h tt
 not_header_there (b ∷ rest) k h u after e = h (head_is b 99 rest _ e)
 
@@ -346,7 +346,7 @@ refused_after text version ss at rest (Line k) u some small (inl h) =
       number_is = h.0 ∙ fits.2;
       before = inr (record { version = version; sections = lines_of ss; text_is = refl; spelled = spelled }, λ e. let z = ap length e in omega (arith, z, some));
       outside = λ l after e _ t.
-          outside_after version (lines_of ss) rest spelled (subst (λ j. IsRefused (SpellsHeader (j + 1) rest)) n h.1) (λ ne. not_line_there version rest (u.ends ne)) l after e t;
+          outside_after version (lines_of ss) rest spelled (subst (λ j. SpellsNothing (SpellsHeader (j + 1) rest)) n h.1) (λ ne. not_line_there version rest (u.ends ne)) l after e t;
     }
 refused_after text version ss at rest (Line k) u some small (inr h) =
     let fits = up_to_fits text version ss at rest u small in

@@ -4,7 +4,7 @@ use Rattle.std.specs.Fmt.{decimal}
 use Rattle.std.proofs.lemmas.List.{append-nil}
 use Rattle.std.proofs.lemmas.List.Elements.{All-head, All-tail, All-cons}
 use Rattle.gh_log.specs.Texts.{numbers_text}
-use Rattle.gh_log.specs.Reading.{IsRefused, IsNotNext, EndsNumber, SpellsNumber, SpellsNumbers}
+use Rattle.gh_log.specs.Reading.{SpellsNothing, IsNotNext, EndsNumber, SpellsNumber, SpellsNumbers}
 use Rattle.gh_log.proofs.NumberLemmas.{AreOne, one_number}
 use Rattle.gh_log.proofs.AtomLemmas.{ends_or_more, Goes}
 
@@ -60,11 +60,11 @@ one_numbers text (n ∷ ns) (m ∷ ms) r q a b =
     let there : ns ≡ ms = more.value in
     record { value = cc; rest = more.rest }
 
-pub no_numbers_here : (text : List ℕ) → IsNotNext 10 text → IsNotNext 32 text → IsRefused (SpellsNumbers text)
+pub no_numbers_here : (text : List ℕ) → IsNotNext 10 text → IsNotNext 32 text → SpellsNothing (SpellsNumbers text)
 no_numbers_here text h k [] rest s = subst (IsNotNext 10) s.front h refl
 no_numbers_here text h k (n ∷ ns) rest s = subst (IsNotNext 32) (first_number text n ns rest s).front k refl
 
-pub no_number_here : (text middle : List ℕ) → text ≡ 32 ∷ middle → IsRefused (SpellsOne middle) → IsRefused (SpellsNumbers text)
+pub no_number_here : (text middle : List ℕ) → text ≡ 32 ∷ middle → SpellsNothing (SpellsOne middle) → SpellsNothing (SpellsNumbers text)
 no_number_here text middle e h [] rest s = ends_or_more rest middle (sym s.front ∙ e)
 no_number_here text middle e h (n ∷ ns) rest s =
     let f = first_number text n ns rest s in
@@ -84,7 +84,7 @@ goes_number whole text middle after ns new n g e s f =
       back = λ h. g.back (no_more text middle after n e s h);
     }
   where
-    no_more : (text middle after : List ℕ) (n : ℕ) → text ≡ 32 ∷ middle → SpellsOne middle n after → IsRefused (SpellsNumbers after) → IsRefused (SpellsNumbers text)
+    no_more : (text middle after : List ℕ) (n : ℕ) → text ≡ 32 ∷ middle → SpellsOne middle n after → SpellsNothing (SpellsNumbers after) → SpellsNothing (SpellsNumbers text)
     no_more text middle after n e s h [] rest k = ends_or_more rest middle (sym k.front ∙ e)
     no_more text middle after n e s h (m ∷ ms) rest k =
         let f = first_number text m ms rest k in

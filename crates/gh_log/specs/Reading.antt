@@ -17,16 +17,16 @@ use Rattle.gh_log.specs.Texts.{atom_text, sign_text, lits_text, term_text, numbe
 use Rattle.gh_log.specs.Spelled.{IsSpelledAtom, AreSpelled, IsVersion, IsOfVersion, AreNumbers, HasSpelledParts, IsSpelledLine}
 
 -- the part spells nothing at the front
-abbrev pub IsRefused : {X : Type 0} → (X → List ℕ → Type 0) → Type 0
-IsRefused {X} P = (x : X) (rest : List ℕ) → P x rest → ⊥
+abbrev pub SpellsNothing : {X : Type 0} → (X → List ℕ → Type 0) → Type 0
+SpellsNothing {X} P = (x : X) (rest : List ℕ) → P x rest → ⊥
 
-abbrev pub IsRefusal : {X : Type 0} → (X → List ℕ → Type 0) → Refusal → Type 0
-IsRefusal P Outside = IsRefused P
-IsRefusal P OutOfMemory = ⊤
+abbrev pub IsLogPartRefusal : {X : Type 0} → (X → List ℕ → Type 0) → Refusal → Type 0
+IsLogPartRefusal P Outside = SpellsNothing P
+IsLogPartRefusal P OutOfMemory = ⊤
 
 -- the answer is what the part spells at the front, and what is left
-abbrev pub IsRead : {X Y : Type 0} → (X → List ℕ → Type 0) → (Y → X) → Result Y Refusal → List ℕ → Type 0
-IsRead P view answer rest = MatchResult answer (λ y. P (view y) rest) (IsRefusal P)
+abbrev pub IsLogPart : {X Y : Type 0} → (X → List ℕ → Type 0) → (Y → X) → Result Y Refusal → List ℕ → Type 0
+IsLogPart P view answer rest = MatchResult answer (λ y. P (view y) rest) (IsLogPartRefusal P)
 
 abbrev pub SpellsText : List ℕ → List ℕ → Unit {0} → List ℕ → Type 0
 SpellsText wanted text u rest = text ≡ wanted ++ rest
@@ -136,12 +136,12 @@ pub record IsStuck (version number k : ℕ) (text : List ℕ) (stuck : ℕ) : Ty
   pub spelled : All (IsSpelledLine version) lines
   pub number_is : stuck ≡ k + 1 + length lines
   pub more : EndsSection rest → ⊥
-  pub refused : IsRefused (SpellsLine version rest)
+  pub refused : SpellsNothing (SpellsLine version rest)
 
 -- the header's line or one of the section's is outside the grammar
 abbrev pub IsSectionRefusal : ℕ → ℕ → ℕ → List ℕ → LogError → Type 0
 IsSectionRefusal version number k text (Line stuck) =
-    ((stuck ≡ k) × IsRefused (SpellsHeader number text)) ⊎ IsStuck version number k text stuck
+    ((stuck ≡ k) × SpellsNothing (SpellsHeader number text)) ⊎ IsStuck version number k text stuck
 IsSectionRefusal version number k text NoMemory = ⊤
 
 abbrev pub error_at : Refusal → ℕ → LogError

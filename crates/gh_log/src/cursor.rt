@@ -5,7 +5,7 @@ ghost use Rattle.std.specs.Bool.{MatchBool};
 ghost use Rattle.std.specs.Char.{is_ascii_digit};
 ghost use Rattle.std.specs.Fmt.{decimal};
 ghost use Rattle.std.specs.Str.Parse.{AllDigits};
-ghost use Rattle.gh_log.specs.Reading.{IsRead, SpellsText, SpellsByte, SpellsNumber, SpellsBytes, IsNotNext, EndsNumber};
+ghost use Rattle.gh_log.specs.Reading.{IsLogPart, SpellsText, SpellsByte, SpellsNumber, SpellsBytes, IsNotNext, EndsNumber};
 
 use crate::error::Refusal;
 
@@ -69,7 +69,7 @@ fn number_of(digits: &[u8]) -> Option<u32>
 impl<'t> Reader<'t> {
     /// Takes a byte.
     pub fn any(&mut self) -> Result<u8, Refusal>
-        ensures { IsRead (SpellsByte self.old.rest.now) (λ b. b) result self.new.rest.now }
+        ensures { IsLogPart (SpellsByte self.old.rest.now) (λ b. b) result self.new.rest.now }
     {
         match self.rest {
             [first, rest @ ..] => {
@@ -95,7 +95,7 @@ impl<'t> Reader<'t> {
 
     /// Takes a text.
     pub fn expect(&mut self, wanted: &[u8]) -> Result<(), Refusal>
-        ensures { IsRead (SpellsText wanted.now self.old.rest.now) (λ u. u) result self.new.rest.now }
+        ensures { IsLogPart (SpellsText wanted.now self.old.rest.now) (λ u. u) result self.new.rest.now }
     {
         if !self.rest.starts_with(wanted) {
             return Err(Refusal::Outside);
@@ -106,7 +106,7 @@ impl<'t> Reader<'t> {
 
     /// Takes a number that isn't above the limit.
     pub fn number(&mut self, limit: u32) -> Result<u32, Refusal>
-        ensures { IsRead (SpellsNumber limit self.old.rest.now) (λ n. n) result self.new.rest.now }
+        ensures { IsLogPart (SpellsNumber limit self.old.rest.now) (λ n. n) result self.new.rest.now }
     {
         let (digits, rest) = self.rest.split_at(digits_length(self.rest));
         let Some(number) = number_of(digits) else {
@@ -121,7 +121,7 @@ impl<'t> Reader<'t> {
 
     /// Takes a number below 256 after a byte.
     pub fn byte(&mut self, mark: u8) -> Result<u8, Refusal>
-        ensures { IsRead (SpellsBytes mark 1 self.old.rest.now) (λ n. n ∷ []) result self.new.rest.now }
+        ensures { IsLogPart (SpellsBytes mark 1 self.old.rest.now) (λ n. n ∷ []) result self.new.rest.now }
     {
         if !self.take(mark) {
             return Err(Refusal::Outside);
@@ -133,7 +133,7 @@ impl<'t> Reader<'t> {
     /// Takes two numbers below 256, each after a byte.
     pub fn pair(&mut self, mark: u8) -> Result<(u8, u8), Refusal>
         requires { is_ascii_digit mark ≡ false }
-        ensures { IsRead (SpellsBytes mark 2 self.old.rest.now) (λ p. p.0 ∷ p.1 ∷ []) result self.new.rest.now }
+        ensures { IsLogPart (SpellsBytes mark 2 self.old.rest.now) (λ p. p.0 ∷ p.1 ∷ []) result self.new.rest.now }
     {
         let first = self.byte(mark)?;
         let second = self.byte(mark)?;

@@ -1,7 +1,7 @@
 //! Atoms, literals and clauses in a text.
 
 ghost use Rattle.std.specs.Prelude.{◌∷◌, [], IfOk};
-ghost use Rattle.gh_log.specs.Reading.{IsRead, SpellsAtom, SpellsLit, SpellsClause, SpellsShown, SpellsNumbers, SpellsBytes};
+ghost use Rattle.gh_log.specs.Reading.{IsLogPart, SpellsAtom, SpellsLit, SpellsClause, SpellsShown, SpellsNumbers, SpellsBytes};
 
 use crate::cursor::Reader;
 use crate::error::Refusal;
@@ -12,7 +12,7 @@ use std::alloc::Global;
 impl<'t> Reader<'t> {
     // Reads an equality after its letter: its terms stand in order.
     fn equality(&mut self) -> Result<Atom, Refusal>
-        ensures { IsRead (SpellsAtom (69 ∷ self.old.rest.now)) (λ x. x) result self.new.rest.now }
+        ensures { IsLogPart (SpellsAtom (69 ∷ self.old.rest.now)) (λ x. x) result self.new.rest.now }
     {
         let (a, b) = self.pair(b'.')?;
         if a > b {
@@ -26,7 +26,7 @@ impl<'t> Reader<'t> {
 
     // Reads a betweenness after its letter.
     fn betweenness(&mut self) -> Result<Atom, Refusal>
-        ensures { IsRead (SpellsAtom (66 ∷ self.old.rest.now)) (λ x. x) result self.new.rest.now }
+        ensures { IsLogPart (SpellsAtom (66 ∷ self.old.rest.now)) (λ x. x) result self.new.rest.now }
     {
         let (version, x) = self.pair(b'.')?;
         let (y, z) = self.pair(b'.')?;
@@ -40,7 +40,7 @@ impl<'t> Reader<'t> {
 
     // Reads a hop after its letter.
     fn hop(&mut self) -> Result<Atom, Refusal>
-        ensures { IsRead (SpellsAtom (72 ∷ self.old.rest.now)) (λ x. x) result self.new.rest.now }
+        ensures { IsLogPart (SpellsAtom (72 ∷ self.old.rest.now)) (λ x. x) result self.new.rest.now }
     {
         let version = self.byte(b'.')?;
         let (x, v) = self.pair(b'.')?;
@@ -53,7 +53,7 @@ impl<'t> Reader<'t> {
 
     // Reads an allocation after its letter.
     fn allocation(&mut self) -> Result<Atom, Refusal>
-        ensures { IsRead (SpellsAtom (65 ∷ self.old.rest.now)) (λ x. x) result self.new.rest.now }
+        ensures { IsLogPart (SpellsAtom (65 ∷ self.old.rest.now)) (λ x. x) result self.new.rest.now }
     {
         let (version, x) = self.pair(b'.')?;
         Ok(Atom::Alloc {
@@ -64,7 +64,7 @@ impl<'t> Reader<'t> {
 
     // Reads a defined atom after its letter.
     fn definition(&mut self) -> Result<Atom, Refusal>
-        ensures { IsRead (SpellsAtom (68 ∷ self.old.rest.now)) (λ x. x) result self.new.rest.now }
+        ensures { IsLogPart (SpellsAtom (68 ∷ self.old.rest.now)) (λ x. x) result self.new.rest.now }
     {
         if !self.take(b'.') {
             return Err(Refusal::Outside);
@@ -75,7 +75,7 @@ impl<'t> Reader<'t> {
 
     /// Reads an atom.
     pub fn atom(&mut self) -> Result<Atom, Refusal>
-        ensures { IsRead (SpellsAtom self.old.rest.now) (λ x. x) result self.new.rest.now }
+        ensures { IsLogPart (SpellsAtom self.old.rest.now) (λ x. x) result self.new.rest.now }
     {
         match self.any()? {
             b'E' => self.equality(),
@@ -89,7 +89,7 @@ impl<'t> Reader<'t> {
 
     /// Reads a literal.
     pub fn lit(&mut self) -> Result<Lit, Refusal>
-        ensures { IsRead (SpellsLit self.old.rest.now) (λ l. l) result self.new.rest.now }
+        ensures { IsLogPart (SpellsLit self.old.rest.now) (λ l. l) result self.new.rest.now }
     {
         let negative = self.take(b'-');
         let atom = self.atom()?;
@@ -101,7 +101,7 @@ impl<'t> Reader<'t> {
 
     /// Reads literals, each after a space, to the end of the line.
     pub fn clause(&mut self, alloc: Global) -> Result<Clause, Refusal>
-        ensures { IsRead (SpellsClause self.old.rest.now) (λ c. c) result self.new.rest.now }
+        ensures { IsLogPart (SpellsClause self.old.rest.now) (λ c. c) result self.new.rest.now }
     {
         let mut clause = Clause::new(alloc);
         'literals: loop {
@@ -117,7 +117,7 @@ impl<'t> Reader<'t> {
 
     /// Reads literals, each after a space, to the sign before hints.
     pub fn shown(&mut self, alloc: Global) -> Result<Clause, Refusal>
-        ensures { IsRead (SpellsShown self.old.rest.now) (λ c. c) result self.new.rest.now }
+        ensures { IsLogPart (SpellsShown self.old.rest.now) (λ c. c) result self.new.rest.now }
     {
         let mut clause = Clause::new(alloc);
         'literals: loop {
@@ -133,7 +133,7 @@ impl<'t> Reader<'t> {
 
     /// Reads numbers, each after a space, to the end of the line.
     pub fn numbers(&mut self, alloc: Global) -> Result<Vec<u32>, Refusal>
-        ensures { IsRead (SpellsNumbers self.old.rest.now) (λ v. v.items) result self.new.rest.now }
+        ensures { IsLogPart (SpellsNumbers self.old.rest.now) (λ v. v.items) result self.new.rest.now }
     {
         let mut numbers = Vec::new(alloc);
         'numbers: loop {

@@ -4,7 +4,7 @@ ghost use Rattle.std.specs.Prelude.{◌≡◌, ◌⊎◌, ◌+◌, ◌<◌, ◌�
 ghost use Rattle.gh_log.specs.Texts.{log_text};
 ghost use Rattle.gh_log.specs.Spelled.{IsVersion, IsSpelled, ArePlaced, IsLogRefusal, lines_of};
 ghost use Rattle.gh_log.specs.declared.lines.LogLine.TheVariants.{Axiom, Clause as Ground};
-ghost use Rattle.gh_log.specs.Reading.{IsRead, SpellsTerms, ArePadded, SpellsParts, SpellsLine, SpellsVersion, SpellsHeader, EndsSection, SpellsSection, IsSectionRefusal};
+ghost use Rattle.gh_log.specs.Reading.{IsLogPart, SpellsTerms, ArePadded, SpellsParts, SpellsLine, SpellsVersion, SpellsHeader, EndsSection, SpellsSection, IsSectionRefusal};
 ghost use Rattle.std.specs.Bool.{MatchBool};
 
 use crate::cursor::Reader;
@@ -26,7 +26,7 @@ const LAST_VERSION: u32 = 2;
 impl<'t> Reader<'t> {
     // Reads up to four terms, each after a space, to the end of the line, and counts them.
     fn terms(&mut self) -> Result<([Term; 4], u8), Refusal>
-        ensures read { IsRead (SpellsTerms 0 self.old.rest.now) (λ p. take p.1 p.0) result self.new.rest.now }
+        ensures read { IsLogPart (SpellsTerms 0 self.old.rest.now) (λ p. take p.1 p.0) result self.new.rest.now }
         ensures padded { IfOk result (λ p. ArePadded p.0 p.1) }
     {
         let mut terms = [Term(0); 4];
@@ -44,7 +44,7 @@ impl<'t> Reader<'t> {
 
     // Reads the name of an instance after the letter of its line, to the end of the line.
     fn name(&mut self) -> Result<InstanceName, Refusal>
-        ensures { IsRead (λ n. SpellsParts (97 ∷ self.old.rest.now) (Axiom n)) (λ n. n) result self.new.rest.now }
+        ensures { IsLogPart (λ n. SpellsParts (97 ∷ self.old.rest.now) (Axiom n)) (λ n. n) result self.new.rest.now }
     {
         let (row, version) = self.pair(b' ')?;
         let (terms, arity) = self.terms()?;
@@ -61,7 +61,7 @@ impl<'t> Reader<'t> {
 
     // Reads the number of a ground clause after the letter of its line, to the end of the line.
     fn ground(&mut self) -> Result<u32, Refusal>
-        ensures { IsRead (λ k. SpellsParts (103 ∷ self.old.rest.now) (Ground k)) (λ k. k) result self.new.rest.now }
+        ensures { IsLogPart (λ k. SpellsParts (103 ∷ self.old.rest.now) (Ground k)) (λ k. k) result self.new.rest.now }
     {
         if !self.take(b' ') {
             return Err(Refusal::Outside);
@@ -76,7 +76,7 @@ impl<'t> Reader<'t> {
     // Reads a clause that earlier lines show, after the letter of its line, to the end of the line.
     fn inferred(&mut self, alloc: Global, version: u8) -> Result<LogLine, Refusal>
         requires { IsVersion version }
-        ensures { IsRead (SpellsLine version (108 ∷ self.old.rest.now)) (λ l. l) result self.new.rest.now }
+        ensures { IsLogPart (SpellsLine version (108 ∷ self.old.rest.now)) (λ l. l) result self.new.rest.now }
     {
         if version == WITHOUT_HINTS {
             return Ok(LogLine::Learnt(self.clause(alloc)?));
@@ -88,7 +88,7 @@ impl<'t> Reader<'t> {
 
     // Reads a deletion after the letter of its line, to the end of the line.
     fn deletion(&mut self, alloc: Global, version: u8) -> Result<LogLine, Refusal>
-        ensures { IsRead (SpellsLine version (100 ∷ self.old.rest.now)) (λ l. l) result self.new.rest.now }
+        ensures { IsLogPart (SpellsLine version (100 ∷ self.old.rest.now)) (λ l. l) result self.new.rest.now }
     {
         if version != WITH_HINTS {
             return Err(Refusal::Outside);
@@ -100,7 +100,7 @@ impl<'t> Reader<'t> {
     // Reads a line of a section of a log of this version.
     fn line(&mut self, alloc: Global, version: u8) -> Result<LogLine, Refusal>
         requires { IsVersion version }
-        ensures { IsRead (SpellsLine version self.old.rest.now) (λ l. l) result self.new.rest.now }
+        ensures { IsLogPart (SpellsLine version self.old.rest.now) (λ l. l) result self.new.rest.now }
     {
         match self.any()? {
             b'a' => Ok(LogLine::Axiom(self.name()?)),
@@ -116,7 +116,7 @@ impl<'t> Reader<'t> {
 
     // Reads the first line of a log.
     fn version(&mut self) -> Result<u8, Refusal>
-        ensures { IsRead (SpellsVersion self.old.rest.now) (λ v. v) result self.new.rest.now }
+        ensures { IsLogPart (SpellsVersion self.old.rest.now) (λ v. v) result self.new.rest.now }
     {
         self.expect(b"grass log ")?;
         let version = self.number(LAST_VERSION)?;
@@ -131,7 +131,7 @@ impl<'t> Reader<'t> {
 
     // Reads the first line of the section with this number.
     fn header(&mut self, number: u32) -> Result<(), Refusal>
-        ensures { IsRead (SpellsHeader number self.old.rest.now) (λ u. u) result self.new.rest.now }
+        ensures { IsLogPart (SpellsHeader number self.old.rest.now) (λ u. u) result self.new.rest.now }
     {
         self.expect(b"condition ")?;
         if self.number(u32::MAX)? != number {

@@ -41,8 +41,8 @@ abbrev pub beginning : Procedure → List ℕ → List ℕ → List Entry
 beginning p arguments starts = beside (variable_names p) (arguments ++ starts)
 
 -- the procedure of the number at its start
-abbrev pub IsStart : Program → ℕ → List ℕ → List ℕ → Heap → machine.Config → Type 0
-IsStart P number arguments starts h c =
+abbrev pub IsBeginning : Program → ℕ → List ℕ → List ℕ → Heap → machine.Config → Type 0
+IsBeginning P number arguments starts h c =
     (d : Procedure) → c ≡ starting (slice_index_or P.procedures number d) (store_of (beginning (slice_index_or P.procedures number d) arguments starts)) h []
 
 -- the choice, where p is called

@@ -4,7 +4,7 @@ ghost use Rattle.std.specs.Prelude.{◌≡◌, ◌<◌, IfOk, slice_index_or, le
 ghost use Rattle.gh_ast.specs.Plain.{Procedure as PlainProcedure, program_of};
 ghost use Rattle.gh_ast.specs.Programs.{parameters_of};
 ghost use Rattle.gh_assert.specs.Stores.{store_of};
-ghost use Rattle.gh_machine.specs.Configs.{starts_of, IsStart, IsMadeFor, config_of};
+ghost use Rattle.gh_machine.specs.Configs.{starts_of, IsBeginning, IsMadeFor, config_of};
 
 use crate::rest::Rest;
 use crate::stores::enter;
@@ -45,7 +45,7 @@ impl<'p> Config<'p> {
         requires there { procedure < length typed.now.procedures.items }
         requires arguments { (d : PlainProcedure) → length arguments.now ≡ length (parameters_of (slice_index_or (program_of typed.now).procedures procedure d)) }
         requires starts { (d : PlainProcedure) → length starts.now ≡ length (starts_of (slice_index_or (program_of typed.now).procedures procedure d)) }
-        ensures start { IfOk result (λ c. IsStart (program_of typed.now) procedure arguments.now starts.now heap (config_of c)) }
+        ensures start { IfOk result (λ c. IsBeginning (program_of typed.now) procedure arguments.now starts.now heap (config_of c)) }
         ensures made { IfOk result (λ c. IsMadeFor (program_of typed.now) c) }
     {
         let procedure = &typed.program().procedures[usize::from(procedure)];

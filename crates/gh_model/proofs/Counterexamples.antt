@@ -25,7 +25,7 @@ all_over xs (y ∷ ys) d there = elim (member_cases (record { listed = xs; state
 ]
 
 -- a counterexample that is drawn over the variables refutes the condition
-pub drawn_refutes : (P : Program) (c : Condition) (ys : List State) → whole.Refutes P c ys → Refutes P c (drawn_over (variable_names c.procedure) ys)
+pub drawn_refutes : (P : Program) (c : Condition) (ys : List State) → whole.AreCounterexample P c ys → Refutes P c (drawn_over (variable_names c.procedure) ys)
 drawn_refutes P c [] R = absurd R
 drawn_refutes P c (y ∷ ys) R =
     let xs = variable_names c.procedure in

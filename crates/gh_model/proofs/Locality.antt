@@ -13,7 +13,7 @@ use Rattle.gh_grass.specs.Truth.{AreTrue}
 use Rattle.gh_symb.specs.Symbolic.{call_parts, term_step, term_steps, term_check, state_bindings, symbolic_of}
 use Rattle.gh_symb.specs.Formulas.{step_claims, steps_claims, check_claims, version_after as version_past}
 use Rattle.gh_trace.specs.Traces.{State, Takes, Passes, IsTrace, last_state, Counterexample}
-use Rattle.gh_trace.specs.Validity.{Refutes}
+use Rattle.gh_trace.specs.Validity.{AreCounterexample}
 use Rattle.gh_model.specs.Interpreted.{equal_in}
 use Rattle.gh_model.specs.Classes.{class_of, classes}
 use Rattle.gh_model.specs.TermValues.{version_after}
@@ -199,4 +199,4 @@ locality_holds P c m typed is I =
       leads = led.leads;
       fails = led.fails;
     } in
-    subst (Refutes P c) (sym (states_are P xs m n k ps s 0)) done
+    subst (AreCounterexample P c) (sym (states_are P xs m n k ps s 0)) done

@@ -15,7 +15,7 @@ use Rattle.gh_assert.proofs.Unions.{one_cell, is_one_cell, in_either, split_part
 use Rattle.gh_assert.proofs.Unique.{get_removed, get_kept}
 use Rattle.gh_model.specs.Structures.{Structure}
 use Rattle.gh_model.specs.Tells.{Tells, IsTold}
-use Rattle.gh_model.specs.Steps.{IsKept, IsAwayFrom, IsPut}
+use Rattle.gh_model.specs.Steps.{IsSetAside, IsAwayFrom, IsPut}
 use Rattle.gh_model.specs.StepLaws.{AreTold, WritesAreSaid, NewsAreSaid, FreesAreSaid, CallsAreSaid}
 use Rattle.gh_model.proofs.Told.{heaps_are_told}
 use Rattle.gh_model.proofs.Touched.{cell_off, not_null}
@@ -171,7 +171,7 @@ calls_are_said V h k m n p q s t T np nq C = record {
     own : Owned V C.rest
     own = (footprints_come_and_go V h C.given C.rest s p C.before np C.meets).0 T.owned
 
-    in_rest : (z : ℕ) → Contains V z → IsKept p s m z → Allocated C.rest z
+    in_rest : (z : ℕ) → Contains V z → IsSetAside p s m z → Allocated C.rest z
     in_rest z cz kept =
         let there = (T.tells.alloc z cz).0 kept.0 in
         elim (in_either h C.given C.rest z there.0 (C.before.union z) there.1) [

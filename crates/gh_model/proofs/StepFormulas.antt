@@ -16,7 +16,7 @@ use Rattle.gh_symb.specs.Symbolic.{Under}
 use Rattle.gh_symb.specs.Formulas.{allocated, hops, within, meets, each, each_pair, keeps, others_keep, kept, written_claims, made_claims, freed_claims, parts_claims, variables, successor}
 use Rattle.gh_model.specs.Structures.{Structure}
 use Rattle.gh_model.specs.Tells.{IsInside, Fits}
-use Rattle.gh_model.specs.Steps.{KeepsHops, IsKept}
+use Rattle.gh_model.specs.Steps.{KeepsHops, IsSetAside}
 use Rattle.gh_model.specs.Spoken.{Speaks, IsSpoken}
 use Rattle.gh_model.specs.StepFormulas.{WritesSpeak, NewsSpeak, FreesSpeak, CallsSpeak}
 use Rattle.gh_model.proofs.Spoken.{and_is, or_is, not_is, last_and, agree_is, equal_is, all_in_row, each_term, over_values}
@@ -140,7 +140,7 @@ frees_speak m i n at V M N S S' x lx =
     )
 
 -- a kept cell
-kept_is : (m : Interpretation) (at : ℕ → ℕ) (V : List ℕ) (M : Structure) (ks : List Kind) (u : Under) (s : Store) → Speaks m u.version (length ks) at V M → IsSpoken m u.version (length ks) at V M (variables u.binding) (successor ks u.version) s u.assertion → (z : ℕ) → z < length ks → IsTrue (truth m (kept u.version u (term z))) ↔ IsKept u.assertion s M (at z)
+kept_is : (m : Interpretation) (at : ℕ → ℕ) (V : List ℕ) (M : Structure) (ks : List Kind) (u : Under) (s : Store) → Speaks m u.version (length ks) at V M → IsSpoken m u.version (length ks) at V M (variables u.binding) (successor ks u.version) s u.assertion → (z : ℕ) → z < length ks → IsTrue (truth m (kept u.version u (term z))) ↔ IsSetAside u.assertion s M (at z)
 kept_is m at V M ks u s S I z lz =
     and_is (m.table (Alloc u.version (term z))) (not (truth m (within u (term z))) && true) (IsTrue (M.alloc (at z))) (IsInside u.assertion s M (at z) → ⊥) (S.alloc z lz)
     (last_and (not (truth m (within u (term z)))) (IsInside u.assertion s M (at z) → ⊥) (not_is (truth m (within u (term z))) (IsInside u.assertion s M (at z)) (I.footprint z lz)))
@@ -149,23 +149,23 @@ pub calls_speak : CallsSpeak
 calls_speak m at V M N ks u q s t S S' I J =
     let i = u.version in
     let n = length ks in
-    let k : (z : ℕ) → z < n → IsTrue (truth m (kept i u (term z))) ↔ IsKept u.assertion s M (at z) = kept_is m at V M ks u s S I in
+    let k : (z : ℕ) → z < n → IsTrue (truth m (kept i u (term z))) ↔ IsSetAside u.assertion s M (at z) = kept_is m at V M ks u s S I in
     let X : Type 0 = Fits u.assertion s M V × Fits q.assertion t N V in
     let both = and_is (truth m (meets ks u)) (truth m (meets ks q) && true) (Fits u.assertion s M V) (Fits q.assertion t N V) I.part (last_and (truth m (meets ks q)) (Fits q.assertion t N V) J.part) in
     let apart_claim : Term → Claim = λ z. negation_of (all_of (kept i u z ∷ within q z ∷ [])) in
-    let Q : ℕ → Type 0 = λ z. (IsKept u.assertion s M z × IsInside q.assertion t N z) → ⊥ in
+    let Q : ℕ → Type 0 = λ z. (IsSetAside u.assertion s M z × IsInside q.assertion t N z) → ⊥ in
     let apart = each_value m i n at V M S apart_claim Q (λ z l.
-    not_is (truth m (kept i u (term z)) && (truth m (within q (term z)) && true)) (IsKept u.assertion s M (at z) × IsInside q.assertion t N (at z))
-    (and_is (truth m (kept i u (term z))) (truth m (within q (term z)) && true) (IsKept u.assertion s M (at z)) (IsInside q.assertion t N (at z)) (k z l) (last_and (truth m (within q (term z))) (IsInside q.assertion t N (at z)) (J.footprint z l)))) in
+    not_is (truth m (kept i u (term z)) && (truth m (within q (term z)) && true)) (IsSetAside u.assertion s M (at z) × IsInside q.assertion t N (at z))
+    (and_is (truth m (kept i u (term z))) (truth m (within q (term z)) && true) (IsSetAside u.assertion s M (at z)) (IsInside q.assertion t N (at z)) (k z l) (last_and (truth m (within q (term z))) (IsInside q.assertion t N (at z)) (J.footprint z l)))) in
     let alloc_claim : Term → Claim = λ z. equivalence_of (allocated (i + 1) z) (one_of (kept i u z ∷ within q z ∷ [])) in
-    let R : ℕ → Type 0 = λ z. IsTrue (N.alloc z) ↔ (IsKept u.assertion s M z ⊎ IsInside q.assertion t N z) in
+    let R : ℕ → Type 0 = λ z. IsTrue (N.alloc z) ↔ (IsSetAside u.assertion s M z ⊎ IsInside q.assertion t N z) in
     let alloc = each_value m i n at V M S alloc_claim R (λ z l.
-    agree_is (m.table (Alloc (i + 1) (term z))) (truth m (kept i u (term z)) || (truth m (within q (term z)) || false)) (IsTrue (N.alloc (at z))) (IsKept u.assertion s M (at z) ⊎ IsInside q.assertion t N (at z)) (S'.alloc z l)
-    (or_is (truth m (kept i u (term z))) (truth m (within q (term z)) || false) (IsKept u.assertion s M (at z)) (IsInside q.assertion t N (at z)) (k z l) (last_or (truth m (within q (term z))) (IsInside q.assertion t N (at z)) (J.footprint z l)))) in
+    agree_is (m.table (Alloc (i + 1) (term z))) (truth m (kept i u (term z)) || (truth m (within q (term z)) || false)) (IsTrue (N.alloc (at z))) (IsSetAside u.assertion s M (at z) ⊎ IsInside q.assertion t N (at z)) (S'.alloc z l)
+    (or_is (truth m (kept i u (term z))) (truth m (within q (term z)) || false) (IsSetAside u.assertion s M (at z)) (IsInside q.assertion t N (at z)) (k z l) (last_or (truth m (within q (term z))) (IsInside q.assertion t N (at z)) (J.footprint z l)))) in
     let keep_claim : Term → Term → Claim = λ z v. one_of (negation_of (kept i u z) ∷ keeps i z v ∷ []) in
-    let W : ℕ → ℕ → Type 0 = λ z v. IsKept u.assertion s M z → IsTrue (N.hop z v) ↔ IsTrue (M.hop z v) in
+    let W : ℕ → ℕ → Type 0 = λ z v. IsSetAside u.assertion s M z → IsTrue (N.hop z v) ↔ IsTrue (M.hop z v) in
     let keep = each_pair_value m i n at V M S keep_claim W (λ z v lz lv.
-    implied (truth m (kept i u (term z))) (truth m (keeps i (term z) (term v))) (IsKept u.assertion s M (at z)) (IsTrue (N.hop (at z) (at v)) ↔ IsTrue (M.hop (at z) (at v))) (k z lz) (keeps_is m i n at V M N S S' z v lz lv)) in
+    implied (truth m (kept i u (term z))) (truth m (keeps i (term z) (term v))) (IsSetAside u.assertion s M (at z)) (IsTrue (N.hop (at z) (at v)) ↔ IsTrue (M.hop (at z) (at v))) (k z lz) (keeps_is m i n at V M N S S' z v lz lv)) in
     let AllQ : Type 0 = (v : ℕ) → Contains V v → Q v in
     let AllR : Type 0 = (v : ℕ) → Contains V v → R v in
     let AllW : Type 0 = (z v : ℕ) → Contains V z → Contains V v → W z v in

@@ -13,7 +13,7 @@ use Rattle.gh_model.specs.Structures.{Structure, IsModel}
 use Rattle.gh_model.specs.Built.{built}
 use Rattle.gh_model.specs.Named.{IsNamed}
 use Rattle.gh_model.specs.Tells.{IsInside, IsTold}
-use Rattle.gh_model.specs.Steps.{KeepsHops, IsKept, SaysCall, IsAwayFrom}
+use Rattle.gh_model.specs.Steps.{KeepsHops, IsSetAside, SaysCall, IsAwayFrom}
 use Rattle.gh_model.specs.Laws.{NextIsSuccessor, WritesAreBuilt, NewsAreBuilt, FreesAreBuilt, CallsAreBuilt}
 use Rattle.gh_model.proofs.Built.{contents_are_hops, cell_at, alloc_at}
 use Rattle.gh_model.proofs.Told.{built_is_told}
@@ -88,14 +88,14 @@ parted V m n p q s t M N np nq S =
     }
 
 -- a cell of the rest is a hop of m, and kept
-rest_kept : (V : List ℕ) (m n : Structure) (p q : Formula) (s t : Store) → IsModel V m → (R : IsParted V m n p q s t) → (z v : ℕ) → get R.b z ≡ Some v → (Contains V z × Contains V v × IsTrue (m.hop z v)) × IsKept p s m z
+rest_kept : (V : List ℕ) (m n : Structure) (p q : Formula) (s t : Store) → IsModel V m → (R : IsParted V m n p q s t) → (z v : ℕ) → get R.b z ≡ Some v → (Contains V z × Contains V v × IsTrue (m.hop z v)) × IsSetAside p s m z
 rest_kept V m n p q s t M R z v e =
     let there : get (built V m) z ≡ Some v = right_at (get (built V m) z) (get R.a z) (get R.b z) v (R.before.disjoint z) (R.before.union z) e in
     let hop = (contents_are_hops V m M z v).0 there in
     (hop, (alloc_at V m z (v, there), λ i. parts_apart (built V m) R.a R.b z R.before ((R.given z hop.0).1 i) (v, e)))
 
 -- and what is kept is a cell of the rest
-kept_rest : (V : List ℕ) (m n : Structure) (p q : Formula) (s t : Store) → IsModel V m → (R : IsParted V m n p q s t) → (z : ℕ) → Contains V z → IsKept p s m z → Allocated R.b z
+kept_rest : (V : List ℕ) (m n : Structure) (p q : Formula) (s t : Store) → IsModel V m → (R : IsParted V m n p q s t) → (z : ℕ) → Contains V z → IsSetAside p s m z → Allocated R.b z
 kept_rest V m n p q s t M R z cz k =
     let there = cell_at V m M z cz k.0 in
     elim (in_either (built V m) R.a R.b z there.0 (R.before.union z) there.1) [

@@ -8,7 +8,7 @@ use Rattle.gh_assert.specs.Meaning.{Store, value, truth}
 use Rattle.gh_assert.specs.Walks.{succ}
 use Rattle.gh_assert.specs.Hops.{Hop}
 use Rattle.gh_assert.specs.Reading.{Covers, CoversAny, Reads, ReadsAll, HasNames, HaveNames}
-use Rattle.gh_assert.specs.Laws.{IsRead}
+use Rattle.gh_assert.specs.Laws.{IsReadOff}
 use Rattle.gh_assert.proofs.Cells.{succ_at, at_succ}
 use Rattle.gh_assert.proofs.Hops.{hop_rows}
 use Rattle.gh_assert.proofs.Reading.{reading}
@@ -84,7 +84,7 @@ heaps_are_told V h m s f null own T n = record {
   );
 }
   where
-    R : IsRead V h s f
+    R : IsReadOff V h s f
     R = reading V h s f null own n
 
     fit : Fits f s m V ↔ Reads f s h V

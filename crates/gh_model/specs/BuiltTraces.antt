@@ -12,7 +12,7 @@ use Rattle.gh_path.specs.Terms.{Bindings}
 use Rattle.gh_symb.specs.Symbolic.{symbolic_of}
 use Rattle.gh_model.specs.Abstraction.{IsModelOf}
 use Rattle.gh_trace.specs.Traces.{State}
-use Rattle.gh_trace.specs.Validity.{Refutes}
+use Rattle.gh_trace.specs.Validity.{AreCounterexample}
 use Rattle.gh_model.specs.Built.{first}
 use Rattle.gh_model.specs.Classes.{numbers, class_of}
 use Rattle.gh_model.specs.Interpreted.{equal_in, version_of}
@@ -63,4 +63,4 @@ built_trace P c m = states_under m (length (symbolic_of P c).terms) (versions_al
 
 -- the trace of a model of a condition is a counterexample
 abbrev pub LocalityHolds : Type 0
-LocalityHolds = (P : Program) (c : Condition) (m : Interpretation) → IsTyped P → IsCondition P c → IsModelOf P c m → Refutes P c (built_trace P c m)
+LocalityHolds = (P : Program) (c : Condition) (m : Interpretation) → IsTyped P → IsCondition P c → IsModelOf P c m → AreCounterexample P c (built_trace P c m)

@@ -7,7 +7,7 @@ use Rattle.gh_assert.specs.Meaning.{Store}
 use Rattle.gh_assert.specs.Walks.{succ}
 use Rattle.gh_assert.specs.Ownership.{Owned}
 use Rattle.gh_assert.specs.Reading.{HasNames}
-use Rattle.gh_assert.specs.Laws.{IsRead}
+use Rattle.gh_assert.specs.Laws.{IsReadOff}
 use Rattle.gh_base.specs.declared.sizes.Sizes.{Sizes}
 use Rattle.gh_base.specs.Meaning as congruence
 use Rattle.gh_base.specs.Meaning.{Interpretation}
@@ -43,7 +43,7 @@ HeapsAreModels = (V : List ℕ) (h : Heap) (m : Structure) → Contains V 0 → 
 
 -- assertions on the built heap can be read off the values of V
 abbrev pub BuiltIsRead : Type 0
-BuiltIsRead = (V : List ℕ) (m : Structure) (s : Store) (f : Formula) → IsModel V m → IsNamed f s V → IsRead V (built V m) s f
+BuiltIsRead = (V : List ℕ) (m : Structure) (s : Store) (f : Formula) → IsModel V m → IsNamed f s V → IsReadOff V (built V m) s f
 
 -- what a structure says of assertions is true of the heap that it tells the truth about
 abbrev pub HeapsAreTold : Type 0

@@ -27,16 +27,16 @@ pub record SaysFree (V : List ℕ) (m n : Structure) (x : ℕ) : Type 0 where
   pub kept : KeepsHops V m n x
 
 -- the cells that a call or a loop keeps: those outside of what p speaks of
-abbrev pub IsKept : Formula → Store → Structure → ℕ → Type 0
-IsKept p s m z = IsTrue (m.alloc z) × (IsInside p s m z → ⊥)
+abbrev pub IsSetAside : Formula → Store → Structure → ℕ → Type 0
+IsSetAside p s m z = IsTrue (m.alloc z) × (IsInside p s m z → ⊥)
 
 -- p is given up in s, and q is given back in t
 pub record SaysCall (V : List ℕ) (m n : Structure) (p q : Formula) (s t : Store) : Type 0 where
   pub before : Fits p s m V
   pub after : Fits q t n V
-  pub apart : (z : ℕ) → Contains V z → IsKept p s m z → IsInside q t n z → ⊥
-  pub alloc : (z : ℕ) → Contains V z → IsTrue (n.alloc z) ↔ (IsKept p s m z ⊎ IsInside q t n z)
-  pub kept : (z v : ℕ) → Contains V z → Contains V v → IsKept p s m z → IsTrue (n.hop z v) ↔ IsTrue (m.hop z v)
+  pub apart : (z : ℕ) → Contains V z → IsSetAside p s m z → IsInside q t n z → ⊥
+  pub alloc : (z : ℕ) → Contains V z → IsTrue (n.alloc z) ↔ (IsSetAside p s m z ⊎ IsInside q t n z)
+  pub kept : (z v : ℕ) → Contains V z → Contains V v → IsSetAside p s m z → IsTrue (n.hop z v) ↔ IsTrue (m.hop z v)
 
 abbrev pub IsAwayFrom : ℕ → Heap → Heap → Type 0
 IsAwayFrom x h k = (z : ℕ) → z ≢ x → get k z ≡ get h z

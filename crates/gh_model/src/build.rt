@@ -6,7 +6,7 @@ ghost use Rattle.gh_ast.specs.Plain.{procedure_of, program_of};
 ghost use Rattle.gh_path.specs.Conditions as plain;
 ghost use Rattle.gh_path.specs.Kept.{StandsFor};
 ghost use Rattle.gh_symb.specs.Told.{IsSymbolic};
-ghost use Rattle.gh_trace.specs.Kept.{IsKept, drawn_of};
+ghost use Rattle.gh_trace.specs.Kept.{IsOfProgram, drawn_of};
 ghost use Rattle.gh_ast.specs.Programs.{names, variable_names};
 ghost use Rattle.gh_ast.specs.Occurrences.{locals_of};
 ghost use Rattle.gh_assert.specs.Stores.{listed_names};
@@ -222,11 +222,11 @@ pub fn build(
     structure: &Structure,
 ) -> Result<Trace, AllocError>
     requires few { length condition.now.steps.items ≤ 256 }
-    requires of { (c : plain.Condition) × IsKept (program_of typed.now) condition.now c }
+    requires of { (c : plain.Condition) × IsOfProgram (program_of typed.now) condition.now c }
     requires told { (c : plain.Condition) → StandsFor (program_of typed.now) condition.now c → IsSymbolic (program_of typed.now) c symbolic.now }
     requires terms { structure.now.sizes.terms ≡ length symbolic.now.terms }
     requires versions { structure.now.sizes.versions ≡ symbolic.now.versions }
-    ensures { IfOk result (λ t. (c : plain.Condition) → IsKept (program_of typed.now) condition.now c → drawn_of t ≡ drawn_over (variable_names c.procedure) (built_trace (program_of typed.now) c (interpretation_of structure.now))) }
+    ensures { IfOk result (λ t. (c : plain.Condition) → IsOfProgram (program_of typed.now) condition.now c → drawn_of t ≡ drawn_over (variable_names c.procedure) (built_trace (program_of typed.now) c (interpretation_of structure.now))) }
 {
     let program = typed.program();
     let procedure = &program.procedures[condition.procedure as usize];

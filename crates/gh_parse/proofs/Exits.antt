@@ -6,45 +6,45 @@ use Rattle.gh_ast.specs.Tokens.{Token}
 use Rattle.gh_parse.specs.declared.error.ReadError.{ReadError}
 use Rattle.gh_parse.specs.declared.error.ReadError.TheVariants.{Unexpected, OutOfMemory}
 use Rattle.gh_parse.specs.Stops.{NoToken, Tok, Any, goes_on, Stops}
-use Rattle.gh_parse.specs.Answers.{IsRefusal, IsRead, IsMissing, IsTaken}
+use Rattle.gh_parse.specs.Answers.{IsRuleRefusal, IsRuleRead, IsMissing, IsTaken}
 use Rattle.gh_parse.proofs.Rules.{stops_tok}
 
 pub within : {F G : List Token → Type 0} {P Q : List Token → List Token → Type 0} {ts us left : List Token} (e : ReadError)
-    → (Stops F P us left → Stops G Q ts left) → IsRefusal F P us left e → IsRefusal G Q ts left e
+    → (Stops F P us left → Stops G Q ts left) → IsRuleRefusal F P us left e → IsRuleRefusal G Q ts left e
 within Unexpected f h = f h
 within OutOfMemory f h = tt
 
 -- at the exit of a `?`
 pub exit : {Y : Type 0} {F G : List Token → Type 0} {P Q : List Token → List Token → Type 0} {ts us left : List Token} (Good : Y → Type 0) (answer : Result Y ReadError) (e : ReadError)
-    → (Stops F P us left → Stops G Q ts left) → IsRefusal F P us left e → IsErrAnd answer (λ d. d ≡ e) → MatchResult answer Good (IsRefusal G Q ts left)
+    → (Stops F P us left → Stops G Q ts left) → IsRuleRefusal F P us left e → IsErrAnd answer (λ d. d ≡ e) → MatchResult answer Good (IsRuleRefusal G Q ts left)
 exit Good answer e f h r =
     let p = err_from_is_err_and answer r in rw (p.1, p.2) (within e f h)
 
 -- an answer that is passed on
 pub along : {X Y : Type 0} {F G : List Token → Type 0} {P Q : List Token → X → List Token → Type 0} {ts us left : List Token} (view : Y → X) (answer : Result Y ReadError)
-    → ((x : X) → P us x left → Q ts x left) → (Stops F (Any P) us left → Stops G (Any Q) ts left) → IsRead F P us view answer left → IsRead G Q ts view answer left
+    → ((x : X) → P us x left → Q ts x left) → (Stops F (Any P) us left → Stops G (Any Q) ts left) → IsRuleRead F P us view answer left → IsRuleRead G Q ts view answer left
 along view (Ok y) f g h = f (view y) h
 along view (Err e) f g h = within e g h
 
 -- a token that isn't there
-pub missing : {X : Type 0} (F : List Token → Type 0) (k : X → Token) (ts left : List Token) (e : ReadError) (p : X) → goes_on (k p) ≡ false → IsMissing k ts left e → IsRefusal F (Tok k) ts left e
+pub missing : {X : Type 0} (F : List Token → Type 0) (k : X → Token) (ts left : List Token) (e : ReadError) (p : X) → goes_on (k p) ≡ false → IsMissing k ts left e → IsRuleRefusal F (Tok k) ts left e
 missing F k ts left Unexpected p f h = subst (λ z. Stops F (Tok k) ts z) (sym h.stays) (stops_tok p f h.none)
 missing F k ts left OutOfMemory p f h = tt
 
 -- an answer for one token that is passed on
 pub along_token : {X : Type 0} {G : List Token → Type 0} {Q : List Token → X → List Token → Type 0} {k : X → Token} {ts left : List Token} (answer : Result X ReadError) (p : X)
     → goes_on (k p) ≡ false → ((x : X) → ts ≡ k x ∷ left → Q ts x left) → (Stops G (Tok k) ts left → Stops G (Any Q) ts left) → IsTaken k ts answer left
-    → IsRead G Q ts (λ x. x) answer left
+    → IsRuleRead G Q ts (λ x. x) answer left
 along_token (Ok x) p g f s h = f x h
 along_token {G = G} {k = k} {ts = ts} {left = left} (Err e) p g f s h = within e s (missing G k ts left e p g h)
 
 -- one by which something could have gone on
 within_any : {X : Type 0} {k : X → Token} {G : List Token → Type 0} {Q : List Token → List Token → Type 0} {ts us : List Token} (left : List Token) (e : ReadError)
-    → (NoToken k us → Stops G Q ts us) → IsMissing k us left e → IsRefusal G Q ts left e
+    → (NoToken k us → Stops G Q ts us) → IsMissing k us left e → IsRuleRefusal G Q ts left e
 within_any {G = G} {Q = Q} {ts = ts} left Unexpected f h = subst (λ z. Stops G Q ts z) (sym h.stays) (f h.none)
 within_any left OutOfMemory f h = tt
 
 pub exit_missing : {X Y : Type 0} {G : List Token → Type 0} {Q : List Token → List Token → Type 0} {k : X → Token} {ts us : List Token} (left : List Token) (Good : Y → Type 0) (answer : Result Y ReadError) (e : ReadError)
-    → (NoToken k us → Stops G Q ts us) → IsMissing k us left e → IsErrAnd answer (λ d. d ≡ e) → MatchResult answer Good (IsRefusal G Q ts left)
+    → (NoToken k us → Stops G Q ts us) → IsMissing k us left e → IsErrAnd answer (λ d. d ≡ e) → MatchResult answer Good (IsRuleRefusal G Q ts left)
 exit_missing left Good answer e f h r =
     let p = err_from_is_err_and answer r in rw (p.1, p.2) (within_any left e f h)

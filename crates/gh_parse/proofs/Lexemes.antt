@@ -13,12 +13,12 @@ use Rattle.gh_ast.proofs.Clearing.{cleared_byte, cleared_front, uncleared_front,
 use Rattle.gh_ast.proofs.Words.{first_of, after_first, sign_is_sign, keyword_is_word, name_not_blank, blank_not_slash, word_is_plain, one_run}
 use Rattle.gh_ast.proofs.TokenLemmas.{piece_some, token_is_plain}
 use Rattle.gh_parse.specs.Views.{symbol_at, symbol_text}
-use Rattle.gh_parse.specs.Lexing.{BeginsWith, IsCommentAhead, EndsLine, IsSymbolAhead, IsAhead}
+use Rattle.gh_parse.specs.Lexing.{BeginsWith, IsCommentAhead, EndsLine, IsSymbolAhead, IsPieceAhead}
 use Rattle.gh_parse.specs.declared.token.Symbol.{Symbol}
 use Rattle.gh_parse.specs.declared.token.Symbol.TheVariants as symbol
 use Rattle.gh_parse.specs.declared.token.Word.{Word}
 
-pub blank_ahead : (b : ℕ) (rest : List ℕ) → is_blank b ≡ true → IsAhead (b ∷ rest) (record { length = 1; symbol = None })
+pub blank_ahead : (b : ℕ) (rest : List ℕ) → is_blank b ≡ true → IsPieceAhead (b ∷ rest) (record { length = 1; symbol = None })
 blank_ahead b rest h =
     record {
       some = omega arith;
@@ -68,7 +68,7 @@ some_line zero text rest e ends = absurd (let f : 47 ≡ 10 = subst EndsLine e e
 some_line (suc n) text rest e ends = omega arith
 
 pub comment_ahead : (n : ℕ) (text : List ℕ) → IsCommentAhead text → n ≤ length text → All (λ b. b ≢ 10) (take n text) → EndsLine (drop n text)
-    → IsAhead text (record { length = n; symbol = None })
+    → IsPieceAhead text (record { length = n; symbol = None })
 comment_ahead n text c h plain ends =
     let line = wiped_line n text h plain ends in
     let same : cleared text ≡ wiped text = rw c.1 refl in
@@ -98,7 +98,7 @@ front_some : (w : List ℕ) (b : ℕ) (v : List ℕ) → w ≡ b ∷ v → 0 < l
 front_some [] b v e = cc
 front_some (x ∷ w) b v e = omega arith
 
-pub symbol_ahead : (text : List ℕ) (s : Symbol) → IsSymbolAhead text s → IsAhead text (record { length = length (symbol_text s); symbol = Some s })
+pub symbol_ahead : (text : List ℕ) (s : Symbol) → IsSymbolAhead text s → IsPieceAhead text (record { length = length (symbol_text s); symbol = Some s })
 symbol_ahead text s h =
     let w = symbol_text s in
     let here : Span = record { line = 1; col = 1 } in

@@ -7,7 +7,7 @@ use Rattle.gh_ast.specs.Tokens.{Token, cleared, moved, moved_over, first_place, 
 use Rattle.gh_ast.proofs.Clearing.{length-cleared}
 use Rattle.gh_ast.proofs.TokenLemmas.{tokens_on, stuck_has_none}
 use Rattle.gh_parse.specs.Views.{token_of, tokens_of}
-use Rattle.gh_parse.specs.Lexing.{IsAhead, IsLexed, tokens_at}
+use Rattle.gh_parse.specs.Lexing.{IsPieceAhead, IsLexed, tokens_at}
 use Rattle.gh_parse.specs.declared.lexer.Piece.{Piece}
 use Rattle.gh_parse.specs.declared.token.Token as read
 
@@ -31,7 +31,7 @@ moved_within (b ∷ w) p =
     record { line = omega arith; col = omega arith }
 
 pub piece_on : (text : List ℕ) (ts us : List Token) (p : Span) (rest : List ℕ) (next : Piece)
-    → IsTokens first_place (cleared text) ts p (cleared rest) → IsAhead rest next → us ≡ ts ++ tokens_at next.symbol p
+    → IsTokens first_place (cleared text) ts p (cleared rest) → IsPieceAhead rest next → us ≡ ts ++ tokens_at next.symbol p
     → IsTokens first_place (cleared text) us (moved_over p (take next.length rest)) (cleared (drop next.length rest))
 piece_on text ts us p rest next before ahead e =
     subst (λ x. IsTokens first_place (cleared text) x (moved_over p (take next.length rest)) (cleared (drop next.length rest))) (sym e)
@@ -51,7 +51,7 @@ pub record IsStep (text : List ℕ) (ts : List Token) (p : Span) (rest : List �
   pub line : p.line + length rest < 2 ^ 32
   pub col : p.col + length rest < 2 ^ 32
 
-pub step_on : (text : List ℕ) (ts us : List Token) (p q : Span) (rest front back : List ℕ) (next : Piece) → IsStep text ts p rest → IsAhead rest next
+pub step_on : (text : List ℕ) (ts us : List Token) (p q : Span) (rest front back : List ℕ) (next : Piece) → IsStep text ts p rest → IsPieceAhead rest next
     → us ≡ ts ++ tokens_at next.symbol p → front ≡ take next.length rest → back ≡ drop next.length rest → q ≡ moved_over p front → IsStep text us q back
 step_on text ts us p q rest front back next s ahead e f b m =
     let w = moved_within front p in

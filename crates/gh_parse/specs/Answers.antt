@@ -14,13 +14,13 @@ use Rattle.gh_parse.specs.declared.cursor.Ahead.{Ahead}
 use Rattle.gh_parse.specs.declared.cursor.Ahead.TheVariants.{Name, Key, Sign, End}
 
 -- a token is unexpected exactly where reading stops
-abbrev pub IsRefusal : (List Token → Type 0) → (List Token → List Token → Type 0) → List Token → List Token → ReadError → Type 0
-IsRefusal Follows P ts left Unexpected = Stops Follows P ts left
-IsRefusal Follows P ts left OutOfMemory = ⊤
+abbrev pub IsRuleRefusal : (List Token → Type 0) → (List Token → List Token → Type 0) → List Token → List Token → ReadError → Type 0
+IsRuleRefusal Follows P ts left Unexpected = Stops Follows P ts left
+IsRuleRefusal Follows P ts left OutOfMemory = ⊤
 
 -- the answer is what the rule spells at the front, or reading stops where the tokens are left
-abbrev pub IsRead : {X Y : Type 0} → (List Token → Type 0) → (List Token → X → List Token → Type 0) → List Token → (Y → X) → Result Y ReadError → List Token → Type 0
-IsRead Follows P ts view answer left = MatchResult answer (λ y. P ts (view y) left) (IsRefusal Follows (Any P) ts left)
+abbrev pub IsRuleRead : {X Y : Type 0} → (List Token → Type 0) → (List Token → X → List Token → Type 0) → List Token → (Y → X) → Result Y ReadError → List Token → Type 0
+IsRuleRead Follows P ts view answer left = MatchResult answer (λ y. P ts (view y) left) (IsRuleRefusal Follows (Any P) ts left)
 
 -- a token that isn't there: nothing is taken
 pub record IsGap {X : Type 0} (k : X → Token) (ts left : List Token) : Type 0 where

@@ -32,7 +32,7 @@ tokens_at None place = []
 tokens_at (Some symbol) place = symbol_at symbol place ∷ []
 
 -- the bytes of the piece are in front, and its token is that of the text without comments
-pub record IsAhead (text : List ℕ) (p : Piece) : Type 0 where
+pub record IsPieceAhead (text : List ℕ) (p : Piece) : Type 0 where
   pub some : 0 < p.length
   pub within : p.length < 1 + length text
   pub reads : (place : Span)

@@ -4,7 +4,7 @@ ghost use Rattle.gh_ast.specs.declared.sign.Sign.TheVariants.{ParenOpen, ParenCl
 ghost use Rattle.gh_ast.specs.QuestionGrammar.{SpellsPart, SpellsDenial, SpellsBoth, SpellsClaim};
 ghost use Rattle.gh_ast.specs.Questions.{claim_of};
 ghost use Rattle.gh_parse.specs.Views.{tokens_of};
-ghost use Rattle.gh_parse.specs.Answers.{IsRead, IsBetween};
+ghost use Rattle.gh_parse.specs.Answers.{IsRuleRead, IsBetween};
 ghost use Rattle.gh_parse.specs.Questions.{IsApart};
 
 use crate::cursor::Parser;
@@ -17,7 +17,7 @@ impl<'t> Parser<'t> {
     /// Reads a claim: conjunctions with `||` between them.
     #[cycle(claim)]
     pub fn claim(&mut self, alloc: Global) -> Result<Claim, ReadError>
-        ensures { IsRead IsApart SpellsClaim (tokens_of self.old.rest.now) claim_of result (tokens_of self.new.rest.now) }
+        ensures { IsRuleRead IsApart SpellsClaim (tokens_of self.old.rest.now) claim_of result (tokens_of self.new.rest.now) }
     {
         let first = self.claims_together(alloc)?;
         let Some(_) = self.take_sign(Sign::Or) else {
@@ -36,7 +36,7 @@ impl<'t> Parser<'t> {
     // Reads parts that may be denied, with `&&` between them.
     #[cycle(claim)]
     fn claims_together(&mut self, alloc: Global) -> Result<Claim, ReadError>
-        ensures { IsRead IsApart SpellsBoth (tokens_of self.old.rest.now) claim_of result (tokens_of self.new.rest.now) }
+        ensures { IsRuleRead IsApart SpellsBoth (tokens_of self.old.rest.now) claim_of result (tokens_of self.new.rest.now) }
     {
         let first = self.denial(alloc)?;
         let Some(_) = self.take_sign(Sign::And) else {
@@ -55,7 +55,7 @@ impl<'t> Parser<'t> {
     // Reads a part that may be denied.
     #[cycle(claim)]
     fn denial(&mut self, alloc: Global) -> Result<Claim, ReadError>
-        ensures { IsRead IsApart SpellsDenial (tokens_of self.old.rest.now) claim_of result (tokens_of self.new.rest.now) }
+        ensures { IsRuleRead IsApart SpellsDenial (tokens_of self.old.rest.now) claim_of result (tokens_of self.new.rest.now) }
     {
         let Some(_) = self.take_sign(Sign::Bang) else {
             return self.claim_part(alloc);
@@ -67,7 +67,7 @@ impl<'t> Parser<'t> {
     // Reads an assertion in braces, or a claim in brackets.
     #[cycle(claim)]
     fn claim_part(&mut self, alloc: Global) -> Result<Claim, ReadError>
-        ensures { IsRead IsApart SpellsPart (tokens_of self.old.rest.now) claim_of result (tokens_of self.new.rest.now) }
+        ensures { IsRuleRead IsApart SpellsPart (tokens_of self.old.rest.now) claim_of result (tokens_of self.new.rest.now) }
     {
         if self.is_sign(Sign::ParenOpen) {
             return self.enclosed_claim(alloc);
@@ -79,7 +79,7 @@ impl<'t> Parser<'t> {
     // Reads a claim in brackets.
     #[cycle(claim)]
     fn enclosed_claim(&mut self, alloc: Global) -> Result<Claim, ReadError>
-        ensures { IsRead IsApart (IsBetween ParenOpen ParenClose SpellsClaim) (tokens_of self.old.rest.now) claim_of result (tokens_of self.new.rest.now) }
+        ensures { IsRuleRead IsApart (IsBetween ParenOpen ParenClose SpellsClaim) (tokens_of self.old.rest.now) claim_of result (tokens_of self.new.rest.now) }
     {
         self.expect_sign(Sign::ParenOpen)?;
         let inner = self.claim(alloc)?;

@@ -5,7 +5,7 @@ ghost use Rattle.gh_base.specs.Names.{is_name_byte};
 ghost use Rattle.gh_base.specs.declared.place.Span.{Span};
 ghost use Rattle.gh_ast.specs.Tokens.{is_blank, begins_word, sign_text, keyword_text, cleared, moved_over, IsFree, EndsWord, IsLongest, HasTokens, IsStuck};
 ghost use Rattle.gh_parse.specs.Views.{tokens_of};
-ghost use Rattle.gh_parse.specs.Lexing.{BeginsWith, IsCommentAhead, EndsLine, IsSymbolAhead, IsAhead, IsLexed, IsLexRefusal};
+ghost use Rattle.gh_parse.specs.Lexing.{BeginsWith, IsCommentAhead, EndsLine, IsSymbolAhead, IsPieceAhead, IsLexed, IsLexRefusal};
 
 use crate::scan::after_byte;
 use crate::token::{Symbol, Token, Word};
@@ -185,7 +185,7 @@ fn symbol_ahead<'t>(first: u8, text: &'t [u8]) -> Option<Symbol<'t>>
 
 // What the text begins with.
 fn first_piece<'t>(text: &'t [u8]) -> Option<Piece<'t>>
-    ensures { MatchOption result (IsStuck (cleared text.now)) (λ p. IsAhead text.now p) }
+    ensures { MatchOption result (IsStuck (cleared text.now)) (λ p. IsPieceAhead text.now p) }
 {
     let (first, _) = text.split_first()?;
     if separates(*first) {

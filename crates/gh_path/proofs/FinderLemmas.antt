@@ -72,7 +72,7 @@ mutual
   follow (loop at t i body close) = one_follows (record { at = at; test = t; invariant = i; body = body; close = close }) (all_follow body)
   follow (give at es) = none_follow
 
-  all_follow : (ss : Statements) → Follows (all_loops ss)
+  pub all_follow : (ss : Statements) → Follows (all_loops ss)
   all_follow no_statements = none_follow
   all_follow (statement_first s ss) = both_follow (loops s) (all_loops ss) (follow s) (all_follow ss)
 
@@ -139,7 +139,7 @@ got (x ∷ xs) zero less = (x, refl)
 got (x ∷ xs) (suc n) less = got xs n (omega (arith, less))
 
 -- the check at the end of a loop's body
-close_of : (b : Block) → (part_of b).close ≡ b.close
+pub close_of : (b : Block) → (part_of b).close ≡ b.close
 close_of b = ap (λ (q : Part). q.close) (fold_out-Block Statement Part statement_step part_step b)
 
 pub loop_ends : (P : Program) (p : Procedure) (k : Check) (n : ℕ) (l : Loop) (b : Block) → k.kind ≡ LoopEnd n → k.span ≡ b.close → l.close ≡ (part_of b).close → IsLoop p n l → IsCheck P p k (loop_end l)

@@ -10,3 +10,9 @@ pub mod NumberLemmas
 pub mod FinderLemmas
 pub mod PlaceLemmas
 pub mod KeptLemmas
+pub mod ShownLemmas
+pub mod LowerLemmas
+pub mod RouteLemmas
+pub mod RootLemmas
+pub mod LeftLemmas
+pub mod GivenLemmas

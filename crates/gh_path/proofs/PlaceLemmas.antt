@@ -1,19 +1,17 @@
 -- Conditions of a program by place.
-use Rattle.std.specs.Prelude.{◌≡◌, ℕ, suc, ◌+◌, ◌-◌, ◌<◌, ◌≤◌, List, ◌∷◌, ◌++◌, map, length, Option, Some, None, slice_get, get_or, take, drop, Contains, Ok}
+use Rattle.std.specs.Prelude.{◌≡◌, ℕ, ◌+◌, ◌-◌, ◌<◌, ◌≤◌, List, ◌∷◌, ◌++◌, map, length, Option, Some, None, slice_get, get_or, drop, Contains}
 use Rattle.std.specs.Option.{option_map}
 use Rattle.std.proofs.Common.{refl, sym, ◌∙◌, ap, subst, inr, arith}
 use Rattle.std.proofs.lemmas.List.{drop_more, get_or-map, length-map}
 use Rattle.std.proofs.lemmas.Option.{slice_get-map, slice_get_read, slice_get_within, get_or_from_slice_get}
 use Rattle.std.proofs.Math.ListN.{drop_of_length-le}
 use Rattle.gh_ast.specs.declared.Procedure as whole
-use Rattle.gh_ast.specs.Plain.{Procedure, Program, procedure_of, program_of}
+use Rattle.gh_ast.specs.Plain.{Procedure, Program, procedure_of}
 use Rattle.gh_path.specs.Admitted.{HasManyPaths, NoneHas}
 use Rattle.gh_path.specs.Answers.{IsPlaced, IsNumbered}
 use Rattle.gh_path.specs.Conditions.{Condition, conditions_of, conditions, from_procedures}
 use Rattle.gh_path.specs.Counting.{procedure_ahead}
 use Rattle.gh_path.specs.Walking.{IsAfter, IsSought}
-use Rattle.gh_path.specs.Walks.{left_of, IsGiven}
-use Rattle.gh_path.specs.declared.walk.Walk.{Walk}
 use Rattle.gh_path.specs.declared.ahead.Ahead.{Ahead}
 use Rattle.gh_path.specs.declared.condition.Condition as kept
 use Rattle.gh_path.specs.declared.finder.Found.{Found}
@@ -70,24 +68,3 @@ numbered P n k None number past = inr (omega (arith, number, past))
 numbered P n k (Some r) number (c, at, is) =
     let place : k ≡ n - 1 = omega (arith, number) in
     (c, omega (arith, number), subst (λ i. slice_get (conditions P) i ≡ Some c) place at, is)
-
--- the next of what is left of a list
-taken : {A : Type 0} (cs : List A) (g e : ℕ) (c : A) → g < e → slice_get cs (g + 1 - 1) ≡ Some c → take (e - g) (drop g cs) ≡ c ∷ take (e - (g + 1)) (drop (g + 1) cs)
-taken cs g e c less at =
-    let same : g + 1 - 1 ≡ g = omega arith in
-    let here : slice_get cs g ≡ Some c = subst (λ n. slice_get cs n ≡ Some c) same at in
-    let rest : drop g cs ≡ c ∷ drop (g + 1) cs = drop_more cs g c (slice_get_within cs g c here) ∙ ap (λ x. x ∷ drop (g + 1) cs) (get_or_from_slice_get cs g c c here) in
-    let more : e - g ≡ suc (e - (g + 1)) = omega (arith, less) in
-    ap (λ xs. take (e - g) xs) rest ∙ ap (λ k. take k (c ∷ drop (g + 1) cs)) more
-
-pub next_item : (s t : Walk) (o : Option kept.Condition) (r : kept.Condition) → s.given < s.end → t.conditions.now ≡ s.conditions.now → t.given ≡ s.given + 1 → t.end ≡ s.end → IsNumbered (program_of s.conditions.now) (s.given + 1) o → o ≡ Some r → IsGiven s (Some (Ok r)) t
-next_item s t o r less same given end numbered is =
-    let P = program_of s.conditions.now in
-    let Q : Option kept.Condition → Type 0 = λ x. IsNumbered P (s.given + 1) x in
-    let here = subst Q is numbered in
-    let all : conditions P ≡ conditions (program_of t.conditions.now) = ap (λ q. conditions (program_of q)) (sym same) in
-    let left : take (s.end - (s.given + 1)) (drop (s.given + 1) (conditions P)) ≡ left_of t =
-    ap (λ cs. take (s.end - (s.given + 1)) (drop (s.given + 1) cs)) all
-    ∙ ap (λ k. take (s.end - k) (drop k (conditions (program_of t.conditions.now)))) (sym given)
-    ∙ ap (λ k. take (k - t.given) (drop t.given (conditions (program_of t.conditions.now)))) (sym end) in
-    record { same = same; item = (here.0, taken (conditions P) s.given s.end here.0 less here.2 ∙ ap (λ ws. here.0 ∷ ws) left, here.3) }

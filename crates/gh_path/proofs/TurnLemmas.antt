@@ -10,7 +10,7 @@ use Rattle.gh_path.specs.Kept.{IsLoop}
 use Rattle.gh_path.specs.Paths.{Way}
 use Rattle.gh_path.specs.declared.condition.PathStep.TheVariants as step
 use Rattle.gh_path.specs.Counting.{nothing, ahead, before_all, before_some}
-use Rattle.gh_path.specs.Walking.{IsPushed, IsOn, Leads, IsTurned, Turns, opposite}
+use Rattle.gh_path.specs.Walking.{IsPushed, IsOn, Leads, IsTurned, Turns, turned_other}
 use Rattle.gh_path.specs.declared.ahead.Ahead.{Ahead}
 use Rattle.gh_path.specs.declared.condition.Check.{Check}
 use Rattle.gh_path.specs.declared.walker.Trail.{Trail}
@@ -26,14 +26,14 @@ Tests P p s x a b t turn = (g k : Graph) → a ≡ ahead g → b ≡ ahead k →
 pub turned : (P : Program) (p : Procedure) (w : Way) (t : Trail) (turn turn' : Turn) (g k : Graph) → turn ≡ turn' → IsTurned P p w t turn g k → IsTurned P p w t turn' g k
 turned P p w t turn turn' g k same is = let Q : Turn → Type 0 = λ u. IsTurned P p w t u g k in subst Q same is
 
-back : (P : Program) (p : Procedure) (w : Way) (t : Trail) (turn : Turn) (g k : Graph) → IsTurned P p w t turn k g → IsTurned P p w t (opposite turn) g k
+back : (P : Program) (p : Procedure) (w : Way) (t : Trail) (turn : Turn) (g k : Graph) → IsTurned P p w t turn k g → IsTurned P p w t (turned_other turn) g k
 back P p w t (Arrived c) g k is = is
 back P p w t Yes g k is = is
 back P p w t No g k is = is
 
-pub not_turns : (P : Program) (p : Procedure) (s t : Trail) (x inner : Test) (turn turn' : Turn) (a b : Ahead) → x ≡ negation inner → turn' ≡ opposite turn → Tests P p s inner b a t turn → Tests P p s x a b t turn'
+pub not_turns : (P : Program) (p : Procedure) (s t : Trail) (x inner : Test) (turn turn' : Turn) (a b : Ahead) → x ≡ negation inner → turn' ≡ turned_other turn → Tests P p s inner b a t turn → Tests P p s x a b t turn'
 not_turns P p s t x inner turn turn' a b is other tests g k one two w on =
-    turned P p w t (opposite turn) turn' g k (sym other) (back P p w t turn g k (tests k g two one w (subst (λ y. IsOn P p w s (tested y g k)) is on)))
+    turned P p w t (turned_other turn) turn' g k (sym other) (back P p w t turn g k (tests k g two one w (subst (λ y. IsOn P p w s (tested y g k)) is on)))
 
 -- the reads of a comparison
 pub left_ends : (P : Program) (p : Procedure) (s t : Trail) (x : Test) (l : Expr) (e : Bool) (r : Expr) (found : Option Check) (c : Check) → x ≡ compare l e r → ((g : Graph) → Leads P p s (reads l g) t found g) → found ≡ Some c

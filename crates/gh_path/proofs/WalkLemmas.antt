@@ -42,7 +42,7 @@ got_right (x ∷ xs) ys m y e =
     got_right xs ys m y (subst (λ n. slice_get (x ∷ xs ++ ys) n ≡ Some y) same e)
 
 -- one more step
-steps_more : (P : Program) (p : Procedure) (rs : List kept.PathStep) (xs : List PathStep) (r : kept.PathStep) (x : PathStep)
+pub steps_more : (P : Program) (p : Procedure) (rs : List kept.PathStep) (xs : List PathStep) (r : kept.PathStep) (x : PathStep)
     → AreSteps P p rs xs → IsStep P p r x → AreSteps P p (rs ++ r ∷ []) (xs ++ x ∷ [])
 steps_more P p [] [] r x are is = (is, tt)
 steps_more P p [] (y ∷ xs) r x are is = absurd are

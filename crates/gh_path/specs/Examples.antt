@@ -6,7 +6,7 @@ use Rattle.gh_ast.specs.declared.Operand.{Operand}
 use Rattle.gh_ast.specs.declared.Operand.TheVariants.{Null, Var}
 use Rattle.gh_ast.specs.declared.Expr.TheVariants.{Plain, Read}
 use Rattle.gh_ast.specs.Plain.{compare, Formula, segment, star, no_formulas, formula_first, set, write, call, choice, loop, give, Statements, no_statements, statement_first, Procedure, Program}
-use Rattle.gh_path.specs.Graphs.{place_of}
+use Rattle.gh_path.specs.Graphs.{check_place}
 use Rattle.gh_path.specs.Conditions.{Condition}
 
 abbrev pub at : ℕ → ℕ → Span
@@ -98,7 +98,7 @@ abbrev pub row : ℕ → ℕ → ℕ → Row
 row l c n = record { place = at l c; steps = n }
 
 abbrev pub row_of : Condition → Row
-row_of c = record { place = place_of c.way.check; steps = length c.way.steps }
+row_of c = record { place = check_place c.way.check; steps = length c.way.steps }
 
 -- the loop's entry and the return from the entry; two reads of c and the end of the body from the loop
 abbrev pub reversal_rows : List Row

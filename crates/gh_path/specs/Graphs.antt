@@ -28,12 +28,12 @@ pub data Check : Type 0 where
   loop_end : Loop → Check
 
 -- the place that a check is named by: of the variable, the callee, the word `while`, the word `return` or a last brace
-abbrev pub place_of : Check → Span
-place_of (access x) = x.span
-place_of (entry f es) = f.span
-place_of (loop_entry l) = l.at
-place_of (returned at f) = at
-place_of (loop_end l) = l.close
+abbrev pub check_place : Check → Span
+check_place (access x) = x.span
+check_place (entry f es) = f.span
+check_place (loop_entry l) = l.at
+check_place (returned at f) = at
+check_place (loop_end l) = l.close
 
 -- `assume l e r way`: the comparison is true where `way` is, else false
 pub data PathStep : Type 0 where

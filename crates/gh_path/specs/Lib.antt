@@ -2,9 +2,13 @@ pub mod Graphs
 pub mod Paths
 pub mod Conditions
 pub mod Kept
+pub mod Shown
+pub mod Routes
+pub mod Roots
 pub mod Counting
 pub mod Counted
 pub mod Walking
+pub mod Lowered
 pub mod Answers
 pub mod Walks
 pub mod Terms

@@ -19,6 +19,6 @@ pub record FirstOf (ps : List Procedure) (Q : Procedure → Type 0) (kind number
   pub count : l.count ≡ number
 
 -- a procedure with too many conditions; where there is none, a path with too many steps; want of memory at any time
-abbrev pub IsRefusal : Program → ConditionsError → Type 0
-IsRefusal P (Limit l) = Passed P HasManyPaths 4 1025 l ⊎ (NoneHas P HasManyPaths × Passed P HasManySteps 5 257 l)
-IsRefusal P OutOfMemory = ⊤
+abbrev pub IsConditionsRefusal : Program → ConditionsError → Type 0
+IsConditionsRefusal P (Limit l) = Passed P HasManyPaths 4 1025 l ⊎ (NoneHas P HasManyPaths × Passed P HasManySteps 5 257 l)
+IsConditionsRefusal P OutOfMemory = ⊤

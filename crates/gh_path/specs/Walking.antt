@@ -58,10 +58,10 @@ IsTurned P p w t No g k = IsOn P p w t k
 abbrev pub Turns : Program → Procedure → Trail → Graph → Trail → Turn → Graph → Graph → Type 0
 Turns P p s f t turn g k = (w : Way) → IsOn P p w s f → IsTurned P p w t turn g k
 
-abbrev pub opposite : Turn → Turn
-opposite (Arrived c) = Arrived c
-opposite Yes = No
-opposite No = Yes
+abbrev pub turned_other : Turn → Turn
+turned_other (Arrived c) = Arrived c
+turned_other Yes = No
+turned_other No = Yes
 
 -- what is found stands for a condition of the procedure
 pub record IsFound (P : Program) (p : Procedure) (f : Found) (c : Condition) : Type 0 where

@@ -1,23 +1,70 @@
 -- A walk over the conditions of a program, one at a time.
-use Rattle.std.specs.Prelude.{◌≡◌, ◌-◌, List, [], ◌∷◌, take, drop, Option, Some, None, Ok, Err}
+use Rattle.std.specs.Prelude.{◌≡◌, ◌≢◌, ◌-◌, ◌<◌, List, [], ◌∷◌, ◌++◌, map, length, drop, Option, Some, None, Ok, Err}
 use Rattle.std.specs.declared.result.Result.{Result}
 use Rattle.std.specs.declared.alloc.AllocError.{AllocError}
-use Rattle.gh_ast.specs.Plain.{program_of}
-use Rattle.gh_path.specs.Conditions.{Condition, conditions}
+use Rattle.gh_ast.specs.Plain.{Procedure, Program}
+use Rattle.gh_path.specs.Graphs.{Start}
+use Rattle.gh_path.specs.Paths.{Way}
+use Rattle.gh_path.specs.Conditions.{Condition, condition}
 use Rattle.gh_path.specs.Kept.{StandsFor}
+use Rattle.gh_path.specs.Shown.{AreShown, IsAsked}
+use Rattle.gh_path.specs.Routes.{AreToCome}
+use Rattle.gh_path.specs.Roots.{IsRoot, AreRoots}
 use Rattle.gh_path.specs.declared.condition.Condition as kept
+use Rattle.gh_path.specs.declared.node.Asked.{Asked}
 use Rattle.gh_path.specs.declared.walk.Walk.{Walk}
 
--- the conditions that are still to come
-abbrev pub left_of : Walk → List Condition
-left_of s = take (s.end - s.given) (drop s.given (conditions (program_of s.conditions.now)))
+-- the conditions that are still to come: from the present start, and from those after it
+pub record AreLeft (P : Program) (s : Walk) (cs : List Condition) : Type 0 where
+  pub procedure : Procedure
+  pub start : Start
+  pub ways : List Way
+  pub later : List Condition
+  pub root : IsRoot P s.starts.now.nodes s.present procedure start
+  pub here : AreToCome P procedure s.starts.now.nodes s.route.taken.items s.route.onward ways
+  pub after : AreRoots P s.starts.now.nodes (drop s.next s.starts.now.roots.items) later
+  pub are : cs ≡ map (condition procedure start) ways ++ later
 
--- the next of them; none after the last, or after an error
-abbrev pub IsItem : Walk → Option (Result kept.Condition AllocError) → Walk → Type 0
-IsItem s None t = (left_of s ≡ []) × (left_of t ≡ [])
-IsItem s (Some (Ok r)) t = (c : Condition) × (left_of s ≡ c ∷ left_of t) × StandsFor (program_of s.conditions.now) r c
-IsItem s (Some (Err e)) t = left_of t ≡ []
+-- these conditions of a program are still to come
+pub record IsBefore (P : Program) (s : Walk) (cs : List Condition) : Type 0 where
+  pub count : length cs ≡ s.end - s.given
+  pub left : s.given < s.end → AreLeft P s cs
 
-pub record IsGiven (s : Walk) (r : Option (Result kept.Condition AllocError)) (t : Walk) : Type 0 where
-  pub same : t.conditions.now ≡ s.conditions.now
-  pub item : IsItem s r t
+-- the first of some conditions is come to, and the others are still to come
+pub record IsAt (P : Program) (s : Walk) (a : Asked) (cs : List Condition) : Type 0 where
+  pub first : Condition
+  pub rest : List Condition
+  pub are : cs ≡ first ∷ rest
+  pub root : IsRoot P s.starts.now.nodes s.present first.procedure first.start
+  pub shown : AreShown P first.procedure (map (λ t. t.step) s.route.taken.items) first.way.steps
+  pub asked : IsAsked P first.procedure a first.way.check
+  pub left : AreLeft P s rest
+
+abbrev pub HasCome : Program → Walk → Option Asked → List Condition → Type 0
+HasCome P s None cs = cs ≡ []
+HasCome P s (Some a) cs = IsAt P s a cs
+
+-- on to the next condition that is still to come
+abbrev pub Advances : Walk → Walk → Option Asked → Type 0
+Advances s t found = (P : Program) (cs : List Condition) → AreLeft P s cs → HasCome P t found cs
+
+-- the first of some conditions as it is kept, and the others are still to come
+abbrev pub IsNextKept : Program → Walk → Option kept.Condition → List Condition → Type 0
+IsNextKept P s None cs = cs ≡ []
+IsNextKept P s (Some r) cs = (c : Condition) × (ds : List Condition) × (cs ≡ c ∷ ds) × StandsFor P r c × AreLeft P s ds
+
+-- the next condition that is still to come is given
+abbrev pub Gives : Walk → Walk → Option kept.Condition → Type 0
+Gives s t found = (P : Program) (cs : List Condition) → AreLeft P s cs → IsNextKept P t found cs
+
+-- what is given where some conditions are to come, and what is to come then: none exactly where nothing is to come; an
+-- error only where something is, and then nothing is to come any more
+abbrev pub IsItem : Program → List Condition → Option (Result kept.Condition AllocError) → List Condition → Type 0
+IsItem P cs None ds = (cs ≡ []) × (ds ≡ [])
+IsItem P cs (Some (Ok r)) ds = (c : Condition) × (cs ≡ c ∷ ds) × StandsFor P r c
+IsItem P cs (Some (Err e)) ds = (cs ≢ []) × (ds ≡ [])
+
+-- one item more
+abbrev pub IsGiven : Walk → Option (Result kept.Condition AllocError) → Walk → Type 0
+IsGiven s r t =
+    (P : Program) (cs : List Condition) → IsBefore P s cs → (ds : List Condition) × IsItem P cs r ds × IsBefore P t ds

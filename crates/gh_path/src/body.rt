@@ -109,7 +109,7 @@ impl<'t> Walker<'t> {
     }
 
     /// The number of the procedure that a call names. A typed program has it.
-    fn callee(&self, callee: &Occ) -> Result<u16, AllocError>
+    pub(crate) fn callee(&self, callee: &Occ) -> Result<u16, AllocError>
         ensures { IfOk result (λ n. IsCallee (program_of self.now.program.now) n callee.now.name) }
     {
         let procedures = self.program.procedures.as_slice();

@@ -12,6 +12,11 @@ pub mod laws;
 mod limits;
 pub mod listing;
 pub mod loops;
+mod lower;
+mod lower_body;
+pub mod node;
+pub mod route;
+pub mod starts;
 #[cfg(test)]
 mod tests;
 pub mod walk;

@@ -3,11 +3,12 @@
 ghost use Rattle.std.specs.Prelude.{◌≡◌, IfErr, IfOk, OnOk};
 ghost use Rattle.gh_ast.specs.Plain.{program_of};
 ghost use Rattle.gh_path.specs.Admitted.{HasManyPaths, HasManySteps, NoneHas};
-ghost use Rattle.gh_path.specs.Refusals.{IsRefusal};
+ghost use Rattle.gh_path.specs.Refusals.{IsConditionsRefusal};
 
 use crate::conditions::Conditions;
 use crate::counts::all_ahead;
 use crate::limits::{paths_limit, steps_limit};
+use crate::starts::starts_of;
 use gh_ast::typed::{Limit, Typed};
 use std::alloc::{AllocError, Global};
 use thiserror::Error;
@@ -38,7 +39,7 @@ pub fn conditions(alloc: Global, typed: &Typed) -> Result<Conditions<'_>, Condit
     ensures same { IfOk result (λ c. c ≡ typed.now) }
     ensures paths { OnOk result (NoneHas (program_of typed.now) HasManyPaths) }
     ensures steps { OnOk result (NoneHas (program_of typed.now) HasManySteps) }
-    ensures refused { IfErr result (IsRefusal (program_of typed.now)) }
+    ensures refused { IfErr result (IsConditionsRefusal (program_of typed.now)) }
 {
     let procedures = typed.program().procedures.as_slice();
     let aheads = all_ahead(alloc, procedures)?;
@@ -48,5 +49,6 @@ pub fn conditions(alloc: Global, typed: &Typed) -> Result<Conditions<'_>, Condit
     if let Some(limit) = steps_limit(procedures, aheads.as_slice()) {
         return Err(ConditionsError::Limit(limit));
     }
-    Ok(Conditions::new(typed, aheads))
+    let starts = starts_of(alloc, typed.program())?;
+    Ok(Conditions::new(typed, aheads, starts))
 }

@@ -4,7 +4,7 @@ ghost use Rattle.std.specs.Prelude.{◌≡◌, IfOk};
 ghost use Rattle.gh_ast.specs.Plain.{test_of, tests_view, program_of, procedure_of};
 ghost use Rattle.gh_path.specs.Graphs.{visits, reads, all_reads, tested, all_tested, some_tested, fork, Graph};
 ghost use Rattle.gh_path.specs.Counting.{ahead};
-ghost use Rattle.gh_path.specs.Walking.{IsPushed, Leads, Turns, opposite};
+ghost use Rattle.gh_path.specs.Walking.{IsPushed, Leads, Turns, turned_other};
 
 use crate::ahead::{Ahead, before_all, before_some};
 use crate::condition::{Check, CheckKind, PathStep};
@@ -51,7 +51,7 @@ pub enum Turn {
 
 /// Where the opposite of a test leads.
 fn opposite(turn: Turn) -> Turn
-    ensures { result ≡ opposite turn }
+    ensures { result ≡ turned_other turn }
 {
     match turn {
         Turn::Arrived(check) => Turn::Arrived(check),

@@ -10,6 +10,8 @@ mod check_tests;
 #[cfg(test)]
 mod drawing_tests;
 #[cfg(test)]
+mod entail_tests;
+#[cfg(test)]
 mod fault_tests;
 #[cfg(test)]
 mod limit_tests;
@@ -21,6 +23,10 @@ mod paths_tests;
 mod refusal_tests;
 #[cfg(test)]
 mod run_tests;
+#[cfg(test)]
+mod session_tests;
+#[cfg(test)]
+mod simulate_tests;
 #[cfg(test)]
 mod smallest_tests;
 #[cfg(test)]

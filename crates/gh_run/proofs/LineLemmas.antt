@@ -7,7 +7,7 @@ use Rattle.std.proofs.Common.{refl, sym, ◌∙◌, ap, subst, arith}
 use Rattle.gh_ast.specs.Plain.{Program}
 use Rattle.gh_ast.specs.Programs.{Name}
 use Rattle.gh_assert.specs.declared.store.Entry.{Entry}
-use Rattle.gh_draw.specs.Reading.{IsRead, ShowsWord, ShowsEntries, HasNoEnd}
+use Rattle.gh_draw.specs.Reading.{IsFrontRead, ShowsWord, ShowsEntries, HasNoEnd}
 use Rattle.gh_draw.proofs.Fronts.{entries_one}
 use Rattle.gh_run.specs.Lines.{IsFirstLine, IsNumberOf, ShowsProcedure, ShowsStore, ShowsCellLine}
 use Rattle.gh_run.proofs.Telling.{lines_one}
@@ -28,10 +28,10 @@ first_one text l m a b f g = lines_one l m a b f.one g.one (sym f.whole ∙ g.wh
 
 -- the first line
 
-pub no_procedure : (P : Program) (text left : List ℕ) → HasNoEnd text → IsRead (ShowsProcedure P) text left None
+pub no_procedure : (P : Program) (text left : List ℕ) → HasNoEnd text → IsFrontRead (ShowsProcedure P) text left None
 no_procedure P text left none = λ n rest s. no_line text (codes "procedure " ++ s.name) rest none s.first
 
-pub procedure_read : (P : Program) (text l name left : List ℕ) (o : Option ℕ) → IsFirstLine text l left → l ≡ codes "procedure " ++ name → MatchOption o ((n : ℕ) → IsNumberOf P name n → ⊥) (IsNumberOf P name) → IsRead (ShowsProcedure P) text left o
+pub procedure_read : (P : Program) (text l name left : List ℕ) (o : Option ℕ) → IsFirstLine text l left → l ≡ codes "procedure " ++ name → MatchOption o ((n : ℕ) → IsNumberOf P name n → ⊥) (IsNumberOf P name) → IsFrontRead (ShowsProcedure P) text left o
 procedure_read P text l name left (Some n) first is found = record { name = name; first = subst (λ z. IsFirstLine text z left) is first; number = found }
 procedure_read P text l name left None first is none = λ n rest s.
     let lines = first_one text l (codes "procedure " ++ s.name) left rest first s.first in
@@ -50,19 +50,19 @@ IsShown names l es = (mid : List ℕ) × (l ≡ codes "store" ++ mid) × ShowsEn
 shown_in : (names : List Name) (text l left rest : List ℕ) (es : List Entry) → IsFirstLine text l left → ShowsStore names text es rest → IsShown names l es
 shown_in names text l left rest es first s = subst (λ z. IsShown names z es) (first_one text s.whole l rest left s.first first).0 s.shown
 
-pub no_store_word : (names : List Name) (text l left last : List ℕ) → IsFirstLine text l left → IsRead (ShowsWord (codes "store")) l last None → IsRead (ShowsStore names) text left None
+pub no_store_word : (names : List Name) (text l left last : List ℕ) → IsFirstLine text l left → IsFrontRead (ShowsWord (codes "store")) l last None → IsFrontRead (ShowsStore names) text left None
 no_store_word names text l left last first none = λ es rest s. at es (shown_in names text l left rest es first s)
   where
     at : (es : List Entry) → IsShown names l es → ⊥
     at es (mid, begins, shown) = none tt mid begins
 
-pub no_store_values : (names : List Name) (text l left inside last : List ℕ) → IsFirstLine text l left → l ≡ codes "store" ++ inside → IsRead (ShowsEntries names) inside last None → IsRead (ShowsStore names) text left None
+pub no_store_values : (names : List Name) (text l left inside last : List ℕ) → IsFirstLine text l left → l ≡ codes "store" ++ inside → IsFrontRead (ShowsEntries names) inside last None → IsFrontRead (ShowsStore names) text left None
 no_store_values names text l left inside last first is none = λ es rest s. at es (shown_in names text l left rest es first s)
   where
     at : (es : List Entry) → IsShown names l es → ⊥
     at es (mid, begins, shown) = none es [] (subst (λ z. ShowsEntries names z es []) (append_cancel_left (codes "store") mid inside (sym begins ∙ is)) shown)
 
-pub more_store_values : (names : List Name) (text l left inside last : List ℕ) (es : List Entry) → IsFirstLine text l left → l ≡ codes "store" ++ inside → ShowsEntries names inside es last → last ≢ [] → IsRead (ShowsStore names) text left None
+pub more_store_values : (names : List Name) (text l left inside last : List ℕ) (es : List Entry) → IsFirstLine text l left → l ≡ codes "store" ++ inside → ShowsEntries names inside es last → last ≢ [] → IsFrontRead (ShowsStore names) text left None
 more_store_values names text l left inside last es first is shows some = λ fs rest s. at fs (shown_in names text l left rest fs first s)
   where
     at : (fs : List Entry) → IsShown names l fs → ⊥
@@ -75,5 +75,5 @@ store_read names text l left inside last es first is shows none = record { whole
 
 -- the third line
 
-pub no_heap_word : (text last left : List ℕ) → IsRead (ShowsWord (codes "heap")) text last None → IsRead ShowsCellLine text left None
+pub no_heap_word : (text last left : List ℕ) → IsFrontRead (ShowsWord (codes "heap")) text last None → IsFrontRead ShowsCellLine text left None
 no_heap_word text last left none = λ h rest s. none tt s.0 s.1

@@ -7,7 +7,7 @@ use Rattle.gh_ast.specs.Programs.{variable_names}
 use Rattle.gh_assert.specs.Heaps.{Heap}
 use Rattle.gh_assert.specs.Stores.{listed_names, store_of}
 use Rattle.gh_assert.specs.declared.store.Entry.{Entry}
-use Rattle.gh_machine.specs.Configs.{beside, IsStart}
+use Rattle.gh_machine.specs.Configs.{beside, IsBeginning}
 use Rattle.gh_machine.specs.Machine.{Config, starting}
 use Rattle.gh_machine.proofs.Begun.{cut_whole}
 use Rattle.gh_run.specs.StateFiles.{BeginsIn}
@@ -24,7 +24,7 @@ both_sides (e ∷ es) = ap (λ z. e ∷ z) (both_sides es)
 pub cut : (n : ℕ) (vs us ws : List ℕ) → us ≡ vs → ws ≡ vs → take n us ++ take (length ws - n) (drop n ws) ≡ vs
 cut n vs us ws a b = ap (λ z. take n z ++ take (length ws - n) (drop n ws)) a ∙ ap (λ z. take n vs ++ take (length z - n) (drop n z)) b ∙ cut_whole n vs
 
-pub begun_is : (P : Program) (b : Begin) (p : Procedure) (vs ws : List ℕ) (h : Heap) (c : Config) → BeginsIn P b p → vs ++ ws ≡ values_of b.store → h ≡ b.heap → IsStart P b.procedure vs ws h c → c ≡ begun p b
+pub begun_is : (P : Program) (b : Begin) (p : Procedure) (vs ws : List ℕ) (h : Heap) (c : Config) → BeginsIn P b p → vs ++ ws ≡ values_of b.store → h ≡ b.heap → IsBeginning P b.procedure vs ws h c → c ≡ begun p b
 begun_is P b p vs ws h c begins whole heap start =
     let at : get_or P.procedures b.procedure p ≡ p = get_or_from_slice_get P.procedures b.procedure p p begins.numbered in
     let store : beside (variable_names p) (vs ++ ws) ≡ b.store =

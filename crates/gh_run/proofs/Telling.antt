@@ -16,7 +16,7 @@ use Rattle.gh_assert.specs.Stores.{listed_names}
 use Rattle.gh_assert.specs.declared.store.Entry.{Entry}
 use Rattle.gh_draw.specs.Drawings.{line, cell_text, heap_line}
 use Rattle.gh_draw.specs.Drawn.{entry_text, entries_line, IsValue, IsDrawnCell}
-use Rattle.gh_draw.specs.Reading.{IsRead, ShowsWord, ShowsEntries}
+use Rattle.gh_draw.specs.Reading.{IsFrontRead, ShowsWord, ShowsEntries}
 use Rattle.gh_draw.proofs.Fronts.{Each, IsNotEnd, decimal_digits, line_one, no_member_of}
 use Rattle.gh_draw.proofs.Shown.{are_entries, entries_shown, are_cells, cells_above, all_above}
 use Rattle.gh_run.specs.StateFiles.{file_lines, IsOneLine, Tells, AreAsSaid, IsFaultyLine, IsStateError}
@@ -277,7 +277,7 @@ as_said P text k m less few (b, t) =
 
 -- the first line that isn't as said
 
-pub faulty1 : (P : Program) (text left : List ℕ) → IsRead (ShowsProcedure P) text left None → IsFaultyLine P text 1
+pub faulty1 : (P : Program) (text left : List ℕ) → IsFrontRead (ShowsProcedure P) text left None → IsFaultyLine P text 1
 faulty1 P text left none = record {
   low = omega arith;
   before = λ k low less. absurd (omega (arith, low, less));
@@ -301,7 +301,7 @@ same_start P text n m p q r more typed a there whole one =
     let names : name_of p ≡ name_of q = append_cancel_left (codes "procedure ") (name_of p) (name_of q) both.0 in
     record { procedure = one_procedure P typed m n q p there a.numbered (sym names); rest = both.1 }
 
-pub faulty2 : (P : Program) (text : List ℕ) (n : ℕ) (p : Procedure) (r left : List ℕ) → IsTyped P → IsNamed P text n p r → IsRead (ShowsStore (variable_names p)) r left None → IsFaultyLine P text 2
+pub faulty2 : (P : Program) (text : List ℕ) (n : ℕ) (p : Procedure) (r left : List ℕ) → IsTyped P → IsNamed P text n p r → IsFrontRead (ShowsStore (variable_names p)) r left None → IsFaultyLine P text 2
 faulty2 P text n p r left typed a none = record {
   low = omega arith;
   before = λ k low less. as_said P text k 1 (omega (arith, less)) (omega arith) (told1 P text n p r a);
@@ -316,7 +316,7 @@ faulty2 P text n p r left typed a none = record {
       }));
 }
 
-pub faulty3 : (P : Program) (text : List ℕ) (n : ℕ) (p : Procedure) (r1 r2 left : List ℕ) (es : List Entry) → IsTyped P → IsNamed P text n p r1 → IsListed (variable_names p) r1 es r2 → IsRead ShowsCellLine r2 left None → IsFaultyLine P text 3
+pub faulty3 : (P : Program) (text : List ℕ) (n : ℕ) (p : Procedure) (r1 r2 left : List ℕ) (es : List Entry) → IsTyped P → IsNamed P text n p r1 → IsListed (variable_names p) r1 es r2 → IsFrontRead ShowsCellLine r2 left None → IsFaultyLine P text 3
 faulty3 P text n p r1 r2 left es typed a l none = record {
   low = omega arith;
   before = λ k low less. as_said P text k 2 (omega (arith, less)) (omega arith) (told2 P text n p r1 r2 es a l);
@@ -344,7 +344,7 @@ after_third P text n p r1 r2 r3 es h b q more typed a l c there cells lines whol
     let third = lines_one (heap_line h) L3 r3 (line L4 ++ more) (heap_line_is_one h c.cells) (heap_line_is_one b.heap cells) (sym c.whole ∙ second.1) in
     third.1
 
-pub faulty4 : (P : Program) (text : List ℕ) (n : ℕ) (p : Procedure) (r1 r2 r3 left : List ℕ) (es : List Entry) (h : Heap) → IsTyped P → IsNamed P text n p r1 → IsListed (variable_names p) r1 es r2 → IsHeaped r2 h r3 → IsRead (ShowsWord (codes "end\n")) r3 left None → IsFaultyLine P text 4
+pub faulty4 : (P : Program) (text : List ℕ) (n : ℕ) (p : Procedure) (r1 r2 r3 left : List ℕ) (es : List Entry) (h : Heap) → IsTyped P → IsNamed P text n p r1 → IsListed (variable_names p) r1 es r2 → IsHeaped r2 h r3 → IsFrontRead (ShowsWord (codes "end\n")) r3 left None → IsFaultyLine P text 4
 faulty4 P text n p r1 r2 r3 left es h typed a l c none = record {
   low = omega arith;
   before = λ k low less. as_said P text k 3 (omega (arith, less)) (omega arith) (state n es h, told3 P text n p r1 r2 r3 es h a l c);

@@ -2,7 +2,7 @@
 
 ghost use Rattle.std.specs.Prelude.{◌≡◌, ◌++◌, ◌≤◌, ℕ, length, IfOk, MatchOption, codes};
 ghost use Rattle.gh_ast.specs.Plain.{program_of};
-ghost use Rattle.gh_draw.specs.Reading.{IsRead, AreDistinctNames, HasNoEnd};
+ghost use Rattle.gh_draw.specs.Reading.{IsFrontRead, AreDistinctNames, HasNoEnd};
 ghost use Rattle.gh_run.specs.Lines.{IsFirstLine, IsNumberOf, ShowsProcedure, ShowsStore, ShowsCellLine};
 
 use gh_assert::heap::Heap;
@@ -39,7 +39,7 @@ fn number_of(program: &Program, name: &[u8]) -> Option<u16>
 
 /// The number of the procedure that the first line names.
 pub fn read_procedure(typed: &Typed, cursor: &mut Cursor<'_>) -> Option<u16>
-    ensures { IsRead (ShowsProcedure (program_of typed.now)) cursor.old.text.now cursor.new.text.now result }
+    ensures { IsFrontRead (ShowsProcedure (program_of typed.now)) cursor.old.text.now cursor.new.text.now result }
 {
     let line = take_line(cursor)?;
     let name = line.strip_prefix(b"procedure ")?;
@@ -53,7 +53,7 @@ pub fn read_store_line(
     names: &[Name],
 ) -> Result<Option<Store>, AllocError>
     requires { AreDistinctNames names.now }
-    ensures { IfOk result (IsRead (ShowsStore names.now) cursor.old.text.now cursor.new.text.now) }
+    ensures { IfOk result (IsFrontRead (ShowsStore names.now) cursor.old.text.now cursor.new.text.now) }
 {
     let Some(line) = take_line(cursor) else {
         return Ok(None);
@@ -73,7 +73,7 @@ pub fn read_store_line(
 
 /// The heap that the first line tells.
 pub fn read_heap_line(alloc: Global, cursor: &mut Cursor<'_>) -> Result<Option<Heap>, AllocError>
-    ensures { IfOk result (IsRead ShowsCellLine cursor.old.text.now cursor.new.text.now) }
+    ensures { IfOk result (IsFrontRead ShowsCellLine cursor.old.text.now cursor.new.text.now) }
 {
     if cursor.take(b"heap").is_none() {
         return Ok(None);

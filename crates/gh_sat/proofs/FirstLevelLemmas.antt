@@ -6,7 +6,7 @@ use Rattle.gh_base.specs.declared.atom.Lit.{Lit}
 use Rattle.gh_base.specs.Atoms.{opposite}
 use Rattle.gh_base.specs.Propagation.{Propagated, forced}
 use Rattle.gh_sat.specs.declared.trail.Step.{Step}
-use Rattle.gh_sat.specs.Trail.{State, Stands, IsCaused, IsSound}
+use Rattle.gh_sat.specs.Trail.{SearchState, Stands, IsCaused, IsSound}
 use Rattle.gh_sat.proofs.ListLemmas.{get_within}
 use Rattle.gh_sat.proofs.LearnLemmas.{in_get}
 
@@ -23,7 +23,7 @@ cause_given clauses assumed trail starts i lit level (Some k) none before r =
       | inr t ↦ subst (Propagated clauses assumed) t.4 (before t.0 t.1 t.2 t.3)
     ])
 
-pub given_below : (s : State) (assumed : List Lit) → IsSound s → s.starts ≡ [] → (n i : ℕ) (x : Step) → i < n → slice_get s.trail i ≡ Some x → Propagated s.clauses assumed x.lit
+pub given_below : (s : SearchState) (assumed : List Lit) → IsSound s → s.starts ≡ [] → (n i : ℕ) (x : Step) → i < n → slice_get s.trail i ≡ Some x → Propagated s.clauses assumed x.lit
 given_below s assumed h none zero i x lt at = absurd (omega arith)
 given_below s assumed h none (suc n) i x lt at =
     cause_given s.clauses assumed s.trail s.starts i x.lit x.level x.reason none

@@ -9,7 +9,7 @@ use Rattle.gh_base.specs.Atoms.{opposite, AreInRange, IsInRange}
 use Rattle.gh_base.specs.Propagation.{Propagated, FollowsByUnits}
 use Rattle.gh_base.specs.Propagation.Propagated.{given, forced}
 use Rattle.gh_sat.specs.declared.trail.Step.{Step}
-use Rattle.gh_sat.specs.Trail.{Line, State, cut, Stands, IsTrueIn, IsFalseIn, IsReason, IsStart, IsCaused, IsSound, IsUnitIn}
+use Rattle.gh_sat.specs.Trail.{Line, SearchState, cut, Stands, IsTrueIn, IsFalseIn, IsReason, IsLevelStart, IsCaused, IsSound, IsUnitIn}
 use Rattle.gh_sat.specs.Watch.{WasOpen}
 use Rattle.gh_sat.specs.Learn.{Reached, Marking, IsMarked, HasMark, HaveReasons, IsLeft, IsPoint, IsFirstPoint, IsClauseOf, IsLearnt}
 use Rattle.gh_sat.proofs.ListLemmas.{get_within, get_some, take_get, get_take, end_of_at}
@@ -17,12 +17,12 @@ use Rattle.gh_sat.proofs.TrailLemmas.{opposite_twice}
 use Rattle.gh_sat.proofs.MarkLemmas.{marks_some}
 use Rattle.gh_sat.proofs.ResolveLemmas.{reached_more, reached_within, complete, mark_at}
 
-pub reason_or_start : (s : State) (i : ℕ) (lit : Lit) (level : ℕ) (o : Option ℕ) → IsCaused s.clauses s.trail s.starts i lit level o → ((k : ℕ) × (o ≡ Some k) × IsReason s.clauses s.trail i lit k) ⊎ IsStart s.starts level i
+pub reason_or_start : (s : SearchState) (i : ℕ) (lit : Lit) (level : ℕ) (o : Option ℕ) → IsCaused s.clauses s.trail s.starts i lit level o → ((k : ℕ) × (o ≡ Some k) × IsReason s.clauses s.trail i lit k) ⊎ IsLevelStart s.starts level i
 reason_or_start s i lit level None h = inr h
 reason_or_start s i lit level (Some k) h = inl (k, refl, h)
 
 -- the steps after the last start have reasons
-pub have_reasons : (s : State) (last start : ℕ) → IsSound s → slice_get s.starts last ≡ Some start → length s.starts ≡ last + 1 → HaveReasons s.clauses s.trail start
+pub have_reasons : (s : SearchState) (last start : ℕ) → IsSound s → slice_get s.starts last ≡ Some start → length s.starts ≡ last + 1 → HaveReasons s.clauses s.trail start
 have_reasons s last start h here n i x at lt = elim (reason_or_start s i x.lit x.level x.reason (h.caused i x at)) [
   | inl r ↦ r
   | inr t ↦
@@ -39,7 +39,7 @@ have_reasons s last start h here n i x at lt = elim (reason_or_start s i x.lit x
 ]
 
 -- a literal of the present level beside those of that level or below is unit after the cut
-unit_after : (s : State) (clause : List Lit) (level : ℕ) (u : Lit) → IsSound s → Contains clause u
+unit_after : (s : SearchState) (clause : List Lit) (level : ℕ) (u : Lit) → IsSound s → Contains clause u
     → (place : ℕ) (step : Step) → slice_get s.trail place ≡ Some step → step.lit ≡ opposite u → step.level ≡ length s.starts
     → All (λ l. (l ≡ u) ⊎ ((i : ℕ) × (x : Step) × (slice_get s.trail i ≡ Some x) × (x.lit ≡ opposite l) × (x.level ≤ level))) clause → level < length s.starts
     → IsUnitIn (cut s level).trail clause u
@@ -70,7 +70,7 @@ in_map [] y l h e = absurd (let k = h.1 in omega arith)
 in_map (x ∷ xs) y l (zero, h, is) e = (zero, omega arith, ap opposite is ∙ e)
 in_map (x ∷ xs) y l (suc k, h, is) e = let r = in_map xs y l (k, omega arith, is) e in (suc r.0, omega (arith, r.1), r.2)
 
-module _ (s : State) (conflict : List Lit) (m : Marking) (place last : ℕ)
+module _ (s : SearchState) (conflict : List Lit) (m : Marking) (place last : ℕ)
     (h : IsSound s) (here : slice_get s.starts last ≡ Some m.start) (n : length s.starts ≡ last + 1)
     (p : IsLeft s.clauses s.trail conflict m place) where
   t : Line
@@ -199,7 +199,7 @@ module _ (s : State) (conflict : List Lit) (m : Marking) (place last : ℕ)
       }
 
 -- a clause with a literal of the present level wasn't false when a level was opened
-pub was_open : (s : State) (c : List Lit) (u : Lit) (place : ℕ) (x : Step) → IsSound s → Contains c u → slice_get s.trail place ≡ Some x → x.lit ≡ opposite u → x.level ≡ length s.starts → WasOpen s.trail s.starts c
+pub was_open : (s : SearchState) (c : List Lit) (u : Lit) (place : ℕ) (x : Step) → IsSound s → Contains c u → slice_get s.trail place ≡ Some x → x.lit ≡ opposite u → x.level ≡ length s.starts → WasOpen s.trail s.starts c
 was_open s c u place x h there at is top level start here f =
     let z = All-contains (λ l. IsTrueIn (take start s.trail) (opposite l)) c u f there in
     let old = get_take start s.trail z.0 z.1 z.3 in
@@ -209,5 +209,5 @@ was_open s c u place x h there at is top level start here f =
     omega arith
 
 -- what is false on a trail is in range
-pub false_in_range : (s : State) (c : List Lit) → IsSound s → IsFalseIn s.trail c → AreInRange s.sizes c
+pub false_in_range : (s : SearchState) (c : List Lit) → IsSound s → IsFalseIn s.trail c → AreInRange s.sizes c
 false_in_range s c h f i d lt = let z = f i d lt in subst (λ (l : Lit). IsInRange s.sizes l.atom) z.4 (h.steps.range z.0 z.1 z.3)

@@ -8,7 +8,7 @@ use Rattle.gh_base.specs.declared.atom.Lit.{Lit}
 use Rattle.gh_base.specs.declared.sizes.Sizes.{Sizes}
 use Rattle.gh_base.specs.Atoms.{count_of}
 use Rattle.gh_sat.specs.declared.trail.Step.{Step}
-use Rattle.gh_sat.specs.Trail.{State, IsUnitIn, IsSound, cut, open_level}
+use Rattle.gh_sat.specs.Trail.{SearchState, IsUnitIn, IsSound, cut, open_level}
 use Rattle.gh_sat.specs.Measure.{count_at, IsFurther, StepsLeadFurther, IsCutLevel, UnitsAreAssigned, JumpsLeadFurther, power, weight, left, StepsLeaveLess, JumpsLeaveLess}
 use Rattle.gh_sat.specs.Learn.{IsLearnt, add_clause, one_if}
 use Rattle.gh_sat.specs.Status.{Grows}
@@ -62,7 +62,7 @@ pub step_further : StepsLeadFurther
 step_further trail x more = subst (IsFurther trail) (append_assoc trail (x ∷ []) more) (further_more trail (trail ++ x ∷ []) more (one_further trail x))
 
 -- the learnt clause is unit after the cut
-unit_at : (s : State) (k : ℕ) (clause : List Lit) (level : ℕ) (unit : Lit) (to : ℕ) → IsSound s → IsLearnt s k clause level unit → IsCutLevel s level to → IsUnitIn (cut s to).trail clause unit
+unit_at : (s : SearchState) (k : ℕ) (clause : List Lit) (level : ℕ) (unit : Lit) (to : ℕ) → IsSound s → IsLearnt s k clause level unit → IsCutLevel s level to → IsUnitIn (cut s to).trail clause unit
 unit_at s k clause level unit to h learnt c =
     let r = get_some s.starts to c.1 in
     let at = end_of_at s.starts to (length s.trail) r.0 r.1 in
@@ -90,19 +90,19 @@ units_assigned s k clause level unit to new h learnt c last =
     (r.0, r.1 ∙ ap (λ (l : ℕ). (cut s to).trail ++ (record { lit = unit; level = l; reason = Some (length s.clauses) }) ∷ [] ++ r.0) n)
 
 -- the steps past the cut are of higher levels
-above_cut : (s : State) (level start : ℕ) → IsSound s → slice_get s.starts level ≡ Some start → (i : ℕ) (y : Step) → slice_get (drop start s.trail) i ≡ Some y → suc level ≤ y.level
+above_cut : (s : SearchState) (level start : ℕ) → IsSound s → slice_get s.starts level ≡ Some start → (i : ℕ) (y : Step) → slice_get (drop start s.trail) i ≡ Some y → suc level ≤ y.level
 above_cut s level start h here i y at =
     let place : slice_get s.trail (start + i) ≡ Some y = sym (get_drop start s.trail i) ∙ at in
     let low = (h.split (start + i) y level start place here).0 in
     elim (cases_lt level y.level) [ inl up ↦ up | inr down ↦ absurd (let f = low down in omega arith) ]
 
-count_cut : (s : State) (level start k : ℕ) → IsSound s → slice_get s.starts level ≡ Some start → k ≤ level → count_at k s.trail ≡ count_at k (take start s.trail)
+count_cut : (s : SearchState) (level start k : ℕ) → IsSound s → slice_get s.starts level ≡ Some start → k ≤ level → count_at k s.trail ≡ count_at k (take start s.trail)
 count_cut s level start k h here le =
     let none = count_none k (drop start s.trail) (λ i y at. let up = above_cut s level start h here i y at in omega arith) in
     let whole : count_at k s.trail ≡ count_at k (take start s.trail) + count_at k (drop start s.trail) = ap (count_at k) (sym (take-append-drop start s.trail)) ∙ count_append k (take start s.trail) (drop start s.trail) in
     omega arith
 
-jump_one : (s : State) (level : ℕ) (x : Step) → IsSound s → level < length s.starts → x.level ≡ level → IsFurther s.trail ((cut s level).trail ++ x ∷ [])
+jump_one : (s : SearchState) (level : ℕ) (x : Step) → IsSound s → level < length s.starts → x.level ≡ level → IsFurther s.trail ((cut s level).trail ++ x ∷ [])
 jump_one s level x h lower is =
     let r = get_some s.starts level lower in
     let at = end_of_at s.starts level (length s.trail) r.0 r.1 in
@@ -206,24 +206,24 @@ jump_less s n clause level unit to new h learnt c last few =
     (subst (λ xs. weight (count_of s.sizes) s.trail < weight (count_of s.sizes) xs) (sym u.1) (weight_grows (count_of s.sizes) s.trail ((cut s to).trail ++ x ∷ []) u.0 one)) few
 
 -- less is left after a decision and what it propagates
-pub turn_decided : (s mid new : State) (lit : Lit) → mid ≡ open_level s lit → new.sizes ≡ mid.sizes → Grows mid.clauses (length mid.starts) mid.trail new.trail → IsSound new → left new.sizes new.trail < left s.sizes s.trail
+pub turn_decided : (s mid new : SearchState) (lit : Lit) → mid ≡ open_level s lit → new.sizes ≡ mid.sizes → Grows mid.clauses (length mid.starts) mid.trail new.trail → IsSound new → left new.sizes new.trail < left s.sizes s.trail
 turn_decided s mid new lit is same grows h =
     let x : Step = record { lit = lit; level = length s.starts + 1; reason = None } in
-    let z : new.sizes ≡ s.sizes = same ∙ ap (λ (t : State). t.sizes) is in
-    let e : new.trail ≡ s.trail ++ x ∷ grows.0 = grows.1 ∙ ap (λ (t : State). t.trail ++ grows.0) is ∙ append_assoc s.trail (x ∷ []) grows.0 in
+    let z : new.sizes ≡ s.sizes = same ∙ ap (λ (t : SearchState). t.sizes) is in
+    let e : new.trail ≡ s.trail ++ x ∷ grows.0 = grows.1 ∙ ap (λ (t : SearchState). t.trail ++ grows.0) is ∙ append_assoc s.trail (x ∷ []) grows.0 in
     let few : length new.trail ≤ count_of s.sizes = subst (λ (w : Sizes). length new.trail ≤ count_of w) z h.steps.few in
     subst (λ (w : Sizes). left w new.trail < left s.sizes s.trail) (sym z)
     (subst (λ (t : List Step). left s.sizes t < left s.sizes s.trail) (sym e) (step_less s.sizes s.trail x grows.0 (subst (λ (t : List Step). length t ≤ count_of s.sizes) e few)))
 
 -- and after a lesson, the jump back and what the unit propagates
-pub turn_learnt : (s two mid new : State) (k : ℕ) (clause : List Lit) (level : ℕ) (unit : Lit) (to : ℕ) → IsSound s → IsLearnt s k clause level unit → IsCutLevel s level to → two ≡ add_clause s clause → mid ≡ cut two to
+pub turn_learnt : (s two mid new : SearchState) (k : ℕ) (clause : List Lit) (level : ℕ) (unit : Lit) (to : ℕ) → IsSound s → IsLearnt s k clause level unit → IsCutLevel s level to → two ≡ add_clause s clause → mid ≡ cut two to
     → new.sizes ≡ mid.sizes → GivesLast mid new.trail → IsSound new → left new.sizes new.trail < left s.sizes s.trail
 turn_learnt s two mid new k clause level unit to h learnt c added jump same last h' =
-    let m : mid ≡ cut (add_clause s clause) to = jump ∙ ap (λ (t : State). cut t to) added in
-    let z : new.sizes ≡ s.sizes = same ∙ ap (λ (t : State). t.sizes) m in
+    let m : mid ≡ cut (add_clause s clause) to = jump ∙ ap (λ (t : SearchState). cut t to) added in
+    let z : new.sizes ≡ s.sizes = same ∙ ap (λ (t : SearchState). t.sizes) m in
     let few : length new.trail ≤ count_of s.sizes = subst (λ (w : Sizes). length new.trail ≤ count_of w) z h'.steps.few in
-    subst (λ (w : Sizes). left w new.trail < left s.sizes s.trail) (sym z) (jump_less s k clause level unit to new.trail h learnt c (subst (λ (t : State). GivesLast t new.trail) m last) few)
+    subst (λ (w : Sizes). left w new.trail < left s.sizes s.trail) (sym z) (jump_less s k clause level unit to new.trail h learnt c (subst (λ (t : SearchState). GivesLast t new.trail) m last) few)
 
 -- the lesson's own level is one to cut to
-pub own_level : (s : State) (k : ℕ) (clause : List Lit) (level : ℕ) (unit : Lit) → IsLearnt s k clause level unit → IsCutLevel s level level
+pub own_level : (s : SearchState) (k : ℕ) (clause : List Lit) (level : ℕ) (unit : Lit) → IsLearnt s k clause level unit → IsCutLevel s level level
 own_level s k clause level unit learnt = (omega arith, learnt.lower)

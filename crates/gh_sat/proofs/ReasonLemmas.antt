@@ -10,7 +10,7 @@ use Rattle.gh_base.specs.declared.atom.Lit.{Lit}
 use Rattle.gh_base.specs.Atoms.{opposite}
 use Rattle.gh_base.specs.Hints.{HasAllButOne, IsRefutedByHints, refuted, joined}
 use Rattle.gh_sat.specs.declared.trail.Step.{Step}
-use Rattle.gh_sat.specs.Trail.{Line, State, Stands, IsReason, IsCaused, IsFalseIn, AreSteps, IsSound}
+use Rattle.gh_sat.specs.Trail.{Line, SearchState, Stands, IsReason, IsCaused, IsFalseIn, AreSteps, IsSound}
 use Rattle.gh_sat.specs.Learn.{Marking, IsMarked, HasMark, AllMarked, ResolvedFrom, IsLeft, AreReasons, AllHaveReasons, reasons_of}
 use Rattle.gh_sat.proofs.ListLemmas.{get_within, get_some, drop_past}
 use Rattle.gh_sat.proofs.TrailLemmas.{opposite_twice, stands_below}
@@ -152,7 +152,7 @@ shows_marked t clauses m i k c set x rest v h at has all reason more =
     }
 
 -- the steps from a place on and the false clause, with the set at that place
-shown : (s : State) (conflict : List Lit) (k : ℕ) (m : Marking) (from n i : ℕ) (set : List Lit)
+shown : (s : SearchState) (conflict : List Lit) (k : ℕ) (m : Marking) (from n i : ℕ) (set : List Lit)
     → IsSound s → slice_get s.clauses k ≡ Some conflict → IsFalseIn s.trail conflict → AllMarked s.trail m conflict → ResolvedFrom s.clauses s.trail m from → length s.trail ≤ length m.stamps
     → from ≤ i → i + n ≡ length s.trail → IsSetAt s.trail m i set
     → Shows s.clauses (reasons_of m.round (drop i m.stamps) (drop i s.trail) ++ k ∷ []) set
@@ -183,7 +183,7 @@ shown s conflict k m from (suc n) i set h at f all res long low e z =
 
 -- the reasons of the marked steps past a place, and the false clause, show a clause whose literals are those that are
 -- marked up to the place, turned
-pub reasons_show : (s : State) (conflict : List Lit) (k : ℕ) (m : Marking) (from : ℕ) (clause : List Lit)
+pub reasons_show : (s : SearchState) (conflict : List Lit) (k : ℕ) (m : Marking) (from : ℕ) (clause : List Lit)
     → IsSound s → slice_get s.clauses k ≡ Some conflict → IsFalseIn s.trail conflict → AllMarked s.trail m conflict → ResolvedFrom s.clauses s.trail m from → length s.trail ≤ length m.stamps
     → from ≤ length s.trail → IsSetAt s.trail m from (map opposite clause)
     → AreReasons s.clauses (reasons_of m.round (drop from m.stamps) (drop from s.trail) ++ k ∷ []) clause
@@ -193,7 +193,7 @@ reasons_show s conflict k m from clause h at f all res long low z =
     record { within = w.within; shows = inr w.by_hints }
 
 -- at level 0, of the empty clause
-pub refutation_shows : (s : State) (conflict : List Lit) (k : ℕ) (m : Marking) → IsSound s → slice_get s.clauses k ≡ Some conflict → IsFalseIn s.trail conflict → AllMarked s.trail m conflict
+pub refutation_shows : (s : SearchState) (conflict : List Lit) (k : ℕ) (m : Marking) → IsSound s → slice_get s.clauses k ≡ Some conflict → IsFalseIn s.trail conflict → AllMarked s.trail m conflict
     → ResolvedFrom s.clauses s.trail m 0 → length s.trail ≤ length m.stamps → AreReasons s.clauses (reasons_of m.round (drop 0 m.stamps) (drop 0 s.trail) ++ k ∷ []) []
 refutation_shows s conflict k m h at f all res long =
     reasons_show s conflict k m 0 [] h at f all res long (omega arith) (record { has = λ j x lt at' mark. absurd (omega arith); only = λ l there. absurd (let lt = there.1 in omega arith) })
@@ -210,7 +210,7 @@ in_push_back (x ∷ xs) y l (zero, lt, e) = inl (0, omega arith, e)
 in_push_back (x ∷ xs) y l (suc k, lt, e) = elim (in_push_back xs y l (k, omega arith, e)) [ inl h ↦ inl (tail_in x xs l h) | inr h ↦ inr h ]
 
 -- what is learnt, turned, are the literals that are marked up to the point
-set_learnt : (s : State) (conflict : List Lit) (m : Marking) (place last : ℕ) → IsSound s → slice_get s.starts last ≡ Some m.start → length s.starts ≡ last + 1 → (p : IsLeft s.clauses s.trail conflict m place)
+set_learnt : (s : SearchState) (conflict : List Lit) (m : Marking) (place last : ℕ) → IsSound s → slice_get s.starts last ≡ Some m.start → length s.starts ≡ last + 1 → (p : IsLeft s.clauses s.trail conflict m place)
     → IsSetAt s.trail m (place + 1) (map opposite (m.lower ++ opposite p.step.lit ∷ []))
 set_learnt s conflict m place last h here n p =
     let u = opposite p.step.lit in
@@ -233,7 +233,7 @@ set_learnt s conflict m place last h here n p =
           ];
     }
 
-pub learnt_shows : (s : State) (conflict : List Lit) (m : Marking) (place last k : ℕ) → IsSound s → slice_get s.starts last ≡ Some m.start → length s.starts ≡ last + 1 → (p : IsLeft s.clauses s.trail conflict m place)
+pub learnt_shows : (s : SearchState) (conflict : List Lit) (m : Marking) (place last k : ℕ) → IsSound s → slice_get s.starts last ≡ Some m.start → length s.starts ≡ last + 1 → (p : IsLeft s.clauses s.trail conflict m place)
     → slice_get s.clauses k ≡ Some conflict → IsFalseIn s.trail conflict
     → AreReasons s.clauses (reasons_of m.round (drop (place + 1) m.stamps) (drop (place + 1) s.trail) ++ k ∷ []) (m.lower ++ opposite p.step.lit ∷ [])
 learnt_shows s conflict m place last k h here n p at f =
@@ -241,7 +241,7 @@ learnt_shows s conflict m place last k h here n p at f =
     reasons_show s conflict k m (place + 1) (m.lower ++ opposite p.step.lit ∷ []) h at f p.all p.resolved p.marks.long (omega arith) (set_learnt s conflict m place last h here n p)
 
 -- at level 0 each step has its reason
-pub all_have_reasons : (s : State) → IsSound s → s.starts ≡ [] → AllHaveReasons s.clauses s.trail
+pub all_have_reasons : (s : SearchState) → IsSound s → s.starts ≡ [] → AllHaveReasons s.clauses s.trail
 all_have_reasons s h none i x at = elim (reason_or_start s i x.lit x.level x.reason (h.caused i x at)) [
   | inl r ↦ r
   | inr t ↦ absurd (let there : slice_get [] t.0 ≡ Some i = subst (λ (ss : List ℕ). slice_get ss t.0 ≡ Some i) none t.2 in let w = get_within [] t.0 i there in omega arith)

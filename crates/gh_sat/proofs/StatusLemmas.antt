@@ -1,7 +1,7 @@
 -- The status of a clause.
-use Rattle.std.proofs.Common.{◌≡◌, ◌≢◌, ◌⊎◌, ℕ, zero, suc, ◌<◌, List, [], ◌∷◌, ◌++◌, length, get_or, take, Some, Bool, true, false, inl, inr, refl, sym, ap, ◌∙◌, subst, arith, Contains, Option, None}
+use Rattle.std.proofs.Common.{◌≡◌, ◌⊎◌, ℕ, zero, suc, ◌<◌, List, [], ◌∷◌, length, get_or, take, Some, Bool, true, false, inl, inr, refl, sym, ap, ◌∙◌, subst, arith, Contains, Option, None}
 use Rattle.std.specs.Prelude.{slice_get, not, IfSome, ◌+◌, ◌≤◌}
-use Rattle.std.proofs.lemmas.List.Elements.{All-push, All-contains, Contains-append_left, Contains-push}
+use Rattle.std.proofs.lemmas.List.Elements.{All-contains}
 use Rattle.gh_base.specs.declared.atom.Lit.{Lit}
 use Rattle.gh_base.specs.declared.atom.Atom.TheVariants.{Eq}
 use Rattle.gh_base.specs.declared.sizes.Sizes.{Sizes}
@@ -11,11 +11,8 @@ use Rattle.gh_base.specs.Atoms.{opposite, IsInRange, AreInRange}
 use Rattle.gh_sat.specs.declared.rows.Numbered.{Numbered}
 use Rattle.gh_sat.specs.Rows.{numbered, row_of}
 use Rattle.gh_sat.specs.declared.trail.Step.{Step}
-use Rattle.gh_sat.specs.declared.status.Hint.{Hint}
-use Rattle.gh_sat.specs.declared.status.Status.{Status}
-use Rattle.gh_sat.specs.declared.status.Status.TheVariants.{False, Unit as IsOne, Open}
-use Rattle.gh_sat.specs.Trail.{Line, IsTrueIn, IsFalseIn, IsFree, IsUnitIn, AreSteps}
-use Rattle.gh_sat.specs.Status.{IsBad, IsStatus}
+use Rattle.gh_sat.specs.Trail.{Line, IsTrueIn, IsFree, AreSteps}
+use Rattle.gh_sat.specs.Status.{IsBad}
 
 -- what the code reads past the end of a clause
 abbrev pub nothing : Lit
@@ -55,29 +52,14 @@ two_good t c l u there there' f g n (inr (w, i)) =
     let one : (m : Lit) → Contains c m → IsFree t.steps m.atom → m ≡ w = λ m in_c free. elim (All-contains (λ m. (m ≡ w) ⊎ IsTrueIn t.steps (opposite m)) c m i.others in_c) [ inl e ↦ e | inr o ↦ absurd (not_free_opposite t.steps m o free) ] in
     n (one u there' g ∙ sym (one l there f))
 
-module _ (trail : List Step) where
-  pub after_false : (xs : List Lit) (l : Lit) (s : Status) → ((hint : Hint) → s ≡ Open hint → ⊥) → IsTrueIn trail (opposite l) → IsStatus trail xs s → IsStatus trail (xs ++ l ∷ []) s
-  after_false xs l False n e h = All-push (λ m. IsTrueIn trail (opposite m)) xs l h e
-  after_false xs l (IsOne u) n e h = record {
-    there = Contains-append_left xs (l ∷ []) u h.there;
-    free = h.free;
-    others = All-push (λ m. (m ≡ u) ⊎ IsTrueIn trail (opposite m)) xs l h.others (inr e);
-  }
-  after_false xs l (Open hint) n e h = absurd (n hint refl)
+-- the literal is the one at the place that was found, or false
+abbrev pub IsFoundOrFalse : List Step → List Lit → Option ℕ → Lit → Type 0
+IsFoundOrFalse trail c None m = IsTrueIn trail (opposite m)
+IsFoundOrFalse trail c (Some i) m = (m ≡ get_or c i nothing) ⊎ IsTrueIn trail (opposite m)
 
-  pub after_first : (xs : List Lit) (l : Lit) → IsFree trail l.atom → IsFalseIn trail xs → IsStatus trail (xs ++ l ∷ []) (IsOne l)
-  after_first xs l e h = record {
-    there = Contains-push xs l;
-    free = e;
-    others = All-push (λ m. (m ≡ l) ⊎ IsTrueIn trail (opposite m)) xs l (λ k d b. inr (h k d b)) (inl refl);
-  }
-
-  pub after_same : (xs : List Lit) (l u : Lit) → u ≡ l → IsUnitIn trail xs u → IsStatus trail (xs ++ l ∷ []) (IsOne u)
-  after_same xs l u e h = record {
-    there = Contains-append_left xs (l ∷ []) u h.there;
-    free = h.free;
-    others = All-push (λ m. (m ≡ u) ⊎ IsTrueIn trail (opposite m)) xs l h.others (inl (sym e));
-  }
+pub false_found : (trail : List Step) (c : List Lit) (o : Option ℕ) (m : Lit) → IsTrueIn trail (opposite m) → IsFoundOrFalse trail c o m
+false_found trail c None m f = f
+false_found trail c (Some i) m f = inr f
 
 -- a literal of the front stands in the whole
 pub in_front : (n : ℕ) (c : List Lit) (u : Lit) → Contains (take n c) u → Contains c u
@@ -109,21 +91,6 @@ row_is s c row i d e h = ap (λ (r : List Numbered). get_or r i d) e ∙ row_at 
 
 pub row_range : (s : Sizes) (c : List Lit) (row : List Numbered) (i : ℕ) → AreInRange s c → row ≡ row_of s c → i < length row → IsInRange s (get_or c i nothing).atom
 row_range s c row i range e h = All-contains (λ (l : Lit). IsInRange s l.atom) c (get_or c i nothing) range (in_at c i nothing (row_within s c row i e h))
-
--- the status of the literals before a place, from the place of the one that has no truth, if there is one
-abbrev pub status_from : List Lit → Option ℕ → Status
-status_from c None = False
-status_from c (Some i) = IsOne (get_or c i nothing)
-
-pub not_open : (c : List Lit) (o : Option ℕ) (hint : Hint) → status_from c o ≡ Open hint → ⊥
-not_open c None hint e = cc
-not_open c (Some i) hint e = cc
-
--- what two literals of a clause show
-pub shown_good : (t : Line) (c : List Lit) (l m : Lit) → AreSteps t → Contains c l → Contains c m → IsTrueIn t.steps l ⊎ (IsTrueIn t.steps m ⊎ (IsFree t.steps l.atom × IsFree t.steps m.atom × (l ≢ m))) → IsBad t.steps c → ⊥
-shown_good t c l m h a b (inl s) = true_good t c l h a s
-shown_good t c l m h a b (inr (inl s)) = true_good t c m h b s
-shown_good t c l m h a b (inr (inr (f, g, n))) = two_good t c m l b a g f n
 
 -- two literals of a clause that have one number and sign are one
 pub row_one : (s : Sizes) (c : List Lit) (row : List Numbered) (i j : ℕ) (d e : Numbered) → AreInRange s c → row ≡ row_of s c → i < length row → j < length row

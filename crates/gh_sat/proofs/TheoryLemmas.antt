@@ -9,7 +9,7 @@ use Rattle.gh_base.specs.declared.atom.Lit.{Lit}
 use Rattle.gh_base.specs.declared.sizes.Sizes.{Sizes}
 use Rattle.gh_base.specs.Atoms.{opposite, IsInRange}
 use Rattle.gh_sat.specs.declared.trail.Step.{Step}
-use Rattle.gh_sat.specs.Trail.{State, IsTrueIn, IsFalseIn, IsFree, IsSound, cut, end_of, open_level}
+use Rattle.gh_sat.specs.Trail.{SearchState, IsTrueIn, IsFalseIn, IsFree, IsSound, cut, end_of, open_level}
 use Rattle.gh_sat.specs.Whole.{Adds, PropagatesTo}
 use Rattle.gh_sat.specs.Watch.{WasOpen}
 use Rattle.gh_sat.specs.Learn.{IsConflict, add_clause}
@@ -95,7 +95,7 @@ told_front a b new old added all grown is = (
   is ∙ ap (take (length old)) all ∙ lits_take (length old) new ∙ ap (λ xs. lits_of (take (length old) xs)) grown ∙ ap lits_of (take-append-le (length old) old added (omega arith)),
 )
 
-pub consistent_cut : (V : List Lit → Type 0) (s : State) (level : ℕ) (cs : List (List Lit)) → IsSound (record (cut s level) { clauses = cs }) → WereConsistent V s.trail s.starts → WereConsistent V (cut s level).trail (cut s level).starts
+pub consistent_cut : (V : List Lit → Type 0) (s : SearchState) (level : ℕ) (cs : List (List Lit)) → IsSound (record (cut s level) { clauses = cs }) → WereConsistent V s.trail s.starts → WereConsistent V (cut s level).trail (cut s level).starts
 consistent_cut V s level cs h w l start at c v f =
     let b = h.starts l start at in
     let e : ℕ = end_of s.starts level (length s.trail) in
@@ -105,7 +105,7 @@ consistent_cut V s level cs h w l start at c v f =
 pub consistent_grow : (V : List Lit → Type 0) (trail added : List Step) (starts : List ℕ) → ((level start : ℕ) → slice_get starts level ≡ Some start → start ≤ length trail) → WereConsistent V trail starts → WereConsistent V (trail ++ added) starts
 consistent_grow V trail added starts low w l start at c v f = w l start at c v (subst (λ x. IsFalseIn x c) (take-append-le start trail added (low l start at)) f)
 
-pub consistent_open : (V : List Lit → Type 0) (s : State) (lit : Lit) → IsSound (open_level s lit) → HasNoConflict V s.trail → WereConsistent V s.trail s.starts → WereConsistent V (open_level s lit).trail (open_level s lit).starts
+pub consistent_open : (V : List Lit → Type 0) (s : SearchState) (lit : Lit) → IsSound (open_level s lit) → HasNoConflict V s.trail → WereConsistent V s.trail s.starts → WereConsistent V (open_level s lit).trail (open_level s lit).starts
 consistent_open V s lit h calm w l start at c v f =
     let y : Step = record { lit = lit; level = length s.starts + 1; reason = None } in
     let b = h.starts l start at in
@@ -117,7 +117,7 @@ consistent_open V s lit h calm w l start at c v f =
       | inr top ↦ calm c v (subst (λ x. IsFalseIn x c) (ap (λ n. take n s.trail) (sym top.1) ∙ take_whole s.trail) f')
     ]
 
-pub starts_low : (s : State) → IsSound s → (level start : ℕ) → slice_get s.starts level ≡ Some start → start < length s.trail
+pub starts_low : (s : SearchState) → IsSound s → (level start : ℕ) → slice_get s.starts level ≡ Some start → start < length s.trail
 starts_low s h level start at = let b = h.starts level start at in get_within s.trail start b.1 b.2
 
 any_default : {X : Type 0} (xs : List X) (i : ℕ) (d e : X) → i < length xs → get_or xs i d ≡ get_or xs i e
@@ -126,7 +126,7 @@ any_default (x ∷ xs) zero d e h = refl
 any_default (x ∷ xs) (suc i) d e h = any_default xs i d e (omega arith)
 
 -- the atom of a step stands in no step before it
-pub none_before : (s : State) (n : ℕ) (x : Step) → IsSound s → slice_get s.trail n ≡ Some x → HasNoLit (lits_of (take n s.trail)) x.lit.atom
+pub none_before : (s : SearchState) (n : ℕ) (x : Step) → IsSound s → slice_get s.trail n ≡ Some x → HasNoLit (lits_of (take n s.trail)) x.lit.atom
 none_before s n x h at k d lt e =
     let r = lit_at (take n s.trail) k (get_or (lits_of (take n s.trail)) k d) lt (any_default (lits_of (take n s.trail)) k _ d lt) in
     let o = get_take n s.trail k r.0 r.1 in
@@ -148,48 +148,48 @@ told_next a b steps place d h e f =
 pub told_all : (a : List Lit) (trail steps : List Step) (place : ℕ) → steps ≡ trail → length steps ≤ place → a ≡ lits_of (take place steps) → a ≡ lits_of trail
 told_all a trail steps place e h f = f ∙ ap lits_of (take_all place steps h ∙ e)
 
-pub free_at : (s : State) (a : List Lit) (steps : List Step) (place : ℕ) (d : Step) → IsSound s → steps ≡ s.trail → place < length steps → a ≡ lits_of (take place steps) → HasNoLit a (get_or steps place d).lit.atom
+pub free_at : (s : SearchState) (a : List Lit) (steps : List Step) (place : ℕ) (d : Step) → IsSound s → steps ≡ s.trail → place < length steps → a ≡ lits_of (take place steps) → HasNoLit a (get_or steps place d).lit.atom
 free_at s a steps place d h e lt f =
     let lt' : place < length s.trail = subst (λ (t : List Step). place < length t) e lt in
     let at = slice_get-get_or s.trail place d lt' in
     subst (λ (t : List Step). HasNoLit a (get_or t place d).lit.atom) (sym e)
     (subst (λ (ls : List Lit). HasNoLit ls (get_or s.trail place d).lit.atom) (sym (f ∙ ap (λ xs. lits_of (take place xs)) e)) (none_before s place (get_or s.trail place d) h at))
 
-pub range_at : (s : State) (steps : List Step) (place : ℕ) (d : Step) → IsSound s → steps ≡ s.trail → place < length steps → IsInRange s.sizes (get_or steps place d).lit.atom
+pub range_at : (s : SearchState) (steps : List Step) (place : ℕ) (d : Step) → IsSound s → steps ≡ s.trail → place < length steps → IsInRange s.sizes (get_or steps place d).lit.atom
 range_at s steps place d h e lt =
     let lt' : place < length s.trail = subst (λ (t : List Step). place < length t) e lt in
     subst (λ (t : List Step). IsInRange s.sizes (get_or t place d).lit.atom) (sym e) (h.steps.range place (get_or s.trail place d) (slice_get-get_or s.trail place d lt'))
 
 -- a false clause of the theory is a conflict where it is added
-pub conflict_added : (s : State) (c : List Lit) → IsSound s → IsFalseIn s.trail c → WasOpen s.trail s.starts c → IsConflict (add_clause s c) (length s.clauses)
+pub conflict_added : (s : SearchState) (c : List Lit) → IsSound s → IsFalseIn s.trail c → WasOpen s.trail s.starts c → IsConflict (add_clause s c) (length s.clauses)
 conflict_added s c h f was = record { clause = c; at = get_last s.clauses c; is_false = f; present = λ pos. present_of s c h f was pos }
 
 -- what is kept of a theory beside a trail
-abbrev pub Beside : (Sizes → List Lit → Type 0) → List Lit → Sizes → State → Type 0
+abbrev pub Beside : (Sizes → List Lit → Type 0) → List Lit → Sizes → SearchState → Type 0
 Beside V asserted z s = IsTold asserted s.trail × (z ≡ s.sizes) × WereConsistent (V s.sizes) s.trail s.starts
 
 -- after a cut, where the theory knows no more than what is left
-pub beside_cut : (V : Sizes → List Lit → Type 0) (a : List Lit) (z : Sizes) (s new : State) (level : ℕ) (cs : List (List Lit)) → Beside V a z s → new ≡ record (cut s level) { clauses = cs } → IsSound new → length a ≤ length new.trail → Beside V a z new
+pub beside_cut : (V : Sizes → List Lit → Type 0) (a : List Lit) (z : Sizes) (s new : SearchState) (level : ℕ) (cs : List (List Lit)) → Beside V a z s → new ≡ record (cut s level) { clauses = cs } → IsSound new → length a ≤ length new.trail → Beside V a z new
 beside_cut V a z s new level cs b is h le =
     let h' : IsSound (record (cut s level) { clauses = cs }) = subst IsSound is h in
-    let le' : length a ≤ length (cut s level).trail = subst (λ (t : State). length a ≤ length t.trail) is le in
+    let le' : length a ≤ length (cut s level).trail = subst (λ (t : SearchState). length a ≤ length t.trail) is le in
     subst (Beside V a z) (sym is) (told_cut a s.trail (end_of s.starts level (length s.trail)) b.0 le', b.1, consistent_cut (V s.sizes) s level cs h' b.2)
 
 -- or it forgets the rest
-pub beside_undo : (V : Sizes → List Lit → Type 0) (a a' : List Lit) (z z' : Sizes) (s new : State) (level : ℕ) (cs : List (List Lit)) → Beside V a z s → new ≡ record (cut s level) { clauses = cs } → IsSound new → length new.trail ≤ length a → a' ≡ take (length new.trail) a → z' ≡ z → Beside V a' z' new
+pub beside_undo : (V : Sizes → List Lit → Type 0) (a a' : List Lit) (z z' : Sizes) (s new : SearchState) (level : ℕ) (cs : List (List Lit)) → Beside V a z s → new ≡ record (cut s level) { clauses = cs } → IsSound new → length new.trail ≤ length a → a' ≡ take (length new.trail) a → z' ≡ z → Beside V a' z' new
 beside_undo V a a' z z' s new level cs b is h le made same =
     let h' : IsSound (record (cut s level) { clauses = cs }) = subst IsSound is h in
-    let le' : length (cut s level).trail ≤ length a = subst (λ (t : State). length t.trail ≤ length a) is le in
-    let made' : a' ≡ take (length (cut s level).trail) a = subst (λ (t : State). a' ≡ take (length t.trail) a) is made in
+    let le' : length (cut s level).trail ≤ length a = subst (λ (t : SearchState). length t.trail ≤ length a) is le in
+    let made' : a' ≡ take (length (cut s level).trail) a = subst (λ (t : SearchState). a' ≡ take (length t.trail) a) is made in
     subst (Beside V a' z') (sym is) (told_undo a a' s.trail (end_of s.starts level (length s.trail)) b.0 le' made', same ∙ b.1, consistent_cut (V s.sizes) s level cs h' b.2)
 
 -- an added clause comes with a cut
-pub added_cut : (s new : State) (c : List Lit) → Adds s c new → (level : ℕ) × (new ≡ record (cut s level) { clauses = s.clauses ++ c ∷ [] })
+pub added_cut : (s new : SearchState) (c : List Lit) → Adds s c new → (level : ℕ) × (new ≡ record (cut s level) { clauses = s.clauses ++ c ∷ [] })
 added_cut s new c (inl w) = (w.0, w.3)
-added_cut s new c (inr w) = (length s.starts, w.1 ∙ ap (λ (t : State). record t { clauses = s.clauses ++ c ∷ [] }) (cut_none s (length s.starts) (le_same (length s.starts))))
+added_cut s new c (inr w) = (length s.starts, w.1 ∙ ap (λ (t : SearchState). record t { clauses = s.clauses ++ c ∷ [] }) (cut_none s (length s.starts) (le_same (length s.starts))))
 
 -- propagation keeps it
-pub beside_grow : (V : Sizes → List Lit → Type 0) (a : List Lit) (z : Sizes) (s new : State) → IsSound s → Beside V a z s → PropagatesTo s new → Beside V a z new
+pub beside_grow : (V : Sizes → List Lit → Type 0) (a : List Lit) (z : Sizes) (s new : SearchState) → IsSound s → Beside V a z s → PropagatesTo s new → Beside V a z new
 beside_grow V a z s new h b p =
     let added = p.grows.0 in
     let low : (level start : ℕ) → slice_get s.starts level ≡ Some start → start ≤ length s.trail = λ level start at. let w = starts_low s h level start at in omega arith in
@@ -198,57 +198,57 @@ beside_grow V a z s new h b p =
     (told, b.1 ∙ sym p.sizes, subst (λ x. WereConsistent (V new.sizes) new.trail x) (sym p.starts) (subst (λ w. WereConsistent (V w) new.trail s.starts) (sym p.sizes) one))
 
 -- what the answer says of the clauses
-pub answered : (V : Sizes → List Lit → Type 0) (s mid new : State) (o : Option ℕ) → PropagatesTo s mid → IfSome o (λ k. k ≡ length mid.clauses) → IfSome o (λ _. (c : List Lit) × V mid.sizes c × (new ≡ add_clause mid c)) → IfNone o (new ≡ mid)
+pub answered : (V : Sizes → List Lit → Type 0) (s mid new : SearchState) (o : Option ℕ) → PropagatesTo s mid → IfSome o (λ k. k ≡ length mid.clauses) → IfSome o (λ _. (c : List Lit) × V mid.sizes c × (new ≡ add_clause mid c)) → IfNone o (new ≡ mid)
     → PropagatesBeside (V s.sizes) s new o
 answered V s mid new None p number added same =
-    subst (λ (t : State). PropagatesBeside (V s.sizes) s t None) (sym same) (record { sizes = p.sizes; starts = p.starts; grows = p.grows; clauses = inl p.clauses })
+    subst (λ (t : SearchState). PropagatesBeside (V s.sizes) s t None) (sym same) (record { sizes = p.sizes; starts = p.starts; grows = p.grows; clauses = inl p.clauses })
 answered V s mid new (Some k) p number added same =
-    subst (λ (t : State). PropagatesBeside (V s.sizes) s t (Some k)) (sym added.2) (record {
+    subst (λ (t : SearchState). PropagatesBeside (V s.sizes) s t (Some k)) (sym added.2) (record {
       sizes = p.sizes;
       starts = p.starts;
       grows = p.grows;
       clauses = inr (added.0, subst (λ z. V z added.0) p.sizes added.1, ap (λ cs. cs ++ added.0 ∷ []) p.clauses, ap Some (number ∙ ap length p.clauses));
     })
 
-pub moved : (V : Sizes → List Lit → Type 0) (s mid : State) (o : Option ℕ) → PropagatesTo s mid → PropagatesBeside (V s.sizes) s mid o
+pub moved : (V : Sizes → List Lit → Type 0) (s mid : SearchState) (o : Option ℕ) → PropagatesTo s mid → PropagatesBeside (V s.sizes) s mid o
 moved V s mid o p = record { sizes = p.sizes; starts = p.starts; grows = p.grows; clauses = inl p.clauses }
 
 -- the trail is that of the propagation
-pub same_trail : (V : Sizes → List Lit → Type 0) (mid new : State) (o : Option ℕ) → IfSome o (λ _. (c : List Lit) × V mid.sizes c × (new ≡ add_clause mid c)) → IfNone o (new ≡ mid) → new.trail ≡ mid.trail
-same_trail V mid new None added same = ap (λ (t : State). t.trail) same
-same_trail V mid new (Some k) added same = ap (λ (t : State). t.trail) added.2
+pub same_trail : (V : Sizes → List Lit → Type 0) (mid new : SearchState) (o : Option ℕ) → IfSome o (λ _. (c : List Lit) × V mid.sizes c × (new ≡ add_clause mid c)) → IfNone o (new ≡ mid) → new.trail ≡ mid.trail
+same_trail V mid new None added same = ap (λ (t : SearchState). t.trail) same
+same_trail V mid new (Some k) added same = ap (λ (t : SearchState). t.trail) added.2
 
-pub beside_answer : (V : Sizes → List Lit → Type 0) (a : List Lit) (z : Sizes) (mid new : State) (o : Option ℕ) → Beside V a z mid → IfSome o (λ _. (c : List Lit) × V mid.sizes c × (new ≡ add_clause mid c)) → IfNone o (new ≡ mid) → Beside V a z new
+pub beside_answer : (V : Sizes → List Lit → Type 0) (a : List Lit) (z : Sizes) (mid new : SearchState) (o : Option ℕ) → Beside V a z mid → IfSome o (λ _. (c : List Lit) × V mid.sizes c × (new ≡ add_clause mid c)) → IfNone o (new ≡ mid) → Beside V a z new
 beside_answer V a z mid new None b added same = subst (Beside V a z) (sym same) b
 beside_answer V a z mid new (Some k) b added same = subst (Beside V a z) (sym added.2) b
 
 -- all was told
-pub beside_told : (V : Sizes → List Lit → Type 0) (a a' : List Lit) (z z' : Sizes) (s : State) → Beside V a z s → a' ≡ lits_of s.trail → z' ≡ s.sizes → Beside V a' z' s
+pub beside_told : (V : Sizes → List Lit → Type 0) (a a' : List Lit) (z z' : Sizes) (s : SearchState) → Beside V a z s → a' ≡ lits_of s.trail → z' ≡ s.sizes → Beside V a' z' s
 beside_told V a a' z z' s b told same = ((length s.trail, le_same (length s.trail), told ∙ ap lits_of (sym (take_whole s.trail))), same, b.2)
 
 -- a propagation taken back
-pub taken_back : (s mid new : State) (place : ℕ) → PropagatesTo s mid → place ≡ length s.trail → new ≡ record mid { trail = take place mid.trail } → new ≡ s
+pub taken_back : (s mid new : SearchState) (place : ℕ) → PropagatesTo s mid → place ≡ length s.trail → new ≡ record mid { trail = take place mid.trail } → new ≡ s
 taken_back s mid new place p e is =
     let trail : take place mid.trail ≡ s.trail = ap (λ n. take n mid.trail) e ∙ ap (take (length s.trail)) p.grows.1 ∙ take-append-le (length s.trail) s.trail p.grows.0 (le_same (length s.trail)) ∙ take_whole s.trail in
     is ∙ (λ i. record { sizes = p.sizes i; clauses = p.clauses i; trail = trail i; starts = p.starts i })
 
-pub grown_long : (s mid : State) → PropagatesTo s mid → length s.trail ≤ length mid.trail
+pub grown_long : (s mid : SearchState) → PropagatesTo s mid → length s.trail ≤ length mid.trail
 grown_long s mid p = let e = ap length p.grows.1 in omega (arith, length-append s.trail p.grows.0)
 
 -- the theory taken back
-pub told_back : (V : Sizes → List Lit → Type 0) (a a' b : List Lit) (z z' w : Sizes) (s mid new : State) → Beside V a z s → PropagatesTo s mid → new ≡ s → b ≡ lits_of mid.trail → w ≡ mid.sizes → a' ≡ take (length s.trail) b → z' ≡ w → Beside V a' z' new
+pub told_back : (V : Sizes → List Lit → Type 0) (a a' b : List Lit) (z z' w : Sizes) (s mid new : SearchState) → Beside V a z s → PropagatesTo s mid → new ≡ s → b ≡ lits_of mid.trail → w ≡ mid.sizes → a' ≡ take (length s.trail) b → z' ≡ w → Beside V a' z' new
 told_back V a a' b z z' w s mid new beside p back told same less same' =
     subst (Beside V a' z') (sym back) (told_front b a' mid.trail s.trail p.grows.0 told p.grows.1 less, same' ∙ same ∙ p.sizes, beside.2)
 
 -- nor is a clause of the theory false after the answer
-pub calm_answer : (V : Sizes → List Lit → Type 0) (mid new : State) (o : Option ℕ) → IfNone o (HasNoConflict (V mid.sizes) mid.trail) → IfNone o (new ≡ mid) → IfNone o (HasNoConflict (V new.sizes) new.trail)
-calm_answer V mid new None none same = subst (λ (t : State). HasNoConflict (V t.sizes) t.trail) (sym same) none
+pub calm_answer : (V : Sizes → List Lit → Type 0) (mid new : SearchState) (o : Option ℕ) → IfNone o (HasNoConflict (V mid.sizes) mid.trail) → IfNone o (new ≡ mid) → IfNone o (HasNoConflict (V new.sizes) new.trail)
+calm_answer V mid new None none same = subst (λ (t : SearchState). HasNoConflict (V t.sizes) t.trail) (sym same) none
 calm_answer V mid new (Some k) none same = tt
 
 -- each level began before the trail that is left
-pub present_before : (s mid new : State) (before : List Step) → IsSound s → PropagatesTo s mid → new ≡ mid → before ≡ s.trail → (level start : ℕ) → slice_get new.starts level ≡ Some start → start < length before
+pub present_before : (s mid new : SearchState) (before : List Step) → IsSound s → PropagatesTo s mid → new ≡ mid → before ≡ s.trail → (level start : ℕ) → slice_get new.starts level ≡ Some start → start < length before
 present_before s mid new before h p back e level start at =
-    let starts : new.starts ≡ s.starts = ap (λ (t : State). t.starts) back ∙ p.starts in
+    let starts : new.starts ≡ s.starts = ap (λ (t : SearchState). t.starts) back ∙ p.starts in
     let low = starts_low s h level start (ap (λ xs. slice_get xs level) (sym starts) ∙ at) in
     let long = ap length e in
     omega arith
@@ -257,8 +257,8 @@ none_open : (V : Sizes → List Lit → Type 0) {z : Sizes} → WereConsistent (
 none_open V level start at c v f = absurd (let e : None ≡ Some start = at in cc)
 
 -- what holds before anything is asserted
-pub beside_nothing : (V : Sizes → List Lit → Type 0) (a : List Lit) (z sizes : Sizes) (cs : List (List Lit)) (s : State) → s ≡ (record { sizes = sizes; clauses = cs; trail = []; starts = [] }) → a ≡ [] → z ≡ sizes
+pub beside_nothing : (V : Sizes → List Lit → Type 0) (a : List Lit) (z sizes : Sizes) (cs : List (List Lit)) (s : SearchState) → s ≡ (record { sizes = sizes; clauses = cs; trail = []; starts = [] }) → a ≡ [] → z ≡ sizes
     → IsTold a s.trail × (z ≡ s.sizes) × WereConsistent (V s.sizes) s.trail s.starts
 beside_nothing V a z sizes cs s is none same =
-    subst (λ (t : State). IsTold a t.trail × (z ≡ t.sizes) × WereConsistent (V t.sizes) t.trail t.starts) (sym is)
+    subst (λ (t : SearchState). IsTold a t.trail × (z ≡ t.sizes) × WereConsistent (V t.sizes) t.trail t.starts) (sym is)
     ((0, omega arith, none), same, none_open V)

@@ -1,17 +1,20 @@
--- Which clauses are still to be looked at.
-use Rattle.std.proofs.Common.{◌≡◌, ◌≢◌, ◌⊎◌, ℕ, zero, suc, ◌+◌, ◌-◌, ◌<◌, ◌≤◌, List, [], ◌∷◌, ◌++◌, length, get_or, Some, inl, inr, refl, sym, ap, ◌∙◌, subst, arith, All, Contains, append_assoc, length-append, length-set}
+-- Which clauses need no look.
+use Rattle.std.proofs.Common.{◌≡◌, ◌≢◌, ◌⊎◌, ℕ, zero, suc, ◌+◌, ◌-◌, ◌<◌, ◌≤◌, List, [], ◌∷◌, ◌++◌, length, get_or, take, take_all, Some, inl, inr, refl, sym, ap, ◌∙◌, subst, arith, All, Contains, append_assoc, length-append, length-set}
 use Rattle.std.specs.Prelude.{slice_get, slice_set}
-use Rattle.std.proofs.lemmas.Bool.{cases_eq, cases_lt}
+use Rattle.std.proofs.lemmas.Bool.{cases_eq}
 use Rattle.std.proofs.lemmas.List.Elements.{All-cons, All-contains, Contains-append_left, Contains-push}
-use Rattle.std.proofs.lemmas.List.{length_push}
+use Rattle.std.proofs.lemmas.List.{length_push, take-append-le}
 use Rattle.gh_base.specs.declared.atom.Lit.{Lit}
 use Rattle.gh_base.specs.declared.sizes.Sizes.{Sizes}
 use Rattle.gh_base.specs.Atoms.{opposite}
 use Rattle.gh_sat.specs.declared.trail.Step.{Step}
 use Rattle.gh_sat.specs.Trail.{Line, IsTrueIn, IsUnitIn, AreSteps, push}
-use Rattle.gh_sat.specs.Status.{IsBad, IsForced, AreForced, Grows}
-use Rattle.gh_sat.specs.Watch.{IsPending, AreWatched, AreListed, ListsMore, clauses_of}
-use Rattle.gh_sat.proofs.ListLemmas.{get_within, get_front, get_last}
+use Rattle.gh_sat.specs.declared.rows.Numbered.{Numbered}
+use Rattle.gh_sat.specs.declared.status.Hint.{Hint}
+use Rattle.gh_sat.specs.Rows.{numbered}
+use Rattle.gh_sat.specs.Status.{IsBad, IsPair, IsGuarded, IsForced, AreForced, Grows}
+use Rattle.gh_sat.specs.Watch.{AreGuarded, AreVisited, MoveHints, AreListed, ListsMore, clauses_of}
+use Rattle.gh_sat.proofs.ListLemmas.{get_within, get_front, get_last, get_take, take_get, get_some, get_set_same, get_set_other}
 use Rattle.gh_sat.proofs.TrailLemmas.{opposite_twice}
 use Rattle.gh_sat.proofs.StatusLemmas.{true_good, not_free_opposite}
 
@@ -83,90 +86,179 @@ any_or_all A B (l ∷ ls) h = elim (h 0 l (omega arith)) [
   ]
 ]
 
--- the literal became false at this place or later
-abbrev Late : List Step → ℕ → Lit → Type 0
-Late trail head m = (j : ℕ) × (x : Step) × (head ≤ j) × (slice_get trail j ≡ Some x) × (x.lit ≡ opposite m)
+-- what is true on a front is true on the whole
+pub true_longer : (trail : List Step) (n : ℕ) (l : Lit) → IsTrueIn (take n trail) l → IsTrueIn trail l
+true_longer trail n l s = let o = get_take n trail s.0 s.1 s.3 in (s.0, s.1, get_within trail s.0 s.1 o.1, o.1, s.4)
 
--- what is false on a longer trail was false before, or became so by an added step
-false_before : (old added : List Step) (m : Lit) → IsTrueIn (old ++ added) (opposite m) → IsTrueIn old (opposite m) ⊎ Late (old ++ added) (length old) m
-false_before old added m s = elim (cases_lt s.0 (length old)) [
-  | inl lt ↦ inl (s.0, s.1, lt, get_front_back old added s.0 s.1 lt s.3, s.4)
-  | inr ge ↦ inr (s.0, s.1, ge, s.3, s.4)
-]
+pub true_grown : (old added : List Step) (l : Lit) → IsTrueIn old l → IsTrueIn (old ++ added) l
+true_grown old added l s = let at = get_front old added s.0 s.1 s.3 in (s.0, s.1, get_within (old ++ added) s.0 s.1 at, at, s.4)
 
-pending_from : (trail : List Step) (head : ℕ) (c : List Lit) → ((m : Lit) × Contains c m × Late trail head m) → IsPending trail head c
-pending_from trail head c w = let l = w.2 in (w.0, w.1, l.0, l.1, l.2, l.3, l.4)
-
-pending_more : (old added : List Step) (head : ℕ) (c : List Lit) → IsPending old head c → IsPending (old ++ added) head c
-pending_more old added head c p = (p.0, p.1, p.2, p.3, p.4, get_front old added p.2 p.3 p.5, p.6)
-
--- a clause that is bad on a longer trail was bad before, or has a literal that became false since
-bad_before : (old added : List Step) (c : List Lit) → IsBad (old ++ added) c → IsPending (old ++ added) (length old) c ⊎ IsBad old c
-bad_before old added c (inl f) = elim (any_or_all (λ m. IsTrueIn old (opposite m)) (Late (old ++ added) (length old)) c (λ k d lt. false_before old added (get_or c k d) (f k d lt))) [
-  | inl w ↦ inl (pending_from (old ++ added) (length old) c w)
-  | inr all ↦ inr (inl all)
-]
-bad_before old added c (inr (u, i)) =
-    elim (any_or_all (λ m. (m ≡ u) ⊎ IsTrueIn old (opposite m)) (Late (old ++ added) (length old)) c
-    (λ k d lt. elim (i.others k d lt) [ inl e ↦ inl (inl e) | inr f ↦ elim (false_before old added (get_or c k d) f) [ inl o ↦ inl (inr o) | inr l ↦ inr l ] ])) [
-      | inl w ↦ inl (pending_from (old ++ added) (length old) c w)
-      | inr all ↦ inr (inr (u, record { there = i.there; free = λ j x at. i.free j x (get_front old added j x at); others = all }))
+-- what is false by a step more was false before, or it is the opposite of that step
+pub false_next : (trail : List Step) (head : ℕ) (x : Step) (m : Lit) → slice_get trail head ≡ Some x → IsTrueIn (take (head + 1) trail) (opposite m) → IsTrueIn (take head trail) (opposite m) ⊎ (m ≡ opposite x.lit)
+false_next trail head x m here s =
+    let o = get_take (head + 1) trail s.0 s.1 s.3 in
+    elim (cases_eq s.0 head) [
+      | inl e ↦
+          let at : slice_get trail head ≡ Some s.1 = subst (λ i. slice_get trail i ≡ Some s.1) e o.1 in
+          let same : s.1 ≡ x = cc in
+          inr (sym (opposite_twice m) ∙ ap opposite (sym s.4) ∙ ap (λ (y : Step). opposite y.lit) same)
+      | inr n ↦
+          let lt : s.0 < head = omega (arith, o.0, n) in
+          let at = take_get head trail s.0 s.1 lt o.1 in
+          inl (s.0, s.1, get_within (take head trail) s.0 s.1 at, at, s.4)
     ]
 
-pub watched_grow : (clauses : List (List Lit)) (old added : List Step) (head looked : ℕ) (rest : List ℕ) → head ≤ length old
-    → AreWatched clauses old head looked rest → AreWatched clauses (old ++ added) head looked rest
-watched_grow clauses old added head looked rest h w k c lt at bad = elim (bad_before old added c bad) [
-  | inl p ↦ inl (p.0, p.1, p.2, p.3, omega (arith, p.4), p.5, p.6)
-  | inr b ↦ elim (w k c lt at b) [ inl p ↦ inl (pending_more old added head c p) | inr r ↦ inr r ]
-]
+pub pair_less : (s : Sizes) (known less : List Step) (c : List Lit) (h : Hint) → ((l : Lit) → IsTrueIn less l → IsTrueIn known l) → IsPair s known c h → IsPair s less c h
+pair_less s known less c h f p = record {
+  one = p.one;
+  other = p.other;
+  one_in = p.one_in;
+  other_in = p.other_in;
+  first = p.first;
+  second = p.second;
+  differ = p.differ;
+  one_open = λ t. p.one_open (f (opposite p.one) t);
+  other_open = λ t. p.other_open (f (opposite p.other) t);
+}
 
-pub watched_grows : (clauses : List (List Lit)) (level : ℕ) (old new : List Step) (head looked : ℕ) (rest : List ℕ) → head ≤ length old → Grows clauses level old new
-    → AreWatched clauses old head looked rest → AreWatched clauses new head looked rest
-watched_grows clauses level old new head looked rest h g w = subst (λ t. AreWatched clauses t head looked rest) (sym g.1) (watched_grow clauses old g.0 head looked rest h w)
+pub pair_front : (s : Sizes) (trail : List Step) (n : ℕ) (c : List Lit) (h : Hint) → IsPair s trail c h → IsPair s (take n trail) c h
+pair_front s trail n c h p = pair_less s trail (take n trail) c h (true_longer trail n) p
+
+pub guarded_front : (s : Sizes) (trail : List Step) (n : ℕ) (c : List Lit) (h : Hint) → IsGuarded s trail trail c h → IsGuarded s trail (take n trail) c h
+guarded_front s trail n c h (inl t) = inl t
+guarded_front s trail n c h (inr p) = inr (pair_front s trail n c h p)
+
+pub guarded_grown : (s : Sizes) (old added known : List Step) (c : List Lit) (h : Hint) → IsGuarded s old known c h → IsGuarded s (old ++ added) known c h
+guarded_grown s old added known c h (inl t) = inl (t.0, t.1, true_grown old added t.0 t.2)
+guarded_grown s old added known c h (inr p) = inr p
+
+-- two literals that aren't false make a clause neither false nor unit
+pub pair_good : (s : Sizes) (trail : List Step) (c : List Lit) (h : Hint) → IsPair s trail c h → IsBad trail c → ⊥
+pair_good s trail c h p (inl f) = p.one_open (All-contains (λ m. IsTrueIn trail (opposite m)) c p.one f p.one_in)
+pair_good s trail c h p (inr (u, i)) =
+    let one : p.one ≡ u = elim (All-contains (λ m. (m ≡ u) ⊎ IsTrueIn trail (opposite m)) c p.one i.others p.one_in) [ inl e ↦ e | inr t ↦ absurd (p.one_open t) ] in
+    let other : p.other ≡ u = elim (All-contains (λ m. (m ≡ u) ⊎ IsTrueIn trail (opposite m)) c p.other i.others p.other_in) [ inl e ↦ e | inr t ↦ absurd (p.other_open t) ] in
+    p.differ (one ∙ sym other)
+
+pub guarded_good : (t : Line) (c : List Lit) (h : Hint) → AreSteps t → IsGuarded t.sizes t.steps t.steps c h → IsBad t.steps c → ⊥
+guarded_good t c h valid (inl w) bad = true_good t c w.0 valid w.1 w.2 bad
+guarded_good t c h valid (inr p) bad = pair_good t.sizes t.steps c h p bad
+
+-- a step whose opposite is none of the two leaves both
+pub pair_next : (s : Sizes) (trail : List Step) (head : ℕ) (x : Step) (c : List Lit) (h : Hint) (gone : Numbered) → slice_get trail head ≡ Some x → numbered s (opposite x.lit) ≡ gone
+    → (h.first ≡ gone → ⊥) → (h.second ≡ gone → ⊥) → IsPair s (take head trail) c h → IsPair s (take (head + 1) trail) c h
+pair_next s trail head x c h gone here is n m p = record {
+  one = p.one;
+  other = p.other;
+  one_in = p.one_in;
+  other_in = p.other_in;
+  first = p.first;
+  second = p.second;
+  differ = p.differ;
+  one_open = λ t. elim (false_next trail head x p.one here t) [ inl old ↦ p.one_open old | inr e ↦ n (sym p.first ∙ ap (numbered s) e ∙ is) ];
+  other_open = λ t. elim (false_next trail head x p.other here t) [ inl old ↦ p.other_open old | inr e ↦ m (sym p.second ∙ ap (numbered s) e ∙ is) ];
+}
+
+-- hints that move, as the trail grows
+pub moves_same : (s : Sizes) (clauses : List (List Lit)) (trail : List Step) (hints : List Hint) → MoveHints s clauses trail hints hints
+moves_same s clauses trail hints = record { long = refl; each = λ k c h at has. inl has }
+
+pub moves_set : (s : Sizes) (clauses : List (List Lit)) (trail : List Step) (hints : List Hint) (k : ℕ) (c : List Lit) (old h : Hint) → k < length hints → slice_get clauses k ≡ Some c → slice_get hints k ≡ Some old
+    → (h ≡ old) ⊎ IsPair s trail c h → MoveHints s clauses trail hints (slice_set hints k h)
+moves_set s clauses trail hints k c old h lt at was m = record {
+  long = length-set hints k h;
+  each = λ i d x here has. elim (cases_eq i k) [
+    | inl e ↦
+        let set : slice_get (slice_set hints k h) k ≡ Some x = subst (λ j. slice_get (slice_set hints k h) j ≡ Some x) e has in
+        let is : h ≡ x = let z = get_set_same hints k h lt in cc in
+        let there : slice_get clauses k ≡ Some d = subst (λ j. slice_get clauses j ≡ Some d) e here in
+        let one : c ≡ d = cc in
+        elim m [
+          | inl kept ↦ inl (subst (λ j. slice_get hints j ≡ Some x) (sym e) (was ∙ ap Some (sym kept ∙ is)))
+          | inr p ↦ inr (subst (λ (y : Hint). IsPair s trail d y) is (subst (λ (y : List Lit). IsPair s trail y h) one p))
+        ]
+    | inr n ↦ inl (sym (get_set_other hints k i h n) ∙ has)
+  ];
+}
+
+pub moves_on : (s : Sizes) (clauses : List (List Lit)) (level : ℕ) (a b : List Step) (x y z : List Hint) → Grows clauses level a b → MoveHints s clauses a x y → MoveHints s clauses b y z → MoveHints s clauses a x z
+moves_on s clauses level a b x y z g m n = record {
+  long = n.long ∙ m.long;
+  each = λ k c h at has. elim (n.each k c h at has) [
+    | inl same ↦ m.each k c h at same
+    | inr p ↦ inr (pair_less s b a c h (λ l t. subst (λ (w : List Step). IsTrueIn w l) (sym g.1) (true_grown a g.0 l t)) p)
+  ];
+}
+
+-- the front up to a place, of a trail that grew
+front_grown : (clauses : List (List Lit)) (level : ℕ) (old new : List Step) (n : ℕ) → n ≤ length old → Grows clauses level old new → take n new ≡ take n old
+front_grown clauses level old new n h g = ap (take n) g.1 ∙ take-append-le n old g.0 h
+
+pub guarded_along : (s : Sizes) (clauses : List (List Lit)) (level : ℕ) (old new : List Step) (n : ℕ) (c : List Lit) (h : Hint) → n ≤ length old → Grows clauses level old new → IsGuarded s old (take n old) c h → IsGuarded s new (take n new) c h
+guarded_along s clauses level old new n c h le g w =
+    subst (λ (k : List Step). IsGuarded s new k c h) (sym (front_grown clauses level old new n le g))
+    (subst (λ (t : List Step). IsGuarded s t (take n old) c h) (sym g.1) (guarded_grown s old g.0 (take n old) c h w))
+
+-- what is guarded stays so while the trail grows and hints move
+pub guarded_on : (s : Sizes) (clauses : List (List Lit)) (level : ℕ) (old new : List Step) (hints hints' : List Hint) (head looked : ℕ) → head ≤ length old → Grows clauses level old new → MoveHints s clauses old hints hints'
+    → AreGuarded s clauses hints old head looked → AreGuarded s clauses hints' new head looked
+guarded_on s clauses level old new hints hints' head looked le g m w k c h lt at has =
+    guarded_along s clauses level old new head c h le g (elim (m.each k c h at has) [ inl same ↦ w k c h lt at same | inr p ↦ inr (pair_front s old head c h p) ])
+
+-- a clause more was looked at
+pub guarded_looked : (s : Sizes) (clauses : List (List Lit)) (hints : List Hint) (trail : List Step) (head looked : ℕ) → ((c : List Lit) (h : Hint) → slice_get clauses looked ≡ Some c → slice_get hints looked ≡ Some h → IsGuarded s trail trail c h)
+    → AreGuarded s clauses hints trail head looked → AreGuarded s clauses hints trail head (looked + 1)
+guarded_looked s clauses hints trail head looked one w k c h lt at has = elim (cases_eq k looked) [
+  | inl e ↦ guarded_front s trail head c h (one c h (subst (λ i. slice_get clauses i ≡ Some c) e at) (subst (λ i. slice_get hints i ≡ Some h) e has))
+  | inr n ↦ w k c h (omega (arith, n, lt)) at has
+]
 
 in_cons : (n k : ℕ) (rest : List ℕ) → Contains (n ∷ rest) k → (n ≡ k) ⊎ Contains rest k
 in_cons n k rest (zero, h, e) = inl e
 in_cons n k rest (suc i, h, e) = inr (i, omega arith, e)
 
--- a clause was looked at, and isn't bad
-pub watched_next : (clauses : List (List Lit)) (trail : List Step) (head looked n : ℕ) (rest : List ℕ) → ((c : List Lit) → slice_get clauses n ≡ Some c → IsBad trail c → ⊥)
-    → AreWatched clauses trail head looked (n ∷ rest) → AreWatched clauses trail head looked rest
-watched_next clauses trail head looked n rest good w k c lt at bad = elim (w k c lt at bad) [
-  | inl p ↦ inl p
-  | inr r ↦ elim (in_cons n k rest r) [ inl e ↦ absurd (good c (subst (λ i. slice_get clauses i ≡ Some c) (sym e) at) bad) | inr t ↦ inr t ]
+-- the clauses that have the opposite of the next literal are the ones to visit
+pub visited_begin : (s : Sizes) (clauses : List (List Lit)) (lists : List (List ℕ)) (hints : List Hint) (trail : List Step) (head looked : ℕ) (x : Step) → AreListed s clauses lists → slice_get trail head ≡ Some x
+    → AreGuarded s clauses hints trail head looked → AreVisited s clauses hints trail head looked (clauses_of s lists (opposite x.lit))
+visited_begin s clauses lists hints trail head looked x listed here w k c h lt at has out = elim (w k c h lt at has) [
+  | inl t ↦ inl t
+  | inr p ↦ inr (record {
+    one = p.one;
+    other = p.other;
+    one_in = p.one_in;
+    other_in = p.other_in;
+    first = p.first;
+    second = p.second;
+    differ = p.differ;
+    one_open = λ t. elim (false_next trail head x p.one here t) [ inl old ↦ p.one_open old | inr e ↦ out (subst (λ m. Contains (clauses_of s lists m) k) e (listed k c p.one at p.one_in)) ];
+    other_open = λ t. elim (false_next trail head x p.other here t) [ inl old ↦ p.other_open old | inr e ↦ out (subst (λ m. Contains (clauses_of s lists m) k) e (listed k c p.other at p.other_in)) ];
+  })
 ]
 
-pub watched_looked : (clauses : List (List Lit)) (trail : List Step) (head looked : ℕ) → ((c : List Lit) → slice_get clauses looked ≡ Some c → IsBad trail c → ⊥)
-    → AreWatched clauses trail head looked [] → AreWatched clauses trail head (looked + 1) []
-watched_looked clauses trail head looked good w k c lt at bad = elim (cases_eq k looked) [
-  | inl e ↦ absurd (good c (subst (λ i. slice_get clauses i ≡ Some c) e at) bad)
-  | inr n ↦ w k c (omega arith) at bad
+-- a clause was visited
+pub visited_next : (s : Sizes) (clauses : List (List Lit)) (level : ℕ) (old new : List Step) (hints hints' : List Hint) (head looked n : ℕ) (rest : List ℕ) (x : Step) → slice_get old head ≡ Some x
+    → Grows clauses level old new → MoveHints s clauses old hints hints'
+    → ((c : List Lit) (h : Hint) → n < looked → slice_get clauses n ≡ Some c → slice_get hints' n ≡ Some h → IsGuarded s new (take (head + 1) new) c h)
+    → AreVisited s clauses hints old head looked (n ∷ rest) → AreVisited s clauses hints' new head looked rest
+visited_next s clauses level old new hints hints' head looked n rest x here g m one w k c h lt at has out = elim (cases_eq k n) [
+  | inl e ↦ one c h (subst (λ i. i < looked) e lt) (subst (λ i. slice_get clauses i ≡ Some c) e at) (subst (λ i. slice_get hints' i ≡ Some h) e has)
+  | inr f ↦
+      let lt' = get_within old head x here in
+      let left : Contains (n ∷ rest) k → ⊥ = λ z. elim (in_cons n k rest z) [ inl e ↦ f (sym e) | inr r ↦ out r ] in
+      guarded_along s clauses level old new (head + 1) c h (omega arith) g (elim (m.each k c h at has) [ inl same ↦ w k c h lt at same left | inr p ↦ inr (pair_front s old (head + 1) c h p) ])
 ]
 
--- the clauses that have the opposite of the next literal are the ones that wait for it
-pub watched_begin : (s : Sizes) (clauses : List (List Lit)) (lists : List (List ℕ)) (trail : List Step) (head looked : ℕ) (x : Step) → AreListed s clauses lists → slice_get trail head ≡ Some x
-    → AreWatched clauses trail head looked [] → AreWatched clauses trail (head + 1) looked (clauses_of s lists (opposite x.lit))
-watched_begin s clauses lists trail head looked x listed here w k c lt at bad = elim (w k c lt at bad) [
-  | inr r ↦ absurd (let z = r.1 in omega arith)
-  | inl p ↦ elim (cases_eq p.2 head) [
-    | inr n ↦ inl (p.0, p.1, p.2, p.3, omega (arith, p.4), p.5, p.6)
-    | inl e ↦
-        let at' : slice_get trail head ≡ Some p.3 = subst (λ i. slice_get trail i ≡ Some p.3) e p.5 in
-        let same : p.3 ≡ x = cc in
-        let lit : p.0 ≡ opposite x.lit = sym (opposite_twice p.0) ∙ ap opposite (sym p.6) ∙ ap (λ (y : Step). opposite y.lit) same in
-        inr (subst (λ m. Contains (clauses_of s lists m) k) lit (listed k c p.0 at p.1))
-  ]
-]
+-- none is left
+pub visited_end : (s : Sizes) (clauses : List (List Lit)) (hints : List Hint) (trail : List Step) (head looked : ℕ) → AreVisited s clauses hints trail head looked [] → AreGuarded s clauses hints trail (head + 1) looked
+visited_end s clauses hints trail head looked w k c h lt at has = w k c h lt at has (λ z. absurd (let i = z.1 in omega arith))
 
 -- nothing waits
-pub watched_all : (clauses : List (List Lit)) (trail : List Step) (head looked k : ℕ) (c : List Lit) → length trail ≤ head → length clauses ≤ looked
-    → AreWatched clauses trail head looked [] → slice_get clauses k ≡ Some c → IsBad trail c → ⊥
-watched_all clauses trail head looked k c h l w at bad =
+pub guarded_all : (t : Line) (clauses : List (List Lit)) (hints : List Hint) (head looked k : ℕ) (c : List Lit) → AreSteps t → length t.steps ≤ head → length clauses ≤ looked → length hints ≡ length clauses
+    → AreGuarded t.sizes clauses hints t.steps head looked → slice_get clauses k ≡ Some c → IsBad t.steps c → ⊥
+guarded_all t clauses hints head looked k c valid h l long w at bad =
     let lt = get_within clauses k c at in
-    elim (w k c (omega arith) at bad) [
-      | inl p ↦ let q = get_within trail p.2 p.3 p.5 in let ge = p.4 in absurd (omega arith)
-      | inr r ↦ absurd (let z = r.1 in omega arith)
-    ]
+    let hint = get_some hints k (omega (arith, long, lt)) in
+    guarded_good t c hint.0 valid (subst (λ (known : List Step). IsGuarded t.sizes t.steps known c hint.0) (take_all head t.steps h) (w k c hint.0 (omega (arith, lt, l)) at hint.1)) bad
 
 pub append_nil : {X : Type 0} (xs : List X) → xs ++ [] ≡ xs
 append_nil [] = refl

@@ -7,7 +7,7 @@ use Rattle.gh_base.specs.Propagation.{FollowsByUnits}
 use Rattle.gh_base.specs.Hints.{IsShownByHints}
 use Rattle.gh_sat.specs.declared.trail.Step.{Step}
 use Rattle.gh_sat.specs.declared.marks.Marks.{Marks}
-use Rattle.gh_sat.specs.Trail.{State, cut, IsFalseIn, IsReason, IsUnitIn}
+use Rattle.gh_sat.specs.Trail.{SearchState, cut, IsFalseIn, IsReason, IsUnitIn}
 
 -- The least set of places that has those of the clause's literals and, where it has a place from this one on, the
 -- places of the other literals of that step's reason.
@@ -18,23 +18,23 @@ pub data Reached (clauses : List (List Lit)) (trail : List Step) (conflict : Lis
 
 -- A unique implication point: from the conflict each way back through reasons meets this place of the present level,
 -- and no earlier place of that level before it.
-pub record IsPoint (s : State) (conflict : List Lit) (place : ℕ) : Type 0 where
+pub record IsPoint (s : SearchState) (conflict : List Lit) (place : ℕ) : Type 0 where
   pub present : (x : Step) × (slice_get s.trail place ≡ Some x) × (x.level ≡ length s.starts)
   pub reached : Reached s.clauses s.trail conflict (suc place) place
   pub alone : (j : ℕ) (x : Step) → Reached s.clauses s.trail conflict (suc place) j → slice_get s.trail j ≡ Some x → x.level ≡ length s.starts → j ≤ place → j ≡ place
 
 -- the one that is met first
-pub record IsFirstPoint (s : State) (conflict : List Lit) (place : ℕ) : Type 0 where
+pub record IsFirstPoint (s : SearchState) (conflict : List Lit) (place : ℕ) : Type 0 where
   pub is : IsPoint s conflict place
   pub first : (q : ℕ) → place < q → IsPoint s conflict q → ⊥
 
 -- the clause has the opposites of what is reached without a step past the point, up to it
-pub record IsClauseOf (s : State) (conflict : List Lit) (place : ℕ) (clause : List Lit) : Type 0 where
+pub record IsClauseOf (s : SearchState) (conflict : List Lit) (place : ℕ) (clause : List Lit) : Type 0 where
   pub only : All (λ l. (j : ℕ) × (x : Step) × (j ≤ place) × (slice_get s.trail j ≡ Some x) × (x.lit ≡ opposite l) × Reached s.clauses s.trail conflict (suc place) j) clause
   pub all : (j : ℕ) (x : Step) → j ≤ place → slice_get s.trail j ≡ Some x → Reached s.clauses s.trail conflict (suc place) j → Contains clause (opposite x.lit)
 
 -- the clause of number k is false, and above level 0 it has a literal of the present level
-pub record IsConflict (s : State) (k : ℕ) : Type 0 where
+pub record IsConflict (s : SearchState) (k : ℕ) : Type 0 where
   pub clause : List Lit
   pub at : slice_get s.clauses k ≡ Some clause
   pub is_false : IsFalseIn s.trail clause
@@ -42,7 +42,7 @@ pub record IsConflict (s : State) (k : ℕ) : Type 0 where
 
 -- What is learnt from clause k: the clause of the first unique implication point. It follows by unit propagation and
 -- is false; its literals but the unit became false at the level or below, the unit at the present one.
-pub record IsLearnt (s : State) (k : ℕ) (clause : List Lit) (level : ℕ) (unit : Lit) : Type 0 where
+pub record IsLearnt (s : SearchState) (k : ℕ) (clause : List Lit) (level : ℕ) (unit : Lit) : Type 0 where
   pub conflict : List Lit
   pub at : slice_get s.clauses k ≡ Some conflict
   pub place : ℕ
@@ -64,7 +64,7 @@ pub record AreReasons (clauses : List (List Lit)) (numbers : List ℕ) (clause :
   pub within : All (λ k. k < length clauses) numbers
   pub shows : IsShownByHints (map (λ k. slice_index_or clauses k []) numbers) clause
 
-abbrev pub add_clause : State → List Lit → State
+abbrev pub add_clause : SearchState → List Lit → SearchState
 add_clause s c = record s { clauses = s.clauses ++ c ∷ [] }
 
 -- the greatest level of a false clause's literals

@@ -4,7 +4,7 @@ use Rattle.gh_base.specs.declared.atom.Lit.{Lit}
 use Rattle.gh_base.specs.declared.sizes.Sizes.{Sizes}
 use Rattle.gh_base.specs.Atoms.{count_of}
 use Rattle.gh_sat.specs.declared.trail.Step.{Step}
-use Rattle.gh_sat.specs.Trail.{State, cut, IsSound}
+use Rattle.gh_sat.specs.Trail.{SearchState, cut, IsSound}
 use Rattle.gh_sat.specs.Learn.{IsLearnt, one_if, add_clause}
 use Rattle.gh_sat.specs.Whole.{GivesLast}
 
@@ -22,18 +22,18 @@ abbrev pub StepsLeadFurther : Type 0
 StepsLeadFurther = (trail : List Step) (x : Step) (more : List Step) → IsFurther trail (trail ++ x ∷ more)
 
 -- a level to which the trail may be cut after a lesson: the lesson's or a higher one, below the present one
-abbrev pub IsCutLevel : State → ℕ → ℕ → Type 0
+abbrev pub IsCutLevel : SearchState → ℕ → ℕ → Type 0
 IsCutLevel s level to = (level ≤ to) × (to < length s.starts)
 
 -- after such a cut the learnt unit is assigned there first, by the learnt clause
 abbrev pub UnitsAreAssigned : Type 0
-UnitsAreAssigned = (s : State) (k : ℕ) (clause : List Lit) (level : ℕ) (unit : Lit) (to : ℕ) (new : List Step) → IsSound s → IsLearnt s k clause level unit → IsCutLevel s level to
+UnitsAreAssigned = (s : SearchState) (k : ℕ) (clause : List Lit) (level : ℕ) (unit : Lit) (to : ℕ) (new : List Step) → IsSound s → IsLearnt s k clause level unit → IsCutLevel s level to
     → GivesLast (cut (add_clause s clause) to) new
     → (more : List Step) × (new ≡ (cut s to).trail ++ (record { lit = unit; level = to; reason = Some (length s.clauses) }) ∷ [] ++ more)
 
 -- and then leads further than what was before the cut
 abbrev pub JumpsLeadFurther : Type 0
-JumpsLeadFurther = (s : State) (k : ℕ) (clause : List Lit) (level : ℕ) (unit : Lit) (to : ℕ) (new : List Step) → IsSound s → IsLearnt s k clause level unit → IsCutLevel s level to
+JumpsLeadFurther = (s : SearchState) (k : ℕ) (clause : List Lit) (level : ℕ) (unit : Lit) (to : ℕ) (new : List Step) → IsSound s → IsLearnt s k clause level unit → IsCutLevel s level to
     → GivesLast (cut (add_clause s clause) to) new → IsFurther s.trail new
 
 abbrev pub power : ℕ → ℕ → ℕ
@@ -53,5 +53,5 @@ abbrev pub StepsLeaveLess : Type 0
 StepsLeaveLess = (sizes : Sizes) (trail : List Step) (x : Step) (more : List Step) → length (trail ++ x ∷ more) ≤ count_of sizes → left sizes (trail ++ x ∷ more) < left sizes trail
 
 abbrev pub JumpsLeaveLess : Type 0
-JumpsLeaveLess = (s : State) (k : ℕ) (clause : List Lit) (level : ℕ) (unit : Lit) (to : ℕ) (new : List Step) → IsSound s → IsLearnt s k clause level unit → IsCutLevel s level to
+JumpsLeaveLess = (s : SearchState) (k : ℕ) (clause : List Lit) (level : ℕ) (unit : Lit) (to : ℕ) (new : List Step) → IsSound s → IsLearnt s k clause level unit → IsCutLevel s level to
     → GivesLast (cut (add_clause s clause) to) new → length new ≤ count_of s.sizes → left s.sizes new < left s.sizes s.trail

@@ -1,10 +1,14 @@
 -- What a clause is under a trail, and unit propagation.
-use Rattle.std.specs.Prelude.{◌≡◌, ◌⊎◌, ℕ, List, [], ◌∷◌, ◌++◌, All, Some, slice_get}
+use Rattle.std.specs.Prelude.{◌≡◌, ◌≢◌, ◌⊎◌, ⊤, ℕ, List, [], ◌∷◌, ◌++◌, All, Contains, Some, slice_get}
 use Rattle.gh_base.specs.declared.atom.Lit.{Lit}
+use Rattle.gh_base.specs.declared.sizes.Sizes.{Sizes}
+use Rattle.gh_base.specs.Atoms.{opposite}
+use Rattle.gh_sat.specs.Rows.{numbered}
+use Rattle.gh_sat.specs.declared.status.Hint.{Hint}
 use Rattle.gh_sat.specs.declared.trail.Step.{Step}
 use Rattle.gh_sat.specs.declared.status.Status.{Status}
 use Rattle.gh_sat.specs.declared.status.Status.TheVariants.{False, Unit as IsOne, Open}
-use Rattle.gh_sat.specs.Trail.{State, IsFree, IsFalseIn, IsUnitIn}
+use Rattle.gh_sat.specs.Trail.{SearchState, IsFree, IsTrueIn, IsFalseIn, IsUnitIn}
 
 -- the clause is false, or unit
 abbrev pub IsBad : List Step → List Lit → Type 0
@@ -15,16 +19,37 @@ IsStatus trail clause False = IsFalseIn trail clause
 IsStatus trail clause (IsOne unit) = IsUnitIn trail clause unit
 IsStatus trail clause (Open hint) = IsBad trail clause → ⊥
 
+-- two literals of the clause that aren't false by what is known, with their numbers
+pub record IsPair (s : Sizes) (known : List Step) (clause : List Lit) (hint : Hint) : Type 0 where
+  pub one : Lit
+  pub other : Lit
+  pub one_in : Contains clause one
+  pub other_in : Contains clause other
+  pub first : numbered s one ≡ hint.first
+  pub second : numbered s other ≡ hint.second
+  pub differ : one ≢ other
+  pub one_open : IsTrueIn known (opposite one) → ⊥
+  pub other_open : IsTrueIn known (opposite other) → ⊥
+
+-- a literal of the clause is true, or its hint has two that aren't false by what is known
+abbrev pub IsGuarded : Sizes → List Step → List Step → List Lit → Hint → Type 0
+IsGuarded s trail known clause hint = ((l : Lit) × Contains clause l × IsTrueIn trail l) ⊎ IsPair s known clause hint
+
+-- where the clause is open, its hint stays or has two literals that aren't false
+abbrev pub IsMoved : Sizes → List Step → List Lit → Hint → Status → Type 0
+IsMoved s trail clause old (Open hint) = IsGuarded s trail trail clause hint × ((hint ≡ old) ⊎ IsPair s trail clause hint)
+IsMoved s trail clause old status = ⊤
+
 -- each atom of the clause has a truth
 abbrev pub IsAssigned : List Step → List Lit → Type 0
 IsAssigned trail clause = All (λ l. IsFree trail l.atom → ⊥) clause
 
 -- each atom of each clause has one
-abbrev pub AreAssigned : State → Type 0
+abbrev pub AreAssigned : SearchState → Type 0
 AreAssigned s = All (IsAssigned s.trail) s.clauses
 
 -- no clause is false or unit
-pub record IsSettled (s : State) : Type 0 where
+pub record IsSettled (s : SearchState) : Type 0 where
   pub no_false : (k : ℕ) (c : List Lit) → slice_get s.clauses k ≡ Some c → IsFalseIn s.trail c → ⊥
   pub no_unit : (k : ℕ) (c : List Lit) (u : Lit) → slice_get s.clauses k ≡ Some c → IsUnitIn s.trail c u → ⊥
 

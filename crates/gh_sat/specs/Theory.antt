@@ -4,7 +4,7 @@ use Rattle.gh_base.specs.declared.atom.Atom.{Atom}
 use Rattle.gh_base.specs.declared.atom.Lit.{Lit}
 use Rattle.gh_base.specs.Atoms.{opposite}
 use Rattle.gh_sat.specs.declared.trail.Step.{Step}
-use Rattle.gh_sat.specs.Trail.{State, IsFalseIn}
+use Rattle.gh_sat.specs.Trail.{SearchState, IsFalseIn}
 use Rattle.gh_sat.specs.Status.{Grows}
 
 -- the opposite of each literal stands asserted
@@ -32,7 +32,7 @@ WereConsistent valid trail starts = (level start : ℕ) → slice_get starts lev
 
 -- literals were only added to the trail, each when it was the one with no truth of a clause whose others are false, and
 -- at most one clause, of the theory, whose number is the answer
-pub record PropagatesBeside (valid : List Lit → Type 0) (old new : State) (answer : Option ℕ) : Type 0 where
+pub record PropagatesBeside (valid : List Lit → Type 0) (old new : SearchState) (answer : Option ℕ) : Type 0 where
   pub sizes : new.sizes ≡ old.sizes
   pub starts : new.starts ≡ old.starts
   pub grows : Grows old.clauses (length old.starts) old.trail new.trail

@@ -13,7 +13,7 @@ pub record Line : Type 0 where
   pub steps : List Step
 
 -- what callers see of a search: `starts` has the place at which level 1, 2, .. begins
-pub record State : Type 0 where
+pub record SearchState : Type 0 where
   pub sizes : Sizes
   pub clauses : List (List Lit)
   pub trail : List Step
@@ -61,15 +61,15 @@ pub record IsReason (clauses : List (List Lit)) (trail : List Step) (i : ℕ) (l
   pub others : All (λ m. (m ≡ lit) ⊎ Stands trail i (opposite m)) clause
 
 -- place i is where the level begins
-abbrev pub IsStart : List ℕ → ℕ → ℕ → Type 0
-IsStart starts level i = (below : ℕ) × (level ≡ suc below) × (slice_get starts below ≡ Some i)
+abbrev pub IsLevelStart : List ℕ → ℕ → ℕ → Type 0
+IsLevelStart starts level i = (below : ℕ) × (level ≡ suc below) × (slice_get starts below ≡ Some i)
 
 abbrev pub IsCaused : List (List Lit) → List Step → List ℕ → ℕ → Lit → ℕ → Option ℕ → Type 0
-IsCaused clauses trail starts i lit level None = IsStart starts level i
+IsCaused clauses trail starts i lit level None = IsLevelStart starts level i
 IsCaused clauses trail starts i lit level (Some k) = IsReason clauses trail i lit k
 
 -- what is true of every search
-pub record IsSound (s : State) : Type 0 where
+pub record IsSound (s : SearchState) : Type 0 where
   pub in_range : All (AreInRange s.sizes) s.clauses
   pub steps : AreSteps (record { sizes = s.sizes; steps = s.trail })
   -- a decision opens its level, and each other literal has its reason
@@ -121,12 +121,12 @@ end_of [] level n = n
 end_of (s ∷ ss) zero n = s
 end_of (s ∷ ss) (suc level) n = end_of ss level n
 
-abbrev pub cut : State → ℕ → State
+abbrev pub cut : SearchState → ℕ → SearchState
 cut s level = record s { trail = take (end_of s.starts level (length s.trail)) s.trail; starts = take level s.starts }
 
 abbrev pub push : Line → Step → Line
 push t x = record t { steps = t.steps ++ x ∷ [] }
 
 -- a level more, opened by its decision
-abbrev pub open_level : State → Lit → State
+abbrev pub open_level : SearchState → Lit → SearchState
 open_level s lit = record s { trail = s.trail ++ (record { lit = lit; level = length s.starts + 1; reason = None }) ∷ []; starts = s.starts ++ length s.trail ∷ [] }

@@ -3,17 +3,19 @@ use Rattle.std.specs.Prelude.{◌≡◌, ◌⊎◌, ℕ, ◌*◌, ◌≤◌, Lis
 use Rattle.gh_base.specs.declared.atom.Lit.{Lit}
 use Rattle.gh_base.specs.Atoms.{count_of}
 use Rattle.gh_sat.specs.declared.trail.Step.{Step}
-use Rattle.gh_sat.specs.Trail.{State, IsFalseIn, IsUnitIn, IsSound, cut}
+use Rattle.gh_sat.specs.Trail.{SearchState, IsFalseIn, IsUnitIn, IsSound, cut}
 use Rattle.gh_sat.specs.Status.{Grows}
-use Rattle.gh_sat.specs.Watch.{AreWatched, AreListed, WereSettled, WereOpen}
+use Rattle.gh_sat.specs.declared.status.Hint.{Hint}
+use Rattle.gh_sat.specs.Watch.{AreGuarded, AreListed, WereGuarded, WereOpen}
 use Rattle.gh_sat.specs.Learn.{IsTop, add_clause}
 
--- `counts` has the number of clauses at the opening of each level, `looked` clauses were looked at, and the trail is
--- propagated up to `head`
-pub record IsWhole (s : State) (counts : List ℕ) (looked head : ℕ) (lists : List (List ℕ)) : Type 0 where
+-- `counts` tells for each level how many clauses had been looked at when it was opened, `looked` clauses were looked at,
+-- and the trail is propagated up to `head`
+pub record IsWhole (s : SearchState) (counts : List ℕ) (looked head : ℕ) (lists : List (List ℕ)) (hints : List Hint) : Type 0 where
   pub sound : IsSound s
-  pub watched : AreWatched s.clauses s.trail head looked []
-  pub settled : WereSettled s.clauses s.trail s.starts counts
+  pub guarded : AreGuarded s.sizes s.clauses hints s.trail head looked
+  pub were_guarded : WereGuarded s.sizes s.clauses hints s.trail s.starts counts
+  pub hinted : length hints ≡ length s.clauses
   pub were_open : WereOpen s
   pub listed : AreListed s.sizes s.clauses lists
   pub long : length lists ≡ 2 * count_of s.sizes
@@ -24,19 +26,19 @@ pub record IsWhole (s : State) (counts : List ℕ) (looked head : ℕ) (lists : 
   pub room : length s.clauses ≤ 4294967294
 
 -- literals were only added to the trail, each when it was the one with no truth of a clause whose others are false
-pub record PropagatesTo (old new : State) : Type 0 where
+pub record PropagatesTo (old new : SearchState) : Type 0 where
   pub sizes : new.sizes ≡ old.sizes
   pub clauses : new.clauses ≡ old.clauses
   pub starts : new.starts ≡ old.starts
   pub grows : Grows old.clauses (length old.starts) old.trail new.trail
 
 -- where the clause that was added last is unit, its literal was added first
-abbrev pub GivesLast : State → List Step → Type 0
+abbrev pub GivesLast : SearchState → List Step → Type 0
 GivesLast s new = (before : List (List Lit)) (c : List Lit) (u : Lit) → s.clauses ≡ before ++ c ∷ [] → IsUnitIn s.trail c u
     → (more : List Step) × (new ≡ s.trail ++ (record { lit = u; level = length s.starts; reason = Some (length before) }) ∷ [] ++ more)
 
 -- a false clause is added last and the trail cut to the greatest level of its literals; any other one is added
-abbrev pub Adds : State → List Lit → State → Type 0
+abbrev pub Adds : SearchState → List Lit → SearchState → Type 0
 Adds old clause new =
     ((top : ℕ) × IsFalseIn old.trail clause × IsTop old.trail clause top × (new ≡ add_clause (cut old top) clause))
     ⊎ ((IsFalseIn old.trail clause → ⊥) × (new ≡ add_clause old clause))

@@ -1,6 +1,6 @@
 //! A search over clauses alone.
 
-ghost use Rattle.std.specs.Prelude.{◌≡◌, ◌≢◌, ℕ, ◌+◌, ◌*◌, ◌-◌, ◌<◌, ◌≤◌, ◌∷◌, ◌++◌, [], Bool, List, length, take, All, IfOk, OnOk, OnErr, IfSome, IfNone, IsTrue, MatchOption, Some, None, slice_get, slice_index_or, vec_capacity, option_copied};
+ghost use Rattle.std.specs.Prelude.{◌≡◌, ◌≢◌, ◌⊎◌, ℕ, ◌+◌, ◌*◌, ◌-◌, ◌<◌, ◌≤◌, ◌∷◌, ◌++◌, [], Bool, List, length, take, All, IfOk, OnOk, OnErr, IfSome, IfNone, IsTrue, MatchOption, Some, None, slice_get, slice_index_or, vec_capacity, option_copied};
 ghost use Rattle.gh_base.specs.declared.atom.Atom.{Atom};
 ghost use Rattle.gh_base.specs.declared.atom.Lit.{Lit};
 ghost use Rattle.gh_base.specs.Atoms.{opposite, IsInRange, AreInRange, count_of};
@@ -43,7 +43,7 @@ pub struct Learner {
     rows: Vec<Row>,
     hints: Vec<Hint>,
     trail: Trail,
-    // The place at which level 1, 2, .. begins, and the number of clauses when it was opened.
+    // The place at which level 1, 2, .. begins, and how many clauses had been looked at when it was opened.
     starts: Vec<u32>,
     counts: Vec<u32>,
     // So many clauses were looked at, and the trail is propagated up to this place.
@@ -59,17 +59,17 @@ pub struct Learner {
 impl Model for Learner {
     ghost use Rattle.std.specs.Prelude.{◌≡◌, ◌≤◌, length, vec_capacity};
     ghost use Rattle.gh_base.specs.Atoms.{count_of};
-    ghost use Rattle.gh_sat.specs.Trail.{State};
+    ghost use Rattle.gh_sat.specs.Trail.{SearchState};
     ghost use Rattle.gh_sat.specs.Learn.{marks_of, IsBounded};
     ghost use Rattle.gh_sat.specs.Rows.{rows_of};
     ghost use Rattle.gh_sat.specs.Whole.{IsWhole};
 
-    ghost Value = { State };
+    ghost Value = { SearchState };
 
     ghost view = { λ s. record { sizes = s.trail.sizes; clauses = s.clauses.items; trail = s.trail.steps; starts = s.starts.items } };
 
     ghost invariant = { λ s.
-        IsWhole (record { sizes = s.trail.sizes; clauses = s.clauses.items; trail = s.trail.steps; starts = s.starts.items }) s.counts.items s.looked s.head s.occurrences
+        IsWhole (record { sizes = s.trail.sizes; clauses = s.clauses.items; trail = s.trail.steps; starts = s.starts.items }) s.counts.items s.looked s.head s.occurrences s.hints.items
         × (count_of s.trail.sizes ≤ vec_capacity s.starts)
         × (count_of s.trail.sizes ≤ vec_capacity s.counts)
         × IsBounded (marks_of s.marks)
@@ -126,7 +126,7 @@ fn cut_to(trail: &mut Trail, starts: &mut Vec<u32>, counts: &mut Vec<u32>, level
     Opening { start, count }
 }
 
-// The row of one more clause, for which there is then room, and a hint for it.
+// The row of one more clause, for which there is then room, and for a hint.
 fn next_row(
     alloc: Global,
     sizes: Sizes,
@@ -138,12 +138,22 @@ fn next_row(
     requires small { count_of sizes ≤ 4294967294 }
     ensures row { IfOk result (λ r. r ≡ row_of sizes clause.now) }
     ensures rows { rows.new.items ≡ rows.old.items }
+    ensures hints { hints.new.items ≡ hints.old.items }
     ensures room { OnOk result (length rows.new.items < vec_capacity rows.new) }
+    ensures hint_room { OnOk result (length hints.new.items < vec_capacity hints.new) }
 {
     let row = Row::new(alloc, sizes, clause.lits())?;
-    hints.push(Hint::default())?;
+    hints.reserve(1)?;
     rows.reserve(1)?;
     Ok(row)
+}
+
+// How many clauses need no look when the trail is cut to a place at which a level is opened: those that were looked at,
+// where all of the trail is known by then.
+fn settled_count(looked: u32, head: u32, length: usize) -> u32
+    ensures { (result ≡ 0) ⊎ ((result ≡ looked) × (head ≡ length)) }
+{
+    if head as usize == length { looked } else { 0 }
 }
 
 // Notes that the atoms of some literals stood in a conflict.
@@ -184,7 +194,7 @@ fn hint_rows(trail: &mut Trail, rows: &[Row], from: usize)
 
 impl Learner {
     ghost use Rattle.gh_base.specs.Grounds.{Problem};
-    ghost use Rattle.gh_sat.specs.Trail.{State, IsFree, IsAssignmentOf, IsSound, cut, open_level};
+    ghost use Rattle.gh_sat.specs.Trail.{SearchState, IsFree, IsAssignmentOf, IsSound, cut, open_level};
     ghost use Rattle.gh_sat.specs.Status.{IsSettled, AreAssigned};
     ghost use Rattle.gh_sat.specs.Watch.{WasOpen};
     ghost use Rattle.gh_sat.specs.Learn.{IsConflict, IsLearnt, AreReasons, add_clause};
@@ -250,6 +260,7 @@ impl Learner {
         let row = next_row(self.alloc, self.trail.sizes(), &clause, rows, hints)?;
         self.clauses.push(clause)?;
         self.rows.push_reserved(row);
+        self.hints.push_reserved(Hint::default());
         Ok(())
     }
 
@@ -284,6 +295,7 @@ impl Learner {
         let row = next_row(self.alloc, self.trail.sizes(), &clause, rows, hints)?;
         self.clauses.push(clause)?;
         self.rows.push_reserved(row);
+        self.hints.push_reserved(Hint::default());
         let (starts, counts) = (&mut self.starts, &mut self.counts);
         let point = cut_to(&mut self.trail, starts, counts, top);
         self.head = point.start;
@@ -376,6 +388,7 @@ impl Learner {
         ensures sound { IsSound self.new }
     {
         let start = self.trail.steps().len() as u32;
+        let count = settled_count(self.looked, self.head, start as usize);
         let level = self.starts.len() as u32 + 1;
         self.trail.put(Step {
             lit,
@@ -383,7 +396,7 @@ impl Learner {
             reason: None,
         });
         self.starts.push_reserved(start);
-        self.counts.push_reserved(self.clauses.len() as u32);
+        self.counts.push_reserved(count);
     }
 
     /// An atom with no truth, if there is one: after some conflicts the one that stood in most and latest of them, else

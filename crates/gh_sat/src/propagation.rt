@@ -1,34 +1,20 @@
 //! Unit propagation by the lists of the clauses in which each literal stands.
 
-ghost use Rattle.std.specs.Prelude.{◌≡◌, ◌+◌, ◌*◌, ◌++◌, ◌∷◌, ◌<◌, ◌≤◌, ℕ, [], List, All, Contains, Some, None, IsTrue, IfSome, IfNone, length, slice_get};
+ghost use Rattle.std.specs.Prelude.{◌≡◌, ◌⊎◌, ◌+◌, ◌*◌, ◌++◌, ◌∷◌, ◌<◌, ◌≤◌, ℕ, [], List, All, Contains, Some, None, IsTrue, IfSome, IfNone, length, slice_get, take};
 ghost use Rattle.gh_base.specs.declared.atom.Lit.{Lit};
-ghost use Rattle.gh_base.specs.Atoms.{AreInRange, count_of};
+ghost use Rattle.gh_base.specs.Atoms.{AreInRange, count_of, opposite};
+ghost use Rattle.gh_sat.specs.declared.status.Hint.{Hint};
 ghost use Rattle.gh_sat.specs.declared.trail.Step.{Step};
 ghost use Rattle.gh_sat.specs.Trail.{IsFalseIn, IsUnitIn, AreSteps};
-ghost use Rattle.gh_sat.specs.Rows.{rows_of};
-ghost use Rattle.gh_sat.specs.Status.{IsBad, Grows, IsFalseClause};
-ghost use Rattle.gh_sat.specs.Watch.{AreWatched, AreListed};
+ghost use Rattle.gh_sat.specs.Rows.{numbered, rows_of};
+ghost use Rattle.gh_sat.specs.Status.{IsBad, IsGuarded, Grows, IsFalseClause};
+ghost use Rattle.gh_sat.specs.Watch.{AreGuarded, AreVisited, AreListed, MoveHints};
 
 use crate::occurrences::Occurrences;
-use crate::rows::Row;
-use crate::status::{Hint, Status, status_of};
+use crate::rows::{Numbered, Row};
+use crate::status::{Hint, Status, needs_no_look, status_of};
 use crate::trail::{Step, Trail};
 use gh_base::clause::Clause;
-
-// The hint of a clause.
-fn hint_at(hints: &[Hint], k: u32) -> Hint {
-    match hints.get(k as usize) {
-        None => Hint::default(),
-        Some(hint) => *hint,
-    }
-}
-
-// Keeps the hint of a clause, if there is room for it.
-fn keep_hint(hints: &mut [Hint], k: u32, hint: Hint) {
-    if (k as usize) < hints.len() {
-        hints[k as usize] = hint;
-    }
-}
 
 // Looks at a clause, and puts its literal on the trail if it is unit. Answers whether it is false.
 fn look(
@@ -41,18 +27,21 @@ fn look(
 ) -> bool
     requires range { All (AreInRange trail.old.sizes) clauses.now }
     requires rows { rows.now ≡ rows_of trail.old.sizes clauses.now }
+    requires hinted { length hints.old ≡ length clauses.now }
     requires within { k < length clauses.now }
     requires valid { AreSteps trail.old }
     ensures valid { AreSteps trail.new }
     ensures sizes { trail.new.sizes ≡ trail.old.sizes }
     ensures grows { Grows clauses.now level trail.old.steps trail.new.steps }
+    ensures moves { MoveHints trail.old.sizes clauses.now trail.old.steps hints.old hints.new }
     ensures if_false { IsTrue result → IsFalseClause clauses.now trail.new.steps k }
-    ensures good { (c : List Lit) → slice_get clauses.now k ≡ Some c → IsBad trail.new.steps c → IsTrue result }
+    ensures guarded { (c : List Lit) (h : Hint) → slice_get clauses.now k ≡ Some c → slice_get hints.new k ≡ Some h
+        → IsTrue result ⊎ IsGuarded trail.old.sizes trail.new.steps trail.new.steps c h }
     ensures unit { (c : List Lit) (u : Lit) → slice_get clauses.now k ≡ Some c → IsUnitIn trail.old.steps c u
         → trail.new.steps ≡ trail.old.steps ++ (record { lit = u; level = level; reason = Some k }) ∷ [] }
 {
     let (lits, row) = (clauses[k as usize].lits(), rows[k as usize].lits());
-    match status_of(trail, lits, row, hint_at(hints, k)) {
+    match status_of(trail, lits, row, hints[k as usize]) {
         Status::False => true,
         Status::Unit(lit) => {
             trail.put(Step {
@@ -63,7 +52,7 @@ fn look(
             false
         }
         Status::Open(hint) => {
-            keep_hint(hints, k, hint);
+            hints[k as usize] = hint;
             false
         }
     }
@@ -80,10 +69,12 @@ fn look_at_last(
     requires range { All (AreInRange trail.old.sizes) clauses.now }
     requires rows { rows.now ≡ rows_of trail.old.sizes clauses.now }
     requires count { length clauses.now ≤ 4294967294 }
+    requires hinted { length hints.old ≡ length clauses.now }
     requires valid { AreSteps trail.old }
     ensures valid { AreSteps trail.new }
     ensures sizes { trail.new.sizes ≡ trail.old.sizes }
     ensures grows { Grows clauses.now level trail.old.steps trail.new.steps }
+    ensures moves { MoveHints trail.old.sizes clauses.now trail.old.steps hints.old hints.new }
     ensures conflict { IfSome result (λ k. IsFalseClause clauses.now trail.new.steps k) }
     ensures last { (before : List (List Lit)) (c : List Lit) (u : Lit) → clauses.now ≡ before ++ c ∷ [] → IsUnitIn trail.old.steps c u
         → trail.new.steps ≡ trail.old.steps ++ (record { lit = u; level = level; reason = Some (length before) }) ∷ [] }
@@ -108,13 +99,15 @@ fn look_at_new(
     requires rows { rows.now ≡ rows_of trail.old.sizes clauses.now }
     requires count { length clauses.now ≤ 4294967294 }
     requires looked { looked.old ≤ length clauses.now }
+    requires hinted { length hints.old ≡ length clauses.now }
     requires valid { AreSteps trail.old }
     ensures valid { AreSteps trail.new }
     ensures sizes { trail.new.sizes ≡ trail.old.sizes }
     ensures grows { Grows clauses.now level trail.old.steps trail.new.steps }
+    ensures moves { MoveHints trail.old.sizes clauses.now trail.old.steps hints.old hints.new }
     ensures looked { looked.new ≤ length clauses.now }
-    ensures watched { (head : ℕ) → head ≤ length trail.old.steps → AreWatched clauses.now trail.old.steps head looked.old []
-        → AreWatched clauses.now trail.new.steps head looked.new [] }
+    ensures guarded { (head : ℕ) → head ≤ length trail.old.steps → AreGuarded trail.old.sizes clauses.now hints.old trail.old.steps head looked.old
+        → AreGuarded trail.old.sizes clauses.now hints.new trail.new.steps head looked.new }
     ensures conflict { IfSome result (λ k. IsFalseClause clauses.now trail.new.steps k) }
     ensures all { IfNone result (looked.new ≡ length clauses.now) }
 {
@@ -127,28 +120,62 @@ fn look_at_new(
     None
 }
 
-// Looks at the clauses of a list, up to one that is false. A number that is no clause's is left out.
+// Looks at a clause with a literal that has become false, unless its hint tells enough.
+fn visit_one(
+    clauses: &[Clause],
+    rows: &[Row],
+    hints: &mut [Hint],
+    trail: &mut Trail,
+    k: u32,
+    gone: Numbered,
+    level: u32,
+) -> bool
+    requires range { All (AreInRange trail.old.sizes) clauses.now }
+    requires rows { rows.now ≡ rows_of trail.old.sizes clauses.now }
+    requires hinted { length hints.old ≡ length clauses.now }
+    requires within { k < length clauses.now }
+    requires valid { AreSteps trail.old }
+    ensures valid { AreSteps trail.new }
+    ensures sizes { trail.new.sizes ≡ trail.old.sizes }
+    ensures grows { Grows clauses.now level trail.old.steps trail.new.steps }
+    ensures moves { MoveHints trail.old.sizes clauses.now trail.old.steps hints.old hints.new }
+    ensures if_false { IsTrue result → IsFalseClause clauses.now trail.new.steps k }
+    ensures guarded { (head looked : ℕ) (x : Step) (c : List Lit) (h : Hint) → k < looked → slice_get trail.old.steps head ≡ Some x → numbered trail.old.sizes (opposite x.lit) ≡ gone
+        → AreGuarded trail.old.sizes clauses.now hints.old trail.old.steps head looked → slice_get clauses.now k ≡ Some c → slice_get hints.new k ≡ Some h
+        → IsTrue result ⊎ IsGuarded trail.old.sizes trail.new.steps (take (head + 1) trail.new.steps) c h }
+{
+    if needs_no_look(trail, hints[k as usize], gone) {
+        return false;
+    }
+    look(clauses, rows, hints, trail, k, level)
+}
+
+// Visits the clauses of a list, up to one that is false. A number that is no clause's is left out.
 fn visit(
     clauses: &[Clause],
     rows: &[Row],
     hints: &mut [Hint],
     trail: &mut Trail,
     list: &[u32],
+    gone: Numbered,
     level: u32,
 ) -> Option<u32>
     requires range { All (AreInRange trail.old.sizes) clauses.now }
     requires rows { rows.now ≡ rows_of trail.old.sizes clauses.now }
+    requires hinted { length hints.old ≡ length clauses.now }
     requires valid { AreSteps trail.old }
     ensures valid { AreSteps trail.new }
     ensures sizes { trail.new.sizes ≡ trail.old.sizes }
     ensures grows { Grows clauses.now level trail.old.steps trail.new.steps }
+    ensures moves { MoveHints trail.old.sizes clauses.now trail.old.steps hints.old hints.new }
     ensures conflict { IfSome result (λ k. IsFalseClause clauses.now trail.new.steps k) }
-    ensures watched { IfNone result ((head looked : ℕ) → head ≤ length trail.old.steps → AreWatched clauses.now trail.old.steps head looked list.now
-        → AreWatched clauses.now trail.new.steps head looked []) }
+    ensures visited { IfNone result ((head looked : ℕ) (x : Step) → slice_get trail.old.steps head ≡ Some x → numbered trail.old.sizes (opposite x.lit) ≡ gone
+        → AreGuarded trail.old.sizes clauses.now hints.old trail.old.steps head looked → AreVisited trail.old.sizes clauses.now hints.old trail.old.steps head looked list.now
+        → AreVisited trail.old.sizes clauses.now hints.new trail.new.steps head looked []) }
 {
     for j in 0..list.len() {
         let k = list[j];
-        if (k as usize) < clauses.len() && look(clauses, rows, hints, trail, k, level) {
+        if (k as usize) < clauses.len() && visit_one(clauses, rows, hints, trail, k, gone, level) {
             return Some(k);
         }
     }
@@ -167,6 +194,7 @@ fn follow(
 ) -> Option<u32>
     requires range { All (AreInRange trail.old.sizes) clauses.now }
     requires rows { rows.now ≡ rows_of trail.old.sizes clauses.now }
+    requires hinted { length hints.old ≡ length clauses.now }
     requires head { head.old ≤ length trail.old.steps }
     requires lists { length occurrences.now ≡ 2 * count_of trail.old.sizes }
     requires listed { AreListed trail.old.sizes clauses.now occurrences.now }
@@ -174,16 +202,18 @@ fn follow(
     ensures valid { AreSteps trail.new }
     ensures sizes { trail.new.sizes ≡ trail.old.sizes }
     ensures grows { Grows clauses.now level trail.old.steps trail.new.steps }
+    ensures moves { MoveHints trail.old.sizes clauses.now trail.old.steps hints.old hints.new }
     ensures head { head.new ≤ length trail.new.steps }
-    ensures watched { (looked : ℕ) → AreWatched clauses.now trail.old.steps head.old looked []
-        → AreWatched clauses.now trail.new.steps head.new looked [] }
+    ensures guarded { (looked : ℕ) → AreGuarded trail.old.sizes clauses.now hints.old trail.old.steps head.old looked
+        → AreGuarded trail.old.sizes clauses.now hints.new trail.new.steps head.new looked }
     ensures conflict { IfSome result (λ k. IsFalseClause clauses.now trail.new.steps k) }
     ensures all { IfNone result (head.new ≡ length trail.new.steps) }
 {
     while trail.steps().len() > *head as usize {
         let lit = trail.steps()[*head as usize].lit.negated();
+        let gone = Numbered::of(trail.sizes(), lit);
         let list = occurrences.of(trail.sizes(), lit);
-        let conflict = visit(clauses, rows, hints, trail, list, level);
+        let conflict = visit(clauses, rows, hints, trail, list, gone, level);
         if conflict.is_some() {
             return conflict;
         }
@@ -207,18 +237,20 @@ pub fn propagate(
     requires range { All (AreInRange trail.old.sizes) clauses.now }
     requires rows { rows.now ≡ rows_of trail.old.sizes clauses.now }
     requires count { length clauses.now ≤ 4294967294 }
+    requires hinted { length hints.old ≡ length clauses.now }
     requires looked { looked.old ≤ length clauses.now }
     requires head { head.old ≤ length trail.old.steps }
     requires lists { length occurrences.now ≡ 2 * count_of trail.old.sizes }
     requires listed { AreListed trail.old.sizes clauses.now occurrences.now }
     requires valid { AreSteps trail.old }
-    requires watched { AreWatched clauses.now trail.old.steps head.old looked.old [] }
+    requires guarded { AreGuarded trail.old.sizes clauses.now hints.old trail.old.steps head.old looked.old }
     ensures valid { AreSteps trail.new }
     ensures sizes { trail.new.sizes ≡ trail.old.sizes }
     ensures grows { Grows clauses.now level trail.old.steps trail.new.steps }
     ensures looked { looked.new ≤ length clauses.now }
     ensures head { head.new ≤ length trail.new.steps }
-    ensures watched { AreWatched clauses.now trail.new.steps head.new looked.new [] }
+    ensures moves { MoveHints trail.old.sizes clauses.now trail.old.steps hints.old hints.new }
+    ensures guarded { AreGuarded trail.old.sizes clauses.now hints.new trail.new.steps head.new looked.new }
     ensures conflict { IfSome result (λ k. IsFalseClause clauses.now trail.new.steps k) }
     ensures settled { IfNone result ((k : ℕ) (c : List Lit) → slice_get clauses.now k ≡ Some c → IsBad trail.new.steps c → ⊥) }
     ensures last { (before : List (List Lit)) (c : List Lit) (u : Lit) → clauses.now ≡ before ++ c ∷ [] → IsUnitIn trail.old.steps c u

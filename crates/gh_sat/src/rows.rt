@@ -18,8 +18,8 @@ pub struct Numbered {
 }
 
 impl Numbered {
-    // The literal by its number.
-    fn of(sizes: Sizes, lit: Lit) -> Numbered
+    /// The literal by its number.
+    pub fn of(sizes: Sizes, lit: Lit) -> Numbered
         requires range { IsInRange sizes lit.atom }
         requires small { count_of sizes ≤ 4294967294 }
         ensures { result ≡ numbered sizes lit }

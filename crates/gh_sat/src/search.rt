@@ -4,7 +4,7 @@ ghost use Rattle.std.specs.Prelude.{◌≡◌, ◌⊎◌, ℕ, ◌≤◌, ◌<�
 ghost use Rattle.gh_base.specs.declared.atom.Atom.{Atom};
 ghost use Rattle.gh_base.specs.declared.atom.Lit.{Lit};
 ghost use Rattle.gh_base.specs.Atoms.{IsInRange, AreInRange};
-ghost use Rattle.gh_sat.specs.Trail.{State, IsFree, IsFalseIn, IsAssignmentOf, IsSound, cut, open_level};
+ghost use Rattle.gh_sat.specs.Trail.{SearchState, IsFree, IsFalseIn, IsAssignmentOf, IsSound, cut, open_level};
 ghost use Rattle.gh_sat.specs.Status.{IsSettled, AreAssigned};
 ghost use Rattle.gh_sat.specs.Learn.{IsConflict, IsLearnt, AreReasons, add_clause};
 ghost use Rattle.gh_sat.specs.Whole.{GivesLast, Adds};
@@ -29,10 +29,10 @@ pub struct Search<T: Theory> {
 
 impl<T: Theory> Model for Search<T> {
     ghost use Rattle.std.specs.Prelude.{◌≡◌};
-    ghost use Rattle.gh_sat.specs.Trail.{State};
+    ghost use Rattle.gh_sat.specs.Trail.{SearchState};
     ghost use Rattle.gh_sat.specs.Theory.{IsTold, WereConsistent};
 
-    ghost Value = { State };
+    ghost Value = { SearchState };
 
     ghost view = { λ s. s.learner };
 

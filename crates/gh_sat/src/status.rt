@@ -1,21 +1,23 @@
 //! What a clause is under a trail.
 
-ghost use Rattle.std.specs.Prelude.{◌≡◌, ◌≢◌, ◌⊎◌, IsTrue, IfSome, IfNone, Some, slice_get};
+ghost use Rattle.std.specs.Prelude.{◌≡◌, ℕ, ◌+◌, List, IsTrue, Some, slice_get, take};
 ghost use Rattle.gh_base.specs.declared.atom.Lit.{Lit};
-ghost use Rattle.gh_base.specs.Atoms.{AreInRange, IsInRange};
+ghost use Rattle.gh_base.specs.Atoms.{AreInRange, IsInRange, opposite};
+ghost use Rattle.gh_sat.specs.declared.trail.Step.{Step};
 ghost use Rattle.gh_sat.specs.Rows.{numbered, row_of};
-ghost use Rattle.gh_sat.specs.Status.{IsBad, IsStatus};
-ghost use Rattle.gh_sat.specs.Trail.{IsTrueIn, IsFree, AreSteps};
+ghost use Rattle.gh_sat.specs.Status.{IsStatus, IsGuarded, IsMoved};
+ghost use Rattle.gh_sat.specs.Trail.{IsTrueIn};
 
 use crate::rows::Numbered;
 use crate::trail::Trail;
 use gh_base::atom::Lit;
 
-/// Two places of a clause whose literals are looked at before the others.
+/// Two literals of a clause that weren't false when they were taken. As long as neither of them has become false since,
+/// the clause is neither false nor unit.
 #[derive(Clone, Copy, Debug, Default, PartialEq, Eq)]
 pub struct Hint {
-    pub first: usize,
-    pub second: usize,
+    pub first: Numbered,
+    pub second: Numbered,
 }
 
 /// What a clause is, taken as the set of its literals.
@@ -25,82 +27,64 @@ pub enum Status {
     False,
     /// One literal has no truth, and the others are false.
     Unit(Lit),
-    /// Neither; the places show it.
+    /// Neither, with the hint to keep.
     Open(Hint),
 }
 
-// Whether a literal is true, or both are without truth and not one.
-fn are_open(trail: &Trail, first: Numbered, second: Numbered) -> bool
-    requires first { (l : Lit) × IsInRange trail.now.sizes l.atom × (first ≡ numbered trail.now.sizes l) }
-    requires second { (l : Lit) × IsInRange trail.now.sizes l.atom × (second ≡ numbered trail.now.sizes l) }
-    ensures valid { AreSteps trail.now }
-    ensures open { IsTrue result → (l m : Lit) → IsInRange trail.now.sizes l.atom → IsInRange trail.now.sizes m.atom → first ≡ numbered trail.now.sizes l → second ≡ numbered trail.now.sizes m
-        → IsTrueIn trail.now.steps l ⊎ (IsTrueIn trail.now.steps m ⊎ (IsFree trail.now.steps l.atom × IsFree trail.now.steps m.atom × (l ≢ m))) }
+// Whether a literal is false.
+fn is_false(trail: &Trail, lit: Numbered) -> bool
+    requires { (l : Lit) × IsInRange trail.now.sizes l.atom × (lit ≡ numbered trail.now.sizes l) }
+    ensures yes { IsTrue result → (l : Lit) → IsInRange trail.now.sizes l.atom → lit ≡ numbered trail.now.sizes l → IsTrueIn trail.now.steps (opposite l) }
+    ensures no { (IsTrue result → ⊥) → (l : Lit) → IsInRange trail.now.sizes l.atom → lit ≡ numbered trail.now.sizes l → IsTrueIn trail.now.steps (opposite l) → ⊥ }
 {
-    match trail.truth(first) {
-        Some(true) => true,
-        Some(false) => trail.truth(second).unwrap_or(false),
-        None => match trail.truth(second) {
-            Some(truth) => truth,
-            None => !first.is_same(second),
-        },
+    match trail.truth(lit) {
+        None => false,
+        Some(truth) => !truth,
     }
 }
 
-// Whether the literals at two places show that a clause is neither false nor unit.
-fn shows_open(trail: &Trail, clause: &[Lit], row: &[Numbered], hint: Hint) -> bool
-    requires range { AreInRange trail.now.sizes clause.now }
-    requires row { row.now ≡ row_of trail.now.sizes clause.now }
-    ensures { IsTrue result → IsBad trail.now.steps clause.now → ⊥ }
-{
-    let (first, second) = (hint.first, hint.second);
-    if first >= row.len() {
-        return false;
-    }
-    if second >= row.len() {
-        return false;
-    }
-    are_open(trail, row[first], row[second])
-}
-
-// The status of a clause, all of whose literals are looked at.
-fn scan(trail: &Trail, clause: &[Lit], row: &[Numbered]) -> Status
-    requires range { AreInRange trail.now.sizes clause.now }
-    requires row { row.now ≡ row_of trail.now.sizes clause.now }
-    ensures { IsStatus trail.now.steps clause.now result }
-{
-    let mut unit: Option<usize> = None;
-    for place in 0..row.len() {
-        match trail.truth(row[place]) {
-            Some(true) => return Status::Open(Hint {
-                first: place,
-                second: place,
-            }),
-            Some(false) => {}
-            None => match unit {
-                None => unit = Some(place),
-                Some(other) if row[other].is_same(row[place]) => {}
-                Some(other) => return Status::Open(Hint {
-                    first: other,
-                    second: place,
-                }),
-            },
-        }
-    }
-    match unit {
-        None => Status::False,
-        Some(place) => Status::Unit(clause[place]),
-    }
-}
-
-/// The status of a clause. The literals at two places are looked at first.
+/// The status of a clause. Where two of its literals aren't false, the first two such ones are its hint from now on, else
+/// the hint stays.
 pub fn status_of(trail: &Trail, clause: &[Lit], row: &[Numbered], hint: Hint) -> Status
     requires range { AreInRange trail.now.sizes clause.now }
     requires row { row.now ≡ row_of trail.now.sizes clause.now }
-    ensures { IsStatus trail.now.steps clause.now result }
+    ensures status { IsStatus trail.now.steps clause.now result }
+    ensures moved { IsMoved trail.now.sizes trail.now.steps clause.now hint result }
 {
-    if shows_open(trail, clause, row, hint) {
-        return Status::Open(hint);
+    let mut found: Option<usize> = None;
+    for place in 0..row.len() {
+        if !is_false(trail, row[place]) {
+            match found {
+                None => found = Some(place),
+                Some(other) if row[other].is_same(row[place]) => {}
+                Some(other) => return Status::Open(Hint {
+                    first: row[other],
+                    second: row[place],
+                }),
+            }
+        }
     }
-    scan(trail, clause, row)
+    let Some(place) = found else {
+        return Status::False;
+    };
+    match trail.truth(row[place]) {
+        None => Status::Unit(clause[place]),
+        Some(true) => Status::Open(hint),
+        Some(false) => Status::False,
+    }
+}
+
+/// Whether a clause needs no look when a literal has become false: one of the two literals of its hint is true, or the
+/// one that is false now is neither of them.
+pub fn needs_no_look(trail: &Trail, hint: Hint, gone: Numbered) -> bool
+    ensures { IsTrue result → (head : ℕ) (x : Step) (clause : List Lit) → AreInRange trail.now.sizes clause → slice_get trail.now.steps head ≡ Some x → numbered trail.now.sizes (opposite x.lit) ≡ gone
+        → IsGuarded trail.now.sizes trail.now.steps (take head trail.now.steps) clause hint → IsGuarded trail.now.sizes trail.now.steps (take (head + 1) trail.now.steps) clause hint }
+{
+    if hint.first.is_same(gone) {
+        return trail.is_true(hint.second);
+    }
+    if hint.second.is_same(gone) {
+        return trail.is_true(hint.first);
+    }
+    true
 }

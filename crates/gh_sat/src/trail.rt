@@ -1,6 +1,6 @@
 //! The trail: the literals that are true, in the order in which they became so.
 
-ghost use Rattle.std.specs.Prelude.{◌≡◌, ◌≢◌, ◌<◌, ◌≤◌, ℕ, IfOk, IfSome, IfNone, Some, None, [], length, take, slice_get, vec_capacity};
+ghost use Rattle.std.specs.Prelude.{◌≡◌, ◌≢◌, ◌<◌, ◌≤◌, ℕ, IsTrue, IfOk, IfSome, IfNone, Some, None, [], length, take, slice_get, vec_capacity};
 ghost use Rattle.gh_base.specs.Atoms.{IsInRange, count_of, number_of};
 ghost use Rattle.gh_sat.specs.Trail.{IsPassed, turned};
 
@@ -129,7 +129,7 @@ impl Trail {
     ghost use Rattle.gh_sat.specs.declared.trail.Step.{Step};
     ghost use Rattle.gh_base.specs.declared.atom.Lit.{Lit};
     ghost use Rattle.gh_sat.specs.Rows.{numbered};
-    ghost use Rattle.gh_sat.specs.Trail.{Line, IsFree, IsValue, AreSteps, IsAssignmentOf, push};
+    ghost use Rattle.gh_sat.specs.Trail.{Line, IsFree, IsTrueIn, IsValue, AreSteps, IsAssignmentOf, push};
 
     /// A trail with no step.
     pub fn new(alloc: Global, sizes: Sizes) -> Result<Trail, AllocError>
@@ -188,6 +188,21 @@ impl Trail {
         match self.values.values()[lit.number as usize] {
             None => None,
             Some(truth) => Some(truth == lit.positive),
+        }
+    }
+
+    /// Whether a literal is true, by a number that may be no atom's.
+    pub fn is_true(&self, lit: Numbered) -> bool
+        ensures yes { IsTrue result → (l : Lit) → IsInRange self.now.sizes l.atom → lit ≡ numbered self.now.sizes l → IsTrueIn self.now.steps l }
+        ensures valid { AreSteps self.now }
+    {
+        let values = self.values.values();
+        if lit.number as usize >= values.len() {
+            return false;
+        }
+        match values[lit.number as usize] {
+            None => false,
+            Some(truth) => truth == lit.positive,
         }
     }
 

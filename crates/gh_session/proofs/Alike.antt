@@ -8,7 +8,7 @@ use Rattle.gh_ast.proofs.Lists.{one_value}
 use Rattle.gh_path.specs.Conditions.{Condition}
 use Rattle.gh_path.specs.declared.condition.Condition as kept
 use Rattle.gh_trace.specs.Traces.{State, Counterexample, IsTrace, last_state}
-use Rattle.gh_trace.specs.Kept.{IsKept}
+use Rattle.gh_trace.specs.Kept.{IsOfProgram}
 use Rattle.gh_session.specs.Essences.{Essence, essence, callees_in, callees_at, loops_from, loops_in, loops_at, procedures_of, rounds_of}
 use Rattle.gh_session.specs.Meaning as of
 use Rattle.gh_session.specs.Laws.{Decides, EssencesDecide, EssencesAnswer, SameCounterexamples, SameAnswers}
@@ -16,7 +16,7 @@ use Rattle.gh_session.proofs.Placing.{listed_keeps, listed_has}
 use Rattle.gh_session.proofs.LoopNames.{loops_are_over}
 use Rattle.gh_session.proofs.Deciding.{Knows, knows, traces, SamePasses, passes, SameStarts, starts}
 
-decided : (P : Program) (r : kept.Condition) (c : Condition) → IsTyped P → IsKept P r c → Decides P c (essence P c.procedure r)
+decided : (P : Program) (r : kept.Condition) (c : Condition) → IsTyped P → IsOfProgram P r c → Decides P c (essence P c.procedure r)
 decided P r c typed kept = record {
   traces = both;
   drawn = λ xs. (

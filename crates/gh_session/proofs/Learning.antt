@@ -13,7 +13,7 @@ use Rattle.gh_trace.specs.Kept.{drawn_of, HasNoCounterexample, HasCounterexample
 use Rattle.gh_trace.specs.Replay.{Drawn}
 use Rattle.gh_trace.specs.declared.state.Trace.{Trace}
 use Rattle.gh_session.specs.Essences.{Essence}
-use Rattle.gh_session.specs.Meaning.{Refutes, IsValid}
+use Rattle.gh_session.specs.Meaning.{RefutesEssence, IsValid}
 use Rattle.gh_session.specs.Laws.{HasEssence}
 use Rattle.gh_session.specs.Fingerprint.{fingerprint}
 use Rattle.gh_session.specs.Views.{essence_view}
@@ -91,7 +91,7 @@ answered_by P r E (Some t) has right = record { none = record {}; some = ((essen
 pub answered : (P : Program) (r : kept_condition.Condition) (E F : Essence) (a b : Option Trace) → HasEssence P r E → F ≡ E → IsRight (known F b) → option_map drawn_of a ≡ option_map drawn_of b → Answers P r a
 answered P r E F a b has same right copied =
     let one : IsRight (known E b) = subst (λ G. IsRight (known G b)) same right in
-    answered_by P r E a has (subst (λ o. MatchOption o (IsValid E) (Refutes E)) (sym copied) one)
+    answered_by P r E a has (subst (λ o. MatchOption o (IsValid E) (RefutesEssence E)) (sym copied) one)
 
 pub right_of : (P : Program) (r : kept_condition.Condition) (E : Essence) (a : Option Trace) → HasEssence P r E → IfNone a (HasNoCounterexample P r) → IfSome a (λ t. HasCounterexample P r (drawn_of t)) → IsRight (known E a)
 right_of P r E None has none some = (essences_answer P r E has).none.0 none

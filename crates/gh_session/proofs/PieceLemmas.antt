@@ -7,7 +7,7 @@ use Rattle.gh_session.specs.declared.edits.Edit.{Edit}
 use Rattle.gh_session.specs.declared.edits.Edits.{Edits}
 use Rattle.gh_session.specs.declared.lines.Part.{Part}
 use Rattle.gh_session.specs.declared.error.SessionError.TheVariants.{Line, TooMany}
-use Rattle.gh_session.specs.Lines.{lines, IsSeparator, IsMarked, ArePlain, IsPiece, ArePieces, IsRead, IsSession, Stops, IsRefused}
+use Rattle.gh_session.specs.Lines.{lines, IsSeparator, IsMarked, ArePlain, IsPiece, ArePieces, AreSessionLines, IsSession, Stops, IsFirstBad}
 use Rattle.gh_session.specs.Parts.{IsBefore, IsFirstPart, IsReadBefore}
 
 pieces_more : (es : List Edit) (ls : List (List ℕ)) (e : Edit) (own : List (List ℕ)) → ArePieces es ls → IsPiece e own → ArePieces (es ++ e ∷ []) (ls ++ own)
@@ -64,12 +64,12 @@ stops text head es number rest n is first = record {
 }
 
 pub is_bad : (text head : List ℕ) (es : List Edit) (number : ℕ) (rest : List ℕ) (n : ℕ) → IsReadBefore text head es number rest → lines rest ≡ take n rest ∷ lines (drop n rest) →
-    ((asks : Bool) (name : Name) → IsSeparator (take n rest) asks name → ⊥) → IsRefused text (Line (number + 1))
+    ((asks : Bool) (name : Name) → IsSeparator (take n rest) asks name → ⊥) → IsFirstBad text (Line (number + 1))
 is_bad text head es number rest n is first none = (take n rest, es, stops text head es number rest n is first, (is.next (take n rest) (lines (drop n rest)) first, none))
 
 pub is_too_many : (text head : List ℕ) (es : List Edit) (number : ℕ) (rest : List ℕ) (n : ℕ) (asks : Bool) (name : Name) → IsReadBefore text head es number rest → lines rest ≡ take n rest ∷ lines (drop n rest) →
-    IsSeparator (take n rest) asks name → length es ≡ 256 → IsRefused text (TooMany (number + 1))
+    IsSeparator (take n rest) asks name → length es ≡ 256 → IsFirstBad text (TooMany (number + 1))
 is_too_many text head es number rest n asks name is first separated most = (take n rest, es, asks, name, stops text head es number rest n is first, most, separated)
 
 pub all_read : (text : List ℕ) (s : Edits) (number : ℕ) (rest : List ℕ) → IsReadBefore text s.head s.edits.items number rest → rest ≡ [] → IsSession text s
-all_read text s number rest is none = subst (IsRead s.head s.edits.items) (sym (is.whole ∙ ap (λ xs. is.before ++ lines xs) none ∙ append-nil is.before)) is.read
+all_read text s number rest is none = subst (AreSessionLines s.head s.edits.items) (sym (is.whole ∙ ap (λ xs. is.before ++ lines xs) none ∙ append-nil is.before)) is.read

@@ -23,7 +23,7 @@ use Rattle.gh_path.specs.declared.condition.Start.TheVariants as start
 use Rattle.gh_path.specs.declared.condition.CheckKind as kept_kind
 use Rattle.gh_path.specs.declared.condition.CheckKind.TheVariants as kind
 use Rattle.gh_path.specs.declared.condition.Condition as kept_condition
-use Rattle.gh_trace.specs.Kept.{IsKept}
+use Rattle.gh_trace.specs.Kept.{IsOfProgram}
 use Rattle.gh_session.specs.Numbering.{listed, place}
 use Rattle.gh_session.specs.Essences as essences
 use Rattle.gh_session.specs.Essences.{Step, Start, Check, Essence, contract_of, round_of, no_contract, no_round, callees_in, callees_at, loops_from, loops_in, loops_at, procedures_of, rounds_of, start_in, step_in, check_in, essence}
@@ -244,7 +244,7 @@ record Matches (r s : kept_condition.Condition) : Type 0 where
   steps : (ps ls : List ℕ) → map (step_in ps ls) r.steps.items ≡ map (step_in ps ls) s.steps.items
   check : (ps ls : List ℕ) → check_in ps ls r.check.kind ≡ check_in ps ls s.check.kind
 
-matches : (P : Program) (r s : kept_condition.Condition) (c : Condition) → IsTyped P → Differ c.procedure → IsKept P r c → IsKept P s c → Matches r s
+matches : (P : Program) (r s : kept_condition.Condition) (c : Condition) → IsTyped P → Differ c.procedure → IsOfProgram P r c → IsOfProgram P s c → Matches r s
 matches P r s c typed d h k =
     let own = procedure_once P r.procedure s.procedure c.procedure typed h.stands.procedure k.stands.procedure in
     let steps = all_alike P c.procedure r.steps.items s.steps.items c.way.steps d h.stands.steps k.stands.steps in
@@ -271,7 +271,7 @@ same_essence P p r s m = λ i. record {
 one_some : (p q : Procedure) → Some p ≡ Some q → p ≡ q
 one_some p q e = cc
 
-own_essence : (P : Program) (r : kept_condition.Condition) (c : Condition) (E : Essence) → IsKept P r c → HasEssence P r E → essence P c.procedure r ≡ E
+own_essence : (P : Program) (r : kept_condition.Condition) (c : Condition) (E : Essence) → IsOfProgram P r c → HasEssence P r E → essence P c.procedure r ≡ E
 own_essence P r c E h has =
     let same = one_some c.procedure has.procedure (sym h.stands.procedure ∙ has.at) in
     ap (λ p. essence P p r) same ∙ has.is

@@ -3,7 +3,7 @@ use Rattle.std.specs.Prelude.{◌≡◌, ℕ, ◌+◌, List, [], ◌∷◌, ◌+
 use Rattle.gh_ast.specs.Plain.{Program}
 use Rattle.gh_path.specs.Conditions.{Condition, conditions}
 use Rattle.gh_path.specs.declared.condition.Condition as kept
-use Rattle.gh_trace.specs.Kept.{IsKept, drawn_of}
+use Rattle.gh_trace.specs.Kept.{IsOfProgram, drawn_of}
 use Rattle.gh_trace.specs.Replay.{Refutes}
 use Rattle.gh_trace.specs.Validity.{IsConditionValid, ListedAreValid}
 use Rattle.gh_trace.specs.declared.state.Trace.{Trace}
@@ -37,7 +37,7 @@ asked P (Some r) = take r.number (conditions P)
 
 -- E is the essence of the condition c of P
 abbrev pub IsEssence : Program → Condition → Essence → Type 0
-IsEssence P c E = (r : kept.Condition) × IsKept P r c × HasEssence P r E
+IsEssence P c E = (r : kept.Condition) × IsOfProgram P r c × HasEssence P r E
 
 -- one by one
 abbrev pub AreEssences : Program → List Condition → List Essence → Type 0

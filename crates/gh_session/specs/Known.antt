@@ -7,7 +7,7 @@ use Rattle.gh_trace.specs.Kept.{drawn_of}
 use Rattle.gh_trace.specs.Replay.{Drawn}
 use Rattle.gh_trace.specs.declared.state.Trace.{Trace}
 use Rattle.gh_session.specs.Essences.{Essence}
-use Rattle.gh_session.specs.Meaning.{Refutes, IsValid}
+use Rattle.gh_session.specs.Meaning.{RefutesEssence, IsValid}
 use Rattle.gh_session.specs.Laws.{HasEssence}
 
 -- an essence with a counterexample, or with none
@@ -22,7 +22,7 @@ abbrev pub essences : List Known → List Essence
 essences = map (λ k. k.essence)
 
 abbrev pub IsRight : Known → Type 0
-IsRight k = MatchOption k.answer (IsValid k.essence) (Refutes k.essence)
+IsRight k = MatchOption k.answer (IsValid k.essence) (RefutesEssence k.essence)
 
 abbrev pub AreRight : List Known → Type 0
 AreRight ks = (k : Known) → Contains ks k → IsRight k

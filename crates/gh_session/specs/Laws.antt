@@ -7,7 +7,7 @@ use Rattle.gh_path.specs.Graphs.{Loop}
 use Rattle.gh_path.specs.Kept.{IsLoop}
 use Rattle.gh_path.specs.declared.condition.Condition as kept
 use Rattle.gh_trace.specs.Traces.{State, Counterexample}
-use Rattle.gh_trace.specs.Kept.{IsKept, IsOne, HasCounterexample, HasNoCounterexample}
+use Rattle.gh_trace.specs.Kept.{IsOfProgram, IsOne, HasCounterexample, HasNoCounterexample}
 use Rattle.gh_trace.specs.Replay.{Drawn, Refutes}
 use Rattle.gh_trace.specs.Validity.{IsConditionValid}
 use Rattle.gh_session.specs.Essences.{Essence, essence}
@@ -28,15 +28,15 @@ HasDifferentLoops P = (p : Procedure) → Contains P.procedures p → (i j : ℕ
 -- a condition has one essence, however it is kept
 abbrev pub HaveOneEssence : Type 0
 HaveOneEssence =
-    (P : Program) (r s : kept.Condition) (c : Condition) (E F : Essence) → HasDifferentLoops P → IsKept P r c → IsKept P s c → HasEssence P r E → HasEssence P s F → E ≡ F
+    (P : Program) (r s : kept.Condition) (c : Condition) (E F : Essence) → HasDifferentLoops P → IsOfProgram P r c → IsOfProgram P s c → HasEssence P r E → HasEssence P s F → E ≡ F
 
 -- a condition has the counterexamples of its essence
 pub record Decides (P : Program) (c : Condition) (E : Essence) : Type 0 where
   pub traces : (x : State) (ys : List State) → Counterexample P c.start.meets c.way.steps c.way.check x ys ↔ of_essence.Counterexample E x ys
-  pub drawn : (xs : List Drawn) → Refutes P c xs ↔ of_essence.Refutes E xs
+  pub drawn : (xs : List Drawn) → Refutes P c xs ↔ of_essence.RefutesEssence E xs
 
 abbrev pub EssencesDecide : Type 0
-EssencesDecide = (P : Program) (r : kept.Condition) (E : Essence) (c : Condition) → HasEssence P r E → IsKept P r c → Decides P c E
+EssencesDecide = (P : Program) (r : kept.Condition) (E : Essence) (c : Condition) → HasEssence P r E → IsOfProgram P r c → Decides P c E
 
 -- two conditions, of one program or of two, have the same counterexamples
 pub record AreAlike (P Q : Program) (c d : Condition) : Type 0 where
@@ -47,12 +47,12 @@ pub record AreAlike (P Q : Program) (c d : Condition) : Type 0 where
 
 abbrev pub SameCounterexamples : Type 0
 SameCounterexamples =
-    (P Q : Program) (r s : kept.Condition) (E : Essence) (c d : Condition) → HasEssence P r E → HasEssence Q s E → IsKept P r c → IsKept Q s d → AreAlike P Q c d
+    (P Q : Program) (r s : kept.Condition) (E : Essence) (c d : Condition) → HasEssence P r E → HasEssence Q s E → IsOfProgram P r c → IsOfProgram Q s d → AreAlike P Q c d
 
 -- what is answered for a condition as it is kept is an answer on its essence alone, of which no program is left
 pub record AreAnswers (P : Program) (r : kept.Condition) (E : Essence) : Type 0 where
   pub none : HasNoCounterexample P r ↔ of_essence.IsValid E
-  pub some : (xs : List Drawn) → HasCounterexample P r xs ↔ of_essence.Refutes E xs
+  pub some : (xs : List Drawn) → HasCounterexample P r xs ↔ of_essence.RefutesEssence E xs
 
 abbrev pub EssencesAnswer : Type 0
 EssencesAnswer = (P : Program) (r : kept.Condition) (E : Essence) → HasEssence P r E → AreAnswers P r E

@@ -52,7 +52,7 @@ ArePieces [] ls = ls ≡ []
 ArePieces (e ∷ es) ls = (own : List (List ℕ)) × (more : List (List ℕ)) × (ls ≡ own ++ more) × IsPiece e own × ArePieces es more
 
 -- the lines of a head and of at most 256 pieces
-pub record IsRead (head : List ℕ) (es : List Edit) (ls : List (List ℕ)) : Type 0 where
+pub record AreSessionLines (head : List ℕ) (es : List Edit) (ls : List (List ℕ)) : Type 0 where
   pub first : List (List ℕ)
   pub more : List (List ℕ)
   pub whole : ls ≡ first ++ more
@@ -61,7 +61,7 @@ pub record IsRead (head : List ℕ) (es : List Edit) (ls : List (List ℕ)) : Ty
   pub few : length es ≤ 256
 
 abbrev pub IsSession : List ℕ → Edits → Type 0
-IsSession text s = IsRead s.head s.edits.items (lines text)
+IsSession text s = AreSessionLines s.head s.edits.items (lines text)
 
 -- before line n stand a head and pieces
 pub record Stops (text : List ℕ) (n : ℕ) (here : List ℕ) (es : List Edit) : Type 0 where
@@ -70,10 +70,10 @@ pub record Stops (text : List ℕ) (n : ℕ) (here : List ℕ) (es : List Edit) 
   pub whole : lines text ≡ before ++ here ∷ after
   pub number : n ≡ length before + 1
   pub head : List ℕ
-  pub read : IsRead head es before
+  pub read : AreSessionLines head es before
 
 -- the first line that is bad, or the separator after 256 pieces
-abbrev pub IsRefused : List ℕ → SessionError → Type 0
-IsRefused text (Line n) = (here : List ℕ) × (es : List Edit) × Stops text n here es × IsBad here
-IsRefused text (TooMany n) = (here : List ℕ) × (es : List Edit) × (asks : Bool) × (name : Name) × Stops text n here es × (length es ≡ 256) × IsSeparator here asks name
-IsRefused text OutOfMemory = Unit {0}
+abbrev pub IsFirstBad : List ℕ → SessionError → Type 0
+IsFirstBad text (Line n) = (here : List ℕ) × (es : List Edit) × Stops text n here es × IsBad here
+IsFirstBad text (TooMany n) = (here : List ℕ) × (es : List Edit) × (asks : Bool) × (name : Name) × Stops text n here es × (length es ≡ 256) × IsSeparator here asks name
+IsFirstBad text OutOfMemory = Unit {0}

@@ -64,7 +64,7 @@ pub record Counterexample (E : Essence) (x : State) (ys : List State) : Type 0 w
   pub fails : Passes E E.check (last_state x ys) → ⊥
 
 -- all stores are over the variables, and the states are a counterexample
-pub record Refutes (E : Essence) (xs : List Drawn) : Type 0 where
+pub record RefutesEssence (E : Essence) (xs : List Drawn) : Type 0 where
   pub first : Drawn
   pub others : List Drawn
   pub states : xs ≡ first ∷ others

@@ -2,7 +2,7 @@
 use Rattle.std.specs.Prelude.{◌≡◌, ◌⊎◌, ℕ, ◌+◌, ◌≤◌, List, [], ◌∷◌, ◌++◌, length, Contains}
 use Rattle.gh_session.specs.declared.edits.Edit.{Edit}
 use Rattle.gh_session.specs.declared.lines.Part.{Part}
-use Rattle.gh_session.specs.Lines.{lines, IsMarked, ArePlain, IsRead}
+use Rattle.gh_session.specs.Lines.{lines, IsMarked, ArePlain, AreSessionLines}
 
 -- the line without the line feed that may stand at its end
 pub record IsBare (line bare : List ℕ) : Type 0 where
@@ -26,7 +26,7 @@ pub record IsFirstPart (text : List ℕ) (part : Part) : Type 0 where
 pub record IsReadBefore (text : List ℕ) (head : List ℕ) (es : List Edit) (number : ℕ) (rest : List ℕ) : Type 0 where
   pub before : List (List ℕ)
   pub whole : lines text ≡ before ++ lines rest
-  pub read : IsRead head es before
+  pub read : AreSessionLines head es before
   pub number_is : number ≡ length before
   pub next : IsBefore rest
   pub short : number + length rest ≤ length text

@@ -1,7 +1,7 @@
 //! Session files.
 
 ghost use Rattle.std.specs.Prelude.{◌≡◌, ◌-◌, ◌<◌, ◌^◌, length, IfOk, IfErr};
-ghost use Rattle.gh_session.specs.Lines.{IsSession, IsRefused};
+ghost use Rattle.gh_session.specs.Lines.{IsSession, IsFirstBad};
 
 use crate::edits::{Edit, Edits};
 use crate::error::SessionError;
@@ -24,7 +24,7 @@ fn text_of(alloc: Global, bytes: &[u8]) -> Result<Text, AllocError>
 pub fn read_session(alloc: Global, text: &[u8]) -> Result<Edits, SessionError>
     requires { length text.now < 2 ^ 32 - 1 }
     ensures read { IfOk result (IsSession text.now) }
-    ensures refused { IfErr result (IsRefused text.now) }
+    ensures refused { IfErr result (IsFirstBad text.now) }
 {
     let first = first_part(text);
     let mut rest = first.rest;

@@ -15,7 +15,7 @@ use Rattle.gh_symb.specs.Symbolic.{symbolic_of}
 use Rattle.gh_symb.specs.Formulas.{problem}
 use Rattle.gh_log.specs.declared.lines.Section.{Section}
 use Rattle.gh_trace.specs.Replay.{Drawn, Refutes}
-use Rattle.gh_trace.specs.Kept.{drawn_of, IsKept, IsOne}
+use Rattle.gh_trace.specs.Kept.{drawn_of, IsOfProgram, IsOne}
 use Rattle.gh_trace.specs.declared.state.Trace.{Trace}
 use Rattle.gh_decide.proofs.Parts.{IsGroundOf}
 use Rattle.gh_model.specs.Abstraction.{IsModelOf}
@@ -47,14 +47,14 @@ shows_least P c cells None typed is known e = λ x ys against. omega (arith, e)
 shows_least P c cells (Some s) typed is known h = sections_show P c s.lines.items cells typed is known (omega (arith, h.0)) h.1.valid
 
 module _ (P : Program) (r : kept.Condition) (p : Problem) (f : Fewest) (t : Trace) (typed : IsTyped P) (ground : IsGroundOf P r p) (known : IsProblem p) (is : IsFewest p f)
-    (drawn : (c : Condition) → IsKept P r c → drawn_of t ≡ drawn_over (variable_names c.procedure) (built_trace P c (interpretation_of f.structure))) where
+    (drawn : (c : Condition) → IsOfProgram P r c → drawn_of t ≡ drawn_over (variable_names c.procedure) (built_trace P c (interpretation_of f.structure))) where
   abbrev meaning : Interpretation
   meaning = interpretation_of f.structure
 
-  built : (c : Condition) → IsKept P r c → Refutes P c (drawn_over (variable_names c.procedure) (built_trace P c meaning))
+  built : (c : Condition) → IsOfProgram P r c → Refutes P c (drawn_over (variable_names c.procedure) (built_trace P c meaning))
   built c one = built_is_counterexample P c meaning typed one.there (of_condition P c p meaning (ground c one.stands) is.model.model)
 
-  counted_first : (c : Condition) → IsKept P r c → f.cells ≡ first_cells (drawn_of t)
+  counted_first : (c : Condition) → IsOfProgram P r c → f.cells ≡ first_cells (drawn_of t)
   counted_first c one =
       let refutes = built c one in
       let terms : f.structure.sizes.terms ≡ length (symbolic_of P c).terms = is.model.terms ∙ ap (λ (q : Problem). q.sizes.terms) (ground c one.stands) in
@@ -62,7 +62,7 @@ module _ (P : Program) (r : kept.Condition) (p : Problem) (f : Fewest) (t : Trac
       ∙ sym (begins_first meaning (length (symbolic_of P c).terms) (variable_names c.procedure) c.way.steps (symbolic_of P c).bindings refutes.first refutes.others refutes.states)
       ∙ sym (ap first_cells (drawn c one))
 
-  lowest : (c : Condition) → IsKept P r c → IsLowest (problem (symbolic_of P c)) f.cells f.section
+  lowest : (c : Condition) → IsOfProgram P r c → IsLowest (problem (symbolic_of P c)) f.cells f.section
   lowest c one = subst (λ (q : Problem). IsLowest q f.cells f.section) (ground c one.stands) is.lowest
 
   pub smallest_found : IsOne P r → IsSmallest P r (record { trace = t; cells = f.cells; section = f.section })

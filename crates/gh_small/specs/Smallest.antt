@@ -8,7 +8,7 @@ use Rattle.gh_symb.specs.Symbolic.{symbolic_of}
 use Rattle.gh_symb.specs.Formulas.{problem}
 use Rattle.gh_trace.specs.Traces.{State}
 use Rattle.gh_trace.specs.Replay.{Drawn}
-use Rattle.gh_trace.specs.Kept.{drawn_of, IsKept, IsOne, HasNoCounterexample, HasCounterexample}
+use Rattle.gh_trace.specs.Kept.{drawn_of, IsOfProgram, IsOne, HasNoCounterexample, HasCounterexample}
 use Rattle.gh_model.specs.TraceLaws.{IsCounterexample}
 use Rattle.gh_small.specs.Models.{IsLowest}
 use Rattle.gh_small.specs.declared.found.Smallest.{Smallest}
@@ -26,8 +26,8 @@ IsLeast P c cells = (x : State) (ys : List State) → IsCounterexample P c x ys 
 pub record IsSmallest (P : Program) (r : kept.Condition) (s : Smallest) : Type 0 where
   pub counterexample : HasCounterexample P r (drawn_of s.trace)
   pub count : s.cells ≡ first_cells (drawn_of s.trace)
-  pub least : (c : Condition) → IsKept P r c → IsLeast P c s.cells
-  pub lowest : (c : Condition) → IsKept P r c → IsLowest (problem (symbolic_of P c)) s.cells s.section
+  pub least : (c : Condition) → IsOfProgram P r c → IsLeast P c s.cells
+  pub lowest : (c : Condition) → IsOfProgram P r c → IsLowest (problem (symbolic_of P c)) s.cells s.section
 
 -- the condition is valid, or this is the smallest of its counterexamples
 abbrev pub IsFound : Program → kept.Condition → Option Smallest → Type 0

@@ -7,7 +7,7 @@ use Rattle.gh_base.specs.declared.atom.Atom.{Atom}
 use Rattle.gh_base.specs.declared.atom.Atom.TheVariants.{Eq, Btwn, Hop, Alloc, Def}
 use Rattle.gh_base.specs.declared.atom.Lit.{Lit}
 use Rattle.gh_base.specs.declared.sizes.Sizes.{Sizes}
-use Rattle.gh_log.specs.Reading.{IsRefused}
+use Rattle.gh_log.specs.Reading.{SpellsNothing}
 use Rattle.gh_log.proofs.NumberLemmas.{AreOne}
 use Rattle.gh_smt.specs.Texts.{atom_text, lit_text, spaced_lit, signed_text, assertion_text, foot_text}
 use Rattle.gh_smt.specs.Reading.{IsNotFront, IsSpelledLit, SpellsLit, SpellsSpaced, lits_end, SpellsLits, IsSpelledAssertion, SpellsAssertion}
@@ -58,10 +58,10 @@ several_read s t (l ∷ m ∷ ls) rest h a =
       spelled = record { some = omega arith; lits = a.spelled };
     }
 
-pub no_several : (s : Sizes) (t : List ℕ) → IsRefused (SpellsLits s t) → IsRefused (SpellsAssertion s (codes "(assert (or" ++ t))
+pub no_several : (s : Sizes) (t : List ℕ) → SpellsNothing (SpellsLits s t) → SpellsNothing (SpellsAssertion s (codes "(assert (or" ++ t))
 no_several s t h c rest a = h c rest (several s t c rest a).1
 
-pub too_few : (s : Sizes) (t : List ℕ) (c : List Lit) (rest : List ℕ) → SpellsLits s t c rest → length c < 2 → IsRefused (SpellsAssertion s (codes "(assert (or" ++ t))
+pub too_few : (s : Sizes) (t : List ℕ) (c : List Lit) (rest : List ℕ) → SpellsLits s t c rest → length c < 2 → SpellsNothing (SpellsAssertion s (codes "(assert (or" ++ t))
 too_few s t c rest a h d q b =
     let w = several s t d q b in
     let one = one_items spaced_lit (IsSpelledLit s) lits_end (SpellsSpaced s) (are_lits s) t c d rest q a w.1 in
@@ -97,16 +97,16 @@ single_read s t middle l rest a e =
       spelled = record { some = omega arith; lits = All-cons (IsSpelledLit s) l [] a.spelled (λ k d h. absurd (omega arith)) };
     }
 
-pub no_single : (s : Sizes) (t : List ℕ) → IsNotFront (codes "(or") t → IsRefused (SpellsLit s t) → IsRefused (SpellsAssertion s (codes "(assert " ++ t))
+pub no_single : (s : Sizes) (t : List ℕ) → IsNotFront (codes "(or") t → SpellsNothing (SpellsLit s t) → SpellsNothing (SpellsAssertion s (codes "(assert " ++ t))
 no_single s t n h c rest a = let w = single s t c rest n a in h w.l (41 ∷ 10 ∷ rest) w.lit
 
-pub no_single_end : (s : Sizes) (t middle : List ℕ) (l : Lit) → IsNotFront (codes "(or") t → SpellsLit s t l middle → IsNotFront (codes ")\n") middle → IsRefused (SpellsAssertion s (codes "(assert " ++ t))
+pub no_single_end : (s : Sizes) (t middle : List ℕ) (l : Lit) → IsNotFront (codes "(or") t → SpellsLit s t l middle → IsNotFront (codes ")\n") middle → SpellsNothing (SpellsAssertion s (codes "(assert " ++ t))
 no_single_end s t middle l n a h c rest b =
     let w = single s t c rest n b in
     let one = one_lit s t l w.l middle (41 ∷ 10 ∷ rest) a w.lit in
     h rest one.rest
 
-pub no_assertion : (s : Sizes) (text : List ℕ) → IsNotFront (codes "(assert (or") text → IsNotFront (codes "(assert ") text → IsRefused (SpellsAssertion s text)
+pub no_assertion : (s : Sizes) (text : List ℕ) → IsNotFront (codes "(assert (or") text → IsNotFront (codes "(assert ") text → SpellsNothing (SpellsAssertion s text)
 no_assertion s text o a [] rest h = let k = h.spelled.some in absurd (omega (arith, k))
 no_assertion s text o a (l ∷ []) rest h = a _ (h.front ∙ one_text l rest)
 no_assertion s text o a (l ∷ m ∷ ls) rest h = o _ (h.front ∙ all_text (l ∷ m ∷ ls) rest)

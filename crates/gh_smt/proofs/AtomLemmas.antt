@@ -10,7 +10,7 @@ use Rattle.gh_base.specs.declared.atom.Atom.TheVariants.{Eq, Btwn, Hop, Alloc, D
 use Rattle.gh_base.specs.declared.sizes.Sizes.{Sizes}
 use Rattle.gh_base.specs.Atoms.{IsInRange}
 use Rattle.gh_inst.specs.Schemas.{term}
-use Rattle.gh_log.specs.Reading.{IsRefused, EndsNumber, SpellsNumber}
+use Rattle.gh_log.specs.Reading.{SpellsNothing, EndsNumber, SpellsNumber}
 use Rattle.gh_log.proofs.NumberLemmas.{AreOne, one_number}
 use Rattle.gh_smt.specs.Reading.{IsNotFront, SpellsTerm, spaced_number, SpellsTerms, SpellsForm, SpellsAtom}
 
@@ -25,11 +25,11 @@ IsByte n = n ≤ 255
 pub term_read : (text middle : List ℕ) (n : ℕ) (rest : List ℕ) → text ≡ codes " t" ++ middle → SpellsNumber 255 middle n rest → SpellsTerm text n rest
 term_read text middle n rest e s = record { front = e ∙ ap (λ t. codes " t" ++ t) s.front; within = s.within; ends = s.ends }
 
-pub no_term_number : (text middle : List ℕ) → text ≡ codes " t" ++ middle → IsRefused (SpellsNumber 255 middle) → IsRefused (SpellsTerm text)
+pub no_term_number : (text middle : List ℕ) → text ≡ codes " t" ++ middle → SpellsNothing (SpellsNumber 255 middle) → SpellsNothing (SpellsTerm text)
 no_term_number text middle e h n rest s =
     h n rest (record { front = append_cancel_left (codes " t") middle (decimal n ++ rest) (sym e ∙ s.front); within = s.within; ends = s.ends })
 
-pub no_term_here : (text : List ℕ) → IsNotFront (codes " t") text → IsRefused (SpellsTerm text)
+pub no_term_here : (text : List ℕ) → IsNotFront (codes " t") text → SpellsNothing (SpellsTerm text)
 no_term_here text h n rest s = h (decimal n ++ rest) s.front
 
 one_term : (text : List ℕ) (m n : ℕ) (r q : List ℕ) → SpellsTerm text m r → SpellsTerm text n q → AreOne m n r q
@@ -78,14 +78,14 @@ terms_read count text middle n ns rest a b =
 pub terms_end : (text rest : List ℕ) → text ≡ codes ")" ++ rest → SpellsTerms 0 text [] rest
 terms_end text rest e = record { front = e; counted = refl; within = none IsByte }
 
-pub no_end_here : (text : List ℕ) → IsNotFront (codes ")") text → IsRefused (SpellsTerms 0 text)
+pub no_end_here : (text : List ℕ) → IsNotFront (codes ")") text → SpellsNothing (SpellsTerms 0 text)
 no_end_here text h [] rest s = h rest s.front
 no_end_here text h (n ∷ ns) rest s = let l = s.counted in absurd (omega (arith, l))
 
-pub no_first : (count : ℕ) (text : List ℕ) → IsRefused (SpellsTerm text) → IsRefused (SpellsTerms (suc count) text)
+pub no_first : (count : ℕ) (text : List ℕ) → SpellsNothing (SpellsTerm text) → SpellsNothing (SpellsTerms (suc count) text)
 no_first count text h ns rest s = let f = first_term count text ns rest s in h f.n f.middle f.first
 
-pub no_others : (count : ℕ) (text : List ℕ) (n : ℕ) (middle : List ℕ) → SpellsTerm text n middle → IsRefused (SpellsTerms count middle) → IsRefused (SpellsTerms (suc count) text)
+pub no_others : (count : ℕ) (text : List ℕ) (n : ℕ) (middle : List ℕ) → SpellsTerm text n middle → SpellsNothing (SpellsTerms count middle) → SpellsNothing (SpellsTerms (suc count) text)
 no_others count text n middle a h ns rest s =
     let f = first_term count text ns rest s in
     let one = one_term text n f.n middle f.middle a f.first in
@@ -174,10 +174,10 @@ versioned k text (Alloc v x) rest ne s =
     })
 versioned k text (Def number) rest ne s = let e : ◌≡◌ {A = ℕ} 40 100 = first_is 40 100 _ _ s.front in absurd (omega (arith, e))
 
-pub no_version : (k : ℕ) (text : List ℕ) → k ≢ 61 → IsRefused (SpellsNumber 255 text) → IsRefused (SpellsForm (40 ∷ k ∷ text))
+pub no_version : (k : ℕ) (text : List ℕ) → k ≢ 61 → SpellsNothing (SpellsNumber 255 text) → SpellsNothing (SpellsForm (40 ∷ k ∷ text))
 no_version k text ne h x rest s = let w = versioned k text x rest ne s in h w.v w.middle w.number
 
-pub no_terms : (k : ℕ) (text : List ℕ) (v : ℕ) (middle : List ℕ) → k ≢ 61 → SpellsNumber 255 text v middle → IsRefused (SpellsTerms (count_at k) middle) → IsRefused (SpellsForm (40 ∷ k ∷ text))
+pub no_terms : (k : ℕ) (text : List ℕ) (v : ℕ) (middle : List ℕ) → k ≢ 61 → SpellsNumber 255 text v middle → SpellsNothing (SpellsTerms (count_at k) middle) → SpellsNothing (SpellsForm (40 ∷ k ∷ text))
 no_terms k text v middle ne a h x rest s =
     let w = versioned k text x rest ne s in
     let one = one_number v w.v middle w.middle (omega (arith, a.within)) (omega (arith, w.number.within)) a.ends w.number.ends (sym a.front ∙ w.number.front) in
@@ -213,7 +213,7 @@ equated text (Hop v x y) rest s = let e : ◌≡◌ {A = ℕ} 61 104 = second_is
 equated text (Alloc v x) rest s = let e : ◌≡◌ {A = ℕ} 61 97 = second_is 40 61 40 97 _ _ s.front in absurd (omega (arith, e))
 equated text (Def number) rest s = let e : ◌≡◌ {A = ℕ} 40 100 = first_is 40 100 _ _ s.front in absurd (omega (arith, e))
 
-pub no_equality : (text : List ℕ) → IsRefused (SpellsTerms 2 text) → IsRefused (SpellsForm (40 ∷ 61 ∷ text))
+pub no_equality : (text : List ℕ) → SpellsNothing (SpellsTerms 2 text) → SpellsNothing (SpellsForm (40 ∷ 61 ∷ text))
 no_equality text h x rest s = let w = equated text x rest s in h w.ns rest w.terms
 
 -- the number of a definition
@@ -232,7 +232,7 @@ defined text (Def number) rest s =
     let t : text ≡ decimal number ++ rest = cc in
     record { n = number; number = record { front = t; within = s.fits; ends = s.ends }; is = refl }
 
-pub no_number : (text : List ℕ) → IsRefused (SpellsNumber 4294967295 text) → IsRefused (SpellsForm (100 ∷ text))
+pub no_number : (text : List ℕ) → SpellsNothing (SpellsNumber 4294967295 text) → SpellsNothing (SpellsForm (100 ∷ text))
 no_number text h x rest s = let w = defined text x rest s in h w.n rest w.number
 
 one_equality : (text : List ℕ) (x y : Atom) (r q : List ℕ) → SpellsForm (40 ∷ 61 ∷ text) x r → SpellsForm (40 ∷ 61 ∷ text) y q → AreOne x y r q
@@ -264,14 +264,14 @@ one_form text (Def n) y r q s u = one_definition _ (Def n) y r q (moved text _ (
 drop_first : (a b : ℕ) (x y : List ℕ) → a ∷ x ≡ b ∷ y → x ≡ y
 drop_first a b x y e = cc
 
-pub no_applied : (text : List ℕ) → IsNotFront (codes "=") text → IsNotFront (codes "b") text → IsNotFront (codes "h") text → IsNotFront (codes "a") text → IsRefused (SpellsForm (40 ∷ text))
+pub no_applied : (text : List ℕ) → IsNotFront (codes "=") text → IsNotFront (codes "b") text → IsNotFront (codes "h") text → IsNotFront (codes "a") text → SpellsNothing (SpellsForm (40 ∷ text))
 no_applied text e b h a (Eq x y) rest s = e _ (drop_first 40 40 _ _ s.front)
 no_applied text e b h a (Btwn v x y z) rest s = b _ (drop_first 40 40 _ _ s.front)
 no_applied text e b h a (Hop v x y) rest s = h _ (drop_first 40 40 _ _ s.front)
 no_applied text e b h a (Alloc v x) rest s = a _ (drop_first 40 40 _ _ s.front)
 no_applied text e b h a (Def n) rest s = let k : ◌≡◌ {A = ℕ} 40 100 = first_is 40 100 _ _ s.front in absurd (omega (arith, k))
 
-pub no_form : (text : List ℕ) → IsNotFront (codes "(") text → IsNotFront (codes "d") text → IsRefused (SpellsForm text)
+pub no_form : (text : List ℕ) → IsNotFront (codes "(") text → IsNotFront (codes "d") text → SpellsNothing (SpellsForm text)
 no_form text p d (Eq x y) rest s = p _ s.front
 no_form text p d (Btwn v x y z) rest s = p _ s.front
 no_form text p d (Hop v x y) rest s = p _ s.front
@@ -321,10 +321,10 @@ alloc_read text v middle x rest n s =
 pub definition_read : (text : List ℕ) (n : ℕ) (rest : List ℕ) → SpellsNumber 4294967295 text n rest → SpellsForm (100 ∷ text) (Def n) rest
 definition_read text n rest s = record { front = ap (λ t. 100 ∷ t) s.front; fits = s.within; ends = s.ends }
 
-pub no_atom : (s : Sizes) (text : List ℕ) → IsRefused (SpellsForm text) → IsRefused (SpellsAtom s text)
+pub no_atom : (s : Sizes) (text : List ℕ) → SpellsNothing (SpellsForm text) → SpellsNothing (SpellsAtom s text)
 no_atom s text h x rest a = h x rest a.form
 
-pub out_of_range : (s : Sizes) (text : List ℕ) (x : Atom) (rest : List ℕ) → SpellsForm text x rest → (IsInRange s x → ⊥) → IsRefused (SpellsAtom s text)
+pub out_of_range : (s : Sizes) (text : List ℕ) (x : Atom) (rest : List ℕ) → SpellsForm text x rest → (IsInRange s x → ⊥) → SpellsNothing (SpellsAtom s text)
 out_of_range s text x rest f ne y q a =
     let one = one_form text x y rest q f a.form in
     ne (subst (IsInRange s) (sym one.value) a.in_range)

@@ -3,7 +3,7 @@ use Rattle.std.proofs.Common.{◌≡◌, ◌≢◌, ℕ, zero, suc, ◌+◌, ◌
 use Rattle.std.specs.List.{flat_map, range_with_len}
 use Rattle.std.specs.Fmt.{decimal}
 use Rattle.std.proofs.lemmas.List.{append_cancel_left}
-use Rattle.gh_log.specs.Reading.{IsRefused, EndsNumber, SpellsNumber, SpellsText}
+use Rattle.gh_log.specs.Reading.{SpellsNothing, EndsNumber, SpellsNumber, SpellsText}
 use Rattle.gh_log.proofs.NumberLemmas.{AreOne, one_number}
 use Rattle.gh_log.proofs.AtomLemmas.{Goes}
 use Rattle.gh_smt.specs.declared.kind.Kind.{Kind}
@@ -19,28 +19,28 @@ around_rest before d after text middle rest e f =
 abbrev Ends : List ℕ → Type 0
 Ends after = (rest : List ℕ) → EndsNumber (after ++ rest)
 
-pub no_found : (before after text middle : List ℕ) (n : ℕ) → n < 4294967296 → Ends after → text ≡ before ++ middle → IsRefused (SpellsNumber 4294967295 middle)
-    → IsRefused (SpellsText (before ++ (decimal n ++ after)) text)
+pub no_found : (before after text middle : List ℕ) (n : ℕ) → n < 4294967296 → Ends after → text ≡ before ++ middle → SpellsNothing (SpellsNumber 4294967295 middle)
+    → SpellsNothing (SpellsText (before ++ (decimal n ++ after)) text)
 no_found before after text middle n small ends e h u rest f =
     h n (after ++ rest) (record { front = around_rest before (decimal n) after text middle rest e f; within = omega (arith, small); ends = ends rest })
 
 pub other_found : (before after text middle left : List ℕ) (n k : ℕ) → n < 4294967296 → Ends after → text ≡ before ++ middle → SpellsNumber 4294967295 middle k left → k ≢ n
-    → IsRefused (SpellsText (before ++ (decimal n ++ after)) text)
+    → SpellsNothing (SpellsText (before ++ (decimal n ++ after)) text)
 other_found before after text middle left n k small ends e s other u rest f =
     let one = one_number k n left (after ++ rest) (omega (arith, s.within)) (omega (arith, small)) s.ends (ends rest) (sym s.front ∙ around_rest before (decimal n) after text middle rest e f) in
     other one.value
 
 pub not_after : (before after text middle left : List ℕ) (n k : ℕ) → n < 4294967296 → Ends after → text ≡ before ++ middle → SpellsNumber 4294967295 middle k left → IsNotFront after left
-    → IsRefused (SpellsText (before ++ (decimal n ++ after)) text)
+    → SpellsNothing (SpellsText (before ++ (decimal n ++ after)) text)
 not_after before after text middle left n k small ends e s h u rest f =
     let one = one_number k n left (after ++ rest) (omega (arith, s.within)) (omega (arith, small)) s.ends (ends rest) (sym s.front ∙ around_rest before (decimal n) after text middle rest e f) in
     h rest one.rest
 
 -- two texts, one after the other
-pub no_first : (a b text : List ℕ) → IsRefused (SpellsText a text) → IsRefused (SpellsText (a ++ b) text)
+pub no_first : (a b text : List ℕ) → SpellsNothing (SpellsText a text) → SpellsNothing (SpellsText (a ++ b) text)
 no_first a b text h u rest e = h u (b ++ rest) (e ∙ append_assoc a b rest)
 
-pub no_second : (a b text middle : List ℕ) → text ≡ a ++ middle → IsRefused (SpellsText b middle) → IsRefused (SpellsText (a ++ b) text)
+pub no_second : (a b text middle : List ℕ) → text ≡ a ++ middle → SpellsNothing (SpellsText b middle) → SpellsNothing (SpellsText (a ++ b) text)
 no_second a b text middle t h u rest e = h u rest (append_cancel_left a middle (b ++ rest) (sym t ∙ e ∙ append_assoc a b rest))
 
 pub three_texts : (a b c text m n rest : List ℕ) → text ≡ a ++ m → m ≡ b ++ n → n ≡ c ++ rest → text ≡ (a ++ (b ++ c)) ++ rest
@@ -93,11 +93,11 @@ abbrev pub GoesDeclared : Kind → ℕ → ℕ → List ℕ → List ℕ → Typ
 GoesDeclared kind limit count text whole = Goes (SpellsDeclared kind limit count text) (SpellsDeclared kind limit 0 whole) (λ n. count + n)
 
 -- the count of what is declared has come to its limit
-pub past_limit : (kind : Kind) (limit count : ℕ) (text : List ℕ) → count ≡ limit → (IsNotFront (start_text kind) text → ⊥) → IsRefused (SpellsDeclared kind limit count text)
+pub past_limit : (kind : Kind) (limit count : ℕ) (text : List ℕ) → count ≡ limit → (IsNotFront (start_text kind) text → ⊥) → SpellsNothing (SpellsDeclared kind limit count text)
 past_limit kind limit count text e more zero rest s = not_none kind limit count text more rest s
 past_limit kind limit count text e more (suc n) rest s = let w = s.within in absurd (omega (arith, w, e))
 
-pub not_declared : (kind : Kind) (limit count : ℕ) (text : List ℕ) → (IsNotFront (start_text kind) text → ⊥) → IsRefused (SpellsText (declared_text kind count) text) → IsRefused (SpellsDeclared kind limit count text)
+pub not_declared : (kind : Kind) (limit count : ℕ) (text : List ℕ) → (IsNotFront (start_text kind) text → ⊥) → SpellsNothing (SpellsText (declared_text kind count) text) → SpellsNothing (SpellsDeclared kind limit count text)
 not_declared kind limit count text more h zero rest s = not_none kind limit count text more rest s
 not_declared kind limit count text more h (suc n) rest s = let f = first_declared kind limit count n text rest s in h tt f.0 f.1
 
@@ -111,8 +111,8 @@ declared_more kind limit count text after whole g more e =
       back = λ h. g.back (none_more kind limit count text after more e h);
     }
   where
-    none_more : (kind : Kind) (limit count : ℕ) (text after : List ℕ) → (IsNotFront (start_text kind) text → ⊥) → text ≡ declared_text kind count ++ after → IsRefused (SpellsDeclared kind limit (count + 1) after)
-        → IsRefused (SpellsDeclared kind limit count text)
+    none_more : (kind : Kind) (limit count : ℕ) (text after : List ℕ) → (IsNotFront (start_text kind) text → ⊥) → text ≡ declared_text kind count ++ after → SpellsNothing (SpellsDeclared kind limit (count + 1) after)
+        → SpellsNothing (SpellsDeclared kind limit count text)
     none_more kind limit count text after more e h zero rest s = not_none kind limit count text more rest s
     none_more kind limit count text after more e h (suc n) rest s =
         let f = first_declared kind limit count n text rest s in

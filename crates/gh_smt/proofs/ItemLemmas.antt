@@ -3,7 +3,7 @@ use Rattle.std.proofs.Common.{◌≡◌, ℕ, List, [], ◌∷◌, ◌++◌, ref
 use Rattle.std.specs.List.{flat_map}
 use Rattle.std.proofs.lemmas.List.{append-nil, append_cancel_left}
 use Rattle.std.proofs.lemmas.List.Elements.{All-head, All-tail, All-cons}
-use Rattle.gh_log.specs.Reading.{IsRefused}
+use Rattle.gh_log.specs.Reading.{SpellsNothing}
 use Rattle.gh_log.proofs.NumberLemmas.{AreOne}
 use Rattle.gh_log.proofs.AtomLemmas.{Goes}
 use Rattle.gh_smt.specs.Reading.{IsNotFront, SpellsItems}
@@ -57,7 +57,7 @@ one_items print W end P i text (x ∷ xs) (y ∷ ys) r q a b =
 
 -- neither the end nor an item is next
 pub no_item : {X : Type 0} (print : X → List ℕ) (W : X → Type 0) (end : List ℕ) (P : List ℕ → X → List ℕ → Type 0) → AreItems print W end P
-    → (text : List ℕ) → IsNotFront end text → IsRefused (P text) → IsRefused (SpellsItems print W end text)
+    → (text : List ℕ) → IsNotFront end text → SpellsNothing (P text) → SpellsNothing (SpellsItems print W end text)
 no_item print W end P i text h k [] rest s = h rest s.front
 no_item print W end P i text h k (x ∷ xs) rest s = let f = first_item print W end P i text x xs rest s in k x f.after f.first
 
@@ -73,7 +73,7 @@ goes_item print W end P i whole text after xs ys x g a e =
     }
   where
     no_more : {X : Type 0} (print : X → List ℕ) (W : X → Type 0) (end : List ℕ) (P : List ℕ → X → List ℕ → Type 0) → AreItems print W end P
-        → (text after : List ℕ) (x : X) → P text x after → IsRefused (SpellsItems print W end after) → IsRefused (SpellsItems print W end text)
+        → (text after : List ℕ) (x : X) → P text x after → SpellsNothing (SpellsItems print W end after) → SpellsNothing (SpellsItems print W end text)
     no_more print W end P i text after x a h [] rest s = i.apart x after rest (sym (i.front text x after a) ∙ s.front)
     no_more print W end P i text after x a h (y ∷ ys) rest s =
         let f = first_item print W end P i text y ys rest s in

@@ -7,7 +7,7 @@ use Rattle.gh_base.specs.declared.atom.Atom.{Atom}
 use Rattle.gh_base.specs.declared.atom.Atom.TheVariants.{Eq, Btwn, Hop, Alloc, Def}
 use Rattle.gh_base.specs.declared.atom.Lit.{Lit}
 use Rattle.gh_base.specs.declared.sizes.Sizes.{Sizes}
-use Rattle.gh_log.specs.Reading.{IsRefused}
+use Rattle.gh_log.specs.Reading.{SpellsNothing}
 use Rattle.gh_log.proofs.NumberLemmas.{AreOne}
 use Rattle.gh_smt.specs.Texts.{atom_text, lit_text, spaced_lit, signed_text}
 use Rattle.gh_smt.specs.Reading.{IsNotFront, EndsAtom, SpellsAtom, EndsLit, IsSpelledLit, SpellsLit, SpellsSpaced, lits_end}
@@ -53,10 +53,10 @@ negative_read s t middle x rest a e =
       ends = tt;
     }
 
-pub no_negative : (s : Sizes) (t : List ℕ) → IsRefused (SpellsAtom s t) → IsRefused (SpellsLit s (codes "(not " ++ t))
+pub no_negative : (s : Sizes) (t : List ℕ) → SpellsNothing (SpellsAtom s t) → SpellsNothing (SpellsLit s (codes "(not " ++ t))
 no_negative s t h l rest a = h l.atom (41 ∷ rest) (negated s t l rest a).1
 
-pub no_negative_end : (s : Sizes) (t middle : List ℕ) (x : Atom) → SpellsAtom s t x middle → IsNotFront (codes ")") middle → IsRefused (SpellsLit s (codes "(not " ++ t))
+pub no_negative_end : (s : Sizes) (t middle : List ℕ) (x : Atom) → SpellsAtom s t x middle → IsNotFront (codes ")") middle → SpellsNothing (SpellsLit s (codes "(not " ++ t))
 no_negative_end s t middle x a h l rest b =
     let n = negated s t l rest b in
     let one = one_form t x l.atom middle (41 ∷ rest) a.form n.1.form in
@@ -69,7 +69,7 @@ asserted_atom : (p : Bool) (s : Sizes) (text : List ℕ) (x : Atom) (rest : List
 asserted_atom true s text x rest n h = (refl, record { form = record { front = h.front; fits = h.spelled.fits; ends = h.ends }; in_range = h.spelled.in_range })
 asserted_atom false s text x rest n h = absurd (n ((atom_text x ++ 41 ∷ []) ++ rest) h.front)
 
-pub no_positive : (s : Sizes) (text : List ℕ) → IsNotFront (codes "(not ") text → IsRefused (SpellsAtom s text) → IsRefused (SpellsLit s text)
+pub no_positive : (s : Sizes) (text : List ℕ) → IsNotFront (codes "(not ") text → SpellsNothing (SpellsAtom s text) → SpellsNothing (SpellsLit s text)
 no_positive s text n h l rest a = h l.atom rest (asserted_atom l.positive s text l.atom rest n a).1
 
 one_signed : (p o : Bool) (s : Sizes) (text : List ℕ) (x y : Atom) (r q : List ℕ) → SpellsLit s text (record { atom = x; positive = p }) r → SpellsLit s text (record { atom = y; positive = o }) q
@@ -105,10 +105,10 @@ ends_lit true (Def n) b rest h = h
 pub spaced_read : (s : Sizes) (text middle : List ℕ) (l : Lit) (rest : List ℕ) → text ≡ codes " " ++ middle → SpellsLit s middle l rest → SpellsSpaced s text l rest
 spaced_read s text middle l rest e h = record { middle = middle; front = e; lit = h }
 
-pub no_space : (s : Sizes) (text : List ℕ) → IsNotFront (codes " ") text → IsRefused (SpellsSpaced s text)
+pub no_space : (s : Sizes) (text : List ℕ) → IsNotFront (codes " ") text → SpellsNothing (SpellsSpaced s text)
 no_space s text h l rest a = h a.middle a.front
 
-pub no_spaced : (s : Sizes) (text middle : List ℕ) → text ≡ codes " " ++ middle → IsRefused (SpellsLit s middle) → IsRefused (SpellsSpaced s text)
+pub no_spaced : (s : Sizes) (text middle : List ℕ) → text ≡ codes " " ++ middle → SpellsNothing (SpellsLit s middle) → SpellsNothing (SpellsSpaced s text)
 no_spaced s text middle e h l rest a =
     let f = a.front in
     let same : a.middle ≡ middle = cc in

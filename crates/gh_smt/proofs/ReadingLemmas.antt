@@ -10,7 +10,7 @@ use Rattle.gh_base.specs.declared.atom.Lit.{Lit}
 use Rattle.gh_base.specs.declared.sizes.Sizes.{Sizes}
 use Rattle.gh_base.specs.Atoms.{IsInRange, AreInRange}
 use Rattle.gh_base.specs.Grounds.{Problem}
-use Rattle.gh_log.specs.Reading.{IsRefused}
+use Rattle.gh_log.specs.Reading.{SpellsNothing}
 use Rattle.gh_log.proofs.NumberLemmas.{AreOne}
 use Rattle.gh_smt.specs.declared.kind.Kind.{Kind}
 use Rattle.gh_smt.specs.declared.kind.Kind.TheVariants.{Term, Version, Definition}
@@ -139,13 +139,13 @@ script_read text a b c d rest s n v k cs ns vs ks e terms versions defs asserted
       };
     }
 
-pub no_head : (text : List ℕ) → IsNotFront head_text text → IsRefused (SpellsScript text)
+pub no_head : (text : List ℕ) → IsNotFront head_text text → SpellsNothing (SpellsScript text)
 no_head text h p rest s = let w = parts_of text p rest s in h w.first w.head
 
 head_is : (text a : List ℕ) (p : Problem) (rest : List ℕ) → text ≡ head_text ++ a → (w : HasParts text p rest) → w.first ≡ a
 head_is text a p rest e w = append_cancel_left head_text w.first a (sym w.head ∙ e)
 
-pub no_terms : (text a : List ℕ) → text ≡ head_text ++ a → IsRefused (SpellsDeclared Term 255 0 a) → IsRefused (SpellsScript text)
+pub no_terms : (text a : List ℕ) → text ≡ head_text ++ a → SpellsNothing (SpellsDeclared Term 255 0 a) → SpellsNothing (SpellsScript text)
 no_terms text a e h p rest s =
     let w = parts_of text p rest s in
     h p.sizes.terms w.second (subst (λ t. SpellsDeclared Term 255 0 t p.sizes.terms w.second) (head_is text a p rest e w) w.terms)
@@ -154,7 +154,7 @@ no_terms text a e h p rest s =
 terms_are : (text a b : List ℕ) (n : ℕ) (p : Problem) (rest : List ℕ) → text ≡ head_text ++ a → SpellsDeclared Term 255 0 a n b → (w : HasParts text p rest) → AreOne n p.sizes.terms b w.second
 terms_are text a b n p rest e s w = one_declared Term 255 0 a n p.sizes.terms b w.second s (subst (λ t. SpellsDeclared Term 255 0 t p.sizes.terms w.second) (head_is text a p rest e w) w.terms)
 
-pub no_versions : (text a b : List ℕ) (n : ℕ) → text ≡ head_text ++ a → SpellsDeclared Term 255 0 a n b → IsRefused (SpellsDeclared Version 255 0 b) → IsRefused (SpellsScript text)
+pub no_versions : (text a b : List ℕ) (n : ℕ) → text ≡ head_text ++ a → SpellsDeclared Term 255 0 a n b → SpellsNothing (SpellsDeclared Version 255 0 b) → SpellsNothing (SpellsScript text)
 no_versions text a b n e s h p rest q =
     let w = parts_of text p rest q in
     let one = terms_are text a b n p rest e s w in
@@ -165,7 +165,7 @@ versions_are text a b c n v p rest e s t w =
     let one = terms_are text a b n p rest e s w in
     one_declared Version 255 0 b v p.sizes.versions c w.third t (subst (λ u. SpellsDeclared Version 255 0 u p.sizes.versions w.third) (sym one.rest) w.versions)
 
-pub no_defs : (text a b c : List ℕ) (n v : ℕ) → text ≡ head_text ++ a → SpellsDeclared Term 255 0 a n b → SpellsDeclared Version 255 0 b v c → IsRefused (SpellsDeclared Definition 4294967295 0 c) → IsRefused (SpellsScript text)
+pub no_defs : (text a b c : List ℕ) (n v : ℕ) → text ≡ head_text ++ a → SpellsDeclared Term 255 0 a n b → SpellsDeclared Version 255 0 b v c → SpellsNothing (SpellsDeclared Definition 4294967295 0 c) → SpellsNothing (SpellsScript text)
 no_defs text a b c n v e s t h p rest q =
     let w = parts_of text p rest q in
     let one = versions_are text a b c n v p rest e s t w in
@@ -181,7 +181,7 @@ sizes_are : (s : Sizes) (p : Problem) → s.terms ≡ p.sizes.terms → s.versio
 sizes_are s p a b c = λ i. record { terms = a i; versions = b i; defs = c i }
 
 pub no_asserted : (text a b c d : List ℕ) (s : Sizes) (n v k : ℕ) → s.terms ≡ n → s.versions ≡ v → s.defs ≡ k → text ≡ head_text ++ a → SpellsDeclared Term 255 0 a n b → SpellsDeclared Version 255 0 b v c
-    → SpellsDeclared Definition 4294967295 0 c k d → IsRefused (SpellsAssertions s d) → IsRefused (SpellsScript text)
+    → SpellsDeclared Definition 4294967295 0 c k d → SpellsNothing (SpellsAssertions s d) → SpellsNothing (SpellsScript text)
 no_asserted text a b c d s n v k ns vs ks e x y z h p rest q =
     let w = parts_of text p rest q in
     let t = terms_are text a b n p rest e x w in
@@ -209,7 +209,7 @@ whole text p is e = record { front = e ∙ sym (append-nil (script_text p)); is 
 pub goes_on : (text : List ℕ) (p : Problem) (rest : List ℕ) → SpellsScript text p rest → rest ≢ [] → IsNoScript text
 goes_on text p rest s more o is e = more (one_script text p o rest [] s (whole text o is e)).rest
 
-pub refused : (text : List ℕ) → IsRefused (SpellsScript text) → IsNoScript text
+pub refused : (text : List ℕ) → SpellsNothing (SpellsScript text) → IsNoScript text
 refused text h o is e = h o [] (whole text o is e)
 
 pub read_back : (text : List ℕ) (p o : Problem) (rest : List ℕ) → SpellsScript text p rest → rest ≡ [] → IsScript o → text ≡ script_text o → Some p ≡ Some o

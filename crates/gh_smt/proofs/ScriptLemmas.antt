@@ -19,7 +19,7 @@ use Rattle.gh_grass.specs.Truth.{AreClausesTrue}
 use Rattle.gh_symb.specs.Symbolic.{symbolic_of}
 use Rattle.gh_symb.specs.Formulas.{problem}
 use Rattle.gh_trace.specs.Traces.{State}
-use Rattle.gh_trace.specs.Validity.{Refutes}
+use Rattle.gh_trace.specs.Validity.{AreCounterexample}
 use Rattle.gh_model.specs.BuiltTraces.{built_trace}
 use Rattle.gh_model.proofs.Locality.{locality_holds}
 use Rattle.gh_model.proofs.ClauseModels.{traces_give_models}
@@ -80,7 +80,7 @@ pub scripts_mean_models : ScriptsMeanModels
 scripts_mean_models p is = (to_model p, from_model p is.in_range)
 
 -- a list of states that refutes
-refuting : (P : Program) (c : Condition) (xs : List State) → Refutes P c xs → HasCounterexample P c
+refuting : (P : Program) (c : Condition) (xs : List State) → AreCounterexample P c xs → HasCounterexample P c
 refuting P c [] h = absurd h
 refuting P c (x ∷ ys) h = (x, ys, h)
 

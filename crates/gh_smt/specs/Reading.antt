@@ -8,7 +8,7 @@ use Rattle.gh_base.specs.declared.atom.Lit.{Lit}
 use Rattle.gh_base.specs.declared.sizes.Sizes.{Sizes}
 use Rattle.gh_base.specs.Atoms.{IsInRange}
 use Rattle.gh_base.specs.Grounds.{Problem}
-use Rattle.gh_log.specs.Reading.{IsRefused, EndsNumber}
+use Rattle.gh_log.specs.Reading.{SpellsNothing, EndsNumber}
 use Rattle.gh_smt.specs.declared.kind.Kind.{Kind}
 use Rattle.gh_smt.specs.declared.error.Refusal.{Refusal}
 use Rattle.gh_smt.specs.declared.error.Refusal.TheVariants.{Outside, OutOfMemory}
@@ -16,13 +16,13 @@ use Rattle.gh_smt.specs.Scripts.{HasLits, IsScript}
 use Rattle.gh_smt.specs.Texts.{atom_text, lit_text, spaced_lit, assertion_text, foot_text, script_text}
 use Rattle.gh_smt.specs.Kinds.{declared_text, start_text}
 
-abbrev pub IsRefusal : {X : Type 0} → (X → List ℕ → Type 0) → Refusal → Type 0
-IsRefusal P Outside = IsRefused P
-IsRefusal P OutOfMemory = ⊤
+abbrev pub IsScriptPartRefusal : {X : Type 0} → (X → List ℕ → Type 0) → Refusal → Type 0
+IsScriptPartRefusal P Outside = SpellsNothing P
+IsScriptPartRefusal P OutOfMemory = ⊤
 
 -- the answer is what the part spells at the front, and what is left
-abbrev pub IsRead : {X Y : Type 0} → (X → List ℕ → Type 0) → (Y → X) → Result Y Refusal → List ℕ → Type 0
-IsRead P view answer rest = MatchResult answer (λ y. P (view y) rest) (IsRefusal P)
+abbrev pub IsScriptPart : {X Y : Type 0} → (X → List ℕ → Type 0) → (Y → X) → Result Y Refusal → List ℕ → Type 0
+IsScriptPart P view answer rest = MatchResult answer (λ y. P (view y) rest) (IsScriptPartRefusal P)
 
 -- the text doesn't begin so
 abbrev pub IsNotFront : List ℕ → List ℕ → Type 0

@@ -6,7 +6,7 @@ ghost use Rattle.std.specs.Char.{is_ascii_digit};
 ghost use Rattle.std.specs.Fmt.{decimal};
 ghost use Rattle.std.specs.Str.Parse.{AllDigits};
 ghost use Rattle.gh_log.specs.Reading.{SpellsText, SpellsNumber, EndsNumber};
-ghost use Rattle.gh_smt.specs.Reading.{IsRead, IsNotFront};
+ghost use Rattle.gh_smt.specs.Reading.{IsScriptPart, IsNotFront};
 
 use crate::error::Refusal;
 
@@ -90,7 +90,7 @@ impl<'t> Reader<'t> {
 
     /// Takes a text.
     pub fn expect(&mut self, wanted: &[u8]) -> Result<(), Refusal>
-        ensures { IsRead (SpellsText wanted.now self.old.rest.now) (λ u. u) result self.new.rest.now }
+        ensures { IsScriptPart (SpellsText wanted.now self.old.rest.now) (λ u. u) result self.new.rest.now }
     {
         if !self.skip(wanted) {
             return Err(Refusal::Outside);
@@ -100,7 +100,7 @@ impl<'t> Reader<'t> {
 
     /// Takes a number that isn't above the limit.
     pub fn number(&mut self, limit: u32) -> Result<u32, Refusal>
-        ensures { IsRead (SpellsNumber limit self.old.rest.now) (λ n. n) result self.new.rest.now }
+        ensures { IsScriptPart (SpellsNumber limit self.old.rest.now) (λ n. n) result self.new.rest.now }
     {
         let (digits, rest) = self.rest.split_at(digits_length(self.rest));
         let Some(number) = number_of(digits) else {

@@ -1,7 +1,7 @@
 //! Atoms, literals and clauses in a text.
 
 ghost use Rattle.std.specs.Prelude.{◌≡◌, ◌∷◌, ◌++◌, [], codes};
-ghost use Rattle.gh_smt.specs.Reading.{IsRead, SpellsTerm, SpellsTerms, SpellsForm, SpellsAtom, SpellsLit, SpellsSpaced, SpellsLits, SpellsAssertion};
+ghost use Rattle.gh_smt.specs.Reading.{IsScriptPart, SpellsTerm, SpellsTerms, SpellsForm, SpellsAtom, SpellsLit, SpellsSpaced, SpellsLits, SpellsAssertion};
 
 use crate::cursor::Reader;
 use crate::error::Refusal;
@@ -13,7 +13,7 @@ use std::alloc::Global;
 impl<'t> Reader<'t> {
     // Reads a term after a space.
     fn term(&mut self) -> Result<Term, Refusal>
-        ensures { IsRead (SpellsTerm self.old.rest.now) (λ t. t.0) result self.new.rest.now }
+        ensures { IsScriptPart (SpellsTerm self.old.rest.now) (λ t. t.0) result self.new.rest.now }
     {
         if !self.skip(b" t") {
             return Err(Refusal::Outside);
@@ -24,7 +24,7 @@ impl<'t> Reader<'t> {
 
     // Reads a term and the sign that ends terms.
     fn one(&mut self) -> Result<Term, Refusal>
-        ensures { IsRead (SpellsTerms 1 self.old.rest.now) (λ t. t.0 ∷ []) result self.new.rest.now }
+        ensures { IsScriptPart (SpellsTerms 1 self.old.rest.now) (λ t. t.0 ∷ []) result self.new.rest.now }
     {
         let x = self.term()?;
         if !self.skip(b")") {
@@ -35,7 +35,7 @@ impl<'t> Reader<'t> {
 
     // Reads two terms and that sign.
     fn two(&mut self) -> Result<(Term, Term), Refusal>
-        ensures { IsRead (SpellsTerms 2 self.old.rest.now) (λ p. p.0.0 ∷ p.1.0 ∷ []) result self.new.rest.now }
+        ensures { IsScriptPart (SpellsTerms 2 self.old.rest.now) (λ p. p.0.0 ∷ p.1.0 ∷ []) result self.new.rest.now }
     {
         let x = self.term()?;
         let y = self.one()?;
@@ -44,7 +44,7 @@ impl<'t> Reader<'t> {
 
     // Reads three terms and that sign.
     fn three(&mut self) -> Result<(Term, Term, Term), Refusal>
-        ensures { IsRead (SpellsTerms 3 self.old.rest.now) (λ p. p.0.0 ∷ p.1.0 ∷ p.2.0 ∷ []) result self.new.rest.now }
+        ensures { IsScriptPart (SpellsTerms 3 self.old.rest.now) (λ p. p.0.0 ∷ p.1.0 ∷ p.2.0 ∷ []) result self.new.rest.now }
     {
         let x = self.term()?;
         let (y, z) = self.two()?;
@@ -53,7 +53,7 @@ impl<'t> Reader<'t> {
 
     // Reads an equality after its sign.
     fn equality(&mut self) -> Result<Atom, Refusal>
-        ensures { IsRead (SpellsForm (codes "(=" ++ self.old.rest.now)) (λ x. x) result self.new.rest.now }
+        ensures { IsScriptPart (SpellsForm (codes "(=" ++ self.old.rest.now)) (λ x. x) result self.new.rest.now }
     {
         let (a, b) = self.two()?;
         Ok(Atom::Eq { a, b })
@@ -61,7 +61,7 @@ impl<'t> Reader<'t> {
 
     // Reads a betweenness after its letter.
     fn betweenness(&mut self) -> Result<Atom, Refusal>
-        ensures { IsRead (SpellsForm (codes "(b" ++ self.old.rest.now)) (λ x. x) result self.new.rest.now }
+        ensures { IsScriptPart (SpellsForm (codes "(b" ++ self.old.rest.now)) (λ x. x) result self.new.rest.now }
     {
         let version = self.number(255)?;
         let (x, y, z) = self.three()?;
@@ -75,7 +75,7 @@ impl<'t> Reader<'t> {
 
     // Reads a hop after its letter.
     fn hop(&mut self) -> Result<Atom, Refusal>
-        ensures { IsRead (SpellsForm (codes "(h" ++ self.old.rest.now)) (λ x. x) result self.new.rest.now }
+        ensures { IsScriptPart (SpellsForm (codes "(h" ++ self.old.rest.now)) (λ x. x) result self.new.rest.now }
     {
         let version = self.number(255)?;
         let (x, v) = self.two()?;
@@ -88,7 +88,7 @@ impl<'t> Reader<'t> {
 
     // Reads an allocation after its letter.
     fn allocation(&mut self) -> Result<Atom, Refusal>
-        ensures { IsRead (SpellsForm (codes "(a" ++ self.old.rest.now)) (λ x. x) result self.new.rest.now }
+        ensures { IsScriptPart (SpellsForm (codes "(a" ++ self.old.rest.now)) (λ x. x) result self.new.rest.now }
     {
         let version = self.number(255)?;
         let x = self.one()?;
@@ -100,7 +100,7 @@ impl<'t> Reader<'t> {
 
     // Reads a defined atom after its letter.
     fn definition(&mut self) -> Result<Atom, Refusal>
-        ensures { IsRead (SpellsForm (codes "d" ++ self.old.rest.now)) (λ x. x) result self.new.rest.now }
+        ensures { IsScriptPart (SpellsForm (codes "d" ++ self.old.rest.now)) (λ x. x) result self.new.rest.now }
     {
         let number = self.number(u32::MAX)?;
         Ok(Atom::Def { number })
@@ -108,7 +108,7 @@ impl<'t> Reader<'t> {
 
     // Reads a relation or an equality of terms.
     fn applied(&mut self) -> Result<Atom, Refusal>
-        ensures { IsRead (SpellsForm (codes "(" ++ self.old.rest.now)) (λ x. x) result self.new.rest.now }
+        ensures { IsScriptPart (SpellsForm (codes "(" ++ self.old.rest.now)) (λ x. x) result self.new.rest.now }
     {
         if self.skip(b"=") {
             return self.equality();
@@ -127,7 +127,7 @@ impl<'t> Reader<'t> {
 
     // Reads an atom of any numbers.
     fn form(&mut self) -> Result<Atom, Refusal>
-        ensures { IsRead (SpellsForm self.old.rest.now) (λ x. x) result self.new.rest.now }
+        ensures { IsScriptPart (SpellsForm self.old.rest.now) (λ x. x) result self.new.rest.now }
     {
         if self.skip(b"(") {
             return self.applied();
@@ -140,7 +140,7 @@ impl<'t> Reader<'t> {
 
     // Reads an atom in range.
     fn atom(&mut self, sizes: Sizes) -> Result<Atom, Refusal>
-        ensures { IsRead (SpellsAtom sizes self.old.rest.now) (λ x. x) result self.new.rest.now }
+        ensures { IsScriptPart (SpellsAtom sizes self.old.rest.now) (λ x. x) result self.new.rest.now }
     {
         let atom = self.form()?;
         if !sizes.has(atom) {
@@ -151,7 +151,7 @@ impl<'t> Reader<'t> {
 
     // Reads a literal after the sign of a negative one.
     fn negative(&mut self, sizes: Sizes) -> Result<Lit, Refusal>
-        ensures { IsRead (SpellsLit sizes (codes "(not " ++ self.old.rest.now)) (λ l. l) result self.new.rest.now }
+        ensures { IsScriptPart (SpellsLit sizes (codes "(not " ++ self.old.rest.now)) (λ l. l) result self.new.rest.now }
     {
         let atom = self.atom(sizes)?;
         if !self.skip(b")") {
@@ -165,7 +165,7 @@ impl<'t> Reader<'t> {
 
     // Reads a literal.
     pub fn lit(&mut self, sizes: Sizes) -> Result<Lit, Refusal>
-        ensures { IsRead (SpellsLit sizes self.old.rest.now) (λ l. l) result self.new.rest.now }
+        ensures { IsScriptPart (SpellsLit sizes self.old.rest.now) (λ l. l) result self.new.rest.now }
     {
         if self.skip(b"(not ") {
             return self.negative(sizes);
@@ -179,7 +179,7 @@ impl<'t> Reader<'t> {
 
     // Reads a literal after a space.
     fn spaced(&mut self, sizes: Sizes) -> Result<Lit, Refusal>
-        ensures { IsRead (SpellsSpaced sizes self.old.rest.now) (λ l. l) result self.new.rest.now }
+        ensures { IsScriptPart (SpellsSpaced sizes self.old.rest.now) (λ l. l) result self.new.rest.now }
     {
         if !self.skip(b" ") {
             return Err(Refusal::Outside);
@@ -190,7 +190,7 @@ impl<'t> Reader<'t> {
 
     // Reads literals, each after a space, to the end of their assertion.
     pub fn lits(&mut self, alloc: Global, sizes: Sizes) -> Result<Clause, Refusal>
-        ensures { IsRead (SpellsLits sizes self.old.rest.now) (λ c. c) result self.new.rest.now }
+        ensures { IsScriptPart (SpellsLits sizes self.old.rest.now) (λ c. c) result self.new.rest.now }
     {
         let mut clause = Clause::new(alloc);
         'literals: loop {

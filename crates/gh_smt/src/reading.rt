@@ -7,7 +7,7 @@ ghost use Rattle.gh_log.specs.Reading.{SpellsText, EndsNumber};
 ghost use Rattle.gh_smt.specs.Kinds.{declared_text, start_text};
 ghost use Rattle.gh_smt.specs.Texts.{version_declared, script_text};
 ghost use Rattle.gh_smt.specs.Scripts.{IsScript};
-ghost use Rattle.gh_smt.specs.Reading.{IsRead, IsNotFront, SpellsAssertion, SpellsAssertions, SpellsDeclared, SpellsScript, IsNoScript};
+ghost use Rattle.gh_smt.specs.Reading.{IsScriptPart, IsNotFront, SpellsAssertion, SpellsAssertions, SpellsDeclared, SpellsScript, IsNoScript};
 
 use crate::cursor::Reader;
 use crate::error::Refusal;
@@ -35,7 +35,7 @@ impl<'t> Reader<'t> {
     // Takes a number between two texts.
     fn around(&mut self, before: &[u8], number: u32, after: &[u8]) -> Result<(), Refusal>
         requires { (rest : List ℕ) → EndsNumber (after.now ++ rest) }
-        ensures { IsRead (SpellsText (before.now ++ (decimal number ++ after.now)) self.old.rest.now) (λ u. u) result
+        ensures { IsScriptPart (SpellsText (before.now ++ (decimal number ++ after.now)) self.old.rest.now) (λ u. u) result
             self.new.rest.now }
     {
         if !self.skip(before) {
@@ -53,7 +53,7 @@ impl<'t> Reader<'t> {
 
     // Takes what declares the relations of a version.
     fn relations(&mut self, number: u32) -> Result<(), Refusal>
-        ensures { IsRead (SpellsText (version_declared number) self.old.rest.now) (λ u. u) result self.new.rest.now }
+        ensures { IsScriptPart (SpellsText (version_declared number) self.old.rest.now) (λ u. u) result self.new.rest.now }
     {
         self.around(b"(declare-fun b", number, b" (Loc Loc Loc) Bool)\n")?;
         self.around(b"(declare-fun h", number, b" (Loc Loc) Bool)\n")?;
@@ -63,7 +63,7 @@ impl<'t> Reader<'t> {
 
     // Takes what one number of a kind declares.
     fn declared(&mut self, kind: Kind, number: u32) -> Result<(), Refusal>
-        ensures { IsRead (SpellsText (declared_text kind number) self.old.rest.now) (λ u. u) result self.new.rest.now }
+        ensures { IsScriptPart (SpellsText (declared_text kind number) self.old.rest.now) (λ u. u) result self.new.rest.now }
     {
         match kind {
             Kind::Term => self.around(b"(declare-fun t", number, b" () Loc)\n"),
@@ -74,7 +74,7 @@ impl<'t> Reader<'t> {
 
     // Takes what the numbers of a kind declare, from 0 on, and counts them.
     fn count(&mut self, kind: Kind, limit: u32) -> Result<u32, Refusal>
-        ensures { IsRead (SpellsDeclared kind limit 0 self.old.rest.now) (λ n. n) result self.new.rest.now }
+        ensures { IsScriptPart (SpellsDeclared kind limit 0 self.old.rest.now) (λ n. n) result self.new.rest.now }
     {
         let mut count = 0;
         'declared: while self.is_next(start(kind)) {
@@ -89,7 +89,7 @@ impl<'t> Reader<'t> {
 
     // Reads an assertion of several literals after its first words.
     fn several(&mut self, alloc: Global, sizes: Sizes) -> Result<Clause, Refusal>
-        ensures { IsRead (SpellsAssertion sizes (codes "(assert (or" ++ self.old.rest.now)) (λ c. c) result
+        ensures { IsScriptPart (SpellsAssertion sizes (codes "(assert (or" ++ self.old.rest.now)) (λ c. c) result
             self.new.rest.now }
     {
         let clause = self.lits(alloc, sizes)?;
@@ -102,7 +102,7 @@ impl<'t> Reader<'t> {
     // Reads an assertion of one literal after its first word.
     fn single(&mut self, alloc: Global, sizes: Sizes) -> Result<Clause, Refusal>
         requires { IsNotFront (codes "(or") self.old.rest.now }
-        ensures { IsRead (SpellsAssertion sizes (codes "(assert " ++ self.old.rest.now)) (λ c. c) result
+        ensures { IsScriptPart (SpellsAssertion sizes (codes "(assert " ++ self.old.rest.now)) (λ c. c) result
             self.new.rest.now }
     {
         let lit = self.lit(sizes)?;
@@ -114,7 +114,7 @@ impl<'t> Reader<'t> {
 
     // Reads an assertion.
     fn assertion(&mut self, alloc: Global, sizes: Sizes) -> Result<Clause, Refusal>
-        ensures { IsRead (SpellsAssertion sizes self.old.rest.now) (λ c. c) result self.new.rest.now }
+        ensures { IsScriptPart (SpellsAssertion sizes self.old.rest.now) (λ c. c) result self.new.rest.now }
     {
         if self.skip(b"(assert (or") {
             return self.several(alloc, sizes);
@@ -127,7 +127,7 @@ impl<'t> Reader<'t> {
 
     // Reads assertions to the end of a script.
     fn assertions(&mut self, alloc: Global, sizes: Sizes) -> Result<Vec<Clause>, Refusal>
-        ensures { IsRead (SpellsAssertions sizes self.old.rest.now) (λ v. v.items) result self.new.rest.now }
+        ensures { IsScriptPart (SpellsAssertions sizes self.old.rest.now) (λ v. v.items) result self.new.rest.now }
     {
         let mut asserted = Vec::new(alloc);
         'assertions: loop {
@@ -140,7 +140,7 @@ impl<'t> Reader<'t> {
 
     // Reads a script.
     fn script(&mut self, alloc: Global) -> Result<Script, Refusal>
-        ensures { IsRead (SpellsScript self.old.rest.now) (λ p. p) result self.new.rest.now }
+        ensures { IsScriptPart (SpellsScript self.old.rest.now) (λ p. p) result self.new.rest.now }
     {
         if !self.skip(b"(set-logic QF_UF)\n(declare-sort Loc 0)\n") {
             return Err(Refusal::Outside);

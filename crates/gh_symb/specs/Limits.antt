@@ -33,11 +33,11 @@ Passes P c None = PassesNone P c
 Passes P c (Some l) = PassesLimit P c l
 
 -- the first procedure with a condition that passes: terms over the whole program before versions
-abbrev pub IsRefusal : Program → SymbolicError → Type 0
-IsRefusal P (Limit l) = Passed P (HasManyTerms P) 6 (most_terms + 1) l ⊎ (NoneHas P (HasManyTerms P) × Passed P (HasManyVersions P) 7 (most_versions + 1) l)
-IsRefusal P OutOfMemory = ⊤
+abbrev pub IsAdmitRefusal : Program → SymbolicError → Type 0
+IsAdmitRefusal P (Limit l) = Passed P (HasManyTerms P) 6 (most_terms + 1) l ⊎ (NoneHas P (HasManyTerms P) × Passed P (HasManyVersions P) 7 (most_versions + 1) l)
+IsAdmitRefusal P OutOfMemory = ⊤
 
 -- the refusal of one condition
-abbrev pub IsRefused : Program → Condition → SymbolicError → Type 0
-IsRefused P c (Limit l) = PassesLimit P c l
-IsRefused P c OutOfMemory = ⊤
+abbrev pub IsConditionRefusal : Program → Condition → SymbolicError → Type 0
+IsConditionRefusal P c (Limit l) = PassesLimit P c l
+IsConditionRefusal P c OutOfMemory = ⊤

@@ -1,5 +1,5 @@
 -- Terms and what is bound to them, as lists.
-use Rattle.std.specs.Prelude.{◌≡◌, ℕ, List, [], ◌∷◌}
+use Rattle.std.specs.Prelude.{◌≡◌, ◌≢◌, ℕ, ◌+◌, ◌<◌, ◌≤◌, List, [], ◌∷◌, length, slice_index_or}
 use Rattle.gh_ast.specs.Programs.{Name}
 use Rattle.gh_path.specs.Terms.{Kind, null, value, next, Bindings, unbound, bound, Terms, terms}
 use Rattle.gh_symb.specs.declared.scope.Entry.{Entry}
@@ -29,6 +29,16 @@ bound_from b ((x, t) ∷ es) = bound_from (bound b x t) es
 -- the last term of a name counts
 abbrev pub bound_by : Bound → Bindings
 bound_by es = bound_from unbound es
+
+-- no entry of the name stands at i or later
+abbrev pub NoneFrom : List Entry → Name → ℕ → Type 0
+NoneFrom es name i = (k : ℕ) (d : Entry) → i ≤ k → k < length es → (slice_index_or es k d).name.now ≢ name
+
+-- the last entry of the name stands at i
+pub record IsLastAt (es : List Entry) (name : Name) (i : ℕ) : Type 0 where
+  pub within : i < length es
+  pub named : (d : Entry) → (slice_index_or es i d).name.now ≡ name
+  pub later : NoneFrom es name (i + 1)
 
 abbrev pub state : List Kind → Bound → ℕ → Terms
 state ks es i = terms ks (bound_by es) i

@@ -3,7 +3,7 @@
 ghost use Rattle.std.specs.Prelude.{◌≡◌, OnOk, IfErr};
 ghost use Rattle.gh_ast.specs.Plain.{program_of};
 ghost use Rattle.gh_path.specs.Admitted.{HasManyTerms, HasManyVersions, NoneHas};
-ghost use Rattle.gh_symb.specs.Limits.{IsRefusal};
+ghost use Rattle.gh_symb.specs.Limits.{IsAdmitRefusal};
 ghost use Rattle.gh_symb.specs.Met.{IsOfTerms, earlier};
 
 use crate::limits::{SymbolicError, passed_limit};
@@ -42,13 +42,15 @@ pub fn admit(alloc: Global, typed: &Typed, conditions: &Conditions<'_>) -> Resul
     requires { conditions.now ≡ typed.now }
     ensures terms { OnOk result (NoneHas (program_of typed.now) (HasManyTerms (program_of typed.now))) }
     ensures versions { OnOk result (NoneHas (program_of typed.now) (HasManyVersions (program_of typed.now))) }
-    ensures refused { IfErr result (IsRefusal (program_of typed.now)) }
+    ensures refused { IfErr result (IsAdmitRefusal (program_of typed.now)) }
 {
     let mut late = None;
+    let mut walk = conditions.walk(alloc);
     for place in 0..conditions.count() {
-        let Some(condition) = conditions.condition(alloc, place + 1)? else {
-            return Ok(());
+        let Some(item) = walk.next() else {
+            unreachable!();
         };
+        let condition = item?;
         let passed = passed_limit(alloc, typed, &condition)?;
         if let Some(limit) = of_terms(passed) {
             return Err(SymbolicError::Limit(limit));

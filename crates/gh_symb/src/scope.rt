@@ -1,10 +1,10 @@
 //! The variables that have terms.
 
-ghost use Rattle.std.specs.Prelude.{◌≡◌, [], ℕ, IfOk, OnOk, map, unwrap_or};
+ghost use Rattle.std.specs.Prelude.{◌≡◌, [], ℕ, IfOk, OnOk, IfSome, IfNone, map, unwrap_or};
 ghost use Rattle.gh_ast.specs.Programs.{names};
 ghost use Rattle.gh_path.specs.Terms.{bound, all_bound, used, renewed};
 ghost use Rattle.gh_symb.specs.Phases.{bound_unless};
-ghost use Rattle.gh_symb.specs.Tables.{pair_of, bound_by, state};
+ghost use Rattle.gh_symb.specs.Tables.{pair_of, bound_by, state, IsLastAt, NoneFrom};
 
 use crate::kinds::Kinds;
 use gh_ast::Occ;
@@ -19,7 +19,8 @@ pub struct Entry<'a> {
     pub term: usize,
 }
 
-/// Names with terms, in the order in which they were bound. The last term of a name counts.
+/// Names with terms, in the order in which they were bound first. A name that is bound again keeps
+/// its place, so there are no more entries than variables.
 #[derive(Debug, Drop)]
 pub struct Scope<'a> {
     entries: Vec<Entry<'a>>,
@@ -34,17 +35,19 @@ impl<'a> Model for Scope<'a> {
     ghost view = { λ s. map pair_of s.entries.items };
 }
 
-// The last term of a name.
-fn latest(entries: &[Entry<'_>], name: &[u8]) -> Option<usize>
-    ensures { result ≡ bound_by (map pair_of entries.now) name.now }
+// Where the last entry of a name stands.
+fn last_place(entries: &[Entry<'_>], name: &[u8]) -> Option<usize>
+    ensures found { IfSome result (IsLastAt entries.now name.now) }
+    ensures missing { IfNone result (NoneFrom entries.now name.now 0) }
 {
-    let mut found = None;
-    for entry in entries {
-        if name == entry.name.bytes() {
-            found = Some(entry.term);
+    let mut left = entries.len();
+    while left > 0 {
+        left -= 1;
+        if entries[left].name.bytes() == name {
+            return Some(left);
         }
     }
-    found
+    None
 }
 
 impl<'a> Scope<'a> {
@@ -76,7 +79,10 @@ impl<'a> Scope<'a> {
     pub fn get(&self, name: &Name) -> Option<usize>
         ensures { result ≡ bound_by self.now name.now }
     {
-        latest(self.entries.as_slice(), name.bytes())
+        match last_place(self.entries.as_slice(), name.bytes()) {
+            Some(place) => Some(self.entries[place].term),
+            None => None,
+        }
     }
 
     /// The term of a variable; 0 where it has none.
@@ -86,12 +92,20 @@ impl<'a> Scope<'a> {
         self.get(name).unwrap_or(0)
     }
 
-    /// Binds a variable to a term.
+    /// Binds a variable to a term, which takes the place of the one that it had.
     pub fn bind(&mut self, name: &'a Name, term: usize) -> Result<(), AllocError>
         ensures { OnOk result (bound_by self.new ≡ bound (bound_by self.old) name.now term) }
     {
-        self.entries.push(Entry { name, term })?;
-        Ok(())
+        match last_place(self.entries.as_slice(), name.bytes()) {
+            Some(place) => {
+                self.entries[place] = Entry { name, term };
+                Ok(())
+            }
+            None => {
+                self.entries.push(Entry { name, term })?;
+                Ok(())
+            }
+        }
     }
 
     /// Binds the variable of an entry to its term, unless it had a term before.

@@ -4,7 +4,7 @@ ghost use Rattle.std.specs.Prelude.{◌≡◌, IfOk, IfErr};
 ghost use Rattle.gh_ast.specs.Plain.{program_of};
 ghost use Rattle.gh_path.specs.Conditions as plain;
 ghost use Rattle.gh_path.specs.Kept.{StandsFor};
-ghost use Rattle.gh_symb.specs.Limits.{Passes, PassesNone, IsRefused};
+ghost use Rattle.gh_symb.specs.Limits.{Passes, PassesNone, IsConditionRefusal};
 ghost use Rattle.gh_symb.specs.Told.{IsSymbolic};
 
 use crate::bindings::all_bindings;
@@ -72,7 +72,7 @@ pub fn symbolic<'a>(
     requires { (c : plain.Condition) × StandsFor (program_of typed.now) condition.now c }
     ensures told { IfOk result (λ s. (c : plain.Condition) → StandsFor (program_of typed.now) condition.now c → IsSymbolic (program_of typed.now) c s) }
     ensures few { IfOk result (λ s. (c : plain.Condition) → StandsFor (program_of typed.now) condition.now c → PassesNone (program_of typed.now) c) }
-    ensures refused { IfErr result (λ e. (c : plain.Condition) → StandsFor (program_of typed.now) condition.now c → IsRefused (program_of typed.now) c e) }
+    ensures refused { IfErr result (λ e. (c : plain.Condition) → StandsFor (program_of typed.now) condition.now c → IsConditionRefusal (program_of typed.now) c e) }
 {
     match passed_limit(alloc, typed, condition)? {
         Some(limit) => Err(SymbolicError::Limit(limit)),

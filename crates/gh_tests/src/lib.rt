@@ -13,6 +13,8 @@ mod machine_tests;
 #[cfg(test)]
 mod replay_tests;
 #[cfg(test)]
+mod run_tests;
+#[cfg(test)]
 mod session_tests;
 #[cfg(test)]
 mod smallest_tests;
@@ -20,3 +22,5 @@ mod smallest_tests;
 mod symbolic_tests;
 #[cfg(test)]
 mod told;
+#[cfg(test)]
+mod walk_tests;

@@ -7,6 +7,10 @@ pub mod DecidingLemmas
 pub mod RecheckLemmas
 pub mod ListingLemmas
 pub mod ReplayLemmas
+pub mod RunLemmas
 pub mod WordWalks
 pub mod ReadLemmas
 pub mod SmtLemmas
+pub mod QuestionLemmas
+pub mod SessionLemmas
+pub mod SessionLaws

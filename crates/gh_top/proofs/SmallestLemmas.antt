@@ -11,7 +11,7 @@ use Rattle.gh_path.specs.Kept.{StandsFor}
 use Rattle.gh_path.specs.declared.condition.Condition as kept
 use Rattle.gh_symb.specs.Symbolic.{symbolic_of}
 use Rattle.gh_symb.specs.Formulas.{problem}
-use Rattle.gh_trace.specs.Kept.{state_of, drawn, IsKept, IsOne, HasNoCounterexample}
+use Rattle.gh_trace.specs.Kept.{state_of, drawn, IsOfProgram, IsOne, HasNoCounterexample}
 use Rattle.gh_trace.specs.declared.state.State.{State}
 use Rattle.gh_trace.specs.declared.state.Trace.{Trace}
 use Rattle.gh_log.specs.declared.lines.LogLine.{LogLine}
@@ -37,7 +37,7 @@ use Rattle.gh_top.specs.declared.status.Status.TheVariants.{Verified, Refuted}
 use Rattle.gh_top.proofs.DecidingLemmas.{first_at}
 
 -- the condition that is kept is the first that isn't valid
-pub kept_first : (P : Program) (k : ℕ) (t : Trace) (r : kept.Condition) → (f : IsFirst P k t) → IsNumbered P k (Some r) → IsKept P r f.condition
+pub kept_first : (P : Program) (k : ℕ) (t : Trace) (r : kept.Condition) → (f : IsFirst P k t) → IsNumbered P k (Some r) → IsOfProgram P r f.condition
 kept_first P k t r f (c, low, there, stands) =
     let at = first_at P k t f in
     let same : c ≡ f.condition = cc in

@@ -1,8 +1,8 @@
 -- What a run answers, what it leaves written, and what its verdict means.
-use Rattle.std.specs.Prelude.{◌≡◌, ◌⊎◌, ◌≤◌, ◌<◌, ℕ, List, length, Option, Some, None, ⊤, slice_get, codes}
-use Rattle.std.specs.Io.KnownBytes.{Appends, Keeps}
-use Rattle.gh_base.specs.Outside.{Table, Rose, AppendsFront}
+use Rattle.std.specs.Prelude.{◌≡◌, ◌⊎◌, ◌≤◌, ◌<◌, ℕ, List, length, Option, Some, None, ⊤, true, false, slice_get, codes}
+use Rattle.gh_base.specs.Outside.{Table}
 use Rattle.gh_ast.specs.Plain.{Program}
+use Rattle.gh_ast.specs.Questions.{Question}
 use Rattle.gh_machine.specs.Machine.{IsGood}
 use Rattle.gh_path.specs.Conditions.{Condition, conditions}
 use Rattle.gh_trace.specs.Validity.{ListedAreValid}
@@ -11,23 +11,30 @@ use Rattle.gh_log.specs.Spelled.{AreOfVersion}
 use Rattle.gh_log.specs.Texts.{log_text}
 use Rattle.gh_decide.specs.Logs.{IsValidLog}
 use Rattle.gh_draw.specs.Drawings.{line}
-use Rattle.gh_top.specs.Words.{IsRequest}
+use Rattle.gh_top.specs.Words.{IsRequest, IsOnProgram}
+use Rattle.gh_top.specs.Seen.{Writing, Outside, table_of, InputsCountRose, InputsCountStands, SinkCountRose, SinkCountStands, Writes, WritesFront, WritesNothing}
+use Rattle.gh_top.specs.Stress.{stress_text}
 use Rattle.gh_top.specs.Refusals.{IsAccepted, IsRefused, refusal_text}
 use Rattle.gh_top.specs.Reports.{IsRefutation, verified_text, stressed_text}
 use Rattle.gh_top.specs.Smallests.{IsSmallestReport}
 use Rattle.gh_top.specs.Listings.{listing}
 use Rattle.gh_top.specs.Rechecks.{IsLogRefusal, IsValidLogFile, rechecked_text}
 use Rattle.gh_top.specs.Replays.{IsAt, IsDrawingRefusal, IsRefutingFile, replayed_text}
+use Rattle.gh_top.specs.Sessions.{IsSessionRefusal, IsSessionReport}
+use Rattle.gh_top.specs.Entails.{IsQuestionRefused, PosesAdmitted, IsEntailedReport, IsFailingReport}
+use Rattle.gh_top.specs.Runs.{IsStateRefusal, IsRunFrom, unmet_text, stopped_text, fault_text, held_text, failed_text}
+use Rattle.gh_trace.specs.declared.state.State.{State}
+use Rattle.gh_run.specs.declared.simulate.Report.TheVariants as report
 use Rattle.gh_top.specs.Smts.{IsDecidedByScript, most_asserted, asserted_count, smt_text, unnumbered_text, too_long_text}
-use Rattle.gh_top.specs.Stress.{stress_text}
 use Rattle.gh_top.specs.declared.refusal.Refusal.{Refusal}
 use Rattle.gh_top.specs.declared.words.Request.{Request}
-use Rattle.gh_top.specs.declared.words.Request.TheVariants.{Check, Log, Recheck, Paths, Replay, Smallest, Stress, Smt}
+use Rattle.gh_top.specs.declared.words.Request.TheVariants.{Check, Log, Recheck, Paths, Replay, Smallest, Stress, Smt, Run, Session, Entail}
 use Rattle.gh_top.specs.declared.status.Status.{Status}
-use Rattle.gh_top.specs.declared.status.Status.TheVariants.{Verified, Listed, Refuted, Usage, ReadFault, TextRefused, LogRefused, WriteFault, OutOfMemory}
+use Rattle.gh_top.specs.declared.status.Status.TheVariants.{Verified, Listed, Ran, Refuted, Usage, ReadFault, TextRefused, LogRefused, WriteFault, OutOfMemory, Stopped, Unmet}
 
--- The files that the words name, each by the place of its name among the words: file 1 is the program's, file 2 the log or the drawing.
--- A file is the bytes that it held when it was read, or none where there was no such file.
+-- The files that the words name, each by the place of its name among the words: file 1 is the first file, as the
+-- program's, file 2 the log, the drawing or the state. A file is the bytes that it held when it was read, or none where
+-- there was no such file.
 abbrev pub Files : Type 0
 Files = ℕ → Option (List ℕ)
 
@@ -36,23 +43,24 @@ abbrev pub AreTold : Option Table → List (List ℕ) → Files → Type 0
 AreTold None words files = ⊤
 AreTold (Some table) words files = (k : ℕ) (name : List ℕ) → slice_get words k ≡ Some name → files k ≡ table name
 
--- the program text that a request is about; `stress` makes its own
-abbrev pub program_text : Request → Files → Option (List ℕ)
-program_text (Stress n) files = Some (stress_text n)
-program_text r files = files 1
+-- the text that a request is about: that of file 1; `stress` makes its own
+abbrev pub asked_text : Request → Files → Option (List ℕ)
+asked_text (Stress n) files = Some (stress_text n)
+asked_text r files = files 1
 
--- the words are the request, and the program text that it is about spells the admitted program
+-- the words are a request about a program, and its text spells the admitted program
 pub record Asks (words : List (List ℕ)) (files : Files) (r : Request) (P : Program) : Type 0 where
   pub request : IsRequest words r
+  pub on_program : IsOnProgram r
   pub text : List ℕ
-  pub bytes : program_text r files ≡ Some text
+  pub bytes : asked_text r files ≡ Some text
   pub accepted : IsAccepted text P
 
 -- THE ANSWER: the status and the text that words and files give. A row is a line.
 pub data Answer (words : List (List ℕ)) (files : Files) : Status → List ℕ → Type 0 where
-  -- in any mode: the words are no request, or the program text is refused
+  -- in any mode: the words are no request; about a program: its text is refused
   usage : ((r : Request) → IsRequest words r → ⊥) → Answer words files Usage (line (codes "refused: usage"))
-  refused : {r : Request} (x : Refusal) → IsRequest words r → IsRefused (program_text r files) x → Answer words files TextRefused (refusal_text x)
+  refused : {r : Request} (x : Refusal) → IsRequest words r → IsOnProgram r → IsRefused (asked_text r files) x → Answer words files TextRefused (refusal_text x)
   -- check FILE
   check_verified : {f : List ℕ} {P : Program} → Asks words files (Check f) P → ListedAreValid P → Answer words files Verified (verified_text P)
   check_refuted : {f u : List ℕ} {P : Program} → Asks words files (Check f) P → IsRefutation P u → Answer words files Refuted u
@@ -77,6 +85,20 @@ pub data Answer (words : List (List ℕ)) (files : Files) : Status → List ℕ 
   smt_listed : {f : List ℕ} {n : ℕ} {P : Program} (c : Condition) → Asks words files (Smt f n) P → IsAt P n c → asserted_count P c ≤ most_asserted → IsDecidedByScript P c → Answer words files Listed (smt_text P c)
   smt_no_condition : {f : List ℕ} {n : ℕ} {P : Program} → Asks words files (Smt f n) P → length (conditions P) < n → Answer words files LogRefused (unnumbered_text P n)
   smt_too_long : {f : List ℕ} {n : ℕ} {P : Program} (c : Condition) → Asks words files (Smt f n) P → IsAt P n c → most_asserted < asserted_count P c → Answer words files TextRefused (too_long_text P c)
+  -- run FILE STATE N
+  run_refused : {f x u : List ℕ} {n : ℕ} {P : Program} → Asks words files (Run f x n) P → IsStateRefusal P (files 2) u → Answer words files LogRefused u
+  run_unmet : {f x : List ℕ} {n : ℕ} {P : Program} → Asks words files (Run f x n) P → IsRunFrom P (files 2) n report.Unmet → Answer words files Unmet unmet_text
+  run_stopped : {f x : List ℕ} {n : ℕ} {P : Program} (k : ℕ) (s : State) → Asks words files (Run f x n) P → IsRunFrom P (files 2) n (report.Stopped k s) → Answer words files Stopped (stopped_text k s)
+  run_faulted : {f x : List ℕ} {n : ℕ} {P : Program} (k : ℕ) (s : State) → Asks words files (Run f x n) P → IsRunFrom P (files 2) n (report.Faulted k s) → Answer words files Refuted (fault_text k s)
+  run_held : {f x : List ℕ} {n : ℕ} {P : Program} (k : ℕ) (s : State) → Asks words files (Run f x n) P → IsRunFrom P (files 2) n (report.Ended k s true) → Answer words files Ran (held_text k s)
+  run_failed : {f x : List ℕ} {n : ℕ} {P : Program} (k : ℕ) (s : State) → Asks words files (Run f x n) P → IsRunFrom P (files 2) n (report.Ended k s false) → Answer words files Refuted (failed_text k s)
+  -- session FILE
+  session_refused : {f u : List ℕ} → IsRequest words (Session f) → IsSessionRefusal (files 1) u → Answer words files LogRefused u
+  session_listed : {f u : List ℕ} → IsRequest words (Session f) → IsSessionReport (files 1) u → Answer words files Listed u
+  -- entail FILE
+  entail_refused : {f : List ℕ} (x : Refusal) → IsRequest words (Entail f) → IsQuestionRefused (files 1) x → Answer words files TextRefused (refusal_text x)
+  entail_verified : {f u : List ℕ} {q : Question} → IsRequest words (Entail f) → PosesAdmitted (files 1) q → IsEntailedReport q u → Answer words files Verified u
+  entail_refuted : {f u : List ℕ} {q : Question} → IsRequest words (Entail f) → PosesAdmitted (files 1) q → IsFailingReport q u → Answer words files Refuted u
 
 -- some files that are told give this answer
 pub record HasAnswer (table : Option Table) (words : List (List ℕ)) (status : Status) (text : List ℕ) : Type 0 where
@@ -84,24 +106,24 @@ pub record HasAnswer (table : Option Table) (words : List (List ℕ)) (status : 
   pub told : AreTold table words files
   pub answer : Answer words files status text
 
--- the program that the words ask about is good: no run of any procedure from a state that meets its precondition, beside any
--- frame, faults, leaks or ends outside its postcondition
+-- the program that the words ask about is good: no run of any procedure from a state that meets its precondition,
+-- beside any frame, faults, leaks or ends outside its postcondition
 abbrev pub IsGoodFor : List (List ℕ) → Files → Type 0
 IsGoodFor words files = (r : Request) (P : Program) → Asks words files r P → IsGood P
 
 -- exactly one text was written, it is the answer, and what is verified is good
-pub record IsWhole (table : Option Table) (words : List (List ℕ)) (old new : Option (List ℕ)) (status : Status) : Type 0 where
+pub record IsWhole (table : Option Table) (words : List (List ℕ)) (w : Writing) (status : Status) : Type 0 where
   pub text : List ℕ
   pub given : HasAnswer table words status text
-  pub written : Appends old new text
+  pub written : Writes w text
   pub good : status ≡ Verified → IsGoodFor words given.files
 
--- THE SENTENCE, 1: but for a fault and want of memory, the answer is written whole
-abbrev pub IsAnswered : Option Table → List (List ℕ) → Option (List ℕ) → Option (List ℕ) → Status → Type 0
-IsAnswered table words old new ReadFault = ⊤
-IsAnswered table words old new WriteFault = ⊤
-IsAnswered table words old new OutOfMemory = ⊤
-IsAnswered table words old new status = IsWhole table words old new status
+-- THE SENTENCE, 1: but for a fault, the answer is written whole; for want of memory, nothing is
+abbrev pub IsAnswered : List (List ℕ) → Outside → Status → Type 0
+IsAnswered words o ReadFault = ⊤
+IsAnswered words o WriteFault = ⊤
+IsAnswered words o OutOfMemory = WritesNothing o.writing
+IsAnswered words o status = IsWhole (table_of o) words o.writing status
 
 -- the words name a file
 pub record NamesFile (words : List (List ℕ)) : Type 0 where
@@ -109,23 +131,30 @@ pub record NamesFile (words : List (List ℕ)) : Type 0 where
   pub asked : IsRequest words request
   pub on_files : (n : ℕ) → request ≡ Stress n → ⊥
 
--- 2: a read fault comes where the words name a file and the inputs' count of faults rose, and nothing is written; else the count stands still
-abbrev pub IsReadFault : List (List ℕ) → ℕ → ℕ → Option (List ℕ) → Option (List ℕ) → Status → Type 0
-IsReadFault words before now old new ReadFault = NamesFile words × Rose before now × Keeps old new
-IsReadFault words before now old new status = now ≡ before
+-- 2: a read fault comes only where the words name a file and the inputs' count of faults rose, and nothing is written;
+-- else the count stands still
+abbrev pub IsReadFault : List (List ℕ) → Outside → Status → Type 0
+IsReadFault words o ReadFault = NamesFile words × InputsCountRose o.reading × WritesNothing o.writing
+IsReadFault words o status = InputsCountStands o.reading
 
 -- a front of an answer's text was written
-pub record IsCutOff (table : Option Table) (words : List (List ℕ)) (old new : Option (List ℕ)) : Type 0 where
+pub record IsCutOff (table : Option Table) (words : List (List ℕ)) (w : Writing) : Type 0 where
   pub status : Status
   pub text : List ℕ
   pub given : HasAnswer table words status text
-  pub written : AppendsFront old new text
+  pub written : WritesFront w text
 
--- 3: a write fault comes where the sink's count of faults rose, and a front of the answer is written; else the count stands still
-abbrev pub IsWriteFault : Option Table → List (List ℕ) → ℕ → ℕ → Option (List ℕ) → Option (List ℕ) → Status → Type 0
-IsWriteFault table words before now old new WriteFault = Rose before now × IsCutOff table words old new
-IsWriteFault table words before now old new status = now ≡ before
+-- 3: a write fault comes only where the sink's count of faults rose, and a front of an answer is written; else the
+-- count stands still
+abbrev pub IsWriteFault : List (List ℕ) → Outside → Status → Type 0
+IsWriteFault words o WriteFault = SinkCountRose o.writing × IsCutOff (table_of o) words o.writing
+IsWriteFault words o status = SinkCountStands o.writing
 
--- 5: where no count rises, the answer is written whole, or memory runs out (4: and then nothing is written)
-abbrev pub IsComplete : Option Table → List (List ℕ) → Option (List ℕ) → Option (List ℕ) → Status → Type 0
-IsComplete table words old new status = (status ≡ OutOfMemory) ⊎ IsWhole table words old new status
+-- the answer is written whole, or memory runs out
+abbrev pub IsWholeOrWant : Option Table → List (List ℕ) → Writing → Status → Type 0
+IsWholeOrWant table words w status = (status ≡ OutOfMemory) ⊎ IsWhole table words w status
+
+-- 4: where neither count rises, want of memory alone keeps the answer from being written whole
+abbrev pub IsComplete : List (List ℕ) → Outside → Status → Type 0
+IsComplete words o status =
+    (InputsCountRose o.reading → ⊥) → (SinkCountRose o.writing → ⊥) → IsWholeOrWant (table_of o) words o.writing status

@@ -1,4 +1,6 @@
 pub mod Causes
+pub mod Checks
+pub mod Answering
 pub mod Faults
 pub mod Files
 pub mod Fronts
@@ -12,7 +14,13 @@ pub mod Refusals
 pub mod Replays
 pub mod Replies
 pub mod Reports
+pub mod Seen
+pub mod Sessions
+pub mod Runs
+pub mod Entails
+pub mod QuestionReplies
 pub mod Smallests
+pub mod Sources
 pub mod Statuses
 pub mod Stress
 pub mod Smts

@@ -28,7 +28,7 @@ pub record IsText (text : List ℕ) (P : Program) : Type 0 where
   pub readable : IsReadable text
   pub spells : Spells text P
 
-pub record IsTooDeep (text : List ℕ) (p : Span) : Type 0 where
+pub record IsDeepAt (text : List ℕ) (p : Span) : Type 0 where
   pub short : length text ≤ most_bytes
   pub characters : (k : ℕ) → IsFirstByte text k → ⊥
   pub offset : ℕ
@@ -40,7 +40,7 @@ abbrev pub IsRefused : Option (List ℕ) → Refusal → Type 0
 IsRefused bytes Absent = bytes ≡ None
 IsRefused bytes TooLong = (text : List ℕ) × (bytes ≡ Some text) × (most_bytes < length text)
 IsRefused bytes (Byte k) = (text : List ℕ) × (bytes ≡ Some text) × (length text ≤ most_bytes) × IsFirstByte text k
-IsRefused bytes (Deep p) = (text : List ℕ) × (bytes ≡ Some text) × IsTooDeep text p
+IsRefused bytes (Deep p) = (text : List ℕ) × (bytes ≡ Some text) × IsDeepAt text p
 IsRefused bytes (Syntax p) = (text : List ℕ) × (bytes ≡ Some text) × IsReadable text × ((P : Program) → Spells text P → ⊥) × IsPlace IsProgram text p
 IsRefused bytes (TypeError n p) = (text : List ℕ) × (P : Program) × (bytes ≡ Some text) × IsText text P × IsFirstBroken P n p
 IsRefused bytes (Limit l) = (text : List ℕ) × (P : Program) × (bytes ≡ Some text) × IsText text P × IsTyped P × IsFirstLimit P l

@@ -1,10 +1,11 @@
 //! Reading a file that the words name.
 
-ghost use Rattle.std.specs.Prelude.{◌≡◌, IfOk};
-ghost use Rattle.gh_base.specs.Outside.{AddsName, MakesAtMost};
-ghost use Rattle.gh_base.specs.Reading.{told, calls_for};
+ghost use Rattle.std.specs.Prelude.{IfOk, ⊤};
+ghost use Rattle.gh_base.specs.Reading.{told};
 ghost use Rattle.gh_top.specs.Causes.{HasReadCause};
-ghost use Rattle.gh_top.specs.Files.{IsRead};
+ghost use Rattle.gh_top.specs.Files.{IsFileRead};
+ghost use Rattle.gh_top.specs.Reads.{ReadsFile};
+ghost use Rattle.gh_top.specs.Seen.{reading};
 
 use crate::report::Stop;
 use gh_base::outside::Inputs;
@@ -27,11 +28,9 @@ pub fn read_file<I: Inputs>(
     name: &str,
     limit: usize,
 ) -> Result<FileText, Stop>
-    ensures read { IfOk result (IsRead (told (I.table inputs.old) name.now) limit) }
-    ensures cause { HasReadCause (I.faults inputs.old) (I.faults inputs.new) result }
-    ensures table { I.table inputs.new ≡ I.table inputs.old }
-    ensures begun { AddsName (I.names inputs.old) (I.names inputs.new) name.now }
-    ensures calls { MakesAtMost (calls_for (told (I.table inputs.old) name.now) limit) (I.calls inputs.old) (I.calls inputs.new) }
+    ensures read { IfOk result (IsFileRead (told (I.table inputs.old) name.now) limit) }
+    ensures cause { HasReadCause ⊤ (reading I.Inputs inputs.old inputs.new) result }
+    ensures file { ReadsFile name.now limit (reading I.Inputs inputs.old inputs.new) }
 {
     match read_input(alloc, inputs, name, limit) {
         Ok(text) => Ok(FileText::Whole(text)),

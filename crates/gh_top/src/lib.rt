@@ -2,6 +2,7 @@
 #![tactic(auto)]
 
 mod check;
+mod entail;
 mod file;
 mod front;
 pub mod laws;
@@ -13,8 +14,11 @@ pub mod refusal;
 mod replay;
 mod report;
 pub mod run;
+mod session;
+mod simulate;
 mod smallest;
 mod smt;
+mod source;
 pub mod status;
 pub mod steady;
 pub mod stress;

@@ -1,7 +1,9 @@
 //! Runs over an outside that never fails.
 
+ghost use Rattle.std.specs.Prelude.{Some};
 ghost use Rattle.gh_base.specs.Files.{table_in};
-ghost use Rattle.gh_top.specs.Headline.{IsComplete};
+ghost use Rattle.gh_top.specs.Headline.{IsWholeOrWant};
+ghost use Rattle.gh_top.specs.Seen.{silent};
 
 use crate::run::run;
 use crate::status::Status;
@@ -17,7 +19,7 @@ pub fn steady_run(
     inputs: &mut SteadyInputs,
     out: &mut SteadySink,
 ) -> Status
-    ensures { IsComplete (Some (table_in inputs.old.files)) words.now None None result }
+    ensures { IsWholeOrWant (Some (table_in inputs.old.files)) words.now silent result }
 {
     run(alloc, words, inputs, out)
 }

@@ -17,8 +17,8 @@ abbrev pub state_of : kept_state.State → State
 state_of s = record { store = store_of s.store; heap = s.heap }
 
 -- the stores list the same names
-abbrev pub IsNext : kept_state.State → kept_state.State → Type 0
-IsNext x y = listed_names y.store ≡ listed_names x.store
+abbrev pub ListsAlike : kept_state.State → kept_state.State → Type 0
+ListsAlike x y = listed_names y.store ≡ listed_names x.store
 
 abbrev pub drawn : kept_state.State → Drawn
 drawn s = record { listed = listed_names s.store; state = state_of s }
@@ -36,16 +36,16 @@ IsFailure P r xs (Step n) = (c : Condition) → StandsFor P r c → FirstFailure
 IsFailure P r xs OutOfMemory = Unit {0}
 
 -- the kept condition is one of the program's
-pub record IsKept (P : Program) (r : kept_condition.Condition) (c : Condition) : Type 0 where
+pub record IsOfProgram (P : Program) (r : kept_condition.Condition) (c : Condition) : Type 0 where
   pub stands : StandsFor P r c
   pub there : IsCondition P c
 
 abbrev pub IsOne : Program → kept_condition.Condition → Type 0
-IsOne P r = (c : Condition) × IsKept P r c
+IsOne P r = (c : Condition) × IsOfProgram P r c
 
 -- no states are a counterexample
 abbrev pub HasNoCounterexample : Program → kept_condition.Condition → Type 0
-HasNoCounterexample P r = (c : Condition) → IsKept P r c → IsConditionValid P c
+HasNoCounterexample P r = (c : Condition) → IsOfProgram P r c → IsConditionValid P c
 
 abbrev pub HasCounterexample : Program → kept_condition.Condition → List Drawn → Type 0
-HasCounterexample P r xs = (c : Condition) → IsKept P r c → Refutes P c xs
+HasCounterexample P r xs = (c : Condition) → IsOfProgram P r c → Refutes P c xs

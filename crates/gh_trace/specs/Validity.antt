@@ -12,6 +12,6 @@ abbrev pub ListedAreValid : Program → Type 0
 ListedAreValid P = (c : Condition) → Contains (conditions P) c → IsConditionValid P c
 
 -- the list of states is a counterexample of the condition
-abbrev pub Refutes : Program → Condition → List State → Type 0
-Refutes P c [] = ⊥
-Refutes P c (x ∷ ys) = Counterexample P c.start.meets c.way.steps c.way.check x ys
+abbrev pub AreCounterexample : Program → Condition → List State → Type 0
+AreCounterexample P c [] = ⊥
+AreCounterexample P c (x ∷ ys) = Counterexample P c.start.meets c.way.steps c.way.check x ys

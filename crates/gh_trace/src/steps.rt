@@ -8,7 +8,7 @@ ghost use Rattle.gh_path.specs.Graphs as graph;
 ghost use Rattle.gh_path.specs.Kept.{IsCallee, IsLoop, IsStep};
 ghost use Rattle.gh_assert.specs.Stores.{listed_names};
 ghost use Rattle.gh_trace.specs.Traces.{Takes};
-ghost use Rattle.gh_trace.specs.Kept.{state_of, IsNext};
+ghost use Rattle.gh_trace.specs.Kept.{state_of, ListsAlike};
 ghost use Rattle.gh_trace.specs.Scenes.{HasLoops};
 
 use crate::heaps::is_same_outside;
@@ -25,7 +25,7 @@ use std::slice::from_ref;
 
 // Whether the state stays as it is.
 fn stays(alloc: Global, before: &State, after: &State) -> Result<bool, AllocError>
-    requires { IsNext before.now after.now }
+    requires { ListsAlike before.now after.now }
     ensures { IfOk result (λ b. IsTrue b ↔ (state_of after.now ≡ state_of before.now)) }
 {
     if !keeps(&before.store, &after.store, Targets::Names(&[])) {
@@ -36,7 +36,7 @@ fn stays(alloc: Global, before: &State, after: &State) -> Result<bool, AllocErro
 
 /// The place is allocated, and the state stays.
 pub fn accesses(alloc: Global, at: &Occ, before: &State, after: &State) -> Result<bool, AllocError>
-    requires { IsNext before.now after.now }
+    requires { ListsAlike before.now after.now }
     ensures { IfOk result (λ b. (P : Program) → IsTrue b ↔ Takes P (graph.accessed at.now) (state_of before.now) (state_of after.now)) }
 {
     let place = value_of(&before.store, at);
@@ -55,7 +55,7 @@ pub fn assumes(
     before: &State,
     after: &State,
 ) -> Result<bool, AllocError>
-    requires { IsNext before.now after.now }
+    requires { ListsAlike before.now after.now }
     ensures { IfOk result (λ b. (P : Program) → IsTrue b ↔ Takes P (graph.assume left.now equal right.now true) (state_of before.now) (state_of after.now)) }
 {
     let Some(left) = expr_value(&before.store, &before.heap, left) else {
@@ -78,7 +78,7 @@ pub fn assigns(
     before: &State,
     after: &State,
 ) -> Result<bool, AllocError>
-    requires { IsNext before.now after.now }
+    requires { ListsAlike before.now after.now }
     ensures { IfOk result (λ b. (P : Program) → IsTrue b ↔ Takes P (graph.assigned target.now expr.now) (state_of before.now) (state_of after.now)) }
 {
     let Some(value) = expr_value(&before.store, &before.heap, expr) else {
@@ -104,7 +104,7 @@ pub fn writes(
     before: &State,
     after: &State,
 ) -> Result<bool, AllocError>
-    requires { IsNext before.now after.now }
+    requires { ListsAlike before.now after.now }
     ensures { IfOk result (λ b. (P : Program) → IsTrue b ↔ Takes P (graph.written at.now expr.now) (state_of before.now) (state_of after.now)) }
 {
     let place = value_of(&before.store, at);
@@ -125,7 +125,7 @@ pub fn writes(
 
 /// The variable has a place that was not allocated, and a cell is there.
 pub fn makes(alloc: Global, target: &Occ, before: &State, after: &State) -> Result<bool, AllocError>
-    requires { IsNext before.now after.now }
+    requires { ListsAlike before.now after.now }
     ensures { IfOk result (λ b. (P : Program) → IsTrue b ↔ Takes P (graph.made target.now) (state_of before.now) (state_of after.now)) }
 {
     let place = value_of(&after.store, target);
@@ -147,7 +147,7 @@ pub fn makes(alloc: Global, target: &Occ, before: &State, after: &State) -> Resu
 
 /// The cell at the place is gone.
 pub fn frees(alloc: Global, at: &Occ, before: &State, after: &State) -> Result<bool, AllocError>
-    requires { IsNext before.now after.now }
+    requires { ListsAlike before.now after.now }
     ensures { IfOk result (λ b. (P : Program) → IsTrue b ↔ Takes P (graph.freed at.now) (state_of before.now) (state_of after.now)) }
 {
     let place = value_of(&before.store, at);
@@ -171,7 +171,7 @@ fn calls(
     before: &State,
     after: &State,
 ) -> Result<bool, AllocError>
-    requires { IsNext before.now after.now }
+    requires { ListsAlike before.now after.now }
     ensures { IfOk result (λ b. (f : Occ) → IsCallee (program_of scene.entry.typed.now) callee f.name → IsTrue b ↔ Takes (program_of scene.entry.typed.now) (graph.called targets.now f arguments.now) (state_of before.now) (state_of after.now)) }
 {
     let Some(callee) = procedure_at(scene.typed, callee) else {
@@ -204,7 +204,7 @@ fn goes_around(
     after: &State,
 ) -> Result<bool, AllocError>
     requires loops { HasLoops scene }
-    requires next { IsNext before.now after.now }
+    requires next { ListsAlike before.now after.now }
     ensures { IfOk result (λ b. (l : graph.Loop) → IsLoop (procedure_of scene.entry.procedure.now) number l → IsTrue b ↔ Takes (program_of scene.entry.typed.now) (graph.looped l) (state_of before.now) (state_of after.now)) }
 {
     let Some(round) = scene.round(number) else {
@@ -234,7 +234,7 @@ fn answers(
     before: &State,
     after: &State,
 ) -> Result<bool, AllocError>
-    requires { IsNext before.now after.now }
+    requires { ListsAlike before.now after.now }
     ensures { IfOk result (λ b. (P : Program) → IsTrue b ↔ Takes P (graph.answered (results_of (procedure_of scene.entry.procedure.now)) exprs.now) (state_of before.now) (state_of after.now)) }
 {
     let Some(given) = values_of(alloc, &before.store, &before.heap, exprs)? else {
@@ -262,7 +262,7 @@ pub fn leads(
     after: &State,
 ) -> Result<bool, AllocError>
     requires loops { HasLoops scene }
-    requires next { IsNext before.now after.now }
+    requires next { ListsAlike before.now after.now }
     ensures { IfOk result (λ b. (s : graph.PathStep) → IsStep (program_of scene.entry.typed.now) (procedure_of scene.entry.procedure.now) step.now s → IsTrue b ↔ Takes (program_of scene.entry.typed.now) s (state_of before.now) (state_of after.now)) }
 {
     match step {

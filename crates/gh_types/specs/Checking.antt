@@ -7,7 +7,7 @@ use Rattle.gh_types.specs.declared.check.CheckError.{CheckError}
 use Rattle.gh_types.specs.declared.check.CheckError.TheVariants.{TypeError, Limit, OutOfMemory}
 
 -- the cause of a refusal: the first of all broken rules; where none is broken, the limit that is passed; want of memory at any time
-abbrev pub IsRefusal : Program → CheckError → Type 0
-IsRefusal p (TypeError number span) = IsFirstBroken p number span
-IsRefusal p (Limit limit) = IsTyped p × IsLimit p limit
-IsRefusal p OutOfMemory = ⊤
+abbrev pub IsCheckRefusal : Program → CheckError → Type 0
+IsCheckRefusal p (TypeError number span) = IsFirstBroken p number span
+IsCheckRefusal p (Limit limit) = IsTyped p × IsLimit p limit
+IsCheckRefusal p OutOfMemory = ⊤

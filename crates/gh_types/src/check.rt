@@ -5,7 +5,7 @@ ghost use Rattle.gh_ast.specs.Plain.{program_of};
 ghost use Rattle.gh_ast.specs.Limits.{KeepsLimits};
 ghost use Rattle.gh_ast.specs.Rules.{IsTyped};
 ghost use Rattle.gh_ast.specs.WellFormed.{IsWellFormed};
-ghost use Rattle.gh_types.specs.Checking.{IsRefusal};
+ghost use Rattle.gh_types.specs.Checking.{IsCheckRefusal};
 ghost use Rattle.gh_types.specs.Checks.{ProgramErrors};
 ghost use Rattle.gh_types.specs.Faults.{IsFirstOf};
 
@@ -60,7 +60,7 @@ pub fn check(alloc: Global, program: Program) -> Result<Typed, CheckError>
     ensures ok { IfOk result (λ typed. typed ≡ program) }
     ensures rules { OnOk result (IsTyped (program_of program)) }
     ensures limits { OnOk result (KeepsLimits (program_of program)) }
-    ensures err { IfErr result (IsRefusal (program_of program)) }
+    ensures err { IfErr result (IsCheckRefusal (program_of program)) }
 {
     if let Some(fault) = first_fault(alloc, &program)? {
         return Err(CheckError::TypeError {

@@ -1,7 +1,7 @@
 use Rattle.std.proofs.Common.{◌≡◌, ◌∙◌, ◌++◌, ◌∷◌, [], List, take, ap, sym, subst, arith, get_or}
 use Rattle.gh_base.specs.declared.sizes.Sizes.{Sizes}
 use Rattle.gh_log.specs.declared.lines.LogLine.{LogLine}
-use Rattle.gh_check.specs.Kept.{IsKept, IsWithin}
+use Rattle.gh_check.specs.Kept.{AreLinesKept, IsWithin}
 use Rattle.gh_check.specs.Lines.{IsChecked, IsTaken, IsKeptAfter, IsReady}
 use Rattle.gh_check.proofs.SectionLemmas.{line_refused, reads_more, all_read, end_refused}
 use Rattle.gh_check.proofs.check.check_log.Goals as goal
@@ -35,7 +35,7 @@ loop-entry-preserved c =
     let taken : IsTaken p front l c.in-Holds.clause = subst (IsChecked p front l) c.in-Holds.is (c.in_ok-clause.ensures.checked front c.loop-entry.invariant.kept) in
     let after = subst (λ o. IsKeptAfter p front l o c.checked.new.before.kept) c.in-Holds.is (c.in_ok-clause.ensures.kept front c.loop-entry.invariant.kept) in
     reads_more p c.args.section.now.first lines i l l c.loop-entry.before c.keep.new.before c.in-Holds.clause c.loop-entry.line c.loop-entry.is_empty c.has_empty-is_empty.result
-    (omega arith) at c.loop-entry.invariant taken (subst (IsKept p (front ++ l ∷ [])) (sym c.in_ok-keep.ensures.kept) after)
+    (omega arith) at c.loop-entry.invariant taken (subst (AreLinesKept p (front ++ l ∷ [])) (sym c.in_ok-keep.ensures.kept) after)
     (subst (λ (s : Sizes). IsReady s c.keep.new.before) c.sizes.ensures.sizes c.in_ok-keep.ensures.ready) c.has_empty-is_empty.ensures
 
 pub returns-then-is_empty-clause-valid : goal.returns-then-is_empty-clause-valid

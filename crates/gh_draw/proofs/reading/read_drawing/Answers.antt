@@ -1,7 +1,7 @@
 use Rattle.std.proofs.Common.{subst}
 use Rattle.std.specs.Prelude.{option_map}
 use Rattle.gh_ast.specs.Plain.{program_of}
-use Rattle.gh_draw.specs.Reading.{IsRead, IsFound, ShowsCondition, ShowsTrace}
+use Rattle.gh_draw.specs.Reading.{IsFrontRead, IsFound, ShowsCondition, ShowsTrace}
 use Rattle.gh_draw.proofs.Whole.{file_no_drawing, file_no_number, file_no_trace, file_whole}
 use Rattle.gh_draw.proofs.reading.read_drawing.Goals as goal
 
@@ -11,7 +11,7 @@ returns-then-not-skip c = file_no_drawing (program_of c.args.typed.now) c.args.t
 pub returns-in_default : goal.returns-in_default
 returns-in_default c =
     file_no_number (program_of c.args.typed.now) c.args.text.now c.skip.new.cursor.text.now c.read_number.new.cursor.text.now c.if-not-skip.ensures
-    (subst (λ o. IsRead ShowsCondition c.skip.new.cursor.text.now c.read_number.new.cursor.text.now o) c.in_default.is c.read_number.ensures)
+    (subst (λ o. IsFrontRead ShowsCondition c.skip.new.cursor.text.now c.read_number.new.cursor.text.now o) c.in_default.is c.read_number.ensures)
 
 pub returns-in_default-2 : goal.returns-in_default-2
 returns-in_default-2 c =

@@ -1,5 +1,5 @@
 use Rattle.std.proofs.Common.{◌≡◌, ◌∙◌, sym, subst, codes}
-use Rattle.gh_draw.specs.Reading.{IsRead, ShowsCellAbove}
+use Rattle.gh_draw.specs.Reading.{IsFrontRead, ShowsCellAbove}
 use Rattle.gh_draw.proofs.Reader.{HeapGoes, heap_begin, heap_more, cells_missing, cells_end, word_missing, word_taken, missing_stays}
 use Rattle.gh_draw.proofs.reading.read_heap.Goals as goal
 
@@ -12,7 +12,7 @@ returns-in_default c =
     let none = word_missing (codes "\n") c.cells.cursor.text.now c.take.new.self.text.now c.take.result c.take.ensures.read c.cells-test.ensures in
     let goes = subst (λ z. HeapGoes c.cells.low z c.args.cursor.now.text.now c.cells.heap) (sym stays) c.cells.invariant in
     cells_missing c.cells.low c.take.new.self.text.now c.args.cursor.now.text.now c.read_cell.new.cursor.text.now c.cells.heap goes.goes (λ r e. none tt r (sym stays ∙ e))
-    (subst (λ o. IsRead (ShowsCellAbove c.cells.low) c.take.new.self.text.now c.read_cell.new.cursor.text.now o) c.in_default.is c.read_cell.ensures)
+    (subst (λ o. IsFrontRead (ShowsCellAbove c.cells.low) c.take.new.self.text.now c.read_cell.new.cursor.text.now o) c.in_default.is c.read_cell.ensures)
 
 pub cells-preserved : goal.cells-preserved
 cells-preserved c =

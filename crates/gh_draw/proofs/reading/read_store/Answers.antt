@@ -1,7 +1,7 @@
 use Rattle.std.proofs.Common.{ap, subst, None}
 use Rattle.std.specs.Prelude.{Contains}
 use Rattle.gh_assert.specs.Stores.{listed_names}
-use Rattle.gh_draw.specs.Reading.{IsRead, ShowsValue}
+use Rattle.gh_draw.specs.Reading.{IsFrontRead, ShowsValue}
 use Rattle.gh_draw.proofs.Reader.{store_begin, store_more, store_missing, store_end, names_more, name_is_new}
 use Rattle.gh_draw.proofs.reading.read_store.Goals as goal
 
@@ -10,7 +10,7 @@ loop-name-init c = record { goes = store_begin c.args.names.now c.args.cursor.no
 
 pub returns-in_default : goal.returns-in_default
 returns-in_default c =
-    store_missing c.args.names.now c.loop-name.name-index c.name-item.result c.loop-name.cursor.text.now c.value.new.self.text.now c.args.cursor.now.text.now c.loop-name.store c.name-item.is c.loop-name-test.true c.loop-name.invariant.goes (subst (λ z. IsRead (ShowsValue z) c.loop-name.cursor.text.now c.value.new.self.text.now None) c.bytes.ensures.text (subst (λ o. IsRead (ShowsValue c.bytes.result.now) c.loop-name.cursor.text.now c.value.new.self.text.now o) c.in_default.is c.value.ensures))
+    store_missing c.args.names.now c.loop-name.name-index c.name-item.result c.loop-name.cursor.text.now c.value.new.self.text.now c.args.cursor.now.text.now c.loop-name.store c.name-item.is c.loop-name-test.true c.loop-name.invariant.goes (subst (λ z. IsFrontRead (ShowsValue z) c.loop-name.cursor.text.now c.value.new.self.text.now None) c.bytes.ensures.text (subst (λ o. IsFrontRead (ShowsValue c.bytes.result.now) c.loop-name.cursor.text.now c.value.new.self.text.now o) c.in_default.is c.value.ensures))
 
 pub add-requires : goal.add-requires
 add-requires c = record { new = λ there. name_is_new c.args.names.now c.loop-name.name-index c.name-item.result c.requires c.name-item.is c.loop-name-test.true (subst (λ ns. Contains ns c.name-item.result) c.loop-name.invariant.listed there) }

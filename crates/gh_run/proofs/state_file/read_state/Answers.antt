@@ -3,7 +3,7 @@ use Rattle.gh_ast.specs.Plain.{program_of}
 use Rattle.gh_ast.specs.Programs.{variable_names}
 use Rattle.gh_ast.specs.Rules.{IsTyped}
 use Rattle.gh_ast.proofs.TypedPrograms.{variables_are_distinct}
-use Rattle.gh_draw.specs.Reading.{IsRead, AreDistinctNames}
+use Rattle.gh_draw.specs.Reading.{IsFrontRead, AreDistinctNames}
 use Rattle.gh_draw.proofs.Reader.{word_missing, word_taken}
 use Rattle.gh_draw.proofs.Whole.{is_nothing, is_something}
 use Rattle.gh_run.specs.Lines.{ShowsProcedure, ShowsStore, ShowsCellLine}
@@ -42,8 +42,8 @@ returns-in_default-2 c =
     let typed = subst (λ W. IsTyped (program_of W)) c.program.ensures.same c.program.ensures.typed in
     let names : c.as_slice.result.now ≡ variable_names p = c.as_slice.ensures.value ∙ c.in_ok-names.ensures ∙ ap variable_names same in
     let r2 = c.read_store_line.new.cursor.text.now in
-    let store = subst (λ ns. IsRead (ShowsStore ns) r1 r2 c.in_ok-store.field-0) names c.in_ok-store.ensures in
-    let none = subst (λ o. IsRead (ShowsStore (variable_names p)) r1 r2 o) c.in_default-2.is store in
+    let store = subst (λ ns. IsFrontRead (ShowsStore ns) r1 r2 c.in_ok-store.field-0) names c.in_ok-store.ensures in
+    let none = subst (λ o. IsFrontRead (ShowsStore (variable_names p)) r1 r2 o) c.in_default-2.is store in
     record { read = tt; refused = refused P text c.faulty-in_default-2.result 2 c.faulty-in_default-2.ensures (faulty2 P text n p r1 r2 typed a none); fits = tt; few = tt }
 
 pub returns-in_default-3 : goal.returns-in_default-3
@@ -59,11 +59,11 @@ returns-in_default-3 c =
     let typed = subst (λ W. IsTyped (program_of W)) c.program.ensures.same c.program.ensures.typed in
     let names : c.as_slice.result.now ≡ variable_names p = c.as_slice.ensures.value ∙ c.in_ok-names.ensures ∙ ap variable_names same in
     let r2 = c.read_store_line.new.cursor.text.now in
-    let store = subst (λ ns. IsRead (ShowsStore ns) r1 r2 c.in_ok-store.field-0) names c.in_ok-store.ensures in
+    let store = subst (λ ns. IsFrontRead (ShowsStore ns) r1 r2 c.in_ok-store.field-0) names c.in_ok-store.ensures in
     let es = c.in-Some-2.store in
-    let l = listed (variable_names p) r1 es r2 (subst (λ o. IsRead (ShowsStore (variable_names p)) r1 r2 o) c.in-Some-2.is store) in
+    let l = listed (variable_names p) r1 es r2 (subst (λ o. IsFrontRead (ShowsStore (variable_names p)) r1 r2 o) c.in-Some-2.is store) in
     let r3 = c.read_heap_line.new.cursor.text.now in
-    let none = subst (λ o. IsRead ShowsCellLine r2 r3 o) c.in_default-3.is c.in_ok-heap.ensures in
+    let none = subst (λ o. IsFrontRead ShowsCellLine r2 r3 o) c.in_default-3.is c.in_ok-heap.ensures in
     record { read = tt; refused = refused P text c.faulty-in_default-3.result 3 c.faulty-in_default-3.ensures (faulty3 P text n p r1 r2 r3 es typed a l none); fits = tt; few = tt }
 
 pub returns-then-is_none : goal.returns-then-is_none
@@ -79,12 +79,12 @@ returns-then-is_none c =
     let typed = subst (λ W. IsTyped (program_of W)) c.program.ensures.same c.program.ensures.typed in
     let names : c.as_slice.result.now ≡ variable_names p = c.as_slice.ensures.value ∙ c.in_ok-names.ensures ∙ ap variable_names same in
     let r2 = c.read_store_line.new.cursor.text.now in
-    let store = subst (λ ns. IsRead (ShowsStore ns) r1 r2 c.in_ok-store.field-0) names c.in_ok-store.ensures in
+    let store = subst (λ ns. IsFrontRead (ShowsStore ns) r1 r2 c.in_ok-store.field-0) names c.in_ok-store.ensures in
     let es = c.in-Some-2.store in
-    let l = listed (variable_names p) r1 es r2 (subst (λ o. IsRead (ShowsStore (variable_names p)) r1 r2 o) c.in-Some-2.is store) in
+    let l = listed (variable_names p) r1 es r2 (subst (λ o. IsFrontRead (ShowsStore (variable_names p)) r1 r2 o) c.in-Some-2.is store) in
     let r3 = c.read_heap_line.new.cursor.text.now in
     let h = c.in-Some-3.heap in
-    let m = heaped r2 h r3 (subst (λ o. IsRead ShowsCellLine r2 r3 o) c.in-Some-3.is c.in_ok-heap.ensures) in
+    let m = heaped r2 h r3 (subst (λ o. IsFrontRead ShowsCellLine r2 r3 o) c.in-Some-3.is c.in_ok-heap.ensures) in
     let r4 = c.take.new.self.text.now in
     let none = word_missing (codes "end\n") r3 r4 c.take.result c.take.ensures.read c.if-is_none.ensures in
     record { read = tt; refused = refused P text c.faulty-then-is_none.result 4 c.faulty-then-is_none.ensures (faulty4 P text n p r1 r2 r3 r4 es h typed a l m none); fits = tt; few = tt }
@@ -102,12 +102,12 @@ returns-then-not-is_empty c =
     let typed = subst (λ W. IsTyped (program_of W)) c.program.ensures.same c.program.ensures.typed in
     let names : c.as_slice.result.now ≡ variable_names p = c.as_slice.ensures.value ∙ c.in_ok-names.ensures ∙ ap variable_names same in
     let r2 = c.read_store_line.new.cursor.text.now in
-    let store = subst (λ ns. IsRead (ShowsStore ns) r1 r2 c.in_ok-store.field-0) names c.in_ok-store.ensures in
+    let store = subst (λ ns. IsFrontRead (ShowsStore ns) r1 r2 c.in_ok-store.field-0) names c.in_ok-store.ensures in
     let es = c.in-Some-2.store in
-    let l = listed (variable_names p) r1 es r2 (subst (λ o. IsRead (ShowsStore (variable_names p)) r1 r2 o) c.in-Some-2.is store) in
+    let l = listed (variable_names p) r1 es r2 (subst (λ o. IsFrontRead (ShowsStore (variable_names p)) r1 r2 o) c.in-Some-2.is store) in
     let r3 = c.read_heap_line.new.cursor.text.now in
     let h = c.in-Some-3.heap in
-    let m = heaped r2 h r3 (subst (λ o. IsRead ShowsCellLine r2 r3 o) c.in-Some-3.is c.in_ok-heap.ensures) in
+    let m = heaped r2 h r3 (subst (λ o. IsFrontRead ShowsCellLine r2 r3 o) c.in-Some-3.is c.in_ok-heap.ensures) in
     let r4 = c.take.new.self.text.now in
     let end = word_taken (codes "end\n") r3 r4 c.take.result c.take.ensures.read c.if-is_none.ensures in
     let some = is_something r4 c.if-not-is_empty.ensures in
@@ -125,12 +125,12 @@ returns c =
     let same = read_at c.args.typed.now c.program.result.now n c.from.result c.index-procedure.result.now p c.program.ensures.same c.from.ensures c.index-procedure.ensures shown.number.numbered in
     let names : c.as_slice.result.now ≡ variable_names p = c.as_slice.ensures.value ∙ c.in_ok-names.ensures ∙ ap variable_names same in
     let r2 = c.read_store_line.new.cursor.text.now in
-    let store = subst (λ ns. IsRead (ShowsStore ns) r1 r2 c.in_ok-store.field-0) names c.in_ok-store.ensures in
+    let store = subst (λ ns. IsFrontRead (ShowsStore ns) r1 r2 c.in_ok-store.field-0) names c.in_ok-store.ensures in
     let es = c.in-Some-2.store in
-    let l = listed (variable_names p) r1 es r2 (subst (λ o. IsRead (ShowsStore (variable_names p)) r1 r2 o) c.in-Some-2.is store) in
+    let l = listed (variable_names p) r1 es r2 (subst (λ o. IsFrontRead (ShowsStore (variable_names p)) r1 r2 o) c.in-Some-2.is store) in
     let r3 = c.read_heap_line.new.cursor.text.now in
     let h = c.in-Some-3.heap in
-    let m = heaped r2 h r3 (subst (λ o. IsRead ShowsCellLine r2 r3 o) c.in-Some-3.is c.in_ok-heap.ensures) in
+    let m = heaped r2 h r3 (subst (λ o. IsFrontRead ShowsCellLine r2 r3 o) c.in-Some-3.is c.in_ok-heap.ensures) in
     let r4 = c.take.new.self.text.now in
     let end = word_taken (codes "end\n") r3 r4 c.take.result c.take.ensures.read c.if-is_none.ensures in
     let none = is_nothing r4 c.if-not-is_empty.ensures in

@@ -1,14 +1,17 @@
-use Rattle.std.proofs.Common.{◌≡◌, ◌∙◌, ◌++◌, ◌∷◌, [], ℕ, List, Some, ap, sym, subst, ◌<◌, length, inr, get_or, refl}
-use Rattle.std.specs.Prelude.{slice_get}
-use Rattle.std.proofs.lemmas.Option.{slice_get_read}
+use Rattle.std.proofs.Common.{◌≡◌, ◌∙◌, ◌++◌, ◌∷◌, [], ℕ, List, Some, false, ap, sym, subst, ◌<◌, arith, length, inr, get_or, refl}
+use Rattle.std.specs.Prelude.{slice_get, slice_set}
+use Rattle.std.proofs.lemmas.List.{length_push}
+use Rattle.std.proofs.lemmas.Option.{slice_get_read, slice_get-get_or}
 use Rattle.std.proofs.lemmas.List.Elements.{All-contains}
 use Rattle.gh_base.specs.declared.atom.Lit.{Lit}
 use Rattle.gh_base.specs.Atoms.{opposite}
+use Rattle.gh_sat.specs.declared.status.Hint.{Hint}
 use Rattle.gh_sat.specs.declared.trail.Step.{Step}
-use Rattle.gh_sat.specs.Trail.{Line, IsUnitIn, IsFalseIn, IsTrueIn, AreSteps}
-use Rattle.gh_sat.specs.Status.{IsBad, IsForced, Grows}
+use Rattle.gh_sat.specs.Trail.{Line, IsUnitIn, IsFalseIn, IsTrueIn}
+use Rattle.gh_sat.specs.Status.{IsBad, IsGuarded, IsForced, Grows}
+use Rattle.gh_sat.proofs.ListLemmas.{get_last, get_set_same}
 use Rattle.gh_sat.proofs.StatusLemmas.{not_free_opposite}
-use Rattle.gh_sat.proofs.WatchLemmas.{grows_one, unit_good, one_unit}
+use Rattle.gh_sat.proofs.WatchLemmas.{grows_one, one_unit, moves_set}
 use Rattle.gh_sat.proofs.propagation.look.Goals as goal
 
 read : (clauses : List (List Lit)) (k : ℕ) (c lits : List Lit) → c ≡ get_or clauses k c → lits ≡ c → k < length clauses → slice_get clauses k ≡ Some lits
@@ -17,14 +20,21 @@ read clauses k c lits e f h = slice_get_read clauses (length clauses) k c (λ _.
 same : (clauses : List (List Lit)) (k : ℕ) (c d : List Lit) → slice_get clauses k ≡ Some c → slice_get clauses k ≡ Some d → c ≡ d
 same clauses k c d e f = cc
 
+-- the literal that was put is true
+put_true : (steps : List Step) (x : Step) → IsTrueIn (steps ++ x ∷ []) x.lit
+put_true steps x = (length steps, x, omega (arith, length_push steps x), get_last steps x, refl)
+
+abbrev no_hint : Hint
+no_hint = record { first = record { number = 0; positive = false }; second = record { number = 0; positive = false } }
+
 pub returns-in-False-clause-if_false : goal.returns-in-False-clause-if_false
 returns-in-False-clause-if_false c = λ _.
-    (c.lits-lits.result.now, read c.args.clauses.now c.args.k c.index-clauses-k.result c.lits-lits.result.now c.index-clauses-k.is c.lits-lits.ensures c.requires.within, c.in-False.ensures)
+    (c.lits-lits.result.now, read c.args.clauses.now c.args.k c.index-clauses-k.result c.lits-lits.result.now c.index-clauses-k.is c.lits-lits.ensures c.requires.within, c.in-False.ensures.status)
 
 pub returns-in-False-clause-unit : goal.returns-in-False-clause-unit
 returns-in-False-clause-unit c = λ d u at i.
     let is = same c.args.clauses.now c.args.k c.lits-lits.result.now d (read c.args.clauses.now c.args.k c.index-clauses-k.result c.lits-lits.result.now c.index-clauses-k.is c.lits-lits.ensures c.requires.within) at in
-    let f : IsFalseIn c.args.trail.now.steps d = subst (IsFalseIn c.args.trail.now.steps) is c.in-False.ensures in
+    let f : IsFalseIn c.args.trail.now.steps d = subst (IsFalseIn c.args.trail.now.steps) is c.in-False.ensures.status in
     absurd (not_free_opposite c.args.trail.now.steps u (All-contains (λ (m : Lit). IsTrueIn c.args.trail.now.steps (opposite m)) d u f i.there) i.free)
 
 pub returns-in-Unit-clause-grows : goal.returns-in-Unit-clause-grows
@@ -35,33 +45,35 @@ returns-in-Unit-clause-grows c =
       number = c.args.k;
       clause = c.lits-lits.result.now;
       at = read c.args.clauses.now c.args.k c.index-clauses-k.result c.lits-lits.result.now c.index-clauses-k.is c.lits-lits.ensures c.requires.within;
-      unit = c.in-Unit.ensures;
+      unit = c.in-Unit.ensures.status;
       reason = refl;
       level = refl;
     } in
     subst (λ (n : Line). Grows c.args.clauses.now c.args.level t.steps n.steps) (sym c.put.ensures.put) (grows_one c.args.clauses.now c.args.level t.steps x f)
 
-pub returns-in-Unit-clause-good : goal.returns-in-Unit-clause-good
-returns-in-Unit-clause-good c = λ d at bad.
-    let t = c.args.trail.now in
-    let x : Step = record { lit = c.in-Unit.lit; level = c.args.level; reason = Some c.args.k } in
-    let is = same c.args.clauses.now c.args.k c.lits-lits.result.now d (read c.args.clauses.now c.args.k c.index-clauses-k.result c.lits-lits.result.now c.index-clauses-k.is c.lits-lits.ensures c.requires.within) at in
-    let i : IsUnitIn t.steps d c.in-Unit.lit = subst (λ (e : List Lit). IsUnitIn t.steps e c.in-Unit.lit) is c.in-Unit.ensures in
-    absurd (unit_good t d c.in-Unit.lit x (subst AreSteps c.put.ensures.put c.put.ensures.valid) refl i.there (subst (λ (n : Line). IsBad n.steps d) c.put.ensures.put bad))
-
 pub returns-in-Unit-clause-unit : goal.returns-in-Unit-clause-unit
 returns-in-Unit-clause-unit c = λ d u at i.
     let t = c.args.trail.now in
     let is = same c.args.clauses.now c.args.k c.lits-lits.result.now d (read c.args.clauses.now c.args.k c.index-clauses-k.result c.lits-lits.result.now c.index-clauses-k.is c.lits-lits.ensures c.requires.within) at in
-    let mine : IsUnitIn t.steps d c.in-Unit.lit = subst (λ (e : List Lit). IsUnitIn t.steps e c.in-Unit.lit) is c.in-Unit.ensures in
+    let mine : IsUnitIn t.steps d c.in-Unit.lit = subst (λ (e : List Lit). IsUnitIn t.steps e c.in-Unit.lit) is c.in-Unit.ensures.status in
     ap (λ (n : Line). n.steps) c.put.ensures.put ∙ ap (λ (l : Lit). t.steps ++ (let x : Step = record { lit = l; level = c.args.level; reason = Some c.args.k } in x) ∷ []) (one_unit t d c.in-Unit.lit u mine i)
-
-pub returns-in-Open-clause-good : goal.returns-in-Open-clause-good
-returns-in-Open-clause-good c = λ d at bad.
-    let is = same c.args.clauses.now c.args.k c.lits-lits.result.now d (read c.args.clauses.now c.args.k c.index-clauses-k.result c.lits-lits.result.now c.index-clauses-k.is c.lits-lits.ensures c.requires.within) at in
-    absurd (c.in-Open.ensures (subst (IsBad c.args.trail.now.steps) (sym is) bad))
 
 pub returns-in-Open-clause-unit : goal.returns-in-Open-clause-unit
 returns-in-Open-clause-unit c = λ d u at i.
     let is = same c.args.clauses.now c.args.k c.lits-lits.result.now d (read c.args.clauses.now c.args.k c.index-clauses-k.result c.lits-lits.result.now c.index-clauses-k.is c.lits-lits.ensures c.requires.within) at in
-    absurd (c.in-Open.ensures (subst (IsBad c.args.trail.now.steps) (sym is) (inr (u, i))))
+    absurd (c.in-Open.ensures.status (subst (IsBad c.args.trail.now.steps) (sym is) (inr (u, i))))
+
+pub returns-in-Open-clause-moves : goal.returns-in-Open-clause-moves
+returns-in-Open-clause-moves c =
+    let lt : c.args.k < length c.args.hints.now = omega (arith, c.requires.hinted, c.requires.within) in
+    moves_set c.args.trail.now.sizes c.args.clauses.now c.args.trail.now.steps c.args.hints.now c.args.k c.lits-lits.result.now (get_or c.args.hints.now c.args.k no_hint) c.in-Open.hint lt
+    (read c.args.clauses.now c.args.k c.index-clauses-k.result c.lits-lits.result.now c.index-clauses-k.is c.lits-lits.ensures c.requires.within) (slice_get-get_or c.args.hints.now c.args.k no_hint lt) c.in-Open.ensures.moved.1
+
+pub returns-in-Open-clause-guarded : goal.returns-in-Open-clause-guarded
+returns-in-Open-clause-guarded c = λ d h at has.
+    let lt : c.args.k < length c.args.hints.now = omega (arith, c.requires.hinted, c.requires.within) in
+    let set : slice_get (slice_set c.args.hints.now c.args.k c.in-Open.hint) c.args.k ≡ Some c.in-Open.hint = get_set_same c.args.hints.now c.args.k c.in-Open.hint lt in
+    let is : c.in-Open.hint ≡ h = cc in
+    let one = same c.args.clauses.now c.args.k c.lits-lits.result.now d (read c.args.clauses.now c.args.k c.index-clauses-k.result c.lits-lits.result.now c.index-clauses-k.is c.lits-lits.ensures c.requires.within) at in
+    let t = c.args.trail.now in
+    inr (subst (λ (x : Hint). IsGuarded t.sizes t.steps t.steps d x) is (subst (λ (x : List Lit). IsGuarded t.sizes t.steps t.steps x c.in-Open.hint) one c.in-Open.ensures.moved.0))

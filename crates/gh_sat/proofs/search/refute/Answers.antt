@@ -1,7 +1,7 @@
 use Rattle.std.proofs.Common.{List, Option, sym, subst}
 use Rattle.std.specs.Prelude.{IfSome, IfNone}
 use Rattle.gh_base.specs.declared.atom.Lit.{Lit}
-use Rattle.gh_sat.specs.Trail.{State, IsFalseIn, IsSound}
+use Rattle.gh_sat.specs.Trail.{SearchState, IsFalseIn, IsSound}
 use Rattle.gh_sat.specs.Learn.{IsConflict, add_clause}
 use Rattle.gh_sat.specs.Theory.{IsRefutedBy}
 use Rattle.gh_sat.proofs.LearnLemmas.{false_in_range}
@@ -29,7 +29,7 @@ returns-in_ok-insert-in-Some-clause-conflict g c =
     let f : IsFalseIn s.trail c.in-Some.clause = refuted_false s.trail c.in-Some.clause (subst (λ (a : List Lit). IsRefutedBy a c.in-Some.clause) c.requires.told found.1) in
     let valid : g.T.Theory.valid s.sizes c.in-Some.clause = subst (λ z. g.T.Theory.valid z c.in-Some.clause) c.requires.sizes found.0 in
     let h = conflict_added s c.in-Some.clause c.requires.sound f (λ level start at f'. c.requires.consistent level start at c.in-Some.clause valid f') in
-    subst (λ (t : State). IsConflict t c.count-number.result) (sym c.in_ok-insert-in-Some.ensures.ok) (subst (IsConflict (add_clause s c.in-Some.clause)) (sym c.count-number.ensures) h)
+    subst (λ (t : SearchState). IsConflict t c.count-number.result) (sym c.in_ok-insert-in-Some.ensures.ok) (subst (IsConflict (add_clause s c.in-Some.clause)) (sym c.count-number.ensures) h)
 
 pub returns-in_ok-insert-in-Some-clause-sound : goal.returns-in_ok-insert-in-Some-clause-sound
 returns-in_ok-insert-in-Some-clause-sound g c =

@@ -1,5 +1,5 @@
 use Rattle.std.proofs.Common.{ap, sym, subst}
-use Rattle.gh_sat.specs.Trail.{State}
+use Rattle.gh_sat.specs.Trail.{SearchState}
 use Rattle.gh_sat.proofs.MeasureLemmas.{turn_decided}
 use Rattle.gh_ground.specs.Kept.{IsOpen}
 use Rattle.gh_ground.proofs.KeptLemmas.{keeps_same, keeps_then}
@@ -13,7 +13,7 @@ returns-in-None-clause-open c =
 pub returns-in-None-clause-keeps : goal.returns-in-None-clause-keeps
 returns-in-None-clause-keeps c =
     let same = c.in-None.ensures.none.0 in
-    keeps_same c.args.self.now.search c.decide_needed.new.self c.args.self.now.lines.items (ap (λ (t : State). t.sizes) same) (ap (λ (t : State). t.clauses) same)
+    keeps_same c.args.self.now.search c.decide_needed.new.self c.args.self.now.lines.items (ap (λ (t : SearchState). t.sizes) same) (ap (λ (t : SearchState). t.clauses) same)
 
 pub returns-in_ok-propagate-in-Some-clause-less : goal.returns-in_ok-propagate-in-Some-clause-less
 returns-in_ok-propagate-in-Some-clause-less c =
@@ -27,4 +27,4 @@ returns-in_ok-propagate-in-Some-clause-keeps c =
     let mid = c.decide_needed.new.self in
     let is = c.in-Some.ensures.some.2 in
     keeps_then old.search mid new.search old.lines.items old.lines.items new.lines.items
-    (keeps_same old.search mid old.lines.items (ap (λ (t : State). t.sizes) is) (ap (λ (t : State). t.clauses) is)) c.in_ok-propagate-in-Some.ensures.keeps
+    (keeps_same old.search mid old.lines.items (ap (λ (t : SearchState). t.sizes) is) (ap (λ (t : SearchState). t.clauses) is)) c.in_ok-propagate-in-Some.ensures.keeps

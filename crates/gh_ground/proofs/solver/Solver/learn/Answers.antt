@@ -2,17 +2,17 @@ use Rattle.std.proofs.Common.{◌≡◌, ◌<◌, ◌≤◌, ◌∙◌, ◌+◌,
 use Rattle.gh_base.specs.declared.atom.Lit.{Lit}
 use Rattle.gh_sat.specs.Learn.{add_clause}
 use Rattle.gh_sat.specs.Measure.{IsCutLevel}
-use Rattle.gh_sat.specs.Trail.{State, cut}
+use Rattle.gh_sat.specs.Trail.{SearchState, cut}
 use Rattle.gh_sat.proofs.MeasureLemmas.{turn_learnt}
 use Rattle.gh_log.specs.declared.lines.LogLine.TheVariants as line
 use Rattle.gh_ground.proofs.KeptLemmas.{IsHintedLine, keeps_learnt, keeps_then}
 use Rattle.gh_ground.proofs.solver.Solver.learn.Goals as goal
 
 -- as many levels as before the lesson
-levels_are : (old new : State) (clause : List Lit) (n : ℕ) → new ≡ add_clause old clause → n ≡ length new.starts → n ≡ length old.starts
-levels_are old new clause n added is = is ∙ ap (λ (t : State). length t.starts) added
+levels_are : (old new : SearchState) (clause : List Lit) (n : ℕ) → new ≡ add_clause old clause → n ≡ length new.starts → n ≡ length old.starts
+levels_are old new clause n added is = is ∙ ap (λ (t : SearchState). length t.starts) added
 
-to_cut : (old new : State) (clause : List Lit) (level n to : ℕ) → new ≡ add_clause old clause → n ≡ length new.starts → level ≤ to → to < n → IsCutLevel old level to
+to_cut : (old new : SearchState) (clause : List Lit) (level n to : ℕ) → new ≡ add_clause old clause → n ≡ length new.starts → level ≤ to → to < n → IsCutLevel old level to
 to_cut old new clause level n to added is low high = (low, omega (arith, levels_are old new clause n added is))
 
 pub cut_level-requires : goal.cut_level-requires
@@ -36,7 +36,7 @@ returns-clause-keeps c =
     let l = c.in_ok-learnt.learnt in
     let hints = c.in_ok-hints.hints in
     let reasons = l.reasons.items in
-    let is = c.backjump.ensures ∙ ap (λ (t : State). cut t c.cut_level.result) c.in_ok-learnt.ensures.added in
+    let is = c.backjump.ensures ∙ ap (λ (t : SearchState). cut t c.cut_level.result) c.in_ok-learnt.ensures.added in
     let hinted : IsHintedLine l.clause (map (λ k. k + 1) reasons) (line.Hinted l.clause hints) = (hints, refl, c.in_ok-hints.ensures ∙ ap (map (λ k. k + 1)) c.as_slice.ensures.value) in
     keeps_then old.search mid new.search old.lines.items lines new.lines.items
     (keeps_learnt old.search mid old.lines.items lines c.args.conflict l.clause l.level l.unit c.cut_level.result reasons (line.Hinted l.clause hints) c.requires.sound c.in_ok-learnt.ensures.learnt c.in_ok-learnt.ensures.reasons is hinted

@@ -1,7 +1,7 @@
 use Rattle.gh_log.proofs.AtomLemmas.{sign_ends, goes_end, goes_lit, no_shown_here, no_shown_lit}
 use Rattle.gh_log.proofs.Exits.{exit}
 use Rattle.std.proofs.Common.{◌∙◌, ap, ◌∷◌, subst}
-use Rattle.gh_log.specs.Reading.{IsRefused, SpellsLit}
+use Rattle.gh_log.specs.Reading.{SpellsNothing, SpellsLit}
 use Rattle.gh_log.proofs.cursor.Reader.shown.Goals as goal
 
 pub returns-then-not-take : goal.returns-then-not-take
@@ -15,7 +15,7 @@ returns-then-take c =
 pub returns-in_err-lit : goal.returns-in_err-lit
 returns-in_err-lit c =
     exit _ _ _ _ _ _ (λ h. c.literals.invariant.back (no_shown_lit c.literals.self.rest.now c.take.new.self.rest.now c.if-not-take.ensures c.if-take.ensures.1
-    (subst (λ t. IsRefused (SpellsLit t)) c.if-take.ensures.0 h)))
+    (subst (λ t. SpellsNothing (SpellsLit t)) c.if-take.ensures.0 h)))
     c.in_err-lit.ensures c.from_residual.ensures.1
 
 pub literals-preserved : goal.literals-preserved

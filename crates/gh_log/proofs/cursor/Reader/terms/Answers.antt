@@ -1,6 +1,6 @@
 use Rattle.std.proofs.Common.{◌≡◌, [], ◌∷◌, subst, refl, take, arith}
 use Rattle.gh_inst.specs.Schemas.{term}
-use Rattle.gh_log.specs.Reading.{IsRefused, SpellsBytes, SpellsTerms, ArePadded}
+use Rattle.gh_log.specs.Reading.{SpellsNothing, SpellsBytes, SpellsTerms, ArePadded}
 use Rattle.gh_log.proofs.LineLemmas.{goes_term, goes_terms_end, padded_none, padded_more, no_terms_here, no_fifth}
 use Rattle.gh_log.proofs.Exits.{exit, not_ok}
 use Rattle.gh_log.proofs.cursor.Reader.terms.Goals as goal
@@ -28,7 +28,7 @@ pub returns-in_err-byte : goal.returns-in_err-byte
 returns-in_err-byte c =
     record {
       read = exit _ _ _ _ _ _ (λ h. c.loop-count.invariant.goes.back (no_terms_here c.loop-count.count c.loop-count.self.rest.now c.if-take.ensures.1
-          (subst (λ t. IsRefused (SpellsBytes 32 1 t)) c.if-take.ensures.0 h))) c.in_err-byte.ensures c.from_residual.ensures.1;
+          (subst (λ t. SpellsNothing (SpellsBytes 32 1 t)) c.if-take.ensures.0 h))) c.in_err-byte.ensures c.from_residual.ensures.1;
       padded = not_ok _ _ c.from_residual.result c.from_residual.ensures.1;
     }
 

@@ -13,4 +13,5 @@ invariant_of-result c =
       all = omega (arith, c.count_all-count.ensures, sum, together P.procedures c.requires.paths, bounded P.procedures c.requires.paths, c.requires.few);
       paths = c.requires.paths;
       steps = c.requires.steps;
+      starts_are = c.requires.starts;
     }

@@ -1,8 +1,10 @@
-use Rattle.std.proofs.Common.{◌≡◌, ◌<◌, List, arith, sym, subst, length, Contains}
+use Rattle.std.proofs.Common.{◌≡◌, ◌<◌, List, arith, ap, sym, subst, length, Contains}
 use Rattle.gh_base.specs.declared.atom.Lit.{Lit}
 use Rattle.gh_base.specs.declared.sizes.Sizes.{Sizes}
 use Rattle.gh_base.specs.Atoms.{AreInRange}
-use Rattle.gh_sat.specs.Trail.{State}
+use Rattle.gh_sat.specs.declared.status.Hint.{Hint}
+use Rattle.gh_sat.specs.Trail.{SearchState}
+use Rattle.gh_sat.specs.Learn.{add_clause}
 use Rattle.gh_sat.specs.Watch.{WasOpen, clauses_of}
 use Rattle.gh_sat.specs.Whole.{IsWhole}
 use Rattle.gh_sat.specs.Rows.{rows_of}
@@ -15,14 +17,15 @@ use Rattle.gh_sat.proofs.learner.Learner.insert.Goals as goal
 pub invariant_of-self : goal.invariant_of-self
 invariant_of-self c =
     let i = c.self.invariant in
-    (whole_lists (the_view c.self.inside) c.self.inside.counts.items c.self.inside.looked c.self.inside.head c.self.inside.occurrences c.note.new.self i.0 c.note.ensures.more, i.1, i.2, i.3, i.4, i.5)
+    (whole_lists (the_view c.self.inside) c.self.inside.counts.items c.self.inside.looked c.self.inside.head c.self.inside.occurrences c.note.new.self c.self.inside.hints.items i.0 c.note.ensures.more, i.1, i.2, i.3, i.4, i.5)
 
 pub invariant_of-self-in_err-push : goal.invariant_of-self-in_err-push
 invariant_of-self-in_err-push c =
     let i = c.self.invariant in
     let s = the_view c.self.inside in
-    let h = whole_lists s c.self.inside.counts.items c.self.inside.looked c.self.inside.head c.self.inside.occurrences c.note.new.self i.0 c.note.ensures.more in (
-      subst (λ (cs : List (List Lit)). IsWhole (record s { clauses = cs }) c.self.inside.counts.items c.self.inside.looked c.self.inside.head c.note.new.self) (sym c.in_err-push.ensures.items) h,
+    let h = whole_lists s c.self.inside.counts.items c.self.inside.looked c.self.inside.head c.self.inside.occurrences c.note.new.self c.self.inside.hints.items i.0 c.note.ensures.more in (
+      subst (λ (cs : List (List Lit)). IsWhole (record s { clauses = cs }) c.self.inside.counts.items c.self.inside.looked c.self.inside.head c.note.new.self c.next_row.new.hints.items) (sym c.in_err-push.ensures.items)
+          (subst (λ (x : List Hint). IsWhole s c.self.inside.counts.items c.self.inside.looked c.self.inside.head c.note.new.self x) (sym c.next_row.ensures.hints) h),
       i.1,
       i.2,
       i.3,
@@ -32,23 +35,32 @@ invariant_of-self-in_err-push c =
 
 pub invariant_of-self-in_err-row : goal.invariant_of-self-in_err-row
 invariant_of-self-in_err-row c =
-    let i = c.self.invariant in
-    (whole_lists (the_view c.self.inside) c.self.inside.counts.items c.self.inside.looked c.self.inside.head c.self.inside.occurrences c.note.new.self i.0 c.note.ensures.more, i.1, i.2, i.3, i.4, c.next_row.ensures.rows ∙ i.5)
+    let i = c.self.invariant in (
+      subst (λ (x : List Hint). IsWhole (the_view c.self.inside) c.self.inside.counts.items c.self.inside.looked c.self.inside.head c.note.new.self x) (sym c.next_row.ensures.hints)
+          (whole_lists (the_view c.self.inside) c.self.inside.counts.items c.self.inside.looked c.self.inside.head c.self.inside.occurrences c.note.new.self c.self.inside.hints.items i.0 c.note.ensures.more),
+      i.1,
+      i.2,
+      i.3,
+      i.4,
+      c.next_row.ensures.rows ∙ i.5,
+    )
 
 pub invariant_of-self-2 : goal.invariant_of-self-2
 invariant_of-self-2 c =
     let i = c.self.invariant in
     let s = the_view c.self.inside in
-    let h = whole_lists s c.self.inside.counts.items c.self.inside.looked c.self.inside.head c.self.inside.occurrences c.note.new.self i.0 c.note.ensures.more in
-    let range : AreInRange s.sizes c.args.clause = subst (λ (t : State). AreInRange t.sizes c.args.clause) (sym c.self.view_is) c.requires.range in
-    let was : WasOpen s.trail s.starts c.args.clause = subst (λ (t : State). WasOpen t.trail t.starts c.args.clause) (sym c.self.view_is) c.requires.was_open in
+    let h = whole_lists s c.self.inside.counts.items c.self.inside.looked c.self.inside.head c.self.inside.occurrences c.note.new.self c.self.inside.hints.items i.0 c.note.ensures.more in
+    let range : AreInRange s.sizes c.args.clause = subst (λ (t : SearchState). AreInRange t.sizes c.args.clause) (sym c.self.view_is) c.requires.range in
+    let was : WasOpen s.trail s.starts c.args.clause = subst (λ (t : SearchState). WasOpen t.trail t.starts c.args.clause) (sym c.self.view_is) c.requires.was_open in
     let few : length s.clauses < 4294967294 = omega (arith, c.if-len-ge4294967294.false) in
     let number : c.len-number.result ≡ length s.clauses = omega arith in
     let listed : (m : Lit) → Contains c.args.clause m → Contains (clauses_of s.sizes c.note.new.self m) (length s.clauses) = λ m there.
     subst (λ n. Contains (clauses_of s.sizes c.note.new.self m) n) number
-    (subst (λ (z : Sizes). Contains (clauses_of z c.note.new.self m) c.len-number.result) c.sizes.ensures.sizes (c.in_ok-note.ensures.listed m (subst (λ (l : List Lit). Contains l m) (sym c.lits.ensures) there))) in (
-      subst (λ (cs : List (List Lit)). IsWhole (record s { clauses = cs }) c.self.inside.counts.items c.self.inside.looked c.self.inside.head c.note.new.self) (sym c.in_ok-push.ensures.items)
-          (whole_add s c.self.inside.counts.items c.self.inside.looked c.self.inside.head c.note.new.self c.args.clause h range was listed few),
+    (subst (λ (z : Sizes). Contains (clauses_of z c.note.new.self m) c.len-number.result) c.sizes.ensures.sizes (c.in_ok-note.ensures.listed m (subst (λ (l : List Lit). Contains l m) (sym c.lits.ensures) there))) in
+    let hints : c.push_reserved-2.new.self.items ≡ c.self.inside.hints.items ++ c.default.result ∷ [] = c.push_reserved-2.ensures.items ∙ ap (λ (x : List Hint). x ++ c.default.result ∷ []) c.next_row.ensures.hints in (
+      subst (λ (cs : List (List Lit)). IsWhole (record s { clauses = cs }) c.self.inside.counts.items c.self.inside.looked c.self.inside.head c.note.new.self c.push_reserved-2.new.self.items) (sym c.in_ok-push.ensures.items)
+          (subst (λ (x : List Hint). IsWhole (add_clause s c.args.clause) c.self.inside.counts.items c.self.inside.looked c.self.inside.head c.note.new.self x) (sym hints)
+          (whole_add s c.self.inside.counts.items c.self.inside.looked c.self.inside.head c.note.new.self c.self.inside.hints.items c.args.clause c.default.result h range was listed few)),
       i.1,
       i.2,
       i.3,

@@ -2,7 +2,8 @@ use Rattle.std.proofs.Common.{◌≡◌, ◌<◌, ◌∙◌, List, arith, ap, sy
 use Rattle.gh_base.specs.declared.atom.Lit.{Lit}
 use Rattle.gh_base.specs.declared.sizes.Sizes.{Sizes}
 use Rattle.gh_base.specs.Atoms.{AreInRange, count_of}
-use Rattle.gh_sat.specs.Trail.{State, cut}
+use Rattle.gh_sat.specs.declared.status.Hint.{Hint}
+use Rattle.gh_sat.specs.Trail.{SearchState, cut}
 use Rattle.gh_sat.specs.Watch.{clauses_of}
 use Rattle.gh_sat.specs.Learn.{IsTop, add_clause}
 use Rattle.gh_sat.specs.Whole.{IsWhole}
@@ -17,14 +18,15 @@ use Rattle.gh_sat.proofs.learner.Learner.insert_under.Goals as goal
 pub invariant_of-self : goal.invariant_of-self
 invariant_of-self c =
     let i = c.self.invariant in
-    (whole_lists (the_view c.self.inside) c.self.inside.counts.items c.self.inside.looked c.self.inside.head c.self.inside.occurrences c.note.new.self i.0 c.note.ensures.more, i.1, i.2, i.3, i.4, i.5)
+    (whole_lists (the_view c.self.inside) c.self.inside.counts.items c.self.inside.looked c.self.inside.head c.self.inside.occurrences c.note.new.self c.self.inside.hints.items i.0 c.note.ensures.more, i.1, i.2, i.3, i.4, i.5)
 
 pub invariant_of-self-in_err-push : goal.invariant_of-self-in_err-push
 invariant_of-self-in_err-push c =
     let i = c.self.invariant in
     let s = the_view c.self.inside in
-    let h = whole_lists s c.self.inside.counts.items c.self.inside.looked c.self.inside.head c.self.inside.occurrences c.note.new.self i.0 c.note.ensures.more in (
-      subst (λ (cs : List (List Lit)). IsWhole (record s { clauses = cs }) c.self.inside.counts.items c.self.inside.looked c.self.inside.head c.note.new.self) (sym c.in_err-push.ensures.items) h,
+    let h = whole_lists s c.self.inside.counts.items c.self.inside.looked c.self.inside.head c.self.inside.occurrences c.note.new.self c.self.inside.hints.items i.0 c.note.ensures.more in (
+      subst (λ (cs : List (List Lit)). IsWhole (record s { clauses = cs }) c.self.inside.counts.items c.self.inside.looked c.self.inside.head c.note.new.self c.next_row.new.hints.items) (sym c.in_err-push.ensures.items)
+          (subst (λ (x : List Hint). IsWhole s c.self.inside.counts.items c.self.inside.looked c.self.inside.head c.note.new.self x) (sym c.next_row.ensures.hints) h),
       i.1,
       i.2,
       i.3,
@@ -34,17 +36,24 @@ invariant_of-self-in_err-push c =
 
 pub invariant_of-self-in_err-row : goal.invariant_of-self-in_err-row
 invariant_of-self-in_err-row c =
-    let i = c.self.invariant in
-    (whole_lists (the_view c.self.inside) c.self.inside.counts.items c.self.inside.looked c.self.inside.head c.self.inside.occurrences c.note.new.self i.0 c.note.ensures.more, i.1, i.2, i.3, i.4, c.next_row.ensures.rows ∙ i.5)
+    let i = c.self.invariant in (
+      subst (λ (x : List Hint). IsWhole (the_view c.self.inside) c.self.inside.counts.items c.self.inside.looked c.self.inside.head c.note.new.self x) (sym c.next_row.ensures.hints)
+          (whole_lists (the_view c.self.inside) c.self.inside.counts.items c.self.inside.looked c.self.inside.head c.self.inside.occurrences c.note.new.self c.self.inside.hints.items i.0 c.note.ensures.more),
+      i.1,
+      i.2,
+      i.3,
+      i.4,
+      c.next_row.ensures.rows ∙ i.5,
+    )
 
 pub invariant_of-self-2 : goal.invariant_of-self-2
 invariant_of-self-2 c =
     let i = c.self.invariant in
     let s = the_view c.self.inside in
     let e = c.cut_to-point.ensures in
-    let h = whole_lists s c.self.inside.counts.items c.self.inside.looked c.self.inside.head c.self.inside.occurrences c.note.new.self i.0 c.note.ensures.more in
-    let range : AreInRange s.sizes c.args.clause = subst (λ (t : State). AreInRange t.sizes c.args.clause) (sym c.self.view_is) c.requires.range in
-    let top : IsTop s.trail c.args.clause c.args.top = subst (λ (t : State). IsTop t.trail c.args.clause c.args.top) (sym c.self.view_is) c.requires.top in
+    let h = whole_lists s c.self.inside.counts.items c.self.inside.looked c.self.inside.head c.self.inside.occurrences c.note.new.self c.self.inside.hints.items i.0 c.note.ensures.more in
+    let range : AreInRange s.sizes c.args.clause = subst (λ (t : SearchState). AreInRange t.sizes c.args.clause) (sym c.self.view_is) c.requires.range in
+    let top : IsTop s.trail c.args.clause c.args.top = subst (λ (t : SearchState). IsTop t.trail c.args.clause c.args.top) (sym c.self.view_is) c.requires.top in
     let few : length s.clauses < 4294967294 = omega (arith, c.if-len-ge4294967294.false) in
     let number : c.len-number.result ≡ length s.clauses = omega arith in
     let listed : (m : Lit) → Contains c.args.clause m → Contains (clauses_of s.sizes c.note.new.self m) (length s.clauses) = λ m there.
@@ -52,7 +61,8 @@ invariant_of-self-2 c =
     (subst (λ (z : Sizes). Contains (clauses_of z c.note.new.self m) c.len-number.result) c.sizes.ensures.sizes (c.in_ok-note.ensures.listed m (subst (λ (l : List Lit). Contains l m) (sym c.lits.ensures) there))) in
     let count : count_of c.self.inside.trail.sizes ≡ count_of c.cut_to-point.new.trail.sizes = ap count_of (sym e.sizes) in (
       cut_add_whole s c.cut_to-point.new.trail.sizes c.cut_to-point.new.trail.steps c.cut_to-point.new.starts.items c.self.inside.counts.items c.cut_to-point.new.counts.items c.self.inside.looked c.self.inside.head
-          c.cut_to-point.result.count c.cut_to-point.result.start c.args.top c.note.new.self c.args.clause c.push.new.self.items h e.start e.count e.sizes e.steps e.starts e.counts c.in_ok-push.ensures.items range top listed few,
+          c.cut_to-point.result.count c.cut_to-point.result.start c.args.top c.note.new.self c.self.inside.hints.items c.push_reserved-2.new.self.items c.args.clause c.default.result c.push.new.self.items h e.start e.count e.sizes e.steps e.starts e.counts c.in_ok-push.ensures.items
+          (c.push_reserved-2.ensures.items ∙ ap (λ (x : List Hint). x ++ c.default.result ∷ []) c.next_row.ensures.hints) range top listed few,
       le_along count (sym e.starts_room) i.1,
       le_along count (sym e.counts_room) i.2,
       i.3,
@@ -68,4 +78,4 @@ returns-clause-ok c =
     let e = c.cut_to-point.ensures in
     cut_is s c.cut_to-point.new.trail.sizes c.push.new.self.items c.cut_to-point.new.trail.steps c.cut_to-point.new.starts.items c.cut_to-point.result.start c.args.top e.start e.sizes e.steps e.starts
     ∙ ap (λ (cs : List (List Lit)). record (cut s c.args.top) { clauses = cs }) c.in_ok-push.ensures.items
-    ∙ ap (λ (t : State). add_clause (cut t c.args.top) c.args.clause) c.self.view_is
+    ∙ ap (λ (t : SearchState). add_clause (cut t c.args.top) c.args.clause) c.self.view_is

@@ -5,7 +5,7 @@ use Rattle.std.proofs.lemmas.Option.{get_or_from_slice_get, slice_get_read}
 use Rattle.gh_base.specs.declared.atom.Lit.{Lit}
 use Rattle.gh_base.specs.Atoms.{opposite, AreInRange}
 use Rattle.gh_sat.specs.declared.trail.Step.{Step}
-use Rattle.gh_sat.specs.Trail.{Line, State, IsSound, IsFalseIn}
+use Rattle.gh_sat.specs.Trail.{Line, SearchState, IsSound, IsFalseIn}
 use Rattle.gh_sat.specs.Watch.{WasOpen}
 use Rattle.gh_sat.specs.Learn.{Marking, HaveReasons, IsConflict, IsLearnt, AreReasons, marks_of, reasons_of, IsLeft}
 use Rattle.gh_sat.specs.contracts.learner.Learner.{the_view}
@@ -16,7 +16,7 @@ use Rattle.gh_sat.proofs.ReasonLemmas.{learnt_shows}
 use Rattle.gh_sat.proofs.learner.Learner.learn.Goals as goal
 
 -- what is known once the present level's start and the clause are read
-record Begun (s : State) (k start : ℕ) (lits : List Lit) : Type 0 where
+record Begun (s : SearchState) (k start : ℕ) (lits : List Lit) : Type 0 where
   last : ℕ
   here : slice_get s.starts last ≡ Some start
   long : length s.starts ≡ last + 1
@@ -24,11 +24,11 @@ record Begun (s : State) (k start : ℕ) (lits : List Lit) : Type 0 where
   conflict : IsConflict s k
   same : conflict.clause ≡ lits
 
-begun : (s now : State) (k len start : ℕ) (c lits : List Lit) → IsSound s → s ≡ now → IsConflict now k → 0 < length now.starts → len ≡ length s.starts
+begun : (s now : SearchState) (k len start : ℕ) (c lits : List Lit) → IsSound s → s ≡ now → IsConflict now k → 0 < length now.starts → len ≡ length s.starts
     → start ≡ get_or s.starts (len - 1) start → c ≡ get_or s.clauses k c → lits ≡ c → Begun s k start lits
 begun s now k len start c lits h is conflict some count at read same =
-    let conflict' : IsConflict s k = subst (λ (t : State). IsConflict t k) (sym is) conflict in
-    let some' : 0 < length s.starts = subst (λ (t : State). 0 < length t.starts) (sym is) some in
+    let conflict' : IsConflict s k = subst (λ (t : SearchState). IsConflict t k) (sym is) conflict in
+    let some' : 0 < length s.starts = subst (λ (t : SearchState). 0 < length t.starts) (sym is) some in
     let here : slice_get s.starts (len - 1) ≡ Some start = slice_get_read s.starts (length s.starts) (len - 1) start (λ _. length s.starts) (omega arith) at in
     let b = h.starts (len - 1) start here in
     let w = get_within s.clauses k conflict'.clause conflict'.at in
@@ -82,14 +82,14 @@ resolve-requires-clause-present c =
     let high : c.index.result.now ≤ p.2 = elim (cases_lt p.2 c.index.result.now) [ inl lt ↦ absurd (let e = low lt in omega (arith, p.6, b.long)) | inr ge ↦ ge ] in
     (p.0, subst (λ l. Contains l p.0) b.same p.1, p.2, p.3, le_along (sym c.begin.ensures.start) refl high, p.4, p.5)
 
-left : (s : State) (clauses : List (List Lit)) (conflict : List Lit) (m : Marking) (place : ℕ) → clauses ≡ s.clauses → IsLeft clauses s.trail conflict m place → IsLeft s.clauses s.trail conflict m place
+left : (s : SearchState) (clauses : List (List Lit)) (conflict : List Lit) (m : Marking) (place : ℕ) → clauses ≡ s.clauses → IsLeft clauses s.trail conflict m place → IsLeft s.clauses s.trail conflict m place
 left s clauses conflict m place e p = subst (λ cs. IsLeft cs s.trail conflict m place) e p
 
 abbrev no_step : Step
 no_step = record { lit = nothing; level = 0; reason = None }
 
 -- what is learnt, as the code makes it
-made : (s : State) (m : Marking) (k start place : ℕ) (lits : List Lit) (steps : List Step) (u : Lit) (clause : List Lit)
+made : (s : SearchState) (m : Marking) (k start place : ℕ) (lits : List Lit) (steps : List Step) (u : Lit) (clause : List Lit)
     → IsSound s → Begun s k start lits → m.start ≡ start → IsLeft s.clauses s.trail lits m place → steps ≡ s.trail → u ≡ opposite (get_or steps place no_step).lit
     → clause ≡ m.lower ++ u ∷ [] → IsLearnt s k clause m.level u
 made s m k start place lits steps u clause h b at p same is e =
@@ -100,7 +100,7 @@ made s m k start place lits steps u clause h b at p same is e =
     (learnt s lits m place b.last h here b.long p k (b.conflict.at ∙ ap Some b.same) (subst (IsFalseIn s.trail) b.same b.conflict.is_false)))
 
 -- and its reasons
-made_reasons : (s : State) (m : Marking) (k start place : ℕ) (lits : List Lit) (steps : List Step) (u : Lit) (clause : List Lit) (reasons : List ℕ)
+made_reasons : (s : SearchState) (m : Marking) (k start place : ℕ) (lits : List Lit) (steps : List Step) (u : Lit) (clause : List Lit) (reasons : List ℕ)
     → IsSound s → Begun s k start lits → m.start ≡ start → IsLeft s.clauses s.trail lits m place → steps ≡ s.trail → u ≡ opposite (get_or steps place no_step).lit
     → clause ≡ m.lower ++ u ∷ [] → reasons ≡ reasons_of m.round (drop (place + 1) m.stamps) (drop (place + 1) s.trail) ++ k ∷ [] → AreReasons s.clauses reasons clause
 made_reasons s m k start place lits steps u clause reasons h b at p same is e all =
@@ -149,7 +149,7 @@ returns-clause-learnt c =
     let p = left s c.as_slice.result.now c.lits.result.now m c.in_ok-place.place c.as_slice.ensures.value c.in_ok-place.ensures.point in
     let r = made s m c.args.conflict c.index.result.now c.in_ok-place.place c.lits.result.now c.steps-2.result.now c.negated-unit.result c.in_ok-clause.clause i.0.sound b (c.in_ok-place.ensures.start ∙ c.begin.ensures.start) p c.steps-2.ensures.steps c.negated-unit.ensures
     (c.in_ok-clause.ensures ∙ c.as_slice-2.ensures.value ∙ c.in_ok-push.ensures.items) in
-    subst (λ (t : State). IsLearnt t c.args.conflict c.in_ok-clause.clause m.level c.negated-unit.result) c.self.view_is r
+    subst (λ (t : SearchState). IsLearnt t c.args.conflict c.in_ok-clause.clause m.level c.negated-unit.result) c.self.view_is r
 
 pub returns-clause-reasons : goal.returns-clause-reasons
 returns-clause-reasons c =
@@ -160,4 +160,4 @@ returns-clause-reasons c =
     let p = left s c.as_slice.result.now c.lits.result.now m c.in_ok-place.place c.as_slice.ensures.value c.in_ok-place.ensures.point in
     let r = made_reasons s m c.args.conflict c.index.result.now c.in_ok-place.place c.lits.result.now c.steps-2.result.now c.negated-unit.result c.in_ok-clause.clause c.in_ok-reasons.reasons.items i.0.sound b
     (c.in_ok-place.ensures.start ∙ c.begin.ensures.start) p c.steps-2.ensures.steps c.negated-unit.ensures (c.in_ok-clause.ensures ∙ c.as_slice-2.ensures.value ∙ c.in_ok-push.ensures.items) c.in_ok-reasons.ensures in
-    subst (λ (t : State). AreReasons t.clauses c.in_ok-reasons.reasons.items c.in_ok-clause.clause) c.self.view_is r
+    subst (λ (t : SearchState). AreReasons t.clauses c.in_ok-reasons.reasons.items c.in_ok-clause.clause) c.self.view_is r

@@ -6,7 +6,7 @@ use Rattle.gh_base.specs.declared.atom.Lit.{Lit}
 use Rattle.gh_base.specs.declared.sizes.Sizes.{Sizes}
 use Rattle.gh_base.specs.Atoms.{AreInRange}
 use Rattle.std.proofs.Common.{subst}
-use Rattle.gh_sat.specs.Trail.{State}
+use Rattle.gh_sat.specs.Trail.{SearchState}
 use Rattle.gh_sat.specs.Learn.{add_clause}
 use Rattle.gh_sat.proofs.ListLemmas.{get_within}
 use Rattle.gh_sat.proofs.learner.Learner.new.Goals as goal
@@ -26,19 +26,19 @@ loop-clause-preserved c =
     let longer : take (n + 1) cs ≡ take n cs ++ cl ∷ [] = take_more cs n cl lt ∙ ap (λ (x : List Lit). take n cs ++ x ∷ []) (get_or_from_slice_get cs n cl cl at) in
     record {
       within = omega arith;
-      so_far = c.in_ok-insert.ensures.ok ∙ ap (λ (t : State). add_clause t c.in_ok-copy.field-0) c.loop-clause.invariant.so_far
-          ∙ ap (λ (x : List (List Lit)). let t : State = record { sizes = c.args.ground.now.sizes; clauses = x; trail = []; starts = [] } in t) (ap (λ (x : List Lit). take n cs ++ x ∷ []) c.in_ok-copy.ensures ∙ sym longer);
+      so_far = c.in_ok-insert.ensures.ok ∙ ap (λ (t : SearchState). add_clause t c.in_ok-copy.field-0) c.loop-clause.invariant.so_far
+          ∙ ap (λ (x : List (List Lit)). let t : SearchState = record { sizes = c.args.ground.now.sizes; clauses = x; trail = []; starts = [] } in t) (ap (λ (x : List Lit). take n cs ++ x ∷ []) c.in_ok-copy.ensures ∙ sym longer);
     }
 
 pub returns : goal.returns
 returns c =
     let cs = c.args.ground.now.clauses in
     let past : length cs ≤ c.loop-clause.number = none_past cs c.loop-clause.number (sym c.in_default.ensures.found) in
-    c.loop-clause.invariant.so_far ∙ ap (λ (x : List (List Lit)). let t : State = record { sizes = c.args.ground.now.sizes; clauses = x; trail = []; starts = [] } in t) (take_all c.loop-clause.number cs past)
+    c.loop-clause.invariant.so_far ∙ ap (λ (x : List (List Lit)). let t : SearchState = record { sizes = c.args.ground.now.sizes; clauses = x; trail = []; starts = [] } in t) (take_all c.loop-clause.number cs past)
 
 pub insert-requires-clause-range : goal.insert-requires-clause-range
 insert-requires-clause-range c =
-    let sized : c.loop-clause.learner.sizes ≡ c.args.ground.now.sizes = ap (λ (t : State). t.sizes) c.loop-clause.invariant.so_far in
+    let sized : c.loop-clause.learner.sizes ≡ c.args.ground.now.sizes = ap (λ (t : SearchState). t.sizes) c.loop-clause.invariant.so_far in
     let range : AreInRange c.loop-clause.learner.sizes c.in-Some.clause.now = subst (λ (z : Sizes). AreInRange z c.in-Some.clause.now) (sym sized) c.in-Some.ensures.in_range in
     subst (λ (l : List Lit). AreInRange c.loop-clause.learner.sizes l) (sym c.in_ok-copy.ensures) range
 

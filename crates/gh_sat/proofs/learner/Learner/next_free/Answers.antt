@@ -2,9 +2,9 @@ use Rattle.std.proofs.Common.{subst}
 use Rattle.std.specs.Prelude.{IfNone}
 use Rattle.gh_base.specs.declared.atom.Atom.{Atom}
 use Rattle.gh_base.specs.Atoms.{IsInRange}
-use Rattle.gh_sat.specs.Trail.{State, IsFree}
+use Rattle.gh_sat.specs.Trail.{SearchState, IsFree}
 use Rattle.gh_sat.proofs.learner.Learner.next_free.Goals as goal
 
 pub returns-clause-none : goal.returns-clause-none
 returns-clause-none c =
-    subst (λ (t : State). IfNone c.next_free.result ((a : Atom) → IsInRange t.sizes a → IsFree t.trail a → ⊥)) c.self.view_is c.next_free.ensures.none
+    subst (λ (t : SearchState). IfNone c.next_free.result ((a : Atom) → IsInRange t.sizes a → IsFree t.trail a → ⊥)) c.self.view_is c.next_free.ensures.none

@@ -1,12 +1,15 @@
 use Rattle.std.proofs.Common.{◌≡◌, ◌≤◌, ◌∙◌, ◌++◌, ◌∷◌, [], ℕ, List, Option, Some, None, arith, ap, sym, subst, refl, length}
 use Rattle.std.specs.Prelude.{slice_get, IfSome, IfNone}
+use Rattle.std.specs.Vec.{with_items}
+use Rattle.std.proofs.lemmas.List.{with_items_is}
 use Rattle.gh_base.specs.declared.atom.Lit.{Lit}
 use Rattle.gh_base.specs.declared.sizes.Sizes.{Sizes}
 use Rattle.gh_base.specs.Atoms.{count_of}
 use Rattle.gh_sat.specs.declared.trail.Step.{Step}
-use Rattle.gh_sat.specs.Trail.{State, AreSteps}
+use Rattle.gh_sat.specs.Trail.{SearchState, AreSteps}
 use Rattle.gh_sat.specs.Status.{IsBad, IsSettled, Grows, IsFalseClause}
-use Rattle.gh_sat.specs.Watch.{AreListed, AreWatched}
+use Rattle.gh_sat.specs.declared.status.Hint.{Hint}
+use Rattle.gh_sat.specs.Watch.{AreGuarded, MoveHints, AreListed}
 use Rattle.gh_sat.specs.Learn.{IsConflict}
 use Rattle.gh_sat.specs.Whole.{IsWhole, GivesLast}
 use Rattle.gh_sat.specs.contracts.learner.Learner.{the_view}
@@ -30,10 +33,14 @@ invariant_of-self c =
     let grows : Grows s.clauses (length s.starts) s.trail new = subst (λ n. Grows s.clauses n s.trail new) level (subst (λ (x : List (List Lit)). Grows x c.len-level.result s.trail new) cs p.grows) in
     let valid : AreSteps (record { sizes = s.sizes; steps = new }) = subst (λ (z : Sizes). AreSteps (record { sizes = z; steps = new })) p.sizes p.valid in
     let within : c.propagate.new.looked ≤ length s.clauses = le_along refl (ap length cs) p.looked in
-    let watched : AreWatched s.clauses new c.propagate.new.head c.propagate.new.looked [] = subst (λ (x : List (List Lit)). AreWatched x new c.propagate.new.head c.propagate.new.looked []) cs p.watched in
-    let h = whole_grow s c.self.inside.counts.items c.self.inside.looked c.self.inside.head c.propagate.new.looked c.propagate.new.head c.self.inside.occurrences new i.0 grows valid within p.head watched in
+    let moves : MoveHints s.sizes s.clauses s.trail c.self.inside.hints.items c.propagate.new.hints = subst (λ (x : List (List Lit)). MoveHints s.sizes x s.trail c.self.inside.hints.items c.propagate.new.hints) cs
+    (subst (λ (y : List Hint). MoveHints s.sizes c.as_slice.result.now s.trail y c.propagate.new.hints) c.as_mut_slice.ensures.value p.moves) in
+    let guarded : AreGuarded s.sizes s.clauses c.propagate.new.hints new c.propagate.new.head c.propagate.new.looked = subst (λ (x : List (List Lit)). AreGuarded s.sizes x c.propagate.new.hints new c.propagate.new.head c.propagate.new.looked) cs p.guarded in
+    let h = whole_grow s c.self.inside.counts.items c.self.inside.looked c.self.inside.head c.propagate.new.looked c.propagate.new.head c.self.inside.occurrences c.self.inside.hints.items c.propagate.new.hints new i.0 grows valid within p.head moves guarded in
+    let written : (with_items c.self.inside.hints c.propagate.new.hints).items ≡ c.propagate.new.hints = with_items_is c.self.inside.hints c.propagate.new.hints (p.moves.long ∙ c.as_mut_slice.ensures.len) in
     let count : count_of s.sizes ≡ count_of c.propagate.new.trail.sizes = ap count_of (sym p.sizes) in (
-      subst (λ (z : Sizes). IsWhole (record { sizes = z; clauses = s.clauses; trail = new; starts = s.starts }) c.self.inside.counts.items c.propagate.new.looked c.propagate.new.head c.self.inside.occurrences) (sym p.sizes) h,
+      subst (λ (z : Sizes). IsWhole (record { sizes = z; clauses = s.clauses; trail = new; starts = s.starts }) c.self.inside.counts.items c.propagate.new.looked c.propagate.new.head c.self.inside.occurrences (with_items c.self.inside.hints c.propagate.new.hints).items) (sym p.sizes)
+          (subst (λ (x : List Hint). IsWhole (record s { trail = new }) c.self.inside.counts.items c.propagate.new.looked c.propagate.new.head c.self.inside.occurrences x) (sym written) h),
       le_along count refl i.1,
       le_along count refl i.2,
       i.3,
@@ -50,13 +57,13 @@ returns-clause-last c =
     let here : GivesLast s new = λ before d u e unit.
     let r = p.last before d u (c.as_slice.ensures.value ∙ e) unit in
     (r.0, r.1 ∙ ap (λ (n : ℕ). s.trail ++ (let x : Step = record { lit = u; level = n; reason = Some (length before) } in x) ∷ [] ++ r.0) level) in
-    subst (λ (t : State). GivesLast t new) c.self.view_is here
+    subst (λ (t : SearchState). GivesLast t new) c.self.view_is here
 
-conflicts : (t : State) (counts : List ℕ) (looked head : ℕ) (lists : List (List ℕ)) (o : Option ℕ) → IsWhole t counts looked head lists → IfSome o (λ k. IsFalseClause t.clauses t.trail k) → IfSome o (λ k. IsConflict t k)
-conflicts t counts looked head lists None h f = tt
-conflicts t counts looked head lists (Some k) h f = conflict_of t counts looked head lists k f.0 h f.1 f.2
+conflicts : (t : SearchState) (counts : List ℕ) (looked head : ℕ) (lists : List (List ℕ)) (hints : List Hint) (o : Option ℕ) → IsWhole t counts looked head lists hints → IfSome o (λ k. IsFalseClause t.clauses t.trail k) → IfSome o (λ k. IsConflict t k)
+conflicts t counts looked head lists hints None h f = tt
+conflicts t counts looked head lists hints (Some k) h f = conflict_of t counts looked head lists hints k f.0 h f.1 f.2
 
-settles : (t : State) (o : Option ℕ) → IfNone o ((k : ℕ) (c : List Lit) → slice_get t.clauses k ≡ Some c → IsBad t.trail c → ⊥) → IfNone o (IsSettled t)
+settles : (t : SearchState) (o : Option ℕ) → IfNone o ((k : ℕ) (c : List Lit) → slice_get t.clauses k ≡ Some c → IsBad t.trail c → ⊥) → IfNone o (IsSettled t)
 settles t None f = settled_from t f
 settles t (Some k) f = tt
 
@@ -65,8 +72,8 @@ returns-clause-conflict c =
     let s = the_view c.self.inside in
     let p = c.propagate.ensures in
     let new = c.propagate.new.trail.steps in
-    let t : State = record { sizes = c.propagate.new.trail.sizes; clauses = s.clauses; trail = new; starts = s.starts } in
-    conflicts t c.self.inside.counts.items c.propagate.new.looked c.propagate.new.head c.self.inside.occurrences c.propagate.result (invariant_of-self c).0
+    let t : SearchState = record { sizes = c.propagate.new.trail.sizes; clauses = s.clauses; trail = new; starts = s.starts } in
+    conflicts t c.self.inside.counts.items c.propagate.new.looked c.propagate.new.head c.self.inside.occurrences _ c.propagate.result (invariant_of-self c).0
     (subst (λ (x : List (List Lit)). IfSome c.propagate.result (λ k. IsFalseClause x new k)) c.as_slice.ensures.value p.conflict)
 
 pub returns-clause-settled : goal.returns-clause-settled
@@ -74,7 +81,7 @@ returns-clause-settled c =
     let s = the_view c.self.inside in
     let p = c.propagate.ensures in
     let new = c.propagate.new.trail.steps in
-    let t : State = record { sizes = c.propagate.new.trail.sizes; clauses = s.clauses; trail = new; starts = s.starts } in
+    let t : SearchState = record { sizes = c.propagate.new.trail.sizes; clauses = s.clauses; trail = new; starts = s.starts } in
     settles t c.propagate.result
     (subst (λ (x : List (List Lit)). IfNone c.propagate.result ((k : ℕ) (d : List Lit) → slice_get x k ≡ Some d → IsBad new d → ⊥)) c.as_slice.ensures.value p.settled)
 

@@ -1,5 +1,5 @@
 use Rattle.std.proofs.Common.{◌≡◌, ◌∙◌, ◌≤◌, ◌++◌, ◌∷◌, [], ℕ, arith, ap, sym, subst, length, take}
-use Rattle.gh_sat.specs.Trail.{State}
+use Rattle.gh_sat.specs.Trail.{SearchState}
 use Rattle.gh_sat.specs.Whole.{Adds}
 use Rattle.gh_sat.proofs.TheoryLemmas.{Beside, beside_cut, beside_undo, added_cut}
 use Rattle.gh_sat.proofs.search.Search.add.Goals as goal
@@ -28,7 +28,7 @@ invariant_of-self-else-mark-length g c =
     beside_cut g.T.Theory.valid a (g.T.Theory.sizes c.self.inside.theory) s c.add.new.self added.0 (s.clauses ++ c.args.clause ∷ []) c.self.invariant added.1 c.steps.ensures.sound le
 
 pub returns-then-mark-length-clause-ok : goal.returns-then-mark-length-clause-ok
-returns-then-mark-length-clause-ok g c = subst (λ (t : State). Adds t c.args.clause c.add.new.self) c.self.view_is c.in_ok-add.ensures.ok
+returns-then-mark-length-clause-ok g c = subst (λ (t : SearchState). Adds t c.args.clause c.add.new.self) c.self.view_is c.in_ok-add.ensures.ok
 
 pub returns-else-mark-length-clause-ok : goal.returns-else-mark-length-clause-ok
-returns-else-mark-length-clause-ok g c = subst (λ (t : State). Adds t c.args.clause c.add.new.self) c.self.view_is c.in_ok-add.ensures.ok
+returns-else-mark-length-clause-ok g c = subst (λ (t : SearchState). Adds t c.args.clause c.add.new.self) c.self.view_is c.in_ok-add.ensures.ok

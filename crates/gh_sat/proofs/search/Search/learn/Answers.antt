@@ -4,15 +4,15 @@ use Rattle.std.specs.declared.alloc.AllocError.{AllocError}
 use Rattle.gh_base.specs.declared.atom.Lit.{Lit}
 use Rattle.gh_base.specs.declared.sizes.Sizes.{Sizes}
 use Rattle.gh_sat.specs.declared.learner.Learnt.{Learnt}
-use Rattle.gh_sat.specs.Trail.{State}
+use Rattle.gh_sat.specs.Trail.{SearchState}
 use Rattle.gh_sat.specs.Learn.{add_clause}
 use Rattle.gh_sat.specs.Theory.{IsTold, WereConsistent}
 use Rattle.gh_sat.proofs.search.Search.learn.Goals as goal
 
-abbrev Beside : (Sizes → List Lit → Type 0) → List Lit → Sizes → State → Type 0
+abbrev Beside : (Sizes → List Lit → Type 0) → List Lit → Sizes → SearchState → Type 0
 Beside V asserted z s = IsTold asserted s.trail × (z ≡ s.sizes) × WereConsistent (V s.sizes) s.trail s.starts
 
-kept : (V : Sizes → List Lit → Type 0) (asserted : List Lit) (z : Sizes) (s new : State) (r : Result Learnt AllocError) → Beside V asserted z s → IfOk r (λ l. new ≡ add_clause s l.clause) → OnErr r (new ≡ s) → Beside V asserted z new
+kept : (V : Sizes → List Lit → Type 0) (asserted : List Lit) (z : Sizes) (s new : SearchState) (r : Result Learnt AllocError) → Beside V asserted z s → IfOk r (λ l. new ≡ add_clause s l.clause) → OnErr r (new ≡ s) → Beside V asserted z new
 kept V asserted z s new (Ok l) b ok err = subst (Beside V asserted z) (sym ok) b
 kept V asserted z s new (Err e) b ok err = subst (Beside V asserted z) (sym err) b
 

@@ -1,5 +1,5 @@
 use Rattle.std.proofs.Common.{subst}
-use Rattle.gh_log.specs.Reading.{IsRefused}
+use Rattle.gh_log.specs.Reading.{SpellsNothing}
 use Rattle.gh_smt.specs.Texts.{assertion_text, foot_text}
 use Rattle.gh_smt.specs.Reading.{IsSpelledAssertion, SpellsAssertion}
 use Rattle.gh_smt.proofs.Exits.{exit}
@@ -15,7 +15,7 @@ pub returns-in_err-assertion : goal.returns-in_err-assertion
 returns-in_err-assertion c =
     let s = c.args.sizes in
     exit _ _ _ _ _ _ (λ h. c.assertions.invariant.back (no_item assertion_text (IsSpelledAssertion s) foot_text (SpellsAssertion s) (are_assertions s) c.assertions.self.rest.now c.if-skip.ensures.1
-    (subst (λ t. IsRefused (SpellsAssertion s t)) c.if-skip.ensures.0 h))) c.in_err-assertion.ensures c.from_residual.ensures.1
+    (subst (λ t. SpellsNothing (SpellsAssertion s t)) c.if-skip.ensures.0 h))) c.in_err-assertion.ensures c.from_residual.ensures.1
 
 pub assertions-preserved : goal.assertions-preserved
 assertions-preserved c =

@@ -1,5 +1,5 @@
 use Rattle.std.proofs.Common.{subst}
-use Rattle.gh_log.specs.Reading.{IsRefused}
+use Rattle.gh_log.specs.Reading.{SpellsNothing}
 use Rattle.gh_smt.specs.Texts.{spaced_lit}
 use Rattle.gh_smt.specs.Reading.{IsSpelledLit, SpellsSpaced, lits_end}
 use Rattle.gh_smt.proofs.Exits.{exit}
@@ -15,7 +15,7 @@ pub returns-in_err-spaced : goal.returns-in_err-spaced
 returns-in_err-spaced c =
     let s = c.args.sizes in
     exit _ _ _ _ _ _ (λ h. c.literals.invariant.back (no_item spaced_lit (IsSpelledLit s) lits_end (SpellsSpaced s) (are_lits s) c.literals.self.rest.now c.if-skip.ensures.1
-    (subst (λ t. IsRefused (SpellsSpaced s t)) c.if-skip.ensures.0 h))) c.in_err-spaced.ensures c.from_residual.ensures.1
+    (subst (λ t. SpellsNothing (SpellsSpaced s t)) c.if-skip.ensures.0 h))) c.in_err-spaced.ensures c.from_residual.ensures.1
 
 pub literals-preserved : goal.literals-preserved
 literals-preserved c =

@@ -1,0 +1,56 @@
+-- The conditions that are judged, one by one.
+use Rattle.std.specs.Prelude.{◌≡◌, ℕ, zero, suc, ◌+◌, ◌-◌, ◌≤◌, List, [], ◌∷◌, ◌++◌, length, take, slice_get, Some}
+use Rattle.std.proofs.Common.{refl, sym, ◌∙◌, ap, subst, arith}
+use Rattle.std.proofs.lemmas.List.{take_all}
+use Rattle.gh_ast.specs.Plain.{Program}
+use Rattle.gh_path.specs.Answers.{IsNumbered}
+use Rattle.gh_path.specs.Conditions.{Condition, conditions}
+use Rattle.gh_path.specs.declared.condition.Condition as kept
+use Rattle.gh_trace.specs.Kept.{IsOfProgram}
+use Rattle.gh_decide.proofs.Listed.{placed}
+use Rattle.gh_lens.specs.Judgements.{IsJudged, AreJudged}
+use Rattle.gh_lens.specs.declared.judged.Judged.{Judged}
+
+judged_more : (P : Program) (n : ℕ) (cs : List Condition) (js : List Judged) (c : Condition) (j : Judged) → AreJudged P n cs js → IsJudged P (n + length cs) c j → AreJudged P n (cs ++ c ∷ []) (js ++ j ∷ [])
+judged_more P n [] [] c j are is = let e : n + 0 ≡ n = omega arith in (subst (λ m. IsJudged P m c j) e is, tt)
+judged_more P n [] (k ∷ ks) c j are is = absurd are
+judged_more P n (d ∷ ds) [] c j are is = absurd are
+judged_more P n (d ∷ ds) (k ∷ ks) c j are is =
+    let e : n + suc (length ds) ≡ suc n + length ds = omega arith in
+    (are.0, judged_more P (suc n) ds ks c j are.1 (subst (λ m. IsJudged P m c j) e is))
+
+taken_more : (cs : List Condition) (n : ℕ) (c : Condition) → slice_get cs n ≡ Some c → take (suc n) cs ≡ take n cs ++ c ∷ []
+taken_more [] n c there = absurd cc
+taken_more (d ∷ ds) zero c there = ap (λ e. e ∷ []) cc
+taken_more (d ∷ ds) (suc n) c there = ap (λ t. d ∷ t) (taken_more ds n c there)
+
+taken_length : (cs : List Condition) (n : ℕ) (c : Condition) → slice_get cs n ≡ Some c → length (take n cs) ≡ n
+taken_length [] n c there = absurd cc
+taken_length (d ∷ ds) zero c there = refl
+taken_length (d ∷ ds) (suc n) c there = ap suc (taken_length ds n c there)
+
+-- the condition of the next number
+next_one : (P : Program) (k : ℕ) (r : kept.Condition) → IsNumbered P (k + 1) (Some r) → (c : Condition) × (slice_get (conditions P) k ≡ Some c) × IsOfProgram P r c
+next_one P k r (c, low, there, stands) =
+    let place : k ≡ k + 1 - 1 = omega arith in
+    let at : slice_get (conditions P) k ≡ Some c = ap (slice_get (conditions P)) place ∙ there in
+    (c, at, record { stands = stands; there = placed P k c at })
+
+-- one condition more
+pub judged_next : (P : Program) (k : ℕ) (r : kept.Condition) (j : Judged) (old new : List Judged) → IsNumbered P (k + 1) (Some r) → ((c : Condition) → IsOfProgram P r c → IsJudged P (k + 1) c j) → new ≡ old ++ j ∷ []
+    → AreJudged P 1 (take k (conditions P)) old → AreJudged P 1 (take (k + 1) (conditions P)) new
+judged_next P k r j old new found judged pushed before =
+    let one = next_one P k r found in
+    let c : Condition = one.0 in
+    let cs : List Condition = take k (conditions P) in
+    let more : k + 1 ≡ suc k = omega arith in
+    let taken : take (k + 1) (conditions P) ≡ cs ++ c ∷ [] = ap (λ n. take n (conditions P)) more ∙ taken_more (conditions P) k c one.1 in
+    let count : length cs ≡ k = taken_length (conditions P) k c one.1 in
+    let number : k + 1 ≡ 1 + length cs = omega (arith, count) in
+    let all = judged_more P 1 cs old c j before (subst (λ m. IsJudged P m c j) number (judged c one.2)) in
+    subst (λ ds. AreJudged P 1 ds new) (sym taken) (subst (AreJudged P 1 (cs ++ c ∷ [])) (sym pushed) all)
+
+pub judged_all : (P : Program) (k m : ℕ) (js : List Judged) → m ≡ length (conditions P) → m ≤ k → AreJudged P 1 (take k (conditions P)) js → AreJudged P 1 (conditions P) js
+judged_all P k m js count past before =
+    let all : take k (conditions P) ≡ conditions P = take_all k (conditions P) (omega (arith, count, past)) in
+    subst (λ ds. AreJudged P 1 ds js) all before

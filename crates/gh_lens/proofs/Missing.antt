@@ -1,0 +1,59 @@
+-- Checks that fail.
+use Rattle.std.specs.Prelude.{◌≡◌, ℕ, ◌+◌, ◌<◌, List, [], ◌∷◌, ◌++◌, map, take, length, Option, Some, None}
+use Rattle.std.proofs.Common.{Vec, Global, refl, sym, ◌∙◌, ap, subst, get_or}
+use Rattle.std.proofs.lemmas.List.{append_assoc, map-append, take_more}
+use Rattle.gh_ast.specs.declared.Occ.{Occ}
+use Rattle.gh_ast.specs.declared.Expr.{Expr}
+use Rattle.gh_ast.specs.declared.Assertion.{Assertion}
+use Rattle.gh_ast.specs.Plain.{Formula, formula_of, Procedure, Program}
+use Rattle.gh_ast.specs.Programs.{parameters_of}
+use Rattle.gh_assert.specs.Heaps.{Heap}
+use Rattle.gh_assert.specs.Meaning.{Store}
+use Rattle.gh_path.specs.Graphs.{entry}
+use Rattle.gh_path.specs.declared.condition.CheckKind.TheVariants as kind
+use Rattle.gh_trace.specs.Traces.{State, Passes}
+use Rattle.gh_trace.proofs.CallLemmas.{IsCall}
+use Rattle.gh_trace.proofs.Insides.{declares_at}
+use Rattle.gh_lens.specs.Misses.{IsMiss, AreMisses, IsFailing, IsEntryOr, IsInvariantOr, IsFailingOr}
+
+-- where the entry of a callee fails
+pub entry_fails : (P : Program) (n : ℕ) (f : Occ) (q : Procedure) (es : List Expr) (x : State) (given : List ℕ) (inside : Store) (text : List ℕ) → IsCall P n f q es x given → map inside (parameters_of q) ≡ given
+    → IsMiss q.needs inside x.heap text → IsFailing P (entry f es) x text
+entry_fails P n f q es x given inside text call arguments miss =
+    (q, given, declares_at P n f.name q call.at call.callee, call.gives, record { inside = inside; arguments = arguments; miss = miss })
+
+-- one alternative more
+pub misses_more : (fs : List Formula) (f : Formula) (s : Store) (h : Heap) (old line new : List ℕ) → AreMisses fs s h old → IsMiss f s h line → new ≡ old ++ line → AreMisses (fs ++ f ∷ []) s h new
+misses_more [] f s h old line new are is e = (line, [], e ∙ ap (λ t. t ++ line) are ∙ no_more line, is, refl)
+  where
+    no_more : (t : List ℕ) → [] ++ t ≡ t ++ []
+    no_more [] = refl
+    no_more (c ∷ cs) = ap (λ r. c ∷ r) (no_more cs)
+misses_more (g ∷ gs) f s h old line new (a, b, whole, first, rest) is e =
+    (a, b ++ line, e ∙ ap (λ t. t ++ line) whole ∙ append_assoc a b line, first, misses_more gs f s h b line (b ++ line) rest is refl)
+
+-- the next alternative
+pub misses_next : (xs : List Assertion) (i : ℕ) (x : Assertion) (s : Store) (h : Heap) (old line new : List ℕ) → i < length xs → x ≡ get_or xs i x → AreMisses (map formula_of (take i xs)) s h old → IsMiss (formula_of x) s h line → new ≡ old ++ line
+    → AreMisses (map formula_of (take (i + 1) xs)) s h new
+misses_next xs i x s h old line new within is are one e =
+    let taken : take (i + 1) xs ≡ take i xs ++ x ∷ [] = take_more xs i x within ∙ ap (λ y. take i xs ++ y ∷ []) (sym is) in
+    let listed : map formula_of (take (i + 1) xs) ≡ map formula_of (take i xs) ++ formula_of x ∷ [] = ap (map formula_of) taken ∙ map-append formula_of (take i xs) (x ∷ []) in
+    subst (λ fs. AreMisses fs s h new) (sym listed) (misses_more (map formula_of (take i xs)) (formula_of x) s h old line new are one e)
+
+-- the entry of a callee, by its kind
+pub callee_or : (P : Program) (p : Procedure) (n : ℕ) (es : Vec Expr Global) (given : List Expr) (x : State) (o : Option (List ℕ)) → given ≡ es.items → IsEntryOr P n given x o → IsFailingOr P p (kind.CalleeEntry n es) x o
+callee_or P p n es given x (Some t) e some = λ at k (f, callee, place, is).
+    let here : entry f given ≡ k = ap (entry f) e ∙ sym is in
+    subst (λ c. IsFailing P c x t) here (some f callee)
+callee_or P p n es given x None e none = λ at k (f, callee, place, is) fails.
+    let here : k ≡ entry f given = is ∙ ap (entry f) (sym e) in
+    none f callee (subst (λ c. Passes P c x → ⊥) here fails)
+
+-- the entry and the end of a loop
+pub loop_entry_or : (P : Program) (p : Procedure) (n : ℕ) (x : State) (o : Option (List ℕ)) → IsInvariantOr p n x o → IsFailingOr P p (kind.LoopEntry n) x o
+loop_entry_or P p n x (Some t) some = λ at k (l, loop, place, is). subst (λ c. IsFailing P c x t) (sym is) (some l loop)
+loop_entry_or P p n x None none = λ at k (l, loop, place, is) fails. none l loop
+
+pub loop_end_or : (P : Program) (p : Procedure) (n : ℕ) (x : State) (o : Option (List ℕ)) → IsInvariantOr p n x o → IsFailingOr P p (kind.LoopEnd n) x o
+loop_end_or P p n x (Some t) some = λ at k (l, loop, place, is). subst (λ c. IsFailing P c x t) (sym is) (some l loop)
+loop_end_or P p n x None none = λ at k (l, loop, place, is) fails. none l loop

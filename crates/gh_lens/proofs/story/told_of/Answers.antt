@@ -1,0 +1,33 @@
+use Rattle.std.proofs.Common.{None, Some, subst}
+use Rattle.gh_ast.specs.Plain.{program_of}
+use Rattle.gh_lens.specs.Stories.{IsStoryOr}
+use Rattle.gh_lens.proofs.Telling.{nothing, told_whole, told_by_a_story, has_states, has_procedure}
+use Rattle.gh_lens.proofs.story.told_of.Goals as goal
+
+pub unreachable-requires : goal.unreachable-requires
+unreachable-requires c = has_procedure (program_of c.args.typed.now) c.args.condition.now c.args.states.now c.requires c.in_default.ensures.none
+
+pub unreachable-requires-in_default-split_first : goal.unreachable-requires-in_default-split_first
+unreachable-requires-in_default-split_first c =
+    has_states (program_of c.args.typed.now) c.args.condition.now c.args.states.now c.requires (nothing c.args.states.now c.in_default-split_first.ensures.cases)
+
+pub story-requires-clause-meaning : goal.story-requires-clause-meaning
+story-requires-clause-meaning c = (c.requires.0, c.requires.1.stands)
+
+pub unreachable-requires-in-None : goal.unreachable-requires-in-None
+unreachable-requires-in-None c =
+    let P = program_of c.args.typed.now in
+    let r = c.args.condition.now in
+    let x = c.in-Some-split_first.first.now in
+    let ys = c.in-Some-split_first.others.now in
+    let none : IsStoryOr P r x ys None = subst (IsStoryOr P r x ys) c.in-None.is c.in_ok-text.ensures in
+    told_by_a_story P r c.args.states.now ys x c.in-Some-split_first.ensures.cases.0 c.requires none
+
+pub returns : goal.returns
+returns c =
+    let P = program_of c.args.typed.now in
+    let r = c.args.condition.now in
+    let x = c.in-Some-split_first.first.now in
+    let ys = c.in-Some-split_first.others.now in
+    let told : IsStoryOr P r x ys (Some c.in-Some-2.text) = subst (IsStoryOr P r x ys) c.in-Some-2.is c.in_ok-text.ensures in
+    told_whole P r c.args.states.now ys x c.in-Some-2.text c.in-Some-split_first.ensures.cases.0 told

@@ -1,0 +1,43 @@
+use Rattle.std.proofs.Common.{Some, sym, subst}
+use Rattle.gh_ast.specs.Plain.{program_of}
+use Rattle.gh_path.specs.Answers.{IsNumbered}
+use Rattle.gh_trace.specs.Kept.{drawn_of, IsFailure}
+use Rattle.gh_trace.specs.declared.replay.ReplayError.TheVariants.{Step}
+use Rattle.gh_lens.specs.Stories.{IsExplained}
+use Rattle.gh_lens.specs.declared.story.Explained.TheVariants.{Fails}
+use Rattle.gh_lens.proofs.Telling.{few_steps, shown, told_by_number, fails_by_number}
+use Rattle.gh_lens.proofs.story.why.Goals as goal
+
+pub replay-requires : goal.replay-requires
+replay-requires c =
+    let P = program_of c.args.typed.now in
+    let n = c.args.drawing.now.condition in
+    let r = c.in-Some.condition in
+    let found : IsNumbered P n (Some r) = rw (c.in-Some.is, c.requires.same) at c.in_ok-condition.ensures in
+    few_steps P n r c.requires.admitted found
+
+pub told_of-requires : goal.told_of-requires
+told_of-requires c =
+    let P = program_of c.args.typed.now in
+    let n = c.args.drawing.now.condition in
+    let r = c.in-Some.condition in
+    let found : IsNumbered P n (Some r) = rw (c.in-Some.is, c.requires.same) at c.in_ok-condition.ensures in
+    shown P n r c.args.drawing.now.trace c.as_slice-states.result.now found c.in-Ok.ensures.refuted c.as_slice-states.ensures.value
+
+pub returns-in-Ok : goal.returns-in-Ok
+returns-in-Ok c =
+    let P = program_of c.args.typed.now in
+    let n = c.args.drawing.now.condition in
+    let r = c.in-Some.condition in
+    let found : IsNumbered P n (Some r) = rw (c.in-Some.is, c.requires.same) at c.in_ok-condition.ensures in
+    told_by_number P n r c.args.drawing.now.trace c.as_slice-states.result.now c.in_ok-text-in-Ok.text found c.in-Ok.ensures.refuted c.as_slice-states.ensures.value c.in_ok-text-in-Ok.ensures
+
+pub returns-in-Err-Step : goal.returns-in-Err-Step
+returns-in-Err-Step c =
+    let P = program_of c.args.typed.now in
+    let n = c.args.drawing.now.condition in
+    let r = c.in-Some.condition in
+    let found : IsNumbered P n (Some r) = rw (c.in-Some.is, c.requires.same) at c.in_ok-condition.ensures in
+    let fails : IsFailure P r (drawn_of c.args.drawing.now.trace) (Step c.in-Err-Step.number) = rw c.in-Err-Step.field-0-is at c.in-Err-Step.ensures.failed in
+    subst (λ m. IsExplained P n c.args.drawing.now.trace.states.items (Fails m)) (sym c.in-Err-Step.number-is)
+    (fails_by_number P n c.in-Err-Step.number r c.args.drawing.now.trace found fails)

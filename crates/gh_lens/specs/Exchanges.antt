@@ -1,0 +1,15 @@
+-- What a call or a loop takes over of a heap, what it leaves aside, and what comes back.
+use Rattle.std.specs.Prelude.{◌≡◌}
+use Rattle.std.specs.FinMap.{keys}
+use Rattle.gh_ast.specs.Plain.{Formula}
+use Rattle.gh_assert.specs.Heaps.{Heap, Splits}
+use Rattle.gh_assert.specs.Meaning.{Store, Meaning}
+use Rattle.gh_lens.specs.declared.exchange.Exchange.{Exchange}
+
+-- the old heap is the part that meets the assertion, whose places are handed over, and a frame; the new one is what came back, and that frame
+pub record IsExchange (f : Formula) (s : Store) (old new : Heap) (e : Exchange) : Type 0 where
+  pub part : Heap
+  pub splits : Splits old part e.frame
+  pub meets : Meaning f s part
+  pub handed : e.handed.items ≡ keys part
+  pub joins : Splits new e.back e.frame

@@ -1,0 +1,40 @@
+-- What is found of the conditions of a program, one by one.
+use Rattle.std.specs.Prelude.{◌≡◌, ℕ, suc, List, [], ◌∷◌, Bool, true, false}
+use Rattle.gh_ast.specs.Plain.{Program}
+use Rattle.gh_path.specs.Graphs.{Check, access, entry, loop_entry, returned, loop_end}
+use Rattle.gh_path.specs.Conditions.{Condition}
+use Rattle.gh_trace.specs.declared.state.Trace.{Trace}
+use Rattle.gh_trace.specs.Kept.{drawn_of}
+use Rattle.gh_trace.specs.Replay.{Refutes}
+use Rattle.gh_trace.specs.Validity.{IsConditionValid}
+use Rattle.gh_draw.specs.Descriptions.{description}
+use Rattle.gh_lens.specs.declared.judged.Finding.{Finding}
+use Rattle.gh_lens.specs.declared.judged.Finding.TheVariants.{Valid, Refuted}
+use Rattle.gh_lens.specs.declared.judged.Judged.{Judged}
+
+-- an entry of a callee or of a loop, or the end of a loop: what comes after such a place rests on it
+abbrev pub is_ground_work : Check → Bool
+is_ground_work (access x) = false
+is_ground_work (entry f es) = true
+is_ground_work (loop_entry l) = true
+is_ground_work (returned at fs) = false
+is_ground_work (loop_end l) = true
+
+-- the condition has no counterexample, or it has one
+abbrev pub IsFound : Program → Condition → Finding → Type 0
+IsFound P c Valid = IsConditionValid P c
+IsFound P c Refuted = (t : Trace) × Refutes P c (drawn_of t)
+
+-- what is kept of the k-th condition
+pub record IsJudged (P : Program) (k : ℕ) (c : Condition) (j : Judged) : Type 0 where
+  pub number : j.number ≡ k
+  pub description : j.description ≡ description c
+  pub ground_work : j.is_ground_work ≡ is_ground_work c.way.check
+  pub found : IsFound P c j.finding
+
+-- the conditions, numbered from k, one by one
+abbrev pub AreJudged : Program → ℕ → List Condition → List Judged → Type 0
+AreJudged P k [] [] = Unit {0}
+AreJudged P k [] (j ∷ js) = ⊥
+AreJudged P k (c ∷ cs) [] = ⊥
+AreJudged P k (c ∷ cs) (j ∷ js) = IsJudged P k c j × AreJudged P (suc k) cs js

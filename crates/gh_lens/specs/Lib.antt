@@ -1,0 +1,14 @@
+pub mod Fronts
+pub mod Judgements
+pub mod Assertions
+pub mod Stated
+pub mod Overviews
+pub mod Statements
+pub mod Changes
+pub mod Exchanges
+pub mod Settings
+pub mod Handed
+pub mod Takings
+pub mod Lines
+pub mod Misses
+pub mod Stories

@@ -1,0 +1,105 @@
+-- The lines that tell a counterexample step by step.
+use Rattle.std.specs.Prelude.{◌≡◌, ◌⊎◌, ℕ, ◌-◌, ◌<◌, List, [], ◌∷◌, ◌++◌, length, map, Option, Some, None, codes, slice_get}
+use Rattle.gh_ast.specs.Plain.{Procedure, Program}
+use Rattle.gh_assert.specs.Stores.{listed_names}
+use Rattle.gh_path.specs.Graphs.{PathStep}
+use Rattle.gh_path.specs.Conditions.{Condition, conditions}
+use Rattle.gh_draw.specs.Descriptions.{description}
+use Rattle.gh_draw.specs.Drawings.{line, state_lines}
+use Rattle.gh_trace.specs.declared.state.State.{State}
+use Rattle.gh_path.specs.Kept.{IsStep, AreSteps, StandsFor}
+use Rattle.gh_path.specs.declared.condition.Condition as kept
+use Rattle.gh_path.specs.declared.condition.PathStep as kept_step
+use Rattle.gh_trace.specs.Kept.{state_of, drawn}
+use Rattle.gh_trace.specs.Traces.{Passes}
+use Rattle.gh_trace.specs.Replay.{Refutes, FirstFailure}
+use Rattle.gh_lens.specs.declared.exchange.Exchange.{Exchange}
+use Rattle.gh_lens.specs.declared.story.Explained.{Explained}
+use Rattle.gh_lens.specs.declared.story.Explained.TheVariants.{Told, Fails, Unnumbered}
+use Rattle.gh_lens.specs.Statements.{statement_text}
+use Rattle.gh_lens.specs.Lines.{changes_text, exchange_text}
+use Rattle.gh_lens.specs.Handed.{IsHandedOr}
+use Rattle.gh_lens.specs.Misses.{IsFailing}
+
+abbrev pub handed_text : Option Exchange → List ℕ
+handed_text None = []
+handed_text (Some e) = exchange_text e
+
+-- the statement, what changes, and what is handed over
+pub record IsStepTold (P : Program) (s : PathStep) (x y : State) (text : List ℕ) : Type 0 where
+  pub exchange : Option Exchange
+  pub handed : IsHandedOr P s (state_of x) (state_of y) exchange
+  pub text_is : text ≡ line (statement_text s) ++ changes_text x y ++ handed_text exchange
+
+-- the same of a step as it is kept
+abbrev pub TellsStep : Program → Procedure → kept_step.PathStep → State → State → List ℕ → Type 0
+TellsStep P p r x y text = (s : PathStep) → IsStep P p r s → IsStepTold P s x y text
+
+abbrev pub TellsStatement : Program → Procedure → kept_step.PathStep → List ℕ → Type 0
+TellsStatement P p r text = (s : PathStep) → IsStep P p r s → text ≡ line (statement_text s)
+
+-- the steps in turn, as far as there are states
+abbrev pub AreTold : Program → List PathStep → State → List State → List ℕ → Type 0
+AreTold P [] x ys text = text ≡ []
+AreTold P (s ∷ ss) x [] text = text ≡ []
+AreTold P (s ∷ ss) x (y ∷ ys) text = (a : List ℕ) × (b : List ℕ) × (text ≡ a ++ b) × IsStepTold P s x y a × AreTold P ss y ys b
+
+abbrev pub TellsSteps : Program → Procedure → List kept_step.PathStep → State → List State → List ℕ → Type 0
+TellsSteps P p rs x ys text = (ss : List PathStep) → AreSteps P p rs ss → AreTold P ss x ys text
+
+abbrev pub last_of : State → List State → State
+last_of x [] = x
+last_of x (y ∷ ys) = last_of y ys
+
+-- the condition and the first state
+abbrev pub heading : Condition → State → List ℕ
+heading c x = line (description c) ++ state_lines (listed_names x.store) (state_of x)
+
+abbrev pub TellsHeading : Program → kept.Condition → State → List ℕ → Type 0
+TellsHeading P r x text = (c : Condition) → StandsFor P r c → text ≡ heading c x
+
+-- the condition, the first state, the steps, and where the check fails in the last state
+pub record IsStory (P : Program) (c : Condition) (x : State) (ys : List State) (text : List ℕ) : Type 0 where
+  pub steps : List ℕ
+  pub failing : List ℕ
+  pub are_told : AreTold P c.way.steps x ys steps
+  pub is_failing : IsFailing P c.way.check (state_of (last_of x ys)) failing
+  pub text_is : text ≡ heading c x ++ steps ++ line (codes "the check fails:") ++ failing
+
+-- the check is passed in the last state, up to a double negation
+abbrev pub PassesAtEnd : Program → Condition → State → List State → Type 0
+PassesAtEnd P c x ys = (Passes P c.way.check (state_of (last_of x ys)) → ⊥) → ⊥
+
+-- the kept condition is one of the procedure
+abbrev pub IsOf : Program → kept.Condition → Procedure → Type 0
+IsOf P r p = slice_get P.procedures r.procedure ≡ Some p
+
+-- the story of the condition that is kept; or its check is passed
+abbrev pub IsStoryOr : Program → kept.Condition → State → List State → Option (List ℕ) → Type 0
+IsStoryOr P r x ys (Some text) = (c : Condition) → StandsFor P r c → IsStory P c x ys text
+IsStoryOr P r x ys None = (c : Condition) → StandsFor P r c → PassesAtEnd P c x ys
+
+-- the kept condition stands for the condition, and the states are a counterexample of it
+pub record IsShownBy (P : Program) (r : kept.Condition) (c : Condition) (xs : List State) : Type 0 where
+  pub stands : StandsFor P r c
+  pub refutes : Refutes P c (map drawn xs)
+
+abbrev pub IsShown : Program → kept.Condition → List State → Type 0
+IsShown P r xs = (c : Condition) × IsShownBy P r c xs
+
+-- the states are a counterexample of the condition, and the text tells it
+pub record IsToldOf (P : Program) (c : Condition) (xs : List State) (text : List ℕ) : Type 0 where
+  pub first : State
+  pub others : List State
+  pub states : xs ≡ first ∷ others
+  pub refutes : Refutes P c (map drawn xs)
+  pub story : IsStory P c first others text
+
+abbrev pub IsToldFor : Program → kept.Condition → List State → List ℕ → Type 0
+IsToldFor P r xs text = (c : Condition) → IsShownBy P r c xs → IsToldOf P c xs text
+
+-- what is told of states for the condition of a number: a story, or their first failure, or that there is no such condition
+abbrev pub IsExplained : Program → ℕ → List State → Explained → Type 0
+IsExplained P n xs (Told text) = (c : Condition) × (slice_get (conditions P) (n - 1) ≡ Some c) × IsToldOf P c xs text
+IsExplained P n xs (Fails k) = (c : Condition) × (slice_get (conditions P) (n - 1) ≡ Some c) × FirstFailure P c (map drawn xs) k
+IsExplained P n xs Unnumbered = (n ≡ 0) ⊎ (length (conditions P) < n)

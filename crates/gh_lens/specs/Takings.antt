@@ -1,0 +1,67 @@
+-- Where an assertion fails: its conjuncts take their parts of a heap in turn.
+use Rattle.std.specs.Prelude.{◌≡◌, ◌≢◌, ◌⊎◌, ℕ, zero, suc, Option, Some, None}
+use Rattle.std.specs.FinMap.{get, remove}
+use Rattle.gh_ast.specs.Plain.{formula_of, Formula, empty, comparison, points_to, cell, segment, star, cases, Formulas, no_formulas, formula_first}
+use Rattle.gh_assert.specs.Heaps.{Heap, Splits}
+use Rattle.gh_assert.specs.Meaning.{Store, Meaning, HasPart, value}
+use Rattle.gh_lens.specs.declared.taking.Taking.{Taking}
+use Rattle.gh_lens.specs.declared.taking.Taking.TheVariants.{Stops, Whole}
+use Rattle.gh_lens.specs.declared.taking.Reason.{Reason}
+use Rattle.gh_lens.specs.declared.taking.Reason.TheVariants.{Untrue, Missing, Shared, Content}
+
+-- the conjuncts of an assertion
+abbrev pub conjuncts : Formula → Formulas
+conjuncts empty = formula_first empty no_formulas
+conjuncts (comparison l e r) = formula_first (comparison l e r) no_formulas
+conjuncts (points_to a t) = formula_first (points_to a t) no_formulas
+conjuncts (cell a) = formula_first (cell a) no_formulas
+conjuncts (segment f t) = formula_first (segment f t) no_formulas
+conjuncts (star fs) = fs
+conjuncts (cases t a b) = formula_first (cases t a b) no_formulas
+
+-- the conjuncts before one, g, take their parts; no part of the rest meets g
+abbrev pub StopsAt : Formulas → Store → Heap → Formula → Heap → Type 0
+StopsAt no_formulas s h g rest = ⊥
+StopsAt (formula_first f fs) s h g rest =
+    ((g ≡ f) × (rest ≡ h) × (HasPart f s h → ⊥)) ⊎ ((a : Heap) × (b : Heap) × Splits h a b × Meaning f s a × StopsAt fs s b g rest)
+
+-- all conjuncts take their parts, and this is left over
+abbrev pub Leaves : Formulas → Store → Heap → Heap → Type 0
+Leaves no_formulas s h rest = rest ≡ h
+Leaves (formula_first f fs) s h rest = (a : Heap) × (b : Heap) × Splits h a b × Meaning f s a × Leaves fs s b rest
+
+abbrev pub IsTaking : Formulas → Store → Heap → Taking → Type 0
+IsTaking fs s h (Stops a rest) = StopsAt fs s h (formula_of a.now) rest
+IsTaking fs s h (Whole rest) = Leaves fs s h rest
+
+-- n cells on the way from x, none of them y, and then, at v, there is none left
+abbrev pub Sticks : ℕ → ℕ → ℕ → Heap → ℕ → Type 0
+Sticks zero x y h v = (x ≢ y) × (get h x ≡ None) × (v ≡ x)
+Sticks (suc n) x y h v = (x ≢ y) × (z : ℕ) × (get h x ≡ Some z) × Sticks n z y (remove h x) v
+
+abbrev pub IsStuck : ℕ → ℕ → Heap → ℕ → Type 0
+IsStuck x y h v = (n : ℕ) × Sticks n x y h v
+
+-- a cell that isn't left: the whole heap has none at the place, or an earlier conjunct, or the way itself, took it
+abbrev pub gone_reason : Option ℕ → ℕ → Reason
+gone_reason None v = Missing v
+gone_reason (Some w) v = Shared v
+
+-- the content that the place has among what is left, if the cell is left
+abbrev pub content_reason : Option ℕ → Option ℕ → ℕ → Reason
+content_reason None o v = gone_reason o v
+content_reason (Some w) o v = Content v w
+
+-- the way from x to y comes to a cell that isn't left; else the reason isn't told
+abbrev pub IsNoSegment : ℕ → ℕ → Heap → Heap → Reason → Type 0
+IsNoSegment x y h rest r = ((v : ℕ) × IsStuck x y rest v × (r ≡ gone_reason (get h v) v)) ⊎ (((v : ℕ) → IsStuck x y rest v → ⊥) × (r ≡ Untrue))
+
+-- why no part of what is left of a heap meets a conjunct
+abbrev pub IsReason : Formula → Store → Heap → Heap → Reason → Type 0
+IsReason empty s h rest r = r ≡ Untrue
+IsReason (comparison a e b) s h rest r = r ≡ Untrue
+IsReason (points_to at to) s h rest r = r ≡ content_reason (get rest (s at.name)) (get h (s at.name)) (s at.name)
+IsReason (cell at) s h rest r = r ≡ gone_reason (get h (s at.name)) (s at.name)
+IsReason (segment x y) s h rest r = IsNoSegment (value s x) (value s y) h rest r
+IsReason (star fs) s h rest r = r ≡ Untrue
+IsReason (cases t a b) s h rest r = r ≡ Untrue

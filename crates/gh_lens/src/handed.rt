@@ -1,0 +1,98 @@
+//! What a step hands over.
+
+ghost use Rattle.std.specs.Prelude.{◌≡◌, ◌≢◌, List, ℕ, length, IfOk, Option};
+ghost use Rattle.gh_ast.specs.declared.Occ.{Occ as PlainOcc};
+ghost use Rattle.gh_ast.specs.Plain.{procedure_of, program_of};
+ghost use Rattle.gh_path.specs.Graphs as graph;
+ghost use Rattle.gh_path.specs.Kept.{IsCallee, IsLoop, IsStep};
+ghost use Rattle.gh_trace.specs.Kept.{state_of};
+ghost use Rattle.gh_lens.specs.Handed.{IsHandedOr};
+ghost use Rattle.gh_lens.specs.Settings.{HasLoops};
+
+use crate::exchange::{Exchange, exchanged};
+use crate::setting::{Setting, entered, procedure_at};
+use gh_assert::values::values_of;
+use gh_ast::{Expr, Occ};
+use gh_path::condition::PathStep;
+use gh_trace::parts::Part;
+use gh_trace::state::State;
+use std::alloc::{AllocError, Global};
+
+// What a call hands over.
+fn handed_to_callee(
+    alloc: Global,
+    setting: Setting<'_>,
+    callee: u16,
+    arguments: &[Expr],
+    before: &State,
+    after: &State,
+) -> Result<Option<Exchange>, AllocError>
+    ensures { IfOk result (λ o. (xs : List PlainOcc) (f : PlainOcc) → IsCallee (program_of setting.entry.typed.now) callee f.name → IsHandedOr (program_of setting.entry.typed.now) (graph.called xs f arguments.now) (state_of before.now) (state_of after.now) o) }
+{
+    let Some(callee) = procedure_at(setting.typed, callee) else {
+        return Ok(None);
+    };
+    let Some(given) = values_of(alloc, &before.store, &before.heap, arguments)? else {
+        return Ok(None);
+    };
+    if given.as_slice().len() != callee.parameters.as_slice().len() {
+        return Ok(None);
+    }
+    let inside = entered(alloc, callee, given.as_slice())?;
+    let part = Part {
+        assertion: &callee.needs,
+        store: &inside,
+        heap: &before.heap,
+    };
+    exchanged(alloc, part, &after.heap)
+}
+
+// What a loop hands over.
+fn handed_to_loop(
+    alloc: Global,
+    setting: Setting<'_>,
+    number: u16,
+    before: &State,
+    after: &State,
+) -> Result<Option<Exchange>, AllocError>
+    requires { HasLoops setting }
+    ensures { IfOk result (λ o. (l : graph.Loop) → IsLoop (procedure_of setting.entry.procedure.now) number l → IsHandedOr (program_of setting.entry.typed.now) (graph.looped l) (state_of before.now) (state_of after.now) o) }
+{
+    let Some(round) = setting.round(number) else {
+        return Ok(None);
+    };
+    let part = Part {
+        assertion: round.invariant,
+        store: &before.store,
+        heap: &before.heap,
+    };
+    exchanged(alloc, part, &after.heap)
+}
+
+/// What a step hands over between two states, if it hands cells over.
+pub fn handed(
+    alloc: Global,
+    setting: Setting<'_>,
+    step: &PathStep,
+    before: &State,
+    after: &State,
+) -> Result<Option<Exchange>, AllocError>
+    requires { HasLoops setting }
+    ensures { IfOk result (λ o. (s : graph.PathStep) → IsStep (program_of setting.entry.typed.now) (procedure_of setting.entry.procedure.now) step.now s → IsHandedOr (program_of setting.entry.typed.now) s (state_of before.now) (state_of after.now) o) }
+{
+    match step {
+        PathStep::Call {
+            callee,
+            arguments,
+            ..
+        } => handed_to_callee(alloc, setting, *callee, arguments.as_slice(), before, after),
+        PathStep::Loop { number } => handed_to_loop(alloc, setting, *number, before, after),
+        PathStep::Access { .. } => Ok(None),
+        PathStep::Assume { .. } => Ok(None),
+        PathStep::Set { .. } => Ok(None),
+        PathStep::Write { .. } => Ok(None),
+        PathStep::New { .. } => Ok(None),
+        PathStep::Free { .. } => Ok(None),
+        PathStep::Return { .. } => Ok(None),
+    }
+}

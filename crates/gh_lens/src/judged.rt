@@ -1,0 +1,109 @@
+//! What is found of each condition of a program.
+
+ghost use Rattle.std.specs.Prelude.{◌≡◌, ◌+◌, IfOk};
+ghost use Rattle.gh_ast.specs.Plain.{program_of};
+ghost use Rattle.gh_path.specs.Admitted.{IsAdmitted};
+ghost use Rattle.gh_path.specs.Conditions as plain;
+ghost use Rattle.gh_path.specs.Graphs as graph;
+ghost use Rattle.gh_path.specs.Kept.{IsKind};
+ghost use Rattle.gh_base.specs.declared.place.Span.{Span};
+ghost use Rattle.gh_ast.specs.Plain.{Procedure, Program};
+ghost use Rattle.gh_trace.specs.Kept.{IsOfProgram, IsOne};
+ghost use Rattle.gh_lens.specs.Judgements.{is_ground_work, IsFound, IsJudged, AreJudged};
+
+use crate::progress::Progress;
+use gh_ast::typed::Typed;
+use gh_base::text::Text;
+use gh_decide::decide::{Verdict, decide};
+use gh_draw::describe::describe;
+use gh_path::condition::{CheckKind, Condition};
+use gh_path::conditions::Conditions;
+use std::alloc::{AllocError, Global};
+
+/// Whether a condition has a counterexample.
+#[derive(Clone, Copy, Debug, PartialEq, Eq)]
+pub enum Finding {
+    Valid,
+    Refuted,
+}
+
+/// A condition by its number, with its description, whether others rest on what it asks, and what is
+/// found of it.
+#[derive(Debug, Drop)]
+pub struct Judged {
+    pub number: u32,
+    pub description: Text,
+    pub is_ground_work: bool,
+    pub finding: Finding,
+}
+
+// Whether what is asked is an entry of a callee or of a loop, or the end of a loop.
+fn rests_on(kind: &CheckKind) -> bool
+    ensures { (P : Program) (p : Procedure) (at : Span) (k : graph.Check) → IsKind P p kind.now at k → result ≡ is_ground_work k }
+{
+    match kind {
+        CheckKind::Access { .. } => false,
+        CheckKind::CalleeEntry { .. } => true,
+        CheckKind::LoopEntry { .. } => true,
+        CheckKind::Return => false,
+        CheckKind::LoopEnd { .. } => true,
+    }
+}
+
+// What is found of a condition.
+fn find_out(alloc: Global, typed: &Typed, condition: &Condition) -> Result<Finding, AllocError>
+    requires admitted { IsAdmitted (program_of typed.now) }
+    requires one { IsOne (program_of typed.now) condition.now }
+    ensures { IfOk result (λ f. (c : plain.Condition) → IsOfProgram (program_of typed.now) condition.now c → IsFound (program_of typed.now) c f) }
+{
+    match decide(alloc, typed, condition)? {
+        Verdict::Valid(_) => Ok(Finding::Valid),
+        Verdict::Refuted(_) => Ok(Finding::Refuted),
+    }
+}
+
+// What is kept of the condition of a number.
+fn judge(
+    alloc: Global,
+    typed: &Typed,
+    number: u32,
+    condition: &Condition,
+) -> Result<Judged, AllocError>
+    requires admitted { IsAdmitted (program_of typed.now) }
+    requires one { IsOne (program_of typed.now) condition.now }
+    ensures { IfOk result (λ j. (c : plain.Condition) → IsOfProgram (program_of typed.now) condition.now c → IsJudged (program_of typed.now) number c j) }
+{
+    let description = describe(alloc, typed, condition)?;
+    let finding = find_out(alloc, typed, condition)?;
+    Ok(Judged {
+        number,
+        description,
+        is_ground_work: rests_on(&condition.check.kind),
+        finding,
+    })
+}
+
+/// Decides all conditions of an admitted program, in order, and tells after each how many are settled.
+pub fn verdicts<T: Progress>(
+    alloc: Global,
+    typed: &Typed,
+    conditions: &Conditions,
+    progress: &mut T,
+) -> Result<Vec<Judged>, AllocError>
+    requires same { conditions.now ≡ typed.now }
+    requires admitted { IsAdmitted (program_of typed.now) }
+    ensures { IfOk result (λ v. AreJudged (program_of typed.now) 1 (plain.conditions (program_of typed.now)) v.items) }
+{
+    let mut all = Vec::new(alloc);
+    let count = conditions.count();
+    for place in 0..count {
+        let number = place + 1;
+        let Some(condition) = conditions.condition(alloc, number)? else {
+            unreachable!();
+        };
+        let judged = judge(alloc, typed, number, &condition)?;
+        all.push(judged)?;
+        progress.settled(number, count);
+    }
+    Ok(all)
+}

@@ -1,0 +1,42 @@
+-- What an item of a walk says of the list of conditions.
+use Rattle.std.specs.Prelude.{◌≡◌, ℕ, zero, suc, ◌+◌, ◌-◌, ◌<◌, List, [], ◌∷◌, length, drop, Some, None, Ok, slice_get}
+use Rattle.std.proofs.Common.{sym, ◌∙◌, ap, subst, arith}
+use Rattle.std.proofs.lemmas.List.{length-drop}
+use Rattle.gh_ast.specs.Plain.{Program}
+use Rattle.gh_path.specs.Answers.{IsNumbered}
+use Rattle.gh_path.specs.Conditions.{Condition, conditions}
+use Rattle.gh_path.specs.Walks.{IsBefore, IsGiven}
+use Rattle.gh_path.specs.declared.condition.Condition as kept
+use Rattle.gh_path.specs.declared.walk.Walk.{Walk}
+
+first_of : {A : Type 0} (xs : List A) (k : ℕ) (x : A) (ys : List A) → drop k xs ≡ x ∷ ys → slice_get xs k ≡ Some x
+first_of [] zero x ys e = absurd cc
+first_of [] (suc k) x ys e = absurd cc
+first_of (z ∷ xs) zero x ys e = let same : z ≡ x = cc in ap Some same
+first_of (z ∷ xs) (suc k) x ys e = first_of xs k x ys e
+
+rest_of : {A : Type 0} (xs : List A) (k : ℕ) (x : A) (ys : List A) → drop k xs ≡ x ∷ ys → ys ≡ drop (suc k) xs
+rest_of [] zero x ys e = absurd cc
+rest_of [] (suc k) x ys e = absurd cc
+rest_of (z ∷ xs) zero x ys e = let same : xs ≡ ys = cc in sym same
+rest_of (z ∷ xs) (suc k) x ys e = rest_of xs k x ys e
+
+-- the k-th item is the condition of number k + 1
+pub given_next : (P : Program) (s t : Walk) (k : ℕ) (r : kept.Condition) → IsBefore P s (drop k (conditions P)) → IsGiven s (Some (Ok r)) t →
+    IsNumbered P (k + 1) (Some r) × IsBefore P t (drop (k + 1) (conditions P))
+given_next P s t k r before given =
+    let item = given P (drop k (conditions P)) before in
+    let c : Condition = item.1.0 in
+    let place : k ≡ k + 1 - 1 = omega arith in
+    let at : slice_get (conditions P) k ≡ Some c = first_of (conditions P) k c item.0 item.1.1 in
+    let more : suc k ≡ k + 1 = omega arith in (
+      (c, omega arith, ap (slice_get (conditions P)) (sym place) ∙ at, item.1.2),
+      subst (IsBefore P t) (rest_of (conditions P) k c item.0 item.1.1 ∙ ap (λ n. drop n (conditions P)) more) item.2,
+    )
+
+-- an item comes as long as there are conditions
+pub given_none : (P : Program) (s t : Walk) (k : ℕ) → IsBefore P s (drop k (conditions P)) → k < length (conditions P) → IsGiven s None t → ⊥
+given_none P s t k before less given =
+    let item = given P (drop k (conditions P)) before in
+    let empty : length (drop k (conditions P)) ≡ 0 = ap length item.1.0 in
+    omega (arith, empty, length-drop k (conditions P), less)

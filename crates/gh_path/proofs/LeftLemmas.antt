@@ -1,0 +1,165 @@
+-- The conditions that a walk has still to give.
+use Rattle.std.specs.Prelude.{◌≡◌, ℕ, zero, suc, ◌+◌, ◌<◌, ◌≤◌, List, [], ◌∷◌, ◌++◌, map, length, drop, Some, None, Ok, Err, slice_get}
+use Rattle.std.proofs.Common.{refl, sym, ◌∙◌, ap, subst, arith, append_assoc, append-nil}
+use Rattle.std.proofs.lemmas.List.{drop_more}
+use Rattle.std.proofs.lemmas.Option.{slice_get_within, get_or_from_slice_get}
+use Rattle.std.proofs.Math.ListN.{drop_of_length-le}
+use Rattle.std.specs.declared.alloc.AllocError.{AllocError}
+use Rattle.gh_ast.specs.Plain.{Procedure, Program}
+use Rattle.gh_path.specs.Graphs.{PathStep, Graph}
+use Rattle.gh_path.specs.Paths.{Way, ways}
+use Rattle.gh_path.specs.Conditions.{Condition, condition}
+use Rattle.gh_path.specs.Kept.{IsStep, AreSteps}
+use Rattle.gh_path.specs.Shown.{IsShown, AreShown, Shows}
+use Rattle.gh_path.specs.Routes.{AreToCome, IsReached}
+use Rattle.gh_path.specs.Roots.{IsRoot, AreRoots}
+use Rattle.gh_path.specs.Walks.{AreLeft, IsAt, IsNextKept, IsGiven}
+use Rattle.gh_path.specs.declared.condition.Condition as kept
+use Rattle.gh_path.specs.declared.condition.PathStep as kept_step
+use Rattle.gh_path.specs.declared.node.Asked.{Asked}
+use Rattle.gh_path.specs.declared.node.Node.{Node}
+use Rattle.gh_path.specs.declared.node.Step.{Step}
+use Rattle.gh_path.specs.declared.route.Route.{Route}
+use Rattle.gh_path.specs.declared.starts.Root.{Root}
+use Rattle.gh_path.specs.declared.walk.Walk.{Walk}
+use Rattle.gh_path.proofs.WalkLemmas.{steps_more}
+
+-- at the first start
+pub begin_left : (P : Program) (s : Walk) (cs : List Condition) → AreRoots P s.starts.now.nodes s.starts.now.roots.items cs → 0 < length cs → s.next ≡ 1 →
+    ((r : Root) (rs : List Root) → s.starts.now.roots.items ≡ r ∷ rs → s.present ≡ r) →
+    ((p : Procedure) (g : Graph) → Shows P p s.starts.now.nodes s.present.node g → AreToCome P p s.starts.now.nodes s.route.taken.items s.route.onward (ways g)) → AreLeft P s cs
+begin_left P s cs roots some one first come = by_roots s.starts.now.roots.items refl roots
+  where
+    by_roots : (rs : List Root) → rs ≡ s.starts.now.roots.items → AreRoots P s.starts.now.nodes rs cs → AreLeft P s cs
+    by_roots [] same none = let empty : length cs ≡ 0 = ap length none in absurd (omega (arith, empty, some))
+    by_roots (r ∷ rs) same (p, a, ds, root, rest, split) =
+        let present : s.present ≡ r = first r rs (sym same) in
+        record {
+          procedure = p;
+          start = a;
+          ways = ways a.graph;
+          later = ds;
+          root = subst (λ q. IsRoot P s.starts.now.nodes q p a) (sym present) root;
+          here = come p a.graph (subst (λ (q : Root). Shows P p s.starts.now.nodes q.node a.graph) (sym present) root.shows);
+          after = subst (λ n. AreRoots P s.starts.now.nodes (drop n s.starts.now.roots.items) ds) (sym one) (subst (λ qs. AreRoots P s.starts.now.nodes (drop 1 qs) ds) same rest);
+          are = split;
+        }
+
+-- the present start has no way any more
+pub over_left : (P : Program) (s : Walk) (cs : List Condition) → AreLeft P s cs →
+    ((p : Procedure) (ws : List Way) → AreToCome P p s.starts.now.nodes s.route.taken.items s.route.onward ws → ws ≡ []) → AreRoots P s.starts.now.nodes (drop s.next s.starts.now.roots.items) cs
+over_left P s cs left over =
+    let none : left.ways ≡ [] = over left.procedure left.ways left.here in
+    let same : cs ≡ left.later = left.are ∙ ap (λ ws. map (condition left.procedure left.start) ws ++ left.later) none in
+    subst (AreRoots P s.starts.now.nodes (drop s.next s.starts.now.roots.items)) (sym same) left.after
+
+-- and no start comes any more
+pub none_left : (P : Program) (ns : List Node) (rs : List Root) (n : ℕ) (cs : List Condition) → slice_get rs n ≡ None → AreRoots P ns (drop n rs) cs → cs ≡ []
+none_left P ns rs n cs past roots =
+    let none : drop n rs ≡ [] = drop_of_length-le rs (past_of rs n past) in
+    subst (λ qs. AreRoots P ns qs cs) none roots
+  where
+    past_of : (rs : List Root) (n : ℕ) → slice_get rs n ≡ None → length rs ≤ n
+    past_of [] n past = omega arith
+    past_of (r ∷ rs) zero past = absurd cc
+    past_of (r ∷ rs) (suc n) past = omega (arith, past_of rs n past)
+
+-- the next start
+pub next_left : (P : Program) (s : Walk) (cs : List Condition) (r : Root) (t : Route) → AreRoots P s.starts.now.nodes (drop s.next s.starts.now.roots.items) cs → slice_get s.starts.now.roots.items s.next ≡ Some r →
+    ((p : Procedure) (g : Graph) → Shows P p s.starts.now.nodes r.node g → AreToCome P p s.starts.now.nodes t.taken.items t.onward (ways g)) →
+    AreLeft P (record s { present = r; next = s.next + 1; route = t }) cs
+next_left P s cs r t roots at come =
+    let rs = s.starts.now.roots.items in
+    let split : drop s.next rs ≡ r ∷ drop (s.next + 1) rs =
+    drop_more rs s.next r (slice_get_within rs s.next r at) ∙ ap (λ q. q ∷ drop (s.next + 1) rs) (get_or_from_slice_get rs s.next r r at) in
+    let here = subst (λ qs. AreRoots P s.starts.now.nodes qs cs) split roots in
+    record {
+      procedure = here.0;
+      start = here.1;
+      ways = ways here.1.graph;
+      later = here.2;
+      root = here.3;
+      here = come here.0 here.1.graph here.3.shows;
+      after = here.4;
+      are = here.5;
+    }
+
+-- a condition is come to
+pub found_at : (P : Program) (s : Walk) (cs : List Condition) (a : Asked) (t : Route) → AreLeft P s cs →
+    ((p : Procedure) (ws : List Way) → AreToCome P p s.starts.now.nodes s.route.taken.items s.route.onward ws → IsReached P p s.starts.now.nodes t.taken.items t.onward a ws) →
+    IsAt P (record s { route = t }) a cs
+found_at P s cs a t left reach =
+    let here = reach left.procedure left.ways left.here in
+    let f = condition left.procedure left.start in
+    record {
+      first = f (record { steps = here.steps; check = here.check });
+      rest = map f here.rest ++ left.later;
+      are = left.are ∙ ap (λ ws. map f ws ++ left.later) here.are;
+      root = left.root;
+      shown = here.shown;
+      asked = here.asked;
+      left = record {
+        procedure = left.procedure;
+        start = left.start;
+        ways = here.rest;
+        later = left.later;
+        root = left.root;
+        here = here.later;
+        after = left.after;
+        are = refl;
+      };
+    }
+
+-- only what is counted changes
+pub left_too : (P : Program) (s : Walk) (cs : List Condition) (given end : ℕ) → AreLeft P s cs → AreLeft P (record s { given = given; end = end }) cs
+left_too P s cs given end left = record {
+  procedure = left.procedure;
+  start = left.start;
+  ways = left.ways;
+  later = left.later;
+  root = left.root;
+  here = left.here;
+  after = left.after;
+  are = left.are;
+}
+
+-- one item more
+pub next_item : (s t : Walk) (r : kept.Condition) → s.given < s.end → t.given ≡ s.given → t.end ≡ s.end → ((P : Program) (cs : List Condition) → AreLeft P s cs → IsNextKept P t (Some r) cs) →
+    IsGiven s (Some (Ok r)) (record t { given = t.given + 1 })
+next_item s t r less given end gives = λ P cs before.
+    let next = gives P cs (before.left less) in
+    let count : length cs ≡ length (next.0 ∷ next.1) = ap length next.2 in
+    let more : length (next.0 ∷ next.1) ≡ length next.1 + 1 = omega arith in
+    (next.1, (next.0, next.2, next.3), record { count = omega (arith, count, more, before.count, given, end, less); left = λ later. left_too P t next.1 (t.given + 1) t.end next.4 })
+
+pub no_item : (s t : Walk) → s.end ≤ s.given → t.end ≤ t.given → IsGiven s None t
+no_item s t past over = λ P cs before.
+    ([], (empty cs (omega (arith, before.count, past)), refl), record { count = omega (arith, over); left = λ less. absurd (omega (arith, less, over)) })
+  where
+    empty : (cs : List Condition) → length cs ≡ 0 → cs ≡ []
+    empty [] none = refl
+    empty (c ∷ cs) none = absurd (omega (arith, none))
+
+-- an answer that can't come: nothing is to come, though something was counted
+pub none_item : (s t : Walk) → s.given < s.end → ((P : Program) (cs : List Condition) → AreLeft P s cs → cs ≡ []) → t.end ≤ t.given → IsGiven s None t
+none_item s t less gives over = λ P cs before.
+    let none : cs ≡ [] = gives P cs (before.left less) in
+    ([], (none, refl), record { count = omega (arith, over); left = λ less. absurd (omega (arith, less, over)) })
+
+pub last_item : (s t : Walk) (e : AllocError) → s.given < s.end → t.end ≤ t.given → IsGiven s (Some (Err e)) t
+last_item s t e less over = λ P cs before.
+    ([], ((λ none. let empty : length cs ≡ 0 = ap length none in omega (arith, empty, before.count, less)), refl), record { count = omega (arith, over); left = λ less. absurd (omega (arith, less, over)) })
+
+-- steps that are kept one by one
+abbrev pub HaveKept : Program → Procedure → List Step → List PathStep → List kept_step.PathStep → Type 0
+HaveKept P p ss xs rs = (ys : List PathStep) × (zs : List PathStep) × (xs ≡ ys ++ zs) × AreSteps P p rs ys × AreShown P p ss zs
+
+pub kept_more : (P : Program) (p : Procedure) (s : Step) (ss : List Step) (xs : List PathStep) (rs qs : List kept_step.PathStep) (r : kept_step.PathStep) → ((x : PathStep) → IsShown P p s x → IsStep P p r x) → qs ≡ rs ++ r ∷ [] →
+    HaveKept P p (s ∷ ss) xs rs → HaveKept P p ss xs qs
+kept_more P p s ss xs rs qs r kept pushed (ys, [], split, are, shown) = absurd shown
+kept_more P p s ss xs rs qs r kept pushed (ys, z ∷ zs, split, are, shown) =
+    (ys ++ z ∷ [], zs, split ∙ sym (append_assoc ys (z ∷ []) zs), subst (λ ks. AreSteps P p ks (ys ++ z ∷ [])) (sym pushed) (steps_more P p rs ys r z are (kept z shown.0)), shown.1)
+
+pub kept_all : (P : Program) (p : Procedure) (xs : List PathStep) (rs : List kept_step.PathStep) → HaveKept P p [] xs rs → AreSteps P p rs xs
+kept_all P p xs rs (ys, [], split, are, none) = subst (AreSteps P p rs) (sym (split ∙ append-nil ys)) are
+kept_all P p xs rs (ys, z ∷ zs, split, are, none) = absurd none

@@ -1,0 +1,42 @@
+use Rattle.std.proofs.Common.{◌≡◌, ◌∙◌, ◌++◌, ◌≤◌, [], Some, List, length, map, drop, refl, sym, ap, subst, append-nil, arith}
+use Rattle.std.specs.Prelude.{slice_get}
+use Rattle.std.proofs.Math.ListN.{drop_of_length-le}
+use Rattle.std.proofs.lemmas.List.{length-map}
+use Rattle.std.proofs.lemmas.Option.{slice_get_within, get_or_from_slice_get}
+use Rattle.gh_ast.specs.declared.Procedure as whole
+use Rattle.gh_ast.specs.Plain.{Procedure, program_of, procedure_of}
+use Rattle.gh_path.specs.Conditions.{from_procedures, conditions_of, conditions}
+use Rattle.gh_path.specs.Roots.{AreStarts}
+use Rattle.gh_path.proofs.PlaceLemmas.{procedure_there}
+use Rattle.gh_path.proofs.RootLemmas.{procedures_go}
+use Rattle.gh_path.proofs.starts.starts_of.Goals as goal
+
+pub loop-index-init : goal.loop-index-init
+loop-index-init c = ([], c.new-starts.ensures (program_of c.args.program.now), refl)
+
+pub loop-index-preserved : goal.loop-index-preserved
+loop-index-preserved c =
+    let P = program_of c.args.program.now in
+    let qs = c.as_slice-procedure-items.result.now in
+    let i = c.loop-index.index in
+    let x = c.procedure-item.result in
+    let p = procedure_of x in
+    let before = c.loop-index.invariant in
+    let same : map procedure_of qs ≡ P.procedures = ap (map procedure_of) c.as_slice-procedure-items.ensures.value in
+    let there : slice_get P.procedures i ≡ Some p = subst (λ (ps : List Procedure). slice_get ps i ≡ Some p) same (procedure_there qs i x c.loop-index-test.true c.procedure-item.is) in (
+      before.0 ++ conditions_of p,
+      c.in_ok-add_procedure.ensures before.0 before.1 there,
+      procedures_go P.procedures i p before.0 (conditions P) (slice_get_within P.procedures i p there) (sym (get_or_from_slice_get P.procedures i p p there)) before.2,
+    )
+
+pub returns : goal.returns
+returns c =
+    let P = program_of c.args.program.now in
+    let qs = c.as_slice-procedure-items.result.now in
+    let i = c.loop-index.index in
+    let last = c.loop-index.invariant in
+    let long : length P.procedures ≡ length qs = ap (λ (rs : List whole.Procedure). length (map procedure_of rs)) (sym c.as_slice-procedure-items.ensures.value) ∙ length-map qs procedure_of in
+    let past : length P.procedures ≤ i = omega (arith, long, c.loop-index-test.false) in
+    let none : drop i P.procedures ≡ [] = drop_of_length-le P.procedures past in
+    let all : last.0 ≡ conditions P = sym (append-nil last.0) ∙ ap (λ ps. last.0 ++ from_procedures ps) (sym none) ∙ last.2 in
+    subst (AreStarts P c.loop-index.starts) all last.1

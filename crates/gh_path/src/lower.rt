@@ -1,0 +1,135 @@
+//! Nodes for expressions and tests. They are made from the end of a body on.
+
+ghost use Rattle.std.specs.Prelude.{IfOk};
+ghost use Rattle.gh_ast.specs.Plain.{test_of, tests_view};
+ghost use Rattle.gh_path.specs.Graphs.{visits, reads, all_reads, tested, all_tested, some_tested};
+ghost use Rattle.gh_path.specs.Lowered.{AddsBefore, AddsChoice};
+
+use crate::node::{Asked, Goal, Node, Nodes, Step};
+use crate::walker::Walker;
+use gh_ast::{Cond, Expr, Occ};
+use std::alloc::AllocError;
+
+impl<'t> Walker<'t> {
+    /// An access before a node.
+    pub(crate) fn lower_visit(
+        &self,
+        at: &'t Occ,
+        next: usize,
+        nodes: &mut Nodes<'t>,
+    ) -> Result<usize, AllocError>
+        ensures { IfOk result (AddsBefore self.now (visits at.now) nodes.old next nodes.new) }
+    {
+        let asked = Asked {
+            goal: Goal::Access { at: &at.name },
+            span: at.span,
+        };
+        let step = Step::Access { at };
+        let place = nodes.add(Node::Guarded { asked, step, next })?;
+        Ok(place)
+    }
+
+    /// An expression's read before a node.
+    pub(crate) fn lower_read(
+        &self,
+        expr: &'t Expr,
+        next: usize,
+        nodes: &mut Nodes<'t>,
+    ) -> Result<usize, AllocError>
+        ensures { IfOk result (AddsBefore self.now (reads expr.now) nodes.old next nodes.new) }
+    {
+        match expr {
+            Expr::Plain(_) => Ok(next),
+            Expr::Read(at) => self.lower_visit(at, next, nodes),
+        }
+    }
+
+    /// The reads of some expressions before a node.
+    pub(crate) fn lower_reads(
+        &self,
+        exprs: &'t [Expr],
+        next: usize,
+        nodes: &mut Nodes<'t>,
+    ) -> Result<usize, AllocError>
+        ensures { IfOk result (AddsBefore self.now (all_reads exprs.now) nodes.old next nodes.new) }
+    {
+        let mut place = next;
+        let mut left = exprs.len();
+        while left > 0 {
+            left -= 1;
+            place = self.lower_read(&exprs[left], place, nodes)?;
+        }
+        Ok(place)
+    }
+
+    /// A test that leads to one of two nodes.
+    #[cycle(lower_test)]
+    pub(crate) fn lower_test(
+        &self,
+        test: &'t Cond,
+        yes: usize,
+        no: usize,
+        nodes: &mut Nodes<'t>,
+    ) -> Result<usize, AllocError>
+        ensures { IfOk result (AddsChoice self.now (tested (test_of test.now)) nodes.old yes no nodes.new) }
+    {
+        match test {
+            Cond::Compare { left, equal, right } => {
+                let fork = Node::Fork {
+                    left,
+                    equal: *equal,
+                    right,
+                    yes,
+                    no,
+                };
+                let fork = nodes.add(fork)?;
+                let second = self.lower_read(right, fork, nodes)?;
+                let first = self.lower_read(left, second, nodes)?;
+                Ok(first)
+            }
+            Cond::Not(inner) => Ok(self.lower_test(inner, no, yes, nodes)?),
+            Cond::And(members) => Ok(self.lower_all(members.as_slice(), yes, no, nodes)?),
+            Cond::Or(members) => Ok(self.lower_some(members.as_slice(), yes, no, nodes)?),
+        }
+    }
+
+    /// Tests that have all to be true.
+    #[cycle(lower_test)]
+    fn lower_all(
+        &self,
+        tests: &'t [Cond],
+        yes: usize,
+        no: usize,
+        nodes: &mut Nodes<'t>,
+    ) -> Result<usize, AllocError>
+        ensures { IfOk result (AddsChoice self.now (all_tested (tests_view tests.now)) nodes.old yes no nodes.new) }
+    {
+        let mut place = yes;
+        let mut left = tests.len();
+        while left > 0 {
+            left -= 1;
+            place = self.lower_test(&tests[left], place, no, nodes)?;
+        }
+        Ok(place)
+    }
+
+    /// Tests of which one has to be true.
+    #[cycle(lower_test)]
+    fn lower_some(
+        &self,
+        tests: &'t [Cond],
+        yes: usize,
+        no: usize,
+        nodes: &mut Nodes<'t>,
+    ) -> Result<usize, AllocError>
+        ensures { IfOk result (AddsChoice self.now (some_tested (tests_view tests.now)) nodes.old yes no nodes.new) }
+    {
+        let mut place = no;
+        let mut left = tests.len();
+        while left > 0 {
+            left -= 1;
+            place = self.lower_test(&tests[left], yes, place, nodes)?;
+        }
+        Ok(place)
+    }
+}

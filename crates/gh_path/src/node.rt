@@ -1,0 +1,254 @@
+//! Bodies as nodes that lead to one another, with steps and checks as the text has them.
+
+ghost use Rattle.std.specs.Prelude.{◌≡◌, ◌↔◌, ◌∷◌, ◌++◌, [], length, slice_get, Some, IsTrue, IfOk, OnOk};
+ghost use Rattle.gh_path.specs.Shown.{IsOpposite, KeepsStep, KeepsGoal, KeepsAsked, LeadsBelow};
+ghost use Rattle.gh_path.specs.declared.node.Node.{Node as Plain};
+
+use crate::condition::{Check, CheckKind, PathStep};
+use crate::copies::{copy_expr, copy_exprs, copy_occ, copy_occs};
+use gh_ast::{Expr, Occ};
+use gh_base::name::Name;
+use gh_base::place::Span;
+use std::alloc::{AllocError, Global};
+use std::marker::Model;
+
+/// One step as the text has it. Its numbers are those of a [`PathStep`].
+#[derive(Clone, Copy, Debug)]
+pub enum Step<'t> {
+    Access {
+        at: &'t Occ,
+    },
+    Assume {
+        left: &'t Expr,
+        equal: bool,
+        right: &'t Expr,
+    },
+    Set {
+        target: &'t Occ,
+        value: &'t Expr,
+    },
+    Write {
+        at: &'t Occ,
+        value: &'t Expr,
+    },
+    New {
+        target: &'t Occ,
+    },
+    Free {
+        at: &'t Occ,
+    },
+    Call {
+        targets: &'t [Occ],
+        callee: u16,
+        arguments: &'t [Expr],
+    },
+    Loop {
+        number: u16,
+    },
+    Return {
+        values: &'t [Expr],
+    },
+}
+
+impl<'t> Step<'t> {
+    /// The step on the other way of a comparison.
+    pub(crate) fn opposite(self) -> Step<'t>
+        ensures { IsOpposite self.entry result }
+    {
+        match self {
+            Step::Assume { left, equal, right } => Step::Assume {
+                left,
+                equal: !equal,
+                right,
+            },
+            other => other,
+        }
+    }
+
+    /// The step as it is kept.
+    pub fn kept(&self, alloc: Global) -> Result<PathStep, AllocError>
+        ensures { IfOk result (KeepsStep self.now) }
+    {
+        match self {
+            Step::Access { at } => Ok(PathStep::Access {
+                at: copy_occ(alloc, at)?,
+            }),
+            Step::Assume { left, equal, right } => Ok(PathStep::Assume {
+                left: copy_expr(alloc, left)?,
+                equal: *equal,
+                right: copy_expr(alloc, right)?,
+            }),
+            Step::Set { target, value } => Ok(PathStep::Set {
+                target: copy_occ(alloc, target)?,
+                value: copy_expr(alloc, value)?,
+            }),
+            Step::Write { at, value } => Ok(PathStep::Write {
+                at: copy_occ(alloc, at)?,
+                value: copy_expr(alloc, value)?,
+            }),
+            Step::New { target } => Ok(PathStep::New {
+                target: copy_occ(alloc, target)?,
+            }),
+            Step::Free { at } => Ok(PathStep::Free {
+                at: copy_occ(alloc, at)?,
+            }),
+            Step::Call {
+                targets,
+                callee,
+                arguments,
+            } => Ok(PathStep::Call {
+                targets: copy_occs(alloc, targets)?,
+                callee: *callee,
+                arguments: copy_exprs(alloc, arguments)?,
+            }),
+            Step::Loop { number } => Ok(PathStep::Loop { number: *number }),
+            Step::Return { values } => Ok(PathStep::Return {
+                values: copy_exprs(alloc, values)?,
+            }),
+        }
+    }
+}
+
+/// What is asked, as the text has it. Its numbers are those of a [`CheckKind`].
+#[derive(Clone, Copy, Debug)]
+pub enum Goal<'t> {
+    Access { at: &'t Name },
+    CalleeEntry { callee: u16, arguments: &'t [Expr] },
+    LoopEntry { number: u16 },
+    Return,
+    LoopEnd { number: u16 },
+}
+
+impl<'t> Goal<'t> {
+    /// What is asked, as it is kept.
+    fn kept(&self, alloc: Global) -> Result<CheckKind, AllocError>
+        ensures { IfOk result (KeepsGoal self.now) }
+    {
+        match self {
+            Goal::Access { at } => Ok(CheckKind::Access {
+                at: at.copy(alloc)?,
+            }),
+            Goal::CalleeEntry { callee, arguments } => Ok(CheckKind::CalleeEntry {
+                callee: *callee,
+                arguments: copy_exprs(alloc, arguments)?,
+            }),
+            Goal::LoopEntry { number } => Ok(CheckKind::LoopEntry { number: *number }),
+            Goal::Return => Ok(CheckKind::Return),
+            Goal::LoopEnd { number } => Ok(CheckKind::LoopEnd { number: *number }),
+        }
+    }
+}
+
+/// A check as the text has it, with its place.
+#[derive(Clone, Copy, Debug)]
+pub struct Asked<'t> {
+    pub goal: Goal<'t>,
+    pub span: Span,
+}
+
+impl<'t> Asked<'t> {
+    /// The check as it is kept.
+    pub fn kept(&self, alloc: Global) -> Result<Check, AllocError>
+        ensures { IfOk result (KeepsAsked self.now) }
+    {
+        let kind = self.goal.kept(alloc)?;
+        Ok(Check {
+            kind,
+            span: self.span,
+        })
+    }
+}
+
+/// A place in a body, and the places of the nodes that come next. In `Fork` the comparison is true
+/// on the way to `yes`, and false on the way to `no`.
+#[derive(Clone, Copy, Debug)]
+pub enum Node<'t> {
+    DeadEnd,
+    Ends {
+        asked: Asked<'t>,
+    },
+    Moves {
+        step: Step<'t>,
+        next: usize,
+    },
+    Guarded {
+        asked: Asked<'t>,
+        step: Step<'t>,
+        next: usize,
+    },
+    Fork {
+        left: &'t Expr,
+        equal: bool,
+        right: &'t Expr,
+        yes: usize,
+        no: usize,
+    },
+}
+
+impl<'t> Node<'t> {
+    /// Whether all nodes that come next stand before a place.
+    fn leads_below(&self, place: usize) -> bool
+        ensures { IsTrue result ↔ LeadsBelow place self.now }
+    {
+        match self {
+            Node::DeadEnd => true,
+            Node::Ends { .. } => true,
+            Node::Moves { next, .. } => *next < place,
+            Node::Guarded { next, .. } => *next < place,
+            Node::Fork { yes, no, .. } => *yes < place && *no < place,
+        }
+    }
+}
+
+/// Nodes, each of which leads to nodes before it. Contracts see them as a list.
+#[derive(Debug, Drop)]
+pub struct Nodes<'t> {
+    nodes: Vec<Node<'t>>,
+}
+
+impl<'t> Model for Nodes<'t> {
+    ghost use Rattle.std.specs.Prelude.{List};
+    ghost use Rattle.gh_path.specs.declared.node.Node.{Node as Plain};
+    ghost use Rattle.gh_path.specs.Shown.{AreLinked};
+
+    ghost Value = { List Plain };
+
+    ghost view = { λ n. n.nodes.items };
+
+    ghost invariant = { λ n. AreLinked n.nodes.items };
+}
+
+impl<'t> Nodes<'t> {
+    /// No nodes.
+    pub fn new(alloc: Global) -> Nodes<'t>
+        ensures { result ≡ [] }
+    {
+        Nodes {
+            nodes: Vec::new(alloc),
+        }
+    }
+
+    /// Adds a node, and gives its place.
+    pub fn add(&mut self, node: Node<'t>) -> Result<usize, AllocError>
+        ensures place { IfOk result (λ i. i ≡ length self.old) }
+        ensures added { OnOk result (self.new ≡ self.old ++ node.entry ∷ []) }
+    {
+        let place = self.nodes.len();
+        if !node.leads_below(place) {
+            return Err(AllocError);
+        }
+        self.nodes.push(node)?;
+        Ok(place)
+    }
+
+    /// The node at a place; a dead end where there is none.
+    pub fn at(&self, place: usize) -> Node<'t>
+        ensures there { (n : Plain) → slice_get self.now place ≡ Some n → result ≡ n }
+        ensures below { LeadsBelow place result }
+    {
+        match self.nodes.get(place) {
+            Some(node) => *node,
+            None => Node::DeadEnd,
+        }
+    }
+}

@@ -1,0 +1,9 @@
+use Rattle.std.specs.Prelude.{◌≤◌, ◌+◌}
+use Rattle.gh_picture.specs.Placing.{HasLines}
+use Rattle.gh_picture.proofs.layout.place_each.Given as goal
+
+abbrev pub invariant-loop-from : goal.invariant-loop-from
+invariant-loop-from l = record {
+  lines : HasLines l.cells l.spots l.line;
+  few : l.line ≤ l.from-index + 1;
+}

@@ -1,0 +1,9 @@
+pub mod Words
+pub mod Written
+pub mod Elements
+pub mod Spots
+pub mod Placing
+pub mod Shapes
+pub mod Rows
+pub mod Shown
+pub mod Pictures

@@ -1,0 +1,161 @@
+//! Where cells stand: each list in a line of its own, from left to right.
+
+ghost use Rattle.std.specs.Prelude.{◌≡◌, ◌+◌, ◌<◌, ◌≤◌, ◌^◌, IfOk, IfSome, IsSome, T, length, map as each};
+ghost use Rattle.std.specs.Ordering.{nat_cmp};
+ghost use Rattle.std.specs.FinMap as map;
+ghost use Rattle.gh_assert.specs.Cells.{pairs};
+ghost use Rattle.gh_picture.specs.Spots.{number_in, AreSpots, AreStarts};
+ghost use Rattle.gh_picture.specs.Placing.{HasLines, StillStands, AllStand, spot_on};
+
+use gh_assert::heap::{Cell, place};
+use gh_assert::store::Entry;
+use std::alloc::{AllocError, Global};
+
+/// Where a cell stands: the number of its line, from 1, and its number in it, from 0.
+#[derive(Clone, Copy, Debug, PartialEq, Eq)]
+pub struct Spot {
+    pub line: usize,
+    pub column: usize,
+}
+
+/// The number of the cell of a place, if there is one.
+pub fn number_of(cells: &[Cell], at: u32) -> Option<usize>
+    requires { T (map.is_sorted nat_cmp (pairs cells.now)) }
+    ensures number { result ≡ number_in cells.now at }
+    ensures within { IfSome result (λ i. i < length cells.now) }
+{
+    place(cells, at).ok()
+}
+
+// For each cell whether some cell leads to it.
+fn led_to(alloc: Global, cells: &[Cell]) -> Result<Vec<bool>, AllocError>
+    requires { T (map.is_sorted nat_cmp (pairs cells.now)) }
+    ensures { IfOk result (λ flags. length flags.items ≡ length cells.now) }
+{
+    let mut flags = vec![in alloc; false; cells.len()]?;
+    for cell in cells {
+        if let Some(to) = number_of(cells, cell.to) {
+            flags[to] = true;
+        }
+    }
+    Ok(flags)
+}
+
+// Where lines begin first: at cells to which none leads, then at cells to which variables point.
+fn starts(alloc: Global, cells: &[Cell], entries: &[Entry]) -> Result<Vec<usize>, AllocError>
+    requires { T (map.is_sorted nat_cmp (pairs cells.now)) }
+    ensures { IfOk result (λ starts. AreStarts cells.now starts.items) }
+{
+    let mut starts = Vec::new(alloc);
+    for (number, is_led_to) in led_to(alloc, cells)?.iter().enumerate() {
+        if !*is_led_to {
+            starts.push(number)?;
+        }
+    }
+    for entry in entries {
+        if let Some(number) = number_of(cells, entry.value) {
+            starts.push(number)?;
+        }
+    }
+    Ok(starts)
+}
+
+// Places a cell and those to which it leads, up to one that stands already.
+fn place_line(cells: &[Cell], spots: &mut [Option<Spot>], line: usize, from: usize)
+    requires ascending { T (map.is_sorted nat_cmp (pairs cells.now)) }
+    requires lines { HasLines cells.now spots.old line }
+    requires within { from < length cells.now }
+    ensures lines { HasLines cells.now spots.new (line + 1) }
+    ensures kept { StillStands spots.old spots.new }
+    ensures placed { IsSome (spot_on spots.new from) }
+{
+    let mut at = from;
+    let mut column = 0;
+    while spots[at].is_none() {
+        spots[at] = Some(Spot { line, column });
+        column += 1;
+        match number_of(cells, cells[at].to) {
+            Some(next) => at = next,
+            None => return,
+        }
+    }
+}
+
+// Begins a line at a cell that does not stand already, and answers the number of the line to come.
+fn begin_line(cells: &[Cell], spots: &mut [Option<Spot>], line: usize, from: usize) -> usize
+    requires ascending { T (map.is_sorted nat_cmp (pairs cells.now)) }
+    requires lines { HasLines cells.now spots.old line }
+    requires within { from < length cells.now }
+    requires room { line + 1 < 2 ^ 64 }
+    ensures lines { HasLines cells.now spots.new result }
+    ensures kept { StillStands spots.old spots.new }
+    ensures placed { IsSome (spot_on spots.new from) }
+    ensures few { result ≤ line + 1 }
+{
+    if spots[from].is_some() {
+        return line;
+    }
+    place_line(cells, spots, line, from);
+    line + 1
+}
+
+// Begins a line at each start that does not stand already, and answers the number of the line to
+// come.
+fn place_each(cells: &[Cell], spots: &mut [Option<Spot>], starts: &[usize]) -> usize
+    requires ascending { T (map.is_sorted nat_cmp (pairs cells.now)) }
+    requires starts { AreStarts cells.now starts.now }
+    requires lines { HasLines cells.now spots.old 1 }
+    ensures lines { HasLines cells.now spots.new result }
+    ensures few { result ≤ length starts.now + 1 }
+{
+    let mut line = 1;
+    for from in starts {
+        line = begin_line(cells, spots, line, *from);
+    }
+    line
+}
+
+// Begins a line at each cell that does not stand already.
+fn place_rest(cells: &[Cell], spots: &mut [Option<Spot>], lines: usize) -> usize
+    requires ascending { T (map.is_sorted nat_cmp (pairs cells.now)) }
+    requires lines { HasLines cells.now spots.old lines }
+    requires few { lines + length cells.now < 2 ^ 64 }
+    ensures lines { HasLines cells.now spots.new result }
+    ensures all { AllStand spots.new (length cells.now) }
+{
+    let mut line = lines;
+    for from in 0..cells.len() {
+        line = begin_line(cells, spots, line, from);
+    }
+    line
+}
+
+// The spots of cells that all stand.
+fn all_placed(alloc: Global, spots: &[Option<Spot>]) -> Result<Vec<Spot>, AllocError>
+    requires { AllStand spots.now (length spots.now) }
+    ensures { IfOk result (λ placed. each Some placed.items ≡ spots.now) }
+{
+    let mut placed = Vec::new(alloc);
+    for spot in spots {
+        match spot {
+            Some(spot) => placed.push(*spot)?,
+            None => unreachable!(),
+        }
+    }
+    Ok(placed)
+}
+
+/// A spot for each cell.
+///
+/// Lines begin at cells to which none leads, then at cells to which variables point, then at the
+/// others, each in their order. A search for each cell and variable.
+pub fn spots_of(alloc: Global, cells: &[Cell], entries: &[Entry]) -> Result<Vec<Spot>, AllocError>
+    requires { T (map.is_sorted nat_cmp (pairs cells.now)) }
+    ensures { IfOk result (λ spots. AreSpots cells.now spots.items) }
+{
+    let mut spots = vec![in alloc; None; cells.len()]?;
+    let starts = starts(alloc, cells, entries)?;
+    let lines = place_each(cells, spots.as_mut_slice(), starts.as_slice());
+    let _lines = place_rest(cells, spots.as_mut_slice(), lines);
+    all_placed(alloc, spots.as_slice())
+}

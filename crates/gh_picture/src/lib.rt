@@ -1,0 +1,13 @@
+//! Pictures of states: the text of one SVG element, with a row for each state.
+#![tactic(auto)]
+
+pub mod laws;
+mod layout;
+pub mod picture;
+mod rows;
+pub mod scene;
+mod shapes;
+pub mod tree;
+#[cfg(test)]
+mod worked;
+mod writing;

@@ -1,0 +1,44 @@
+-- What conjuncts leave over.
+use Rattle.std.specs.Prelude.{◌≡◌, ℕ, ◌+◌, ◌<◌, ◌≤◌, List, ◌∷◌, length, map, drop}
+use Rattle.std.specs.FinMap as finite
+use Rattle.std.proofs.Common.{sym, ◌∙◌, ap, subst, inl, inr, get_or}
+use Rattle.std.proofs.lemmas.List.{drop_all}
+use Rattle.gh_ast.specs.declared.Assertion.{Assertion}
+use Rattle.gh_ast.specs.Plain.{Formula, Formulas, no_formulas, formula_first, formula_of}
+use Rattle.gh_assert.specs.Heaps.{Heap, Splits}
+use Rattle.gh_assert.specs.Meaning.{Store}
+use Rattle.gh_assert.proofs.Unions.{split_part}
+use Rattle.gh_assert.proofs.Unique.{one_footprint}
+use Rattle.gh_lens.specs.Takings.{conjuncts, StopsAt, Leaves}
+use Rattle.gh_scene.specs.Spare.{LeavesNothing, IsLeftOver}
+use Rattle.gh_trace.specs.Left.{left}
+use Rattle.gh_trace.proofs.Lefts.{left_is_rest}
+use Rattle.gh_trace.proofs.Listings.{next}
+
+-- a part has one rest
+one_rest : (h a b c d : Heap) → Splits h a b → Splits h c d → a ≡ c → b ≡ d
+one_rest h a b c d u v same = sym (left_is_rest h a b u) ∙ ap (λ z. left h (finite.keys z)) same ∙ left_is_rest h c d v
+
+-- conjuncts that stop leave nothing over
+pub stopped : (fs : Formulas) (s : Store) (h : Heap) (g : Formula) (rest r : Heap) → StopsAt fs s h g rest → Leaves fs s h r → ⊥
+stopped no_formulas s h g rest r stops leaves = stops
+stopped (formula_first f fs) s h g rest r (inl (is, same, none)) (c, d, splits, meets, later) = none (c, d, splits, meets)
+stopped (formula_first f fs) s h g rest r (inr (a, b, halves, met, on)) (c, d, splits, meets, later) =
+    let one : a ≡ c = one_footprint f s a c h met meets (split_part h a b halves) (split_part h c d splits) in
+    stopped fs s b g rest r on (subst (λ z. Leaves fs s z r) (sym (one_rest h a b c d halves splits one)) later)
+
+-- what the later alternatives leave over is what all of them do
+abbrev pub LeadsBack : List Assertion → ℕ → Store → Heap → Type 0
+LeadsBack xs i s h = (rest : Heap) → IsLeftOver (map formula_of (drop i xs)) s h rest → IsLeftOver (map formula_of xs) s h rest
+
+listed : (xs : List Assertion) (i : ℕ) (x : Assertion) → i < length xs → x ≡ get_or xs i x → map formula_of (drop i xs) ≡ formula_of x ∷ map formula_of (drop (i + 1) xs)
+listed xs i x within is = ap (map formula_of) (next xs i x within is)
+
+pub passes_on : (xs : List Assertion) (i : ℕ) (x : Assertion) (s : Store) (h : Heap) → i < length xs → x ≡ get_or xs i x → LeavesNothing (formula_of x) s h → LeadsBack xs i s h → LeadsBack xs (i + 1) s h
+passes_on xs i x s h within is none so rest later = so rest (subst (λ fs. IsLeftOver fs s h rest) (sym (listed xs i x within is)) (inr (none, later)))
+
+pub found_here : (xs : List Assertion) (i : ℕ) (x : Assertion) (s : Store) (h rest : Heap) → i < length xs → x ≡ get_or xs i x → Leaves (conjuncts (formula_of x)) s h rest → LeadsBack xs i s h → IsLeftOver (map formula_of xs) s h rest
+found_here xs i x s h rest within is leaves so = so rest (subst (λ fs. IsLeftOver fs s h rest) (sym (listed xs i x within is)) (inl leaves))
+
+pub none_found : (xs : List Assertion) (i : ℕ) (s : Store) (h rest : Heap) → length xs ≤ i → rest ≡ finite.empty → LeadsBack xs i s h → IsLeftOver (map formula_of xs) s h rest
+none_found xs i s h rest past e so = so rest (subst (λ ys. IsLeftOver (map formula_of ys) s h rest) (sym (drop_all i xs past)) e)

@@ -1,0 +1,4 @@
+pub mod Leaving
+pub mod Rowing
+pub mod Sketching
+pub mod First

@@ -1,0 +1,116 @@
+-- The scenes of drawings.
+use Rattle.std.specs.Prelude.{◌≡◌, ◌⊎◌, ℕ, zero, suc, ◌+◌, ◌-◌, ◌<◌, ◌≤◌, List, [], ◌∷◌, ◌++◌, length, map, Some, None, slice_get, Any, Contains}
+use Rattle.std.proofs.Common.{refl, sym, ◌∙◌, ap, subst, inl, inr, arith}
+use Rattle.std.proofs.lemmas.Option.{get_or_from_slice_get}
+use Rattle.gh_ast.specs.Plain.{Procedure, Program}
+use Rattle.gh_ast.proofs.Lists.{member_first, member_later}
+use Rattle.gh_assert.specs.Heaps.{Heap}
+use Rattle.gh_draw.specs.Kept.{HasMeaning, Describes}
+use Rattle.gh_path.specs.Admitted.{IsAdmitted}
+use Rattle.gh_path.specs.Answers.{IsNumbered}
+use Rattle.gh_path.specs.Conditions.{Condition, conditions_of, from_procedures}
+use Rattle.gh_path.specs.Graphs.{PathStep, Check}
+use Rattle.gh_path.specs.Kept.{AreSteps, IsKind, StandsFor}
+use Rattle.gh_path.specs.declared.condition.Condition as kept
+use Rattle.gh_path.specs.declared.condition.PathStep as kept_step
+use Rattle.gh_picture.specs.declared.scene.Row.{Row}
+use Rattle.gh_picture.specs.declared.scene.Scene.{Scene}
+use Rattle.gh_base.specs.declared.place.Span.{Span}
+use Rattle.gh_scene.specs.Rows.{IsStartRow, left_at_end, AreRows, AddsRows}
+use Rattle.gh_scene.specs.Sketches.{IsSceneOver, IsSketch}
+use Rattle.gh_scene.specs.Spare.{IsSpare}
+use Rattle.gh_scene.specs.declared.sketch.Sketch.TheVariants.{Shown, Fails}
+use Rattle.gh_trace.specs.declared.state.State.{State}
+use Rattle.gh_trace.specs.declared.replay.ReplayError.TheVariants.{Step}
+use Rattle.gh_trace.specs.Kept.{state_of, drawn, IsRefuted, IsFailure}
+use Rattle.gh_trace.specs.Traces.{last_state}
+
+-- as many steps are kept
+as_many : (P : Program) (p : Procedure) (rs : List kept_step.PathStep) (ss : List PathStep) → AreSteps P p rs ss → length rs ≡ length ss
+as_many P p [] [] are = refl
+as_many P p [] (s ∷ ss) are = absurd are
+as_many P p (r ∷ rs) [] are = absurd are
+as_many P p (r ∷ rs) (s ∷ ss) are = ap suc (as_many P p rs ss are.1)
+
+over_or : (m n : ℕ) → (m < n) ⊎ (n ≤ m)
+over_or m n = grind arith
+
+at_front : {X : Type 0} (xs ys : List X) (k : ℕ) → k < length xs → slice_get (xs ++ ys) k ≡ slice_get xs k
+at_front [] ys k within = absurd (omega (arith, within))
+at_front (x ∷ xs) ys zero within = refl
+at_front (x ∷ xs) ys (suc k) within = at_front xs ys k (omega (arith, within))
+
+at_back : {X : Type 0} (xs ys : List X) (k j : ℕ) → k ≡ length xs + j → slice_get (xs ++ ys) k ≡ slice_get ys j
+at_back [] ys k j e = ap (slice_get ys) (omega (arith, e))
+at_back (x ∷ xs) ys zero j e = absurd (omega (arith, e))
+at_back (x ∷ xs) ys (suc k) j e = at_back xs ys k j (omega (arith, e))
+
+-- no condition of the list has a property that no procedure has a condition with
+none_passes : (Q : Condition → Type 0) (ps : List Procedure) (k : ℕ) (c : Condition) → slice_get (from_procedures ps) k ≡ Some c
+    → ((p : Procedure) → Contains ps p → Any Q (conditions_of p) → ⊥) → Q c → ⊥
+none_passes Q [] k c there none holds = absurd cc
+none_passes Q (p ∷ ps) k c there none holds = elim (over_or k (length (conditions_of p))) [
+  | inl within ↦
+      let here : slice_get (conditions_of p) k ≡ Some c = sym (at_front (conditions_of p) (from_procedures ps) k within) ∙ there in
+      none p (member_first p ps) (k, c, within, get_or_from_slice_get (conditions_of p) k c c here, holds)
+  | inr past ↦
+      none_passes Q ps (k - length (conditions_of p)) c
+      (sym (at_back (conditions_of p) (from_procedures ps) k (k - length (conditions_of p)) (omega (arith, past))) ∙ there) (λ q in_rest. none q (member_later p q ps in_rest)) holds
+]
+
+not_over : (n m : ℕ) → (n < m → ⊥) → m ≤ n
+not_over n m h = elim (either n m) [ inl less ↦ absurd (h less) | inr more ↦ more ]
+  where
+    either : (n m : ℕ) → (n < m) ⊎ (m ≤ n)
+    either n m = grind arith
+
+-- a condition of an admitted program has few steps
+pub few_steps : (P : Program) (n : ℕ) (r : kept.Condition) → IsAdmitted P → IsNumbered P n (Some r) → length r.steps.items ≤ 256
+few_steps P n r admitted (c, low, there, stands) =
+    let short : length c.way.steps ≤ 256 = not_over 256 (length c.way.steps) (λ many. none_passes (λ d. 256 < length d.way.steps) P.procedures (n - 1) c there admitted.steps many) in
+    subst (λ z. z ≤ 256) (sym (as_many P c.procedure r.steps.items c.way.steps stands.steps)) short
+
+pub has_meaning : (P : Program) (n : ℕ) (r : kept.Condition) → IsNumbered P n (Some r) → HasMeaning P r
+has_meaning P n r (c, low, there, stands) = (c, stands)
+
+-- the rows and the title make up a scene
+pub scene_over : (P : Program) (p : Procedure) (r : kept.Condition) (x : State) (ys xs : List State) (scene : Scene) (spare left : Heap) (title : List ℕ) (start : Row) (none pushed new : List Row)
+    → ((c : Condition) → StandsFor P r c → c.procedure ≡ p) → xs ≡ x ∷ ys → Describes P r title → scene.title ≡ title → scene.rows.items ≡ new
+    → ((at : Span) (k : Check) → IsKind P p r.check.kind at k → IsSpare k (last_state (state_of x) (map state_of ys)) spare) → left ≡ left_at_end ys spare → IsStartRow x left start
+    → none ≡ [] → pushed ≡ none ++ start ∷ [] → ((ss : List PathStep) → AreSteps P p r.steps.items ss → AddsRows P ss xs spare pushed new)
+    → (c : Condition) → StandsFor P r c → IsSceneOver P c x ys scene
+scene_over P p r x ys xs scene spare left title start none pushed new own states told titled rows spared at_left is_start empty push later c stands =
+    let same : c.procedure ≡ p = own c stands in
+    let adds : AddsRows P c.way.steps xs spare pushed new = later c.way.steps (subst (λ q. AreSteps P q r.steps.items c.way.steps) same stands.steps) in
+    let first : pushed ≡ start ∷ [] = push ∙ ap (λ rs. rs ++ start ∷ []) empty in
+    record {
+      title = titled ∙ told c stands;
+      spare = spare;
+      spare_is = spared r.check.span c.way.check (subst (λ q. IsKind P q r.check.kind r.check.span c.way.check) same stands.check);
+      first = start;
+      rest = adds.rest;
+      rows = rows ∙ adds.whole ∙ ap (λ rs. rs ++ adds.rest) first;
+      first_is = subst (λ h. IsStartRow x h start) at_left is_start;
+      rest_are = subst (λ zs. AreRows P c.way.steps zs spare adds.rest) states adds.rows;
+    }
+
+-- a procedure has one number
+pub one_procedure : (P : Program) (r : kept.Condition) (p : Procedure) → slice_get P.procedures r.procedure ≡ Some p → (c : Condition) → StandsFor P r c → c.procedure ≡ p
+one_procedure P r p there c stands = let at : slice_get P.procedures r.procedure ≡ Some c.procedure = stands.procedure in cc
+
+pub no_procedure : (P : Program) (r : kept.Condition) → HasMeaning P r → slice_get P.procedures r.procedure ≡ None → ⊥
+no_procedure P r (c, stands) none = let at : slice_get P.procedures r.procedure ≡ Some c.procedure = stands.procedure in absurd cc
+
+-- a drawing that is a counterexample
+pub sketched : (P : Program) (n : ℕ) (r : kept.Condition) (x : State) (ys xs : List State) (scene : Scene) → IsNumbered P n (Some r) → xs ≡ x ∷ ys → IsRefuted P r (map drawn xs)
+    → ((c : Condition) → StandsFor P r c → IsSceneOver P c x ys scene) → IsSketch P n xs (Shown scene)
+sketched P n r x ys xs scene (c, low, there, stands) states refuted shows =
+    (c, (low, there), record { first = x; others = ys; states = states; refutes = refuted c stands; shows = shows c stands })
+
+-- a drawing that fails
+pub sketch_fails : (P : Program) (n k : ℕ) (r : kept.Condition) (xs : List State) → IsNumbered P n (Some r) → IsFailure P r (map drawn xs) (Step k) → IsSketch P n xs (Fails k)
+sketch_fails P n k r xs (c, low, there, stands) failure = (c, (low, there), failure c stands)
+
+-- a drawing of no states
+pub no_states : (P : Program) (n : ℕ) (r : kept.Condition) (xs : List State) → IsNumbered P n (Some r) → xs ≡ [] → IsSketch P n xs (Fails 0)
+no_states P n r xs (c, low, there, stands) e = subst (λ ys. IsSketch P n ys (Fails 0)) (sym e) (c, (low, there), refl)

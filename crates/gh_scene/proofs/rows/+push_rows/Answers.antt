@@ -1,0 +1,25 @@
+use Rattle.std.proofs.lemmas.Result.{IfOk-weaker}
+use Rattle.gh_ast.specs.Plain.{procedure_of, program_of}
+use Rattle.gh_scene.proofs.Rowing.{nothing, no_step, no_state, one_state, row_first}
+use Rattle.gh_scene.proofs.rows.+push_rows.Goals as goal
+
+pub returns-in_default : goal.returns-in_default
+returns-in_default t c ss are =
+    no_step (program_of c.args.setting.typed.now) (procedure_of c.args.setting.procedure.now) c.args.steps.now ss c.args.states.now c.args.spare.now c.args.rows.now.items (nothing c.args.steps.now c.in_default.ensures.cases) are
+
+pub returns-in_default-split_first : goal.returns-in_default-split_first
+returns-in_default-split_first t c ss are = no_state (program_of c.args.setting.typed.now) ss c.args.states.now c.args.spare.now c.args.rows.now.items (nothing c.args.states.now c.in_default-split_first.ensures.cases)
+
+pub returns-in_default-split_first-2 : goal.returns-in_default-split_first-2
+returns-in_default-split_first-2 t c ss are =
+    one_state (program_of c.args.setting.typed.now) ss c.args.states.now c.in-Some-split_first.others.now c.in-Some-split_first.before.now c.args.spare.now c.args.rows.now.items c.in-Some-split_first.ensures.cases.0 (nothing c.in-Some-split_first.others.now c.in_default-split_first-2.ensures.cases)
+
+pub returns : goal.returns
+returns t c =
+    let P = program_of c.args.setting.typed.now in
+    let p = procedure_of c.args.setting.procedure.now in
+    IfOk-weaker c.push_rows.result _ _
+    (λ r later. row_first P p c.in-Some.step.now c.in-Some.later.now c.args.steps.now c.in-Some-split_first.before.now c.in-Some-split_first-2.after.now c.in-Some-split_first-2.rest.now c.in-Some-split_first.others.now c.args.states.now
+    c.args.spare.now c.in_ok-left.left c.args.rows.now.items c.push.new.self.items c.push_rows.new.rows.items c.in_ok-row.row
+    c.in-Some.ensures.cases.0 c.in-Some-split_first.ensures.cases.0 c.in-Some-split_first-2.ensures.cases.0 c.in_ok-left.ensures c.in_ok-push.ensures.items c.in_ok-row.ensures later)
+    c.push_rows.ensures

@@ -1,0 +1,6 @@
+pub mod Roles
+pub mod Spare
+pub mod Rows
+pub mod Sketches
+pub mod Smallests
+pub mod Picturing

@@ -1,0 +1,68 @@
+-- The rows of a picture.
+use Rattle.std.specs.Prelude.{◌≡◌, ℕ, List, [], ◌∷◌, ◌++◌, Option, Some, None, codes}
+use Rattle.std.specs.FinMap as finite
+use Rattle.gh_ast.specs.Plain.{Program}
+use Rattle.gh_assert.specs.Heaps.{Heap}
+use Rattle.gh_assert.specs.Stores.{store_of}
+use Rattle.gh_lens.specs.declared.exchange.Exchange.{Exchange}
+use Rattle.gh_lens.specs.Handed.{IsHandedOr}
+use Rattle.gh_lens.specs.Lines.{numbers_text}
+use Rattle.gh_lens.specs.Statements.{statement_text}
+use Rattle.gh_path.specs.Graphs.{PathStep}
+use Rattle.gh_picture.specs.declared.scene.Row.{Row}
+use Rattle.gh_scene.specs.Roles.{roles_of, changes_of}
+use Rattle.gh_trace.specs.declared.state.State.{State}
+use Rattle.gh_trace.specs.Kept.{state_of}
+
+-- the places that are handed over, those that are left aside, and those that came back
+abbrev pub exchange_note : Exchange → List ℕ
+exchange_note e =
+    (codes "handed over:" ++ numbers_text e.handed.items)
+    ++ (codes "; left aside:" ++ numbers_text (finite.keys e.frame))
+    ++ (codes "; came back:" ++ numbers_text (finite.keys e.back))
+
+abbrev pub note_text : Option Exchange → List ℕ
+note_text None = []
+note_text (Some e) = exchange_note e
+
+-- what is left aside
+abbrev pub aside : Option Exchange → Heap
+aside None = finite.empty
+aside (Some e) = e.frame
+
+-- the row of a state under a statement and a note, given the state before, what was left aside, and what is left over
+pub record IsRowUnder (statement note : List ℕ) (old : State) (apart spare : Heap) (new : State) (row : Row) : Type 0 where
+  pub statement_is : row.statement ≡ statement
+  pub note_is : row.note ≡ note
+  pub state_is : row.state ≡ new
+  pub roles_are : row.roles.items ≡ roles_of old.heap apart spare new.heap
+  pub changes_are : row.changes.items ≡ changes_of (store_of old.store) new.store
+
+-- the row of the state y, to which a step leads from x
+pub record IsRowOf (P : Program) (s : PathStep) (x y : State) (spare : Heap) (row : Row) : Type 0 where
+  pub exchange : Option Exchange
+  pub handed : IsHandedOr P s (state_of x) (state_of y) exchange
+  pub is : IsRowUnder (statement_text s) (note_text exchange) x (aside exchange) spare y row
+
+-- the row of the first state, which is compared with itself
+abbrev pub IsStartRow : State → Heap → Row → Type 0
+IsStartRow x spare row = IsRowUnder (codes "start") [] x finite.empty spare x row
+
+-- cells are left over in the last state alone
+abbrev pub left_at_end : List State → Heap → Heap
+left_at_end [] spare = spare
+left_at_end (y ∷ ys) spare = finite.empty
+
+-- a row for each state after the first, in turn
+abbrev pub AreRows : Program → List PathStep → List State → Heap → List Row → Type 0
+AreRows P [] xs spare rows = rows ≡ []
+AreRows P (s ∷ ss) [] spare rows = rows ≡ []
+AreRows P (s ∷ ss) (x ∷ []) spare rows = rows ≡ []
+AreRows P (s ∷ ss) (x ∷ y ∷ ys) spare rows =
+    (r : Row) × (rs : List Row) × (rows ≡ r ∷ rs) × IsRowOf P s x y (left_at_end ys spare) r × AreRows P ss (y ∷ ys) spare rs
+
+-- such rows are added
+pub record AddsRows (P : Program) (ss : List PathStep) (xs : List State) (spare : Heap) (old new : List Row) : Type 0 where
+  pub rest : List Row
+  pub whole : new ≡ old ++ rest
+  pub rows : AreRows P ss xs spare rest

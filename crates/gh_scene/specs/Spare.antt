@@ -1,0 +1,30 @@
+-- What is left over where the check at the end of a path fails.
+use Rattle.std.specs.Prelude.{◌≡◌, ◌⊎◌, List, [], ◌∷◌}
+use Rattle.std.specs.FinMap as map
+use Rattle.gh_ast.specs.Plain.{Formula}
+use Rattle.gh_assert.specs.Heaps.{Heap}
+use Rattle.gh_assert.specs.Meaning.{Store}
+use Rattle.gh_lens.specs.Takings.{conjuncts, Leaves}
+use Rattle.gh_path.specs.Graphs.{Check, access, entry, loop_entry, returned, loop_end}
+use Rattle.gh_trace.specs.Traces.{State}
+
+-- the alternatives that the check asks a whole heap to meet; where it asks for a part alone, nothing is left over
+abbrev pub asked_whole : Check → List Formula
+asked_whole (access o) = []
+asked_whole (entry f es) = []
+asked_whole (loop_entry l) = []
+asked_whole (returned at fs) = fs
+asked_whole (loop_end l) = l.invariant ∷ []
+
+-- a conjunct of the assertion finds no part
+abbrev pub LeavesNothing : Formula → Store → Heap → Type 0
+LeavesNothing f s h = (r : Heap) → Leaves (conjuncts f) s h r → ⊥
+
+-- what the first alternative leaves whose conjuncts all take their parts; nothing, where there is none
+abbrev pub IsLeftOver : List Formula → Store → Heap → Heap → Type 0
+IsLeftOver [] s h rest = rest ≡ map.empty
+IsLeftOver (f ∷ fs) s h rest = Leaves (conjuncts f) s h rest ⊎ (LeavesNothing f s h × IsLeftOver fs s h rest)
+
+-- the cells of a state that are left over at a check
+abbrev pub IsSpare : Check → State → Heap → Type 0
+IsSpare c x rest = IsLeftOver (asked_whole c) x.store x.heap rest

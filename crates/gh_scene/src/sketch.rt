@@ -1,0 +1,125 @@
+//! The scene of a drawing.
+
+ghost use Rattle.std.specs.Prelude.{◌≡◌, ◌∷◌, List, map, IfOk};
+ghost use Rattle.gh_ast.specs.Plain.{procedure_of, program_of};
+ghost use Rattle.gh_draw.specs.Kept.{HasMeaning};
+ghost use Rattle.gh_lens.specs.Settings.{HasLoops};
+ghost use Rattle.gh_path.specs.Admitted.{IsAdmitted};
+ghost use Rattle.gh_path.specs.Conditions as plain;
+ghost use Rattle.gh_path.specs.Kept.{StandsFor};
+ghost use Rattle.gh_trace.specs.Kept.{state_of};
+ghost use Rattle.gh_trace.specs.Traces.{last_state};
+ghost use Rattle.gh_scene.specs.Sketches as told;
+
+use crate::rows::{left_at_end, push_rows, start_row};
+use crate::spare::spare;
+use gh_ast::typed::Typed;
+use gh_draw::describe::describe;
+use gh_draw::drawing::Drawing;
+use gh_lens::setting::{Setting, procedure_at};
+use gh_path::condition::Condition;
+use gh_path::conditions::Conditions;
+use gh_path::loops::loops_of;
+use gh_picture::scene::Scene;
+use gh_trace::replay::{ReplayError, replay};
+use gh_trace::state::State;
+use std::alloc::{AllocError, Global};
+
+/// What is shown of a drawing: a scene where it is a counterexample; else the number of its first failure,
+/// as `replay` answers it; or the program has no condition of its number.
+#[derive(Debug, Drop)]
+pub enum Sketch {
+    Shown(Scene),
+    Fails { number: u16 },
+    Unnumbered,
+}
+
+// The last of some states.
+fn last<'s>(first: &'s State, others: &'s [State]) -> &'s State
+    ensures { state_of result.now ≡ last_state (state_of first.now) (map state_of others.now) }
+{
+    let mut last = first;
+    for other in others {
+        last = other;
+    }
+    last
+}
+
+// The scene of a first state and others for a condition of a procedure.
+fn scene(
+    alloc: Global,
+    setting: Setting<'_>,
+    condition: &Condition,
+    states: &[State],
+    first: &State,
+    others: &[State],
+) -> Result<Scene, AllocError>
+    requires loops { HasLoops setting }
+    requires meaning { HasMeaning (program_of setting.typed.now) condition.now }
+    requires own { (c : plain.Condition) → StandsFor (program_of setting.typed.now) condition.now c → c.procedure ≡ procedure_of setting.procedure.now }
+    requires parts { states.now ≡ first.now ∷ others.now }
+    ensures { IfOk result (λ s. (c : plain.Condition) → StandsFor (program_of setting.entry.typed.now) condition.now c → told.IsSceneOver (program_of setting.entry.typed.now) c first.now others.now s) }
+{
+    let title = describe(alloc, setting.typed, condition)?;
+    let rest = spare(alloc, setting, &condition.check.kind, last(first, others))?;
+    let left = left_at_end(alloc, others, &rest)?;
+    let start = start_row(alloc, first, &left)?;
+    let mut rows = Vec::new(alloc);
+    rows.push(start)?;
+    let steps = condition.steps.as_slice();
+    push_rows(alloc, &mut rows, setting, steps, states, &rest)?;
+    Ok(Scene { title, rows })
+}
+
+// The scene of a first state and others for a condition.
+fn shown(
+    alloc: Global,
+    typed: &Typed,
+    condition: &Condition,
+    states: &[State],
+    first: &State,
+    others: &[State],
+) -> Result<Scene, AllocError>
+    requires meaning { HasMeaning (program_of typed.now) condition.now }
+    requires parts { states.now ≡ first.now ∷ others.now }
+    ensures { IfOk result (λ s. (c : plain.Condition) → StandsFor (program_of typed.now) condition.now c → told.IsSceneOver (program_of typed.now) c first.now others.now s) }
+{
+    let Some(procedure) = procedure_at(typed, condition.procedure) else {
+        unreachable!();
+    };
+    let loops = loops_of(alloc, procedure)?;
+    let setting = Setting {
+        typed,
+        procedure,
+        loops: loops.as_slice(),
+    };
+    scene(alloc, setting, condition, states, first, others)
+}
+
+/// The scene of a drawing for a condition of an admitted program.
+pub fn scene_of(
+    alloc: Global,
+    typed: &Typed,
+    conditions: &Conditions,
+    drawing: &Drawing,
+) -> Result<Sketch, AllocError>
+    requires same { conditions.now ≡ typed.now }
+    requires admitted { IsAdmitted (program_of typed.now) }
+    ensures { IfOk result (told.IsSketch (program_of typed.now) drawing.now.condition drawing.now.trace.states.items) }
+{
+    let Some(condition) = conditions.condition(alloc, drawing.condition)? else {
+        return Ok(Sketch::Unnumbered);
+    };
+    let states = drawing.trace.states.as_slice();
+    let Some((first, others)) = states.split_first() else {
+        return Ok(Sketch::Fails { number: 0 });
+    };
+    match replay(alloc, typed, &condition, &drawing.trace) {
+        Ok(()) => {
+            let scene = shown(alloc, typed, &condition, states, first, others)?;
+            Ok(Sketch::Shown(scene))
+        }
+        Err(ReplayError::Step { number }) => Ok(Sketch::Fails { number }),
+        Err(ReplayError::OutOfMemory) => Err(AllocError),
+    }
+}

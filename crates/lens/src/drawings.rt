@@ -1,0 +1,32 @@
+// Drawings in files.
+
+ghost use Rattle.std.specs.Prelude.{◌≡◌};
+
+use anyhow::Error;
+use gh_ast::typed::Typed;
+use gh_draw::drawing::Drawing;
+use gh_draw::reading::read_drawing;
+use gh_path::conditions::Conditions;
+use std::alloc::Global;
+use std::fs;
+use std::rt::Files;
+
+// The longest drawing file, in bytes.
+const MOST_DRAWN: usize = 4_194_304;
+
+// The drawing in a file; none where it isn't one for a condition of the program.
+pub(crate) fn drawing_in<R: Files + Alloc<A = Global>>(
+    rt: &R,
+    typed: &Typed,
+    conditions: &Conditions,
+    file: &str,
+) -> Result<Option<Drawing>, Error>
+    requires { conditions.now ≡ typed.now }
+{
+    let text = fs::read(rt, file)?;
+    if text.len() > MOST_DRAWN {
+        return Ok(None);
+    }
+    let drawing = read_drawing(rt.alloc(), typed, conditions, text.as_slice())?;
+    Ok(drawing)
+}
