@@ -11,6 +11,7 @@ use Rattle.gh_inst.specs.Instances.{IsInstance, clause_of}
 use Rattle.gh_log.specs.declared.lines.LogLine.{LogLine}
 use Rattle.gh_log.specs.declared.lines.LogLine.TheVariants as line
 use Rattle.gh_log.specs.Sections.{AllStand, Deletes}
+use Rattle.gh_check.specs.declared.fault.FaultKind.TheVariants.{NotImplied, NoSuchLine}
 use Rattle.gh_check.specs.declared.lines.Outcome.{Outcome}
 use Rattle.gh_check.specs.declared.lines.Outcome.TheVariants.{Faulty, Holds}
 use Rattle.gh_check.specs.Kept.{Kept, named, present, AreDeleted, MayBeDeleted, AreLinesKept}
@@ -30,7 +31,7 @@ axiom_taken p n v name clause terms versions exact is range earlier =
     }
 
 -- a clause from all lines before
-pub learnt_refused : (p : Problem) (earlier : List LogLine) (k : Kept) (c : List Lit) → AreLinesKept p earlier k → (FollowsByUnits (present k.clauses) c → ⊥) → IsChecked p earlier (line.Learnt c) (Faulty 4)
+pub learnt_refused : (p : Problem) (earlier : List LogLine) (k : Kept) (c : List Lit) → AreLinesKept p earlier k → (FollowsByUnits (present k.clauses) c → ⊥) → IsChecked p earlier (line.Learnt c) (Faulty NotImplied)
 learnt_refused p earlier k c h fails = ((λ kind. fails (subst (λ cs. FollowsByUnits cs c) (sym (present_is p earlier k h)) kind.1)), refl)
 
 pub learnt_taken : (p : Problem) (earlier : List LogLine) (k : Kept) (c d : List Lit) → AreLinesKept p earlier k → AreInRange p.sizes c → FollowsByUnits (present k.clauses) c → d ≡ c
@@ -43,15 +44,15 @@ learnt_taken p earlier k c d h range follows same =
     }
 
 -- a clause along hints
-pub hints_refused : (p : Problem) (earlier : List LogLine) (c : List Lit) (hints : Vec ℕ Global) → (AllStand p earlier hints.items → ⊥) → IsChecked p earlier (line.Hinted c hints) (Faulty 6)
+pub hints_refused : (p : Problem) (earlier : List LogLine) (c : List Lit) (hints : Vec ℕ Global) → (AllStand p earlier hints.items → ⊥) → IsChecked p earlier (line.Hinted c hints) (Faulty NoSuchLine)
 hints_refused p earlier c hints fails = ((λ kind. fails kind.1.stand), inr (fails, refl))
 
 pub range_refused : (p : Problem) (earlier : List LogLine) (c : List Lit) (hints : Vec ℕ Global) → AllStand p earlier hints.items → (AreInRange p.sizes c → ⊥)
-    → IsChecked p earlier (line.Hinted c hints) (Faulty 4)
+    → IsChecked p earlier (line.Hinted c hints) (Faulty NotImplied)
 range_refused p earlier c hints stand fails = ((λ kind. fails kind.0), inl (stand, refl))
 
 pub hinted_refused : (p : Problem) (earlier : List LogLine) (k : Kept) (c : List Lit) (hints : Vec ℕ Global) → AreLinesKept p earlier k → AllStand p earlier hints.items
-    → (IsShownByHints (named k hints.items) c → ⊥) → IsChecked p earlier (line.Hinted c hints) (Faulty 4)
+    → (IsShownByHints (named k hints.items) c → ⊥) → IsChecked p earlier (line.Hinted c hints) (Faulty NotImplied)
 hinted_refused p earlier k c hints h stand fails = ((λ kind. fails (hinted_back p earlier k h c hints.items kind.1)), inl (stand, refl))
 
 pub hinted_taken : (p : Problem) (earlier : List LogLine) (k : Kept) (c d : List Lit) (hints : Vec ℕ Global) → AreLinesKept p earlier k → AllStand p earlier hints.items → AreInRange p.sizes c
@@ -69,7 +70,7 @@ deletion_taken p earlier k positions h may =
     record { kind = (all_forth p earlier k h positions.items may.stand, may.distinct); is = refl; within = λ c e. absurd (cc) }
 
 pub deletion_refused : (p : Problem) (earlier : List LogLine) (k : Kept) (positions : Vec ℕ Global) → AreLinesKept p earlier k → (MayBeDeleted k positions.items → ⊥)
-    → IsChecked p earlier (line.Delete positions) (Faulty 6)
+    → IsChecked p earlier (line.Delete positions) (Faulty NoSuchLine)
 deletion_refused p earlier k positions h fails =
     ((λ kind. fails (record { stand = all_back p earlier k h positions.items kind.0; distinct = kind.1 })), refl)
 
@@ -79,5 +80,5 @@ deletion_kept p earlier old new positions h d = kept_then p earlier old new (lin
 
 -- what a line that deletes nothing leaves
 pub kept_after : (p : Problem) (earlier : List LogLine) (k : Kept) (l : LogLine) (o : Outcome) → ((n : ℕ) → Deletes l n → ⊥) → AreLinesKept p earlier k → IsChecked p earlier l o → IsKeptAfter p earlier l o k
-kept_after p earlier k l (Faulty number) none h checked = tt
+kept_after p earlier k l (Faulty kind) none h checked = tt
 kept_after p earlier k l (Holds clause) none h checked = kept_push p earlier k l clause h none checked.is checked.within

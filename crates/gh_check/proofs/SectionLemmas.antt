@@ -13,6 +13,8 @@ use Rattle.gh_log.proofs.KindLemmas.{kind_push}
 use Rattle.gh_sat.proofs.ListLemmas.{get_within, take_get}
 use Rattle.gh_sat.proofs.WholeLemmas.{take_take}
 use Rattle.gh_check.specs.declared.fault.CheckError.TheVariants.{Fault}
+use Rattle.gh_check.specs.declared.fault.FaultKind.{FaultKind}
+use Rattle.gh_check.specs.Names.{fault_at}
 use Rattle.gh_check.specs.declared.lines.Earlier.{Earlier}
 use Rattle.gh_check.specs.declared.lines.Outcome.TheVariants.{Faulty}
 use Rattle.gh_check.specs.Kept.{AreLinesKept}
@@ -104,9 +106,9 @@ reads_more p first lines i d l e new clause line was is_empty lt at r taken kept
       no_end = λ fails ends. fails (empty.1 (taken.is ∙ ends_push p front l (subst (EndsEmpty p) longer ends)));
     }
 
-pub line_refused : (p : Problem) (first : ℕ) (lines : List LogLine) (i : ℕ) (d l : LogLine) (e : Earlier) (line number : ℕ) (was : Bool) → i < length lines → l ≡ get_or lines i d → Reads p first lines i e line was
-    → IsChecked p (take i lines) l (Faulty number) → IsSectionError p first lines (Fault (record { number = number; line = line }))
-line_refused p first lines i d l e line number was lt at r faulty = (
+pub line_refused : (p : Problem) (first : ℕ) (lines : List LogLine) (i : ℕ) (d l : LogLine) (e : Earlier) (line : ℕ) (kind : FaultKind) (was : Bool) → i < length lines → l ≡ get_or lines i d → Reads p first lines i e line was
+    → IsChecked p (take i lines) l (Faulty kind) → IsSectionError p first lines (Fault (fault_at kind line))
+line_refused p first lines i d l e line kind was lt at r faulty = (
   i,
   inl (record {
     line = l;

@@ -7,6 +7,7 @@ use Rattle.gh_log.specs.Sections.{IsOfKind, IsFaultOf, line_clause}
 use Rattle.gh_base.specs.declared.sizes.Sizes.{Sizes}
 use Rattle.gh_check.specs.Kept.{Kept, with_line, AreLinesKept, IsWithin, AreWithin}
 use Rattle.gh_check.specs.Assuming.{IsBehind}
+use Rattle.gh_check.specs.Names.{fault_number}
 use Rattle.gh_check.specs.declared.lines.Earlier.{Earlier}
 use Rattle.gh_check.specs.declared.lines.Outcome.{Outcome}
 use Rattle.gh_check.specs.declared.lines.Outcome.TheVariants.{Faulty, Holds}
@@ -19,12 +20,12 @@ pub record IsTaken (p : Problem) (earlier : List LogLine) (line : LogLine) (clau
 
 -- the clause of a line that is of its kind, the fault of one that isn't
 abbrev pub IsChecked : Problem → List LogLine → LogLine → Outcome → Type 0
-IsChecked p earlier line (Faulty number) = (IsOfKind p earlier line → ⊥) × IsFaultOf p earlier line number
+IsChecked p earlier line (Faulty kind) = (IsOfKind p earlier line → ⊥) × IsFaultOf p earlier line (fault_number kind)
 IsChecked p earlier line (Holds clause) = IsTaken p earlier line clause
 
 -- with the clause of a line that is of its kind, this is kept of it and the lines before
 abbrev pub IsKeptAfter : Problem → List LogLine → LogLine → Outcome → Kept → Type 0
-IsKeptAfter p earlier line (Faulty number) k = ⊤
+IsKeptAfter p earlier line (Faulty kind) k = ⊤
 IsKeptAfter p earlier line (Holds clause) k = AreLinesKept p (earlier ++ line ∷ []) (with_line k clause)
 
 -- the outcome for a line after all lines of which this is kept

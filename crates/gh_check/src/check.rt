@@ -6,7 +6,7 @@ ghost use Rattle.gh_check.specs.Answers.{IsSectionError};
 ghost use Rattle.gh_check.specs.Kept.{with_line, AreLinesKept, IsWithin};
 ghost use Rattle.gh_check.specs.Lines.{IsReady};
 
-use crate::fault::{CheckError, LogFault};
+use crate::fault::{CheckError, FaultKind, LogFault};
 use crate::hints::Truths;
 use crate::lines::{Earlier, Outcome, checked};
 use crate::positions::Positions;
@@ -64,7 +64,7 @@ pub fn check_log(alloc: Global, ground: &Ground, section: &Section) -> Result<()
     for entry in &section.lines {
         let clause = match checked(alloc, ground, &mut before, entry)? {
             Outcome::Holds(clause) => clause,
-            Outcome::Faulty(number) => return Err(CheckError::Fault(LogFault { number, line })),
+            Outcome::Faulty(kind) => return Err(CheckError::Fault(LogFault::new(kind, line))),
         };
         is_empty = has_empty(&clause);
         keep(&mut before, ground.sizes(), clause)?;
@@ -73,6 +73,7 @@ pub fn check_log(alloc: Global, ground: &Ground, section: &Section) -> Result<()
     if is_empty {
         Ok(())
     } else {
-        Err(CheckError::Fault(LogFault { number: 5, line }))
+        let fault = LogFault::new(FaultKind::NoEmptyClause, line);
+        Err(CheckError::Fault(fault))
     }
 }

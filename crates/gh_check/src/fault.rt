@@ -1,15 +1,59 @@
 //! What is wrong with a section.
 
-ghost use Rattle.std.specs.Prelude.{◌≡◌};
-ghost use Rattle.gh_check.specs.Names.{fault_name};
+ghost use Rattle.std.specs.Prelude.{◌≡◌, Some};
+ghost use Rattle.gh_check.specs.Names.{fault_at, fault_kind, fault_name, fault_number};
 
 use std::alloc::{AllocError, AllocFailed};
+use std::fmt;
 use thiserror::Error;
 
-/// The first line that isn't of its kind, by its number in the file: 1 is no instance, 2 no ground clause's number, 3 no
-/// clause of equality and congruence, 4 an atom out of range or a clause that unit propagation doesn't show, 6 a line
-/// whose hints or deleted positions don't all stand, or that deletes one twice. 5 is a section with no fault but that it
-/// doesn't end in the empty clause, and has the number of the line after it.
+/// What is wrong with a line: it is no instance, no ground clause's number, no clause of equality
+/// and congruence; an atom is out of range, or unit propagation doesn't show its clause; its hints
+/// or deleted positions don't all stand, or it deletes one twice. `NoEmptyClause` is a section with
+/// no fault but that it doesn't end in the empty clause.
+#[derive(Clone, Copy, Debug, PartialEq, Eq)]
+pub enum FaultKind {
+    NotInstance,
+    NotClause,
+    NotLemma,
+    NotImplied,
+    NoEmptyClause,
+    NoSuchLine,
+}
+
+impl FaultKind {
+    /// Its number, from 1 on.
+    pub fn number(self) -> u8
+        ensures { result ≡ fault_number self }
+    {
+        match self {
+            FaultKind::NotInstance => 1,
+            FaultKind::NotClause => 2,
+            FaultKind::NotLemma => 3,
+            FaultKind::NotImplied => 4,
+            FaultKind::NoEmptyClause => 5,
+            FaultKind::NoSuchLine => 6,
+        }
+    }
+}
+
+impl fmt::Display for FaultKind {
+    ghost output = { λ kind. Some (fault_name kind) };
+
+    fn fmt<W: fmt::Write>(&self, f: &mut fmt::Formatter<W>) -> fmt::Result {
+        f.write_str(match self {
+            FaultKind::NotInstance => "NotInstance",
+            FaultKind::NotClause => "NotClause",
+            FaultKind::NotLemma => "NotLemma",
+            FaultKind::NotImplied => "NotImplied",
+            FaultKind::NoEmptyClause => "NoEmptyClause",
+            FaultKind::NoSuchLine => "NoSuchLine",
+        })
+    }
+}
+
+/// The first line that isn't of its kind, by its number in the file, with the number of its fault.
+/// A section that doesn't end in the empty clause has the number of the line after it.
 #[derive(Clone, Copy, Debug, PartialEq, Eq)]
 pub struct LogFault {
     pub number: u8,
@@ -46,17 +90,27 @@ impl<T: Drop> From<AllocFailed<T>> for CheckError {
 }
 
 impl LogFault {
-    /// The name of the fault.
-    pub fn name(self) -> &'static str
-        ensures { result.now ≡ fault_name self.number }
+    /// A fault of a line.
+    pub(crate) fn new(kind: FaultKind, line: u32) -> LogFault
+        ensures { result ≡ fault_at kind line }
+    {
+        LogFault {
+            number: kind.number(),
+            line,
+        }
+    }
+
+    /// What is wrong.
+    pub fn kind(self) -> FaultKind
+        ensures { result ≡ fault_kind self.number }
     {
         match self.number {
-            1 => "NotInstance",
-            2 => "NotClause",
-            3 => "NotLemma",
-            4 => "NotImplied",
-            5 => "NoEmptyClause",
-            _ => "NoSuchLine",
+            1 => FaultKind::NotInstance,
+            2 => FaultKind::NotClause,
+            3 => FaultKind::NotLemma,
+            4 => FaultKind::NotImplied,
+            5 => FaultKind::NoEmptyClause,
+            _ => FaultKind::NoSuchLine,
         }
     }
 }

@@ -11,6 +11,7 @@ ghost use Rattle.gh_check.specs.Kept.{AreWithin};
 ghost use Rattle.gh_check.specs.Lines.{IsChecked, Answers, Leaves, IsReady};
 ghost use Rattle.gh_check.specs.Assuming.{IsBehind};
 
+use crate::fault::FaultKind;
 use crate::hints::Truths;
 use crate::positions::Positions;
 use crate::units::Units;
@@ -23,10 +24,10 @@ use gh_inst::naming::{InstanceName, instance};
 use gh_log::lines::LogLine;
 use std::alloc::{AllocError, Global};
 
-/// What the check of a line answers: the number of its fault, or its clause, if it has one.
+/// What the check of a line answers: its fault, or its clause, if it has one.
 #[derive(Drop)]
 pub enum Outcome {
-    Faulty(u8),
+    Faulty(FaultKind),
     Holds(Option<Clause>),
 }
 
@@ -50,7 +51,7 @@ fn checked_axiom(alloc: Global, ground: &Ground, name: InstanceName) -> Outcome
     ensures { (earlier : List LogLine) → IsChecked ground.now earlier (line_kind.Axiom name) result }
 {
     match instance(alloc, name, ground.terms(), ground.versions()) {
-        None => Outcome::Faulty(1),
+        None => Outcome::Faulty(FaultKind::NotInstance),
         Some(clause) => Outcome::Holds(Some(clause)),
     }
 }
@@ -60,7 +61,7 @@ fn checked_clause(alloc: Global, ground: &Ground, number: u32) -> Result<Outcome
     ensures { IfOk result (λ o. (earlier : List LogLine) → IsChecked ground.now earlier (line_kind.Clause number) o) }
 {
     match ground.clause(number) {
-        None => Ok(Outcome::Faulty(2)),
+        None => Ok(Outcome::Faulty(FaultKind::NotClause)),
         Some(clause) => Ok(Outcome::Holds(Some(clause.copy(alloc)?))),
     }
 }
@@ -72,7 +73,7 @@ fn checked_lemma(alloc: Global, ground: &Ground, clause: &Clause) -> Result<Outc
 {
     let sizes = ground.sizes();
     if !is_lemma(alloc, clause, sizes.terms, sizes.versions, sizes.defs)? {
-        return Ok(Outcome::Faulty(3));
+        return Ok(Outcome::Faulty(FaultKind::NotLemma));
     }
     Ok(Outcome::Holds(Some(clause.copy(alloc)?)))
 }
@@ -95,13 +96,13 @@ fn checked_learnt(
     ensures sizes { OnOk result (truths.new.sizes ≡ ground.now.sizes) }
 {
     if !are_in_range(ground.sizes(), clause.lits()) {
-        return Ok(Outcome::Faulty(4));
+        return Ok(Outcome::Faulty(FaultKind::NotImplied));
     }
     if truths.have_opposites(clause.lits())? {
         return Ok(Outcome::Holds(Some(clause.copy(alloc)?)));
     }
     if !units.are_implied(alloc, ground.sizes(), kept, clause.lits())? {
-        return Ok(Outcome::Faulty(4));
+        return Ok(Outcome::Faulty(FaultKind::NotImplied));
     }
     Ok(Outcome::Holds(Some(clause.copy(alloc)?)))
 }
@@ -121,13 +122,13 @@ fn checked_hinted(
     ensures sizes { OnOk result (truths.new.sizes ≡ ground.now.sizes) }
 {
     if !kept.all_stand(hints.as_slice()) {
-        return Ok(Outcome::Faulty(6));
+        return Ok(Outcome::Faulty(FaultKind::NoSuchLine));
     }
     if !are_in_range(ground.sizes(), clause.lits()) {
-        return Ok(Outcome::Faulty(4));
+        return Ok(Outcome::Faulty(FaultKind::NotImplied));
     }
     if !truths.are_shown(kept, clause.lits(), hints.as_slice())? {
-        return Ok(Outcome::Faulty(4));
+        return Ok(Outcome::Faulty(FaultKind::NotImplied));
     }
     Ok(Outcome::Holds(Some(clause.copy(alloc)?)))
 }
@@ -141,7 +142,7 @@ fn checked_deletion(kept: &mut Positions, positions: &Vec<u32>) -> Outcome
     if kept.delete(positions.as_slice()) {
         Outcome::Holds(None)
     } else {
-        Outcome::Faulty(6)
+        Outcome::Faulty(FaultKind::NoSuchLine)
     }
 }
 

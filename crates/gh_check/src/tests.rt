@@ -1,7 +1,7 @@
 //! Worked sections over the clauses of one condition.
 
 use crate::check::check_log;
-use crate::fault::{CheckError, LogFault};
+use crate::fault::{CheckError, FaultKind, LogFault};
 use crate::lines::are_in_range;
 use gh_base::atom::{Atom, Lit, Term};
 use gh_base::clause::Clause;
@@ -464,20 +464,21 @@ fn deleted_lines(rt: HostRuntime) -> Result<(), Fail> {
 }
 
 #[test]
-fn names(rt: HostRuntime) {
-    let names = [
-        "NotInstance",
-        "NotClause",
-        "NotLemma",
-        "NotImplied",
-        "NoEmptyClause",
-        "NoSuchLine",
+fn kinds(rt: HostRuntime) {
+    let kinds = [
+        FaultKind::NotInstance,
+        FaultKind::NotClause,
+        FaultKind::NotLemma,
+        FaultKind::NotImplied,
+        FaultKind::NoEmptyClause,
+        FaultKind::NoSuchLine,
     ];
-    for i in 0..names.len() {
+    for (place, kind) in kinds.iter().enumerate() {
         let fault = LogFault {
-            number: i as u8 + 1,
+            number: place as u8 + 1,
             line: 3,
         };
-        assert_eq!(rt; fault.name(), names[i]);
+        assert_eq!(rt; fault.kind(), *kind);
+        assert_eq!(rt; kind.number(), fault.number);
     }
 }

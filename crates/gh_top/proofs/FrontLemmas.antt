@@ -22,6 +22,7 @@ use Rattle.gh_symb.specs.declared.limits.SymbolicError.TheVariants as of_symboli
 use Rattle.gh_top.specs.Refusals.{IsText, most_bytes}
 use Rattle.gh_top.specs.Fronts.{of_parse, of_check, of_list, of_terms, IsFrontError}
 use Rattle.gh_top.specs.declared.front.FrontError.{FrontError}
+use Rattle.gh_top.proofs.RuleLemmas.{first_numbered}
 
 pub parse_refused : (text : List ℕ) (e : ParseError) → length text ≤ most_bytes → IsParseRefusal text e → IsFrontError (Some text) (of_parse e)
 parse_refused text (parsing.Byte offset) short why = (text, refl, short, why)
@@ -33,7 +34,7 @@ pub parsed_text : (text : List ℕ) (P : Program) → length text ≤ most_bytes
 parsed_text text P short p = record { readable = record { short = short; characters = p.characters; shallow = p.shallow }; spells = p.spelled }
 
 pub check_refused : (text : List ℕ) (P : Program) (e : CheckError) → IsText text P → checked.IsCheckRefusal P e → IsFrontError (Some text) (of_check e)
-check_refused text P (checking.TypeError number span) spelled why = (text, P, refl, spelled, why)
+check_refused text P (checking.TypeError number span) spelled why = (text, P, refl, spelled, first_numbered P number span why)
 check_refused text P (checking.Limit passed) spelled why = (text, P, refl, spelled, why.0, admitted.of_text why.1)
 check_refused text P checking.OutOfMemory spelled why = tt
 

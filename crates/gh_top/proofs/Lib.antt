@@ -10,6 +10,7 @@ pub mod ReplayLemmas
 pub mod RunLemmas
 pub mod WordWalks
 pub mod ReadLemmas
+pub mod RuleLemmas
 pub mod SmtLemmas
 pub mod QuestionLemmas
 pub mod SessionLemmas

@@ -39,6 +39,7 @@ use Rattle.gh_top.specs.declared.status.Status.TheVariants.{Verified, Refuted, T
 use Rattle.gh_top.specs.declared.words.Request.{Request}
 use Rattle.gh_top.specs.declared.words.Request.TheVariants.{Entail}
 use Rattle.gh_top.proofs.FileLemmas.{one_file}
+use Rattle.gh_top.proofs.RuleLemmas.{first_asked}
 
 pub question_refused : (text : List ℕ) (e : ParseError) → length text ≤ most_bytes → IsQuestionRefusal text e → IsQuestionFrontError (Some text) (of_parse e)
 question_refused text (parsing.Byte offset) short why = (text, refl, short, why)
@@ -50,7 +51,7 @@ pub asked_text : (text : List ℕ) (q : Question) → length text ≤ most_bytes
 asked_text text q short p = record { readable = record { short = short; characters = p.characters; shallow = p.shallow }; poses = p.spelled }
 
 pub ask_refused : (text : List ℕ) (q : Question) (e : AskError) → IsQuestionText text q → IsAskRefusal q e → IsQuestionFrontError (Some text) (of_ask e)
-ask_refused text q (asking.TypeError number span) posed why = (text, q, refl, posed, why)
+ask_refused text q (asking.TypeError number span) posed why = (text, q, refl, posed, first_asked q number span why)
 ask_refused text q (asking.Limit passed) posed why = (text, q, refl, posed, why.0, why.1)
 ask_refused text q asking.OutOfMemory posed why = tt
 

@@ -18,6 +18,7 @@ use Rattle.gh_entail.specs.Limits.{IsLimit}
 use Rattle.gh_entail.specs.Formulas.{question_problem}
 use Rattle.gh_entail.specs.Asked.{IsAdmitted}
 use Rattle.gh_top.specs.Refusals.{most_bytes, IsReadable, IsDeepAt}
+use Rattle.gh_top.specs.Rules.{rule_number}
 use Rattle.gh_top.specs.declared.refusal.Refusal.{Refusal}
 use Rattle.gh_top.specs.declared.refusal.Refusal.TheVariants.{Absent, TooLong, Byte, Deep, Syntax, TypeError, Limit}
 
@@ -33,7 +34,7 @@ IsQuestionRefused bytes TooLong = (text : List ℕ) × (bytes ≡ Some text) × 
 IsQuestionRefused bytes (Byte k) = (text : List ℕ) × (bytes ≡ Some text) × (length text ≤ most_bytes) × IsFirstByte text k
 IsQuestionRefused bytes (Deep p) = (text : List ℕ) × (bytes ≡ Some text) × IsDeepAt text p
 IsQuestionRefused bytes (Syntax p) = (text : List ℕ) × (bytes ≡ Some text) × IsReadable text × ((q : Question) → Poses text q → ⊥) × IsPlace IsQuestion text p
-IsQuestionRefused bytes (TypeError n p) = (text : List ℕ) × (q : Question) × (bytes ≡ Some text) × IsQuestionText text q × IsFirstBroken q n p
+IsQuestionRefused bytes (TypeError r p) = (text : List ℕ) × (q : Question) × (bytes ≡ Some text) × IsQuestionText text q × IsFirstBroken q (rule_number r) p
 IsQuestionRefused bytes (Limit l) = (text : List ℕ) × (q : Question) × (bytes ≡ Some text) × IsQuestionText text q × IsTyped q × IsLimit q l
 
 -- the bytes are a text that poses the admitted question

@@ -16,6 +16,7 @@ pub mod Replies
 pub mod Reports
 pub mod Seen
 pub mod Sessions
+pub mod Rules
 pub mod Runs
 pub mod Entails
 pub mod QuestionReplies

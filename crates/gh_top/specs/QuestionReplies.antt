@@ -5,6 +5,7 @@ use Rattle.gh_entail.specs.declared.admit.AskError.{AskError}
 use Rattle.gh_entail.specs.declared.admit.AskError.TheVariants as asking
 use Rattle.gh_top.specs.Entails.{IsQuestionRefused, PosesAdmitted, IsEntailedReport, IsFailingReport}
 use Rattle.gh_top.specs.Headline.{Files, Answer}
+use Rattle.gh_top.specs.Rules.{rule_of}
 use Rattle.gh_top.specs.Words.{IsRequest}
 use Rattle.gh_top.specs.declared.front.FrontError.{FrontError}
 use Rattle.gh_top.specs.declared.front.FrontError.TheVariants.{Refused, OutOfMemory}
@@ -14,7 +15,7 @@ use Rattle.gh_top.specs.declared.status.Status.TheVariants.{Verified, Refuted}
 use Rattle.gh_top.specs.declared.words.Request.TheVariants.{Entail}
 
 abbrev pub of_ask : AskError → FrontError
-of_ask (asking.TypeError number span) = Refused (TypeError number span)
+of_ask (asking.TypeError number span) = Refused (TypeError (rule_of number) span)
 of_ask (asking.Limit passed) = Refused (Limit passed)
 of_ask asking.OutOfMemory = OutOfMemory
 

@@ -1,5 +1,5 @@
 -- The first refusal of a program text: it is absent, its length, a byte, the depth, the syntax, the first type error, the first limit.
-use Rattle.std.specs.Prelude.{◌≡◌, ℕ, ◌-◌, ◌<◌, ◌≤◌, List, [], ◌∷◌, ◌++◌, length, codes, Option, Some, None, slice_get, unwrap_or}
+use Rattle.std.specs.Prelude.{◌≡◌, ℕ, ◌<◌, ◌≤◌, List, ◌++◌, length, codes, Option, Some, None}
 use Rattle.std.specs.Fmt.{decimal}
 use Rattle.gh_base.specs.declared.place.Span.{Span}
 use Rattle.gh_ast.specs.Plain.{Program}
@@ -8,6 +8,7 @@ use Rattle.gh_ast.specs.Grammar.{Spells}
 use Rattle.gh_ast.specs.Place.{IsPlace, IsProgram}
 use Rattle.gh_ast.specs.Rules.{IsTyped, IsFirstBroken}
 use Rattle.gh_path.specs.Admitted.{IsFirstLimit, IsAdmitted}
+use Rattle.gh_top.specs.Rules.{rule_number, rule_name, kind_of, kind_name}
 use Rattle.gh_top.specs.declared.refusal.Refusal.{Refusal}
 use Rattle.gh_top.specs.declared.refusal.Refusal.TheVariants.{Absent, TooLong, Byte, Deep, Syntax, TypeError, Limit}
 use Rattle.gh_draw.specs.Descriptions.{place_text}
@@ -42,38 +43,13 @@ IsRefused bytes TooLong = (text : List ℕ) × (bytes ≡ Some text) × (most_by
 IsRefused bytes (Byte k) = (text : List ℕ) × (bytes ≡ Some text) × (length text ≤ most_bytes) × IsFirstByte text k
 IsRefused bytes (Deep p) = (text : List ℕ) × (bytes ≡ Some text) × IsDeepAt text p
 IsRefused bytes (Syntax p) = (text : List ℕ) × (bytes ≡ Some text) × IsReadable text × ((P : Program) → Spells text P → ⊥) × IsPlace IsProgram text p
-IsRefused bytes (TypeError n p) = (text : List ℕ) × (P : Program) × (bytes ≡ Some text) × IsText text P × IsFirstBroken P n p
+IsRefused bytes (TypeError r p) = (text : List ℕ) × (P : Program) × (bytes ≡ Some text) × IsText text P × IsFirstBroken P (rule_number r) p
 IsRefused bytes (Limit l) = (text : List ℕ) × (P : Program) × (bytes ≡ Some text) × IsText text P × IsTyped P × IsFirstLimit P l
 
 -- the text spells an admitted program
 pub record IsAccepted (text : List ℕ) (P : Program) : Type 0 where
   pub spelled : IsText text P
   pub admitted : IsAdmitted P
-
--- the type rules by their numbers, from 1 on
-abbrev pub rule_names : List (List ℕ)
-rule_names =
-    codes "UnknownName"
-    ∷ codes "DuplicateName"
-    ∷ codes "AssignToParameter"
-    ∷ codes "WrongCount"
-    ∷ codes "ReturnInLoop"
-    ∷ codes "UnknownProcedure"
-    ∷ codes "SecondLink"
-    ∷ codes "DataField"
-    ∷ codes "NameOutOfContract"
-    ∷ codes "RepeatedResult"
-    ∷ codes "NoBody"
-    ∷ codes "NoLink"
-    ∷ []
-
--- the kinds of limits by their numbers, from 1 on
-abbrev pub kind_names : List (List ℕ)
-kind_names = codes "procedures" ∷ codes "variables" ∷ codes "atoms" ∷ codes "paths" ∷ codes "steps" ∷ codes "terms" ∷ codes "versions" ∷ []
-
--- the name of a number in such a list
-abbrev pub name_in : List (List ℕ) → ℕ → List ℕ
-name_in names n = unwrap_or (slice_get names (n - 1)) []
 
 abbrev pub refused_at : List ℕ → Span → List ℕ
 refused_at name p = line (codes "refused: " ++ name ++ codes " at " ++ place_text p)
@@ -84,5 +60,5 @@ refusal_text TooLong = line (codes "refused: TooLong")
 refusal_text (Byte k) = line (codes "refused: Byte at offset " ++ decimal k)
 refusal_text (Deep p) = refused_at (codes "Deep") p
 refusal_text (Syntax p) = refused_at (codes "Syntax") p
-refusal_text (TypeError n p) = refused_at (name_in rule_names n) p
-refusal_text (Limit l) = line (codes "refused: Limit " ++ name_in kind_names l.kind ++ codes " at " ++ place_text l.span ++ codes ", count " ++ decimal l.count)
+refusal_text (TypeError r p) = refused_at (rule_name r) p
+refusal_text (Limit l) = line (codes "refused: Limit " ++ kind_name (kind_of l.kind) ++ codes " at " ++ place_text l.span ++ codes ", count " ++ decimal l.count)

@@ -17,6 +17,7 @@ use crate::front::{FrontError, MOST_BYTES};
 use crate::lines::plain_line;
 use crate::refusal::{Refusal, refused};
 use crate::report::Report;
+use crate::rule::Rule;
 use crate::status::Status;
 use gh_draw::drawing::{Drawing, draw};
 use gh_entail::admit::{AskError, Asked, admit_question};
@@ -33,7 +34,8 @@ impl From<AskError> for FrontError {
     fn from(error: AskError) -> FrontError {
         match error {
             AskError::TypeError { number, span } => {
-                FrontError::Refused(Refusal::TypeError { number, span })
+                let rule = Rule::numbered(number);
+                FrontError::Refused(Refusal::TypeError { rule, span })
             }
             AskError::Limit(passed) => FrontError::Refused(Refusal::Limit(passed)),
             AskError::OutOfMemory => FrontError::OutOfMemory,

@@ -13,6 +13,7 @@ mod recheck;
 pub mod refusal;
 mod replay;
 mod report;
+pub mod rule;
 pub mod run;
 mod session;
 mod simulate;

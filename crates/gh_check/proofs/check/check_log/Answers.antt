@@ -3,6 +3,9 @@ use Rattle.gh_base.specs.declared.sizes.Sizes.{Sizes}
 use Rattle.gh_log.specs.declared.lines.LogLine.{LogLine}
 use Rattle.gh_check.specs.Kept.{AreLinesKept, IsWithin}
 use Rattle.gh_check.specs.Lines.{IsChecked, IsTaken, IsKeptAfter, IsReady}
+use Rattle.gh_check.specs.Answers.{IsSectionError}
+use Rattle.gh_check.specs.declared.fault.LogFault.{LogFault}
+use Rattle.gh_check.specs.declared.fault.CheckError.TheVariants.{Fault}
 use Rattle.gh_check.proofs.SectionLemmas.{line_refused, reads_more, all_read, end_refused}
 use Rattle.gh_check.proofs.check.check_log.Goals as goal
 
@@ -13,8 +16,9 @@ returns-in-Faulty-clause-refused c =
     let i = c.loop-entry.entry-index in
     let l = c.entry-item.result in
     let at : l ≡ get_or lines i l = c.entry-item.is ∙ ap (λ (xs : List LogLine). get_or xs i l) c.deref-entry-items.ensures.value in
-    line_refused p c.args.section.now.first lines i l l c.loop-entry.before c.loop-entry.line c.in-Faulty.number c.loop-entry.is_empty (omega arith) at c.loop-entry.invariant
-    (subst (IsChecked p (take i lines) l) c.in-Faulty.is (c.in_ok-clause.ensures.checked (take i lines) c.loop-entry.invariant.kept))
+    subst (λ (f : LogFault). IsSectionError p c.args.section.now.first lines (Fault f)) (sym c.new.ensures)
+    (line_refused p c.args.section.now.first lines i l l c.loop-entry.before c.loop-entry.line c.in-Faulty.kind c.loop-entry.is_empty (omega arith) at c.loop-entry.invariant
+    (subst (IsChecked p (take i lines) l) c.in-Faulty.is (c.in_ok-clause.ensures.checked (take i lines) c.loop-entry.invariant.kept)))
 
 pub keep-requires-clause-within : goal.keep-requires-clause-within
 keep-requires-clause-within c =
@@ -44,5 +48,7 @@ returns-then-is_empty-clause-valid c =
 
 pub returns-clause-refused : goal.returns-clause-refused
 returns-clause-refused c =
-    end_refused c.args.ground.now c.args.section.now.first c.args.section.now.lines.items c.loop-entry.entry-index c.loop-entry.before c.loop-entry.line c.loop-entry.is_empty (omega arith) (omega arith) c.loop-entry.invariant
-    (λ holds. let f = c.if-is_empty.false in absurd (cc))
+    let lines = c.args.section.now.lines.items in
+    subst (λ (f : LogFault). IsSectionError c.args.ground.now c.args.section.now.first lines (Fault f)) (sym c.new-fault.ensures)
+    (end_refused c.args.ground.now c.args.section.now.first lines c.loop-entry.entry-index c.loop-entry.before c.loop-entry.line c.loop-entry.is_empty (omega arith) (omega arith) c.loop-entry.invariant
+    (λ holds. let f = c.if-is_empty.false in absurd (cc)))
