@@ -7,5 +7,3 @@ pub mod meaning;
 pub mod remaining;
 pub mod store;
 pub mod values;
-#[cfg(test)]
-mod worked;

@@ -19,7 +19,5 @@ pub mod steady_inputs;
 pub mod steady_sink;
 pub mod structure;
 pub mod term;
-#[cfg(test)]
-mod tests;
 pub mod text;
 pub mod writing;

@@ -3,13 +3,15 @@
 ghost use Rattle.std.specs.Prelude.{◌≡◌, ◌↔◌, IfOk, IfSome, IsSome, IsTrue};
 ghost use Rattle.gh_base.specs.Names.{IsNameText, is_name_byte};
 
+use smallvec::SmallVec;
 use std::alloc::{AllocError, Global};
 use std::marker::Model;
 
-/// A text of 1 to 64 letters, digits and `_`. Contracts see it as the list of its characters.
+/// A text of 1 to 64 letters, digits and `_`, at most 16 of them in place. Contracts see it as the list of its
+/// characters.
 #[derive(Debug, Drop)]
 pub struct Name {
-    text: Vec<u8>,
+    text: SmallVec<u8, 16>,
 }
 
 impl Model for Name {
@@ -48,7 +50,7 @@ impl Name {
             return Ok(None);
         }
         Ok(Some(Name {
-            text: Vec::from_slice(alloc, bytes)?,
+            text: SmallVec::from_slice(alloc, bytes)?,
         }))
     }
 
@@ -58,7 +60,7 @@ impl Name {
         ensures { IfOk result (λ n. n ≡ word.now) }
     {
         Ok(Name {
-            text: Vec::from_slice(alloc, word)?,
+            text: SmallVec::from_slice(alloc, word)?,
         })
     }
 
@@ -75,7 +77,7 @@ impl Name {
         ensures { IfOk result (λ n. n ≡ self.now) }
     {
         Ok(Name {
-            text: Vec::from_slice(alloc, self.text.as_slice())?,
+            text: SmallVec::from_slice(alloc, self.text.as_slice())?,
         })
     }
 }

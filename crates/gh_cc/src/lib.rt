@@ -10,6 +10,4 @@ mod moving;
 mod partition;
 mod refuting;
 mod signs;
-#[cfg(test)]
-mod tests;
 mod uses;

@@ -3,4 +3,5 @@ pub mod KeptLemmas
 pub mod TruthLemmas
 pub mod LineLemmas
 pub mod UnitsLemmas
+pub mod StandingLemmas
 pub mod SectionLemmas

@@ -10,7 +10,6 @@ use Rattle.gh_base.specs.declared.sizes.Sizes.{Sizes}
 use Rattle.gh_base.specs.Atoms.{opposite, IsInRange, AreInRange, number_of}
 use Rattle.gh_base.specs.Meaning.{under}
 use Rattle.gh_base.specs.Assignments.{Partial, value_at, value_of, ChangesAtom}
-use Rattle.gh_base.specs.Propagation.{given, FollowsByUnits}
 use Rattle.gh_base.specs.Hints.{HasAllButOne, IsRefutedByHints, refuted, joined, IsShownByHints}
 use Rattle.gh_base.proofs.NumberLemmas.{apart}
 use Rattle.gh_sat.proofs.TrailLemmas.{same_lit}
@@ -26,7 +25,7 @@ pub twice : (l : Lit) → opposite (opposite l) ≡ l
 twice l = same_lit (opposite (opposite l)) l refl (not_twice l.positive)
 
 -- an element is the first one, or one of the others
-first_or_other : (x y : Lit) (xs : List Lit) → Contains (x ∷ xs) y → (x ≡ y) ⊎ Contains xs y
+pub first_or_other : (x y : Lit) (xs : List Lit) → Contains (x ∷ xs) y → (x ≡ y) ⊎ Contains xs y
 first_or_other x y xs at = by at.0 at.1 at.2
   where
     by : (k : ℕ) → k < length (x ∷ xs) → get_or (x ∷ xs) k y ≡ y → (x ≡ y) ⊎ Contains xs y
@@ -322,7 +321,3 @@ shown_by hints lits set b h is exact = (
     by : IsShownByHints hints lits → IsTrue b
     by (inl w) = absurd (h w.0 w.1 w.2)
     by (inr w) = exact.1 (subst (IsRefutedByHints hints) (sym is) w)
-
--- a literal and its opposite are a contradiction with no clause
-pub clash_follows : (clauses : List (List Lit)) (lits : List Lit) → ((l : Lit) × Contains (map opposite lits) l × Contains (map opposite lits) (opposite l)) → FollowsByUnits clauses lits
-clash_follows clauses lits w = inl (w.0, given w.0 w.1, given (opposite w.0) w.2)

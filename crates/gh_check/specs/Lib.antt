@@ -2,5 +2,6 @@ pub mod Names
 pub mod Assuming
 pub mod Kept
 pub mod Truths
+pub mod Standing
 pub mod Lines
 pub mod Answers

@@ -37,9 +37,13 @@ IsFalseBy set clause = All (λ m. Contains set (opposite m)) clause
 abbrev pub IsOpenIn : List Lit → List Lit → Lit → Type 0
 IsOpenIn set clause l = Contains clause l × (Contains set (opposite l) → ⊥)
 
+-- a literal and its opposite
+abbrev pub HasBoth : List Lit → Type 0
+HasBoth set = (l : Lit) × Contains set l × Contains set (opposite l)
+
 -- a literal and its opposite are among those that make the clause false
 abbrev pub HasOpposites : List Lit → Type 0
-HasOpposites clause = (l : Lit) × Contains (map opposite clause) l × Contains (map opposite clause) (opposite l)
+HasOpposites clause = HasBoth (map opposite clause)
 
 -- what a clause is, as the set of its literals
 abbrev pub IsLook : List Lit → List Lit → Look → Type 0

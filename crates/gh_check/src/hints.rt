@@ -5,7 +5,6 @@ ghost use Rattle.gh_base.specs.declared.atom.Lit.{Lit};
 ghost use Rattle.gh_base.specs.Atoms.{opposite, IsInRange, AreInRange};
 ghost use Rattle.gh_base.specs.Assignments.{value_of};
 ghost use Rattle.gh_base.specs.Hints.{IsRefutedByHints, IsShownByHints};
-ghost use Rattle.gh_base.specs.Propagation.{FollowsByUnits};
 ghost use Rattle.gh_check.specs.Kept.{named, AreWithin};
 ghost use Rattle.gh_check.specs.Truths.{IsTable, IsConsistent, IsFalseBy, IsOpenIn, HasOpposites, IsLook};
 
@@ -66,8 +65,8 @@ impl Truths {
         })
     }
 
-    // Makes a literal true that isn't false.
-    fn add(&mut self, lit: Lit) -> Result<(), AllocError>
+    /// Makes a literal true that isn't false.
+    pub fn add(&mut self, lit: Lit) -> Result<(), AllocError>
         requires range { IsInRange self.old.sizes lit.atom }
         requires not_false { Contains self.old.lits (opposite lit) → ⊥ }
         ensures added { OnOk result (self.new ≡ record self.old { lits = self.old.lits ++ lit ∷ [] }) }
@@ -78,16 +77,16 @@ impl Truths {
         Ok(())
     }
 
-    // Leaves no literal true.
-    fn clear(&mut self)
+    /// Leaves no literal true.
+    pub fn clear(&mut self)
         ensures { self.new ≡ record self.old { lits = [] } }
     {
         erase(&mut self.table, self.lits.as_slice());
         self.lits.clear();
     }
 
-    // Whether a literal is false.
-    fn is_false(&self, lit: Lit) -> bool
+    /// Whether a literal is false.
+    pub fn is_false(&self, lit: Lit) -> bool
         requires { IsInRange self.now.sizes lit.atom }
         ensures { IsTrue result ↔ Contains self.now.lits (opposite lit) }
     {
@@ -134,8 +133,8 @@ impl Truths {
         true
     }
 
-    // What a clause is.
-    fn look(&self, clause: &[Lit]) -> Look
+    /// What a clause is.
+    pub fn look(&self, clause: &[Lit]) -> Look
         requires { AreInRange self.now.sizes clause.now }
         ensures { IsLook self.now.lits clause.now result }
     {
@@ -181,16 +180,6 @@ impl Truths {
             }
         }
         Ok(false)
-    }
-
-    /// Whether a literal and its opposite are among some literals. Then propagation shows their clause from none.
-    pub fn have_opposites(&mut self, lits: &[Lit]) -> Result<bool, AllocError>
-        requires { AreInRange self.old.sizes lits.now }
-        ensures shown { IfOk result (λ b. IsTrue b → (clauses : List (List Lit)) → FollowsByUnits clauses lits.now) }
-        ensures sizes { OnOk result (self.new.sizes ≡ self.old.sizes) }
-    {
-        self.clear();
-        Ok(self.falsify(lits)?)
     }
 
     /// Whether the clauses at the hints, taken in order, show the clause of some literals.

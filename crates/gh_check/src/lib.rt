@@ -7,6 +7,8 @@ mod hints;
 pub mod laws;
 mod lines;
 mod positions;
+mod search;
+mod standing;
 #[cfg(test)]
 mod tests;
 mod units;

@@ -10,10 +10,12 @@ ghost use Rattle.gh_base.specs.Grounds.{Problem};
 ghost use Rattle.gh_check.specs.Kept.{AreWithin};
 ghost use Rattle.gh_check.specs.Lines.{IsChecked, Answers, Leaves, IsReady};
 ghost use Rattle.gh_check.specs.Assuming.{IsBehind};
+ghost use Rattle.gh_check.specs.Standing.{IsStanding};
 
 use crate::fault::FaultKind;
 use crate::hints::Truths;
 use crate::positions::Positions;
+use crate::standing::Standing;
 use crate::units::Units;
 use gh_base::atom::Lit;
 use gh_base::clause::Clause;
@@ -35,6 +37,7 @@ pub enum Outcome {
 #[derive(Drop)]
 pub struct Earlier {
     pub kept: Positions,
+    pub standing: Standing,
     pub units: Units,
     pub truths: Truths,
 }
@@ -78,27 +81,27 @@ fn checked_lemma(alloc: Global, ground: &Ground, clause: &Clause) -> Result<Outc
     Ok(Outcome::Holds(Some(clause.copy(alloc)?)))
 }
 
-// A clause over atoms in range that unit propagation shows from all lines before. No search is made for one that has a
-// literal and its opposite.
+// A clause over atoms in range that unit propagation shows from all lines before: by hints that are found, or else by
+// all their clauses.
 fn checked_learnt(
     alloc: Global,
     ground: &Ground,
     kept: &Positions,
+    standing: &mut Standing,
     units: &mut Units,
-    truths: &mut Truths,
     clause: &Clause,
 ) -> Result<Outcome, AllocError>
+    requires standing { IsStanding ground.now.sizes kept.now.clauses standing.old }
     requires behind { IsBehind ground.now.sizes kept.now.clauses units.old }
-    requires sizes { truths.old.sizes ≡ ground.now.sizes }
     requires within { AreWithin ground.now.sizes kept.now.clauses }
     ensures checked { IfOk result (Answers ground.now kept.now (line_kind.Learnt clause.now)) }
+    ensures standing { OnOk result (IsStanding ground.now.sizes kept.now.clauses standing.new) }
     ensures behind { OnOk result (IsBehind ground.now.sizes kept.now.clauses units.new) }
-    ensures sizes { OnOk result (truths.new.sizes ≡ ground.now.sizes) }
 {
     if !are_in_range(ground.sizes(), clause.lits()) {
         return Ok(Outcome::Faulty(FaultKind::NotImplied));
     }
-    if truths.have_opposites(clause.lits())? {
+    if standing.shows(ground.sizes(), kept, clause.lits())? {
         return Ok(Outcome::Holds(Some(clause.copy(alloc)?)));
     }
     if !units.are_implied(alloc, ground.sizes(), kept, clause.lits())? {
@@ -163,8 +166,8 @@ pub fn checked(
         LogLine::Clause { number } => Ok(checked_clause(alloc, ground, *number)?),
         LogLine::Lemma(clause) => Ok(checked_lemma(alloc, ground, clause)?),
         LogLine::Learnt(clause) => {
-            let (units, truths) = (&mut before.units, &mut before.truths);
-            Ok(checked_learnt(alloc, ground, &before.kept, units, truths, clause)?)
+            let (standing, units) = (&mut before.standing, &mut before.units);
+            Ok(checked_learnt(alloc, ground, &before.kept, standing, units, clause)?)
         }
         LogLine::Hinted { clause, hints } => {
             Ok(checked_hinted(

@@ -79,15 +79,15 @@ impl Positions {
         }
     }
 
-    // Whether a position stands: that of a line with a clause, which no line deletes.
-    fn stands(&self, position: u32) -> bool
+    /// Whether a position stands: that of a line with a clause, which no line deletes.
+    pub fn stands(&self, position: u32) -> bool
         ensures { result ≡ stands_in self.now position }
     {
         self.has_clause(position) && !self.is_deleted(position)
     }
 
-    // Whether all positions stand.
-    fn are_standing(&self, positions: &[u32]) -> bool
+    /// Whether all positions stand.
+    pub fn are_standing(&self, positions: &[u32]) -> bool
         ensures { IsTrue result ↔ All (λ position. IsTrue (stands_in self.now position)) positions.now }
     {
         positions.iter().all(|position| self.stands(*position))

@@ -35,9 +35,9 @@ use Rattle.gh_grass.specs.Truth.{AreClausesTrue}
 use Rattle.gh_ground.specs.Solving.{IsModelOf, IsRefutationOf}
 use Rattle.gh_model.specs.Abstraction as abstraction
 use Rattle.gh_model.specs.BuiltTraces.{built_trace}
-use Rattle.gh_model.specs.Traced.{drawn_over}
-use Rattle.gh_model.proofs.ClauseModels.{traces_give_models}
-use Rattle.gh_model.proofs.Locality.{locality_holds}
+use Rattle.gh_model.specs.KeptTraces.{drawn_over}
+use Rattle.gh_model.proofs.soundness.ClauseModels.{traces_give_models}
+use Rattle.gh_model.proofs.locality.Traces.{locality_holds}
 use Rattle.gh_decide.specs.Verdicts.{IsShown}
 
 -- a condition is one of its procedure's

@@ -17,10 +17,10 @@ use Rattle.gh_trace.specs.declared.state.State.{State}
 use Rattle.gh_assert.specs.Meaning.{Store}
 use Rattle.gh_model.specs.BuiltTraces.{stands_at, content_at, heap_in, store_under}
 use Rattle.gh_model.specs.Classes.{class_of}
-use Rattle.gh_model.specs.Interpreted.{equal_in}
-use Rattle.gh_model.specs.Traced.{store_in, state_in}
-use Rattle.gh_model.proofs.LocalFacts.{cells_not}
-use Rattle.gh_model.proofs.Traced.{listed_under}
+use Rattle.gh_model.specs.Versions.{equal_in}
+use Rattle.gh_model.specs.KeptTraces.{store_in, state_in}
+use Rattle.gh_model.proofs.locality.BuiltVersions.{cells_not}
+use Rattle.gh_model.proofs.building.Stores.{listed_under}
 use Rattle.gh_entail.specs.Meaning.{IsEntailed, Fails}
 use Rattle.gh_entail.specs.Formulas.{question_problem}
 use Rattle.gh_entail.specs.Terms.{question_walked}

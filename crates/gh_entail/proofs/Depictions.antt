@@ -8,7 +8,6 @@ use Rattle.gh_assert.specs.Walks.{succ, walk, Allocated, Between}
 use Rattle.gh_assert.specs.Tests.{is_between}
 use Rattle.gh_assert.specs.Ownership.{IsUnnamed}
 use Rattle.gh_assert.specs.Hops.{Hop}
-use Rattle.gh_assert.specs.Laws.{Rows}
 use Rattle.gh_assert.proofs.Cells.{allocated_or, succ_stays}
 use Rattle.gh_assert.proofs.Steps.{distance_from}
 use Rattle.gh_assert.proofs.Rows.{rows}
@@ -16,12 +15,13 @@ use Rattle.gh_assert.proofs.Hops.{hop_rows}
 use Rattle.gh_assert.proofs.Owned.{named_or}
 use Rattle.gh_assert.proofs.Tests.{walk_short, tests_decide}
 use Rattle.gh_assert.proofs.WalkLaws.{unallocated_stay}
-use Rattle.gh_model.specs.Structures.{Structure, IsModel, IsOrdered}
+use Rattle.gh_model.specs.Structures.{IsModel}
 use Rattle.gh_model.specs.Laws.{IsBuilt}
-use Rattle.gh_model.proofs.Truths.{one_hop, some_decides}
-use Rattle.gh_model.proofs.Built.{models_are_built, succ_named}
-use Rattle.gh_model.proofs.Steps.{next_is_successor}
-use Rattle.gh_entail.specs.Hops.{Strays, Heads, Depicts}
+use Rattle.gh_model.proofs.heaps.Representation.{one_hop, some_decides}
+use Rattle.gh_model.proofs.heaps.HeapAxioms.{is_ordered}
+use Rattle.gh_model.proofs.heaps.BuiltHeap.{models_are_built, succ_named}
+use Rattle.gh_model.proofs.heaps.HeapSteps.{next_is_successor}
+use Rattle.gh_entail.specs.Hops.{Strays, Heads}
 use Rattle.gh_entail.specs.Laws.{DepictionsExist, DepictionsAreModels, DepictionsLookAlike}
 
 -- among the first steps one meets a named value first, or none does
@@ -88,26 +88,6 @@ depictions_exist V h null = (
   },
 )
 
-is_ordered : (V : List ℕ) (h : Heap) (m : Structure) → Depicts V h m → IsOrdered (Contains V) (λ x y. x ≡ y) m
-is_ordered V h m T = record {
-  row_1 = λ x cx. (T.between x x x cx cx cx).1 (R.row_1 x);
-  row_2 = λ x y cx cy b. R.row_2 x y ((T.between x y x cx cy cx).0 b);
-  row_3 = λ x y z cx cy cz b c. elim (R.row_3 x y z ((T.between x y y cx cy cy).0 b) ((T.between x z z cx cz cz).0 c)) [
-    | inl d ↦ inl ((T.between x y z cx cy cz).1 d)
-    | inr d ↦ inr ((T.between x z y cx cz cy).1 d)
-  ];
-  row_4 = λ x y z cx cy cz b. (T.between x y y cx cy cy).1 (R.row_4 x y z ((T.between x y z cx cy cz).0 b));
-  row_5 = λ x y z cx cy cz b. (T.between y z z cy cz cz).1 (R.row_5 x y z ((T.between x y z cx cy cz).0 b));
-  row_6 = λ x y z cx cy cz b c. (T.between x z z cx cz cz).1 (R.row_6 x y z ((T.between x y y cx cy cy).0 b) ((T.between y z z cy cz cz).0 c));
-  row_7 = λ x y u z cx cy cu cz b c. (T.between x y u cx cy cu).1 (R.row_7 x y u z ((T.between x y z cx cy cz).0 b) ((T.between y u z cy cu cz).0 c));
-  row_8 = λ x y u z cx cy cu cz b c. (T.between x u z cx cu cz).1 (R.row_8 x y u z ((T.between x y z cx cy cz).0 b) ((T.between y u z cy cu cz).0 c));
-  row_9 = λ x y u z cx cy cu cz b c. (T.between x u z cx cu cz).1 (R.row_9 x y u z ((T.between x y z cx cy cz).0 b) ((T.between x u y cx cu cy).0 c));
-  row_10 = λ x y u z cx cy cu cz b c. (T.between u y z cu cy cz).1 (R.row_10 x y u z ((T.between x y z cx cy cz).0 b) ((T.between x u y cx cu cy).0 c));
-}
-  where
-    R : Rows (Between h)
-    R = rows (succ h)
-
 -- a stray cell reaches itself alone of the named values
 stray_alone : (V : List ℕ) (h : Heap) (x w : ℕ) → Strays V h x → Contains V w → (n : ℕ) → walk h n x ≡ w → w ≡ x
 stray_alone V h x w stray cw zero e = sym e
@@ -131,7 +111,7 @@ head_named V h x v cx (inr (stray, same)) = subst (Contains V) same cx
 
 pub depictions_are_models : DepictionsAreModels
 depictions_are_models V h m null c0 T = record {
-  ordered = is_ordered V h m T;
+  ordered = is_ordered V h m T.between;
   linked = record {
     row_11 = λ x v cx cv a. (T.between x v v cx cv cv).1 (head_reached V h x v ((T.heads x v cx cv).0 a));
     row_12 = λ x v w cx cv cw a b. elim (head_first V h x v w cw ((T.heads x v cx cv).0 a) ((T.between x w w cx cw cw).0 b)) [
@@ -152,8 +132,8 @@ depictions_are_models V h m null c0 T = record {
 -- its built heap has the cells, the walks and the named contents of the heap
 pub depictions_look_alike : DepictionsLookAlike
 depictions_look_alike V h m null c0 T = record {
-  alloc = λ x cx. (λ a. (B.tells.alloc x cx).0 ((T.alloc x cx).1 a), λ a. (T.alloc x cx).0 ((B.tells.alloc x cx).1 a));
-  between = λ x y z cx cy cz. (λ b. (B.tells.between x y z cx cy cz).0 ((T.between x y z cx cy cz).1 b), λ b. (T.between x y z cx cy cz).0 ((B.tells.between x y z cx cy cz).1 b));
+  alloc = λ x cx. (λ a. (B.represents.alloc x cx).0 ((T.alloc x cx).1 a), λ a. (T.alloc x cx).0 ((B.represents.alloc x cx).1 a));
+  between = λ x y z cx cy cz. (λ b. (B.represents.between x y z cx cy cz).0 ((T.between x y z cx cy cz).1 b), λ b. (T.between x y z cx cy cz).0 ((B.represents.between x y z cx cy cz).1 b));
   follows = λ x cx cs. next_is_successor V m M x (succ h x) cx cs (λ a. (T.heads x (succ h x) cx cs).1 (inl ((hop_rows V h).content x ((T.alloc x cx).0 a) cs))) (elim (allocated_or h x) [
     | inl a ↦ inl ((T.alloc x cx).1 a)
     | inr none ↦ inr (sym (succ_stays h x none))

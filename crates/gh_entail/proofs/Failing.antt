@@ -11,15 +11,15 @@ use Rattle.gh_grass.specs.Truth.{truth, AreTrue}
 use Rattle.gh_grass.proofs.LawLemmas.{clauses_mean_formulas}
 use Rattle.gh_symb.specs.Formulas.{allocated, each, leads, successors_from, version_claims}
 use Rattle.gh_model.specs.Structures.{Structure}
-use Rattle.gh_model.specs.Built.{built}
+use Rattle.gh_model.specs.BuiltHeaps.{built}
 use Rattle.gh_model.specs.Classes.{numbers, class_of, classes, HasClasses}
-use Rattle.gh_model.specs.Interpreted.{equal_in, version_of}
-use Rattle.gh_model.specs.Spoken.{Speaks}
-use Rattle.gh_model.proofs.Growing.{stays}
-use Rattle.gh_model.proofs.Bounded.{place_below}
-use Rattle.gh_model.proofs.Rows.{versions_are_models}
-use Rattle.gh_model.proofs.Reflected.{value_at}
-use Rattle.gh_model.proofs.LocalFacts.{T, all_front, all_back, no_more, has_hops, count_numbers, class_at, classes_speak, follows_said, heap_is, value_is}
+use Rattle.gh_model.specs.Versions.{equal_in, version_of}
+use Rattle.gh_model.specs.Homomorphisms.{IsHomomorphism}
+use Rattle.gh_model.proofs.terms.Extension.{stays}
+use Rattle.gh_model.proofs.terms.Bounds.{place_below}
+use Rattle.gh_model.proofs.reading.AxiomRows.{versions_are_models}
+use Rattle.gh_model.proofs.soundness.Interpretation.{value_at}
+use Rattle.gh_model.proofs.locality.BuiltVersions.{T, all_front, all_back, no_more, has_hops, count_numbers, class_at, classes_homomorphism, follows_from_claims, heap_is, value_is}
 use Rattle.gh_entail.specs.Meaning.{Holds}
 use Rattle.gh_entail.specs.Terms.{claim_walked, question_walked}
 use Rattle.gh_entail.specs.Formulas.{claim_formula, question_formulas, question_problem}
@@ -47,13 +47,13 @@ models_fail q m I =
     let count : length V ≡ n = length-map (numbers 0 n) (class_of E n) ∙ count_numbers 0 n in
     let listed' : (u : ℕ) → u < n → slice_get V u ≡ Some (class_of E n u) = λ u l. let zero' : 0 + u ≡ u = omega arith in class_at (class_of E n) 0 n u l ∙ ap (λ w. Some (class_of E n w)) zero' in
     let null' : slice_get V 0 ≡ Some 0 = listed' 0 some ∙ ap Some C.null in
-    let S : Speaks m 0 n (value_at V) V M = classes_speak m 0 n V some refl count null' listed' C in
-    let next' = follows_said m K V 0 count C.model S (all_back m (negation_of (allocated 0 (term 0)) ∷ each n (leads n 0)) (successors_from 0 0 K) version) in
+    let S : IsHomomorphism m 0 n (value_at V) V M = classes_homomorphism m 0 n V some refl count null' listed' C in
+    let next' = follows_from_claims m K V 0 count C.model S (all_back m (negation_of (allocated 0 (term 0)) ∷ each n (leads n 0)) (successors_from 0 0 K) version) in
     let zero' : t.version ≡ 0 = (question_grows q).version in
     let says : Says m K V M st t = record {
       count = count;
       model = C.model;
-      speaks = S;
+      homomorphism = S;
       version = zero';
       sound = record {
         null = null';

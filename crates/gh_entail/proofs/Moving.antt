@@ -8,8 +8,8 @@ use Rattle.gh_assert.specs.Meaning.{Store, Meaning}
 use Rattle.gh_assert.specs.Ownership.{Owned}
 use Rattle.gh_assert.specs.Reading.{HasNames}
 use Rattle.gh_path.specs.Terms.{Kind, Terms, walked}
-use Rattle.gh_model.proofs.Growing.{Grows, onto}
-use Rattle.gh_model.proofs.Naming.{Sound, before, formula_named}
+use Rattle.gh_model.proofs.terms.Extension.{Grows, onto}
+use Rattle.gh_model.proofs.terms.Denotation.{Sound, before, formula_named}
 use Rattle.gh_ast.specs.Questions.{Claim, leaf, denial, every, either, Claims, no_claims, claim_first}
 use Rattle.gh_entail.specs.Meaning.{Holds, AllHold, SomeHolds}
 use Rattle.gh_entail.specs.Terms.{witnessed, claim_walked, claims_walked}

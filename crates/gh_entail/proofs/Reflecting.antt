@@ -17,17 +17,17 @@ use Rattle.gh_grass.proofs.LawLemmas.{formulas_give_clauses}
 use Rattle.gh_symb.specs.Symbolic.{Under}
 use Rattle.gh_symb.specs.Formulas.{version_claims}
 use Rattle.gh_model.specs.Structures.{Structure, IsModel}
-use Rattle.gh_model.specs.Built.{built}
+use Rattle.gh_model.specs.BuiltHeaps.{built}
 use Rattle.gh_model.specs.Laws.{IsBuilt}
-use Rattle.gh_model.proofs.Growing.{stays}
-use Rattle.gh_model.proofs.Naming.{listed}
-use Rattle.gh_model.proofs.Valued.{KindsValued, Valued, sound_of}
-use Rattle.gh_model.proofs.Versions.{AreVersions}
-use Rattle.gh_model.proofs.Built.{models_are_built}
-use Rattle.gh_model.proofs.Holding.{instances_hold}
-use Rattle.gh_model.proofs.Abstraction.{version_true}
-use Rattle.gh_model.proofs.ClauseModels.{Plain, plain_append, all_plain, plain_whole, plain_version, congruence_stays, instance_stays}
-use Rattle.gh_model.proofs.Reflected.{value_at, value_of, reflection, reflection_congruence, reflection_speaks}
+use Rattle.gh_model.proofs.terms.Extension.{stays}
+use Rattle.gh_model.proofs.terms.Denotation.{listed}
+use Rattle.gh_model.proofs.soundness.WalkValues.{IsKindValuation, IsValuation, sound_of}
+use Rattle.gh_model.proofs.soundness.Versions.{AreVersions}
+use Rattle.gh_model.proofs.heaps.BuiltHeap.{models_are_built}
+use Rattle.gh_model.proofs.reading.AxiomInstances.{instances_hold}
+use Rattle.gh_model.proofs.soundness.Abstraction.{version_true}
+use Rattle.gh_model.proofs.soundness.ClauseModels.{Plain, plain_append, all_plain, plain_whole, plain_version, congruence_stays, instance_stays}
+use Rattle.gh_model.proofs.soundness.Interpretation.{value_at, value_of, reflection, reflection_congruence, reflection_homomorphism}
 use Rattle.gh_ast.specs.Questions.{Claim, leaf, denial, every, either, Claims, no_claims, claim_first, Question}
 use Rattle.gh_entail.specs.Meaning.{Holds}
 use Rattle.gh_entail.specs.Terms.{claim_walked, question_walked}
@@ -60,7 +60,7 @@ plain_question q =
     (plain_claim t.kinds t.bindings q.left, (plain_claim t.kinds t.bindings q.right, tt))
 
 -- the values of terms in a heap are those in one that looks like it
-alike_valued : (V : List ℕ) (h k : Heap) (ks : List Kind) → LooksLike V h k → KindsValued (λ i. h) V ks → KindsValued (λ i. k) V ks
+alike_valued : (V : List ℕ) (h k : Heap) (ks : List Kind) → LooksLike V h k → IsKindValuation (λ i. h) V ks → IsKindValuation (λ i. k) V ks
 alike_valued V h k ks L S = record {
   count = S.count;
   null = S.null;
@@ -127,17 +127,17 @@ failures_are_depicted q st h null against =
     let right_grows = claim_grows q.right true (claim_walked false q.left no_terms) in
     let left : Holds q.left st k = moved K V st h k t seen q.left false no_terms right_grows Q.left against.left in
     let right : Holds q.right st k → ⊥ = λ r. against.right (moved K V st h k t seen q.right true (claim_walked false q.left no_terms) (stays t) Q.right r) in
-    let kinds : KindsValued (λ i. k) V K = alike_valued V h k K like Q.valued.kinds in
-    let valued : Valued (λ i. k) V st t = record { kinds = kinds; gives = Q.valued.gives } in
+    let kinds : IsKindValuation (λ i. k) V K = alike_valued V h k K like Q.valued.kinds in
+    let valued : IsValuation (λ i. k) V st t = record { kinds = kinds; gives = Q.valued.gives } in
     let m : Interpretation = reflection V (λ i. M) in
     let S : Says m K V M st t = record {
       count = kinds.count;
       model = model;
-      speaks = reflection_speaks V (λ i. M) 0 n kinds.count kinds.null;
+      homomorphism = reflection_homomorphism V (λ i. M) 0 n kinds.count kinds.null;
       version = (question_grows q).version;
       sound = sound_of (λ i. k) V st k t refl valued;
     } in
-    let A : AreVersions V K (λ i. k) (λ i. M) = record { kinds = kinds; proper = λ i. B.null; owned = λ i. B.owned; tells = λ i. B.tells; models = λ i. model } in
+    let A : AreVersions V K (λ i. k) (λ i. M) = record { kinds = kinds; proper = λ i. B.null; owned = λ i. B.owned; represents = λ i. B.represents; models = λ i. model } in
     let T : ground.Claim → Type 0 = λ g. truth m g ≡ true in
     let F = claim_formula K t.bindings q.left in
     let G = claim_formula K t.bindings q.right in
@@ -145,7 +145,7 @@ failures_are_depicted q st h null against =
     let is_right : T (negation_of G) = off_test (truth m G) (λ e. right ((claim_is m K V M st t S q.right true (claim_walked false q.left no_terms) (stays t)).0 e)) in
     let all : AreTrue m (question_formulas q) = All-append T (version_claims K 0) (F ∷ negation_of G ∷ []) (version_true V K (λ i. k) (λ i. M) A 0) (All-cons T F (negation_of G ∷ []) is_left (All-cons T (negation_of G) [] is_right (All-nil T))) in
     let sizes = (question_problem q).sizes in
-    let made' = model_from q m (reflection_congruence sizes V (λ i. M)) (instances_hold sizes m (value_at V) V (λ i. M) (λ i l. (model, reflection_speaks V (λ i. M) i n kinds.count kinds.null))) all in (
+    let made' = model_from q m (reflection_congruence sizes V (λ i. M)) (instances_hold sizes m (value_at V) V (λ i. M) (λ i l. (model, reflection_homomorphism V (λ i. M) i n kinds.count kinds.null))) all in (
       V,
       record {
         count = Q.valued.kinds.count;

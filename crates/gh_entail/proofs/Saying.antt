@@ -14,17 +14,17 @@ use Rattle.gh_grass.specs.Claims.{claims_of}
 use Rattle.gh_grass.specs.Truth.{truth, all_true, some_true}
 use Rattle.gh_symb.specs.Formulas.{variables, successor}
 use Rattle.gh_model.specs.Structures.{Structure, IsModel}
-use Rattle.gh_model.specs.Built.{built}
-use Rattle.gh_model.specs.Spoken.{Speaks, HaveTerms, HasNext, AtCells, IsSpoken}
-use Rattle.gh_model.specs.Tells.{IsTold}
+use Rattle.gh_model.specs.BuiltHeaps.{built}
+use Rattle.gh_model.specs.Homomorphisms.{IsHomomorphism, HaveTerms, HasNext, AtCells, IsPreserved}
+use Rattle.gh_model.specs.Representations.{AgreeOn}
 use Rattle.gh_model.specs.Laws.{IsBuilt}
-use Rattle.gh_model.proofs.Growing.{Grows, onto}
-use Rattle.gh_model.proofs.Naming.{Sound, before, formula_named}
-use Rattle.gh_model.proofs.Inside.{Knows}
-use Rattle.gh_model.proofs.Built.{models_are_built}
-use Rattle.gh_model.proofs.Told.{heaps_are_told}
-use Rattle.gh_model.proofs.Spoken.{and_is, or_is, not_is, none_is, formulas_speak}
-use Rattle.gh_model.proofs.Reflected.{value_at, value_of, within_list, formula_known, cells_known}
+use Rattle.gh_model.proofs.terms.Extension.{Grows, onto}
+use Rattle.gh_model.proofs.terms.Denotation.{Sound, before, formula_named}
+use Rattle.gh_model.proofs.terms.Callees.{Knows}
+use Rattle.gh_model.proofs.heaps.BuiltHeap.{models_are_built}
+use Rattle.gh_model.proofs.heaps.Agreement.{assertions_agree}
+use Rattle.gh_model.proofs.reading.Assertions.{and_is, or_is, not_is, none_is, formulas_are_preserved}
+use Rattle.gh_model.proofs.soundness.Interpretation.{value_at, value_of, within_list, formula_known, cells_known}
 use Rattle.gh_ast.specs.Questions.{Claim, leaf, denial, every, either, Claims, no_claims, claim_first}
 use Rattle.gh_entail.specs.Meaning.{Holds, AllHold, SomeHolds}
 use Rattle.gh_entail.specs.Terms.{claim_walked, claims_walked}
@@ -35,12 +35,12 @@ use Rattle.gh_entail.proofs.Walking.{leaf_grows, claims_grow}
 pub record Says (m : Interpretation) (K : List Kind) (V : List ℕ) (M : Structure) (st : Store) (t : Terms) : Type 0 where
   pub count : length V ≡ length K
   pub model : IsModel V M
-  pub speaks : Speaks m 0 (length K) (value_at V) V M
+  pub homomorphism : IsHomomorphism m 0 (length K) (value_at V) V M
   pub version : t.version ≡ 0
   pub sound : Sound K V st (built V M) t
 
 leaf_is : (m : Interpretation) (K : List Kind) (V : List ℕ) (M : Structure) (st : Store) (t : Terms) → Says m K V M st t → (f : Formula) (s : Terms) → Grows (walked f s) t → IsTrue (truth m (leaf_formula K t.bindings f)) ↔ Meaning f st (built V M)
-leaf_is m K V M st t S f s g = (λ e. told.whole.0 (spoken.whole.0 e), λ w. spoken.whole.1 (told.whole.1 w))
+leaf_is m K V M st t S f s g = (λ e. told.whole.0 (preserved.whole.0 e), λ w. preserved.whole.1 (told.whole.1 w))
   where
     B : IsBuilt V M
     B = models_are_built V M S.model
@@ -58,14 +58,14 @@ leaf_is m K V M st t S f s g = (λ e. told.whole.0 (spoken.whole.0 e), λ w. spo
     names_in = formula_in f (names (in_formula f)) (λ o c. member_map (λ (q : Occ). q.name) (in_formula f) o c)
 
     cells : AtCells (HasNext (variables t.bindings) (successor K t.version) (length K) (value_at V) M) f
-    cells = cells_known K V st (built V M) M (length K) f s t S.count B.tells g S.sound
+    cells = cells_known K V st (built V M) M (length K) f s t S.count B.represents g S.sound
 
-    spoken : IsSpoken m 0 (length K) (value_at V) V M (variables t.bindings) (successor K 0) st f
-    spoken = formulas_speak m 0 (length K) (value_at V) V M (variables t.bindings) (successor K 0) st (names (in_formula f)) f S.model S.speaks names_in terms_have
+    preserved : IsPreserved m 0 (length K) (value_at V) V M (variables t.bindings) (successor K 0) st f
+    preserved = formulas_are_preserved m 0 (length K) (value_at V) V M (variables t.bindings) (successor K 0) st (names (in_formula f)) f S.model S.homomorphism names_in terms_have
         (subst (λ j. AtCells (HasNext (variables t.bindings) (successor K j) (length K) (value_at V) M) f) S.version cells)
 
-    told : IsTold V (built V M) M st f
-    told = heaps_are_told V (built V M) M st f B.null B.owned B.tells (formula_named K V st (built V M) f s (before K V st (built V M) (walked f s) t g S.sound))
+    told : AgreeOn V (built V M) M st f
+    told = assertions_agree V (built V M) M st f B.null B.owned B.represents (formula_named K V st (built V M) f s (before K V st (built V M) (walked f s) t g S.sound))
 
 mutual
   pub claim_is : (m : Interpretation) (K : List Kind) (V : List ℕ) (M : Structure) (st : Store) (t : Terms) → Says m K V M st t → (c : Claim) (n : Bool) (s : Terms) → Grows (claim_walked n c s) t → IsTrue (truth m (claim_formula K t.bindings c)) ↔ Holds c st (built V M)

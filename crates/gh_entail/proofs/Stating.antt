@@ -18,14 +18,14 @@ use Rattle.gh_path.specs.Terms.{Terms, no_terms, walked}
 use Rattle.gh_grass.specs.declared.binding.Bond.{Bond}
 use Rattle.gh_symb.specs.Told.{IsBinding}
 use Rattle.gh_trace.specs.declared.state.State.{State}
-use Rattle.gh_model.specs.BoundNames.{AreOf}
+use Rattle.gh_model.specs.BoundVariables.{AreOf}
 use Rattle.gh_model.specs.BuiltTraces.{value_under, store_under, heap_in}
 use Rattle.gh_model.specs.Classes.{class_of}
-use Rattle.gh_model.specs.Interpreted.{equal_in}
-use Rattle.gh_model.specs.Traced.{entries_under, store_in, state_in}
-use Rattle.gh_model.proofs.BoundNames.{walked_of, no_term_outside}
-use Rattle.gh_model.proofs.OverTerms.{store_is}
-use Rattle.gh_model.proofs.Traced.{listed_under}
+use Rattle.gh_model.specs.Versions.{equal_in}
+use Rattle.gh_model.specs.KeptTraces.{entries_under, store_in, state_in}
+use Rattle.gh_model.proofs.terms.BoundVariables.{walked_of, no_term_outside}
+use Rattle.gh_model.proofs.building.Traces.{store_is}
+use Rattle.gh_model.proofs.building.Stores.{listed_under}
 use Rattle.gh_entail.specs.Rules.{in_claim, in_claims, in_question, unknown_name, duplicate_name, IsTyped}
 use Rattle.gh_entail.specs.Terms.{witnessed, claim_walked, claims_walked, question_walked}
 

@@ -2,8 +2,8 @@
 use Rattle.std.specs.Prelude.{Bool, true, false, not}
 use Rattle.std.proofs.Common.{refl, arith}
 use Rattle.gh_path.specs.Terms.{Terms, walked, no_terms}
-use Rattle.gh_model.proofs.Growing.{Grows, stays, onto, value_within, walked_grows}
-use Rattle.gh_model.proofs.Bounded.{IsBounded, more_kinds, walked_bounded}
+use Rattle.gh_model.proofs.terms.Extension.{Grows, stays, onto, value_within, walked_grows}
+use Rattle.gh_model.proofs.terms.Bounds.{IsBounded, more_kinds, walked_bounded}
 use Rattle.gh_ast.specs.Questions.{Claim, leaf, denial, every, either, Claims, no_claims, claim_first, Question}
 use Rattle.gh_entail.specs.Terms.{witnessed, claim_walked, claims_walked, question_walked}
 

@@ -14,9 +14,9 @@ use Rattle.gh_path.specs.Terms.{next}
 use Rattle.gh_grass.specs.Bindings.{term}
 use Rattle.gh_grass.specs.Truth.{AreClausesTrue}
 use Rattle.gh_model.specs.Structures.{Structure, IsModel}
-use Rattle.gh_model.specs.Built.{built}
+use Rattle.gh_model.specs.BuiltHeaps.{built}
 use Rattle.gh_model.specs.Classes.{class_of}
-use Rattle.gh_model.specs.Interpreted.{equal_in}
+use Rattle.gh_model.specs.Versions.{equal_in}
 use Rattle.gh_model.specs.BuiltTraces.{store_under, heap_in}
 use Rattle.gh_ast.specs.Questions.{Question}
 use Rattle.gh_entail.specs.Meaning.{IsEntailed, Fails}

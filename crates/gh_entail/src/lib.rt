@@ -8,5 +8,3 @@ pub mod ground;
 pub mod laws;
 mod occurrences;
 pub mod terms;
-#[cfg(test)]
-mod tests;

@@ -31,7 +31,7 @@ fn add_expr<'a>(found: &mut Vec<&'a Occ>, expr: &'a Expr) -> Result<(), AllocErr
     }
 }
 
-#[cycle(test)]
+#[cycle(any_test)]
 fn add_test<'a>(found: &mut Vec<&'a Occ>, test: &'a Cond) -> Result<(), AllocError>
     ensures { OnOk result (map (λ o. o.now) found.new.items ≡ map (λ o. o.now) found.old.items ++ in_test (test_of test.now)) }
 {
@@ -46,7 +46,7 @@ fn add_test<'a>(found: &mut Vec<&'a Occ>, test: &'a Cond) -> Result<(), AllocErr
     }
 }
 
-#[cycle(test)]
+#[cycle(any_test)]
 fn add_tests<'a>(found: &mut Vec<&'a Occ>, tests: &'a [Cond]) -> Result<(), AllocError>
     ensures { OnOk result (map (λ o. o.now) found.new.items ≡ map (λ o. o.now) found.old.items ++ in_tests (tests_view tests.now)) }
 {

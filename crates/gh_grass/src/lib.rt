@@ -7,5 +7,3 @@ pub mod formula;
 pub mod laws;
 pub mod terms;
 pub mod tested;
-#[cfg(test)]
-mod tests;

@@ -57,7 +57,7 @@ pub fn comparison(
 }
 
 /// The formula of a test.
-#[cycle(test)]
+#[cycle(any_test)]
 pub fn test_formula(alloc: Global, test: &Cond, binding: &Binding) -> Result<Formula, AllocError>
     ensures { IfOk result (λ f. claim_of f ≡ tested (bound_term binding.now) (test_of test.now)) }
 {
@@ -73,7 +73,7 @@ pub fn test_formula(alloc: Global, test: &Cond, binding: &Binding) -> Result<For
     }
 }
 
-#[cycle(test)]
+#[cycle(any_test)]
 fn test_formulas(
     alloc: Global,
     tests: &[Cond],

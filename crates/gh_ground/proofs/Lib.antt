@@ -4,5 +4,4 @@ pub mod GivenLemmas
 pub mod OpenLemmas
 pub mod KeptLemmas
 pub mod MissingLemmas
-pub mod PlainLemmas
 pub mod TrimLemmas

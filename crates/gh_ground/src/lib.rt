@@ -7,6 +7,4 @@ pub mod laws;
 pub mod solve;
 mod solver;
 mod structures;
-#[cfg(test)]
-mod tests;
 mod trim;

@@ -8,8 +8,6 @@ pub mod naming;
 pub mod schema;
 mod search;
 mod table;
-#[cfg(test)]
-mod tests;
 mod tuples;
 pub mod violation;
 mod words;

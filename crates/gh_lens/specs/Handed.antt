@@ -1,13 +1,21 @@
 -- What a step hands over.
 use Rattle.std.specs.Prelude.{◌≡◌, ℕ, List, map, Option, Some, None}
-use Rattle.gh_ast.specs.Plain.{Procedure, Program}
+use Rattle.gh_ast.specs.declared.Expr.{Expr}
+use Rattle.gh_ast.specs.declared.Occ.{Occ}
+use Rattle.gh_ast.specs.Plain.{Procedure, Program, procedure_of}
 use Rattle.gh_ast.specs.Programs.{parameters_of, Declares}
 use Rattle.gh_assert.specs.Meaning.{Store}
 use Rattle.gh_assert.specs.Values.{Give}
-use Rattle.gh_path.specs.Graphs.{PathStep, accessed, assume, assigned, made, written, freed, called, looped, answered}
+use Rattle.gh_path.specs.Graphs.{Loop, PathStep, accessed, assume, assigned, made, written, freed, called, looped, answered}
+use Rattle.gh_path.specs.Kept.{IsCallee, IsLoop}
+use Rattle.gh_path.specs.declared.condition.PathStep as kept_step
+use Rattle.gh_trace.specs.Kept.{state_of}
 use Rattle.gh_trace.specs.Traces.{State}
+use Rattle.gh_trace.specs.declared.state.State as kept_state
 use Rattle.gh_lens.specs.declared.exchange.Exchange.{Exchange}
+use Rattle.gh_lens.specs.declared.setting.Setting.{Setting}
 use Rattle.gh_lens.specs.Exchanges.{IsExchange}
+use Rattle.gh_lens.specs.Settings.{OfStep, whole}
 
 -- a call by what the callee requires of its arguments
 pub record IsCallExchange (q : Procedure) (vs : List ℕ) (x y : State) (e : Exchange) : Type 0 where
@@ -31,3 +39,17 @@ IsHanded P (answered xs es) x y e = ⊥
 abbrev pub IsHandedOr : Program → PathStep → State → State → Option Exchange → Type 0
 IsHandedOr P s x y (Some e) = IsHanded P s x y e
 IsHandedOr P s x y None = (e : Exchange) → IsHanded P s x y e → ⊥
+
+-- what a call of the procedure of a number hands over between two states
+abbrev pub IsHandedToCallee : Setting → ℕ → List Expr → kept_state.State → kept_state.State → Option Exchange → Type 0
+IsHandedToCallee setting callee es x y o =
+    (xs : List Occ) (f : Occ) → IsCallee (whole setting) callee f.name → IsHandedOr (whole setting) (called xs f es) (state_of x) (state_of y) o
+
+-- what the loop of a number hands over between two states
+abbrev pub IsHandedToLoop : Setting → ℕ → kept_state.State → kept_state.State → Option Exchange → Type 0
+IsHandedToLoop setting number x y o =
+    (l : Loop) → IsLoop (procedure_of setting.procedure.now) number l → IsHandedOr (whole setting) (looped l) (state_of x) (state_of y) o
+
+-- what a step hands over between two states
+abbrev pub IsHandedBetween : Setting → kept_step.PathStep → kept_state.State → kept_state.State → Option Exchange → Type 0
+IsHandedBetween setting step x y o = OfStep setting step (λ s. IsHandedOr (whole setting) s (state_of x) (state_of y) o)

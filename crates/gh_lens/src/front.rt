@@ -1,10 +1,11 @@
 //! From the bytes of a program text to an admitted program, or to the one refusal.
 
-ghost use Rattle.std.specs.Prelude.{◌≡◌, IfOk, IfErr, OnOk};
+ghost use Rattle.std.specs.Prelude.{◌≡◌, IfOk, IfErr, OnOk, Some, string_bytes};
 ghost use Rattle.gh_ast.specs.Plain.{program_of};
 ghost use Rattle.gh_parse.specs.Parsing.{IsParsed};
 ghost use Rattle.gh_path.specs.Admitted.{IsAdmitted};
 ghost use Rattle.gh_lens.specs.Fronts.{IsTextRefusal, IsUnadmitted, of_parse, of_check, of_list, of_terms};
+ghost use Rattle.gh_lens.specs.Fronts.{placed, parse_cause, check_cause, cause};
 
 use gh_ast::typed::Typed;
 use gh_base::place::Span;
@@ -88,16 +89,24 @@ pub fn admitted(alloc: Global, typed: &Typed) -> Result<Conditions<'_>, FrontErr
 }
 
 // `TEXT at L:C`
-fn at(alloc: Global, what: &str, span: Span) -> Result<String, AllocError> {
+fn at(alloc: Global, what: &str, span: Span) -> Result<String, AllocError>
+    ensures { IfOk result (λ s. string_bytes s ≡ placed what.now span) }
+{
     let row = span.line;
     let column = span.col;
-    format!(in alloc; "{what} at {row}:{column}")
+    let text = format!(in alloc; "{what} at {row}:{column}")?;
+    Ok(text)
 }
 
-fn parse_refusal(alloc: Global, error: &ParseError) -> Result<String, AllocError> {
+fn parse_refusal(alloc: Global, error: &ParseError) -> Result<String, AllocError>
+    ensures { IfOk result (λ s. parse_cause error.now ≡ Some (string_bytes s)) }
+{
     match error {
         ParseError::Byte { offset } => {
-            format!(in alloc; "the byte at offset {offset} is no character of the language")
+            let text = format!(in alloc;
+                "the byte at offset {offset} is no character of the language"
+            )?;
+            Ok(text)
         }
         ParseError::Deep { span } => at(alloc, "brackets nest too deep", *span),
         ParseError::Syntax { span } => at(alloc, "the syntax is wrong", *span),
@@ -105,7 +114,9 @@ fn parse_refusal(alloc: Global, error: &ParseError) -> Result<String, AllocError
     }
 }
 
-fn type_refusal(alloc: Global, error: &CheckError) -> Result<String, AllocError> {
+fn type_refusal(alloc: Global, error: &CheckError) -> Result<String, AllocError>
+    ensures { IfOk result (λ s. check_cause error.now ≡ Some (string_bytes s)) }
+{
     match error {
         CheckError::TypeError { span, .. } => at(alloc, "a type rule is broken", *span),
         CheckError::Limit(limit) => at(alloc, "a limit is passed", limit.span),
@@ -114,7 +125,9 @@ fn type_refusal(alloc: Global, error: &CheckError) -> Result<String, AllocError>
 }
 
 /// Why a text is refused, in words. `grass check` names the rule or the limit.
-pub fn refusal(alloc: Global, error: &FrontError) -> Result<String, AllocError> {
+pub fn refusal(alloc: Global, error: &FrontError) -> Result<String, AllocError>
+    ensures { IfOk result (λ s. cause error.now ≡ Some (string_bytes s)) }
+{
     match error {
         FrontError::TooLong => String::from_str(alloc, "the text is too long"),
         FrontError::Parse(error) => parse_refusal(alloc, error),

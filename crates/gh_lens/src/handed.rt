@@ -1,12 +1,7 @@
 //! What a step hands over.
 
-ghost use Rattle.std.specs.Prelude.{◌≡◌, ◌≢◌, List, ℕ, length, IfOk, Option};
-ghost use Rattle.gh_ast.specs.declared.Occ.{Occ as PlainOcc};
-ghost use Rattle.gh_ast.specs.Plain.{procedure_of, program_of};
-ghost use Rattle.gh_path.specs.Graphs as graph;
-ghost use Rattle.gh_path.specs.Kept.{IsCallee, IsLoop, IsStep};
-ghost use Rattle.gh_trace.specs.Kept.{state_of};
-ghost use Rattle.gh_lens.specs.Handed.{IsHandedOr};
+ghost use Rattle.std.specs.Prelude.{IfOk};
+ghost use Rattle.gh_lens.specs.Handed.{IsHandedToCallee, IsHandedToLoop, IsHandedBetween};
 ghost use Rattle.gh_lens.specs.Settings.{HasLoops};
 
 use crate::exchange::{Exchange, exchanged};
@@ -27,7 +22,7 @@ fn handed_to_callee(
     before: &State,
     after: &State,
 ) -> Result<Option<Exchange>, AllocError>
-    ensures { IfOk result (λ o. (xs : List PlainOcc) (f : PlainOcc) → IsCallee (program_of setting.entry.typed.now) callee f.name → IsHandedOr (program_of setting.entry.typed.now) (graph.called xs f arguments.now) (state_of before.now) (state_of after.now) o) }
+    ensures { IfOk result (IsHandedToCallee setting.entry callee arguments.now before.now after.now) }
 {
     let Some(callee) = procedure_at(setting.typed, callee) else {
         return Ok(None);
@@ -56,7 +51,7 @@ fn handed_to_loop(
     after: &State,
 ) -> Result<Option<Exchange>, AllocError>
     requires { HasLoops setting }
-    ensures { IfOk result (λ o. (l : graph.Loop) → IsLoop (procedure_of setting.entry.procedure.now) number l → IsHandedOr (program_of setting.entry.typed.now) (graph.looped l) (state_of before.now) (state_of after.now) o) }
+    ensures { IfOk result (IsHandedToLoop setting.entry number before.now after.now) }
 {
     let Some(round) = setting.round(number) else {
         return Ok(None);
@@ -78,7 +73,7 @@ pub fn handed(
     after: &State,
 ) -> Result<Option<Exchange>, AllocError>
     requires { HasLoops setting }
-    ensures { IfOk result (λ o. (s : graph.PathStep) → IsStep (program_of setting.entry.typed.now) (procedure_of setting.entry.procedure.now) step.now s → IsHandedOr (program_of setting.entry.typed.now) s (state_of before.now) (state_of after.now) o) }
+    ensures { IfOk result (IsHandedBetween setting.entry step.now before.now after.now) }
 {
     match step {
         PathStep::Call {

@@ -7,6 +7,4 @@ pub mod laws;
 pub mod lines;
 mod literals;
 pub mod reading;
-#[cfg(test)]
-mod tests;
 pub mod writing;

@@ -13,9 +13,9 @@ use Rattle.gh_symb.specs.Symbolic.{symbolic_of}
 use Rattle.gh_model.specs.Abstraction.{IsModelOf}
 use Rattle.gh_trace.specs.Traces.{State}
 use Rattle.gh_trace.specs.Validity.{AreCounterexample}
-use Rattle.gh_model.specs.Built.{first}
+use Rattle.gh_model.specs.BuiltHeaps.{first}
 use Rattle.gh_model.specs.Classes.{numbers, class_of}
-use Rattle.gh_model.specs.Interpreted.{equal_in, version_of}
+use Rattle.gh_model.specs.Versions.{equal_in, version_of}
 use Rattle.gh_model.specs.TermValues.{version_after}
 
 -- the value of a variable: that of its term, or 0 where it has none

@@ -1,7 +1,7 @@
 -- Terms are numbers below n. A class is named by its least term.
 use Rattle.std.specs.Prelude.{◌≡◌, ◌↔◌, ℕ, zero, suc, ◌<◌, List, [], ◌∷◌, map, Bool, IsTrue, Contains}
 use Rattle.gh_model.specs.Structures.{Structure, IsModel}
-use Rattle.gh_model.specs.Built.{first}
+use Rattle.gh_model.specs.BuiltHeaps.{first}
 
 -- k, k + 1, .. , n numbers
 abbrev pub numbers : ℕ → ℕ → List ℕ

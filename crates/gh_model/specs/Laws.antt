@@ -12,13 +12,13 @@ use Rattle.gh_base.specs.declared.sizes.Sizes.{Sizes}
 use Rattle.gh_base.specs.Meaning as congruence
 use Rattle.gh_base.specs.Meaning.{Interpretation}
 use Rattle.gh_inst.specs.Violations.{AreInstancesTrue}
-use Rattle.gh_model.specs.Interpreted.{equal_in, version_of, HasHops}
+use Rattle.gh_model.specs.Versions.{equal_in, version_of, HasHops}
 use Rattle.gh_model.specs.Structures.{Structure, Keeps, IsModel}
-use Rattle.gh_model.specs.Built.{built}
-use Rattle.gh_model.specs.Named.{IsNamed}
-use Rattle.gh_model.specs.Tells.{Tells, IsTold}
+use Rattle.gh_model.specs.BuiltHeaps.{built}
+use Rattle.gh_model.specs.Operands.{IsNamed}
+use Rattle.gh_model.specs.Representations.{Represents, AgreeOn}
 use Rattle.gh_model.specs.Classes.{IsCongruence, HasClasses}
-use Rattle.gh_model.specs.Steps.{SaysWrite, SaysNew, SaysFree, SaysCall, IsPut, IsFreed, IsCalled}
+use Rattle.gh_model.specs.Transitions.{StepsByWrite, StepsByNew, StepsByFree, StepsByCall, IsPut, IsFreed, IsCalled}
 
 -- a value hops to one value at most
 abbrev pub HopsAgree : Type 0
@@ -28,55 +28,55 @@ HopsAgree = (V : List ℕ) (m : Structure) → IsModel V m → (x v w : ℕ) →
 abbrev pub ContentsAreHops : Type 0
 ContentsAreHops = (V : List ℕ) (m : Structure) → IsModel V m → (x v : ℕ) → (get (built V m) x ≡ Some v) ↔ (Contains V x × Contains V v × IsTrue (m.hop x v))
 
--- the structure tells the truth about its built heap, and that heap is owned
+-- the structure represents its built heap, and that heap is owned
 pub record IsBuilt (V : List ℕ) (m : Structure) : Type 0 where
   pub null : get (built V m) 0 ≡ None
   pub owned : Owned V (built V m)
-  pub tells : Tells V (built V m) m
+  pub represents : Represents V (built V m) m
 
 abbrev pub ModelsAreBuilt : Type 0
 ModelsAreBuilt = (V : List ℕ) (m : Structure) → IsModel V m → IsBuilt V m
 
--- what tells the truth about an owned heap keeps the axioms
+-- what represents an owned heap keeps the axioms
 abbrev pub HeapsAreModels : Type 0
-HeapsAreModels = (V : List ℕ) (h : Heap) (m : Structure) → Contains V 0 → get h 0 ≡ None → Owned V h → Tells V h m → IsModel V m
+HeapsAreModels = (V : List ℕ) (h : Heap) (m : Structure) → Contains V 0 → get h 0 ≡ None → Owned V h → Represents V h m → IsModel V m
 
 -- assertions on the built heap can be read off the values of V
 abbrev pub BuiltIsRead : Type 0
 BuiltIsRead = (V : List ℕ) (m : Structure) (s : Store) (f : Formula) → IsModel V m → IsNamed f s V → IsReadOff V (built V m) s f
 
--- what a structure says of assertions is true of the heap that it tells the truth about
-abbrev pub HeapsAreTold : Type 0
-HeapsAreTold = (V : List ℕ) (h : Heap) (m : Structure) (s : Store) (f : Formula) → get h 0 ≡ None → Owned V h → Tells V h m → HasNames f s h V → IsTold V h m s f
+-- a structure agrees on each assertion with a heap that it represents
+abbrev pub AssertionsAgree : Type 0
+AssertionsAgree = (V : List ℕ) (h : Heap) (m : Structure) (s : Store) (f : Formula) → get h 0 ≡ None → Owned V h → Represents V h m → HasNames f s h V → AgreeOn V h m s f
 
--- and so of the built heap
-abbrev pub BuiltIsTold : Type 0
-BuiltIsTold = (V : List ℕ) (m : Structure) (s : Store) (f : Formula) → IsModel V m → IsNamed f s V → IsTold V (built V m) m s f
+-- and so with its built heap
+abbrev pub BuiltAgrees : Type 0
+BuiltAgrees = (V : List ℕ) (m : Structure) (s : Store) (f : Formula) → IsModel V m → IsNamed f s V → AgreeOn V (built V m) m s f
 
 -- a term for what follows x has that value
 abbrev pub NextIsSuccessor : Type 0
 NextIsSuccessor = (V : List ℕ) (m : Structure) → IsModel V m → (x t : ℕ) → Contains V x → Contains V t → (IsTrue (m.alloc x) → IsTrue (m.hop x t)) → IsTrue (m.alloc x) ⊎ (x ≡ t) → succ (built V m) x ≡ t
 
--- two built heaps are one step apart where the clauses of the step hold
+-- two built heaps are one step apart where their structures are
 abbrev pub WritesAreBuilt : Type 0
-WritesAreBuilt = (V : List ℕ) (m n : Structure) → IsModel V m → IsModel V n → (x v : ℕ) → Contains V x → Contains V v → SaysWrite V m n x v → IsPut (built V m) (built V n) x v
+WritesAreBuilt = (V : List ℕ) (m n : Structure) → IsModel V m → IsModel V n → (x v : ℕ) → Contains V x → Contains V v → StepsByWrite V m n x v → IsPut (built V m) (built V n) x v
 
 abbrev pub NewsAreBuilt : Type 0
-NewsAreBuilt = (V : List ℕ) (m n : Structure) → IsModel V m → IsModel V n → (x v : ℕ) → Contains V x → Contains V v → SaysNew V m n x v → (get (built V m) x ≡ None) × IsPut (built V m) (built V n) x v
+NewsAreBuilt = (V : List ℕ) (m n : Structure) → IsModel V m → IsModel V n → (x v : ℕ) → Contains V x → Contains V v → StepsByNew V m n x v → (get (built V m) x ≡ None) × IsPut (built V m) (built V n) x v
 
 abbrev pub FreesAreBuilt : Type 0
-FreesAreBuilt = (V : List ℕ) (m n : Structure) → IsModel V m → IsModel V n → (x : ℕ) → Contains V x → SaysFree V m n x → IsFreed (built V m) (built V n) x
+FreesAreBuilt = (V : List ℕ) (m n : Structure) → IsModel V m → IsModel V n → (x : ℕ) → Contains V x → StepsByFree V m n x → IsFreed (built V m) (built V n) x
 
 abbrev pub CallsAreBuilt : Type 0
-CallsAreBuilt = (V : List ℕ) (m n : Structure) (p q : Formula) (s t : Store) → IsModel V m → IsModel V n → IsNamed p s V → IsNamed q t V → SaysCall V m n p q s t → IsCalled (built V m) (built V n) p q s t
+CallsAreBuilt = (V : List ℕ) (m n : Structure) (p q : Formula) (s t : Store) → IsModel V m → IsModel V n → IsNamed p s V → IsNamed q t V → StepsByCall V m n p q s t → IsCalled (built V m) (built V n) p q s t
 
 -- a structure on terms, whose equality is a congruence and which keeps the axioms, is a model over its classes
 abbrev pub ClassesAreModels : Type 0
 ClassesAreModels = (equal : ℕ → ℕ → Bool) (n : ℕ) (m : Structure) → 0 < n → IsCongruence equal n m → Keeps (λ t. t < n) (λ x y. IsTrue (equal x y)) m → HasClasses equal n m
 
--- some structure tells the truth about an owned heap
-abbrev pub TruthsExist : Type 0
-TruthsExist = (V : List ℕ) (h : Heap) → get h 0 ≡ None → Owned V h → (m : Structure) × Tells V h m
+-- some structure represents an owned heap
+abbrev pub RepresentationsExist : Type 0
+RepresentationsExist = (V : List ℕ) (h : Heap) → get h 0 ≡ None → Owned V h → (m : Structure) × Represents V h m
 
 -- a version of an interpretation in which all instances of the axioms are true keeps them over the terms
 abbrev pub InstancesAreKept : Type 0

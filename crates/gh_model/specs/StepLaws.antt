@@ -1,4 +1,4 @@
--- What steps from heap to heap say of the structures before and after them.
+-- Steps between heaps are steps between the structures that represent them.
 use Rattle.std.specs.Prelude.{◌≡◌, ℕ, List, None, Contains}
 use Rattle.std.specs.FinMap.{get}
 use Rattle.gh_ast.specs.Plain.{Formula}
@@ -8,27 +8,27 @@ use Rattle.gh_assert.specs.Walks.{Allocated}
 use Rattle.gh_assert.specs.Ownership.{Owned}
 use Rattle.gh_assert.specs.Reading.{HasNames}
 use Rattle.gh_model.specs.Structures.{Structure}
-use Rattle.gh_model.specs.Tells.{Tells}
-use Rattle.gh_model.specs.Steps.{SaysWrite, SaysNew, SaysFree, SaysCall, IsPut, IsFreed, IsCalled}
+use Rattle.gh_model.specs.Representations.{Represents}
+use Rattle.gh_model.specs.Transitions.{StepsByWrite, StepsByNew, StepsByFree, StepsByCall, IsPut, IsFreed, IsCalled}
 
--- two owned heaps, and what tells the truth about each
-pub record AreTold (V : List ℕ) (h k : Heap) (m n : Structure) : Type 0 where
+-- two owned heaps, and a structure that represents each
+pub record AreRepresented (V : List ℕ) (h k : Heap) (m n : Structure) : Type 0 where
   pub proper : IsProper h
   pub proper_after : IsProper k
   pub owned : Owned V h
   pub owned_after : Owned V k
-  pub tells : Tells V h m
-  pub tells_after : Tells V k n
+  pub represents : Represents V h m
+  pub represents_after : Represents V k n
 
-abbrev pub WritesAreSaid : Type 0
-WritesAreSaid = (V : List ℕ) (h k : Heap) (m n : Structure) → AreTold V h k m n → (x v : ℕ) → Contains V x → Contains V v → Allocated h x → IsPut h k x v → SaysWrite V m n x v
+abbrev pub WritesAreRepresented : Type 0
+WritesAreRepresented = (V : List ℕ) (h k : Heap) (m n : Structure) → AreRepresented V h k m n → (x v : ℕ) → Contains V x → Contains V v → Allocated h x → IsPut h k x v → StepsByWrite V m n x v
 
-abbrev pub NewsAreSaid : Type 0
-NewsAreSaid = (V : List ℕ) (h k : Heap) (m n : Structure) → AreTold V h k m n → (x v : ℕ) → Contains V x → Contains V v → get h x ≡ None → IsPut h k x v → SaysNew V m n x v
+abbrev pub NewsAreRepresented : Type 0
+NewsAreRepresented = (V : List ℕ) (h k : Heap) (m n : Structure) → AreRepresented V h k m n → (x v : ℕ) → Contains V x → Contains V v → get h x ≡ None → IsPut h k x v → StepsByNew V m n x v
 
-abbrev pub FreesAreSaid : Type 0
-FreesAreSaid = (V : List ℕ) (h k : Heap) (m n : Structure) → AreTold V h k m n → (x : ℕ) → Contains V x → IsFreed h k x → SaysFree V m n x
+abbrev pub FreesAreRepresented : Type 0
+FreesAreRepresented = (V : List ℕ) (h k : Heap) (m n : Structure) → AreRepresented V h k m n → (x : ℕ) → Contains V x → IsFreed h k x → StepsByFree V m n x
 
-abbrev pub CallsAreSaid : Type 0
-CallsAreSaid =
-    (V : List ℕ) (h k : Heap) (m n : Structure) (p q : Formula) (s t : Store) → AreTold V h k m n → HasNames p s h V → HasNames q t k V → IsCalled h k p q s t → SaysCall V m n p q s t
+abbrev pub CallsAreRepresented : Type 0
+CallsAreRepresented =
+    (V : List ℕ) (h k : Heap) (m n : Structure) (p q : Formula) (s t : Store) → AreRepresented V h k m n → HasNames p s h V → HasNames q t k V → IsCalled h k p q s t → StepsByCall V m n p q s t

@@ -11,7 +11,7 @@ ghost use Rattle.gh_ast.specs.Programs.{names, variable_names};
 ghost use Rattle.gh_ast.specs.Occurrences.{locals_of};
 ghost use Rattle.gh_assert.specs.Stores.{listed_names};
 ghost use Rattle.gh_model.specs.BuiltTraces.{stands_at, content_at, heap_in, built_trace};
-ghost use Rattle.gh_model.specs.Traced.{entries_under, store_in, state_in, states_in, told_after, after_first, AreBelow, HasAll, drawn_over};
+ghost use Rattle.gh_model.specs.KeptTraces.{entries_under, store_in, state_in, states_in, version_after_kept, after_first, AreBelow, HasAll, drawn_over};
 
 use gh_assert::heap::Heap;
 use gh_assert::store::Store;
@@ -167,7 +167,7 @@ fn state(
 // The version after a step.
 fn after(step: &TermStep<'_>, version: u8) -> u8
     requires { version < 255 }
-    ensures { result ≡ told_after step.now version }
+    ensures { result ≡ version_after_kept step.now version }
 {
     match step {
         TermStep::Access { .. } | TermStep::Assume { .. } | TermStep::Same => version,

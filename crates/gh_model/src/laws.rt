@@ -1,16 +1,16 @@
-//! Laws of structures and of the heaps that they tell of.
+//! Laws of structures and of the heaps that they represent.
 
-ghost use Rattle.gh_model.specs.StepLaws.{WritesAreSaid, NewsAreSaid, FreesAreSaid, CallsAreSaid};
+ghost use Rattle.gh_model.specs.StepLaws.{WritesAreRepresented, NewsAreRepresented, FreesAreRepresented, CallsAreRepresented};
 ghost use Rattle.gh_model.specs.Abstraction.{TracesSatisfy, TracesGiveModels};
-ghost use Rattle.gh_model.specs.Depicted.{TracesAreDepicted};
+ghost use Rattle.gh_model.specs.Depictions.{TracesAreDepicted};
 ghost use Rattle.gh_model.specs.BuiltTraces.{LocalityHolds};
-ghost use Rattle.gh_model.specs.BoundNames.{OnlyVariablesHaveTerms};
-ghost use Rattle.gh_model.specs.Traced.{BuiltIsCounterexample};
-ghost use Rattle.gh_model.specs.StepFormulas.{WritesSpeak, NewsSpeak, FreesSpeak, CallsSpeak};
-ghost use Rattle.gh_model.specs.Spoken.{FormulasSpeak, InstancesHold};
+ghost use Rattle.gh_model.specs.BoundVariables.{OnlyVariablesHaveTerms};
+ghost use Rattle.gh_model.specs.KeptTraces.{BuiltIsCounterexample};
+ghost use Rattle.gh_model.specs.StepFormulas.{WritesArePreserved, NewsArePreserved, FreesArePreserved, CallsArePreserved};
+ghost use Rattle.gh_model.specs.Homomorphisms.{FormulasArePreserved, InstancesHold};
 ghost use Rattle.gh_model.specs.Sections.{SectionsShowValidity};
 ghost use Rattle.gh_model.specs.TraceLaws.{TracesAreOwned, ValuesExist};
-ghost use Rattle.gh_model.specs.Laws.{HopsAgree, ContentsAreHops, ModelsAreBuilt, HeapsAreModels, BuiltIsRead, HeapsAreTold, BuiltIsTold, NextIsSuccessor, WritesAreBuilt, NewsAreBuilt, FreesAreBuilt, CallsAreBuilt, ClassesAreModels, TruthsExist, InstancesAreKept, VersionsAreModels};
+ghost use Rattle.gh_model.specs.Laws.{HopsAgree, ContentsAreHops, ModelsAreBuilt, HeapsAreModels, BuiltIsRead, AssertionsAgree, BuiltAgrees, NextIsSuccessor, WritesAreBuilt, NewsAreBuilt, FreesAreBuilt, CallsAreBuilt, ClassesAreModels, RepresentationsExist, InstancesAreKept, VersionsAreModels};
 
 /// A value hops to one value at most.
 pub fn hops_agree()
@@ -22,7 +22,7 @@ pub fn contents_are_hops()
     ensures { ContentsAreHops }
 {}
 
-/// The structure tells the truth about its built heap.
+/// The structure represents its built heap.
 pub fn models_are_built()
     ensures { ModelsAreBuilt }
 {}
@@ -32,19 +32,19 @@ pub fn built_is_read()
     ensures { BuiltIsRead }
 {}
 
-/// What tells the truth about an owned heap keeps the axioms.
+/// What represents an owned heap keeps the axioms.
 pub fn heaps_are_models()
     ensures { HeapsAreModels }
 {}
 
-/// What a structure says of assertions is true of the heap that it tells the truth about.
-pub fn heaps_are_told()
-    ensures { HeapsAreTold }
+/// A structure agrees on each assertion with a heap that it represents.
+pub fn assertions_agree()
+    ensures { AssertionsAgree }
 {}
 
-/// What a structure says of assertions is true of its built heap.
-pub fn built_is_told()
-    ensures { BuiltIsTold }
+/// A structure agrees on each assertion with its built heap.
+pub fn built_agrees()
+    ensures { BuiltAgrees }
 {}
 
 /// A term for what follows a value has that value in the built heap.
@@ -52,7 +52,7 @@ pub fn next_is_successor()
     ensures { NextIsSuccessor }
 {}
 
-/// Where the clauses of a write hold, the built heaps are one write apart.
+/// Where structures are one write apart, so are their built heaps.
 pub fn writes_are_built()
     ensures { WritesAreBuilt }
 {}
@@ -77,9 +77,9 @@ pub fn classes_are_models()
     ensures { ClassesAreModels }
 {}
 
-/// Some structure tells the truth about an owned heap.
-pub fn truths_exist()
-    ensures { TruthsExist }
+/// Some structure represents an owned heap.
+pub fn representations_exist()
+    ensures { RepresentationsExist }
 {}
 
 /// A version of an interpretation keeps the axioms whose instances are true.
@@ -102,54 +102,54 @@ pub fn values_exist()
     ensures { ValuesExist }
 {}
 
-/// The formulas of an assertion say of terms what a structure says of their values.
-pub fn formulas_speak()
-    ensures { FormulasSpeak }
+/// A homomorphism keeps the formulas of an assertion.
+pub fn formulas_are_preserved()
+    ensures { FormulasArePreserved }
 {}
 
-/// What tells the truth about the heaps before and after a write says so in the words of the structures.
-pub fn writes_are_said()
-    ensures { WritesAreSaid }
+/// Structures that represent the heaps before and after a write are one write apart.
+pub fn writes_are_represented()
+    ensures { WritesAreRepresented }
 {}
 
 /// The same of a new cell.
-pub fn news_are_said()
-    ensures { NewsAreSaid }
+pub fn news_are_represented()
+    ensures { NewsAreRepresented }
 {}
 
 /// The same of a freed cell.
-pub fn frees_are_said()
-    ensures { FreesAreSaid }
+pub fn frees_are_represented()
+    ensures { FreesAreRepresented }
 {}
 
 /// The same of a call or a loop.
-pub fn calls_are_said()
-    ensures { CallsAreSaid }
+pub fn calls_are_represented()
+    ensures { CallsAreRepresented }
 {}
 
-/// Where each version speaks of a model, all instances of the axioms are true.
+/// Where each version maps onto a model, all instances of the axioms are true.
 pub fn instances_hold()
     ensures { InstancesHold }
 {}
 
-/// The formulas of a write say of terms what is said of their values.
-pub fn writes_speak()
-    ensures { WritesSpeak }
+/// The formulas of a write are true exactly where the structures of the values are one write apart.
+pub fn writes_are_preserved()
+    ensures { WritesArePreserved }
 {}
 
 /// The same of a new cell.
-pub fn news_speak()
-    ensures { NewsSpeak }
+pub fn news_are_preserved()
+    ensures { NewsArePreserved }
 {}
 
 /// The same of a freed cell.
-pub fn frees_speak()
-    ensures { FreesSpeak }
+pub fn frees_are_preserved()
+    ensures { FreesArePreserved }
 {}
 
 /// The same of a call or a loop.
-pub fn calls_speak()
-    ensures { CallsSpeak }
+pub fn calls_are_preserved()
+    ensures { CallsArePreserved }
 {}
 
 /// A counterexample gives an interpretation in which the axioms and the condition's formulas are true.
@@ -162,7 +162,7 @@ pub fn traces_give_models()
     ensures { TracesGiveModels }
 {}
 
-/// In one of these models terms are equal where their values are, and each version speaks of its heap.
+/// In one of these models terms are equal where their values are, and each version represents its heap.
 pub fn traces_are_depicted()
     ensures { TracesAreDepicted }
 {}

@@ -3,5 +3,3 @@
 
 pub mod build;
 pub mod laws;
-#[cfg(test)]
-mod tests;

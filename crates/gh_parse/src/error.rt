@@ -35,7 +35,7 @@ impl From<AllocError> for ParseError {
 
 /// Why a rule of the grammar isn't read.
 #[derive(Debug, Drop, Error)]
-pub enum ReadError {
+pub(crate) enum ReadError {
     /// The next token doesn't fit, or the end doesn't.
     #[error("a token is unexpected")]
     Unexpected,

@@ -3,24 +3,24 @@
 
 #[cfg(test)]
 mod assertion_tests;
-pub mod assertions;
-pub mod calls;
-pub mod claims;
-pub mod conditions;
-pub mod cursor;
+mod assertions;
+mod calls;
+mod claims;
+mod conditions;
+mod cursor;
 pub mod error;
-pub mod lexer;
+mod lexer;
 #[cfg(test)]
 mod lexer_tests;
 pub mod parse;
 #[cfg(test)]
 mod parse_tests;
-pub mod procedures;
-pub mod programs;
+mod procedures;
+mod programs;
 #[cfg(test)]
 mod question_tests;
-pub mod questions;
-pub mod scan;
-pub mod statements;
-pub mod token;
-pub mod values;
+mod questions;
+mod scan;
+mod statements;
+mod token;
+mod values;

@@ -17,7 +17,5 @@ mod lower_body;
 pub mod node;
 pub mod route;
 pub mod starts;
-#[cfg(test)]
-mod tests;
 pub mod walk;
 mod walker;

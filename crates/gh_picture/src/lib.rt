@@ -8,6 +8,4 @@ mod rows;
 pub mod scene;
 mod shapes;
 pub mod tree;
-#[cfg(test)]
-mod worked;
 mod writing;

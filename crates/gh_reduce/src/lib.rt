@@ -7,5 +7,3 @@ pub mod laws;
 mod parts;
 pub mod rows;
 pub mod statements;
-#[cfg(test)]
-mod tests;

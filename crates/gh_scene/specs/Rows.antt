@@ -1,14 +1,18 @@
 -- The rows of a picture.
 use Rattle.std.specs.Prelude.{◌≡◌, ℕ, List, [], ◌∷◌, ◌++◌, Option, Some, None, codes}
 use Rattle.std.specs.FinMap as finite
-use Rattle.gh_ast.specs.Plain.{Program}
+use Rattle.gh_ast.specs.Plain.{Program, procedure_of}
 use Rattle.gh_assert.specs.Heaps.{Heap}
 use Rattle.gh_assert.specs.Stores.{store_of}
 use Rattle.gh_lens.specs.declared.exchange.Exchange.{Exchange}
+use Rattle.gh_lens.specs.declared.setting.Setting.{Setting}
 use Rattle.gh_lens.specs.Handed.{IsHandedOr}
 use Rattle.gh_lens.specs.Lines.{numbers_text}
+use Rattle.gh_lens.specs.Settings.{OfStep, whole}
 use Rattle.gh_lens.specs.Statements.{statement_text}
 use Rattle.gh_path.specs.Graphs.{PathStep}
+use Rattle.gh_path.specs.Kept.{AreSteps}
+use Rattle.gh_path.specs.declared.condition.PathStep as kept
 use Rattle.gh_picture.specs.declared.scene.Row.{Row}
 use Rattle.gh_scene.specs.Roles.{roles_of, changes_of}
 use Rattle.gh_trace.specs.declared.state.State.{State}
@@ -66,3 +70,12 @@ pub record AddsRows (P : Program) (ss : List PathStep) (xs : List State) (spare 
   pub rest : List Row
   pub whole : new ≡ old ++ rest
   pub rows : AreRows P ss xs spare rest
+
+-- the row of a state that a kept step leads to
+abbrev pub IsRowFor : Setting → kept.PathStep → State → State → Heap → Row → Type 0
+IsRowFor setting step x y spare row = OfStep setting step (λ s. IsRowOf (whole setting) s x y spare row)
+
+-- the rows of the states that kept steps lead to are added
+abbrev pub AddsRowsFor : Setting → List kept.PathStep → List State → Heap → List Row → List Row → Type 0
+AddsRowsFor setting steps xs spare old new =
+    (ss : List PathStep) → AreSteps (whole setting) (procedure_of setting.procedure.now) steps ss → AddsRows (whole setting) ss xs spare old new

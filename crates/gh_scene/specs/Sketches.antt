@@ -4,6 +4,8 @@ use Rattle.gh_ast.specs.Plain.{Program}
 use Rattle.gh_assert.specs.Heaps.{Heap}
 use Rattle.gh_draw.specs.Descriptions.{description}
 use Rattle.gh_path.specs.Conditions.{Condition, conditions}
+use Rattle.gh_path.specs.Kept.{StandsFor}
+use Rattle.gh_path.specs.declared.condition.Condition as kept
 use Rattle.gh_picture.specs.declared.scene.Row.{Row}
 use Rattle.gh_picture.specs.declared.scene.Scene.{Scene}
 use Rattle.gh_scene.specs.declared.sketch.Sketch.{Sketch}
@@ -25,6 +27,10 @@ pub record IsSceneOver (P : Program) (c : Condition) (x : State) (ys : List Stat
   pub rows : scene.rows.items ≡ first ∷ rest
   pub first_is : IsStartRow x (left_at_end ys spare) first
   pub rest_are : AreRows P c.way.steps (x ∷ ys) spare rest
+
+-- the scene is over the condition that a kept one stands for
+abbrev pub IsSceneFor : Program → kept.Condition → State → List State → Scene → Type 0
+IsSceneFor P r x ys scene = (c : Condition) → StandsFor P r c → IsSceneOver P c x ys scene
 
 -- the states are a counterexample of the condition, and the scene shows them
 pub record IsSceneOf (P : Program) (c : Condition) (xs : List State) (scene : Scene) : Type 0 where

@@ -1,12 +1,19 @@
 -- What is left over where the check at the end of a path fails.
-use Rattle.std.specs.Prelude.{◌≡◌, ◌⊎◌, List, [], ◌∷◌}
+use Rattle.std.specs.Prelude.{◌≡◌, ◌⊎◌, ℕ, List, [], ◌∷◌}
 use Rattle.std.specs.FinMap as map
-use Rattle.gh_ast.specs.Plain.{Formula}
+use Rattle.gh_ast.specs.Plain.{Formula, procedure_of}
 use Rattle.gh_assert.specs.Heaps.{Heap}
 use Rattle.gh_assert.specs.Meaning.{Store}
+use Rattle.gh_base.specs.declared.place.Span.{Span}
+use Rattle.gh_lens.specs.declared.setting.Setting.{Setting}
+use Rattle.gh_lens.specs.Settings.{whole}
 use Rattle.gh_lens.specs.Takings.{conjuncts, Leaves}
-use Rattle.gh_path.specs.Graphs.{Check, access, entry, loop_entry, returned, loop_end}
+use Rattle.gh_path.specs.Graphs.{Check, Loop, access, entry, loop_entry, returned, loop_end}
+use Rattle.gh_path.specs.Kept.{IsKind, IsLoop}
+use Rattle.gh_path.specs.declared.condition.CheckKind as kept_kind
+use Rattle.gh_trace.specs.Kept.{state_of}
 use Rattle.gh_trace.specs.Traces.{State}
+use Rattle.gh_trace.specs.declared.state.State as kept_state
 
 -- the alternatives that the check asks a whole heap to meet; where it asks for a part alone, nothing is left over
 abbrev pub asked_whole : Check → List Formula
@@ -28,3 +35,13 @@ IsLeftOver (f ∷ fs) s h rest = Leaves (conjuncts f) s h rest ⊎ (LeavesNothin
 -- the cells of a state that are left over at a check
 abbrev pub IsSpare : Check → State → Heap → Type 0
 IsSpare c x rest = IsLeftOver (asked_whole c) x.store x.heap rest
+
+-- the same at the end of the loop of a number
+abbrev pub IsSpareOfRound : Setting → ℕ → kept_state.State → Heap → Type 0
+IsSpareOfRound setting number x rest =
+    (l : Loop) → IsLoop (procedure_of setting.procedure.now) number l → IsSpare (loop_end l) (state_of x) rest
+
+-- the same at the check that a kept one stands for
+abbrev pub IsSpareAt : Setting → kept_kind.CheckKind → kept_state.State → Heap → Type 0
+IsSpareAt setting kind x rest =
+    (at : Span) (c : Check) → IsKind (whole setting) (procedure_of setting.procedure.now) kind at c → IsSpare c (state_of x) rest

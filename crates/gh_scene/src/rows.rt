@@ -1,11 +1,8 @@
 // The rows of a picture.
 
-ghost use Rattle.std.specs.Prelude.{◌≡◌, List, IfOk};
-ghost use Rattle.gh_ast.specs.Plain.{procedure_of, program_of};
-ghost use Rattle.gh_lens.specs.Settings.{HasLoops};
+ghost use Rattle.std.specs.Prelude.{◌≡◌, IfOk};
+ghost use Rattle.gh_lens.specs.Settings.{HasLoops, OfStep};
 ghost use Rattle.gh_lens.specs.Statements.{statement_text};
-ghost use Rattle.gh_path.specs.Graphs as graph;
-ghost use Rattle.gh_path.specs.Kept.{AreSteps, IsStep};
 ghost use Rattle.gh_scene.specs.Rows as told;
 
 use crate::notes::{aside, note};
@@ -23,7 +20,7 @@ use std::alloc::{AllocError, Global};
 // The statement of a step, with its line.
 fn statement(alloc: Global, setting: Setting<'_>, step: &PathStep) -> Result<Text, AllocError>
     requires { HasLoops setting }
-    ensures { IfOk result (λ t. (s : graph.PathStep) → IsStep (program_of setting.entry.typed.now) (procedure_of setting.entry.procedure.now) step.now s → t ≡ statement_text s) }
+    ensures { IfOk result (λ t. OfStep setting.entry step.now (λ s. t ≡ statement_text s)) }
 {
     let mut text = Text::new(alloc);
     push_line(alloc, &mut text, step_place(setting.loops, step))?;
@@ -60,7 +57,7 @@ fn step_row(
     spare: &Heap,
 ) -> Result<Row, AllocError>
     requires { HasLoops setting }
-    ensures { IfOk result (λ r. (s : graph.PathStep) → IsStep (program_of setting.entry.typed.now) (procedure_of setting.entry.procedure.now) step.now s → told.IsRowOf (program_of setting.entry.typed.now) s before.now after.now spare.now r) }
+    ensures { IfOk result (told.IsRowFor setting.entry step.now before.now after.now spare.now) }
 {
     let exchange = handed(alloc, setting, step, before, after)?;
     let apart = aside(alloc, &exchange)?;
@@ -98,7 +95,7 @@ pub fn push_rows(
     spare: &Heap,
 ) -> Result<(), AllocError>
     requires { HasLoops setting }
-    ensures { IfOk result (λ _. (ss : List graph.PathStep) → AreSteps (program_of setting.entry.typed.now) (procedure_of setting.entry.procedure.now) steps.now ss → told.AddsRows (program_of setting.entry.typed.now) ss states.now spare.now rows.old.items rows.new.items) }
+    ensures { IfOk result (λ _. told.AddsRowsFor setting.entry steps.now states.now spare.now rows.old.items rows.new.items) }
 {
     let Some((step, later)) = steps.split_first() else {
         return Ok(());

@@ -1,9 +1,9 @@
 //! The scene of a drawing.
 
-ghost use Rattle.std.specs.Prelude.{◌≡◌, ◌∷◌, List, map, IfOk};
+ghost use Rattle.std.specs.Prelude.{◌≡◌, ◌∷◌, map, IfOk};
 ghost use Rattle.gh_ast.specs.Plain.{procedure_of, program_of};
 ghost use Rattle.gh_draw.specs.Kept.{HasMeaning};
-ghost use Rattle.gh_lens.specs.Settings.{HasLoops};
+ghost use Rattle.gh_lens.specs.Settings.{HasLoops, whole};
 ghost use Rattle.gh_path.specs.Admitted.{IsAdmitted};
 ghost use Rattle.gh_path.specs.Conditions as plain;
 ghost use Rattle.gh_path.specs.Kept.{StandsFor};
@@ -58,7 +58,7 @@ fn scene(
     requires meaning { HasMeaning (program_of setting.typed.now) condition.now }
     requires own { (c : plain.Condition) → StandsFor (program_of setting.typed.now) condition.now c → c.procedure ≡ procedure_of setting.procedure.now }
     requires parts { states.now ≡ first.now ∷ others.now }
-    ensures { IfOk result (λ s. (c : plain.Condition) → StandsFor (program_of setting.entry.typed.now) condition.now c → told.IsSceneOver (program_of setting.entry.typed.now) c first.now others.now s) }
+    ensures { IfOk result (told.IsSceneFor (whole setting.entry) condition.now first.now others.now) }
 {
     let title = describe(alloc, setting.typed, condition)?;
     let rest = spare(alloc, setting, &condition.check.kind, last(first, others))?;
@@ -82,7 +82,7 @@ fn shown(
 ) -> Result<Scene, AllocError>
     requires meaning { HasMeaning (program_of typed.now) condition.now }
     requires parts { states.now ≡ first.now ∷ others.now }
-    ensures { IfOk result (λ s. (c : plain.Condition) → StandsFor (program_of typed.now) condition.now c → told.IsSceneOver (program_of typed.now) c first.now others.now s) }
+    ensures { IfOk result (told.IsSceneFor (program_of typed.now) condition.now first.now others.now) }
 {
     let Some(procedure) = procedure_at(typed, condition.procedure) else {
         unreachable!();

@@ -1,14 +1,10 @@
 // What is left over where the check at the end of a path fails.
 
-ghost use Rattle.std.specs.Prelude.{◌≡◌, map, IfOk, IfSome, IfNone};
-ghost use Rattle.gh_ast.specs.Plain.{formula_of, procedure_of, program_of};
+ghost use Rattle.std.specs.Prelude.{map, IfOk, IfSome, IfNone};
+ghost use Rattle.gh_ast.specs.Plain.{formula_of};
 ghost use Rattle.gh_assert.specs.Stores.{store_of};
-ghost use Rattle.gh_base.specs.declared.place.Span.{Span};
 ghost use Rattle.gh_lens.specs.Settings.{HasLoops};
 ghost use Rattle.gh_lens.specs.Takings.{conjuncts as conjuncts_of, Leaves};
-ghost use Rattle.gh_path.specs.Graphs as graph;
-ghost use Rattle.gh_path.specs.Kept.{IsKind, IsLoop};
-ghost use Rattle.gh_trace.specs.Kept.{state_of};
 ghost use Rattle.gh_scene.specs.Spare as told;
 
 use gh_assert::heap::Heap;
@@ -63,7 +59,7 @@ fn left_of_round(
     state: &State,
 ) -> Result<Heap, AllocError>
     requires { HasLoops setting }
-    ensures { IfOk result (λ h. (l : graph.Loop) → IsLoop (procedure_of setting.entry.procedure.now) number l → told.IsSpare (graph.loop_end l) (state_of state.now) h) }
+    ensures { IfOk result (told.IsSpareOfRound setting.entry number state.now) }
 {
     match setting.round(number) {
         Some(round) => left_over(alloc, &state.store, &state.heap, from_ref(round.invariant)),
@@ -79,7 +75,7 @@ pub fn spare(
     state: &State,
 ) -> Result<Heap, AllocError>
     requires { HasLoops setting }
-    ensures { IfOk result (λ h. (at : Span) (k : graph.Check) → IsKind (program_of setting.entry.typed.now) (procedure_of setting.entry.procedure.now) kind.now at k → told.IsSpare k (state_of state.now) h) }
+    ensures { IfOk result (told.IsSpareAt setting.entry kind.now state.now) }
 {
     match kind {
         CheckKind::Access { .. } => Ok(Heap::new(alloc)),

@@ -66,7 +66,7 @@ pub fn names(alloc: Global, occs: &[Occ]) -> Result<Vec<Name>, AllocError>
 }
 
 /// A test at 1:1.
-#[cycle(test)]
+#[cycle(any_test)]
 fn test(alloc: Global, test: &Cond) -> Result<Cond, AllocError>
     ensures { IfOk result (λ t. test_of t ≡ bare_test (test_of test.now)) }
 {
@@ -83,7 +83,7 @@ fn test(alloc: Global, test: &Cond) -> Result<Cond, AllocError>
 }
 
 /// Some tests at 1:1.
-#[cycle(test)]
+#[cycle(any_test)]
 fn tests(alloc: Global, members: &[Cond]) -> Result<Vec<Cond>, AllocError>
     ensures { IfOk result (λ v. map test_of v.items ≡ map (λ t. bare_test (test_of t)) members.now) }
 {

@@ -70,7 +70,7 @@ fn with_exprs(hash: u64, exprs: &[Expr]) -> u64
 }
 
 // With a test mixed in.
-#[cycle(test)]
+#[cycle(any_test)]
 fn with_test(hash: u64, test: &Cond) -> u64
     ensures { result ≡ plain.with_test hash (test_of test.now) }
 {
@@ -86,7 +86,7 @@ fn with_test(hash: u64, test: &Cond) -> u64
 }
 
 // With the members of a test mixed in.
-#[cycle(test)]
+#[cycle(any_test)]
 fn with_tests(hash: u64, members: &[Cond]) -> u64
     ensures { result ≡ plain.with_tests hash (tests_view members.now) }
 {

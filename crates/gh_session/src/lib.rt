@@ -17,5 +17,3 @@ pub mod reading;
 pub mod same;
 mod separator;
 pub mod session;
-#[cfg(test)]
-mod tests;

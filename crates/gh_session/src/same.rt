@@ -53,7 +53,7 @@ pub fn is_same_expr(one: &Expr, other: &Expr) -> bool
 }
 
 // Whether two tests are one.
-#[cycle(test)]
+#[cycle(any_test)]
 fn is_same_test(one: &Cond, other: &Cond) -> bool
     ensures { IsTrue result ↔ (test_of one.now ≡ test_of other.now) }
 {
@@ -91,7 +91,7 @@ fn is_same_test(one: &Cond, other: &Cond) -> bool
 }
 
 // Whether two lists of tests are one.
-#[cycle(test)]
+#[cycle(any_test)]
 fn are_same_tests(some: &[Cond], others: &[Cond]) -> bool
     ensures { IsTrue result ↔ (map test_of some.now ≡ map test_of others.now) }
 {

@@ -12,7 +12,7 @@ use Rattle.gh_assert.specs.declared.heap.Cell.{Cell}
 use Rattle.gh_ground.specs.Solving.{IsModelOf, IsRefutationOf}
 use Rattle.gh_log.specs.declared.lines.Section.{Section}
 use Rattle.gh_model.specs.BuiltTraces.{stands_at, content_at}
-use Rattle.gh_model.proofs.Building.{stands_apart, other_not, alloc_stands}
+use Rattle.gh_model.proofs.building.Heaps.{stands_apart, other_not, alloc_stands}
 use Rattle.gh_small.specs.Leaders.{leads, allocated_classes}
 use Rattle.gh_small.specs.Bounded.{bounded_by}
 use Rattle.gh_small.specs.Models.{IsModelled, first_heap, IsLower}

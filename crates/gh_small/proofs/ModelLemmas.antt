@@ -11,7 +11,7 @@ use Rattle.gh_small.specs.Fewer.{fewer}
 use Rattle.gh_inst.specs.Instances.{instances}
 use Rattle.gh_inst.specs.Violations.{IsInstanceTrue}
 use Rattle.gh_grass.specs.Truth.{IsEarlier, IsOneBefore}
-use Rattle.gh_model.proofs.ClauseModels.{instance_stays}
+use Rattle.gh_model.proofs.soundness.ClauseModels.{instance_stays}
 use Rattle.gh_small.specs.Laws.{BoundedIsSound, BoundedIsPossible}
 use Rattle.gh_small.proofs.EachLemmas.{all_left, all_right}
 use Rattle.gh_small.proofs.SoundLemmas.{sound}

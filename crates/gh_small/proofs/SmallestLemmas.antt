@@ -20,8 +20,8 @@ use Rattle.gh_trace.specs.declared.state.Trace.{Trace}
 use Rattle.gh_decide.proofs.Parts.{IsGroundOf}
 use Rattle.gh_model.specs.Abstraction.{IsModelOf}
 use Rattle.gh_model.specs.BuiltTraces.{heap_in, built_trace, states_under, versions_along}
-use Rattle.gh_model.specs.Traced.{drawn_over}
-use Rattle.gh_model.proofs.Counterexamples.{built_is_counterexample}
+use Rattle.gh_model.specs.KeptTraces.{drawn_over}
+use Rattle.gh_model.proofs.building.Drawings.{built_is_counterexample}
 use Rattle.gh_small.specs.Models.{IsModel, IsFewest, IsLowest}
 use Rattle.gh_small.specs.Smallest.{first_cells, IsLeast, IsSmallest}
 use Rattle.gh_small.specs.declared.descent.Fewest.{Fewest}

@@ -10,9 +10,9 @@ use Rattle.gh_symb.specs.Symbolic.{symbolic_of}
 use Rattle.gh_symb.specs.Formulas.{problem}
 use Rattle.gh_log.proofs.SectionLemmas.{refute}
 use Rattle.gh_trace.specs.Traces.{State}
-use Rattle.gh_model.specs.Depicted.{IsHeapDepicted, AreHeapsDepicted}
-use Rattle.gh_model.proofs.TraceValues.{values_exist}
-use Rattle.gh_model.proofs.Depicted.{traces_are_depicted}
+use Rattle.gh_model.specs.Depictions.{IsHeapDepicted, AreHeapsDepicted}
+use Rattle.gh_model.proofs.soundness.TraceValues.{values_exist}
+use Rattle.gh_model.proofs.soundness.Depiction.{traces_are_depicted}
 use Rattle.gh_small.specs.Leaders.{allocated_classes}
 use Rattle.gh_small.specs.Bounded.{bounded_by}
 use Rattle.gh_small.specs.Laws.{SmallTracesAreModels, SectionsShowLeast}

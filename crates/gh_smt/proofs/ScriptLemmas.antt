@@ -21,8 +21,8 @@ use Rattle.gh_symb.specs.Formulas.{problem}
 use Rattle.gh_trace.specs.Traces.{State}
 use Rattle.gh_trace.specs.Validity.{AreCounterexample}
 use Rattle.gh_model.specs.BuiltTraces.{built_trace}
-use Rattle.gh_model.proofs.Locality.{locality_holds}
-use Rattle.gh_model.proofs.ClauseModels.{traces_give_models}
+use Rattle.gh_model.proofs.locality.Traces.{locality_holds}
+use Rattle.gh_model.proofs.soundness.ClauseModels.{traces_give_models}
 use Rattle.gh_log.proofs.NumberLemmas.{all_before, all_after}
 use Rattle.gh_smt.specs.Scripts.{script_of}
 use Rattle.gh_smt.specs.Meaning.{IsAssertionTrue, IsSatisfiable}

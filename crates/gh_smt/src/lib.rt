@@ -9,6 +9,4 @@ mod literals;
 pub mod making;
 pub mod reading;
 pub mod script;
-#[cfg(test)]
-mod tests;
 pub mod writing;

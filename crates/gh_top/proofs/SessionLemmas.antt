@@ -27,6 +27,7 @@ use Rattle.gh_session.specs.Pieces.{whole}
 use Rattle.gh_draw.specs.Drawings.{line}
 use Rattle.gh_top.specs.Answering.{kept_essences, IsVerdictOn, IsAnswerOn}
 use Rattle.gh_top.specs.Checks.{IsProgramVerdict, all_valid, some_refuted, IsCheckText, of_refusal, of_verdict}
+use Rattle.gh_top.specs.Lines.{verified_line}
 use Rattle.gh_top.specs.Refusals.{IsText, IsRefused, refusal_text}
 use Rattle.gh_top.specs.Reports.{IsRefutation, verified_text}
 use Rattle.gh_top.specs.Sessions.{most_edited, AreAsked, to_last, to_first, IsKeptToo, IsCounted, of_refused, of_decided, texts_after, answer_line, AreAnswers, no_more, one_more, IsSessionRefusal, absent, too_long, IsSessionReport, IsSessionAnswer, file_refused, file_answered}
@@ -37,7 +38,7 @@ use Rattle.gh_top.specs.declared.status.Status.TheVariants.{Verified, Refuted, L
 -- the verdict
 
 pub is_verified : (P : Program) (n : ℕ) (s : Status) (u : List ℕ) → ListedAreValid P → n ≡ length (conditions P) → s ≡ Verified
-    → u ≡ line (codes "verified: " ++ decimal n ++ codes " of " ++ decimal n ++ codes " valid") → IsProgramVerdict P s u
+    → u ≡ verified_line n → IsProgramVerdict P s u
 is_verified P n s u v count a b = rw (a, b, count) (all_valid v)
 
 pub is_refuted : (P : Program) (s : Status) (u : List ℕ) → s ≡ Refuted → IsRefutation P u → IsProgramVerdict P s u

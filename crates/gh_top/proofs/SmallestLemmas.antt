@@ -29,6 +29,7 @@ use Rattle.gh_small.specs.Smallest.{first_cells, IsSmallest}
 use Rattle.gh_small.specs.declared.found.Smallest.{Smallest}
 use Rattle.gh_log.specs.declared.lines.Log.{Log}
 use Rattle.gh_top.specs.Headline.{smallest_verified, smallest_refuted}
+use Rattle.gh_top.specs.Lines.{verified_line, smallest_line}
 use Rattle.gh_top.specs.Replies.{Replies}
 use Rattle.gh_top.specs.Smallests.{cells_at_first, IsBoundText, no_cell, some_cells, section_text, IsSmallestReport}
 use Rattle.gh_top.specs.declared.words.Request.TheVariants as request
@@ -84,7 +85,7 @@ assembled front d e shown bound first second third fourth a b c f = rw (f, c, b,
 -- the pieces of the report make it up
 pub reported : (P : Program) (k n : ℕ) (s : Smallest) (r : kept.Condition) (front d shown bound first second third fourth : List ℕ) → IsTyped P → IsFirst P k s.trace → IsNumbered P k (Some r) → IsSmallest P r s
     → All HasValues s.trace.states.items → n ≡ length (conditions P)
-    → front ≡ line (codes "smallest: condition " ++ decimal k ++ codes " of " ++ decimal n ++ codes ", " ++ decimal s.cells ++ codes " cells")
+    → front ≡ smallest_line k n s.cells
     → Describes P r d → shown ≡ drawing_text k s.trace.states.items → bound ≡ section_text s.section
     → first ≡ front ++ d → second ≡ first ++ codes "\n" → third ≡ second ++ shown → fourth ≡ third ++ bound → IsSmallestReport P fourth
 reported P k n s r front d shown bound first second third fourth typed f there is values count begun described told_by bounded a b e g =
@@ -110,13 +111,13 @@ reported P k n s r front d shown bound first second third fourth typed f there i
       text_is =
           assembled front d (codes "\n") shown bound first second third fourth a b e g
           ∙ ap (λ z. (z ++ (d ++ codes "\n") ++ shown) ++ bound) begun
-          ∙ ap (λ m. (line (codes "smallest: condition " ++ decimal k ++ codes " of " ++ decimal m ++ codes ", " ++ decimal s.cells ++ codes " cells") ++ (d ++ codes "\n") ++ shown) ++ bound) count
-          ∙ ap (λ z. (line (codes "smallest: condition " ++ decimal k ++ codes " of " ++ decimal (length (conditions P)) ++ codes ", " ++ decimal s.cells ++ codes " cells") ++ (z ++ codes "\n") ++ shown) ++ bound) text
-          ∙ ap (λ z. (line (codes "smallest: condition " ++ decimal k ++ codes " of " ++ decimal (length (conditions P)) ++ codes ", " ++ decimal s.cells ++ codes " cells") ++ line (description c) ++ z) ++ bound) (told_by ∙ told.text);
+          ∙ ap (λ m. (smallest_line k m s.cells ++ (d ++ codes "\n") ++ shown) ++ bound) count
+          ∙ ap (λ z. (smallest_line k (length (conditions P)) s.cells ++ (z ++ codes "\n") ++ shown) ++ bound) text
+          ∙ ap (λ z. (smallest_line k (length (conditions P)) s.cells ++ line (description c) ++ z) ++ bound) (told_by ∙ told.text);
     }
 
 pub smallest_valid : (P : Program) (n : ℕ) (log : Log) (s : Status) (u : List ℕ) → IsVerified P log → n ≡ length (conditions P) → s ≡ Verified
-    → u ≡ line (codes "verified: " ++ decimal n ++ codes " of " ++ decimal n ++ codes " valid") → (file : List ℕ) → Replies (request.Smallest file) P s u
+    → u ≡ verified_line n → (file : List ℕ) → Replies (request.Smallest file) P s u
 smallest_valid P n log s u v count a b file words files asks = rw (a, b, count) (smallest_verified asks v.valid)
 
 pub smallest_fails : (P : Program) (s : Status) (u : List ℕ) → s ≡ Refuted → IsSmallestReport P u → (file : List ℕ) → Replies (request.Smallest file) P s u

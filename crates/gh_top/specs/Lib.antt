@@ -7,6 +7,7 @@ pub mod Fronts
 pub mod Headline
 pub mod Laws
 pub mod Listed
+pub mod Lines
 pub mod Listings
 pub mod Rechecks
 pub mod Reads

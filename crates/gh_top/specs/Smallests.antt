@@ -1,6 +1,5 @@
 -- The report on a counterexample with the fewest cells in its first heap.
-use Rattle.std.specs.Prelude.{◌≡◌, ℕ, ◌<◌, List, [], ◌∷◌, ◌++◌, length, codes, Option, Some, None}
-use Rattle.std.specs.Fmt.{decimal}
+use Rattle.std.specs.Prelude.{◌≡◌, ℕ, ◌<◌, List, [], ◌∷◌, ◌++◌, length, Option, Some, None}
 use Rattle.std.specs.FinMap.{len}
 use Rattle.gh_ast.specs.Plain.{Program}
 use Rattle.gh_ast.specs.Programs.{variable_names}
@@ -17,6 +16,7 @@ use Rattle.gh_draw.specs.Descriptions.{description}
 use Rattle.gh_draw.specs.Drawings.{line, drawing}
 use Rattle.gh_small.specs.Bounded.{bounded_by}
 use Rattle.gh_small.specs.Smallest.{IsLeast}
+use Rattle.gh_top.specs.Lines.{smallest_line}
 use Rattle.gh_top.specs.Reports.{IsFirstRefuted}
 
 -- how many cells the first heap has
@@ -27,8 +27,7 @@ cells_at_first (x ∷ xs) = len x.heap
 -- the number, the cells, the description and the drawing
 abbrev pub smallest_text : Program → ℕ → ℕ → Condition → List State → List ℕ
 smallest_text P k cells c xs =
-    line (codes "smallest: condition " ++ decimal k ++ codes " of " ++ decimal (length (conditions P)) ++ codes ", " ++ decimal cells ++ codes " cells")
-    ++ line (description c) ++ drawing k (variable_names c.procedure) xs
+    smallest_line k (length (conditions P)) cells ++ line (description c) ++ drawing k (variable_names c.procedure) xs
 
 -- the text of a log of version 2 whose one section is valid for the condition's clauses with the bound; nothing where there is no cell
 pub data IsBoundText (P : Program) (c : Condition) : ℕ → List ℕ → Type 0 where

@@ -1,11 +1,11 @@
 //! The mode `run`: a concrete run of a program from a state file.
 
-ghost use Rattle.std.specs.Prelude.{◌≡◌, ◌≤◌, ◌++◌, IfOk, Some, Option, List, ℕ, length, codes};
+ghost use Rattle.std.specs.Prelude.{◌≡◌, ◌≤◌, ◌++◌, IfOk, length, codes};
 ghost use Rattle.std.specs.Fmt.{decimal};
 ghost use Rattle.gh_ast.specs.Plain.{program_of};
 ghost use Rattle.gh_draw.specs.Drawings.{line};
-ghost use Rattle.gh_top.specs.Files.{Shows, IsWithin};
-ghost use Rattle.gh_top.specs.Replies.{RepliesOn};
+ghost use Rattle.gh_top.specs.Files.{IsWithin};
+ghost use Rattle.gh_top.specs.Replies.{RepliesOnText, RepliesShown};
 ghost use Rattle.gh_top.specs.Runs.{most_stated, with_state, IsRunReport};
 ghost use Rattle.gh_top.specs.declared.words.Request.TheVariants.{Run};
 
@@ -96,7 +96,7 @@ fn state_file_report(
 ) -> Result<Report, AllocError>
     requires short { length text.now ≤ most_stated }
     requires limit { number ≤ 1000000 }
-    ensures { IfOk result (λ r. (file state : List ℕ) → RepliesOn (Run file state number) (program_of admitted.now) (Some text.now) r.status r.text) }
+    ensures { IfOk result (λ r. RepliesOnText (λ file state. Run file state number) (program_of admitted.now) text.now r.status r.text) }
 {
     let typed = admitted.typed();
     let begin = match read_state(alloc, typed, text) {
@@ -117,7 +117,7 @@ pub fn simulate(
 ) -> Result<Report, AllocError>
     requires within { IsWithin most_stated state.now }
     requires limit { number ≤ 1000000 }
-    ensures { IfOk result (λ r. (bytes : Option (List ℕ)) → Shows most_stated bytes state.now → (file name : List ℕ) → RepliesOn (Run file name number) (program_of admitted.now) bytes r.status r.text) }
+    ensures { IfOk result (λ r. RepliesShown (λ file name. Run file name number) (program_of admitted.now) most_stated state.now r.status r.text) }
 {
     match state {
         FileText::Absent => refused(alloc, "refused: state Absent"),

@@ -102,6 +102,18 @@ pub at_end : (P : Program) (p : Procedure) (rs : List kept_step.PathStep) (x : S
     → Follows P p rs x ys [] x' (map drawn (drop i others)) i
 at_end P p rs x ys x' others i end follows = subst (λ z. Follows P p rs x ys z x' (map drawn (drop i others)) i) (drop_all i rs end) follows
 
+-- past the last step, with as many states as steps
+pub record IsPast (P : Program) (p : Procedure) (rs : List kept_step.PathStep) (x : State) (others : List kept_state.State) (x' : State) (i n : ℕ) : Type 0 where
+  pub count : i ≡ n
+  pub follows : Follows P p rs x (map drawn others) [] x' (map drawn (drop i others)) i
+
+pub past : (P : Program) (p : Procedure) (rs : List kept_step.PathStep) (x : State) (others : List kept_state.State) (x' : State) (i n : ℕ) (zs : List kept_step.PathStep) (len : ℕ)
+    → zs ≡ rs → length zs ≡ len → length zs ≤ i → i ≤ length zs → n ≡ len → Follows P p rs x (map drawn others) (drop i rs) x' (map drawn (drop i others)) i → IsPast P p rs x others x' i n
+past P p rs x others x' i n zs len same whole far within all follows = record {
+  count = omega (arith, whole, far, within, all);
+  follows = at_end P p rs x (map drawn others) x' others i (subst (λ ys. length ys ≤ i) same far) follows;
+}
+
 pub some_state : (others : List kept_state.State) (i : ℕ) (y : kept_state.State) → i < length others → y ≡ get_or others i y → map drawn (drop i others) ≡ drawn y ∷ map drawn (drop (i + 1) others)
 some_state others i y within is = ap (map drawn) (next others i y within is)
 

@@ -5,6 +5,7 @@ pub mod Lefts
 pub mod Besides
 pub mod Listings
 pub mod StepLemmas
+pub mod KeptSteps
 pub mod Insides
 pub mod CallLemmas
 pub mod Following

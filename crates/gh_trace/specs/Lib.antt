@@ -7,4 +7,5 @@ pub mod Parts
 pub mod Targets
 pub mod Scenes
 pub mod Rest
+pub mod Decisions
 pub mod Laws

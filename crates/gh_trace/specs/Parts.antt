@@ -2,7 +2,7 @@
 use Rattle.std.specs.Prelude.{◌≡◌}
 use Rattle.gh_ast.specs.Plain.{Procedure, formula_of}
 use Rattle.gh_assert.specs.Heaps.{Heap}
-use Rattle.gh_assert.specs.Meaning.{Store, Meaning, MeetsOneOf}
+use Rattle.gh_assert.specs.Meaning.{Store, Meaning, HasPart, MeetsOneOf}
 use Rattle.gh_assert.specs.Stores.{store_of}
 use Rattle.gh_trace.specs.declared.parts.Part.{Part}
 use Rattle.gh_trace.specs.Traces.{State, Replaced}
@@ -10,6 +10,10 @@ use Rattle.gh_trace.specs.Traces.{State, Replaced}
 -- the heap meets the assertion
 abbrev pub Meets : Part → Heap → Type 0
 Meets p h = Meaning (formula_of p.assertion.now) (store_of p.store.now) h
+
+-- some part of p's heap meets its assertion
+abbrev pub HasMet : Part → Type 0
+HasMet p = HasPart (formula_of p.assertion.now) (store_of p.store.now) p.heap.now
 
 -- in p's heap a part that meets its assertion gives way to one of which Q holds; the rest stays
 abbrev pub GivesWay : Part → (Heap → Type 0) → Heap → Type 0

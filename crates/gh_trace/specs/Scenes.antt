@@ -1,13 +1,22 @@
 -- The procedure that a condition is of, with its loops.
-use Rattle.std.specs.Prelude.{◌≡◌, ◌≢◌, ◌++◌, map, AllPairs}
-use Rattle.gh_ast.specs.Plain.{procedure_of, Procedure}
-use Rattle.gh_ast.specs.Programs.{parameters_of, results_of}
+use Rattle.std.specs.Prelude.{◌≡◌, ◌≢◌, ◌++◌, List, map, AllPairs}
+use Rattle.gh_ast.specs.Plain.{procedure_of, program_of, Procedure, Program}
+use Rattle.gh_ast.specs.Programs.{Name, parameters_of, results_of, variable_names}
 use Rattle.gh_path.specs.Graphs.{loops_of}
 use Rattle.gh_path.specs.Walking.{loop_of}
 use Rattle.gh_trace.specs.declared.scene.Scene.{Scene}
 
+abbrev pub scene_program : Scene → Program
+scene_program s = program_of s.typed.now
+
+abbrev pub scene_procedure : Scene → Procedure
+scene_procedure s = procedure_of s.procedure.now
+
+abbrev pub scene_variables : Scene → List Name
+scene_variables s = variable_names (scene_procedure s)
+
 abbrev pub HasLoops : Scene → Type 0
-HasLoops s = map loop_of s.loops.now ≡ loops_of (procedure_of s.procedure.now)
+HasLoops s = map loop_of s.loops.now ≡ loops_of (scene_procedure s)
 
 -- no two parameters or results have one name
 abbrev pub HasDistinctNames : Procedure → Type 0

@@ -1,18 +1,14 @@
 //! Whether a state meets the start of a path, and whether it passes a check.
 
 ghost use Rattle.std.specs.Prelude.{◌≡◌, ◌↔◌, IfOk, IfNone, IfSome, IsTrue};
-ghost use Rattle.gh_base.specs.declared.place.Span.{Span};
-ghost use Rattle.gh_ast.specs.declared.Occ.{Occ};
-ghost use Rattle.gh_ast.specs.Plain.{formula_of, procedure_of, program_of, Program};
+ghost use Rattle.gh_ast.specs.Plain.{formula_of, procedure_of};
 ghost use Rattle.gh_path.specs.Graphs as graph;
-ghost use Rattle.gh_path.specs.Kept.{IsCallee, IsLoop, IsStart, IsKind};
+ghost use Rattle.gh_path.specs.Kept.{IsStart};
 ghost use Rattle.gh_trace.specs.Parts.{IsReturned};
-ghost use Rattle.gh_trace.specs.Traces.{Passes};
-ghost use Rattle.gh_trace.specs.Replay.{Begins};
-ghost use Rattle.gh_ast.specs.Programs.{variable_names};
 ghost use Rattle.gh_assert.specs.Stores.{listed_names};
-ghost use Rattle.gh_trace.specs.Kept.{state_of, drawn};
-ghost use Rattle.gh_trace.specs.Scenes.{HasLoops};
+ghost use Rattle.gh_trace.specs.Kept.{state_of};
+ghost use Rattle.gh_trace.specs.Scenes.{HasLoops, scene_procedure, scene_variables};
+ghost use Rattle.gh_trace.specs.Decisions.{DecidesStart, DecidesEntry, DecidesLoopCheck, DecidesCheck};
 
 use crate::parts::{Part, has_part};
 use crate::scene::{Scene, procedure_at};
@@ -27,8 +23,8 @@ use std::alloc::{AllocError, Global};
 // What the first heap of a path meets.
 fn start_assertion<'t>(scene: Scene<'t>, start: Start) -> Option<&'t Assertion>
     requires { HasLoops scene }
-    ensures some { IfSome result (λ f. (a : graph.Start) → IsStart (procedure_of scene.entry.procedure.now) start a → a.meets ≡ formula_of f.now) }
-    ensures none { IfNone result ((a : graph.Start) → IsStart (procedure_of scene.entry.procedure.now) start a → ⊥) }
+    ensures some { IfSome result (λ f. (a : graph.Start) → IsStart (scene_procedure scene.entry) start a → a.meets ≡ formula_of f.now) }
+    ensures none { IfNone result ((a : graph.Start) → IsStart (scene_procedure scene.entry) start a → ⊥) }
 {
     match start {
         Start::Entry => Some(&scene.procedure.needs),
@@ -47,8 +43,8 @@ pub fn begins(
     state: &State,
 ) -> Result<bool, AllocError>
     requires { HasLoops scene }
-    ensures begins { IfOk result (λ b. (a : graph.Start) → IsStart (procedure_of scene.entry.procedure.now) start a → IsTrue b ↔ Begins (variable_names (procedure_of scene.entry.procedure.now)) a.meets (drawn state.now)) }
-    ensures over { IfOk result (λ b. IsTrue b → listed_names state.now.store ≡ variable_names (procedure_of scene.entry.procedure.now)) }
+    ensures begins { IfOk result (DecidesStart scene.entry start state.now) }
+    ensures over { IfOk result (λ b. IsTrue b → listed_names state.now.store ≡ scene_variables scene.entry) }
 {
     let Some(assertion) = start_assertion(scene, start) else {
         return Ok(false);
@@ -68,7 +64,7 @@ fn is_entered(
     arguments: &[Expr],
     state: &State,
 ) -> Result<bool, AllocError>
-    ensures { IfOk result (λ b. (f : Occ) → IsCallee (program_of scene.entry.typed.now) callee f.name → IsTrue b ↔ Passes (program_of scene.entry.typed.now) (graph.entry f arguments.now) (state_of state.now)) }
+    ensures { IfOk result (DecidesEntry scene.entry callee arguments.now state.now) }
 {
     let Some(callee) = procedure_at(scene.typed, callee) else {
         return Ok(true);
@@ -98,7 +94,7 @@ fn is_loop_entered(
     state: &State,
 ) -> Result<bool, AllocError>
     requires { HasLoops scene }
-    ensures { IfOk result (λ b. (l : graph.Loop) → IsLoop (procedure_of scene.entry.procedure.now) number l → (P : Program) → IsTrue b ↔ Passes P (graph.loop_entry l) (state_of state.now)) }
+    ensures { IfOk result (DecidesLoopCheck scene.entry number graph.loop_entry state.now) }
 {
     let Some(round) = scene.round(number) else {
         return Ok(true);
@@ -121,7 +117,7 @@ fn is_loop_ended(
     state: &State,
 ) -> Result<bool, AllocError>
     requires { HasLoops scene }
-    ensures { IfOk result (λ b. (l : graph.Loop) → IsLoop (procedure_of scene.entry.procedure.now) number l → (P : Program) → IsTrue b ↔ Passes P (graph.loop_end l) (state_of state.now)) }
+    ensures { IfOk result (DecidesLoopCheck scene.entry number graph.loop_end state.now) }
 {
     let Some(round) = scene.round(number) else {
         return Ok(true);
@@ -144,7 +140,7 @@ pub fn passes(
     state: &State,
 ) -> Result<bool, AllocError>
     requires { HasLoops scene }
-    ensures { IfOk result (λ b. (at : Span) (k : graph.Check) → IsKind (program_of scene.entry.typed.now) (procedure_of scene.entry.procedure.now) kind.now at k → IsTrue b ↔ Passes (program_of scene.entry.typed.now) k (state_of state.now)) }
+    ensures { IfOk result (DecidesCheck scene.entry kind.now state.now) }
 {
     match kind {
         CheckKind::Access { at } => Ok(state.heap.get(value(&state.store, at)).is_some()),

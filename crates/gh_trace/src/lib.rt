@@ -12,5 +12,3 @@ pub mod state;
 mod steps;
 mod stores;
 mod targets;
-#[cfg(test)]
-mod worked;

@@ -1,11 +1,10 @@
 //! A part of a heap that gives way to another.
 
 ghost use Rattle.std.specs.Prelude.{◌↔◌, IfOk, IfSome, IfNone, IsTrue};
-ghost use Rattle.gh_ast.specs.Plain.{formula_of, procedure_of};
+ghost use Rattle.gh_ast.specs.Plain.{procedure_of};
 ghost use Rattle.gh_assert.specs.Heaps.{Heap};
-ghost use Rattle.gh_assert.specs.Meaning.{HasPart};
 ghost use Rattle.gh_assert.specs.Stores.{store_of};
-ghost use Rattle.gh_trace.specs.Parts.{Meets, GivesWay, Stands, IsAnswered};
+ghost use Rattle.gh_trace.specs.Parts.{Meets, GivesWay, Stands, IsAnswered, HasMet};
 
 use crate::heaps::outside_frame;
 use gh_assert::heap::Heap;
@@ -24,7 +23,7 @@ pub struct Part<'t> {
 
 /// Whether some part of the heap meets the assertion.
 pub fn has_part(alloc: Global, part: Part<'_>) -> Result<bool, AllocError>
-    ensures { IfOk result (λ b. IsTrue b ↔ HasPart (formula_of part.entry.assertion.now) (store_of part.entry.store.now) part.entry.heap.now) }
+    ensures { IfOk result (λ b. IsTrue b ↔ HasMet part.entry) }
 {
     let places = footprint(alloc, part.store, part.heap, part.assertion)?;
     Ok(places.is_some())

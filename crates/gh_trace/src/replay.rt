@@ -1,15 +1,11 @@
 //! Whether a trace is a counterexample of a condition.
 
-ghost use Rattle.std.specs.Prelude.{◌≡◌, ◌≤◌, ◌↔◌, IfErr, IfOk, OnOk, IsTrue, length, map};
-ghost use Rattle.gh_ast.specs.Plain.{procedure_of, program_of};
-ghost use Rattle.gh_ast.specs.Programs.{variable_names};
+ghost use Rattle.std.specs.Prelude.{◌≡◌, ◌≤◌, IfErr, IfOk, OnOk, IsTrue, length};
+ghost use Rattle.gh_ast.specs.Plain.{program_of};
 ghost use Rattle.gh_assert.specs.Stores.{listed_names};
-ghost use Rattle.gh_path.specs.Graphs as graph;
-ghost use Rattle.gh_path.specs.Kept.{IsStep};
-ghost use Rattle.gh_trace.specs.Replay.{LeadsTo};
-ghost use Rattle.gh_trace.specs.Kept.{state_of, drawn, drawn_of, IsRefuted, IsFailure};
-ghost use Rattle.gh_trace.specs.Rest.{IsRefutedAfter, IsFailureAfter};
-ghost use Rattle.gh_trace.specs.Scenes.{HasLoops};
+ghost use Rattle.gh_trace.specs.Kept.{drawn_of, IsRefuted, IsFailure};
+ghost use Rattle.gh_trace.specs.Scenes.{HasLoops, scene_variables};
+ghost use Rattle.gh_trace.specs.Decisions.{DecidesNext, IsRefutedIn, IsFailureIn};
 
 use crate::checks::{begins, passes};
 use crate::scene::{Scene, procedure_at};
@@ -65,9 +61,9 @@ fn is_next(
     after: &State,
 ) -> Result<bool, AllocError>
     requires loops { HasLoops scene }
-    requires over { listed_names before.now.store ≡ variable_names (procedure_of scene.procedure.now) }
-    ensures next { IfOk result (λ b. (s : graph.PathStep) → IsStep (program_of scene.entry.typed.now) (procedure_of scene.entry.procedure.now) step.now s → IsTrue b ↔ LeadsTo (program_of scene.entry.typed.now) (variable_names (procedure_of scene.entry.procedure.now)) s (state_of before.now) (drawn after.now)) }
-    ensures over { IfOk result (λ b. IsTrue b → listed_names after.now.store ≡ variable_names (procedure_of scene.entry.procedure.now)) }
+    requires over { listed_names before.now.store ≡ scene_variables scene }
+    ensures next { IfOk result (DecidesNext scene.entry step.now before.now after.now) }
+    ensures over { IfOk result (λ b. IsTrue b → listed_names after.now.store ≡ scene_variables scene.entry) }
 {
     if !is_over(&after.store, scene.procedure) {
         return Ok(false);
@@ -85,9 +81,9 @@ fn walk(
 ) -> Result<(), ReplayError>
     requires loops { HasLoops scene }
     requires few { length condition.now.steps.items ≤ 256 }
-    requires over { listed_names first.now.store ≡ variable_names (procedure_of scene.procedure.now) }
-    ensures refuted { OnOk result (IsRefutedAfter (program_of scene.entry.typed.now) (procedure_of scene.entry.procedure.now) condition.now (state_of first.now) (map drawn others.now)) }
-    ensures failed { IfErr result (IsFailureAfter (program_of scene.entry.typed.now) (procedure_of scene.entry.procedure.now) condition.now (state_of first.now) (map drawn others.now)) }
+    requires over { listed_names first.now.store ≡ scene_variables scene }
+    ensures refuted { OnOk result (IsRefutedIn scene.entry condition.now first.now others.now) }
+    ensures failed { IfErr result (IsFailureIn scene.entry condition.now first.now others.now) }
 {
     let mut before = first;
     for (i, step) in condition.steps.iter().enumerate() {

@@ -3,8 +3,9 @@
 ghost use Rattle.std.specs.Prelude.{◌≡◌, IfNone, IfSome, slice_get, Some, None};
 ghost use Rattle.gh_ast.specs.Plain.{procedure_of, program_of};
 ghost use Rattle.gh_path.specs.Graphs.{loops_of};
+ghost use Rattle.gh_path.specs.Kept.{IsLoop};
 ghost use Rattle.gh_path.specs.Walking.{loop_of};
-ghost use Rattle.gh_trace.specs.Scenes.{HasLoops, HasDistinctNames};
+ghost use Rattle.gh_trace.specs.Scenes.{HasLoops, HasDistinctNames, scene_procedure};
 ghost use Rattle.gh_trace.specs.Laws.{HasOwnNames};
 
 use gh_ast::typed::Typed;
@@ -41,8 +42,8 @@ impl<'t> Scene<'t> {
     /// The loop of a number.
     pub fn round(self, number: u16) -> Option<While<'t>>
         requires { HasLoops self }
-        ensures some { IfSome result (λ w. slice_get (loops_of (procedure_of self.entry.procedure.now)) number ≡ Some (loop_of w)) }
-        ensures none { IfNone result (slice_get (loops_of (procedure_of self.entry.procedure.now)) number ≡ None) }
+        ensures some { IfSome result (λ w. IsLoop (scene_procedure self.entry) number (loop_of w)) }
+        ensures none { IfNone result (slice_get (loops_of (scene_procedure self.entry)) number ≡ None) }
     {
         self.loops.get(usize::from(number)).copied()
     }

@@ -2,14 +2,11 @@
 
 ghost use Rattle.std.specs.Prelude.{◌≡◌, ◌↔◌, IfOk, IsTrue, true};
 ghost use Rattle.gh_ast.specs.declared.Occ.{Occ};
-ghost use Rattle.gh_ast.specs.Plain.{procedure_of, program_of, Program};
 ghost use Rattle.gh_ast.specs.Programs.{results_of};
 ghost use Rattle.gh_path.specs.Graphs as graph;
-ghost use Rattle.gh_path.specs.Kept.{IsCallee, IsLoop, IsStep};
-ghost use Rattle.gh_assert.specs.Stores.{listed_names};
-ghost use Rattle.gh_trace.specs.Traces.{Takes};
 ghost use Rattle.gh_trace.specs.Kept.{state_of, ListsAlike};
-ghost use Rattle.gh_trace.specs.Scenes.{HasLoops};
+ghost use Rattle.gh_trace.specs.Scenes.{HasLoops, scene_procedure};
+ghost use Rattle.gh_trace.specs.Decisions.{DecidesTaken, DecidesCall, DecidesLoop, DecidesStep};
 
 use crate::heaps::is_same_outside;
 use crate::parts::{Part, is_answered, is_replaced};
@@ -37,7 +34,7 @@ fn stays(alloc: Global, before: &State, after: &State) -> Result<bool, AllocErro
 /// The place is allocated, and the state stays.
 pub fn accesses(alloc: Global, at: &Occ, before: &State, after: &State) -> Result<bool, AllocError>
     requires { ListsAlike before.now after.now }
-    ensures { IfOk result (λ b. (P : Program) → IsTrue b ↔ Takes P (graph.accessed at.now) (state_of before.now) (state_of after.now)) }
+    ensures { IfOk result (DecidesTaken (graph.accessed at.now) before.now after.now) }
 {
     let place = value_of(&before.store, at);
     if before.heap.get(place).is_none() {
@@ -56,7 +53,7 @@ pub fn assumes(
     after: &State,
 ) -> Result<bool, AllocError>
     requires { ListsAlike before.now after.now }
-    ensures { IfOk result (λ b. (P : Program) → IsTrue b ↔ Takes P (graph.assume left.now equal right.now true) (state_of before.now) (state_of after.now)) }
+    ensures { IfOk result (DecidesTaken (graph.assume left.now equal right.now true) before.now after.now) }
 {
     let Some(left) = expr_value(&before.store, &before.heap, left) else {
         return Ok(false);
@@ -79,7 +76,7 @@ pub fn assigns(
     after: &State,
 ) -> Result<bool, AllocError>
     requires { ListsAlike before.now after.now }
-    ensures { IfOk result (λ b. (P : Program) → IsTrue b ↔ Takes P (graph.assigned target.now expr.now) (state_of before.now) (state_of after.now)) }
+    ensures { IfOk result (DecidesTaken (graph.assigned target.now expr.now) before.now after.now) }
 {
     let Some(value) = expr_value(&before.store, &before.heap, expr) else {
         return Ok(false);
@@ -105,7 +102,7 @@ pub fn writes(
     after: &State,
 ) -> Result<bool, AllocError>
     requires { ListsAlike before.now after.now }
-    ensures { IfOk result (λ b. (P : Program) → IsTrue b ↔ Takes P (graph.written at.now expr.now) (state_of before.now) (state_of after.now)) }
+    ensures { IfOk result (DecidesTaken (graph.written at.now expr.now) before.now after.now) }
 {
     let place = value_of(&before.store, at);
     let Some(value) = expr_value(&before.store, &before.heap, expr) else {
@@ -126,7 +123,7 @@ pub fn writes(
 /// The variable has a place that was not allocated, and a cell is there.
 pub fn makes(alloc: Global, target: &Occ, before: &State, after: &State) -> Result<bool, AllocError>
     requires { ListsAlike before.now after.now }
-    ensures { IfOk result (λ b. (P : Program) → IsTrue b ↔ Takes P (graph.made target.now) (state_of before.now) (state_of after.now)) }
+    ensures { IfOk result (DecidesTaken (graph.made target.now) before.now after.now) }
 {
     let place = value_of(&after.store, target);
     if place == 0 {
@@ -148,7 +145,7 @@ pub fn makes(alloc: Global, target: &Occ, before: &State, after: &State) -> Resu
 /// The cell at the place is gone.
 pub fn frees(alloc: Global, at: &Occ, before: &State, after: &State) -> Result<bool, AllocError>
     requires { ListsAlike before.now after.now }
-    ensures { IfOk result (λ b. (P : Program) → IsTrue b ↔ Takes P (graph.freed at.now) (state_of before.now) (state_of after.now)) }
+    ensures { IfOk result (DecidesTaken (graph.freed at.now) before.now after.now) }
 {
     let place = value_of(&before.store, at);
     if before.heap.get(place).is_none() {
@@ -172,7 +169,7 @@ fn calls(
     after: &State,
 ) -> Result<bool, AllocError>
     requires { ListsAlike before.now after.now }
-    ensures { IfOk result (λ b. (f : Occ) → IsCallee (program_of scene.entry.typed.now) callee f.name → IsTrue b ↔ Takes (program_of scene.entry.typed.now) (graph.called targets.now f arguments.now) (state_of before.now) (state_of after.now)) }
+    ensures { IfOk result (DecidesCall scene.entry callee targets.now arguments.now before.now after.now) }
 {
     let Some(callee) = procedure_at(scene.typed, callee) else {
         return Ok(false);
@@ -205,7 +202,7 @@ fn goes_around(
 ) -> Result<bool, AllocError>
     requires loops { HasLoops scene }
     requires next { ListsAlike before.now after.now }
-    ensures { IfOk result (λ b. (l : graph.Loop) → IsLoop (procedure_of scene.entry.procedure.now) number l → IsTrue b ↔ Takes (program_of scene.entry.typed.now) (graph.looped l) (state_of before.now) (state_of after.now)) }
+    ensures { IfOk result (DecidesLoop scene.entry number before.now after.now) }
 {
     let Some(round) = scene.round(number) else {
         return Ok(false);
@@ -235,7 +232,7 @@ fn answers(
     after: &State,
 ) -> Result<bool, AllocError>
     requires { ListsAlike before.now after.now }
-    ensures { IfOk result (λ b. (P : Program) → IsTrue b ↔ Takes P (graph.answered (results_of (procedure_of scene.entry.procedure.now)) exprs.now) (state_of before.now) (state_of after.now)) }
+    ensures { IfOk result (DecidesTaken (graph.answered (results_of (scene_procedure scene.entry)) exprs.now) before.now after.now) }
 {
     let Some(given) = values_of(alloc, &before.store, &before.heap, exprs)? else {
         return Ok(false);
@@ -263,7 +260,7 @@ pub fn leads(
 ) -> Result<bool, AllocError>
     requires loops { HasLoops scene }
     requires next { ListsAlike before.now after.now }
-    ensures { IfOk result (λ b. (s : graph.PathStep) → IsStep (program_of scene.entry.typed.now) (procedure_of scene.entry.procedure.now) step.now s → IsTrue b ↔ Takes (program_of scene.entry.typed.now) s (state_of before.now) (state_of after.now)) }
+    ensures { IfOk result (DecidesStep scene.entry step.now before.now after.now) }
 {
     match step {
         PathStep::Access { at } => accesses(alloc, at, before, after),

@@ -11,5 +11,3 @@ pub mod names;
 mod occurrences;
 mod procedures;
 mod scope;
-#[cfg(test)]
-mod tests;

@@ -42,7 +42,7 @@ impl<'a, 'n> Scope<'a, 'n> {
     }
 
     /// The first error in a test.
-    #[cycle(test)]
+    #[cycle(any_test)]
     pub fn in_test(&self, setting: Setting, test: &Cond) -> Option<Fault>
         ensures { IsFirstIn (OccurrenceErrors (procedure_of self.now.own.now) setting) (in_test (test_of test.now)) result }
     {
@@ -57,7 +57,7 @@ impl<'a, 'n> Scope<'a, 'n> {
     }
 
     /// The first error in some tests.
-    #[cycle(test)]
+    #[cycle(any_test)]
     fn in_tests(&self, setting: Setting, tests: &[Cond]) -> Option<Fault>
         ensures { IsFirstIn (OccurrenceErrors (procedure_of self.now.own.now) setting) (in_tests (tests_view tests.now)) result }
     {

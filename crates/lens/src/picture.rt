@@ -83,7 +83,7 @@ fn smallest<R: Print + Eprint + Alloc<A = Global>>(
 }
 
 /// `lens picture FILE DRAWING` and `lens picture FILE`.
-pub fn picture<R: Print + Eprint + Files + Alloc<A = Global>>(
+pub(crate) fn picture<R: Print + Eprint + Files + Alloc<A = Global>>(
     rt: &R,
     file: &str,
     drawing: Option<&str>,

@@ -1,7 +1,7 @@
 use Rattle.std.proofs.Common.{◌++◌, drop}
 use Rattle.gh_ast.specs.Programs.{names}
-use Rattle.gh_model.specs.Traced.{entries_under, store_in}
-use Rattle.gh_model.proofs.Traced.{GoesOn}
+use Rattle.gh_model.specs.KeptTraces.{entries_under, store_in}
+use Rattle.gh_model.proofs.building.Stores.{GoesOn}
 use Rattle.gh_model.proofs.build.add_all.Given as goal
 
 abbrev pub invariant-loop-occurrence : goal.invariant-loop-occurrence

@@ -6,8 +6,8 @@ use Rattle.gh_ast.specs.Rules.{IsTyped}
 use Rattle.gh_ast.proofs.TypedPrograms.{variables_are_distinct}
 use Rattle.gh_symb.proofs.CountLemmas.{its_procedure}
 use Rattle.gh_trace.specs.Kept.{drawn}
-use Rattle.gh_model.specs.Traced.{states_in}
-use Rattle.gh_model.proofs.OverTerms.{are_built, built_is, few_states}
+use Rattle.gh_model.specs.KeptTraces.{states_in}
+use Rattle.gh_model.proofs.building.Traces.{are_built, built_is, few_states}
 use Rattle.gh_model.proofs.build.build.Goals as goal
 
 pub states-requires-clause-few : goal.states-requires-clause-few

@@ -1,6 +1,6 @@
 use Rattle.std.proofs.Common.{◌≡◌, ◌<◌, sym, ◌∙◌, ap, arith}
 use Rattle.gh_base.specs.declared.sizes.Sizes.{Sizes}
-use Rattle.gh_model.proofs.Building.{content_found, content_none}
+use Rattle.gh_model.proofs.building.Heaps.{content_found, content_none}
 use Rattle.gh_model.proofs.build.content.Goals as goal
 
 pub returns-then-holds : goal.returns-then-holds

@@ -1,6 +1,6 @@
 use Rattle.std.proofs.Common.{◌≡◌, ◌<◌, ℕ, false}
 use Rattle.gh_base.specs.Structures.{interpretation_of}
-use Rattle.gh_model.specs.Interpreted.{version_of}
+use Rattle.gh_model.specs.Versions.{version_of}
 use Rattle.gh_model.proofs.build.content.Given as goal
 
 abbrev pub invariant-loop-next : goal.invariant-loop-next

@@ -1,5 +1,5 @@
 use Rattle.std.proofs.Common.{sym, ◌∙◌}
-use Rattle.gh_model.proofs.Building.{other_not, alloc_stands}
+use Rattle.gh_model.proofs.building.Heaps.{other_not, alloc_stands}
 use Rattle.gh_model.proofs.build.stands.Goals as goal
 
 pub returns-then-class-x : goal.returns-then-class-x

@@ -1,8 +1,8 @@
 use Rattle.std.proofs.Common.{sym, ◌∙◌, ap, arith, drop}
 use Rattle.gh_ast.specs.Plain.{procedure_of}
 use Rattle.gh_ast.specs.Programs.{variable_names}
-use Rattle.gh_model.specs.Traced.{after_first}
-use Rattle.gh_model.proofs.Walked.{in_bounds, goes_on, ends_here}
+use Rattle.gh_model.specs.KeptTraces.{after_first}
+use Rattle.gh_model.proofs.building.States.{in_bounds, goes_on, ends_here}
 use Rattle.gh_model.proofs.build.states.Goals as goal
 
 pub state-requires-clause-version : goal.state-requires-clause-version

@@ -1,7 +1,7 @@
 use Rattle.std.proofs.Common.{length, ◌-◌}
 use Rattle.gh_ast.specs.Plain.{procedure_of}
 use Rattle.gh_ast.specs.Programs.{variable_names}
-use Rattle.gh_model.proofs.Walked.{IsWalk}
+use Rattle.gh_model.proofs.building.States.{IsWalk}
 use Rattle.gh_model.proofs.build.states.Given as goal
 
 abbrev pub invariant-loop-binding : goal.invariant-loop-binding

@@ -2,8 +2,8 @@ use Rattle.std.proofs.Common.{◌≡◌, ◌++◌, ◌∙◌, sym, ap, subst}
 use Rattle.gh_ast.specs.Plain.{procedure_of}
 use Rattle.gh_ast.specs.Programs.{names, parameters_of, results_of}
 use Rattle.gh_assert.specs.Stores.{listed_names}
-use Rattle.gh_model.specs.Traced.{entries_under, store_in}
-use Rattle.gh_model.proofs.Traced.{Once, parameters_once, results_once, locals_once, one_by_one}
+use Rattle.gh_model.specs.KeptTraces.{entries_under, store_in}
+use Rattle.gh_model.proofs.building.Stores.{Once, parameters_once, results_once, locals_once, one_by_one}
 use Rattle.gh_model.proofs.build.store.Goals as goal
 
 pub add_all-requires-clause-distinct : goal.add_all-requires-clause-distinct

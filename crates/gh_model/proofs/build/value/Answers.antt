@@ -1,5 +1,5 @@
 use Rattle.std.proofs.Common.{sym, ◌∙◌}
-use Rattle.gh_model.proofs.Traced.{value_some}
+use Rattle.gh_model.proofs.building.Stores.{value_some}
 use Rattle.gh_model.proofs.build.value.Goals as goal
 
 pub returns-in-Some : goal.returns-in-Some

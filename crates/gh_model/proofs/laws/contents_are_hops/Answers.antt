@@ -1,4 +1,4 @@
-use Rattle.gh_model.proofs.Built.{contents_are_hops}
+use Rattle.gh_model.proofs.heaps.BuiltHeap.{contents_are_hops}
 use Rattle.gh_model.proofs.laws.contents_are_hops.Goals as goal
 
 pub returns : goal.returns

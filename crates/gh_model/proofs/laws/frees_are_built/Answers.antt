@@ -1,4 +1,4 @@
-use Rattle.gh_model.proofs.Steps.{frees_are_built}
+use Rattle.gh_model.proofs.heaps.HeapSteps.{frees_are_built}
 use Rattle.gh_model.proofs.laws.frees_are_built.Goals as goal
 
 pub returns : goal.returns

@@ -1,4 +1,4 @@
-use Rattle.gh_model.proofs.Follows.{hops_agree}
+use Rattle.gh_model.proofs.heaps.Reachability.{hops_agree}
 use Rattle.gh_model.proofs.laws.hops_agree.Goals as goal
 
 pub returns : goal.returns

@@ -1,4 +1,4 @@
-use Rattle.gh_model.proofs.Holding.{instances_hold}
+use Rattle.gh_model.proofs.reading.AxiomInstances.{instances_hold}
 use Rattle.gh_model.proofs.laws.instances_hold.Goals as goal
 
 pub returns : goal.returns

@@ -1,4 +1,4 @@
-use Rattle.gh_model.proofs.Steps.{news_are_built}
+use Rattle.gh_model.proofs.heaps.HeapSteps.{news_are_built}
 use Rattle.gh_model.proofs.laws.news_are_built.Goals as goal
 
 pub returns : goal.returns

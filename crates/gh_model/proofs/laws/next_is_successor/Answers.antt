@@ -1,4 +1,4 @@
-use Rattle.gh_model.proofs.Steps.{next_is_successor}
+use Rattle.gh_model.proofs.heaps.HeapSteps.{next_is_successor}
 use Rattle.gh_model.proofs.laws.next_is_successor.Goals as goal
 
 pub returns : goal.returns

@@ -1,7 +1,7 @@
 use Rattle.gh_log.proofs.SectionLemmas.{refute}
 use Rattle.gh_symb.specs.Symbolic.{symbolic_of}
 use Rattle.gh_symb.specs.Formulas.{problem}
-use Rattle.gh_model.proofs.ClauseModels.{traces_give_models}
+use Rattle.gh_model.proofs.soundness.ClauseModels.{traces_give_models}
 use Rattle.gh_model.proofs.laws.sections_show_validity.Goals as goal
 
 pub returns : goal.returns

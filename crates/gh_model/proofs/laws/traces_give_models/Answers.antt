@@ -1,4 +1,4 @@
-use Rattle.gh_model.proofs.ClauseModels.{traces_give_models}
+use Rattle.gh_model.proofs.soundness.ClauseModels.{traces_give_models}
 use Rattle.gh_model.proofs.laws.traces_give_models.Goals as goal
 
 pub returns : goal.returns

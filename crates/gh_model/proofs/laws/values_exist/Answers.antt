@@ -1,4 +1,4 @@
-use Rattle.gh_model.proofs.TraceValues.{values_exist}
+use Rattle.gh_model.proofs.soundness.TraceValues.{values_exist}
 use Rattle.gh_model.proofs.laws.values_exist.Goals as goal
 
 pub returns : goal.returns

@@ -1,4 +1,4 @@
-use Rattle.gh_model.proofs.Rows.{versions_are_models}
+use Rattle.gh_model.proofs.reading.AxiomRows.{versions_are_models}
 use Rattle.gh_model.proofs.laws.versions_are_models.Goals as goal
 
 pub returns : goal.returns

@@ -8,19 +8,13 @@ use Rattle.gh_path.specs.Graphs.{called, answered}
 use Rattle.gh_path.specs.Kept.{IsStep}
 use Rattle.gh_trace.specs.Kept.{state_of}
 use Rattle.gh_trace.specs.Traces.{Takes}
+use Rattle.gh_trace.proofs.KeptSteps.{decided_alone}
 use Rattle.gh_trace.proofs.StepLemmas.{opposite_false}
 use Rattle.gh_trace.proofs.steps.leads.Goals as goal
 
 pub returns-in-Access : goal.returns-in-Access
 returns-in-Access c =
-    let P = program_of c.args.scene.typed.now in
-    let p = procedure_of c.args.scene.procedure.now in
-    let x = state_of c.args.before.now in
-    let y = state_of c.args.after.now in
-    IfOk-weaker c.accesses.result _ _
-    (λ b w s is.
-    let e = subst (λ z. IsStep P p z s) c.in-Access.is is in
-    subst (λ z. IsTrue b ↔ Takes P z x y) (sym e) (w P)) c.accesses.ensures
+    decided_alone c.accesses.result c.args.scene c.args.step.now _ _ c.args.before.now c.args.after.now c.in-Access.is (λ t e. e) c.accesses.ensures
 
 pub returns-in-Assume : goal.returns-in-Assume
 returns-in-Assume c =
@@ -40,47 +34,19 @@ returns-in-Assume c =
 
 pub returns-in-Set : goal.returns-in-Set
 returns-in-Set c =
-    let P = program_of c.args.scene.typed.now in
-    let p = procedure_of c.args.scene.procedure.now in
-    let x = state_of c.args.before.now in
-    let y = state_of c.args.after.now in
-    IfOk-weaker c.assigns.result _ _
-    (λ b w s is.
-    let e = subst (λ z. IsStep P p z s) c.in-Set.is is in
-    subst (λ z. IsTrue b ↔ Takes P z x y) (sym e) (w P)) c.assigns.ensures
+    decided_alone c.assigns.result c.args.scene c.args.step.now _ _ c.args.before.now c.args.after.now c.in-Set.is (λ t e. e) c.assigns.ensures
 
 pub returns-in-Write : goal.returns-in-Write
 returns-in-Write c =
-    let P = program_of c.args.scene.typed.now in
-    let p = procedure_of c.args.scene.procedure.now in
-    let x = state_of c.args.before.now in
-    let y = state_of c.args.after.now in
-    IfOk-weaker c.writes.result _ _
-    (λ b w s is.
-    let e = subst (λ z. IsStep P p z s) c.in-Write.is is in
-    subst (λ z. IsTrue b ↔ Takes P z x y) (sym e) (w P)) c.writes.ensures
+    decided_alone c.writes.result c.args.scene c.args.step.now _ _ c.args.before.now c.args.after.now c.in-Write.is (λ t e. e) c.writes.ensures
 
 pub returns-in-New : goal.returns-in-New
 returns-in-New c =
-    let P = program_of c.args.scene.typed.now in
-    let p = procedure_of c.args.scene.procedure.now in
-    let x = state_of c.args.before.now in
-    let y = state_of c.args.after.now in
-    IfOk-weaker c.makes.result _ _
-    (λ b w s is.
-    let e = subst (λ z. IsStep P p z s) c.in-New.is is in
-    subst (λ z. IsTrue b ↔ Takes P z x y) (sym e) (w P)) c.makes.ensures
+    decided_alone c.makes.result c.args.scene c.args.step.now _ _ c.args.before.now c.args.after.now c.in-New.is (λ t e. e) c.makes.ensures
 
 pub returns-in-Free : goal.returns-in-Free
 returns-in-Free c =
-    let P = program_of c.args.scene.typed.now in
-    let p = procedure_of c.args.scene.procedure.now in
-    let x = state_of c.args.before.now in
-    let y = state_of c.args.after.now in
-    IfOk-weaker c.frees.result _ _
-    (λ b w s is.
-    let e = subst (λ z. IsStep P p z s) c.in-Free.is is in
-    subst (λ z. IsTrue b ↔ Takes P z x y) (sym e) (w P)) c.frees.ensures
+    decided_alone c.frees.result c.args.scene c.args.step.now _ _ c.args.before.now c.args.after.now c.in-Free.is (λ t e. e) c.frees.ensures
 
 pub returns-in-Call : goal.returns-in-Call
 returns-in-Call c =

@@ -1,0 +1,9 @@
+use Rattle.std.proofs.Common.{◌≡◌, map, take}
+use Rattle.gh_base.specs.Atoms.{opposite}
+use Rattle.gh_check.proofs.standing.falsify.Given as goal
+
+abbrev pub invariant-loop-lit : goal.invariant-loop-lit
+invariant-loop-lit l = record {
+  sizes : l.above.sizes ≡ l.fn.above.sizes;
+  set : l.above.lits ≡ map opposite (take l.lit-index l.lits);
+}

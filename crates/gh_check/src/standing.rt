@@ -1,0 +1,239 @@
+//! Literals that stand from line to line, and lines that are shown by them and by hints.
+
+ghost use Rattle.std.specs.Prelude.{◌≡◌, ◌↔◌, ◌⊎◌, ◌++◌, [], List, map, All, Contains, IfOk, OnOk, IsTrue};
+ghost use Rattle.std.specs.Prelude.{MatchOption, Option};
+ghost use Rattle.gh_base.specs.declared.atom.Lit.{Lit};
+ghost use Rattle.gh_base.specs.declared.sizes.Sizes.{Sizes};
+ghost use Rattle.gh_base.specs.Atoms.{opposite, IsInRange, AreInRange};
+ghost use Rattle.gh_base.specs.Hints.{IsRefutedByHints};
+ghost use Rattle.gh_base.specs.Propagation.{FollowsByUnits};
+ghost use Rattle.gh_check.specs.Kept.{named, present, AreWithin};
+ghost use Rattle.gh_check.specs.Truths.{IsFalseBy, IsOpenIn, IsLook, HasBoth};
+ghost use Rattle.gh_check.specs.Standing.{AreGivenBy, IsStanding};
+
+use crate::hints::{Look, Truths};
+use crate::positions::Positions;
+use crate::search::Search;
+use gh_base::atom::Lit;
+use gh_base::sizes::Sizes;
+use std::alloc::{AllocError, Global};
+
+// Whether a literal is false by one of two sets of truths.
+fn is_false(fixed: &Truths, above: &Truths, lit: Lit) -> bool
+    requires fixed { IsInRange fixed.now.sizes lit.atom }
+    requires above { IsInRange above.now.sizes lit.atom }
+    ensures { IsTrue result ↔ Contains (fixed.now.lits ++ above.now.lits) (opposite lit) }
+{
+    if fixed.is_false(lit) {
+        return true;
+    }
+    above.is_false(lit)
+}
+
+// Whether a literal is this one or false.
+fn is_false_or(fixed: &Truths, above: &Truths, lit: Lit, one: Lit) -> bool
+    requires fixed { IsInRange fixed.now.sizes lit.atom }
+    requires above { IsInRange above.now.sizes lit.atom }
+    ensures { IsTrue result ↔ ((lit ≡ one) ⊎ Contains (fixed.now.lits ++ above.now.lits) (opposite lit)) }
+{
+    if lit.is_same(one) {
+        return true;
+    }
+    is_false(fixed, above, lit)
+}
+
+// The first literal that isn't false.
+fn first_open(fixed: &Truths, above: &Truths, clause: &[Lit]) -> Option<Lit>
+    requires fixed { AreInRange fixed.now.sizes clause.now }
+    requires above { AreInRange above.now.sizes clause.now }
+    ensures { MatchOption result (IsFalseBy (fixed.now.lits ++ above.now.lits) clause.now)
+        (IsOpenIn (fixed.now.lits ++ above.now.lits) clause.now) }
+{
+    for lit in clause {
+        if !is_false(fixed, above, *lit) {
+            return Some(*lit);
+        }
+    }
+    None
+}
+
+// Whether each literal but this one is false.
+fn are_false_but(fixed: &Truths, above: &Truths, clause: &[Lit], one: Lit) -> bool
+    requires fixed { AreInRange fixed.now.sizes clause.now }
+    requires above { AreInRange above.now.sizes clause.now }
+    ensures { IsTrue result
+        ↔ All (λ l. (l ≡ one) ⊎ Contains (fixed.now.lits ++ above.now.lits) (opposite l)) clause.now }
+{
+    for lit in clause {
+        if !is_false_or(fixed, above, *lit, one) {
+            return false;
+        }
+    }
+    true
+}
+
+// What a clause is.
+fn look(fixed: &Truths, above: &Truths, clause: &[Lit]) -> Look
+    requires fixed { AreInRange fixed.now.sizes clause.now }
+    requires above { AreInRange above.now.sizes clause.now }
+    ensures { IsLook (fixed.now.lits ++ above.now.lits) clause.now result }
+{
+    match first_open(fixed, above, clause) {
+        None => Look::False,
+        Some(one) => {
+            if are_false_but(fixed, above, clause, one) {
+                Look::Unit(one)
+            } else {
+                Look::Open
+            }
+        }
+    }
+}
+
+// Makes literals false, where none is true but those that stand. Answers whether one of them is true.
+fn falsify(fixed: &Truths, above: &mut Truths, lits: &[Lit]) -> Result<bool, AllocError>
+    requires none { above.old.lits ≡ [] }
+    requires fixed { AreInRange fixed.now.sizes lits.now }
+    requires above { AreInRange above.old.sizes lits.now }
+    ensures sizes { OnOk result (above.new.sizes ≡ above.old.sizes) }
+    ensures clash { IfOk result (λ b. IsTrue b → HasBoth (fixed.now.lits ++ map opposite lits.now)) }
+    ensures set { IfOk result (λ b. (IsTrue b → ⊥) → above.new.lits ≡ map opposite lits.now) }
+{
+    for lit in lits {
+        let negated = lit.negated();
+        if is_false(fixed, above, negated) {
+            return Ok(true);
+        }
+        above.add(negated)?;
+    }
+    Ok(false)
+}
+
+// Takes hints in order. Answers whether the clause of one of them comes to be false.
+fn follow(
+    fixed: &Truths,
+    above: &mut Truths,
+    kept: &Positions,
+    hints: &[u32],
+) -> Result<bool, AllocError>
+    requires fixed { AreWithin fixed.now.sizes kept.now.clauses }
+    requires above { AreWithin above.old.sizes kept.now.clauses }
+    ensures shown { IfOk result (λ b.
+        IsTrue b → IsRefutedByHints (named kept.now hints.now) (fixed.now.lits ++ above.old.lits)) }
+    ensures sizes { OnOk result (above.new.sizes ≡ above.old.sizes) }
+{
+    for hint in hints {
+        match look(fixed, above, kept.lits(*hint)) {
+            Look::False => return Ok(true),
+            Look::Unit(lit) => above.add(lit)?,
+            Look::Open => return Ok(false),
+        }
+    }
+    Ok(false)
+}
+
+// Whether hints that stand, taken in order, show the clause of some literals where what stands is given.
+fn are_confirmed(
+    fixed: &Truths,
+    above: &mut Truths,
+    kept: &Positions,
+    lits: &[Lit],
+    hints: &[u32],
+) -> Result<bool, AllocError>
+    requires fixed { AreInRange fixed.now.sizes lits.now }
+    requires above { AreInRange above.old.sizes lits.now }
+    requires fixed_within { AreWithin fixed.now.sizes kept.now.clauses }
+    requires above_within { AreWithin above.old.sizes kept.now.clauses }
+    ensures shown { IfOk result (λ b. IsTrue b → AreGivenBy (present kept.now.clauses) fixed.now.lits
+        → FollowsByUnits (present kept.now.clauses) lits.now) }
+    ensures sizes { OnOk result (above.new.sizes ≡ above.old.sizes) }
+{
+    if !kept.are_standing(hints) {
+        return Ok(false);
+    }
+    above.clear();
+    if falsify(fixed, above, lits)? {
+        return Ok(true);
+    }
+    Ok(follow(fixed, above, kept, hints)?)
+}
+
+// Adds the literal that the clause at a position forces, if it does.
+fn fix(fixed: &mut Truths, kept: &Positions, position: u32) -> Result<(), AllocError>
+    requires within { AreWithin fixed.old.sizes kept.now.clauses }
+    ensures sizes { OnOk result (fixed.new.sizes ≡ fixed.old.sizes) }
+    ensures given { OnOk result (AreGivenBy (present kept.now.clauses) fixed.old.lits
+        → AreGivenBy (present kept.now.clauses) fixed.new.lits) }
+{
+    if !kept.stands(position) {
+        return Ok(());
+    }
+    match fixed.look(kept.lits(position)) {
+        Look::Unit(lit) => {
+            fixed.add(lit)?;
+            Ok(())
+        }
+        _ => Ok(()),
+    }
+}
+
+// Adds the literals that the clauses at some positions force, in order.
+fn fix_all(fixed: &mut Truths, kept: &Positions, positions: &[u32]) -> Result<(), AllocError>
+    requires within { AreWithin fixed.old.sizes kept.now.clauses }
+    ensures sizes { OnOk result (fixed.new.sizes ≡ fixed.old.sizes) }
+    ensures given { OnOk result (AreGivenBy (present kept.now.clauses) fixed.old.lits
+        → AreGivenBy (present kept.now.clauses) fixed.new.lits) }
+{
+    for position in positions {
+        fix(fixed, kept, *position)?;
+    }
+    Ok(())
+}
+
+/// The literals that propagation gives from the clauses alone, those that it gives besides for a line, and the search
+/// for the hints by which it does.
+#[derive(Drop)]
+pub struct Standing {
+    fixed: Truths,
+    above: Truths,
+    search: Search,
+}
+
+impl Standing {
+    /// Nothing stands.
+    pub fn new(alloc: Global, sizes: Sizes) -> Result<Standing, AllocError>
+        ensures { IfOk result (λ s. (entries : List (Option (List Lit))) → IsStanding sizes entries s) }
+    {
+        let fixed = Truths::new(alloc, sizes)?;
+        let above = Truths::new(alloc, sizes)?;
+        Ok(Standing {
+            fixed,
+            above,
+            search: Search::new(alloc),
+        })
+    }
+
+    /// Whether hints are found by which unit propagation shows the clause of some literals. There may be some that
+    /// aren't found.
+    pub fn shows(
+        &mut self,
+        sizes: Sizes,
+        kept: &Positions,
+        lits: &[Lit],
+    ) -> Result<bool, AllocError>
+        requires standing { IsStanding sizes kept.now.clauses self.old }
+        requires range { AreInRange sizes lits.now }
+        requires within { AreWithin sizes kept.now.clauses }
+        ensures shown { IfOk result (λ b. IsTrue b → FollowsByUnits (present kept.now.clauses) lits.now) }
+        ensures standing { OnOk result (IsStanding sizes kept.now.clauses self.new) }
+    {
+        self.search.settle(sizes, kept.clauses())?;
+        fix_all(&mut self.fixed, kept, self.search.hints())?;
+        if !self.search.find(sizes, lits)? {
+            return Ok(false);
+        }
+        let hints = self.search.hints();
+        let shown = are_confirmed(&self.fixed, &mut self.above, kept, lits, hints)?;
+        Ok(shown)
+    }
+}

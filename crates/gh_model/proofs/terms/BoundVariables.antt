@@ -1,0 +1,170 @@
+-- Only variables of a condition's procedure have terms at its states.
+use Rattle.std.specs.Prelude.{◌≡◌, ◌⊎◌, ℕ, List, [], ◌∷◌, filter, Option, Some, None, Bool, true, false, cond, Contains, All}
+use Rattle.std.proofs.lemmas.List.Elements.{All-head, All-tail}
+use Rattle.std.proofs.Common.{refl, sym, subst, inl, inr}
+use Rattle.gh_ast.specs.declared.Operand.{Operand}
+use Rattle.gh_ast.specs.declared.Operand.TheVariants.{Null, Var}
+use Rattle.gh_ast.specs.declared.Expr.{Expr}
+use Rattle.gh_ast.specs.declared.Expr.TheVariants.{Plain, Read}
+use Rattle.gh_ast.specs.Plain.{Test, compare, negation, conjunction, disjunction, Tests, no_tests, test_first}
+use Rattle.gh_ast.specs.Plain.{Formula, empty, comparison, points_to, cell, segment, star, cases, Formulas, no_formulas, formula_first, Procedure, Program}
+use Rattle.gh_ast.specs.Programs.{Name, names, variable_names}
+use Rattle.gh_ast.specs.Names.{OperandIn, ExprIn, TestIn, TestsIn, FormulaIn, FormulasIn}
+use Rattle.gh_ast.proofs.Lists.{member_first, member_later, member_cases}
+use Rattle.gh_path.specs.Graphs.{Check, access, entry, loop_entry, returned, loop_end, PathStep, accessed, assume, assigned, made, written, freed, called, looped, answered}
+use Rattle.gh_path.specs.Terms.{with_value, Bindings, bound, all_bound, Terms, terms, used, used_as, followed, operand_used, expr_used, expr_term, exprs_used, exprs_terms, test_walked, tests_walked, walked, all_walked, moved_on, renewed, some_assigns, callee_in, call_walked, step_walked, no_terms, each_walked}
+use Rattle.gh_symb.specs.Symbolic.{step_used, check_used, used_first, first_use, either_term, state_bindings}
+use Rattle.gh_model.specs.BoundVariables.{AreOf, AllAreOf, OnlyVariablesHaveTerms}
+use Rattle.gh_model.proofs.terms.Extension.{bound_cases}
+use Rattle.gh_model.proofs.paths.PathVariables.{AllOf, ExprsIn, StepIn, CheckIn, PathIn, start_in}
+
+bound_of : (xs : List Name) (b : Bindings) (x : Name) (u : ℕ) → Contains xs x → AreOf xs b → AreOf xs (bound b x u)
+bound_of xs b x u c B y t e = elim (bound_cases b x u y t e) [
+  | inl (same, at) ↦ subst (Contains xs) (sym same) c
+  | inr old ↦ B y t old
+]
+
+used_of : (xs : List Name) (x : Name) (s : Terms) → Contains xs x → AreOf xs s.bindings → AreOf xs (used x s).bindings
+used_of xs x s c B = by_binding (s.bindings x)
+  where
+    by_binding : (o : Option ℕ) → AreOf xs (used_as x o s).bindings
+    by_binding (Some t) = B
+    by_binding None = bound_of xs s.bindings x _ c B
+
+operand_of : (xs : List Name) (o : Operand) (s : Terms) → OperandIn o xs → AreOf xs s.bindings → AreOf xs (operand_used o s).bindings
+operand_of xs (Null p) s c B = B
+operand_of xs (Var o) s c B = used_of xs o.name s c B
+
+expr_of : (xs : List Name) (e : Expr) (s : Terms) → ExprIn e xs → AreOf xs s.bindings → AreOf xs (expr_used e s).bindings
+expr_of xs (Plain o) s c B = operand_of xs o s c B
+expr_of xs (Read o) s c B = used_of xs o.name s c B
+
+exprs_of : (xs : List Name) (es : List Expr) (s : Terms) → ExprsIn es xs → AreOf xs s.bindings → AreOf xs (exprs_used es s).bindings
+exprs_of xs [] s c B = B
+exprs_of xs (e ∷ es) s c B = exprs_of xs es (expr_used e s) c.1 (expr_of xs e s c.0 B)
+
+mutual
+  test_of : (xs : List Name) (t : Test) (s : Terms) → TestIn t xs → AreOf xs s.bindings → AreOf xs (test_walked t s).bindings
+  test_of xs (compare l e r) s c B = expr_of xs r (expr_used l s) c.1 (expr_of xs l s c.0 B)
+  test_of xs (negation t) s c B = test_of xs t s c B
+  test_of xs (conjunction ts) s c B = tests_of xs ts s c B
+  test_of xs (disjunction ts) s c B = tests_of xs ts s c B
+
+  tests_of : (xs : List Name) (ts : Tests) (s : Terms) → TestsIn ts xs → AreOf xs s.bindings → AreOf xs (tests_walked ts s).bindings
+  tests_of xs no_tests s c B = B
+  tests_of xs (test_first t ts) s c B = tests_of xs ts (test_walked t s) c.1 (test_of xs t s c.0 B)
+
+mutual
+  pub walked_of : (xs : List Name) (f : Formula) (s : Terms) → FormulaIn f xs → AreOf xs s.bindings → AreOf xs (walked f s).bindings
+  walked_of xs empty s c B = B
+  walked_of xs (comparison l e r) s c B = operand_of xs r (operand_used l s) c.1 (operand_of xs l s c.0 B)
+  walked_of xs (points_to x y) s c B = operand_of xs y (followed x.name (used x.name s)) c.1 (used_of xs x.name s c.0 B)
+  walked_of xs (cell x) s c B = used_of xs x.name s c B
+  walked_of xs (segment x y) s c B = operand_of xs y (operand_used x s) c.1 (operand_of xs x s c.0 B)
+  walked_of xs (star fs) s c B = all_of xs fs s c B
+  walked_of xs (cases t f g) s c B = walked_of xs g (walked f (test_walked t s)) c.2 (walked_of xs f (test_walked t s) c.1 (test_of xs t s c.0 B))
+
+  all_of : (xs : List Name) (fs : Formulas) (s : Terms) → FormulasIn fs xs → AreOf xs s.bindings → AreOf xs (all_walked fs s).bindings
+  all_of xs no_formulas s c B = B
+  all_of xs (formula_first f fs) s c B = all_of xs fs (walked f s) c.1 (walked_of xs f s c.0 B)
+
+all_bound_of : (xs : List Name) (b : Bindings) (ys : List Name) (ts : List ℕ) → AllOf ys xs → AreOf xs b → AreOf xs (all_bound b ys ts)
+all_bound_of xs b [] ts A B = B
+all_bound_of xs b (y ∷ ys) [] A B = B
+all_bound_of xs b (y ∷ ys) (t ∷ ts) A B = all_bound_of xs (bound b y t) ys ts (λ z c. A z (member_later y z ys c)) (bound_of xs b y t (A y (member_first y ys)) B)
+
+renewed_of : (xs : List Name) (ys : List Name) (s : Terms) → AllOf ys xs → AreOf xs s.bindings → AreOf xs (renewed ys s).bindings
+renewed_of xs [] s A B = B
+renewed_of xs (y ∷ ys) s A B = renewed_of xs ys (terms (with_value s.kinds) _ s.version) (λ z c. A z (member_later y z ys c)) (bound_of xs s.bindings y _ (A y (member_first y ys)) B)
+
+filter_of : (p : Name → Bool) (xs : List Name) → AllOf (filter p xs) xs
+filter_of p [] y c = c
+filter_of p (x ∷ xs) y c = by_test (filter_of p xs y) (p x) c
+  where
+    by_test : (Contains (filter p xs) y → Contains xs y) → (b : Bool) → Contains (cond b (x ∷ filter p xs) (filter p xs)) y → Contains (x ∷ xs) y
+    by_test rest true d = elim (member_cases x (filter p xs) y d) [
+      | inl same ↦ subst (Contains (x ∷ xs)) same (member_first x xs)
+      | inr more ↦ member_later x y xs (rest more)
+    ]
+    by_test rest false d = member_later x y xs (rest d)
+
+-- alternatives
+each_of : (xs : List Name) (fs : List Formula) (s : Terms) → All (λ f. FormulaIn f xs) fs → AreOf xs s.bindings → AreOf xs (each_walked fs s).bindings
+each_of xs [] s c B = B
+each_of xs (f ∷ fs) s c B = each_of xs fs (walked f s) (All-tail (λ g. FormulaIn g xs) f fs c) (walked_of xs f s (All-head (λ g. FormulaIn g xs) f fs c) B)
+
+call_of : (xs : List Name) (o : Option Procedure) (ys : List Name) (ts : List ℕ) (s : Terms) → AllOf ys xs → AreOf xs s.bindings → AreOf xs (call_walked o ys ts s).bindings
+call_of xs None ys ts s A B = B
+call_of xs (Some p) ys ts s A B = all_bound_of xs s.bindings ys _ A B
+
+step_of : (P : Program) (xs : List Name) (p : PathStep) (s : Terms) → StepIn xs p → AreOf xs s.bindings → AreOf xs (step_walked P xs p s).bindings
+step_of P xs (accessed o) s c B = used_of xs o.name s c B
+step_of P xs (assume l e r way) s c B = expr_of xs r (expr_used l s) c.1 (expr_of xs l s c.0 B)
+step_of P xs (assigned x e) s c B = bound_of xs (expr_used e s).bindings x.name (expr_term e (expr_used e s)) c.0 (expr_of xs e s c.1 B)
+step_of P xs (made x) s c B = bound_of xs s.bindings x.name _ c B
+step_of P xs (written x e) s c B = expr_of xs e (used x.name s) c.1 (used_of xs x.name s c.0 B)
+step_of P xs (freed x) s c B = used_of xs x.name s c B
+step_of P xs (called ys f es) s c B = call_of xs (callee_in P.procedures f.name) (names ys) (exprs_terms es (exprs_used es s)) (exprs_used es s) c.0 (exprs_of xs es s c.1 B)
+step_of P xs (looped l) s c B =
+    walked_of xs l.invariant (renewed (filter (some_assigns l.body) xs) (moved_on (walked l.invariant s))) c
+    (renewed_of xs (filter (some_assigns l.body) xs) (moved_on (walked l.invariant s)) (filter_of (some_assigns l.body) xs) (walked_of xs l.invariant s c B))
+step_of P xs (answered ys es) s c B = all_bound_of xs (exprs_used es s).bindings ys (exprs_terms es (exprs_used es s)) c.0 (exprs_of xs es s c.1 B)
+
+step_used_of : (xs : List Name) (p : PathStep) (s : Terms) → StepIn xs p → AreOf xs s.bindings → AreOf xs (step_used p s).bindings
+step_used_of xs (accessed o) s c B = used_of xs o.name s c B
+step_used_of xs (assume l e r way) s c B = expr_of xs r (expr_used l s) c.1 (expr_of xs l s c.0 B)
+step_used_of xs (assigned x e) s c B = expr_of xs e s c.1 B
+step_used_of xs (made x) s c B = B
+step_used_of xs (written x e) s c B = expr_of xs e (used x.name s) c.1 (used_of xs x.name s c.0 B)
+step_used_of xs (freed x) s c B = used_of xs x.name s c B
+step_used_of xs (called ys f es) s c B = exprs_of xs es s c.1 B
+step_used_of xs (looped l) s c B = walked_of xs l.invariant s c B
+step_used_of xs (answered ys es) s c B = exprs_of xs es s c.1 B
+
+check_used_of : (xs : List Name) (k : Check) (s : Terms) → CheckIn xs k → AreOf xs s.bindings → AreOf xs (check_used k s).bindings
+check_used_of xs (access o) s c B = used_of xs o.name s c B
+check_used_of xs (entry f es) s c B = exprs_of xs es s c B
+check_used_of xs (loop_entry l) s c B = walked_of xs l.invariant s c B
+check_used_of xs (returned at fs) s c B = each_of xs fs s c B
+check_used_of xs (loop_end l) s c B = walked_of xs l.invariant s c B
+
+pub first_cases : (o q r : Option ℕ) (t : ℕ) → used_first o q r ≡ Some t → (o ≡ Some t) ⊎ (r ≡ Some t)
+first_cases (Some u) q r t e = inl e
+first_cases None (Some u) r t e = absurd cc
+first_cases None None r t e = inr e
+
+pub either_cases : (o r : Option ℕ) (t : ℕ) → either_term o r ≡ Some t → (o ≡ Some t) ⊎ (r ≡ Some t)
+either_cases (Some u) r t e = inl e
+either_cases None r t e = inr e
+
+first_of : (P : Program) (xs : List Name) (ps : List PathStep) (k : Check) (s : Terms) → PathIn xs ps k → AreOf xs s.bindings → AreOf xs (first_use P xs ps k s)
+first_of P xs [] k s c B y t e = check_used_of xs k s c B y t e
+first_of P xs (p ∷ ps) k s c B y t e = elim (first_cases ((step_used p s).bindings y) ((step_walked P xs p s).bindings y) (first_use P xs ps k (step_walked P xs p s) y) t e) [
+  | inl here ↦ step_used_of xs p s c.0 B y t here
+  | inr later ↦ first_of P xs ps k (step_walked P xs p s) c.1 (step_of P xs p s c.0 B) y t later
+]
+
+either_of : (P : Program) (xs : List Name) (ps : List PathStep) (k : Check) (s : Terms) → PathIn xs ps k → AreOf xs s.bindings → AreOf xs (λ x. either_term (s.bindings x) (first_use P xs ps k s x))
+either_of P xs ps k s c B y t e = elim (either_cases (s.bindings y) (first_use P xs ps k s y) t e) [
+  | inl here ↦ B y t here
+  | inr later ↦ first_of P xs ps k s c B y t later
+]
+
+states_of : (P : Program) (xs : List Name) (ps : List PathStep) (k : Check) (s : Terms) → PathIn xs ps k → AreOf xs s.bindings → AllAreOf xs (state_bindings P xs ps k s)
+states_of P xs [] k s c B = (either_of P xs [] k s c B, tt)
+states_of P xs (p ∷ ps) k s c B = (either_of P xs (p ∷ ps) k s c B, states_of P xs ps k (step_walked P xs p s) c.1 (step_of P xs p s c.0 B))
+
+pub only_variables_have_terms : OnlyVariablesHaveTerms
+only_variables_have_terms P c typed is =
+    let xs = variable_names c.procedure in
+    let S = start_in P typed c.procedure is.declared c.start is.begins in
+    states_of P xs c.way.steps c.way.check (walked c.start.meets no_terms) (S.graph c.way.steps c.way.check is.leads)
+    (walked_of xs c.start.meets no_terms S.meets (λ y t e. absurd cc))
+
+-- a name that is no variable has no term
+pub no_term_outside : (xs : List Name) (b : Bindings) → AreOf xs b → (y : Name) → (Contains xs y → ⊥) → b y ≡ None
+no_term_outside xs b B y out = by_term (b y) refl
+  where
+    by_term : (o : Option ℕ) → b y ≡ o → o ≡ None
+    by_term None e = refl
+    by_term (Some t) e = absurd (out (B y t e))

@@ -1,0 +1,76 @@
+-- Traces of structures, as they are kept.
+use Rattle.std.specs.Prelude.{◌≡◌, ℕ, ◌+◌, ◌<◌, List, [], ◌∷◌, map, Some}
+use Rattle.gh_base.specs.declared.atom.Term.{Term}
+use Rattle.gh_base.specs.Meaning.{Interpretation}
+use Rattle.gh_base.specs.Structures.{Tables, interpretation_of}
+use Rattle.gh_ast.specs.Plain.{Program}
+use Rattle.gh_ast.specs.Programs.{Name, variable_names}
+use Rattle.gh_ast.specs.Rules.{IsTyped}
+use Rattle.gh_assert.specs.declared.store.Entry.{Entry}
+use Rattle.gh_assert.specs.Meaning.{Store}
+use Rattle.gh_path.specs.Conditions.{Condition, IsCondition}
+use Rattle.gh_grass.specs.declared.binding.Bond.{Bond}
+use Rattle.gh_grass.specs.Bindings.{term_in}
+use Rattle.gh_symb.specs.Phases.{value_in}
+use Rattle.gh_symb.specs.declared.over_terms.TermStep.{TermStep}
+use Rattle.gh_symb.specs.declared.over_terms.TermStep.TheVariants.{Access, Assume, Same, Write, New, Free, Part}
+use Rattle.gh_trace.specs.declared.state.State.{State}
+use Rattle.gh_trace.specs.Replay.{Drawn, Refutes}
+use Rattle.gh_trace.specs.Traces as plain
+use Rattle.gh_model.specs.Classes.{class_of}
+use Rattle.gh_model.specs.Versions.{equal_in}
+use Rattle.gh_model.specs.Abstraction.{IsModelOf}
+use Rattle.gh_model.specs.BuiltTraces.{store_under, heap_in, built_trace}
+
+-- variables in order with their values
+abbrev pub entries_under : Store → List Name → List Entry
+entries_under s xs = map (λ x. record { name = x; value = s x }) xs
+
+abbrev pub store_in : Tables → List Bond → Store
+store_in s b = store_under (class_of (equal_in (interpretation_of s)) s.sizes.terms) (value_in b)
+
+abbrev pub state_in : Tables → List Name → ℕ → List Bond → State
+state_in s xs i b = record { store = entries_under (store_in s b) xs; heap = heap_in (interpretation_of s) s.sizes.terms i }
+
+-- the version after a step of a kept condition
+abbrev pub version_after_kept : TermStep → ℕ → ℕ
+version_after_kept (Access x) i = i
+version_after_kept (Assume l e r) i = i
+version_after_kept Same i = i
+version_after_kept (Write x v) i = i + 1
+version_after_kept (New l c) i = i + 1
+version_after_kept (Free x) i = i + 1
+version_after_kept (Part b a) i = i + 1
+
+-- the version after the first of some steps, and the others
+abbrev pub after_first : List TermStep → ℕ → ℕ
+after_first [] i = i
+after_first (p ∷ ps) i = version_after_kept p i
+
+abbrev pub past_first : List TermStep → List TermStep
+past_first [] = []
+past_first (p ∷ ps) = ps
+
+-- a state for each binding, from version i on
+abbrev pub states_in : Tables → List Name → ℕ → List TermStep → List (List Bond) → List State
+states_in s xs i ps [] = []
+states_in s xs i ps (b ∷ bs) = state_in s xs i b ∷ states_in s xs (after_first ps i) (past_first ps) bs
+
+-- the terms are below n
+abbrev pub AreBelow : ℕ → List Bond → Type 0
+AreBelow n b = (x : Name) (t : Term) → term_in b x ≡ Some t → t.0 < n
+
+-- the structure has the terms of each binding and the version of each state
+abbrev pub HasAll : Tables → ℕ → List TermStep → List (List Bond) → Type 0
+HasAll s i ps [] = Unit {0}
+HasAll s i ps (b ∷ bs) = (i < s.sizes.versions) × AreBelow s.sizes.terms b × HasAll s (after_first ps i) (past_first ps) bs
+
+-- states whose stores list these names
+abbrev pub drawn_over : List Name → List plain.State → List Drawn
+drawn_over xs ys = map (λ y. record { listed = xs; state = y }) ys
+
+-- the trace of a model of a condition, drawn over the variables of its procedure, is a counterexample
+abbrev pub BuiltIsCounterexample : Type 0
+BuiltIsCounterexample =
+    (P : Program) (c : Condition) (m : Interpretation) → IsTyped P → IsCondition P c → IsModelOf P c m →
+    Refutes P c (drawn_over (variable_names c.procedure) (built_trace P c m))

@@ -1,0 +1,61 @@
+-- What the clauses of a step say of the structures before and after it, and what the step does to heaps.
+use Rattle.std.specs.Prelude.{◌≡◌, ◌≢◌, ◌⊎◌, ◌↔◌, ℕ, List, Some, None, IsTrue, Contains}
+use Rattle.std.specs.FinMap.{get}
+use Rattle.gh_ast.specs.Plain.{Formula}
+use Rattle.gh_assert.specs.Heaps.{Heap, Splits}
+use Rattle.gh_assert.specs.Meaning.{Store, Meaning}
+use Rattle.gh_model.specs.Structures.{Structure}
+use Rattle.gh_model.specs.Representations.{IsInside, Fits}
+
+-- away from x the hops stay
+abbrev pub KeepsHops : List ℕ → Structure → Structure → ℕ → Type 0
+KeepsHops V m n x = (z v : ℕ) → Contains V z → Contains V v → z ≢ x → IsTrue (n.hop z v) ↔ IsTrue (m.hop z v)
+
+pub record StepsByWrite (V : List ℕ) (m n : Structure) (x v : ℕ) : Type 0 where
+  pub alloc : (z : ℕ) → Contains V z → IsTrue (n.alloc z) ↔ IsTrue (m.alloc z)
+  pub here : IsTrue (n.hop x v)
+  pub kept : KeepsHops V m n x
+
+pub record StepsByNew (V : List ℕ) (m n : Structure) (x v : ℕ) : Type 0 where
+  pub fresh : IsTrue (m.alloc x) → ⊥
+  pub alloc : (z : ℕ) → Contains V z → IsTrue (n.alloc z) ↔ (IsTrue (m.alloc z) ⊎ (z ≡ x))
+  pub here : IsTrue (n.hop x v)
+  pub kept : KeepsHops V m n x
+
+pub record StepsByFree (V : List ℕ) (m n : Structure) (x : ℕ) : Type 0 where
+  pub alloc : (z : ℕ) → Contains V z → IsTrue (n.alloc z) ↔ (IsTrue (m.alloc z) × (z ≢ x))
+  pub kept : KeepsHops V m n x
+
+-- the cells that a call or a loop keeps: those outside of what p speaks of
+abbrev pub IsSetAside : Formula → Store → Structure → ℕ → Type 0
+IsSetAside p s m z = IsTrue (m.alloc z) × (IsInside p s m z → ⊥)
+
+-- p is given up in s, and q is given back in t
+pub record StepsByCall (V : List ℕ) (m n : Structure) (p q : Formula) (s t : Store) : Type 0 where
+  pub before : Fits p s m V
+  pub after : Fits q t n V
+  pub apart : (z : ℕ) → Contains V z → IsSetAside p s m z → IsInside q t n z → ⊥
+  pub alloc : (z : ℕ) → Contains V z → IsTrue (n.alloc z) ↔ (IsSetAside p s m z ⊎ IsInside q t n z)
+  pub kept : (z v : ℕ) → Contains V z → Contains V v → IsSetAside p s m z → IsTrue (n.hop z v) ↔ IsTrue (m.hop z v)
+
+abbrev pub IsAwayFrom : ℕ → Heap → Heap → Type 0
+IsAwayFrom x h k = (z : ℕ) → z ≢ x → get k z ≡ get h z
+
+-- a cell's content changes, or a cell comes
+pub record IsPut (h k : Heap) (x v : ℕ) : Type 0 where
+  pub here : get k x ≡ Some v
+  pub elsewhere : IsAwayFrom x h k
+
+pub record IsFreed (h k : Heap) (x : ℕ) : Type 0 where
+  pub here : get k x ≡ None
+  pub elsewhere : IsAwayFrom x h k
+
+-- a part that meets p gives way to one that meets q, and the rest stays
+pub record IsCalled (h k : Heap) (p q : Formula) (s t : Store) : Type 0 where
+  pub given : Heap
+  pub back : Heap
+  pub rest : Heap
+  pub before : Splits h given rest
+  pub after : Splits k back rest
+  pub meets : Meaning p s given
+  pub returns : Meaning q t back

@@ -1,0 +1,6 @@
+use Rattle.std.proofs.Common.{◌≡◌, ◌↔◌, map, drop}
+use Rattle.gh_ast.specs.Plain.{test_of}
+use Rattle.gh_session.proofs.same.+any_test.Given as goal
+
+abbrev pub invariant-are_same_tests-loop-one : goal.invariant-are_same_tests-loop-one
+invariant-are_same_tests-loop-one l = (map test_of (drop l.one-index l.some) ≡ map test_of l.left) ↔ (map test_of l.some ≡ map test_of l.others)
