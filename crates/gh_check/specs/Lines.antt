@@ -7,7 +7,7 @@ use Rattle.gh_log.specs.Sections.{IsOfKind, IsFaultOf, line_clause}
 use Rattle.gh_base.specs.declared.sizes.Sizes.{Sizes}
 use Rattle.gh_check.specs.Kept.{Kept, with_line, AreLinesKept, IsWithin, AreWithin}
 use Rattle.gh_check.specs.Assuming.{IsBehind}
-use Rattle.gh_check.specs.Standing.{IsStanding}
+use Rattle.gh_check.specs.Standing.{MayStand}
 use Rattle.gh_check.specs.Names.{fault_number}
 use Rattle.gh_check.specs.declared.lines.Earlier.{Earlier}
 use Rattle.gh_check.specs.declared.lines.Outcome.{Outcome}
@@ -40,6 +40,6 @@ Leaves p old line o new = (earlier : List LogLine) → AreLinesKept p earlier ol
 -- what is kept fits clauses over these numbers
 pub record IsReady (sizes : Sizes) (e : Earlier) : Type 0 where
   pub within : AreWithin sizes e.kept.clauses
-  pub standing : IsStanding sizes e.kept.clauses e.standing
+  pub standing : MayStand sizes e.kept.clauses e.standing
   pub behind : IsBehind sizes e.kept.clauses e.units
   pub truths : e.truths.sizes ≡ sizes

@@ -1,5 +1,5 @@
 -- What stands from line to line.
-use Rattle.std.specs.Prelude.{◌≡◌, List, Option, Contains}
+use Rattle.std.specs.Prelude.{◌≡◌, ⊤, List, Option, Contains, MatchOption}
 use Rattle.gh_base.specs.declared.atom.Lit.{Lit}
 use Rattle.gh_base.specs.declared.sizes.Sizes.{Sizes}
 use Rattle.gh_base.specs.Propagation.{Propagated}
@@ -15,3 +15,7 @@ pub record IsStanding (sizes : Sizes) (entries : List (Option (List Lit))) (s : 
   pub fixed : s.fixed.sizes ≡ sizes
   pub above : s.above.sizes ≡ sizes
   pub given : AreGivenBy (present entries) s.fixed.lits
+
+-- what stands, where it was made
+abbrev pub MayStand : Sizes → List (Option (List Lit)) → Option Standing → Type 0
+MayStand sizes entries standing = MatchOption standing ⊤ (λ s. IsStanding sizes entries s)

@@ -10,7 +10,6 @@ use crate::fault::{CheckError, FaultKind, LogFault};
 use crate::hints::Truths;
 use crate::lines::{Earlier, Outcome, checked};
 use crate::positions::Positions;
-use crate::standing::Standing;
 use crate::units::Units;
 use gh_base::clause::Clause;
 use gh_base::ground::Ground;
@@ -24,11 +23,10 @@ fn nothing_before(alloc: Global, ground: &Ground) -> Result<Earlier, AllocError>
     ensures ready { IfOk result (λ e. IsReady ground.now.sizes e) }
 {
     let kept = Positions::new(alloc)?;
-    let standing = Standing::new(alloc, ground.sizes())?;
     let truths = Truths::new(alloc, ground.sizes())?;
     Ok(Earlier {
         kept,
-        standing,
+        standing: None,
         units: Units::new(),
         truths,
     })

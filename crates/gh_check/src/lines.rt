@@ -10,12 +10,12 @@ ghost use Rattle.gh_base.specs.Grounds.{Problem};
 ghost use Rattle.gh_check.specs.Kept.{AreWithin};
 ghost use Rattle.gh_check.specs.Lines.{IsChecked, Answers, Leaves, IsReady};
 ghost use Rattle.gh_check.specs.Assuming.{IsBehind};
-ghost use Rattle.gh_check.specs.Standing.{IsStanding};
+ghost use Rattle.gh_check.specs.Standing.{MayStand};
 
 use crate::fault::FaultKind;
 use crate::hints::Truths;
 use crate::positions::Positions;
-use crate::standing::Standing;
+use crate::standing::{Standing, finds_hints};
 use crate::units::Units;
 use gh_base::atom::Lit;
 use gh_base::clause::Clause;
@@ -37,7 +37,7 @@ pub enum Outcome {
 #[derive(Drop)]
 pub struct Earlier {
     pub kept: Positions,
-    pub standing: Standing,
+    pub standing: Option<Standing>,
     pub units: Units,
     pub truths: Truths,
 }
@@ -87,21 +87,21 @@ fn checked_learnt(
     alloc: Global,
     ground: &Ground,
     kept: &Positions,
-    standing: &mut Standing,
+    standing: &mut Option<Standing>,
     units: &mut Units,
     clause: &Clause,
 ) -> Result<Outcome, AllocError>
-    requires standing { IsStanding ground.now.sizes kept.now.clauses standing.old }
+    requires standing { MayStand ground.now.sizes kept.now.clauses standing.old }
     requires behind { IsBehind ground.now.sizes kept.now.clauses units.old }
     requires within { AreWithin ground.now.sizes kept.now.clauses }
     ensures checked { IfOk result (Answers ground.now kept.now (line_kind.Learnt clause.now)) }
-    ensures standing { OnOk result (IsStanding ground.now.sizes kept.now.clauses standing.new) }
+    ensures standing { OnOk result (MayStand ground.now.sizes kept.now.clauses standing.new) }
     ensures behind { OnOk result (IsBehind ground.now.sizes kept.now.clauses units.new) }
 {
     if !are_in_range(ground.sizes(), clause.lits()) {
         return Ok(Outcome::Faulty(FaultKind::NotImplied));
     }
-    if standing.shows(ground.sizes(), kept, clause.lits())? {
+    if finds_hints(alloc, standing, ground.sizes(), kept, clause.lits())? {
         return Ok(Outcome::Holds(Some(clause.copy(alloc)?)));
     }
     if !units.are_implied(alloc, ground.sizes(), kept, clause.lits())? {

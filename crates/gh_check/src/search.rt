@@ -45,7 +45,7 @@ fn code_of(sizes: Sizes, lit: Lit) -> u32 {
 
 /// The clauses of lines with their watched literals, and a trail.
 #[derive(Drop)]
-pub struct Search {
+pub(crate) struct Search {
     // One more than the place on the trail of each literal that is true, by its code, else 0.
     places: Vec<u32>,
     trail: Vec<u32>,
@@ -72,7 +72,7 @@ pub struct Search {
 
 impl Search {
     /// No clause.
-    pub fn new(alloc: Global) -> Search {
+    pub(crate) fn new(alloc: Global) -> Search {
         Search {
             places: Vec::new(alloc),
             trail: Vec::new(alloc),
@@ -93,7 +93,7 @@ impl Search {
     }
 
     /// The positions that were found, in the order in which their clauses force literals. The last one's may be false.
-    pub fn hints(&self) -> &[u32] {
+    pub(crate) fn hints(&self) -> &[u32] {
         self.hints.as_slice()
     }
 
@@ -417,7 +417,11 @@ impl Search {
     }
 
     /// Takes in the lines that weren't taken in, and finds hints for what follows from the clauses alone.
-    pub fn settle(&mut self, sizes: Sizes, entries: &[Option<Clause>]) -> Result<(), AllocError> {
+    pub(crate) fn settle(
+        &mut self,
+        sizes: Sizes,
+        entries: &[Option<Clause>],
+    ) -> Result<(), AllocError> {
         self.prepare(sizes)?;
         self.hints.clear();
         for position in self.taken..entries.len().min(MOST) {
@@ -452,7 +456,7 @@ impl Search {
     }
 
     /// Finds hints that show a clause. Answers whether there are some.
-    pub fn find(&mut self, sizes: Sizes, lits: &[Lit]) -> Result<bool, AllocError> {
+    pub(crate) fn find(&mut self, sizes: Sizes, lits: &[Lit]) -> Result<bool, AllocError> {
         self.hints.clear();
         if let Some(position) = self.broken {
             self.pass();

@@ -9,7 +9,7 @@ ghost use Rattle.gh_base.specs.Hints.{IsRefutedByHints};
 ghost use Rattle.gh_base.specs.Propagation.{FollowsByUnits};
 ghost use Rattle.gh_check.specs.Kept.{named, present, AreWithin};
 ghost use Rattle.gh_check.specs.Truths.{IsFalseBy, IsOpenIn, IsLook, HasBoth};
-ghost use Rattle.gh_check.specs.Standing.{AreGivenBy, IsStanding};
+ghost use Rattle.gh_check.specs.Standing.{AreGivenBy, IsStanding, MayStand};
 
 use crate::hints::{Look, Truths};
 use crate::positions::Positions;
@@ -236,4 +236,36 @@ impl Standing {
         let shown = are_confirmed(&self.fixed, &mut self.above, kept, lits, hints)?;
         Ok(shown)
     }
+}
+
+// What stands; nothing where that wasn't made.
+fn begun(alloc: Global, sizes: Sizes, standing: Option<Standing>) -> Result<Standing, AllocError>
+    ensures { IfOk result (λ s. (entries : List (Option (List Lit)))
+        → MayStand sizes entries standing → IsStanding sizes entries s) }
+{
+    match standing {
+        Some(standing) => Ok(standing),
+        None => Ok(Standing::new(alloc, sizes)?),
+    }
+}
+
+/// Whether hints are found by which unit propagation shows the clause of some literals. What stands is made at the
+/// first such clause.
+pub fn finds_hints(
+    alloc: Global,
+    standing: &mut Option<Standing>,
+    sizes: Sizes,
+    kept: &Positions,
+    lits: &[Lit],
+) -> Result<bool, AllocError>
+    requires standing { MayStand sizes kept.now.clauses standing.old }
+    requires range { AreInRange sizes lits.now }
+    requires within { AreWithin sizes kept.now.clauses }
+    ensures shown { IfOk result (λ b. IsTrue b → FollowsByUnits (present kept.now.clauses) lits.now) }
+    ensures standing { OnOk result (MayStand sizes kept.now.clauses standing.new) }
+{
+    let mut found = begun(alloc, sizes, standing.take())?;
+    let shown = found.shows(sizes, kept, lits)?;
+    *standing = Some(found);
+    Ok(shown)
 }

@@ -19,5 +19,5 @@ returns-clause-checked c =
 pub returns-then-branch-clause-checked : goal.returns-then-branch-clause-checked
 returns-then-branch-clause-checked c =
     let range = subst (AreInRange c.args.ground.now.sizes) c.lits.ensures (subst (λ s. AreInRange s c.lits.result.now) c.sizes.ensures.sizes (c.if-not-are_in_range.ensures.0 refl)) in
-    let follows = subst (FollowsByUnits (present c.args.kept.now.clauses)) c.lits-2.ensures (c.in_ok-shows.ensures.shown c.if-branch.true) in
+    let follows = subst (FollowsByUnits (present c.args.kept.now.clauses)) c.lits-2.ensures (c.in_ok-finds_hints.ensures.shown c.if-branch.true) in
     λ earlier h. learnt_taken c.args.ground.now earlier c.args.kept.now c.args.clause.now c.in_ok-copy.field-0 h range follows c.in_ok-copy.ensures
