@@ -9,7 +9,7 @@ import os, re, subprocess, sys
 
 NUMBER = r"(?:0|[1-9]\d*)"
 ATOM = r"(?:E\.N\.N|B\.N\.N\.N\.N|H\.N\.N\.N|A\.N\.N|D\.N)".replace("N", NUMBER)
-LINE = re.compile(r"a(?P<a>(?: N){3,6})|g (?P<g>N)|e(?P<e>(?: -?ATOM)*)|l(?P<l>(?: -?ATOM)*)(?P<h> ;(?: N)*)?|d(?P<d>(?: N)+)".replace("ATOM", ATOM).replace("N", NUMBER))
+LINE = re.compile(r"a(?P<a>(?: N){3,6})|g (?P<g>N)|e(?P<e>(?: -?ATOM)*)|l(?P<l>(?: -?ATOM)*)(?P<h> ;(?: N)*)?|d(?P<d>(?: N)*)".replace("ATOM", ATOM).replace("N", NUMBER))
 # the rows of axioms: how many terms, and the clause over the version i and the terms x, y, ..
 ROWS = {1: (1, "B.i.0.0.0"), 2: (2, "-B.i.0.1.0 E.0.1"), 3: (3, "-B.i.0.1.1 -B.i.0.2.2 B.i.0.1.2 B.i.0.2.1"), 4: (3, "-B.i.0.1.2 B.i.0.1.1"),
         5: (3, "-B.i.0.1.2 B.i.1.2.2"), 6: (3, "-B.i.0.1.1 -B.i.1.2.2 B.i.0.2.2"), 7: (4, "-B.i.0.1.3 -B.i.1.2.3 B.i.0.1.2"),
@@ -123,7 +123,7 @@ class Condition:
 def is_spelled(line, version):
     """Whether a line is in the grammar, with its numbers in range."""
     found = LINE.fullmatch(line)
-    if not found or (version == 1) != (found["h"] is None) and found["l"] is not None or version == 1 and found["d"]:
+    if not found or (version == 1) != (found["h"] is None) and found["l"] is not None or version == 1 and found["d"] is not None:
         return None
     small = [int(number) for number in (found["a"] or "").split()]
     if small and (small[0] not in ROWS or len(small) != 2 + ROWS[small[0]][0]) and version and small[0] > 255:
@@ -160,10 +160,10 @@ def fault(condition, section, version, last):
     standing, clause = {}, None
     for position, (number, found) in enumerate(section, 1):
         positions = [int(word) for word in re.findall(r"\d+", found["d"] or found["h"] or "")]
-        if any(word not in standing for word in positions) or found["d"] and len(set(positions)) < len(positions):
+        if any(word not in standing for word in positions) or found["d"] is not None and len(set(positions)) < len(positions):
             return number, "NoSuchLine"
         last = number
-        if found["d"]:
+        if found["d"] is not None:
             for word in positions:
                 del standing[word]
             clause = None

@@ -1,5 +1,5 @@
 -- What is kept of lines, and what the definitions say of these.
-use Rattle.std.proofs.Common.{◌≡◌, ◌≢◌, ◌↔◌, ◌∙◌, inl, inr, ◌+◌, ◌<◌, ◌&&◌, ℕ, zero, suc, List, [], ◌∷◌, ◌++◌, length, map, take, get_or, Bool, true, false, not, Option, Some, None, All, IsTrue, refl, sym, ap, subst, arith, add-one}
+use Rattle.std.proofs.Common.{◌≡◌, ◌≢◌, ◌↔◌, ◌∙◌, inl, inr, ◌+◌, ◌<◌, ◌&&◌, ℕ, zero, suc, List, [], ◌∷◌, ◌++◌, length, map, take, get_or, replicate, Bool, true, false, not, Option, Some, None, All, IsTrue, refl, sym, ap, subst, arith, add-one}
 use Rattle.std.specs.Prelude.{slice_get, slice_set, slice_index_or, is_some, unwrap_or, Contains}
 use Rattle.std.specs.List.{cons_option}
 use Rattle.std.proofs.lemmas.List.{map-append, take_more, get_or-take, length-take-le}
@@ -9,10 +9,10 @@ use Rattle.std.proofs.lemmas.Bool.{cases_eq, both_ways}
 use Rattle.gh_base.specs.declared.atom.Lit.{Lit}
 use Rattle.gh_base.specs.Grounds.{Problem}
 use Rattle.gh_base.specs.Hints.{IsShownByHints}
-use Rattle.gh_log.specs.declared.lines.LogLine.{LogLine}
+use Rattle.gh_log.specs.Lines.{LogLine}
 use Rattle.gh_log.specs.Sections.{line_clause, clauses_of, Deletes, HasClauseAt, Stands, AllStand, AreAt, IsHinted}
 use Rattle.gh_log.proofs.NumberLemmas.{all_before}
-use Rattle.gh_check.specs.Kept.{Kept, stands_in, clause_at, named, IsWithin, AreWithin, present, AreDeleted, MayBeDeleted, AreLinesKept}
+use Rattle.gh_check.specs.Kept.{Kept, IsLeft, IsFirst, stands_in, clause_at, named, IsWithin, AreWithin, present, AreDeleted, MayBeDeleted, AreLinesKept}
 
 -- the clause of the line at a place
 entry_at : (p : Problem) (lines : List LogLine) (place : ℕ) (c : List Lit) → slice_index_or (map (line_clause p) lines) place None ≡ Some c
@@ -110,40 +110,43 @@ pub present_is : (p : Problem) (lines : List LogLine) (k : Kept) → AreLinesKep
 present_is p lines k h = ap present h.clauses ∙ present_map p lines
 
 -- one more line
-pushed_false : (ds : List Bool) (n : ℕ) → slice_index_or (ds ++ false ∷ []) n false ≡ slice_index_or ds n false
-pushed_false [] zero = refl
-pushed_false [] (suc n) = refl
-pushed_false (d ∷ ds) zero = refl
-pushed_false (d ∷ ds) (suc n) = pushed_false ds n
-
-pub kept_then : (p : Problem) (lines : List LogLine) (old new : Kept) (l : LogLine) (o : Option (List Lit)) → AreLinesKept p lines old → new.clauses ≡ old.clauses
-    → ((n : ℕ) → (slice_index_or new.deleted n false ≡ false) ↔ ((slice_index_or old.deleted n false ≡ false) × (Deletes l n → ⊥))) → o ≡ line_clause p l → IsWithin p.sizes o
-    → AreLinesKept p (lines ++ l ∷ []) (record { clauses = new.clauses ++ o ∷ []; deleted = new.deleted ++ false ∷ [] })
-kept_then p lines old new l o h same marks is within =
+pub kept_then : (p : Problem) (lines : List LogLine) (old new : Kept) (l : LogLine) → AreLinesKept p lines old → new.clauses ≡ old.clauses
+    → ((n : ℕ) → IsLeft new n ↔ (IsLeft old n × (Deletes l n → ⊥))) → IsWithin p.sizes (line_clause p l)
+    → AreLinesKept p (lines ++ l ∷ []) (record new { clauses = new.clauses ++ line_clause p l ∷ [] })
+kept_then p lines old new l h same marks within =
     record {
-      clauses = ap (λ xs. xs ++ o ∷ []) (same ∙ h.clauses) ∙ ap (λ x. None ∷ (map (line_clause p) lines ++ x ∷ [])) is ∙ ap (λ xs. None ∷ xs) (sym (map-append (line_clause p) lines (l ∷ [])));
+      clauses = ap (λ xs. xs ++ line_clause p l ∷ []) (same ∙ h.clauses) ∙ ap (λ xs. None ∷ xs) (sym (map-append (line_clause p) lines (l ∷ [])));
       stand = λ n. (
-        (λ e. let parts = (marks n).0 (sym (pushed_false new.deleted n) ∙ e) in All-push (λ m. Deletes m n → ⊥) lines l ((h.stand n).0 parts.0) parts.1),
-        (λ a. pushed_false new.deleted n ∙ (marks n).1 ((h.stand n).1 (all_before (λ m. Deletes m n → ⊥) lines (l ∷ []) a), All-contains (λ m. Deletes m n → ⊥) (lines ++ l ∷ []) l a (Contains-push lines l))),
+        (λ e. let parts = (marks n).0 e in All-push (λ m. Deletes m n → ⊥) lines l ((h.stand n).0 parts.0) parts.1),
+        (λ a. (marks n).1 ((h.stand n).1 (all_before (λ m. Deletes m n → ⊥) lines (l ∷ []) a), All-contains (λ m. Deletes m n → ⊥) (lines ++ l ∷ []) l a (Contains-push lines l))),
       );
-      within = All-push (IsWithin p.sizes) new.clauses o (subst (AreWithin p.sizes) (sym same) h.within) within;
+      within = All-push (IsWithin p.sizes) new.clauses (line_clause p l) (subst (AreWithin p.sizes) (sym same) h.within) within;
     }
 
 -- a line that deletes nothing
-pub kept_push : (p : Problem) (lines : List LogLine) (k : Kept) (l : LogLine) (o : Option (List Lit)) → AreLinesKept p lines k → ((n : ℕ) → Deletes l n → ⊥) → o ≡ line_clause p l → IsWithin p.sizes o
-    → AreLinesKept p (lines ++ l ∷ []) (record { clauses = k.clauses ++ o ∷ []; deleted = k.deleted ++ false ∷ [] })
-kept_push p lines k l o h none is within = kept_then p lines k k l o h refl (λ n. ((λ e. (e, none n)), (λ w. w.0))) is within
+pub kept_push : (p : Problem) (lines : List LogLine) (k : Kept) (l : LogLine) → AreLinesKept p lines k → ((n : ℕ) → Deletes l n → ⊥) → IsWithin p.sizes (line_clause p l)
+    → AreLinesKept p (lines ++ l ∷ []) (record k { clauses = k.clauses ++ line_clause p l ∷ [] })
+kept_push p lines k l h none within = kept_then p lines k k l h refl (λ n. ((λ e. (e, none n)), (λ w. w.0))) within
 
-pub kept_first : (p : Problem) (k : Kept) → k ≡ record { clauses = None ∷ []; deleted = false ∷ [] } → AreLinesKept p [] k
-kept_first p k e = subst (AreLinesKept p []) (sym e) (record {
-  clauses = refl;
-  stand = λ n. ((λ _. λ i d lt. absurd (omega arith)), (λ _. pushed_false [] n));
-  within = All-cons (IsWithin p.sizes) None [] (λ c f. absurd (cc)) (λ i d lt. absurd (omega arith));
-})
+none_within : (p : Problem) → AreWithin p.sizes (None ∷ [])
+none_within p = All-cons (IsWithin p.sizes) None [] (λ c f. absurd (cc)) (λ i d lt. absurd (omega arith))
+
+pub kept_first : (p : Problem) (lines : List LogLine) (k : Kept) → IsFirst p lines k → AreLinesKept p [] k
+kept_first p lines k f = record {
+  clauses = f.clauses;
+  stand = λ n. ((λ _. λ i d lt. absurd (omega arith)), (λ _. f.left n));
+  within = subst (AreWithin p.sizes) (sym f.clauses) (none_within p);
+}
+
+-- no position has a mark at first
+pub none_marked : (count n : ℕ) → slice_index_or (replicate count false) n false ≡ false
+none_marked zero n = refl
+none_marked (suc count) zero = refl
+none_marked (suc count) (suc n) = none_marked count n
 
 -- deletions
 pub deleted_none : (k : Kept) → AreDeleted k k []
-deleted_none k = record { clauses = refl; deleted = λ n. ((λ e. (e, λ w. absurd (omega (arith, w.1)))), (λ w. w.0)) }
+deleted_none k = record { problem = refl; lines_are = refl; clauses = refl; deleted = λ n. ((λ e. (e, λ w. absurd (omega (arith, w.1)))), (λ w. w.0)) }
 
 one_there : (n m : ℕ) → Contains (n ∷ []) m → n ≡ m
 one_there n m w = by w.0 w.1 w.2
@@ -155,6 +158,8 @@ one_there n m w = by w.0 w.1 w.2
 pub deleted_more : (old mid new : Kept) (ks : List ℕ) (n : ℕ) → AreDeleted old mid ks → AreDeleted mid new (n ∷ []) → AreDeleted old new (ks ++ n ∷ [])
 deleted_more old mid new ks n a b =
     record {
+      problem = b.problem ∙ a.problem;
+      lines_are = b.lines_are ∙ a.lines_are;
       clauses = b.clauses ∙ a.clauses;
       deleted = λ m. (
         (λ e.
@@ -180,9 +185,11 @@ set_others (d ∷ ds) zero (suc m) ne = refl
 set_others (d ∷ ds) (suc n) zero ne = refl
 set_others (d ∷ ds) (suc n) (suc m) ne = set_others ds n m (λ e. ne (ap suc e))
 
-pub deleted_one : (k : Kept) (n : ℕ) → n < length k.deleted → AreDeleted k (record { clauses = k.clauses; deleted = slice_set k.deleted n true }) (n ∷ [])
+pub deleted_one : (k : Kept) (n : ℕ) → n < length k.deleted → AreDeleted k (record k { deleted = slice_set k.deleted n true }) (n ∷ [])
 deleted_one k n lt =
     record {
+      problem = refl;
+      lines_are = refl;
       clauses = refl;
       deleted = λ m. elim (cases_eq n m) as (λ _. (slice_index_or (slice_set k.deleted n true) m false ≡ false) ↔ ((slice_index_or k.deleted m false ≡ false) × (Contains (n ∷ []) m → ⊥))) [
         | inl e ↦ (

@@ -5,3 +5,4 @@ pub mod LineLemmas
 pub mod UnitsLemmas
 pub mod StandingLemmas
 pub mod SectionLemmas
+pub mod PositionLemmas

@@ -1,7 +1,7 @@
 -- What the checker answers.
 use Rattle.std.specs.Prelude.{◌≡◌, ◌+◌, ℕ, List}
 use Rattle.gh_base.specs.Grounds.{Problem}
-use Rattle.gh_log.specs.declared.lines.LogLine.{LogLine}
+use Rattle.gh_log.specs.Lines.{LogLine}
 use Rattle.gh_log.specs.Sections.{IsValidSection, IsFirstFault}
 use Rattle.gh_check.specs.declared.fault.CheckError.{CheckError}
 use Rattle.gh_check.specs.declared.fault.CheckError.TheVariants.{Fault, OutOfMemory}

@@ -1,28 +1,57 @@
 -- What is kept of the lines before: their clauses by their positions, and which positions a line deletes.
-use Rattle.std.specs.Prelude.{◌≡◌, ◌≢◌, ◌↔◌, ◌&&◌, ℕ, List, [], ◌∷◌, ◌++◌, map, filter_map, Bool, false, not, Option, Some, None, All, AllPairs, Contains, IsTrue, is_some, unwrap_or, slice_index_or}
+use Rattle.std.specs.Prelude.{◌≡◌, ◌≢◌, ◌↔◌, ◌&&◌, ⊤, ◌+◌, ◌-◌, ◌≤◌, ℕ, List, [], ◌∷◌, ◌++◌, map, take, length, filter_map, Bool, false, not, Option, Some, None, All, AllPairs, Contains, IsTrue, is_some, unwrap_or, slice_get, slice_index_or}
 use Rattle.gh_base.specs.declared.atom.Lit.{Lit}
 use Rattle.gh_base.specs.declared.sizes.Sizes.{Sizes}
 use Rattle.gh_base.specs.Atoms.{AreInRange}
 use Rattle.gh_base.specs.Grounds.{Problem}
-use Rattle.gh_log.specs.declared.lines.LogLine.{LogLine}
+use Rattle.gh_inst.specs.Instances.{IsInstance}
+use Rattle.gh_log.specs.Lines.{LogLine}
+use Rattle.gh_log.specs.Lines as line
 use Rattle.gh_log.specs.Sections.{line_clause, Deletes}
 
--- what callers see of `Positions`, by position. Position 0 is that of no line
+-- What callers see of `Positions`: the ground clauses and all lines of a section, the clauses of the lines that were
+-- taken, and which positions a line deletes. Both are by position, and position 0 is that of no line.
 pub record Kept : Type 0 where
+  pub problem : Problem
+  pub lines : List LogLine
   pub clauses : List (Option (List Lit))
   pub deleted : List Bool
 
--- before the first line
-abbrev pub no_line : Kept
-no_line = record { clauses = None ∷ []; deleted = false ∷ [] }
-
 -- with one more line, by its clause, if it has one
 abbrev pub with_line : Kept → Option (List Lit) → Kept
-with_line k clause = record { clauses = k.clauses ++ clause ∷ []; deleted = k.deleted ++ false ∷ [] }
+with_line k clause = record k { clauses = k.clauses ++ clause ∷ [] }
+
+-- the line to be taken next
+abbrev pub next_line : Kept → Option LogLine
+next_line k = slice_get k.lines (length k.clauses - 1)
+
+-- what the line names is an instance, if it is a line of an axiom
+abbrev pub IsNamed : Problem → LogLine → Type 0
+IsNamed p (line.Axiom name) = IsInstance p.sizes.terms p.sizes.versions name
+IsNamed p _ = ⊤
+
+-- there is a line to be taken next, and what it names is an instance
+pub record HasNext (k : Kept) : Type 0 where
+  pub line : LogLine
+  pub next : next_line k ≡ Some line
+  pub named : IsNamed k.problem line
 
 -- no line deletes the position
 abbrev pub IsLeft : Kept → ℕ → Type 0
 IsLeft k position = slice_index_or k.deleted position false ≡ false
+
+-- before the first line of these
+pub record IsFirst (p : Problem) (lines : List LogLine) (k : Kept) : Type 0 where
+  pub problem : k.problem ≡ p
+  pub lines_are : k.lines ≡ lines
+  pub clauses : k.clauses ≡ None ∷ []
+  pub left : (position : ℕ) → IsLeft k position
+
+-- so many of the lines were taken, whose axiom lines all name instances, and each position has a mark
+pub record IsMarked (p : Problem) (lines : List LogLine) (taken : ℕ) (deleted : List Bool) : Type 0 where
+  pub within : taken ≤ length lines
+  pub marks : length deleted ≡ length lines + 1
+  pub named : All (IsNamed p) (take taken lines)
 
 -- there is a clause at the position, and the position isn't deleted
 abbrev pub stands_in : Kept → ℕ → Bool
@@ -49,6 +78,8 @@ present entries = filter_map (λ o. o) entries
 
 -- some positions were deleted besides
 pub record AreDeleted (old new : Kept) (positions : List ℕ) : Type 0 where
+  pub problem : new.problem ≡ old.problem
+  pub lines_are : new.lines ≡ old.lines
   pub clauses : new.clauses ≡ old.clauses
   pub deleted : (k : ℕ) → IsLeft new k ↔ (IsLeft old k × (Contains positions k → ⊥))
 

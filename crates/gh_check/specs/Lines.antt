@@ -1,8 +1,7 @@
 -- The check of one line.
-use Rattle.std.specs.Prelude.{◌≡◌, ⊤, List, [], ◌∷◌, ◌++◌, Option}
-use Rattle.gh_base.specs.declared.atom.Lit.{Lit}
+use Rattle.std.specs.Prelude.{◌≡◌, ⊤, List, [], ◌∷◌, ◌++◌}
 use Rattle.gh_base.specs.Grounds.{Problem}
-use Rattle.gh_log.specs.declared.lines.LogLine.{LogLine}
+use Rattle.gh_log.specs.Lines.{LogLine}
 use Rattle.gh_log.specs.Sections.{IsOfKind, IsFaultOf, line_clause}
 use Rattle.gh_base.specs.declared.sizes.Sizes.{Sizes}
 use Rattle.gh_check.specs.Kept.{Kept, with_line, AreLinesKept, IsWithin, AreWithin}
@@ -13,21 +12,20 @@ use Rattle.gh_check.specs.declared.lines.Earlier.{Earlier}
 use Rattle.gh_check.specs.declared.lines.Outcome.{Outcome}
 use Rattle.gh_check.specs.declared.lines.Outcome.TheVariants.{Faulty, Holds}
 
--- the line is of its kind after these lines, and has this clause
-pub record IsTaken (p : Problem) (earlier : List LogLine) (line : LogLine) (clause : Option (List Lit)) : Type 0 where
+-- the line is of its kind after these lines
+pub record IsTaken (p : Problem) (earlier : List LogLine) (line : LogLine) : Type 0 where
   pub kind : IsOfKind p earlier line
-  pub is : clause ≡ line_clause p line
-  pub within : IsWithin p.sizes clause
+  pub within : IsWithin p.sizes (line_clause p line)
 
--- the clause of a line that is of its kind, the fault of one that isn't
+-- whether a line is of its kind, and the fault of one that isn't
 abbrev pub IsChecked : Problem → List LogLine → LogLine → Outcome → Type 0
 IsChecked p earlier line (Faulty kind) = (IsOfKind p earlier line → ⊥) × IsFaultOf p earlier line (fault_number kind)
-IsChecked p earlier line (Holds clause) = IsTaken p earlier line clause
+IsChecked p earlier line Holds = IsTaken p earlier line
 
 -- with the clause of a line that is of its kind, this is kept of it and the lines before
 abbrev pub IsKeptAfter : Problem → List LogLine → LogLine → Outcome → Kept → Type 0
 IsKeptAfter p earlier line (Faulty kind) k = ⊤
-IsKeptAfter p earlier line (Holds clause) k = AreLinesKept p (earlier ++ line ∷ []) (with_line k clause)
+IsKeptAfter p earlier line Holds k = AreLinesKept p (earlier ++ line ∷ []) (with_line k (line_clause p line))
 
 -- the outcome for a line after all lines of which this is kept
 abbrev pub Answers : Problem → Kept → LogLine → Outcome → Type 0

@@ -1,9 +1,11 @@
 //! Whether a section is valid for ground clauses.
 
-ghost use Rattle.std.specs.Prelude.{◌≡◌, ◌↔◌, ◌+◌, ◌≤◌, ◌∷◌, ◌++◌, [], false, Some, IfOk, IfErr, OnOk, IsTrue, vec_len};
-ghost use Rattle.gh_log.specs.Sections.{IsValidSection};
+ghost use Rattle.std.specs.Prelude.{◌≡◌, ◌+◌, ◌≤◌, Some, IfOk, IfErr, OnOk, length};
+ghost use Rattle.gh_base.specs.declared.sizes.Sizes.{Sizes as Numbers};
+ghost use Rattle.gh_log.specs.Lines.{LogLine as Line};
+ghost use Rattle.gh_log.specs.Sections.{line_clause, IsValidSection};
 ghost use Rattle.gh_check.specs.Answers.{IsSectionError};
-ghost use Rattle.gh_check.specs.Kept.{with_line, AreLinesKept, IsWithin};
+ghost use Rattle.gh_check.specs.Kept.{IsFirst, HasNext, next_line, with_line, IsWithin};
 ghost use Rattle.gh_check.specs.Lines.{IsReady};
 
 use crate::fault::{CheckError, FaultKind, LogFault};
@@ -11,18 +13,21 @@ use crate::hints::Truths;
 use crate::lines::{Earlier, Outcome, checked};
 use crate::positions::Positions;
 use crate::units::Units;
-use gh_base::clause::Clause;
 use gh_base::ground::Ground;
-use gh_base::sizes::Sizes;
-use gh_log::lines::Section;
+use gh_log::lines::{Lines, Section};
 use std::alloc::{AllocError, Global};
 
 // What is kept before the first line.
-fn nothing_before(alloc: Global, ground: &Ground) -> Result<Earlier, AllocError>
-    ensures kept { IfOk result (λ e. AreLinesKept ground.now [] e.kept) }
+fn nothing_before<'s>(
+    alloc: Global,
+    ground: &'s Ground,
+    lines: &'s Lines,
+) -> Result<Earlier<'s>, AllocError>
+    requires { length lines.now ≤ 4294967295 }
+    ensures first { IfOk result (λ e. IsFirst ground.now lines.now e.kept) }
     ensures ready { IfOk result (λ e. IsReady ground.now.sizes e) }
 {
-    let kept = Positions::new(alloc)?;
+    let kept = Positions::new(alloc, ground, lines)?;
     let truths = Truths::new(alloc, ground.sizes())?;
     Ok(Earlier {
         kept,
@@ -32,46 +37,35 @@ fn nothing_before(alloc: Global, ground: &Ground) -> Result<Earlier, AllocError>
     })
 }
 
-// Whether a line has a clause, and that is empty.
-fn has_empty(clause: &Option<Clause>) -> bool
-    ensures { IsTrue result ↔ (clause.now ≡ Some []) }
-{
-    match clause {
-        None => false,
-        Some(clause) => clause.lits().is_empty(),
-    }
-}
-
 // Keeps one more line.
-fn keep(before: &mut Earlier, sizes: Sizes, clause: Option<Clause>) -> Result<(), AllocError>
-    requires ready { IsReady sizes before.old }
-    requires within { IsWithin sizes clause }
-    ensures kept { OnOk result (before.new.kept ≡ with_line before.old.kept clause) }
-    ensures ready { OnOk result (IsReady sizes before.new) }
+fn keep(before: &mut Earlier<'_>)
+    requires { HasNext before.old.kept }
+    ensures kept { (l : Line) → next_line before.old.kept ≡ Some l
+        → before.new.kept ≡ with_line before.old.kept (line_clause before.old.kept.problem l) }
+    ensures ready { (sizes : Numbers) (l : Line) → next_line before.old.kept ≡ Some l
+        → IsWithin sizes (line_clause before.old.kept.problem l)
+        → IsReady sizes before.old → IsReady sizes before.new }
 {
-    before.kept.push(clause)?;
-    Ok(())
+    before.kept.advance();
 }
 
 /// Checks each line of a section, in order.
 pub fn check_log(alloc: Global, ground: &Ground, section: &Section) -> Result<(), CheckError>
-    requires { section.now.first + vec_len section.now.lines ≤ 4294967295 }
-    ensures valid { OnOk result (IsValidSection ground.now section.now.lines.items) }
-    ensures refused { IfErr result (IsSectionError ground.now section.now.first section.now.lines.items) }
+    requires { section.now.first + length section.now.lines ≤ 4294967295 }
+    ensures valid { OnOk result (IsValidSection ground.now section.now.lines) }
+    ensures refused { IfErr result (IsSectionError ground.now section.now.first section.now.lines) }
 {
-    let mut before = nothing_before(alloc, ground)?;
+    let lines = &section.lines;
+    let mut before = nothing_before(alloc, ground, lines)?;
     let mut line = section.first;
-    let mut is_empty = false;
-    for entry in &section.lines {
-        let clause = match checked(alloc, ground, &mut before, entry)? {
-            Outcome::Holds(clause) => clause,
+    for place in 0..lines.len() {
+        match checked(alloc, ground, &mut before, lines.line(place))? {
+            Outcome::Holds => keep(&mut before),
             Outcome::Faulty(kind) => return Err(CheckError::Fault(LogFault::new(kind, line))),
-        };
-        is_empty = has_empty(&clause);
-        keep(&mut before, ground.sizes(), clause)?;
+        }
         line += 1;
     }
-    if is_empty {
+    if before.kept.ends_empty() {
         Ok(())
     } else {
         let fault = LogFault::new(FaultKind::NoEmptyClause, line);

@@ -5,7 +5,7 @@ ghost use Rattle.gh_base.specs.declared.atom.Lit.{Lit};
 ghost use Rattle.gh_base.specs.Atoms.{opposite, IsInRange, AreInRange};
 ghost use Rattle.gh_base.specs.Assignments.{value_of};
 ghost use Rattle.gh_base.specs.Hints.{IsRefutedByHints, IsShownByHints};
-ghost use Rattle.gh_check.specs.Kept.{named, AreWithin};
+ghost use Rattle.gh_check.specs.Kept.{clause_at, named, AreWithin};
 ghost use Rattle.gh_check.specs.Truths.{IsTable, IsConsistent, IsFalseBy, IsOpenIn, HasOpposites, IsLook};
 
 use crate::positions::Positions;
@@ -147,6 +147,15 @@ impl Truths {
         Look::Open
     }
 
+    /// What the clause at a position is.
+    pub fn look_at(&self, kept: &Positions<'_>, position: u32) -> Look
+        requires { AreWithin self.now.sizes kept.now.clauses }
+        ensures { IsLook self.now.lits (clause_at kept.now position) result }
+    {
+        let clause = kept.clause(position as usize);
+        self.look(clause.lits())
+    }
+
     // Makes literals false, where none is true. Answers whether one of them and its opposite are among them.
     fn falsify(&mut self, lits: &[Lit]) -> Result<bool, AllocError>
         requires none { self.old.lits ≡ [] }
@@ -167,13 +176,13 @@ impl Truths {
     }
 
     // Takes hints in order. Answers whether the clause of one of them comes to be false.
-    fn follow(&mut self, kept: &Positions, hints: &[u32]) -> Result<bool, AllocError>
+    fn follow(&mut self, kept: &Positions<'_>, hints: &[u32]) -> Result<bool, AllocError>
         requires { AreWithin self.old.sizes kept.now.clauses }
         ensures exact { IfOk result (λ b. IsTrue b ↔ IsRefutedByHints (named kept.now hints.now) self.old.lits) }
         ensures sizes { OnOk result (self.new.sizes ≡ self.old.sizes) }
     {
         for hint in hints {
-            match self.look(kept.lits(*hint)) {
+            match self.look_at(kept, *hint) {
                 Look::False => return Ok(true),
                 Look::Unit(lit) => self.add(lit)?,
                 Look::Open => return Ok(false),
@@ -185,7 +194,7 @@ impl Truths {
     /// Whether the clauses at the hints, taken in order, show the clause of some literals.
     pub fn are_shown(
         &mut self,
-        kept: &Positions,
+        kept: &Positions<'_>,
         lits: &[Lit],
         hints: &[u32],
     ) -> Result<bool, AllocError>

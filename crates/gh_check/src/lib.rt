@@ -2,6 +2,7 @@
 #![tactic(auto)]
 
 pub mod check;
+mod clauses;
 pub mod fault;
 mod hints;
 pub mod laws;

@@ -1,72 +1,140 @@
 //! Lines by their positions.
 
-ghost use Rattle.std.specs.Prelude.{List, ◌≡◌, ◌↔◌, ◌∷◌, ◌++◌, [], false, None, All, IfOk, OnOk, IsTrue, is_some, length, slice_index_or};
+ghost use Rattle.std.specs.Prelude.{List, ◌≡◌, ◌↔◌, ◌-◌, ◌≤◌, ◌∷◌, ◌++◌, [], false, Some, None, All, IfOk, OnOk, IsTrue, MatchOption, is_some, length, slice_index_or};
 ghost use Rattle.gh_base.specs.Grounds.{Problem};
-ghost use Rattle.gh_log.specs.declared.lines.LogLine.{LogLine};
-ghost use Rattle.gh_log.specs.Sections.{AllStand};
-ghost use Rattle.gh_check.specs.Kept.{no_line, with_line, AreLinesKept, stands_in, clause_at, AreDeleted, MayBeDeleted};
+ghost use Rattle.gh_log.specs.Lines.{LogLine as Line};
+ghost use Rattle.gh_log.specs.Sections.{line_clause, AllStand};
+ghost use Rattle.gh_check.specs.Clauses.{lits_in, IsLineAt};
+ghost use Rattle.gh_check.specs.Kept.{IsFirst, HasNext, next_line, with_line, AreLinesKept, stands_in, clause_at, AreDeleted, MayBeDeleted};
 
-use gh_base::atom::Lit;
-use gh_base::clause::Clause;
+use crate::clauses::{LineClause, clause_of, has_clause};
+use gh_base::ground::Ground;
+use gh_log::lines::{Lines, LogLine};
 use std::alloc::{AllocError, Global};
 use std::marker::Model;
 
-/// The clauses of the lines before, by their positions from 1, and which of these a line deletes. A deletion has no
-/// clause.
+/// The lines of a section that were taken, by their positions from 1, and which of these a line deletes. Each has the
+/// clause that the section or the ground clauses have; a deletion has none.
 #[derive(Drop)]
-pub struct Positions {
-    clauses: Vec<Option<Clause>>,
+pub struct Positions<'s> {
+    alloc: Global,
+    ground: &'s Ground,
+    lines: &'s Lines,
+    taken: usize,
     deleted: Vec<bool>,
 }
 
-impl Model for Positions {
-    ghost use Rattle.std.specs.Prelude.{◌≡◌, length};
-    ghost use Rattle.gh_check.specs.Kept.{Kept};
+impl<'s> Model for Positions<'s> {
+    ghost use Rattle.std.specs.Prelude.{◌∷◌, None, map, take};
+    ghost use Rattle.gh_log.specs.Sections.{line_clause};
+    ghost use Rattle.gh_check.specs.Kept.{Kept, IsMarked};
 
     ghost Value = { Kept };
 
-    ghost view = { λ k. record { clauses = k.clauses.items; deleted = k.deleted.items } };
+    ghost view = { λ k. record {
+      problem = k.ground.now;
+      lines = k.lines.now;
+      clauses = None ∷ map (line_clause k.ground.now) (take k.taken k.lines.now);
+      deleted = k.deleted.items;
+    } };
 
-    ghost invariant = { λ k. length k.deleted.items ≡ length k.clauses.items };
+    ghost invariant = { λ k. IsMarked k.ground.now k.lines.now k.taken k.deleted.items };
 }
 
-impl Positions {
-    /// No line.
-    pub fn new(alloc: Global) -> Result<Positions, AllocError>
-        ensures { IfOk result (λ k. k ≡ no_line) }
+impl<'s> Positions<'s> {
+    /// No line is taken.
+    pub fn new(
+        alloc: Global,
+        ground: &'s Ground,
+        lines: &'s Lines,
+    ) -> Result<Positions<'s>, AllocError>
+        requires { length lines.now ≤ 4294967295 }
+        ensures { IfOk result (IsFirst ground.now lines.now) }
     {
-        let mut clauses = Vec::new(alloc);
-        clauses.push(None)?;
-        let mut deleted = Vec::new(alloc);
-        deleted.push(false)?;
-        Ok(Positions { clauses, deleted })
+        let deleted = vec![in alloc; false; lines.len() + 1]?;
+        Ok(Positions {
+            alloc,
+            ground,
+            lines,
+            taken: 0,
+            deleted,
+        })
     }
 
-    /// Adds a line last, by its clause, if it has one.
-    pub fn push(&mut self, clause: Option<Clause>) -> Result<(), AllocError>
-        ensures { OnOk result (self.new ≡ with_line self.old clause) }
+    /// Takes one more line.
+    pub fn advance(&mut self)
+        requires { HasNext self.old }
+        ensures { (l : Line) → next_line self.old ≡ Some l
+            → self.new ≡ with_line self.old (line_clause self.old.problem l) }
     {
-        self.deleted.reserve(1)?;
-        self.clauses.push(clause)?;
-        self.deleted.push_reserved(false);
-        Ok(())
+        self.taken += 1;
     }
 
-    /// The clauses, by position.
-    pub fn clauses(&self) -> &[Option<Clause>]
-        ensures { result.now ≡ self.now.clauses }
+    /// How many positions there are: that of no line, and those of the lines that were taken.
+    pub fn count(&self) -> usize
+        ensures { result ≡ length self.now.clauses }
     {
-        self.clauses.as_slice()
+        self.taken + 1
     }
 
-    // Whether the line at a position has a clause.
-    fn has_clause(&self, position: u32) -> bool
+    // The line at a position, if there is one.
+    fn line(&self, position: usize) -> Option<LogLine<'s>>
+        ensures { MatchOption result (slice_index_or self.now.clauses position None ≡ None)
+            (IsLineAt self.now position) }
+    {
+        let (lines, taken) = (self.lines, self.taken);
+        if position == 0 {
+            return None;
+        }
+        if position > taken {
+            return None;
+        }
+        Some(lines.line(position - 1))
+    }
+
+    /// Whether the line at a position has a clause.
+    pub fn has_clause(&self, position: usize) -> bool
         ensures { result ≡ is_some (slice_index_or self.now.clauses position None) }
     {
-        match self.clauses.get(position as usize) {
+        match self.line(position) {
             None => false,
-            Some(entry) => entry.is_some(),
+            Some(line) => has_clause(line),
         }
+    }
+
+    /// The clause at a position, the empty one where there is none.
+    pub fn clause(&self, position: usize) -> LineClause<'s>
+        ensures { lits_in result ≡ clause_at self.now position }
+    {
+        match self.line(position) {
+            None => LineClause::Borrowed(&[]),
+            Some(line) => clause_of(self.alloc, self.ground, line),
+        }
+    }
+
+    /// The number of the ground clause that the line at a position names, if it names one. The search rests on it, no
+    /// answer does.
+    pub fn ground_number(&self, position: usize) -> Option<u32> {
+        match self.line(position)? {
+            LogLine::Clause { number } => Some(number),
+            _ => None,
+        }
+    }
+
+    /// How many ground clauses there are.
+    pub fn ground_count(&self) -> usize {
+        self.ground.count() as usize
+    }
+
+    /// Whether the last line that was taken has a clause, and that is empty.
+    pub fn ends_empty(&self) -> bool
+        ensures { IsTrue result ↔ (slice_index_or self.now.clauses (length self.now.clauses - 1) None ≡ Some []) }
+    {
+        if !self.has_clause(self.taken) {
+            return false;
+        }
+        let clause = self.clause(self.taken);
+        clause.is_empty()
     }
 
     // Whether a line deletes the position.
@@ -83,7 +151,7 @@ impl Positions {
     pub fn stands(&self, position: u32) -> bool
         ensures { result ≡ stands_in self.now position }
     {
-        self.has_clause(position) && !self.is_deleted(position)
+        self.has_clause(position as usize) && !self.is_deleted(position)
     }
 
     /// Whether all positions stand.
@@ -95,21 +163,10 @@ impl Positions {
 
     /// Whether all positions stand after the lines of which this is kept.
     pub fn all_stand(&self, positions: &[u32]) -> bool
-        ensures { (p : Problem) (lines : List LogLine) → AreLinesKept p lines self.now
+        ensures { (p : Problem) (lines : List Line) → AreLinesKept p lines self.now
             → IsTrue result ↔ AllStand p lines positions.now }
     {
         self.are_standing(positions)
-    }
-
-    /// The literals of the clause at a position, none where there is no clause.
-    pub fn lits(&self, position: u32) -> &[Lit]
-        ensures { result.now ≡ clause_at self.now position }
-    {
-        match self.clauses.get(position as usize) {
-            None => &[],
-            Some(None) => &[],
-            Some(Some(clause)) => clause.lits(),
-        }
     }
 
     // Deletes a position that stands.
@@ -122,6 +179,8 @@ impl Positions {
 
     /// Deletes positions. Answers whether all of them stood and were distinct; else some of them may be deleted.
     pub fn delete(&mut self, positions: &[u32]) -> bool
+        ensures problem { self.new.problem ≡ self.old.problem }
+        ensures lines { self.new.lines ≡ self.old.lines }
         ensures clauses { self.new.clauses ≡ self.old.clauses }
         ensures exact { IsTrue result ↔ MayBeDeleted self.old positions.now }
         ensures deleted { IsTrue result → AreDeleted self.old self.new positions.now }

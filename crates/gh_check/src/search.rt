@@ -1,8 +1,8 @@
 //! A search for hints: the lines along which unit propagation comes to a contradiction, by two watched literals in
 //! each clause. No clause speaks of it: what it finds is looked at again, and where it finds nothing all lines are.
 
+use crate::positions::Positions;
 use gh_base::atom::Lit;
-use gh_base::clause::Clause;
 use gh_base::sizes::Sizes;
 use std::alloc::{AllocError, Global};
 
@@ -61,6 +61,8 @@ pub(crate) struct Search {
     codes: Vec<u32>,
     // The last position whose clause had a literal, by code.
     stamps: Vec<u32>,
+    // Which ground clauses were taken in, by number.
+    grounds: Vec<bool>,
     // The positions before this one were taken in, or passed over, and that of the line that was searched last.
     taken: usize,
     searched: usize,
@@ -84,6 +86,7 @@ impl Search {
             rows: Vec::new(alloc),
             codes: Vec::new(alloc),
             stamps: Vec::new(alloc),
+            grounds: Vec::new(alloc),
             taken: 0,
             searched: 0,
             broken: None,
@@ -416,21 +419,33 @@ impl Search {
         Ok(())
     }
 
+    // Whether the line at a position names a ground clause that was taken in. It counts as taken in then.
+    fn was_taken(&mut self, kept: &Positions<'_>, position: usize) -> Result<bool, AllocError> {
+        let Some(number) = kept.ground_number(position) else {
+            return Ok(false);
+        };
+        let number = number as usize;
+        if number >= self.grounds.len() {
+            self.grounds
+                .resize(kept.ground_count().max(number.saturating_add(1)), false)?;
+        }
+        let was_taken = self.grounds[number];
+        self.grounds[number] = true;
+        Ok(was_taken)
+    }
+
     /// Takes in the lines that weren't taken in, and finds hints for what follows from the clauses alone.
-    pub(crate) fn settle(
-        &mut self,
-        sizes: Sizes,
-        entries: &[Option<Clause>],
-    ) -> Result<(), AllocError> {
+    pub(crate) fn settle(&mut self, sizes: Sizes, kept: &Positions<'_>) -> Result<(), AllocError> {
         self.prepare(sizes)?;
         self.hints.clear();
-        for position in self.taken..entries.len().min(MOST) {
-            if let Some(Some(clause)) = entries.get(position) {
+        for position in self.taken..kept.count().min(MOST) {
+            if kept.has_clause(position) && !self.was_taken(kept, position)? {
+                let clause = kept.clause(position);
                 self.take(sizes, clause.lits(), position as u32)?;
             }
         }
-        self.taken = entries.len();
-        self.searched = entries.len();
+        self.taken = kept.count();
+        self.searched = kept.count();
         self.assumed = 0;
         if self.propagate()? {
             self.broken = self.hints.pop();

@@ -7,7 +7,7 @@ ghost use Rattle.gh_base.specs.declared.sizes.Sizes.{Sizes};
 ghost use Rattle.gh_base.specs.Atoms.{opposite, IsInRange, AreInRange};
 ghost use Rattle.gh_base.specs.Hints.{IsRefutedByHints};
 ghost use Rattle.gh_base.specs.Propagation.{FollowsByUnits};
-ghost use Rattle.gh_check.specs.Kept.{named, present, AreWithin};
+ghost use Rattle.gh_check.specs.Kept.{clause_at, named, present, AreWithin};
 ghost use Rattle.gh_check.specs.Truths.{IsFalseBy, IsOpenIn, IsLook, HasBoth};
 ghost use Rattle.gh_check.specs.Standing.{AreGivenBy, IsStanding, MayStand};
 
@@ -90,6 +90,16 @@ fn look(fixed: &Truths, above: &Truths, clause: &[Lit]) -> Look
     }
 }
 
+// What the clause at a position is.
+fn look_at(fixed: &Truths, above: &Truths, kept: &Positions<'_>, position: u32) -> Look
+    requires fixed { AreWithin fixed.now.sizes kept.now.clauses }
+    requires above { AreWithin above.now.sizes kept.now.clauses }
+    ensures { IsLook (fixed.now.lits ++ above.now.lits) (clause_at kept.now position) result }
+{
+    let clause = kept.clause(position as usize);
+    look(fixed, above, clause.lits())
+}
+
 // Makes literals false, where none is true but those that stand. Answers whether one of them is true.
 fn falsify(fixed: &Truths, above: &mut Truths, lits: &[Lit]) -> Result<bool, AllocError>
     requires none { above.old.lits ≡ [] }
@@ -113,7 +123,7 @@ fn falsify(fixed: &Truths, above: &mut Truths, lits: &[Lit]) -> Result<bool, All
 fn follow(
     fixed: &Truths,
     above: &mut Truths,
-    kept: &Positions,
+    kept: &Positions<'_>,
     hints: &[u32],
 ) -> Result<bool, AllocError>
     requires fixed { AreWithin fixed.now.sizes kept.now.clauses }
@@ -123,7 +133,7 @@ fn follow(
     ensures sizes { OnOk result (above.new.sizes ≡ above.old.sizes) }
 {
     for hint in hints {
-        match look(fixed, above, kept.lits(*hint)) {
+        match look_at(fixed, above, kept, *hint) {
             Look::False => return Ok(true),
             Look::Unit(lit) => above.add(lit)?,
             Look::Open => return Ok(false),
@@ -136,7 +146,7 @@ fn follow(
 fn are_confirmed(
     fixed: &Truths,
     above: &mut Truths,
-    kept: &Positions,
+    kept: &Positions<'_>,
     lits: &[Lit],
     hints: &[u32],
 ) -> Result<bool, AllocError>
@@ -159,7 +169,7 @@ fn are_confirmed(
 }
 
 // Adds the literal that the clause at a position forces, if it does.
-fn fix(fixed: &mut Truths, kept: &Positions, position: u32) -> Result<(), AllocError>
+fn fix(fixed: &mut Truths, kept: &Positions<'_>, position: u32) -> Result<(), AllocError>
     requires within { AreWithin fixed.old.sizes kept.now.clauses }
     ensures sizes { OnOk result (fixed.new.sizes ≡ fixed.old.sizes) }
     ensures given { OnOk result (AreGivenBy (present kept.now.clauses) fixed.old.lits
@@ -168,7 +178,7 @@ fn fix(fixed: &mut Truths, kept: &Positions, position: u32) -> Result<(), AllocE
     if !kept.stands(position) {
         return Ok(());
     }
-    match fixed.look(kept.lits(position)) {
+    match fixed.look_at(kept, position) {
         Look::Unit(lit) => {
             fixed.add(lit)?;
             Ok(())
@@ -178,7 +188,7 @@ fn fix(fixed: &mut Truths, kept: &Positions, position: u32) -> Result<(), AllocE
 }
 
 // Adds the literals that the clauses at some positions force, in order.
-fn fix_all(fixed: &mut Truths, kept: &Positions, positions: &[u32]) -> Result<(), AllocError>
+fn fix_all(fixed: &mut Truths, kept: &Positions<'_>, positions: &[u32]) -> Result<(), AllocError>
     requires within { AreWithin fixed.old.sizes kept.now.clauses }
     ensures sizes { OnOk result (fixed.new.sizes ≡ fixed.old.sizes) }
     ensures given { OnOk result (AreGivenBy (present kept.now.clauses) fixed.old.lits
@@ -218,7 +228,7 @@ impl Standing {
     pub fn shows(
         &mut self,
         sizes: Sizes,
-        kept: &Positions,
+        kept: &Positions<'_>,
         lits: &[Lit],
     ) -> Result<bool, AllocError>
         requires standing { IsStanding sizes kept.now.clauses self.old }
@@ -227,7 +237,7 @@ impl Standing {
         ensures shown { IfOk result (λ b. IsTrue b → FollowsByUnits (present kept.now.clauses) lits.now) }
         ensures standing { OnOk result (IsStanding sizes kept.now.clauses self.new) }
     {
-        self.search.settle(sizes, kept.clauses())?;
+        self.search.settle(sizes, kept)?;
         fix_all(&mut self.fixed, kept, self.search.hints())?;
         if !self.search.find(sizes, lits)? {
             return Ok(false);
@@ -255,7 +265,7 @@ pub fn finds_hints(
     alloc: Global,
     standing: &mut Option<Standing>,
     sizes: Sizes,
-    kept: &Positions,
+    kept: &Positions<'_>,
     lits: &[Lit],
 ) -> Result<bool, AllocError>
     requires standing { MayStand sizes kept.now.clauses standing.old }

@@ -7,7 +7,7 @@ use gh_base::atom::{Atom, Lit, Term};
 use gh_base::clause::Clause;
 use gh_base::ground::Ground;
 use gh_inst::naming::InstanceName;
-use gh_log::lines::{LogLine, Section};
+use gh_log::lines::{Lines, LogLine, Section};
 use std::alloc::{AllocError, AllocFailed, Global};
 use std::process::Abort;
 use std::test::Fail;
@@ -109,25 +109,32 @@ fn ground_of(rt: &impl Abort, alloc: Global) -> Result<Ground, AllocError> {
     Ok(ground)
 }
 
-fn line_of(alloc: Global, plain: Plain) -> Result<LogLine, AllocError> {
-    Ok(match plain {
-        Plain::Axiom { row, term } => LogLine::Axiom(InstanceName {
+fn add(alloc: Global, lines: &mut Lines, plain: Plain) -> Result<(), AllocError> {
+    match plain {
+        Plain::Axiom { row, term } => lines.push(LogLine::Axiom(InstanceName {
             row,
             version: 0,
             terms: [Term(term), Term(0), Term(0), Term(0)],
             arity: 1,
-        }),
-        Plain::Ground(number) => LogLine::Clause { number },
-        Plain::Lemma(codes) => LogLine::Lemma(clause_of(alloc, codes)?),
-        Plain::Learnt(codes) => LogLine::Learnt(clause_of(alloc, codes)?),
-        Plain::Hinted(codes, hints) => LogLine::Hinted {
-            clause: clause_of(alloc, codes)?,
-            hints: hints.to_vec(alloc)?,
-        },
-        Plain::Delete(positions) => LogLine::Delete {
-            positions: positions.to_vec(alloc)?,
-        },
-    })
+        })),
+        Plain::Ground(number) => lines.push(LogLine::Clause { number }),
+        Plain::Lemma(codes) => {
+            let clause = clause_of(alloc, codes)?;
+            lines.push(LogLine::Lemma(clause.lits()))
+        }
+        Plain::Learnt(codes) => {
+            let clause = clause_of(alloc, codes)?;
+            lines.push(LogLine::Learnt(clause.lits()))
+        }
+        Plain::Hinted(codes, hints) => {
+            let clause = clause_of(alloc, codes)?;
+            lines.push(LogLine::Hinted {
+                clause: clause.lits(),
+                hints,
+            })
+        }
+        Plain::Delete(positions) => lines.push(LogLine::Delete { positions }),
+    }
 }
 
 // The fault of the lines, of which the first is line 3 of its file.
@@ -136,9 +143,9 @@ fn fault_of(
     ground: &Ground,
     plain: &[Plain],
 ) -> Result<Option<LogFault>, CheckError> {
-    let mut lines = Vec::new(alloc);
+    let mut lines = Lines::new(alloc);
     for line in plain {
-        lines.push(line_of(alloc, *line)?)?;
+        add(alloc, &mut lines, *line)?;
     }
     if lines.len() > 100 {
         return Err(CheckError::OutOfMemory);

@@ -1,6 +1,6 @@
 //! Reverse unit propagation by the trail of a search.
 
-ghost use Rattle.std.specs.Prelude.{◌≡◌, ◌↔◌, ◌∷◌, ◌++◌, [], List, Option, IsTrue, IfOk, OnOk, MatchOption};
+ghost use Rattle.std.specs.Prelude.{◌≡◌, ◌↔◌, ◌≤◌, ◌∷◌, ◌++◌, [], List, Option, None, IsTrue, IfOk, OnOk, MatchOption, length, take, slice_index_or};
 ghost use Rattle.gh_base.specs.declared.atom.Lit.{Lit};
 ghost use Rattle.gh_base.specs.declared.sizes.Sizes.{Sizes};
 ghost use Rattle.gh_base.specs.Atoms.{IsInRange, AreInRange, opposite};
@@ -8,7 +8,7 @@ ghost use Rattle.gh_base.specs.Propagation.{FollowsByUnits};
 ghost use Rattle.gh_sat.specs.Trail.{IsSound};
 ghost use Rattle.gh_sat.specs.Status.{IsSettled};
 ghost use Rattle.gh_check.specs.Assuming.{IsRefuting, IsAssumed, no_clauses, IsBehind};
-ghost use Rattle.gh_check.specs.Kept.{IsWithin, AreWithin, present};
+ghost use Rattle.gh_check.specs.Kept.{AreWithin, present};
 
 use crate::positions::Positions;
 use gh_base::atom::Lit;
@@ -89,40 +89,44 @@ fn begun(alloc: Global, sizes: Sizes, learner: Option<Learner>) -> Result<Learne
 }
 
 // Adds the clause of a position, if it has one.
-fn insert_entry(
+fn insert_at(
     alloc: Global,
     learner: &mut Learner,
-    entry: &Option<Clause>,
+    kept: &Positions<'_>,
+    position: usize,
 ) -> Result<(), AllocError>
     requires level { learner.old.starts ≡ [] }
-    requires within { IsWithin learner.old.sizes entry.now }
-    ensures clauses { OnOk result (learner.new.clauses ≡ learner.old.clauses ++ present (entry.now ∷ [])) }
+    requires within { AreWithin learner.old.sizes kept.now.clauses }
+    ensures clauses { OnOk result (learner.new.clauses
+        ≡ learner.old.clauses ++ present (slice_index_or kept.now.clauses position None ∷ [])) }
     ensures sizes { OnOk result (learner.new.sizes ≡ learner.old.sizes) }
     ensures level { OnOk result (learner.new.starts ≡ []) }
 {
-    match entry {
-        None => Ok(()),
-        Some(clause) => {
-            learner.insert(clause.copy(alloc)?)?;
-            Ok(())
-        }
+    if !kept.has_clause(position) {
+        return Ok(());
     }
+    let clause = kept.clause(position);
+    learner.insert(Clause::from_lits(alloc, clause.lits())?)?;
+    Ok(())
 }
 
-// Adds the clauses of positions.
-fn insert_all(
+// Adds the clauses of the positions from one on.
+fn insert_from(
     alloc: Global,
     learner: &mut Learner,
-    entries: &[Option<Clause>],
+    kept: &Positions<'_>,
+    from: usize,
 ) -> Result<(), AllocError>
+    requires short { from ≤ length kept.now.clauses }
+    requires taken { learner.old.clauses ≡ present (take from kept.now.clauses) }
     requires level { learner.old.starts ≡ [] }
-    requires within { AreWithin learner.old.sizes entries.now }
-    ensures clauses { OnOk result (learner.new.clauses ≡ learner.old.clauses ++ present entries.now) }
+    requires within { AreWithin learner.old.sizes kept.now.clauses }
+    ensures clauses { OnOk result (learner.new.clauses ≡ present kept.now.clauses) }
     ensures sizes { OnOk result (learner.new.sizes ≡ learner.old.sizes) }
     ensures level { OnOk result (learner.new.starts ≡ []) }
 {
-    for entry in entries {
-        insert_entry(alloc, learner, entry)?;
+    for position in from..kept.count() {
+        insert_at(alloc, learner, kept, position)?;
     }
     Ok(())
 }
@@ -143,7 +147,7 @@ impl Units {
         &mut self,
         alloc: Global,
         sizes: Sizes,
-        kept: &Positions,
+        kept: &Positions<'_>,
         lits: &[Lit],
     ) -> Result<bool, AllocError>
         requires behind { IsBehind sizes kept.now.clauses self.old }
@@ -153,10 +157,9 @@ impl Units {
         ensures behind { OnOk result (IsBehind sizes kept.now.clauses self.new) }
     {
         let mut learner = begun(alloc, sizes, self.learner.take())?;
-        let entries = kept.clauses();
-        insert_all(alloc, &mut learner, &entries[self.taken..])?;
+        insert_from(alloc, &mut learner, kept, self.taken)?;
         let implied = is_implied(&mut learner, lits);
-        self.taken = entries.len();
+        self.taken = kept.count();
         self.learner = Some(learner);
         Ok(implied)
     }

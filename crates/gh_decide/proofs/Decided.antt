@@ -1,6 +1,6 @@
 -- The conditions that were decided so far, one by one.
-use Rattle.std.specs.Prelude.{◌≡◌, ℕ, zero, suc, ◌+◌, ◌-◌, ◌<◌, ◌≤◌, List, [], ◌∷◌, ◌++◌, length, take, drop, slice_get, Some, None, All, Contains}
-use Rattle.std.proofs.Common.{refl, sym, ◌∙◌, ap, subst, inl, inr, arith}
+use Rattle.std.specs.Prelude.{◌≡◌, ℕ, suc, ◌+◌, ◌<◌, ◌≤◌, List, [], ◌∷◌, ◌++◌, length, take, Some, None, All, Contains}
+use Rattle.std.proofs.Common.{sym, ◌∙◌, ap, subst, inl, inr, arith}
 use Rattle.std.proofs.lemmas.List.{map-append, take_all}
 use Rattle.std.proofs.lemmas.List.Elements.{All-push, Contains-append_cases}
 use Rattle.gh_ast.specs.Plain.{Program}
@@ -10,51 +10,23 @@ use Rattle.gh_path.specs.Conditions.{Condition, conditions}
 use Rattle.gh_path.specs.declared.condition.Condition as kept
 use Rattle.gh_symb.specs.Symbolic.{symbolic_of}
 use Rattle.gh_symb.specs.Formulas.{problem}
-use Rattle.gh_trace.specs.Kept.{drawn_of, IsOfProgram, IsOne, HasCounterexample}
 use Rattle.gh_trace.specs.Validity.{IsConditionValid}
-use Rattle.gh_trace.specs.declared.state.Trace.{Trace}
-use Rattle.gh_log.specs.declared.lines.LogLine.{LogLine}
+use Rattle.gh_trace.proofs.FirstRefuted.{taken_more, next_one}
+use Rattle.gh_log.specs.Lines.{LogLine}
 use Rattle.gh_log.specs.declared.lines.Log.{Log}
 use Rattle.gh_log.specs.declared.lines.Section.{Section}
 use Rattle.gh_log.specs.Sections.{IsValidSection}
 use Rattle.gh_log.specs.Spelled.{lines_of}
 use Rattle.gh_decide.specs.Decided.{AreDecided}
 use Rattle.gh_decide.specs.Logs.{AreValidSections}
-use Rattle.gh_decide.specs.Outcomes.{IsVerified, IsFirst}
+use Rattle.gh_decide.specs.Outcomes.{IsVerified}
 use Rattle.gh_decide.specs.Verdicts.{IsPlaced, IsShown}
-use Rattle.gh_decide.proofs.Listed.{placed}
 
 sections_more : (P : Program) (cs : List Condition) (ss : List (List LogLine)) (c : Condition) (s : List LogLine) → AreValidSections P cs ss → IsValidSection (problem (symbolic_of P c)) s → AreValidSections P (cs ++ c ∷ []) (ss ++ s ∷ [])
 sections_more P [] [] c s valid more = (more, record {})
 sections_more P [] (t ∷ ss) c s valid more = absurd valid
 sections_more P (d ∷ ds) [] c s valid more = absurd valid
 sections_more P (d ∷ ds) (t ∷ ss) c s valid more = (valid.0, sections_more P ds ss c s valid.1 more)
-
-taken_more : (cs : List Condition) (n : ℕ) (c : Condition) → slice_get cs n ≡ Some c → take (suc n) cs ≡ take n cs ++ c ∷ []
-taken_more [] n c there = absurd cc
-taken_more (d ∷ ds) zero c there = ap (λ e. e ∷ []) cc
-taken_more (d ∷ ds) (suc n) c there = ap (λ t. d ∷ t) (taken_more ds n c there)
-
-taken_length : (cs : List Condition) (n : ℕ) (c : Condition) → slice_get cs n ≡ Some c → length (take n cs) ≡ n
-taken_length [] n c there = absurd cc
-taken_length (d ∷ ds) zero c there = refl
-taken_length (d ∷ ds) (suc n) c there = ap suc (taken_length ds n c there)
-
--- the condition at a place stands between those before and those after it
-parted : (cs : List Condition) (n : ℕ) (c : Condition) → slice_get cs n ≡ Some c → cs ≡ take n cs ++ c ∷ drop (suc n) cs
-parted [] n c there = absurd cc
-parted (d ∷ ds) zero c there = ap (λ e. e ∷ ds) cc
-parted (d ∷ ds) (suc n) c there = ap (λ t. d ∷ t) (parted ds n c there)
-
--- the condition of the next number
-next_one : (P : Program) (k : ℕ) (r : kept.Condition) → IsNumbered P (k + 1) (Some r) → (c : Condition) × (slice_get (conditions P) k ≡ Some c) × IsOfProgram P r c
-next_one P k r (c, low, there, stands) =
-    let place : k ≡ k + 1 - 1 = omega arith in
-    let at : slice_get (conditions P) k ≡ Some c = ap (slice_get (conditions P)) place ∙ there in
-    (c, at, record { stands = stands; there = placed P k c at })
-
-pub is_one : (P : Program) (k : ℕ) (r : kept.Condition) → IsNumbered P (k + 1) (Some r) → IsOne P r
-is_one P k r found = let c = next_one P k r found in (c.0, c.2)
 
 pub is_there : (P : Program) (k m : ℕ) → m ≡ length (conditions P) → k < m → IsNumbered P (k + 1) None → ⊥
 is_there P k m count within (inl none) = omega (arith, none)
@@ -71,8 +43,8 @@ decided_more P k r s old new found shown pushed before =
     let cs : List Condition = take k (conditions P) in
     let more : k + 1 ≡ suc k = omega arith in
     let taken : take (k + 1) (conditions P) ≡ cs ++ c ∷ [] = ap (λ n. take n (conditions P)) more ∙ taken_more (conditions P) k c one.1 in
-    let lines : lines_of new ≡ lines_of old ++ s.lines.items ∷ [] = ap lines_of pushed ∙ map-append (λ (t : Section). t.lines.items) old (s ∷ []) in
-    let sections = sections_more P cs (lines_of old) c s.lines.items before.log (shown.section c one.2) in
+    let lines : lines_of new ≡ lines_of old ++ s.lines ∷ [] = ap lines_of pushed ∙ map-append (λ (t : Section). t.lines) old (s ∷ []) in
+    let sections = sections_more P cs (lines_of old) c s.lines before.log (shown.section c one.2) in
     record {
       valid = λ d i. elim (Contains-append_cases cs (c ∷ []) d (subst (λ (xs : List Condition). Contains xs d) taken i)) [
         | inl earlier ↦ before.valid d earlier
@@ -80,20 +52,6 @@ decided_more P k r s old new found shown pushed before =
       ];
       log = subst (λ (xs : List Condition). AreValidSections P xs (lines_of new)) (sym taken) (subst (AreValidSections P (cs ++ c ∷ [])) (sym lines) sections);
       placed = subst (All IsPlaced) (sym pushed) (All-push IsPlaced old s before.placed shown.placed);
-    }
-
--- the next condition is refuted
-pub first_refuted : (P : Program) (k : ℕ) (r : kept.Condition) (t : Trace) (ss : List Section) → IsNumbered P (k + 1) (Some r) → HasCounterexample P r (drawn_of t) → AreDecided P k ss → IsFirst P (k + 1) t
-first_refuted P k r t ss found against before =
-    let one = next_one P k r found in
-    record {
-      before = take k (conditions P);
-      condition = one.0;
-      after = drop (suc k) (conditions P);
-      whole = parted (conditions P) k one.0 one.1;
-      number_is = ap (λ n. n + 1) (sym (taken_length (conditions P) k one.0 one.1));
-      valid = before.valid;
-      refutes = against one.0 one.2;
     }
 
 -- all conditions were decided

@@ -1,7 +1,6 @@
 -- What a valid log shows.
-use Rattle.std.specs.Prelude.{◌≡◌, ℕ, List, [], ◌∷◌, slice_get, Some, Contains}
+use Rattle.std.specs.Prelude.{List, [], ◌∷◌, Contains}
 use Rattle.std.proofs.Common.{subst, inl, inr}
-use Rattle.std.proofs.lemmas.Option.{slice_get_within, get_or_from_slice_get}
 use Rattle.gh_ast.specs.Plain.{Program}
 use Rattle.gh_ast.specs.Rules.{IsTyped}
 use Rattle.gh_ast.proofs.Lists.{member_cases, no_member}
@@ -10,7 +9,7 @@ use Rattle.gh_path.proofs.Listed.{all_are_listed}
 use Rattle.gh_trace.specs.Validity.{IsConditionValid}
 use Rattle.gh_symb.specs.Symbolic.{symbolic_of}
 use Rattle.gh_symb.specs.Formulas.{problem}
-use Rattle.gh_log.specs.declared.lines.LogLine.{LogLine}
+use Rattle.gh_log.specs.Lines.{LogLine}
 use Rattle.gh_log.specs.Sections.{IsValidSection}
 use Rattle.gh_decide.specs.Logs.{AreValidSections, ValidLogsShowValidity}
 use Rattle.gh_decide.proofs.Parts.{section_shows}
@@ -25,7 +24,3 @@ all_shown P (d ∷ ds) (s ∷ ss) c typed is valid i = elim (member_cases d ds c
 
 pub valid_logs_show_validity : ValidLogsShowValidity
 valid_logs_show_validity P ss typed valid = λ c i. all_shown P (conditions P) ss c typed ((all_are_listed P c).0 i) valid i
-
--- the condition at a place is one of the program's
-pub placed : (P : Program) (k : ℕ) (c : Condition) → slice_get (conditions P) k ≡ Some c → IsCondition P c
-placed P k c at = (all_are_listed P c).0 (k, slice_get_within (conditions P) k c at, get_or_from_slice_get (conditions P) k c c at)

@@ -27,7 +27,7 @@ use Rattle.gh_trace.specs.Validity.{IsConditionValid}
 use Rattle.gh_trace.specs.Replay.{Drawn, Refutes}
 use Rattle.gh_trace.specs.Kept.{IsOfProgram, HasCounterexample}
 use Rattle.gh_log.specs.Sections.{IsValidSection}
-use Rattle.gh_log.specs.declared.lines.LogLine.{LogLine}
+use Rattle.gh_log.specs.Lines.{LogLine}
 use Rattle.gh_log.specs.declared.lines.Section.{Section}
 use Rattle.gh_log.proofs.SectionLemmas.{refute}
 use Rattle.gh_inst.specs.Violations.{AreInstancesTrue}
@@ -85,13 +85,13 @@ IsGroundOf P r p = (c : Condition) → StandsFor P r c → p ≡ problem (symbol
 
 pub shown : (P : Program) (r : kept.Condition) (p : Problem) (s : Section) → IsTyped P → IsGroundOf P r p → IsRefutationOf p s → IsShown P r s
 shown P r p s typed ground is = record {
-  valid = λ c one. section_shows P c s.lines.items typed one.there (at c one);
+  valid = λ c one. section_shows P c s.lines typed one.there (at c one);
   section = at;
   placed = record { first = is.first; few = is.few; version = is.version };
 }
   where
-    at : (c : Condition) → IsOfProgram P r c → IsValidSection (problem (symbolic_of P c)) s.lines.items
-    at c one = subst (λ q. IsValidSection q s.lines.items) (ground c one.stands) is.valid
+    at : (c : Condition) → IsOfProgram P r c → IsValidSection (problem (symbolic_of P c)) s.lines
+    at c one = subst (λ q. IsValidSection q s.lines) (ground c one.stands) is.valid
 
 -- a model of the clauses is one of the condition
 models : (P : Program) (c : Condition) (p : Problem) (s : Tables) → p ≡ problem (symbolic_of P c) → IsModelOf p s → abstraction.IsModelOf P c (interpretation_of s)

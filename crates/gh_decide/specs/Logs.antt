@@ -6,7 +6,7 @@ use Rattle.gh_path.specs.Conditions.{Condition, conditions}
 use Rattle.gh_symb.specs.Symbolic.{symbolic_of}
 use Rattle.gh_symb.specs.Formulas.{problem}
 use Rattle.gh_trace.specs.Validity.{ListedAreValid}
-use Rattle.gh_log.specs.declared.lines.LogLine.{LogLine}
+use Rattle.gh_log.specs.Lines.{LogLine}
 use Rattle.gh_log.specs.Sections.{IsValidSection}
 use Rattle.gh_base.specs.Meaning.{Interpretation}
 use Rattle.gh_model.specs.Abstraction.{IsModelOf}

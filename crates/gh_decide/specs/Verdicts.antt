@@ -1,5 +1,5 @@
 -- What a decision of one condition answers.
-use Rattle.std.specs.Prelude.{◌≡◌, ◌↔◌, ◌≤◌, All, vec_len}
+use Rattle.std.specs.Prelude.{◌≡◌, ◌↔◌, ◌≤◌, All, length}
 use Rattle.gh_ast.specs.Plain.{Program}
 use Rattle.gh_path.specs.Conditions.{Condition}
 use Rattle.gh_path.specs.declared.condition.Condition as kept
@@ -15,13 +15,13 @@ use Rattle.gh_decide.specs.declared.decide.Verdict.TheVariants.{Valid, Refuted}
 -- a section of its own, of version 2: it stands at the first line, and its lines have numbers of 32 bits, as has the one after them
 pub record IsPlaced (s : Section) : Type 0 where
   pub first : s.first ≡ 1
-  pub few : vec_len s.lines ≤ 4294967294
-  pub version : All (IsOfVersion 2) s.lines.items
+  pub few : length s.lines ≤ 4294967294
+  pub version : All (IsOfVersion 2) s.lines
 
 -- the condition has no counterexample, and the section is valid for its clauses
 pub record IsShown (P : Program) (r : kept.Condition) (s : Section) : Type 0 where
   pub valid : HasNoCounterexample P r
-  pub section : (c : Condition) → IsOfProgram P r c → IsValidSection (problem (symbolic_of P c)) s.lines.items
+  pub section : (c : Condition) → IsOfProgram P r c → IsValidSection (problem (symbolic_of P c)) s.lines
   pub placed : IsPlaced s
 
 abbrev pub IsVerdict : Program → kept.Condition → Verdict → Type 0

@@ -27,7 +27,7 @@ pub fn decide_all(
     typed: &Typed,
     conditions: &Conditions,
 ) -> Result<Outcome, AllocError>
-    requires same { conditions.now ≡ typed.now }
+    requires same { program_of conditions.now ≡ program_of typed.now }
     requires admitted { IsAdmitted (program_of typed.now) }
     ensures { IfOk result (IsOutcome (program_of typed.now)) }
 {
@@ -35,11 +35,11 @@ pub fn decide_all(
     let mut walk = conditions.walk(alloc);
     for place in 0..conditions.count() {
         let number = place + 1;
-        let Some(item) = walk.next() else {
+        let more = walk.advance()?;
+        if !more {
             unreachable!();
-        };
-        let condition = item?;
-        match decide(alloc, typed, &condition)? {
+        }
+        match decide(alloc, typed, walk.condition())? {
             Verdict::Valid(section) => sections.push(section)?,
             Verdict::Refuted(trace) => return Ok(Outcome::Refuted { number, trace }),
         }

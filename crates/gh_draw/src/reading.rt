@@ -173,7 +173,7 @@ fn read_trace(
     cursor: &mut Cursor<'_>,
     number: u32,
 ) -> Result<Option<Trace>, AllocError>
-    requires { conditions.now ≡ typed.now }
+    requires { program_of conditions.now ≡ program_of typed.now }
     ensures { IfOk result (λ o. IsFound (ShowsTrace (program_of typed.now) number cursor.old.text.now) (option_map (λ t. t.states.items) o)) }
 {
     let Some(condition) = conditions.condition(alloc, number)? else {
@@ -201,7 +201,7 @@ pub fn read_drawing(
     conditions: &Conditions,
     text: &[u8],
 ) -> Result<Option<Drawing>, AllocError>
-    requires { conditions.now ≡ typed.now }
+    requires { program_of conditions.now ≡ program_of typed.now }
     ensures { IfOk result (IsDrawingIn (program_of typed.now) text.now) }
 {
     let mut cursor = Cursor { text };

@@ -1,5 +1,5 @@
 -- What a refutation or a model of the clauses of a question says of it.
-use Rattle.std.specs.Prelude.{◌≡◌, ℕ, ◌<◌, length, false, Some, List}
+use Rattle.std.specs.Prelude.{◌≡◌, ℕ, ◌<◌, length, false, Some}
 use Rattle.std.specs.Option.{option_map}
 use Rattle.std.proofs.Common.{refl, sym, ◌∙◌, ap, subst, arith}
 use Rattle.std.proofs.lemmas.Bool.{false≢true}
@@ -11,7 +11,7 @@ use Rattle.gh_ast.specs.Programs.{Name, names}
 use Rattle.gh_ast.specs.Questions.{Question}
 use Rattle.gh_log.specs.declared.lines.Section.{Section}
 use Rattle.gh_grass.specs.Bindings.{term_in}
-use Rattle.gh_symb.specs.Told.{plain_kind}
+use Rattle.gh_symb.specs.Encodings.{plain_kind}
 use Rattle.gh_ground.specs.Solving as solving
 use Rattle.gh_trace.specs.declared.state.State.{State}
 use Rattle.gh_assert.specs.Meaning.{Store}
@@ -37,7 +37,7 @@ use Rattle.gh_entail.proofs.Walking.{question_bounded}
 pub shown : (q : Question) (p : Problem) (s : Section) → p ≡ question_problem q → solving.IsRefutationOf p s → IsEntailed q × solving.IsRefutationOf (question_problem q) s
 shown q p s e R =
     let refutes : solving.IsRefutationOf (question_problem q) s = subst (λ (x : Problem). solving.IsRefutationOf x s) e R in
-    (sections_show_entailment q s.lines.items refutes.valid, refutes)
+    (sections_show_entailment q s.lines refutes.valid, refutes)
 
 pub failed : (q : Question) (p : Problem) (m : Tables) (t : QuestionTerms) (x : State) → p ≡ question_problem q → solving.IsModelOf p m → IsTyped q → AreTerms q t → x ≡ state_in m (names q.variables) 0 t.binding → FailsIn q x
 failed q p m t x e I typed told is =

@@ -1,14 +1,12 @@
 -- The type errors of a question.
-use Rattle.std.specs.Prelude.{◌≡◌, ◌⊎◌, ℕ, ◌≤◌, List, ◌++◌, map, length, take, Any, Bool, true, false, IsTrue, ◌↔◌, Option}
-use Rattle.std.proofs.Common.{refl, sym, ◌∙◌, subst, inl, inr}
-use Rattle.std.specs.Borrow.{Bor}
-use Rattle.gh_base.specs.declared.place.Span.{Span}
+use Rattle.std.specs.Prelude.{◌≡◌, List, Bool, true, false, IsTrue, ◌↔◌, Option}
+use Rattle.std.proofs.Common.{refl, subst, inl, inr}
 use Rattle.gh_ast.specs.declared.Occ.{Occ}
 use Rattle.gh_ast.specs.Rules.{HasName}
 use Rattle.gh_ast.specs.Questions.{Question}
 use Rattle.gh_types.specs.declared.fault.Fault.{Fault}
 use Rattle.gh_types.specs.Faults.{IsFirstOf, IsFirstIn, IsEarlier}
-use Rattle.gh_types.proofs.FirstLemmas.{first_same, first_either, first_map, first_whole, first_next}
+use Rattle.gh_types.proofs.FirstLemmas.{first_same, first_either}
 use Rattle.gh_entail.specs.Checks.{UndeclaredErrors}
 use Rattle.gh_entail.specs.Rules.{in_question, UnknownName, DuplicateName, Broken, unknown_name, duplicate_name}
 

@@ -11,7 +11,7 @@ use Rattle.gh_grass.specs.Claims as ground
 use Rattle.gh_grass.specs.Claims.{claims_of, negation_of}
 use Rattle.gh_symb.specs.Symbolic.{Under}
 use Rattle.gh_symb.specs.Formulas.{variables, version_claims}
-use Rattle.gh_symb.specs.Told.{plain_kind}
+use Rattle.gh_symb.specs.Encodings.{plain_kind}
 use Rattle.gh_reduce.specs.Growth.{stated_in, IsWithin, AreWithin}
 use Rattle.gh_reduce.specs.Inside.{binding_of, IsReady}
 use Rattle.gh_reduce.proofs.InsideLemmas.{same_function, whole_within}

@@ -1,31 +1,27 @@
 -- The store of a model lists the variables of the question with the values of their terms.
-use Rattle.std.specs.Prelude.{◌≡◌, ◌≢◌, ◌⊎◌, ℕ, ◌<◌, List, [], ◌∷◌, ◌++◌, length, take, get_or, Bool, true, false, not, Some, AllPairs, Contains}
+use Rattle.std.specs.Prelude.{◌≡◌, ◌≢◌, ℕ, ◌<◌, List, [], ◌++◌, length, get_or, Bool, true, false, not, AllPairs}
 use Rattle.std.proofs.Common.{refl, sym, ◌∙◌, ap, subst, inl, inr, arith}
 use Rattle.std.proofs.lemmas.List.{get_or-map, get_or-take, length-take-le, length-map}
 use Rattle.gh_base.specs.declared.place.Span.{Span}
 use Rattle.gh_base.specs.Structures.{Tables, interpretation_of}
 use Rattle.gh_ast.specs.declared.Occ.{Occ}
 use Rattle.gh_ast.specs.Programs.{Name, names}
-use Rattle.gh_ast.specs.Occurrences.{in_formula}
 use Rattle.gh_ast.specs.Rules.{RepeatedAt}
 use Rattle.gh_ast.specs.Questions.{Claim, leaf, denial, every, either, Claims, no_claims, claim_first, Question}
 use Rattle.gh_ast.proofs.Members.{name_or}
 use Rattle.gh_ast.proofs.Sites.{AllIn, all_left, all_right, any_of, element_at, formula_in, name_had}
 use Rattle.gh_assert.specs.declared.store.Entry.{Entry}
-use Rattle.gh_assert.specs.Meaning.{Store}
 use Rattle.gh_assert.specs.Stores.{listed_names, store_of}
 use Rattle.gh_path.specs.Terms.{Terms, no_terms, walked}
 use Rattle.gh_grass.specs.declared.binding.Bond.{Bond}
-use Rattle.gh_symb.specs.Told.{IsBinding}
-use Rattle.gh_trace.specs.declared.state.State.{State}
+use Rattle.gh_symb.specs.Encodings.{IsBinding}
 use Rattle.gh_model.specs.BoundVariables.{AreOf}
-use Rattle.gh_model.specs.BuiltTraces.{value_under, store_under, heap_in}
+use Rattle.gh_model.specs.BuiltTraces.{value_under, store_under}
 use Rattle.gh_model.specs.Classes.{class_of}
 use Rattle.gh_model.specs.Versions.{equal_in}
-use Rattle.gh_model.specs.KeptTraces.{entries_under, store_in, state_in}
+use Rattle.gh_model.specs.KeptTraces.{entries_under, store_in}
 use Rattle.gh_model.proofs.terms.BoundVariables.{walked_of, no_term_outside}
 use Rattle.gh_model.proofs.building.Traces.{store_is}
-use Rattle.gh_model.proofs.building.Stores.{listed_under}
 use Rattle.gh_entail.specs.Rules.{in_claim, in_claims, in_question, unknown_name, duplicate_name, IsTyped}
 use Rattle.gh_entail.specs.Terms.{witnessed, claim_walked, claims_walked, question_walked}
 

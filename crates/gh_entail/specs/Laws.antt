@@ -3,7 +3,7 @@ use Rattle.std.specs.Prelude.{◌≡◌, ◌↔◌, ℕ, List, length, slice_get
 use Rattle.gh_base.specs.declared.atom.Atom.TheVariants.{Btwn, Hop, Alloc}
 use Rattle.gh_base.specs.Meaning.{Interpretation, IsCongruence, atom_truth}
 use Rattle.gh_inst.specs.Violations.{AreInstancesTrue}
-use Rattle.gh_log.specs.declared.lines.LogLine.{LogLine}
+use Rattle.gh_log.specs.Lines.{LogLine}
 use Rattle.gh_log.specs.Sections.{IsValidSection}
 use Rattle.gh_ast.specs.Plain.{Formula}
 use Rattle.gh_ast.specs.Programs.{Name}

@@ -75,7 +75,7 @@ pub fn terms_of(alloc: Global, question: &Question) -> Result<Option<QuestionTer
     if kinds.count() > MOST_TERMS {
         return Ok(None);
     }
-    let terms = kinds.told(alloc)?;
+    let terms = kinds.encode(alloc)?;
     let binding = scope.binding(alloc)?;
     Ok(Some(QuestionTerms { terms, binding }))
 }

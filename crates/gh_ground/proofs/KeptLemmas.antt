@@ -1,6 +1,6 @@
 -- What a solver keeps, as lines are added.
-use Rattle.std.proofs.Common.{◌≡◌, ℕ, zero, suc, ◌+◌, ◌<◌, ◌≤◌, List, [], ◌∷◌, ◌++◌, length, take, get_or, map, Option, Some, None, inl, inr, refl, sym, ap, ◌∙◌, subst, arith, append_assoc, append-nil, Contains, Vec, Global}
-use Rattle.std.specs.Prelude.{slice_get, slice_index_or, IfSome, All, vec_len}
+use Rattle.std.proofs.Common.{◌≡◌, ℕ, zero, suc, ◌+◌, ◌<◌, ◌≤◌, List, [], ◌∷◌, ◌++◌, length, take, get_or, map, Option, Some, None, inl, inr, refl, sym, ap, ◌∙◌, subst, arith, append_assoc, append-nil, Contains}
+use Rattle.std.specs.Prelude.{slice_get, slice_index_or, IfSome, All}
 use Rattle.std.proofs.lemmas.List.{take_more, map_push}
 use Rattle.std.proofs.lemmas.Option.{get_or_from_slice_get}
 use Rattle.std.proofs.lemmas.List.Elements.{Contains-append_left, All-push, All-cons, All-tail}
@@ -11,8 +11,8 @@ use Rattle.gh_base.specs.Grounds.{Problem, IsProblem}
 use Rattle.gh_base.specs.Meaning.{IsEqualityClause}
 use Rattle.gh_inst.specs.declared.naming.InstanceName.{InstanceName}
 use Rattle.gh_inst.specs.Instances.{IsInstance, clause_of}
-use Rattle.gh_log.specs.declared.lines.LogLine.{LogLine}
-use Rattle.gh_log.specs.declared.lines.LogLine.TheVariants as line
+use Rattle.gh_log.specs.Lines.{LogLine}
+use Rattle.gh_log.specs.Lines as line
 use Rattle.gh_log.specs.declared.lines.Section.{Section}
 use Rattle.gh_log.specs.Sections.{line_clause, Deletes, HasClauseAt, Stands, AllStand, AreAt, IsHinted, IsOfKind, AreOfKind, IsValidSection}
 use Rattle.gh_log.specs.Spelled.{IsOfVersion}
@@ -29,7 +29,7 @@ use Rattle.gh_ground.specs.Solving.{IsNoDeletion, RefutesProblem}
 
 -- the line of a clause with hints
 abbrev pub IsHintedLine : List Lit → List ℕ → LogLine → Type 0
-IsHintedLine clause hints l = (v : Vec ℕ Global) × (l ≡ line.Hinted clause v) × (v.items ≡ hints)
+IsHintedLine clause hints l = l ≡ line.Hinted clause hints
 
 -- what stands at a place of two lists that are one, read by two functions
 same_at : {X Y Z : Type 0} (f : X → Z) (g : Y → Z) (xs : List X) (ys : List Y) (k : ℕ) (y : Y) → map f xs ≡ map g ys → slice_get ys k ≡ Some y → (x : X) × (slice_get xs k ≡ Some x) × (f x ≡ g y)
@@ -175,9 +175,9 @@ keeps_lemma old new before after c answer moves some pushed = elim moves.clauses
 pub keeps_learnt : (old new : SearchState) (before after : List LogLine) (k : ℕ) (clause : List Lit) (level : ℕ) (unit : Lit) (to : ℕ) (reasons : List ℕ) (l : LogLine) → IsSound old → IsLearnt old k clause level unit
     → AreReasons old.clauses reasons clause → new ≡ cut (add_clause old clause) to → IsHintedLine clause (map (λ k. k + 1) reasons) l → after ≡ before ++ l ∷ [] → Keeps old before new after
 keeps_learnt old new before after k clause level unit to reasons l h learnt shown is hinted pushed =
-    let made : l ≡ line.Hinted clause hinted.0 = hinted.1 in
-    keeps_push old new before after (line.Hinted clause hinted.0) clause (pushed ∙ ap (λ (x : LogLine). before ++ x ∷ []) made) (ap (λ (t : SearchState). t.sizes) is) (ap (λ (t : SearchState). t.clauses) is) refl
-    (λ p kept. (refl, (subst (λ (z : Sizes). AreInRange z clause) kept.sizes (false_in_range old clause h learnt.is_false), hinted_by p old before reasons hinted.0.items clause kept shown hinted.2)))
+    let hints : List ℕ = map (λ k. k + 1) reasons in
+    keeps_push old new before after (line.Hinted clause hints) clause (pushed ∙ ap (λ (x : LogLine). before ++ x ∷ []) hinted) (ap (λ (t : SearchState). t.sizes) is) (ap (λ (t : SearchState). t.clauses) is) refl
+    (λ p kept. (refl, (subst (λ (z : Sizes). AreInRange z clause) kept.sizes (false_in_range old clause h learnt.is_false), hinted_by p old before reasons hints clause kept shown refl)))
 
 pub sizes_added : (old new : SearchState) (clause : List Lit) → Adds old clause new → new.sizes ≡ old.sizes
 sizes_added old new clause adds = let w = added_cut old new clause adds in ap (λ (t : SearchState). t.sizes) w.1
@@ -191,11 +191,11 @@ keeps_instance old new before after name clause instance is adds pushed =
 
 -- the empty clause ends a section
 pub refutation_of : (p : Problem) (s : SearchState) (lines ended : List LogLine) (reasons : List ℕ) (end : LogLine) (section : Section) → AreReasons s.clauses reasons [] → HasLineEach p s lines → IsHintedLine [] (map (λ k. k + 1) reasons) end
-    → ended ≡ lines ++ end ∷ [] → section.lines.items ≡ ended → section.first ≡ 1 → vec_len section.lines ≤ 4294967294 → RefutesProblem p section
+    → ended ≡ lines ++ end ∷ [] → section.lines ≡ ended → section.first ≡ 1 → length section.lines ≤ 4294967294 → RefutesProblem p section
 refutation_of p s lines ended reasons end section shown kept hinted pushed is first few =
-    let last : LogLine = line.Hinted [] hinted.0 in
-    let whole : section.lines.items ≡ lines ++ last ∷ [] = is ∙ pushed ∙ ap (λ (x : LogLine). lines ++ x ∷ []) hinted.1 in
-    let of_kind : IsOfKind p lines last = (λ k d lt. absurd (omega arith), hinted_by p s lines reasons hinted.0.items [] kept shown hinted.2) in
+    let last : LogLine = line.Hinted [] (map (λ k. k + 1) reasons) in
+    let whole : section.lines ≡ lines ++ last ∷ [] = is ∙ pushed ∙ ap (λ (x : LogLine). lines ++ x ∷ []) hinted in
+    let of_kind : IsOfKind p lines last = (λ k d lt. absurd (omega arith), hinted_by p s lines reasons (map (λ k. k + 1) reasons) [] kept shown refl) in
     record {
       valid = subst (IsValidSection p) (sym whole) (record { of_kind = kind_push p lines last kept.of_kind of_kind; ends = (lines, last, refl, refl) });
       version = subst (All (IsOfVersion 2)) (sym whole) (All-push (IsOfVersion 2) lines last kept.version refl);

@@ -14,8 +14,8 @@ use Rattle.gh_inst.specs.Collecting.{IsFalseInstance}
 use Rattle.gh_inst.specs.Instances.{instances, IsInstance, clause_of}
 use Rattle.gh_inst.specs.Violations.{AreInstancesTrue}
 use Rattle.gh_inst.proofs.ListedLemmas.{all_are_listed}
-use Rattle.gh_log.specs.declared.lines.LogLine.{LogLine}
-use Rattle.gh_log.specs.declared.lines.LogLine.TheVariants as line
+use Rattle.gh_log.specs.Lines.{LogLine}
+use Rattle.gh_log.specs.Lines as line
 use Rattle.gh_log.specs.Sections.{line_clause}
 use Rattle.gh_sat.specs.Trail.{SearchState}
 use Rattle.gh_sat.proofs.ListLemmas.{lt_le}

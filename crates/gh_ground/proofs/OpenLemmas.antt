@@ -7,7 +7,7 @@ use Rattle.gh_base.specs.declared.sizes.Sizes.{Sizes}
 use Rattle.gh_base.specs.Atoms.{IsInRange, AreInRange}
 use Rattle.gh_base.specs.Grounds.{Problem}
 use Rattle.gh_base.specs.Meaning.{Interpretation, IsClauseTrue, IsCongruence}
-use Rattle.gh_log.specs.declared.lines.LogLine.{LogLine}
+use Rattle.gh_log.specs.Lines.{LogLine}
 use Rattle.gh_sat.specs.declared.trail.Step.{Step}
 use Rattle.gh_sat.specs.Theory.{lits_of}
 use Rattle.gh_sat.specs.Trail.{SearchState, IsSound}

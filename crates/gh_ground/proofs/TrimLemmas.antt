@@ -1,14 +1,14 @@
 -- A section without the lines that nothing later needs.
 use Rattle.std.proofs.Common.{◌≡◌, ◌⊎◌, ℕ, zero, suc, ◌+◌, ◌-◌, ◌<◌, ◌≤◌, List, [], ◌∷◌, ◌++◌, length, take, get_or, map, Bool, true, false, Some, inl, inr, refl, sym, ap, ◌∙◌, subst, arith, All, Contains}
-use Rattle.std.specs.Prelude.{slice_get, slice_index, vec_len}
+use Rattle.std.specs.Prelude.{slice_get, slice_index}
 use Rattle.std.proofs.lemmas.Bool.{cases_eq, false≢true}
 use Rattle.std.proofs.lemmas.List.{length_push, take_more}
 use Rattle.std.proofs.lemmas.Option.{get_or_from_slice_get, slice_get_read}
 use Rattle.std.proofs.lemmas.List.Elements.{All-cons, All-push, Contains-append_left, Contains-append_right}
 use Rattle.gh_base.specs.declared.atom.Lit.{Lit}
 use Rattle.gh_base.specs.Grounds.{Problem}
-use Rattle.gh_log.specs.declared.lines.LogLine.{LogLine}
-use Rattle.gh_log.specs.declared.lines.LogLine.TheVariants as line
+use Rattle.gh_log.specs.Lines.{LogLine}
+use Rattle.gh_log.specs.Lines as line
 use Rattle.gh_log.specs.declared.lines.Section.{Section}
 use Rattle.gh_log.specs.Sections.{line_clause, HasClauseAt, Stands, AllStand, AreAt, IsHinted, IsOfKind, AreOfKind}
 use Rattle.gh_log.specs.Spelled.{IsOfVersion}
@@ -120,7 +120,7 @@ same_clause p positions (line.Axiom n) m t e = ap (line_clause p) e
 same_clause p positions (line.Clause k) m t e = ap (line_clause p) e
 same_clause p positions (line.Lemma c) m t e = ap (line_clause p) e
 same_clause p positions (line.Learnt c) m t e = ap (line_clause p) e
-same_clause p positions (line.Hinted c hints) m t e = ap (line_clause p) e.1
+same_clause p positions (line.Hinted c hints) m t e = ap (line_clause p) e
 same_clause p positions (line.Delete deleted) m t e = absurd t
 
 moved_stays : (positions : List ℕ) (l m : LogLine) → IsNoDeletion l → IsMoved positions l m → IsNoDeletion m
@@ -128,7 +128,7 @@ moved_stays positions (line.Axiom n) m t e = subst IsNoDeletion (sym e) tt
 moved_stays positions (line.Clause k) m t e = subst IsNoDeletion (sym e) tt
 moved_stays positions (line.Lemma c) m t e = subst IsNoDeletion (sym e) tt
 moved_stays positions (line.Learnt c) m t e = subst IsNoDeletion (sym e) tt
-moved_stays positions (line.Hinted c hints) m t e = subst IsNoDeletion (sym e.1) tt
+moved_stays positions (line.Hinted c hints) m t e = subst IsNoDeletion (sym e) tt
 moved_stays positions (line.Delete deleted) m t e = absurd t
 
 moved_version : (positions : List ℕ) (l m : LogLine) → IsNoDeletion l → IsOfVersion 2 l → IsMoved positions l m → IsOfVersion 2 m
@@ -136,7 +136,7 @@ moved_version positions (line.Axiom n) m t v e = subst (IsOfVersion 2) (sym e) t
 moved_version positions (line.Clause k) m t v e = subst (IsOfVersion 2) (sym e) tt
 moved_version positions (line.Lemma c) m t v e = subst (IsOfVersion 2) (sym e) tt
 moved_version positions (line.Learnt c) m t v e = absurd (omega arith)
-moved_version positions (line.Hinted c hints) m t v e = subst (IsOfVersion 2) (sym e.1) refl
+moved_version positions (line.Hinted c hints) m t v e = subst (IsOfVersion 2) (sym e) refl
 moved_version positions (line.Delete deleted) m t v e = absurd t
 
 get_before : {X : Type 0} (xs ys : List X) (i : ℕ) (x : X) → i < length xs → slice_get (xs ++ ys) i ≡ Some x → slice_get xs i ≡ Some x
@@ -154,9 +154,9 @@ hint_moved : (positions : List ℕ) (l m : LogLine) (j r : ℕ) → IsMoved posi
 hint_moved positions (line.Hinted c hints) m j r moved at there =
     let less : j + 1 - 1 ≡ j = omega arith in
     let is : slice_index positions (j + 1 - 1) ≡ r = ap (λ i. slice_index positions i) less ∙ get_or_from_slice_get positions j r 0 at in
-    let new = in_map (λ h. slice_index positions (h - 1)) hints.items (j + 1) there in
-    let stands : Contains moved.0.items r = subst (λ n. Contains moved.0.items n) is (subst (λ (xs : List ℕ). Contains xs (slice_index positions (j + 1 - 1))) (sym moved.2) new) in
-    subst (λ (x : LogLine). Contains (hints_of x) r) (sym moved.1) stands
+    let new = in_map (λ h. slice_index positions (h - 1)) hints (j + 1) there in
+    let stands : Contains (map (λ h. slice_index positions (h - 1)) hints) r = subst (λ n. Contains (map (λ h. slice_index positions (h - 1)) hints) n) is new in
+    subst (λ (x : LogLine). Contains (hints_of x) r) (sym moved) stands
 hint_moved positions l m j r moved at there = absurd (let lt = there.1 in omega (arith, lt))
 
 -- so too with a longer table
@@ -187,9 +187,9 @@ module _ (p : Problem) (lines : List LogLine) (kept : List Bool) (place : ℕ) (
   kind_moved (line.Lemma c) m t v all e kind = subst (IsOfKind p new) (sym e) kind
   kind_moved (line.Learnt c) m t v all e kind = absurd (omega arith)
   kind_moved (line.Hinted c hints) m t v all e kind =
-      let w = hints_moved hints.items kind.1.clauses all kind.1.at in
-      let hinted : IsHinted p new c e.0.items = subst (IsHinted p new c) (sym e.2) (record { stand = w.0; clauses = kind.1.clauses; at = w.1; shown = kind.1.shown }) in
-      subst (IsOfKind p new) (sym e.1) (kind.0, hinted)
+      let w = hints_moved hints kind.1.clauses all kind.1.at in
+      let hinted : IsHinted p new c (map (λ h. slice_index positions (h - 1)) hints) = record { stand = w.0; clauses = kind.1.clauses; at = w.1; shown = kind.1.shown } in
+      subst (IsOfKind p new) (sym e) (kind.0, hinted)
   kind_moved (line.Delete deleted) m t v all e kind = absurd t
 
   pub trim_kept : (l m : LogLine) → AreNeeded lines kept 0 → slice_get lines place ≡ Some l → IsKeptAt kept place → IsMoved positions l m → IsRenumbered p lines kept (place + 1) (new ++ m ∷ []) (positions ++ (length new + 1) ∷ [])
@@ -299,14 +299,14 @@ none_left p lines kept place new positions needed end h = λ q lt.
         ]
 
 -- what was trimmed is a refutation
-pub trimmed_refutes : (p : Problem) (s t : Section) (kept : List Bool) (place : ℕ) (positions : List ℕ) → AreNeeded s.lines.items kept 0 → place ≡ length s.lines.items
-    → (IsGood p s.lines.items → IsRenumbered p s.lines.items kept place t.lines.items positions) → t.first ≡ 1 → vec_len t.lines ≤ 4294967294 → RefutesProblem p s → IsRefutationOf p t
+pub trimmed_refutes : (p : Problem) (s t : Section) (kept : List Bool) (place : ℕ) (positions : List ℕ) → AreNeeded s.lines kept 0 → place ≡ length s.lines
+    → (IsGood p s.lines → IsRenumbered p s.lines kept place t.lines positions) → t.first ≡ 1 → length t.lines ≤ 4294967294 → RefutesProblem p s → IsRefutationOf p t
 trimmed_refutes p s t kept place positions needed end trimmed first few h =
     let w = trimmed (record { kinds = h.valid.of_kind; version = h.version; none = h.no_deletions }) in
     let ends = h.valid.ends in
     let k : ℕ = length ends.0 in
-    let long : length s.lines.items ≡ k + 1 = ap length ends.2 ∙ length_push ends.0 ends.1 in
-    let at : slice_get s.lines.items k ≡ Some ends.1 = ap (λ (ls : List LogLine). slice_get ls k) ends.2 ∙ get_last ends.0 ends.1 in
+    let long : length s.lines ≡ k + 1 = ap length ends.2 ∙ length_push ends.0 ends.1 in
+    let at : slice_get s.lines k ≡ Some ends.1 = ap (λ (ls : List LogLine). slice_get ls k) ends.2 ∙ get_last ends.0 ends.1 in
     let last = w.last k ends.1 (end ∙ long) at (needed.last k long) in
     record {
       valid = record { of_kind = w.kinds; ends = (last.0, last.1, last.2, last.3 ∙ ends.3) };
@@ -314,5 +314,5 @@ trimmed_refutes p s t kept place positions needed end trimmed first few h =
       no_deletions = w.none;
       first = first;
       few = few;
-      trimmed = none_left p s.lines.items kept place t.lines.items positions needed end w;
+      trimmed = none_left p s.lines kept place t.lines positions needed end w;
     }

@@ -4,7 +4,7 @@ use Rattle.gh_base.specs.declared.atom.Lit.{Lit}
 use Rattle.gh_base.specs.Grounds.{Problem, IsProblem}
 use Rattle.gh_base.specs.Meaning.{IsEqualityClause}
 use Rattle.gh_cc.specs.Asserted.{IsConsistent}
-use Rattle.gh_log.specs.declared.lines.LogLine.{LogLine}
+use Rattle.gh_log.specs.Lines.{LogLine}
 use Rattle.gh_log.specs.Sections.{line_clause, AreOfKind}
 use Rattle.gh_log.specs.Spelled.{IsOfVersion}
 use Rattle.gh_sat.specs.Learn.{IsConflict}

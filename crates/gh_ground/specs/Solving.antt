@@ -1,13 +1,13 @@
 -- What a decision of ground clauses answers.
-use Rattle.std.specs.Prelude.{◌≡◌, ◌+◌, ◌<◌, ◌≤◌, ⊤, ℕ, List, [], Some, All, Contains, length, slice_get, vec_len}
+use Rattle.std.specs.Prelude.{◌≡◌, ◌+◌, ◌<◌, ◌≤◌, ⊤, ℕ, List, [], Some, All, Contains, length, slice_get}
 use Rattle.gh_base.specs.Grounds.{Problem}
 use Rattle.gh_base.specs.Meaning.{IsClauseTrue, IsCongruence}
 use Rattle.gh_base.specs.Structures.{Tables, interpretation_of}
 use Rattle.gh_inst.specs.Violations.{AreInstancesTrue}
 use Rattle.gh_log.specs.Sections.{IsValidSection}
 use Rattle.gh_log.specs.Spelled.{IsOfVersion}
-use Rattle.gh_log.specs.declared.lines.LogLine.{LogLine}
-use Rattle.gh_log.specs.declared.lines.LogLine.TheVariants as line
+use Rattle.gh_log.specs.Lines.{LogLine}
+use Rattle.gh_log.specs.Lines as line
 use Rattle.gh_log.specs.declared.lines.Section.{Section}
 use Rattle.gh_ground.specs.declared.solve.Answer.{Answer}
 use Rattle.gh_ground.specs.declared.solve.Answer.TheVariants.{Model, Refutation}
@@ -26,7 +26,7 @@ IsNoDeletion _ = ⊤
 
 -- the positions that a line has as hints
 abbrev pub hints_of : LogLine → List ℕ
-hints_of (line.Hinted c hints) = hints.items
+hints_of (line.Hinted c hints) = hints
 hints_of _ = []
 
 -- a later line has the position of the line at a place as a hint
@@ -44,20 +44,20 @@ IsTrimmed lines = (k : ℕ) → k + 1 < length lines → IsHintLater lines k
 -- the section is valid for the problem, is of version 2 without deletions and stands at the first line, and 32 bits number
 -- its lines and the place after them; it may have lines that nothing later needs
 pub record RefutesProblem (p : Problem) (s : Section) : Type 0 where
-  pub valid : IsValidSection p s.lines.items
-  pub version : All (IsOfVersion 2) s.lines.items
-  pub no_deletions : All IsNoDeletion s.lines.items
+  pub valid : IsValidSection p s.lines
+  pub version : All (IsOfVersion 2) s.lines
+  pub no_deletions : All IsNoDeletion s.lines
   pub first : s.first ≡ 1
-  pub few : vec_len s.lines ≤ 4294967294
+  pub few : length s.lines ≤ 4294967294
 
 -- the section refutes the problem, and each line but the last is needed later
 pub record IsRefutationOf (p : Problem) (s : Section) : Type 0 where
-  pub valid : IsValidSection p s.lines.items
-  pub version : All (IsOfVersion 2) s.lines.items
-  pub no_deletions : All IsNoDeletion s.lines.items
+  pub valid : IsValidSection p s.lines
+  pub version : All (IsOfVersion 2) s.lines
+  pub no_deletions : All IsNoDeletion s.lines
   pub first : s.first ≡ 1
-  pub few : vec_len s.lines ≤ 4294967294
-  pub trimmed : IsTrimmed s.lines.items
+  pub few : length s.lines ≤ 4294967294
+  pub trimmed : IsTrimmed s.lines
 
 abbrev pub IsAnswer : Problem → Answer → Type 0
 IsAnswer p (Model s) = IsModelOf p s

@@ -1,8 +1,7 @@
 -- Sections without the lines that nothing later needs.
-use Rattle.std.specs.Prelude.{◌≡◌, ◌⊎◌, ◌+◌, ◌-◌, ◌<◌, ◌≤◌, ⊤, ℕ, List, Bool, true, Some, All, Contains, length, map, slice_get, slice_index, Vec}
-use Rattle.std.specs.declared.alloc.Global.{Global}
-use Rattle.gh_log.specs.declared.lines.LogLine.{LogLine}
-use Rattle.gh_log.specs.declared.lines.LogLine.TheVariants as line
+use Rattle.std.specs.Prelude.{◌≡◌, ◌⊎◌, ◌+◌, ◌-◌, ◌<◌, ◌≤◌, ⊤, ℕ, List, Bool, true, Some, All, Contains, length, map, slice_get, slice_index}
+use Rattle.gh_log.specs.Lines.{LogLine}
+use Rattle.gh_log.specs.Lines as line
 use Rattle.gh_ground.specs.Solving.{hints_of}
 
 abbrev pub IsKeptAt : List Bool → ℕ → Type 0
@@ -35,6 +34,6 @@ pub record AreNeeded (lines : List LogLine) (kept : List Bool) (from : ℕ) : Ty
 -- the same line, with its hints moved by a table of new positions; deletions aren't kept
 abbrev pub IsMoved : List ℕ → LogLine → LogLine → Type 0
 IsMoved positions (line.Hinted c hints) new =
-    (v : Vec ℕ Global) × (new ≡ line.Hinted c v) × (v.items ≡ map (λ h. slice_index positions (h - 1)) hints.items)
+    new ≡ line.Hinted c (map (λ h. slice_index positions (h - 1)) hints)
 IsMoved positions (line.Delete deleted) new = ⊤
 IsMoved positions old new = new ≡ old

@@ -6,7 +6,7 @@ ghost use Rattle.gh_base.specs.Grounds.{Problem};
 ghost use Rattle.gh_base.specs.Meaning.{IsClauseTrue, IsCongruence, IsEqualityClause};
 ghost use Rattle.gh_base.specs.Structures.{interpretation_of};
 ghost use Rattle.gh_inst.specs.Instances.{IsInstance};
-ghost use Rattle.gh_log.specs.declared.lines.LogLine.TheVariants.{Axiom};
+ghost use Rattle.gh_log.specs.Lines.{Axiom};
 ghost use Rattle.gh_log.specs.Sections.{line_clause, AreOfKind};
 ghost use Rattle.gh_log.specs.Spelled.{IsOfVersion};
 ghost use Rattle.gh_ground.specs.Kept.{HasLineEach, Keeps, IsAnswered, IsOpen, IsRefuted, IsEnded};
@@ -23,8 +23,7 @@ use gh_base::clause::Clause;
 use gh_base::ground::Ground;
 use gh_base::structure::Structure;
 use gh_inst::naming::{InstanceName, instance};
-use gh_log::lines::{LogLine, Section};
-use gh_sat::learner::Learnt;
+use gh_log::lines::{Lines, LogLine, Section};
 use gh_sat::search::Search;
 use std::alloc::{AllocError, Global};
 
@@ -32,18 +31,18 @@ use std::alloc::{AllocError, Global};
 #[derive(Drop)]
 pub(crate) struct Solver {
     search: Search<Congruence>,
-    lines: Vec<LogLine>,
+    lines: Lines,
     // A far lesson cuts so many levels and one more.
     stride: u32,
 }
 
 // A line for each clause of a ground problem.
-fn ground_lines(alloc: Global, ground: &Ground) -> Result<Vec<LogLine>, AllocError>
-    ensures clauses { IfOk result (λ v. map (line_clause ground.now) v.items ≡ map Some ground.now.clauses) }
-    ensures of_kind { IfOk result (λ v. AreOfKind ground.now v.items) }
-    ensures version { IfOk result (λ v. All (IsOfVersion 2) v.items) }
+fn ground_lines(alloc: Global, ground: &Ground) -> Result<Lines, AllocError>
+    ensures clauses { IfOk result (λ ls. map (line_clause ground.now) ls ≡ map Some ground.now.clauses) }
+    ensures of_kind { IfOk result (λ ls. AreOfKind ground.now ls) }
+    ensures version { IfOk result (λ ls. All (IsOfVersion 2) ls) }
 {
-    let mut lines = Vec::with_capacity(alloc, ground.count() as usize)?;
+    let mut lines = Lines::new(alloc);
     for number in 0..ground.count() {
         lines.push(LogLine::Clause { number })?;
     }
@@ -96,7 +95,7 @@ fn cut_level(present: u32, level: u32, stride: u32) -> u32
 impl Solver {
     /// Nothing is decided yet.
     pub(crate) fn new(alloc: Global, ground: &Ground) -> Result<Solver, AllocError>
-        ensures { IfOk result (λ s. HasLineEach ground.now s.search s.lines.items) }
+        ensures { IfOk result (λ s. HasLineEach ground.now s.search s.lines) }
     {
         let sizes = ground.sizes();
         let theory = Congruence::new(alloc, sizes.terms, sizes.versions, sizes.defs)?;
@@ -114,14 +113,14 @@ impl Solver {
         ensures moves { IfOk result (λ o. PropagatesBeside (IsEqualityClause self.old.search.sizes) self.old.search self.new.search o) }
         ensures last { OnOk result (GivesLast self.old.search self.new.search.trail) }
         ensures answered { IfOk result (λ o. IsAnswered self.new.search o) }
-        ensures keeps { OnOk result (Keeps self.old.search self.old.lines.items self.new.search self.new.lines.items) }
+        ensures keeps { OnOk result (Keeps self.old.search self.old.lines self.new.search self.new.lines) }
     {
         let before = self.search.count();
         let answer = self.search.propagate(alloc)?;
         match clause_at(alloc, &self.search, before)? {
             None => Ok(answer),
             Some(lemma) => {
-                self.lines.push(LogLine::Lemma(lemma))?;
+                self.lines.push(LogLine::Lemma(lemma.lits()))?;
                 Ok(answer)
             }
         }
@@ -133,7 +132,7 @@ impl Solver {
         ensures less { IfOk result (λ o. IfSome o (λ _. left self.new.search.sizes self.new.search.trail < left self.old.search.sizes self.old.search.trail)) }
         ensures answered { IfOk result (λ o. IfSome o (IsAnswered self.new.search)) }
         ensures open { IfOk result (λ o. IfNone o (IsOpen self.new.search)) }
-        ensures keeps { OnOk result (Keeps self.old.search self.old.lines.items self.new.search self.new.lines.items) }
+        ensures keeps { OnOk result (Keeps self.old.search self.old.lines self.new.search self.new.lines) }
     {
         match self.search.decide_needed() {
             None => Ok(None),
@@ -152,15 +151,17 @@ impl Solver {
         requires level { 0 < length self.old.search.starts }
         ensures less { OnOk result (left self.new.search.sizes self.new.search.trail < left self.old.search.sizes self.old.search.trail) }
         ensures answered { IfOk result (IsAnswered self.new.search) }
-        ensures keeps { OnOk result (Keeps self.old.search self.old.lines.items self.new.search self.new.lines.items) }
+        ensures keeps { OnOk result (Keeps self.old.search self.old.lines self.new.search self.new.lines) }
     {
         let learnt = self.search.learn(alloc, conflict)?;
         self.search
             .backjump(cut_level(self.search.level(), learnt.level, self.stride));
         self.stride = self.stride.saturating_mul(4).saturating_add(1);
         let hints = positions(alloc, learnt.reasons.as_slice())?;
-        let Learnt { clause, .. } = learnt;
-        self.lines.push(LogLine::Hinted { clause, hints })?;
+        self.lines.push(LogLine::Hinted {
+            clause: learnt.clause.lits(),
+            hints: hints.as_slice(),
+        })?;
         let next = self.propagate(alloc)?;
         Ok(next)
     }
@@ -176,7 +177,7 @@ impl Solver {
         ensures less { IfOk result (λ o. IfSome o (λ _. left self.new.search.sizes self.new.search.trail < left self.old.search.sizes self.old.search.trail)) }
         ensures answered { IfOk result (λ o. IfSome o (IsAnswered self.new.search)) }
         ensures ended { IfOk result (λ o. IfNone o (IsEnded self.new.search answer)) }
-        ensures keeps { OnOk result (Keeps self.old.search self.old.lines.items self.new.search self.new.lines.items) }
+        ensures keeps { OnOk result (Keeps self.old.search self.old.lines self.new.search self.new.lines) }
     {
         match answer {
             None => {
@@ -197,7 +198,7 @@ impl Solver {
     /// its number.
     pub(crate) fn conflict(&mut self, alloc: Global) -> Result<Option<u32>, AllocError>
         ensures ended { IfOk result (IsEnded self.new.search) }
-        ensures keeps { OnOk result (Keeps self.old.search self.old.lines.items self.new.search self.new.lines.items) }
+        ensures keeps { OnOk result (Keeps self.old.search self.old.lines self.new.search self.new.lines) }
     {
         let mut found = self.propagate(alloc)?;
         while let Some(next) = self.turn(alloc, found)? {
@@ -209,7 +210,7 @@ impl Solver {
     /// The structure of what the trail asserts.
     pub(crate) fn structure(&self, alloc: Global) -> Result<Structure, AllocError>
         requires open { IsOpen self.now.search }
-        requires kept { (p : Problem) × HasLineEach p self.now.search self.now.lines.items }
+        requires kept { (p : Problem) × HasLineEach p self.now.search self.now.lines }
         ensures sizes { IfOk result (λ s. s.sizes ≡ self.now.search.sizes) }
         ensures clauses { IfOk result (λ s. All (IsClauseTrue (interpretation_of s)) self.now.search.clauses) }
         ensures congruence { IfOk result (λ s. IsCongruence self.now.search.sizes (interpretation_of s)) }
@@ -223,8 +224,8 @@ impl Solver {
     fn add_instance(&mut self, alloc: Global, name: InstanceName) -> Result<(), AllocError>
         requires { IsInstance self.old.search.sizes.terms self.old.search.sizes.versions name }
         ensures sizes { OnOk result (self.new.search.sizes ≡ self.old.search.sizes) }
-        ensures added { OnOk result (Contains self.new.lines.items (Axiom name)) }
-        ensures keeps { OnOk result (Keeps self.old.search self.old.lines.items self.new.search self.new.lines.items) }
+        ensures added { OnOk result (Contains self.new.lines (Axiom name)) }
+        ensures keeps { OnOk result (Keeps self.old.search self.old.lines self.new.search self.new.lines) }
     {
         let sizes = self.search.assignment().sizes();
         let Some(clause) = instance(alloc, name, sizes.terms, sizes.versions) else {
@@ -242,8 +243,8 @@ impl Solver {
         names: &[InstanceName],
     ) -> Result<(), AllocError>
         requires { All (IsInstance self.old.search.sizes.terms self.old.search.sizes.versions) names.now }
-        ensures added { OnOk result (All (λ name. Contains self.new.lines.items (Axiom name)) names.now) }
-        ensures keeps { OnOk result (Keeps self.old.search self.old.lines.items self.new.search self.new.lines.items) }
+        ensures added { OnOk result (All (λ name. Contains self.new.lines (Axiom name)) names.now) }
+        ensures keeps { OnOk result (Keeps self.old.search self.old.lines self.new.search self.new.lines) }
     {
         for name in names {
             self.add_instance(alloc, *name)?;
@@ -259,7 +260,7 @@ impl Solver {
         conflict: u32,
     ) -> Result<Section, AllocError>
         requires { IsRefuted self.search conflict }
-        ensures { IfOk result (λ s. (p : Problem) → HasLineEach p self.search self.lines.items → RefutesProblem p s) }
+        ensures { IfOk result (λ s. (p : Problem) → HasLineEach p self.search self.lines → RefutesProblem p s) }
     {
         if self.lines.len() >= 4294967294 {
             return Err(AllocError);
@@ -267,8 +268,8 @@ impl Solver {
         let reasons = self.search.refutation(alloc, conflict)?;
         let hints = positions(alloc, reasons.as_slice())?;
         let last = LogLine::Hinted {
-            clause: Clause::new(alloc),
-            hints,
+            clause: &[],
+            hints: hints.as_slice(),
         };
         self.lines.push(last)?;
         Ok(Section {

@@ -2,11 +2,12 @@
 
 ghost use Rattle.std.specs.Prelude.{◌≡◌, ◌⊎◌, ◌+◌, ◌-◌, ◌<◌, ◌≤◌, ◌++◌, ◌∷◌, [], ℕ, IfOk, OnOk, length, map, slice_get, slice_index};
 ghost use Rattle.gh_base.specs.Grounds.{Problem};
-ghost use Rattle.gh_log.specs.declared.lines.LogLine.{LogLine};
+ghost use Rattle.gh_log.specs.Lines.{LogLine as Line};
+ghost use Rattle.gh_log.specs.Tables.{line_of};
 ghost use Rattle.gh_ground.specs.Solving.{hints_of, RefutesProblem, IsRefutationOf};
 ghost use Rattle.gh_ground.specs.Trimming.{IsKeptAt, AreKeptBefore, KeepsOnly, AreNeeded, IsMoved};
 
-use gh_log::lines::{LogLine, Section};
+use gh_log::lines::{Lines, LogLine, Section};
 use std::alloc::{AllocError, Global};
 
 // Keeps the line at a position, if it stands before a place.
@@ -43,20 +44,20 @@ fn keep_all(kept: &mut Vec<bool>, positions: &[u32], place: usize)
 }
 
 // Where the line at a place is kept, keeps the earlier lines at its hints.
-fn keep_hints(kept: &mut Vec<bool>, line: &LogLine, place: usize)
+fn keep_hints(kept: &mut Vec<bool>, line: LogLine<'_>, place: usize)
     requires { place < length kept.old.items }
     ensures long { length kept.new.items ≡ length kept.old.items }
     ensures keeps { (k : ℕ) → IsKeptAt kept.old.items k → IsKeptAt kept.new.items k }
     ensures later { (k : ℕ) → place ≤ k → slice_get kept.new.items k ≡ slice_get kept.old.items k }
-    ensures hints { IsKeptAt kept.old.items place → AreKeptBefore kept.new.items place (hints_of line.now) }
-    ensures only { KeepsOnly kept.old.items kept.new.items place (hints_of line.now) }
+    ensures hints { IsKeptAt kept.old.items place → AreKeptBefore kept.new.items place (hints_of (line_of line.entry)) }
+    ensures only { KeepsOnly kept.old.items kept.new.items place (hints_of (line_of line.entry)) }
     ensures needed { IsKeptAt kept.old.items place ⊎ (kept.new.items ≡ kept.old.items) }
 {
     if !kept[place] {
         return;
     }
     match line {
-        LogLine::Hinted { hints, .. } => keep_all(kept, hints.as_slice(), place),
+        LogLine::Hinted { hints, .. } => keep_all(kept, hints, place),
         _ => {}
     }
 }
@@ -76,14 +77,14 @@ fn only_last(alloc: Global, count: usize) -> Result<Vec<bool>, AllocError>
 }
 
 // Which lines are kept: the last one, and with each that is kept the earlier ones at its hints; no other.
-fn needed(alloc: Global, lines: &[LogLine]) -> Result<Vec<bool>, AllocError>
+fn needed(alloc: Global, lines: &Lines) -> Result<Vec<bool>, AllocError>
     ensures { IfOk result (λ v. AreNeeded lines.now v.items 0) }
 {
     let mut kept = only_last(alloc, lines.len())?;
     let mut place = lines.len();
     while place > 0 {
         place -= 1;
-        keep_hints(&mut kept, &lines[place], place);
+        keep_hints(&mut kept, lines.line(place), place);
     }
     Ok(kept)
 }
@@ -98,34 +99,44 @@ fn position_of(positions: &[u32], position: u32) -> u32
         .unwrap_or(0)
 }
 
-// The new positions of hints.
-fn moved_hints(alloc: Global, hints: &[u32], positions: &[u32]) -> Result<Vec<u32>, AllocError>
-    ensures { IfOk result (λ v. v.items ≡ map (λ h. slice_index positions.now (h - 1)) hints.now) }
+// Writes the new positions of hints.
+fn move_hints(moved: &mut Vec<u32>, hints: &[u32], positions: &[u32]) -> Result<(), AllocError>
+    ensures { OnOk result (moved.new.items ≡ map (λ h. slice_index positions.now (h - 1)) hints.now) }
 {
-    let mut moved = Vec::with_capacity(alloc, hints.len())?;
+    moved.clear();
     for hint in hints {
         moved.push(position_of(positions, *hint))?;
     }
-    Ok(moved)
+    Ok(())
 }
 
-// A line with its hints moved. A deletion, of which no section here has one, deletes nothing then.
-fn moved(alloc: Global, line: &LogLine, positions: &[u32]) -> Result<LogLine, AllocError>
-    ensures { IfOk result (IsMoved positions.now line.now) }
+// Adds a line with its hints moved, which are written first. A deletion, of which no section here has one, deletes
+// nothing then.
+fn push_moved(
+    lines: &mut Lines,
+    moved: &mut Vec<u32>,
+    line: LogLine<'_>,
+    positions: &[u32],
+) -> Result<(), AllocError>
+    ensures { OnOk result ((l : Line) × IsMoved positions.now (line_of line.entry) l × (lines.new ≡ lines.old ++ l ∷ [])) }
 {
     match line {
-        LogLine::Axiom(name) => Ok(LogLine::Axiom(*name)),
-        LogLine::Clause { number } => Ok(LogLine::Clause { number: *number }),
-        LogLine::Lemma(clause) => Ok(LogLine::Lemma(clause.copy(alloc)?)),
-        LogLine::Learnt(clause) => Ok(LogLine::Learnt(clause.copy(alloc)?)),
         LogLine::Hinted { clause, hints } => {
-            let clause = clause.copy(alloc)?;
-            let hints = moved_hints(alloc, hints.as_slice(), positions)?;
-            Ok(LogLine::Hinted { clause, hints })
+            move_hints(moved, hints, positions)?;
+            lines.push(LogLine::Hinted {
+                clause,
+                hints: moved.as_slice(),
+            })?;
+            Ok(())
         }
-        LogLine::Delete { .. } => Ok(LogLine::Delete {
-            positions: Vec::new(alloc),
-        }),
+        LogLine::Delete { .. } => {
+            lines.push(LogLine::Delete { positions: &[] })?;
+            Ok(())
+        }
+        _ => {
+            lines.push(line)?;
+            Ok(())
+        }
     }
 }
 
@@ -133,29 +144,35 @@ fn moved(alloc: Global, line: &LogLine, positions: &[u32]) -> Result<LogLine, Al
 // is kept, its new position.
 #[derive(Drop)]
 struct Trimmed {
-    lines: Vec<LogLine>,
+    lines: Lines,
     positions: Vec<u32>,
+    // Where the hints of a line are moved.
+    moved: Vec<u32>,
 }
 
 impl Trimmed {
     // Leaves a line out.
     fn pass(&mut self) -> Result<(), AllocError>
-        requires { length self.old.lines.items ≤ 4294967295 }
-        ensures lines { self.new.lines.items ≡ self.old.lines.items }
-        ensures positions { OnOk result (self.new.positions.items ≡ self.old.positions.items ++ length self.old.lines.items ∷ []) }
+        requires { length self.old.lines ≤ 4294967295 }
+        ensures lines { self.new.lines ≡ self.old.lines }
+        ensures positions { OnOk result (self.new.positions.items ≡ self.old.positions.items ++ length self.old.lines ∷ []) }
     {
         self.positions.push(self.lines.len() as u32)?;
         Ok(())
     }
 
     // Keeps a line.
-    fn take(&mut self, alloc: Global, line: &LogLine) -> Result<(), AllocError>
-        requires { length self.old.lines.items < 4294967295 }
-        ensures line { OnOk result ((l : LogLine) × IsMoved self.old.positions.items line.now l × (self.new.lines.items ≡ self.old.lines.items ++ l ∷ [])) }
-        ensures positions { OnOk result (self.new.positions.items ≡ self.old.positions.items ++ (length self.old.lines.items + 1) ∷ []) }
+    fn take(&mut self, line: LogLine<'_>) -> Result<(), AllocError>
+        requires { length self.old.lines < 4294967295 }
+        ensures line { OnOk result ((l : Line) × IsMoved self.old.positions.items (line_of line.entry) l × (self.new.lines ≡ self.old.lines ++ l ∷ [])) }
+        ensures positions { OnOk result (self.new.positions.items ≡ self.old.positions.items ++ (length self.old.lines + 1) ∷ []) }
     {
-        let kept = moved(alloc, line, self.positions.as_slice())?;
-        self.lines.push(kept)?;
+        push_moved(
+            &mut self.lines,
+            &mut self.moved,
+            line,
+            self.positions.as_slice(),
+        )?;
         self.positions.push(self.lines.len() as u32)?;
         Ok(())
     }
@@ -166,18 +183,19 @@ impl Trimmed {
 pub(crate) fn trim(alloc: Global, section: &Section) -> Result<Section, AllocError>
     ensures { IfOk result (λ s. (p : Problem) → RefutesProblem p section.now → IsRefutationOf p s) }
 {
-    let lines = section.lines.as_slice();
+    let lines = &section.lines;
     if lines.len() > 4294967294 {
         return Err(AllocError);
     }
     let kept = needed(alloc, lines)?;
     let mut trimmed = Trimmed {
-        lines: Vec::new(alloc),
+        lines: Lines::new(alloc),
         positions: Vec::with_capacity(alloc, lines.len())?,
+        moved: Vec::new(alloc),
     };
     for place in 0..lines.len() {
         if kept[place] {
-            trimmed.take(alloc, &lines[place])?;
+            trimmed.take(lines.line(place))?;
         } else {
             trimmed.pass()?;
         }

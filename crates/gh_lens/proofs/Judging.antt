@@ -7,7 +7,7 @@ use Rattle.gh_path.specs.Answers.{IsNumbered}
 use Rattle.gh_path.specs.Conditions.{Condition, conditions}
 use Rattle.gh_path.specs.declared.condition.Condition as kept
 use Rattle.gh_trace.specs.Kept.{IsOfProgram}
-use Rattle.gh_decide.proofs.Listed.{placed}
+use Rattle.gh_trace.proofs.FirstRefuted.{placed}
 use Rattle.gh_lens.specs.Judgements.{IsJudged, AreJudged}
 use Rattle.gh_lens.specs.declared.judged.Judged.{Judged}
 

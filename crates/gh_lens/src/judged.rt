@@ -90,7 +90,7 @@ pub fn verdicts<T: Progress>(
     conditions: &Conditions,
     progress: &mut T,
 ) -> Result<Vec<Judged>, AllocError>
-    requires same { conditions.now ≡ typed.now }
+    requires same { program_of conditions.now ≡ program_of typed.now }
     requires admitted { IsAdmitted (program_of typed.now) }
     ensures { IfOk result (λ v. AreJudged (program_of typed.now) 1 (plain.conditions (program_of typed.now)) v.items) }
 {

@@ -212,7 +212,7 @@ pub fn overview_of<T: Progress>(
     conditions: &Conditions,
     progress: &mut T,
 ) -> Result<Overview, AllocError>
-    requires same { conditions.now ≡ typed.now }
+    requires same { program_of conditions.now ≡ program_of typed.now }
     requires admitted { IsAdmitted (program_of typed.now) }
     ensures { IfOk result (λ o. shown.IsOverview (program_of typed.now) o.refuted o.text) }
 {

@@ -187,7 +187,7 @@ pub fn why(
     conditions: &Conditions,
     drawing: &Drawing,
 ) -> Result<Explained, AllocError>
-    requires same { conditions.now ≡ typed.now }
+    requires same { program_of conditions.now ≡ program_of typed.now }
     requires admitted { IsAdmitted (program_of typed.now) }
     ensures { IfOk result (told.IsExplained (program_of typed.now) drawing.now.condition drawing.now.trace.states.items) }
 {

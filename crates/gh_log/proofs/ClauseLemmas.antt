@@ -5,7 +5,7 @@ use Rattle.std.specs.List.{cons_option}
 use Rattle.std.proofs.lemmas.List.Elements.{All-cons}
 use Rattle.gh_base.specs.declared.atom.Lit.{Lit}
 use Rattle.gh_base.specs.Grounds.{Problem}
-use Rattle.gh_log.specs.declared.lines.LogLine.{LogLine}
+use Rattle.gh_log.specs.Lines.{LogLine}
 use Rattle.gh_log.specs.Sections.{line_clause, clauses_of, HasClauseAt, AreAt}
 
 first_has : (o : Option (List Lit)) (c : List Lit) (cs : List (List Lit)) → o ≡ Some c → Contains (cons_option o cs) c

@@ -5,7 +5,7 @@ use Rattle.std.proofs.lemmas.Bool.{cases_lt}
 use Rattle.std.proofs.lemmas.List.{take-append-le, length_push, get_or_push, get_or_append_left}
 use Rattle.std.proofs.lemmas.Option.{slice_get-get_or, slice_get_within, get_or_from_slice_get}
 use Rattle.gh_base.specs.Grounds.{Problem}
-use Rattle.gh_log.specs.declared.lines.LogLine.{LogLine}
+use Rattle.gh_log.specs.Lines.{LogLine}
 use Rattle.gh_log.specs.Sections.{IsOfKind, AreOfKind}
 
 -- one more line of its kind

@@ -1,6 +1,7 @@
 pub mod ClauseLemmas
 pub mod SectionLemmas
 pub mod WritingLemmas
+pub mod TableLemmas
 pub mod Exits
 pub mod NumberLemmas
 pub mod AtomLemmas
@@ -9,3 +10,4 @@ pub mod LineLemmas
 pub mod LogLemmas
 pub mod PlaceLemmas
 pub mod KindLemmas
+pub mod OutsideLemmas

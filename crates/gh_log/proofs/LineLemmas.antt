@@ -1,5 +1,5 @@
 -- Lines and headers at the front of a text.
-use Rattle.std.proofs.Common.{◌≡◌, ◌≢◌, inl, inr, ℕ, zero, suc, ◌+◌, ◌-◌, ◌<◌, ◌≤◌, List, [], ◌∷◌, ◌++◌, length, take, set, replicate, codes, refl, sym, ◌∙◌, ap, subst, arith, append_assoc, add-one, Vec, Global}
+use Rattle.std.proofs.Common.{◌≡◌, ◌≢◌, inl, inr, ℕ, zero, suc, ◌+◌, ◌-◌, ◌<◌, ◌≤◌, List, [], ◌∷◌, ◌++◌, length, take, set, replicate, codes, refl, sym, ◌∙◌, ap, subst, arith, append_assoc, add-one}
 use Rattle.std.specs.List.{flat_map}
 use Rattle.std.specs.Fmt.{decimal}
 use Rattle.std.proofs.lemmas.List.{append-nil, append_cancel_left, length-take-le}
@@ -10,8 +10,8 @@ use Rattle.gh_base.specs.declared.atom.Lit.{Lit}
 use Rattle.gh_inst.specs.declared.naming.InstanceName.{InstanceName}
 use Rattle.gh_inst.specs.Schemas.{term}
 use Rattle.gh_inst.specs.Instances.{tuple_of, IsPadded}
-use Rattle.gh_log.specs.declared.lines.LogLine.{LogLine}
-use Rattle.gh_log.specs.declared.lines.LogLine.TheVariants as line
+use Rattle.gh_log.specs.Lines.{LogLine}
+use Rattle.gh_log.specs.Lines as line
 use Rattle.gh_log.specs.Texts.{term_text, lits_text, numbers_text, header_text}
 use Rattle.gh_log.specs.Spelled.{IsVersion, IsOfVersion}
 use Rattle.gh_log.specs.Reading.{SpellsNothing, SpellsText, IsNotNext, EndsNumber, SpellsNumber, SpellsBytes, SpellsClause, SpellsShown, SpellsNumbers, SpellsTerms, ArePadded, SpellsParts, SpellsLine, first_line, SpellsVersion, SpellsHeader}
@@ -278,7 +278,7 @@ is_learnt version (line.Learnt c) v o e = (c, refl)
 is_learnt version (line.Hinted c hints) v o e = absurd (omega (arith, v, o))
 is_learnt version (line.Delete positions) v o e = absurd (omega (arith, e))
 
-pub is_hinted : (version : ℕ) (l : LogLine) → version ≡ 2 → IsOfVersion version l → letter_of l ≡ 108 → (c : List Lit) × (hints : Vec ℕ Global) × (l ≡ line.Hinted c hints)
+pub is_hinted : (version : ℕ) (l : LogLine) → version ≡ 2 → IsOfVersion version l → letter_of l ≡ 108 → (c : List Lit) × (hints : List ℕ) × (l ≡ line.Hinted c hints)
 is_hinted version (line.Axiom name) v o e = absurd (omega (arith, e))
 is_hinted version (line.Clause k) v o e = absurd (omega (arith, e))
 is_hinted version (line.Lemma c) v o e = absurd (omega (arith, e))
@@ -286,7 +286,7 @@ is_hinted version (line.Learnt c) v o e = absurd (omega (arith, v, o))
 is_hinted version (line.Hinted c hints) v o e = (c, hints, refl)
 is_hinted version (line.Delete positions) v o e = absurd (omega (arith, e))
 
-pub is_delete : (l : LogLine) → letter_of l ≡ 100 → (positions : Vec ℕ Global) × (l ≡ line.Delete positions)
+pub is_delete : (l : LogLine) → letter_of l ≡ 100 → (positions : List ℕ) × (l ≡ line.Delete positions)
 is_delete (line.Axiom name) e = absurd (omega (arith, e))
 is_delete (line.Clause k) e = absurd (omega (arith, e))
 is_delete (line.Lemma c) e = absurd (omega (arith, e))
@@ -349,20 +349,20 @@ pub record HasHints (text : List ℕ) (c : List Lit) (ns rest : List ℕ) : Type
 regroup_hints : (l n rest : List ℕ) → (((l ++ 32 ∷ 59 ∷ []) ++ n) ++ 10 ∷ []) ++ rest ≡ l ++ (32 ∷ 59 ∷ (n ++ 10 ∷ rest))
 regroup_hints l n rest = simp append_assoc
 
-pub hinted_parts : (text : List ℕ) (c : List Lit) (hints : Vec ℕ Global) (rest : List ℕ) → SpellsParts (108 ∷ text) (line.Hinted c hints) rest → HasHints text c hints.items rest
+pub hinted_parts : (text : List ℕ) (c : List Lit) (hints : List ℕ) (rest : List ℕ) → SpellsParts (108 ∷ text) (line.Hinted c hints) rest → HasHints text c hints rest
 hinted_parts text c hints rest s =
     record {
-      middle = numbers_text hints.items ++ 10 ∷ rest;
-      lits = record { front = tail_is 108 108 _ _ s.front ∙ regroup_hints (lits_text c) (numbers_text hints.items) rest; spelled = s.spelled.0 };
+      middle = numbers_text hints ++ 10 ∷ rest;
+      lits = record { front = tail_is 108 108 _ _ s.front ∙ regroup_hints (lits_text c) (numbers_text hints) rest; spelled = s.spelled.0 };
       numbers = record { front = refl; within = s.spelled.1 };
     }
 
-pub hinted_read : (version : ℕ) (text : List ℕ) (c : List Lit) (hints : Vec ℕ Global) (middle rest : List ℕ) → version ≡ 2 → SpellsShown text c middle → SpellsNumbers middle hints.items rest
+pub hinted_read : (version : ℕ) (text : List ℕ) (c : List Lit) (hints : List ℕ) (middle rest : List ℕ) → version ≡ 2 → SpellsShown text c middle → SpellsNumbers middle hints rest
     → SpellsLine version (108 ∷ text) (line.Hinted c hints) rest
 hinted_read version text c hints middle rest v s n =
     of_any version (108 ∷ text) (line.Hinted c hints) rest v
     (record {
-      front = ap (λ t. 108 ∷ t) (s.front ∙ ap (λ t. lits_text c ++ (32 ∷ 59 ∷ t)) n.front ∙ sym (regroup_hints (lits_text c) (numbers_text hints.items) rest));
+      front = ap (λ t. 108 ∷ t) (s.front ∙ ap (λ t. lits_text c ++ (32 ∷ 59 ∷ t)) n.front ∙ sym (regroup_hints (lits_text c) (numbers_text hints) rest));
       spelled = (s.spelled, n.within);
     })
 
@@ -377,17 +377,17 @@ no_hints version text c middle v a h l rest s =
     let w = is_hinted version l v s.of_version (letter_is 108 text l rest s.parts) in
     let parts = hinted_parts text w.0 w.1 rest (moved (108 ∷ text) l (line.Hinted w.0 w.1) rest w.2 s.parts) in
     let one = one_lits _ sign_ends text c w.0 middle parts.middle a parts.lits in
-    h w.1.items rest (subst (λ t. SpellsNumbers t w.1.items rest) (sym one.rest) parts.numbers)
+    h w.1 rest (subst (λ t. SpellsNumbers t w.1 rest) (sym one.rest) parts.numbers)
 
-pub delete_parts : (text : List ℕ) (positions : Vec ℕ Global) (rest : List ℕ) → SpellsParts (100 ∷ text) (line.Delete positions) rest → SpellsNumbers text positions.items rest
+pub delete_parts : (text : List ℕ) (positions : List ℕ) (rest : List ℕ) → SpellsParts (100 ∷ text) (line.Delete positions) rest → SpellsNumbers text positions rest
 delete_parts text positions rest s =
-    record { front = tail_is 100 100 _ _ s.front ∙ append_assoc (numbers_text positions.items) (10 ∷ []) rest; within = s.spelled }
+    record { front = tail_is 100 100 _ _ s.front ∙ append_assoc (numbers_text positions) (10 ∷ []) rest; within = s.spelled }
 
-pub delete_read : (version : ℕ) (text : List ℕ) (positions : Vec ℕ Global) (rest : List ℕ) → version ≡ 2 → SpellsNumbers text positions.items rest
+pub delete_read : (version : ℕ) (text : List ℕ) (positions : List ℕ) (rest : List ℕ) → version ≡ 2 → SpellsNumbers text positions rest
     → SpellsLine version (100 ∷ text) (line.Delete positions) rest
 delete_read version text positions rest v n =
     of_any version (100 ∷ text) (line.Delete positions) rest v
-    (record { front = ap (λ t. 100 ∷ t) (n.front ∙ sym (append_assoc (numbers_text positions.items) (10 ∷ []) rest)); spelled = n.within })
+    (record { front = ap (λ t. 100 ∷ t) (n.front ∙ sym (append_assoc (numbers_text positions) (10 ∷ []) rest)); spelled = n.within })
 
 pub no_delete : (version : ℕ) (text : List ℕ) → version ≢ 2 → SpellsNothing (SpellsLine version (100 ∷ text))
 no_delete version text v l rest s =
@@ -397,7 +397,7 @@ no_delete version text v l rest s =
 pub no_positions : (version : ℕ) (text : List ℕ) → SpellsNothing (SpellsNumbers text) → SpellsNothing (SpellsLine version (100 ∷ text))
 no_positions version text h l rest s =
     let w = is_delete l (letter_is 100 text l rest s.parts) in
-    h w.0.items rest (delete_parts text w.0 rest (moved (100 ∷ text) l (line.Delete w.0) rest w.1 s.parts))
+    h w.0 rest (delete_parts text w.0 rest (moved (100 ∷ text) l (line.Delete w.0) rest w.1 s.parts))
 
 -- the number of a ground clause after its letter
 pub record HasGround (text : List ℕ) (k : ℕ) (rest : List ℕ) : Type 0 where

@@ -1,18 +1,18 @@
 -- Texts of logs, line by line.
-use Rattle.std.proofs.Common.{◌≡◌, ◌≢◌, ◌⊎◌, inl, inr, ℕ, suc, ◌+◌, ◌≤◌, List, [], ◌∷◌, ◌++◌, length, map, codes, Vec, Global, All, refl, sym, ◌∙◌, ap, subst, arith, append_assoc}
+use Rattle.std.proofs.Common.{◌≡◌, ◌≢◌, ◌⊎◌, inl, inr, ℕ, suc, ◌+◌, ◌≤◌, List, [], ◌∷◌, ◌++◌, length, map, codes, All, refl, sym, ◌∙◌, ap, subst, arith, append_assoc}
 use Rattle.std.specs.List.{flat_map}
 use Rattle.std.specs.Fmt.{decimal}
-use Rattle.std.proofs.lemmas.List.{append-nil, append_cancel_left, map-append, length-map}
+use Rattle.std.proofs.lemmas.List.{append-nil, append_cancel_left}
 use Rattle.std.proofs.lemmas.List.Elements.{All-head, All-tail, All-cons, All-append, All-map}
 use Rattle.std.proofs.lemmas.Grind.{flat_map-append}
 use Rattle.gh_base.specs.declared.atom.Lit.{Lit}
 use Rattle.gh_inst.specs.declared.naming.InstanceName.{InstanceName}
 use Rattle.gh_inst.specs.Instances.{name_of, tuple_of}
-use Rattle.gh_log.specs.declared.lines.LogLine.{LogLine}
-use Rattle.gh_log.specs.declared.lines.LogLine.TheVariants as line
+use Rattle.gh_log.specs.Lines.{LogLine}
+use Rattle.gh_log.specs.Lines as line
 use Rattle.gh_log.specs.Texts.{line_text, header_text, sections_text, log_text}
 use Rattle.gh_log.specs.Spelled.{IsSpelledLine, IsSpelled, IsLogText}
-use Rattle.gh_log.specs.Laws.{PlainLine, instance_line, ground_line, lemma_line, learnt_line, hinted_line, delete_line, plain_line, plain_lines, HaveOneText}
+use Rattle.gh_log.specs.Laws.{HaveOneText}
 use Rattle.gh_log.specs.Reading.{SpellsNothing, SpellsParts, SpellsLine, SpellsNumbers, SpellsHeader, SpellsTerms, first_line}
 use Rattle.gh_log.proofs.NumberLemmas.{AreOne, one_bytes, one_number, all_after}
 use Rattle.gh_log.proofs.AtomLemmas.{feed_ends, sign_ends, one_lits}
@@ -46,50 +46,50 @@ put f x y r q o = record { value = ap f o.value; rest = o.rest }
 at_letter : (b d : ℕ) (text : List ℕ) (l m : LogLine) (q : List ℕ) → d ≡ b → l ≡ m → SpellsParts (b ∷ text) l q → SpellsParts (d ∷ text) m q
 at_letter b d text l m q e f s = subst (λ x. SpellsParts (x ∷ text) m q) (sym e) (subst (λ x. SpellsParts (b ∷ text) x q) f s)
 
-same_hints : (text : List ℕ) (c d : List Lit) (hints others : Vec ℕ Global) (r q : List ℕ) → SpellsParts (108 ∷ text) (line.Hinted c hints) r → SpellsParts (108 ∷ text) (line.Hinted d others) q
-    → AreOne (hinted_line c hints.items) (hinted_line d others.items) r q
+same_hints : (text : List ℕ) (c d : List Lit) (hints others : List ℕ) (r q : List ℕ) → SpellsParts (108 ∷ text) (line.Hinted c hints) r → SpellsParts (108 ∷ text) (line.Hinted d others) q
+    → AreOne (line.Hinted c hints) (line.Hinted d others) r q
 same_hints text c d hints others r q a b =
     let x = hinted_parts text c hints r a in let y = hinted_parts text d others q b in
     let one = one_lits _ sign_ends text c d x.middle y.middle x.lits y.lits in
-    let same = one_numbers x.middle hints.items others.items r q x.numbers (subst (λ t. SpellsNumbers t others.items q) (sym one.rest) y.numbers) in
+    let same = one_numbers x.middle hints others r q x.numbers (subst (λ t. SpellsNumbers t others q) (sym one.rest) y.numbers) in
     let clauses = one.value in
     let numbers = same.value in
-    record { value = λ i. hinted_line (clauses i) (numbers i); rest = same.rest }
+    record { value = λ i. line.Hinted (clauses i) (numbers i); rest = same.rest }
 
-same_positions : (text : List ℕ) (ps qs : Vec ℕ Global) (r q : List ℕ) → SpellsParts (100 ∷ text) (line.Delete ps) r → SpellsParts (100 ∷ text) (line.Delete qs) q
-    → AreOne (delete_line ps.items) (delete_line qs.items) r q
-same_positions text ps qs r q a b = put delete_line ps.items qs.items r q (one_numbers text ps.items qs.items r q (delete_parts text ps r a) (delete_parts text qs q b))
+same_positions : (text : List ℕ) (ps qs : List ℕ) (r q : List ℕ) → SpellsParts (100 ∷ text) (line.Delete ps) r → SpellsParts (100 ∷ text) (line.Delete qs) q
+    → AreOne (line.Delete ps) (line.Delete qs) r q
+same_positions text ps qs r q a b = put line.Delete ps qs r q (one_numbers text ps qs r q (delete_parts text ps r a) (delete_parts text qs q b))
 
 one_at : (version b : ℕ) (text : List ℕ) (l m : LogLine) (r q : List ℕ) → SpellsLine version (b ∷ text) l r → SpellsLine version (b ∷ text) m q → letter_of l ≡ b → letter_of m ≡ b
-    → AreOne (plain_line l) (plain_line m) r q
+    → AreOne l m r q
 one_at version b text (line.Axiom n) m r q a c e f =
     let w = is_axiom m (f ∙ sym e) in
-    subst (λ x. AreOne (instance_line n) (plain_line x) r q) (sym w.1)
-    (put instance_line n w.0 r q (same_name text n w.0 r q (at_letter b 97 text (line.Axiom n) (line.Axiom n) r e refl a.parts) (at_letter b 97 text m (line.Axiom w.0) q e w.1 c.parts)))
+    subst (λ x. AreOne (line.Axiom n) x r q) (sym w.1)
+    (put line.Axiom n w.0 r q (same_name text n w.0 r q (at_letter b 97 text (line.Axiom n) (line.Axiom n) r e refl a.parts) (at_letter b 97 text m (line.Axiom w.0) q e w.1 c.parts)))
 one_at version b text (line.Clause k) m r q a c e f =
     let w = is_ground m (f ∙ sym e) in
-    subst (λ x. AreOne (ground_line k) (plain_line x) r q) (sym w.1)
-    (put ground_line k w.0 r q (same_ground text k w.0 r q (at_letter b 103 text (line.Clause k) (line.Clause k) r e refl a.parts) (at_letter b 103 text m (line.Clause w.0) q e w.1 c.parts)))
+    subst (λ x. AreOne (line.Clause k) x r q) (sym w.1)
+    (put line.Clause k w.0 r q (same_ground text k w.0 r q (at_letter b 103 text (line.Clause k) (line.Clause k) r e refl a.parts) (at_letter b 103 text m (line.Clause w.0) q e w.1 c.parts)))
 one_at version b text (line.Lemma d) m r q a c e f =
     let w = is_lemma m (f ∙ sym e) in
-    subst (λ x. AreOne (lemma_line d) (plain_line x) r q) (sym w.1)
-    (put lemma_line d w.0 r q (one_lits _ feed_ends text d w.0 r q (lemma_parts text d r (at_letter b 101 text (line.Lemma d) (line.Lemma d) r e refl a.parts))
+    subst (λ x. AreOne (line.Lemma d) x r q) (sym w.1)
+    (put line.Lemma d w.0 r q (one_lits _ feed_ends text d w.0 r q (lemma_parts text d r (at_letter b 101 text (line.Lemma d) (line.Lemma d) r e refl a.parts))
     (lemma_parts text w.0 q (at_letter b 101 text m (line.Lemma w.0) q e w.1 c.parts))))
 one_at version b text (line.Learnt d) m r q a c e f =
     let w = is_learnt version m a.of_version c.of_version (f ∙ sym e) in
-    subst (λ x. AreOne (learnt_line d) (plain_line x) r q) (sym w.1)
-    (put learnt_line d w.0 r q (one_lits _ feed_ends text d w.0 r q (learnt_parts text d r (at_letter b 108 text (line.Learnt d) (line.Learnt d) r e refl a.parts))
+    subst (λ x. AreOne (line.Learnt d) x r q) (sym w.1)
+    (put line.Learnt d w.0 r q (one_lits _ feed_ends text d w.0 r q (learnt_parts text d r (at_letter b 108 text (line.Learnt d) (line.Learnt d) r e refl a.parts))
     (learnt_parts text w.0 q (at_letter b 108 text m (line.Learnt w.0) q e w.1 c.parts))))
 one_at version b text (line.Hinted d hints) m r q a c e f =
     let w = is_hinted version m a.of_version c.of_version (f ∙ sym e) in
-    subst (λ x. AreOne (hinted_line d hints.items) (plain_line x) r q) (sym w.2)
+    subst (λ x. AreOne (line.Hinted d hints) x r q) (sym w.2)
     (same_hints text d w.0 hints w.1 r q (at_letter b 108 text (line.Hinted d hints) (line.Hinted d hints) r e refl a.parts) (at_letter b 108 text m (line.Hinted w.0 w.1) q e w.2 c.parts))
 one_at version b text (line.Delete ps) m r q a c e f =
     let w = is_delete m (f ∙ sym e) in
-    subst (λ x. AreOne (delete_line ps.items) (plain_line x) r q) (sym w.1)
+    subst (λ x. AreOne (line.Delete ps) x r q) (sym w.1)
     (same_positions text ps w.0 r q (at_letter b 100 text (line.Delete ps) (line.Delete ps) r e refl a.parts) (at_letter b 100 text m (line.Delete w.0) q e w.1 c.parts))
 
-pub one_line : (version : ℕ) (text : List ℕ) (l m : LogLine) (r q : List ℕ) → SpellsLine version text l r → SpellsLine version text m q → AreOne (plain_line l) (plain_line m) r q
+pub one_line : (version : ℕ) (text : List ℕ) (l m : LogLine) (r q : List ℕ) → SpellsLine version text l r → SpellsLine version text m q → AreOne l m r q
 one_line version text l m r q a b =
     let t = letter_front l text r a.parts in
     let c = subst (λ x. SpellsLine version x l r) t.1 a in
@@ -116,22 +116,6 @@ abbrev pub items : {X : Type 0} → ℕ → List (List X) → List (Item X)
 items k [] = []
 items k (s ∷ ss) = head k ∷ (map body s ++ items (suc k) ss)
 
--- their plain forms
-abbrev pub plain_item : Item LogLine → Item PlainLine
-plain_item (head k) = head k
-plain_item (body l) = body (plain_line l)
-
-plain_bodies : (s : List LogLine) → map plain_item (map body s) ≡ map body (map plain_line s)
-plain_bodies [] = refl
-plain_bodies (l ∷ s) = ap (λ t. body (plain_line l) ∷ t) (plain_bodies s)
-
-pub plain_items : (k : ℕ) (ss : List (List LogLine)) → map plain_item (items k ss) ≡ items k (plain_lines ss)
-plain_items k [] = refl
-plain_items k (s ∷ ss) =
-    let here = plain_bodies s in
-    let there = plain_items (suc k) ss in
-    ap (λ t. head k ∷ t) (map-append plain_item (map body s) (items (suc k) ss) ∙ (λ i. here i ++ there i))
-
 one_header : (k j : ℕ) (r q : List ℕ) → k ≤ 4294967295 → j ≤ 4294967295 → header_text k ++ r ≡ header_text j ++ q → AreOne k j r q
 one_header k j r q h i e =
     let t : decimal k ++ 10 ∷ r ≡ decimal j ++ 10 ∷ q = append_cancel_left (codes "condition ") _ _ (sym (header_parts (header_text k ++ r) k r refl) ∙ e ∙ header_parts (header_text j ++ q) j q refl) in
@@ -156,13 +140,13 @@ header_or_line version k l r q h e =
     let t = letter_front l (line_text l ++ q) q (begun version l (line_text l ++ q) q refl h).parts in
     not_c l (sym (head_is 99 (letter_of l) _ t.0 (e ∙ t.1)))
 
-put_body : (l m : LogLine) (r q : List ℕ) → AreOne (plain_line l) (plain_line m) r q → AreOne (plain_item (body l)) (plain_item (body m)) r q
+put_body : (l m : LogLine) (r q : List ℕ) → AreOne l m r q → AreOne (body l) (body m) r q
 put_body l m r q o = record { value = ap body o.value; rest = o.rest }
 
-put_head : (k j : ℕ) (r q : List ℕ) → AreOne k j r q → AreOne (plain_item (head k)) (plain_item (head j)) r q
+put_head : (k j : ℕ) (r q : List ℕ) → AreOne k j r q → AreOne {X = Item LogLine} (head k) (head j) r q
 put_head k j r q o = record { value = ap head o.value; rest = o.rest }
 
-pub one_item : (version : ℕ) (x y : Item LogLine) (r q : List ℕ) → IsFine version x → IsFine version y → item_text x ++ r ≡ item_text y ++ q → AreOne (plain_item x) (plain_item y) r q
+pub one_item : (version : ℕ) (x y : Item LogLine) (r q : List ℕ) → IsFine version x → IsFine version y → item_text x ++ r ≡ item_text y ++ q → AreOne x y r q
 one_item version (head k) (head j) r q a b e = put_head k j r q (one_header k j r q a b e)
 one_item version (head k) (body l) r q a b e = absurd (header_or_line version k l r q b e)
 one_item version (body l) (head k) r q a b e = absurd (header_or_line version k l q r a (sym e))
@@ -178,7 +162,7 @@ pub record Begins (xs ys : Lines) (next : List ℕ) : Type 0 where
   pub first : Lines
   pub others : Lines
   pub parts : ys ≡ first ++ others
-  pub same : map plain_item first ≡ map plain_item xs
+  pub same : first ≡ xs
   pub text : next ≡ flat_map item_text others
 
 -- what begins with the text of some lines is these lines and others
@@ -190,7 +174,7 @@ begins version (x ∷ xs) (y ∷ ys) next a b e =
     let one = one_item version y x (flat_map item_text ys) (flat_map item_text xs ++ next) (All-head (IsFine version) y ys b) (All-head (IsFine version) x xs a)
     (e ∙ append_assoc (item_text x) (flat_map item_text xs) next) in
     let more = begins version xs ys next (All-tail (IsFine version) x xs a) (All-tail (IsFine version) y ys b) one.rest in
-    let here : plain_item y ≡ plain_item x = one.value in
+    let here : y ≡ x = one.value in
     let there = more.same in
     record { first = y ∷ more.first; others = more.others; parts = ap (λ t. y ∷ t) more.parts; same = λ i. here i ∷ there i; text = more.text }
 
@@ -279,11 +263,11 @@ no_items version [] a e = refl
 no_items version (z ∷ zs) a e = absurd (some_text version z (flat_map item_text zs) (All-head (IsFine version) z zs a) (sym e))
 
 -- lines after other lines
-rest_fine : (version : ℕ) (all first others : Lines) → all ≡ first ++ others → All (IsFine version) all → All (IsFine version) others
+pub rest_fine : (version : ℕ) (all first others : Lines) → all ≡ first ++ others → All (IsFine version) all → All (IsFine version) others
 rest_fine version all first others e a = all_after (IsFine version) first others (subst (All (IsFine version)) e a)
 
 -- one list of sections of one version
-one_of_version : (version : ℕ) (one other : List (List LogLine)) → IsSpelled version one → IsSpelled version other → sections_text 1 one ≡ sections_text 1 other → plain_lines one ≡ plain_lines other
+one_of_version : (version : ℕ) (one other : List (List LogLine)) → IsSpelled version one → IsSpelled version other → sections_text 1 one ≡ sections_text 1 other → one ≡ other
 one_of_version version one other a b t =
     let fine_one = items_fine version 1 one a.lines (omega (arith, a.few)) in
     let fine_other = items_fine version 1 other b.lines (omega (arith, b.few)) in
@@ -291,7 +275,7 @@ one_of_version version one other a b t =
     (sym (items_text 1 other) ∙ sym t ∙ items_text 1 one ∙ sym (append-nil (flat_map item_text (items 1 one)))) in
     let none = no_items version w.others (rest_fine version (items 1 other) w.first w.others w.parts fine_other) w.text in
     let whole : items 1 other ≡ w.first = w.parts ∙ ap (λ zs. w.first ++ zs) none ∙ append-nil w.first in
-    one_list 1 (plain_lines one) (plain_lines other) (sym (plain_items 1 one) ∙ sym w.same ∙ ap (map plain_item) (sym whole) ∙ plain_items 1 other)
+    one_list 1 one other (sym w.same ∙ sym whole)
 
 pub one_text : HaveOneText
 one_text m n one other a b e =
@@ -301,14 +285,6 @@ one_text m n one other a b e =
 some_line : (l : List ℕ) → l ++ 10 ∷ [] ≢ []
 some_line [] e = absurd (cc)
 some_line (b ∷ l) e = absurd (cc)
-
-was_head : (z : Item LogLine) (k : ℕ) → plain_item z ≡ head k → z ≡ head k
-was_head (head j) k e = let same : j ≡ k = cc in ap head same
-was_head (body l) k e = absurd (cc)
-
-was_body : (z : Item LogLine) (p : PlainLine) → plain_item z ≡ body p → (l : LogLine) × (z ≡ body l)
-was_body (head j) p e = absurd (cc)
-was_body (body l) p e = (l, refl)
 
 -- a line that can't stand after some sections is outside the grammar
 pub outside_after : (version : ℕ) (ss : List (List LogLine)) (rest : List ℕ) → IsSpelled version ss → SpellsNothing (SpellsHeader (length ss + 1) rest)
@@ -326,22 +302,17 @@ outside_after version ss rest a no_header no_line l after e t =
     by_items version ss ts rest next after w.first w.others no_header no_line there w.parts w.same w.text fine_ts (some_line l)
   where
     by_items : (version : ℕ) (ss ts : List (List LogLine)) (rest next after : List ℕ) (ws zs : Lines) → SpellsNothing (SpellsHeader (length ss + 1) rest)
-        → (ss ≢ [] → SpellsNothing (SpellsLine version rest)) → rest ≡ next ++ after → items 1 ts ≡ ws ++ zs → map plain_item ws ≡ map plain_item (items 1 ss) → next ≡ flat_map item_text zs
+        → (ss ≢ [] → SpellsNothing (SpellsLine version rest)) → rest ≡ next ++ after → items 1 ts ≡ ws ++ zs → ws ≡ items 1 ss → next ≡ flat_map item_text zs
         → All (IsFine version) (items 1 ts) → next ≢ [] → ⊥
     by_items version ss ts rest next after ws [] no_header no_line e f p g fine some = some g
     by_items version ss ts rest next after ws (z ∷ zs) no_header no_line e f p g fine some =
-        let count : length (plain_lines ss) ≡ length ss = length-map ss (λ s. map plain_line s) in
-        let n : 1 + length (plain_lines ss) ≡ length ss + 1 = omega (arith, count) in
+        let n : 1 + length ss ≡ length ss + 1 = omega arith in
         let front : rest ≡ item_text z ++ (flat_map item_text zs ++ after) = e ∙ ap (λ x. x ++ after) g ∙ append_assoc (item_text z) (flat_map item_text zs) after in
         let good : IsFine version z = All-head (IsFine version) z zs (rest_fine version (items 1 ts) ws (z ∷ zs) f fine) in
-        let plain : items 1 (plain_lines ts) ≡ items 1 (plain_lines ss) ++ plain_item z ∷ map plain_item zs =
-        sym (plain_items 1 ts) ∙ ap (map plain_item) f ∙ map-append plain_item ws (z ∷ zs) ∙ ap (λ t. t ++ plain_item z ∷ map plain_item zs) (p ∙ plain_items 1 ss) in
-        elim (next_allowed 1 (plain_lines ss) (plain_lines ts) (plain_item z) (map plain_item zs) plain) as (λ _. ⊥) [
-          | inl h ↦
-              let is = was_head z (length ss + 1) (h ∙ ap head n) in
-              no_header tt (flat_map item_text zs ++ after) (front ∙ ap (λ x. item_text x ++ (flat_map item_text zs ++ after)) is)
+        let whole : items 1 ts ≡ items 1 ss ++ z ∷ zs = f ∙ ap (λ t. t ++ z ∷ zs) p in
+        elim (next_allowed 1 ss ts z zs whole) as (λ _. ⊥) [
+          | inl h ↦ no_header tt (flat_map item_text zs ++ after) (front ∙ ap (λ x. item_text x ++ (flat_map item_text zs ++ after)) (h ∙ ap head n))
           | inr w ↦
-              let is = was_body z w.1 w.2 in
-              no_line (λ none. w.0 (ap plain_lines none)) is.0 (flat_map item_text zs ++ after)
-              (begun version is.0 rest (flat_map item_text zs ++ after) (front ∙ ap (λ x. item_text x ++ (flat_map item_text zs ++ after)) is.1) (subst (IsFine version) is.1 good))
+              no_line w.0 w.1 (flat_map item_text zs ++ after)
+              (begun version w.1 rest (flat_map item_text zs ++ after) (front ∙ ap (λ x. item_text x ++ (flat_map item_text zs ++ after)) w.2) (subst (IsFine version) w.2 good))
         ]

@@ -9,13 +9,14 @@ use Rattle.std.proofs.lemmas.List.Sums.{sum_by-append, sum_by-cons, count_by-le-
 use Rattle.std.proofs.lemmas.List.Elements.{All-head, All-tail, All-push, All-weaker}
 use Rattle.std.proofs.lemmas.Str.Parse.{tells_digits}
 use Rattle.std.proofs.lemmas.Fmt.{decimal_is_IsNumeral}
+use Rattle.std.proofs.lemmas.Grind.{flat_map-append}
 use Rattle.gh_base.specs.declared.atom.Term.{Term}
 use Rattle.gh_base.specs.declared.atom.Atom.{Atom}
 use Rattle.gh_base.specs.declared.atom.Atom.TheVariants.{Eq, Btwn, Hop, Alloc, Def}
 use Rattle.gh_base.specs.declared.atom.Lit.{Lit}
 use Rattle.gh_inst.specs.Instances.{tuple_of}
-use Rattle.gh_log.specs.declared.lines.LogLine.{LogLine}
-use Rattle.gh_log.specs.declared.lines.LogLine.TheVariants as line
+use Rattle.gh_log.specs.Lines.{LogLine}
+use Rattle.gh_log.specs.Lines as line
 use Rattle.gh_log.specs.declared.lines.Section.{Section}
 use Rattle.gh_log.specs.declared.error.LogError.{LogError}
 use Rattle.gh_log.specs.declared.error.LogError.TheVariants.{Line, OutOfMemory as NoMemory}
@@ -29,19 +30,19 @@ use Rattle.gh_log.proofs.AtomLemmas.{kind_of, numbers_of, numbers_small, atom_pa
 use Rattle.gh_log.proofs.LineLemmas.{IsSmallTerm, letter_is, letter_front, head_is, small_version}
 use Rattle.gh_log.proofs.LogLemmas.{outside_after, not_c}
 
-abbrev one_if : Bool → ℕ
+abbrev pub one_if : Bool → ℕ
 one_if b = cond b 1 0
 
 feeds_append : (a b : List ℕ) → lines_before (a ++ b) ≡ lines_before a + lines_before b
 feeds_append a b = sum_by-append (λ x. one_if (nat_eq x 10)) a b
 
-feeds_cons : (b : ℕ) (a : List ℕ) → lines_before (b ∷ a) ≡ one_if (nat_eq b 10) + lines_before a
+pub feeds_cons : (b : ℕ) (a : List ℕ) → lines_before (b ∷ a) ≡ one_if (nat_eq b 10) + lines_before a
 feeds_cons b a = sum_by-cons (λ x. one_if (nat_eq x 10)) b a
 
-abbrev IsQuiet : List ℕ → Type 0
+abbrev pub IsQuiet : List ℕ → Type 0
 IsQuiet a = lines_before a ≡ 0
 
-two_values : (b : Bool) → (b ≡ true) ⊎ (b ≡ false)
+pub two_values : (b : Bool) → (b ≡ true) ⊎ (b ≡ false)
 two_values true = inl refl
 two_values false = inr refl
 
@@ -51,7 +52,7 @@ not_feed b h = elim (two_values (nat_eq b 10)) as (λ _. nat_eq b 10 ≡ false) 
 quiet_cons : (b : ℕ) (a : List ℕ) → b ≢ 10 → IsQuiet a → IsQuiet (b ∷ a)
 quiet_cons b a h q = feeds_cons b a ∙ ap (λ x. one_if x + lines_before a) (not_feed b h) ∙ ap (λ n. 0 + n) q
 
-quiet_append : (a b : List ℕ) → IsQuiet a → IsQuiet b → IsQuiet (a ++ b)
+pub quiet_append : (a b : List ℕ) → IsQuiet a → IsQuiet b → IsQuiet (a ++ b)
 quiet_append a b p q = omega (arith, feeds_append a b, p, q)
 
 quiet_digits : (ds : List ℕ) → AllDigits 10 ds → IsQuiet ds
@@ -60,7 +61,7 @@ quiet_digits (d ∷ ds) h =
     let parts = tells_digits.parts d ds h in
     quiet_cons d ds (λ e. omega (arith, e, parts.0.0)) (quiet_digits ds parts.1)
 
-quiet_decimal : (n : ℕ) → n < 2 ^ 64 → IsQuiet (decimal n)
+pub quiet_decimal : (n : ℕ) → n < 2 ^ 64 → IsQuiet (decimal n)
 quiet_decimal n h = quiet_digits (decimal n) (decimal_is_IsNumeral n h).0.1
 
 quiet_marked : (mark : ℕ) (ns : List ℕ) → mark ≢ 10 → AreSmall ns → IsQuiet (marked mark ns)
@@ -103,23 +104,40 @@ one_feed a q = feeds_append a (10 ∷ []) ∙ ap (λ n. n + 1) q
 quiet_numbers : (ns : List ℕ) → AreNumbers ns → IsQuiet (numbers_text ns)
 quiet_numbers ns h = quiet_marked 32 ns (λ e. absurd (omega (arith, e))) (All-weaker (λ n. n ≤ 4294967295) (λ n. n < 2 ^ 64) (λ n l. omega (arith, l)) ns h)
 
+-- a line: no line feed but its last byte
+abbrev pub IsOneLine : List ℕ → Type 0
+IsOneLine text = (front : List ℕ) × (text ≡ front ++ 10 ∷ []) × IsQuiet front
+
+pub is_one_line : (l : LogLine) → HasSpelledParts l → IsOneLine (line_text l)
+is_one_line (line.Axiom name) h = (
+  codes "a " ++ decimal name.row ++ codes " " ++ decimal name.version ++ flat_map term_text (tuple_of name),
+  refl,
+  quiet_append (codes "a " ++ decimal name.row ++ codes " " ++ decimal name.version) (flat_map term_text (tuple_of name))
+      (quiet_append (codes "a " ++ decimal name.row ++ codes " ") (decimal name.version)
+      (quiet_append (codes "a " ++ decimal name.row) (codes " ") (quiet_append (codes "a ") (decimal name.row) refl (quiet_decimal name.row (omega (arith, h.row)))) refl)
+      (quiet_decimal name.version (omega (arith, h.version))))
+      (quiet_terms (tuple_of name) h.terms),
+)
+is_one_line (line.Clause k) h = (codes "g " ++ decimal k, refl, quiet_append (codes "g ") (decimal k) refl (quiet_decimal k (omega (arith, h))))
+is_one_line (line.Lemma c) h = (codes "e" ++ lits_text c, refl, quiet_append (codes "e") (lits_text c) refl (quiet_lits c h))
+is_one_line (line.Learnt c) h = (codes "l" ++ lits_text c, refl, quiet_append (codes "l") (lits_text c) refl (quiet_lits c h))
+is_one_line (line.Hinted c hints) h = (
+  codes "l" ++ lits_text c ++ codes " ;" ++ numbers_text hints,
+  refl,
+  quiet_append (codes "l" ++ lits_text c ++ codes " ;") (numbers_text hints)
+      (quiet_append (codes "l" ++ lits_text c) (codes " ;") (quiet_append (codes "l") (lits_text c) refl (quiet_lits c h.0)) refl) (quiet_numbers hints h.1),
+)
+is_one_line (line.Delete positions) h = (codes "d" ++ numbers_text positions, refl, quiet_append (codes "d") (numbers_text positions) refl (quiet_numbers positions h))
+
+pub is_one_header : (k : ℕ) → k ≤ 4294967295 → IsOneLine (header_text k)
+is_one_header k h = (codes "condition " ++ decimal k, refl, quiet_append (codes "condition ") (decimal k) refl (quiet_decimal k (omega (arith, h))))
+
+one_feed_in : (text : List ℕ) → IsOneLine text → lines_before text ≡ 1
+one_feed_in text (front, whole, quiet) = ap lines_before whole ∙ one_feed front quiet
+
 -- each line has one line feed
 feeds_line : (l : LogLine) → HasSpelledParts l → lines_before (line_text l) ≡ 1
-feeds_line (line.Axiom name) h =
-    one_feed (codes "a " ++ decimal name.row ++ codes " " ++ decimal name.version ++ flat_map term_text (tuple_of name))
-    (quiet_append (codes "a " ++ decimal name.row ++ codes " " ++ decimal name.version) (flat_map term_text (tuple_of name))
-    (quiet_append (codes "a " ++ decimal name.row ++ codes " ") (decimal name.version)
-    (quiet_append (codes "a " ++ decimal name.row) (codes " ") (quiet_append (codes "a ") (decimal name.row) refl (quiet_decimal name.row (omega (arith, h.row)))) refl)
-    (quiet_decimal name.version (omega (arith, h.version))))
-    (quiet_terms (tuple_of name) h.terms))
-feeds_line (line.Clause k) h = one_feed (codes "g " ++ decimal k) (quiet_append (codes "g ") (decimal k) refl (quiet_decimal k (omega (arith, h))))
-feeds_line (line.Lemma c) h = one_feed (codes "e" ++ lits_text c) (quiet_append (codes "e") (lits_text c) refl (quiet_lits c h))
-feeds_line (line.Learnt c) h = one_feed (codes "l" ++ lits_text c) (quiet_append (codes "l") (lits_text c) refl (quiet_lits c h))
-feeds_line (line.Hinted c hints) h =
-    one_feed (codes "l" ++ lits_text c ++ codes " ;" ++ numbers_text hints.items)
-    (quiet_append (codes "l" ++ lits_text c ++ codes " ;") (numbers_text hints.items)
-    (quiet_append (codes "l" ++ lits_text c) (codes " ;") (quiet_append (codes "l") (lits_text c) refl (quiet_lits c h.0)) refl) (quiet_numbers hints.items h.1))
-feeds_line (line.Delete positions) h = one_feed (codes "d" ++ numbers_text positions.items) (quiet_append (codes "d") (numbers_text positions.items) refl (quiet_numbers positions.items h))
+feeds_line l h = one_feed_in (line_text l) (is_one_line l h)
 
 feeds_lines : (version : ℕ) (ls : List LogLine) → All (IsSpelledLine version) ls → lines_before (flat_map line_text ls) ≡ length ls
 feeds_lines version [] h = refl
@@ -131,7 +149,7 @@ feeds_lines version (l ∷ ls) h =
     omega (arith, here, there, both)
 
 feeds_header : (k : ℕ) → k ≤ 4294967295 → lines_before (header_text k) ≡ 1
-feeds_header k h = one_feed (codes "condition " ++ decimal k) (quiet_append (codes "condition ") (decimal k) refl (quiet_decimal k (omega (arith, h))))
+feeds_header k h = one_feed_in (header_text k) (is_one_header k h)
 
 pub feeds_section : (version k : ℕ) (ls : List LogLine) → k ≤ 4294967295 → All (IsSpelledLine version) ls → lines_before (section_text k ls) ≡ 1 + length ls
 feeds_section version k ls h a =
@@ -181,24 +199,24 @@ shorter version text rest l s =
 -- the line of the header that comes after some sections
 abbrev pub line_after : ℕ → List Section → ℕ
 line_after k [] = k
-line_after k (s ∷ ss) = line_after (k + 1 + length s.lines.items) ss
+line_after k (s ∷ ss) = line_after (k + 1 + length s.lines) ss
 
 feeds_sections : (version j k : ℕ) (ss : List Section) → All (λ s. All (IsSpelledLine version) s) (lines_of ss) → j + length ss ≤ 4294967296 → lines_before (sections_text j (lines_of ss)) + k ≡ line_after k ss
 feeds_sections version j k [] a h = omega arith
 feeds_sections version j k (s ∷ ss) a h =
-    let ls = s.lines.items in
+    let ls = s.lines in
     let here = feeds_section version j ls (omega arith) (All-head (λ s. All (IsSpelledLine version) s) ls (lines_of ss) a) in
     let there = feeds_sections version (suc j) (k + 1 + length ls) ss (All-tail (λ s. All (IsSpelledLine version) s) ls (lines_of ss) a) (omega arith) in
     let both = feeds_append (section_text j ls) (sections_text (suc j) (lines_of ss)) in
     omega (arith, here, there, both)
 
-line_after_push : (k : ℕ) (ss : List Section) (s : Section) → line_after k (ss ++ s ∷ []) ≡ line_after k ss + 1 + length s.lines.items
+line_after_push : (k : ℕ) (ss : List Section) (s : Section) → line_after k (ss ++ s ∷ []) ≡ line_after k ss + 1 + length s.lines
 line_after_push k [] s = refl
-line_after_push k (t ∷ ss) s = line_after_push (k + 1 + length t.lines.items) ss s
+line_after_push k (t ∷ ss) s = line_after_push (k + 1 + length t.lines) ss s
 
 placed_push : (k : ℕ) (ss : List Section) (s : Section) → ArePlaced k ss → s.first ≡ line_after k ss + 1 → ArePlaced k (ss ++ s ∷ [])
 placed_push k [] s a e = (e, tt)
-placed_push k (t ∷ ss) s a e = (a.0, placed_push (k + 1 + length t.lines.items) ss s a.1 e)
+placed_push k (t ∷ ss) s a e = (a.0, placed_push (k + 1 + length t.lines) ss s a.1 e)
 
 sections_push : (k : ℕ) (ss : List (List LogLine)) (s : List LogLine) → sections_text k (ss ++ s ∷ []) ≡ sections_text k ss ++ section_text (k + length ss) s
 sections_push k [] s = let n : k ≡ k + 0 = omega arith in append-nil (section_text k s) ∙ ap (λ j. section_text j s) n
@@ -207,7 +225,7 @@ sections_push k (t ∷ ss) s =
     ap (λ x. section_text k t ++ x) (sections_push (suc k) ss s ∙ ap (λ j. sections_text (suc k) ss ++ section_text j s) n)
     ∙ sym (append_assoc (section_text k t) (sections_text (suc k) ss) (section_text (k + suc (length ss)) s))
 
-log_push : (version : ℕ) (ss : List (List LogLine)) (s : List LogLine) → log_text version (ss ++ s ∷ []) ≡ log_text version ss ++ section_text (length ss + 1) s
+pub log_push : (version : ℕ) (ss : List (List LogLine)) (s : List LogLine) → log_text version (ss ++ s ∷ []) ≡ log_text version ss ++ section_text (length ss + 1) s
 log_push version ss s =
     let n : 1 + length ss ≡ length ss + 1 = omega arith in
     ap (λ x. first_line version ++ x) (sections_push 1 ss s ∙ ap (λ j. sections_text 1 ss ++ section_text j s) n)
@@ -259,32 +277,32 @@ up_to_fits text version ss at rest u small =
     let bound = count_by-le-length (λ b. nat_eq b 10) (log_text version (lines_of ss)) in
     (omega (arith, place, bound, whole, parts, small), few, place)
 
-pub section_fits : (version number at : ℕ) (text : List ℕ) (s : Section) (rest : List ℕ) → SpellsSection version number at text s rest → at + length text < 4294967296 → s.first + length s.lines.items < 4294967296
+pub section_fits : (version number at : ℕ) (text : List ℕ) (s : Section) (rest : List ℕ) → SpellsSection version number at text s rest → at + length text < 4294967296 → s.first + length s.lines < 4294967296
 section_fits version number at text s rest h small =
     let whole = ap length h.front in
-    let parts = length-append (section_text number s.lines.items) rest in
-    let long = long_section number s.lines.items in
+    let parts = length-append (section_text number s.lines) rest in
+    let long = long_section number s.lines in
     let first = h.first in
     omega (arith, whole, parts, long, first, small)
 
-all_lines_push : (ss : List Section) (s : Section) → lines_of (ss ++ s ∷ []) ≡ lines_of ss ++ s.lines.items ∷ []
-all_lines_push ss s = map-append (λ t. t.lines.items) ss (s ∷ [])
+all_lines_push : (ss : List Section) (s : Section) → lines_of (ss ++ s ∷ []) ≡ lines_of ss ++ s.lines ∷ []
+all_lines_push ss s = map-append (λ t. t.lines) ss (s ∷ [])
 
 pub up_to_more : (text : List ℕ) (version : ℕ) (ss new : List Section) (at after : ℕ) (rest left : List ℕ) (s : Section) → IsUpTo text version ss at rest
-    → SpellsSection version (length ss + 1) at rest s left → new ≡ ss ++ s ∷ [] → after ≡ s.first + length s.lines.items → IsUpTo text version new after left
+    → SpellsSection version (length ss + 1) at rest s left → new ≡ ss ++ s ∷ [] → after ≡ s.first + length s.lines → IsUpTo text version new after left
 up_to_more text version ss new at after rest left s u h e f =
     let n : length ss ≡ length (lines_of ss) = sym (length_lines_of ss) in
-    let pushed : lines_of new ≡ lines_of ss ++ s.lines.items ∷ [] = ap lines_of e ∙ all_lines_push ss s in
+    let pushed : lines_of new ≡ lines_of ss ++ s.lines ∷ [] = ap lines_of e ∙ all_lines_push ss s in
     let first = h.first in
     let at_is = u.at_is in
     let line = line_after_push 2 ss s in
     let there = ap (line_after 2) e in
     record {
-      front = u.front ∙ ap (λ x. log_text version (lines_of ss) ++ x) (h.front ∙ ap (λ k. section_text (k + 1) s.lines.items ++ left) n)
-          ∙ sym (append_assoc (log_text version (lines_of ss)) (section_text (length (lines_of ss) + 1) s.lines.items) left)
-          ∙ ap (λ x. x ++ left) (sym (log_push version (lines_of ss) s.lines.items)) ∙ ap (λ x. log_text version x ++ left) (sym pushed);
+      front = u.front ∙ ap (λ x. log_text version (lines_of ss) ++ x) (h.front ∙ ap (λ k. section_text (k + 1) s.lines ++ left) n)
+          ∙ sym (append_assoc (log_text version (lines_of ss)) (section_text (length (lines_of ss) + 1) s.lines) left)
+          ∙ ap (λ x. x ++ left) (sym (log_push version (lines_of ss) s.lines)) ∙ ap (λ x. log_text version x ++ left) (sym pushed);
       version_is = u.version_is;
-      spelled = subst (All (λ s. All (IsSpelledLine version) s)) (sym pushed) (All-push (λ s. All (IsSpelledLine version) s) (lines_of ss) s.lines.items u.spelled h.spelled);
+      spelled = subst (All (λ s. All (IsSpelledLine version) s)) (sym pushed) (All-push (λ s. All (IsSpelledLine version) s) (lines_of ss) s.lines u.spelled h.spelled);
       at_is = omega (arith, f, first, at_is, line, there);
       placed = subst (ArePlaced 2) (sym e) (placed_push 2 ss s u.placed (first ∙ ap (λ k. k + 1) at_is));
       ends = λ _. h.ends;
@@ -373,6 +391,26 @@ refused_after text version ss at rest (Line k) u some small (inr h) =
       number_is = omega (arith, number, fits.2, feeds, more);
       before = inr (record { version = version; sections = all; text_is = refl; spelled = spelled }, λ e. h.more (subst EndsSection (sym e) tt));
       outside = λ l after e _ t. outside_after version all h.rest spelled (not_header_there h.rest (length all + 1) h.more) (λ _. h.refused) l after e t;
+    }
+
+-- a section whose next line was read
+pub record IsRead (version number : ℕ) (text : List ℕ) (lines : List LogLine) (rest : List ℕ) : Type 0 where
+  pub front : text ≡ section_text number lines ++ rest
+  pub spelled : All (IsSpelledLine version) lines
+
+section_push : (number : ℕ) (ls : List LogLine) (l : LogLine) → section_text number (ls ++ l ∷ []) ≡ section_text number ls ++ line_text l
+section_push number ls l =
+    ap (λ t. header_text number ++ t) (flat_map-append line_text ls (l ∷ []) ∙ ap (λ t. flat_map line_text ls ++ t) (append-nil (line_text l)))
+    ∙ sym (append_assoc (header_text number) (flat_map line_text ls) (line_text l))
+
+pub line_more : (version number : ℕ) (text middle rest : List ℕ) (ls new : List LogLine) (l m : LogLine) → text ≡ section_text number ls ++ middle → All (IsSpelledLine version) ls
+    → SpellsLine version middle l rest → m ≡ l → new ≡ ls ++ m ∷ [] → IsRead version number text new rest
+line_more version number text middle rest ls new l m e a s same grown =
+    let whole : new ≡ ls ++ l ∷ [] = grown ∙ ap (λ x. ls ++ x ∷ []) same in
+    let there = ap (λ t. section_text number ls ++ t) s.parts.front ∙ sym (append_assoc (section_text number ls) (line_text l) rest) in
+    record {
+      front = e ∙ there ∙ ap (λ t. t ++ rest) (sym (ap (section_text number) whole ∙ section_push number ls l));
+      spelled = subst (All (IsSpelledLine version)) (sym whole) (All-push (IsSpelledLine version) ls l a (s.of_version, s.parts.spelled));
     }
 
 pub lines_fit : (number at : ℕ) (text rest : List ℕ) (ls : List LogLine) → text ≡ section_text number ls ++ rest → at + length text < 4294967296 → at + 1 + length ls < 4294967296

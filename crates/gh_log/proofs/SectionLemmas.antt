@@ -13,8 +13,8 @@ use Rattle.gh_base.proofs.HintLemmas.{are_true}
 use Rattle.gh_inst.specs.Instances.{instances}
 use Rattle.gh_inst.specs.Violations.{IsInstanceTrue, AreInstancesTrue}
 use Rattle.gh_inst.proofs.ListedLemmas.{all_are_listed}
-use Rattle.gh_log.specs.declared.lines.LogLine.{LogLine}
-use Rattle.gh_log.specs.declared.lines.LogLine.TheVariants as line
+use Rattle.gh_log.specs.Lines.{LogLine}
+use Rattle.gh_log.specs.Lines as line
 use Rattle.gh_log.specs.Sections.{line_clause, clauses_of, IsOfKind, AreOfKind, ValidSectionsRefute}
 use Rattle.gh_log.proofs.ClauseLemmas.{clause_there, clauses_at_are}
 
@@ -31,7 +31,7 @@ line_true p m congruence clauses rows earlier before (line.Lemma d) h c e = own_
 line_true p m congruence clauses rows earlier before (line.Learnt d) h c e = own_clause m d c e (sound (clauses_of p earlier) d m before h.1)
 line_true p m congruence clauses rows earlier before (line.Hinted d hints) h c e =
     own_clause m d c e
-    (are_true (clauses_of p earlier) h.1.clauses d m (clauses_at_are p earlier hints.items h.1.clauses h.1.at) before h.1.shown)
+    (are_true (clauses_of p earlier) h.1.clauses d m (clauses_at_are p earlier hints h.1.clauses h.1.at) before h.1.shown)
 line_true p m congruence clauses rows earlier before (line.Delete positions) h c e = absurd (cc)
 
 pub get_middle : {X : Type 0} (before after : List X) (x : X) → slice_get (before ++ x ∷ after) (length before) ≡ Some x

@@ -1,3 +1,5 @@
+pub mod Lines
+pub mod Tables
 pub mod Sections
 pub mod Texts
 pub mod Spelled

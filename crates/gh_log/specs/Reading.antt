@@ -7,7 +7,11 @@ use Rattle.gh_base.specs.declared.atom.Term.{Term}
 use Rattle.gh_base.specs.declared.atom.Atom.{Atom}
 use Rattle.gh_base.specs.declared.atom.Lit.{Lit}
 use Rattle.gh_inst.specs.Schemas.{term}
-use Rattle.gh_log.specs.declared.lines.LogLine.{LogLine}
+use Rattle.gh_log.specs.Lines.{LogLine}
+use Rattle.gh_log.specs.Lines as line
+use Rattle.gh_log.specs.declared.reading.Kind.{Kind}
+use Rattle.gh_log.specs.declared.reading.Kind.TheVariants as kind
+use Rattle.gh_log.specs.declared.reading.Parts.{Parts}
 use Rattle.gh_log.specs.declared.lines.Section.{Section}
 use Rattle.gh_log.specs.declared.error.LogError.{LogError}
 use Rattle.gh_log.specs.declared.error.LogError.TheVariants.{Line, OutOfMemory as NoMemory}
@@ -105,6 +109,15 @@ pub record SpellsLine (version : ℕ) (text : List ℕ) (l : LogLine) (rest : Li
   pub of_version : IsOfVersion version l
   pub parts : SpellsParts text l rest
 
+-- the line of a kind whose parts were read
+abbrev pub line_with : Parts → Kind → LogLine
+line_with parts (kind.Axiom name) = line.Axiom name
+line_with parts (kind.Clause k) = line.Clause k
+line_with parts kind.Lemma = line.Lemma parts.clause.items
+line_with parts kind.Learnt = line.Learnt parts.clause.items
+line_with parts kind.Hinted = line.Hinted parts.clause.items parts.numbers.items
+line_with parts kind.Delete = line.Delete parts.numbers.items
+
 -- the first line of a log
 abbrev pub first_line : ℕ → List ℕ
 first_line version = codes "grass log " ++ decimal version ++ line_end
@@ -123,8 +136,8 @@ EndsSection (b ∷ rest) = b ≡ 99
 
 -- a section whose header is the file's line k
 pub record SpellsSection (version number k : ℕ) (text : List ℕ) (s : Section) (rest : List ℕ) : Type 0 where
-  pub front : text ≡ section_text number s.lines.items ++ rest
-  pub spelled : All (IsSpelledLine version) s.lines.items
+  pub front : text ≡ section_text number s.lines ++ rest
+  pub spelled : All (IsSpelledLine version) s.lines
   pub first : s.first ≡ k + 1
   pub ends : EndsSection rest
 

@@ -8,8 +8,8 @@ use Rattle.gh_base.specs.Propagation.{FollowsByUnits}
 use Rattle.gh_base.specs.Hints.{IsShownByHints}
 use Rattle.gh_inst.specs.Instances.{IsInstance, clause_of}
 use Rattle.gh_inst.specs.Violations.{AreInstancesTrue}
-use Rattle.gh_log.specs.declared.lines.LogLine.{LogLine}
-use Rattle.gh_log.specs.declared.lines.LogLine.TheVariants as line
+use Rattle.gh_log.specs.Lines.{LogLine}
+use Rattle.gh_log.specs.Lines as line
 
 -- that of an instance or of a ground clause, or the line's own; a deletion has none
 abbrev pub line_clause : Problem → LogLine → Option (List Lit)
@@ -25,7 +25,7 @@ abbrev pub clauses_of : Problem → List LogLine → List (List Lit)
 clauses_of p lines = filter_map (line_clause p) lines
 
 abbrev pub Deletes : LogLine → ℕ → Type 0
-Deletes (line.Delete positions) k = Contains positions.items k
+Deletes (line.Delete positions) k = Contains positions k
 Deletes _ k = ⊥
 
 -- the line at the position, counted from 1, has this clause
@@ -65,8 +65,8 @@ IsOfKind p earlier (line.Axiom name) = IsInstance p.sizes.terms p.sizes.versions
 IsOfKind p earlier (line.Clause k) = k < length p.clauses
 IsOfKind p earlier (line.Lemma c) = IsEqualityClause p.sizes c
 IsOfKind p earlier (line.Learnt c) = AreInRange p.sizes c × FollowsByUnits (clauses_of p earlier) c
-IsOfKind p earlier (line.Hinted c hints) = AreInRange p.sizes c × IsHinted p earlier c hints.items
-IsOfKind p earlier (line.Delete positions) = AllStand p earlier positions.items × AllPairs ◌≢◌ positions.items
+IsOfKind p earlier (line.Hinted c hints) = AreInRange p.sizes c × IsHinted p earlier c hints
+IsOfKind p earlier (line.Delete positions) = AllStand p earlier positions × AllPairs ◌≢◌ positions
 
 -- each line is of its kind, after the lines before it
 abbrev pub AreOfKind : Problem → List LogLine → Type 0
@@ -87,7 +87,7 @@ IsFaultOf p earlier (line.Clause k) number = number ≡ 2
 IsFaultOf p earlier (line.Lemma c) number = number ≡ 3
 IsFaultOf p earlier (line.Learnt c) number = number ≡ 4
 IsFaultOf p earlier (line.Hinted c hints) number =
-    (AllStand p earlier hints.items × (number ≡ 4)) ⊎ ((AllStand p earlier hints.items → ⊥) × (number ≡ 6))
+    (AllStand p earlier hints × (number ≡ 4)) ⊎ ((AllStand p earlier hints → ⊥) × (number ≡ 6))
 IsFaultOf p earlier (line.Delete positions) number = number ≡ 6
 
 -- a line that isn't of its kind, after lines that are

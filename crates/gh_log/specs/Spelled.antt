@@ -5,8 +5,8 @@ use Rattle.gh_base.specs.declared.atom.Atom.TheVariants.{Eq, Btwn, Hop, Alloc, D
 use Rattle.gh_base.specs.declared.atom.Lit.{Lit}
 use Rattle.gh_inst.specs.declared.naming.InstanceName.{InstanceName}
 use Rattle.gh_inst.specs.Instances.{tuple_of, IsPadded}
-use Rattle.gh_log.specs.declared.lines.LogLine.{LogLine}
-use Rattle.gh_log.specs.declared.lines.LogLine.TheVariants as line
+use Rattle.gh_log.specs.Lines.{LogLine}
+use Rattle.gh_log.specs.Lines as line
 use Rattle.gh_log.specs.declared.lines.Section.{Section}
 use Rattle.gh_log.specs.declared.error.LogError.{LogError}
 use Rattle.gh_log.specs.declared.error.LogError.TheVariants.{Line, OutOfMemory}
@@ -55,8 +55,8 @@ HasSpelledParts (line.Axiom name) = IsSpelledName name
 HasSpelledParts (line.Clause k) = k ≤ 4294967295
 HasSpelledParts (line.Lemma c) = AreSpelled c
 HasSpelledParts (line.Learnt c) = AreSpelled c
-HasSpelledParts (line.Hinted c hints) = AreSpelled c × AreNumbers hints.items
-HasSpelledParts (line.Delete positions) = AreNumbers positions.items
+HasSpelledParts (line.Hinted c hints) = AreSpelled c × AreNumbers hints
+HasSpelledParts (line.Delete positions) = AreNumbers positions
 
 -- a line of a log of this version
 abbrev pub IsSpelledLine : ℕ → LogLine → Type 0
@@ -68,12 +68,12 @@ pub record IsSpelled (version : ℕ) (sections : List (List LogLine)) : Type 0 w
   pub few : length sections ≤ 4294967295
 
 abbrev pub lines_of : List Section → List (List LogLine)
-lines_of sections = map (λ s. s.lines.items) sections
+lines_of sections = map (λ s. s.lines) sections
 
 -- the first line of each section comes after its header, where the first header is the file's line k
 abbrev pub ArePlaced : ℕ → List Section → Type 0
 ArePlaced k [] = ⊤
-ArePlaced k (s ∷ ss) = (s.first ≡ k + 1) × ArePlaced (k + 1 + length s.lines.items) ss
+ArePlaced k (s ∷ ss) = (s.first ≡ k + 1) × ArePlaced (k + 1 + length s.lines) ss
 
 -- the text of a log of either version that the grammar can spell
 pub record IsLogText (text : List ℕ) : Type 0 where

@@ -7,8 +7,8 @@ use Rattle.gh_base.specs.declared.atom.Atom.{Atom}
 use Rattle.gh_base.specs.declared.atom.Atom.TheVariants.{Eq, Btwn, Hop, Alloc, Def}
 use Rattle.gh_base.specs.declared.atom.Lit.{Lit}
 use Rattle.gh_inst.specs.Instances.{tuple_of}
-use Rattle.gh_log.specs.declared.lines.LogLine.{LogLine}
-use Rattle.gh_log.specs.declared.lines.LogLine.TheVariants as line
+use Rattle.gh_log.specs.Lines.{LogLine}
+use Rattle.gh_log.specs.Lines as line
 
 -- a text was added to another
 pub record Adds (before after added : List ℕ) : Type 0 where
@@ -47,8 +47,8 @@ line_text (line.Axiom name) = codes "a " ++ decimal name.row ++ codes " " ++ dec
 line_text (line.Clause k) = codes "g " ++ decimal k ++ line_end
 line_text (line.Lemma c) = codes "e" ++ lits_text c ++ line_end
 line_text (line.Learnt c) = codes "l" ++ lits_text c ++ line_end
-line_text (line.Hinted c hints) = codes "l" ++ lits_text c ++ codes " ;" ++ numbers_text hints.items ++ line_end
-line_text (line.Delete positions) = codes "d" ++ numbers_text positions.items ++ line_end
+line_text (line.Hinted c hints) = codes "l" ++ lits_text c ++ codes " ;" ++ numbers_text hints ++ line_end
+line_text (line.Delete positions) = codes "d" ++ numbers_text positions ++ line_end
 
 -- the first line of a section
 abbrev pub header_text : ℕ → List ℕ

@@ -6,8 +6,6 @@ ghost use Rattle.gh_log.specs.Reading.{IsLogPart, SpellsAtom, SpellsLit, SpellsC
 use crate::cursor::Reader;
 use crate::error::Refusal;
 use gh_base::atom::{Atom, Lit, Term};
-use gh_base::clause::Clause;
-use std::alloc::Global;
 
 impl<'t> Reader<'t> {
     // Reads an equality after its letter: its terms stand in order.
@@ -100,13 +98,13 @@ impl<'t> Reader<'t> {
     }
 
     /// Reads literals, each after a space, to the end of the line.
-    pub fn clause(&mut self, alloc: Global) -> Result<Clause, Refusal>
-        ensures { IsLogPart (SpellsClause self.old.rest.now) (λ c. c) result self.new.rest.now }
+    pub fn clause(&mut self, clause: &mut Vec<Lit>) -> Result<(), Refusal>
+        ensures { IsLogPart (SpellsClause self.old.rest.now) (λ _. clause.new.items) result self.new.rest.now }
     {
-        let mut clause = Clause::new(alloc);
+        clause.clear();
         'literals: loop {
             if self.take(b'\n') {
-                return Ok(clause);
+                return Ok(());
             }
             if !self.take(b' ') {
                 return Err(Refusal::Outside);
@@ -116,29 +114,29 @@ impl<'t> Reader<'t> {
     }
 
     /// Reads literals, each after a space, to the sign before hints.
-    pub fn shown(&mut self, alloc: Global) -> Result<Clause, Refusal>
-        ensures { IsLogPart (SpellsShown self.old.rest.now) (λ c. c) result self.new.rest.now }
+    pub fn shown(&mut self, clause: &mut Vec<Lit>) -> Result<(), Refusal>
+        ensures { IsLogPart (SpellsShown self.old.rest.now) (λ _. clause.new.items) result self.new.rest.now }
     {
-        let mut clause = Clause::new(alloc);
+        clause.clear();
         'literals: loop {
             if !self.take(b' ') {
                 return Err(Refusal::Outside);
             }
             if self.take(b';') {
-                return Ok(clause);
+                return Ok(());
             }
             clause.push(self.lit()?)?;
         }
     }
 
     /// Reads numbers, each after a space, to the end of the line.
-    pub fn numbers(&mut self, alloc: Global) -> Result<Vec<u32>, Refusal>
-        ensures { IsLogPart (SpellsNumbers self.old.rest.now) (λ v. v.items) result self.new.rest.now }
+    pub fn numbers(&mut self, numbers: &mut Vec<u32>) -> Result<(), Refusal>
+        ensures { IsLogPart (SpellsNumbers self.old.rest.now) (λ _. numbers.new.items) result self.new.rest.now }
     {
-        let mut numbers = Vec::new(alloc);
+        numbers.clear();
         'numbers: loop {
             if self.take(b'\n') {
-                return Ok(numbers);
+                return Ok(());
             }
             if !self.take(b' ') {
                 return Err(Refusal::Outside);

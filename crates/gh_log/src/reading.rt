@@ -2,15 +2,17 @@
 
 ghost use Rattle.std.specs.Prelude.{◌≡◌, ◌⊎◌, ◌+◌, ◌<◌, ◌≤◌, ◌^◌, ◌∷◌, take, length, IfOk, IfErr};
 ghost use Rattle.gh_log.specs.Texts.{log_text};
+ghost use Rattle.gh_log.specs.Tables.{line_of};
 ghost use Rattle.gh_log.specs.Spelled.{IsVersion, IsSpelled, ArePlaced, IsLogRefusal, lines_of};
-ghost use Rattle.gh_log.specs.declared.lines.LogLine.TheVariants.{Axiom, Clause as Ground};
-ghost use Rattle.gh_log.specs.Reading.{IsLogPart, SpellsTerms, ArePadded, SpellsParts, SpellsLine, SpellsVersion, SpellsHeader, EndsSection, SpellsSection, IsSectionRefusal};
+ghost use Rattle.gh_log.specs.Lines.{Axiom, Clause as Ground};
+ghost use Rattle.gh_log.specs.Reading.{IsLogPart, SpellsTerms, ArePadded, SpellsParts, SpellsLine, line_with};
+ghost use Rattle.gh_log.specs.Reading.{SpellsVersion, SpellsHeader, EndsSection, SpellsSection, IsSectionRefusal};
 ghost use Rattle.std.specs.Bool.{MatchBool};
 
 use crate::cursor::Reader;
 use crate::error::{LogError, Refusal};
-use crate::lines::{Log, LogLine, Section};
-use gh_base::atom::Term;
+use crate::lines::{Lines, Log, LogLine, Section};
+use gh_base::atom::{Lit, Term};
 use gh_inst::naming::InstanceName;
 use std::alloc::Global;
 
@@ -22,6 +24,52 @@ const WITH_HINTS: u8 = 2;
 
 // The last version there is.
 const LAST_VERSION: u32 = 2;
+
+/// What a line is, when its literals and its numbers were read.
+#[derive(Clone, Copy)]
+enum Kind {
+    Axiom(InstanceName),
+    Clause { number: u32 },
+    Lemma,
+    Learnt,
+    Hinted,
+    Delete,
+}
+
+/// The literals and the numbers of the line that is read.
+#[derive(Drop)]
+struct Parts {
+    clause: Vec<Lit>,
+    numbers: Vec<u32>,
+}
+
+impl Parts {
+    fn new(alloc: Global) -> Parts {
+        Parts {
+            clause: Vec::new(alloc),
+            numbers: Vec::new(alloc),
+        }
+    }
+
+    // The line of a kind.
+    fn line(&self, kind: Kind) -> LogLine<'_>
+        ensures { line_of result ≡ line_with self.now kind }
+    {
+        let clause = self.clause.as_slice();
+        let numbers = self.numbers.as_slice();
+        match kind {
+            Kind::Axiom(name) => LogLine::Axiom(name),
+            Kind::Clause { number } => LogLine::Clause { number },
+            Kind::Lemma => LogLine::Lemma(clause),
+            Kind::Learnt => LogLine::Learnt(clause),
+            Kind::Hinted => LogLine::Hinted {
+                clause,
+                hints: numbers,
+            },
+            Kind::Delete => LogLine::Delete { positions: numbers },
+        }
+    }
+}
 
 impl<'t> Reader<'t> {
     // Reads up to four terms, each after a space, to the end of the line, and counts them.
@@ -74,42 +122,53 @@ impl<'t> Reader<'t> {
     }
 
     // Reads a clause that earlier lines show, after the letter of its line, to the end of the line.
-    fn inferred(&mut self, alloc: Global, version: u8) -> Result<LogLine, Refusal>
+    fn inferred(&mut self, parts: &mut Parts, version: u8) -> Result<Kind, Refusal>
         requires { IsVersion version }
-        ensures { IsLogPart (SpellsLine version (108 ∷ self.old.rest.now)) (λ l. l) result self.new.rest.now }
+        ensures { IsLogPart (SpellsLine version (108 ∷ self.old.rest.now)) (line_with parts.new) result
+            self.new.rest.now }
     {
         if version == WITHOUT_HINTS {
-            return Ok(LogLine::Learnt(self.clause(alloc)?));
+            self.clause(&mut parts.clause)?;
+            return Ok(Kind::Learnt);
         }
-        let clause = self.shown(alloc)?;
-        let hints = self.numbers(alloc)?;
-        Ok(LogLine::Hinted { clause, hints })
+        self.shown(&mut parts.clause)?;
+        self.numbers(&mut parts.numbers)?;
+        Ok(Kind::Hinted)
     }
 
     // Reads a deletion after the letter of its line, to the end of the line.
-    fn deletion(&mut self, alloc: Global, version: u8) -> Result<LogLine, Refusal>
-        ensures { IsLogPart (SpellsLine version (100 ∷ self.old.rest.now)) (λ l. l) result self.new.rest.now }
+    fn deletion(&mut self, parts: &mut Parts, version: u8) -> Result<Kind, Refusal>
+        ensures { IsLogPart (SpellsLine version (100 ∷ self.old.rest.now)) (line_with parts.new) result
+            self.new.rest.now }
     {
         if version != WITH_HINTS {
             return Err(Refusal::Outside);
         }
-        let positions = self.numbers(alloc)?;
-        Ok(LogLine::Delete { positions })
+        self.numbers(&mut parts.numbers)?;
+        Ok(Kind::Delete)
+    }
+
+    // Reads a lemma after the letter of its line, to the end of the line.
+    fn lemma(&mut self, parts: &mut Parts) -> Result<Kind, Refusal>
+        ensures { IsLogPart (SpellsParts (101 ∷ self.old.rest.now)) (line_with parts.new) result self.new.rest.now }
+    {
+        self.clause(&mut parts.clause)?;
+        Ok(Kind::Lemma)
     }
 
     // Reads a line of a section of a log of this version.
-    fn line(&mut self, alloc: Global, version: u8) -> Result<LogLine, Refusal>
+    fn line(&mut self, parts: &mut Parts, version: u8) -> Result<Kind, Refusal>
         requires { IsVersion version }
-        ensures { IsLogPart (SpellsLine version self.old.rest.now) (λ l. l) result self.new.rest.now }
+        ensures { IsLogPart (SpellsLine version self.old.rest.now) (line_with parts.new) result self.new.rest.now }
     {
         match self.any()? {
-            b'a' => Ok(LogLine::Axiom(self.name()?)),
-            b'g' => Ok(LogLine::Clause {
+            b'a' => Ok(Kind::Axiom(self.name()?)),
+            b'g' => Ok(Kind::Clause {
                 number: self.ground()?,
             }),
-            b'e' => Ok(LogLine::Lemma(self.clause(alloc)?)),
-            b'l' => self.inferred(alloc, version),
-            b'd' => self.deletion(alloc, version),
+            b'e' => self.lemma(parts),
+            b'l' => self.inferred(parts, version),
+            b'd' => self.deletion(parts, version),
             _ => Err(Refusal::Outside),
         }
     }
@@ -169,10 +228,11 @@ impl<'t> Reader<'t> {
         if let Err(refusal) = self.header(number) {
             return Err(refusal.at(at));
         }
-        let mut lines = Vec::new(alloc);
+        let mut lines = Lines::new(alloc);
+        let mut parts = Parts::new(alloc);
         'lines: while !self.ends_section() {
-            match self.line(alloc, version) {
-                Ok(line) => lines.push(line)?,
+            match self.line(&mut parts, version) {
+                Ok(kind) => lines.push(parts.line(kind))?,
                 Err(refusal) => return Err(refusal.at(at + 1 + lines.len() as u32)),
             }
         }

@@ -4,6 +4,7 @@ ghost use Rattle.std.specs.Prelude.{◌≡◌, ◌∷◌, ◌++◌, [], take, co
 ghost use Rattle.std.specs.List.{flat_map};
 ghost use Rattle.std.specs.Fmt.{decimal};
 ghost use Rattle.gh_log.specs.Texts.{Adds, dotted, atom_text, sign_text, lits_text, term_text, numbers_text, line_text, section_text, log_text};
+ghost use Rattle.gh_log.specs.Tables.{line_of};
 ghost use Rattle.gh_log.specs.Spelled.{IsVersion, AreOfVersion, lines_of};
 ghost use Rattle.gh_inst.specs.Instances.{tuple_of};
 
@@ -170,22 +171,22 @@ fn put_name(out: &mut Text, name: &InstanceName) -> Result<(), AllocError>
     Ok(())
 }
 
-fn put_line(out: &mut Text, line: &LogLine) -> Result<(), AllocError>
-    ensures { OnOk result (Adds out.old out.new (line_text line.now)) }
+fn put_line(out: &mut Text, line: LogLine<'_>) -> Result<(), AllocError>
+    ensures { OnOk result (Adds out.old out.new (line_text (line_of line.entry))) }
 {
     match line {
-        LogLine::Axiom(name) => put_name(out, name)?,
+        LogLine::Axiom(name) => put_name(out, &name)?,
         LogLine::Clause { number } => {
             put(out, b"g ")?;
-            put_number(out, *number as usize)?;
+            put_number(out, number as usize)?;
             put(out, b"\n")?;
         }
-        LogLine::Lemma(clause) => put_clause(out, b"e", clause.lits(), b"\n")?,
-        LogLine::Learnt(clause) => put_clause(out, b"l", clause.lits(), b"\n")?,
-        LogLine::Hinted { clause, hints } => put_hinted(out, clause.lits(), hints.as_slice())?,
+        LogLine::Lemma(clause) => put_clause(out, b"e", clause, b"\n")?,
+        LogLine::Learnt(clause) => put_clause(out, b"l", clause, b"\n")?,
+        LogLine::Hinted { clause, hints } => put_hinted(out, clause, hints)?,
         LogLine::Delete { positions } => {
             put(out, b"d")?;
-            put_numbers(out, positions.as_slice())?;
+            put_numbers(out, positions)?;
             put(out, b"\n")?;
         }
     }
@@ -193,13 +194,13 @@ fn put_line(out: &mut Text, line: &LogLine) -> Result<(), AllocError>
 }
 
 fn put_section(out: &mut Text, number: usize, section: &Section) -> Result<(), AllocError>
-    ensures { OnOk result (Adds out.old out.new (section_text number section.now.lines.items)) }
+    ensures { OnOk result (Adds out.old out.new (section_text number section.now.lines)) }
 {
     put(out, b"condition ")?;
     put_number(out, number)?;
     put(out, b"\n")?;
-    for line in &section.lines {
-        put_line(out, line)?;
+    for place in 0..section.lines.len() {
+        put_line(out, section.lines.line(place))?;
     }
     Ok(())
 }

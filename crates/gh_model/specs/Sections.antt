@@ -6,7 +6,7 @@ use Rattle.gh_path.specs.Conditions.{Condition, IsCondition}
 use Rattle.gh_symb.specs.Symbolic.{symbolic_of}
 use Rattle.gh_symb.specs.Formulas.{problem}
 use Rattle.gh_trace.specs.Validity.{IsConditionValid}
-use Rattle.gh_log.specs.declared.lines.LogLine.{LogLine}
+use Rattle.gh_log.specs.Lines.{LogLine}
 use Rattle.gh_log.specs.Sections.{IsValidSection}
 
 -- where a section is valid for the clauses of a condition, the condition has no counterexample

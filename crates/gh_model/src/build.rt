@@ -5,7 +5,7 @@ ghost use Rattle.gh_base.specs.Structures.{interpretation_of};
 ghost use Rattle.gh_ast.specs.Plain.{procedure_of, program_of};
 ghost use Rattle.gh_path.specs.Conditions as plain;
 ghost use Rattle.gh_path.specs.Kept.{StandsFor};
-ghost use Rattle.gh_symb.specs.Told.{IsSymbolic};
+ghost use Rattle.gh_symb.specs.Encodings.{IsSymbolic};
 ghost use Rattle.gh_trace.specs.Kept.{IsOfProgram, drawn_of};
 ghost use Rattle.gh_ast.specs.Programs.{names, variable_names};
 ghost use Rattle.gh_ast.specs.Occurrences.{locals_of};

@@ -1,12 +1,10 @@
 -- What the lexer answers.
-use Rattle.std.specs.Prelude.{◌≡◌, ℕ, ◌+◌, ◌<◌, List, [], ◌∷◌, ◌++◌, length, take, drop, Option, Some, None, ⊤, Bool, IsTrue, ◌↔◌, codes}
+use Rattle.std.specs.Prelude.{◌≡◌, ℕ, ◌+◌, ◌<◌, List, [], ◌∷◌, ◌++◌, length, take, drop, Option, Some, None, Bool, IsTrue, ◌↔◌, codes}
 use Rattle.gh_base.specs.declared.place.Span.{Span}
-use Rattle.gh_ast.specs.Tokens.{Token, cleared, moved_over, first_place, IsPiece, IsTokens, HasTokens, IsStuck, IsStuckAt}
+use Rattle.gh_ast.specs.Tokens.{Token, cleared, moved_over, first_place, IsPiece, IsTokens, IsStuck}
 use Rattle.gh_parse.specs.Views.{symbol_at, symbol_text}
 use Rattle.gh_parse.specs.declared.token.Symbol.{Symbol}
 use Rattle.gh_parse.specs.declared.lexer.Piece.{Piece}
-use Rattle.gh_parse.specs.declared.lexer.LexError.{LexError}
-use Rattle.gh_parse.specs.declared.lexer.LexError.TheVariants.{Syntax, OutOfMemory}
 
 -- the text begins with w
 abbrev pub BeginsWith : List ℕ → List ℕ → Type 0
@@ -44,8 +42,3 @@ pub record IsLexed (text : List ℕ) (tokens : List Token) (end : Span) (whole :
   pub front : IsTokens first_place (cleared text) tokens end rest
   pub stuck : IsStuck rest
   pub all : IsTrue whole ↔ (rest ≡ [])
-
--- why there are no tokens
-abbrev pub IsLexRefusal : List ℕ → LexError → Type 0
-IsLexRefusal text (Syntax place) = ((ts : List Token) → HasTokens text ts → ⊥) × IsStuckAt text place
-IsLexRefusal text OutOfMemory = ⊤

@@ -16,7 +16,7 @@ use std::alloc::Global;
 impl<'t> Parser<'t> {
     /// Reads a test: conjunctions with `||` between them. Reads of cells stand in it where
     /// `reads` says so.
-    #[cycle(test)]
+    #[cycle(condition)]
     pub fn test(&mut self, alloc: Global, reads: bool) -> Result<Cond, ReadError>
         ensures { IsRuleRead IsPlain (SpellsTest reads) (tokens_of self.old.rest.now) test_of result (tokens_of self.new.rest.now) }
     {
@@ -35,7 +35,7 @@ impl<'t> Parser<'t> {
     }
 
     // Reads literals with `&&` between them.
-    #[cycle(test)]
+    #[cycle(condition)]
     fn conjunction(&mut self, alloc: Global, reads: bool) -> Result<Cond, ReadError>
         ensures { IsRuleRead IsPlain (SpellsConj reads) (tokens_of self.old.rest.now) test_of result (tokens_of self.new.rest.now) }
     {
@@ -54,7 +54,7 @@ impl<'t> Parser<'t> {
     }
 
     // Reads a comparison, or a test in brackets that may be denied.
-    #[cycle(test)]
+    #[cycle(condition)]
     fn literal(&mut self, alloc: Global, reads: bool) -> Result<Cond, ReadError>
         ensures { IsRuleRead IsPlain (SpellsLit reads) (tokens_of self.old.rest.now) test_of result (tokens_of self.new.rest.now) }
     {
@@ -69,7 +69,7 @@ impl<'t> Parser<'t> {
     }
 
     /// Reads a test in round brackets.
-    #[cycle(test)]
+    #[cycle(condition)]
     pub fn enclosed_test(&mut self, alloc: Global, reads: bool) -> Result<Cond, ReadError>
         ensures { IsRuleRead IsPlain (IsBetween ParenOpen ParenClose (SpellsTest reads)) (tokens_of self.old.rest.now) test_of result (tokens_of self.new.rest.now) }
     {

@@ -1,19 +1,18 @@
 //! The tokens of a text.
 
-ghost use Rattle.std.specs.Prelude.{◌≡◌, ◌≢◌, ◌↔◌, ℕ, ◌+◌, ◌<◌, ◌≤◌, ◌-◌, ◌^◌, ◌++◌, ◌∷◌, [], List, length, take, drop, IsTrue, MatchOption, MatchResult, IfOk, All, true, false};
+ghost use Rattle.std.specs.Prelude.{◌≡◌, ◌≢◌, ◌↔◌, ℕ, ◌+◌, ◌<◌, ◌≤◌, ◌-◌, ◌^◌, ◌++◌, ◌∷◌, [], List, length, take, drop, IsTrue, MatchOption, IfOk, All, true, false};
 ghost use Rattle.gh_base.specs.Names.{is_name_byte};
 ghost use Rattle.gh_base.specs.declared.place.Span.{Span};
-ghost use Rattle.gh_ast.specs.Tokens.{is_blank, begins_word, sign_text, keyword_text, cleared, moved_over, IsFree, EndsWord, IsLongest, HasTokens, IsStuck};
+ghost use Rattle.gh_ast.specs.Tokens.{is_blank, begins_word, sign_text, keyword_text, cleared, moved_over, IsFree, EndsWord, IsLongest, IsStuck};
 ghost use Rattle.gh_parse.specs.Views.{tokens_of};
-ghost use Rattle.gh_parse.specs.Lexing.{BeginsWith, IsCommentAhead, EndsLine, IsSymbolAhead, IsPieceAhead, IsLexed, IsLexRefusal};
+ghost use Rattle.gh_parse.specs.Lexing.{BeginsWith, IsCommentAhead, EndsLine, IsSymbolAhead, IsPieceAhead, IsLexed};
 
 use crate::scan::after_byte;
 use crate::token::{Symbol, Token, Word};
 use gh_ast::sign::{Keyword, Sign};
 use gh_base::name::is_word_byte;
 use gh_base::place::Span;
-use std::alloc::{AllocError, AllocFailed, Global};
-use thiserror::Error;
+use std::alloc::{AllocError, Global};
 
 /// A word has at most this many characters.
 const LONGEST_WORD: usize = 64;
@@ -58,26 +57,6 @@ const KEYWORDS: [Keyword; 19] = [
     Keyword::Acc,
     Keyword::Lseg,
 ];
-
-/// Why a text has no tokens.
-#[derive(Debug, Drop, Error)]
-pub enum LexError {
-    #[error("no token fits at {}:{}", span.line, span.col)]
-    Syntax { span: Span },
-    #[error("out of memory")]
-    OutOfMemory,
-}
-
-impl From<AllocError> for LexError {
-    ghost use Rattle.std.specs.Prelude.{◌≡◌};
-    ghost use Rattle.gh_parse.specs.declared.lexer.LexError.TheVariants.{OutOfMemory};
-
-    ghost from_gives = { λ _ e. e ≡ OutOfMemory };
-
-    fn from(_: AllocError) -> Self {
-        LexError::OutOfMemory
-    }
-}
 
 /// What a text begins with: a token, or what separates tokens.
 #[derive(Clone, Copy)]
@@ -244,17 +223,4 @@ pub fn lex<'t>(alloc: Global, text: &'t [u8]) -> Result<Lexed<'t>, AllocError>
         end: place,
         whole: rest.is_empty(),
     })
-}
-
-/// The tokens of a text.
-pub fn tokens<'t>(alloc: Global, text: &'t [u8]) -> Result<Vec<Token<'t>>, LexError>
-    requires { length text.now < 2 ^ 32 - 1 }
-    ensures { MatchResult result (λ ts. HasTokens text.now (tokens_of ts.items)) (λ e. IsLexRefusal text.now e) }
-{
-    let lexed = lex(alloc, text)?;
-    if lexed.whole {
-        Ok(lexed.tokens)
-    } else {
-        Err(LexError::Syntax { span: lexed.end })
-    }
 }

@@ -1,34 +1,33 @@
 -- The conditions that a walk has still to give.
-use Rattle.std.specs.Prelude.{◌≡◌, ℕ, zero, suc, ◌+◌, ◌<◌, ◌≤◌, List, [], ◌∷◌, ◌++◌, map, length, drop, Some, None, Ok, Err, slice_get}
-use Rattle.std.proofs.Common.{refl, sym, ◌∙◌, ap, subst, arith, append_assoc, append-nil}
+use Rattle.std.specs.Prelude.{◌≡◌, ℕ, zero, suc, ◌+◌, ◌<◌, ◌≤◌, List, [], ◌∷◌, ◌++◌, map, length, drop, Some, None, Ok, Err, Bool, true, false, slice_get}
+use Rattle.std.proofs.Common.{Vec, Global, refl, sym, ◌∙◌, ap, subst, arith}
 use Rattle.std.proofs.lemmas.List.{drop_more}
 use Rattle.std.proofs.lemmas.Option.{slice_get_within, get_or_from_slice_get}
 use Rattle.std.proofs.Math.ListN.{drop_of_length-le}
 use Rattle.std.specs.declared.alloc.AllocError.{AllocError}
+use Rattle.std.specs.declared.result.Result.{Result}
 use Rattle.gh_ast.specs.Plain.{Procedure, Program}
-use Rattle.gh_path.specs.Graphs.{PathStep, Graph}
+use Rattle.gh_path.specs.Graphs.{Graph}
 use Rattle.gh_path.specs.Paths.{Way, ways}
 use Rattle.gh_path.specs.Conditions.{Condition, condition}
-use Rattle.gh_path.specs.Kept.{IsStep, AreSteps}
-use Rattle.gh_path.specs.Shown.{IsShown, AreShown, Shows}
+use Rattle.gh_path.specs.Shown.{AreHeld, Shows}
 use Rattle.gh_path.specs.Routes.{AreToCome, IsReached}
 use Rattle.gh_path.specs.Roots.{IsRoot, AreRoots}
-use Rattle.gh_path.specs.Walks.{AreLeft, IsAt, IsNextKept, IsGiven}
+use Rattle.gh_path.specs.Walks.{AreLeft, IsAt, Gives, IsGiven, Lends, lent}
 use Rattle.gh_path.specs.declared.condition.Condition as kept
-use Rattle.gh_path.specs.declared.condition.PathStep as kept_step
 use Rattle.gh_path.specs.declared.node.Asked.{Asked}
 use Rattle.gh_path.specs.declared.node.Node.{Node}
-use Rattle.gh_path.specs.declared.node.Step.{Step}
+use Rattle.gh_path.specs.declared.node.Origin.{Origin}
 use Rattle.gh_path.specs.declared.route.Route.{Route}
 use Rattle.gh_path.specs.declared.starts.Root.{Root}
 use Rattle.gh_path.specs.declared.walk.Walk.{Walk}
-use Rattle.gh_path.proofs.WalkLemmas.{steps_more}
 
 -- at the first start
 pub begin_left : (P : Program) (s : Walk) (cs : List Condition) → AreRoots P s.starts.now.nodes s.starts.now.roots.items cs → 0 < length cs → s.next ≡ 1 →
     ((r : Root) (rs : List Root) → s.starts.now.roots.items ≡ r ∷ rs → s.present ≡ r) →
-    ((p : Procedure) (g : Graph) → Shows P p s.starts.now.nodes s.present.node g → AreToCome P p s.starts.now.nodes s.route.taken.items s.route.onward (ways g)) → AreLeft P s cs
-begin_left P s cs roots some one first come = by_roots s.starts.now.roots.items refl roots
+    ((p : Procedure) (g : Graph) → Shows P p s.starts.now.nodes s.present.node g → AreToCome P p s.starts.now.nodes s.route.taken.items s.route.onward (ways g)) →
+    AreHeld s.starts.now.nodes s.held.items s.condition.steps.items → AreLeft P s cs
+begin_left P s cs roots some one first come held = by_roots s.starts.now.roots.items refl roots
   where
     by_roots : (rs : List Root) → rs ≡ s.starts.now.roots.items → AreRoots P s.starts.now.nodes rs cs → AreLeft P s cs
     by_roots [] same none = let empty : length cs ≡ 0 = ap length none in absurd (omega (arith, empty, some))
@@ -43,6 +42,7 @@ begin_left P s cs roots some one first come = by_roots s.starts.now.roots.items 
           here = come p a.graph (subst (λ (q : Root). Shows P p s.starts.now.nodes q.node a.graph) (sym present) root.shows);
           after = subst (λ n. AreRoots P s.starts.now.nodes (drop n s.starts.now.roots.items) ds) (sym one) (subst (λ qs. AreRoots P s.starts.now.nodes (drop 1 qs) ds) same rest);
           are = split;
+          held = held;
         }
 
 -- the present start has no way any more
@@ -67,8 +67,8 @@ none_left P ns rs n cs past roots =
 -- the next start
 pub next_left : (P : Program) (s : Walk) (cs : List Condition) (r : Root) (t : Route) → AreRoots P s.starts.now.nodes (drop s.next s.starts.now.roots.items) cs → slice_get s.starts.now.roots.items s.next ≡ Some r →
     ((p : Procedure) (g : Graph) → Shows P p s.starts.now.nodes r.node g → AreToCome P p s.starts.now.nodes t.taken.items t.onward (ways g)) →
-    AreLeft P (record s { present = r; next = s.next + 1; route = t }) cs
-next_left P s cs r t roots at come =
+    AreHeld s.starts.now.nodes s.held.items s.condition.steps.items → AreLeft P (record s { present = r; next = s.next + 1; route = t }) cs
+next_left P s cs r t roots at come held =
     let rs = s.starts.now.roots.items in
     let split : drop s.next rs ≡ r ∷ drop (s.next + 1) rs =
     drop_more rs s.next r (slice_get_within rs s.next r at) ∙ ap (λ q. q ∷ drop (s.next + 1) rs) (get_or_from_slice_get rs s.next r r at) in
@@ -82,6 +82,7 @@ next_left P s cs r t roots at come =
       here = come here.0 here.1.graph here.3.shows;
       after = here.4;
       are = here.5;
+      held = held;
     }
 
 -- a condition is come to
@@ -107,6 +108,7 @@ found_at P s cs a t left reach =
         here = here.later;
         after = left.after;
         are = refl;
+        held = left.held;
       };
     }
 
@@ -121,12 +123,27 @@ left_too P s cs given end left = record {
   here = left.here;
   after = left.after;
   are = left.are;
+  held = left.held;
+}
+
+-- another condition is lent, whose steps come from these origins
+pub left_with : (P : Program) (s : Walk) (cs : List Condition) (held : Vec Origin Global) (r : kept.Condition) → AreLeft P s cs → AreHeld s.starts.now.nodes held.items r.steps.items →
+    AreLeft P (record s { held = held; condition = r }) cs
+left_with P s cs os r left held = record {
+  procedure = left.procedure;
+  start = left.start;
+  ways = left.ways;
+  later = left.later;
+  root = left.root;
+  here = left.here;
+  after = left.after;
+  are = left.are;
+  held = held;
 }
 
 -- one item more
-pub next_item : (s t : Walk) (r : kept.Condition) → s.given < s.end → t.given ≡ s.given → t.end ≡ s.end → ((P : Program) (cs : List Condition) → AreLeft P s cs → IsNextKept P t (Some r) cs) →
-    IsGiven s (Some (Ok r)) (record t { given = t.given + 1 })
-next_item s t r less given end gives = λ P cs before.
+pub next_item : (s t : Walk) → s.given < s.end → t.given ≡ s.given → t.end ≡ s.end → Gives s t true → IsGiven s (Some (Ok t.condition)) (record t { given = t.given + 1 })
+next_item s t less given end gives = λ P cs before.
     let next = gives P cs (before.left less) in
     let count : length cs ≡ length (next.0 ∷ next.1) = ap length next.2 in
     let more : length (next.0 ∷ next.1) ≡ length next.1 + 1 = omega arith in
@@ -141,8 +158,8 @@ no_item s t past over = λ P cs before.
     empty (c ∷ cs) none = absurd (omega (arith, none))
 
 -- an answer that can't come: nothing is to come, though something was counted
-pub none_item : (s t : Walk) → s.given < s.end → ((P : Program) (cs : List Condition) → AreLeft P s cs → cs ≡ []) → t.end ≤ t.given → IsGiven s None t
-none_item s t less gives over = λ P cs before.
+pub none_item : (s t u : Walk) → s.given < s.end → Gives s u false → t.end ≤ t.given → IsGiven s None t
+none_item s t u less gives over = λ P cs before.
     let none : cs ≡ [] = gives P cs (before.left less) in
     ([], (none, refl), record { count = omega (arith, over); left = λ less. absurd (omega (arith, less, over)) })
 
@@ -150,16 +167,13 @@ pub last_item : (s t : Walk) (e : AllocError) → s.given < s.end → t.end ≤ 
 last_item s t e less over = λ P cs before.
     ([], ((λ none. let empty : length cs ≡ 0 = ap length none in omega (arith, empty, before.count, less)), refl), record { count = omega (arith, over); left = λ less. absurd (omega (arith, less, over)) })
 
--- steps that are kept one by one
-abbrev pub HaveKept : Program → Procedure → List Step → List PathStep → List kept_step.PathStep → Type 0
-HaveKept P p ss xs rs = (ys : List PathStep) × (zs : List PathStep) × (xs ≡ ys ++ zs) × AreSteps P p rs ys × AreShown P p ss zs
+-- an item that is lent is given away
+pub given_away : (s t u : Walk) (r : kept.Condition) → IsGiven s (Some (Ok r)) t → ((P : Program) (cs : List Condition) → AreLeft P t cs → AreLeft P u cs) → u.given ≡ t.given → u.end ≡ t.end → IsGiven s (Some (Ok r)) u
+given_away s t u r given keeps same end = λ P cs before.
+    let item = given P cs before in
+    (item.0, item.1, record { count = omega (arith, item.2.count, same, end); left = λ less. keeps P item.0 (item.2.left (omega (arith, less, same, end))) })
 
-pub kept_more : (P : Program) (p : Procedure) (s : Step) (ss : List Step) (xs : List PathStep) (rs qs : List kept_step.PathStep) (r : kept_step.PathStep) → ((x : PathStep) → IsShown P p s x → IsStep P p r x) → qs ≡ rs ++ r ∷ [] →
-    HaveKept P p (s ∷ ss) xs rs → HaveKept P p ss xs qs
-kept_more P p s ss xs rs qs r kept pushed (ys, [], split, are, shown) = absurd shown
-kept_more P p s ss xs rs qs r kept pushed (ys, z ∷ zs, split, are, shown) =
-    (ys ++ z ∷ [], zs, split ∙ sym (append_assoc ys (z ∷ []) zs), subst (λ ks. AreSteps P p ks (ys ++ z ∷ [])) (sym pushed) (steps_more P p rs ys r z are (kept z shown.0)), shown.1)
-
-pub kept_all : (P : Program) (p : Procedure) (xs : List PathStep) (rs : List kept_step.PathStep) → HaveKept P p [] xs rs → AreSteps P p rs xs
-kept_all P p xs rs (ys, [], split, are, none) = subst (AreSteps P p rs) (sym (split ∙ append-nil ys)) are
-kept_all P p xs rs (ys, z ∷ zs, split, are, none) = absurd none
+-- no condition is lent any more
+pub none_lent : (s t : Walk) (r : Result Bool AllocError) (more : Bool) → r ≡ Ok more → more ≡ false → Lends s r t → IsGiven s None t
+none_lent s t r more is none came =
+    subst (λ (b : Bool). IsGiven s (lent (Ok b) t.condition) t) none (subst (λ (q : Result Bool AllocError). IsGiven s (lent q t.condition) t) is came)

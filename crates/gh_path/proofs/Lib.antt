@@ -14,5 +14,6 @@ pub mod ShownLemmas
 pub mod LowerLemmas
 pub mod RouteLemmas
 pub mod RootLemmas
+pub mod HeldLemmas
 pub mod LeftLemmas
 pub mod GivenLemmas

@@ -1,17 +1,19 @@
 -- Turns of a walk over the ways of a graph.
-use Rattle.std.specs.Prelude.{◌≡◌, ◌⊎◌, ℕ, zero, suc, ◌+◌, ◌*◌, ◌<◌, ◌≤◌, List, [], ◌∷◌, ◌++◌, map, Some, None, Bool, true, false, slice_get}
+use Rattle.std.specs.Prelude.{◌≡◌, ◌⊎◌, ℕ, zero, suc, ◌+◌, ◌*◌, ◌<◌, ◌≤◌, List, [], ◌∷◌, ◌++◌, map, Some, None, Bool, true, false, not, slice_get, slice_index_or}
 use Rattle.std.proofs.Common.{refl, sym, ◌∙◌, ap, subst, inl, inr, arith, append_assoc, append-nil}
 use Rattle.std.proofs.lemmas.List.{map-append}
+use Rattle.std.proofs.lemmas.Option.{get_or_from_slice_get}
 use denote.Ref.{Bor}
 use Rattle.gh_ast.specs.declared.Expr.{Expr}
 use Rattle.gh_ast.specs.Plain.{Procedure, Program}
 use Rattle.gh_path.specs.Graphs.{Check, PathStep, assume, Graph, dead_end, ends, moves, guarded, fork}
 use Rattle.gh_path.specs.Paths.{Way, ways, after_step}
-use Rattle.gh_path.specs.Shown.{IsShown, AreShown, IsAsked, Shows}
+use Rattle.gh_path.specs.Shown.{IsShown, AreShown, IsAsked, Shows, IsOpposite, turned_if, step_past, step_from, from}
 use Rattle.gh_path.specs.Routes.{way, ways_from, AreOthers, IsTaken, AreToCome, IsReached, weight, other_weight, weights}
 use Rattle.gh_path.specs.declared.node.Step.{Step}
 use Rattle.gh_path.specs.declared.node.Step.TheVariants as step
 use Rattle.gh_path.specs.declared.node.Asked.{Asked}
+use Rattle.gh_path.specs.declared.node.Origin.{Origin}
 use Rattle.gh_path.specs.declared.node.Node.{Node}
 use Rattle.gh_path.specs.declared.node.Node.TheVariants.{DeadEnd, Ends, Moves, Guarded, Fork}
 use Rattle.gh_path.specs.declared.route.Taken.{Taken}
@@ -44,7 +46,7 @@ ways_fork xs l e r g k =
 
 -- one step more is taken
 taken_push : (P : Program) (p : Procedure) (ns : List Node) (xs : List PathStep) (ts : List Taken) (t : Taken) (zs : List PathStep) (x : PathStep) (us vs : List Way) →
-    IsTaken P p ns xs ts zs us → IsShown P p t.step x → AreOthers P p ns zs x t.other vs → IsTaken P p ns xs (ts ++ t ∷ []) (zs ++ x ∷ []) (vs ++ us)
+    IsTaken P p ns xs ts zs us → IsShown P p (step_from ns t.origin) x → AreOthers P p ns zs x t.other vs → IsTaken P p ns xs (ts ++ t ∷ []) (zs ++ x ∷ []) (vs ++ us)
 taken_push P p ns xs [] t zs x us vs (same, none) shown others =
     (x, [], vs, shown, (ap (λ ys. ys ++ x ∷ []) same, refl), subst (λ ys. AreOthers P p ns ys x t.other vs) same others, ap (λ ws. vs ++ ws) none ∙ append-nil vs)
 taken_push P p ns xs (r ∷ ts) t zs x us vs (y, us', vs', is, rest, beside, split) shown others =
@@ -57,7 +59,7 @@ record Popped (P : Program) (p : Procedure) (ns : List Node) (xs : List PathStep
   behind : List Way
   others : List Way
   taken : IsTaken P p ns xs ts steps behind
-  shown : IsShown P p t.step step
+  shown : IsShown P p (step_from ns t.origin) step
   are_others : AreOthers P p ns steps step t.other others
   all : zs ≡ steps ++ step ∷ []
   are : ws ≡ others ++ behind
@@ -90,16 +92,16 @@ taken_pop P p ns xs (r ∷ ts) t zs ws (y, us, vs, is, rest, beside, split) =
     }
 
 taken_after : (P : Program) (p : Procedure) (ns : List Node) (xs : List PathStep) (ts : List Taken) (zs : List PathStep) (ws : List Way) →
-    IsTaken P p ns xs ts zs ws → (ys : List PathStep) × (zs ≡ xs ++ ys) × AreShown P p (map (λ t. t.step) ts) ys
+    IsTaken P p ns xs ts zs ws → (ys : List PathStep) × (zs ≡ xs ++ ys) × AreShown P p (map (λ t. step_from ns t.origin) ts) ys
 taken_after P p ns xs [] zs ws (same, none) = ([], same ∙ sym (append-nil xs), tt)
 taken_after P p ns xs (t ∷ ts) zs ws (x, us, vs, shown, rest, others, split) =
     let later = taken_after P p ns (xs ++ x ∷ []) ts zs us rest in
     (x ∷ later.0, later.1 ∙ append_assoc xs (x ∷ []) later.0, (shown, later.2))
 
-taken_shown : (P : Program) (p : Procedure) (ns : List Node) (ts : List Taken) (zs : List PathStep) (ws : List Way) → IsTaken P p ns [] ts zs ws → AreShown P p (map (λ t. t.step) ts) zs
+taken_shown : (P : Program) (p : Procedure) (ns : List Node) (ts : List Taken) (zs : List PathStep) (ws : List Way) → IsTaken P p ns [] ts zs ws → AreShown P p (map (λ t. step_from ns t.origin) ts) zs
 taken_shown P p ns ts zs ws taken =
     let all = taken_after P p ns [] ts zs ws taken in
-    subst (AreShown P p (map (λ t. t.step) ts)) (sym all.1) all.2
+    subst (AreShown P p (map (λ t. step_from ns t.origin) ts)) (sym all.1) all.2
 
 -- a node and the graph that it shows
 abbrev Meets : Program → Procedure → List Node → Node → Graph → Type 0
@@ -118,6 +120,50 @@ meets P p ns i n (guarded c x g) there (a, s, j, at, asked, shown, on) =
 meets P p ns i n (fork l e r g k) there (a, b, j, m, at, left, right, one, two) =
     subst (λ m. Meets P p ns m (fork l e r g k)) (same_some (Fork a e b j m) n (sym at ∙ there))
     (g, k, ap (λ x. fork x e r g k) (sym left) ∙ ap (λ x. fork a.now e x g k) (sym right), one, two)
+
+-- a node that is there
+node_there : (ns : List Node) (i : ℕ) (n : Node) → slice_get ns i ≡ Some n → slice_index_or ns i DeadEnd ≡ n
+node_there ns i n there = get_or_from_slice_get ns i n DeadEnd there
+
+-- on the other way of a comparison its opposite is assumed
+not_not : (e : Bool) → e ≡ not (not e)
+not_not true = refl
+not_not false = refl
+
+same_assumed : (l m : Expr) (e f : Bool) (r s : Expr) (d o : Bool) → assume l e r d ≡ assume m f s o → (l ≡ m) × (e ≡ f) × (r ≡ s) × (d ≡ o)
+same_assumed l m e f r s d o same = (cc, cc, cc, cc)
+
+turned_assume : (P : Program) (p : Procedure) (a b : Bor Expr) (g e : Bool) (l r : Expr) → IsShown P p (step.Assume a g b) (assume l e r true) → IsShown P p (step.Assume a (not g) b) (assume l e r false)
+turned_assume P p a b g e l r (inl same) =
+    let is = same_assumed l a.now e g r b.now true true same in
+    inr (ap (λ x. assume x e r false) is.0 ∙ ap (λ f. assume a.now f r false) (is.1 ∙ not_not g) ∙ ap (λ x. assume a.now (not (not g)) x false) is.2)
+turned_assume P p a b g e l r (inr same) = absurd (true_false (same_assumed l a.now e (not g) r b.now true false same).3)
+  where
+    true_false : true ≡ false → ⊥
+    true_false same = cc
+
+back_assume : (P : Program) (p : Procedure) (a b : Bor Expr) (g e : Bool) (l r : Expr) → IsShown P p (step.Assume a (not g) b) (assume l e r true) → IsShown P p (step.Assume a g b) (assume l e r false)
+back_assume P p a b g e l r shown = subst (λ f. IsShown P p (step.Assume a f b) (assume l e r false)) (sym (not_not g)) (turned_assume P p a b (not g) e l r shown)
+
+turned_shows : (s : Step) (b : Bool) → IsOpposite (turned_if b s) (turned_if (not b) s)
+turned_shows (step.Access x) true = λ P p l e r shown. absurd cc
+turned_shows (step.Access x) false = λ P p l e r shown. absurd cc
+turned_shows (step.Assume a g b) true = λ P p l e r shown. back_assume P p a b g e l r shown
+turned_shows (step.Assume a g b) false = λ P p l e r shown. turned_assume P p a b g e l r shown
+turned_shows (step.Set x e) true = λ P p l f r shown. absurd cc
+turned_shows (step.Set x e) false = λ P p l f r shown. absurd cc
+turned_shows (step.Write x e) true = λ P p l f r shown. absurd cc
+turned_shows (step.Write x e) false = λ P p l f r shown. absurd cc
+turned_shows (step.New x) true = λ P p l e r shown. absurd cc
+turned_shows (step.New x) false = λ P p l e r shown. absurd cc
+turned_shows (step.Free x) true = λ P p l e r shown. absurd cc
+turned_shows (step.Free x) false = λ P p l e r shown. absurd cc
+turned_shows (step.Call xs n es) true = λ P p l e r shown. let is = shown.2 in absurd cc
+turned_shows (step.Call xs n es) false = λ P p l e r shown. let is = shown.2 in absurd cc
+turned_shows (step.Loop n) true = λ P p l e r shown. let is = shown.2 in absurd cc
+turned_shows (step.Loop n) false = λ P p l e r shown. let is = shown.2 in absurd cc
+turned_shows (step.Return es) true = λ P p l e r shown. absurd cc
+turned_shows (step.Return es) false = λ P p l e r shown. absurd cc
 
 -- at each kind of node
 pub look_dead : (P : Program) (p : Procedure) (ns : List Node) (i : ℕ) (ts : List Taken) (ws : List Way) → slice_get ns i ≡ Some DeadEnd →
@@ -150,22 +196,22 @@ look_end P p ns i ts a ws there come =
     }
 
 pub look_move : (P : Program) (p : Procedure) (ns : List Node) (i : ℕ) (ts new : List Taken) (s : Step) (j : ℕ) (ws : List Way) → slice_get ns i ≡ Some (Moves s j) →
-    new ≡ ts ++ record { step = s; other = None } ∷ [] → AreToCome P p ns ts (place.Node i) ws → AreToCome P p ns new (place.Node j) ws
+    new ≡ ts ++ record { origin = from i; other = None } ∷ [] → AreToCome P p ns ts (place.Node i) ws → AreToCome P p ns new (place.Node j) ws
 look_move P p ns i ts new s j ws there pushed come =
     let here = come.are_ahead in
     let is = meets P p ns i (Moves s j) here.0 there here.1 in
-    let t : Taken = record { step = s; other = None } in
+    let t : Taken = record { origin = from i; other = None } in
     record {
       steps = come.steps ++ is.0 ∷ [];
       ahead = ways_from (come.steps ++ is.0 ∷ []) is.1;
       behind = come.behind;
-      taken = subst (λ rs. IsTaken P p ns [] rs (come.steps ++ is.0 ∷ []) come.behind) (sym pushed) (taken_push P p ns [] ts t come.steps is.0 come.behind [] come.taken is.3 refl);
+      taken = subst (λ rs. IsTaken P p ns [] rs (come.steps ++ is.0 ∷ []) come.behind) (sym pushed) (taken_push P p ns [] ts t come.steps is.0 come.behind [] come.taken (subst (λ n. IsShown P p (step_past n) is.0) (sym (node_there ns i (Moves s j) there)) is.3) refl);
       are_ahead = (is.1, is.4, refl);
       are = come.are ∙ ap (λ hs. hs ++ come.behind) (here.2 ∙ ap (ways_from come.steps) is.2 ∙ ways_move come.steps is.0 is.1);
     }
 
 pub look_guard : (P : Program) (p : Procedure) (ns : List Node) (i : ℕ) (ts : List Taken) (a : Asked) (s : Step) (j : ℕ) (ws : List Way) → slice_get ns i ≡ Some (Guarded a s j) →
-    AreToCome P p ns ts (place.Node i) ws → IsReached P p ns ts (Past s j) a ws
+    AreToCome P p ns ts (place.Node i) ws → IsReached P p ns ts (Past i j) a ws
 look_guard P p ns i ts a s j ws there come =
     let here = come.are_ahead in
     let is = meets P p ns i (Guarded a s j) here.0 there here.1 in
@@ -177,16 +223,16 @@ look_guard P p ns i ts a s j ws there come =
       shown = taken_shown P p ns ts come.steps come.behind come.taken;
       asked = is.4;
       are = come.are ∙ ap (λ hs. hs ++ come.behind) (here.2 ∙ ap (ways_from come.steps) is.3 ∙ ways_guard come.steps is.0 is.1 is.2);
-      later = record { steps = come.steps; ahead = more; behind = come.behind; taken = come.taken; are_ahead = (is.1, is.2, is.5, is.6, refl); are = refl };
+      later = record { steps = come.steps; ahead = more; behind = come.behind; taken = come.taken; are_ahead = (is.1, is.2, subst (λ n. IsShown P p (step_past n) is.1) (sym (node_there ns i (Guarded a s j) there)) is.5, is.6, refl); are = refl };
     }
 
 pub look_fork : (P : Program) (p : Procedure) (ns : List Node) (i : ℕ) (ts new : List Taken) (a : Bor Expr) (e : Bool) (b : Bor Expr) (j m : ℕ) (ws : List Way) → slice_get ns i ≡ Some (Fork a e b j m) →
-    new ≡ ts ++ record { step = step.Assume a e b; other = Some m } ∷ [] → AreToCome P p ns ts (place.Node i) ws → AreToCome P p ns new (place.Node j) ws
+    new ≡ ts ++ record { origin = from i; other = Some m } ∷ [] → AreToCome P p ns ts (place.Node i) ws → AreToCome P p ns new (place.Node j) ws
 look_fork P p ns i ts new a e b j m ws there pushed come =
     let here = come.are_ahead in
     let is = meets P p ns i (Fork a e b j m) here.0 there here.1 in
     let x = assume a.now e b.now true in
-    let t : Taken = record { step = step.Assume a e b; other = Some m } in
+    let t : Taken = record { origin = from i; other = Some m } in
     let one = ways_from (come.steps ++ x ∷ []) is.0 in
     let two = ways_from (come.steps ++ assume a.now e b.now false ∷ []) is.1 in
     record {
@@ -194,17 +240,17 @@ look_fork P p ns i ts new a e b j m ws there pushed come =
       ahead = one;
       behind = two ++ come.behind;
       taken = subst (λ rs. IsTaken P p ns [] rs (come.steps ++ x ∷ []) (two ++ come.behind)) (sym pushed)
-          (taken_push P p ns [] ts t come.steps x come.behind two come.taken (inl refl) (a.now, e, b.now, is.1, refl, is.4, refl));
+          (taken_push P p ns [] ts t come.steps x come.behind two come.taken (subst (λ n. IsShown P p (step_past n) x) (sym (node_there ns i (Fork a e b j m) there)) (inl refl)) (a.now, e, b.now, is.1, refl, is.4, refl));
       are_ahead = (is.0, is.3, refl);
       are = come.are ∙ ap (λ hs. hs ++ come.behind) (here.2 ∙ ap (ways_from come.steps) is.2 ∙ ways_fork come.steps a.now e b.now is.0 is.1) ∙ append_assoc one two come.behind;
     }
 
 -- past a check
-pub go_past : (P : Program) (p : Procedure) (ns : List Node) (ts new : List Taken) (s : Step) (j : ℕ) (ws : List Way) →
-    new ≡ ts ++ record { step = s; other = None } ∷ [] → AreToCome P p ns ts (Past s j) ws → AreToCome P p ns new (place.Node j) ws
-go_past P p ns ts new s j ws pushed come =
+pub go_past : (P : Program) (p : Procedure) (ns : List Node) (ts new : List Taken) (i j : ℕ) (ws : List Way) →
+    new ≡ ts ++ record { origin = from i; other = None } ∷ [] → AreToCome P p ns ts (Past i j) ws → AreToCome P p ns new (place.Node j) ws
+go_past P p ns ts new i j ws pushed come =
     let here = come.are_ahead in
-    let t : Taken = record { step = s; other = None } in
+    let t : Taken = record { origin = from i; other = None } in
     record {
       steps = come.steps ++ here.0 ∷ [];
       ahead = come.ahead;
@@ -224,20 +270,22 @@ back_over P p ns ts t zs ws none taken =
     (last.steps, subst (IsTaken P p ns [] ts last.steps) (sym same) last.taken)
 
 -- to the other way of a comparison
-pub back_to : (P : Program) (p : Procedure) (ns : List Node) (ts new : List Taken) (t : Taken) (s : Step) (i : ℕ) (zs : List PathStep) (ws : List Way) → t.other ≡ Some i →
-    ((l : Expr) (e : Bool) (r : Expr) → IsShown P p t.step (assume l e r true) → IsShown P p s (assume l e r false)) →
-    new ≡ ts ++ record { step = s; other = None } ∷ [] → IsTaken P p ns [] (ts ++ t ∷ []) zs ws → AreToCome P p ns new (place.Node i) ws
-back_to P p ns ts new t s i zs ws some flips pushed taken =
+pub back_to : (P : Program) (p : Procedure) (ns : List Node) (ts new : List Taken) (t : Taken) (i : ℕ) (zs : List PathStep) (ws : List Way) → t.other ≡ Some i →
+    new ≡ ts ++ record { origin = record { place = t.origin.place; turned = not t.origin.turned }; other = None } ∷ [] →
+    IsTaken P p ns [] (ts ++ t ∷ []) zs ws → AreToCome P p ns new (place.Node i) ws
+back_to P p ns ts new t i zs ws some pushed taken =
     let last = taken_pop P p ns [] ts t zs ws taken in
     let o = subst (λ o. AreOthers P p ns last.steps last.step o last.others) some last.are_others in
     let x = assume o.0 o.1 o.2 false in
-    let shown : IsShown P p s x = flips o.0 o.1 o.2 (subst (IsShown P p t.step) o.4 last.shown) in
+    let q : Origin = record { place = t.origin.place; turned = not t.origin.turned } in
+    let shown : IsShown P p (step_from ns q) x =
+    turned_shows (step_past (slice_index_or ns t.origin.place DeadEnd)) t.origin.turned P p o.0 o.1 o.2 (subst (IsShown P p (step_from ns t.origin)) o.4 last.shown) in
     record {
       steps = last.steps ++ x ∷ [];
       ahead = last.others;
       behind = last.behind;
       taken = subst (λ rs. IsTaken P p ns [] rs (last.steps ++ x ∷ []) last.behind) (sym pushed)
-          (taken_push P p ns [] ts (record { step = s; other = None }) last.steps x last.behind [] last.taken shown refl);
+          (taken_push P p ns [] ts (record { origin = q; other = None }) last.steps x last.behind [] last.taken shown refl);
       are_ahead = (o.3, o.5, o.6);
       are = last.are;
     }

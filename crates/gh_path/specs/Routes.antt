@@ -4,10 +4,10 @@ use Rattle.gh_ast.specs.declared.Expr.{Expr}
 use Rattle.gh_ast.specs.Plain.{Procedure, Program}
 use Rattle.gh_path.specs.Graphs.{Check, PathStep, assume, Graph}
 use Rattle.gh_path.specs.Paths.{Way, ways}
-use Rattle.gh_path.specs.Shown.{IsShown, AreShown, IsAsked, Shows}
+use Rattle.gh_path.specs.Shown.{IsShown, AreShown, IsAsked, Shows, step_from, from}
 use Rattle.gh_path.specs.declared.node.Asked.{Asked}
 use Rattle.gh_path.specs.declared.node.Node.{Node}
-use Rattle.gh_path.specs.declared.node.Step.{Step}
+use Rattle.gh_path.specs.declared.node.Origin.{Origin}
 use Rattle.gh_path.specs.declared.route.Route.{Route}
 use Rattle.gh_path.specs.declared.route.Taken.{Taken}
 use Rattle.gh_path.specs.declared.route.Onward as onward
@@ -34,14 +34,14 @@ AreOthers P p ns xs x (Some i) ws =
 abbrev pub IsTaken : Program → Procedure → List Node → List PathStep → List Taken → List PathStep → List Way → Type 0
 IsTaken P p ns xs [] zs ws = (zs ≡ xs) × (ws ≡ [])
 IsTaken P p ns xs (t ∷ ts) zs ws =
-    (x : PathStep) × (us : List Way) × (vs : List Way) × IsShown P p t.step x × IsTaken P p ns (xs ++ x ∷ []) ts zs us
+    (x : PathStep) × (us : List Way) × (vs : List Way) × IsShown P p (step_from ns t.origin) x × IsTaken P p ns (xs ++ x ∷ []) ts zs us
     × AreOthers P p ns xs x t.other vs × (ws ≡ us ++ vs)
 
 -- the ways from where the walk goes on
 abbrev pub AreOnward : Program → Procedure → List Node → List PathStep → onward.Onward → List Way → Type 0
 AreOnward P p ns zs Back ws = ws ≡ []
-AreOnward P p ns zs (Past s i) ws =
-    (x : PathStep) × (g : Graph) × IsShown P p s x × Shows P p ns i g × (ws ≡ ways_from (zs ++ x ∷ []) g)
+AreOnward P p ns zs (Past i j) ws =
+    (x : PathStep) × (g : Graph) × IsShown P p (step_from ns (from i)) x × Shows P p ns j g × (ws ≡ ways_from (zs ++ x ∷ []) g)
 AreOnward P p ns zs (place.Node i) ws = (g : Graph) × Shows P p ns i g × (ws ≡ ways_from zs g)
 
 -- all ways that are still to come
@@ -60,7 +60,7 @@ pub record IsReached (P : Program) (p : Procedure) (ns : List Node) (ts : List T
   pub steps : List PathStep
   pub check : Check
   pub rest : List Way
-  pub shown : AreShown P p (map (λ t. t.step) ts) steps
+  pub shown : AreShown P p (map (λ t. step_from ns t.origin) ts) steps
   pub asked : IsAsked P p a check
   pub are : ws ≡ way steps check ∷ rest
   pub later : AreToCome P p ns ts o rest
@@ -80,8 +80,8 @@ abbrev pub AreOn : Program → Procedure → List Node → Route → List Way �
 AreOn P p ns r ws = AreToCome P p ns r.taken.items r.onward ws
 
 -- one step more is taken
-abbrev pub HasTaken : Route → Route → Step → Option ℕ → Type 0
-HasTaken r t s other = t.taken.items ≡ r.taken.items ++ record { step = s; other = other } ∷ []
+abbrev pub HasTaken : Route → Route → Origin → Option ℕ → Type 0
+HasTaken r t o other = t.taken.items ≡ r.taken.items ++ record { origin = o; other = other } ∷ []
 
 -- at the end of a way, where those from the comparisons among its steps are still to come
 abbrev pub TurnsBack : Route → Route → Come → Type 0
@@ -89,8 +89,8 @@ TurnsBack r t come = (P : Program) (p : Procedure) (ns : List Node) (zs : List P
     IsTaken P p ns [] r.taken.items zs ws → IsCome P p ns t.taken.items t.onward come ws
 
 -- from where this node stands
-abbrev pub LooksAt : Node → Route → Route → Come → Type 0
-LooksAt n r t come = (P : Program) (p : Procedure) (ns : List Node) (i : ℕ) (ws : List Way) → slice_get ns i ≡ Some n →
+abbrev pub LooksAt : ℕ → Node → Route → Route → Come → Type 0
+LooksAt i n r t come = (P : Program) (p : Procedure) (ns : List Node) (ws : List Way) → slice_get ns i ≡ Some n →
     AreToCome P p ns r.taken.items (place.Node i) ws → IsCome P p ns t.taken.items t.onward come ws
 
 -- one turn
@@ -122,7 +122,7 @@ weights (t ∷ ts) = other_weight t.other + weights ts
 
 abbrev pub onward_weight : onward.Onward → ℕ
 onward_weight Back = 1
-onward_weight (Past s i) = weight i + 1
+onward_weight (Past i j) = weight j + 1
 onward_weight (place.Node i) = weight i
 
 abbrev pub weight_of : Route → ℕ

@@ -20,6 +20,7 @@ use Rattle.gh_path.specs.declared.node.Goal.TheVariants as goal
 use Rattle.gh_path.specs.declared.node.Asked.{Asked}
 use Rattle.gh_path.specs.declared.node.Node.{Node}
 use Rattle.gh_path.specs.declared.node.Node.TheVariants as node
+use Rattle.gh_path.specs.declared.node.Origin.{Origin}
 
 -- a comparison that is assumed is one of the text that is true, or the opposite of one that is false
 abbrev pub IsShown : Program → Procedure → Step → PathStep → Type 0
@@ -55,6 +56,37 @@ IsAsked P p a c = IsGoal P p a.goal a.span c
 abbrev pub IsOpposite : Step → Step → Type 0
 IsOpposite s t = (P : Program) (p : Procedure) (l : Expr) (e : Bool) (r : Expr) →
     IsShown P p s (assume l e r true) → IsShown P p t (assume l e r false)
+
+-- with the opposite of the comparison that it assumes, if it assumes one
+abbrev pub opposite : Step → Step
+opposite (step.Access x) = step.Access x
+opposite (step.Assume l e r) = step.Assume l (not e) r
+opposite (step.Set x e) = step.Set x e
+opposite (step.Write x e) = step.Write x e
+opposite (step.New x) = step.New x
+opposite (step.Free x) = step.Free x
+opposite (step.Call xs n es) = step.Call xs n es
+opposite (step.Loop n) = step.Loop n
+opposite (step.Return es) = step.Return es
+
+abbrev pub turned_if : Bool → Step → Step
+turned_if true s = opposite s
+turned_if false s = s
+
+-- the step that leads on from a node, at a comparison on the way where it is true; of an end any step
+abbrev pub step_past : Node → Step
+step_past node.DeadEnd = step.Loop 0
+step_past (node.Ends a) = step.Loop 0
+step_past (node.Moves s j) = s
+step_past (node.Guarded a s j) = s
+step_past (node.Fork l e r i j) = step.Assume l e r
+
+-- the step of an origin
+abbrev pub step_from : List Node → Origin → Step
+step_from ns o = turned_if o.turned (step_past (slice_index_or ns o.place node.DeadEnd))
+
+abbrev pub from : ℕ → Origin
+from i = record { place = i; turned = false }
 
 -- as they are kept, steps and checks stand for all that they stand for as the text has them
 abbrev pub KeepsStep : Step → kept_step.PathStep → Type 0
@@ -104,3 +136,10 @@ pub record Adds (P : Program) (p : Procedure) (old new : List Node) (i : ℕ) (g
 abbrev pub HaveNumbers : Procedure → List Stmt → List ℕ → Type 0
 HaveNumbers p ss ns =
     (k : ℕ) (d : Stmt) → k < length ss → AreNumbered p (slice_index ns k) (loops (statement_of (slice_index_or ss k d)))
+
+-- the steps that are kept come from these origins, one by one
+abbrev pub AreHeld : List Node → List Origin → List kept_step.PathStep → Type 0
+AreHeld ns [] [] = Unit {0}
+AreHeld ns [] (r ∷ rs) = ⊥
+AreHeld ns (o ∷ os) [] = ⊥
+AreHeld ns (o ∷ os) (r ∷ rs) = KeepsStep (step_from ns o) r × AreHeld ns os rs

@@ -1,5 +1,5 @@
 -- A walk over the conditions of a program, one at a time.
-use Rattle.std.specs.Prelude.{◌≡◌, ◌≢◌, ◌-◌, ◌<◌, List, [], ◌∷◌, ◌++◌, map, length, drop, Option, Some, None, Ok, Err}
+use Rattle.std.specs.Prelude.{◌≡◌, ◌≢◌, ◌-◌, ◌<◌, List, [], ◌∷◌, ◌++◌, map, length, drop, Option, Some, None, Ok, Err, Bool, true, false}
 use Rattle.std.specs.declared.result.Result.{Result}
 use Rattle.std.specs.declared.alloc.AllocError.{AllocError}
 use Rattle.gh_ast.specs.Plain.{Procedure, Program}
@@ -7,14 +7,15 @@ use Rattle.gh_path.specs.Graphs.{Start}
 use Rattle.gh_path.specs.Paths.{Way}
 use Rattle.gh_path.specs.Conditions.{Condition, condition}
 use Rattle.gh_path.specs.Kept.{StandsFor}
-use Rattle.gh_path.specs.Shown.{AreShown, IsAsked}
+use Rattle.gh_path.specs.Shown.{AreShown, AreHeld, IsAsked, step_from}
 use Rattle.gh_path.specs.Routes.{AreToCome}
 use Rattle.gh_path.specs.Roots.{IsRoot, AreRoots}
 use Rattle.gh_path.specs.declared.condition.Condition as kept
 use Rattle.gh_path.specs.declared.node.Asked.{Asked}
 use Rattle.gh_path.specs.declared.walk.Walk.{Walk}
 
--- the conditions that are still to come: from the present start, and from those after it
+-- the conditions that are still to come: from the present start, and from those after it. The steps of the condition
+-- that is lent come from the origins that are held
 pub record AreLeft (P : Program) (s : Walk) (cs : List Condition) : Type 0 where
   pub procedure : Procedure
   pub start : Start
@@ -24,6 +25,7 @@ pub record AreLeft (P : Program) (s : Walk) (cs : List Condition) : Type 0 where
   pub here : AreToCome P procedure s.starts.now.nodes s.route.taken.items s.route.onward ways
   pub after : AreRoots P s.starts.now.nodes (drop s.next s.starts.now.roots.items) later
   pub are : cs ≡ map (condition procedure start) ways ++ later
+  pub held : AreHeld s.starts.now.nodes s.held.items s.condition.steps.items
 
 -- these conditions of a program are still to come
 pub record IsBefore (P : Program) (s : Walk) (cs : List Condition) : Type 0 where
@@ -36,7 +38,7 @@ pub record IsAt (P : Program) (s : Walk) (a : Asked) (cs : List Condition) : Typ
   pub rest : List Condition
   pub are : cs ≡ first ∷ rest
   pub root : IsRoot P s.starts.now.nodes s.present first.procedure first.start
-  pub shown : AreShown P first.procedure (map (λ t. t.step) s.route.taken.items) first.way.steps
+  pub shown : AreShown P first.procedure (map (λ t. step_from s.starts.now.nodes t.origin) s.route.taken.items) first.way.steps
   pub asked : IsAsked P first.procedure a first.way.check
   pub left : AreLeft P s rest
 
@@ -45,17 +47,22 @@ HasCome P s None cs = cs ≡ []
 HasCome P s (Some a) cs = IsAt P s a cs
 
 -- on to the next condition that is still to come
-abbrev pub Advances : Walk → Walk → Option Asked → Type 0
-Advances s t found = (P : Program) (cs : List Condition) → AreLeft P s cs → HasCome P t found cs
+abbrev pub Reaches : Walk → Walk → Option Asked → Type 0
+Reaches s t found = (P : Program) (cs : List Condition) → AreLeft P s cs → HasCome P t found cs
 
--- the first of some conditions as it is kept, and the others are still to come
-abbrev pub IsNextKept : Program → Walk → Option kept.Condition → List Condition → Type 0
-IsNextKept P s None cs = cs ≡ []
-IsNextKept P s (Some r) cs = (c : Condition) × (ds : List Condition) × (cs ≡ c ∷ ds) × StandsFor P r c × AreLeft P s ds
+-- the condition that is lent is the first of some conditions, and the others are still to come
+abbrev pub IsNextKept : Program → Walk → Bool → List Condition → Type 0
+IsNextKept P s false cs = cs ≡ []
+IsNextKept P s true cs =
+    (c : Condition) × (ds : List Condition) × (cs ≡ c ∷ ds) × StandsFor P s.condition c × AreLeft P s ds
 
--- the next condition that is still to come is given
-abbrev pub Gives : Walk → Walk → Option kept.Condition → Type 0
-Gives s t found = (P : Program) (cs : List Condition) → AreLeft P s cs → IsNextKept P t found cs
+-- the next condition that is still to come is kept, if there is one
+abbrev pub Gives : Walk → Walk → Bool → Type 0
+Gives s t more = (P : Program) (cs : List Condition) → AreLeft P s cs → IsNextKept P t more cs
+
+-- what is to come stays as it is
+abbrev pub KeepsLeft : Walk → Walk → Type 0
+KeepsLeft s t = (P : Program) (cs : List Condition) → AreLeft P s cs → AreLeft P t cs
 
 -- what is given where some conditions are to come, and what is to come then: none exactly where nothing is to come; an
 -- error only where something is, and then nothing is to come any more
@@ -68,3 +75,19 @@ IsItem P cs (Some (Err e)) ds = (cs ≢ []) × (ds ≡ [])
 abbrev pub IsGiven : Walk → Option (Result kept.Condition AllocError) → Walk → Type 0
 IsGiven s r t =
     (P : Program) (cs : List Condition) → IsBefore P s cs → (ds : List Condition) × IsItem P cs r ds × IsBefore P t ds
+
+-- an item that is lent: the condition itself, none, or an error
+abbrev pub lent : Result Bool AllocError → kept.Condition → Option (Result kept.Condition AllocError)
+lent (Ok true) r = Some (Ok r)
+lent (Ok false) r = None
+lent (Err e) r = Some (Err e)
+
+-- one item more, where a condition is lent
+abbrev pub Lends : Walk → Result Bool AllocError → Walk → Type 0
+Lends s r t = IsGiven s (lent r t.condition) t
+
+-- fewer items are to come, unless none came
+abbrev pub ComesNearer : Walk → Result Bool AllocError → Walk → Type 0
+ComesNearer s (Ok true) t = t.end - t.given < s.end - s.given
+ComesNearer s (Ok false) t = Unit {0}
+ComesNearer s (Err e) t = t.end - t.given < s.end - s.given

@@ -16,7 +16,7 @@ use crate::finder::condition_of;
 use crate::limits::count_all;
 use crate::route::Route;
 use crate::starts::Starts;
-use crate::walk::Walk;
+use crate::walk::{Walk, without_steps};
 use gh_ast::typed::Typed;
 use std::alloc::{AllocError, Global};
 use std::marker::Model;
@@ -100,6 +100,8 @@ impl<'t> Conditions<'t> {
             present,
             next: 1,
             route,
+            held: Vec::new(alloc),
+            condition: without_steps(alloc, present),
         }
     }
 }

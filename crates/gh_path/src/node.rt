@@ -1,8 +1,9 @@
 //! Bodies as nodes that lead to one another, with steps and checks as the text has them.
 
-ghost use Rattle.std.specs.Prelude.{◌≡◌, ◌↔◌, ◌∷◌, ◌++◌, [], length, slice_get, Some, IsTrue, IfOk, OnOk};
-ghost use Rattle.gh_path.specs.Shown.{IsOpposite, KeepsStep, KeepsGoal, KeepsAsked, LeadsBelow};
+ghost use Rattle.std.specs.Prelude.{◌≡◌, ◌↔◌, ◌∷◌, ◌++◌, [], length, not, slice_get, slice_index_or, Some, IsTrue, IfOk, OnOk};
+ghost use Rattle.gh_path.specs.Shown.{KeepsStep, KeepsGoal, KeepsAsked, LeadsBelow, from, opposite, step_past, step_from};
 ghost use Rattle.gh_path.specs.declared.node.Node.{Node as Plain};
+ghost use Rattle.gh_path.specs.declared.node.Node.TheVariants.{DeadEnd};
 
 use crate::condition::{Check, CheckKind, PathStep};
 use crate::copies::{copy_expr, copy_exprs, copy_occ, copy_occs};
@@ -52,8 +53,8 @@ pub enum Step<'t> {
 
 impl<'t> Step<'t> {
     /// The step on the other way of a comparison.
-    pub(crate) fn opposite(self) -> Step<'t>
-        ensures { IsOpposite self.entry result }
+    fn opposite(self) -> Step<'t>
+        ensures { result ≡ opposite self.entry }
     {
         match self {
             Step::Assume { left, equal, right } => Step::Assume {
@@ -186,6 +187,25 @@ pub enum Node<'t> {
 }
 
 impl<'t> Node<'t> {
+    /// The step that leads on, at a comparison on the way where it is true. Of an end nothing is
+    /// said.
+    fn step(self) -> Step<'t>
+        ensures { result ≡ step_past self.entry }
+    {
+        match self {
+            Node::DeadEnd => Step::Loop { number: 0 },
+            Node::Ends { .. } => Step::Loop { number: 0 },
+            Node::Moves { step, .. } => step,
+            Node::Guarded { step, .. } => step,
+            Node::Fork {
+                left,
+                equal,
+                right,
+                ..
+            } => Step::Assume { left, equal, right },
+        }
+    }
+
     /// Whether all nodes that come next stand before a place.
     fn leads_below(&self, place: usize) -> bool
         ensures { IsTrue result ↔ LeadsBelow place self.now }
@@ -196,6 +216,36 @@ impl<'t> Node<'t> {
             Node::Moves { next, .. } => *next < place,
             Node::Guarded { next, .. } => *next < place,
             Node::Fork { yes, no, .. } => *yes < place && *no < place,
+        }
+    }
+}
+
+/// Where a step comes from: past the node at a place, or, where it is `turned`, on the way where the
+/// node's comparison is false.
+#[derive(Clone, Copy, Debug, PartialEq, Eq)]
+pub struct Origin {
+    pub place: usize,
+    pub turned: bool,
+}
+
+impl Origin {
+    /// Past the node at a place.
+    pub(crate) fn new(place: usize) -> Origin
+        ensures { result ≡ from place }
+    {
+        Origin {
+            place,
+            turned: false,
+        }
+    }
+
+    /// On the other way of the comparison.
+    pub(crate) fn opposite(self) -> Origin
+        ensures { result ≡ record { place = self.place; turned = not self.turned } }
+    {
+        Origin {
+            place: self.place,
+            turned: !self.turned,
         }
     }
 }
@@ -244,11 +294,23 @@ impl<'t> Nodes<'t> {
     /// The node at a place; a dead end where there is none.
     pub fn at(&self, place: usize) -> Node<'t>
         ensures there { (n : Plain) → slice_get self.now place ≡ Some n → result ≡ n }
+        ensures is { result ≡ slice_index_or self.now place DeadEnd }
         ensures below { LeadsBelow place result }
     {
         match self.nodes.get(place) {
             Some(node) => *node,
             None => Node::DeadEnd,
         }
+    }
+
+    /// The step of an origin.
+    pub fn step(&self, origin: Origin) -> Step<'t>
+        ensures { result ≡ step_from self.now origin }
+    {
+        let step = self.at(origin.place).step();
+        if origin.turned {
+            return step.opposite();
+        }
+        step
     }
 }

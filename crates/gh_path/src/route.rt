@@ -6,22 +6,23 @@ ghost use Rattle.gh_path.specs.Shown.{LeadsBelow};
 ghost use Rattle.gh_path.specs.Routes.{AreOn, HasTaken, TurnsBack, LooksAt, GoesOn, BeginsAt, Arrives, IsLess};
 ghost use Rattle.gh_path.specs.Routes.{weight, weights, weight_of};
 
-use crate::node::{Asked, Node, Nodes, Step};
+use crate::node::{Asked, Node, Nodes, Origin};
 use std::alloc::{AllocError, Global};
 
 /// A step that was taken. At a comparison that was taken to be true, `other` is the place of the
 /// node on the way where it is false, which is still to be walked.
 #[derive(Clone, Copy, Debug)]
-pub struct Taken<'t> {
-    pub step: Step<'t>,
+pub struct Taken {
+    pub origin: Origin,
     pub other: Option<usize>,
 }
 
-/// Where a walk goes on: back, at its end; past a check; at a node.
+/// Where a walk goes on: back, at its end; past the check at a node, and then at the next one; at a
+/// node.
 #[derive(Clone, Copy, Debug)]
-pub enum Onward<'t> {
+pub enum Onward {
     Back,
-    Past { step: Step<'t>, next: usize },
+    Past { place: usize, next: usize },
     Node { place: usize },
 }
 
@@ -35,14 +36,14 @@ pub enum Come<'t> {
 
 /// The steps of the present way, and where the walk goes on.
 #[derive(Debug, Drop)]
-pub struct Route<'t> {
-    pub taken: Vec<Taken<'t>>,
-    pub onward: Onward<'t>,
+pub struct Route {
+    pub taken: Vec<Taken>,
+    pub onward: Onward,
 }
 
-impl<'t> Route<'t> {
+impl Route {
     /// A walk that ended.
-    pub fn new(alloc: Global) -> Route<'t>
+    pub fn new(alloc: Global) -> Route
         ensures { (P : Program) (p : Procedure) (nodes : List Node) → AreOn P p nodes result [] }
     {
         Route {
@@ -52,33 +53,33 @@ impl<'t> Route<'t> {
     }
 
     /// Takes a step, and goes on at a node.
-    fn go(&mut self, step: Step<'t>, other: Option<usize>, place: usize) -> Result<(), AllocError>
-        ensures taken { OnOk result (HasTaken self.old self.new step.entry other) }
+    fn go(&mut self, origin: Origin, other: Option<usize>, place: usize) -> Result<(), AllocError>
+        ensures taken { OnOk result (HasTaken self.old self.new origin other) }
         ensures onward { OnOk result (self.new.onward ≡ Onward.Node place) }
     {
-        self.taken.push(Taken { step, other })?;
+        self.taken.push(Taken { origin, other })?;
         self.onward = Onward::Node { place };
         Ok(())
     }
 
     /// Goes back to the last comparison of which the other way is still to be walked.
-    fn turn_back(&mut self) -> Result<Come<'t>, AllocError>
+    fn turn_back<'t>(&mut self) -> Result<Come<'t>, AllocError>
         ensures come { IfOk result (TurnsBack self.old self.new) }
         ensures less { IfOk result (λ come. IsLess come (weight_of self.new) (weights self.old.taken.items + 1)) }
     {
         while let Some(last) = self.taken.pop() {
             if let Some(place) = last.other {
-                self.go(last.step.opposite(), None, place)?;
+                self.go(last.origin.opposite(), None, place)?;
                 return Ok(Come::On);
             }
         }
         Ok(Come::Over)
     }
 
-    /// Looks at a node that is come to.
-    fn look(&mut self, node: Node<'t>) -> Result<Come<'t>, AllocError>
-        ensures come { IfOk result (LooksAt node.entry self.old self.new) }
-        ensures less { IfOk result (λ come. (place : ℕ) → LeadsBelow place node.entry →
+    /// Looks at the node at a place, which is come to.
+    fn look<'t>(&mut self, place: usize, node: Node<'t>) -> Result<Come<'t>, AllocError>
+        ensures come { IfOk result (LooksAt place node.entry self.old self.new) }
+        ensures less { IfOk result (λ come. LeadsBelow place node.entry →
             IsLess come (weight_of self.new) (weights self.old.taken.items + weight place)) }
     {
         match node {
@@ -90,41 +91,35 @@ impl<'t> Route<'t> {
                 self.onward = Onward::Back;
                 Ok(Come::Found(asked))
             }
-            Node::Moves { step, next } => {
-                self.go(step, None, next)?;
+            Node::Moves { next, .. } => {
+                self.go(Origin::new(place), None, next)?;
                 Ok(Come::On)
             }
-            Node::Guarded { asked, step, next } => {
-                self.onward = Onward::Past { step, next };
+            Node::Guarded { asked, next, .. } => {
+                self.onward = Onward::Past { place, next };
                 Ok(Come::Found(asked))
             }
-            Node::Fork {
-                left,
-                equal,
-                right,
-                yes,
-                no,
-            } => {
-                self.go(Step::Assume { left, equal, right }, Some(no), yes)?;
+            Node::Fork { yes, no, .. } => {
+                self.go(Origin::new(place), Some(no), yes)?;
                 Ok(Come::On)
             }
         }
     }
 
     /// One turn.
-    fn turn(&mut self, nodes: &Nodes<'t>) -> Result<Come<'t>, AllocError>
+    fn turn<'t>(&mut self, nodes: &Nodes<'t>) -> Result<Come<'t>, AllocError>
         ensures come { IfOk result (GoesOn nodes.now self.old self.new) }
         ensures less { IfOk result (λ come. IsLess come (weight_of self.new) (weight_of self.old)) }
     {
         match self.onward {
             Onward::Back => self.turn_back(),
-            Onward::Past { step, next } => {
-                self.go(step, None, next)?;
+            Onward::Past { place, next } => {
+                self.go(Origin::new(place), None, next)?;
                 Ok(Come::On)
             }
             Onward::Node { place } => {
                 let node = nodes.at(place);
-                let come = self.look(node)?;
+                let come = self.look(place, node)?;
                 Ok(come)
             }
         }
@@ -139,7 +134,7 @@ impl<'t> Route<'t> {
     }
 
     /// Goes on to the next check, if there is one.
-    pub fn arrive(&mut self, nodes: &Nodes<'t>) -> Result<Option<Asked<'t>>, AllocError>
+    pub fn arrive<'t>(&mut self, nodes: &Nodes<'t>) -> Result<Option<Asked<'t>>, AllocError>
         ensures { IfOk result (Arrives nodes.now self.old self.new) }
     {
         loop {

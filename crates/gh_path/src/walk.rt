@@ -1,17 +1,19 @@
 //! The conditions of a program one at a time.
 
-ghost use Rattle.std.specs.Prelude.{◌≡◌, map, IfOk};
-ghost use Rattle.gh_path.specs.Shown.{KeepsSteps};
-ghost use Rattle.gh_path.specs.Walks.{Advances, Gives};
+ghost use Rattle.std.specs.Prelude.{◌≡◌, ◌≤◌, ◌<◌, ◌+◌, ◌∷◌, ◌++◌, [], length, take, map, slice_set, IfOk, OnOk};
+ghost use Rattle.gh_path.specs.Shown.{AreHeld};
+ghost use Rattle.gh_path.specs.Walks.{Reaches, Gives, KeepsLeft, Lends, ComesNearer};
 
-use crate::condition::{Condition, PathStep};
-use crate::node::Asked;
+use crate::condition::{Check, CheckKind, Condition, PathStep};
+use crate::node::{Asked, Nodes, Origin};
 use crate::route::{Route, Taken};
 use crate::starts::{Root, Starts};
+use gh_base::place::Span;
 use std::alloc::{AllocError, Global};
+use std::mem;
 
-/// A walk over the conditions of a program, in order. It holds the steps of one of them, and keeps
-/// those that the next one begins with too.
+/// A walk over the conditions of a program, in order. It holds one of them, and keeps of its steps
+/// those that the next one has at the same places.
 ///
 /// It gives each condition once, and then None for good. An item that is an error ends it: what
 /// follows is None.
@@ -23,24 +25,89 @@ pub struct Walk<'c, 't> {
     pub(crate) end: u32,
     pub(crate) present: Root,
     pub(crate) next: usize,
-    pub(crate) route: Route<'t>,
+    pub(crate) route: Route,
+    pub(crate) held: Vec<Origin>,
+    pub(crate) condition: Condition,
 }
 
-/// Steps as they are kept.
-fn kept_steps(alloc: Global, taken: &[Taken<'_>]) -> Result<Vec<PathStep>, AllocError>
-    ensures { IfOk result (λ rs. KeepsSteps (map (λ t. t.step) taken.now) rs.items) }
+/// A condition without steps, from a start.
+pub(crate) fn without_steps(alloc: Global, root: Root) -> Condition
+    ensures { result.steps.items ≡ [] }
 {
-    let mut steps = Vec::with_capacity(alloc, taken.len())?;
-    for one in taken {
-        steps.push(one.step.kept(alloc)?)?;
+    Condition {
+        procedure: root.procedure,
+        start: root.start,
+        steps: Vec::new(alloc),
+        check: Check {
+            kind: CheckKind::Return,
+            span: Span { line: 0, col: 0 },
+        },
     }
-    Ok(steps)
+}
+
+/// Puts an item at a place, or last where there is no such place.
+fn put<T: Drop>(items: &mut Vec<T>, place: usize, item: T) -> Result<(), AllocError>
+    ensures there { OnOk result (place < length items.old.items →
+        items.new.items ≡ slice_set items.old.items place item) }
+    ensures last { OnOk result (length items.old.items ≤ place → items.new.items ≡ items.old.items ++ item ∷ []) }
+{
+    if place < items.len() {
+        items[place] = item;
+        return Ok(());
+    }
+    items.push(item)?;
+    Ok(())
+}
+
+/// Holds the step of an origin at a place. It is copied unless it is held there.
+fn hold_step(
+    alloc: Global,
+    nodes: &Nodes<'_>,
+    place: usize,
+    origin: Origin,
+    held: &mut Vec<Origin>,
+    steps: &mut Vec<PathStep>,
+) -> Result<(), AllocError>
+    ensures there { OnOk result (place ≤ length held.old.items →
+        take (place + 1) held.new.items ≡ take place held.old.items ++ origin ∷ []) }
+    ensures held { OnOk result (AreHeld nodes.now held.old.items steps.old.items →
+        AreHeld nodes.now held.new.items steps.new.items) }
+{
+    if let Some(before) = held.get(place) {
+        if *before == origin {
+            return Ok(());
+        }
+    }
+    let step = nodes.step(origin).kept(alloc)?;
+    put(held, place, origin)?;
+    put(steps, place, step)?;
+    Ok(())
+}
+
+/// Holds the steps of the present way.
+fn hold(
+    alloc: Global,
+    nodes: &Nodes<'_>,
+    taken: &[Taken],
+    held: &mut Vec<Origin>,
+    steps: &mut Vec<PathStep>,
+) -> Result<(), AllocError>
+    ensures these { OnOk result (held.new.items ≡ map (λ t. t.origin) taken.now) }
+    ensures held { OnOk result (AreHeld nodes.now held.old.items steps.old.items →
+        AreHeld nodes.now held.new.items steps.new.items) }
+{
+    for place in 0..taken.len() {
+        hold_step(alloc, nodes, place, taken[place].origin, held, steps)?;
+    }
+    held.truncate(taken.len());
+    steps.truncate(taken.len());
+    Ok(())
 }
 
 impl<'c, 't> Walk<'c, 't> {
     /// Goes on to the next condition, if there is one.
-    fn advance(&mut self) -> Result<Option<Asked<'t>>, AllocError>
-        ensures come { IfOk result (Advances self.old self.new) }
+    fn reach(&mut self) -> Result<Option<Asked<'t>>, AllocError>
+        ensures come { IfOk result (Reaches self.old self.new) }
         ensures given { self.new.given ≡ self.old.given }
         ensures end { self.new.end ≡ self.old.end }
     {
@@ -57,23 +124,69 @@ impl<'c, 't> Walk<'c, 't> {
         }
     }
 
-    /// The next condition, if there is one.
-    fn give(&mut self) -> Result<Option<Condition>, AllocError>
+    /// Goes on to the next condition and keeps it, if there is one.
+    fn give(&mut self) -> Result<bool, AllocError>
         ensures next { IfOk result (Gives self.old self.new) }
         ensures given { self.new.given ≡ self.old.given }
         ensures end { self.new.end ≡ self.old.end }
     {
-        let Some(asked) = self.advance()? else {
-            return Ok(None);
+        let Some(asked) = self.reach()? else {
+            return Ok(false);
         };
-        let steps = kept_steps(self.alloc, self.route.taken.as_slice())?;
-        let check = asked.kept(self.alloc)?;
-        Ok(Some(Condition {
-            procedure: self.present.procedure,
-            start: self.present.start,
-            steps,
-            check,
-        }))
+        hold(
+            self.alloc,
+            &self.starts.nodes,
+            self.route.taken.as_slice(),
+            &mut self.held,
+            &mut self.condition.steps,
+        )?;
+        self.condition.check = asked.kept(self.alloc)?;
+        self.condition.procedure = self.present.procedure;
+        self.condition.start = self.present.start;
+        Ok(true)
+    }
+
+    /// Goes on to the next condition, which is lent then, and tells whether there is one. It answers
+    /// as the iterator does: an error ends the walk.
+    pub fn advance(&mut self) -> Result<bool, AllocError>
+        ensures next { Lends self.old result self.new }
+        ensures nearer { ComesNearer self.old result self.new }
+    {
+        if self.given >= self.end {
+            return Ok(false);
+        }
+        match self.give() {
+            Ok(true) => {
+                self.given += 1;
+                Ok(true)
+            }
+            Ok(false) => {
+                self.end = self.given;
+                Ok(false)
+            }
+            Err(error) => {
+                self.end = self.given;
+                Err(error)
+            }
+        }
+    }
+
+    /// The condition that the walk came to last. Before the first one nothing is said of it.
+    pub fn condition(&self) -> &Condition
+        ensures { result.now ≡ self.now.condition }
+    {
+        &self.condition
+    }
+
+    /// Gives the condition away.
+    fn take_condition(&mut self) -> Condition
+        ensures value { result ≡ self.old.condition }
+        ensures left { KeepsLeft self.old self.new }
+        ensures given { self.new.given ≡ self.old.given }
+        ensures end { self.new.end ≡ self.old.end }
+    {
+        self.held.clear();
+        mem::replace(&mut self.condition, without_steps(self.alloc, self.present))
     }
 }
 
@@ -89,22 +202,10 @@ impl<'c, 't> Iterator for Walk<'c, 't> {
     ghost remaining = { λ s. at_most (s.end - s.given) };
 
     fn next(&mut self) -> Option<Result<Condition, AllocError>> {
-        if self.given >= self.end {
-            return None;
-        }
-        match self.give() {
-            Ok(Some(condition)) => {
-                self.given += 1;
-                Some(Ok(condition))
-            }
-            Ok(None) => {
-                self.end = self.given;
-                None
-            }
-            Err(error) => {
-                self.end = self.given;
-                Some(Err(error))
-            }
+        match self.advance() {
+            Ok(true) => Some(Ok(self.take_condition())),
+            Ok(false) => None,
+            Err(error) => Some(Err(error)),
         }
     }
 }

@@ -16,7 +16,7 @@ use Rattle.gh_grass.specs.Claims.{claims_of}
 use Rattle.gh_grass.specs.Footprints.{Variables, structure, footprint, terms_below}
 use Rattle.gh_symb.specs.Symbolic.{Under}
 use Rattle.gh_symb.specs.Formulas.{variables, successor, within, meets, meets_whole, covers}
-use Rattle.gh_symb.specs.Told.{plain_kind}
+use Rattle.gh_symb.specs.Encodings.{plain_kind}
 use Rattle.gh_symb.specs.declared.over_terms.Bound.{Bound}
 use Rattle.gh_reduce.specs.Growth.{IsWithin, AreWithin}
 use Rattle.gh_reduce.specs.Inside.{binding_of, under_of, IsUnderInside}

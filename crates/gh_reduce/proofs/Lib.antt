@@ -2,7 +2,7 @@ pub mod GrowthLemmas
 pub mod WithinLemmas
 pub mod InsideLemmas
 pub mod RowLemmas
-pub mod ToldLemmas
+pub mod EncodedLemmas
 pub mod SoundLemmas
 pub mod StepsInside
 pub mod ClauseLemmas

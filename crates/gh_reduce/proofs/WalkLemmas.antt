@@ -11,12 +11,12 @@ use Rattle.gh_grass.specs.Claims.{Claim}
 use Rattle.gh_symb.specs.Symbolic as plain
 use Rattle.gh_symb.specs.Symbolic.{accessed, assumed, same, written, made, freed, parts}
 use Rattle.gh_symb.specs.Formulas.{version_after, versions_claims, meets_whole, check_claims, claims, problem, successor_claims, successors_from, steps_claims}
-use Rattle.gh_symb.specs.Told.{plain_kind, IsSymbolic}
+use Rattle.gh_symb.specs.Encodings.{plain_kind, IsSymbolic}
 use Rattle.gh_symb.specs.declared.over_terms.TermStep.{TermStep}
 use Rattle.gh_symb.specs.declared.over_terms.Symbolic.{Symbolic}
 use Rattle.gh_reduce.specs.Growth.{stated_in}
 use Rattle.gh_reduce.specs.Inside.{plain_of, step_of, IsReady, IsUnderInside, IsStepInside, AreStepsInside, IsCheckInside, IsInside}
-use Rattle.gh_reduce.proofs.ToldLemmas.{told_is}
+use Rattle.gh_reduce.proofs.EncodedLemmas.{encoded_is}
 use Rattle.gh_reduce.proofs.StepsInside.{conditions_are_inside}
 
 -- the kinds from a place on
@@ -52,7 +52,7 @@ step_version n v i (parts u us) h l = h.2
 
 -- a condition over terms that is told has its terms and versions
 pub inside_told : (s : Symbolic) → (P : Program) × (c : Condition) × IsSymbolic P c s → IsInside (plain_of s)
-inside_told s h = subst IsInside (sym (told_is h.0 h.1 s h.2)) (conditions_are_inside h.0 h.1)
+inside_told s h = subst IsInside (sym (encoded_is h.0 h.1 s h.2)) (conditions_are_inside h.0 h.1)
 
 abbrev pub empty_problem : ℕ → ℕ → Problem
 empty_problem n v = record { sizes = record { terms = n; versions = v; defs = 0 }; clauses = [] }
@@ -63,7 +63,7 @@ finished s p q n v e terms versions h =
     ∙ ap (λ (x : Problem). stated_in x (claims s)) (e ∙ ap (λ (k : ℕ). empty_problem k v) terms ∙ ap (empty_problem (length s.terms)) versions)
 
 pub told_problem : (P : Program) (c : Condition) (s : Symbolic) (q : Problem) → IsSymbolic P c s → q ≡ problem (plain_of s) → q ≡ problem (plain.symbolic_of P c)
-told_problem P c s q h e = e ∙ ap problem (told_is P c s h)
+told_problem P c s q h e = e ∙ ap problem (encoded_is P c s h)
 
 -- what a condition says of its terms and versions, at the numbers of a problem
 pub record InsideAt (n v : ℕ) (kinds : List Kind) (s : plain.Symbolic) : Type 0 where

@@ -5,7 +5,7 @@ ghost use Rattle.gh_ast.specs.Plain.{Program};
 ghost use Rattle.gh_path.specs.Conditions.{Condition};
 ghost use Rattle.gh_path.specs.Terms.{next};
 ghost use Rattle.gh_symb.specs.Symbolic.{symbolic_of};
-ghost use Rattle.gh_symb.specs.Told.{plain_kind, IsSymbolic};
+ghost use Rattle.gh_symb.specs.Encodings.{plain_kind, IsSymbolic};
 ghost use Rattle.gh_symb.specs.Formulas as formulas;
 ghost use Rattle.gh_grass.specs.Claims.{claim_of, negation_of};
 ghost use Rattle.gh_reduce.specs.Growth.{stated_in, IsWithin};

@@ -2,7 +2,7 @@
 
 ghost use Rattle.std.specs.Prelude.{◌≡◌, ◌+◌, ◌<◌, IfOk, OnOk, map};
 ghost use Rattle.gh_grass.specs.Claims.{claim_of, claims_list, one_of};
-ghost use Rattle.gh_symb.specs.Told.{plain_kind};
+ghost use Rattle.gh_symb.specs.Encodings.{plain_kind};
 ghost use Rattle.gh_symb.specs.Formulas as formulas;
 ghost use Rattle.gh_reduce.specs.Growth.{stated_in};
 ghost use Rattle.gh_reduce.specs.Inside.{under_of, AllAreInside, IsReady, IsUnderInside};

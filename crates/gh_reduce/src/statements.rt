@@ -2,7 +2,7 @@
 
 ghost use Rattle.std.specs.Prelude.{◌≡◌, ◌∷◌, [], IfOk, map};
 ghost use Rattle.gh_grass.specs.Claims.{claim_of, negation_of, one_of, equality};
-ghost use Rattle.gh_symb.specs.Told.{plain_kind};
+ghost use Rattle.gh_symb.specs.Encodings.{plain_kind};
 ghost use Rattle.gh_symb.specs.Formulas as formulas;
 ghost use Rattle.gh_reduce.specs.Inside.{under_of};
 ghost use Rattle.gh_reduce.specs.Rows.{same_hops};

@@ -1,7 +1,7 @@
 -- The smallest counterexample of the first refuted condition.
 use Rattle.std.specs.Prelude.{Option, Some, None}
 use Rattle.gh_ast.specs.Plain.{Program}
-use Rattle.gh_decide.specs.Outcomes.{IsFirst}
+use Rattle.gh_trace.specs.Refuted.{IsFirst}
 use Rattle.gh_draw.specs.declared.drawing.Drawing.{Drawing}
 use Rattle.gh_small.specs.Smallest.{first_cells, IsLeast}
 use Rattle.gh_trace.specs.Kept.{drawn_of}

@@ -30,7 +30,7 @@ pub fn picture_of(
     conditions: &Conditions,
     drawing: &Drawing,
 ) -> Result<Pictured, AllocError>
-    requires same { conditions.now ≡ typed.now }
+    requires same { program_of conditions.now ≡ program_of typed.now }
     requires admitted { IsAdmitted (program_of typed.now) }
     ensures { IfOk result (IsPictured (program_of typed.now) drawing.now.condition drawing.now.trace.states.items) }
 {

@@ -103,7 +103,7 @@ pub fn scene_of(
     conditions: &Conditions,
     drawing: &Drawing,
 ) -> Result<Sketch, AllocError>
-    requires same { conditions.now ≡ typed.now }
+    requires same { program_of conditions.now ≡ program_of typed.now }
     requires admitted { IsAdmitted (program_of typed.now) }
     ensures { IfOk result (told.IsSketch (program_of typed.now) drawing.now.condition drawing.now.trace.states.items) }
 {

@@ -2,7 +2,7 @@
 
 ghost use Rattle.std.specs.Prelude.{◌≡◌, IfOk, Some};
 ghost use Rattle.gh_ast.specs.Plain.{program_of};
-ghost use Rattle.gh_decide.specs.Outcomes.{IsFirst};
+ghost use Rattle.gh_trace.specs.Refuted.{IsFirst};
 ghost use Rattle.gh_path.specs.Admitted.{IsAdmitted};
 ghost use Rattle.gh_scene.specs.Smallests.{IsLeastFirst, IsSmallestDrawing};
 ghost use Rattle.gh_trace.specs.declared.state.Trace as drawn;
@@ -21,7 +21,7 @@ fn refuted(
     conditions: &Conditions,
     number: u32,
 ) -> Result<Drawing, AllocError>
-    requires same { conditions.now ≡ typed.now }
+    requires same { program_of conditions.now ≡ program_of typed.now }
     requires admitted { IsAdmitted (program_of typed.now) }
     requires first { (t : drawn.Trace) × IsFirst (program_of typed.now) number t }
     ensures { IfOk result (IsLeastFirst (program_of typed.now)) }
@@ -44,7 +44,7 @@ pub fn smallest_drawing(
     typed: &Typed,
     conditions: &Conditions,
 ) -> Result<Option<Drawing>, AllocError>
-    requires same { conditions.now ≡ typed.now }
+    requires same { program_of conditions.now ≡ program_of typed.now }
     requires admitted { IsAdmitted (program_of typed.now) }
     ensures { IfOk result (IsSmallestDrawing (program_of typed.now)) }
 {

@@ -1,6 +1,5 @@
 -- A text that is cut into lines.
-use Rattle.std.specs.Prelude.{◌≡◌, ◌⊎◌, ℕ, zero, suc, ◌+◌, ◌-◌, ◌<◌, ◌≤◌, ◌==◌, List, [], ◌∷◌, ◌++◌, length, take, drop, get_or, cond, Bool, true, false, Contains}
-use Rattle.std.specs.List.{concat}
+use Rattle.std.specs.Prelude.{◌≡◌, ℕ, zero, suc, ◌+◌, ◌-◌, ◌<◌, ◌≤◌, List, [], ◌∷◌, ◌++◌, length, take, drop, get_or, cond}
 use Rattle.std.proofs.Common.{refl, sym, ◌∙◌, ap, subst, inl, inr, arith}
 use Rattle.std.proofs.lemmas.Bool.{ne_eqb}
 use Rattle.std.proofs.Math.Seq.{take-add}
@@ -9,7 +8,7 @@ use Rattle.std.proofs.lemmas.List.Folds.{concat-append}
 use Rattle.std.proofs.lemmas.List.Elements.{Contains-append_cases}
 use Rattle.gh_ast.proofs.Lists.{no_member, only_member}
 use Rattle.gh_session.specs.Lines.{begun, lines, IsMarked, ArePlain}
-use Rattle.gh_session.specs.Parts.{IsBefore, IsFirstPart}
+use Rattle.gh_session.specs.Parts.{IsFirstPart}
 use Rattle.gh_session.specs.declared.lines.Part.{Part}
 
 at_feed : (c : ℕ) (cs : List ℕ) → c ≡ 10 → lines (c ∷ cs) ≡ (c ∷ []) ∷ lines cs

@@ -1,49 +1,20 @@
 -- What a session knows after some conditions.
-use Rattle.std.specs.Prelude.{◌≡◌, ◌⊎◌, ℕ, zero, suc, ◌+◌, ◌-◌, ◌<◌, ◌≤◌, List, [], ◌∷◌, ◌++◌, length, map, take, drop, slice_get, Option, Some, None, Bool, true, false, cond, IfNone, Contains}
+use Rattle.std.specs.Prelude.{◌≡◌, ℕ, suc, ◌+◌, ◌≤◌, List, [], ◌∷◌, ◌++◌, length, take, slice_get, Option, Some, Bool, true, false, cond, Contains}
 use Rattle.std.proofs.Common.{refl, sym, ◌∙◌, ap, subst, inl, inr, arith}
 use Rattle.std.proofs.lemmas.List.{map-append, take_all, append_assoc, append-nil, length-append}
 use Rattle.std.proofs.lemmas.List.Elements.{Contains-append_left, Contains-append_cases}
-use Rattle.std.proofs.lemmas.Option.{slice_get_within, get_or_from_slice_get}
 use Rattle.gh_ast.specs.Plain.{Program}
 use Rattle.gh_ast.proofs.Lists.{no_member, only_member}
 use Rattle.gh_path.specs.Answers.{IsNumbered}
-use Rattle.gh_path.specs.Conditions.{Condition, conditions, IsCondition}
+use Rattle.gh_path.specs.Conditions.{Condition, conditions}
 use Rattle.gh_path.specs.declared.condition.Condition as kept
-use Rattle.gh_path.proofs.Listed.{all_are_listed}
-use Rattle.gh_trace.specs.Kept.{drawn_of, IsOfProgram, IsOne, HasNoCounterexample, HasCounterexample}
+use Rattle.gh_trace.specs.Kept.{HasNoCounterexample}
 use Rattle.gh_trace.specs.Validity.{IsConditionValid, ListedAreValid}
 use Rattle.gh_trace.specs.declared.state.Trace.{Trace}
+use Rattle.gh_trace.proofs.FirstRefuted.{taken_more, next_one}
 use Rattle.gh_session.specs.Essences.{Essence}
 use Rattle.gh_session.specs.Known.{Known, known, essences, Adds, Learns}
-use Rattle.gh_session.specs.Decided.{IsFirst, IsEssence, AreEssences, AreNew, none, is_known, is_new, Grows, AreDecided}
-
-placed : (P : Program) (k : ℕ) (c : Condition) → slice_get (conditions P) k ≡ Some c → IsCondition P c
-placed P k c at = (all_are_listed P c).0 (k, slice_get_within (conditions P) k c at, get_or_from_slice_get (conditions P) k c c at)
-
-taken_more : (cs : List Condition) (n : ℕ) (c : Condition) → slice_get cs n ≡ Some c → take (suc n) cs ≡ take n cs ++ c ∷ []
-taken_more [] n c there = absurd cc
-taken_more (d ∷ ds) zero c there = ap (λ e. e ∷ []) cc
-taken_more (d ∷ ds) (suc n) c there = ap (λ t. d ∷ t) (taken_more ds n c there)
-
-taken_length : (cs : List Condition) (n : ℕ) (c : Condition) → slice_get cs n ≡ Some c → length (take n cs) ≡ n
-taken_length [] n c there = absurd cc
-taken_length (d ∷ ds) zero c there = refl
-taken_length (d ∷ ds) (suc n) c there = ap suc (taken_length ds n c there)
-
-parted : (cs : List Condition) (n : ℕ) (c : Condition) → slice_get cs n ≡ Some c → cs ≡ take n cs ++ c ∷ drop (suc n) cs
-parted [] n c there = absurd cc
-parted (d ∷ ds) zero c there = ap (λ e. e ∷ ds) cc
-parted (d ∷ ds) (suc n) c there = ap (λ t. d ∷ t) (parted ds n c there)
-
--- the condition of the next number
-next_one : (P : Program) (k : ℕ) (r : kept.Condition) → IsNumbered P (k + 1) (Some r) → (c : Condition) × (slice_get (conditions P) k ≡ Some c) × IsOfProgram P r c
-next_one P k r (c, low, there, stands) =
-    let place : k ≡ k + 1 - 1 = omega arith in
-    let at : slice_get (conditions P) k ≡ Some c = ap (slice_get (conditions P)) place ∙ there in
-    (c, at, record { stands = stands; there = placed P k c at })
-
-pub is_one : (P : Program) (k : ℕ) (r : kept.Condition) → IsNumbered P (k + 1) (Some r) → IsOne P r
-is_one P k r found = let c = next_one P k r found in (c.0, c.2)
+use Rattle.gh_session.specs.Decided.{IsEssence, AreEssences, AreNew, none, is_known, is_new, Grows, AreDecided}
 
 taken : (P : Program) (k : ℕ) (c : Condition) → slice_get (conditions P) k ≡ Some c → take (k + 1) (conditions P) ≡ take k (conditions P) ++ c ∷ []
 taken P k c at =
@@ -121,20 +92,6 @@ decided_more P k r answer new_one old mid new n found learns passes before =
         | inr last ↦ subst (IsConditionValid P) (sym (only_member one.0 d last)) (passes one.0 one.2)
       ];
       grows = grown_one P k r answer new_one old mid new n found learns before;
-    }
-
--- the next condition is refuted
-pub first_refuted : (P : Program) (k : ℕ) (r : kept.Condition) (t : Trace) (old mid : List Known) (n : ℕ) → IsNumbered P (k + 1) (Some r) → HasCounterexample P r (drawn_of t) → AreDecided P k old n mid → IsFirst P (k + 1) t
-first_refuted P k r t old mid n found against before =
-    let one = next_one P k r found in
-    record {
-      before = take k (conditions P);
-      condition = one.0;
-      after = drop (suc k) (conditions P);
-      whole = parted (conditions P) k one.0 one.1;
-      number_is = ap (λ m. m + 1) (sym (taken_length (conditions P) k one.0 one.1));
-      valid = before.valid;
-      refutes = against one.0 one.2;
     }
 
 -- all conditions are valid

@@ -1,23 +1,22 @@
 -- What a session learns of one condition.
-use Rattle.std.specs.Prelude.{◌≡◌, ◌⊎◌, ℕ, zero, suc, ◌<◌, List, [], ◌∷◌, ◌++◌, length, map, slice_get, get_or, Option, Some, None, Vec, IfSome, IfNone, MatchOption, Contains, ⊤}
+use Rattle.std.specs.Prelude.{◌≡◌, ◌⊎◌, ℕ, zero, suc, List, [], ◌∷◌, ◌++◌, length, slice_get, Option, Some, None, Vec, IfSome, IfNone, MatchOption, Contains}
 use Rattle.std.specs.Option.{option_map}
 use Rattle.std.specs.Global.{Global}
 use Rattle.std.specs.HashMap as hash
-use Rattle.std.proofs.Common.{refl, sym, ◌∙◌, ap, subst, inl, inr, arith}
+use Rattle.std.proofs.Common.{refl, sym, ◌∙◌, ap, subst, inl, inr}
 use Rattle.std.proofs.lemmas.List.{map-append}
 use Rattle.std.proofs.lemmas.List.Elements.{Contains-append_cases}
 use Rattle.gh_ast.specs.Plain.{Program}
 use Rattle.gh_ast.proofs.Lists.{member_first, member_later, member_cases, no_member, only_member}
 use Rattle.gh_path.specs.declared.condition.Condition as kept_condition
 use Rattle.gh_trace.specs.Kept.{drawn_of, HasNoCounterexample, HasCounterexample}
-use Rattle.gh_trace.specs.Replay.{Drawn}
 use Rattle.gh_trace.specs.declared.state.Trace.{Trace}
 use Rattle.gh_session.specs.Essences.{Essence}
 use Rattle.gh_session.specs.Meaning.{RefutesEssence, IsValid}
 use Rattle.gh_session.specs.Laws.{HasEssence}
 use Rattle.gh_session.specs.Fingerprint.{fingerprint}
 use Rattle.gh_session.specs.Views.{essence_view}
-use Rattle.gh_session.specs.Known.{Known, known, essences, IsRight, AreRight}
+use Rattle.gh_session.specs.Known.{known, essences, IsRight}
 use Rattle.gh_session.specs.Places.{known_of, knowledge, filed, IsFiled}
 use Rattle.gh_session.specs.declared.kept.Kept.{Kept}
 use Rattle.gh_session.proofs.Alike.{essences_answer}

@@ -1,14 +1,14 @@
 -- Pieces that are read one after the other.
-use Rattle.std.specs.Prelude.{◌≡◌, ◌⊎◌, ℕ, ◌+◌, ◌-◌, ◌<◌, ◌≤◌, List, [], ◌∷◌, ◌++◌, length, take, drop, Bool}
-use Rattle.std.proofs.Common.{refl, sym, ◌∙◌, ap, subst, inl, inr, arith}
+use Rattle.std.specs.Prelude.{◌≡◌, ℕ, ◌+◌, ◌-◌, ◌<◌, ◌≤◌, List, [], ◌∷◌, ◌++◌, length, take, drop, Bool}
+use Rattle.std.proofs.Common.{refl, sym, ◌∙◌, ap, subst, arith}
 use Rattle.std.proofs.lemmas.List.{append_assoc, append-nil, length-append, length-drop}
 use Rattle.gh_ast.specs.Programs.{Name}
 use Rattle.gh_session.specs.declared.edits.Edit.{Edit}
 use Rattle.gh_session.specs.declared.edits.Edits.{Edits}
 use Rattle.gh_session.specs.declared.lines.Part.{Part}
 use Rattle.gh_session.specs.declared.error.SessionError.TheVariants.{Line, TooMany}
-use Rattle.gh_session.specs.Lines.{lines, IsSeparator, IsMarked, ArePlain, IsPiece, ArePieces, AreSessionLines, IsSession, Stops, IsFirstBad}
-use Rattle.gh_session.specs.Parts.{IsBefore, IsFirstPart, IsReadBefore}
+use Rattle.gh_session.specs.Lines.{lines, IsSeparator, IsPiece, ArePieces, AreSessionLines, IsSession, Stops, IsFirstBad}
+use Rattle.gh_session.specs.Parts.{IsFirstPart, IsReadBefore}
 
 pieces_more : (es : List Edit) (ls : List (List ℕ)) (e : Edit) (own : List (List ℕ)) → ArePieces es ls → IsPiece e own → ArePieces (es ++ e ∷ []) (ls ++ own)
 pieces_more [] ls e own none piece = (own, [], ap (λ xs. xs ++ own) none ∙ sym (append-nil own), piece, refl)

@@ -1,5 +1,5 @@
 -- A piece that is put in its place.
-use Rattle.std.specs.Prelude.{◌≡◌, ℕ, zero, suc, ◌+◌, List, [], ◌∷◌, ◌++◌, map, set, take, Option, Some, None, cond, Bool, true, false}
+use Rattle.std.specs.Prelude.{◌≡◌, ℕ, suc, ◌+◌, List, [], ◌∷◌, ◌++◌, map, set, take, Some, None, cond, Bool, true, false}
 use Rattle.std.specs.List.{concat, position, position_from}
 use Rattle.std.specs.Str.{bytes_eq}
 use Rattle.std.proofs.Common.{Bor, refl, sym, ◌∙◌, ap, arith}

@@ -1,14 +1,11 @@
 -- A condition has one essence.
-use Rattle.std.specs.Prelude.{◌≡◌, ◌≢◌, ℕ, zero, suc, ◌<◌, List, [], ◌∷◌, ◌++◌, map, take, length, flat_map, get_or, slice_get, option_map, Option, Some, None, Bool, true, false, not, Contains}
+use Rattle.std.specs.Prelude.{◌≡◌, ℕ, zero, suc, ◌<◌, List, [], ◌∷◌, ◌++◌, map, take, flat_map, get_or, slice_get, option_map, Some, Bool, true, false, not, Contains}
 use Rattle.std.proofs.Common.{refl, sym, ◌∙◌, ap, subst, inl, inr, arith}
 use Rattle.std.proofs.lemmas.Bool.{cases_order}
 use Rattle.std.proofs.lemmas.Option.{slice_get-map, slice_get_within, get_or_from_slice_get}
-use Rattle.std.proofs.lemmas.List.{length-map}
 use Rattle.gh_base.specs.declared.place.Span.{Span}
-use Rattle.gh_ast.specs.declared.Occ.{Occ}
-use Rattle.gh_ast.specs.declared.Expr.{Expr}
 use Rattle.gh_ast.specs.Plain.{Procedure, Program}
-use Rattle.gh_ast.specs.Programs.{Name, name_of, names, results_of, variable_names}
+use Rattle.gh_ast.specs.Programs.{Name, names, variable_names}
 use Rattle.gh_ast.specs.Bare.{bare_expr}
 use Rattle.gh_ast.specs.Rules.{IsTyped, RepeatedAt, duplicate_name}
 use Rattle.gh_ast.proofs.Lists.{member_first, member_later}
@@ -27,7 +24,7 @@ use Rattle.gh_trace.specs.Kept.{IsOfProgram}
 use Rattle.gh_session.specs.Numbering.{listed, place}
 use Rattle.gh_session.specs.Essences as essences
 use Rattle.gh_session.specs.Essences.{Step, Start, Check, Essence, contract_of, round_of, no_contract, no_round, callees_in, callees_at, loops_from, loops_in, loops_at, procedures_of, rounds_of, start_in, step_in, check_in, essence}
-use Rattle.gh_session.specs.Laws.{HasEssence, HasDifferentLoops, HaveOneEssence}
+use Rattle.gh_session.specs.Laws.{HasEssence, HaveOneEssence}
 
 -- one number
 

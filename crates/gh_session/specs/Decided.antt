@@ -1,12 +1,11 @@
 -- What is decided of the conditions of a program, and which of it is new.
-use Rattle.std.specs.Prelude.{◌≡◌, ℕ, ◌+◌, List, [], ◌∷◌, ◌++◌, length, take, map, Option, Some, None, Contains}
+use Rattle.std.specs.Prelude.{◌≡◌, ℕ, List, [], ◌∷◌, ◌++◌, length, take, Option, Some, None, Contains}
 use Rattle.gh_ast.specs.Plain.{Program}
 use Rattle.gh_path.specs.Conditions.{Condition, conditions}
 use Rattle.gh_path.specs.declared.condition.Condition as kept
-use Rattle.gh_trace.specs.Kept.{IsOfProgram, drawn_of}
-use Rattle.gh_trace.specs.Replay.{Refutes}
+use Rattle.gh_trace.specs.Kept.{IsOfProgram}
+use Rattle.gh_trace.specs.Refuted.{IsFirst}
 use Rattle.gh_trace.specs.Validity.{IsConditionValid, ListedAreValid}
-use Rattle.gh_trace.specs.declared.state.Trace.{Trace}
 use Rattle.gh_session.specs.declared.kept.Kept.{Kept}
 use Rattle.gh_session.specs.declared.session.Refutation.{Refutation}
 use Rattle.gh_session.specs.declared.session.SessionOutcome.{SessionOutcome}
@@ -14,16 +13,6 @@ use Rattle.gh_session.specs.Essences.{Essence}
 use Rattle.gh_session.specs.Laws.{HasEssence}
 use Rattle.gh_session.specs.Known.{Known, essences}
 use Rattle.gh_session.specs.Places.{knowledge}
-
--- the condition of the number is the first that isn't valid, and the trace is a counterexample
-pub record IsFirst (P : Program) (number : ℕ) (trace : Trace) : Type 0 where
-  pub before : List Condition
-  pub condition : Condition
-  pub after : List Condition
-  pub whole : conditions P ≡ before ++ condition ∷ after
-  pub number_is : number ≡ length before + 1
-  pub valid : (d : Condition) → Contains before d → IsConditionValid P d
-  pub refutes : Refutes P condition (drawn_of trace)
 
 -- no refutation: all conditions are valid
 abbrev pub IsOutcome : Program → Option Refutation → Type 0

@@ -1,5 +1,5 @@
 -- What a session knows of essences.
-use Rattle.std.specs.Prelude.{◌≡◌, ◌++◌, [], ◌∷◌, List, map, Bool, true, false, Option, MatchOption, All, Contains}
+use Rattle.std.specs.Prelude.{◌≡◌, ◌++◌, [], ◌∷◌, List, map, Bool, true, false, Option, MatchOption, Contains}
 use Rattle.std.specs.Option.{option_map}
 use Rattle.gh_ast.specs.Plain.{Program}
 use Rattle.gh_path.specs.declared.condition.Condition as kept

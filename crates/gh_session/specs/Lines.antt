@@ -1,5 +1,5 @@
 -- Session files: a head, then pieces of whole lines, each after its separator.
-use Rattle.std.specs.Prelude.{◌≡◌, ◌⊎◌, ℕ, ◌+◌, ◌≤◌, ◌==◌, List, [], ◌∷◌, ◌++◌, length, cond, Bool, true, false, Contains}
+use Rattle.std.specs.Prelude.{◌≡◌, ◌⊎◌, ℕ, ◌+◌, ◌≤◌, ◌==◌, List, [], ◌∷◌, ◌++◌, length, cond, Bool, Contains}
 use Rattle.std.specs.List.{concat}
 use Rattle.gh_ast.specs.Programs.{Name}
 use Rattle.gh_base.specs.Names.{IsNameText}

@@ -208,7 +208,7 @@ impl Session {
         conditions: &Conditions,
         decider: &mut D,
     ) -> Result<SessionOutcome, AllocError>
-        requires same { conditions.now ≡ typed.now }
+        requires same { program_of conditions.now ≡ program_of typed.now }
         requires admitted { IsAdmitted (program_of typed.now) }
         ensures outcome { IfOk result (λ o. IsOutcome (program_of typed.now) o.refuted) }
         ensures decided { IfOk result (λ o. Tells (program_of typed.now) self.old o self.new) }
@@ -217,12 +217,14 @@ impl Session {
         ensures never_falls { D.calls decider.old ≤ D.calls decider.new }
     {
         let mut decided = 0;
+        let mut walk = conditions.walk(alloc);
         for place in 0..conditions.count() {
             let number = place + 1;
-            let Some(condition) = conditions.condition(alloc, number)? else {
+            let more = walk.advance()?;
+            if !more {
                 unreachable!();
-            };
-            let Lesson { answer, is_new } = self.learn(alloc, typed, &condition, decider)?;
+            }
+            let Lesson { answer, is_new } = self.learn(alloc, typed, walk.condition(), decider)?;
             decided += one_if(is_new);
             if let Some(trace) = answer {
                 return Ok(SessionOutcome {

@@ -44,7 +44,7 @@ begins_first m n vs (p ∷ ps) (b ∷ bs) x xs e = refl
 -- what is lowest shows what is least
 shows_least : (P : Program) (c : Condition) (cells : ℕ) (o : Option Section) → IsTyped P → IsCondition P c → IsProblem (problem (symbolic_of P c)) → IsLowest (problem (symbolic_of P c)) cells o → IsLeast P c cells
 shows_least P c cells None typed is known e = λ x ys against. omega (arith, e)
-shows_least P c cells (Some s) typed is known h = sections_show P c s.lines.items cells typed is known (omega (arith, h.0)) h.1.valid
+shows_least P c cells (Some s) typed is known h = sections_show P c s.lines cells typed is known (omega (arith, h.0)) h.1.valid
 
 module _ (P : Program) (r : kept.Condition) (p : Problem) (f : Fewest) (t : Trace) (typed : IsTyped P) (ground : IsGroundOf P r p) (known : IsProblem p) (is : IsFewest p f)
     (drawn : (c : Condition) → IsOfProgram P r c → drawn_of t ≡ drawn_over (variable_names c.procedure) (built_trace P c (interpretation_of f.structure))) where

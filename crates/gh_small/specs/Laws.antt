@@ -10,7 +10,7 @@ use Rattle.gh_path.specs.Conditions.{Condition, IsCondition}
 use Rattle.gh_grass.specs.Truth.{IsOneBefore}
 use Rattle.gh_symb.specs.Symbolic.{symbolic_of}
 use Rattle.gh_symb.specs.Formulas.{problem}
-use Rattle.gh_log.specs.declared.lines.LogLine.{LogLine}
+use Rattle.gh_log.specs.Lines.{LogLine}
 use Rattle.gh_log.specs.Sections.{IsValidSection}
 use Rattle.gh_trace.specs.Traces.{State}
 use Rattle.gh_model.specs.TraceLaws.{IsCounterexample}

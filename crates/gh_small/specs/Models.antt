@@ -31,7 +31,7 @@ first_heap s = heap_in (interpretation_of s) s.sizes.terms 0
 
 -- the section, of version 2, is valid for the clauses that say "fewer than so many cells"
 pub record IsLower (p : Problem) (cells : ℕ) (s : Section) : Type 0 where
-  pub valid : IsValidSection (bounded_by p cells) s.lines.items
+  pub valid : IsValidSection (bounded_by p cells) s.lines
   pub placed : IsPlaced s
 
 -- there is a section exactly where there is a cell

@@ -10,7 +10,7 @@ use Rattle.gh_inst.specs.declared.naming.InstanceName.{InstanceName}
 use Rattle.gh_inst.specs.Instances.{instances, clause_of}
 use Rattle.gh_base.specs.declared.term.TermKind.{TermKind}
 use Rattle.gh_symb.specs.declared.over_terms.Symbolic.{Symbolic}
-use Rattle.gh_symb.specs.Told.{plain_kind}
+use Rattle.gh_symb.specs.Encodings.{plain_kind}
 use Rattle.gh_symb.specs.Formulas.{problem}
 use Rattle.gh_reduce.specs.Inside.{plain_of}
 use Rattle.gh_smt.specs.Scripts.{instance_count, assertion_count, script_of}

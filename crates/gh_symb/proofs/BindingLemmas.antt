@@ -1,4 +1,4 @@
--- Bindings that are told entry by entry.
+-- Bindings that are encoded entry by entry.
 use Rattle.std.specs.Prelude.{◌≡◌, ◌≢◌, ℕ, ◌+◌, ◌<◌, List, [], ◌∷◌, map, length, take, get_or, Option, Some, None, true, false}
 use Rattle.std.specs.Option.{option_map}
 use Rattle.std.specs.Str.{bytes_eq}
@@ -13,8 +13,8 @@ use Rattle.gh_grass.specs.declared.binding.Bond.{Bond}
 use Rattle.gh_grass.specs.Bindings.{IsBound}
 use Rattle.gh_grass.proofs.Bonds.{same_name}
 use Rattle.gh_symb.specs.Symbolic.{under, either_term}
-use Rattle.gh_symb.specs.Told.{IsUnder}
-use Rattle.gh_symb.specs.Phases.{value_in, learned, bound_unless, told, both}
+use Rattle.gh_symb.specs.Encodings.{IsUnder}
+use Rattle.gh_symb.specs.Phases.{value_in, learned, bound_unless, under_bindings, both}
 use Rattle.gh_symb.specs.Tables.{Bound as Table, bound_by, pair_of}
 use Rattle.gh_symb.specs.declared.over_terms.Bound.{Bound}
 use Rattle.gh_symb.specs.declared.scope.Entry.{Entry}
@@ -65,9 +65,9 @@ learned_more es i e within is before old new initial one all x =
     at_other None other = rw other refl
 
 -- an assertion under the bindings of its walk
-pub is_under : (f : Formula) (b : Bound) (s t : Terms) → t ≡ walked f s → t.version ≡ s.version → IsUnder b (told f t.bindings t.version) → IsUnder b (under f s)
+pub is_under : (f : Formula) (b : Bound) (s t : Terms) → t ≡ walked f s → t.version ≡ s.version → IsUnder b (under_bindings f t.bindings t.version) → IsUnder b (under f s)
 is_under f b s t e v is =
-    subst (λ (q : Terms). IsUnder b (told f q.bindings s.version)) e (subst (λ i. IsUnder b (told f t.bindings i)) v is)
+    subst (λ (q : Terms). IsUnder b (under_bindings f q.bindings s.version)) e (subst (λ i. IsUnder b (under_bindings f t.bindings i)) v is)
 
 pub states_both : (F : Bindings) (ss : List Table) → map (λ es. both (bound_by es) F) ss ≡ map (λ b. both b F) (map bound_by ss)
 states_both F [] = refl

@@ -1,22 +1,22 @@
--- What is told of a condition, step by step.
+-- A condition is encoded step by step.
 use Rattle.std.specs.Prelude.{◌≡◌, ◌⊎◌, ℕ, ◌+◌, ◌<◌, ◌≤◌, List, [], ◌∷◌, ◌++◌, length, map, filter, Option, Some, None}
 use Rattle.std.proofs.Common.{refl, sym, ◌∙◌, ap, subst, arith, inl, inr}
 use Rattle.std.proofs.lemmas.List.{append_assoc, append-nil}
 use Rattle.gh_ast.specs.Plain.{Procedure, Program}
 use Rattle.gh_ast.specs.Programs.{Name, variable_names}
-use Rattle.gh_path.specs.Admitted.{most_terms}
+use Rattle.gh_path.specs.Admitted.{most_terms, most_versions}
 use Rattle.gh_path.specs.Graphs.{PathStep, accessed, assume, assigned, made, written, freed, called, looped, answered, Check}
 use Rattle.gh_path.specs.Kept.{AreSteps}
 use Rattle.gh_path.specs.Conditions.{Condition}
 use Rattle.gh_path.specs.declared.condition.PathStep as kept_step
-use Rattle.gh_path.specs.Terms.{Kind, Bindings, Terms, moved_on, renewed, some_assigns, step_walked, steps_walked, check_walked, condition_walked, terms_of, no_terms}
+use Rattle.gh_path.specs.Terms.{Kind, Bindings, Terms, moved_on, renewed, some_assigns, step_walked, steps_walked, check_walked, condition_walked, terms_of, versions_of, no_terms}
 use Rattle.gh_grass.specs.declared.binding.Bond.{Bond}
 use Rattle.gh_symb.specs.Symbolic as plain
 use Rattle.gh_symb.specs.Symbolic.{under, term_step, term_steps, term_check, step_used, check_used, used_first, first_use, either_term, state_bindings}
-use Rattle.gh_symb.specs.Told.{Each, IsBinding, IsUnder, IsTermStep, IsTermCheck, IsSymbolic, plain_kind}
-use Rattle.gh_symb.specs.Phases.{told, step_done, step_says, IsUsed, learned, both}
+use Rattle.gh_symb.specs.Encodings.{Each, IsBinding, IsUnder, IsTermStep, IsTermCheck, IsSymbolic, plain_kind}
+use Rattle.gh_symb.specs.Phases.{under_bindings, step_done, step_encoding, IsUsed, learned, both}
 use Rattle.gh_symb.specs.Steps.{EndsWith}
-use Rattle.gh_symb.specs.Saying.{IsFinished, IsSaid}
+use Rattle.gh_symb.specs.StepEncodings.{IsFinished, IsStepEncoding}
 use Rattle.gh_symb.specs.Following.{met, known, begins, first_uses, Follows, Followed}
 use Rattle.gh_symb.specs.Limits.{PassesNone}
 use Rattle.gh_symb.specs.declared.over_terms.TermStep.{TermStep}
@@ -41,18 +41,18 @@ done_walked P xs (called ys f es) s = refl
 done_walked P xs (looped l) s = refl
 done_walked P xs (answered ys es) s = refl
 
-says_step : (P : Program) (xs : List Name) (p : PathStep) (s t : Terms) → t ≡ step_used p s → t.version ≡ s.version → step_says P xs p t ≡ term_step P xs p s
-says_step P xs (accessed o) s t e v = ap (step_says P xs (accessed o)) e
-says_step P xs (assume l i r way) s t e v = ap (step_says P xs (assume l i r way)) e
-says_step P xs (assigned x i) s t e v = refl
-says_step P xs (made x) s t e v = ap (step_says P xs (made x)) e
-says_step P xs (written x i) s t e v = ap (step_says P xs (written x i)) e
-says_step P xs (freed x) s t e v = ap (step_says P xs (freed x)) e
-says_step P xs (called ys f es) s t e v = ap (step_says P xs (called ys f es)) e
-says_step P xs (looped l) s t e v =
-    ap (λ i. plain.parts (told l.invariant t.bindings i) (under l.invariant (renewed (filter (some_assigns l.body) xs) (moved_on t)) ∷ [])) v
-    ∙ ap (λ (q : Terms). plain.parts (told l.invariant q.bindings s.version) (under l.invariant (renewed (filter (some_assigns l.body) xs) (moved_on q)) ∷ [])) e
-says_step P xs (answered ys es) s t e v = refl
+encoding_is : (P : Program) (xs : List Name) (p : PathStep) (s t : Terms) → t ≡ step_used p s → t.version ≡ s.version → step_encoding P xs p t ≡ term_step P xs p s
+encoding_is P xs (accessed o) s t e v = ap (step_encoding P xs (accessed o)) e
+encoding_is P xs (assume l i r way) s t e v = ap (step_encoding P xs (assume l i r way)) e
+encoding_is P xs (assigned x i) s t e v = refl
+encoding_is P xs (made x) s t e v = ap (step_encoding P xs (made x)) e
+encoding_is P xs (written x i) s t e v = ap (step_encoding P xs (written x i)) e
+encoding_is P xs (freed x) s t e v = ap (step_encoding P xs (freed x)) e
+encoding_is P xs (called ys f es) s t e v = ap (step_encoding P xs (called ys f es)) e
+encoding_is P xs (looped l) s t e v =
+    ap (λ i. plain.parts (under_bindings l.invariant t.bindings i) (under l.invariant (renewed (filter (some_assigns l.body) xs) (moved_on t)) ∷ [])) v
+    ∙ ap (λ (q : Terms). plain.parts (under_bindings l.invariant q.bindings s.version) (under l.invariant (renewed (filter (some_assigns l.body) xs) (moved_on q)) ∷ [])) e
+encoding_is P xs (answered ys es) s t e v = refl
 
 -- what is known after a step is what was known before: `a` before it, `b` once it has used its variables, `c` after it
 turn : (a b c f later : Option ℕ) → (c ≡ None → b ≡ None) → (b ≡ None → a ≡ None) → (a ≡ None → f ≡ None) → known c (learned a b f) later ≡ known a f (used_first b c later)
@@ -77,9 +77,9 @@ begun P p kept c s firsts are same none = record {
   steps = c.way.steps;
   are_left = are;
   lead = ap (steps_walked P (variable_names p) c.way.steps) same;
-  plain_said = [];
-  are_said = tt;
-  say = ap (term_steps P (variable_names p) c.way.steps) same;
+  plain_steps = [];
+  are_encodings = tt;
+  all_steps = ap (term_steps P (variable_names p) c.way.steps) same;
   meet = ap (met P (variable_names p) c.way.steps) same;
   lack = λ x lacks. none x;
   first = λ x.
@@ -87,23 +87,23 @@ begun P p kept c s firsts are same none = record {
       ∙ ap (λ (q : Terms). known (q.bindings x) None (first_use P (variable_names p) c.way.steps c.way.check q x)) same;
 }
 
-pub gone_on : (P : Program) (p : Procedure) (r : kept_step.PathStep) (rs : List kept_step.PathStep) (c : Condition) (s t u : Terms) (firsts learns : Bindings) (states : List Bindings) (said : List TermStep) (one : TermStep) →
-    Follows P p (r ∷ rs) c s firsts states said → IsUsed P p r s t → t.version ≡ s.version → IsFinished P p r t u → IsSaid P p r t one → ((x : Name) → learns x ≡ learned (s.bindings x) (t.bindings x) (firsts x)) →
-    Follows P p rs c u learns (states ++ s.bindings ∷ []) (said ++ one ∷ [])
-gone_on P p r rs c s t u firsts learns states said one left uses version does tells learn = by_steps left.steps left.are_left left.lead left.say left.meet left.first
+pub gone_on : (P : Program) (p : Procedure) (r : kept_step.PathStep) (rs : List kept_step.PathStep) (c : Condition) (s t u : Terms) (firsts learns : Bindings) (states : List Bindings) (encoded : List TermStep) (one : TermStep) →
+    Follows P p (r ∷ rs) c s firsts states encoded → IsUsed P p r s t → t.version ≡ s.version → IsFinished P p r t u → IsStepEncoding P p r t one → ((x : Name) → learns x ≡ learned (s.bindings x) (t.bindings x) (firsts x)) →
+    Follows P p rs c u learns (states ++ s.bindings ∷ []) (encoded ++ one ∷ [])
+gone_on P p r rs c s t u firsts learns states encoded one left uses version does encodes learn = by_steps left.steps left.are_left left.lead left.all_steps left.meet left.first
   where
     by_steps : (steps : List PathStep) → AreSteps P p (r ∷ rs) steps →
         steps_walked P (variable_names p) steps s ≡ steps_walked P (variable_names p) c.way.steps (begins c) →
-        left.plain_said ++ term_steps P (variable_names p) steps s ≡ term_steps P (variable_names p) c.way.steps (begins c) →
+        left.plain_steps ++ term_steps P (variable_names p) steps s ≡ term_steps P (variable_names p) c.way.steps (begins c) →
         states ++ met P (variable_names p) steps s ≡ met P (variable_names p) c.way.steps (begins c) →
         ((x : Name) → known (s.bindings x) (firsts x) (first_use P (variable_names p) steps c.way.check s x) ≡ first_uses P (variable_names p) c x) →
-        Follows P p rs c u learns (states ++ s.bindings ∷ []) (said ++ one ∷ [])
-    by_steps [] none lead say meet first = absurd none
-    by_steps (step ∷ steps) are lead say meet first =
+        Follows P p rs c u learns (states ++ s.bindings ∷ []) (encoded ++ one ∷ [])
+    by_steps [] none lead all_steps meet first = absurd none
+    by_steps (step ∷ steps) are lead all_steps meet first =
         let xs = variable_names p in
         let used : t ≡ step_used step s = uses step are.0 in
         let walks : u ≡ step_walked P xs step s = does step are.0 ∙ ap (step_done P xs step) used ∙ done_walked P xs step s in
-        let says : step_says P xs step t ≡ term_step P xs step s = says_step P xs step s t used version in
+        let same_step : step_encoding P xs step t ≡ term_step P xs step s = encoding_is P xs step s t used version in
         let after : (x : Name) → u.bindings x ≡ None → t.bindings x ≡ None =
         λ x none. ap (λ (q : Terms). q.bindings x) used ∙ step_lacks P xs step s x (ap (λ (q : Terms). q.bindings x) (sym walks) ∙ none) in
         let before : (x : Name) → t.bindings x ≡ None → s.bindings x ≡ None =
@@ -112,10 +112,10 @@ gone_on P p r rs c s t u firsts learns states said one left uses version does te
           steps = steps;
           are_left = are.1;
           lead = ap (steps_walked P xs steps) walks ∙ lead;
-          plain_said = left.plain_said ++ term_step P xs step s ∷ [];
-          are_said = each_more IsTermStep said left.plain_said one (term_step P xs step s) left.are_said (subst (IsTermStep one) says (tells step are.0));
-          say = append_assoc left.plain_said (term_step P xs step s ∷ []) (term_steps P xs steps u)
-              ∙ ap (λ q. left.plain_said ++ term_step P xs step s ∷ term_steps P xs steps q) walks ∙ say;
+          plain_steps = left.plain_steps ++ term_step P xs step s ∷ [];
+          are_encodings = each_more IsTermStep encoded left.plain_steps one (term_step P xs step s) left.are_encodings (subst (IsTermStep one) same_step (encodes step are.0));
+          all_steps = append_assoc left.plain_steps (term_step P xs step s ∷ []) (term_steps P xs steps u)
+              ∙ ap (λ q. left.plain_steps ++ term_step P xs step s ∷ term_steps P xs steps q) walks ∙ all_steps;
           meet = append_assoc states (s.bindings ∷ []) (met P xs steps u) ∙ ap (λ q. states ++ s.bindings ∷ met P xs steps q) walks ∙ meet;
           lack = λ x none.
               let mid = after x none in
@@ -129,21 +129,21 @@ gone_on P p r rs c s t u firsts learns states said one left uses version does te
         }
 
 -- where no step is left, the check's uses are learned
-pub ended : (P : Program) (p : Procedure) (c : Condition) (s : Terms) (b firsts learns : Bindings) (states : List Bindings) (said : List TermStep) →
-    Follows P p [] c s firsts states said → b ≡ (check_used c.way.check s).bindings → ((x : Name) → learns x ≡ learned (s.bindings x) (b x) (firsts x)) →
-    Followed P p c s learns (states ++ s.bindings ∷ []) said
-ended P p c s b firsts learns states said left used learn = by_steps left.steps left.are_left left.lead left.say left.meet left.first
+pub ended : (P : Program) (p : Procedure) (c : Condition) (s : Terms) (b firsts learns : Bindings) (states : List Bindings) (encoded : List TermStep) →
+    Follows P p [] c s firsts states encoded → b ≡ (check_used c.way.check s).bindings → ((x : Name) → learns x ≡ learned (s.bindings x) (b x) (firsts x)) →
+    Followed P p c s learns (states ++ s.bindings ∷ []) encoded
+ended P p c s b firsts learns states encoded left used learn = by_steps left.steps left.are_left left.lead left.all_steps left.meet left.first
   where
     by_steps : (steps : List PathStep) → AreSteps P p [] steps →
         steps_walked P (variable_names p) steps s ≡ steps_walked P (variable_names p) c.way.steps (begins c) →
-        left.plain_said ++ term_steps P (variable_names p) steps s ≡ term_steps P (variable_names p) c.way.steps (begins c) →
+        left.plain_steps ++ term_steps P (variable_names p) steps s ≡ term_steps P (variable_names p) c.way.steps (begins c) →
         states ++ met P (variable_names p) steps s ≡ met P (variable_names p) c.way.steps (begins c) →
         ((x : Name) → known (s.bindings x) (firsts x) (first_use P (variable_names p) steps c.way.check s x) ≡ first_uses P (variable_names p) c x) →
-        Followed P p c s learns (states ++ s.bindings ∷ []) said
-    by_steps (step ∷ steps) none lead say meet first = absurd none
-    by_steps [] are lead say meet first = record {
+        Followed P p c s learns (states ++ s.bindings ∷ []) encoded
+    by_steps (step ∷ steps) none lead all_steps meet first = absurd none
+    by_steps [] are lead all_steps meet first = record {
       last = lead;
-      are_said = subst (Each IsTermStep said) (sym (append-nil left.plain_said) ∙ say) left.are_said;
+      are_encodings = subst (Each IsTermStep encoded) (sym (append-nil left.plain_steps) ∙ all_steps) left.are_encodings;
       meet = meet;
       first = λ x.
           learn x ∙ last_turn (s.bindings x) (b x) (firsts x) (left.lack x)
@@ -158,14 +158,14 @@ same_either None u v same = sym (same refl)
 passed : (a b later : Option ℕ) → a ≡ None → b ≡ None → later ≡ used_first a b later
 passed a b later one two = rw (one, two) refl
 
-all_told : (P : Program) (xs : List Name) (k : Check) (ps : List PathStep) (s : Terms) (firsts : Bindings) (bs : List (List Bond)) →
+all_encoded : (P : Program) (xs : List Name) (k : Check) (ps : List PathStep) (s : Terms) (firsts : Bindings) (bs : List (List Bond)) →
     ((x : Name) → s.bindings x ≡ None → first_use P xs ps k s x ≡ firsts x) → Each IsBinding bs (map (λ b. both b firsts) (met P xs ps s)) → Each IsBinding bs (state_bindings P xs ps k s)
-all_told P xs k [] s firsts [] same all = absurd all
-all_told P xs k [] s firsts (b ∷ bs) same all =
+all_encoded P xs k [] s firsts [] same all = absurd all
+all_encoded P xs k [] s firsts (b ∷ bs) same all =
     (λ x. all.0 x ∙ same_either (s.bindings x) (first_use P xs [] k s x) (firsts x) (same x), all.1)
-all_told P xs k (p ∷ ps) s firsts [] same all = absurd all
-all_told P xs k (p ∷ ps) s firsts (b ∷ bs) same all =
-    (λ x. all.0 x ∙ same_either (s.bindings x) (first_use P xs (p ∷ ps) k s x) (firsts x) (same x), all_told P xs k ps (step_walked P xs p s) firsts bs later all.1)
+all_encoded P xs k (p ∷ ps) s firsts [] same all = absurd all
+all_encoded P xs k (p ∷ ps) s firsts (b ∷ bs) same all =
+    (λ x. all.0 x ∙ same_either (s.bindings x) (first_use P xs (p ∷ ps) k s x) (firsts x) (same x), all_encoded P xs k ps (step_walked P xs p s) firsts bs later all.1)
   where
     later : (x : Name) → (step_walked P xs p s).bindings x ≡ None → first_use P xs ps k (step_walked P xs p s) x ≡ firsts x
     later x none =
@@ -173,20 +173,20 @@ all_told P xs k (p ∷ ps) s firsts (b ∷ bs) same all =
         passed ((step_used p s).bindings x) ((step_walked P xs p s).bindings x) (first_use P xs ps k (step_walked P xs p s) x) mid none ∙ same x (use_lacks p s x mid)
 
 -- the bindings at the states, once the first uses are known
-pub bindings_told : (P : Program) (xs : List Name) (c : Condition) (firsts : Bindings) (bs : List (List Bond)) →
+pub bindings_encoded : (P : Program) (xs : List Name) (c : Condition) (firsts : Bindings) (bs : List (List Bond)) →
     ((x : Name) → firsts x ≡ first_uses P xs c x) → Each IsBinding bs (map (λ b. both b firsts) (met P xs c.way.steps (begins c))) →
     Each IsBinding bs (state_bindings P xs c.way.steps c.way.check (begins c))
-bindings_told P xs c firsts bs first all = all_told P xs c.way.check c.way.steps (begins c) firsts bs at_start all
+bindings_encoded P xs c firsts bs first all = all_encoded P xs c.way.check c.way.steps (begins c) firsts bs at_start all
   where
     at_start : (x : Name) → (begins c).bindings x ≡ None → first_use P xs c.way.steps c.way.check (begins c) x ≡ firsts x
     at_start x none = sym (first x ∙ ap (λ o. known o None (first_use P xs c.way.steps c.way.check (begins c) x)) none)
 
-pub gone_on_to : (P : Program) (p : Procedure) (r : kept_step.PathStep) (rs : List kept_step.PathStep) (c : Condition) (s t u : Terms) (firsts learns : Bindings) (states after : List Bindings) (said later : List TermStep) (one : TermStep) →
-    Follows P p (r ∷ rs) c s firsts states said → IsUsed P p r s t → t.version ≡ s.version → IsFinished P p r t u → IsSaid P p r t one → ((x : Name) → learns x ≡ learned (s.bindings x) (t.bindings x) (firsts x)) →
-    after ≡ states ++ s.bindings ∷ [] → later ≡ said ++ one ∷ [] → Follows P p rs c u learns after later
-gone_on_to P p r rs c s t u firsts learns states after said later one left uses version does tells learn a l =
+pub gone_on_to : (P : Program) (p : Procedure) (r : kept_step.PathStep) (rs : List kept_step.PathStep) (c : Condition) (s t u : Terms) (firsts learns : Bindings) (states after : List Bindings) (encoded later : List TermStep) (one : TermStep) →
+    Follows P p (r ∷ rs) c s firsts states encoded → IsUsed P p r s t → t.version ≡ s.version → IsFinished P p r t u → IsStepEncoding P p r t one → ((x : Name) → learns x ≡ learned (s.bindings x) (t.bindings x) (firsts x)) →
+    after ≡ states ++ s.bindings ∷ [] → later ≡ encoded ++ one ∷ [] → Follows P p rs c u learns after later
+gone_on_to P p r rs c s t u firsts learns states after encoded later one left uses version does encodes learn a l =
     subst (λ ss. Follows P p rs c u learns ss later) (sym a)
-    (subst (λ ts. Follows P p rs c u learns (states ++ s.bindings ∷ []) ts) (sym l) (gone_on P p r rs c s t u firsts learns states said one left uses version does tells learn))
+    (subst (λ ts. Follows P p rs c u learns (states ++ s.bindings ∷ []) ts) (sym l) (gone_on P p r rs c s t u firsts learns states encoded one left uses version does encodes learn))
 
 -- all that is kept is that of the condition
 pub is_symbolic : (P : Program) (p : Procedure) (c : Condition) (s : Terms) (firsts : Bindings) (states : List Bindings) (kinds : List Kind) (version : ℕ) (r : Symbolic) → p ≡ c.procedure →
@@ -199,23 +199,25 @@ is_symbolic P p c s firsts states kinds version r same followed ends asks terms 
       terms = terms ∙ whole.kinds_are;
       versions = versions ∙ ap (λ v. v + 1) whole.version_is;
       start = start;
-      steps = f.are_said;
+      steps = f.are_encodings;
       check = subst (λ q. IsTermCheck r.check (term_check P c.way.check q)) f.last asks;
-      bindings = bindings_told P (variable_names c.procedure) c firsts r.bindings.items f.first
+      bindings = bindings_encoded P (variable_names c.procedure) c firsts r.bindings.items f.first
           (subst (λ ms. Each IsBinding r.bindings.items (map (λ b. both b firsts) ms)) f.meet bindings);
     }
 
 over_or : (m n : ℕ) → (m < n) ⊎ (n ≤ m)
 over_or m n = grind arith
 
--- a condition that passes no limit has few terms
-pub few_kinds : (P : Program) (p : Procedure) (c : Condition) (s : Terms) (firsts : Bindings) (states : List Bindings) (said : List TermStep) (kinds : List Kind) (version : ℕ) → p ≡ c.procedure →
-    Followed P p c s firsts states said → EndsWith (check_walked P c.way.check s) kinds version → PassesNone P c → length kinds ≤ most_terms
-few_kinds P p c s firsts states said kinds version same followed ends passes =
-    let f : Followed P c.procedure c s firsts states said = subst (λ q. Followed P q c s firsts states said) same followed in
+-- a condition that passes no limit has few terms and versions
+pub few_numbers : (P : Program) (p : Procedure) (c : Condition) (s : Terms) (firsts : Bindings) (states : List Bindings) (encoded : List TermStep) (kinds : List Kind) (version : ℕ) → p ≡ c.procedure →
+    Followed P p c s firsts states encoded → EndsWith (check_walked P c.way.check s) kinds version → PassesNone P c → (length kinds ≤ most_terms) × (version + 1 ≤ most_versions)
+few_numbers P p c s firsts states encoded kinds version same followed ends passes =
+    let f : Followed P c.procedure c s firsts states encoded = subst (λ q. Followed P q c s firsts states encoded) same followed in
     let whole : EndsWith (condition_walked P c) kinds version = subst (λ q. EndsWith (check_walked P c.way.check q) kinds version) f.last ends in
-    let is : length kinds ≡ length (terms_of P c) = ap length whole.kinds_are in
-    elim (over_or most_terms (length (terms_of P c))) [
-      | inl many ↦ absurd (passes.terms many)
-      | inr few ↦ omega (arith, is, few)
-    ]
+    let terms : length kinds ≡ length (terms_of P c) = ap length whole.kinds_are in
+    let versions : version + 1 ≡ versions_of P c = ap (λ v. v + 1) whole.version_is in
+    let few_terms : length kinds ≤ most_terms =
+    elim (over_or most_terms (length (terms_of P c))) [ inl many ↦ absurd (passes.terms many) | inr few ↦ omega (arith, terms, few) ] in
+    let few_versions : version + 1 ≤ most_versions =
+    elim (over_or most_versions (versions_of P c)) [ inl many ↦ absurd (passes.versions many) | inr few ↦ omega (arith, versions, few) ] in
+    (few_terms, few_versions)

@@ -9,5 +9,5 @@ pub mod AdmitLemmas
 pub mod LackLemmas
 pub mod FollowLemmas
 pub mod BindingLemmas
-pub mod SayLemmas
+pub mod EncodingLemmas
 pub mod KindLemmas

@@ -1,5 +1,5 @@
 -- Tests and look-ups over lists that are seen by another form, and entries that are added last.
-use Rattle.std.specs.Prelude.{◌≡◌, ◌≢◌, ℕ, zero, ◌+◌, ◌<◌, List, [], ◌∷◌, ◌++◌, map, length, take, set, Bool, true, false, Some, None, cond, position, ◌||◌}
+use Rattle.std.specs.Prelude.{◌≡◌, ℕ, zero, ◌+◌, ◌<◌, List, [], ◌∷◌, ◌++◌, map, length, take, set, Bool, false, Some, None, cond, position, unwrap_or, ◌||◌}
 use Rattle.std.specs.List.{list_any, position_or_len}
 use Rattle.std.proofs.Common.{refl, sym, ◌∙◌, ap, arith, inl, inr, drop, get_or}
 use Rattle.std.specs.Prelude.{slice_get, ◌≤◌, suc}
@@ -38,6 +38,12 @@ bound_more es x t = from_more unbound es x t
 
 pub bound_push : (es : List Entry) (e : Entry) → bound_by (map pair_of (es ++ e ∷ [])) ≡ bound (bound_by (map pair_of es)) e.name.now e.term
 bound_push es e = ap bound_by (map-append pair_of es (e ∷ [])) ∙ bound_more (map pair_of es) e.name.now e.term
+
+-- a name's term, once it is bound
+pub bound_term : (old new : Bindings) (x : Name) (t : ℕ) → new ≡ bound old x t → t ≡ unwrap_or (new x) 0
+bound_term old new x t is =
+    let here : bound old x t x ≡ Some t = rw (same_name x x refl) refl in
+    sym (ap (λ (b : Bindings). unwrap_or (b x) 0) is ∙ ap (λ o. unwrap_or o 0) here)
 
 -- what is bound to a name shows at no other, whatever is bound before
 others_from : (b c : Bindings) (es : List Entry) (y : Name) → b y ≡ c y → bound_from b (map pair_of es) y ≡ bound_from c (map pair_of es) y

@@ -1,4 +1,4 @@
--- How far a condition over terms is told when its walk has come to some terms.
+-- How far a condition over terms is encoded when its walk has come to some terms.
 use Rattle.std.specs.Prelude.{◌≡◌, ℕ, List, [], ◌∷◌, ◌++◌, Option, Some, None}
 use Rattle.gh_ast.specs.Plain.{Procedure, Program}
 use Rattle.gh_ast.specs.Programs.{Name, variable_names}
@@ -9,7 +9,7 @@ use Rattle.gh_path.specs.declared.condition.PathStep as kept_step
 use Rattle.gh_path.specs.Terms.{Bindings, Terms, walked, step_walked, steps_walked, no_terms}
 use Rattle.gh_symb.specs.Symbolic as plain
 use Rattle.gh_symb.specs.Symbolic.{term_steps, first_use}
-use Rattle.gh_symb.specs.Told.{Each, IsTermStep}
+use Rattle.gh_symb.specs.Encodings.{Each, IsTermStep}
 use Rattle.gh_symb.specs.declared.over_terms.TermStep.{TermStep}
 
 -- the bindings that a walk has at the states
@@ -30,21 +30,21 @@ begins c = walked c.start.meets no_terms
 abbrev pub first_uses : Program → List Name → Condition → Bindings
 first_uses P xs c x = known ((begins c).bindings x) None (first_use P xs c.way.steps c.way.check (begins c) x)
 
--- steps are left; what was met and said before them, and what was learned of first uses
-pub record Follows (P : Program) (p : Procedure) (kept : List kept_step.PathStep) (c : Condition) (s : Terms) (firsts : Bindings) (states : List Bindings) (said : List TermStep) : Type 0 where
+-- steps are left; what was met and encoded before them, and what was learned of first uses
+pub record Follows (P : Program) (p : Procedure) (kept : List kept_step.PathStep) (c : Condition) (s : Terms) (firsts : Bindings) (states : List Bindings) (encoded : List TermStep) : Type 0 where
   pub steps : List PathStep
   pub are_left : AreSteps P p kept steps
   pub lead : steps_walked P (variable_names p) steps s ≡ steps_walked P (variable_names p) c.way.steps (begins c)
-  pub plain_said : List plain.TermStep
-  pub are_said : Each IsTermStep said plain_said
-  pub say : plain_said ++ term_steps P (variable_names p) steps s ≡ term_steps P (variable_names p) c.way.steps (begins c)
+  pub plain_steps : List plain.TermStep
+  pub are_encodings : Each IsTermStep encoded plain_steps
+  pub all_steps : plain_steps ++ term_steps P (variable_names p) steps s ≡ term_steps P (variable_names p) c.way.steps (begins c)
   pub meet : states ++ met P (variable_names p) steps s ≡ met P (variable_names p) c.way.steps (begins c)
   pub lack : (x : Name) → s.bindings x ≡ None → firsts x ≡ None
   pub first : (x : Name) → known (s.bindings x) (firsts x) (first_use P (variable_names p) steps c.way.check s x) ≡ first_uses P (variable_names p) c x
 
 -- nothing is left
-pub record Followed (P : Program) (p : Procedure) (c : Condition) (s : Terms) (firsts : Bindings) (states : List Bindings) (said : List TermStep) : Type 0 where
+pub record Followed (P : Program) (p : Procedure) (c : Condition) (s : Terms) (firsts : Bindings) (states : List Bindings) (encoded : List TermStep) : Type 0 where
   pub last : s ≡ steps_walked P (variable_names p) c.way.steps (begins c)
-  pub are_said : Each IsTermStep said (term_steps P (variable_names p) c.way.steps (begins c))
+  pub are_encodings : Each IsTermStep encoded (term_steps P (variable_names p) c.way.steps (begins c))
   pub meet : states ≡ met P (variable_names p) c.way.steps (begins c)
   pub first : (x : Name) → firsts x ≡ first_uses P (variable_names p) c x

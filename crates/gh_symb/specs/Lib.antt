@@ -3,11 +3,12 @@ pub mod Rounds
 pub mod Steps
 pub mod Remaining
 pub mod Limits
+pub mod Numbers
 pub mod Examples
 pub mod Met
 pub mod Symbolic
-pub mod Told
+pub mod Encodings
 pub mod Formulas
 pub mod Phases
 pub mod Following
-pub mod Saying
+pub mod StepEncodings

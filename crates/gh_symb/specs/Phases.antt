@@ -15,12 +15,12 @@ use Rattle.gh_path.specs.declared.condition.CheckKind as kept_kind
 use Rattle.gh_path.specs.Terms.{Bindings, bound, all_bound, Terms, terms, with_value, term_of, followed, expr_term, exprs_terms, walked, moved_on, rebound, renewed, some_assigns, callee_in, call_walked}
 use Rattle.gh_symb.specs.Symbolic as plain
 use Rattle.gh_symb.specs.Symbolic.{under, call_parts, step_used, check_used, either_term}
-use Rattle.gh_symb.specs.Told.{IsUnder}
+use Rattle.gh_symb.specs.Encodings.{IsUnder}
 use Rattle.gh_symb.specs.declared.over_terms.Bound.{Bound}
 
 -- an assertion under bindings
-abbrev pub told : Formula → Bindings → ℕ → plain.Under
-told f b i = record { assertion = f; binding = b; version = i }
+abbrev pub under_bindings : Formula → Bindings → ℕ → plain.Under
+under_bindings f b i = record { assertion = f; binding = b; version = i }
 
 -- the terms after a step whose variables are used
 abbrev pub step_done : Program → List Name → path.PathStep → Terms → Terms
@@ -34,18 +34,18 @@ step_done P xs (path.called ys f es) t = call_walked (callee_in P.procedures f.n
 step_done P xs (path.looped l) t = walked l.invariant (renewed (filter (some_assigns l.body) xs) (moved_on t))
 step_done P xs (path.answered ys es) t = rebound t (all_bound t.bindings ys (exprs_terms es t))
 
--- what a step says, once its variables are used
-abbrev pub step_says : Program → List Name → path.PathStep → Terms → plain.TermStep
-step_says P xs (path.accessed o) t = plain.accessed (term_of o.name t)
-step_says P xs (path.assume l e r way) t = plain.assumed (expr_term l t) (cond way e (not e)) (expr_term r t)
-step_says P xs (path.assigned x e) t = plain.same
-step_says P xs (path.made x) t = plain.made (length t.kinds) (length t.kinds + 1)
-step_says P xs (path.written x e) t = plain.written (term_of x.name t) (expr_term e t)
-step_says P xs (path.freed x) t = plain.freed (term_of x.name t)
-step_says P xs (path.called ys f es) t = call_parts (callee_in P.procedures f.name) (exprs_terms es t) t
-step_says P xs (path.looped l) t =
-    plain.parts (told l.invariant t.bindings t.version) (under l.invariant (renewed (filter (some_assigns l.body) xs) (moved_on t)) ∷ [])
-step_says P xs (path.answered ys es) t = plain.same
+-- a step over terms, once its variables are used
+abbrev pub step_encoding : Program → List Name → path.PathStep → Terms → plain.TermStep
+step_encoding P xs (path.accessed o) t = plain.accessed (term_of o.name t)
+step_encoding P xs (path.assume l e r way) t = plain.assumed (expr_term l t) (cond way e (not e)) (expr_term r t)
+step_encoding P xs (path.assigned x e) t = plain.same
+step_encoding P xs (path.made x) t = plain.made (length t.kinds) (length t.kinds + 1)
+step_encoding P xs (path.written x e) t = plain.written (term_of x.name t) (expr_term e t)
+step_encoding P xs (path.freed x) t = plain.freed (term_of x.name t)
+step_encoding P xs (path.called ys f es) t = call_parts (callee_in P.procedures f.name) (exprs_terms es t) t
+step_encoding P xs (path.looped l) t =
+    plain.parts (under_bindings l.invariant t.bindings t.version) (under l.invariant (renewed (filter (some_assigns l.body) xs) (moved_on t)) ∷ [])
+step_encoding P xs (path.answered ys es) t = plain.same
 
 -- the variables of a kept step are used
 abbrev pub IsUsed : Program → Procedure → kept_step.PathStep → Terms → Terms → Type 0

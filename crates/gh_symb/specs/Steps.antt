@@ -5,16 +5,33 @@ use Rattle.gh_ast.specs.Plain.{Procedure, Program}
 use Rattle.gh_ast.specs.Programs.{Name, variable_names}
 use Rattle.gh_path.specs.Admitted.{most_terms}
 use Rattle.gh_path.specs.Graphs.{Check, PathStep, Start}
-use Rattle.gh_path.specs.Kept.{IsStep, IsKind, IsStart}
+use Rattle.gh_path.specs.Kept.{IsStep, IsKind, IsStart, StandsFor}
 use Rattle.gh_path.specs.Conditions.{Condition}
+use Rattle.gh_path.specs.declared.condition.Condition as kept_condition
 use Rattle.gh_path.specs.declared.condition.PathStep as kept_step
 use Rattle.gh_path.specs.declared.condition.Start as kept_start
 use Rattle.gh_path.specs.declared.condition.CheckKind as kept_kind
 use Rattle.gh_path.specs.declared.condition.PathStep.TheVariants as step
 use Rattle.gh_base.specs.declared.place.Span.{Span}
-use Rattle.gh_path.specs.Terms.{Kind, Terms, exprs_used, exprs_terms, answered_inside, rebound, bound_inside, step_walked, check_walked, walked, terms_of, versions_of}
+use Rattle.gh_path.specs.Terms.{Kind, Terms, terms, with_value, bound, all_bound, expr_used, expr_term, exprs_used, exprs_terms, answered_inside, rebound, bound_inside, step_walked, check_walked, walked, terms_of, versions_of}
 use Rattle.gh_symb.specs.declared.count.Counted.{Counted}
 use Rattle.gh_symb.specs.declared.count.Counted.TheVariants.{Within, ManyTerms}
+
+-- what holds of each condition that a kept one stands for
+abbrev pub HoldsFor : Program → kept_condition.Condition → (Program → Condition → Type 0) → Type 0
+HoldsFor P r Q = (c : Condition) → StandsFor P r c → Q P c
+
+-- a variable gets the term of an expression
+abbrev pub assigned_to : Name → Expr → Terms → Terms
+assigned_to x e s = let t = expr_used e s in rebound t (bound t.bindings x (expr_term e t))
+
+-- variables get the terms of expressions, all at once
+abbrev pub all_assigned : List Name → List Expr → Terms → Terms
+all_assigned xs es s = let t = exprs_used es s in rebound t (all_bound t.bindings xs (exprs_terms es t))
+
+-- a variable gets the place of a new cell, whose content is a new value too
+abbrev pub cell_made : Name → Terms → Terms
+cell_made x s = terms (with_value (with_value s.kinds)) (bound s.bindings x (length s.kinds)) s.version
 
 -- a call of a procedure, once its arguments are used
 abbrev pub call_made : Procedure → List Name → List Expr → Terms → Terms

@@ -1,4 +1,4 @@
--- A condition over terms: what its start, its steps and its check say of terms, and the terms of the variables at each state.
+-- A condition over terms: its start, its steps and its check over terms, and the terms of the variables at each state.
 use Rattle.std.specs.Prelude.{ℕ, ◌+◌, List, [], ◌∷◌, length, filter, Bool, not, cond, Option, Some, None}
 use Rattle.gh_ast.specs.Plain.{Formula, Procedure, Program}
 use Rattle.gh_ast.specs.Programs.{Name, results_of, variable_names}
@@ -44,7 +44,7 @@ call_parts (Some p) ts s =
     let inside = rebound s (bound_inside p ts) in
     parts (under p.needs inside) (each_under p.gives (renewed (results_of p) (moved_on (walked p.needs inside))))
 
--- what a step says, from the terms before it
+-- a step over terms, from the terms before it
 abbrev pub term_step : Program → List Name → path.PathStep → Terms → TermStep
 term_step P xs (path.accessed o) s = accessed (term_of o.name (used o.name s))
 term_step P xs (path.assume l e r way) s = let t = expr_used r (expr_used l s) in assumed (expr_term l t) (cond way e (not e)) (expr_term r t)

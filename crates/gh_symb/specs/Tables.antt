@@ -1,7 +1,7 @@
 -- Terms and what is bound to them, as lists.
-use Rattle.std.specs.Prelude.{◌≡◌, ◌≢◌, ℕ, ◌+◌, ◌<◌, ◌≤◌, List, [], ◌∷◌, length, slice_index_or}
+use Rattle.std.specs.Prelude.{◌≡◌, ◌≢◌, ℕ, ◌+◌, ◌<◌, ◌≤◌, List, [], ◌∷◌, length, slice_index_or, count_by, Contains, AllPairs}
 use Rattle.gh_ast.specs.Programs.{Name}
-use Rattle.gh_path.specs.Terms.{Kind, null, value, next, Bindings, unbound, bound, Terms, terms}
+use Rattle.gh_path.specs.Terms.{Kind, null, value, next, is_value, Bindings, unbound, bound, Terms, terms}
 use Rattle.gh_symb.specs.declared.scope.Entry.{Entry}
 use Rattle.gh_symb.specs.declared.kinds.Kind as kept
 use Rattle.gh_symb.specs.declared.kinds.Kind.TheVariants.{Null, Value, Next}
@@ -14,6 +14,18 @@ kind_of (Next i x) = next i x
 pub record BeginsWithNull (ks : List Kind) : Type 0 where
   pub rest : List Kind
   pub is : ks ≡ null ∷ rest
+
+-- null comes first, values are numbered in their order, and no kind stands twice
+pub record AreListed (ks : List Kind) : Type 0 where
+  pub first : BeginsWithNull ks
+  pub numbered : (n : ℕ) → Contains ks (value n) → n < count_by is_value ks
+  pub apart : AllPairs (λ (j k : Kind). j ≢ k) ks
+
+-- its number has 16 bits
+abbrev pub IsShort : kept.Kind → Type 0
+IsShort Null = Unit {0}
+IsShort (Value n) = n < 65536
+IsShort (Next i x) = Unit {0}
 
 -- names with terms, in the order in which they were bound
 abbrev pub Bound : Type 0
@@ -42,3 +54,7 @@ pub record IsLastAt (es : List Entry) (name : Name) (i : ℕ) : Type 0 where
 
 abbrev pub state : List Kind → Bound → ℕ → Terms
 state ks es i = terms ks (bound_by es) i
+
+-- a walk in version i: it leads from the terms before it to f of them
+abbrev pub Walks : (Terms → Terms) → List Kind → Bound → List Kind → Bound → ℕ → Type 0
+Walks f ks es ls fs i = state ls fs i ≡ f (state ks es i)

@@ -1,15 +1,18 @@
 //! Whether the conditions of a program keep the limits on terms and versions.
 
-ghost use Rattle.std.specs.Prelude.{◌≡◌, OnOk, IfErr};
+ghost use Rattle.std.specs.Prelude.{◌≡◌, ◌∷◌, ◌++◌, [], IfOk, OnOk, IfErr};
 ghost use Rattle.gh_ast.specs.Plain.{program_of};
 ghost use Rattle.gh_path.specs.Admitted.{HasManyTerms, HasManyVersions, NoneHas};
 ghost use Rattle.gh_symb.specs.Limits.{IsAdmitRefusal};
 ghost use Rattle.gh_symb.specs.Met.{IsOfTerms, earlier};
+ghost use Rattle.gh_symb.specs.Numbers.{counts_of};
 
-use crate::limits::{SymbolicError, passed_limit};
+use crate::count::Count;
+use crate::counted::counted;
+use crate::limits::{SymbolicError, limit_of};
 use gh_ast::typed::{Limit, Typed};
 use gh_path::conditions::Conditions;
-use std::alloc::Global;
+use std::alloc::{AllocError, Global};
 
 /// The limit, if it is one on terms.
 fn of_terms(passed: Option<Limit>) -> Option<Limit>
@@ -36,29 +39,58 @@ fn earlier(first: Option<Limit>, second: Option<Limit>) -> Option<Limit>
     }
 }
 
-/// Admits a program whose conditions all keep the limits on terms and versions. Terms are judged
-/// over the whole program before versions, and the first procedure is named.
-pub fn admit(alloc: Global, typed: &Typed, conditions: &Conditions<'_>) -> Result<(), SymbolicError>
-    requires { conditions.now ≡ typed.now }
+/// Adds the counts of a condition.
+fn add(counts: &mut Vec<Count>, count: Count) -> Result<(), AllocError>
+    ensures { OnOk result (counts.new.items ≡ counts.old.items ++ count ∷ []) }
+{
+    counts.push(count)?;
+    Ok(())
+}
+
+/// Admits a program as [`admit`] does, and gives how many terms and versions each of its conditions
+/// has, in order.
+pub fn admit_counted(
+    alloc: Global,
+    typed: &Typed,
+    conditions: &Conditions<'_>,
+) -> Result<Vec<Count>, SymbolicError>
+    requires { program_of conditions.now ≡ program_of typed.now }
+    ensures counts { IfOk result (λ v. v.items ≡ counts_of (program_of typed.now)) }
     ensures terms { OnOk result (NoneHas (program_of typed.now) (HasManyTerms (program_of typed.now))) }
     ensures versions { OnOk result (NoneHas (program_of typed.now) (HasManyVersions (program_of typed.now))) }
     ensures refused { IfErr result (IsAdmitRefusal (program_of typed.now)) }
 {
     let mut late = None;
+    let mut counts = Vec::new(alloc);
     let mut walk = conditions.walk(alloc);
     for place in 0..conditions.count() {
-        let Some(item) = walk.next() else {
+        let more = walk.advance()?;
+        if !more {
             unreachable!();
-        };
-        let condition = item?;
-        let passed = passed_limit(alloc, typed, &condition)?;
+        }
+        let condition = walk.condition();
+        let found = counted(alloc, typed, condition)?;
+        let passed = limit_of(typed, condition, found);
         if let Some(limit) = of_terms(passed) {
             return Err(SymbolicError::Limit(limit));
         }
         late = earlier(late, passed);
+        add(&mut counts, found.count())?;
     }
     match late {
         Some(limit) => Err(SymbolicError::Limit(limit)),
-        None => Ok(()),
+        None => Ok(counts),
     }
+}
+
+/// Admits a program whose conditions all keep the limits on terms and versions. Terms are judged
+/// over the whole program before versions, and the first procedure is named.
+pub fn admit(alloc: Global, typed: &Typed, conditions: &Conditions<'_>) -> Result<(), SymbolicError>
+    requires { program_of conditions.now ≡ program_of typed.now }
+    ensures terms { OnOk result (NoneHas (program_of typed.now) (HasManyTerms (program_of typed.now))) }
+    ensures versions { OnOk result (NoneHas (program_of typed.now) (HasManyVersions (program_of typed.now))) }
+    ensures refused { IfErr result (IsAdmitRefusal (program_of typed.now)) }
+{
+    admit_counted(alloc, typed, conditions)?;
+    Ok(())
 }

@@ -1,4 +1,4 @@
-//! What a start and a check say of terms.
+//! The start and the check over terms, made from kept ones.
 
 ghost use Rattle.std.specs.Prelude.{◌≡◌, [], ◌∷◌, Some, IfOk};
 ghost use Rattle.gh_ast.specs.Plain.{formula_of, procedure_of, program_of};
@@ -7,11 +7,11 @@ ghost use Rattle.gh_path.specs.Graphs.{Start as PlainStart};
 ghost use Rattle.gh_path.specs.Kept.{IsStart};
 ghost use Rattle.gh_path.specs.Terms.{exprs_used};
 ghost use Rattle.gh_symb.specs.Phases.{IsBegun, IsCheckUsed};
-ghost use Rattle.gh_symb.specs.Saying.{IsAsking, needs_asked};
+ghost use Rattle.gh_symb.specs.StepEncodings.{IsAsking, needs_asked};
 ghost use Rattle.gh_symb.specs.Steps.{EndsWith, IsChecked, entry_made};
 ghost use Rattle.gh_symb.specs.Symbolic.{Under, whole};
 ghost use Rattle.gh_symb.specs.Tables.{bound_by, state};
-ghost use Rattle.gh_symb.specs.Told.{IsUnder, IsTermCheck};
+ghost use Rattle.gh_symb.specs.Encodings.{IsUnder, IsTermCheck};
 
 use crate::kinds::Kinds;
 use crate::numbers::term_of;
@@ -53,7 +53,8 @@ impl<'a> Scope<'a> {
         procedure: &'a Procedure,
         start: Start,
     ) -> Result<Bound<'a>, AllocError>
-        ensures { IfOk result (λ b. IsBegun (procedure_of procedure.now) start (state kinds.old self.old 0) (state kinds.new self.new 0) b) }
+        ensures { IfOk result (λ b. IsBegun (procedure_of procedure.now) start (state kinds.old self.old 0)
+            (state kinds.new self.new 0) b) }
     {
         let assertion = start_of(procedure, start);
         let bound = self.walk_bound(alloc, kinds, assertion, 0)?;
@@ -73,7 +74,7 @@ impl<'a> Scope<'a> {
             bound_by self.new ≡ (exprs_used arguments.now (state kinds.old self.old version)).bindings) }
         ensures ended { IfOk result (λ asked. let s = state kinds.old self.old version in
             EndsWith (entry_made (procedure_of callee.now) arguments.now s) kinds.new version) }
-        ensures says { IfOk result (λ asked. let s = state kinds.old self.old version in
+        ensures encodes { IfOk result (λ asked. let s = state kinds.old self.old version in
             IsTermCheck asked (needs_asked (procedure_of callee.now) arguments.now s)) }
     {
         self.use_exprs(kinds, arguments, version)?;
@@ -98,7 +99,7 @@ impl<'a> Scope<'a> {
             IsCheckUsed (program_of program.now) (procedure_of procedure.now) check.now at s (bound_by self.new)) }
         ensures ended { IfOk result (λ asked. (at : Span) → let s = state kinds.old self.old version in
             IsChecked (program_of program.now) (procedure_of procedure.now) check.now at s kinds.new version) }
-        ensures says { IfOk result (λ asked. (at : Span) → let s = state kinds.old self.old version in
+        ensures encodes { IfOk result (λ asked. (at : Span) → let s = state kinds.old self.old version in
             IsAsking (program_of program.now) (procedure_of procedure.now) check.now at s asked) }
     {
         match check {

@@ -1,4 +1,4 @@
-//! What names are bound to, as it is told.
+//! What names are bound to, as it is encoded.
 
 ghost use Rattle.std.specs.Prelude.{◌≡◌, IfOk, OnOk, map};
 ghost use Rattle.std.specs.Option.{option_map};
@@ -7,9 +7,9 @@ ghost use Rattle.gh_ast.specs.Programs.{Name as Word};
 ghost use Rattle.gh_grass.specs.Bindings.{term_in};
 ghost use Rattle.gh_path.specs.Terms.{walked, each_walked};
 ghost use Rattle.gh_symb.specs.Symbolic.{either_term, under, each_under};
-ghost use Rattle.gh_symb.specs.Phases.{learned, told, value_in, both};
-ghost use Rattle.gh_symb.specs.Tables.{bound_by, state};
-ghost use Rattle.gh_symb.specs.Told.{Each, IsBinding, IsUnder};
+ghost use Rattle.gh_symb.specs.Phases.{learned, under_bindings, value_in, both};
+ghost use Rattle.gh_symb.specs.Tables.{bound_by, state, Walks};
+ghost use Rattle.gh_symb.specs.Encodings.{Each, IsBinding, IsUnder};
 
 use crate::kinds::Kinds;
 use crate::numbers::{short, term_of};
@@ -46,7 +46,7 @@ impl<'a> Scope<'a> {
         assertion: &'a Assertion,
         version: usize,
     ) -> Result<Bound<'a>, AllocError>
-        ensures { IfOk result (λ b. IsUnder b (told (formula_of assertion.now) (bound_by self.now) version)) }
+        ensures { IfOk result (λ b. IsUnder b (under_bindings (formula_of assertion.now) (bound_by self.now) version)) }
     {
         let binding = self.binding(alloc)?;
         let version = short(version)?;
@@ -66,8 +66,8 @@ impl<'a> Scope<'a> {
         version: usize,
     ) -> Result<Bound<'a>, AllocError>
         ensures made { IfOk result (λ b.
-            state kinds.new self.new version ≡ walked (formula_of assertion.now) (state kinds.old self.old version)) }
-        ensures says { IfOk result (λ b.
+            Walks (walked (formula_of assertion.now)) kinds.old self.old kinds.new self.new version) }
+        ensures encodes { IfOk result (λ b.
             IsUnder b (under (formula_of assertion.now) (state kinds.old self.old version))) }
     {
         self.walk(kinds, assertion, version)?;
@@ -83,9 +83,9 @@ impl<'a> Scope<'a> {
         alternatives: &'a [Assertion],
         version: usize,
     ) -> Result<Vec<Bound<'a>>, AllocError>
-        ensures made { IfOk result (λ bs. state kinds.new self.new version
-            ≡ each_walked (map formula_of alternatives.now) (state kinds.old self.old version)) }
-        ensures say { IfOk result (λ bs. let s = state kinds.old self.old version in
+        ensures made { IfOk result (λ bs.
+            Walks (each_walked (map formula_of alternatives.now)) kinds.old self.old kinds.new self.new version) }
+        ensures encode { IfOk result (λ bs. let s = state kinds.old self.old version in
             Each IsUnder bs.items (each_under (map formula_of alternatives.now) s)) }
     {
         let mut bounds = Vec::new(alloc);
@@ -97,7 +97,8 @@ impl<'a> Scope<'a> {
 
     /// Variables that had no term before and have one now are remembered with it.
     pub fn learn(&mut self, before: &Scope<'a>, now: &Scope<'a>) -> Result<(), AllocError>
-        ensures { OnOk result ((x : Word) → bound_by self.new x ≡ learned (bound_by before.now x) (bound_by now.now x) (bound_by self.old x)) }
+        ensures { OnOk result ((x : Word) → bound_by self.new x
+            ≡ learned (bound_by before.now x) (bound_by now.now x) (bound_by self.old x)) }
     {
         for entry in now.entries() {
             self.learn_one(before, entry)?;
@@ -112,7 +113,8 @@ pub fn all_bindings(
     states: &[Scope<'_>],
     firsts: &Scope<'_>,
 ) -> Result<Vec<Binding>, AllocError>
-    ensures { IfOk result (λ bs. Each IsBinding bs.items (map (λ es. both (bound_by es) (bound_by firsts.now)) states.now)) }
+    ensures { IfOk result (λ bs.
+        Each IsBinding bs.items (map (λ es. both (bound_by es) (bound_by firsts.now)) states.now)) }
 {
     let mut bindings = Vec::new(alloc);
     for state in states {

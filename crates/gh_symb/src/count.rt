@@ -4,6 +4,8 @@ ghost use Rattle.std.specs.Prelude.{◌≡◌, length};
 ghost use Rattle.gh_ast.specs.Plain.{Program};
 ghost use Rattle.gh_path.specs.Conditions.{Condition};
 ghost use Rattle.gh_path.specs.Terms.{terms_of, versions_of};
+ghost use Rattle.gh_symb.specs.Limits.{PassesNone};
+ghost use Rattle.gh_symb.specs.Numbers.{count_of};
 ghost use Rattle.gh_symb.specs.Steps.{IsCount};
 
 /// The most terms of a condition.
@@ -20,10 +22,43 @@ pub enum Counted {
     ManyTerms,
 }
 
+/// The number of terms and that of versions of the heap of a condition that keeps the limits.
+#[derive(Clone, Copy, Debug, PartialEq, Eq)]
+pub struct Count {
+    pub terms: u8,
+    pub versions: u8,
+}
+
 impl Counted {
+    /// The numbers where the limits are kept, else zeros.
+    pub(crate) fn count(self) -> Count
+        ensures { (P : Program) (c : Condition) → IsCount P c self →
+            PassesNone P c → result ≡ count_of P c }
+    {
+        match self {
+            Counted::Within { terms, versions } => {
+                if versions > MOST_VERSIONS {
+                    return Count {
+                        terms: 0,
+                        versions: 0,
+                    };
+                }
+                Count {
+                    terms,
+                    versions: versions as u8,
+                }
+            }
+            Counted::ManyTerms => Count {
+                terms: 0,
+                versions: 0,
+            },
+        }
+    }
+
     /// These numbers, unless there are too many terms.
     pub(crate) fn new(terms: usize, versions: usize) -> Counted
-        ensures { (P : Program) (c : Condition) → length (terms_of P c) ≡ terms → versions_of P c ≡ versions → IsCount P c result }
+        ensures { (P : Program) (c : Condition) → length (terms_of P c) ≡ terms → versions_of P c ≡ versions →
+            IsCount P c result }
     {
         if terms > MOST_TERMS {
             return Counted::ManyTerms;

@@ -4,7 +4,7 @@ ghost use Rattle.std.specs.Prelude.{◌≡◌, IfOk};
 ghost use Rattle.gh_ast.specs.Plain.{program_of};
 ghost use Rattle.gh_path.specs.Conditions as plain;
 ghost use Rattle.gh_path.specs.Kept.{StandsFor};
-ghost use Rattle.gh_symb.specs.Steps.{IsCount};
+ghost use Rattle.gh_symb.specs.Steps.{HoldsFor, IsCount};
 
 use crate::count::{Counted, MOST_TERMS};
 use crate::kinds::Kinds;
@@ -16,7 +16,7 @@ use std::alloc::{AllocError, Global};
 /// Counts the terms and versions of a condition of a program.
 pub fn counted(alloc: Global, typed: &Typed, condition: &Condition) -> Result<Counted, AllocError>
     requires { (c : plain.Condition) × StandsFor (program_of typed.now) condition.now c }
-    ensures { IfOk result (λ n. (c : plain.Condition) → StandsFor (program_of typed.now) condition.now c → IsCount (program_of typed.now) c n) }
+    ensures { IfOk result (λ n. HoldsFor (program_of typed.now) condition.now (λ P c. IsCount P c n)) }
 {
     let program = typed.program();
     let procedure = &program.procedures[condition.procedure as usize];

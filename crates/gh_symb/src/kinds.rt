@@ -4,8 +4,8 @@ ghost use Rattle.std.specs.Prelude.{◌≡◌, ◌≤◌, [], ◌∷◌, length,
 ghost use Rattle.std.specs.List.{list_any};
 ghost use Rattle.gh_path.specs.Admitted.{most_terms};
 ghost use Rattle.gh_path.specs.Terms.{null, next, is_value, same_kind, place, added, with_value};
-ghost use Rattle.gh_symb.specs.Tables.{kind_of, BeginsWithNull};
-ghost use Rattle.gh_symb.specs.Told.{plain_kind};
+ghost use Rattle.gh_symb.specs.Tables.{kind_of, AreListed, IsShort};
+ghost use Rattle.gh_symb.specs.Encodings.{plain_kind};
 
 use crate::numbers::{short, term_of};
 use gh_base::term::TermKind;
@@ -22,16 +22,16 @@ pub enum Kind {
 }
 
 impl Kind {
-    /// The same as it is told.
-    fn told(&self) -> Result<TermKind, AllocError>
+    /// The same as it is encoded.
+    fn encode(&self) -> Result<TermKind, AllocError>
+        requires { IsShort self.now }
         ensures { IfOk result (λ kind. plain_kind kind ≡ kind_of self.now) }
     {
         match self {
             Kind::Null => Ok(TermKind::Null),
-            Kind::Value { number } => match u16::try_from(*number) {
-                Ok(number) => Ok(TermKind::Value { number }),
-                Err(_) => Err(AllocError),
-            },
+            Kind::Value { number } => Ok(TermKind::Value {
+                number: *number as u16,
+            }),
             Kind::Next { version, of } => {
                 let version = short(*version)?;
                 let of = term_of(*of)?;
@@ -70,10 +70,10 @@ fn next_place(kinds: &[Kind], version: usize, of: usize) -> Option<usize>
     kinds.iter().position(|kind| kind.is_next(version, of))
 }
 
-// Kinds as they are told.
-fn told_kinds(alloc: Global, kinds: &[Kind]) -> Result<TermList, AllocError>
+// Kinds as they are encoded.
+fn encode_kinds(alloc: Global, kinds: &[Kind]) -> Result<TermList, AllocError>
     requires few { length kinds.now ≤ most_terms }
-    requires begins { BeginsWithNull (map kind_of kinds.now) }
+    requires listed { AreListed (map kind_of kinds.now) }
     ensures { IfOk result (λ terms. map plain_kind terms ≡ map kind_of kinds.now) }
 {
     let mut terms = TermList::new(alloc)?;
@@ -81,11 +81,8 @@ fn told_kinds(alloc: Global, kinds: &[Kind]) -> Result<TermList, AllocError>
         let Some(found) = kinds.get(place) else {
             return Ok(terms);
         };
-        let kind = found.told()?;
-        let term = terms.add(kind)?;
-        if term.0 as usize != place {
-            return Err(AllocError);
-        }
+        let kind = found.encode()?;
+        terms.add(kind)?;
     }
     Ok(terms)
 }
@@ -99,13 +96,13 @@ pub struct Kinds {
 impl Model for Kinds {
     ghost use Rattle.std.specs.Prelude.{List, map};
     ghost use Rattle.gh_path.specs.Terms as plain;
-    ghost use Rattle.gh_symb.specs.Tables.{kind_of, BeginsWithNull};
+    ghost use Rattle.gh_symb.specs.Tables.{kind_of, AreListed};
 
     ghost Value = { List plain.Kind };
 
     ghost view = { λ k. map kind_of k.kinds.items };
 
-    ghost invariant = { λ k. BeginsWithNull (map kind_of k.kinds.items) };
+    ghost invariant = { λ k. AreListed (map kind_of k.kinds.items) };
 }
 
 impl Kinds {
@@ -154,12 +151,12 @@ impl Kinds {
     {
         next_place(self.kinds.as_slice(), version, of).unwrap_or(self.kinds.len())
     }
-    /// The kinds as they are told.
-    pub fn told(&self, alloc: Global) -> Result<TermList, AllocError>
+    /// The kinds as they are encoded.
+    pub fn encode(&self, alloc: Global) -> Result<TermList, AllocError>
         requires { length self.now ≤ most_terms }
         ensures { IfOk result (λ terms. map plain_kind terms ≡ self.now) }
     {
-        let terms = told_kinds(alloc, self.kinds.as_slice())?;
+        let terms = encode_kinds(alloc, self.kinds.as_slice())?;
         Ok(terms)
     }
 }

@@ -5,6 +5,7 @@ ghost use Rattle.gh_ast.specs.Plain.{procedure_of, program_of};
 ghost use Rattle.gh_path.specs.Conditions as plain;
 ghost use Rattle.gh_path.specs.Kept.{StandsFor};
 ghost use Rattle.gh_symb.specs.Limits.{IsLimitOf, Passes};
+ghost use Rattle.gh_symb.specs.Steps.{HoldsFor, IsCount};
 
 use crate::count::{Counted, MOST_TERMS, MOST_VERSIONS};
 use crate::counted::counted;
@@ -45,6 +46,24 @@ fn limit_at(procedure: &Procedure, kind: u8, count: u32) -> Limit
     }
 }
 
+/// The limit that a condition of a program with these counts passes, if it passes one: kind 6 before
+/// kind 7.
+pub(crate) fn limit_of(typed: &Typed, condition: &Condition, counts: Counted) -> Option<Limit>
+    requires { (c : plain.Condition) × StandsFor (program_of typed.now) condition.now c }
+    ensures { HoldsFor (program_of typed.now) condition.now (λ P c. IsCount P c counts → Passes P c result) }
+{
+    let procedure = &typed.program().procedures[condition.procedure as usize];
+    match counts {
+        Counted::ManyTerms => Some(limit_at(procedure, 6, MOST_TERMS as u32 + 1)),
+        Counted::Within { versions, .. } => {
+            if versions > MOST_VERSIONS {
+                return Some(limit_at(procedure, 7, MOST_VERSIONS as u32 + 1));
+            }
+            None
+        }
+    }
+}
+
 /// The limit that a condition of a program passes, if it passes one: kind 6 before kind 7.
 pub fn passed_limit(
     alloc: Global,
@@ -52,16 +71,8 @@ pub fn passed_limit(
     condition: &Condition,
 ) -> Result<Option<Limit>, AllocError>
     requires { (c : plain.Condition) × StandsFor (program_of typed.now) condition.now c }
-    ensures { IfOk result (λ o. (c : plain.Condition) → StandsFor (program_of typed.now) condition.now c → Passes (program_of typed.now) c o) }
+    ensures { IfOk result (λ o. HoldsFor (program_of typed.now) condition.now (λ P c. Passes P c o)) }
 {
-    let procedure = &typed.program().procedures[condition.procedure as usize];
-    match counted(alloc, typed, condition)? {
-        Counted::ManyTerms => Ok(Some(limit_at(procedure, 6, MOST_TERMS as u32 + 1))),
-        Counted::Within { versions, .. } => {
-            if versions > MOST_VERSIONS {
-                return Ok(Some(limit_at(procedure, 7, MOST_VERSIONS as u32 + 1)));
-            }
-            Ok(None)
-        }
-    }
+    let counts = counted(alloc, typed, condition)?;
+    Ok(limit_of(typed, condition, counts))
 }

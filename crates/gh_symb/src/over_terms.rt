@@ -16,7 +16,7 @@ pub struct Bound<'a> {
     pub version: u8,
 }
 
-/// What a step says of terms. `Same` changes no heap and says nothing. A `Part` of the heap that
+/// A step over terms. `Same` changes no heap and claims nothing. A `Part` of the heap that
 /// meets `before` is replaced by one that meets one of `after`, in the next version.
 #[derive(Debug, Drop)]
 pub enum TermStep<'a> {

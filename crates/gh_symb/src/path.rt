@@ -3,9 +3,9 @@
 ghost use Rattle.std.specs.Prelude.{◌≡◌, ◌+◌, ◌<◌, ◌≤◌, ℕ, IfOk, OnOk, length};
 ghost use Rattle.gh_ast.specs.Plain.{Procedure as Whole, Program as Plain, procedure_of, program_of};
 ghost use Rattle.gh_ast.specs.Programs.{names};
-ghost use Rattle.gh_path.specs.Terms.{all_bound, bound, exprs_used, exprs_terms, expr_used, expr_term, rebound, terms, with_value};
-ghost use Rattle.gh_symb.specs.Tables.{state};
-ghost use Rattle.gh_symb.specs.Steps.{IsStepped, ChangesCell, ReplacesPart, IsStarted, IsChecked, EndsWith, entry_made};
+ghost use Rattle.gh_symb.specs.Tables.{state, Walks};
+ghost use Rattle.gh_symb.specs.Steps.{assigned_to, all_assigned, cell_made, entry_made};
+ghost use Rattle.gh_symb.specs.Steps.{IsStepped, ChangesCell, ReplacesPart, IsStarted, IsChecked, EndsWith};
 ghost use Rattle.gh_base.specs.declared.place.Span.{Span};
 
 use crate::kinds::Kinds;
@@ -25,10 +25,9 @@ impl<'a> Scope<'a> {
         value: &'a Expr,
         version: usize,
     ) -> Result<(), AllocError>
-        ensures { OnOk result (state kinds.new self.new version ≡ (let t = expr_used value.now (state kinds.old self.old version) in rebound t (bound t.bindings name.now (expr_term value.now t)))) }
+        ensures { OnOk result (Walks (assigned_to name.now value.now) kinds.old self.old kinds.new self.new version) }
     {
-        self.use_expr(kinds, value, version)?;
-        let term = self.expr_term(kinds, value, version);
+        let term = self.expr_value(kinds, value, version)?;
         self.bind(name, term)?;
         Ok(())
     }
@@ -42,7 +41,8 @@ impl<'a> Scope<'a> {
         values: &'a [Expr],
         version: usize,
     ) -> Result<(), AllocError>
-        ensures { OnOk result (state kinds.new self.new version ≡ (let t = exprs_used values.now (state kinds.old self.old version) in rebound t (all_bound t.bindings (names occs.now) (exprs_terms values.now t)))) }
+        ensures { OnOk result (
+            Walks (all_assigned (names occs.now) values.now) kinds.old self.old kinds.new self.new version) }
     {
         self.use_exprs(kinds, values, version)?;
         let terms = self.exprs_terms(alloc, kinds, values, version)?;
@@ -52,7 +52,8 @@ impl<'a> Scope<'a> {
 
     /// A variable gets the place of a new cell, whose content is a new value too.
     fn make(&mut self, kinds: &mut Kinds, name: &'a Name) -> Result<(), AllocError>
-        ensures { OnOk result ((version : ℕ) → state kinds.new self.new version ≡ (let s = state kinds.old self.old version in terms (with_value (with_value s.kinds)) (bound s.bindings name.now (length s.kinds)) version)) }
+        ensures { OnOk result ((version : ℕ) →
+            Walks (cell_made name.now) kinds.old self.old kinds.new self.new version) }
     {
         let location = kinds.add_value()?;
         kinds.add_value()?;
@@ -68,7 +69,8 @@ impl<'a> Scope<'a> {
         version: usize,
     ) -> Result<usize, AllocError>
         requires { version < 9223372036854775807 }
-        ensures stepped { IfOk result (λ next. (P : Plain) (p : Whole) → ChangesCell step.now → IsStepped P p step.now (state kinds.old self.old version) (state kinds.new self.new next)) }
+        ensures stepped { IfOk result (λ next. (P : Plain) (p : Whole) → ChangesCell step.now →
+            IsStepped P p step.now (state kinds.old self.old version) (state kinds.new self.new next)) }
         ensures next { IfOk result (λ next. next ≤ version + 1) }
     {
         match step {
@@ -100,7 +102,9 @@ impl<'a> Scope<'a> {
         version: usize,
     ) -> Result<usize, AllocError>
         requires { version < 9223372036854775807 }
-        ensures stepped { IfOk result (λ next. ReplacesPart step.now → IsStepped (program_of program.now) (procedure_of procedure.now) step.now (state kinds.old self.old version) (state kinds.new self.new next)) }
+        ensures stepped { IfOk result (λ next. ReplacesPart step.now →
+            IsStepped (program_of program.now) (procedure_of procedure.now) step.now
+            (state kinds.old self.old version) (state kinds.new self.new next)) }
         ensures next { IfOk result (λ next. next ≤ version + 1) }
     {
         match step {
@@ -144,7 +148,9 @@ impl<'a> Scope<'a> {
         version: usize,
     ) -> Result<usize, AllocError>
         requires { version < 9223372036854775807 }
-        ensures stepped { IfOk result (λ next. IsStepped (program_of program.now) (procedure_of procedure.now) step.now (state kinds.old self.old version) (state kinds.new self.new next)) }
+        ensures stepped { IfOk result (λ next.
+            IsStepped (program_of program.now) (procedure_of procedure.now) step.now
+            (state kinds.old self.old version) (state kinds.new self.new next)) }
         ensures next { IfOk result (λ next. next ≤ version + 1) }
     {
         match step {
@@ -181,7 +187,8 @@ impl<'a> Scope<'a> {
         start: Start,
         version: usize,
     ) -> Result<(), AllocError>
-        ensures { OnOk result (IsStarted (procedure_of procedure.now) start (state kinds.old self.old version) (state kinds.new self.new version)) }
+        ensures { OnOk result (IsStarted (procedure_of procedure.now) start (state kinds.old self.old version)
+            (state kinds.new self.new version)) }
     {
         match start {
             Start::Entry => self.walk(kinds, &procedure.needs, version),
@@ -201,7 +208,8 @@ impl<'a> Scope<'a> {
         arguments: &'a [Expr],
         version: usize,
     ) -> Result<(), AllocError>
-        ensures { OnOk result (EndsWith (entry_made (procedure_of callee.now) arguments.now (state kinds.old self.old version)) kinds.new version) }
+        ensures { OnOk result (EndsWith (entry_made (procedure_of callee.now) arguments.now
+            (state kinds.old self.old version)) kinds.new version) }
     {
         self.use_exprs(kinds, arguments, version)?;
         let terms = self.exprs_terms(alloc, kinds, arguments, version)?;
@@ -221,7 +229,9 @@ impl<'a> Scope<'a> {
         check: &'a CheckKind,
         version: usize,
     ) -> Result<(), AllocError>
-        ensures { OnOk result ((at : Span) → IsChecked (program_of program.now) (procedure_of procedure.now) check.now at (state kinds.old self.old version) kinds.new version) }
+        ensures { OnOk result ((at : Span) →
+            IsChecked (program_of program.now) (procedure_of procedure.now) check.now at
+            (state kinds.old self.old version) kinds.new version) }
     {
         match check {
             CheckKind::Access { at } => self.use_name(kinds, at),

@@ -22,7 +22,8 @@ pub struct Round<'a> {
 /// The loop of a number in a statement, or the number's place among the loops after it.
 #[cycle(round_in)]
 fn round_in<'a>(statement: &'a Stmt, number: usize) -> Result<Round<'a>, usize>
-    ensures { MatchResult result (λ r. IsRoundAt (loops (statement_of statement.now)) number r) (λ left. IsLater (loops (statement_of statement.now)) number left) }
+    ensures { MatchResult result (λ r. IsRoundAt (loops (statement_of statement.now)) number r)
+        (λ left. IsLater (loops (statement_of statement.now)) number left) }
 {
     match statement {
         Stmt::If {
@@ -50,7 +51,8 @@ fn round_in<'a>(statement: &'a Stmt, number: usize) -> Result<Round<'a>, usize>
 /// The loop of a number in some statements, or the number's place among the loops after them.
 #[cycle(round_in)]
 fn round_among<'a>(statements: &'a [Stmt], number: usize) -> Result<Round<'a>, usize>
-    ensures { MatchResult result (λ r. IsRoundAt (all_loops (statements_view statements.now)) number r) (λ left. IsLater (all_loops (statements_view statements.now)) number left) }
+    ensures { MatchResult result (λ r. IsRoundAt (all_loops (statements_view statements.now)) number r)
+        (λ left. IsLater (all_loops (statements_view statements.now)) number left) }
 {
     let mut left = number;
     for statement in statements {

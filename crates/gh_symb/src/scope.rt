@@ -4,7 +4,7 @@ ghost use Rattle.std.specs.Prelude.{◌≡◌, [], ℕ, IfOk, OnOk, IfSome, IfNo
 ghost use Rattle.gh_ast.specs.Programs.{names};
 ghost use Rattle.gh_path.specs.Terms.{bound, all_bound, used, renewed};
 ghost use Rattle.gh_symb.specs.Phases.{bound_unless};
-ghost use Rattle.gh_symb.specs.Tables.{pair_of, bound_by, state, IsLastAt, NoneFrom};
+ghost use Rattle.gh_symb.specs.Tables.{pair_of, bound_by, state, Walks, IsLastAt, NoneFrom};
 
 use crate::kinds::Kinds;
 use gh_ast::Occ;
@@ -110,7 +110,9 @@ impl<'a> Scope<'a> {
 
     /// Binds the variable of an entry to its term, unless it had a term before.
     pub fn learn_one(&mut self, before: &Scope<'a>, entry: &Entry<'a>) -> Result<(), AllocError>
-        ensures { OnOk result (bound_by self.new ≡ bound_unless (bound_by before.now entry.now.name.now) (bound_by self.old) entry.now.name.now entry.now.term) }
+        ensures { OnOk result (bound_by self.new
+            ≡ bound_unless (bound_by before.now entry.now.name.now)
+            (bound_by self.old) entry.now.name.now entry.now.term) }
     {
         match before.get(entry.name) {
             Some(_) => Ok(()),
@@ -130,22 +132,34 @@ impl<'a> Scope<'a> {
         Ok(())
     }
 
-    /// A variable that has no term gets a new value.
-    pub fn use_name(&mut self, kinds: &mut Kinds, name: &'a Name) -> Result<(), AllocError>
-        ensures { OnOk result ((version : ℕ) → state kinds.new self.new version ≡ used name.now (state kinds.old self.old version)) }
+    /// A variable that has no term gets a new value. Its term is given.
+    pub fn used_term(&mut self, kinds: &mut Kinds, name: &'a Name) -> Result<usize, AllocError>
+        ensures used { IfOk result (λ term. (version : ℕ) →
+            Walks (used name.now) kinds.old self.old kinds.new self.new version) }
+        ensures term { IfOk result (λ term. term ≡ unwrap_or (bound_by self.new name.now) 0) }
     {
         match self.get(name) {
-            Some(_) => Ok(()),
+            Some(term) => Ok(term),
             None => {
                 let term = kinds.add_value()?;
-                self.bind(name, term)
+                self.bind(name, term)?;
+                Ok(term)
             }
         }
     }
 
+    /// A variable that has no term gets a new value.
+    pub fn use_name(&mut self, kinds: &mut Kinds, name: &'a Name) -> Result<(), AllocError>
+        ensures { OnOk result ((version : ℕ) → Walks (used name.now) kinds.old self.old kinds.new self.new version) }
+    {
+        self.used_term(kinds, name)?;
+        Ok(())
+    }
+
     /// Each of some variables gets a new value.
     pub fn renew(&mut self, kinds: &mut Kinds, occs: &'a [Occ]) -> Result<(), AllocError>
-        ensures { OnOk result ((version : ℕ) → state kinds.new self.new version ≡ renewed (names occs.now) (state kinds.old self.old version)) }
+        ensures { OnOk result ((version : ℕ) →
+            Walks (renewed (names occs.now)) kinds.old self.old kinds.new self.new version) }
     {
         for occ in occs {
             let term = kinds.add_value()?;

@@ -6,7 +6,7 @@ ghost use Rattle.gh_ast.specs.Occurrences.{locals_of};
 ghost use Rattle.gh_ast.specs.Programs.{names, variable_names};
 ghost use Rattle.gh_path.specs.Graphs.{Loop, looped};
 ghost use Rattle.gh_path.specs.Terms.{renewed, some_assigns, step_walked};
-ghost use Rattle.gh_symb.specs.Tables.{state};
+ghost use Rattle.gh_symb.specs.Tables.{state, Walks};
 ghost use Rattle.gh_symb.specs.Rounds.{IsRound};
 ghost use Rattle.gh_symb.specs.Steps.{call_made};
 
@@ -20,7 +20,8 @@ use std::alloc::{AllocError, Global};
 impl<'a> Scope<'a> {
     /// A variable gets a new value.
     fn renew_one(&mut self, kinds: &mut Kinds, name: &'a Name) -> Result<(), AllocError>
-        ensures { OnOk result ((version : ℕ) → state kinds.new self.new version ≡ renewed (name.now ∷ []) (state kinds.old self.old version)) }
+        ensures { OnOk result ((version : ℕ) →
+            Walks (renewed (name.now ∷ [])) kinds.old self.old kinds.new self.new version) }
     {
         let term = kinds.add_value()?;
         self.bind(name, term)
@@ -33,7 +34,9 @@ impl<'a> Scope<'a> {
         occs: &'a [Occ],
         body: &[Stmt],
     ) -> Result<(), AllocError>
-        ensures { OnOk result ((version : ℕ) → state kinds.new self.new version ≡ renewed (filter (some_assigns (statements_view body.now)) (names occs.now)) (state kinds.old self.old version)) }
+        ensures { OnOk result ((version : ℕ) →
+            Walks (renewed (filter (some_assigns (statements_view body.now)) (names occs.now)))
+            kinds.old self.old kinds.new self.new version) }
     {
         for occ in occs {
             if !some_assigns(body, occ.name.bytes()) {
@@ -51,7 +54,9 @@ impl<'a> Scope<'a> {
         procedure: &'a Procedure,
         body: &[Stmt],
     ) -> Result<(), AllocError>
-        ensures { OnOk result ((version : ℕ) → state kinds.new self.new version ≡ renewed (filter (some_assigns (statements_view body.now)) (variable_names (procedure_of procedure.now))) (state kinds.old self.old version)) }
+        ensures { OnOk result ((version : ℕ) → let xs = variable_names (procedure_of procedure.now) in
+            Walks (renewed (filter (some_assigns (statements_view body.now)) xs))
+            kinds.old self.old kinds.new self.new version) }
     {
         self.renew_assigned(kinds, procedure.parameters.as_slice(), body)?;
         self.renew_assigned(kinds, procedure.results.as_slice(), body)?;
@@ -69,7 +74,8 @@ impl<'a> Scope<'a> {
     ) -> Result<(), AllocError>
         requires { version < 9223372036854775807 }
         ensures { OnOk result ((P : Program) (l : Loop) → IsRound round.now l →
-            state kinds.new self.new (version + 1) ≡ step_walked P (variable_names (procedure_of procedure.now)) (looped l) (state kinds.old self.old version)) }
+            let xs = variable_names (procedure_of procedure.now) in state kinds.new self.new (version + 1)
+            ≡ step_walked P xs (looped l) (state kinds.old self.old version)) }
     {
         self.walk(kinds, round.invariant, version)?;
         self.renew_all(kinds, procedure, round.body.statements.as_slice())?;
@@ -88,7 +94,9 @@ impl<'a> Scope<'a> {
         version: usize,
     ) -> Result<(), AllocError>
         requires { version < 9223372036854775807 }
-        ensures { OnOk result (state kinds.new self.new (version + 1) ≡ call_made (procedure_of callee.now) (names targets.now) arguments.now (state kinds.old self.old version)) }
+        ensures { OnOk result (state kinds.new self.new (version + 1)
+            ≡ call_made (procedure_of callee.now) (names targets.now) arguments.now
+            (state kinds.old self.old version)) }
     {
         self.use_exprs(kinds, arguments, version)?;
         let terms = self.exprs_terms(alloc, kinds, arguments, version)?;

@@ -4,13 +4,13 @@ ghost use Rattle.std.specs.Prelude.{◌≡◌, IfOk, IfErr};
 ghost use Rattle.gh_ast.specs.Plain.{program_of};
 ghost use Rattle.gh_path.specs.Conditions as plain;
 ghost use Rattle.gh_path.specs.Kept.{StandsFor};
-ghost use Rattle.gh_symb.specs.Limits.{Passes, PassesNone, IsConditionRefusal};
-ghost use Rattle.gh_symb.specs.Told.{IsSymbolic};
+ghost use Rattle.gh_symb.specs.Limits.{PassesNone, IsConditionRefusal};
+ghost use Rattle.gh_symb.specs.Steps.{HoldsFor};
+ghost use Rattle.gh_symb.specs.Encodings.{IsSymbolic};
 
 use crate::bindings::all_bindings;
 use crate::kinds::Kinds;
 use crate::limits::{SymbolicError, passed_limit};
-use crate::numbers::short;
 use crate::over_terms::Symbolic;
 use crate::scope::Scope;
 use gh_ast::typed::Typed;
@@ -18,14 +18,14 @@ use gh_path::condition::Condition;
 use std::alloc::{AllocError, Global};
 
 /// The condition over terms of a condition that passes no limit.
-fn told<'a>(
+fn encode<'a>(
     alloc: Global,
     typed: &'a Typed,
     condition: &'a Condition,
 ) -> Result<Symbolic<'a>, AllocError>
     requires of { (c : plain.Condition) × StandsFor (program_of typed.now) condition.now c }
-    requires few { (c : plain.Condition) → StandsFor (program_of typed.now) condition.now c → PassesNone (program_of typed.now) c }
-    ensures { IfOk result (λ s. (c : plain.Condition) → StandsFor (program_of typed.now) condition.now c → IsSymbolic (program_of typed.now) c s) }
+    requires few { HoldsFor (program_of typed.now) condition.now PassesNone }
+    ensures { IfOk result (λ s. HoldsFor (program_of typed.now) condition.now (λ P c. IsSymbolic P c s)) }
 {
     let program = typed.program();
     let procedure = &program.procedures[condition.procedure as usize];
@@ -41,9 +41,9 @@ fn told<'a>(
         scope.use_step(&mut kinds, procedure, step, version)?;
         firsts.learn(&before, &scope)?;
         states.push(before)?;
-        let said = scope.tell_step(alloc, &mut kinds, program, procedure, step, version)?;
-        version = said.version;
-        steps.push(said.step)?;
+        let encoded = scope.encode_step(alloc, &mut kinds, program, procedure, step, version)?;
+        version = encoded.version;
+        steps.push(encoded.step)?;
     }
     let before = scope.copy(alloc)?;
     let check = &condition.check.kind;
@@ -51,8 +51,8 @@ fn told<'a>(
     firsts.learn(&before, &scope)?;
     states.push(before)?;
     let bindings = all_bindings(alloc, states.as_slice(), &firsts)?;
-    let terms = kinds.told(alloc)?;
-    let versions = short(version + 1)?;
+    let terms = kinds.encode(alloc)?;
+    let versions = (version + 1) as u8;
     Ok(Symbolic {
         terms,
         versions,
@@ -70,14 +70,15 @@ pub fn symbolic<'a>(
     condition: &'a Condition,
 ) -> Result<Symbolic<'a>, SymbolicError>
     requires { (c : plain.Condition) × StandsFor (program_of typed.now) condition.now c }
-    ensures told { IfOk result (λ s. (c : plain.Condition) → StandsFor (program_of typed.now) condition.now c → IsSymbolic (program_of typed.now) c s) }
-    ensures few { IfOk result (λ s. (c : plain.Condition) → StandsFor (program_of typed.now) condition.now c → PassesNone (program_of typed.now) c) }
-    ensures refused { IfErr result (λ e. (c : plain.Condition) → StandsFor (program_of typed.now) condition.now c → IsConditionRefusal (program_of typed.now) c e) }
+    ensures encoded { IfOk result (λ s. HoldsFor (program_of typed.now) condition.now (λ P c. IsSymbolic P c s)) }
+    ensures few { IfOk result (λ _. HoldsFor (program_of typed.now) condition.now PassesNone) }
+    ensures refused { IfErr result (λ e.
+        HoldsFor (program_of typed.now) condition.now (λ P c. IsConditionRefusal P c e)) }
 {
     match passed_limit(alloc, typed, condition)? {
         Some(limit) => Err(SymbolicError::Limit(limit)),
         None => {
-            let symbolic = told(alloc, typed, condition)?;
+            let symbolic = encode(alloc, typed, condition)?;
             Ok(symbolic)
         }
     }

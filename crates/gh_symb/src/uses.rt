@@ -6,7 +6,7 @@ ghost use Rattle.gh_path.specs.Graphs.{Loop};
 ghost use Rattle.gh_path.specs.Kept.{IsLoop};
 ghost use Rattle.gh_path.specs.Terms.{walked};
 ghost use Rattle.gh_symb.specs.Phases.{IsUsed};
-ghost use Rattle.gh_symb.specs.Tables.{state};
+ghost use Rattle.gh_symb.specs.Tables.{state, Walks};
 
 use crate::kinds::Kinds;
 use crate::rounds::round_of;
@@ -24,7 +24,8 @@ impl<'a> Scope<'a> {
         number: u16,
         version: usize,
     ) -> Result<(), AllocError>
-        ensures { OnOk result ((l : Loop) → IsLoop (procedure_of procedure.now) number l → state kinds.new self.new version ≡ walked l.invariant (state kinds.old self.old version)) }
+        ensures { OnOk result ((l : Loop) → IsLoop (procedure_of procedure.now) number l →
+            Walks (walked l.invariant) kinds.old self.old kinds.new self.new version) }
     {
         match round_of(procedure, number as usize) {
             Some(round) => self.walk(kinds, round.invariant, version),
@@ -40,7 +41,9 @@ impl<'a> Scope<'a> {
         step: &'a PathStep,
         version: usize,
     ) -> Result<(), AllocError>
-        ensures { OnOk result ((P : Plain) → IsUsed P (procedure_of procedure.now) step.now (state kinds.old self.old version) (state kinds.new self.new version)) }
+        ensures { OnOk result ((P : Plain) →
+            IsUsed P (procedure_of procedure.now) step.now (state kinds.old self.old version)
+            (state kinds.new self.new version)) }
     {
         match step {
             PathStep::Access { at } => self.use_name(kinds, &at.name),

@@ -3,8 +3,9 @@
 ghost use Rattle.std.specs.Prelude.{◌≡◌, ℕ, List, IfOk, OnOk, map, unwrap_or};
 ghost use Rattle.gh_ast.specs.Plain.{test_of, tests_view, formula_of, formulas_view};
 ghost use Rattle.gh_ast.specs.Programs.{names};
-ghost use Rattle.gh_path.specs.Terms.{Kind, used, followed, operand_used, operand_term, expr_used, expr_term, exprs_used, exprs_terms, test_walked, tests_walked, walked, all_walked, each_walked};
-ghost use Rattle.gh_symb.specs.Tables.{bound_by, state};
+ghost use Rattle.gh_path.specs.Terms.{Kind, used, followed, operand_used, operand_term, expr_used, expr_term};
+ghost use Rattle.gh_path.specs.Terms.{exprs_used, exprs_terms, test_walked, tests_walked, walked, all_walked, each_walked};
+ghost use Rattle.gh_symb.specs.Tables.{bound_by, state, Walks};
 
 use crate::kinds::Kinds;
 use crate::scope::Scope;
@@ -20,16 +21,18 @@ impl<'a> Scope<'a> {
         name: &'a Name,
         version: usize,
     ) -> Result<(), AllocError>
-        ensures { OnOk result (state kinds.new self.new version ≡ followed name.now (used name.now (state kinds.old self.old version))) }
+        ensures { OnOk result (state kinds.new self.new version
+            ≡ followed name.now (used name.now (state kinds.old self.old version))) }
     {
-        self.use_name(kinds, name)?;
-        kinds.add_next(version, self.term(name))?;
+        let term = self.used_term(kinds, name)?;
+        kinds.add_next(version, term)?;
         Ok(())
     }
 
     /// An operand is used.
     pub fn use_operand(&mut self, kinds: &mut Kinds, operand: &'a Operand) -> Result<(), AllocError>
-        ensures { OnOk result ((version : ℕ) → state kinds.new self.new version ≡ operand_used operand.now (state kinds.old self.old version)) }
+        ensures { OnOk result ((version : ℕ) →
+            Walks (operand_used operand.now) kinds.old self.old kinds.new self.new version) }
     {
         match operand {
             Operand::Null { .. } => Ok(()),
@@ -44,11 +47,54 @@ impl<'a> Scope<'a> {
         expr: &'a Expr,
         version: usize,
     ) -> Result<(), AllocError>
-        ensures { OnOk result (state kinds.new self.new version ≡ expr_used expr.now (state kinds.old self.old version)) }
+        ensures { OnOk result (Walks (expr_used expr.now) kinds.old self.old kinds.new self.new version) }
     {
         match expr {
             Expr::Plain(operand) => self.use_operand(kinds, operand),
             Expr::Read(occ) => self.follow(kinds, &occ.name, version),
+        }
+    }
+
+    /// An operand is used, and its term is given.
+    fn operand_value(
+        &mut self,
+        kinds: &mut Kinds,
+        operand: &'a Operand,
+    ) -> Result<usize, AllocError>
+        ensures used { IfOk result (λ term. (version : ℕ) →
+            Walks (operand_used operand.now) kinds.old self.old kinds.new self.new version) }
+        ensures term { IfOk result (λ term. (version : ℕ) →
+            term ≡ operand_term operand.now (state kinds.new self.new version)) }
+    {
+        match operand {
+            Operand::Null { .. } => Ok(0),
+            Operand::Var(occ) => {
+                let term = self.used_term(kinds, &occ.name)?;
+                Ok(term)
+            }
+        }
+    }
+
+    /// An expression is used, and its term is given.
+    pub fn expr_value(
+        &mut self,
+        kinds: &mut Kinds,
+        expr: &'a Expr,
+        version: usize,
+    ) -> Result<usize, AllocError>
+        ensures used { IfOk result (λ term.
+            Walks (expr_used expr.now) kinds.old self.old kinds.new self.new version) }
+        ensures term { IfOk result (λ term. term ≡ expr_term expr.now (state kinds.new self.new version)) }
+    {
+        match expr {
+            Expr::Plain(operand) => {
+                let term = self.operand_value(kinds, operand)?;
+                Ok(term)
+            }
+            Expr::Read(occ) => {
+                self.follow(kinds, &occ.name, version)?;
+                Ok(kinds.next(version, self.term(&occ.name)))
+            }
         }
     }
 
@@ -59,7 +105,7 @@ impl<'a> Scope<'a> {
         exprs: &'a [Expr],
         version: usize,
     ) -> Result<(), AllocError>
-        ensures { OnOk result (state kinds.new self.new version ≡ exprs_used exprs.now (state kinds.old self.old version)) }
+        ensures { OnOk result (Walks (exprs_used exprs.now) kinds.old self.old kinds.new self.new version) }
     {
         for expr in exprs {
             self.use_expr(kinds, expr, version)?;
@@ -123,7 +169,7 @@ impl<'a> Scope<'a> {
         test: &'a Cond,
         version: usize,
     ) -> Result<(), AllocError>
-        ensures { OnOk result (state kinds.new self.new version ≡ test_walked (test_of test.now) (state kinds.old self.old version)) }
+        ensures { OnOk result (Walks (test_walked (test_of test.now)) kinds.old self.old kinds.new self.new version) }
     {
         match test {
             Cond::Compare { left, right, .. } => {
@@ -144,7 +190,8 @@ impl<'a> Scope<'a> {
         tests: &'a [Cond],
         version: usize,
     ) -> Result<(), AllocError>
-        ensures { OnOk result (state kinds.new self.new version ≡ tests_walked (tests_view tests.now) (state kinds.old self.old version)) }
+        ensures { OnOk result (
+            Walks (tests_walked (tests_view tests.now)) kinds.old self.old kinds.new self.new version) }
     {
         for test in tests {
             self.walk_test(kinds, test, version)?;
@@ -160,7 +207,8 @@ impl<'a> Scope<'a> {
         assertion: &'a Assertion,
         version: usize,
     ) -> Result<(), AllocError>
-        ensures { OnOk result (state kinds.new self.new version ≡ walked (formula_of assertion.now) (state kinds.old self.old version)) }
+        ensures { OnOk result (
+            Walks (walked (formula_of assertion.now)) kinds.old self.old kinds.new self.new version) }
     {
         match assertion {
             Assertion::Emp => Ok(()),
@@ -194,7 +242,8 @@ impl<'a> Scope<'a> {
         assertions: &'a [Assertion],
         version: usize,
     ) -> Result<(), AllocError>
-        ensures { OnOk result (state kinds.new self.new version ≡ all_walked (formulas_view assertions.now) (state kinds.old self.old version)) }
+        ensures { OnOk result (
+            Walks (all_walked (formulas_view assertions.now)) kinds.old self.old kinds.new self.new version) }
     {
         for assertion in assertions {
             self.walk(kinds, assertion, version)?;
@@ -209,8 +258,8 @@ impl<'a> Scope<'a> {
         alternatives: &'a [Assertion],
         version: usize,
     ) -> Result<(), AllocError>
-        ensures { OnOk result (state kinds.new self.new version
-            ≡ each_walked (map formula_of alternatives.now) (state kinds.old self.old version)) }
+        ensures { OnOk result (
+            Walks (each_walked (map formula_of alternatives.now)) kinds.old self.old kinds.new self.new version) }
     {
         for alternative in alternatives {
             self.walk(kinds, alternative, version)?;

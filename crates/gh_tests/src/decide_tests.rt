@@ -7,7 +7,7 @@ ghost use Rattle.gh_ast.specs.Rules.{IsTyped};
 ghost use Rattle.gh_path.specs.Admitted.{IsAdmitted};
 ghost use Rattle.gh_path.specs.Conditions as plain;
 ghost use Rattle.gh_path.specs.Kept.{StandsFor};
-ghost use Rattle.gh_symb.specs.Told.{IsSymbolic};
+ghost use Rattle.gh_symb.specs.Encodings.{IsSymbolic};
 ghost use Rattle.gh_trace.specs.Kept.{IsOne};
 
 use crate::machine_tests::SECOND;
@@ -138,7 +138,7 @@ fn judged(
     number: u32,
     by: By,
 ) -> Result<Found, AllocError>
-    requires same { conditions.now ≡ typed.now }
+    requires same { program_of conditions.now ≡ program_of typed.now }
     requires admitted { IsAdmitted (program_of typed.now) }
 {
     let Some(condition) = conditions.condition(alloc, number)? else {

@@ -1,7 +1,7 @@
 //! Ground clauses of programs, counted by hand.
 
+use crate::encoded::{Expected, Row, Word, are};
 use crate::symbolic_tests::{CASES, REUSE, TWICE, WALK};
-use crate::told::{Expected, Row, Word, are};
 use std::alloc::AllocError;
 
 const NOP: &[u8] = b"struct Node { var next: Node; }

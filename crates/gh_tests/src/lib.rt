@@ -9,6 +9,8 @@ mod decide_tests;
 #[cfg(test)]
 mod draw_tests;
 #[cfg(test)]
+mod encoded;
+#[cfg(test)]
 mod entail_tests;
 #[cfg(test)]
 mod ground_tests;
@@ -23,7 +25,11 @@ mod meaning_tests;
 #[cfg(test)]
 mod outside_tests;
 #[cfg(test)]
+mod parse_tests;
+#[cfg(test)]
 mod picture_tests;
+#[cfg(test)]
+mod question_tests;
 #[cfg(test)]
 mod replay_tests;
 #[cfg(test)]
@@ -42,8 +48,6 @@ mod solve_tests;
 mod symbolic_tests;
 #[cfg(test)]
 mod terms_tests;
-#[cfg(test)]
-mod told;
 #[cfg(test)]
 mod types_tests;
 #[cfg(test)]

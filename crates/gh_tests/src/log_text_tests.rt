@@ -4,7 +4,7 @@ ghost use Rattle.std.specs.Prelude.{◌≡◌, All, IfOk};
 ghost use Rattle.gh_log.specs.Spelled.{IsOfVersion, AreOfVersion, lines_of};
 
 use gh_log::error::LogError;
-use gh_log::lines::{Log, LogLine, Section};
+use gh_log::lines::{Lines, Log, LogLine, Section};
 use gh_log::reading::read_log;
 use gh_log::writing::write_log;
 use std::alloc::Global;
@@ -42,10 +42,10 @@ fn first_outside(alloc: Global, text: &[u8]) -> u32 {
     }
 }
 
-fn ground(alloc: Global, numbers: &[u32]) -> Result<Vec<LogLine>, LogError>
-    ensures { IfOk result (λ lines. All (IsOfVersion 1) lines.items) }
+fn ground(alloc: Global, numbers: &[u32]) -> Result<Lines, LogError>
+    ensures { IfOk result (λ lines. All (IsOfVersion 1) lines) }
 {
-    let mut lines = Vec::new(alloc);
+    let mut lines = Lines::new(alloc);
     for number in numbers {
         lines.push(LogLine::Clause { number: *number })?;
     }

@@ -46,7 +46,7 @@ fn told(
     typed: &Typed,
     all: &Conditions<'_>,
 ) -> Result<Option<(u32, u32)>, AllocError>
-    requires same { all.now ≡ typed.now }
+    requires same { program_of all.now ≡ program_of typed.now }
     requires admitted { IsAdmitted (program_of typed.now) }
 {
     let outcome = work

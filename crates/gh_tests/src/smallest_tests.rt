@@ -109,7 +109,7 @@ fn numbered(
     conditions: &Conditions<'_>,
     number: u32,
 ) -> Result<Option<Sides>, AllocError>
-    requires same { conditions.now ≡ typed.now }
+    requires same { program_of conditions.now ≡ program_of typed.now }
     requires admitted { IsAdmitted (program_of typed.now) }
 {
     let Some(condition) = conditions.condition(alloc, number)? else {

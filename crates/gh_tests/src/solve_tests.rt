@@ -1,6 +1,6 @@
 //! Small grounds, with models that make all true and sections that the checker accepts.
 
-ghost use Rattle.std.specs.Prelude.{◌+◌, ◌<◌, ◌≤◌, vec_len};
+ghost use Rattle.std.specs.Prelude.{◌+◌, ◌<◌, ◌≤◌, length};
 ghost use Rattle.gh_ground.specs.Solving.{IsAnswer};
 
 mod plain;
@@ -44,15 +44,15 @@ fn is_model(structure: &Structure, ground: &Ground) -> bool {
 }
 
 fn is_accepted(alloc: Global, ground: &Ground, section: &Section) -> bool
-    requires { section.now.first + vec_len section.now.lines ≤ 4294967295 }
+    requires { section.now.first + length section.now.lines ≤ 4294967295 }
 {
     section.first == 1 && check_log(alloc, ground, section).is_ok()
 }
 
 fn count_learnt(section: &Section) -> usize {
     let mut learnt: usize = 0;
-    for line in &section.lines {
-        let is_learnt = matches!(line, LogLine::Hinted { .. });
+    for place in 0..section.lines.len() {
+        let is_learnt = matches!(section.lines.line(place), LogLine::Hinted { .. });
         learnt = learnt.saturating_add(usize::from(is_learnt));
     }
     learnt

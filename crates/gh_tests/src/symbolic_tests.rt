@@ -1,6 +1,6 @@
 //! Conditions over terms of programs.
 
-use crate::told::{Asked, Expected, Made, NONE, Part, Row, Said, Told, are};
+use crate::encoded::{Asked, Encoded, Expected, Made, NONE, Part, Row, StepEncoding, are};
 use std::alloc::AllocError;
 
 const DEREF: &[u8] = b"struct Node { var next: Node; }
@@ -12,7 +12,7 @@ procedure tail(x: Node) returns (y: Node) requires acc(x) ensures emp { y := x.n
 ";
 
 // the check gives x its term, also at the state before
-const DEREF_TOLD: Told<'static> = Told {
+const DEREF_ENCODED: Encoded<'static> = Encoded {
     kinds: &[Made::Null, Made::Value(0)],
     versions: 1,
     start: &[],
@@ -23,11 +23,16 @@ const DEREF_TOLD: Told<'static> = Told {
     states: &[("x", &[1]), ("y", &[NONE])],
 };
 
-const TAIL_TOLD: Told<'static> = Told {
+const TAIL_ENCODED: Encoded<'static> = Encoded {
     kinds: &[Made::Null, Made::Value(0), Made::Content(0, 1)],
     versions: 2,
     start: &[("x", 1), ("y", NONE)],
-    steps: &[Said::Access(1), Said::Same, Said::Access(1), Said::Free(1)],
+    steps: &[
+        StepEncoding::Access(1),
+        StepEncoding::Same,
+        StepEncoding::Access(1),
+        StepEncoding::Free(1),
+    ],
     parts: &[],
     check: Asked::Whole(1),
     asked: &[],
@@ -37,8 +42,8 @@ const TAIL_TOLD: Told<'static> = Told {
 #[test]
 fn reads_and_free(rt: HostRuntime) -> Result<(), AllocError> {
     let rows: [Row; 2] = [
-        (DEREF, 1, Expected::Told(DEREF_TOLD)),
-        (TAIL, 3, Expected::Told(TAIL_TOLD)),
+        (DEREF, 1, Expected::Encoded(DEREF_ENCODED)),
+        (TAIL, 3, Expected::Encoded(TAIL_ENCODED)),
     ];
     assert!(rt; are(rt.alloc(), &rows)?);
     Ok(())
@@ -57,7 +62,7 @@ procedure reuse(x: Node) returns (y: Node)
 { free x; y := new Node; }
 ";
 
-const LINK_TOLD: Told<'static> = Told {
+const LINK_ENCODED: Encoded<'static> = Encoded {
     kinds: &[
         Made::Null,
         Made::Value(0),
@@ -69,11 +74,11 @@ const LINK_TOLD: Told<'static> = Told {
     versions: 2,
     start: &[("x", 1), ("y", 3), ("z", NONE)],
     steps: &[
-        Said::Access(3),
-        Said::Access(1),
-        Said::Write(1, 4),
-        Said::Access(1),
-        Said::Same,
+        StepEncoding::Access(3),
+        StepEncoding::Access(1),
+        StepEncoding::Write(1, 4),
+        StepEncoding::Access(1),
+        StepEncoding::Same,
     ],
     parts: &[],
     check: Asked::Whole(1),
@@ -86,7 +91,7 @@ const LINK_TOLD: Told<'static> = Told {
 };
 
 // a check of access gives no content a term
-const READ_TOLD: Told<'static> = Told {
+const READ_ENCODED: Encoded<'static> = Encoded {
     kinds: &[
         Made::Null,
         Made::Value(0),
@@ -94,14 +99,18 @@ const READ_TOLD: Told<'static> = Told {
         Made::Value(1),
         Made::Content(0, 3),
     ],
-    steps: &[Said::Access(3), Said::Access(1), Said::Write(1, 4)],
+    steps: &[
+        StepEncoding::Access(3),
+        StepEncoding::Access(1),
+        StepEncoding::Write(1, 4),
+    ],
     check: Asked::Access(1),
     states: &[("x", &[1, 1, 1, 1])],
-    ..LINK_TOLD
+    ..LINK_ENCODED
 };
 
 // a location and its content
-const REUSE_TOLD: Told<'static> = Told {
+const REUSE_ENCODED: Encoded<'static> = Encoded {
     kinds: &[
         Made::Null,
         Made::Value(0),
@@ -112,7 +121,11 @@ const REUSE_TOLD: Told<'static> = Told {
     ],
     versions: 3,
     start: &[("x", 1)],
-    steps: &[Said::Access(1), Said::Free(1), Said::New(3, 4)],
+    steps: &[
+        StepEncoding::Access(1),
+        StepEncoding::Free(1),
+        StepEncoding::New(3, 4),
+    ],
     parts: &[],
     check: Asked::Whole(2),
     asked: &[("x", 1), ("y", 3)],
@@ -122,9 +135,9 @@ const REUSE_TOLD: Told<'static> = Told {
 #[test]
 fn writes_and_new(rt: HostRuntime) -> Result<(), AllocError> {
     let rows: [Row; 3] = [
-        (LINK, 4, Expected::Told(LINK_TOLD)),
-        (LINK, 3, Expected::Told(READ_TOLD)),
-        (REUSE, 2, Expected::Told(REUSE_TOLD)),
+        (LINK, 4, Expected::Encoded(LINK_ENCODED)),
+        (LINK, 3, Expected::Encoded(READ_ENCODED)),
+        (REUSE, 2, Expected::Encoded(REUSE_ENCODED)),
     ];
     assert!(rt; are(rt.alloc(), &rows)?);
     Ok(())
@@ -140,7 +153,7 @@ procedure twice(x: Node, y: Node) returns (z: Node)
 ";
 
 // the arguments come before what the callee needs, the result before what it gives
-const CALL_TOLD: Told<'static> = Told {
+const CALL_ENCODED: Encoded<'static> = Encoded {
     kinds: &[
         Made::Null,
         Made::Value(0),
@@ -150,14 +163,14 @@ const CALL_TOLD: Told<'static> = Told {
     ],
     versions: 1,
     start: &[("x", NONE), ("y", NONE)],
-    steps: &[Said::Access(1)],
+    steps: &[StepEncoding::Access(1)],
     parts: &[],
     check: Asked::Sub(0),
     asked: &[("p", 2), ("q", 3), ("r", NONE), ("x", NONE)],
     states: &[("x", &[3, 3]), ("y", &[1, 1]), ("z", &[NONE, NONE])],
 };
 
-const CALLED_TOLD: Told<'static> = Told {
+const CALLED_ENCODED: Encoded<'static> = Encoded {
     kinds: &[
         Made::Null,
         Made::Value(0),
@@ -169,7 +182,7 @@ const CALLED_TOLD: Told<'static> = Told {
         Made::Content(1, 3),
     ],
     versions: 2,
-    steps: &[Said::Access(1), Said::Part(0, 1)],
+    steps: &[StepEncoding::Access(1), StepEncoding::Part(0, 1)],
     parts: &[Part {
         place: 1,
         before: &[("p", 2), ("q", 3), ("x", NONE)],
@@ -182,14 +195,14 @@ const CALLED_TOLD: Told<'static> = Told {
         ("y", &[1, 1, 1]),
         ("z", &[NONE, NONE, 5]),
     ],
-    ..CALL_TOLD
+    ..CALL_ENCODED
 };
 
 #[test]
 fn calls(rt: HostRuntime) -> Result<(), AllocError> {
     let rows: [Row; 2] = [
-        (TWICE, 3, Expected::Told(CALL_TOLD)),
-        (TWICE, 4, Expected::Told(CALLED_TOLD)),
+        (TWICE, 3, Expected::Encoded(CALL_ENCODED)),
+        (TWICE, 4, Expected::Encoded(CALLED_ENCODED)),
     ];
     assert!(rt; are(rt.alloc(), &rows)?);
     Ok(())
@@ -210,7 +223,7 @@ procedure walk(x: Node) returns (y: Node)
 ";
 
 // after the loop y, c and d have new values in the order of their declarations
-const PASSED_TOLD: Told<'static> = Told {
+const PASSED_ENCODED: Encoded<'static> = Encoded {
     kinds: &[
         Made::Null,
         Made::Value(0),
@@ -222,11 +235,11 @@ const PASSED_TOLD: Told<'static> = Told {
     versions: 2,
     start: &[("x", 1), ("e", NONE)],
     steps: &[
-        Said::Same,
-        Said::Part(0, 1),
-        Said::Equal(4, 0),
-        Said::Same,
-        Said::Same,
+        StepEncoding::Same,
+        StepEncoding::Part(0, 1),
+        StepEncoding::Equal(4, 0),
+        StepEncoding::Same,
+        StepEncoding::Same,
     ],
     parts: &[Part {
         place: 1,
@@ -244,18 +257,18 @@ const PASSED_TOLD: Told<'static> = Told {
     ],
 };
 
-const LOOP_TOLD: Told<'static> = Told {
+const LOOP_ENCODED: Encoded<'static> = Encoded {
     kinds: &[Made::Null, Made::Value(0), Made::Value(1)],
     versions: 1,
-    steps: &[Said::Same],
+    steps: &[StepEncoding::Same],
     parts: &[],
     check: Asked::Sub(0),
     asked: &[("e", 2), ("c", 1)],
     states: &[("c", &[NONE, 1]), ("e", &[2, 2]), ("d", &[NONE, NONE])],
-    ..PASSED_TOLD
+    ..PASSED_ENCODED
 };
 
-const TURN_TOLD: Told<'static> = Told {
+const TURN_ENCODED: Encoded<'static> = Encoded {
     kinds: &[
         Made::Null,
         Made::Value(0),
@@ -265,11 +278,11 @@ const TURN_TOLD: Told<'static> = Told {
     versions: 1,
     start: &[("e", 1), ("c", 2), ("x", NONE)],
     steps: &[
-        Said::Unequal(2, 0),
-        Said::Access(2),
-        Said::Same,
-        Said::Same,
-        Said::Same,
+        StepEncoding::Unequal(2, 0),
+        StepEncoding::Access(2),
+        StepEncoding::Same,
+        StepEncoding::Same,
+        StepEncoding::Same,
     ],
     parts: &[],
     check: Asked::Whole(0),
@@ -284,9 +297,9 @@ const TURN_TOLD: Told<'static> = Told {
 #[test]
 fn loops(rt: HostRuntime) -> Result<(), AllocError> {
     let rows: [Row; 3] = [
-        (WALK, 2, Expected::Told(PASSED_TOLD)),
-        (WALK, 1, Expected::Told(LOOP_TOLD)),
-        (WALK, 4, Expected::Told(TURN_TOLD)),
+        (WALK, 2, Expected::Encoded(PASSED_ENCODED)),
+        (WALK, 1, Expected::Encoded(LOOP_ENCODED)),
+        (WALK, 4, Expected::Encoded(TURN_ENCODED)),
     ];
     assert!(rt; are(rt.alloc(), &rows)?);
     Ok(())
@@ -306,43 +319,48 @@ procedure swap() returns (a: Node, b: Node) ensures a == b { return b, a; }
 ";
 
 // a variable has the term of its first use from the start, where nothing is assigned to it before
-const LATE_TOLD: Told<'static> = Told {
+const LATE_ENCODED: Encoded<'static> = Encoded {
     kinds: &[Made::Null, Made::Value(0), Made::Value(1)],
     versions: 1,
     start: &[],
-    steps: &[Said::Same, Said::Same],
+    steps: &[StepEncoding::Same, StepEncoding::Same],
     parts: &[],
     check: Asked::Whole(0),
     asked: &[],
     states: &[("x", &[1, 1, 1]), ("y", &[NONE, 1, 2]), ("c", &[2, 2, 2])],
 };
 
-const LATER_TOLD: Told<'static> = Told {
+const LATER_ENCODED: Encoded<'static> = Encoded {
     kinds: &[Made::Null, Made::Value(0), Made::Value(1), Made::Value(2)],
     versions: 2,
-    steps: &[Said::Same, Said::Part(0, 1), Said::Equal(2, 0), Said::Same],
+    steps: &[
+        StepEncoding::Same,
+        StepEncoding::Part(0, 1),
+        StepEncoding::Equal(2, 0),
+        StepEncoding::Same,
+    ],
     check: Asked::Whole(1),
     states: &[
         ("c", &[NONE, 1, 2, 2, 2]),
         ("d", &[3, 3, 3, 3, 3]),
         ("y", &[NONE, NONE, NONE, NONE, 3]),
     ],
-    ..LATE_TOLD
+    ..LATE_ENCODED
 };
 
-const SWAP_TOLD: Told<'static> = Told {
-    steps: &[Said::Same],
+const SWAP_ENCODED: Encoded<'static> = Encoded {
+    steps: &[StepEncoding::Same],
     asked: &[("a", 1), ("b", 2)],
     states: &[("a", &[2, 1]), ("b", &[1, 2])],
-    ..LATE_TOLD
+    ..LATE_ENCODED
 };
 
 #[test]
 fn variables_that_are_not_assigned(rt: HostRuntime) -> Result<(), AllocError> {
     let rows: [Row; 3] = [
-        (LATE, 1, Expected::Told(LATE_TOLD)),
-        (LATER, 2, Expected::Told(LATER_TOLD)),
-        (SWAP, 1, Expected::Told(SWAP_TOLD)),
+        (LATE, 1, Expected::Encoded(LATE_ENCODED)),
+        (LATER, 2, Expected::Encoded(LATER_ENCODED)),
+        (SWAP, 1, Expected::Encoded(SWAP_ENCODED)),
     ];
     assert!(rt; are(rt.alloc(), &rows)?);
     Ok(())
@@ -359,7 +377,7 @@ procedure both(x: Node) returns (y: Node)
 ";
 
 // the test of cases comes first, then both parts
-const CHOOSE_TOLD: Told<'static> = Told {
+const CHOOSE_ENCODED: Encoded<'static> = Encoded {
     kinds: &[
         Made::Null,
         Made::Value(0),
@@ -369,14 +387,14 @@ const CHOOSE_TOLD: Told<'static> = Told {
     ],
     versions: 1,
     start: &[("a", 2), ("b", 1), ("c", NONE)],
-    steps: &[Said::Same],
+    steps: &[StepEncoding::Same],
     parts: &[],
     check: Asked::Whole(0),
     asked: &[("a", 2), ("b", 1), ("c", 1)],
     states: &[("a", &[2, 2]), ("b", &[1, 1]), ("c", &[NONE, 1])],
 };
 
-const BOTH_TOLD: Told<'static> = Told {
+const BOTH_ENCODED: Encoded<'static> = Encoded {
     kinds: &[
         Made::Null,
         Made::Value(0),
@@ -387,7 +405,7 @@ const BOTH_TOLD: Told<'static> = Told {
     ],
     versions: 2,
     start: &[("x", 1)],
-    steps: &[Said::Access(1), Said::Part(0, 1)],
+    steps: &[StepEncoding::Access(1), StepEncoding::Part(0, 1)],
     parts: &[Part {
         place: 1,
         before: &[("a", 1), ("b", 2), ("c", NONE)],
@@ -401,8 +419,8 @@ const BOTH_TOLD: Told<'static> = Told {
 #[test]
 fn contracts_with_cases(rt: HostRuntime) -> Result<(), AllocError> {
     let rows: [Row; 2] = [
-        (CASES, 1, Expected::Told(CHOOSE_TOLD)),
-        (CASES, 4, Expected::Told(BOTH_TOLD)),
+        (CASES, 1, Expected::Encoded(CHOOSE_ENCODED)),
+        (CASES, 4, Expected::Encoded(BOTH_ENCODED)),
     ];
     assert!(rt; are(rt.alloc(), &rows)?);
     Ok(())

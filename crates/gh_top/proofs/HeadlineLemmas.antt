@@ -74,7 +74,7 @@ one_words r q h k e = sym (meant_is r h) ∙ ap (λ ws. meant (key ws) ws) e ∙
 pub one_request : (words : List (List ℕ)) (r q : Request) → IsRequest words r → IsRequest words q → r ≡ q
 one_request words r q a b = one_words r q a.spelled.limits b.spelled.limits (sym a.spelled.words_are ∙ b.spelled.words_are)
 
-one_spelled : (text : List ℕ) (P Q : Program) → Spells text P → Spells text Q → P ≡ Q
+pub one_spelled : (text : List ℕ) (P Q : Program) → Spells text P → Spells text Q → P ≡ Q
 one_spelled text P Q a b = one_program a.0 P Q a.2 (subst (λ z. SpellsProgram z Q) (sym (one_whole text a.0 b.0 a.1 b.1)) b.2)
 
 pub one_program_asked : (words : List (List ℕ)) (files : Files) (r q : Request) (P Q : Program) → Asks words files r P → Asks words files q Q → P ≡ Q

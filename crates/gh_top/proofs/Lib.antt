@@ -1,6 +1,6 @@
 pub mod SmallestLemmas
 pub mod HeadlineLemmas
-pub mod VerdictLemmas
+pub mod OneStatus
 pub mod FileLemmas
 pub mod FrontLemmas
 pub mod DecidingLemmas

@@ -56,11 +56,11 @@ ask_refused text q (asking.Limit passed) posed why = (text, q, refl, posed, why.
 ask_refused text q asking.OutOfMemory posed why = tt
 
 -- the reports
-pub entailed_report : (q : Question) (s : Section) (status : Status) (u : List ℕ) → IsAnswer q (Yes s) → status ≡ Verified → u ≡ line (codes "entailed") ++ log_text 2 (s.lines.items ∷ [])
+pub entailed_report : (q : Question) (s : Section) (status : Status) (u : List ℕ) → IsAnswer q (Yes s) → status ≡ Verified → u ≡ line (codes "entailed") ++ log_text 2 (s.lines ∷ [])
     → IsReplyTo q status u
 entailed_report q s status u y a b =
     subst (λ t. IsReplyTo q t u) (sym a)
-    (entailed (record { entailed = y.0; section = s.lines.items; valid = y.1.valid; version = All-cons (λ ls. All (IsOfVersion 2) ls) s.lines.items [] y.1.version (All-nil (λ ls. All (IsOfVersion 2) ls)); text_is = b }))
+    (entailed (record { entailed = y.0; section = s.lines; valid = y.1.valid; version = All-cons (λ ls. All (IsOfVersion 2) ls) s.lines [] y.1.version (All-nil (λ ls. All (IsOfVersion 2) ls)); text_is = b }))
 
 pub failing_report : (q : Question) (x : kept.State) (shown front u : List ℕ) → IsTyped q → FailsIn q x → All HasValues (x ∷ []) → shown ≡ drawing_text 1 (x ∷ []) → front ≡ line (codes "not entailed") → u ≡ front ++ shown
     → IsFailingReport q u

@@ -1,7 +1,6 @@
 -- From what a session decides to its answers.
 use Rattle.std.proofs.Common.{◌≡◌, ◌∙◌, ℕ, suc, ◌+◌, ◌<◌, ◌≤◌, List, [], ◌∷◌, ◌++◌, length, map, take, drop, get_or, refl, sym, ap, subst, append_assoc, append-nil}
-use Rattle.std.specs.Prelude.{Option, Some, None, Bool, true, false, cond, codes}
-use Rattle.std.specs.Fmt.{decimal}
+use Rattle.std.specs.Prelude.{Option, Some, None, true, false, cond, codes}
 use Rattle.std.proofs.Math.Numerals.{suc-eq-add-one}
 use Rattle.std.proofs.Math.Seq.{drop-cons, take-suc}
 use Rattle.std.proofs.lemmas.List.{length-map, map-append, drop_all}
@@ -11,26 +10,22 @@ use Rattle.gh_path.specs.Conditions.{Condition, conditions}
 use Rattle.gh_trace.specs.Validity.{ListedAreValid}
 use Rattle.gh_session.specs.declared.edits.Edit.{Edit}
 use Rattle.gh_session.specs.declared.edits.Edits.{Edits}
-use Rattle.gh_session.specs.declared.error.SessionError.{SessionError}
 use Rattle.gh_session.specs.declared.kept.Kept.{Kept}
 use Rattle.gh_session.specs.declared.session.Refutation.{Refutation}
 use Rattle.gh_session.specs.declared.session.SessionOutcome.{SessionOutcome}
 use Rattle.gh_session.specs.Decided.{IsOutcome, asked, Grows, Tells}
 use Rattle.gh_session.specs.Decided as of_session
-use Rattle.gh_decide.specs.Outcomes.{IsFirst}
-use Rattle.gh_trace.specs.declared.state.Trace.{Trace}
-use Rattle.gh_session.specs.Essences.{Essence}
 use Rattle.gh_session.specs.Known.{Known, essences}
 use Rattle.gh_session.specs.Places.{knowledge}
 use Rattle.gh_session.specs.Lines as lines
 use Rattle.gh_session.specs.Pieces.{whole}
 use Rattle.gh_draw.specs.Drawings.{line}
 use Rattle.gh_top.specs.Answering.{kept_essences, IsVerdictOn, IsAnswerOn}
-use Rattle.gh_top.specs.Checks.{IsProgramVerdict, all_valid, some_refuted, IsCheckText, of_refusal, of_verdict}
+use Rattle.gh_top.specs.Checks.{IsProgramVerdict, all_valid, some_refuted, of_refusal, of_verdict}
 use Rattle.gh_top.specs.Lines.{verified_line}
 use Rattle.gh_top.specs.Refusals.{IsText, IsRefused, refusal_text}
-use Rattle.gh_top.specs.Reports.{IsRefutation, verified_text}
-use Rattle.gh_top.specs.Sessions.{most_edited, AreAsked, to_last, to_first, IsKeptToo, IsCounted, of_refused, of_decided, texts_after, answer_line, AreAnswers, no_more, one_more, IsSessionRefusal, absent, too_long, IsSessionReport, IsSessionAnswer, file_refused, file_answered}
+use Rattle.gh_top.specs.Reports.{IsRefutation}
+use Rattle.gh_top.specs.Sessions.{most_edited, AreAsked, to_last, to_first, IsKeptToo, of_refused, of_decided, texts_after, answer_line, AreAnswers, no_more, one_more, IsSessionRefusal, absent, too_long, IsSessionAnswer, file_refused, file_answered}
 use Rattle.gh_top.specs.declared.refusal.Refusal.{Refusal}
 use Rattle.gh_top.specs.declared.status.Status.{Status}
 use Rattle.gh_top.specs.declared.status.Status.TheVariants.{Verified, Refuted, Listed, TextRefused, LogRefused}
@@ -144,10 +139,6 @@ goes_out head es i j kept text past h =
 pub is_answered : (text : List ℕ) (s : Edits) (st : Status) (u : List ℕ) → length text ≤ most_edited → lines.IsSession text s → AreAnswers 0 [] (texts_after s.head [] s.edits.items) u → st ≡ Listed
     → IsSessionAnswer (Some text) st u
 is_answered text s st u short read answers a = rw a (file_answered (record { text = text; bytes_are = refl; short = short; edits = s; read = read; answers = answers }))
-
--- the first refuted condition, as a session and as a decision say it
-pub first_of : (P : Program) (k : ℕ) (t : Trace) → of_session.IsFirst P k t → IsFirst P k t
-first_of P k t f = record { before = f.before; condition = f.condition; after = f.after; whole = f.whole; number_is = f.number_is; valid = f.valid; refutes = f.refutes }
 
 pub few_edits : (text : List ℕ) (s : Edits) → lines.IsSession text s → length s.edits.items ≤ 256
 few_edits text s h = h.few

@@ -1,24 +1,23 @@
 -- From a smallest counterexample to what is answered for it.
 use Rattle.std.proofs.Common.{◌≡◌, ℕ, ◌-◌, List, [], ◌∷◌, ◌++◌, length, map, Option, Some, None, refl, sym, ap, subst, append_assoc, ◌∙◌}
 use Rattle.std.specs.Prelude.{codes, All, IfSome}
-use Rattle.std.specs.Fmt.{decimal}
 use Rattle.std.proofs.lemmas.List.Elements.{All-nil, All-cons}
 use Rattle.gh_ast.specs.Plain.{Program}
 use Rattle.gh_ast.specs.Rules.{IsTyped}
 use Rattle.gh_path.specs.Answers.{IsNumbered}
 use Rattle.gh_path.specs.Conditions.{Condition, conditions}
-use Rattle.gh_path.specs.Kept.{StandsFor}
 use Rattle.gh_path.specs.declared.condition.Condition as kept
 use Rattle.gh_symb.specs.Symbolic.{symbolic_of}
 use Rattle.gh_symb.specs.Formulas.{problem}
-use Rattle.gh_trace.specs.Kept.{state_of, drawn, IsOfProgram, IsOne, HasNoCounterexample}
+use Rattle.gh_trace.specs.Kept.{state_of, drawn}
 use Rattle.gh_trace.specs.declared.state.State.{State}
-use Rattle.gh_trace.specs.declared.state.Trace.{Trace}
-use Rattle.gh_log.specs.declared.lines.LogLine.{LogLine}
+use Rattle.gh_log.specs.Lines.{LogLine}
 use Rattle.gh_log.specs.declared.lines.Section.{Section}
 use Rattle.gh_log.specs.Spelled.{IsOfVersion}
-use Rattle.gh_decide.proofs.Listed.{placed}
-use Rattle.gh_decide.specs.Outcomes.{IsFirst, IsVerified}
+use Rattle.gh_trace.proofs.FirstRefuted.{placed}
+use Rattle.gh_decide.specs.Outcomes.{IsVerified}
+use Rattle.gh_trace.specs.Refuted.{IsFirst}
+use Rattle.gh_trace.proofs.FirstRefuted.{first_at, kept_first}
 use Rattle.gh_draw.specs.Descriptions.{description}
 use Rattle.gh_draw.specs.Drawings.{line}
 use Rattle.gh_draw.specs.Drawn.{drawing_text, HasValues}
@@ -35,45 +34,19 @@ use Rattle.gh_top.specs.Smallests.{cells_at_first, IsBoundText, no_cell, some_ce
 use Rattle.gh_top.specs.declared.words.Request.TheVariants as request
 use Rattle.gh_top.specs.declared.status.Status.{Status}
 use Rattle.gh_top.specs.declared.status.Status.TheVariants.{Verified, Refuted}
-use Rattle.gh_top.proofs.DecidingLemmas.{first_at}
 
--- the condition that is kept is the first that isn't valid
-pub kept_first : (P : Program) (k : ℕ) (t : Trace) (r : kept.Condition) → (f : IsFirst P k t) → IsNumbered P k (Some r) → IsOfProgram P r f.condition
-kept_first P k t r f (c, low, there, stands) =
-    let at = first_at P k t f in
-    let same : c ≡ f.condition = cc in
-    record { stands = subst (StandsFor P r) same stands; there = placed P (k - 1) f.condition at }
-
-pub first_one : (P : Program) (k : ℕ) (t : Trace) (r : kept.Condition) → IsFirst P k t → IsNumbered P k (Some r) → IsOne P r
-first_one P k t r f n = (f.condition, kept_first P k t r f n)
-
-pub never_valid : (P : Program) (k : ℕ) (t : Trace) (r : kept.Condition) → IsFirst P k t → IsNumbered P k (Some r) → HasNoCounterexample P r → ⊥
-never_valid P k t r f n valid = valid f.condition (kept_first P k t r f n) f.refutes.first.state _ f.refutes.counterexample
-
--- the smallest counterexample is one of that condition
-pub still_first : (P : Program) (k : ℕ) (t : Trace) (r : kept.Condition) (s : Smallest) → IsFirst P k t → IsNumbered P k (Some r) → IsSmallest P r s → IsFirst P k s.trace
-still_first P k t r s f n is = record {
-  before = f.before;
-  condition = f.condition;
-  after = f.after;
-  whole = f.whole;
-  number_is = f.number_is;
-  valid = f.valid;
-  refutes = is.counterexample f.condition (kept_first P k t r f n);
-}
-
-second_version : (P : Program) (c : Condition) (cells : ℕ) (o : Option Section) → IsLowest (problem (symbolic_of P c)) cells o → IfSome o (λ s. All (IsOfVersion 2) s.lines.items)
+second_version : (P : Program) (c : Condition) (cells : ℕ) (o : Option Section) → IsLowest (problem (symbolic_of P c)) cells o → IfSome o (λ s. All (IsOfVersion 2) s.lines)
 second_version P c cells None h = tt
 second_version P c cells (Some s) h = h.1.placed.version
 
 -- its section is of version 2
-pub of_second : (P : Program) (k : ℕ) (r : kept.Condition) (s : Smallest) → IsFirst P k s.trace → IsNumbered P k (Some r) → IsSmallest P r s → IfSome s.section (λ x. All (IsOfVersion 2) x.lines.items)
+pub of_second : (P : Program) (k : ℕ) (r : kept.Condition) (s : Smallest) → IsFirst P k s.trace → IsNumbered P k (Some r) → IsSmallest P r s → IfSome s.section (λ x. All (IsOfVersion 2) x.lines)
 of_second P k r s f n is = second_version P f.condition s.cells s.section (is.lowest f.condition (kept_first P k s.trace r f n))
 
 bound_told : (P : Program) (c : Condition) (cells : ℕ) (o : Option Section) → IsLowest (problem (symbolic_of P c)) cells o → IsBoundText P c cells (section_text o)
 bound_told P c cells None e = subst (λ n. IsBoundText P c n []) (sym e) no_cell
 bound_told P c cells (Some s) h =
-    some_cells s.lines.items h.0 h.1.valid (All-cons (λ (ls : List LogLine). All (IsOfVersion 2) ls) s.lines.items [] h.1.placed.version (All-nil (λ (ls : List LogLine). All (IsOfVersion 2) ls)))
+    some_cells s.lines h.0 h.1.valid (All-cons (λ (ls : List LogLine). All (IsOfVersion 2) ls) s.lines [] h.1.placed.version (All-nil (λ (ls : List LogLine). All (IsOfVersion 2) ls)))
 
 same_cells : (ss : List State) → first_cells (map drawn ss) ≡ cells_at_first (map state_of ss)
 same_cells [] = refl

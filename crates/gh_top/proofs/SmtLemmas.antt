@@ -12,7 +12,7 @@ use Rattle.gh_base.specs.Grounds.{Problem}
 use Rattle.gh_symb.specs.Symbolic.{symbolic_of}
 use Rattle.gh_symb.specs.Formulas.{problem}
 use Rattle.gh_trace.specs.Kept.{IsOne}
-use Rattle.gh_decide.proofs.Listed.{placed}
+use Rattle.gh_trace.proofs.FirstRefuted.{placed}
 use Rattle.gh_smt.specs.Scripts.{assertion_count, script_of}
 use Rattle.gh_smt.specs.Texts.{script_text}
 use Rattle.gh_smt.specs.Laws.{DecidesCondition}

@@ -7,7 +7,7 @@ use Rattle.gh_ast.specs.Place.{IsPlace}
 use Rattle.gh_ast.specs.Tokens.{IsFirstByte}
 use Rattle.gh_assert.specs.Heaps.{IsProper}
 use Rattle.gh_trace.specs.Traces.{State}
-use Rattle.gh_log.specs.declared.lines.LogLine.{LogLine}
+use Rattle.gh_log.specs.Lines.{LogLine}
 use Rattle.gh_log.specs.Sections.{IsValidSection}
 use Rattle.gh_log.specs.Spelled.{AreOfVersion}
 use Rattle.gh_log.specs.Texts.{log_text}

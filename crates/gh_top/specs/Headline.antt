@@ -6,7 +6,7 @@ use Rattle.gh_ast.specs.Questions.{Question}
 use Rattle.gh_machine.specs.Machine.{IsGood}
 use Rattle.gh_path.specs.Conditions.{Condition, conditions}
 use Rattle.gh_trace.specs.Validity.{ListedAreValid}
-use Rattle.gh_log.specs.declared.lines.LogLine.{LogLine}
+use Rattle.gh_log.specs.Lines.{LogLine}
 use Rattle.gh_log.specs.Spelled.{AreOfVersion}
 use Rattle.gh_log.specs.Texts.{log_text}
 use Rattle.gh_decide.specs.Logs.{IsValidLog}

@@ -7,7 +7,7 @@ use Rattle.gh_path.specs.Conditions.{Condition, conditions}
 use Rattle.gh_symb.specs.Symbolic.{symbolic_of}
 use Rattle.gh_symb.specs.Formulas.{problem}
 use Rattle.gh_trace.specs.Traces.{State}
-use Rattle.gh_log.specs.declared.lines.LogLine.{LogLine}
+use Rattle.gh_log.specs.Lines.{LogLine}
 use Rattle.gh_log.specs.declared.lines.Section.{Section}
 use Rattle.gh_log.specs.Sections.{IsValidSection}
 use Rattle.gh_log.specs.Spelled.{AreOfVersion}
@@ -37,7 +37,7 @@ pub data IsBoundText (P : Program) (c : Condition) : ℕ → List ℕ → Type 0
 -- that log's text
 abbrev pub section_text : Option Section → List ℕ
 section_text None = []
-section_text (Some s) = log_text 2 (s.lines.items ∷ [])
+section_text (Some s) = log_text 2 (s.lines ∷ [])
 
 -- the text is the report on the first condition that isn't valid, with a counterexample that has the fewest first cells
 pub record IsSmallestReport (P : Program) (text : List ℕ) : Type 0 where

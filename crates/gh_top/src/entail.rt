@@ -71,9 +71,9 @@ fn asked(alloc: Global, file: &FileText) -> Result<Asked, FrontError>
 
 // The report on a question that is entailed, with the section that shows it.
 fn entailed(alloc: Global, section: Section) -> Result<Report, AllocError>
-    requires { All (IsOfVersion 2) section.lines.items }
+    requires { All (IsOfVersion 2) section.lines }
     ensures status { IfOk result (λ r. r.status ≡ Status.Verified) }
-    ensures text { IfOk result (λ r. r.text ≡ line (codes "entailed") ++ log_text 2 (section.lines.items ∷ [])) }
+    ensures text { IfOk result (λ r. r.text ≡ line (codes "entailed") ++ log_text 2 (section.lines ∷ [])) }
 {
     let mut sections = Vec::new(alloc);
     sections.push(section)?;

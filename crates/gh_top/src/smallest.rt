@@ -3,7 +3,7 @@
 
 ghost use Rattle.std.specs.Prelude.{◌≡◌, IfOk, IfSome, List, ℕ, All, Some};
 ghost use Rattle.gh_ast.specs.Plain.{program_of};
-ghost use Rattle.gh_decide.specs.Outcomes.{IsFirst};
+ghost use Rattle.gh_trace.specs.Refuted.{IsFirst};
 ghost use Rattle.gh_log.specs.Spelled.{IsOfVersion};
 ghost use Rattle.gh_path.specs.Answers.{IsNumbered};
 ghost use Rattle.gh_small.specs.Smallest.{IsSmallest};
@@ -30,7 +30,7 @@ use std::alloc::{AllocError, Global};
 
 // The text of a log with the section alone; nothing where there is none.
 fn bound_text(alloc: Global, section: Option<Section>) -> Result<Text, AllocError>
-    requires { IfSome section (λ s. All (IsOfVersion 2) s.lines.items) }
+    requires { IfSome section (λ s. All (IsOfVersion 2) s.lines) }
     ensures { IfOk result (λ t. t ≡ section_text section) }
 {
     match section {

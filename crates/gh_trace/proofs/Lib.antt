@@ -9,3 +9,4 @@ pub mod KeptSteps
 pub mod Insides
 pub mod CallLemmas
 pub mod Following
+pub mod FirstRefuted

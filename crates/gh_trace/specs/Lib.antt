@@ -8,4 +8,5 @@ pub mod Targets
 pub mod Scenes
 pub mod Rest
 pub mod Decisions
+pub mod Refuted
 pub mod Laws

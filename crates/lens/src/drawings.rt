@@ -1,6 +1,7 @@
 // Drawings in files.
 
 ghost use Rattle.std.specs.Prelude.{◌≡◌};
+ghost use Rattle.gh_ast.specs.Plain.{program_of};
 
 use anyhow::Error;
 use gh_ast::typed::Typed;
@@ -21,7 +22,7 @@ pub(crate) fn drawing_in<R: Files + Alloc<A = Global>>(
     conditions: &Conditions,
     file: &str,
 ) -> Result<Option<Drawing>, Error>
-    requires { conditions.now ≡ typed.now }
+    requires { program_of conditions.now ≡ program_of typed.now }
 {
     let text = fs::read(rt, file)?;
     if text.len() > MOST_DRAWN {

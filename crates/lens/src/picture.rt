@@ -25,7 +25,7 @@ fn shown<R: Print + Eprint + Alloc<A = Global>>(
     drawing: &Drawing,
     name: &str,
 ) -> Result<u8, Error>
-    requires same { conditions.now ≡ typed.now }
+    requires same { program_of conditions.now ≡ program_of typed.now }
     requires admitted { IsAdmitted (program_of typed.now) }
 {
     match picture_of(rt.alloc(), typed, conditions, drawing)? {
@@ -51,7 +51,7 @@ fn given<R: Print + Eprint + Files + Alloc<A = Global>>(
     conditions: &Conditions,
     file: &str,
 ) -> Result<u8, Error>
-    requires same { conditions.now ≡ typed.now }
+    requires same { program_of conditions.now ≡ program_of typed.now }
     requires admitted { IsAdmitted (program_of typed.now) }
 {
     match drawing_in(rt, typed, conditions, file)? {
@@ -70,7 +70,7 @@ fn smallest<R: Print + Eprint + Alloc<A = Global>>(
     conditions: &Conditions,
     file: &str,
 ) -> Result<u8, Error>
-    requires same { conditions.now ≡ typed.now }
+    requires same { program_of conditions.now ≡ program_of typed.now }
     requires admitted { IsAdmitted (program_of typed.now) }
 {
     match smallest_drawing(rt.alloc(), typed, conditions)? {

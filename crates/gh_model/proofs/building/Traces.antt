@@ -25,7 +25,7 @@ use Rattle.gh_grass.specs.declared.binding.Bond.{Bond}
 use Rattle.gh_symb.specs.Formulas.{version_after as version_past, problem}
 use Rattle.gh_symb.specs.Symbolic as plain
 use Rattle.gh_symb.specs.Symbolic.{term_step, term_steps, step_used, check_used, first_use, state_bindings, symbolic_of}
-use Rattle.gh_symb.specs.Told.{plain_kind, Each, IsBinding, IsTermStep, IsSymbolic}
+use Rattle.gh_symb.specs.Encodings.{plain_kind, Each, IsBinding, IsTermStep, IsSymbolic}
 use Rattle.gh_symb.specs.declared.over_terms.Symbolic.{Symbolic}
 use Rattle.gh_symb.specs.declared.over_terms.TermStep.{TermStep}
 use Rattle.gh_symb.specs.declared.over_terms.TermStep.TheVariants.{Access, Assume, Same, Write, New, Free, Part}

@@ -1,18 +1,12 @@
-use Rattle.std.proofs.Common.{refl, sym, subst}
-use Rattle.gh_check.specs.Kept.{MayBeDeleted, AreDeleted}
+use Rattle.std.proofs.Common.{refl}
 use Rattle.gh_check.proofs.LineLemmas.{deletion_taken, deletion_refused, deletion_kept}
 use Rattle.gh_check.proofs.lines.checked_deletion.Goals as goal
 
 pub returns-then-delete-clause-checked : goal.returns-then-delete-clause-checked
-returns-then-delete-clause-checked c =
-    λ p earlier h. deletion_taken p earlier c.args.kept.now c.args.positions.now h (subst (MayBeDeleted c.args.kept.now) c.as_slice.ensures.value (c.if-delete.ensures.exact.0 refl))
+returns-then-delete-clause-checked c = λ p earlier h. deletion_taken p earlier c.args.kept.now c.args.positions.now h (c.if-delete.ensures.exact.0 refl)
 
 pub returns-then-delete-clause-deleted : goal.returns-then-delete-clause-deleted
-returns-then-delete-clause-deleted c =
-    λ p earlier h. deletion_kept p earlier c.args.kept.now c.delete.new.self c.args.positions.now h
-    (subst (AreDeleted c.args.kept.now c.delete.new.self) c.as_slice.ensures.value (c.if-delete.ensures.deleted refl))
+returns-then-delete-clause-deleted c = λ p earlier h. deletion_kept p earlier c.args.kept.now c.delete.new.self c.args.positions.now h (c.if-delete.ensures.deleted refl)
 
 pub returns-else-delete-clause-checked : goal.returns-else-delete-clause-checked
-returns-else-delete-clause-checked c =
-    λ p earlier h. deletion_refused p earlier c.args.kept.now c.args.positions.now h
-    (λ may. let f = c.if-delete.ensures.exact.1 (subst (MayBeDeleted c.args.kept.now) (sym c.as_slice.ensures.value) may) in absurd (cc))
+returns-else-delete-clause-checked c = λ p earlier h. deletion_refused p earlier c.args.kept.now c.args.positions.now h (λ may. let f = c.if-delete.ensures.exact.1 may in absurd (cc))

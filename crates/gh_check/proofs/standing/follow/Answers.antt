@@ -1,16 +1,16 @@
 use Rattle.std.proofs.Common.{◌++◌, List, ◌∙◌, ◌+◌, get_or, refl, sym, ap, subst}
 use Rattle.std.proofs.lemmas.List.Elements.{All-contains}
 use Rattle.gh_base.specs.declared.atom.Lit.{Lit}
-use Rattle.gh_base.specs.Atoms.{IsInRange, AreInRange}
-use Rattle.gh_base.specs.Hints.{HasAllButOne}
-use Rattle.gh_check.specs.Truths.{TruthSet, IsFalseBy}
+use Rattle.gh_base.specs.Atoms.{IsInRange}
+use Rattle.gh_check.specs.Kept.{clause_at}
+use Rattle.gh_check.specs.Truths.{TruthSet}
 use Rattle.gh_check.proofs.TruthLemmas.{Follows, follows_false, follows_unit, at_within}
 use Rattle.gh_check.proofs.StandingLemmas.{beside, not_above}
 use Rattle.gh_check.proofs.standing.follow.Goals as goal
 
 pub returns-in-False-clause-shown : goal.returns-in-False-clause-shown
 returns-in-False-clause-shown c =
-    let all = subst (IsFalseBy (c.args.fixed.now.lits ++ c.loop-hint.above.lits)) c.lits.ensures c.in-False.ensures in
+    let all = c.in-False.ensures in
     λ t. follows_false c.args.kept.now c.args.hints.now (c.args.fixed.now.lits ++ c.args.above.now.lits) c.loop-hint.hint-index 0 _ (c.args.fixed.now.lits ++ c.loop-hint.above.lits) c.loop-hint-test.true refl c.loop-hint.invariant.follows all
 
 pub add-requires-clause-range : goal.add-requires-clause-range
@@ -18,7 +18,7 @@ add-requires-clause-range c =
     let there = c.in-Unit.ensures.there in
     let n = get_or c.args.hints.now c.loop-hint.hint-index 0 in
     let ranged = at_within c.args.above.now.sizes c.args.kept.now n c.requires.above in
-    let here = All-contains (λ (l : Lit). IsInRange c.args.above.now.sizes l.atom) c.lits.result.now c.in-Unit.lit (subst (AreInRange c.args.above.now.sizes) (sym c.lits.ensures) ranged) there in
+    let here = All-contains (λ (l : Lit). IsInRange c.args.above.now.sizes l.atom) (clause_at c.args.kept.now n) c.in-Unit.lit ranged there in
     subst (λ s. IsInRange s c.in-Unit.lit.atom) (sym c.loop-hint.invariant.sizes) here
 
 pub add-requires-clause-not_false : goal.add-requires-clause-not_false
@@ -29,7 +29,7 @@ loop-hint-preserved c =
     let n = get_or c.args.hints.now c.loop-hint.hint-index 0 in
     let set : List Lit = c.args.fixed.now.lits ++ c.loop-hint.above.lits in
     let first : List Lit = c.args.fixed.now.lits ++ c.args.above.now.lits in
-    let one = subst (λ cs. HasAllButOne set cs c.in-Unit.lit) c.lits.ensures c.in-Unit.ensures in
+    let one = c.in-Unit.ensures in
     let added = c.in_ok-add-in-Unit.ensures.added in
     let longer = beside c.args.fixed.now.lits c.loop-hint.above.lits _ c.in-Unit.lit (ap (λ (t : TruthSet). t.lits) added) in
     record {

@@ -1,5 +1,4 @@
-use Rattle.std.proofs.Common.{ap, sym, ◌∙◌}
-use Rattle.gh_ast.specs.Programs.{names}
+use Rattle.std.proofs.Common.{sym}
 use Rattle.gh_ast.specs.Questions.{question_of}
 use Rattle.gh_entail.proofs.Stating.{variables_are_distinct, distinct_after}
 use Rattle.gh_entail.proofs.Answering.{terms_below}

@@ -3,7 +3,7 @@ use Rattle.gh_ast.specs.Plain.{formula_of}
 use Rattle.gh_grass.specs.Claims.{claims_list}
 use Rattle.gh_grass.proofs.ClaimLemmas.{put_term}
 use Rattle.gh_symb.specs.Formulas.{meets, covers}
-use Rattle.gh_symb.specs.Told.{plain_kind}
+use Rattle.gh_symb.specs.Encodings.{plain_kind}
 use Rattle.gh_entail.specs.Asked.{under_at}
 use Rattle.gh_entail.proofs.formula.meets_whole.Goals as goal
 

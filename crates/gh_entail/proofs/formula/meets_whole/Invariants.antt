@@ -2,7 +2,7 @@ use Rattle.std.proofs.Common.{◌≡◌, ◌∷◌, map}
 use Rattle.gh_ast.specs.Plain.{formula_of}
 use Rattle.gh_grass.specs.Claims.{claims_list}
 use Rattle.gh_symb.specs.Formulas.{meets, covers, each}
-use Rattle.gh_symb.specs.Told.{plain_kind}
+use Rattle.gh_symb.specs.Encodings.{plain_kind}
 use Rattle.gh_entail.specs.Asked.{under_at}
 use Rattle.gh_entail.proofs.formula.meets_whole.Given as goal
 

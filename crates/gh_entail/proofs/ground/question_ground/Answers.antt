@@ -1,7 +1,7 @@
 use Rattle.std.proofs.Common.{◌++◌, ◌∷◌, [], map, ap, ◌∙◌, arith, append_assoc}
 use Rattle.gh_grass.specs.Claims.{claim_of, negation_of}
 use Rattle.gh_symb.specs.Formulas.{version_claims}
-use Rattle.gh_symb.specs.Told.{plain_kind}
+use Rattle.gh_symb.specs.Encodings.{plain_kind}
 use Rattle.gh_reduce.specs.Growth.{stated_in}
 use Rattle.gh_reduce.specs.Inside.{binding_of}
 use Rattle.gh_reduce.proofs.RowLemmas.{claim_within, one_more}

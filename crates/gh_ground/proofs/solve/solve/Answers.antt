@@ -1,6 +1,6 @@
 use Rattle.std.proofs.Common.{◌∙◌, All, Contains, arith, subst, vec_len}
 use Rattle.gh_base.specs.Structures.{interpretation_of}
-use Rattle.gh_log.specs.declared.lines.LogLine.TheVariants as line
+use Rattle.gh_log.specs.Lines as line
 use Rattle.gh_ground.proofs.KeptLemmas.{ended_open, ended_refuted}
 use Rattle.gh_ground.proofs.MissingLemmas.{round_less, none_there, some_there, are_instances, model_is}
 use Rattle.gh_ground.proofs.solve.solve.Goals as goal
@@ -31,8 +31,8 @@ loop-solver-smaller c =
     let last = c.add_instances.new.self in
     let kept = c.in_ok-conflict.ensures.keeps.keeps p c.loop-solver.invariant in
     let some = some_there (vec_len names) names.items c.is_empty.result (omega (arith, names.ok.0)) c.is_empty.ensures c.if-is_empty.false in
-    let added = subst (All (λ n. Contains last.lines.items (line.Axiom n))) c.as_slice.ensures.value c.in_ok-add_instances.ensures.added in
-    round_less p first.search mid.search last.search first.lines.items mid.lines.items last.lines.items (interpretation_of t) t.sizes names.items (c.in_ok-structure.ensures.sizes ∙ kept.sizes) c.in_ok-conflict.ensures.keeps kept
+    let added = subst (All (λ n. Contains last.lines (line.Axiom n))) c.as_slice.ensures.value c.in_ok-add_instances.ensures.added in
+    round_less p first.search mid.search last.search first.lines mid.lines last.lines (interpretation_of t) t.sizes names.items (c.in_ok-structure.ensures.sizes ∙ kept.sizes) c.in_ok-conflict.ensures.keeps kept
     c.in_ok-structure.ensures.clauses c.in_ok-names.ensures.each some c.in_ok-add_instances.ensures.keeps added
 
 pub returns-then-is_empty : goal.returns-then-is_empty
@@ -41,7 +41,7 @@ returns-then-is_empty c =
     let mid = c.conflict.new.self in
     let names = c.in_ok-names.names in
     let none = none_there (vec_len names) names.items c.is_empty.result (omega (arith, names.ok.0)) c.is_empty.ensures c.if-is_empty.true in
-    model_is p mid.search mid.lines.items c.in_ok-structure.structure (c.in_ok-conflict.ensures.keeps.keeps p c.loop-solver.invariant) c.in_ok-structure.ensures.sizes c.in_ok-structure.ensures.clauses c.in_ok-structure.ensures.congruence
+    model_is p mid.search mid.lines c.in_ok-structure.structure (c.in_ok-conflict.ensures.keeps.keeps p c.loop-solver.invariant) c.in_ok-structure.ensures.sizes c.in_ok-structure.ensures.clauses c.in_ok-structure.ensures.congruence
     (c.in_ok-names.ensures.none none)
 
 pub into_section-requires : goal.into_section-requires

@@ -3,7 +3,7 @@ use Rattle.gh_ground.proofs.MissingLemmas.{unlisted}
 use Rattle.gh_ground.proofs.solve.solve.Given as goal
 
 abbrev pub invariant-loop-solver : goal.invariant-loop-solver
-invariant-loop-solver l = HasLineEach l.ground l.solver.search l.solver.lines.items
+invariant-loop-solver l = HasLineEach l.ground l.solver.search l.solver.lines
 
 abbrev pub decreases-loop-solver : goal.decreases-loop-solver
-decreases-loop-solver l = unlisted l.ground l.solver.lines.items
+decreases-loop-solver l = unlisted l.ground l.solver.lines

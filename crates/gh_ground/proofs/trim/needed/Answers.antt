@@ -1,5 +1,5 @@
-use Rattle.std.proofs.Common.{◌≡◌, ◌+◌, ◌-◌, length, subst, arith}
-use Rattle.std.proofs.lemmas.Option.{slice_get_read}
+use Rattle.std.proofs.Common.{◌≡◌, ◌+◌, ◌-◌, subst, arith}
+use Rattle.gh_log.specs.Tables.{line_of}
 use Rattle.gh_ground.specs.Trimming.{AreNeeded}
 use Rattle.gh_ground.proofs.TrimLemmas.{needed_step, needed_whole}
 use Rattle.gh_ground.proofs.trim.needed.Goals as goal
@@ -10,8 +10,8 @@ loop-place-preserved c =
     let old = c.loop-place.kept.items in
     let i = c.loop-place.invariant in
     let e = c.keep_hints.ensures in
-    let l = c.index-lines-place.result in
-    let at = slice_get_read lines (length lines) (c.loop-place.place - 1) l (λ _. length lines) (omega arith) c.index-lines-place.is in
+    let l = line_of c.line.result in
+    let at = c.line.ensures in
     let up : c.loop-place.place ≡ (c.loop-place.place - 1) + 1 = omega arith in
     record {
       within = omega arith;

@@ -1,9 +1,9 @@
 use Rattle.std.proofs.Common.{◌≡◌, ◌∙◌, ◌+◌, ◌<◌, ◌++◌, ◌∷◌, [], ℕ, List, Bool, length, true, false, Some, ap, arith, refl, subst, sym}
 use Rattle.std.specs.Prelude.{slice_get}
 use Rattle.std.proofs.lemmas.List.{length_push}
-use Rattle.std.proofs.lemmas.Option.{slice_get_read}
 use Rattle.gh_base.specs.Grounds.{Problem}
-use Rattle.gh_log.specs.declared.lines.LogLine.{LogLine}
+use Rattle.gh_log.specs.Lines.{LogLine}
+use Rattle.gh_log.specs.Tables.{line_of}
 use Rattle.gh_ground.specs.declared.trim.Trimmed.{Trimmed}
 use Rattle.gh_ground.specs.Trimming.{AreNeeded, IsMoved}
 use Rattle.gh_ground.proofs.TrimLemmas.{IsGood, IsRenumbered, read_mark, trim_kept, trim_passed, trimmed_refutes}
@@ -26,7 +26,7 @@ turn_passed p lines kept place old new positions moved out same e good h =
 
 pub loop-place-preserved : goal.loop-place-preserved
 loop-place-preserved c =
-    let lines = c.as_slice-lines.result.now in
+    let lines = c.args.section.now.lines in
     let kept = c.in_ok-kept.kept.items in
     let place = c.loop-place.place in
     let old = c.loop-place.trimmed in
@@ -35,24 +35,24 @@ loop-place-preserved c =
     let within : place < length kept = omega (arith, c.in_ok-kept.ensures.long, c.loop-place-test.true) in
     elim c.if-index.branch [
       | then-index+in_ok-take w ↦
-          let l = w.index-lines-place.result in
-          let at = slice_get_read lines (length lines) place l (λ _. length lines) c.loop-place-test.true w.index-lines-place.is in
+          let l = line_of w.line.result in
+          let at = w.line.ensures in
           let is = read_mark kept place c.index.result.now true within c.index.ensures w.if-index.true in
           let e = w.in_ok-take.ensures in
-          let lines_is : new.lines.items ≡ old.lines.items ++ e.line.0 ∷ [] = ap (λ (t : Trimmed). t.lines.items) w.trimmed-is ∙ e.line.2 in
-          let positions_is : new.positions.items ≡ old.positions.items ++ (length old.lines.items + 1) ∷ [] = ap (λ (t : Trimmed). t.positions.items) w.trimmed-is ∙ e.positions in
+          let lines_is : new.lines ≡ old.lines ++ e.line.0 ∷ [] = ap (λ (t : Trimmed). t.lines) w.trimmed-is ∙ e.line.2 in
+          let positions_is : new.positions.items ≡ old.positions.items ++ (length old.lines + 1) ∷ [] = ap (λ (t : Trimmed). t.positions.items) w.trimmed-is ∙ e.positions in
           record {
-            few = omega (arith, i.few, ap length lines_is, length_push old.lines.items e.line.0);
-            trimmed = λ p good. turn_kept p lines kept place old.lines.items new.lines.items old.positions.items new.positions.items l c.in_ok-kept.ensures at is (e.line.0, e.line.1, lines_is) positions_is good (i.trimmed p good);
+            few = omega (arith, i.few, ap length lines_is, length_push old.lines e.line.0);
+            trimmed = λ p good. turn_kept p lines kept place old.lines new.lines old.positions.items new.positions.items l c.in_ok-kept.ensures at is (e.line.0, e.line.1, lines_is) positions_is good (i.trimmed p good);
           }
       | else-index+in_ok-pass w ↦
           let out = read_mark kept place c.index.result.now false within c.index.ensures w.if-index.false in
           let e = w.in_ok-pass.ensures in
-          let lines_is : new.lines.items ≡ old.lines.items = ap (λ (t : Trimmed). t.lines.items) w.trimmed-is ∙ e.lines in
-          let positions_is : new.positions.items ≡ old.positions.items ++ length old.lines.items ∷ [] = ap (λ (t : Trimmed). t.positions.items) w.trimmed-is ∙ e.positions in
+          let lines_is : new.lines ≡ old.lines = ap (λ (t : Trimmed). t.lines) w.trimmed-is ∙ e.lines in
+          let positions_is : new.positions.items ≡ old.positions.items ++ length old.lines ∷ [] = ap (λ (t : Trimmed). t.positions.items) w.trimmed-is ∙ e.positions in
           record {
             few = omega (arith, i.few, ap length lines_is);
-            trimmed = λ p good. turn_passed p lines kept place old.lines.items new.lines.items old.positions.items new.positions.items out lines_is positions_is good (i.trimmed p good);
+            trimmed = λ p good. turn_passed p lines kept place old.lines new.lines old.positions.items new.positions.items out lines_is positions_is good (i.trimmed p good);
           }
     ]
 
@@ -62,9 +62,6 @@ returns c =
     let place = c.loop-place.place in
     let new = c.loop-place.trimmed in
     let i = c.loop-place.invariant in
-    let is = c.as_slice-lines.ensures.value in
-    let needed = subst (λ (ls : List LogLine). AreNeeded ls kept 0) is c.in_ok-kept.ensures in
-    let end : place ≡ length c.as_slice-lines.result.now = omega (arith, c.loop-place.auto.place-end, c.loop-place-test.false) in
-    λ p h. trimmed_refutes p c.args.section.now _ kept place new.positions.items needed (end ∙ ap length is)
-    (subst (λ (ls : List LogLine). IsGood p ls → IsRenumbered p ls kept place new.lines.items new.positions.items) is (i.trimmed p)) refl
-    (omega (arith, new.lines.ok.0, i.few, end, c.if-lines-gt4294967294.false)) h
+    let end : place ≡ length c.args.section.now.lines = omega (arith, c.loop-place.auto.place-end, c.loop-place-test.false) in
+    λ p h. trimmed_refutes p c.args.section.now _ kept place new.positions.items c.in_ok-kept.ensures end (i.trimmed p) refl
+    (omega (arith, i.few, end, c.if-len-gt4294967294.false)) h

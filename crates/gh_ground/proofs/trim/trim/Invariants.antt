@@ -5,6 +5,6 @@ use Rattle.gh_ground.proofs.trim.trim.Given as goal
 
 abbrev pub invariant-loop-place : goal.invariant-loop-place
 invariant-loop-place l = record {
-  few : length l.trimmed.lines.items ≤ l.place;
-  trimmed : (p : Problem) → IsGood p l.lines → IsRenumbered p l.lines l.kept.items l.place l.trimmed.lines.items l.trimmed.positions.items;
+  few : length l.trimmed.lines ≤ l.place;
+  trimmed : (p : Problem) → IsGood p l.lines → IsRenumbered p l.lines l.kept.items l.place l.trimmed.lines l.trimmed.positions.items;
 }

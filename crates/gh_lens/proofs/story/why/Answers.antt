@@ -13,7 +13,7 @@ replay-requires c =
     let P = program_of c.args.typed.now in
     let n = c.args.drawing.now.condition in
     let r = c.in-Some.condition in
-    let found : IsNumbered P n (Some r) = rw (c.in-Some.is, c.requires.same) at c.in_ok-condition.ensures in
+    let found : IsNumbered P n (Some r) = subst (λ Q. IsNumbered Q n (Some r)) c.requires.same (rw c.in-Some.is at c.in_ok-condition.ensures) in
     few_steps P n r c.requires.admitted found
 
 pub told_of-requires : goal.told_of-requires
@@ -21,7 +21,7 @@ told_of-requires c =
     let P = program_of c.args.typed.now in
     let n = c.args.drawing.now.condition in
     let r = c.in-Some.condition in
-    let found : IsNumbered P n (Some r) = rw (c.in-Some.is, c.requires.same) at c.in_ok-condition.ensures in
+    let found : IsNumbered P n (Some r) = subst (λ Q. IsNumbered Q n (Some r)) c.requires.same (rw c.in-Some.is at c.in_ok-condition.ensures) in
     shown P n r c.args.drawing.now.trace c.as_slice-states.result.now found c.in-Ok.ensures.refuted c.as_slice-states.ensures.value
 
 pub returns-in-Ok : goal.returns-in-Ok
@@ -29,7 +29,7 @@ returns-in-Ok c =
     let P = program_of c.args.typed.now in
     let n = c.args.drawing.now.condition in
     let r = c.in-Some.condition in
-    let found : IsNumbered P n (Some r) = rw (c.in-Some.is, c.requires.same) at c.in_ok-condition.ensures in
+    let found : IsNumbered P n (Some r) = subst (λ Q. IsNumbered Q n (Some r)) c.requires.same (rw c.in-Some.is at c.in_ok-condition.ensures) in
     told_by_number P n r c.args.drawing.now.trace c.as_slice-states.result.now c.in_ok-text-in-Ok.text found c.in-Ok.ensures.refuted c.as_slice-states.ensures.value c.in_ok-text-in-Ok.ensures
 
 pub returns-in-Err-Step : goal.returns-in-Err-Step
@@ -37,7 +37,7 @@ returns-in-Err-Step c =
     let P = program_of c.args.typed.now in
     let n = c.args.drawing.now.condition in
     let r = c.in-Some.condition in
-    let found : IsNumbered P n (Some r) = rw (c.in-Some.is, c.requires.same) at c.in_ok-condition.ensures in
+    let found : IsNumbered P n (Some r) = subst (λ Q. IsNumbered Q n (Some r)) c.requires.same (rw c.in-Some.is at c.in_ok-condition.ensures) in
     let fails : IsFailure P r (drawn_of c.args.drawing.now.trace) (Step c.in-Err-Step.number) = rw c.in-Err-Step.field-0-is at c.in-Err-Step.ensures.failed in
     subst (λ m. IsExplained P n c.args.drawing.now.trace.states.items (Fails m)) (sym c.in-Err-Step.number-is)
     (fails_by_number P n c.in-Err-Step.number r c.args.drawing.now.trace found fails)

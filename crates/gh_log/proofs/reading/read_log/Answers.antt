@@ -41,14 +41,14 @@ overflow_cast-at c =
     let fits = up_to_fits c.args.text.now _ c.sections.sections.items c.sections.at c.sections.reader.rest.now c.sections.invariant c.requires in
     let s = c.in_ok-section.section in
     let small = section_fits _ (c.len.result + 1) c.sections.at c.sections.reader.rest.now s c.section.new.self.rest.now c.in_ok-section.ensures.read fits.0 in
-    omega (arith, small, c.len-in-sections.ensures, s.lines.ok.0)
+    omega (arith, small, c.len-in-sections.ensures)
 
 pub overflow_add-at : goal.overflow_add-at
 overflow_add-at c =
     let fits = up_to_fits c.args.text.now _ c.sections.sections.items c.sections.at c.sections.reader.rest.now c.sections.invariant c.requires in
     let s = c.in_ok-section.section in
     let small = section_fits _ (c.len.result + 1) c.sections.at c.sections.reader.rest.now s c.section.new.self.rest.now c.in_ok-section.ensures.read fits.0 in
-    omega (arith, small, c.len-in-sections.ensures, s.lines.ok.0)
+    omega (arith, small, c.len-in-sections.ensures)
 
 pub sections-preserved : goal.sections-preserved
 sections-preserved c =
@@ -56,7 +56,7 @@ sections-preserved c =
     let s = c.in_ok-section.section in
     let left = c.section.new.self.rest.now in
     let n : c.len.result ≡ length ss = omega (arith, c.len.ensures, c.sections.sections.ok.0) in
-    let lines : c.len-in-sections.result ≡ length s.lines.items = omega (arith, c.len-in-sections.ensures, s.lines.ok.0) in
+    let lines : c.len-in-sections.result ≡ length s.lines = omega (arith, c.len-in-sections.ensures) in
     up_to_more text _ ss c.push.new.self.items c.sections.at (s.first + c.len-in-sections.result) rest left s c.sections.invariant
     (subst (λ k. SpellsSection c.in-Ok.version (k + 1) c.sections.at rest s left) n c.in_ok-section.ensures.read) c.in_ok-push.ensures.items (ap (λ k. s.first + k) lines)
 

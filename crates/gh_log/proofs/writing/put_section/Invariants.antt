@@ -3,5 +3,5 @@ use Rattle.std.specs.List.{flat_map}
 use Rattle.gh_log.specs.Texts.{Adds, line_text}
 use Rattle.gh_log.proofs.writing.put_section.Given as goal
 
-abbrev pub invariant-loop-line : goal.invariant-loop-line
-invariant-loop-line l = Adds l.initial.out l.out (flat_map line_text (take l.line-index l.section.lines.items))
+abbrev pub invariant-loop-place : goal.invariant-loop-place
+invariant-loop-place l = Adds l.initial.out l.out (flat_map line_text (take l.place l.section.lines))

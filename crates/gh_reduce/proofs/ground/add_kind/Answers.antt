@@ -1,5 +1,5 @@
 use Rattle.std.proofs.Common.{ap}
-use Rattle.gh_symb.specs.Told.{plain_kind}
+use Rattle.gh_symb.specs.Encodings.{plain_kind}
 use Rattle.gh_reduce.proofs.ground.add_kind.Goals as goal
 
 pub add_successor-requires-clause-of : goal.add_successor-requires-clause-of

@@ -2,7 +2,7 @@ use Rattle.std.proofs.Common.{◌≡◌, ◌∷◌, [], List, map, subst, arith}
 use Rattle.std.proofs.lemmas.List.Elements.{All-head}
 use Rattle.gh_grass.specs.Claims.{claim_of, one_of}
 use Rattle.gh_symb.specs.Formulas.{meets_whole}
-use Rattle.gh_symb.specs.Told.{plain_kind}
+use Rattle.gh_symb.specs.Encodings.{plain_kind}
 use Rattle.gh_symb.specs.declared.over_terms.Bound.{Bound}
 use Rattle.gh_reduce.specs.Inside.{under_of, AllAreInside, IsUnderInside}
 use Rattle.gh_reduce.proofs.InsideLemmas.{whole_within}

@@ -2,7 +2,7 @@ use Rattle.std.proofs.Common.{◌≡◌, ◌<◌, ◌+◌, ℕ, List, map, drop,
 use Rattle.gh_base.specs.Grounds.{Problem}
 use Rattle.gh_symb.specs.Symbolic.{TermStep}
 use Rattle.gh_symb.specs.Formulas.{step_claims, steps_claims, version_after}
-use Rattle.gh_symb.specs.Told.{plain_kind}
+use Rattle.gh_symb.specs.Encodings.{plain_kind}
 use Rattle.gh_reduce.specs.Growth.{stated_in}
 use Rattle.gh_reduce.specs.Inside.{step_of, IsReady, AreStepsInside}
 use Rattle.gh_reduce.proofs.GrowthLemmas.{stated_first, same_terms, same_versions}

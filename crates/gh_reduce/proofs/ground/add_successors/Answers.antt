@@ -2,7 +2,7 @@ use Rattle.std.proofs.Common.{◌+◌, Some, map, drop, ◌∙◌, ap, arith}
 use Rattle.std.proofs.lemmas.List.{length-map}
 use Rattle.gh_path.specs.Terms.{Kind}
 use Rattle.gh_symb.specs.Formulas.{successor_claims, successors_from}
-use Rattle.gh_symb.specs.Told.{plain_kind}
+use Rattle.gh_symb.specs.Encodings.{plain_kind}
 use Rattle.gh_reduce.specs.Growth.{stated_in}
 use Rattle.gh_reduce.proofs.GrowthLemmas.{stated_first, same_terms, same_versions}
 use Rattle.gh_reduce.proofs.WalkLemmas.{kind_at, successors_first}

@@ -3,7 +3,7 @@ use Rattle.std.proofs.lemmas.List.{length-map}
 use Rattle.gh_grass.specs.Bindings.{term}
 use Rattle.gh_grass.specs.Claims.{claim_of, negation_of}
 use Rattle.gh_symb.specs.Formulas.{allocated, each, leads, successors_from}
-use Rattle.gh_symb.specs.Told.{plain_kind}
+use Rattle.gh_symb.specs.Encodings.{plain_kind}
 use Rattle.gh_reduce.specs.declared.rows.EachTerm.TheVariants.{Leads}
 use Rattle.gh_reduce.specs.Growth.{stated_in}
 use Rattle.gh_reduce.specs.Rows.{of_term}

@@ -1,6 +1,6 @@
 use Rattle.std.proofs.Common.{map, arith}
 use Rattle.gh_symb.specs.Formulas.{version_claims, versions_claims}
-use Rattle.gh_symb.specs.Told.{plain_kind}
+use Rattle.gh_symb.specs.Encodings.{plain_kind}
 use Rattle.gh_reduce.proofs.GrowthLemmas.{numbers_more, same_versions}
 use Rattle.gh_reduce.proofs.RowLemmas.{ready_stays}
 use Rattle.gh_reduce.proofs.ground.add_versions.Goals as goal

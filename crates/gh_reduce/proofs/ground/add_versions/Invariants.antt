@@ -1,6 +1,6 @@
 use Rattle.std.proofs.Common.{◌≡◌, map}
 use Rattle.gh_symb.specs.Formulas.{versions_claims}
-use Rattle.gh_symb.specs.Told.{plain_kind}
+use Rattle.gh_symb.specs.Encodings.{plain_kind}
 use Rattle.gh_reduce.specs.Growth.{stated_in}
 use Rattle.gh_reduce.proofs.ground.add_versions.Given as goal
 

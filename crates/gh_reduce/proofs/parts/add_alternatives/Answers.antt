@@ -1,7 +1,7 @@
 use Rattle.std.proofs.Common.{◌≡◌, ◌∙◌, ◌∷◌, [], List, map, ap, sym, subst, arith}
 use Rattle.std.proofs.lemmas.List.Elements.{All-head}
 use Rattle.gh_grass.specs.Claims.{Claim, claim_of, claims_of, claims_list, one_of}
-use Rattle.gh_symb.specs.Told.{plain_kind}
+use Rattle.gh_symb.specs.Encodings.{plain_kind}
 use Rattle.gh_symb.specs.declared.over_terms.Bound.{Bound}
 use Rattle.gh_reduce.specs.Growth.{stated_in, AreWithin}
 use Rattle.gh_reduce.specs.Inside.{under_of, AllAreInside, IsUnderInside}

@@ -1,7 +1,7 @@
 use Rattle.std.proofs.Common.{◌∙◌, ◌+◌, ◌++◌, ◌∷◌, [], ℕ, map, ap, arith}
 use Rattle.gh_grass.specs.Claims.{claim_of}
 use Rattle.gh_symb.specs.Formulas.{meets, alternatives_claims, each_pair}
-use Rattle.gh_symb.specs.Told.{plain_kind}
+use Rattle.gh_symb.specs.Encodings.{plain_kind}
 use Rattle.gh_reduce.specs.declared.rows.EachPair.TheVariants.{Kept}
 use Rattle.gh_reduce.specs.Growth.{stated_in}
 use Rattle.gh_reduce.specs.Inside.{under_of}

@@ -1,5 +1,6 @@
 use Rattle.gh_ast.specs.Plain.{program_of}
-use Rattle.gh_decide.specs.Outcomes.{IsVerified, IsFirst}
+use Rattle.gh_decide.specs.Outcomes.{IsVerified}
+use Rattle.gh_trace.specs.Refuted.{IsFirst}
 use Rattle.gh_scene.proofs.smallest.smallest_drawing.Goals as goal
 
 pub returns-in-Verified : goal.returns-in-Verified

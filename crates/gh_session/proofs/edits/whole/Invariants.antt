@@ -1,6 +1,6 @@
 use Rattle.std.proofs.Common.{◌≡◌, ◌++◌, map, drop, take}
 use Rattle.std.specs.List.{concat}
-use Rattle.gh_session.specs.Pieces.{value_of, whole}
+use Rattle.gh_session.specs.Pieces.{whole}
 use Rattle.gh_session.proofs.edits.whole.Given as goal
 
 abbrev pub invariant-loop-piece : goal.invariant-loop-piece

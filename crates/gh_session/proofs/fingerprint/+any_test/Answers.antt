@@ -1,4 +1,4 @@
-use Rattle.std.proofs.Common.{◌∙◌, sym, ap}
+use Rattle.std.proofs.Common.{◌∙◌, ap}
 use Rattle.gh_ast.specs.Plain.{tests_view}
 use Rattle.gh_ast.proofs.PlainLemmas.{test_of-And, test_of-Or}
 use Rattle.gh_session.specs.Fingerprint as plain

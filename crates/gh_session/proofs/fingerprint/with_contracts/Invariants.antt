@@ -1,6 +1,6 @@
 use Rattle.std.proofs.Common.{◌≡◌, map, drop}
 use Rattle.gh_session.specs.Fingerprint as plain
-use Rattle.gh_session.specs.Views.{contract_view, round_view, step_view}
+use Rattle.gh_session.specs.Views.{contract_view}
 use Rattle.gh_session.proofs.fingerprint.with_contracts.Given as goal
 
 abbrev pub invariant-loop-contract : goal.invariant-loop-contract

@@ -1,6 +1,5 @@
-use Rattle.std.proofs.Common.{◌≡◌, map, drop}
+use Rattle.std.proofs.Common.{◌≡◌, drop}
 use Rattle.gh_session.specs.Fingerprint as plain
-use Rattle.gh_session.specs.Views.{contract_view, round_view, step_view}
 use Rattle.gh_session.proofs.fingerprint.with_exprs.Given as goal
 
 abbrev pub invariant-loop-expr : goal.invariant-loop-expr

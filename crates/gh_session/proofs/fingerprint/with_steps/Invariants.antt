@@ -1,6 +1,6 @@
 use Rattle.std.proofs.Common.{◌≡◌, map, drop}
 use Rattle.gh_session.specs.Fingerprint as plain
-use Rattle.gh_session.specs.Views.{contract_view, round_view, step_view}
+use Rattle.gh_session.specs.Views.{step_view}
 use Rattle.gh_session.proofs.fingerprint.with_steps.Given as goal
 
 abbrev pub invariant-loop-step : goal.invariant-loop-step

@@ -1,8 +1,8 @@
-use Rattle.std.proofs.Common.{◌≡◌, ◌++◌, ◌∷◌, [], sym, ap, subst, length, Bool, arith}
+use Rattle.std.proofs.Common.{sym, ap, subst, length, Bool, arith}
 use Rattle.gh_ast.specs.Programs.{Name}
 use Rattle.gh_session.specs.declared.edits.Edit.{Edit}
 use Rattle.gh_session.specs.Lines.{IsSeparator}
-use Rattle.gh_session.specs.Parts.{IsFirstPart, IsReadBefore}
+use Rattle.gh_session.specs.Parts.{IsFirstPart}
 use Rattle.gh_session.proofs.PieceLemmas.{is_bad, one_more}
 use Rattle.gh_session.proofs.reading.read_session.Goals as goal
 

@@ -1,4 +1,4 @@
-use Rattle.std.proofs.Common.{◌≡◌, sym, subst, drop, Bool}
+use Rattle.std.proofs.Common.{◌≡◌, sym, subst, Bool}
 use Rattle.std.proofs.lemmas.Bool.{false≢true}
 use Rattle.std.proofs.lemmas.List.{take_rest}
 use Rattle.gh_ast.specs.Programs.{Name}

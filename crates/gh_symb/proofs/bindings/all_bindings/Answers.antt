@@ -3,7 +3,7 @@ use Rattle.std.proofs.lemmas.List.{take_more, map-append}
 use Rattle.gh_symb.specs.Phases.{both}
 use Rattle.gh_symb.specs.Symbolic.{either_term}
 use Rattle.gh_symb.specs.Tables.{Bound, bound_by}
-use Rattle.gh_symb.specs.Told.{Each, IsBinding}
+use Rattle.gh_symb.specs.Encodings.{Each, IsBinding}
 use Rattle.gh_symb.proofs.FollowLemmas.{each_more}
 use Rattle.gh_symb.proofs.bindings.all_bindings.Goals as goal
 

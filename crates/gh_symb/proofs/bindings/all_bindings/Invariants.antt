@@ -1,7 +1,7 @@
 use Rattle.std.proofs.Common.{map, take}
 use Rattle.gh_symb.specs.Phases.{both}
 use Rattle.gh_symb.specs.Tables.{bound_by}
-use Rattle.gh_symb.specs.Told.{Each, IsBinding}
+use Rattle.gh_symb.specs.Encodings.{Each, IsBinding}
 use Rattle.gh_symb.proofs.bindings.all_bindings.Given as goal
 
 abbrev pub invariant-loop-state : goal.invariant-loop-state

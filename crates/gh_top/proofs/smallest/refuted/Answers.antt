@@ -3,7 +3,7 @@ use Rattle.gh_ast.specs.Plain.{program_of}
 use Rattle.gh_path.specs.Answers.{IsNumbered}
 use Rattle.gh_small.specs.Smallest.{IsSmallest}
 use Rattle.gh_trace.specs.Kept.{HasNoCounterexample}
-use Rattle.gh_top.proofs.SmallestLemmas.{first_one, never_valid, still_first}
+use Rattle.gh_trace.proofs.FirstRefuted.{kept_first, first_one, never_valid, still_first}
 use Rattle.gh_top.proofs.smallest.refuted.Goals as goal
 
 pub smallest-requires-clause-one : goal.smallest-requires-clause-one
@@ -24,4 +24,6 @@ smallest_report-requires-clause-first c =
     let P = program_of c.args.admitted.now in
     let found : IsNumbered P c.args.number (Some c.in-Some.condition) = rw (c.in-Some.is, c.conditions-conditions.ensures) at c.in_ok-condition.ensures in
     let is : IsSmallest P c.in-Some.condition c.in-Some-2.found = rw (c.in-Some-2.is, c.typed-typed.ensures.same) at c.in_ok-found.ensures in
-    still_first P c.args.number c.requires.0 c.in-Some.condition c.in-Some-2.found c.requires.1 found is
+    let first = c.requires.1 in
+    let counterexample = is.counterexample first.condition (kept_first P c.args.number c.requires.0 c.in-Some.condition first found) in
+    still_first P c.args.number c.requires.0 c.in-Some-2.found.trace first counterexample

@@ -1,7 +1,8 @@
 use Rattle.std.proofs.Common.{◌≡◌, ◌∙◌, ap, length, List, ℕ}
 use Rattle.gh_ast.specs.Plain.{program_of}
 use Rattle.gh_path.specs.Conditions.{conditions}
-use Rattle.gh_decide.specs.Outcomes.{IsVerified, IsFirst}
+use Rattle.gh_decide.specs.Outcomes.{IsVerified}
+use Rattle.gh_trace.specs.Refuted.{IsFirst}
 use Rattle.gh_top.specs.Replies.{Replies}
 use Rattle.gh_top.specs.declared.words.Request.TheVariants.{Smallest}
 use Rattle.gh_top.proofs.HeadlineLemmas.{both_ok}

@@ -4,11 +4,11 @@ use Rattle.gh_path.specs.Conditions.{conditions}
 use Rattle.gh_trace.specs.Validity.{ListedAreValid}
 use Rattle.gh_top.specs.Checks.{IsProgramVerdict}
 use Rattle.gh_top.proofs.HeadlineLemmas.{both_ok}
-use Rattle.gh_top.proofs.SessionLemmas.{first_of, is_verified, is_refuted}
+use Rattle.gh_top.proofs.SessionLemmas.{is_verified, is_refuted}
 use Rattle.gh_top.proofs.verdict.verdict.Goals as goal
 
 pub refuted-requires : goal.refuted-requires
-refuted-requires c = record { first = first_of (program_of c.args.admitted.now) c.in-Some.field-0.number c.in-Some.field-0.trace (rw c.in-Some.is at c.requires).outcome }
+refuted-requires c = record { first = (rw c.in-Some.is at c.requires).outcome }
 
 pub returns-in-Some : goal.returns-in-Some
 returns-in-Some c =

@@ -2,7 +2,7 @@ use Rattle.std.proofs.Common.{◌≡◌, ◌∙◌, [], All, Contains, arith, re
 use Rattle.gh_base.specs.declared.sizes.Sizes.{Sizes}
 use Rattle.gh_inst.specs.declared.naming.InstanceName.{InstanceName}
 use Rattle.gh_inst.specs.Instances.{IsInstance}
-use Rattle.gh_log.specs.declared.lines.LogLine.TheVariants as line
+use Rattle.gh_log.specs.Lines as line
 use Rattle.gh_ground.proofs.KeptLemmas.{keeps_same, keeps_then, added_more}
 use Rattle.gh_ground.proofs.solver.Solver.add_instances.Goals as goal
 
@@ -10,7 +10,7 @@ pub loop-name-init : goal.loop-name-init
 loop-name-init c = record {
   sizes = refl;
   added = λ k d lt. absurd (omega arith);
-  keeps = keeps_same c.args.self.now.search c.args.self.now.search c.args.self.now.lines.items refl refl;
+  keeps = keeps_same c.args.self.now.search c.args.self.now.search c.args.self.now.lines refl refl;
 }
 
 pub add_instance-requires : goal.add_instance-requires
@@ -28,12 +28,12 @@ loop-name-preserved c =
     let d : InstanceName = record { row = 0; version = 0; terms = []; arity = 0 } in
     record {
       sizes = e.sizes ∙ i.sizes;
-      added = added_more c.args.names.now c.loop-name.name-index d (get_or c.args.names.now c.loop-name.name-index d) old.search new.search old.lines.items new.lines.items c.loop-name-test.true refl e.keeps i.added e.added;
-      keeps = keeps_then first.search old.search new.search first.lines.items old.lines.items new.lines.items i.keeps e.keeps;
+      added = added_more c.args.names.now c.loop-name.name-index d (get_or c.args.names.now c.loop-name.name-index d) old.search new.search old.lines new.lines c.loop-name-test.true refl e.keeps i.added e.added;
+      keeps = keeps_then first.search old.search new.search first.lines old.lines new.lines i.keeps e.keeps;
     }
 
 pub returns-clause-added : goal.returns-clause-added
 returns-clause-added c =
     let names = c.args.names.now in
     let whole : take c.loop-name.name-index names ≡ names = take_all c.loop-name.name-index names (omega arith) in
-    subst (All (λ x. Contains c.loop-name.self.lines.items (line.Axiom x))) whole c.loop-name.invariant.added
+    subst (All (λ x. Contains c.loop-name.self.lines (line.Axiom x))) whole c.loop-name.invariant.added

@@ -5,7 +5,7 @@ use Rattle.gh_ground.proofs.solver.Solver.conflict.Given as goal
 abbrev pub invariant-loop-next : goal.invariant-loop-next
 invariant-loop-next l = record {
   answered : IsAnswered l.self.search l.found;
-  keeps : Keeps l.fn.self.search l.fn.self.lines.items l.self.search l.self.lines.items;
+  keeps : Keeps l.fn.self.search l.fn.self.lines l.self.search l.self.lines;
 }
 
 abbrev pub decreases-loop-next : goal.decreases-loop-next

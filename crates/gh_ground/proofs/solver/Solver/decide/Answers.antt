@@ -13,7 +13,7 @@ returns-in-None-clause-open c =
 pub returns-in-None-clause-keeps : goal.returns-in-None-clause-keeps
 returns-in-None-clause-keeps c =
     let same = c.in-None.ensures.none.0 in
-    keeps_same c.args.self.now.search c.decide_needed.new.self c.args.self.now.lines.items (ap (λ (t : SearchState). t.sizes) same) (ap (λ (t : SearchState). t.clauses) same)
+    keeps_same c.args.self.now.search c.decide_needed.new.self c.args.self.now.lines (ap (λ (t : SearchState). t.sizes) same) (ap (λ (t : SearchState). t.clauses) same)
 
 pub returns-in_ok-propagate-in-Some-clause-less : goal.returns-in_ok-propagate-in-Some-clause-less
 returns-in_ok-propagate-in-Some-clause-less c =
@@ -26,5 +26,5 @@ returns-in_ok-propagate-in-Some-clause-keeps c =
     let new = c.propagate.new.self in
     let mid = c.decide_needed.new.self in
     let is = c.in-Some.ensures.some.2 in
-    keeps_then old.search mid new.search old.lines.items old.lines.items new.lines.items
-    (keeps_same old.search mid old.lines.items (ap (λ (t : SearchState). t.sizes) is) (ap (λ (t : SearchState). t.clauses) is)) c.in_ok-propagate-in-Some.ensures.keeps
+    keeps_then old.search mid new.search old.lines old.lines new.lines
+    (keeps_same old.search mid old.lines (ap (λ (t : SearchState). t.sizes) is) (ap (λ (t : SearchState). t.clauses) is)) c.in_ok-propagate-in-Some.ensures.keeps

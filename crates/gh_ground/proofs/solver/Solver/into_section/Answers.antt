@@ -1,13 +1,14 @@
-use Rattle.std.proofs.Common.{◌+◌, ◌∙◌, [], List, map, ap, refl, arith}
-use Rattle.gh_base.specs.declared.atom.Lit.{Lit}
-use Rattle.gh_log.specs.declared.lines.LogLine.TheVariants as line
+use Rattle.std.proofs.Common.{◌≡◌, ◌+◌, ◌∙◌, [], ℕ, List, length, map, ap, refl, arith}
+use Rattle.std.proofs.lemmas.List.{length_push}
+use Rattle.gh_log.specs.Lines as line
 use Rattle.gh_ground.proofs.KeptLemmas.{IsHintedLine, refutation_of}
 use Rattle.gh_ground.proofs.solver.Solver.into_section.Goals as goal
 
 pub returns : goal.returns
 returns c =
     let reasons = c.in_ok-reasons.reasons.items in
-    let hints = c.in_ok-hints.hints in
-    let end = line.Hinted c.new.result hints in
-    let hinted : IsHintedLine [] (map (λ k. k + 1) reasons) end = (hints, ap (λ (x : List Lit). line.Hinted x hints) c.new.ensures, c.in_ok-hints.ensures ∙ ap (map (λ k. k + 1)) c.as_slice.ensures.value) in
-    λ p kept. refutation_of p c.args.self.search c.args.self.lines.items c.push.new.self.items reasons end _ c.in_ok-reasons.ensures.reasons kept hinted c.in_ok-push.ensures.items refl refl (omega arith)
+    let end = line.Hinted [] c.as_slice-2.result.now in
+    let hints = c.as_slice-2.ensures.value ∙ c.in_ok-hints.ensures ∙ ap (map (λ k. k + 1)) c.as_slice.ensures.value in
+    let hinted : IsHintedLine [] (map (λ k. k + 1) reasons) end = ap (λ (ks : List ℕ). line.Hinted [] ks) hints in
+    let long : length c.push.new.self ≡ length c.args.self.lines + 1 = ap length c.in_ok-push.ensures.ok ∙ length_push c.args.self.lines end in
+    λ p kept. refutation_of p c.args.self.search c.args.self.lines c.push.new.self reasons end _ c.in_ok-reasons.ensures.reasons kept hinted c.in_ok-push.ensures.ok refl refl (omega (arith, long))

@@ -1,10 +1,10 @@
-use Rattle.std.proofs.Common.{◌≡◌, ◌<◌, ◌≤◌, ◌∙◌, ◌+◌, ℕ, List, ap, map, refl, length, arith}
+use Rattle.std.proofs.Common.{◌≡◌, ◌<◌, ◌≤◌, ◌∙◌, ◌+◌, ℕ, List, ap, map, length, arith}
 use Rattle.gh_base.specs.declared.atom.Lit.{Lit}
 use Rattle.gh_sat.specs.Learn.{add_clause}
 use Rattle.gh_sat.specs.Measure.{IsCutLevel}
 use Rattle.gh_sat.specs.Trail.{SearchState, cut}
 use Rattle.gh_sat.proofs.MeasureLemmas.{turn_learnt}
-use Rattle.gh_log.specs.declared.lines.LogLine.TheVariants as line
+use Rattle.gh_log.specs.Lines as line
 use Rattle.gh_ground.proofs.KeptLemmas.{IsHintedLine, keeps_learnt, keeps_then}
 use Rattle.gh_ground.proofs.solver.Solver.learn.Goals as goal
 
@@ -32,12 +32,15 @@ returns-clause-keeps c =
     let old = c.args.self.now in
     let new = c.propagate.new.self in
     let mid = c.backjump.new.self in
-    let lines = c.push.new.self.items in
+    let lines = c.push.new.self in
     let l = c.in_ok-learnt.learnt in
-    let hints = c.in_ok-hints.hints in
     let reasons = l.reasons.items in
     let is = c.backjump.ensures ∙ ap (λ (t : SearchState). cut t c.cut_level.result) c.in_ok-learnt.ensures.added in
-    let hinted : IsHintedLine l.clause (map (λ k. k + 1) reasons) (line.Hinted l.clause hints) = (hints, refl, c.in_ok-hints.ensures ∙ ap (map (λ k. k + 1)) c.as_slice.ensures.value) in
-    keeps_then old.search mid new.search old.lines.items lines new.lines.items
-    (keeps_learnt old.search mid old.lines.items lines c.args.conflict l.clause l.level l.unit c.cut_level.result reasons (line.Hinted l.clause hints) c.requires.sound c.in_ok-learnt.ensures.learnt c.in_ok-learnt.ensures.reasons is hinted
-    c.in_ok-push.ensures.items) c.in_ok-next.ensures.keeps
+    let hints = c.as_slice-2.result.now in
+    let end = line.Hinted c.lits.result.now hints in
+    let hinted : IsHintedLine l.clause (map (λ k. k + 1) reasons) end =
+    ap (λ (x : List Lit). line.Hinted x hints) c.lits.ensures
+    ∙ ap (λ (ks : List ℕ). line.Hinted l.clause ks) (c.as_slice-2.ensures.value ∙ c.in_ok-hints.ensures ∙ ap (map (λ k. k + 1)) c.as_slice.ensures.value) in
+    keeps_then old.search mid new.search old.lines lines new.lines
+    (keeps_learnt old.search mid old.lines lines c.args.conflict l.clause l.level l.unit c.cut_level.result reasons end c.requires.sound c.in_ok-learnt.ensures.learnt c.in_ok-learnt.ensures.reasons is hinted
+    c.in_ok-push.ensures.ok) c.in_ok-next.ensures.keeps

@@ -11,8 +11,8 @@ structure_of-requires c =
     let k = c.requires.kept in
     record {
       range = range_of s z c.steps.result.now c.steps.ensures.sound e c.steps.ensures.steps;
-      terms = some_terms k.0 s c.args.self.now.lines.items z k.1 e;
-      versions = some_versions k.0 s c.args.self.now.lines.items z k.1 e;
+      terms = some_terms k.0 s c.args.self.now.lines z k.1 e;
+      versions = some_versions k.0 s c.args.self.now.lines z k.1 e;
     }
 
 pub returns-clause-sizes : goal.returns-clause-sizes

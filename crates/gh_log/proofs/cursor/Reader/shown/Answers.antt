@@ -9,7 +9,7 @@ returns-then-not-take c = c.literals.invariant.back (no_shown_here c.literals.se
 
 pub returns-then-take : goal.returns-then-take
 returns-then-take c =
-    goes_end _ c.args.self.now.rest.now c.literals.self.rest.now c.take-in-literals.new.self.rest.now c.literals.clause c.literals.invariant
+    goes_end _ c.args.self.now.rest.now c.literals.self.rest.now c.take-in-literals.new.self.rest.now c.literals.clause.items c.literals.invariant
     (c.if-not-take.ensures ∙ ap (λ t. 32 ∷ t) c.if-take.ensures)
 
 pub returns-in_err-lit : goal.returns-in_err-lit
@@ -20,5 +20,5 @@ returns-in_err-lit c =
 
 pub literals-preserved : goal.literals-preserved
 literals-preserved c =
-    goes_lit _ sign_ends c.args.self.now.rest.now c.literals.self.rest.now c.take.new.self.rest.now _ c.literals.clause _ c.in_ok-lit.field-0 c.literals.invariant
-    c.if-not-take.ensures (subst (λ t. SpellsLit t c.in_ok-lit.field-0 c.lit.new.self.rest.now) c.if-take.ensures.0 c.in_ok-lit.ensures) c.in_ok-push.ensures.ok
+    goes_lit _ sign_ends c.args.self.now.rest.now c.literals.self.rest.now c.take.new.self.rest.now _ c.literals.clause.items _ c.in_ok-lit.field-0 c.literals.invariant
+    c.if-not-take.ensures (subst (λ t. SpellsLit t c.in_ok-lit.field-0 c.lit.new.self.rest.now) c.if-take.ensures.0 c.in_ok-lit.ensures) c.in_ok-push.ensures.items

@@ -9,13 +9,13 @@ pub returns-in_ok-go-in-Past-clause-come : goal.returns-in_ok-go-in-Past-clause-
 returns-in_ok-go-in-Past-clause-come c = λ P p ws come.
     let ts = c.args.self.now.taken.items in
     rw c.in_ok-go-in-Past.ensures.onward
-    (go_past P p c.args.nodes.now ts c.go.new.self.taken.items c.in-Past.step c.in-Past.next ws c.in_ok-go-in-Past.ensures.taken
+    (go_past P p c.args.nodes.now ts c.go.new.self.taken.items c.in-Past.place c.in-Past.next ws (rw c.new.ensures at c.in_ok-go-in-Past.ensures.taken)
     (subst (λ o. AreToCome P p c.args.nodes.now ts o ws) c.in-Past.is come))
 
 pub returns-in_ok-go-in-Past-clause-less : goal.returns-in_ok-go-in-Past-clause-less
 returns-in_ok-go-in-Past-clause-less c =
     let total : weights c.go.new.self.taken.items ≡ weights c.args.self.now.taken.items + 0 =
-    ap weights c.in_ok-go-in-Past.ensures.taken ∙ weights_push c.args.self.now.taken.items (record { step = c.in-Past.step; other = None }) in
+    ap weights c.in_ok-go-in-Past.ensures.taken ∙ weights_push c.args.self.now.taken.items (record { origin = c.new.result; other = None }) in
     let on : onward_weight c.go.new.self.onward ≡ weight c.in-Past.next = ap onward_weight c.in_ok-go-in-Past.ensures.onward in
     let was : onward_weight c.args.self.now.onward ≡ weight c.in-Past.next + 1 = ap onward_weight c.in-Past.is in
     omega (arith, total, on, was)
@@ -27,4 +27,4 @@ returns-in_ok-come-in-Node-clause-come c = λ P p ws come.
     let there : AreToCome P p ns c.args.self.now.taken.items (place.Node i) ws = subst (λ o. AreToCome P p ns c.args.self.now.taken.items o ws) c.in-Node.is come in
     let n = shown_node P p ns i there.are_ahead.0 there.are_ahead.1 in
     let at : slice_get ns i ≡ Some c.at-node.result = n.1 ∙ ap Some (sym (c.at-node.ensures.there n.0 n.1)) in
-    c.in_ok-come-in-Node.ensures.come P p ns i ws at there
+    c.in_ok-come-in-Node.ensures.come P p ns ws at there

@@ -1,7 +1,5 @@
-use Rattle.gh_path.proofs.LeftLemmas.{next_item}
+use Rattle.gh_path.proofs.LeftLemmas.{none_lent}
 use Rattle.gh_path.proofs.walk.WalkIterator.next.Goals as goal
 
-pub returns-in-Ok-Some-clause-steps : goal.returns-in-Ok-Some-clause-steps
-returns-in-Ok-Some-clause-steps c =
-    next_item c.args.self.now c.give.new.self c.in-Ok-Some.condition c.if-self.false c.in-Ok-Some.ensures.given c.in-Ok-Some.ensures.end
-    (λ P cs left. rw c.in-Ok-Some.field-0-is at (c.in-Ok-Some.ensures.next P cs left))
+pub returns-in-Ok-false-clause-steps : goal.returns-in-Ok-false-clause-steps
+returns-in-Ok-false-clause-steps c = none_lent c.args.self.now c.advance.new.self c.advance.result c.in-Ok-false.field-0 c.in-Ok-false.is c.in-Ok-false.field-0-test c.advance.ensures.next

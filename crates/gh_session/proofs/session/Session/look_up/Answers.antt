@@ -5,7 +5,6 @@ use Rattle.gh_ast.proofs.Lists.{no_member}
 use Rattle.gh_session.specs.declared.kept.Kept.{Kept}
 use Rattle.gh_session.specs.Known.{essences}
 use Rattle.gh_session.specs.Places.{known_of, knowledge, filed}
-use Rattle.gh_session.specs.Fingerprint.{fingerprint}
 use Rattle.gh_session.specs.Views.{essence_view}
 use Rattle.gh_session.proofs.Learning.{none_then, absent, is_among}
 use Rattle.gh_session.proofs.session.Session.look_up.Goals as goal

@@ -15,13 +15,13 @@ returns-in_ok-asked-in-CalleeEntry-clause-ended c = λ at check h.
     let on = rw (c.as_slice.ensures.value) at c.in_ok-asked-in-CalleeEntry.ensures.ended in
     rw (k.3, callee) on
 
-pub returns-in_ok-asked-in-CalleeEntry-clause-says : goal.returns-in_ok-asked-in-CalleeEntry-clause-says
-returns-in_ok-asked-in-CalleeEntry-clause-says c = λ at check h.
+pub returns-in_ok-asked-in-CalleeEntry-clause-encodes : goal.returns-in_ok-asked-in-CalleeEntry-clause-encodes
+returns-in_ok-asked-in-CalleeEntry-clause-encodes c = λ at check h.
     let P = c.args.program.now in
     let k = rw c.in-CalleeEntry.is at h in
     let q = c.in-Some.callee.now in
     let l = c.in-Some.ensures.lookup in
     let callee : callee_in (program_of P).procedures k.0.name ≡ Some (procedure_of q) =
     called_procedure P c.deref.result.now c.in-CalleeEntry.callee q k.0.name c.deref.ensures.value l.3.0 l.1 k.1 in
-    let on = rw (c.as_slice.ensures.value) at c.in_ok-asked-in-CalleeEntry.ensures.says in
+    let on = rw (c.as_slice.ensures.value) at c.in_ok-asked-in-CalleeEntry.ensures.encodes in
     rw (k.3, callee) on

@@ -7,6 +7,7 @@ pub returns : goal.returns
 returns c =
     let x = c.args.name.now in
     let v = c.args.version in
-    let on : state c.add_next.new.self c.use_name.new.self v ≡ followed x (state c.use_name.new.kinds c.use_name.new.self v) =
-    rw (c.in_ok-add_next.ensures, c.term.ensures) refl in
-    on ∙ ap (followed x) (c.in_ok-use_name.ensures v)
+    let s = state c.used_term.new.kinds c.used_term.new.self v in
+    let on : state c.add_next.new.self c.used_term.new.self v ≡ followed x s =
+    rw (c.in_ok-add_next.ensures, c.in_ok-term.ensures.term) refl in
+    on ∙ ap (followed x) (c.in_ok-term.ensures.used v)

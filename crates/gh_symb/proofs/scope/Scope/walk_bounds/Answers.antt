@@ -4,9 +4,9 @@ use Rattle.gh_grass.proofs.ClaimLemmas.{formula_list_from}
 use Rattle.gh_path.specs.Terms.{each_walked}
 use Rattle.gh_symb.specs.Symbolic.{under, each_under}
 use Rattle.gh_symb.specs.Tables.{state}
-use Rattle.gh_symb.specs.Told.{Each, IsUnder}
+use Rattle.gh_symb.specs.Encodings.{Each, IsUnder}
 use Rattle.gh_symb.specs.declared.over_terms.Bound.{Bound}
-use Rattle.gh_symb.proofs.SayLemmas.{each_told}
+use Rattle.gh_symb.proofs.EncodingLemmas.{each_encoded}
 use Rattle.gh_symb.proofs.scope.Scope.walk_bounds.Goals as goal
 
 pub loop-alternative-preserved : goal.loop-alternative-preserved
@@ -21,10 +21,10 @@ loop-alternative-preserved c =
     let t = state c.walk_bound.new.kinds c.walk_bound.new.self v in
     let split : map formula_of (drop i xs) ≡ f ∷ fs = formula_list_from xs i c.alternative-item.result c.loop-alternative-test.true c.alternative-item.is in
     let all = each_under (map formula_of xs) first in
-    let us = c.loop-alternative.invariant.say.0 in
-    let rest : us ++ each_under (f ∷ fs) s ≡ all = ap (λ gs. us ++ each_under gs s) (sym split) ∙ c.loop-alternative.invariant.say.2 in
-    let told = each_told c.loop-alternative.bounds.items c.in_ok-walk_bound.field-0 us f fs s t all c.loop-alternative.invariant.say.1 c.in_ok-walk_bound.ensures.says c.in_ok-walk_bound.ensures.made rest in
+    let us = c.loop-alternative.invariant.encoded.0 in
+    let rest : us ++ each_under (f ∷ fs) s ≡ all = ap (λ gs. us ++ each_under gs s) (sym split) ∙ c.loop-alternative.invariant.encoded.2 in
+    let encoded = each_encoded c.loop-alternative.bounds.items c.in_ok-walk_bound.field-0 us f fs s t all c.loop-alternative.invariant.encoded.1 c.in_ok-walk_bound.ensures.encodes c.in_ok-walk_bound.ensures.made rest in
     record {
       walk = ap (each_walked fs) c.in_ok-walk_bound.ensures.made ∙ ap (λ gs. each_walked gs s) (sym split) ∙ c.loop-alternative.invariant.walk;
-      say = (us ++ under f s ∷ [], subst (λ (bs : List Bound). Each IsUnder bs (us ++ under f s ∷ [])) (sym c.in_ok-push.ensures.items) told.0, told.1);
+      encoded = (us ++ under f s ∷ [], subst (λ (bs : List Bound). Each IsUnder bs (us ++ under f s ∷ [])) (sym c.in_ok-push.ensures.items) encoded.0, encoded.1);
     }

@@ -1,0 +1,10 @@
+use Rattle.std.proofs.Common.{◌≡◌, [], take}
+use Rattle.gh_check.specs.Kept.{present}
+use Rattle.gh_check.proofs.units.insert_from.Given as goal
+
+abbrev pub invariant-loop-position : goal.invariant-loop-position
+invariant-loop-position l = record {
+  clauses : l.learner.clauses ≡ present (take l.position l.kept.clauses);
+  sizes : l.learner.sizes ≡ l.fn.learner.sizes;
+  level : l.learner.starts ≡ [];
+}

@@ -1,0 +1,18 @@
+-- The lines of a section as plain values: all definitions speak of these.
+use Rattle.std.specs.Prelude.{ℕ, List}
+use Rattle.gh_base.specs.declared.atom.Lit.{Lit}
+use Rattle.gh_inst.specs.declared.naming.InstanceName.{InstanceName}
+
+pub data LogLine : Type 0 where
+  -- an instance of an axiom row
+  Axiom : InstanceName → LogLine
+  -- a ground clause, by its number from 0
+  Clause : ℕ → LogLine
+  -- a clause that follows from equality and congruence alone
+  Lemma : List Lit → LogLine
+  -- a clause that all earlier lines show
+  Learnt : List Lit → LogLine
+  -- a clause, and the positions of the lines that show it
+  Hinted : List Lit → List ℕ → LogLine
+  -- the positions of lines that later ones don't name
+  Delete : List ℕ → LogLine

@@ -1,0 +1,66 @@
+-- Lines that the program borrows, and lines whose literals and numbers stand in tables.
+use Rattle.std.specs.Prelude.{◌≡◌, ◌≤◌, ⊤, ℕ, List, [], ◌∷◌, ◌++◌, take, drop, length}
+use Rattle.gh_base.specs.declared.atom.Lit.{Lit}
+use Rattle.gh_log.specs.Lines as plain
+use Rattle.gh_log.specs.declared.lines.LogLine.{LogLine}
+use Rattle.gh_log.specs.declared.lines.LogLine.TheVariants as line
+use Rattle.gh_log.specs.declared.lines.Part.{Part}
+use Rattle.gh_log.specs.declared.lines.Entry.{Entry}
+use Rattle.gh_log.specs.declared.lines.Entry.TheVariants as entry
+
+abbrev pub line_of : LogLine → plain.LogLine
+line_of (line.Axiom name) = plain.Axiom name
+line_of (line.Clause k) = plain.Clause k
+line_of (line.Lemma c) = plain.Lemma c.now
+line_of (line.Learnt c) = plain.Learnt c.now
+line_of (line.Hinted c hints) = plain.Hinted c.now hints.now
+line_of (line.Delete positions) = plain.Delete positions.now
+
+-- what stands in the table from one place to another
+abbrev pub part_of : {X : Type 0} → List X → Part → List X
+part_of table part = drop part.from (take part.to table)
+
+-- a clause that hints show: the places where its literals begin and end, and then the hints
+abbrev pub hinted_at : List Lit → List ℕ → plain.LogLine
+hinted_at literals [] = plain.Hinted [] []
+hinted_at literals (from ∷ []) = plain.Hinted [] (from ∷ [])
+hinted_at literals (from ∷ to ∷ hints) = plain.Hinted (part_of literals (record { from = from; to = to })) hints
+
+abbrev pub line_at : List Lit → List ℕ → Entry → plain.LogLine
+line_at literals numbers (entry.Axiom name) = plain.Axiom name
+line_at literals numbers (entry.Clause k) = plain.Clause k
+line_at literals numbers (entry.Lemma c) = plain.Lemma (part_of literals c)
+line_at literals numbers (entry.Learnt c) = plain.Learnt (part_of literals c)
+line_at literals numbers (entry.Hinted part) = hinted_at literals (part_of numbers part)
+line_at literals numbers (entry.Delete positions) = plain.Delete (part_of numbers positions)
+
+-- the part lies within a table of this length
+pub record IsWithin (length : ℕ) (part : Part) : Type 0 where
+  pub order : part.from ≤ part.to
+  pub below : part.to ≤ length
+
+-- the literals of a clause that hints show lie within a table of this length
+abbrev pub HasClause : ℕ → List ℕ → Type 0
+HasClause length [] = ⊥
+HasClause length (from ∷ []) = ⊥
+HasClause length (from ∷ to ∷ hints) = IsWithin length (record { from = from; to = to })
+
+-- the parts of an entry lie within the tables
+abbrev pub HasParts : List Lit → List ℕ → Entry → Type 0
+HasParts literals numbers (entry.Lemma c) = IsWithin (length literals) c
+HasParts literals numbers (entry.Learnt c) = IsWithin (length literals) c
+HasParts literals numbers (entry.Hinted part) =
+    IsWithin (length numbers) part × HasClause (length literals) (part_of numbers part)
+HasParts literals numbers (entry.Delete positions) = IsWithin (length numbers) positions
+HasParts literals numbers _ = ⊤
+
+-- the part is what was added to a table
+pub record IsAdded {X : Type 0} (old new items : List X) (part : Part) : Type 0 where
+  pub grown : new ≡ old ++ items
+  pub from : part.from ≡ length old
+  pub to : part.to ≡ length new
+
+-- the list has something more at its end, or is the same
+pub record Extends {X : Type 0} (new old : List X) : Type 0 where
+  pub more : List X
+  pub same : new ≡ old ++ more

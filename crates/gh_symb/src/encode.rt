@@ -1,0 +1,303 @@
+//! Steps over terms, made from kept ones.
+
+ghost use Rattle.std.specs.Prelude.{◌≡◌, ◌+◌, ◌<◌, ◌≤◌, ℕ, [], ◌∷◌, length, unwrap_or, Some, IfOk};
+ghost use Rattle.gh_ast.specs.Plain.{Procedure as Whole, Program as Plain, formula_of, procedure_of, program_of};
+ghost use Rattle.gh_ast.specs.Programs.{names, variable_names};
+ghost use Rattle.gh_path.specs.Graphs.{Loop, looped};
+ghost use Rattle.gh_path.specs.Terms.{bound, call_walked, expr_term, exprs_terms, terms, with_value};
+ghost use Rattle.gh_symb.specs.Phases.{step_done, step_encoding};
+ghost use Rattle.gh_symb.specs.Rounds.{IsRound};
+ghost use Rattle.gh_symb.specs.StepEncodings.{IsFinished, IsStepEncoding};
+ghost use Rattle.gh_symb.specs.Steps.{cell_made, ChangesCell, ReplacesPart};
+ghost use Rattle.gh_symb.specs.Symbolic.{Under, call_parts, parts, made};
+ghost use Rattle.gh_symb.specs.Tables.{bound_by, state, Walks};
+ghost use Rattle.gh_symb.specs.Encodings.{IsUnder, IsTermStep};
+
+use crate::kinds::Kinds;
+use crate::numbers::term_of;
+use crate::over_terms::{Bound, TermStep};
+use crate::rounds::{Round, round_of};
+use crate::scope::Scope;
+use gh_ast::{Expr, Occ, Procedure, Program};
+use gh_base::atom::Term;
+use gh_base::name::Name;
+use gh_path::condition::PathStep;
+use std::alloc::{AllocError, Global};
+
+/// The encoding of a step, and the version after it.
+#[derive(Debug, Drop)]
+pub struct StepEncoding<'a> {
+    pub step: TermStep<'a>,
+    pub version: usize,
+}
+
+/// One part of the heap in the place of another.
+fn part<'a>(alloc: Global, before: Bound<'a>, after: Bound<'a>) -> Result<TermStep<'a>, AllocError>
+    ensures { IfOk result (λ encoded. (u w : Under) → IsUnder before.entry u → IsUnder after.entry w →
+        IsTermStep encoded (parts u (w ∷ []))) }
+{
+    let mut ways = Vec::new(alloc);
+    ways.push(after)?;
+    Ok(TermStep::Part {
+        before,
+        after: ways,
+    })
+}
+
+impl<'a> Scope<'a> {
+    /// The term of a variable.
+    fn encode_name(&self, name: &Name) -> Result<Term, AllocError>
+        ensures { IfOk result (λ term. term.0 ≡ unwrap_or (bound_by self.now name.now) 0) }
+    {
+        let term = term_of(self.term(name))?;
+        Ok(term)
+    }
+
+    /// The term of an expression.
+    fn encode_expr(&self, kinds: &Kinds, expr: &Expr, version: usize) -> Result<Term, AllocError>
+        ensures { IfOk result (λ term. term.0 ≡ expr_term expr.now (state kinds.now self.now version)) }
+    {
+        let term = term_of(self.expr_term(kinds, expr, version))?;
+        Ok(term)
+    }
+
+    /// A variable gets the place of a new cell.
+    fn encode_new(&mut self, kinds: &mut Kinds, name: &'a Name) -> Result<TermStep<'a>, AllocError>
+        ensures made { IfOk result (λ encoded. (version : ℕ) →
+            Walks (cell_made name.now) kinds.old self.old kinds.new self.new version) }
+        ensures encodes { IfOk result (λ encoded. IsTermStep encoded (made (length kinds.old) (length kinds.old + 1))) }
+    {
+        let location = kinds.add_value()?;
+        let content = kinds.add_value()?;
+        self.bind(name, location)?;
+        let location = term_of(location)?;
+        let content = term_of(content)?;
+        Ok(TermStep::New { location, content })
+    }
+
+    /// Does a step that writes, makes or frees a cell.
+    fn encode_cell(
+        &mut self,
+        kinds: &mut Kinds,
+        step: &'a PathStep,
+        version: usize,
+    ) -> Result<StepEncoding<'a>, AllocError>
+        requires { version < 9223372036854775807 }
+        ensures done { IfOk result (λ encoded. (P : Plain) (p : Whole) → ChangesCell step.now →
+            IsFinished P p step.now (state kinds.old self.old version) (state kinds.new self.new encoded.version)) }
+        ensures encodes { IfOk result (λ encoded. (P : Plain) (p : Whole) → ChangesCell step.now →
+            IsStepEncoding P p step.now (state kinds.old self.old version) encoded.step) }
+        ensures next { IfOk result (λ encoded. encoded.version ≤ version + 1) }
+    {
+        match step {
+            PathStep::Write { at, value } => {
+                let x = self.encode_name(&at.name)?;
+                let value = self.encode_expr(kinds, value, version)?;
+                let step = TermStep::Write { x, value };
+                Ok(StepEncoding {
+                    step,
+                    version: version + 1,
+                })
+            }
+            PathStep::New { target } => {
+                let step = self.encode_new(kinds, &target.name)?;
+                Ok(StepEncoding {
+                    step,
+                    version: version + 1,
+                })
+            }
+            PathStep::Free { at } => {
+                let x = self.encode_name(&at.name)?;
+                let step = TermStep::Free { x };
+                Ok(StepEncoding {
+                    step,
+                    version: version + 1,
+                })
+            }
+            _ => Ok(StepEncoding {
+                step: TermStep::Same,
+                version,
+            }),
+        }
+    }
+
+    /// Does a loop whose invariant is walked. The next version begins.
+    fn encode_loop(
+        &mut self,
+        alloc: Global,
+        kinds: &mut Kinds,
+        procedure: &'a Procedure,
+        round: &Round<'a>,
+        version: usize,
+    ) -> Result<TermStep<'a>, AllocError>
+        requires { version < 9223372036854775807 }
+        ensures done { IfOk result (λ encoded. (P : Plain) (l : Loop) → IsRound round.now l →
+            let xs = variable_names (procedure_of procedure.now) in state kinds.new self.new (version + 1)
+            ≡ step_done P xs (looped l) (state kinds.old self.old version)) }
+        ensures encodes { IfOk result (λ encoded. (P : Plain) (l : Loop) → IsRound round.now l →
+            let xs = variable_names (procedure_of procedure.now) in
+            IsTermStep encoded (step_encoding P xs (looped l) (state kinds.old self.old version))) }
+    {
+        let before = self.bound(alloc, round.invariant, version)?;
+        self.renew_all(kinds, procedure, round.body.statements.as_slice())?;
+        let after = self.walk_bound(alloc, kinds, round.invariant, version + 1)?;
+        let step = part(alloc, before, after)?;
+        Ok(step)
+    }
+
+    /// Does a call whose arguments are used. The next version begins.
+    fn encode_call(
+        &mut self,
+        alloc: Global,
+        kinds: &mut Kinds,
+        callee: &'a Procedure,
+        targets: &'a [Occ],
+        arguments: &'a [Expr],
+        version: usize,
+    ) -> Result<TermStep<'a>, AllocError>
+        requires { version < 9223372036854775807 }
+        ensures done { IfOk result (λ encoded. let s = state kinds.old self.old version in
+            state kinds.new self.new (version + 1)
+            ≡ call_walked (Some (procedure_of callee.now)) (names targets.now) (exprs_terms arguments.now s) s) }
+        ensures encodes { IfOk result (λ encoded. let s = state kinds.old self.old version in
+            IsTermStep encoded (call_parts (Some (procedure_of callee.now)) (exprs_terms arguments.now s) s)) }
+    {
+        let terms = self.exprs_terms(alloc, kinds, arguments, version)?;
+        let mut inside = Scope::new(alloc);
+        inside.bind_all(callee.parameters.as_slice(), terms.as_slice())?;
+        let before = inside.walk_bound(alloc, kinds, &callee.needs, version)?;
+        inside.renew(kinds, callee.results.as_slice())?;
+        let after = inside.walk_bounds(alloc, kinds, callee.gives.as_slice(), version + 1)?;
+        let results = inside.terms(alloc, callee.results.as_slice())?;
+        self.bind_all(targets, results.as_slice())?;
+        Ok(TermStep::Part { before, after })
+    }
+
+    /// Does a call, or a loop on the way.
+    fn encode_part(
+        &mut self,
+        alloc: Global,
+        kinds: &mut Kinds,
+        program: &'a Program,
+        procedure: &'a Procedure,
+        step: &'a PathStep,
+        version: usize,
+    ) -> Result<StepEncoding<'a>, AllocError>
+        requires { version < 9223372036854775807 }
+        ensures done { IfOk result (λ encoded. ReplacesPart step.now →
+            IsFinished (program_of program.now) (procedure_of procedure.now) step.now
+            (state kinds.old self.old version) (state kinds.new self.new encoded.version)) }
+        ensures encodes { IfOk result (λ encoded. ReplacesPart step.now →
+            IsStepEncoding (program_of program.now) (procedure_of procedure.now) step.now
+            (state kinds.old self.old version) encoded.step) }
+        ensures next { IfOk result (λ encoded. encoded.version ≤ version + 1) }
+    {
+        match step {
+            PathStep::Call {
+                targets,
+                callee,
+                arguments,
+            } => {
+                let Some(callee) = program.procedures.get(*callee as usize) else {
+                    return Ok(StepEncoding {
+                        step: TermStep::Same,
+                        version,
+                    });
+                };
+                let step = self.encode_call(
+                    alloc,
+                    kinds,
+                    callee,
+                    targets.as_slice(),
+                    arguments.as_slice(),
+                    version,
+                )?;
+                Ok(StepEncoding {
+                    step,
+                    version: version + 1,
+                })
+            }
+            PathStep::Loop { number } => {
+                let Some(round) = round_of(procedure, *number as usize) else {
+                    return Ok(StepEncoding {
+                        step: TermStep::Same,
+                        version,
+                    });
+                };
+                let step = self.encode_loop(alloc, kinds, procedure, &round, version)?;
+                Ok(StepEncoding {
+                    step,
+                    version: version + 1,
+                })
+            }
+            _ => Ok(StepEncoding {
+                step: TermStep::Same,
+                version,
+            }),
+        }
+    }
+
+    /// Does a step whose variables are used.
+    pub fn encode_step(
+        &mut self,
+        alloc: Global,
+        kinds: &mut Kinds,
+        program: &'a Program,
+        procedure: &'a Procedure,
+        step: &'a PathStep,
+        version: usize,
+    ) -> Result<StepEncoding<'a>, AllocError>
+        requires { version < 9223372036854775807 }
+        ensures done { IfOk result (λ encoded.
+            IsFinished (program_of program.now) (procedure_of procedure.now) step.now
+            (state kinds.old self.old version) (state kinds.new self.new encoded.version)) }
+        ensures encodes { IfOk result (λ encoded.
+            IsStepEncoding (program_of program.now) (procedure_of procedure.now) step.now
+            (state kinds.old self.old version) encoded.step) }
+        ensures next { IfOk result (λ encoded. encoded.version ≤ version + 1) }
+    {
+        match step {
+            PathStep::Access { at } => {
+                let x = self.encode_name(&at.name)?;
+                kinds.add_next(version, self.term(&at.name))?;
+                Ok(StepEncoding {
+                    step: TermStep::Access { x },
+                    version,
+                })
+            }
+            PathStep::Assume { left, equal, right } => {
+                let left = self.encode_expr(kinds, left, version)?;
+                let right = self.encode_expr(kinds, right, version)?;
+                let equal = *equal;
+                Ok(StepEncoding {
+                    step: TermStep::Assume { left, equal, right },
+                    version,
+                })
+            }
+            PathStep::Set { target, value } => {
+                let term = self.expr_term(kinds, value, version);
+                self.bind(&target.name, term)?;
+                Ok(StepEncoding {
+                    step: TermStep::Same,
+                    version,
+                })
+            }
+            PathStep::Return { values } => {
+                let terms = self.exprs_terms(alloc, kinds, values.as_slice(), version)?;
+                self.bind_all(procedure.results.as_slice(), terms.as_slice())?;
+                Ok(StepEncoding {
+                    step: TermStep::Same,
+                    version,
+                })
+            }
+            PathStep::Call { .. } | PathStep::Loop { .. } => {
+                let encoded = self.encode_part(alloc, kinds, program, procedure, step, version)?;
+                Ok(encoded)
+            }
+            _ => {
+                let encoded = self.encode_cell(kinds, step, version)?;
+                Ok(encoded)
+            }
+        }
+    }
+}

@@ -1,0 +1,469 @@
+-- For given words and files there is one status.
+--
+-- Each answer is brought into a form by cases in which the status is told by an equation (`IsGiven`), so that two answers are
+-- compared case by case: first the requests and the programs, then what is judged of the program.
+use Rattle.std.proofs.Common.{◌≡◌, ◌⊎◌, inl, inr, ◌∙◌, ℕ, ◌-◌, ◌<◌, ◌≤◌, List, [], ◌∷◌, ◌++◌, length, map, refl, sym, ap, subst, arith}
+use Rattle.std.specs.Prelude.{Contains, Option, Some, All, Any, cond, true, false}
+use Rattle.std.proofs.lemmas.List.Elements.{Contains-append_right}
+use Rattle.std.proofs.lemmas.Option.{slice_get_within}
+use Rattle.gh_base.specs.Grounds.{Problem}
+use Rattle.gh_ast.proofs.Lists.{member_first}
+use Rattle.gh_ast.proofs.OneQuestion.{one_question}
+use Rattle.gh_ast.proofs.TokenLemmas.{one_whole}
+use Rattle.gh_ast.specs.Lists.{IsFirstWith}
+use Rattle.gh_ast.specs.Limits.{KeepsLimits, IsLimit, of_procedures, of_variables, of_atoms, atom_counts}
+use Rattle.gh_ast.specs.Plain.{Procedure, Program}
+use Rattle.gh_ast.specs.Occurrences.{variables_of}
+use Rattle.gh_ast.specs.Rules.{IsTyped}
+use Rattle.gh_ast.specs.QuestionGrammar.{SpellsQuestion, Poses}
+use Rattle.gh_ast.specs.Questions.{Question}
+use Rattle.gh_ast.specs.declared.typed.Limit.{Limit}
+use Rattle.gh_decide.specs.Logs.{AreValidSections, IsValidLog}
+use Rattle.gh_draw.proofs.Shown.{file_one, file_shown}
+use Rattle.gh_draw.specs.Drawn.{IsFileOf}
+use Rattle.gh_entail.specs.Asked as asked
+use Rattle.gh_entail.specs.Limits as question_limits
+use Rattle.gh_entail.specs.Meaning.{IsEntailed}
+use Rattle.gh_log.proofs.LogLemmas.{one_text}
+use Rattle.gh_log.proofs.OutsideLemmas.{logs_are_inside}
+use Rattle.gh_log.specs.Lines.{LogLine}
+use Rattle.gh_log.specs.Sections.{IsValidSection, IsFirstFault}
+use Rattle.gh_path.specs.Admitted.{Passed, NoneHas, IsFirstLimit, of_text, paths, steps, terms, versions, IsAdmitted}
+use Rattle.gh_path.specs.Conditions.{Condition, conditions}
+use Rattle.gh_run.proofs.OneFile.{state_files_are_one}
+use Rattle.gh_run.proofs.OneReport.{reports_are_one}
+use Rattle.gh_run.specs.StateFiles.{IsStateFile}
+use Rattle.gh_run.specs.declared.simulate.Report.{Report}
+use Rattle.gh_run.specs.declared.simulate.Report.TheVariants as report
+use Rattle.gh_session.proofs.Refusing.{sessions_are_read}
+use Rattle.gh_symb.specs.Formulas.{problem}
+use Rattle.gh_symb.specs.Symbolic.{symbolic_of}
+use Rattle.gh_top.proofs.HeadlineLemmas.{one_request, one_program_asked, one_spelled}
+use Rattle.gh_top.specs.Entails.{IsQuestionText, IsQuestionRefused, PosesAdmitted, IsFailingReport}
+use Rattle.gh_top.specs.Headline.{Files, asked_text, Asks, Answer, usage, refused, check_verified, check_refuted, log_verified, log_refuted, recheck_refused, recheck_verified, paths_listed, replay_refused, replay_refuted, smallest_verified, smallest_refuted, stress_verified, stress_refuted, smt_listed, smt_no_condition, smt_too_long, run_refused, run_unmet, run_stopped, run_faulted, run_held, run_failed, session_refused, session_listed, entail_refused, entail_verified, entail_refuted}
+use Rattle.gh_top.specs.Laws.{StatusesAreOne}
+use Rattle.gh_top.specs.Rechecks.{IsLogOf, IsFirstFaultIn, IsLogRefusal, IsValidLogFile}
+use Rattle.gh_top.specs.Rechecks as recheck
+use Rattle.gh_top.specs.Refusals.{IsAccepted, IsRefused}
+use Rattle.gh_top.specs.Replays.{IsAt, IsDrawingRefusal, IsRefutingFile}
+use Rattle.gh_top.specs.Replays as replay
+use Rattle.gh_top.specs.Reports.{IsFirstRefuted}
+use Rattle.gh_top.specs.Rules.{rule_number}
+use Rattle.gh_top.specs.Runs.{IsStateRefusal, IsRunFrom}
+use Rattle.gh_top.specs.Runs as run
+use Rattle.gh_top.specs.Sessions.{IsSessionRefusal, IsSessionReport}
+use Rattle.gh_top.specs.Sessions as sessions
+use Rattle.gh_top.specs.Smts.{most_asserted, asserted_count}
+use Rattle.gh_top.specs.Words.{IsRequest, IsOnProgram}
+use Rattle.gh_top.specs.declared.refusal.Refusal.{Refusal}
+use Rattle.gh_top.specs.declared.refusal.Refusal.TheVariants.{Absent, TooLong, Byte, Deep, Syntax, TypeError, Limit as LimitPassed}
+use Rattle.gh_top.specs.declared.status.Status.{Status}
+use Rattle.gh_top.specs.declared.status.Status.TheVariants.{Verified, Listed, Ran, Refuted, Usage, TextRefused, LogRefused, Stopped, Unmet}
+use Rattle.gh_top.specs.declared.words.Request.{Request}
+use Rattle.gh_top.specs.declared.words.Request.TheVariants.{Check, Log, Recheck, Paths, Replay, Smallest, Stress, Smt, Run, Session, Entail}
+use Rattle.gh_trace.proofs.Failures.{failures_are_one}
+use Rattle.gh_trace.specs.Traces.{State}
+use Rattle.gh_trace.specs.Kept.{drawn}
+use Rattle.gh_trace.specs.Replay.{FirstFailure}
+use Rattle.gh_trace.specs.Validity.{IsConditionValid, ListedAreValid, AreCounterexample}
+
+-- a refused text is not accepted
+
+a_text : (t u : List ℕ) → Some u ≡ Some t → u ≡ t
+a_text t u e = cc
+
+first_has : (P : Program) (Q : Procedure → Type 0) (p : Procedure) → NoneHas P Q → IsFirstWith Q P.procedures p → ⊥
+first_has P Q p none first = none p (first.place, first.within, first.element) first.holds
+
+passed_has : (P : Program) (Q : Procedure → Type 0) (kind limit : ℕ) (l : Limit) → NoneHas P Q → Passed P Q kind limit l → ⊥
+passed_has P Q kind limit l none passed = first_has P Q passed.procedure none passed.first
+
+few_variables : (P : Program) → KeepsLimits P → NoneHas P (λ q. 32 < length (variables_of q))
+few_variables P keeps p (k, within, at) many =
+    let few = keeps.variables k p within in
+    let here : length (variables_of p) ≤ 32 = subst (λ q. length (variables_of q) ≤ 32) at few in
+    absurd (omega (arith, here, many))
+
+few_atoms : (P : Program) → KeepsLimits P → NoneHas P (λ q. Any (λ n. 32 < n) (atom_counts q))
+few_atoms P keeps p (k, within, at) (j, n, low, there, many) =
+    let counts : All (λ m. m ≤ 32) (atom_counts p) = subst (λ q. All (λ m. m ≤ 32) (atom_counts q)) at (keeps.atoms k p within) in
+    let here : n ≤ 32 = subst (λ m. m ≤ 32) there (counts j n low) in
+    absurd (omega (arith, here, many))
+
+text_limit : (P : Program) (l : Limit) → KeepsLimits P → IsLimit P l → ⊥
+text_limit P l keeps (of_procedures passed) = let few = keeps.procedures in let many = passed.passed in absurd (omega (arith, few, many))
+text_limit P l keeps (of_variables few passed) = first_has P (λ q. 32 < length (variables_of q)) passed.procedure (few_variables P keeps) passed.first
+text_limit P l keeps (of_atoms few fewer passed) = first_has P (λ q. Any (λ n. 32 < n) (atom_counts q)) passed.procedure (few_atoms P keeps) passed.first
+
+limit_passed : (P : Program) (l : Limit) → IsAdmitted P → IsFirstLimit P l → ⊥
+limit_passed P l a (of_text is) = text_limit P l a.limits is
+limit_passed P l a (paths keeps passed) = passed_has P _ 4 1025 l a.paths passed
+limit_passed P l a (steps keeps none passed) = passed_has P _ 5 257 l a.steps passed
+limit_passed P l a (terms keeps none fewer passed) = passed_has P _ 6 _ l a.terms passed
+limit_passed P l a (versions keeps none fewer never passed) = passed_has P _ 7 _ l a.versions passed
+
+not_accepted : (text : List ℕ) (x : Refusal) (P : Program) → IsRefused (Some text) x → IsAccepted text P → ⊥
+not_accepted text Absent P e a = absurd cc
+not_accepted text TooLong P (t, e, long) a =
+    let same = a_text t text e in
+    let short : length t ≤ 1048576 = subst (λ u. length u ≤ 1048576) same a.spelled.readable.short in
+    absurd (omega (arith, long, short))
+not_accepted text (Byte k) P (t, e, short, first) a = a.spelled.readable.characters k (rw (a_text t text e) first)
+not_accepted text (Deep p) P (t, e, deep) a = a.spelled.readable.shallow deep.offset (rw (a_text t text e) deep.deep)
+not_accepted text (Syntax p) P (t, e, readable, none, place) a = none P (rw (a_text t text e) at a.spelled.spells)
+not_accepted text (TypeError r p) P (t, Q, e, is, broken) a =
+    let one : Q ≡ P = one_spelled text Q P (rw (a_text t text e) is.spells) a.spelled.spells in
+    a.admitted.typed (rule_number r) p (rw one at broken).here
+not_accepted text (LimitPassed l) P (t, Q, e, is, typed, passed) a =
+    let one : Q ≡ P = one_spelled text Q P (rw (a_text t text e) is.spells) a.spelled.spells in
+    limit_passed P l a.admitted (rw one at passed)
+
+-- the same for questions
+
+one_posed : (text : List ℕ) (p q : Question) → Poses text p → Poses text q → p ≡ q
+one_posed text p q a b = one_question a.0 p q a.2 (subst (λ z. SpellsQuestion z q) (sym (one_whole text a.0 b.0 a.1 b.1)) b.2)
+
+question_limit : (q : Question) (l : Limit) → question_limits.KeepsLimits q → question_limits.IsLimit q l → ⊥
+question_limit q l keeps (question_limits.of_variables many e) = let few = keeps.variables in absurd (omega (arith, few, many))
+question_limit q l keeps (question_limits.of_atoms few many e) = let fewer = keeps.atoms in absurd (omega (arith, fewer, many))
+question_limit q l keeps (question_limits.of_terms few less many e) = let fewer = keeps.terms in absurd (omega (arith, fewer, many))
+
+not_posed : (text : List ℕ) (x : Refusal) (q : Question) → IsQuestionRefused (Some text) x → IsQuestionText text q → asked.IsAdmitted q → ⊥
+not_posed text Absent q e a d = absurd cc
+not_posed text TooLong q (t, e, long) a d =
+    let same = a_text t text e in
+    let short : length t ≤ 1048576 = subst (λ u. length u ≤ 1048576) same a.readable.short in
+    absurd (omega (arith, long, short))
+not_posed text (Byte k) q (t, e, short, first) a d = a.readable.characters k (rw (a_text t text e) first)
+not_posed text (Deep p) q (t, e, deep) a d = a.readable.shallow deep.offset (rw (a_text t text e) deep.deep)
+not_posed text (Syntax p) q (t, e, readable, none, place) a d = none q (rw (a_text t text e) at a.poses)
+not_posed text (TypeError r p) q (t, o, e, is, broken) a d =
+    let one : o ≡ q = one_posed text o q (rw (a_text t text e) is.poses) a.poses in
+    d.typed (rule_number r) p (rw one at broken).here
+not_posed text (LimitPassed l) q (t, o, e, is, typed, passed) a d =
+    let one : o ≡ q = one_posed text o q (rw (a_text t text e) is.poses) a.poses in
+    question_limit q l d.limits (rw one at passed)
+
+-- what is judged of a program
+
+abbrev IsDecided : Program → Status → Type 0
+IsDecided P s = ((s ≡ Verified) × ListedAreValid P) ⊎ ((s ≡ Refuted) × (k : ℕ) × (c : Condition) × (xs : List State) × IsFirstRefuted P k c xs)
+
+not_refuted : (P : Program) (c : Condition) (xs : List State) → IsConditionValid P c → AreCounterexample P c xs → ⊥
+not_refuted P c [] valid r = r
+not_refuted P c (x ∷ ys) valid r = valid x ys r
+
+not_decided : (P : Program) (k : ℕ) (c : Condition) (xs : List State) → ListedAreValid P → IsFirstRefuted P k c xs → ⊥
+not_decided P k c xs valid f =
+    let there : Contains (conditions P) c =
+    subst (λ cs. Contains cs c) (sym f.reached.whole) (Contains-append_right f.reached.before (c ∷ f.reached.after) c (member_first c f.reached.after)) in
+    not_refuted P c xs (valid c there) f.refutes
+
+one_decided : (P : Program) (s t : Status) → IsDecided P s → IsDecided P t → s ≡ t
+one_decided P s t (inl (e, v)) (inl (f, w)) = e ∙ sym f
+one_decided P s t (inl (e, v)) (inr (f, k, c, xs, r)) = absurd (not_decided P k c xs v r)
+one_decided P s t (inr (e, k, c, xs, r)) (inl (f, v)) = absurd (not_decided P k c xs v r)
+one_decided P s t (inr (e, k, c, xs, r)) (inr (f, j, d, ys, q)) = e ∙ sym f
+
+-- log files
+
+one_log : (text : List ℕ) (log other : List (List LogLine)) → IsLogOf text log → IsLogOf text other → log ≡ other
+one_log text log other a b = (one_text a.version b.version log other a.spelled b.spelled (sym a.text_is ∙ b.text_is)).1
+
+as_many : (P : Program) (cs : List Condition) (log : List (List LogLine)) → AreValidSections P cs log → length log ≡ length cs
+as_many P [] [] v = refl
+as_many P [] (s ∷ ss) v = absurd v
+as_many P (c ∷ cs) [] v = absurd v
+as_many P (c ∷ cs) (s ∷ ss) v = let more = as_many P cs ss v.1 in omega (arith, more)
+
+-- the section after valid ones
+section_at : (P : Program) (earlier : List Condition) (c : Condition) (later : List Condition) (before : List (List LogLine)) (s : List LogLine) (after : List (List LogLine)) →
+    AreValidSections P earlier before → AreValidSections P (earlier ++ c ∷ later) (before ++ s ∷ after) → IsValidSection (problem (symbolic_of P c)) s
+section_at P [] c later [] s after v w = w.0
+section_at P [] c later (t ∷ before) s after v w = absurd v
+section_at P (d ∷ earlier) c later [] s after v w = absurd v
+section_at P (d ∷ earlier) c later (t ∷ before) s after v w = section_at P earlier c later before s after v.1 w.1
+
+no_fault : (p : Problem) (lines : List LogLine) (number place : ℕ) → IsValidSection p lines → IsFirstFault p lines number place → ⊥
+no_fault p lines number place v (inl f) = f.faulty (v.of_kind place f.line f.at)
+no_fault p lines number place v (inr f) = f.no_end v.ends
+
+no_first_fault : (P : Program) (log : List (List LogLine)) (number at : ℕ) → IsValidLog P log → IsFirstFaultIn P log number at → ⊥
+no_first_fault P log number at v f =
+    let whole : AreValidSections P (f.earlier ++ f.condition ∷ f.later) (f.before ++ f.lines ∷ f.after) =
+    subst (λ cs. AreValidSections P cs (f.before ++ f.lines ∷ f.after)) f.whole (subst (AreValidSections P (conditions P)) f.sections v) in
+    no_fault (problem (symbolic_of P f.condition)) f.lines number f.place (section_at P f.earlier f.condition f.later f.before f.lines f.after f.valid whole) f.fault
+
+valid_log : (P : Program) (text u : List ℕ) (log : List (List LogLine)) → IsLogOf text log → IsValidLog P log → (bytes : Option (List ℕ)) → bytes ≡ Some text → IsLogRefusal P bytes u → ⊥
+valid_log P text u log is v _ e recheck.absent = absurd cc
+valid_log P text u log is v _ e (recheck.too_long {text = t} long) =
+    let short : length t ≤ 67108864 = subst (λ x. length x ≤ 67108864) (a_text t text (sym e)) is.short in
+    absurd (omega (arith, long, short))
+valid_log P text u log is v _ e (recheck.outside {text = t} k short first) =
+    logs_are_inside text k (record { version = is.version; sections = log; text_is = is.text_is; spelled = is.spelled }) (rw (a_text t text (sym e)) first)
+valid_log P text u log is v _ e (recheck.other_number {text = t} other spelled many) =
+    let same : other ≡ log = one_log text other log (rw (a_text t text (sym e)) spelled) is in
+    many (ap length same ∙ as_many P (conditions P) log v)
+valid_log P text u log is v _ e (recheck.fails {text = t} other number at spelled many found) =
+    let same : other ≡ log = one_log text other log (rw (a_text t text (sym e)) spelled) is in
+    no_first_fault P log number at v (rw same at found)
+
+abbrev IsRechecked : Program → Option (List ℕ) → Status → Type 0
+IsRechecked P bytes s = ((s ≡ Verified) × IsValidLogFile P bytes) ⊎ ((s ≡ LogRefused) × (u : List ℕ) × IsLogRefusal P bytes u)
+
+one_rechecked : (P : Program) (bytes : Option (List ℕ)) (s t : Status) → IsRechecked P bytes s → IsRechecked P bytes t → s ≡ t
+one_rechecked P bytes s t (inl (e, v)) (inl (f, w)) = e ∙ sym f
+one_rechecked P bytes s t (inl (e, v)) (inr (f, u, w)) = absurd (valid_log P v.text u v.log v.spelled v.valid bytes v.bytes_are w)
+one_rechecked P bytes s t (inr (e, u, w)) (inl (f, v)) = absurd (valid_log P v.text u v.log v.spelled v.valid bytes v.bytes_are w)
+one_rechecked P bytes s t (inr (e, u, w)) (inr (f, v, x)) = e ∙ sym f
+
+-- drawing files
+
+refuting : (P : Program) (n : ℕ) (u : List ℕ) (bytes : Option (List ℕ)) → (r : IsRefutingFile P bytes n) → (other : Option (List ℕ)) → other ≡ Some r.text → IsDrawingRefusal P other u → ⊥
+refuting P n u bytes r _ e replay.absent = absurd cc
+refuting P n u bytes r _ e (replay.too_long {text = t} long) =
+    let short : length t ≤ 4194304 = subst (λ x. length x ≤ 4194304) (a_text t r.text (sym e)) r.short in
+    absurd (omega (arith, long, short))
+refuting P n u bytes r _ e (replay.no_drawing {text = t} short none) = none n r.states (rw (a_text t r.text (sym e)) at r.file)
+refuting P n u bytes r _ e (replay.fails {text = t} m k xs c short file found fails) =
+    let here : IsFileOf P t n r.states = rw (a_text t r.text (sym e)) at r.file in
+    let one = file_one P t n m r.states xs (file_shown P t n r.states here) (file_shown P t m xs file) in
+    let there : IsAt P n c = rw one.0 found in
+    let known = r.at in
+    let same : c ≡ r.condition = cc in
+    let fails_here : FirstFailure P r.condition (map drawn r.states) k =
+    subst (λ d. FirstFailure P d (map drawn r.states) k) same (subst (λ ys. FirstFailure P c (map drawn ys) k) (sym one.1) fails) in
+    failures_are_one.none P r.condition (map drawn r.states) r.refutes k fails_here
+
+abbrev IsReplayed : Program → Option (List ℕ) → Status → Type 0
+IsReplayed P bytes s = ((s ≡ Refuted) × (n : ℕ) × IsRefutingFile P bytes n) ⊎ ((s ≡ LogRefused) × (u : List ℕ) × IsDrawingRefusal P bytes u)
+
+one_replayed : (P : Program) (bytes : Option (List ℕ)) (s t : Status) → IsReplayed P bytes s → IsReplayed P bytes t → s ≡ t
+one_replayed P bytes s t (inl (e, n, r)) (inl (f, m, q)) = e ∙ sym f
+one_replayed P bytes s t (inl (e, n, r)) (inr (f, u, w)) = absurd (refuting P n u bytes r bytes r.bytes_are w)
+one_replayed P bytes s t (inr (e, u, w)) (inl (f, n, r)) = absurd (refuting P n u bytes r bytes r.bytes_are w)
+one_replayed P bytes s t (inr (e, u, w)) (inr (f, v, x)) = e ∙ sym f
+
+-- scripts: the condition of the number is one, or there is none
+
+abbrev IsScripted : Program → ℕ → Status → Type 0
+IsScripted P n s =
+    ((s ≡ Listed) × (c : Condition) × IsAt P n c × (asserted_count P c ≤ most_asserted))
+    ⊎ ((s ≡ LogRefused) × (length (conditions P) < n))
+    ⊎ ((s ≡ TextRefused) × (c : Condition) × IsAt P n c × (most_asserted < asserted_count P c))
+
+one_at : (P : Program) (n : ℕ) (c d : Condition) → IsAt P n c → IsAt P n d → c ≡ d
+one_at P n c d a b = cc
+
+not_past : (P : Program) (n : ℕ) (c : Condition) → IsAt P n c → length (conditions P) < n → ⊥
+not_past P n c a past = let within = slice_get_within (conditions P) (n - 1) c a in absurd (omega (arith, within, past))
+
+not_long : (P : Program) (n : ℕ) (c d : Condition) → IsAt P n c → IsAt P n d → asserted_count P c ≤ most_asserted → most_asserted < asserted_count P d → ⊥
+not_long P n c d a b few many =
+    let here = subst (λ e. asserted_count P e ≤ most_asserted) (one_at P n c d a b) few in
+    absurd (omega (arith, here, many))
+
+one_scripted : (P : Program) (n : ℕ) (s t : Status) → IsScripted P n s → IsScripted P n t → s ≡ t
+one_scripted P n s t (inl (e, c, a, few)) (inl (f, d, b, less)) = e ∙ sym f
+one_scripted P n s t (inl (e, c, a, few)) (inr (inl (f, past))) = absurd (not_past P n c a past)
+one_scripted P n s t (inl (e, c, a, few)) (inr (inr (f, d, b, many))) = absurd (not_long P n c d a b few many)
+one_scripted P n s t (inr (inl (e, past))) (inl (f, d, b, less)) = absurd (not_past P n d b past)
+one_scripted P n s t (inr (inl (e, past))) (inr (inl (f, more))) = e ∙ sym f
+one_scripted P n s t (inr (inl (e, past))) (inr (inr (f, d, b, many))) = absurd (not_past P n d b past)
+one_scripted P n s t (inr (inr (e, c, a, many))) (inl (f, d, b, less)) = absurd (not_long P n d c b a less many)
+one_scripted P n s t (inr (inr (e, c, a, many))) (inr (inl (f, past))) = absurd (not_past P n c a past)
+one_scripted P n s t (inr (inr (e, c, a, many))) (inr (inr (f, d, b, more))) = e ∙ sym f
+
+-- runs
+
+abbrev status_of : Report → Status
+status_of report.Unmet = Unmet
+status_of (report.Stopped k x) = Stopped
+status_of (report.Faulted k x) = Refuted
+status_of (report.Ended k x met) = cond met Ran Refuted
+
+abbrev IsRan : Program → Option (List ℕ) → ℕ → Status → Type 0
+IsRan P bytes n s = ((r : Report) × (s ≡ status_of r) × IsRunFrom P bytes n r) ⊎ ((s ≡ LogRefused) × (u : List ℕ) × IsStateRefusal P bytes u)
+
+run_refused_too : (P : Program) (bytes : Option (List ℕ)) (n : ℕ) (u : List ℕ) (r : Report) → (f : IsRunFrom P bytes n r) → (other : Option (List ℕ)) → other ≡ Some f.text → IsStateRefusal P other u → ⊥
+run_refused_too P bytes n u r f _ e run.absent = absurd cc
+run_refused_too P bytes n u r f _ e (run.too_long {text = t} long) =
+    let short : length t ≤ 4194304 = subst (λ x. length x ≤ 4194304) (a_text t f.text (sym e)) f.short in
+    absurd (omega (arith, long, short))
+run_refused_too P bytes n u r f _ e (run.faulty {text = t} k short faulty) =
+    state_files_are_one.not_both P t f.begin k (rw (a_text t f.text (sym e)) at f.file) faulty
+
+one_run : (P : Program) (bytes : Option (List ℕ)) (n : ℕ) (r q : Report) → IsTyped P → IsRunFrom P bytes n r → IsRunFrom P bytes n q → r ≡ q
+one_run P bytes n r q typed a b =
+    let texts : Some a.text ≡ Some b.text = sym a.bytes_are ∙ b.bytes_are in
+    let file : IsStateFile P b.text a.begin = rw (a_text b.text a.text texts) at a.file in
+    let begin = state_files_are_one.state P b.text a.begin b.begin typed file b.file in
+    reports_are_one P b.begin n r q typed (rw begin at a.comes) b.comes
+
+one_ran : (P : Program) (bytes : Option (List ℕ)) (n : ℕ) (s t : Status) → IsTyped P → IsRan P bytes n s → IsRan P bytes n t → s ≡ t
+one_ran P bytes n s t typed (inl (r, e, a)) (inl (q, f, b)) = e ∙ ap status_of (one_run P bytes n r q typed a b) ∙ sym f
+one_ran P bytes n s t typed (inl (r, e, a)) (inr (f, u, w)) = absurd (run_refused_too P bytes n u r a bytes a.bytes_are w)
+one_ran P bytes n s t typed (inr (e, u, w)) (inl (r, f, a)) = absurd (run_refused_too P bytes n u r a bytes a.bytes_are w)
+one_ran P bytes n s t typed (inr (e, u, w)) (inr (f, v, x)) = e ∙ sym f
+
+-- sessions
+
+session_read : (u v : List ℕ) (bytes : Option (List ℕ)) → (r : IsSessionReport bytes u) → (other : Option (List ℕ)) → other ≡ Some r.text → IsSessionRefusal other v → ⊥
+session_read u v bytes r _ e sessions.absent = absurd cc
+session_read u v bytes r _ e (sessions.too_long {text = t} long) =
+    let short : length t ≤ 4194304 = subst (λ x. length x ≤ 4194304) (a_text t r.text (sym e)) r.short in
+    absurd (omega (arith, long, short))
+session_read u v bytes r _ e (sessions.bad_line {text = t} k short bad) = (sessions_are_read t r.edits k (rw (a_text t r.text (sym e)) at r.read)).0 bad
+session_read u v bytes r _ e (sessions.too_many {text = t} k short bad) = (sessions_are_read t r.edits k (rw (a_text t r.text (sym e)) at r.read)).1 bad
+
+abbrev IsInSession : Option (List ℕ) → Status → Type 0
+IsInSession bytes s = ((s ≡ Listed) × (u : List ℕ) × IsSessionReport bytes u) ⊎ ((s ≡ LogRefused) × (u : List ℕ) × IsSessionRefusal bytes u)
+
+one_session : (bytes : Option (List ℕ)) (s t : Status) → IsInSession bytes s → IsInSession bytes t → s ≡ t
+one_session bytes s t (inl (e, u, r)) (inl (f, v, q)) = e ∙ sym f
+one_session bytes s t (inl (e, u, r)) (inr (f, v, w)) = absurd (session_read u v bytes r bytes r.bytes_are w)
+one_session bytes s t (inr (e, u, w)) (inl (f, v, r)) = absurd (session_read v u bytes r bytes r.bytes_are w)
+one_session bytes s t (inr (e, u, w)) (inr (f, v, x)) = e ∙ sym f
+
+-- questions
+
+abbrev IsJudgedQuestion : Option (List ℕ) → Status → Type 0
+IsJudgedQuestion bytes s =
+    ((s ≡ Verified) × (q : Question) × PosesAdmitted bytes q × IsEntailed q)
+    ⊎ ((s ≡ Refuted) × (q : Question) × (u : List ℕ) × PosesAdmitted bytes q × IsFailingReport q u)
+    ⊎ ((s ≡ TextRefused) × (x : Refusal) × IsQuestionRefused bytes x)
+
+one_asked : (bytes : Option (List ℕ)) (p q : Question) → PosesAdmitted bytes p → PosesAdmitted bytes q → p ≡ q
+one_asked bytes p q a b =
+    let texts : Some a.text ≡ Some b.text = sym a.bytes_are ∙ b.bytes_are in
+    one_posed b.text p q (rw (a_text b.text a.text texts) at a.posed.poses) b.posed.poses
+
+not_entailed : (bytes : Option (List ℕ)) (p q : Question) (u : List ℕ) → PosesAdmitted bytes p → IsEntailed p → PosesAdmitted bytes q → IsFailingReport q u → ⊥
+not_entailed bytes p q u a entailed b f =
+    let here : IsEntailed q = subst IsEntailed (one_asked bytes p q a b) entailed in
+    f.fails.right (here f.state.store f.state.heap f.fails.left)
+
+not_refused : (bytes : Option (List ℕ)) (q : Question) (x : Refusal) → PosesAdmitted bytes q → IsQuestionRefused bytes x → ⊥
+not_refused bytes q x a w = not_posed a.text x q (rw a.bytes_are at w) a.posed a.admitted
+
+one_question_judged : (bytes : Option (List ℕ)) (s t : Status) → IsJudgedQuestion bytes s → IsJudgedQuestion bytes t → s ≡ t
+one_question_judged bytes s t (inl (e, q, a, v)) (inl (f, p, b, w)) = e ∙ sym f
+one_question_judged bytes s t (inl (e, q, a, v)) (inr (inl (f, p, u, b, r))) = absurd (not_entailed bytes q p u a v b r)
+one_question_judged bytes s t (inl (e, q, a, v)) (inr (inr (f, x, w))) = absurd (not_refused bytes q x a w)
+one_question_judged bytes s t (inr (inl (e, q, u, a, r))) (inl (f, p, b, w)) = absurd (not_entailed bytes p q u b w a r)
+one_question_judged bytes s t (inr (inl (e, q, u, a, r))) (inr (inl (f, p, v, b, o))) = e ∙ sym f
+one_question_judged bytes s t (inr (inl (e, q, u, a, r))) (inr (inr (f, x, w))) = absurd (not_refused bytes q x a w)
+one_question_judged bytes s t (inr (inr (e, x, w))) (inl (f, p, b, v)) = absurd (not_refused bytes p x b w)
+one_question_judged bytes s t (inr (inr (e, x, w))) (inr (inl (f, p, u, b, r))) = absurd (not_refused bytes p x b w)
+one_question_judged bytes s t (inr (inr (e, x, w))) (inr (inr (f, y, v))) = e ∙ sym f
+
+-- answers by cases
+
+-- what the status is for an admitted program
+abbrev IsJudged : Files → Request → Program → Status → Type 0
+IsJudged files (Check f) P s = IsDecided P s
+IsJudged files (Log f) P s = IsDecided P s
+IsJudged files (Recheck f l) P s = IsRechecked P (files 2) s
+IsJudged files (Paths f) P s = s ≡ Listed
+IsJudged files (Replay f d) P s = IsReplayed P (files 2) s
+IsJudged files (Smallest f) P s = IsDecided P s
+IsJudged files (Stress n) P s = IsDecided P s
+IsJudged files (Smt f n) P s = IsScripted P n s
+IsJudged files (Run f x n) P s = IsRan P (files 2) n s
+IsJudged files (Session f) P s = ⊥
+IsJudged files (Entail f) P s = ⊥
+
+data IsGiven (words : List (List ℕ)) (files : Files) (s : Status) : Type 0 where
+  no_request : s ≡ Usage → ((r : Request) → IsRequest words r → ⊥) → IsGiven words files s
+  text_refused : (r : Request) (x : Refusal) → s ≡ TextRefused → IsRequest words r → IsOnProgram r → IsRefused (asked_text r files) x → IsGiven words files s
+  judged : (r : Request) (P : Program) → Asks words files r P → IsJudged files r P s → IsGiven words files s
+  in_session : (f : List ℕ) → IsRequest words (Session f) → IsInSession (files 1) s → IsGiven words files s
+  of_question : (f : List ℕ) → IsRequest words (Entail f) → IsJudgedQuestion (files 1) s → IsGiven words files s
+
+given : (words : List (List ℕ)) (files : Files) (s : Status) (u : List ℕ) → Answer words files s u → IsGiven words files s
+given words files s u (usage h) = no_request refl h
+given words files s u (refused {r = r} x a on h) = text_refused r x refl a on h
+given words files s u (check_verified {f = f} {P = P} a v) = judged (Check f) P a (inl (refl, v))
+given words files s u (check_refuted {f = f} {P = P} a r) = judged (Check f) P a (inr (refl, r.number, r.condition, r.states, r.first))
+given words files s u (log_verified {f = f} {P = P} log a v l two) = judged (Log f) P a (inl (refl, v))
+given words files s u (log_refuted {f = f} {P = P} a r) = judged (Log f) P a (inr (refl, r.number, r.condition, r.states, r.first))
+given words files s u (recheck_refused {f = f} {l = l} {u = v} {P = P} a w) = judged (Recheck f l) P a (inr (refl, v, w))
+given words files s u (recheck_verified {f = f} {l = l} {P = P} a v) = judged (Recheck f l) P a (inl (refl, v))
+given words files s u (paths_listed {f = f} {P = P} a) = judged (Paths f) P a refl
+given words files s u (replay_refused {f = f} {d = d} {u = v} {P = P} a w) = judged (Replay f d) P a (inr (refl, v, w))
+given words files s u (replay_refuted {f = f} {d = d} {n = n} {P = P} a r) = judged (Replay f d) P a (inl (refl, n, r))
+given words files s u (smallest_verified {f = f} {P = P} a v) = judged (Smallest f) P a (inl (refl, v))
+given words files s u (smallest_refuted {f = f} {P = P} a r) = judged (Smallest f) P a (inr (refl, r.number, r.condition, r.states, r.first))
+given words files s u (stress_verified {n = n} {P = P} a v) = judged (Stress n) P a (inl (refl, v))
+given words files s u (stress_refuted {n = n} {P = P} a r) = judged (Stress n) P a (inr (refl, r.number, r.condition, r.states, r.first))
+given words files s u (smt_listed {f = f} {n = n} {P = P} c a found few decides) = judged (Smt f n) P a (inl (refl, c, found, few))
+given words files s u (smt_no_condition {f = f} {n = n} {P = P} a past) = judged (Smt f n) P a (inr (inl (refl, past)))
+given words files s u (smt_too_long {f = f} {n = n} {P = P} c a found many) = judged (Smt f n) P a (inr (inr (refl, c, found, many)))
+given words files s u (run_refused {f = f} {x = x} {u = v} {n = n} {P = P} a w) = judged (Run f x n) P a (inr (refl, v, w))
+given words files s u (run_unmet {f = f} {x = x} {n = n} {P = P} a from) = judged (Run f x n) P a (inl (report.Unmet, refl, from))
+given words files s u (run_stopped {f = f} {x = x} {n = n} {P = P} k y a from) = judged (Run f x n) P a (inl (report.Stopped k y, refl, from))
+given words files s u (run_faulted {f = f} {x = x} {n = n} {P = P} k y a from) = judged (Run f x n) P a (inl (report.Faulted k y, refl, from))
+given words files s u (run_held {f = f} {x = x} {n = n} {P = P} k y a from) = judged (Run f x n) P a (inl (report.Ended k y true, refl, from))
+given words files s u (run_failed {f = f} {x = x} {n = n} {P = P} k y a from) = judged (Run f x n) P a (inl (report.Ended k y false, refl, from))
+given words files s u (session_refused {f = f} {u = v} a w) = in_session f a (inr (refl, v, w))
+given words files s u (session_listed {f = f} {u = v} a r) = in_session f a (inl (refl, v, r))
+given words files s u (entail_refused {f = f} x a w) = of_question f a (inr (inr (refl, x, w)))
+given words files s u (entail_verified {f = f} {q = q} a p v) = of_question f a (inl (refl, q, p, v.entailed))
+given words files s u (entail_refuted {f = f} {u = v} {q = q} a p r) = of_question f a (inr (inl (refl, q, v, p, r)))
+
+one_judged : (files : Files) (r : Request) (P : Program) (s t : Status) → IsTyped P → IsJudged files r P s → IsJudged files r P t → s ≡ t
+one_judged files (Check f) P s t typed a b = one_decided P s t a b
+one_judged files (Log f) P s t typed a b = one_decided P s t a b
+one_judged files (Recheck f l) P s t typed a b = one_rechecked P (files 2) s t a b
+one_judged files (Paths f) P s t typed a b = a ∙ sym b
+one_judged files (Replay f d) P s t typed a b = one_replayed P (files 2) s t a b
+one_judged files (Smallest f) P s t typed a b = one_decided P s t a b
+one_judged files (Stress n) P s t typed a b = one_decided P s t a b
+one_judged files (Smt f n) P s t typed a b = one_scripted P n s t a b
+one_judged files (Run f x n) P s t typed a b = one_ran P (files 2) n s t typed a b
+one_judged files (Session f) P s t typed a b = absurd a
+one_judged files (Entail f) P s t typed a b = absurd a
+
+-- a text is refused or asks about a program
+asks_or_refused : (words : List (List ℕ)) (files : Files) (r q : Request) (x : Refusal) (P : Program) → IsRequest words r → IsRefused (asked_text r files) x → Asks words files q P → ⊥
+asks_or_refused words files r q x P a w b =
+    let same = one_request words r q a b.request in
+    let here : IsRefused (asked_text q files) x = subst (λ p. IsRefused (asked_text p files) x) same w in
+    not_accepted b.text x P (subst (λ o. IsRefused o x) b.bytes here) b.accepted
+
+off_program : (words : List (List ℕ)) (r q : Request) → IsRequest words r → IsOnProgram r → IsRequest words q → (IsOnProgram q → ⊥) → ⊥
+off_program words r q a on b off = off (subst IsOnProgram (one_request words r q a b) on)
+
+one_given : (words : List (List ℕ)) (files : Files) (s t : Status) → IsGiven words files s → IsGiven words files t → s ≡ t
+one_given words files s t (no_request e h) (no_request f k) = e ∙ sym f
+one_given words files s t (no_request e h) (text_refused r x f a on w) = absurd (h r a)
+one_given words files s t (no_request e h) (judged r P a v) = absurd (h r a.request)
+one_given words files s t (no_request e h) (in_session f a v) = absurd (h (Session f) a)
+one_given words files s t (no_request e h) (of_question f a v) = absurd (h (Entail f) a)
+one_given words files s t (text_refused r x e a on w) (no_request f k) = absurd (k r a)
+one_given words files s t (text_refused r x e a on w) (text_refused q y f b of z) = e ∙ sym f
+one_given words files s t (text_refused r x e a on w) (judged q P b v) = absurd (asks_or_refused words files r q x P a w b)
+one_given words files s t (text_refused r x e a on w) (in_session f b v) = absurd (off_program words r (Session f) a on b (λ h. h))
+one_given words files s t (text_refused r x e a on w) (of_question f b v) = absurd (off_program words r (Entail f) a on b (λ h. h))
+one_given words files s t (judged r P a v) (no_request f k) = absurd (k r a.request)
+one_given words files s t (judged r P a v) (text_refused q x f b on w) = absurd (asks_or_refused words files q r x P b w a)
+one_given words files s t (judged r P a v) (judged q Q b w) =
+    let request : q ≡ r = one_request words q r b.request a.request in
+    let program : Q ≡ P = one_program_asked words files q r Q P b a in
+    let here : IsJudged files r P t = subst (λ p. IsJudged files r p t) program (subst (λ p. IsJudged files p Q t) request w) in
+    one_judged files r P s t a.accepted.admitted.typed v here
+one_given words files s t (judged r P a v) (in_session f b w) = absurd (off_program words r (Session f) a.request a.on_program b (λ h. h))
+one_given words files s t (judged r P a v) (of_question f b w) = absurd (off_program words r (Entail f) a.request a.on_program b (λ h. h))
+one_given words files s t (in_session f a v) (no_request e k) = absurd (k (Session f) a)
+one_given words files s t (in_session f a v) (text_refused r x e b on w) = absurd (off_program words r (Session f) b on a (λ h. h))
+one_given words files s t (in_session f a v) (judged r P b w) = absurd (off_program words r (Session f) b.request b.on_program a (λ h. h))
+one_given words files s t (in_session f a v) (in_session g b w) = one_session (files 1) s t v w
+one_given words files s t (in_session f a v) (of_question g b w) = let same = one_request words (Session f) (Entail g) a b in absurd cc
+one_given words files s t (of_question f a v) (no_request e k) = absurd (k (Entail f) a)
+one_given words files s t (of_question f a v) (text_refused r x e b on w) = absurd (off_program words r (Entail f) b on a (λ h. h))
+one_given words files s t (of_question f a v) (judged r P b w) = absurd (off_program words r (Entail f) b.request b.on_program a (λ h. h))
+one_given words files s t (of_question f a v) (in_session g b w) = let same = one_request words (Entail f) (Session g) a b in absurd cc
+one_given words files s t (of_question f a v) (of_question g b w) = one_question_judged (files 1) s t v w
+
+pub statuses_are_one : StatusesAreOne
+statuses_are_one words files s t u v a b = one_given words files s t (given words files s u a) (given words files t v b)

@@ -1,0 +1,107 @@
+-- Conditions by their numbers, and the first that isn't valid.
+use Rattle.std.specs.Prelude.{◌≡◌, ℕ, zero, suc, ◌+◌, ◌-◌, ◌≤◌, List, [], ◌∷◌, ◌++◌, length, take, drop, slice_get, Some, None, Contains}
+use Rattle.std.proofs.Common.{refl, sym, ◌∙◌, ap, subst, inl, inr, arith}
+use Rattle.std.proofs.lemmas.Option.{slice_get_within, get_or_from_slice_get}
+use Rattle.gh_ast.specs.Plain.{Program}
+use Rattle.gh_path.specs.Answers.{IsNumbered}
+use Rattle.gh_path.specs.Conditions.{Condition, conditions, IsCondition}
+use Rattle.gh_path.specs.Kept.{StandsFor}
+use Rattle.gh_path.specs.declared.condition.Condition as kept
+use Rattle.gh_path.proofs.Listed.{all_are_listed}
+use Rattle.gh_trace.specs.Kept.{drawn_of, IsOfProgram, IsOne, HasCounterexample, HasNoCounterexample}
+use Rattle.gh_trace.specs.Refuted.{IsFirst}
+use Rattle.gh_trace.specs.Replay.{Refutes}
+use Rattle.gh_trace.specs.Validity.{IsConditionValid}
+use Rattle.gh_trace.specs.declared.state.Trace.{Trace}
+
+-- lists by their members
+
+pub taken_more : {X : Type 0} (xs : List X) (n : ℕ) (x : X) → slice_get xs n ≡ Some x → take (suc n) xs ≡ take n xs ++ x ∷ []
+taken_more [] n x there = absurd cc
+taken_more (y ∷ ys) zero x there = let same : y ≡ x = cc in ap (λ e. e ∷ []) same
+taken_more (y ∷ ys) (suc n) x there = ap (λ t. y ∷ t) (taken_more ys n x there)
+
+pub taken_length : {X : Type 0} (xs : List X) (n : ℕ) (x : X) → slice_get xs n ≡ Some x → length (take n xs) ≡ n
+taken_length [] n x there = absurd cc
+taken_length (y ∷ ys) zero x there = refl
+taken_length (y ∷ ys) (suc n) x there = ap suc (taken_length ys n x there)
+
+-- the member at a place stands between those before and those after it
+pub parted : {X : Type 0} (xs : List X) (n : ℕ) (x : X) → slice_get xs n ≡ Some x → xs ≡ take n xs ++ x ∷ drop (suc n) xs
+parted [] n x there = absurd cc
+parted (y ∷ ys) zero x there = let same : y ≡ x = cc in ap (λ e. e ∷ ys) same
+parted (y ∷ ys) (suc n) x there = ap (λ t. y ∷ t) (parted ys n x there)
+
+at_seam : {X : Type 0} (before : List X) (x : X) (after : List X) → slice_get (before ++ x ∷ after) (length before) ≡ Some x
+at_seam [] x after = refl
+at_seam (y ∷ before) x after = at_seam before x after
+
+-- conditions by their numbers
+
+-- the condition at a place is one of the program's
+pub placed : (P : Program) (k : ℕ) (c : Condition) → slice_get (conditions P) k ≡ Some c → IsCondition P c
+placed P k c at = (all_are_listed P c).0 (k, slice_get_within (conditions P) k c at, get_or_from_slice_get (conditions P) k c c at)
+
+-- the condition of the next number
+pub next_one : (P : Program) (k : ℕ) (r : kept.Condition) → IsNumbered P (k + 1) (Some r) → (c : Condition) × (slice_get (conditions P) k ≡ Some c) × IsOfProgram P r c
+next_one P k r (c, low, there, stands) =
+    let place : k ≡ k + 1 - 1 = omega arith in
+    let at : slice_get (conditions P) k ≡ Some c = ap (slice_get (conditions P)) place ∙ there in
+    (c, at, record { stands = stands; there = placed P k c at })
+
+pub is_one : (P : Program) (k : ℕ) (r : kept.Condition) → IsNumbered P (k + 1) (Some r) → IsOne P r
+is_one P k r found = let c = next_one P k r found in (c.0, c.2)
+
+-- the first that isn't valid
+
+-- the next condition is refuted, after valid ones
+pub next_refuted : (P : Program) (k : ℕ) (r : kept.Condition) (t : Trace) → IsNumbered P (k + 1) (Some r) → HasCounterexample P r (drawn_of t) →
+    ((d : Condition) → Contains (take k (conditions P)) d → IsConditionValid P d) → IsFirst P (k + 1) t
+next_refuted P k r t found against valid =
+    let one = next_one P k r found in
+    record {
+      before = take k (conditions P);
+      condition = one.0;
+      after = drop (suc k) (conditions P);
+      whole = parted (conditions P) k one.0 one.1;
+      number_is = ap (λ n. n + 1) (sym (taken_length (conditions P) k one.0 one.1));
+      valid = valid;
+      refutes = against one.0 one.2;
+    }
+
+pub first_at : (P : Program) (k : ℕ) (t : Trace) → (f : IsFirst P k t) → slice_get (conditions P) (k - 1) ≡ Some f.condition
+first_at P k t f =
+    let place : k - 1 ≡ length f.before = omega (arith, f.number_is) in
+    rw (f.whole, place) (at_seam f.before f.condition f.after)
+
+pub first_low : (P : Program) (k : ℕ) (t : Trace) → IsFirst P k t → 1 ≤ k
+first_low P k t f = omega (arith, f.number_is)
+
+pub first_there : (P : Program) (k : ℕ) (t : Trace) → IsFirst P k t → IsNumbered P k None → ⊥
+first_there P k t f (inl none) = omega (arith, none, f.number_is)
+first_there P k t f (inr past) = omega (arith, past, f.number_is, slice_get_within (conditions P) (k - 1) f.condition (first_at P k t f))
+
+-- the condition that is kept is the first that isn't valid
+pub kept_first : (P : Program) (k : ℕ) (t : Trace) (r : kept.Condition) → (f : IsFirst P k t) → IsNumbered P k (Some r) → IsOfProgram P r f.condition
+kept_first P k t r f (c, low, there, stands) =
+    let at = first_at P k t f in
+    let same : c ≡ f.condition = cc in
+    record { stands = subst (StandsFor P r) same stands; there = placed P (k - 1) f.condition at }
+
+pub first_one : (P : Program) (k : ℕ) (t : Trace) (r : kept.Condition) → IsFirst P k t → IsNumbered P k (Some r) → IsOne P r
+first_one P k t r f n = (f.condition, kept_first P k t r f n)
+
+pub never_valid : (P : Program) (k : ℕ) (t : Trace) (r : kept.Condition) → IsFirst P k t → IsNumbered P k (Some r) → HasNoCounterexample P r → ⊥
+never_valid P k t r f n valid = valid f.condition (kept_first P k t r f n) f.refutes.first.state _ f.refutes.counterexample
+
+-- another counterexample of that condition shows it too
+pub still_first : (P : Program) (k : ℕ) (t u : Trace) → (f : IsFirst P k t) → Refutes P f.condition (drawn_of u) → IsFirst P k u
+still_first P k t u f refutes = record {
+  before = f.before;
+  condition = f.condition;
+  after = f.after;
+  whole = f.whole;
+  number_is = f.number_is;
+  valid = f.valid;
+  refutes = refutes;
+}
