@@ -3,7 +3,6 @@ use Rattle.std.specs.Prelude.{◌≡◌, Bool}
 use Rattle.std.proofs.Common.{◌∙◌, ap, sym}
 use Rattle.gh_ast.specs.declared.Occ.{Occ}
 use Rattle.gh_ast.specs.declared.Operand.{Operand}
-use Rattle.gh_ast.specs.declared.Assertion.{Assertion}
 use Rattle.gh_ast.specs.declared.Assertion as tree
 use Rattle.gh_ast.specs.declared.Assertion.TheOpen.{Assertion-F}
 use Rattle.gh_ast.specs.declared.Assertion.TheVariants.{rolls-Emp, rolls-Pure, rolls-PointsTo, rolls-Acc, rolls-Lseg}

@@ -7,7 +7,7 @@ use Rattle.gh_ast.specs.declared.sign.Sign.TheVariants as sg
 use Rattle.gh_ast.specs.declared.sign.Keyword.{Keyword}
 use Rattle.gh_ast.specs.declared.sign.Keyword.TheVariants as kw
 use Rattle.gh_ast.specs.Tokens.{Token, key, sign}
-use Rattle.gh_ast.specs.Plain.{Test, Formula, comparison, points_to, cell, segment, star, cases, Formulas, no_formulas, formula_first}
+use Rattle.gh_ast.specs.Plain.{Formula, comparison, points_to, segment, no_formulas, formula_first}
 use Rattle.gh_ast.specs.Plain as plain
 use Rattle.gh_ast.specs.Grammar.{NoKey, SpellsOperand, SpellsItem, emp, acc, lseg, pointed, same, different, by_cases, in_brackets, SpellsAssertion, one_item, items, SpellsItems, last_item, next_item, SpellsAlternatives, last_alternative, next_alternative, SpellsAfter, no_clause, a_clause, SpellsClause, SpellsEnsures}
 use Rattle.gh_ast.specs.Readings.{AreOne, IsUnique}

@@ -46,7 +46,7 @@ repeated os i j o p before within first later same = record {
 }
 
 -- where no occurrence is repeated, the names are distinct
-no_repeats : (os : List Occ) → ((s : Span) → RepeatedAt os s → ⊥) → AllPairs (λ x y. x ≢ y) (names os)
+pub no_repeats : (os : List Occ) → ((s : Span) → RepeatedAt os s → ⊥) → AllPairs (λ x y. x ≢ y) (names os)
 no_repeats os none i j d before within same =
     let count : length (names os) ≡ length os = length-map os (λ (o : Occ). o.name) in
     let j_in : j < length os = omega (arith, within, count) in

@@ -2,7 +2,7 @@
 
 ghost use Rattle.std.specs.Prelude.{◌≡◌, Some, None, IfOk, All, vec_len};
 ghost use Rattle.gh_base.specs.Atoms.{IsInRange};
-ghost use Rattle.gh_base.specs.Assignments.{IsPartial, value_at, value_of, with_value, ChangesAtom};
+ghost use Rattle.gh_base.specs.Assignments.{IsPartial, value_of, with_value, ChangesAtom};
 
 use crate::atom::{Atom, Lit};
 use crate::sizes::Sizes;

@@ -1,6 +1,6 @@
 //! Terms, atoms and literals.
 
-ghost use Rattle.std.specs.Prelude.{◌≡◌, ◌≤◌, ◌↔◌, IsTrue, min, max};
+ghost use Rattle.std.specs.Prelude.{◌≡◌, ◌↔◌, IsTrue, min, max};
 ghost use Rattle.gh_base.specs.declared.atom.Atom.TheVariants.{Eq as Equality};
 ghost use Rattle.gh_base.specs.Atoms.{opposite};
 

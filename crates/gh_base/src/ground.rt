@@ -1,6 +1,6 @@
 //! Ground clauses over terms, versions and definitions.
 
-ghost use Rattle.std.specs.Prelude.{◌≡◌, ◌∷◌, ◌++◌, ◌+◌, ◌^◌, ◌-◌, ◌<◌, ◌≤◌, [], All, IfSome, OnOk, OnErr, length, slice_get, option_copied};
+ghost use Rattle.std.specs.Prelude.{◌≡◌, ◌∷◌, ◌++◌, ◌+◌, ◌^◌, ◌-◌, ◌<◌, ◌≤◌, [], IfSome, OnOk, OnErr, length, slice_get, option_copied};
 ghost use Rattle.gh_base.specs.Atoms.{AreInRange};
 ghost use Rattle.gh_base.specs.Grounds.{IsProblem};
 

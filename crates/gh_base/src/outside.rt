@@ -1,6 +1,6 @@
 // The two traits, each with its meaning.
 
-ghost use Rattle.std.specs.Prelude.{◌≡◌, ℕ, ◌<◌, ◌≤◌, List, length, Option, IfOk, OnErr, Bool, false};
+ghost use Rattle.std.specs.Prelude.{◌≡◌, ℕ, ◌<◌, List, length, Option, Bool, false};
 ghost use Rattle.std.specs.Result.{is_err};
 ghost use Rattle.std.specs.Io.KnownBytes.{ReadConsumes, WriteAppends};
 ghost use Rattle.gh_base.specs.Outside.{HasCause, Begins, TakesSome, ReadsWithin, Table, has_begun, GivesNothing, Counts, AddsName};

@@ -1,6 +1,6 @@
 //! Texts: vectors of bytes that grow at their end.
 
-ghost use Rattle.std.specs.Prelude.{◌≡◌, ◌++◌, [], OnOk, OnErr};
+ghost use Rattle.std.specs.Prelude.{◌≡◌, ◌++◌, [], IfOk, OnOk, OnErr};
 
 use std::alloc::{AllocError, Global};
 use std::marker::Model;
@@ -27,6 +27,15 @@ impl Text {
         Text {
             bytes: Vec::new(alloc),
         }
+    }
+
+    /// An empty text with room for so many bytes: it grows that far without being copied.
+    pub fn with_capacity(alloc: Global, bytes: usize) -> Result<Text, AllocError>
+        ensures { IfOk result (λ t. t ≡ []) }
+    {
+        Ok(Text {
+            bytes: Vec::with_capacity(alloc, bytes)?,
+        })
     }
 
     /// Adds bytes at the end.

@@ -16,7 +16,7 @@ use Rattle.gh_cc.specs.Partitions.{Merged}
 use Rattle.gh_cc.specs.Signs.{Filed}
 use Rattle.gh_cc.specs.Asserted.{IsFree}
 use Rattle.gh_cc.specs.Kept.{reps, IsClash, IsState, AllFiled, AreTied, LinksMore, Core, stage_at, first_clash, clash_before, IsStage, IsBefore, IsKept}
-use Rattle.gh_cc.proofs.ListLemmas.{get_front, get_take}
+use Rattle.gh_base.proofs.ListLemmas.{get_front, get_take}
 use Rattle.gh_cc.proofs.KeptLemmas.{take_take, get_or_push, get_or_past, get_or_front_of, stage_keeps, clash_keeps, few_lits, apart_push, now_of, clash_cases, clash_stays, no_clash}
 
 -- the state when all literals stand

@@ -56,10 +56,10 @@ abbrev sign_of : List Lit → Option ℕ → Bool
 sign_of lits None = false
 sign_of lits (Some k) = (get_or lits k no_lit).positive
 
-abbrev signs_in : Sizes → List Lit → List Entry → Atom → Bool
+abbrev pub signs_in : Sizes → List Lit → List Entry → Atom → Bool
 signs_in s lits entries a = sign_of lits (find_lit entries (number_of s a))
 
-sign_found : (s : Sizes) (lits : List Lit) (entries : List Entry) (a : Atom) (p : Bool) → HasSign lits entries (number_of s a) p → signs_in s lits entries a ≡ p
+pub sign_found : (s : Sizes) (lits : List Lit) (entries : List Entry) (a : Atom) (p : Bool) → HasSign lits entries (number_of s a) p → signs_in s lits entries a ≡ p
 sign_found s lits entries a p h =
     ap (sign_of lits) h.found ∙ ap (λ (l : Lit). l.positive) (get_or_from_slice_get lits h.place h.lit no_lit h.there) ∙ h.signed
 

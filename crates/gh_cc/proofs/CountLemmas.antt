@@ -7,7 +7,7 @@ use Rattle.std.proofs.lemmas.List.Elements.{All-contains}
 use Rattle.gh_base.specs.declared.atom.Term.{Term}
 use Rattle.gh_cc.specs.declared.uses.Mention.{Mention}
 use Rattle.gh_cc.specs.Uses.{terms_of, one_if, counted, times, class_times, AreCounts}
-use Rattle.gh_cc.proofs.ListLemmas.{get_within, get_set_same, get_set_other}
+use Rattle.gh_base.proofs.ListLemmas.{get_within, get_set_same, get_set_other}
 use Rattle.gh_cc.proofs.PartitionLemmas.{one_if_same, none_if_apart, slice_get-contains}
 use Rattle.gh_cc.proofs.UseLemmas.{terms_push}
 

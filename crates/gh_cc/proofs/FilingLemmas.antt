@@ -20,7 +20,7 @@ use Rattle.gh_cc.specs.Signs.{Filed, find_lit}
 use Rattle.gh_cc.specs.Kept.{at, normal, reps, IsRelation, IsEntry, HasSign, IsFiledAs, IsFiled, IsClash, AreTied, Grows}
 use Rattle.gh_cc.specs.declared.clash.Clash.TheVariants.{Opposite}
 use Rattle.gh_cc.specs.declared.clash.Clash.{Clash}
-use Rattle.gh_cc.proofs.ListLemmas.{get_some}
+use Rattle.gh_base.proofs.ListLemmas.{get_some}
 use Rattle.gh_cc.proofs.PartitionLemmas.{rep_range, rep_own, slice_get-contains}
 use Rattle.gh_cc.proofs.SignLemmas.{find_sound}
 

@@ -21,7 +21,7 @@ use Rattle.gh_cc.specs.declared.classes.Stage.{Stage}
 use Rattle.gh_cc.specs.declared.classes.ClashAt.{ClashAt}
 use Rattle.gh_cc.specs.Asserted.{IsFree}
 use Rattle.gh_cc.specs.Kept.{normal, reps, IsClash, Core, first_clash, NoClashBefore, IsStage}
-use Rattle.gh_cc.proofs.ListLemmas.{get_push}
+use Rattle.gh_base.proofs.ListLemmas.{get_push}
 use Rattle.gh_cc.proofs.PartitionLemmas.{rep_later, rep_front, rep_own, slice_get-contains}
 use Rattle.gh_cc.proofs.FilingLemmas.{normal_coarser}
 

@@ -1,4 +1,3 @@
-pub mod ListLemmas
 pub mod PartitionLemmas
 pub mod ExplainLemmas
 pub mod SignLemmas
@@ -9,6 +8,7 @@ pub mod AssertLemmas
 pub mod SameLemmas
 pub mod RefuteLemmas
 pub mod ConsistentLemmas
+pub mod KeyLemmas
 pub mod LemmaLemmas
 pub mod TruthLemmas
 pub mod UseLemmas

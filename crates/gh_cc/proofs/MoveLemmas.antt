@@ -14,7 +14,7 @@ use Rattle.gh_cc.specs.Partitions.{rep, no_link}
 use Rattle.gh_cc.specs.Signs.{Filed, find_lit}
 use Rattle.gh_cc.specs.Asserted.{equality}
 use Rattle.gh_cc.specs.Kept.{normal, reps, HasSign, IsFiledAs, IsFiled, AllFiled, Grows}
-use Rattle.gh_cc.proofs.ListLemmas.{get_last, get_take, take_get}
+use Rattle.gh_base.proofs.ListLemmas.{get_last, get_take, take_get}
 use Rattle.gh_cc.proofs.PartitionLemmas.{relabel_cases, rep_front, rep_more, slice_get-contains}
 use Rattle.gh_cc.proofs.FilingLemmas.{sign_along, grows_find}
 use Rattle.gh_cc.proofs.TakingLemmas.{last_of, last_at, ends_joined}

@@ -11,7 +11,7 @@ use Rattle.gh_base.specs.declared.atom.Term.{Term}
 use Rattle.gh_cc.specs.declared.partition.Link.{Link}
 use Rattle.gh_cc.specs.Partitions.{no_link, relabel, rep, AreMerges, IsPartition, moved}
 use Rattle.gh_cc.specs.Uses.{one_if}
-use Rattle.gh_cc.proofs.ListLemmas.{get_within, get_push, get_last, get_some, get_take, get_set_same, get_set_other}
+use Rattle.gh_base.proofs.ListLemmas.{get_within, get_push, get_last, get_some, get_take, get_set_same, get_set_other}
 
 -- the term of a number
 abbrev pub term : ℕ → Term

@@ -6,7 +6,7 @@ use Rattle.std.proofs.lemmas.Bool.Decides.{eqb_tells}
 use Rattle.std.proofs.lemmas.List.{length_push}
 use Rattle.gh_cc.specs.declared.signs.Entry.{Entry}
 use Rattle.gh_cc.specs.Signs.{find_lit, free_places, AreSigns}
-use Rattle.gh_cc.proofs.ListLemmas.{get_within, get_front, get_push, get_last, get_some, get_set_same, get_set_other}
+use Rattle.gh_base.proofs.ListLemmas.{get_within, get_front, get_push, get_last, get_some, get_set_same, get_set_other}
 
 pub fewer_left : (table : List (Option ℕ)) (a b : ℕ) → slice_get table a ≡ Some None → free_places (slice_set table a (Some b)) + 1 ≡ free_places table
 fewer_left [] a b e = cc

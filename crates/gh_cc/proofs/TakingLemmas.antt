@@ -16,7 +16,7 @@ use Rattle.gh_cc.specs.Signs.{Filed}
 use Rattle.gh_cc.specs.Uses.{AreEnds}
 use Rattle.gh_cc.specs.Asserted.{equality}
 use Rattle.gh_cc.specs.Kept.{normal, reps, IsEntry, IsFiled, AllFiled, AreTied, Grows, LinksMore}
-use Rattle.gh_cc.proofs.ListLemmas.{get_front, get_last}
+use Rattle.gh_base.proofs.ListLemmas.{get_front, get_last}
 use Rattle.gh_cc.proofs.PartitionLemmas.{term, rep_own, rep_more, rep_joins, relabel_same, merges_more}
 use Rattle.gh_cc.proofs.FilingLemmas.{normal_coarser, filed_along, grows_find}
 

@@ -1,24 +1,29 @@
 -- The truth that asserted literals give an atom.
-use Rattle.std.proofs.Common.{◌≡◌, ℕ, ◌<◌, Bool, true, false, List, All, length, Some, refl, sym, ap, ◌∙◌, subst, arith}
+use Rattle.std.proofs.Common.{◌≡◌, ◌≢◌, ℕ, ◌<◌, Bool, true, false, not, cond, eqb, List, All, length, get_or, Option, Some, None, refl, sym, ap, ◌∙◌, subst, arith}
 use Rattle.std.specs.Prelude.{slice_get, Contains}
-use Rattle.std.proofs.lemmas.Bool.{eq-eqb, eqb-true}
+use Rattle.std.proofs.lemmas.Bool.{eq-eqb, ne_eqb, eqb-true}
 use Rattle.std.proofs.lemmas.List.Elements.{All-contains}
 use Rattle.gh_base.specs.declared.atom.Term.{Term}
 use Rattle.gh_base.specs.declared.atom.Atom.{Atom}
-use Rattle.gh_base.specs.declared.atom.Atom.TheVariants.{Eq}
+use Rattle.gh_base.specs.declared.atom.Atom.TheVariants.{Eq, Btwn, Hop, Alloc, Def}
 use Rattle.gh_base.specs.declared.atom.Lit.{Lit}
 use Rattle.gh_base.specs.declared.sizes.Sizes.{Sizes}
 use Rattle.gh_base.specs.Atoms.{IsInRange, AreInRange, number_of}
-use Rattle.gh_base.specs.Meaning.{Interpretation, IsLitTrue, atom_truth, under}
+use Rattle.gh_base.specs.Meaning.{Interpretation, IsLitTrue, atom_truth, lit_truth, under}
 use Rattle.gh_base.proofs.NumberLemmas.{apart}
 use Rattle.gh_cc.specs.declared.partition.Link.{Link}
 use Rattle.gh_cc.specs.declared.signs.Entry.{Entry}
 use Rattle.gh_cc.specs.Partitions.{equality_of}
 use Rattle.gh_cc.specs.Signs.{find_lit}
-use Rattle.gh_cc.specs.Asserted.{Asserted, EqualitiesHold, AreEqual, HasTruth, equality}
-use Rattle.gh_cc.specs.Kept.{normal, reps, IsState, IsEntry}
-use Rattle.gh_cc.proofs.PartitionLemmas.{Respects, rep_below, slice_get-contains}
+use Rattle.gh_cc.specs.Asserted.{Asserted, EqualitiesHold, AreEqual, HasTruth, GivesTruth, IsConsistent, HasNoTruth, equality}
+use Rattle.gh_cc.specs.Kept.{normal, reps, IsState, IsEntry, IsRelation, IsFiledAs, HasSign, AllFiled, IsClash, Core, IsKept}
+use Rattle.gh_cc.specs.declared.classes.ClashAt.{ClashAt}
+use Rattle.gh_cc.specs.declared.clash.Clash.{Clash}
+use Rattle.gh_cc.specs.declared.clash.Clash.TheVariants.{Unequal, Opposite}
+use Rattle.gh_cc.proofs.PartitionLemmas.{Respects, same_sound, rep_below, slice_get-contains}
+use Rattle.gh_cc.proofs.ConsistentLemmas.{model_of, model_congruence, Agrees, agrees_true, signs_in, sign_found}
 use Rattle.gh_cc.proofs.FilingLemmas.{normal_below, normal_twice, entry_of}
+use Rattle.gh_cc.proofs.AssertLemmas.{tied_now, filed_now, clash_now}
 use Rattle.gh_cc.proofs.SameLemmas.{respects}
 use Rattle.gh_cc.proofs.LemmaLemmas.{normal_truth}
 
@@ -58,3 +63,108 @@ filed_truth s lits links entries atom place l h range inside found at m congruen
     let yes : under e.lit.positive (atom_truth m e.lit.atom) ≡ true = All-contains (IsLitTrue m) lits e.lit all there in
     let one : e.lit ≡ l = cc (e.there, at) in
     truths ∙ truth_under e.lit.positive (atom_truth m e.lit.atom) yes ∙ ap (λ (k : Lit). k.positive) one
+
+-- an atom whose key has no entry has both truths somewhere
+abbrev signs_but : Sizes → List Lit → List Entry → ℕ → Bool → Atom → Bool
+signs_but s lits entries n t a = cond (eqb (number_of s a) n) t (signs_in s lits entries a)
+
+but_here : (s : Sizes) (lits : List Lit) (entries : List Entry) (t : Bool) (a : Atom) → signs_but s lits entries (number_of s a) t a ≡ t
+but_here s lits entries t a = ap (λ (b : Bool). cond b t (signs_in s lits entries a)) (eq-eqb (number_of s a) (number_of s a) refl)
+
+but_found : (s : Sizes) (lits : List Lit) (entries : List Entry) (n : ℕ) (t : Bool) (a : Atom) (p : Bool) → find_lit entries n ≡ None → HasSign lits entries (number_of s a) p → signs_but s lits entries n t a ≡ p
+but_found s lits entries n t a p none h =
+    let apart : number_of s a ≢ n = λ e. let found : find_lit entries n ≡ Some h.place = ap (find_lit entries) (sym e) ∙ h.found in cc in
+    ap (λ (b : Bool). cond b t (signs_in s lits entries a)) (ne_eqb (number_of s a) n apart) ∙ sign_found s lits entries a p h
+
+but_agrees : (s : Sizes) (r : ℕ → ℕ) (lits : List Lit) (entries : List Entry) (n : ℕ) (t : Bool) (a : Atom) (p : Bool) → find_lit entries n ≡ None → IsFiledAs s r lits entries a p
+    → Agrees r (signs_but s lits entries n t) a p
+but_agrees s r lits entries n t (Eq a b) true none h = h
+but_agrees s r lits entries n t (Eq a b) false none h = h
+but_agrees s r lits entries n t (Btwn v x y z) p none h = but_found s lits entries n t (normal r (Btwn v x y z)) p none h
+but_agrees s r lits entries n t (Hop v x y) p none h = but_found s lits entries n t (normal r (Hop v x y)) p none h
+but_agrees s r lits entries n t (Alloc v x) p none h = but_found s lits entries n t (normal r (Alloc v x)) p none h
+but_agrees s r lits entries n t (Def k) p none h = but_found s lits entries n t (Def k) p none h
+
+table_truth : (r : ℕ → ℕ) (sign : Atom → Bool) (a : Atom) → IsRelation a → atom_truth (model_of r sign) a ≡ sign (normal r a)
+table_truth r sign (Eq a b) h = absurd h
+table_truth r sign (Btwn v x y z) h = refl
+table_truth r sign (Hop v x y) h = refl
+table_truth r sign (Alloc v x) h = refl
+table_truth r sign (Def k) h = refl
+
+not_opposite : (t : Bool) → not t ≡ t → ⊥
+not_opposite true e = cc
+not_opposite false e = cc
+
+given_truth : (s : Asserted) (a : Atom) (t : Bool) → IsRelation a → GivesTruth s a t → HasTruth s a t
+given_truth s (Eq a b) t h g = absurd h
+given_truth s (Btwn v x y z) t h g = g
+given_truth s (Hop v x y) t h g = g
+given_truth s (Alloc v x) t h g = g
+given_truth s (Def k) t h g = g
+
+pub truth_given : (s : Asserted) (a : Atom) (t : Bool) → IsRelation a → HasTruth s a t → GivesTruth s a t
+truth_given s (Eq a b) t h g = absurd h
+truth_given s (Btwn v x y z) t h g = g
+truth_given s (Hop v x y) t h g = g
+truth_given s (Alloc v x) t h g = g
+truth_given s (Def k) t h g = g
+
+pub unfiled_open : (s : Sizes) (lits : List Lit) (links : List Link) (entries : List Entry) (atom : Atom) → IsRelation atom → AllFiled s lits links entries → find_lit entries (number_of s (normal (reps links) atom)) ≡ None
+    → (t : Bool) → GivesTruth (record { sizes = s; lits = lits }) atom t → ⊥
+unfiled_open s lits links entries atom relation all none t given =
+    let form = normal (reps links) atom in
+    let sign : Atom → Bool = signs_but s lits entries (number_of s form) (not t) in
+    let holds : All (IsLitTrue (model_of (reps links) sign)) lits = λ k d h.
+    agrees_true (reps links) sign (get_or lits k d).atom (get_or lits k d).positive
+    (but_agrees s (reps links) lits entries (number_of s form) (not t) (get_or lits k d).atom (get_or lits k d).positive none (all k d h)) in
+    let is : atom_truth (model_of (reps links) sign) atom ≡ t = given_truth (record { sizes = s; lits = lits }) atom t relation given (model_of (reps links) sign) (model_congruence s (reps links) sign) holds in
+    not_opposite t (sym (but_here s lits entries (not t) form) ∙ sym (table_truth (reps links) sign atom relation) ∙ is)
+
+both_true : (p q t : Bool) → under p t ≡ true → under q t ≡ true → p ≡ q
+both_true true true t e f = refl
+both_true false false t e f = refl
+both_true true false true e f = cc
+both_true true false false e f = cc
+both_true false true true e f = cc
+both_true false true false e f = cc
+
+-- literals with a clash aren't consistent
+pub clash_inconsistent : (s : Sizes) (lits : List Lit) (links : List Link) (entries : List Entry) (clash : Clash) → IsState s lits links entries → AreInRange s lits → IsClash (reps links) lits clash → IsConsistent s lits → ⊥
+clash_inconsistent s lits links entries (Unequal place) h range w c =
+    let m = c.0 in
+    let holds : Respects m.class links (length links) = respects m s lits links entries h (equalities_hold m lits c.2) in
+    let same : m.class w.0.0 ≡ m.class w.1.0 = same_sound m.class links (length links) w.0.0 w.1.0 (omega arith) holds w.3 in
+    let off : IsLitTrue m (record { atom = Eq w.0 w.1; positive = false }) = All-contains (IsLitTrue m) lits _ c.2 (slice_get-contains lits place _ w.2) in
+    let on : lit_truth m (equality w.0 w.1) ≡ true = eq-eqb _ _ same in
+    cc (off, on)
+clash_inconsistent s lits links entries (Opposite first second) h range w c =
+    let m = c.0 in
+    let l = w.0 in
+    let k = w.1 in
+    let holds : Respects m.class links (length links) = respects m s lits links entries h (equalities_hold m lits c.2) in
+    let inside : (x : Lit) → Contains lits x → IsInRange s x.atom = λ x there. All-contains (λ (y : Lit). IsInRange s y.atom) lits x range there in
+    let below : (x : Lit) → Contains lits x → IsInRange s (normal (reps links) x.atom) = λ x there.
+    normal_below s (reps links) x.atom (λ t lower. reps_below s lits links entries t h range lower) (inside x there) in
+    let there_l : Contains lits l = slice_get-contains lits first l w.2 in
+    let there_k : Contains lits k = slice_get-contains lits second k w.3 in
+    let truths : atom_truth m l.atom ≡ atom_truth m k.atom =
+    sym (normal_truth m s links l.atom c.1 holds (below l there_l) (inside l there_l)) ∙ ap (atom_truth m) w.5 ∙ normal_truth m s links k.atom c.1 holds (below k there_k) (inside k there_k) in
+    let on_l : IsLitTrue m l = All-contains (IsLitTrue m) lits l c.2 there_l in
+    let on_k : IsLitTrue m k = All-contains (IsLitTrue m) lits k c.2 there_k in
+    w.6 (both_true l.positive k.positive (atom_truth m k.atom) (ap (under l.positive) (sym truths) ∙ on_l) on_k)
+
+no_clash : (c : Core) (clash : Option ClashAt) → c.clash ≡ clash → IsKept c → IsConsistent c.sizes c.lits → clash ≡ None
+no_clash c None e h consistent = refl
+no_clash c (Some f) e h consistent = absurd (clash_inconsistent c.sizes c.lits c.links c.entries f.clash (tied_now c h) h.in_range (clash_now c h f e) consistent)
+
+pub unfiled_has_none : (c : Core) (atom : Atom) → IsKept c → IsRelation atom → find_lit c.entries (number_of c.sizes (normal (reps c.links) atom)) ≡ None → HasNoTruth (record { sizes = c.sizes; lits = c.lits }) atom
+unfiled_has_none c atom h relation none consistent t given =
+    unfiled_open c.sizes c.lits c.links c.entries atom relation (filed_now c h (no_clash c c.clash refl h consistent)) none t given
+
+pub relation_of : (a : Atom) → ((x y : Term) → a ≡ Eq x y → ⊥) → IsRelation a
+relation_of (Eq x y) h = h x y refl
+relation_of (Btwn v x y z) h = tt
+relation_of (Hop v x y) h = tt
+relation_of (Alloc v x) h = tt
+relation_of (Def k) h = tt

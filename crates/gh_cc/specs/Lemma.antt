@@ -1,13 +1,19 @@
 -- When a clause follows from equality and congruence alone.
-use Rattle.std.specs.Prelude.{◌≡◌, ◌≢◌, ◌⊎◌, ◌∷◌, ◌++◌, [], List, All, Contains}
+use Rattle.std.specs.Prelude.{◌≡◌, ◌≢◌, ◌⊎◌, ◌∷◌, ◌++◌, [], ℕ, Bool, true, false, List, All, Contains, MatchBool}
+use Rattle.std.specs.List.Sorted.{IsNonDecreasing}
 use Rattle.gh_base.specs.declared.atom.Term.{Term}
 use Rattle.gh_base.specs.declared.atom.Lit.{Lit}
 use Rattle.gh_base.specs.declared.sizes.Sizes.{Sizes}
 use Rattle.gh_base.specs.Atoms.{opposite, number_of}
+use Rattle.gh_cc.specs.declared.keys.Keyed.{Keyed}
 use Rattle.gh_cc.specs.declared.partition.Link.{Link}
 use Rattle.gh_cc.specs.Partitions.{Merged, AreMerges, disequality_of}
 use Rattle.gh_cc.specs.Asserted.{equality}
 use Rattle.gh_cc.specs.Kept.{normal, reps, IsRelation}
+
+-- a test answers whether something holds
+abbrev pub Tells : Bool → Type 0 → Type 0
+Tells answer P = MatchBool answer P (P → ⊥)
 
 -- two literals of opposite signs over terms of the same classes
 pub record Opposes (s : Sizes) (links : List Link) (other l : Lit) : Type 0 where
@@ -22,6 +28,33 @@ IsOpposed s links lits l = (other : Lit) × Contains lits other × Opposes s lin
 abbrev pub IsSettled : Sizes → List Link → List Lit → Lit → Type 0
 IsSettled s links lits l =
     ((a : Term) × (b : Term) × (l ≡ equality a b) × (reps links a.0 ≡ reps links b.0)) ⊎ (IsRelation l.atom × IsOpposed s links lits l)
+
+-- some literal is settled
+pub record HasSettled (s : Sizes) (links : List Link) (lits : List Lit) : Type 0 where
+  pub lit : Lit
+  pub there : Contains lits lit
+  pub settled : IsSettled s links lits lit
+
+-- some literal of this sign has the key
+pub record HasKey (s : Sizes) (links : List Link) (lits : List Lit) (sign : Bool) (key : ℕ) : Type 0 where
+  pub lit : Lit
+  pub there : Contains lits lit
+  pub signed : lit.positive ≡ sign
+  pub is : number_of s (normal (reps links) lit.atom) ≡ key
+
+-- the keys of the literals of a sign
+pub record AreListed (s : Sizes) (links : List Link) (lits : List Lit) (sign : Bool) (keys : List ℕ) : Type 0 where
+  pub each : All (HasKey s links lits sign) keys
+  pub all : All (λ l. l.positive ≡ sign → Contains keys (number_of s (normal (reps links) l.atom))) lits
+
+-- .. in ascending order
+pub record AreKeys (s : Sizes) (links : List Link) (lits : List Lit) (sign : Bool) (keys : List ℕ) : Type 0 where
+  pub listed : AreListed s links lits sign keys
+  pub ascending : IsNonDecreasing keys
+
+pub record IsKeyed (s : Sizes) (links : List Link) (k : Keyed) : Type 0 where
+  pub positive : AreKeys s links k.lits.now true k.positive.items
+  pub negated : AreKeys s links k.lits.now false k.negated.items
 
 -- two terms were joined
 pub record JoinsTerms (old new : Merged) (a b : Term) : Type 0 where

@@ -2,8 +2,8 @@
 
 ghost use Rattle.std.specs.Prelude.{◌≡◌, ◌<◌, ◌≤◌, ◌∷◌, ◌++◌, ◌↔◌, [], IfOk, IfSome, IfNone, IsTrue, length, take};
 ghost use Rattle.gh_cc.specs.Kept.{first_clash, clash_before};
-ghost use Rattle.gh_base.specs.Atoms.{IsInRange};
-ghost use Rattle.gh_cc.specs.Asserted.{IsFree, AreEqual, HasTruth, IsConsistent, IsConflict};
+ghost use Rattle.gh_base.specs.Atoms.{IsInRange, count_of};
+ghost use Rattle.gh_cc.specs.Asserted.{IsFree, AreEqual, HasTruth, GivesTruth, HasNoTruth, IsConsistent, IsConflict};
 
 use crate::clash::Clash;
 use crate::filing::{key, take_in};
@@ -98,9 +98,12 @@ fn clash_before(mark: u32, clash: Option<ClashAt>) -> Option<ClashAt>
 }
 
 impl Classes {
-    /// Nothing stands asserted. Room for all atoms is taken here.
+    /// Nothing stands asserted. Room for all atoms is taken here. There are at most 1,431,655,764 of them, since 32 bits
+    /// number three mentions of each: for more no room is taken, as for want of memory.
     pub fn new(alloc: Global, terms: u8, versions: u8, defs: u32) -> Result<Classes, AllocError>
-        ensures { IfOk result (λ c. c ≡ record { sizes = record { terms = terms; versions = versions; defs = defs }; lits = [] }) }
+        ensures sizes { IfOk result (λ c. c.sizes ≡ record { terms = terms; versions = versions; defs = defs }) }
+        ensures none { IfOk result (λ c. c.lits ≡ []) }
+        ensures few { IfOk result (λ c. count_of c.sizes ≤ 1431655764) }
     {
         let sizes = Sizes {
             terms,
@@ -172,11 +175,14 @@ impl Classes {
         self.partition.class_of(a).0 == self.partition.class_of(b).0
     }
 
-    /// A truth that equality and congruence give an atom: an equality of terms of one class is true, and any other atom
-    /// has the truth of an asserted one over terms of the same classes. It takes constant time.
+    /// The truth that equality and congruence give an atom: an equality of terms of one class is true, and any other atom
+    /// has the truth of an asserted one over terms of the same classes. None where they give none, of which nothing is
+    /// said where the asserted literals are inconsistent. It takes constant time.
     pub fn truth_of(&self, atom: Atom) -> Option<bool>
         requires in_range { IsInRange self.now.sizes atom }
-        ensures { IfSome result (HasTruth self.now atom) }
+        ensures truth { IfSome result (HasTruth self.now atom) }
+        ensures given { IfSome result (GivesTruth self.now atom) }
+        ensures none { IfNone result (HasNoTruth self.now atom) }
     {
         if let Atom::Eq { a, b } = atom {
             return if self.same(a, b) { Some(true) } else { None };

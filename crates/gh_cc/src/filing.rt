@@ -1,12 +1,12 @@
 //! Literals filed under the keys of their atoms.
 
-ghost use Rattle.std.specs.Prelude.{◌≡◌, ◌≢◌, ◌<◌, ◌≤◌, ◌+◌, false, take, IfSome, IfNone, Some, length, slice_get, All};
+ghost use Rattle.std.specs.Prelude.{◌≡◌, ◌≢◌, ◌<◌, ◌+◌, false, take, IfSome, IfNone, Some, length, slice_get};
 ghost use Rattle.gh_base.specs.declared.atom.Lit.{Lit};
 ghost use Rattle.gh_base.specs.declared.atom.Term.{Term};
 ghost use Rattle.gh_base.specs.Atoms.{IsInRange, AreInRange, number_of, count_of};
 ghost use Rattle.gh_cc.specs.Asserted.{equality};
 ghost use Rattle.gh_cc.specs.Uses.{all_mentions};
-ghost use Rattle.gh_cc.specs.Kept.{AreTied, Grows, LinksMore, IsClash, IsFiled, AllFiled, IsRelation, normal, reps};
+ghost use Rattle.gh_cc.specs.Kept.{AreTied, Grows, LinksMore, IsClash, IsFiled, AllFiled, normal, reps};
 
 use crate::clash::Clash;
 use crate::moving::{merge_lighter, refile_moved};

@@ -1,12 +1,12 @@
 //! Whether a clause follows from equality and congruence alone.
 
-ghost use Rattle.std.specs.Prelude.{◌≡◌, ◌<◌, ◌↔◌, [], All, Contains, IfOk, IsTrue, MatchBool};
-ghost use Rattle.gh_base.specs.declared.atom.Lit.{Lit};
+ghost use Rattle.std.specs.Prelude.{◌≡◌, ◌<◌, ◌↔◌, [], IfOk, IsTrue, MatchBool};
 ghost use Rattle.gh_base.specs.Atoms.{IsInRange, AreInRange};
 ghost use Rattle.gh_base.specs.Meaning.{IsEqualityClause};
-ghost use Rattle.gh_cc.specs.Lemma.{Opposes, IsOpposed, IsSettled, JoinsTerms, HaveOneClass, AreNegatedClasses};
+ghost use Rattle.gh_cc.specs.Lemma.{Tells, IsKeyed, IsSettled, HasSettled, JoinsTerms, HaveOneClass, AreNegatedClasses};
 
-use crate::filing::{equal_terms, key};
+use crate::filing::equal_terms;
+use crate::keys::{Keyed, is_opposed, with_keys};
 use crate::partition::Partition;
 use gh_base::atom::{Atom, Lit, Term};
 use gh_base::clause::Clause;
@@ -48,58 +48,31 @@ fn join_negated(sizes: Sizes, lits: &[Lit], partition: &mut Partition)
     }
 }
 
-// Whether two literals have the same key and opposite signs.
-fn opposes(sizes: Sizes, partition: &Partition, other: Lit, lit: Lit) -> bool
-    requires other { IsInRange sizes other.atom }
-    requires lit { IsInRange sizes lit.atom }
-    requires terms { partition.now.terms ≡ sizes.terms }
-    ensures { MatchBool result (Opposes sizes partition.now.links other lit) (Opposes sizes partition.now.links other lit → ⊥) }
-{
-    if other.positive == lit.positive {
-        return false;
-    }
-    key(sizes, partition, other.atom) == key(sizes, partition, lit.atom)
-}
-
-// Whether some literal has the same key and the opposite sign.
-fn is_opposed(sizes: Sizes, lits: &[Lit], partition: &Partition, lit: Lit) -> bool
-    requires in_range { AreInRange sizes lits.now }
-    requires lit { IsInRange sizes lit.atom }
-    requires terms { partition.now.terms ≡ sizes.terms }
-    ensures { MatchBool result (IsOpposed sizes partition.now.links lits.now lit) (IsOpposed sizes partition.now.links lits.now lit → ⊥) }
-{
-    for other in lits {
-        if opposes(sizes, partition, *other, lit) {
-            return true;
-        }
-    }
-    false
-}
-
 // Whether a literal is true where the negations of the others are.
-fn is_settled(sizes: Sizes, lits: &[Lit], partition: &Partition, lit: Lit) -> bool
-    requires in_range { AreInRange sizes lits.now }
+fn is_settled(sizes: Sizes, keyed: &Keyed, partition: &Partition, lit: Lit) -> bool
+    requires keyed { IsKeyed sizes partition.now.links keyed.now }
     requires lit { IsInRange sizes lit.atom }
     requires terms { partition.now.terms ≡ sizes.terms }
-    ensures { MatchBool result (IsSettled sizes partition.now.links lits.now lit) (IsSettled sizes partition.now.links lits.now lit → ⊥) }
+    ensures { Tells result (IsSettled sizes partition.now.links keyed.now.lits.now lit) }
 {
     match equal_terms(lit) {
         Some((a, b)) => partition.rep(a).0 == partition.rep(b).0,
         None => match lit.atom {
             Atom::Eq { .. } => false,
-            _ => is_opposed(sizes, lits, partition, lit),
+            _ => is_opposed(sizes, keyed, partition, lit),
         },
     }
 }
 
 // Whether some literal is true where the negations of the others are.
-fn any_settled(sizes: Sizes, lits: &[Lit], partition: &Partition) -> bool
-    requires in_range { AreInRange sizes lits.now }
+fn any_settled(sizes: Sizes, keyed: &Keyed, partition: &Partition) -> bool
+    requires keyed { IsKeyed sizes partition.now.links keyed.now }
+    requires in_range { AreInRange sizes keyed.now.lits.now }
     requires terms { partition.now.terms ≡ sizes.terms }
-    ensures { MatchBool result ((l : Lit) × Contains lits.now l × IsSettled sizes partition.now.links lits.now l) ((l : Lit) → Contains lits.now l → IsSettled sizes partition.now.links lits.now l → ⊥) }
+    ensures { Tells result (HasSettled sizes partition.now.links keyed.now.lits.now) }
 {
-    for l in lits {
-        if is_settled(sizes, lits, partition, *l) {
+    for l in keyed.lits {
+        if is_settled(sizes, keyed, partition, *l) {
             return true;
         }
     }
@@ -107,7 +80,7 @@ fn any_settled(sizes: Sizes, lits: &[Lit], partition: &Partition) -> bool
 }
 
 /// Whether all atoms of a clause are in range and the clause follows from equality and congruence alone. It
-/// takes memory for the terms only, and time in the square of the clause's length.
+/// takes memory for the terms and for a key of each literal, and the time of sorting these.
 pub fn is_lemma(
     alloc: Global,
     clause: &Clause,
@@ -128,5 +101,6 @@ pub fn is_lemma(
     }
     let mut partition = Partition::new(alloc, terms)?;
     join_negated(sizes, lits, &mut partition);
-    Ok(any_settled(sizes, lits, &partition))
+    let keyed = with_keys(alloc, sizes, lits, &partition)?;
+    Ok(any_settled(sizes, &keyed, &partition))
 }

@@ -4,6 +4,7 @@
 mod clash;
 pub mod classes;
 mod filing;
+mod keys;
 pub mod laws;
 pub mod lemma;
 mod moving;

@@ -1,11 +1,9 @@
 //! Clauses that follow from equality and congruence, and that asserted literals make false.
 
-ghost use Rattle.std.specs.Prelude.{◌≡◌, ◌≢◌, ◌<◌, Some, false, Contains, IfOk, OnOk, slice_get};
+ghost use Rattle.std.specs.Prelude.{◌≡◌, ◌≢◌, ◌<◌, false, Contains, IfOk, OnOk};
 ghost use Rattle.gh_base.specs.declared.atom.Lit.{Lit};
 ghost use Rattle.gh_base.specs.declared.atom.Atom.TheVariants.{Eq as Equal};
-ghost use Rattle.gh_base.specs.Atoms.{IsInRange, AreInRange};
-ghost use Rattle.gh_cc.specs.declared.partition.Link.{Link};
-ghost use Rattle.gh_cc.specs.Partitions.{equality_of};
+ghost use Rattle.gh_base.specs.Atoms.{IsInRange};
 ghost use Rattle.gh_cc.specs.Asserted.{IsConflict};
 ghost use Rattle.gh_cc.specs.Kept.{AreLinked, IsClash, IsRelation, ExplainsAtoms, normal, reps};
 

@@ -1,6 +1,6 @@
 //! Which literal gave an atom its truth, by the atom's number, with what was written in order.
 
-ghost use Rattle.std.specs.Prelude.{◌≡◌, ◌<◌, ◌≤◌, ◌^◌, ◌∷◌, ◌++◌, [], None, IfOk, All, length, take, vec_capacity};
+ghost use Rattle.std.specs.Prelude.{◌≡◌, ◌<◌, ◌^◌, ◌∷◌, ◌++◌, [], None, IfOk, All, length, take, vec_capacity};
 ghost use Rattle.gh_cc.specs.Signs.{AreSigns, free_places, find_lit};
 
 use std::alloc::{AllocError, Global};

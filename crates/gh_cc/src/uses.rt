@@ -1,6 +1,6 @@
 //! Which terms literals mention, with the mentions of each term counted, and linked from the last to the first.
 
-ghost use Rattle.std.specs.Prelude.{◌≡◌, ◌<◌, ◌≤◌, ◌+◌, ◌^◌, ◌∷◌, ◌++◌, ◌-◌, [], Some, All, IfOk, IfSome, length, take, slice_get, vec_capacity};
+ghost use Rattle.std.specs.Prelude.{◌≡◌, ◌<◌, ◌+◌, ◌^◌, ◌∷◌, ◌++◌, ◌-◌, [], Some, All, IfOk, IfSome, length, take, slice_get, vec_capacity};
 ghost use Rattle.gh_base.specs.declared.atom.Term.{Term};
 ghost use Rattle.gh_cc.specs.Uses.{AreUses, AreCounts, IsLast, times};
 

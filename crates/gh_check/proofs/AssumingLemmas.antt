@@ -17,7 +17,7 @@ use Rattle.gh_sat.specs.Status.{IsSettled, IsForced, AreForced}
 use Rattle.gh_sat.specs.Watch.{WasOpen}
 use Rattle.gh_sat.specs.Learn.{IsConflict}
 use Rattle.gh_sat.specs.Whole.{PropagatesTo}
-use Rattle.gh_sat.proofs.ListLemmas.{get_within, get_front, get_push, get_last}
+use Rattle.gh_base.proofs.ListLemmas.{get_within, get_front, get_push, get_last}
 use Rattle.gh_sat.proofs.TrailLemmas.{same_lit}
 use Rattle.gh_sat.proofs.StatusLemmas.{not_both}
 use Rattle.gh_sat.proofs.WatchLemmas.{append_nil}

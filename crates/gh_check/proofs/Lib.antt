@@ -6,3 +6,4 @@ pub mod UnitsLemmas
 pub mod StandingLemmas
 pub mod SectionLemmas
 pub mod PositionLemmas
+pub mod RestLemmas

@@ -11,7 +11,7 @@ use Rattle.gh_log.specs.Lines.{LogLine}
 use Rattle.gh_log.specs.Lines as line
 use Rattle.gh_log.specs.Sections.{line_clause, IsOfKind, AreOfKind, EndsEmpty, IsValidSection, IsFaultOf}
 use Rattle.gh_log.proofs.KindLemmas.{kind_push}
-use Rattle.gh_sat.proofs.ListLemmas.{get_within, take_get}
+use Rattle.gh_base.proofs.ListLemmas.{get_within, take_get}
 use Rattle.gh_sat.proofs.WholeLemmas.{take_take}
 use Rattle.gh_check.specs.declared.fault.CheckError.TheVariants.{Fault}
 use Rattle.gh_check.specs.declared.fault.FaultKind.{FaultKind}

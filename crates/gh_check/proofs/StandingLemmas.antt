@@ -2,14 +2,14 @@
 use Rattle.std.proofs.Common.{◌≡◌, ◌↔◌, ◌∙◌, ◌&&◌, inl, inr, ◌<◌, ℕ, zero, suc, List, [], ◌∷◌, ◌++◌, length, map, take, drop, get_or, Bool, true, false, not, Option, Some, None, All, IsTrue, refl, sym, ap, subst, arith, append_assoc}
 use Rattle.std.specs.Prelude.{slice_index_or, unwrap_or, is_some, Contains}
 use Rattle.std.proofs.lemmas.List.{map-append, take-append-drop}
-use Rattle.std.proofs.lemmas.List.Elements.{All-head, All-tail, All-cons, Contains-push_cases, Contains-append_left, Contains-append_right, Contains-append_cases}
+use Rattle.std.proofs.lemmas.List.Elements.{All-head, All-tail, All-cons, Contains-push_cases, Contains-append_left, Contains-append_right, Contains-append_cases, Contains-get_or, All-contains}
 use Rattle.gh_base.specs.declared.atom.Lit.{Lit}
 use Rattle.gh_base.specs.Atoms.{opposite}
 use Rattle.gh_base.specs.Propagation.{Propagated, given, forced, IsRefutedByUnits, FollowsByUnits}
 use Rattle.gh_base.specs.Hints.{HasAllButOne, IsRefutedByHints, refuted, joined}
 use Rattle.gh_check.specs.Kept.{Kept, clause_at, named, present, stands_in}
-use Rattle.gh_check.specs.Truths.{HasBoth}
-use Rattle.gh_check.specs.Standing.{AreGivenBy, IsStanding, MayStand}
+use Rattle.gh_check.specs.Truths.{IsConsistent, IsMetBy}
+use Rattle.gh_check.specs.Standing.{AreGivenBy, IsStanding, MayStand, IsConfirmedBy}
 use Rattle.gh_check.specs.declared.standing.Standing.{Standing}
 use Rattle.gh_base.specs.declared.sizes.Sizes.{Sizes}
 use Rattle.gh_check.proofs.AssumingLemmas.{in_opposites}
@@ -49,10 +49,13 @@ both_given clauses fixed lits h l w = elim (Contains-append_cases fixed (map opp
   | inr q ↦ given l q
 ]
 
-pub clash_shows : (clauses : List (List Lit)) (fixed lits : List Lit) → HasBoth (fixed ++ map opposite lits) → AreGivenBy clauses fixed → FollowsByUnits clauses lits
-clash_shows clauses fixed lits w h = inl (w.0, both_given clauses fixed lits h w.0 w.1, both_given clauses fixed lits h (opposite w.0) w.2)
+opposite_there : (lits : List Lit) (l : Lit) → Contains lits l → Contains (map opposite lits) (opposite l)
+opposite_there lits l w = subst (λ (x : Lit). Contains (map opposite lits) (opposite x)) w.2 (in_opposites lits w.0 l w.1)
 
-pub hints_show : (clauses hints : List (List Lit)) (fixed above lits : List Lit) → All (Contains clauses) hints → above ≡ map opposite lits → IsRefutedByHints hints (fixed ++ above) → AreGivenBy clauses fixed
+met_shows : (clauses : List (List Lit)) (fixed lits : List Lit) → IsMetBy fixed lits → AreGivenBy clauses fixed → FollowsByUnits clauses lits
+met_shows clauses fixed lits w h = inl (w.0, both_given clauses fixed lits h w.0 w.2, given (opposite w.0) (opposite_there lits w.0 w.1))
+
+hints_show : (clauses hints : List (List Lit)) (fixed above lits : List Lit) → All (Contains clauses) hints → above ≡ map opposite lits → IsRefutedByHints hints (fixed ++ above) → AreGivenBy clauses fixed
     → FollowsByUnits clauses lits
 hints_show clauses hints fixed above lits among is r h =
     refuted_by clauses hints (map opposite lits) (fixed ++ above) among r
@@ -82,11 +85,17 @@ standing_in k n t = present_at k.clauses n (and_first _ _ t)
 none_named : (cs : List (List Lit)) → All (Contains cs) []
 none_named cs i d lt = absurd (omega arith)
 
-pub all_in : (k : Kept) (ns : List ℕ) → All (λ n. IsTrue (stands_in k n)) ns → All (Contains (present k.clauses)) (named k ns)
+all_in : (k : Kept) (ns : List ℕ) → All (λ n. IsTrue (stands_in k n)) ns → All (Contains (present k.clauses)) (named k ns)
 all_in k [] a = none_named (present k.clauses)
 all_in k (n ∷ ns) a =
     All-cons (Contains (present k.clauses)) (clause_at k n) (named k ns) (standing_in k n (All-head (λ m. IsTrue (stands_in k m)) n ns a))
     (all_in k ns (All-tail (λ m. IsTrue (stands_in k m)) n ns a))
+
+pub confirmed_follows : (k : Kept) (positions : List ℕ) (fixed lits : List Lit) → IsConfirmedBy k positions fixed lits → AreGivenBy (present k.clauses) fixed → FollowsByUnits (present k.clauses) lits
+confirmed_follows k positions fixed lits h known = elim h.refuted as (λ _. FollowsByUnits (present k.clauses) lits) [
+  | inl met ↦ met_shows (present k.clauses) fixed lits met known
+  | inr r ↦ hints_show (present k.clauses) (named k positions) fixed (map opposite lits) lits (all_in k positions h.stand) refl r known
+]
 
 -- a literal that a clause forces where the others are given
 pub given_more : (clauses : List (List Lit)) (c : List Lit) (fixed : List Lit) (l : Lit) → Contains clauses c → HasAllButOne fixed c l → AreGivenBy clauses fixed → AreGivenBy clauses (fixed ++ l ∷ [])
@@ -96,16 +105,29 @@ given_more clauses c fixed l among one h assumed m w = elim (Contains-push_cases
 ]
 
 -- making literals false beside what stands
-pub clash_at : (fixed : List Lit) (lits : List Lit) (i : ℕ) (d l m : Lit) (set : List Lit) → i < length lits → l ≡ get_or lits i d → set ≡ map opposite (take i lits) → m ≡ opposite l → Contains (fixed ++ set) (opposite m)
-    → HasBoth (fixed ++ map opposite lits)
-clash_at fixed lits i d l m set lt at is e w =
+pub met_at : (fixed : List Lit) (lits : List Lit) (i : ℕ) (d l m : Lit) (set : List Lit) → i < length lits → l ≡ get_or lits i d → set ≡ map opposite (take i lits) → m ≡ opposite l → Contains (fixed ++ set) (opposite m)
+    → IsMetBy fixed lits
+met_at fixed lits i d l m set lt at is e w =
     let whole : map opposite lits ≡ map opposite (take i lits) ++ map opposite (drop i lits) = ap (map opposite) (sym (take-append-drop i lits)) ∙ map-append opposite (take i lits) (drop i lits) in
     let double : opposite m ≡ l = ap opposite e ∙ twice l in
     let early : Contains (fixed ++ map opposite (take i lits)) l = subst (λ (xs : List Lit). Contains (fixed ++ xs) l) is (subst (Contains (fixed ++ set)) double w) in
     let longer : Contains ((fixed ++ map opposite (take i lits)) ++ map opposite (drop i lits)) l = Contains-append_left (fixed ++ map opposite (take i lits)) (map opposite (drop i lits)) l early in
     let there : Contains (fixed ++ map opposite lits) l = subst (λ (xs : List Lit). Contains xs l) (append_assoc fixed (map opposite (take i lits)) (map opposite (drop i lits)) ∙ ap (λ (xs : List Lit). fixed ++ xs) (sym whole)) longer in
-    let last : Contains (map opposite lits) (opposite l) = subst (λ (x : Lit). Contains (map opposite lits) (opposite x)) (sym at) (in_opposites lits i d lt) in
-    (l, there, Contains-append_right fixed (map opposite lits) (opposite l) last)
+    (l, subst (Contains lits) (sym at) (Contains-get_or lits i d lt), there)
+
+pub none_consistent : IsConsistent []
+none_consistent l w v = absurd (omega (arith, w.1))
+
+pub not_first : (fixed above : List Lit) (l m : Lit) (b : Bool) → m ≡ opposite l → IsTrue b ↔ Contains (fixed ++ above) (opposite m) → (IsTrue b → ⊥) → Contains fixed l → ⊥
+not_first fixed above l m b e exact fails w = fails (exact.1 (Contains-append_left fixed above (opposite m) (subst (Contains fixed) (sym (ap opposite e ∙ twice l)) w)))
+
+pub never_met : (fixed above lits : List Lit) → above ≡ map opposite lits → IsConsistent above → All (λ m. Contains fixed m → ⊥) lits → IsMetBy fixed lits → ⊥
+never_met fixed above lits is consistent apart met = elim (Contains-append_cases fixed (map opposite lits) met.0 met.2) as (λ _. ⊥) [
+  | inl q ↦ All-contains (λ m. Contains fixed m → ⊥) lits met.0 apart met.1 q
+  | inr q ↦
+      let there : Contains above met.0 = subst (λ (xs : List Lit). Contains xs met.0) (sym is) q in
+      consistent met.0 there (subst (λ (xs : List Lit). Contains xs (opposite met.0)) (sym is) (opposite_there lits met.0 met.1))
+]
 
 -- nothing is true above what stands
 pub nothing_given : (clauses : List (List Lit)) → AreGivenBy clauses []

@@ -13,8 +13,12 @@ IsSectionError p first lines OutOfMemory = Unit {0}
 
 -- a valid section has no first fault
 abbrev pub AreApart : Type 0
-AreApart = (p : Problem) (lines : List LogLine) (number place : ℕ) → IsValidSection p lines → IsFirstFault p lines number place → ⊥
+AreApart =
+    (p : Problem) (lines : List LogLine) (number place : ℕ) → IsValidSection p lines
+    → IsFirstFault p lines number place → ⊥
 
 -- a section has one first fault at most
 abbrev pub AreOne : Type 0
-AreOne = (p : Problem) (lines : List LogLine) (n i m j : ℕ) → IsFirstFault p lines n i → IsFirstFault p lines m j → (n ≡ m) × (i ≡ j)
+AreOne =
+    (p : Problem) (lines : List LogLine) (n i m j : ℕ) → IsFirstFault p lines n i → IsFirstFault p lines m j
+    → (n ≡ m) × (i ≡ j)

@@ -15,7 +15,9 @@ AreGiven clauses assumed trail = (i : ℕ) (x : Step) → slice_get trail i ≡ 
 
 -- where the literal is assumed too, propagation ends in a contradiction
 abbrev pub IsRefuting : SearchState → Lit → Type 0
-IsRefuting s lit = (assumed : List Lit) → Contains assumed lit → AreGiven s.clauses assumed s.trail → IsRefutedByUnits s.clauses assumed
+IsRefuting s lit =
+    (assumed : List Lit) → Contains assumed lit → AreGiven s.clauses assumed s.trail
+    → IsRefutedByUnits s.clauses assumed
 
 -- the literal is true, and what is true more than before follows from it
 pub record IsAssumed (old new : SearchState) (lit : Lit) : Type 0 where
@@ -23,7 +25,8 @@ pub record IsAssumed (old new : SearchState) (lit : Lit) : Type 0 where
   pub sound : IsSound new
   pub there : IsTrueIn new.trail lit
   pub keeps : (l : Lit) → IsTrueIn old.trail l → IsTrueIn new.trail l
-  pub given : (assumed : List Lit) → Contains assumed lit → AreGiven old.clauses assumed old.trail → AreGiven old.clauses assumed new.trail
+  pub given : (assumed : List Lit) → Contains assumed lit → AreGiven old.clauses assumed old.trail
+      → AreGiven old.clauses assumed new.trail
 
 -- a search with no clause
 abbrev pub no_clauses : Sizes → SearchState

@@ -1,9 +1,12 @@
 -- What stands from line to line.
-use Rattle.std.specs.Prelude.{◌≡◌, ⊤, List, Option, Contains, MatchOption}
+use Rattle.std.specs.Prelude.{◌≡◌, ◌≢◌, ◌↔◌, ◌⊎◌, ◌++◌, ⊤, ℕ, List, map, Option, Bool, IsTrue, All, Contains, MatchOption}
 use Rattle.gh_base.specs.declared.atom.Lit.{Lit}
 use Rattle.gh_base.specs.declared.sizes.Sizes.{Sizes}
-use Rattle.gh_base.specs.Propagation.{Propagated}
-use Rattle.gh_check.specs.Kept.{present}
+use Rattle.gh_base.specs.Atoms.{opposite}
+use Rattle.gh_base.specs.Hints.{IsRefutedByHints}
+use Rattle.gh_base.specs.Propagation.{Propagated, FollowsByUnits}
+use Rattle.gh_check.specs.Kept.{Kept, named, present, stands_in}
+use Rattle.gh_check.specs.Truths.{IsConsistent, IsFalseBy, IsMetBy}
 use Rattle.gh_check.specs.declared.standing.Standing.{Standing}
 
 -- propagation over the clauses gives each literal of the set, whatever is assumed
@@ -19,3 +22,33 @@ pub record IsStanding (sizes : Sizes) (entries : List (Option (List Lit))) (s : 
 -- what stands, where it was made
 abbrev pub MayStand : Sizes → List (Option (List Lit)) → Option Standing → Type 0
 MayStand sizes entries standing = MatchOption standing ⊤ (λ s. IsStanding sizes entries s)
+
+-- the positions stand, and their clauses in order refute the opposites of the clause's literals beside the set, where
+-- these aren't refuted by themselves
+pub record IsConfirmedBy (k : Kept) (positions : List ℕ) (set clause : List Lit) : Type 0 where
+  pub stand : All (λ position. IsTrue (stands_in k position)) positions
+  pub refuted : IsMetBy set clause ⊎ IsRefutedByHints (named k positions) (set ++ map opposite clause)
+
+-- the set doesn't make the clause false, and has the literal that the clause forces, if it forces one
+pub record IsAtRest (set clause : List Lit) : Type 0 where
+  pub not_false : IsFalseBy set clause → ⊥
+  pub forced : (l : Lit) → Contains clause l
+      → ((m : Lit) → Contains clause m → m ≢ l → Contains set (opposite m)) → Contains set l
+
+-- so it is with each clause that is there
+abbrev pub AreAtRest : List Lit → List (Option (List Lit)) → Type 0
+AreAtRest set entries = All (IsAtRest set) (present entries)
+
+-- no literal and its opposite, and each clause that is there is at rest
+pub record IsClosedBy (entries : List (Option (List Lit))) (set : List Lit) : Type 0 where
+  pub consistent : IsConsistent set
+  pub at_rest : AreAtRest set entries
+
+-- such a set makes the clause false
+pub record IsRefusedBy (entries : List (Option (List Lit))) (set clause : List Lit) : Type 0 where
+  pub falsified : IsFalseBy set clause
+  pub closed : IsClosedBy entries set
+
+-- whether propagation over the clauses shows a clause, where that is told
+abbrev pub IsJudged : List (List Lit) → List Lit → Option Bool → Type 0
+IsJudged clauses clause told = MatchOption told ⊤ (λ b. IsTrue b ↔ FollowsByUnits clauses clause)

@@ -1,5 +1,5 @@
 -- Truths of literals, as a set and in a table, and what a clause is under them.
-use Rattle.std.specs.Prelude.{List, Option, Some, None, Bool, true, false, All, Contains, map}
+use Rattle.std.specs.Prelude.{◌++◌, List, Option, Some, None, Bool, true, false, All, Contains, map}
 use Rattle.gh_base.specs.declared.atom.Lit.{Lit}
 use Rattle.gh_base.specs.declared.sizes.Sizes.{Sizes}
 use Rattle.gh_base.specs.Atoms.{opposite, IsInRange, AreInRange}
@@ -44,6 +44,10 @@ HasBoth set = (l : Lit) × Contains set l × Contains set (opposite l)
 -- a literal and its opposite are among those that make the clause false
 abbrev pub HasOpposites : List Lit → Type 0
 HasOpposites clause = HasBoth (map opposite clause)
+
+-- a literal of the clause is in the set, or has its opposite in the clause
+abbrev pub IsMetBy : List Lit → List Lit → Type 0
+IsMetBy set clause = (l : Lit) × Contains clause l × Contains (set ++ map opposite clause) l
 
 -- what a clause is, as the set of its literals
 abbrev pub IsLook : List Lit → List Lit → Look → Type 0

@@ -1,6 +1,6 @@
 //! Unit propagation along hints.
 
-ghost use Rattle.std.specs.Prelude.{◌≡◌, ◌≢◌, ◌⊎◌, ◌↔◌, ◌∷◌, ◌++◌, [], List, map, false, Some, None, All, Contains, IfOk, OnOk, IsTrue, MatchOption};
+ghost use Rattle.std.specs.Prelude.{◌≡◌, ◌⊎◌, ◌↔◌, ◌∷◌, ◌++◌, [], map, false, Some, None, All, Contains, IfOk, OnOk, IsTrue, MatchOption};
 ghost use Rattle.gh_base.specs.declared.atom.Lit.{Lit};
 ghost use Rattle.gh_base.specs.Atoms.{opposite, IsInRange, AreInRange};
 ghost use Rattle.gh_base.specs.Assignments.{value_of};
@@ -75,6 +75,14 @@ impl Truths {
         self.lits.push(lit)?;
         self.table.set(lit);
         Ok(())
+    }
+
+    /// The literals that are true.
+    pub fn lits(&self) -> &[Lit]
+        ensures lits { result.now ≡ self.now.lits }
+        ensures range { AreInRange self.now.sizes self.now.lits }
+    {
+        self.lits.as_slice()
     }
 
     /// Leaves no literal true.

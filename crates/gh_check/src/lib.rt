@@ -3,6 +3,7 @@
 
 pub mod check;
 mod clauses;
+mod distinct;
 pub mod fault;
 mod hints;
 pub mod laws;

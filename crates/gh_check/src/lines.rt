@@ -7,7 +7,8 @@ ghost use Rattle.gh_log.specs.Lines as line_kind;
 ghost use Rattle.gh_log.specs.Tables.{line_of};
 ghost use Rattle.gh_base.specs.Grounds.{Problem};
 ghost use Rattle.gh_base.specs.Meaning.{IsEqualityClause};
-ghost use Rattle.gh_check.specs.Kept.{AreWithin};
+ghost use Rattle.gh_base.specs.Propagation.{FollowsByUnits};
+ghost use Rattle.gh_check.specs.Kept.{AreWithin, present};
 ghost use Rattle.gh_check.specs.Lines.{IsChecked, Answers, Leaves, IsReady};
 ghost use Rattle.gh_check.specs.Assuming.{IsBehind};
 ghost use Rattle.gh_check.specs.Standing.{MayStand};
@@ -15,7 +16,7 @@ ghost use Rattle.gh_check.specs.Standing.{MayStand};
 use crate::fault::FaultKind;
 use crate::hints::Truths;
 use crate::positions::Positions;
-use crate::standing::{Standing, finds_hints};
+use crate::standing::{Standing, judged};
 use crate::units::Units;
 use gh_base::atom::Lit;
 use gh_base::clause::Clause;
@@ -88,8 +89,33 @@ fn checked_lemma(alloc: Global, ground: &Ground, lits: &[Lit]) -> Result<Outcome
     Ok(Outcome::Holds)
 }
 
-// A clause over atoms in range that unit propagation shows from all lines before: by hints that are found, or else by
-// all their clauses.
+// Whether unit propagation shows a clause from all lines before: as what stands tells, or else by all their clauses.
+fn is_implied(
+    alloc: Global,
+    sizes: Sizes,
+    kept: &Positions<'_>,
+    standing: &mut Option<Standing>,
+    units: &mut Units,
+    lits: &[Lit],
+) -> Result<bool, AllocError>
+    requires standing { MayStand sizes kept.now.clauses standing.old }
+    requires behind { IsBehind sizes kept.now.clauses units.old }
+    requires range { AreInRange sizes lits.now }
+    requires within { AreWithin sizes kept.now.clauses }
+    ensures exact { IfOk result (λ b. IsTrue b ↔ FollowsByUnits (present kept.now.clauses) lits.now) }
+    ensures standing { OnOk result (MayStand sizes kept.now.clauses standing.new) }
+    ensures behind { OnOk result (IsBehind sizes kept.now.clauses units.new) }
+{
+    match judged(alloc, standing, sizes, kept, lits)? {
+        Some(implied) => Ok(implied),
+        None => {
+            let implied = units.are_implied(alloc, sizes, kept, lits)?;
+            Ok(implied)
+        }
+    }
+}
+
+// A clause over atoms in range that unit propagation shows from all lines before.
 fn checked_learnt(
     alloc: Global,
     sizes: Sizes,
@@ -109,10 +135,7 @@ fn checked_learnt(
     if !are_in_range(sizes, lits) {
         return Ok(Outcome::Faulty(FaultKind::NotImplied));
     }
-    if finds_hints(alloc, standing, sizes, kept, lits)? {
-        return Ok(Outcome::Holds);
-    }
-    if !units.are_implied(alloc, sizes, kept, lits)? {
+    if !is_implied(alloc, sizes, kept, standing, units, lits)? {
         return Ok(Outcome::Faulty(FaultKind::NotImplied));
     }
     Ok(Outcome::Holds)

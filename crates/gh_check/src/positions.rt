@@ -1,6 +1,6 @@
 //! Lines by their positions.
 
-ghost use Rattle.std.specs.Prelude.{List, ◌≡◌, ◌↔◌, ◌-◌, ◌≤◌, ◌∷◌, ◌++◌, [], false, Some, None, All, IfOk, OnOk, IsTrue, MatchOption, is_some, length, slice_index_or};
+ghost use Rattle.std.specs.Prelude.{List, ◌≡◌, ◌↔◌, ◌-◌, ◌≤◌, ◌∷◌, [], false, Some, None, All, IfOk, IsTrue, MatchOption, is_some, length, slice_index_or};
 ghost use Rattle.gh_base.specs.Grounds.{Problem};
 ghost use Rattle.gh_log.specs.Lines.{LogLine as Line};
 ghost use Rattle.gh_log.specs.Sections.{line_clause, AllStand};
@@ -112,18 +112,11 @@ impl<'s> Positions<'s> {
         }
     }
 
-    /// The number of the ground clause that the line at a position names, if it names one. The search rests on it, no
-    /// answer does.
-    pub fn ground_number(&self, position: usize) -> Option<u32> {
-        match self.line(position)? {
-            LogLine::Clause { number } => Some(number),
-            _ => None,
-        }
-    }
-
-    /// How many ground clauses there are.
-    pub fn ground_count(&self) -> usize {
-        self.ground.count() as usize
+    /// The lines of the section, those too that weren't taken.
+    pub fn lines(&self) -> &'s Lines
+        ensures { result.now ≡ self.now.lines }
+    {
+        self.lines
     }
 
     /// Whether the last line that was taken has a clause, and that is empty.

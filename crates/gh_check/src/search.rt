@@ -1,9 +1,12 @@
 //! A search for hints: the lines along which unit propagation comes to a contradiction, by two watched literals in
-//! each clause. No clause speaks of it: what it finds is looked at again, and where it finds nothing all lines are.
+//! each clause. No contract speaks of it: what it finds is looked at again, and where that shows nothing, the literals
+//! that propagation gave are tested.
 
+use crate::distinct::{Distinct, difference};
 use crate::positions::Positions;
 use gh_base::atom::Lit;
 use gh_base::sizes::Sizes;
+use gh_log::lines::{Lines, LogLine};
 use std::alloc::{AllocError, Global};
 
 // The end of a list.
@@ -19,13 +22,14 @@ struct Watch {
     next: u32,
 }
 
-// A clause: its codes by their places, the position of its line, and whether that was shown by the lines before it. Row
-// k has the nodes 2k + 2 and 2k + 3, for its two watches.
+// A clause: its codes by their places, the position of its line, how many literals that has, and whether it was shown
+// by the lines before it. Row k has the nodes 2k + 2 and 2k + 3, for its two watches.
 #[derive(Clone, Copy)]
 struct Row {
     start: u32,
     end: u32,
     position: u32,
+    length: u32,
     is_late: bool,
     first: Watch,
     second: Watch,
@@ -41,6 +45,11 @@ fn code_of(sizes: Sizes, lit: Lit) -> u32 {
         return 0;
     }
     2 * number as u32 + u32::from(lit.positive)
+}
+
+// Whether a code stands beside that of its literal's opposite, where they are in order.
+fn has_opposites(codes: &[u32]) -> bool {
+    codes.windows(2).any(|pair| pair[0] ^ 1 == pair[1])
 }
 
 /// The clauses of lines with their watched literals, and a trail.
@@ -59,8 +68,10 @@ pub(crate) struct Search {
     heads: Vec<u32>,
     rows: Vec<Row>,
     codes: Vec<u32>,
-    // The last position whose clause had a literal, by code.
-    stamps: Vec<u32>,
+    // The rows by their codes, no two of which have the same.
+    distinct: Distinct,
+    // The codes of the last clause that was looked at, of its literals that aren't false, in order.
+    open: Vec<u32>,
     // Which ground clauses were taken in, by number.
     grounds: Vec<bool>,
     // The positions before this one were taken in, or passed over, and that of the line that was searched last.
@@ -85,7 +96,8 @@ impl Search {
             heads: Vec::new(alloc),
             rows: Vec::new(alloc),
             codes: Vec::new(alloc),
-            stamps: Vec::new(alloc),
+            distinct: Distinct::new(alloc),
+            open: Vec::new(alloc),
             grounds: Vec::new(alloc),
             taken: 0,
             searched: 0,
@@ -105,7 +117,6 @@ impl Search {
         let atoms = sizes.count();
         if self.places.is_empty() && atoms < MOST {
             self.places = vec![in self.alloc; 0; 2 * atoms]?;
-            self.stamps = vec![in self.alloc; 0; 2 * atoms]?;
             self.heads = vec![in self.alloc; NONE; 4 * atoms]?;
         }
         Ok(())
@@ -348,68 +359,118 @@ impl Search {
         Ok(false)
     }
 
-    fn is_stamped(&self, code: u32, stamp: u32) -> bool {
-        self.stamps.get(code as usize) == Some(&stamp)
-    }
-
-    fn stamp(&mut self, code: u32, stamp: u32) {
-        if (code as usize) < self.stamps.len() {
-            self.stamps[code as usize] = stamp;
-        }
-    }
-
-    // Copies the literals of a clause that aren't false, each once, up to one that is true or whose opposite is there.
-    // Answers whether there is none.
-    fn copy_open(&mut self, sizes: Sizes, clause: &[Lit], stamp: u32) -> Result<bool, AllocError> {
+    // Copies the codes of the literals that aren't false, each once, in order. Answers whether no literal is true and
+    // none has its opposite beside it; else only some may be copied.
+    fn copy_open(&mut self, sizes: Sizes, clause: &[Lit]) -> Result<bool, AllocError> {
+        self.open.clear();
         for lit in clause {
             let code = code_of(sizes, *lit);
-            if self.is_true(code) || self.is_stamped(code ^ 1, stamp) {
+            if self.is_true(code) {
                 return Ok(false);
             }
-            if !self.is_false(code) && !self.is_stamped(code, stamp) {
-                self.stamp(code, stamp);
-                self.codes.push(code)?;
+            if !self.is_false(code) {
+                self.open.push(code)?;
             }
         }
-        Ok(true)
+        self.open.sort_unstable();
+        self.open.dedup();
+        Ok(!has_opposites(self.open.as_slice()))
     }
 
-    // Takes in a clause while only what stands is on the trail. One that stands is left out.
+    // Takes in a clause while only what stands is on the trail. One that stands, or is there, is left out.
     fn take(&mut self, sizes: Sizes, clause: &[Lit], position: u32) -> Result<(), AllocError> {
-        let start = self.codes.len();
-        let is_open = self.copy_open(sizes, clause, position)?;
-        let count = self.codes.len().saturating_sub(start);
-        if is_open && count > 1 {
-            return self.add_row(start, position);
+        if !self.copy_open(sizes, clause)? {
+            return Ok(());
         }
-        let code = self.code_at(start.min(MOST) as u32);
-        self.codes.truncate(start);
-        if is_open && count == 1 {
-            self.hints.push(position)?;
-            self.put(code)?;
-        } else if is_open {
-            self.broken = Some(position);
+        if self.open.len() > 1 {
+            return self.enter(position, clause.len());
+        }
+        match self.open.pop() {
+            None => self.broken = Some(position),
+            Some(code) => {
+                self.hints.push(position)?;
+                self.put(code)?;
+            }
         }
         Ok(())
     }
 
-    // Adds a row for the codes from a place on, and watches the first two.
-    fn add_row(&mut self, start: usize, position: u32) -> Result<(), AllocError> {
-        let end = self.codes.len();
-        if end > MOST || start > MOST || self.rows.len() >= MOST {
+    // The codes of a row.
+    fn codes_of(&self, number: u32) -> &[u32] {
+        let Some(row) = self.rows.get(number as usize) else {
+            return &[];
+        };
+        match self
+            .codes
+            .as_slice()
+            .get(row.start as usize..row.end as usize)
+        {
+            None => &[],
+            Some(codes) => codes,
+        }
+    }
+
+    // The number of the row that has the open codes, if there is one.
+    fn row_of_open(&self) -> Option<u32> {
+        let number = self.distinct.nearest(self.open.as_slice())?;
+        if difference(self.open.as_slice(), self.codes_of(number)).is_some() {
+            return None;
+        }
+        Some(number)
+    }
+
+    // Lets the line that is searched, which has so many literals, stand for a row with the same codes if it is shorter.
+    // Answers the position that stood for it.
+    fn shorten(&mut self, number: u32, length: usize) -> Option<u32> {
+        let number = number as usize;
+        let row = *self.rows.get(number)?;
+        let searched = self.searched.min(MOST) as u32;
+        let length = length.min(MOST) as u32;
+        if length < row.length && number < self.rows.len() {
+            self.rows[number].position = searched;
+            self.rows[number].length = length;
+        }
+        Some(row.position)
+    }
+
+    // The first bit in which the open codes differ from those of the nearest row, unless that has them.
+    fn new_bit(&self) -> Option<u32> {
+        match self.distinct.nearest(self.open.as_slice()) {
+            None => Some(0),
+            Some(near) => difference(self.open.as_slice(), self.codes_of(near)),
+        }
+    }
+
+    // Adds a row for the open codes of a line with so many literals, unless there is one.
+    fn enter(&mut self, position: u32, length: usize) -> Result<(), AllocError> {
+        let number = self.rows.len();
+        if number >= MOST || self.codes.len().saturating_add(self.open.len()) > MOST {
             return Ok(());
         }
-        let (start, end) = (start as u32, end as u32);
+        let Some(bit) = self.new_bit() else {
+            return Ok(());
+        };
+        self.distinct
+            .insert(self.open.as_slice(), number as u32, bit)?;
+        self.add_row(position, length.min(MOST) as u32)
+    }
+
+    // Adds a row for the open codes, and watches the first two.
+    fn add_row(&mut self, position: u32, length: u32) -> Result<(), AllocError> {
+        let start = self.codes.len().min(MOST) as u32;
+        self.codes.extend_from_slice(self.open.as_slice())?;
+        let end = self.codes.len().min(MOST) as u32;
         let watch = Watch {
             place: start,
             next: NONE,
         };
         let is_late = position as usize == self.searched;
-        let node = 2 * self.rows.len() as u32 + 2;
+        let node = 2 * self.rows.len().min(MOST) as u32 + 2;
         self.rows.push(Row {
             start,
             end,
             position,
+            length,
             is_late,
             first: watch,
             second: watch,
@@ -420,14 +481,16 @@ impl Search {
     }
 
     // Whether the line at a position names a ground clause that was taken in. It counts as taken in then.
-    fn was_taken(&mut self, kept: &Positions<'_>, position: usize) -> Result<bool, AllocError> {
-        let Some(number) = kept.ground_number(position) else {
+    fn was_taken(&mut self, lines: &Lines, position: usize) -> Result<bool, AllocError> {
+        if position == 0 || position > lines.len() {
+            return Ok(false);
+        }
+        let LogLine::Clause { number } = lines.line(position - 1) else {
             return Ok(false);
         };
         let number = number as usize;
         if number >= self.grounds.len() {
-            self.grounds
-                .resize(kept.ground_count().max(number.saturating_add(1)), false)?;
+            self.grounds.resize(number + 1, false)?;
         }
         let was_taken = self.grounds[number];
         self.grounds[number] = true;
@@ -439,7 +502,7 @@ impl Search {
         self.prepare(sizes)?;
         self.hints.clear();
         for position in self.taken..kept.count().min(MOST) {
-            if kept.has_clause(position) && !self.was_taken(kept, position)? {
+            if kept.has_clause(position) && !self.was_taken(kept.lines(), position)? {
                 let clause = kept.clause(position);
                 self.take(sizes, clause.lits(), position as u32)?;
             }
@@ -470,19 +533,32 @@ impl Search {
         Ok(false)
     }
 
-    /// Finds hints that show a clause. Answers whether there are some.
-    pub(crate) fn find(&mut self, sizes: Sizes, lits: &[Lit]) -> Result<bool, AllocError> {
+    // The position of a line whose clause is false wherever this one is, if that is known without propagation.
+    fn known(&mut self, sizes: Sizes, lits: &[Lit]) -> Result<Option<u32>, AllocError> {
+        if self.broken.is_some() {
+            return Ok(self.broken);
+        }
+        if !self.copy_open(sizes, lits)? {
+            return Ok(None);
+        }
+        match self.row_of_open() {
+            None => Ok(None),
+            Some(number) => Ok(self.shorten(number, lits.len())),
+        }
+    }
+
+    /// Finds hints that show a clause, or else all that propagation gives.
+    pub(crate) fn find(&mut self, sizes: Sizes, lits: &[Lit]) -> Result<(), AllocError> {
         self.hints.clear();
-        if let Some(position) = self.broken {
+        if let Some(position) = self.known(sizes, lits)? {
             self.pass();
             self.hints.push(position)?;
-            return Ok(true);
+            return Ok(());
         }
-        let mut is_found = self.assume(sizes, lits)?;
-        if !is_found {
-            is_found = self.propagate()?;
+        if !self.assume(sizes, lits)? {
+            self.propagate()?;
         }
         self.cut(self.fixed);
-        Ok(is_found)
+        Ok(())
     }
 }

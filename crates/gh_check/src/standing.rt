@@ -1,15 +1,16 @@
-//! Literals that stand from line to line, and lines that are shown by them and by hints.
+//! Literals that stand from line to line, and lines that are shown by them and by hints, or refused by literals that
+//! make them false and to which unit propagation adds none.
 
 ghost use Rattle.std.specs.Prelude.{◌≡◌, ◌↔◌, ◌⊎◌, ◌++◌, [], List, map, All, Contains, IfOk, OnOk, IsTrue};
-ghost use Rattle.std.specs.Prelude.{MatchOption, Option};
+ghost use Rattle.std.specs.Prelude.{◌∷◌, MatchOption, Option, None, slice_index_or};
 ghost use Rattle.gh_base.specs.declared.atom.Lit.{Lit};
 ghost use Rattle.gh_base.specs.declared.sizes.Sizes.{Sizes};
 ghost use Rattle.gh_base.specs.Atoms.{opposite, IsInRange, AreInRange};
 ghost use Rattle.gh_base.specs.Hints.{IsRefutedByHints};
-ghost use Rattle.gh_base.specs.Propagation.{FollowsByUnits};
 ghost use Rattle.gh_check.specs.Kept.{clause_at, named, present, AreWithin};
-ghost use Rattle.gh_check.specs.Truths.{IsFalseBy, IsOpenIn, IsLook, HasBoth};
-ghost use Rattle.gh_check.specs.Standing.{AreGivenBy, IsStanding, MayStand};
+ghost use Rattle.gh_check.specs.Truths.{IsConsistent, IsFalseBy, IsOpenIn, IsLook, IsMetBy};
+ghost use Rattle.gh_check.specs.Standing.{AreGivenBy, IsStanding, MayStand, IsAtRest, AreAtRest, IsClosedBy, IsJudged};
+ghost use Rattle.gh_check.specs.Standing.{IsConfirmedBy, IsRefusedBy};
 
 use crate::hints::{Look, Truths};
 use crate::positions::Positions;
@@ -106,7 +107,7 @@ fn falsify(fixed: &Truths, above: &mut Truths, lits: &[Lit]) -> Result<bool, All
     requires fixed { AreInRange fixed.now.sizes lits.now }
     requires above { AreInRange above.old.sizes lits.now }
     ensures sizes { OnOk result (above.new.sizes ≡ above.old.sizes) }
-    ensures clash { IfOk result (λ b. IsTrue b → HasBoth (fixed.now.lits ++ map opposite lits.now)) }
+    ensures clash { IfOk result (λ b. IsTrue b ↔ IsMetBy fixed.now.lits lits.now) }
     ensures set { IfOk result (λ b. (IsTrue b → ⊥) → above.new.lits ≡ map opposite lits.now) }
 {
     for lit in lits {
@@ -129,7 +130,7 @@ fn follow(
     requires fixed { AreWithin fixed.now.sizes kept.now.clauses }
     requires above { AreWithin above.old.sizes kept.now.clauses }
     ensures shown { IfOk result (λ b.
-        IsTrue b → IsRefutedByHints (named kept.now hints.now) (fixed.now.lits ++ above.old.lits)) }
+        IsTrue b ↔ IsRefutedByHints (named kept.now hints.now) (fixed.now.lits ++ above.old.lits)) }
     ensures sizes { OnOk result (above.new.sizes ≡ above.old.sizes) }
 {
     for hint in hints {
@@ -154,8 +155,7 @@ fn are_confirmed(
     requires above { AreInRange above.old.sizes lits.now }
     requires fixed_within { AreWithin fixed.now.sizes kept.now.clauses }
     requires above_within { AreWithin above.old.sizes kept.now.clauses }
-    ensures shown { IfOk result (λ b. IsTrue b → AreGivenBy (present kept.now.clauses) fixed.now.lits
-        → FollowsByUnits (present kept.now.clauses) lits.now) }
+    ensures exact { IfOk result (λ b. IsTrue b ↔ IsConfirmedBy kept.now hints.now fixed.now.lits lits.now) }
     ensures sizes { OnOk result (above.new.sizes ≡ above.old.sizes) }
 {
     if !kept.are_standing(hints) {
@@ -166,6 +166,97 @@ fn are_confirmed(
         return Ok(true);
     }
     Ok(follow(fixed, above, kept, hints)?)
+}
+
+// Whether a clause isn't false and forces no literal that isn't true.
+fn rests(fixed: &Truths, above: &Truths, clause: &[Lit]) -> bool
+    requires fixed { AreInRange fixed.now.sizes clause.now }
+    requires above { AreInRange above.now.sizes clause.now }
+    ensures { IsTrue result ↔ IsAtRest (fixed.now.lits ++ above.now.lits) clause.now }
+{
+    match look(fixed, above, clause) {
+        Look::False => false,
+        Look::Unit(lit) => is_false(fixed, above, lit.negated()),
+        Look::Open => true,
+    }
+}
+
+// Whether the clause at a position, if there is one, isn't false and forces no literal that isn't true.
+fn rests_at(fixed: &Truths, above: &Truths, kept: &Positions<'_>, position: usize) -> bool
+    requires fixed { AreWithin fixed.now.sizes kept.now.clauses }
+    requires above { AreWithin above.now.sizes kept.now.clauses }
+    ensures { IsTrue result
+        ↔ AreAtRest (fixed.now.lits ++ above.now.lits) (slice_index_or kept.now.clauses position None ∷ []) }
+{
+    if !kept.has_clause(position) {
+        return true;
+    }
+    let clause = kept.clause(position);
+    rests(fixed, above, clause.lits())
+}
+
+// Whether no clause is false or forces a literal that isn't true.
+fn all_rest(fixed: &Truths, above: &Truths, kept: &Positions<'_>) -> bool
+    requires fixed { AreWithin fixed.now.sizes kept.now.clauses }
+    requires above { AreWithin above.now.sizes kept.now.clauses }
+    ensures { IsTrue result ↔ AreAtRest (fixed.now.lits ++ above.now.lits) kept.now.clauses }
+{
+    for position in 0..kept.count() {
+        if !rests_at(fixed, above, kept, position) {
+            return false;
+        }
+    }
+    true
+}
+
+// Whether no literal is false.
+fn none_false(fixed: &Truths, above: &Truths, lits: &[Lit]) -> bool
+    requires fixed { AreInRange fixed.now.sizes lits.now }
+    requires above { AreInRange above.now.sizes lits.now }
+    ensures { IsTrue result ↔ All (λ l. Contains (fixed.now.lits ++ above.now.lits) (opposite l) → ⊥) lits.now }
+{
+    for lit in lits {
+        if is_false(fixed, above, *lit) {
+            return false;
+        }
+    }
+    true
+}
+
+// Whether no literal is true and false.
+fn are_apart(fixed: &Truths, above: &Truths) -> bool
+    requires { above.now.sizes ≡ fixed.now.sizes }
+    ensures { IsTrue result ↔ IsConsistent (fixed.now.lits ++ above.now.lits) }
+{
+    if !none_false(fixed, above, fixed.lits()) {
+        return false;
+    }
+    none_false(fixed, above, above.lits())
+}
+
+// Whether no literal is true and false, and unit propagation adds none.
+fn is_closed(fixed: &Truths, above: &Truths, kept: &Positions<'_>) -> bool
+    requires sizes { above.now.sizes ≡ fixed.now.sizes }
+    requires within { AreWithin fixed.now.sizes kept.now.clauses }
+    ensures { IsTrue result ↔ IsClosedBy kept.now.clauses (fixed.now.lits ++ above.now.lits) }
+{
+    if !are_apart(fixed, above) {
+        return false;
+    }
+    all_rest(fixed, above, kept)
+}
+
+// Whether literals are false by truths to which unit propagation adds none, and which are no contradiction.
+fn are_refused(fixed: &Truths, above: &Truths, kept: &Positions<'_>, lits: &[Lit]) -> bool
+    requires sizes { above.now.sizes ≡ fixed.now.sizes }
+    requires range { AreInRange fixed.now.sizes lits.now }
+    requires within { AreWithin fixed.now.sizes kept.now.clauses }
+    ensures { IsTrue result ↔ IsRefusedBy kept.now.clauses (fixed.now.lits ++ above.now.lits) lits.now }
+{
+    match first_open(fixed, above, lits) {
+        None => is_closed(fixed, above, kept),
+        Some(_one) => false,
+    }
 }
 
 // Adds the literal that the clause at a position forces, if it does.
@@ -223,28 +314,30 @@ impl Standing {
         })
     }
 
-    /// Whether hints are found by which unit propagation shows the clause of some literals. There may be some that
-    /// aren't found.
-    pub fn shows(
+    /// Whether unit propagation shows the clause of some literals, if that is found.
+    pub fn judge(
         &mut self,
         sizes: Sizes,
         kept: &Positions<'_>,
         lits: &[Lit],
-    ) -> Result<bool, AllocError>
+    ) -> Result<Option<bool>, AllocError>
         requires standing { IsStanding sizes kept.now.clauses self.old }
         requires range { AreInRange sizes lits.now }
         requires within { AreWithin sizes kept.now.clauses }
-        ensures shown { IfOk result (λ b. IsTrue b → FollowsByUnits (present kept.now.clauses) lits.now) }
+        ensures judged { IfOk result (IsJudged (present kept.now.clauses) lits.now) }
         ensures standing { OnOk result (IsStanding sizes kept.now.clauses self.new) }
     {
         self.search.settle(sizes, kept)?;
         fix_all(&mut self.fixed, kept, self.search.hints())?;
-        if !self.search.find(sizes, lits)? {
-            return Ok(false);
-        }
+        self.search.find(sizes, lits)?;
         let hints = self.search.hints();
-        let shown = are_confirmed(&self.fixed, &mut self.above, kept, lits, hints)?;
-        Ok(shown)
+        if are_confirmed(&self.fixed, &mut self.above, kept, lits, hints)? {
+            return Ok(Some(true));
+        }
+        if are_refused(&self.fixed, &self.above, kept, lits) {
+            return Ok(Some(false));
+        }
+        Ok(None)
     }
 }
 
@@ -259,23 +352,23 @@ fn begun(alloc: Global, sizes: Sizes, standing: Option<Standing>) -> Result<Stan
     }
 }
 
-/// Whether hints are found by which unit propagation shows the clause of some literals. What stands is made at the
-/// first such clause.
-pub fn finds_hints(
+/// Whether unit propagation shows the clause of some literals, if that is found. What stands is made at the first such
+/// clause.
+pub fn judged(
     alloc: Global,
     standing: &mut Option<Standing>,
     sizes: Sizes,
     kept: &Positions<'_>,
     lits: &[Lit],
-) -> Result<bool, AllocError>
+) -> Result<Option<bool>, AllocError>
     requires standing { MayStand sizes kept.now.clauses standing.old }
     requires range { AreInRange sizes lits.now }
     requires within { AreWithin sizes kept.now.clauses }
-    ensures shown { IfOk result (λ b. IsTrue b → FollowsByUnits (present kept.now.clauses) lits.now) }
+    ensures judged { IfOk result (IsJudged (present kept.now.clauses) lits.now) }
     ensures standing { OnOk result (MayStand sizes kept.now.clauses standing.new) }
 {
     let mut found = begun(alloc, sizes, standing.take())?;
-    let shown = found.shows(sizes, kept, lits)?;
+    let answer = found.judge(sizes, kept, lits)?;
     *standing = Some(found);
-    Ok(shown)
+    Ok(answer)
 }

@@ -137,14 +137,15 @@ fn add(alloc: Global, lines: &mut Lines, plain: Plain) -> Result<(), AllocError>
     }
 }
 
-// The fault of the lines, of which the first is line 3 of its file.
+// The fault of some lines and those after them, of which the first is line 3 of its file.
 fn fault_of(
     alloc: Global,
     ground: &Ground,
-    plain: &[Plain],
+    before: &[Plain],
+    after: &[Plain],
 ) -> Result<Option<LogFault>, CheckError> {
     let mut lines = Lines::new(alloc);
-    for line in plain {
+    for line in before.iter().chain(after) {
         add(alloc, &mut lines, *line)?;
     }
     if lines.len() > 100 {
@@ -168,6 +169,31 @@ struct Row {
     lines: &'static [Plain],
     fault: Option<LogFault>,
 }
+
+// The place of the first row whose lines have another fault after some lines.
+fn wrong_row(
+    alloc: Global,
+    ground: &Ground,
+    before: &[Plain],
+    rows: &[Row],
+) -> Result<Option<usize>, CheckError> {
+    for (place, row) in rows.iter().enumerate() {
+        if fault_of(alloc, ground, before, row.lines)? != row.fault {
+            return Ok(Some(place));
+        }
+    }
+    Ok(None)
+}
+
+// Ground clauses that have a contradiction.
+const REFUTED: &[Plain] = &[
+    Plain::Ground(0),
+    Plain::Ground(15),
+    Plain::Ground(16),
+    Plain::Ground(19),
+    Plain::Ground(23),
+    Plain::Ground(24),
+];
 
 const VALID: &[Plain] = &[
     Plain::Ground(0),
@@ -248,9 +274,7 @@ fn changed_sections(rt: HostRuntime) -> Result<(), Fail> {
             fault: at(1, 3),
         },
     ];
-    for row in rows {
-        assert_eq!(rt; fault_of(alloc, &ground, row.lines)?, row.fault);
-    }
+    assert_eq!(rt; wrong_row(alloc, &ground, &[], &rows)?, None);
     Ok(())
 }
 
@@ -321,26 +345,8 @@ fn other_sections(rt: HostRuntime) -> Result<(), Fail> {
             fault: at(4, 16),
         },
     ];
-    for row in rows {
-        assert_eq!(rt; fault_of(alloc, &ground, row.lines)?, row.fault);
-    }
+    assert_eq!(rt; wrong_row(alloc, &ground, &[], &rows)?, None);
     Ok(())
-}
-
-// The fault of six ground clauses that have a contradiction, and the lines after them.
-fn fault_after(
-    alloc: Global,
-    ground: &Ground,
-    after: &[Plain],
-) -> Result<Option<LogFault>, CheckError> {
-    let mut lines = Vec::new(alloc);
-    for number in [0, 15, 16, 19, 23, 24] {
-        lines.push(Plain::Ground(number))?;
-    }
-    for line in after {
-        lines.push(*line)?;
-    }
-    fault_of(alloc, ground, lines.as_slice())
 }
 
 // The valid section with hints, which the last line needs in their order.
@@ -403,9 +409,7 @@ fn hinted_sections(rt: HostRuntime) -> Result<(), Fail> {
             fault: None,
         },
     ];
-    for row in rows {
-        assert_eq!(rt; fault_after(alloc, &ground, row.lines)?, row.fault);
-    }
+    assert_eq!(rt; wrong_row(alloc, &ground, REFUTED, &rows)?, None);
     Ok(())
 }
 
@@ -464,9 +468,7 @@ fn deleted_lines(rt: HostRuntime) -> Result<(), Fail> {
             fault: None,
         },
     ];
-    for row in rows {
-        assert_eq!(rt; fault_after(alloc, &ground, row.lines)?, row.fault);
-    }
+    assert_eq!(rt; wrong_row(alloc, &ground, REFUTED, &rows)?, None);
     Ok(())
 }
 

@@ -1,6 +1,6 @@
 -- From what the parts of a decision answer to what is decided.
-use Rattle.std.specs.Prelude.{◌≡◌, ◌⊎◌, ℕ, suc, ◌<◌, ◌≤◌, List, [], ◌∷◌, ◌++◌, length, map, Any, Contains}
-use Rattle.std.proofs.Common.{refl, sym, ap, subst, inl, inr, arith}
+use Rattle.std.specs.Prelude.{◌≡◌, List, [], ◌∷◌, ◌++◌, map, Any, Contains}
+use Rattle.std.proofs.Common.{refl, sym, ap, subst, inl, inr}
 use Rattle.std.proofs.lemmas.List.{append-nil}
 use Rattle.gh_base.specs.Grounds.{Problem}
 use Rattle.gh_base.specs.Meaning.{IsCongruence}
@@ -13,8 +13,7 @@ use Rattle.gh_ast.proofs.Lists.{member_first, member_cases, no_member}
 use Rattle.gh_ast.proofs.Sites.{any_of}
 use Rattle.gh_path.specs.Admitted.{IsAdmitted, NoneHas}
 use Rattle.gh_path.specs.Conditions.{Condition, conditions_of, IsCondition}
-use Rattle.gh_path.specs.Graphs.{PathStep}
-use Rattle.gh_path.specs.Kept.{AreSteps, StandsFor}
+use Rattle.gh_path.specs.Kept.{StandsFor}
 use Rattle.gh_path.specs.declared.condition.Condition as kept
 use Rattle.gh_path.specs.declared.condition.PathStep as kept_step
 use Rattle.gh_path.proofs.Listed.{listed}
@@ -54,24 +53,6 @@ none_passes P Q c is none holds = none c.procedure is.declared (any_of Q (condit
 pub never_refused : (P : Program) (c : Condition) (l : Limit) → IsAdmitted P → IsCondition P c → PassesLimit P c l → ⊥
 never_refused P c l admitted is (inl many) = none_passes P (HasTerms P) c is admitted.terms many.0
 never_refused P c l admitted is (inr many) = none_passes P (HasVersions P) c is admitted.versions many.1
-
-as_many : (P : Program) (c : Condition) (rs : List kept_step.PathStep) (ss : List PathStep) → AreSteps P c.procedure rs ss → length rs ≡ length ss
-as_many P c [] [] h = refl
-as_many P c [] (s ∷ ss) h = absurd h
-as_many P c (r ∷ rs) [] h = absurd h
-as_many P c (r ∷ rs) (s ∷ ss) h = ap suc (as_many P c rs ss h.1)
-
-over_or : (m n : ℕ) → (m < n) ⊎ (n ≤ m)
-over_or m n = grind arith
-
--- and has few steps
-pub few_steps : (P : Program) (r : kept.Condition) (c : Condition) → IsAdmitted P → IsOfProgram P r c → length r.steps.items ≤ 256
-few_steps P r c admitted is =
-    let same : length r.steps.items ≡ length c.way.steps = as_many P c r.steps.items c.way.steps is.stands.steps in
-    elim (over_or 256 (length c.way.steps)) [
-      | inl many ↦ absurd (none_passes P (λ d. 256 < length d.way.steps) c is.there admitted.steps many)
-      | inr few ↦ omega (arith, same, few)
-    ]
 
 -- a valid section shows that a condition is valid
 pub section_shows : (P : Program) (c : Condition) (lines : List LogLine) → IsTyped P → IsCondition P c → IsValidSection (problem (symbolic_of P c)) lines → IsConditionValid P c

@@ -1,30 +1,24 @@
 -- Kept states that refute a condition, and the drawing of them.
-use Rattle.std.specs.Prelude.{◌≡◌, ◌≢◌, ℕ, ◌-◌, ◌≤◌, List, [], ◌∷◌, Option, Some, None, Bool, true, false, cond, unwrap_or, map, get_or, All, Contains, slice_get}
+use Rattle.std.specs.Prelude.{◌≡◌, ℕ, ◌-◌, ◌≤◌, List, [], ◌∷◌, Option, Some, Bool, true, false, cond, unwrap_or, map, get_or, All, Contains, slice_get}
 use Rattle.std.specs.Str.{bytes_eq}
-use Rattle.std.specs.Ordering.{nat_cmp, eq_by_cmp}
-use Rattle.std.specs.FinMap.{entries, get-entries}
-use Rattle.std.specs.FinMap.Entries.{find}
+use Rattle.std.specs.FinMap.{entries}
 use Rattle.std.proofs.Common.{refl, sym, ◌∙◌, ap, subst, arith}
 use Rattle.std.proofs.lemmas.List.Elements.{All-nil, All-cons, All-head, All-tail, All-map, All-weaker}
 use Rattle.gh_ast.specs.Plain.{Program}
 use Rattle.gh_ast.specs.Programs.{Name, variable_names}
 use Rattle.gh_ast.specs.Rules.{IsTyped}
 use Rattle.gh_ast.proofs.Lists.{member_first, member_later}
-use Rattle.gh_assert.specs.Heaps.{Heap, IsProper}
-use Rattle.gh_assert.specs.Stores.{listed_names, listed, store_of}
+use Rattle.gh_assert.specs.Stores.{listed, store_of}
 use Rattle.gh_assert.specs.declared.store.Entry.{Entry}
-use Rattle.gh_assert.proofs.Proper.{met_proper}
 use Rattle.gh_path.specs.Conditions.{Condition, conditions}
-use Rattle.gh_path.specs.Graphs.{PathStep}
 use Rattle.gh_trace.specs.Kept.{state_of, drawn}
 use Rattle.gh_trace.specs.Replay as replay
 use Rattle.gh_trace.specs.Traces as plain
-use Rattle.gh_trace.specs.Traces.{IsTrace, Counterexample}
+use Rattle.gh_trace.specs.Traces.{Counterexample}
 use Rattle.gh_trace.specs.Validity.{AreCounterexample}
 use Rattle.gh_trace.specs.declared.state.State.{State}
-use Rattle.gh_trace.proofs.Proper.{step_proper}
 use Rattle.gh_draw.specs.Drawings.{IsDrawable}
-use Rattle.gh_draw.specs.Drawn.{IsValue, HasValues, IsDrawnCell, IsDrawnState, IsDrawnFor, IsTold}
+use Rattle.gh_draw.specs.Drawn.{IsValue, HasValues, IsDrawnCell, IsOver, IsDrawnState, IsDrawnFor, IsTold}
 use Rattle.gh_draw.proofs.Texts.{numbered_told}
 
 -- values
@@ -39,56 +33,20 @@ value_fits (e ∷ es) p name =
     either_fits (bytes_eq e.name name) e.value (listed es name) (All-head (λ (x : Entry). IsValue x.value) e es p) (value_fits es (All-tail (λ (x : Entry). IsValue x.value) e es p) name)
 
 pub state_drawable : (ns : List Name) (s : State) → HasValues s → IsDrawable ns (state_of s)
-state_drawable ns s h = record { values = λ k d w. value_fits s.store h.values (get_or ns k d); cells = h.cells }
+state_drawable ns s h = record {
+  values = λ k d w. value_fits s.store h.values (get_or ns k d);
+  cells = All-weaker IsDrawnCell (λ c. IsValue c.0 × IsValue c.1) (λ c d. (d.place, d.content)) (entries s.heap) h.cells;
+}
 
 states_drawable : (ns : List Name) (ss : List State) → All HasValues ss → All (IsDrawable ns) (map state_of ss)
 states_drawable ns ss p = All-map (IsDrawable ns) state_of ss (All-weaker HasValues (λ s. IsDrawable ns (state_of s)) (state_drawable ns) ss p)
 
--- cells
-
-past : (b : Bool) (v : ℕ) (o : Option ℕ) → cond b (Some v) o ≡ None → (b ≡ false) × (o ≡ None)
-past true v o e = absurd cc
-past false v o e = (refl, e)
-
-not_null : (n : ℕ) → eq_by_cmp nat_cmp 0 n ≡ false → n ≢ 0
-not_null n e is =
-    let same : eq_by_cmp nat_cmp 0 0 ≡ true = refl in
-    let other : eq_by_cmp nat_cmp 0 0 ≡ false = subst (λ m. eq_by_cmp nat_cmp 0 m ≡ false) is e in
-    absurd cc
-
-cells_drawn : (cs : List (ℕ × ℕ)) → find nat_cmp 0 cs ≡ None → All (λ c. IsValue c.0 × IsValue c.1) cs → All IsDrawnCell cs
-cells_drawn [] e p = All-nil IsDrawnCell
-cells_drawn (c ∷ cs) e p =
-    let later = past (eq_by_cmp nat_cmp 0 c.0) c.1 (find nat_cmp 0 cs) e in
-    let fits = All-head (λ (x : ℕ × ℕ). IsValue x.0 × IsValue x.1) c cs p in
-    All-cons IsDrawnCell c cs (record { not_null = not_null c.0 later.0; place = fits.0; content = fits.1 })
-    (cells_drawn cs later.1 (All-tail (λ (x : ℕ × ℕ). IsValue x.0 × IsValue x.1) c cs p))
-
-heap_drawn : (h : Heap) → IsProper h → All (λ c. IsValue c.0 × IsValue c.1) (entries h) → All IsDrawnCell (entries h)
-heap_drawn h proper p = cells_drawn (entries h) (sym (get-entries h 0) ∙ proper) p
-
 -- states
-
-abbrev IsOver : List Name → State → Type 0
-IsOver ns s = listed_names s.store ≡ ns
-
-abbrev HasProper : State → Type 0
-HasProper s = IsProper s.heap
 
 all_over : (ns : List Name) (ss : List State) → ((x : replay.Drawn) → Contains (map drawn ss) x → x.listed ≡ ns) → All (IsOver ns) ss
 all_over ns [] f = All-nil (IsOver ns)
 all_over ns (s ∷ ss) f =
     All-cons (IsOver ns) s ss (f (drawn s) (member_first (drawn s) (map drawn ss))) (all_over ns ss (λ x i. f x (member_later (drawn s) x (map drawn ss) i)))
-
-all_proper : (P : Program) (s : State) (ps : List PathStep) (ss : List State) → IsTrace P (state_of s) ps (map state_of ss) → IsProper s.heap → All HasProper (s ∷ ss)
-all_proper P s [] [] t p = All-cons HasProper s [] p (All-nil HasProper)
-all_proper P s [] (x ∷ xs) t p = absurd t
-all_proper P s (q ∷ ps) [] t p = absurd t
-all_proper P s (q ∷ ps) (x ∷ xs) t p = All-cons HasProper s (x ∷ xs) p (all_proper P x ps xs t.1 (step_proper P q (state_of s) (state_of x) t.0 p))
-
-refuted_proper : (P : Program) (c : Condition) (ss : List State) → AreCounterexample P c (map state_of ss) → All HasProper ss
-refuted_proper P c [] r = absurd r
-refuted_proper P c (s ∷ ss) r = all_proper P s c.way.steps ss r.leads (met_proper c.start.meets (store_of s.store) s.heap r.begins)
 
 states_of : (ss : List State) → map (λ x. x.state) (map drawn ss) ≡ map state_of ss
 states_of [] = refl
@@ -104,11 +62,11 @@ plain_refutes P c (s ∷ ss) r =
     subst (λ (x : plain.State). Counterexample P c.start.meets c.way.steps c.way.check x (map state_of ss)) begins
     (subst (λ (ys : List plain.State). Counterexample P c.start.meets c.way.steps c.way.check r.first.state ys) follow r.counterexample)
 
-pub states_drawn : (P : Program) (c : Condition) (ss : List State) → replay.Refutes P c (map drawn ss) → All HasValues ss → All (IsDrawnState (variable_names c.procedure)) ss
-states_drawn P c ss r values =
-    let over = all_over (variable_names c.procedure) ss r.over in
-    let proper = refuted_proper P c ss (plain_refutes P c ss r) in
-    λ k d w. record { over = over k d w; values = (values k d w).values; cells = heap_drawn (get_or ss k d).heap (proper k d w) (values k d w).cells }
+pub states_are_drawn : (ns : List Name) (ss : List State) → All (IsOver ns) ss → All HasValues ss → All (IsDrawnState ns) ss
+states_are_drawn ns ss over values = λ k d w. record { over = over k d w; values = (values k d w).values; cells = (values k d w).cells }
+
+states_drawn : (P : Program) (c : Condition) (ss : List State) → replay.Refutes P c (map drawn ss) → All HasValues ss → All (IsDrawnState (variable_names c.procedure)) ss
+states_drawn P c ss r values = states_are_drawn (variable_names c.procedure) ss (all_over (variable_names c.procedure) ss r.over) values
 
 -- the text of the drawing is that of plain states, which refute the condition and are drawable
 pub told_of_refuted : (P : Program) (n : ℕ) (c : Condition) (ss : List State) → IsTyped P → slice_get (conditions P) (n - 1) ≡ Some c → replay.Refutes P c (map drawn ss) → All HasValues ss → IsTold P n c ss

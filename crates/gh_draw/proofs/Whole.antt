@@ -2,6 +2,7 @@
 use Rattle.std.specs.Prelude.{◌≡◌, ◌≢◌, ◌⊎◌, ℕ, ◌-◌, ◌<◌, ◌≤◌, List, [], ◌∷◌, length, get_or, slice_get, Option, Some, None, true, false, ◌==◌, AllPairs, Contains}
 use Rattle.std.proofs.Common.{refl, sym, ◌∙◌, ap, subst, inl, inr, arith}
 use Rattle.std.proofs.lemmas.List.{length-map}
+use Rattle.std.proofs.lemmas.List.Elements.{All-nil}
 use Rattle.std.proofs.lemmas.Bool.Decides.{nat_tests}
 use Rattle.std.proofs.lemmas.Option.{slice_get_within, get_or_from_slice_get}
 use Rattle.gh_ast.specs.declared.Program as read
@@ -13,11 +14,16 @@ use Rattle.gh_path.specs.Answers.{IsNumbered}
 use Rattle.gh_path.specs.Conditions.{Condition, conditions}
 use Rattle.gh_path.specs.declared.condition.Condition as kept
 use Rattle.gh_trace.specs.declared.state.State.{State}
-use Rattle.gh_draw.specs.Drawn.{IsFileOf}
-use Rattle.gh_draw.specs.Reading.{IsFrontRead, ShowsStates, ShowsTrace, ShowsCondition, Skips}
+use Rattle.gh_draw.specs.Drawn.{drawing_text, IsDrawnFor, IsOtherLine, IsFileOf}
+use Rattle.gh_draw.specs.Reading.{IsFrontRead, IsDrawingIn, IsDrawingOf, ShowsStates, ShowsTrace, ShowsCondition, Skips}
+use Rattle.gh_draw.specs.declared.drawing.Drawing.{Drawing}
 use Rattle.gh_draw.proofs.Fronts.{states_one, condition_one, skips_one}
-use Rattle.gh_draw.proofs.Shown.{file_shown, shown_file}
+use Rattle.gh_draw.proofs.Shown.{file_shown, shown_file, file_one}
 use Rattle.gh_draw.proofs.Told.{image}
+
+-- the text of a drawing is a file that has it
+pub file_alone : (P : Program) (n : ℕ) (xs : List State) → IsDrawnFor P n xs → IsFileOf P (drawing_text n xs) n xs
+file_alone P n xs drawn = record { skipped = []; others = All-nil IsOtherLine; whole = refl; drawn = drawn }
 
 -- the condition of the number is the one that a trace is for
 same_numbered : (P : Program) (n : ℕ) (t : List ℕ) (xs : List State) (c : Condition) → slice_get (conditions P) (n - 1) ≡ Some c → (s : ShowsTrace P n t xs) → s.condition ≡ c
@@ -111,3 +117,9 @@ file_no_trace P t now left m skips shown none n xs f =
 
 pub file_whole : (P : Program) (t now left : List ℕ) (n : ℕ) (xs : List State) → Skips t now → ShowsCondition now n left → ShowsTrace P n left xs → IsFileOf P t n xs
 file_whole P t now left n xs skips shown trace = shown_file P t n xs (record { body = now; states_text = left; skips = skips; condition = shown; trace = trace })
+
+-- what is read from the text of a drawing is that drawing
+pub read_back : (P : Program) (n : ℕ) (xs : List State) (read : Option Drawing) → IsDrawnFor P n xs → IsDrawingIn P (drawing_text n xs) read → IsDrawingOf n xs read
+read_back P n xs None drawn none = absurd (none n xs (file_alone P n xs drawn))
+read_back P n xs (Some d) drawn found =
+    file_one P (drawing_text n xs) d.condition n d.trace.states.items xs (file_shown P (drawing_text n xs) d.condition d.trace.states.items found) (file_shown P (drawing_text n xs) n xs (file_alone P n xs drawn))

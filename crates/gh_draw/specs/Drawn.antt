@@ -39,20 +39,23 @@ drawing_text number ss = codes "drawing\ncondition " ++ decimal number ++ codes 
 abbrev pub IsValue : ℕ → Type 0
 IsValue n = n < 2 ^ 32
 
--- all values of the variables and all cells are within 32 bits
-pub record HasValues (s : State) : Type 0 where
-  pub values : All (λ e. IsValue e.value) s.store
-  pub cells : All (λ c. IsValue c.0 × IsValue c.1) (entries s.heap)
-
 -- the cell of a place that isn't null
 pub record IsDrawnCell (cell : ℕ × ℕ) : Type 0 where
   pub not_null : cell.0 ≢ 0
   pub place : IsValue cell.0
   pub content : IsValue cell.1
 
+-- all values are within 32 bits, and null has no cell
+pub record HasValues (s : State) : Type 0 where
+  pub values : All (λ e. IsValue e.value) s.store
+  pub cells : All IsDrawnCell (entries s.heap)
+
 -- the store has these variables in their order
+abbrev pub IsOver : List Name → State → Type 0
+IsOver names s = listed_names s.store ≡ names
+
 pub record IsDrawnState (names : List Name) (s : State) : Type 0 where
-  pub over : listed_names s.store ≡ names
+  pub over : IsOver names s
   pub values : All (λ e. IsValue e.value) s.store
   pub cells : All IsDrawnCell (entries s.heap)
 

@@ -1,5 +1,5 @@
 -- Drawings and their files.
-use Rattle.std.specs.Prelude.{◌≡◌, ℕ, ◌-◌, ◌≤◌, List, ◌++◌, map, All, Contains, Some, slice_get}
+use Rattle.std.specs.Prelude.{◌≡◌, ◌≢◌, ℕ, ◌-◌, ◌≤◌, List, [], ◌++◌, map, All, Contains, Option, Some, slice_get}
 use Rattle.std.specs.List.{flat_map}
 use Rattle.gh_ast.specs.Grammar.{Spells}
 use Rattle.gh_ast.specs.Plain.{Program}
@@ -11,7 +11,9 @@ use Rattle.gh_trace.specs.Replay.{Refutes}
 use Rattle.gh_trace.specs.declared.state.State.{State}
 use Rattle.gh_draw.specs.Descriptions.{description}
 use Rattle.gh_draw.specs.Drawings.{line, drawing}
-use Rattle.gh_draw.specs.Drawn.{drawing_text, IsValue, HasValues, IsDrawnFor, IsTold, IsOtherLine, IsFileOf}
+use Rattle.gh_draw.specs.Drawn.{drawing_text, IsValue, HasValues, IsOver, IsDrawnFor, IsTold, IsOtherLine, IsFileOf}
+use Rattle.gh_draw.specs.Reading.{IsDrawingIn, IsDrawingOf}
+use Rattle.gh_draw.specs.declared.drawing.Drawing.{Drawing}
 
 -- a file has at most one drawing of a condition of the program
 abbrev pub DrawingsAreOne : Type 0
@@ -20,6 +22,11 @@ DrawingsAreOne = (P : Program) (text : List ℕ) (n m : ℕ) (xs ys : List State
 -- the text of a drawing is a file that has it
 abbrev pub DrawingsAreFiles : Type 0
 DrawingsAreFiles = (P : Program) (n : ℕ) (xs : List State) → IsDrawnFor P n xs → IsFileOf P (drawing_text n xs) n xs
+
+-- what is read from the text of a drawing over the variables of its condition is that drawing
+abbrev pub DrawingsReadBack : Type 0
+DrawingsReadBack = (P : Program) (n : ℕ) (c : Condition) (xs : List State) (read : Option Drawing) → 1 ≤ n → IsValue n → slice_get (conditions P) (n - 1) ≡ Some c
+    → xs ≢ [] → All (IsOver (variable_names c.procedure)) xs → All HasValues xs → IsDrawingIn P (drawing_text n xs) read → IsDrawingOf n xs read
 
 -- the text of a drawing is that of its states over the variables of its condition
 abbrev pub DrawingsAreTold : Type 0

@@ -146,3 +146,8 @@ AreDistinctNames ns = AllPairs (λ x y. x ≢ y) ns
 abbrev pub IsDrawingIn : Program → List ℕ → Option Drawing → Type 0
 IsDrawingIn P text None = (number : ℕ) (ss : List State) → IsFileOf P text number ss → ⊥
 IsDrawingIn P text (Some d) = IsFileOf P text d.condition d.trace.states.items
+
+-- what is read is the drawing of these states for the condition of the number
+abbrev pub IsDrawingOf : ℕ → List State → Option Drawing → Type 0
+IsDrawingOf number ss None = ⊥
+IsDrawingOf number ss (Some d) = (d.condition ≡ number) × (d.trace.states.items ≡ ss)

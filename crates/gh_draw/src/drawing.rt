@@ -8,7 +8,7 @@ ghost use Rattle.gh_assert.specs.Cells.{pair_of};
 ghost use Rattle.gh_assert.specs.Stores.{listed_names};
 ghost use Rattle.gh_trace.specs.Kept.{state_of};
 ghost use Rattle.gh_draw.specs.Drawings.{cell_text, state_lines as lines_of};
-ghost use Rattle.gh_draw.specs.Drawn.{entry_text, kept_lines, kept_text, kept_texts, drawing_text, IsValue, HasValues};
+ghost use Rattle.gh_draw.specs.Drawn.{entry_text, kept_lines, kept_text, kept_texts, drawing_text, IsValue, IsDrawnCell, HasValues};
 
 use gh_assert::heap::{Cell, Heap};
 use gh_assert::store::{Entry, Store};
@@ -67,7 +67,7 @@ fn push_store(out: &mut Text, digits: &mut String, store: &Store) -> Result<(), 
 
 fn push_heap(out: &mut Text, digits: &mut String, heap: &Heap) -> Result<(), AllocError>
     ensures text { OnOk result (out.new ≡ out.old ++ flat_map cell_text (entries heap.now)) }
-    ensures values { OnOk result (All (λ c. IsValue c.0 × IsValue c.1) (entries heap.now)) }
+    ensures cells { OnOk result (All IsDrawnCell (entries heap.now)) }
 {
     for cell in heap.cells() {
         push_cell(out, digits, cell)?;
@@ -125,7 +125,8 @@ pub fn state_lines(alloc: Global, state: &State) -> Result<Text, AllocError>
     Ok(text)
 }
 
-/// The text of a drawing. Its values are within 32 bits, as their types say.
+/// The text of a drawing. Its values are within 32 bits and no cell stands at null, as their types say: so a drawing over
+/// the variables of its condition is read back.
 pub fn draw(alloc: Global, drawing: &Drawing) -> Result<Text, AllocError>
     ensures text { IfOk result (λ t. t ≡ drawing_text drawing.now.condition drawing.now.trace.states.items) }
     ensures values { OnOk result (All HasValues drawing.now.trace.states.items) }

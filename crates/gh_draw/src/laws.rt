@@ -1,7 +1,7 @@
 //! Laws of drawings. Together with what `draw` and `read_drawing` say, they make a drawing that is
 //! written read back as itself.
 
-ghost use Rattle.gh_draw.specs.Laws.{DrawingsAreOne, DrawingsAreFiles, DrawingsAreTold, ReportsAreFiles, RefutationsAreTold, DescriptionsAreLines, RefutationsAreFiles};
+ghost use Rattle.gh_draw.specs.Laws.{DrawingsAreOne, DrawingsAreFiles, DrawingsReadBack, DrawingsAreTold, ReportsAreFiles, RefutationsAreTold, DescriptionsAreLines, RefutationsAreFiles};
 
 /// A file has at most one drawing of a condition of a program.
 pub fn drawings_are_one()
@@ -11,6 +11,12 @@ pub fn drawings_are_one()
 /// The text of a drawing is a file that has it.
 pub fn drawings_are_files()
     ensures { DrawingsAreFiles }
+{}
+
+/// What `read_drawing` answers on the text that `draw` writes for a drawing over the variables of its
+/// condition is that drawing, whether it is a counterexample or not.
+pub fn drawings_read_back()
+    ensures { DrawingsReadBack }
 {}
 
 /// The text of a drawing is that of its states over the variables of its condition.

@@ -1,23 +1,26 @@
 -- The terms of a question are there, so its formulas are in range.
-use Rattle.std.specs.Prelude.{◌≡◌, ℕ, ◌<◌, ◌≤◌, List, [], ◌∷◌, ◌++◌, map, length, Bool, true, false, not}
+use Rattle.std.specs.Prelude.{◌≡◌, ℕ, ◌+◌, ◌<◌, ◌≤◌, List, [], ◌∷◌, ◌++◌, map, length, Bool, true, false, not}
 use Rattle.std.proofs.Common.{refl, sym, ◌∙◌, ap, subst, arith}
 use Rattle.std.proofs.lemmas.List.{length-map}
 use Rattle.gh_base.specs.declared.sizes.Sizes.{Sizes}
 use Rattle.gh_base.specs.declared.term.TermKind.{TermKind}
 use Rattle.gh_base.specs.Grounds.{Problem}
-use Rattle.gh_path.specs.Terms.{Kind, Bindings, with_value, Terms, walked, no_terms}
+use Rattle.gh_path.specs.Terms.{Kind, null, Bindings, with_value, Terms, walked, no_terms}
 use Rattle.gh_grass.specs.declared.binding.Bond.{Bond}
 use Rattle.gh_grass.specs.Claims as ground
 use Rattle.gh_grass.specs.Claims.{claims_of, negation_of}
 use Rattle.gh_symb.specs.Symbolic.{Under}
 use Rattle.gh_symb.specs.Formulas.{variables, version_claims}
-use Rattle.gh_symb.specs.Encodings.{plain_kind}
+use Rattle.gh_symb.specs.Encodings.{plain_kind, IsBinding}
+use Rattle.gh_symb.specs.Fitting.{EncodesBinding}
+use Rattle.gh_symb.specs.Tables.{Bound as Table, bound_by, state}
 use Rattle.gh_reduce.specs.Growth.{stated_in, IsWithin, AreWithin}
-use Rattle.gh_reduce.specs.Inside.{binding_of, IsReady}
-use Rattle.gh_reduce.proofs.InsideLemmas.{same_function, whole_within}
+use Rattle.gh_symb.specs.Inside.{binding_of, AreSuccessors, IsReady}
+use Rattle.gh_symb.proofs.EncodedLemmas.{same_function}
+use Rattle.gh_reduce.proofs.InsideLemmas.{whole_within}
 use Rattle.gh_reduce.proofs.GrowthLemmas.{same_terms, same_versions}
 use Rattle.gh_reduce.proofs.WalkLemmas.{empty_problem}
-use Rattle.gh_reduce.proofs.SoundLemmas.{Sound, bound_more, nothing_bound, value_sound, value_size, successor_at, term_there, walked_extends}
+use Rattle.gh_symb.proofs.SoundLemmas.{Sound, successors_more, bound_more, nothing_bound, value_sound, value_size, successor_at, term_there, walked_extends}
 use Rattle.gh_ast.specs.Questions.{Claim, leaf, denial, every, either, Claims, no_claims, claim_first, Question}
 use Rattle.gh_entail.specs.Terms.{witnessed, claim_walked, claims_walked, question_walked}
 use Rattle.gh_entail.specs.Formulas.{claim_formula, claim_formulas, question_problem}
@@ -29,7 +32,7 @@ witness_sound true s h =
     let size = value_size s.kinds in
     record {
       some = omega (arith, size);
-      successors = value_sound s.kinds h.successors;
+      successors = value_sound (s.version + 1) s.kinds h.successors;
       bindings = bound_more (length s.kinds) (length (with_value s.kinds)) s.bindings (omega (arith, size)) h.bindings;
     }
 witness_sound false s h = h
@@ -48,6 +51,25 @@ mutual
 question_sound : (q : Question) → Sound (question_walked q)
 question_sound q =
     claim_sound q.right true (claim_walked false q.left no_terms) (claim_sound q.left false no_terms (record { some = omega arith; successors = tt; bindings = nothing_bound 1 }))
+
+-- a walk over a question that lists few kinds has terms and versions of 8 bits
+walk_sound : (q : Question) (ks : List Kind) (es : Table) → state ks es 0 ≡ question_walked q → Sound (state ks es 0)
+walk_sound q ks es e = subst Sound (sym e) (question_sound q)
+
+-- walks over the left claim and then over the right one, from null alone, are a walk over the question
+pub walked_both : (q : Question) (ks ls ms : List Kind) (es fs gs : Table) → ks ≡ null ∷ [] → es ≡ [] → state ls fs 0 ≡ claim_walked false q.left (state ks es 0)
+    → state ms gs 0 ≡ claim_walked true q.right (state ls fs 0) → state ms gs 0 ≡ question_walked q
+walked_both q ks ls ms es fs gs first none left right =
+    let begun : state ks es 0 ≡ no_terms = ap (λ k. state k es 0) first ∙ ap (λ e. state (null ∷ []) e 0) none in
+    right ∙ ap (claim_walked true q.right) (left ∙ ap (claim_walked false q.left) begun)
+
+pub short_kinds : (q : Question) (ks : List Kind) (es : Table) → state ks es 0 ≡ question_walked q → length ks ≤ 32 → AreSuccessors 256 256 ks
+short_kinds q ks es e few = successors_more (length ks) 256 1 256 (omega (arith, few)) (omega arith) ks (walk_sound q ks es e).successors
+
+pub bindings_are : (q : Question) (ks : List Kind) (es : Table) (bonds : List Bond) → state ks es 0 ≡ question_walked q → length ks ≤ 32 → EncodesBinding bonds (bound_by es) → IsBinding bonds (question_walked q).bindings
+bindings_are q ks es bonds e few encodes =
+    subst (IsBinding bonds) (ap (λ (s : Terms). s.bindings) e)
+    (λ x. encodes x (let there = term_there x (state ks es 0) (walk_sound q ks es e) in omega (arith, there, few)))
 
 -- one version, and the terms of the variables
 abbrev pub Has : Sizes → List Kind → Bindings → Type 0
@@ -85,7 +107,7 @@ kept q a A =
       binding = b;
       count = n;
       some = omega (arith, n, some);
-      ready = subst (λ k. IsReady k (map plain_kind a.terms)) (sym n) (subst (IsReady (length t.kinds)) (sym A.terms) (record { terms = refl; some = some; successors = successor_at (length t.kinds) t.kinds h.successors }));
+      ready = subst (λ k. IsReady k (map plain_kind a.terms)) (sym n) (subst (IsReady (length t.kinds)) (sym A.terms) (record { terms = refl; some = some; successors = λ k i x e. (successor_at (length t.kinds) (t.version + 1) t.kinds h.successors k i x e).0 }));
       names = λ x. subst (λ k. (variables (binding_of a.binding) x).0 < k) (sym n) (subst (λ c. (variables c x).0 < length t.kinds) (sym b) (term_there x t h));
     }
 

@@ -10,7 +10,7 @@ use Rattle.gh_grass.specs.Bindings.{bound_term, next_term}
 use Rattle.gh_grass.specs.Footprints.{Variables, structure}
 use Rattle.gh_symb.specs.Formulas.{variables, successor, meets}
 use Rattle.gh_symb.specs.Encodings.{plain_kind}
-use Rattle.gh_reduce.specs.Inside.{binding_of}
+use Rattle.gh_symb.specs.Inside.{binding_of}
 use Rattle.gh_reduce.proofs.InsideLemmas.{variables_are, successor_is}
 use Rattle.gh_entail.specs.Asked.{under_at}
 

@@ -1,15 +1,13 @@
 -- The store of a model lists the variables of the question with the values of their terms.
-use Rattle.std.specs.Prelude.{◌≡◌, ◌≢◌, ℕ, ◌<◌, List, [], ◌++◌, length, get_or, Bool, true, false, not, AllPairs}
-use Rattle.std.proofs.Common.{refl, sym, ◌∙◌, ap, subst, inl, inr, arith}
-use Rattle.std.proofs.lemmas.List.{get_or-map, get_or-take, length-take-le, length-map}
-use Rattle.gh_base.specs.declared.place.Span.{Span}
+use Rattle.std.specs.Prelude.{◌≡◌, ◌≢◌, List, [], ◌++◌, Bool, true, false, not, AllPairs}
+use Rattle.std.proofs.Common.{refl, sym, ◌∙◌, ap, subst, inl, inr}
+use Rattle.gh_ast.proofs.TypedPrograms.{no_repeats}
 use Rattle.gh_base.specs.Structures.{Tables, interpretation_of}
 use Rattle.gh_ast.specs.declared.Occ.{Occ}
 use Rattle.gh_ast.specs.Programs.{Name, names}
-use Rattle.gh_ast.specs.Rules.{RepeatedAt}
 use Rattle.gh_ast.specs.Questions.{Claim, leaf, denial, every, either, Claims, no_claims, claim_first, Question}
 use Rattle.gh_ast.proofs.Members.{name_or}
-use Rattle.gh_ast.proofs.Sites.{AllIn, all_left, all_right, any_of, element_at, formula_in, name_had}
+use Rattle.gh_ast.proofs.Sites.{AllIn, all_left, all_right, any_of, formula_in, name_had}
 use Rattle.gh_assert.specs.declared.store.Entry.{Entry}
 use Rattle.gh_assert.specs.Stores.{listed_names, store_of}
 use Rattle.gh_path.specs.Terms.{Terms, no_terms, walked}
@@ -24,31 +22,6 @@ use Rattle.gh_model.proofs.terms.BoundVariables.{walked_of, no_term_outside}
 use Rattle.gh_model.proofs.building.Traces.{store_is}
 use Rattle.gh_entail.specs.Rules.{in_claim, in_claims, in_question, unknown_name, duplicate_name, IsTyped}
 use Rattle.gh_entail.specs.Terms.{witnessed, claim_walked, claims_walked, question_walked}
-
--- an occurrence whose name stands earlier is a repeated one
-repeated : (os : List Occ) (i j : ℕ) (o p : Occ) → i < j → j < length os → get_or os i o ≡ o → get_or os j p ≡ p → o.name ≡ p.name → RepeatedAt os p.span
-repeated os i j o p before within first later same = record {
-  here = p;
-  place = j;
-  within = within;
-  element = later;
-  earlier = (i, o, rw (length-take-le j os (omega (arith, within))) before, rw (get_or-take j os i o before) first, same);
-  span = refl;
-}
-
--- where no occurrence is repeated, the names are distinct
-no_repeats : (os : List Occ) → ((s : Span) → RepeatedAt os s → ⊥) → AllPairs (λ x y. x ≢ y) (names os)
-no_repeats os none i j d before within same =
-    let count : length (names os) ≡ length os = length-map os (λ (o : Occ). o.name) in
-    let j_in : j < length os = omega (arith, within, count) in
-    let i_in : i < length os = omega (arith, before, j_in) in
-    apart (element_at os i i_in) (element_at os j j_in) i_in j_in
-  where
-    apart : (first : (o : Occ) × (get_or os i o ≡ o)) (later : (o : Occ) × (get_or os j o ≡ o)) → i < length os → j < length os → ⊥
-    apart (o, first) (p, later) i_in j_in =
-        let i_named : get_or (names os) i d ≡ o.name = get_or-map (λ o. o.name) os i o d i_in ∙ ap (λ (o : Occ). o.name) first in
-        let j_named : get_or (names os) j d ≡ p.name = get_or-map (λ o. o.name) os j p d j_in ∙ ap (λ (o : Occ). o.name) later in
-        none p.span (repeated os i j o p before j_in first later (sym i_named ∙ same ∙ j_named))
 
 -- no two variables of a question have one name
 pub variables_are_distinct : (q : Question) → IsTyped q → AllPairs (λ x y. x ≢ y) (names q.variables)

@@ -5,7 +5,7 @@ use Rattle.gh_ast.specs.Questions.{Question}
 use Rattle.gh_grass.specs.declared.binding.Bond.{Bond}
 use Rattle.gh_symb.specs.Symbolic.{Under}
 use Rattle.gh_symb.specs.Encodings.{plain_kind, IsBinding}
-use Rattle.gh_reduce.specs.Inside.{binding_of}
+use Rattle.gh_symb.specs.Inside.{binding_of}
 use Rattle.std.specs.Prelude.{List}
 use Rattle.gh_entail.specs.Rules.{IsTyped, IsFirstBroken}
 use Rattle.gh_entail.specs.Limits.{KeepsLimits, IsLimit}

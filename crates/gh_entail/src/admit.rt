@@ -8,7 +8,7 @@ ghost use Rattle.gh_types.specs.Faults.{IsFirstIn, IsFirstOf};
 ghost use Rattle.gh_types.specs.Tables.{IsTableOf};
 ghost use Rattle.gh_entail.specs.Checks.{UndeclaredErrors};
 ghost use Rattle.gh_entail.specs.Asked.{AreTerms, IsAdmitted, IsAskRefusal};
-ghost use Rattle.gh_entail.specs.Limits.{IsLimit, KeepsLimits, count_atoms};
+ghost use Rattle.gh_entail.specs.Limits.{IsLimit, count_atoms};
 ghost use Rattle.gh_entail.specs.Rules.{Broken, DuplicateName, UnknownName};
 
 use crate::occurrences::{add_claim, count_in_claim};

@@ -1,11 +1,9 @@
 //! The answer to a question.
 
 ghost use Rattle.std.specs.Prelude.{◌≡◌, IfOk, length};
-ghost use Rattle.gh_base.specs.Structures.{interpretation_of};
 ghost use Rattle.gh_ast.specs.Programs.{names};
 ghost use Rattle.gh_ast.specs.Questions.{question_of};
-ghost use Rattle.gh_model.specs.BuiltTraces.{heap_in};
-ghost use Rattle.gh_model.specs.KeptTraces.{AreBelow, state_in};
+ghost use Rattle.gh_model.specs.KeptTraces.{state_in};
 ghost use Rattle.gh_entail.specs.Answers.{IsAnswer};
 
 use crate::admit::Asked;

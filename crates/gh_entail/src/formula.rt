@@ -5,7 +5,7 @@ ghost use Rattle.gh_ast.specs.Plain.{formula_of};
 ghost use Rattle.gh_grass.specs.Claims.{claim_of, claims_list};
 ghost use Rattle.gh_symb.specs.Formulas as formulas;
 ghost use Rattle.gh_symb.specs.Encodings.{plain_kind};
-ghost use Rattle.gh_reduce.specs.Inside.{binding_of};
+ghost use Rattle.gh_symb.specs.Inside.{binding_of};
 ghost use Rattle.gh_entail.specs.Formulas.{claim_formula, claim_formulas};
 ghost use Rattle.gh_ast.specs.Questions as questions;
 ghost use Rattle.gh_entail.specs.Asked.{under_at};

@@ -1,6 +1,5 @@
 -- Lists of formulas that are made one by one.
 use Rattle.std.specs.Prelude.{◌≡◌, ℕ, ◌+◌, ◌<◌, ◌≤◌, List, [], ◌∷◌, ◌++◌, map, length, drop, get_or}
-use Rattle.std.specs.List.{flat_map}
 use Rattle.std.proofs.Common.{refl, sym, ◌∙◌, ap, append_assoc, add-one, arith, Vec, Global}
 use Rattle.std.proofs.Math.Seq.{drop-cons}
 use Rattle.std.proofs.lemmas.List.{map-append, append-nil, drop_all}
@@ -8,7 +7,7 @@ use Rattle.std.proofs.lemmas.List.FromFn.{map-range_with_len_more}
 use Rattle.gh_base.specs.declared.atom.Term.{Term}
 use Rattle.gh_ast.specs.declared.Assertion.{Assertion}
 use Rattle.gh_ast.specs.declared.Cond.{Cond}
-use Rattle.gh_ast.specs.Plain.{test_of, tests_view, test_first, no_tests, formula_of, formulas_of, formulas_view, formula_first, no_formulas, star, Formula as Plain}
+use Rattle.gh_ast.specs.Plain.{test_of, tests_view, test_first, formula_of, formulas_of, formulas_view, formula_first, star, Formula as Plain}
 use Rattle.gh_grass.specs.declared.formula.Formula.{Formula}
 use Rattle.gh_grass.specs.declared.formula.Formula.TheOpen.{Formula-F}
 use Rattle.gh_grass.specs.declared.formula.Formula.TheFolds.{fold-roll-Formula}

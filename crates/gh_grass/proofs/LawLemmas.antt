@@ -1,15 +1,15 @@
 -- The clauses of formulas mean what the formulas mean.
-use Rattle.std.specs.Prelude.{◌≡◌, ℕ, suc, get_or, ◌+◌, ◌<◌, ◌≤◌, List, [], ◌∷◌, ◌++◌, Bool, true, false, not, ◌&&◌, ◌||◌, ◌==◌, cond, nat_eq, All}
+use Rattle.std.specs.Prelude.{◌≡◌, ℕ, suc, get_or, ◌+◌, ◌<◌, ◌≤◌, List, [], ◌∷◌, ◌++◌, Bool, true, false, not, ◌&&◌, ◌||◌, cond, nat_eq, All}
 use Rattle.std.proofs.Common.{refl, sym, ◌∙◌, ap, arith, eq-eqb}
 use Rattle.std.proofs.lemmas.List.Elements.{All-cons}
 use Rattle.gh_base.specs.declared.atom.Atom.{Atom}
 use Rattle.gh_base.specs.declared.atom.Atom.TheVariants.{Eq, Btwn, Hop, Alloc, Def}
 use Rattle.gh_base.specs.declared.atom.Lit.{Lit}
-use Rattle.gh_base.specs.Meaning.{Interpretation, atom_truth, lit_truth, IsClauseTrue}
+use Rattle.gh_base.specs.Meaning.{Interpretation, atom_truth, lit_truth}
 use Rattle.gh_base.proofs.UnitLemmas.{truth_of_opposite}
 use Rattle.gh_grass.specs.Claims.{Claim, atom, negation_of, conjunction_of, disjunction_of, equivalence_of, Claims, no_claims, claim_first}
 use Rattle.gh_grass.specs.Clauses.{Made, AllMade, made, all_made, stated, clauses_from, conjunction_clauses, disjunction_clauses, equivalence_clauses}
-use Rattle.gh_grass.specs.Truth.{agree, truth, all_true, some_true, AreTrue, AreClausesTrue, IsEarlier, HasEarlier, HaveEarlier, IsOneBefore, LiteralsAreFormulas, ClausesMeanFormulas, DefinitionsExist, FormulasGiveClauses}
+use Rattle.gh_grass.specs.Truth.{agree, truth, all_true, some_true, AreTrue, IsEarlier, HasEarlier, HaveEarlier, IsOneBefore, LiteralsAreFormulas, ClausesMeanFormulas, DefinitionsExist, FormulasGiveClauses}
 use Rattle.gh_grass.proofs.TruthLemmas.{some_lit, all_lits, all_clauses, both, joined, and_same, or_same, agree_same, agree_is, agree_self, clauses_true, true_clauses, all_append, conj_clauses, disj_clauses, equiv_clauses}
 
 -- clauses of which the first ones and the last ones are true

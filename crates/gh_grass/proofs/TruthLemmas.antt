@@ -1,11 +1,11 @@
 -- Truth of clauses as a test, and what the clauses of each kind of definition say.
-use Rattle.std.specs.Prelude.{◌≡◌, ◌⊎◌, ℕ, zero, suc, ◌+◌, ◌<◌, ◌≤◌, List, [], ◌∷◌, ◌++◌, map, length, Bool, true, false, not, ◌&&◌, ◌||◌, All}
-use Rattle.std.proofs.Common.{refl, sym, ◌∙◌, ap, inl, inr, arith}
+use Rattle.std.specs.Prelude.{◌≡◌, ◌⊎◌, ℕ, zero, suc, ◌+◌, List, [], ◌∷◌, ◌++◌, map, Bool, true, false, not, ◌&&◌, ◌||◌}
+use Rattle.std.proofs.Common.{refl, ◌∙◌, ap, inl, inr, arith}
 use Rattle.std.proofs.lemmas.List.Elements.{All-cons}
 use Rattle.gh_base.specs.declared.atom.Atom.TheVariants.{Def}
 use Rattle.gh_base.specs.declared.atom.Lit.{Lit}
 use Rattle.gh_base.specs.Atoms.{opposite}
-use Rattle.gh_base.specs.Meaning.{Interpretation, lit_truth, IsLitTrue, IsClauseTrue}
+use Rattle.gh_base.specs.Meaning.{Interpretation, lit_truth, IsClauseTrue}
 use Rattle.gh_base.proofs.UnitLemmas.{truth_of_opposite}
 use Rattle.gh_grass.specs.Clauses.{defined, conjunction_clauses, disjunction_clauses, equivalence_clauses}
 use Rattle.gh_grass.specs.Truth.{agree, AreClausesTrue}

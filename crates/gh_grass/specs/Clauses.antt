@@ -1,5 +1,5 @@
 -- The clauses of ground formulas. Each conjunction, disjunction and equivalence is defined anew.
-use Rattle.std.specs.Prelude.{ℕ, ◌+◌, List, [], ◌∷◌, ◌++◌, map, true, false}
+use Rattle.std.specs.Prelude.{ℕ, ◌+◌, List, [], ◌∷◌, ◌++◌, map, true}
 use Rattle.gh_base.specs.declared.atom.Atom.{Atom}
 use Rattle.gh_base.specs.declared.atom.Atom.TheVariants.{Def}
 use Rattle.gh_base.specs.declared.atom.Lit.{Lit}

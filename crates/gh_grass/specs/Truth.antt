@@ -1,11 +1,11 @@
 -- What ground formulas and their clauses mean in an interpretation.
-use Rattle.std.specs.Prelude.{◌≡◌, ◌↔◌, ℕ, ◌<◌, ◌≤◌, List, Bool, true, false, not, ◌&&◌, ◌||◌, All}
+use Rattle.std.specs.Prelude.{◌≡◌, ℕ, ◌<◌, List, Bool, true, false, not, ◌&&◌, ◌||◌, All}
 use Rattle.gh_base.specs.declared.atom.Atom.{Atom}
 use Rattle.gh_base.specs.declared.atom.Atom.TheVariants.{Eq, Btwn, Hop, Alloc, Def}
 use Rattle.gh_base.specs.declared.atom.Lit.{Lit}
 use Rattle.gh_base.specs.Meaning.{Interpretation, atom_truth, lit_truth, IsClauseTrue}
 use Rattle.gh_grass.specs.Claims.{Claim, atom, negation_of, conjunction_of, disjunction_of, equivalence_of, Claims, no_claims, claim_first}
-use Rattle.gh_grass.specs.Clauses.{made, all_made, stated, clauses_from, next_after}
+use Rattle.gh_grass.specs.Clauses.{made, clauses_from}
 
 -- both are true, or neither is
 abbrev pub agree : Bool → Bool → Bool

@@ -1,6 +1,6 @@
 //! The formulas of comparisons and tests under a binding.
 
-ghost use Rattle.std.specs.Prelude.{◌≡◌, ◌∷◌, [], IfOk};
+ghost use Rattle.std.specs.Prelude.{◌≡◌, IfOk};
 ghost use Rattle.gh_ast.specs.Plain.{test_of, tests_view};
 ghost use Rattle.gh_grass.specs.Bindings.{bound_term};
 ghost use Rattle.gh_grass.specs.Claims.{claim_of, claims_list};

@@ -1,9 +1,9 @@
 -- What a solver keeps, as lines are added.
 use Rattle.std.proofs.Common.{◌≡◌, ℕ, zero, suc, ◌+◌, ◌<◌, ◌≤◌, List, [], ◌∷◌, ◌++◌, length, take, get_or, map, Option, Some, None, inl, inr, refl, sym, ap, ◌∙◌, subst, arith, append_assoc, append-nil, Contains}
 use Rattle.std.specs.Prelude.{slice_get, slice_index_or, IfSome, All}
-use Rattle.std.proofs.lemmas.List.{take_more, map_push}
+use Rattle.std.proofs.lemmas.List.{take_more, map_push, length-map}
 use Rattle.std.proofs.lemmas.Option.{get_or_from_slice_get}
-use Rattle.std.proofs.lemmas.List.Elements.{Contains-append_left, All-push, All-cons, All-tail}
+use Rattle.std.proofs.lemmas.List.Elements.{Contains-append_left, All-weaker, All-push, All-cons, All-tail}
 use Rattle.gh_base.specs.declared.atom.Lit.{Lit}
 use Rattle.gh_base.specs.declared.sizes.Sizes.{Sizes}
 use Rattle.gh_base.specs.Atoms.{AreInRange}
@@ -21,7 +21,7 @@ use Rattle.gh_sat.specs.Trail.{SearchState, IsSound, cut}
 use Rattle.gh_sat.specs.Learn.{IsConflict, IsLearnt, AreReasons, add_clause}
 use Rattle.gh_sat.specs.Theory.{PropagatesBeside}
 use Rattle.gh_sat.specs.Whole.{Adds}
-use Rattle.gh_sat.proofs.ListLemmas.{get_within, get_some, get_last}
+use Rattle.gh_base.proofs.ListLemmas.{get_within, get_some, get_last}
 use Rattle.gh_sat.proofs.LearnLemmas.{false_in_range}
 use Rattle.gh_sat.proofs.TheoryLemmas.{added_cut}
 use Rattle.gh_ground.specs.Kept.{HasLineEach, Keeps, IsAnswered, IsOpen, IsRefuted, IsEnded}
@@ -229,3 +229,10 @@ added_more names i d n old new before after lt at keeps all there =
     let P : InstanceName → Type 0 = λ x. Contains after (line.Axiom x) in
     let longer : take (i + 1) names ≡ take i names ++ n ∷ [] = take_more names i d lt ∙ ap (λ (x : InstanceName). take i names ++ x ∷ []) (sym at) in
     subst (All P) (sym longer) (All-push P (take i names) n (λ k e below. kept_longer (get_or (take i names) k e) before after keeps.more keeps.longer (all k e below)) there)
+
+-- numbers of clauses, of which there are few
+pub are_numbers : (n : ℕ) (numbers : List ℕ) → n ≤ 4294967293 → All (λ k. k < n) numbers → All (λ k. k < 4294967295) numbers
+are_numbers n numbers few h = All-weaker (λ k. k < n) (λ k. k < 4294967295) (λ k lt. omega (arith, lt, few)) numbers h
+
+pub lines_long : (p : Problem) (s : SearchState) (lines : List LogLine) → HasLineEach p s lines → length lines ≡ length s.clauses
+lines_long p s lines h = sym (length-map lines (line_clause p)) ∙ ap length h.clauses ∙ length-map s.clauses Some

@@ -13,7 +13,7 @@ use Rattle.gh_log.specs.declared.lines.Section.{Section}
 use Rattle.gh_log.specs.Sections.{line_clause, HasClauseAt, Stands, AllStand, AreAt, IsHinted, IsOfKind, AreOfKind}
 use Rattle.gh_log.specs.Spelled.{IsOfVersion}
 use Rattle.gh_log.proofs.KindLemmas.{kind_push}
-use Rattle.gh_sat.proofs.ListLemmas.{get_within, get_front, get_last, get_push, get_take}
+use Rattle.gh_base.proofs.ListLemmas.{get_within, get_front, get_last, get_push, get_take}
 use Rattle.gh_ground.specs.Solving.{hints_of, IsNoDeletion, IsHintLater, IsTrimmed, RefutesProblem, IsRefutationOf}
 use Rattle.gh_ground.specs.Trimming.{IsKeptAt, AreKeptBefore, KeepsOnly, IsHintOfKept, AreNeeded, IsMoved}
 use Rattle.gh_ground.proofs.KeptLemmas.{no_kinds, deletes_nothing}

@@ -1,6 +1,7 @@
 //! Equality and congruence as a theory.
 
-ghost use Rattle.std.specs.Prelude.{◌≡◌, [], IfOk};
+ghost use Rattle.std.specs.Prelude.{◌≡◌, ◌≤◌, [], IfOk};
+ghost use Rattle.gh_base.specs.Atoms.{count_of};
 
 use gh_base::atom::{Atom, Lit};
 use gh_base::clause::Clause;
@@ -15,10 +16,12 @@ pub struct Congruence {
 }
 
 impl Congruence {
-    /// Nothing stands asserted. Room for all atoms is taken here.
+    /// Nothing stands asserted. Room for all atoms is taken here, of which there are at most 1,431,655,764: for more no
+    /// room is taken, as for want of memory.
     pub fn new(alloc: Global, terms: u8, versions: u8, defs: u32) -> Result<Congruence, AllocError>
         ensures sizes { IfOk result (λ c. c.classes.sizes ≡ record { terms = terms; versions = versions; defs = defs }) }
         ensures none { IfOk result (λ c. c.classes.lits ≡ []) }
+        ensures few { IfOk result (λ c. count_of c.classes.sizes ≤ 1431655764) }
     {
         Ok(Congruence {
             classes: Classes::new(alloc, terms, versions, defs)?,

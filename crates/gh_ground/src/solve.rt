@@ -1,6 +1,7 @@
 //! The decision of ground clauses.
 
-ghost use Rattle.std.specs.Prelude.{IfOk};
+ghost use Rattle.std.specs.Prelude.{◌≤◌, IfOk, OnOk};
+ghost use Rattle.gh_base.specs.Atoms.{count_of};
 ghost use Rattle.gh_ground.specs.Solving.{IsAnswer};
 
 use crate::solver::Solver;
@@ -18,9 +19,11 @@ pub enum Answer {
     Refutation(Section),
 }
 
-/// Decides ground clauses together with all axiom instances, which are added where a structure makes them false.
+/// Decides ground clauses together with all axiom instances, which are added where a structure makes them false. More
+/// atoms than 1,431,655,764, and more than 4,294,967,293 clauses with those that are learnt, are as want of memory.
 pub fn solve(alloc: Global, ground: &Ground) -> Result<Answer, AllocError>
-    ensures { IfOk result (λ answer. IsAnswer ground.now answer) }
+    ensures answer { IfOk result (λ answer. IsAnswer ground.now answer) }
+    ensures few { OnOk result (count_of ground.now.sizes ≤ 1431655764) }
 {
     let mut solver = Solver::new(alloc, ground)?;
     loop {
@@ -29,7 +32,7 @@ pub fn solve(alloc: Global, ground: &Ground) -> Result<Answer, AllocError>
             return Ok(Answer::Refutation(trim(alloc, &section)?));
         }
         let structure = solver.structure(alloc)?;
-        let names = false_instances(alloc, &structure, 150)?;
+        let names = false_instances(alloc, &structure)?;
         if names.is_empty() {
             return Ok(Answer::Model(structure));
         }

@@ -1,7 +1,7 @@
 //! A search whose clauses are the lines of a section.
 
 ghost use Rattle.std.specs.Prelude.{◌≡◌, ◌<◌, ◌≤◌, ◌+◌, All, Contains, IfOk, OnOk, IfSome, IfNone, Some, None, [], length, map, slice_get};
-ghost use Rattle.gh_base.specs.declared.atom.Lit.{Lit};
+ghost use Rattle.gh_base.specs.Atoms.{count_of};
 ghost use Rattle.gh_base.specs.Grounds.{Problem};
 ghost use Rattle.gh_base.specs.Meaning.{IsClauseTrue, IsCongruence, IsEqualityClause};
 ghost use Rattle.gh_base.specs.Structures.{interpretation_of};
@@ -65,11 +65,12 @@ fn clause_at(
 
 // The positions of the lines of some clauses. Those count from 1, and a clause's line stands at its number.
 fn positions(alloc: Global, numbers: &[u32]) -> Result<Vec<u32>, AllocError>
+    requires { All (λ k. k < 4294967295) numbers.now }
     ensures { IfOk result (λ v. v.items ≡ map (λ k. k + 1) numbers.now) }
 {
     let mut positions = Vec::with_capacity(alloc, numbers.len())?;
     for number in numbers {
-        positions.push(number.checked_add(1).ok_or(AllocError)?)?;
+        positions.push(number + 1)?;
     }
     Ok(positions)
 }
@@ -95,7 +96,8 @@ fn cut_level(present: u32, level: u32, stride: u32) -> u32
 impl Solver {
     /// Nothing is decided yet.
     pub(crate) fn new(alloc: Global, ground: &Ground) -> Result<Solver, AllocError>
-        ensures { IfOk result (λ s. HasLineEach ground.now s.search s.lines) }
+        ensures lines { IfOk result (λ s. HasLineEach ground.now s.search s.lines) }
+        ensures few { OnOk result (count_of ground.now.sizes ≤ 1431655764) }
     {
         let sizes = ground.sizes();
         let theory = Congruence::new(alloc, sizes.terms, sizes.versions, sizes.defs)?;
@@ -252,8 +254,7 @@ impl Solver {
         Ok(())
     }
 
-    /// The section of a refutation: a clause is false at level 0. More lines than 32 bits can number count as want of
-    /// memory.
+    /// The section of a refutation: a clause is false at level 0.
     pub(crate) fn into_section(
         mut self,
         alloc: Global,
@@ -262,9 +263,7 @@ impl Solver {
         requires { IsRefuted self.search conflict }
         ensures { IfOk result (λ s. (p : Problem) → HasLineEach p self.search self.lines → RefutesProblem p s) }
     {
-        if self.lines.len() >= 4294967294 {
-            return Err(AllocError);
-        }
+        let _count = self.search.count();
         let reasons = self.search.refutation(alloc, conflict)?;
         let hints = positions(alloc, reasons.as_slice())?;
         let last = LogLine::Hinted {

@@ -178,15 +178,12 @@ impl Trimmed {
     }
 }
 
-/// A section without the lines that nothing later needs, a refutation where it was one. More lines than 32 bits can number
-/// count as want of memory.
+/// A section without the lines that nothing later needs, a refutation where it was one.
 pub(crate) fn trim(alloc: Global, section: &Section) -> Result<Section, AllocError>
+    requires { length section.now.lines ≤ 4294967294 }
     ensures { IfOk result (λ s. (p : Problem) → RefutesProblem p section.now → IsRefutationOf p s) }
 {
     let lines = &section.lines;
-    if lines.len() > 4294967294 {
-        return Err(AllocError);
-    }
     let kept = needed(alloc, lines)?;
     let mut trimmed = Trimmed {
         lines: Lines::new(alloc),

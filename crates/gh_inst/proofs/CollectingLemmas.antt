@@ -117,7 +117,7 @@ there [] k x e = cc
 there (y ∷ ys) zero x e = (omega arith, cc)
 there (y ∷ ys) (suc k) x e = let t = there ys k x e in (omega (arith, t.0), t.1)
 
-take_more_all : {X : Type 0} (P : X → Type 0) (xs : List X) (k : ℕ) (x : X) → slice_get xs k ≡ Some x → All P (take k xs) → P x → All P (take (k + 1) xs)
+pub take_more_all : {X : Type 0} (P : X → Type 0) (xs : List X) (k : ℕ) (x : X) → slice_get xs k ≡ Some x → All P (take k xs) → P x → All P (take (k + 1) xs)
 take_more_all P xs k x e a p = let t = there xs k x e in All-more P xs k x t.0 a (subst P (sym t.1) p)
 
 last_or : {P : ℕ → Type 0} (k v : ℕ) → (v < k) ⊎ (v ≡ k) → ((u : ℕ) → u < k → P u) → P k → P v
@@ -134,7 +134,7 @@ less_or zero (suc v) below = absurd (omega (arith, below))
 less_or (suc k) zero below = inl (omega arith)
 less_or (suc k) (suc v) below = one_up k v (less_or k v (omega (arith, below)))
 
-earlier_or : {P : ℕ → Type 0} (k v : ℕ) → v < k + 1 → ((u : ℕ) → u < k → P u) → P k → P v
+pub earlier_or : {P : ℕ → Type 0} (k v : ℕ) → v < k + 1 → ((u : ℕ) → u < k → P u) → P k → P v
 earlier_or {P = P} k v below earlier now = last_or {P = P} k v (less_or k v below) earlier now
 
 -- the turn of a loop over rows

@@ -6,5 +6,6 @@ pub mod WordLemmas
 pub mod OpenLemmas
 pub mod ListedLemmas
 pub mod CollectingLemmas
+pub mod FirstLemmas
 pub mod OnceLemmas
 pub mod RangeLemmas

@@ -1,5 +1,5 @@
 -- Lists of instances that are false.
-use Rattle.std.specs.Prelude.{◌≡◌, ◌<◌, ◌≤◌, ℕ, List, [], ◌++◌, map, All, Some}
+use Rattle.std.specs.Prelude.{◌≡◌, ◌<◌, ◌≤◌, ℕ, List, [], ◌++◌, map, All, Contains, Some}
 use Rattle.gh_base.specs.declared.atom.Term.{Term}
 use Rattle.gh_base.specs.declared.sizes.Sizes.{Sizes}
 use Rattle.gh_base.specs.Meaning.{Interpretation}
@@ -8,7 +8,7 @@ use Rattle.gh_inst.specs.declared.collecting.Looked.{Looked}
 use Rattle.gh_inst.specs.declared.naming.InstanceName.{InstanceName}
 use Rattle.gh_inst.specs.Instances.{IsInstance, name_of}
 use Rattle.gh_inst.specs.Tuples.{tuples}
-use Rattle.gh_inst.specs.Violations.{IsInstanceTrue}
+use Rattle.gh_inst.specs.Violations.{IsInstanceTrue, IsFirstWithout}
 use Rattle.gh_inst.specs.Table.{AxiomRow, row_with, table, row}
 use Rattle.gh_inst.specs.Search.{IsAmong, IsRowTrue, tuples_with}
 use Rattle.gh_inst.specs.Words.{AreWords}
@@ -32,15 +32,35 @@ pub record IsLooked (r : Looked) : Type 0 where
   pub few : r.variables ≤ 4
   pub places : All (IsAmong r.variables) r.lits.now
 
--- false instances of the row were added, or it is true at each tuple that begins with some terms and has so many more
+-- the row is true at a tuple
+abbrev pub IsTrueAt : Looked → List Term → Type 0
+IsTrueAt r tuple = IsRowTrue (interpretation_of r.structure.now) r.version r.lits.now tuple
+
+-- false instances of the row were added to a list: none where the row is true at some tuples, else the first one of them among others
+pub record GathersAt (r : Looked) (all : List (List Term)) (old new : List InstanceName) : Type 0 where
+  pub gathers : Gathers r.structure.now.sizes (interpretation_of r.structure.now) old new (All (IsTrueAt r) all)
+  pub sound : All (IsTrueAt r) all → new ≡ old
+  pub first : (tuple : List Term) → IsFirstWithout (IsTrueAt r) all tuple → Contains new (name_of r.number r.version tuple)
+
+-- .. at the tuples that begin with some terms and have so many more
 abbrev pub GathersIn : Looked → List Term → ℕ → List InstanceName → List InstanceName → Type 0
-GathersIn r first more old new =
-    Gathers r.structure.now.sizes (interpretation_of r.structure.now) old new
-    (All (IsRowTrue (interpretation_of r.structure.now) r.version r.lits.now) (tuples_with more r.structure.now.sizes.terms first))
+GathersIn r first more old new = GathersAt r (tuples_with more r.structure.now.sizes.terms first) old new
 
 -- a row's instances in a version are true
 pub record RowHolds (s : Sizes) (m : Interpretation) (version : ℕ) (r : AxiomRow) : Type 0 where
   pub holds : All (IsInstanceTrue m) (map (name_of r.number version) (tuples r.variables s.terms))
+
+-- a row's instances in a version
+abbrev pub row_in : Sizes → ℕ → AxiomRow → List InstanceName
+row_in s version r = map (name_of r.number version) (tuples r.variables s.terms)
+
+-- the first false instance of a row in a version is named, if there is one
+pub record IsNamed (s : Sizes) (m : Interpretation) (version : ℕ) (found : List InstanceName) (r : AxiomRow) : Type 0 where
+  pub first : (name : InstanceName) → IsFirstWithout (IsInstanceTrue m) (row_in s version r) name → Contains found name
+
+-- .. of each row
+pub record AreNamed (s : Sizes) (m : Interpretation) (version : ℕ) (found : List InstanceName) : Type 0 where
+  pub rows : All (IsNamed s m version found) table
 
 -- every instance in a version is true
 pub record VersionHolds (s : Sizes) (m : Interpretation) (version : ℕ) : Type 0 where

@@ -1,16 +1,15 @@
 //! Instances that are false in a structure, some of each row and version.
 
-ghost use Rattle.std.specs.Prelude.{◌≡◌, ◌<◌, ◌≤◌, ◌-◌, [], ◌∷◌, ℕ, All, IfOk, OnOk, Some, length, map, option_map, take};
+ghost use Rattle.std.specs.Prelude.{◌≡◌, ◌<◌, ◌≤◌, ◌-◌, [], ◌∷◌, ℕ, All, Contains, IfOk, OnOk, Some, length, option_map, take};
 ghost use Rattle.std.specs.Int.{bit_at};
 ghost use Rattle.gh_base.specs.Structures.{interpretation_of};
 ghost use Rattle.gh_inst.specs.Table.{row_with, table, AxiomRow};
-ghost use Rattle.gh_inst.specs.Tuples.{tuples};
-ghost use Rattle.gh_inst.specs.Instances.{name_of};
 ghost use Rattle.gh_inst.specs.Schemas.{term};
+ghost use Rattle.gh_inst.specs.declared.naming.InstanceName.{InstanceName as GhostName};
 ghost use Rattle.gh_inst.specs.Words.{AreWords};
 ghost use Rattle.gh_inst.specs.Search.{IsRowTrue, IsSearched, tuples_with};
-ghost use Rattle.gh_inst.specs.Violations.{IsInstanceTrue, AreInstancesTrue};
-ghost use Rattle.gh_inst.specs.Collecting.{IsFalseInstance, Gathers, IsLooked, GathersIn, RowHolds, VersionHolds};
+ghost use Rattle.gh_inst.specs.Violations.{AreInstancesTrue, IsFirstFalse};
+ghost use Rattle.gh_inst.specs.Collecting.{IsFalseInstance, Gathers, IsLooked, GathersIn, RowHolds, VersionHolds, IsNamed, AreNamed};
 
 use crate::naming::InstanceName;
 use crate::schema::Pattern;
@@ -21,6 +20,9 @@ use crate::words::{open_terms, words_of};
 use gh_base::atom::Term;
 use gh_base::structure::Structure;
 use std::alloc::{AllocError, Global};
+
+// Once so many instances of a row in a version were found, no further first term is looked at.
+const MOST: usize = 150;
 
 // A row in a version of a structure, with the words of that version.
 #[derive(Drop)]
@@ -104,7 +106,7 @@ fn gather_second(row: &Looked, x: Term, found: &mut Vec<InstanceName>) -> Result
     Ok(())
 }
 
-// Adds false instances of the row, until there are so many.
+// Adds false instances of the row, until the list has so many.
 fn gather(row: &Looked, most: usize, found: &mut Vec<InstanceName>) -> Result<(), AllocError>
     requires looked { IsLooked row.now }
     requires room { length found.old.items < most }
@@ -125,13 +127,12 @@ fn gather_row(
     structure: &Structure,
     version: u8,
     words: &[u32],
-    most: usize,
     found: &mut Vec<InstanceName>,
 ) -> Result<(), AllocError>
     requires version { version < structure.now.sizes.versions }
     requires words { AreWords (interpretation_of structure.now) version structure.now.sizes.terms words.now }
-    requires most { 1 ≤ most }
-    ensures { OnOk result ((r : AxiomRow) → row_with number table ≡ Some r → Gathers structure.now.sizes (interpretation_of structure.now) found.old.items found.new.items (RowHolds structure.now.sizes (interpretation_of structure.now) version r)) }
+    ensures gathers { OnOk result ((r : AxiomRow) → row_with number table ≡ Some r → Gathers structure.now.sizes (interpretation_of structure.now) found.old.items found.new.items (RowHolds structure.now.sizes (interpretation_of structure.now) version r)) }
+    ensures named { OnOk result ((r : AxiomRow) → row_with number table ≡ Some r → IsNamed structure.now.sizes (interpretation_of structure.now) version found.new.items r) }
 {
     if let Some(row) = row_numbered(number) {
         let looked = Looked {
@@ -142,7 +143,7 @@ fn gather_row(
             version,
             words,
         };
-        gather(&looked, found.len().saturating_add(most), found)?;
+        gather(&looked, found.len().saturating_add(MOST), found)?;
     }
     Ok(())
 }
@@ -151,18 +152,17 @@ fn gather_row(
 fn gather_version(
     structure: &Structure,
     version: u8,
-    most: usize,
     found: &mut Vec<InstanceName>,
 ) -> Result<(), AllocError>
     requires version { version < structure.now.sizes.versions }
-    requires most { 1 ≤ most }
-    ensures { OnOk result (Gathers structure.now.sizes (interpretation_of structure.now) found.old.items found.new.items (VersionHolds structure.now.sizes (interpretation_of structure.now) version)) }
+    ensures gathers { OnOk result (Gathers structure.now.sizes (interpretation_of structure.now) found.old.items found.new.items (VersionHolds structure.now.sizes (interpretation_of structure.now) version)) }
+    ensures named { OnOk result (AreNamed structure.now.sizes (interpretation_of structure.now) version found.new.items) }
 {
     if structure.terms() > 32 {
-        return gather_rows(structure, version, &[], most, found);
+        return gather_rows(structure, version, &[], found);
     }
     let words = words_of(structure, version);
-    gather_rows(structure, version, &words, most, found)
+    gather_rows(structure, version, &words, found)
 }
 
 // Adds some false instances of each row in a version, of which the words are there.
@@ -170,35 +170,33 @@ fn gather_rows(
     structure: &Structure,
     version: u8,
     words: &[u32],
-    most: usize,
     found: &mut Vec<InstanceName>,
 ) -> Result<(), AllocError>
     requires version { version < structure.now.sizes.versions }
     requires words { AreWords (interpretation_of structure.now) version structure.now.sizes.terms words.now }
-    requires most { 1 ≤ most }
-    ensures { OnOk result (Gathers structure.now.sizes (interpretation_of structure.now) found.old.items found.new.items (VersionHolds structure.now.sizes (interpretation_of structure.now) version)) }
+    ensures gathers { OnOk result (Gathers structure.now.sizes (interpretation_of structure.now) found.old.items found.new.items (VersionHolds structure.now.sizes (interpretation_of structure.now) version)) }
+    ensures named { OnOk result (AreNamed structure.now.sizes (interpretation_of structure.now) version found.new.items) }
 {
     for number in 1..16 {
-        gather_row(number, structure, version, words, most, found)?;
+        gather_row(number, structure, version, words, found)?;
     }
     Ok(())
 }
 
-/// Names of instances that are false in a structure: of each row and version, for each pair of leading terms, the first
-/// one; no further first term is looked at once `most` of that row and version were found. There is none only where every
-/// instance holds.
+/// Names of instances that are false in a structure: of each row and version in which there is one, the first one and
+/// some others.
 pub fn false_instances(
     alloc: Global,
     structure: &Structure,
-    most: usize,
 ) -> Result<Vec<InstanceName>, AllocError>
-    requires { 1 ≤ most }
     ensures each { IfOk result (λ found. All (IsFalseInstance structure.now.sizes (interpretation_of structure.now)) found.items) }
+    ensures named { IfOk result (λ found. (version : ℕ) → version < structure.now.sizes.versions → AreNamed structure.now.sizes (interpretation_of structure.now) version found.items) }
+    ensures first { IfOk result (λ found. (name : GhostName) → IsFirstFalse structure.now.sizes (interpretation_of structure.now) name → Contains found.items name) }
     ensures none { IfOk result (λ found. found.items ≡ [] → AreInstancesTrue structure.now.sizes (interpretation_of structure.now)) }
 {
     let mut found = Vec::new(alloc);
     for version in 0..structure.versions() {
-        gather_version(structure, version, most, &mut found)?;
+        gather_version(structure, version, &mut found)?;
     }
     Ok(found)
 }

@@ -1,6 +1,6 @@
 //! All instances, in order.
 
-ghost use Rattle.std.specs.Prelude.{◌≡◌, ℕ, ◌<◌, ◌≤◌, ◌^◌, ◌*◌, Some, slice_get, map, option_map};
+ghost use Rattle.std.specs.Prelude.{◌≡◌, ◌<◌, ◌≤◌, ◌^◌, ◌*◌, Some, slice_get, map, option_map};
 ghost use Rattle.std.specs.Iterator.{YieldsFirst, item_count};
 ghost use Rattle.gh_inst.specs.Tuples.{tuples};
 ghost use Rattle.gh_inst.specs.Table.{AxiomRow, table, row_with};

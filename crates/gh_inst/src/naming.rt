@@ -1,11 +1,11 @@
 //! Names of instances, and their clauses.
 
-ghost use Rattle.std.specs.Prelude.{◌≡◌, ◌<◌, ◌≤◌, ◌↔◌, IsTrue, IsSome, IfSome, All, MatchOption, take, length, Some, None, option_map};
+ghost use Rattle.std.specs.Prelude.{◌≡◌, ◌<◌, ◌≤◌, ◌↔◌, IsTrue, IsSome, IfSome, All, take, Some, None};
 ghost use Rattle.gh_base.specs.declared.sizes.Sizes.{Sizes};
 ghost use Rattle.gh_base.specs.Atoms.{AreInRange};
 ghost use Rattle.gh_inst.specs.Schemas.{clause_over};
 ghost use Rattle.gh_inst.specs.Table.{variables_of, lits_of};
-ghost use Rattle.gh_inst.specs.Instances.{IsInstance, clause_of, tuple_of};
+ghost use Rattle.gh_inst.specs.Instances.{IsInstance, clause_of};
 
 use crate::schema::clause_at;
 use crate::table::{Row, row_numbered};

@@ -1,6 +1,6 @@
 //! Axiom rows over variables, and their clauses at some terms.
 
-ghost use Rattle.std.specs.Prelude.{◌≡◌, ◌<◌, ◌≤◌, All, take};
+ghost use Rattle.std.specs.Prelude.{◌≡◌, ◌<◌, All, take};
 ghost use Rattle.gh_inst.specs.Schemas.{IsSchema, places_of, term_at, lit_over, clause_over};
 
 use gh_base::atom::{Atom, Lit, Term};

@@ -1,6 +1,6 @@
 //! The tuples of terms in lexicographic order, by one odometer for every length.
 
-ghost use Rattle.std.specs.Prelude.{◌≡◌, ℕ, ◌<◌, ◌≤◌, ◌^◌, Some, slice_get};
+ghost use Rattle.std.specs.Prelude.{◌≡◌, ◌<◌, ◌≤◌, ◌^◌, Some, slice_get};
 ghost use Rattle.gh_inst.specs.Tuples.{tuples};
 
 use gh_base::atom::Term;

@@ -6,7 +6,7 @@ ghost use Rattle.gh_base.specs.Meaning.{IsLitTrue, IsClauseTrue};
 ghost use Rattle.gh_base.specs.Structures.{interpretation_of};
 ghost use Rattle.gh_inst.specs.Table.{AxiomRow, table, row_with, row_of, variables_of};
 ghost use Rattle.gh_inst.specs.Tuples.{tuples};
-ghost use Rattle.gh_inst.specs.Instances.{name_of, row_instances, instances, IsInstance};
+ghost use Rattle.gh_inst.specs.Instances.{name_of, row_instances, IsInstance};
 ghost use Rattle.gh_inst.specs.Violations.{IsInstanceTrue, AreInstancesTrue, IsFirstFalse};
 ghost use Rattle.gh_inst.specs.Search.{IsSearched};
 

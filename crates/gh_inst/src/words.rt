@@ -1,13 +1,13 @@
 //! Betweenness of one version in words, a bit for each third term, and the next terms that they leave open.
 
-ghost use Rattle.std.specs.Prelude.{◌≡◌, ◌≢◌, ◌<◌, ◌≤◌, ◌+◌, ◌*◌, ℕ, List, IsTrue, All, IfSome, Some, None, length, slice_get, take};
+ghost use Rattle.std.specs.Prelude.{◌≡◌, ◌≢◌, ◌<◌, ◌≤◌, ◌+◌, ◌*◌, ℕ, List, All, IfSome, Some, None, length, slice_get, take};
 ghost use Rattle.std.specs.Int.{bit_at};
 ghost use Rattle.gh_base.specs.declared.atom.Term.{Term as GhostTerm};
 ghost use Rattle.gh_base.specs.Meaning.{Interpretation};
 ghost use Rattle.gh_base.specs.Structures.{interpretation_of};
 ghost use Rattle.gh_inst.specs.declared.schema.Shape.TheVariants.{Btwn as OnTerms, Hop as OnCell};
 ghost use Rattle.gh_inst.specs.Search.{IsAmong};
-ghost use Rattle.gh_inst.specs.Words.{bit_of, is_between, is_hop, AreWords, IsPair, AreTruths, AreFalse, IsLitOpen, IsOpen};
+ghost use Rattle.gh_inst.specs.Words.{bit_of, is_between, is_hop, AreWords, AreTruths, AreFalse, IsLitOpen, IsOpen};
 
 use crate::schema::{Pattern, Shape};
 use gh_base::atom::{Atom, Term};

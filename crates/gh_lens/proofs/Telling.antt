@@ -1,13 +1,9 @@
 -- The traces that are told.
-use Rattle.std.specs.Prelude.{◌≡◌, ◌⊎◌, ℕ, suc, ◌-◌, ◌<◌, ◌≤◌, List, [], ◌∷◌, ◌++◌, length, map, Option, Some, None, slice_get, codes, Any, Contains}
-use Rattle.std.proofs.Common.{refl, sym, ◌∙◌, ap, subst, inl, inr, arith}
-use Rattle.std.proofs.lemmas.List.Elements.{Contains-append_cases}
-use Rattle.std.proofs.lemmas.Option.{slice_get_within, get_or_from_slice_get}
+use Rattle.std.specs.Prelude.{◌≡◌, ℕ, ◌-◌, List, [], ◌∷◌, ◌++◌, length, map, Option, Some, None, slice_get, codes}
+use Rattle.std.proofs.Common.{refl, sym, ◌∙◌, ap, subst}
 use Rattle.gh_ast.specs.Plain.{Procedure, Program}
-use Rattle.gh_ast.proofs.Lists.{member_first, member_later, no_member}
-use Rattle.gh_path.specs.Admitted.{IsAdmitted}
 use Rattle.gh_path.specs.Answers.{IsNumbered}
-use Rattle.gh_path.specs.Conditions.{Condition, conditions_of, from_procedures, conditions}
+use Rattle.gh_path.specs.Conditions.{Condition, conditions}
 use Rattle.gh_path.specs.Graphs.{PathStep}
 use Rattle.gh_path.specs.Kept.{AreSteps, IsKind}
 use Rattle.gh_path.specs.declared.condition.Condition as kept
@@ -21,34 +17,6 @@ use Rattle.gh_trace.specs.Replay.{Drawn, Refutes, FirstFailure}
 use Rattle.gh_trace.specs.Traces.{Passes, last_state}
 use Rattle.gh_lens.specs.Misses.{IsFailing, IsFailingOr}
 use Rattle.gh_lens.specs.Stories.{TellsStep, AreTold, TellsSteps, last_of, TellsHeading, IsOf, IsStoryOr, IsShownBy, IsShown, IsToldOf, IsToldFor, PassesAtEnd}
-
--- as many steps are kept
-as_many : (P : Program) (p : Procedure) (rs : List kept_step.PathStep) (ss : List PathStep) → AreSteps P p rs ss → length rs ≡ length ss
-as_many P p [] [] are = refl
-as_many P p [] (s ∷ ss) are = absurd are
-as_many P p (r ∷ rs) [] are = absurd are
-as_many P p (r ∷ rs) (s ∷ ss) are = ap suc (as_many P p rs ss are.1)
-
--- a condition of the list has no property that no procedure has a condition with
-none_has : (Q : Condition → Type 0) (ps : List Procedure) (c : Condition) → Contains (from_procedures ps) c → ((p : Procedure) → Contains ps p → Any Q (conditions_of p) → ⊥) → Q c → ⊥
-none_has Q [] c there none holds = no_member c there
-none_has Q (p ∷ ps) c there none holds = elim (Contains-append_cases (conditions_of p) (from_procedures ps) c there) [
-  | inl (k, within, is) ↦ none p (member_first p ps) (k, c, within, is, holds)
-  | inr later ↦ none_has Q ps c later (λ q in_rest. none q (member_later p q ps in_rest)) holds
-]
-
-not_over : (n m : ℕ) → (n < m → ⊥) → m ≤ n
-not_over n m h = elim (either n m) [ inl less ↦ absurd (h less) | inr more ↦ more ]
-  where
-    either : (n m : ℕ) → (n < m) ⊎ (m ≤ n)
-    either n m = grind arith
-
--- a condition of an admitted program has few steps
-pub few_steps : (P : Program) (n : ℕ) (r : kept.Condition) → IsAdmitted P → IsNumbered P n (Some r) → length r.steps.items ≤ 256
-few_steps P n r admitted (c, low, there, stands) =
-    let member : Contains (conditions P) c = (n - 1, slice_get_within (conditions P) (n - 1) c there, get_or_from_slice_get (conditions P) (n - 1) c c there) in
-    let short : length c.way.steps ≤ 256 = not_over 256 (length c.way.steps) (λ many. none_has (λ d. 256 < length d.way.steps) P.procedures c member admitted.steps many) in
-    subst (λ z. z ≤ 256) (sym (as_many P c.procedure r.steps.items c.way.steps stands.steps)) short
 
 last_same : (x : kept_state.State) (ys : List kept_state.State) → last_state (state_of x) (map (λ (d : Drawn). d.state) (map drawn ys)) ≡ state_of (last_of x ys)
 last_same x [] = refl

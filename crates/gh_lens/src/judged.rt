@@ -96,12 +96,14 @@ pub fn verdicts<T: Progress>(
 {
     let mut all = Vec::new(alloc);
     let count = conditions.count();
+    let mut walk = conditions.walk(alloc);
     for place in 0..count {
         let number = place + 1;
-        let Some(condition) = conditions.condition(alloc, number)? else {
+        let more = walk.advance()?;
+        if !more {
             unreachable!();
-        };
-        let judged = judge(alloc, typed, number, &condition)?;
+        }
+        let judged = judge(alloc, typed, number, walk.condition())?;
         all.push(judged)?;
         progress.settled(number, count);
     }

@@ -1,7 +1,6 @@
 //! Whether some heap meets each contract and each invariant of a program.
 
-ghost use Rattle.std.specs.Prelude.{◌≡◌, ◌∷◌, [], ◌++◌, List, map, IfOk};
-ghost use Rattle.std.specs.List.{flat_map};
+ghost use Rattle.std.specs.Prelude.{◌≡◌, map, IfOk};
 ghost use Rattle.gh_ast.specs.Plain.{formula_of, procedure_of, program_of};
 ghost use Rattle.gh_ast.specs.Questions.{leaf, either, claim_of, claims_of, question_of};
 ghost use Rattle.gh_path.specs.Walking.{loop_of};

@@ -1,6 +1,6 @@
 //! Logs, their sections and lines.
 
-ghost use Rattle.std.specs.Prelude.{◌≡◌, ◌<◌, ◌≤◌, ◌∷◌, ◌++◌, [], length, slice_get, Some, IfOk, OnOk, OnErr};
+ghost use Rattle.std.specs.Prelude.{◌≡◌, ◌<◌, ◌∷◌, ◌++◌, [], length, slice_get, Some, IfOk, OnOk, OnErr};
 ghost use Rattle.gh_log.specs.Lines.{Hinted};
 ghost use Rattle.gh_log.specs.Tables.{line_of, part_of, hinted_at, line_at};
 ghost use Rattle.gh_log.specs.Tables.{IsWithin, HasClause, HasParts, IsAdded, Extends};

@@ -1,7 +1,7 @@
 //! Atoms, literals and clauses in a text.
 
-ghost use Rattle.std.specs.Prelude.{◌∷◌, [], IfOk};
-ghost use Rattle.gh_log.specs.Reading.{IsLogPart, SpellsAtom, SpellsLit, SpellsClause, SpellsShown, SpellsNumbers, SpellsBytes};
+ghost use Rattle.std.specs.Prelude.{◌∷◌};
+ghost use Rattle.gh_log.specs.Reading.{IsLogPart, SpellsAtom, SpellsLit, SpellsClause, SpellsShown, SpellsNumbers};
 
 use crate::cursor::Reader;
 use crate::error::Refusal;

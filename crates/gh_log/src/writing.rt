@@ -1,6 +1,6 @@
 //! Writing a log.
 
-ghost use Rattle.std.specs.Prelude.{◌≡◌, ◌∷◌, ◌++◌, [], take, codes, OnOk, IfOk};
+ghost use Rattle.std.specs.Prelude.{◌≡◌, ◌++◌, [], codes, OnOk, IfOk};
 ghost use Rattle.std.specs.List.{flat_map};
 ghost use Rattle.std.specs.Fmt.{decimal};
 ghost use Rattle.gh_log.specs.Texts.{Adds, dotted, atom_text, sign_text, lits_text, term_text, numbers_text, line_text, section_text, log_text};

@@ -1,6 +1,6 @@
 //! Stores of procedures that begin, and values that are given.
 
-ghost use Rattle.std.specs.Prelude.{◌≡◌, ◌≢◌, ◌↔◌, ◌++◌, IfOk, IsTrue, None, OnOk, OnErr, OnSome, length, map, AllPairs, Contains};
+ghost use Rattle.std.specs.Prelude.{◌≡◌, ◌≢◌, ◌↔◌, ◌++◌, IfOk, IsTrue, None, OnOk, OnSome, length, map, AllPairs, Contains};
 ghost use Rattle.std.specs.FinMap as finite;
 ghost use Rattle.gh_ast.specs.Plain.{procedure_of, statements_view};
 ghost use Rattle.gh_ast.specs.Programs.{names, variable_names, body_of};

@@ -1,6 +1,6 @@
 -- The trace of an interpretation of a condition's terms.
-use Rattle.std.specs.Prelude.{ℕ, zero, suc, List, [], ◌∷◌, length, Option, Some, None, Bool, not, ◌&&◌, ◌==◌, cond}
-use Rattle.std.specs.FinMap.{empty, insert}
+use Rattle.std.specs.Prelude.{◌≡◌, ℕ, zero, suc, ◌<◌, List, [], ◌∷◌, length, Option, Some, None, Bool, not, ◌&&◌, ◌==◌, cond, Contains}
+use Rattle.std.specs.FinMap.{empty, insert, get}
 use Rattle.gh_base.specs.Meaning.{Interpretation}
 use Rattle.gh_ast.specs.Plain.{Program}
 use Rattle.gh_ast.specs.Rules.{IsTyped}
@@ -14,9 +14,10 @@ use Rattle.gh_model.specs.Abstraction.{IsModelOf}
 use Rattle.gh_trace.specs.Traces.{State}
 use Rattle.gh_trace.specs.Validity.{AreCounterexample}
 use Rattle.gh_model.specs.BuiltHeaps.{first}
-use Rattle.gh_model.specs.Classes.{numbers, class_of}
+use Rattle.gh_model.specs.Classes.{numbers, class_of, classes}
 use Rattle.gh_model.specs.Versions.{equal_in, version_of}
 use Rattle.gh_model.specs.TermValues.{version_after}
+use Rattle.gh_model.specs.Depictions.{IsHeapDepicted}
 
 -- the value of a variable: that of its term, or 0 where it has none
 abbrev pub value_under : (ℕ → ℕ) → Option ℕ → ℕ
@@ -64,3 +65,16 @@ built_trace P c m = states_under m (length (symbolic_of P c).terms) (versions_al
 -- the trace of a model of a condition is a counterexample
 abbrev pub LocalityHolds : Type 0
 LocalityHolds = (P : Program) (c : Condition) (m : Interpretation) → IsTyped P → IsCondition P c → IsModelOf P c m → AreCounterexample P c (built_trace P c m)
+
+-- a heap that version i depicts over the values V: its cells stand at values and contain values
+pub record IsVersionBuilt (V : List ℕ) (m : Interpretation) (i : ℕ) (h : Heap) : Type 0 where
+  pub proper : get h 0 ≡ None
+  pub named : (x v : ℕ) → get h x ≡ Some v → Contains V x × Contains V v
+  pub depicted : IsHeapDepicted V m i h
+
+-- in each version of a model of a condition the cells form a heap whose places are those that are allocated, whose
+-- contents are the hops, and whose Between is that of the version; the values are the classes of the terms
+abbrev pub VersionsAreBuilt : Type 0
+VersionsAreBuilt =
+    (P : Program) (c : Condition) (m : Interpretation) (i : ℕ) → IsModelOf P c m → i < (symbolic_of P c).versions →
+    let n = length (symbolic_of P c).terms in IsVersionBuilt (classes (equal_in m) n) m i (heap_in m n i)

@@ -11,7 +11,7 @@ use Rattle.gh_assert.specs.Meaning.{Store}
 use Rattle.gh_path.specs.Conditions.{Condition, IsCondition}
 use Rattle.gh_grass.specs.declared.binding.Bond.{Bond}
 use Rattle.gh_grass.specs.Bindings.{term_in}
-use Rattle.gh_symb.specs.Phases.{value_in}
+use Rattle.gh_symb.specs.Inside.{binding_of}
 use Rattle.gh_symb.specs.declared.over_terms.TermStep.{TermStep}
 use Rattle.gh_symb.specs.declared.over_terms.TermStep.TheVariants.{Access, Assume, Same, Write, New, Free, Part}
 use Rattle.gh_trace.specs.declared.state.State.{State}
@@ -27,7 +27,7 @@ abbrev pub entries_under : Store → List Name → List Entry
 entries_under s xs = map (λ x. record { name = x; value = s x }) xs
 
 abbrev pub store_in : Tables → List Bond → Store
-store_in s b = store_under (class_of (equal_in (interpretation_of s)) s.sizes.terms) (value_in b)
+store_in s b = store_under (class_of (equal_in (interpretation_of s)) s.sizes.terms) (binding_of b)
 
 abbrev pub state_in : Tables → List Name → ℕ → List Bond → State
 state_in s xs i b = record { store = entries_under (store_in s b) xs; heap = heap_in (interpretation_of s) s.sizes.terms i }

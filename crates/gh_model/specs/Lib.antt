@@ -13,7 +13,8 @@ pub mod StepFormulas
 pub mod Abstraction
 pub mod Laws
 pub mod Sections
-pub mod BuiltTraces
 pub mod Depictions
+pub mod ReadingLaws
+pub mod BuiltTraces
 pub mod BoundVariables
 pub mod KeptTraces

@@ -1,11 +1,11 @@
 //! Heaps and traces of structures.
 
-ghost use Rattle.std.specs.Prelude.{◌≡◌, ◌≢◌, ◌≤◌, ◌<◌, ◌++◌, IfOk, OnOk, AllPairs, length, drop};
+ghost use Rattle.std.specs.Prelude.{◌≡◌, ◌≢◌, ◌<◌, ◌++◌, IfOk, OnOk, AllPairs, length, drop};
 ghost use Rattle.gh_base.specs.Structures.{interpretation_of};
 ghost use Rattle.gh_ast.specs.Plain.{procedure_of, program_of};
 ghost use Rattle.gh_path.specs.Conditions as plain;
 ghost use Rattle.gh_path.specs.Kept.{StandsFor};
-ghost use Rattle.gh_symb.specs.Encodings.{IsSymbolic};
+ghost use Rattle.gh_symb.specs.Encoded.{IsSymbolic};
 ghost use Rattle.gh_trace.specs.Kept.{IsOfProgram, drawn_of};
 ghost use Rattle.gh_ast.specs.Programs.{names, variable_names};
 ghost use Rattle.gh_ast.specs.Occurrences.{locals_of};
@@ -179,11 +179,11 @@ fn after(step: &TermStep<'_>, version: u8) -> u8
 }
 
 // The version after the step of a number, if there is one.
-fn next_version(steps: &[TermStep<'_>], number: u16, version: u8) -> u8
+fn next_version(steps: &[TermStep<'_>], number: usize, version: u8) -> u8
     requires { version < 255 }
     ensures { result ≡ after_first (drop number steps.now) version }
 {
-    match steps.get(usize::from(number)) {
+    match steps.get(number) {
         Some(step) => after(step, version),
         None => version,
     }
@@ -196,19 +196,16 @@ fn states(
     structure: &Structure,
     procedure: &Procedure,
 ) -> Result<Trace, AllocError>
-    requires few { length symbolic.now.bindings.items ≤ 257 }
     requires all { HasAll structure.now 0 symbolic.now.steps.items symbolic.now.bindings.items }
     requires distinct { AllPairs (λ x y. x ≢ y) (variable_names (procedure_of procedure.now)) }
     ensures { IfOk result (λ t. t.states.items ≡ states_in structure.now (variable_names (procedure_of procedure.now)) 0 symbolic.now.steps.items symbolic.now.bindings.items) }
 {
     let _versions = structure.versions();
     let mut states = Vec::new(alloc);
-    let mut number = 0;
     let mut version = 0;
-    while let Some(binding) = symbolic.binding(number) {
+    for (number, binding) in symbolic.bindings().iter().enumerate() {
         states.push(state(alloc, structure, binding, procedure, version)?)?;
         version = next_version(symbolic.steps(), number, version);
-        number += 1;
     }
     Ok(Trace { states })
 }
@@ -221,7 +218,6 @@ pub fn build(
     symbolic: &Symbolic<'_>,
     structure: &Structure,
 ) -> Result<Trace, AllocError>
-    requires few { length condition.now.steps.items ≤ 256 }
     requires of { (c : plain.Condition) × IsOfProgram (program_of typed.now) condition.now c }
     requires told { (c : plain.Condition) → StandsFor (program_of typed.now) condition.now c → IsSymbolic (program_of typed.now) c symbolic.now }
     requires terms { structure.now.sizes.terms ≡ length symbolic.now.terms }

@@ -3,7 +3,8 @@
 ghost use Rattle.gh_model.specs.StepLaws.{WritesAreRepresented, NewsAreRepresented, FreesAreRepresented, CallsAreRepresented};
 ghost use Rattle.gh_model.specs.Abstraction.{TracesSatisfy, TracesGiveModels};
 ghost use Rattle.gh_model.specs.Depictions.{TracesAreDepicted};
-ghost use Rattle.gh_model.specs.BuiltTraces.{LocalityHolds};
+ghost use Rattle.gh_model.specs.BuiltTraces.{LocalityHolds, VersionsAreBuilt};
+ghost use Rattle.gh_model.specs.ReadingLaws.{FormulasAreRead};
 ghost use Rattle.gh_model.specs.BoundVariables.{OnlyVariablesHaveTerms};
 ghost use Rattle.gh_model.specs.KeptTraces.{BuiltIsCounterexample};
 ghost use Rattle.gh_model.specs.StepFormulas.{WritesArePreserved, NewsArePreserved, FreesArePreserved, CallsArePreserved};
@@ -170,6 +171,17 @@ pub fn traces_are_depicted()
 /// Where a section is valid for a condition's clauses, the condition has no counterexample.
 pub fn sections_show_validity()
     ensures { SectionsShowValidity }
+{}
+
+/// The reading law: in an interpretation that depicts an owned heap, the formulas of an assertion over terms say exactly
+/// where a part of the heap meets it, which terms lie in that part, and where the whole heap meets it.
+pub fn formulas_are_read()
+    ensures { FormulasAreRead }
+{}
+
+/// In each version of a model of a condition the heap that is built has the version's cells, hops and betweenness.
+pub fn versions_are_built()
+    ensures { VersionsAreBuilt }
 {}
 
 /// The trace of an interpretation in which the axioms and the clauses of a condition are true is a counterexample.

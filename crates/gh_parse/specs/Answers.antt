@@ -1,15 +1,18 @@
 -- What the parser answers for a rule of the grammar.
-use Rattle.std.specs.Prelude.{◌≡◌, List, [], ◌∷◌, Bool, cond, ⊤, Result, MatchResult}
+use Rattle.std.specs.Prelude.{◌≡◌, List, [], ◌∷◌, Bool, cond, ⊤, Option, MatchOption, MatchBool, Result, MatchResult}
 use Rattle.gh_base.specs.declared.place.Span.{Span}
 use Rattle.gh_ast.specs.declared.Occ.{Occ}
 use Rattle.gh_ast.specs.declared.sign.Sign as signs
 use Rattle.gh_ast.specs.declared.sign.Sign.TheVariants as sg
 use Rattle.gh_ast.specs.declared.sign.Keyword as words
+use Rattle.gh_ast.specs.Grammar.{NoSign, NoKey}
 use Rattle.gh_ast.specs.Tokens.{Token, named, key, sign}
 use Rattle.gh_ast.specs.Place.{begin_of}
 use Rattle.gh_parse.specs.Stops.{NoToken, Any, Stops}
 use Rattle.gh_parse.specs.declared.error.ReadError.{ReadError}
 use Rattle.gh_parse.specs.declared.error.ReadError.TheVariants.{Unexpected, OutOfMemory}
+use Rattle.gh_parse.specs.Views.{tokens_of}
+use Rattle.gh_parse.specs.declared.cursor.Parser.{Parser}
 use Rattle.gh_parse.specs.declared.cursor.Ahead.{Ahead}
 use Rattle.gh_parse.specs.declared.cursor.Ahead.TheVariants.{Name, Key, Sign, End}
 
@@ -21,6 +24,21 @@ IsRuleRefusal Follows P ts left OutOfMemory = ⊤
 -- the answer is what the rule spells at the front, or reading stops where the tokens are left
 abbrev pub IsRuleRead : {X Y : Type 0} → (List Token → Type 0) → (List Token → X → List Token → Type 0) → List Token → (Y → X) → Result Y ReadError → List Token → Type 0
 IsRuleRead Follows P ts view answer left = MatchResult answer (λ y. P ts (view y) left) (IsRuleRefusal Follows (Any P) ts left)
+
+-- the tokens that a parser has left
+abbrev pub left_of : Parser → List Token
+left_of parser = tokens_of parser.rest.now
+
+-- the same of what a parser has left before and after
+abbrev pub IsRead : {X Y : Type 0} → (List Token → Type 0) → (List Token → X → List Token → Type 0) → Parser → (Y → X) → Result Y ReadError → Parser → Type 0
+IsRead Follows P old view answer new = IsRuleRead Follows P (left_of old) view answer (left_of new)
+
+-- a sign is taken where it is next, and a reserved word likewise
+abbrev pub IsSignTaken : signs.Sign → Parser → Option Span → Parser → Type 0
+IsSignTaken s old found new = MatchOption found (NoSign s (left_of old)) (λ p. left_of old ≡ sign s p ∷ left_of new)
+
+abbrev pub IsKeyTaken : words.Keyword → Parser → Option Span → Parser → Type 0
+IsKeyTaken k old found new = MatchOption found (NoKey k (left_of old)) (λ p. left_of old ≡ key k p ∷ left_of new)
 
 -- a token that isn't there: nothing is taken
 pub record IsGap {X : Type 0} (k : X → Token) (ts left : List Token) : Type 0 where
@@ -41,6 +59,13 @@ HasSign s ts = (p : Span) × (rest : List Token) × (ts ≡ sign s p ∷ rest)
 
 abbrev pub HasKey : words.Keyword → List Token → Type 0
 HasKey k ts = (p : Span) × (rest : List Token) × (ts ≡ key k p ∷ rest)
+
+-- whether it is
+abbrev pub IsSignNext : signs.Sign → Parser → Bool → Type 0
+IsSignNext s parser answer = MatchBool answer (HasSign s (left_of parser)) (NoSign s (left_of parser))
+
+abbrev pub IsKeyNext : words.Keyword → Parser → Bool → Type 0
+IsKeyNext k parser answer = MatchBool answer (HasKey k (left_of parser)) (NoKey k (left_of parser))
 
 -- the next token is of this kind
 abbrev pub IsAhead : Ahead → List Token → Type 0

@@ -1,7 +1,8 @@
 -- What the lexer answers.
-use Rattle.std.specs.Prelude.{◌≡◌, ℕ, ◌+◌, ◌<◌, List, [], ◌∷◌, ◌++◌, length, take, drop, Option, Some, None, Bool, IsTrue, ◌↔◌, codes}
+use Rattle.std.specs.Prelude.{◌≡◌, ℕ, ◌+◌, ◌<◌, List, [], ◌∷◌, ◌++◌, length, take, drop, Option, Some, None, MatchOption, Bool, IsTrue, ◌↔◌, codes}
 use Rattle.gh_base.specs.declared.place.Span.{Span}
-use Rattle.gh_ast.specs.Tokens.{Token, cleared, moved_over, first_place, IsPiece, IsTokens, IsStuck}
+use Rattle.gh_ast.specs.declared.sign.Sign.{Sign}
+use Rattle.gh_ast.specs.Tokens.{Token, sign_text, cleared, moved_over, first_place, IsPiece, IsLongest, IsTokens, IsStuck}
 use Rattle.gh_parse.specs.Views.{symbol_at, symbol_text}
 use Rattle.gh_parse.specs.declared.token.Symbol.{Symbol}
 use Rattle.gh_parse.specs.declared.lexer.Piece.{Piece}
@@ -9,6 +10,10 @@ use Rattle.gh_parse.specs.declared.lexer.Piece.{Piece}
 -- the text begins with w
 abbrev pub BeginsWith : List ℕ → List ℕ → Type 0
 BeginsWith w text = (rest : List ℕ) × (text ≡ w ++ rest)
+
+-- the sign is in front and none longer is; or no sign is
+abbrev pub IsSignFound : List ℕ → Option Sign → Type 0
+IsSignFound text found = MatchOption found ((s : Sign) → BeginsWith (sign_text s) text → ⊥) (λ s. BeginsWith (sign_text s) text × IsLongest s text)
 
 -- a comment begins
 abbrev pub IsCommentAhead : List ℕ → Type 0

@@ -1,5 +1,5 @@
 -- What the parser answers for a text.
-use Rattle.std.specs.Prelude.{◌≡◌, ℕ, List, Bool, true, false, ⊤, Result, Ok, Err}
+use Rattle.std.specs.Prelude.{◌≡◌, ℕ, List, Bool, true, false, ⊤, Result, Ok, Err, MatchResult}
 use Rattle.gh_ast.specs.Tokens.{Token, HasTokens, IsFirstByte, IsFirstDeep}
 use Rattle.gh_ast.specs.Plain.{Program}
 use Rattle.gh_ast.specs.Questions.{Question}
@@ -9,9 +9,11 @@ use Rattle.gh_ast.specs.QuestionGrammar.{SpellsQuestion}
 use Rattle.gh_ast.specs.Place.{IsPlace}
 use Rattle.gh_ast.specs.Bare.{bare_program}
 use Rattle.gh_ast.specs.Printed.{program_text}
+use Rattle.gh_parse.specs.Views.{tokens_of}
 use Rattle.gh_parse.specs.Scanning.{IsDeepPlace}
 use Rattle.gh_parse.specs.Lexing.{IsLexed}
 use Rattle.gh_parse.specs.Answers.{next_place}
+use Rattle.gh_parse.specs.declared.lexer.Lexed.{Lexed}
 use Rattle.gh_parse.specs.declared.error.ParseError.{ParseError}
 use Rattle.gh_parse.specs.declared.error.ParseError.TheVariants.{Byte, Deep, Syntax, OutOfMemory}
 use Rattle.gh_parse.specs.declared.error.ReadError.{ReadError}
@@ -71,6 +73,10 @@ IsScanRefusal text (Byte offset) = IsFirstByte text offset
 IsScanRefusal text (Deep place) = HasCharacters text × IsDeepPlace text place
 IsScanRefusal text (Syntax place) = ⊥
 IsScanRefusal text OutOfMemory = ⊤
+
+-- the tokens of the text, or why it has none
+abbrev pub IsScan : List ℕ → Result Lexed ParseError → Type 0
+IsScan text answer = MatchResult answer (λ l. IsScanned text (tokens_of l.tokens.items) l.end l.whole) (IsScanRefusal text)
 
 -- what is answered for a text by what a rule of the grammar answers for its tokens: a text that isn't all tokens is refused where they end
 abbrev pub answered : {X : Type 0} → Bool → Span → List Token → Result X ReadError → Result X ParseError

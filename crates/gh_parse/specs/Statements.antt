@@ -1,12 +1,18 @@
 -- Parts of statements that the parser reads by themselves.
-use Rattle.std.specs.Prelude.{◌≡◌, List, ◌∷◌}
+use Rattle.std.specs.Prelude.{◌≡◌, List, ◌∷◌, Option, MatchOption}
 use Rattle.gh_base.specs.declared.place.Span.{Span}
 use Rattle.gh_ast.specs.declared.Occ.{Occ}
 use Rattle.gh_ast.specs.declared.Expr.{Expr}
+use Rattle.gh_ast.specs.declared.Expr.TheVariants.{Plain}
+use Rattle.gh_ast.specs.declared.Operand.TheVariants.{Var}
 use Rattle.gh_ast.specs.declared.sign.Sign.TheVariants as sg
 use Rattle.gh_ast.specs.Plain.{Statement, Part}
 use Rattle.gh_ast.specs.Tokens.{Token, named, sign}
 use Rattle.gh_ast.specs.Grammar.{SpellsValues, SpellsTargets, SpellsStatement, SpellsBlock, SpellsStatements}
+
+-- the variable that the expression is, if it is one
+abbrev pub IsVariableOf : Expr → Option Occ → Type 0
+IsVariableOf e found = MatchOption found ((o : Occ) → e ≡ Plain (Var o) → ⊥) (λ o. e ≡ Plain (Var o))
 
 -- values in brackets, and a semicolon
 pub record SpellsArguments (ts : List Token) (es : List Expr) (rest : List Token) : Type 0 where

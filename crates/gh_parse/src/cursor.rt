@@ -1,11 +1,9 @@
 //! The tokens that are left, and steps over them.
 
-ghost use Rattle.std.specs.Prelude.{◌≡◌, ◌∷◌, IfNone, MatchOption};
-ghost use Rattle.std.specs.Bool.{MatchBool};
-ghost use Rattle.gh_ast.specs.Grammar.{NoSign, NoKey};
+ghost use Rattle.std.specs.Prelude.{◌≡◌, IfNone};
 ghost use Rattle.gh_ast.specs.Tokens.{named, key, sign};
-ghost use Rattle.gh_parse.specs.Views.{token_of, tokens_of};
-ghost use Rattle.gh_parse.specs.Answers.{IsTaken, IsAhead, HasSign, HasKey, next_place};
+ghost use Rattle.gh_parse.specs.Views.{tokens_of};
+ghost use Rattle.gh_parse.specs.Answers.{IsTaken, IsSignTaken, IsKeyTaken, IsAhead, IsSignNext, IsKeyNext, next_place};
 
 use crate::error::ReadError;
 use crate::token::{Symbol, Token};
@@ -57,7 +55,7 @@ impl<'t> Parser<'t> {
 
     /// Takes a sign, where it is next.
     pub fn take_sign(&mut self, wanted: Sign) -> Option<Span>
-        ensures taken { MatchOption result (NoSign wanted (tokens_of self.old.rest.now)) (λ p. tokens_of self.old.rest.now ≡ sign wanted p ∷ tokens_of self.new.rest.now) }
+        ensures taken { IsSignTaken wanted self.old result self.new }
         ensures stays { IfNone result (tokens_of self.new.rest.now ≡ tokens_of self.old.rest.now) }
     {
         match self.rest {
@@ -74,7 +72,7 @@ impl<'t> Parser<'t> {
 
     /// Takes a reserved word, where it is next.
     pub fn take_key(&mut self, wanted: Keyword) -> Option<Span>
-        ensures taken { MatchOption result (NoKey wanted (tokens_of self.old.rest.now)) (λ p. tokens_of self.old.rest.now ≡ key wanted p ∷ tokens_of self.new.rest.now) }
+        ensures taken { IsKeyTaken wanted self.old result self.new }
         ensures stays { IfNone result (tokens_of self.new.rest.now ≡ tokens_of self.old.rest.now) }
     {
         match self.rest {
@@ -91,7 +89,7 @@ impl<'t> Parser<'t> {
 
     /// Whether a sign is next.
     pub fn is_sign(&self, wanted: Sign) -> bool
-        ensures { MatchBool result (HasSign wanted (tokens_of self.now.rest.now)) (NoSign wanted (tokens_of self.now.rest.now)) }
+        ensures { IsSignNext wanted self.now result }
     {
         match self.ahead() {
             Ahead::Sign(s) => s == wanted,
@@ -101,7 +99,7 @@ impl<'t> Parser<'t> {
 
     /// Whether a reserved word is next.
     pub fn is_key(&self, wanted: Keyword) -> bool
-        ensures { MatchBool result (HasKey wanted (tokens_of self.now.rest.now)) (NoKey wanted (tokens_of self.now.rest.now)) }
+        ensures { IsKeyNext wanted self.now result }
     {
         match self.ahead() {
             Ahead::Key(k) => k == wanted,

@@ -1,11 +1,11 @@
 //! The tokens of a text.
 
-ghost use Rattle.std.specs.Prelude.{◌≡◌, ◌≢◌, ◌↔◌, ℕ, ◌+◌, ◌<◌, ◌≤◌, ◌-◌, ◌^◌, ◌++◌, ◌∷◌, [], List, length, take, drop, IsTrue, MatchOption, IfOk, All, true, false};
+ghost use Rattle.std.specs.Prelude.{◌≡◌, ◌≢◌, ◌↔◌, ◌+◌, ◌<◌, ◌≤◌, ◌-◌, ◌^◌, ◌∷◌, [], length, take, drop, IsTrue, MatchOption, IfOk, All, false};
 ghost use Rattle.gh_base.specs.Names.{is_name_byte};
 ghost use Rattle.gh_base.specs.declared.place.Span.{Span};
-ghost use Rattle.gh_ast.specs.Tokens.{is_blank, begins_word, sign_text, keyword_text, cleared, moved_over, IsFree, EndsWord, IsLongest, IsStuck};
+ghost use Rattle.gh_ast.specs.Tokens.{is_blank, sign_text, keyword_text, cleared, moved_over, IsFree, EndsWord, IsStuck};
 ghost use Rattle.gh_parse.specs.Views.{tokens_of};
-ghost use Rattle.gh_parse.specs.Lexing.{BeginsWith, IsCommentAhead, EndsLine, IsSymbolAhead, IsPieceAhead, IsLexed};
+ghost use Rattle.gh_parse.specs.Lexing.{BeginsWith, IsSignFound, IsCommentAhead, EndsLine, IsSymbolAhead, IsPieceAhead, IsLexed};
 
 use crate::scan::after_byte;
 use crate::token::{Symbol, Token, Word};
@@ -118,7 +118,7 @@ fn is_sign_ahead(sign: Sign, text: &[u8]) -> bool
 
 // The longest sign that is at the front.
 fn longest_sign(text: &[u8]) -> Option<Sign>
-    ensures { MatchOption result ((s : Sign) → BeginsWith (sign_text s) text.now → ⊥) (λ s. BeginsWith (sign_text s) text.now × IsLongest s text.now) }
+    ensures { IsSignFound text.now result }
 {
     SIGNS
         .iter()

@@ -1,11 +1,11 @@
 //! From a text to its program, or to its question.
 
-ghost use Rattle.std.specs.Prelude.{◌≡◌, ◌<◌, ◌-◌, ◌^◌, length, IfOk, IfErr, MatchResult};
+ghost use Rattle.std.specs.Prelude.{◌≡◌, ◌<◌, ◌-◌, ◌^◌, length, IfOk, IfErr};
 ghost use Rattle.gh_ast.specs.Plain.{program_of};
 ghost use Rattle.gh_ast.specs.Questions.{question_of};
 ghost use Rattle.gh_ast.specs.WellFormed.{IsWellFormed};
 ghost use Rattle.gh_parse.specs.Views.{tokens_of};
-ghost use Rattle.gh_parse.specs.Parsing.{IsParsed, IsParseRefusal, IsAsked, IsQuestionRefusal, IsScanned, IsScanRefusal, answered, PrintedParse};
+ghost use Rattle.gh_parse.specs.Parsing.{IsParsed, IsParseRefusal, IsAsked, IsQuestionRefusal, IsScan, answered, PrintedParse};
 
 use crate::cursor::Parser;
 use crate::error::{ParseError, ReadError};
@@ -52,7 +52,7 @@ pub fn parse_question(alloc: Global, text: &[u8]) -> Result<Question, ParseError
 // The tokens of a text that has no strange byte, and whose brackets don't nest too deep.
 fn scan<'t>(alloc: Global, text: &'t [u8]) -> Result<Lexed<'t>, ParseError>
     requires { length text.now < 2 ^ 32 - 1 }
-    ensures { MatchResult result (λ l. IsScanned text.now (tokens_of l.tokens.items) l.end l.whole) (IsScanRefusal text.now) }
+    ensures { IsScan text.now result }
 {
     if let Some(offset) = strange_byte(text) {
         return Err(ParseError::Byte { offset });

@@ -2,9 +2,8 @@
 
 ghost use Rattle.gh_ast.specs.QuestionGrammar.{SpellsVariables, SpellsQuestion};
 ghost use Rattle.gh_ast.specs.Questions.{claim_of, question_of};
-ghost use Rattle.gh_parse.specs.Views.{tokens_of};
 ghost use Rattle.gh_parse.specs.Stops.{IsAny, IsEnd};
-ghost use Rattle.gh_parse.specs.Answers.{IsRuleRead};
+ghost use Rattle.gh_parse.specs.Answers.{IsRead};
 ghost use Rattle.gh_parse.specs.Procedures.{IsWhole};
 ghost use Rattle.gh_parse.specs.Questions.{IsLast};
 ghost use Rattle.gh_ast.specs.QuestionGrammar.{SpellsClaim};
@@ -19,7 +18,7 @@ use std::alloc::Global;
 impl<'t> Parser<'t> {
     /// Reads a whole question.
     pub fn question(&mut self, alloc: Global) -> Result<Question, ReadError>
-        ensures { IsRuleRead IsEnd (IsWhole SpellsQuestion) (tokens_of self.old.rest.now) question_of result (tokens_of self.new.rest.now) }
+        ensures { IsRead IsEnd (IsWhole SpellsQuestion) self.old question_of result self.new }
     {
         let variables = self.variables(alloc)?;
         let span = self.expect_key(Keyword::Requires)?;
@@ -36,7 +35,7 @@ impl<'t> Parser<'t> {
 
     // Reads the variables before the word `requires`, which may be missing.
     fn variables(&mut self, alloc: Global) -> Result<Vec<Occ>, ReadError>
-        ensures { IsRuleRead IsAny SpellsVariables (tokens_of self.old.rest.now) (λ v. v.items) result (tokens_of self.new.rest.now) }
+        ensures { IsRead IsAny SpellsVariables self.old (λ v. v.items) result self.new }
     {
         let mut variables = Vec::new(alloc);
         if self.is_key(Keyword::Requires) {
@@ -49,7 +48,7 @@ impl<'t> Parser<'t> {
 
     // Reads a claim after which no token is left.
     fn last_claim(&mut self, alloc: Global) -> Result<Claim, ReadError>
-        ensures { IsRuleRead IsEnd (IsLast SpellsClaim) (tokens_of self.old.rest.now) claim_of result (tokens_of self.new.rest.now) }
+        ensures { IsRead IsEnd (IsLast SpellsClaim) self.old claim_of result self.new }
     {
         let claim = self.claim(alloc)?;
         if !self.is_end() {

@@ -1,5 +1,5 @@
 -- What is kept stands for one condition of a program.
-use Rattle.std.specs.Prelude.{◌≡◌, ◌⊎◌, List, [], ◌∷◌, Bool, true, false, not}
+use Rattle.std.specs.Prelude.{◌≡◌, ◌⊎◌, suc, List, [], ◌∷◌, length, Bool, true, false, not}
 use Rattle.std.proofs.Common.{refl, sym, ◌∙◌, ap, subst, inl, inr}
 use Rattle.gh_ast.specs.declared.Expr.{Expr}
 use Rattle.gh_ast.specs.Plain.{Procedure, Program}
@@ -12,7 +12,14 @@ use Rattle.gh_path.specs.declared.condition.PathStep as kept
 use Rattle.gh_path.specs.declared.condition.PathStep.TheVariants as step
 use Rattle.gh_path.specs.declared.condition.Start as kept_start
 use Rattle.gh_path.specs.declared.condition.Start.TheVariants as start
-use Rattle.gh_path.proofs.WalkLemmas.{same_some}
+use Rattle.gh_path.proofs.ListLemmas.{same_some}
+
+-- as many steps are kept
+pub as_many : (P : Program) (p : Procedure) (rs : List kept.PathStep) (ss : List PathStep) → AreSteps P p rs ss → length rs ≡ length ss
+as_many P p [] [] are = refl
+as_many P p [] (s ∷ ss) are = absurd are
+as_many P p (r ∷ rs) [] are = absurd are
+as_many P p (r ∷ rs) (s ∷ ss) are = ap suc (as_many P p rs ss are.1)
 
 -- a path by cases on its graph
 abbrev Goes : Graph → List PathStep → Check → Type 0

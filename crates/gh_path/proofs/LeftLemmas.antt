@@ -1,5 +1,5 @@
 -- The conditions that a walk has still to give.
-use Rattle.std.specs.Prelude.{◌≡◌, ℕ, zero, suc, ◌+◌, ◌<◌, ◌≤◌, List, [], ◌∷◌, ◌++◌, map, length, drop, Some, None, Ok, Err, Bool, true, false, slice_get}
+use Rattle.std.specs.Prelude.{◌≡◌, ℕ, zero, suc, ◌+◌, ◌-◌, ◌<◌, ◌≤◌, List, [], ◌∷◌, ◌++◌, map, length, drop, Option, Some, None, Ok, Err, Bool, true, false, slice_get}
 use Rattle.std.proofs.Common.{Vec, Global, refl, sym, ◌∙◌, ap, subst, arith}
 use Rattle.std.proofs.lemmas.List.{drop_more}
 use Rattle.std.proofs.lemmas.Option.{slice_get_within, get_or_from_slice_get}
@@ -12,38 +12,100 @@ use Rattle.gh_path.specs.Paths.{Way, ways}
 use Rattle.gh_path.specs.Conditions.{Condition, condition}
 use Rattle.gh_path.specs.Shown.{AreHeld, Shows}
 use Rattle.gh_path.specs.Routes.{AreToCome, IsReached}
-use Rattle.gh_path.specs.Roots.{IsRoot, AreRoots}
-use Rattle.gh_path.specs.Walks.{AreLeft, IsAt, Gives, IsGiven, Lends, lent}
+use Rattle.gh_path.specs.Roots.{AreRoots, AreStarts, IsAfter}
+use Rattle.gh_path.specs.Walks.{AreLeft, IsBefore, IsAt, HasCome, Reaches, Gives, IsGiven, Lends, lent}
 use Rattle.gh_path.specs.declared.condition.Condition as kept
 use Rattle.gh_path.specs.declared.node.Asked.{Asked}
 use Rattle.gh_path.specs.declared.node.Node.{Node}
 use Rattle.gh_path.specs.declared.node.Origin.{Origin}
 use Rattle.gh_path.specs.declared.route.Route.{Route}
 use Rattle.gh_path.specs.declared.starts.Root.{Root}
+use Rattle.gh_path.specs.declared.starts.Starts.{Starts}
 use Rattle.gh_path.specs.declared.walk.Walk.{Walk}
 
--- at the first start
-pub begin_left : (P : Program) (s : Walk) (cs : List Condition) → AreRoots P s.starts.now.nodes s.starts.now.roots.items cs → 0 < length cs → s.next ≡ 1 →
-    ((r : Root) (rs : List Root) → s.starts.now.roots.items ≡ r ∷ rs → s.present ≡ r) →
+-- at a start
+pub at_left : (P : Program) (s : Walk) (cs : List Condition) → AreRoots P s.starts.now.nodes (s.present ∷ drop s.next s.starts.now.roots.items) cs →
     ((p : Procedure) (g : Graph) → Shows P p s.starts.now.nodes s.present.node g → AreToCome P p s.starts.now.nodes s.route.taken.items s.route.onward (ways g)) →
     AreHeld s.starts.now.nodes s.held.items s.condition.steps.items → AreLeft P s cs
-begin_left P s cs roots some one first come held = by_roots s.starts.now.roots.items refl roots
+at_left P s cs (p, a, ds, root, rest, split) come held = record {
+  procedure = p;
+  start = a;
+  ways = ways a.graph;
+  later = ds;
+  root = root;
+  here = come p a.graph root.shows;
+  after = rest;
+  are = split;
+  held = held;
+}
+
+-- at the first one
+pub from_first : (P : Program) (s : Starts) (r : Root) (cs : List Condition) → AreStarts P s cs → 0 < length cs → ((q : Root) (rs : List Root) → s.roots.items ≡ q ∷ rs → r ≡ q) →
+    AreRoots P s.nodes (r ∷ drop 1 s.roots.items) cs
+from_first P s r cs roots some first = by_roots s.roots.items refl roots
   where
-    by_roots : (rs : List Root) → rs ≡ s.starts.now.roots.items → AreRoots P s.starts.now.nodes rs cs → AreLeft P s cs
+    by_roots : (rs : List Root) → rs ≡ s.roots.items → AreRoots P s.nodes rs cs → AreRoots P s.nodes (r ∷ drop 1 s.roots.items) cs
     by_roots [] same none = let empty : length cs ≡ 0 = ap length none in absurd (omega (arith, empty, some))
-    by_roots (r ∷ rs) same (p, a, ds, root, rest, split) =
-        let present : s.present ≡ r = first r rs (sym same) in
-        record {
-          procedure = p;
-          start = a;
-          ways = ways a.graph;
-          later = ds;
-          root = subst (λ q. IsRoot P s.starts.now.nodes q p a) (sym present) root;
-          here = come p a.graph (subst (λ (q : Root). Shows P p s.starts.now.nodes q.node a.graph) (sym present) root.shows);
-          after = subst (λ n. AreRoots P s.starts.now.nodes (drop n s.starts.now.roots.items) ds) (sym one) (subst (λ qs. AreRoots P s.starts.now.nodes (drop 1 qs) ds) same rest);
-          are = split;
-          held = held;
-        }
+    by_roots (q ∷ rs) same are =
+        let here : AreRoots P s.nodes (r ∷ rs) cs = subst (λ (x : Root). AreRoots P s.nodes (x ∷ rs) cs) (sym (first q rs (sym same))) are in
+        subst (λ (qs : List Root). AreRoots P s.nodes (r ∷ drop 1 qs) cs) same here
+
+-- only what is counted changes
+pub left_too : (P : Program) (s : Walk) (cs : List Condition) (given end : ℕ) → AreLeft P s cs → AreLeft P (record s { given = given; end = end }) cs
+left_too P s cs given end left = record {
+  procedure = left.procedure;
+  start = left.start;
+  ways = left.ways;
+  later = left.later;
+  root = left.root;
+  here = left.here;
+  after = left.after;
+  are = left.are;
+  held = left.held;
+}
+
+-- a condition is passed
+drop_one_more : {A : Type 0} (k : ℕ) (xs : List A) → drop 1 (drop k xs) ≡ drop (k + 1) xs
+drop_one_more zero xs = refl
+drop_one_more {A = A} (suc k) [] =
+    let same : suc (k + 1) ≡ suc k + 1 = omega arith in
+    let none : List A = [] in
+    ap (λ n. drop n none) same
+drop_one_more (suc k) (x ∷ xs) =
+    let same : suc (k + 1) ≡ suc k + 1 = omega arith in
+    drop_one_more k xs ∙ ap (λ n. drop n (x ∷ xs)) same
+
+passed : (P : Program) (s t : Walk) (ds : List Condition) (found : Option Asked) → IsBefore P s ds → Reaches s t found → t.given ≡ s.given → t.end ≡ s.end → IsBefore P (record t { given = t.given + 1 }) (drop 1 ds)
+passed P s t [] found before reach given end = record { count = omega (arith, before.count, given, end); left = λ less. absurd (omega (arith, before.count, given, end, less)) }
+passed P s t (d ∷ ds) found before reach given end =
+    let more : length (d ∷ ds) ≡ length ds + 1 = omega arith in
+    let less : s.given < s.end = omega (arith, more, before.count) in
+    record { count = omega (arith, more, before.count, given, end, less); left = λ later. left_too P t ds (t.given + 1) t.end (rest found (reach P (d ∷ ds) (before.left less))) }
+  where
+    rest : (o : Option Asked) → HasCome P t o (d ∷ ds) → AreLeft P t ds
+    rest None none = absurd cc
+    rest (Some a) at = let same : at.rest ≡ ds = tail at.first at.rest (sym at.are) in subst (AreLeft P t) same at.left
+      where
+        tail : (c : Condition) (cs : List Condition) → c ∷ cs ≡ d ∷ ds → cs ≡ ds
+        tail c cs e = cc
+
+pub pass_one : (P : Program) (r s t : Walk) (cs : List Condition) (found : Option Asked) → r.given ≤ s.given → IsBefore P s (drop (s.given - r.given) cs) → Reaches s t found → t.given ≡ s.given → t.end ≡ s.end →
+    IsBefore P (record t { given = t.given + 1 }) (drop (t.given + 1 - r.given) cs)
+pass_one P r s t cs found low before reach given end =
+    let k = s.given - r.given in
+    let place : k + 1 ≡ t.given + 1 - r.given = omega (arith, low, given) in
+    subst (λ ds. IsBefore P (record t { given = t.given + 1 }) ds) (drop_one_more k cs ∙ ap (λ n. drop n cs) place)
+    (passed P s t (drop k cs) found before reach given end)
+
+-- what stands after a place in the last part of a list
+pub drop_after : {A : Type 0} (xs ys : List A) (n m : ℕ) → IsAfter xs n ys m → drop m ys ≡ drop n xs
+drop_after {A = A} xs ys n m is = sym (ap (λ k. drop k xs) is.place ∙ ap (drop (length is.front + m)) is.split ∙ behind is.front)
+  where
+    behind : (fs : List A) → drop (length fs + m) (fs ++ ys) ≡ drop m ys
+    behind [] = let none : 0 + m ≡ m = omega arith in ap (λ k. drop k ys) none
+    behind (f ∷ fs) =
+        let one : length (f ∷ fs) + m ≡ suc (length fs + m) = omega arith in
+        ap (λ k. drop k (f ∷ (fs ++ ys))) one ∙ behind fs
 
 -- the present start has no way any more
 pub over_left : (P : Program) (s : Walk) (cs : List Condition) → AreLeft P s cs →
@@ -111,20 +173,6 @@ found_at P s cs a t left reach =
         held = left.held;
       };
     }
-
--- only what is counted changes
-pub left_too : (P : Program) (s : Walk) (cs : List Condition) (given end : ℕ) → AreLeft P s cs → AreLeft P (record s { given = given; end = end }) cs
-left_too P s cs given end left = record {
-  procedure = left.procedure;
-  start = left.start;
-  ways = left.ways;
-  later = left.later;
-  root = left.root;
-  here = left.here;
-  after = left.after;
-  are = left.are;
-  held = left.held;
-}
 
 -- another condition is lent, whose steps come from these origins
 pub left_with : (P : Program) (s : Walk) (cs : List Condition) (held : Vec Origin Global) (r : kept.Condition) → AreLeft P s cs → AreHeld s.starts.now.nodes held.items r.steps.items →

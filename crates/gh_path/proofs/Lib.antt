@@ -3,12 +3,12 @@ pub mod Listed
 pub mod Examples
 pub mod AheadLemmas
 pub mod PassedLemmas
-pub mod WalkLemmas
-pub mod TurnLemmas
+pub mod ListLemmas
 pub mod CalleeLemmas
 pub mod NumberLemmas
-pub mod FinderLemmas
 pub mod PlaceLemmas
+pub mod FormedLemmas
+pub mod SuitLemmas
 pub mod KeptLemmas
 pub mod ShownLemmas
 pub mod LowerLemmas
@@ -17,3 +17,5 @@ pub mod RootLemmas
 pub mod HeldLemmas
 pub mod LeftLemmas
 pub mod GivenLemmas
+pub mod LoopVariables
+pub mod FormLemmas

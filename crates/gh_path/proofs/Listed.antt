@@ -1,7 +1,9 @@
 -- The listed conditions are all conditions.
-use Rattle.std.specs.Prelude.{◌≡◌, List, [], ◌∷◌, map, Contains}
+use Rattle.std.specs.Prelude.{◌≡◌, ℕ, ◌-◌, List, [], ◌∷◌, length, map, slice_get, Some, Any, Contains}
 use Rattle.std.proofs.lemmas.List.Elements.{Contains-append_left, Contains-append_right, Contains-append_cases}
-use Rattle.std.proofs.Common.{sym, subst, inl, inr}
+use Rattle.std.proofs.lemmas.Option.{get_or_from_slice_get}
+use Rattle.std.proofs.Common.{sym, ◌∙◌, subst, inl, inr, arith}
+use Rattle.gh_base.proofs.ListLemmas.{over_or, at_front, at_back}
 use Rattle.gh_ast.specs.Plain.{Procedure, Program}
 use Rattle.gh_path.specs.Graphs.{Start, starts}
 use Rattle.gh_path.specs.Paths.{Way, ways}
@@ -72,3 +74,16 @@ all_are_listed P c = (
       subst (IsCondition P) at.4 (is_condition P found.0 at.0 at.1 found.1 at.2 at.3),
   listed P c,
 )
+
+-- no condition of the list has a property that no procedure has a condition with
+pub none_passes : (Q : Condition → Type 0) (ps : List Procedure) (k : ℕ) (c : Condition) → slice_get (from_procedures ps) k ≡ Some c
+    → ((p : Procedure) → Contains ps p → Any Q (conditions_of p) → ⊥) → Q c → ⊥
+none_passes Q [] k c there none holds = absurd cc
+none_passes Q (p ∷ ps) k c there none holds = elim (over_or k (length (conditions_of p))) [
+  | inl within ↦
+      let here : slice_get (conditions_of p) k ≡ Some c = sym (at_front (conditions_of p) (from_procedures ps) k within) ∙ there in
+      none p (member_first p ps) (k, c, within, get_or_from_slice_get (conditions_of p) k c c here, holds)
+  | inr past ↦
+      none_passes Q ps (k - length (conditions_of p)) c
+      (sym (at_back (conditions_of p) (from_procedures ps) k (k - length (conditions_of p)) (omega (arith, past))) ∙ there) (λ q in_rest. none q (member_later p q ps in_rest)) holds
+]

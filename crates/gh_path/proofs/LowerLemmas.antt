@@ -12,7 +12,7 @@ use Rattle.gh_path.specs.Walking.{AreNumbered}
 use Rattle.gh_path.specs.declared.node.Node.{Node}
 use Rattle.gh_path.proofs.NumberLemmas.{numbered_front}
 use Rattle.gh_path.proofs.ShownLemmas.{then, still}
-use Rattle.gh_path.proofs.WalkLemmas.{next}
+use Rattle.gh_path.proofs.ListLemmas.{next}
 
 -- the rest of a list from one element earlier on
 earlier : {A : Type 0} (xs : List A) (left i : ℕ) (x : A) → i + 1 ≡ left → i < length xs → x ≡ get_or xs i x → drop i xs ≡ x ∷ drop left xs
@@ -78,21 +78,26 @@ last_at : {A : Type 0} (xs : List A) (y d : A) → get_or (xs ++ y ∷ []) (leng
 last_at [] y d = refl
 last_at (x ∷ xs) y d = last_at xs y d
 
-pub numbers_more : (p : Procedure) (ss : List Stmt) (ns ms : List ℕ) (i n : ℕ) (x : Stmt) → i < length ss → x ≡ get_or ss i x → length ns ≡ i → ms ≡ ns ++ n ∷ [] →
-    AreNumbered p n (all_loops (statements_view (drop i ss))) → ((k : ℕ) (d : Stmt) → k < i → AreNumbered p (get_or ns k 0) (loops (statement_of (get_or ss k d)))) →
-    (k : ℕ) (d : Stmt) → k < i + 1 → AreNumbered p (get_or ms k 0) (loops (statement_of (get_or ss k d)))
-numbers_more p ss ns ms i n x within is long pushed here before k d less = elim (last_or k i less) [
+pub each_more : (Q : ℕ → Stmt → Type 0) (ss : List Stmt) (ns ms : List ℕ) (i n : ℕ) (x : Stmt) → i < length ss → x ≡ get_or ss i x → length ns ≡ i → ms ≡ ns ++ n ∷ [] → Q n x →
+    ((k : ℕ) (d : Stmt) → k < i → Q (get_or ns k 0) (get_or ss k d)) → (k : ℕ) (d : Stmt) → k < i + 1 → Q (get_or ms k 0) (get_or ss k d)
+each_more Q ss ns ms i n x within is long pushed mine before k d less = elim (last_or k i less) [
   | inl earlier ↦
       let same : get_or ns k 0 ≡ get_or ms k 0 = sym (ap (λ ys. get_or ys k 0) pushed ∙ front_at ns (n ∷ []) k 0 (omega (arith, earlier, long))) in
-      subst (λ m. AreNumbered p m (loops (statement_of (get_or ss k d)))) same (before k d earlier)
+      subst (λ m. Q m (get_or ss k d)) same (before k d earlier)
   | inr last ↦
       let there : k ≡ length ns = omega (arith, last, long) in
       let number : n ≡ get_or ms k 0 = sym (ap (λ ys. get_or ys k 0) pushed ∙ ap (λ j. get_or (ns ++ n ∷ []) j 0) there ∙ last_at ns n 0) in
       let statement : x ≡ get_or ss k d = is ∙ sym (get_or_default ss i d x within) ∙ ap (λ j. get_or ss j d) (sym last) in
-      let whole : AreNumbered p n (loops (statement_of x) ++ all_loops (statements_view (drop (i + 1) ss))) = subst (λ ys. AreNumbered p n (all_loops (statements_view ys))) (next ss i x within is) here in
-      let mine = numbered_front p n (loops (statement_of x)) (all_loops (statements_view (drop (i + 1) ss))) whole in
-      subst (λ (s : Stmt). AreNumbered p (get_or ms k 0) (loops (statement_of s))) statement (subst (λ m. AreNumbered p m (loops (statement_of x))) number mine)
+      subst (λ (s : Stmt). Q (get_or ms k 0) s) statement (subst (λ m. Q m x) number mine)
 ]
   where
     last_or : (k i : ℕ) → k < i + 1 → (k < i) ⊎ (k ≡ i)
     last_or k i less = grind arith
+
+pub numbers_more : (p : Procedure) (ss : List Stmt) (ns ms : List ℕ) (i n : ℕ) (x : Stmt) → i < length ss → x ≡ get_or ss i x → length ns ≡ i → ms ≡ ns ++ n ∷ [] →
+    AreNumbered p n (all_loops (statements_view (drop i ss))) → ((k : ℕ) (d : Stmt) → k < i → AreNumbered p (get_or ns k 0) (loops (statement_of (get_or ss k d)))) →
+    (k : ℕ) (d : Stmt) → k < i + 1 → AreNumbered p (get_or ms k 0) (loops (statement_of (get_or ss k d)))
+numbers_more p ss ns ms i n x within is long pushed here before =
+    let whole : AreNumbered p n (loops (statement_of x) ++ all_loops (statements_view (drop (i + 1) ss))) = subst (λ ys. AreNumbered p n (all_loops (statements_view ys))) (next ss i x within is) here in
+    let mine = numbered_front p n (loops (statement_of x)) (all_loops (statements_view (drop (i + 1) ss))) whole in
+    each_more (λ m s. AreNumbered p m (loops (statement_of s))) ss ns ms i n x within is long pushed mine before

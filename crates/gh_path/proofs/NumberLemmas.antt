@@ -1,35 +1,21 @@
--- Loops by their numbers, and a walk through statements.
-use Rattle.std.specs.Prelude.{◌≡◌, ℕ, zero, suc, ◌+◌, ◌-◌, ◌<◌, ◌≤◌, min, List, [], ◌∷◌, ◌++◌, length, get_or, take, drop, Option, Some, slice_get}
-use Rattle.std.proofs.Common.{refl, sym, ◌∙◌, ap, subst, arith}
-use Rattle.std.proofs.lemmas.List.{take_all, length-drop}
-use Rattle.std.proofs.Math.ListN.{drop_of_length-le}
+-- Loops by their numbers.
+use Rattle.std.specs.Prelude.{◌≡◌, ℕ, zero, suc, ◌+◌, ◌-◌, ◌<◌, min, List, [], ◌∷◌, ◌++◌, map, length, get_or, drop, Some, slice_get}
+use Rattle.std.specs.Option.{option_map}
+use Rattle.std.proofs.Common.{refl, sym, ◌∙◌, ap, subst, inl, inr, arith}
+use Rattle.std.proofs.lemmas.Option.{slice_get-map, slice_get_read}
+use Rattle.gh_base.proofs.ListLemmas.{over_or}
 use Rattle.gh_ast.specs.declared.Stmt.{Stmt}
 use Rattle.gh_ast.specs.declared.Block.{Block}
 use Rattle.gh_ast.specs.declared.Cond.{Cond}
+use Rattle.gh_ast.specs.declared.Stmt.TheFolds.{fold_out-Block}
 use Rattle.gh_ast.specs.declared.Stmt.TheVariants.{If}
-use Rattle.gh_ast.specs.Plain.{Procedure, Program, Statement, test_of, statement_of, statements_view, part_of, choice}
+use Rattle.gh_ast.specs.Plain.{Procedure, Statement, set, new, write, free, call, choice, loop, give, Statements, no_statements, statement_first, test_of, statement_of, statements_view, Part, part_of, statement_step, part_step}
 use Rattle.gh_ast.proofs.PlainLemmas.{statement_of-If, part_of-statements}
-use Rattle.gh_path.specs.Graphs.{Graph, Loop, loops, all_loops, lowered, all_lowered}
+use Rattle.gh_path.specs.Graphs.{Loop, loops, all_loops, loops_of}
 use Rattle.gh_path.specs.Kept.{IsLoop}
-use Rattle.gh_path.specs.Counting.{ahead, before_block}
-use Rattle.gh_path.specs.Paths.{Way}
-use Rattle.gh_path.specs.Walking.{AreNumbered, IsOn, Leads}
-use Rattle.gh_path.specs.declared.ahead.Ahead.{Ahead}
-use Rattle.gh_path.specs.declared.condition.Check.{Check}
-use Rattle.gh_path.specs.declared.walker.Trail.{Trail}
-use Rattle.gh_path.proofs.AheadLemmas.{ahead_block}
-use Rattle.gh_path.proofs.WalkLemmas.{next}
-
-pub got_front : {A : Type 0} (xs ys : List A) (j : ℕ) (x : A) → slice_get xs j ≡ Some x → slice_get (xs ++ ys) j ≡ Some x
-got_front [] ys j x e = absurd cc
-got_front (y ∷ xs) ys zero x e = e
-got_front (y ∷ xs) ys (suc j) x e = got_front xs ys j x e
-
-pub got_back : {A : Type 0} (xs ys : List A) (j : ℕ) (x : A) → slice_get ys j ≡ Some x → slice_get (xs ++ ys) (length xs + j) ≡ Some x
-got_back [] ys j x e = let same : j ≡ 0 + j = omega arith in subst (λ n. slice_get ys n ≡ Some x) same e
-got_back (y ∷ xs) ys j x e =
-    let same : suc (length xs + j) ≡ length (y ∷ xs) + j = omega arith in
-    subst (λ n. slice_get (y ∷ xs ++ ys) n ≡ Some x) same (got_back xs ys j x e)
+use Rattle.gh_path.specs.Walking.{AreNumbered, loop_of}
+use Rattle.gh_path.specs.declared.loops.While.{While}
+use Rattle.gh_path.proofs.ListLemmas.{next, same_some, no_some, got_left, got_right, got_front, got_back}
 
 pub numbered_front : (p : Procedure) (n : ℕ) (xs ys : List Loop) → AreNumbered p n (xs ++ ys) → AreNumbered p n xs
 numbered_front p n xs ys are less j l at = are less j l (got_front xs ys j l at)
@@ -43,33 +29,10 @@ numbered_back p n m xs ys is are less j l at =
 pub number_of : (p : Procedure) (n : ℕ) (l : Loop) (ls : List Loop) → AreNumbered p n (l ∷ ls) → n < 4294967295 → IsLoop p n l
 number_of p n l ls are less = let same : n + 0 ≡ n = omega arith in subst (λ k. IsLoop p k l) same (are less 0 l refl)
 
--- one of several statements
-pub rest_of : (ss : List Stmt) (i : ℕ) → statements_view (take (length ss - i) (drop i ss)) ≡ statements_view (drop i ss)
-rest_of ss i = ap statements_view (take_all (length ss - i) (drop i ss) (omega (arith, length-drop i ss)))
-
--- what is said of a statement before the rest of its block
-abbrev pub Walks : Program → Procedure → Trail → Statement → List Stmt → Ahead → ℕ → Trail → Option Check → Type 0
-Walks P p s x rest a n t found = (g : Graph) → a ≡ ahead g → AreNumbered p n (loops x) → Leads P p s (lowered p x (all_lowered p (statements_view rest) g)) t found (all_lowered p (statements_view rest) g)
-
-pub one_statement : (P : Program) (p : Procedure) (s t : Trail) (ss rest : List Stmt) (i : ℕ) (x : Stmt) (a : Ahead) (n : ℕ) (found : Option Check) → i < length ss → x ≡ get_or ss i x → rest ≡ take (length ss - (i + 1)) (drop (i + 1) ss)
-    → Walks P p s (statement_of x) rest a n t found → (g : Graph) → a ≡ ahead g → AreNumbered p n (all_loops (statements_view (drop i ss)))
-    → Leads P p s (all_lowered p (statements_view (drop i ss)) g) t found (all_lowered p (statements_view (drop (i + 1) ss)) g)
-one_statement P p s t ss rest i x a n found within is cut walks g far numbered w on =
-    let others = statements_view (drop (i + 1) ss) in
-    let same : statements_view rest ≡ others = ap statements_view cut ∙ rest_of ss (i + 1) in
-    let whole : AreNumbered p n (loops (statement_of x) ++ all_loops others) = subst (λ ys. AreNumbered p n (all_loops (statements_view ys))) (next ss i x within is) numbered in
-    let here : IsOn P p w s (lowered p (statement_of x) (all_lowered p others g)) = subst (λ ys. IsOn P p w s (all_lowered p (statements_view ys) g)) (next ss i x within is) on in
-    let mine : Leads P p s (lowered p (statement_of x) (all_lowered p (statements_view rest) g)) t found (all_lowered p (statements_view rest) g) = walks g far (numbered_front p n (loops (statement_of x)) (all_loops others) whole) in
-    subst (λ ys. Leads P p s (lowered p (statement_of x) (all_lowered p ys g)) t found (all_lowered p ys g)) same mine w here
-
 pub numbered_next : (p : Procedure) (n m : ℕ) (ss : List Stmt) (i : ℕ) (x : Stmt) → i < length ss → x ≡ get_or ss i x → m ≡ min (n + min (length (loops (statement_of x))) 4294967295) 4294967295
     → AreNumbered p n (all_loops (statements_view (drop i ss))) → AreNumbered p m (all_loops (statements_view (drop (i + 1) ss)))
 numbered_next p n m ss i x within is sum are =
     numbered_back p n m (loops (statement_of x)) (all_loops (statements_view (drop (i + 1) ss))) sum (subst (λ ys. AreNumbered p n (all_loops (statements_view ys))) (next ss i x within is) are)
-
--- where a statement is known by its plain form
-pub at_statement : (P : Program) (p : Procedure) (s : Trail) (x y : Statement) (g : Graph) (w : Way) → x ≡ y → IsOn P p w s (lowered p x g) → IsOn P p w s (lowered p y g)
-at_statement P p s x y g w same on = subst (λ z. IsOn P p w s (lowered p z g)) same on
 
 -- the plain form of an `if` by its blocks
 pub choice_at : (s : Stmt) (t : Cond) (a b : Block) (xs ys : List Stmt) → s ≡ If t a b → xs ≡ a.statements.items → ys ≡ b.statements.items
@@ -80,10 +43,53 @@ choice_at s t a b xs ys is one two =
     ∙ ap (λ y. choice (test_of t) y (part_of a).close (part_of b).statements (part_of b).close) (part_of-statements a ∙ ap statements_view (sym one))
     ∙ ap (λ y. choice (test_of t) (statements_view xs) (part_of a).close y (part_of b).close) (part_of-statements b ∙ ap statements_view (sym two))
 
--- what lies ahead after the rest of a block
-pub rest_ahead : (p : Procedure) (rest : List Stmt) (a far : Ahead) (g : Graph) → far ≡ before_block (statements_view rest) a → a ≡ ahead g → far ≡ ahead (all_lowered p (statements_view rest) g)
-rest_ahead p rest a far g is same = is ∙ ap (before_block (statements_view rest)) same ∙ sym (ahead_block p (statements_view rest) g)
+-- the loops of a loop's body stand right after it
+abbrev Follows : List Loop → Type 0
+Follows ls = (n : ℕ) (l : Loop) → slice_get ls n ≡ Some l → (j : ℕ) (m : Loop) → slice_get (all_loops l.body) j ≡ Some m → slice_get ls (n + 1 + j) ≡ Some m
 
--- at the end of a block
-pub at_last : (P : Program) (p : Procedure) (t : Trail) (ss : List Stmt) (i : ℕ) (g : Graph) (w : Way) → length ss ≤ i → IsOn P p w t (all_lowered p (statements_view (drop i ss)) g) → IsOn P p w t g
-at_last P p t ss i g w past on = subst (λ ys. IsOn P p w t (all_lowered p (statements_view ys) g)) (drop_of_length-le ss past) on
+both_follow : (xs ys : List Loop) → Follows xs → Follows ys → Follows (xs ++ ys)
+both_follow xs ys one two n l at j m inside = elim (over_or n (length xs)) [
+  | inl near ↦ got_front xs ys (n + 1 + j) m (one n l (got_left xs ys n l near at) j m inside)
+  | inr past ↦ at_rest (n - length xs) (omega (arith, past))
+]
+  where
+    at_rest : (k : ℕ) → n ≡ length xs + k → slice_get (xs ++ ys) (n + 1 + j) ≡ Some m
+    at_rest k same =
+        let there : slice_get ys k ≡ Some l = got_right xs ys k l (subst (λ i. slice_get (xs ++ ys) i ≡ Some l) same at) in
+        let place : length xs + (k + 1 + j) ≡ n + 1 + j = omega (arith, same) in
+        subst (λ i. slice_get (xs ++ ys) i ≡ Some m) place (got_back xs ys (k + 1 + j) m (two k l there j m inside))
+
+none_follow : Follows []
+none_follow n l at j m inside = absurd (no_some l at)
+
+one_follows : (l : Loop) → Follows (all_loops l.body) → Follows (l ∷ all_loops l.body)
+one_follows l below zero k at j m inside =
+    let same : suc j ≡ 0 + 1 + j = omega arith in
+    subst (λ i. slice_get (l ∷ all_loops l.body) i ≡ Some m) same (subst (λ (q : Loop). slice_get (all_loops q.body) j ≡ Some m) (sym (same_some l k at)) inside)
+one_follows l below (suc n) k at j m inside =
+    let same : suc (n + 1 + j) ≡ suc n + 1 + j = omega arith in
+    subst (λ i. slice_get (l ∷ all_loops l.body) i ≡ Some m) same (below n k at j m inside)
+
+mutual
+  follow : (s : Statement) → Follows (loops s)
+  follow (set x e) = none_follow
+  follow (new x) = none_follow
+  follow (write x e) = none_follow
+  follow (free x) = none_follow
+  follow (call xs f es) = none_follow
+  follow (choice t a c b d) = both_follow (all_loops a) (all_loops b) (all_follow a) (all_follow b)
+  follow (loop at t i body close) = one_follows (record { at = at; test = t; invariant = i; body = body; close = close }) (all_follow body)
+  follow (give at es) = none_follow
+
+  pub all_follow : (ss : Statements) → Follows (all_loops ss)
+  all_follow no_statements = none_follow
+  all_follow (statement_first s ss) = both_follow (loops s) (all_loops ss) (follow s) (all_follow ss)
+
+-- a loop of a procedure by its number
+pub loop_there : (p : Procedure) (turns : List While) (i : ℕ) (x : While) → map loop_of turns ≡ loops_of p → i < length turns → x ≡ get_or turns i x → IsLoop p i (loop_of x)
+loop_there p turns i x same within is =
+    ap (λ ls. slice_get ls i) (sym same) ∙ slice_get-map loop_of turns i ∙ ap (option_map loop_of) (slice_get_read turns (length turns) i x refl within is)
+
+-- the last brace of a block
+pub close_of : (b : Block) → (part_of b).close ≡ b.close
+close_of b = ap (λ (q : Part). q.close) (fold_out-Block Statement Part statement_step part_step b)

@@ -1,7 +1,8 @@
 -- The first procedure that passes a limit, and how many conditions there are together.
-use Rattle.std.specs.Prelude.{◌≡◌, ◌⊎◌, ℕ, ◌+◌, ◌*◌, ◌<◌, ◌≤◌, List, [], ◌∷◌, map, length, get_or}
+use Rattle.std.specs.Prelude.{◌≡◌, ℕ, ◌+◌, ◌*◌, ◌<◌, ◌≤◌, List, [], ◌∷◌, map, length, get_or}
 use Rattle.std.proofs.Common.{refl, sym, ◌∙◌, ap, subst, inl, inr, arith}
 use Rattle.std.proofs.lemmas.List.{length-map, length-append, get_or-map, get_or_default}
+use Rattle.gh_base.proofs.ListLemmas.{over_or}
 use Rattle.gh_ast.specs.Lists.{IsFirstWith}
 use Rattle.gh_ast.specs.Plain.{Procedure, Program, procedure_of, program_of}
 use Rattle.gh_ast.specs.declared.Procedure as whole
@@ -25,9 +26,6 @@ IsLong a = 257 < a.reach
 pub record IsTold (Q : Procedure → Type 0) (R : Ahead → Type 0) : Type 0 where
   pub sound : (p : Procedure) → R (procedure_ahead p) → Q p
   pub complete : (p : Procedure) → Q p → R (procedure_ahead p)
-
-over_or : (m n : ℕ) → (m < n) ⊎ (n ≤ m)
-over_or m n = grind arith
 
 pub paths_told : IsTold HasManyPaths IsWide
 paths_told = record {

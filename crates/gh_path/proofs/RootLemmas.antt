@@ -7,6 +7,7 @@ use Rattle.gh_ast.specs.Programs.{body_of}
 use Rattle.gh_path.specs.Graphs.{Graph, dead_end, ends, returned, loop_end, tested, all_lowered, Loop, all_loops, whole_body, once_around, Start, round, rounds}
 use Rattle.gh_path.specs.Conditions.{Condition, from_starts, from_procedures, conditions_of}
 use Rattle.gh_path.specs.Kept.{IsStart, IsLoop}
+use Rattle.gh_path.specs.Paths.{ways}
 use Rattle.gh_path.specs.Roots.{IsRoot, from_start, AreRoots, AreStarts}
 use Rattle.gh_path.specs.Shown.{Shows, IsAsked, Adds}
 use Rattle.gh_path.specs.Walking.{loop_of, AreNumbered}
@@ -16,12 +17,12 @@ use Rattle.gh_path.specs.declared.node.Node.{Node}
 use Rattle.gh_path.specs.declared.node.Node.TheVariants.{DeadEnd, Ends}
 use Rattle.gh_path.specs.declared.starts.Root.{Root}
 use Rattle.gh_path.specs.declared.starts.Starts.{Starts}
-use Rattle.gh_path.proofs.FinderLemmas.{all_follow}
+use Rattle.gh_path.proofs.NumberLemmas.{all_follow}
 use Rattle.gh_path.proofs.ShownLemmas.{shows_more, add_end, add_dead, then, still}
-use Rattle.gh_path.proofs.WalkLemmas.{next}
+use Rattle.gh_path.proofs.ListLemmas.{next}
 
 root_more : (P : Program) (ns ms : List Node) (r : Root) (p : Procedure) (a : Start) → IsRoot P ns r p a → IsRoot P (ns ++ ms) r p a
-root_more P ns ms r p a root = record { procedure = root.procedure; start = root.start; shows = shows_more P p ns ms r.node a.graph root.shows }
+root_more P ns ms r p a root = record { procedure = root.procedure; start = root.start; shows = shows_more P p ns ms r.node a.graph root.shows; count = root.count }
 
 roots_more : (P : Program) (ns ms : List Node) (rs : List Root) (cs : List Condition) → AreRoots P ns rs cs → AreRoots P (ns ++ ms) rs cs
 roots_more P ns ms [] cs none = none
@@ -35,10 +36,10 @@ roots_push P ns (q ∷ rs) r p a cs (p', a', ds, first, rest, split) root =
 
 -- a start more
 pub started : (P : Program) (s t : Starts) (r : Root) (p : Procedure) (a : Start) (cs : List Condition) → Adds P p s.nodes t.nodes r.node a.graph → t.roots.items ≡ s.roots.items ++ r ∷ [] →
-    slice_get P.procedures r.procedure ≡ Some p → IsStart p r.start a → AreStarts P s cs → AreStarts P t (cs ++ from_start p a)
-started P s t r p a cs adds pushed there start are =
+    slice_get P.procedures r.procedure ≡ Some p → IsStart p r.start a → r.count ≡ length (ways a.graph) → AreStarts P s cs → AreStarts P t (cs ++ from_start p a)
+started P s t r p a cs adds pushed there start count are =
     let old : AreRoots P t.nodes s.roots.items cs = subst (λ ns. AreRoots P ns s.roots.items cs) (sym adds.is) (roots_more P s.nodes adds.more s.roots.items cs are) in
-    let root : IsRoot P t.nodes r p a = record { procedure = there; start = start; shows = adds.shows } in
+    let root : IsRoot P t.nodes r p a = record { procedure = there; start = start; shows = adds.shows; count = count } in
     subst (λ rs. AreRoots P t.nodes rs (cs ++ from_start p a)) (sym pushed) (roots_push P t.nodes s.roots.items r p a cs old root)
 
 -- the loops of a procedure

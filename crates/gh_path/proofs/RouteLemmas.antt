@@ -19,7 +19,7 @@ use Rattle.gh_path.specs.declared.node.Node.TheVariants.{DeadEnd, Ends, Moves, G
 use Rattle.gh_path.specs.declared.route.Taken.{Taken}
 use Rattle.gh_path.specs.declared.route.Onward.TheVariants.{Back, Past}
 use Rattle.gh_path.specs.declared.route.Onward.TheVariants as place
-use Rattle.gh_path.proofs.WalkLemmas.{same_some}
+use Rattle.gh_path.proofs.ListLemmas.{same_some}
 
 -- ways of graphs
 steps_on : (xs : List PathStep) (x : PathStep) (vs : List Way) → map (λ w. way (xs ++ w.steps) w.check) (map (after_step x) vs) ≡ map (λ w. way ((xs ++ x ∷ []) ++ w.steps) w.check) vs

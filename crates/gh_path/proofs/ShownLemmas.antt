@@ -10,7 +10,7 @@ use Rattle.gh_path.specs.declared.node.Step.{Step}
 use Rattle.gh_path.specs.declared.node.Asked.{Asked}
 use Rattle.gh_path.specs.declared.node.Node.{Node}
 use Rattle.gh_path.specs.declared.node.Node.TheVariants.{DeadEnd, Ends, Moves, Guarded, Fork}
-use Rattle.gh_path.proofs.WalkLemmas.{no_some}
+use Rattle.gh_path.proofs.ListLemmas.{no_some}
 
 got_more : {A : Type 0} (xs ys : List A) (n : ℕ) (y : A) → slice_get xs n ≡ Some y → slice_get (xs ++ ys) n ≡ Some y
 got_more [] ys n y e = absurd (no_some y e)

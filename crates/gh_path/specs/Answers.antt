@@ -1,14 +1,9 @@
 -- What is answered for the number of a condition.
-use Rattle.std.specs.Prelude.{◌≡◌, ◌⊎◌, ℕ, ◌-◌, ◌<◌, ◌≤◌, List, length, Option, Some, None, slice_get}
+use Rattle.std.specs.Prelude.{◌≡◌, ◌⊎◌, ℕ, ◌-◌, ◌<◌, ◌≤◌, length, Option, Some, None, slice_get}
 use Rattle.gh_ast.specs.Plain.{Program}
 use Rattle.gh_path.specs.Conditions.{Condition, conditions}
 use Rattle.gh_path.specs.Kept.{StandsFor}
 use Rattle.gh_path.specs.declared.condition.Condition as kept
-
--- none: the place is past the list. Else a condition that stands for the one at the place
-abbrev pub IsPlaced : Program → List Condition → ℕ → Option kept.Condition → Type 0
-IsPlaced P cs n None = length cs ≤ n
-IsPlaced P cs n (Some r) = (c : Condition) × (slice_get cs n ≡ Some c) × StandsFor P r c
 
 -- none: the number is 0 or above the count. Else a condition that stands for the one with this number
 abbrev pub IsNumbered : Program → ℕ → Option kept.Condition → Type 0

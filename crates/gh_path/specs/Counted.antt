@@ -1,16 +1,12 @@
--- What is kept with a program whose conditions are counted: what lies ahead, their number, and the starts with
--- their nodes.
-use Rattle.std.specs.Prelude.{◌≡◌, ℕ, List, map, length}
+-- What is kept with a program whose conditions are counted: their number, and the starts with their nodes.
+use Rattle.std.specs.Prelude.{◌≡◌, ℕ, length}
 use Rattle.gh_ast.specs.Plain.{Program}
 use Rattle.gh_path.specs.Admitted.{HasManyPaths, HasManySteps, NoneHas}
 use Rattle.gh_path.specs.Conditions.{conditions}
-use Rattle.gh_path.specs.Counting.{procedure_ahead}
 use Rattle.gh_path.specs.Roots.{AreStarts}
-use Rattle.gh_path.specs.declared.ahead.Ahead.{Ahead}
 use Rattle.gh_path.specs.declared.starts.Starts.{Starts}
 
-pub record IsCounted (P : Program) (aheads : List Ahead) (count : ℕ) (starts : Starts) : Type 0 where
-  pub each : aheads ≡ map procedure_ahead P.procedures
+pub record IsCounted (P : Program) (count : ℕ) (starts : Starts) : Type 0 where
   pub all : count ≡ length (conditions P)
   pub paths : NoneHas P HasManyPaths
   pub steps : NoneHas P HasManySteps

@@ -1,10 +1,12 @@
 -- The laws.
-use Rattle.std.specs.Prelude.{◌≡◌, ◌↔◌, List, map, Contains}
-use Rattle.gh_ast.specs.Plain.{Program}
+use Rattle.std.specs.Prelude.{◌≡◌, ◌↔◌, List, map, Some, Contains, Decides}
+use Rattle.gh_ast.specs.Plain.{Statement, Procedure, Program}
+use Rattle.gh_ast.specs.Programs.{Name, Declares, Assigns}
 use Rattle.gh_path.specs.Graphs.{PathStep, Graph}
 use Rattle.gh_path.specs.Paths.{Before, Way, IsListOf, ways}
 use Rattle.gh_path.specs.Conditions.{Condition, conditions, IsCondition}
 use Rattle.gh_path.specs.Kept.{StandsFor}
+use Rattle.gh_path.specs.Terms.{callee_in, assigns}
 use Rattle.gh_path.specs.declared.condition.Condition as kept
 use Rattle.gh_path.specs.Examples.{reversal, concatenation, row_of, reversal_rows, concatenation_rows}
 
@@ -33,3 +35,11 @@ KeptStandForOne = (P : Program) (r : kept.Condition) (c d : Condition) → IsCon
 pub record ExamplesHold : Type 0 where
   pub with_a_loop : map row_of (conditions reversal) ≡ reversal_rows
   pub with_a_call : map row_of (conditions concatenation) ≡ concatenation_rows
+
+-- the function that the walk of terms looks up callees with finds the procedure that a call means
+abbrev pub CalleesAreDeclared : Type 0
+CalleesAreDeclared = (P : Program) (f : Name) (p : Procedure) → (callee_in P.procedures f ≡ Some p) ↔ Declares P f p
+
+-- and its test of assigned variables decides which variables a statement assigns
+abbrev pub AssignsDecides : Type 0
+AssignsDecides = (s : Statement) (y : Name) → Decides (assigns s y) (Assigns s y)

@@ -2,6 +2,7 @@ pub mod Graphs
 pub mod Paths
 pub mod Conditions
 pub mod Kept
+pub mod Callees
 pub mod Shown
 pub mod Routes
 pub mod Roots

@@ -1,10 +1,11 @@
 -- What a walker adds to the nodes: for a graph, and for what stands before one.
-use Rattle.std.specs.Prelude.{◌≡◌, ◌<◌, ℕ, List}
+use Rattle.std.specs.Prelude.{◌≡◌, ◌+◌, ◌<◌, ◌≤◌, ℕ, List, length, slice_index, slice_index_or}
 use Rattle.gh_base.specs.declared.place.Span.{Span}
 use Rattle.gh_ast.specs.declared.Cond.{Cond}
 use Rattle.gh_ast.specs.declared.Stmt.{Stmt}
-use Rattle.gh_ast.specs.Plain.{Procedure, Program, Statement, test_of, statement_of, statements_view, program_of, procedure_of}
+use Rattle.gh_ast.specs.Plain.{Procedure, Program, Statement, Statements, test_of, statement_of, statements_view, program_of, procedure_of}
 use Rattle.gh_path.specs.Graphs.{Graph, Loop, dead_end, guarded, loop_entry, looped, tested, lowered, all_lowered, loops, all_loops, once_around}
+use Rattle.gh_path.specs.Callees.{HasCallees, AllHaveCallees}
 use Rattle.gh_path.specs.Kept.{IsLoop}
 use Rattle.gh_path.specs.Shown.{Shows, Adds, HaveNumbers}
 use Rattle.gh_path.specs.Walking.{AreNumbered}
@@ -24,6 +25,31 @@ ShowsIn w ns i g = Shows (program_in w) (procedure_in w) ns i g
 -- nodes are added for a graph, of which i is the first
 abbrev pub AddsGraph : Walker → Graph → List Node → List Node → ℕ → Type 0
 AddsGraph w g old new i = Adds (program_in w) (procedure_in w) old new i g
+
+-- each call in a statement names a procedure, and the numbers of its loops from n on have 16 bits
+pub record Suits (w : Walker) (n : ℕ) (d : Statement) : Type 0 where
+  pub callees : HasCallees (program_in w) d
+  pub room : n + length (loops d) ≤ 65536
+
+pub record AllSuit (w : Walker) (n : ℕ) (ds : Statements) : Type 0 where
+  pub callees : AllHaveCallees (program_in w) ds
+  pub room : n + length (all_loops ds) ≤ 65536
+
+-- each of some statements suits with its number; the one at the place i does with n
+abbrev pub SuitEach : Walker → List Stmt → List ℕ → Type 0
+SuitEach w ds ns =
+    (k : ℕ) (d : Stmt) → k < length ds → Suits w (slice_index ns k) (statement_of (slice_index_or ds k d))
+
+abbrev pub SuitsAt : Walker → List Stmt → ℕ → ℕ → Type 0
+SuitsAt w ds i n = (d : Stmt) → d ≡ slice_index_or ds i d → Suits w n (statement_of d)
+
+-- where all of some statements suit with the first number n, each suits with the number of its first loop
+abbrev pub EachSuits : List Stmt → ℕ → List ℕ → Type 0
+EachSuits ds n ns = (w : Walker) → AllSuit w n (statements_view ds) → SuitEach w ds ns
+
+-- nodes are added, and there is one at i
+abbrev pub Grows : List Node → List Node → ℕ → Type 0
+Grows old new i = (length old ≤ length new) × (i < length new)
 
 -- nodes are added before `next`: for f g, whatever graph g that node shows
 abbrev pub AddsBefore : Walker → (Graph → Graph) → List Node → ℕ → List Node → ℕ → Type 0

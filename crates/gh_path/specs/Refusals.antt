@@ -1,5 +1,5 @@
 -- Why the list of conditions isn't given.
-use Rattle.std.specs.Prelude.{◌≡◌, ◌⊎◌, ⊤, ℕ, List, Contains}
+use Rattle.std.specs.Prelude.{◌≡◌, ◌⊎◌, ⊤, ℕ, List, Contains, Option, MatchOption}
 use Rattle.gh_ast.specs.Plain.{Procedure, Program}
 use Rattle.gh_ast.specs.Lists.{IsFirstWith}
 use Rattle.gh_ast.specs.declared.typed.Limit as limit
@@ -17,6 +17,13 @@ pub record FirstOf (ps : List Procedure) (Q : Procedure → Type 0) (kind number
   pub kind_is : l.kind ≡ kind
   pub span : l.span ≡ procedure.name.span
   pub count : l.count ≡ number
+
+-- none: no procedure has too many conditions; or too many steps on a path
+abbrev pub IsPathsLimit : List Procedure → Option limit.Limit → Type 0
+IsPathsLimit ps o = MatchOption o (NoneOf ps HasManyPaths) (FirstOf ps HasManyPaths 4 1025)
+
+abbrev pub IsStepsLimit : List Procedure → Option limit.Limit → Type 0
+IsStepsLimit ps o = MatchOption o (NoneOf ps HasManySteps) (FirstOf ps HasManySteps 5 257)
 
 -- a procedure with too many conditions; where there is none, a path with too many steps; want of memory at any time
 abbrev pub IsConditionsRefusal : Program → ConditionsError → Type 0

@@ -1,5 +1,5 @@
 -- A walk over the conditions of a program, one at a time.
-use Rattle.std.specs.Prelude.{◌≡◌, ◌≢◌, ◌-◌, ◌<◌, List, [], ◌∷◌, ◌++◌, map, length, drop, Option, Some, None, Ok, Err, Bool, true, false}
+use Rattle.std.specs.Prelude.{◌≡◌, ◌≢◌, ℕ, ◌-◌, ◌<◌, List, [], ◌∷◌, ◌++◌, map, length, drop, Option, Some, None, Ok, Err, Bool, true, false}
 use Rattle.std.specs.declared.result.Result.{Result}
 use Rattle.std.specs.declared.alloc.AllocError.{AllocError}
 use Rattle.gh_ast.specs.Plain.{Procedure, Program}
@@ -9,9 +9,11 @@ use Rattle.gh_path.specs.Conditions.{Condition, condition}
 use Rattle.gh_path.specs.Kept.{StandsFor}
 use Rattle.gh_path.specs.Shown.{AreShown, AreHeld, IsAsked, step_from}
 use Rattle.gh_path.specs.Routes.{AreToCome}
-use Rattle.gh_path.specs.Roots.{IsRoot, AreRoots}
+use Rattle.gh_path.specs.Roots.{IsRoot, AreRoots, AreStarts, AreFrom}
 use Rattle.gh_path.specs.declared.condition.Condition as kept
 use Rattle.gh_path.specs.declared.node.Asked.{Asked}
+use Rattle.gh_path.specs.declared.starts.Sought.{Sought}
+use Rattle.gh_path.specs.declared.starts.Starts.{Starts}
 use Rattle.gh_path.specs.declared.walk.Walk.{Walk}
 
 -- the conditions that are still to come: from the present start, and from those after it. The steps of the condition
@@ -31,6 +33,23 @@ pub record AreLeft (P : Program) (s : Walk) (cs : List Condition) : Type 0 where
 pub record IsBefore (P : Program) (s : Walk) (cs : List Condition) : Type 0 where
   pub count : length cs ≡ s.end - s.given
   pub left : s.given < s.end → AreLeft P s cs
+
+-- at a start, where `given` of `end` conditions have been passed, the others are still to come
+abbrev pub IsAtStart : Starts → Sought → ℕ → ℕ → Walk → Type 0
+IsAtStart s f given end w = (P : Program) (cs : List Condition) → length cs ≡ end - given →
+    (given < end → AreFrom P s f cs) → IsBefore P w cs
+
+-- all conditions of the starts are still to come, or those from the place n on
+abbrev pub WalksOver : Starts → ℕ → Walk → Type 0
+WalksOver s end w = (P : Program) (cs : List Condition) → AreStarts P s cs → length cs ≡ end → IsBefore P w cs
+
+abbrev pub WalksFrom : Starts → ℕ → ℕ → Walk → Type 0
+WalksFrom s end n w =
+    (P : Program) (cs : List Condition) → AreStarts P s cs → length cs ≡ end → IsBefore P w (drop n cs)
+
+-- those before the place n are passed
+abbrev pub PassesTo : Walk → ℕ → Walk → Type 0
+PassesTo s n t = (P : Program) (cs : List Condition) → IsBefore P s cs → IsBefore P t (drop (n - s.given) cs)
 
 -- the first of some conditions is come to, and the others are still to come
 pub record IsAt (P : Program) (s : Walk) (a : Asked) (cs : List Condition) : Type 0 where

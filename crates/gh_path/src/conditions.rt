@@ -12,21 +12,18 @@ ghost use Rattle.gh_path.specs.Walks.{IsBefore};
 
 use crate::ahead::Ahead;
 use crate::condition::Condition;
-use crate::finder::condition_of;
 use crate::limits::count_all;
-use crate::route::Route;
 use crate::starts::Starts;
-use crate::walk::{Walk, without_steps};
+use crate::walk::Walk;
 use gh_ast::typed::Typed;
 use std::alloc::{AllocError, Global};
 use std::marker::Model;
 
-/// The conditions of a program that keeps the limits on them, with how many of them each
-/// procedure has, and the nodes of the bodies. Contracts see it as the program.
+/// The conditions of a program that keeps the limits on them: how many there are, and the nodes of
+/// the bodies. Contracts see it as the program.
 #[derive(Debug, Drop)]
 pub struct Conditions<'t> {
     typed: &'t Typed,
-    aheads: Vec<Ahead>,
     count: u32,
     starts: Starts<'t>,
 }
@@ -43,24 +40,23 @@ impl<'t> Model for Conditions<'t> {
 
     ghost view = { λ c. c.typed.now };
 
-    ghost invariant = { λ c. IsCounted (program_of c.typed.now) c.aheads.items c.count c.starts };
+    ghost invariant = { λ c. IsCounted (program_of c.typed.now) c.count c.starts };
 }
 
 impl<'t> Conditions<'t> {
-    /// The conditions of a program, with what lies ahead of the starts of each procedure, and the
+    /// The conditions of a program, by what lies ahead of the starts of each procedure, and by the
     /// nodes of these.
-    pub(crate) fn new(typed: &'t Typed, aheads: Vec<Ahead>, starts: Starts<'t>) -> Conditions<'t>
+    pub(crate) fn new(typed: &'t Typed, aheads: &[Ahead], starts: Starts<'t>) -> Conditions<'t>
         requires few { AreFew (program_of typed.now) }
-        requires counts { aheads.items ≡ map procedure_ahead (program_of typed.now).procedures }
+        requires counts { aheads.now ≡ map procedure_ahead (program_of typed.now).procedures }
         requires paths { NoneHas (program_of typed.now) HasManyPaths }
         requires steps { NoneHas (program_of typed.now) HasManySteps }
         requires starts { AreStarts (program_of typed.now) starts (conditions (program_of typed.now)) }
         ensures { result ≡ typed.now }
     {
-        let count = count_all(aheads.as_slice());
+        let count = count_all(aheads);
         Conditions {
             typed,
-            aheads,
             count,
             starts,
         }
@@ -80,28 +76,18 @@ impl<'t> Conditions<'t> {
         if number == 0 {
             return Ok(None);
         }
-        let program = self.typed.program();
-        let found = condition_of(alloc, program, self.aheads.as_slice(), number - 1)?;
-        Ok(found)
+        let mut walk = Walk::from_place(alloc, &self.starts, self.count, number - 1)?;
+        let more = walk.advance()?;
+        if !more {
+            return Ok(None);
+        }
+        Ok(Some(walk.take_condition()))
     }
 
     /// A walk from the first condition on.
     pub fn walk(&self, alloc: Global) -> Walk<'_, 't>
         ensures { IsBefore (program_of self.now) result (conditions (program_of self.now)) }
     {
-        let present = self.starts.first();
-        let mut route = Route::new(alloc);
-        route.begin(present.node);
-        Walk {
-            starts: &self.starts,
-            alloc,
-            given: 0,
-            end: self.count(),
-            present,
-            next: 1,
-            route,
-            held: Vec::new(alloc),
-            condition: without_steps(alloc, present),
-        }
+        Walk::new(alloc, &self.starts, self.count)
     }
 }

@@ -1,6 +1,6 @@
 //! Laws of paths and of the list of conditions.
 
-ghost use Rattle.gh_path.specs.Laws.{PathsAreOrdered, PathsHaveOneList, AllAreListed, KeptStandForOne, ExamplesHold};
+ghost use Rattle.gh_path.specs.Laws.{PathsAreOrdered, PathsHaveOneList, AllAreListed, KeptStandForOne, ExamplesHold, CalleesAreDeclared, AssignsDecides};
 
 /// No path stands before itself, and the order goes over.
 pub fn paths_are_ordered()
@@ -25,4 +25,14 @@ pub fn kept_stand_for_one()
 /// The conditions of two small programs.
 pub fn examples_hold()
     ensures { ExamplesHold }
+{}
+
+/// The walk of terms finds the procedure that a call means.
+pub fn callees_are_declared()
+    ensures { CalleesAreDeclared }
+{}
+
+/// The walk of terms knows which variables a statement assigns.
+pub fn assigns_decides()
+    ensures { AssignsDecides }
 {}

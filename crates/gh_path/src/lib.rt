@@ -2,12 +2,10 @@
 #![tactic(auto)]
 
 mod ahead;
-mod body;
 pub mod condition;
 pub mod conditions;
 mod copies;
 mod counts;
-mod finder;
 pub mod laws;
 mod limits;
 pub mod listing;

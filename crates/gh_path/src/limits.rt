@@ -1,10 +1,9 @@
 //! The limits on the number of conditions and on the steps of their paths.
 
-ghost use Rattle.std.specs.Prelude.{◌≡◌, map, min, MatchOption};
+ghost use Rattle.std.specs.Prelude.{◌≡◌, map, min};
 ghost use Rattle.gh_ast.specs.Plain.{procedure_of};
-ghost use Rattle.gh_path.specs.Admitted.{HasManyPaths, HasManySteps};
 ghost use Rattle.gh_path.specs.Counting.{procedure_ahead, all_counts};
-ghost use Rattle.gh_path.specs.Refusals.{NoneOf, FirstOf};
+ghost use Rattle.gh_path.specs.Refusals.{IsPathsLimit, IsStepsLimit};
 
 use crate::ahead::Ahead;
 use gh_ast::Procedure;
@@ -13,7 +12,7 @@ use gh_ast::typed::Limit;
 /// The limit on the conditions of a procedure, where it is passed.
 pub fn paths_limit(procedures: &[Procedure], aheads: &[Ahead]) -> Option<Limit>
     requires { aheads.now ≡ map procedure_ahead (map procedure_of procedures.now) }
-    ensures { MatchOption result (NoneOf (map procedure_of procedures.now) HasManyPaths) (FirstOf (map procedure_of procedures.now) HasManyPaths 4 1025) }
+    ensures { IsPathsLimit (map procedure_of procedures.now) result }
 {
     for (place, ahead) in aheads.iter().enumerate() {
         if ahead.count > 1_024 {
@@ -30,7 +29,7 @@ pub fn paths_limit(procedures: &[Procedure], aheads: &[Ahead]) -> Option<Limit>
 /// The limit on the steps of a condition, where it is passed.
 pub fn steps_limit(procedures: &[Procedure], aheads: &[Ahead]) -> Option<Limit>
     requires { aheads.now ≡ map procedure_ahead (map procedure_of procedures.now) }
-    ensures { MatchOption result (NoneOf (map procedure_of procedures.now) HasManySteps) (FirstOf (map procedure_of procedures.now) HasManySteps 5 257) }
+    ensures { IsStepsLimit (map procedure_of procedures.now) result }
 {
     for (place, ahead) in aheads.iter().enumerate() {
         if ahead.reach > 257 {

@@ -50,5 +50,5 @@ pub fn conditions(alloc: Global, typed: &Typed) -> Result<Conditions<'_>, Condit
         return Err(ConditionsError::Limit(limit));
     }
     let starts = starts_of(alloc, typed.program())?;
-    Ok(Conditions::new(typed, aheads, starts))
+    Ok(Conditions::new(typed, aheads.as_slice(), starts))
 }

@@ -1,10 +1,10 @@
 //! The loops of a body, in the order of their words.
 
-ghost use Rattle.std.specs.Prelude.{◌≡◌, ◌++◌, map, min, length, IfOk};
+ghost use Rattle.std.specs.Prelude.{◌≡◌, map, min, length, IfOk};
 ghost use Rattle.gh_ast.specs.Plain.{statement_of, statements_view, procedure_of};
 ghost use Rattle.gh_ast.specs.Programs.{body_of};
 ghost use Rattle.gh_path.specs.Graphs.{loops, all_loops, loops_of};
-ghost use Rattle.gh_path.specs.Walking.{loop_of};
+ghost use Rattle.gh_path.specs.Walking.{loop_of, AddsLoops};
 
 use gh_ast::{Assertion, Block, Cond, Procedure, Stmt};
 use gh_base::place::Span;
@@ -22,7 +22,7 @@ pub struct While<'t> {
 /// Adds the loops of a statement.
 #[cycle(loops)]
 fn add_loops<'t>(statement: &'t Stmt, found: &mut Vec<While<'t>>) -> Result<(), AllocError>
-    ensures { IfOk result (λ _. map loop_of found.new.items ≡ map loop_of found.old.items ++ loops (statement_of statement.now)) }
+    ensures { IfOk result (λ _. AddsLoops (loops (statement_of statement.now)) found.old.items found.new.items) }
 {
     match statement {
         Stmt::If {
@@ -54,7 +54,8 @@ fn add_loops<'t>(statement: &'t Stmt, found: &mut Vec<While<'t>>) -> Result<(), 
 /// Adds the loops of some statements.
 #[cycle(loops)]
 fn add_all_loops<'t>(statements: &'t [Stmt], found: &mut Vec<While<'t>>) -> Result<(), AllocError>
-    ensures { IfOk result (λ _. map loop_of found.new.items ≡ map loop_of found.old.items ++ all_loops (statements_view statements.now)) }
+    ensures { IfOk result (λ _.
+        AddsLoops (all_loops (statements_view statements.now)) found.old.items found.new.items) }
 {
     for statement in statements {
         add_loops(statement, found)?;

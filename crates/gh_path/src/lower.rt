@@ -1,9 +1,9 @@
 //! Nodes for expressions and tests. They are made from the end of a body on.
 
-ghost use Rattle.std.specs.Prelude.{IfOk};
+ghost use Rattle.std.specs.Prelude.{◌<◌, length, IfOk};
 ghost use Rattle.gh_ast.specs.Plain.{test_of, tests_view};
 ghost use Rattle.gh_path.specs.Graphs.{visits, reads, all_reads, tested, all_tested, some_tested};
-ghost use Rattle.gh_path.specs.Lowered.{AddsBefore, AddsChoice};
+ghost use Rattle.gh_path.specs.Lowered.{Grows, AddsBefore, AddsChoice};
 
 use crate::node::{Asked, Goal, Node, Nodes, Step};
 use crate::walker::Walker;
@@ -18,7 +18,9 @@ impl<'t> Walker<'t> {
         next: usize,
         nodes: &mut Nodes<'t>,
     ) -> Result<usize, AllocError>
-        ensures { IfOk result (AddsBefore self.now (visits at.now) nodes.old next nodes.new) }
+        requires below { next < length nodes.now }
+        ensures grows { IfOk result (Grows nodes.old nodes.new) }
+        ensures adds { IfOk result (AddsBefore self.now (visits at.now) nodes.old next nodes.new) }
     {
         let asked = Asked {
             goal: Goal::Access { at: &at.name },
@@ -36,7 +38,9 @@ impl<'t> Walker<'t> {
         next: usize,
         nodes: &mut Nodes<'t>,
     ) -> Result<usize, AllocError>
-        ensures { IfOk result (AddsBefore self.now (reads expr.now) nodes.old next nodes.new) }
+        requires below { next < length nodes.now }
+        ensures grows { IfOk result (Grows nodes.old nodes.new) }
+        ensures adds { IfOk result (AddsBefore self.now (reads expr.now) nodes.old next nodes.new) }
     {
         match expr {
             Expr::Plain(_) => Ok(next),
@@ -51,7 +55,9 @@ impl<'t> Walker<'t> {
         next: usize,
         nodes: &mut Nodes<'t>,
     ) -> Result<usize, AllocError>
-        ensures { IfOk result (AddsBefore self.now (all_reads exprs.now) nodes.old next nodes.new) }
+        requires below { next < length nodes.now }
+        ensures grows { IfOk result (Grows nodes.old nodes.new) }
+        ensures adds { IfOk result (AddsBefore self.now (all_reads exprs.now) nodes.old next nodes.new) }
     {
         let mut place = next;
         let mut left = exprs.len();
@@ -71,7 +77,10 @@ impl<'t> Walker<'t> {
         no: usize,
         nodes: &mut Nodes<'t>,
     ) -> Result<usize, AllocError>
-        ensures { IfOk result (AddsChoice self.now (tested (test_of test.now)) nodes.old yes no nodes.new) }
+        requires yes { yes < length nodes.now }
+        requires no { no < length nodes.now }
+        ensures grows { IfOk result (Grows nodes.old nodes.new) }
+        ensures adds { IfOk result (AddsChoice self.now (tested (test_of test.now)) nodes.old yes no nodes.new) }
     {
         match test {
             Cond::Compare { left, equal, right } => {
@@ -102,7 +111,11 @@ impl<'t> Walker<'t> {
         no: usize,
         nodes: &mut Nodes<'t>,
     ) -> Result<usize, AllocError>
-        ensures { IfOk result (AddsChoice self.now (all_tested (tests_view tests.now)) nodes.old yes no nodes.new) }
+        requires yes { yes < length nodes.now }
+        requires no { no < length nodes.now }
+        ensures grows { IfOk result (Grows nodes.old nodes.new) }
+        ensures adds { IfOk result
+            (AddsChoice self.now (all_tested (tests_view tests.now)) nodes.old yes no nodes.new) }
     {
         let mut place = yes;
         let mut left = tests.len();
@@ -122,7 +135,11 @@ impl<'t> Walker<'t> {
         no: usize,
         nodes: &mut Nodes<'t>,
     ) -> Result<usize, AllocError>
-        ensures { IfOk result (AddsChoice self.now (some_tested (tests_view tests.now)) nodes.old yes no nodes.new) }
+        requires yes { yes < length nodes.now }
+        requires no { no < length nodes.now }
+        ensures grows { IfOk result (Grows nodes.old nodes.new) }
+        ensures adds { IfOk result
+            (AddsChoice self.now (some_tested (tests_view tests.now)) nodes.old yes no nodes.new) }
     {
         let mut place = no;
         let mut left = tests.len();

@@ -1,8 +1,10 @@
 //! Nodes for statements, and the starts of a procedure.
 
-ghost use Rattle.std.specs.Prelude.{◌≡◌, slice_index, IfOk};
-ghost use Rattle.gh_ast.specs.Plain.{set, write, free, call, give};
-ghost use Rattle.gh_path.specs.Lowered.{AddsPlain, AddsEnd, AddsPass, AddsStatement, AddsBlock, AreFirstLoops};
+ghost use Rattle.std.specs.Prelude.{◌≡◌, ◌<◌, length, slice_index, IfOk};
+ghost use Rattle.gh_ast.specs.Plain.{statement_of, statements_view, set, write, free, call, give};
+ghost use Rattle.gh_path.specs.Callees.{HasCallee};
+ghost use Rattle.gh_path.specs.Lowered.{program_in, Suits, AllSuit, EachSuits, SuitEach, SuitsAt};
+ghost use Rattle.gh_path.specs.Lowered.{Grows, AddsPlain, AddsEnd, AddsPass, AddsStatement, AddsBlock, AreFirstLoops};
 
 use crate::loops::{count_all_loops, count_loops};
 use crate::node::{Asked, Goal, Node, Nodes, Step};
@@ -13,7 +15,8 @@ use std::alloc::{AllocError, Global};
 
 /// The number of the first loop of each of some statements, where that of the first is given.
 fn first_loops(alloc: Global, statements: &[Stmt], first: u32) -> Result<Vec<u32>, AllocError>
-    ensures { IfOk result (λ v. AreFirstLoops statements.now first v.items) }
+    ensures numbered { IfOk result (λ v. AreFirstLoops statements.now first v.items) }
+    ensures suit { IfOk result (λ v. EachSuits statements.now first v.items) }
 {
     let mut numbers = Vec::with_capacity(alloc, statements.len())?;
     let mut number = first;
@@ -24,14 +27,17 @@ fn first_loops(alloc: Global, statements: &[Stmt], first: u32) -> Result<Vec<u32
     Ok(numbers)
 }
 
-/// The number at a place; 0 past the end.
-fn number_at(numbers: &[u32], place: usize) -> u32
-    ensures { result ≡ slice_index numbers.now place }
-{
-    numbers.get(place).copied().unwrap_or(0)
-}
-
 impl<'t> Walker<'t> {
+    /// The number of the first loop of the statement at a place.
+    fn number_at(&self, statements: &[Stmt], numbers: &[u32], place: usize) -> u32
+        requires within { place < length statements.now }
+        requires each { SuitEach self.now statements.now numbers.now }
+        ensures is { result ≡ slice_index numbers.now place }
+        ensures suits { SuitsAt self.now statements.now place result }
+    {
+        numbers.get(place).copied().unwrap_or(0)
+    }
+
     fn lower_set(
         &self,
         target: &'t Occ,
@@ -39,7 +45,9 @@ impl<'t> Walker<'t> {
         next: usize,
         nodes: &mut Nodes<'t>,
     ) -> Result<usize, AllocError>
-        ensures { IfOk result (AddsPlain self.now (set target.now value.now) nodes.old next nodes.new) }
+        requires below { next < length nodes.now }
+        ensures grows { IfOk result (Grows nodes.old nodes.new) }
+        ensures adds { IfOk result (AddsPlain self.now (set target.now value.now) nodes.old next nodes.new) }
     {
         let step = Step::Set { target, value };
         let place = nodes.add(Node::Moves { step, next })?;
@@ -54,7 +62,9 @@ impl<'t> Walker<'t> {
         next: usize,
         nodes: &mut Nodes<'t>,
     ) -> Result<usize, AllocError>
-        ensures { IfOk result (AddsPlain self.now (write at.now value.now) nodes.old next nodes.new) }
+        requires below { next < length nodes.now }
+        ensures grows { IfOk result (Grows nodes.old nodes.new) }
+        ensures adds { IfOk result (AddsPlain self.now (write at.now value.now) nodes.old next nodes.new) }
     {
         let step = Step::Write { at, value };
         let place = nodes.add(Node::Moves { step, next })?;
@@ -69,7 +79,9 @@ impl<'t> Walker<'t> {
         next: usize,
         nodes: &mut Nodes<'t>,
     ) -> Result<usize, AllocError>
-        ensures { IfOk result (AddsPlain self.now (free at.now) nodes.old next nodes.new) }
+        requires below { next < length nodes.now }
+        ensures grows { IfOk result (Grows nodes.old nodes.new) }
+        ensures adds { IfOk result (AddsPlain self.now (free at.now) nodes.old next nodes.new) }
     {
         let step = Step::Free { at };
         let place = nodes.add(Node::Moves { step, next })?;
@@ -85,10 +97,13 @@ impl<'t> Walker<'t> {
         next: usize,
         nodes: &mut Nodes<'t>,
     ) -> Result<usize, AllocError>
-        ensures { IfOk result
+        requires known { HasCallee (program_in self.now) callee.now.name }
+        requires below { next < length nodes.now }
+        ensures grows { IfOk result (Grows nodes.old nodes.new) }
+        ensures adds { IfOk result
             (AddsPlain self.now (call targets.now callee.now arguments.now) nodes.old next nodes.new) }
     {
-        let number = self.callee(callee)?;
+        let number = self.callee(callee);
         let asked = Asked {
             goal: Goal::CalleeEntry {
                 callee: number,
@@ -112,7 +127,8 @@ impl<'t> Walker<'t> {
         values: &'t [Expr],
         nodes: &mut Nodes<'t>,
     ) -> Result<usize, AllocError>
-        ensures { IfOk result (AddsEnd self.now (give span values.now) nodes.old nodes.new) }
+        ensures grows { IfOk result (Grows nodes.old nodes.new) }
+        ensures adds { IfOk result (AddsEnd self.now (give span values.now) nodes.old nodes.new) }
     {
         let goal = Goal::Return;
         let end = nodes.add(Node::Ends {
@@ -133,11 +149,12 @@ impl<'t> Walker<'t> {
         next: usize,
         nodes: &mut Nodes<'t>,
     ) -> Result<usize, AllocError>
-        ensures { IfOk result (AddsPass self.now span test.now number nodes.old next nodes.new) }
+        requires few { number < 65536 }
+        requires below { next < length nodes.now }
+        ensures grows { IfOk result (Grows nodes.old nodes.new) }
+        ensures adds { IfOk result (AddsPass self.now span test.now number nodes.old next nodes.new) }
     {
-        let Ok(number) = u16::try_from(number) else {
-            return Err(AllocError);
-        };
+        let number = number as u16;
         let dead = nodes.add(Node::DeadEnd)?;
         let next = self.lower_test(test, dead, next, nodes)?;
         let goal = Goal::LoopEntry { number };
@@ -157,7 +174,10 @@ impl<'t> Walker<'t> {
         next: usize,
         nodes: &mut Nodes<'t>,
     ) -> Result<usize, AllocError>
-        ensures { IfOk result (AddsStatement self.now statement.now first nodes.old next nodes.new) }
+        requires suits { Suits self.now first (statement_of statement.now) }
+        requires below { next < length nodes.now }
+        ensures grows { IfOk result (Grows nodes.old nodes.new) }
+        ensures adds { IfOk result (AddsStatement self.now statement.now first nodes.old next nodes.new) }
     {
         match statement {
             Stmt::Set { target, value } => self.lower_set(target, value, next, nodes),
@@ -211,14 +231,17 @@ impl<'t> Walker<'t> {
         next: usize,
         nodes: &mut Nodes<'t>,
     ) -> Result<usize, AllocError>
-        ensures { IfOk result (AddsBlock self.now statements.now first nodes.old next nodes.new) }
+        requires suits { AllSuit self.now first (statements_view statements.now) }
+        requires below { next < length nodes.now }
+        ensures grows { IfOk result (Grows nodes.old nodes.new) }
+        ensures adds { IfOk result (AddsBlock self.now statements.now first nodes.old next nodes.new) }
     {
         let numbers = first_loops(alloc, statements, first)?;
         let mut place = next;
         let mut left = statements.len();
         while left > 0 {
             left -= 1;
-            let number = number_at(numbers.as_slice(), left);
+            let number = self.number_at(statements, numbers.as_slice(), left);
             place = self.lower_statement(alloc, &statements[left], number, place, nodes)?;
         }
         Ok(place)

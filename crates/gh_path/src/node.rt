@@ -1,6 +1,6 @@
 //! Bodies as nodes that lead to one another, with steps and checks as the text has them.
 
-ghost use Rattle.std.specs.Prelude.{◌≡◌, ◌↔◌, ◌∷◌, ◌++◌, [], length, not, slice_get, slice_index_or, Some, IsTrue, IfOk, OnOk};
+ghost use Rattle.std.specs.Prelude.{◌≡◌, ◌+◌, ◌∷◌, ◌++◌, [], length, not, slice_get, slice_index_or, Some, IfOk, OnOk};
 ghost use Rattle.gh_path.specs.Shown.{KeepsStep, KeepsGoal, KeepsAsked, LeadsBelow, from, opposite, step_past, step_from};
 ghost use Rattle.gh_path.specs.declared.node.Node.{Node as Plain};
 ghost use Rattle.gh_path.specs.declared.node.Node.TheVariants.{DeadEnd};
@@ -205,19 +205,6 @@ impl<'t> Node<'t> {
             } => Step::Assume { left, equal, right },
         }
     }
-
-    /// Whether all nodes that come next stand before a place.
-    fn leads_below(&self, place: usize) -> bool
-        ensures { IsTrue result ↔ LeadsBelow place self.now }
-    {
-        match self {
-            Node::DeadEnd => true,
-            Node::Ends { .. } => true,
-            Node::Moves { next, .. } => *next < place,
-            Node::Guarded { next, .. } => *next < place,
-            Node::Fork { yes, no, .. } => *yes < place && *no < place,
-        }
-    }
 }
 
 /// Where a step comes from: past the node at a place, or, where it is `turned`, on the way where the
@@ -280,13 +267,12 @@ impl<'t> Nodes<'t> {
 
     /// Adds a node, and gives its place.
     pub fn add(&mut self, node: Node<'t>) -> Result<usize, AllocError>
+        requires below { LeadsBelow (length self.now) node }
         ensures place { IfOk result (λ i. i ≡ length self.old) }
+        ensures longer { OnOk result (length self.new ≡ length self.old + 1) }
         ensures added { OnOk result (self.new ≡ self.old ++ node.entry ∷ []) }
     {
         let place = self.nodes.len();
-        if !node.leads_below(place) {
-            return Err(AllocError);
-        }
         self.nodes.push(node)?;
         Ok(place)
     }

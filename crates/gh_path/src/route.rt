@@ -1,6 +1,6 @@
 //! A walk over the ways of a graph, which shares the steps that two neighbouring ways begin with.
 
-ghost use Rattle.std.specs.Prelude.{◌≡◌, ◌+◌, [], ℕ, List, IfOk, OnOk};
+ghost use Rattle.std.specs.Prelude.{◌≡◌, ◌+◌, [], List, IfOk, OnOk};
 ghost use Rattle.gh_ast.specs.Plain.{Procedure, Program};
 ghost use Rattle.gh_path.specs.Shown.{LeadsBelow};
 ghost use Rattle.gh_path.specs.Routes.{AreOn, HasTaken, TurnsBack, LooksAt, GoesOn, BeginsAt, Arrives, IsLess};

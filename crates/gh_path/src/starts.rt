@@ -1,27 +1,44 @@
 //! The starts of the procedures of a program, with their nodes.
 
-ghost use Rattle.std.specs.Prelude.{◌≡◌, ◌∷◌, [], List, slice_get, IfOk, OnOk};
+ghost use Rattle.std.specs.Prelude.{◌≡◌, ◌+◌, ◌≤◌, ◌∷◌, [], List, length, slice_get, IfOk, IfSome, OnOk};
+ghost use Rattle.gh_ast.specs.Limits.{AreFew};
 ghost use Rattle.gh_ast.specs.Plain.{Program as Plain, program_of};
+ghost use Rattle.gh_ast.specs.Programs.{body_of};
+ghost use Rattle.gh_ast.specs.Rules.{IsTyped};
+ghost use Rattle.gh_ast.specs.WellFormed.{IsFormedBody, IsWellFormed};
 ghost use Rattle.gh_path.specs.Graphs.{whole_body};
-ghost use Rattle.gh_path.specs.Conditions.{conditions};
-ghost use Rattle.gh_path.specs.Lowered.{procedure_in, AddsGraph, AddsRound};
-ghost use Rattle.gh_path.specs.Roots.{AreStarts, AddsProcedure, AddsEntry, AddsLoop};
+ghost use Rattle.gh_path.specs.Admitted.{HasManyPaths, NoneHas};
+ghost use Rattle.gh_path.specs.Callees.{AllHaveCallees};
+ghost use Rattle.gh_path.specs.Conditions.{conditions, conditions_of};
+ghost use Rattle.gh_path.specs.Lowered.{program_in, procedure_in, AllSuit, AddsGraph, AddsRound};
+ghost use Rattle.gh_path.specs.Roots.{AreStarts, AddsProcedure, AddsEntry, AddsLoop, IsSoughtIn};
 ghost use Rattle.gh_path.specs.Walking.{loop_of};
 ghost use Rattle.gh_path.specs.declared.starts.Root.{Root as Kept};
 
 use crate::condition::Start;
+use crate::counts::{entry_ahead, round_ahead};
 use crate::loops::{While, loops_of, statements_of};
 use crate::node::{Asked, Goal, Node, Nodes};
 use crate::walker::Walker;
 use gh_ast::Program;
 use std::alloc::{AllocError, Global};
 
-/// A start of a procedure, and the place of its first node.
+/// A start of a procedure, the place of its first node, and how many conditions it has.
 #[derive(Clone, Copy, Debug)]
 pub struct Root {
     pub procedure: u16,
     pub start: Start,
     pub node: usize,
+    pub count: u32,
+}
+
+/// Where a condition stands: its start, the place of the start after that, and how many conditions
+/// of the start stand before it.
+#[derive(Clone, Copy, Debug)]
+pub struct Sought {
+    pub root: Root,
+    pub next: usize,
+    pub before: u32,
 }
 
 /// The nodes of the bodies of a program, and the starts in order.
@@ -34,6 +51,7 @@ pub struct Starts<'t> {
 impl<'t> Walker<'t> {
     /// The nodes from the entry on.
     fn lower_entry(&self, alloc: Global, nodes: &mut Nodes<'t>) -> Result<usize, AllocError>
+        requires { AllSuit self.now 0 (body_of (procedure_in self.now)) }
         ensures { IfOk result (AddsGraph self.now (whole_body (procedure_in self.now)).graph nodes.old nodes.new) }
     {
         let goal = Goal::Return;
@@ -54,6 +72,7 @@ impl<'t> Walker<'t> {
         number: u16,
         nodes: &mut Nodes<'t>,
     ) -> Result<usize, AllocError>
+        requires { AllSuit self.now (number + 1) (loop_of turn.now).body }
         ensures { IfOk result (AddsRound self.now number (loop_of turn.now) nodes.old nodes.new) }
     {
         let goal = Goal::LoopEnd { number };
@@ -91,6 +110,7 @@ impl<'t> Starts<'t> {
                 procedure: 0,
                 start: Start::Entry,
                 node: 0,
+                count: 0,
             },
         }
     }
@@ -102,6 +122,25 @@ impl<'t> Starts<'t> {
         self.roots.get(place).copied()
     }
 
+    /// Where the condition of a place stands, if there is one. Places begin at 0.
+    pub(crate) fn seek(&self, place: u32) -> Option<Sought>
+        ensures is { IsSoughtIn self.now place result }
+        ensures low { IfSome result (λ s. s.before ≤ place) }
+    {
+        let mut before = place;
+        for (index, root) in self.roots.as_slice().iter().enumerate() {
+            if before < root.count {
+                return Some(Sought {
+                    root: *root,
+                    next: index + 1,
+                    before,
+                });
+            }
+            before -= root.count;
+        }
+        None
+    }
+
     /// Adds the entry of a procedure, which has a number.
     fn add_entry(
         &mut self,
@@ -109,14 +148,18 @@ impl<'t> Starts<'t> {
         walker: &Walker<'t>,
         procedure: u16,
     ) -> Result<(), AllocError>
+        requires suits { AllSuit walker.now 0 (body_of (procedure_in walker.now)) }
+        requires few { length (conditions_of (procedure_in walker.now)) ≤ 1024 }
         ensures { OnOk result (AddsEntry walker.now procedure self.old self.new) }
     {
         let node = walker.lower_entry(alloc, &mut self.nodes)?;
         let start = Start::Entry;
+        let count = entry_ahead(walker.procedure).count;
         self.roots.push(Root {
             procedure,
             start,
             node,
+            count,
         })?;
         Ok(())
     }
@@ -130,14 +173,18 @@ impl<'t> Starts<'t> {
         turn: &While<'t>,
         number: u16,
     ) -> Result<(), AllocError>
+        requires suits { AllSuit walker.now (number + 1) (loop_of turn.now).body }
+        requires few { length (conditions_of (procedure_in walker.now)) ≤ 1024 }
         ensures { OnOk result (AddsLoop walker.now procedure number (loop_of turn.now) self.old self.new) }
     {
         let node = walker.lower_round(alloc, turn, number, &mut self.nodes)?;
         let start = Start::Loop { number };
+        let count = round_ahead(turn).count;
         self.roots.push(Root {
             procedure,
             start,
             node,
+            count,
         })?;
         Ok(())
     }
@@ -147,20 +194,17 @@ impl<'t> Starts<'t> {
         &mut self,
         alloc: Global,
         walker: &Walker<'t>,
-        index: usize,
+        procedure: u16,
     ) -> Result<(), AllocError>
-        ensures { OnOk result (AddsProcedure walker.now index self.old self.new) }
+        requires callees { AllHaveCallees (program_in walker.now) (body_of (procedure_in walker.now)) }
+        requires few { length (conditions_of (procedure_in walker.now)) ≤ 1024 }
+        requires formed { IsFormedBody (procedure_in walker.now).body }
+        ensures { OnOk result (AddsProcedure walker.now procedure self.old self.new) }
     {
-        let Ok(procedure) = u16::try_from(index) else {
-            return Err(AllocError);
-        };
         self.add_entry(alloc, walker, procedure)?;
         let turns = loops_of(alloc, walker.procedure)?;
         for (place, turn) in turns.as_slice().iter().enumerate() {
-            let Ok(number) = u16::try_from(place) else {
-                return Err(AllocError);
-            };
-            self.add_round(alloc, walker, procedure, turn, number)?;
+            self.add_round(alloc, walker, procedure, turn, place as u16)?;
         }
         Ok(())
     }
@@ -168,12 +212,16 @@ impl<'t> Starts<'t> {
 
 /// The starts of a program.
 pub fn starts_of(alloc: Global, program: &Program) -> Result<Starts<'_>, AllocError>
+    requires typed { IsTyped (program_of program.now) }
+    requires few { AreFew (program_of program.now) }
+    requires formed { IsWellFormed (program_of program.now) }
+    requires paths { NoneHas (program_of program.now) HasManyPaths }
     ensures { IfOk result (λ s. AreStarts (program_of program.now) s (conditions (program_of program.now))) }
 {
     let mut starts = Starts::new(alloc);
     for (index, procedure) in program.procedures.as_slice().iter().enumerate() {
         let walker = Walker { program, procedure };
-        starts.add_procedure(alloc, &walker, index)?;
+        starts.add_procedure(alloc, &walker, index as u16)?;
     }
     Ok(starts)
 }

@@ -2,12 +2,13 @@
 
 ghost use Rattle.std.specs.Prelude.{◌≡◌, ◌≤◌, ◌<◌, ◌+◌, ◌∷◌, ◌++◌, [], length, take, map, slice_set, IfOk, OnOk};
 ghost use Rattle.gh_path.specs.Shown.{AreHeld};
+ghost use Rattle.gh_path.specs.Walks.{IsAtStart, WalksOver, WalksFrom, PassesTo};
 ghost use Rattle.gh_path.specs.Walks.{Reaches, Gives, KeepsLeft, Lends, ComesNearer};
 
 use crate::condition::{Check, CheckKind, Condition, PathStep};
 use crate::node::{Asked, Nodes, Origin};
 use crate::route::{Route, Taken};
-use crate::starts::{Root, Starts};
+use crate::starts::{Root, Sought, Starts};
 use gh_base::place::Span;
 use std::alloc::{AllocError, Global};
 use std::mem;
@@ -105,6 +106,79 @@ fn hold(
 }
 
 impl<'c, 't> Walk<'c, 't> {
+    /// A walk that begins at a start, with `given` of `end` conditions before that.
+    fn at_start(
+        alloc: Global,
+        starts: &'c Starts<'t>,
+        sought: Sought,
+        given: u32,
+        end: u32,
+    ) -> Walk<'c, 't>
+        ensures at { IsAtStart starts.now sought given end result }
+        ensures given { result.given ≡ given }
+    {
+        let present = sought.root;
+        let mut route = Route::new(alloc);
+        route.begin(present.node);
+        Walk {
+            starts,
+            alloc,
+            given,
+            end,
+            present,
+            next: sought.next,
+            route,
+            held: Vec::new(alloc),
+            condition: without_steps(alloc, present),
+        }
+    }
+
+    /// A walk over the conditions of the starts, of which there are `end`.
+    pub(crate) fn new(alloc: Global, starts: &'c Starts<'t>, end: u32) -> Walk<'c, 't>
+        ensures { WalksOver starts.now end result }
+    {
+        let first = Sought {
+            root: starts.first(),
+            next: 1,
+            before: 0,
+        };
+        Walk::at_start(alloc, starts, first, 0, end)
+    }
+
+    /// Such a walk from the condition of a place on. Places begin at 0.
+    pub(crate) fn from_place(
+        alloc: Global,
+        starts: &'c Starts<'t>,
+        end: u32,
+        place: u32,
+    ) -> Result<Walk<'c, 't>, AllocError>
+        ensures { IfOk result (WalksFrom starts.now end place) }
+    {
+        let Some(sought) = starts.seek(place) else {
+            let root = starts.first();
+            let over = Sought {
+                root,
+                next: 0,
+                before: 0,
+            };
+            return Ok(Walk::at_start(alloc, starts, over, end, end));
+        };
+        let mut walk = Walk::at_start(alloc, starts, sought, place - sought.before, end);
+        walk.pass_to(place)?;
+        Ok(walk)
+    }
+
+    /// Passes over conditions, up to that of a place.
+    fn pass_to(&mut self, place: u32) -> Result<(), AllocError>
+        ensures { OnOk result (PassesTo self.old place self.new) }
+    {
+        while self.given < place {
+            self.reach()?;
+            self.given += 1;
+        }
+        Ok(())
+    }
+
     /// Goes on to the next condition, if there is one.
     fn reach(&mut self) -> Result<Option<Asked<'t>>, AllocError>
         ensures come { IfOk result (Reaches self.old self.new) }
@@ -179,7 +253,7 @@ impl<'c, 't> Walk<'c, 't> {
     }
 
     /// Gives the condition away.
-    fn take_condition(&mut self) -> Condition
+    pub(crate) fn take_condition(&mut self) -> Condition
         ensures value { result ≡ self.old.condition }
         ensures left { KeepsLeft self.old self.new }
         ensures given { self.new.given ≡ self.old.given }

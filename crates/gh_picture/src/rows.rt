@@ -1,10 +1,9 @@
 //! The panel of a row: its statement, its cells and its variables.
 
-ghost use Rattle.std.specs.Prelude.{◌≡◌, ◌++◌, ◌+◌, ◌/◌, ◌<◌, ◌≤◌, IfOk, OnOk, T, take, length};
+ghost use Rattle.std.specs.Prelude.{◌≡◌, ◌++◌, ◌+◌, ◌/◌, ◌<◌, IfOk, OnOk, T, length};
 ghost use Rattle.std.specs.Ordering.{nat_cmp};
 ghost use Rattle.std.specs.FinMap as map;
 ghost use Rattle.gh_assert.specs.Cells.{pairs};
-ghost use Rattle.gh_picture.specs.Spots.{AreSpots, spot_at, cell_at};
 ghost use Rattle.gh_picture.specs.Rows as drawn;
 ghost use Rattle.gh_picture.specs.Rows.{cells_of, IsPanelOf, IsPast};
 

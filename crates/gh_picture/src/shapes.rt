@@ -3,7 +3,7 @@
 //! A column is 100 wide and a line 100 high, so the digits of a coordinate are those of its column or
 //! line, and two more.
 
-ghost use Rattle.std.specs.Prelude.{◌≡◌, ◌++◌, [], codes, IfOk, OnOk};
+ghost use Rattle.std.specs.Prelude.{◌≡◌, ◌++◌, IfOk, OnOk};
 ghost use Rattle.std.specs.Fmt.{decimal};
 ghost use Rattle.gh_picture.specs.Shapes.{role_word, change_word, point_text, place_text, leaf_of, group_of, label_of, outline_of, place_label_of, role_label_of, stroke_text, back_text, jump_text, arrow_of, content_label_of, class_text, across_of, down_of, apart_text, variable_label_of};
 ghost use Rattle.gh_picture.specs.Shapes as drawn;

@@ -1,8 +1,7 @@
 //! The text of a tree.
 
-ghost use Rattle.std.specs.Prelude.{◌≡◌, ◌++◌, IfOk, OnOk, codes};
+ghost use Rattle.std.specs.Prelude.{◌≡◌, ◌++◌, IfOk, OnOk};
 ghost use Rattle.std.specs.List.{flat_map};
-ghost use Rattle.gh_picture.specs.Words.{tag_word};
 ghost use Rattle.gh_picture.specs.Written.{escape, escaped, attribute_text, opened, closed, leaf_text, group_text, panel_text, svg_text};
 
 use crate::tree::{Attribute, Attributes, Group, Leaf, Panel, Svg, Tag};

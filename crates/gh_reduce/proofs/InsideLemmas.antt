@@ -19,11 +19,9 @@ use Rattle.gh_symb.specs.Formulas.{variables, successor, within, meets, meets_wh
 use Rattle.gh_symb.specs.Encodings.{plain_kind}
 use Rattle.gh_symb.specs.declared.over_terms.Bound.{Bound}
 use Rattle.gh_reduce.specs.Growth.{IsWithin, AreWithin}
-use Rattle.gh_reduce.specs.Inside.{binding_of, under_of, IsUnderInside}
+use Rattle.gh_symb.specs.Inside.{binding_of, under_of, IsUnderInside}
+use Rattle.gh_symb.proofs.EncodedLemmas.{same_function}
 use Rattle.gh_reduce.proofs.WithinLemmas.{AreThere, footprint_within, structure_within, below_within}
-
-pub same_function : {A B : Type 0} (f g : A → B) → ((x : A) → f x ≡ g x) → f ≡ g
-same_function f g p = λ i. λ x. p x i
 
 pub variables_are : (bonds : List Bond) → variables (binding_of bonds) ≡ bound_term bonds
 variables_are bonds = same_function (variables (binding_of bonds)) (bound_term bonds) (λ x. at_term (term_in bonds x))

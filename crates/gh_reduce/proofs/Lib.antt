@@ -2,9 +2,6 @@ pub mod GrowthLemmas
 pub mod WithinLemmas
 pub mod InsideLemmas
 pub mod RowLemmas
-pub mod EncodedLemmas
-pub mod SoundLemmas
-pub mod StepsInside
 pub mod ClauseLemmas
 pub mod LiteralLemmas
 pub mod WalkLemmas

@@ -15,7 +15,7 @@ use Rattle.gh_symb.specs.Symbolic.{Under}
 use Rattle.gh_symb.specs.Formulas.{allocated, within, kept, each, placed_claims, alternatives_claims, meets, meets_whole, meets_one_of}
 use Rattle.gh_symb.specs.declared.over_terms.Bound.{Bound}
 use Rattle.gh_reduce.specs.Growth.{stated_in, IsWithin, AreWithin}
-use Rattle.gh_reduce.specs.Inside.{under_of, IsUnderInside, AllAreInside}
+use Rattle.gh_symb.specs.Inside.{under_of, IsUnderInside, AllAreInside}
 use Rattle.gh_reduce.specs.Parts.{placed_of}
 use Rattle.gh_reduce.proofs.GrowthLemmas.{all_within_more, stated_append, stated_all}
 use Rattle.gh_reduce.proofs.InsideLemmas.{under_within, meets_within, whole_within}

@@ -14,7 +14,7 @@ use Rattle.gh_reduce.specs.declared.rows.EachPair.TheVariants.{Others, Kept}
 use Rattle.gh_reduce.specs.Growth.{sized, stated_in, IsWithin, AreWithin}
 use Rattle.gh_reduce.proofs.GrowthLemmas.{stated_more, same_terms}
 use Rattle.gh_path.specs.Terms.{Kind}
-use Rattle.gh_reduce.specs.Inside.{under_of, IsReady}
+use Rattle.gh_symb.specs.Inside.{under_of, IsReady}
 use Rattle.gh_reduce.specs.Rows.{of_term, of_pair, IsEachTermInside, IsEachPairInside}
 use Rattle.gh_reduce.proofs.WithinLemmas.{below_within, equality_within}
 use Rattle.gh_reduce.proofs.InsideLemmas.{under_within}

@@ -2,6 +2,7 @@
 use Rattle.std.specs.Prelude.{◌≡◌, ℕ, zero, suc, ◌+◌, ◌-◌, ◌<◌, ◌≤◌, List, [], ◌∷◌, ◌++◌, map, length, drop, get_or, slice_get, Some}
 use Rattle.std.proofs.Common.{refl, sym, ◌∙◌, ap, subst, arith, add-one}
 use Rattle.std.proofs.Math.Seq.{drop-cons}
+use Rattle.std.proofs.lemmas.List.{length-map}
 use Rattle.gh_base.specs.declared.term.TermKind.{TermKind}
 use Rattle.gh_base.specs.Grounds.{Problem}
 use Rattle.gh_ast.specs.Plain.{Program}
@@ -11,13 +12,14 @@ use Rattle.gh_grass.specs.Claims.{Claim}
 use Rattle.gh_symb.specs.Symbolic as plain
 use Rattle.gh_symb.specs.Symbolic.{accessed, assumed, same, written, made, freed, parts}
 use Rattle.gh_symb.specs.Formulas.{version_after, versions_claims, meets_whole, check_claims, claims, problem, successor_claims, successors_from, steps_claims}
-use Rattle.gh_symb.specs.Encodings.{plain_kind, IsSymbolic}
+use Rattle.gh_symb.specs.Encodings.{plain_kind}
+use Rattle.gh_symb.specs.Encoded.{IsSymbolic}
 use Rattle.gh_symb.specs.declared.over_terms.TermStep.{TermStep}
 use Rattle.gh_symb.specs.declared.over_terms.Symbolic.{Symbolic}
 use Rattle.gh_reduce.specs.Growth.{stated_in}
-use Rattle.gh_reduce.specs.Inside.{plain_of, step_of, IsReady, IsUnderInside, IsStepInside, AreStepsInside, IsCheckInside, IsInside}
-use Rattle.gh_reduce.proofs.EncodedLemmas.{encoded_is}
-use Rattle.gh_reduce.proofs.StepsInside.{conditions_are_inside}
+use Rattle.gh_symb.specs.Inside.{step_of, IsReady, IsUnderInside, IsStepInside, AreStepsInside, IsCheckInside}
+use Rattle.gh_symb.specs.Encoded.{plain_of}
+use Rattle.gh_symb.proofs.EncodedLemmas.{encoded_is}
 
 -- the kinds from a place on
 pub kinds_from : (ks : List TermKind) (t : ℕ) (k : TermKind) → Some k ≡ slice_get ks t → drop t ks ≡ k ∷ drop (t + 1) ks
@@ -50,10 +52,6 @@ step_version n v i (made a b) h l = h.2
 step_version n v i (freed x) h l = h.1
 step_version n v i (parts u us) h l = h.2
 
--- a condition over terms that is told has its terms and versions
-pub inside_told : (s : Symbolic) → (P : Program) × (c : Condition) × IsSymbolic P c s → IsInside (plain_of s)
-inside_told s h = subst IsInside (sym (encoded_is h.0 h.1 s h.2)) (conditions_are_inside h.0 h.1)
-
 abbrev pub empty_problem : ℕ → ℕ → Problem
 empty_problem n v = record { sizes = record { terms = n; versions = v; defs = 0 }; clauses = [] }
 
@@ -73,11 +71,14 @@ pub record InsideAt (n v : ℕ) (kinds : List Kind) (s : plain.Symbolic) : Type 
   pub steps : AreStepsInside n v 0 s.steps
   pub check : IsCheckInside n v s.check
 
-pub inside_at : (s : plain.Symbolic) (kinds : List Kind) (p : Problem) (n v : ℕ) → p ≡ empty_problem n v → n ≡ length s.terms → v ≡ s.versions → kinds ≡ s.terms → IsInside s → InsideAt p.sizes.terms p.sizes.versions kinds s
-inside_at s kinds p n v e terms versions listed h =
-    subst (λ (x : Problem). InsideAt x.sizes.terms x.sizes.versions kinds s) (sym (e ∙ ap (λ (k : ℕ). empty_problem k v) terms ∙ ap (empty_problem (length s.terms)) versions))
-    (subst (λ (ks : List Kind). InsideAt (length s.terms) s.versions ks s) (sym listed)
-    (record { ready = h.terms; some = h.some_versions; start = h.start; steps = h.steps; check = h.check }))
+pub ready_for : (s : Symbolic) (ts : List TermKind) (p : Problem) → ts ≡ s.terms → p.sizes.terms ≡ length s.terms → p.sizes.versions ≡ s.versions → InsideAt p.sizes.terms p.sizes.versions (map plain_kind ts) (plain_of s)
+ready_for s ts p listed terms versions =
+    let h = s.inside in
+    let n : p.sizes.terms ≡ length (map plain_kind s.terms) = terms ∙ sym (length-map s.terms plain_kind) in
+    subst (λ m. InsideAt m p.sizes.versions (map plain_kind ts) (plain_of s)) (sym n)
+    (subst (λ v. InsideAt (length (map plain_kind s.terms)) v (map plain_kind ts) (plain_of s)) (sym versions)
+    (subst (λ (ks : List TermKind). InsideAt (length (map plain_kind s.terms)) s.versions (map plain_kind ks) (plain_of s)) (sym listed)
+    (record { ready = h.terms; some = h.some_versions; start = h.start_is; steps = h.steps_are; check = h.check_is })))
 
 pub inside_stays : (s : plain.Symbolic) (kinds : List Kind) (p q : Problem) (fs : List Claim) → q ≡ stated_in p fs → InsideAt p.sizes.terms p.sizes.versions kinds s → InsideAt q.sizes.terms q.sizes.versions kinds s
 inside_stays s kinds p q fs e h = subst (λ (x : Problem). InsideAt x.sizes.terms x.sizes.versions kinds s) (sym e) h

@@ -1,5 +1,5 @@
 -- Ground clauses that grow by those of some formulas.
-use Rattle.std.specs.Prelude.{ℕ, List, ◌++◌}
+use Rattle.std.specs.Prelude.{ℕ, ◌+◌, List, ◌++◌}
 use Rattle.gh_base.specs.declared.atom.Lit.{Lit}
 use Rattle.gh_base.specs.declared.sizes.Sizes.{Sizes}
 use Rattle.gh_base.specs.Atoms.{IsInRange}
@@ -13,6 +13,18 @@ sized s defs = record { terms = s.terms; versions = s.versions; defs = defs }
 -- some clauses more, and definitions up to a number
 abbrev pub grown : Problem → ℕ → List (List Lit) → Problem
 grown p next clauses = record { sizes = sized p.sizes next; clauses = p.clauses ++ clauses }
+
+-- some clauses more
+abbrev pub with_clauses : Problem → List (List Lit) → Problem
+with_clauses p clauses = record p { clauses = p.clauses ++ clauses }
+
+-- one definition more
+abbrev pub with_definition : Problem → Problem
+with_definition p = record p { sizes = sized p.sizes (p.sizes.defs + 1) }
+
+-- the next definition, and the clauses of it
+abbrev pub with_defined : Problem → (ℕ → List (List Lit)) → Problem
+with_defined p f = grown p (p.sizes.defs + 1) (f p.sizes.defs)
 
 -- after the definitions of a formula
 abbrev pub defined_in : Problem → Claim → Problem

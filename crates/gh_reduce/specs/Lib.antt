@@ -1,5 +1,5 @@
 pub mod Growth
-pub mod Inside
 pub mod Rows
 pub mod Examples
 pub mod Parts
+pub mod Stated

@@ -1,14 +1,23 @@
 -- What is stated of each term, or of each two terms.
-use Rattle.std.specs.Prelude.{ℕ, ◌≡◌, ◌<◌, [], ◌∷◌}
+use Rattle.std.specs.Prelude.{ℕ, ◌≡◌, ◌<◌, List, [], ◌∷◌, ◌++◌, map}
 use Rattle.gh_base.specs.declared.atom.Term.{Term}
 use Rattle.gh_base.specs.declared.sizes.Sizes.{Sizes}
-use Rattle.gh_grass.specs.Claims.{Claim, negation_of, equivalence_of, all_of, one_of, equality}
-use Rattle.gh_symb.specs.Formulas.{allocated, hops, within, leads, kept}
+use Rattle.gh_base.specs.declared.term.TermKind.{TermKind}
+use Rattle.gh_base.specs.Grounds.{Problem}
+use Rattle.gh_grass.specs.declared.formula.Formula.{Formula}
+use Rattle.gh_grass.specs.Claims.{Claim, claims_list, negation_of, equivalence_of, all_of, one_of, equality}
+use Rattle.gh_path.specs.Terms.{Kind}
+use Rattle.gh_symb.specs.Encodings.{plain_kind}
+use Rattle.gh_symb.specs.Formulas.{allocated, hops, within, leads, kept, each, each_pair}
 use Rattle.gh_reduce.specs.declared.rows.EachTerm.{EachTerm}
 use Rattle.gh_reduce.specs.declared.rows.EachTerm.TheVariants.{Leads, Same, Made, Freed, Apart, Replaced}
 use Rattle.gh_reduce.specs.declared.rows.EachPair.{EachPair}
 use Rattle.gh_reduce.specs.declared.rows.EachPair.TheVariants.{Others, Kept}
-use Rattle.gh_reduce.specs.Inside.{under_of, IsUnderInside}
+use Rattle.gh_symb.specs.Inside.{under_of, IsUnderInside}
+
+-- the kinds of some terms
+abbrev pub kinds_of : List TermKind → List Kind
+kinds_of terms = map plain_kind terms
 
 -- the cell at z leads in a version where it leads in another
 abbrev pub same_hops : ℕ → ℕ → Term → Term → Claim
@@ -25,6 +34,18 @@ of_term (Replaced old new u q) z = equivalence_of (allocated new z) (one_of (kep
 abbrev pub of_pair : EachPair → Term → Term → Claim
 of_pair (Others old new x) z v = one_of (equality z x ∷ same_hops new old z v ∷ [])
 of_pair (Kept old new u) z v = one_of (negation_of (kept old (under_of u.now) z) ∷ same_hops new old z v ∷ [])
+
+-- formulas, and then one of each of n terms
+abbrev pub with_each : List Formula → ℕ → (Term → Claim) → List Claim
+with_each members n f = claims_list members ++ each n f
+
+-- it is said of each term of a problem
+abbrev pub said_of_each : Problem → (Term → Claim) → List Claim
+said_of_each p f = each p.sizes.terms f
+
+-- it is said of each two terms of a problem
+abbrev pub said_of_pairs : Problem → (Term → Term → Claim) → List Claim
+said_of_pairs p f = each_pair p.sizes.terms f
 
 -- its terms and versions are there
 abbrev pub IsEachTermInside : Sizes → EachTerm → Type 0

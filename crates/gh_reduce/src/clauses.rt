@@ -1,10 +1,11 @@
 //! The clauses of a formula: each conjunction, disjunction and equivalence in it is defined anew.
 
-ghost use Rattle.std.specs.Prelude.{◌≡◌, ◌+◌, ◌∷◌, ◌++◌, [], IfOk, OnOk, map};
+ghost use Rattle.std.specs.Prelude.{◌≡◌, ◌∷◌, [], IfOk, OnOk, map};
 ghost use Rattle.gh_base.specs.Atoms.{opposite, IsInRange, AreInRange};
 ghost use Rattle.gh_grass.specs.Claims.{claim_of, claims_list, claims_view};
 ghost use Rattle.gh_grass.specs.Clauses.{defined, made, all_made, conjunction_clauses, disjunction_clauses, equivalence_clauses};
-ghost use Rattle.gh_reduce.specs.Growth.{sized, grown, defined_in, all_defined_in, stated_in, IsWithin, AreWithin};
+ghost use Rattle.gh_reduce.specs.Growth.{defined_in, all_defined_in, stated_in, IsWithin, AreWithin};
+ghost use Rattle.gh_reduce.specs.Growth.{with_clauses, with_defined, with_definition};
 
 use gh_base::atom::{Atom, Lit};
 use gh_base::clause::Clause;
@@ -15,7 +16,7 @@ use std::alloc::{AllocError, Global};
 // The next definition, unless all numbers are taken.
 fn define(ground: &mut Ground) -> Result<Lit, AllocError>
     ensures number { IfOk result (λ l. l ≡ defined ground.old.sizes.defs) }
-    ensures counted { OnOk result (ground.new ≡ record ground.old { sizes = sized ground.old.sizes (ground.old.sizes.defs + 1) }) }
+    ensures counted { OnOk result (ground.new ≡ with_definition ground.old) }
 {
     if ground.defs() == u32::MAX {
         return Err(AllocError);
@@ -30,7 +31,7 @@ fn define(ground: &mut Ground) -> Result<Lit, AllocError>
 // Adds a clause last, unless there are as many as may be.
 fn add(ground: &mut Ground, clause: Clause) -> Result<(), AllocError>
     requires { AreInRange ground.old.sizes clause }
-    ensures { OnOk result (ground.new ≡ record ground.old { clauses = ground.old.clauses ++ clause ∷ [] }) }
+    ensures { OnOk result (ground.new ≡ with_clauses ground.old (clause ∷ [])) }
 {
     if ground.count() == 4_294_967_294 {
         return Err(AllocError);
@@ -43,7 +44,7 @@ fn add(ground: &mut Ground, clause: Clause) -> Result<(), AllocError>
 fn add_pairs(alloc: Global, ground: &mut Ground, first: Lit, lits: &[Lit]) -> Result<(), AllocError>
     requires first { IsInRange ground.old.sizes first.atom }
     requires others { AreInRange ground.old.sizes lits.now }
-    ensures { OnOk result (ground.new ≡ record ground.old { clauses = ground.old.clauses ++ map (λ l. first ∷ l ∷ []) lits.now }) }
+    ensures { OnOk result (ground.new ≡ with_clauses ground.old (map (λ l. first ∷ l ∷ []) lits.now)) }
 {
     for lit in lits {
         add(ground, Clause::from_array(alloc, [first, *lit]))?;
@@ -55,7 +56,7 @@ fn add_pairs(alloc: Global, ground: &mut Ground, first: Lit, lits: &[Lit]) -> Re
 fn add_long(alloc: Global, ground: &mut Ground, first: Lit, lits: &[Lit]) -> Result<(), AllocError>
     requires first { IsInRange ground.old.sizes first.atom }
     requires others { AreInRange ground.old.sizes lits.now }
-    ensures { OnOk result (ground.new ≡ record ground.old { clauses = ground.old.clauses ++ (first ∷ lits.now) ∷ [] }) }
+    ensures { OnOk result (ground.new ≡ with_clauses ground.old ((first ∷ lits.now) ∷ [])) }
 {
     let mut clause = Clause::new(alloc);
     clause.push(first)?;
@@ -80,7 +81,7 @@ fn opposites(alloc: Global, lits: &[Lit]) -> Result<Vec<Lit>, AllocError>
 fn conjunction(alloc: Global, ground: &mut Ground, lits: &[Lit]) -> Result<Lit, AllocError>
     requires { AreInRange ground.old.sizes lits.now }
     ensures number { IfOk result (λ l. l ≡ defined ground.old.sizes.defs) }
-    ensures state { OnOk result (ground.new ≡ grown ground.old (ground.old.sizes.defs + 1) (conjunction_clauses ground.old.sizes.defs lits.now)) }
+    ensures state { OnOk result (ground.new ≡ with_defined ground.old (λ k. conjunction_clauses k lits.now)) }
 {
     let defined = define(ground)?;
     add_pairs(alloc, ground, defined.negated(), lits)?;
@@ -93,7 +94,7 @@ fn conjunction(alloc: Global, ground: &mut Ground, lits: &[Lit]) -> Result<Lit, 
 fn disjunction(alloc: Global, ground: &mut Ground, lits: &[Lit]) -> Result<Lit, AllocError>
     requires { AreInRange ground.old.sizes lits.now }
     ensures number { IfOk result (λ l. l ≡ defined ground.old.sizes.defs) }
-    ensures state { OnOk result (ground.new ≡ grown ground.old (ground.old.sizes.defs + 1) (disjunction_clauses ground.old.sizes.defs lits.now)) }
+    ensures state { OnOk result (ground.new ≡ with_defined ground.old (λ k. disjunction_clauses k lits.now)) }
 {
     let defined = define(ground)?;
     let opposites = opposites(alloc, lits)?;
@@ -107,7 +108,7 @@ fn equivalence(alloc: Global, ground: &mut Ground, left: Lit, right: Lit) -> Res
     requires left { IsInRange ground.old.sizes left.atom }
     requires right { IsInRange ground.old.sizes right.atom }
     ensures number { IfOk result (λ l. l ≡ defined ground.old.sizes.defs) }
-    ensures state { OnOk result (ground.new ≡ grown ground.old (ground.old.sizes.defs + 1) (equivalence_clauses ground.old.sizes.defs left right)) }
+    ensures state { OnOk result (ground.new ≡ with_defined ground.old (λ k. equivalence_clauses k left right)) }
 {
     let defined = define(ground)?;
     let fails = defined.negated();

@@ -1,18 +1,23 @@
 //! The ground clauses of a condition.
 
-ghost use Rattle.std.specs.Prelude.{◌≡◌, ◌+◌, ◌-◌, ◌<◌, ◌≤◌, ◌∷◌, [], ℕ, IfOk, OnOk, map, length};
+ghost use Rattle.std.specs.Prelude.{◌≡◌, ◌+◌, ◌<◌, ◌≤◌, ◌∷◌, [], ℕ, IfOk, OnOk, length, map};
 ghost use Rattle.gh_ast.specs.Plain.{Program};
 ghost use Rattle.gh_path.specs.Conditions.{Condition};
 ghost use Rattle.gh_path.specs.Terms.{next};
 ghost use Rattle.gh_symb.specs.Symbolic.{symbolic_of};
-ghost use Rattle.gh_symb.specs.Encodings.{plain_kind, IsSymbolic};
-ghost use Rattle.gh_symb.specs.Formulas as formulas;
+ghost use Rattle.gh_symb.specs.Encodings.{plain_kind};
+ghost use Rattle.gh_symb.specs.Encoded.{plain_of, IsSymbolic};
+ghost use Rattle.gh_symb.specs.Inside.{under_of, step_of, check_of};
+ghost use Rattle.gh_symb.specs.Inside.{AllAreInside, AreStepsInside, IsCheckInside, IsReady, IsStepInside};
+ghost use Rattle.gh_symb.specs.Formulas.{succeeds, successor_claims, successors_from, version_claims, version_after};
+ghost use Rattle.gh_symb.specs.Formulas.{written_claims, freed_claims, claims, problem};
 ghost use Rattle.gh_grass.specs.Claims.{claim_of, negation_of};
 ghost use Rattle.gh_reduce.specs.Growth.{stated_in, IsWithin};
-ghost use Rattle.gh_reduce.specs.Inside.{plain_of, under_of, step_of, check_of, AllAreInside, IsReady, IsStepInside, AreStepsInside, IsCheckInside, IsInside};
+ghost use Rattle.gh_reduce.specs.Rows.{kinds_of};
+ghost use Rattle.gh_reduce.specs.Stated.{all_versions, cell_made, check_fails, none_is_met, step_stated, steps_stated};
 
 use crate::clauses::add_formula;
-use crate::parts::add_part;
+use crate::parts::{Change, add_part};
 use crate::rows::{EachPair, EachTerm, add_each_pair, add_each_term};
 use crate::statements::{
     allocated, free, hops, meets, meets_one, meets_whole, next_where_allocated, same_where_free,
@@ -37,7 +42,7 @@ fn add_successor(
     requires version { version < ground.old.sizes.versions }
     requires of { x.0 < ground.old.sizes.terms }
     requires term { t.0 < ground.old.sizes.terms }
-    ensures { OnOk result (ground.new ≡ stated_in ground.old (formulas.succeeds version x.0 t.0)) }
+    ensures { OnOk result (ground.new ≡ stated_in ground.old (succeeds version x.0 t.0)) }
 {
     let next = next_where_allocated(alloc, version, x, t)?;
     add_formula(alloc, ground, &next)?;
@@ -56,7 +61,7 @@ fn add_kind(
     requires version { version < ground.old.sizes.versions }
     requires of { (i x : ℕ) → plain_kind kind ≡ next i x → x < ground.old.sizes.terms }
     requires term { t.0 < ground.old.sizes.terms }
-    ensures { OnOk result (ground.new ≡ stated_in ground.old (formulas.successor_claims version t.0 (plain_kind kind))) }
+    ensures { OnOk result (ground.new ≡ stated_in ground.old (successor_claims version t.0 (plain_kind kind))) }
 {
     match kind {
         TermKind::Null => Ok(()),
@@ -78,8 +83,8 @@ fn add_successors(
     terms: &TermList,
 ) -> Result<(), AllocError>
     requires version { version < ground.old.sizes.versions }
-    requires ready { IsReady ground.old.sizes.terms (map plain_kind terms.now) }
-    ensures { OnOk result (ground.new ≡ stated_in ground.old (formulas.successors_from version 0 (map plain_kind terms.now))) }
+    requires ready { IsReady ground.old.sizes.terms (kinds_of terms.now) }
+    ensures { OnOk result (ground.new ≡ stated_in ground.old (successors_from version 0 (kinds_of terms.now))) }
 {
     for t in 0..terms.count() {
         let Some(kind) = terms.kind(Term(t)) else {
@@ -98,8 +103,8 @@ pub fn add_version(
     terms: &TermList,
 ) -> Result<(), AllocError>
     requires version { version < ground.old.sizes.versions }
-    requires ready { IsReady ground.old.sizes.terms (map plain_kind terms.now) }
-    ensures { OnOk result (ground.new ≡ stated_in ground.old (formulas.version_claims (map plain_kind terms.now) version)) }
+    requires ready { IsReady ground.old.sizes.terms (kinds_of terms.now) }
+    ensures { OnOk result (ground.new ≡ stated_in ground.old (version_claims (kinds_of terms.now) version)) }
 {
     let null = free(alloc, version, Term(0))?;
     add_formula(alloc, ground, &null)?;
@@ -112,8 +117,8 @@ pub fn add_version(
 }
 
 fn add_versions(alloc: Global, ground: &mut Ground, terms: &TermList) -> Result<(), AllocError>
-    requires { IsReady ground.old.sizes.terms (map plain_kind terms.now) }
-    ensures { OnOk result (ground.new ≡ stated_in ground.old (formulas.versions_claims (map plain_kind terms.now) ground.old.sizes.versions)) }
+    requires { IsReady ground.old.sizes.terms (kinds_of terms.now) }
+    ensures { OnOk result (ground.new ≡ stated_in ground.old (all_versions ground.old terms.now)) }
 {
     for version in 0..ground.versions() {
         add_version(alloc, ground, version, terms)?;
@@ -133,7 +138,7 @@ fn add_write(
     requires few { ground.old.sizes.versions < 256 }
     requires x { x.0 < ground.old.sizes.terms }
     requires value { value.0 < ground.old.sizes.terms }
-    ensures { OnOk result (ground.new ≡ stated_in ground.old (formulas.written_claims ground.old.sizes.terms old x value)) }
+    ensures { OnOk result (ground.new ≡ stated_in ground.old (written_claims ground.old.sizes.terms old x value)) }
 {
     let new = old + 1;
     let same = EachTerm::Same { old, new };
@@ -156,7 +161,7 @@ fn add_new(
     requires few { ground.old.sizes.versions < 256 }
     requires location { location.0 < ground.old.sizes.terms }
     requires content { content.0 < ground.old.sizes.terms }
-    ensures { OnOk result (ground.new ≡ stated_in ground.old (formulas.made_claims ground.old.sizes.terms old location content)) }
+    ensures { OnOk result (ground.new ≡ stated_in ground.old (cell_made ground.old old location content)) }
 {
     let new = old + 1;
     let unused = free(alloc, old, location)?;
@@ -178,7 +183,7 @@ fn add_free(alloc: Global, ground: &mut Ground, old: u8, x: Term) -> Result<(), 
     requires version { old + 1 < ground.old.sizes.versions }
     requires few { ground.old.sizes.versions < 256 }
     requires x { x.0 < ground.old.sizes.terms }
-    ensures { OnOk result (ground.new ≡ stated_in ground.old (formulas.freed_claims ground.old.sizes.terms old x)) }
+    ensures { OnOk result (ground.new ≡ stated_in ground.old (freed_claims ground.old.sizes.terms old x)) }
 {
     let new = old + 1;
     let freed = EachTerm::Freed { old, new, x };
@@ -196,9 +201,9 @@ fn add_step(
     terms: &TermList,
 ) -> Result<(), AllocError>
     requires few { ground.old.sizes.versions < 256 }
-    requires ready { IsReady ground.old.sizes.terms (map plain_kind terms.now) }
+    requires ready { IsReady ground.old.sizes.terms (kinds_of terms.now) }
     requires inside { IsStepInside ground.old.sizes.terms ground.old.sizes.versions version (step_of step.now) }
-    ensures { OnOk result (ground.new ≡ stated_in ground.old (formulas.step_claims (map plain_kind terms.now) version (step_of step.now))) }
+    ensures { OnOk result (ground.new ≡ stated_in ground.old (step_stated (kinds_of terms.now) version step.now)) }
 {
     match step {
         TermStep::Access { x } => {
@@ -216,14 +221,19 @@ fn add_step(
         }
         TermStep::Free { x } => Ok(add_free(alloc, ground, version, *x)?),
         TermStep::Part { before, after } => {
-            Ok(add_part(alloc, ground, version, before, after.as_slice(), terms)?)
+            let change = Change {
+                old: version,
+                before,
+                after: after.as_slice(),
+            };
+            Ok(add_part(alloc, ground, change, terms)?)
         }
     }
 }
 
 // How many versions a step begins.
 fn versions_begun(step: &TermStep) -> u8
-    ensures after { (i : ℕ) → formulas.version_after i (step_of step.now) ≡ i + result }
+    ensures after { (i : ℕ) → version_after i (step_of step.now) ≡ i + result }
     ensures few { result ≤ 1 }
 {
     match step {
@@ -244,10 +254,10 @@ fn add_steps(
     terms: &TermList,
 ) -> Result<(), AllocError>
     requires few { ground.old.sizes.versions < 256 }
-    requires ready { IsReady ground.old.sizes.terms (map plain_kind terms.now) }
+    requires ready { IsReady ground.old.sizes.terms (kinds_of terms.now) }
     requires some { 1 ≤ ground.old.sizes.versions }
     requires inside { AreStepsInside ground.old.sizes.terms ground.old.sizes.versions 0 (map step_of steps.now) }
-    ensures { OnOk result (ground.new ≡ stated_in ground.old (formulas.steps_claims (map plain_kind terms.now) 0 (map step_of steps.now))) }
+    ensures { OnOk result (ground.new ≡ stated_in ground.old (steps_stated (kinds_of terms.now) steps.now)) }
 {
     let mut version = 0;
     for step in steps {
@@ -273,10 +283,9 @@ fn add_not_whole(
     bounds: &[Bound],
     terms: &TermList,
 ) -> Result<(), AllocError>
-    requires ready { IsReady ground.old.sizes.terms (map plain_kind terms.now) }
+    requires ready { IsReady ground.old.sizes.terms (kinds_of terms.now) }
     requires inside { AllAreInside ground.old.sizes.terms ground.old.sizes.versions (map under_of bounds.now) }
-    ensures { OnOk result (let ks = map plain_kind terms.now in
-        ground.new ≡ stated_in ground.old (map negation_of (formulas.meets_one_of ks (map under_of bounds.now)))) }
+    ensures { OnOk result (ground.new ≡ stated_in ground.old (none_is_met (kinds_of terms.now) bounds.now)) }
 {
     match bounds {
         [] => Ok(()),
@@ -292,10 +301,10 @@ fn add_check(
     check: &TermCheck,
     terms: &TermList,
 ) -> Result<(), AllocError>
-    requires ready { IsReady ground.old.sizes.terms (map plain_kind terms.now) }
+    requires ready { IsReady ground.old.sizes.terms (kinds_of terms.now) }
     requires some { 1 ≤ ground.old.sizes.versions }
     requires inside { IsCheckInside ground.old.sizes.terms ground.old.sizes.versions (check_of check.now) }
-    ensures { OnOk result (ground.new ≡ stated_in ground.old (formulas.check_claims (map plain_kind terms.now) (ground.old.sizes.versions - 1) (check_of check.now))) }
+    ensures { OnOk result (ground.new ≡ stated_in ground.old (check_fails ground.old terms.now check.now)) }
 {
     match check {
         TermCheck::Access { x } => {
@@ -310,20 +319,31 @@ fn add_check(
     }
 }
 
+// What a condition says, where it has as many terms and versions.
+fn add_condition(alloc: Global, ground: &mut Ground, symbolic: &Symbolic) -> Result<(), AllocError>
+    requires terms { ground.old.sizes.terms ≡ length symbolic.now.terms }
+    requires versions { ground.old.sizes.versions ≡ symbolic.now.versions }
+    requires few { ground.old.sizes.versions < 256 }
+    ensures { OnOk result (ground.new ≡ stated_in ground.old (claims (plain_of symbolic.now))) }
+{
+    let terms = symbolic.terms();
+    add_versions(alloc, ground, terms)?;
+    let start = meets_whole(alloc, symbolic.start(), terms)?;
+    add_formula(alloc, ground, &start)?;
+    add_steps(alloc, ground, symbolic.steps(), terms)?;
+    Ok(add_check(alloc, ground, symbolic.check(), terms)?)
+}
+
 /// The clauses of a condition, with the numbers of its terms, versions and definitions.
 ///
-/// More than 4,294,967,294 clauses, or as many definitions as a number counts, are as want of memory.
+/// More than 4,294,967,294 clauses, or more definitions than 32 bits count, find no memory.
 pub fn ground(alloc: Global, symbolic: &Symbolic) -> Result<Ground, AllocError>
-    requires { (P : Program) × (c : Condition) × IsSymbolic P c symbolic.now }
-    ensures is { IfOk result (λ g. g ≡ formulas.problem (plain_of symbolic.now)) }
-    ensures told { (P : Program) (c : Condition) → IsSymbolic P c symbolic.now → IfOk result (λ g. g ≡ formulas.problem (symbolic_of P c)) }
+    ensures is { IfOk result (λ g. g ≡ problem (plain_of symbolic.now)) }
+    ensures told { (P : Program) (c : Condition) → IsSymbolic P c symbolic.now →
+        IfOk result (λ g. g ≡ problem (symbolic_of P c)) }
 {
     let terms = symbolic.terms();
     let mut ground = Ground::new(alloc, terms.count(), symbolic.versions());
-    add_versions(alloc, &mut ground, terms)?;
-    let start = meets_whole(alloc, symbolic.start(), terms)?;
-    add_formula(alloc, &mut ground, &start)?;
-    add_steps(alloc, &mut ground, symbolic.steps(), terms)?;
-    add_check(alloc, &mut ground, symbolic.check(), terms)?;
+    add_condition(alloc, &mut ground, symbolic)?;
     Ok(ground)
 }

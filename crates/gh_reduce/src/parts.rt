@@ -1,12 +1,11 @@
 //! A part of the heap that gives way to one of some alternatives.
 
-ghost use Rattle.std.specs.Prelude.{◌≡◌, ◌+◌, ◌<◌, IfOk, OnOk, map};
-ghost use Rattle.gh_grass.specs.Claims.{claim_of, claims_list, one_of};
-ghost use Rattle.gh_symb.specs.Encodings.{plain_kind};
-ghost use Rattle.gh_symb.specs.Formulas as formulas;
+ghost use Rattle.std.specs.Prelude.{◌≡◌, ◌<◌, IfOk, OnOk};
+ghost use Rattle.gh_grass.specs.Claims.{claim_of, claims_list};
+ghost use Rattle.gh_symb.specs.Inside.{IsReady};
 ghost use Rattle.gh_reduce.specs.Growth.{stated_in};
-ghost use Rattle.gh_reduce.specs.Inside.{under_of, AllAreInside, IsReady, IsUnderInside};
-ghost use Rattle.gh_reduce.specs.Parts.{placed_of};
+ghost use Rattle.gh_reduce.specs.Parts.{alternatives_stated, change_stated, one_is_placed, placed_list, IsChangeInside};
+ghost use Rattle.gh_reduce.specs.Rows.{kinds_of};
 
 use crate::clauses::{add_formula, add_formulas};
 use crate::rows::{EachPair, EachTerm, add_each_pair, push_each_term};
@@ -26,8 +25,7 @@ fn placed<'s, 'a>(
     terms: &TermList,
 ) -> Result<Vec<Formula>, AllocError>
     requires { old < 255 }
-    ensures { IfOk result (λ fs. let ks = map plain_kind terms.now in
-        claims_list fs.items ≡ formulas.placed_claims ks old (under_of before.now) (under_of after.now)) }
+    ensures { IfOk result (λ fs. claims_list fs.items ≡ placed_list (kinds_of terms.now) old before.now after.now) }
 {
     let new = old + 1;
     let mut members = Vec::new(alloc);
@@ -53,8 +51,7 @@ fn one_placed<'s, 'a>(
     terms: &TermList,
 ) -> Result<Formula, AllocError>
     requires { old < 255 }
-    ensures { IfOk result (λ f. let ks = map plain_kind terms.now in
-        claim_of f ≡ one_of (map (placed_of ks old (under_of before.now)) (map under_of after.now))) }
+    ensures { IfOk result (λ f. claim_of f ≡ one_is_placed (kinds_of terms.now) old before.now after.now) }
 {
     let mut members = Vec::new(alloc);
     for bound in after {
@@ -64,57 +61,56 @@ fn one_placed<'s, 'a>(
     Ok(Formula::Or(members))
 }
 
+/// A part of the heap in a version that gives way to one of some alternatives in the next.
+#[derive(Clone, Copy, Debug)]
+pub struct Change<'s, 'a> {
+    pub old: u8,
+    pub before: &'s Bound<'a>,
+    pub after: &'s [Bound<'a>],
+}
+
 // What comes in the place of the part.
-fn add_alternatives<'s, 'a>(
+fn add_alternatives(
     alloc: Global,
     ground: &mut Ground,
-    old: u8,
-    before: &'s Bound<'a>,
-    after: &'s [Bound<'a>],
+    change: Change<'_, '_>,
     terms: &TermList,
 ) -> Result<(), AllocError>
-    requires version { old + 1 < ground.old.sizes.versions }
     requires few { ground.old.sizes.versions < 256 }
-    requires ready { IsReady ground.old.sizes.terms (map plain_kind terms.now) }
-    requires before { IsUnderInside ground.old.sizes.terms ground.old.sizes.versions (under_of before.now) }
-    requires after { AllAreInside ground.old.sizes.terms ground.old.sizes.versions (map under_of after.now) }
-    ensures { OnOk result (let ks = map plain_kind terms.now in ground.new ≡ stated_in ground.old
-        (formulas.alternatives_claims ks old (under_of before.now) (map under_of after.now))) }
+    requires ready { IsReady ground.old.sizes.terms (kinds_of terms.now) }
+    requires inside { IsChangeInside ground.old.sizes change }
+    ensures { OnOk result (ground.new ≡ stated_in ground.old (alternatives_stated (kinds_of terms.now) change.entry)) }
 {
-    match after {
+    match change.after {
         [] => Ok(add_formula(alloc, ground, &never(alloc))?),
         [only] => {
-            let placed = placed(alloc, old, before, only, terms)?;
+            let placed = placed(alloc, change.old, change.before, only, terms)?;
             Ok(add_formulas(alloc, ground, placed.as_slice())?)
         }
         _ => {
-            let one = one_placed(alloc, old, before, after, terms)?;
+            let one = one_placed(alloc, change.old, change.before, change.after, terms)?;
             Ok(add_formula(alloc, ground, &one)?)
         }
     }
 }
 
-/// A part of the heap gives way to one of some alternatives.
-pub fn add_part<'s, 'a>(
+/// The part gives way.
+pub fn add_part(
     alloc: Global,
     ground: &mut Ground,
-    old: u8,
-    before: &'s Bound<'a>,
-    after: &'s [Bound<'a>],
+    change: Change<'_, '_>,
     terms: &TermList,
 ) -> Result<(), AllocError>
-    requires version { old + 1 < ground.old.sizes.versions }
     requires few { ground.old.sizes.versions < 256 }
-    requires ready { IsReady ground.old.sizes.terms (map plain_kind terms.now) }
-    requires before { IsUnderInside ground.old.sizes.terms ground.old.sizes.versions (under_of before.now) }
-    requires after { AllAreInside ground.old.sizes.terms ground.old.sizes.versions (map under_of after.now) }
-    ensures { OnOk result (let ks = map plain_kind terms.now in ground.new ≡ stated_in ground.old
-        (formulas.parts_claims ks old (under_of before.now) (map under_of after.now))) }
+    requires ready { IsReady ground.old.sizes.terms (kinds_of terms.now) }
+    requires inside { IsChangeInside ground.old.sizes change }
+    ensures { OnOk result (ground.new ≡ stated_in ground.old (change_stated (kinds_of terms.now) change.entry)) }
 {
+    let (old, before) = (change.old, change.before);
     let new = old + 1;
     let taken = meets(alloc, before, terms)?;
     add_formula(alloc, ground, &taken)?;
-    add_alternatives(alloc, ground, old, before, after, terms)?;
+    add_alternatives(alloc, ground, change, terms)?;
     let kept = EachPair::Kept { old, new, before };
     Ok(add_each_pair(alloc, ground, &kept)?)
 }

@@ -1,10 +1,10 @@
 //! What is stated of each term, or of each two terms.
 
-ghost use Rattle.std.specs.Prelude.{◌≡◌, ◌<◌, ◌++◌, IfOk, OnOk};
+ghost use Rattle.std.specs.Prelude.{◌≡◌, ◌<◌, IfOk, OnOk};
 ghost use Rattle.gh_grass.specs.Claims.{claim_of, claims_list};
-ghost use Rattle.gh_symb.specs.Formulas as formulas;
 ghost use Rattle.gh_reduce.specs.Growth.{stated_in};
-ghost use Rattle.gh_reduce.specs.Rows.{of_term, of_pair, IsEachTermInside, IsEachPairInside};
+ghost use Rattle.gh_reduce.specs.Rows.{of_term, of_pair, said_of_each, said_of_pairs, with_each};
+ghost use Rattle.gh_reduce.specs.Rows.{IsEachTermInside, IsEachPairInside};
 
 use crate::clauses::add_formula;
 use crate::statements::{allocated, kept, leads, same_hops, within};
@@ -127,8 +127,7 @@ pub fn push_each_term(
     each: &EachTerm,
     terms: u8,
 ) -> Result<(), AllocError>
-    ensures { OnOk result (claims_list members.new.items
-        ≡ claims_list members.old.items ++ formulas.each terms (of_term each.now)) }
+    ensures { OnOk result (claims_list members.new.items ≡ with_each members.old.items terms (of_term each.now)) }
 {
     for z in 0..terms {
         members.push(each.formula(alloc, Term(z))?)?;
@@ -139,7 +138,7 @@ pub fn push_each_term(
 /// States it of each term.
 pub fn add_each_term(alloc: Global, ground: &mut Ground, each: &EachTerm) -> Result<(), AllocError>
     requires { IsEachTermInside ground.old.sizes each.now }
-    ensures { OnOk result (ground.new ≡ stated_in ground.old (formulas.each ground.old.sizes.terms (of_term each.now))) }
+    ensures { OnOk result (ground.new ≡ stated_in ground.old (said_of_each ground.old (of_term each.now))) }
 {
     for z in 0..ground.terms() {
         let formula = each.formula(alloc, Term(z))?;
@@ -157,7 +156,7 @@ fn add_pairs_of(
 ) -> Result<(), AllocError>
     requires inside { IsEachPairInside ground.old.sizes each.now }
     requires term { z.0 < ground.old.sizes.terms }
-    ensures { OnOk result (ground.new ≡ stated_in ground.old (formulas.each ground.old.sizes.terms (of_pair each.now z))) }
+    ensures { OnOk result (ground.new ≡ stated_in ground.old (said_of_each ground.old (of_pair each.now z))) }
 {
     for v in 0..ground.terms() {
         let formula = each.formula(alloc, z, Term(v))?;
@@ -169,7 +168,7 @@ fn add_pairs_of(
 /// States it of each two terms.
 pub fn add_each_pair(alloc: Global, ground: &mut Ground, each: &EachPair) -> Result<(), AllocError>
     requires { IsEachPairInside ground.old.sizes each.now }
-    ensures { OnOk result (ground.new ≡ stated_in ground.old (formulas.each_pair ground.old.sizes.terms (of_pair each.now))) }
+    ensures { OnOk result (ground.new ≡ stated_in ground.old (said_of_pairs ground.old (of_pair each.now))) }
 {
     for z in 0..ground.terms() {
         add_pairs_of(alloc, ground, each, Term(z))?;

@@ -1,11 +1,11 @@
 //! Formulas about cells, terms and parts of the heap.
 
-ghost use Rattle.std.specs.Prelude.{◌≡◌, ◌∷◌, [], IfOk, map};
+ghost use Rattle.std.specs.Prelude.{◌≡◌, ◌∷◌, [], IfOk};
 ghost use Rattle.gh_grass.specs.Claims.{claim_of, negation_of, one_of, equality};
-ghost use Rattle.gh_symb.specs.Encodings.{plain_kind};
 ghost use Rattle.gh_symb.specs.Formulas as formulas;
-ghost use Rattle.gh_reduce.specs.Inside.{under_of};
-ghost use Rattle.gh_reduce.specs.Rows.{same_hops};
+ghost use Rattle.gh_symb.specs.Inside.{under_of};
+ghost use Rattle.gh_reduce.specs.Rows.{kinds_of, same_hops};
+ghost use Rattle.gh_reduce.specs.Stated.{next_where_allocated, one_is_met};
 
 use gh_base::atom::{Atom, Term};
 use gh_grass::footprint::{footprint_at, structure_of};
@@ -49,7 +49,7 @@ pub fn next_where_allocated(
     x: Term,
     next: Term,
 ) -> Result<Formula, AllocError>
-    ensures { IfOk result (λ f. claim_of f ≡ one_of (negation_of (formulas.allocated version x) ∷ formulas.hops version x next ∷ [])) }
+    ensures { IfOk result (λ f. claim_of f ≡ next_where_allocated version x next) }
 {
     Ok(free(alloc, version, x)?.or(alloc, hops(version, x, next))?)
 }
@@ -82,7 +82,7 @@ pub fn within(alloc: Global, bound: &Bound, z: Term) -> Result<Formula, AllocErr
 
 /// Some part of the heap meets an assertion.
 pub fn meets(alloc: Global, bound: &Bound, terms: &TermList) -> Result<Formula, AllocError>
-    ensures { IfOk result (λ f. claim_of f ≡ formulas.meets (map plain_kind terms.now) (under_of bound.now)) }
+    ensures { IfOk result (λ f. claim_of f ≡ formulas.meets (kinds_of terms.now) (under_of bound.now)) }
 {
     Ok(structure_of(alloc, bound.assertion, &bound.binding, bound.version, terms)?)
 }
@@ -117,7 +117,7 @@ fn covers(alloc: Global, bound: &Bound, z: Term) -> Result<Formula, AllocError>
 
 /// The whole heap meets an assertion.
 pub fn meets_whole(alloc: Global, bound: &Bound, terms: &TermList) -> Result<Formula, AllocError>
-    ensures { IfOk result (λ f. claim_of f ≡ formulas.meets_whole (map plain_kind terms.now) (under_of bound.now)) }
+    ensures { IfOk result (λ f. claim_of f ≡ formulas.meets_whole (kinds_of terms.now) (under_of bound.now)) }
 {
     let mut members = Vec::new(alloc);
     members.push(meets(alloc, bound, terms)?)?;
@@ -129,8 +129,7 @@ pub fn meets_whole(alloc: Global, bound: &Bound, terms: &TermList) -> Result<For
 
 /// The whole heap meets one of some assertions.
 pub fn meets_one(alloc: Global, bounds: &[Bound], terms: &TermList) -> Result<Formula, AllocError>
-    ensures { IfOk result (λ f. let ks = map plain_kind terms.now in
-        claim_of f ≡ one_of (map (formulas.meets_whole ks) (map under_of bounds.now))) }
+    ensures { IfOk result (λ f. claim_of f ≡ one_is_met (kinds_of terms.now) bounds.now) }
 {
     let mut members = Vec::new(alloc);
     for bound in bounds {

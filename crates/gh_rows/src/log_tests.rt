@@ -148,8 +148,9 @@ fn count_instances(log: &[u8]) -> usize {
     log.windows(3).filter(|here| **here == *start).count()
 }
 
+// Of the 682,020 instances over the terms of a wide program its log names few.
 #[test]
-fn few_instances(rt: HostRuntime) -> Result<(), AllocError> {
+fn a_log_of_few_instances(rt: HostRuntime) -> Result<(), AllocError> {
     let alloc = rt.alloc();
     let program = wide(alloc, 19)?;
     let log = log_of(alloc, program.as_slice())?;

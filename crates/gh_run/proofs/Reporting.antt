@@ -6,7 +6,7 @@ use Rattle.gh_assert.specs.Heaps.{Heap, Splits}
 use Rattle.gh_assert.specs.Meaning.{MeetsOneOf}
 use Rattle.gh_assert.specs.Stores.{store_of}
 use Rattle.gh_machine.specs.Machine as machine
-use Rattle.gh_machine.specs.Machine.{Config, HasEnded, EndsWell, last_of}
+use Rattle.gh_machine.specs.Machine.{Config, HasEnded}
 use Rattle.gh_machine.proofs.Faults.{faults_stop, ends_stop}
 use Rattle.gh_trace.specs.Traces.{Replaced}
 use Rattle.gh_trace.specs.declared.state.State.{State}

@@ -12,7 +12,7 @@ use Rattle.gh_assert.specs.Heaps.{Heap}
 use Rattle.gh_assert.specs.Meaning.{Store}
 use Rattle.gh_assert.specs.Stores.{store_of}
 use Rattle.gh_machine.specs.Machine.{Activation, Config, Answers, Pops, StepOn}
-use Rattle.gh_machine.specs.Choices.{Follows, StepBy}
+use Rattle.gh_machine.specs.Choices.{Follows}
 use Rattle.gh_machine.specs.Choices as choices
 use Rattle.gh_machine.specs.Configs.{beside, starts_of, chosen, IsReturn, Misfits, IsNext, WantsStarts}
 use Rattle.gh_machine.specs.declared.step.Choice.{Choice}

@@ -1,6 +1,6 @@
 //! The lines of a state file, one after the other.
 
-ghost use Rattle.std.specs.Prelude.{◌≡◌, ◌++◌, ◌≤◌, ℕ, length, IfOk, MatchOption, codes};
+ghost use Rattle.std.specs.Prelude.{◌≤◌, ℕ, length, IfOk, MatchOption};
 ghost use Rattle.gh_ast.specs.Plain.{program_of};
 ghost use Rattle.gh_draw.specs.Reading.{IsFrontRead, AreDistinctNames, HasNoEnd};
 ghost use Rattle.gh_run.specs.Lines.{IsFirstLine, IsNumberOf, ShowsProcedure, ShowsStore, ShowsCellLine};

@@ -1,6 +1,6 @@
 //! Steps under the rule of choice, and how far they lead.
 
-ghost use Rattle.std.specs.Prelude.{◌≡◌, ◌+◌, ◌≤◌, ◌<◌, IfOk};
+ghost use Rattle.std.specs.Prelude.{◌+◌, ◌≤◌, ◌<◌, IfOk};
 ghost use Rattle.std.specs.FinMap.{len};
 ghost use Rattle.gh_ast.specs.Plain.{program_of};
 ghost use Rattle.gh_machine.specs.Configs.{config_of, IsMadeFor};

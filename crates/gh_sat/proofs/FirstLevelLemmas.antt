@@ -7,7 +7,7 @@ use Rattle.gh_base.specs.Atoms.{opposite}
 use Rattle.gh_base.specs.Propagation.{Propagated, forced}
 use Rattle.gh_sat.specs.declared.trail.Step.{Step}
 use Rattle.gh_sat.specs.Trail.{SearchState, Stands, IsCaused, IsSound}
-use Rattle.gh_sat.proofs.ListLemmas.{get_within}
+use Rattle.gh_base.proofs.ListLemmas.{get_within}
 use Rattle.gh_sat.proofs.LearnLemmas.{in_get}
 
 -- what a step with no level to open is given by

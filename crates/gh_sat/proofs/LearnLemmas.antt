@@ -12,7 +12,8 @@ use Rattle.gh_sat.specs.declared.trail.Step.{Step}
 use Rattle.gh_sat.specs.Trail.{Line, SearchState, cut, Stands, IsTrueIn, IsFalseIn, IsReason, IsLevelStart, IsCaused, IsSound, IsUnitIn}
 use Rattle.gh_sat.specs.Watch.{WasOpen}
 use Rattle.gh_sat.specs.Learn.{Reached, Marking, IsMarked, HasMark, HaveReasons, IsLeft, IsPoint, IsFirstPoint, IsClauseOf, IsLearnt}
-use Rattle.gh_sat.proofs.ListLemmas.{get_within, get_some, take_get, get_take, end_of_at}
+use Rattle.gh_base.proofs.ListLemmas.{get_within, get_some, take_get, get_take}
+use Rattle.gh_sat.proofs.ListLemmas.{end_of_at}
 use Rattle.gh_sat.proofs.TrailLemmas.{opposite_twice}
 use Rattle.gh_sat.proofs.MarkLemmas.{marks_some}
 use Rattle.gh_sat.proofs.ResolveLemmas.{reached_more, reached_within, complete, mark_at}

@@ -10,7 +10,7 @@ use Rattle.gh_base.specs.declared.atom.Lit.{Lit}
 use Rattle.gh_base.specs.Atoms.{opposite}
 use Rattle.gh_sat.specs.declared.trail.Step.{Step}
 use Rattle.gh_sat.specs.Learn.{Marking, IsMarked, HasMark, AllMarked, one_if, marked, IsBounded, AreMarks, MarksMore}
-use Rattle.gh_sat.proofs.ListLemmas.{get_within, get_take, take_get, get_set_same, get_set_other}
+use Rattle.gh_base.proofs.ListLemmas.{get_within, get_take, take_get, get_set_same, get_set_other}
 use Rattle.gh_sat.proofs.TrailLemmas.{opposite_twice}
 
 pub get_drop : {X : Type 0} (n : ℕ) (xs : List X) (i : ℕ) → slice_get (drop n xs) i ≡ slice_get xs (n + i)

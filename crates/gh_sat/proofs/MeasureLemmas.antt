@@ -13,7 +13,8 @@ use Rattle.gh_sat.specs.Measure.{count_at, IsFurther, StepsLeadFurther, IsCutLev
 use Rattle.gh_sat.specs.Learn.{IsLearnt, add_clause, one_if}
 use Rattle.gh_sat.specs.Status.{Grows}
 use Rattle.gh_sat.specs.Whole.{GivesLast}
-use Rattle.gh_sat.proofs.ListLemmas.{get_some, get_take, take_get, get_within, end_of_at, lt_le}
+use Rattle.gh_base.proofs.ListLemmas.{get_some, get_take, take_get, get_within}
+use Rattle.gh_sat.proofs.ListLemmas.{end_of_at, lt_le}
 use Rattle.gh_sat.proofs.MarkLemmas.{get_drop, one_if_is, one_if_not}
 
 lt_weak : {a b : ℕ} → a < b → a ≤ b

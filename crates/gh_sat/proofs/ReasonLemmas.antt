@@ -12,7 +12,8 @@ use Rattle.gh_base.specs.Hints.{HasAllButOne, IsRefutedByHints, refuted, joined}
 use Rattle.gh_sat.specs.declared.trail.Step.{Step}
 use Rattle.gh_sat.specs.Trail.{Line, SearchState, Stands, IsReason, IsCaused, IsFalseIn, AreSteps, IsSound}
 use Rattle.gh_sat.specs.Learn.{Marking, IsMarked, HasMark, AllMarked, ResolvedFrom, IsLeft, AreReasons, AllHaveReasons, reasons_of}
-use Rattle.gh_sat.proofs.ListLemmas.{get_within, get_some, drop_past}
+use Rattle.gh_base.proofs.ListLemmas.{get_within, get_some}
+use Rattle.gh_sat.proofs.ListLemmas.{drop_past}
 use Rattle.gh_sat.proofs.TrailLemmas.{opposite_twice, stands_below}
 use Rattle.gh_sat.proofs.ResolveLemmas.{mark_at}
 use Rattle.gh_sat.proofs.LearnLemmas.{reason_or_start, in_map, only_place}

@@ -10,7 +10,7 @@ use Rattle.gh_sat.specs.declared.trail.Step.{Step}
 use Rattle.gh_sat.specs.Trail.{Line, Stands, IsReason, AreSteps}
 use Rattle.gh_sat.specs.Learn.{Reached, Marking, IsMarked, HasMark, AllMarked, marked, AreMarks, MarksMore, ResolvedFrom, AreReached, HaveReasons, IsAlone, IsLeft}
 use Rattle.gh_sat.specs.Learn.Reached.{by_conflict, by_reason}
-use Rattle.gh_sat.proofs.ListLemmas.{get_within, get_some}
+use Rattle.gh_base.proofs.ListLemmas.{get_within, get_some}
 use Rattle.gh_sat.proofs.MarkLemmas.{all_marked_more, marks_down, some_marked}
 
 -- resolving more steps reaches no less

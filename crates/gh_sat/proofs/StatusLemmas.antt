@@ -1,17 +1,18 @@
 -- The status of a clause.
-use Rattle.std.proofs.Common.{◌≡◌, ◌⊎◌, ℕ, zero, suc, ◌<◌, List, [], ◌∷◌, length, get_or, take, Some, Bool, true, false, inl, inr, refl, sym, ap, ◌∙◌, subst, arith, Contains, Option, None}
+use Rattle.std.proofs.Common.{◌≡◌, ◌⊎◌, ℕ, zero, suc, ◌<◌, List, [], ◌∷◌, length, get_or, take, Some, Bool, true, false, inl, inr, refl, sym, ap, ◌∙◌, subst, arith, Contains, Option, None, IsTrue, ◌↔◌}
 use Rattle.std.specs.Prelude.{slice_get, not, IfSome, ◌+◌, ◌≤◌}
 use Rattle.std.proofs.lemmas.List.Elements.{All-contains}
 use Rattle.gh_base.specs.declared.atom.Lit.{Lit}
 use Rattle.gh_base.specs.declared.atom.Atom.TheVariants.{Eq}
 use Rattle.gh_base.specs.declared.sizes.Sizes.{Sizes}
+use Rattle.gh_base.specs.Assignments.{Partial}
 use Rattle.gh_base.proofs.NumberLemmas.{apart}
 use Rattle.gh_sat.proofs.TrailLemmas.{same_lit}
 use Rattle.gh_base.specs.Atoms.{opposite, IsInRange, AreInRange}
 use Rattle.gh_sat.specs.declared.rows.Numbered.{Numbered}
 use Rattle.gh_sat.specs.Rows.{numbered, row_of}
 use Rattle.gh_sat.specs.declared.trail.Step.{Step}
-use Rattle.gh_sat.specs.Trail.{Line, IsTrueIn, IsFree, AreSteps}
+use Rattle.gh_sat.specs.Trail.{Line, IsTrueIn, IsFree, IsValue, AreSteps, AreValues}
 use Rattle.gh_sat.specs.Status.{IsBad}
 
 -- what the code reads past the end of a clause
@@ -108,3 +109,14 @@ within_more (Some k) i h = omega (arith, h)
 
 pub row_past : (s : Sizes) (c : List Lit) (row : List Numbered) (i : ℕ) → row ≡ row_of s c → length row ≤ i → length c ≤ i
 row_past s c row i e h = let l = row_long s c in let m = ap (λ (r : List Numbered). length r) e in omega (arith, l, m, h)
+
+-- whether a literal is true, from its truth
+pub exact_none : (trail : List Step) (l : Lit) → IsFree trail l.atom → IsTrue false ↔ IsTrueIn trail l
+exact_none trail l f = (λ e. absurd (let x : false ≡ true = e in cc), λ s. absurd (f s.0 s.1 s.3 (ap (λ (m : Lit). m.atom) s.4)))
+
+pub exact_some : (t : Line) (l : Lit) (b : Bool) → AreSteps t → IsValue t.steps l (Some b) → IsTrue b ↔ IsTrueIn t.steps l
+exact_some t l true steps h = (λ _. h, λ _. refl)
+exact_some t l false steps h = (λ e. absurd (let x : false ≡ true = e in cc), λ s. absurd (not_both t l steps s h))
+
+pub steps_of : (p : Partial) (trail : List Step) → AreValues p trail → AreSteps (record { sizes = p.sizes; steps = trail })
+steps_of p trail v = record { range = v.range; apart = v.apart; few = omega (arith, v.count, v.long); small = v.small }

@@ -14,7 +14,8 @@ use Rattle.gh_sat.specs.Whole.{Adds, PropagatesTo}
 use Rattle.gh_sat.specs.Watch.{WasOpen}
 use Rattle.gh_sat.specs.Learn.{IsConflict, add_clause}
 use Rattle.gh_sat.specs.Theory.{IsRefutedBy, HasNoLit, lits_of, IsTold, HasNoConflict, WereConsistent, PropagatesBeside}
-use Rattle.gh_sat.proofs.ListLemmas.{get_within, get_take, get_push, get_last, le_same}
+use Rattle.gh_base.proofs.ListLemmas.{get_within, get_take, get_push, get_last}
+use Rattle.gh_sat.proofs.ListLemmas.{le_same}
 use Rattle.gh_sat.proofs.WholeLemmas.{take_take, take_whole, present_of, cut_none}
 
 pub lits_take : (n : ℕ) (xs : List Step) → take n (lits_of xs) ≡ lits_of (take n xs)

@@ -17,7 +17,8 @@ use Rattle.gh_base.specs.Assignments.{Partial, value_of, value_at, with_value}
 use Rattle.gh_base.proofs.NumberLemmas.{number_below, apart}
 use Rattle.gh_sat.specs.declared.trail.Step.{Step}
 use Rattle.gh_sat.specs.Trail.{Stands, IsFree, IsValue, AreSteps, AreValues, ArePlaces, IsPassed, turned, IsAssignmentOf, unassigned}
-use Rattle.gh_sat.proofs.ListLemmas.{get_within, get_front, get_push, get_last, take_get, get_set_same, get_set_other, fewer_left, more_left, some_left}
+use Rattle.gh_base.proofs.ListLemmas.{get_within, get_front, get_push, get_last, take_get, get_set_same, get_set_other}
+use Rattle.gh_sat.proofs.ListLemmas.{fewer_left, more_left, some_left}
 
 pub same_lit : (l u : Lit) → l.atom ≡ u.atom → l.positive ≡ u.positive → l ≡ u
 same_lit l u a b i = record { atom = a i; positive = b i }

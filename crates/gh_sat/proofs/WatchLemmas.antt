@@ -14,7 +14,7 @@ use Rattle.gh_sat.specs.declared.status.Hint.{Hint}
 use Rattle.gh_sat.specs.Rows.{numbered}
 use Rattle.gh_sat.specs.Status.{IsBad, IsPair, IsGuarded, IsForced, AreForced, Grows}
 use Rattle.gh_sat.specs.Watch.{AreGuarded, AreVisited, MoveHints, AreListed, ListsMore, clauses_of}
-use Rattle.gh_sat.proofs.ListLemmas.{get_within, get_front, get_last, get_take, take_get, get_some, get_set_same, get_set_other}
+use Rattle.gh_base.proofs.ListLemmas.{get_within, get_front, get_last, get_take, take_get, get_some, get_set_same, get_set_other}
 use Rattle.gh_sat.proofs.TrailLemmas.{opposite_twice}
 use Rattle.gh_sat.proofs.StatusLemmas.{true_good, not_free_opposite}
 

@@ -17,7 +17,8 @@ use Rattle.gh_sat.specs.Whole.{IsWhole}
 use Rattle.gh_sat.specs.declared.rows.Numbered.{Numbered}
 use Rattle.gh_sat.specs.Rows.{row_of, rows_of}
 use Rattle.std.proofs.lemmas.List.{map-append}
-use Rattle.gh_sat.proofs.ListLemmas.{get_within, get_front, get_push, get_last, get_take, take_get, get_some, end_of_at, end_of_past, le_le}
+use Rattle.gh_base.proofs.ListLemmas.{get_within, get_front, get_push, get_last, get_take, take_get, get_some}
+use Rattle.gh_sat.proofs.ListLemmas.{end_of_at, end_of_past, le_le}
 use Rattle.gh_sat.proofs.TrailLemmas.{stands_push, stands_take}
 use Rattle.gh_sat.proofs.WatchLemmas.{get_front_back, guarded_grown, pair_less, true_longer, append_nil, any_or_all}
 
@@ -336,7 +337,7 @@ whole_lists s counts looked head lists lists' hints h more = record {
 }
 
 pub whole_add : (s : SearchState) (counts : List ℕ) (looked head : ℕ) (lists : List (List ℕ)) (hints : List Hint) (c : List Lit) (hint : Hint) → IsWhole s counts looked head lists hints → AreInRange s.sizes c → WasOpen s.trail s.starts c
-    → ((m : Lit) → Contains c m → Contains (clauses_of s.sizes lists m) (length s.clauses)) → length s.clauses < 4294967294 → IsWhole (add_clause s c) counts looked head lists (hints ++ hint ∷ [])
+    → ((m : Lit) → Contains c m → Contains (clauses_of s.sizes lists m) (length s.clauses)) → length s.clauses < 4294967293 → IsWhole (add_clause s c) counts looked head lists (hints ++ hint ∷ [])
 whole_add s counts looked head lists hints c hint h range was listed few =
     let old : (k : ℕ) (d : List Lit) → k < length s.clauses → slice_get (s.clauses ++ c ∷ []) k ≡ Some d → slice_get s.clauses k ≡ Some d = λ k d lt at. get_front_back s.clauses (c ∷ []) k d lt at in
     let before : (k : ℕ) (x : Hint) → k < length s.clauses → slice_get (hints ++ hint ∷ []) k ≡ Some x → slice_get hints k ≡ Some x = λ k x lt at. get_front_back hints (hint ∷ []) k x (omega (arith, lt, h.hinted)) at in
@@ -420,11 +421,20 @@ pub open_whole : (s : SearchState) (c : List Lit) (top : ℕ) → IsSound s → 
 open_whole s c top h t long level start at f = let w = get_within s.starts level start at in open_top s c top h t level start at (omega arith) f
 
 -- a false clause is added, and the trail cut to its greatest level, as the code makes it
+-- a false clause wasn't false when the greatest level of its literals or a lower one was opened
+pub open_under : (s : SearchState) (c : List Lit) (top : ℕ) → IsSound s → IsTop s.trail c top → WasOpen (cut s top).trail (cut s top).starts c
+open_under s c top h t = elim (cases_lt top (length s.starts)) as (λ _. WasOpen (cut s top).trail (cut s top).starts c) [
+  | inl lt ↦
+      let w = get_some s.starts top lt in
+      subst (λ n. WasOpen (take n s.trail) (take top s.starts) c) (sym (end_of_at s.starts top (length s.trail) w.0 w.1)) (open_cut s c top w.0 h t w.1)
+  | inr ge ↦ subst (λ (x : SearchState). WasOpen x.trail x.starts c) (cut_none s top ge) (open_whole s c top h t ge)
+]
+
 pub cut_add_whole : (s : SearchState) (z : Sizes) (trail : List Step) (starts counts counts' : List ℕ) (looked head count start level : ℕ) (lists : List (List ℕ)) (hints hints' : List Hint) (c : List Lit) (hint : Hint) (clauses : List (List Lit)) → IsWhole s counts looked head lists hints
     → slice_get s.starts level ≡ Some start → slice_get counts level ≡ Some count → z ≡ s.sizes → trail ≡ take start s.trail → starts ≡ take level s.starts → counts' ≡ take level counts → clauses ≡ s.clauses ++ c ∷ [] → hints' ≡ hints ++ hint ∷ []
-    → AreInRange s.sizes c → IsTop s.trail c level → ((m : Lit) → Contains c m → Contains (clauses_of s.sizes lists m) (length s.clauses)) → length s.clauses < 4294967294
+    → AreInRange s.sizes c → WasOpen (cut s level).trail (cut s level).starts c → ((m : Lit) → Contains c m → Contains (clauses_of s.sizes lists m) (length s.clauses)) → length s.clauses < 4294967293
     → IsWhole (record { sizes = z; clauses = clauses; trail = trail; starts = starts }) counts' count start lists hints'
-cut_add_whole s z trail starts counts counts' looked head count start level lists hints hints' c hint clauses h here here' e1 e2 e3 e4 e5 e6 range top listed few =
+cut_add_whole s z trail starts counts counts' looked head count start level lists hints hints' c hint clauses h here here' e1 e2 e3 e4 e5 e6 range was listed few =
     subst (λ (x : List Hint). IsWhole (record { sizes = z; clauses = clauses; trail = trail; starts = starts }) counts' count start lists x) (sym e6)
     (subst (λ (w : Sizes). IsWhole (record { sizes = w; clauses = clauses; trail = trail; starts = starts }) counts' count start lists (hints ++ hint ∷ [])) (sym e1)
     (subst (λ (t : List Step). IsWhole (record s { clauses = clauses; trail = t; starts = starts }) counts' count start lists (hints ++ hint ∷ [])) (sym e2)
@@ -432,7 +442,7 @@ cut_add_whole s z trail starts counts counts' looked head count start level list
     (subst (λ (t : List ℕ). IsWhole (record s { clauses = clauses; trail = take start s.trail; starts = take level s.starts }) t count start lists (hints ++ hint ∷ [])) (sym e4)
     (subst (λ (cs : List (List Lit)). IsWhole (record s { clauses = cs; trail = take start s.trail; starts = take level s.starts }) (take level counts) count start lists (hints ++ hint ∷ [])) (sym e5)
     (whole_add (record s { trail = take start s.trail; starts = take level s.starts }) (take level counts) count start lists hints c hint (whole_cut s counts looked head lists hints level start count h here here') range
-    (open_cut s c level start h.sound top here) listed few))))))
+    (subst (λ n. WasOpen (take n s.trail) (take level s.starts) c) (end_of_at s.starts level (length s.trail) start here) was) listed few))))))
 
 pub whole_retract : (s : SearchState) (counts : List ℕ) (looked head place : ℕ) (lists : List (List ℕ)) (hints : List Hint) → IsWhole s counts looked head lists hints → place ≤ length s.trail → ((level start : ℕ) → slice_get s.starts level ≡ Some start → start < place) → length s.starts ≤ place
     → IsWhole (record s { trail = take place s.trail }) counts 0 place lists hints

@@ -23,7 +23,7 @@ pub record IsWhole (s : SearchState) (counts : List ℕ) (looked head : ℕ) (li
   pub before : head ≤ length s.trail
   pub counted : length counts ≡ length s.starts
   pub below : (level count : ℕ) → slice_get counts level ≡ Some count → count ≤ length s.clauses
-  pub room : length s.clauses ≤ 4294967294
+  pub room : length s.clauses ≤ 4294967293
 
 -- literals were only added to the trail, each when it was the one with no truth of a clause whose others are false
 pub record PropagatesTo (old new : SearchState) : Type 0 where

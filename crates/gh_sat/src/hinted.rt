@@ -1,7 +1,5 @@
 //! Places in the order of decisions at which a free atom of a clause may stand: hints, which no clause speaks of.
 
-ghost use Rattle.std.specs.Prelude.{◌≡◌};
-
 use std::alloc::{AllocError, Global};
 
 // Sets a bit, if there is room for it.

@@ -1,12 +1,12 @@
 //! A search over clauses alone.
 
-ghost use Rattle.std.specs.Prelude.{◌≡◌, ◌≢◌, ◌⊎◌, ℕ, ◌+◌, ◌*◌, ◌-◌, ◌<◌, ◌≤◌, ◌∷◌, ◌++◌, [], Bool, List, length, take, All, IfOk, OnOk, OnErr, IfSome, IfNone, IsTrue, MatchOption, Some, None, slice_get, slice_index_or, vec_capacity, option_copied};
+ghost use Rattle.std.specs.Prelude.{◌≡◌, ◌⊎◌, ℕ, ◌+◌, ◌*◌, ◌-◌, ◌<◌, ◌≤◌, [], length, take, IfOk, OnOk, OnErr, IfSome, IfNone, Some, None, slice_get, vec_capacity, option_copied};
 ghost use Rattle.gh_base.specs.declared.atom.Atom.{Atom};
 ghost use Rattle.gh_base.specs.declared.atom.Lit.{Lit};
-ghost use Rattle.gh_base.specs.Atoms.{opposite, IsInRange, AreInRange, count_of};
+ghost use Rattle.gh_base.specs.Atoms.{IsInRange, AreInRange, count_of};
 ghost use Rattle.gh_sat.specs.declared.trail.Step.{Step};
 ghost use Rattle.gh_sat.specs.Rows.{row_of};
-ghost use Rattle.gh_sat.specs.Trail.{Line, IsFalseIn, AreSteps};
+ghost use Rattle.gh_sat.specs.Trail.{IsFalseIn, AreSteps};
 ghost use Rattle.gh_sat.specs.Learn.{IsTop};
 
 use crate::marks::{Marks, begin, resolve};
@@ -243,49 +243,41 @@ impl Learner {
         Ok(learner)
     }
 
-    /// Adds a clause last that wasn't false when a level was opened.
+    /// Adds a clause last that wasn't false when a level was opened. There are at most 4,294,967,293 clauses: where there
+    /// are as many, none is added, as for want of memory.
     pub fn insert(&mut self, clause: Clause) -> Result<(), AllocError>
         requires range { AreInRange self.old.sizes clause }
         requires was_open { WasOpen self.old.trail self.old.starts clause }
         ensures ok { OnOk result (self.new ≡ add_clause self.old clause) }
+        ensures few { OnOk result (length self.new.clauses ≤ 4294967293) }
         ensures err { OnErr result (self.new ≡ self.old) }
     {
-        if self.clauses.len() >= 4294967294 {
-            return Err(AllocError);
-        }
-        let number = self.clauses.len() as u32;
-        self.occurrences
-            .note(self.trail.sizes(), clause.lits(), number)?;
-        let (rows, hints) = (&mut self.rows, &mut self.hints);
-        let row = next_row(self.alloc, self.trail.sizes(), &clause, rows, hints)?;
-        self.clauses.push(clause)?;
-        self.rows.push_reserved(row);
-        self.hints.push_reserved(Hint::default());
-        Ok(())
+        let level = self.level();
+        self.insert_under(clause, level)
     }
 
     /// Adds a clause last. Where it is false under the trail, that is cut to the greatest level of its literals.
     pub fn add(&mut self, clause: Clause) -> Result<(), AllocError>
         requires { AreInRange self.old.sizes clause }
         ensures ok { OnOk result (Adds self.old clause self.new) }
+        ensures few { OnOk result (length self.new.clauses ≤ 4294967293) }
         ensures err { OnErr result (self.new ≡ self.old) }
     {
         match top_of(&self.trail, clause.lits()) {
             None => self.insert(clause),
-            Some(top) if (top as usize) < self.starts.len() => self.insert_under(clause, top),
-            Some(_) => self.insert(clause),
+            Some(top) => self.insert_under(clause, top),
         }
     }
 
-    // Adds a false clause last, and cuts the trail to the greatest level of its literals, which is below the present one.
-    fn insert_under(&mut self, clause: Clause, top: u32) -> Result<(), AllocError>
+    // Cuts the trail to a level and adds a clause last, which wasn't false when that or a lower one was opened.
+    fn insert_under(&mut self, clause: Clause, level: u32) -> Result<(), AllocError>
         requires range { AreInRange self.old.sizes clause }
-        requires top { IsTop self.old.trail clause top }
-        requires low { top < length self.old.starts }
-        ensures ok { OnOk result (self.new ≡ add_clause (cut self.old top) clause) }
+        requires was_open { WasOpen (cut self.old level).trail (cut self.old level).starts clause }
+        ensures ok { OnOk result (self.new ≡ add_clause (cut self.old level) clause) }
+        ensures few { OnOk result (length self.new.clauses ≤ 4294967293) }
         ensures err { OnErr result (self.new ≡ self.old) }
     {
-        if self.clauses.len() >= 4294967294 {
+        if self.clauses.len() >= 4294967293 {
             return Err(AllocError);
         }
         let number = self.clauses.len() as u32;
@@ -296,8 +288,11 @@ impl Learner {
         self.clauses.push(clause)?;
         self.rows.push_reserved(row);
         self.hints.push_reserved(Hint::default());
+        if level as usize >= self.starts.len() {
+            return Ok(());
+        }
         let (starts, counts) = (&mut self.starts, &mut self.counts);
-        let point = cut_to(&mut self.trail, starts, counts, top);
+        let point = cut_to(&mut self.trail, starts, counts, level);
         self.head = point.start;
         self.looked = point.count;
         Ok(())
@@ -312,7 +307,8 @@ impl Learner {
 
     /// How many clauses there are.
     pub fn count(&self) -> u32
-        ensures { result ≡ length self.now.clauses }
+        ensures count { result ≡ length self.now.clauses }
+        ensures few { result ≤ 4294967293 }
     {
         self.clauses.len() as u32
     }
@@ -463,6 +459,7 @@ impl Learner {
         requires level { 0 < length self.old.starts }
         ensures learnt { IfOk result (λ l. IsLearnt self.old conflict l.clause l.level l.unit) }
         ensures added { IfOk result (λ l. self.new ≡ add_clause self.old l.clause) }
+        ensures few { OnOk result (length self.new.clauses ≤ 4294967293) }
         ensures reasons { IfOk result (λ l. AreReasons self.old.clauses l.reasons.items l.clause) }
         ensures err { OnErr result (self.new ≡ self.old) }
     {

@@ -13,7 +13,5 @@ mod reasons;
 mod rows;
 pub mod search;
 mod status;
-#[cfg(test)]
-mod tests;
 pub mod theory;
 pub mod trail;

@@ -1,6 +1,6 @@
 //! For each literal the numbers of the clauses that have it.
 
-ghost use Rattle.std.specs.Prelude.{◌≡◌, ◌++◌, ◌*◌, ◌∷◌, ◌<◌, ◌≤◌, ℕ, [], All, Contains, IfOk, OnOk, OnErr, length, slice_index_or, replicate};
+ghost use Rattle.std.specs.Prelude.{◌≡◌, ◌++◌, ◌*◌, ◌∷◌, ◌<◌, ◌≤◌, ℕ, [], Contains, IfOk, OnOk, OnErr, length, slice_index_or, replicate};
 ghost use Rattle.gh_base.specs.declared.atom.Lit.{Lit};
 ghost use Rattle.gh_base.specs.Atoms.{IsInRange, AreInRange, count_of};
 ghost use Rattle.gh_sat.specs.Watch.{code_of, clauses_of, lists_by, AreLists, ListsMore};
@@ -55,7 +55,7 @@ impl Numbers {
 #[derive(Drop)]
 pub struct Occurrences {
     // The number of each literal's list. The first list has nothing, and stands for all literals with no number.
-    numbers: Vec<u32>,
+    numbers: Vec<usize>,
     lists: Vec<Numbers>,
     alloc: Global,
 }
@@ -81,11 +81,10 @@ fn code(sizes: Sizes, lit: Lit) -> usize
     2 * sizes.number(lit.atom) + if lit.positive { 1 } else { 0 }
 }
 
-// The number of a literal's list, which is its own. It is made if the literal has none yet. More lists than 32 bits can
-// number count as want of memory.
+// The number of a literal's list, which is its own. It is made if the literal has none yet.
 fn own_list(
     alloc: Global,
-    numbers: &mut Vec<u32>,
+    numbers: &mut Vec<usize>,
     lists: &mut Vec<Numbers>,
     code: usize,
 ) -> Result<usize, AllocError>
@@ -96,16 +95,13 @@ fn own_list(
     ensures own { IfOk result (λ n. 0 < n) }
     ensures number { IfOk result (λ n. slice_index_or numbers.new.items code 0 ≡ n) }
 {
-    let number = numbers[code] as usize;
+    let number = numbers[code];
     if number > 0 {
         return Ok(number);
     }
     let next = lists.len();
-    if next > 4294967295 {
-        return Err(AllocError);
-    }
     lists.push(Numbers::new(alloc))?;
-    numbers[code] = next as u32;
+    numbers[code] = next;
     Ok(next)
 }
 
@@ -132,7 +128,7 @@ impl Occurrences {
         requires long { length self.now ≡ 2 * count_of sizes }
         ensures { result.now ≡ clauses_of sizes self.now lit }
     {
-        self.lists[self.numbers[code(sizes, lit)] as usize].items()
+        self.lists[self.numbers[code(sizes, lit)]].items()
     }
 
     // Adds a number to a literal's list.

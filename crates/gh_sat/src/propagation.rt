@@ -1,11 +1,11 @@
 //! Unit propagation by the lists of the clauses in which each literal stands.
 
-ghost use Rattle.std.specs.Prelude.{◌≡◌, ◌⊎◌, ◌+◌, ◌*◌, ◌++◌, ◌∷◌, ◌<◌, ◌≤◌, ℕ, [], List, All, Contains, Some, None, IsTrue, IfSome, IfNone, length, slice_get, take};
+ghost use Rattle.std.specs.Prelude.{◌≡◌, ◌⊎◌, ◌+◌, ◌*◌, ◌++◌, ◌∷◌, ◌<◌, ◌≤◌, ℕ, [], List, All, Some, None, IsTrue, IfSome, IfNone, length, slice_get, take};
 ghost use Rattle.gh_base.specs.declared.atom.Lit.{Lit};
 ghost use Rattle.gh_base.specs.Atoms.{AreInRange, count_of, opposite};
 ghost use Rattle.gh_sat.specs.declared.status.Hint.{Hint};
 ghost use Rattle.gh_sat.specs.declared.trail.Step.{Step};
-ghost use Rattle.gh_sat.specs.Trail.{IsFalseIn, IsUnitIn, AreSteps};
+ghost use Rattle.gh_sat.specs.Trail.{IsUnitIn, AreSteps};
 ghost use Rattle.gh_sat.specs.Rows.{numbered, rows_of};
 ghost use Rattle.gh_sat.specs.Status.{IsBad, IsGuarded, Grows, IsFalseClause};
 ghost use Rattle.gh_sat.specs.Watch.{AreGuarded, AreVisited, AreListed, MoveHints};

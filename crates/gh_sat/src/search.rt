@@ -1,10 +1,10 @@
 //! A search over clauses beside a theory.
 
-ghost use Rattle.std.specs.Prelude.{◌≡◌, ◌⊎◌, ℕ, ◌≤◌, ◌<◌, List, [], ◌∷◌, ◌++◌, length, IfOk, OnOk, OnErr, IfSome, IfNone, Some, option_copied, slice_get};
+ghost use Rattle.std.specs.Prelude.{◌≡◌, ◌≤◌, ◌<◌, List, [], length, IfOk, OnOk, OnErr, IfSome, IfNone, Some, option_copied, slice_get};
 ghost use Rattle.gh_base.specs.declared.atom.Atom.{Atom};
 ghost use Rattle.gh_base.specs.declared.atom.Lit.{Lit};
 ghost use Rattle.gh_base.specs.Atoms.{IsInRange, AreInRange};
-ghost use Rattle.gh_sat.specs.Trail.{SearchState, IsFree, IsFalseIn, IsAssignmentOf, IsSound, cut, open_level};
+ghost use Rattle.gh_sat.specs.Trail.{SearchState, IsFree, IsAssignmentOf, IsSound, cut, open_level};
 ghost use Rattle.gh_sat.specs.Status.{IsSettled, AreAssigned};
 ghost use Rattle.gh_sat.specs.Learn.{IsConflict, IsLearnt, AreReasons, add_clause};
 ghost use Rattle.gh_sat.specs.Whole.{GivesLast, Adds};
@@ -122,7 +122,8 @@ impl<T: Theory> Search<T> {
 
     /// How many clauses there are.
     pub fn count(&self) -> u32
-        ensures { result ≡ length self.now.clauses }
+        ensures count { result ≡ length self.now.clauses }
+        ensures few { result ≤ 4294967293 }
     {
         self.learner.count()
     }
@@ -194,12 +195,13 @@ impl<T: Theory> Search<T> {
         Some(lit)
     }
 
-    /// Adds the clause of the first unique implication point of a false clause.
+    /// Adds the clause of the first unique implication point of a false clause, as [`Search::add`] does.
     pub fn learn(&mut self, alloc: Global, k: u32) -> Result<Learnt, AllocError>
         requires conflict { IsConflict self.old k }
         requires level { 0 < length self.old.starts }
         ensures learnt { IfOk result (λ l. IsLearnt self.old k l.clause l.level l.unit) }
         ensures added { IfOk result (λ l. self.new ≡ add_clause self.old l.clause) }
+        ensures few { OnOk result (length self.new.clauses ≤ 4294967293) }
         ensures reasons { IfOk result (λ l. AreReasons self.old.clauses l.reasons.items l.clause) }
         ensures err { OnErr result (self.new ≡ self.old) }
     {
@@ -228,10 +230,12 @@ impl<T: Theory> Search<T> {
         }
     }
 
-    /// Adds a clause last. Where it is false under the trail, that is cut to the greatest level of its literals.
+    /// Adds a clause last. Where it is false under the trail, that is cut to the greatest level of its literals. There are
+    /// at most 4,294,967,293 clauses: where there are as many, none is added, as for want of memory.
     pub fn add(&mut self, clause: Clause) -> Result<(), AllocError>
         requires { AreInRange self.old.sizes clause }
         ensures ok { OnOk result (Adds self.old clause self.new) }
+        ensures few { OnOk result (length self.new.clauses ≤ 4294967293) }
         ensures err { OnErr result (self.new ≡ self.old) }
     {
         self.learner.add(clause)?;

@@ -1,7 +1,7 @@
 //! The trail: the literals that are true, in the order in which they became so.
 
-ghost use Rattle.std.specs.Prelude.{◌≡◌, ◌≢◌, ◌<◌, ◌≤◌, ℕ, IsTrue, IfOk, IfSome, IfNone, Some, None, [], length, take, slice_get, vec_capacity};
-ghost use Rattle.gh_base.specs.Atoms.{IsInRange, count_of, number_of};
+ghost use Rattle.std.specs.Prelude.{◌≡◌, ◌<◌, ◌≤◌, ◌↔◌, ℕ, IsTrue, IfOk, IfSome, IfNone, Some, None, [], length, take, slice_get, vec_capacity};
+ghost use Rattle.gh_base.specs.Atoms.{IsInRange, count_of};
 ghost use Rattle.gh_sat.specs.Trail.{IsPassed, turned};
 
 use crate::activity::Activity;
@@ -193,7 +193,7 @@ impl Trail {
 
     /// Whether a literal is true, by a number that may be no atom's.
     pub fn is_true(&self, lit: Numbered) -> bool
-        ensures yes { IsTrue result → (l : Lit) → IsInRange self.now.sizes l.atom → lit ≡ numbered self.now.sizes l → IsTrueIn self.now.steps l }
+        ensures exact { (l : Lit) → IsInRange self.now.sizes l.atom → lit ≡ numbered self.now.sizes l → IsTrue result ↔ IsTrueIn self.now.steps l }
         ensures valid { AreSteps self.now }
     {
         let values = self.values.values();

@@ -1,14 +1,11 @@
 -- The scenes of drawings.
-use Rattle.std.specs.Prelude.{◌≡◌, ◌⊎◌, ℕ, zero, suc, ◌+◌, ◌-◌, ◌<◌, ◌≤◌, List, [], ◌∷◌, ◌++◌, length, map, Some, None, slice_get, Any, Contains}
-use Rattle.std.proofs.Common.{refl, sym, ◌∙◌, ap, subst, inl, inr, arith}
-use Rattle.std.proofs.lemmas.Option.{get_or_from_slice_get}
+use Rattle.std.specs.Prelude.{◌≡◌, ℕ, ◌+◌, List, [], ◌∷◌, ◌++◌, map, Some, None, slice_get}
+use Rattle.std.proofs.Common.{refl, sym, ◌∙◌, ap, subst}
 use Rattle.gh_ast.specs.Plain.{Procedure, Program}
-use Rattle.gh_ast.proofs.Lists.{member_first, member_later}
 use Rattle.gh_assert.specs.Heaps.{Heap}
 use Rattle.gh_draw.specs.Kept.{HasMeaning, Describes}
-use Rattle.gh_path.specs.Admitted.{IsAdmitted}
 use Rattle.gh_path.specs.Answers.{IsNumbered}
-use Rattle.gh_path.specs.Conditions.{Condition, conditions_of, from_procedures}
+use Rattle.gh_path.specs.Conditions.{Condition}
 use Rattle.gh_path.specs.Graphs.{PathStep, Check}
 use Rattle.gh_path.specs.Kept.{AreSteps, IsKind, StandsFor}
 use Rattle.gh_path.specs.declared.condition.Condition as kept
@@ -24,51 +21,6 @@ use Rattle.gh_trace.specs.declared.state.State.{State}
 use Rattle.gh_trace.specs.declared.replay.ReplayError.TheVariants.{Step}
 use Rattle.gh_trace.specs.Kept.{state_of, drawn, IsRefuted, IsFailure}
 use Rattle.gh_trace.specs.Traces.{last_state}
-
--- as many steps are kept
-as_many : (P : Program) (p : Procedure) (rs : List kept_step.PathStep) (ss : List PathStep) → AreSteps P p rs ss → length rs ≡ length ss
-as_many P p [] [] are = refl
-as_many P p [] (s ∷ ss) are = absurd are
-as_many P p (r ∷ rs) [] are = absurd are
-as_many P p (r ∷ rs) (s ∷ ss) are = ap suc (as_many P p rs ss are.1)
-
-over_or : (m n : ℕ) → (m < n) ⊎ (n ≤ m)
-over_or m n = grind arith
-
-at_front : {X : Type 0} (xs ys : List X) (k : ℕ) → k < length xs → slice_get (xs ++ ys) k ≡ slice_get xs k
-at_front [] ys k within = absurd (omega (arith, within))
-at_front (x ∷ xs) ys zero within = refl
-at_front (x ∷ xs) ys (suc k) within = at_front xs ys k (omega (arith, within))
-
-at_back : {X : Type 0} (xs ys : List X) (k j : ℕ) → k ≡ length xs + j → slice_get (xs ++ ys) k ≡ slice_get ys j
-at_back [] ys k j e = ap (slice_get ys) (omega (arith, e))
-at_back (x ∷ xs) ys zero j e = absurd (omega (arith, e))
-at_back (x ∷ xs) ys (suc k) j e = at_back xs ys k j (omega (arith, e))
-
--- no condition of the list has a property that no procedure has a condition with
-none_passes : (Q : Condition → Type 0) (ps : List Procedure) (k : ℕ) (c : Condition) → slice_get (from_procedures ps) k ≡ Some c
-    → ((p : Procedure) → Contains ps p → Any Q (conditions_of p) → ⊥) → Q c → ⊥
-none_passes Q [] k c there none holds = absurd cc
-none_passes Q (p ∷ ps) k c there none holds = elim (over_or k (length (conditions_of p))) [
-  | inl within ↦
-      let here : slice_get (conditions_of p) k ≡ Some c = sym (at_front (conditions_of p) (from_procedures ps) k within) ∙ there in
-      none p (member_first p ps) (k, c, within, get_or_from_slice_get (conditions_of p) k c c here, holds)
-  | inr past ↦
-      none_passes Q ps (k - length (conditions_of p)) c
-      (sym (at_back (conditions_of p) (from_procedures ps) k (k - length (conditions_of p)) (omega (arith, past))) ∙ there) (λ q in_rest. none q (member_later p q ps in_rest)) holds
-]
-
-not_over : (n m : ℕ) → (n < m → ⊥) → m ≤ n
-not_over n m h = elim (either n m) [ inl less ↦ absurd (h less) | inr more ↦ more ]
-  where
-    either : (n m : ℕ) → (n < m) ⊎ (m ≤ n)
-    either n m = grind arith
-
--- a condition of an admitted program has few steps
-pub few_steps : (P : Program) (n : ℕ) (r : kept.Condition) → IsAdmitted P → IsNumbered P n (Some r) → length r.steps.items ≤ 256
-few_steps P n r admitted (c, low, there, stands) =
-    let short : length c.way.steps ≤ 256 = not_over 256 (length c.way.steps) (λ many. none_passes (λ d. 256 < length d.way.steps) P.procedures (n - 1) c there admitted.steps many) in
-    subst (λ z. z ≤ 256) (sym (as_many P c.procedure r.steps.items c.way.steps stands.steps)) short
 
 pub has_meaning : (P : Program) (n : ℕ) (r : kept.Condition) → IsNumbered P n (Some r) → HasMeaning P r
 has_meaning P n r (c, low, there, stands) = (c, stands)

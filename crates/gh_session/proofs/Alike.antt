@@ -13,7 +13,7 @@ use Rattle.gh_session.specs.Essences.{Essence, essence, callees_in, callees_at, 
 use Rattle.gh_session.specs.Meaning as of
 use Rattle.gh_session.specs.Laws.{Decides, EssencesDecide, EssencesAnswer, SameCounterexamples, SameAnswers}
 use Rattle.gh_session.proofs.Placing.{listed_keeps, listed_has}
-use Rattle.gh_session.proofs.LoopNames.{loops_are_over}
+use Rattle.gh_path.proofs.LoopVariables.{loops_are_over}
 use Rattle.gh_session.proofs.Deciding.{Knows, knows, traces, SamePasses, passes, SameStarts, starts}
 
 decided : (P : Program) (r : kept.Condition) (c : Condition) → IsTyped P → IsOfProgram P r c → Decides P c (essence P c.procedure r)

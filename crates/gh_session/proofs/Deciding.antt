@@ -35,7 +35,7 @@ use Rattle.gh_session.specs.Meaning as of
 use Rattle.gh_session.specs.Essences as essences
 use Rattle.gh_session.proofs.Placing.{front, at_place}
 use Rattle.gh_session.proofs.Places.{result_stays, results_stay, meaning_stays}
-use Rattle.gh_session.proofs.LoopNames.{NamesIn, IsOver, AreOver, assigned_listed, listed_assigned}
+use Rattle.gh_path.proofs.LoopVariables.{NamesIn, IsOver, AreOver, assigned_listed, listed_assigned}
 
 -- E has the procedures ps of P and the loops ls of p at their places
 pub record Knows (P : Program) (p : Procedure) (ps ls : List ℕ) (E : Essence) : Type 0 where

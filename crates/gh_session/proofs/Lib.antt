@@ -1,6 +1,5 @@
 pub mod Placing
 pub mod Places
-pub mod LoopNames
 pub mod Deciding
 pub mod Alike
 pub mod Copies

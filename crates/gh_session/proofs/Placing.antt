@@ -1,10 +1,11 @@
 -- Numbers in the order in which they first appear.
-use Rattle.std.specs.Prelude.{◌≡◌, ◌⊎◌, ℕ, suc, List, [], ◌∷◌, ◌++◌, ◌==◌, ◌||◌, Bool, true, false, cond, Contains, Some, slice_get}
+use Rattle.std.specs.Prelude.{◌≡◌, ℕ, suc, List, [], ◌∷◌, ◌++◌, ◌==◌, true, false, cond, Contains, Some, slice_get}
 use Rattle.std.specs.List.{list_any}
 use Rattle.std.proofs.Common.{refl, sym, ◌∙◌, ap, subst, inl, inr, append_assoc, flat_map}
 use Rattle.std.proofs.lemmas.Bool.{cases_Bool, false≢true}
 use Rattle.std.proofs.lemmas.Bool.Decides.{Decides-eqb}
 use Rattle.std.proofs.lemmas.List.Elements.{Contains-append_left, Contains-append_right}
+use Rattle.gh_base.proofs.ListLemmas.{either_holds}
 use Rattle.gh_ast.proofs.Lists.{member_first, member_later, member_cases, no_member}
 use Rattle.gh_session.specs.Numbering.{added, listed, place}
 
@@ -14,13 +15,9 @@ test n m e = (Decides-eqb n m).0 e
 tested : (n m : ℕ) → n ≡ m → (n == m) ≡ true
 tested n m e = (Decides-eqb n m).1 e
 
-either : (a b : Bool) → (a || b) ≡ true → (a ≡ true) ⊎ (b ≡ true)
-either true b e = inl refl
-either false b e = inr e
-
 has : (n : ℕ) (ns : List ℕ) → list_any (λ m. n == m) ns ≡ true → Contains ns n
 has n [] e = absurd (false≢true e)
-has n (m ∷ ms) e = elim (either (n == m) (list_any (λ m. n == m) ms) e) [
+has n (m ∷ ms) e = elim (either_holds (n == m) (list_any (λ m. n == m) ms) e) [
   | inl here ↦ subst (λ k. Contains (k ∷ ms) n) (test n m here) (member_first n ms)
   | inr more ↦ member_later m n ms (has n ms more)
 ]

@@ -23,7 +23,7 @@ use Rattle.gh_path.specs.declared.condition.Condition as kept_condition
 use Rattle.gh_trace.specs.Kept.{IsOfProgram}
 use Rattle.gh_session.specs.Numbering.{listed, place}
 use Rattle.gh_session.specs.Essences as essences
-use Rattle.gh_session.specs.Essences.{Step, Start, Check, Essence, contract_of, round_of, no_contract, no_round, callees_in, callees_at, loops_from, loops_in, loops_at, procedures_of, rounds_of, start_in, step_in, check_in, essence}
+use Rattle.gh_session.specs.Essences.{Step, Check, Essence, contract_of, round_of, no_contract, no_round, callees_in, callees_at, loops_from, loops_in, loops_at, procedures_of, rounds_of, start_in, step_in, check_in, essence}
 use Rattle.gh_session.specs.Laws.{HasEssence, HaveOneEssence}
 
 -- one number

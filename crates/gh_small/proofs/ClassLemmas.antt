@@ -1,5 +1,5 @@
 -- The leaders are the allocated classes.
-use Rattle.std.proofs.Common.{◌≡◌, ◌≢◌, ◌↔◌, ℕ, ◌<◌, ◌≤◌, true, List, length, ◌∙◌, arith}
+use Rattle.std.proofs.Common.{◌∙◌, arith}
 use Rattle.gh_small.specs.Laws.{ClassesAreCounted, ClassesAreFew}
 use Rattle.gh_small.proofs.CountingLemmas.{has, few_leaders, many_leaders}
 use Rattle.gh_small.proofs.LeaderLemmas.{leads_allocated, led_by}

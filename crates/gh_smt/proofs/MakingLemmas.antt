@@ -12,7 +12,7 @@ use Rattle.gh_base.specs.declared.term.TermKind.{TermKind}
 use Rattle.gh_symb.specs.declared.over_terms.Symbolic.{Symbolic}
 use Rattle.gh_symb.specs.Encodings.{plain_kind}
 use Rattle.gh_symb.specs.Formulas.{problem}
-use Rattle.gh_reduce.specs.Inside.{plain_of}
+use Rattle.gh_symb.specs.Encoded.{plain_of}
 use Rattle.gh_smt.specs.Scripts.{instance_count, assertion_count, script_of}
 
 pub one_clause : (xs before items new : List (List Lit)) (c d : List Lit) (i : ℕ) → Some c ≡ slice_get xs i → d ≡ c → items ≡ before ++ take i xs → new ≡ items ++ d ∷ [] → new ≡ before ++ take (i + 1) xs

@@ -1,7 +1,8 @@
 -- The truth of literals in the interpretations of scripts and in those of clauses.
-use Rattle.std.proofs.Common.{◌≡◌, ℕ, zero, suc, List, [], ◌∷◌, Bool, true, false, nat_eq, ◌&&◌, ◌||◌, refl, ◌∙◌, ap, arith, eq-eqb, eqb-true, inl, inr, ◌⊎◌}
+use Rattle.std.proofs.Common.{◌≡◌, ℕ, zero, suc, List, [], ◌∷◌, Bool, true, false, nat_eq, ◌&&◌, ◌||◌, refl, ◌∙◌, ap, arith, eq-eqb, eqb-true, inl, inr}
 use Rattle.std.specs.Prelude.{Any, Contains}
 use Rattle.std.proofs.lemmas.Bool.{false≢true}
+use Rattle.gh_base.proofs.ListLemmas.{either_holds}
 use Rattle.gh_base.specs.declared.atom.Atom.{Atom}
 use Rattle.gh_base.specs.declared.atom.Atom.TheVariants.{Eq, Btwn, Hop, Alloc, Def}
 use Rattle.gh_base.specs.declared.atom.Lit.{Lit}
@@ -20,10 +21,6 @@ has : {X : Type 0} → (X → X → Bool) → List X → X → Bool
 has same [] x = false
 has same (y ∷ ys) x = same y x || has same ys x
 
-either : (a b : Bool) → (a || b) ≡ true → (a ≡ true) ⊎ (b ≡ true)
-either true b h = inl refl
-either false b h = inr h
-
 right : (a b : Bool) → b ≡ true → (a || b) ≡ true
 right true b h = refl
 right false b h = h
@@ -33,7 +30,7 @@ unfolding has
 contained same one [] x h = absurd (false≢true h)
 contained {X} same one (y ∷ ys) x h =
     let put : Contains ys x → Contains (y ∷ ys) x = λ k. (suc k.0, omega (arith, k.1), k.2) in
-    elim (either (same y x) (has same ys x) h) [ inl e ↦ (zero, omega arith, one y x e) | inr e ↦ put (contained same one ys x e) ]
+    elim (either_holds (same y x) (has same ys x) h) [ inl e ↦ (zero, omega arith, one y x e) | inr e ↦ put (contained same one ys x e) ]
 
 found : {X : Type 0} (same : X → X → Bool) → ((x : X) → same x x ≡ true) → (xs : List X) (x : X) → Contains xs x → has same xs x ≡ true
 unfolding has

@@ -1,7 +1,7 @@
 //! Atoms, literals and clauses in a text.
 
-ghost use Rattle.std.specs.Prelude.{◌≡◌, ◌∷◌, ◌++◌, [], codes};
-ghost use Rattle.gh_smt.specs.Reading.{IsScriptPart, SpellsTerm, SpellsTerms, SpellsForm, SpellsAtom, SpellsLit, SpellsSpaced, SpellsLits, SpellsAssertion};
+ghost use Rattle.std.specs.Prelude.{◌∷◌, ◌++◌, [], codes};
+ghost use Rattle.gh_smt.specs.Reading.{IsScriptPart, SpellsTerm, SpellsTerms, SpellsForm, SpellsAtom, SpellsLit, SpellsSpaced, SpellsLits};
 
 use crate::cursor::Reader;
 use crate::error::Refusal;

@@ -6,7 +6,7 @@ ghost use Rattle.gh_ast.specs.Rules.{IsTyped};
 ghost use Rattle.gh_path.specs.Conditions.{Condition, IsCondition};
 ghost use Rattle.gh_symb.specs.Symbolic.{symbolic_of};
 ghost use Rattle.gh_symb.specs.Formulas as formulas;
-ghost use Rattle.gh_reduce.specs.Inside.{plain_of};
+ghost use Rattle.gh_symb.specs.Encoded.{plain_of};
 ghost use Rattle.gh_inst.specs.Instances.{instances, clause_of};
 ghost use Rattle.gh_smt.specs.Scripts.{IsScript, instance_count, assertion_count, script_of};
 ghost use Rattle.gh_smt.specs.Refusals.{IsScriptRefusal};

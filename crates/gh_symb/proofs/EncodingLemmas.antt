@@ -1,13 +1,17 @@
--- The encodings of loops, of calls and of checks of them.
-use Rattle.std.specs.Prelude.{◌≡◌, ℕ, List, [], ◌∷◌, ◌++◌, filter, Some}
-use Rattle.std.proofs.Common.{refl, ◌∙◌, ap, subst, Vec, Global}
+-- The encodings of steps and checks from those of their parts.
+use Rattle.std.specs.Prelude.{◌≡◌, ℕ, ◌<◌, List, [], ◌∷◌, ◌++◌, filter, Some, All, Bool}
+use Rattle.std.proofs.Common.{refl, sym, ◌∙◌, ap, subst, Vec, Global}
 use Rattle.std.proofs.lemmas.List.{append_assoc}
+use Rattle.std.proofs.lemmas.List.Elements.{All-head, All-tail}
+use Rattle.gh_base.specs.declared.atom.Term.{Term}
 use Rattle.gh_ast.specs.Plain.{Formula, Procedure, Program}
 use Rattle.gh_ast.specs.Programs.{Name, results_of}
 use Rattle.gh_path.specs.Graphs.{Loop, looped}
 use Rattle.gh_path.specs.Terms.{Terms, walked, moved_on, rebound, renewed, some_assigns, bound_inside}
-use Rattle.gh_symb.specs.Symbolic.{Under, under, each_under, parts, call_parts, needs_under}
-use Rattle.gh_symb.specs.Encodings.{Each, IsUnder, IsTermStep, IsTermCheck}
+use Rattle.gh_symb.specs.Symbolic.{Under, under, each_under, parts, call_parts, needs_under, accessed, assumed, written, made, freed, access, sub, whole}
+use Rattle.gh_symb.specs.Encodings.{Each, IsUnder}
+use Rattle.gh_symb.specs.Fitting.{EncodesUnder, EncodesStep, EncodesCheck}
+use Rattle.gh_symb.specs.Inside.{IsUnderInside}
 use Rattle.gh_symb.specs.Phases.{under_bindings, step_encoding}
 use Rattle.gh_symb.specs.declared.over_terms.Bound.{Bound}
 use Rattle.gh_symb.specs.declared.over_terms.TermStep.{TermStep}
@@ -15,37 +19,87 @@ use Rattle.gh_symb.specs.declared.over_terms.TermStep.TheVariants as step
 use Rattle.gh_symb.specs.declared.over_terms.TermCheck.TheVariants as check
 use Rattle.gh_symb.proofs.FollowLemmas.{each_more}
 
+-- a term of 8 bits is that of its number
+abbrev pub IsTermOf : Term → ℕ → Type 0
+IsTermOf x n = n < 256 → x.0 ≡ n
+
+pub accessed_encoded : (x : Term) (n : ℕ) → IsTermOf x n → EncodesStep (step.Access x) (accessed n)
+accessed_encoded x n at = λ fits. ap accessed (sym (at fits.0))
+
+pub assumed_encoded : (l r : Term) (e : Bool) (m n : ℕ) → IsTermOf l m → IsTermOf r n → EncodesStep (step.Assume l e r) (assumed m e n)
+assumed_encoded l r e m n at_left at_right = λ fits.
+    ap (λ i. assumed i e n) (sym (at_left fits.0)) ∙ ap (assumed l.0 e) (sym (at_right fits.1))
+
+pub written_encoded : (x v : Term) (m n : ℕ) → IsTermOf x m → IsTermOf v n → EncodesStep (step.Write x v) (written m n)
+written_encoded x v m n at_place at_value = λ fits.
+    ap (λ i. written i n) (sym (at_place fits.0)) ∙ ap (written x.0) (sym (at_value fits.1))
+
+pub made_encoded : (l k : Term) (m n : ℕ) → IsTermOf l m → IsTermOf k n → EncodesStep (step.New l k) (made m n)
+made_encoded l k m n at_place at_content = λ fits.
+    ap (λ i. made i n) (sym (at_place fits.0)) ∙ ap (made l.0) (sym (at_content fits.1))
+
+pub freed_encoded : (x : Term) (n : ℕ) → IsTermOf x n → EncodesStep (step.Free x) (freed n)
+freed_encoded x n at = λ fits. ap freed (sym (at fits.0))
+
+pub access_encoded : (x : Term) (n : ℕ) → IsTermOf x n → EncodesCheck (check.Access x) (access n)
+access_encoded x n at = λ fits. ap access (sym (at fits))
+
+-- alternatives of 8 bits are encoded one by one
+pub each_fits : (bs : List Bound) (us : List Under) → Each EncodesUnder bs us → All (IsUnderInside 256 256) us → Each IsUnder bs us
+each_fits [] [] each fits = tt
+each_fits [] (u ∷ us) each fits = absurd each
+each_fits (b ∷ bs) [] each fits = absurd each
+each_fits (b ∷ bs) (u ∷ us) each fits =
+    (each.0 (All-head (IsUnderInside 256 256) u us fits), each_fits bs us each.1 (All-tail (IsUnderInside 256 256) u us fits))
+
+pub one_part : (before after : Bound) (ways : Vec Bound Global) (u w : Under) → ways.items ≡ after ∷ [] → EncodesUnder before u → EncodesUnder after w → EncodesStep (step.Part before ways) (parts u (w ∷ []))
+one_part before after ways u w is first second = λ fits. (
+  u,
+  w ∷ [],
+  first fits.0,
+  subst (λ (bs : List Bound). Each IsUnder bs (w ∷ [])) (sym is) (second (All-head (IsUnderInside 256 256) w [] fits.1), tt),
+  refl,
+)
+
+pub sub_encoded : (b : Bound) (u : Under) → EncodesUnder b u → EncodesCheck (check.Sub b) (sub u)
+sub_encoded b u one = λ fits. (u, one fits, refl)
+
+pub whole_encoded : (ways : Vec Bound Global) (us : List Under) → Each EncodesUnder ways.items us → EncodesCheck (check.Whole ways) (whole us)
+whole_encoded ways us each = λ fits. (us, each_fits ways.items us each fits, refl)
+
+pub one_whole : (b : Bound) (ways : Vec Bound Global) (u : Under) → ways.items ≡ b ∷ [] → EncodesUnder b u → EncodesCheck (check.Whole ways) (whole (u ∷ []))
+one_whole b ways u is one = whole_encoded ways (u ∷ []) (subst (λ (bs : List Bound). Each EncodesUnder bs (u ∷ [])) (sym is) (one, tt))
+
 abbrev pub JoinsParts : Bound → Bound → TermStep → Type 0
-JoinsParts before after encoded = (u w : Under) → IsUnder before u → IsUnder after w → IsTermStep encoded (parts u (w ∷ []))
+JoinsParts before after encoded = (u w : Under) → EncodesUnder before u → EncodesUnder after w → EncodesStep encoded (parts u (w ∷ []))
 
 pub loop_encoded : (P : Program) (xs : List Name) (l : Loop) (s r : Terms) (before after : Bound) (encoded : TermStep) →
-    IsUnder before (under_bindings l.invariant s.bindings s.version) → r ≡ renewed (filter (some_assigns l.body) xs) (moved_on s) → IsUnder after (under l.invariant r) →
-    JoinsParts before after encoded → IsTermStep encoded (step_encoding P xs (looped l) s)
+    EncodesUnder before (under_bindings l.invariant s.bindings s.version) → r ≡ renewed (filter (some_assigns l.body) xs) (moved_on s) → EncodesUnder after (under l.invariant r) →
+    JoinsParts before after encoded → EncodesStep encoded (step_encoding P xs (looped l) s)
 loop_encoded P xs l s r before after encoded first renew second joins =
     joins (under_bindings l.invariant s.bindings s.version) (under l.invariant (renewed (filter (some_assigns l.body) xs) (moved_on s))) first
-    (subst (λ q. IsUnder after (under l.invariant q)) renew second)
+    (subst (λ q. EncodesUnder after (under l.invariant q)) renew second)
 
 pub call_encoded : (p : Procedure) (ts : List ℕ) (s i r : Terms) (before : Bound) (after : Vec Bound Global) →
-    i ≡ rebound s (bound_inside p ts) → IsUnder before (under p.needs i) → r ≡ renewed (results_of p) (moved_on (walked p.needs i)) → Each IsUnder after.items (each_under p.gives r) →
-    IsTermStep (step.Part before after) (call_parts (Some p) ts s)
-call_encoded p ts s i r before after enters first renew all =
-    let inside = rebound s (bound_inside p ts) in (
-      under p.needs inside,
-      each_under p.gives (renewed (results_of p) (moved_on (walked p.needs inside))),
-      subst (λ q. IsUnder before (under p.needs q)) enters first,
-      subst (λ q. Each IsUnder after.items (each_under p.gives q)) (renew ∙ ap (λ q. renewed (results_of p) (moved_on (walked p.needs q))) enters) all,
-      refl,
-    )
+    i ≡ rebound s (bound_inside p ts) → EncodesUnder before (under p.needs i) → r ≡ renewed (results_of p) (moved_on (walked p.needs i)) → Each EncodesUnder after.items (each_under p.gives r) →
+    EncodesStep (step.Part before after) (call_parts (Some p) ts s)
+call_encoded p ts s i r before after enters first renew all = λ fits.
+    let inside = rebound s (bound_inside p ts) in
+    let at_end = each_under p.gives (renewed (results_of p) (moved_on (walked p.needs inside))) in
+    let ends : Each EncodesUnder after.items at_end =
+    subst (λ q. Each EncodesUnder after.items (each_under p.gives q)) (renew ∙ ap (λ q. renewed (results_of p) (moved_on (walked p.needs q))) enters) all in
+    let begins : EncodesUnder before (under p.needs inside) = subst (λ q. EncodesUnder before (under p.needs q)) enters first in
+    (under p.needs inside, at_end, begins fits.0, each_fits after.items at_end ends fits.1, refl)
 
-pub entry_encoded : (p : Procedure) (ts : List ℕ) (s i : Terms) (b : Bound) → i ≡ rebound s (bound_inside p ts) → IsUnder b (under p.needs i) → IsTermCheck (check.Sub b) (needs_under (Some p) ts s)
+pub entry_encoded : (p : Procedure) (ts : List ℕ) (s i : Terms) (b : Bound) → i ≡ rebound s (bound_inside p ts) → EncodesUnder b (under p.needs i) → EncodesCheck (check.Sub b) (needs_under (Some p) ts s)
 entry_encoded p ts s i b enters first =
-    (under p.needs (rebound s (bound_inside p ts)), subst (λ q. IsUnder b (under p.needs q)) enters first, refl)
+    sub_encoded b (under p.needs (rebound s (bound_inside p ts))) (subst (λ q. EncodesUnder b (under p.needs q)) enters first)
 
 -- one more alternative is walked and encoded
 pub each_encoded : (bs : List Bound) (b : Bound) (encoded_so_far : List Under) (f : Formula) (fs : List Formula) (s t : Terms) (all : List Under) →
-    Each IsUnder bs encoded_so_far → IsUnder b (under f s) → t ≡ walked f s → encoded_so_far ++ each_under (f ∷ fs) s ≡ all →
-    Each IsUnder (bs ++ b ∷ []) (encoded_so_far ++ under f s ∷ []) × ((encoded_so_far ++ under f s ∷ []) ++ each_under fs t ≡ all)
+    Each EncodesUnder bs encoded_so_far → EncodesUnder b (under f s) → t ≡ walked f s → encoded_so_far ++ each_under (f ∷ fs) s ≡ all →
+    Each EncodesUnder (bs ++ b ∷ []) (encoded_so_far ++ under f s ∷ []) × ((encoded_so_far ++ under f s ∷ []) ++ each_under fs t ≡ all)
 each_encoded bs b us f fs s t all before one walks is = (
-  each_more IsUnder bs us b (under f s) before one,
+  each_more EncodesUnder bs us b (under f s) before one,
   append_assoc us (under f s ∷ []) (each_under fs t) ∙ ap (λ q. us ++ under f s ∷ each_under fs q) walks ∙ is,
 )

@@ -1,26 +1,14 @@
 -- The first procedure that has a condition with a property.
-use Rattle.std.specs.Prelude.{◌≡◌, ◌⊎◌, ℕ, zero, suc, ◌+◌, ◌-◌, ◌<◌, ◌≤◌, List, [], ◌∷◌, ◌++◌, map, length, get_or, slice_get, Some, Any, Contains}
+use Rattle.std.specs.Prelude.{◌≡◌, ℕ, zero, suc, ◌+◌, ◌-◌, ◌<◌, List, [], ◌∷◌, map, length, get_or, slice_get, Some, Any, Contains}
 use Rattle.std.proofs.Common.{refl, sym, ◌∙◌, ap, subst, inl, inr, arith}
 use Rattle.std.proofs.lemmas.Option.{slice_get_read, get_or_from_slice_get}
+use Rattle.gh_base.proofs.ListLemmas.{over_or, at_front, at_back}
 use Rattle.gh_ast.specs.Lists.{IsFirstWith}
 use Rattle.gh_ast.specs.Plain.{Procedure}
 use Rattle.gh_ast.proofs.Lists.{member_cases, no_member}
 use Rattle.gh_path.specs.Graphs.{Start, starts}
 use Rattle.gh_path.specs.Paths.{Way, ways}
 use Rattle.gh_path.specs.Conditions.{Condition, condition, from_starts, conditions_of, from_procedures}
-
-over_or : (m n : ℕ) → (m < n) ⊎ (n ≤ m)
-over_or m n = grind arith
-
-at_front : {X : Type 0} (xs ys : List X) (k : ℕ) → k < length xs → slice_get (xs ++ ys) k ≡ slice_get xs k
-at_front [] ys k within = absurd (omega (arith, within))
-at_front (x ∷ xs) ys zero within = refl
-at_front (x ∷ xs) ys (suc k) within = at_front xs ys k (omega (arith, within))
-
-at_back : {X : Type 0} (xs ys : List X) (k j : ℕ) → k ≡ length xs + j → slice_get (xs ++ ys) k ≡ slice_get ys j
-at_back [] ys k j e = ap (slice_get ys) (omega (arith, e))
-at_back (x ∷ xs) ys zero j e = absurd (omega (arith, e))
-at_back (x ∷ xs) ys (suc k) j e = at_back xs ys k j (omega (arith, e))
 
 own_way : (p : Procedure) (a : Start) (ws : List Way) (k : ℕ) (c : Condition) → slice_get (map (condition p a) ws) k ≡ Some c → c.procedure ≡ p
 own_way p a [] k c at = absurd cc

@@ -1,26 +1,26 @@
 -- A condition is encoded step by step.
-use Rattle.std.specs.Prelude.{◌≡◌, ◌⊎◌, ℕ, ◌+◌, ◌<◌, ◌≤◌, List, [], ◌∷◌, ◌++◌, length, map, filter, Option, Some, None}
-use Rattle.std.proofs.Common.{refl, sym, ◌∙◌, ap, subst, arith, inl, inr}
+use Rattle.std.specs.Prelude.{◌≡◌, ℕ, ◌+◌, ◌<◌, List, [], ◌∷◌, ◌++◌, map, filter, Option, Some, None, unwrap_or}
+use Rattle.std.proofs.Common.{refl, sym, ◌∙◌, ap, subst}
 use Rattle.std.proofs.lemmas.List.{append_assoc, append-nil}
 use Rattle.gh_ast.specs.Plain.{Procedure, Program}
 use Rattle.gh_ast.specs.Programs.{Name, variable_names}
-use Rattle.gh_path.specs.Admitted.{most_terms, most_versions}
 use Rattle.gh_path.specs.Graphs.{PathStep, accessed, assume, assigned, made, written, freed, called, looped, answered, Check}
 use Rattle.gh_path.specs.Kept.{AreSteps}
 use Rattle.gh_path.specs.Conditions.{Condition}
 use Rattle.gh_path.specs.declared.condition.PathStep as kept_step
-use Rattle.gh_path.specs.Terms.{Kind, Bindings, Terms, moved_on, renewed, some_assigns, step_walked, steps_walked, check_walked, condition_walked, terms_of, versions_of, no_terms}
+use Rattle.gh_path.specs.Terms.{Bindings, Terms, moved_on, renewed, some_assigns, step_walked, steps_walked, check_walked, condition_walked, no_terms}
 use Rattle.gh_grass.specs.declared.binding.Bond.{Bond}
 use Rattle.gh_symb.specs.Symbolic as plain
 use Rattle.gh_symb.specs.Symbolic.{under, term_step, term_steps, term_check, step_used, check_used, used_first, first_use, either_term, state_bindings}
-use Rattle.gh_symb.specs.Encodings.{Each, IsBinding, IsUnder, IsTermStep, IsTermCheck, IsSymbolic, plain_kind}
+use Rattle.gh_symb.specs.Encodings.{Each}
+use Rattle.gh_symb.specs.Fitting.{EncodesBinding, EncodesUnder, EncodesStep, EncodesCheck}
+use Rattle.gh_symb.specs.Walked.{IsWalked}
 use Rattle.gh_symb.specs.Phases.{under_bindings, step_done, step_encoding, IsUsed, learned, both}
 use Rattle.gh_symb.specs.Steps.{EndsWith}
 use Rattle.gh_symb.specs.StepEncodings.{IsFinished, IsStepEncoding}
 use Rattle.gh_symb.specs.Following.{met, known, begins, first_uses, Follows, Followed}
-use Rattle.gh_symb.specs.Limits.{PassesNone}
 use Rattle.gh_symb.specs.declared.over_terms.TermStep.{TermStep}
-use Rattle.gh_symb.specs.declared.over_terms.Symbolic.{Symbolic}
+use Rattle.gh_symb.specs.declared.symbolic.Walked.{Walked}
 use Rattle.gh_symb.proofs.LackLemmas.{step_lacks, use_lacks}
 
 pub each_more : {A B : Type 0} (R : A → B → Type 0) (as' : List A) (bs : List B) (a : A) (b : B) → Each R as' bs → R a b → Each R (as' ++ a ∷ []) (bs ++ b ∷ [])
@@ -113,7 +113,7 @@ gone_on P p r rs c s t u firsts learns states encoded one left uses version does
           are_left = are.1;
           lead = ap (steps_walked P xs steps) walks ∙ lead;
           plain_steps = left.plain_steps ++ term_step P xs step s ∷ [];
-          are_encodings = each_more IsTermStep encoded left.plain_steps one (term_step P xs step s) left.are_encodings (subst (IsTermStep one) same_step (encodes step are.0));
+          are_encodings = each_more EncodesStep encoded left.plain_steps one (term_step P xs step s) left.are_encodings (subst (EncodesStep one) same_step (encodes step are.0));
           all_steps = append_assoc left.plain_steps (term_step P xs step s ∷ []) (term_steps P xs steps u)
               ∙ ap (λ q. left.plain_steps ++ term_step P xs step s ∷ term_steps P xs steps q) walks ∙ all_steps;
           meet = append_assoc states (s.bindings ∷ []) (met P xs steps u) ∙ ap (λ q. states ++ s.bindings ∷ met P xs steps q) walks ∙ meet;
@@ -143,7 +143,7 @@ ended P p c s b firsts learns states encoded left used learn = by_steps left.ste
     by_steps (step ∷ steps) none lead all_steps meet first = absurd none
     by_steps [] are lead all_steps meet first = record {
       last = lead;
-      are_encodings = subst (Each IsTermStep encoded) (sym (append-nil left.plain_steps) ∙ all_steps) left.are_encodings;
+      are_encodings = subst (Each EncodesStep encoded) (sym (append-nil left.plain_steps) ∙ all_steps) left.are_encodings;
       meet = meet;
       first = λ x.
           learn x ∙ last_turn (s.bindings x) (b x) (firsts x) (left.lack x)
@@ -155,17 +155,20 @@ same_either : (o u v : Option ℕ) → (o ≡ None → u ≡ v) → either_term 
 same_either (Some t) u v same = refl
 same_either None u v same = sym (same refl)
 
+small_too : {o u : Option ℕ} → o ≡ u → unwrap_or u 0 < 256 → unwrap_or o 0 < 256
+small_too e fits = subst (λ (q : Option ℕ). unwrap_or q 0 < 256) (sym e) fits
+
 passed : (a b later : Option ℕ) → a ≡ None → b ≡ None → later ≡ used_first a b later
 passed a b later one two = rw (one, two) refl
 
 all_encoded : (P : Program) (xs : List Name) (k : Check) (ps : List PathStep) (s : Terms) (firsts : Bindings) (bs : List (List Bond)) →
-    ((x : Name) → s.bindings x ≡ None → first_use P xs ps k s x ≡ firsts x) → Each IsBinding bs (map (λ b. both b firsts) (met P xs ps s)) → Each IsBinding bs (state_bindings P xs ps k s)
+    ((x : Name) → s.bindings x ≡ None → first_use P xs ps k s x ≡ firsts x) → Each EncodesBinding bs (map (λ b. both b firsts) (met P xs ps s)) → Each EncodesBinding bs (state_bindings P xs ps k s)
 all_encoded P xs k [] s firsts [] same all = absurd all
 all_encoded P xs k [] s firsts (b ∷ bs) same all =
-    (λ x. all.0 x ∙ same_either (s.bindings x) (first_use P xs [] k s x) (firsts x) (same x), all.1)
+    (λ x fits. let e = same_either (s.bindings x) (first_use P xs [] k s x) (firsts x) (same x) in all.0 x (small_too e fits) ∙ e, all.1)
 all_encoded P xs k (p ∷ ps) s firsts [] same all = absurd all
 all_encoded P xs k (p ∷ ps) s firsts (b ∷ bs) same all =
-    (λ x. all.0 x ∙ same_either (s.bindings x) (first_use P xs (p ∷ ps) k s x) (firsts x) (same x), all_encoded P xs k ps (step_walked P xs p s) firsts bs later all.1)
+    (λ x fits. let e = same_either (s.bindings x) (first_use P xs (p ∷ ps) k s x) (firsts x) (same x) in all.0 x (small_too e fits) ∙ e, all_encoded P xs k ps (step_walked P xs p s) firsts bs later all.1)
   where
     later : (x : Name) → (step_walked P xs p s).bindings x ≡ None → first_use P xs ps k (step_walked P xs p s) x ≡ firsts x
     later x none =
@@ -174,8 +177,8 @@ all_encoded P xs k (p ∷ ps) s firsts (b ∷ bs) same all =
 
 -- the bindings at the states, once the first uses are known
 pub bindings_encoded : (P : Program) (xs : List Name) (c : Condition) (firsts : Bindings) (bs : List (List Bond)) →
-    ((x : Name) → firsts x ≡ first_uses P xs c x) → Each IsBinding bs (map (λ b. both b firsts) (met P xs c.way.steps (begins c))) →
-    Each IsBinding bs (state_bindings P xs c.way.steps c.way.check (begins c))
+    ((x : Name) → firsts x ≡ first_uses P xs c x) → Each EncodesBinding bs (map (λ b. both b firsts) (met P xs c.way.steps (begins c))) →
+    Each EncodesBinding bs (state_bindings P xs c.way.steps c.way.check (begins c))
 bindings_encoded P xs c firsts bs first all = all_encoded P xs c.way.check c.way.steps (begins c) firsts bs at_start all
   where
     at_start : (x : Name) → (begins c).bindings x ≡ None → first_use P xs c.way.steps c.way.check (begins c) x ≡ firsts x
@@ -188,36 +191,19 @@ gone_on_to P p r rs c s t u firsts learns states after encoded later one left us
     subst (λ ss. Follows P p rs c u learns ss later) (sym a)
     (subst (λ ts. Follows P p rs c u learns (states ++ s.bindings ∷ []) ts) (sym l) (gone_on P p r rs c s t u firsts learns states encoded one left uses version does encodes learn))
 
--- all that is kept is that of the condition
-pub is_symbolic : (P : Program) (p : Procedure) (c : Condition) (s : Terms) (firsts : Bindings) (states : List Bindings) (kinds : List Kind) (version : ℕ) (r : Symbolic) → p ≡ c.procedure →
-    Followed P p c s firsts states r.steps.items → EndsWith (check_walked P c.way.check s) kinds version → IsTermCheck r.check (term_check P c.way.check s) →
-    map plain_kind r.terms ≡ kinds → r.versions ≡ version + 1 → IsUnder r.start (under c.start.meets no_terms) → Each IsBinding r.bindings.items (map (λ b. both b firsts) states) → IsSymbolic P c r
-is_symbolic P p c s firsts states kinds version r same followed ends asks terms versions start bindings =
-    let f : Followed P c.procedure c s firsts states r.steps.items = subst (λ q. Followed P q c s firsts states r.steps.items) same followed in
-    let whole : EndsWith (condition_walked P c) kinds version = subst (λ q. EndsWith (check_walked P c.way.check q) kinds version) f.last ends in
+-- a walk to the end of a condition
+pub is_walked : (P : Program) (p : Procedure) (c : Condition) (s : Terms) (firsts : Bindings) (states : List Bindings) (w : Walked) → p ≡ c.procedure →
+    Followed P p c s firsts states w.steps.items → EndsWith (check_walked P c.way.check s) w.kinds w.version → EncodesCheck w.check (term_check P c.way.check s) →
+    EncodesUnder w.start (under c.start.meets no_terms) → Each EncodesBinding w.bindings.items (map (λ b. both b firsts) states) → IsWalked P c w
+is_walked P p c s firsts states w same followed ends asks starts binds =
+    let f : Followed P c.procedure c s firsts states w.steps.items = subst (λ q. Followed P q c s firsts states w.steps.items) same followed in
+    let whole : EndsWith (condition_walked P c) w.kinds w.version = subst (λ q. EndsWith (check_walked P c.way.check q) w.kinds w.version) f.last ends in
     record {
-      terms = terms ∙ whole.kinds_are;
-      versions = versions ∙ ap (λ v. v + 1) whole.version_is;
-      start = start;
-      steps = f.are_encodings;
-      check = subst (λ q. IsTermCheck r.check (term_check P c.way.check q)) f.last asks;
-      bindings = bindings_encoded P (variable_names c.procedure) c firsts r.bindings.items f.first
-          (subst (λ ms. Each IsBinding r.bindings.items (map (λ b. both b firsts) ms)) f.meet bindings);
+      kinds_are = whole.kinds_are;
+      versions_are = ap (λ v. v + 1) whole.version_is;
+      start_is = starts;
+      steps_are = f.are_encodings;
+      check_is = subst (λ q. EncodesCheck w.check (term_check P c.way.check q)) f.last asks;
+      bindings_are = bindings_encoded P (variable_names c.procedure) c firsts w.bindings.items f.first
+          (subst (λ ms. Each EncodesBinding w.bindings.items (map (λ b. both b firsts) ms)) f.meet binds);
     }
-
-over_or : (m n : ℕ) → (m < n) ⊎ (n ≤ m)
-over_or m n = grind arith
-
--- a condition that passes no limit has few terms and versions
-pub few_numbers : (P : Program) (p : Procedure) (c : Condition) (s : Terms) (firsts : Bindings) (states : List Bindings) (encoded : List TermStep) (kinds : List Kind) (version : ℕ) → p ≡ c.procedure →
-    Followed P p c s firsts states encoded → EndsWith (check_walked P c.way.check s) kinds version → PassesNone P c → (length kinds ≤ most_terms) × (version + 1 ≤ most_versions)
-few_numbers P p c s firsts states encoded kinds version same followed ends passes =
-    let f : Followed P c.procedure c s firsts states encoded = subst (λ q. Followed P q c s firsts states encoded) same followed in
-    let whole : EndsWith (condition_walked P c) kinds version = subst (λ q. EndsWith (check_walked P c.way.check q) kinds version) f.last ends in
-    let terms : length kinds ≡ length (terms_of P c) = ap length whole.kinds_are in
-    let versions : version + 1 ≡ versions_of P c = ap (λ v. v + 1) whole.version_is in
-    let few_terms : length kinds ≤ most_terms =
-    elim (over_or most_terms (length (terms_of P c))) [ inl many ↦ absurd (passes.terms many) | inr few ↦ omega (arith, terms, few) ] in
-    let few_versions : version + 1 ≤ most_versions =
-    elim (over_or most_versions (versions_of P c)) [ inl many ↦ absurd (passes.versions many) | inr few ↦ omega (arith, versions, few) ] in
-    (few_terms, few_versions)

@@ -16,13 +16,13 @@ use Rattle.gh_path.specs.Terms.{Kind, next, same_kind, added, with_value, Bindin
 abbrev pub size : Terms → ℕ
 size s = length s.kinds
 
-onto : {a b c : ℕ} → a ≤ b → b ≤ c → a ≤ c
+pub onto : {a b c : ℕ} → a ≤ b → b ≤ c → a ≤ c
 onto h k = omega (arith, h, k)
 
-same : (a : ℕ) → a ≤ a
+pub same : (a : ℕ) → a ≤ a
 same a = omega arith
 
-value_grows : (ks : List Kind) → length ks ≤ length (with_value ks)
+pub value_grows : (ks : List Kind) → length ks ≤ length (with_value ks)
 value_grows ks = rw (length-append ks) (omega arith)
 
 added_grows : (k : Kind) (ks : List Kind) → length ks ≤ length (added k ks)
@@ -39,7 +39,7 @@ used_grows x s = by_binding (s.bindings x)
     by_binding (Some t) = same (size s)
     by_binding None = value_grows s.kinds
 
-followed_grows : (x : Name) (s : Terms) → size s ≤ size (followed x s)
+pub followed_grows : (x : Name) (s : Terms) → size s ≤ size (followed x s)
 followed_grows x s = added_grows (next s.version (term_of x s)) s.kinds
 
 visited_grows : (x : Name) (s : Terms) → size s ≤ size (followed x (used x s))
@@ -69,7 +69,7 @@ mutual
   tests_grow (test_first t ts) s = onto (test_grows t s) (tests_grow ts (test_walked t s))
 
 mutual
-  walked_grows : (f : Formula) (s : Terms) → size s ≤ size (walked f s)
+  pub walked_grows : (f : Formula) (s : Terms) → size s ≤ size (walked f s)
   walked_grows empty s = same (size s)
   walked_grows (comparison l e r) s = onto (operand_grows l s) (operand_grows r (operand_used l s))
   walked_grows (points_to x y) s = onto (visited_grows x.name s) (operand_grows y (followed x.name (used x.name s)))
@@ -86,7 +86,7 @@ each_grows : (fs : List Formula) (s : Terms) → size s ≤ size (each_walked fs
 each_grows [] s = same (size s)
 each_grows (f ∷ fs) s = onto (walked_grows f s) (each_grows fs (walked f s))
 
-renewed_grows : (xs : List Name) (s : Terms) → size s ≤ size (renewed xs s)
+pub renewed_grows : (xs : List Name) (s : Terms) → size s ≤ size (renewed xs s)
 renewed_grows [] s = same (size s)
 renewed_grows (x ∷ xs) s = onto (value_grows s.kinds) (renewed_grows xs (terms (with_value s.kinds) (bound s.bindings x (length s.kinds)) s.version))
 
@@ -95,7 +95,7 @@ inside_grows p xs b s =
     onto (walked_grows p.needs s)
     (onto (renewed_grows (results_of p) (moved_on (walked p.needs s))) (each_grows p.gives (renewed (results_of p) (moved_on (walked p.needs s)))))
 
-call_grows : (o : Option Procedure) (xs : List Name) (ts : List ℕ) (s : Terms) → size s ≤ size (call_walked o xs ts s)
+pub call_grows : (o : Option Procedure) (xs : List Name) (ts : List ℕ) (s : Terms) → size s ≤ size (call_walked o xs ts s)
 call_grows None xs ts s = same (size s)
 call_grows (Some p) xs ts s = inside_grows p xs s.bindings (rebound s (bound_inside p ts))
 
@@ -118,7 +118,7 @@ pub steps_grow : (P : Program) (xs : List Name) (ps : List PathStep) (s : Terms)
 steps_grow P xs [] s = same (size s)
 steps_grow P xs (p ∷ ps) s = onto (step_grows P xs p s) (steps_grow P xs ps (step_walked P xs p s))
 
-entry_grows : (o : Option Procedure) (ts : List ℕ) (s : Terms) → size s ≤ size (entry_walked o ts s)
+pub entry_grows : (o : Option Procedure) (ts : List ℕ) (s : Terms) → size s ≤ size (entry_walked o ts s)
 entry_grows None ts s = same (size s)
 entry_grows (Some p) ts s = walked_grows p.needs (rebound s (bound_inside p ts))
 

@@ -1,5 +1,5 @@
 -- Kinds that are listed, and encoded one by one.
-use Rattle.std.specs.Prelude.{◌≡◌, ◌≢◌, ℕ, ◌+◌, ◌<◌, ◌≤◌, List, [], ◌∷◌, ◌++◌, map, length, take, get_or, slice_index_or, Contains, count_by, true, false}
+use Rattle.std.specs.Prelude.{◌≡◌, ◌≢◌, ℕ, zero, suc, ◌+◌, ◌<◌, ◌≤◌, List, [], ◌∷◌, ◌++◌, map, length, take, get_or, slice_index_or, Contains, count_by, true, false}
 use Rattle.std.specs.List.{list_any}
 use Rattle.std.proofs.Common.{refl, sym, ◌∙◌, ap, subst, arith, inl, inr}
 use Rattle.std.proofs.lemmas.List.{take_more, map-append, length-map, length-take-le, get_or-map, get_or-take, take-map}
@@ -11,6 +11,7 @@ use Rattle.gh_base.specs.declared.term.TermKind.{TermKind}
 use Rattle.gh_path.specs.Terms.{Kind, null, value, next, is_value, same_kind, added, with_value}
 use Rattle.gh_symb.specs.Tables.{kind_of, BeginsWithNull, AreListed, IsShort}
 use Rattle.gh_symb.specs.Encodings.{plain_kind}
+use Rattle.gh_symb.specs.Inside.{AreSuccessors}
 use Rattle.gh_symb.specs.declared.kinds.Kind as kept
 use Rattle.gh_symb.specs.declared.kinds.Kind.TheVariants.{Null, Value, Next}
 
@@ -70,11 +71,31 @@ first_encoded (k ∷ ks) begins = let is : kind_of k ∷ map kind_of ks ≡ null
 pub encoded_length : (ks : List kept.Kind) (i : ℕ) (old : List TermKind) → i ≤ length ks → map plain_kind old ≡ map kind_of (take i ks) → length old ≡ i
 encoded_length ks i old within encoded = sym (length-map old plain_kind) ∙ ap length encoded ∙ length-map (take i ks) kind_of ∙ length-take-le i ks within
 
--- a listed value's number is small where few kinds are listed
-pub short_at : (ks : List kept.Kind) (i : ℕ) (k : kept.Kind) → AreListed (map kind_of ks) → length ks < 65536 → i < length ks → k ≡ get_or ks i k → IsShort k
-short_at ks i Null listed few within is = tt
-short_at ks i (Next v x) listed few within is = tt
-short_at ks i (Value n) listed few within is =
+next_at : (ks : List kept.Kind) (i v x : ℕ) → AreSuccessors 256 256 (map kind_of ks) → i < length ks → Next v x ≡ get_or ks i (Next v x) → (v < 256) × (x < 256)
+next_at [] i v x short within is = (omega (arith, within), omega (arith, within))
+next_at (k ∷ ks) zero v x short within is = first k is short
+  where
+    first : (j : kept.Kind) → Next v x ≡ j → AreSuccessors 256 256 (kind_of j ∷ map kind_of ks) → (v < 256) × (x < 256)
+    first Null e h = absurd cc
+    first (Value n) e h = absurd cc
+    first (Next w y) e h =
+        let same : w ≡ v = cc in
+        let of : y ≡ x = cc in
+        let a = h.0 in
+        let b = h.1 in
+        (omega (arith, b, same), omega (arith, a, of))
+next_at (k ∷ ks) (suc i) v x short within is = next_at ks i v x (later k short) (omega (arith, within)) is
+  where
+    later : (j : kept.Kind) → AreSuccessors 256 256 (kind_of j ∷ map kind_of ks) → AreSuccessors 256 256 (map kind_of ks)
+    later Null h = h
+    later (Value n) h = h
+    later (Next w y) h = h.2
+
+-- the numbers of a listed kind are small where few kinds are listed
+pub short_at : (ks : List kept.Kind) (i : ℕ) (k : kept.Kind) → AreListed (map kind_of ks) → AreSuccessors 256 256 (map kind_of ks) → length ks < 65536 → i < length ks → k ≡ get_or ks i k → IsShort k
+short_at ks i Null listed short few within is = tt
+short_at ks i (Next v x) listed short few within is = next_at ks i v x short within is
+short_at ks i (Value n) listed short few within is =
     let there : Contains (map kind_of ks) (value n) =
     (i, omega (arith, within, length-map ks kind_of), get_or-map kind_of ks i (Value n) (value n) within ∙ ap kind_of (sym is)) in
     omega (arith, listed.numbered n there, count_by-le-length is_value (map kind_of ks), length-map ks kind_of, few)

@@ -11,3 +11,8 @@ pub mod FollowLemmas
 pub mod BindingLemmas
 pub mod EncodingLemmas
 pub mod KindLemmas
+pub mod SoundLemmas
+pub mod StepsInside
+pub mod EncodedLemmas
+pub mod StatesInside
+pub mod FittingLemmas

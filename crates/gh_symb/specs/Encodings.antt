@@ -1,12 +1,11 @@
--- The encoding of a condition over terms, as it is kept.
-use Rattle.std.specs.Prelude.{◌≡◌, List, [], ◌∷◌, map}
+-- The parts of a condition over terms, as they are encoded.
+use Rattle.std.specs.Prelude.{◌≡◌, List, [], ◌∷◌}
 use Rattle.std.specs.Option.{option_map}
 use Rattle.gh_base.specs.declared.atom.Term.{Term}
 use Rattle.gh_base.specs.declared.term.TermKind.{TermKind}
 use Rattle.gh_base.specs.declared.term.TermKind.TheVariants.{Null, Value, Next}
-use Rattle.gh_ast.specs.Plain.{formula_of, Program}
+use Rattle.gh_ast.specs.Plain.{formula_of}
 use Rattle.gh_ast.specs.Programs.{Name}
-use Rattle.gh_path.specs.Conditions.{Condition}
 use Rattle.gh_path.specs.Terms.{Kind, null, value, next, Bindings}
 use Rattle.gh_grass.specs.declared.binding.Bond.{Bond}
 use Rattle.gh_grass.specs.Bindings.{term_in}
@@ -16,7 +15,6 @@ use Rattle.gh_symb.specs.declared.over_terms.TermStep.{TermStep}
 use Rattle.gh_symb.specs.declared.over_terms.TermStep.TheVariants as step
 use Rattle.gh_symb.specs.declared.over_terms.TermCheck.{TermCheck}
 use Rattle.gh_symb.specs.declared.over_terms.TermCheck.TheVariants as check
-use Rattle.gh_symb.specs.declared.over_terms.Symbolic.{Symbolic}
 
 abbrev pub plain_kind : TermKind → Kind
 plain_kind Null = null
@@ -52,12 +50,3 @@ abbrev pub IsTermCheck : TermCheck → plain.TermCheck → Type 0
 IsTermCheck (check.Access x) k = k ≡ plain.access x.0
 IsTermCheck (check.Sub b) k = (u : plain.Under) × IsUnder b u × (k ≡ plain.sub u)
 IsTermCheck (check.Whole bs) k = (us : List plain.Under) × Each IsUnder bs.items us × (k ≡ plain.whole us)
-
--- what is kept is the condition over terms
-pub record IsSymbolic (P : Program) (c : Condition) (s : Symbolic) : Type 0 where
-  pub terms : map plain_kind s.terms ≡ (plain.symbolic_of P c).terms
-  pub versions : s.versions ≡ (plain.symbolic_of P c).versions
-  pub start : IsUnder s.start (plain.symbolic_of P c).start
-  pub steps : Each IsTermStep s.steps.items (plain.symbolic_of P c).steps
-  pub check : IsTermCheck s.check (plain.symbolic_of P c).check
-  pub bindings : Each IsBinding s.bindings.items (plain.symbolic_of P c).bindings

@@ -9,7 +9,8 @@ use Rattle.gh_path.specs.declared.condition.PathStep as kept_step
 use Rattle.gh_path.specs.Terms.{Bindings, Terms, walked, step_walked, steps_walked, no_terms}
 use Rattle.gh_symb.specs.Symbolic as plain
 use Rattle.gh_symb.specs.Symbolic.{term_steps, first_use}
-use Rattle.gh_symb.specs.Encodings.{Each, IsTermStep}
+use Rattle.gh_symb.specs.Encodings.{Each}
+use Rattle.gh_symb.specs.Fitting.{EncodesStep}
 use Rattle.gh_symb.specs.declared.over_terms.TermStep.{TermStep}
 
 -- the bindings that a walk has at the states
@@ -36,7 +37,7 @@ pub record Follows (P : Program) (p : Procedure) (kept : List kept_step.PathStep
   pub are_left : AreSteps P p kept steps
   pub lead : steps_walked P (variable_names p) steps s ≡ steps_walked P (variable_names p) c.way.steps (begins c)
   pub plain_steps : List plain.TermStep
-  pub are_encodings : Each IsTermStep encoded plain_steps
+  pub are_encodings : Each EncodesStep encoded plain_steps
   pub all_steps : plain_steps ++ term_steps P (variable_names p) steps s ≡ term_steps P (variable_names p) c.way.steps (begins c)
   pub meet : states ++ met P (variable_names p) steps s ≡ met P (variable_names p) c.way.steps (begins c)
   pub lack : (x : Name) → s.bindings x ≡ None → firsts x ≡ None
@@ -45,6 +46,6 @@ pub record Follows (P : Program) (p : Procedure) (kept : List kept_step.PathStep
 -- nothing is left
 pub record Followed (P : Program) (p : Procedure) (c : Condition) (s : Terms) (firsts : Bindings) (states : List Bindings) (encoded : List TermStep) : Type 0 where
   pub last : s ≡ steps_walked P (variable_names p) c.way.steps (begins c)
-  pub are_encodings : Each IsTermStep encoded (term_steps P (variable_names p) c.way.steps (begins c))
+  pub are_encodings : Each EncodesStep encoded (term_steps P (variable_names p) c.way.steps (begins c))
   pub meet : states ≡ met P (variable_names p) c.way.steps (begins c)
   pub first : (x : Name) → firsts x ≡ first_uses P (variable_names p) c x

@@ -8,6 +8,11 @@ pub mod Examples
 pub mod Met
 pub mod Symbolic
 pub mod Encodings
+pub mod Inside
+pub mod Props
+pub mod Encoded
+pub mod Fitting
+pub mod Walked
 pub mod Formulas
 pub mod Phases
 pub mod Following

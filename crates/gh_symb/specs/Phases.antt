@@ -1,12 +1,8 @@
 -- A step in two parts: the variables that it uses get terms, and then it is done.
 use Rattle.std.specs.Prelude.{◌≡◌, ℕ, ◌+◌, List, [], ◌∷◌, length, filter, not, cond, Option, Some, None}
-use Rattle.std.specs.Option.{option_map}
-use Rattle.gh_base.specs.declared.atom.Term.{Term}
 use Rattle.gh_base.specs.declared.place.Span.{Span}
 use Rattle.gh_ast.specs.Plain.{Formula, Procedure, Program}
 use Rattle.gh_ast.specs.Programs.{Name, names}
-use Rattle.gh_grass.specs.declared.binding.Bond.{Bond}
-use Rattle.gh_grass.specs.Bindings.{term_in}
 use Rattle.gh_path.specs.Graphs as path
 use Rattle.gh_path.specs.Kept.{IsStep, IsKind, IsStart}
 use Rattle.gh_path.specs.declared.condition.PathStep as kept_step
@@ -15,7 +11,7 @@ use Rattle.gh_path.specs.declared.condition.CheckKind as kept_kind
 use Rattle.gh_path.specs.Terms.{Bindings, bound, all_bound, Terms, terms, with_value, term_of, followed, expr_term, exprs_terms, walked, moved_on, rebound, renewed, some_assigns, callee_in, call_walked}
 use Rattle.gh_symb.specs.Symbolic as plain
 use Rattle.gh_symb.specs.Symbolic.{under, call_parts, step_used, check_used, either_term}
-use Rattle.gh_symb.specs.Encodings.{IsUnder}
+use Rattle.gh_symb.specs.Fitting.{EncodesUnder}
 use Rattle.gh_symb.specs.declared.over_terms.Bound.{Bound}
 
 -- an assertion under bindings
@@ -57,11 +53,7 @@ IsCheckUsed P p r at s b = (check : path.Check) → IsKind P p r at check → b 
 
 -- the start assertion of a kept start, once it is walked
 abbrev pub IsBegun : Procedure → kept_start.Start → Terms → Terms → Bound → Type 0
-IsBegun p r s t b = (start : path.Start) → IsStart p r start → (t ≡ walked start.meets s) × IsUnder b (under start.meets s)
-
--- the term of a name as a number
-abbrev pub value_in : List Bond → Name → Option ℕ
-value_in bonds x = option_map (λ (t : Term). t.0) (term_in bonds x)
+IsBegun p r s t b = (start : path.Start) → IsStart p r start → (t ≡ walked start.meets s) × EncodesUnder b (under start.meets s)
 
 -- these terms, and others where there are none
 abbrev pub both : Bindings → Bindings → Bindings

@@ -9,7 +9,7 @@ use Rattle.gh_path.specs.Kept.{IsStep, IsKind}
 use Rattle.gh_path.specs.declared.condition.PathStep as kept_step
 use Rattle.gh_path.specs.declared.condition.CheckKind as kept_kind
 use Rattle.gh_path.specs.Terms.{Terms, exprs_used, exprs_terms}
-use Rattle.gh_symb.specs.Encodings.{IsTermStep, IsTermCheck}
+use Rattle.gh_symb.specs.Fitting.{EncodesStep, EncodesCheck}
 use Rattle.gh_symb.specs.Symbolic as plain
 use Rattle.gh_symb.specs.Symbolic.{term_check, needs_under}
 use Rattle.gh_symb.specs.Phases.{step_done, step_encoding}
@@ -20,11 +20,11 @@ abbrev pub IsFinished : Program → Procedure → kept_step.PathStep → Terms �
 IsFinished P p r s t = (step : PathStep) → IsStep P p r step → t ≡ step_done P (variable_names p) step s
 
 abbrev pub IsStepEncoding : Program → Procedure → kept_step.PathStep → Terms → TermStep → Type 0
-IsStepEncoding P p r s encoded = (step : PathStep) → IsStep P p r step → IsTermStep encoded (step_encoding P (variable_names p) step s)
+IsStepEncoding P p r s encoded = (step : PathStep) → IsStep P p r step → EncodesStep encoded (step_encoding P (variable_names p) step s)
 
 -- what a check asks
 abbrev pub IsAsking : Program → Procedure → kept_kind.CheckKind → Span → Terms → TermCheck → Type 0
-IsAsking P p r at s asked = (check : Check) → IsKind P p r at check → IsTermCheck asked (term_check P check s)
+IsAsking P p r at s asked = (check : Check) → IsKind P p r at check → EncodesCheck asked (term_check P check s)
 
 -- what is asked at a call, once its arguments are used
 abbrev pub needs_asked : Procedure → List Expr → Terms → plain.TermCheck

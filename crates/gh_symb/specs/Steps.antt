@@ -1,7 +1,9 @@
 -- Walks over the parts of a condition as they are kept.
-use Rattle.std.specs.Prelude.{◌≡◌, ◌<◌, ◌≤◌, ℕ, List, length}
+use Rattle.std.specs.Prelude.{◌≡◌, ◌<◌, ◌≤◌, ℕ, List, length, filter}
 use Rattle.gh_ast.specs.declared.Expr.{Expr}
-use Rattle.gh_ast.specs.Plain.{Procedure, Program}
+use Rattle.gh_ast.specs.declared.Procedure as kept
+use Rattle.gh_ast.specs.declared.Stmt.{Stmt}
+use Rattle.gh_ast.specs.Plain.{Procedure, Program, procedure_of, statements_view}
 use Rattle.gh_ast.specs.Programs.{Name, variable_names}
 use Rattle.gh_path.specs.Admitted.{most_terms}
 use Rattle.gh_path.specs.Graphs.{Check, PathStep, Start}
@@ -13,7 +15,7 @@ use Rattle.gh_path.specs.declared.condition.Start as kept_start
 use Rattle.gh_path.specs.declared.condition.CheckKind as kept_kind
 use Rattle.gh_path.specs.declared.condition.PathStep.TheVariants as step
 use Rattle.gh_base.specs.declared.place.Span.{Span}
-use Rattle.gh_path.specs.Terms.{Kind, Terms, terms, with_value, bound, all_bound, expr_used, expr_term, exprs_used, exprs_terms, answered_inside, rebound, bound_inside, step_walked, check_walked, walked, terms_of, versions_of}
+use Rattle.gh_path.specs.Terms.{Kind, Terms, terms, with_value, bound, all_bound, expr_used, expr_term, exprs_used, exprs_terms, answered_inside, rebound, renewed, some_assigns, bound_inside, step_walked, check_walked, walked, terms_of, versions_of}
 use Rattle.gh_symb.specs.declared.count.Counted.{Counted}
 use Rattle.gh_symb.specs.declared.count.Counted.TheVariants.{Within, ManyTerms}
 
@@ -28,6 +30,10 @@ assigned_to x e s = let t = expr_used e s in rebound t (bound t.bindings x (expr
 -- variables get the terms of expressions, all at once
 abbrev pub all_assigned : List Name → List Expr → Terms → Terms
 all_assigned xs es s = let t = exprs_used es s in rebound t (all_bound t.bindings xs (exprs_terms es t))
+
+-- each variable of a procedure that statements assign gets a new value
+abbrev pub all_renewed_in : kept.Procedure → List Stmt → Terms → Terms
+all_renewed_in p body = renewed (filter (some_assigns (statements_view body)) (variable_names (procedure_of p)))
 
 -- a variable gets the place of a new cell, whose content is a new value too
 abbrev pub cell_made : Name → Terms → Terms

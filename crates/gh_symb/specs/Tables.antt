@@ -1,5 +1,5 @@
 -- Terms and what is bound to them, as lists.
-use Rattle.std.specs.Prelude.{◌≡◌, ◌≢◌, ℕ, ◌+◌, ◌<◌, ◌≤◌, List, [], ◌∷◌, length, slice_index_or, count_by, Contains, AllPairs}
+use Rattle.std.specs.Prelude.{◌≡◌, ◌≢◌, ℕ, ◌+◌, ◌<◌, ◌≤◌, List, [], ◌∷◌, length, slice_index_or, count_by, Contains, AllPairs, unwrap_or}
 use Rattle.gh_ast.specs.Programs.{Name}
 use Rattle.gh_path.specs.Terms.{Kind, null, value, next, is_value, Bindings, unbound, bound, Terms, terms}
 use Rattle.gh_symb.specs.declared.scope.Entry.{Entry}
@@ -21,11 +21,11 @@ pub record AreListed (ks : List Kind) : Type 0 where
   pub numbered : (n : ℕ) → Contains ks (value n) → n < count_by is_value ks
   pub apart : AllPairs (λ (j k : Kind). j ≢ k) ks
 
--- its number has 16 bits
+-- a value's number has 16 bits, and those of a successor have 8
 abbrev pub IsShort : kept.Kind → Type 0
 IsShort Null = Unit {0}
 IsShort (Value n) = n < 65536
-IsShort (Next i x) = Unit {0}
+IsShort (Next i x) = (i < 256) × (x < 256)
 
 -- names with terms, in the order in which they were bound
 abbrev pub Bound : Type 0
@@ -55,6 +55,14 @@ pub record IsLastAt (es : List Entry) (name : Name) (i : ℕ) : Type 0 where
 abbrev pub state : List Kind → Bound → ℕ → Terms
 state ks es i = terms ks (bound_by es) i
 
+-- the term of a name; null's where it has none
+abbrev pub term_in : Bound → Name → ℕ
+term_in es x = unwrap_or (bound_by es x) 0
+
 -- a walk in version i: it leads from the terms before it to f of them
 abbrev pub Walks : (Terms → Terms) → List Kind → Bound → List Kind → Bound → ℕ → Type 0
 Walks f ks es ls fs i = state ls fs i ≡ f (state ks es i)
+
+-- a walk that is the same in every version
+abbrev pub WalksAlways : (Terms → Terms) → List Kind → Bound → List Kind → Bound → Type 0
+WalksAlways f ks es ls fs = (i : ℕ) → Walks f ks es ls fs i

@@ -11,7 +11,7 @@ ghost use Rattle.gh_symb.specs.StepEncodings.{IsAsking, needs_asked};
 ghost use Rattle.gh_symb.specs.Steps.{EndsWith, IsChecked, entry_made};
 ghost use Rattle.gh_symb.specs.Symbolic.{Under, whole};
 ghost use Rattle.gh_symb.specs.Tables.{bound_by, state};
-ghost use Rattle.gh_symb.specs.Encodings.{IsUnder, IsTermCheck};
+ghost use Rattle.gh_symb.specs.Fitting.{EncodesUnder, EncodesCheck};
 
 use crate::kinds::Kinds;
 use crate::numbers::term_of;
@@ -37,7 +37,7 @@ fn start_of(procedure: &Procedure, start: Start) -> &Assertion
 
 /// One assertion that the whole heap meets.
 fn whole<'a>(alloc: Global, bound: Bound<'a>) -> Result<TermCheck<'a>, AllocError>
-    ensures { IfOk result (λ asked. (u : Under) → IsUnder bound.entry u → IsTermCheck asked (whole (u ∷ []))) }
+    ensures { IfOk result (λ asked. (u : Under) → EncodesUnder bound.entry u → EncodesCheck asked (whole (u ∷ []))) }
 {
     let mut ways = Vec::new(alloc);
     ways.push(bound)?;
@@ -75,7 +75,7 @@ impl<'a> Scope<'a> {
         ensures ended { IfOk result (λ asked. let s = state kinds.old self.old version in
             EndsWith (entry_made (procedure_of callee.now) arguments.now s) kinds.new version) }
         ensures encodes { IfOk result (λ asked. let s = state kinds.old self.old version in
-            IsTermCheck asked (needs_asked (procedure_of callee.now) arguments.now s)) }
+            EncodesCheck asked (needs_asked (procedure_of callee.now) arguments.now s)) }
     {
         self.use_exprs(kinds, arguments, version)?;
         let terms = self.exprs_terms(alloc, kinds, arguments, version)?;
@@ -105,7 +105,7 @@ impl<'a> Scope<'a> {
         match check {
             CheckKind::Access { at } => {
                 self.use_name(kinds, at)?;
-                let x = term_of(self.term(at))?;
+                let x = term_of(self.term(at));
                 Ok(TermCheck::Access { x })
             }
             CheckKind::CalleeEntry { callee, arguments } => {

@@ -1,15 +1,16 @@
 //! What names are bound to, as it is encoded.
 
-ghost use Rattle.std.specs.Prelude.{◌≡◌, IfOk, OnOk, map};
-ghost use Rattle.std.specs.Option.{option_map};
+ghost use Rattle.std.specs.Prelude.{◌≡◌, ◌<◌, IfOk, OnOk, map};
 ghost use Rattle.gh_ast.specs.Plain.{formula_of};
 ghost use Rattle.gh_ast.specs.Programs.{Name as Word};
-ghost use Rattle.gh_grass.specs.Bindings.{term_in};
 ghost use Rattle.gh_path.specs.Terms.{walked, each_walked};
 ghost use Rattle.gh_symb.specs.Symbolic.{either_term, under, each_under};
-ghost use Rattle.gh_symb.specs.Phases.{learned, under_bindings, value_in, both};
+ghost use Rattle.gh_symb.specs.Phases.{learned, under_bindings, both};
 ghost use Rattle.gh_symb.specs.Tables.{bound_by, state, Walks};
-ghost use Rattle.gh_symb.specs.Encodings.{Each, IsBinding, IsUnder};
+ghost use Rattle.gh_symb.specs.Encodings.{Each};
+ghost use Rattle.gh_symb.specs.Fitting.{EncodesBinding, EncodesUnder};
+ghost use Rattle.gh_symb.specs.Formulas.{variables};
+ghost use Rattle.gh_symb.specs.Inside.{binding_of};
 
 use crate::kinds::Kinds;
 use crate::numbers::{short, term_of};
@@ -22,18 +23,19 @@ use std::alloc::{AllocError, Global};
 impl<'a> Scope<'a> {
     /// These terms, and beside them those of other variables.
     pub fn over(&self, alloc: Global, others: Binding) -> Result<Binding, AllocError>
-        ensures { IfOk result (λ b. (x : Word) → value_in b x ≡ either_term (bound_by self.now x) (value_in others x)) }
+        ensures { IfOk result (λ b. (x : Word) → (variables (bound_by self.now) x).0 < 256 →
+            binding_of b x ≡ either_term (bound_by self.now x) (binding_of others x)) }
     {
         let mut binding = others;
         for entry in self.entries() {
-            binding.set(alloc, entry.name, term_of(entry.term)?)?;
+            binding.set(alloc, entry.name, term_of(entry.term))?;
         }
         Ok(binding)
     }
 
     /// The terms of the variables.
     pub fn binding(&self, alloc: Global) -> Result<Binding, AllocError>
-        ensures { IfOk result (λ b. IsBinding b (bound_by self.now)) }
+        ensures { IfOk result (λ b. EncodesBinding b (bound_by self.now)) }
     {
         let binding = self.over(alloc, Binding::new(alloc))?;
         Ok(binding)
@@ -46,10 +48,11 @@ impl<'a> Scope<'a> {
         assertion: &'a Assertion,
         version: usize,
     ) -> Result<Bound<'a>, AllocError>
-        ensures { IfOk result (λ b. IsUnder b (under_bindings (formula_of assertion.now) (bound_by self.now) version)) }
+        ensures { IfOk result (λ b. EncodesUnder b
+            (under_bindings (formula_of assertion.now) (bound_by self.now) version)) }
     {
         let binding = self.binding(alloc)?;
-        let version = short(version)?;
+        let version = short(version);
         Ok(Bound {
             assertion,
             binding,
@@ -68,7 +71,7 @@ impl<'a> Scope<'a> {
         ensures made { IfOk result (λ b.
             Walks (walked (formula_of assertion.now)) kinds.old self.old kinds.new self.new version) }
         ensures encodes { IfOk result (λ b.
-            IsUnder b (under (formula_of assertion.now) (state kinds.old self.old version))) }
+            EncodesUnder b (under (formula_of assertion.now) (state kinds.old self.old version))) }
     {
         self.walk(kinds, assertion, version)?;
         let bound = self.bound(alloc, assertion, version)?;
@@ -86,7 +89,7 @@ impl<'a> Scope<'a> {
         ensures made { IfOk result (λ bs.
             Walks (each_walked (map formula_of alternatives.now)) kinds.old self.old kinds.new self.new version) }
         ensures encode { IfOk result (λ bs. let s = state kinds.old self.old version in
-            Each IsUnder bs.items (each_under (map formula_of alternatives.now) s)) }
+            Each EncodesUnder bs.items (each_under (map formula_of alternatives.now) s)) }
     {
         let mut bounds = Vec::new(alloc);
         for alternative in alternatives {
@@ -114,7 +117,7 @@ pub fn all_bindings(
     firsts: &Scope<'_>,
 ) -> Result<Vec<Binding>, AllocError>
     ensures { IfOk result (λ bs.
-        Each IsBinding bs.items (map (λ es. both (bound_by es) (bound_by firsts.now)) states.now)) }
+        Each EncodesBinding bs.items (map (λ es. both (bound_by es) (bound_by firsts.now)) states.now)) }
 {
     let mut bindings = Vec::new(alloc);
     for state in states {

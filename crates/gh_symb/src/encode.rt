@@ -1,17 +1,17 @@
 //! Steps over terms, made from kept ones.
 
-ghost use Rattle.std.specs.Prelude.{◌≡◌, ◌+◌, ◌<◌, ◌≤◌, ℕ, [], ◌∷◌, length, unwrap_or, Some, IfOk};
-ghost use Rattle.gh_ast.specs.Plain.{Procedure as Whole, Program as Plain, formula_of, procedure_of, program_of};
+ghost use Rattle.std.specs.Prelude.{◌≡◌, ◌+◌, ◌<◌, ◌≤◌, [], ◌∷◌, length, unwrap_or, Some, IfOk};
+ghost use Rattle.gh_ast.specs.Plain.{Procedure as Whole, Program as Plain, procedure_of, program_of};
 ghost use Rattle.gh_ast.specs.Programs.{names, variable_names};
 ghost use Rattle.gh_path.specs.Graphs.{Loop, looped};
-ghost use Rattle.gh_path.specs.Terms.{bound, call_walked, expr_term, exprs_terms, terms, with_value};
+ghost use Rattle.gh_path.specs.Terms.{call_walked, expr_term, exprs_terms, terms};
 ghost use Rattle.gh_symb.specs.Phases.{step_done, step_encoding};
 ghost use Rattle.gh_symb.specs.Rounds.{IsRound};
 ghost use Rattle.gh_symb.specs.StepEncodings.{IsFinished, IsStepEncoding};
 ghost use Rattle.gh_symb.specs.Steps.{cell_made, ChangesCell, ReplacesPart};
 ghost use Rattle.gh_symb.specs.Symbolic.{Under, call_parts, parts, made};
-ghost use Rattle.gh_symb.specs.Tables.{bound_by, state, Walks};
-ghost use Rattle.gh_symb.specs.Encodings.{IsUnder, IsTermStep};
+ghost use Rattle.gh_symb.specs.Tables.{bound_by, state, WalksAlways};
+ghost use Rattle.gh_symb.specs.Fitting.{EncodesUnder, EncodesStep};
 
 use crate::kinds::Kinds;
 use crate::numbers::term_of;
@@ -33,8 +33,8 @@ pub struct StepEncoding<'a> {
 
 /// One part of the heap in the place of another.
 fn part<'a>(alloc: Global, before: Bound<'a>, after: Bound<'a>) -> Result<TermStep<'a>, AllocError>
-    ensures { IfOk result (λ encoded. (u w : Under) → IsUnder before.entry u → IsUnder after.entry w →
-        IsTermStep encoded (parts u (w ∷ []))) }
+    ensures { IfOk result (λ encoded. (u w : Under) → EncodesUnder before.entry u → EncodesUnder after.entry w →
+        EncodesStep encoded (parts u (w ∷ []))) }
 {
     let mut ways = Vec::new(alloc);
     ways.push(after)?;
@@ -46,32 +46,29 @@ fn part<'a>(alloc: Global, before: Bound<'a>, after: Bound<'a>) -> Result<TermSt
 
 impl<'a> Scope<'a> {
     /// The term of a variable.
-    fn encode_name(&self, name: &Name) -> Result<Term, AllocError>
-        ensures { IfOk result (λ term. term.0 ≡ unwrap_or (bound_by self.now name.now) 0) }
+    fn encode_name(&self, name: &Name) -> Term
+        ensures { let t = unwrap_or (bound_by self.now name.now) 0 in t < 256 → result.0 ≡ t }
     {
-        let term = term_of(self.term(name))?;
-        Ok(term)
+        term_of(self.term(name))
     }
 
     /// The term of an expression.
-    fn encode_expr(&self, kinds: &Kinds, expr: &Expr, version: usize) -> Result<Term, AllocError>
-        ensures { IfOk result (λ term. term.0 ≡ expr_term expr.now (state kinds.now self.now version)) }
+    fn encode_expr(&self, kinds: &Kinds, expr: &Expr, version: usize) -> Term
+        ensures { let t = expr_term expr.now (state kinds.now self.now version) in t < 256 → result.0 ≡ t }
     {
-        let term = term_of(self.expr_term(kinds, expr, version))?;
-        Ok(term)
+        term_of(self.expr_term(kinds, expr, version))
     }
 
     /// A variable gets the place of a new cell.
     fn encode_new(&mut self, kinds: &mut Kinds, name: &'a Name) -> Result<TermStep<'a>, AllocError>
-        ensures made { IfOk result (λ encoded. (version : ℕ) →
-            Walks (cell_made name.now) kinds.old self.old kinds.new self.new version) }
-        ensures encodes { IfOk result (λ encoded. IsTermStep encoded (made (length kinds.old) (length kinds.old + 1))) }
+        ensures made { IfOk result (λ encoded. WalksAlways (cell_made name.now) kinds.old self.old kinds.new self.new) }
+        ensures encodes { IfOk result (λ encoded. EncodesStep encoded (made (length kinds.old) (length kinds.old + 1))) }
     {
         let location = kinds.add_value()?;
         let content = kinds.add_value()?;
         self.bind(name, location)?;
-        let location = term_of(location)?;
-        let content = term_of(content)?;
+        let location = term_of(location);
+        let content = term_of(content);
         Ok(TermStep::New { location, content })
     }
 
@@ -91,8 +88,8 @@ impl<'a> Scope<'a> {
     {
         match step {
             PathStep::Write { at, value } => {
-                let x = self.encode_name(&at.name)?;
-                let value = self.encode_expr(kinds, value, version)?;
+                let x = self.encode_name(&at.name);
+                let value = self.encode_expr(kinds, value, version);
                 let step = TermStep::Write { x, value };
                 Ok(StepEncoding {
                     step,
@@ -107,7 +104,7 @@ impl<'a> Scope<'a> {
                 })
             }
             PathStep::Free { at } => {
-                let x = self.encode_name(&at.name)?;
+                let x = self.encode_name(&at.name);
                 let step = TermStep::Free { x };
                 Ok(StepEncoding {
                     step,
@@ -136,7 +133,7 @@ impl<'a> Scope<'a> {
             ≡ step_done P xs (looped l) (state kinds.old self.old version)) }
         ensures encodes { IfOk result (λ encoded. (P : Plain) (l : Loop) → IsRound round.now l →
             let xs = variable_names (procedure_of procedure.now) in
-            IsTermStep encoded (step_encoding P xs (looped l) (state kinds.old self.old version))) }
+            EncodesStep encoded (step_encoding P xs (looped l) (state kinds.old self.old version))) }
     {
         let before = self.bound(alloc, round.invariant, version)?;
         self.renew_all(kinds, procedure, round.body.statements.as_slice())?;
@@ -160,7 +157,7 @@ impl<'a> Scope<'a> {
             state kinds.new self.new (version + 1)
             ≡ call_walked (Some (procedure_of callee.now)) (names targets.now) (exprs_terms arguments.now s) s) }
         ensures encodes { IfOk result (λ encoded. let s = state kinds.old self.old version in
-            IsTermStep encoded (call_parts (Some (procedure_of callee.now)) (exprs_terms arguments.now s) s)) }
+            EncodesStep encoded (call_parts (Some (procedure_of callee.now)) (exprs_terms arguments.now s) s)) }
     {
         let terms = self.exprs_terms(alloc, kinds, arguments, version)?;
         let mut inside = Scope::new(alloc);
@@ -258,7 +255,7 @@ impl<'a> Scope<'a> {
     {
         match step {
             PathStep::Access { at } => {
-                let x = self.encode_name(&at.name)?;
+                let x = self.encode_name(&at.name);
                 kinds.add_next(version, self.term(&at.name))?;
                 Ok(StepEncoding {
                     step: TermStep::Access { x },
@@ -266,8 +263,8 @@ impl<'a> Scope<'a> {
                 })
             }
             PathStep::Assume { left, equal, right } => {
-                let left = self.encode_expr(kinds, left, version)?;
-                let right = self.encode_expr(kinds, right, version)?;
+                let left = self.encode_expr(kinds, left, version);
+                let right = self.encode_expr(kinds, right, version);
                 let equal = *equal;
                 Ok(StepEncoding {
                     step: TermStep::Assume { left, equal, right },

@@ -6,8 +6,9 @@ ghost use Rattle.gh_path.specs.Admitted.{most_terms};
 ghost use Rattle.gh_path.specs.Terms.{null, next, is_value, same_kind, place, added, with_value};
 ghost use Rattle.gh_symb.specs.Tables.{kind_of, AreListed, IsShort};
 ghost use Rattle.gh_symb.specs.Encodings.{plain_kind};
+ghost use Rattle.gh_symb.specs.Inside.{AreSuccessors};
 
-use crate::numbers::{short, term_of};
+use gh_base::atom::Term;
 use gh_base::term::TermKind;
 use gh_grass::terms::TermList;
 use std::alloc::{AllocError, Global};
@@ -23,20 +24,19 @@ pub enum Kind {
 
 impl Kind {
     /// The same as it is encoded.
-    fn encode(&self) -> Result<TermKind, AllocError>
+    fn encode(&self) -> TermKind
         requires { IsShort self.now }
-        ensures { IfOk result (λ kind. plain_kind kind ≡ kind_of self.now) }
+        ensures { plain_kind result ≡ kind_of self.now }
     {
         match self {
-            Kind::Null => Ok(TermKind::Null),
-            Kind::Value { number } => Ok(TermKind::Value {
+            Kind::Null => TermKind::Null,
+            Kind::Value { number } => TermKind::Value {
                 number: *number as u16,
-            }),
-            Kind::Next { version, of } => {
-                let version = short(*version)?;
-                let of = term_of(*of)?;
-                Ok(TermKind::Next { version, of })
-            }
+            },
+            Kind::Next { version, of } => TermKind::Next {
+                version: *version as u8,
+                of: Term(*of as u8),
+            },
         }
     }
 
@@ -74,6 +74,7 @@ fn next_place(kinds: &[Kind], version: usize, of: usize) -> Option<usize>
 fn encode_kinds(alloc: Global, kinds: &[Kind]) -> Result<TermList, AllocError>
     requires few { length kinds.now ≤ most_terms }
     requires listed { AreListed (map kind_of kinds.now) }
+    requires short { AreSuccessors 256 256 (map kind_of kinds.now) }
     ensures { IfOk result (λ terms. map plain_kind terms ≡ map kind_of kinds.now) }
 {
     let mut terms = TermList::new(alloc)?;
@@ -81,8 +82,7 @@ fn encode_kinds(alloc: Global, kinds: &[Kind]) -> Result<TermList, AllocError>
         let Some(found) = kinds.get(place) else {
             return Ok(terms);
         };
-        let kind = found.encode()?;
-        terms.add(kind)?;
+        terms.add(found.encode())?;
     }
     Ok(terms)
 }
@@ -153,7 +153,8 @@ impl Kinds {
     }
     /// The kinds as they are encoded.
     pub fn encode(&self, alloc: Global) -> Result<TermList, AllocError>
-        requires { length self.now ≤ most_terms }
+        requires few { length self.now ≤ most_terms }
+        requires short { AreSuccessors 256 256 self.now }
         ensures { IfOk result (λ terms. map plain_kind terms ≡ self.now) }
     {
         let terms = encode_kinds(alloc, self.kinds.as_slice())?;

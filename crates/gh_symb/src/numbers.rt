@@ -1,24 +1,23 @@
 //! Terms and versions as small numbers.
 
-ghost use Rattle.std.specs.Prelude.{◌≡◌, IfOk};
+ghost use Rattle.std.specs.Prelude.{◌≡◌, ◌<◌};
 
 use gh_base::atom::Term;
-use std::alloc::AllocError;
 
-/// A number as one of 8 bits. A condition that keeps the limits has no other terms and versions.
-pub fn short(number: usize) -> Result<u8, AllocError>
-    ensures { IfOk result (λ n. n ≡ number) }
+/// A number as one of 8 bits; the largest of these where it has more. A condition that keeps the limits has no
+/// such terms and versions.
+pub fn short(number: usize) -> u8
+    ensures { number < 256 → result ≡ number }
 {
-    match u8::try_from(number) {
-        Ok(short) => Ok(short),
-        Err(_) => Err(AllocError),
+    if number < 256 {
+        return number as u8;
     }
+    u8::MAX
 }
 
 /// The term of a number.
-pub fn term_of(number: usize) -> Result<Term, AllocError>
-    ensures { IfOk result (λ term. term.0 ≡ number) }
+pub fn term_of(number: usize) -> Term
+    ensures { number < 256 → result.0 ≡ number }
 {
-    let place = short(number)?;
-    Ok(Term(place))
+    Term(short(number))
 }

@@ -1,7 +1,10 @@
 //! Conditions over terms.
 
-ghost use Rattle.std.specs.Prelude.{◌≡◌, slice_get};
+ghost use Rattle.std.specs.Prelude.{◌≡◌, map, slice_get};
 ghost use Rattle.std.specs.Option.{option_map};
+ghost use Rattle.gh_symb.specs.Encodings.{plain_kind};
+ghost use Rattle.gh_symb.specs.Inside.{check_of, step_of, under_of, IsInside};
+ghost use Rattle.gh_symb.specs.Props.{IsInside-prop};
 
 use gh_ast::Assertion;
 use gh_base::atom::Term;
@@ -55,7 +58,7 @@ pub enum TermCheck<'a> {
     Whole(Vec<Bound<'a>>),
 }
 
-/// A condition over terms.
+/// A condition over terms. Its terms are those that it lists, and its versions those that it counts.
 #[derive(Debug, Drop)]
 pub struct Symbolic<'a> {
     pub(crate) terms: TermList,
@@ -64,6 +67,7 @@ pub struct Symbolic<'a> {
     pub(crate) bindings: Vec<Binding>,
     pub(crate) steps: Vec<TermStep<'a>>,
     pub(crate) check: TermCheck<'a>,
+    ghost inside: { IsInside (map plain_kind terms) versions (under_of start) (map step_of steps.items) (check_of check) } by { IsInside-prop (map plain_kind terms) versions (under_of start) (map step_of steps.items) (check_of check) },
 }
 
 impl<'a> Symbolic<'a> {
@@ -100,6 +104,13 @@ impl<'a> Symbolic<'a> {
         ensures { result.now ≡ self.now.check }
     {
         &self.check
+    }
+
+    /// The terms of the variables at each state, from the first on.
+    pub fn bindings(&self) -> &[Binding]
+        ensures { result.now ≡ self.now.bindings.items }
+    {
+        self.bindings.as_slice()
     }
 
     /// The terms of the variables at a state; none where the number is above that of the steps.

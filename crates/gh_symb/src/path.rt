@@ -1,9 +1,9 @@
 //! Walks over starts, steps and checks.
 
-ghost use Rattle.std.specs.Prelude.{◌≡◌, ◌+◌, ◌<◌, ◌≤◌, ℕ, IfOk, OnOk, length};
+ghost use Rattle.std.specs.Prelude.{◌+◌, ◌<◌, ◌≤◌, IfOk, OnOk};
 ghost use Rattle.gh_ast.specs.Plain.{Procedure as Whole, Program as Plain, procedure_of, program_of};
 ghost use Rattle.gh_ast.specs.Programs.{names};
-ghost use Rattle.gh_symb.specs.Tables.{state, Walks};
+ghost use Rattle.gh_symb.specs.Tables.{state, Walks, WalksAlways};
 ghost use Rattle.gh_symb.specs.Steps.{assigned_to, all_assigned, cell_made, entry_made};
 ghost use Rattle.gh_symb.specs.Steps.{IsStepped, ChangesCell, ReplacesPart, IsStarted, IsChecked, EndsWith};
 ghost use Rattle.gh_base.specs.declared.place.Span.{Span};
@@ -52,8 +52,7 @@ impl<'a> Scope<'a> {
 
     /// A variable gets the place of a new cell, whose content is a new value too.
     fn make(&mut self, kinds: &mut Kinds, name: &'a Name) -> Result<(), AllocError>
-        ensures { OnOk result ((version : ℕ) →
-            Walks (cell_made name.now) kinds.old self.old kinds.new self.new version) }
+        ensures { OnOk result (WalksAlways (cell_made name.now) kinds.old self.old kinds.new self.new) }
     {
         let location = kinds.add_value()?;
         kinds.add_value()?;

@@ -4,7 +4,6 @@ ghost use Rattle.std.specs.Prelude.{◌≡◌, MatchResult};
 ghost use Rattle.std.specs.List.{list_any};
 ghost use Rattle.std.specs.Str.{bytes_eq};
 ghost use Rattle.gh_ast.specs.Plain.{statement_of, statements_view, procedure_of};
-ghost use Rattle.gh_ast.specs.Programs.{names};
 ghost use Rattle.gh_path.specs.Graphs.{Loop, loops, all_loops};
 ghost use Rattle.gh_path.specs.Kept.{IsLoop};
 ghost use Rattle.gh_path.specs.Terms.{assigns, some_assigns};

@@ -1,10 +1,10 @@
 //! The variables that have terms.
 
-ghost use Rattle.std.specs.Prelude.{◌≡◌, [], ℕ, IfOk, OnOk, IfSome, IfNone, map, unwrap_or};
+ghost use Rattle.std.specs.Prelude.{◌≡◌, [], IfOk, OnOk, IfSome, IfNone, map, unwrap_or};
 ghost use Rattle.gh_ast.specs.Programs.{names};
 ghost use Rattle.gh_path.specs.Terms.{bound, all_bound, used, renewed};
 ghost use Rattle.gh_symb.specs.Phases.{bound_unless};
-ghost use Rattle.gh_symb.specs.Tables.{pair_of, bound_by, state, Walks, IsLastAt, NoneFrom};
+ghost use Rattle.gh_symb.specs.Tables.{pair_of, bound_by, IsLastAt, NoneFrom, WalksAlways};
 
 use crate::kinds::Kinds;
 use gh_ast::Occ;
@@ -134,8 +134,7 @@ impl<'a> Scope<'a> {
 
     /// A variable that has no term gets a new value. Its term is given.
     pub fn used_term(&mut self, kinds: &mut Kinds, name: &'a Name) -> Result<usize, AllocError>
-        ensures used { IfOk result (λ term. (version : ℕ) →
-            Walks (used name.now) kinds.old self.old kinds.new self.new version) }
+        ensures used { IfOk result (λ term. WalksAlways (used name.now) kinds.old self.old kinds.new self.new) }
         ensures term { IfOk result (λ term. term ≡ unwrap_or (bound_by self.new name.now) 0) }
     {
         match self.get(name) {
@@ -150,7 +149,7 @@ impl<'a> Scope<'a> {
 
     /// A variable that has no term gets a new value.
     pub fn use_name(&mut self, kinds: &mut Kinds, name: &'a Name) -> Result<(), AllocError>
-        ensures { OnOk result ((version : ℕ) → Walks (used name.now) kinds.old self.old kinds.new self.new version) }
+        ensures { OnOk result (WalksAlways (used name.now) kinds.old self.old kinds.new self.new) }
     {
         self.used_term(kinds, name)?;
         Ok(())
@@ -158,8 +157,7 @@ impl<'a> Scope<'a> {
 
     /// Each of some variables gets a new value.
     pub fn renew(&mut self, kinds: &mut Kinds, occs: &'a [Occ]) -> Result<(), AllocError>
-        ensures { OnOk result ((version : ℕ) →
-            Walks (renewed (names occs.now)) kinds.old self.old kinds.new self.new version) }
+        ensures { OnOk result (WalksAlways (renewed (names occs.now)) kinds.old self.old kinds.new self.new) }
     {
         for occ in occs {
             let term = kinds.add_value()?;

@@ -1,14 +1,14 @@
 //! Walks over steps and checks.
 
 ghost use Rattle.std.specs.Prelude.{◌≡◌, ◌+◌, ◌<◌, [], ◌∷◌, ℕ, OnOk, filter};
-ghost use Rattle.gh_ast.specs.Plain.{Program, statements_view, procedure_of};
+ghost use Rattle.gh_ast.specs.Plain.{Program, procedure_of, statements_view};
 ghost use Rattle.gh_ast.specs.Occurrences.{locals_of};
 ghost use Rattle.gh_ast.specs.Programs.{names, variable_names};
 ghost use Rattle.gh_path.specs.Graphs.{Loop, looped};
 ghost use Rattle.gh_path.specs.Terms.{renewed, some_assigns, step_walked};
-ghost use Rattle.gh_symb.specs.Tables.{state, Walks};
+ghost use Rattle.gh_symb.specs.Tables.{state, Walks, WalksAlways};
 ghost use Rattle.gh_symb.specs.Rounds.{IsRound};
-ghost use Rattle.gh_symb.specs.Steps.{call_made};
+ghost use Rattle.gh_symb.specs.Steps.{all_renewed_in, call_made};
 
 use crate::kinds::Kinds;
 use crate::rounds::{Round, some_assigns};
@@ -20,8 +20,7 @@ use std::alloc::{AllocError, Global};
 impl<'a> Scope<'a> {
     /// A variable gets a new value.
     fn renew_one(&mut self, kinds: &mut Kinds, name: &'a Name) -> Result<(), AllocError>
-        ensures { OnOk result ((version : ℕ) →
-            Walks (renewed (name.now ∷ [])) kinds.old self.old kinds.new self.new version) }
+        ensures { OnOk result (WalksAlways (renewed (name.now ∷ [])) kinds.old self.old kinds.new self.new) }
     {
         let term = kinds.add_value()?;
         self.bind(name, term)
@@ -54,9 +53,8 @@ impl<'a> Scope<'a> {
         procedure: &'a Procedure,
         body: &[Stmt],
     ) -> Result<(), AllocError>
-        ensures { OnOk result ((version : ℕ) → let xs = variable_names (procedure_of procedure.now) in
-            Walks (renewed (filter (some_assigns (statements_view body.now)) xs))
-            kinds.old self.old kinds.new self.new version) }
+        ensures { OnOk result (
+            WalksAlways (all_renewed_in procedure.now body.now) kinds.old self.old kinds.new self.new) }
     {
         self.renew_assigned(kinds, procedure.parameters.as_slice(), body)?;
         self.renew_assigned(kinds, procedure.results.as_slice(), body)?;

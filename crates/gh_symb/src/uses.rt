@@ -1,6 +1,6 @@
 //! What a step uses before anything is assigned.
 
-ghost use Rattle.std.specs.Prelude.{◌≡◌, OnOk};
+ghost use Rattle.std.specs.Prelude.{OnOk};
 ghost use Rattle.gh_ast.specs.Plain.{Program as Plain, procedure_of};
 ghost use Rattle.gh_path.specs.Graphs.{Loop};
 ghost use Rattle.gh_path.specs.Kept.{IsLoop};

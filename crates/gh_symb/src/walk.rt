@@ -5,7 +5,7 @@ ghost use Rattle.gh_ast.specs.Plain.{test_of, tests_view, formula_of, formulas_v
 ghost use Rattle.gh_ast.specs.Programs.{names};
 ghost use Rattle.gh_path.specs.Terms.{Kind, used, followed, operand_used, operand_term, expr_used, expr_term};
 ghost use Rattle.gh_path.specs.Terms.{exprs_used, exprs_terms, test_walked, tests_walked, walked, all_walked, each_walked};
-ghost use Rattle.gh_symb.specs.Tables.{bound_by, state, Walks};
+ghost use Rattle.gh_symb.specs.Tables.{bound_by, state, Walks, WalksAlways};
 
 use crate::kinds::Kinds;
 use crate::scope::Scope;
@@ -31,8 +31,7 @@ impl<'a> Scope<'a> {
 
     /// An operand is used.
     pub fn use_operand(&mut self, kinds: &mut Kinds, operand: &'a Operand) -> Result<(), AllocError>
-        ensures { OnOk result ((version : ℕ) →
-            Walks (operand_used operand.now) kinds.old self.old kinds.new self.new version) }
+        ensures { OnOk result (WalksAlways (operand_used operand.now) kinds.old self.old kinds.new self.new) }
     {
         match operand {
             Operand::Null { .. } => Ok(()),
@@ -61,8 +60,7 @@ impl<'a> Scope<'a> {
         kinds: &mut Kinds,
         operand: &'a Operand,
     ) -> Result<usize, AllocError>
-        ensures used { IfOk result (λ term. (version : ℕ) →
-            Walks (operand_used operand.now) kinds.old self.old kinds.new self.new version) }
+        ensures used { IfOk result (λ term. WalksAlways (operand_used operand.now) kinds.old self.old kinds.new self.new) }
         ensures term { IfOk result (λ term. (version : ℕ) →
             term ≡ operand_term operand.now (state kinds.new self.new version)) }
     {

@@ -1,13 +1,13 @@
 //! Conditions that are settled, decided and refuted by models of their clauses, with traces replayed.
 
-ghost use Rattle.std.specs.Prelude.{◌≡◌, ◌≤◌, length};
+ghost use Rattle.std.specs.Prelude.{◌≡◌};
 ghost use Rattle.gh_ast.specs.Limits.{KeepsLimits};
 ghost use Rattle.gh_ast.specs.Plain.{program_of};
 ghost use Rattle.gh_ast.specs.Rules.{IsTyped};
 ghost use Rattle.gh_path.specs.Admitted.{IsAdmitted};
 ghost use Rattle.gh_path.specs.Conditions as plain;
 ghost use Rattle.gh_path.specs.Kept.{StandsFor};
-ghost use Rattle.gh_symb.specs.Encodings.{IsSymbolic};
+ghost use Rattle.gh_symb.specs.Encoded.{IsSymbolic};
 ghost use Rattle.gh_trace.specs.Kept.{IsOne};
 
 use crate::machine_tests::SECOND;
@@ -74,7 +74,6 @@ fn modelled(
     condition: &Condition,
     over: &Symbolic<'_>,
 ) -> Result<Option<Trace>, AllocError>
-    requires few { length condition.now.steps.items ≤ 256 }
     requires one { IsOne (program_of typed.now) condition.now }
     requires told { (c : plain.Condition) → StandsFor (program_of typed.now) condition.now c → IsSymbolic (program_of typed.now) c over.now }
 {

@@ -1,9 +1,8 @@
 //! Conditions over terms as they are encoded, and their ground clauses, to compare with.
 
-ghost use Rattle.gh_ast.specs.Plain.{Program, program_of};
+ghost use Rattle.gh_ast.specs.Plain.{program_of};
 ghost use Rattle.gh_path.specs.Conditions.{Condition as PlainCondition};
 ghost use Rattle.gh_path.specs.Kept.{StandsFor};
-ghost use Rattle.gh_symb.specs.Encodings.{IsSymbolic};
 
 use gh_ast::typed::{Limit, Typed};
 use gh_base::atom::{Atom, Lit, Term};
@@ -368,9 +367,7 @@ pub(crate) fn shows(
     alloc: Global,
     over: &Symbolic<'_>,
     expected: &Expected<'_>,
-) -> Result<bool, AllocError>
-    requires { (P : Program) × (c : PlainCondition) × IsSymbolic P c over.now }
-{
+) -> Result<bool, AllocError> {
     match expected {
         Expected::Encoded(encoded) => Ok(is_encoded(alloc, over, encoded)?),
         Expected::Limit(..) => Ok(false),

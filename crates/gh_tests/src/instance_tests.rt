@@ -332,7 +332,7 @@ fn plain_walk(rt: HostRuntime) -> Result<(), AllocError> {
 // Whether the false instances of a structure in which these atoms are true have these names.
 fn are_false(global: Global, atoms: &[Atom], names: &[InstanceName]) -> Result<bool, AllocError> {
     let structure = structure_of(global, atoms)?;
-    let found = false_instances(global, &structure, 8)?;
+    let found = false_instances(global, &structure)?;
     Ok(found.as_slice() == names)
 }
 

@@ -37,6 +37,10 @@ mod run_tests;
 #[cfg(test)]
 mod script_tests;
 #[cfg(test)]
+mod search_tests;
+#[cfg(test)]
+mod section_tests;
+#[cfg(test)]
 mod session_file_tests;
 #[cfg(test)]
 mod session_tests;

@@ -166,40 +166,49 @@ fn push_all(alloc: Global, ground: &mut Ground, rows: &[&[i8]]) -> Result<(), Al
     Ok(())
 }
 
-// The clauses of one condition. Without the last one they have a model.
+// The clauses of one condition.
+const WORKED: [&[i8]; 25] = [
+    &[-1],
+    &[8, 1],
+    &[8, -2],
+    &[-8, -1, 2],
+    &[8],
+    &[9],
+    &[-10],
+    &[-11, -1, 10],
+    &[-11, 1, -10],
+    &[11, 1, 10],
+    &[11, -1, -10],
+    &[-12, 9],
+    &[-12, 11],
+    &[12, -9, -11],
+    &[12],
+    &[13],
+    &[-14],
+    &[-15, -1, 14],
+    &[-15, 1, -14],
+    &[15, 1, 14],
+    &[15, -1, -14],
+    &[-16, 13],
+    &[-16, 15],
+    &[16, -13, -15],
+    &[-16],
+];
+
+// A ground with them.
+pub(crate) fn worked(alloc: Global) -> Result<Ground, AllocError> {
+    let mut ground = empty(alloc, 0, 9);
+    push_all(alloc, &mut ground, &WORKED)?;
+    Ok(ground)
+}
+
+// Without the last one they have a model.
 #[test]
 fn worked_condition(rt: HostRuntime) -> Result<(), Fail> {
-    let rows: [&[i8]; 25] = [
-        &[-1],
-        &[8, 1],
-        &[8, -2],
-        &[-8, -1, 2],
-        &[8],
-        &[9],
-        &[-10],
-        &[-11, -1, 10],
-        &[-11, 1, -10],
-        &[11, 1, 10],
-        &[11, -1, -10],
-        &[-12, 9],
-        &[-12, 11],
-        &[12, -9, -11],
-        &[12],
-        &[13],
-        &[-14],
-        &[-15, -1, 14],
-        &[-15, 1, -14],
-        &[15, 1, 14],
-        &[15, -1, -14],
-        &[-16, 13],
-        &[-16, 15],
-        &[16, -13, -15],
-        &[-16],
-    ];
     let mut ground = empty(rt.alloc(), 0, 9);
-    push_all(rt.alloc(), &mut ground, &rows[..24])?;
+    push_all(rt.alloc(), &mut ground, &WORKED[..24])?;
     assert_eq!(rt; decided(rt.alloc(), &ground)?, Verdict::Model);
-    push_all(rt.alloc(), &mut ground, &rows[24..])?;
+    push_all(rt.alloc(), &mut ground, &WORKED[24..])?;
     assert!(rt; is_refuted(rt.alloc(), &ground)?);
     Ok(())
 }

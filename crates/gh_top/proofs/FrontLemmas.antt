@@ -12,7 +12,7 @@ use Rattle.gh_types.specs.Checking as checked
 use Rattle.gh_types.specs.declared.check.CheckError.{CheckError}
 use Rattle.gh_types.specs.declared.check.CheckError.TheVariants as checking
 use Rattle.gh_path.specs.Admitted as admitted
-use Rattle.gh_path.specs.Admitted.{HasManyPaths, HasManySteps, NoneHas, IsFirstLimit}
+use Rattle.gh_path.specs.Admitted.{HasManyPaths, HasManySteps, NoneHas}
 use Rattle.gh_path.specs.Refusals as listing
 use Rattle.gh_path.specs.declared.listing.ConditionsError.{ConditionsError}
 use Rattle.gh_path.specs.declared.listing.ConditionsError.TheVariants as of_listing

@@ -18,20 +18,20 @@ use Rattle.gh_parse.specs.Parsing.{IsAsked, IsQuestionRefusal}
 use Rattle.gh_parse.specs.declared.error.ParseError.{ParseError}
 use Rattle.gh_parse.specs.declared.error.ParseError.TheVariants as parsing
 use Rattle.gh_entail.specs.Rules.{IsTyped}
-use Rattle.gh_entail.specs.Asked.{IsAdmitted, IsAskRefusal}
+use Rattle.gh_entail.specs.Asked.{IsAskRefusal}
 use Rattle.gh_entail.specs.Answers.{IsAnswer, FailsIn}
 use Rattle.gh_entail.specs.declared.answer.Entailment.TheVariants.{Yes}
 use Rattle.gh_entail.specs.declared.admit.AskError.{AskError}
 use Rattle.gh_entail.specs.declared.admit.AskError.TheVariants as asking
 use Rattle.gh_entail.proofs.Stating.{variables_are_distinct}
-use Rattle.gh_top.specs.Entails.{IsQuestionText, IsQuestionRefused, PosesAdmitted, IsEntailedReport, IsFailingReport}
+use Rattle.gh_top.specs.Entails.{IsQuestionText, IsQuestionRefused, PosesAdmitted, IsFailingReport}
 use Rattle.gh_top.specs.Files.{Shows, IsSourceRead}
 use Rattle.gh_top.specs.Fronts.{of_parse}
-use Rattle.gh_top.specs.Headline.{Files, HasAnswer, entail_refused, entail_verified, entail_refuted}
+use Rattle.gh_top.specs.Headline.{HasAnswer, entail_refused, entail_verified, entail_refuted}
 use Rattle.gh_top.specs.QuestionReplies.{of_ask, IsQuestionFrontError, IsReplyTo, entailed, failing, RepliesToQuestion}
 use Rattle.gh_top.specs.Refusals.{most_bytes, refusal_text}
 use Rattle.gh_top.specs.Sources.{source_of}
-use Rattle.gh_top.specs.Words.{IsRequest, IsOnProgram}
+use Rattle.gh_top.specs.Words.{IsRequest}
 use Rattle.gh_top.specs.declared.file.FileText.{FileText}
 use Rattle.gh_top.specs.declared.refusal.Refusal.{Refusal}
 use Rattle.gh_top.specs.declared.status.Status.{Status}

@@ -14,7 +14,6 @@ use Rattle.gh_trace.specs.declared.state.State.{State}
 use Rattle.gh_log.specs.Lines.{LogLine}
 use Rattle.gh_log.specs.declared.lines.Section.{Section}
 use Rattle.gh_log.specs.Spelled.{IsOfVersion}
-use Rattle.gh_trace.proofs.FirstRefuted.{placed}
 use Rattle.gh_decide.specs.Outcomes.{IsVerified}
 use Rattle.gh_trace.specs.Refuted.{IsFirst}
 use Rattle.gh_trace.proofs.FirstRefuted.{first_at, kept_first}

@@ -3,7 +3,7 @@ use Rattle.std.specs.Prelude.{◌≡◌, ℕ, List, Option, ⊤}
 use Rattle.gh_ast.specs.Questions.{Question}
 use Rattle.gh_entail.specs.declared.admit.AskError.{AskError}
 use Rattle.gh_entail.specs.declared.admit.AskError.TheVariants as asking
-use Rattle.gh_top.specs.Entails.{IsQuestionRefused, PosesAdmitted, IsEntailedReport, IsFailingReport}
+use Rattle.gh_top.specs.Entails.{IsQuestionRefused, IsEntailedReport, IsFailingReport}
 use Rattle.gh_top.specs.Headline.{Files, Answer}
 use Rattle.gh_top.specs.Rules.{rule_of}
 use Rattle.gh_top.specs.Words.{IsRequest}

@@ -10,3 +10,4 @@ pub mod Insides
 pub mod CallLemmas
 pub mod Following
 pub mod FirstRefuted
+pub mod StepCounts

@@ -1,6 +1,6 @@
 //! The values of variables before and after a step.
 
-ghost use Rattle.std.specs.Prelude.{◌≡◌, ◌≢◌, ◌↔◌, ◌++◌, List, ℕ, map, length, IfOk, IfNone, IfSome, IsTrue};
+ghost use Rattle.std.specs.Prelude.{◌≡◌, ◌↔◌, ◌++◌, List, map, length, IfOk, IfNone, IfSome, IsTrue};
 ghost use Rattle.gh_ast.specs.Plain.{procedure_of};
 ghost use Rattle.gh_ast.specs.Programs.{Name, names, parameters_of, results_of, variable_names};
 ghost use Rattle.gh_ast.specs.Occurrences.{locals_of};

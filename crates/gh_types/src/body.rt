@@ -1,9 +1,10 @@
 // The statements of a body.
 
-ghost use Rattle.std.specs.Prelude.{◌≡◌, [], ◌∷◌, map, IfOk, false};
+ghost use Rattle.std.specs.Prelude.{[], ◌∷◌, IfOk, false};
 ghost use Rattle.gh_ast.specs.Plain.{procedure_of, statement_of, statements_view, call};
 ghost use Rattle.gh_ast.specs.Occurrences.{assigned, mentioned, called, returned, sites_in, all_sites_in, sites_in_body};
-ghost use Rattle.gh_types.specs.Checks.{OccurrenceErrors, ParameterErrors, SiteErrors, TargetErrors};
+ghost use Rattle.gh_types.specs.Checks.{OccurrenceErrors, ParameterErrors, TargetErrors};
+ghost use Rattle.gh_types.specs.Scopes.{SiteErrorsIn};
 ghost use Rattle.gh_types.specs.declared.scope.Setting.TheVariants.{Inside};
 ghost use Rattle.gh_types.specs.Faults.{IsFirstIn, IsFirstOf};
 
@@ -36,8 +37,7 @@ impl<'a, 'n> Scope<'a, 'n> {
 
     /// The first error of the one target of a statement.
     fn in_assigned(&self, target: &Occ) -> Option<Fault>
-        ensures { IsFirstIn (SiteErrors (map procedure_of self.now.procedures.now) (procedure_of self.now.own.now))
-            (assigned (target.now ∷ []) ∷ mentioned target.now ∷ []) result }
+        ensures { IsFirstIn (SiteErrorsIn self.now) (assigned (target.now ∷ []) ∷ mentioned target.now ∷ []) result }
     {
         earlier(
             self.in_target(target),
@@ -58,7 +58,7 @@ impl<'a, 'n> Scope<'a, 'n> {
 
     /// The error of a call: an unknown callee, or a wrong count.
     fn in_call(&self, targets: &[Occ], callee: &Occ, arguments: &[Expr]) -> Option<Fault>
-        ensures { IsFirstOf (SiteErrors (map procedure_of self.now.procedures.now) (procedure_of self.now.own.now)
+        ensures { IsFirstOf (SiteErrorsIn self.now
             (called targets.now callee.now arguments.now)) result }
     {
         match self.meant(callee) {
@@ -73,7 +73,7 @@ impl<'a, 'n> Scope<'a, 'n> {
 
     /// The first error of a return.
     fn in_return(&self, in_loop: bool, span: Span, values: &[Expr]) -> Option<Fault>
-        ensures { IsFirstOf (SiteErrors (map procedure_of self.now.procedures.now) (procedure_of self.now.own.now)
+        ensures { IsFirstOf (SiteErrorsIn self.now
             (returned in_loop span values.now)) result }
     {
         earlier(
@@ -90,8 +90,7 @@ impl<'a, 'n> Scope<'a, 'n> {
         in_loop: bool,
         statement: &Stmt,
     ) -> Result<Option<Fault>, AllocError>
-        ensures { IfOk result (IsFirstIn (SiteErrors (map procedure_of self.now.procedures.now) (procedure_of self.now.own.now))
-            (sites_in in_loop (statement_of statement.now))) }
+        ensures { IfOk result (IsFirstIn (SiteErrorsIn self.now) (sites_in in_loop (statement_of statement.now))) }
     {
         match statement {
             Stmt::Set { target, value } => Ok(earlier(
@@ -145,8 +144,7 @@ impl<'a, 'n> Scope<'a, 'n> {
         in_loop: bool,
         statements: &[Stmt],
     ) -> Result<Option<Fault>, AllocError>
-        ensures { IfOk result (IsFirstIn (SiteErrors (map procedure_of self.now.procedures.now) (procedure_of self.now.own.now))
-            (all_sites_in in_loop (statements_view statements.now))) }
+        ensures { IfOk result (IsFirstIn (SiteErrorsIn self.now) (all_sites_in in_loop (statements_view statements.now))) }
     {
         let mut first = None;
         for statement in statements {
@@ -163,8 +161,7 @@ impl<'a, 'n> Scope<'a, 'n> {
         callee: &Occ,
         arguments: &[Expr],
     ) -> Result<Option<Fault>, AllocError>
-        ensures { IfOk result (IsFirstIn (SiteErrors (map procedure_of self.now.procedures.now) (procedure_of self.now.own.now))
-            (sites_in false (call targets.now callee.now arguments.now))) }
+        ensures { IfOk result (IsFirstIn (SiteErrorsIn self.now) (sites_in false (call targets.now callee.now arguments.now))) }
     {
         let of_targets = self.in_targets(alloc, targets)?;
         let of_call = self.in_call(targets, callee, arguments);
@@ -177,8 +174,7 @@ impl<'a, 'n> Scope<'a, 'n> {
 
     /// The first error in the body, where there is one.
     pub fn in_body(&self, alloc: Global) -> Result<Option<Fault>, AllocError>
-        ensures { IfOk result (IsFirstIn (SiteErrors (map procedure_of self.now.procedures.now) (procedure_of self.now.own.now))
-            (sites_in_body (procedure_of self.now.own.now).body)) }
+        ensures { IfOk result (IsFirstIn (SiteErrorsIn self.now) (sites_in_body (procedure_of self.now.own.now).body)) }
     {
         match &self.own.body {
             Some(body) => self.in_statements(alloc, false, body.block.statements.as_slice()),

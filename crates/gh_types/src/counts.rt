@@ -1,6 +1,6 @@
 // How many atoms and variables there are.
 
-ghost use Rattle.std.specs.Prelude.{◌≡◌, ◌^◌, ◌-◌, min, length};
+ghost use Rattle.std.specs.Prelude.{◌≡◌, ◌-◌, length};
 ghost use Rattle.gh_ast.specs.Plain.{formula_of, formulas_view, procedure_of, test_of, tests_view};
 ghost use Rattle.gh_ast.specs.Limits.{all_atoms, atoms, reported, test_atoms, tests_atoms};
 ghost use Rattle.gh_ast.specs.Occurrences.{variables_of};

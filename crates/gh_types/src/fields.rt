@@ -1,6 +1,6 @@
 // The fields of the struct.
 
-ghost use Rattle.std.specs.Prelude.{◌≡◌, ◌⊎◌, ◌↔◌, IsTrue, codes};
+ghost use Rattle.std.specs.Prelude.{◌≡◌, ◌↔◌, IsTrue, codes};
 ghost use Rattle.gh_ast.specs.Rules.{IsLink};
 ghost use Rattle.gh_types.specs.Checks.{FieldErrors, StructErrors};
 ghost use Rattle.gh_types.specs.Faults.{IsFirstOf};

@@ -1,10 +1,9 @@
 // The limits on a text.
 
-ghost use Rattle.std.specs.Prelude.{◌≡◌, ◌<◌, ◌≤◌, [], ◌∷◌, map, length, sum, All, MatchOption};
+ghost use Rattle.std.specs.Prelude.{◌≡◌, ◌<◌, ◌≤◌, [], ◌∷◌, map, sum, MatchOption};
 ghost use Rattle.gh_ast.specs.Plain.{formula_of, procedure_of, program_of, statement_of, statements_view};
-ghost use Rattle.gh_ast.specs.Limits.{atom_counts, atoms, invariants_in, all_invariants_in, invariants_in_body, AtomsPassed, IsLimit, KeepsLimits, ProceduresPassed, VariablesPassed};
-ghost use Rattle.gh_ast.specs.Occurrences.{variables_of};
-ghost use Rattle.gh_types.specs.LimitChecks.{FindsMany};
+ghost use Rattle.gh_ast.specs.Limits.{atom_counts, atoms, invariants_in, all_invariants_in, invariants_in_body, IsLimit, KeepsLimits};
+ghost use Rattle.gh_types.specs.LimitChecks.{IsProceduresLimit, IsVariablesLimit, IsAtomsLimit, FindsMany};
 
 use crate::counts::{count_all_atoms, count_atoms, count_variables, reported};
 use gh_ast::typed::Limit;
@@ -99,7 +98,7 @@ fn long_in_procedure(procedure: &Procedure) -> Option<u32>
 
 /// The limit on the number of procedures, where it is passed.
 fn procedures_limit(procedures: &[Procedure]) -> Option<Limit>
-    ensures { MatchOption result (length (map procedure_of procedures.now) ≤ 256) (ProceduresPassed (map procedure_of procedures.now)) }
+    ensures { IsProceduresLimit (map procedure_of procedures.now) result }
 {
     if procedures.len() <= 256 {
         return None;
@@ -113,7 +112,7 @@ fn procedures_limit(procedures: &[Procedure]) -> Option<Limit>
 
 /// The limit on the variables of a procedure, where it is passed.
 fn variables_limit(procedures: &[Procedure]) -> Option<Limit>
-    ensures { MatchOption result (All (λ q. length (variables_of q) ≤ 32) (map procedure_of procedures.now)) (VariablesPassed (map procedure_of procedures.now)) }
+    ensures { IsVariablesLimit (map procedure_of procedures.now) result }
 {
     for procedure in procedures {
         let count = count_variables(procedure);
@@ -130,7 +129,7 @@ fn variables_limit(procedures: &[Procedure]) -> Option<Limit>
 
 /// The limit on atoms, where it is passed.
 fn atoms_limit(procedures: &[Procedure]) -> Option<Limit>
-    ensures { MatchOption result (All (λ q. All (λ n. n ≤ 32) (atom_counts q)) (map procedure_of procedures.now)) (AtomsPassed (map procedure_of procedures.now)) }
+    ensures { IsAtomsLimit (map procedure_of procedures.now) result }
 {
     for procedure in procedures {
         if let Some(count) = long_in_procedure(procedure) {

@@ -1,6 +1,6 @@
 // Tables of names.
 
-ghost use Rattle.std.specs.Prelude.{◌≡◌, [], ◌∷◌, ◌++◌, List, ℕ, length, IfOk, OnOk, is_none, IsTrue, ◌↔◌, Contains, Some, map};
+ghost use Rattle.std.specs.Prelude.{◌≡◌, [], ◌∷◌, ◌++◌, List, ℕ, length, IfOk, OnOk, is_none, IsTrue, ◌↔◌, Some, map};
 ghost use Rattle.gh_ast.specs.declared.Occ.{Occ as Whole};
 ghost use Rattle.gh_ast.specs.Rules.{HasName};
 ghost use Rattle.gh_ast.specs.Plain.{procedure_of};

@@ -1,8 +1,8 @@
 // The occurrences of variables in expressions, tests and assertions.
 
-ghost use Rattle.gh_ast.specs.Plain.{procedure_of, test_of, tests_view, formula_of, formulas_view};
+ghost use Rattle.gh_ast.specs.Plain.{test_of, tests_view, formula_of, formulas_view};
 ghost use Rattle.gh_ast.specs.Occurrences.{in_operand, in_expr, in_exprs, in_test, in_tests, in_formula, in_formulas};
-ghost use Rattle.gh_types.specs.Checks.{OccurrenceErrors};
+ghost use Rattle.gh_types.specs.Scopes.{OccurrenceErrorsIn};
 ghost use Rattle.gh_types.specs.Faults.{IsFirstIn};
 
 use crate::fault::{Fault, earlier};
@@ -12,7 +12,7 @@ use gh_ast::{Assertion, Cond, Expr, Operand};
 impl<'a, 'n> Scope<'a, 'n> {
     /// The first error in an operand.
     fn in_operand(&self, setting: Setting, operand: &Operand) -> Option<Fault>
-        ensures { IsFirstIn (OccurrenceErrors (procedure_of self.now.own.now) setting) (in_operand operand.now) result }
+        ensures { IsFirstIn (OccurrenceErrorsIn self.now setting) (in_operand operand.now) result }
     {
         match operand {
             Operand::Null { .. } => None,
@@ -22,7 +22,7 @@ impl<'a, 'n> Scope<'a, 'n> {
 
     /// The first error in an expression.
     pub fn in_expr(&self, setting: Setting, expr: &Expr) -> Option<Fault>
-        ensures { IsFirstIn (OccurrenceErrors (procedure_of self.now.own.now) setting) (in_expr expr.now) result }
+        ensures { IsFirstIn (OccurrenceErrorsIn self.now setting) (in_expr expr.now) result }
     {
         match expr {
             Expr::Plain(operand) => self.in_operand(setting, operand),
@@ -32,7 +32,7 @@ impl<'a, 'n> Scope<'a, 'n> {
 
     /// The first error in some expressions.
     pub fn in_exprs(&self, setting: Setting, exprs: &[Expr]) -> Option<Fault>
-        ensures { IsFirstIn (OccurrenceErrors (procedure_of self.now.own.now) setting) (in_exprs exprs.now) result }
+        ensures { IsFirstIn (OccurrenceErrorsIn self.now setting) (in_exprs exprs.now) result }
     {
         let mut first = None;
         for expr in exprs {
@@ -44,7 +44,7 @@ impl<'a, 'n> Scope<'a, 'n> {
     /// The first error in a test.
     #[cycle(any_test)]
     pub fn in_test(&self, setting: Setting, test: &Cond) -> Option<Fault>
-        ensures { IsFirstIn (OccurrenceErrors (procedure_of self.now.own.now) setting) (in_test (test_of test.now)) result }
+        ensures { IsFirstIn (OccurrenceErrorsIn self.now setting) (in_test (test_of test.now)) result }
     {
         match test {
             Cond::Compare { left, right, .. } => {
@@ -59,7 +59,7 @@ impl<'a, 'n> Scope<'a, 'n> {
     /// The first error in some tests.
     #[cycle(any_test)]
     fn in_tests(&self, setting: Setting, tests: &[Cond]) -> Option<Fault>
-        ensures { IsFirstIn (OccurrenceErrors (procedure_of self.now.own.now) setting) (in_tests (tests_view tests.now)) result }
+        ensures { IsFirstIn (OccurrenceErrorsIn self.now setting) (in_tests (tests_view tests.now)) result }
     {
         let mut first = None;
         for test in tests {
@@ -71,7 +71,7 @@ impl<'a, 'n> Scope<'a, 'n> {
     /// The first error in an assertion.
     #[cycle(assertion)]
     pub fn in_assertion(&self, setting: Setting, assertion: &Assertion) -> Option<Fault>
-        ensures { IsFirstIn (OccurrenceErrors (procedure_of self.now.own.now) setting) (in_formula (formula_of assertion.now)) result }
+        ensures { IsFirstIn (OccurrenceErrorsIn self.now setting) (in_formula (formula_of assertion.now)) result }
     {
         match assertion {
             Assertion::Emp => None,
@@ -102,7 +102,7 @@ impl<'a, 'n> Scope<'a, 'n> {
     /// The first error in some assertions.
     #[cycle(assertion)]
     pub fn in_assertions(&self, setting: Setting, assertions: &[Assertion]) -> Option<Fault>
-        ensures { IsFirstIn (OccurrenceErrors (procedure_of self.now.own.now) setting) (in_formulas (formulas_view assertions.now)) result }
+        ensures { IsFirstIn (OccurrenceErrorsIn self.now setting) (in_formulas (formulas_view assertions.now)) result }
     {
         let mut first = None;
         for assertion in assertions {

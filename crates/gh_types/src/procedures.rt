@@ -1,8 +1,9 @@
 // The procedures of a program.
 
-ghost use Rattle.std.specs.Prelude.{◌≡◌, ◌⊎◌, map, Any, IfOk};
+ghost use Rattle.std.specs.Prelude.{◌⊎◌, map, Any, IfOk};
 ghost use Rattle.gh_ast.specs.Plain.{procedure_of};
 ghost use Rattle.gh_types.specs.Checks.{ProcedureErrors, RepeatErrors};
+ghost use Rattle.gh_types.specs.Scopes.{ProcedureErrorsIn};
 ghost use Rattle.gh_types.specs.Faults.{IsFirstIn, IsFirstOf};
 ghost use Rattle.gh_types.specs.Tables.{IsTableOf};
 
@@ -15,7 +16,7 @@ use std::alloc::{AllocError, Global};
 impl<'a, 'n> Scope<'a, 'n> {
     /// The first error of the procedure.
     fn in_procedure(&self, alloc: Global) -> Result<Option<Fault>, AllocError>
-        ensures { IfOk result (IsFirstOf (ProcedureErrors (map procedure_of self.now.procedures.now) (procedure_of self.now.own.now))) }
+        ensures { IfOk result (IsFirstOf (ProcedureErrorsIn self.now)) }
     {
         let names = variables(alloc, self.own)?;
         let again = repeated(alloc, 2, names.as_slice())?;

@@ -1,5 +1,5 @@
 -- States of a structure, one after another.
-use Rattle.std.specs.Prelude.{◌≡◌, ℕ, zero, suc, ◌+◌, ◌<◌, ◌≤◌, List, [], ◌∷◌, ◌++◌, length, slice_get, Some, None}
+use Rattle.std.specs.Prelude.{◌≡◌, ℕ, zero, suc, ◌+◌, ◌<◌, ◌≤◌, List, [], ◌∷◌, ◌++◌, length, get_or, slice_get, Some, None}
 use Rattle.std.proofs.Common.{refl, sym, ◌∙◌, ap, subst, append_assoc, drop, arith}
 use Rattle.std.proofs.lemmas.List.{append-nil}
 use Rattle.gh_base.specs.Structures.{Tables}
@@ -68,3 +68,14 @@ goes_on s xs ps bs done done' n i j b x e at put next W =
 
 pub ends_here : (s : Tables) (xs : List Name) (ps : List TermStep) (bs : List (List Bond)) (done : List State) (n i : ℕ) → slice_get bs n ≡ None → IsWalk s xs ps bs done n i → done ≡ states_in s xs 0 ps bs
 ends_here s xs ps bs done n i e W = sym (append-nil done) ∙ sym (ap (λ cs. done ++ states_in s xs i (drop n ps) cs) (left_none bs n e)) ∙ W.is
+
+-- the binding of a number that is not passed, and none past them all
+pub at_number : (bs : List (List Bond)) (n : ℕ) (b : List Bond) → n < length bs → b ≡ get_or bs n b → slice_get bs n ≡ Some b
+at_number [] n b within is = absurd (omega (arith, within))
+at_number (c ∷ bs) zero b within is = ap Some (sym is)
+at_number (c ∷ bs) (suc n) b within is = at_number bs n b (omega (arith, within)) is
+
+pub past_all : (bs : List (List Bond)) (n : ℕ) → length bs ≤ n → slice_get bs n ≡ None
+past_all [] n past = refl
+past_all (c ∷ bs) zero past = absurd (omega (arith, past))
+past_all (c ∷ bs) (suc n) past = past_all bs n (omega (arith, past))

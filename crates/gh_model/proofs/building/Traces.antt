@@ -1,5 +1,5 @@
 -- The states of a structure over a condition's terms are those of its interpretation.
-use Rattle.std.specs.Prelude.{◌≡◌, ◌≤◌, ℕ, ◌+◌, ◌<◌, List, [], ◌∷◌, length, map, filter, Some, unwrap_or, true, cond, Contains}
+use Rattle.std.specs.Prelude.{◌≡◌, ℕ, ◌+◌, ◌<◌, List, [], ◌∷◌, length, map, filter, Some, unwrap_or, true, cond, Contains}
 use Rattle.std.specs.Option.{option_map}
 use Rattle.std.specs.Str.{bytes_eq}
 use Rattle.std.proofs.Common.{refl, sym, ◌∙◌, ap, subst, inl, inr, arith}
@@ -10,7 +10,7 @@ use Rattle.gh_base.specs.declared.atom.Term.{Term}
 use Rattle.gh_base.specs.declared.sizes.Sizes.{Sizes}
 use Rattle.gh_base.specs.Meaning.{Interpretation}
 use Rattle.gh_base.specs.Structures.{Tables, interpretation_of}
-use Rattle.gh_ast.specs.Plain.{Procedure, Program}
+use Rattle.gh_ast.specs.Plain.{Program}
 use Rattle.gh_ast.specs.Programs.{Name, names, variable_names}
 use Rattle.gh_ast.specs.Rules.{IsTyped}
 use Rattle.gh_ast.proofs.Lists.{member_cases, no_member}
@@ -18,14 +18,14 @@ use Rattle.gh_assert.specs.Meaning.{Store}
 use Rattle.gh_assert.specs.Stores.{listed, store_of}
 use Rattle.gh_path.specs.Graphs as path
 use Rattle.gh_path.specs.Conditions.{Condition, IsCondition}
-use Rattle.gh_path.specs.Kept.{AreSteps}
 use Rattle.gh_path.specs.declared.condition.PathStep as kept_step
 use Rattle.gh_path.specs.Terms.{Kind, Bindings, Terms, exprs_used, exprs_terms, walked, moved_on, renewed, some_assigns, callee_in, check_walked, step_walked, steps_walked, no_terms, used}
 use Rattle.gh_grass.specs.declared.binding.Bond.{Bond}
 use Rattle.gh_symb.specs.Formulas.{version_after as version_past, problem}
 use Rattle.gh_symb.specs.Symbolic as plain
 use Rattle.gh_symb.specs.Symbolic.{term_step, term_steps, step_used, check_used, first_use, state_bindings, symbolic_of}
-use Rattle.gh_symb.specs.Encodings.{plain_kind, Each, IsBinding, IsTermStep, IsSymbolic}
+use Rattle.gh_symb.specs.Encodings.{plain_kind, Each, IsBinding, IsTermStep}
+use Rattle.gh_symb.specs.Encoded.{IsSymbolic}
 use Rattle.gh_symb.specs.declared.over_terms.Symbolic.{Symbolic}
 use Rattle.gh_symb.specs.declared.over_terms.TermStep.{TermStep}
 use Rattle.gh_symb.specs.declared.over_terms.TermStep.TheVariants.{Access, Assume, Same, Write, New, Free, Part}
@@ -231,13 +231,3 @@ numbers_are P c y s kept_is sizes = (
   ap (λ (z : Sizes). z.terms) sizes ∙ sym (ap length kept_is.terms) ∙ length-map y.terms plain_kind,
   ap (λ (z : Sizes). z.versions) sizes ∙ sym kept_is.versions,
 )
-
--- a kept condition has as many steps
-pub same_count : (P : Program) (p : Procedure) (rs : List kept_step.PathStep) (ps : List path.PathStep) → AreSteps P p rs ps → length rs ≡ length ps
-same_count P p [] [] are = refl
-same_count P p [] (s ∷ ps) are = absurd are
-same_count P p (r ∷ rs) [] are = absurd are
-same_count P p (r ∷ rs) (s ∷ ps) are = omega (arith, same_count P p rs ps are.1)
-
-pub few_states : (P : Program) (c : Condition) (y : Symbolic) (s : Tables) (rs : List kept_step.PathStep) → AreSteps P c.procedure rs c.way.steps → length rs ≤ 256 → AreBuilt s (variable_names c.procedure) c.way.steps 0 y.steps.items y.bindings.items (symbolic_of P c).bindings → length y.bindings.items ≤ 257
-few_states P c y s rs are few B = omega (arith, few, same_count P c.procedure rs c.way.steps are, B.count)

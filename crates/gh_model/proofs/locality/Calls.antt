@@ -1,21 +1,17 @@
 -- Calls and loops of a built trace.
-use Rattle.std.specs.Prelude.{◌≡◌, ℕ, ◌+◌, ◌<◌, List, [], ◌∷◌, ◌++◌, length, map, filter, slice_get, unwrap_or, Some, None, Bool, true, cond, Contains}
-use Rattle.std.specs.List.{list_any}
-use Rattle.std.specs.Str.{bytes_eq}
+use Rattle.std.specs.Prelude.{◌≡◌, ℕ, ◌+◌, ◌<◌, List, [], ◌∷◌, ◌++◌, length, map, filter, slice_get, unwrap_or, Some, None, Contains}
 use Rattle.std.proofs.Common.{refl, sym, ◌∙◌, ap, subst, inl, inr}
-use Rattle.std.proofs.lemmas.Bool.{cases_Bool, false≢true}
 use Rattle.std.proofs.lemmas.List.{length-map}
 use Rattle.std.proofs.lemmas.List.Elements.{Contains-append_cases}
-use Rattle.std.proofs.lemmas.Slice.Eq.{bytes_eq-Decides}
 use Rattle.gh_base.specs.Meaning.{Interpretation}
 use Rattle.gh_ast.specs.declared.Occ.{Occ}
 use Rattle.gh_ast.specs.declared.Expr.{Expr}
-use Rattle.gh_ast.specs.Plain.{Formula, empty, comparison, points_to, cell, segment, star, cases, Formulas, no_formulas, formula_first, Statement, set, new, write, free, call, choice, loop, give, Statements, no_statements, statement_first, Program}
-use Rattle.gh_ast.specs.Programs.{Name, names, parameters_of, results_of, Assigns, SomeAssigns}
+use Rattle.gh_ast.specs.Plain.{Formula, empty, comparison, points_to, cell, segment, star, cases, Formulas, no_formulas, formula_first, Program}
+use Rattle.gh_ast.specs.Programs.{Name, names, parameters_of, results_of}
 use Rattle.gh_ast.specs.Names.{FormulaIn}
 use Rattle.gh_ast.specs.Occurrences.{in_formula}
 use Rattle.gh_ast.proofs.Declared.{is_member}
-use Rattle.gh_ast.proofs.Lists.{member_first, member_later, member_cases, no_member}
+use Rattle.gh_ast.proofs.Lists.{member_first, member_later}
 use Rattle.gh_ast.proofs.Members.{name_or}
 use Rattle.gh_ast.proofs.Sites.{member_map, occurrence_of, formula_in}
 use Rattle.gh_ast.proofs.TypedPrograms.{results_are_not_parameters}
@@ -23,7 +19,9 @@ use Rattle.gh_assert.specs.Heaps.{Heap}
 use Rattle.gh_assert.specs.Meaning.{Store, Meaning, MeetsOneOf}
 use Rattle.gh_assert.specs.Reading.{HasNames, HaveNames}
 use Rattle.gh_path.specs.Graphs as path
-use Rattle.gh_path.specs.Terms.{Kind, with_value, Bindings, unbound, bound, all_bound, Terms, terms, term_of, exprs_used, expr_term, exprs_terms, walked, each_walked, moved_on, rebound, renewed, assigns, some_assigns, bound_inside, call_walked}
+use Rattle.gh_path.specs.Terms.{Kind, with_value, Bindings, unbound, bound, all_bound, Terms, terms, term_of, exprs_used, expr_term, exprs_terms, walked, each_walked, moved_on, rebound, renewed, some_assigns, bound_inside, call_walked}
+use Rattle.gh_path.proofs.LoopVariables.{listed_assigned}
+use Rattle.gh_path.proofs.FormLemmas.{callee_found}
 use Rattle.gh_grass.specs.Truth.{AreTrue}
 use Rattle.gh_symb.specs.Symbolic.{under, each_under, call_parts}
 use Rattle.gh_symb.specs.Formulas.{variables, successor, parts_claims, step_claims}
@@ -41,10 +39,10 @@ use Rattle.gh_model.proofs.terms.Alternatives.{alternative_of, alternative_sound
 use Rattle.gh_model.proofs.heaps.HeapSteps.{calls_are_built}
 use Rattle.gh_model.proofs.reading.StepFormulas.{calls_are_preserved}
 use Rattle.gh_model.proofs.soundness.Interpretation.{value_at, formula_known}
-use Rattle.gh_model.proofs.ownership.Traces.{callee_found, here, own_names}
+use Rattle.gh_model.proofs.ownership.Traces.{here, own_names}
 use Rattle.gh_model.proofs.paths.Typing.{Distinct, parameters_and_results}
 use Rattle.gh_model.proofs.terms.Bounds.{IsBounded, still_below, call_within, inside_bounded, results_bounded}
-use Rattle.gh_model.proofs.locality.BuiltVersions.{AreGround, preserved, value_is, either}
+use Rattle.gh_model.proofs.locality.BuiltVersions.{AreGround, preserved, value_is}
 use Rattle.gh_model.proofs.locality.Steps.{heap_of, IsLocal, state_before, state_after, sound_used, sound_after, exprs_result, bound_away, bound_outside, bound_terms, cons_options, store_values, all_at, step_gets, term_stays, prepared_version}
 
 -- operands with names
@@ -87,38 +85,6 @@ renewed_outside (x ∷ xs) s n out =
     renewed_outside xs (terms (with_value s.kinds) (bound s.bindings x (length s.kinds)) s.version) n (λ c. out (member_later x n xs c))
     ∙ bound_away s.bindings x (length s.kinds) n (λ e. out (subst (λ y. Contains (x ∷ xs) y) (sym e) (member_first x xs)))
 
-any_equal : (y : Name) (xs : List Name) → list_any (bytes_eq y) xs ≡ true → Contains xs y
-any_equal y [] e = absurd (false≢true e)
-any_equal y (x ∷ xs) e = elim (either (bytes_eq y x) (list_any (bytes_eq y) xs) e) [
-  | inl same ↦ subst (Contains (x ∷ xs)) (sym ((bytes_eq-Decides y x).0 same)) (member_first x xs)
-  | inr more ↦ member_later x y xs (any_equal y xs more)
-]
-
-mutual
-  assigns_is : (s : Statement) (y : Name) → assigns s y ≡ true → Assigns s y
-  assigns_is (set x e) y is = (bytes_eq-Decides y x.name).0 is
-  assigns_is (new x) y is = (bytes_eq-Decides y x.name).0 is
-  assigns_is (write a e) y is = absurd (false≢true is)
-  assigns_is (free a) y is = absurd (false≢true is)
-  assigns_is (call xs f es) y is = any_equal y (names xs) is
-  assigns_is (choice t a c b d) y is = elim (either (some_assigns a y) (some_assigns b y) is) [ inl m ↦ inl (some_assigns_is a y m) | inr m ↦ inr (some_assigns_is b y m) ]
-  assigns_is (loop at t i body close) y is = some_assigns_is body y is
-  assigns_is (give at es) y is = absurd (false≢true is)
-
-  some_assigns_is : (ss : Statements) (y : Name) → some_assigns ss y ≡ true → SomeAssigns ss y
-  some_assigns_is no_statements y is = absurd (false≢true is)
-  some_assigns_is (statement_first s ss) y is = elim (either (assigns s y) (some_assigns ss y) is) [ inl m ↦ inl (assigns_is s y m) | inr m ↦ inr (some_assigns_is ss y m) ]
-
-kept_only : (p : Name → Bool) (xs : List Name) (n : Name) → Contains (filter p xs) n → p n ≡ true
-kept_only p [] n there = absurd (no_member n there)
-kept_only p (x ∷ xs) n there = elim (cases_Bool (p x)) [
-  | inl on ↦ elim (member_cases x (filter p xs) n (subst (λ b. Contains (cond b (x ∷ filter p xs) (filter p xs)) n) on there)) [
-    | inl same ↦ sym (ap p same) ∙ on
-    | inr more ↦ kept_only p xs n more
-  ]
-  | inr off ↦ kept_only p xs n (subst (λ b. Contains (cond b (x ∷ filter p xs) (filter p xs)) n) off there)
-]
-
 pub loop_takes : (P : Program) (xs : List Name) (m : Interpretation) (K : List Kind) (V : List ℕ) (at : ℕ → ℕ) (N : ℕ) (c : path.Check) (R : Name → Type 0) (l : path.Loop) (ps : List path.PathStep) (s : Terms) → IsLocal P xs m K V at N c R (path.looped l) ps s
     → Takes P (path.looped l) (state_before P xs m V at c (path.looped l) ps s) (state_after P xs m V at c (path.looped l) ps s)
 loop_takes P xs m K V at N c R l ps s I =
@@ -139,7 +105,7 @@ loop_takes P xs m K V at N c R l ps s I =
     let keep : (walked f mid).bindings ≡ mid.bindings = walk_keeps f ns mid own known in (
       r,
       λ n out. ap (value_under at) (sym (term_stays P xs p ps c s n
-          (ap (λ (b : Bindings). b n) keep ∙ renewed_outside zs (moved_on u) n (λ there. out (some_assigns_is l.body n (kept_only (some_assigns l.body) xs n there)))))),
+          (ap (λ (b : Bindings). b n) keep ∙ renewed_outside zs (moved_on u) n (λ there. out (listed_assigned xs l n there))))),
     )
 
 -- the parameters' values

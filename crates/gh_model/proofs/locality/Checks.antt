@@ -18,6 +18,7 @@ use Rattle.gh_assert.specs.Meaning.{Store, Meaning, HasPart}
 use Rattle.gh_assert.specs.Walks.{Allocated}
 use Rattle.gh_path.specs.Graphs as path
 use Rattle.gh_path.specs.Terms.{Kind, Terms, used, term_of, exprs_used, expr_term, exprs_terms, walked, rebound, bound_inside, entry_walked, check_walked}
+use Rattle.gh_path.proofs.FormLemmas.{callee_found}
 use Rattle.gh_grass.specs.Bindings.{term}
 use Rattle.gh_grass.specs.Claims.{negation_of}
 use Rattle.gh_grass.specs.Truth.{truth, AreTrue}
@@ -29,7 +30,7 @@ use Rattle.gh_model.specs.BuiltTraces.{store_under}
 use Rattle.gh_model.proofs.terms.Extension.{Within, Grows, stays, used_grows, exprs_grow, walked_grows, each_grows}
 use Rattle.gh_model.proofs.terms.Denotation.{Sound, expr_value, exprs_values}
 use Rattle.gh_model.proofs.terms.Callees.{inside_before}
-use Rattle.gh_model.proofs.ownership.Traces.{callee_found, here, own_names}
+use Rattle.gh_model.proofs.ownership.Traces.{here, own_names}
 use Rattle.gh_model.proofs.paths.Typing.{IsCheckPrepared, parameters_and_results}
 use Rattle.gh_model.proofs.terms.Bounds.{IsBounded, used_bounded, exprs_bounded, walked_bounded, each_bounded}
 use Rattle.gh_model.proofs.locality.BuiltVersions.{T, AreGround, no_more, state_sound, part_is, whole_is}

@@ -26,6 +26,7 @@ use Rattle.gh_assert.proofs.Cells.{by_look_ups, get_put, get_beside}
 use Rattle.gh_assert.proofs.Unique.{get_removed, get_kept}
 use Rattle.gh_path.specs.Graphs as path
 use Rattle.gh_path.specs.Terms.{Kind, with_value, Bindings, bound, all_bound, Terms, used, term_of, expr_used, expr_term, exprs_used, exprs_terms, walked, moved_on, renewed, some_assigns, bound_inside, call_walked, step_walked, rebound}
+use Rattle.gh_path.proofs.FormLemmas.{callee_found}
 use Rattle.gh_grass.specs.Bindings.{term}
 use Rattle.gh_grass.specs.Claims.{equality}
 use Rattle.gh_grass.specs.Footprints.{compared}
@@ -47,7 +48,7 @@ use Rattle.gh_model.proofs.heaps.HeapSteps.{writes_are_built, news_are_built, fr
 use Rattle.gh_model.proofs.reading.Assertions.{equal_is}
 use Rattle.gh_model.proofs.reading.StepFormulas.{writes_are_preserved, news_are_preserved, frees_are_preserved}
 use Rattle.gh_model.proofs.soundness.Interpretation.{value_at, value_of, there_at, within_list}
-use Rattle.gh_model.proofs.ownership.Traces.{callee_found, used_step_grows, here, own_term, used_term}
+use Rattle.gh_model.proofs.ownership.Traces.{used_step_grows, here, own_term, used_term}
 use Rattle.gh_model.proofs.paths.Typing.{ExprReady, ExprsReady, Distinct, IsPrepared}
 use Rattle.gh_model.proofs.terms.Bounds.{IsBounded, longer, follow_within, still_below, step_bounded, used_step_bounded}
 use Rattle.gh_model.proofs.locality.BuiltVersions.{T, AreGround, state_sound, value_is}

@@ -9,6 +9,7 @@ use Rattle.gh_assert.specs.Meaning.{Meaning}
 use Rattle.gh_assert.specs.Walks.{Allocated}
 use Rattle.gh_path.specs.Graphs as path
 use Rattle.gh_path.specs.Terms.{Kind, Terms, exprs_used, exprs_terms, walked, check_walked, step_walked, steps_walked, no_terms}
+use Rattle.gh_path.proofs.FormLemmas.{callee_found}
 use Rattle.gh_grass.specs.Truth.{AreTrue}
 use Rattle.gh_symb.specs.Symbolic.{call_parts, term_step, term_steps, term_check, state_bindings, symbolic_of}
 use Rattle.gh_symb.specs.Formulas.{step_claims, steps_claims, check_claims, version_after as version_past}
@@ -20,7 +21,7 @@ use Rattle.gh_model.specs.TermValues.{version_after}
 use Rattle.gh_model.specs.BuiltTraces.{store_under, heap_in, state_under, versions_along, states_under, LocalityHolds}
 use Rattle.gh_model.proofs.terms.Extension.{Within, walked_grows}
 use Rattle.gh_model.proofs.terms.Denotation.{Sound}
-use Rattle.gh_model.proofs.ownership.Traces.{callee_found, here, own_term, steps_within, check_within}
+use Rattle.gh_model.proofs.ownership.Traces.{here, own_term, steps_within, check_within}
 use Rattle.gh_model.proofs.paths.Typing.{Nowhere, IsPrepared, ArePrepared, ready_after, paths_are_prepared}
 use Rattle.gh_model.proofs.terms.Bounds.{IsBounded, walked_bounded, step_bounded, steps_up, check_version}
 use Rattle.gh_model.proofs.locality.BuiltVersions.{AreGround, ground, parts_true, all_claims, all_front, all_back, state_sound, whole_is}

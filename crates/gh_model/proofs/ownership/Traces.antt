@@ -1,14 +1,11 @@
 -- The heaps of a counterexample are owned over the values of the terms.
-use Rattle.std.specs.Prelude.{◌≡◌, ℕ, ◌+◌, List, [], ◌∷◌, ◌++◌, length, filter, slice_get, Option, Some, None, cond, Contains}
+use Rattle.std.specs.Prelude.{◌≡◌, ℕ, ◌+◌, List, [], ◌∷◌, ◌++◌, length, filter, slice_get, Option, Some, None, Contains}
 use Rattle.std.specs.FinMap.{get}
-use Rattle.std.specs.Str.{bytes_eq}
 use Rattle.std.proofs.Common.{refl, sym, ◌∙◌, ap, subst, inl, inr}
-use Rattle.std.proofs.lemmas.Bool.{cases_Bool}
-use Rattle.std.proofs.lemmas.Slice.Eq.{bytes_eq-Decides}
 use Rattle.gh_ast.specs.declared.Occ.{Occ}
 use Rattle.gh_ast.specs.declared.Expr.{Expr}
 use Rattle.gh_ast.specs.Plain.{Formula, Procedure, Program}
-use Rattle.gh_ast.specs.Programs.{Name, name_of, names, parameters_of, results_of, variable_names, IsFirstNamed}
+use Rattle.gh_ast.specs.Programs.{Name, names, parameters_of, results_of, variable_names}
 use Rattle.gh_ast.specs.Names.{FormulaIn}
 use Rattle.gh_ast.specs.Rules.{IsTyped}
 use Rattle.gh_ast.proofs.Declared.{is_member}
@@ -24,6 +21,7 @@ use Rattle.gh_assert.proofs.Kept.{footprints_are_owned, footprints_come_and_go}
 use Rattle.gh_assert.proofs.Proper.{met_are_proper}
 use Rattle.gh_path.specs.Graphs as path
 use Rattle.gh_path.specs.Terms.{Kind, next, Bindings, Terms, used, expr_used, exprs_used, exprs_terms, walked, each_walked, moved_on, rebound, renewed, with_value, some_assigns, callee_in, bound_inside, answered_inside, call_walked, entry_walked, check_walked, step_walked, steps_walked, no_terms, followed}
+use Rattle.gh_path.proofs.FormLemmas.{callee_found}
 use Rattle.gh_symb.specs.Symbolic.{under, call_parts, check_used, term_step, term_steps, step_used, first_use, used_first, either_term, state_bindings, symbolic_of}
 use Rattle.gh_trace.specs.Traces.{State, Replaced, Takes, IsTrace}
 use Rattle.gh_trace.specs.Laws.{HasOwnNames}
@@ -36,16 +34,6 @@ use Rattle.gh_model.proofs.terms.Callees.{with_results, renewed_within, renewed_
 use Rattle.gh_model.proofs.terms.Alternatives.{all_of_members, walked_there, alternative_sound, one_met}
 use Rattle.gh_model.proofs.ownership.Updates.{not_null, owned_freed, owned_made, owned_written}
 use Rattle.gh_model.proofs.paths.Accesses.{accesses, IsReady, AreReady, start_ready}
-
-pub callee_found : (ps : List Procedure) (f : Name) (p : Procedure) → IsFirstNamed ps f p → callee_in ps f ≡ Some p
-callee_found [] f p d = absurd d
-callee_found (q ∷ qs) f p d = elim d [
-  | inl (named, same) ↦ ap (λ c. cond c (Some q) (callee_in qs f)) ((bytes_eq-Decides (name_of q) f).1 named) ∙ ap Some (sym same)
-  | inr (other, more) ↦ elim (cases_Bool (bytes_eq (name_of q) f)) [
-    | inl on ↦ absurd (other ((bytes_eq-Decides (name_of q) f).0 on))
-    | inr off ↦ ap (λ c. cond c (Some q) (callee_in qs f)) off ∙ callee_found qs f p more
-  ]
-]
 
 -- steps and checks add terms
 chain : (a b c : List Kind) → Within a b → Within b c → Within a c

@@ -13,6 +13,7 @@ use Rattle.gh_assert.specs.Ownership.{Owned}
 use Rattle.gh_assert.proofs.Unions.{without, part_splits}
 use Rattle.gh_path.specs.Graphs as path
 use Rattle.gh_path.specs.Terms.{Kind, next, Bindings, Terms, used, term_of, exprs_used, exprs_terms, walked, rebound, callee_in, bound_inside, entry_walked, check_walked, step_walked, steps_walked}
+use Rattle.gh_path.proofs.FormLemmas.{callee_found}
 use Rattle.gh_grass.specs.Bindings.{term}
 use Rattle.gh_grass.specs.Claims.{negation_of}
 use Rattle.gh_grass.specs.Truth.{truth, AreTrue}
@@ -28,7 +29,7 @@ use Rattle.gh_model.proofs.terms.Denotation.{Sound, listed, term_at, formula_nam
 use Rattle.gh_model.proofs.terms.Callees.{inside_before}
 use Rattle.gh_model.proofs.terms.Alternatives.{alternative_of, alternative_sound, Fails, none_met}
 use Rattle.gh_model.proofs.heaps.Agreement.{assertions_agree}
-use Rattle.gh_model.proofs.ownership.Traces.{callee_found, step_version, here, sound_from, check_used_within}
+use Rattle.gh_model.proofs.ownership.Traces.{step_version, here, sound_from, check_used_within}
 use Rattle.gh_model.proofs.soundness.TraceValues.{HeapsAre}
 use Rattle.gh_model.proofs.soundness.Interpretation.{value_at, value_of, reflection}
 use Rattle.gh_model.proofs.soundness.Versions.{AreVersions}

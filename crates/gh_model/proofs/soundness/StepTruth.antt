@@ -17,6 +17,7 @@ use Rattle.gh_assert.proofs.Cells.{get_put, get_beside}
 use Rattle.gh_assert.proofs.Unique.{get_removed, get_kept}
 use Rattle.gh_path.specs.Graphs as path
 use Rattle.gh_path.specs.Terms.{Kind, next, Terms, used, term_of, expr_used, expr_term, exprs_used, exprs_terms, walked, each_walked, moved_on, rebound, renewed, some_assigns, bound_inside, call_walked, step_walked, steps_walked}
+use Rattle.gh_path.proofs.FormLemmas.{callee_found}
 use Rattle.gh_grass.specs.Bindings.{term}
 use Rattle.gh_grass.specs.Claims.{Claim}
 use Rattle.gh_grass.specs.Footprints.{compared}
@@ -38,7 +39,7 @@ use Rattle.gh_model.proofs.terms.Alternatives.{walked_there, alternative_sound, 
 use Rattle.gh_model.proofs.reading.Assertions.{compared_truth, value_truth}
 use Rattle.gh_model.proofs.reading.StepFormulas.{writes_are_preserved, news_are_preserved, frees_are_preserved, calls_are_preserved}
 use Rattle.gh_model.proofs.heaps.StructureSteps.{writes_are_represented, news_are_represented, frees_are_represented, calls_are_represented}
-use Rattle.gh_model.proofs.ownership.Traces.{callee_found, step_version, steps_within, first_values, IsStep, sound_used, sound_after, one_given, same_number}
+use Rattle.gh_model.proofs.ownership.Traces.{step_version, steps_within, first_values, IsStep, sound_used, sound_after, one_given, same_number}
 use Rattle.gh_model.proofs.soundness.TraceValues.{HeapsAre, first_heap}
 use Rattle.gh_model.proofs.soundness.Interpretation.{value_at, value_of, within_list, reflection, reflection_homomorphism, walked_preserved}
 use Rattle.gh_model.proofs.soundness.Versions.{AreVersions}

@@ -24,8 +24,8 @@ use Rattle.gh_model.proofs.terms.Extension.{stays, expr_grows, exprs_grow, walke
 use Rattle.gh_model.proofs.terms.Denotation.{expr_value, exprs_values}
 use Rattle.gh_model.proofs.terms.Callees.{Gives, Knows, all_give, all_known, renewed_known, with_results, counted}
 use Rattle.gh_model.proofs.soundness.WalkValues.{More, front_of, last_of, IsKindValuation, IsValuation, later, value_more, gives_more, used_valued, visited_valued, expr_valued, exprs_valued, walked_valued, GivesBut, renewed_valued, assigned_give, sound_of, each_valued}
-use Rattle.gh_model.proofs.paths.LoopVariables.{IsOver, assigned_listed}
-use Rattle.gh_model.proofs.ownership.Traces.{callee_found}
+use Rattle.gh_path.proofs.LoopVariables.{IsOver, assigned_listed}
+use Rattle.gh_path.proofs.FormLemmas.{callee_found}
 
 -- values after a step: `u` are the terms once its variables are used, `t` those at its end
 pub record StepValues (H : ℕ → Heap) (V : List ℕ) (P : Program) (p : path.PathStep) (x y : State) (u t : Terms) (q : TermStep) : Type 0 where

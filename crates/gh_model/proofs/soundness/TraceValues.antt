@@ -20,7 +20,7 @@ use Rattle.gh_model.proofs.terms.Extension.{Grows, stays, onto, bound_cases, exp
 use Rattle.gh_model.proofs.terms.Denotation.{Sound, expr_some}
 use Rattle.gh_model.proofs.terms.Callees.{Gives}
 use Rattle.gh_model.proofs.soundness.WalkValues.{More, IsKindValuation, IsValuation, gives_more, used_valued, exprs_valued, walked_valued, sound_of, each_valued, same_term}
-use Rattle.gh_model.proofs.paths.LoopVariables.{AreOver, loops_are_over}
+use Rattle.gh_path.proofs.LoopVariables.{AreOver, loops_are_over}
 use Rattle.gh_model.proofs.soundness.StepValues.{step_values}
 use Rattle.gh_model.proofs.ownership.Traces.{here, step_version}
 

@@ -7,12 +7,12 @@ use Rattle.gh_cc.proofs.lemma.any_settled.Goals as goal
 
 pub loop-l-preserved : goal.loop-l-preserved
 loop-l-preserved c =
-    let lits = c.args.lits.now in
+    let lits = c.args.keyed.now.lits.now in
     All-more (λ (k : Lit). IsSettled c.args.sizes c.args.partition.now.links lits k → ⊥) lits c.loop-l.l-index no_lit (omega arith) c.loop-l.invariant c.if-is_settled.ensures
 
 pub returns : goal.returns
-returns c l there =
-    let lits = c.args.lits.now in
+returns c h =
+    let lits = c.args.keyed.now.lits.now in
     let P : Lit → Type 0 = λ k. IsSettled c.args.sizes c.args.partition.now.links lits k → ⊥ in
     let whole : take c.loop-l.l-index lits ≡ lits = take_all c.loop-l.l-index lits (omega arith) in
-    All-contains P lits l (subst (λ (ls : List Lit). All P ls) whole c.loop-l.invariant) there
+    All-contains P lits h.lit (subst (λ (ls : List Lit). All P ls) whole c.loop-l.invariant) h.there h.settled

@@ -3,7 +3,7 @@ use Rattle.std.specs.Prelude.{slice_get}
 use Rattle.std.proofs.lemmas.Bool.{cases_lt}
 use Rattle.gh_base.specs.declared.atom.Term.{Term}
 use Rattle.gh_cc.specs.Kept.{IsFiled}
-use Rattle.gh_cc.proofs.ListLemmas.{get_within}
+use Rattle.gh_base.proofs.ListLemmas.{get_within}
 use Rattle.gh_cc.proofs.FilingLemmas.{grows_none, grows_on, grows_filed}
 use Rattle.gh_cc.proofs.MoveLemmas.{mentions_long, mention_at}
 use Rattle.gh_cc.proofs.moving.refile_term.Goals as goal

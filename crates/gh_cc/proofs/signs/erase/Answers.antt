@@ -3,7 +3,7 @@ use Rattle.std.specs.Prelude.{vec_capacity}
 use Rattle.std.proofs.lemmas.List.{take-append-le, length_push}
 use Rattle.gh_cc.specs.declared.signs.Entry.{Entry}
 use Rattle.gh_cc.specs.Signs.{AreSigns}
-use Rattle.gh_cc.proofs.ListLemmas.{get_within, get_last}
+use Rattle.gh_base.proofs.ListLemmas.{get_within, get_last}
 use Rattle.gh_cc.proofs.SignLemmas.{signs_less}
 use Rattle.gh_cc.proofs.signs.erase.Goals as goal
 

@@ -6,7 +6,7 @@ use Rattle.gh_cc.proofs.CountLemmas.{counts_pop_none, counts_pop_some, count_pos
 use Rattle.gh_cc.proofs.UseLemmas.{uses_pop_none, uses_pop_some}
 use Rattle.std.specs.Prelude.{slice_get}
 use Rattle.std.proofs.lemmas.Option.{slice_get_read}
-use Rattle.gh_cc.proofs.ListLemmas.{get_last}
+use Rattle.gh_base.proofs.ListLemmas.{get_last}
 use Rattle.gh_cc.proofs.uses.forget.Goals as goal
 
 pub overflow_sub-index_mut : goal.overflow_sub-index_mut

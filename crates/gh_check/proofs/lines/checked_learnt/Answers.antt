@@ -9,14 +9,9 @@ returns-then-not-are_in_range-clause-checked c =
 
 pub returns-then-not-branch-clause-checked : goal.returns-then-not-branch-clause-checked
 returns-then-not-branch-clause-checked c =
-    λ p same earlier h. learnt_refused p earlier c.args.kept.now c.args.lits.now h (λ follows. let f = c.in_ok-are_implied.ensures.exact.1 follows in let g = c.if-not-branch.true in absurd (cc))
+    λ p same earlier h. learnt_refused p earlier c.args.kept.now c.args.lits.now h (λ follows. let f = c.in_ok-is_implied.ensures.exact.1 follows in let g = c.if-not-branch.true in absurd (cc))
 
 pub returns-clause-checked : goal.returns-clause-checked
 returns-clause-checked c =
-    let follows = c.in_ok-are_implied.ensures.exact.0 c.if-not-branch.false in
-    λ p same earlier h. learnt_taken p earlier c.args.kept.now c.args.lits.now h (subst (λ s. AreInRange s c.args.lits.now) (sym same) (c.if-not-are_in_range.ensures.0 refl)) follows
-
-pub returns-then-branch-clause-checked : goal.returns-then-branch-clause-checked
-returns-then-branch-clause-checked c =
-    let follows = c.in_ok-finds_hints.ensures.shown c.if-branch.true in
+    let follows = c.in_ok-is_implied.ensures.exact.0 c.if-not-branch.false in
     λ p same earlier h. learnt_taken p earlier c.args.kept.now c.args.lits.now h (subst (λ s. AreInRange s c.args.lits.now) (sym same) (c.if-not-are_in_range.ensures.0 refl)) follows

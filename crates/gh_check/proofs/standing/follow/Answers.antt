@@ -1,17 +1,30 @@
-use Rattle.std.proofs.Common.{◌++◌, List, ◌∙◌, ◌+◌, get_or, refl, sym, ap, subst}
+use Rattle.std.proofs.Common.{◌++◌, List, ◌∙◌, ◌+◌, get_or, refl, sym, ap, subst, arith}
 use Rattle.std.proofs.lemmas.List.Elements.{All-contains}
 use Rattle.gh_base.specs.declared.atom.Lit.{Lit}
 use Rattle.gh_base.specs.Atoms.{IsInRange}
 use Rattle.gh_check.specs.Kept.{clause_at}
 use Rattle.gh_check.specs.Truths.{TruthSet}
-use Rattle.gh_check.proofs.TruthLemmas.{Follows, follows_false, follows_unit, at_within}
+use Rattle.gh_check.proofs.TruthLemmas.{Follows, follows_false, follows_unit, follows_open, follows_end, at_within}
 use Rattle.gh_check.proofs.StandingLemmas.{beside, not_above}
 use Rattle.gh_check.proofs.standing.follow.Goals as goal
 
 pub returns-in-False-clause-shown : goal.returns-in-False-clause-shown
 returns-in-False-clause-shown c =
     let all = c.in-False.ensures in
-    λ t. follows_false c.args.kept.now c.args.hints.now (c.args.fixed.now.lits ++ c.args.above.now.lits) c.loop-hint.hint-index 0 _ (c.args.fixed.now.lits ++ c.loop-hint.above.lits) c.loop-hint-test.true refl c.loop-hint.invariant.follows all
+    ((λ t. follows_false c.args.kept.now c.args.hints.now (c.args.fixed.now.lits ++ c.args.above.now.lits) c.loop-hint.hint-index 0 _ (c.args.fixed.now.lits ++ c.loop-hint.above.lits) c.loop-hint-test.true refl c.loop-hint.invariant.follows all), λ h. refl)
+
+pub returns-in-Open-clause-shown : goal.returns-in-Open-clause-shown
+returns-in-Open-clause-shown c = (
+  (λ t. absurd (cc)),
+  (λ h. absurd (follows_open c.args.kept.now c.args.hints.now (c.args.fixed.now.lits ++ c.args.above.now.lits) c.loop-hint.hint-index 0 _ (c.args.fixed.now.lits ++ c.loop-hint.above.lits) c.loop-hint-test.true refl c.loop-hint.invariant.follows
+      c.in-Open.ensures.0 c.in-Open.ensures.1 h)),
+)
+
+pub returns-clause-shown : goal.returns-clause-shown
+returns-clause-shown c = (
+  (λ t. absurd (cc)),
+  (λ h. absurd (follows_end c.args.kept.now c.args.hints.now (c.args.fixed.now.lits ++ c.args.above.now.lits) c.loop-hint.hint-index (c.args.fixed.now.lits ++ c.loop-hint.above.lits) (omega arith) c.loop-hint.invariant.follows h)),
+)
 
 pub add-requires-clause-range : goal.add-requires-clause-range
 add-requires-clause-range c =

@@ -2,7 +2,7 @@ use Rattle.gh_ast.specs.Plain.{program_of}
 use Rattle.gh_ground.specs.Solving.{IsAnswer}
 use Rattle.gh_ground.specs.declared.solve.Answer.TheVariants.{Model, Refutation}
 use Rattle.gh_trace.specs.Kept.{drawn_of}
-use Rattle.gh_decide.proofs.Parts.{IsGroundOf, few_steps, shown, refuted}
+use Rattle.gh_decide.proofs.Parts.{IsGroundOf, shown, refuted}
 use Rattle.gh_decide.proofs.decide.decide.Goals as goal
 
 pub returns-in-Refutation : goal.returns-in-Refutation
@@ -11,11 +11,8 @@ returns-in-Refutation c =
     let r = c.args.condition.now in
     let p = c.in_ok-ground.ground in
     let ground : IsGroundOf P r p = λ k stands. c.in_ok-ground.ensures.told P k (c.in_ok-symbolic.ensures k stands) in
-    let is : IsAnswer p (Refutation c.in-Refutation.section) = rw c.in-Refutation.is at c.in_ok-section.ensures in
+    let is : IsAnswer p (Refutation c.in-Refutation.section) = rw c.in-Refutation.is at c.in_ok-section.ensures.answer in
     shown P r p c.in-Refutation.section c.requires.admitted.typed ground is
-
-pub build-requires-clause-few : goal.build-requires-clause-few
-build-requires-clause-few c = few_steps (program_of c.args.typed.now) c.args.condition.now c.requires.one.0 c.requires.admitted c.requires.one.1
 
 pub returns : goal.returns
 returns c =
@@ -23,5 +20,5 @@ returns c =
     let r = c.args.condition.now in
     let p = c.in_ok-ground.ground in
     let ground : IsGroundOf P r p = λ k stands. c.in_ok-ground.ensures.told P k (c.in_ok-symbolic.ensures k stands) in
-    let is : IsAnswer p (Model c.in-Model.structure) = rw c.in-Model.is at c.in_ok-section.ensures in
+    let is : IsAnswer p (Model c.in-Model.structure) = rw c.in-Model.is at c.in_ok-section.ensures.answer in
     refuted P r p c.in-Model.structure (drawn_of c.in_ok-trace-in-Model.trace) c.requires.admitted.typed ground is c.in_ok-trace-in-Model.ensures

@@ -1,7 +1,7 @@
 use Rattle.std.proofs.Common.{◌≡◌, ◌++◌, map, drop}
 use Rattle.gh_grass.specs.Claims.{claims_list}
 use Rattle.gh_symb.specs.Encodings.{plain_kind}
-use Rattle.gh_reduce.specs.Inside.{binding_of}
+use Rattle.gh_symb.specs.Inside.{binding_of}
 use Rattle.gh_entail.specs.Formulas.{claim_formulas}
 use Rattle.gh_ast.specs.Questions.{claims_view}
 use Rattle.gh_entail.proofs.formula.+claim.Given as goal

@@ -3,7 +3,7 @@ use Rattle.gh_grass.specs.Claims.{claim_of, negation_of}
 use Rattle.gh_symb.specs.Formulas.{version_claims}
 use Rattle.gh_symb.specs.Encodings.{plain_kind}
 use Rattle.gh_reduce.specs.Growth.{stated_in}
-use Rattle.gh_reduce.specs.Inside.{binding_of}
+use Rattle.gh_symb.specs.Inside.{binding_of}
 use Rattle.gh_reduce.proofs.RowLemmas.{claim_within, one_more}
 use Rattle.gh_entail.specs.Formulas.{claim_formula}
 use Rattle.gh_ast.specs.Questions.{question_of}

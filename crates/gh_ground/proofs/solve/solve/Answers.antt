@@ -35,8 +35,8 @@ loop-solver-smaller c =
     round_less p first.search mid.search last.search first.lines mid.lines last.lines (interpretation_of t) t.sizes names.items (c.in_ok-structure.ensures.sizes ∙ kept.sizes) c.in_ok-conflict.ensures.keeps kept
     c.in_ok-structure.ensures.clauses c.in_ok-names.ensures.each some c.in_ok-add_instances.ensures.keeps added
 
-pub returns-then-is_empty : goal.returns-then-is_empty
-returns-then-is_empty c =
+pub returns-then-is_empty-clause-answer : goal.returns-then-is_empty-clause-answer
+returns-then-is_empty-clause-answer c =
     let p = c.args.ground.now in
     let mid = c.conflict.new.self in
     let names = c.in_ok-names.names in
@@ -47,7 +47,10 @@ returns-then-is_empty c =
 pub into_section-requires : goal.into_section-requires
 into_section-requires c = ended_refuted c.conflict.new.self.search _ c.in-Some.conflict c.in_ok-conflict.ensures.ended c.in-Some.is
 
-pub returns-in-Some : goal.returns-in-Some
-returns-in-Some c =
+pub returns-in-Some-clause-answer : goal.returns-in-Some-clause-answer
+returns-in-Some-clause-answer c =
     let p = c.args.ground.now in
     c.in_ok-trim.ensures p (c.in_ok-section.ensures p (c.in_ok-conflict.ensures.keeps.keeps p c.loop-solver.invariant))
+
+pub trim-requires : goal.trim-requires
+trim-requires c = (c.in_ok-section.ensures c.args.ground.now (c.in_ok-conflict.ensures.keeps.keeps c.args.ground.now c.loop-solver.invariant)).few

@@ -64,4 +64,4 @@ returns c =
     let i = c.loop-place.invariant in
     let end : place ≡ length c.args.section.now.lines = omega (arith, c.loop-place.auto.place-end, c.loop-place-test.false) in
     λ p h. trimmed_refutes p c.args.section.now _ kept place new.positions.items c.in_ok-kept.ensures end (i.trimmed p) refl
-    (omega (arith, i.few, end, c.if-len-gt4294967294.false)) h
+    (omega (arith, i.few, end, c.requires)) h

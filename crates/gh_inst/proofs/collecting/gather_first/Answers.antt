@@ -1,9 +1,11 @@
-use Rattle.std.proofs.Common.{◌≡◌, ◌-◌, sym, ap, subst, take, Some, option_map}
+use Rattle.std.proofs.Common.{◌≡◌, ◌-◌, ◌∷◌, [], ◌++◌, ◌∙◌, sym, ap, subst, take, Some, option_map}
 use Rattle.gh_base.specs.Structures.{interpretation_of}
 use Rattle.gh_inst.specs.Instances.{name_of}
 use Rattle.gh_inst.specs.Search.{IsSearched, IsRowTrue, tuples_with}
 use Rattle.gh_inst.specs.Collecting.{IsFalseInstance, GathersIn}
-use Rattle.gh_inst.proofs.CollectingLemmas.{one_added, found_false}
+use Rattle.gh_inst.proofs.CollectingLemmas.{found_false}
+use Rattle.gh_inst.proofs.FirstLemmas.{at_none, at_one}
+use Rattle.gh_inst.specs.declared.naming.InstanceName.{InstanceName}
 use Rattle.gh_inst.proofs.collecting.gather_first.Goals as goal
 
 pub returns-in_ok-push : goal.returns-in_ok-push
@@ -16,5 +18,12 @@ returns-in_ok-push c =
     let searched = subst (IsSearched (IsRowTrue m r.version r.lits.now) (tuples_with (r.variables - c.args.first) s.sizes.terms (take c.args.first c.args.start))) some c.first_in.ensures in
     let is : IsFalseInstance s.sizes m (name_of r.number r.version (take r.variables c.in-Some.terms)) =
     found_false s.sizes m r.number r.version r.variables c.args.first r.lits.now (take c.args.first c.args.start) (take r.variables c.in-Some.terms) l.row_is l.version_there c.requires.first c.requires.long c.requires.terms searched in
-    subst (GathersIn r (take c.args.first c.args.start) (r.variables - c.args.first) c.args.found.now.items) (sym c.in_ok-push.ensures.items)
-    (one_added s.sizes m c.args.found.now.items c.name_of_terms.result (subst (IsFalseInstance s.sizes m) (sym c.name_of_terms.ensures) is))
+    subst (GathersIn r (take c.args.first c.args.start) (r.variables - c.args.first) c.args.found.now.items)
+    (sym (c.in_ok-push.ensures.items ∙ ap (λ (n : InstanceName). c.args.found.now.items ++ n ∷ []) c.name_of_terms.ensures))
+    (at_one r (tuples_with (r.variables - c.args.first) s.sizes.terms (take c.args.first c.args.start)) c.args.found.now.items (take r.variables c.in-Some.terms) searched.comes is)
+
+pub returns-in_default : goal.returns-in_default
+returns-in_default c =
+    let r = c.args.row.now in
+    at_none r (tuples_with (r.variables - c.args.first) r.structure.now.sizes.terms (take c.args.first c.args.start)) c.args.found.now.items r.variables c.first_in.result c.first_in.ensures
+    (λ t e. c.in_default.not-Some t e)

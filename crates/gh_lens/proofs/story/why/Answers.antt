@@ -5,7 +5,8 @@ use Rattle.gh_trace.specs.Kept.{drawn_of, IsFailure}
 use Rattle.gh_trace.specs.declared.replay.ReplayError.TheVariants.{Step}
 use Rattle.gh_lens.specs.Stories.{IsExplained}
 use Rattle.gh_lens.specs.declared.story.Explained.TheVariants.{Fails}
-use Rattle.gh_lens.proofs.Telling.{few_steps, shown, told_by_number, fails_by_number}
+use Rattle.gh_lens.proofs.Telling.{shown, told_by_number, fails_by_number}
+use Rattle.gh_trace.proofs.StepCounts.{few_steps}
 use Rattle.gh_lens.proofs.story.why.Goals as goal
 
 pub replay-requires : goal.replay-requires

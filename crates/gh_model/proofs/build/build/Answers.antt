@@ -7,18 +7,8 @@ use Rattle.gh_ast.proofs.TypedPrograms.{variables_are_distinct}
 use Rattle.gh_symb.proofs.CountLemmas.{its_procedure}
 use Rattle.gh_trace.specs.Kept.{drawn}
 use Rattle.gh_model.specs.KeptTraces.{states_in}
-use Rattle.gh_model.proofs.building.Traces.{are_built, built_is, few_states}
+use Rattle.gh_model.proofs.building.Traces.{are_built, built_is}
 use Rattle.gh_model.proofs.build.build.Goals as goal
-
-pub states-requires-clause-few : goal.states-requires-clause-few
-states-requires-clause-few c =
-    let P = program_of c.args.typed.now in
-    let y = c.args.symbolic.now in
-    let s = c.args.structure.now in
-    let d = c.requires.of.0 in
-    let kept = c.requires.of.1 in
-    let typed : IsTyped P = subst (λ p. IsTyped (program_of p)) c.program-program.ensures.same c.program-program.ensures.typed in
-    few_states P d y s c.args.condition.now.steps.items kept.stands.steps c.requires.few (are_built P d y s typed kept.there (c.requires.told d kept.stands) c.requires.terms c.requires.versions)
 
 pub states-requires-clause-all : goal.states-requires-clause-all
 states-requires-clause-all c =

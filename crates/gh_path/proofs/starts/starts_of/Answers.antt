@@ -2,17 +2,61 @@ use Rattle.std.proofs.Common.{◌≡◌, ◌∙◌, ◌++◌, ◌≤◌, [], Som
 use Rattle.std.specs.Prelude.{slice_get}
 use Rattle.std.proofs.Math.ListN.{drop_of_length-le}
 use Rattle.std.proofs.lemmas.List.{length-map}
+use Rattle.std.proofs.lemmas.List.Elements.{All-contains}
 use Rattle.std.proofs.lemmas.Option.{slice_get_within, get_or_from_slice_get}
 use Rattle.gh_ast.specs.declared.Procedure as whole
 use Rattle.gh_ast.specs.Plain.{Procedure, program_of, procedure_of}
+use Rattle.gh_ast.specs.WellFormed.{IsFormedProcedure}
 use Rattle.gh_path.specs.Conditions.{from_procedures, conditions_of, conditions}
 use Rattle.gh_path.specs.Roots.{AreStarts}
-use Rattle.gh_path.proofs.PlaceLemmas.{procedure_there}
+use Rattle.gh_path.proofs.PlaceLemmas.{procedure_there, few_there, member}
 use Rattle.gh_path.proofs.RootLemmas.{procedures_go}
+use Rattle.gh_path.proofs.SuitLemmas.{body_calls}
 use Rattle.gh_path.proofs.starts.starts_of.Goals as goal
 
 pub loop-index-init : goal.loop-index-init
 loop-index-init c = ([], c.new-starts.ensures (program_of c.args.program.now), refl)
+
+pub overflow_cast-index : goal.overflow_cast-index
+overflow_cast-index c =
+    let P = program_of c.args.program.now in
+    let qs = c.as_slice-procedure-items.result.now in
+    let long : length P.procedures ≡ length qs = ap (λ (rs : List whole.Procedure). length (map procedure_of rs)) (sym c.as_slice-procedure-items.ensures.value) ∙ length-map qs procedure_of in
+    omega (arith, long, c.loop-index-test.true, c.requires.few)
+
+pub add_procedure-requires-clause-few : goal.add_procedure-requires-clause-few
+add_procedure-requires-clause-few c =
+    let P = program_of c.args.program.now in
+    let qs = c.as_slice-procedure-items.result.now in
+    let i = c.loop-index.index in
+    let x = c.procedure-item.result in
+    let same : map procedure_of qs ≡ P.procedures = ap (map procedure_of) c.as_slice-procedure-items.ensures.value in
+    let there : slice_get P.procedures i ≡ Some (procedure_of x) =
+    subst (λ (ps : List Procedure). slice_get ps i ≡ Some (procedure_of x)) same (procedure_there qs i x c.loop-index-test.true c.procedure-item.is) in
+    few_there P i (procedure_of x) c.requires.paths there
+
+pub add_procedure-requires-clause-callees : goal.add_procedure-requires-clause-callees
+add_procedure-requires-clause-callees c =
+    let P = program_of c.args.program.now in
+    let qs = c.as_slice-procedure-items.result.now in
+    let i = c.loop-index.index in
+    let x = c.procedure-item.result in
+    let same : map procedure_of qs ≡ P.procedures = ap (map procedure_of) c.as_slice-procedure-items.ensures.value in
+    let there : slice_get P.procedures i ≡ Some (procedure_of x) =
+    subst (λ (ps : List Procedure). slice_get ps i ≡ Some (procedure_of x)) same (procedure_there qs i x c.loop-index-test.true c.procedure-item.is) in
+    body_calls P c.requires.typed c.requires.few (procedure_of x) (member P.procedures i (procedure_of x) there)
+
+pub add_procedure-requires-clause-formed : goal.add_procedure-requires-clause-formed
+add_procedure-requires-clause-formed c =
+    let P = program_of c.args.program.now in
+    let qs = c.as_slice-procedure-items.result.now in
+    let i = c.loop-index.index in
+    let x = c.procedure-item.result in
+    let same : map procedure_of qs ≡ P.procedures = ap (map procedure_of) c.as_slice-procedure-items.ensures.value in
+    let there : slice_get P.procedures i ≡ Some (procedure_of x) =
+    subst (λ (ps : List Procedure). slice_get ps i ≡ Some (procedure_of x)) same (procedure_there qs i x c.loop-index-test.true c.procedure-item.is) in
+    let formed : IsFormedProcedure (procedure_of x) = All-contains IsFormedProcedure P.procedures (procedure_of x) c.requires.formed (member P.procedures i (procedure_of x) there) in
+    formed.body
 
 pub loop-index-preserved : goal.loop-index-preserved
 loop-index-preserved c =

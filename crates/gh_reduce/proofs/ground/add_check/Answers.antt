@@ -3,7 +3,7 @@ use Rattle.gh_grass.specs.Claims.{claim_of, negation_of}
 use Rattle.gh_symb.specs.Formulas.{meets}
 use Rattle.gh_symb.specs.Encodings.{plain_kind}
 use Rattle.gh_symb.specs.declared.over_terms.TermCheck.{TermCheck}
-use Rattle.gh_reduce.specs.Inside.{under_of, check_of, IsCheckInside}
+use Rattle.gh_symb.specs.Inside.{under_of, check_of, IsCheckInside}
 use Rattle.gh_reduce.proofs.InsideLemmas.{meets_within}
 use Rattle.gh_reduce.proofs.RowLemmas.{claim_within}
 use Rattle.gh_reduce.proofs.ground.add_check.Goals as goal

@@ -4,7 +4,7 @@ use Rattle.gh_grass.specs.Claims.{claim_of, one_of}
 use Rattle.gh_symb.specs.Formulas.{meets_whole}
 use Rattle.gh_symb.specs.Encodings.{plain_kind}
 use Rattle.gh_symb.specs.declared.over_terms.Bound.{Bound}
-use Rattle.gh_reduce.specs.Inside.{under_of, AllAreInside, IsUnderInside}
+use Rattle.gh_symb.specs.Inside.{under_of, AllAreInside, IsUnderInside}
 use Rattle.gh_reduce.proofs.InsideLemmas.{whole_within}
 use Rattle.gh_reduce.proofs.PartLemmas.{is_one, one_within}
 use Rattle.gh_reduce.proofs.RowLemmas.{claim_within}

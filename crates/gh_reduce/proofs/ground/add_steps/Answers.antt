@@ -4,7 +4,7 @@ use Rattle.gh_symb.specs.Symbolic.{TermStep}
 use Rattle.gh_symb.specs.Formulas.{step_claims, steps_claims, version_after}
 use Rattle.gh_symb.specs.Encodings.{plain_kind}
 use Rattle.gh_reduce.specs.Growth.{stated_in}
-use Rattle.gh_reduce.specs.Inside.{step_of, IsReady, AreStepsInside}
+use Rattle.gh_symb.specs.Inside.{step_of, IsReady, AreStepsInside}
 use Rattle.gh_reduce.proofs.GrowthLemmas.{stated_first, same_terms, same_versions}
 use Rattle.gh_reduce.proofs.WalkLemmas.{steps_from, step_version}
 use Rattle.gh_reduce.proofs.ground.add_steps.Goals as goal

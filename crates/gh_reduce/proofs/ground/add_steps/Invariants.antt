@@ -2,7 +2,7 @@ use Rattle.std.proofs.Common.{◌≡◌, ◌<◌, map, drop}
 use Rattle.gh_symb.specs.Formulas.{steps_claims}
 use Rattle.gh_symb.specs.Encodings.{plain_kind}
 use Rattle.gh_reduce.specs.Growth.{stated_in}
-use Rattle.gh_reduce.specs.Inside.{step_of, AreStepsInside}
+use Rattle.gh_symb.specs.Inside.{step_of, AreStepsInside}
 use Rattle.gh_reduce.proofs.ground.add_steps.Given as goal
 
 abbrev pub invariant-loop-step : goal.invariant-loop-step

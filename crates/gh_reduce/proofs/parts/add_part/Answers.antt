@@ -4,7 +4,7 @@ use Rattle.gh_symb.specs.Formulas.{meets, alternatives_claims, each_pair}
 use Rattle.gh_symb.specs.Encodings.{plain_kind}
 use Rattle.gh_reduce.specs.declared.rows.EachPair.TheVariants.{Kept}
 use Rattle.gh_reduce.specs.Growth.{stated_in}
-use Rattle.gh_reduce.specs.Inside.{under_of}
+use Rattle.gh_symb.specs.Inside.{under_of}
 use Rattle.gh_reduce.specs.Rows.{of_pair}
 use Rattle.gh_reduce.proofs.InsideLemmas.{meets_within}
 use Rattle.gh_reduce.proofs.RowLemmas.{claim_within, first_one, some_more, pairs_more}
@@ -14,16 +14,16 @@ pub add_formula-requires : goal.add_formula-requires
 add_formula-requires c =
     let some = c.requires.ready.some in
     claim_within c.args.ground.now.sizes _ (claim_of c.in_ok-taken.taken) c.in_ok-taken.ensures
-    (meets_within c.args.ground.now.sizes (map plain_kind c.args.terms.now) (under_of c.args.before.now) c.requires.ready.terms (omega (arith, some)) c.requires.before)
+    (meets_within c.args.ground.now.sizes (map plain_kind c.args.terms.now) (under_of c.args.change.before.now) c.requires.ready.terms (omega (arith, some)) c.requires.inside.before)
 
 pub returns : goal.returns
 returns c =
     let p = c.args.ground.now in
     let ks = map plain_kind c.args.terms.now in
-    let i = c.args.old in
-    let f = meets ks (under_of c.args.before.now) in
-    let gs = alternatives_claims ks i (under_of c.args.before.now) (map under_of c.args.after.now) in
-    let d = of_pair (Kept i (i + 1) c.args.before) in
+    let i = c.args.change.old in
+    let f = meets ks (under_of c.args.change.before.now) in
+    let gs = alternatives_claims ks i (under_of c.args.change.before.now) (map under_of c.args.change.after.now) in
+    let d = of_pair (Kept i (i + 1) c.args.change.before) in
     let start = first_one p c.add_formula.new.ground f (claim_of c.in_ok-taken.taken) c.in_ok-add_formula.ensures c.in_ok-taken.ensures in
     let e = some_more p c.add_formula.new.ground c.add_alternatives.new.ground (f ∷ []) gs start c.in_ok-add_alternatives.ensures in
     pairs_more p c.add_alternatives.new.ground c.add_each_pair.new.ground ((f ∷ []) ++ gs) d e c.in_ok-add_each_pair.ensures

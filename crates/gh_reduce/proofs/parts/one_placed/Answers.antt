@@ -5,7 +5,7 @@ use Rattle.gh_grass.specs.Claims.{Claim, claim_of, claims_of, claims_list, conju
 use Rattle.gh_grass.proofs.ClaimLemmas.{put_more, claim_of-And}
 use Rattle.gh_symb.specs.Symbolic.{Under}
 use Rattle.gh_symb.specs.Encodings.{plain_kind}
-use Rattle.gh_reduce.specs.Inside.{under_of}
+use Rattle.gh_symb.specs.Inside.{under_of}
 use Rattle.gh_reduce.specs.Parts.{placed_of}
 use Rattle.gh_reduce.proofs.PartLemmas.{bounds_from}
 use Rattle.gh_reduce.proofs.parts.one_placed.Goals as goal

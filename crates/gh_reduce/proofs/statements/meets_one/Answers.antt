@@ -5,7 +5,7 @@ use Rattle.gh_grass.proofs.ClaimLemmas.{put_more}
 use Rattle.gh_symb.specs.Symbolic.{Under}
 use Rattle.gh_symb.specs.Formulas.{meets_whole}
 use Rattle.gh_symb.specs.Encodings.{plain_kind}
-use Rattle.gh_reduce.specs.Inside.{under_of}
+use Rattle.gh_symb.specs.Inside.{under_of}
 use Rattle.gh_reduce.proofs.PartLemmas.{bounds_from}
 use Rattle.gh_reduce.proofs.statements.meets_one.Goals as goal
 

@@ -2,7 +2,7 @@ use Rattle.std.proofs.Common.{◌≡◌, ◌++◌, map, drop}
 use Rattle.gh_grass.specs.Claims.{claims_list}
 use Rattle.gh_symb.specs.Formulas.{meets_whole}
 use Rattle.gh_symb.specs.Encodings.{plain_kind}
-use Rattle.gh_reduce.specs.Inside.{under_of}
+use Rattle.gh_symb.specs.Inside.{under_of}
 use Rattle.gh_reduce.proofs.statements.meets_one.Given as goal
 
 abbrev pub invariant-loop-bound : goal.invariant-loop-bound

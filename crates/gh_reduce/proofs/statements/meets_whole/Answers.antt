@@ -3,7 +3,7 @@ use Rattle.gh_grass.specs.Claims.{claims_list}
 use Rattle.gh_grass.proofs.ClaimLemmas.{put_term}
 use Rattle.gh_symb.specs.Formulas.{meets, covers}
 use Rattle.gh_symb.specs.Encodings.{plain_kind}
-use Rattle.gh_reduce.specs.Inside.{under_of}
+use Rattle.gh_symb.specs.Inside.{under_of}
 use Rattle.gh_reduce.proofs.statements.meets_whole.Goals as goal
 
 pub loop-z-preserved : goal.loop-z-preserved

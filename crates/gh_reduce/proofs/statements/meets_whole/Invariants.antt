@@ -2,7 +2,7 @@ use Rattle.std.proofs.Common.{◌≡◌, ◌∷◌, map}
 use Rattle.gh_grass.specs.Claims.{claims_list}
 use Rattle.gh_symb.specs.Formulas.{meets, covers, each}
 use Rattle.gh_symb.specs.Encodings.{plain_kind}
-use Rattle.gh_reduce.specs.Inside.{under_of}
+use Rattle.gh_symb.specs.Inside.{under_of}
 use Rattle.gh_reduce.proofs.statements.meets_whole.Given as goal
 
 abbrev pub invariant-loop-z : goal.invariant-loop-z

@@ -7,7 +7,7 @@ use Rattle.gh_base.specs.Atoms.{opposite}
 use Rattle.gh_sat.specs.declared.trail.Step.{Step}
 use Rattle.gh_sat.specs.Trail.{Stands}
 use Rattle.gh_sat.specs.Learn.{Marking, marks_of, IsMarked, HasMark, AreMarks}
-use Rattle.gh_sat.proofs.ListLemmas.{get_within}
+use Rattle.gh_base.proofs.ListLemmas.{get_within}
 use Rattle.gh_sat.proofs.MarkLemmas.{mark_high, mark_low, more_mark, has_mark, marked_few}
 use Rattle.gh_sat.proofs.marks.mark.Goals as goal
 

@@ -7,7 +7,8 @@ use Rattle.gh_sat.specs.declared.trail.Step.{Step}
 use Rattle.gh_sat.specs.Trail.{IsReason}
 use Rattle.gh_sat.specs.Learn.{marks_of, IsMarked, HasMark, marked, HaveReasons, ResolvedFrom, AreReached, IsAlone}
 use Rattle.gh_sat.specs.Learn.Reached.{by_conflict}
-use Rattle.gh_sat.proofs.ListLemmas.{get_within, get_some, lt_le}
+use Rattle.gh_base.proofs.ListLemmas.{get_within, get_some}
+use Rattle.gh_sat.proofs.ListLemmas.{lt_le}
 use Rattle.gh_sat.proofs.MarkLemmas.{marks_some, all_marked_more}
 use Rattle.gh_sat.proofs.ResolveLemmas.{mark_at, reached_within, is_left, resolved_next, reached_next, none_from, reason_at, reason_stands}
 use Rattle.gh_sat.proofs.marks.resolve.Goals as goal

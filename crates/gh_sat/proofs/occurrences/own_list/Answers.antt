@@ -17,7 +17,7 @@ returns-clause-same c =
     let lists = c.args.lists.now.items in
     let numbers = c.args.numbers.now.items in
     let r = c.requires.lists in
-    let was : get_or numbers c.args.code 0 ≡ 0 = none_at numbers c.args.code c.index.result.now c.requires.within c.index.ensures (let f = c.if-number-gt0.false in omega arith) in
+    let was : get_or numbers c.args.code 0 ≡ 0 = none_at numbers c.args.code c.index-number.result.now c.requires.within c.index-number.ensures (let f = c.if-number-gt0.false in omega arith) in
     let more : c.push.new.self.items ≡ lists ++ [] ∷ [] = c.in_ok-push.ensures.items ∙ ap (λ (x : List ℕ). lists ++ x ∷ []) c.new.ensures in
     ap (λ (ls : List (List ℕ)). lists_by ls (slice_set numbers c.args.code c.len-next.result)) more
     ∙ by_own lists numbers c.args.code c.len-next.result r.within was c.requires.within r.empty (omega arith)

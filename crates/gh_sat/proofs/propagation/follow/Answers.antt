@@ -9,7 +9,8 @@ use Rattle.gh_sat.specs.declared.trail.Step.{Step}
 use Rattle.gh_sat.specs.Trail.{Line}
 use Rattle.gh_sat.specs.Rows.{numbered}
 use Rattle.gh_sat.specs.Watch.{AreGuarded, AreVisited, MoveHints, clauses_of}
-use Rattle.gh_sat.proofs.ListLemmas.{le_le, get_within}
+use Rattle.gh_base.proofs.ListLemmas.{get_within}
+use Rattle.gh_sat.proofs.ListLemmas.{le_le}
 use Rattle.gh_sat.proofs.StatusLemmas.{nothing}
 use Rattle.gh_sat.proofs.WatchLemmas.{grows_on, grows_long, moves_on, guarded_on, visited_begin, visited_end}
 use Rattle.gh_sat.proofs.propagation.follow.Goals as goal

@@ -9,7 +9,7 @@ use Rattle.gh_sat.specs.declared.status.Hint.{Hint}
 use Rattle.gh_sat.specs.declared.trail.Step.{Step}
 use Rattle.gh_sat.specs.Trail.{Line, IsUnitIn, IsFalseIn, IsTrueIn}
 use Rattle.gh_sat.specs.Status.{IsBad, IsGuarded, IsForced, Grows}
-use Rattle.gh_sat.proofs.ListLemmas.{get_last, get_set_same}
+use Rattle.gh_base.proofs.ListLemmas.{get_last, get_set_same}
 use Rattle.gh_sat.proofs.StatusLemmas.{not_free_opposite}
 use Rattle.gh_sat.proofs.WatchLemmas.{grows_one, one_unit, moves_set}
 use Rattle.gh_sat.proofs.propagation.look.Goals as goal

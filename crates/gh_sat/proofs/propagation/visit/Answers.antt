@@ -6,7 +6,8 @@ use Rattle.gh_sat.specs.declared.trail.Step.{Step}
 use Rattle.gh_sat.specs.Rows.{numbered}
 use Rattle.gh_sat.specs.Status.{IsGuarded}
 use Rattle.gh_sat.specs.Watch.{AreGuarded, AreVisited, MoveHints}
-use Rattle.gh_sat.proofs.ListLemmas.{get_within, get_front, drop_at, drop_past}
+use Rattle.gh_base.proofs.ListLemmas.{get_within, get_front}
+use Rattle.gh_sat.proofs.ListLemmas.{drop_at, drop_past}
 use Rattle.gh_sat.proofs.WatchLemmas.{grows_on, grows_not, moves_on, moves_same, guarded_on, visited_next}
 use Rattle.gh_sat.proofs.propagation.visit.Goals as goal
 use Rattle.gh_sat.proofs.propagation.visit.Goals.{else-k-clauses-via-then-k-clauses+else-visit_one, else-k-clauses-via-else-k-clauses}

@@ -4,7 +4,7 @@ use Rattle.gh_base.specs.declared.atom.Lit.{Lit}
 use Rattle.gh_base.specs.Atoms.{AreInRange}
 use Rattle.gh_sat.specs.declared.status.Hint.{Hint}
 use Rattle.gh_sat.specs.Status.{IsGuarded}
-use Rattle.gh_sat.proofs.ListLemmas.{get_within}
+use Rattle.gh_base.proofs.ListLemmas.{get_within}
 use Rattle.gh_sat.proofs.WatchLemmas.{guarded_front}
 use Rattle.gh_sat.proofs.propagation.visit_one.Goals as goal
 

@@ -5,7 +5,8 @@ use Rattle.std.proofs.lemmas.Option.{slice_get_read}
 use Rattle.gh_base.specs.declared.atom.Lit.{Lit}
 use Rattle.gh_sat.specs.Trail.{IsReason}
 use Rattle.gh_sat.specs.Learn.{marks_of, ResolvedFrom}
-use Rattle.gh_sat.proofs.ListLemmas.{get_within, get_some, lt_le}
+use Rattle.gh_base.proofs.ListLemmas.{get_within, get_some}
+use Rattle.gh_sat.proofs.ListLemmas.{lt_le}
 use Rattle.gh_sat.proofs.MarkLemmas.{marks_some, all_marked_more}
 use Rattle.gh_sat.proofs.ResolveLemmas.{resolved_next, reason_stands}
 use Rattle.gh_sat.proofs.ReasonLemmas.{reason_read}

@@ -29,7 +29,7 @@ returns-in_ok-insert-in-Some-clause-conflict g c =
     let f : IsFalseIn s.trail c.in-Some.clause = refuted_false s.trail c.in-Some.clause (subst (λ (a : List Lit). IsRefutedBy a c.in-Some.clause) c.requires.told found.1) in
     let valid : g.T.Theory.valid s.sizes c.in-Some.clause = subst (λ z. g.T.Theory.valid z c.in-Some.clause) c.requires.sizes found.0 in
     let h = conflict_added s c.in-Some.clause c.requires.sound f (λ level start at f'. c.requires.consistent level start at c.in-Some.clause valid f') in
-    subst (λ (t : SearchState). IsConflict t c.count-number.result) (sym c.in_ok-insert-in-Some.ensures.ok) (subst (IsConflict (add_clause s c.in-Some.clause)) (sym c.count-number.ensures) h)
+    subst (λ (t : SearchState). IsConflict t c.count-number.result) (sym c.in_ok-insert-in-Some.ensures.ok) (subst (IsConflict (add_clause s c.in-Some.clause)) (sym c.count-number.ensures.count) h)
 
 pub returns-in_ok-insert-in-Some-clause-sound : goal.returns-in_ok-insert-in-Some-clause-sound
 returns-in_ok-insert-in-Some-clause-sound g c =

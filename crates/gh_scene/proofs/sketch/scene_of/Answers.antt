@@ -2,7 +2,8 @@ use Rattle.std.proofs.Common.{◌≡◌, ◌∙◌, ◌∷◌, sym, subst, map, 
 use Rattle.gh_ast.specs.Plain.{program_of}
 use Rattle.gh_path.specs.Answers.{IsNumbered}
 use Rattle.gh_scene.proofs.Rowing.{nothing}
-use Rattle.gh_scene.proofs.Sketching.{few_steps, has_meaning, sketched, sketch_fails, no_states}
+use Rattle.gh_scene.proofs.Sketching.{has_meaning, sketched, sketch_fails, no_states}
+use Rattle.gh_trace.proofs.StepCounts.{few_steps}
 use Rattle.gh_scene.proofs.sketch.scene_of.Goals as goal
 use Rattle.gh_scene.specs.Sketches.{IsSketch}
 use Rattle.gh_scene.specs.declared.sketch.Sketch.TheVariants.{Fails}

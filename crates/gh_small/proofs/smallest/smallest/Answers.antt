@@ -1,7 +1,7 @@
 use Rattle.gh_ast.specs.Plain.{program_of}
 use Rattle.gh_ground.specs.Solving.{IsAnswer}
 use Rattle.gh_ground.specs.declared.solve.Answer.TheVariants.{Model, Refutation}
-use Rattle.gh_decide.proofs.Parts.{IsGroundOf, few_steps, shown}
+use Rattle.gh_decide.proofs.Parts.{IsGroundOf, shown}
 use Rattle.gh_small.proofs.DescentLemmas.{first_model}
 use Rattle.gh_small.proofs.SmallestLemmas.{smallest_found}
 use Rattle.gh_small.proofs.smallest.smallest.Goals as goal
@@ -12,17 +12,14 @@ returns-in-Refutation c =
     let r = c.args.condition.now in
     let p = c.in_ok-ground.ground in
     let ground : IsGroundOf P r p = λ k stands. c.in_ok-ground.ensures.told P k (c.in_ok-symbolic.ensures k stands) in
-    let is : IsAnswer p (Refutation c.in-Refutation.field-0) = rw c.in-Refutation.is at c.in_ok-answer.ensures in
+    let is : IsAnswer p (Refutation c.in-Refutation.field-0) = rw c.in-Refutation.is at c.in_ok-answer.ensures.answer in
     (shown P r p c.in-Refutation.field-0 c.requires.admitted.typed ground is).valid
 
 pub descend-requires : goal.descend-requires
 descend-requires c =
     let p = c.in_ok-ground.ground in
-    let is : IsAnswer p (Model c.in-Model.first) = rw c.in-Model.is at c.in_ok-answer.ensures in
+    let is : IsAnswer p (Model c.in-Model.first) = rw c.in-Model.is at c.in_ok-answer.ensures.answer in
     first_model p c.in-Model.first is
-
-pub build-requires-clause-few : goal.build-requires-clause-few
-build-requires-clause-few c = few_steps (program_of c.args.typed.now) c.args.condition.now c.requires.one.0 c.requires.admitted c.requires.one.1
 
 pub returns : goal.returns
 returns c =

@@ -1,5 +1,5 @@
 use Rattle.std.proofs.Common.{◌≡◌, subst, arith}
-use Rattle.gh_reduce.specs.Inside.{plain_of}
+use Rattle.gh_symb.specs.Encoded.{plain_of}
 use Rattle.gh_smt.specs.Scripts.{IsSized, script_of}
 use Rattle.gh_smt.proofs.MakingLemmas.{made, short_enough, terms_are, versions_are}
 use Rattle.gh_smt.proofs.CountLemmas.{is_script}

@@ -1,9 +1,10 @@
 use Rattle.std.proofs.Common.{◌≡◌, ◌∙◌, ◌+◌, ◌++◌, ◌∷◌, [], sym, ap, subst, map, take}
 use Rattle.std.proofs.lemmas.List.{take_more, map-append}
 use Rattle.gh_symb.specs.Phases.{both}
-use Rattle.gh_symb.specs.Symbolic.{either_term}
 use Rattle.gh_symb.specs.Tables.{Bound, bound_by}
-use Rattle.gh_symb.specs.Encodings.{Each, IsBinding}
+use Rattle.gh_symb.specs.Encodings.{Each}
+use Rattle.gh_symb.specs.Fitting.{EncodesBinding}
+use Rattle.gh_symb.proofs.BindingLemmas.{either_encoded}
 use Rattle.gh_symb.proofs.FollowLemmas.{each_more}
 use Rattle.gh_symb.proofs.bindings.all_bindings.Goals as goal
 
@@ -15,7 +16,7 @@ loop-state-preserved c =
     let item = c.state-item.result in
     let more : take (i + 1) ss ≡ take i ss ++ item ∷ [] = take_more ss i item c.loop-state-test.true ∙ ap (λ e. take i ss ++ e ∷ []) (sym c.state-item.is) in
     let all : map f (take (i + 1) ss) ≡ map f (take i ss) ++ f item ∷ [] = ap (map f) more ∙ map-append f (take i ss) (item ∷ []) in
-    subst (Each IsBinding c.push.new.self.items) (sym all)
-    (subst (λ bs. Each IsBinding bs (map f (take i ss) ++ f item ∷ [])) (sym c.in_ok-push.ensures.items)
-    (each_more IsBinding c.loop-state.bindings.items (map f (take i ss)) _ (f item) c.loop-state.invariant
-    (λ x. c.in_ok-over.ensures x ∙ ap (either_term (bound_by item x)) (c.in_ok-others.ensures x))))
+    subst (Each EncodesBinding c.push.new.self.items) (sym all)
+    (subst (λ bs. Each EncodesBinding bs (map f (take i ss) ++ f item ∷ [])) (sym c.in_ok-push.ensures.items)
+    (each_more EncodesBinding c.loop-state.bindings.items (map f (take i ss)) _ (f item) c.loop-state.invariant
+    (λ x. either_encoded (bound_by item x) (bound_by c.args.firsts.now x) _ _ (c.in_ok-over.ensures x) (c.in_ok-others.ensures x))))

@@ -11,7 +11,7 @@ loop-place-init c = ap (map plain_kind) c.in_ok-terms.ensures ∙ first_encoded 
 pub encode-requires : goal.encode-requires
 encode-requires c =
     let l = c.in-Some.ensures.lookup in
-    short_at c.args.kinds.now c.loop-place.place c.in-Some.found.now c.requires.listed (omega (arith, c.requires.few)) l.3.0 l.1
+    short_at c.args.kinds.now c.loop-place.place c.in-Some.found.now c.requires.listed c.requires.short (omega (arith, c.requires.few)) l.3.0 l.1
 
 pub add-requires : goal.add-requires
 add-requires c =
@@ -23,5 +23,5 @@ returns c = c.loop-place.invariant ∙ ap (map kind_of) (take_all c.loop-place.p
 pub loop-place-preserved : goal.loop-place-preserved
 loop-place-preserved c =
     let l = c.in-Some.ensures.lookup in
-    encoded_more c.args.kinds.now c.loop-place.place c.in-Some.found.now c.requires.listed l.3.0 l.1 c.loop-place.terms c.add.new.self c.in_ok-kind.kind
-    c.loop-place.invariant c.in_ok-kind.ensures c.in_ok-add.ensures.added
+    encoded_more c.args.kinds.now c.loop-place.place c.in-Some.found.now c.requires.listed l.3.0 l.1 c.loop-place.terms c.add.new.self c.encode.result
+    c.loop-place.invariant c.encode.ensures c.in_ok-add.ensures.added

@@ -1,6 +1,5 @@
-use Rattle.std.proofs.Common.{◌≡◌}
 use Rattle.gh_ast.specs.Questions.{question_of}
-use Rattle.gh_entail.specs.Answers.{IsAnswer, FailsIn}
+use Rattle.gh_entail.specs.Answers.{IsAnswer}
 use Rattle.gh_entail.specs.declared.answer.Entailment.TheVariants.{Yes, No}
 use Rattle.gh_top.specs.QuestionReplies.{IsReplyTo}
 use Rattle.gh_top.proofs.HeadlineLemmas.{both_ok}

@@ -1,5 +1,4 @@
 use Rattle.gh_ast.specs.Plain.{program_of}
-use Rattle.gh_top.specs.Sources.{second_file}
 use Rattle.gh_top.proofs.HeadlineLemmas.{text_refused, late_refused, replied, replied_on}
 use Rattle.gh_top.proofs.ReadLemmas.{stays_on, second_ordered}
 use Rattle.gh_top.proofs.run.program_reply.Goals as goal

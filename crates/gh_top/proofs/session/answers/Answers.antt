@@ -1,4 +1,4 @@
-use Rattle.std.proofs.Common.{◌≤◌, length, arith, ap, ◌∙◌, refl, sym}
+use Rattle.std.proofs.Common.{length, arith, ap, ◌∙◌}
 use Rattle.gh_top.proofs.SessionLemmas.{goes_answered, goes_out}
 use Rattle.gh_top.proofs.session.answers.Goals as goal
 

@@ -1,4 +1,4 @@
-use Rattle.std.proofs.Common.{◌∙◌, ap, refl}
+use Rattle.std.proofs.Common.{◌∙◌, refl}
 use Rattle.std.specs.Prelude.{codes, ◌++◌, Some}
 use Rattle.std.specs.Fmt.{decimal}
 use Rattle.gh_draw.specs.Drawings.{line}

@@ -1,16 +1,16 @@
-use Rattle.std.proofs.Common.{◌≡◌, ◌<◌, ℕ, Some, length, refl, sym, subst, arith}
+use Rattle.std.proofs.Common.{◌≡◌, ◌<◌, ℕ, Some, None, length, refl, sym, subst, arith}
 use Rattle.std.specs.Prelude.{slice_get}
 use Rattle.std.proofs.lemmas.Option.{slice_get_read}
 use Rattle.gh_base.specs.Atoms.{IsInRange, number_of}
 use Rattle.gh_cc.specs.declared.classes.Classes.TheInside.{Inside}
 use Rattle.gh_cc.specs.contracts.classes.Classes.{the_invariant}
 use Rattle.gh_cc.specs.Signs.{find_lit}
-use Rattle.gh_cc.specs.Asserted.{Asserted, HasTruth}
+use Rattle.gh_cc.specs.Asserted.{Asserted, HasTruth, HasNoTruth}
 use Rattle.gh_cc.specs.Kept.{Core, normal, reps}
-use Rattle.gh_cc.proofs.ListLemmas.{get_within}
+use Rattle.gh_base.proofs.ListLemmas.{get_within}
 use Rattle.gh_cc.proofs.AssertLemmas.{tied_now}
 use Rattle.gh_cc.proofs.FilingLemmas.{entry_of}
-use Rattle.gh_cc.proofs.TruthLemmas.{filed_truth}
+use Rattle.gh_cc.proofs.TruthLemmas.{filed_truth, truth_given, unfiled_has_none, relation_of}
 use Rattle.gh_cc.proofs.classes.Classes.truth_of.Goals as goal
 
 abbrev core_of : Inside → Core
@@ -26,8 +26,8 @@ index-requires c =
     let within = place_within c.self.inside c.key.result c.in_ok-place.place c.self.invariant (sym c.in_ok-place.ensures) in
     omega (arith, c.self.inside.lits.ok.0)
 
-pub returns : goal.returns
-returns c =
+pub returns-clause-truth : goal.returns-clause-truth
+returns-clause-truth c =
     let i = c.self.inside in
     let place : ℕ = c.in_ok-place.place in
     let found : find_lit i.signs.entries (number_of i.sizes (normal (reps i.partition.links) c.args.atom)) ≡ Some place =
@@ -37,3 +37,16 @@ returns c =
     let inside : IsInRange i.sizes c.args.atom = subst (λ (a : Asserted). IsInRange a.sizes c.args.atom) (sym c.self.view_is) c.requires.in_range in
     subst (λ (a : Asserted). HasTruth a c.args.atom c.index.result.now.positive) c.self.view_is
     (filed_truth i.sizes i.lits.items i.partition.links i.signs.entries c.args.atom place c.index.result.now (tied_now (core_of i) c.self.invariant.0) c.self.invariant.0.in_range inside found at)
+
+pub returns-clause-given : goal.returns-clause-given
+returns-clause-given c =
+    truth_given c.args.self.now c.args.atom c.index.result.now.positive (relation_of c.args.atom (λ x y e. c.in_default.not-Eq x y e)) (returns-clause-truth c)
+
+pub returns-in_err-place : goal.returns-in_err-place
+returns-in_err-place c =
+    let i = c.self.inside in
+    let none : find_lit i.signs.entries (number_of i.sizes (normal (reps i.partition.links) c.args.atom)) ≡ None =
+    subst (λ (n : ℕ). find_lit i.signs.entries n ≡ None) c.key.ensures.value (sym c.in_err-place.ensures) in
+    let open_now : HasNoTruth c.args.self.now c.args.atom =
+    subst (λ (a : Asserted). HasNoTruth a c.args.atom) c.self.view_is (unfiled_has_none (core_of i) c.args.atom c.self.invariant.0 (relation_of c.args.atom (λ x y e. c.in_default.not-Eq x y e)) none) in
+    rw c.from_residual.ensures (record { truth = tt; given = tt; none = open_now })

@@ -1,11 +1,12 @@
-use Rattle.std.proofs.Common.{◌≡◌, ◌<◌, ◌≤◌, ◌∙◌, ◌+◌, ℕ, List, ap, map, length, arith}
+use Rattle.std.proofs.Common.{◌≡◌, ◌<◌, ◌≤◌, ◌∙◌, ◌+◌, ℕ, List, All, ap, map, length, subst, sym, arith}
+use Rattle.std.proofs.lemmas.List.{length_push}
 use Rattle.gh_base.specs.declared.atom.Lit.{Lit}
 use Rattle.gh_sat.specs.Learn.{add_clause}
 use Rattle.gh_sat.specs.Measure.{IsCutLevel}
 use Rattle.gh_sat.specs.Trail.{SearchState, cut}
 use Rattle.gh_sat.proofs.MeasureLemmas.{turn_learnt}
 use Rattle.gh_log.specs.Lines as line
-use Rattle.gh_ground.proofs.KeptLemmas.{IsHintedLine, keeps_learnt, keeps_then}
+use Rattle.gh_ground.proofs.KeptLemmas.{IsHintedLine, keeps_learnt, keeps_then, are_numbers}
 use Rattle.gh_ground.proofs.solver.Solver.learn.Goals as goal
 
 -- as many levels as before the lesson
@@ -19,6 +20,14 @@ pub cut_level-requires : goal.cut_level-requires
 cut_level-requires c =
     let l = c.in_ok-learnt.learnt in
     omega (arith, c.in_ok-learnt.ensures.learnt.lower, levels_are c.args.self.now.search c.learn.new.self l.clause c.level.result c.in_ok-learnt.ensures.added c.level.ensures)
+
+pub positions-requires : goal.positions-requires
+positions-requires c =
+    let old = c.args.self.now.search in
+    let l = c.in_ok-learnt.learnt in
+    let long : length c.learn.new.self.clauses ≡ length old.clauses + 1 = ap (λ (t : SearchState). length t.clauses) c.in_ok-learnt.ensures.added ∙ length_push old.clauses l.clause in
+    subst (All (λ k. k < 4294967295)) (sym c.as_slice.ensures.value)
+    (are_numbers (length old.clauses) l.reasons.items (omega (arith, long, c.in_ok-learnt.ensures.few)) c.in_ok-learnt.ensures.reasons.within)
 
 pub returns-clause-less : goal.returns-clause-less
 returns-clause-less c =

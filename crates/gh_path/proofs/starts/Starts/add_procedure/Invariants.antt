@@ -9,6 +9,6 @@ use Rattle.gh_path.proofs.starts.Starts.add_procedure.Given as goal
 
 abbrev pub invariant-loop-place : goal.invariant-loop-place
 invariant-loop-place l = (cs : List Condition) → AreStarts (program_of l.walker.program.now) l.fn.self cs →
-    slice_get (program_of l.walker.program.now).procedures l.fn.index ≡ Some (procedure_of l.walker.procedure.now) →
+    slice_get (program_of l.walker.program.now).procedures l.fn.procedure ≡ Some (procedure_of l.walker.procedure.now) →
     (es : List Condition) × AreStarts (program_of l.walker.program.now) l.self es
     × (es ++ from_starts (procedure_of l.walker.procedure.now) (rounds (procedure_of l.walker.procedure.now) l.place (map loop_of (drop l.place l.turn-items))) ≡ cs ++ conditions_of (procedure_of l.walker.procedure.now))

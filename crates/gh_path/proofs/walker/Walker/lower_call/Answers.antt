@@ -5,15 +5,15 @@ use Rattle.gh_path.specs.declared.node.Step.TheVariants as step
 use Rattle.gh_path.proofs.ShownLemmas.{add_guard, then}
 use Rattle.gh_path.proofs.walker.Walker.lower_call.Goals as goal
 
-pub returns : goal.returns
-returns c = λ g shows.
+pub returns-clause-adds : goal.returns-clause-adds
+returns-clause-adds c = λ g shows.
     let P = program_of c.args.self.now.program.now in
     let p = procedure_of c.args.self.now.procedure.now in
     let ns = c.args.nodes.now in
     let f = c.args.callee.now in
-    let n = c.in_ok-number.number in
+    let n = c.callee-number.result in
     let es = c.args.arguments.now in
     let k = guarded (entry f es) (called c.args.targets.now f es) g in
     let one = add_guard P p ns c.add.new.self c.in_ok-place.place c.args.next _ (step.Call c.args.targets n c.args.arguments) (entry f es) (called c.args.targets.now f es) g
-    c.in_ok-place.ensures.added c.in_ok-place.ensures.place (f, c.in_ok-number.ensures, refl, refl) (f, c.in_ok-number.ensures, refl) shows in
-    then P p ns c.add.new.self c.lower_reads.new.nodes c.in_ok-place.place c.in_ok-first.first k (all_reads es k) one (c.in_ok-first.ensures k one.shows)
+    c.in_ok-place.ensures.added c.in_ok-place.ensures.place (f, c.callee-number.ensures, refl, refl) (f, c.callee-number.ensures, refl) shows in
+    then P p ns c.add.new.self c.lower_reads.new.nodes c.in_ok-place.place c.in_ok-first.first k (all_reads es k) one (c.in_ok-first.ensures.adds k one.shows)

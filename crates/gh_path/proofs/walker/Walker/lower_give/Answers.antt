@@ -6,8 +6,8 @@ use Rattle.gh_path.specs.declared.node.Step.TheVariants as step
 use Rattle.gh_path.proofs.ShownLemmas.{add_move, add_end, then}
 use Rattle.gh_path.proofs.walker.Walker.lower_give.Goals as goal
 
-pub returns : goal.returns
-returns c = λ g.
+pub returns-clause-adds : goal.returns-clause-adds
+returns-clause-adds c = λ g.
     let P = program_of c.args.self.now.program.now in
     let p = procedure_of c.args.self.now.procedure.now in
     let ns = c.args.nodes.now in
@@ -17,4 +17,4 @@ returns c = λ g.
     let end = add_end P p ns c.add.new.self c.in_ok-end.end _ (returned c.args.span p.gives) c.in_ok-end.ensures.added c.in_ok-end.ensures.place refl in
     let step = add_move P p c.add.new.self c.add-2.new.self c.in_ok-place.place c.in_ok-end.end (step.Return c.args.values) x last c.in_ok-place.ensures.added c.in_ok-place.ensures.place refl end.shows in
     let one = then P p ns c.add.new.self c.add-2.new.self c.in_ok-end.end c.in_ok-place.place last k end step in
-    then P p ns c.add-2.new.self c.lower_reads.new.nodes c.in_ok-place.place c.in_ok-first.first k (all_reads c.args.values.now k) one (c.in_ok-first.ensures k one.shows)
+    then P p ns c.add-2.new.self c.lower_reads.new.nodes c.in_ok-place.place c.in_ok-first.first k (all_reads c.args.values.now k) one (c.in_ok-first.ensures.adds k one.shows)

@@ -1,4 +1,4 @@
-use Rattle.std.proofs.Common.{◌≡◌, ◌≤◌, ◌∙◌, ℕ, List, Result, Ok, Err, arith, ap, sym, subst, inl, inr, length, OnOk}
+use Rattle.std.proofs.Common.{◌≡◌, ℕ, List, Result, Ok, Err, sym, subst, inl, inr, OnOk}
 use Rattle.std.specs.declared.alloc.AllocError.{AllocError}
 use Rattle.gh_base.specs.declared.atom.Lit.{Lit}
 use Rattle.gh_sat.specs.Trail.{SearchState, IsFalseIn, cut}
@@ -6,7 +6,7 @@ use Rattle.gh_sat.specs.Watch.{WasOpen}
 use Rattle.gh_sat.specs.Learn.{IsTop, add_clause}
 use Rattle.gh_sat.specs.Whole.{Adds}
 use Rattle.gh_sat.specs.contracts.learner.Learner.{the_view}
-use Rattle.gh_sat.proofs.WholeLemmas.{open_unless, open_whole, cut_none}
+use Rattle.gh_sat.proofs.WholeLemmas.{open_unless, open_under}
 use Rattle.gh_sat.proofs.learner.Learner.add.Goals as goal
 
 added_other : (s now new : SearchState) (c : List Lit) (r : Result (Unit {0}) AllocError) → s ≡ now → (IsFalseIn s.trail c → ⊥) → OnOk r (new ≡ add_clause now c) → OnOk r (Adds now c new)
@@ -17,22 +17,18 @@ added_false : (s now new : SearchState) (c : List Lit) (top : ℕ) (r : Result (
 added_false s now new c top (Ok x) is f t e = inl (top, subst (λ (w : SearchState). IsFalseIn w.trail c) is f, subst (λ (w : SearchState). IsTop w.trail c top) is t, e)
 added_false s now new c top (Err x) is f t e = tt
 
-uncut : (now new : SearchState) (c : List Lit) (top : ℕ) (r : Result (Unit {0}) AllocError) → length now.starts ≤ top → OnOk r (new ≡ add_clause now c) → OnOk r (new ≡ add_clause (cut now top) c)
-uncut now new c top (Ok x) long e = e ∙ ap (λ (w : SearchState). add_clause w c) (cut_none now top long)
-uncut now new c top (Err x) long e = tt
-
 pub insert-requires-clause-was_open : goal.insert-requires-clause-was_open
 insert-requires-clause-was_open c =
     let s = the_view c.self.inside in
     let n : IsFalseIn s.trail c.args.clause → ⊥ = λ f. c.in-None.ensures.none (subst (IsFalseIn s.trail) (sym c.lits.ensures) f) in
     subst (λ (t : SearchState). WasOpen t.trail t.starts c.args.clause) c.self.view_is (open_unless s.trail s.starts c.args.clause n)
 
-pub insert-requires-in-Some-2-clause-was_open : goal.insert-requires-in-Some-2-clause-was_open
-insert-requires-in-Some-2-clause-was_open c =
+pub insert_under-requires-clause-was_open : goal.insert_under-requires-clause-was_open
+insert_under-requires-clause-was_open c =
     let s = the_view c.self.inside in
-    let t : IsTop s.trail c.args.clause c.in-Some.top = subst (λ (l : List Lit). IsTop s.trail l c.in-Some.top) c.lits.ensures c.in-Some.ensures.top in
-    let long : length s.starts ≤ c.in-Some.top = omega (arith, c.if-top-len.false) in
-    subst (λ (w : SearchState). WasOpen w.trail w.starts c.args.clause) c.self.view_is (open_whole s c.args.clause c.in-Some.top c.self.invariant.0.sound t long)
+    let top = c.in-Some.top in
+    let t : IsTop s.trail c.args.clause top = subst (λ (l : List Lit). IsTop s.trail l top) c.lits.ensures c.in-Some.ensures.top in
+    subst (λ (w : SearchState). WasOpen (cut w top).trail (cut w top).starts c.args.clause) c.self.view_is (open_under s c.args.clause top c.self.invariant.0.sound t)
 
 pub returns-in-None-clause-ok : goal.returns-in-None-clause-ok
 returns-in-None-clause-ok c =
@@ -45,12 +41,3 @@ returns-in-Some-clause-ok c =
     let t : IsTop s.trail c.args.clause c.in-Some.top = subst (λ (l : List Lit). IsTop s.trail l c.in-Some.top) c.lits.ensures c.in-Some.ensures.top in
     let f : IsFalseIn s.trail c.args.clause = subst (IsFalseIn s.trail) c.lits.ensures c.in-Some.ensures.is_false in
     added_false s c.args.self.now c.insert_under.new.self c.args.clause c.in-Some.top c.insert_under.result c.self.view_is f t c.insert_under.ensures.ok
-
-pub returns-in-Some-2-clause-ok : goal.returns-in-Some-2-clause-ok
-returns-in-Some-2-clause-ok c =
-    let s = the_view c.self.inside in
-    let t : IsTop s.trail c.args.clause c.in-Some.top = subst (λ (l : List Lit). IsTop s.trail l c.in-Some.top) c.lits.ensures c.in-Some.ensures.top in
-    let f : IsFalseIn s.trail c.args.clause = subst (IsFalseIn s.trail) c.lits.ensures c.in-Some.ensures.is_false in
-    let long : length c.args.self.now.starts ≤ c.in-Some.top = subst (λ (w : SearchState). length w.starts ≤ c.in-Some.top) c.self.view_is (omega (arith, c.if-top-len.false)) in
-    added_false s c.args.self.now c.insert-in-Some-2.new.self c.args.clause c.in-Some.top c.insert-in-Some-2.result c.self.view_is f t
-    (uncut c.args.self.now c.insert-in-Some-2.new.self c.args.clause c.in-Some.top c.insert-in-Some-2.result long c.insert-in-Some-2.ensures.ok)

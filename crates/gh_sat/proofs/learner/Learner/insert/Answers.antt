@@ -1,70 +1,15 @@
-use Rattle.std.proofs.Common.{◌≡◌, ◌<◌, List, arith, ap, sym, subst, length, Contains}
-use Rattle.gh_base.specs.declared.atom.Lit.{Lit}
-use Rattle.gh_base.specs.declared.sizes.Sizes.{Sizes}
-use Rattle.gh_base.specs.Atoms.{AreInRange}
-use Rattle.gh_sat.specs.declared.status.Hint.{Hint}
+use Rattle.std.proofs.Common.{◌≡◌, sym, subst, arith, OnOk}
 use Rattle.gh_sat.specs.Trail.{SearchState}
+use Rattle.gh_sat.specs.Watch.{WasOpen}
 use Rattle.gh_sat.specs.Learn.{add_clause}
-use Rattle.gh_sat.specs.Watch.{WasOpen, clauses_of}
-use Rattle.gh_sat.specs.Whole.{IsWhole}
-use Rattle.gh_sat.specs.Rows.{rows_of}
-use Rattle.gh_sat.proofs.WholeLemmas.{rows_push}
-use Rattle.std.proofs.Common.{◌++◌, ◌∷◌, [], ◌∙◌}
-use Rattle.gh_sat.specs.contracts.learner.Learner.{the_view}
-use Rattle.gh_sat.proofs.WholeLemmas.{whole_add, whole_lists}
+use Rattle.gh_sat.proofs.WholeLemmas.{cut_none}
 use Rattle.gh_sat.proofs.learner.Learner.insert.Goals as goal
 
-pub invariant_of-self : goal.invariant_of-self
-invariant_of-self c =
-    let i = c.self.invariant in
-    (whole_lists (the_view c.self.inside) c.self.inside.counts.items c.self.inside.looked c.self.inside.head c.self.inside.occurrences c.note.new.self c.self.inside.hints.items i.0 c.note.ensures.more, i.1, i.2, i.3, i.4, i.5)
+pub insert_under-requires-clause-was_open : goal.insert_under-requires-clause-was_open
+insert_under-requires-clause-was_open c =
+    subst (λ (t : SearchState). WasOpen t.trail t.starts c.args.clause) (cut_none c.args.self.now c.level-level.result (omega (arith, c.level-level.ensures))) c.requires.was_open
 
-pub invariant_of-self-in_err-push : goal.invariant_of-self-in_err-push
-invariant_of-self-in_err-push c =
-    let i = c.self.invariant in
-    let s = the_view c.self.inside in
-    let h = whole_lists s c.self.inside.counts.items c.self.inside.looked c.self.inside.head c.self.inside.occurrences c.note.new.self c.self.inside.hints.items i.0 c.note.ensures.more in (
-      subst (λ (cs : List (List Lit)). IsWhole (record s { clauses = cs }) c.self.inside.counts.items c.self.inside.looked c.self.inside.head c.note.new.self c.next_row.new.hints.items) (sym c.in_err-push.ensures.items)
-          (subst (λ (x : List Hint). IsWhole s c.self.inside.counts.items c.self.inside.looked c.self.inside.head c.note.new.self x) (sym c.next_row.ensures.hints) h),
-      i.1,
-      i.2,
-      i.3,
-      i.4,
-      subst (λ (cs : List (List Lit)). c.next_row.new.rows.items ≡ rows_of s.sizes cs) (sym c.in_err-push.ensures.items) (c.next_row.ensures.rows ∙ i.5),
-    )
-
-pub invariant_of-self-in_err-row : goal.invariant_of-self-in_err-row
-invariant_of-self-in_err-row c =
-    let i = c.self.invariant in (
-      subst (λ (x : List Hint). IsWhole (the_view c.self.inside) c.self.inside.counts.items c.self.inside.looked c.self.inside.head c.note.new.self x) (sym c.next_row.ensures.hints)
-          (whole_lists (the_view c.self.inside) c.self.inside.counts.items c.self.inside.looked c.self.inside.head c.self.inside.occurrences c.note.new.self c.self.inside.hints.items i.0 c.note.ensures.more),
-      i.1,
-      i.2,
-      i.3,
-      i.4,
-      c.next_row.ensures.rows ∙ i.5,
-    )
-
-pub invariant_of-self-2 : goal.invariant_of-self-2
-invariant_of-self-2 c =
-    let i = c.self.invariant in
-    let s = the_view c.self.inside in
-    let h = whole_lists s c.self.inside.counts.items c.self.inside.looked c.self.inside.head c.self.inside.occurrences c.note.new.self c.self.inside.hints.items i.0 c.note.ensures.more in
-    let range : AreInRange s.sizes c.args.clause = subst (λ (t : SearchState). AreInRange t.sizes c.args.clause) (sym c.self.view_is) c.requires.range in
-    let was : WasOpen s.trail s.starts c.args.clause = subst (λ (t : SearchState). WasOpen t.trail t.starts c.args.clause) (sym c.self.view_is) c.requires.was_open in
-    let few : length s.clauses < 4294967294 = omega (arith, c.if-len-ge4294967294.false) in
-    let number : c.len-number.result ≡ length s.clauses = omega arith in
-    let listed : (m : Lit) → Contains c.args.clause m → Contains (clauses_of s.sizes c.note.new.self m) (length s.clauses) = λ m there.
-    subst (λ n. Contains (clauses_of s.sizes c.note.new.self m) n) number
-    (subst (λ (z : Sizes). Contains (clauses_of z c.note.new.self m) c.len-number.result) c.sizes.ensures.sizes (c.in_ok-note.ensures.listed m (subst (λ (l : List Lit). Contains l m) (sym c.lits.ensures) there))) in
-    let hints : c.push_reserved-2.new.self.items ≡ c.self.inside.hints.items ++ c.default.result ∷ [] = c.push_reserved-2.ensures.items ∙ ap (λ (x : List Hint). x ++ c.default.result ∷ []) c.next_row.ensures.hints in (
-      subst (λ (cs : List (List Lit)). IsWhole (record s { clauses = cs }) c.self.inside.counts.items c.self.inside.looked c.self.inside.head c.note.new.self c.push_reserved-2.new.self.items) (sym c.in_ok-push.ensures.items)
-          (subst (λ (x : List Hint). IsWhole (add_clause s c.args.clause) c.self.inside.counts.items c.self.inside.looked c.self.inside.head c.note.new.self x) (sym hints)
-          (whole_add s c.self.inside.counts.items c.self.inside.looked c.self.inside.head c.note.new.self c.self.inside.hints.items c.args.clause c.default.result h range was listed few)),
-      i.1,
-      i.2,
-      i.3,
-      i.4,
-      c.push_reserved.ensures.items ∙ subst (λ (cs : List (List Lit)). c.next_row.new.rows.items ++ c.in_ok-row.row ∷ [] ≡ rows_of s.sizes cs) (sym c.in_ok-push.ensures.items)
-          (rows_push s.sizes c.sizes-2.result s.clauses c.next_row.new.rows.items c.args.clause c.in_ok-row.row (c.next_row.ensures.rows ∙ i.5) c.in_ok-row.ensures.row c.sizes-2.ensures.sizes),
-    )
+pub returns-clause-ok : goal.returns-clause-ok
+returns-clause-ok c =
+    subst (λ (t : SearchState). OnOk c.insert_under.result (c.insert_under.new.self ≡ add_clause t c.args.clause))
+    (sym (cut_none c.args.self.now c.level-level.result (omega (arith, c.level-level.ensures)))) c.insert_under.ensures.ok

@@ -9,7 +9,8 @@ use Rattle.gh_sat.specs.Trail.{Line, SearchState, IsSound, IsFalseIn}
 use Rattle.gh_sat.specs.Watch.{WasOpen}
 use Rattle.gh_sat.specs.Learn.{Marking, HaveReasons, IsConflict, IsLearnt, AreReasons, marks_of, reasons_of, IsLeft}
 use Rattle.gh_sat.specs.contracts.learner.Learner.{the_view}
-use Rattle.gh_sat.proofs.ListLemmas.{get_within, le_along}
+use Rattle.gh_base.proofs.ListLemmas.{get_within}
+use Rattle.gh_sat.proofs.ListLemmas.{le_along}
 use Rattle.gh_sat.proofs.StatusLemmas.{nothing}
 use Rattle.gh_sat.proofs.LearnLemmas.{have_reasons, learnt, was_open, false_in_range}
 use Rattle.gh_sat.proofs.ReasonLemmas.{learnt_shows}

@@ -8,7 +8,7 @@ use Rattle.gh_base.specs.Atoms.{AreInRange}
 use Rattle.std.proofs.Common.{subst}
 use Rattle.gh_sat.specs.Trail.{SearchState}
 use Rattle.gh_sat.specs.Learn.{add_clause}
-use Rattle.gh_sat.proofs.ListLemmas.{get_within}
+use Rattle.gh_base.proofs.ListLemmas.{get_within}
 use Rattle.gh_sat.proofs.learner.Learner.new.Goals as goal
 
 none_past : {X : Type 0} (xs : List X) (i : ℕ) → slice_get xs i ≡ None → length xs ≤ i

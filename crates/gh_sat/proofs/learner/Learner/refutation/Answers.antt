@@ -5,7 +5,7 @@ use Rattle.gh_base.specs.declared.atom.Lit.{Lit}
 use Rattle.gh_sat.specs.Trail.{SearchState, IsFalseIn}
 use Rattle.gh_sat.specs.Learn.{IsConflict, AreReasons, ResolvedFrom, marks_of}
 use Rattle.gh_sat.specs.contracts.learner.Learner.{the_view}
-use Rattle.gh_sat.proofs.ListLemmas.{get_within}
+use Rattle.gh_base.proofs.ListLemmas.{get_within}
 use Rattle.gh_sat.proofs.ReasonLemmas.{refutation_shows}
 use Rattle.gh_sat.proofs.learner.Learner.refutation.Goals as goal
 

@@ -4,7 +4,8 @@ use Rattle.gh_base.specs.Assignments.{Partial, with_value}
 use Rattle.gh_base.specs.Atoms.{count_of, number_of}
 use Rattle.gh_sat.specs.declared.trail.Step.{Step}
 use Rattle.gh_sat.specs.Trail.{AreValues, ArePlaces, IsPassed, turned}
-use Rattle.gh_sat.proofs.ListLemmas.{get_front, le_along, le_le, le_same}
+use Rattle.gh_base.proofs.ListLemmas.{get_front}
+use Rattle.gh_sat.proofs.ListLemmas.{le_along, le_le, le_same}
 use Rattle.gh_sat.proofs.TrailLemmas.{values_less, passed_unset}
 use Rattle.gh_sat.proofs.trail.Trail.pop.Goals as goal
 

@@ -4,7 +4,7 @@ use Rattle.gh_path.specs.Terms.{Terms, exprs_used, exprs_terms, walked, rebound,
 use Rattle.gh_symb.specs.Steps.{EndsWith}
 use Rattle.gh_symb.specs.Symbolic.{needs_under}
 use Rattle.gh_symb.specs.Tables.{bound_by, state}
-use Rattle.gh_symb.specs.Encodings.{IsTermCheck}
+use Rattle.gh_symb.specs.Fitting.{EncodesCheck}
 use Rattle.gh_symb.specs.declared.over_terms.TermCheck.TheVariants as check
 use Rattle.gh_symb.proofs.EncodingLemmas.{entry_encoded}
 use Rattle.gh_symb.proofs.scope.Scope.ask_callee.Goals as goal
@@ -34,4 +34,4 @@ returns-clause-encodes c =
     let binds : bound_by c.bind_all.new.self ≡ bound_inside p ts =
     rw (c.new-inside.ensures, c.as_slice.ensures.value, c.as_slice-2.ensures.value, c.in_ok-terms.ensures) at c.in_ok-bind_all.ensures in
     let enters : i ≡ rebound t (bound_inside p ts) = ap (λ b. terms c.use_exprs.new.kinds b v) binds in
-    subst (λ (q : Terms). IsTermCheck (check.Sub c.in_ok-bound.bound) (needs_under (Some p) (exprs_terms es q) q)) used (entry_encoded p ts t i c.in_ok-bound.bound enters c.in_ok-bound.ensures.encodes)
+    subst (λ (q : Terms). EncodesCheck (check.Sub c.in_ok-bound.bound) (needs_under (Some p) (exprs_terms es q) q)) used (entry_encoded p ts t i c.in_ok-bound.bound enters c.in_ok-bound.ensures.encodes)

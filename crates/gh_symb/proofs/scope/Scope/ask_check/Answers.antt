@@ -1,6 +1,7 @@
 use Rattle.std.proofs.Common.{◌≡◌, Some}
 use Rattle.gh_ast.specs.Plain.{program_of, procedure_of}
 use Rattle.gh_path.specs.Terms.{callee_in}
+use Rattle.gh_symb.proofs.EncodingLemmas.{whole_encoded}
 use Rattle.gh_symb.proofs.StepLemmas.{called_procedure}
 use Rattle.gh_symb.proofs.scope.Scope.ask_check.Goals as goal
 
@@ -25,3 +26,9 @@ returns-in_ok-asked-in-CalleeEntry-clause-encodes c = λ at check h.
     called_procedure P c.deref.result.now c.in-CalleeEntry.callee q k.0.name c.deref.ensures.value l.3.0 l.1 k.1 in
     let on = rw (c.as_slice.ensures.value) at c.in_ok-asked-in-CalleeEntry.ensures.encodes in
     rw (k.3, callee) on
+
+pub returns-in_ok-bounds-in-Return-clause-encodes : goal.returns-in_ok-bounds-in-Return-clause-encodes
+returns-in_ok-bounds-in-Return-clause-encodes c = λ at check h.
+    let is = rw c.in-Return.is at h in
+    let each = rw c.as_slice-gives.ensures.value at c.in_ok-bounds-in-Return.ensures.encode in
+    rw is (whole_encoded c.in_ok-bounds-in-Return.bounds _ each)

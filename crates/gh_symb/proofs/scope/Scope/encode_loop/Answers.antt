@@ -6,7 +6,7 @@ use Rattle.gh_path.specs.Terms.{renewed, some_assigns, moved_on}
 use Rattle.gh_symb.specs.Phases.{under_bindings}
 use Rattle.gh_symb.specs.Symbolic.{under}
 use Rattle.gh_symb.specs.Tables.{state}
-use Rattle.gh_symb.specs.Encodings.{IsUnder}
+use Rattle.gh_symb.specs.Fitting.{EncodesUnder}
 use Rattle.gh_symb.proofs.EncodingLemmas.{loop_encoded}
 use Rattle.gh_symb.proofs.scope.Scope.encode_loop.Goals as goal
 
@@ -20,5 +20,5 @@ returns-clause-encodes c = λ P l round.
     ap statements_view c.as_slice.ensures.value ∙ sym (part_of-statements c.args.round.now.body.now) ∙ round.body in
     let renew : r ≡ renewed (filter (some_assigns l.body) xs) (moved_on s) = rw body at (c.in_ok-renew_all.ensures (v + 1)) in
     loop_encoded P xs l s r c.in_ok-before.before c.in_ok-after.after c.in_ok-step.step
-    (subst (λ f. IsUnder c.in_ok-before.before (under_bindings f s.bindings v)) round.invariant c.in_ok-before.ensures) renew
-    (subst (λ f. IsUnder c.in_ok-after.after (under f r)) round.invariant c.in_ok-after.ensures.encodes) c.in_ok-step.ensures
+    (subst (λ f. EncodesUnder c.in_ok-before.before (under_bindings f s.bindings v)) round.invariant c.in_ok-before.ensures) renew
+    (subst (λ f. EncodesUnder c.in_ok-after.after (under f r)) round.invariant c.in_ok-after.ensures.encodes) c.in_ok-step.ensures

@@ -3,12 +3,13 @@ use Rattle.gh_ast.specs.Plain.{formula_of}
 use Rattle.gh_path.specs.Terms.{each_walked}
 use Rattle.gh_symb.specs.Symbolic.{Under, each_under}
 use Rattle.gh_symb.specs.Tables.{state}
-use Rattle.gh_symb.specs.Encodings.{Each, IsUnder}
+use Rattle.gh_symb.specs.Encodings.{Each}
+use Rattle.gh_symb.specs.Fitting.{EncodesUnder}
 use Rattle.gh_symb.proofs.scope.Scope.walk_bounds.Given as goal
 
 abbrev pub invariant-loop-alternative : goal.invariant-loop-alternative
 invariant-loop-alternative l = record {
   walk : each_walked (map formula_of (drop l.alternative-index l.alternatives)) (state l.kinds l.self l.version) ≡ each_walked (map formula_of l.alternatives) (state l.initial.kinds l.initial.self l.version);
-  encoded : (us : List Under) × Each IsUnder l.bounds.items us
+  encoded : (us : List Under) × Each EncodesUnder l.bounds.items us
       × (us ++ each_under (map formula_of (drop l.alternative-index l.alternatives)) (state l.kinds l.self l.version) ≡ each_under (map formula_of l.alternatives) (state l.initial.kinds l.initial.self l.version));
 }

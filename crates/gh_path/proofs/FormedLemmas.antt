@@ -1,0 +1,134 @@
+-- A body in the shape that texts give it has a condition from each of its loops, so there are no more loops than conditions.
+use Rattle.std.specs.Prelude.{◌≡◌, ◌⊎◌, ℕ, suc, ◌+◌, ◌≤◌, List, [], ◌∷◌, ◌++◌, map, length, Bool, true, false, Option, Some, None}
+use Rattle.std.proofs.Common.{inl, inr, arith}
+use Rattle.std.proofs.lemmas.List.{length-map, length-append}
+use Rattle.gh_ast.specs.declared.Expr.{Expr}
+use Rattle.gh_ast.specs.declared.Expr.TheVariants.{Plain, Read}
+use Rattle.gh_ast.specs.Plain.{Test, compare, negation, conjunction, disjunction, Tests, no_tests, test_first, Statement, set, new, write, free, call, choice, loop, give, Statements, no_statements, statement_first, Procedure, Inside}
+use Rattle.gh_ast.specs.Programs.{body_of, statements_in}
+use Rattle.gh_ast.specs.WellFormed.{AreManyTests, IsFormedTest, AreFormedTests, IsFormedStatement, AreFormedStatements, IsFormedBody}
+use Rattle.gh_path.specs.Graphs.{Graph, dead_end, ends, moves, guarded, fork, PathStep, assume, Check, loop_end, reads, all_reads, tested, all_tested, some_tested, lowered, all_lowered, Loop, loops, all_loops, loops_of, once_around, whole_body, round, rounds}
+use Rattle.gh_path.specs.Paths.{ways, after_step}
+use Rattle.gh_path.specs.Conditions.{condition, conditions_of, from_starts}
+use Rattle.gh_path.specs.Roots.{from_start}
+
+-- there is a way
+abbrev HasWay : Graph → Type 0
+HasWay g = 1 ≤ length (ways g)
+
+way_on : (p : PathStep) (g : Graph) → HasWay g → HasWay (moves p g)
+way_on p g way = let long : length (map (after_step p) (ways g)) ≡ length (ways g) = length-map (ways g) (after_step p) in omega (arith, long, way)
+
+way_at : (c : Check) (p : PathStep) (g : Graph) → HasWay (guarded c p g)
+way_at c p g = omega arith
+
+way_to : (l : Expr) (e : Bool) (r : Expr) (g k : Graph) → HasWay g ⊎ HasWay k → HasWay (fork l e r g k)
+way_to l e r g k some =
+    let yes = map (after_step (assume l e r true)) (ways g) in
+    let no = map (after_step (assume l e r false)) (ways k) in
+    let first : length yes ≡ length (ways g) = length-map (ways g) (after_step (assume l e r true)) in
+    let second : length no ≡ length (ways k) = length-map (ways k) (after_step (assume l e r false)) in
+    elim some [ inl one ↦ omega (arith, first, one, length-append yes no) | inr other ↦ omega (arith, second, other, length-append yes no) ]
+
+way_read : (e : Expr) (g : Graph) → HasWay g → HasWay (reads e g)
+way_read (Plain o) g way = way
+way_read (Read o) g way = omega arith
+
+way_reads : (es : List Expr) (g : Graph) → HasWay g → HasWay (all_reads es g)
+way_reads [] g way = way
+way_reads (e ∷ es) g way = way_read e (all_reads es g) (way_reads es g way)
+
+abbrev IsSome : Tests → Type 0
+IsSome no_tests = ⊥
+IsSome (test_first t ts) = Unit {0}
+
+some_of : (ts : Tests) → AreManyTests ts → IsSome ts
+some_of no_tests many = absurd many
+some_of (test_first t ts) many = tt
+
+mutual
+  way_tested : (b : Bool) (t : Test) (g k : Graph) → IsFormedTest b t → HasWay g ⊎ HasWay k → HasWay (tested t g k)
+  way_tested b (compare l e r) g k formed some = way_read l (reads r (fork l e r g k)) (way_read r (fork l e r g k) (way_to l e r g k some))
+  way_tested b (negation t) g k formed some = elim some [ inl one ↦ way_tested b t k g formed (inr one) | inr other ↦ way_tested b t k g formed (inl other) ]
+  way_tested b (conjunction ts) g k formed some = elim some [
+    | inl one ↦ way_all b ts g k formed.1 one
+    | inr other ↦ way_none b ts g k formed.1 (some_of ts formed.0) other
+  ]
+  way_tested b (disjunction ts) g k formed some = elim some [
+    | inl one ↦ way_one b ts g k formed.1 (some_of ts formed.0) one
+    | inr other ↦ way_past b ts g k formed.1 other
+  ]
+
+  way_all : (b : Bool) (ts : Tests) (g k : Graph) → AreFormedTests b ts → HasWay g → HasWay (all_tested ts g k)
+  way_all b no_tests g k formed one = one
+  way_all b (test_first t ts) g k formed one = way_tested b t (all_tested ts g k) k formed.0 (inl (way_all b ts g k formed.1 one))
+
+  way_none : (b : Bool) (ts : Tests) (g k : Graph) → AreFormedTests b ts → IsSome ts → HasWay k → HasWay (all_tested ts g k)
+  way_none b no_tests g k formed some other = absurd some
+  way_none b (test_first t ts) g k formed some other = way_tested b t (all_tested ts g k) k formed.0 (inr other)
+
+  way_past : (b : Bool) (ts : Tests) (g k : Graph) → AreFormedTests b ts → HasWay k → HasWay (some_tested ts g k)
+  way_past b no_tests g k formed other = other
+  way_past b (test_first t ts) g k formed other = way_tested b t g (some_tested ts g k) formed.0 (inr (way_past b ts g k formed.1 other))
+
+  way_one : (b : Bool) (ts : Tests) (g k : Graph) → AreFormedTests b ts → IsSome ts → HasWay g → HasWay (some_tested ts g k)
+  way_one b no_tests g k formed some one = absurd some
+  way_one b (test_first t ts) g k formed some one = way_tested b t g (some_tested ts g k) formed.0 (inl one)
+
+mutual
+  way_lowered : (p : Procedure) (s : Statement) (g : Graph) → IsFormedStatement s → HasWay g → HasWay (lowered p s g)
+  way_lowered p (set x e) g formed way = way_read e (moves _ g) (way_on _ g way)
+  way_lowered p (new x) g formed way = way_on _ g way
+  way_lowered p (write x e) g formed way = way_read e _ (omega arith)
+  way_lowered p (free x) g formed way = omega arith
+  way_lowered p (call xs f es) g formed way = way_reads es _ (omega arith)
+  way_lowered p (choice t a c b d) g formed way = way_tested true t (all_lowered p a g) (all_lowered p b g) formed.0 (inl (way_block p a g formed.1 way))
+  way_lowered p (loop at t i body close) g formed way = omega arith
+  way_lowered p (give at es) g formed way = way_reads es _ (omega arith)
+
+  way_block : (p : Procedure) (ss : Statements) (g : Graph) → AreFormedStatements ss → HasWay g → HasWay (all_lowered p ss g)
+  way_block p no_statements g formed way = way
+  way_block p (statement_first s ss) g formed way = way_lowered p s (all_lowered p ss g) formed.0 (way_block p ss g formed.1 way)
+
+-- loops whose tests and bodies have the shape
+abbrev AreFormedLoops : List Loop → Type 0
+AreFormedLoops [] = Unit {0}
+AreFormedLoops (l ∷ ls) = (IsFormedTest true l.test × AreFormedStatements l.body) × AreFormedLoops ls
+
+both_formed : (xs ys : List Loop) → AreFormedLoops xs → AreFormedLoops ys → AreFormedLoops (xs ++ ys)
+both_formed [] ys one two = two
+both_formed (l ∷ xs) ys one two = (one.0, both_formed xs ys one.1 two)
+
+mutual
+  loops_formed : (s : Statement) → IsFormedStatement s → AreFormedLoops (loops s)
+  loops_formed (set x e) formed = tt
+  loops_formed (new x) formed = tt
+  loops_formed (write x e) formed = tt
+  loops_formed (free x) formed = tt
+  loops_formed (call xs f es) formed = tt
+  loops_formed (choice t a c b d) formed = both_formed (all_loops a) (all_loops b) (all_loops_formed a formed.1) (all_loops_formed b formed.2)
+  loops_formed (loop at t i body close) formed = ((formed.0, formed.2), all_loops_formed body formed.2)
+  loops_formed (give at es) formed = tt
+
+  all_loops_formed : (ss : Statements) → AreFormedStatements ss → AreFormedLoops (all_loops ss)
+  all_loops_formed no_statements formed = tt
+  all_loops_formed (statement_first s ss) formed = both_formed (loops s) (all_loops ss) (loops_formed s formed.0) (all_loops_formed ss formed.1)
+
+many_rounds : (p : Procedure) (n : ℕ) (ls : List Loop) → AreFormedLoops ls → length ls ≤ length (from_starts p (rounds p n ls))
+many_rounds p n [] formed = omega arith
+many_rounds p n (l ∷ ls) formed =
+    let first = from_start p (round p n l) in
+    let one : HasWay (once_around p l) = way_tested true l.test (all_lowered p l.body (ends (loop_end l))) dead_end formed.0.0 (inl (way_block p l.body (ends (loop_end l)) formed.0.1 (omega arith))) in
+    let long : length first ≡ length (ways (once_around p l)) = length-map (ways (once_around p l)) (condition p (round p n l)) in
+    let more : length (l ∷ ls) ≡ length ls + 1 = omega arith in
+    omega (arith, one, long, more, many_rounds p (suc n) ls formed.1, length-append first (from_starts p (rounds p (suc n) ls)))
+
+formed_statements : (b : Option Inside) → IsFormedBody b → AreFormedStatements (statements_in b)
+formed_statements None formed = tt
+formed_statements (Some i) formed = formed
+
+pub few_loops : (p : Procedure) → IsFormedBody p.body → length (conditions_of p) ≤ 1024 → length (loops_of p) ≤ 1024
+few_loops p formed few =
+    let first = from_start p (whole_body p) in
+    let rest = from_starts p (rounds p 0 (loops_of p)) in
+    omega (arith, many_rounds p 0 (loops_of p) (all_loops_formed (body_of p) (formed_statements p.body formed)), few, length-append first rest)

@@ -1,0 +1,359 @@
+-- The terms and versions of a condition over terms are those of the condition.
+use Rattle.std.specs.Prelude.{◌≡◌, ℕ, ◌+◌, ◌<◌, ◌≤◌, List, [], ◌∷◌, map, filter, length, Option, Some, None}
+use Rattle.std.proofs.Common.{refl, sym, ◌∙◌, ap, subst, arith}
+use Rattle.std.proofs.lemmas.List.Elements.{All-nil, All-cons}
+use Rattle.gh_ast.specs.declared.Expr.{Expr}
+use Rattle.gh_ast.specs.Plain.{Formula, Procedure, Program}
+use Rattle.gh_ast.specs.Programs.{Name, names, parameters_of, results_of, variable_names}
+use Rattle.gh_path.specs.Graphs as path
+use Rattle.gh_path.specs.Conditions.{Condition}
+use Rattle.gh_path.specs.Terms.{Bindings, unbound, bound, all_bound, Terms, terms, with_value, used, term_of, followed, expr_used, expr_term, exprs_used, exprs_terms, walked, each_walked, moved_on, rebound, renewed, some_assigns, callee_in, bound_inside, call_walked, step_walked, steps_walked, entry_walked, check_walked, condition_walked, no_terms}
+use Rattle.gh_symb.specs.Symbolic.{Under, TermStep, Symbolic, under, each_under, call_parts, term_step, term_steps, needs_under, term_check, symbolic_of}
+use Rattle.gh_symb.specs.Formulas.{variables, version_after}
+use Rattle.gh_symb.specs.Inside.{IsUnderInside, AllAreInside, IsStepInside, AreStepsInside, IsCheckInside, IsInside}
+use Rattle.gh_symb.proofs.SoundLemmas.{Sound, AreBound, AreBelow, Extends, extends_same, extends_onto, extends_size, successors_more, successor_at, bound_more, bound_one, nothing_bound, all_bound_in, value_sound, value_size, term_there, used_extends, followed_extends, expr_extends, exprs_extend, expr_there, exprs_there, walked_extends}
+
+-- a step adds terms and versions
+pub record Goes (s t : Terms) : Type 0 where
+  pub size : length s.kinds ≤ length t.kinds
+  pub version : s.version ≤ t.version
+  pub sound : Sound s → Sound t
+
+goes_onto : {s t u : Terms} → Goes s t → Goes t u → Goes s u
+goes_onto {s} {t} {u} f g =
+    let a = f.size in let b = g.size in let c = f.version in let d = g.version in
+    record { size = omega (arith, a, b); version = omega (arith, c, d); sound = λ h. g.sound (f.sound h) }
+
+goes_same : (s : Terms) → Goes s s
+goes_same s = record { size = omega arith; version = omega arith; sound = λ h. h }
+
+extended : (s t : Terms) → Extends s t → Goes s t
+extended s t f = let v = f.version in record { size = extends_size s t f; version = omega (arith, v); sound = f.sound }
+
+moved : (s : Terms) → Goes s (moved_on s)
+moved s = record {
+  size = omega arith;
+  version = omega arith;
+  sound = λ h. record { some = h.some; successors = successors_more (length s.kinds) (length s.kinds) (s.version + 1) (s.version + 1 + 1) (omega arith) (omega arith) s.kinds h.successors; bindings = h.bindings };
+}
+
+-- the bindings of a sound state are replaced
+rebound_sound : (s : Terms) (b : Bindings) → Sound s → AreBound (length s.kinds) b → Sound (rebound s b)
+rebound_sound s b h k = record { some = h.some; successors = h.successors; bindings = k }
+
+-- a new value for a variable
+renewed_one : (x : Name) (s : Terms) → Goes s (terms (with_value s.kinds) (bound s.bindings x (length s.kinds)) s.version)
+renewed_one x s =
+    let size = value_size s.kinds in
+    record {
+      size = omega (arith, size);
+      version = omega arith;
+      sound = λ h. record {
+        some = omega (arith, size);
+        successors = value_sound (s.version + 1) s.kinds h.successors;
+        bindings = bound_one (length (with_value s.kinds)) s.bindings x (length s.kinds) (bound_more (length s.kinds) (length (with_value s.kinds)) s.bindings (omega (arith, size)) h.bindings) (omega (arith, size));
+      };
+    }
+
+renewed_goes : (xs : List Name) (s : Terms) → Goes s (renewed xs s)
+renewed_goes [] s = goes_same s
+renewed_goes (x ∷ xs) s = goes_onto (renewed_one x s) (renewed_goes xs (terms (with_value s.kinds) (bound s.bindings x (length s.kinds)) s.version))
+
+renewed_version : (xs : List Name) (s : Terms) → (renewed xs s).version ≡ s.version
+renewed_version [] s = refl
+renewed_version (x ∷ xs) s = renewed_version xs (terms (with_value s.kinds) (bound s.bindings x (length s.kinds)) s.version)
+
+-- what an assertion is walked to
+walked_goes : (f : Formula) (s : Terms) → Goes s (walked f s)
+walked_goes f s = extended s (walked f s) (walked_extends f s)
+
+-- what alternatives are walked to
+pub each_extends : (fs : List Formula) (s : Terms) → Extends s (each_walked fs s)
+each_extends [] s = extends_same s
+each_extends (f ∷ fs) s = extends_onto (walked_extends f s) (each_extends fs (walked f s))
+
+each_goes : (fs : List Formula) (s : Terms) → Goes s (each_walked fs s)
+each_goes fs s = extended s (each_walked fs s) (each_extends fs s)
+
+pub variables_there : (n : ℕ) (s : Terms) → Sound s → length s.kinds ≤ n → (x : Name) → (variables s.bindings x).0 < n
+variables_there n s h l x = let k = term_there x s h in omega (arith, k)
+
+under_inside : (n v : ℕ) (f : Formula) (s : Terms) → Sound s → length (walked f s).kinds ≤ n → s.version < v → IsUnderInside n v (under f s)
+under_inside n v f s h l k = record { version = k; terms = variables_there n (walked f s) ((walked_extends f s).sound h) l }
+
+each_inside : (n v : ℕ) (fs : List Formula) (s : Terms) → Sound s → length (each_walked fs s).kinds ≤ n → s.version < v → AllAreInside n v (each_under fs s)
+each_inside n v [] s h l k = All-nil (IsUnderInside n v)
+each_inside n v (f ∷ fs) s h l k =
+    let t = walked f s in
+    let g = walked_extends f s in
+    let size = extends_size t (each_walked fs t) (each_extends fs t) in
+    let same = g.version in
+    All-cons (IsUnderInside n v) (under f s) (each_under fs t) (under_inside n v f s h (omega (arith, l, size)) k) (each_inside n v fs t (g.sound h) l (omega (arith, k, same)))
+
+one_inside : (n v : ℕ) (u : Under) → IsUnderInside n v u → AllAreInside n v (u ∷ [])
+one_inside n v u h = All-cons (IsUnderInside n v) u [] h (All-nil (IsUnderInside n v))
+
+terms_below_all : (xs : List Name) (s : Terms) → Sound s → AreBelow (length s.kinds) (map (λ x. term_of x s) xs)
+terms_below_all [] s h = tt
+terms_below_all (x ∷ xs) s h = (term_there x s h, terms_below_all xs s h)
+
+-- the start of a call: the parameters have the arguments' terms
+inside_sound : (p : Procedure) (ts : List ℕ) (s : Terms) → Sound s → AreBelow (length s.kinds) ts → Sound (rebound s (bound_inside p ts))
+inside_sound p ts s h k = rebound_sound s (bound_inside p ts) h (all_bound_in (length s.kinds) unbound (parameters_of p) ts (nothing_bound (length s.kinds)) k)
+
+abbrev middle : Procedure → Terms → Terms
+middle p s = renewed (results_of p) (moved_on (walked p.needs s))
+
+middle_goes : (p : Procedure) (s : Terms) → Goes s (middle p s)
+middle_goes p s = goes_onto (walked_goes p.needs s) (goes_onto (moved (walked p.needs s)) (renewed_goes (results_of p) (moved_on (walked p.needs s))))
+
+middle_version : (p : Procedure) (s : Terms) → (middle p s).version ≡ s.version + 1
+middle_version p s =
+    let v = (walked_extends p.needs s).version in
+    renewed_version (results_of p) (moved_on (walked p.needs s)) ∙ ap (λ i. i + 1) v
+
+-- a step from s to t is inside, and leads to the version of t
+record Inside (n v : ℕ) (s t : Terms) (step : TermStep) : Type 0 where
+  inside : length t.kinds ≤ n → t.version < v → IsStepInside n v s.version step
+  after : version_after s.version step ≡ t.version
+
+call_goes : (o : Option Procedure) (xs : List Name) (ts : List ℕ) (s : Terms) → Sound s → AreBelow (length s.kinds) ts → Goes s (call_walked o xs ts s)
+call_goes None xs ts s h k = goes_same s
+call_goes (Some p) xs ts s h k =
+    let first = rebound s (bound_inside p ts) in
+    let sound = inside_sound p ts s h k in
+    let mid = middle p first in
+    let last = each_walked p.gives mid in
+    let whole = goes_onto (middle_goes p first) (each_goes p.gives mid) in
+    let size = whole.size in
+    record {
+      size = whole.size;
+      version = whole.version;
+      sound = λ _. rebound_sound last (all_bound s.bindings xs (map (λ x. term_of x last) (results_of p))) (whole.sound sound)
+          (all_bound_in (length last.kinds) s.bindings xs (map (λ x. term_of x last) (results_of p)) (bound_more (length s.kinds) (length last.kinds) s.bindings size h.bindings) (terms_below_all (results_of p) last (whole.sound sound)));
+    }
+
+call_inside : (n v : ℕ) (o : Option Procedure) (xs : List Name) (ts : List ℕ) (s : Terms) → Sound s → AreBelow (length s.kinds) ts → Inside n v s (call_walked o xs ts s) (call_parts o ts s)
+call_inside n v None xs ts s h k = record { inside = λ l m. tt; after = refl }
+call_inside n v (Some p) xs ts s h k =
+    let first = rebound s (bound_inside p ts) in
+    let sound = inside_sound p ts s h k in
+    let mid = middle p first in
+    let last = each_walked p.gives mid in
+    let up = (goes_onto (moved (walked p.needs first)) (goes_onto (renewed_goes (results_of p) (moved_on (walked p.needs first))) (each_goes p.gives mid))).size in
+    let at_mid = middle_version p first in
+    let at_last = (each_extends p.gives mid).version in
+    record {
+      inside = λ l m. (
+        under_inside n v p.needs first sound (omega (arith, l, up)) (omega (arith, m, at_mid, at_last)),
+        each_inside n v p.gives mid ((middle_goes p first).sound sound) l (omega (arith, m, at_last)),
+        omega (arith, m, at_mid, at_last),
+      );
+      after = sym (at_last ∙ at_mid);
+    }
+
+arguments_below : (es : List Expr) (s : Terms) → Sound s → AreBelow (length (exprs_used es s).kinds) (exprs_terms es (exprs_used es s))
+arguments_below es s h = exprs_there es s (exprs_used es s) (extends_same (exprs_used es s)) ((exprs_extend es s).sound h)
+
+pub step_goes : (P : Program) (xs : List Name) (p : path.PathStep) (s : Terms) → Sound s → Goes s (step_walked P xs p s)
+step_goes P xs (path.accessed o) s h = extended s (step_walked P xs (path.accessed o) s) (extends_onto (used_extends o.name s) (followed_extends o.name (used o.name s)))
+step_goes P xs (path.assume l e r way) s h = extended s (step_walked P xs (path.assume l e r way) s) (extends_onto (expr_extends l s) (expr_extends r (expr_used l s)))
+step_goes P xs (path.assigned x e) s h =
+    let t = expr_used e s in
+    let g = extended s t (expr_extends e s) in
+    record {
+      size = g.size;
+      version = g.version;
+      sound = λ k. rebound_sound t (bound t.bindings x.name (expr_term e t)) (g.sound k)
+          (bound_one (length t.kinds) t.bindings x.name (expr_term e t) (g.sound k).bindings (expr_there e s t (extends_same t) (g.sound k)));
+    }
+step_goes P xs (path.made x) s h =
+    let one = renewed_one x.name s in
+    let t = terms (with_value s.kinds) (bound s.bindings x.name (length s.kinds)) s.version in
+    let size = value_size (with_value s.kinds) in
+    let first = value_size s.kinds in
+    record {
+      size = omega (arith, size, first);
+      version = omega arith;
+      sound = λ k. let mid = one.sound k in record {
+        some = omega (arith, size);
+        successors = successors_more (length (with_value (with_value s.kinds))) (length (with_value (with_value s.kinds))) (s.version + 1) (s.version + 1 + 1) (omega arith) (omega arith) (with_value (with_value s.kinds))
+            (value_sound (s.version + 1) (with_value s.kinds) mid.successors);
+        bindings = bound_more (length (with_value s.kinds)) (length (with_value (with_value s.kinds))) (bound s.bindings x.name (length s.kinds)) (omega (arith, size)) mid.bindings;
+      };
+    }
+step_goes P xs (path.written x e) s h =
+    let t = expr_used e (used x.name s) in
+    goes_onto (extended s t (extends_onto (used_extends x.name s) (expr_extends e (used x.name s)))) (moved t)
+step_goes P xs (path.freed x) s h = goes_onto (extended s (used x.name s) (used_extends x.name s)) (moved (used x.name s))
+step_goes P xs (path.called ys f es) s h =
+    let t = exprs_used es s in
+    goes_onto (extended s t (exprs_extend es s)) (call_goes (callee_in P.procedures f.name) (names ys) (exprs_terms es t) t ((exprs_extend es s).sound h) (arguments_below es s h))
+step_goes P xs (path.looped l) s h =
+    let a = walked l.invariant s in
+    let b = renewed (filter (some_assigns l.body) xs) (moved_on a) in
+    goes_onto (walked_goes l.invariant s) (goes_onto (moved a) (goes_onto (renewed_goes (filter (some_assigns l.body) xs) (moved_on a)) (walked_goes l.invariant b)))
+step_goes P xs (path.answered ys es) s h =
+    let t = exprs_used es s in
+    let g = extended s t (exprs_extend es s) in
+    record {
+      size = g.size;
+      version = g.version;
+      sound = λ k. rebound_sound t (all_bound t.bindings ys (exprs_terms es t)) (g.sound k)
+          (all_bound_in (length t.kinds) t.bindings ys (exprs_terms es t) (g.sound k).bindings (arguments_below es s k));
+    }
+
+step_inside : (n v : ℕ) (P : Program) (xs : List Name) (p : path.PathStep) (s : Terms) → Sound s → Inside n v s (step_walked P xs p s) (term_step P xs p s)
+step_inside n v P xs (path.accessed o) s h =
+    let t = used o.name s in
+    let f = used_extends o.name s in
+    let g = followed_extends o.name t in
+    let there = term_there o.name t (f.sound h) in
+    let size = extends_size t (followed o.name t) g in
+    let same = g.version ∙ f.version in
+    record { inside = λ l m. (omega (arith, l, there, size), omega (arith, m, same)); after = sym same }
+step_inside n v P xs (path.assume l e r way) s h =
+    let a = expr_used l s in
+    let t = expr_used r a in
+    let f = expr_extends l s in
+    let g = expr_extends r a in
+    let sound = g.sound (f.sound h) in
+    let left = expr_there l s t g sound in
+    let right = expr_there r a t (extends_same t) sound in
+    record { inside = λ k m. (omega (arith, k, left), omega (arith, k, right)); after = sym (g.version ∙ f.version) }
+step_inside n v P xs (path.assigned x e) s h = record { inside = λ l m. tt; after = sym (expr_extends e s).version }
+step_inside n v P xs (path.made x) s h =
+    let size = value_size (with_value s.kinds) in
+    let first = value_size s.kinds in
+    record { inside = λ l m. (omega (arith, l, size, first), omega (arith, l, size, first), m); after = refl }
+step_inside n v P xs (path.written x e) s h =
+    let a = used x.name s in
+    let t = expr_used e a in
+    let f = used_extends x.name s in
+    let g = expr_extends e a in
+    let sound = g.sound (f.sound h) in
+    let place = term_there x.name t sound in
+    let content = expr_there e a t (extends_same t) sound in
+    let same = g.version ∙ f.version in
+    record { inside = λ l m. (omega (arith, l, place), omega (arith, l, content), omega (arith, m, same)); after = ap (λ i. i + 1) (sym same) }
+step_inside n v P xs (path.freed x) s h =
+    let f = used_extends x.name s in
+    let there = term_there x.name (used x.name s) (f.sound h) in
+    let same = f.version in
+    record { inside = λ l m. (omega (arith, l, there), omega (arith, m, same)); after = ap (λ i. i + 1) (sym same) }
+step_inside n v P xs (path.called ys f es) s h =
+    let t = exprs_used es s in
+    let g = exprs_extend es s in
+    let o = callee_in P.procedures f.name in
+    let c = call_inside n v o (names ys) (exprs_terms es t) t (g.sound h) (arguments_below es s h) in
+    let step = call_parts o (exprs_terms es t) t in
+    subst (λ (i : ℕ). Inside n v (terms s.kinds s.bindings i) (call_walked o (names ys) (exprs_terms es t) t) step) g.version
+    (record { inside = c.inside; after = c.after })
+step_inside n v P xs (path.looped l) s h =
+    let a = walked l.invariant s in
+    let b = renewed (filter (some_assigns l.body) xs) (moved_on a) in
+    let up = (goes_onto (moved a) (goes_onto (renewed_goes (filter (some_assigns l.body) xs) (moved_on a)) (walked_goes l.invariant b))) in
+    let size = up.size in
+    let to_b = goes_onto (walked_goes l.invariant s) (goes_onto (moved a) (renewed_goes (filter (some_assigns l.body) xs) (moved_on a))) in
+    let at_a = (walked_extends l.invariant s).version in
+    let at_b = renewed_version (filter (some_assigns l.body) xs) (moved_on a) in
+    let at_end = (walked_extends l.invariant b).version in
+    record {
+      inside = λ k m. (
+        under_inside n v l.invariant s h (omega (arith, k, size)) (omega (arith, m, at_a, at_b, at_end)),
+        one_inside n v (under l.invariant b) (under_inside n v l.invariant b (to_b.sound h) k (omega (arith, m, at_end))),
+        omega (arith, m, at_a, at_b, at_end),
+      );
+      after = sym (at_end ∙ at_b ∙ ap (λ i. i + 1) at_a);
+    }
+step_inside n v P xs (path.answered ys es) s h = record { inside = λ l m. tt; after = sym (exprs_extend es s).version }
+
+pub steps_go : (P : Program) (xs : List Name) (ps : List path.PathStep) (s : Terms) → Sound s → Goes s (steps_walked P xs ps s)
+steps_go P xs [] s h = goes_same s
+steps_go P xs (p ∷ ps) s h = let g = step_goes P xs p s h in goes_onto g (steps_go P xs ps (step_walked P xs p s) (g.sound h))
+
+steps_inside : (n v : ℕ) (P : Program) (xs : List Name) (ps : List path.PathStep) (s : Terms) → Sound s → length (steps_walked P xs ps s).kinds ≤ n → (steps_walked P xs ps s).version < v
+    → AreStepsInside n v s.version (term_steps P xs ps s)
+steps_inside n v P xs [] s h l m = tt
+steps_inside n v P xs (p ∷ ps) s h l m =
+    let t = step_walked P xs p s in
+    let g = step_goes P xs p s h in
+    let rest = steps_go P xs ps t (g.sound h) in
+    let size = rest.size in
+    let version = rest.version in
+    let here = step_inside n v P xs p s h in (
+      here.inside (omega (arith, l, size)) (omega (arith, m, version)),
+      subst (λ (i : ℕ). AreStepsInside n v i (term_steps P xs ps t)) (sym here.after) (steps_inside n v P xs ps t (g.sound h) l m),
+    )
+
+entry_inside : (n v : ℕ) (o : Option Procedure) (ts : List ℕ) (s : Terms) → Sound s → AreBelow (length s.kinds) ts → length (entry_walked o ts s).kinds ≤ n → s.version < v → IsCheckInside n v (needs_under o ts s)
+entry_inside n v None ts s h k l m = All-nil (IsUnderInside n v)
+entry_inside n v (Some p) ts s h k l m = under_inside n v p.needs (rebound s (bound_inside p ts)) (inside_sound p ts s h k) l m
+
+check_inside : (n v : ℕ) (P : Program) (k : path.Check) (s : Terms) → Sound s → length (check_walked P k s).kinds ≤ n → s.version < v → IsCheckInside n v (term_check P k s)
+check_inside n v P (path.access o) s h l m = let there = term_there o.name (used o.name s) ((used_extends o.name s).sound h) in omega (arith, l, there)
+check_inside n v P (path.entry f es) s h l m =
+    let t = exprs_used es s in
+    let g = exprs_extend es s in
+    let same = g.version in
+    entry_inside n v (callee_in P.procedures f.name) (exprs_terms es t) t (g.sound h) (arguments_below es s h) l (omega (arith, m, same))
+check_inside n v P (path.loop_entry r) s h l m = under_inside n v r.invariant s h l m
+check_inside n v P (path.returned at fs) s h l m = each_inside n v fs s h l m
+check_inside n v P (path.loop_end r) s h l m = one_inside n v (under r.invariant s) (under_inside n v r.invariant s h l m)
+
+entry_goes : (o : Option Procedure) (ts : List ℕ) (s : Terms) → Sound s → AreBelow (length s.kinds) ts → Goes s (entry_walked o ts s)
+entry_goes None ts s h k = goes_same s
+entry_goes (Some p) ts s h k =
+    let g = walked_goes p.needs (rebound s (bound_inside p ts)) in
+    record { size = g.size; version = g.version; sound = λ _. g.sound (inside_sound p ts s h k) }
+
+pub check_goes : (P : Program) (k : path.Check) (s : Terms) → Sound s → Goes s (check_walked P k s)
+check_goes P (path.access o) s h = extended s (used o.name s) (used_extends o.name s)
+check_goes P (path.entry f es) s h =
+    let t = exprs_used es s in
+    let g = exprs_extend es s in
+    goes_onto (extended s t g) (entry_goes (callee_in P.procedures f.name) (exprs_terms es t) t (g.sound h) (arguments_below es s h))
+check_goes P (path.loop_entry r) s h = walked_goes r.invariant s
+check_goes P (path.returned at fs) s h = each_goes fs s
+check_goes P (path.loop_end r) s h = walked_goes r.invariant s
+
+pub no_terms_sound : Sound no_terms
+no_terms_sound = record { some = omega arith; successors = tt; bindings = nothing_bound 1 }
+
+-- a condition leads to terms that are listed
+pub condition_sound : (P : Program) (c : Condition) → Sound (condition_walked P c)
+condition_sound P c =
+    let xs = variable_names c.procedure in
+    let first = walked c.start.meets no_terms in
+    let mid = steps_walked P xs c.way.steps first in
+    let sound = (steps_go P xs c.way.steps first ((walked_extends c.start.meets no_terms).sound no_terms_sound)).sound ((walked_extends c.start.meets no_terms).sound no_terms_sound) in
+    (check_goes P c.way.check mid sound).sound sound
+
+abbrev pub IsItselfInside : Symbolic → Type 0
+IsItselfInside s = IsInside s.terms s.versions s.start s.steps s.check
+
+pub conditions_are_inside : (P : Program) (c : Condition) → IsItselfInside (symbolic_of P c)
+conditions_are_inside P c =
+    let xs = variable_names c.procedure in
+    let first = walked c.start.meets no_terms in
+    let f = walked_extends c.start.meets no_terms in
+    let sound = f.sound no_terms_sound in
+    let mid = steps_walked P xs c.way.steps first in
+    let g = steps_go P xs c.way.steps first sound in
+    let last = check_walked P c.way.check mid in
+    let k = check_goes P c.way.check mid (g.sound sound) in
+    let whole = condition_sound P c in
+    let n = length last.kinds in
+    let v = last.version + 1 in
+    let size = g.size in
+    let version = g.version in
+    let later = k.size in
+    let latest = k.version in
+    let zero_first = f.version in
+    record {
+      terms = record { terms = refl; some = whole.some; successors = λ t i x e. (successor_at n v last.kinds whole.successors t i x e).0 };
+      some_versions = omega arith;
+      start_is = under_inside n v c.start.meets no_terms no_terms_sound (omega (arith, size, later)) (omega arith);
+      steps_are = subst (λ (i : ℕ). AreStepsInside n v i (term_steps P xs c.way.steps first)) zero_first (steps_inside n v P xs c.way.steps first sound later (omega (arith, latest)));
+      check_is = check_inside n v P c.way.check mid (g.sound sound) (omega arith) (omega (arith, latest));
+    }

@@ -1,0 +1,24 @@
+-- What encodes a part of a condition over terms, where its terms and versions are numbers of 8 bits.
+use Rattle.std.specs.Prelude.{◌≡◌, ◌<◌, List}
+use Rattle.gh_ast.specs.Programs.{Name}
+use Rattle.gh_path.specs.Terms.{Bindings}
+use Rattle.gh_grass.specs.declared.binding.Bond.{Bond}
+use Rattle.gh_symb.specs.Symbolic as plain
+use Rattle.gh_symb.specs.Formulas.{variables}
+use Rattle.gh_symb.specs.Encodings.{IsUnder, IsTermStep, IsTermCheck}
+use Rattle.gh_symb.specs.Inside.{binding_of, IsUnderInside, IsStepInside, IsCheckInside}
+use Rattle.gh_symb.specs.declared.over_terms.Bound.{Bound}
+use Rattle.gh_symb.specs.declared.over_terms.TermStep.{TermStep}
+use Rattle.gh_symb.specs.declared.over_terms.TermCheck.{TermCheck}
+
+abbrev pub EncodesBinding : List Bond → Bindings → Type 0
+EncodesBinding bonds b = (x : Name) → (variables b x).0 < 256 → binding_of bonds x ≡ b x
+
+abbrev pub EncodesUnder : Bound → plain.Under → Type 0
+EncodesUnder b u = IsUnderInside 256 256 u → IsUnder b u
+
+abbrev pub EncodesStep : TermStep → plain.TermStep → Type 0
+EncodesStep e s = IsStepInside 256 256 0 s → IsTermStep e s
+
+abbrev pub EncodesCheck : TermCheck → plain.TermCheck → Type 0
+EncodesCheck e k = IsCheckInside 256 256 k → IsTermCheck e k
