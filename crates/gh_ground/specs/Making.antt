@@ -1,7 +1,8 @@
 -- How the structure of asserted literals is made.
-use Rattle.std.specs.Prelude.{ℕ, ◌≡◌, ◌<◌, ◌⊎◌, ◌↔◌, Bool, true, List, Contains, length}
+use Rattle.std.specs.Prelude.{ℕ, ◌≡◌, ◌<◌, ◌⊎◌, ◌↔◌, ◌∷◌, ◌++◌, [], Bool, true, List, Contains, length}
 use Rattle.gh_base.specs.declared.atom.Term.{Term}
 use Rattle.gh_base.specs.declared.atom.Atom.{Atom}
+use Rattle.gh_base.specs.declared.atom.Atom.TheVariants.{Btwn}
 use Rattle.gh_base.specs.declared.atom.Lit.{Lit}
 use Rattle.gh_base.specs.declared.sizes.Sizes.{Sizes}
 use Rattle.gh_base.specs.Atoms.{IsInRange}
@@ -17,6 +18,11 @@ pub record AreClassesOf (terms : ℕ) (lits : List Lit) (cs : List Term) : Type 
   pub classes : AreClasses cs
   pub sound : (m : Interpretation) → EqualitiesHold m lits → (t : ℕ) → m.class (class_at cs t) ≡ m.class t
   pub joined : (a b : Term) → Contains lits (equality a b) → class_at cs a.0 ≡ class_at cs b.0
+
+-- after any asserted literals the classes are those with one more
+abbrev pub TakesIn : Lit → List Term → List Term → Type 0
+TakesIn lit old new =
+    (terms : ℕ) (lits : List Lit) → AreClassesOf terms lits old → AreClassesOf terms (lits ++ lit ∷ []) new
 
 -- the truth of an atom in tables
 abbrev pub truth_in : Tables → Atom → Bool
@@ -40,6 +46,16 @@ pub record IsUpTo (n : ℕ) (x : Term) (P : Term → Kind) (s : Sizes) (cs : Lis
 -- .. for a term of the class of x
 abbrev pub IsOver : Term → (Term → Kind) → Kind
 IsOver x P s cs a = IsUpTo s.terms x P s cs a
+
+-- the atoms `Btwn` over the terms of the class of the third, of the second and the third, and of all three
+abbrev pub IsThird : ℕ → Term → Term → Term → Kind
+IsThird version x y z = IsOver z (λ t. IsAtom (Btwn version x y t))
+
+abbrev pub IsSecond : ℕ → Term → Term → Term → Kind
+IsSecond version x y z = IsOver y (λ t. IsThird version x t z)
+
+abbrev pub IsFirst : ℕ → Term → Term → Term → Kind
+IsFirst version x y z = IsOver x (λ t. IsSecond version t y z)
 
 -- those over terms of the same classes
 abbrev pub IsLike : Atom → Kind

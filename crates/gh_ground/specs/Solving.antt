@@ -24,6 +24,10 @@ abbrev pub IsNoDeletion : LogLine → Type 0
 IsNoDeletion (line.Delete positions) = ⊥
 IsNoDeletion _ = ⊤
 
+-- a line of version 2 that deletes no others
+abbrev pub IsPlain : LogLine → Type 0
+IsPlain l = IsOfVersion 2 l × IsNoDeletion l
+
 -- the positions that a line has as hints
 abbrev pub hints_of : LogLine → List ℕ
 hints_of (line.Hinted c hints) = hints

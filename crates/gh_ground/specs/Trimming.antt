@@ -1,8 +1,9 @@
 -- Sections without the lines that nothing later needs.
-use Rattle.std.specs.Prelude.{◌≡◌, ◌⊎◌, ◌+◌, ◌-◌, ◌<◌, ◌≤◌, ⊤, ℕ, List, Bool, true, Some, All, Contains, length, map, slice_get, slice_index}
+use Rattle.std.specs.Prelude.{◌≡◌, ◌⊎◌, ◌+◌, ◌-◌, ◌<◌, ◌≤◌, ◌++◌, ◌∷◌, [], ⊤, ℕ, List, Bool, true, Some, All, Contains, length, map, slice_get, slice_index}
 use Rattle.gh_log.specs.Lines.{LogLine}
 use Rattle.gh_log.specs.Lines as line
 use Rattle.gh_ground.specs.Solving.{hints_of}
+use Rattle.gh_ground.specs.declared.trim.Trimmed.{Trimmed}
 
 abbrev pub IsKeptAt : List Bool → ℕ → Type 0
 IsKeptAt kept k = slice_get kept k ≡ Some true
@@ -10,6 +11,10 @@ IsKeptAt kept k = slice_get kept k ≡ Some true
 -- the earlier lines at some positions are kept
 abbrev pub AreKeptBefore : List Bool → ℕ → List ℕ → Type 0
 AreKeptBefore kept place positions = All (λ h. (k : ℕ) → h ≡ k + 1 → k < place → IsKeptAt kept k) positions
+
+-- the earlier lines at a line's hints are kept
+abbrev pub AreHintsKept : List Bool → ℕ → LogLine → Type 0
+AreHintsKept kept place l = AreKeptBefore kept place (hints_of l)
 
 -- the only lines that are newly kept are earlier ones at some positions
 abbrev pub KeepsOnly : List Bool → List Bool → ℕ → List ℕ → Type 0
@@ -37,3 +42,15 @@ IsMoved positions (line.Hinted c hints) new =
     new ≡ line.Hinted c (map (λ h. slice_index positions (h - 1)) hints)
 IsMoved positions (line.Delete deleted) new = ⊤
 IsMoved positions old new = new ≡ old
+
+-- a line was added, with its hints moved
+abbrev pub AddsMoved : List ℕ → LogLine → List LogLine → List LogLine → Type 0
+AddsMoved positions old before after = (l : LogLine) × IsMoved positions old l × (after ≡ before ++ l ∷ [])
+
+-- a line was kept, with its hints moved by the positions so far
+abbrev pub TakesLine : Trimmed → LogLine → Trimmed → Type 0
+TakesLine old l new = AddsMoved old.positions.items l old.lines new.lines
+
+-- a new position was noted
+abbrev pub AddsPosition : Trimmed → ℕ → Trimmed → Type 0
+AddsPosition old n new = new.positions.items ≡ old.positions.items ++ n ∷ []

@@ -1,13 +1,12 @@
 //! The least terms of the classes that asserted equalities make.
 
-ghost use Rattle.std.specs.Prelude.{◌≡◌, ◌∷◌, ◌++◌, ◌<◌, [], ℕ, List, IfOk, length, map};
-ghost use Rattle.gh_base.specs.declared.atom.Lit.{Lit};
+ghost use Rattle.std.specs.Prelude.{◌≡◌, ◌<◌, [], IfOk, length, map};
 ghost use Rattle.gh_base.specs.declared.sizes.Sizes.{Sizes};
 ghost use Rattle.gh_base.specs.Atoms.{IsInRange, AreInRange};
 ghost use Rattle.gh_cc.specs.Asserted.{equality};
 ghost use Rattle.gh_cc.specs.Partitions.{moved};
 ghost use Rattle.gh_sat.specs.Theory.{lits_of};
-ghost use Rattle.gh_ground.specs.Making.{AreClassesOf};
+ghost use Rattle.gh_ground.specs.Making.{AreClassesOf, TakesIn};
 
 use gh_base::atom::{Atom, Lit, Term};
 use gh_base::sizes::Sizes;
@@ -45,7 +44,7 @@ fn alone(alloc: Global, terms: u8) -> Result<Vec<Term>, AllocError>
 fn join(classes: &mut Vec<Term>, a: Term, b: Term)
     requires first { a.0 < length classes.old.items }
     requires second { b.0 < length classes.old.items }
-    ensures { (terms : ℕ) (lits : List Lit) → AreClassesOf terms lits classes.old.items → AreClassesOf terms (lits ++ equality a b ∷ []) classes.new.items }
+    ensures { TakesIn (equality a b) classes.old.items classes.new.items }
 {
     let first = classes[a.0 as usize];
     let second = classes[b.0 as usize];
@@ -59,7 +58,7 @@ fn join(classes: &mut Vec<Term>, a: Term, b: Term)
 // Takes a literal in, if it is an equality that is asserted.
 fn take_in(classes: &mut Vec<Term>, lit: Lit)
     requires { (s : Sizes) × (s.terms ≡ length classes.old.items) × IsInRange s lit.atom }
-    ensures { (terms : ℕ) (lits : List Lit) → AreClassesOf terms lits classes.old.items → AreClassesOf terms (lits ++ lit ∷ []) classes.new.items }
+    ensures { TakesIn lit classes.old.items classes.new.items }
 {
     if !lit.positive {
         return;

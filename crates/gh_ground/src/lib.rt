@@ -4,6 +4,7 @@
 mod classes;
 pub mod congruence;
 pub mod laws;
+mod proposal;
 pub mod solve;
 mod solver;
 mod structures;

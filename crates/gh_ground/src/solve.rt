@@ -4,12 +4,15 @@ ghost use Rattle.std.specs.Prelude.{◌≤◌, IfOk, OnOk};
 ghost use Rattle.gh_base.specs.Atoms.{count_of};
 ghost use Rattle.gh_ground.specs.Solving.{IsAnswer};
 
+use crate::proposal::refutes;
 use crate::solver::Solver;
 use crate::trim::trim;
+use gh_base::atom::Lit;
 use gh_base::ground::Ground;
 use gh_base::structure::Structure;
 use gh_inst::collecting::false_instances;
 use gh_log::lines::Section;
+use gh_seek::seek::{Found, seek};
 use std::alloc::{AllocError, Global};
 
 /// A structure that makes all clauses and all axiom instances true, or a section that refutes them.
@@ -19,13 +22,15 @@ pub enum Answer {
     Refutation(Section),
 }
 
-/// Decides ground clauses together with all axiom instances, which are added where a structure makes them false. More
-/// atoms than 1,431,655,764, and more than 4,294,967,293 clauses with those that are learnt, are as want of memory.
-pub fn solve(alloc: Global, ground: &Ground) -> Result<Answer, AllocError>
+// With more atoms nothing is decided, as for want of memory.
+const MOST_ATOMS: usize = 1431655764;
+
+// Decides by a search that tries the literals' truths first, and adds instances where a structure makes them false.
+fn search_from(alloc: Global, ground: &Ground, truths: &[Lit]) -> Result<Answer, AllocError>
     ensures answer { IfOk result (λ answer. IsAnswer ground.now answer) }
     ensures few { OnOk result (count_of ground.now.sizes ≤ 1431655764) }
 {
-    let mut solver = Solver::new(alloc, ground)?;
+    let mut solver = Solver::new(alloc, ground, truths)?;
     loop {
         if let Some(conflict) = solver.conflict(alloc)? {
             let section = solver.into_section(alloc, conflict)?;
@@ -37,5 +42,29 @@ pub fn solve(alloc: Global, ground: &Ground) -> Result<Answer, AllocError>
             return Ok(Answer::Model(structure));
         }
         solver.add_instances(alloc, names.as_slice())?;
+    }
+}
+
+/// Decides ground clauses together with all axiom instances. A search whose answers are checked (`gh_seek`) is asked
+/// first: a section that it finds is the answer where it refutes them, without the lines that nothing needs, and truths
+/// that it finds are tried first in this crate's own search, which decides where nothing is found that holds.
+///
+/// More atoms than 1,431,655,764, and more than 4,294,967,293 clauses with those that are learnt, are as want of memory.
+pub fn solve(alloc: Global, ground: &Ground) -> Result<Answer, AllocError>
+    ensures answer { IfOk result (λ answer. IsAnswer ground.now answer) }
+    ensures few { OnOk result (count_of ground.now.sizes ≤ 1431655764) }
+{
+    if ground.sizes().count() > MOST_ATOMS {
+        return Err(AllocError);
+    }
+    match seek(alloc, ground)? {
+        Found::Refutation(section) => {
+            if refutes(alloc, ground, &section)? {
+                return Ok(Answer::Refutation(trim(alloc, &section)?));
+            }
+            Ok(search_from(alloc, ground, &[])?)
+        }
+        Found::Truths(truths) => Ok(search_from(alloc, ground, truths.as_slice())?),
+        Found::Nothing => Ok(search_from(alloc, ground, &[])?),
     }
 }

@@ -3,22 +3,21 @@
 ghost use Rattle.std.specs.Prelude.{◌≡◌, ◌<◌, ◌≤◌, ◌+◌, All, Contains, IfOk, OnOk, IfSome, IfNone, Some, None, [], length, map, slice_get};
 ghost use Rattle.gh_base.specs.Atoms.{count_of};
 ghost use Rattle.gh_base.specs.Grounds.{Problem};
-ghost use Rattle.gh_base.specs.Meaning.{IsClauseTrue, IsCongruence, IsEqualityClause};
+ghost use Rattle.gh_base.specs.Meaning.{IsClauseTrue, IsCongruence};
 ghost use Rattle.gh_base.specs.Structures.{interpretation_of};
 ghost use Rattle.gh_inst.specs.Instances.{IsInstance};
 ghost use Rattle.gh_log.specs.Lines.{Axiom};
 ghost use Rattle.gh_log.specs.Sections.{line_clause, AreOfKind};
 ghost use Rattle.gh_log.specs.Spelled.{IsOfVersion};
-ghost use Rattle.gh_ground.specs.Kept.{HasLineEach, Keeps, IsAnswered, IsOpen, IsRefuted, IsEnded};
+ghost use Rattle.gh_ground.specs.Kept.{HasLineEach, Keeps, Propagates, HasLessLeft, IsAnswered, IsOpen, IsRefuted, IsEnded};
 ghost use Rattle.gh_ground.specs.Solving.{RefutesProblem};
 ghost use Rattle.gh_sat.specs.Learn.{IsConflict};
-ghost use Rattle.gh_sat.specs.Measure.{left};
-ghost use Rattle.gh_sat.specs.Theory.{PropagatesBeside};
 ghost use Rattle.gh_sat.specs.Trail.{IsSound};
 ghost use Rattle.gh_sat.specs.Whole.{GivesLast};
 
 use crate::congruence::Congruence;
 use crate::structures::structure_of;
+use gh_base::atom::Lit;
 use gh_base::clause::Clause;
 use gh_base::ground::Ground;
 use gh_base::structure::Structure;
@@ -94,13 +93,13 @@ fn cut_level(present: u32, level: u32, stride: u32) -> u32
 }
 
 impl Solver {
-    /// Nothing is decided yet.
-    pub(crate) fn new(alloc: Global, ground: &Ground) -> Result<Solver, AllocError>
+    /// Nothing is decided yet. The literals' truths are tried first.
+    pub(crate) fn new(alloc: Global, ground: &Ground, truths: &[Lit]) -> Result<Solver, AllocError>
         ensures lines { IfOk result (λ s. HasLineEach ground.now s.search s.lines) }
         ensures few { OnOk result (count_of ground.now.sizes ≤ 1431655764) }
     {
         let sizes = ground.sizes();
-        let theory = Congruence::new(alloc, sizes.terms, sizes.versions, sizes.defs)?;
+        let theory = Congruence::new(alloc, sizes, truths)?;
         let search = Search::new(alloc, ground, theory)?;
         let lines = ground_lines(alloc, ground)?;
         Ok(Solver {
@@ -112,7 +111,7 @@ impl Solver {
 
     // Propagates, and notes the lemma of a conflict of equality and congruence.
     fn propagate(&mut self, alloc: Global) -> Result<Option<u32>, AllocError>
-        ensures moves { IfOk result (λ o. PropagatesBeside (IsEqualityClause self.old.search.sizes) self.old.search self.new.search o) }
+        ensures moves { IfOk result (Propagates self.old.search self.new.search) }
         ensures last { OnOk result (GivesLast self.old.search self.new.search.trail) }
         ensures answered { IfOk result (λ o. IsAnswered self.new.search o) }
         ensures keeps { OnOk result (Keeps self.old.search self.old.lines self.new.search self.new.lines) }
@@ -131,7 +130,7 @@ impl Solver {
     // Decides an atom of a clause that has no truth, if there is one, and propagates.
     fn decide(&mut self, alloc: Global) -> Result<Option<Option<u32>>, AllocError>
         requires { IsAnswered self.old.search None }
-        ensures less { IfOk result (λ o. IfSome o (λ _. left self.new.search.sizes self.new.search.trail < left self.old.search.sizes self.old.search.trail)) }
+        ensures less { IfOk result (λ o. IfSome o (λ _. HasLessLeft self.old.search self.new.search)) }
         ensures answered { IfOk result (λ o. IfSome o (IsAnswered self.new.search)) }
         ensures open { IfOk result (λ o. IfNone o (IsOpen self.new.search)) }
         ensures keeps { OnOk result (Keeps self.old.search self.old.lines self.new.search self.new.lines) }
@@ -151,7 +150,7 @@ impl Solver {
         requires sound { IsSound self.old.search }
         requires conflict { IsConflict self.old.search conflict }
         requires level { 0 < length self.old.search.starts }
-        ensures less { OnOk result (left self.new.search.sizes self.new.search.trail < left self.old.search.sizes self.old.search.trail) }
+        ensures less { OnOk result (HasLessLeft self.old.search self.new.search) }
         ensures answered { IfOk result (IsAnswered self.new.search) }
         ensures keeps { OnOk result (Keeps self.old.search self.old.lines self.new.search self.new.lines) }
     {
@@ -176,7 +175,7 @@ impl Solver {
         answer: Option<u32>,
     ) -> Result<Option<Option<u32>>, AllocError>
         requires { IsAnswered self.old.search answer }
-        ensures less { IfOk result (λ o. IfSome o (λ _. left self.new.search.sizes self.new.search.trail < left self.old.search.sizes self.old.search.trail)) }
+        ensures less { IfOk result (λ o. IfSome o (λ _. HasLessLeft self.old.search self.new.search)) }
         ensures answered { IfOk result (λ o. IfSome o (IsAnswered self.new.search)) }
         ensures ended { IfOk result (λ o. IfNone o (IsEnded self.new.search answer)) }
         ensures keeps { OnOk result (Keeps self.old.search self.old.lines self.new.search self.new.lines) }

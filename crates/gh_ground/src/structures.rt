@@ -8,7 +8,7 @@ ghost use Rattle.gh_base.specs.Structures.{interpretation_of};
 ghost use Rattle.gh_cc.specs.Kept.{IsRelation};
 ghost use Rattle.gh_cc.specs.Partials.{IsStructureOf};
 ghost use Rattle.gh_sat.specs.Theory.{lits_of};
-ghost use Rattle.gh_ground.specs.Making.{AreGiven, Gives, IsAtom, IsOver, IsLike, KeepsClasses};
+ghost use Rattle.gh_ground.specs.Making.{AreGiven, Gives, IsAtom, IsOver, IsThird, IsSecond, IsFirst, IsLike, KeepsClasses};
 
 use crate::classes::classes_of;
 use gh_base::atom::{Atom, Lit, Term};
@@ -70,7 +70,7 @@ fn give_hop(structure: &mut Structure, version: u8, x: Term, v: Term)
 // Makes the atoms true whose third term is of a class.
 fn give_third(structure: &mut Structure, version: u8, x: Term, y: Term, z: Term)
     requires range { IsInRange structure.old.sizes (Btwn version x y z) }
-    ensures { Gives (IsOver z (λ t. IsAtom (Btwn version x y t))) structure.old structure.new }
+    ensures { Gives (IsThird version x y z) structure.old structure.new }
 {
     let class = structure.class(z).0;
     for other in 0..structure.terms() {
@@ -84,7 +84,7 @@ fn give_third(structure: &mut Structure, version: u8, x: Term, y: Term, z: Term)
 // Makes the atoms true whose second and third terms are of two classes.
 fn give_second(structure: &mut Structure, version: u8, x: Term, y: Term, z: Term)
     requires range { IsInRange structure.old.sizes (Btwn version x y z) }
-    ensures { Gives (IsOver y (λ t. IsOver z (λ u. IsAtom (Btwn version x t u)))) structure.old structure.new }
+    ensures { Gives (IsSecond version x y z) structure.old structure.new }
 {
     let class = structure.class(y).0;
     for other in 0..structure.terms() {
@@ -97,7 +97,7 @@ fn give_second(structure: &mut Structure, version: u8, x: Term, y: Term, z: Term
 // Makes the atoms true over the terms of three classes.
 fn give_btwn(structure: &mut Structure, version: u8, x: Term, y: Term, z: Term)
     requires range { IsInRange structure.old.sizes (Btwn version x y z) }
-    ensures { Gives (IsOver x (λ t. IsOver y (λ u. IsOver z (λ w. IsAtom (Btwn version t u w))))) structure.old structure.new }
+    ensures { Gives (IsFirst version x y z) structure.old structure.new }
 {
     let class = structure.class(x).0;
     for other in 0..structure.terms() {

@@ -1,11 +1,10 @@
 //! Sections without the lines that nothing later needs.
 
-ghost use Rattle.std.specs.Prelude.{◌≡◌, ◌⊎◌, ◌+◌, ◌-◌, ◌<◌, ◌≤◌, ◌++◌, ◌∷◌, [], ℕ, IfOk, OnOk, length, map, slice_get, slice_index};
+ghost use Rattle.std.specs.Prelude.{◌≡◌, ◌⊎◌, ◌+◌, ◌-◌, ◌<◌, ◌≤◌, ◌∷◌, [], ℕ, IfOk, OnOk, length, map, slice_get, slice_index};
 ghost use Rattle.gh_base.specs.Grounds.{Problem};
-ghost use Rattle.gh_log.specs.Lines.{LogLine as Line};
 ghost use Rattle.gh_log.specs.Tables.{line_of};
 ghost use Rattle.gh_ground.specs.Solving.{hints_of, RefutesProblem, IsRefutationOf};
-ghost use Rattle.gh_ground.specs.Trimming.{IsKeptAt, AreKeptBefore, KeepsOnly, AreNeeded, IsMoved};
+ghost use Rattle.gh_ground.specs.Trimming.{IsKeptAt, AreKeptBefore, AreHintsKept, KeepsOnly, AreNeeded, AddsMoved, TakesLine, AddsPosition};
 
 use gh_log::lines::{Lines, LogLine, Section};
 use std::alloc::{AllocError, Global};
@@ -49,7 +48,7 @@ fn keep_hints(kept: &mut Vec<bool>, line: LogLine<'_>, place: usize)
     ensures long { length kept.new.items ≡ length kept.old.items }
     ensures keeps { (k : ℕ) → IsKeptAt kept.old.items k → IsKeptAt kept.new.items k }
     ensures later { (k : ℕ) → place ≤ k → slice_get kept.new.items k ≡ slice_get kept.old.items k }
-    ensures hints { IsKeptAt kept.old.items place → AreKeptBefore kept.new.items place (hints_of (line_of line.entry)) }
+    ensures hints { IsKeptAt kept.old.items place → AreHintsKept kept.new.items place (line_of line.entry) }
     ensures only { KeepsOnly kept.old.items kept.new.items place (hints_of (line_of line.entry)) }
     ensures needed { IsKeptAt kept.old.items place ⊎ (kept.new.items ≡ kept.old.items) }
 {
@@ -118,7 +117,7 @@ fn push_moved(
     line: LogLine<'_>,
     positions: &[u32],
 ) -> Result<(), AllocError>
-    ensures { OnOk result ((l : Line) × IsMoved positions.now (line_of line.entry) l × (lines.new ≡ lines.old ++ l ∷ [])) }
+    ensures { OnOk result (AddsMoved positions.now (line_of line.entry) lines.old lines.new) }
 {
     match line {
         LogLine::Hinted { clause, hints } => {
@@ -155,7 +154,7 @@ impl Trimmed {
     fn pass(&mut self) -> Result<(), AllocError>
         requires { length self.old.lines ≤ 4294967295 }
         ensures lines { self.new.lines ≡ self.old.lines }
-        ensures positions { OnOk result (self.new.positions.items ≡ self.old.positions.items ++ length self.old.lines ∷ []) }
+        ensures positions { OnOk result (AddsPosition self.old (length self.old.lines) self.new) }
     {
         self.positions.push(self.lines.len() as u32)?;
         Ok(())
@@ -164,8 +163,8 @@ impl Trimmed {
     // Keeps a line.
     fn take(&mut self, line: LogLine<'_>) -> Result<(), AllocError>
         requires { length self.old.lines < 4294967295 }
-        ensures line { OnOk result ((l : Line) × IsMoved self.old.positions.items (line_of line.entry) l × (self.new.lines ≡ self.old.lines ++ l ∷ [])) }
-        ensures positions { OnOk result (self.new.positions.items ≡ self.old.positions.items ++ (length self.old.lines + 1) ∷ []) }
+        ensures line { OnOk result (TakesLine self.old (line_of line.entry) self.new) }
+        ensures positions { OnOk result (AddsPosition self.old (length self.old.lines + 1) self.new) }
     {
         push_moved(
             &mut self.lines,

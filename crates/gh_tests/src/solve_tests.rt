@@ -14,6 +14,7 @@ use gh_check::check::check_log;
 use gh_ground::solve::{Answer, solve};
 use gh_inst::violation::violated;
 use gh_log::lines::{LogLine, Section};
+use gh_seek::seek::{Found, seek};
 use std::alloc::{AllocError, Global};
 use std::test::Fail;
 
@@ -287,6 +288,32 @@ fn chain(alloc: Global, last: u8) -> Result<Ground, AllocError>
         push(&mut ground, Clause::from_lits(alloc, &reached)?)?;
     }
     Ok(ground)
+}
+
+// Whether a section was found that the checker takes.
+fn is_section(alloc: Global, ground: &Ground, found: Found) -> bool {
+    match found {
+        Found::Refutation(section) => {
+            section.first == 1
+                && section.lines.len() < 1000
+                && check_log(alloc, ground, &section).is_ok()
+        }
+        Found::Truths(_) => false,
+        Found::Nothing => false,
+    }
+}
+
+// The search that is asked first finds truths for a chain, and a section where its end isn't reached.
+#[test]
+fn what_is_found_first(rt: HostRuntime) -> Result<(), Fail> {
+    let mut ground = chain(rt.alloc(), 5)?;
+    let found = seek(rt.alloc(), &ground)?;
+    assert!(rt; matches!(found, Found::Truths(_)));
+    let unreached = [between(0, 5, 5, false)];
+    push(&mut ground, Clause::from_lits(rt.alloc(), &unreached)?)?;
+    let found = seek(rt.alloc(), &ground)?;
+    assert!(rt; is_section(rt.alloc(), &ground, found));
+    Ok(())
 }
 
 // The last one is reached by the first.

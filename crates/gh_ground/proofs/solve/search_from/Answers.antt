@@ -3,7 +3,7 @@ use Rattle.gh_base.specs.Structures.{interpretation_of}
 use Rattle.gh_log.specs.Lines as line
 use Rattle.gh_ground.proofs.KeptLemmas.{ended_open, ended_refuted}
 use Rattle.gh_ground.proofs.MissingLemmas.{round_less, none_there, some_there, are_instances, model_is}
-use Rattle.gh_ground.proofs.solve.solve.Goals as goal
+use Rattle.gh_ground.proofs.solve.search_from.Goals as goal
 
 pub structure-requires-clause-open : goal.structure-requires-clause-open
 structure-requires-clause-open c = ended_open c.conflict.new.self.search _ c.in_ok-conflict.ensures.ended c.in_default.not-Some

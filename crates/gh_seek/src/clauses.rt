@@ -1,0 +1,121 @@
+//! The clauses of a search in one table, with where each comes from.
+
+use crate::shape::Code;
+use crate::table::{at, put, small};
+use gh_inst::naming::InstanceName;
+use std::alloc::{AllocError, Global};
+
+/// Where a clause comes from.
+#[derive(Clone, Copy, Debug)]
+pub(crate) enum Origin {
+    Ground,
+    Instance(InstanceName),
+    Lemma,
+    /// Unit propagation along these hints, of the table of hints, shows it.
+    Learnt { from: u32, to: u32 },
+}
+
+#[derive(Clone, Copy, Debug)]
+struct Head {
+    start: u32,
+    length: u32,
+    origin: Origin,
+}
+
+/// Clauses, numbered from 0, and the hints of those that were learnt.
+#[derive(Debug, Drop)]
+pub(crate) struct Clauses {
+    heads: Vec<Head>,
+    codes: Vec<Code>,
+    hints: Vec<u32>,
+}
+
+impl Clauses {
+    pub fn new(alloc: Global) -> Clauses {
+        Clauses {
+            heads: Vec::new(alloc),
+            codes: Vec::new(alloc),
+            hints: Vec::new(alloc),
+        }
+    }
+
+    pub fn count(&self) -> usize {
+        self.heads.len()
+    }
+
+    /// Adds a clause last, and answers its number.
+    pub fn push(&mut self, codes: &[Code], origin: Origin) -> Result<u32, AllocError> {
+        let number = small(self.heads.len());
+        let start = small(self.codes.len());
+        self.codes.extend_from_slice(codes)?;
+        self.heads.push(Head {
+            start,
+            length: small(codes.len()),
+            origin,
+        })?;
+        Ok(number)
+    }
+
+    /// Adds a clause that unit propagation along hints shows, numbers of clauses in their order.
+    pub fn learn(&mut self, codes: &[Code], hints: &[u32]) -> Result<u32, AllocError> {
+        let from = small(self.hints.len());
+        self.hints.extend_from_slice(hints)?;
+        let to = small(self.hints.len());
+        self.push(codes, Origin::Learnt { from, to })
+    }
+
+    /// Where a clause comes from, if it is there.
+    pub fn origin(&self, number: u32) -> Option<Origin> {
+        match self.heads.get(number as usize) {
+            Some(head) => Some(head.origin),
+            None => None,
+        }
+    }
+
+    /// The hints from one place to another.
+    pub fn hints(&self, from: u32, to: u32) -> &[u32] {
+        let (from, to) = (from as usize, to as usize);
+        if from <= to && to <= self.hints.len() {
+            return &self.hints.as_slice()[from..to];
+        }
+        &[]
+    }
+
+    /// How many literals a clause has.
+    pub fn len(&self, number: u32) -> usize {
+        match self.heads.get(number as usize) {
+            Some(head) => head.length as usize,
+            None => 0,
+        }
+    }
+
+    /// Where a clause's literals begin in the table.
+    pub fn start(&self, number: u32) -> usize {
+        match self.heads.get(number as usize) {
+            Some(head) => head.start as usize,
+            None => 0,
+        }
+    }
+
+    /// The literals of a clause.
+    pub fn codes(&self, number: u32) -> &[Code] {
+        let start = self.start(number);
+        let end = start.wrapping_add(self.len(number));
+        if start <= end && end <= self.codes.len() {
+            return &self.codes.as_slice()[start..end];
+        }
+        &[]
+    }
+
+    /// The literal at a place of the table.
+    pub fn code_at(&self, place: usize) -> Code {
+        at(self.codes.as_slice(), place, Code(u32::MAX))
+    }
+
+    /// Changes the places of two literals.
+    pub fn swap(&mut self, one: usize, other: usize) {
+        let (first, second) = (self.code_at(one), self.code_at(other));
+        put(self.codes.as_mut_slice(), one, second);
+        put(self.codes.as_mut_slice(), other, first);
+    }
+}

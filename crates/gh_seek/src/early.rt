@@ -1,0 +1,311 @@
+//! Instances of axiom rows that the trail makes unit or false, over least terms of classes.
+
+use crate::clauses::Origin;
+use crate::rows::{Plan, Plans, Row};
+use crate::shape::{Code, Kind, Parts};
+use crate::state::{State, distinct, has};
+use crate::table::{at, bit, byte, put};
+use std::alloc::{AllocError, Global};
+
+/// The least term of each term's class, and the word of the terms that are least.
+#[derive(Debug, Drop)]
+pub(crate) struct Least {
+    terms: Vec<u8>,
+    pub mask: u32,
+}
+
+impl Least {
+    /// Each term alone.
+    pub fn new(alloc: Global, terms: usize) -> Result<Least, AllocError> {
+        let mut least = Least {
+            terms: Vec::new(alloc),
+            mask: 0,
+        };
+        for term in 0..terms {
+            least.terms.push(byte(term))?;
+            least.mask |= bit(byte(term));
+        }
+        Ok(least)
+    }
+
+    /// The least term of a term's class.
+    pub fn of(&self, term: u8) -> u8 {
+        at(self.terms.as_slice(), term as usize, term)
+    }
+
+    /// Finds the least terms anew. Answers the word of those terms whose least one is less than it was.
+    pub fn find(&mut self, state: &State) -> u32 {
+        let mut by_leader = [255; 32];
+        let mut lessened = 0;
+        self.mask = 0;
+        for index in 0..self.terms.len() {
+            let term = byte(index);
+            let leader = state.classes.leader(term);
+            let mut least = at(by_leader.as_slice(), leader as usize, term);
+            if least == 255 {
+                least = term;
+                put(by_leader.as_mut_slice(), leader as usize, term);
+                self.mask |= bit(term);
+            }
+            if least < self.of(term) {
+                lessened |= bit(term);
+            }
+            self.terms[index] = least;
+        }
+        lessened
+    }
+
+    /// An atom over the least terms.
+    pub fn over(&self, parts: Parts) -> Parts {
+        let [x, y, z] = parts.terms;
+        let arity = parts.kind.arity();
+        let term = |place: usize, term: u8| if place < arity { self.of(term) } else { 0 };
+        Parts {
+            kind: parts.kind,
+            version: parts.version,
+            terms: [term(0, x), term(1, y), term(2, z)],
+        }
+    }
+}
+
+/// Adds the instances that the trail makes unit or false, up to a false one, and answers its number.
+pub(crate) fn add_early(
+    state: &mut State,
+    plans: &Plans,
+    least: &mut Least,
+) -> Result<Option<u32>, AllocError> {
+    let lessened = least.find(state);
+    for term in 0..state.shape.terms {
+        if lessened & bit(byte(term)) != 0 {
+            carry_anew(state, least, byte(term))?;
+        }
+    }
+    for _ in 0..u32::MAX {
+        if state.early >= state.trail.steps.len() {
+            break;
+        }
+        let code = state.trail.step(state.early);
+        if let Some(conflict) = add_for(state, plans, least, code)? {
+            return Ok(Some(conflict));
+        }
+        state.early = state.early.wrapping_add(1);
+    }
+    Ok(None)
+}
+
+// Carries the literals that mention a term whose least one is less than it was.
+fn carry_anew(state: &mut State, least: &Least, term: u8) -> Result<(), AllocError> {
+    let count = state.classes.mentions(term).len();
+    for index in 0..count {
+        let place = at(state.classes.mentions(term), index, u32::MAX) as usize;
+        if place < state.early {
+            let code = state.trail.step(place);
+            carry(state, least, code)?;
+        }
+    }
+    Ok(())
+}
+
+// Gives the atom over least terms the truth of a literal's atom, by a lemma. Where it has the other truth, the classes
+// find the clash.
+fn carry(state: &mut State, least: &Least, code: Code) -> Result<(), AllocError> {
+    let parts = state.shape.parts(code.atom());
+    if parts.kind == Kind::Def || parts.kind == Kind::Eq {
+        return Ok(());
+    }
+    let over = least.over(parts);
+    let carried = Code::new(state.shape.number(over), code.is_positive());
+    if carried.0 == code.0 || !state.trail.is_open(carried) {
+        return Ok(());
+    }
+    let mut codes = Vec::new(state.alloc);
+    codes.push(carried)?;
+    codes.push(code.negated())?;
+    state
+        .classes
+        .explain(&state.shape, parts, over, &mut codes)?;
+    let lemma = distinct(state.alloc, codes.as_slice())?;
+    let _added = state.add(lemma.as_slice(), Origin::Lemma)?;
+    Ok(())
+}
+
+// Adds the instances that a literal of the trail makes unit or false.
+fn add_for(
+    state: &mut State,
+    plans: &Plans,
+    least: &Least,
+    code: Code,
+) -> Result<Option<u32>, AllocError> {
+    let parts = state.shape.parts(code.atom());
+    match parts.kind {
+        Kind::Def => Ok(None),
+        Kind::Eq => {
+            let over = least.over(parts);
+            let known = state
+                .trail
+                .is_open(Code::new(state.shape.number(over), false));
+            if code.is_positive() || known {
+                return Ok(None);
+            }
+            let [x, y, z] = over.terms;
+            let turned = Parts {
+                kind: Kind::Eq,
+                version: 0,
+                terms: [y, x, z],
+            };
+            if let Some(conflict) = add_in_window(state, plans, least, over)? {
+                return Ok(Some(conflict));
+            }
+            add_in_window(state, plans, least, turned)
+        }
+        _ => {
+            carry(state, least, code)?;
+            let over = least.over(parts);
+            let (low, high) = state.order.window();
+            let is_least = state.shape.number(over) == code.atom();
+            if !is_least || parts.version < low || parts.version > high {
+                return Ok(None);
+            }
+            add_at(state, plans, least, parts, code.is_positive())
+        }
+    }
+}
+
+// Adds the instances that a negated equality makes unit or false, in each version of the window.
+fn add_in_window(
+    state: &mut State,
+    plans: &Plans,
+    least: &Least,
+    parts: Parts,
+) -> Result<Option<u32>, AllocError> {
+    let (low, high) = state.order.window();
+    let end = (high as usize).wrapping_add(1).min(state.shape.versions);
+    for version in (low as usize)..end {
+        let mut here = parts;
+        here.version = byte(version);
+        if let Some(conflict) = add_at(state, plans, least, here, false)? {
+            return Ok(Some(conflict));
+        }
+    }
+    Ok(None)
+}
+
+// Adds the instances that an atom's truth makes unit or false in its version.
+fn add_at(
+    state: &mut State,
+    plans: &Plans,
+    least: &Least,
+    parts: Parts,
+    positive: bool,
+) -> Result<Option<u32>, AllocError> {
+    for plan in plans.of(parts.kind, positive) {
+        let Some(row) = plans.rows.get(plan.row) else {
+            continue;
+        };
+        let Some(tuple) = plan.tuple(parts.terms) else {
+            continue;
+        };
+        if let Some(conflict) = add_planned(state, row, plan, least.mask, parts.version, tuple)? {
+            return Ok(Some(conflict));
+        }
+    }
+    Ok(None)
+}
+
+// The terms for a plan's free variable over which at most one literal isn't false and none is true.
+fn unit_terms(state: &State, plan: &Plan, mask: u32, version: u8, tuple: &[u8; 4]) -> u32 {
+    let (mut open, mut all_false, mut one_left) = (mask, u32::MAX, 0);
+    for (reading, pattern) in plan.reads.as_slice() {
+        let (right, wrong) = if pattern.positive {
+            (&state.yes, &state.no)
+        } else {
+            (&state.no, &state.yes)
+        };
+        open &= !right.word(*reading, version, tuple);
+        let gone = wrong.word(*reading, version, tuple);
+        one_left = one_left & gone | all_false & !gone;
+        all_false &= gone;
+        if open & (one_left | all_false) == 0 {
+            return 0;
+        }
+    }
+    open & (one_left | all_false)
+}
+
+// Adds the instances of a plan's row that are unit or false.
+fn add_planned(
+    state: &mut State,
+    row: &Row,
+    plan: &Plan,
+    mask: u32,
+    version: u8,
+    bound: [u8; 4],
+) -> Result<Option<u32>, AllocError> {
+    let mut tuple = bound;
+    let Some(free) = plan.free else {
+        return add_instance(state, row, version, &tuple);
+    };
+    let mut found = unit_terms(state, plan, mask, version, &tuple);
+    for _ in 0..32 {
+        if found == 0 {
+            break;
+        }
+        tuple[(free & 3) as usize] = byte(found.trailing_zeros() as usize);
+        found &= found.wrapping_sub(1);
+        if let Some(conflict) = add_instance(state, row, version, &tuple)? {
+            return Ok(Some(conflict));
+        }
+    }
+    Ok(None)
+}
+
+// The literals of an instance, without repeats; none where it is true or has two open literals.
+fn instance_codes(
+    state: &State,
+    row: &Row,
+    version: u8,
+    tuple: &[u8; 4],
+) -> Result<Option<Vec<Code>>, AllocError> {
+    let mut codes: Vec<Code> = Vec::new(state.alloc);
+    let mut has_open = false;
+    for pattern in row.patterns.as_slice() {
+        let parts = pattern.parts(version, tuple);
+        let code = Code::new(state.shape.number(parts), pattern.positive);
+        let reflexive = parts.kind == Kind::Eq && parts.terms[0] == parts.terms[1];
+        if state.trail.is_true(code) || reflexive && pattern.positive {
+            return Ok(None);
+        }
+        if has(codes.as_slice(), code.negated()) {
+            return Ok(None);
+        }
+        if has(codes.as_slice(), code) {
+            continue;
+        }
+        let is_open = state.trail.is_open(code);
+        if is_open && has_open {
+            return Ok(None);
+        }
+        has_open = has_open || is_open;
+        codes.push(code)?;
+    }
+    Ok(Some(codes))
+}
+
+// Adds an instance, if it is unit or false. The number of a false one is answered.
+fn add_instance(
+    state: &mut State,
+    row: &Row,
+    version: u8,
+    tuple: &[u8; 4],
+) -> Result<Option<u32>, AllocError> {
+    let Some(codes) = instance_codes(state, row, version, tuple)? else {
+        return Ok(None);
+    };
+    let name = row.name(version, tuple);
+    let added = state.add(codes.as_slice(), Origin::Instance(name))?;
+    Ok(if added.is_false {
+        Some(added.number)
+    } else {
+        None
+    })
+}

@@ -1,0 +1,186 @@
+//! What is learnt from a conflict: the clause of the first unique implication point, with the hints that show it.
+
+use crate::shape::Code;
+use crate::state::State;
+use crate::table::{at, put};
+use crate::trail::NO_CLAUSE;
+use std::alloc::{AllocError, Global};
+
+/// Marks on atoms, and what a resolution has gathered.
+#[derive(Debug, Drop)]
+pub(crate) struct Lessons {
+    alloc: Global,
+    // By atom: the round in which it was marked.
+    stamps: Vec<u32>,
+    round: u32,
+    // How many marked literals of the present level wait.
+    waiting: u32,
+    // The marked literals of lower levels, and the hints for those of level 0.
+    lower: Vec<Code>,
+    units: Vec<u32>,
+    // So many literals of level 0 have clauses of their own.
+    settled: usize,
+}
+
+impl Lessons {
+    pub fn new(alloc: Global, atoms: usize) -> Result<Lessons, AllocError> {
+        Ok(Lessons {
+            alloc,
+            stamps: vec![in alloc; 0; atoms]?,
+            round: 0,
+            waiting: 0,
+            lower: Vec::new(alloc),
+            units: Vec::new(alloc),
+            settled: 0,
+        })
+    }
+
+    // Gives each literal of level 0 a clause of its own, in their order.
+    fn settle(&mut self, state: &mut State) -> Result<(), AllocError> {
+        let end = state.trail.start(1);
+        for place in self.settled..end {
+            let code = state.trail.step(place);
+            settle_one(self.alloc, state, code)?;
+        }
+        self.settled = end;
+        Ok(())
+    }
+
+    // Marks the atoms of a clause.
+    fn mark(&mut self, state: &mut State, number: u32) -> Result<(), AllocError> {
+        let level = state.trail.level();
+        for index in 0..state.clauses.len(number) {
+            let code = at(state.clauses.codes(number), index, Code(0));
+            let atom = code.atom();
+            if at(self.stamps.as_slice(), atom, self.round) == self.round {
+                continue;
+            }
+            put(self.stamps.as_mut_slice(), atom, self.round);
+            state.order.bump(&state.shape, atom);
+            let own = state.trail.level_of(atom);
+            if own == 0 {
+                self.units.push(state.trail.reason(atom))?;
+            } else if own == level {
+                self.waiting = self.waiting.saturating_add(1);
+            } else {
+                self.lower.push(code)?;
+            }
+        }
+        Ok(())
+    }
+
+    // Whether an atom is marked.
+    fn is_marked(&self, atom: usize) -> bool {
+        at(self.stamps.as_slice(), atom, 0) == self.round
+    }
+
+    /// Learns from a false clause with literals of the present level, which isn't 0, and answers the level to which to
+    /// cut: that of the clause that was learnt, which is added by [`Lessons::add`] after the cut.
+    pub fn resolve(&mut self, state: &mut State, conflict: u32) -> Result<Lesson, AllocError> {
+        self.settle(state)?;
+        self.round = self.round.wrapping_add(1);
+        self.waiting = 0;
+        self.lower.clear();
+        self.units.clear();
+        let mut reasons = Vec::new(self.alloc);
+        reasons.push(conflict)?;
+        self.mark(state, conflict)?;
+        let mut point = Code(0);
+        let length = state.trail.steps.len();
+        for back in 0..length {
+            point = state.trail.step(length - 1 - back);
+            if !self.is_marked(point.atom()) {
+                continue;
+            }
+            let reason = state.trail.reason(point.atom());
+            if self.waiting <= 1 || reason == NO_CLAUSE {
+                break;
+            }
+            self.waiting = self.waiting.wrapping_sub(1);
+            reasons.push(reason)?;
+            self.mark(state, reason)?;
+        }
+        state.order.end_conflict();
+        self.lesson(state, point, reasons)
+    }
+
+    // The lesson at an implication point, from the reasons in the order in which they were resolved.
+    fn lesson(
+        &mut self,
+        state: &State,
+        point: Code,
+        reasons: Vec<u32>,
+    ) -> Result<Lesson, AllocError> {
+        let mut level = 0;
+        for code in self.lower.as_slice() {
+            level = state.trail.level_of(code.atom()).max(level);
+        }
+        let mut codes = Vec::new(self.alloc);
+        codes.push(point.negated())?;
+        codes.extend_from_slice(self.lower.as_slice())?;
+        let mut hints = Vec::new(self.alloc);
+        hints.extend_from_slice(self.units.as_slice())?;
+        for reason in reasons.iter().rev() {
+            hints.push(*reason)?;
+        }
+        Ok(Lesson {
+            codes,
+            hints,
+            level,
+        })
+    }
+
+    // Marks the atoms of a clause whose literals all got their truths at level 0.
+    fn stamp(&mut self, state: &State, number: u32) {
+        for code in state.clauses.codes(number) {
+            put(self.stamps.as_mut_slice(), code.atom(), self.round);
+        }
+    }
+
+    /// The hints that show the empty clause, where a clause is false at level 0: the reasons of all that it is reached
+    /// from, and itself.
+    pub fn refutation(&mut self, state: &State, conflict: u32) -> Result<Vec<u32>, AllocError> {
+        self.round = self.round.wrapping_add(1);
+        self.stamp(state, conflict);
+        let mut reasons = Vec::new(self.alloc);
+        reasons.push(conflict)?;
+        let length = state.trail.steps.len();
+        for back in 0..length {
+            let code = state.trail.step(length - 1 - back);
+            if self.is_marked(code.atom()) {
+                let reason = state.trail.reason(code.atom());
+                reasons.push(reason)?;
+                self.stamp(state, reason);
+            }
+        }
+        reasons.reverse();
+        Ok(reasons)
+    }
+}
+
+/// A clause that was learnt, with its hints and the level at which it is unit.
+#[derive(Debug, Drop)]
+pub(crate) struct Lesson {
+    pub codes: Vec<Code>,
+    pub hints: Vec<u32>,
+    pub level: u32,
+}
+
+// Gives a literal of level 0 a clause of its own, shown by its reason and the clauses of that one's other literals.
+fn settle_one(alloc: Global, state: &mut State, code: Code) -> Result<(), AllocError> {
+    let reason = state.trail.reason(code.atom());
+    if state.clauses.len(reason) <= 1 {
+        return Ok(());
+    }
+    let mut hints = Vec::new(alloc);
+    for other in state.clauses.codes(reason) {
+        if other.0 != code.0 {
+            hints.push(state.trail.reason(other.atom()))?;
+        }
+    }
+    hints.push(reason)?;
+    let number = state.clauses.learn(&[code], hints.as_slice())?;
+    let _added = state.attach(number)?;
+    state.trail.set_reason(code.atom(), number);
+    Ok(())
+}

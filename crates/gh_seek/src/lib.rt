@@ -1,0 +1,26 @@
+//! A search for what decides ground clauses. Nothing is promised of what it finds: whoever uses it checks that, so no
+//! function here has a contract beyond being safe, and all that a fault could cost is time.
+//!
+//! It is clause learning with two watched literals beside equality and congruence. Instances of the axiom rows are
+//! added as soon as the trail makes them unit or false, over least terms of classes alone. Where that takes long,
+//! lemmas are looked for first, version by version: which terms stand on which segments in one version just as in the
+//! one before.
+#![tactic(auto)]
+
+mod classes;
+mod clauses;
+mod early;
+mod lemmas;
+mod lesson;
+mod order;
+mod rows;
+mod search;
+mod section;
+pub mod seek;
+mod shape;
+mod state;
+mod structure;
+mod table;
+mod trail;
+mod watching;
+mod words;

@@ -1,0 +1,243 @@
+//! The axiom rows as patterns, and how a row is read when one of its literals becomes false.
+
+use crate::shape::{Kind, Parts};
+use crate::table::{at, byte};
+use crate::words::Reading;
+use gh_base::atom::{Atom, Lit, Term};
+use gh_inst::naming::{InstanceName, instance};
+use std::alloc::{AllocError, Global};
+
+/// A literal of a row: the places have numbers of the row's variables.
+#[derive(Clone, Copy, Debug)]
+pub(crate) struct Pattern {
+    pub kind: Kind,
+    pub positive: bool,
+    pub places: [u8; 3],
+}
+
+impl Pattern {
+    // The pattern of a literal of the row at terms that are the numbers of its variables.
+    fn of(lit: Lit) -> Pattern {
+        let (kind, places) = match lit.atom {
+            Atom::Eq { a, b } => (Kind::Eq, [a.0, b.0, 0]),
+            Atom::Btwn { x, y, z, .. } => (Kind::Btwn, [x.0, y.0, z.0]),
+            Atom::Hop { x, v, .. } => (Kind::Hop, [x.0, v.0, 0]),
+            Atom::Alloc { x, .. } => (Kind::Alloc, [x.0, 0, 0]),
+            Atom::Def { .. } => (Kind::Def, [0; 3]),
+        };
+        Pattern {
+            kind,
+            positive: lit.positive,
+            places,
+        }
+    }
+
+    // Whether a variable stands at one of the pattern's places.
+    fn has(&self, variable: u8) -> bool {
+        let arity = self.kind.arity();
+        let [x, y, z] = self.places;
+        arity > 0 && x == variable || arity > 1 && y == variable || arity > 2 && z == variable
+    }
+
+    /// The atom of the pattern over a tuple of terms for the variables.
+    pub fn parts(&self, version: u8, tuple: &[u8; 4]) -> Parts {
+        let [x, y, z] = self.places;
+        let term = |place: usize, variable: u8| {
+            if place < self.kind.arity() {
+                at(tuple.as_slice(), variable as usize, 0)
+            } else {
+                0
+            }
+        };
+        Parts {
+            kind: self.kind,
+            version: if self.kind == Kind::Eq { 0 } else { version },
+            terms: [term(0, x), term(1, y), term(2, z)],
+        }
+    }
+
+    // How the pattern's atom is read where a variable is free.
+    fn reading(&self, free: Option<u8>) -> Reading {
+        let Some(free) = free else {
+            return Reading::Whole;
+        };
+        let [x, y, z] = self.places;
+        match self.kind {
+            Kind::Btwn if y == free && z == free => Reading::Diagonal { x },
+            Kind::Btwn if z == free => Reading::ByZ { x, y },
+            Kind::Btwn if y == free => Reading::ByY { x, z },
+            Kind::Btwn if x == free => Reading::ByX { y, z },
+            Kind::Hop if y == free => Reading::HopTo { x },
+            Kind::Hop if x == free => Reading::HopFrom { v: y },
+            Kind::Eq if x == free => Reading::Equal { x: y },
+            Kind::Eq if y == free => Reading::Equal { x },
+            Kind::Alloc if x == free => Reading::Allocated,
+            _ => Reading::Whole,
+        }
+    }
+}
+
+/// A row: its number, how many variables it has, and its literals.
+#[derive(Debug, Drop)]
+pub(crate) struct Row {
+    pub number: u8,
+    pub arity: u8,
+    pub patterns: Vec<Pattern>,
+}
+
+impl Row {
+    /// The name of an instance.
+    pub fn name(&self, version: u8, tuple: &[u8; 4]) -> InstanceName {
+        let [x, y, u, z] = *tuple;
+        let term = |place: u8, term: u8| if place < self.arity {
+            Term(term)
+        } else {
+            Term(0)
+        };
+        InstanceName {
+            row: self.number,
+            version,
+            terms: [term(0, x), term(1, y), term(2, u), term(3, z)],
+            arity: self.arity,
+        }
+    }
+}
+
+/// What is read where a literal of a row is false: its places bind all variables but a free one, and each other literal
+/// is read over that.
+#[derive(Debug, Drop)]
+pub(crate) struct Plan {
+    pub row: usize,
+    pub trigger: Pattern,
+    pub free: Option<u8>,
+    /// The trigger is the row's first negative literal.
+    pub is_first: bool,
+    pub reads: Vec<(Reading, Pattern)>,
+}
+
+impl Plan {
+    /// The tuple of variables that the trigger's terms give, if equal places have equal terms.
+    pub fn tuple(&self, terms: [u8; 3]) -> Option<[u8; 4]> {
+        let mut tuple = [0; 4];
+        let mut bound = [false; 4];
+        for place in 0..self.trigger.kind.arity().min(3) {
+            let variable = (self.trigger.places[place] & 3) as usize;
+            if bound[variable] && tuple[variable] != terms[place] {
+                return None;
+            }
+            bound[variable] = true;
+            tuple[variable] = terms[place];
+        }
+        Some(tuple)
+    }
+}
+
+/// All rows, and the plans of their literals by the kind and the sign of the literal that makes them false.
+#[derive(Debug, Drop)]
+pub(crate) struct Plans {
+    pub rows: Vec<Row>,
+    groups: Vec<Vec<Plan>>,
+}
+
+// The row of a number with so many variables, if it is there.
+fn row_of(alloc: Global, number: u8, arity: u8) -> Result<Option<Row>, AllocError> {
+    let terms = [Term(0), Term(1), Term(2), Term(3)];
+    let mut name = InstanceName {
+        row: number,
+        version: 0,
+        terms: [Term(0); 4],
+        arity,
+    };
+    for place in 0..(arity.min(4) as usize) {
+        name.terms[place] = terms[place];
+    }
+    let Some(clause) = instance(alloc, name, 4, 1) else {
+        return Ok(None);
+    };
+    let mut patterns = Vec::new(alloc);
+    for lit in clause.lits() {
+        patterns.push(Pattern::of(*lit))?;
+    }
+    Ok(Some(Row {
+        number,
+        arity,
+        patterns,
+    }))
+}
+
+// The plan of a row's literal.
+fn plan_of(
+    alloc: Global,
+    row: &Row,
+    index: usize,
+    place: usize,
+    trigger: Pattern,
+) -> Result<Plan, AllocError> {
+    let free = (0..row.arity).find(|variable| !trigger.has(*variable));
+    let mut reads = Vec::new(alloc);
+    let mut negative_before = false;
+    for other in 0..row.patterns.len() {
+        let pattern = row.patterns[other];
+        if other < place && !pattern.positive {
+            negative_before = true;
+        }
+        if other != place {
+            reads.push((pattern.reading(free), pattern))?;
+        }
+    }
+    Ok(Plan {
+        row: index,
+        trigger,
+        free,
+        is_first: !trigger.positive && !negative_before,
+        reads,
+    })
+}
+
+// The group of plans for a true literal of a kind.
+fn group(kind: Kind, positive: bool) -> usize {
+    let sign = if positive { 1 } else { 0 };
+    (kind as usize).wrapping_mul(2).wrapping_add(sign)
+}
+
+impl Plans {
+    pub fn new(alloc: Global) -> Result<Plans, AllocError> {
+        let mut plans = Plans {
+            rows: Vec::new(alloc),
+            groups: Vec::new(alloc),
+        };
+        for _ in 0..10 {
+            plans.groups.push(Vec::new(alloc))?;
+        }
+        for number in 0..64 {
+            plans.add_number(alloc, byte(number / 4), byte(number % 4 + 1))?;
+        }
+        Ok(plans)
+    }
+
+    // Adds the row of a number with so many variables, if it is there.
+    fn add_number(&mut self, alloc: Global, number: u8, arity: u8) -> Result<(), AllocError> {
+        let Some(row) = row_of(alloc, number, arity)? else {
+            return Ok(());
+        };
+        let index = self.rows.len();
+        for place in 0..row.patterns.len() {
+            let trigger = row.patterns[place];
+            let plan = plan_of(alloc, &row, index, place, trigger)?;
+            let group = group(trigger.kind, !trigger.positive);
+            if group < self.groups.len() {
+                self.groups[group].push(plan)?;
+            }
+        }
+        self.rows.push(row)?;
+        Ok(())
+    }
+
+    /// The plans for a literal that became true.
+    pub fn of(&self, kind: Kind, positive: bool) -> &[Plan] {
+        match self.groups.get(group(kind, positive)) {
+            Some(plans) => plans.as_slice(),
+            None => &[],
+        }
+    }
+}

@@ -1,0 +1,252 @@
+//! The search: decisions, propagation with instances, lessons.
+
+use crate::clauses::Origin;
+use crate::early::{Least, add_early};
+use crate::lesson::Lessons;
+use crate::rows::Plans;
+use crate::shape::Code;
+use crate::state::{State, distinct, has};
+use crate::structure::{Made, add_false};
+use crate::table::byte;
+use gh_base::ground::Ground;
+use std::alloc::{AllocError, Global};
+
+// A lesson is far if more levels than these lie between its own and the present one.
+const FAR: u32 = 20;
+
+/// How a search ended.
+#[derive(Debug, Drop)]
+pub(crate) enum End {
+    /// This clause is false at level 0.
+    Refuted(u32),
+    /// One of the wanted literals is true though the opposites of those before it were decided.
+    Shown,
+    /// The structure of the trail makes the clauses and the instances of the window true.
+    Found(Made),
+    /// It took too many conflicts.
+    TooLong,
+}
+
+/// A state with what searches it.
+#[derive(Debug, Drop)]
+pub(crate) struct Searcher {
+    pub state: State,
+    pub least: Least,
+    pub lessons: Lessons,
+    plans: Plans,
+    // A far lesson cuts so many levels and one more.
+    stride: u32,
+}
+
+// The level to cut to after a lesson: its own, or where that is far `stride` and one below the present one.
+fn cut_level(present: u32, level: u32, stride: u32) -> u32 {
+    let least = present.saturating_sub(1).saturating_sub(level);
+    if least < FAR {
+        level
+    } else {
+        present.saturating_sub(1).saturating_sub(stride.min(least))
+    }
+}
+
+impl Searcher {
+    /// A search over the clauses of a ground problem, and the reflexive instances.
+    pub fn new(alloc: Global, ground: &Ground) -> Result<Searcher, AllocError> {
+        let mut state = State::new(alloc, ground.sizes())?;
+        note_versions(&mut state, ground);
+        for number in 0..ground.count() {
+            let Some(clause) = ground.clause(number) else {
+                break;
+            };
+            let mut codes = Vec::new(alloc);
+            for lit in clause.lits() {
+                codes.push(state.shape.code(*lit))?;
+            }
+            let codes = distinct(alloc, codes.as_slice())?;
+            let _added = state.add(codes.as_slice(), Origin::Ground)?;
+        }
+        let plans = Plans::new(alloc)?;
+        add_reflexive(&mut state, &plans)?;
+        Ok(Searcher {
+            least: Least::new(alloc, state.shape.terms)?,
+            lessons: Lessons::new(alloc, state.shape.count)?,
+            state,
+            plans,
+            stride: 0,
+        })
+    }
+
+    /// A clause that is false at level 0 from the start, if there is one.
+    pub fn false_clause(&self) -> Option<u32> {
+        for number in 0..self.state.count() {
+            let codes = self.state.clauses.codes(number);
+            if codes.iter().all(|code| self.state.trail.is_false(*code)) {
+                return Some(number);
+            }
+        }
+        None
+    }
+
+    // Adds what follows by units, congruence and instances, up to a clause that is false.
+    fn propagate(&mut self) -> Result<Option<u32>, AllocError> {
+        for _ in 0..u32::MAX {
+            if let Some(conflict) = self.state.propagate()? {
+                return Ok(Some(conflict));
+            }
+            if let Some(conflict) = self.state.refute()? {
+                return Ok(Some(conflict));
+            }
+            let before = self.state.trail.steps.len();
+            let found = add_early(&mut self.state, &self.plans, &mut self.least)?;
+            if found.is_some() {
+                return Ok(found);
+            }
+            if self.state.trail.steps.len() == before {
+                break;
+            }
+        }
+        Ok(None)
+    }
+
+    // Learns from a false clause. Answers whether it is false at level 0.
+    fn learn(&mut self, conflict: u32) -> Result<bool, AllocError> {
+        self.state.conflicts = self.state.conflicts.saturating_add(1);
+        self.state.cut_for(conflict)?;
+        let present = self.state.trail.level();
+        if present == 0 {
+            return Ok(true);
+        }
+        let lesson = self.lessons.resolve(&mut self.state, conflict)?;
+        self.state
+            .cut(cut_level(present, lesson.level, self.stride))?;
+        self.stride = self.stride.saturating_mul(4).saturating_add(1);
+        let number = self
+            .state
+            .clauses
+            .learn(lesson.codes.as_slice(), lesson.hints.as_slice())?;
+        let _added = self.state.attach(number)?;
+        Ok(false)
+    }
+
+    // Decides the opposite of a wanted literal, or else the atom that goes first. Answers whether there was one.
+    fn decide(&mut self, wanted: &[Code]) -> Result<bool, AllocError> {
+        self.stride = 0;
+        for code in wanted {
+            if self.state.trail.is_open(*code) {
+                self.state.decide(code.negated())?;
+                return Ok(true);
+            }
+        }
+        self.decide_next()
+    }
+
+    // Decides the atom that goes first. Answers whether there was one.
+    fn decide_next(&mut self) -> Result<bool, AllocError> {
+        for _ in 0..u32::MAX {
+            let Some(atom) = self.state.order.take(&self.state.shape) else {
+                break;
+            };
+            let positive = self.state.classes.holds(&self.state.shape, atom);
+            let code = Code::new(atom, positive);
+            if self.state.trail.is_open(code) {
+                self.state.decide(code)?;
+                return Ok(true);
+            }
+        }
+        Ok(false)
+    }
+
+    /// Searches for what makes the clauses and the instances of the window true and the wanted literals false, with at
+    /// most so many conflicts.
+    pub fn run(&mut self, wanted: &[Code], most: u64) -> Result<End, AllocError> {
+        let last = self.state.conflicts.saturating_add(most);
+        for _ in 0..u64::MAX {
+            if let Some(conflict) = self.propagate()? {
+                if self.learn(conflict)? {
+                    return Ok(End::Refuted(conflict));
+                }
+                if self.state.conflicts >= last {
+                    break;
+                }
+                continue;
+            }
+            if wanted.iter().any(|code| self.state.trail.is_true(*code)) {
+                return Ok(End::Shown);
+            }
+            if self.decide(wanted)? {
+                continue;
+            }
+            let _lessened = self.least.find(&self.state);
+            let made = Made::new(&self.state, &self.least)?;
+            if !add_false(&mut self.state, &self.plans, &self.least, &made)? {
+                return Ok(End::Found(made));
+            }
+        }
+        Ok(End::TooLong)
+    }
+
+    /// Goes back to level 0, and looks at some versions alone from now on.
+    pub fn set_window(&mut self, low: u8, high: u8) -> Result<(), AllocError> {
+        self.state.cut(0)?;
+        self.state.early = 0;
+        self.state.order.set_window(&self.state.shape, low, high)
+    }
+}
+
+// Notes the latest version of which each definition speaks: a clause that defines one has it as its greatest number.
+fn note_versions(state: &mut State, ground: &Ground) {
+    for number in 0..ground.count() {
+        let Some(clause) = ground.clause(number) else {
+            break;
+        };
+        let mut defined = 0;
+        for lit in clause.lits() {
+            defined = state.shape.code(*lit).atom().max(defined);
+        }
+        if defined >= state.shape.defs {
+            let version = version_below(state, clause.lits(), defined);
+            state.shape.note_version(defined, version);
+        }
+    }
+}
+
+// The latest version of which the literals of a clause speak, but for that of the definition.
+fn version_below(state: &State, lits: &[gh_base::atom::Lit], defined: usize) -> u8 {
+    let mut version = 0;
+    for lit in lits {
+        let atom = state.shape.code(*lit).atom();
+        if atom != defined {
+            version = state.shape.parts(atom).version.max(version);
+        }
+    }
+    version
+}
+
+// Adds the instances of rows with one variable, in all versions: nothing makes these unit.
+fn add_reflexive(state: &mut State, plans: &Plans) -> Result<(), AllocError> {
+    for row in plans.rows.as_slice() {
+        if row.arity == 1 {
+            for version in 0..state.shape.versions {
+                add_row_at(state, row, byte(version))?;
+            }
+        }
+    }
+    Ok(())
+}
+
+// Adds the instances of a row with one variable.
+fn add_row_at(state: &mut State, row: &crate::rows::Row, version: u8) -> Result<(), AllocError> {
+    for term in 0..state.shape.terms {
+        let tuple = [byte(term), 0, 0, 0];
+        let mut codes: Vec<Code> = Vec::new(state.alloc);
+        for pattern in row.patterns.as_slice() {
+            let parts = pattern.parts(version, &tuple);
+            let code = Code::new(state.shape.number(parts), pattern.positive);
+            if !has(codes.as_slice(), code) {
+                codes.push(code)?;
+            }
+        }
+        let name = row.name(version, &tuple);
+        let _added = state.add(codes.as_slice(), Origin::Instance(name))?;
+    }
+    Ok(())
+}

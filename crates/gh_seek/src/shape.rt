@@ -1,0 +1,279 @@
+//! Dense numbers of atoms and literals, and what stands behind them.
+
+use crate::table::{byte, cell, small};
+use gh_base::atom::{Atom, Lit, Term};
+use gh_base::sizes::Sizes;
+use std::alloc::{AllocError, Global};
+
+/// A literal: twice the number of its atom, and one more where it is positive.
+#[derive(Clone, Copy, Debug)]
+pub(crate) struct Code(pub u32);
+
+impl Code {
+    /// The literal of an atom.
+    pub fn new(atom: usize, positive: bool) -> Code {
+        let sign = if positive { 1 } else { 0 };
+        Code(small(atom).wrapping_mul(2).wrapping_add(sign))
+    }
+
+    /// The number of the literal's atom.
+    pub fn atom(self) -> usize {
+        (self.0 / 2) as usize
+    }
+
+    pub fn is_positive(self) -> bool {
+        self.0 % 2 == 1
+    }
+
+    pub fn negated(self) -> Code {
+        Code(self.0 ^ 1)
+    }
+
+    /// The literal's place in tables by literals.
+    pub fn place(self) -> usize {
+        self.0 as usize
+    }
+}
+
+/// The kinds of atoms, in the order of their numbers.
+#[derive(Clone, Copy, Debug, PartialEq, Eq)]
+pub(crate) enum Kind {
+    Eq,
+    Btwn,
+    Hop,
+    Alloc,
+    Def,
+}
+
+impl Kind {
+    /// How many terms an atom of the kind has.
+    pub fn arity(self) -> usize {
+        match self {
+            Kind::Eq => 2,
+            Kind::Btwn => 3,
+            Kind::Hop => 2,
+            Kind::Alloc => 1,
+            Kind::Def => 0,
+        }
+    }
+}
+
+/// The parts of an atom. Terms past the kind's arity are 0; the version of a definition is the latest that it speaks
+/// of.
+#[derive(Clone, Copy, Debug)]
+pub(crate) struct Parts {
+    pub kind: Kind,
+    pub version: u8,
+    pub terms: [u8; 3],
+}
+
+impl Parts {
+    /// The term at a place, from 0.
+    pub fn term(&self, place: usize) -> u8 {
+        match place {
+            0 => self.terms[0],
+            1 => self.terms[1],
+            _ => self.terms[2],
+        }
+    }
+}
+
+/// The atoms over some terms, versions and definitions: equalities first, a row for each term, then those of each kind.
+#[derive(Debug, Drop)]
+pub(crate) struct Shape {
+    pub terms: usize,
+    pub versions: usize,
+    pub btwns: usize,
+    hops: usize,
+    allocs: usize,
+    pub defs: usize,
+    pub count: usize,
+    parts: Vec<Parts>,
+}
+
+impl Shape {
+    pub fn new(alloc: Global, sizes: Sizes) -> Result<Shape, AllocError> {
+        let (terms, versions) = (sizes.terms as usize, sizes.versions as usize);
+        let btwns = cell(terms, terms, 0);
+        let hops = cell(cell(cell(versions, terms, 0), terms, 0), terms, btwns);
+        let allocs = cell(cell(versions, terms, 0), terms, hops);
+        let defs = cell(versions, terms, allocs);
+        let count = defs.wrapping_add(sizes.defs as usize);
+        let mut shape = Shape {
+            terms,
+            versions,
+            btwns,
+            hops,
+            allocs,
+            defs,
+            count,
+            parts: Vec::with_capacity(alloc, count)?,
+        };
+        for number in 0..count {
+            let parts = shape.parts_at(number);
+            shape.parts.push(parts)?;
+        }
+        Ok(shape)
+    }
+
+    // The row and the column of a place in a table with a column for each term.
+    fn split(&self, place: usize) -> (usize, u8) {
+        if self.terms == 0 {
+            return (0, 0);
+        }
+        (place / self.terms, byte(place % self.terms))
+    }
+
+    // The parts of the atom of a number.
+    fn parts_at(&self, number: usize) -> Parts {
+        let (kind, start) = self.kind_at(number);
+        let mut parts = Parts {
+            kind,
+            version: 0,
+            terms: [0; 3],
+        };
+        if kind == Kind::Def {
+            return parts;
+        }
+        let mut row = number.wrapping_sub(start);
+        for index in 0..3 {
+            let place = 2 - index;
+            if place < kind.arity() {
+                let (above, term) = self.split(row);
+                parts.terms[place] = term;
+                row = above;
+            }
+        }
+        parts.version = byte(row);
+        parts
+    }
+
+    // The kind of the atom of a number, and the number of the first atom of that kind.
+    fn kind_at(&self, number: usize) -> (Kind, usize) {
+        if number < self.btwns {
+            (Kind::Eq, 0)
+        } else if number < self.hops {
+            (Kind::Btwn, self.btwns)
+        } else if number < self.allocs {
+            (Kind::Hop, self.hops)
+        } else if number < self.defs {
+            (Kind::Alloc, self.allocs)
+        } else {
+            (Kind::Def, self.defs)
+        }
+    }
+
+    /// The parts of the atom of a number.
+    pub fn parts(&self, number: usize) -> Parts {
+        match self.parts.get(number) {
+            Some(parts) => *parts,
+            None => Parts {
+                kind: Kind::Def,
+                version: 0,
+                terms: [0; 3],
+            },
+        }
+    }
+
+    /// Notes that a definition speaks of a version.
+    pub fn note_version(&mut self, number: usize, version: u8) {
+        if number < self.parts.len() && self.parts[number].version < version {
+            self.parts[number].version = version;
+        }
+    }
+
+    /// The number of an atom.
+    pub fn number(&self, parts: Parts) -> usize {
+        let [x, y, z] = parts.terms;
+        match parts.kind {
+            Kind::Eq => self.equality(x, y),
+            Kind::Btwn => self.btwn(parts.version, x, y, z),
+            Kind::Hop => self.hop(parts.version, x, y),
+            Kind::Alloc => self.alloc(parts.version, x),
+            Kind::Def => self.defs,
+        }
+    }
+
+    /// The number of an equality.
+    pub fn equality(&self, x: u8, y: u8) -> usize {
+        cell(x.min(y) as usize, self.terms, x.max(y) as usize)
+    }
+
+    /// The number of a `Btwn` atom.
+    pub fn btwn(&self, version: u8, x: u8, y: u8, z: u8) -> usize {
+        let row = cell(
+            cell(version as usize, self.terms, x as usize),
+            self.terms,
+            y as usize,
+        );
+        self.btwns.wrapping_add(cell(row, self.terms, z as usize))
+    }
+
+    /// The number of a `Hop` atom.
+    pub fn hop(&self, version: u8, x: u8, v: u8) -> usize {
+        let row = cell(version as usize, self.terms, x as usize);
+        self.hops.wrapping_add(cell(row, self.terms, v as usize))
+    }
+
+    /// The number of an `Alloc` atom.
+    pub fn alloc(&self, version: u8, x: u8) -> usize {
+        self.allocs
+            .wrapping_add(cell(version as usize, self.terms, x as usize))
+    }
+
+    /// The literal of a code.
+    pub fn lit(&self, code: Code) -> Lit {
+        let parts = self.parts(code.atom());
+        let [x, y, z] = parts.terms;
+        let version = parts.version;
+        let atom = match parts.kind {
+            Kind::Eq => Atom::equal(Term(x), Term(y)),
+            Kind::Btwn => Atom::Btwn {
+                version,
+                x: Term(x),
+                y: Term(y),
+                z: Term(z),
+            },
+            Kind::Hop => Atom::Hop {
+                version,
+                x: Term(x),
+                v: Term(y),
+            },
+            Kind::Alloc => Atom::Alloc {
+                version,
+                x: Term(x),
+            },
+            Kind::Def => Atom::Def {
+                number: small(code.atom().wrapping_sub(self.defs)),
+            },
+        };
+        Lit {
+            atom,
+            positive: code.is_positive(),
+        }
+    }
+
+    /// The code of a literal.
+    pub fn code(&self, lit: Lit) -> Code {
+        let number = match lit.atom {
+            Atom::Eq { a, b } => self.equality(a.0, b.0),
+            Atom::Btwn { version, x, y, z } => self.btwn(version, x.0, y.0, z.0),
+            Atom::Hop { version, x, v } => self.hop(version, x.0, v.0),
+            Atom::Alloc { version, x } => self.alloc(version, x.0),
+            Atom::Def { number } => self.defs.wrapping_add(number as usize),
+        };
+        Code::new(number, lit.positive)
+    }
+
+    /// The atom's place in the order of decisions: equalities, then atoms with a version from the last down, then
+    /// definitions.
+    pub fn rank(&self, number: usize) -> usize {
+        if number < self.btwns || number >= self.defs {
+            return number;
+        }
+        self.btwns
+            .wrapping_add(self.defs)
+            .wrapping_sub(number)
+            .wrapping_sub(1)
+    }
+}

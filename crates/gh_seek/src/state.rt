@@ -1,0 +1,360 @@
+//! The state of a search: clauses, the trail with what is kept of it, and unit propagation.
+
+use crate::classes::Classes;
+use crate::clauses::{Clauses, Origin};
+use crate::order::Order;
+use crate::shape::{Code, Shape};
+use crate::table::{put, small};
+use crate::trail::{NO_CLAUSE, Trail};
+use crate::watching::{NO_NODE, Visit, Watches};
+use crate::words::Words;
+use gh_base::sizes::Sizes;
+use std::alloc::{AllocError, Global};
+
+/// A clause that made a literal true above the level at which it had become unit.
+#[derive(Clone, Copy, Debug)]
+struct Late {
+    clause: u32,
+    level: u32,
+}
+
+/// A clause that was added, and whether it is false.
+#[derive(Clone, Copy, Debug)]
+pub(crate) struct Added {
+    pub number: u32,
+    pub is_false: bool,
+}
+
+#[derive(Debug, Drop)]
+pub(crate) struct State {
+    pub alloc: Global,
+    pub shape: Shape,
+    pub clauses: Clauses,
+    pub trail: Trail,
+    pub order: Order,
+    pub classes: Classes,
+    /// The words of true atoms, and of false ones.
+    pub yes: Words,
+    pub no: Words,
+    watches: Watches,
+    late: Vec<Late>,
+    // Up to here the trail is propagated, and instances were looked for.
+    head: usize,
+    pub early: usize,
+    pub conflicts: u64,
+}
+
+impl State {
+    pub fn new(alloc: Global, sizes: Sizes) -> Result<State, AllocError> {
+        let shape = Shape::new(alloc, sizes)?;
+        let (atoms, terms, versions) = (shape.count, shape.terms, shape.versions);
+        Ok(State {
+            alloc,
+            clauses: Clauses::new(alloc),
+            trail: Trail::new(alloc, atoms)?,
+            order: Order::new(alloc, atoms)?,
+            classes: Classes::new(alloc, &shape)?,
+            yes: Words::new(alloc, terms, versions)?,
+            no: Words::new(alloc, terms, versions)?,
+            watches: Watches::new(alloc, atoms)?,
+            late: Vec::new(alloc),
+            head: 0,
+            early: 0,
+            conflicts: 0,
+            shape,
+        })
+    }
+
+    /// Makes a literal true.
+    pub fn put(&mut self, code: Code, reason: u32) -> Result<(), AllocError> {
+        self.trail.put(code, reason)?;
+        self.note(code, true);
+        Ok(())
+    }
+
+    // Takes a literal into the words, or out of them.
+    fn note(&mut self, code: Code, on: bool) {
+        let parts = self.shape.parts(code.atom());
+        if code.is_positive() {
+            self.yes.set(parts, on);
+        } else {
+            self.no.set(parts, on);
+        }
+    }
+
+    /// Opens a level with a literal.
+    pub fn decide(&mut self, code: Code) -> Result<(), AllocError> {
+        self.trail.open_level()?;
+        self.put(code, NO_CLAUSE)
+    }
+
+    /// Cuts the trail to a level.
+    pub fn cut(&mut self, level: u32) -> Result<(), AllocError> {
+        if level >= self.trail.level() {
+            return Ok(());
+        }
+        let start = self.trail.start(level.wrapping_add(1));
+        for _ in start..self.trail.steps.len() {
+            if let Some(code) = self.trail.pop() {
+                self.note(code, false);
+                self.order.offer(&self.shape, code.atom())?;
+            }
+        }
+        self.trail.close_levels(level);
+        self.head = self.head.min(start);
+        self.early = self.early.min(start);
+        self.classes.undo_to(&self.shape, start);
+        self.look_at_late()
+    }
+
+    // Looks again at clauses that were unit below the level at which they were added.
+    fn look_at_late(&mut self) -> Result<(), AllocError> {
+        let present = self.trail.level();
+        let mut kept: usize = 0;
+        for index in 0..self.late.len() {
+            let Some(found) = self.late.get(index) else {
+                break;
+            };
+            let late = *found;
+            if late.level > present {
+                continue;
+            }
+            self.look(late.clause)?;
+            if late.level < present {
+                put(self.late.as_mut_slice(), kept, late);
+                kept = kept.wrapping_add(1);
+            }
+        }
+        self.late.truncate(kept);
+        Ok(())
+    }
+
+    // Makes the first literal of a clause true, if the others are false.
+    fn look(&mut self, number: u32) -> Result<(), AllocError> {
+        let start = self.clauses.start(number);
+        let (first, second) = (
+            self.clauses.code_at(start),
+            self.clauses.code_at(start.wrapping_add(1)),
+        );
+        let alone = self.clauses.len(number) == 1;
+        if self.trail.is_open(first) && (alone || self.trail.is_false(second)) {
+            self.put(first, number)?;
+        }
+        Ok(())
+    }
+
+    // How good a literal is to watch: a true one before an open one, and a false one by its level.
+    fn worth(&self, code: Code) -> u64 {
+        if self.trail.is_true(code) {
+            u64::MAX
+        } else if self.trail.is_open(code) {
+            u64::MAX - 1
+        } else {
+            self.trail.level_of(code.atom()) as u64
+        }
+    }
+
+    // Moves the best literal of a clause from a place on to that place.
+    fn bring(&mut self, number: u32, place: usize) {
+        let start = self.clauses.start(number);
+        let mut best = start.wrapping_add(place);
+        for index in place..self.clauses.len(number) {
+            let other = start.wrapping_add(index);
+            if self.worth(self.clauses.code_at(other)) > self.worth(self.clauses.code_at(best)) {
+                best = other;
+            }
+        }
+        self.clauses.swap(start.wrapping_add(place), best);
+    }
+
+    /// Adds a clause whose literals all differ. Where it is unit, its literal becomes true.
+    pub fn add(&mut self, codes: &[Code], origin: Origin) -> Result<Added, AllocError> {
+        let number = self.clauses.push(codes, origin)?;
+        self.attach(number)
+    }
+
+    /// Has a clause watched that was added last.
+    pub fn attach(&mut self, number: u32) -> Result<Added, AllocError> {
+        self.bring(number, 0);
+        self.bring(number, 1);
+        let (start, length) = (self.clauses.start(number), self.clauses.len(number));
+        let (first, second) = (
+            self.clauses.code_at(start),
+            self.clauses.code_at(start.wrapping_add(1)),
+        );
+        self.watches.enter(first, second)?;
+        if length > 1 {
+            let node = number.wrapping_mul(2);
+            self.watches.link(first, node);
+            self.watches.link(second, node.wrapping_add(1));
+        }
+        for index in 0..length {
+            let code = self.clauses.code_at(start.wrapping_add(index));
+            self.order.enter(&self.shape, code.atom())?;
+        }
+        let is_false = length == 0 || self.trail.is_false(first);
+        if !is_false {
+            self.note_late(number, first, second)?;
+        }
+        Ok(Added { number, is_false })
+    }
+
+    // Where a new clause is unit, makes its literal true, and keeps it for later cuts where it was unit below this
+    // level.
+    fn note_late(&mut self, number: u32, first: Code, second: Code) -> Result<(), AllocError> {
+        let alone = self.clauses.len(number) == 1;
+        if !alone && !self.trail.is_false(second) {
+            return Ok(());
+        }
+        let level = if alone {
+            0
+        } else {
+            self.trail.level_of(second.atom())
+        };
+        if level < self.trail.level() {
+            self.late.push(Late {
+                clause: number,
+                level,
+            })?;
+        }
+        self.look(number)
+    }
+
+    /// Cuts the trail to the greatest level of a false clause's literals.
+    pub fn cut_for(&mut self, number: u32) -> Result<(), AllocError> {
+        let mut top = 0;
+        for code in self.clauses.codes(number) {
+            top = self.trail.level_of(code.atom()).max(top);
+        }
+        self.cut(top)
+    }
+
+    /// Adds what follows by units, up to a clause that is false.
+    pub fn propagate(&mut self) -> Result<Option<u32>, AllocError> {
+        for _ in 0..u32::MAX {
+            if self.head >= self.trail.steps.len() {
+                break;
+            }
+            let gone = self.trail.step(self.head).negated();
+            if let Some(conflict) = self.visit_all(gone)? {
+                return Ok(Some(conflict));
+            }
+            self.head = self.head.wrapping_add(1);
+        }
+        Ok(None)
+    }
+
+    // Visits the clauses that watch a literal which became false.
+    fn visit_all(&mut self, gone: Code) -> Result<Option<u32>, AllocError> {
+        let mut before = NO_NODE;
+        let mut node = self.watches.first(gone);
+        for _ in 0..u32::MAX {
+            if node == NO_NODE {
+                break;
+            }
+            let next = self.watches.next(node);
+            match self.visit(node)? {
+                Visit::Kept => before = node,
+                Visit::Moved(code) => {
+                    self.watches.unlink(gone, before, node);
+                    self.watches.link(Code(code), node);
+                }
+                Visit::Conflict => return Ok(Some(node / 2)),
+            }
+            node = next;
+        }
+        Ok(None)
+    }
+
+    // Visits a clause one of whose watched literals became false.
+    fn visit(&mut self, node: u32) -> Result<Visit, AllocError> {
+        if self.trail.is_true(self.watches.other(node)) {
+            return Ok(Visit::Kept);
+        }
+        let number = node / 2;
+        let start = self.clauses.start(number);
+        let (mine, others) = if node % 2 == 0 {
+            (start, start.wrapping_add(1))
+        } else {
+            (start.wrapping_add(1), start)
+        };
+        let other = self.clauses.code_at(others);
+        self.watches.set_other(node, other);
+        if self.trail.is_true(other) {
+            return Ok(Visit::Kept);
+        }
+        if let Some(place) = self.replacement(number, start) {
+            self.clauses.swap(mine, place);
+            return Ok(Visit::Moved(self.clauses.code_at(mine).0));
+        }
+        if self.trail.is_false(other) {
+            return Ok(Visit::Conflict);
+        }
+        self.put(other, number)?;
+        Ok(Visit::Kept)
+    }
+
+    // The place of a literal of a clause, past the watched ones, that isn't false.
+    fn replacement(&self, number: u32, start: usize) -> Option<usize> {
+        let codes = self.clauses.codes(number);
+        for index in 2..codes.len() {
+            if !self.trail.is_false(codes[index]) {
+                return Some(start.wrapping_add(index));
+            }
+        }
+        None
+    }
+
+    /// Tells the classes what the trail has, and adds the clause of a clash as a lemma.
+    pub fn refute(&mut self) -> Result<Option<u32>, AllocError> {
+        for place in self.classes.mark()..self.trail.steps.len() {
+            self.classes.tell(&self.shape, self.trail.step(place))?;
+        }
+        let Some(clash) = self.classes.clash() else {
+            return Ok(None);
+        };
+        let mut codes = Vec::new(self.alloc);
+        let one = self.shape.parts(clash.first.atom());
+        codes.push(clash.first.negated())?;
+        match clash.second {
+            None => {
+                let (a, b) = (one.terms[0], one.terms[1]);
+                self.classes.explain_terms(&self.shape, a, b, &mut codes)?;
+            }
+            Some(second) => {
+                codes.push(second.negated())?;
+                let other = self.shape.parts(second.atom());
+                self.classes.explain(&self.shape, one, other, &mut codes)?;
+            }
+        }
+        let lemma = distinct(self.alloc, codes.as_slice())?;
+        let added = self.add(lemma.as_slice(), Origin::Lemma)?;
+        Ok(Some(added.number))
+    }
+
+    /// How many clauses there are.
+    pub fn count(&self) -> u32 {
+        small(self.clauses.count())
+    }
+}
+
+/// The literals without repeats.
+pub(crate) fn distinct(alloc: Global, codes: &[Code]) -> Result<Vec<Code>, AllocError> {
+    let mut found: Vec<Code> = Vec::new(alloc);
+    for code in codes {
+        if !has(found.as_slice(), *code) {
+            found.push(*code)?;
+        }
+    }
+    Ok(found)
+}
+
+/// Whether a literal is among some.
+pub(crate) fn has(codes: &[Code], code: Code) -> bool {
+    for other in codes {
+        if other.0 == code.0 {
+            return true;
+        }
+    }
+    false
+}

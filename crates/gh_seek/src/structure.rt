@@ -1,0 +1,203 @@
+//! The structure of what the trail asserts, in the versions of the window, and the instances that it makes false.
+
+use crate::clauses::Origin;
+use crate::early::Least;
+use crate::rows::{Plan, Plans, Row};
+use crate::shape::{Code, Kind, Parts};
+use crate::state::{State, distinct};
+use crate::table::byte;
+use crate::words::Words;
+use gh_inst::naming::InstanceName;
+use std::alloc::AllocError;
+
+// So many false instances are added at once.
+const MOST: usize = 200;
+
+/// The positive atoms of a trail over least terms.
+#[derive(Debug, Drop)]
+pub(crate) struct Made {
+    words: Words,
+}
+
+/// An instance with its literals.
+#[derive(Debug, Drop)]
+struct False {
+    name: InstanceName,
+    codes: Vec<Code>,
+}
+
+impl Made {
+    /// The structure of a trail.
+    pub fn new(state: &State, least: &Least) -> Result<Made, AllocError> {
+        let mut words = Words::new(state.alloc, state.shape.terms, state.shape.versions)?;
+        for code in state.trail.steps.as_slice() {
+            let parts = state.shape.parts(code.atom());
+            if code.is_positive() && parts.kind != Kind::Eq {
+                words.set(least.over(parts), true);
+            }
+        }
+        Ok(Made { words })
+    }
+
+    /// Whether an atom is true.
+    pub fn has(&self, least: &Least, parts: Parts) -> bool {
+        self.words.has(least.over(parts))
+    }
+
+    // Whether a literal of a row is true.
+    fn holds(&self, parts: Parts, positive: bool) -> bool {
+        let held = if parts.kind == Kind::Eq {
+            parts.terms[0] == parts.terms[1]
+        } else {
+            self.words.has(parts)
+        };
+        held == positive
+    }
+
+    // The terms for a plan's free variable over which each other literal of the row may be false.
+    fn open_terms(&self, plan: &Plan, mask: u32, version: u8, tuple: &[u8; 4]) -> u32 {
+        let mut open = mask;
+        for (reading, pattern) in plan.reads.as_slice() {
+            if pattern.kind != Kind::Eq {
+                let word = self.words.word(*reading, version, tuple);
+                open &= if pattern.positive { !word } else { u32::MAX };
+            }
+        }
+        open
+    }
+}
+
+// The literals of an instance that is false in the structure, if it is.
+fn false_codes(
+    state: &State,
+    made: &Made,
+    row: &Row,
+    version: u8,
+    tuple: &[u8; 4],
+) -> Result<Option<Vec<Code>>, AllocError> {
+    let mut codes = Vec::new(state.alloc);
+    for pattern in row.patterns.as_slice() {
+        let parts = pattern.parts(version, tuple);
+        if made.holds(parts, pattern.positive) {
+            return Ok(None);
+        }
+        codes.push(Code::new(state.shape.number(parts), pattern.positive))?;
+    }
+    Ok(Some(distinct(state.alloc, codes.as_slice())?))
+}
+
+// An instance's terms but for those of a free variable, which are bits of a word.
+#[derive(Clone, Copy, Debug)]
+struct Open {
+    version: u8,
+    tuple: [u8; 4],
+    free: Option<u8>,
+    terms: u32,
+}
+
+// Gathers the false instances of a row.
+fn gather_row(
+    state: &State,
+    made: &Made,
+    row: &Row,
+    open: Open,
+    found: &mut Vec<False>,
+) -> Result<(), AllocError> {
+    let Open {
+        version,
+        mut tuple,
+        free,
+        mut terms,
+    } = open;
+    for _ in 0..32 {
+        if terms == 0 || found.len() >= MOST {
+            break;
+        }
+        if let Some(free) = free {
+            tuple[(free & 3) as usize] = byte(terms.trailing_zeros() as usize);
+        }
+        terms &= terms.wrapping_sub(1);
+        if let Some(codes) = false_codes(state, made, row, version, &tuple)? {
+            let name = row.name(version, &tuple);
+            found.push(False { name, codes })?;
+        }
+    }
+    Ok(())
+}
+
+// What is open of a plan's row where its trigger's atom is true.
+fn open_of(made: &Made, plan: &Plan, mask: u32, parts: Parts) -> Option<Open> {
+    let tuple = plan.tuple(parts.terms)?;
+    let version = parts.version;
+    let terms = match plan.free {
+        None => 1,
+        Some(_) => made.open_terms(plan, mask, version, &tuple),
+    };
+    Some(Open {
+        version,
+        tuple,
+        free: plan.free,
+        terms,
+    })
+}
+
+// Gathers the false instances whose first negative literal is over an atom that is true.
+fn gather_for(
+    state: &State,
+    plans: &Plans,
+    made: &Made,
+    mask: u32,
+    parts: Parts,
+    found: &mut Vec<False>,
+) -> Result<(), AllocError> {
+    for plan in plans.of(parts.kind, true) {
+        if !plan.is_first {
+            continue;
+        }
+        if let (Some(row), Some(open)) = (
+            plans.rows.get(plan.row),
+            open_of(made, plan, mask, parts),
+        ) {
+            gather_row(state, made, row, open, found)?;
+        }
+    }
+    Ok(())
+}
+
+// The instances that are false in the structure, up to so many.
+fn false_instances(
+    state: &State,
+    plans: &Plans,
+    least: &Least,
+    made: &Made,
+) -> Result<Vec<False>, AllocError> {
+    let mut found: Vec<False> = Vec::new(state.alloc);
+    let (low, high) = state.order.window();
+    for code in state.trail.steps.as_slice() {
+        let parts = state.shape.parts(code.atom());
+        let inside = low <= parts.version && parts.version <= high;
+        let is_least = state.shape.number(least.over(parts)) == code.atom();
+        let relation = code.is_positive() && parts.kind != Kind::Eq;
+        if relation && inside && is_least && found.len() < MOST {
+            gather_for(state, plans, made, least.mask, parts, &mut found)?;
+        }
+    }
+    Ok(found)
+}
+
+/// Adds instances that are false in the structure. Answers whether there were some.
+pub(crate) fn add_false(
+    state: &mut State,
+    plans: &Plans,
+    least: &Least,
+    made: &Made,
+) -> Result<bool, AllocError> {
+    let found = false_instances(state, plans, least, made)?;
+    for instance in found.as_slice() {
+        let added = state.add(instance.codes.as_slice(), Origin::Instance(instance.name))?;
+        if added.is_false {
+            state.cut_for(added.number)?;
+        }
+    }
+    Ok(!found.is_empty())
+}
