@@ -1,9 +1,12 @@
 -- The one part of a heap that meets an assertion.
-use Rattle.std.specs.Prelude.{◌≡◌, ℕ, List, Bool, true, false}
+use Rattle.std.specs.Prelude.{◌≡◌, ℕ, List, map, Bool, true, false}
 use Rattle.std.specs.FinMap.{keys}
-use Rattle.gh_ast.specs.Plain.{Formula}
+use Rattle.gh_ast.specs.declared.Assertion.{Assertion}
+use Rattle.gh_ast.specs.Plain.{Formula, formula_of, formulas_view}
 use Rattle.gh_assert.specs.Heaps.{Heap, Splits}
-use Rattle.gh_assert.specs.Meaning.{Store, Meaning}
+use Rattle.gh_assert.specs.Meaning.{Store, Meaning, MeaningAll, MeetsOneOf, HasPart}
+use Rattle.gh_assert.specs.Stores.{store_of}
+use Rattle.gh_assert.specs.declared.store.Entry.{Entry}
 
 -- the heap falls into a part that meets Q, and the rest
 pub record Takes (Q : Heap → Type 0) (h rest : Heap) : Type 0 where
@@ -20,6 +23,10 @@ abbrev pub Took : Bool → (Heap → Type 0) → Heap → Heap → Type 0
 Took true Q h rest = Takes Q h rest
 Took false Q h rest = NoPart Q h
 
+-- the places that aren't left of a heap, ascending
+abbrev pub AreTaken : Heap → Heap → List ℕ → Type 0
+AreTaken h rest places = (a : Heap) → Splits h a rest → places ≡ keys a
+
 -- the places of the part that meets the assertion, ascending
 pub record IsFootprint (f : Formula) (s : Store) (h : Heap) (places : List ℕ) : Type 0 where
   pub part : Heap
@@ -27,3 +34,19 @@ pub record IsFootprint (f : Formula) (s : Store) (h : Heap) (places : List ℕ) 
   pub splits : Splits h part rest
   pub meets : Meaning f s part
   pub places_are : places ≡ keys part
+
+-- what assertions of the code say of a heap, over the listed values of a store
+abbrev pub MeaningIn : List Entry → Assertion → Heap → Type 0
+MeaningIn store a = Meaning (formula_of a) (store_of store)
+
+abbrev pub MeaningAllIn : List Entry → List Assertion → Heap → Type 0
+MeaningAllIn store members = MeaningAll (formulas_view members) (store_of store)
+
+abbrev pub MeetsOneIn : List Entry → List Assertion → Heap → Type 0
+MeetsOneIn store alternatives = MeetsOneOf (map formula_of alternatives) (store_of store)
+
+abbrev pub IsFootprintIn : List Entry → Assertion → Heap → List ℕ → Type 0
+IsFootprintIn store a = IsFootprint (formula_of a) (store_of store)
+
+abbrev pub HasPartIn : List Entry → Assertion → Heap → Type 0
+HasPartIn store a = HasPart (formula_of a) (store_of store)

@@ -1,5 +1,5 @@
 -- Stores, and what expressions and tests give.
-use Rattle.std.specs.Prelude.{◌≡◌, ℕ, List, map, Bool, true, false, not, ◌==◌, Option, Some, None, Contains}
+use Rattle.std.specs.Prelude.{◌≡◌, ℕ, List, map, Bool, true, false, not, ◌==◌, Option, Some, None, Any, Contains}
 use Rattle.std.specs.FinMap.{get}
 use Rattle.gh_ast.specs.Plain.{Test, compare, negation, conjunction, disjunction, Tests, no_tests, test_first}
 use Rattle.gh_ast.specs.declared.Expr.{Expr}
@@ -16,6 +16,10 @@ result s h (Read o) = get h (s o.name)
 -- each of the expressions has its value
 abbrev pub Give : Store → Heap → List Expr → List ℕ → Type 0
 Give s h es vs = map (result s h) es ≡ map Some vs
+
+-- one of them has none
+abbrev pub HasUnread : Store → Heap → List Expr → Type 0
+HasUnread s h es = Any (λ e. result s h e ≡ None) es
 
 abbrev pub compared : Bool → Option ℕ → Option ℕ → Option Bool
 compared e (Some a) (Some b) = Some (agrees e (a == b))

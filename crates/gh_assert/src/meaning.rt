@@ -1,11 +1,11 @@
 //! Whether a heap meets an assertion, and which part of it does.
 
-ghost use Rattle.std.specs.Prelude.{◌≡◌, ◌↔◌, ℕ, map, IfOk, IfNone, IfSome, IsTrue};
-ghost use Rattle.gh_ast.specs.Plain.{test_of, tests_view, formula_of, formulas_view};
-ghost use Rattle.gh_assert.specs.Meaning.{Meaning, MeaningAll, MeetsOneOf, HasPart, plain_value, truth, all_true, some_true};
+ghost use Rattle.std.specs.Prelude.{◌≡◌, ◌↔◌, ℕ, IfOk, IfNone, IfSome, IsTrue};
+ghost use Rattle.gh_ast.specs.Plain.{test_of, tests_view};
+ghost use Rattle.gh_assert.specs.Meaning.{plain_value, truth, all_true, some_true};
 ghost use Rattle.gh_assert.specs.Stores.{store_of};
 ghost use Rattle.gh_assert.specs.Heaps.{Segment};
-ghost use Rattle.gh_assert.specs.Footprints.{Took, IsFootprint};
+ghost use Rattle.gh_assert.specs.Footprints.{Took, HasPartIn, IsFootprintIn, MeaningAllIn, MeaningIn, MeetsOneIn};
 
 use crate::heap::Heap;
 use crate::remaining::Remaining;
@@ -86,7 +86,7 @@ fn take_segment(remaining: &mut Remaining, from: u32, to: u32) -> bool
 #[cycle(part)]
 fn take_part(store: &Store, remaining: &mut Remaining, assertion: &Assertion) -> bool
     ensures whole { remaining.new.0 ≡ remaining.old.0 }
-    ensures part { Took result (Meaning (formula_of assertion.now) (store_of store.now)) remaining.old.1 remaining.new.1 }
+    ensures part { Took result (MeaningIn store.now assertion.now) remaining.old.1 remaining.new.1 }
 {
     match assertion {
         Assertion::Emp => true,
@@ -123,7 +123,7 @@ fn take_part(store: &Store, remaining: &mut Remaining, assertion: &Assertion) ->
 #[cycle(part)]
 fn take_parts(store: &Store, remaining: &mut Remaining, members: &[Assertion]) -> bool
     ensures whole { remaining.new.0 ≡ remaining.old.0 }
-    ensures part { Took result (MeaningAll (formulas_view members.now) (store_of store.now)) remaining.old.1 remaining.new.1 }
+    ensures part { Took result (MeaningAllIn store.now members.now) remaining.old.1 remaining.new.1 }
 {
     for member in members {
         if !take_part(store, remaining, member) {
@@ -143,7 +143,7 @@ pub fn holds(
     heap: &Heap,
     assertion: &Assertion,
 ) -> Result<bool, AllocError>
-    ensures { IfOk result (λ b. IsTrue b ↔ Meaning (formula_of assertion.now) (store_of store.now) heap.now) }
+    ensures { IfOk result (λ b. IsTrue b ↔ MeaningIn store.now assertion.now heap.now) }
 {
     let mut remaining = Remaining::new(alloc, heap)?;
     if !take_part(store, &mut remaining, assertion) {
@@ -161,7 +161,7 @@ pub fn meets_one_of(
     heap: &Heap,
     alternatives: &[Assertion],
 ) -> Result<bool, AllocError>
-    ensures { IfOk result (λ b. IsTrue b ↔ MeetsOneOf (map formula_of alternatives.now) (store_of store.now) heap.now) }
+    ensures { IfOk result (λ b. IsTrue b ↔ MeetsOneIn store.now alternatives.now heap.now) }
 {
     for alternative in alternatives {
         if holds(alloc, store, heap, alternative)? {
@@ -180,8 +180,8 @@ pub fn footprint(
     heap: &Heap,
     assertion: &Assertion,
 ) -> Result<Option<Vec<u32>>, AllocError>
-    ensures found { IfOk result (λ o. IfSome o (λ places. IsFootprint (formula_of assertion.now) (store_of store.now) heap.now places.items)) }
-    ensures none { IfOk result (λ o. IfNone o (HasPart (formula_of assertion.now) (store_of store.now) heap.now → ⊥)) }
+    ensures found { IfOk result (λ o. IfSome o (λ p. IsFootprintIn store.now assertion.now heap.now p.items)) }
+    ensures none { IfOk result (λ o. IfNone o (HasPartIn store.now assertion.now heap.now → ⊥)) }
 {
     let mut remaining = Remaining::new(alloc, heap)?;
     if !take_part(store, &mut remaining, assertion) {

@@ -3,7 +3,8 @@
 ghost use Rattle.std.specs.Prelude.{◌≡◌, ◌≢◌, ◌↔◌, OnSome, IfOk, IsTrue, All, true};
 ghost use Rattle.std.specs.FinMap as map;
 ghost use Rattle.gh_assert.specs.Cells.{unmarked};
-ghost use Rattle.gh_assert.specs.Heaps.{Splits, IsEmpty};
+ghost use Rattle.gh_assert.specs.Heaps.{IsEmpty};
+ghost use Rattle.gh_assert.specs.Footprints.{AreTaken};
 
 use crate::heap::{Cell, Heap, place};
 use std::alloc::{AllocError, Global};
@@ -76,7 +77,7 @@ impl<'h> Remaining<'h> {
 
     /// The places of the cells that were taken, ascending.
     pub fn places(&self, alloc: Global) -> Result<Vec<u32>, AllocError>
-        ensures { IfOk result (λ places. (a : Heap) → Splits self.now.0 a self.now.1 → places.items ≡ map.keys a) }
+        ensures { IfOk result (λ places. AreTaken self.now.0 self.now.1 places.items) }
     {
         let mut places = Vec::new(alloc);
         for (i, cell) in self.cells.iter().enumerate() {

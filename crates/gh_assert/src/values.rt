@@ -1,6 +1,6 @@
 //! What expressions and tests give in a store and a heap.
 
-ghost use Rattle.std.specs.Prelude.{◌≡◌, ◌==◌, IfOk, IfNone, IfSome, Any, None};
+ghost use Rattle.std.specs.Prelude.{◌≡◌, ◌==◌, IfOk, IfNone, IfSome};
 ghost use Rattle.gh_ast.specs.Plain.{test_of, tests_view};
 ghost use Rattle.gh_assert.specs.Meaning.{value, agrees};
 ghost use Rattle.gh_assert.specs.Stores.{store_of};
@@ -53,7 +53,7 @@ pub fn values_of(
     exprs: &[Expr],
 ) -> Result<Option<Vec<u32>>, AllocError>
     ensures all { IfOk result (λ o. IfSome o (λ vs. values.Give (store_of store.now) heap.now exprs.now vs.items)) }
-    ensures unread { IfOk result (λ o. IfNone o (Any (λ e. values.result (store_of store.now) heap.now e ≡ None) exprs.now)) }
+    ensures unread { IfOk result (λ o. IfNone o (values.HasUnread (store_of store.now) heap.now exprs.now)) }
 {
     let mut values = Vec::new(alloc);
     for expr in exprs {

@@ -15,6 +15,7 @@ use Rattle.gh_cc.specs.declared.classes.Stage.{Stage}
 use Rattle.gh_cc.specs.declared.classes.ClashAt.{ClashAt}
 use Rattle.gh_cc.specs.Partitions.{Merged, rep, equality_of, disequality_of, AreMerges}
 use Rattle.gh_cc.specs.Signs.{Filed, find_lit}
+use Rattle.gh_cc.specs.Uses.{Mentions, IsMoved}
 use Rattle.gh_cc.specs.Asserted.{equality}
 
 abbrev pub at : (ℕ → ℕ) → Term → Term
@@ -73,6 +74,32 @@ IsFiled s lits links entries l = IsFiledAs s (reps links) lits entries l.atom l.
 -- the tables agree with each literal
 abbrev pub AllFiled : Sizes → List Lit → List Link → List Entry → Type 0
 AllFiled s lits links entries = All (IsFiled s lits links entries) lits
+
+-- they agree with the literal at a place
+abbrev pub IsFiledAt : Sizes → List Lit → List Link → List Entry → ℕ → Type 0
+IsFiledAt s lits links entries place = (l : Lit) → slice_get lits place ≡ Some l → IsFiled s lits links entries l
+
+-- .. with each literal that mentions a term
+abbrev pub AreFiledOf : Sizes → List Lit → List Link → List Entry → Term → Type 0
+AreFiledOf s lits links entries t =
+    (i : ℕ) (l : Lit) → slice_get lits i ≡ Some l → Mentions l.atom t → IsFiled s lits links entries l
+
+-- .. with each that mentions a term which the last link moved
+abbrev pub AreFiledMoved : Sizes → List Lit → List Link → List Entry → Type 0
+AreFiledMoved s lits links entries = (i : ℕ) (l : Lit) (t : Term) → slice_get lits i ≡ Some l → Mentions l.atom t → t.0 < s.terms
+    → IsMoved links t → IsFiled s lits links entries l
+
+-- where there was no clash and they agreed with each literal before a place, they agree now with each literal
+abbrev pub Files : Bool → Sizes → List Lit → ℕ → Merged → Merged → Filed → Filed → Type 0
+Files clashed s lits place old new old_filed new_filed = clashed ≡ false
+    → AllFiled s (take place lits) old.links old_filed.entries → AllFiled s lits new.links new_filed.entries
+
+-- the literals of two places have the same sign, or opposite ones
+abbrev pub HaveOneSign : List Lit → ℕ → ℕ → Type 0
+HaveOneSign lits first second = (l k : Lit) → slice_get lits first ≡ Some l → slice_get lits second ≡ Some k → l.positive ≡ k.positive
+
+abbrev pub HaveTwoSigns : List Lit → ℕ → ℕ → Type 0
+HaveTwoSigns lits first second = (l k : Lit) → slice_get lits first ≡ Some l → slice_get lits second ≡ Some k → l.positive ≢ k.positive
 
 -- a disequality between terms of one class, or two literals of opposite signs over terms of the same classes
 abbrev pub IsClash : (ℕ → ℕ) → List Lit → Clash → Type 0

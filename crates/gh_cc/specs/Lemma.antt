@@ -5,6 +5,7 @@ use Rattle.gh_base.specs.declared.atom.Term.{Term}
 use Rattle.gh_base.specs.declared.atom.Lit.{Lit}
 use Rattle.gh_base.specs.declared.sizes.Sizes.{Sizes}
 use Rattle.gh_base.specs.Atoms.{opposite, number_of}
+use Rattle.gh_base.specs.Meaning.{IsEqualityClause}
 use Rattle.gh_cc.specs.declared.keys.Keyed.{Keyed}
 use Rattle.gh_cc.specs.declared.partition.Link.{Link}
 use Rattle.gh_cc.specs.Partitions.{Merged, AreMerges, disequality_of}
@@ -14,6 +15,10 @@ use Rattle.gh_cc.specs.Kept.{normal, reps, IsRelation}
 -- a test answers whether something holds
 abbrev pub Tells : Bool → Type 0 → Type 0
 Tells answer P = MatchBool answer P (P → ⊥)
+
+-- over so many terms, versions and definitions the clause follows from equality and congruence alone
+abbrev pub IsLemmaOver : ℕ → ℕ → ℕ → List Lit → Type 0
+IsLemmaOver terms versions defs clause = IsEqualityClause (record { terms = terms; versions = versions; defs = defs }) clause
 
 -- two literals of opposite signs over terms of the same classes
 pub record Opposes (s : Sizes) (links : List Link) (other l : Lit) : Type 0 where
@@ -65,6 +70,10 @@ pub record JoinsTerms (old new : Merged) (a b : Term) : Type 0 where
 pub record HaveOneClass (old new : Merged) (a b : Term) : Type 0 where
   pub same : reps old.links a.0 ≡ reps old.links b.0
   pub stays : new ≡ old
+
+-- the answer tells which of both
+abbrev pub TellsJoin : Merged → Merged → Term → Term → Bool → Type 0
+TellsJoin old new a b answer = MatchBool answer (JoinsTerms old new a b) (HaveOneClass old new a b)
 
 -- the literal joins no two classes by its negation
 abbrev pub IsJoined : List Link → Lit → Type 0

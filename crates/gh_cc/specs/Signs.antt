@@ -1,11 +1,15 @@
 -- Entries of literals by the numbers of atoms.
-use Rattle.std.specs.Prelude.{◌≡◌, ℕ, suc, ◌+◌, ◌<◌, ◌≤◌, ◌^◌, List, [], ◌∷◌, Option, Some, None, length, slice_get, nat_eq, if◌then◌else◌}
+use Rattle.std.specs.Prelude.{◌≡◌, ℕ, suc, ◌+◌, ◌<◌, ◌≤◌, ◌^◌, List, [], ◌∷◌, ◌++◌, Option, Some, None, length, slice_get, nat_eq, if◌then◌else◌}
 use Rattle.gh_cc.specs.declared.signs.Entry.{Entry}
 
 -- what callers see of `Signs`: how many numbers there are, and the entries in order
 pub record Filed : Type 0 where
   pub count : ℕ
   pub entries : List Entry
+
+-- an entry is added last
+abbrev pub with_entry : Filed → ℕ → ℕ → Filed
+with_entry f number lit = record f { entries = f.entries ++ (record { number = number; lit = lit }) ∷ [] }
 
 -- the literal of the first entry of a number
 abbrev pub find_lit : List Entry → ℕ → Option ℕ

@@ -73,6 +73,9 @@ third_term (Hop v x y) = None
 third_term (Alloc v x) = None
 third_term (Def number) = None
 
+abbrev pub terms_in : Atom → List (Option Term)
+terms_in a = first_term a ∷ second_term a ∷ third_term a ∷ []
+
 -- three mentions for each literal
 abbrev pub all_mentions : List Lit → List (Option Term)
 all_mentions [] = []

@@ -1,12 +1,11 @@
 //! Literals filed under the keys of their atoms.
 
-ghost use Rattle.std.specs.Prelude.{◌≡◌, ◌≢◌, ◌<◌, ◌+◌, false, take, IfSome, IfNone, Some, length, slice_get};
-ghost use Rattle.gh_base.specs.declared.atom.Lit.{Lit};
+ghost use Rattle.std.specs.Prelude.{◌≡◌, ◌≢◌, ◌<◌, ◌+◌, take, IfSome, IfNone, length};
 ghost use Rattle.gh_base.specs.declared.atom.Term.{Term};
 ghost use Rattle.gh_base.specs.Atoms.{IsInRange, AreInRange, number_of, count_of};
 ghost use Rattle.gh_cc.specs.Asserted.{equality};
 ghost use Rattle.gh_cc.specs.Uses.{all_mentions};
-ghost use Rattle.gh_cc.specs.Kept.{AreTied, Grows, LinksMore, IsClash, IsFiled, AllFiled, normal, reps};
+ghost use Rattle.gh_cc.specs.Kept.{AreTied, Grows, LinksMore, IsClash, normal, reps, HaveOneSign, HaveTwoSigns, IsFiledAt, Files};
 
 use crate::clash::Clash;
 use crate::moving::{merge_lighter, refile_moved};
@@ -48,9 +47,9 @@ pub(crate) fn key(sizes: Sizes, partition: &Partition, atom: Atom) -> usize
 fn clash_of(lits: &[Lit], first: u32, second: u32) -> Option<Clash>
     requires first { first < length lits.now }
     requires second { second < length lits.now }
-    ensures same { IfNone result ((l k : Lit) → slice_get lits.now first ≡ Some l → slice_get lits.now second ≡ Some k → l.positive ≡ k.positive) }
+    ensures same { IfNone result (HaveOneSign lits.now first second) }
     ensures clash { IfSome result (λ c. c ≡ Clash.Opposite first second) }
-    ensures opposite { IfSome result (λ _. (l k : Lit) → slice_get lits.now first ≡ Some l → slice_get lits.now second ≡ Some k → l.positive ≢ k.positive) }
+    ensures opposite { IfSome result (λ _. HaveTwoSigns lits.now first second) }
 {
     if lits[first as usize].positive == lits[second as usize].positive {
         None
@@ -71,7 +70,7 @@ pub(crate) fn file(
     requires place { place < length lits.now }
     ensures tied { AreTied sizes lits.now partition.now signs.new }
     ensures grows { Grows signs.old signs.new }
-    ensures filed { IfNone result ((l : Lit) → slice_get lits.now place ≡ Some l → IsFiled sizes lits.now partition.now.links signs.new.entries l) }
+    ensures filed { IfNone result (IsFiledAt sizes lits.now partition.now.links signs.new.entries place) }
     ensures clash { IfSome result (λ c. IsClash (reps partition.now.links) lits.now c) }
 {
     let lit = lits[place as usize];
@@ -120,7 +119,7 @@ pub(crate) fn take_in(
     ensures tied { AreTied sizes lits.now partition.new signs.new }
     ensures links { LinksMore partition.old partition.new }
     ensures grows { Grows signs.old signs.new }
-    ensures filed { IfNone result (clashed ≡ false → AllFiled sizes (take place lits.now) partition.old.links signs.old.entries → AllFiled sizes lits.now partition.new.links signs.new.entries) }
+    ensures filed { IfNone result (Files clashed sizes lits.now place partition.old partition.new signs.old signs.new) }
     ensures clash { IfSome result (λ c. IsClash (reps partition.new.links) lits.now c) }
 {
     let lit = lits[place as usize];

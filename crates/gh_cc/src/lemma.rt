@@ -1,9 +1,8 @@
 //! Whether a clause follows from equality and congruence alone.
 
-ghost use Rattle.std.specs.Prelude.{◌≡◌, ◌<◌, ◌↔◌, [], IfOk, IsTrue, MatchBool};
+ghost use Rattle.std.specs.Prelude.{◌≡◌, ◌<◌, ◌↔◌, [], IfOk, IsTrue};
 ghost use Rattle.gh_base.specs.Atoms.{IsInRange, AreInRange};
-ghost use Rattle.gh_base.specs.Meaning.{IsEqualityClause};
-ghost use Rattle.gh_cc.specs.Lemma.{Tells, IsKeyed, IsSettled, HasSettled, JoinsTerms, HaveOneClass, AreNegatedClasses};
+ghost use Rattle.gh_cc.specs.Lemma.{Tells, IsKeyed, IsSettled, HasSettled, AreNegatedClasses, IsLemmaOver, TellsJoin};
 
 use crate::filing::equal_terms;
 use crate::keys::{Keyed, is_opposed, with_keys};
@@ -24,7 +23,7 @@ fn are_in_range(sizes: Sizes, lits: &[Lit]) -> bool
 fn join(partition: &mut Partition, a: Term, b: Term) -> bool
     requires a { a.0 < partition.old.terms }
     requires b { b.0 < partition.old.terms }
-    ensures { MatchBool result (JoinsTerms partition.old partition.new a b) (HaveOneClass partition.old partition.new a b) }
+    ensures { TellsJoin partition.old partition.new a b result }
 {
     if partition.rep(a).0 == partition.rep(b).0 {
         return false;
@@ -88,7 +87,7 @@ pub fn is_lemma(
     versions: u8,
     defs: u32,
 ) -> Result<bool, AllocError>
-    ensures { IfOk result (λ answer. IsTrue answer ↔ IsEqualityClause (record { terms = terms; versions = versions; defs = defs }) clause.now) }
+    ensures { IfOk result (λ answer. IsTrue answer ↔ IsLemmaOver terms versions defs clause.now) }
 {
     let sizes = Sizes {
         terms,

@@ -1,12 +1,10 @@
 //! Two classes are merged by moving the one that fewer literals mention, and these literals alone are filed anew.
 
-ghost use Rattle.std.specs.Prelude.{◌≡◌, ◌≢◌, ◌<◌, ◌≤◌, ◌+◌, ◌^◌, ◌∷◌, ◌++◌, [], ℕ, IfSome, IfNone, length, slice_get, Some};
-ghost use Rattle.gh_base.specs.declared.atom.Lit.{Lit};
-ghost use Rattle.gh_base.specs.declared.atom.Term.{Term};
+ghost use Rattle.std.specs.Prelude.{◌≡◌, ◌≢◌, ◌<◌, ◌≤◌, ◌+◌, ◌^◌, ◌++◌, IfSome, IfNone, length};
 ghost use Rattle.gh_base.specs.Atoms.{IsInRange};
-ghost use Rattle.gh_cc.specs.Kept.{AreTied, Grows, IsClash, IsFiled, reps};
+ghost use Rattle.gh_cc.specs.Kept.{AreTied, Grows, IsClash, reps, AreFiledMoved, AreFiledOf};
 ghost use Rattle.gh_cc.specs.Partitions.{rep_of};
-ghost use Rattle.gh_cc.specs.Uses.{all_mentions, first_term, second_term, third_term, Mentions, IsMoved, class_times, JoinsLighter};
+ghost use Rattle.gh_cc.specs.Uses.{all_mentions, class_times, JoinsLighter, terms_in};
 
 use crate::clash::Clash;
 use crate::filing::file;
@@ -18,7 +16,7 @@ use gh_base::sizes::Sizes;
 
 // The terms of an atom.
 fn terms_of(atom: Atom) -> [Option<Term>; 3]
-    ensures { result ≡ first_term atom ∷ second_term atom ∷ third_term atom ∷ [] }
+    ensures { result ≡ terms_in atom }
 {
     match atom {
         Atom::Eq { a, b } => [Some(a), Some(b), None],
@@ -35,7 +33,7 @@ pub(crate) fn mention(sizes: Sizes, uses: &mut Uses, atom: Atom)
     requires terms { uses.old.terms ≡ sizes.terms }
     requires room { length uses.old.list + 3 ≤ uses.old.room }
     requires small { length uses.old.list + 3 < 2 ^ 32 }
-    ensures { uses.new ≡ record uses.old { list = uses.old.list ++ first_term atom ∷ second_term atom ∷ third_term atom ∷ [] } }
+    ensures { uses.new ≡ record uses.old { list = uses.old.list ++ terms_in atom } }
 {
     let [first, second, third] = terms_of(atom);
     uses.push(first);
@@ -92,7 +90,7 @@ fn refile_term(
     requires term { term.0 < uses.now.terms }
     ensures tied { AreTied sizes lits.now partition.now signs.new }
     ensures grows { Grows signs.old signs.new }
-    ensures filed { IfNone result ((i : ℕ) (l : Lit) → slice_get lits.now i ≡ Some l → Mentions l.atom term → IsFiled sizes lits.now partition.now.links signs.new.entries l) }
+    ensures filed { IfNone result (AreFiledOf sizes lits.now partition.now.links signs.new.entries term) }
     ensures clash { IfSome result (λ c. IsClash (reps partition.now.links) lits.now c) }
 {
     let mut next = uses.last(term);
@@ -120,7 +118,7 @@ pub(crate) fn refile_moved(
     requires merged { 0 < length partition.now.links }
     ensures tied { AreTied sizes lits.now partition.now signs.new }
     ensures grows { Grows signs.old signs.new }
-    ensures filed { IfNone result ((i : ℕ) (l : Lit) (t : Term) → slice_get lits.now i ≡ Some l → Mentions l.atom t → t.0 < sizes.terms → IsMoved partition.now.links t → IsFiled sizes lits.now partition.now.links signs.new.entries l) }
+    ensures filed { IfNone result (AreFiledMoved sizes lits.now partition.now.links signs.new.entries) }
     ensures clash { IfSome result (λ c. IsClash (reps partition.now.links) lits.now c) }
 {
     for t in 0..sizes.terms {

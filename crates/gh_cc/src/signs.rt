@@ -1,7 +1,7 @@
 //! Which literal gave an atom its truth, by the atom's number, with what was written in order.
 
-ghost use Rattle.std.specs.Prelude.{◌≡◌, ◌<◌, ◌^◌, ◌∷◌, ◌++◌, [], None, IfOk, All, length, take, vec_capacity};
-ghost use Rattle.gh_cc.specs.Signs.{AreSigns, free_places, find_lit};
+ghost use Rattle.std.specs.Prelude.{◌≡◌, ◌<◌, ◌^◌, [], None, IfOk, All, length, take, vec_capacity};
+ghost use Rattle.gh_cc.specs.Signs.{AreSigns, free_places, find_lit, with_entry};
 
 use std::alloc::{AllocError, Global};
 use std::marker::Model;
@@ -84,7 +84,7 @@ impl Signs {
     pub fn put(&mut self, number: usize, lit: u32)
         requires number { number < self.old.count }
         requires free { find_lit self.old.entries number ≡ None }
-        ensures { self.new ≡ record self.old { entries = self.old.entries ++ (record { number = number; lit = lit }) ∷ [] } }
+        ensures { self.new ≡ with_entry self.old number lit }
     {
         self.entries.push_reserved(Entry {
             number: number as u32,

@@ -15,7 +15,6 @@ use Rattle.gh_path.specs.Admitted.{IsAdmitted, NoneHas}
 use Rattle.gh_path.specs.Conditions.{Condition, conditions_of, IsCondition}
 use Rattle.gh_path.specs.Kept.{StandsFor}
 use Rattle.gh_path.specs.declared.condition.Condition as kept
-use Rattle.gh_path.specs.declared.condition.PathStep as kept_step
 use Rattle.gh_path.proofs.Listed.{listed}
 use Rattle.gh_symb.specs.Limits.{HasTerms, HasVersions, PassesLimit}
 use Rattle.gh_symb.specs.Symbolic.{symbolic_of}

@@ -48,7 +48,8 @@ fn has_leading_zero(digits: &[u8]) -> bool
 // The value of digits, where they have no leading zero and it fits 32 bits.
 fn value_of(digits: &[u8]) -> Option<u32>
     requires { all_ascii_digits digits.now ≡ true }
-    ensures { MatchOption result ((n : ℕ) → IsValue n → digits.now ≡ decimal n → ⊥) (λ n. digits.now ≡ decimal n) }
+    ensures { MatchOption result ((n : ℕ) → IsValue n → digits.now ≡ decimal n → ⊥)
+        (λ n. digits.now ≡ decimal n) }
 {
     if has_leading_zero(digits) {
         return None;

@@ -130,7 +130,8 @@ fn read_states(
     names: &[Name],
 ) -> Result<Option<Vec<State>>, AllocError>
     requires { AreDistinctNames names.now }
-    ensures { IfOk result (λ o. IsFrontRead (ShowsStates names.now 0) cursor.old.text.now cursor.new.text.now (option_map (λ v. v.items) o)) }
+    ensures { IfOk result (λ o. IsFrontRead (ShowsStates names.now 0) cursor.old.text.now cursor.new.text.now
+        (option_map (λ v. v.items) o)) }
 {
     let mut states = Vec::new(alloc);
     'states: while cursor.take(b"end\n").is_none() {
@@ -174,7 +175,8 @@ fn read_trace(
     number: u32,
 ) -> Result<Option<Trace>, AllocError>
     requires { program_of conditions.now ≡ program_of typed.now }
-    ensures { IfOk result (λ o. IsFound (ShowsTrace (program_of typed.now) number cursor.old.text.now) (option_map (λ t. t.states.items) o)) }
+    ensures { IfOk result (λ o. IsFound (ShowsTrace (program_of typed.now) number cursor.old.text.now)
+        (option_map (λ t. t.states.items) o)) }
 {
     let Some(condition) = conditions.condition(alloc, number)? else {
         return Ok(None);

@@ -1,15 +1,18 @@
 -- Questions as they are kept.
-use Rattle.std.specs.Prelude.{◌≡◌, ⊤, map}
+use Rattle.std.specs.Prelude.{◌≡◌, ⊤, List, map}
+use Rattle.gh_base.specs.declared.term.TermKind.{TermKind}
 use Rattle.gh_ast.specs.Plain.{Formula}
-use Rattle.gh_ast.specs.Questions.{Question}
+use Rattle.gh_ast.specs.Questions.{Claim, Claims, Question}
+use Rattle.gh_grass.specs.Claims as ground
 use Rattle.gh_grass.specs.declared.binding.Bond.{Bond}
 use Rattle.gh_symb.specs.Symbolic.{Under}
+use Rattle.gh_symb.specs.Formulas.{meets, meets_whole}
 use Rattle.gh_symb.specs.Encodings.{plain_kind, IsBinding}
 use Rattle.gh_symb.specs.Inside.{binding_of}
-use Rattle.std.specs.Prelude.{List}
 use Rattle.gh_entail.specs.Rules.{IsTyped, IsFirstBroken}
 use Rattle.gh_entail.specs.Limits.{KeepsLimits, IsLimit}
 use Rattle.gh_entail.specs.Terms.{question_walked}
+use Rattle.gh_entail.specs.Formulas.{claim_formula, claim_formulas}
 use Rattle.gh_entail.specs.declared.terms.QuestionTerms.{QuestionTerms}
 use Rattle.gh_entail.specs.declared.admit.AskError.{AskError}
 use Rattle.gh_entail.specs.declared.admit.AskError.TheVariants as ask
@@ -17,6 +20,20 @@ use Rattle.gh_entail.specs.declared.admit.AskError.TheVariants as ask
 -- an assertion under the terms of the variables, in version 0
 abbrev pub under_at : List Bond → Formula → Under
 under_at bonds f = record { assertion = f; binding = binding_of bonds; version = 0 }
+
+-- over terms and bonds as they are kept: that some part of the heap meets an assertion, and that the whole heap does
+abbrev pub meets_over : List TermKind → List Bond → Formula → ground.Claim
+meets_over terms bonds f = meets (map plain_kind terms) (under_at bonds f)
+
+abbrev pub meets_whole_over : List TermKind → List Bond → Formula → ground.Claim
+meets_whole_over terms bonds f = meets_whole (map plain_kind terms) (under_at bonds f)
+
+-- and the formulas of claims
+abbrev pub claim_over : List TermKind → List Bond → Claim → ground.Claim
+claim_over terms bonds c = claim_formula (map plain_kind terms) (binding_of bonds) c
+
+abbrev pub claims_over : List TermKind → List Bond → Claims → List ground.Claim
+claims_over terms bonds cs = claim_formulas (map plain_kind terms) (binding_of bonds) cs
 
 -- the terms and the bindings of a question
 pub record AreTerms (q : Question) (t : QuestionTerms) : Type 0 where

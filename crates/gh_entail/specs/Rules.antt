@@ -1,5 +1,6 @@
 -- The type rules of a question. For each rule a relation says at which places it is broken.
-use Rattle.std.specs.Prelude.{◌≡◌, ℕ, List, [], ◌++◌, Any}
+use Rattle.std.specs.Prelude.{◌≡◌, ℕ, List, [], ◌++◌, map, Any}
+use denote.Ref.{Bor}
 use Rattle.gh_base.specs.declared.place.Span.{Span}
 use Rattle.gh_ast.specs.declared.Occ.{Occ}
 use Rattle.gh_ast.specs.Questions.{Claim, leaf, denial, every, either, Claims, no_claims, claim_first, Question}
@@ -17,6 +18,10 @@ abbrev mutual
   pub in_claims : Claims → List Occ
   in_claims no_claims = []
   in_claims (claim_first c cs) = in_claim c ++ in_claims cs
+
+-- these occurrences are added last to those that are lent
+abbrev pub Gathers : List (Bor Occ) → List (Bor Occ) → List Occ → Type 0
+Gathers old new os = map (λ o. o.now) new ≡ map (λ o. o.now) old ++ os
 
 -- those of a question: of the left claim, then of the right one
 abbrev pub in_question : Question → List Occ

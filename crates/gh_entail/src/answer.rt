@@ -1,10 +1,8 @@
 //! The answer to a question.
 
 ghost use Rattle.std.specs.Prelude.{◌≡◌, IfOk, length};
-ghost use Rattle.gh_ast.specs.Programs.{names};
 ghost use Rattle.gh_ast.specs.Questions.{question_of};
-ghost use Rattle.gh_model.specs.KeptTraces.{state_in};
-ghost use Rattle.gh_entail.specs.Answers.{IsAnswer};
+ghost use Rattle.gh_entail.specs.Answers.{IsAnswer, shown_state};
 
 use crate::admit::Asked;
 use crate::ground::question_ground;
@@ -28,7 +26,7 @@ pub enum Entailment {
 fn state(alloc: Global, asked: &Asked, structure: &Structure) -> Result<State, AllocError>
     requires terms { structure.now.sizes.terms ≡ length asked.now.over.terms }
     requires versions { structure.now.sizes.versions ≡ 1 }
-    ensures { IfOk result (λ s. s ≡ state_in structure.now (names asked.now.question.variables.items) 0 asked.now.over.binding) }
+    ensures { IfOk result (λ s. s ≡ shown_state structure.now asked.now) }
 {
     let variables = asked.question.variables.as_slice();
     let mut store = Store::new(alloc);

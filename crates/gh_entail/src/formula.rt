@@ -1,14 +1,12 @@
 // The ground formula of a claim.
 
-ghost use Rattle.std.specs.Prelude.{◌≡◌, IfOk, map};
+ghost use Rattle.std.specs.Prelude.{◌≡◌, IfOk};
 ghost use Rattle.gh_ast.specs.Plain.{formula_of};
 ghost use Rattle.gh_grass.specs.Claims.{claim_of, claims_list};
 ghost use Rattle.gh_symb.specs.Formulas as formulas;
-ghost use Rattle.gh_symb.specs.Encodings.{plain_kind};
-ghost use Rattle.gh_symb.specs.Inside.{binding_of};
-ghost use Rattle.gh_entail.specs.Formulas.{claim_formula, claim_formulas};
 ghost use Rattle.gh_ast.specs.Questions as questions;
-ghost use Rattle.gh_entail.specs.Asked.{under_at};
+ghost use Rattle.gh_ast.specs.Questions.{claims_view};
+ghost use Rattle.gh_entail.specs.Asked.{under_at, meets_over, meets_whole_over, claim_over, claims_over};
 
 use gh_ast::Assertion;
 use gh_ast::question::Claim;
@@ -27,7 +25,7 @@ fn meets(
     binding: &Binding,
     terms: &TermList,
 ) -> Result<Formula, AllocError>
-    ensures { IfOk result (λ f. claim_of f ≡ formulas.meets (map plain_kind terms.now) (under_at binding.now (formula_of assertion.now))) }
+    ensures { IfOk result (λ f. claim_of f ≡ meets_over terms.now binding.now (formula_of assertion.now)) }
 {
     Ok(structure_of(alloc, assertion, binding, 0, terms)?)
 }
@@ -64,7 +62,7 @@ fn meets_whole(
     binding: &Binding,
     terms: &TermList,
 ) -> Result<Formula, AllocError>
-    ensures { IfOk result (λ f. claim_of f ≡ formulas.meets_whole (map plain_kind terms.now) (under_at binding.now (formula_of assertion.now))) }
+    ensures { IfOk result (λ f. claim_of f ≡ meets_whole_over terms.now binding.now (formula_of assertion.now)) }
 {
     let mut members = Vec::new(alloc);
     members.push(meets(alloc, assertion, binding, terms)?)?;
@@ -82,7 +80,7 @@ pub fn formula_of_claim(
     binding: &Binding,
     terms: &TermList,
 ) -> Result<Formula, AllocError>
-    ensures { IfOk result (λ f. claim_of f ≡ claim_formula (map plain_kind terms.now) (binding_of binding.now) (questions.claim_of claim.now)) }
+    ensures { IfOk result (λ f. claim_of f ≡ claim_over terms.now binding.now (questions.claim_of claim.now)) }
 {
     match claim {
         Claim::Leaf(assertion) => Ok(meets_whole(alloc, assertion, binding, terms)?),
@@ -109,7 +107,7 @@ fn formulas_of_claims(
     binding: &Binding,
     terms: &TermList,
 ) -> Result<Vec<Formula>, AllocError>
-    ensures { IfOk result (λ fs. claims_list fs.items ≡ claim_formulas (map plain_kind terms.now) (binding_of binding.now) (questions.claims_view claims.now)) }
+    ensures { IfOk result (λ fs. claims_list fs.items ≡ claims_over terms.now binding.now (claims_view claims.now)) }
 {
     let mut formulas = Vec::new(alloc);
     for claim in claims {

@@ -1,12 +1,12 @@
 // The occurrences of variables in claims, and the numbers of their atoms.
 
-ghost use Rattle.std.specs.Prelude.{◌≡◌, ◌++◌, OnOk, map};
+ghost use Rattle.std.specs.Prelude.{◌≡◌, OnOk};
 ghost use Rattle.gh_ast.specs.Limits.{reported};
 ghost use Rattle.gh_ast.specs.Occurrences.{in_operand, in_expr, in_test, in_tests, in_formula, in_formulas};
 ghost use Rattle.gh_ast.specs.Plain.{test_of, tests_view, formula_of, formulas_view};
 ghost use Rattle.gh_ast.specs.Questions.{claim_of, claims_view};
 ghost use Rattle.gh_entail.specs.Limits.{claim_atoms, claims_atoms};
-ghost use Rattle.gh_entail.specs.Rules.{in_claim, in_claims};
+ghost use Rattle.gh_entail.specs.Rules.{in_claim, in_claims, Gathers};
 
 use gh_ast::question::Claim;
 use gh_ast::{Assertion, Cond, Expr, Occ, Operand};
@@ -14,7 +14,7 @@ use gh_types::counts::count_atoms;
 use std::alloc::AllocError;
 
 fn add_operand<'a>(found: &mut Vec<&'a Occ>, operand: &'a Operand) -> Result<(), AllocError>
-    ensures { OnOk result (map (λ o. o.now) found.new.items ≡ map (λ o. o.now) found.old.items ++ in_operand operand.now) }
+    ensures { OnOk result (Gathers found.old.items found.new.items (in_operand operand.now)) }
 {
     if let Operand::Var(occurrence) = operand {
         found.push(occurrence)?;
@@ -23,7 +23,7 @@ fn add_operand<'a>(found: &mut Vec<&'a Occ>, operand: &'a Operand) -> Result<(),
 }
 
 fn add_expr<'a>(found: &mut Vec<&'a Occ>, expr: &'a Expr) -> Result<(), AllocError>
-    ensures { OnOk result (map (λ o. o.now) found.new.items ≡ map (λ o. o.now) found.old.items ++ in_expr expr.now) }
+    ensures { OnOk result (Gathers found.old.items found.new.items (in_expr expr.now)) }
 {
     match expr {
         Expr::Plain(operand) => add_operand(found, operand),
@@ -33,7 +33,7 @@ fn add_expr<'a>(found: &mut Vec<&'a Occ>, expr: &'a Expr) -> Result<(), AllocErr
 
 #[cycle(any_test)]
 fn add_test<'a>(found: &mut Vec<&'a Occ>, test: &'a Cond) -> Result<(), AllocError>
-    ensures { OnOk result (map (λ o. o.now) found.new.items ≡ map (λ o. o.now) found.old.items ++ in_test (test_of test.now)) }
+    ensures { OnOk result (Gathers found.old.items found.new.items (in_test (test_of test.now))) }
 {
     match test {
         Cond::Compare { left, right, .. } => {
@@ -48,7 +48,7 @@ fn add_test<'a>(found: &mut Vec<&'a Occ>, test: &'a Cond) -> Result<(), AllocErr
 
 #[cycle(any_test)]
 fn add_tests<'a>(found: &mut Vec<&'a Occ>, tests: &'a [Cond]) -> Result<(), AllocError>
-    ensures { OnOk result (map (λ o. o.now) found.new.items ≡ map (λ o. o.now) found.old.items ++ in_tests (tests_view tests.now)) }
+    ensures { OnOk result (Gathers found.old.items found.new.items (in_tests (tests_view tests.now))) }
 {
     for test in tests {
         add_test(found, test)?;
@@ -58,7 +58,7 @@ fn add_tests<'a>(found: &mut Vec<&'a Occ>, tests: &'a [Cond]) -> Result<(), Allo
 
 #[cycle(assertion)]
 fn add_assertion<'a>(found: &mut Vec<&'a Occ>, assertion: &'a Assertion) -> Result<(), AllocError>
-    ensures { OnOk result (map (λ o. o.now) found.new.items ≡ map (λ o. o.now) found.old.items ++ in_formula (formula_of assertion.now)) }
+    ensures { OnOk result (Gathers found.old.items found.new.items (in_formula (formula_of assertion.now))) }
 {
     match assertion {
         Assertion::Emp => Ok(()),
@@ -89,7 +89,7 @@ fn add_assertions<'a>(
     found: &mut Vec<&'a Occ>,
     assertions: &'a [Assertion],
 ) -> Result<(), AllocError>
-    ensures { OnOk result (map (λ o. o.now) found.new.items ≡ map (λ o. o.now) found.old.items ++ in_formulas (formulas_view assertions.now)) }
+    ensures { OnOk result (Gathers found.old.items found.new.items (in_formulas (formulas_view assertions.now))) }
 {
     for assertion in assertions {
         add_assertion(found, assertion)?;
@@ -100,7 +100,7 @@ fn add_assertions<'a>(
 /// Adds the occurrences of variables in a claim, from left to right.
 #[cycle(claim)]
 pub fn add_claim<'a>(found: &mut Vec<&'a Occ>, claim: &'a Claim) -> Result<(), AllocError>
-    ensures { OnOk result (map (λ o. o.now) found.new.items ≡ map (λ o. o.now) found.old.items ++ in_claim (claim_of claim.now)) }
+    ensures { OnOk result (Gathers found.old.items found.new.items (in_claim (claim_of claim.now))) }
 {
     match claim {
         Claim::Leaf(assertion) => add_assertion(found, assertion),
@@ -112,7 +112,7 @@ pub fn add_claim<'a>(found: &mut Vec<&'a Occ>, claim: &'a Claim) -> Result<(), A
 
 #[cycle(claim)]
 fn add_claims<'a>(found: &mut Vec<&'a Occ>, claims: &'a [Claim]) -> Result<(), AllocError>
-    ensures { OnOk result (map (λ o. o.now) found.new.items ≡ map (λ o. o.now) found.old.items ++ in_claims (claims_view claims.now)) }
+    ensures { OnOk result (Gathers found.old.items found.new.items (in_claims (claims_view claims.now))) }
 {
     for claim in claims {
         add_claim(found, claim)?;

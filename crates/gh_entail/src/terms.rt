@@ -2,10 +2,9 @@
 
 ghost use Rattle.std.specs.Prelude.{◌≡◌, ◌<◌, ◌≤◌, IfOk, OnOk, MatchOption};
 ghost use Rattle.gh_ast.specs.Questions.{claim_of, claims_view, question_of};
-ghost use Rattle.gh_symb.specs.Tables.{state};
 ghost use Rattle.gh_entail.specs.Asked.{AreTerms};
 ghost use Rattle.gh_entail.specs.Limits.{count_terms};
-ghost use Rattle.gh_entail.specs.Terms.{claim_walked, claims_walked};
+ghost use Rattle.gh_entail.specs.Terms.{WalksClaim, WalksClaims};
 
 use gh_ast::question::{Claim, Question};
 use gh_grass::binding::Binding;
@@ -30,7 +29,7 @@ fn walk_claim<'a>(
     claim: &'a Claim,
     negative: bool,
 ) -> Result<(), AllocError>
-    ensures { OnOk result (state kinds.new scope.new 0 ≡ claim_walked negative (claim_of claim.now) (state kinds.old scope.old 0)) }
+    ensures { OnOk result (WalksClaim negative (claim_of claim.now) kinds.old scope.old kinds.new scope.new) }
 {
     match claim {
         Claim::Leaf(assertion) => {
@@ -54,7 +53,7 @@ fn walk_claims<'a>(
     claims: &'a [Claim],
     negative: bool,
 ) -> Result<(), AllocError>
-    ensures { OnOk result (state kinds.new scope.new 0 ≡ claims_walked negative (claims_view claims.now) (state kinds.old scope.old 0)) }
+    ensures { OnOk result (WalksClaims negative (claims_view claims.now) kinds.old scope.old kinds.new scope.new) }
 {
     for claim in claims {
         walk_claim(scope, kinds, claim, negative)?;

@@ -1,5 +1,5 @@
 -- Names with terms, as a list.
-use Rattle.std.specs.Prelude.{◌≡◌, ◌≢◌, ℕ, ◌<◌, List, length, slice_index_or, [], ◌∷◌, map, Option, Some, None, cond, AllPairs, Bool, false, ◌==◌, ◌&&◌, position, unwrap_or}
+use Rattle.std.specs.Prelude.{◌≡◌, ◌≢◌, ℕ, ◌<◌, List, length, slice_index_or, [], ◌∷◌, ◌++◌, map, Contains, Option, Some, None, cond, AllPairs, Bool, false, ◌==◌, ◌&&◌, position, unwrap_or}
 use Rattle.std.specs.Str.{bytes_eq}
 use Rattle.gh_base.specs.declared.atom.Term.{Term}
 use Rattle.gh_base.specs.declared.term.TermKind.{TermKind}
@@ -36,6 +36,10 @@ term k = record { 0 = k }
 -- the term of a name; one without a term counts as null
 abbrev pub bound_term : List Bond → Name → Term
 bound_term bs name = unwrap_or (term_in bs name) (term 0)
+
+-- a kind that wasn't there is added last
+abbrev pub AddsNew : List TermKind → List TermKind → TermKind → Type 0
+AddsNew old new kind = (Contains old kind → ⊥) → new ≡ old ++ kind ∷ []
 
 -- the kind of the content of the cell at a term in a version
 abbrev pub is_next : ℕ → Term → TermKind → Bool

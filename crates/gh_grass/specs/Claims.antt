@@ -1,5 +1,6 @@
 -- The plain form of ground formulas: each `Vec` is the list of its members.
-use Rattle.std.specs.Prelude.{List, [], ◌∷◌, map, min, max}
+use Rattle.std.specs.Prelude.{◌≡◌, List, [], ◌∷◌, ◌++◌, map, Vec, min, max}
+use Rattle.std.specs.Global.{Global}
 use Rattle.gh_base.specs.declared.atom.Term.{Term}
 use Rattle.gh_base.specs.declared.atom.Atom.{Atom}
 use Rattle.gh_base.specs.declared.atom.Atom.TheVariants.{Eq}
@@ -51,3 +52,7 @@ one_of fs = disjunction_of (claims_of fs)
 -- two terms are equal, the smaller one first
 abbrev pub equality : Term → Term → Claim
 equality a b = atom (Eq (term (min a.0 b.0)) (term (max a.0 b.0)))
+
+-- claims were added to those of some formulas
+abbrev pub Adds : Vec Formula Global → Vec Formula Global → List Claim → Type 0
+Adds old new added = claims_list new.items ≡ claims_list old.items ++ added

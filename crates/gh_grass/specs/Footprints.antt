@@ -1,16 +1,20 @@
 -- The ground formulas of an assertion: a term is in its footprint; some part of the heap meets it.
-use Rattle.std.specs.Prelude.{ℕ, List, [], ◌∷◌, ◌++◌, map, Bool, true, false}
+use Rattle.std.specs.Prelude.{ℕ, List, [], ◌∷◌, ◌++◌, length, map, Bool, true, false}
 use Rattle.std.specs.List.{flat_map, range_with_len}
 use Rattle.gh_base.specs.declared.atom.Term.{Term}
 use Rattle.gh_base.specs.declared.atom.Atom.TheVariants.{Btwn, Alloc}
 use Rattle.gh_ast.specs.declared.Occ.{Occ}
 use Rattle.gh_ast.specs.declared.Operand.{Operand}
 use Rattle.gh_ast.specs.declared.Operand.TheVariants.{Null, Var}
+use Rattle.gh_ast.specs.declared.Assertion.{Assertion}
+use Rattle.gh_ast.specs.declared.Cond.{Cond}
 use Rattle.gh_ast.specs.declared.Expr.{Expr}
 use Rattle.gh_ast.specs.declared.Expr.TheVariants.{Plain, Read}
-use Rattle.gh_ast.specs.Plain.{Test, compare, negation, conjunction, disjunction, Tests, no_tests, test_first, Formula, empty, comparison, points_to, cell, segment, star, cases, Formulas, no_formulas, formula_first}
+use Rattle.gh_ast.specs.Plain.{Test, compare, negation, conjunction, disjunction, Tests, no_tests, test_first, Formula, empty, comparison, points_to, cell, segment, star, cases, Formulas, no_formulas, formula_first, test_of, formula_of, formulas_view}
 use Rattle.gh_ast.specs.Programs.{Name}
-use Rattle.gh_grass.specs.Bindings.{term}
+use Rattle.gh_grass.specs.declared.binding.Bond.{Bond}
+use Rattle.gh_base.specs.declared.term.TermKind.{TermKind}
+use Rattle.gh_grass.specs.Bindings.{term, bound_term, next_term}
 use Rattle.gh_grass.specs.Claims.{Claim, atom, negation_of, all_of, one_of, equality}
 
 -- the terms of variables
@@ -106,3 +110,35 @@ abbrev mutual
   pub structures : Variables → (Term → Term) → ℕ → ℕ → Formulas → List Claim
   structures b next i n no_formulas = []
   structures b next i n (formula_first f fs) = structure b next i n f ∷ structures b next i n fs
+
+-- the same of assertions and tests of the code, by the terms of listed names and of listed successors
+abbrev pub by_test_of : List Bond → Cond → Claim → Claim → Claim
+by_test_of bs t f g = by_test (tested (bound_term bs) (test_of t)) f g
+
+abbrev pub footprint_of : List Bond → ℕ → Term → Assertion → Claim
+footprint_of bs i z a = footprint (bound_term bs) i z (formula_of a)
+
+abbrev pub footprints_of : List Bond → ℕ → Term → List Assertion → List Claim
+footprints_of bs i z assertions = footprints (bound_term bs) i z (formulas_view assertions)
+
+abbrev pub apart_here_of : List Bond → ℕ → Assertion → Assertion → Term → Claim
+apart_here_of bs i first second z = apart_here (bound_term bs) i (formula_of first) (formula_of second) z
+
+abbrev pub apart_of : List Bond → ℕ → ℕ → Assertion → Assertion → List Claim
+apart_of bs i n first second = apart (bound_term bs) i n (formula_of first) (formula_of second)
+
+-- .. from each of some others
+abbrev pub apart_from : List Bond → ℕ → ℕ → Assertion → List Assertion → List Claim
+apart_from bs i n first others = flat_map (apart (bound_term bs) i n (formula_of first)) (map formula_of others)
+
+abbrev pub all_apart_of : List Bond → ℕ → ℕ → List Assertion → List Claim
+all_apart_of bs i n assertions = all_apart (bound_term bs) i n (map formula_of assertions)
+
+abbrev pub leads_to_of : List Bond → List TermKind → ℕ → Occ → Operand → Claim
+leads_to_of bs terms i x y = leads_to (bound_term bs) (next_term terms i) i x y
+
+abbrev pub structure_of : List Bond → List TermKind → ℕ → Assertion → Claim
+structure_of bs terms i a = structure (bound_term bs) (next_term terms i) i (length terms) (formula_of a)
+
+abbrev pub structures_of : List Bond → List TermKind → ℕ → List Assertion → List Claim
+structures_of bs terms i assertions = structures (bound_term bs) (next_term terms i) i (length terms) (formulas_view assertions)

@@ -1,11 +1,8 @@
 //! The formulas of an assertion: which terms are in its footprint, and that some part of the heap meets it.
 
-ghost use Rattle.std.specs.Prelude.{◌≡◌, ◌++◌, IfOk, OnOk, length, map};
-ghost use Rattle.std.specs.List.{flat_map};
-ghost use Rattle.gh_ast.specs.Plain.{formula_of, formulas_view};
-ghost use Rattle.gh_grass.specs.Bindings.{bound_term, next_term};
-ghost use Rattle.gh_grass.specs.Claims.{claim_of, claims_list};
-ghost use Rattle.gh_grass.specs.Footprints.{before_end, footprint, footprints, apart_here, apart, leads_to, all_apart, structure, structures};
+ghost use Rattle.std.specs.Prelude.{◌≡◌, IfOk, OnOk};
+ghost use Rattle.gh_grass.specs.Claims.{claim_of, claims_list, Adds};
+ghost use Rattle.gh_grass.specs.Footprints.{before_end, all_apart_of, apart_from, apart_here_of, apart_of, footprint_of, footprints_of, leads_to_of, structure_of, structures_of};
 
 use crate::binding::Binding;
 use crate::formula::Formula;
@@ -46,7 +43,7 @@ pub fn footprint_at(
     version: u8,
     z: Term,
 ) -> Result<Formula, AllocError>
-    ensures { IfOk result (λ f. claim_of f ≡ footprint (bound_term binding.now) version z (formula_of assertion.now)) }
+    ensures { IfOk result (λ f. claim_of f ≡ footprint_of binding.now version z assertion.now) }
 {
     match assertion {
         Assertion::Emp => Ok(Formula::Or(Vec::new(alloc))),
@@ -78,7 +75,7 @@ fn footprints_at(
     version: u8,
     z: Term,
 ) -> Result<Vec<Formula>, AllocError>
-    ensures { IfOk result (λ fs. claims_list fs.items ≡ footprints (bound_term binding.now) version z (formulas_view assertions.now)) }
+    ensures { IfOk result (λ fs. claims_list fs.items ≡ footprints_of binding.now version z assertions.now) }
 {
     let mut formulas = Vec::new(alloc);
     for assertion in assertions {
@@ -96,7 +93,7 @@ fn apart_at(
     version: u8,
     z: Term,
 ) -> Result<Formula, AllocError>
-    ensures { IfOk result (λ f. claim_of f ≡ apart_here (bound_term binding.now) version (formula_of first.now) (formula_of second.now) z) }
+    ensures { IfOk result (λ f. claim_of f ≡ apart_here_of binding.now version first.now second.now z) }
 {
     let one = footprint_at(alloc, first, binding, version, z)?;
     let other = footprint_at(alloc, second, binding, version, z)?;
@@ -113,7 +110,7 @@ fn push_apart(
     terms: u8,
     formulas: &mut Vec<Formula>,
 ) -> Result<(), AllocError>
-    ensures { OnOk result (claims_list formulas.new.items ≡ claims_list formulas.old.items ++ apart (bound_term binding.now) version terms (formula_of first.now) (formula_of second.now)) }
+    ensures { OnOk result (Adds formulas.old formulas.new (apart_of binding.now version terms first.now second.now)) }
 {
     for z in 0..terms {
         formulas.push(apart_at(alloc, first, second, binding, version, Term(z))?)?;
@@ -131,7 +128,7 @@ fn push_apart_from(
     terms: u8,
     formulas: &mut Vec<Formula>,
 ) -> Result<(), AllocError>
-    ensures { OnOk result (claims_list formulas.new.items ≡ claims_list formulas.old.items ++ flat_map (apart (bound_term binding.now) version terms (formula_of first.now)) (map formula_of others.now)) }
+    ensures { OnOk result (Adds formulas.old formulas.new (apart_from binding.now version terms first.now others.now)) }
 {
     for second in others {
         push_apart(alloc, first, second, binding, version, terms, formulas)?;
@@ -148,7 +145,7 @@ fn push_all_apart(
     terms: u8,
     formulas: &mut Vec<Formula>,
 ) -> Result<(), AllocError>
-    ensures { OnOk result (claims_list formulas.new.items ≡ claims_list formulas.old.items ++ all_apart (bound_term binding.now) version terms (map formula_of members.now)) }
+    ensures { OnOk result (Adds formulas.old formulas.new (all_apart_of binding.now version terms members.now)) }
 {
     for (i, first) in members.iter().enumerate() {
         let others = &members[i + 1..];
@@ -166,7 +163,7 @@ fn points_to(
     version: u8,
     terms: &TermList,
 ) -> Result<Formula, AllocError>
-    ensures { IfOk result (λ f. claim_of f ≡ leads_to (bound_term binding.now) (next_term terms.now version) version at.now to.now) }
+    ensures { IfOk result (λ f. claim_of f ≡ leads_to_of binding.now terms.now version at.now to.now) }
 {
     let x = variable_term(binding, at);
     let next = terms.next(version, x).unwrap_or(Term(0));
@@ -185,7 +182,7 @@ pub fn structure_of(
     version: u8,
     terms: &TermList,
 ) -> Result<Formula, AllocError>
-    ensures { IfOk result (λ f. claim_of f ≡ structure (bound_term binding.now) (next_term terms.now version) version (length terms.now) (formula_of assertion.now)) }
+    ensures { IfOk result (λ f. claim_of f ≡ structure_of binding.now terms.now version assertion.now) }
 {
     match assertion {
         Assertion::Emp => Ok(Formula::And(Vec::new(alloc))),
@@ -237,7 +234,7 @@ fn structures_of(
     version: u8,
     terms: &TermList,
 ) -> Result<Vec<Formula>, AllocError>
-    ensures { IfOk result (λ fs. claims_list fs.items ≡ structures (bound_term binding.now) (next_term terms.now version) version (length terms.now) (formulas_view assertions.now)) }
+    ensures { IfOk result (λ fs. claims_list fs.items ≡ structures_of binding.now terms.now version assertions.now) }
 {
     let mut formulas = Vec::new(alloc);
     for assertion in assertions {

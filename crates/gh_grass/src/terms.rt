@@ -1,8 +1,8 @@
 //! The terms of a condition, in order of first appearance.
 
-ghost use Rattle.std.specs.Prelude.{◌≡◌, ◌<◌, ◌∷◌, ◌++◌, [], length, Some, slice_get, IfOk, OnErr, IfSome, IfNone, Contains, unwrap_or};
+ghost use Rattle.std.specs.Prelude.{◌≡◌, ◌<◌, ◌∷◌, [], length, Some, slice_get, IfOk, OnErr, IfSome, IfNone, Contains, unwrap_or};
 ghost use Rattle.gh_base.specs.declared.term.TermKind.TheVariants.{Null, Next};
-ghost use Rattle.gh_grass.specs.Bindings.{term, next_term};
+ghost use Rattle.gh_grass.specs.Bindings.{term, next_term, AddsNew};
 
 use gh_base::atom::Term;
 use gh_base::term::TermKind;
@@ -58,7 +58,7 @@ impl TermList {
         requires room { length self.old < 255 }
         ensures place { IfOk result (λ term. slice_get self.new term.0 ≡ Some kind) }
         ensures kept { IfOk result (λ term. Contains self.old kind → self.new ≡ self.old) }
-        ensures added { IfOk result (λ term. (Contains self.old kind → ⊥) → self.new ≡ self.old ++ kind ∷ []) }
+        ensures added { IfOk result (λ term. AddsNew self.old self.new kind) }
         ensures err { OnErr result (self.new ≡ self.old) }
     {
         let (place, _) = self.kinds.insert_full(kind)?;

@@ -4,7 +4,7 @@ ghost use Rattle.std.specs.Prelude.{◌≡◌, IfOk};
 ghost use Rattle.gh_ast.specs.Plain.{test_of, tests_view};
 ghost use Rattle.gh_grass.specs.Bindings.{bound_term};
 ghost use Rattle.gh_grass.specs.Claims.{claim_of, claims_list};
-ghost use Rattle.gh_grass.specs.Footprints.{operand_term, plain_term, compared, tested, all_tested, by_test};
+ghost use Rattle.gh_grass.specs.Footprints.{operand_term, plain_term, compared, tested, all_tested, by_test_of};
 
 use crate::binding::Binding;
 use crate::formula::Formula;
@@ -96,7 +96,7 @@ pub fn cases(
     taken: Formula,
     otherwise: Formula,
 ) -> Result<Formula, AllocError>
-    ensures { IfOk result (λ f. claim_of f ≡ by_test (tested (bound_term binding.now) (test_of test.now)) (claim_of taken) (claim_of otherwise)) }
+    ensures { IfOk result (λ f. claim_of f ≡ by_test_of binding.now test.now (claim_of taken) (claim_of otherwise)) }
 {
     let first = test_formula(alloc, test, binding)?.and(alloc, taken)?;
     let fails = test_formula(alloc, test, binding)?.negated(alloc)?;

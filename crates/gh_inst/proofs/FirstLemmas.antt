@@ -13,13 +13,13 @@ use Rattle.gh_base.specs.Meaning.{Interpretation, IsClauseTrue}
 use Rattle.gh_base.specs.Structures.{interpretation_of}
 use Rattle.gh_inst.specs.declared.collecting.Looked.{Looked}
 use Rattle.gh_inst.specs.declared.naming.InstanceName.{InstanceName}
-use Rattle.gh_inst.specs.Instances.{name_of, row_instances}
+use Rattle.gh_inst.specs.Instances.{name_of, row_instances, row_in}
 use Rattle.gh_inst.specs.Schemas.{term}
 use Rattle.gh_inst.specs.Table.{AxiomRow, table, row_with}
 use Rattle.gh_inst.specs.Tuples.{tuples, terms_below}
 use Rattle.gh_inst.specs.Search.{IsSearched, IsRowTrue, tuples_with}
 use Rattle.gh_inst.specs.Violations.{IsFirstWithout, IsInstanceTrue, IsFirstFalse}
-use Rattle.gh_inst.specs.Collecting.{IsFalseInstance, Gathers, GathersAt, IsTrueAt, IsNamed, AreNamed, row_in}
+use Rattle.gh_inst.specs.Collecting.{IsFalseInstance, Gathers, GathersAt, IsTrueAt, IsNamed, AreNamed}
 use Rattle.gh_inst.proofs.TupleLemmas.{term_there, terms_length}
 use Rattle.gh_inst.proofs.SearchLemmas.{among, range_below}
 use Rattle.gh_inst.proofs.ViolationLemmas.{clause_there}

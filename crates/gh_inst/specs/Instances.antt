@@ -1,8 +1,10 @@
 -- The instances of the axiom rows.
-use Rattle.std.specs.Prelude.{ℕ, ◌≡◌, ◌<◌, ◌-◌, List, [], ◌++◌, length, map, take, replicate, All, Option, Some, None, option_map}
+use Rattle.std.specs.Prelude.{ℕ, ◌≡◌, ◌<◌, ◌-◌, List, [], ◌++◌, length, slice_get, map, take, replicate, All, Option, Some, None, option_map}
 use Rattle.std.specs.List.{flat_map, range_with_len}
 use Rattle.gh_base.specs.declared.atom.Term.{Term}
 use Rattle.gh_base.specs.declared.atom.Lit.{Lit}
+use Rattle.gh_base.specs.declared.sizes.Sizes.{Sizes}
+use Rattle.gh_base.specs.Atoms.{AreInRange}
 use Rattle.gh_inst.specs.declared.naming.InstanceName.{InstanceName}
 use Rattle.gh_inst.specs.Schemas.{term, clause_over}
 use Rattle.gh_inst.specs.Table.{AxiomRow, table, row_with}
@@ -16,6 +18,15 @@ name_of number version tuple =
 -- the instances of a row over n terms and some versions
 abbrev pub row_instances : ℕ → ℕ → AxiomRow → List InstanceName
 row_instances n versions r = flat_map (λ version. map (name_of r.number version) (tuples r.variables n)) (range_with_len 0 versions)
+
+-- those in one version
+abbrev pub row_in : Sizes → ℕ → AxiomRow → List InstanceName
+row_in s version r = map (name_of r.number version) (tuples r.variables s.terms)
+
+-- a name is at a place among the instances of a row
+abbrev pub IsNameInRow : ℕ → ℕ → ℕ → ℕ → ℕ → InstanceName → Type 0
+IsNameInRow number variables n versions place name =
+    (r : AxiomRow) → r.number ≡ number → r.variables ≡ variables → slice_get (row_instances n versions r) place ≡ Some name
 
 -- all instances: by row, then by version, then by tuple
 abbrev pub instances : ℕ → ℕ → List InstanceName
@@ -36,6 +47,10 @@ clause_of name = clause_with name (row_with name.row table)
 -- a name has term 0 past its terms
 abbrev pub IsPadded : InstanceName → Type 0
 IsPadded name = name ≡ name_of name.row name.version (tuple_of name)
+
+-- the atoms of a clause are over so many terms and versions, however many other atoms there are
+abbrev pub AreInRangeOver : ℕ → ℕ → List Lit → Type 0
+AreInRangeOver n versions clause = (s : Sizes) → s.terms ≡ n → s.versions ≡ versions → AreInRange s clause
 
 -- the row is in the table and has as many variables, the version and the terms are there, and term 0 stands past these
 pub record IsInstance (n versions : ℕ) (name : InstanceName) : Type 0 where

@@ -34,6 +34,10 @@ equality a b = Eq (term (min a.0 b.0)) (term (max a.0 b.0))
 abbrev pub term_at : List Term → List ℕ → ℕ → Term
 term_at terms places k = slice_index_or terms (slice_index_or places k 0) (term 0)
 
+-- the term at each place that is used is one of the first n
+abbrev pub AreTermsBelow : ℕ → Pattern → List Term → Type 0
+AreTermsBelow n p terms = (k : ℕ) → k < places_of p.shape → (term_at terms p.places k).0 < n
+
 -- an atom, by the term at each place
 abbrev pub atom_of : Shape → ℕ → (ℕ → Term) → Atom
 atom_of Equal version at = equality (at 0) (at 1)

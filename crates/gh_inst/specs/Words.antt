@@ -4,6 +4,7 @@ use Rattle.std.specs.Int.{bit_at}
 use Rattle.gh_base.specs.declared.atom.Term.{Term}
 use Rattle.gh_base.specs.declared.atom.Atom.TheVariants.{Btwn, Hop}
 use Rattle.gh_base.specs.Meaning.{Interpretation, IsLitTrue, under, lit_truth}
+use Rattle.gh_base.specs.Structures.{Tables, interpretation_of}
 use Rattle.gh_inst.specs.declared.schema.Shape.TheVariants.{Btwn as Between}
 use Rattle.gh_inst.specs.declared.schema.Pattern.{Pattern}
 use Rattle.gh_inst.specs.Schemas.{term, places_of, lit_over}
@@ -27,6 +28,35 @@ pub record AreWords (m : Interpretation) (version n : ℕ) (words : List ℕ) : 
   pub reach : (x y word : ℕ) → x < n → y < n → slice_get words (1024 + x) ≡ Some word → bit_at word y ≡ bit_of (is_between m version x y y)
   pub hops : (x y word : ℕ) → x < n → y < n → slice_get words (1056 + x) ≡ Some word → bit_at word y ≡ bit_of (is_hop m version x y)
 
+-- the same of a structure
+abbrev pub AreWordsOf : Tables → ℕ → List ℕ → Type 0
+AreWordsOf s version words = AreWords (interpretation_of s) version s.sizes.terms words
+
+-- the word of two terms: which third terms are reached from the first one by way of the second
+abbrev pub IsPairWord : Tables → ℕ → ℕ → ℕ → ℕ → Type 0
+IsPairWord s version x y word = (z : ℕ) → z < s.sizes.terms → bit_at word z ≡ bit_of (is_between (interpretation_of s) version x y z)
+
+-- the word of one term: which ones are reached from it
+abbrev pub IsReachWord : Tables → ℕ → ℕ → ℕ → Type 0
+IsReachWord s version x word = (y : ℕ) → y < s.sizes.terms → bit_at word y ≡ bit_of (is_between (interpretation_of s) version x y y)
+
+-- .. to which ones its cell leads
+abbrev pub IsHopWord : Tables → ℕ → ℕ → ℕ → Type 0
+IsHopWord s version x word = (y : ℕ) → y < s.sizes.terms → bit_at word y ≡ bit_of (is_hop (interpretation_of s) version x y)
+
+-- a word at a place is that of its two terms, or of its one term, where the place is theirs
+abbrev pub IsPairWordAt : Tables → ℕ → ℕ → ℕ → Type 0
+IsPairWordAt s version place word = (x y z : ℕ) → x < s.sizes.terms → y < s.sizes.terms → z < s.sizes.terms → place ≡ x * 32 + y
+    → bit_at word z ≡ bit_of (is_between (interpretation_of s) version x y z)
+
+abbrev pub IsReachWordAt : Tables → ℕ → ℕ → ℕ → Type 0
+IsReachWordAt s version place word = (x y : ℕ) → x < s.sizes.terms → y < s.sizes.terms → place ≡ 1024 + x
+    → bit_at word y ≡ bit_of (is_between (interpretation_of s) version x y y)
+
+abbrev pub IsHopWordAt : Tables → ℕ → ℕ → ℕ → Type 0
+IsHopWordAt s version place word = (x y : ℕ) → x < s.sizes.terms → y < s.sizes.terms → place ≡ 1056 + x
+    → bit_at word y ≡ bit_of (is_hop (interpretation_of s) version x y)
+
 -- a literal on betweenness, of which the first two terms are known
 pub record IsPair (p : Pattern) (tuple : List Term) (first place : ℕ) : Type 0 where
   pub shape : p.shape ≡ Between
@@ -42,6 +72,11 @@ pub record AreTruths (m : Interpretation) (version n : ℕ) (p : Pattern) (tuple
       → lit_truth m (lit_over version (take first tuple ++ rest) p) ≡ under p.positive (truth z)
   pub bits : (z : ℕ) → z < n → bit_at word z ≡ bit_of (truth z)
 
+-- of any words, the one at a place has the truths of the atom, by its third term
+abbrev pub AreTruthsAt : ℕ → Pattern → List Term → ℕ → Type 0
+AreTruthsAt at p tuple first = (m : Interpretation) (version n word : ℕ) (words : List ℕ) → AreWords m version n words
+    → All (λ t. t.0 < n) (take first tuple) → slice_get words at ≡ Some word → AreTruths m version n p tuple first 2 word
+
 -- the bits of a word are the terms at one of its places at which a literal is false
 pub record AreFalse (m : Interpretation) (version n : ℕ) (p : Pattern) (tuple : List Term) (first place word : ℕ) : Type 0 where
   pub used : place < places_of p.shape
@@ -50,14 +85,37 @@ pub record AreFalse (m : Interpretation) (version n : ℕ) (p : Pattern) (tuple 
   pub fails : (z : ℕ) (rest : List Term) → z < n → slice_index_or (take first tuple ++ rest) (slice_index_or p.places place 0) (term 0) ≡ term z
       → bit_at word z ≢ 0 → ¬ IsLitTrue m (lit_over version (take first tuple ++ rest) p)
 
+-- where one word has the truths of the atom, another has the terms at which the literal is false
+abbrev pub TellsFalse : Pattern → ℕ → ℕ → Type 0
+TellsFalse p word left = (m : Interpretation) (version n : ℕ) (tuple : List Term) (first place : ℕ) → n ≤ 32
+    → AreTruths m version n p tuple first place word → AreFalse m version n p tuple first place left
+
 -- a literal is true, whatever comes later, where the next term's bit isn't there; with a bit it is false, if it is known
 pub record IsLitOpen (m : Interpretation) (version n : ℕ) (p : Pattern) (tuple : List Term) (first word : ℕ) : Type 0 where
   pub closed : (z : ℕ) (rest : List Term) → z < n → All (λ t. t.0 < n) rest → slice_index_or (take first tuple ++ rest) first (term 0) ≡ term z
       → bit_at word z ≡ 0 → IsLitTrue m (lit_over version (take first tuple ++ rest) p)
   pub known : word ≢ 0 → IsAmong first p → ¬ IsLitTrue m (lit_over version (take first tuple) p)
 
+-- .. in a structure
+abbrev pub IsLitOpenIn : Tables → ℕ → Pattern → List Term → ℕ → ℕ → Type 0
+IsLitOpenIn s version p tuple first word = IsLitOpen (interpretation_of s) version s.sizes.terms p tuple first word
+
+-- .. where another word has the truths of the atom
+abbrev pub TellsOpen : Pattern → List Term → ℕ → ℕ → ℕ → ℕ → Type 0
+TellsOpen p tuple first place word next = (m : Interpretation) (version n : ℕ) → n ≤ 32 → 0 < n → All (λ t. t.0 < n) (take first tuple)
+    → AreTruths m version n p tuple first place word → IsLitOpen m version n p tuple first next
+
+-- .. wherever these are the words
+abbrev pub IsOpenByWords : List ℕ → Pattern → List Term → ℕ → ℕ → Type 0
+IsOpenByWords words p tuple first next = (m : Interpretation) (version n : ℕ) → AreWords m version n words → 0 < n
+    → All (λ t. t.0 < n) (take first tuple) → IsLitOpen m version n p tuple first next
+
 -- the same of a row
 pub record IsOpen (m : Interpretation) (version n : ℕ) (lits : List Pattern) (tuple : List Term) (first word : ℕ) : Type 0 where
   pub closed : (z : ℕ) (rest : List Term) → z < n → All (λ t. t.0 < n) rest → slice_index_or (take first tuple ++ rest) first (term 0) ≡ term z
       → bit_at word z ≡ 0 → IsRowTrue m version lits (take first tuple ++ rest)
   pub known : word ≢ 0 → All (IsAmong first) lits → ¬ IsRowTrue m version lits (take first tuple)
+
+-- .. in a structure
+abbrev pub IsOpenIn : Tables → ℕ → List Pattern → List Term → ℕ → ℕ → Type 0
+IsOpenIn s version lits tuple first word = IsOpen (interpretation_of s) version s.sizes.terms lits tuple first word

@@ -1,15 +1,11 @@
 //! Instances that are false in a structure, some of each row and version.
 
-ghost use Rattle.std.specs.Prelude.{◌≡◌, ◌<◌, ◌≤◌, ◌-◌, [], ◌∷◌, ℕ, All, Contains, IfOk, OnOk, Some, length, option_map, take};
+ghost use Rattle.std.specs.Prelude.{◌≡◌, ◌<◌, ◌≤◌, [], ◌∷◌, ℕ, All, IfOk, OnOk, length, take};
 ghost use Rattle.std.specs.Int.{bit_at};
-ghost use Rattle.gh_base.specs.Structures.{interpretation_of};
-ghost use Rattle.gh_inst.specs.Table.{row_with, table, AxiomRow};
 ghost use Rattle.gh_inst.specs.Schemas.{term};
-ghost use Rattle.gh_inst.specs.declared.naming.InstanceName.{InstanceName as GhostName};
-ghost use Rattle.gh_inst.specs.Words.{AreWords};
-ghost use Rattle.gh_inst.specs.Search.{IsRowTrue, IsSearched, tuples_with};
-ghost use Rattle.gh_inst.specs.Violations.{AreInstancesTrue, IsFirstFalse};
-ghost use Rattle.gh_inst.specs.Collecting.{IsFalseInstance, Gathers, IsLooked, GathersIn, RowHolds, VersionHolds, IsNamed, AreNamed};
+ghost use Rattle.gh_inst.specs.Words.{AreWordsOf};
+ghost use Rattle.gh_inst.specs.Violations.{AreAllTrueIn};
+ghost use Rattle.gh_inst.specs.Collecting.{IsLooked, AreAllNamed, AreNamedIn, IsFirstNamed, GathersFrom, GathersRow, GathersVersion, IsFalseIn, IsFirstOfRow, IsRowNamed, IsTrueFrom};
 
 use crate::naming::InstanceName;
 use crate::schema::Pattern;
@@ -41,7 +37,7 @@ fn first_in(row: &Looked, start: [Term; 4], first: usize) -> Option<[Term; 4]>
     requires some { 0 < row.now.structure.now.sizes.terms }
     requires first { first ≤ row.now.variables }
     requires terms { All (λ t. t.0 < row.now.structure.now.sizes.terms) (take first start) }
-    ensures { IsSearched (IsRowTrue (interpretation_of row.now.structure.now) row.now.version row.now.lits.now) (tuples_with (row.now.variables - first) row.now.structure.now.sizes.terms (take first start)) (option_map (take row.now.variables) result) }
+    ensures { IsFirstOfRow row.now first start result }
 {
     let variables = row.variables as usize;
     let (structure, version) = (row.structure, row.version);
@@ -65,7 +61,7 @@ fn gather_first(
     requires first { first ≤ row.now.variables }
     requires long { length (take first start) ≡ first }
     requires terms { All (λ t. t.0 < row.now.structure.now.sizes.terms) (take first start) }
-    ensures { OnOk result (GathersIn row.now (take first start) (row.now.variables - first) found.old.items found.new.items) }
+    ensures { OnOk result (GathersFrom row.now (take first start) first found.old.items found.new.items) }
 {
     if let Some(terms) = first_in(row, start, first) {
         found.push(name_of_terms(row.number, row.variables, row.version, terms))?;
@@ -78,7 +74,7 @@ fn second_terms(row: &Looked, x: Term) -> u32
     requires looked { IsLooked row.now }
     requires x { x.0 < row.now.structure.now.sizes.terms }
     ensures { (y : ℕ) → y < row.now.structure.now.sizes.terms → y < 32 → bit_at result y ≡ 0
-        → All (IsRowTrue (interpretation_of row.now.structure.now) row.now.version row.now.lits.now) (tuples_with (row.now.variables - 2) row.now.structure.now.sizes.terms (x ∷ term y ∷ [])) }
+        → IsTrueFrom row.now (x ∷ term y ∷ []) 2 }
 {
     if row.words.is_empty() {
         return u32::MAX;
@@ -91,7 +87,7 @@ fn second_terms(row: &Looked, x: Term) -> u32
 fn gather_second(row: &Looked, x: Term, found: &mut Vec<InstanceName>) -> Result<(), AllocError>
     requires looked { IsLooked row.now }
     requires x { x.0 < row.now.structure.now.sizes.terms }
-    ensures { OnOk result (GathersIn row.now (x ∷ []) (row.now.variables - 1) found.old.items found.new.items) }
+    ensures { OnOk result (GathersFrom row.now (x ∷ []) 1 found.old.items found.new.items) }
 {
     if row.variables == 1 {
         return gather_first(row, [x, Term(0), Term(0), Term(0)], 1, found);
@@ -110,7 +106,7 @@ fn gather_second(row: &Looked, x: Term, found: &mut Vec<InstanceName>) -> Result
 fn gather(row: &Looked, most: usize, found: &mut Vec<InstanceName>) -> Result<(), AllocError>
     requires looked { IsLooked row.now }
     requires room { length found.old.items < most }
-    ensures { OnOk result (GathersIn row.now [] (row.now.variables - 0) found.old.items found.new.items) }
+    ensures { OnOk result (GathersFrom row.now [] 0 found.old.items found.new.items) }
 {
     for x in 0..row.structure.terms() {
         if found.len() >= most {
@@ -130,9 +126,9 @@ fn gather_row(
     found: &mut Vec<InstanceName>,
 ) -> Result<(), AllocError>
     requires version { version < structure.now.sizes.versions }
-    requires words { AreWords (interpretation_of structure.now) version structure.now.sizes.terms words.now }
-    ensures gathers { OnOk result ((r : AxiomRow) → row_with number table ≡ Some r → Gathers structure.now.sizes (interpretation_of structure.now) found.old.items found.new.items (RowHolds structure.now.sizes (interpretation_of structure.now) version r)) }
-    ensures named { OnOk result ((r : AxiomRow) → row_with number table ≡ Some r → IsNamed structure.now.sizes (interpretation_of structure.now) version found.new.items r) }
+    requires words { AreWordsOf structure.now version words.now }
+    ensures gathers { OnOk result (GathersRow structure.now version number found.old.items found.new.items) }
+    ensures named { OnOk result (IsRowNamed structure.now version number found.new.items) }
 {
     if let Some(row) = row_numbered(number) {
         let looked = Looked {
@@ -155,8 +151,8 @@ fn gather_version(
     found: &mut Vec<InstanceName>,
 ) -> Result<(), AllocError>
     requires version { version < structure.now.sizes.versions }
-    ensures gathers { OnOk result (Gathers structure.now.sizes (interpretation_of structure.now) found.old.items found.new.items (VersionHolds structure.now.sizes (interpretation_of structure.now) version)) }
-    ensures named { OnOk result (AreNamed structure.now.sizes (interpretation_of structure.now) version found.new.items) }
+    ensures gathers { OnOk result (GathersVersion structure.now version found.old.items found.new.items) }
+    ensures named { OnOk result (AreNamedIn structure.now version found.new.items) }
 {
     if structure.terms() > 32 {
         return gather_rows(structure, version, &[], found);
@@ -173,9 +169,9 @@ fn gather_rows(
     found: &mut Vec<InstanceName>,
 ) -> Result<(), AllocError>
     requires version { version < structure.now.sizes.versions }
-    requires words { AreWords (interpretation_of structure.now) version structure.now.sizes.terms words.now }
-    ensures gathers { OnOk result (Gathers structure.now.sizes (interpretation_of structure.now) found.old.items found.new.items (VersionHolds structure.now.sizes (interpretation_of structure.now) version)) }
-    ensures named { OnOk result (AreNamed structure.now.sizes (interpretation_of structure.now) version found.new.items) }
+    requires words { AreWordsOf structure.now version words.now }
+    ensures gathers { OnOk result (GathersVersion structure.now version found.old.items found.new.items) }
+    ensures named { OnOk result (AreNamedIn structure.now version found.new.items) }
 {
     for number in 1..16 {
         gather_row(number, structure, version, words, found)?;
@@ -189,10 +185,10 @@ pub fn false_instances(
     alloc: Global,
     structure: &Structure,
 ) -> Result<Vec<InstanceName>, AllocError>
-    ensures each { IfOk result (λ found. All (IsFalseInstance structure.now.sizes (interpretation_of structure.now)) found.items) }
-    ensures named { IfOk result (λ found. (version : ℕ) → version < structure.now.sizes.versions → AreNamed structure.now.sizes (interpretation_of structure.now) version found.items) }
-    ensures first { IfOk result (λ found. (name : GhostName) → IsFirstFalse structure.now.sizes (interpretation_of structure.now) name → Contains found.items name) }
-    ensures none { IfOk result (λ found. found.items ≡ [] → AreInstancesTrue structure.now.sizes (interpretation_of structure.now)) }
+    ensures each { IfOk result (λ found. All (IsFalseIn structure.now) found.items) }
+    ensures named { IfOk result (λ found. AreAllNamed structure.now found.items) }
+    ensures first { IfOk result (λ found. IsFirstNamed structure.now found.items) }
+    ensures none { IfOk result (λ found. found.items ≡ [] → AreAllTrueIn structure.now) }
 {
     let mut found = Vec::new(alloc);
     for version in 0..structure.versions() {

@@ -3,8 +3,8 @@
 ghost use Rattle.std.specs.Prelude.{◌≡◌, ◌<◌, ◌≤◌, ◌^◌, ◌*◌, Some, slice_get, map, option_map};
 ghost use Rattle.std.specs.Iterator.{YieldsFirst, item_count};
 ghost use Rattle.gh_inst.specs.Tuples.{tuples};
-ghost use Rattle.gh_inst.specs.Table.{AxiomRow, table, row_with};
-ghost use Rattle.gh_inst.specs.Instances.{name_of, row_instances, instances};
+ghost use Rattle.gh_inst.specs.Table.{table, row_with};
+ghost use Rattle.gh_inst.specs.Instances.{name_of, instances, IsNameInRow};
 
 use crate::naming::InstanceName;
 use crate::table::row_numbered;
@@ -65,7 +65,7 @@ fn name_in_row(
     requires few { variables ≤ 4 }
     requires all { count ≡ terms ^ variables }
     requires within { place < versions * count }
-    ensures { (r : AxiomRow) → r.number ≡ row → r.variables ≡ variables → slice_get (row_instances terms versions r) place ≡ Some result }
+    ensures { IsNameInRow row variables terms versions place result }
 {
     let version = (place / count as u64) as u8;
     let place = (place % count as u64) as u32;

@@ -1,11 +1,9 @@
 //! Names of instances, and their clauses.
 
-ghost use Rattle.std.specs.Prelude.{◌≡◌, ◌<◌, ◌≤◌, ◌↔◌, IsTrue, IsSome, IfSome, All, take, Some, None};
-ghost use Rattle.gh_base.specs.declared.sizes.Sizes.{Sizes};
-ghost use Rattle.gh_base.specs.Atoms.{AreInRange};
+ghost use Rattle.std.specs.Prelude.{◌≡◌, ◌<◌, ◌≤◌, ◌↔◌, IsTrue, IsSome, IfSome, All, take};
 ghost use Rattle.gh_inst.specs.Schemas.{clause_over};
 ghost use Rattle.gh_inst.specs.Table.{variables_of, lits_of};
-ghost use Rattle.gh_inst.specs.Instances.{IsInstance, clause_of};
+ghost use Rattle.gh_inst.specs.Instances.{IsInstance, clause_of, AreInRangeOver};
 
 use crate::schema::clause_at;
 use crate::table::{Row, row_numbered};
@@ -72,7 +70,7 @@ impl Row {
 pub fn instance(alloc: Global, name: InstanceName, terms: u8, versions: u8) -> Option<Clause>
     ensures exact { IsSome result ↔ IsInstance terms versions name }
     ensures clause { IfSome result (λ clause. clause ≡ clause_of name) }
-    ensures in_range { IfSome result (λ clause. (s : Sizes) → s.terms ≡ terms → s.versions ≡ versions → AreInRange s clause) }
+    ensures in_range { IfSome result (λ clause. AreInRangeOver terms versions clause) }
 {
     let row = row_numbered(name.row)?;
     if name.arity != row.variables() || name.version >= versions {

@@ -1,12 +1,9 @@
 //! The first tuple at which a row is false.
 
-ghost use Rattle.std.specs.Prelude.{◌≡◌, ◌<◌, ◌≤◌, ◌-◌, ◌++◌, ◌↔◌, ℕ, List, IsTrue, All, length, take, option_map, []};
-ghost use Rattle.gh_base.specs.declared.atom.Term.{Term as GhostTerm};
-ghost use Rattle.gh_base.specs.Meaning.{IsLitTrue};
-ghost use Rattle.gh_base.specs.Structures.{interpretation_of};
-ghost use Rattle.gh_inst.specs.Schemas.{places_of, term_at, lit_over};
-ghost use Rattle.gh_inst.specs.Words.{AreWords, IsOpen};
-ghost use Rattle.gh_inst.specs.Search.{IsAmong, IsSearched, IsRowTrue, tuples_with};
+ghost use Rattle.std.specs.Prelude.{◌≡◌, ◌<◌, ◌≤◌, ◌↔◌, IsTrue, All, length, take, []};
+ghost use Rattle.gh_inst.specs.Schemas.{places_of, AreTermsBelow};
+ghost use Rattle.gh_inst.specs.Words.{AreWordsOf, IsOpenIn};
+ghost use Rattle.gh_inst.specs.Search.{IsAmong, IsFirstTuple, IsFalseOver, IsRowFalseOver, IsRowSettled, IsSettled, IsTrueOver};
 
 use crate::schema::{Pattern, Shape};
 use crate::words::{open_terms, words_of};
@@ -38,8 +35,8 @@ impl Pattern {
     fn is_true(self, structure: &Structure, version: u8, tuple: &[Term; 4]) -> bool
         requires version { version < structure.now.sizes.versions }
         requires variables { IsAmong 4 self }
-        requires terms { (k : ℕ) → k < places_of self.shape → (term_at tuple.now self.places k).0 < structure.now.sizes.terms }
-        ensures { IsTrue result ↔ IsLitTrue (interpretation_of structure.now) (lit_over version tuple.now self) }
+        requires terms { AreTermsBelow structure.now.sizes.terms self tuple.now }
+        ensures { IsTrue result ↔ IsTrueOver structure.now version tuple.now self }
     {
         let lit = self.lit(version, tuple);
         structure.holds(lit.atom) == lit.positive
@@ -56,8 +53,8 @@ impl Pattern {
         requires version { version < structure.now.sizes.versions }
         requires first { first ≤ 4 }
         requires terms { All (λ t. t.0 < structure.now.sizes.terms) (take first tuple.now) }
-        ensures settled { IsTrue result → (rest : List GhostTerm) → IsLitTrue (interpretation_of structure.now) (lit_over version (take first tuple.now ++ rest) self) }
-        ensures open { ¬ IsTrue result → IsAmong first self → ¬ IsLitTrue (interpretation_of structure.now) (lit_over version (take first tuple.now) self) }
+        ensures settled { IsTrue result → IsSettled structure.now version (take first tuple.now) self }
+        ensures open { ¬ IsTrue result → IsFalseOver structure.now version first tuple.now self }
     {
         if self.is_among(first) {
             return self.is_true(structure, version, tuple);
@@ -77,8 +74,8 @@ fn is_settled(
     requires version { version < structure.now.sizes.versions }
     requires first { first ≤ 4 }
     requires terms { All (λ t. t.0 < structure.now.sizes.terms) (take first tuple.now) }
-    ensures settled { IsTrue result → (rest : List GhostTerm) → IsRowTrue (interpretation_of structure.now) version lits.now (take first tuple.now ++ rest) }
-    ensures open { ¬ IsTrue result → All (IsAmong first) lits.now → ¬ IsRowTrue (interpretation_of structure.now) version lits.now (take first tuple.now) }
+    ensures settled { IsTrue result → IsRowSettled structure.now version lits.now (take first tuple.now) }
+    ensures open { ¬ IsTrue result → IsRowFalseOver structure.now version first tuple.now lits.now }
 {
     for pattern in lits {
         if pattern.settles(structure, version, tuple, first) {
@@ -102,7 +99,7 @@ pub(crate) fn first_from(
     requires first { first ≤ variables }
     requires lits { All (IsAmong variables) lits.now }
     requires terms { All (λ t. t.0 < structure.now.sizes.terms) (take first start) }
-    ensures { IsSearched (IsRowTrue (interpretation_of structure.now) version lits.now) (tuples_with (variables - first) structure.now.sizes.terms (take first start)) (option_map (take variables) result) }
+    ensures { IsFirstTuple structure.now version lits.now variables first start result }
 {
     if is_settled(lits, structure, version, &start, first) {
         return None;
@@ -136,14 +133,14 @@ fn first_open(
     requires version { version < structure.now.sizes.versions }
     requires few { structure.now.sizes.terms ≤ 32 }
     requires some { 0 < structure.now.sizes.terms }
-    requires words { AreWords (interpretation_of structure.now) version structure.now.sizes.terms words.now }
+    requires words { AreWordsOf structure.now version words.now }
     requires full { length words.now ≡ 1088 }
     requires variables { variables ≤ 4 }
     requires first { first < variables }
     requires lits { All (IsAmong variables) lits.now }
     requires terms { All (λ t. t.0 < structure.now.sizes.terms) (take first start) }
-    requires left { IsOpen (interpretation_of structure.now) version structure.now.sizes.terms lits.now start first left }
-    ensures { IsSearched (IsRowTrue (interpretation_of structure.now) version lits.now) (tuples_with (variables - first) structure.now.sizes.terms (take first start)) (option_map (take variables) result) }
+    requires left { IsOpenIn structure.now version lits.now start first left }
+    ensures { IsFirstTuple structure.now version lits.now variables first start result }
 {
     let mut tuple = start;
     for term in 0..structure.terms() {
@@ -188,13 +185,13 @@ pub(crate) fn first_by_words(
     requires version { version < structure.now.sizes.versions }
     requires few { structure.now.sizes.terms ≤ 32 }
     requires some { 0 < structure.now.sizes.terms }
-    requires words { AreWords (interpretation_of structure.now) version structure.now.sizes.terms words.now }
+    requires words { AreWordsOf structure.now version words.now }
     requires full { length words.now ≡ 1088 }
     requires variables { variables ≤ 4 }
     requires first { first ≤ variables }
     requires lits { All (IsAmong variables) lits.now }
     requires terms { All (λ t. t.0 < structure.now.sizes.terms) (take first start) }
-    ensures { IsSearched (IsRowTrue (interpretation_of structure.now) version lits.now) (tuples_with (variables - first) structure.now.sizes.terms (take first start)) (option_map (take variables) result) }
+    ensures { IsFirstTuple structure.now version lits.now variables first start result }
 {
     let left = open_terms(lits, structure, version, words, &start, first);
     if left == 0 {
@@ -218,7 +215,7 @@ pub(crate) fn first_tuple(
     requires version { version < structure.now.sizes.versions }
     requires variables { variables ≤ 4 }
     requires lits { All (IsAmong variables) lits.now }
-    ensures { IsSearched (IsRowTrue (interpretation_of structure.now) version lits.now) (tuples_with (variables - 0) structure.now.sizes.terms []) (option_map (take variables) result) }
+    ensures { IsFirstTuple structure.now version lits.now variables 0 [] result }
 {
     let start = [Term(0); 4];
     if variables >= 3 && structure.terms() >= 1 && structure.terms() <= 32 {

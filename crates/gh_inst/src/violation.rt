@@ -1,14 +1,11 @@
 //! The first instance that is false in a structure.
 
-ghost use Rattle.std.specs.Prelude.{◌≡◌, ◌<◌, ◌≤◌, ◌↔◌, Some, None, IfSome, MatchBool, take, map};
+ghost use Rattle.std.specs.Prelude.{◌≡◌, ◌<◌, ◌≤◌, ◌↔◌, Some, None, IfSome, MatchBool, take};
 ghost use Rattle.gh_base.specs.Atoms.{IsInRange, AreInRange};
-ghost use Rattle.gh_base.specs.Meaning.{IsLitTrue, IsClauseTrue};
-ghost use Rattle.gh_base.specs.Structures.{interpretation_of};
-ghost use Rattle.gh_inst.specs.Table.{AxiomRow, table, row_with, row_of, variables_of};
-ghost use Rattle.gh_inst.specs.Tuples.{tuples};
-ghost use Rattle.gh_inst.specs.Instances.{name_of, row_instances, IsInstance};
-ghost use Rattle.gh_inst.specs.Violations.{IsInstanceTrue, AreInstancesTrue, IsFirstFalse};
-ghost use Rattle.gh_inst.specs.Search.{IsSearched};
+ghost use Rattle.gh_inst.specs.Table.{table, row_with, row_of};
+ghost use Rattle.gh_inst.specs.Instances.{name_of, IsInstance, row_in};
+ghost use Rattle.gh_inst.specs.Violations.{AreAllTrueIn, IsClauseTrueIn, IsFirstFalseIn, IsLitTrueIn, IsTrueIn};
+ghost use Rattle.gh_inst.specs.Search.{IsFirstFalseOf, IsFirstFalseOfRow};
 
 use crate::instances::{Instances, name_at};
 use crate::naming::{InstanceName, first_terms, instance};
@@ -46,7 +43,7 @@ fn first_in_version(
 ) -> Option<InstanceName>
     requires row { row_with number table ≡ Some (row_of number row.now) }
     requires version { version < structure.now.sizes.versions }
-    ensures { IsSearched (IsInstanceTrue (interpretation_of structure.now)) (map (name_of number version) (tuples (variables_of row.now) structure.now.sizes.terms)) result }
+    ensures { IsFirstFalseOf structure.now (row_in structure.now.sizes version (row_of number row.now)) result }
 {
     let variables = row.variables();
     let terms = first_tuple(row.lits(), variables as usize, structure, version)?;
@@ -55,7 +52,7 @@ fn first_in_version(
 
 // The first instance of a row that is false.
 fn first_in_row(number: u8, structure: &Structure) -> Option<InstanceName>
-    ensures { (r : AxiomRow) → row_with number table ≡ Some r → IsSearched (IsInstanceTrue (interpretation_of structure.now)) (row_instances structure.now.sizes.terms structure.now.sizes.versions r) result }
+    ensures { IsFirstFalseOfRow structure.now number result }
 {
     let row = row_numbered(number)?;
     for version in 0..structure.versions() {
@@ -69,8 +66,8 @@ fn first_in_row(number: u8, structure: &Structure) -> Option<InstanceName>
 
 /// The first instance that is false in a structure, by the order of all instances. It takes no memory.
 pub fn violated(structure: &Structure) -> Option<InstanceName>
-    ensures first { IfSome result (λ name. IsFirstFalse structure.now.sizes (interpretation_of structure.now) name) }
-    ensures none { result ≡ None ↔ AreInstancesTrue structure.now.sizes (interpretation_of structure.now) }
+    ensures first { IfSome result (λ name. IsFirstFalseIn structure.now name) }
+    ensures none { result ≡ None ↔ AreAllTrueIn structure.now }
 {
     for number in 1..16 {
         let found = first_in_row(number, structure);
@@ -84,7 +81,7 @@ pub fn violated(structure: &Structure) -> Option<InstanceName>
 // Whether a literal is true in a structure.
 fn is_lit_true(structure: &Structure, lit: Lit) -> bool
     requires { IsInRange structure.now.sizes lit.atom }
-    ensures { MatchBool result (IsLitTrue (interpretation_of structure.now) lit) (¬ IsLitTrue (interpretation_of structure.now) lit) }
+    ensures { MatchBool result (IsLitTrueIn structure.now lit) (¬ IsLitTrueIn structure.now lit) }
 {
     structure.holds(lit.atom) == lit.positive
 }
@@ -92,7 +89,7 @@ fn is_lit_true(structure: &Structure, lit: Lit) -> bool
 // Whether a clause is.
 fn is_clause_true(structure: &Structure, clause: &[Lit]) -> bool
     requires { AreInRange structure.now.sizes clause.now }
-    ensures { MatchBool result (IsClauseTrue (interpretation_of structure.now) clause.now) (¬ IsClauseTrue (interpretation_of structure.now) clause.now) }
+    ensures { MatchBool result (IsClauseTrueIn structure.now clause.now) (¬ IsClauseTrueIn structure.now clause.now) }
 {
     for lit in clause {
         if is_lit_true(structure, *lit) {
@@ -105,7 +102,7 @@ fn is_clause_true(structure: &Structure, clause: &[Lit]) -> bool
 // Whether an instance is.
 fn is_instance_true(alloc: Global, structure: &Structure, name: InstanceName) -> bool
     requires { IsInstance structure.now.sizes.terms structure.now.sizes.versions name }
-    ensures { MatchBool result (IsInstanceTrue (interpretation_of structure.now) name) (¬ IsInstanceTrue (interpretation_of structure.now) name) }
+    ensures { MatchBool result (IsTrueIn structure.now name) (¬ IsTrueIn structure.now name) }
 {
     match instance(alloc, name, structure.terms(), structure.versions()) {
         None => false,
@@ -116,8 +113,8 @@ fn is_instance_true(alloc: Global, structure: &Structure, name: InstanceName) ->
 /// The first instance that is false in a structure, by a plain walk over all instances, to compare [`violated`] with.
 /// It takes no memory.
 pub fn violated_plainly(alloc: Global, structure: &Structure) -> Option<InstanceName>
-    ensures first { IfSome result (λ name. IsFirstFalse structure.now.sizes (interpretation_of structure.now) name) }
-    ensures none { result ≡ None ↔ AreInstancesTrue structure.now.sizes (interpretation_of structure.now) }
+    ensures first { IfSome result (λ name. IsFirstFalseIn structure.now name) }
+    ensures none { result ≡ None ↔ AreAllTrueIn structure.now }
 {
     for name in Instances::new(structure.terms(), structure.versions()) {
         if !is_instance_true(alloc, structure, name) {

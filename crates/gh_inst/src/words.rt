@@ -1,13 +1,10 @@
 //! Betweenness of one version in words, a bit for each third term, and the next terms that they leave open.
 
-ghost use Rattle.std.specs.Prelude.{◌≡◌, ◌≢◌, ◌<◌, ◌≤◌, ◌+◌, ◌*◌, ℕ, List, All, IfSome, Some, None, length, slice_get, take};
+ghost use Rattle.std.specs.Prelude.{◌≡◌, ◌≢◌, ◌<◌, ◌≤◌, ℕ, All, IfSome, None, length, take};
 ghost use Rattle.std.specs.Int.{bit_at};
-ghost use Rattle.gh_base.specs.declared.atom.Term.{Term as GhostTerm};
-ghost use Rattle.gh_base.specs.Meaning.{Interpretation};
-ghost use Rattle.gh_base.specs.Structures.{interpretation_of};
 ghost use Rattle.gh_inst.specs.declared.schema.Shape.TheVariants.{Btwn as OnTerms, Hop as OnCell};
 ghost use Rattle.gh_inst.specs.Search.{IsAmong};
-ghost use Rattle.gh_inst.specs.Words.{bit_of, is_between, is_hop, AreWords, AreTruths, AreFalse, IsLitOpen, IsOpen};
+ghost use Rattle.gh_inst.specs.Words.{bit_of, AreTruthsAt, AreWordsOf, IsHopWord, IsHopWordAt, IsLitOpenIn, IsOpenByWords, IsOpenIn, IsPairWord, IsPairWordAt, IsReachWord, IsReachWordAt, TellsFalse, TellsOpen};
 
 use crate::schema::{Pattern, Shape};
 use gh_base::atom::{Atom, Term};
@@ -31,7 +28,7 @@ fn word_of(structure: &Structure, version: u8, x: Term, y: Term) -> u32
     requires few { structure.now.sizes.terms ≤ 32 }
     requires x { x.0 < structure.now.sizes.terms }
     requires y { y.0 < structure.now.sizes.terms }
-    ensures { (z : ℕ) → z < structure.now.sizes.terms → bit_at result z ≡ bit_of (is_between (interpretation_of structure.now) version x.0 y.0 z) }
+    ensures { IsPairWord structure.now version x.0 y.0 result }
 {
     let mut word = 0;
     for z in 0..structure.terms() {
@@ -51,7 +48,7 @@ fn reach_of(structure: &Structure, version: u8, x: Term) -> u32
     requires version { version < structure.now.sizes.versions }
     requires few { structure.now.sizes.terms ≤ 32 }
     requires x { x.0 < structure.now.sizes.terms }
-    ensures { (y : ℕ) → y < structure.now.sizes.terms → bit_at result y ≡ bit_of (is_between (interpretation_of structure.now) version x.0 y y) }
+    ensures { IsReachWord structure.now version x.0 result }
 {
     let mut word = 0;
     for y in 0..structure.terms() {
@@ -71,7 +68,7 @@ fn hops_of(structure: &Structure, version: u8, x: Term) -> u32
     requires version { version < structure.now.sizes.versions }
     requires few { structure.now.sizes.terms ≤ 32 }
     requires x { x.0 < structure.now.sizes.terms }
-    ensures { (y : ℕ) → y < structure.now.sizes.terms → bit_at result y ≡ bit_of (is_hop (interpretation_of structure.now) version x.0 y) }
+    ensures { IsHopWord structure.now version x.0 result }
 {
     let mut word = 0;
     for y in 0..structure.terms() {
@@ -90,9 +87,9 @@ fn word_at(structure: &Structure, version: u8, place: usize) -> u32
     requires version { version < structure.now.sizes.versions }
     requires few { structure.now.sizes.terms ≤ 32 }
     requires place { place < 1088 }
-    ensures pair { (x y z : ℕ) → x < structure.now.sizes.terms → y < structure.now.sizes.terms → z < structure.now.sizes.terms → place ≡ x * 32 + y → bit_at result z ≡ bit_of (is_between (interpretation_of structure.now) version x y z) }
-    ensures reach { (x y : ℕ) → x < structure.now.sizes.terms → y < structure.now.sizes.terms → place ≡ 1024 + x → bit_at result y ≡ bit_of (is_between (interpretation_of structure.now) version x y y) }
-    ensures hops { (x y : ℕ) → x < structure.now.sizes.terms → y < structure.now.sizes.terms → place ≡ 1056 + x → bit_at result y ≡ bit_of (is_hop (interpretation_of structure.now) version x y) }
+    ensures pair { IsPairWordAt structure.now version place result }
+    ensures reach { IsReachWordAt structure.now version place result }
+    ensures hops { IsHopWordAt structure.now version place result }
 {
     let x = (place / 32) as u8;
     let y = (place % 32) as u8;
@@ -115,7 +112,7 @@ fn word_at(structure: &Structure, version: u8, place: usize) -> u32
 pub(crate) fn words_of(structure: &Structure, version: u8) -> [u32; 1088]
     requires version { version < structure.now.sizes.versions }
     requires few { structure.now.sizes.terms ≤ 32 }
-    ensures { AreWords (interpretation_of structure.now) version structure.now.sizes.terms result }
+    ensures { AreWordsOf structure.now version result }
 {
     let mut words = [0; 1088];
     for place in 0..1088 {
@@ -131,8 +128,7 @@ impl Pattern {
         requires shape { self.now.shape ≡ OnTerms }
         requires first { first ≤ 4 }
         requires terms { All (λ t. t.0 < 32) (take first tuple.now) }
-        ensures some { IfSome result (λ at. (m : Interpretation) (version n word : ℕ) (words : List ℕ) → AreWords m version n words → All (λ t. t.0 < n) (take first tuple.now)
-            → slice_get words at ≡ Some word → AreTruths m version n self.now tuple.now first 2 word) }
+        ensures some { IfSome result (λ at. AreTruthsAt at self.now tuple.now first) }
         ensures below { IfSome result (λ at. at < 1088) }
         ensures none { result ≡ None → ¬ IsAmong first self.now }
     {
@@ -152,7 +148,7 @@ impl Pattern {
 
     // The terms at which it is false, by those at which its atom is true, as bits.
     fn false_terms(&self, word: u32) -> u32
-        ensures { (m : Interpretation) (version n : ℕ) (tuple : List GhostTerm) (first place : ℕ) → n ≤ 32 → AreTruths m version n self.now tuple first place word → AreFalse m version n self.now tuple first place result }
+        ensures { TellsFalse self.now word result }
     {
         if self.positive {
             return !word;
@@ -165,8 +161,7 @@ impl Pattern {
         requires place { place < 3 }
         requires first { first ≤ 4 }
         requires terms { All (λ t. t.0 < 32) (take first tuple.now) }
-        ensures { (m : Interpretation) (version n : ℕ) → n ≤ 32 → 0 < n → All (λ t. t.0 < n) (take first tuple.now) → AreTruths m version n self.now tuple.now first place word
-            → IsLitOpen m version n self.now tuple.now first result }
+        ensures { TellsOpen self.now tuple.now first place word result }
     {
         let left = self.false_terms(word);
         let z = self.places[place] as usize;
@@ -191,7 +186,7 @@ impl Pattern {
         requires first { first ≤ 4 }
         requires terms { All (λ t. t.0 < 32) (take first tuple.now) }
         requires full { length words.now ≡ 1088 }
-        ensures { (m : Interpretation) (version n : ℕ) → AreWords m version n words.now → 0 < n → All (λ t. t.0 < n) (take first tuple.now) → IsLitOpen m version n self.now tuple.now first result }
+        ensures { IsOpenByWords words.now self.now tuple.now first result }
     {
         match self.between_at(tuple, first) {
             Some(at) => self.next_by(words[at], 2, tuple, first),
@@ -205,7 +200,7 @@ impl Pattern {
         requires first { first ≤ 4 }
         requires terms { All (λ t. t.0 < 32) (take first tuple.now) }
         requires full { length words.now ≡ 1088 }
-        ensures { (m : Interpretation) (version n : ℕ) → AreWords m version n words.now → 0 < n → All (λ t. t.0 < n) (take first tuple.now) → IsLitOpen m version n self.now tuple.now first result }
+        ensures { IsOpenByWords words.now self.now tuple.now first result }
     {
         let x = self.places[0] as usize;
         if x >= first {
@@ -227,11 +222,11 @@ impl Pattern {
         requires version { version < structure.now.sizes.versions }
         requires few { structure.now.sizes.terms ≤ 32 }
         requires some { 0 < structure.now.sizes.terms }
-        requires words { AreWords (interpretation_of structure.now) version structure.now.sizes.terms words.now }
+        requires words { AreWordsOf structure.now version words.now }
         requires full { length words.now ≡ 1088 }
         requires first { first ≤ 4 }
         requires terms { All (λ t. t.0 < structure.now.sizes.terms) (take first tuple.now) }
-        ensures { IsLitOpen (interpretation_of structure.now) version structure.now.sizes.terms self.now tuple.now first result }
+        ensures { IsLitOpenIn structure.now version self.now tuple.now first result }
     {
         match self.shape {
             Shape::Btwn => return self.next_between(words, tuple, first),
@@ -257,11 +252,11 @@ pub(crate) fn open_terms(
     requires version { version < structure.now.sizes.versions }
     requires few { structure.now.sizes.terms ≤ 32 }
     requires some { 0 < structure.now.sizes.terms }
-    requires words { AreWords (interpretation_of structure.now) version structure.now.sizes.terms words.now }
+    requires words { AreWordsOf structure.now version words.now }
     requires full { length words.now ≡ 1088 }
     requires first { first ≤ 4 }
     requires terms { All (λ t. t.0 < structure.now.sizes.terms) (take first tuple.now) }
-    ensures { IsOpen (interpretation_of structure.now) version structure.now.sizes.terms lits.now tuple.now first result }
+    ensures { IsOpenIn structure.now version lits.now tuple.now first result }
 {
     let mut terms = u32::MAX;
     for pattern in lits {

@@ -2,7 +2,7 @@
 use Rattle.std.specs.Prelude.{◌≡◌, ℕ, List, map, Option, Some, None}
 use Rattle.gh_ast.specs.declared.Expr.{Expr}
 use Rattle.gh_ast.specs.declared.Occ.{Occ}
-use Rattle.gh_ast.specs.Plain.{Procedure, Program, procedure_of}
+use Rattle.gh_ast.specs.Plain.{Procedure, Program}
 use Rattle.gh_ast.specs.Programs.{parameters_of, Declares}
 use Rattle.gh_assert.specs.Meaning.{Store}
 use Rattle.gh_assert.specs.Values.{Give}
@@ -15,7 +15,7 @@ use Rattle.gh_trace.specs.declared.state.State as kept_state
 use Rattle.gh_lens.specs.declared.exchange.Exchange.{Exchange}
 use Rattle.gh_lens.specs.declared.setting.Setting.{Setting}
 use Rattle.gh_lens.specs.Exchanges.{IsExchange}
-use Rattle.gh_lens.specs.Settings.{OfStep, whole}
+use Rattle.gh_lens.specs.Settings.{OfStep, here, whole}
 
 -- a call by what the callee requires of its arguments
 pub record IsCallExchange (q : Procedure) (vs : List ℕ) (x y : State) (e : Exchange) : Type 0 where
@@ -48,7 +48,7 @@ IsHandedToCallee setting callee es x y o =
 -- what the loop of a number hands over between two states
 abbrev pub IsHandedToLoop : Setting → ℕ → kept_state.State → kept_state.State → Option Exchange → Type 0
 IsHandedToLoop setting number x y o =
-    (l : Loop) → IsLoop (procedure_of setting.procedure.now) number l → IsHandedOr (whole setting) (looped l) (state_of x) (state_of y) o
+    (l : Loop) → IsLoop (here setting) number l → IsHandedOr (whole setting) (looped l) (state_of x) (state_of y) o
 
 -- what a step hands over between two states
 abbrev pub IsHandedBetween : Setting → kept_step.PathStep → kept_state.State → kept_state.State → Option Exchange → Type 0

@@ -3,8 +3,9 @@ use Rattle.std.specs.Prelude.{◌≡◌, ℕ, suc, List, [], ◌∷◌, Bool, tr
 use Rattle.gh_ast.specs.Plain.{Program}
 use Rattle.gh_path.specs.Graphs.{Check, access, entry, loop_entry, returned, loop_end}
 use Rattle.gh_path.specs.Conditions.{Condition}
+use Rattle.gh_path.specs.declared.condition.Condition as kept
 use Rattle.gh_trace.specs.declared.state.Trace.{Trace}
-use Rattle.gh_trace.specs.Kept.{drawn_of}
+use Rattle.gh_trace.specs.Kept.{IsOfProgram, drawn_of}
 use Rattle.gh_trace.specs.Replay.{Refutes}
 use Rattle.gh_trace.specs.Validity.{IsConditionValid}
 use Rattle.gh_draw.specs.Descriptions.{description}
@@ -25,12 +26,20 @@ abbrev pub IsFound : Program → Condition → Finding → Type 0
 IsFound P c Valid = IsConditionValid P c
 IsFound P c Refuted = (t : Trace) × Refutes P c (drawn_of t)
 
+-- the same of the condition that a kept one stands for
+abbrev pub IsFoundFor : Program → kept.Condition → Finding → Type 0
+IsFoundFor P r f = (c : Condition) → IsOfProgram P r c → IsFound P c f
+
 -- what is kept of the k-th condition
 pub record IsJudged (P : Program) (k : ℕ) (c : Condition) (j : Judged) : Type 0 where
   pub number : j.number ≡ k
   pub description : j.description ≡ description c
   pub ground_work : j.is_ground_work ≡ is_ground_work c.way.check
   pub found : IsFound P c j.finding
+
+-- the same of the condition that a kept one stands for
+abbrev pub IsJudgedFor : Program → ℕ → kept.Condition → Judged → Type 0
+IsJudgedFor P k r j = (c : Condition) → IsOfProgram P r c → IsJudged P k c j
 
 -- the conditions, numbered from k, one by one
 abbrev pub AreJudged : Program → ℕ → List Condition → List Judged → Type 0

@@ -1,12 +1,10 @@
 //! What a call or a loop takes over of a heap, what it leaves aside, and what comes back.
 
 ghost use Rattle.std.specs.Prelude.{◌≡◌, IfOk, IfSome, IfNone};
-ghost use Rattle.gh_ast.specs.Plain.{formula_of};
 ghost use Rattle.gh_assert.specs.Heaps.{Heap as PlainHeap};
-ghost use Rattle.gh_assert.specs.Stores.{store_of};
 ghost use Rattle.gh_trace.specs.Left.{left};
 ghost use Rattle.gh_trace.specs.Parts.{Stands};
-ghost use Rattle.gh_lens.specs.Exchanges.{IsExchange};
+ghost use Rattle.gh_lens.specs.Exchanges.{IsExchangeOf};
 
 use gh_assert::heap::Heap;
 use gh_assert::meaning::footprint;
@@ -40,7 +38,7 @@ pub fn exchanged(
     before: Part<'_>,
     after: &Heap,
 ) -> Result<Option<Exchange>, AllocError>
-    ensures some { IfOk result (λ o. IfSome o (IsExchange (formula_of before.entry.assertion.now) (store_of before.entry.store.now) before.entry.heap.now after.now)) }
+    ensures some { IfOk result (λ o. IfSome o (IsExchangeOf before.entry after.now)) }
     ensures none { IfOk result (λ o. IfNone o ((other : PlainHeap) → Stands before.entry after.now other → ⊥)) }
 {
     let Some(handed) = footprint(alloc, before.store, before.heap, before.assertion)? else {

@@ -8,8 +8,8 @@ ghost use Rattle.gh_path.specs.Graphs as graph;
 ghost use Rattle.gh_path.specs.Kept.{IsKind};
 ghost use Rattle.gh_base.specs.declared.place.Span.{Span};
 ghost use Rattle.gh_ast.specs.Plain.{Procedure, Program};
-ghost use Rattle.gh_trace.specs.Kept.{IsOfProgram, IsOne};
-ghost use Rattle.gh_lens.specs.Judgements.{is_ground_work, IsFound, IsJudged, AreJudged};
+ghost use Rattle.gh_trace.specs.Kept.{IsOne};
+ghost use Rattle.gh_lens.specs.Judgements.{is_ground_work, IsFoundFor, IsJudgedFor, AreJudged};
 
 use crate::progress::Progress;
 use gh_ast::typed::Typed;
@@ -39,7 +39,8 @@ pub struct Judged {
 
 // Whether what is asked is an entry of a callee or of a loop, or the end of a loop.
 fn rests_on(kind: &CheckKind) -> bool
-    ensures { (P : Program) (p : Procedure) (at : Span) (k : graph.Check) → IsKind P p kind.now at k → result ≡ is_ground_work k }
+    ensures { (P : Program) (p : Procedure) (at : Span) (k : graph.Check) → IsKind P p kind.now at k
+        → result ≡ is_ground_work k }
 {
     match kind {
         CheckKind::Access { .. } => false,
@@ -54,7 +55,7 @@ fn rests_on(kind: &CheckKind) -> bool
 fn find_out(alloc: Global, typed: &Typed, condition: &Condition) -> Result<Finding, AllocError>
     requires admitted { IsAdmitted (program_of typed.now) }
     requires one { IsOne (program_of typed.now) condition.now }
-    ensures { IfOk result (λ f. (c : plain.Condition) → IsOfProgram (program_of typed.now) condition.now c → IsFound (program_of typed.now) c f) }
+    ensures { IfOk result (IsFoundFor (program_of typed.now) condition.now) }
 {
     match decide(alloc, typed, condition)? {
         Verdict::Valid(_) => Ok(Finding::Valid),
@@ -71,7 +72,7 @@ fn judge(
 ) -> Result<Judged, AllocError>
     requires admitted { IsAdmitted (program_of typed.now) }
     requires one { IsOne (program_of typed.now) condition.now }
-    ensures { IfOk result (λ j. (c : plain.Condition) → IsOfProgram (program_of typed.now) condition.now c → IsJudged (program_of typed.now) number c j) }
+    ensures { IfOk result (IsJudgedFor (program_of typed.now) number condition.now) }
 {
     let description = describe(alloc, typed, condition)?;
     let finding = find_out(alloc, typed, condition)?;

@@ -1,11 +1,11 @@
 //! Where a check fails.
 
 ghost use Rattle.std.specs.Prelude.{◌≡◌, ◌++◌, map, IfOk, OnOk};
-ghost use Rattle.gh_ast.specs.Plain.{comparison, segment, formula_of, procedure_of, program_of};
+ghost use Rattle.gh_ast.specs.Plain.{comparison, segment, formula_of};
 ghost use Rattle.gh_assert.specs.Stores.{store_of};
 ghost use Rattle.gh_trace.specs.Kept.{state_of};
 ghost use Rattle.gh_lens.specs.Misses as told;
-ghost use Rattle.gh_lens.specs.Settings.{HasLoops};
+ghost use Rattle.gh_lens.specs.Settings.{HasLoops, here, whole};
 
 use crate::lines::{push_heap_line, push_number};
 use crate::setting::{Setting, entered, procedure_at};
@@ -235,7 +235,7 @@ fn entry_miss(
     arguments: &[Expr],
     state: &State,
 ) -> Result<Option<Text>, AllocError>
-    ensures { IfOk result (told.IsEntryOr (program_of setting.entry.typed.now) callee arguments.now (state_of state.now)) }
+    ensures { IfOk result (told.IsEntryOr (whole setting.entry) callee arguments.now (state_of state.now)) }
 {
     let Some(callee) = procedure_at(setting.typed, callee) else {
         return Ok(None);
@@ -259,7 +259,7 @@ fn invariant_miss(
     state: &State,
 ) -> Result<Option<Text>, AllocError>
     requires { HasLoops setting }
-    ensures { IfOk result (told.IsInvariantOr (procedure_of setting.entry.procedure.now) number (state_of state.now)) }
+    ensures { IfOk result (told.IsInvariantOr (here setting.entry) number (state_of state.now)) }
 {
     let Some(round) = setting.round(number) else {
         return Ok(None);
@@ -276,7 +276,7 @@ pub fn failing(
     state: &State,
 ) -> Result<Option<Text>, AllocError>
     requires { HasLoops setting }
-    ensures { IfOk result (told.IsFailingOr (program_of setting.entry.typed.now) (procedure_of setting.entry.procedure.now) kind.now (state_of state.now)) }
+    ensures { IfOk result (told.IsFailingOr (whole setting.entry) (here setting.entry) kind.now (state_of state.now)) }
 {
     match kind {
         CheckKind::Access { at } => {

@@ -9,7 +9,7 @@ ghost use Rattle.gh_path.specs.Walking.{loop_of};
 ghost use Rattle.gh_trace.specs.Laws.{HasOwnNames};
 ghost use Rattle.gh_trace.specs.Scenes.{HasDistinctNames};
 ghost use Rattle.gh_trace.specs.Targets.{entries_of};
-ghost use Rattle.gh_lens.specs.Settings.{HasLoops};
+ghost use Rattle.gh_lens.specs.Settings.{HasLoops, here};
 
 use gh_assert::store::Store;
 use gh_ast::typed::Typed;
@@ -27,7 +27,8 @@ pub struct Setting<'t> {
 
 // The procedure of a number in a program.
 fn procedure_in(program: &Program, number: u16) -> Option<&Procedure>
-    ensures some { IfSome result (λ q. slice_get (program_of program.now).procedures number ≡ Some (procedure_of q.now)) }
+    ensures some { IfSome result (λ q.
+        slice_get (program_of program.now).procedures number ≡ Some (procedure_of q.now)) }
     ensures none { IfNone result (slice_get (program_of program.now).procedures number ≡ None) }
 {
     program.procedures.get(usize::from(number))
@@ -47,8 +48,8 @@ impl<'t> Setting<'t> {
     /// The loop of a number.
     pub fn round(self, number: u16) -> Option<While<'t>>
         requires { HasLoops self }
-        ensures some { IfSome result (λ w. slice_get (loops_of (procedure_of self.entry.procedure.now)) number ≡ Some (loop_of w)) }
-        ensures none { IfNone result (slice_get (loops_of (procedure_of self.entry.procedure.now)) number ≡ None) }
+        ensures some { IfSome result (λ w. slice_get (loops_of (here self.entry)) number ≡ Some (loop_of w)) }
+        ensures none { IfNone result (slice_get (loops_of (here self.entry)) number ≡ None) }
     {
         self.loops.get(usize::from(number)).copied()
     }

@@ -121,7 +121,8 @@ fn push_call(
     callee: u16,
     arguments: &[Expr],
 ) -> Result<(), AllocError>
-    ensures { IfOk result (λ _. (f : Name) → IsCallee (program_of program.now) callee f → text.new ≡ text.old ++ told.call_text (names targets.now) f arguments.now) }
+    ensures { IfOk result (λ _. (f : Name) → IsCallee (program_of program.now) callee f
+        → text.new ≡ text.old ++ told.call_text (names targets.now) f arguments.now) }
 {
     match callee_name(program, callee) {
         Some(name) => push_call_of(text, targets, name, arguments),
@@ -136,7 +137,8 @@ fn push_comparison(
     equal: bool,
     right: &Expr,
 ) -> Result<(), AllocError>
-    ensures { OnOk result (text.new ≡ text.old ++ told.expr_text left.now ++ told.equality_text equal ++ told.expr_text right.now) }
+    ensures { OnOk result (text.new
+        ≡ text.old ++ told.expr_text left.now ++ told.equality_text equal ++ told.expr_text right.now) }
 {
     push_expr(text, left)?;
     text.push(if equal { b" == " } else { b" != " })?;
@@ -169,7 +171,8 @@ fn push_return(text: &mut Text, values: &[Expr]) -> Result<(), AllocError>
 
 /// Adds a step of a path as a statement.
 pub fn push_step(text: &mut Text, program: &Program, step: &PathStep) -> Result<(), AllocError>
-    ensures { IfOk result (λ _. (p : PlainProcedure) (s : graph.PathStep) → IsStep (program_of program.now) p step.now s → text.new ≡ text.old ++ told.step_text s) }
+    ensures { IfOk result (λ _. (p : PlainProcedure) (s : graph.PathStep) → IsStep (program_of program.now) p step.now s
+        → text.new ≡ text.old ++ told.step_text s) }
 {
     match step {
         PathStep::Access { at } => push_after(text, at, b" is a cell"),
@@ -249,7 +252,8 @@ fn call_place(targets: &[Occ], arguments: &[Expr]) -> Option<Span>
 
 // Where a loop stands.
 fn loop_place(loops: &[While<'_>], number: u16) -> Option<Span>
-    ensures { (p : PlainProcedure) (l : graph.Loop) → map loop_of loops.now ≡ loops_of p → IsLoop p number l → result ≡ Some l.at }
+    ensures { (p : PlainProcedure) (l : graph.Loop) → map loop_of loops.now ≡ loops_of p
+        → IsLoop p number l → result ≡ Some l.at }
 {
     match loops.get(usize::from(number)) {
         Some(found) => Some(found.at),
@@ -259,7 +263,8 @@ fn loop_place(loops: &[While<'_>], number: u16) -> Option<Span>
 
 /// Where a step stands in the text; none for a call or a return that has neither targets nor values.
 pub fn step_place(loops: &[While<'_>], step: &PathStep) -> Option<Span>
-    ensures { (P : PlainProgram) (p : PlainProcedure) (s : graph.PathStep) → map loop_of loops.now ≡ loops_of p → IsStep P p step.now s → result ≡ told.step_place s }
+    ensures { (P : PlainProgram) (p : PlainProcedure) (s : graph.PathStep) → map loop_of loops.now ≡ loops_of p
+        → IsStep P p step.now s → result ≡ told.step_place s }
 {
     match step {
         PathStep::Access { at } => Some(at.span),

@@ -1,10 +1,10 @@
 //! A counterexample, told step by step.
 
 ghost use Rattle.std.specs.Prelude.{◌≡◌, ◌++◌, IfOk, OnOk};
-ghost use Rattle.gh_ast.specs.Plain.{procedure_of, program_of};
+ghost use Rattle.gh_ast.specs.Plain.{program_of};
 ghost use Rattle.gh_path.specs.Admitted.{IsAdmitted};
 ghost use Rattle.gh_draw.specs.Kept.{HasMeaning};
-ghost use Rattle.gh_lens.specs.Settings.{HasLoops};
+ghost use Rattle.gh_lens.specs.Settings.{HasLoops, here, whole};
 ghost use Rattle.gh_lens.specs.Stories as told;
 
 use crate::exchange::Exchange;
@@ -36,7 +36,7 @@ pub enum Explained {
 // The line of a statement.
 fn statement(alloc: Global, setting: Setting<'_>, step: &PathStep) -> Result<Text, AllocError>
     requires { HasLoops setting }
-    ensures { IfOk result (told.TellsStatement (program_of setting.entry.typed.now) (procedure_of setting.entry.procedure.now) step.now) }
+    ensures { IfOk result (told.TellsStatement (whole setting.entry) (here setting.entry) step.now) }
 {
     let mut text = Text::new(alloc);
     push_line(alloc, &mut text, step_place(setting.loops, step))?;
@@ -68,7 +68,7 @@ fn step_told(
     after: &State,
 ) -> Result<Text, AllocError>
     requires { HasLoops setting }
-    ensures { IfOk result (told.TellsStep (program_of setting.entry.typed.now) (procedure_of setting.entry.procedure.now) step.now before.now after.now) }
+    ensures { IfOk result (told.TellsStep (whole setting.entry) (here setting.entry) step.now before.now after.now) }
 {
     let mut text = statement(alloc, setting, step)?;
     push_changes(alloc, &mut text, before, after)?;
@@ -86,7 +86,7 @@ fn steps_told(
     others: &[State],
 ) -> Result<Text, AllocError>
     requires { HasLoops setting }
-    ensures { IfOk result (told.TellsSteps (program_of setting.entry.typed.now) (procedure_of setting.entry.procedure.now) steps.now before.now others.now) }
+    ensures { IfOk result (told.TellsSteps (whole setting.entry) (here setting.entry) steps.now before.now others.now) }
 {
     let Some((step, later)) = steps.split_first() else {
         return Ok(Text::new(alloc));
@@ -137,9 +137,9 @@ fn story(
     others: &[State],
 ) -> Result<Option<Text>, AllocError>
     requires loops { HasLoops setting }
-    requires meaning { HasMeaning (program_of setting.typed.now) condition.now }
-    requires own { told.IsOf (program_of setting.typed.now) condition.now (procedure_of setting.procedure.now) }
-    ensures { IfOk result (told.IsStoryOr (program_of setting.entry.typed.now) condition.now first.now others.now) }
+    requires meaning { HasMeaning (whole setting) condition.now }
+    requires own { told.IsOf (whole setting) condition.now (here setting) }
+    ensures { IfOk result (told.IsStoryOr (whole setting.entry) condition.now first.now others.now) }
 {
     let Some(missed) = failing(alloc, setting, &condition.check.kind, last(first, others))? else {
         return Ok(None);
@@ -189,7 +189,8 @@ pub fn why(
 ) -> Result<Explained, AllocError>
     requires same { program_of conditions.now ≡ program_of typed.now }
     requires admitted { IsAdmitted (program_of typed.now) }
-    ensures { IfOk result (told.IsExplained (program_of typed.now) drawing.now.condition drawing.now.trace.states.items) }
+    ensures { IfOk result (told.IsExplained (program_of typed.now)
+        drawing.now.condition drawing.now.trace.states.items) }
 {
     let Some(condition) = conditions.condition(alloc, drawing.condition)? else {
         return Ok(Explained::Unnumbered);

@@ -1,11 +1,12 @@
 -- What the parts of the grammar spell at the front of a text, and what the reader answers for a part.
-use Rattle.std.specs.Prelude.{◌≡◌, ◌≢◌, ◌⊎◌, ⊤, ◌+◌, ◌-◌, ◌≤◌, ℕ, List, [], ◌∷◌, ◌++◌, length, take, replicate, codes, false, All, Result, MatchResult}
+use Rattle.std.specs.Prelude.{◌≡◌, ◌≢◌, ◌⊎◌, ⊤, ◌+◌, ◌-◌, ◌^◌, ◌<◌, ◌≤◌, ℕ, List, [], ◌∷◌, ◌++◌, length, take, replicate, codes, Bool, false, All, Option, Result, MatchBool, MatchOption, MatchResult}
 use Rattle.std.specs.List.{flat_map}
 use Rattle.std.specs.Fmt.{decimal}
 use Rattle.std.specs.Char.{is_ascii_digit}
 use Rattle.gh_base.specs.declared.atom.Term.{Term}
 use Rattle.gh_base.specs.declared.atom.Atom.{Atom}
 use Rattle.gh_base.specs.declared.atom.Lit.{Lit}
+use Rattle.gh_inst.specs.declared.naming.InstanceName.{InstanceName}
 use Rattle.gh_inst.specs.Schemas.{term}
 use Rattle.gh_log.specs.Lines.{LogLine}
 use Rattle.gh_log.specs.Lines as line
@@ -42,6 +43,14 @@ SpellsByte text b rest = text ≡ b ∷ rest
 abbrev pub IsNotNext : ℕ → List ℕ → Type 0
 IsNotNext b [] = ⊤
 IsNotNext b (c ∷ rest) = c ≢ b
+
+-- the byte is taken where it is next, and else nothing is
+abbrev pub TakesByte : ℕ → List ℕ → List ℕ → Bool → Type 0
+TakesByte b old new taken = MatchBool taken (old ≡ b ∷ new) ((new ≡ old) × IsNotNext b old)
+
+-- the number within 32 bits that digits write, if they write one
+abbrev pub IsNumberOf : List ℕ → Option ℕ → Type 0
+IsNumberOf digits answer = MatchOption answer ((n : ℕ) → n < 2 ^ 32 → digits ≡ decimal n → ⊥) (λ n. digits ≡ decimal n)
 
 -- no digit follows
 abbrev pub EndsNumber : List ℕ → Type 0
@@ -104,6 +113,13 @@ pub record ArePadded (terms : List Term) (arity : ℕ) : Type 0 where
 pub record SpellsParts (text : List ℕ) (l : LogLine) (rest : List ℕ) : Type 0 where
   pub front : text ≡ line_text l ++ rest
   pub spelled : HasSpelledParts l
+
+-- the rest of the line of an instance after its letter, and that of a ground clause
+abbrev pub SpellsName : List ℕ → InstanceName → List ℕ → Type 0
+SpellsName text name = SpellsParts (97 ∷ text) (line.Axiom name)
+
+abbrev pub SpellsGround : List ℕ → ℕ → List ℕ → Type 0
+SpellsGround text k = SpellsParts (103 ∷ text) (line.Clause k)
 
 pub record SpellsLine (version : ℕ) (text : List ℕ) (l : LogLine) (rest : List ℕ) : Type 0 where
   pub of_version : IsOfVersion version l

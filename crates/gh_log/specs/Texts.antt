@@ -6,6 +6,7 @@ use Rattle.gh_base.specs.declared.atom.Term.{Term}
 use Rattle.gh_base.specs.declared.atom.Atom.{Atom}
 use Rattle.gh_base.specs.declared.atom.Atom.TheVariants.{Eq, Btwn, Hop, Alloc, Def}
 use Rattle.gh_base.specs.declared.atom.Lit.{Lit}
+use Rattle.gh_inst.specs.declared.naming.InstanceName.{InstanceName}
 use Rattle.gh_inst.specs.Instances.{tuple_of}
 use Rattle.gh_log.specs.Lines.{LogLine}
 use Rattle.gh_log.specs.Lines as line
@@ -42,8 +43,12 @@ term_text t = codes " " ++ decimal t.0
 abbrev pub numbers_text : List ℕ → List ℕ
 numbers_text ns = flat_map (λ n. codes " " ++ decimal n) ns
 
+-- row, version and terms of an instance, after the letter of its line
+abbrev pub name_text : InstanceName → List ℕ
+name_text name = codes "a " ++ decimal name.row ++ codes " " ++ decimal name.version ++ flat_map term_text (tuple_of name) ++ line_end
+
 abbrev pub line_text : LogLine → List ℕ
-line_text (line.Axiom name) = codes "a " ++ decimal name.row ++ codes " " ++ decimal name.version ++ flat_map term_text (tuple_of name) ++ line_end
+line_text (line.Axiom name) = name_text name
 line_text (line.Clause k) = codes "g " ++ decimal k ++ line_end
 line_text (line.Lemma c) = codes "e" ++ lits_text c ++ line_end
 line_text (line.Learnt c) = codes "l" ++ lits_text c ++ line_end

@@ -1,11 +1,9 @@
 //! The bytes that are left, and steps over them.
 
-ghost use Rattle.std.specs.Prelude.{◌≡◌, ◌∷◌, ◌≤◌, ◌<◌, ◌^◌, [], ℕ, false, length, take, drop, IsTrue, All, MatchOption};
-ghost use Rattle.std.specs.Bool.{MatchBool};
+ghost use Rattle.std.specs.Prelude.{◌≡◌, ◌∷◌, ◌≤◌, [], false, length, take, drop, IsTrue, All};
 ghost use Rattle.std.specs.Char.{is_ascii_digit};
-ghost use Rattle.std.specs.Fmt.{decimal};
 ghost use Rattle.std.specs.Str.Parse.{AllDigits};
-ghost use Rattle.gh_log.specs.Reading.{IsLogPart, SpellsText, SpellsByte, SpellsNumber, SpellsBytes, IsNotNext, EndsNumber};
+ghost use Rattle.gh_log.specs.Reading.{IsLogPart, SpellsText, SpellsByte, SpellsNumber, SpellsBytes, EndsNumber, IsNumberOf, TakesByte};
 
 use crate::error::Refusal;
 
@@ -45,7 +43,7 @@ fn value_of(digits: &[u8]) -> u64
 // The number that digits write in decimal.
 fn number_of(digits: &[u8]) -> Option<u32>
     requires { AllDigits 10 digits.now }
-    ensures { MatchOption result ((n : ℕ) → n < 2 ^ 32 → digits.now ≡ decimal n → ⊥) (λ n. digits.now ≡ decimal n) }
+    ensures { IsNumberOf digits.now result }
 {
     let [first, ..] = digits else {
         return None;
@@ -82,7 +80,7 @@ impl<'t> Reader<'t> {
 
     /// Takes a byte, where it is next.
     pub fn take(&mut self, byte: u8) -> bool
-        ensures { MatchBool result (self.old.rest.now ≡ byte ∷ self.new.rest.now) ((self.new.rest.now ≡ self.old.rest.now) × IsNotNext byte self.old.rest.now) }
+        ensures { TakesByte byte self.old.rest.now self.new.rest.now result }
     {
         match self.rest {
             [first, rest @ ..] if *first == byte => {

@@ -4,8 +4,7 @@ ghost use Rattle.std.specs.Prelude.{◌≡◌, ◌+◌, ◌<◌, ◌^◌, ◌∷
 ghost use Rattle.gh_log.specs.Texts.{log_text};
 ghost use Rattle.gh_log.specs.Tables.{line_of};
 ghost use Rattle.gh_log.specs.Spelled.{IsVersion, IsSpelled, ArePlaced, IsLogRefusal, lines_of};
-ghost use Rattle.gh_log.specs.Lines.{Axiom, Clause as Ground};
-ghost use Rattle.gh_log.specs.Reading.{IsLogPart, SpellsTerms, ArePadded, SpellsParts, SpellsLine, line_with};
+ghost use Rattle.gh_log.specs.Reading.{IsLogPart, SpellsTerms, ArePadded, SpellsParts, SpellsLine, line_with, SpellsGround, SpellsName};
 ghost use Rattle.gh_log.specs.Reading.{SpellsVersion, SpellsHeader, EndsSection, SpellsSection, IsSectionRefusal};
 ghost use Rattle.std.specs.Bool.{MatchBool};
 
@@ -92,7 +91,7 @@ impl<'t> Reader<'t> {
 
     // Reads the name of an instance after the letter of its line, to the end of the line.
     fn name(&mut self) -> Result<InstanceName, Refusal>
-        ensures { IsLogPart (λ n. SpellsParts (97 ∷ self.old.rest.now) (Axiom n)) (λ n. n) result self.new.rest.now }
+        ensures { IsLogPart (SpellsName self.old.rest.now) (λ n. n) result self.new.rest.now }
     {
         let (row, version) = self.pair(b' ')?;
         let (terms, arity) = self.terms()?;
@@ -109,7 +108,7 @@ impl<'t> Reader<'t> {
 
     // Reads the number of a ground clause after the letter of its line, to the end of the line.
     fn ground(&mut self) -> Result<u32, Refusal>
-        ensures { IsLogPart (λ k. SpellsParts (103 ∷ self.old.rest.now) (Ground k)) (λ k. k) result self.new.rest.now }
+        ensures { IsLogPart (SpellsGround self.old.rest.now) (λ k. k) result self.new.rest.now }
     {
         if !self.take(b' ') {
             return Err(Refusal::Outside);

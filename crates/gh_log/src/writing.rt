@@ -3,7 +3,7 @@
 ghost use Rattle.std.specs.Prelude.{◌≡◌, ◌++◌, [], codes, OnOk, IfOk};
 ghost use Rattle.std.specs.List.{flat_map};
 ghost use Rattle.std.specs.Fmt.{decimal};
-ghost use Rattle.gh_log.specs.Texts.{Adds, dotted, atom_text, sign_text, lits_text, term_text, numbers_text, line_text, section_text, log_text};
+ghost use Rattle.gh_log.specs.Texts.{Adds, dotted, atom_text, sign_text, lits_text, term_text, numbers_text, line_text, section_text, log_text, name_text};
 ghost use Rattle.gh_log.specs.Tables.{line_of};
 ghost use Rattle.gh_log.specs.Spelled.{IsVersion, AreOfVersion, lines_of};
 ghost use Rattle.gh_inst.specs.Instances.{tuple_of};
@@ -160,7 +160,7 @@ fn tuple(name: &InstanceName) -> &[Term]
 
 // Row, version and terms
 fn put_name(out: &mut Text, name: &InstanceName) -> Result<(), AllocError>
-    ensures { OnOk result (Adds out.old out.new (codes "a " ++ decimal name.now.row ++ codes " " ++ decimal name.now.version ++ flat_map term_text (tuple_of name.now) ++ codes "\n")) }
+    ensures { OnOk result (Adds out.old out.new (name_text name.now)) }
 {
     put(out, b"a ")?;
     put_number(out, usize::from(name.row))?;

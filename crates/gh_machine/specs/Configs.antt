@@ -2,7 +2,7 @@
 use Rattle.std.specs.Prelude.{◌≡◌, ◌≢◌, ◌⊎◌, ℕ, List, slice_index_or, [], ◌∷◌, ◌++◌, map, reverse, length, None, All, Contains}
 use Rattle.std.specs.FinMap.{get}
 use Rattle.gh_ast.specs.Plain.{new, call, give, Statements, statement_first, statements_view, procedure_of, Procedure, Program}
-use Rattle.gh_ast.specs.Programs.{Name, names, results_of, variable_names, Declares, SomeAssigns}
+use Rattle.gh_ast.specs.Programs.{Name, names, parameters_of, results_of, variable_names, Declares, SomeAssigns}
 use Rattle.gh_ast.specs.Occurrences.{locals_of}
 use Rattle.gh_ast.specs.Rules.{IsTyped}
 use Rattle.gh_assert.specs.Heaps.{Heap}
@@ -74,6 +74,18 @@ IsNext P choice Moved c d = StepBy P (chosen choice d.top.procedure) c d × (Ret
 IsNext P choice Ended c d = (HasEnded c × (d ≡ c)) ⊎ (ReturnsLast c × Step P c d)
 IsNext P choice Fault c d = machine.Fault c × (d ≡ c)
 IsNext P choice NotAChoice c d = (machine.Fault c → ⊥) × Misfits P choice c.top.rest c.heap × (d ≡ c)
+
+-- there are as many values as the procedure of a number has parameters
+abbrev pub AreArguments : Program → ℕ → List ℕ → Type 0
+AreArguments P n vs = (p : Procedure) → length vs ≡ length (parameters_of (slice_index_or P.procedures n p))
+
+-- as many as it has results and locals
+abbrev pub AreStarts : Program → ℕ → List ℕ → Type 0
+AreStarts P n vs = (p : Procedure) → length vs ≡ length (starts_of (slice_index_or P.procedures n p))
+
+-- no procedure has the name
+abbrev pub DeclaresNone : Program → Name → Type 0
+DeclaresNone P f = (p : Procedure) → Declares P f p → ⊥
 
 -- what is left to do assigns variables of its procedure alone
 abbrev pub AssignsVariables : machine.Activation → Type 0

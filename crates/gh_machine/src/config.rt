@@ -1,10 +1,9 @@
 //! Configurations: a heap and a stack of procedures at work.
 
-ghost use Rattle.std.specs.Prelude.{◌≡◌, ◌<◌, IfOk, slice_index_or, length};
-ghost use Rattle.gh_ast.specs.Plain.{Procedure as PlainProcedure, program_of};
-ghost use Rattle.gh_ast.specs.Programs.{parameters_of};
+ghost use Rattle.std.specs.Prelude.{◌≡◌, ◌<◌, IfOk, length};
+ghost use Rattle.gh_ast.specs.Plain.{program_of};
 ghost use Rattle.gh_assert.specs.Stores.{store_of};
-ghost use Rattle.gh_machine.specs.Configs.{starts_of, IsBeginning, IsMadeFor, config_of};
+ghost use Rattle.gh_machine.specs.Configs.{AreArguments, AreStarts, IsBeginning, IsMadeFor, config_of};
 
 use crate::rest::Rest;
 use crate::stores::enter;
@@ -43,9 +42,10 @@ impl<'p> Config<'p> {
         heap: Heap,
     ) -> Result<Config<'p>, AllocError>
         requires there { procedure < length typed.now.procedures.items }
-        requires arguments { (d : PlainProcedure) → length arguments.now ≡ length (parameters_of (slice_index_or (program_of typed.now).procedures procedure d)) }
-        requires starts { (d : PlainProcedure) → length starts.now ≡ length (starts_of (slice_index_or (program_of typed.now).procedures procedure d)) }
-        ensures start { IfOk result (λ c. IsBeginning (program_of typed.now) procedure arguments.now starts.now heap (config_of c)) }
+        requires arguments { AreArguments (program_of typed.now) procedure arguments.now }
+        requires starts { AreStarts (program_of typed.now) procedure starts.now }
+        ensures start { IfOk result (λ c.
+            IsBeginning (program_of typed.now) procedure arguments.now starts.now heap (config_of c)) }
         ensures made { IfOk result (λ c. IsMadeFor (program_of typed.now) c) }
     {
         let procedure = &typed.program().procedures[usize::from(procedure)];

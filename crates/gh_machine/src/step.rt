@@ -6,7 +6,7 @@ ghost use Rattle.gh_ast.specs.Plain.{program_of, procedure_of, statements_view, 
 ghost use Rattle.gh_ast.specs.Programs.{Declares};
 ghost use Rattle.gh_assert.specs.Stores.{listed_names};
 ghost use Rattle.gh_machine.specs.Fits.{Awaits};
-ghost use Rattle.gh_machine.specs.Configs.{config_of, IsNext, IsMadeFor, AllListVariables, WantsStarts};
+ghost use Rattle.gh_machine.specs.Configs.{config_of, IsNext, IsMadeFor, AllListVariables, DeclaresNone, WantsStarts};
 ghost use Rattle.gh_machine.specs.Turns.{Comes, CallComes, ChoiceComes, LoopComes, ReturnComes, Calls, AlwaysNext, IsPopped, IsMadeForSome};
 
 use crate::config::Config;
@@ -60,7 +60,8 @@ fn make_cell(config: &mut Config, target: &Occ, choice: &Choice) -> Result<Next,
     requires comes { Comes (plain.new target.now) config.old }
     requires listed { Contains (listed_names config.old.top.store) target.now.name }
     requires lists { AllListVariables config.old }
-    ensures next { IfOk result (λ next. (P : plain.Program) → IsNext P choice.now next (config_of config.old) (config_of config.new)) }
+    ensures next { IfOk result (λ next. (P : plain.Program) →
+        IsNext P choice.now next (config_of config.old) (config_of config.new)) }
     ensures err { OnErr result (config_of config.new ≡ config_of config.old) }
     ensures lists { AllListVariables config.new }
 {
@@ -144,7 +145,8 @@ fn turn<'p>(config: &mut Config<'p>, test: &Cond, body: &'p Block) -> Result<Nex
 
 /// The first procedure of a name.
 fn find<'p>(program: &'p Program, name: &Name) -> Option<&'p Procedure>
-    ensures { MatchOption result ((q : PlainProcedure) → Declares (program_of program.now) name.now q → ⊥) (λ p. Declares (program_of program.now) name.now (procedure_of p.now)) }
+    ensures { MatchOption result (DeclaresNone (program_of program.now) name.now)
+        (λ p. Declares (program_of program.now) name.now (procedure_of p.now)) }
 {
     for procedure in &program.procedures {
         if procedure.name.name.bytes() == name.bytes() {
@@ -164,7 +166,8 @@ fn call<'p>(
 ) -> Result<Next, AllocError>
     requires comes { CallComes callee.now arguments.now config.old }
     requires made { IsMadeFor (program_of typed.now) config.old }
-    ensures next { IfOk result (λ next. IsNext (program_of typed.now) choice.now next (config_of config.old) (config_of config.new)) }
+    ensures next { IfOk result (λ next.
+        IsNext (program_of typed.now) choice.now next (config_of config.old) (config_of config.new)) }
     ensures err { OnErr result (config_of config.new ≡ config_of config.old) }
     ensures lists { AllListVariables config.new }
 {
@@ -260,7 +263,8 @@ pub fn step<'p>(
     choice: &Choice,
 ) -> Result<Next, AllocError>
     requires made { IsMadeFor (program_of typed.now) config.old }
-    ensures next { IfOk result (λ next. IsNext (program_of typed.now) choice.now next (config_of config.old) (config_of config.new)) }
+    ensures next { IfOk result (λ next.
+        IsNext (program_of typed.now) choice.now next (config_of config.old) (config_of config.new)) }
     ensures err { OnErr result (config_of config.new ≡ config_of config.old) }
     ensures made { IsMadeFor (program_of typed.now) config.new }
 {

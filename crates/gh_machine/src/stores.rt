@@ -52,7 +52,8 @@ pub fn assign_from(store: &mut Store, targets: &[Occ], from: &Store, results: &[
     requires count { length targets.now ≡ length results.now }
     requires distinct { AllPairs (λ x y. x ≢ y) (names targets.now) }
     requires listed { (y : _) → Contains (names targets.now) y → Contains (listed_names store.old) y }
-    ensures gets { Gets (store_of store.old) (names targets.now) (map (store_of from.now) (names results.now)) (store_of store.new) }
+    ensures gets { Gets (store_of store.old) (names targets.now) (map (store_of from.now) (names results.now))
+        (store_of store.new) }
     ensures names { listed_names store.new ≡ listed_names store.old }
 {
     for (i, target) in targets.iter().enumerate() {

@@ -9,12 +9,14 @@ use Rattle.gh_ast.specs.Rules.{IsTyped}
 use Rattle.gh_assert.specs.declared.store.Entry.{Entry}
 use Rattle.gh_assert.specs.Meaning.{Store}
 use Rattle.gh_path.specs.Conditions.{Condition, IsCondition}
+use Rattle.gh_path.specs.declared.condition.Condition as kept_condition
 use Rattle.gh_grass.specs.declared.binding.Bond.{Bond}
 use Rattle.gh_grass.specs.Bindings.{term_in}
 use Rattle.gh_symb.specs.Inside.{binding_of}
 use Rattle.gh_symb.specs.declared.over_terms.TermStep.{TermStep}
 use Rattle.gh_symb.specs.declared.over_terms.TermStep.TheVariants.{Access, Assume, Same, Write, New, Free, Part}
 use Rattle.gh_trace.specs.declared.state.State.{State}
+use Rattle.gh_trace.specs.Kept.{IsOfProgram}
 use Rattle.gh_trace.specs.Replay.{Drawn, Refutes}
 use Rattle.gh_trace.specs.Traces as plain
 use Rattle.gh_model.specs.Classes.{class_of}
@@ -68,6 +70,10 @@ HasAll s i ps (b ∷ bs) = (i < s.sizes.versions) × AreBelow s.sizes.terms b ×
 -- states whose stores list these names
 abbrev pub drawn_over : List Name → List plain.State → List Drawn
 drawn_over xs ys = map (λ y. record { listed = xs; state = y }) ys
+
+-- the states that an interpretation builds for a kept condition, over the variables of its procedure
+abbrev pub AreBuilt : Program → kept_condition.Condition → Interpretation → List Drawn → Type 0
+AreBuilt P r m xs = (c : Condition) → IsOfProgram P r c → xs ≡ drawn_over (variable_names c.procedure) (built_trace P c m)
 
 -- the trace of a model of a condition, drawn over the variables of its procedure, is a counterexample
 abbrev pub BuiltIsCounterexample : Type 0

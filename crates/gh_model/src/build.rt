@@ -4,14 +4,14 @@ ghost use Rattle.std.specs.Prelude.{◌≡◌, ◌≢◌, ◌<◌, ◌++◌, IfO
 ghost use Rattle.gh_base.specs.Structures.{interpretation_of};
 ghost use Rattle.gh_ast.specs.Plain.{procedure_of, program_of};
 ghost use Rattle.gh_path.specs.Conditions as plain;
-ghost use Rattle.gh_path.specs.Kept.{StandsFor};
 ghost use Rattle.gh_symb.specs.Encoded.{IsSymbolic};
+ghost use Rattle.gh_symb.specs.Steps.{HoldsFor};
 ghost use Rattle.gh_trace.specs.Kept.{IsOfProgram, drawn_of};
 ghost use Rattle.gh_ast.specs.Programs.{names, variable_names};
 ghost use Rattle.gh_ast.specs.Occurrences.{locals_of};
 ghost use Rattle.gh_assert.specs.Stores.{listed_names};
-ghost use Rattle.gh_model.specs.BuiltTraces.{stands_at, content_at, heap_in, built_trace};
-ghost use Rattle.gh_model.specs.KeptTraces.{entries_under, store_in, state_in, states_in, version_after_kept, after_first, AreBelow, HasAll, drawn_over};
+ghost use Rattle.gh_model.specs.BuiltTraces.{stands_at, content_at, heap_in};
+ghost use Rattle.gh_model.specs.KeptTraces.{entries_under, store_in, state_in, states_in, version_after_kept, after_first, AreBelow, HasAll, AreBuilt};
 
 use gh_assert::heap::Heap;
 use gh_assert::store::Store;
@@ -96,7 +96,8 @@ pub fn add_all(
 ) -> Result<(), AllocError>
     requires below { AreBelow structure.now.sizes.terms binding.now }
     requires distinct { AllPairs (λ x y. x ≢ y) (listed_names store.old ++ names occurrences.now) }
-    ensures { OnOk result (store.new ≡ store.old ++ entries_under (store_in structure.now binding.now) (names occurrences.now)) }
+    ensures { OnOk result (store.new ≡
+        store.old ++ entries_under (store_in structure.now binding.now) (names occurrences.now)) }
 {
     for occurrence in occurrences {
         let value = value(structure, binding, &occurrence.name);
@@ -124,7 +125,8 @@ fn store(
 ) -> Result<Store, AllocError>
     requires below { AreBelow structure.now.sizes.terms binding.now }
     requires distinct { AllPairs (λ x y. x ≢ y) (variable_names (procedure_of procedure.now)) }
-    ensures { IfOk result (λ s. s ≡ entries_under (store_in structure.now binding.now) (variable_names (procedure_of procedure.now))) }
+    ensures { IfOk result (λ s. s ≡
+        entries_under (store_in structure.now binding.now) (variable_names (procedure_of procedure.now))) }
 {
     let mut store = Store::new(alloc);
     add_all(
@@ -156,7 +158,8 @@ fn state(
     requires version { version < structure.now.sizes.versions }
     requires below { AreBelow structure.now.sizes.terms binding.now }
     requires distinct { AllPairs (λ x y. x ≢ y) (variable_names (procedure_of procedure.now)) }
-    ensures { IfOk result (λ s. s ≡ state_in structure.now (variable_names (procedure_of procedure.now)) version binding.now) }
+    ensures { IfOk result (λ s. s ≡
+        state_in structure.now (variable_names (procedure_of procedure.now)) version binding.now) }
 {
     Ok(State {
         store: store(alloc, structure, binding, procedure)?,
@@ -198,7 +201,9 @@ fn states(
 ) -> Result<Trace, AllocError>
     requires all { HasAll structure.now 0 symbolic.now.steps.items symbolic.now.bindings.items }
     requires distinct { AllPairs (λ x y. x ≢ y) (variable_names (procedure_of procedure.now)) }
-    ensures { IfOk result (λ t. t.states.items ≡ states_in structure.now (variable_names (procedure_of procedure.now)) 0 symbolic.now.steps.items symbolic.now.bindings.items) }
+    ensures { IfOk result (λ t. t.states.items ≡
+        states_in structure.now (variable_names (procedure_of procedure.now)) 0
+        symbolic.now.steps.items symbolic.now.bindings.items) }
 {
     let _versions = structure.versions();
     let mut states = Vec::new(alloc);
@@ -219,10 +224,11 @@ pub fn build(
     structure: &Structure,
 ) -> Result<Trace, AllocError>
     requires of { (c : plain.Condition) × IsOfProgram (program_of typed.now) condition.now c }
-    requires told { (c : plain.Condition) → StandsFor (program_of typed.now) condition.now c → IsSymbolic (program_of typed.now) c symbolic.now }
+    requires told { HoldsFor (program_of typed.now) condition.now (λ P c. IsSymbolic P c symbolic.now) }
     requires terms { structure.now.sizes.terms ≡ length symbolic.now.terms }
     requires versions { structure.now.sizes.versions ≡ symbolic.now.versions }
-    ensures { IfOk result (λ t. (c : plain.Condition) → IsOfProgram (program_of typed.now) condition.now c → drawn_of t ≡ drawn_over (variable_names c.procedure) (built_trace (program_of typed.now) c (interpretation_of structure.now))) }
+    ensures { IfOk result (λ t.
+        AreBuilt (program_of typed.now) condition.now (interpretation_of structure.now) (drawn_of t)) }
 {
     let program = typed.program();
     let procedure = &program.procedures[condition.procedure as usize];

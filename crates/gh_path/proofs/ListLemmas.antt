@@ -1,5 +1,6 @@
 -- Members of lists by place.
-use Rattle.std.specs.Prelude.{◌≡◌, ℕ, zero, suc, ◌+◌, ◌<◌, List, [], ◌∷◌, ◌++◌, length, Some, None, slice_get, get_or, drop}
+use Rattle.std.specs.Prelude.{◌≡◌, ℕ, zero, suc, ◌+◌, ◌<◌, List, [], ◌∷◌, ◌++◌, length, map, Bool, ◌||◌, Some, None, slice_get, get_or, drop}
+use Rattle.std.specs.List.{list_any}
 use Rattle.std.proofs.Common.{refl, sym, ◌∙◌, ap, subst, arith}
 use Rattle.std.proofs.lemmas.List.{drop_more}
 
@@ -40,3 +41,7 @@ pub got : {A : Type 0} (xs : List A) (n : ℕ) → n < length xs → (x : A) × 
 got [] n less = absurd (omega (arith, less))
 got (x ∷ xs) zero less = (x, refl)
 got (x ∷ xs) (suc n) less = got xs n (omega (arith, less))
+
+pub any_map : {A B : Type 0} (p : B → Bool) (f : A → B) (xs : List A) → list_any p (map f xs) ≡ list_any (λ x. p (f x)) xs
+any_map p f [] = refl
+any_map p f (x ∷ xs) = ap (λ b. p (f x) || b) (any_map p f xs)

@@ -12,6 +12,6 @@ loop_of w = while w.at (test_of w.test.now) (formula_of w.invariant.now) (part_o
 abbrev pub AddsLoops : List Loop → List While → List While → Type 0
 AddsLoops ls old new = map loop_of new ≡ map loop_of old ++ ls
 
--- the loops of the list have the numbers from n on
+-- the loops of the list have the numbers from n on, unless n is where counts of loops stop
 abbrev pub AreNumbered : Procedure → ℕ → List Loop → Type 0
 AreNumbered p n ls = n < 4294967295 → (j : ℕ) (l : Loop) → slice_get ls j ≡ Some l → IsLoop p (n + j) l

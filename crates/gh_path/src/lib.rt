@@ -2,6 +2,7 @@
 #![tactic(auto)]
 
 mod ahead;
+pub mod assigned;
 pub mod condition;
 pub mod conditions;
 mod copies;

@@ -159,7 +159,8 @@ fn literals(
     formulas: &[Formula],
 ) -> Result<Vec<Lit>, AllocError>
     requires { AreWithin ground.old.sizes (claims_view formulas.now) }
-    ensures literals { IfOk result (λ ls. ls.items ≡ (all_made (claims_view formulas.now) ground.old.sizes.defs).lits) }
+    ensures literals { IfOk result (λ ls.
+        ls.items ≡ (all_made (claims_view formulas.now) ground.old.sizes.defs).lits) }
     ensures state { OnOk result (ground.new ≡ all_defined_in ground.old (claims_view formulas.now)) }
 {
     let mut lits = Vec::new(alloc);

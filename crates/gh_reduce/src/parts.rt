@@ -79,7 +79,8 @@ fn add_alternatives(
     requires few { ground.old.sizes.versions < 256 }
     requires ready { IsReady ground.old.sizes.terms (kinds_of terms.now) }
     requires inside { IsChangeInside ground.old.sizes change }
-    ensures { OnOk result (ground.new ≡ stated_in ground.old (alternatives_stated (kinds_of terms.now) change.entry)) }
+    ensures { OnOk result (
+        ground.new ≡ stated_in ground.old (alternatives_stated (kinds_of terms.now) change.entry)) }
 {
     match change.after {
         [] => Ok(add_formula(alloc, ground, &never(alloc))?),

@@ -19,6 +19,10 @@ pub record IsNumberOf (P : Program) (name : Name) (n : ℕ) : Type 0 where
   pub numbered : slice_get P.procedures n ≡ Some procedure
   pub named : name_of procedure ≡ name
 
+-- no procedure has the name
+abbrev pub HasNoNumber : Program → Name → Type 0
+HasNoNumber P name = (n : ℕ) → IsNumberOf P name n → ⊥
+
 -- a line that names a procedure
 pub record ShowsProcedure (P : Program) (text : List ℕ) (n : ℕ) (rest : List ℕ) : Type 0 where
   pub name : Name

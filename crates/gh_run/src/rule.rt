@@ -32,7 +32,8 @@ fn ruled_step<'p>(
 ) -> Result<Next, AllocError>
     requires made { IsMadeFor (program_of typed.now) config.old }
     requires room { len (config_of config.old).heap < 4294967295 }
-    ensures next { IfOk result (λ next. IsRuledNext (program_of typed.now) next (config_of config.old) (config_of config.new)) }
+    ensures next { IfOk result (λ next.
+        IsRuledNext (program_of typed.now) next (config_of config.old) (config_of config.new)) }
     ensures made { IsMadeFor (program_of typed.now) config.new }
     ensures room { IfOk result (λ next. len (config_of config.new).heap ≤ len (config_of config.old).heap + 1) }
 {
@@ -55,7 +56,8 @@ pub fn run_ruled<'p>(
 ) -> Result<(u32, Halt), AllocError>
     requires made { IsMadeFor (program_of typed.now) config.old }
     requires room { len (config_of config.old).heap + limit ≤ 4294967295 }
-    ensures halted { IfOk result (λ r. IsHalted (program_of typed.now) (config_of config.old) limit r.1 r.0 (config_of config.new)) }
+    ensures halted { IfOk result (λ r.
+        IsHalted (program_of typed.now) (config_of config.old) limit r.1 r.0 (config_of config.new)) }
     ensures made { IsMadeFor (program_of typed.now) config.new }
 {
     for steps in 0..limit {

@@ -50,7 +50,8 @@ fn values(alloc: Global, entries: &[Entry]) -> Result<Vec<u32>, AllocError>
 // The procedure at its start.
 fn start<'p>(alloc: Global, typed: &'p Typed, begin: &Begin) -> Result<Config<'p>, AllocError>
     requires fits { FitsProgram (program_of typed.now) begin.now }
-    ensures begun { IfOk result (λ c. (p : PlainProcedure) → BeginsIn (program_of typed.now) begin.now p → config_of c ≡ begun p begin.now) }
+    ensures begun { IfOk result (λ c. (p : PlainProcedure) →
+        BeginsIn (program_of typed.now) begin.now p → config_of c ≡ begun p begin.now) }
     ensures made { IfOk result (IsMadeFor (program_of typed.now)) }
 {
     let procedure = &typed.program().procedures[usize::from(begin.procedure)];

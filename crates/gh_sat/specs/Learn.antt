@@ -7,7 +7,7 @@ use Rattle.gh_base.specs.Propagation.{FollowsByUnits}
 use Rattle.gh_base.specs.Hints.{IsShownByHints}
 use Rattle.gh_sat.specs.declared.trail.Step.{Step}
 use Rattle.gh_sat.specs.declared.marks.Marks.{Marks}
-use Rattle.gh_sat.specs.Trail.{SearchState, cut, IsFalseIn, IsReason, IsUnitIn}
+use Rattle.gh_sat.specs.Trail.{SearchState, cut, Stands, IsFalseIn, IsReason, IsUnitIn}
 
 -- The least set of places that has those of the clause's literals and, where it has a place from this one on, the
 -- places of the other literals of that step's reason.
@@ -93,6 +93,10 @@ IsMarked m j = slice_get m.stamps j ≡ Some m.round
 abbrev pub HasMark : List Step → Marking → Lit → Type 0
 HasMark trail m l = (j : ℕ) × (x : Step) × (slice_get trail j ≡ Some x) × (x.lit.atom ≡ l.atom) × IsMarked m j
 
+-- .. or the literal is false by a step before the end
+abbrev pub IsMarkedOrFalse : List Step → Marking → Lit → Type 0
+IsMarkedOrFalse trail m l = HasMark trail m l ⊎ Stands trail m.end (opposite l)
+
 abbrev pub AllMarked : List Step → Marking → List Lit → Type 0
 AllMarked trail m clause = All (λ l. HasMark trail m l) clause
 
@@ -103,6 +107,10 @@ one_if stamp round = cond (nat_eq stamp round) 1 0
 abbrev pub marked : ℕ → List ℕ → ℕ
 marked round [] = 0
 marked round (s ∷ ss) = one_if s round + marked round ss
+
+-- .. from the start to a place
+abbrev pub marked_before : Marking → ℕ → ℕ
+marked_before m place = marked m.round (drop m.start (take place m.stamps))
 
 -- no mark is of a later round
 abbrev pub IsBounded : Marking → Type 0
@@ -117,6 +125,15 @@ pub record AreMarks (trail : List Step) (m : Marking) : Type 0 where
   pub lower_all : (j : ℕ) (x : Step) → j < m.start → slice_get trail j ≡ Some x → IsMarked m j → Contains m.lower (opposite x.lit)
   pub greatest : (m.level ≡ 0) ⊎ ((j : ℕ) × (x : Step) × (j < m.start) × (slice_get trail j ≡ Some x) × Contains m.lower (opposite x.lit) × (x.level ≡ m.level))
   pub waiting : m.waiting ≡ marked m.round (drop m.start (take m.end m.stamps))
+
+-- these are marks, with this start and end, of each trail for which there is room
+abbrev pub AreMarksWithin : ℕ → ℕ → ℕ → Marking → Type 0
+AreMarksWithin start end room m = (trail : List Step) → start ≤ end → end ≤ length trail → length trail ≤ room → AreMarks trail m
+
+-- a literal of the clause is false by a step from this place on
+abbrev pub IsPresent : List Step → ℕ → List Lit → Type 0
+IsPresent trail start clause =
+    (l : Lit) × Contains clause l × (j : ℕ) × (x : Step) × (start ≤ j) × (slice_get trail j ≡ Some x) × (x.lit ≡ opposite l)
 
 -- marks were only added, to places before the end of literals of the clause that are false
 pub record MarksMore (trail : List Step) (clause : List Lit) (old new : Marking) : Type 0 where

@@ -6,3 +6,4 @@ pub mod Learn
 pub mod Whole
 pub mod Theory
 pub mod Measure
+pub mod Hinted

@@ -1,14 +1,15 @@
 -- What a clause is under a trail, and unit propagation.
-use Rattle.std.specs.Prelude.{◌≡◌, ◌≢◌, ◌⊎◌, ⊤, ℕ, List, [], ◌∷◌, ◌++◌, All, Contains, Some, slice_get}
+use Rattle.std.specs.Prelude.{◌≡◌, ◌≢◌, ◌⊎◌, ⊤, ℕ, ◌+◌, List, [], ◌∷◌, ◌++◌, All, Contains, Some, length, take, slice_get}
 use Rattle.gh_base.specs.declared.atom.Lit.{Lit}
 use Rattle.gh_base.specs.declared.sizes.Sizes.{Sizes}
-use Rattle.gh_base.specs.Atoms.{opposite}
+use Rattle.gh_base.specs.Atoms.{AreInRange, opposite}
+use Rattle.gh_sat.specs.declared.rows.Numbered.{Numbered}
 use Rattle.gh_sat.specs.Rows.{numbered}
 use Rattle.gh_sat.specs.declared.status.Hint.{Hint}
 use Rattle.gh_sat.specs.declared.trail.Step.{Step}
 use Rattle.gh_sat.specs.declared.status.Status.{Status}
 use Rattle.gh_sat.specs.declared.status.Status.TheVariants.{False, Unit as IsOne, Open}
-use Rattle.gh_sat.specs.Trail.{SearchState, IsFree, IsTrueIn, IsFalseIn, IsUnitIn}
+use Rattle.gh_sat.specs.Trail.{Line, SearchState, IsFree, IsTrueIn, IsFalseIn, IsUnitIn}
 
 -- the clause is false, or unit
 abbrev pub IsBad : List Step → List Lit → Type 0
@@ -35,6 +36,12 @@ pub record IsPair (s : Sizes) (known : List Step) (clause : List Lit) (hint : Hi
 abbrev pub IsGuarded : Sizes → List Step → List Step → List Lit → Hint → Type 0
 IsGuarded s trail known clause hint = ((l : Lit) × Contains clause l × IsTrueIn trail l) ⊎ IsPair s known clause hint
 
+-- it stays so, by the step at `head` too, where that step makes the literal `gone` false
+abbrev pub StaysGuarded : Line → Hint → Numbered → Type 0
+StaysGuarded t hint gone =
+    (head : ℕ) (x : Step) (clause : List Lit) → AreInRange t.sizes clause → slice_get t.steps head ≡ Some x → numbered t.sizes (opposite x.lit) ≡ gone
+    → IsGuarded t.sizes t.steps (take head t.steps) clause hint → IsGuarded t.sizes t.steps (take (head + 1) t.steps) clause hint
+
 -- where the clause is open, its hint stays or has two literals that aren't false
 abbrev pub IsMoved : Sizes → List Step → List Lit → Hint → Status → Type 0
 IsMoved s trail clause old (Open hint) = IsGuarded s trail trail clause hint × ((hint ≡ old) ⊎ IsPair s trail clause hint)
@@ -49,6 +56,10 @@ abbrev pub AreAssigned : SearchState → Type 0
 AreAssigned s = All (IsAssigned s.trail) s.clauses
 
 -- no clause is false or unit
+abbrev pub HasNoBad : List (List Lit) → List Step → Type 0
+HasNoBad clauses trail = (k : ℕ) (c : List Lit) → slice_get clauses k ≡ Some c → IsBad trail c → ⊥
+
+-- the same of a search
 pub record IsSettled (s : SearchState) : Type 0 where
   pub no_false : (k : ℕ) (c : List Lit) → slice_get s.clauses k ≡ Some c → IsFalseIn s.trail c → ⊥
   pub no_unit : (k : ℕ) (c : List Lit) (u : Lit) → slice_get s.clauses k ≡ Some c → IsUnitIn s.trail c u → ⊥
@@ -74,3 +85,18 @@ Grows clauses level old new = (added : List Step) × (new ≡ old ++ added) × A
 -- the clause of this number is false
 abbrev pub IsFalseClause : List (List Lit) → List Step → ℕ → Type 0
 IsFalseClause clauses trail k = (c : List Lit) × (slice_get clauses k ≡ Some c) × IsFalseIn trail c
+
+-- where the clause of a number is unit, its literal is put on the trail, and nothing else
+abbrev pub PutsUnit : List (List Lit) → ℕ → List Step → List Step → ℕ → Type 0
+PutsUnit clauses level old new k = (c : List Lit) (u : Lit) → slice_get clauses k ≡ Some c → IsUnitIn old c u
+    → new ≡ old ++ (record { lit = u; level = level; reason = Some k }) ∷ []
+
+-- .. the last clause
+abbrev pub PutsLast : List (List Lit) → ℕ → List Step → List Step → Type 0
+PutsLast clauses level old new = (before : List (List Lit)) (c : List Lit) (u : Lit) → clauses ≡ before ++ c ∷ [] → IsUnitIn old c u
+    → new ≡ old ++ (record { lit = u; level = level; reason = Some (length before) }) ∷ []
+
+-- where the last clause is unit, its literal is put on the trail first
+abbrev pub PutsLastFirst : List (List Lit) → ℕ → List Step → List Step → Type 0
+PutsLastFirst clauses level old new = (before : List (List Lit)) (c : List Lit) (u : Lit) → clauses ≡ before ++ c ∷ [] → IsUnitIn old c u
+    → (more : List Step) × (new ≡ old ++ (record { lit = u; level = level; reason = Some (length before) }) ∷ [] ++ more)

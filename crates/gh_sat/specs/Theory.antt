@@ -6,10 +6,19 @@ use Rattle.gh_base.specs.Atoms.{opposite}
 use Rattle.gh_sat.specs.declared.trail.Step.{Step}
 use Rattle.gh_sat.specs.Trail.{SearchState, IsFalseIn}
 use Rattle.gh_sat.specs.Status.{Grows}
+use Rattle.gh_sat.specs.Learn.{add_clause}
 
 -- the opposite of each literal stands asserted
 abbrev pub IsRefutedBy : List Lit → List Lit → Type 0
 IsRefutedBy asserted clause = All (λ l. Contains asserted (opposite l)) clause
+
+-- a clause of the theory is refuted by what is asserted
+abbrev pub IsRefuted : (List Lit → Type 0) → List Lit → List Lit → Type 0
+IsRefuted valid asserted clause = valid clause × IsRefutedBy asserted clause
+
+-- none is
+abbrev pub HasNoRefuted : (List Lit → Type 0) → List Lit → Type 0
+HasNoRefuted valid asserted = (c : List Lit) → valid c → IsRefutedBy asserted c → ⊥
 
 -- the atom stands in none of the literals
 abbrev pub HasNoLit : List Lit → Atom → Type 0
@@ -29,6 +38,10 @@ HasNoConflict valid trail = (c : List Lit) → valid c → IsFalseIn trail c →
 -- nor was one when a level was opened
 abbrev pub WereConsistent : (List Lit → Type 0) → List Step → List ℕ → Type 0
 WereConsistent valid trail starts = (level start : ℕ) → slice_get starts level ≡ Some start → HasNoConflict valid (take start trail)
+
+-- a clause of the theory is added
+abbrev pub AddsValid : (List Lit → Type 0) → SearchState → SearchState → Type 0
+AddsValid valid old new = (c : List Lit) × valid c × (new ≡ add_clause old c)
 
 -- literals were only added to the trail, each when it was the one with no truth of a clause whose others are false, and
 -- at most one clause, of the theory, whose number is the answer

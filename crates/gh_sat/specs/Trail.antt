@@ -26,6 +26,9 @@ Stands trail i l = (j : ℕ) × (x : Step) × (j < i) × (slice_get trail j ≡ 
 abbrev pub IsTrueIn : List Step → Lit → Type 0
 IsTrueIn trail l = Stands trail (length trail) l
 
+abbrev pub IsLitFalse : List Step → Lit → Type 0
+IsLitFalse trail l = IsTrueIn trail (opposite l)
+
 -- each literal is false
 abbrev pub IsFalseIn : List Step → List Lit → Type 0
 IsFalseIn trail clause = All (λ m. IsTrueIn trail (opposite m)) clause
@@ -33,6 +36,14 @@ IsFalseIn trail clause = All (λ m. IsTrueIn trail (opposite m)) clause
 -- the atom has no truth
 abbrev pub IsFree : List Step → Atom → Type 0
 IsFree trail a = (i : ℕ) (x : Step) → slice_get trail i ≡ Some x → x.lit.atom ≢ a
+
+-- no atom in range is without a truth
+abbrev pub AllHaveTruth : Sizes → List Step → Type 0
+AllHaveTruth s trail = (a : Atom) → IsInRange s a → IsFree trail a → ⊥
+
+-- where the atom stands, it stands at this place
+abbrev pub StandsOnlyAt : List Step → Atom → ℕ → Type 0
+StandsOnlyAt trail a place = (i : ℕ) (x : Step) → slice_get trail i ≡ Some x → x.lit.atom ≡ a → place ≡ i
 
 -- one literal has no truth, and the others are false
 pub record IsUnitIn (trail : List Step) (clause : List Lit) (unit : Lit) : Type 0 where
@@ -106,6 +117,10 @@ ArePlaces s places trail = (i : ℕ) (x : Step) → slice_get trail i ≡ Some x
 abbrev pub turned : Sizes → ℕ → ℕ
 turned s n = if nat_lt n (btwn_start s) then n else (if nat_lt n (def_start s) then btwn_start s + (def_start s - 1 - n) else n)
 
+-- the atom at a place in this order has no truth
+abbrev pub IsFreeAt : Partial → ℕ → Type 0
+IsFreeAt p place = slice_get p.values (turned p.sizes place) ≡ Some None
+
 -- the atoms whose places stand before the cursor have a truth
 abbrev pub IsPassed : Partial → ℕ → Type 0
 IsPassed p cursor = (i : ℕ) → i < cursor → slice_get p.values (turned p.sizes i) ≢ Some None
@@ -114,6 +129,10 @@ IsPassed p cursor = (i : ℕ) → i < cursor → slice_get p.values (turned p.si
 pub record IsAssignmentOf (p : Partial) (t : Line) : Type 0 where
   pub sizes : p.sizes ≡ t.sizes
   pub tells : (l : Lit) → IsInRange t.sizes l.atom → IsValue t.steps l (value_of p l)
+
+-- some clauses, and nothing on the trail
+abbrev pub search_over : Sizes → List (List Lit) → SearchState
+search_over s clauses = record { sizes = s; clauses = clauses; trail = []; starts = [] }
 
 -- the place at which the levels above this one begin
 abbrev pub end_of : List ℕ → ℕ → ℕ → ℕ
@@ -130,3 +149,7 @@ push t x = record t { steps = t.steps ++ x ∷ [] }
 -- a level more, opened by its decision
 abbrev pub open_level : SearchState → Lit → SearchState
 open_level s lit = record s { trail = s.trail ++ (record { lit = lit; level = length s.starts + 1; reason = None }) ∷ []; starts = s.starts ++ length s.trail ∷ [] }
+
+-- .. on an atom in range that had no truth
+abbrev pub OpensLevel : SearchState → Lit → SearchState → Type 0
+OpensLevel old lit new = IsInRange old.sizes lit.atom × IsFree old.trail lit.atom × (new ≡ open_level old lit)

@@ -1,10 +1,10 @@
 -- What holds of a search between its calls.
-use Rattle.std.specs.Prelude.{◌≡◌, ◌⊎◌, ℕ, ◌*◌, ◌≤◌, List, [], ◌∷◌, ◌++◌, Some, length, slice_get}
+use Rattle.std.specs.Prelude.{◌≡◌, ◌⊎◌, ℕ, ◌*◌, ◌≤◌, List, Some, length, slice_get}
 use Rattle.gh_base.specs.declared.atom.Lit.{Lit}
 use Rattle.gh_base.specs.Atoms.{count_of}
 use Rattle.gh_sat.specs.declared.trail.Step.{Step}
-use Rattle.gh_sat.specs.Trail.{SearchState, IsFalseIn, IsUnitIn, IsSound, cut}
-use Rattle.gh_sat.specs.Status.{Grows}
+use Rattle.gh_sat.specs.Trail.{SearchState, IsFalseIn, IsSound, cut}
+use Rattle.gh_sat.specs.Status.{Grows, PutsLastFirst}
 use Rattle.gh_sat.specs.declared.status.Hint.{Hint}
 use Rattle.gh_sat.specs.Watch.{AreGuarded, AreListed, WereGuarded, WereOpen}
 use Rattle.gh_sat.specs.Learn.{IsTop, add_clause}
@@ -34,8 +34,7 @@ pub record PropagatesTo (old new : SearchState) : Type 0 where
 
 -- where the clause that was added last is unit, its literal was added first
 abbrev pub GivesLast : SearchState → List Step → Type 0
-GivesLast s new = (before : List (List Lit)) (c : List Lit) (u : Lit) → s.clauses ≡ before ++ c ∷ [] → IsUnitIn s.trail c u
-    → (more : List Step) × (new ≡ s.trail ++ (record { lit = u; level = length s.starts; reason = Some (length before) }) ∷ [] ++ more)
+GivesLast s new = PutsLastFirst s.clauses (length s.starts) s.trail new
 
 -- a false clause is added last and the trail cut to the greatest level of its literals; any other one is added
 abbrev pub Adds : SearchState → List Lit → SearchState → Type 0

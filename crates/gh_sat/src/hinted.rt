@@ -1,4 +1,7 @@
-//! Places in the order of decisions at which a free atom of a clause may stand: hints, which no clause speaks of.
+//! Places in the order of decisions at which a free atom of a clause may stand: hints, which no clause of a search speaks of.
+
+ghost use Rattle.std.specs.Prelude.{IfOk};
+ghost use Rattle.gh_sat.specs.Hinted.{HintsNothing};
 
 use std::alloc::{AllocError, Global};
 
@@ -42,7 +45,9 @@ pub(crate) struct Hinted {
 
 impl Hinted {
     /// No place.
-    pub fn new(alloc: Global, count: usize) -> Result<Hinted, AllocError> {
+    pub fn new(alloc: Global, count: usize) -> Result<Hinted, AllocError>
+        ensures { IfOk result (λ h. HintsNothing h) }
+    {
         Ok(Hinted {
             places: vec![in alloc; 0; count / 64 + 1]?,
             words: vec![in alloc; 0; count / 4096 + 1]?,

@@ -1,12 +1,11 @@
 //! A search over clauses alone.
 
 ghost use Rattle.std.specs.Prelude.{◌≡◌, ◌⊎◌, ℕ, ◌+◌, ◌*◌, ◌-◌, ◌<◌, ◌≤◌, [], length, take, IfOk, OnOk, OnErr, IfSome, IfNone, Some, None, slice_get, vec_capacity, option_copied};
-ghost use Rattle.gh_base.specs.declared.atom.Atom.{Atom};
 ghost use Rattle.gh_base.specs.declared.atom.Lit.{Lit};
 ghost use Rattle.gh_base.specs.Atoms.{IsInRange, AreInRange, count_of};
 ghost use Rattle.gh_sat.specs.declared.trail.Step.{Step};
 ghost use Rattle.gh_sat.specs.Rows.{row_of};
-ghost use Rattle.gh_sat.specs.Trail.{IsFalseIn, AreSteps};
+ghost use Rattle.gh_sat.specs.Trail.{IsFalseIn, AreSteps, AllHaveTruth, OpensLevel, search_over};
 ghost use Rattle.gh_sat.specs.Learn.{IsTop};
 
 use crate::marks::{Marks, begin, resolve};
@@ -232,7 +231,7 @@ impl Learner {
 
     /// A search over some clauses, with nothing on its trail.
     pub fn new(alloc: Global, ground: &Ground) -> Result<Learner, AllocError>
-        ensures { IfOk result (λ s. s ≡ record { sizes = ground.now.sizes; clauses = ground.now.clauses; trail = []; starts = [] }) }
+        ensures { IfOk result (λ s. s ≡ search_over ground.now.sizes ground.now.clauses) }
     {
         let mut learner = Learner::empty(alloc, ground.sizes())?;
         let mut number = 0;
@@ -401,7 +400,7 @@ impl Learner {
     pub fn next_free(&mut self) -> Option<Atom>
         ensures same { self.new ≡ self.old }
         ensures some { IfSome result (λ a. IsInRange self.old.sizes a × IsFree self.old.trail a) }
-        ensures none { IfNone result ((a : Atom) → IsInRange self.old.sizes a → IsFree self.old.trail a → ⊥) }
+        ensures none { IfNone result (AllHaveTruth self.old.sizes self.old.trail) }
         ensures sound { IsSound self.new }
     {
         self.trail.next_free()
@@ -427,8 +426,8 @@ impl Learner {
     /// Opens a level with the atom of `next_free`, made false, if there is one.
     pub fn decide(&mut self) -> Option<Lit>
         requires { IsSettled self.old }
-        ensures none { IfNone result ((self.new ≡ self.old) × ((a : Atom) → IsInRange self.old.sizes a → IsFree self.old.trail a → ⊥)) }
-        ensures some { IfSome result (λ lit. IsInRange self.old.sizes lit.atom × IsFree self.old.trail lit.atom × (self.new ≡ open_level self.old lit)) }
+        ensures none { IfNone result ((self.new ≡ self.old) × AllHaveTruth self.old.sizes self.old.trail) }
+        ensures some { IfSome result (λ lit. OpensLevel self.old lit self.new) }
         ensures sound { IsSound self.new }
     {
         let atom = self.next_free()?;

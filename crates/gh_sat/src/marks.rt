@@ -1,11 +1,9 @@
 //! Marks on the trail, from a false clause back to its first unique implication point.
 
-ghost use Rattle.std.specs.Prelude.{◌≡◌, ◌⊎◌, ℕ, ◌+◌, ◌<◌, ◌≤◌, List, [], ◌∷◌, length, take, drop, All, Contains, OnOk, IfOk, Some, None, slice_get};
-ghost use Rattle.gh_base.specs.declared.atom.Lit.{Lit};
-ghost use Rattle.gh_base.specs.Atoms.{opposite, AreInRange, IsInRange};
-ghost use Rattle.gh_sat.specs.declared.trail.Step.{Step};
-ghost use Rattle.gh_sat.specs.Trail.{Stands, IsFalseIn, AreSteps};
-ghost use Rattle.gh_sat.specs.Learn.{marks_of, IsMarked, HasMark, AllMarked, marked, IsBounded, AreMarks, MarksMore, HaveReasons, IsLeft};
+ghost use Rattle.std.specs.Prelude.{◌≡◌, ℕ, ◌+◌, ◌<◌, ◌≤◌, [], ◌∷◌, length, All, OnOk, IfOk};
+ghost use Rattle.gh_base.specs.Atoms.{AreInRange, IsInRange};
+ghost use Rattle.gh_sat.specs.Trail.{IsFalseIn, AreSteps};
+ghost use Rattle.gh_sat.specs.Learn.{marks_of, IsMarked, HasMark, AllMarked, IsBounded, AreMarks, MarksMore, HaveReasons, IsLeft, AreMarksWithin, IsMarkedOrFalse, IsPresent, marked_before};
 
 use crate::trail::Trail;
 use gh_base::atom::Lit;
@@ -40,7 +38,7 @@ fn wipe(stamps: &mut Vec<u32>)
 pub fn begin(marks: &mut Marks, start: usize, end: usize)
     requires { IsBounded (marks_of marks.old) }
     ensures bounded { IsBounded (marks_of marks.new) }
-    ensures none { (trail : List Step) → start ≤ end → end ≤ length trail → length trail ≤ length marks.old.stamps.items → AreMarks trail (marks_of marks.new) }
+    ensures none { AreMarksWithin start end (length marks.old.stamps.items) (marks_of marks.new) }
     ensures unmarked { (j : ℕ) → IsMarked (marks_of marks.new) j → ⊥ }
     ensures long { length marks.new.stamps.items ≡ length marks.old.stamps.items }
     ensures start { marks.new.start ≡ start }
@@ -63,7 +61,7 @@ pub fn mark(marks: &mut Marks, trail: &Trail, lit: Lit) -> Result<(), AllocError
     requires marks { AreMarks trail.now.steps (marks_of marks.old) }
     requires bounded { IsBounded (marks_of marks.old) }
     requires range { IsInRange trail.now.sizes lit.atom }
-    requires stands { HasMark trail.now.steps (marks_of marks.old) lit ⊎ Stands trail.now.steps marks.old.end (opposite lit) }
+    requires stands { IsMarkedOrFalse trail.now.steps (marks_of marks.old) lit }
     ensures marks { OnOk result (AreMarks trail.now.steps (marks_of marks.new)) }
     ensures is { OnOk result (HasMark trail.now.steps (marks_of marks.new) lit) }
     ensures more { MarksMore trail.now.steps (lit ∷ []) (marks_of marks.old) (marks_of marks.new) }
@@ -87,7 +85,7 @@ pub fn mark_all(marks: &mut Marks, trail: &Trail, clause: &[Lit]) -> Result<(), 
     requires marks { AreMarks trail.now.steps (marks_of marks.old) }
     requires bounded { IsBounded (marks_of marks.old) }
     requires range { AreInRange trail.now.sizes clause.now }
-    requires stands { All (λ l. HasMark trail.now.steps (marks_of marks.old) l ⊎ Stands trail.now.steps marks.old.end (opposite l)) clause.now }
+    requires stands { All (IsMarkedOrFalse trail.now.steps (marks_of marks.old)) clause.now }
     ensures marks { OnOk result (AreMarks trail.now.steps (marks_of marks.new)) }
     ensures all { OnOk result (AllMarked trail.now.steps (marks_of marks.new) clause.now) }
     ensures more { MarksMore trail.now.steps clause.now (marks_of marks.old) (marks_of marks.new) }
@@ -102,12 +100,12 @@ pub fn mark_all(marks: &mut Marks, trail: &Trail, clause: &[Lit]) -> Result<(), 
 pub fn last_marked(marks: &Marks) -> usize
     requires some { 0 < marks.now.waiting }
     requires end { marks.now.end ≤ length marks.now.stamps.items }
-    requires waiting { marks.now.waiting ≡ marked marks.now.round (drop marks.now.start (take marks.now.end marks.now.stamps.items)) }
+    requires waiting { marks.now.waiting ≡ marked_before (marks_of marks.now) marks.now.end }
     ensures within { result < marks.now.end }
     ensures start { marks.now.start ≤ result }
     ensures is { IsMarked (marks_of marks.now) result }
     ensures between { (j : ℕ) → result < j → j < marks.now.end → IsMarked (marks_of marks.now) j → ⊥ }
-    ensures fewer { marks.now.waiting ≡ marked marks.now.round (drop marks.now.start (take result marks.now.stamps.items)) + 1 }
+    ensures fewer { marks.now.waiting ≡ marked_before (marks_of marks.now) result + 1 }
 {
     let mut i = marks.end;
     while i > marks.start {
@@ -134,7 +132,7 @@ pub fn resolve(
     requires conflict_range { AreInRange trail.now.sizes conflict.now }
     requires reasons { HaveReasons clauses.now trail.now.steps marks.old.start }
     requires all_false { IsFalseIn trail.now.steps conflict.now }
-    requires present { (l : Lit) × Contains conflict.now l × (j : ℕ) × (x : Step) × (marks.old.start ≤ j) × (slice_get trail.now.steps j ≡ Some x) × (x.lit ≡ opposite l) }
+    requires present { IsPresent trail.now.steps marks.old.start conflict.now }
     requires valid { AreSteps trail.now }
     ensures point { IfOk result (λ place. IsLeft clauses.now trail.now.steps conflict.now (marks_of marks.new) place) }
     ensures round { marks.new.round ≡ marks.old.round }

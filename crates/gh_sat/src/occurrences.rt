@@ -1,9 +1,8 @@
 //! For each literal the numbers of the clauses that have it.
 
 ghost use Rattle.std.specs.Prelude.{◌≡◌, ◌++◌, ◌*◌, ◌∷◌, ◌<◌, ◌≤◌, ℕ, [], Contains, IfOk, OnOk, OnErr, length, slice_index_or, replicate};
-ghost use Rattle.gh_base.specs.declared.atom.Lit.{Lit};
 ghost use Rattle.gh_base.specs.Atoms.{IsInRange, AreInRange, count_of};
-ghost use Rattle.gh_sat.specs.Watch.{code_of, clauses_of, lists_by, AreLists, ListsMore};
+ghost use Rattle.gh_sat.specs.Watch.{code_of, clauses_of, lists_by, AreLists, ListsMore, IsListed};
 
 use gh_base::atom::Lit;
 use gh_base::sizes::Sizes;
@@ -149,7 +148,7 @@ impl Occurrences {
         requires range { AreInRange sizes clause.now }
         requires small { count_of sizes ≤ 4294967294 }
         requires long { length self.old ≡ 2 * count_of sizes }
-        ensures listed { OnOk result ((m : Lit) → Contains clause.now m → Contains (clauses_of sizes self.new m) number) }
+        ensures listed { OnOk result (IsListed sizes self.new clause.now number) }
         ensures more { ListsMore self.old self.new }
     {
         for lit in clause {

@@ -1,14 +1,11 @@
 //! Unit propagation by the lists of the clauses in which each literal stands.
 
-ghost use Rattle.std.specs.Prelude.{◌≡◌, ◌⊎◌, ◌+◌, ◌*◌, ◌++◌, ◌∷◌, ◌<◌, ◌≤◌, ℕ, [], List, All, Some, None, IsTrue, IfSome, IfNone, length, slice_get, take};
-ghost use Rattle.gh_base.specs.declared.atom.Lit.{Lit};
-ghost use Rattle.gh_base.specs.Atoms.{AreInRange, count_of, opposite};
-ghost use Rattle.gh_sat.specs.declared.status.Hint.{Hint};
-ghost use Rattle.gh_sat.specs.declared.trail.Step.{Step};
-ghost use Rattle.gh_sat.specs.Trail.{IsUnitIn, AreSteps};
-ghost use Rattle.gh_sat.specs.Rows.{numbered, rows_of};
-ghost use Rattle.gh_sat.specs.Status.{IsBad, IsGuarded, Grows, IsFalseClause};
-ghost use Rattle.gh_sat.specs.Watch.{AreGuarded, AreVisited, AreListed, MoveHints};
+ghost use Rattle.std.specs.Prelude.{◌≡◌, ◌*◌, ◌<◌, ◌≤◌, All, IsTrue, IfSome, IfNone, length};
+ghost use Rattle.gh_base.specs.Atoms.{AreInRange, count_of};
+ghost use Rattle.gh_sat.specs.Trail.{AreSteps};
+ghost use Rattle.gh_sat.specs.Rows.{rows_of};
+ghost use Rattle.gh_sat.specs.Status.{Grows, IsFalseClause, HasNoBad, PutsLast, PutsLastFirst, PutsUnit};
+ghost use Rattle.gh_sat.specs.Watch.{AreGuarded, AreListed, MoveHints, GuardsFurther, GuardsMore, IsFalseOrGuarded, VisitsAll, VisitsOne};
 
 use crate::occurrences::Occurrences;
 use crate::rows::{Numbered, Row};
@@ -35,10 +32,8 @@ fn look(
     ensures grows { Grows clauses.now level trail.old.steps trail.new.steps }
     ensures moves { MoveHints trail.old.sizes clauses.now trail.old.steps hints.old hints.new }
     ensures if_false { IsTrue result → IsFalseClause clauses.now trail.new.steps k }
-    ensures guarded { (c : List Lit) (h : Hint) → slice_get clauses.now k ≡ Some c → slice_get hints.new k ≡ Some h
-        → IsTrue result ⊎ IsGuarded trail.old.sizes trail.new.steps trail.new.steps c h }
-    ensures unit { (c : List Lit) (u : Lit) → slice_get clauses.now k ≡ Some c → IsUnitIn trail.old.steps c u
-        → trail.new.steps ≡ trail.old.steps ++ (record { lit = u; level = level; reason = Some k }) ∷ [] }
+    ensures guarded { IsFalseOrGuarded clauses.now hints.new trail.old.sizes trail.new.steps k result }
+    ensures unit { PutsUnit clauses.now level trail.old.steps trail.new.steps k }
 {
     let (lits, row) = (clauses[k as usize].lits(), rows[k as usize].lits());
     match status_of(trail, lits, row, hints[k as usize]) {
@@ -76,8 +71,7 @@ fn look_at_last(
     ensures grows { Grows clauses.now level trail.old.steps trail.new.steps }
     ensures moves { MoveHints trail.old.sizes clauses.now trail.old.steps hints.old hints.new }
     ensures conflict { IfSome result (λ k. IsFalseClause clauses.now trail.new.steps k) }
-    ensures last { (before : List (List Lit)) (c : List Lit) (u : Lit) → clauses.now ≡ before ++ c ∷ [] → IsUnitIn trail.old.steps c u
-        → trail.new.steps ≡ trail.old.steps ++ (record { lit = u; level = level; reason = Some (length before) }) ∷ [] }
+    ensures last { PutsLast clauses.now level trail.old.steps trail.new.steps }
 {
     let count = clauses.len() as u32;
     if count > 0 && look(clauses, rows, hints, trail, count - 1, level) {
@@ -106,8 +100,7 @@ fn look_at_new(
     ensures grows { Grows clauses.now level trail.old.steps trail.new.steps }
     ensures moves { MoveHints trail.old.sizes clauses.now trail.old.steps hints.old hints.new }
     ensures looked { looked.new ≤ length clauses.now }
-    ensures guarded { (head : ℕ) → head ≤ length trail.old.steps → AreGuarded trail.old.sizes clauses.now hints.old trail.old.steps head looked.old
-        → AreGuarded trail.old.sizes clauses.now hints.new trail.new.steps head looked.new }
+    ensures guarded { GuardsMore clauses.now hints.old hints.new trail.old trail.new looked.old looked.new }
     ensures conflict { IfSome result (λ k. IsFalseClause clauses.now trail.new.steps k) }
     ensures all { IfNone result (looked.new ≡ length clauses.now) }
 {
@@ -140,9 +133,7 @@ fn visit_one(
     ensures grows { Grows clauses.now level trail.old.steps trail.new.steps }
     ensures moves { MoveHints trail.old.sizes clauses.now trail.old.steps hints.old hints.new }
     ensures if_false { IsTrue result → IsFalseClause clauses.now trail.new.steps k }
-    ensures guarded { (head looked : ℕ) (x : Step) (c : List Lit) (h : Hint) → k < looked → slice_get trail.old.steps head ≡ Some x → numbered trail.old.sizes (opposite x.lit) ≡ gone
-        → AreGuarded trail.old.sizes clauses.now hints.old trail.old.steps head looked → slice_get clauses.now k ≡ Some c → slice_get hints.new k ≡ Some h
-        → IsTrue result ⊎ IsGuarded trail.old.sizes trail.new.steps (take (head + 1) trail.new.steps) c h }
+    ensures guarded { VisitsOne clauses.now hints.old hints.new trail.old trail.new gone k result }
 {
     if needs_no_look(trail, hints[k as usize], gone) {
         return false;
@@ -169,9 +160,7 @@ fn visit(
     ensures grows { Grows clauses.now level trail.old.steps trail.new.steps }
     ensures moves { MoveHints trail.old.sizes clauses.now trail.old.steps hints.old hints.new }
     ensures conflict { IfSome result (λ k. IsFalseClause clauses.now trail.new.steps k) }
-    ensures visited { IfNone result ((head looked : ℕ) (x : Step) → slice_get trail.old.steps head ≡ Some x → numbered trail.old.sizes (opposite x.lit) ≡ gone
-        → AreGuarded trail.old.sizes clauses.now hints.old trail.old.steps head looked → AreVisited trail.old.sizes clauses.now hints.old trail.old.steps head looked list.now
-        → AreVisited trail.old.sizes clauses.now hints.new trail.new.steps head looked []) }
+    ensures visited { IfNone result (VisitsAll clauses.now hints.old hints.new trail.old trail.new gone list.now) }
 {
     for j in 0..list.len() {
         let k = list[j];
@@ -204,8 +193,7 @@ fn follow(
     ensures grows { Grows clauses.now level trail.old.steps trail.new.steps }
     ensures moves { MoveHints trail.old.sizes clauses.now trail.old.steps hints.old hints.new }
     ensures head { head.new ≤ length trail.new.steps }
-    ensures guarded { (looked : ℕ) → AreGuarded trail.old.sizes clauses.now hints.old trail.old.steps head.old looked
-        → AreGuarded trail.old.sizes clauses.now hints.new trail.new.steps head.new looked }
+    ensures guarded { GuardsFurther clauses.now hints.old hints.new trail.old trail.new head.old head.new }
     ensures conflict { IfSome result (λ k. IsFalseClause clauses.now trail.new.steps k) }
     ensures all { IfNone result (head.new ≡ length trail.new.steps) }
 {
@@ -252,9 +240,8 @@ pub fn propagate(
     ensures moves { MoveHints trail.old.sizes clauses.now trail.old.steps hints.old hints.new }
     ensures guarded { AreGuarded trail.old.sizes clauses.now hints.new trail.new.steps head.new looked.new }
     ensures conflict { IfSome result (λ k. IsFalseClause clauses.now trail.new.steps k) }
-    ensures settled { IfNone result ((k : ℕ) (c : List Lit) → slice_get clauses.now k ≡ Some c → IsBad trail.new.steps c → ⊥) }
-    ensures last { (before : List (List Lit)) (c : List Lit) (u : Lit) → clauses.now ≡ before ++ c ∷ [] → IsUnitIn trail.old.steps c u
-        → (more : List Step) × (trail.new.steps ≡ trail.old.steps ++ (record { lit = u; level = level; reason = Some (length before) }) ∷ [] ++ more) }
+    ensures settled { IfNone result (HasNoBad clauses.now trail.new.steps) }
+    ensures last { PutsLastFirst clauses.now level trail.old.steps trail.new.steps }
 {
     let conflict = look_at_last(clauses, rows, hints, trail, level);
     if conflict.is_some() {

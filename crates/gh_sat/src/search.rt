@@ -1,14 +1,12 @@
 //! A search over clauses beside a theory.
 
-ghost use Rattle.std.specs.Prelude.{◌≡◌, ◌≤◌, ◌<◌, List, [], length, IfOk, OnOk, OnErr, IfSome, IfNone, Some, option_copied, slice_get};
-ghost use Rattle.gh_base.specs.declared.atom.Atom.{Atom};
-ghost use Rattle.gh_base.specs.declared.atom.Lit.{Lit};
-ghost use Rattle.gh_base.specs.Atoms.{IsInRange, AreInRange};
-ghost use Rattle.gh_sat.specs.Trail.{SearchState, IsFree, IsAssignmentOf, IsSound, cut, open_level};
+ghost use Rattle.std.specs.Prelude.{◌≡◌, ◌≤◌, ◌<◌, [], length, IfOk, OnOk, OnErr, IfSome, IfNone, option_copied, slice_get};
+ghost use Rattle.gh_base.specs.Atoms.{AreInRange};
+ghost use Rattle.gh_sat.specs.Trail.{SearchState, IsAssignmentOf, IsSound, cut, AllHaveTruth, OpensLevel, search_over};
 ghost use Rattle.gh_sat.specs.Status.{IsSettled, AreAssigned};
 ghost use Rattle.gh_sat.specs.Learn.{IsConflict, IsLearnt, AreReasons, add_clause};
 ghost use Rattle.gh_sat.specs.Whole.{GivesLast, Adds};
-ghost use Rattle.gh_sat.specs.Theory.{lits_of, IsTold, HasNoConflict, WereConsistent, PropagatesBeside};
+ghost use Rattle.gh_sat.specs.Theory.{lits_of, IsTold, HasNoConflict, WereConsistent, PropagatesBeside, AddsValid};
 
 use crate::learner::{Learner, Learnt};
 use crate::theory::Theory;
@@ -69,7 +67,7 @@ fn refute<T: Theory>(
     requires sound { IsSound learner.old }
     requires consistent { WereConsistent (T.valid learner.old.sizes) learner.old.trail learner.old.starts }
     ensures number { IfOk result (λ o. IfSome o (λ k. k ≡ length learner.old.clauses)) }
-    ensures added { IfOk result (λ o. IfSome o (λ _. (c : List Lit) × T.valid learner.old.sizes c × (learner.new ≡ add_clause learner.old c))) }
+    ensures added { IfOk result (λ o. IfSome o (λ _. AddsValid (T.valid learner.old.sizes) learner.old learner.new)) }
     ensures conflict { IfOk result (λ o. IfSome o (λ k. IsConflict learner.new k)) }
     ensures none { IfOk result (λ o. IfNone o (HasNoConflict (T.valid learner.old.sizes) learner.old.trail)) }
     ensures known { IfOk result (λ o. IfNone o (T.known learner.old.sizes (lits_of learner.old.trail))) }
@@ -92,7 +90,7 @@ impl<T: Theory> Search<T> {
     pub fn new(alloc: Global, ground: &Ground, theory: T) -> Result<Search<T>, AllocError>
         requires none { T.asserted theory ≡ [] }
         requires sizes { T.sizes theory ≡ ground.now.sizes }
-        ensures { IfOk result (λ s. s ≡ record { sizes = ground.now.sizes; clauses = ground.now.clauses; trail = []; starts = [] }) }
+        ensures { IfOk result (λ s. s ≡ search_over ground.now.sizes ground.now.clauses) }
     {
         let learner = Learner::new(alloc, ground)?;
         Ok(Search { learner, theory })
@@ -167,8 +165,8 @@ impl<T: Theory> Search<T> {
     pub fn decide(&mut self) -> Option<Lit>
         requires settled { IsSettled self.old }
         requires consistent { HasNoConflict (T.valid self.old.sizes) self.old.trail }
-        ensures none { IfNone result ((self.new ≡ self.old) × ((a : Atom) → IsInRange self.old.sizes a → IsFree self.old.trail a → ⊥)) }
-        ensures some { IfSome result (λ lit. IsInRange self.old.sizes lit.atom × IsFree self.old.trail lit.atom × (self.new ≡ open_level self.old lit)) }
+        ensures none { IfNone result ((self.new ≡ self.old) × AllHaveTruth self.old.sizes self.old.trail) }
+        ensures some { IfSome result (λ lit. OpensLevel self.old lit self.new) }
     {
         let atom = self.learner.next_free()?;
         let lit = Lit {
@@ -184,7 +182,7 @@ impl<T: Theory> Search<T> {
         requires settled { IsSettled self.old }
         requires consistent { HasNoConflict (T.valid self.old.sizes) self.old.trail }
         ensures none { IfNone result ((self.new ≡ self.old) × AreAssigned self.old) }
-        ensures some { IfSome result (λ lit. IsInRange self.old.sizes lit.atom × IsFree self.old.trail lit.atom × (self.new ≡ open_level self.old lit)) }
+        ensures some { IfSome result (λ lit. OpensLevel self.old lit self.new) }
     {
         let atom = self.learner.next_needed()?;
         let lit = Lit {

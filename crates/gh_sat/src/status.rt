@@ -1,12 +1,11 @@
 //! What a clause is under a trail.
 
-ghost use Rattle.std.specs.Prelude.{◌≡◌, ℕ, ◌+◌, List, IsTrue, Some, slice_get, take};
+ghost use Rattle.std.specs.Prelude.{◌≡◌, IsTrue};
 ghost use Rattle.gh_base.specs.declared.atom.Lit.{Lit};
-ghost use Rattle.gh_base.specs.Atoms.{AreInRange, IsInRange, opposite};
-ghost use Rattle.gh_sat.specs.declared.trail.Step.{Step};
-ghost use Rattle.gh_sat.specs.Rows.{numbered, row_of};
-ghost use Rattle.gh_sat.specs.Status.{IsStatus, IsGuarded, IsMoved};
-ghost use Rattle.gh_sat.specs.Trail.{IsTrueIn};
+ghost use Rattle.gh_base.specs.Atoms.{AreInRange, IsInRange};
+ghost use Rattle.gh_sat.specs.Rows.{numbered, row_of, EachNumbered};
+ghost use Rattle.gh_sat.specs.Status.{IsStatus, IsMoved, StaysGuarded};
+ghost use Rattle.gh_sat.specs.Trail.{IsLitFalse};
 
 use crate::rows::Numbered;
 use crate::trail::Trail;
@@ -34,8 +33,8 @@ pub enum Status {
 // Whether a literal is false.
 fn is_false(trail: &Trail, lit: Numbered) -> bool
     requires { (l : Lit) × IsInRange trail.now.sizes l.atom × (lit ≡ numbered trail.now.sizes l) }
-    ensures yes { IsTrue result → (l : Lit) → IsInRange trail.now.sizes l.atom → lit ≡ numbered trail.now.sizes l → IsTrueIn trail.now.steps (opposite l) }
-    ensures no { (IsTrue result → ⊥) → (l : Lit) → IsInRange trail.now.sizes l.atom → lit ≡ numbered trail.now.sizes l → IsTrueIn trail.now.steps (opposite l) → ⊥ }
+    ensures yes { IsTrue result → EachNumbered trail.now.sizes lit (IsLitFalse trail.now.steps) }
+    ensures no { ¬ IsTrue result → EachNumbered trail.now.sizes lit (λ l. ¬ IsLitFalse trail.now.steps l) }
 {
     match trail.truth(lit) {
         None => false,
@@ -77,8 +76,7 @@ pub fn status_of(trail: &Trail, clause: &[Lit], row: &[Numbered], hint: Hint) ->
 /// Whether a clause needs no look when a literal has become false: one of the two literals of its hint is true, or the
 /// one that is false now is neither of them.
 pub fn needs_no_look(trail: &Trail, hint: Hint, gone: Numbered) -> bool
-    ensures { IsTrue result → (head : ℕ) (x : Step) (clause : List Lit) → AreInRange trail.now.sizes clause → slice_get trail.now.steps head ≡ Some x → numbered trail.now.sizes (opposite x.lit) ≡ gone
-        → IsGuarded trail.now.sizes trail.now.steps (take head trail.now.steps) clause hint → IsGuarded trail.now.sizes trail.now.steps (take (head + 1) trail.now.steps) clause hint }
+    ensures { IsTrue result → StaysGuarded trail.now hint gone }
 {
     if hint.first.is_same(gone) {
         return trail.is_true(hint.second);

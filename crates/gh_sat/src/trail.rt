@@ -1,8 +1,9 @@
 //! The trail: the literals that are true, in the order in which they became so.
 
-ghost use Rattle.std.specs.Prelude.{◌≡◌, ◌<◌, ◌≤◌, ◌↔◌, ℕ, IsTrue, IfOk, IfSome, IfNone, Some, None, [], length, take, slice_get, vec_capacity};
+ghost use Rattle.std.specs.Prelude.{◌≡◌, ◌<◌, ◌≤◌, ◌↔◌, IsTrue, IfOk, IfSome, IfNone, [], length, take, vec_capacity};
 ghost use Rattle.gh_base.specs.Atoms.{IsInRange, count_of};
-ghost use Rattle.gh_sat.specs.Trail.{IsPassed, turned};
+ghost use Rattle.gh_sat.specs.Trail.{IsPassed, turned, AllHaveTruth, IsFreeAt, StandsOnlyAt};
+ghost use Rattle.gh_sat.specs.Rows.{EachNumbered};
 
 use crate::activity::Activity;
 use crate::hinted::Hinted;
@@ -77,7 +78,7 @@ fn free_from(values: &Assignment, from: u32) -> u32
     requires range { from ≤ count_of values.now.sizes }
     ensures range { result ≤ count_of values.now.sizes }
     ensures passed { IsPassed values.now from → IsPassed values.now result }
-    ensures free { result < count_of values.now.sizes → slice_get values.now.values (turned values.now.sizes result) ≡ Some None }
+    ensures free { result < count_of values.now.sizes → IsFreeAt values.now result }
 {
     let sizes = values.sizes();
     let mut place = from;
@@ -94,7 +95,7 @@ fn free_from(values: &Assignment, from: u32) -> u32
 // The first place, by activity, whose atom has no truth, if one is in the heap; those before it leave the heap.
 fn free_of(values: &Assignment, activity: &mut Activity) -> Option<u32>
     ensures range { IfSome result (λ place. place < count_of values.now.sizes) }
-    ensures free { IfSome result (λ place. slice_get values.now.values (turned values.now.sizes place) ≡ Some None) }
+    ensures free { IfSome result (λ place. IsFreeAt values.now place) }
 {
     let sizes = values.sizes();
     while let Some(place) = activity.take() {
@@ -110,7 +111,7 @@ fn free_of(values: &Assignment, activity: &mut Activity) -> Option<u32>
 // The first place at which a hint points and whose atom has no truth, if there is one.
 fn hinted_of(values: &Assignment, hinted: &mut Hinted) -> Option<usize>
     ensures range { IfSome result (λ place. place < count_of values.now.sizes) }
-    ensures free { IfSome result (λ place. slice_get values.now.values (turned values.now.sizes place) ≡ Some None) }
+    ensures free { IfSome result (λ place. IsFreeAt values.now place) }
 {
     let sizes = values.sizes();
     for _attempt in 0..sizes.count() {
@@ -125,7 +126,6 @@ fn hinted_of(values: &Assignment, hinted: &mut Hinted) -> Option<usize>
 }
 
 impl Trail {
-    ghost use Rattle.gh_base.specs.declared.atom.Atom.{Atom};
     ghost use Rattle.gh_sat.specs.declared.trail.Step.{Step};
     ghost use Rattle.gh_base.specs.declared.atom.Lit.{Lit};
     ghost use Rattle.gh_sat.specs.Rows.{numbered};
@@ -182,7 +182,7 @@ impl Trail {
     /// The truth of a literal by the number of its atom.
     pub fn truth(&self, lit: Numbered) -> Option<bool>
         requires { (l : Lit) × IsInRange self.now.sizes l.atom × (lit ≡ numbered self.now.sizes l) }
-        ensures value { (l : Lit) → IsInRange self.now.sizes l.atom → lit ≡ numbered self.now.sizes l → IsValue self.now.steps l result }
+        ensures value { EachNumbered self.now.sizes lit (λ l. IsValue self.now.steps l result) }
         ensures valid { AreSteps self.now }
     {
         match self.values.values()[lit.number as usize] {
@@ -193,7 +193,7 @@ impl Trail {
 
     /// Whether a literal is true, by a number that may be no atom's.
     pub fn is_true(&self, lit: Numbered) -> bool
-        ensures exact { (l : Lit) → IsInRange self.now.sizes l.atom → lit ≡ numbered self.now.sizes l → IsTrue result ↔ IsTrueIn self.now.steps l }
+        ensures exact { EachNumbered self.now.sizes lit (λ l. IsTrue result ↔ IsTrueIn self.now.steps l) }
         ensures valid { AreSteps self.now }
     {
         let values = self.values.values();
@@ -209,7 +209,7 @@ impl Trail {
     /// The place at which an atom stands, if it does.
     pub fn place(&self, atom: Atom) -> u32
         requires { IsInRange self.now.sizes atom }
-        ensures { (i : ℕ) (x : Step) → slice_get self.now.steps i ≡ Some x → x.lit.atom ≡ atom → result ≡ i }
+        ensures { StandsOnlyAt self.now.steps atom result }
     {
         self.places[self.values.sizes().number(atom)]
     }
@@ -280,7 +280,7 @@ impl Trail {
     pub fn next_free(&mut self) -> Option<Atom>
         ensures same { self.new ≡ self.old }
         ensures some { IfSome result (λ a. IsInRange self.old.sizes a × IsFree self.old.steps a) }
-        ensures none { IfNone result ((a : Atom) → IsInRange self.old.sizes a → IsFree self.old.steps a → ⊥) }
+        ensures none { IfNone result (AllHaveTruth self.old.sizes self.old.steps) }
     {
         let sizes = self.values.sizes();
         if let Some(place) = free_of(&self.values, &mut self.activity) {

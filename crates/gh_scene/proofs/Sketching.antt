@@ -1,5 +1,5 @@
 -- The scenes of drawings.
-use Rattle.std.specs.Prelude.{◌≡◌, ℕ, ◌+◌, List, [], ◌∷◌, ◌++◌, map, Some, None, slice_get}
+use Rattle.std.specs.Prelude.{◌≡◌, ℕ, List, [], ◌∷◌, ◌++◌, map, Some, None, slice_get}
 use Rattle.std.proofs.Common.{refl, sym, ◌∙◌, ap, subst}
 use Rattle.gh_ast.specs.Plain.{Procedure, Program}
 use Rattle.gh_assert.specs.Heaps.{Heap}
@@ -9,7 +9,6 @@ use Rattle.gh_path.specs.Conditions.{Condition}
 use Rattle.gh_path.specs.Graphs.{PathStep, Check}
 use Rattle.gh_path.specs.Kept.{AreSteps, IsKind, StandsFor}
 use Rattle.gh_path.specs.declared.condition.Condition as kept
-use Rattle.gh_path.specs.declared.condition.PathStep as kept_step
 use Rattle.gh_picture.specs.declared.scene.Row.{Row}
 use Rattle.gh_picture.specs.declared.scene.Scene.{Scene}
 use Rattle.gh_base.specs.declared.place.Span.{Span}

@@ -1,14 +1,14 @@
 -- The rows of a picture.
 use Rattle.std.specs.Prelude.{◌≡◌, ℕ, List, [], ◌∷◌, ◌++◌, Option, Some, None, codes}
 use Rattle.std.specs.FinMap as finite
-use Rattle.gh_ast.specs.Plain.{Program, procedure_of}
+use Rattle.gh_ast.specs.Plain.{Program}
 use Rattle.gh_assert.specs.Heaps.{Heap}
 use Rattle.gh_assert.specs.Stores.{store_of}
 use Rattle.gh_lens.specs.declared.exchange.Exchange.{Exchange}
 use Rattle.gh_lens.specs.declared.setting.Setting.{Setting}
 use Rattle.gh_lens.specs.Handed.{IsHandedOr}
 use Rattle.gh_lens.specs.Lines.{numbers_text}
-use Rattle.gh_lens.specs.Settings.{OfStep, whole}
+use Rattle.gh_lens.specs.Settings.{OfStep, here, whole}
 use Rattle.gh_lens.specs.Statements.{statement_text}
 use Rattle.gh_path.specs.Graphs.{PathStep}
 use Rattle.gh_path.specs.Kept.{AreSteps}
@@ -78,4 +78,4 @@ IsRowFor setting step x y spare row = OfStep setting step (λ s. IsRowOf (whole 
 -- the rows of the states that kept steps lead to are added
 abbrev pub AddsRowsFor : Setting → List kept.PathStep → List State → Heap → List Row → List Row → Type 0
 AddsRowsFor setting steps xs spare old new =
-    (ss : List PathStep) → AreSteps (whole setting) (procedure_of setting.procedure.now) steps ss → AddsRows (whole setting) ss xs spare old new
+    (ss : List PathStep) → AreSteps (whole setting) (here setting) steps ss → AddsRows (whole setting) ss xs spare old new

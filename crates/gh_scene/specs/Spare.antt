@@ -1,12 +1,12 @@
 -- What is left over where the check at the end of a path fails.
 use Rattle.std.specs.Prelude.{◌≡◌, ◌⊎◌, ℕ, List, [], ◌∷◌}
 use Rattle.std.specs.FinMap as map
-use Rattle.gh_ast.specs.Plain.{Formula, procedure_of}
+use Rattle.gh_ast.specs.Plain.{Formula}
 use Rattle.gh_assert.specs.Heaps.{Heap}
 use Rattle.gh_assert.specs.Meaning.{Store}
 use Rattle.gh_base.specs.declared.place.Span.{Span}
 use Rattle.gh_lens.specs.declared.setting.Setting.{Setting}
-use Rattle.gh_lens.specs.Settings.{whole}
+use Rattle.gh_lens.specs.Settings.{here, whole}
 use Rattle.gh_lens.specs.Takings.{conjuncts, Leaves}
 use Rattle.gh_path.specs.Graphs.{Check, Loop, access, entry, loop_entry, returned, loop_end}
 use Rattle.gh_path.specs.Kept.{IsKind, IsLoop}
@@ -39,9 +39,9 @@ IsSpare c x rest = IsLeftOver (asked_whole c) x.store x.heap rest
 -- the same at the end of the loop of a number
 abbrev pub IsSpareOfRound : Setting → ℕ → kept_state.State → Heap → Type 0
 IsSpareOfRound setting number x rest =
-    (l : Loop) → IsLoop (procedure_of setting.procedure.now) number l → IsSpare (loop_end l) (state_of x) rest
+    (l : Loop) → IsLoop (here setting) number l → IsSpare (loop_end l) (state_of x) rest
 
 -- the same at the check that a kept one stands for
 abbrev pub IsSpareAt : Setting → kept_kind.CheckKind → kept_state.State → Heap → Type 0
 IsSpareAt setting kind x rest =
-    (at : Span) (c : Check) → IsKind (whole setting) (procedure_of setting.procedure.now) kind at c → IsSpare c (state_of x) rest
+    (at : Span) (c : Check) → IsKind (whole setting) (here setting) kind at c → IsSpare c (state_of x) rest

@@ -95,7 +95,8 @@ pub fn push_rows(
     spare: &Heap,
 ) -> Result<(), AllocError>
     requires { HasLoops setting }
-    ensures { IfOk result (λ _. told.AddsRowsFor setting.entry steps.now states.now spare.now rows.old.items rows.new.items) }
+    ensures { IfOk result (λ _.
+        told.AddsRowsFor setting.entry steps.now states.now spare.now rows.old.items rows.new.items) }
 {
     let Some((step, later)) = steps.split_first() else {
         return Ok(());

@@ -1,9 +1,9 @@
 //! The scene of a drawing.
 
 ghost use Rattle.std.specs.Prelude.{◌≡◌, ◌∷◌, map, IfOk};
-ghost use Rattle.gh_ast.specs.Plain.{procedure_of, program_of};
+ghost use Rattle.gh_ast.specs.Plain.{program_of};
 ghost use Rattle.gh_draw.specs.Kept.{HasMeaning};
-ghost use Rattle.gh_lens.specs.Settings.{HasLoops, whole};
+ghost use Rattle.gh_lens.specs.Settings.{HasLoops, here, whole};
 ghost use Rattle.gh_path.specs.Admitted.{IsAdmitted};
 ghost use Rattle.gh_path.specs.Conditions as plain;
 ghost use Rattle.gh_path.specs.Kept.{StandsFor};
@@ -55,8 +55,8 @@ fn scene(
     others: &[State],
 ) -> Result<Scene, AllocError>
     requires loops { HasLoops setting }
-    requires meaning { HasMeaning (program_of setting.typed.now) condition.now }
-    requires own { (c : plain.Condition) → StandsFor (program_of setting.typed.now) condition.now c → c.procedure ≡ procedure_of setting.procedure.now }
+    requires meaning { HasMeaning (whole setting) condition.now }
+    requires own { (c : plain.Condition) → StandsFor (whole setting) condition.now c → c.procedure ≡ here setting }
     requires parts { states.now ≡ first.now ∷ others.now }
     ensures { IfOk result (told.IsSceneFor (whole setting.entry) condition.now first.now others.now) }
 {

@@ -24,8 +24,10 @@ fn left_by(
     heap: &Heap,
     assertion: &Assertion,
 ) -> Result<Option<Heap>, AllocError>
-    ensures some { IfOk result (λ o. IfSome o (Leaves (conjuncts_of (formula_of assertion.now)) (store_of store.now) heap.now)) }
-    ensures none { IfOk result (λ o. IfNone o (told.LeavesNothing (formula_of assertion.now) (store_of store.now) heap.now)) }
+    ensures some { IfOk result (λ o. IfSome o (Leaves (conjuncts_of (formula_of assertion.now))
+        (store_of store.now) heap.now)) }
+    ensures none { IfOk result (λ o. IfNone o (told.LeavesNothing (formula_of assertion.now)
+        (store_of store.now) heap.now)) }
 {
     match taken(alloc, store, heap, conjuncts(assertion))? {
         Taking::Whole { rest } => Ok(Some(rest)),

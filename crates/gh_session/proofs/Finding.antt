@@ -1,6 +1,5 @@
 -- What stands at a place of a list that is read twice over.
-use Rattle.std.proofs.Common.{◌≡◌, ◌∙◌, refl, sym, ap, ℕ, ◌<◌, ◌≤◌, List, [], ◌∷◌, map, length, get_or, Bool, ◌||◌, option_map, arith}
-use Rattle.std.specs.List.{list_any}
+use Rattle.std.proofs.Common.{◌≡◌, ◌∙◌, refl, sym, ap, ℕ, ◌<◌, ◌≤◌, List, [], map, length, get_or, option_map, arith}
 use Rattle.std.proofs.lemmas.List.{length-map, get_or_past}
 use Rattle.std.proofs.lemmas.Option.{slice_get-map, slice_get_read, get_or_from_slice_get}
 use Rattle.gh_ast.specs.declared.Assertion.{Assertion}
@@ -25,7 +24,3 @@ bare_contract xs ys fs e f g = λ i. record { parameters = e i; results = f i; n
 
 pub bare_round : (xs : List Name) → xs ≡ [] → (let k : Round = record { invariant = formula_of Emp; assigned = xs } in k) ≡ no_round
 bare_round xs e = λ i. record { invariant = formula_of-Emp i; assigned = e i }
-
-pub any_map : {A B : Type 0} (p : B → Bool) (f : A → B) (xs : List A) → list_any p (map f xs) ≡ list_any (λ x. p (f x)) xs
-any_map p f [] = refl
-any_map p f (x ∷ xs) = ap (λ b. p (f x) || b) (any_map p f xs)

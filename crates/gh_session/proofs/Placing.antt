@@ -1,5 +1,5 @@
 -- Numbers in the order in which they first appear.
-use Rattle.std.specs.Prelude.{◌≡◌, ℕ, suc, List, [], ◌∷◌, ◌++◌, ◌==◌, true, false, cond, Contains, Some, slice_get}
+use Rattle.std.specs.Prelude.{◌≡◌, ℕ, suc, List, [], ◌∷◌, ◌++◌, ◌==◌, true, cond, Contains, Some, slice_get}
 use Rattle.std.specs.List.{list_any}
 use Rattle.std.proofs.Common.{refl, sym, ◌∙◌, ap, subst, inl, inr, append_assoc, flat_map}
 use Rattle.std.proofs.lemmas.Bool.{cases_Bool, false≢true}

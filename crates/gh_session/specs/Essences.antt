@@ -73,6 +73,14 @@ no_contract = record { parameters = []; results = []; needs = empty; gives = [] 
 abbrev pub no_round : Round
 no_round = record { invariant = empty; assigned = [] }
 
+-- the contract of the procedure of a number
+abbrev pub contract_at : List Procedure → ℕ → Contract
+contract_at qs n = get_or (map contract_of qs) n no_contract
+
+-- the loop of a number, of a procedure with the variables xs
+abbrev pub round_at : List Name → List Loop → ℕ → Round
+round_at xs ls n = get_or (map (round_of xs) ls) n no_round
+
 -- the procedures and the loops that a condition names, as they stand in it
 abbrev pub callees_in : kept_step.PathStep → List ℕ
 callees_in (step.Call xs n es) = n ∷ []
@@ -130,8 +138,8 @@ abbrev pub essence : Program → Procedure → kept_condition.Condition → Esse
 essence P p r =
     record {
       variables = variable_names p;
-      contracts = map (λ n. get_or (map contract_of P.procedures) n no_contract) (procedures_of r);
-      loops = map (λ n. get_or (map (round_of (variable_names p)) (loops_of p)) n no_round) (rounds_of r);
+      contracts = map (contract_at P.procedures) (procedures_of r);
+      loops = map (round_at (variable_names p) (loops_of p)) (rounds_of r);
       start = start_in (rounds_of r) r.start;
       steps = map (step_in (procedures_of r) (rounds_of r)) r.steps.items;
       check = check_in (procedures_of r) (rounds_of r) r.check.kind;

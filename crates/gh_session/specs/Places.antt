@@ -3,6 +3,7 @@ use Rattle.std.specs.Prelude.{◌≡◌, ℕ, List, [], Some, map, Vec, slice_ge
 use Rattle.std.specs.Option.{option_map, unwrap_or}
 use Rattle.std.specs.Global.{Global}
 use Rattle.std.specs.HashMap as hash
+use Rattle.gh_session.specs.Essences.{Essence}
 use Rattle.gh_session.specs.Fingerprint.{fingerprint}
 use Rattle.gh_session.specs.Views.{essence_view}
 use Rattle.gh_session.specs.Known.{Known, known, AreRight}
@@ -14,6 +15,14 @@ known_of k = known (essence_view k.essence) k.answer
 -- what a session knows that keeps this
 abbrev pub knowledge : List Kept → List Known
 knowledge = map known_of
+
+-- what is kept at a place, if anything is, has another essence
+abbrev pub LacksAt : List Kept → Essence → ℕ → Type 0
+LacksAt kept e n = (k : Kept) → slice_get kept n ≡ Some k → essence_view k.essence ≡ e → ⊥
+
+-- and so at each of some places
+abbrev pub LacksAtAll : List Kept → Essence → List ℕ → Type 0
+LacksAtAll kept e ns = (n : ℕ) (k : Kept) → Contains ns n → slice_get kept n ≡ Some k → essence_view k.essence ≡ e → ⊥
 
 module _ {S : Type 0} where
   -- the places under a fingerprint

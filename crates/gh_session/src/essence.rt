@@ -1,23 +1,24 @@
 //! The essence of a condition.
 
-ghost use Rattle.std.specs.Prelude.{◌≡◌, ◌++◌, map, filter, get_or, slice_get, Some, None, IfOk, IfSome, IfNone};
+ghost use Rattle.std.specs.Prelude.{◌≡◌, ◌++◌, map, filter, slice_get, None, IfOk, IfSome, IfNone};
 ghost use Rattle.gh_ast.specs.Plain.{procedure_of, program_of, statements_view};
 ghost use Rattle.gh_ast.specs.Bare.{bare_expr};
 ghost use Rattle.gh_ast.specs.Programs.{names, variable_names};
 ghost use Rattle.gh_path.specs.Terms.{some_assigns};
 ghost use Rattle.gh_path.specs.Walking.{loop_of};
 ghost use Rattle.gh_trace.specs.Kept.{IsOne};
+ghost use Rattle.gh_trace.specs.Scenes.{IsProcedureAt};
 ghost use Rattle.gh_session.specs.Numbering.{listed};
 ghost use Rattle.gh_session.specs.Essences as plain;
 ghost use Rattle.gh_session.specs.Views.{contract_view, round_view, start_view, step_view, check_view, essence_view};
 ghost use Rattle.gh_session.specs.Laws.{HasEssence};
 
-use crate::assigned::some_assigns;
 use crate::bare::{assertion, assertions, expr, exprs, names};
 use crate::numbers::{add, place};
 use gh_ast::typed::Typed;
 use gh_ast::{Assertion, Expr, Occ, Procedure, Program, Stmt};
 use gh_base::name::Name;
+use gh_path::assigned::some_assigns;
 use gh_path::condition::{self, CheckKind, Condition, PathStep};
 use gh_path::loops::{While, loops_of};
 use std::alloc::{AllocError, Global};
@@ -232,7 +233,8 @@ fn call(
     contract: usize,
     arguments: &[Expr],
 ) -> Result<Step, AllocError>
-    ensures { IfOk result (λ s. step_view s ≡ plain.called (names targets.now) contract (map bare_expr arguments.now)) }
+    ensures { IfOk result (λ s.
+        step_view s ≡ plain.called (names targets.now) contract (map bare_expr arguments.now)) }
 {
     Ok(Step::Call {
         targets: names(alloc, targets)?,
@@ -349,7 +351,7 @@ fn contract_of(alloc: Global, procedure: &Procedure) -> Result<Contract, AllocEr
 
 // The contract of the procedure of a number.
 fn contract_at(alloc: Global, procedures: &[Procedure], number: u16) -> Result<Contract, AllocError>
-    ensures { IfOk result (λ k. contract_view k ≡ get_or (map plain.contract_of (map procedure_of procedures.now)) number plain.no_contract) }
+    ensures { IfOk result (λ k. contract_view k ≡ plain.contract_at (map procedure_of procedures.now) number) }
 {
     match procedures.get(usize::from(number)) {
         Some(procedure) => Ok(contract_of(alloc, procedure)?),
@@ -368,7 +370,8 @@ fn contracts(
     procedures: &[Procedure],
     numbers: &[u16],
 ) -> Result<Vec<Contract>, AllocError>
-    ensures { IfOk result (λ v. map contract_view v.items ≡ map (λ n. get_or (map plain.contract_of (map procedure_of procedures.now)) n plain.no_contract) numbers.now) }
+    ensures { IfOk result (λ v.
+        map contract_view v.items ≡ map (plain.contract_at (map procedure_of procedures.now)) numbers.now) }
 {
     let mut whole = Vec::new(alloc);
     for number in numbers {
@@ -397,7 +400,7 @@ fn round_at(
     loops: &[While<'_>],
     number: u16,
 ) -> Result<Round, AllocError>
-    ensures { IfOk result (λ r. round_view r ≡ get_or (map (plain.round_of variables.now) (map loop_of loops.now)) number plain.no_round) }
+    ensures { IfOk result (λ r. round_view r ≡ plain.round_at variables.now (map loop_of loops.now) number) }
 {
     match loops.get(usize::from(number)) {
         Some(round) => Ok(Round {
@@ -418,7 +421,8 @@ fn rounds(
     loops: &[While<'_>],
     numbers: &[u16],
 ) -> Result<Vec<Round>, AllocError>
-    ensures { IfOk result (λ v. map round_view v.items ≡ map (λ n. get_or (map (plain.round_of variables.now) (map loop_of loops.now)) n plain.no_round) numbers.now) }
+    ensures { IfOk result (λ v.
+        map round_view v.items ≡ map (plain.round_at variables.now (map loop_of loops.now)) numbers.now) }
 {
     let mut whole = Vec::new(alloc);
     for number in numbers {
@@ -456,7 +460,8 @@ fn essence_in(
     procedure: &Procedure,
     condition: &Condition,
 ) -> Result<Essence, AllocError>
-    ensures { IfOk result (λ e. essence_view e ≡ plain.essence (program_of program.now) (procedure_of procedure.now) condition.now) }
+    ensures { IfOk result (λ e.
+        essence_view e ≡ plain.essence (program_of program.now) (procedure_of procedure.now) condition.now) }
 {
     let numbers = procedures_of(alloc, condition)?;
     let places = rounds_of(alloc, condition)?;
@@ -481,7 +486,7 @@ fn essence_in(
 
 // The procedure of a number.
 fn procedure_at(program: &Program, number: u16) -> Option<&Procedure>
-    ensures some { IfSome result (λ q. slice_get (program_of program.now).procedures number ≡ Some (procedure_of q.now)) }
+    ensures some { IfSome result (λ q. IsProcedureAt (program_of program.now) number (procedure_of q.now)) }
     ensures none { IfNone result (slice_get (program_of program.now).procedures number ≡ None) }
 {
     program.procedures.get(usize::from(number))

@@ -1,7 +1,6 @@
 //! Sessions: essences of conditions, what is kept of them, and session files.
 #![tactic(auto)]
 
-mod assigned;
 mod bare;
 pub mod compare;
 pub mod edits;

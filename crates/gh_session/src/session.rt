@@ -1,13 +1,12 @@
 //! Sessions: what is decided of one text is kept for the next.
 
-ghost use Rattle.std.specs.Prelude.{◌≡◌, ℕ, ◌+◌, ◌∷◌, ◌++◌, [], ◌≤◌, cond, slice_get, IfOk, IfErr, IfSome, IfNone, OnOk, OnErr, Contains};
+ghost use Rattle.std.specs.Prelude.{◌≡◌, ◌+◌, ◌∷◌, ◌++◌, [], ◌≤◌, cond, IfOk, IfErr, IfSome, IfNone, OnOk, OnErr, Contains};
 ghost use Rattle.std.specs.Option.{option_map};
 ghost use Rattle.gh_ast.specs.Plain.{program_of};
 ghost use Rattle.gh_path.specs.Admitted.{IsAdmitted};
 ghost use Rattle.gh_trace.specs.Kept.{drawn_of, IsOne, HasCounterexample, HasNoCounterexample};
-ghost use Rattle.gh_session.specs.declared.kept.Kept.{Kept};
 ghost use Rattle.gh_session.specs.Known.{essences, IsRight, AreRight, Learns};
-ghost use Rattle.gh_session.specs.Places.{known_of, knowledge};
+ghost use Rattle.gh_session.specs.Places.{known_of, knowledge, LacksAt, LacksAtAll};
 ghost use Rattle.gh_session.specs.Decided.{IsOutcome, Tells, IsCutShort};
 ghost use Rattle.gh_session.specs.Views.{essence_view};
 
@@ -75,7 +74,7 @@ impl Model for Session {
 fn at<'k>(kept: &'k [Kept], place: usize, essence: &Essence) -> Option<&'k Kept>
     ensures there { IfSome result (λ k. Contains kept.now k.now) }
     ensures same { IfSome result (λ k. essence_view k.now.essence ≡ essence_view essence.now) }
-    ensures none { IfNone result ((k : Kept) → slice_get kept.now place ≡ Some k → essence_view k.essence ≡ essence_view essence.now → ⊥) }
+    ensures none { IfNone result (LacksAt kept.now (essence_view essence.now) place) }
 {
     let one = kept.get(place)?;
     if is_same_essence(&one.essence, essence) {
@@ -88,7 +87,7 @@ fn at<'k>(kept: &'k [Kept], place: usize, essence: &Essence) -> Option<&'k Kept>
 fn find<'k>(kept: &'k [Kept], places: &[usize], essence: &Essence) -> Option<&'k Kept>
     ensures there { IfSome result (λ k. Contains kept.now k.now) }
     ensures same { IfSome result (λ k. essence_view k.now.essence ≡ essence_view essence.now) }
-    ensures none { IfNone result ((n : ℕ) (k : Kept) → Contains places.now n → slice_get kept.now n ≡ Some k → essence_view k.essence ≡ essence_view essence.now → ⊥) }
+    ensures none { IfNone result (LacksAtAll kept.now (essence_view essence.now) places.now) }
 {
     for place in places {
         if let Some(found) = at(kept, *place, essence) {
@@ -168,8 +167,10 @@ impl Session {
         requires admitted { IsAdmitted (program_of typed.now) }
         requires one { IsOne (program_of typed.now) condition.now }
         ensures none { IfOk result (λ l. IfNone l.answer (HasNoCounterexample (program_of typed.now) condition.now)) }
-        ensures some { IfOk result (λ l. IfSome l.answer (λ t. HasCounterexample (program_of typed.now) condition.now (drawn_of t))) }
-        ensures learns { IfOk result (λ l. Learns (program_of typed.now) condition.now (knowledge self.old) l.answer l.is_new (knowledge self.new)) }
+        ensures some { IfOk result (λ l. IfSome l.answer (λ t.
+            HasCounterexample (program_of typed.now) condition.now (drawn_of t))) }
+        ensures learns { IfOk result (λ l.
+            Learns (program_of typed.now) condition.now (knowledge self.old) l.answer l.is_new (knowledge self.new)) }
         ensures unchanged { IfErr result (λ _. self.new ≡ self.old) }
         ensures asked_once { IfOk result (λ l. D.calls decider.new ≤ D.calls decider.old + cond l.is_new 1 0) }
         ensures never_falls { D.calls decider.old ≤ D.calls decider.new }

@@ -9,6 +9,18 @@ use Rattle.gh_small.specs.Fewer.{fewer}
 abbrev pub with_more : Problem → List (List Lit) → Problem
 with_more p cs = record p { clauses = p.clauses ++ cs }
 
+-- the clauses are added last
+abbrev pub Gains : Problem → Problem → List (List Lit) → Type 0
+Gains old new cs = new ≡ with_more old cs
+
+-- 32 bits number the clauses with those that are added
+abbrev pub HasRoomFor : Problem → List (List Lit) → Type 0
+HasRoomFor p cs = length p.clauses + length cs ≤ 4294967294
+
+-- with so many definitions more
+abbrev pub with_defs : Problem → ℕ → Problem
+with_defs p more = record p { sizes = record p.sizes { defs = p.sizes.defs + more } }
+
 -- the number of definitions with the new ones
 abbrev pub defs_after : Sizes → ℕ → ℕ
 defs_after s k = s.defs + s.terms + s.terms * k

@@ -10,6 +10,7 @@ use Rattle.gh_inst.specs.Violations.{AreInstancesTrue}
 use Rattle.gh_log.specs.Sections.{IsValidSection}
 use Rattle.gh_log.specs.declared.lines.Section.{Section}
 use Rattle.gh_model.specs.BuiltTraces.{heap_in}
+use Rattle.gh_small.specs.Leaders.{allocated_classes}
 use Rattle.gh_small.specs.Bounded.{bounded_by}
 use Rattle.gh_small.specs.declared.descent.Fewest.{Fewest}
 
@@ -28,6 +29,10 @@ pub record IsModelled (p : Problem) (s : Tables) : Type 0 where
 -- the heap of the first version
 abbrev pub first_heap : Tables → Heap
 first_heap s = heap_in (interpretation_of s) s.sizes.terms 0
+
+-- how many classes are allocated in the first version
+abbrev pub first_classes : Tables → ℕ
+first_classes s = allocated_classes (interpretation_of s) s.sizes.terms
 
 -- the section, of version 2, is valid for the clauses that say "fewer than so many cells"
 pub record IsLower (p : Problem) (cells : ℕ) (s : Section) : Type 0 where

@@ -4,7 +4,7 @@ ghost use Rattle.std.specs.Prelude.{IsTrue, ◌↔◌, ◌≡◌, ◌∷◌, ◌
 ghost use Rattle.gh_base.specs.declared.sizes.Sizes.{Sizes};
 ghost use Rattle.gh_base.specs.Atoms.{AreInRange};
 ghost use Rattle.gh_small.specs.Fewer.{leader, counter, leader_clause, begins, raises, keeps, counter_clauses, counter_row, all_leaders, all_counters, last_clause, positive, negative};
-ghost use Rattle.gh_small.specs.Bounded.{bounded_by, with_more, HasRoom, IsNumbered, IsWithin};
+ghost use Rattle.gh_small.specs.Bounded.{bounded_by, with_defs, Gains, HasRoom, HasRoomFor, IsNumbered, IsWithin};
 
 use gh_base::atom::{Atom, Lit, Term};
 use gh_base::clause::Clause;
@@ -115,7 +115,7 @@ impl Numbers {
         requires sizes { IsWithin self ground.old.sizes }
         requires within { t < self.terms }
         requires room { length ground.old.clauses < 4294967294 }
-        ensures { OnOk result (ground.new ≡ with_more ground.old (leader_clause self.first t ∷ [])) }
+        ensures { OnOk result (Gains ground.old ground.new (leader_clause self.first t ∷ [])) }
     {
         let mut clause = Clause::new(alloc);
         clause.push(positive(self.leader(t)))?;
@@ -145,8 +145,8 @@ impl Numbers {
         requires sizes { IsWithin self ground.old.sizes }
         requires within { t < self.terms }
         requires below { j < self.cells }
-        requires room { length ground.old.clauses + length (counter_clauses self.terms self.first self.cells t j) ≤ 4294967294 }
-        ensures { OnOk result (ground.new ≡ with_more ground.old (counter_clauses self.terms self.first self.cells t j)) }
+        requires room { HasRoomFor ground.old (counter_clauses self.terms self.first self.cells t j) }
+        ensures { OnOk result (Gains ground.old ground.new (counter_clauses self.terms self.first self.cells t j)) }
     {
         if t == 0 {
             if j == 0 {
@@ -170,8 +170,8 @@ impl Numbers {
     fn push_leaders(self, alloc: Global, ground: &mut Ground) -> Result<(), AllocError>
         requires numbered { IsNumbered self }
         requires sizes { IsWithin self ground.old.sizes }
-        requires room { length ground.old.clauses + length (all_leaders self.terms self.first) ≤ 4294967294 }
-        ensures { OnOk result (ground.new ≡ with_more ground.old (all_leaders self.terms self.first)) }
+        requires room { HasRoomFor ground.old (all_leaders self.terms self.first) }
+        ensures { OnOk result (Gains ground.old ground.new (all_leaders self.terms self.first)) }
     {
         for t in 0..self.terms {
             self.push_leader(alloc, ground, t)?;
@@ -184,8 +184,8 @@ impl Numbers {
         requires numbered { IsNumbered self }
         requires sizes { IsWithin self ground.old.sizes }
         requires within { t < self.terms }
-        requires room { length ground.old.clauses + length (counter_row self.terms self.first self.cells t) ≤ 4294967294 }
-        ensures { OnOk result (ground.new ≡ with_more ground.old (counter_row self.terms self.first self.cells t)) }
+        requires room { HasRoomFor ground.old (counter_row self.terms self.first self.cells t) }
+        ensures { OnOk result (Gains ground.old ground.new (counter_row self.terms self.first self.cells t)) }
     {
         for j in 0..self.cells {
             self.push_counter(alloc, ground, t, j)?;
@@ -197,8 +197,8 @@ impl Numbers {
     fn push_counters(self, alloc: Global, ground: &mut Ground) -> Result<(), AllocError>
         requires numbered { IsNumbered self }
         requires sizes { IsWithin self ground.old.sizes }
-        requires room { length ground.old.clauses + length (all_counters self.terms self.first self.cells) ≤ 4294967294 }
-        ensures { OnOk result (ground.new ≡ with_more ground.old (all_counters self.terms self.first self.cells)) }
+        requires room { HasRoomFor ground.old (all_counters self.terms self.first self.cells) }
+        ensures { OnOk result (Gains ground.old ground.new (all_counters self.terms self.first self.cells)) }
     {
         for t in 0..self.terms {
             self.push_row(alloc, ground, t)?;
@@ -222,7 +222,7 @@ impl Numbers {
 /// Numbers so many definitions more.
 pub fn define_all(ground: &mut Ground, more: u32)
     requires { ground.old.sizes.defs + more < 2 ^ 32 }
-    ensures { ground.new ≡ record ground.old { sizes = record ground.old.sizes { defs = ground.old.sizes.defs + more } } }
+    ensures { ground.new ≡ with_defs ground.old more }
 {
     for _ in 0..more {
         ground.define();

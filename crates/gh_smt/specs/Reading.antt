@@ -8,7 +8,7 @@ use Rattle.gh_base.specs.declared.atom.Lit.{Lit}
 use Rattle.gh_base.specs.declared.sizes.Sizes.{Sizes}
 use Rattle.gh_base.specs.Atoms.{IsInRange}
 use Rattle.gh_base.specs.Grounds.{Problem}
-use Rattle.gh_log.specs.Reading.{SpellsNothing, EndsNumber}
+use Rattle.gh_log.specs.Reading.{SpellsNothing, SpellsText, EndsNumber}
 use Rattle.gh_smt.specs.declared.kind.Kind.{Kind}
 use Rattle.gh_smt.specs.declared.error.Refusal.{Refusal}
 use Rattle.gh_smt.specs.declared.error.Refusal.TheVariants.{Outside, OutOfMemory}
@@ -23,6 +23,10 @@ IsScriptPartRefusal P OutOfMemory = ⊤
 -- the answer is what the part spells at the front, and what is left
 abbrev pub IsScriptPart : {X Y : Type 0} → (X → List ℕ → Type 0) → (Y → X) → Result Y Refusal → List ℕ → Type 0
 IsScriptPart P view answer rest = MatchResult answer (λ y. P (view y) rest) (IsScriptPartRefusal P)
+
+-- a text stands at the front, and what is left follows it
+abbrev pub TakesText : List ℕ → List ℕ → Result (Unit {0}) Refusal → List ℕ → Type 0
+TakesText wanted text answer rest = IsScriptPart (SpellsText wanted text) (λ u. u) answer rest
 
 -- the text doesn't begin so
 abbrev pub IsNotFront : List ℕ → List ℕ → Type 0

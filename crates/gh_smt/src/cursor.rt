@@ -5,8 +5,8 @@ ghost use Rattle.std.specs.Bool.{MatchBool};
 ghost use Rattle.std.specs.Char.{is_ascii_digit};
 ghost use Rattle.std.specs.Fmt.{decimal};
 ghost use Rattle.std.specs.Str.Parse.{AllDigits};
-ghost use Rattle.gh_log.specs.Reading.{SpellsText, SpellsNumber, EndsNumber};
-ghost use Rattle.gh_smt.specs.Reading.{IsScriptPart, IsNotFront};
+ghost use Rattle.gh_log.specs.Reading.{SpellsNumber, EndsNumber};
+ghost use Rattle.gh_smt.specs.Reading.{IsScriptPart, TakesText, IsNotFront};
 
 use crate::error::Refusal;
 
@@ -46,7 +46,8 @@ fn value_of(digits: &[u8]) -> u64
 // The number that digits write in decimal.
 fn number_of(digits: &[u8]) -> Option<u32>
     requires { AllDigits 10 digits.now }
-    ensures { MatchOption result ((n : ℕ) → n < 2 ^ 32 → digits.now ≡ decimal n → ⊥) (λ n. digits.now ≡ decimal n) }
+    ensures { MatchOption result ((n : ℕ) → n < 2 ^ 32 → digits.now ≡ decimal n → ⊥)
+        (λ n. digits.now ≡ decimal n) }
 {
     let [first, ..] = digits else {
         return None;
@@ -90,7 +91,7 @@ impl<'t> Reader<'t> {
 
     /// Takes a text.
     pub fn expect(&mut self, wanted: &[u8]) -> Result<(), Refusal>
-        ensures { IsScriptPart (SpellsText wanted.now self.old.rest.now) (λ u. u) result self.new.rest.now }
+        ensures { TakesText wanted.now self.old.rest.now result self.new.rest.now }
     {
         if !self.skip(wanted) {
             return Err(Refusal::Outside);

@@ -35,7 +35,8 @@ impl<'t> Reader<'t> {
 
     // Reads two terms and that sign.
     fn two(&mut self) -> Result<(Term, Term), Refusal>
-        ensures { IsScriptPart (SpellsTerms 2 self.old.rest.now) (λ p. p.0.0 ∷ p.1.0 ∷ []) result self.new.rest.now }
+        ensures { IsScriptPart (SpellsTerms 2 self.old.rest.now) (λ p. p.0.0 ∷ p.1.0 ∷ []) result
+            self.new.rest.now }
     {
         let x = self.term()?;
         let y = self.one()?;
@@ -44,7 +45,8 @@ impl<'t> Reader<'t> {
 
     // Reads three terms and that sign.
     fn three(&mut self) -> Result<(Term, Term, Term), Refusal>
-        ensures { IsScriptPart (SpellsTerms 3 self.old.rest.now) (λ p. p.0.0 ∷ p.1.0 ∷ p.2.0 ∷ []) result self.new.rest.now }
+        ensures { IsScriptPart (SpellsTerms 3 self.old.rest.now) (λ p. p.0.0 ∷ p.1.0 ∷ p.2.0 ∷ []) result
+            self.new.rest.now }
     {
         let x = self.term()?;
         let (y, z) = self.two()?;
@@ -151,7 +153,8 @@ impl<'t> Reader<'t> {
 
     // Reads a literal after the sign of a negative one.
     fn negative(&mut self, sizes: Sizes) -> Result<Lit, Refusal>
-        ensures { IsScriptPart (SpellsLit sizes (codes "(not " ++ self.old.rest.now)) (λ l. l) result self.new.rest.now }
+        ensures { IsScriptPart (SpellsLit sizes (codes "(not " ++ self.old.rest.now)) (λ l. l) result
+            self.new.rest.now }
     {
         let atom = self.atom(sizes)?;
         if !self.skip(b")") {

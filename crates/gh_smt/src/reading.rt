@@ -3,11 +3,11 @@
 ghost use Rattle.std.specs.Prelude.{◌≡◌, ◌+◌, ◌++◌, ℕ, List, codes, Some, IfOk, MatchOption};
 ghost use Rattle.std.specs.Fmt.{decimal};
 ghost use Rattle.gh_base.specs.Grounds.{Problem};
-ghost use Rattle.gh_log.specs.Reading.{SpellsText, EndsNumber};
+ghost use Rattle.gh_log.specs.Reading.{EndsNumber};
 ghost use Rattle.gh_smt.specs.Kinds.{declared_text, start_text};
 ghost use Rattle.gh_smt.specs.Texts.{version_declared, script_text};
 ghost use Rattle.gh_smt.specs.Scripts.{IsScript};
-ghost use Rattle.gh_smt.specs.Reading.{IsScriptPart, IsNotFront, SpellsAssertion, SpellsAssertions, SpellsDeclared, SpellsScript, IsNoScript};
+ghost use Rattle.gh_smt.specs.Reading.{IsScriptPart, TakesText, IsNotFront, SpellsAssertion, SpellsAssertions, SpellsDeclared, SpellsScript, IsNoScript};
 
 use crate::cursor::Reader;
 use crate::error::Refusal;
@@ -35,8 +35,7 @@ impl<'t> Reader<'t> {
     // Takes a number between two texts.
     fn around(&mut self, before: &[u8], number: u32, after: &[u8]) -> Result<(), Refusal>
         requires { (rest : List ℕ) → EndsNumber (after.now ++ rest) }
-        ensures { IsScriptPart (SpellsText (before.now ++ (decimal number ++ after.now)) self.old.rest.now) (λ u. u) result
-            self.new.rest.now }
+        ensures { TakesText (before.now ++ (decimal number ++ after.now)) self.old.rest.now result self.new.rest.now }
     {
         if !self.skip(before) {
             return Err(Refusal::Outside);
@@ -53,7 +52,7 @@ impl<'t> Reader<'t> {
 
     // Takes what declares the relations of a version.
     fn relations(&mut self, number: u32) -> Result<(), Refusal>
-        ensures { IsScriptPart (SpellsText (version_declared number) self.old.rest.now) (λ u. u) result self.new.rest.now }
+        ensures { TakesText (version_declared number) self.old.rest.now result self.new.rest.now }
     {
         self.around(b"(declare-fun b", number, b" (Loc Loc Loc) Bool)\n")?;
         self.around(b"(declare-fun h", number, b" (Loc Loc) Bool)\n")?;
@@ -63,7 +62,7 @@ impl<'t> Reader<'t> {
 
     // Takes what one number of a kind declares.
     fn declared(&mut self, kind: Kind, number: u32) -> Result<(), Refusal>
-        ensures { IsScriptPart (SpellsText (declared_text kind number) self.old.rest.now) (λ u. u) result self.new.rest.now }
+        ensures { TakesText (declared_text kind number) self.old.rest.now result self.new.rest.now }
     {
         match kind {
             Kind::Term => self.around(b"(declare-fun t", number, b" () Loc)\n"),
@@ -163,7 +162,8 @@ impl<'t> Reader<'t> {
 pub fn read_script(alloc: Global, text: &[u8]) -> Result<Option<Script>, AllocError>
     ensures found { IfOk result (λ found. MatchOption found (IsNoScript text.now) (λ s. text.now ≡ script_text s)) }
     ensures is { IfOk result (λ found. MatchOption found (IsNoScript text.now) (λ s. IsScript s)) }
-    ensures back { IfOk result (λ found. (p : Problem) → IsScript p → text.now ≡ script_text p → found ≡ Some p) }
+    ensures back { IfOk result (λ found. (p : Problem) →
+        IsScript p → text.now ≡ script_text p → found ≡ Some p) }
 {
     let mut reader = Reader { rest: text };
     match reader.script(alloc) {

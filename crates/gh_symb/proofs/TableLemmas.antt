@@ -1,6 +1,6 @@
 -- Tests and look-ups over lists that are seen by another form, and entries that are added last.
-use Rattle.std.specs.Prelude.{◌≡◌, ℕ, zero, ◌+◌, ◌<◌, List, [], ◌∷◌, ◌++◌, map, length, take, set, Bool, false, Some, None, cond, position, unwrap_or, ◌||◌}
-use Rattle.std.specs.List.{list_any, position_or_len}
+use Rattle.std.specs.Prelude.{◌≡◌, ℕ, zero, ◌+◌, ◌<◌, List, [], ◌∷◌, ◌++◌, map, length, take, set, Bool, false, Some, None, cond, position, unwrap_or}
+use Rattle.std.specs.List.{position_or_len}
 use Rattle.std.proofs.Common.{refl, sym, ◌∙◌, ap, arith, inl, inr, drop, get_or}
 use Rattle.std.specs.Prelude.{slice_get, ◌≤◌, suc}
 use Rattle.std.specs.Str.{bytes_eq}
@@ -16,10 +16,6 @@ use Rattle.gh_path.specs.Terms.{Bindings, bound, unbound, all_bound}
 use Rattle.gh_grass.proofs.Bonds.{same_name, other_name}
 use Rattle.gh_symb.specs.Tables.{Bound, bound_from, bound_by, pair_of, NoneFrom, IsLastAt}
 use Rattle.gh_symb.specs.declared.scope.Entry.{Entry}
-
-pub any_map : {A B : Type 0} (p : B → Bool) (f : A → B) (xs : List A) → list_any p (map f xs) ≡ list_any (λ x. p (f x)) xs
-any_map p f [] = refl
-any_map p f (x ∷ xs) = ap (λ b. p (f x) || b) (any_map p f xs)
 
 first_map : {A B : Type 0} (p : B → Bool) (f : A → B) (xs : List A) → position_or_len p (map f xs) ≡ position_or_len (λ x. p (f x)) xs
 first_map p f [] = refl

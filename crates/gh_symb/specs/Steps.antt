@@ -70,6 +70,13 @@ ChangesCell (step.New x) = Unit {0}
 ChangesCell (step.Free x) = Unit {0}
 ChangesCell s = ⊥
 
+abbrev pub KeepsHeap : kept_step.PathStep → Type 0
+KeepsHeap (step.Access x) = Unit {0}
+KeepsHeap (step.Assume l e r) = Unit {0}
+KeepsHeap (step.Set x e) = Unit {0}
+KeepsHeap (step.Return es) = Unit {0}
+KeepsHeap s = ⊥
+
 abbrev pub ReplacesPart : kept_step.PathStep → Type 0
 ReplacesPart (step.Call xs n es) = Unit {0}
 ReplacesPart (step.Loop n) = Unit {0}

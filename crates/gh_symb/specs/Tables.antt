@@ -1,5 +1,5 @@
 -- Terms and what is bound to them, as lists.
-use Rattle.std.specs.Prelude.{◌≡◌, ◌≢◌, ℕ, ◌+◌, ◌<◌, ◌≤◌, List, [], ◌∷◌, length, slice_index_or, count_by, Contains, AllPairs, unwrap_or}
+use Rattle.std.specs.Prelude.{◌≡◌, ◌≢◌, ℕ, ◌+◌, ◌<◌, ◌≤◌, List, [], ◌∷◌, length, slice_index_or, count_by, Contains, AllPairs}
 use Rattle.gh_ast.specs.Programs.{Name}
 use Rattle.gh_path.specs.Terms.{Kind, null, value, next, is_value, Bindings, unbound, bound, Terms, terms}
 use Rattle.gh_symb.specs.declared.scope.Entry.{Entry}
@@ -54,10 +54,6 @@ pub record IsLastAt (es : List Entry) (name : Name) (i : ℕ) : Type 0 where
 
 abbrev pub state : List Kind → Bound → ℕ → Terms
 state ks es i = terms ks (bound_by es) i
-
--- the term of a name; null's where it has none
-abbrev pub term_in : Bound → Name → ℕ
-term_in es x = unwrap_or (bound_by es x) 0
 
 -- a walk in version i: it leads from the terms before it to f of them
 abbrev pub Walks : (Terms → Terms) → List Kind → Bound → List Kind → Bound → ℕ → Type 0

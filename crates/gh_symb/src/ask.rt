@@ -37,7 +37,8 @@ fn start_of(procedure: &Procedure, start: Start) -> &Assertion
 
 /// One assertion that the whole heap meets.
 fn whole<'a>(alloc: Global, bound: Bound<'a>) -> Result<TermCheck<'a>, AllocError>
-    ensures { IfOk result (λ asked. (u : Under) → EncodesUnder bound.entry u → EncodesCheck asked (whole (u ∷ []))) }
+    ensures { IfOk result (λ asked. (u : Under) →
+        EncodesUnder bound.entry u → EncodesCheck asked (whole (u ∷ []))) }
 {
     let mut ways = Vec::new(alloc);
     ways.push(bound)?;

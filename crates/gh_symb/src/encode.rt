@@ -7,8 +7,9 @@ ghost use Rattle.gh_path.specs.Graphs.{Loop, looped};
 ghost use Rattle.gh_path.specs.Terms.{call_walked, expr_term, exprs_terms, terms};
 ghost use Rattle.gh_symb.specs.Phases.{step_done, step_encoding};
 ghost use Rattle.gh_symb.specs.Rounds.{IsRound};
-ghost use Rattle.gh_symb.specs.StepEncodings.{IsFinished, IsStepEncoding};
-ghost use Rattle.gh_symb.specs.Steps.{cell_made, ChangesCell, ReplacesPart};
+ghost use Rattle.gh_path.specs.declared.condition.PathStep.TheVariants.{Loop as OnLoop};
+ghost use Rattle.gh_symb.specs.StepEncodings.{IsCallEncoding, IsCallFinished, IsFinished, IsStepEncoding};
+ghost use Rattle.gh_symb.specs.Steps.{cell_made, ChangesCell, KeepsHeap};
 ghost use Rattle.gh_symb.specs.Symbolic.{Under, call_parts, parts, made};
 ghost use Rattle.gh_symb.specs.Tables.{bound_by, state, WalksAlways};
 ghost use Rattle.gh_symb.specs.Fitting.{EncodesUnder, EncodesStep};
@@ -61,8 +62,10 @@ impl<'a> Scope<'a> {
 
     /// A variable gets the place of a new cell.
     fn encode_new(&mut self, kinds: &mut Kinds, name: &'a Name) -> Result<TermStep<'a>, AllocError>
-        ensures made { IfOk result (λ encoded. WalksAlways (cell_made name.now) kinds.old self.old kinds.new self.new) }
-        ensures encodes { IfOk result (λ encoded. EncodesStep encoded (made (length kinds.old) (length kinds.old + 1))) }
+        ensures made { IfOk result (λ encoded.
+            WalksAlways (cell_made name.now) kinds.old self.old kinds.new self.new) }
+        ensures encodes { IfOk result (λ encoded.
+            EncodesStep encoded (made (length kinds.old) (length kinds.old + 1))) }
     {
         let location = kinds.add_value()?;
         let content = kinds.add_value()?;
@@ -91,25 +94,19 @@ impl<'a> Scope<'a> {
                 let x = self.encode_name(&at.name);
                 let value = self.encode_expr(kinds, value, version);
                 let step = TermStep::Write { x, value };
-                Ok(StepEncoding {
-                    step,
-                    version: version + 1,
-                })
+                let version = version + 1;
+                Ok(StepEncoding { step, version })
             }
             PathStep::New { target } => {
                 let step = self.encode_new(kinds, &target.name)?;
-                Ok(StepEncoding {
-                    step,
-                    version: version + 1,
-                })
+                let version = version + 1;
+                Ok(StepEncoding { step, version })
             }
             PathStep::Free { at } => {
                 let x = self.encode_name(&at.name);
                 let step = TermStep::Free { x };
-                Ok(StepEncoding {
-                    step,
-                    version: version + 1,
-                })
+                let version = version + 1;
+                Ok(StepEncoding { step, version })
             }
             _ => Ok(StepEncoding {
                 step: TermStep::Same,
@@ -170,67 +167,100 @@ impl<'a> Scope<'a> {
         Ok(TermStep::Part { before, after })
     }
 
-    /// Does a call, or a loop on the way.
-    fn encode_part(
+    /// Does a call of the procedure of a number.
+    fn encode_called(
         &mut self,
         alloc: Global,
         kinds: &mut Kinds,
         program: &'a Program,
-        procedure: &'a Procedure,
-        step: &'a PathStep,
+        callee: u16,
+        targets: &'a [Occ],
+        arguments: &'a [Expr],
         version: usize,
     ) -> Result<StepEncoding<'a>, AllocError>
         requires { version < 9223372036854775807 }
-        ensures done { IfOk result (λ encoded. ReplacesPart step.now →
-            IsFinished (program_of program.now) (procedure_of procedure.now) step.now
+        ensures done { IfOk result (λ encoded.
+            IsCallFinished (program_of program.now) callee (names targets.now) arguments.now
             (state kinds.old self.old version) (state kinds.new self.new encoded.version)) }
-        ensures encodes { IfOk result (λ encoded. ReplacesPart step.now →
-            IsStepEncoding (program_of program.now) (procedure_of procedure.now) step.now
+        ensures encodes { IfOk result (λ encoded.
+            IsCallEncoding (program_of program.now) callee arguments.now
             (state kinds.old self.old version) encoded.step) }
         ensures next { IfOk result (λ encoded. encoded.version ≤ version + 1) }
     {
+        let Some(callee) = program.procedures.get(callee as usize) else {
+            let step = TermStep::Same;
+            return Ok(StepEncoding { step, version });
+        };
+        let step = self.encode_call(alloc, kinds, callee, targets, arguments, version)?;
+        let version = version + 1;
+        Ok(StepEncoding { step, version })
+    }
+
+    /// Does the loop of a number.
+    fn encode_looped(
+        &mut self,
+        alloc: Global,
+        kinds: &mut Kinds,
+        procedure: &'a Procedure,
+        number: u16,
+        version: usize,
+    ) -> Result<StepEncoding<'a>, AllocError>
+        requires { version < 9223372036854775807 }
+        ensures done { IfOk result (λ encoded. (P : Plain) →
+            IsFinished P (procedure_of procedure.now) (OnLoop number)
+            (state kinds.old self.old version) (state kinds.new self.new encoded.version)) }
+        ensures encodes { IfOk result (λ encoded. (P : Plain) →
+            IsStepEncoding P (procedure_of procedure.now) (OnLoop number)
+            (state kinds.old self.old version) encoded.step) }
+        ensures next { IfOk result (λ encoded. encoded.version ≤ version + 1) }
+    {
+        let Some(round) = round_of(procedure, number as usize) else {
+            let step = TermStep::Same;
+            return Ok(StepEncoding { step, version });
+        };
+        let step = self.encode_loop(alloc, kinds, procedure, &round, version)?;
+        let version = version + 1;
+        Ok(StepEncoding { step, version })
+    }
+
+    /// Does a step that keeps the heap.
+    fn encode_steady(
+        &mut self,
+        alloc: Global,
+        kinds: &mut Kinds,
+        procedure: &'a Procedure,
+        step: &'a PathStep,
+        version: usize,
+    ) -> Result<TermStep<'a>, AllocError>
+        ensures done { IfOk result (λ encoded. (P : Plain) → KeepsHeap step.now →
+            IsFinished P (procedure_of procedure.now) step.now
+            (state kinds.old self.old version) (state kinds.new self.new version)) }
+        ensures encodes { IfOk result (λ encoded. (P : Plain) → KeepsHeap step.now →
+            IsStepEncoding P (procedure_of procedure.now) step.now (state kinds.old self.old version) encoded) }
+    {
         match step {
-            PathStep::Call {
-                targets,
-                callee,
-                arguments,
-            } => {
-                let Some(callee) = program.procedures.get(*callee as usize) else {
-                    return Ok(StepEncoding {
-                        step: TermStep::Same,
-                        version,
-                    });
-                };
-                let step = self.encode_call(
-                    alloc,
-                    kinds,
-                    callee,
-                    targets.as_slice(),
-                    arguments.as_slice(),
-                    version,
-                )?;
-                Ok(StepEncoding {
-                    step,
-                    version: version + 1,
-                })
+            PathStep::Access { at } => {
+                let x = self.encode_name(&at.name);
+                kinds.add_next(version, self.term(&at.name))?;
+                Ok(TermStep::Access { x })
             }
-            PathStep::Loop { number } => {
-                let Some(round) = round_of(procedure, *number as usize) else {
-                    return Ok(StepEncoding {
-                        step: TermStep::Same,
-                        version,
-                    });
-                };
-                let step = self.encode_loop(alloc, kinds, procedure, &round, version)?;
-                Ok(StepEncoding {
-                    step,
-                    version: version + 1,
-                })
+            PathStep::Assume { left, equal, right } => {
+                let left = self.encode_expr(kinds, left, version);
+                let right = self.encode_expr(kinds, right, version);
+                let equal = *equal;
+                Ok(TermStep::Assume { left, equal, right })
             }
-            _ => Ok(StepEncoding {
-                step: TermStep::Same,
-                version,
-            }),
+            PathStep::Set { target, value } => {
+                let term = self.expr_term(kinds, value, version);
+                self.bind(&target.name, term)?;
+                Ok(TermStep::Same)
+            }
+            PathStep::Return { values } => {
+                let terms = self.exprs_terms(alloc, kinds, values.as_slice(), version)?;
+                self.bind_all(procedure.results.as_slice(), terms.as_slice())?;
+                Ok(TermStep::Same)
+            }
+            _ => Ok(TermStep::Same),
         }
     }
 
@@ -254,46 +284,33 @@ impl<'a> Scope<'a> {
         ensures next { IfOk result (λ encoded. encoded.version ≤ version + 1) }
     {
         match step {
-            PathStep::Access { at } => {
-                let x = self.encode_name(&at.name);
-                kinds.add_next(version, self.term(&at.name))?;
-                Ok(StepEncoding {
-                    step: TermStep::Access { x },
-                    version,
-                })
-            }
-            PathStep::Assume { left, equal, right } => {
-                let left = self.encode_expr(kinds, left, version);
-                let right = self.encode_expr(kinds, right, version);
-                let equal = *equal;
-                Ok(StepEncoding {
-                    step: TermStep::Assume { left, equal, right },
-                    version,
-                })
-            }
-            PathStep::Set { target, value } => {
-                let term = self.expr_term(kinds, value, version);
-                self.bind(&target.name, term)?;
-                Ok(StepEncoding {
-                    step: TermStep::Same,
-                    version,
-                })
-            }
-            PathStep::Return { values } => {
-                let terms = self.exprs_terms(alloc, kinds, values.as_slice(), version)?;
-                self.bind_all(procedure.results.as_slice(), terms.as_slice())?;
-                Ok(StepEncoding {
-                    step: TermStep::Same,
-                    version,
-                })
-            }
-            PathStep::Call { .. } | PathStep::Loop { .. } => {
-                let encoded = self.encode_part(alloc, kinds, program, procedure, step, version)?;
+            PathStep::Call {
+                targets,
+                callee,
+                arguments,
+            } => {
+                let targets = targets.as_slice();
+                let arguments = arguments.as_slice();
+                let callee = *callee;
+                let encoded = self.encode_called(
+                    alloc, kinds, program, callee, targets, arguments, version,
+                )?;
                 Ok(encoded)
             }
-            _ => {
+            PathStep::Loop { number } => {
+                let encoded = self.encode_looped(alloc, kinds, procedure, *number, version)?;
+                Ok(encoded)
+            }
+            PathStep::Write { .. } | PathStep::New { .. } | PathStep::Free { .. } => {
                 let encoded = self.encode_cell(kinds, step, version)?;
                 Ok(encoded)
+            }
+            PathStep::Access { .. }
+            | PathStep::Assume { .. }
+            | PathStep::Set { .. }
+            | PathStep::Return { .. } => {
+                let step = self.encode_steady(alloc, kinds, procedure, step, version)?;
+                Ok(StepEncoding { step, version })
             }
         }
     }

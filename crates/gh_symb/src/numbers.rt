@@ -4,8 +4,8 @@ ghost use Rattle.std.specs.Prelude.{◌≡◌, ◌<◌};
 
 use gh_base::atom::Term;
 
-/// A number as one of 8 bits; the largest of these where it has more. A condition that keeps the limits has no
-/// such terms and versions.
+/// A number as one of 8 bits, where it has no more. The terms and versions of a condition that keeps the limits
+/// have no more.
 pub fn short(number: usize) -> u8
     ensures { number < 256 → result ≡ number }
 {

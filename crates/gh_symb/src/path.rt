@@ -115,14 +115,9 @@ impl<'a> Scope<'a> {
                 let Some(callee) = program.procedures.get(*callee as usize) else {
                     return Ok(version);
                 };
-                self.walk_call(
-                    alloc,
-                    kinds,
-                    callee,
-                    targets.as_slice(),
-                    arguments.as_slice(),
-                    version,
-                )?;
+                let targets = targets.as_slice();
+                let arguments = arguments.as_slice();
+                self.walk_call(alloc, kinds, callee, targets, arguments, version)?;
                 Ok(version + 1)
             }
             PathStep::Loop { number } => {

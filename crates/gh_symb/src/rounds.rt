@@ -1,15 +1,12 @@
-//! The loops of a body by their numbers, and what a body assigns.
+//! The loops of a body by their numbers.
 
-ghost use Rattle.std.specs.Prelude.{◌≡◌, MatchResult};
-ghost use Rattle.std.specs.List.{list_any};
-ghost use Rattle.std.specs.Str.{bytes_eq};
+ghost use Rattle.std.specs.Prelude.{MatchResult};
 ghost use Rattle.gh_ast.specs.Plain.{statement_of, statements_view, procedure_of};
 ghost use Rattle.gh_path.specs.Graphs.{Loop, loops, all_loops};
 ghost use Rattle.gh_path.specs.Kept.{IsLoop};
-ghost use Rattle.gh_path.specs.Terms.{assigns, some_assigns};
 ghost use Rattle.gh_symb.specs.Rounds.{IsRoundAt, IsRoundOf, IsLater};
 
-use gh_ast::{Assertion, Block, Occ, Procedure, Stmt};
+use gh_ast::{Assertion, Block, Procedure, Stmt};
 
 /// A loop of a text: its invariant and its body.
 #[derive(Clone, Copy, Debug)]
@@ -71,48 +68,4 @@ pub fn round_of(procedure: &Procedure, number: usize) -> Option<Round<'_>>
         Some(body) => round_among(body.block.statements.as_slice(), number).ok(),
         None => None,
     }
-}
-
-/// Whether a name is that of one of some occurrences.
-fn is_among(occs: &[Occ], name: &[u8]) -> bool
-    ensures { result ≡ list_any (λ o. bytes_eq name.now o.name) occs.now }
-{
-    occs.iter().any(|occ| name == occ.name.bytes())
-}
-
-/// Whether a statement assigns a variable, itself or in a block of it.
-#[cycle(assigns)]
-fn assigns(statement: &Stmt, name: &[u8]) -> bool
-    ensures { result ≡ assigns (statement_of statement.now) name.now }
-{
-    match statement {
-        Stmt::Set { target, .. } => name == target.name.bytes(),
-        Stmt::New { target } => name == target.name.bytes(),
-        Stmt::Call { targets, .. } => is_among(targets.as_slice(), name),
-        Stmt::If {
-            taken,
-            otherwise,
-            ..
-        } => {
-            if some_assigns(taken.statements.as_slice(), name) {
-                return true;
-            }
-            some_assigns(otherwise.statements.as_slice(), name)
-        }
-        Stmt::While { body, .. } => some_assigns(body.statements.as_slice(), name),
-        _ => false,
-    }
-}
-
-/// Whether one of some statements assigns a variable.
-#[cycle(assigns)]
-pub fn some_assigns(statements: &[Stmt], name: &[u8]) -> bool
-    ensures { result ≡ some_assigns (statements_view statements.now) name.now }
-{
-    for statement in statements {
-        if assigns(statement, name) {
-            return true;
-        }
-    }
-    false
 }

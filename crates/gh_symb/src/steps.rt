@@ -11,10 +11,11 @@ ghost use Rattle.gh_symb.specs.Rounds.{IsRound};
 ghost use Rattle.gh_symb.specs.Steps.{all_renewed_in, call_made};
 
 use crate::kinds::Kinds;
-use crate::rounds::{Round, some_assigns};
+use crate::rounds::Round;
 use crate::scope::Scope;
 use gh_ast::{Expr, Occ, Procedure, Stmt};
 use gh_base::name::Name;
+use gh_path::assigned::some_assigns;
 use std::alloc::{AllocError, Global};
 
 impl<'a> Scope<'a> {

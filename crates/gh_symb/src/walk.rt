@@ -60,7 +60,8 @@ impl<'a> Scope<'a> {
         kinds: &mut Kinds,
         operand: &'a Operand,
     ) -> Result<usize, AllocError>
-        ensures used { IfOk result (λ term. WalksAlways (operand_used operand.now) kinds.old self.old kinds.new self.new) }
+        ensures used { IfOk result (λ term.
+            WalksAlways (operand_used operand.now) kinds.old self.old kinds.new self.new) }
         ensures term { IfOk result (λ term. (version : ℕ) →
             term ≡ operand_term operand.now (state kinds.new self.new version)) }
     {
@@ -113,7 +114,8 @@ impl<'a> Scope<'a> {
 
     /// The term of an operand.
     fn operand_term(&self, operand: &Operand) -> usize
-        ensures { (kinds : List Kind) (version : ℕ) → result ≡ operand_term operand.now (state kinds self.now version) }
+        ensures { (kinds : List Kind) (version : ℕ) →
+            result ≡ operand_term operand.now (state kinds self.now version) }
     {
         match operand {
             Operand::Null { .. } => 0,
@@ -150,7 +152,8 @@ impl<'a> Scope<'a> {
 
     /// The terms of variables.
     pub fn terms(&self, alloc: Global, occs: &[Occ]) -> Result<Vec<usize>, AllocError>
-        ensures { IfOk result (λ terms. terms.items ≡ map (λ x. unwrap_or (bound_by self.now x) 0) (names occs.now)) }
+        ensures { IfOk result (λ terms.
+            terms.items ≡ map (λ x. unwrap_or (bound_by self.now x) 0) (names occs.now)) }
     {
         let mut terms = Vec::new(alloc);
         for occ in occs {

@@ -14,7 +14,6 @@ use Rattle.gh_session.specs.declared.kept.Kept.{Kept}
 use Rattle.gh_session.specs.declared.session.Refutation.{Refutation}
 use Rattle.gh_session.specs.declared.session.SessionOutcome.{SessionOutcome}
 use Rattle.gh_session.specs.Decided.{IsOutcome, asked, Grows, Tells}
-use Rattle.gh_session.specs.Decided as of_session
 use Rattle.gh_session.specs.Known.{Known, essences}
 use Rattle.gh_session.specs.Places.{knowledge}
 use Rattle.gh_session.specs.Lines as lines

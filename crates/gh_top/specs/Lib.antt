@@ -16,6 +16,7 @@ pub mod Replays
 pub mod Replies
 pub mod Reports
 pub mod Seen
+pub mod Shown
 pub mod Sessions
 pub mod Rules
 pub mod Runs

@@ -1,16 +1,15 @@
 //! The mode `entail`: decides a question.
 
-ghost use Rattle.std.specs.Prelude.{◌≡◌, ◌∷◌, [], ◌++◌, All, IfOk, IfErr, List, Option, Some, codes, ℕ};
+ghost use Rattle.std.specs.Prelude.{◌≡◌, ◌∷◌, [], ◌++◌, All, IfOk, IfErr, Some, codes};
 ghost use Rattle.gh_ast.specs.Questions.{question_of};
 ghost use Rattle.gh_draw.specs.Drawings.{line};
 ghost use Rattle.gh_entail.specs.Answers.{FailsIn};
 ghost use Rattle.gh_entail.specs.Asked.{IsAdmitted};
 ghost use Rattle.gh_log.specs.Spelled.{IsOfVersion};
 ghost use Rattle.gh_log.specs.Texts.{log_text};
-ghost use Rattle.gh_top.specs.Entails.{IsQuestionText, PosesAdmitted, IsFailingReport};
-ghost use Rattle.gh_top.specs.Files.{Shows};
-ghost use Rattle.gh_top.specs.QuestionReplies.{of_ask, IsQuestionFrontError, IsReplyTo, RepliesToQuestion};
-ghost use Rattle.gh_top.specs.Refusals.{most_bytes};
+ghost use Rattle.gh_top.specs.Entails.{IsQuestionText, IsFailingReport};
+ghost use Rattle.gh_top.specs.QuestionReplies.{of_ask, IsQuestionFrontError, IsReplyTo};
+ghost use Rattle.gh_top.specs.Shown.{PosesQuestion, IsFileQuestionError, RepliesToQuestionFile};
 
 use crate::file::FileText;
 use crate::front::{FrontError, MOST_BYTES};
@@ -59,8 +58,8 @@ fn text_asked(alloc: Global, text: &[u8]) -> Result<Asked, FrontError>
 
 // The question that a file's text poses, if it keeps the type rules and the limits.
 fn asked(alloc: Global, file: &FileText) -> Result<Asked, FrontError>
-    ensures posed { IfOk result (λ asked. (bytes : Option (List ℕ)) → Shows most_bytes bytes file.now → PosesAdmitted bytes (question_of asked.question)) }
-    ensures refused { IfErr result (λ e. (bytes : Option (List ℕ)) → Shows most_bytes bytes file.now → IsQuestionFrontError bytes e) }
+    ensures posed { IfOk result (λ asked. PosesQuestion file.now (question_of asked.question)) }
+    ensures refused { IfErr result (IsFileQuestionError file.now) }
 {
     match file {
         FileText::Absent => Err(FrontError::Refused(Refusal::Absent)),
@@ -123,7 +122,7 @@ fn decided(alloc: Global, asked: &Asked) -> Result<Report, AllocError>
 
 /// What `entail` answers for the file of a question.
 pub fn entail(alloc: Global, file: &FileText) -> Result<Report, AllocError>
-    ensures { IfOk result (λ r. (bytes : Option (List ℕ)) → Shows most_bytes bytes file.now → RepliesToQuestion bytes r.status r.text) }
+    ensures { IfOk result (λ r. RepliesToQuestionFile file.now r.status r.text) }
 {
     match asked(alloc, file) {
         Ok(asked) => decided(alloc, &asked),

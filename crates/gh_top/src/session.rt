@@ -1,12 +1,13 @@
 //! The mode `session`: one text after another, each answered as `check` answers it, and nothing that is
 //! known decided anew.
 
-ghost use Rattle.std.specs.Prelude.{◌≡◌, ◌++◌, ◌≤◌, [], IfOk, OnOk, List, Option, Some, length, ℕ};
+ghost use Rattle.std.specs.Prelude.{◌≡◌, ◌++◌, ◌≤◌, [], IfOk, OnOk, Some, length};
 ghost use Rattle.gh_ast.specs.Plain.{program_of};
 ghost use Rattle.gh_top.specs.Answering.{IsAnswerOn, IsVerdictOn};
-ghost use Rattle.gh_top.specs.Files.{IsWithin, Shows};
+ghost use Rattle.gh_top.specs.Files.{IsWithin};
 ghost use Rattle.gh_top.specs.Refusals.{refusal_text};
 ghost use Rattle.gh_top.specs.Sessions.{most_edited, answer_line as line_of_answer, AreAnswers, IsSessionAnswer, texts_after};
+ghost use Rattle.gh_top.specs.Shown.{RepliesToSessionFile};
 
 use crate::file::FileText;
 use crate::front::{Admitted, FrontError, text_front};
@@ -151,7 +152,7 @@ fn session_report(alloc: Global, text: &[u8]) -> Result<Report, AllocError>
 /// What `session` answers for a session file.
 pub fn session(alloc: Global, file: &FileText) -> Result<Report, AllocError>
     requires within { IsWithin most_edited file.now }
-    ensures { IfOk result (λ r. (bytes : Option (List ℕ)) → Shows most_edited bytes file.now → IsSessionAnswer bytes r.status r.text) }
+    ensures { IfOk result (λ r. RepliesToSessionFile file.now r.status r.text) }
 {
     match file {
         FileText::Absent => Ok(file_refused(plain_line(alloc, "refused: session Absent")?)),

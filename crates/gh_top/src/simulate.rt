@@ -96,7 +96,8 @@ fn state_file_report(
 ) -> Result<Report, AllocError>
     requires short { length text.now ≤ most_stated }
     requires limit { number ≤ 1000000 }
-    ensures { IfOk result (λ r. RepliesOnText (λ file state. Run file state number) (program_of admitted.now) text.now r.status r.text) }
+    ensures { IfOk result (λ r. RepliesOnText (λ file state. Run file state number) (program_of admitted.now)
+        text.now r.status r.text) }
 {
     let typed = admitted.typed();
     let begin = match read_state(alloc, typed, text) {
@@ -117,7 +118,8 @@ pub fn simulate(
 ) -> Result<Report, AllocError>
     requires within { IsWithin most_stated state.now }
     requires limit { number ≤ 1000000 }
-    ensures { IfOk result (λ r. RepliesShown (λ file name. Run file name number) (program_of admitted.now) most_stated state.now r.status r.text) }
+    ensures { IfOk result (λ r. RepliesShown (λ file name. Run file name number) (program_of admitted.now)
+        most_stated state.now r.status r.text) }
 {
     match state {
         FileText::Absent => refused(alloc, "refused: state Absent"),

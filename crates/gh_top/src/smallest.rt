@@ -101,7 +101,8 @@ fn refuted(alloc: Global, admitted: &Admitted, number: u32) -> Result<Report, Al
 
 /// What `smallest` answers for an admitted program.
 pub fn smallest(alloc: Global, admitted: &Admitted) -> Result<Report, AllocError>
-    ensures { IfOk result (λ r. (file : List ℕ) → Replies (request.Smallest file) (program_of admitted.now) r.status r.text) }
+    ensures { IfOk result (λ r. (file : List ℕ)
+        → Replies (request.Smallest file) (program_of admitted.now) r.status r.text) }
 {
     let conditions = admitted.conditions();
     match decide_all(alloc, admitted.typed(), conditions)? {

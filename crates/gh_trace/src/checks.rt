@@ -23,7 +23,8 @@ use std::alloc::{AllocError, Global};
 // What the first heap of a path meets.
 fn start_assertion<'t>(scene: Scene<'t>, start: Start) -> Option<&'t Assertion>
     requires { HasLoops scene }
-    ensures some { IfSome result (λ f. (a : graph.Start) → IsStart (scene_procedure scene.entry) start a → a.meets ≡ formula_of f.now) }
+    ensures some { IfSome result (λ f. (a : graph.Start) →
+        IsStart (scene_procedure scene.entry) start a → a.meets ≡ formula_of f.now) }
     ensures none { IfNone result ((a : graph.Start) → IsStart (scene_procedure scene.entry) start a → ⊥) }
 {
     match start {

@@ -29,7 +29,8 @@ pub trait Decider {
         requires admitted { IsAdmitted (program_of typed.now) }
         requires one { IsOne (program_of typed.now) condition.now }
         ensures none { IfOk result (λ o. IfNone o (HasNoCounterexample (program_of typed.now) condition.now)) }
-        ensures some { IfOk result (λ o. IfSome o (λ t. HasCounterexample (program_of typed.now) condition.now (drawn_of t))) }
+        ensures some { IfOk result (λ o. IfSome o (λ t.
+            HasCounterexample (program_of typed.now) condition.now (drawn_of t))) }
         ensures counted { IfOk result (λ _. calls self.new ≡ min last (calls self.old + 1)) }
         ensures never_falls { calls self.old ≤ calls self.new }
         ensures at_most_one { calls self.new ≤ calls self.old + 1 };

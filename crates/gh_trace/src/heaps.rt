@@ -86,7 +86,8 @@ pub fn outside_frame(
     places: &[u32],
 ) -> Result<Option<Heap>, AllocError>
     ensures found { IfOk result (λ o. IfSome o (λ other. Splits heap.now other (left one.now places.now))) }
-    ensures none { IfOk result (λ o. IfNone o ((other : Heap) → Splits heap.now other (left one.now places.now) → ⊥)) }
+    ensures none { IfOk result (λ o. IfNone o ((other : Heap) →
+        Splits heap.now other (left one.now places.now) → ⊥)) }
 {
     let mut frame = Remaining::new(alloc, one)?;
     take_all(&mut frame, places);

@@ -1,11 +1,11 @@
 //! The procedure that a condition is of.
 
-ghost use Rattle.std.specs.Prelude.{◌≡◌, IfNone, IfSome, slice_get, Some, None};
+ghost use Rattle.std.specs.Prelude.{◌≡◌, IfNone, IfSome, slice_get, None};
 ghost use Rattle.gh_ast.specs.Plain.{procedure_of, program_of};
 ghost use Rattle.gh_path.specs.Graphs.{loops_of};
 ghost use Rattle.gh_path.specs.Kept.{IsLoop};
 ghost use Rattle.gh_path.specs.Walking.{loop_of};
-ghost use Rattle.gh_trace.specs.Scenes.{HasLoops, HasDistinctNames, scene_procedure};
+ghost use Rattle.gh_trace.specs.Scenes.{HasLoops, HasDistinctNames, IsProcedureAt, scene_procedure};
 ghost use Rattle.gh_trace.specs.Laws.{HasOwnNames};
 
 use gh_ast::typed::Typed;
@@ -22,7 +22,7 @@ pub struct Scene<'t> {
 
 // The procedure of a number in a program.
 fn procedure_in(program: &Program, number: u16) -> Option<&Procedure>
-    ensures some { IfSome result (λ q. slice_get (program_of program.now).procedures number ≡ Some (procedure_of q.now)) }
+    ensures some { IfSome result (λ q. IsProcedureAt (program_of program.now) number (procedure_of q.now)) }
     ensures none { IfNone result (slice_get (program_of program.now).procedures number ≡ None) }
 {
     program.procedures.get(usize::from(number))
@@ -30,7 +30,7 @@ fn procedure_in(program: &Program, number: u16) -> Option<&Procedure>
 
 /// The procedure of a number.
 pub fn procedure_at(typed: &Typed, number: u16) -> Option<&Procedure>
-    ensures some { IfSome result (λ q. slice_get (program_of typed.now).procedures number ≡ Some (procedure_of q.now)) }
+    ensures some { IfSome result (λ q. IsProcedureAt (program_of typed.now) number (procedure_of q.now)) }
     ensures none { IfNone result (slice_get (program_of typed.now).procedures number ≡ None) }
     ensures own { IfSome result (λ q. HasOwnNames (procedure_of q.now)) }
     ensures distinct { IfSome result (λ q. HasDistinctNames (procedure_of q.now)) }

@@ -232,7 +232,8 @@ fn answers(
     after: &State,
 ) -> Result<bool, AllocError>
     requires { ListsAlike before.now after.now }
-    ensures { IfOk result (DecidesTaken (graph.answered (results_of (scene_procedure scene.entry)) exprs.now) before.now after.now) }
+    ensures { IfOk result (
+        DecidesTaken (graph.answered (results_of (scene_procedure scene.entry)) exprs.now) before.now after.now) }
 {
     let Some(given) = values_of(alloc, &before.store, &before.heap, exprs)? else {
         return Ok(false);

@@ -18,8 +18,10 @@ use std::alloc::{AllocError, Global};
 
 // The entries after those of some names, which stand first; none where they don't.
 fn after_names<'e>(entries: &'e [Entry], occurrences: &[Occ]) -> Option<&'e [Entry]>
-    ensures some { IfSome result (λ rest. listed_names entries.now ≡ names occurrences.now ++ listed_names rest.now) }
-    ensures none { IfNone result ((ns : List Name) → listed_names entries.now ≡ names occurrences.now ++ ns → ⊥) }
+    ensures some { IfSome result (λ rest.
+        listed_names entries.now ≡ names occurrences.now ++ listed_names rest.now) }
+    ensures none { IfNone result ((ns : List Name) →
+        listed_names entries.now ≡ names occurrences.now ++ ns → ⊥) }
 {
     let mut rest = entries;
     for occurrence in occurrences {
@@ -98,7 +100,8 @@ pub fn gets(
     given: &[u32],
 ) -> Result<bool, AllocError>
     requires { listed_names after.now ≡ listed_names before.now }
-    ensures { IfOk result (λ b. IsTrue b ↔ Gets (store_of before.now) (names targets.now) given.now (store_of after.now)) }
+    ensures { IfOk result (λ b.
+        IsTrue b ↔ Gets (store_of before.now) (names targets.now) given.now (store_of after.now)) }
 {
     let got = values(alloc, after, targets)?;
     Ok(got.as_slice() == given && keeps(before, after, Targets::Names(targets)))

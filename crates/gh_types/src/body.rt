@@ -4,7 +4,7 @@ ghost use Rattle.std.specs.Prelude.{[], ◌∷◌, IfOk, false};
 ghost use Rattle.gh_ast.specs.Plain.{procedure_of, statement_of, statements_view, call};
 ghost use Rattle.gh_ast.specs.Occurrences.{assigned, mentioned, called, returned, sites_in, all_sites_in, sites_in_body};
 ghost use Rattle.gh_types.specs.Checks.{OccurrenceErrors, ParameterErrors, TargetErrors};
-ghost use Rattle.gh_types.specs.Scopes.{SiteErrorsIn};
+ghost use Rattle.gh_types.specs.Scopes.{SiteErrorsIn, IsFirstAt};
 ghost use Rattle.gh_types.specs.declared.scope.Setting.TheVariants.{Inside};
 ghost use Rattle.gh_types.specs.Faults.{IsFirstIn, IsFirstOf};
 
@@ -37,7 +37,7 @@ impl<'a, 'n> Scope<'a, 'n> {
 
     /// The first error of the one target of a statement.
     fn in_assigned(&self, target: &Occ) -> Option<Fault>
-        ensures { IsFirstIn (SiteErrorsIn self.now) (assigned (target.now ∷ []) ∷ mentioned target.now ∷ []) result }
+        ensures { IsFirstAt self.now (assigned (target.now ∷ []) ∷ mentioned target.now ∷ []) result }
     {
         earlier(
             self.in_target(target),
@@ -144,7 +144,7 @@ impl<'a, 'n> Scope<'a, 'n> {
         in_loop: bool,
         statements: &[Stmt],
     ) -> Result<Option<Fault>, AllocError>
-        ensures { IfOk result (IsFirstIn (SiteErrorsIn self.now) (all_sites_in in_loop (statements_view statements.now))) }
+        ensures { IfOk result (IsFirstAt self.now (all_sites_in in_loop (statements_view statements.now))) }
     {
         let mut first = None;
         for statement in statements {
@@ -161,7 +161,7 @@ impl<'a, 'n> Scope<'a, 'n> {
         callee: &Occ,
         arguments: &[Expr],
     ) -> Result<Option<Fault>, AllocError>
-        ensures { IfOk result (IsFirstIn (SiteErrorsIn self.now) (sites_in false (call targets.now callee.now arguments.now))) }
+        ensures { IfOk result (IsFirstAt self.now (sites_in false (call targets.now callee.now arguments.now))) }
     {
         let of_targets = self.in_targets(alloc, targets)?;
         let of_call = self.in_call(targets, callee, arguments);

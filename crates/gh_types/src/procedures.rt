@@ -3,8 +3,8 @@
 ghost use Rattle.std.specs.Prelude.{◌⊎◌, map, Any, IfOk};
 ghost use Rattle.gh_ast.specs.Plain.{procedure_of};
 ghost use Rattle.gh_types.specs.Checks.{ProcedureErrors, RepeatErrors};
-ghost use Rattle.gh_types.specs.Scopes.{ProcedureErrorsIn};
-ghost use Rattle.gh_types.specs.Faults.{IsFirstIn, IsFirstOf};
+ghost use Rattle.gh_types.specs.Scopes.{ProcedureErrorsIn, IsFirstInEach};
+ghost use Rattle.gh_types.specs.Faults.{IsFirstOf};
 ghost use Rattle.gh_types.specs.Tables.{IsTableOf};
 
 use crate::fault::{Fault, earlier};
@@ -37,7 +37,7 @@ fn in_each<'a, 'n>(
     firsts: &'n Names<'a>,
 ) -> Result<Option<Fault>, AllocError>
     requires { IsTableOf (map (λ p. p.name.name) procedures.now) firsts.now.places }
-    ensures { IfOk result (IsFirstIn (ProcedureErrors (map procedure_of procedures.now)) (map procedure_of procedures.now)) }
+    ensures { IfOk result (IsFirstInEach (map procedure_of procedures.now)) }
 {
     let mut first = None;
     for own in procedures {

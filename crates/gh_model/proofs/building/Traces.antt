@@ -18,7 +18,6 @@ use Rattle.gh_assert.specs.Meaning.{Store}
 use Rattle.gh_assert.specs.Stores.{listed, store_of}
 use Rattle.gh_path.specs.Graphs as path
 use Rattle.gh_path.specs.Conditions.{Condition, IsCondition}
-use Rattle.gh_path.specs.declared.condition.PathStep as kept_step
 use Rattle.gh_path.specs.Terms.{Kind, Bindings, Terms, exprs_used, exprs_terms, walked, moved_on, renewed, some_assigns, callee_in, check_walked, step_walked, steps_walked, no_terms, used}
 use Rattle.gh_grass.specs.declared.binding.Bond.{Bond}
 use Rattle.gh_symb.specs.Formulas.{version_after as version_past, problem}

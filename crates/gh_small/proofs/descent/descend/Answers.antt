@@ -10,7 +10,7 @@ loop-cells-smaller c =
     let p = c.args.ground.now in
     let k = c.loop-cells.cells in
     let some : 1 ≤ k = omega arith in
-    let is : IsAnswer (bounded_by p k) (Model c.in-Model.next) = rw c.in-Model.is at c.in_ok-next.ensures in
+    let is : IsAnswer (bounded_by p k) (Model c.in-Model.next) = rw c.in-Model.is at (rw c.in-Some.is at c.in_ok-answer.ensures.answer) in
     next_below p k c.in_ok-cells-in-Model.cells c.in-Model.next c.sizes-sizes.ensures.valid some is c.in_ok-cells-in-Model.ensures.few
 
 pub loop-cells-preserved : goal.loop-cells-preserved
@@ -18,5 +18,5 @@ loop-cells-preserved c =
     let p = c.args.ground.now in
     let k = c.loop-cells.cells in
     let some : 1 ≤ k = omega arith in
-    let is : IsAnswer (bounded_by p k) (Model c.in-Model.next) = rw c.in-Model.is at c.in_ok-next.ensures in
+    let is : IsAnswer (bounded_by p k) (Model c.in-Model.next) = rw c.in-Model.is at (rw c.in-Some.is at c.in_ok-answer.ensures.answer) in
     record { model = next_model p k c.in-Model.next c.sizes-sizes.ensures.valid some is; count = c.in_ok-cells-in-Model.ensures.count }

@@ -5,7 +5,7 @@ use Rattle.gh_path.specs.Terms.{same_kind, next, added}
 use Rattle.gh_symb.specs.Tables.{kind_of, AreListed}
 use Rattle.gh_symb.specs.declared.kinds.Kind.TheVariants.{Next}
 use Rattle.gh_symb.proofs.KindLemmas.{next_listed}
-use Rattle.gh_symb.proofs.TableLemmas.{any_map}
+use Rattle.gh_path.proofs.ListLemmas.{any_map}
 use Rattle.gh_symb.proofs.kinds.Kinds.add_next.Goals as goal
 
 pub returns-then-has_next : goal.returns-then-has_next

@@ -12,7 +12,7 @@ returns-in_ok-walk_call-in-Call-clause-stepped c = λ replaces step h.
     let l = c.in-Some.ensures.lookup in
     let callee : callee_in (program_of P).procedures k.0.name ≡ Some (procedure_of q) =
     called_procedure P c.deref.result.now c.in-Call.callee q k.0.name c.deref.ensures.value l.3.0 l.1 k.1 in
-    let on = rw (c.as_slice.ensures.value, c.as_slice-in-Call.ensures.value) at c.in_ok-walk_call-in-Call.ensures in
+    let on = rw (c.as_slice-targets.ensures.value, c.as_slice-arguments.ensures.value) at c.in_ok-walk_call-in-Call.ensures in
     rw (k.2, callee) on
 
 pub returns-in_ok-walk_loop-in-Loop-clause-stepped : goal.returns-in_ok-walk_loop-in-Loop-clause-stepped

@@ -2,8 +2,8 @@ use Rattle.std.proofs.Common.{◌∙◌, sym}
 use Rattle.std.specs.Str.{bytes_eq}
 use Rattle.gh_ast.specs.declared.Occ.{Occ}
 use Rattle.gh_ast.proofs.PlainLemmas.{statement_of-Call}
-use Rattle.gh_symb.proofs.TableLemmas.{any_map}
-use Rattle.gh_symb.proofs.rounds.+assigns.Goals as goal
+use Rattle.gh_path.proofs.ListLemmas.{any_map}
+use Rattle.gh_path.proofs.assigned.+assigns.Goals as goal
 
 pub assigns-returns-in-Call : goal.assigns-returns-in-Call
 assigns-returns-in-Call t c =
