@@ -1,7 +1,7 @@
 //! Equality and congruence over the trail: classes of terms, and the literals that stand against each other.
 
 use crate::shape::{Code, Kind, Parts, Shape};
-use crate::table::{at, byte, cell, put, small};
+use crate::table::{at, bit, byte, cell, put, small};
 use std::alloc::{AllocError, Global};
 
 // No chain of merges takes more steps to explain.
@@ -178,11 +178,11 @@ impl Classes {
         for term in 0..self.terms {
             if at(self.leaders.as_slice(), term, to) == from {
                 put(self.leaders.as_mut_slice(), term, to);
-                moved |= crate::table::bit(byte(term));
+                moved |= bit(byte(term));
             }
         }
         for term in 0..self.terms {
-            if moved & crate::table::bit(byte(term)) != 0 {
+            if moved & bit(byte(term)) != 0 {
                 if let Some(clash) = self.file_anew(shape, term)? {
                     return Ok(Some(clash));
                 }

@@ -15,17 +15,18 @@ pub(crate) enum Origin {
     Learnt { from: u32, to: u32 },
 }
 
+/// Where a clause's literals stand in the table, and how many there are.
 #[derive(Clone, Copy, Debug)]
-struct Head {
+struct Extent {
     start: u32,
     length: u32,
-    origin: Origin,
 }
 
 /// Clauses, numbered from 0, and the hints of those that were learnt.
 #[derive(Debug, Drop)]
 pub(crate) struct Clauses {
-    heads: Vec<Head>,
+    extents: Vec<Extent>,
+    origins: Vec<Origin>,
     codes: Vec<Code>,
     hints: Vec<u32>,
 }
@@ -33,25 +34,26 @@ pub(crate) struct Clauses {
 impl Clauses {
     pub fn new(alloc: Global) -> Clauses {
         Clauses {
-            heads: Vec::new(alloc),
+            extents: Vec::new(alloc),
+            origins: Vec::new(alloc),
             codes: Vec::new(alloc),
             hints: Vec::new(alloc),
         }
     }
 
     pub fn count(&self) -> usize {
-        self.heads.len()
+        self.extents.len()
     }
 
     /// Adds a clause last, and answers its number.
     pub fn push(&mut self, codes: &[Code], origin: Origin) -> Result<u32, AllocError> {
-        let number = small(self.heads.len());
+        let number = small(self.extents.len());
         let start = small(self.codes.len());
         self.codes.extend_from_slice(codes)?;
-        self.heads.push(Head {
+        self.origins.push(origin)?;
+        self.extents.push(Extent {
             start,
             length: small(codes.len()),
-            origin,
         })?;
         Ok(number)
     }
@@ -66,8 +68,8 @@ impl Clauses {
 
     /// Where a clause comes from, if it is there.
     pub fn origin(&self, number: u32) -> Option<Origin> {
-        match self.heads.get(number as usize) {
-            Some(head) => Some(head.origin),
+        match self.origins.get(number as usize) {
+            Some(origin) => Some(*origin),
             None => None,
         }
     }
@@ -83,16 +85,16 @@ impl Clauses {
 
     /// How many literals a clause has.
     pub fn len(&self, number: u32) -> usize {
-        match self.heads.get(number as usize) {
-            Some(head) => head.length as usize,
+        match self.extents.get(number as usize) {
+            Some(extent) => extent.length as usize,
             None => 0,
         }
     }
 
     /// Where a clause's literals begin in the table.
     pub fn start(&self, number: u32) -> usize {
-        match self.heads.get(number as usize) {
-            Some(head) => head.start as usize,
+        match self.extents.get(number as usize) {
+            Some(extent) => extent.start as usize,
             None => 0,
         }
     }

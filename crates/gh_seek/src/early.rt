@@ -55,6 +55,13 @@ impl Least {
         lessened
     }
 
+    /// Whether the terms of an atom are least.
+    pub fn are_least(&self, parts: Parts) -> bool {
+        let [x, y, z] = parts.terms;
+        let word = bit(x) | bit(y) | bit(z);
+        self.mask & word == word
+    }
+
     /// An atom over the least terms.
     pub fn over(&self, parts: Parts) -> Parts {
         let [x, y, z] = parts.terms;
@@ -159,11 +166,12 @@ fn add_for(
             add_in_window(state, plans, least, turned)
         }
         _ => {
-            carry(state, least, code)?;
-            let over = least.over(parts);
+            if !least.are_least(parts) {
+                carry(state, least, code)?;
+                return Ok(None);
+            }
             let (low, high) = state.order.window();
-            let is_least = state.shape.number(over) == code.atom();
-            if !is_least || parts.version < low || parts.version > high {
+            if parts.version < low || parts.version > high {
                 return Ok(None);
             }
             add_at(state, plans, least, parts, code.is_positive())

@@ -101,24 +101,11 @@ fn candidates(
     Ok(found)
 }
 
-// Adds the lemmas of a segment: last, and so tried first, that it is there.
+// Adds the lemmas of a segment. Those added last are tried first: that it is there, then that terms stay on it, then that
+// others don't come to it.
 fn push_segment(found: &mut Vec<Candidate>, terms: usize, x: u8, z: u8) -> Result<(), AllocError> {
-    for back in 0..terms {
-        let y = byte(terms - 1 - back);
-        if y != x && y != z {
-            found.push(Candidate {
-                x,
-                y,
-                z,
-                stays: true,
-            })?;
-            found.push(Candidate {
-                x,
-                y,
-                z,
-                stays: false,
-            })?;
-        }
+    for stays in [false, true] {
+        push_between(found, terms, x, z, stays)?;
     }
     found.push(Candidate {
         x,
@@ -126,6 +113,23 @@ fn push_segment(found: &mut Vec<Candidate>, terms: usize, x: u8, z: u8) -> Resul
         z,
         stays: true,
     })?;
+    Ok(())
+}
+
+// Adds the lemmas of each term on a segment, one way.
+fn push_between(
+    found: &mut Vec<Candidate>,
+    terms: usize,
+    x: u8,
+    z: u8,
+    stays: bool,
+) -> Result<(), AllocError> {
+    for term in 0..terms {
+        let y = byte(term);
+        if y != x && y != z {
+            found.push(Candidate { x, y, z, stays })?;
+        }
+    }
     Ok(())
 }
 

@@ -74,8 +74,7 @@ impl Lessons {
         at(self.stamps.as_slice(), atom, 0) == self.round
     }
 
-    /// Learns from a false clause with literals of the present level, which isn't 0, and answers the level to which to
-    /// cut: that of the clause that was learnt, which is added by [`Lessons::add`] after the cut.
+    /// What is learnt from a false clause that has literals of the present level, which isn't 0.
     pub fn resolve(&mut self, state: &mut State, conflict: u32) -> Result<Lesson, AllocError> {
         self.settle(state)?;
         self.round = self.round.wrapping_add(1);

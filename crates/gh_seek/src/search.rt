@@ -3,11 +3,12 @@
 use crate::clauses::Origin;
 use crate::early::{Least, add_early};
 use crate::lesson::Lessons;
-use crate::rows::Plans;
+use crate::rows::{Plans, Row};
 use crate::shape::Code;
 use crate::state::{State, distinct, has};
 use crate::structure::{Made, add_false};
 use crate::table::byte;
+use gh_base::atom::Lit;
 use gh_base::ground::Ground;
 use std::alloc::{AllocError, Global};
 
@@ -210,7 +211,7 @@ fn note_versions(state: &mut State, ground: &Ground) {
 }
 
 // The latest version of which the literals of a clause speak, but for that of the definition.
-fn version_below(state: &State, lits: &[gh_base::atom::Lit], defined: usize) -> u8 {
+fn version_below(state: &State, lits: &[Lit], defined: usize) -> u8 {
     let mut version = 0;
     for lit in lits {
         let atom = state.shape.code(*lit).atom();
@@ -234,7 +235,7 @@ fn add_reflexive(state: &mut State, plans: &Plans) -> Result<(), AllocError> {
 }
 
 // Adds the instances of a row with one variable.
-fn add_row_at(state: &mut State, row: &crate::rows::Row, version: u8) -> Result<(), AllocError> {
+fn add_row_at(state: &mut State, row: &Row, version: u8) -> Result<(), AllocError> {
     for term in 0..state.shape.terms {
         let tuple = [byte(term), 0, 0, 0];
         let mut codes: Vec<Code> = Vec::new(state.alloc);

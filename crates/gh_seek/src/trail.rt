@@ -15,14 +15,24 @@ pub(crate) enum Truth {
     False,
 }
 
+/// The level at which an atom got its truth, and the clause by which it did.
+#[derive(Clone, Copy, Debug)]
+struct Fact {
+    level: u32,
+    reason: u32,
+}
+
+const NO_FACT: Fact = Fact {
+    level: 0,
+    reason: NO_CLAUSE,
+};
+
 #[derive(Debug, Drop)]
 pub(crate) struct Trail {
     // By literal.
     truths: Vec<Truth>,
     // By atom.
-    levels: Vec<u32>,
-    reasons: Vec<u32>,
-    places: Vec<u32>,
+    facts: Vec<Fact>,
     pub steps: Vec<Code>,
     // Where level 1, 2, .. begins.
     starts: Vec<u32>,
@@ -33,9 +43,7 @@ impl Trail {
     pub fn new(alloc: Global, atoms: usize) -> Result<Trail, AllocError> {
         Ok(Trail {
             truths: vec![in alloc; Truth::Open; atoms.wrapping_mul(2)]?,
-            levels: vec![in alloc; 0; atoms]?,
-            reasons: vec![in alloc; NO_CLAUSE; atoms]?,
-            places: vec![in alloc; 0; atoms]?,
+            facts: vec![in alloc; NO_FACT; atoms]?,
             steps: Vec::new(alloc),
             starts: Vec::new(alloc),
         })
@@ -64,22 +72,19 @@ impl Trail {
 
     /// The level at which an atom got its truth.
     pub fn level_of(&self, atom: usize) -> u32 {
-        at(self.levels.as_slice(), atom, 0)
+        at(self.facts.as_slice(), atom, NO_FACT).level
     }
 
     /// The clause that made an atom's literal true, or `NO_CLAUSE`.
     pub fn reason(&self, atom: usize) -> u32 {
-        at(self.reasons.as_slice(), atom, NO_CLAUSE)
+        at(self.facts.as_slice(), atom, NO_FACT).reason
     }
 
     /// Gives an atom's literal another reason.
     pub fn set_reason(&mut self, atom: usize, clause: u32) {
-        put(self.reasons.as_mut_slice(), atom, clause);
-    }
-
-    /// The place of an atom's literal in the trail.
-    pub fn place(&self, atom: usize) -> u32 {
-        at(self.places.as_slice(), atom, 0)
+        if atom < self.facts.len() {
+            self.facts[atom].reason = clause;
+        }
     }
 
     /// The literal at a place.
@@ -107,16 +112,17 @@ impl Trail {
 
     /// Makes a literal true.
     pub fn put(&mut self, code: Code, reason: u32) -> Result<(), AllocError> {
-        let atom = code.atom();
+        let fact = Fact {
+            level: small(self.starts.len()),
+            reason,
+        };
         put(self.truths.as_mut_slice(), code.place(), Truth::True);
         put(
             self.truths.as_mut_slice(),
             code.negated().place(),
             Truth::False,
         );
-        put(self.levels.as_mut_slice(), atom, small(self.starts.len()));
-        put(self.reasons.as_mut_slice(), atom, reason);
-        put(self.places.as_mut_slice(), atom, small(self.steps.len()));
+        put(self.facts.as_mut_slice(), code.atom(), fact);
         self.steps.push(code)?;
         Ok(())
     }

@@ -18,31 +18,43 @@ pub(crate) enum Visit {
     Conflict,
 }
 
+/// A node of a list: the next one, and another literal of the clause.
+#[derive(Clone, Copy, Debug)]
+struct Node {
+    next: u32,
+    other: Code,
+}
+
+// What stands at the place of a node that isn't there.
+const NOTHING: Node = Node {
+    next: NO_NODE,
+    other: Code(u32::MAX),
+};
+
 /// A clause has two nodes, twice its number and one more: they stand in the lists of its first and second literal.
 #[derive(Debug, Drop)]
 pub(crate) struct Watches {
     // By literal.
     first: Vec<u32>,
-    // By node: the next one, and another literal of the clause.
-    next: Vec<u32>,
-    others: Vec<Code>,
+    nodes: Vec<Node>,
 }
 
 impl Watches {
     pub fn new(alloc: Global, atoms: usize) -> Result<Watches, AllocError> {
         Ok(Watches {
             first: vec![in alloc; NO_NODE; atoms.wrapping_mul(2)]?,
-            next: Vec::new(alloc),
-            others: Vec::new(alloc),
+            nodes: Vec::new(alloc),
         })
     }
 
     /// Makes the two nodes of the next clause, which stand in no list.
     pub fn enter(&mut self, first: Code, second: Code) -> Result<(), AllocError> {
-        self.next.push(NO_NODE)?;
-        self.next.push(NO_NODE)?;
-        self.others.push(second)?;
-        self.others.push(first)?;
+        for other in [second, first] {
+            self.nodes.push(Node {
+                next: NO_NODE,
+                other,
+            })?;
+        }
         Ok(())
     }
 
@@ -53,22 +65,31 @@ impl Watches {
 
     /// The node after one.
     pub fn next(&self, node: u32) -> u32 {
-        at(self.next.as_slice(), node as usize, NO_NODE)
+        at(self.nodes.as_slice(), node as usize, NOTHING).next
     }
 
     /// Another literal of a node's clause.
     pub fn other(&self, node: u32) -> Code {
-        at(self.others.as_slice(), node as usize, Code(u32::MAX))
+        at(self.nodes.as_slice(), node as usize, NOTHING).other
     }
 
     pub fn set_other(&mut self, node: u32, code: Code) {
-        put(self.others.as_mut_slice(), node as usize, code);
+        if (node as usize) < self.nodes.len() {
+            self.nodes[node as usize].other = code;
+        }
+    }
+
+    // Has a node lead to another.
+    fn set_next(&mut self, node: u32, next: u32) {
+        if (node as usize) < self.nodes.len() {
+            self.nodes[node as usize].next = next;
+        }
     }
 
     /// Puts a node at the front of a literal's list.
     pub fn link(&mut self, code: Code, node: u32) {
         let next = self.first(code);
-        put(self.next.as_mut_slice(), node as usize, next);
+        self.set_next(node, next);
         put(self.first.as_mut_slice(), code.place(), node);
     }
 
@@ -78,7 +99,7 @@ impl Watches {
         if before == NO_NODE {
             put(self.first.as_mut_slice(), code.place(), next);
         } else {
-            put(self.next.as_mut_slice(), before as usize, next);
+            self.set_next(before, next);
         }
     }
 }
