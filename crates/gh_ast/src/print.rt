@@ -134,7 +134,8 @@ fn is_list_test(test: &Cond) -> bool
 // A member of a list of tests.
 #[cycle(condition)]
 fn put_member(out: &mut Text, test: &Cond) -> Result<(), AllocError>
-    ensures { OnOk result (Adds out.old out.new (bracketed (is_list (test_of test.now)) (test_shown (test_of test.now)))) }
+    ensures { OnOk result (Adds out.old out.new
+        (bracketed (is_list (test_of test.now)) (test_shown (test_of test.now)))) }
 {
     if !is_list_test(test) {
         return put_test(out, test);
@@ -239,7 +240,8 @@ fn put_segment(out: &mut Text, from: &Operand, to: &Operand) -> Result<(), Alloc
 
 // `if (` and a test and `)`
 fn put_condition(out: &mut Text, key: Keyword, test: &Cond) -> Result<(), AllocError>
-    ensures { OnOk result (Adds out.old out.new (reserved key ∷ mark Sign.ParenOpen ∷ test_shown (test_of test.now) ++ mark Sign.ParenClose ∷ [])) }
+    ensures { OnOk result (Adds out.old out.new
+        (reserved key ∷ mark Sign.ParenOpen ∷ test_shown (test_of test.now) ++ mark Sign.ParenClose ∷ [])) }
 {
     put_key(out, key)?;
     put_sign(out, Sign::ParenOpen)?;
@@ -251,7 +253,8 @@ fn put_condition(out: &mut Text, key: Keyword, test: &Cond) -> Result<(), AllocE
 // An assertion in braces.
 #[cycle(formula)]
 fn put_part(out: &mut Text, part: &Assertion) -> Result<(), AllocError>
-    ensures { OnOk result (Adds out.old out.new (mark Sign.BraceOpen ∷ formula_shown (formula_of part.now) ++ mark Sign.BraceClose ∷ [])) }
+    ensures { OnOk result (Adds out.old out.new
+        (mark Sign.BraceOpen ∷ formula_shown (formula_of part.now) ++ mark Sign.BraceClose ∷ [])) }
 {
     put_sign(out, Sign::BraceOpen)?;
     put_assertion(out, part)?;
@@ -262,7 +265,8 @@ fn put_part(out: &mut Text, part: &Assertion) -> Result<(), AllocError>
 // A member of a list of assertions.
 #[cycle(formula)]
 fn put_item(out: &mut Text, item: &Assertion) -> Result<(), AllocError>
-    ensures { OnOk result (Adds out.old out.new (bracketed (is_star (formula_of item.now)) (formula_shown (formula_of item.now)))) }
+    ensures { OnOk result (Adds out.old out.new
+        (bracketed (is_star (formula_of item.now)) (formula_shown (formula_of item.now)))) }
 {
     if !is_star_formula(item) {
         return put_assertion(out, item);
@@ -321,7 +325,8 @@ fn put_statements(out: &mut Text, statements: &[Stmt]) -> Result<(), AllocError>
 
 #[cycle(statement)]
 fn put_block(out: &mut Text, block: &Block) -> Result<(), AllocError>
-    ensures { OnOk result (Adds out.old out.new (mark Sign.BraceOpen ∷ statements_shown (part_of block.now).statements ++ mark Sign.BraceClose ∷ [])) }
+    ensures { OnOk result (Adds out.old out.new
+        (mark Sign.BraceOpen ∷ statements_shown (part_of block.now).statements ++ mark Sign.BraceClose ∷ [])) }
 {
     put_sign(out, Sign::BraceOpen)?;
     put_statements(out, block.statements.as_slice())?;
@@ -420,7 +425,8 @@ fn put_call(
 }
 
 fn put_return(out: &mut Text, values: &[Expr]) -> Result<(), AllocError>
-    ensures { OnOk result (Adds out.old out.new (reserved Keyword.Return ∷ joined expr_shown Sign.Comma values.now ++ mark Sign.Semicolon ∷ [])) }
+    ensures { OnOk result (Adds out.old out.new
+        (reserved Keyword.Return ∷ joined expr_shown Sign.Comma values.now ++ mark Sign.Semicolon ∷ [])) }
 {
     put_key(out, Keyword::Return)?;
     put_exprs(out, values)?;
@@ -553,7 +559,8 @@ fn put_alternatives(out: &mut Text, alternatives: &[Assertion]) -> Result<(), Al
 }
 
 fn put_requires(out: &mut Text, condition: &Assertion) -> Result<(), AllocError>
-    ensures { OnOk result (Adds out.old out.new (reserved Keyword.Requires ∷ formula_shown (formula_of condition.now))) }
+    ensures { OnOk result (Adds out.old out.new
+        (reserved Keyword.Requires ∷ formula_shown (formula_of condition.now))) }
 {
     put_key(out, Keyword::Requires)?;
     put_assertion(out, condition)?;
@@ -561,7 +568,8 @@ fn put_requires(out: &mut Text, condition: &Assertion) -> Result<(), AllocError>
 }
 
 fn put_ensures(out: &mut Text, alternatives: &[Assertion]) -> Result<(), AllocError>
-    ensures { OnOk result (Adds out.old out.new (reserved Keyword.Ensures ∷ alternatives_shown (map formula_of alternatives.now))) }
+    ensures { OnOk result (Adds out.old out.new
+        (reserved Keyword.Ensures ∷ alternatives_shown (map formula_of alternatives.now))) }
 {
     put_key(out, Keyword::Ensures)?;
     put_alternatives(out, alternatives)?;
@@ -570,7 +578,9 @@ fn put_ensures(out: &mut Text, alternatives: &[Assertion]) -> Result<(), AllocEr
 
 // The name and the parameters.
 fn put_head(out: &mut Text, name: &Occ, parameters: &[Occ]) -> Result<(), AllocError>
-    ensures { OnOk result (Adds out.old out.new (reserved Keyword.Procedure ∷ word name.now.name ∷ mark Sign.ParenOpen ∷ joined parameter_shown Sign.Comma parameters.now ++ mark Sign.ParenClose ∷ [])) }
+    ensures { OnOk result (Adds out.old out.new
+        (reserved Keyword.Procedure ∷ word name.now.name ∷ mark Sign.ParenOpen ∷
+        joined parameter_shown Sign.Comma parameters.now ++ mark Sign.ParenClose ∷ [])) }
 {
     put_key(out, Keyword::Procedure)?;
     put_name(out, name)?;

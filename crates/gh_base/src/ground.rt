@@ -47,7 +47,9 @@ impl Ground {
     pub fn define(&mut self) -> u32
         requires { self.old.sizes.defs < 2 ^ 32 - 1 }
         ensures number { result ≡ self.old.sizes.defs }
-        ensures counted { self.new ≡ record self.old { sizes = record self.old.sizes { defs = self.old.sizes.defs + 1 } } }
+        ensures counted { self.new ≡ record self.old {
+          sizes = record self.old.sizes { defs = self.old.sizes.defs + 1 };
+        } }
     {
         let number = self.sizes.defs;
         self.sizes.defs = number + 1;

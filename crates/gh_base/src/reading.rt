@@ -47,13 +47,15 @@ pub fn read_input<I: Inputs>(
     limit: usize,
 ) -> Result<Text, InputError>
     ensures ok { IfOk result (λ text. (length text ≤ limit) × IsWhole (told (I.table inputs.old) name.now) text) }
-    ensures refused { MatchResult result (λ _. ⊤) (λ e. IsCaused (told (I.table inputs.old) name.now) limit (I.faults inputs.old) (I.faults inputs.new) e) }
+    ensures refused { MatchResult result (λ _. ⊤) (λ e.
+        IsCaused (told (I.table inputs.old) name.now) limit (I.faults inputs.old) (I.faults inputs.new) e) }
     ensures calm { IsCalm (I.faults inputs.old) (I.faults inputs.new) result }
     ensures begun { HasBegun result (I.begun inputs.new) }
     ensures reads { ReadsTo (told (I.table inputs.old) name.now) limit result (I.left inputs.new) }
     ensures table { I.table inputs.new ≡ I.table inputs.old }
     ensures later { I.faults inputs.old ≤ I.faults inputs.new }
-    ensures few { MakesAtMost (calls_for (told (I.table inputs.old) name.now) limit) (I.calls inputs.old) (I.calls inputs.new) }
+    ensures few { MakesAtMost (calls_for (told (I.table inputs.old) name.now) limit)
+        (I.calls inputs.old) (I.calls inputs.new) }
     ensures named { AddsName (I.names inputs.old) (I.names inputs.new) name.now }
 {
     if !inputs.begin(name)? {

@@ -28,7 +28,8 @@ impl SteadyInputs {
     /// One input more, of a name that isn't there.
     pub fn add(&mut self, alloc: Global, name: &str, bytes: &[u8]) -> Result<(), AllocError>
         requires { table_in self.old.files name.now ≡ None }
-        ensures added { IfOk result (λ _. HasMore (table_in self.old.files) (table_in self.new.files) name.now bytes.now) }
+        ensures added { IfOk result (λ _.
+            HasMore (table_in self.old.files) (table_in self.new.files) name.now bytes.now) }
         ensures left { left_in self.new.files ≡ left_in self.old.files }
         ensures begun { self.new.files.begun ≡ self.old.files.begun }
         ensures refused { OnErr result (self.new.files.list.items ≡ self.old.files.list.items) }

@@ -86,7 +86,8 @@ impl Structure {
         requires few { length classes.now ≤ 255 }
         requires classes { AreClasses classes.now }
         requires versions { 1 ≤ versions }
-        ensures sizes { IfOk result (λ s. s.sizes ≡ record { terms = length classes.now; versions = versions; defs = defs }) }
+        ensures sizes { IfOk result (λ s. s.sizes
+            ≡ record { terms = length classes.now; versions = versions; defs = defs }) }
         ensures classes { IfOk result (λ s. s.classes ≡ classes.now) }
         ensures none { IfOk result (λ s. All (λ truth. truth ≡ false) s.table) }
     {

@@ -11,7 +11,8 @@ pub fn write_all<S: Sink>(out: &mut S, text: &[u8]) -> Result<(), Failed>
     ensures ok { OnOk result (Appends (S.written out.old) (S.written out.new) text.now) }
     ensures few { OnOk result (MakesAtMost (length text.now) (S.calls out.old) (S.calls out.new)) }
     ensures failed { OnErr result (AppendsFront (S.written out.old) (S.written out.new) text.now) }
-    ensures turns { OnErr result (StopsAtFailure (S.written out.old) (S.written out.new) (S.calls out.old) (S.calls out.new) (S.failed out.new) text.now) }
+    ensures turns { OnErr result (StopsAtFailure (S.written out.old) (S.written out.new)
+        (S.calls out.old) (S.calls out.new) (S.failed out.new) text.now) }
     ensures cause { HasCause (S.faults out.old) (S.faults out.new) result }
 {
     let mut done = 0;

@@ -75,7 +75,8 @@ fn modelled(
     over: &Symbolic<'_>,
 ) -> Result<Option<Trace>, AllocError>
     requires one { IsOne (program_of typed.now) condition.now }
-    requires told { (c : plain.Condition) → StandsFor (program_of typed.now) condition.now c → IsSymbolic (program_of typed.now) c over.now }
+    requires told { (c : plain.Condition) → StandsFor (program_of typed.now) condition.now c →
+        IsSymbolic (program_of typed.now) c over.now }
 {
     let clauses = ground(alloc, over)?;
     match solve(alloc, &clauses)? {

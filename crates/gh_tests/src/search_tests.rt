@@ -181,11 +181,13 @@ fn turn<T: Theory>(
     requires conflict { IfSome answer (λ k. IsConflict search.old k) }
     requires settled { IfNone answer (IsSettled search.old) }
     requires consistent { IfNone answer (HasNoConflict (T.valid search.old.sizes) search.old.trail) }
-    ensures less { IfOk result (λ o. IfSome o (λ _. left search.new.sizes search.new.trail < left search.old.sizes search.old.trail)) }
+    ensures less { IfOk result (λ o. IfSome o (λ _.
+        left search.new.sizes search.new.trail < left search.old.sizes search.old.trail)) }
     ensures sound { IfOk result (λ o. IfSome o (λ _. IsSound search.new)) }
     ensures conflict { IfOk result (λ o. IfSome o (λ next. IfSome next (λ k. IsConflict search.new k))) }
     ensures settled { IfOk result (λ o. IfSome o (λ next. IfNone next (IsSettled search.new))) }
-    ensures consistent { IfOk result (λ o. IfSome o (λ next. IfNone next (HasNoConflict (T.valid search.new.sizes) search.new.trail))) }
+    ensures consistent { IfOk result (λ o. IfSome o (λ next.
+        IfNone next (HasNoConflict (T.valid search.new.sizes) search.new.trail))) }
 {
     match answer {
         None => {

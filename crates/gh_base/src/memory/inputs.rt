@@ -28,7 +28,8 @@ impl MemoryInputs {
     /// One input more, of a name that isn't there.
     pub fn add(&mut self, alloc: Global, name: &str, bytes: &[u8]) -> Result<(), AllocError>
         requires { table_in self.old.files name.now ≡ None }
-        ensures added { IfOk result (λ _. HasMore (table_in self.old.files) (table_in self.new.files) name.now bytes.now) }
+        ensures added { IfOk result (λ _.
+            HasMore (table_in self.old.files) (table_in self.new.files) name.now bytes.now) }
         ensures left { left_in self.new.files ≡ left_in self.old.files }
         ensures begun { self.new.files.begun ≡ self.old.files.begun }
         ensures piece { self.new.piece ≡ self.old.piece }
@@ -86,7 +87,8 @@ impl Inputs for MemoryInputs {
         ensures past { IfOk result (λ n. drop n into.new ≡ drop n into.old) }
         ensures within { ReadsWithin result into.new }
         ensures bytes { ReadConsumes (Some (left_in self.old.files)) (Some (left_in self.new.files)) result into.new }
-        ensures nothing { is_some self.old.files.begun ≡ false → GivesNothing self.old.calls.faults self.new.calls.faults result }
+        ensures nothing { is_some self.old.files.begun ≡ false →
+            GivesNothing self.old.calls.faults self.new.calls.faults result }
         ensures begun { is_some self.new.files.begun ≡ is_some self.old.files.begun }
         ensures table { Some (table_in self.new.files) ≡ Some (table_in self.old.files) }
         ensures cause { HasCause self.old.calls.faults self.new.calls.faults result }
