@@ -1,7 +1,7 @@
 //! Instances of axiom rows that the trail makes unit or false, over least terms of classes.
 
 use crate::clauses::Origin;
-use crate::rows::{Plan, Plans, Row};
+use crate::rows::{Pattern, Plan, Plans, Row};
 use crate::shape::{Code, Kind, Parts};
 use crate::state::{State, distinct, has};
 use crate::table::{at, bit, byte, put};
@@ -267,36 +267,32 @@ fn add_planned(
     Ok(None)
 }
 
-// The literals of an instance, without repeats; none where it is true or has two open literals.
-fn instance_codes(
-    state: &State,
-    row: &Row,
-    version: u8,
-    tuple: &[u8; 4],
-) -> Result<Option<Vec<Code>>, AllocError> {
-    let mut codes: Vec<Code> = Vec::new(state.alloc);
-    let mut has_open = false;
+// The literal of a pattern over a tuple of terms.
+fn code_of(state: &State, pattern: &Pattern, version: u8, tuple: &[u8; 4]) -> Code {
+    let parts = pattern.parts(version, tuple);
+    Code::new(state.shape.number(parts), pattern.positive)
+}
+
+// Whether an instance is unit or false: no literal is true, and one at most is open.
+fn is_due(state: &State, row: &Row, version: u8, tuple: &[u8; 4]) -> bool {
+    let mut open = None;
     for pattern in row.patterns.as_slice() {
-        let parts = pattern.parts(version, tuple);
-        let code = Code::new(state.shape.number(parts), pattern.positive);
-        let reflexive = parts.kind == Kind::Eq && parts.terms[0] == parts.terms[1];
-        if state.trail.is_true(code) || reflexive && pattern.positive {
-            return Ok(None);
+        let [x, y, _] = pattern.parts(version, tuple).terms;
+        let code = code_of(state, pattern, version, tuple);
+        let reflexive = pattern.kind == Kind::Eq && pattern.positive && x == y;
+        if reflexive || state.trail.is_true(code) {
+            return false;
         }
-        if has(codes.as_slice(), code.negated()) {
-            return Ok(None);
-        }
-        if has(codes.as_slice(), code) {
+        if !state.trail.is_open(code) {
             continue;
         }
-        let is_open = state.trail.is_open(code);
-        if is_open && has_open {
-            return Ok(None);
+        match open {
+            None => open = Some(code.0),
+            Some(other) if other == code.0 => {}
+            Some(_) => return false,
         }
-        has_open = has_open || is_open;
-        codes.push(code)?;
     }
-    Ok(Some(codes))
+    true
 }
 
 // Adds an instance, if it is unit or false. The number of a false one is answered.
@@ -306,9 +302,16 @@ fn add_instance(
     version: u8,
     tuple: &[u8; 4],
 ) -> Result<Option<u32>, AllocError> {
-    let Some(codes) = instance_codes(state, row, version, tuple)? else {
+    if !is_due(state, row, version, tuple) {
         return Ok(None);
-    };
+    }
+    let mut codes: Vec<Code> = Vec::new(state.alloc);
+    for pattern in row.patterns.as_slice() {
+        let code = code_of(state, pattern, version, tuple);
+        if !has(codes.as_slice(), code) {
+            codes.push(code)?;
+        }
+    }
     let name = row.name(version, tuple);
     let added = state.add(codes.as_slice(), Origin::Instance(name))?;
     Ok(if added.is_false {
