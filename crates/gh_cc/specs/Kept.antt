@@ -9,6 +9,7 @@ use Rattle.gh_base.specs.Meaning.{Interpretation, IsCongruence, atom_truth, lit_
 use Rattle.gh_base.specs.Atoms.{IsInRange, AreInRange, number_of, count_of}
 use Rattle.gh_cc.specs.declared.partition.Link.{Link}
 use Rattle.gh_cc.specs.declared.signs.Entry.{Entry}
+use Rattle.gh_cc.specs.declared.moving.Standing.{Standing}
 use Rattle.gh_cc.specs.declared.clash.Clash.{Clash}
 use Rattle.gh_cc.specs.declared.clash.Clash.TheVariants.{Unequal, Opposite}
 use Rattle.gh_cc.specs.declared.classes.Stage.{Stage}
@@ -80,19 +81,19 @@ abbrev pub IsFiledAt : Sizes → List Lit → List Link → List Entry → ℕ �
 IsFiledAt s lits links entries place = (l : Lit) → slice_get lits place ≡ Some l → IsFiled s lits links entries l
 
 -- .. with each literal that mentions a term
-abbrev pub AreFiledOf : Sizes → List Lit → List Link → List Entry → Term → Type 0
-AreFiledOf s lits links entries t =
-    (i : ℕ) (l : Lit) → slice_get lits i ≡ Some l → Mentions l.atom t → IsFiled s lits links entries l
+abbrev pub AreFiledOf : Standing → List Link → List Entry → Term → Type 0
+AreFiledOf a links entries t =
+    (i : ℕ) (l : Lit) → slice_get a.lits.now i ≡ Some l → Mentions l.atom t → IsFiled a.sizes a.lits.now links entries l
 
 -- .. with each that mentions a term which the last link moved
-abbrev pub AreFiledMoved : Sizes → List Lit → List Link → List Entry → Type 0
-AreFiledMoved s lits links entries = (i : ℕ) (l : Lit) (t : Term) → slice_get lits i ≡ Some l → Mentions l.atom t → t.0 < s.terms
-    → IsMoved links t → IsFiled s lits links entries l
+abbrev pub AreFiledMoved : Standing → List Link → List Entry → Type 0
+AreFiledMoved a links entries = (i : ℕ) (l : Lit) (t : Term) → slice_get a.lits.now i ≡ Some l → Mentions l.atom t → t.0 < a.sizes.terms
+    → IsMoved links t → IsFiled a.sizes a.lits.now links entries l
 
 -- where there was no clash and they agreed with each literal before a place, they agree now with each literal
-abbrev pub Files : Bool → Sizes → List Lit → ℕ → Merged → Merged → Filed → Filed → Type 0
-Files clashed s lits place old new old_filed new_filed = clashed ≡ false
-    → AllFiled s (take place lits) old.links old_filed.entries → AllFiled s lits new.links new_filed.entries
+abbrev pub Files : Bool → Standing → ℕ → Merged → Merged → Filed → Filed → Type 0
+Files clashed a place old new old_filed new_filed = clashed ≡ false
+    → AllFiled a.sizes (take place a.lits.now) old.links old_filed.entries → AllFiled a.sizes a.lits.now new.links new_filed.entries
 
 -- the literals of two places have the same sign, or opposite ones
 abbrev pub HaveOneSign : List Lit → ℕ → ℕ → Type 0

@@ -7,7 +7,7 @@ ghost use Rattle.gh_cc.specs.Asserted.{IsFree, AreEqual, HasTruth, GivesTruth, H
 
 use crate::clash::Clash;
 use crate::filing::{key, take_in};
-use crate::moving::mention;
+use crate::moving::{Standing, mention};
 use crate::partition::Partition;
 use crate::refuting::refutation;
 use crate::signs::Signs;
@@ -139,14 +139,18 @@ impl Classes {
         });
         self.lits.push_reserved(lit);
         mention(self.sizes, &mut self.uses, lit.atom);
+        let standing = Standing {
+            sizes: self.sizes,
+            lits: self.lits.as_slice(),
+            uses: &self.uses,
+        };
+        let clashed = self.clash.is_some();
         let found = take_in(
-            self.sizes,
-            self.lits.as_slice(),
+            &standing,
             &mut self.partition,
             &mut self.signs,
-            &self.uses,
             place,
-            self.clash.is_some(),
+            clashed,
         );
         self.clash = first_clash(self.clash, place, found);
     }

@@ -8,10 +8,9 @@ ghost use Rattle.gh_cc.specs.Uses.{all_mentions};
 ghost use Rattle.gh_cc.specs.Kept.{AreTied, Grows, LinksMore, IsClash, normal, reps, HaveOneSign, HaveTwoSigns, IsFiledAt, Files};
 
 use crate::clash::Clash;
-use crate::moving::{merge_lighter, refile_moved};
+use crate::moving::{Standing, merge_lighter, refile_moved};
 use crate::partition::Partition;
 use crate::signs::Signs;
-use crate::uses::Uses;
 use gh_base::atom::{Atom, Lit, Term};
 use gh_base::sizes::Sizes;
 
@@ -103,42 +102,40 @@ pub(crate) fn equal_terms(lit: Lit) -> Option<(Term, Term)>
 
 // Takes in the last literal, and finds the clash that it brings. Once there is a clash, only classes are kept.
 pub(crate) fn take_in(
-    sizes: Sizes,
-    lits: &[Lit],
+    standing: &Standing,
     partition: &mut Partition,
     signs: &mut Signs,
-    uses: &Uses,
     place: u32,
     clashed: bool,
 ) -> Option<Clash>
-    requires tied { AreTied sizes (take place lits.now) partition.old signs.old }
-    requires last { length lits.now ≡ place + 1 }
-    requires in_range { AreInRange sizes lits.now }
-    requires uses { uses.now.list ≡ all_mentions lits.now }
-    requires mentioned { uses.now.terms ≡ sizes.terms }
-    ensures tied { AreTied sizes lits.now partition.new signs.new }
+    requires tied { AreTied standing.now.sizes (take place standing.now.lits.now) partition.old signs.old }
+    requires last { length standing.now.lits.now ≡ place + 1 }
+    requires in_range { AreInRange standing.now.sizes standing.now.lits.now }
+    requires uses { standing.now.uses.now.list ≡ all_mentions standing.now.lits.now }
+    requires mentioned { standing.now.uses.now.terms ≡ standing.now.sizes.terms }
+    ensures tied { AreTied standing.now.sizes standing.now.lits.now partition.new signs.new }
     ensures links { LinksMore partition.old partition.new }
     ensures grows { Grows signs.old signs.new }
-    ensures filed { IfNone result (Files clashed sizes lits.now place partition.old partition.new signs.old signs.new) }
-    ensures clash { IfSome result (λ c. IsClash (reps partition.new.links) lits.now c) }
+    ensures filed { IfNone result (Files clashed standing.now place partition.old partition.new signs.old signs.new) }
+    ensures clash { IfSome result (λ c. IsClash (reps partition.new.links) standing.now.lits.now c) }
 {
-    let lit = lits[place as usize];
+    let lit = standing.lits[place as usize];
     match equal_terms(lit) {
         Some((a, b)) => {
             if partition.rep(a).0 == partition.rep(b).0 {
                 return None;
             }
-            merge_lighter(sizes, partition, uses, a, b);
+            merge_lighter(standing.sizes, partition, standing.uses, a, b);
             if clashed {
                 return None;
             }
-            refile_moved(sizes, lits, partition, signs, uses)
+            refile_moved(standing, partition, signs)
         }
         None => {
             if clashed {
                 return None;
             }
-            file(sizes, lits, partition, signs, place)
+            file(standing.sizes, standing.lits, partition, signs, place)
         }
     }
 }

@@ -14,6 +14,14 @@ use crate::uses::Uses;
 use gh_base::atom::{Atom, Lit, Term};
 use gh_base::sizes::Sizes;
 
+// The literals that stand asserted, and their mentions of terms.
+#[derive(Drop)]
+pub(crate) struct Standing<'a> {
+    pub sizes: Sizes,
+    pub lits: &'a [Lit],
+    pub uses: &'a Uses,
+}
+
 // The terms of an atom.
 fn terms_of(atom: Atom) -> [Option<Term>; 3]
     ensures { result ≡ terms_in atom }
@@ -78,52 +86,48 @@ pub(crate) fn merge_lighter(sizes: Sizes, partition: &mut Partition, uses: &Uses
 
 // Files each literal that mentions a term, up to the first clash.
 fn refile_term(
-    sizes: Sizes,
-    lits: &[Lit],
+    standing: &Standing,
     partition: &Partition,
     signs: &mut Signs,
-    uses: &Uses,
     term: Term,
 ) -> Option<Clash>
-    requires tied { AreTied sizes lits.now partition.now signs.old }
-    requires uses { uses.now.list ≡ all_mentions lits.now }
-    requires term { term.0 < uses.now.terms }
-    ensures tied { AreTied sizes lits.now partition.now signs.new }
+    requires tied { AreTied standing.now.sizes standing.now.lits.now partition.now signs.old }
+    requires uses { standing.now.uses.now.list ≡ all_mentions standing.now.lits.now }
+    requires term { term.0 < standing.now.uses.now.terms }
+    ensures tied { AreTied standing.now.sizes standing.now.lits.now partition.now signs.new }
     ensures grows { Grows signs.old signs.new }
-    ensures filed { IfNone result (AreFiledOf sizes lits.now partition.now.links signs.new.entries term) }
-    ensures clash { IfSome result (λ c. IsClash (reps partition.now.links) lits.now c) }
+    ensures filed { IfNone result (AreFiledOf standing.now partition.now.links signs.new.entries term) }
+    ensures clash { IfSome result (λ c. IsClash (reps partition.now.links) standing.now.lits.now c) }
 {
-    let mut next = uses.last(term);
+    let mut next = standing.uses.last(term);
     while next > 0 {
         let place = next - 1;
-        if let Some(clash) = file(sizes, lits, partition, signs, place / 3) {
+        if let Some(clash) = file(standing.sizes, standing.lits, partition, signs, place / 3) {
             return Some(clash);
         }
-        next = uses.before(place, term);
+        next = standing.uses.before(place, term);
     }
     None
 }
 
 // Files each literal that mentions a term which the last merge moved, up to the first clash.
 pub(crate) fn refile_moved(
-    sizes: Sizes,
-    lits: &[Lit],
+    standing: &Standing,
     partition: &Partition,
     signs: &mut Signs,
-    uses: &Uses,
 ) -> Option<Clash>
-    requires tied { AreTied sizes lits.now partition.now signs.old }
-    requires uses { uses.now.list ≡ all_mentions lits.now }
-    requires terms { uses.now.terms ≡ sizes.terms }
+    requires tied { AreTied standing.now.sizes standing.now.lits.now partition.now signs.old }
+    requires uses { standing.now.uses.now.list ≡ all_mentions standing.now.lits.now }
+    requires terms { standing.now.uses.now.terms ≡ standing.now.sizes.terms }
     requires merged { 0 < length partition.now.links }
-    ensures tied { AreTied sizes lits.now partition.now signs.new }
+    ensures tied { AreTied standing.now.sizes standing.now.lits.now partition.now signs.new }
     ensures grows { Grows signs.old signs.new }
-    ensures filed { IfNone result (AreFiledMoved sizes lits.now partition.now.links signs.new.entries) }
-    ensures clash { IfSome result (λ c. IsClash (reps partition.now.links) lits.now c) }
+    ensures filed { IfNone result (AreFiledMoved standing.now partition.now.links signs.new.entries) }
+    ensures clash { IfSome result (λ c. IsClash (reps partition.now.links) standing.now.lits.now c) }
 {
-    for t in 0..sizes.terms {
+    for t in 0..standing.sizes.terms {
         if partition.is_moved(Term(t)) {
-            if let Some(clash) = refile_term(sizes, lits, partition, signs, uses, Term(t)) {
+            if let Some(clash) = refile_term(standing, partition, signs, Term(t)) {
                 return Some(clash);
             }
         }

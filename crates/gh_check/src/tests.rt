@@ -195,26 +195,12 @@ const REFUTED: &[Plain] = &[
     Plain::Ground(24),
 ];
 
-const VALID: &[Plain] = &[
-    Plain::Ground(0),
-    Plain::Ground(15),
-    Plain::Ground(16),
-    Plain::Ground(19),
-    Plain::Ground(23),
-    Plain::Ground(24),
-    END,
-];
-
-// The valid section with one change each.
+// A valid section is these and the end. Here it has one change each.
 #[test]
 fn changed_sections(rt: HostRuntime) -> Result<(), Fail> {
     let alloc = rt.alloc();
     let ground = ground_of(&rt, alloc)?;
     let rows = [
-        Row {
-            lines: VALID,
-            fault: None,
-        },
         Row {
             lines: &[
                 Plain::Ground(0),
@@ -227,14 +213,7 @@ fn changed_sections(rt: HostRuntime) -> Result<(), Fail> {
             fault: at(4, 8),
         },
         Row {
-            lines: &[
-                Plain::Ground(0),
-                Plain::Ground(15),
-                Plain::Ground(16),
-                Plain::Ground(19),
-                Plain::Ground(23),
-                Plain::Ground(24),
-            ],
+            lines: REFUTED,
             fault: at(5, 9),
         },
         Row {
@@ -349,12 +328,16 @@ fn other_sections(rt: HostRuntime) -> Result<(), Fail> {
     Ok(())
 }
 
-// The valid section with hints, which the last line needs in their order.
+// The valid section without hints, and with hints, which the last line needs in their order.
 #[test]
 fn hinted_sections(rt: HostRuntime) -> Result<(), Fail> {
     let alloc = rt.alloc();
     let ground = ground_of(&rt, alloc)?;
     let rows = [
+        Row {
+            lines: &[END],
+            fault: None,
+        },
         Row {
             lines: &[Plain::Hinted(NONE, &[1, 2, 3, 4, 5, 6])],
             fault: None,

@@ -84,36 +84,43 @@ fn footprints_at(
     Ok(formulas)
 }
 
+// What the names of an assertion are bound to, in which version of the heap, and how many terms there are.
+#[derive(Clone, Copy)]
+struct Interpretation<'t> {
+    binding: &'t Binding,
+    version: u8,
+    terms: u8,
+}
+
 // The term is in at most one of two footprints.
 fn apart_at(
     alloc: Global,
+    under: Interpretation<'_>,
     first: &Assertion,
     second: &Assertion,
-    binding: &Binding,
-    version: u8,
     z: Term,
 ) -> Result<Formula, AllocError>
-    ensures { IfOk result (λ f. claim_of f ≡ apart_here_of binding.now version first.now second.now z) }
+    ensures { IfOk result (λ f.
+        claim_of f ≡ apart_here_of under.entry.binding.now under.entry.version first.now second.now z) }
 {
-    let one = footprint_at(alloc, first, binding, version, z)?;
-    let other = footprint_at(alloc, second, binding, version, z)?;
+    let one = footprint_at(alloc, first, under.binding, under.version, z)?;
+    let other = footprint_at(alloc, second, under.binding, under.version, z)?;
     Ok(one.and(alloc, other)?.negated(alloc)?)
 }
 
 // No term is in both footprints.
 fn push_apart(
     alloc: Global,
+    under: Interpretation<'_>,
     first: &Assertion,
     second: &Assertion,
-    binding: &Binding,
-    version: u8,
-    terms: u8,
     formulas: &mut Vec<Formula>,
 ) -> Result<(), AllocError>
-    ensures { OnOk result (Adds formulas.old formulas.new (apart_of binding.now version terms first.now second.now)) }
+    ensures { OnOk result (Adds formulas.old formulas.new
+        (apart_of under.entry.binding.now under.entry.version under.entry.terms first.now second.now)) }
 {
-    for z in 0..terms {
-        formulas.push(apart_at(alloc, first, second, binding, version, Term(z))?)?;
+    for z in 0..under.terms {
+        formulas.push(apart_at(alloc, under, first, second, Term(z))?)?;
     }
     Ok(())
 }
@@ -121,17 +128,16 @@ fn push_apart(
 // No term is in the footprint of an assertion and in that of one of the others.
 fn push_apart_from(
     alloc: Global,
+    under: Interpretation<'_>,
     first: &Assertion,
     others: &[Assertion],
-    binding: &Binding,
-    version: u8,
-    terms: u8,
     formulas: &mut Vec<Formula>,
 ) -> Result<(), AllocError>
-    ensures { OnOk result (Adds formulas.old formulas.new (apart_from binding.now version terms first.now others.now)) }
+    ensures { OnOk result (Adds formulas.old formulas.new
+        (apart_from under.entry.binding.now under.entry.version under.entry.terms first.now others.now)) }
 {
     for second in others {
-        push_apart(alloc, first, second, binding, version, terms, formulas)?;
+        push_apart(alloc, under, first, second, formulas)?;
     }
     Ok(())
 }
@@ -139,17 +145,16 @@ fn push_apart_from(
 // No term is in the footprints of two members.
 fn push_all_apart(
     alloc: Global,
+    under: Interpretation<'_>,
     members: &[Assertion],
-    binding: &Binding,
-    version: u8,
-    terms: u8,
     formulas: &mut Vec<Formula>,
 ) -> Result<(), AllocError>
-    ensures { OnOk result (Adds formulas.old formulas.new (all_apart_of binding.now version terms members.now)) }
+    ensures { OnOk result (Adds formulas.old formulas.new
+        (all_apart_of under.entry.binding.now under.entry.version under.entry.terms members.now)) }
 {
     for (i, first) in members.iter().enumerate() {
         let others = &members[i + 1..];
-        push_apart_from(alloc, first, others, binding, version, terms, formulas)?;
+        push_apart_from(alloc, under, first, others, formulas)?;
     }
     Ok(())
 }
@@ -208,14 +213,12 @@ pub fn structure_of(
         Assertion::Star(members) => {
             let members = members.as_slice();
             let mut formulas = structures_of(alloc, members, binding, version, terms)?;
-            push_all_apart(
-                alloc,
-                members,
+            let under = Interpretation {
                 binding,
                 version,
-                terms.count(),
-                &mut formulas,
-            )?;
+                terms: terms.count(),
+            };
+            push_all_apart(alloc, under, members, &mut formulas)?;
             Ok(Formula::And(formulas))
         }
         Assertion::Cases { test, yes, no } => {

@@ -1,5 +1,5 @@
 -- What a search for the first one without a property comes to.
-use Rattle.std.specs.Prelude.{ℕ, ◌≡◌, ◌<◌, ◌-◌, List, ◌++◌, map, take, All, Option, Some, None, option_map}
+use Rattle.std.specs.Prelude.{ℕ, ◌≡◌, ◌<◌, ◌≤◌, ◌-◌, List, ◌++◌, map, take, All, Option, Some, None, option_map}
 use Rattle.gh_base.specs.declared.atom.Term.{Term}
 use Rattle.gh_base.specs.Meaning.{Interpretation, IsClauseTrue}
 use Rattle.gh_base.specs.Structures.{Tables, interpretation_of}
@@ -22,6 +22,12 @@ pub record IsSearched {X : Type 0} (P : X → Type 0) (all : List X) (found : Op
 -- the variables of a literal are among the first ones
 abbrev pub IsAmong : ℕ → Pattern → Type 0
 IsAmong first p = All (λ x. x < first) (take (places_of p.shape) p.places)
+
+-- a version of a structure, and the first terms of a tuple, which are its terms
+pub record IsBegun (s : Tables) (version : ℕ) (tuple : List Term) (first : ℕ) : Type 0 where
+  pub version_there : version < s.sizes.versions
+  pub few : first ≤ 4
+  pub below : All (λ t. t.0 < s.sizes.terms) (take first tuple)
 
 -- the clause of a row is true at a tuple
 abbrev pub IsRowTrue : Interpretation → ℕ → List Pattern → List Term → Type 0

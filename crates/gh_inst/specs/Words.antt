@@ -7,6 +7,7 @@ use Rattle.gh_base.specs.Meaning.{Interpretation, IsLitTrue, under, lit_truth}
 use Rattle.gh_base.specs.Structures.{Tables, interpretation_of}
 use Rattle.gh_inst.specs.declared.schema.Shape.TheVariants.{Btwn as Between}
 use Rattle.gh_inst.specs.declared.schema.Pattern.{Pattern}
+use Rattle.gh_inst.specs.declared.words.Worded.{Worded}
 use Rattle.gh_inst.specs.Schemas.{term, places_of, lit_over}
 use Rattle.gh_inst.specs.Search.{IsAmong, IsRowTrue}
 
@@ -31,6 +32,14 @@ pub record AreWords (m : Interpretation) (version n : ℕ) (words : List ℕ) : 
 -- the same of a structure
 abbrev pub AreWordsOf : Tables → ℕ → List ℕ → Type 0
 AreWordsOf s version words = AreWords (interpretation_of s) version s.sizes.terms words
+
+-- a version of a structure with at most 32 terms, and its words
+pub record IsWorded (w : Worded) : Type 0 where
+  pub version_there : w.version < w.structure.now.sizes.versions
+  pub few : w.structure.now.sizes.terms ≤ 32
+  pub some : 0 < w.structure.now.sizes.terms
+  pub words_are : AreWordsOf w.structure.now w.version w.words.now
+  pub full : length w.words.now ≡ 1088
 
 -- the word of two terms: which third terms are reached from the first one by way of the second
 abbrev pub IsPairWord : Tables → ℕ → ℕ → ℕ → ℕ → Type 0

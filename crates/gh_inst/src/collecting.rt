@@ -12,7 +12,7 @@ use crate::schema::Pattern;
 use crate::search::{first_by_words, first_from};
 use crate::table::row_numbered;
 use crate::violation::name_of_terms;
-use crate::words::{open_terms, words_of};
+use crate::words::{Worded, open_terms, words_of};
 use gh_base::atom::Term;
 use gh_base::structure::Structure;
 use std::alloc::{AllocError, Global};
@@ -40,13 +40,16 @@ fn first_in(row: &Looked, start: [Term; 4], first: usize) -> Option<[Term; 4]>
     ensures { IsFirstOfRow row.now first start result }
 {
     let variables = row.variables as usize;
-    let (structure, version) = (row.structure, row.version);
-    if row.words.is_empty() {
+    let (structure, version, words) = (row.structure, row.version, row.words);
+    if words.is_empty() {
         return first_from(row.lits, variables, structure, version, start, first);
     }
-    first_by_words(
-        row.lits, variables, structure, version, row.words, start, first,
-    )
+    let worded = Worded {
+        structure,
+        version,
+        words,
+    };
+    first_by_words(row.lits, variables, &worded, start, first)
 }
 
 // Adds the row's first false instance whose tuple begins with the first terms of a tuple.
@@ -80,7 +83,12 @@ fn second_terms(row: &Looked, x: Term) -> u32
         return u32::MAX;
     }
     let start = [x, Term(0), Term(0), Term(0)];
-    open_terms(row.lits, row.structure, row.version, row.words, &start, 1)
+    let worded = Worded {
+        structure: row.structure,
+        version: row.version,
+        words: row.words,
+    };
+    open_terms(row.lits, &worded, &start, 1)
 }
 
 // Adds false instances whose tuples begin with a term, the first one for each second term.

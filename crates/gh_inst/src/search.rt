@@ -2,11 +2,11 @@
 
 ghost use Rattle.std.specs.Prelude.{◌≡◌, ◌<◌, ◌≤◌, ◌↔◌, IsTrue, All, length, take, []};
 ghost use Rattle.gh_inst.specs.Schemas.{places_of, AreTermsBelow};
-ghost use Rattle.gh_inst.specs.Words.{AreWordsOf, IsOpenIn};
-ghost use Rattle.gh_inst.specs.Search.{IsAmong, IsFirstTuple, IsFalseOver, IsRowFalseOver, IsRowSettled, IsSettled, IsTrueOver};
+ghost use Rattle.gh_inst.specs.Words.{IsOpenIn, IsWorded};
+ghost use Rattle.gh_inst.specs.Search.{IsAmong, IsBegun, IsFirstTuple, IsFalseOver, IsRowFalseOver, IsRowSettled, IsSettled, IsTrueOver};
 
 use crate::schema::{Pattern, Shape};
-use crate::words::{open_terms, words_of};
+use crate::words::{Worded, open_terms, words_of};
 use gh_base::atom::Term;
 use gh_base::structure::Structure;
 
@@ -50,9 +50,7 @@ impl Pattern {
         tuple: &[Term; 4],
         first: usize,
     ) -> bool
-        requires version { version < structure.now.sizes.versions }
-        requires first { first ≤ 4 }
-        requires terms { All (λ t. t.0 < structure.now.sizes.terms) (take first tuple.now) }
+        requires { IsBegun structure.now version tuple.now first }
         ensures settled { IsTrue result → IsSettled structure.now version (take first tuple.now) self }
         ensures open { ¬ IsTrue result → IsFalseOver structure.now version first tuple.now self }
     {
@@ -71,9 +69,7 @@ fn is_settled(
     tuple: &[Term; 4],
     first: usize,
 ) -> bool
-    requires version { version < structure.now.sizes.versions }
-    requires first { first ≤ 4 }
-    requires terms { All (λ t. t.0 < structure.now.sizes.terms) (take first tuple.now) }
+    requires { IsBegun structure.now version tuple.now first }
     ensures settled { IsTrue result → IsRowSettled structure.now version lits.now (take first tuple.now) }
     ensures open { ¬ IsTrue result → IsRowFalseOver structure.now version first tuple.now lits.now }
 {
@@ -118,53 +114,38 @@ pub(crate) fn first_from(
     None
 }
 
-// The first tuple at which a row is false, among those that begin with the first terms of a tuple, of which the open next
-// terms are known.
+// The first tuple at which a row is false, among those that begin with the first terms of a tuple, of which the open
+// next terms are known.
 fn first_open(
     lits: &[Pattern],
     variables: usize,
-    structure: &Structure,
-    version: u8,
-    words: &[u32],
+    worded: &Worded,
     start: [Term; 4],
     first: usize,
     left: u32,
 ) -> Option<[Term; 4]>
-    requires version { version < structure.now.sizes.versions }
-    requires few { structure.now.sizes.terms ≤ 32 }
-    requires some { 0 < structure.now.sizes.terms }
-    requires words { AreWordsOf structure.now version words.now }
-    requires full { length words.now ≡ 1088 }
+    requires worded { IsWorded worded.now }
     requires variables { variables ≤ 4 }
     requires first { first < variables }
     requires lits { All (IsAmong variables) lits.now }
-    requires terms { All (λ t. t.0 < structure.now.sizes.terms) (take first start) }
-    requires left { IsOpenIn structure.now version lits.now start first left }
-    ensures { IsFirstTuple structure.now version lits.now variables first start result }
+    requires terms { All (λ t. t.0 < worded.now.structure.now.sizes.terms) (take first start) }
+    requires left { IsOpenIn worded.now.structure.now worded.now.version lits.now start first left }
+    ensures { IsFirstTuple worded.now.structure.now worded.now.version lits.now variables first start result }
 {
     let mut tuple = start;
-    for term in 0..structure.terms() {
+    for term in 0..worded.structure.terms() {
         if left >> term & 1 == 0 {
             continue;
         }
         tuple[first] = Term(term);
-        let next = open_terms(lits, structure, version, words, &tuple, first + 1);
+        let next = open_terms(lits, worded, &tuple, first + 1);
         if next == 0 {
             continue;
         }
         if first + 1 == variables {
             return Some(tuple);
         }
-        let found = first_open(
-            lits,
-            variables,
-            structure,
-            version,
-            words,
-            tuple,
-            first + 1,
-            next,
-        );
+        let found = first_open(lits, variables, worded, tuple, first + 1, next);
         if found.is_some() {
             return found;
         }
@@ -176,33 +157,25 @@ fn first_open(
 pub(crate) fn first_by_words(
     lits: &[Pattern],
     variables: usize,
-    structure: &Structure,
-    version: u8,
-    words: &[u32],
+    worded: &Worded,
     start: [Term; 4],
     first: usize,
 ) -> Option<[Term; 4]>
-    requires version { version < structure.now.sizes.versions }
-    requires few { structure.now.sizes.terms ≤ 32 }
-    requires some { 0 < structure.now.sizes.terms }
-    requires words { AreWordsOf structure.now version words.now }
-    requires full { length words.now ≡ 1088 }
+    requires worded { IsWorded worded.now }
     requires variables { variables ≤ 4 }
     requires first { first ≤ variables }
     requires lits { All (IsAmong variables) lits.now }
-    requires terms { All (λ t. t.0 < structure.now.sizes.terms) (take first start) }
-    ensures { IsFirstTuple structure.now version lits.now variables first start result }
+    requires terms { All (λ t. t.0 < worded.now.structure.now.sizes.terms) (take first start) }
+    ensures { IsFirstTuple worded.now.structure.now worded.now.version lits.now variables first start result }
 {
-    let left = open_terms(lits, structure, version, words, &start, first);
+    let left = open_terms(lits, worded, &start, first);
     if left == 0 {
         return None;
     }
     if first == variables {
         return Some(start);
     }
-    first_open(
-        lits, variables, structure, version, words, start, first, left,
-    )
+    first_open(lits, variables, worded, start, first, left)
 }
 
 /// The first tuple at which a row is false.
@@ -220,7 +193,12 @@ pub(crate) fn first_tuple(
     let start = [Term(0); 4];
     if variables >= 3 && structure.terms() >= 1 && structure.terms() <= 32 {
         let words = words_of(structure, version);
-        return first_by_words(lits, variables, structure, version, &words, start, 0);
+        let worded = Worded {
+            structure,
+            version,
+            words: &words,
+        };
+        return first_by_words(lits, variables, &worded, start, 0);
     }
     first_from(lits, variables, structure, version, start, 0)
 }

@@ -4,11 +4,19 @@ ghost use Rattle.std.specs.Prelude.{◌≡◌, ◌≢◌, ◌<◌, ◌≤◌, �
 ghost use Rattle.std.specs.Int.{bit_at};
 ghost use Rattle.gh_inst.specs.declared.schema.Shape.TheVariants.{Btwn as OnTerms, Hop as OnCell};
 ghost use Rattle.gh_inst.specs.Search.{IsAmong};
-ghost use Rattle.gh_inst.specs.Words.{bit_of, AreTruthsAt, AreWordsOf, IsHopWord, IsHopWordAt, IsLitOpenIn, IsOpenByWords, IsOpenIn, IsPairWord, IsPairWordAt, IsReachWord, IsReachWordAt, TellsFalse, TellsOpen};
+ghost use Rattle.gh_inst.specs.Words.{bit_of, AreTruthsAt, AreWordsOf, IsHopWord, IsHopWordAt, IsLitOpenIn, IsOpenByWords, IsOpenIn, IsPairWord, IsPairWordAt, IsReachWord, IsReachWordAt, IsWorded, TellsFalse, TellsOpen};
 
 use crate::schema::{Pattern, Shape};
 use gh_base::atom::{Atom, Term};
 use gh_base::structure::Structure;
+
+// A version of a structure, with its words.
+#[derive(Drop)]
+pub(crate) struct Worded<'a> {
+    pub structure: &'a Structure,
+    pub version: u8,
+    pub words: &'a [u32],
+}
 
 // A word in which one more bit is set, if it is to be.
 fn with_bit(word: u32, place: u8, truth: bool) -> u32
@@ -122,8 +130,8 @@ pub(crate) fn words_of(structure: &Structure, version: u8) -> [u32; 1088]
 }
 
 impl Pattern {
-    // The place of the word of a literal on betweenness, if its first two terms are known, or only the first one, where the
-    // other two are the same.
+    // The place of the word of a literal on betweenness, if its first two terms are known, or only the first one, where
+    // the other two are the same.
     fn between_at(&self, tuple: &[Term; 4], first: usize) -> Option<usize>
         requires shape { self.now.shape ≡ OnTerms }
         requires first { first ≤ 4 }
@@ -211,29 +219,18 @@ impl Pattern {
     }
 
     // The next terms at which it may be false, as bits.
-    fn next_terms(
-        &self,
-        structure: &Structure,
-        version: u8,
-        words: &[u32],
-        tuple: &[Term; 4],
-        first: usize,
-    ) -> u32
-        requires version { version < structure.now.sizes.versions }
-        requires few { structure.now.sizes.terms ≤ 32 }
-        requires some { 0 < structure.now.sizes.terms }
-        requires words { AreWordsOf structure.now version words.now }
-        requires full { length words.now ≡ 1088 }
+    fn next_terms(&self, worded: &Worded, tuple: &[Term; 4], first: usize) -> u32
+        requires worded { IsWorded worded.now }
         requires first { first ≤ 4 }
-        requires terms { All (λ t. t.0 < structure.now.sizes.terms) (take first tuple.now) }
-        ensures { IsLitOpenIn structure.now version self.now tuple.now first result }
+        requires terms { All (λ t. t.0 < worded.now.structure.now.sizes.terms) (take first tuple.now) }
+        ensures { IsLitOpenIn worded.now.structure.now worded.now.version self.now tuple.now first result }
     {
         match self.shape {
-            Shape::Btwn => return self.next_between(words, tuple, first),
-            Shape::Hop => return self.next_hop(words, tuple, first),
+            Shape::Btwn => return self.next_between(worded.words, tuple, first),
+            Shape::Hop => return self.next_hop(worded.words, tuple, first),
             Shape::Equal | Shape::Alloc => {}
         }
-        if self.settles(structure, version, tuple, first) {
+        if self.settles(worded.structure, worded.version, tuple, first) {
             return 0;
         }
         u32::MAX
@@ -241,26 +238,15 @@ impl Pattern {
 }
 
 /// The next terms at which a row may be false, as bits.
-pub(crate) fn open_terms(
-    lits: &[Pattern],
-    structure: &Structure,
-    version: u8,
-    words: &[u32],
-    tuple: &[Term; 4],
-    first: usize,
-) -> u32
-    requires version { version < structure.now.sizes.versions }
-    requires few { structure.now.sizes.terms ≤ 32 }
-    requires some { 0 < structure.now.sizes.terms }
-    requires words { AreWordsOf structure.now version words.now }
-    requires full { length words.now ≡ 1088 }
+pub(crate) fn open_terms(lits: &[Pattern], worded: &Worded, tuple: &[Term; 4], first: usize) -> u32
+    requires worded { IsWorded worded.now }
     requires first { first ≤ 4 }
-    requires terms { All (λ t. t.0 < structure.now.sizes.terms) (take first tuple.now) }
-    ensures { IsOpenIn structure.now version lits.now tuple.now first result }
+    requires terms { All (λ t. t.0 < worded.now.structure.now.sizes.terms) (take first tuple.now) }
+    ensures { IsOpenIn worded.now.structure.now worded.now.version lits.now tuple.now first result }
 {
     let mut terms = u32::MAX;
     for pattern in lits {
-        terms &= pattern.next_terms(structure, version, words, tuple, first);
+        terms &= pattern.next_terms(worded, tuple, first);
         if terms == 0 {
             return 0;
         }

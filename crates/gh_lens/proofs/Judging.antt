@@ -1,13 +1,13 @@
 -- The conditions that are judged, one by one.
-use Rattle.std.specs.Prelude.{◌≡◌, ℕ, zero, suc, ◌+◌, ◌-◌, ◌≤◌, List, [], ◌∷◌, ◌++◌, length, take, slice_get, Some}
-use Rattle.std.proofs.Common.{refl, sym, ◌∙◌, ap, subst, arith}
+use Rattle.std.specs.Prelude.{◌≡◌, ℕ, suc, ◌+◌, ◌≤◌, List, [], ◌∷◌, ◌++◌, length, take, Some}
+use Rattle.std.proofs.Common.{sym, ◌∙◌, ap, subst, arith}
 use Rattle.std.proofs.lemmas.List.{take_all}
 use Rattle.gh_ast.specs.Plain.{Program}
 use Rattle.gh_path.specs.Answers.{IsNumbered}
 use Rattle.gh_path.specs.Conditions.{Condition, conditions}
 use Rattle.gh_path.specs.declared.condition.Condition as kept
 use Rattle.gh_trace.specs.Kept.{IsOfProgram}
-use Rattle.gh_trace.proofs.FirstRefuted.{placed}
+use Rattle.gh_trace.proofs.FirstRefuted.{taken_more, taken_length, next_one}
 use Rattle.gh_lens.specs.Judgements.{IsJudged, AreJudged}
 use Rattle.gh_lens.specs.declared.judged.Judged.{Judged}
 
@@ -18,23 +18,6 @@ judged_more P n (d ∷ ds) [] c j are is = absurd are
 judged_more P n (d ∷ ds) (k ∷ ks) c j are is =
     let e : n + suc (length ds) ≡ suc n + length ds = omega arith in
     (are.0, judged_more P (suc n) ds ks c j are.1 (subst (λ m. IsJudged P m c j) e is))
-
-taken_more : (cs : List Condition) (n : ℕ) (c : Condition) → slice_get cs n ≡ Some c → take (suc n) cs ≡ take n cs ++ c ∷ []
-taken_more [] n c there = absurd cc
-taken_more (d ∷ ds) zero c there = ap (λ e. e ∷ []) cc
-taken_more (d ∷ ds) (suc n) c there = ap (λ t. d ∷ t) (taken_more ds n c there)
-
-taken_length : (cs : List Condition) (n : ℕ) (c : Condition) → slice_get cs n ≡ Some c → length (take n cs) ≡ n
-taken_length [] n c there = absurd cc
-taken_length (d ∷ ds) zero c there = refl
-taken_length (d ∷ ds) (suc n) c there = ap suc (taken_length ds n c there)
-
--- the condition of the next number
-next_one : (P : Program) (k : ℕ) (r : kept.Condition) → IsNumbered P (k + 1) (Some r) → (c : Condition) × (slice_get (conditions P) k ≡ Some c) × IsOfProgram P r c
-next_one P k r (c, low, there, stands) =
-    let place : k ≡ k + 1 - 1 = omega arith in
-    let at : slice_get (conditions P) k ≡ Some c = ap (slice_get (conditions P)) place ∙ there in
-    (c, at, record { stands = stands; there = placed P k c at })
 
 -- one condition more
 pub judged_next : (P : Program) (k : ℕ) (r : kept.Condition) (j : Judged) (old new : List Judged) → IsNumbered P (k + 1) (Some r) → ((c : Condition) → IsOfProgram P r c → IsJudged P (k + 1) c j) → new ≡ old ++ j ∷ []

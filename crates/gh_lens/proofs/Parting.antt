@@ -8,9 +8,9 @@ use Rattle.gh_ast.specs.Plain.{Formula, Formulas, formula_first, formula_of, for
 use Rattle.gh_assert.specs.Heaps.{Heap}
 use Rattle.gh_assert.specs.Meaning.{Store, HasPart}
 use Rattle.gh_assert.specs.Footprints.{IsFootprint}
+use Rattle.gh_grass.proofs.ClaimLemmas.{formulas_from}
 use Rattle.gh_trace.specs.Left.{left}
 use Rattle.gh_trace.proofs.Lefts.{left_is_rest}
-use Rattle.gh_trace.proofs.Listings.{next}
 use Rattle.gh_lens.specs.Takings.{StopsAt, Leaves, Sticks, IsStuck}
 
 -- what comes of the later conjuncts on what is left comes of all of them
@@ -30,20 +30,17 @@ turn fs later f s h rest rest' places a e so =
       leaves = λ r l. so.leaves r (a.part, a.rest, a.splits, a.meets, subst (λ z. Leaves later s z r) is l);
     }
 
-viewed : (xs : List Assertion) (i : ℕ) (x : Assertion) → i < length xs → x ≡ get_or xs i x → formulas_view (drop i xs) ≡ formula_first (formula_of x) (formulas_view (drop (i + 1) xs))
-viewed xs i x within is = ap formulas_view (next xs i x within is)
-
 pub taking_goes : (xs : List Assertion) (s : Store) (h rest rest' : Heap) (i : ℕ) (x : Assertion) (places : List ℕ) → i < length xs → x ≡ get_or xs i x
     → IsFootprint (formula_of x) s rest places → rest' ≡ left rest places → GoesOn (formulas_view xs) s h (formulas_view (drop i xs)) rest
     → GoesOn (formulas_view xs) s h (formulas_view (drop (i + 1) xs)) rest'
 taking_goes xs s h rest rest' i x places within is a e so =
     turn (formulas_view xs) (formulas_view (drop (i + 1) xs)) (formula_of x) s h rest rest' places a e
-    (subst (λ fs. GoesOn (formulas_view xs) s h fs rest) (viewed xs i x within is) so)
+    (subst (λ fs. GoesOn (formulas_view xs) s h fs rest) (formulas_from xs i x within is) so)
 
 pub taking_stops : (xs : List Assertion) (s : Store) (h rest : Heap) (i : ℕ) (x : Assertion) → i < length xs → x ≡ get_or xs i x → (HasPart (formula_of x) s rest → ⊥)
     → GoesOn (formulas_view xs) s h (formulas_view (drop i xs)) rest → StopsAt (formulas_view xs) s h (formula_of x) rest
 taking_stops xs s h rest i x within is none so =
-    let here = subst (λ fs. GoesOn (formulas_view xs) s h fs rest) (viewed xs i x within is) so in
+    let here = subst (λ fs. GoesOn (formulas_view xs) s h fs rest) (formulas_from xs i x within is) so in
     here.stops (formula_of x) rest (inl (refl, refl, none))
 
 pub taking_ends : (xs : List Assertion) (s : Store) (h rest : Heap) (i : ℕ) → length xs ≤ i → GoesOn (formulas_view xs) s h (formulas_view (drop i xs)) rest → Leaves (formulas_view xs) s h rest

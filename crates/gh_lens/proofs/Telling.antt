@@ -1,5 +1,5 @@
 -- The traces that are told.
-use Rattle.std.specs.Prelude.{◌≡◌, ℕ, ◌-◌, List, [], ◌∷◌, ◌++◌, length, map, Option, Some, None, slice_get, codes}
+use Rattle.std.specs.Prelude.{◌≡◌, ℕ, ◌-◌, List, [], ◌∷◌, ◌++◌, map, Option, Some, None, slice_get, codes}
 use Rattle.std.proofs.Common.{refl, sym, ◌∙◌, ap, subst}
 use Rattle.gh_ast.specs.Plain.{Procedure, Program}
 use Rattle.gh_path.specs.Answers.{IsNumbered}
@@ -37,10 +37,6 @@ not_empty P c xs against e =
     let none : map drawn xs ≡ [] = ap (map drawn) e in
     let two : against.first ∷ against.others ≡ [] = sym against.states ∙ none in
     absurd cc
-
-pub nothing : {X : Type 0} (xs : List X) → length xs ≡ 0 → xs ≡ []
-nothing [] e = refl
-nothing (x ∷ xs) e = absurd cc
 
 -- the steps are told one by one
 pub no_steps : (P : Program) (p : Procedure) (rs : List kept_step.PathStep) (x : kept_state.State) (ys : List kept_state.State) (text : List ℕ) → rs ≡ [] → text ≡ [] → TellsSteps P p rs x ys text

@@ -5,12 +5,13 @@ ghost use Rattle.gh_lens.specs.Handed.{IsHandedToCallee, IsHandedToLoop, IsHande
 ghost use Rattle.gh_lens.specs.Settings.{HasLoops};
 
 use crate::exchange::{Exchange, exchanged};
-use crate::setting::{Setting, entered, procedure_at};
+use crate::setting::{Setting, procedure_at};
 use gh_assert::values::values_of;
 use gh_ast::{Expr, Occ};
 use gh_path::condition::PathStep;
 use gh_trace::parts::Part;
 use gh_trace::state::State;
+use gh_trace::stores::entered;
 use std::alloc::{AllocError, Global};
 
 // What a call hands over.

@@ -8,7 +8,7 @@ ghost use Rattle.gh_lens.specs.Misses as told;
 ghost use Rattle.gh_lens.specs.Settings.{HasLoops, here, whole};
 
 use crate::lines::{push_heap_line, push_number};
-use crate::setting::{Setting, entered, procedure_at};
+use crate::setting::{Setting, procedure_at};
 use crate::statement::push_operand;
 use crate::taking::{Reason, Taking, conjuncts, reason_for, taken};
 use gh_assert::heap::Heap;
@@ -19,6 +19,7 @@ use gh_base::name::Name;
 use gh_base::text::Text;
 use gh_path::condition::CheckKind;
 use gh_trace::state::State;
+use gh_trace::stores::entered;
 use std::alloc::{AllocError, Global};
 
 fn push_comparison(

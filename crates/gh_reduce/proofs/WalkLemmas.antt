@@ -8,7 +8,6 @@ use Rattle.gh_base.specs.Grounds.{Problem}
 use Rattle.gh_ast.specs.Plain.{Program}
 use Rattle.gh_path.specs.Conditions.{Condition}
 use Rattle.gh_path.specs.Terms.{Kind}
-use Rattle.gh_grass.specs.Claims.{Claim}
 use Rattle.gh_symb.specs.Symbolic as plain
 use Rattle.gh_symb.specs.Symbolic.{accessed, assumed, same, written, made, freed, parts}
 use Rattle.gh_symb.specs.Formulas.{version_after, versions_claims, meets_whole, check_claims, claims, problem, successor_claims, successors_from, steps_claims}
@@ -80,8 +79,8 @@ ready_for s ts p listed terms versions =
     (subst (λ (ks : List TermKind). InsideAt (length (map plain_kind s.terms)) s.versions (map plain_kind ks) (plain_of s)) (sym listed)
     (record { ready = h.terms; some = h.some_versions; start = h.start_is; steps = h.steps_are; check = h.check_is })))
 
-pub inside_stays : (s : plain.Symbolic) (kinds : List Kind) (p q : Problem) (fs : List Claim) → q ≡ stated_in p fs → InsideAt p.sizes.terms p.sizes.versions kinds s → InsideAt q.sizes.terms q.sizes.versions kinds s
-inside_stays s kinds p q fs e h = subst (λ (x : Problem). InsideAt x.sizes.terms x.sizes.versions kinds s) (sym e) h
+pub inside_stays : (s : plain.Symbolic) (kinds : List Kind) (p q : Problem) → q ≡ p → InsideAt p.sizes.terms p.sizes.versions kinds s → InsideAt q.sizes.terms q.sizes.versions kinds s
+inside_stays s kinds p q e h = subst (λ (x : Problem). InsideAt x.sizes.terms x.sizes.versions kinds s) (sym e) h
 
 pub claims_are : (s : plain.Symbolic) (ks : List Kind) (v w : ℕ) (u : plain.Under) (ss : List plain.TermStep) (k : plain.TermCheck) → ks ≡ s.terms → v ≡ s.versions → w ≡ s.versions → u ≡ s.start → ss ≡ s.steps → k ≡ s.check
     → ((versions_claims ks v ++ meets_whole ks u ∷ []) ++ steps_claims ks 0 ss) ++ check_claims ks (w - 1) k ≡ claims s

@@ -2,6 +2,8 @@ pub mod ListLemmas
 pub mod TrailLemmas
 pub mod StatusLemmas
 pub mod WatchLemmas
+pub mod PropagationLemmas
+pub mod HintedLemmas
 pub mod MarkLemmas
 pub mod ResolveLemmas
 pub mod WholeLemmas

@@ -1,16 +1,18 @@
 -- Resolving from the conflict back.
-use Rattle.std.proofs.Common.{◌≡◌, ◌⊎◌, ℕ, suc, ◌+◌, ◌-◌, ◌<◌, ◌≤◌, List, [], length, take, drop, Some, inl, inr, refl, sym, ap, ◌∙◌, subst, arith, All, length-take-le}
+use Rattle.std.proofs.Common.{◌≡◌, ◌⊎◌, ℕ, suc, ◌+◌, ◌-◌, ◌<◌, ◌≤◌, List, [], length, take, drop, get_or, Option, Some, inl, inr, refl, sym, ap, ◌∙◌, subst, arith, All, length-take-le}
 use Rattle.std.specs.Prelude.{slice_get}
 use Rattle.std.proofs.lemmas.Bool.{cases_eq, cases_lt}
+use Rattle.std.proofs.lemmas.Option.{get_or_from_slice_get}
 use Rattle.std.proofs.lemmas.List.{drop_all}
 use Rattle.std.proofs.lemmas.List.Elements.{All-contains}
 use Rattle.gh_base.specs.declared.atom.Lit.{Lit}
 use Rattle.gh_base.specs.Atoms.{opposite}
 use Rattle.gh_sat.specs.declared.trail.Step.{Step}
 use Rattle.gh_sat.specs.Trail.{Line, Stands, IsReason, AreSteps}
-use Rattle.gh_sat.specs.Learn.{Reached, Marking, IsMarked, HasMark, AllMarked, marked, AreMarks, MarksMore, ResolvedFrom, AreReached, HaveReasons, IsAlone, IsLeft}
+use Rattle.gh_sat.specs.Learn.{Reached, Marking, IsMarked, HasMark, AllMarked, marked, marked_before, AreMarks, MarksMore, ResolvedFrom, AreReached, HaveReasons, IsAlone, IsLeft}
 use Rattle.gh_sat.specs.Learn.Reached.{by_conflict, by_reason}
 use Rattle.gh_base.proofs.ListLemmas.{get_within, get_some}
+use Rattle.gh_sat.proofs.ListLemmas.{lt_le}
 use Rattle.gh_sat.proofs.MarkLemmas.{all_marked_more, marks_down, some_marked}
 
 -- resolving more steps reaches no less
@@ -104,6 +106,33 @@ reason_at clauses trail start p stamps round x h s at long some = elim (cases_eq
       absurd (omega arith)
   | inr n ↦ h p x at (omega arith)
 ]
+
+-- the step of a place has clause k as its reason
+pub record IsRead (clauses : List (List Lit)) (trail : List Step) (place k : ℕ) : Type 0 where
+  pub step : Step
+  pub at : slice_get trail place ≡ Some step
+  pub within : k < length clauses
+  pub why : step.reason ≡ Some k
+  pub reason : IsReason clauses trail place step.lit k
+
+-- what the code reads as the reason of a marked step that is not the last
+pub reason_is : (clauses : List (List Lit)) (trail steps : List Step) (first : ℕ) (m : Marking) (place : ℕ) (d : Step) (o : Option ℕ) → HaveReasons clauses trail first → m.start ≡ first → AreMarks trail m
+    → m.start ≤ place → place < m.end → m.waiting ≡ marked_before m place + 1 → (m.waiting - 1 ≡ 0 → ⊥) → steps ≡ trail → (get_or steps place d).reason ≡ o
+    → (k : ℕ) × (o ≡ Some k) × IsRead clauses trail place k
+reason_is clauses trail steps first m place d o h e marks le lt w n same_steps read =
+    let at = get_some trail place (lt_le lt marks.end) in
+    let r = reason_at clauses trail m.start place m.stamps m.round at.0 (subst (HaveReasons clauses trail) (sym e) h) le at.1 marks.long (omega arith) in
+    let same : at.0.reason ≡ o = ap (λ (y : Step). y.reason) (sym (get_or_from_slice_get trail place at.0 d at.1)) ∙ ap (λ (t : List Step). (get_or t place d).reason) (sym same_steps) ∙ read in
+    (r.0, sym same ∙ r.1, record { step = at.0; at = at.1; within = get_within clauses r.0 r.2.clause r.2.at; why = r.1; reason = r.2 })
+
+-- .. where it reads one
+pub reason_of : (clauses : List (List Lit)) (trail steps : List Step) (first : ℕ) (m : Marking) (place : ℕ) (d : Step) (k : ℕ) → HaveReasons clauses trail first → m.start ≡ first → AreMarks trail m
+    → m.start ≤ place → place < m.end → m.waiting ≡ marked_before m place + 1 → (m.waiting - 1 ≡ 0 → ⊥) → steps ≡ trail → (get_or steps place d).reason ≡ Some k
+    → IsRead clauses trail place k
+reason_of clauses trail steps first m place d k h e marks le lt w n same_steps read =
+    let r = reason_is clauses trail steps first m place d (Some k) h e marks le lt w n same_steps read in
+    let same : r.0 ≡ k = let e = r.1 in cc in
+    subst (IsRead clauses trail place) same r.2
 
 -- the reason's literals are marked or false before
 pub reason_stands : (clauses : List (List Lit)) (trail : List Step) (m : Marking) (p k : ℕ) (x : Step) (c : List Lit) → slice_get trail p ≡ Some x → IsMarked m p → IsReason clauses trail p x.lit k → slice_get clauses k ≡ Some c

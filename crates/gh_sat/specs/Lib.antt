@@ -2,6 +2,7 @@ pub mod Rows
 pub mod Trail
 pub mod Status
 pub mod Watch
+pub mod Propagation
 pub mod Learn
 pub mod Whole
 pub mod Theory

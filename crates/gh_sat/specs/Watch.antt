@@ -1,13 +1,11 @@
 -- Which clauses need no look.
-use Rattle.std.specs.Prelude.{◌≡◌, ◌⊎◌, ℕ, ◌+◌, ◌*◌, ◌<◌, ◌≤◌, IsTrue, List, [], Bool, true, false, Some, All, Contains, length, map, take, slice_get, slice_index_or}
+use Rattle.std.specs.Prelude.{◌≡◌, ◌⊎◌, ℕ, ◌+◌, ◌*◌, ◌<◌, List, [], Bool, true, false, Some, All, Contains, length, map, take, slice_get, slice_index_or}
 use Rattle.gh_base.specs.declared.atom.Lit.{Lit}
 use Rattle.gh_base.specs.declared.sizes.Sizes.{Sizes}
-use Rattle.gh_base.specs.Atoms.{opposite, number_of}
+use Rattle.gh_base.specs.Atoms.{number_of}
 use Rattle.gh_sat.specs.declared.status.Hint.{Hint}
 use Rattle.gh_sat.specs.declared.trail.Step.{Step}
-use Rattle.gh_sat.specs.declared.rows.Numbered.{Numbered}
-use Rattle.gh_sat.specs.Rows.{numbered}
-use Rattle.gh_sat.specs.Trail.{Line, SearchState, IsFalseIn}
+use Rattle.gh_sat.specs.Trail.{SearchState, IsFalseIn}
 use Rattle.gh_sat.specs.Status.{IsPair, IsGuarded}
 
 -- each clause that was looked at has a true literal, or two that aren't false before `head`
@@ -19,36 +17,6 @@ AreGuarded s clauses hints trail head looked =
 abbrev pub AreVisited : Sizes → List (List Lit) → List Hint → List Step → ℕ → ℕ → List ℕ → Type 0
 AreVisited s clauses hints trail head looked rest =
     (k : ℕ) (c : List Lit) (h : Hint) → k < looked → slice_get clauses k ≡ Some c → slice_get hints k ≡ Some h → (Contains rest k → ⊥) → IsGuarded s trail (take (head + 1) trail) c h
-
--- clauses that were looked at stay guarded while hints, the trail and the number of those clauses change
-abbrev pub GuardsMore : List (List Lit) → List Hint → List Hint → Line → Line → ℕ → ℕ → Type 0
-GuardsMore clauses old_hints new_hints old new old_looked new_looked = (head : ℕ) → head ≤ length old.steps
-    → AreGuarded old.sizes clauses old_hints old.steps head old_looked → AreGuarded old.sizes clauses new_hints new.steps head new_looked
-
--- .. and the place up to which the trail is known changes
-abbrev pub GuardsFurther : List (List Lit) → List Hint → List Hint → Line → Line → ℕ → ℕ → Type 0
-GuardsFurther clauses old_hints new_hints old new old_head new_head = (looked : ℕ)
-    → AreGuarded old.sizes clauses old_hints old.steps old_head looked → AreGuarded old.sizes clauses new_hints new.steps new_head looked
-
--- the clause of a number is told false, or its hint guards it
-abbrev pub IsFalseOrGuarded : List (List Lit) → List Hint → Sizes → List Step → ℕ → Bool → Type 0
-IsFalseOrGuarded clauses hints s trail k is_false =
-    (c : List Lit) (h : Hint) → slice_get clauses k ≡ Some c → slice_get hints k ≡ Some h → IsTrue is_false ⊎ IsGuarded s trail trail c h
-
--- after a visit for the literal that the step at `head` makes false, the clause of a number is told false, or it is
--- guarded with that step
-abbrev pub VisitsOne : List (List Lit) → List Hint → List Hint → Line → Line → Numbered → ℕ → Bool → Type 0
-VisitsOne clauses old_hints new_hints old new gone k is_false =
-    (head looked : ℕ) (x : Step) (c : List Lit) (h : Hint) → k < looked → slice_get old.steps head ≡ Some x → numbered old.sizes (opposite x.lit) ≡ gone
-    → AreGuarded old.sizes clauses old_hints old.steps head looked → slice_get clauses k ≡ Some c → slice_get new_hints k ≡ Some h
-    → IsTrue is_false ⊎ IsGuarded old.sizes new.steps (take (head + 1) new.steps) c h
-
--- after visits of a list of clauses none of them is left
-abbrev pub VisitsAll : List (List Lit) → List Hint → List Hint → Line → Line → Numbered → List ℕ → Type 0
-VisitsAll clauses old_hints new_hints old new gone list =
-    (head looked : ℕ) (x : Step) → slice_get old.steps head ≡ Some x → numbered old.sizes (opposite x.lit) ≡ gone
-    → AreGuarded old.sizes clauses old_hints old.steps head looked → AreVisited old.sizes clauses old_hints old.steps head looked list
-    → AreVisited old.sizes clauses new_hints new.steps head looked []
 
 -- each hint stays or has two literals that aren't false on the trail
 pub record MoveHints (s : Sizes) (clauses : List (List Lit)) (trail : List Step) (old new : List Hint) : Type 0 where

@@ -1,7 +1,8 @@
-//! Places in the order of decisions at which a free atom of a clause may stand: hints, which no clause of a search speaks of.
+//! Places in the order of decisions at which a free atom of a clause may stand: hints, which no clause of a search
+//! speaks of.
 
-ghost use Rattle.std.specs.Prelude.{IfOk};
-ghost use Rattle.gh_sat.specs.Hinted.{HintsNothing};
+ghost use Rattle.std.specs.Prelude.{◌≡◌, IfOk, IfSome, IfNone, length};
+ghost use Rattle.gh_sat.specs.Hinted.{Clears, HasBit, HintsNothing};
 
 use std::alloc::{AllocError, Global};
 
@@ -13,26 +14,37 @@ fn set_bit(words: &mut [u64], place: usize) {
 }
 
 // The place of the lowest bit of a word, if it has one.
-fn lowest(words: &[u64], index: usize) -> Option<usize> {
-    match words.get(index) {
-        None => None,
-        Some(0) => None,
-        Some(word) => Some(
-            index
-                .saturating_mul(64)
-                .saturating_add(word.trailing_zeros() as usize),
-        ),
+fn lowest(words: &[u64], index: usize) -> Option<usize>
+    ensures { IfSome result (HasBit words.now) }
+{
+    if index >= words.len() || words[index] == 0 {
+        return None;
     }
+    let first = index.checked_mul(64)?;
+    first.checked_add(words[index].trailing_zeros() as usize)
 }
 
-// Takes the lowest bit of a word away. Answers whether the word has none then.
-fn drop_lowest(words: &mut [u64], index: usize) -> bool {
-    if index < words.len() {
-        let word = words[index];
-        words[index] = word & word.wrapping_sub(1);
-        return words[index] == 0;
+// Takes the bit of a place away. Answers whether its word has none then.
+fn clear_bit(words: &mut [u64], place: usize) -> bool
+    ensures { Clears words.old words.new place }
+{
+    if place / 64 < words.len() {
+        words[place / 64] &= !(1 << (place % 64) as u32);
+        return words[place / 64] == 0;
     }
     true
+}
+
+// Takes the bit of a place away, if there is one. Answers whether the word has none then.
+fn clear_any(words: &mut [u64], place: Option<usize>) -> bool
+    ensures long { length words.new ≡ length words.old }
+    ensures some { IfSome place (Clears words.old words.new) }
+    ensures none { IfNone place (words.new ≡ words.old) }
+{
+    match place {
+        None => true,
+        Some(place) => clear_bit(words, place),
+    }
 }
 
 /// A bit for each place, for each word of these one that it has some, and for each word of those one that it has some.
@@ -63,20 +75,28 @@ impl Hinted {
     }
 
     // Takes the first place of a block out, if there is one.
-    fn take_in(&mut self, block: usize) -> Option<usize> {
+    fn take_in(&mut self, block: usize) -> Option<usize>
+        ensures was { IfSome result (HasBit self.old.places.items) }
+        ensures taken { IfSome result (Clears self.old.places.items self.new.places.items) }
+        ensures none { IfNone result (self.new.places.items ≡ self.old.places.items) }
+    {
         let group = lowest(self.blocks.as_slice(), block)?;
         let word = lowest(self.words.as_slice(), group)?;
         let place = lowest(self.places.as_slice(), word);
-        if drop_lowest(self.places.as_mut_slice(), word) {
-            if drop_lowest(self.words.as_mut_slice(), group) {
-                drop_lowest(self.blocks.as_mut_slice(), block);
+        if clear_any(self.places.as_mut_slice(), place) {
+            if clear_bit(self.words.as_mut_slice(), word) {
+                clear_bit(self.blocks.as_mut_slice(), group);
             }
         }
         place
     }
 
     /// Takes the first place out, if there is one.
-    pub fn take(&mut self) -> Option<usize> {
+    pub fn take(&mut self) -> Option<usize>
+        ensures was { IfSome result (HasBit self.old.places.items) }
+        ensures taken { IfSome result (Clears self.old.places.items self.new.places.items) }
+        ensures none { IfNone result (self.new.places.items ≡ self.old.places.items) }
+    {
         for block in 0..self.blocks.len() {
             let place = self.take_in(block);
             if place.is_some() {

@@ -11,7 +11,7 @@ ghost use Rattle.gh_sat.specs.Learn.{IsTop};
 use crate::marks::{Marks, begin, resolve};
 use crate::needed::first_free;
 use crate::occurrences::Occurrences;
-use crate::propagation;
+use crate::propagation::{Database, propagate};
 use crate::reasons::{mark_reached, reasons_from};
 use crate::rows::Row;
 use crate::status::Hint;
@@ -362,12 +362,15 @@ impl Learner {
         ensures sound { IsSound self.new }
     {
         let level = self.starts.len() as u32;
-        propagation::propagate(
-            self.clauses.as_slice(),
-            self.rows.as_slice(),
+        let database = Database {
+            clauses: self.clauses.as_slice(),
+            rows: self.rows.as_slice(),
+            occurrences: &self.occurrences,
+        };
+        propagate(
+            &database,
             self.hints.as_mut_slice(),
             &mut self.trail,
-            &self.occurrences,
             &mut self.looked,
             &mut self.head,
             level,

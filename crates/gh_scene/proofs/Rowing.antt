@@ -1,5 +1,5 @@
 -- Rows that are added in turn.
-use Rattle.std.specs.Prelude.{◌≡◌, List, [], ◌∷◌, ◌++◌, length}
+use Rattle.std.specs.Prelude.{◌≡◌, List, [], ◌∷◌, ◌++◌}
 use Rattle.std.proofs.Common.{refl, sym, ◌∙◌, ap, subst, append-nil}
 use Rattle.std.proofs.lemmas.List.{append_assoc}
 use Rattle.gh_ast.specs.Plain.{Procedure, Program}
@@ -10,10 +10,6 @@ use Rattle.gh_path.specs.declared.condition.PathStep as kept
 use Rattle.gh_picture.specs.declared.scene.Row.{Row}
 use Rattle.gh_scene.specs.Rows.{IsRowOf, left_at_end, AreRows, AddsRows}
 use Rattle.gh_trace.specs.declared.state.State.{State}
-
-pub nothing : {X : Type 0} (xs : List X) → length xs ≡ 0 → xs ≡ []
-nothing [] e = refl
-nothing (x ∷ xs) e = absurd cc
 
 adds_none : (P : Program) (ss : List PathStep) (xs : List State) (spare : Heap) (old : List Row) → AreRows P ss xs spare [] → AddsRows P ss xs spare old old
 adds_none P ss xs spare old are = record { rest = []; whole = sym (append-nil old); rows = are }

@@ -30,6 +30,7 @@ struct Part {
     b: u8,
 }
 
+/// The classes of terms by the literals that were told, and these by their atoms over classes.
 #[derive(Debug, Drop)]
 pub(crate) struct Classes {
     alloc: Global,
@@ -47,9 +48,12 @@ pub(crate) struct Classes {
     // By term: the places of told literals that have it.
     mentions: Vec<Vec<u32>>,
     clash: Option<Clash>,
+    // How often classes were joined, or parted again.
+    changes: u64,
 }
 
 impl Classes {
+    /// Each term alone, and nothing told.
     pub fn new(alloc: Global, shape: &Shape) -> Result<Classes, AllocError> {
         let mut classes = Classes {
             alloc,
@@ -63,6 +67,7 @@ impl Classes {
             entries: Vec::new(alloc),
             mentions: Vec::new(alloc),
             clash: None,
+            changes: 0,
         };
         for term in 0..shape.terms {
             classes.leaders.push(byte(term))?;
@@ -76,9 +81,9 @@ impl Classes {
         self.told.len()
     }
 
-    /// How many merges there were.
-    pub fn merges(&self) -> usize {
-        self.links.len()
+    /// How often classes were joined, or parted again.
+    pub fn changes(&self) -> u64 {
+        self.changes
     }
 
     /// The literals that stand against each other, if there are some.
@@ -174,6 +179,7 @@ impl Classes {
         }
         self.saved.extend_from_slice(self.leaders.as_slice())?;
         self.links.push((a, b))?;
+        self.changes = self.changes.wrapping_add(1);
         let mut moved: u32 = 0;
         for term in 0..self.terms {
             if at(self.leaders.as_slice(), term, to) == from {
@@ -261,6 +267,7 @@ impl Classes {
         if links >= self.links.len() {
             return;
         }
+        self.changes = self.changes.wrapping_add(1);
         let start = cell(links, self.terms, 0);
         for term in 0..self.terms {
             let leader = at(self.saved.as_slice(), start.wrapping_add(term), 0);

@@ -8,7 +8,8 @@ use std::alloc::{AllocError, Global};
 /// Where a clause comes from.
 #[derive(Clone, Copy, Debug)]
 pub(crate) enum Origin {
-    Ground,
+    /// The ground clause of a number.
+    Ground(u32),
     Instance(InstanceName),
     Lemma,
     /// Unit propagation along these hints, of the table of hints, shows it.
@@ -32,6 +33,7 @@ pub(crate) struct Clauses {
 }
 
 impl Clauses {
+    /// No clause.
     pub fn new(alloc: Global) -> Clauses {
         Clauses {
             extents: Vec::new(alloc),
@@ -41,6 +43,7 @@ impl Clauses {
         }
     }
 
+    /// How many clauses there are.
     pub fn count(&self) -> usize {
         self.extents.len()
     }

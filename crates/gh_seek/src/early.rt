@@ -1,9 +1,10 @@
-//! Instances of axiom rows that the trail makes unit or false, over least terms of classes.
+//! Instances of axiom rows that the trail makes unit or false, over least terms of classes. One that would only make an
+//! atom false that stands in no clause is left out: such an atom is false in a structure anyway.
 
 use crate::clauses::Origin;
-use crate::rows::{Pattern, Plan, Plans, Row};
+use crate::rows::{Plan, Plans, Row};
 use crate::shape::{Code, Kind, Parts};
-use crate::state::{State, distinct, has};
+use crate::state::{State, has};
 use crate::table::{at, bit, byte, put};
 use std::alloc::{AllocError, Global};
 
@@ -12,6 +13,8 @@ use std::alloc::{AllocError, Global};
 pub(crate) struct Least {
     terms: Vec<u8>,
     pub mask: u32,
+    // The changes of classes when these were found.
+    changes: u64,
 }
 
 impl Least {
@@ -20,6 +23,7 @@ impl Least {
         let mut least = Least {
             terms: Vec::new(alloc),
             mask: 0,
+            changes: 0,
         };
         for term in 0..terms {
             least.terms.push(byte(term))?;
@@ -35,6 +39,10 @@ impl Least {
 
     /// Finds the least terms anew. Answers the word of those terms whose least one is less than it was.
     pub fn find(&mut self, state: &State) -> u32 {
+        if self.changes == state.classes.changes() {
+            return 0;
+        }
+        self.changes = state.classes.changes();
         let mut by_leader = [255; 32];
         let mut lessened = 0;
         self.mask = 0;
@@ -62,15 +70,13 @@ impl Least {
         self.mask & word == word
     }
 
-    /// An atom over the least terms.
+    /// An atom over the least terms. Terms past its arity are 0, the least of all.
     pub fn over(&self, parts: Parts) -> Parts {
         let [x, y, z] = parts.terms;
-        let arity = parts.kind.arity();
-        let term = |place: usize, term: u8| if place < arity { self.of(term) } else { 0 };
         Parts {
             kind: parts.kind,
             version: parts.version,
-            terms: [term(0, x), term(1, y), term(2, z)],
+            terms: [self.of(x), self.of(y), self.of(z)],
         }
     }
 }
@@ -113,16 +119,19 @@ fn carry_anew(state: &mut State, least: &Least, term: u8) -> Result<(), AllocErr
     Ok(())
 }
 
-// Gives the atom over least terms the truth of a literal's atom, by a lemma. Where it has the other truth, the classes
-// find the clash.
+// Gives the atom over least terms the truth of a literal's atom, by a lemma, but for false where that one stands in no
+// clause. Where it has the other truth, the classes find the clash.
 fn carry(state: &mut State, least: &Least, code: Code) -> Result<(), AllocError> {
     let parts = state.shape.parts(code.atom());
-    if parts.kind == Kind::Def || parts.kind == Kind::Eq {
+    if parts.kind == Kind::Def || parts.kind == Kind::Eq && code.is_positive() {
         return Ok(());
     }
     let over = least.over(parts);
     let carried = Code::new(state.shape.number(over), code.is_positive());
     if carried.0 == code.0 || !state.trail.is_open(carried) {
+        return Ok(());
+    }
+    if !code.is_positive() && !state.order.is_needed(carried.atom()) {
         return Ok(());
     }
     let mut codes = Vec::new(state.alloc);
@@ -131,8 +140,7 @@ fn carry(state: &mut State, least: &Least, code: Code) -> Result<(), AllocError>
     state
         .classes
         .explain(&state.shape, parts, over, &mut codes)?;
-    let lemma = distinct(state.alloc, codes.as_slice())?;
-    let _added = state.add(lemma.as_slice(), Origin::Lemma)?;
+    let _added = state.add_lemma(codes.as_slice())?;
     Ok(())
 }
 
@@ -144,42 +152,45 @@ fn add_for(
     code: Code,
 ) -> Result<Option<u32>, AllocError> {
     let parts = state.shape.parts(code.atom());
-    match parts.kind {
-        Kind::Def => Ok(None),
-        Kind::Eq => {
-            let over = least.over(parts);
-            let known = state
-                .trail
-                .is_open(Code::new(state.shape.number(over), false));
-            if code.is_positive() || known {
-                return Ok(None);
-            }
-            let [x, y, z] = over.terms;
-            let turned = Parts {
-                kind: Kind::Eq,
-                version: 0,
-                terms: [y, x, z],
-            };
-            if let Some(conflict) = add_in_window(state, plans, least, over)? {
-                return Ok(Some(conflict));
-            }
-            add_in_window(state, plans, least, turned)
-        }
-        _ => {
-            if !least.are_least(parts) {
-                carry(state, least, code)?;
-                return Ok(None);
-            }
-            let (low, high) = state.order.window();
-            if parts.version < low || parts.version > high {
-                return Ok(None);
-            }
-            add_at(state, plans, least, parts, code.is_positive())
-        }
+    if parts.kind == Kind::Def || parts.kind == Kind::Eq && code.is_positive() {
+        return Ok(None);
     }
+    if !least.are_least(parts) {
+        carry(state, least, code)?;
+        return Ok(None);
+    }
+    if parts.kind == Kind::Eq {
+        return add_apart(state, plans, least, parts);
+    }
+    let (low, high) = state.order.window();
+    if parts.version < low || parts.version > high {
+        return Ok(None);
+    }
+    add_at(state, plans, least, parts, code.is_positive())
 }
 
-// Adds the instances that a negated equality makes unit or false, in each version of the window.
+// Adds the instances that a negated equality makes unit or false, read both ways.
+fn add_apart(
+    state: &mut State,
+    plans: &Plans,
+    least: &Least,
+    parts: Parts,
+) -> Result<Option<u32>, AllocError> {
+    let [x, y, z] = parts.terms;
+    for terms in [[x, y, z], [y, x, z]] {
+        let apart = Parts {
+            kind: parts.kind,
+            version: 0,
+            terms,
+        };
+        if let Some(conflict) = add_in_window(state, plans, least, apart)? {
+            return Ok(Some(conflict));
+        }
+    }
+    Ok(None)
+}
+
+// Adds the instances that a negated equality, read one way, makes unit or false, in each version of the window.
 fn add_in_window(
     state: &mut State,
     plans: &Plans,
@@ -223,14 +234,15 @@ fn add_at(
 // The terms for a plan's free variable over which at most one literal isn't false and none is true.
 fn unit_terms(state: &State, plan: &Plan, mask: u32, version: u8, tuple: &[u8; 4]) -> u32 {
     let (mut open, mut all_false, mut one_left) = (mask, u32::MAX, 0);
-    for (reading, pattern) in plan.reads.as_slice() {
-        let (right, wrong) = if pattern.positive {
+    for read in plan.reads.as_slice() {
+        let (right, wrong) = if read.positive {
             (&state.yes, &state.no)
         } else {
             (&state.no, &state.yes)
         };
-        open &= !right.word(*reading, version, tuple);
-        let gone = wrong.word(*reading, version, tuple);
+        let place = read.reading.place(version, tuple);
+        open &= !right.word(place);
+        let gone = wrong.word(place);
         one_left = one_left & gone | all_false & !gone;
         all_false &= gone;
         if open & (one_left | all_false) == 0 {
@@ -267,32 +279,56 @@ fn add_planned(
     Ok(None)
 }
 
-// The literal of a pattern over a tuple of terms.
-fn code_of(state: &State, pattern: &Pattern, version: u8, tuple: &[u8; 4]) -> Code {
-    let parts = pattern.parts(version, tuple);
-    Code::new(state.shape.number(parts), pattern.positive)
+// The literals of an instance, without repeats.
+#[derive(Clone, Copy, Debug)]
+struct Few {
+    codes: [Code; 4],
+    count: usize,
 }
 
-// Whether an instance is unit or false: no literal is true, and one at most is open.
-fn is_due(state: &State, row: &Row, version: u8, tuple: &[u8; 4]) -> bool {
-    let mut open = None;
-    for pattern in row.patterns.as_slice() {
-        let [x, y, _] = pattern.parts(version, tuple).terms;
-        let code = code_of(state, pattern, version, tuple);
-        let reflexive = pattern.kind == Kind::Eq && pattern.positive && x == y;
-        if reflexive || state.trail.is_true(code) {
-            return false;
-        }
-        if !state.trail.is_open(code) {
-            continue;
-        }
-        match open {
-            None => open = Some(code.0),
-            Some(other) if other == code.0 => {}
-            Some(_) => return false,
+impl Few {
+    // The literals.
+    fn codes(&self) -> &[Code] {
+        &self.codes.as_slice()[..self.count.min(4)]
+    }
+
+    // Adds a literal that isn't there yet.
+    fn push(&mut self, code: Code) {
+        if self.count < 4 && !has(self.codes(), code) {
+            self.codes[self.count] = code;
+            self.count = self.count.wrapping_add(1);
         }
     }
-    true
+}
+
+// The literals of an instance, if it is unit or false: none is true, and one at most is open.
+fn due(state: &State, row: &Row, version: u8, tuple: &[u8; 4]) -> Option<Few> {
+    let mut open = None;
+    let mut few = Few {
+        codes: [Code(0); 4],
+        count: 0,
+    };
+    for pattern in row.patterns.as_slice() {
+        let parts = pattern.parts(version, tuple);
+        let reflexive = parts.kind == Kind::Eq
+            && pattern.positive
+            && parts.terms[0] == parts.terms[1];
+        let code = Code::new(state.shape.number(parts), pattern.positive);
+        if reflexive || state.trail.is_true(code) {
+            return None;
+        }
+        if state.trail.is_open(code) {
+            if open.is_some_and(|other| other != code.0) {
+                return None;
+            }
+            open = Some(code.0);
+            if !code.is_positive() && !state.order.is_needed(code.atom()) {
+                return None;
+            }
+        }
+        few.push(code);
+    }
+    Some(few)
 }
 
 // Adds an instance, if it is unit or false. The number of a false one is answered.
@@ -302,18 +338,11 @@ fn add_instance(
     version: u8,
     tuple: &[u8; 4],
 ) -> Result<Option<u32>, AllocError> {
-    if !is_due(state, row, version, tuple) {
+    let Some(few) = due(state, row, version, tuple) else {
         return Ok(None);
-    }
-    let mut codes: Vec<Code> = Vec::new(state.alloc);
-    for pattern in row.patterns.as_slice() {
-        let code = code_of(state, pattern, version, tuple);
-        if !has(codes.as_slice(), code) {
-            codes.push(code)?;
-        }
-    }
+    };
     let name = row.name(version, tuple);
-    let added = state.add(codes.as_slice(), Origin::Instance(name))?;
+    let added = state.add(few.codes(), Origin::Instance(name))?;
     Ok(if added.is_false {
         Some(added.number)
     } else {

@@ -56,7 +56,7 @@ fn segments(searcher: &Searcher) -> Result<Vec<(u8, u8)>, AllocError> {
     let (state, terms) = (&searcher.state, searcher.state.shape.terms);
     let mut between: Vec<u32> = vec![in state.alloc; 0; cell(terms, terms, 0)]?;
     for number in 0..state.count() {
-        if let Some(Origin::Ground) = state.clauses.origin(number) {
+        if let Some(Origin::Ground(_)) = state.clauses.origin(number) {
             note_between(searcher, number, between.as_mut_slice());
         }
     }
@@ -101,8 +101,8 @@ fn candidates(
     Ok(found)
 }
 
-// Adds the lemmas of a segment. Those added last are tried first: that it is there, then that terms stay on it, then that
-// others don't come to it.
+// Adds the lemmas of a segment. Those added last are tried first: that it is there, then that terms stay on it, then
+// that others don't come to it.
 fn push_segment(found: &mut Vec<Candidate>, terms: usize, x: u8, z: u8) -> Result<(), AllocError> {
     for stays in [false, true] {
         push_between(found, terms, x, z, stays)?;
@@ -154,14 +154,20 @@ fn try_version(
 ) -> Result<Option<u32>, AllocError> {
     searcher.set_window(version.wrapping_sub(1), version)?;
     let mut all = candidates(searcher, segments, version)?;
-    if let End::Found(made) = searcher.run(&[], MOST)? {
-        keep_true(searcher, &made, version, &mut all);
+    if all.is_empty() {
+        return Ok(None);
+    }
+    match searcher.run(&[], MOST)? {
+        End::Refuted(conflict) => return Ok(Some(conflict)),
+        End::Found(made) => keep_true(searcher, &made, version, &mut all),
+        End::Shown => {}
+        End::TooLong => {}
     }
     for _ in 0..u32::MAX {
         let Some(candidate) = all.pop() else {
             break;
         };
-        searcher.state.cut(0)?;
+        searcher.cut(0)?;
         let codes = candidate.codes(searcher, version);
         match searcher.run(codes.as_slice(), MOST)? {
             End::Refuted(conflict) => return Ok(Some(conflict)),

@@ -2,7 +2,7 @@
 
 use crate::shape::Code;
 use crate::state::State;
-use crate::table::{at, put};
+use crate::table::{at, put, small};
 use crate::trail::NO_CLAUSE;
 use std::alloc::{AllocError, Global};
 
@@ -18,11 +18,19 @@ pub(crate) struct Lessons {
     // The marked literals of lower levels, and the hints for those of level 0.
     lower: Vec<Code>,
     units: Vec<u32>,
+    // The clauses that were resolved.
+    reasons: Vec<u32>,
+    // The atoms of literals that follow from others of the lesson, in the order of the trail.
+    spared: Vec<u32>,
+    /// What was learnt last, and the hints that show it.
+    pub codes: Vec<Code>,
+    pub hints: Vec<u32>,
     // So many literals of level 0 have clauses of their own.
     settled: usize,
 }
 
 impl Lessons {
+    /// No atom is marked.
     pub fn new(alloc: Global, atoms: usize) -> Result<Lessons, AllocError> {
         Ok(Lessons {
             alloc,
@@ -31,6 +39,10 @@ impl Lessons {
             waiting: 0,
             lower: Vec::new(alloc),
             units: Vec::new(alloc),
+            reasons: Vec::new(alloc),
+            spared: Vec::new(alloc),
+            codes: Vec::new(alloc),
+            hints: Vec::new(alloc),
             settled: 0,
         })
     }
@@ -58,8 +70,9 @@ impl Lessons {
             put(self.stamps.as_mut_slice(), atom, self.round);
             state.order.bump(&state.shape, atom);
             let own = state.trail.level_of(atom);
-            if own == 0 {
-                self.units.push(state.trail.reason(atom))?;
+            let reason = state.trail.reason(atom);
+            if own == 0 || own < level && state.clauses.len(reason) == 1 {
+                self.units.push(reason)?;
             } else if own == level {
                 self.waiting = self.waiting.saturating_add(1);
             } else {
@@ -74,15 +87,16 @@ impl Lessons {
         at(self.stamps.as_slice(), atom, 0) == self.round
     }
 
-    /// What is learnt from a false clause that has literals of the present level, which isn't 0.
-    pub fn resolve(&mut self, state: &mut State, conflict: u32) -> Result<Lesson, AllocError> {
+    /// Learns from a false clause that has literals of the present level, which isn't 0. Answers the level at which the
+    /// clause that is learnt is unit.
+    pub fn resolve(&mut self, state: &mut State, conflict: u32) -> Result<u32, AllocError> {
         self.settle(state)?;
         self.round = self.round.wrapping_add(1);
         self.waiting = 0;
         self.lower.clear();
         self.units.clear();
-        let mut reasons = Vec::new(self.alloc);
-        reasons.push(conflict)?;
+        self.reasons.clear();
+        self.reasons.push(conflict)?;
         self.mark(state, conflict)?;
         let mut point = Code(0);
         let length = state.trail.steps.len();
@@ -96,37 +110,84 @@ impl Lessons {
                 break;
             }
             self.waiting = self.waiting.wrapping_sub(1);
-            reasons.push(reason)?;
+            self.reasons.push(reason)?;
             self.mark(state, reason)?;
         }
         state.order.end_conflict();
-        self.lesson(state, point, reasons)
+        self.lesson(state, point)
     }
 
-    // The lesson at an implication point, from the reasons in the order in which they were resolved.
-    fn lesson(
-        &mut self,
-        state: &State,
-        point: Code,
-        reasons: Vec<u32>,
-    ) -> Result<Lesson, AllocError> {
+    // Whether a literal of the lesson follows from the others: its reason has no further ones but of level 0.
+    fn is_spared(&self, state: &State, code: Code) -> bool {
+        let reason = state.trail.reason(code.atom());
+        if reason == NO_CLAUSE {
+            return false;
+        }
+        for other in state.clauses.codes(reason) {
+            let atom = other.atom();
+            if !self.is_marked(atom) && state.trail.level_of(atom) > 0 {
+                return false;
+            }
+        }
+        true
+    }
+
+    // Notes the clauses of a reason's literals of level 0.
+    fn note_units(&mut self, state: &State, reason: u32) -> Result<(), AllocError> {
+        for other in state.clauses.codes(reason) {
+            let atom = other.atom();
+            if state.trail.level_of(atom) == 0 && !self.is_marked(atom) {
+                put(self.stamps.as_mut_slice(), atom, self.round);
+                self.units.push(state.trail.reason(atom))?;
+            }
+        }
+        Ok(())
+    }
+
+    // Notes an atom that is spared, in the order of the trail.
+    fn note_spared(&mut self, state: &State, atom: u32) -> Result<(), AllocError> {
+        let place = state.trail.place_of(atom as usize);
+        let mut spot = self.spared.len();
+        self.spared.push(atom)?;
+        for _ in 0..self.spared.len() {
+            let below = spot.saturating_sub(1);
+            let before = at(self.spared.as_slice(), below, 0);
+            if spot == 0 || state.trail.place_of(before as usize) <= place {
+                break;
+            }
+            put(self.spared.as_mut_slice(), spot, before);
+            spot = below;
+        }
+        put(self.spared.as_mut_slice(), spot, atom);
+        Ok(())
+    }
+
+    // Makes the lesson at an implication point, from the clauses in the order in which they were resolved. Answers its
+    // level.
+    fn lesson(&mut self, state: &State, point: Code) -> Result<u32, AllocError> {
         let mut level = 0;
-        for code in self.lower.as_slice() {
-            level = state.trail.level_of(code.atom()).max(level);
+        self.codes.clear();
+        self.spared.clear();
+        self.codes.push(point.negated())?;
+        for index in 0..self.lower.len() {
+            let code = at(self.lower.as_slice(), index, point);
+            if self.is_spared(state, code) {
+                self.note_units(state, state.trail.reason(code.atom()))?;
+                self.note_spared(state, small(code.atom()))?;
+            } else {
+                level = state.trail.level_of(code.atom()).max(level);
+                self.codes.push(code)?;
+            }
         }
-        let mut codes = Vec::new(self.alloc);
-        codes.push(point.negated())?;
-        codes.extend_from_slice(self.lower.as_slice())?;
-        let mut hints = Vec::new(self.alloc);
-        hints.extend_from_slice(self.units.as_slice())?;
-        for reason in reasons.iter().rev() {
-            hints.push(*reason)?;
+        self.hints.clear();
+        self.hints.extend_from_slice(self.units.as_slice())?;
+        for atom in self.spared.as_slice() {
+            self.hints.push(state.trail.reason(*atom as usize))?;
         }
-        Ok(Lesson {
-            codes,
-            hints,
-            level,
-        })
+        for reason in self.reasons.iter().rev() {
+            self.hints.push(*reason)?;
+        }
+        Ok(level)
     }
 
     // Marks the atoms of a clause whose literals all got their truths at level 0.
@@ -155,14 +216,6 @@ impl Lessons {
         reasons.reverse();
         Ok(reasons)
     }
-}
-
-/// A clause that was learnt, with its hints and the level at which it is unit.
-#[derive(Debug, Drop)]
-pub(crate) struct Lesson {
-    pub codes: Vec<Code>,
-    pub hints: Vec<u32>,
-    pub level: u32,
 }
 
 // Gives a literal of level 0 a clause of its own, shown by its reason and the clauses of that one's other literals.

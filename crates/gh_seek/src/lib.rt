@@ -2,9 +2,9 @@
 //! function here has a contract beyond being safe, and all that a fault could cost is time.
 //!
 //! It is clause learning with two watched literals beside equality and congruence. Instances of the axiom rows are
-//! added as soon as the trail makes them unit or false, over least terms of classes alone. Where that takes long,
-//! lemmas are looked for first, version by version: which terms stand on which segments in one version just as in the
-//! one before.
+//! added as soon as the trail makes them unit or false, over least terms of classes alone, and unless they would only
+//! make an atom false that stands in no clause. Where that takes long, lemmas are looked for first, version by version:
+//! which terms stand on which segments in one version just as in the one before.
 #![tactic(auto)]
 
 mod classes;
@@ -12,6 +12,7 @@ mod clauses;
 mod early;
 mod lemmas;
 mod lesson;
+mod load;
 mod order;
 mod rows;
 mod search;

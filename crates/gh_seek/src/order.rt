@@ -1,7 +1,8 @@
 //! Which atom is decided next: of those in a window of versions the one that stood in most and latest conflicts.
 
-use crate::shape::{Kind, Shape};
+use crate::shape::{Code, Kind, Shape};
 use crate::table::{at, put, small};
+use crate::trail::Trail;
 use std::alloc::{AllocError, Global};
 
 // What a conflict adds to a score at first, and past which sum all scores are made smaller, by how many bits.
@@ -14,13 +15,19 @@ const SMALLER_BY: u32 = 24;
 // No heap is deeper.
 const DEPTH: u32 = 40;
 
-/// A heap of the atoms that stand in clauses, by their scores.
+/// The atoms that stand in clauses, by their scores. Those that stood in a clause from the start and have no score are
+/// a row, which a place goes along. All others of the window that may have no truth are in a heap.
 #[derive(Debug, Drop)]
 pub(crate) struct Order {
-    // By atom: its score, one more than its spot in the heap, and whether it stands in a clause.
+    // By atom: its score, one more than its spot in the heap, whether it stands in a clause, and one more than its
+    // place in the row.
     scores: Vec<u64>,
     spots: Vec<u32>,
     needed: Vec<bool>,
+    places: Vec<u32>,
+    // Before the place `next` of the row no atom of the window is open that has no score and isn't in the heap.
+    row: Vec<u32>,
+    next: usize,
     heap: Vec<u32>,
     entered: Vec<u32>,
     step: u64,
@@ -29,11 +36,15 @@ pub(crate) struct Order {
 }
 
 impl Order {
+    /// No atom stands in a clause, and all versions are in the window.
     pub fn new(alloc: Global, atoms: usize) -> Result<Order, AllocError> {
         Ok(Order {
             scores: vec![in alloc; 0; atoms]?,
             spots: vec![in alloc; 0; atoms]?,
             needed: vec![in alloc; false; atoms]?,
+            places: vec![in alloc; 0; atoms]?,
+            row: Vec::new(alloc),
+            next: 0,
             heap: Vec::new(alloc),
             entered: Vec::new(alloc),
             step: FIRST_STEP,
@@ -62,9 +73,31 @@ impl Order {
             put(self.spots.as_mut_slice(), atom as usize, 0);
         }
         self.heap.clear();
+        self.next = 0;
+        for index in 0..self.row.len() {
+            let atom = at(self.row.as_slice(), index, 0);
+            self.offer(shape, atom as usize)?;
+        }
         for index in 0..self.entered.len() {
             let atom = at(self.entered.as_slice(), index, 0);
             self.offer(shape, atom as usize)?;
+        }
+        Ok(())
+    }
+
+    /// Notes that an atom stands in a clause from the start.
+    pub fn note(&mut self, atom: usize) {
+        put(self.needed.as_mut_slice(), atom, true);
+    }
+
+    /// Makes the row of the atoms that stand in clauses from the start.
+    pub fn fill(&mut self, shape: &Shape) -> Result<(), AllocError> {
+        for rank in 0..shape.count {
+            let atom = shape.rank(rank);
+            if at(self.needed.as_slice(), atom, false) {
+                self.row.push(small(atom))?;
+                put(self.places.as_mut_slice(), atom, small(self.row.len()));
+            }
         }
         Ok(())
     }
@@ -79,8 +112,23 @@ impl Order {
         self.offer(shape, atom)
     }
 
+    /// Whether an atom stands in a clause.
+    pub fn is_needed(&self, atom: usize) -> bool {
+        at(self.needed.as_slice(), atom, true)
+    }
+
+    // The score of an atom.
+    fn score(&self, atom: usize) -> u64 {
+        at(self.scores.as_slice(), atom, 0)
+    }
+
     /// Notes that an atom may have no truth.
     pub fn offer(&mut self, shape: &Shape, atom: usize) -> Result<(), AllocError> {
+        let place = at(self.places.as_slice(), atom, 0) as usize;
+        if place > 0 && self.score(atom) == 0 {
+            self.next = self.next.min(place.wrapping_sub(1));
+            return Ok(());
+        }
         let waits = at(self.spots.as_slice(), atom, 1) > 0;
         if waits || !at(self.needed.as_slice(), atom, false) || !self.is_inside(shape, atom) {
             return Ok(());
@@ -92,9 +140,29 @@ impl Order {
         Ok(())
     }
 
+    // The next atom of the row in the window that has no truth and no score.
+    fn next_of_row(&mut self, shape: &Shape, trail: &Trail) -> Option<u32> {
+        for _ in 0..u32::MAX {
+            let number = *self.row.get(self.next)?;
+            let atom = number as usize;
+            let is_open = trail.is_open(Code::new(atom, true));
+            if is_open && self.score(atom) == 0 && self.is_inside(shape, atom) {
+                return Some(number);
+            }
+            self.next = self.next.wrapping_add(1);
+        }
+        None
+    }
+
     /// Takes the atom that goes first.
-    pub fn take(&mut self, shape: &Shape) -> Option<usize> {
+    pub fn take(&mut self, shape: &Shape, trail: &Trail) -> Option<usize> {
         let first = at(self.heap.as_slice(), 0, u32::MAX);
+        if let Some(atom) = self.next_of_row(shape, trail) {
+            if self.heap.is_empty() || self.is_before(shape, atom, first) {
+                self.next = self.next.wrapping_add(1);
+                return Some(atom as usize);
+            }
+        }
         let last = self.heap.pop()?;
         put(self.spots.as_mut_slice(), first as usize, 0);
         if !self.heap.is_empty() {
@@ -106,12 +174,8 @@ impl Order {
 
     /// Notes that an atom stood in a conflict.
     pub fn bump(&mut self, shape: &Shape, atom: usize) {
-        let score = at(self.scores.as_slice(), atom, 0);
-        put(
-            self.scores.as_mut_slice(),
-            atom,
-            score.saturating_add(self.step),
-        );
+        let score = self.score(atom).saturating_add(self.step);
+        put(self.scores.as_mut_slice(), atom, score);
         let spot = at(self.spots.as_slice(), atom, 0);
         if spot > 0 {
             self.rise(shape, spot.wrapping_sub(1) as usize);
@@ -131,8 +195,7 @@ impl Order {
 
     // Whether an atom goes before another: by its score, and among equals by the order of atoms.
     fn is_before(&self, shape: &Shape, atom: u32, other: u32) -> bool {
-        let one = at(self.scores.as_slice(), atom as usize, 0);
-        let two = at(self.scores.as_slice(), other as usize, 0);
+        let (one, two) = (self.score(atom as usize), self.score(other as usize));
         one > two || one == two && shape.rank(atom as usize) < shape.rank(other as usize)
     }
 

@@ -2,7 +2,7 @@
 
 use crate::shape::{Kind, Parts};
 use crate::table::{at, byte};
-use crate::words::Reading;
+use crate::words::{Layout, Reading};
 use gh_base::atom::{Atom, Lit, Term};
 use gh_inst::naming::{InstanceName, instance};
 use std::alloc::{AllocError, Global};
@@ -55,26 +55,6 @@ impl Pattern {
             terms: [term(0, x), term(1, y), term(2, z)],
         }
     }
-
-    // How the pattern's atom is read where a variable is free.
-    fn reading(&self, free: Option<u8>) -> Reading {
-        let Some(free) = free else {
-            return Reading::Whole;
-        };
-        let [x, y, z] = self.places;
-        match self.kind {
-            Kind::Btwn if y == free && z == free => Reading::Diagonal { x },
-            Kind::Btwn if z == free => Reading::ByZ { x, y },
-            Kind::Btwn if y == free => Reading::ByY { x, z },
-            Kind::Btwn if x == free => Reading::ByX { y, z },
-            Kind::Hop if y == free => Reading::HopTo { x },
-            Kind::Hop if x == free => Reading::HopFrom { v: y },
-            Kind::Eq if x == free => Reading::Equal { x: y },
-            Kind::Eq if y == free => Reading::Equal { x },
-            Kind::Alloc if x == free => Reading::Allocated,
-            _ => Reading::Whole,
-        }
-    }
 }
 
 /// A row: its number, how many variables it has, and its literals.
@@ -103,32 +83,40 @@ impl Row {
     }
 }
 
+/// A literal of a row that is read over a free variable.
+#[derive(Clone, Copy, Debug)]
+pub(crate) struct Read {
+    pub reading: Reading,
+    pub kind: Kind,
+    pub positive: bool,
+}
+
 /// What is read where a literal of a row is false: its places bind all variables but a free one, and each other literal
 /// is read over that.
 #[derive(Debug, Drop)]
 pub(crate) struct Plan {
     pub row: usize,
-    pub trigger: Pattern,
     pub free: Option<u8>,
     /// The trigger is the row's first negative literal.
     pub is_first: bool,
-    pub reads: Vec<(Reading, Pattern)>,
+    pub reads: Vec<Read>,
+    // By variable: a place of the trigger that has it, or 3 where none has.
+    sources: [u8; 4],
+    // By place of the trigger: the first that has the same variable.
+    same: [u8; 3],
 }
 
 impl Plan {
     /// The tuple of variables that the trigger's terms give, if equal places have equal terms.
     pub fn tuple(&self, terms: [u8; 3]) -> Option<[u8; 4]> {
-        let mut tuple = [0; 4];
-        let mut bound = [false; 4];
-        for place in 0..self.trigger.kind.arity().min(3) {
-            let variable = (self.trigger.places[place] & 3) as usize;
-            if bound[variable] && tuple[variable] != terms[place] {
-                return None;
-            }
-            bound[variable] = true;
-            tuple[variable] = terms[place];
+        let [x, y, z] = terms;
+        let given = [x, y, z, 0];
+        let term = |place: u8| given[(place & 3) as usize];
+        if term(self.same[1]) != y || term(self.same[2]) != z {
+            return None;
         }
-        Some(tuple)
+        let [first, second, third, fourth] = self.sources;
+        Some([term(first), term(second), term(third), term(fourth)])
     }
 }
 
@@ -165,32 +153,70 @@ fn row_of(alloc: Global, number: u8, arity: u8) -> Result<Option<Row>, AllocErro
     }))
 }
 
+// The literals of a row with a free variable, but for the one at a place, as they are read over it: negative ones
+// first, since few atoms are true.
+fn reads_of(
+    alloc: Global,
+    layout: &Layout,
+    row: &Row,
+    place: usize,
+    free: Option<u8>,
+) -> Result<Vec<Read>, AllocError> {
+    let mut reads = Vec::new(alloc);
+    let Some(free) = free else {
+        return Ok(reads);
+    };
+    for positive in [false, true] {
+        for other in 0..row.patterns.len() {
+            let pattern = row.patterns[other];
+            if other != place && pattern.has(free) && pattern.positive == positive {
+                reads.push(Read {
+                    reading: layout.reading(pattern.kind, pattern.places, free),
+                    kind: pattern.kind,
+                    positive,
+                })?;
+            }
+        }
+    }
+    Ok(reads)
+}
+
+// Whether a literal of a row before a place is negative.
+fn has_negative_before(row: &Row, place: usize) -> bool {
+    for other in 0..row.patterns.len() {
+        if other < place && !row.patterns[other].positive {
+            return true;
+        }
+    }
+    false
+}
+
 // The plan of a row's literal.
 fn plan_of(
     alloc: Global,
+    layout: &Layout,
     row: &Row,
     index: usize,
     place: usize,
     trigger: Pattern,
 ) -> Result<Plan, AllocError> {
     let free = (0..row.arity).find(|variable| !trigger.has(*variable));
-    let mut reads = Vec::new(alloc);
-    let mut negative_before = false;
-    for other in 0..row.patterns.len() {
-        let pattern = row.patterns[other];
-        if other < place && !pattern.positive {
-            negative_before = true;
+    let mut sources = [3; 4];
+    let mut same = [0, 1, 2];
+    for spot in 0..trigger.kind.arity().min(3) {
+        let variable = (trigger.places[spot] & 3) as usize;
+        if sources[variable] == 3 {
+            sources[variable] = byte(spot);
         }
-        if other != place {
-            reads.push((pattern.reading(free), pattern))?;
-        }
+        same[spot] = sources[variable];
     }
     Ok(Plan {
         row: index,
-        trigger,
         free,
-        is_first: !trigger.positive && !negative_before,
-        reads,
+        is_first: !trigger.positive && !has_negative_before(row, place),
+        reads: reads_of(alloc, layout, row, place, free)?,
+        sources,
+        same,
     })
 }
 
@@ -201,7 +227,8 @@ fn group(kind: Kind, positive: bool) -> usize {
 }
 
 impl Plans {
-    pub fn new(alloc: Global) -> Result<Plans, AllocError> {
+    /// All rows, read in words of a layout.
+    pub fn new(alloc: Global, layout: &Layout) -> Result<Plans, AllocError> {
         let mut plans = Plans {
             rows: Vec::new(alloc),
             groups: Vec::new(alloc),
@@ -210,20 +237,26 @@ impl Plans {
             plans.groups.push(Vec::new(alloc))?;
         }
         for number in 0..64 {
-            plans.add_number(alloc, byte(number / 4), byte(number % 4 + 1))?;
+            plans.add_number(alloc, layout, byte(number / 4), byte(number % 4 + 1))?;
         }
         Ok(plans)
     }
 
     // Adds the row of a number with so many variables, if it is there.
-    fn add_number(&mut self, alloc: Global, number: u8, arity: u8) -> Result<(), AllocError> {
+    fn add_number(
+        &mut self,
+        alloc: Global,
+        layout: &Layout,
+        number: u8,
+        arity: u8,
+    ) -> Result<(), AllocError> {
         let Some(row) = row_of(alloc, number, arity)? else {
             return Ok(());
         };
         let index = self.rows.len();
         for place in 0..row.patterns.len() {
             let trigger = row.patterns[place];
-            let plan = plan_of(alloc, &row, index, place, trigger)?;
+            let plan = plan_of(alloc, layout, &row, index, place, trigger)?;
             let group = group(trigger.kind, !trigger.positive);
             if group < self.groups.len() {
                 self.groups[group].push(plan)?;

@@ -3,12 +3,12 @@
 use crate::clauses::Origin;
 use crate::early::{Least, add_early};
 use crate::lesson::Lessons;
+use crate::load::load;
 use crate::rows::{Plans, Row};
 use crate::shape::Code;
-use crate::state::{State, distinct, has};
-use crate::structure::{Made, add_false};
+use crate::state::{State, has};
+use crate::structure::{Made, Missing, add_false};
 use crate::table::byte;
-use gh_base::atom::Lit;
 use gh_base::ground::Ground;
 use std::alloc::{AllocError, Global};
 
@@ -53,19 +53,8 @@ impl Searcher {
     /// A search over the clauses of a ground problem, and the reflexive instances.
     pub fn new(alloc: Global, ground: &Ground) -> Result<Searcher, AllocError> {
         let mut state = State::new(alloc, ground.sizes())?;
-        note_versions(&mut state, ground);
-        for number in 0..ground.count() {
-            let Some(clause) = ground.clause(number) else {
-                break;
-            };
-            let mut codes = Vec::new(alloc);
-            for lit in clause.lits() {
-                codes.push(state.shape.code(*lit))?;
-            }
-            let codes = distinct(alloc, codes.as_slice())?;
-            let _added = state.add(codes.as_slice(), Origin::Ground)?;
-        }
-        let plans = Plans::new(alloc)?;
+        load(alloc, &mut state, ground)?;
+        let plans = Plans::new(alloc, &state.layout)?;
         add_reflexive(&mut state, &plans)?;
         Ok(Searcher {
             least: Least::new(alloc, state.shape.terms)?,
@@ -108,22 +97,29 @@ impl Searcher {
         Ok(None)
     }
 
+    /// Cuts the trail to a level, and finds the least terms that are left: all literals over these are carried.
+    pub fn cut(&mut self, level: u32) -> Result<(), AllocError> {
+        self.state.cut(level)?;
+        let _lessened = self.least.find(&self.state);
+        Ok(())
+    }
+
     // Learns from a false clause. Answers whether it is false at level 0.
     fn learn(&mut self, conflict: u32) -> Result<bool, AllocError> {
         self.state.conflicts = self.state.conflicts.saturating_add(1);
-        self.state.cut_for(conflict)?;
+        let top = self.state.top(conflict);
+        self.cut(top)?;
         let present = self.state.trail.level();
         if present == 0 {
             return Ok(true);
         }
-        let lesson = self.lessons.resolve(&mut self.state, conflict)?;
-        self.state
-            .cut(cut_level(present, lesson.level, self.stride))?;
+        let level = self.lessons.resolve(&mut self.state, conflict)?;
+        self.cut(cut_level(present, level, self.stride))?;
         self.stride = self.stride.saturating_mul(4).saturating_add(1);
-        let number = self
-            .state
-            .clauses
-            .learn(lesson.codes.as_slice(), lesson.hints.as_slice())?;
+        let number = self.state.clauses.learn(
+            self.lessons.codes.as_slice(),
+            self.lessons.hints.as_slice(),
+        )?;
         let _added = self.state.attach(number)?;
         Ok(false)
     }
@@ -143,13 +139,12 @@ impl Searcher {
     // Decides the atom that goes first. Answers whether there was one.
     fn decide_next(&mut self) -> Result<bool, AllocError> {
         for _ in 0..u32::MAX {
-            let Some(atom) = self.state.order.take(&self.state.shape) else {
+            let Some(atom) = self.state.order.take(&self.state.shape, &self.state.trail) else {
                 break;
             };
-            let positive = self.state.classes.holds(&self.state.shape, atom);
-            let code = Code::new(atom, positive);
-            if self.state.trail.is_open(code) {
-                self.state.decide(code)?;
+            if self.state.trail.is_open(Code::new(atom, true)) {
+                let positive = self.state.classes.holds(&self.state.shape, atom);
+                self.state.decide(Code::new(atom, positive))?;
                 return Ok(true);
             }
         }
@@ -176,10 +171,15 @@ impl Searcher {
             if self.decide(wanted)? {
                 continue;
             }
-            let _lessened = self.least.find(&self.state);
             let made = Made::new(&self.state, &self.least)?;
-            if !add_false(&mut self.state, &self.plans, &self.least, &made)? {
-                return Ok(End::Found(made));
+            match add_false(&mut self.state, &self.plans, &self.least, &made)? {
+                Missing::None => return Ok(End::Found(made)),
+                Missing::Added => {}
+                Missing::False(conflict) => {
+                    if self.learn(conflict)? {
+                        return Ok(End::Refuted(conflict));
+                    }
+                }
             }
         }
         Ok(End::TooLong)
@@ -187,39 +187,10 @@ impl Searcher {
 
     /// Goes back to level 0, and looks at some versions alone from now on.
     pub fn set_window(&mut self, low: u8, high: u8) -> Result<(), AllocError> {
-        self.state.cut(0)?;
+        self.cut(0)?;
         self.state.early = 0;
         self.state.order.set_window(&self.state.shape, low, high)
     }
-}
-
-// Notes the latest version of which each definition speaks: a clause that defines one has it as its greatest number.
-fn note_versions(state: &mut State, ground: &Ground) {
-    for number in 0..ground.count() {
-        let Some(clause) = ground.clause(number) else {
-            break;
-        };
-        let mut defined = 0;
-        for lit in clause.lits() {
-            defined = state.shape.code(*lit).atom().max(defined);
-        }
-        if defined >= state.shape.defs {
-            let version = version_below(state, clause.lits(), defined);
-            state.shape.note_version(defined, version);
-        }
-    }
-}
-
-// The latest version of which the literals of a clause speak, but for that of the definition.
-fn version_below(state: &State, lits: &[Lit], defined: usize) -> u8 {
-    let mut version = 0;
-    for lit in lits {
-        let atom = state.shape.code(*lit).atom();
-        if atom != defined {
-            version = state.shape.parts(atom).version.max(version);
-        }
-    }
-    version
 }
 
 // Adds the instances of rows with one variable, in all versions: nothing makes these unit.

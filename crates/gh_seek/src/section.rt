@@ -66,7 +66,7 @@ fn push_line(
     let (shape, clauses) = (&searcher.state.shape, &searcher.state.clauses);
     match clauses.origin(number) {
         None => Ok(()),
-        Some(Origin::Ground) => lines.push(LogLine::Clause { number }),
+        Some(Origin::Ground(number)) => lines.push(LogLine::Clause { number }),
         Some(Origin::Instance(name)) => lines.push(LogLine::Axiom(name)),
         Some(Origin::Lemma) => {
             let lits = lits_of(alloc, shape, clauses, number)?;

@@ -15,12 +15,12 @@ pub enum Found {
     Refutation(Section),
     /// Literals that a structure is to make true.
     Truths(Vec<Lit>),
-    /// Nothing, within the turns that it had.
+    /// Nothing: there are more terms or atoms than it has tables for.
     Nothing,
 }
 
-// So many conflicts for each term come before lemmas are looked for: most searches need fewer, and over many terms there
-// are many lemmas.
+// So many conflicts for each term come before lemmas are looked for: most searches need fewer, and over many terms
+// there are many lemmas.
 const FIRST_CONFLICTS: u64 = 40;
 
 // No more terms have bits in a word, and for no more atoms tables are made.

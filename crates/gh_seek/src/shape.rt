@@ -1,6 +1,6 @@
 //! Dense numbers of atoms and literals, and what stands behind them.
 
-use crate::table::{byte, cell, small};
+use crate::table::{cell, small};
 use gh_base::atom::{Atom, Lit, Term};
 use gh_base::sizes::Sizes;
 use std::alloc::{AllocError, Global};
@@ -21,10 +21,12 @@ impl Code {
         (self.0 / 2) as usize
     }
 
+    /// Whether the literal is its atom.
     pub fn is_positive(self) -> bool {
         self.0 % 2 == 1
     }
 
+    /// The opposite literal.
     pub fn negated(self) -> Code {
         Code(self.0 ^ 1)
     }
@@ -67,6 +69,13 @@ pub(crate) struct Parts {
     pub terms: [u8; 3],
 }
 
+// Those of a definition.
+const NO_PARTS: Parts = Parts {
+    kind: Kind::Def,
+    version: 0,
+    terms: [0; 3],
+};
+
 impl Parts {
     /// The term at a place, from 0.
     pub fn term(&self, place: usize) -> u8 {
@@ -91,7 +100,63 @@ pub(crate) struct Shape {
     parts: Vec<Parts>,
 }
 
+// The parts of all atoms, in the order of their numbers.
+fn all_parts(alloc: Global, sizes: Sizes, count: usize) -> Result<Vec<Parts>, AllocError> {
+    let mut all = Vec::with_capacity(alloc, count)?;
+    push_pairs(&mut all, Kind::Eq, 0, sizes.terms)?;
+    for version in 0..sizes.versions {
+        for x in 0..sizes.terms {
+            push_betweens(&mut all, version, x, sizes.terms)?;
+        }
+    }
+    for version in 0..sizes.versions {
+        push_pairs(&mut all, Kind::Hop, version, sizes.terms)?;
+    }
+    for version in 0..sizes.versions {
+        for x in 0..sizes.terms {
+            all.push(Parts {
+                kind: Kind::Alloc,
+                version,
+                terms: [x, 0, 0],
+            })?;
+        }
+    }
+    for _ in 0..sizes.defs {
+        all.push(NO_PARTS)?;
+    }
+    Ok(all)
+}
+
+// Adds the parts of the atoms of a kind over all pairs of terms.
+fn push_pairs(all: &mut Vec<Parts>, kind: Kind, version: u8, terms: u8) -> Result<(), AllocError> {
+    for x in 0..terms {
+        for y in 0..terms {
+            all.push(Parts {
+                kind,
+                version,
+                terms: [x, y, 0],
+            })?;
+        }
+    }
+    Ok(())
+}
+
+// Adds the parts of the `Btwn` atoms that begin with a term.
+fn push_betweens(all: &mut Vec<Parts>, version: u8, x: u8, terms: u8) -> Result<(), AllocError> {
+    for y in 0..terms {
+        for z in 0..terms {
+            all.push(Parts {
+                kind: Kind::Btwn,
+                version,
+                terms: [x, y, z],
+            })?;
+        }
+    }
+    Ok(())
+}
+
 impl Shape {
+    /// The atoms over some sizes.
     pub fn new(alloc: Global, sizes: Sizes) -> Result<Shape, AllocError> {
         let (terms, versions) = (sizes.terms as usize, sizes.versions as usize);
         let btwns = cell(terms, terms, 0);
@@ -99,7 +164,7 @@ impl Shape {
         let allocs = cell(cell(versions, terms, 0), terms, hops);
         let defs = cell(versions, terms, allocs);
         let count = defs.wrapping_add(sizes.defs as usize);
-        let mut shape = Shape {
+        Ok(Shape {
             terms,
             versions,
             btwns,
@@ -107,71 +172,15 @@ impl Shape {
             allocs,
             defs,
             count,
-            parts: Vec::with_capacity(alloc, count)?,
-        };
-        for number in 0..count {
-            let parts = shape.parts_at(number);
-            shape.parts.push(parts)?;
-        }
-        Ok(shape)
-    }
-
-    // The row and the column of a place in a table with a column for each term.
-    fn split(&self, place: usize) -> (usize, u8) {
-        if self.terms == 0 {
-            return (0, 0);
-        }
-        (place / self.terms, byte(place % self.terms))
-    }
-
-    // The parts of the atom of a number.
-    fn parts_at(&self, number: usize) -> Parts {
-        let (kind, start) = self.kind_at(number);
-        let mut parts = Parts {
-            kind,
-            version: 0,
-            terms: [0; 3],
-        };
-        if kind == Kind::Def {
-            return parts;
-        }
-        let mut row = number.wrapping_sub(start);
-        for index in 0..3 {
-            let place = 2 - index;
-            if place < kind.arity() {
-                let (above, term) = self.split(row);
-                parts.terms[place] = term;
-                row = above;
-            }
-        }
-        parts.version = byte(row);
-        parts
-    }
-
-    // The kind of the atom of a number, and the number of the first atom of that kind.
-    fn kind_at(&self, number: usize) -> (Kind, usize) {
-        if number < self.btwns {
-            (Kind::Eq, 0)
-        } else if number < self.hops {
-            (Kind::Btwn, self.btwns)
-        } else if number < self.allocs {
-            (Kind::Hop, self.hops)
-        } else if number < self.defs {
-            (Kind::Alloc, self.allocs)
-        } else {
-            (Kind::Def, self.defs)
-        }
+            parts: all_parts(alloc, sizes, count)?,
+        })
     }
 
     /// The parts of the atom of a number.
     pub fn parts(&self, number: usize) -> Parts {
         match self.parts.get(number) {
             Some(parts) => *parts,
-            None => Parts {
-                kind: Kind::Def,
-                version: 0,
-                terms: [0; 3],
-            },
+            None => NO_PARTS,
         }
     }
 

@@ -4,10 +4,10 @@ use crate::classes::Classes;
 use crate::clauses::{Clauses, Origin};
 use crate::order::Order;
 use crate::shape::{Code, Shape};
-use crate::table::{put, small};
+use crate::table::{at, put, small};
 use crate::trail::{NO_CLAUSE, Trail};
 use crate::watching::{NO_NODE, Visit, Watches};
-use crate::words::Words;
+use crate::words::{Layout, Words};
 use gh_base::sizes::Sizes;
 use std::alloc::{AllocError, Global};
 
@@ -25,10 +25,12 @@ pub(crate) struct Added {
     pub is_false: bool,
 }
 
+/// Clauses, the trail, and what is kept of it.
 #[derive(Debug, Drop)]
 pub(crate) struct State {
     pub alloc: Global,
     pub shape: Shape,
+    pub layout: Layout,
     pub clauses: Clauses,
     pub trail: Trail,
     pub order: Order,
@@ -45,17 +47,20 @@ pub(crate) struct State {
 }
 
 impl State {
+    /// No clause, and nothing on the trail.
     pub fn new(alloc: Global, sizes: Sizes) -> Result<State, AllocError> {
         let shape = Shape::new(alloc, sizes)?;
-        let (atoms, terms, versions) = (shape.count, shape.terms, shape.versions);
+        let layout = Layout::new(shape.terms, shape.versions);
+        let atoms = shape.count;
         Ok(State {
             alloc,
             clauses: Clauses::new(alloc),
             trail: Trail::new(alloc, atoms)?,
             order: Order::new(alloc, atoms)?,
             classes: Classes::new(alloc, &shape)?,
-            yes: Words::new(alloc, terms, versions)?,
-            no: Words::new(alloc, terms, versions)?,
+            yes: Words::new(alloc, layout)?,
+            no: Words::new(alloc, layout)?,
+            layout,
             watches: Watches::new(alloc, atoms)?,
             late: Vec::new(alloc),
             head: 0,
@@ -129,16 +134,21 @@ impl State {
         Ok(())
     }
 
-    // Makes the first literal of a clause true, if the others are false.
+    // Makes a watched literal of a clause true, if the others are false.
     fn look(&mut self, number: u32) -> Result<(), AllocError> {
         let start = self.clauses.start(number);
-        let (first, second) = (
-            self.clauses.code_at(start),
-            self.clauses.code_at(start.wrapping_add(1)),
-        );
-        let alone = self.clauses.len(number) == 1;
-        if self.trail.is_open(first) && (alone || self.trail.is_false(second)) {
-            self.put(first, number)?;
+        let mut code = self.clauses.code_at(start);
+        if self.clauses.len(number) > 1 {
+            let mut other = self.clauses.code_at(start.wrapping_add(1));
+            if self.trail.is_open(other) {
+                (code, other) = (other, code);
+            }
+            if !self.trail.is_false(other) {
+                return Ok(());
+            }
+        }
+        if self.trail.is_open(code) {
+            self.put(code, number)?;
         }
         Ok(())
     }
@@ -157,14 +167,18 @@ impl State {
     // Moves the best literal of a clause from a place on to that place.
     fn bring(&mut self, number: u32, place: usize) {
         let start = self.clauses.start(number);
-        let mut best = start.wrapping_add(place);
-        for index in place..self.clauses.len(number) {
-            let other = start.wrapping_add(index);
-            if self.worth(self.clauses.code_at(other)) > self.worth(self.clauses.code_at(best)) {
-                best = other;
+        let (mut best, mut greatest) = (place, 0);
+        let codes = self.clauses.codes(number);
+        for index in place..codes.len() {
+            let worth = self.worth(codes[index]);
+            if worth > greatest {
+                (best, greatest) = (index, worth);
             }
         }
-        self.clauses.swap(start.wrapping_add(place), best);
+        if best != place {
+            self.clauses
+                .swap(start.wrapping_add(place), start.wrapping_add(best));
+        }
     }
 
     /// Adds a clause whose literals all differ. Where it is unit, its literal becomes true.
@@ -175,6 +189,15 @@ impl State {
 
     /// Has a clause watched that was added last.
     pub fn attach(&mut self, number: u32) -> Result<Added, AllocError> {
+        for index in 0..self.clauses.len(number) {
+            let code = at(self.clauses.codes(number), index, Code(0));
+            self.order.enter(&self.shape, code.atom())?;
+        }
+        self.watch(number)
+    }
+
+    /// Has a clause watched that was added last, and whose atoms are known to stand in a clause.
+    pub fn watch(&mut self, number: u32) -> Result<Added, AllocError> {
         self.bring(number, 0);
         self.bring(number, 1);
         let (start, length) = (self.clauses.start(number), self.clauses.len(number));
@@ -182,15 +205,11 @@ impl State {
             self.clauses.code_at(start),
             self.clauses.code_at(start.wrapping_add(1)),
         );
-        self.watches.enter(first, second)?;
+        self.watches.enter(first, second, length)?;
         if length > 1 {
             let node = number.wrapping_mul(2);
             self.watches.link(first, node);
             self.watches.link(second, node.wrapping_add(1));
-        }
-        for index in 0..length {
-            let code = self.clauses.code_at(start.wrapping_add(index));
-            self.order.enter(&self.shape, code.atom())?;
         }
         let is_false = length == 0 || self.trail.is_false(first);
         if !is_false {
@@ -211,7 +230,8 @@ impl State {
         } else {
             self.trail.level_of(second.atom())
         };
-        if level < self.trail.level() {
+        let is_settled = self.trail.is_true(first) && self.trail.level_of(first.atom()) <= level;
+        if level < self.trail.level() && !is_settled {
             self.late.push(Late {
                 clause: number,
                 level,
@@ -220,13 +240,13 @@ impl State {
         self.look(number)
     }
 
-    /// Cuts the trail to the greatest level of a false clause's literals.
-    pub fn cut_for(&mut self, number: u32) -> Result<(), AllocError> {
+    /// The greatest level of a false clause's literals.
+    pub fn top(&self, number: u32) -> u32 {
         let mut top = 0;
         for code in self.clauses.codes(number) {
             top = self.trail.level_of(code.atom()).max(top);
         }
-        self.cut(top)
+        top
     }
 
     /// Adds what follows by units, up to a clause that is false.
@@ -268,24 +288,24 @@ impl State {
 
     // Visits a clause one of whose watched literals became false.
     fn visit(&mut self, node: u32) -> Result<Visit, AllocError> {
-        if self.trail.is_true(self.watches.other(node)) {
-            return Ok(Visit::Kept);
-        }
-        let number = node / 2;
-        let start = self.clauses.start(number);
-        let (mine, others) = if node % 2 == 0 {
-            (start, start.wrapping_add(1))
-        } else {
-            (start.wrapping_add(1), start)
-        };
-        let other = self.clauses.code_at(others);
-        self.watches.set_other(node, other);
+        let mut other = self.watches.other(node);
         if self.trail.is_true(other) {
             return Ok(Visit::Kept);
         }
-        if let Some(place) = self.replacement(number, start) {
-            self.clauses.swap(mine, place);
-            return Ok(Visit::Moved(self.clauses.code_at(mine).0));
+        let number = node / 2;
+        if !self.watches.is_pair(node) {
+            let start = self.clauses.start(number);
+            let place = (node % 2) as usize;
+            other = self.clauses.code_at(start.wrapping_add(1 - place));
+            self.watches.set_other(node, other);
+            if self.trail.is_true(other) {
+                return Ok(Visit::Kept);
+            }
+            if let Some(found) = self.replacement(number, start) {
+                let mine = start.wrapping_add(place);
+                self.clauses.swap(mine, found);
+                return Ok(Visit::Moved(self.clauses.code_at(mine).0));
+            }
         }
         if self.trail.is_false(other) {
             return Ok(Visit::Conflict);
@@ -327,9 +347,13 @@ impl State {
                 self.classes.explain(&self.shape, one, other, &mut codes)?;
             }
         }
-        let lemma = distinct(self.alloc, codes.as_slice())?;
-        let added = self.add(lemma.as_slice(), Origin::Lemma)?;
-        Ok(Some(added.number))
+        Ok(Some(self.add_lemma(codes.as_slice())?.number))
+    }
+
+    /// Adds a clause of equality and congruence.
+    pub fn add_lemma(&mut self, codes: &[Code]) -> Result<Added, AllocError> {
+        let lemma = distinct(self.alloc, codes)?;
+        self.add(lemma.as_slice(), Origin::Lemma)
     }
 
     /// How many clauses there are.

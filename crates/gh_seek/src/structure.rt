@@ -29,7 +29,7 @@ struct False {
 impl Made {
     /// The structure of a trail.
     pub fn new(state: &State, least: &Least) -> Result<Made, AllocError> {
-        let mut words = Words::new(state.alloc, state.shape.terms, state.shape.versions)?;
+        let mut words = Words::new(state.alloc, state.layout)?;
         for code in state.trail.steps.as_slice() {
             let parts = state.shape.parts(code.atom());
             if code.is_positive() && parts.kind != Kind::Eq {
@@ -57,10 +57,10 @@ impl Made {
     // The terms for a plan's free variable over which each other literal of the row may be false.
     fn open_terms(&self, plan: &Plan, mask: u32, version: u8, tuple: &[u8; 4]) -> u32 {
         let mut open = mask;
-        for (reading, pattern) in plan.reads.as_slice() {
-            if pattern.kind != Kind::Eq {
-                let word = self.words.word(*reading, version, tuple);
-                open &= if pattern.positive { !word } else { u32::MAX };
+        for read in plan.reads.as_slice() {
+            if read.kind != Kind::Eq {
+                let word = self.words.word(read.reading.place(version, tuple));
+                open &= if read.positive { !word } else { word };
             }
         }
         open
@@ -185,19 +185,34 @@ fn false_instances(
     Ok(found)
 }
 
-/// Adds instances that are false in the structure. Answers whether there were some.
+/// What became of the instances that are false in a structure.
+#[derive(Clone, Copy, Debug)]
+pub(crate) enum Missing {
+    /// There are none.
+    None,
+    /// Some were added, none of them false under the trail.
+    Added,
+    /// This one is false under the trail.
+    False(u32),
+}
+
+/// Adds instances that are false in the structure, up to one that is false under the trail.
 pub(crate) fn add_false(
     state: &mut State,
     plans: &Plans,
     least: &Least,
     made: &Made,
-) -> Result<bool, AllocError> {
+) -> Result<Missing, AllocError> {
     let found = false_instances(state, plans, least, made)?;
     for instance in found.as_slice() {
         let added = state.add(instance.codes.as_slice(), Origin::Instance(instance.name))?;
         if added.is_false {
-            state.cut_for(added.number)?;
+            return Ok(Missing::False(added.number));
         }
     }
-    Ok(!found.is_empty())
+    Ok(if found.is_empty() {
+        Missing::None
+    } else {
+        Missing::Added
+    })
 }

@@ -20,13 +20,16 @@ pub(crate) enum Truth {
 struct Fact {
     level: u32,
     reason: u32,
+    place: u32,
 }
 
 const NO_FACT: Fact = Fact {
     level: 0,
     reason: NO_CLAUSE,
+    place: 0,
 };
 
+/// The true literals in their order, and by atom what made them so.
 #[derive(Debug, Drop)]
 pub(crate) struct Trail {
     // By literal.
@@ -49,18 +52,22 @@ impl Trail {
         })
     }
 
+    /// The truth of a literal.
     pub fn truth(&self, code: Code) -> Truth {
         at(self.truths.as_slice(), code.place(), Truth::Open)
     }
 
+    /// Whether a literal has no truth.
     pub fn is_open(&self, code: Code) -> bool {
         self.truth(code) == Truth::Open
     }
 
+    /// Whether a literal is true.
     pub fn is_true(&self, code: Code) -> bool {
         self.truth(code) == Truth::True
     }
 
+    /// Whether a literal is false.
     pub fn is_false(&self, code: Code) -> bool {
         self.truth(code) == Truth::False
     }
@@ -73,6 +80,11 @@ impl Trail {
     /// The level at which an atom got its truth.
     pub fn level_of(&self, atom: usize) -> u32 {
         at(self.facts.as_slice(), atom, NO_FACT).level
+    }
+
+    /// The place of an atom's literal.
+    pub fn place_of(&self, atom: usize) -> u32 {
+        at(self.facts.as_slice(), atom, NO_FACT).place
     }
 
     /// The clause that made an atom's literal true, or `NO_CLAUSE`.
@@ -115,6 +127,7 @@ impl Trail {
         let fact = Fact {
             level: small(self.starts.len()),
             reason,
+            place: small(self.steps.len()),
         };
         put(self.truths.as_mut_slice(), code.place(), Truth::True);
         put(

@@ -18,17 +18,19 @@ pub(crate) enum Visit {
     Conflict,
 }
 
-/// A node of a list: the next one, and another literal of the clause.
+/// A node of a list: the next one, and another literal of the clause, or the only other one.
 #[derive(Clone, Copy, Debug)]
 struct Node {
     next: u32,
     other: Code,
+    is_pair: bool,
 }
 
 // What stands at the place of a node that isn't there.
 const NOTHING: Node = Node {
     next: NO_NODE,
     other: Code(u32::MAX),
+    is_pair: false,
 };
 
 /// A clause has two nodes, twice its number and one more: they stand in the lists of its first and second literal.
@@ -40,6 +42,7 @@ pub(crate) struct Watches {
 }
 
 impl Watches {
+    /// Nothing is watched.
     pub fn new(alloc: Global, atoms: usize) -> Result<Watches, AllocError> {
         Ok(Watches {
             first: vec![in alloc; NO_NODE; atoms.wrapping_mul(2)]?,
@@ -47,12 +50,13 @@ impl Watches {
         })
     }
 
-    /// Makes the two nodes of the next clause, which stand in no list.
-    pub fn enter(&mut self, first: Code, second: Code) -> Result<(), AllocError> {
+    /// Makes the two nodes of the next clause, which has so many literals. They stand in no list.
+    pub fn enter(&mut self, first: Code, second: Code, length: usize) -> Result<(), AllocError> {
         for other in [second, first] {
             self.nodes.push(Node {
                 next: NO_NODE,
                 other,
+                is_pair: length == 2,
             })?;
         }
         Ok(())
@@ -73,6 +77,12 @@ impl Watches {
         at(self.nodes.as_slice(), node as usize, NOTHING).other
     }
 
+    /// Whether a node's clause has two literals alone.
+    pub fn is_pair(&self, node: u32) -> bool {
+        at(self.nodes.as_slice(), node as usize, NOTHING).is_pair
+    }
+
+    /// Gives a node another literal of its clause.
     pub fn set_other(&mut self, node: u32, code: Code) {
         if (node as usize) < self.nodes.len() {
             self.nodes[node as usize].other = code;

@@ -1,19 +1,16 @@
 -- Cells of a heap, counted.
-use Rattle.std.proofs.Common.{◌≡◌, ◌≢◌, inl, inr, ℕ, zero, suc, ◌+◌, ◌≤◌, Bool, false, cond, Option, Some, None, sym, ap, ◌∙◌, arith}
+use Rattle.std.proofs.Common.{◌≡◌, inl, inr, ℕ, zero, suc, ◌+◌, ◌≤◌, Bool, cond, Option, Some, None, sym, ap, ◌∙◌, arith}
 use Rattle.std.specs.Prelude.{is_some}
 use Rattle.std.specs.Cmp.{nat_cmp_total}
 use Rattle.std.specs.FinMap.{insert, len, get, get-empty, get-insert, len-empty, len-insert}
-use Rattle.std.specs.Ordering.{nat_cmp, eq_by_cmp}
-use Rattle.std.proofs.lemmas.Bool.Decides.{nat_tests}
+use Rattle.std.specs.Ordering.{nat_cmp}
 use Rattle.std.proofs.lemmas.Bool.{cases_Bool, cond-true, cond-false}
 use Rattle.gh_small.specs.Leaders.{counted}
 use Rattle.gh_assert.specs.Heaps.{Heap}
+use Rattle.gh_assert.proofs.Unique.{apart}
 use Rattle.gh_model.specs.BuiltTraces.{cells_below}
 use Rattle.gh_small.specs.Cells.{CellsAreCounted}
 use Rattle.gh_small.proofs.CounterLemmas.{one_more, none_more}
-
-apart : (q x : ℕ) → q ≢ x → eq_by_cmp nat_cmp q x ≡ false
-apart q x n = grind (arith, nat_tests)
 
 -- no cell from n on
 free : (stands : ℕ → Bool) (to : ℕ → ℕ) (n q : ℕ) → n ≤ q → get (cells_below stands to n) q ≡ None

@@ -1,7 +1,6 @@
--- Room for a bound is room for a lower one.
+-- Room for a bound, by numbers.
 use Rattle.std.proofs.Common.{◌≡◌, ◌↔◌, sym, subst, inl, inr, ℕ, zero, suc, ◌+◌, ◌-◌, ◌*◌, ◌<◌, ◌≤◌, ◌++◌, Bool, length, arith, length-append}
 use Rattle.std.proofs.lemmas.Bool.{cases_Bool}
-use Rattle.std.proofs.lemmas.Nat.{mul-le}
 use Rattle.gh_base.specs.declared.sizes.Sizes.{Sizes}
 use Rattle.gh_base.specs.Meaning.{Interpretation}
 use Rattle.gh_base.specs.Grounds.{Problem}
@@ -10,19 +9,6 @@ use Rattle.gh_small.specs.Leaders.{counted, leads, allocated_classes}
 use Rattle.gh_small.specs.Bounded.{HasRoom}
 use Rattle.gh_small.proofs.CounterLemmas.{one_more, none_more}
 use Rattle.gh_small.proofs.CountedLemmas.{many}
-
-pub room_below : (p : Problem) (k n : ℕ) → 1 ≤ p.sizes.terms → 1 ≤ k → k ≤ n → HasRoom p n → HasRoom p k
-room_below p k n one some le h =
-    let rows = mul-le (p.sizes.terms - 1) (2 * k) (p.sizes.terms - 1) (2 * n) (omega arith) (omega arith) in
-    let definitions = mul-le p.sizes.terms k p.sizes.terms n (omega arith) le in
-    let less = many p.sizes.terms p.sizes.defs k one some in
-    let more = many p.sizes.terms p.sizes.defs n one (omega arith) in
-    let most : length (p.clauses ++ fewer p.sizes.terms p.sizes.defs n) ≤ 4294967294 = h.clauses in
-    let defs = h.defs in
-    record {
-      clauses = omega (arith, length-append p.clauses (fewer p.sizes.terms p.sizes.defs k), length-append p.clauses (fewer p.sizes.terms p.sizes.defs n));
-      defs = omega arith;
-    }
 
 pub counted_below : (p : ℕ → Bool) (n : ℕ) → counted p n ≤ n
 counted_below p zero = omega arith

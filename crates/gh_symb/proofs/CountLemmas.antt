@@ -1,5 +1,5 @@
 -- How far the walk over a condition has come.
-use Rattle.std.specs.Prelude.{◌≡◌, ℕ, ◌<◌, ◌≤◌, List, [], ◌∷◌, length, get_or, map, slice_get, Some}
+use Rattle.std.specs.Prelude.{◌≡◌, ℕ, ◌+◌, ◌<◌, ◌≤◌, List, [], ◌∷◌, length, drop, get_or, map, slice_get, Some}
 use Rattle.std.proofs.Common.{sym, ◌∙◌, ap, subst, arith}
 use Rattle.std.proofs.lemmas.Option.{get_or_from_slice_get}
 use Rattle.std.proofs.Math.ListN.{get_or-map}
@@ -9,7 +9,7 @@ use Rattle.gh_ast.specs.declared.Program as whole_program
 use Rattle.gh_ast.specs.Programs.{variable_names}
 use Rattle.gh_path.specs.Admitted.{most_terms}
 use Rattle.gh_path.specs.Graphs.{PathStep}
-use Rattle.gh_path.specs.Kept.{AreSteps, StandsFor}
+use Rattle.gh_path.specs.Kept.{AreSteps, IsCheck, IsStart, StandsFor}
 use Rattle.gh_path.specs.Conditions.{Condition}
 use Rattle.gh_path.specs.declared.condition.PathStep as kept_step
 use Rattle.gh_path.specs.declared.condition.Condition as kept_condition
@@ -17,6 +17,7 @@ use Rattle.gh_path.specs.Terms.{Kind, Terms, walked, steps_walked, check_walked,
 use Rattle.gh_symb.specs.Steps.{IsStepped, EndsWith}
 use Rattle.gh_symb.specs.Remaining.{Remains}
 use Rattle.gh_symb.proofs.GrowLemmas.{size, steps_grow, check_grows}
+use Rattle.gh_symb.proofs.TableLemmas.{head_of}
 
 -- the procedure of a condition
 pub its_procedure : (P : whole_program.Program) (ps : List whole.Procedure) (n : ℕ) (q : whole.Procedure) (p : Procedure) → ps ≡ P.procedures.items → q ≡ get_or ps n q →
@@ -26,14 +27,34 @@ its_procedure P ps n q p same is at =
     let here : get_or (map procedure_of ps) n (procedure_of q) ≡ p = get_or_from_slice_get (map procedure_of ps) n p (procedure_of q) there in
     ap procedure_of is ∙ sym (get_or-map procedure_of ps n q) ∙ here
 
-pub begun : (P : Program) (p : Procedure) (r : kept_condition.Condition) (c : Condition) (s : Terms) → p ≡ c.procedure → StandsFor P r c → s ≡ walked c.start.meets no_terms → Remains P p r.steps.items c s
-begun P p r c s same stands is = record {
+-- what a kept condition says of a condition of the procedure
+pub record IsWithin (P : Program) (p : Procedure) (r : kept_condition.Condition) (c : Condition) : Type 0 where
+  pub same : p ≡ c.procedure
+  pub start : IsStart p r.start c.start
+  pub steps : AreSteps P p r.steps.items c.way.steps
+  pub check : IsCheck P p r.check c.way.check
+
+-- the procedure at the number of a kept condition is that of the condition
+pub within_its : (P Q : whole_program.Program) (r : kept_condition.Condition) (q : whole.Procedure) (c : Condition) → Q ≡ P → q ≡ get_or Q.procedures.items r.procedure q
+    → StandsFor (program_of P) r c → IsWithin (program_of P) (procedure_of q) r c
+within_its P Q r q c one is stands =
+    let same : procedure_of q ≡ c.procedure =
+    its_procedure P Q.procedures.items r.procedure q c.procedure (ap (λ (x : whole_program.Program). x.procedures.items) one) is stands.procedure in
+    record {
+      same = same;
+      start = subst (λ p. IsStart p r.start c.start) (sym same) stands.start;
+      steps = subst (λ p. AreSteps (program_of P) p r.steps.items c.way.steps) (sym same) stands.steps;
+      check = subst (λ p. IsCheck (program_of P) p r.check c.way.check) (sym same) stands.check;
+    }
+
+pub begun : (P : Program) (p : Procedure) (r : kept_condition.Condition) (c : Condition) (s : Terms) → IsWithin P p r c → s ≡ walked c.start.meets no_terms → Remains P p r.steps.items c s
+begun P p r c s its is = record {
   steps = c.way.steps;
-  are_left = subst (λ q. AreSteps P q r.steps.items c.way.steps) (sym same) stands.steps;
+  are_left = its.steps;
   lead = ap (steps_walked P (variable_names p) c.way.steps) is;
 }
 
-pub gone_on : (P : Program) (p : Procedure) (r : kept_step.PathStep) (rs : List kept_step.PathStep) (c : Condition) (s t : Terms) →
+gone_on : (P : Program) (p : Procedure) (r : kept_step.PathStep) (rs : List kept_step.PathStep) (c : Condition) (s t : Terms) →
     Remains P p (r ∷ rs) c s → IsStepped P p r s t → Remains P p rs c t
 gone_on P p r rs c s t left stepped = by_steps left.steps left.are_left left.lead
   where
@@ -45,6 +66,12 @@ gone_on P p r rs c s t left stepped = by_steps left.steps left.are_left left.lea
       are_left = are.1;
       lead = ap (steps_walked P (variable_names p) steps) (stepped step are.0) ∙ lead;
     }
+
+-- the next of some steps
+pub gone_next : (P : Program) (p : Procedure) (rs : List kept_step.PathStep) (i : ℕ) (r : kept_step.PathStep) (c : Condition) (s t : Terms) → i < length rs → r ≡ get_or rs i r →
+    Remains P p (drop i rs) c s → IsStepped P p r s t → Remains P p (drop (i + 1) rs) c t
+gone_next P p rs i r c s t within is left stepped =
+    gone_on P p r (drop (i + 1) rs) c s t (subst (λ xs. Remains P p xs c s) (head_of rs i r within is) left) stepped
 
 -- a walk that has passed the limit has passed it at the end
 pub many : (P : Program) (p : Procedure) (rs : List kept_step.PathStep) (c : Condition) (s : Terms) → p ≡ c.procedure → Remains P p rs c s → most_terms < length s.kinds → most_terms < length (terms_of P c)

@@ -39,7 +39,8 @@ const NOP_CLAUSES: [&[Word]; 25] = [
     &[Word::NotD(8)],
 ];
 
-const REVERSE: &[u8] = b"struct Node { var next: Node; }
+// Five conditions from two starts.
+pub(crate) const REVERSE: &[u8] = b"struct Node { var next: Node; }
 procedure reverse(x: Node) returns (y: Node)
   requires lseg(x, null)
   ensures lseg(y, null)

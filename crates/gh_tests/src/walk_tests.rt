@@ -1,5 +1,6 @@
 //! The walk over all conditions of a program beside each condition by its number.
 
+use crate::ground_tests::REVERSE;
 use gh_ast::typed::Typed;
 use gh_parse::parse::parse;
 use gh_path::condition::Condition;
@@ -8,26 +9,6 @@ use gh_path::listing::conditions;
 use gh_path::walk::Walk;
 use gh_types::check::check;
 use std::alloc::{AllocError, Global};
-
-// Five conditions from two starts.
-const REVERSE: &[u8] = b"struct Node { var next: Node; }
-procedure reverse(x: Node) returns (y: Node)
-  requires lseg(x, null)
-  ensures lseg(y, null)
-{
-  var c, t: Node;
-  c := x;
-  y := null;
-  while (c != null)
-    invariant lseg(y, null) &*& lseg(c, null)
-  {
-    t := c.next;
-    c.next := y;
-    y := c;
-    c := t;
-  }
-}
-";
 
 // 1,024 conditions from one start.
 const MANY: &[u8] = b"struct Node { var next: Node; }

@@ -2,6 +2,7 @@
 use Rattle.std.proofs.Common.{◌≡◌, ◌∙◌, ℕ, ◌+◌, List, [], ◌∷◌, ◌++◌, refl, sym, ap, subst, append_assoc, append-nil, arith}
 use Rattle.std.specs.Prelude.{Option, Some, None}
 use Rattle.gh_base.specs.Outside.{AddsName, MakesAtMost}
+use Rattle.gh_base.proofs.CallLemmas.{none_more}
 use Rattle.gh_ast.specs.Plain.{Program}
 use Rattle.gh_path.specs.Admitted.{IsAdmitted}
 use Rattle.gh_top.specs.Causes.{IsFile}
@@ -44,12 +45,8 @@ two_names (Some before) (Some between) (Some after) f g h k = k ∙ ap (λ names
 still_named : (o n : Option (List (List ℕ))) → n ≡ o → AddsNames o n []
 still_named o n e = rw e (no_names o)
 
-no_calls : (c : Option ℕ) → MakesAtMost 0 c c
-no_calls None = tt
-no_calls (Some n) = omega arith
-
 still_called : (b a : Option ℕ) → a ≡ b → MakesAtMost 0 b a
-still_called b a e = rw e (no_calls b)
+still_called b a e = rw e (none_more b)
 
 more_calls : (n m : ℕ) (a b c : Option ℕ) → MakesAtMost n a b → MakesAtMost m b c → MakesAtMost (n + m) a c
 more_calls n m None b c h k = tt
@@ -60,7 +57,7 @@ more_calls n m (Some a) (Some b) (Some c) h k = omega (arith, h, k)
 -- the order, after each step of a run
 
 pub none_ordered : (words : List (List ℕ)) (i : InputsTold) → ReadsInOrder words (record { before = i; after = i })
-none_ordered words i = record { names = []; most = 0; order = nothing; begun = no_names i.names; calls = no_calls i.calls; table = refl }
+none_ordered words i = record { names = []; most = 0; order = nothing; begun = no_names i.names; calls = none_more i.calls; table = refl }
 
 pub first_read : (q : Request) (name : List ℕ) (most : ℕ) (r : Reading) → source_of q ≡ from_file name most → ReadsFile name most r → FirstRead (source_of q) r
 first_read q name most r is file = subst (λ s. FirstRead s r) (sym is) file

@@ -10,5 +10,5 @@ pub mod replay;
 mod scene;
 pub mod state;
 mod steps;
-mod stores;
+pub mod stores;
 mod targets;

@@ -45,7 +45,7 @@ fn locals(procedure: &Procedure) -> &[Occ]
 }
 
 /// Whether a store lists the variables of a procedure, in their order.
-pub fn is_over(store: &Store, procedure: &Procedure) -> bool
+pub(crate) fn is_over(store: &Store, procedure: &Procedure) -> bool
     ensures { IsTrue result ↔ (listed_names store.now ≡ variable_names (procedure_of procedure.now)) }
 {
     let Some(rest) = after_names(store.entries(), procedure.parameters.as_slice()) else {
@@ -61,14 +61,14 @@ pub fn is_over(store: &Store, procedure: &Procedure) -> bool
 }
 
 /// The value of a name; 0 where it isn't listed.
-pub fn value(store: &Store, name: &Name) -> u32
+pub(crate) fn value(store: &Store, name: &Name) -> u32
     ensures { result ≡ store_of store.now name.now }
 {
     store.get(name).unwrap_or(0)
 }
 
 /// Whether all variables but the targets keep their values.
-pub fn keeps(before: &Store, after: &Store, targets: Targets<'_>) -> bool
+pub(crate) fn keeps(before: &Store, after: &Store, targets: Targets<'_>) -> bool
     requires { listed_names after.now ≡ listed_names before.now }
     ensures { IsTrue result ↔ Keeps targets.entry before.now after.now }
 {
@@ -81,7 +81,11 @@ pub fn keeps(before: &Store, after: &Store, targets: Targets<'_>) -> bool
 }
 
 /// The values of some variables.
-pub fn values(alloc: Global, store: &Store, occurrences: &[Occ]) -> Result<Vec<u32>, AllocError>
+pub(crate) fn values(
+    alloc: Global,
+    store: &Store,
+    occurrences: &[Occ],
+) -> Result<Vec<u32>, AllocError>
     ensures { IfOk result (λ vs. vs.items ≡ map (store_of store.now) (names occurrences.now)) }
 {
     let mut values = Vec::new(alloc);
@@ -92,7 +96,7 @@ pub fn values(alloc: Global, store: &Store, occurrences: &[Occ]) -> Result<Vec<u
 }
 
 /// Whether some variables get the values, all at once, and all others keep theirs.
-pub fn gets(
+pub(crate) fn gets(
     alloc: Global,
     before: &Store,
     after: &Store,
@@ -108,7 +112,7 @@ pub fn gets(
 }
 
 /// Adds variables with values, as many as there are of both.
-pub fn add_all(
+pub(crate) fn add_all(
     alloc: Global,
     store: &mut Store,
     occurrences: &[Occ],
@@ -136,7 +140,7 @@ pub fn entered(alloc: Global, callee: &Procedure, given: &[u32]) -> Result<Store
 }
 
 /// The store of a callee whose parameters and results have these values.
-pub fn inside(
+pub(crate) fn inside(
     alloc: Global,
     callee: &Procedure,
     given: &[u32],

@@ -16,13 +16,13 @@ loop-next-init c =
       grows = grows_none c.args.signs.now;
       within = e.within;
       here = e.here;
-      filed = λ j k low at there. absurd (e.none j low (get_within c.args.uses.now.list j (Some c.args.term) at) at);
+      filed = λ j k low at there. absurd (e.none j low (get_within c.args.standing.now.uses.now.list j (Some c.args.term) at) at);
     }
 
 pub file-requires-clause-place : goal.file-requires-clause-place
 file-requires-clause-place c =
     let within = c.loop-next.invariant.within in
-    omega (arith, mentions_long c.args.lits.now, ap length c.requires.uses)
+    omega (arith, mentions_long c.args.standing.now.lits.now, ap length c.requires.uses)
 
 pub loop-next-preserved : goal.loop-next-preserved
 loop-next-preserved c =
@@ -34,19 +34,19 @@ loop-next-preserved c =
       grows = grows_on _ _ _ i.grows f.grows;
       within = let a = e.within in let b = i.within in omega arith;
       here = e.here;
-      filed = λ j k low at there. elim (cases_lt j (c.loop-next.next - 1)) as (λ _. IsFiled c.args.sizes c.args.lits.now c.args.partition.now.links c.file.new.signs.entries k) [
+      filed = λ j k low at there. elim (cases_lt j (c.loop-next.next - 1)) as (λ _. IsFiled c.args.standing.now.sizes c.args.standing.now.lits.now c.args.partition.now.links c.file.new.signs.entries k) [
         | inl lt ↦ absurd (e.none j low lt at)
-        | inr ge ↦ elim (cases_lt j c.loop-next.next) as (λ _. IsFiled c.args.sizes c.args.lits.now c.args.partition.now.links c.file.new.signs.entries k) [
+        | inr ge ↦ elim (cases_lt j c.loop-next.next) as (λ _. IsFiled c.args.standing.now.sizes c.args.standing.now.lits.now c.args.partition.now.links c.file.new.signs.entries k) [
           | inl here ↦
               let is : j ≡ c.loop-next.next - 1 = omega arith in
-              f.filed k (subst (λ n. slice_get c.args.lits.now (n / 3) ≡ Some k) is there)
-          | inr past ↦ grows_filed c.args.sizes c.args.lits.now c.args.partition.now.links c.loop-next.signs c.file.new.signs f.grows k (i.filed j k past at there)
+              f.filed k (subst (λ n. slice_get c.args.standing.now.lits.now (n / 3) ≡ Some k) is there)
+          | inr past ↦ grows_filed c.args.standing.now.sizes c.args.standing.now.lits.now c.args.partition.now.links c.loop-next.signs c.file.new.signs f.grows k (i.filed j k past at there)
         ]
       ];
     }
 
 pub returns-clause-filed : goal.returns-clause-filed
 returns-clause-filed c i l at mentions =
-    let w = mention_at c.args.lits.now i l c.args.term at mentions in
-    let there : slice_get c.args.uses.now.list w.0 ≡ Some (Some c.args.term) = ap (λ (ts : List (Option Term)). slice_get ts w.0) c.requires.uses ∙ w.2 in
-    c.loop-next.invariant.filed w.0 l (omega arith) there (ap (slice_get c.args.lits.now) w.1 ∙ at)
+    let w = mention_at c.args.standing.now.lits.now i l c.args.term at mentions in
+    let there : slice_get c.args.standing.now.uses.now.list w.0 ≡ Some (Some c.args.term) = ap (λ (ts : List (Option Term)). slice_get ts w.0) c.requires.uses ∙ w.2 in
+    c.loop-next.invariant.filed w.0 l (omega arith) there (ap (slice_get c.args.standing.now.lits.now) w.1 ∙ at)

@@ -7,5 +7,5 @@ use Rattle.gh_grass.proofs.footprint.push_all_apart.Given as goal
 
 abbrev pub invariant-loop-i : goal.invariant-loop-i
 invariant-loop-i l =
-    claims_list l.formulas.items ++ all_apart (bound_term l.binding) l.version l.terms (map formula_of (drop l.i l.members))
-    ≡ claims_list l.initial.formulas.items ++ all_apart (bound_term l.binding) l.version l.terms (map formula_of l.members)
+    claims_list l.formulas.items ++ all_apart (bound_term l.under.binding.now) l.under.version l.under.terms (map formula_of (drop l.i l.members))
+    ≡ claims_list l.initial.formulas.items ++ all_apart (bound_term l.under.binding.now) l.under.version l.under.terms (map formula_of l.members)

@@ -8,6 +8,6 @@ use Rattle.gh_grass.proofs.footprint.push_apart.Goals as goal
 
 pub loop-z-preserved : goal.loop-z-preserved
 loop-z-preserved c =
-    let f = apart_here (bound_term c.args.binding.now) c.args.version (formula_of c.args.first.now) (formula_of c.args.second.now) in
+    let f = apart_here (bound_term c.args.under.binding.now) c.args.under.version (formula_of c.args.first.now) (formula_of c.args.second.now) in
     ap claims_list c.in_ok-push.ensures.items
     ∙ put_term f c.loop-z.formulas.items c.in_ok-apart_at.field-0 (claims_list c.args.formulas.now.items) c.loop-z.z c.loop-z.invariant c.in_ok-apart_at.ensures

@@ -7,4 +7,4 @@ use Rattle.gh_grass.proofs.footprint.push_apart.Given as goal
 
 abbrev pub invariant-loop-z : goal.invariant-loop-z
 invariant-loop-z l =
-    claims_list l.formulas.items ≡ claims_list l.initial.formulas.items ++ map (apart_here (bound_term l.binding) l.version (formula_of l.first) (formula_of l.second)) (terms_below l.z)
+    claims_list l.formulas.items ≡ claims_list l.initial.formulas.items ++ map (apart_here (bound_term l.under.binding.now) l.under.version (formula_of l.first) (formula_of l.second)) (terms_below l.z)

@@ -9,7 +9,7 @@ use Rattle.gh_grass.proofs.footprint.push_apart_from.Goals as goal
 
 pub loop-second-preserved : goal.loop-second-preserved
 loop-second-preserved c =
-    let f = apart (bound_term c.args.binding.now) c.args.version c.args.terms (formula_of c.args.first.now) in
+    let f = apart (bound_term c.args.under.binding.now) c.args.under.version c.args.under.terms (formula_of c.args.first.now) in
     put_some (claims_list c.push_apart.new.formulas.items) (claims_list c.loop-second.formulas.items) (f (formula_of c.second-item.result)) _ _ _
     c.in_ok-push_apart.ensures c.loop-second.invariant
     (ap (flat_map f) (formula_list_from c.args.others.now c.loop-second.second-index c.second-item.result c.loop-second-test.true c.second-item.is))

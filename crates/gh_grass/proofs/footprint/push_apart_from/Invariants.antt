@@ -8,5 +8,5 @@ use Rattle.gh_grass.proofs.footprint.push_apart_from.Given as goal
 
 abbrev pub invariant-loop-second : goal.invariant-loop-second
 invariant-loop-second l =
-    claims_list l.formulas.items ++ flat_map (apart (bound_term l.binding) l.version l.terms (formula_of l.first)) (map formula_of (drop l.second-index l.others))
-    ≡ claims_list l.initial.formulas.items ++ flat_map (apart (bound_term l.binding) l.version l.terms (formula_of l.first)) (map formula_of l.others)
+    claims_list l.formulas.items ++ flat_map (apart (bound_term l.under.binding.now) l.under.version l.under.terms (formula_of l.first)) (map formula_of (drop l.second-index l.others))
+    ≡ claims_list l.initial.formulas.items ++ flat_map (apart (bound_term l.under.binding.now) l.under.version l.under.terms (formula_of l.first)) (map formula_of l.others)

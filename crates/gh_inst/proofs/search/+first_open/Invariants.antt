@@ -12,6 +12,6 @@ abbrev pub invariant-loop-term : goal.invariant-loop-term
 invariant-loop-term l = record {
   long : length l.tuple ≡ 4;
   begins : take l.first l.tuple ≡ take l.first l.fn.start;
-  searched : IsSearched (IsRowTrue (interpretation_of l.structure) l.version l.lits)
-      (flat_map (λ t. tuples_with (l.variables - (l.first + 1)) l.structure.sizes.terms (take l.first l.fn.start ++ t ∷ [])) (take l.term (terms_below l.structure.sizes.terms))) None;
+  searched : IsSearched (IsRowTrue (interpretation_of l.worded.structure.now) l.worded.version l.lits)
+      (flat_map (λ t. tuples_with (l.variables - (l.first + 1)) l.worded.structure.now.sizes.terms (take l.first l.fn.start ++ t ∷ [])) (take l.term (terms_below l.worded.structure.now.sizes.terms))) None;
 }

@@ -1,16 +1,17 @@
 use Rattle.std.proofs.Common.{◌++◌, ◌∙◌, ap}
+use Rattle.std.proofs.lemmas.List.{nil_from_length}
 use Rattle.gh_ast.specs.Plain.{procedure_of, program_of}
-use Rattle.gh_lens.proofs.Telling.{nothing, no_steps, no_states, one_more}
+use Rattle.gh_lens.proofs.Telling.{no_steps, no_states, one_more}
 use Rattle.gh_lens.proofs.story.+steps_told.Goals as goal
 
 pub returns-in_default : goal.returns-in_default
 returns-in_default t c =
-    no_steps (program_of c.args.setting.typed.now) (procedure_of c.args.setting.procedure.now) c.args.steps.now c.args.before.now c.args.others.now c.new.result (nothing c.args.steps.now c.in_default.ensures.cases) c.new.ensures
+    no_steps (program_of c.args.setting.typed.now) (procedure_of c.args.setting.procedure.now) c.args.steps.now c.args.before.now c.args.others.now c.new.result (nil_from_length c.args.steps.now c.in_default.ensures.cases) c.new.ensures
 
 pub returns-in_default-split_first : goal.returns-in_default-split_first
 returns-in_default-split_first t c =
     no_states (program_of c.args.setting.typed.now) (procedure_of c.args.setting.procedure.now) c.args.steps.now c.args.before.now c.args.others.now c.new-in_default-split_first.result
-    (nothing c.args.others.now c.in_default-split_first.ensures.cases) c.new-in_default-split_first.ensures
+    (nil_from_length c.args.others.now c.in_default-split_first.ensures.cases) c.new-in_default-split_first.ensures
 
 pub returns : goal.returns
 returns t c =

@@ -1,7 +1,8 @@
 use Rattle.std.proofs.Common.{None, Some, subst}
+use Rattle.std.proofs.lemmas.List.{nil_from_length}
 use Rattle.gh_ast.specs.Plain.{program_of}
 use Rattle.gh_lens.specs.Stories.{IsStoryOr}
-use Rattle.gh_lens.proofs.Telling.{nothing, told_whole, told_by_a_story, has_states, has_procedure}
+use Rattle.gh_lens.proofs.Telling.{told_whole, told_by_a_story, has_states, has_procedure}
 use Rattle.gh_lens.proofs.story.told_of.Goals as goal
 
 pub unreachable-requires : goal.unreachable-requires
@@ -9,7 +10,7 @@ unreachable-requires c = has_procedure (program_of c.args.typed.now) c.args.cond
 
 pub unreachable-requires-in_default-split_first : goal.unreachable-requires-in_default-split_first
 unreachable-requires-in_default-split_first c =
-    has_states (program_of c.args.typed.now) c.args.condition.now c.args.states.now c.requires (nothing c.args.states.now c.in_default-split_first.ensures.cases)
+    has_states (program_of c.args.typed.now) c.args.condition.now c.args.states.now c.requires (nil_from_length c.args.states.now c.in_default-split_first.ensures.cases)
 
 pub story-requires-clause-meaning : goal.story-requires-clause-meaning
 story-requires-clause-meaning c = (c.requires.0, c.requires.1.stands)

@@ -1,4 +1,5 @@
 use Rattle.std.proofs.Common.{◌≡◌, ◌-◌, ◌++◌, ◌∷◌, [], List, map, sym, ◌∙◌, ap, subst, arith}
+use Rattle.gh_base.specs.Grounds.{Problem}
 use Rattle.gh_grass.specs.Claims.{claim_of}
 use Rattle.gh_symb.specs.Formulas.{versions_claims, meets_whole, steps_claims, check_claims}
 use Rattle.gh_symb.specs.Encodings.{plain_kind}
@@ -16,21 +17,16 @@ use Rattle.gh_reduce.proofs.ground.add_condition.Goals as goal
 
 pub add_versions-requires : goal.add_versions-requires
 add_versions-requires c =
-    let s = plain_of c.args.symbolic.now in
-    let ks = map plain_kind c.terms-terms.result.now in
-    let p = c.args.ground.now in
-    let at = ready_for c.args.symbolic.now c.terms-terms.result.now p c.terms-terms.ensures c.requires.terms c.requires.versions in
-    at.ready
+    let here = ready_for c.args.symbolic.now c.terms-terms.result.now c.args.ground.now c.terms-terms.ensures c.requires.terms c.requires.versions in
+    here.ready
 
 pub add_formula-requires : goal.add_formula-requires
 add_formula-requires c =
     let s = plain_of c.args.symbolic.now in
     let ks = map plain_kind c.terms-terms.result.now in
-    let p = c.args.ground.now in
-    let at = ready_for c.args.symbolic.now c.terms-terms.result.now p c.terms-terms.ensures c.requires.terms c.requires.versions in
-    let vs = versions_claims ks p.sizes.versions in
     let a = c.add_versions.new.ground in
-    let here = inside_stays s ks p a vs c.in_ok-add_versions.ensures at in
+    let at_p = ready_for c.args.symbolic.now c.terms-terms.result.now c.args.ground.now c.terms-terms.ensures c.requires.terms c.requires.versions in
+    let here = inside_stays s ks _ a c.in_ok-add_versions.ensures at_p in
     let some = here.ready.some in
     let u = under_of c.start.result.now in
     let h = subst (λ (b : Bound). IsUnderInside a.sizes.terms a.sizes.versions (under_of b)) (sym c.start.ensures) here.start in
@@ -38,17 +34,13 @@ add_formula-requires c =
 
 pub add_steps-requires : goal.add_steps-requires
 add_steps-requires c =
+    let b = c.add_formula.new.ground in
     let s = plain_of c.args.symbolic.now in
     let ks = map plain_kind c.terms-terms.result.now in
-    let p = c.args.ground.now in
-    let at = ready_for c.args.symbolic.now c.terms-terms.result.now p c.terms-terms.ensures c.requires.terms c.requires.versions in
-    let vs = versions_claims ks p.sizes.versions in
-    let a = c.add_versions.new.ground in
-    let start = claim_of c.in_ok-start.start in
-    let b = c.add_formula.new.ground in
-    let to_b = some_more p a b vs (start ∷ []) c.in_ok-add_versions.ensures c.in_ok-add_formula.ensures in
-    let here = inside_stays s ks p b (vs ++ start ∷ []) to_b at in
-    let kept = same_versions p b (vs ++ start ∷ []) to_b in
+    let at_p = ready_for c.args.symbolic.now c.terms-terms.result.now c.args.ground.now c.terms-terms.ensures c.requires.terms c.requires.versions in
+    let here = inside_stays s ks _ b c.in_ok-add_formula.ensures (inside_stays s ks _ _ c.in_ok-add_versions.ensures at_p) in
+    let kept : b.sizes.versions ≡ c.args.ground.now.sizes.versions =
+    ap (λ (x : Problem). x.sizes.versions) c.in_ok-add_formula.ensures ∙ ap (λ (x : Problem). x.sizes.versions) c.in_ok-add_versions.ensures in
     let few = c.requires.few in
     record {
       few = omega (arith, kept, few);
@@ -59,19 +51,12 @@ add_steps-requires c =
 
 pub add_check-requires : goal.add_check-requires
 add_check-requires c =
+    let d = c.add_steps.new.ground in
     let s = plain_of c.args.symbolic.now in
     let ks = map plain_kind c.terms-terms.result.now in
-    let p = c.args.ground.now in
-    let at = ready_for c.args.symbolic.now c.terms-terms.result.now p c.terms-terms.ensures c.requires.terms c.requires.versions in
-    let vs = versions_claims ks p.sizes.versions in
-    let a = c.add_versions.new.ground in
-    let start = claim_of c.in_ok-start.start in
-    let b = c.add_formula.new.ground in
-    let to_b = some_more p a b vs (start ∷ []) c.in_ok-add_versions.ensures c.in_ok-add_formula.ensures in
-    let d = c.add_steps.new.ground in
-    let ss = steps_claims ks 0 (map step_of c.steps.result.now) in
-    let to_d = some_more p b d (vs ++ start ∷ []) ss to_b c.in_ok-add_steps.ensures in
-    let here = inside_stays s ks p d ((vs ++ start ∷ []) ++ ss) to_d at in
+    let at_p = ready_for c.args.symbolic.now c.terms-terms.result.now c.args.ground.now c.terms-terms.ensures c.requires.terms c.requires.versions in
+    let at_b = inside_stays s ks _ _ c.in_ok-add_formula.ensures (inside_stays s ks _ _ c.in_ok-add_versions.ensures at_p) in
+    let here = inside_stays s ks _ d c.in_ok-add_steps.ensures at_b in
     record {
       ready = here.ready;
       some = here.some;
@@ -83,7 +68,6 @@ returns c =
     let s = plain_of c.args.symbolic.now in
     let ks = map plain_kind c.terms-terms.result.now in
     let p = c.args.ground.now in
-    let at = ready_for c.args.symbolic.now c.terms-terms.result.now p c.terms-terms.ensures c.requires.terms c.requires.versions in
     let vs = versions_claims ks p.sizes.versions in
     let a = c.add_versions.new.ground in
     let u = under_of c.start.result.now in

@@ -1,18 +1,18 @@
-use Rattle.std.proofs.Common.{◌≡◌, ◌≤◌, ◌<◌, ◌+◌, ◌∙◌, [], ℕ, List, Bool, true, Option, Some, None, arith, ap, sym, subst, length, get_or}
+use Rattle.std.proofs.Common.{◌≡◌, ◌≤◌, ◌<◌, ◌+◌, ◌*◌, ◌∙◌, [], ℕ, List, Bool, true, Option, Some, None, arith, ap, sym, subst, length, get_or}
 use Rattle.std.specs.Prelude.{slice_get, IfNone}
 use Rattle.std.specs.Option.{is_some}
 use Rattle.std.proofs.lemmas.Option.{slice_get-get_or}
 use Rattle.gh_base.specs.declared.atom.Lit.{Lit}
 use Rattle.gh_base.specs.declared.sizes.Sizes.{Sizes}
-use Rattle.gh_base.specs.Atoms.{IsInRange, opposite}
+use Rattle.gh_base.specs.Atoms.{IsInRange, count_of, opposite}
 use Rattle.gh_sat.specs.declared.trail.Step.{Step}
 use Rattle.gh_sat.specs.Trail.{Line}
 use Rattle.gh_sat.specs.Rows.{numbered}
-use Rattle.gh_sat.specs.Watch.{AreGuarded, AreVisited, MoveHints, clauses_of}
+use Rattle.gh_sat.specs.Watch.{AreGuarded, AreVisited, clauses_of}
 use Rattle.gh_base.proofs.ListLemmas.{get_within}
-use Rattle.gh_sat.proofs.ListLemmas.{le_le}
 use Rattle.gh_sat.proofs.StatusLemmas.{nothing}
-use Rattle.gh_sat.proofs.WatchLemmas.{grows_on, grows_long, moves_on, guarded_on, visited_begin, visited_end}
+use Rattle.gh_sat.proofs.WatchLemmas.{visited_begin, visited_end}
+use Rattle.gh_sat.proofs.PropagationLemmas.{propagates_not, propagates_on, propagates_long, propagates_guarded, ready_on}
 use Rattle.gh_sat.proofs.propagation.follow.Goals as goal
 
 abbrev no_step : Step
@@ -23,6 +23,13 @@ step_at : (t : Line) (steps steps' : List Step) (head : ℕ) → steps ≡ t.ste
 step_at t steps steps' head e f h =
     let lt : head < length t.steps = subst (λ (s : List Step). head < length s) e h in
     slice_get-get_or t.steps head no_step lt ∙ ap (λ (s : List Step). Some (get_or s head no_step)) (sym f)
+
+pub loop-head-init : goal.loop-head-init
+loop-head-init c = record {
+  propagates = propagates_not c.args.database.now c.args.level c.args.trail.now c.args.hints.now c.requires.ready.valid;
+  within = c.requires.head;
+  guarded = λ looked w. w;
+}
 
 pub of-gone-requires-clause-range : goal.of-gone-requires-clause-range
 of-gone-requires-clause-range c =
@@ -38,20 +45,33 @@ of-list-requires-clause-range c =
     let r = c.steps.ensures.valid.range c.loop-head.head (get_or c.steps-in-loop-head.result.now c.loop-head.head no_step) at in
     subst (λ (s : Sizes). IsInRange s c.negated-lit.result.atom) (sym c.sizes-in-loop-head.ensures.sizes) (subst (λ (l : Lit). IsInRange t.sizes l.atom) (sym c.negated-lit.ensures) r)
 
-pub returns-then-is_some-clause-grows : goal.returns-then-is_some-clause-grows
-returns-then-is_some-clause-grows c = grows_on c.args.clauses.now c.args.level c.args.trail.now.steps c.loop-head.trail.steps c.visit-conflict.new.trail.steps c.loop-head.invariant.grows c.visit-conflict.ensures.grows
+pub of-list-requires-clause-long : goal.of-list-requires-clause-long
+of-list-requires-clause-long c =
+    c.requires.lists ∙ ap (λ (s : Sizes). 2 * count_of s) (sym (c.sizes-in-loop-head.ensures.sizes ∙ c.loop-head.invariant.propagates.sizes))
 
-pub returns-then-is_some-clause-moves : goal.returns-then-is_some-clause-moves
-returns-then-is_some-clause-moves c =
-    let i = c.loop-head.invariant in
-    moves_on c.args.trail.now.sizes c.args.clauses.now c.args.level c.args.trail.now.steps c.loop-head.trail.steps c.args.hints.now c.loop-head.hints c.visit-conflict.new.hints i.grows i.moves
-    (subst (λ (z : Sizes). MoveHints z c.args.clauses.now c.loop-head.trail.steps c.loop-head.hints c.visit-conflict.new.hints) i.sizes c.visit-conflict.ensures.moves)
+pub visit-conflict-requires : goal.visit-conflict-requires
+visit-conflict-requires c =
+    let l = c.loop-head in
+    record { ready = ready_on c.args.database.now c.args.level c.args.trail.now l.trail c.args.hints.now l.hints c.requires.ready l.invariant.propagates }
+
+pub returns-then-is_some-clause-propagates : goal.returns-then-is_some-clause-propagates
+returns-then-is_some-clause-propagates c =
+    let l = c.loop-head in
+    let new = c.visit-conflict.new in
+    propagates_on c.args.database.now c.args.level c.args.trail.now l.trail new.trail c.args.hints.now l.hints new.hints l.invariant.propagates c.visit-conflict.ensures.propagates
+
+pub returns-then-is_some-clause-head : goal.returns-then-is_some-clause-head
+returns-then-is_some-clause-head c =
+    let l = c.loop-head in
+    let new = c.visit-conflict.new in
+    propagates_long c.args.database.now c.args.level l.trail new.trail l.hints new.hints l.head l.invariant.within c.visit-conflict.ensures.propagates
 
 pub returns-then-is_some-clause-guarded : goal.returns-then-is_some-clause-guarded
 returns-then-is_some-clause-guarded c = λ looked w.
-    let i = c.loop-head.invariant in
-    guarded_on c.args.trail.now.sizes c.args.clauses.now c.args.level c.loop-head.trail.steps c.visit-conflict.new.trail.steps c.loop-head.hints c.visit-conflict.new.hints c.loop-head.head looked i.within c.visit-conflict.ensures.grows
-    (subst (λ (z : Sizes). MoveHints z c.args.clauses.now c.loop-head.trail.steps c.loop-head.hints c.visit-conflict.new.hints) i.sizes c.visit-conflict.ensures.moves) (i.guarded looked w)
+    let l = c.loop-head in
+    let i = l.invariant in
+    let new = c.visit-conflict.new in
+    propagates_guarded c.args.database.now c.args.level c.args.trail.now.sizes l.trail new.trail l.hints new.hints l.head looked i.propagates.sizes i.within c.visit-conflict.ensures.propagates (i.guarded looked w)
 
 none_of : (o : Option ℕ) (b : Bool) (P : Type 0) → b ≡ is_some o → (b ≡ true → ⊥) → IfNone o P → P
 none_of None b P e n h = h
@@ -59,33 +79,34 @@ none_of (Some x) b P e n h = absurd (n e)
 
 pub loop-head-preserved : goal.loop-head-preserved
 loop-head-preserved c =
-    let i = c.loop-head.invariant in
+    let l = c.loop-head in
+    let i = l.invariant in
+    let p = i.propagates in
     let v = c.visit-conflict.ensures in
-    let t = c.loop-head.trail in
-    let occ = c.args.occurrences.now in
-    let x = get_or c.steps-in-loop-head.result.now c.loop-head.head no_step in
-    let at = step_at t c.steps.result.now c.steps-in-loop-head.result.now c.loop-head.head c.steps.ensures.steps c.steps-in-loop-head.ensures.steps c.loop-head-test.true in
-    let lt : c.loop-head.head < length t.steps = get_within t.steps c.loop-head.head x at in
-    let up : c.loop-head.head + 1 ≤ length t.steps = omega arith in
+    let t = l.trail in
+    let d = c.args.database.now in
+    let cs = d.clauses.now in
+    let occ = d.occurrences.now in
+    let new = c.visit-conflict.new in
+    let x = get_or c.steps-in-loop-head.result.now l.head no_step in
+    let at = step_at t c.steps.result.now c.steps-in-loop-head.result.now l.head c.steps.ensures.steps c.steps-in-loop-head.ensures.steps c.loop-head-test.true in
+    let lt : l.head < length t.steps = get_within t.steps l.head x at in
+    let up : l.head + 1 ≤ length t.steps = omega arith in
     let list : clauses_of c.args.trail.now.sizes occ (opposite x.lit) ≡ c.of-list.result.now =
-    sym (c.of-list.ensures ∙ ap (λ (z : Sizes). clauses_of z occ c.negated-lit.result) (c.sizes-in-loop-head.ensures.sizes ∙ i.sizes) ∙ ap (λ (l : Lit). clauses_of c.args.trail.now.sizes occ l) c.negated-lit.ensures) in
+    sym (c.of-list.ensures ∙ ap (λ (z : Sizes). clauses_of z occ c.negated-lit.result) (c.sizes-in-loop-head.ensures.sizes ∙ p.sizes) ∙ ap (λ (m : Lit). clauses_of c.args.trail.now.sizes occ m) c.negated-lit.ensures) in
     record {
-      valid = v.valid;
-      sizes = v.sizes ∙ i.sizes;
-      grows = grows_on c.args.clauses.now c.args.level c.args.trail.now.steps t.steps c.visit-conflict.new.trail.steps i.grows v.grows;
-      within = le_le up (grows_long c.args.clauses.now c.args.level t.steps c.visit-conflict.new.trail.steps v.grows);
-      moves = moves_on c.args.trail.now.sizes c.args.clauses.now c.args.level c.args.trail.now.steps t.steps c.args.hints.now c.loop-head.hints c.visit-conflict.new.hints i.grows i.moves
-          (subst (λ (z : Sizes). MoveHints z c.args.clauses.now t.steps c.loop-head.hints c.visit-conflict.new.hints) i.sizes v.moves);
+      propagates = propagates_on d c.args.level c.args.trail.now t new.trail c.args.hints.now l.hints new.hints p v.propagates;
+      within = propagates_long d c.args.level t new.trail l.hints new.hints (l.head + 1) up v.propagates;
       guarded = λ looked w.
           let s = c.args.trail.now.sizes in
           let g = i.guarded looked w in
           let done = none_of c.visit-conflict.result c.is_some.result _ c.is_some.ensures (λ e. let f = c.if-is_some.false in cc) v.visited in
           let gone : numbered t.sizes (opposite x.lit) ≡ c.of-gone.result = sym (c.of-gone.ensures ∙ ap (λ (z : Sizes). numbered z c.negated-lit.result) c.sizes.ensures.sizes ∙ ap (numbered t.sizes) c.negated-lit.ensures) in
-          visited_end s c.args.clauses.now c.visit-conflict.new.hints c.visit-conflict.new.trail.steps c.loop-head.head looked
-          (subst (λ (z : Sizes). AreVisited z c.args.clauses.now c.visit-conflict.new.hints c.visit-conflict.new.trail.steps c.loop-head.head looked []) i.sizes
-          (done c.loop-head.head looked x at gone
-          (subst (λ (z : Sizes). AreGuarded z c.args.clauses.now c.loop-head.hints t.steps c.loop-head.head looked) (sym i.sizes) g)
-          (subst (λ (z : Sizes). AreVisited z c.args.clauses.now c.loop-head.hints t.steps c.loop-head.head looked c.of-list.result.now) (sym i.sizes)
-          (subst (λ (l : List ℕ). AreVisited s c.args.clauses.now c.loop-head.hints t.steps c.loop-head.head looked l) list
-          (visited_begin s c.args.clauses.now occ c.loop-head.hints t.steps c.loop-head.head looked x c.requires.listed at g)))));
+          visited_end s cs new.hints new.trail.steps l.head looked
+          (subst (λ (z : Sizes). AreVisited z cs new.hints new.trail.steps l.head looked []) p.sizes
+          (done l.head looked x at gone
+          (subst (λ (z : Sizes). AreGuarded z cs l.hints t.steps l.head looked) (sym p.sizes) g)
+          (subst (λ (z : Sizes). AreVisited z cs l.hints t.steps l.head looked c.of-list.result.now) (sym p.sizes)
+          (subst (λ (r : List ℕ). AreVisited s cs l.hints t.steps l.head looked r) list
+          (visited_begin s cs occ l.hints t.steps l.head looked x c.requires.listed at g)))));
     }

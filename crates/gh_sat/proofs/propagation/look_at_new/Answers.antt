@@ -1,43 +1,50 @@
-use Rattle.std.proofs.Common.{◌∙◌, arith, inl, inr, subst}
+use Rattle.std.proofs.Common.{arith, inl, inr, subst}
 use Rattle.gh_base.specs.declared.sizes.Sizes.{Sizes}
 use Rattle.gh_sat.specs.Status.{IsGuarded}
-use Rattle.gh_sat.specs.Watch.{MoveHints}
-use Rattle.gh_sat.proofs.ListLemmas.{le_le}
-use Rattle.gh_sat.proofs.WatchLemmas.{grows_on, grows_long, moves_on, guarded_on, guarded_looked}
+use Rattle.gh_sat.proofs.WatchLemmas.{guarded_looked}
+use Rattle.gh_sat.proofs.PropagationLemmas.{propagates_not, propagates_on, propagates_long, propagates_guarded, ready_on}
 use Rattle.gh_sat.proofs.propagation.look_at_new.Goals as goal
 
-pub returns-then-look-clause-grows : goal.returns-then-look-clause-grows
-returns-then-look-clause-grows c = grows_on c.args.clauses.now c.args.level c.args.trail.now.steps c.loop-looked.trail.steps c.look.new.trail.steps c.loop-looked.invariant.grows c.look.ensures.grows
+pub loop-looked-init : goal.loop-looked-init
+loop-looked-init c = record {
+  propagates = propagates_not c.args.database.now c.args.level c.args.trail.now c.args.hints.now c.requires.ready.valid;
+  within = c.requires.looked;
+  guarded = λ head h w. w;
+}
 
-pub returns-then-look-clause-moves : goal.returns-then-look-clause-moves
-returns-then-look-clause-moves c =
-    let i = c.loop-looked.invariant in
-    moves_on c.args.trail.now.sizes c.args.clauses.now c.args.level c.args.trail.now.steps c.loop-looked.trail.steps c.args.hints.now c.loop-looked.hints c.look.new.hints i.grows i.moves
-    (subst (λ (z : Sizes). MoveHints z c.args.clauses.now c.loop-looked.trail.steps c.loop-looked.hints c.look.new.hints) i.sizes c.look.ensures.moves)
+pub look-requires-clause-ready : goal.look-requires-clause-ready
+look-requires-clause-ready c =
+    let l = c.loop-looked in
+    ready_on c.args.database.now c.args.level c.args.trail.now l.trail c.args.hints.now l.hints c.requires.ready l.invariant.propagates
+
+pub returns-then-look-clause-propagates : goal.returns-then-look-clause-propagates
+returns-then-look-clause-propagates c =
+    let l = c.loop-looked in
+    propagates_on c.args.database.now c.args.level c.args.trail.now l.trail c.look.new.trail c.args.hints.now l.hints c.look.new.hints l.invariant.propagates c.look.ensures.propagates
 
 pub returns-then-look-clause-guarded : goal.returns-then-look-clause-guarded
 returns-then-look-clause-guarded c = λ head h w.
-    let i = c.loop-looked.invariant in
-    guarded_on c.args.trail.now.sizes c.args.clauses.now c.args.level c.loop-looked.trail.steps c.look.new.trail.steps c.loop-looked.hints c.look.new.hints head c.loop-looked.looked
-    (le_le h (grows_long c.args.clauses.now c.args.level c.args.trail.now.steps c.loop-looked.trail.steps i.grows)) c.look.ensures.grows
-    (subst (λ (z : Sizes). MoveHints z c.args.clauses.now c.loop-looked.trail.steps c.loop-looked.hints c.look.new.hints) i.sizes c.look.ensures.moves) (i.guarded head h w)
+    let l = c.loop-looked in
+    let i = l.invariant in
+    let d = c.args.database.now in
+    propagates_guarded d c.args.level c.args.trail.now.sizes l.trail c.look.new.trail l.hints c.look.new.hints head l.looked i.propagates.sizes
+    (propagates_long d c.args.level c.args.trail.now l.trail c.args.hints.now l.hints head h i.propagates) c.look.ensures.propagates (i.guarded head h w)
 
 pub loop-looked-preserved : goal.loop-looked-preserved
 loop-looked-preserved c =
-    let i = c.loop-looked.invariant in
-    let moves = subst (λ (z : Sizes). MoveHints z c.args.clauses.now c.loop-looked.trail.steps c.loop-looked.hints c.look.new.hints) i.sizes c.look.ensures.moves in
+    let l = c.loop-looked in
+    let i = l.invariant in
+    let d = c.args.database.now in
+    let new = c.look.new in
     record {
-      valid = c.look.ensures.valid;
-      sizes = c.look.ensures.sizes ∙ i.sizes;
-      grows = grows_on c.args.clauses.now c.args.level c.args.trail.now.steps c.loop-looked.trail.steps c.look.new.trail.steps i.grows c.look.ensures.grows;
-      moves = moves_on c.args.trail.now.sizes c.args.clauses.now c.args.level c.args.trail.now.steps c.loop-looked.trail.steps c.args.hints.now c.loop-looked.hints c.look.new.hints i.grows i.moves moves;
+      propagates = propagates_on d c.args.level c.args.trail.now l.trail new.trail c.args.hints.now l.hints new.hints i.propagates c.look.ensures.propagates;
       within = omega arith;
       guarded = λ head h w.
-          guarded_looked c.args.trail.now.sizes c.args.clauses.now c.look.new.hints c.look.new.trail.steps head c.loop-looked.looked
-          (λ d x at has. elim (c.look.ensures.guarded d x at has) [
+          guarded_looked c.args.trail.now.sizes d.clauses.now new.hints new.trail.steps head l.looked
+          (λ e x at has. elim (c.look.ensures.guarded e x at has) [
             | inl t ↦ absurd (let f = c.if-look.false in cc)
-            | inr g ↦ subst (λ (z : Sizes). IsGuarded z c.look.new.trail.steps c.look.new.trail.steps d x) i.sizes g
+            | inr g ↦ subst (λ (z : Sizes). IsGuarded z new.trail.steps new.trail.steps e x) i.propagates.sizes g
           ])
-          (guarded_on c.args.trail.now.sizes c.args.clauses.now c.args.level c.loop-looked.trail.steps c.look.new.trail.steps c.loop-looked.hints c.look.new.hints head c.loop-looked.looked
-          (le_le h (grows_long c.args.clauses.now c.args.level c.args.trail.now.steps c.loop-looked.trail.steps i.grows)) c.look.ensures.grows moves (i.guarded head h w));
+          (propagates_guarded d c.args.level c.args.trail.now.sizes l.trail new.trail l.hints new.hints head l.looked i.propagates.sizes
+          (propagates_long d c.args.level c.args.trail.now l.trail c.args.hints.now l.hints head h i.propagates) c.look.ensures.propagates (i.guarded head h w));
     }

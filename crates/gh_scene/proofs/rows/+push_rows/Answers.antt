@@ -1,18 +1,19 @@
 use Rattle.std.proofs.lemmas.Result.{IfOk-weaker}
+use Rattle.std.proofs.lemmas.List.{nil_from_length}
 use Rattle.gh_ast.specs.Plain.{procedure_of, program_of}
-use Rattle.gh_scene.proofs.Rowing.{nothing, no_step, no_state, one_state, row_first}
+use Rattle.gh_scene.proofs.Rowing.{no_step, no_state, one_state, row_first}
 use Rattle.gh_scene.proofs.rows.+push_rows.Goals as goal
 
 pub returns-in_default : goal.returns-in_default
 returns-in_default t c ss are =
-    no_step (program_of c.args.setting.typed.now) (procedure_of c.args.setting.procedure.now) c.args.steps.now ss c.args.states.now c.args.spare.now c.args.rows.now.items (nothing c.args.steps.now c.in_default.ensures.cases) are
+    no_step (program_of c.args.setting.typed.now) (procedure_of c.args.setting.procedure.now) c.args.steps.now ss c.args.states.now c.args.spare.now c.args.rows.now.items (nil_from_length c.args.steps.now c.in_default.ensures.cases) are
 
 pub returns-in_default-split_first : goal.returns-in_default-split_first
-returns-in_default-split_first t c ss are = no_state (program_of c.args.setting.typed.now) ss c.args.states.now c.args.spare.now c.args.rows.now.items (nothing c.args.states.now c.in_default-split_first.ensures.cases)
+returns-in_default-split_first t c ss are = no_state (program_of c.args.setting.typed.now) ss c.args.states.now c.args.spare.now c.args.rows.now.items (nil_from_length c.args.states.now c.in_default-split_first.ensures.cases)
 
 pub returns-in_default-split_first-2 : goal.returns-in_default-split_first-2
 returns-in_default-split_first-2 t c ss are =
-    one_state (program_of c.args.setting.typed.now) ss c.args.states.now c.in-Some-split_first.others.now c.in-Some-split_first.before.now c.args.spare.now c.args.rows.now.items c.in-Some-split_first.ensures.cases.0 (nothing c.in-Some-split_first.others.now c.in_default-split_first-2.ensures.cases)
+    one_state (program_of c.args.setting.typed.now) ss c.args.states.now c.in-Some-split_first.others.now c.in-Some-split_first.before.now c.args.spare.now c.args.rows.now.items c.in-Some-split_first.ensures.cases.0 (nil_from_length c.in-Some-split_first.others.now c.in_default-split_first-2.ensures.cases)
 
 pub returns : goal.returns
 returns t c =

@@ -1,7 +1,7 @@
 use Rattle.std.proofs.Common.{◌≡◌, ◌∙◌, ◌∷◌, sym, subst, map, Some, None}
+use Rattle.std.proofs.lemmas.List.{nil_from_length}
 use Rattle.gh_ast.specs.Plain.{program_of}
 use Rattle.gh_path.specs.Answers.{IsNumbered}
-use Rattle.gh_scene.proofs.Rowing.{nothing}
 use Rattle.gh_scene.proofs.Sketching.{has_meaning, sketched, sketch_fails, no_states}
 use Rattle.gh_trace.proofs.StepCounts.{few_steps}
 use Rattle.gh_scene.proofs.sketch.scene_of.Goals as goal
@@ -18,7 +18,7 @@ returns-in_default-split_first c =
     let P = program_of c.args.typed.now in
     let n = c.args.drawing.now.condition in
     let found : IsNumbered P n (Some c.in-Some.condition) = subst (λ Q. IsNumbered Q n (Some c.in-Some.condition)) c.requires.same (rw c.in-Some.is at c.in_ok-condition.ensures) in
-    no_states P n c.in-Some.condition c.args.drawing.now.trace.states.items found (sym c.as_slice-states.ensures.value ∙ nothing c.as_slice-states.result.now c.in_default-split_first.ensures.cases)
+    no_states P n c.in-Some.condition c.args.drawing.now.trace.states.items found (sym c.as_slice-states.ensures.value ∙ nil_from_length c.as_slice-states.result.now c.in_default-split_first.ensures.cases)
 
 pub replay-requires : goal.replay-requires
 replay-requires c =

@@ -3,13 +3,13 @@ use Rattle.std.proofs.Math.ListN.{drop_of_length-le}
 use Rattle.std.proofs.lemmas.List.{map-append}
 use Rattle.gh_ast.specs.Plain.{program_of, procedure_of}
 use Rattle.gh_ast.specs.Programs.{Name}
-use Rattle.gh_path.specs.Kept.{IsStart, IsKind, AreSteps}
+use Rattle.gh_path.specs.Kept.{AreSteps}
 use Rattle.gh_path.specs.Terms.{no_terms}
 use Rattle.gh_symb.specs.Following.{Follows, begins}
 use Rattle.gh_symb.specs.Phases.{learned, both}
 use Rattle.gh_symb.specs.Tables.{bound_by, state}
 use Rattle.gh_symb.proofs.TableLemmas.{head_of}
-use Rattle.gh_symb.proofs.CountLemmas.{its_procedure}
+use Rattle.gh_symb.proofs.CountLemmas.{within_its}
 use Rattle.gh_symb.specs.Symbolic.{under, check_used}
 use Rattle.gh_symb.specs.Encodings.{Each}
 use Rattle.gh_symb.specs.Fitting.{EncodesBinding, EncodesUnder}
@@ -23,13 +23,10 @@ loop-step-init c = record {
   left = λ d stands.
       let P = c.args.typed.now in
       let p = procedure_of c.index-procedure.result.now in
-      let same : p ≡ d.procedure =
-      its_procedure P c.program-program.result.now.procedures.items c.args.condition.now.procedure c.index-procedure.result.now d.procedure
-      (ap (λ x. x.procedures.items) c.program-program.ensures.same) c.index-procedure.ensures stands.procedure in
-      let begin = c.in_ok-start.ensures d.start (subst (λ q. IsStart q c.args.condition.now.start d.start) (sym same) stands.start) in
+      let its = within_its P c.program-program.result.now c.args.condition.now c.index-procedure.result.now d c.program-program.ensures.same c.index-procedure.ensures stands in
+      let begin = c.in_ok-start.ensures d.start its.start in
       let started : state c.ask_start.new.kinds c.ask_start.new.self 0 ≡ begins d = rw (c.in_ok-kinds.ensures, c.new-scope.ensures) at begin.0 in
-      let are : AreSteps (program_of P) p c.as_slice-step-items.result.now d.way.steps =
-      rw c.as_slice-step-items.ensures.value (subst (λ q. AreSteps (program_of P) q c.args.condition.now.steps.items d.way.steps) (sym same) stands.steps) in
+      let are : AreSteps (program_of P) p c.as_slice-step-items.result.now d.way.steps = rw c.as_slice-step-items.ensures.value its.steps in
       let s = state c.ask_start.new.kinds c.ask_start.new.self 0 in
       subst (λ ss. Follows (program_of P) p c.as_slice-step-items.result.now d s (bound_by c.new-firsts.result) ss c.new-steps.result.items) (sym (ap (map bound_by) c.new-states.ensures.items))
       (subst (λ ts. Follows (program_of P) p c.as_slice-step-items.result.now d s (bound_by c.new-firsts.result) [] ts) (sym c.new-steps.ensures.items)
@@ -67,24 +64,20 @@ returns c = λ d stands.
     let P = c.args.typed.now in
     let p = procedure_of c.index-procedure.result.now in
     let s = state c.loop-step.kinds c.loop-step.scope c.loop-step.version in
-    let same : p ≡ d.procedure =
-    its_procedure P c.program-program.result.now.procedures.items c.args.condition.now.procedure c.index-procedure.result.now d.procedure
-    (ap (λ x. x.procedures.items) c.program-program.ensures.same) c.index-procedure.ensures stands.procedure in
+    let its = within_its P c.program-program.result.now c.args.condition.now c.index-procedure.result.now d c.program-program.ensures.same c.index-procedure.ensures stands in
     let none : drop c.loop-step.step-index c.as_slice-step-items.result.now ≡ [] = drop_of_length-le c.as_slice-step-items.result.now c.loop-step-test.false in
     let last : Follows (program_of P) p [] d s (bound_by c.loop-step.firsts) (map bound_by c.loop-step.states.items) c.loop-step.steps.items = rw none at (c.loop-step.invariant.left d stands) in
-    let its : IsKind (program_of P) p c.args.condition.now.check.kind c.args.condition.now.check.span d.way.check =
-    subst (λ q. IsKind (program_of P) q c.args.condition.now.check.kind c.args.condition.now.check.span d.way.check) (sym same) stands.check in
-    let used : bound_by c.ask_check.new.self ≡ (check_used d.way.check s).bindings = (rw c.program-program.ensures.same at c.in_ok-check.ensures.used) c.args.condition.now.check.span d.way.check its in
+    let used : bound_by c.ask_check.new.self ≡ (check_used d.way.check s).bindings = (rw c.program-program.ensures.same at c.in_ok-check.ensures.used) c.args.condition.now.check.span d.way.check its.check in
     let learns : (x : Name) → bound_by c.learn-2.new.self x ≡ learned (s.bindings x) (bound_by c.ask_check.new.self x) (bound_by c.loop-step.firsts x) =
     λ x. rw c.in_ok-before-2.ensures at (c.in_ok-learn-2.ensures x) in
     let followed = ended (program_of P) p d s (bound_by c.ask_check.new.self) (bound_by c.loop-step.firsts) (bound_by c.learn-2.new.self) (map bound_by c.loop-step.states.items) c.loop-step.steps.items last used learns in
-    let ends = (rw c.program-program.ensures.same at c.in_ok-check.ensures.ended) c.args.condition.now.check.span d.way.check its in
-    let asks = (rw c.program-program.ensures.same at c.in_ok-check.ensures.encodes) c.args.condition.now.check.span d.way.check its in
-    let begin = c.in_ok-start.ensures d.start (subst (λ q. IsStart q c.args.condition.now.start d.start) (sym same) stands.start) in
+    let ends = (rw c.program-program.ensures.same at c.in_ok-check.ensures.ended) c.args.condition.now.check.span d.way.check its.check in
+    let asks = (rw c.program-program.ensures.same at c.in_ok-check.ensures.encodes) c.args.condition.now.check.span d.way.check its.check in
+    let begin = c.in_ok-start.ensures d.start its.start in
     let started : EncodesUnder c.in_ok-start.start (under d.start.meets no_terms) = rw (c.in_ok-kinds.ensures, c.new-scope.ensures) at begin.1 in
     let met : map bound_by c.push-2.new.self.items ≡ map bound_by c.loop-step.states.items ++ s.bindings ∷ [] =
     ap (map bound_by) c.in_ok-push-3.ensures.items ∙ map-append bound_by c.loop-step.states.items (c.in_ok-before-2.before ∷ [])
     ∙ ap (λ es. map bound_by c.loop-step.states.items ++ bound_by es ∷ []) c.in_ok-before-2.ensures in
-    is_walked (program_of P) p d s (bound_by c.learn-2.new.self) (map bound_by c.loop-step.states.items ++ s.bindings ∷ []) _ same followed ends asks started
+    is_walked (program_of P) p d s (bound_by c.learn-2.new.self) (map bound_by c.loop-step.states.items ++ s.bindings ∷ []) _ its.same followed ends asks started
     (subst (λ ms. Each EncodesBinding c.in_ok-bindings.bindings.items ms) (states_both (bound_by c.learn-2.new.self) c.push-2.new.self.items ∙ ap (map (λ b. both b (bound_by c.learn-2.new.self))) met)
     (rw c.as_slice.ensures.value at c.in_ok-bindings.ensures))

@@ -133,8 +133,8 @@ invariant_of-self c =
     let place : c.len-place.result ≡ length core.lits = omega arith in
     let whole : c.as_slice.result.now ≡ core.lits ++ c.args.lit ∷ [] = c.as_slice.ensures.value ∙ c.push_reserved-2.ensures.items in
     let t = c.take_in-found.ensures in
-    let taken = taken_in core c.args.lit c.as_slice.result.now c.len-place.result i.partition c.take_in-found.new.partition c.take_in-found.new.signs c.take_in-found.result c.is_some.result
-    whole place c.is_some.ensures kept t.tied t.links t.grows.added t.grows.more t.filed t.clash in
+    let taken = taken_in core c.args.lit c.as_slice.result.now c.len-place.result i.partition c.take_in-found.new.partition c.take_in-found.new.signs c.take_in-found.result c.is_some-clashed.result
+    whole place c.is_some-clashed.ensures kept t.tied t.links t.grows.added t.grows.more t.filed t.clash in
     let x = c.args.lit in
     let mentioned : c.mention.new.uses.list ≡ all_mentions (core.lits ++ x ∷ []) =
     ap (λ (u : Mentioned). u.list) c.mention.ensures

@@ -11,9 +11,9 @@ is_true-requires c =
     let among : IsAmong c.args.first p = c.is_among.ensures.0 c.if-is_among.true in
     let three : length p.places ≡ 3 = search in
     record {
-      version = c.requires.version;
-      variables = weaker c.args.first 4 p c.requires.first among;
-      terms = terms_there c.args.first c.args.structure.now.sizes.terms c.args.tuple.now p among three (omega arith) c.requires.terms;
+      version = c.requires.version_there;
+      variables = weaker c.args.first 4 p c.requires.few among;
+      terms = terms_there c.args.first c.args.structure.now.sizes.terms c.args.tuple.now p among three (omega arith) c.requires.below;
     }
 
 pub returns-then-is_among-clause-settled : goal.returns-then-is_among-clause-settled

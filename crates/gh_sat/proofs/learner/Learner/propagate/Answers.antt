@@ -1,10 +1,11 @@
-use Rattle.std.proofs.Common.{◌≡◌, ◌≤◌, ◌∙◌, ◌++◌, ◌∷◌, [], ℕ, List, Option, Some, None, arith, ap, sym, subst, refl, length}
+use Rattle.std.proofs.Common.{All, ◌≡◌, ◌≤◌, ◌∙◌, ◌++◌, ◌∷◌, [], ℕ, List, Option, Some, None, arith, ap, sym, subst, refl, length}
 use Rattle.std.specs.Prelude.{slice_get, IfSome, IfNone}
 use Rattle.std.specs.Vec.{with_items}
 use Rattle.std.proofs.lemmas.List.{with_items_is}
 use Rattle.gh_base.specs.declared.atom.Lit.{Lit}
 use Rattle.gh_base.specs.declared.sizes.Sizes.{Sizes}
-use Rattle.gh_base.specs.Atoms.{count_of}
+use Rattle.gh_base.specs.Atoms.{AreInRange, count_of}
+use Rattle.gh_sat.specs.Rows.{rows_of}
 use Rattle.gh_sat.specs.declared.trail.Step.{Step}
 use Rattle.gh_sat.specs.Trail.{SearchState, AreSteps}
 use Rattle.gh_sat.specs.Status.{IsBad, IsSettled, Grows, IsFalseClause}
@@ -22,6 +23,17 @@ pub propagate-requires-clause-listed : goal.propagate-requires-clause-listed
 propagate-requires-clause-listed c =
     subst (λ (cs : List (List Lit)). AreListed c.self.inside.trail.sizes cs c.self.inside.occurrences) (sym c.as_slice.ensures.value) c.self.invariant.0.listed
 
+pub propagate-requires-clause-ready : goal.propagate-requires-clause-ready
+propagate-requires-clause-ready c =
+    let i = c.self.invariant in
+    let z = c.self.inside.trail.sizes in
+    record {
+      range = subst (λ (cs : List (List Lit)). All (AreInRange z) cs) (sym c.as_slice.ensures.value) i.0.sound.in_range;
+      rows = c.as_slice-2.ensures.value ∙ i.5 ∙ ap (rows_of z) (sym c.as_slice.ensures.value);
+      hinted = ap length c.as_mut_slice.ensures.value ∙ i.0.hinted ∙ sym (ap length c.as_slice.ensures.value);
+      valid = i.0.sound.steps;
+    }
+
 pub invariant_of-self : goal.invariant_of-self
 invariant_of-self c =
     let s = the_view c.self.inside in
@@ -30,22 +42,22 @@ invariant_of-self c =
     let new = c.propagate.new.trail.steps in
     let cs : c.as_slice.result.now ≡ s.clauses = c.as_slice.ensures.value in
     let level : c.len-level.result ≡ length s.starts = omega arith in
-    let grows : Grows s.clauses (length s.starts) s.trail new = subst (λ n. Grows s.clauses n s.trail new) level (subst (λ (x : List (List Lit)). Grows x c.len-level.result s.trail new) cs p.grows) in
-    let valid : AreSteps (record { sizes = s.sizes; steps = new }) = subst (λ (z : Sizes). AreSteps (record { sizes = z; steps = new })) p.sizes p.valid in
+    let grows : Grows s.clauses (length s.starts) s.trail new = subst (λ n. Grows s.clauses n s.trail new) level (subst (λ (x : List (List Lit)). Grows x c.len-level.result s.trail new) cs p.propagates.grows) in
+    let valid : AreSteps (record { sizes = s.sizes; steps = new }) = subst (λ (z : Sizes). AreSteps (record { sizes = z; steps = new })) p.propagates.sizes p.propagates.valid in
     let within : c.propagate.new.looked ≤ length s.clauses = le_along refl (ap length cs) p.looked in
     let moves : MoveHints s.sizes s.clauses s.trail c.self.inside.hints.items c.propagate.new.hints = subst (λ (x : List (List Lit)). MoveHints s.sizes x s.trail c.self.inside.hints.items c.propagate.new.hints) cs
-    (subst (λ (y : List Hint). MoveHints s.sizes c.as_slice.result.now s.trail y c.propagate.new.hints) c.as_mut_slice.ensures.value p.moves) in
+    (subst (λ (y : List Hint). MoveHints s.sizes c.as_slice.result.now s.trail y c.propagate.new.hints) c.as_mut_slice.ensures.value p.propagates.moves) in
     let guarded : AreGuarded s.sizes s.clauses c.propagate.new.hints new c.propagate.new.head c.propagate.new.looked = subst (λ (x : List (List Lit)). AreGuarded s.sizes x c.propagate.new.hints new c.propagate.new.head c.propagate.new.looked) cs p.guarded in
     let h = whole_grow s c.self.inside.counts.items c.self.inside.looked c.self.inside.head c.propagate.new.looked c.propagate.new.head c.self.inside.occurrences c.self.inside.hints.items c.propagate.new.hints new i.0 grows valid within p.head moves guarded in
-    let written : (with_items c.self.inside.hints c.propagate.new.hints).items ≡ c.propagate.new.hints = with_items_is c.self.inside.hints c.propagate.new.hints (p.moves.long ∙ c.as_mut_slice.ensures.len) in
-    let count : count_of s.sizes ≡ count_of c.propagate.new.trail.sizes = ap count_of (sym p.sizes) in (
-      subst (λ (z : Sizes). IsWhole (record { sizes = z; clauses = s.clauses; trail = new; starts = s.starts }) c.self.inside.counts.items c.propagate.new.looked c.propagate.new.head c.self.inside.occurrences (with_items c.self.inside.hints c.propagate.new.hints).items) (sym p.sizes)
+    let written : (with_items c.self.inside.hints c.propagate.new.hints).items ≡ c.propagate.new.hints = with_items_is c.self.inside.hints c.propagate.new.hints (p.propagates.moves.long ∙ c.as_mut_slice.ensures.len) in
+    let count : count_of s.sizes ≡ count_of c.propagate.new.trail.sizes = ap count_of (sym p.propagates.sizes) in (
+      subst (λ (z : Sizes). IsWhole (record { sizes = z; clauses = s.clauses; trail = new; starts = s.starts }) c.self.inside.counts.items c.propagate.new.looked c.propagate.new.head c.self.inside.occurrences (with_items c.self.inside.hints c.propagate.new.hints).items) (sym p.propagates.sizes)
           (subst (λ (x : List Hint). IsWhole (record s { trail = new }) c.self.inside.counts.items c.propagate.new.looked c.propagate.new.head c.self.inside.occurrences x) (sym written) h),
       le_along count refl i.1,
       le_along count refl i.2,
       i.3,
       i.4 ∙ count,
-      rows_sized s.sizes c.propagate.new.trail.sizes s.clauses c.self.inside.rows.items i.5 p.sizes,
+      rows_sized s.sizes c.propagate.new.trail.sizes s.clauses c.self.inside.rows.items i.5 p.propagates.sizes,
     )
 
 pub returns-clause-last : goal.returns-clause-last

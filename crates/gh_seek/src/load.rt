@@ -1,0 +1,147 @@
+//! The ground clauses that a search needs. Those of a definition say it in both directions; one direction is left out
+//! where the others don't ask for it: no clause has the opposite of what it tells.
+
+use crate::clauses::Origin;
+use crate::shape::{Code, Shape};
+use crate::state::State;
+use crate::table::{at, put, small};
+use gh_base::clause::Clause;
+use gh_base::ground::Ground;
+use std::alloc::{AllocError, Global};
+
+// The clauses of a ground problem, one after the other, without repeats in one.
+#[derive(Debug, Drop)]
+struct Table {
+    codes: Vec<Code>,
+    // Where each clause ends.
+    ends: Vec<u32>,
+    // By literal: one more than the number of the last clause that has it.
+    last: Vec<u32>,
+}
+
+impl Table {
+    // All clauses. Notes the latest version of which each definition speaks.
+    fn new(alloc: Global, shape: &mut Shape, ground: &Ground) -> Result<Table, AllocError> {
+        let mut table = Table {
+            codes: Vec::new(alloc),
+            ends: Vec::new(alloc),
+            last: vec![in alloc; 0; shape.count.wrapping_mul(2)]?,
+        };
+        for number in 0..ground.count() {
+            let Some(clause) = ground.clause(number) else {
+                break;
+            };
+            table.push(shape, clause)?;
+            let codes = table.clause(number as usize);
+            let defined = greatest(codes);
+            if defined >= shape.defs {
+                let version = latest(shape, codes, defined);
+                shape.note_version(defined, version);
+            }
+        }
+        Ok(table)
+    }
+
+    // Adds a clause.
+    fn push(&mut self, shape: &Shape, clause: &Clause) -> Result<(), AllocError> {
+        let stamp = small(self.ends.len()).wrapping_add(1);
+        for lit in clause.lits() {
+            let code = shape.code(*lit);
+            if at(self.last.as_slice(), code.place(), 0) != stamp {
+                put(self.last.as_mut_slice(), code.place(), stamp);
+                self.codes.push(code)?;
+            }
+        }
+        self.ends.push(small(self.codes.len()))?;
+        Ok(())
+    }
+
+    // The literals of a clause.
+    fn clause(&self, number: usize) -> &[Code] {
+        let end = at(self.ends.as_slice(), number, 0) as usize;
+        let start = if number == 0 {
+            0
+        } else {
+            at(self.ends.as_slice(), number - 1, 0) as usize
+        };
+        if start <= end && end <= self.codes.len() {
+            return &self.codes.as_slice()[start..end];
+        }
+        &[]
+    }
+}
+
+// The greatest atom of a clause: a clause that says what a definition stands for has that one.
+fn greatest(codes: &[Code]) -> usize {
+    let mut greatest = 0;
+    for code in codes {
+        greatest = code.atom().max(greatest);
+    }
+    greatest
+}
+
+// The latest version of which literals speak, but for that of a definition.
+fn latest(shape: &Shape, codes: &[Code], defined: usize) -> u8 {
+    let mut version = 0;
+    for code in codes {
+        if code.atom() != defined {
+            version = shape.parts(code.atom()).version.max(version);
+        }
+    }
+    version
+}
+
+// Whether a clause is asked for: it is unit or speaks of no definition, or it tells a literal of the definition whose
+// opposite stands in a clause that is asked for and defines another one.
+fn is_asked_for(shape: &Shape, codes: &[Code], asked: &[bool]) -> bool {
+    let defined = greatest(codes);
+    if codes.len() < 2 || defined < shape.defs {
+        return true;
+    }
+    codes.iter().any(|code| code.atom() == defined && at(asked, code.negated().place(), true))
+}
+
+// Notes what a clause that is asked for asks for.
+fn ask(shape: &Shape, codes: &[Code], asked: &mut [bool]) {
+    let defined = greatest(codes);
+    for code in codes {
+        let atom = code.atom();
+        if atom >= shape.defs && (atom != defined || codes.len() < 2) {
+            put(asked, code.place(), true);
+        }
+    }
+}
+
+// Which clauses are asked for. A clause with a definition comes after those that define it.
+fn asked_for(alloc: Global, shape: &Shape, table: &Table) -> Result<Vec<bool>, AllocError> {
+    let mut asked = vec![in alloc; false; shape.count.wrapping_mul(2)]?;
+    let count = table.ends.len();
+    let mut kept = vec![in alloc; false; count]?;
+    for back in 0..count {
+        let number = count - 1 - back;
+        let codes = table.clause(number);
+        if is_asked_for(shape, codes, asked.as_slice()) {
+            ask(shape, codes, asked.as_mut_slice());
+            put(kept.as_mut_slice(), number, true);
+        }
+    }
+    Ok(kept)
+}
+
+/// Adds the clauses of a ground problem that are asked for, and has their atoms decided.
+pub(crate) fn load(alloc: Global, state: &mut State, ground: &Ground) -> Result<(), AllocError> {
+    let table = Table::new(alloc, &mut state.shape, ground)?;
+    let kept = asked_for(alloc, &state.shape, &table)?;
+    for number in 0..table.ends.len() {
+        if !at(kept.as_slice(), number, true) {
+            continue;
+        }
+        let codes = table.clause(number);
+        for code in codes {
+            state.order.note(code.atom());
+        }
+        let added = state.clauses.push(codes, Origin::Ground(small(number)))?;
+        let _added = state.watch(added)?;
+    }
+    state.order.fill(&state.shape)
+}
