@@ -1,5 +1,7 @@
 -- A literal more, and the last ones taken back.
-use Rattle.std.proofs.Common.{◌≡◌, ◌⊎◌, inl, inr, ℕ, ◌+◌, ◌<◌, ◌≤◌, Bool, true, false, cond, ltb, List, [], ◌∷◌, ◌++◌, length, get_or, take, Option, Some, None, refl, sym, ap, ◌∙◌, subst, arith, take_all, length-append}
+use Rattle.std.proofs.Common.{◌≡◌, ◌⊎◌, inl, inr, ℕ, ◌+◌, ◌<◌, ◌≤◌, Bool, true, false, cond, ltb, List, [], ◌∷◌, ◌++◌}
+use Rattle.std.proofs.Common.{length, get_or, take, Option, Some, None, refl, sym, ap, ◌∙◌, subst, arith, take_all}
+use Rattle.std.proofs.Common.{length-append}
 use Rattle.std.specs.Prelude.{IfNone, IfSome, is_some}
 use Rattle.std.proofs.lemmas.Bool.{cases_lt, lt-ltb, le-ltb}
 use Rattle.std.proofs.lemmas.Option.{same_Some, get_or_from_slice_get, slice_get_read}
@@ -15,14 +17,17 @@ use Rattle.gh_cc.specs.declared.classes.ClashAt.{ClashAt}
 use Rattle.gh_cc.specs.Partitions.{Merged}
 use Rattle.gh_cc.specs.Signs.{Filed}
 use Rattle.gh_cc.specs.Asserted.{IsFree}
-use Rattle.gh_cc.specs.Kept.{reps, IsClash, IsState, AllFiled, AreTied, LinksMore, Core, stage_at, first_clash, clash_before, IsStage, IsBefore, IsKept}
+use Rattle.gh_cc.specs.Kept.{reps, IsClash, IsState, AllFiled, AreTied, LinksMore, Core, stage_at, first_clash}
+use Rattle.gh_cc.specs.Kept.{clash_before, IsStage, IsBefore, IsKept}
 use Rattle.gh_base.proofs.ListLemmas.{get_front, get_take}
-use Rattle.gh_cc.proofs.KeptLemmas.{take_take, get_or_push, get_or_past, get_or_front_of, stage_keeps, clash_keeps, few_lits, apart_push, now_of, clash_cases, clash_stays, no_clash}
+use Rattle.gh_cc.proofs.KeptLemmas.{take_take, get_or_push, get_or_past, get_or_front_of, stage_keeps, clash_keeps}
+use Rattle.gh_cc.proofs.KeptLemmas.{few_lits, apart_push, now_of, clash_cases, clash_stays, no_clash}
 
 -- the state when all literals stand
 pub state_now : (c : Core) → IsKept c → IsStage c (length c.lits) (now_of c)
 state_now c h =
-    let at : stage_at c (length c.lits) ≡ now_of c = get_or_past c.stages (now_of c) (length c.lits) (omega (arith, h.staged)) in
+    let at : stage_at c (length c.lits) ≡ now_of c =
+    get_or_past c.stages (now_of c) (length c.lits) (omega (arith, h.staged)) in
     subst (IsStage c (length c.lits)) at (h.each (length c.lits) (omega arith))
 
 take_lits : (c : Core) → take (length c.lits) c.lits ≡ c.lits
@@ -66,11 +71,15 @@ pub record TakenIn (c : Core) (x : Lit) (p : Merged) (f : Filed) (found : Option
   pub filed : found ≡ None → c.clash ≡ None → AllFiled c.sizes (c.lits ++ x ∷ []) p.links f.entries
   pub clash : (k : Clash) → found ≡ Some k → IsClash (reps p.links) (c.lits ++ x ∷ []) k
 
-old_stage : (c : Core) (x : Lit) (p : Merged) (f : Filed) (found : Option Clash) → IsKept c → (k : ℕ) → k ≤ length c.lits → stage_at (more_core c x p f found) k ≡ stage_at c k
-old_stage c x p f found h k below = get_or_push c.stages (now_of c) (now_of (more_core c x p f found)) k (omega (arith, h.staged))
+old_stage : (c : Core) (x : Lit) (p : Merged) (f : Filed) (found : Option Clash) → IsKept c → (k : ℕ)
+    → k ≤ length c.lits → stage_at (more_core c x p f found) k ≡ stage_at c k
+old_stage c x p f found h k below = get_or_push c.stages (now_of c) (now_of (more_core c x p f found)) k
+    (omega (arith, h.staged))
 
-new_stage : (c : Core) (x : Lit) (p : Merged) (f : Filed) (found : Option Clash) → IsKept c → (k : ℕ) → length c.lits < k → stage_at (more_core c x p f found) k ≡ now_of (more_core c x p f found)
-new_stage c x p f found h k above = get_or_past (c.stages ++ now_of c ∷ []) (now_of (more_core c x p f found)) k (omega (arith, h.staged, length_push c.stages (now_of c)))
+new_stage : (c : Core) (x : Lit) (p : Merged) (f : Filed) (found : Option Clash) → IsKept c → (k : ℕ)
+    → length c.lits < k → stage_at (more_core c x p f found) k ≡ now_of (more_core c x p f found)
+new_stage c x p f found h k above = get_or_past (c.stages ++ now_of c ∷ []) (now_of (more_core c x p f found)) k
+    (omega (arith, h.staged, length_push c.stages (now_of c)))
 
 last_stage : (c : Core) (x : Lit) (p : Merged) (f : Filed) (found : Option Clash) → IsKept c → TakenIn c x p f found
     → IsStage (more_core c x p f found) (length (c.lits ++ x ∷ [])) (now_of (more_core c x p f found))
@@ -82,40 +91,57 @@ last_stage c x p f found h t =
       count = omega arith;
       state = rw (take_lits m, take_links m, take_entries m) t.tied.state;
       filed = λ none.
-          let w = no_clash c.clash (length c.lits) found (length (c.lits ++ x ∷ [])) none (λ g at. let b = h.clashed g at in omega (arith, n)) (omega (arith, n)) in
+          let w = no_clash c.clash (length c.lits) found (length (c.lits ++ x ∷ [])) none
+          (λ g at. let b = h.clashed g at in omega (arith, n)) (omega (arith, n)) in
           rw (take_lits m, take_links m, take_entries m) (t.filed w.1 w.0);
       clash = λ g at lt.
-          elim (clash_cases c.clash (length c.lits) found g at) as (λ _. IsClash (reps (take (length p.links) p.links)) (take (length (c.lits ++ x ∷ [])) (c.lits ++ x ∷ [])) g.clash) [
+          elim (clash_cases c.clash (length c.lits) found g at) as (λ _. IsClash (reps (take (length p.links) p.links))
+          (take (length (c.lits ++ x ∷ [])) (c.lits ++ x ∷ [])) g.clash) [
             | inl old ↦
-                let was = clash_keeps c.links t.added_links c.lits (c.lits ++ x ∷ []) g.clash (λ i l at. get_front c.lits (x ∷ []) i l at) (clash_now c h g old) in
+                let was = clash_keeps c.links t.added_links c.lits (c.lits ++ x ∷ []) g.clash
+                (λ i l at. get_front c.lits (x ∷ []) i l at) (clash_now c h g old) in
                 rw (take_links m, take_lits m, t.links) was
             | inr new ↦ rw (take_links m, take_lits m) (t.clash g.clash new.1)
           ];
     }
 
-early_stage : (c : Core) (x : Lit) (p : Merged) (f : Filed) (found : Option Clash) → IsKept c → TakenIn c x p f found → (k : ℕ) → k ≤ length c.lits
+early_stage : (c : Core) (x : Lit) (p : Merged) (f : Filed) (found : Option Clash) → IsKept c → TakenIn c x p f found
+    → (k : ℕ) → k ≤ length c.lits
     → IsStage (more_core c x p f found) k (stage_at c k)
 early_stage c x p f found h t k below =
     let s = h.each k below in
     let u = stage_at c k in
-    let links : take u.depth p.links ≡ take u.depth c.links = ap (take u.depth) t.links ∙ take-append-le u.depth c.links t.added_links s.depth in
-    let entries : take u.entries f.entries ≡ take u.entries c.entries = ap (take u.entries) t.entries ∙ take-append-le u.entries c.entries t.added_entries s.count in
-    let long_links : length p.links ≡ length c.links + length t.added_links = ap length t.links ∙ length-append c.links t.added_links in
-    let long_entries : length f.entries ≡ length c.entries + length t.added_entries = ap length t.entries ∙ length-append c.entries t.added_entries in
-    stage_keeps c (c.lits ++ x ∷ []) (c.stages ++ now_of c ∷ []) p.links f.entries (first_clash c.clash (length c.lits) found) k u
-    (take-append-le k c.lits (x ∷ []) below) links entries (omega (arith, s.depth, long_links)) (omega (arith, s.count, long_entries))
-    (λ g at lt. elim (clash_cases c.clash (length c.lits) found g at) as (λ _. c.clash ≡ Some g) [ inl old ↦ old | inr new ↦ absurd (omega (arith, new.2)) ])
+    let links : take u.depth p.links ≡ take u.depth c.links = ap (take u.depth) t.links
+    ∙ take-append-le u.depth c.links t.added_links s.depth in
+    let entries : take u.entries f.entries ≡ take u.entries c.entries = ap (take u.entries) t.entries
+    ∙ take-append-le u.entries c.entries t.added_entries s.count in
+    let long_links : length p.links ≡ length c.links + length t.added_links = ap length t.links
+    ∙ length-append c.links t.added_links in
+    let long_entries : length f.entries ≡ length c.entries + length t.added_entries = ap length t.entries
+    ∙ length-append c.entries t.added_entries in
+    stage_keeps c (c.lits ++ x ∷ []) (c.stages ++ now_of c ∷ []) p.links f.entries
+    (first_clash c.clash (length c.lits) found) k u
+    (take-append-le k c.lits (x ∷ []) below) links entries (omega (arith, s.depth, long_links))
+    (omega (arith, s.count, long_entries))
+    (λ g at lt. elim (clash_cases c.clash (length c.lits) found g at) as (λ _. c.clash ≡ Some g) [
+      | inl old ↦
+          old
+      | inr new ↦ absurd (omega (arith, new.2))
+    ])
     (λ g at lt. clash_stays c.clash (length c.lits) found g at)
     s
 
-pub kept_assert : (c : Core) (x : Lit) (p : Merged) (f : Filed) (found : Option Clash) → IsKept c → IsInRange c.sizes x.atom → IsFree c.lits x.atom → TakenIn c x p f found → IsKept (more_core c x p f found)
+pub kept_assert : (c : Core) (x : Lit) (p : Merged) (f : Filed) (found : Option Clash) → IsKept c
+    → IsInRange c.sizes x.atom → IsFree c.lits x.atom → TakenIn c x p f found → IsKept (more_core c x p f found)
 kept_assert c x p f found h inside free t =
     let m = more_core c x p f found in
     let n = length_push c.lits x in
     let apart = apart_push c.lits x free h.apart in
     let all = All-push (λ (l : Lit). IsInRange c.sizes l.atom) c.lits x h.in_range inside in
-    let long_links : length p.links ≡ length c.links + length t.added_links = ap length t.links ∙ length-append c.links t.added_links in
-    let long_entries : length f.entries ≡ length c.entries + length t.added_entries = ap length t.entries ∙ length-append c.entries t.added_entries in
+    let long_links : length p.links ≡ length c.links + length t.added_links = ap length t.links
+    ∙ length-append c.links t.added_links in
+    let long_entries : length f.entries ≡ length c.entries + length t.added_entries = ap length t.entries
+    ∙ length-append c.entries t.added_entries in
     record {
       few = few_lits c.sizes (c.lits ++ x ∷ []) all apart;
       staged = omega (arith, n, length_push c.stages (now_of c), h.staged);
@@ -127,13 +153,15 @@ kept_assert c x p f found h inside free t =
             rw (new_stage c x p f found h k new) (subst (λ j. IsStage m j (now_of m)) is (last_stage c x p f found h t))
         | inr old ↦ rw (old_stage c x p f found h k old) (early_stage c x p f found h t k old)
       ];
-      clashed = λ g at. elim (clash_cases c.clash (length c.lits) found g at) as (λ _. g.place < length (c.lits ++ x ∷ [])) [
-        | inl old ↦ let b = h.clashed g old in omega (arith, n)
-        | inr new ↦ omega (arith, n, new.2)
-      ];
+      clashed = λ g at.
+          elim (clash_cases c.clash (length c.lits) found g at) as (λ _. g.place < length (c.lits ++ x ∷ [])) [
+            | inl old ↦ let b = h.clashed g old in omega (arith, n)
+            | inr new ↦ omega (arith, n, new.2)
+          ];
       rising = λ j k jk below. elim (cases_lt (length c.lits) k) as (λ _. IsBefore (stage_at m j) (stage_at m k)) [
         | inl new ↦ elim (cases_lt (length c.lits) j) as (λ _. IsBefore (stage_at m j) (stage_at m k)) [
-          | inl late ↦ rw (new_stage c x p f found h k new, new_stage c x p f found h j late) (record { depth = omega arith; entries = omega arith })
+          | inl late ↦ rw (new_stage c x p f found h k new, new_stage c x p f found h j late)
+              (record { depth = omega arith; entries = omega arith })
           | inr early ↦
               let s = h.each j early in
               rw (new_stage c x p f found h k new, old_stage c x p f found h j early)
@@ -164,9 +192,14 @@ cond_no true x e = cc
 cond_no false x e = refl
 
 ltb_tells : (a b : ℕ) → ((ltb a b ≡ true) × (a < b)) ⊎ ((ltb a b ≡ false) × (b ≤ a))
-ltb_tells a b = elim (cases_lt a b) as (λ _. ((ltb a b ≡ true) × (a < b)) ⊎ ((ltb a b ≡ false) × (b ≤ a))) [ inl lt ↦ inl (lt-ltb a b lt, lt) | inr ge ↦ inr (le-ltb a b ge, ge) ]
+ltb_tells a b = elim (cases_lt a b) as (λ _. ((ltb a b ≡ true) × (a < b)) ⊎ ((ltb a b ≡ false) × (b ≤ a))) [
+  | inl lt ↦
+      inl (lt-ltb a b lt, lt)
+  | inr ge ↦ inr (le-ltb a b ge, ge)
+]
 
-clash_was : (mark : ℕ) (o : Option ClashAt) (f : ClashAt) → clash_before mark o ≡ Some f → (o ≡ Some f) × (f.place < mark)
+clash_was : (mark : ℕ) (o : Option ClashAt) (f : ClashAt) → clash_before mark o ≡ Some f → (o ≡ Some f)
+    × (f.place < mark)
 clash_was mark None f e = cc
 clash_was mark (Some g) f e = elim (ltb_tells g.place mark) as (λ _. (Some g ≡ Some f) × (f.place < mark)) [
   | inl h ↦
@@ -186,7 +219,8 @@ clash_left mark (Some g) f e lt =
       | inr h ↦ absurd (omega (arith, h.1))
     ]
 
-left_stage : (c : Core) (mark k : ℕ) → IsKept c → mark < length c.lits → k ≤ mark → stage_at (less_core c mark (stage_at c mark)) k ≡ stage_at c k
+left_stage : (c : Core) (mark k : ℕ) → IsKept c → mark < length c.lits → k ≤ mark
+    → stage_at (less_core c mark (stage_at c mark)) k ≡ stage_at c k
 left_stage c mark k h within below =
     let u = stage_at c mark in
     let m = less_core c mark u in
@@ -221,8 +255,10 @@ kept_undo c mark h within =
           let t = stage_at c k in
           let before = h.rising k mark low (omega arith) in
           rw (left_stage c mark k h within low)
-          (stage_keeps c (take mark c.lits) (take mark c.stages) (take u.depth c.links) (take u.entries c.entries) (clash_before mark c.clash) k t
-          (take_take k mark c.lits low) (take_take t.depth u.depth c.links before.depth) (take_take t.entries u.entries c.entries before.entries)
+          (stage_keeps c (take mark c.lits) (take mark c.stages) (take u.depth c.links) (take u.entries c.entries)
+          (clash_before mark c.clash) k t
+          (take_take k mark c.lits low) (take_take t.depth u.depth c.links before.depth)
+          (take_take t.entries u.entries c.entries before.entries)
           (omega (arith, links, before.depth)) (omega (arith, entries, before.entries))
           (λ f at lt. (clash_was mark c.clash f at).0)
           (λ f at lt. clash_left mark c.clash f at (omega arith))
@@ -247,13 +283,18 @@ none_is_none None e = refl
 none_is_none (Some x) e = cc
 
 -- what stands before a new literal
-pub front_is : (lits all : List Lit) (x : Lit) (place : ℕ) → all ≡ lits ++ x ∷ [] → place ≡ length lits → take place all ≡ lits
+pub front_is : (lits all : List Lit) (x : Lit) (place : ℕ) → all ≡ lits ++ x ∷ [] → place ≡ length lits
+    → take place all ≡ lits
 front_is lits all x place whole is =
-    ap (take place) whole ∙ ap (λ n. take n (lits ++ x ∷ [])) is ∙ take-append-le (length lits) lits (x ∷ []) (omega arith) ∙ take_all (length lits) lits (omega arith)
+    ap (take place) whole ∙ ap (λ n. take n (lits ++ x ∷ [])) is
+    ∙ take-append-le (length lits) lits (x ∷ []) (omega arith) ∙ take_all (length lits) lits (omega arith)
 
-pub taken_in : (c : Core) (x : Lit) (all : List Lit) (place : ℕ) (old p : Merged) (f : Filed) (found : Option Clash) (clashed : Bool) → all ≡ c.lits ++ x ∷ [] → place ≡ length c.lits → clashed ≡ is_some c.clash → IsKept c
-    → AreTied c.sizes all p f → LinksMore (record { terms = old.terms; links = c.links }) p → (added : List Entry) → f.entries ≡ c.entries ++ added
-    → IfNone found (clashed ≡ false → AllFiled c.sizes (take place all) c.links c.entries → AllFiled c.sizes all p.links f.entries)
+pub taken_in : (c : Core) (x : Lit) (all : List Lit) (place : ℕ) (old p : Merged) (f : Filed) (found : Option Clash)
+    (clashed : Bool) → all ≡ c.lits ++ x ∷ [] → place ≡ length c.lits → clashed ≡ is_some c.clash → IsKept c
+    → AreTied c.sizes all p f → LinksMore (record { terms = old.terms; links = c.links }) p → (added : List Entry)
+    → f.entries ≡ c.entries ++ added
+    → IfNone found (clashed ≡ false → AllFiled c.sizes (take place all) c.links c.entries
+    → AllFiled c.sizes all p.links f.entries)
     → IfSome found (λ k. IsClash (reps p.links) all k) → TakenIn c x p f found
 taken_in c x all place old p f found clashed whole is flag h tied links added entries filed clash =
     let front = front_is c.lits all x place whole is in
@@ -264,18 +305,31 @@ taken_in c x all place old p f found clashed whole is flag h tied links added en
       added_entries = added;
       entries = entries;
       filed = λ none quiet.
-          let before : AllFiled c.sizes (take place all) c.links c.entries = subst (λ (ls : List Lit). AllFiled c.sizes ls c.links c.entries) (sym front) (filed_now c h quiet) in
-          subst (λ (ls : List Lit). AllFiled c.sizes ls p.links f.entries) whole (IfNone_at found filed none (flag ∙ none_is_none c.clash quiet) before);
-      clash = λ k at. subst (λ (ls : List Lit). IsClash (reps p.links) ls k) whole (IfSome_at (λ j. IsClash (reps p.links) all j) found k clash at);
+          let before : AllFiled c.sizes (take place all) c.links c.entries =
+          subst (λ (ls : List Lit). AllFiled c.sizes ls c.links c.entries) (sym front) (filed_now c h quiet) in
+          subst (λ (ls : List Lit). AllFiled c.sizes ls p.links f.entries) whole
+          (IfNone_at found filed none (flag ∙ none_is_none c.clash quiet) before);
+      clash = λ k at. subst (λ (ls : List Lit). IsClash (reps p.links) ls k) whole
+          (IfSome_at (λ j. IsClash (reps p.links) all j) found k clash at);
     }
 
-pub kept_along : (c : Core) (lits : List Lit) (stages : List Stage) (links : List Link) (entries : List Entry) (clash : Option ClashAt) → IsKept c
+pub kept_along : (c : Core) (lits : List Lit) (stages : List Stage) (links : List Link) (entries : List Entry)
+    (clash : Option ClashAt) → IsKept c
     → lits ≡ c.lits → stages ≡ c.stages → links ≡ c.links → entries ≡ c.entries → clash ≡ c.clash
     → IsKept (record { sizes = c.sizes; lits = lits; stages = stages; links = links; entries = entries; clash = clash })
 kept_along c lits stages links entries clash h a b d e f =
-    let whole : c ≡ record { sizes = c.sizes; lits = lits; stages = stages; links = links; entries = entries; clash = clash } =
-    λ i. record { sizes = c.sizes; lits = sym a i; stages = sym b i; links = sym d i; entries = sym e i; clash = sym f i } in
+    let whole : c
+    ≡ record { sizes = c.sizes; lits = lits; stages = stages; links = links; entries = entries; clash = clash } =
+    λ i. record {
+      sizes = c.sizes;
+      lits = sym a i;
+      stages = sym b i;
+      links = sym d i;
+      entries = sym e i;
+      clash = sym f i;
+    } in
     subst IsKept whole h
 
 pub stage_is : (c : Core) (k : ℕ) (t : Stage) → k < length c.stages → t ≡ get_or c.stages k t → stage_at c k ≡ t
-stage_is c k t h read = get_or_from_slice_get c.stages k t (now_of c) (slice_get_read c.stages (length c.stages) k t refl h read)
+stage_is c k t h read =
+    get_or_from_slice_get c.stages k t (now_of c) (slice_get_read c.stages (length c.stages) k t refl h read)

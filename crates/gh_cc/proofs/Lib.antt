@@ -14,4 +14,5 @@ pub mod TruthLemmas
 pub mod UseLemmas
 pub mod CountLemmas
 pub mod MoveLemmas
+pub mod MoreLemmas
 pub mod PartialLemmas

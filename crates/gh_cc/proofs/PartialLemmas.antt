@@ -1,5 +1,6 @@
 -- The structure of asserted literals.
-use Rattle.std.proofs.Common.{◌≡◌, ◌≢◌, ◌⊎◌, inl, inr, ℕ, suc, ◌<◌, Bool, true, false, not, List, [], ◌∷◌, All, get_or, refl, sym, ap, ◌∙◌, subst, arith}
+use Rattle.std.proofs.Common.{◌≡◌, ◌≢◌, ◌⊎◌, inl, inr, ℕ, suc, ◌<◌, Bool, true, false, not, List, [], ◌∷◌, All, get_or}
+use Rattle.std.proofs.Common.{refl, sym, ap, ◌∙◌, subst, arith}
 use Rattle.std.specs.Prelude.{Contains, nat_eq}
 use Rattle.std.proofs.lemmas.Bool.{eq-eqb, ne_eqb, eqb-true, cases_eq}
 use Rattle.std.proofs.lemmas.List.Elements.{All-contains, All-cons, Contains-get_or}
@@ -32,10 +33,12 @@ bool_same false true f g = g refl
 bool_same false false f g = refl
 
 -- what is given depends on classes alone
-given_same : (m : Interpretation) (lits : List Lit) (a b : Atom) → normal m.class a ≡ normal m.class b → IsGiven m lits a → IsGiven m lits b
+given_same : (m : Interpretation) (lits : List Lit) (a b : Atom) → normal m.class a ≡ normal m.class b
+    → IsGiven m lits a → IsGiven m lits b
 given_same m lits a b e g = record { lit = g.lit; there = g.there; positive = g.positive; same = g.same ∙ e }
 
-table_same : (s : Sizes) (lits : List Lit) (m : Interpretation) (a b : Atom) → IsStructureOf s lits m → IsRelation a → IsRelation b → IsInRange s a → IsInRange s b → normal m.class a ≡ normal m.class b → m.table a ≡ m.table b
+table_same : (s : Sizes) (lits : List Lit) (m : Interpretation) (a b : Atom) → IsStructureOf s lits m → IsRelation a
+    → IsRelation b → IsInRange s a → IsInRange s b → normal m.class a ≡ normal m.class b → m.table a ≡ m.table b
 table_same s lits m a b st r q h k e =
     bool_same (m.table a) (m.table b)
     (λ w. (st.holds b q k).1 (given_same m lits a b e ((st.holds a r h).0 w)))
@@ -44,10 +47,12 @@ table_same s lits m a b st r q h k e =
 pub are_congruences : AreCongruences
 are_congruences s lits m st = record {
   btwn = λ v x y z p q t h k e f g.
-      let n : normal m.class (Btwn v x y z) ≡ normal m.class (Btwn v p q t) = λ i. Btwn v (record { 0 = e i }) (record { 0 = f i }) (record { 0 = g i }) in
+      let n : normal m.class (Btwn v x y z) ≡ normal m.class (Btwn v p q t) =
+      λ i. Btwn v (record { 0 = e i }) (record { 0 = f i }) (record { 0 = g i }) in
       table_same s lits m (Btwn v x y z) (Btwn v p q t) st tt tt h k n;
   hop = λ v x y p q h k e f.
-      let n : normal m.class (Hop v x y) ≡ normal m.class (Hop v p q) = λ i. Hop v (record { 0 = e i }) (record { 0 = f i }) in
+      let n : normal m.class (Hop v x y) ≡ normal m.class (Hop v p q) =
+      λ i. Hop v (record { 0 = e i }) (record { 0 = f i }) in
       table_same s lits m (Hop v x y) (Hop v p q) st tt tt h k n;
   alloc = λ v x p h k e.
       let n : normal m.class (Alloc v x) ≡ normal m.class (Alloc v p) = λ i. Alloc v (record { 0 = e i }) in
@@ -55,26 +60,33 @@ are_congruences s lits m st = record {
 }
 
 equalities_hold : (m : Interpretation) (lits : List Lit) → All (IsLitTrue m) lits → EqualitiesHold m lits
-equalities_hold m lits all a b there = eqb-true (m.class a.0) (m.class b.0) (All-contains (IsLitTrue m) lits (equality a b) all there)
+equalities_hold m lits all a b there =
+    eqb-true (m.class a.0) (m.class b.0) (All-contains (IsLitTrue m) lits (equality a b) all there)
 
-alloc_parts : (r : ℕ → ℕ) (v w : ℕ) (x p : Term) → normal r (Alloc v x) ≡ normal r (Alloc w p) → (v ≡ w) × (r x.0 ≡ r p.0)
-alloc_parts r v w x p e = let f : Alloc v (at r x) ≡ Alloc w (at r p) = e in (cc f, ap (λ (u : Term). u.0) (let g : at r x ≡ at r p = cc f in g))
+alloc_parts : (r : ℕ → ℕ) (v w : ℕ) (x p : Term) → normal r (Alloc v x) ≡ normal r (Alloc w p)
+    → (v ≡ w) × (r x.0 ≡ r p.0)
+alloc_parts r v w x p e = let f : Alloc v (at r x) ≡ Alloc w (at r p) = e in
+    (cc f, ap (λ (u : Term). u.0) (let g : at r x ≡ at r p = cc f in g))
 
 -- classes of the structure are those of any interpretation in which the asserted equalities are true
-module _ (s : Sizes) (lits : List Lit) (m n : Interpretation) (st : IsStructureOf s lits m) (congruence : IsCongruence s n) (equalities : EqualitiesHold n lits) where
+module _ (s : Sizes) (lits : List Lit) (m n : Interpretation) (st : IsStructureOf s lits m)
+    (congruence : IsCongruence s n) (equalities : EqualitiesHold n lits) where
   pub class_same : (a b : Term) → a.0 < s.terms → b.0 < s.terms → m.class a.0 ≡ m.class b.0 → n.class a.0 ≡ n.class b.0
   class_same a b h k e = (st.equal a b h k).0 e n congruence equalities
 
-  pub truth_same : (a b : Atom) → IsInRange s a → IsInRange s b → normal m.class a ≡ normal m.class b → atom_truth n a ≡ atom_truth n b
+  pub truth_same : (a b : Atom) → IsInRange s a → IsInRange s b → normal m.class a ≡ normal m.class b
+      → atom_truth n a ≡ atom_truth n b
   truth_same (Eq x y) (Eq p q) h k e = ap (atom_truth n) e
   truth_same (Btwn v x y z) (Btwn w p q t) h k e =
       let f = btwn_parts m.class v w x y z p q t e in
       let k' : IsInRange s (Btwn v p q t) = (h.0, k.1, k.2, k.3) in
-      congruence.btwn v x y z p q t h k' (class_same x p h.1 k.1 f.1) (class_same y q h.2 k.2 f.2) (class_same z t h.3 k.3 f.3) ∙ ap (λ u. n.table (Btwn u p q t)) f.0
+      congruence.btwn v x y z p q t h k' (class_same x p h.1 k.1 f.1) (class_same y q h.2 k.2 f.2)
+      (class_same z t h.3 k.3 f.3) ∙ ap (λ u. n.table (Btwn u p q t)) f.0
   truth_same (Hop v x y) (Hop w p q) h k e =
       let f = hop_parts m.class v w x y p q e in
       let k' : IsInRange s (Hop v p q) = (h.0, k.1, k.2) in
-      congruence.hop v x y p q h k' (class_same x p h.1 k.1 f.1) (class_same y q h.2 k.2 f.2) ∙ ap (λ u. n.table (Hop u p q)) f.0
+      congruence.hop v x y p q h k' (class_same x p h.1 k.1 f.1) (class_same y q h.2 k.2 f.2)
+      ∙ ap (λ u. n.table (Hop u p q)) f.0
   truth_same (Alloc v x) (Alloc w p) h k e =
       let f = alloc_parts m.class v w x p e in
       let k' : IsInRange s (Alloc v p) = (h.0, k.1) in
@@ -83,10 +95,14 @@ module _ (s : Sizes) (lits : List Lit) (m n : Interpretation) (st : IsStructureO
   truth_same a b h k e = cc
 
 -- a positive literal of an atom of any kind but equality
-given_true : (s : Sizes) (lits : List Lit) (m : Interpretation) (a : Atom) → IsStructureOf s lits m → IsRelation a → IsInRange s a → Contains lits (record { atom = a; positive = true }) → m.table a ≡ true
-given_true s lits m a st r h there = (st.holds a r h).1 (record { lit = record { atom = a; positive = true }; there = there; positive = refl; same = refl })
+given_true : (s : Sizes) (lits : List Lit) (m : Interpretation) (a : Atom) → IsStructureOf s lits m → IsRelation a
+    → IsInRange s a → Contains lits (record { atom = a; positive = true }) → m.table a ≡ true
+given_true s lits m a st r h there =
+    (st.holds a r h).1
+    (record { lit = record { atom = a; positive = true }; there = there; positive = refl; same = refl })
 
-module _ (s : Sizes) (lits : List Lit) (m : Interpretation) (st : IsStructureOf s lits m) (range : AreInRange s lits) (known : IsConsistent s lits) where
+module _ (s : Sizes) (lits : List Lit) (m : Interpretation) (st : IsStructureOf s lits m) (range : AreInRange s lits)
+    (known : IsConsistent s lits) where
   within : (l : Lit) → Contains lits l → IsInRange s l.atom
   within l there = All-contains (λ (k : Lit). IsInRange s k.atom) lits l range there
 
@@ -101,15 +117,18 @@ module _ (s : Sizes) (lits : List Lit) (m : Interpretation) (st : IsStructureOf 
 
   -- a negated one isn't given: its truth would be that of a positive one
   not_given : (a : Atom) → Contains lits (record { atom = a; positive = false }) → atom_truth known.0 a ≡ true → ⊥
-  not_given a there e = let f : not (atom_truth known.0 a) ≡ true = stands (record { atom = a; positive = false }) there in not_both (not (atom_truth known.0 a)) f (ap not e)
+  not_given a there e = let f : not (atom_truth known.0 a) ≡ true =
+      stands (record { atom = a; positive = false }) there in not_both (not (atom_truth known.0 a)) f (ap not e)
 
-  given_false : (a : Atom) → IsRelation a → Contains lits (record { atom = a; positive = false }) → not (m.table a) ≡ true
+  given_false : (a : Atom) → IsRelation a → Contains lits (record { atom = a; positive = false })
+      → not (m.table a) ≡ true
   given_false a r there = elim (two_values (m.table a)) as (λ _. not (m.table a) ≡ true) [
     | inl holds ↦
         let h = within (record { atom = a; positive = false }) there in
         let g = (st.holds a r h).0 holds in
         let same = truth_same s lits m known.0 st known.1 equalities g.lit.atom a (within g.lit g.there) h g.same in
-        absurd (not_given a there (sym same ∙ signed (atom_truth known.0 g.lit.atom) g.lit.positive g.positive (stands g.lit g.there)))
+        absurd (not_given a there
+        (sym same ∙ signed (atom_truth known.0 g.lit.atom) g.lit.positive g.positive (stands g.lit g.there)))
     | inr fails ↦ ap not fails
   ]
 
@@ -124,55 +143,74 @@ module _ (s : Sizes) (lits : List Lit) (m : Interpretation) (st : IsStructureOf 
       let le = h.0 in
       let lt = h.1 in
       ap not (ne_eqb (m.class a.0) (m.class b.0) (λ e.
-      not_given (Eq a b) there (eq-eqb (known.0.class a.0) (known.0.class b.0) (class_same s lits m known.0 st known.1 equalities a b (omega arith) lt e))))
-  lit_true (Btwn v x y z) true there = given_true s lits m (Btwn v x y z) st tt (within (record { atom = Btwn v x y z; positive = true }) there) there
+      not_given (Eq a b) there
+      (eq-eqb (known.0.class a.0) (known.0.class b.0)
+      (class_same s lits m known.0 st known.1 equalities a b (omega arith) lt e))))
+  lit_true (Btwn v x y z) true there =
+      given_true s lits m (Btwn v x y z) st tt (within (record { atom = Btwn v x y z; positive = true }) there) there
   lit_true (Btwn v x y z) false there = given_false (Btwn v x y z) tt there
-  lit_true (Hop v x y) true there = given_true s lits m (Hop v x y) st tt (within (record { atom = Hop v x y; positive = true }) there) there
+  lit_true (Hop v x y) true there =
+      given_true s lits m (Hop v x y) st tt (within (record { atom = Hop v x y; positive = true }) there) there
   lit_true (Hop v x y) false there = given_false (Hop v x y) tt there
-  lit_true (Alloc v x) true there = given_true s lits m (Alloc v x) st tt (within (record { atom = Alloc v x; positive = true }) there) there
+  lit_true (Alloc v x) true there =
+      given_true s lits m (Alloc v x) st tt (within (record { atom = Alloc v x; positive = true }) there) there
   lit_true (Alloc v x) false there = given_false (Alloc v x) tt there
-  lit_true (Def k) true there = given_true s lits m (Def k) st tt (within (record { atom = Def k; positive = true }) there) there
+  lit_true (Def k) true there =
+      given_true s lits m (Def k) st tt (within (record { atom = Def k; positive = true }) there) there
   lit_true (Def k) false there = given_false (Def k) tt there
 
 pub are_asserted_true : AreAssertedTrue
-are_asserted_true s lits m st range known k d lt = let l : Lit = get_or lits k d in lit_true s lits m st range known l.atom l.positive (Contains-get_or lits k d lt)
+are_asserted_true s lits m st range known k d lt = let l : Lit = get_or lits k d in
+    lit_true s lits m st range known l.atom l.positive (Contains-get_or lits k d lt)
 
 -- an atom stands asserted, or it is free
-found_or_free : (s : Sizes) (lits : List Lit) (a : Atom) → AreInRange s lits → IsInRange s a → ((l : Lit) × Contains lits l × (l.atom ≡ a)) ⊎ IsFree lits a
+found_or_free : (s : Sizes) (lits : List Lit) (a : Atom) → AreInRange s lits → IsInRange s a
+    → ((l : Lit) × Contains lits l × (l.atom ≡ a)) ⊎ IsFree lits a
 found_or_free s [] a range h = inr (λ k d lt. absurd (omega arith))
-found_or_free s (l ∷ ls) a range h = elim (cases_eq (number_of s l.atom) (number_of s a)) as (λ _. ((x : Lit) × Contains (l ∷ ls) x × (x.atom ≡ a)) ⊎ IsFree (l ∷ ls) a) [
-  | inl same ↦ inl (l, (0, omega arith, refl), apart s l.atom a (range 0 l (omega arith)) h same)
-  | inr differ ↦ elim (found_or_free s ls a (λ k d lt. range (suc k) d (omega arith)) h) as (λ _. ((x : Lit) × Contains (l ∷ ls) x × (x.atom ≡ a)) ⊎ IsFree (l ∷ ls) a) [
-    | inl w ↦ inl (w.0, (let lt = w.1.1 in (suc w.1.0, omega arith, w.1.2)), w.2)
-    | inr free ↦ inr (All-cons (λ (x : Lit). x.atom ≢ a) l ls (λ e. differ (ap (number_of s) e)) free)
-  ]
-]
+found_or_free s (l ∷ ls) a range h =
+    elim (cases_eq (number_of s l.atom) (number_of s a)) as (λ _. ((x : Lit) × Contains (l ∷ ls) x × (x.atom ≡ a))
+    ⊎ IsFree (l ∷ ls) a) [
+      | inl same ↦ inl (l, (0, omega arith, refl), apart s l.atom a (range 0 l (omega arith)) h same)
+      | inr differ ↦
+          elim (found_or_free s ls a (λ k d lt. range (suc k) d (omega arith)) h) as (λ _.
+          ((x : Lit) × Contains (l ∷ ls) x × (x.atom ≡ a)) ⊎ IsFree (l ∷ ls) a) [
+            | inl w ↦ inl (w.0, (let lt = w.1.1 in (suc w.1.0, omega arith, w.1.2)), w.2)
+            | inr free ↦ inr (All-cons (λ (x : Lit). x.atom ≢ a) l ls (λ e. differ (ap (number_of s) e)) free)
+          ]
+    ]
 
-other_sign : (lits : List Lit) (a : Atom) (p q : Bool) → Contains lits (record { atom = a; positive = p }) → (Contains lits (record { atom = a; positive = q }) → ⊥) → Contains lits (record { atom = a; positive = not q })
+other_sign : (lits : List Lit) (a : Atom) (p q : Bool) → Contains lits (record { atom = a; positive = p })
+    → (Contains lits (record { atom = a; positive = q }) → ⊥) → Contains lits (record { atom = a; positive = not q })
 other_sign lits a true true there no_ = absurd (no_ there)
 other_sign lits a true false there no_ = there
 other_sign lits a false true there no_ = there
 other_sign lits a false false there no_ = absurd (no_ there)
 
 pub are_assigned_true : AreAssignedTrue
-are_assigned_true s lits m clause st range known inside assigned open_ = elim (true_or_false m clause) as (λ _. IsClauseTrue m clause) [
-  | inl t ↦ t
-  | inr none ↦ absurd (open_ (λ k d lt.
-      let l : Lit = get_or clause k d in
-      elim (found_or_free s lits l.atom range (inside k d lt)) as (λ _. Contains lits (opposite l)) [
-        | inl w ↦
-            let there : Contains lits (record { atom = l.atom; positive = w.0.positive }) = subst (λ (x : Atom). Contains lits (record { atom = x; positive = w.0.positive })) w.2 w.1 in
-            other_sign lits l.atom w.0.positive l.positive there (λ stands_too. not_both (lit_truth m l) (lit_true s lits m st range known l.atom l.positive stands_too) (none k d lt))
-        | inr free ↦ absurd (assigned k d lt free)
-      ]))
-]
+are_assigned_true s lits m clause st range known inside assigned open_ =
+    elim (true_or_false m clause) as (λ _. IsClauseTrue m clause) [
+      | inl t ↦ t
+      | inr none ↦ absurd (open_ (λ k d lt.
+          let l : Lit = get_or clause k d in
+          elim (found_or_free s lits l.atom range (inside k d lt)) as (λ _. Contains lits (opposite l)) [
+            | inl w ↦
+                let there : Contains lits (record { atom = l.atom; positive = w.0.positive }) =
+                subst (λ (x : Atom). Contains lits (record { atom = x; positive = w.0.positive })) w.2 w.1 in
+                other_sign lits l.atom w.0.positive l.positive there
+                (λ stands_too. not_both (lit_truth m l) (lit_true s lits m st range known l.atom l.positive stands_too)
+                (none k d lt))
+            | inr free ↦ absurd (assigned k d lt free)
+          ]))
+    ]
 
 -- all structures have the same classes, and so the same atoms are given
-module _ (s : Sizes) (lits : List Lit) (m n : Interpretation) (st : IsStructureOf s lits m) (st' : IsStructureOf s lits n) where
+module _ (s : Sizes) (lits : List Lit) (m n : Interpretation) (st : IsStructureOf s lits m)
+    (st' : IsStructureOf s lits n) where
   class_too : (a b : Term) → a.0 < s.terms → b.0 < s.terms → m.class a.0 ≡ m.class b.0 → n.class a.0 ≡ n.class b.0
   class_too a b h k e = (st'.equal a b h k).1 ((st.equal a b h k).0 e)
 
-  normal_too : (a b : Atom) → IsInRange s a → IsInRange s b → normal m.class a ≡ normal m.class b → normal n.class a ≡ normal n.class b
+  normal_too : (a b : Atom) → IsInRange s a → IsInRange s b → normal m.class a ≡ normal m.class b
+      → normal n.class a ≡ normal n.class b
   normal_too (Eq x y) (Eq p q) h k e = e
   normal_too (Btwn v x y z) (Btwn w p q t) h k e =
       let f = btwn_parts m.class v w x y z p q t e in
@@ -203,18 +241,22 @@ module _ (s : Sizes) (lits : List Lit) (m n : Interpretation) (st : IsStructureO
   holds_too : AreInRange s lits → (a : Atom) → IsRelation a → IsInRange s a → m.table a ≡ true → n.table a ≡ true
   holds_too range a r h w = (st'.holds a r h).1 (given_too range a h ((st.holds a r h).0 w))
 
-  equal_too : (a b : Term) → a.0 < s.terms → b.0 < s.terms → nat_eq (m.class a.0) (m.class b.0) ≡ true → nat_eq (n.class a.0) (n.class b.0) ≡ true
+  equal_too : (a b : Term) → a.0 < s.terms → b.0 < s.terms → nat_eq (m.class a.0) (m.class b.0) ≡ true
+      → nat_eq (n.class a.0) (n.class b.0) ≡ true
   equal_too a b h k w = eq-eqb (n.class a.0) (n.class b.0) (class_too a b h k (eqb-true (m.class a.0) (m.class b.0) w))
 
-table_alike : (s : Sizes) (lits : List Lit) (m n : Interpretation) → AreInRange s lits → IsStructureOf s lits m → IsStructureOf s lits n → (a : Atom) → IsRelation a → IsInRange s a → m.table a ≡ n.table a
-table_alike s lits m n range st st' a r h = bool_same (m.table a) (n.table a) (holds_too s lits m n st st' range a r h) (holds_too s lits n m st' st range a r h)
+table_alike : (s : Sizes) (lits : List Lit) (m n : Interpretation) → AreInRange s lits → IsStructureOf s lits m
+    → IsStructureOf s lits n → (a : Atom) → IsRelation a → IsInRange s a → m.table a ≡ n.table a
+table_alike s lits m n range st st' a r h = bool_same (m.table a) (n.table a) (holds_too s lits m n st st' range a r h)
+    (holds_too s lits n m st' st range a r h)
 
 pub are_alike : AreAlike
 are_alike s lits m n range st st' (Eq a b) h =
     let le = h.0 in
     let lt = h.1 in
     let lt' : a.0 < s.terms = omega arith in
-    bool_same (nat_eq (m.class a.0) (m.class b.0)) (nat_eq (n.class a.0) (n.class b.0)) (equal_too s lits m n st st' a b lt' lt) (equal_too s lits n m st' st a b lt' lt)
+    bool_same (nat_eq (m.class a.0) (m.class b.0)) (nat_eq (n.class a.0) (n.class b.0))
+    (equal_too s lits m n st st' a b lt' lt) (equal_too s lits n m st' st a b lt' lt)
 are_alike s lits m n range st st' (Btwn v x y z) h = table_alike s lits m n range st st' (Btwn v x y z) tt h
 are_alike s lits m n range st st' (Hop v x y) h = table_alike s lits m n range st st' (Hop v x y) tt h
 are_alike s lits m n range st st' (Alloc v x) h = table_alike s lits m n range st st' (Alloc v x) tt h

@@ -1,5 +1,6 @@
 -- Classes of terms under links.
-use Rattle.std.proofs.Common.{◌≡◌, ◌≢◌, ◌⊎◌, inl, inr, ℕ, zero, suc, ◌+◌, ◌-◌, ◌<◌, ◌≤◌, Bool, true, false, cond, eqb, List, [], ◌∷◌, ◌++◌, length, get_or, take, Some, refl, sym, ap, ◌∙◌, subst, arith}
+use Rattle.std.proofs.Common.{◌≡◌, ◌≢◌, ◌⊎◌, inl, inr, ℕ, zero, suc, ◌+◌, ◌-◌, ◌<◌, ◌≤◌, Bool, true, false, cond, eqb}
+use Rattle.std.proofs.Common.{List, [], ◌∷◌, ◌++◌, length, get_or, take, Some, refl, sym, ap, ◌∙◌, subst, arith}
 use Rattle.std.specs.Prelude.{slice_get}
 use Rattle.std.proofs.lemmas.Bool.{cases_eq, eq-eqb, ne_eqb}
 use Rattle.std.proofs.lemmas.Bool.Decides.{eqb_tells}
@@ -35,7 +36,8 @@ cond_false false x y e = refl
 pub relabel_cases : (r : ℕ → ℕ) (l : Link) (t : ℕ)
     → ((r t ≡ r l.from.0) × (relabel r l t ≡ r l.to.0)) ⊎ ((r t ≢ r l.from.0) × (relabel r l t ≡ r t))
 relabel_cases r l t =
-    elim (eqb_tells (r t) (r l.from.0)) as (λ _. ((r t ≡ r l.from.0) × (relabel r l t ≡ r l.to.0)) ⊎ ((r t ≢ r l.from.0) × (relabel r l t ≡ r t))) [
+    elim (eqb_tells (r t) (r l.from.0)) as (λ _. ((r t ≡ r l.from.0) × (relabel r l t ≡ r l.to.0))
+    ⊎ ((r t ≢ r l.from.0) × (relabel r l t ≡ r t))) [
       | inl h ↦ inl (h.1, cond_true _ _ _ h.0)
       | inr h ↦ inr (h.1, cond_false _ _ _ h.0)
     ]
@@ -47,16 +49,19 @@ relabel_same r l t u e = ap (λ x. cond (eqb x (r l.from.0)) (r l.to.0) x) e
 pub link_at : (links : List Link) (d : ℕ) (l : Link) → slice_get links d ≡ Some l → get_or links d no_link ≡ l
 link_at links d l at = get_or_from_slice_get links d l no_link at
 
-pub rep_step : (links : List Link) (d : ℕ) (l : Link) (t : ℕ) → slice_get links d ≡ Some l → rep links (suc d) t ≡ relabel (rep links d) l t
+pub rep_step : (links : List Link) (d : ℕ) (l : Link) (t : ℕ) → slice_get links d ≡ Some l
+    → rep links (suc d) t ≡ relabel (rep links d) l t
 rep_step links d l t at = ap (λ (k : Link). relabel (rep links d) k t) (link_at links d l at)
 
 -- representatives depend on the first links alone
-pub rep_agree : (links more : List Link) (d : ℕ) → ((i : ℕ) → i < d → get_or links i no_link ≡ get_or more i no_link) → (t : ℕ) → rep links d t ≡ rep more d t
+pub rep_agree : (links more : List Link) (d : ℕ) → ((i : ℕ) → i < d → get_or links i no_link ≡ get_or more i no_link)
+    → (t : ℕ) → rep links d t ≡ rep more d t
 rep_agree links more zero same t = refl
 rep_agree links more (suc d) same t =
     let before = rep_agree links more d (λ i h. same i (omega arith)) in
     let here = same d (omega arith) in
-    ap (λ (r : ℕ → ℕ). relabel r (get_or links d no_link) t) (λ i. λ u. before u i) ∙ ap (λ (k : Link). relabel (rep more d) k t) here
+    ap (λ (r : ℕ → ℕ). relabel r (get_or links d no_link) t) (λ i. λ u. before u i)
+    ∙ ap (λ (k : Link). relabel (rep more d) k t) here
 
 get_or_front : (xs ys : List Link) (i : ℕ) → i < length xs → get_or xs i no_link ≡ get_or (xs ++ ys) i no_link
 get_or_front [] ys i h = absurd (omega arith)
@@ -70,13 +75,15 @@ get_or_take (suc n) (x ∷ xs) zero h = refl
 get_or_take (suc n) (x ∷ xs) (suc i) h = get_or_take n xs i (omega arith)
 
 pub rep_front : (links more : List Link) (d t : ℕ) → d ≤ length links → rep (links ++ more) d t ≡ rep links d t
-rep_front links more d t h = sym (rep_agree links (links ++ more) d (λ i below. get_or_front links more i (omega arith)) t)
+rep_front links more d t h =
+    sym (rep_agree links (links ++ more) d (λ i below. get_or_front links more i (omega arith)) t)
 
 pub rep_take : (m : ℕ) (links : List Link) (d t : ℕ) → d ≤ m → rep (take m links) d t ≡ rep links d t
 rep_take m links d t h = rep_agree (take m links) links d (λ i below. get_or_take m links i (omega arith)) t
 
 -- where links lead to terms below a bound, representatives stand below it
-pub rep_below : (n : ℕ) (links : List Link) (d t : ℕ) → ((i : ℕ) (l : Link) → slice_get links i ≡ Some l → l.to.0 < n) → d ≤ length links → t < n → rep links d t < n
+pub rep_below : (n : ℕ) (links : List Link) (d t : ℕ) → ((i : ℕ) (l : Link) → slice_get links i ≡ Some l → l.to.0 < n)
+    → d ≤ length links → t < n → rep links d t < n
 rep_below n links zero t m h below = below
 rep_below n links (suc d) t m h below =
     let w = get_some links d (omega arith) in
@@ -127,20 +134,23 @@ rep_own links (suc d) t =
     ]
 
 -- later links keep classes together
-pub rep_coarser : (links : List Link) (d more a b : ℕ) → rep links d a ≡ rep links d b → rep links (d + more) a ≡ rep links (d + more) b
+pub rep_coarser : (links : List Link) (d more a b : ℕ) → rep links d a ≡ rep links d b
+    → rep links (d + more) a ≡ rep links (d + more) b
 rep_coarser links d zero a b e = let n : d ≡ d + zero = omega arith in subst (λ n. rep links n a ≡ rep links n b) n e
 rep_coarser links d (suc more) a b e =
     let n : suc (d + more) ≡ d + suc more = omega arith in
     subst (λ n. rep links n a ≡ rep links n b) n
     (relabel_same (rep links (d + more)) (get_or links (d + more) no_link) a b (rep_coarser links d more a b e))
 
-pub rep_later : (links : List Link) (d e a b : ℕ) → d ≤ e → rep links d a ≡ rep links d b → rep links e a ≡ rep links e b
+pub rep_later : (links : List Link) (d e a b : ℕ) → d ≤ e → rep links d a ≡ rep links d b
+    → rep links e a ≡ rep links e b
 rep_later links d e a b h same =
     let n : d + (e - d) ≡ e = omega arith in
     subst (λ n. rep links n a ≡ rep links n b) n (rep_coarser links d (e - d) a b same)
 
 -- a link joins its terms
-pub rep_joins : (links : List Link) (d : ℕ) (l : Link) → slice_get links d ≡ Some l → rep links (suc d) l.from.0 ≡ rep links (suc d) l.to.0
+pub rep_joins : (links : List Link) (d : ℕ) (l : Link) → slice_get links d ≡ Some l
+    → rep links (suc d) l.from.0 ≡ rep links (suc d) l.to.0
 rep_joins links d l at =
     let r = rep links d in
     let joined : relabel r l l.from.0 ≡ relabel r l l.to.0 =
@@ -159,35 +169,50 @@ abbrev pub Respects : (ℕ → ℕ) → List Link → ℕ → Type 0
 Respects class links d = (i : ℕ) (l : Link) → i < d → slice_get links i ≡ Some l → class l.from.0 ≡ class l.to.0
 
 -- such a function gives a term and its representative one value
-pub rep_sound : (class : ℕ → ℕ) (links : List Link) (d t : ℕ) → d ≤ length links → Respects class links d → class (rep links d t) ≡ class t
+pub rep_sound : (class : ℕ → ℕ) (links : List Link) (d t : ℕ) → d ≤ length links → Respects class links d
+    → class (rep links d t) ≡ class t
 rep_sound class links zero t h s = refl
 rep_sound class links (suc d) t h s =
     let w = get_some links d (omega arith) in
     let l = w.0 in
     let r = rep links d in
-    let inner : (u : ℕ) → class (r u) ≡ class u = λ u. rep_sound class links d u (omega arith) (λ i k below at. s i k (omega arith) at) in
+    let inner : (u : ℕ) → class (r u) ≡ class u =
+    λ u. rep_sound class links d u (omega arith) (λ i k below at. s i k (omega arith) at) in
     let step = rep_step links d l t w.1 in
     elim (relabel_cases r l t) as (λ _. class (rep links (suc d) t) ≡ class t) [
-      | inl c ↦ ap class (step ∙ c.1) ∙ inner l.to.0 ∙ sym (s d l (omega arith) w.1) ∙ sym (inner l.from.0) ∙ ap class (sym c.0) ∙ inner t
+      | inl c ↦ ap class (step ∙ c.1) ∙ inner l.to.0 ∙ sym (s d l (omega arith) w.1) ∙ sym (inner l.from.0)
+          ∙ ap class (sym c.0) ∙ inner t
       | inr c ↦ ap class (step ∙ c.1) ∙ inner t
     ]
 
-pub same_sound : (class : ℕ → ℕ) (links : List Link) (d a b : ℕ) → d ≤ length links → Respects class links d → rep links d a ≡ rep links d b → class a ≡ class b
+pub same_sound : (class : ℕ → ℕ) (links : List Link) (d a b : ℕ) → d ≤ length links → Respects class links d
+    → rep links d a ≡ rep links d b → class a ≡ class b
 same_sound class links d a b h s e = sym (rep_sound class links d a h s) ∙ ap class e ∙ rep_sound class links d b h s
 
 -- a link more
 pub merges_more : (n : ℕ) (links : List Link) (l : Link) → AreMerges n links → l.from.0 < n → l.to.0 < n
     → rep links (length links) l.from.0 ≢ rep links (length links) l.to.0 → AreMerges n (links ++ l ∷ [])
 merges_more n links l m from to apart d k at =
-    elim (get_push links l d k at) as (λ _. (k.from.0 < n) × (k.to.0 < n) × (rep (links ++ l ∷ []) d k.from.0 ≢ rep (links ++ l ∷ []) d k.to.0)) [
+    elim (get_push links l d k at) as (λ _. (k.from.0 < n) × (k.to.0 < n)
+    × (rep (links ++ l ∷ []) d k.from.0 ≢ rep (links ++ l ∷ []) d k.to.0)) [
       | inl old ↦
           let f = m d k old in
-          let h = get_within links d k old in
-          (f.0, f.1, λ e. f.2 (sym (rep_front links (l ∷ []) d k.from.0 (omega arith)) ∙ e ∙ rep_front links (l ∷ []) d k.to.0 (omega arith)))
+          let h = get_within links d k old in (
+            f.0,
+            f.1,
+            λ e. f.2 (sym (rep_front links (l ∷ []) d k.from.0 (omega arith)) ∙ e
+                ∙ rep_front links (l ∷ []) d k.to.0 (omega arith)),
+          )
       | inr new ↦
-          subst (λ (j : Link). (j.from.0 < n) × (j.to.0 < n) × (rep (links ++ l ∷ []) d j.from.0 ≢ rep (links ++ l ∷ []) d j.to.0)) new.1
-          (subst (λ i. (l.from.0 < n) × (l.to.0 < n) × (rep (links ++ l ∷ []) i l.from.0 ≢ rep (links ++ l ∷ []) i l.to.0)) (sym new.0)
-          (from, to, λ e. apart (sym (rep_front links (l ∷ []) (length links) l.from.0 (omega arith)) ∙ e ∙ rep_front links (l ∷ []) (length links) l.to.0 (omega arith))))
+          subst (λ (j : Link). (j.from.0 < n) × (j.to.0 < n)
+          × (rep (links ++ l ∷ []) d j.from.0 ≢ rep (links ++ l ∷ []) d j.to.0)) new.1
+          (subst (λ i. (l.from.0 < n) × (l.to.0 < n)
+          × (rep (links ++ l ∷ []) i l.from.0 ≢ rep (links ++ l ∷ []) i l.to.0)) (sym new.0) (
+            from,
+            to,
+            λ e. apart (sym (rep_front links (l ∷ []) (length links) l.from.0 (omega arith)) ∙ e
+                ∙ rep_front links (l ∷ []) (length links) l.to.0 (omega arith)),
+          ))
     ]
 
 pub merges_take : (n m : ℕ) (links : List Link) → AreMerges n links → AreMerges n (take m links)
@@ -256,7 +281,8 @@ all_fixed zero = refl
 all_fixed (suc n) = omega (arith, all_fixed n, one_if_same n n refl)
 
 -- each merge leaves a representative less
-pub fixed_count : (n : ℕ) (links : List Link) (d : ℕ) → AreMerges n links → d ≤ length links → fixed (rep links d) n + d ≡ n
+pub fixed_count : (n : ℕ) (links : List Link) (d : ℕ) → AreMerges n links → d ≤ length links
+    → fixed (rep links d) n + d ≡ n
 fixed_count n links zero m h = omega (arith, all_fixed n)
 fixed_count n links (suc d) m h =
     let w = get_some links d (omega arith) in
@@ -289,31 +315,44 @@ room_left n links a m h =
     let some = some_fixed (rep links d) n (rep links d a) inside (rep_own links d a) in
     omega (arith, some, fixed_count n links d m (omega arith))
 
+-- what a link that is read joins
+pub link_read : (terms : ℕ) (links : List Link) (d : ℕ) (l : Link) → AreMerges terms links → d < length links
+    → l ≡ get_or links d l → (l.from.0 < terms) × (l.to.0 < terms) × (rep links d l.from.0 ≢ rep links d l.to.0)
+link_read terms links d l merges within read = merges d l (slice_get_read links (length links) d l refl within read)
+
 -- a read of the table of representatives
-pub rep_read : (links : List Link) (reps : List Term) (saved : List (List Term)) (room t : ℕ) (x : Term) → IsPartition links reps saved room → t < length reps
+pub rep_read : (links : List Link) (reps : List Term) (saved : List (List Term)) (room t : ℕ) (x : Term)
+    → IsPartition links reps saved room → t < length reps
     → x ≡ get_or reps t x → (x.0 ≡ rep links (length links) t) × (x.0 < length reps)
 rep_read links reps saved room t x p h read =
     let here : slice_get reps t ≡ Some x = slice_get_read reps (length reps) t x refl h read in
     let is : x.0 ≡ rep links (length links) t = cc (p.present t h, here) in
     (is, rw is (rep_range (length reps) links (length links) t p.merges (omega arith) h))
 
-pub partition_cut : (links : List Link) (reps : List Term) (saved : List (List Term)) (room d : ℕ) (row : List Term) → IsPartition links reps saved room → d < length links
+pub partition_cut : (links : List Link) (reps : List Term) (saved : List (List Term)) (room d : ℕ) (row : List Term)
+    → IsPartition links reps saved room → d < length links
     → slice_get saved d ≡ Some row → IsPartition (take d links) row saved room
 partition_cut links reps saved room d row p h at =
     let w = p.before d h in
     let same : w.0 ≡ row = cc (w.1, at) in
-    let long : length row ≡ length reps = All-contains (λ (r : List Term). length r ≡ length reps) saved row p.long (slice_get-contains saved d row at) in
+    let long : length row ≡ length reps = All-contains (λ (r : List Term). length r ≡ length reps) saved row p.long
+    (slice_get-contains saved d row at) in
     let few : length (take d links) ≡ d = length-take-le d links (omega arith) in
     record {
       few = omega (arith, p.few);
       merges = rw long (merges_take (length reps) d links p.merges);
       present = λ t inside.
           let here = w.2 t (omega arith) in
-          let value : rep (take d links) (length (take d links)) t ≡ rep links d t = ap (λ n. rep (take d links) n t) few ∙ rep_take d links d t (omega arith) in
+          let value : rep (take d links) (length (take d links)) t ≡ rep links d t =
+          ap (λ n. rep (take d links) n t) few ∙ rep_take d links d t (omega arith) in
           rw (← same) (here ∙ ap (λ (n : ℕ). Some (term n)) (sym value));
       before = λ e below.
-          let v = p.before e (omega arith) in
-          (v.0, v.1, λ t inside. v.2 t (omega arith) ∙ ap (λ (n : ℕ). Some (term n)) (sym (rep_take d links e t (omega arith))));
+          let v = p.before e (omega arith) in (
+            v.0,
+            v.1,
+            λ t inside. v.2 t (omega arith)
+                ∙ ap (λ (n : ℕ). Some (term n)) (sym (rep_take d links e t (omega arith))),
+          );
       long = rw long p.long;
       rows = p.rows ∙ sym long;
       reserved = omega (arith, p.reserved);
@@ -324,13 +363,15 @@ term_cond true x y = refl
 term_cond false x y = refl
 
 -- the table after a merge
-moved_is : (r : ℕ → ℕ) (l : Link) (old new : Term) (t : ℕ) → old.0 ≡ r l.from.0 → new.0 ≡ r l.to.0 → moved old new (term (r t)) ≡ term (relabel r l t)
+moved_is : (r : ℕ → ℕ) (l : Link) (old new : Term) (t : ℕ) → old.0 ≡ r l.from.0 → new.0 ≡ r l.to.0
+    → moved old new (term (r t)) ≡ term (relabel r l t)
 moved_is r l old new t from to =
     ap (λ (x : ℕ). cond (eqb (r t) x) new (term (r t))) from
     ∙ ap (λ (x : ℕ). cond (eqb (r t) (r l.from.0)) (term x) (term (r t))) to
     ∙ term_cond (eqb (r t) (r l.from.0)) (r l.to.0) (r t)
 
-pub rep_more : (links : List Link) (l : Link) (t : ℕ) → rep (links ++ l ∷ []) (length (links ++ l ∷ [])) t ≡ relabel (rep links (length links)) l t
+pub rep_more : (links : List Link) (l : Link) (t : ℕ) → rep (links ++ l ∷ []) (length (links ++ l ∷ [])) t
+    ≡ relabel (rep links (length links)) l t
 rep_more links l t =
     let d = length links in
     let long : length (links ++ l ∷ []) ≡ suc d = omega (arith, length_push links l) in
@@ -338,8 +379,10 @@ rep_more links l t =
     ∙ rep_step (links ++ l ∷ []) d l t (get_last links l)
     ∙ ap (λ (r : ℕ → ℕ). relabel r l t) (λ i. λ u. rep_front links (l ∷ []) d u (omega arith) i)
 
-pub partition_merge : (links : List Link) (reps : List Term) (saved : List (List Term)) (room : ℕ) (l : Link) (old new : Term) → IsPartition links reps saved room
-    → l.from.0 < length reps → l.to.0 < length reps → rep links (length links) l.from.0 ≢ rep links (length links) l.to.0
+pub partition_merge : (links : List Link) (reps : List Term) (saved : List (List Term)) (room : ℕ) (l : Link)
+    (old new : Term) → IsPartition links reps saved room
+    → l.from.0 < length reps → l.to.0 < length reps
+    → rep links (length links) l.from.0 ≢ rep links (length links) l.to.0
     → old.0 ≡ rep links (length links) l.from.0 → new.0 ≡ rep links (length links) l.to.0
     → IsPartition (links ++ l ∷ []) (map (moved old new) reps) (slice_set saved (length links) reps) room
 partition_merge links reps saved room l old new p from to apart is_old is_new =
@@ -354,21 +397,27 @@ partition_merge links reps saved room l old new p from to apart is_old is_new =
           let within : t < n = omega (arith, long) in
           slice_get-map (moved old new) reps t
           ∙ ap (option_map (moved old new)) (p.present t within)
-          ∙ ap (λ (x : Term). Some x) (moved_is (rep links d) l old new t is_old is_new ∙ ap term (sym (rep_more links l t)));
+          ∙ ap (λ (x : Term). Some x) (moved_is (rep links d) l old new t is_old is_new
+          ∙ ap term (sym (rep_more links l t)));
       before = λ e below.
           let push = length_push links l in
           elim (cases_eq e d) as (λ _. (row : List Term) × (slice_get (slice_set saved d reps) e ≡ Some row)
-          × ((t : ℕ) → t < length (map (moved old new) reps) → slice_get row t ≡ Some (term (rep (links ++ l ∷ []) e t)))) [
+          × ((t : ℕ) → t < length (map (moved old new) reps)
+          → slice_get row t ≡ Some (term (rep (links ++ l ∷ []) e t)))) [
             | inl same ↦ (
               reps,
-              ap (λ (k : ℕ). slice_get (slice_set saved d reps) k) same ∙ get_set_same saved d reps (omega (arith, p.rows)),
-              λ t inside. p.present t (omega (arith, long)) ∙ ap (λ (x : ℕ). Some (term x)) (sym (rep_front links (l ∷ []) d t (omega arith)) ∙ ap (λ (k : ℕ). rep (links ++ l ∷ []) k t) (sym same)),
+              ap (λ (k : ℕ). slice_get (slice_set saved d reps) k) same
+                  ∙ get_set_same saved d reps (omega (arith, p.rows)),
+              λ t inside. p.present t (omega (arith, long))
+                  ∙ ap (λ (x : ℕ). Some (term x)) (sym (rep_front links (l ∷ []) d t (omega arith))
+                  ∙ ap (λ (k : ℕ). rep (links ++ l ∷ []) k t) (sym same)),
             )
             | inr other ↦
                 let v = p.before e (omega arith) in (
                   v.0,
                   get_set_other saved d e reps other ∙ v.1,
-                  λ t inside. v.2 t (omega (arith, long)) ∙ ap (λ (x : ℕ). Some (term x)) (sym (rep_front links (l ∷ []) e t (omega arith))),
+                  λ t inside. v.2 t (omega (arith, long))
+                      ∙ ap (λ (x : ℕ). Some (term x)) (sym (rep_front links (l ∷ []) e t (omega arith))),
                 )
           ];
       long = rw long (All-set (λ (row : List Term). length row ≡ n) saved d reps refl p.long);
@@ -377,14 +426,18 @@ partition_merge links reps saved room l old new p from to apart is_old is_new =
     }
 
 -- a read of the table before a merge
-pub row_read : (links : List Link) (reps : List Term) (saved : List (List Term)) (room d t : ℕ) (row items : List Term) (x : Term) → IsPartition links reps saved room
-    → d < length links → t < length reps → row ≡ get_or saved d row → items ≡ row → x ≡ get_or items t x → x.0 ≡ rep links d t
+pub row_read : (links : List Link) (reps : List Term) (saved : List (List Term)) (room d t : ℕ) (row items : List Term)
+    (x : Term) → IsPartition links reps saved room
+    → d < length links → t < length reps → row ≡ get_or saved d row → items ≡ row → x ≡ get_or items t x
+    → x.0 ≡ rep links d t
 row_read links reps saved room d t row items x p h inside at same read =
     let few = links_few (length reps) links p.merges in
-    let here : slice_get saved d ≡ Some row = slice_get_read saved (length saved) d row refl (omega (arith, few, p.rows)) at in
+    let here : slice_get saved d ≡ Some row =
+    slice_get_read saved (length saved) d row refl (omega (arith, few, p.rows)) at in
     let w = p.before d h in
     let rows : w.0 ≡ items = cc (w.1, here, same) in
-    let value : slice_get items t ≡ Some (term (rep links d t)) = subst (λ (r : List Term). slice_get r t ≡ Some (term (rep links d t))) rows (w.2 t inside) in
+    let value : slice_get items t ≡ Some (term (rep links d t)) =
+    subst (λ (r : List Term). slice_get r t ≡ Some (term (rep links d t))) rows (w.2 t inside) in
     ap (λ (y : Term). y.0) (read ∙ get_or_from_slice_get items t (term (rep links d t)) x value)
 
 -- the two sides of the link that joined two terms
@@ -393,13 +446,16 @@ Crosses r l a b = ((r a ≡ r l.from.0) × (r l.to.0 ≡ r b)) ⊎ ((r a ≡ r l
 
 pub relabel_crosses : (r : ℕ → ℕ) (l : Link) (a b : ℕ) → relabel r l a ≡ relabel r l b → r a ≢ r b → Crosses r l a b
 relabel_crosses r l a b same apart =
-    elim (relabel_cases r l a) as (λ _. ((r a ≡ r l.from.0) × (r l.to.0 ≡ r b)) ⊎ ((r a ≡ r l.to.0) × (r l.from.0 ≡ r b))) [
-      | inl p ↦ elim (relabel_cases r l b) as (λ _. ((r a ≡ r l.from.0) × (r l.to.0 ≡ r b)) ⊎ ((r a ≡ r l.to.0) × (r l.from.0 ≡ r b))) [
-        | inl q ↦ absurd (apart (p.0 ∙ sym q.0))
-        | inr q ↦ inl (p.0, sym p.1 ∙ same ∙ q.1)
-      ]
-      | inr p ↦ elim (relabel_cases r l b) as (λ _. ((r a ≡ r l.from.0) × (r l.to.0 ≡ r b)) ⊎ ((r a ≡ r l.to.0) × (r l.from.0 ≡ r b))) [
-        | inl q ↦ inr (sym p.1 ∙ same ∙ q.1, sym q.0)
-        | inr q ↦ absurd (apart (sym p.1 ∙ same ∙ q.1))
-      ]
+    elim (relabel_cases r l a) as (λ _. ((r a ≡ r l.from.0) × (r l.to.0 ≡ r b))
+    ⊎ ((r a ≡ r l.to.0) × (r l.from.0 ≡ r b))) [
+      | inl p ↦ elim (relabel_cases r l b) as (λ _. ((r a ≡ r l.from.0) × (r l.to.0 ≡ r b))
+          ⊎ ((r a ≡ r l.to.0) × (r l.from.0 ≡ r b))) [
+            | inl q ↦ absurd (apart (p.0 ∙ sym q.0))
+            | inr q ↦ inl (p.0, sym p.1 ∙ same ∙ q.1)
+          ]
+      | inr p ↦ elim (relabel_cases r l b) as (λ _. ((r a ≡ r l.from.0) × (r l.to.0 ≡ r b))
+          ⊎ ((r a ≡ r l.to.0) × (r l.from.0 ≡ r b))) [
+            | inl q ↦ inr (sym p.1 ∙ same ∙ q.1, sym q.0)
+            | inr q ↦ absurd (apart (sym p.1 ∙ same ∙ q.1))
+          ]
     ]

@@ -30,7 +30,8 @@ AreEqual s a b = (m : Interpretation) → IsCongruence s.sizes m → EqualitiesH
 
 -- wherever equality is a congruence and what is asserted is true, the atom has this truth
 abbrev pub HasTruth : Asserted → Atom → Bool → Type 0
-HasTruth s atom truth = (m : Interpretation) → IsCongruence s.sizes m → All (IsLitTrue m) s.lits → atom_truth m atom ≡ truth
+HasTruth s atom truth = (m : Interpretation) → IsCongruence s.sizes m → All (IsLitTrue m) s.lits
+    → atom_truth m atom ≡ truth
 
 -- the truth that equality and congruence give an atom; an equality is only given to be true
 abbrev pub GivesTruth : Asserted → Atom → Bool → Type 0

@@ -1,5 +1,6 @@
 -- What `Classes` keeps of the asserted literals.
-use Rattle.std.specs.Prelude.{◌≡◌, ◌≢◌, ℕ, ◌<◌, ◌≤◌, ◌^◌, ◌++◌, List, All, Contains, Bool, true, false, Option, Some, None, length, take, slice_get, slice_index_or, nat_lt, if◌then◌else◌}
+use Rattle.std.specs.Prelude.{◌≡◌, ◌≢◌, ℕ, ◌<◌, ◌≤◌, ◌^◌, ◌++◌, List, All, Contains, Bool, true, false, Option, Some}
+use Rattle.std.specs.Prelude.{None, length, take, slice_get, slice_index_or, nat_lt, if◌then◌else◌}
 use Rattle.gh_base.specs.declared.atom.Term.{Term}
 use Rattle.gh_base.specs.declared.atom.Atom.{Atom}
 use Rattle.gh_base.specs.declared.atom.Atom.TheVariants.{Eq, Btwn, Hop, Alloc, Def}
@@ -87,25 +88,30 @@ AreFiledOf a links entries t =
 
 -- .. with each that mentions a term which the last link moved
 abbrev pub AreFiledMoved : Standing → List Link → List Entry → Type 0
-AreFiledMoved a links entries = (i : ℕ) (l : Lit) (t : Term) → slice_get a.lits.now i ≡ Some l → Mentions l.atom t → t.0 < a.sizes.terms
+AreFiledMoved a links entries = (i : ℕ) (l : Lit) (t : Term) → slice_get a.lits.now i ≡ Some l → Mentions l.atom t
+    → t.0 < a.sizes.terms
     → IsMoved links t → IsFiled a.sizes a.lits.now links entries l
 
 -- where there was no clash and they agreed with each literal before a place, they agree now with each literal
 abbrev pub Files : Bool → Standing → ℕ → Merged → Merged → Filed → Filed → Type 0
 Files clashed a place old new old_filed new_filed = clashed ≡ false
-    → AllFiled a.sizes (take place a.lits.now) old.links old_filed.entries → AllFiled a.sizes a.lits.now new.links new_filed.entries
+    → AllFiled a.sizes (take place a.lits.now) old.links old_filed.entries
+    → AllFiled a.sizes a.lits.now new.links new_filed.entries
 
 -- the literals of two places have the same sign, or opposite ones
 abbrev pub HaveOneSign : List Lit → ℕ → ℕ → Type 0
-HaveOneSign lits first second = (l k : Lit) → slice_get lits first ≡ Some l → slice_get lits second ≡ Some k → l.positive ≡ k.positive
+HaveOneSign lits first second = (l k : Lit) → slice_get lits first ≡ Some l → slice_get lits second ≡ Some k
+    → l.positive ≡ k.positive
 
 abbrev pub HaveTwoSigns : List Lit → ℕ → ℕ → Type 0
-HaveTwoSigns lits first second = (l k : Lit) → slice_get lits first ≡ Some l → slice_get lits second ≡ Some k → l.positive ≢ k.positive
+HaveTwoSigns lits first second = (l k : Lit) → slice_get lits first ≡ Some l → slice_get lits second ≡ Some k
+    → l.positive ≢ k.positive
 
 -- a disequality between terms of one class, or two literals of opposite signs over terms of the same classes
 abbrev pub IsClash : (ℕ → ℕ) → List Lit → Clash → Type 0
 IsClash r lits (Unequal place) =
-    (a : Term) × (b : Term) × (slice_get lits place ≡ Some (record { atom = Eq a b; positive = false })) × (r a.0 ≡ r b.0)
+    (a : Term) × (b : Term) × (slice_get lits place ≡ Some (record { atom = Eq a b; positive = false }))
+    × (r a.0 ≡ r b.0)
 IsClash r lits (Opposite first second) =
     (l : Lit) × (k : Lit) × (slice_get lits first ≡ Some l) × (slice_get lits second ≡ Some k) × IsRelation l.atom
     × (normal r l.atom ≡ normal r k.atom) × (l.positive ≢ k.positive)
@@ -176,8 +182,10 @@ pub record IsStage (c : Core) (k : ℕ) (t : Stage) : Type 0 where
   pub depth : t.depth ≤ length c.links
   pub count : t.entries ≤ length c.entries
   pub state : IsState c.sizes (take k c.lits) (take t.depth c.links) (take t.entries c.entries)
-  pub filed : NoClashBefore c.clash k → AllFiled c.sizes (take k c.lits) (take t.depth c.links) (take t.entries c.entries)
-  pub clash : (f : ClashAt) → c.clash ≡ Some f → f.place < k → IsClash (reps (take t.depth c.links)) (take k c.lits) f.clash
+  pub filed : NoClashBefore c.clash k
+      → AllFiled c.sizes (take k c.lits) (take t.depth c.links) (take t.entries c.entries)
+  pub clash : (f : ClashAt) → c.clash ≡ Some f → f.place < k
+      → IsClash (reps (take t.depth c.links)) (take k c.lits) f.clash
 
 -- one stage isn't after another
 pub record IsBefore (t u : Stage) : Type 0 where
@@ -188,7 +196,8 @@ pub record IsKept (c : Core) : Type 0 where
   pub few : length c.lits ≤ count_of c.sizes
   pub staged : length c.stages ≡ length c.lits
   pub in_range : AreInRange c.sizes c.lits
-  pub apart : (i j : ℕ) (l k : Lit) → slice_get c.lits i ≡ Some l → slice_get c.lits j ≡ Some k → l.atom ≡ k.atom → i ≡ j
+  pub apart : (i j : ℕ) (l k : Lit) → slice_get c.lits i ≡ Some l → slice_get c.lits j ≡ Some k → l.atom ≡ k.atom
+      → i ≡ j
   pub each : (k : ℕ) → k ≤ length c.lits → IsStage c k (stage_at c k)
   pub clashed : (f : ClashAt) → c.clash ≡ Some f → f.place < length c.lits
   pub rising : (j k : ℕ) → j ≤ k → k ≤ length c.lits → IsBefore (stage_at c j) (stage_at c k)
@@ -198,4 +207,5 @@ pub record ExplainsAtoms (s : Sizes) (links : List Link) (a b : Atom) (old new :
   pub added : List Lit
   pub more : new ≡ old ++ added
   pub negated : All (λ l. (k : Link) × Contains links k × (l ≡ disequality_of k)) added
-  pub agrees : (m : Interpretation) → IsCongruence s m → All (λ l. lit_truth m l ≡ false) added → atom_truth m a ≡ atom_truth m b
+  pub agrees : (m : Interpretation) → IsCongruence s m → All (λ l. lit_truth m l ≡ false) added
+      → atom_truth m a ≡ atom_truth m b

@@ -15,22 +15,27 @@ AreCongruences = (s : Sizes) (lits : List Lit) (m : Interpretation) → IsStruct
 
 -- where what is asserted is consistent, each asserted literal is true
 abbrev pub AreAssertedTrue : Type 0
-AreAssertedTrue = (s : Sizes) (lits : List Lit) (m : Interpretation) → IsStructureOf s lits m → AreInRange s lits → IsConsistent s lits → All (IsLitTrue m) lits
+AreAssertedTrue = (s : Sizes) (lits : List Lit) (m : Interpretation) → IsStructureOf s lits m → AreInRange s lits
+    → IsConsistent s lits → All (IsLitTrue m) lits
 
 -- then a clause all of whose atoms are assigned is true, unless each of its literals is negated
 abbrev pub AreAssignedTrue : Type 0
 AreAssignedTrue =
-    (s : Sizes) (lits : List Lit) (m : Interpretation) (clause : List Lit) → IsStructureOf s lits m → AreInRange s lits → IsConsistent s lits
-    → AreInRange s clause → All (λ l. IsFree lits l.atom → ⊥) clause → (All (λ l. Contains lits (opposite l)) clause → ⊥) → IsClauseTrue m clause
+    (s : Sizes) (lits : List Lit) (m : Interpretation) (clause : List Lit) → IsStructureOf s lits m → AreInRange s lits
+    → IsConsistent s lits
+    → AreInRange s clause → All (λ l. IsFree lits l.atom → ⊥) clause
+    → (All (λ l. Contains lits (opposite l)) clause → ⊥) → IsClauseTrue m clause
 
 -- all structures of the same literals give each atom one truth
 abbrev pub AreAlike : Type 0
 AreAlike =
-    (s : Sizes) (lits : List Lit) (m n : Interpretation) → AreInRange s lits → IsStructureOf s lits m → IsStructureOf s lits n
+    (s : Sizes) (lits : List Lit) (m n : Interpretation) → AreInRange s lits → IsStructureOf s lits m
+    → IsStructureOf s lits n
     → (a : Atom) → IsInRange s a → atom_truth m a ≡ atom_truth n a
 
 -- an atom has the truth of the one over other terms of the same classes, as the least ones
 abbrev pub AreLeastEnough : Type 0
 AreLeastEnough =
-    (s : Sizes) (m : Interpretation) (r : ℕ → ℕ) → IsCongruence s m → ((t : ℕ) → t < s.terms → (r t < s.terms) × (m.class (r t) ≡ m.class t))
+    (s : Sizes) (m : Interpretation) (r : ℕ → ℕ) → IsCongruence s m
+    → ((t : ℕ) → t < s.terms → (r t < s.terms) × (m.class (r t) ≡ m.class t))
     → (a : Atom) → IsInRange s a → IsRelation a → m.table (normal r a) ≡ m.table a

@@ -18,7 +18,8 @@ Tells answer P = MatchBool answer P (P → ⊥)
 
 -- over so many terms, versions and definitions the clause follows from equality and congruence alone
 abbrev pub IsLemmaOver : ℕ → ℕ → ℕ → List Lit → Type 0
-IsLemmaOver terms versions defs clause = IsEqualityClause (record { terms = terms; versions = versions; defs = defs }) clause
+IsLemmaOver terms versions defs clause =
+    IsEqualityClause (record { terms = terms; versions = versions; defs = defs }) clause
 
 -- two literals of opposite signs over terms of the same classes
 pub record Opposes (s : Sizes) (links : List Link) (other l : Lit) : Type 0 where
@@ -32,7 +33,8 @@ IsOpposed s links lits l = (other : Lit) × Contains lits other × Opposes s lin
 -- an equality of terms of one class, or a literal that is opposed
 abbrev pub IsSettled : Sizes → List Link → List Lit → Lit → Type 0
 IsSettled s links lits l =
-    ((a : Term) × (b : Term) × (l ≡ equality a b) × (reps links a.0 ≡ reps links b.0)) ⊎ (IsRelation l.atom × IsOpposed s links lits l)
+    ((a : Term) × (b : Term) × (l ≡ equality a b) × (reps links a.0 ≡ reps links b.0))
+    ⊎ (IsRelation l.atom × IsOpposed s links lits l)
 
 -- some literal is settled
 pub record HasSettled (s : Sizes) (links : List Link) (lits : List Lit) : Type 0 where

@@ -1,5 +1,6 @@
 -- Classes of terms that are merged one link after another.
-use Rattle.std.specs.Prelude.{◌≡◌, ◌≢◌, ◌<◌, ◌≤◌, ◌++◌, ℕ, zero, suc, List, true, false, All, Contains, Some, length, slice_get, slice_index_or, nat_eq, if◌then◌else◌, min, max}
+use Rattle.std.specs.Prelude.{◌≡◌, ◌≢◌, ◌<◌, ◌≤◌, ◌++◌, ℕ, zero, suc, List, true, false, All, Contains, Some, length}
+use Rattle.std.specs.Prelude.{slice_get, slice_index_or, nat_eq, if◌then◌else◌, min, max}
 use Rattle.gh_base.specs.declared.atom.Term.{Term}
 use Rattle.gh_base.specs.declared.atom.Atom.TheVariants.{Eq}
 use Rattle.gh_base.specs.declared.atom.Lit.{Lit}
@@ -39,10 +40,12 @@ AreMerges terms links =
 
 -- the equality that a link rests on
 abbrev pub equality_of : Link → Lit
-equality_of l = record { atom = Eq (record { 0 = min l.from.0 l.to.0 }) (record { 0 = max l.from.0 l.to.0 }); positive = true }
+equality_of l =
+    record { atom = Eq (record { 0 = min l.from.0 l.to.0 }) (record { 0 = max l.from.0 l.to.0 }); positive = true }
 
 abbrev pub disequality_of : Link → Lit
-disequality_of l = record { atom = Eq (record { 0 = min l.from.0 l.to.0 }) (record { 0 = max l.from.0 l.to.0 }); positive = false }
+disequality_of l =
+    record { atom = Eq (record { 0 = min l.from.0 l.to.0 }) (record { 0 = max l.from.0 l.to.0 }); positive = false }
 
 -- the added literals negate equalities of links, and where these hold the two terms have one class
 pub record Explains (links : List Link) (a b : Term) (added : List Lit) : Type 0 where

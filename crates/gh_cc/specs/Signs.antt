@@ -1,5 +1,6 @@
 -- Entries of literals by the numbers of atoms.
-use Rattle.std.specs.Prelude.{◌≡◌, ℕ, suc, ◌+◌, ◌<◌, ◌≤◌, ◌^◌, List, [], ◌∷◌, ◌++◌, Option, Some, None, length, slice_get, nat_eq, if◌then◌else◌}
+use Rattle.std.specs.Prelude.{◌≡◌, ℕ, suc, ◌+◌, ◌<◌, ◌≤◌, ◌^◌, List, [], ◌∷◌, ◌++◌, Option, Some, None, length}
+use Rattle.std.specs.Prelude.{slice_get, nat_eq, if◌then◌else◌}
 use Rattle.gh_cc.specs.declared.signs.Entry.{Entry}
 
 -- what callers see of `Signs`: how many numbers there are, and the entries in order
@@ -25,8 +26,10 @@ free_places (Some x ∷ xs) = free_places xs
 -- the table has the entries and nothing else, and no number has two
 pub record AreSigns (table : List (Option ℕ)) (entries : List Entry) (room : ℕ) : Type 0 where
   pub on : (i : ℕ) (e : Entry) → slice_get entries i ≡ Some e → slice_get table e.number ≡ Some (Some e.lit)
-  pub back : (n lit : ℕ) → slice_get table n ≡ Some (Some lit) → (i : ℕ) × (slice_get entries i ≡ Some (record { number = n; lit = lit }))
-  pub apart : (i : ℕ) (e : Entry) (j : ℕ) (f : Entry) → slice_get entries i ≡ Some e → slice_get entries j ≡ Some f → e.number ≡ f.number → i ≡ j
+  pub back : (n lit : ℕ) → slice_get table n ≡ Some (Some lit)
+      → (i : ℕ) × (slice_get entries i ≡ Some (record { number = n; lit = lit }))
+  pub apart : (i : ℕ) (e : Entry) (j : ℕ) (f : Entry) → slice_get entries i ≡ Some e → slice_get entries j ≡ Some f
+      → e.number ≡ f.number → i ≡ j
   pub counted : free_places table + length entries ≡ length table
   pub reserved : length table ≤ room
   pub few : length table < 2 ^ 32

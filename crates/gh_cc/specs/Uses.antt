@@ -1,5 +1,7 @@
 -- Mentions of terms.
-use Rattle.std.specs.Prelude.{◌≡◌, ◌≢◌, ◌⊎◌, ℕ, suc, ◌+◌, ◌<◌, ◌≤◌, ◌++◌, Bool, true, false, nat_eq, nat_lt, if◌then◌else◌, List, [], ◌∷◌, map, Option, Some, None, length, slice_get, slice_index_or, ◌-◌}
+use Rattle.std.specs.Prelude.{◌≡◌, ◌≢◌, ◌⊎◌, ℕ, suc, ◌+◌, ◌<◌, ◌≤◌, ◌++◌, Bool, true, false, nat_eq, nat_lt}
+use Rattle.std.specs.Prelude.{if◌then◌else◌, List, [], ◌∷◌, map, Option, Some, None, length, slice_get, slice_index_or}
+use Rattle.std.specs.Prelude.{◌-◌}
 use Rattle.gh_base.specs.declared.atom.Term.{Term}
 use Rattle.gh_base.specs.declared.atom.Atom.{Atom}
 use Rattle.gh_base.specs.declared.atom.Atom.TheVariants.{Eq, Btwn, Hop, Alloc, Def}
@@ -26,7 +28,8 @@ pub record IsLast (list : List (Option Term)) (t : Term) (bound next : ℕ) : Ty
 -- the tables link the mentions of each term
 pub record AreUses (mentions : List Mention) (last : List ℕ) : Type 0 where
   pub heads : (t : Term) (n : ℕ) → slice_get last t.0 ≡ Some n → IsLast (terms_of mentions) t (length mentions) n
-  pub links : (i : ℕ) (m : Mention) (t : Term) → slice_get mentions i ≡ Some m → m.term ≡ Some t → (t.0 < length last) × IsLast (terms_of mentions) t i m.before
+  pub links : (i : ℕ) (m : Mention) (t : Term) → slice_get mentions i ≡ Some m → m.term ≡ Some t → (t.0 < length last)
+      × IsLast (terms_of mentions) t i m.before
 
 abbrev pub one_if : Bool → ℕ
 one_if true = 1
@@ -86,7 +89,8 @@ Mentions a t = (first_term a ≡ Some t) ⊎ ((second_term a ≡ Some t) ⊎ (th
 
 -- the last link moved the term's class
 abbrev pub IsMoved : List Link → Term → Type 0
-IsMoved links t = rep links (length links - 1) t.0 ≡ rep links (length links - 1) (slice_index_or links (length links - 1) no_link).from.0
+IsMoved links t = rep links (length links - 1) t.0
+    ≡ rep links (length links - 1) (slice_index_or links (length links - 1) no_link).from.0
 
 -- the terms are those that a link joins
 abbrev pub AreEnds : Link → Term → Term → Type 0
@@ -97,4 +101,5 @@ pub record JoinsLighter (list : List (Option Term)) (old new : Merged) (a b : Te
   pub link : Link
   pub ends : AreEnds link a b
   pub merged : new ≡ record { terms = old.terms; links = old.links ++ link ∷ [] }
-  pub lighter : class_times list (rep_of old) (rep_of old link.from.0) old.terms ≤ class_times list (rep_of old) (rep_of old link.to.0) old.terms
+  pub lighter : class_times list (rep_of old) (rep_of old link.from.0) old.terms
+      ≤ class_times list (rep_of old) (rep_of old link.to.0) old.terms

@@ -57,7 +57,14 @@ impl Model for Classes {
     ghost view = { λ c. record { sizes = c.sizes; lits = c.lits.items } };
 
     ghost invariant = { λ c.
-        IsKept (record { sizes = c.sizes; lits = c.lits.items; stages = c.stages.items; links = c.partition.links; entries = c.signs.entries; clash = c.clash })
+        IsKept (record {
+          sizes = c.sizes;
+          lits = c.lits.items;
+          stages = c.stages.items;
+          links = c.partition.links;
+          entries = c.signs.entries;
+          clash = c.clash;
+        })
         × (c.partition.terms ≡ c.sizes.terms)
         × (c.signs.count ≡ count_of c.sizes)
         × (count_of c.sizes ≤ 1431655764)
@@ -98,8 +105,8 @@ fn clash_before(mark: u32, clash: Option<ClashAt>) -> Option<ClashAt>
 }
 
 impl Classes {
-    /// Nothing stands asserted. Room for all atoms is taken here. There are at most 1,431,655,764 of them, since 32 bits
-    /// number three mentions of each: for more no room is taken, as for want of memory.
+    /// Nothing stands asserted. Room for all atoms is taken here. There are at most 1,431,655,764 of them, since 32
+    /// bits number three mentions of each: for more no room is taken, as for want of memory.
     pub fn new(alloc: Global, terms: u8, versions: u8, defs: u32) -> Result<Classes, AllocError>
         ensures sizes { IfOk result (λ c. c.sizes ≡ record { terms = terms; versions = versions; defs = defs }) }
         ensures none { IfOk result (λ c. c.lits ≡ []) }
@@ -179,9 +186,9 @@ impl Classes {
         self.partition.class_of(a).0 == self.partition.class_of(b).0
     }
 
-    /// The truth that equality and congruence give an atom: an equality of terms of one class is true, and any other atom
-    /// has the truth of an asserted one over terms of the same classes. None where they give none, of which nothing is
-    /// said where the asserted literals are inconsistent. It takes constant time.
+    /// The truth that equality and congruence give an atom: an equality of terms of one class is true, and any other
+    /// atom has the truth of an asserted one over terms of the same classes. None where they give none, of which
+    /// nothing is said where the asserted literals are inconsistent. It takes constant time.
     pub fn truth_of(&self, atom: Atom) -> Option<bool>
         requires in_range { IsInRange self.now.sizes atom }
         ensures truth { IfSome result (HasTruth self.now atom) }

@@ -5,7 +5,8 @@ ghost use Rattle.gh_base.specs.declared.atom.Term.{Term};
 ghost use Rattle.gh_base.specs.Atoms.{IsInRange, AreInRange, number_of, count_of};
 ghost use Rattle.gh_cc.specs.Asserted.{equality};
 ghost use Rattle.gh_cc.specs.Uses.{all_mentions};
-ghost use Rattle.gh_cc.specs.Kept.{AreTied, Grows, LinksMore, IsClash, normal, reps, HaveOneSign, HaveTwoSigns, IsFiledAt, Files};
+ghost use Rattle.gh_cc.specs.Kept.{AreTied, Grows, LinksMore, IsClash, normal, reps, HaveOneSign, HaveTwoSigns};
+ghost use Rattle.gh_cc.specs.Kept.{IsFiledAt, Files};
 
 use crate::clash::Clash;
 use crate::moving::{Standing, merge_lighter, refile_moved};

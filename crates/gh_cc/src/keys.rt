@@ -1,9 +1,10 @@
-//! The literals of a clause with their keys, so that one of the key and the opposite sign of another is found by halving.
+//! The literals of a clause with their keys, so that one of the key and the opposite sign of another is found by
+//! halving.
 
 ghost use Rattle.std.specs.Prelude.{◌≡◌, Contains, IfOk};
 ghost use Rattle.std.specs.List.Sorted.{IsNonDecreasing};
 ghost use Rattle.gh_base.specs.Atoms.{IsInRange, AreInRange};
-ghost use Rattle.gh_cc.specs.Lemma.{Tells, AreKeys, AreListed, IsKeyed, IsOpposed};
+ghost use Rattle.gh_cc.specs.Lemma.{Tells, AreKeys, IsKeyed, IsOpposed};
 
 use crate::filing::key;
 use crate::partition::Partition;
@@ -19,28 +20,6 @@ pub(crate) struct Keyed<'a> {
     pub negated: Vec<usize>,
 }
 
-// The keys of the literals of a sign, in the order of these.
-fn listed(
-    alloc: Global,
-    sizes: Sizes,
-    lits: &[Lit],
-    partition: &Partition,
-    positive: bool,
-) -> Result<Vec<usize>, AllocError>
-    requires in_range { AreInRange sizes lits.now }
-    requires terms { partition.now.terms ≡ sizes.terms }
-    ensures { IfOk result (λ v. AreListed sizes partition.now.links lits.now positive v.items) }
-{
-    let mut keys = Vec::with_capacity(alloc, lits.len())?;
-    for lit in lits {
-        if lit.positive != positive {
-            continue;
-        }
-        keys.push(key(sizes, partition, lit.atom))?;
-    }
-    Ok(keys)
-}
-
 // The keys of the literals of a sign, in ascending order.
 fn sorted(
     alloc: Global,
@@ -53,7 +32,13 @@ fn sorted(
     requires terms { partition.now.terms ≡ sizes.terms }
     ensures { IfOk result (λ v. AreKeys sizes partition.now.links lits.now positive v.items) }
 {
-    let mut keys = listed(alloc, sizes, lits, partition, positive)?;
+    let mut keys = Vec::with_capacity(alloc, lits.len())?;
+    for lit in lits {
+        if lit.positive != positive {
+            continue;
+        }
+        keys.push(key(sizes, partition, lit.atom))?;
+    }
     keys.sort_unstable();
     Ok(keys)
 }

@@ -1,6 +1,7 @@
 //! Classes of terms: merged by relabelling, with the table before each merge kept for its undoing.
 
-ghost use Rattle.std.specs.Prelude.{◌≡◌, ◌≢◌, ◌<◌, ◌≤◌, ◌++◌, ◌∷◌, [], ℕ, List, Some, slice_get, IfOk, OnOk, MatchBool, length, take, map};
+ghost use Rattle.std.specs.Prelude.{◌≡◌, ◌≢◌, ◌<◌, ◌≤◌, ◌++◌, ◌∷◌, [], ℕ, List, Some, slice_get, IfOk, OnOk, MatchBool};
+ghost use Rattle.std.specs.Prelude.{length, take, map};
 ghost use Rattle.gh_cc.specs.Uses.{IsMoved};
 ghost use Rattle.gh_cc.specs.Partitions.{Merged, rep, rep_of, moved, AreMerges, ExplainsMore, disequality_of};
 

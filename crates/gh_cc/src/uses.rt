@@ -1,6 +1,7 @@
 //! Which terms literals mention, with the mentions of each term counted, and linked from the last to the first.
 
-ghost use Rattle.std.specs.Prelude.{◌≡◌, ◌<◌, ◌+◌, ◌^◌, ◌∷◌, ◌++◌, ◌-◌, [], Some, All, IfOk, IfSome, length, take, slice_get, vec_capacity};
+ghost use Rattle.std.specs.Prelude.{◌≡◌, ◌<◌, ◌+◌, ◌^◌, ◌∷◌, ◌++◌, ◌-◌, [], Some, All, IfOk, IfSome, length, take};
+ghost use Rattle.std.specs.Prelude.{slice_get, vec_capacity};
 ghost use Rattle.gh_base.specs.declared.atom.Term.{Term};
 ghost use Rattle.gh_cc.specs.Uses.{AreUses, AreCounts, IsLast, times};
 
@@ -29,9 +30,12 @@ impl Model for Uses {
 
     ghost Value = { Mentioned };
 
-    ghost view = { λ u. record { terms = length u.last.items; room = vec_capacity u.mentions; list = terms_of u.mentions.items } };
+    ghost view = { λ u.
+        record { terms = length u.last.items; room = vec_capacity u.mentions; list = terms_of u.mentions.items } };
 
-    ghost invariant = { λ u. AreUses u.mentions.items u.last.items × AreCounts u.mentions.items u.counts.items (length u.last.items) };
+    ghost invariant = { λ u.
+        AreUses u.mentions.items u.last.items
+        × AreCounts u.mentions.items u.counts.items (length u.last.items) };
 }
 
 // A 0 for each term.

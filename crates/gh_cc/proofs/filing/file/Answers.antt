@@ -19,9 +19,11 @@ pub clash_of-requires : goal.clash_of-requires
 clash_of-requires c =
     let lits = c.args.lits.now in
     let x = get_or lits c.args.place none in
-    let found : find_lit c.args.signs.now.entries (number_of c.args.sizes (normal (reps c.args.partition.now.links) x.atom)) ≡ Some c.in-Some.first =
+    let found : find_lit c.args.signs.now.entries
+    (number_of c.args.sizes (normal (reps c.args.partition.now.links) x.atom)) ≡ Some c.in-Some.first =
     ap (find_lit c.args.signs.now.entries) (sym c.key-number.ensures.value) ∙ sym c.in-Some.ensures in
-    let e = entry_found c.args.sizes lits c.args.partition.now c.args.signs.now x c.in-Some.first c.requires.tied found in
+    let e = entry_found c.args.sizes lits c.args.partition.now c.args.signs.now x c.in-Some.first c.requires.tied
+    found in
     record { first = get_within lits c.in-Some.first e.lit e.there; second = c.requires.place }
 
 pub returns-in-None : goal.returns-in-None
@@ -29,7 +31,8 @@ returns-in-None c =
     let lits = c.args.lits.now in
     let x = get_or lits c.args.place none in
     let here : slice_get lits c.args.place ≡ Some x = slice_get-get_or lits c.args.place none c.requires.place in
-    let f = put_files c.args.sizes lits c.args.partition.now c.args.signs.now c.put.new.self c.key-number.result c.args.place x c.requires.tied here
+    let f = put_files c.args.sizes lits c.args.partition.now c.args.signs.now c.put.new.self c.key-number.result
+    c.args.place x c.requires.tied here
     (relation_of x.atom c.in_default.not-Eq) c.key-number.ensures.value (sym c.in-None.ensures) c.put.ensures in
     record { tied = f.tied; grows = f.grows; filed = f.filed; clash = tt }
 
@@ -38,12 +41,15 @@ returns-in-Some c =
     let lits = c.args.lits.now in
     let x = get_or lits c.args.place none in
     let here : slice_get lits c.args.place ≡ Some x = slice_get-get_or lits c.args.place none c.requires.place in
-    let found : find_lit c.args.signs.now.entries (number_of c.args.sizes (normal (reps c.args.partition.now.links) x.atom)) ≡ Some c.in-Some.first =
+    let found : find_lit c.args.signs.now.entries
+    (number_of c.args.sizes (normal (reps c.args.partition.now.links) x.atom)) ≡ Some c.in-Some.first =
     ap (find_lit c.args.signs.now.entries) (sym c.key-number.ensures.value) ∙ sym c.in-Some.ensures in
     record {
       tied = c.requires.tied;
       grows = record { added = []; more = sym (append-nil c.args.signs.now.entries); count = refl };
       filed = IfNone_then c.clash_of.result c.clash_of.ensures.same (λ same.
-          same_filed c.args.sizes lits c.args.partition.now c.args.signs.now c.args.place x c.in-Some.first c.requires.tied here (relation_of x.atom c.in_default.not-Eq) found same);
-      clash = clash_same c.args.sizes lits c.args.partition.now c.args.signs.now c.args.place x c.in-Some.first c.clash_of.result c.requires.tied here found c.clash_of.ensures.clash c.clash_of.ensures.opposite;
+          same_filed c.args.sizes lits c.args.partition.now c.args.signs.now c.args.place x c.in-Some.first
+          c.requires.tied here (relation_of x.atom c.in_default.not-Eq) found same);
+      clash = clash_same c.args.sizes lits c.args.partition.now c.args.signs.now c.args.place x c.in-Some.first
+          c.clash_of.result c.requires.tied here found c.clash_of.ensures.clash c.clash_of.ensures.opposite;
     }

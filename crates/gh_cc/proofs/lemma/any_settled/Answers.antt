@@ -8,7 +8,8 @@ use Rattle.gh_cc.proofs.lemma.any_settled.Goals as goal
 pub loop-l-preserved : goal.loop-l-preserved
 loop-l-preserved c =
     let lits = c.args.keyed.now.lits.now in
-    All-more (λ (k : Lit). IsSettled c.args.sizes c.args.partition.now.links lits k → ⊥) lits c.loop-l.l-index no_lit (omega arith) c.loop-l.invariant c.if-is_settled.ensures
+    All-more (λ (k : Lit). IsSettled c.args.sizes c.args.partition.now.links lits k → ⊥) lits c.loop-l.l-index no_lit
+    (omega arith) c.loop-l.invariant c.if-is_settled.ensures
 
 pub returns : goal.returns
 returns c h =

@@ -28,14 +28,16 @@ loop-l-preserved c =
           let is : opposite x ≡ equality a b = sym c.negated.ensures ∙ w.in-Some.ensures.some in
           let inside : IsInRange c.args.sizes (Eq a b) = subst (λ (l : Lit). IsInRange c.args.sizes l.atom) is range in
           let terms : p.terms ≡ c.args.sizes.terms = c.loop-l.invariant.terms ∙ c.requires.terms in
-          let step = step_some lits i x p w.join.new.partition a b w.join.result c.loop-l.invariant.classes at (omega arith) is inside.0
+          let step = step_some lits i x p w.join.new.partition a b w.join.result
+          c.loop-l.invariant.classes at (omega arith) is inside.0
           (omega (arith, terms, inside.0, inside.1)) (omega (arith, terms, inside.1)) w.join.ensures in
           record {
             terms = ap (λ (q : Merged). q.terms) w.partition-is ∙ step.0 ∙ c.loop-l.invariant.terms;
             classes = subst (λ (q : Merged). AreNegatedClasses lits (take (i + 1) lits) q) (sym w.partition-is) step.1;
           }
       | in_default w ↦
-          let none : (a b : Term) → opposite x ≡ equality a b → ⊥ = λ a b e. w.in_default.ensures.none a b (c.negated.ensures ∙ e) in
+          let none : (a b : Term) → opposite x ≡ equality a b
+          → ⊥ = λ a b e. w.in_default.ensures.none a b (c.negated.ensures ∙ e) in
           let step = step_none lits i x p c.loop-l.invariant.classes at (omega arith) none in
           record {
             terms = ap (λ (q : Merged). q.terms) w.partition-is ∙ c.loop-l.invariant.terms;

@@ -10,7 +10,14 @@ loop-t-init c = sym (class_none c.args.uses.now.list (rep_of c.args.partition.no
 pub overflow_add-sum : goal.overflow_add-sum
 overflow_add-sum c =
     let list = c.args.uses.now.list in
-    omega (arith, c.requires.few, c.loop-t.invariant, c.times.ensures, class_long list (rep_of c.args.partition.now) c.args.class.0 c.loop-t.t, times_long list c.loop-t.t)
+    omega (
+      arith,
+      c.requires.few,
+      c.loop-t.invariant,
+      c.times.ensures,
+      class_long list (rep_of c.args.partition.now) c.args.class.0 c.loop-t.t,
+      times_long list c.loop-t.t,
+    )
 
 pub loop-t-preserved : goal.loop-t-preserved
 loop-t-preserved c =
@@ -22,5 +29,6 @@ loop-t-preserved c =
           let sum : c.if-rep-class.sum ≡ c.loop-t.sum + w.times.result = w.sum-is in
           sum ∙ (λ i. c.loop-t.invariant i + w.times.ensures i) ∙ sym more
       | else-rep-class w ↦
-          w.sum-is ∙ c.loop-t.invariant ∙ sym (class_other list r c.args.class.0 c.loop-t.t (λ e. w.if-rep-class.false (c.rep.ensures.value ∙ e)))
+          w.sum-is ∙ c.loop-t.invariant
+          ∙ sym (class_other list r c.args.class.0 c.loop-t.t (λ e. w.if-rep-class.false (c.rep.ensures.value ∙ e)))
     ]

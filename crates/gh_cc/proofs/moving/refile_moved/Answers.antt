@@ -19,19 +19,23 @@ loop-t-preserved c =
           rw w.signs-is (record {
             tied = f.tied;
             grows = grows_on _ _ _ i.grows f.grows;
-            filed = λ n k u at mentions below moved. elim (cases_eq u.0 c.loop-t.t) as (λ _. IsFiled c.args.standing.now.sizes lits links now.entries k) [
-              | inl same ↦ f.filed n k at (subst (Mentions k.atom) (ap term same) mentions)
-              | inr ne ↦ grows_filed c.args.standing.now.sizes lits links c.loop-t.signs now f.grows k (i.filed n k u at mentions (omega arith) moved)
-            ];
+            filed = λ n k u at mentions below moved.
+                elim (cases_eq u.0 c.loop-t.t) as (λ _. IsFiled c.args.standing.now.sizes lits links now.entries k) [
+                  | inl same ↦ f.filed n k at (subst (Mentions k.atom) (ap term same) mentions)
+                  | inr ne ↦ grows_filed c.args.standing.now.sizes lits links c.loop-t.signs now f.grows k
+                      (i.filed n k u at mentions (omega arith) moved)
+                ];
           })
       | else-is_moved w ↦
           rw w.signs-is (record {
             tied = i.tied;
             grows = i.grows;
-            filed = λ n k u at mentions below moved. elim (cases_eq u.0 c.loop-t.t) as (λ _. IsFiled c.args.standing.now.sizes lits links c.loop-t.signs.entries k) [
-              | inl same ↦ absurd (w.if-is_moved.ensures (subst (IsMoved links) (ap term same) moved))
-              | inr ne ↦ i.filed n k u at mentions (omega arith) moved
-            ];
+            filed = λ n k u at mentions below moved.
+                elim (cases_eq u.0 c.loop-t.t) as (λ _.
+                IsFiled c.args.standing.now.sizes lits links c.loop-t.signs.entries k) [
+                  | inl same ↦ absurd (w.if-is_moved.ensures (subst (IsMoved links) (ap term same) moved))
+                  | inr ne ↦ i.filed n k u at mentions (omega arith) moved
+                ];
           })
     ]
 

@@ -16,7 +16,8 @@ loop-next-init c =
       grows = grows_none c.args.signs.now;
       within = e.within;
       here = e.here;
-      filed = λ j k low at there. absurd (e.none j low (get_within c.args.standing.now.uses.now.list j (Some c.args.term) at) at);
+      filed = λ j k low at there.
+          absurd (e.none j low (get_within c.args.standing.now.uses.now.list j (Some c.args.term) at) at);
     }
 
 pub file-requires-clause-place : goal.file-requires-clause-place
@@ -34,19 +35,27 @@ loop-next-preserved c =
       grows = grows_on _ _ _ i.grows f.grows;
       within = let a = e.within in let b = i.within in omega arith;
       here = e.here;
-      filed = λ j k low at there. elim (cases_lt j (c.loop-next.next - 1)) as (λ _. IsFiled c.args.standing.now.sizes c.args.standing.now.lits.now c.args.partition.now.links c.file.new.signs.entries k) [
-        | inl lt ↦ absurd (e.none j low lt at)
-        | inr ge ↦ elim (cases_lt j c.loop-next.next) as (λ _. IsFiled c.args.standing.now.sizes c.args.standing.now.lits.now c.args.partition.now.links c.file.new.signs.entries k) [
-          | inl here ↦
-              let is : j ≡ c.loop-next.next - 1 = omega arith in
-              f.filed k (subst (λ n. slice_get c.args.standing.now.lits.now (n / 3) ≡ Some k) is there)
-          | inr past ↦ grows_filed c.args.standing.now.sizes c.args.standing.now.lits.now c.args.partition.now.links c.loop-next.signs c.file.new.signs f.grows k (i.filed j k past at there)
-        ]
-      ];
+      filed = λ j k low at there.
+          elim (cases_lt j (c.loop-next.next - 1)) as (λ _.
+          IsFiled c.args.standing.now.sizes c.args.standing.now.lits.now c.args.partition.now.links
+          c.file.new.signs.entries k) [
+            | inl lt ↦ absurd (e.none j low lt at)
+            | inr ge ↦ elim (cases_lt j c.loop-next.next) as (λ _.
+                IsFiled c.args.standing.now.sizes c.args.standing.now.lits.now c.args.partition.now.links
+                c.file.new.signs.entries k) [
+                  | inl here ↦
+                      let is : j ≡ c.loop-next.next - 1 = omega arith in
+                      f.filed k (subst (λ n. slice_get c.args.standing.now.lits.now (n / 3) ≡ Some k) is there)
+                  | inr past ↦
+                      grows_filed c.args.standing.now.sizes c.args.standing.now.lits.now c.args.partition.now.links
+                      c.loop-next.signs c.file.new.signs f.grows k (i.filed j k past at there)
+                ]
+          ];
     }
 
 pub returns-clause-filed : goal.returns-clause-filed
 returns-clause-filed c i l at mentions =
     let w = mention_at c.args.standing.now.lits.now i l c.args.term at mentions in
-    let there : slice_get c.args.standing.now.uses.now.list w.0 ≡ Some (Some c.args.term) = ap (λ (ts : List (Option Term)). slice_get ts w.0) c.requires.uses ∙ w.2 in
+    let there : slice_get c.args.standing.now.uses.now.list w.0 ≡ Some (Some c.args.term) =
+    ap (λ (ts : List (Option Term)). slice_get ts w.0) c.requires.uses ∙ w.2 in
     c.loop-next.invariant.filed w.0 l (omega arith) there (ap (slice_get c.args.standing.now.lits.now) w.1 ∙ at)

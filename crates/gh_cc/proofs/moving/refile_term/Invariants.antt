@@ -10,7 +10,9 @@ invariant-loop-next l = record {
   grows : Grows l.initial.signs l.signs;
   within : l.next ≤ length l.standing.uses.now.list;
   here : (n : ℕ) → l.next ≡ suc n → slice_get l.standing.uses.now.list n ≡ Some (Some l.term);
-  filed : (j : ℕ) (k : Lit) → l.next ≤ j → slice_get l.standing.uses.now.list j ≡ Some (Some l.term) → slice_get l.standing.lits.now (j / 3) ≡ Some k → IsFiled l.standing.sizes l.standing.lits.now l.partition.links l.signs.entries k;
+  filed : (j : ℕ) (k : Lit) → l.next ≤ j → slice_get l.standing.uses.now.list j ≡ Some (Some l.term)
+      → slice_get l.standing.lits.now (j / 3) ≡ Some k
+      → IsFiled l.standing.sizes l.standing.lits.now l.partition.links l.signs.entries k;
 }
 
 abbrev pub decreases-loop-next : goal.decreases-loop-next

@@ -7,4 +7,6 @@ pub returns : goal.returns
 returns c =
     let i = c.self.inside in
     let t = c.args.term in
-    subst (λ (p : Merged). t.0 ≡ rep_of p t.0) c.self.view_is (sym (rep_past (length i.reps.items) i.links.items (length i.links.items) t.0 c.self.invariant.merges (omega arith) (omega arith)))
+    subst (λ (p : Merged). t.0 ≡ rep_of p t.0) c.self.view_is
+    (sym (rep_past (length i.reps.items) i.links.items (length i.links.items) t.0 c.self.invariant.merges (omega arith)
+    (omega arith)))

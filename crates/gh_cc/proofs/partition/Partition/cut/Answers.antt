@@ -11,6 +11,14 @@ invariant_of-self c =
     let within : c.args.depth < length s.links.items = omega arith in
     let row = c.index-row.result.now in
     let few = links_few _ _ p.merges in
-    let at : slice_get s.saved.items c.args.depth ≡ Some row = slice_get_read s.saved.items (length s.saved.items) c.args.depth row refl (omega (arith, p.rows)) c.index-row.ensures in
-    rw (c.truncate.ensures.items, c.truncate.ensures.capacity, c.copy_from_slice.ensures.items, c.as_slice.ensures.value, c.row.view_is)
+    let at : slice_get s.saved.items c.args.depth ≡ Some row =
+    slice_get_read s.saved.items (length s.saved.items) c.args.depth row refl
+    (omega (arith, p.rows)) c.index-row.ensures in
+    rw (
+      c.truncate.ensures.items,
+      c.truncate.ensures.capacity,
+      c.copy_from_slice.ensures.items,
+      c.as_slice.ensures.value,
+      c.row.view_is,
+    )
     (partition_cut s.links.items s.reps.items s.saved.items _ c.args.depth row p within at)

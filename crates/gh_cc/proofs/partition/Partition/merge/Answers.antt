@@ -17,7 +17,8 @@ copy_from_slice-requires c =
     let row = c.index_mut-row.result.now in
     let long : length row ≡ length c.self.inside.reps.items =
     subst (λ (r : List Term). length r ≡ length c.self.inside.reps.items) (sym c.index_mut-row.ensures.value)
-    (All-get_or (λ (r : List Term). length r ≡ length c.self.inside.reps.items) c.self.inside.saved.items c.len.result row (omega (arith, room_left _ _ _ p.merges from, p.rows)) p.long)
+    (All-get_or (λ (r : List Term). length r ≡ length c.self.inside.reps.items) c.self.inside.saved.items c.len.result
+    row (omega (arith, room_left _ _ _ p.merges from, p.rows)) p.long)
     in
     omega (arith, ap length c.row.view_is, long, ap length c.as_slice.ensures.value)
 
@@ -37,5 +38,13 @@ invariant_of-self c =
     let old = rep_read _ _ _ _ _ _ p from c.index-old.ensures in
     let new = rep_read _ _ _ _ _ _ p to c.index-new.ensures in
     let d : c.len.result ≡ length s.links.items = omega arith in
-    rw (c.push_reserved.ensures.items, c.push_reserved.ensures.capacity, c.relabel.ensures, c.copy_from_slice.ensures.items, c.as_slice.ensures.value, d)
-    (partition_merge s.links.items s.reps.items s.saved.items _ (record { from = c.args.from; to = c.args.to }) _ _ p from to apart old.0 new.0)
+    rw (
+      c.push_reserved.ensures.items,
+      c.push_reserved.ensures.capacity,
+      c.relabel.ensures,
+      c.copy_from_slice.ensures.items,
+      c.as_slice.ensures.value,
+      d,
+    )
+    (partition_merge s.links.items s.reps.items s.saved.items _ (record { from = c.args.from; to = c.args.to }) _ _ p
+    from to apart old.0 new.0)

@@ -6,4 +6,5 @@ returns c =
     let within = rw (← c.self.view_is) at c.requires.depth in
     let inside = rw (← c.self.view_is) at c.requires.term in
     rw (← c.self.view_is)
-    (row_read _ _ _ _ c.args.depth c.args.term.0 c.index-row.result.now _ c.index.result.now c.self.invariant within inside c.index-row.ensures c.row.view_is c.index.ensures)
+    (row_read _ _ _ _ c.args.depth c.args.term.0 c.index-row.result.now _ c.index.result.now c.self.invariant within
+    inside c.index-row.ensures c.row.view_is c.index.ensures)

@@ -16,4 +16,5 @@ invariant_of-self c =
     let within = rw (← c.self.view_is) at c.requires.number in
     let none = rw (← c.self.view_is) at c.requires.free in
     rw (c.push_reserved.ensures.items, c.push_reserved.ensures.capacity)
-    (signs_more s.table.items s.entries.items _ (record { number = c.args.number; lit = c.args.lit }) c.self.invariant within none)
+    (signs_more s.table.items s.entries.items _ (record { number = c.args.number; lit = c.args.lit }) c.self.invariant
+    within none)

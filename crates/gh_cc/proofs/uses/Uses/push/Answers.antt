@@ -23,7 +23,9 @@ overflow_add-index_mut c =
     let small = rw (← c.self.view_is) at c.requires.small in
     let k = c.index_mut-in-Some.result.now in
     let counts = c.self.invariant.1 in
-    let at : slice_get s.counts.items c.in-Some.named.0 ≡ Some k = slice_get_read s.counts.items (length s.counts.items) c.in-Some.named.0 k refl (omega (arith, counts.long, inside)) c.index_mut-in-Some.ensures.value in
+    let at : slice_get s.counts.items c.in-Some.named.0 ≡ Some k =
+    slice_get_read s.counts.items (length s.counts.items) c.in-Some.named.0 k refl
+    (omega (arith, counts.long, inside)) c.index_mut-in-Some.ensures.value in
     omega (arith, small, count_small s.mentions.items s.counts.items c.in-Some.named.0 _ k counts at)
 
 pub invariant_of-self-in-Some : goal.invariant_of-self-in-Some
@@ -35,8 +37,11 @@ invariant_of-self-in-Some c =
     let k = c.index_mut-in-Some.result.now in
     let counts = c.self.invariant.1 in
     let m : Mention = record { term = Some c.in-Some.named; before = n } in
-    let at : slice_get s.last.items c.in-Some.named.0 ≡ Some n = slice_get_read s.last.items (length s.last.items) c.in-Some.named.0 n refl inside c.index-before.ensures in
-    let count : slice_get s.counts.items c.in-Some.named.0 ≡ Some k = slice_get_read s.counts.items (length s.counts.items) c.in-Some.named.0 k refl (omega (arith, counts.long, inside)) c.index_mut-in-Some.ensures.value in
+    let at : slice_get s.last.items c.in-Some.named.0 ≡ Some n =
+    slice_get_read s.last.items (length s.last.items) c.in-Some.named.0 n refl inside c.index-before.ensures in
+    let count : slice_get s.counts.items c.in-Some.named.0 ≡ Some k =
+    slice_get_read s.counts.items (length s.counts.items) c.in-Some.named.0 k refl
+    (omega (arith, counts.long, inside)) c.index_mut-in-Some.ensures.value in
     let place : c.len-place.result ≡ length s.mentions.items = omega arith in
     let long = length-set s.last.items c.in-Some.named.0 (length s.mentions.items + 1) in
     rw (c.push_reserved-in-Some.ensures.items, place, long) (
