@@ -4,6 +4,7 @@ pub mod SearchLemmas
 pub mod ViolationLemmas
 pub mod WordLemmas
 pub mod OpenLemmas
+pub mod WalkLemmas
 pub mod ListedLemmas
 pub mod CollectingLemmas
 pub mod FirstLemmas

@@ -4,7 +4,9 @@ ghost use Rattle.std.specs.Prelude.{◌≡◌, ◌≢◌, ◌<◌, ◌≤◌, �
 ghost use Rattle.std.specs.Int.{bit_at};
 ghost use Rattle.gh_inst.specs.declared.schema.Shape.TheVariants.{Btwn as OnTerms, Hop as OnCell};
 ghost use Rattle.gh_inst.specs.Search.{IsAmong};
-ghost use Rattle.gh_inst.specs.Words.{bit_of, AreTruthsAt, AreWordsOf, IsHopWord, IsHopWordAt, IsLitOpenIn, IsOpenByWords, IsOpenIn, IsPairWord, IsPairWordAt, IsReachWord, IsReachWordAt, IsWorded, TellsFalse, TellsOpen};
+ghost use Rattle.gh_inst.specs.Words.{bit_of, atom_in, AreThere, AreTruthsAt, AreWordsOf, IsHopWordAt, IsLitOpenIn};
+ghost use Rattle.gh_inst.specs.Words.{IsOpenByWords, IsOpenIn, IsPairWordAt, IsReachWordAt, IsWordOf, IsWorded};
+ghost use Rattle.gh_inst.specs.Words.{TellsFalse, TellsOpen};
 
 use crate::schema::{Pattern, Shape};
 use gh_base::atom::{Atom, Term};
@@ -30,62 +32,46 @@ fn with_bit(word: u32, place: u8, truth: bool) -> u32
     word
 }
 
-// The word of two terms.
-fn word_of(structure: &Structure, version: u8, x: Term, y: Term) -> u32
+// What a word is of: its bits are the truths of atoms that have one more term.
+#[derive(Clone, Copy)]
+enum WordOf {
+    // Which terms are reached from one by way of another.
+    Pair { x: Term, y: Term },
+    // Which terms are reached from one.
+    Reach { x: Term },
+    // To which terms the cell of one leads.
+    Cell { x: Term },
+}
+
+impl WordOf {
+    // The atom of a bit.
+    fn atom(self, version: u8, z: Term) -> Atom
+        ensures { result ≡ atom_in version self z.0 }
+    {
+        match self {
+            WordOf::Pair { x, y } => Atom::Btwn { version, x, y, z },
+            WordOf::Reach { x } => Atom::Btwn {
+                version,
+                x,
+                y: z,
+                z,
+            },
+            WordOf::Cell { x } => Atom::Hop { version, x, v: z },
+        }
+    }
+}
+
+// The word of one term or two.
+fn word_of(structure: &Structure, version: u8, of: WordOf) -> u32
     requires version { version < structure.now.sizes.versions }
     requires few { structure.now.sizes.terms ≤ 32 }
-    requires x { x.0 < structure.now.sizes.terms }
-    requires y { y.0 < structure.now.sizes.terms }
-    ensures { IsPairWord structure.now version x.0 y.0 result }
+    requires there { AreThere structure.now.sizes.terms of }
+    ensures { IsWordOf structure.now version of result }
 {
     let mut word = 0;
     for z in 0..structure.terms() {
-        let truth = structure.holds(Atom::Btwn {
-            version,
-            x,
-            y,
-            z: Term(z),
-        });
+        let truth = structure.holds(of.atom(version, Term(z)));
         word = with_bit(word, z, truth);
-    }
-    word
-}
-
-// The word of one term: to which others it leads.
-fn reach_of(structure: &Structure, version: u8, x: Term) -> u32
-    requires version { version < structure.now.sizes.versions }
-    requires few { structure.now.sizes.terms ≤ 32 }
-    requires x { x.0 < structure.now.sizes.terms }
-    ensures { IsReachWord structure.now version x.0 result }
-{
-    let mut word = 0;
-    for y in 0..structure.terms() {
-        let truth = structure.holds(Atom::Btwn {
-            version,
-            x,
-            y: Term(y),
-            z: Term(y),
-        });
-        word = with_bit(word, y, truth);
-    }
-    word
-}
-
-// The word of one term: to which others its cell leads.
-fn hops_of(structure: &Structure, version: u8, x: Term) -> u32
-    requires version { version < structure.now.sizes.versions }
-    requires few { structure.now.sizes.terms ≤ 32 }
-    requires x { x.0 < structure.now.sizes.terms }
-    ensures { IsHopWord structure.now version x.0 result }
-{
-    let mut word = 0;
-    for y in 0..structure.terms() {
-        let truth = structure.holds(Atom::Hop {
-            version,
-            x,
-            v: Term(y),
-        });
-        word = with_bit(word, y, truth);
     }
     word
 }
@@ -105,15 +91,19 @@ fn word_at(structure: &Structure, version: u8, place: usize) -> u32
         return 0;
     }
     if place >= 1056 {
-        return hops_of(structure, version, Term(y));
+        return word_of(structure, version, WordOf::Cell { x: Term(y) });
     }
     if place >= 1024 {
-        return reach_of(structure, version, Term(y));
+        return word_of(structure, version, WordOf::Reach { x: Term(y) });
     }
     if x >= structure.terms() {
         return 0;
     }
-    word_of(structure, version, Term(x), Term(y))
+    let pair = WordOf::Pair {
+        x: Term(x),
+        y: Term(y),
+    };
+    word_of(structure, version, pair)
 }
 
 /// The words of all pairs of terms, then those of each term.

@@ -1,17 +1,13 @@
-use Rattle.std.proofs.Common.{◌≡◌, ◌-◌, ◌+◌, ◌++◌, ◌∷◌, [], None, take, length}
-use Rattle.std.specs.List.{flat_map}
+use Rattle.std.proofs.Common.{◌-◌, ◌+◌}
 use Rattle.gh_base.specs.Structures.{interpretation_of}
-use Rattle.gh_inst.specs.Tuples.{terms_below}
-use Rattle.gh_inst.specs.Search.{IsSearched, IsRowTrue, tuples_with}
+use Rattle.gh_inst.specs.Search.{IsRowTrue}
+use Rattle.gh_inst.proofs.WalkLemmas.{IsWalked}
 use Rattle.gh_inst.proofs.search.+first_from.Given as goal
 
 abbrev pub decreases-first_from : goal.decreases-first_from
 decreases-first_from l = l.variables - l.first
 
 abbrev pub invariant-loop-term : goal.invariant-loop-term
-invariant-loop-term l = record {
-  long : length l.tuple ≡ 4;
-  begins : take l.first l.tuple ≡ take l.first l.fn.start;
-  searched : IsSearched (IsRowTrue (interpretation_of l.structure) l.version l.lits)
-      (flat_map (λ t. tuples_with (l.variables - (l.first + 1)) l.structure.sizes.terms (take l.first l.fn.start ++ t ∷ [])) (take l.term (terms_below l.structure.sizes.terms))) None;
-}
+invariant-loop-term l =
+    IsWalked (IsRowTrue (interpretation_of l.structure) l.version l.lits) (l.variables - (l.first + 1))
+    l.structure.sizes.terms l.first l.term l.tuple l.fn.start
