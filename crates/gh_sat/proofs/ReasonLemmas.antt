@@ -11,11 +11,11 @@ use Rattle.gh_base.specs.Atoms.{opposite}
 use Rattle.gh_base.specs.Hints.{HasAllButOne, IsRefutedByHints, refuted, joined}
 use Rattle.gh_sat.specs.declared.trail.Step.{Step}
 use Rattle.gh_sat.specs.Trail.{Line, SearchState, Stands, IsReason, IsCaused, IsFalseIn, AreSteps, IsSound}
-use Rattle.gh_sat.specs.Learn.{Marking, IsMarked, HasMark, AllMarked, ResolvedFrom, IsLeft, AreReasons, AllHaveReasons, reasons_of}
+use Rattle.gh_sat.specs.Learn.{Marking, IsMarked, HasMark, AllMarked, AreMarks, ResolvedFrom, IsLeft, AreReasons, AllHaveReasons, reasons_of}
 use Rattle.gh_base.proofs.ListLemmas.{get_within, get_some}
-use Rattle.gh_sat.proofs.ListLemmas.{drop_past}
+use Rattle.gh_sat.proofs.ListLemmas.{drop_past, lt_le}
 use Rattle.gh_sat.proofs.TrailLemmas.{opposite_twice, stands_below}
-use Rattle.gh_sat.proofs.ResolveLemmas.{mark_at}
+use Rattle.gh_sat.proofs.ResolveLemmas.{IsRead, mark_at}
 use Rattle.gh_sat.proofs.LearnLemmas.{reason_or_start, in_map, only_place}
 
 pub drop_get : {X : Type 0} (xs : List X) (i : ℕ) (x : X) → slice_get xs i ≡ Some x → drop i xs ≡ x ∷ drop (i + 1) xs
@@ -58,6 +58,18 @@ reason_read clauses trail steps place x d o h at same read =
     let r = h place x at in
     let e : x.reason ≡ o = ap (λ (y : Step). y.reason) (sym (get_or_from_slice_get trail place x d at)) ∙ ap (λ (t : List Step). (get_or t place d).reason) (sym same) ∙ read in
     (r.0, sym e ∙ r.1, r.1, r.2)
+
+-- .. where it reads one
+pub reason_held : (clauses : List (List Lit)) (trail steps : List Step) (m : Marking) (place : ℕ) (d : Step) (k : ℕ)
+    → AllHaveReasons clauses trail → AreMarks trail m → place < m.end → steps ≡ trail
+    → (get_or steps place d).reason ≡ Some k → IsRead clauses trail place k
+reason_held clauses trail steps m place d k h marks lt same_steps read =
+    let at = get_some trail place (lt_le lt marks.end) in
+    let r = reason_read clauses trail steps place at.0 d (Some k) h at.1 same_steps read in
+    let same : r.0 ≡ k = let e = r.1 in cc in
+    let within = get_within clauses r.0 r.3.clause r.3.at in
+    subst (IsRead clauses trail place) same
+    (record { step = at.0; at = at.1; within = within; why = r.2; reason = r.3 })
 
 reasons_nothing : (round : ℕ) (ss : List ℕ) → reasons_of round ss [] ≡ []
 reasons_nothing round [] = refl

@@ -2,18 +2,34 @@
 use Rattle.std.proofs.Common.{◌≡◌, ◌⊎◌, ℕ, suc, ◌+◌, ◌-◌, ◌<◌, ◌≤◌, List, [], length, take, drop, get_or, Option, Some, inl, inr, refl, sym, ap, ◌∙◌, subst, arith, All, length-take-le}
 use Rattle.std.specs.Prelude.{slice_get}
 use Rattle.std.proofs.lemmas.Bool.{cases_eq, cases_lt}
-use Rattle.std.proofs.lemmas.Option.{get_or_from_slice_get}
+use Rattle.std.proofs.lemmas.Option.{get_or_from_slice_get, slice_get_read}
 use Rattle.std.proofs.lemmas.List.{drop_all}
 use Rattle.std.proofs.lemmas.List.Elements.{All-contains}
 use Rattle.gh_base.specs.declared.atom.Lit.{Lit}
 use Rattle.gh_base.specs.Atoms.{opposite}
 use Rattle.gh_sat.specs.declared.trail.Step.{Step}
-use Rattle.gh_sat.specs.Trail.{Line, Stands, IsReason, AreSteps}
-use Rattle.gh_sat.specs.Learn.{Reached, Marking, IsMarked, HasMark, AllMarked, marked, marked_before, AreMarks, MarksMore, ResolvedFrom, AreReached, HaveReasons, IsAlone, IsLeft}
+use Rattle.gh_sat.specs.Trail.{Line, Stands, IsFalseIn, IsReason, AreSteps}
+use Rattle.gh_sat.specs.Learn.{Reached, Marking, IsMarked, HasMark, AllMarked, marked, marked_before, AreMarks}
+use Rattle.gh_sat.specs.Learn.{IsMarkedOrFalse, MarksMore, ResolvedFrom, AreReached, HaveReasons, IsAlone, IsLeft}
 use Rattle.gh_sat.specs.Learn.Reached.{by_conflict, by_reason}
 use Rattle.gh_base.proofs.ListLemmas.{get_within, get_some}
 use Rattle.gh_sat.proofs.ListLemmas.{lt_le}
 use Rattle.gh_sat.proofs.MarkLemmas.{all_marked_more, marks_down, some_marked}
+
+-- the literals of a false clause are false before the end
+pub false_before : (trail : List Step) (m : Marking) (clause : List Lit)
+    → IsFalseIn trail clause → m.end ≡ length trail → All (IsMarkedOrFalse trail m) clause
+false_before trail m clause f e = λ k d lt. let s = f k d lt in inr (s.0, s.1, omega (arith, s.2, e), s.3, s.4)
+
+-- there is nothing to resolve from the end of the trail on
+pub resolved_none : (clauses : List (List Lit)) (trail : List Step) (m : Marking)
+    → m.end ≡ length trail → ResolvedFrom clauses trail m m.end
+resolved_none clauses trail m e j x le at mark = absurd (let w = get_within trail j x at in omega arith)
+
+-- what the code reads as the literals of a clause
+pub clause_read : (clauses : List (List Lit)) (k : ℕ) (c l : List Lit)
+    → c ≡ get_or clauses k c → l ≡ c → k < length clauses → slice_get clauses k ≡ Some l
+clause_read clauses k c l e f h = slice_get_read clauses (length clauses) k c (λ _. length clauses) h e ∙ ap Some (sym f)
 
 -- resolving more steps reaches no less
 pub reached_more : (clauses : List (List Lit)) (trail : List Step) (conflict : List Lit) (from low j : ℕ) → low ≤ from → Reached clauses trail conflict from j → Reached clauses trail conflict low j
@@ -135,12 +151,30 @@ reason_of clauses trail steps first m place d k h e marks le lt w n same_steps r
     subst (IsRead clauses trail place) same r.2
 
 -- the reason's literals are marked or false before
-pub reason_stands : (clauses : List (List Lit)) (trail : List Step) (m : Marking) (p k : ℕ) (x : Step) (c : List Lit) → slice_get trail p ≡ Some x → IsMarked m p → IsReason clauses trail p x.lit k → slice_get clauses k ≡ Some c
+pub reason_stands : (clauses : List (List Lit)) (trail : List Step) (m : Marking) (p k : ℕ) (c : List Lit)
+    → IsRead clauses trail p k → IsMarked m p → slice_get clauses k ≡ Some c
     → All (λ l. HasMark trail m l ⊎ Stands trail p (opposite l)) c
-reason_stands clauses trail m p k x c here mark r at =
-    let same : r.clause ≡ c = let t = r.at in cc in
-    let others = subst (λ d. All (λ l. (l ≡ x.lit) ⊎ Stands trail p (opposite l)) d) same r.others in
-    λ i d lt. elim (others i d lt) [ inl e ↦ inl (p, x, here, ap (λ (l : Lit). l.atom) (sym e), mark) | inr s ↦ inr s ]
+reason_stands clauses trail m p k c read mark at =
+    let x = read.step in
+    let same : read.reason.clause ≡ c = let t = read.reason.at in cc in
+    let others = subst (λ d. All (λ l. (l ≡ x.lit) ⊎ Stands trail p (opposite l)) d) same read.reason.others in
+    λ i d lt. elim (others i d lt) [
+      | inl e ↦ inl (p, x, read.at, ap (λ (l : Lit). l.atom) (sym e), mark)
+      | inr s ↦ inr s
+    ]
+
+-- after the last marked step was resolved all is marked and resolved as before
+pub resolved_turn : (clauses : List (List Lit)) (trail : List Step) (conflict : List Lit) (m n : Marking) (p w k : ℕ)
+    (c : List Lit) → IsRead clauses trail p k → slice_get clauses k ≡ Some c
+    → AllMarked trail m conflict → ResolvedFrom clauses trail m m.end
+    → ((j : ℕ) → p < j → j < m.end → IsMarked m j → ⊥)
+    → MarksMore trail c (record m { end = p; waiting = w }) n → AllMarked trail n c
+    → AllMarked trail n conflict × ResolvedFrom clauses trail n n.end
+resolved_turn clauses trail conflict m n p w k c read has all r between more every = (
+  all_marked_more trail (record m { end = p; waiting = w }) n conflict more.keeps all,
+  subst (ResolvedFrom clauses trail n) (sym more.end)
+      (resolved_next clauses trail m n p w read.step k c r between more read.at read.why has every),
+)
 
 pub reached_within : (clauses : List (List Lit)) (trail : List Step) (conflict : List Lit) (from j : ℕ) → Reached clauses trail conflict from j → j < length trail
 reached_within clauses trail conflict from j (by_conflict _ x at there) = get_within trail j x at

@@ -10,7 +10,7 @@ use Rattle.gh_base.proofs.NumberLemmas.{apart}
 use Rattle.gh_sat.proofs.TrailLemmas.{same_lit}
 use Rattle.gh_base.specs.Atoms.{opposite, IsInRange, AreInRange}
 use Rattle.gh_sat.specs.declared.rows.Numbered.{Numbered}
-use Rattle.gh_sat.specs.Rows.{numbered, row_of}
+use Rattle.gh_sat.specs.Rows.{numbered, row_of, EachNumbered}
 use Rattle.gh_sat.specs.declared.trail.Step.{Step}
 use Rattle.gh_sat.specs.Trail.{Line, IsTrueIn, IsFree, IsValue, AreSteps, AreValues}
 use Rattle.gh_sat.specs.Status.{IsBad}
@@ -92,6 +92,17 @@ row_is s c row i d e h = ap (λ (r : List Numbered). get_or r i d) e ∙ row_at 
 
 pub row_range : (s : Sizes) (c : List Lit) (row : List Numbered) (i : ℕ) → AreInRange s c → row ≡ row_of s c → i < length row → IsInRange s (get_or c i nothing).atom
 row_range s c row i range e h = All-contains (λ (l : Lit). IsInRange s l.atom) c (get_or c i nothing) range (in_at c i nothing (row_within s c row i e h))
+
+-- so there is a literal of that number
+pub row_has : (s : Sizes) (c : List Lit) (row : List Numbered) (i : ℕ) (d : Numbered)
+    → AreInRange s c → row ≡ row_of s c → i < length row
+    → (l : Lit) × IsInRange s l.atom × (get_or row i d ≡ numbered s l)
+row_has s c row i d range e h = (get_or c i nothing, row_range s c row i range e h, row_is s c row i d e h)
+
+-- what holds of each literal of that number holds of the one at the place
+pub row_each : (s : Sizes) (c : List Lit) (row : List Numbered) (i : ℕ) (d : Numbered) (P : Lit → Type 0)
+    → AreInRange s c → row ≡ row_of s c → i < length row → EachNumbered s (get_or row i d) P → P (get_or c i nothing)
+row_each s c row i d P range e h each = each (get_or c i nothing) (row_range s c row i range e h) (row_is s c row i d e h)
 
 -- two literals of a clause that have one number and sign are one
 pub row_one : (s : Sizes) (c : List Lit) (row : List Numbered) (i j : ℕ) (d e : Numbered) → AreInRange s c → row ≡ row_of s c → i < length row → j < length row

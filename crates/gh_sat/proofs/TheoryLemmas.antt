@@ -169,6 +169,15 @@ conflict_added s c h f was = record { clause = c; at = get_last s.clauses c; is_
 abbrev pub Beside : (Sizes → List Lit → Type 0) → List Lit → Sizes → SearchState → Type 0
 Beside V asserted z s = IsTold asserted s.trail × (z ≡ s.sizes) × WereConsistent (V s.sizes) s.trail s.starts
 
+-- a level is opened where the theory has no conflict
+pub beside_open : (V : Sizes → List Lit → Type 0) (a : List Lit) (z : Sizes) (s new : SearchState) (lit : Lit)
+    → Beside V a z s → HasNoConflict (V s.sizes) s.trail → new ≡ open_level s lit → IsSound new → Beside V a z new
+beside_open V a z s new lit b calm opens h =
+    let y : Step = record { lit = lit; level = length s.starts + 1; reason = None } in
+    let sound : IsSound (open_level s lit) = subst IsSound opens h in
+    subst (Beside V a z) (sym opens)
+    (told_grow a s.trail (y ∷ []) b.0, b.1, consistent_open (V s.sizes) s lit sound calm b.2)
+
 -- after a cut, where the theory knows no more than what is left
 pub beside_cut : (V : Sizes → List Lit → Type 0) (a : List Lit) (z : Sizes) (s new : SearchState) (level : ℕ) (cs : List (List Lit)) → Beside V a z s → new ≡ record (cut s level) { clauses = cs } → IsSound new → length a ≤ length new.trail → Beside V a z new
 beside_cut V a z s new level cs b is h le =

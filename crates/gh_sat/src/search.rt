@@ -1,8 +1,8 @@
 //! A search over clauses beside a theory.
 
 ghost use Rattle.std.specs.Prelude.{◌≡◌, ◌≤◌, ◌<◌, [], length, IfOk, OnOk, OnErr, IfSome, IfNone, option_copied, slice_get};
-ghost use Rattle.gh_base.specs.Atoms.{AreInRange};
-ghost use Rattle.gh_sat.specs.Trail.{SearchState, IsAssignmentOf, IsSound, cut, AllHaveTruth, OpensLevel, search_over};
+ghost use Rattle.gh_base.specs.Atoms.{IsInRange, AreInRange};
+ghost use Rattle.gh_sat.specs.Trail.{SearchState, IsAssignmentOf, IsSound, IsFree, cut, AllHaveTruth, OpensLevel, search_over};
 ghost use Rattle.gh_sat.specs.Status.{IsSettled, AreAssigned};
 ghost use Rattle.gh_sat.specs.Learn.{IsConflict, IsLearnt, AreReasons, add_clause};
 ghost use Rattle.gh_sat.specs.Whole.{GivesLast, Adds};
@@ -161,7 +161,25 @@ impl<T: Theory> Search<T> {
         }
     }
 
-    /// Opens a level with the atom of the learner's `next_free`, if there is one. The theory says which truth is tried first.
+    // Opens a level with an atom that has no truth. The theory says which truth is tried first.
+    fn open(&mut self, atom: Atom) -> Lit
+        requires settled { IsSettled self.old }
+        requires consistent { HasNoConflict (T.valid self.old.sizes) self.old.trail }
+        requires range { IsInRange self.old.sizes atom }
+        requires free { IsFree self.old.trail atom }
+        ensures atom { result.atom ≡ atom }
+        ensures opens { OpensLevel self.old result self.new }
+    {
+        let lit = Lit {
+            atom,
+            positive: self.theory.prefers(atom),
+        };
+        self.learner.assume(lit);
+        lit
+    }
+
+    /// Opens a level with the atom of the learner's `next_free`, if there is one. The theory says which truth is tried
+    /// first.
     pub fn decide(&mut self) -> Option<Lit>
         requires settled { IsSettled self.old }
         requires consistent { HasNoConflict (T.valid self.old.sizes) self.old.trail }
@@ -169,15 +187,11 @@ impl<T: Theory> Search<T> {
         ensures some { IfSome result (λ lit. OpensLevel self.old lit self.new) }
     {
         let atom = self.learner.next_free()?;
-        let lit = Lit {
-            atom,
-            positive: self.theory.prefers(atom),
-        };
-        self.learner.assume(lit);
-        Some(lit)
+        Some(self.open(atom))
     }
 
-    /// Opens a level with an atom of a clause that has no truth, if there is one. The theory says which truth is tried first.
+    /// Opens a level with an atom of a clause that has no truth, if there is one. The theory says which truth is tried
+    /// first.
     pub fn decide_needed(&mut self) -> Option<Lit>
         requires settled { IsSettled self.old }
         requires consistent { HasNoConflict (T.valid self.old.sizes) self.old.trail }
@@ -185,12 +199,7 @@ impl<T: Theory> Search<T> {
         ensures some { IfSome result (λ lit. OpensLevel self.old lit self.new) }
     {
         let atom = self.learner.next_needed()?;
-        let lit = Lit {
-            atom,
-            positive: self.theory.prefers(atom),
-        };
-        self.learner.assume(lit);
-        Some(lit)
+        Some(self.open(atom))
     }
 
     /// Adds the clause of the first unique implication point of a false clause, as [`Search::add`] does.

@@ -15,6 +15,7 @@ use Rattle.gh_sat.proofs.StatusLemmas.{nothing}
 use Rattle.gh_sat.proofs.LearnLemmas.{have_reasons, learnt, was_open, false_in_range}
 use Rattle.gh_sat.proofs.ReasonLemmas.{learnt_shows}
 use Rattle.gh_sat.proofs.learner.Learner.learn.Goals as goal
+use Rattle.gh_sat.proofs.learner.Learner.learn.Goals.{After-lits, In_ok-place, In_ok-clause, In_ok-added}
 
 -- what is known once the present level's start and the clause are read
 record Begun (s : SearchState) (k start : ℕ) (lits : List Lit) : Type 0 where
@@ -43,11 +44,18 @@ begun s now k len start c lits h is conflict some count at read same =
       same = let t = conflict'.at in cc;
     }
 
+known : (c : After-lits)
+    → Begun (the_view c.self.inside) c.args.conflict c.index.result.now c.lits.result.now
+known c =
+    begun (the_view c.self.inside) c.args.self.now c.args.conflict c.len.result c.index.result.now c.index-2.result.now
+    c.lits.result.now c.self.invariant.0.sound c.self.view_is c.requires.conflict c.requires.level (omega arith)
+    c.index.ensures c.index-2.ensures c.lits.ensures
+
 pub resolve-requires-clause-marks : goal.resolve-requires-clause-marks
 resolve-requires-clause-marks c =
     let s = the_view c.self.inside in
     let i = c.self.invariant in
-    let b = begun s c.args.self.now c.args.conflict c.len.result c.index.result.now c.index-2.result.now c.lits.result.now i.0.sound c.self.view_is c.requires.conflict c.requires.level (omega arith) c.index.ensures c.index-2.ensures c.lits.ensures in
+    let b = known c in
     let steps : length s.trail ≡ length c.steps.result.now = ap length (sym c.steps.ensures.steps) in
     c.begin.ensures.none s.trail (le_along refl steps b.within) (le_along refl refl (omega arith)) (le_along refl (sym i.4) i.0.sound.steps.few)
 
@@ -55,14 +63,14 @@ pub resolve-requires-clause-conflict_range : goal.resolve-requires-clause-confli
 resolve-requires-clause-conflict_range c =
     let s = the_view c.self.inside in
     let i = c.self.invariant in
-    let b = begun s c.args.self.now c.args.conflict c.len.result c.index.result.now c.index-2.result.now c.lits.result.now i.0.sound c.self.view_is c.requires.conflict c.requires.level (omega arith) c.index.ensures c.index-2.ensures c.lits.ensures in
+    let b = known c in
     subst (AreInRange s.sizes) b.same (false_in_range s b.conflict.clause i.0.sound b.conflict.is_false)
 
 pub resolve-requires-clause-reasons : goal.resolve-requires-clause-reasons
 resolve-requires-clause-reasons c =
     let s = the_view c.self.inside in
     let i = c.self.invariant in
-    let b = begun s c.args.self.now c.args.conflict c.len.result c.index.result.now c.index-2.result.now c.lits.result.now i.0.sound c.self.view_is c.requires.conflict c.requires.level (omega arith) c.index.ensures c.index-2.ensures c.lits.ensures in
+    let b = known c in
     subst (λ (cs : List (List Lit)). HaveReasons cs s.trail c.begin.new.marks.start) (sym c.as_slice.ensures.value)
     (subst (λ (n : ℕ). HaveReasons s.clauses s.trail n) (sym c.begin.ensures.start) (have_reasons s b.last c.index.result.now i.0.sound b.here b.long))
 
@@ -70,14 +78,14 @@ pub resolve-requires-clause-all_false : goal.resolve-requires-clause-all_false
 resolve-requires-clause-all_false c =
     let s = the_view c.self.inside in
     let i = c.self.invariant in
-    let b = begun s c.args.self.now c.args.conflict c.len.result c.index.result.now c.index-2.result.now c.lits.result.now i.0.sound c.self.view_is c.requires.conflict c.requires.level (omega arith) c.index.ensures c.index-2.ensures c.lits.ensures in
+    let b = known c in
     subst (IsFalseIn s.trail) b.same b.conflict.is_false
 
 pub resolve-requires-clause-present : goal.resolve-requires-clause-present
 resolve-requires-clause-present c =
     let s = the_view c.self.inside in
     let i = c.self.invariant in
-    let b = begun s c.args.self.now c.args.conflict c.len.result c.index.result.now c.index-2.result.now c.lits.result.now i.0.sound c.self.view_is c.requires.conflict c.requires.level (omega arith) c.index.ensures c.index-2.ensures c.lits.ensures in
+    let b = known c in
     let p = b.conflict.present (let l = b.long in omega arith) in
     let low = (i.0.sound.split p.2 p.3 b.last c.index.result.now p.4 b.here).1 in
     let high : c.index.result.now ≤ p.2 = elim (cases_lt p.2 c.index.result.now) [ inl lt ↦ absurd (let e = low lt in omega (arith, p.6, b.long)) | inr ge ↦ ge ] in
@@ -112,53 +120,73 @@ made_reasons s m k start place lits steps u clause reasons h b at p same is e al
     (subst (AreReasons s.clauses (reasons_of m.round (drop (place + 1) m.stamps) (drop (place + 1) s.trail) ++ k ∷ [])) whole
     (learnt_shows s lits m place b.last k h here b.long p (b.conflict.at ∙ ap Some b.same) (subst (IsFalseIn s.trail) b.same b.conflict.is_false)))
 
+-- the step at the place is the one marked step that is left
+remains : (c : In_ok-place) → IsLeft (the_view c.self.inside).clauses (the_view c.self.inside).trail c.lits.result.now
+    (marks_of c.resolve.new.marks) c.in_ok-place.place
+remains c =
+    left (the_view c.self.inside) c.as_slice.result.now c.lits.result.now (marks_of c.resolve.new.marks)
+    c.in_ok-place.place c.as_slice.ensures.value c.in_ok-place.ensures.point
+
+-- the clause is learnt
+lesson : (c : In_ok-clause) → Begun (the_view c.self.inside) c.args.conflict c.index.result.now c.lits.result.now
+    → IsLeft (the_view c.self.inside).clauses (the_view c.self.inside).trail c.lits.result.now
+    (marks_of c.resolve.new.marks) c.in_ok-place.place
+    → IsLearnt (the_view c.self.inside) c.args.conflict c.in_ok-clause.clause (marks_of c.resolve.new.marks).level
+    c.negated-unit.result
+lesson c b p =
+    made (the_view c.self.inside) (marks_of c.resolve.new.marks) c.args.conflict c.index.result.now c.in_ok-place.place
+    c.lits.result.now c.steps-2.result.now c.negated-unit.result c.in_ok-clause.clause c.self.invariant.0.sound b
+    (c.in_ok-place.ensures.start ∙ c.begin.ensures.start) p c.steps-2.ensures.steps c.negated-unit.ensures
+    (c.in_ok-clause.ensures ∙ c.as_slice-2.ensures.value ∙ c.in_ok-push.ensures.items)
+
 pub bounds-steps-place : goal.bounds-steps-place
 bounds-steps-place c =
-    let p = left (the_view c.self.inside) c.as_slice.result.now c.lits.result.now (marks_of c.resolve.new.marks) c.in_ok-place.place c.as_slice.ensures.value c.in_ok-place.ensures.point in
-    let w : c.in_ok-place.place < length c.self.inside.trail.steps = get_within c.self.inside.trail.steps c.in_ok-place.place p.step p.at in
+    let trail = c.self.inside.trail.steps in
+    let p = remains (goal.at.bounds-steps-place c).In_ok-place in
+    let w : c.in_ok-place.place < length trail = get_within trail c.in_ok-place.place p.step p.at in
     subst (λ (t : List Step). c.in_ok-place.place < length t) (sym c.steps-2.ensures.steps) w
+
+-- so is its copy
+copied : (c : In_ok-added) → IsLearnt (the_view c.self.inside) c.args.conflict c.in_ok-clause.clause
+    (marks_of c.resolve.new.marks).level c.negated-unit.result
+    → IsLearnt (the_view c.self.inside) c.args.conflict c.in_ok-added.added
+    (marks_of c.resolve.new.marks).level c.negated-unit.result
+copied c r =
+    let s = the_view c.self.inside in
+    let level = (marks_of c.resolve.new.marks).level in
+    subst (λ (x : List Lit). IsLearnt s c.args.conflict x level c.negated-unit.result) (sym c.in_ok-added.ensures) r
 
 pub insert-requires-clause-range : goal.insert-requires-clause-range
 insert-requires-clause-range c =
-    let s = the_view c.self.inside in
-    let i = c.self.invariant in
-    let b = begun s c.args.self.now c.args.conflict c.len.result c.index.result.now c.index-2.result.now c.lits.result.now i.0.sound c.self.view_is c.requires.conflict c.requires.level (omega arith) c.index.ensures c.index-2.ensures c.lits.ensures in
-    let m = marks_of c.resolve.new.marks in
-    let p = left s c.as_slice.result.now c.lits.result.now m c.in_ok-place.place c.as_slice.ensures.value c.in_ok-place.ensures.point in
-    let r = made s m c.args.conflict c.index.result.now c.in_ok-place.place c.lits.result.now c.steps-2.result.now c.negated-unit.result c.in_ok-added.added i.0.sound b (c.in_ok-place.ensures.start ∙ c.begin.ensures.start) p c.steps-2.ensures.steps c.negated-unit.ensures
-    (c.in_ok-added.ensures ∙ c.in_ok-clause.ensures ∙ c.as_slice-2.ensures.value ∙ c.in_ok-push.ensures.items) in
-    subst (λ (t : Line). AreInRange t.sizes c.in_ok-added.added) (sym c.bump_marked.ensures.same) (false_in_range s c.in_ok-added.added i.0.sound r.is_false)
+    let d = goal.at.insert-requires-clause-range c in
+    let r = copied d.In_ok-added (lesson d.In_ok-clause (known d.After-lits) (remains d.In_ok-place)) in
+    subst (λ (t : Line). AreInRange t.sizes c.in_ok-added.added) (sym c.bump_marked.ensures.same)
+    (false_in_range (the_view c.self.inside) c.in_ok-added.added c.self.invariant.0.sound r.is_false)
 
 pub insert-requires-clause-was_open : goal.insert-requires-clause-was_open
 insert-requires-clause-was_open c =
-    let s = the_view c.self.inside in
-    let i = c.self.invariant in
-    let b = begun s c.args.self.now c.args.conflict c.len.result c.index.result.now c.index-2.result.now c.lits.result.now i.0.sound c.self.view_is c.requires.conflict c.requires.level (omega arith) c.index.ensures c.index-2.ensures c.lits.ensures in
-    let m = marks_of c.resolve.new.marks in
-    let p = left s c.as_slice.result.now c.lits.result.now m c.in_ok-place.place c.as_slice.ensures.value c.in_ok-place.ensures.point in
-    let r = made s m c.args.conflict c.index.result.now c.in_ok-place.place c.lits.result.now c.steps-2.result.now c.negated-unit.result c.in_ok-added.added i.0.sound b (c.in_ok-place.ensures.start ∙ c.begin.ensures.start) p c.steps-2.ensures.steps c.negated-unit.ensures
-    (c.in_ok-added.ensures ∙ c.in_ok-clause.ensures ∙ c.as_slice-2.ensures.value ∙ c.in_ok-push.ensures.items) in
+    let d = goal.at.insert-requires-clause-was_open c in
+    let r = copied d.In_ok-added (lesson d.In_ok-clause (known d.After-lits) (remains d.In_ok-place)) in
     let x = r.present in
-    subst (λ (t : Line). WasOpen t.steps s.starts c.in_ok-added.added) (sym c.bump_marked.ensures.same) (was_open s c.in_ok-added.added c.negated-unit.result r.place x.0 i.0.sound r.there x.1 x.2 x.3)
+    subst (λ (t : Line). WasOpen t.steps (the_view c.self.inside).starts c.in_ok-added.added)
+    (sym c.bump_marked.ensures.same)
+    (was_open (the_view c.self.inside) c.in_ok-added.added c.negated-unit.result r.place x.0 c.self.invariant.0.sound
+    r.there x.1 x.2 x.3)
 
 pub returns-clause-learnt : goal.returns-clause-learnt
 returns-clause-learnt c =
-    let s = the_view c.self.inside in
-    let i = c.self.invariant in
-    let b = begun s c.args.self.now c.args.conflict c.len.result c.index.result.now c.index-2.result.now c.lits.result.now i.0.sound c.self.view_is c.requires.conflict c.requires.level (omega arith) c.index.ensures c.index-2.ensures c.lits.ensures in
-    let m = marks_of c.resolve.new.marks in
-    let p = left s c.as_slice.result.now c.lits.result.now m c.in_ok-place.place c.as_slice.ensures.value c.in_ok-place.ensures.point in
-    let r = made s m c.args.conflict c.index.result.now c.in_ok-place.place c.lits.result.now c.steps-2.result.now c.negated-unit.result c.in_ok-clause.clause i.0.sound b (c.in_ok-place.ensures.start ∙ c.begin.ensures.start) p c.steps-2.ensures.steps c.negated-unit.ensures
-    (c.in_ok-clause.ensures ∙ c.as_slice-2.ensures.value ∙ c.in_ok-push.ensures.items) in
-    subst (λ (t : SearchState). IsLearnt t c.args.conflict c.in_ok-clause.clause m.level c.negated-unit.result) c.self.view_is r
+    let d = goal.at.returns-clause-learnt c in
+    let level = (marks_of c.resolve.new.marks).level in
+    subst (λ (t : SearchState). IsLearnt t c.args.conflict c.in_ok-clause.clause level c.negated-unit.result)
+    c.self.view_is (lesson d.In_ok-clause (known d.After-lits) (remains d.In_ok-place))
 
 pub returns-clause-reasons : goal.returns-clause-reasons
 returns-clause-reasons c =
-    let s = the_view c.self.inside in
-    let i = c.self.invariant in
-    let b = begun s c.args.self.now c.args.conflict c.len.result c.index.result.now c.index-2.result.now c.lits.result.now i.0.sound c.self.view_is c.requires.conflict c.requires.level (omega arith) c.index.ensures c.index-2.ensures c.lits.ensures in
-    let m = marks_of c.resolve.new.marks in
-    let p = left s c.as_slice.result.now c.lits.result.now m c.in_ok-place.place c.as_slice.ensures.value c.in_ok-place.ensures.point in
-    let r = made_reasons s m c.args.conflict c.index.result.now c.in_ok-place.place c.lits.result.now c.steps-2.result.now c.negated-unit.result c.in_ok-clause.clause c.in_ok-reasons.reasons.items i.0.sound b
-    (c.in_ok-place.ensures.start ∙ c.begin.ensures.start) p c.steps-2.ensures.steps c.negated-unit.ensures (c.in_ok-clause.ensures ∙ c.as_slice-2.ensures.value ∙ c.in_ok-push.ensures.items) c.in_ok-reasons.ensures in
-    subst (λ (t : SearchState). AreReasons t.clauses c.in_ok-reasons.reasons.items c.in_ok-clause.clause) c.self.view_is r
+    let d = goal.at.returns-clause-reasons c in
+    let reasons = c.in_ok-reasons.reasons.items in
+    let r = made_reasons (the_view c.self.inside) (marks_of c.resolve.new.marks) c.args.conflict c.index.result.now
+    c.in_ok-place.place c.lits.result.now c.steps-2.result.now c.negated-unit.result c.in_ok-clause.clause reasons
+    c.self.invariant.0.sound (known d.After-lits) (c.in_ok-place.ensures.start ∙ c.begin.ensures.start)
+    (remains d.In_ok-place) c.steps-2.ensures.steps c.negated-unit.ensures
+    (c.in_ok-clause.ensures ∙ c.as_slice-2.ensures.value ∙ c.in_ok-push.ensures.items) c.in_ok-reasons.ensures in
+    subst (λ (t : SearchState). AreReasons t.clauses reasons c.in_ok-clause.clause) c.self.view_is r
