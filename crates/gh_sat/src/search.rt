@@ -1,8 +1,10 @@
 //! A search over clauses beside a theory.
 
-ghost use Rattle.std.specs.Prelude.{◌≡◌, ◌≤◌, ◌<◌, [], length, IfOk, OnOk, OnErr, IfSome, IfNone, option_copied, slice_get};
+ghost use Rattle.std.specs.Prelude.{◌≡◌, ◌≤◌, ◌<◌, [], length, IfOk, OnOk, OnErr, IfSome, IfNone, option_copied};
+ghost use Rattle.std.specs.Prelude.{slice_get};
 ghost use Rattle.gh_base.specs.Atoms.{IsInRange, AreInRange};
-ghost use Rattle.gh_sat.specs.Trail.{SearchState, IsAssignmentOf, IsSound, IsFree, cut, AllHaveTruth, OpensLevel, search_over};
+ghost use Rattle.gh_sat.specs.Trail.{SearchState, IsAssignmentOf, IsSound, IsFree, cut, AllHaveTruth, OpensLevel};
+ghost use Rattle.gh_sat.specs.Trail.{search_over};
 ghost use Rattle.gh_sat.specs.Status.{IsSettled, AreAssigned};
 ghost use Rattle.gh_sat.specs.Learn.{IsConflict, IsLearnt, AreReasons, add_clause};
 ghost use Rattle.gh_sat.specs.Whole.{GivesLast, Adds};
@@ -215,7 +217,8 @@ impl<T: Theory> Search<T> {
         self.learner.learn(alloc, k)
     }
 
-    /// Where a clause is false at level 0, numbers of clauses that, taken as hints in this order, show the empty clause.
+    /// Where a clause is false at level 0, numbers of clauses that, taken as hints in this order, show the empty
+    /// clause.
     pub fn refutation(&mut self, alloc: Global, k: u32) -> Result<Vec<u32>, AllocError>
         requires conflict { IsConflict self.old k }
         requires level { self.old.starts ≡ [] }
@@ -237,8 +240,8 @@ impl<T: Theory> Search<T> {
         }
     }
 
-    /// Adds a clause last. Where it is false under the trail, that is cut to the greatest level of its literals. There are
-    /// at most 4,294,967,293 clauses: where there are as many, none is added, as for want of memory.
+    /// Adds a clause last. Where it is false under the trail, that is cut to the greatest level of its literals. There
+    /// are at most 4,294,967,293 clauses: where there are as many, none is added, as for want of memory.
     pub fn add(&mut self, clause: Clause) -> Result<(), AllocError>
         requires { AreInRange self.old.sizes clause }
         ensures ok { OnOk result (Adds self.old clause self.new) }

@@ -1,4 +1,5 @@
-use Rattle.std.proofs.Common.{◌≡◌, ◌<◌, ◌-◌, ◌∙◌, ℕ, ◌≤◌, suc, inl, inr, refl, arith, sym, ap, subst, length, Some, None}
+use Rattle.std.proofs.Common.{◌≡◌, ◌<◌, ◌-◌, ◌∙◌, ℕ, ◌≤◌, suc, inl, inr, refl, arith, sym, ap, subst, length, Some}
+use Rattle.std.proofs.Common.{None}
 use Rattle.std.specs.Prelude.{slice_get}
 use Rattle.std.proofs.lemmas.List.Elements.{All-contains}
 use Rattle.gh_base.specs.declared.atom.Lit.{Lit}
@@ -122,7 +123,8 @@ loop-marks-preserved c =
       all = turn.0;
       resolved = turn.1;
       reached = subst (AreReached cs t conflict n) (sym e.more.end)
-          (reached_next cs t conflict m n place w r.step c.in-Some.k lits i.reached p.within p.is e.more r.at r.why has);
+          (reached_next cs t conflict m n place w r.step c.in-Some.k lits i.reached p.within p.is e.more r.at r.why
+          has);
       first = λ q le a.
           none_from c.args.trail.now cs conflict m place c.requires.valid i.all i.resolved p.between i.first i.reached
           p.within (omega (arith, p.fewer, c.if-marks-eq0.false)) q

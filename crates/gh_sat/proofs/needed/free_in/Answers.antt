@@ -13,7 +13,8 @@ truth-requires c =
     c.requires.range c.requires.row c.loop-place-test.true
 
 -- the literal at the place is in range, and its truth is known
-value_at : (c : After-truth) → IsInRange c.args.trail.now.sizes (get_or c.args.clause.now c.loop-place.place nothing).atom
+value_at : (c : After-truth) → IsInRange c.args.trail.now.sizes
+    (get_or c.args.clause.now c.loop-place.place nothing).atom
     × IsValue c.args.trail.now.steps (get_or c.args.clause.now c.loop-place.place nothing) c.truth.result
 value_at c =
     let t = c.args.trail.now in

@@ -74,7 +74,8 @@ loop-marks-preserved c =
     let e = c.in_ok-mark_all-2.ensures in
     let turn = resolved_turn c.args.clauses.now c.args.trail.now.steps c.args.conflict.now m
     (marks_of c.mark_all-in-loop-marks.new.marks) c.last_marked-place.result (m.waiting - 1) c.in-Some.k
-    c.lits.result.now r (lits_at at.After-lits r.within) i.all i.resolved c.last_marked-place.ensures.between e.more e.all in
+    c.lits.result.now r (lits_at at.After-lits r.within) i.all i.resolved c.last_marked-place.ensures.between e.more
+    e.all in
     record {
       marks = e.marks;
       bounded = e.more.bounded;

@@ -1,4 +1,5 @@
-use Rattle.std.proofs.Common.{◌≡◌, ◌<◌, ◌≤◌, ◌∙◌, ℕ, List, All, Bool, false, Option, Some, None, Contains, inl, inr, refl, sym}
+use Rattle.std.proofs.Common.{◌≡◌, ◌<◌, ◌≤◌, ◌∙◌, ℕ, List, All, Bool, false, Option, Some, None, Contains, inl, inr}
+use Rattle.std.proofs.Common.{refl, sym}
 use Rattle.std.proofs.Common.{ap, subst, get_or, take, take_all, length}
 use Rattle.std.specs.Prelude.{IfSome}
 use Rattle.std.proofs.lemmas.List.{take_more}
@@ -17,7 +18,8 @@ use Rattle.gh_sat.proofs.StatusLemmas.{row_is, row_has, row_each, row_within, ro
 use Rattle.gh_sat.proofs.WatchLemmas.{guarded_good, pair_good}
 use Rattle.gh_sat.proofs.status.status_of.Goals as goal
 use Rattle.gh_sat.proofs.status.status_of.Goals.{In-Some-2, After-truth}
-use Rattle.gh_sat.proofs.status.status_of.Goals.{then-not-is_false+in-None, then-not-is_false+in-Some, else-not-is_false}
+use Rattle.gh_sat.proofs.status.status_of.Goals.{then-not-is_false+in-None, then-not-is_false+in-Some}
+use Rattle.gh_sat.proofs.status.status_of.Goals.{else-not-is_false}
 
 pub is_false-requires : goal.is_false-requires
 is_false-requires c =
@@ -74,7 +76,8 @@ pair_at c =
     inv.not_false in
     let same : c.in-Some.other ≡ i = let a = c.in-Some.is in let b = c.in-Some-2.is in cc in
     let differ : get_or row i no_lit ≡ get_or row j no_lit → ⊥ =
-    λ e. let t = c.is_same.ensures.1 (ap (λ (k : ℕ). get_or row k no_lit) same ∙ e) in let f = c.if-is_same.false in cc in
+    λ e. let t = c.is_same.ensures.1 (ap (λ (k : ℕ). get_or row k no_lit) same ∙ e) in let f = c.if-is_same.false in
+    cc in
     let now : IsTrueIn steps (opposite (get_or clause j nothing)) → ⊥ =
     row_each s clause row j _ (λ (l : Lit). IsTrueIn steps (opposite l) → ⊥) c.requires.range c.requires.row
     c.loop-place-test.true (c.is_false.ensures.no (λ t. let f = c.if-not-is_false.true in cc)) in
@@ -117,12 +120,14 @@ loop-place-preserved c =
             not_false = rw w.found-is free;
           }
       | then-not-is_false+in-Some w ↦
-          let other : w.in-Some.other < length row = found_within row c.loop-place.found w.in-Some.other w.in-Some.is inv.within in
+          let other : w.in-Some.other < length row =
+          found_within row c.loop-place.found w.in-Some.other w.in-Some.is inv.within in
           let one = row_one s clause row w.in-Some.other i _ _ c.requires.range c.requires.row other test
           (w.is_same.ensures.0 w.if-is_same.true) in
           let last = subst (λ (o : Option ℕ). IsFoundOrFalse trail clause o l) (sym w.in-Some.is) (inl (sym one)) in
           record {
-            so_far = rw (more, w.found-is) (All-push (IsFoundOrFalse trail clause c.loop-place.found) front l inv.so_far last);
+            so_far = rw (more, w.found-is)
+                (All-push (IsFoundOrFalse trail clause c.loop-place.found) front l inv.so_far last);
             within = rw w.found-is inv.within;
             not_false = rw w.found-is inv.not_false;
           }
@@ -132,7 +137,8 @@ loop-place-preserved c =
           (c.is_false.ensures.yes w.if-not-is_false.false) in
           let last = false_found trail clause c.loop-place.found l v in
           record {
-            so_far = rw (more, w.found-is) (All-push (IsFoundOrFalse trail clause c.loop-place.found) front l inv.so_far last);
+            so_far = rw (more, w.found-is)
+                (All-push (IsFoundOrFalse trail clause c.loop-place.found) front l inv.so_far last);
             within = rw w.found-is inv.within;
             not_false = rw w.found-is inv.not_false;
           }
@@ -215,4 +221,7 @@ returns-in-Some-false-clause-status c =
     let is : IsTrueIn steps (opposite (literal d)) =
     subst (λ (o : Option Bool). IsValue steps (literal d) o)
     (c.in-Some-false.is ∙ ap Some c.in-Some-false.field-0-test) f.1 in
-    λ k e lt. elim (f.2 k e lt) [ inl same ↦ subst (λ (m : Lit). IsTrueIn steps (opposite m)) (sym same) is | inr t ↦ t ]
+    λ k e lt. elim (f.2 k e lt) [
+      | inl same ↦ subst (λ (m : Lit). IsTrueIn steps (opposite m)) (sym same) is
+      | inr t ↦ t
+    ]

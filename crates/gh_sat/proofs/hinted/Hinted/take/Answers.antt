@@ -10,12 +10,15 @@ none_of (Some x) b P e n h = absurd (n e)
 
 pub returns-then-is_some-clause-was : goal.returns-then-is_some-clause-was
 returns-then-is_some-clause-was c =
-    subst (λ (words : List ℕ). IfSome c.take_in-place.result (HasBit words)) c.loop-block.invariant c.take_in-place.ensures.was
+    subst (λ (words : List ℕ). IfSome c.take_in-place.result (HasBit words)) c.loop-block.invariant
+    c.take_in-place.ensures.was
 
 pub returns-then-is_some-clause-taken : goal.returns-then-is_some-clause-taken
 returns-then-is_some-clause-taken c =
-    subst (λ (words : List ℕ). IfSome c.take_in-place.result (Clears words c.take_in-place.new.self.places.items)) c.loop-block.invariant c.take_in-place.ensures.taken
+    subst (λ (words : List ℕ). IfSome c.take_in-place.result (Clears words c.take_in-place.new.self.places.items))
+    c.loop-block.invariant c.take_in-place.ensures.taken
 
 pub loop-block-preserved : goal.loop-block-preserved
 loop-block-preserved c =
-    none_of c.take_in-place.result c.is_some.result _ c.is_some.ensures (λ e. let f = c.if-is_some.false in cc) c.take_in-place.ensures.none ∙ c.loop-block.invariant
+    none_of c.take_in-place.result c.is_some.result _ c.is_some.ensures (λ e. let f = c.if-is_some.false in cc)
+    c.take_in-place.ensures.none ∙ c.loop-block.invariant

@@ -1,4 +1,5 @@
-use Rattle.std.proofs.Common.{◌≡◌, ◌<◌, ◌≤◌, ◌+◌, ◌-◌, ◌∙◌, ◌++◌, ◌∷◌, [], ℕ, List, arith, sym, ap, subst, refl, get_or, length, drop, Some, None, inl, inr, Contains}
+use Rattle.std.proofs.Common.{◌≡◌, ◌<◌, ◌≤◌, ◌+◌, ◌-◌, ◌∙◌, ◌++◌, ◌∷◌, [], ℕ, List, arith, sym, ap, subst, refl, get_or}
+use Rattle.std.proofs.Common.{length, drop, Some, None, inl, inr, Contains}
 use Rattle.std.specs.Prelude.{slice_get}
 use Rattle.std.proofs.lemmas.Bool.{cases_lt}
 use Rattle.std.proofs.lemmas.Option.{get_or_from_slice_get, slice_get_read}
@@ -26,15 +27,18 @@ record Begun (s : SearchState) (k start : ℕ) (lits : List Lit) : Type 0 where
   conflict : IsConflict s k
   same : conflict.clause ≡ lits
 
-begun : (s now : SearchState) (k len start : ℕ) (c lits : List Lit) → IsSound s → s ≡ now → IsConflict now k → 0 < length now.starts → len ≡ length s.starts
+begun : (s now : SearchState) (k len start : ℕ) (c lits : List Lit) → IsSound s → s ≡ now → IsConflict now k
+    → 0 < length now.starts → len ≡ length s.starts
     → start ≡ get_or s.starts (len - 1) start → c ≡ get_or s.clauses k c → lits ≡ c → Begun s k start lits
 begun s now k len start c lits h is conflict some count at read same =
     let conflict' : IsConflict s k = subst (λ (t : SearchState). IsConflict t k) (sym is) conflict in
     let some' : 0 < length s.starts = subst (λ (t : SearchState). 0 < length t.starts) (sym is) some in
-    let here : slice_get s.starts (len - 1) ≡ Some start = slice_get_read s.starts (length s.starts) (len - 1) start (λ _. length s.starts) (omega arith) at in
+    let here : slice_get s.starts (len - 1) ≡ Some start =
+    slice_get_read s.starts (length s.starts) (len - 1) start (λ _. length s.starts) (omega arith) at in
     let b = h.starts (len - 1) start here in
     let w = get_within s.clauses k conflict'.clause conflict'.at in
-    let there : slice_get s.clauses k ≡ Some c = slice_get_read s.clauses (length s.clauses) k c (λ _. length s.clauses) w read in
+    let there : slice_get s.clauses k ≡ Some c =
+    slice_get_read s.clauses (length s.clauses) k c (λ _. length s.clauses) w read in
     record {
       last = len - 1;
       here = here;
@@ -57,7 +61,8 @@ resolve-requires-clause-marks c =
     let i = c.self.invariant in
     let b = known c in
     let steps : length s.trail ≡ length c.steps.result.now = ap length (sym c.steps.ensures.steps) in
-    c.begin.ensures.none s.trail (le_along refl steps b.within) (le_along refl refl (omega arith)) (le_along refl (sym i.4) i.0.sound.steps.few)
+    c.begin.ensures.none s.trail (le_along refl steps b.within) (le_along refl refl (omega arith))
+    (le_along refl (sym i.4) i.0.sound.steps.few)
 
 pub resolve-requires-clause-conflict_range : goal.resolve-requires-clause-conflict_range
 resolve-requires-clause-conflict_range c =
@@ -72,7 +77,8 @@ resolve-requires-clause-reasons c =
     let i = c.self.invariant in
     let b = known c in
     subst (λ (cs : List (List Lit)). HaveReasons cs s.trail c.begin.new.marks.start) (sym c.as_slice.ensures.value)
-    (subst (λ (n : ℕ). HaveReasons s.clauses s.trail n) (sym c.begin.ensures.start) (have_reasons s b.last c.index.result.now i.0.sound b.here b.long))
+    (subst (λ (n : ℕ). HaveReasons s.clauses s.trail n) (sym c.begin.ensures.start)
+    (have_reasons s b.last c.index.result.now i.0.sound b.here b.long))
 
 pub resolve-requires-clause-all_false : goal.resolve-requires-clause-all_false
 resolve-requires-clause-all_false c =
@@ -88,37 +94,53 @@ resolve-requires-clause-present c =
     let b = known c in
     let p = b.conflict.present (let l = b.long in omega arith) in
     let low = (i.0.sound.split p.2 p.3 b.last c.index.result.now p.4 b.here).1 in
-    let high : c.index.result.now ≤ p.2 = elim (cases_lt p.2 c.index.result.now) [ inl lt ↦ absurd (let e = low lt in omega (arith, p.6, b.long)) | inr ge ↦ ge ] in
+    let high : c.index.result.now ≤ p.2 = elim (cases_lt p.2 c.index.result.now) [
+      | inl lt ↦ absurd (let e = low lt in omega (arith, p.6, b.long))
+      | inr ge ↦ ge
+    ] in
     (p.0, subst (λ l. Contains l p.0) b.same p.1, p.2, p.3, le_along (sym c.begin.ensures.start) refl high, p.4, p.5)
 
-left : (s : SearchState) (clauses : List (List Lit)) (conflict : List Lit) (m : Marking) (place : ℕ) → clauses ≡ s.clauses → IsLeft clauses s.trail conflict m place → IsLeft s.clauses s.trail conflict m place
+left : (s : SearchState) (clauses : List (List Lit)) (conflict : List Lit) (m : Marking) (place : ℕ)
+    → clauses ≡ s.clauses → IsLeft clauses s.trail conflict m place → IsLeft s.clauses s.trail conflict m place
 left s clauses conflict m place e p = subst (λ cs. IsLeft cs s.trail conflict m place) e p
 
 abbrev no_step : Step
 no_step = record { lit = nothing; level = 0; reason = None }
 
 -- what is learnt, as the code makes it
-made : (s : SearchState) (m : Marking) (k start place : ℕ) (lits : List Lit) (steps : List Step) (u : Lit) (clause : List Lit)
-    → IsSound s → Begun s k start lits → m.start ≡ start → IsLeft s.clauses s.trail lits m place → steps ≡ s.trail → u ≡ opposite (get_or steps place no_step).lit
+made : (s : SearchState) (m : Marking) (k start place : ℕ) (lits : List Lit) (steps : List Step) (u : Lit)
+    (clause : List Lit)
+    → IsSound s → Begun s k start lits → m.start ≡ start → IsLeft s.clauses s.trail lits m place → steps ≡ s.trail
+    → u ≡ opposite (get_or steps place no_step).lit
     → clause ≡ m.lower ++ u ∷ [] → IsLearnt s k clause m.level u
 made s m k start place lits steps u clause h b at p same is e =
     let here : slice_get s.starts b.last ≡ Some m.start = b.here ∙ ap Some (sym at) in
-    let unit : opposite p.step.lit ≡ u = ap (λ (x : Step). opposite x.lit) (sym (get_or_from_slice_get s.trail place p.step no_step p.at)) ∙ ap (λ (t : List Step). opposite (get_or t place no_step).lit) (sym same) ∙ sym is in
+    let unit : opposite p.step.lit ≡ u =
+    ap (λ (x : Step). opposite x.lit) (sym (get_or_from_slice_get s.trail place p.step no_step p.at))
+    ∙ ap (λ (t : List Step). opposite (get_or t place no_step).lit) (sym same) ∙ sym is in
     subst (λ (x : List Lit). IsLearnt s k x m.level u) (sym e)
     (subst (λ w. IsLearnt s k (m.lower ++ w ∷ []) m.level w) unit
-    (learnt s lits m place b.last h here b.long p k (b.conflict.at ∙ ap Some b.same) (subst (IsFalseIn s.trail) b.same b.conflict.is_false)))
+    (learnt s lits m place b.last h here b.long p k (b.conflict.at ∙ ap Some b.same)
+    (subst (IsFalseIn s.trail) b.same b.conflict.is_false)))
 
 -- and its reasons
-made_reasons : (s : SearchState) (m : Marking) (k start place : ℕ) (lits : List Lit) (steps : List Step) (u : Lit) (clause : List Lit) (reasons : List ℕ)
-    → IsSound s → Begun s k start lits → m.start ≡ start → IsLeft s.clauses s.trail lits m place → steps ≡ s.trail → u ≡ opposite (get_or steps place no_step).lit
-    → clause ≡ m.lower ++ u ∷ [] → reasons ≡ reasons_of m.round (drop (place + 1) m.stamps) (drop (place + 1) s.trail) ++ k ∷ [] → AreReasons s.clauses reasons clause
+made_reasons : (s : SearchState) (m : Marking) (k start place : ℕ) (lits : List Lit) (steps : List Step) (u : Lit)
+    (clause : List Lit) (reasons : List ℕ)
+    → IsSound s → Begun s k start lits → m.start ≡ start → IsLeft s.clauses s.trail lits m place → steps ≡ s.trail
+    → u ≡ opposite (get_or steps place no_step).lit
+    → clause ≡ m.lower ++ u ∷ [] → reasons ≡ reasons_of m.round (drop (place + 1) m.stamps) (drop (place + 1) s.trail)
+    ++ k ∷ [] → AreReasons s.clauses reasons clause
 made_reasons s m k start place lits steps u clause reasons h b at p same is e all =
     let here : slice_get s.starts b.last ≡ Some m.start = b.here ∙ ap Some (sym at) in
-    let unit : opposite p.step.lit ≡ u = ap (λ (x : Step). opposite x.lit) (sym (get_or_from_slice_get s.trail place p.step no_step p.at)) ∙ ap (λ (t : List Step). opposite (get_or t place no_step).lit) (sym same) ∙ sym is in
+    let unit : opposite p.step.lit ≡ u =
+    ap (λ (x : Step). opposite x.lit) (sym (get_or_from_slice_get s.trail place p.step no_step p.at))
+    ∙ ap (λ (t : List Step). opposite (get_or t place no_step).lit) (sym same) ∙ sym is in
     let whole : m.lower ++ opposite p.step.lit ∷ [] ≡ clause = ap (λ w. m.lower ++ w ∷ []) unit ∙ sym e in
     subst (λ (ks : List ℕ). AreReasons s.clauses ks clause) (sym all)
-    (subst (AreReasons s.clauses (reasons_of m.round (drop (place + 1) m.stamps) (drop (place + 1) s.trail) ++ k ∷ [])) whole
-    (learnt_shows s lits m place b.last k h here b.long p (b.conflict.at ∙ ap Some b.same) (subst (IsFalseIn s.trail) b.same b.conflict.is_false)))
+    (subst (AreReasons s.clauses (reasons_of m.round (drop (place + 1) m.stamps) (drop (place + 1) s.trail) ++ k ∷ []))
+    whole
+    (learnt_shows s lits m place b.last k h here b.long p (b.conflict.at ∙ ap Some b.same)
+    (subst (IsFalseIn s.trail) b.same b.conflict.is_false)))
 
 -- the step at the place is the one marked step that is left
 remains : (c : In_ok-place) → IsLeft (the_view c.self.inside).clauses (the_view c.self.inside).trail c.lits.result.now

@@ -14,7 +14,8 @@ any_default [] i d e h = absurd (omega arith)
 any_default (x ∷ xs) zero d e h = refl
 any_default (x ∷ xs) (suc i) d e h = any_default xs i d e (omega arith)
 
-either : (lists : List (List ℕ)) (numbers : List ℕ) (code own k : ℕ) (old new : List ℕ) (r : Result (Unit {0}) AllocError)
+either : (lists : List (List ℕ)) (numbers : List ℕ) (code own k : ℕ) (old new : List ℕ)
+    (r : Result (Unit {0}) AllocError)
     → own < length lists → code < length numbers → get_or numbers code 0 ≡ own → old ≡ get_or lists own old
     → OnOk r (new ≡ old ++ k ∷ []) → OnErr r (new ≡ old)
     → OnOk r (Contains (get_or (lists_by (slice_set lists own new) numbers) code []) k)
