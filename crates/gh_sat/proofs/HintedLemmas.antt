@@ -6,7 +6,8 @@ use Rattle.std.specs.Int.{bit_at, bit_not, trailing_zeros}
 use Rattle.std.proofs.lemmas.Bool.{cases_eq}
 use Rattle.std.proofs.lemmas.Nat.Bits.{bit_at_clear_same, bit_at_clear_other, bit_at-trailing_zeros}
 use Rattle.gh_base.proofs.ListLemmas.{get_within, get_set_same, get_set_other}
-use Rattle.gh_sat.specs.Hinted.{Clears, HasBit}
+use Rattle.gh_sat.specs.declared.hinted.Hinted.{Hinted}
+use Rattle.gh_sat.specs.Hinted.{Clears, HasBit, IsLowest, FindsLowest, FindsIn}
 
 -- the place of the lowest bit of a word
 pub lowest_bit : (words : List ℕ) (index word place : ℕ) → slice_get words index ≡ Some word → word ≢ 0 → word < 2 ^ 64
@@ -25,6 +26,48 @@ pub lowest_if : (words : List ℕ) (index word first : ℕ) (found : Option ℕ)
 lowest_if words index word first None P at some fits is e = tt
 lowest_if words index word first (Some place) P at some fits is e =
     lowest_bit words index word place at some fits (e.1 ∙ ap (λ n. n + trailing_zeros w64 word) is)
+
+-- that it is the lowest, and that there is none where it isn't in range
+pub lowest_found : (words : List ℕ) (index word first : ℕ) (found : Option ℕ)
+    → slice_get words index ≡ Some word → word ≢ 0 → first ≡ index * 64
+    → SomeIff found (first + trailing_zeros w64 word < 2 ^ 64) (first + trailing_zeros w64 word)
+    → FindsLowest words index found
+lowest_found words index word first None at some is e = λ place low.
+    let same : low.word ≡ word = let t = low.at in cc in
+    let sum : place ≡ first + trailing_zeros w64 word =
+    low.is ∙ ap (λ w. index * 64 + trailing_zeros w64 w) same ∙ ap (λ n. n + trailing_zeros w64 word) (sym is) in
+    e (subst (λ n. n < 2 ^ 64) sum low.fits)
+lowest_found words index word first (Some place) at some is e = record {
+  word = word;
+  at = at;
+  some = some;
+  is = e.1 ∙ ap (λ n. n + trailing_zeros w64 word) is;
+  fits = subst (λ n. n < 2 ^ 64) (sym e.1) e.0;
+}
+
+-- there is one lowest bit
+pub lowest_one : (words : List ℕ) (index a b : ℕ) → IsLowest words index a → IsLowest words index b → a ≡ b
+lowest_one words index a b x y =
+    let same : x.word ≡ y.word = let s = x.at in let t = y.at in cc in
+    x.is ∙ ap (λ w. index * 64 + trailing_zeros w64 w) same ∙ sym y.is
+
+-- a block leads to no place where one of its three steps doesn't
+pub leads_not : (h : Hinted) (block : ℕ) → FindsLowest h.blocks.items block None → FindsIn h block None
+leads_not h block none place way = none way.group way.in_block
+
+pub leads_not_on : (h : Hinted) (block group : ℕ) → IsLowest h.blocks.items block group
+    → FindsLowest h.words.items group None → FindsIn h block None
+leads_not_on h block group low none place way =
+    let same = lowest_one h.blocks.items block way.group group way.in_block low in
+    none way.word (subst (λ g. IsLowest h.words.items g way.word) same way.in_group)
+
+pub leads_not_in : (h : Hinted) (block group word : ℕ) → IsLowest h.blocks.items block group
+    → IsLowest h.words.items group word → FindsLowest h.places.items word None → FindsIn h block None
+leads_not_in h block group word low next none place way =
+    let same = lowest_one h.blocks.items block way.group group way.in_block low in
+    let there = subst (λ g. IsLowest h.words.items g way.word) same way.in_group in
+    let one = lowest_one h.words.items group way.word word there next in
+    none place (subst (λ w. IsLowest h.places.items w place) one way.in_word)
 
 -- a place whose word isn't there has no bit to clear
 pub clears_none : (words : List ℕ) (place : ℕ) → length words ≤ place / 64 → Clears words words place
