@@ -121,9 +121,10 @@ false_next trail head x m here s =
           inl (s.0, s.1, get_within (take head trail) s.0 s.1 at, at, s.4)
     ]
 
-pub pair_less : (s : Sizes) (known less : List Step) (c : List Lit) (h : Hint)
-    → ((l : Lit) → IsTrueIn less l → IsTrueIn known l) → IsPair s known c h → IsPair s less c h
-pair_less s known less c h f p = record {
+-- a pair stays one where by what is known neither literal is false
+pair_known : (s : Sizes) (old new : List Step) (c : List Lit) (h : Hint) (p : IsPair s old c h)
+    → (IsTrueIn new (opposite p.one) → ⊥) → (IsTrueIn new (opposite p.other) → ⊥) → IsPair s new c h
+pair_known s old new c h p one_open other_open = record {
   one = p.one;
   other = p.other;
   one_in = p.one_in;
@@ -131,9 +132,14 @@ pair_less s known less c h f p = record {
   first = p.first;
   second = p.second;
   differ = p.differ;
-  one_open = λ t. p.one_open (f (opposite p.one) t);
-  other_open = λ t. p.other_open (f (opposite p.other) t);
+  one_open = one_open;
+  other_open = other_open;
 }
+
+pub pair_less : (s : Sizes) (known less : List Step) (c : List Lit) (h : Hint)
+    → ((l : Lit) → IsTrueIn less l → IsTrueIn known l) → IsPair s known c h → IsPair s less c h
+pair_less s known less c h f p =
+    pair_known s known less c h p (λ t. p.one_open (f (opposite p.one) t)) (λ t. p.other_open (f (opposite p.other) t))
 
 pub pair_front : (s : Sizes) (trail : List Step) (n : ℕ) (c : List Lit) (h : Hint) → IsPair s trail c h
     → IsPair s (take n trail) c h
@@ -174,23 +180,16 @@ pub pair_next : (s : Sizes) (trail : List Step) (head : ℕ) (x : Step) (c : Lis
     → slice_get trail head ≡ Some x → numbered s (opposite x.lit) ≡ gone
     → (h.first ≡ gone → ⊥) → (h.second ≡ gone → ⊥) → IsPair s (take head trail) c h
     → IsPair s (take (head + 1) trail) c h
-pair_next s trail head x c h gone here is n m p = record {
-  one = p.one;
-  other = p.other;
-  one_in = p.one_in;
-  other_in = p.other_in;
-  first = p.first;
-  second = p.second;
-  differ = p.differ;
-  one_open = λ t. elim (false_next trail head x p.one here t) [
-    | inl old ↦ p.one_open old
-    | inr e ↦ n (sym p.first ∙ ap (numbered s) e ∙ is)
-  ];
-  other_open = λ t. elim (false_next trail head x p.other here t) [
-    | inl old ↦ p.other_open old
-    | inr e ↦ m (sym p.second ∙ ap (numbered s) e ∙ is)
-  ];
-}
+pair_next s trail head x c h gone here is n m p =
+    pair_known s (take head trail) (take (head + 1) trail) c h p
+    (λ t. elim (false_next trail head x p.one here t) [
+      | inl old ↦ p.one_open old
+      | inr e ↦ n (sym p.first ∙ ap (numbered s) e ∙ is)
+    ])
+    (λ t. elim (false_next trail head x p.other here t) [
+      | inl old ↦ p.other_open old
+      | inr e ↦ m (sym p.second ∙ ap (numbered s) e ∙ is)
+    ])
 
 -- hints that move, as the trail grows
 pub moves_same : (s : Sizes) (clauses : List (List Lit)) (trail : List Step) (hints : List Hint)
@@ -270,26 +269,22 @@ pub visited_begin : (s : Sizes) (clauses : List (List Lit)) (lists : List (List 
     (trail : List Step) (head looked : ℕ) (x : Step) → AreListed s clauses lists → slice_get trail head ≡ Some x
     → AreGuarded s clauses hints trail head looked
     → AreVisited s clauses hints trail head looked (clauses_of s lists (opposite x.lit))
-visited_begin s clauses lists hints trail head looked x listed here w k c h lt at has out = elim (w k c h lt at has) [
-  | inl t ↦ inl t
-  | inr p ↦ inr (record {
-    one = p.one;
-    other = p.other;
-    one_in = p.one_in;
-    other_in = p.other_in;
-    first = p.first;
-    second = p.second;
-    differ = p.differ;
-    one_open = λ t. elim (false_next trail head x p.one here t) [
-      | inl old ↦ p.one_open old
-      | inr e ↦ out (subst (λ m. Contains (clauses_of s lists m) k) e (listed k c p.one at p.one_in))
-    ];
-    other_open = λ t. elim (false_next trail head x p.other here t) [
-      | inl old ↦ p.other_open old
-      | inr e ↦ out (subst (λ m. Contains (clauses_of s lists m) k) e (listed k c p.other at p.other_in))
-    ];
-  })
-]
+visited_begin s clauses lists hints trail head looked x listed here w k c h lt at has out =
+    let not : (l : Lit) → Contains c l → (opposite x.lit ≡ l → ⊥) = λ l there e.
+    out (subst (λ m. Contains (clauses_of s lists m) k) (sym e) (listed k c l at there)) in
+    elim (w k c h lt at has) [
+      | inl t ↦ inl t
+      | inr p ↦
+          inr (pair_known s (take head trail) (take (head + 1) trail) c h p
+          (λ t. elim (false_next trail head x p.one here t) [
+            | inl old ↦ p.one_open old
+            | inr e ↦ not p.one p.one_in (sym e)
+          ])
+          (λ t. elim (false_next trail head x p.other here t) [
+            | inl old ↦ p.other_open old
+            | inr e ↦ not p.other p.other_in (sym e)
+          ]))
+    ]
 
 -- a clause was visited
 pub visited_next : (s : Sizes) (clauses : List (List Lit)) (level : ℕ) (old new : List Step) (hints hints' : List Hint)

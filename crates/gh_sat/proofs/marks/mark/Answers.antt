@@ -10,6 +10,7 @@ use Rattle.gh_sat.specs.Trail.{Stands}
 use Rattle.gh_sat.specs.Learn.{Marking, marks_of, IsMarked, HasMark, AreMarks}
 use Rattle.gh_base.proofs.ListLemmas.{get_within}
 use Rattle.gh_sat.proofs.MarkLemmas.{mark_high, mark_low, more_mark, has_mark, marked_few}
+use Rattle.gh_sat.proofs.marks.mark.Goals.{Else-index-marks}
 use Rattle.gh_sat.proofs.marks.mark.Goals as goal
 
 -- the literal's place on the trail, which has no mark yet
@@ -49,49 +50,50 @@ found trail m lit place stamp h (inr s) where_is read free =
           );
     }
 
+-- the place of the literal, which has no mark yet
+found_at : (c : Else-index-marks) → Found c.args.trail.now.steps (marks_of c.args.marks.now) c.args.lit
+    c.place-place.result c.index.result.now
+found_at c =
+    found c.args.trail.now.steps (marks_of c.args.marks.now) c.args.lit c.place-place.result c.index.result.now
+    c.requires.marks c.requires.stands c.place-place.ensures c.index.ensures c.if-index-marks.false
+
 pub overflow_add-marks : goal.overflow_add-marks
 overflow_add-marks c =
-    let f = found c.args.trail.now.steps (marks_of c.args.marks.now) c.args.lit c.place-place.result c.index.result.now
-    c.requires.marks c.requires.stands c.place-place.ensures c.index.ensures c.if-index-marks.false in
+    let f = found_at (goal.at.overflow_add-marks c).Else-index-marks in
     omega (arith, f.few)
 
 pub returns-in_err-push-clause-more : goal.returns-in_err-push-clause-more
 returns-in_err-push-clause-more c =
     let m = marks_of c.args.marks.now in
-    let f = found c.args.trail.now.steps m c.args.lit c.place-place.result c.index.result.now c.requires.marks
-    c.requires.stands c.place-place.ensures c.index.ensures c.if-index-marks.false in
+    let f = found_at (goal.at.returns-in_err-push-clause-more c).Else-index-marks in
     more_mark c.args.trail.now.steps m c.args.lit c.place-place.result c.index.result.now f.step c.requires.marks f.here
     c.if-index-marks.false f.before f.at f.is _ _ _ c.requires.bounded (omega arith)
 
 pub returns-then-place-marks-clause-marks : goal.returns-then-place-marks-clause-marks
 returns-then-place-marks-clause-marks c =
     let m = marks_of c.args.marks.now in
-    let f = found c.args.trail.now.steps m c.args.lit c.place-place.result c.index.result.now c.requires.marks
-    c.requires.stands c.place-place.ensures c.index.ensures c.if-index-marks.false in
+    let f = found_at (goal.at.returns-then-place-marks-clause-marks c).Else-index-marks in
     mark_high c.args.trail.now.steps m c.args.lit c.place-place.result c.index.result.now f.step c.requires.marks f.here
     c.if-index-marks.false f.before f.at f.is c.if-place-marks.true
 
 pub returns-then-place-marks-clause-is : goal.returns-then-place-marks-clause-is
 returns-then-place-marks-clause-is c =
     let m = marks_of c.args.marks.now in
-    let f = found c.args.trail.now.steps m c.args.lit c.place-place.result c.index.result.now c.requires.marks
-    c.requires.stands c.place-place.ensures c.index.ensures c.if-index-marks.false in
+    let f = found_at (goal.at.returns-then-place-marks-clause-is c).Else-index-marks in
     has_mark c.args.trail.now.steps m c.args.lit c.place-place.result c.index.result.now f.step c.requires.marks f.here
     c.if-index-marks.false f.before f.at f.is m.lower m.level (m.waiting + 1)
 
 pub returns-then-place-marks-clause-more : goal.returns-then-place-marks-clause-more
 returns-then-place-marks-clause-more c =
     let m = marks_of c.args.marks.now in
-    let f = found c.args.trail.now.steps m c.args.lit c.place-place.result c.index.result.now c.requires.marks
-    c.requires.stands c.place-place.ensures c.index.ensures c.if-index-marks.false in
+    let f = found_at (goal.at.returns-then-place-marks-clause-more c).Else-index-marks in
     more_mark c.args.trail.now.steps m c.args.lit c.place-place.result c.index.result.now f.step c.requires.marks f.here
     c.if-index-marks.false f.before f.at f.is _ _ _ c.requires.bounded (omega arith)
 
 pub returns-in_ok-push-clause-marks : goal.returns-in_ok-push-clause-marks
 returns-in_ok-push-clause-marks c =
     let m = marks_of c.args.marks.now in
-    let f = found c.args.trail.now.steps m c.args.lit c.place-place.result c.index.result.now c.requires.marks
-    c.requires.stands c.place-place.ensures c.index.ensures c.if-index-marks.false in
+    let f = found_at (goal.at.returns-in_ok-push-clause-marks c).Else-index-marks in
     let steps : c.steps.result.now ≡ c.args.trail.now.steps = c.steps.ensures.steps in
     let level : c.max-marks.result ≡ max m.level f.step.level =
     c.max-marks.ensures ∙ ap (λ (x : Step). max m.level x.level)
@@ -105,15 +107,13 @@ returns-in_ok-push-clause-marks c =
 pub returns-in_ok-push-clause-is : goal.returns-in_ok-push-clause-is
 returns-in_ok-push-clause-is c =
     let m = marks_of c.args.marks.now in
-    let f = found c.args.trail.now.steps m c.args.lit c.place-place.result c.index.result.now c.requires.marks
-    c.requires.stands c.place-place.ensures c.index.ensures c.if-index-marks.false in
+    let f = found_at (goal.at.returns-in_ok-push-clause-is c).Else-index-marks in
     has_mark c.args.trail.now.steps m c.args.lit c.place-place.result c.index.result.now f.step c.requires.marks f.here
     c.if-index-marks.false f.before f.at f.is m.lower m.level m.waiting
 
 pub returns-in_ok-push-clause-more : goal.returns-in_ok-push-clause-more
 returns-in_ok-push-clause-more c =
     let m = marks_of c.args.marks.now in
-    let f = found c.args.trail.now.steps m c.args.lit c.place-place.result c.index.result.now c.requires.marks
-    c.requires.stands c.place-place.ensures c.index.ensures c.if-index-marks.false in
+    let f = found_at (goal.at.returns-in_ok-push-clause-more c).Else-index-marks in
     more_mark c.args.trail.now.steps m c.args.lit c.place-place.result c.index.result.now f.step c.requires.marks f.here
     c.if-index-marks.false f.before f.at f.is _ _ _ c.requires.bounded (omega arith)

@@ -1,6 +1,5 @@
-use Rattle.std.proofs.Common.{◌≡◌, ◌<◌, ◌-◌, ◌∙◌, ℕ, ◌≤◌, suc, inl, inr, refl, arith, sym, ap, subst, length, Some}
+use Rattle.std.proofs.Common.{◌≡◌, ◌<◌, ◌-◌, ◌∙◌, ℕ, ◌≤◌, suc, inl, inr, refl, arith, sym, ap, subst, length}
 use Rattle.std.proofs.Common.{None}
-use Rattle.std.specs.Prelude.{slice_get}
 use Rattle.std.proofs.lemmas.List.Elements.{All-contains}
 use Rattle.gh_base.specs.declared.atom.Lit.{Lit}
 use Rattle.gh_sat.specs.Learn.{marks_of, IsMarked, HasMark, AreReached, IsAlone}
@@ -11,19 +10,18 @@ use Rattle.gh_sat.proofs.ResolveLemmas.{IsRead, false_before, resolved_none, cla
 use Rattle.gh_sat.proofs.ResolveLemmas.{is_left, resolved_turn, reached_next, none_from, reason_is, reason_of}
 use Rattle.gh_sat.proofs.ResolveLemmas.{reason_stands}
 use Rattle.gh_sat.proofs.marks.resolve.Goals as goal
-use Rattle.gh_sat.proofs.marks.resolve.Goals.{After-lits, In-Some}
+use Rattle.gh_sat.proofs.marks.resolve.Goals.{In-Some}
 
 pub mark_all-requires-clause-stands : goal.mark_all-requires-clause-stands
 mark_all-requires-clause-stands c =
-    false_before c.args.trail.now.steps (marks_of c.args.marks.now) c.args.conflict.now
-    c.requires.all_false c.requires.end
+    false_before _ (marks_of c.args.marks.now) _ c.requires.all_false c.requires.end
 
 pub loop-marks-init : goal.loop-marks-init
 loop-marks-init c =
+    let p = c.requires.present in
     let e = c.in_ok-mark_all.ensures in
     let t = c.args.trail.now in
     let m = marks_of c.mark_all.new.marks in
-    let p = c.requires.present in
     let end : m.end ≡ length t.steps = e.more.end ∙ c.requires.end in
     record {
       marks = e.marks;
@@ -75,13 +73,6 @@ read_at c =
     (marks_of c.loop-marks.marks) c.last_marked-place.result _ c.in-Some.k c.requires.reasons
     i.start i.marks p.start p.within p.fewer c.if-marks-eq0.false c.steps.ensures.steps c.in-Some.is
 
--- the literals of that clause
-lits_at : (c : After-lits) → c.in-Some.k < length c.args.clauses.now
-    → slice_get c.args.clauses.now c.in-Some.k ≡ Some c.lits.result.now
-lits_at c h =
-    clause_read c.args.clauses.now c.in-Some.k c.index-clauses-k.result c.lits.result.now
-    c.index-clauses-k.is c.lits.ensures h
-
 pub bounds-clauses-k : goal.bounds-clauses-k
 bounds-clauses-k c = let w = (read_at (goal.at.bounds-clauses-k c).In-Some).within in omega arith
 
@@ -94,15 +85,15 @@ pub mark_all-requires-in-Some-clause-stands : goal.mark_all-requires-in-Some-cla
 mark_all-requires-in-Some-clause-stands c =
     let r = read_at (goal.at.mark_all-requires-in-Some-clause-stands c).In-Some in
     reason_stands c.args.clauses.now c.args.trail.now.steps (marks_of c.loop-marks.marks) c.last_marked-place.result
-    c.in-Some.k c.lits.result.now r c.last_marked-place.ensures.is (lits_at c r.within)
+    c.in-Some.k c.lits.result.now r c.last_marked-place.ensures.is
+    (clause_read c.args.clauses.now c.in-Some.k _ c.lits.result.now c.index-clauses-k.is c.lits.ensures r.within)
 
 pub loop-marks-preserved : goal.loop-marks-preserved
 loop-marks-preserved c =
     let i = c.loop-marks.invariant in
     let p = c.last_marked-place.ensures in
     let place = c.last_marked-place.result in
-    let at = goal.at.loop-marks-preserved c in
-    let r = read_at at.In-Some in
+    let r = read_at (goal.at.loop-marks-preserved c).In-Some in
     let cs = c.args.clauses.now in
     let t = c.args.trail.now.steps in
     let conflict = c.args.conflict.now in
@@ -110,7 +101,7 @@ loop-marks-preserved c =
     let n = marks_of c.mark_all-in-Some.new.marks in
     let e = c.in_ok-mark_all-in-Some.ensures in
     let lits = c.lits.result.now in
-    let has = lits_at at.After-lits r.within in
+    let has = clause_read cs c.in-Some.k _ lits c.index-clauses-k.is c.lits.ensures r.within in
     let w = m.waiting - 1 in
     let turn = resolved_turn cs t conflict m n place w c.in-Some.k lits r has i.all i.resolved p.between e.more e.all in
     record {

@@ -1,5 +1,4 @@
-use Rattle.std.proofs.Common.{◌≡◌, ◌<◌, ◌-◌, ◌∙◌, inl, inr, refl, arith, length, Some}
-use Rattle.std.specs.Prelude.{slice_get}
+use Rattle.std.proofs.Common.{◌-◌, ◌∙◌, inl, inr, refl, arith}
 use Rattle.std.proofs.lemmas.Bool.{cases_lt}
 use Rattle.gh_sat.specs.Learn.{marks_of}
 use Rattle.gh_base.proofs.ListLemmas.{get_some}
@@ -8,12 +7,11 @@ use Rattle.gh_sat.proofs.MarkLemmas.{marks_some}
 use Rattle.gh_sat.proofs.ResolveLemmas.{IsRead, false_before, resolved_none, clause_read, resolved_turn, reason_stands}
 use Rattle.gh_sat.proofs.ReasonLemmas.{reason_read, reason_held}
 use Rattle.gh_sat.proofs.reasons.mark_reached.Goals as goal
-use Rattle.gh_sat.proofs.reasons.mark_reached.Goals.{After-lits, In-Some}
+use Rattle.gh_sat.proofs.reasons.mark_reached.Goals.{In-Some}
 
 pub mark_all-requires-clause-stands : goal.mark_all-requires-clause-stands
 mark_all-requires-clause-stands c =
-    false_before c.args.trail.now.steps (marks_of c.args.marks.now) c.args.conflict.now
-    c.requires.all_false c.requires.end
+    false_before _ (marks_of c.args.marks.now) _ c.requires.all_false c.requires.end
 
 pub loop-marks-init : goal.loop-marks-init
 loop-marks-init c =
@@ -44,13 +42,6 @@ read_at c =
     c.last_marked-place.result _ c.in-Some.k c.requires.reasons c.loop-marks.invariant.marks
     c.last_marked-place.ensures.within c.steps.ensures.steps c.in-Some.is
 
--- the literals of that clause
-lits_at : (c : After-lits) → c.in-Some.k < length c.args.clauses.now
-    → slice_get c.args.clauses.now c.in-Some.k ≡ Some c.lits.result.now
-lits_at c h =
-    clause_read c.args.clauses.now c.in-Some.k c.index-clauses-k.result c.lits.result.now
-    c.index-clauses-k.is c.lits.ensures h
-
 pub bounds-clauses-k : goal.bounds-clauses-k
 bounds-clauses-k c = let w = (read_at (goal.at.bounds-clauses-k c).In-Some).within in omega arith
 
@@ -63,18 +54,20 @@ pub mark_all-requires-in-loop-marks-clause-stands : goal.mark_all-requires-in-lo
 mark_all-requires-in-loop-marks-clause-stands c =
     let r = read_at (goal.at.mark_all-requires-in-loop-marks-clause-stands c).In-Some in
     reason_stands c.args.clauses.now c.args.trail.now.steps (marks_of c.loop-marks.marks) c.last_marked-place.result
-    c.in-Some.k c.lits.result.now r c.last_marked-place.ensures.is (lits_at c r.within)
+    c.in-Some.k c.lits.result.now r c.last_marked-place.ensures.is
+    (clause_read c.args.clauses.now c.in-Some.k _ c.lits.result.now c.index-clauses-k.is c.lits.ensures r.within)
 
 pub loop-marks-preserved : goal.loop-marks-preserved
 loop-marks-preserved c =
     let i = c.loop-marks.invariant in
     let m = marks_of c.loop-marks.marks in
-    let at = goal.at.loop-marks-preserved c in
-    let r = read_at at.In-Some in
+    let r = read_at (goal.at.loop-marks-preserved c).In-Some in
     let e = c.in_ok-mark_all-2.ensures in
-    let turn = resolved_turn c.args.clauses.now c.args.trail.now.steps c.args.conflict.now m
+    let cs = c.args.clauses.now in
+    let has = clause_read cs c.in-Some.k _ c.lits.result.now c.index-clauses-k.is c.lits.ensures r.within in
+    let turn = resolved_turn cs c.args.trail.now.steps c.args.conflict.now m
     (marks_of c.mark_all-in-loop-marks.new.marks) c.last_marked-place.result (m.waiting - 1) c.in-Some.k
-    c.lits.result.now r (lits_at at.After-lits r.within) i.all i.resolved c.last_marked-place.ensures.between e.more
+    c.lits.result.now r has i.all i.resolved c.last_marked-place.ensures.between e.more
     e.all in
     record {
       marks = e.marks;

@@ -14,6 +14,7 @@ use Rattle.gh_sat.specs.contracts.learner.Learner.{the_view}
 use Rattle.gh_sat.proofs.ListLemmas.{le_along, le_le}
 use Rattle.gh_sat.proofs.WholeLemmas.{whole_open}
 use Rattle.gh_sat.proofs.WholeLemmas.{rows_sized}
+use Rattle.gh_sat.proofs.learner.Learner.assume.Goals.{After-put}
 use Rattle.gh_sat.proofs.learner.Learner.assume.Goals as goal
 
 more_than : {n a b : ℕ} → b ≡ a + 1 → n ≤ a → n + 1 ≤ b
@@ -50,32 +51,35 @@ whole_of s z trail starts counts looked head count start counts' lists hints lit
     lists hints) (sym (e3 ∙ ap (λ n. s.starts ++ n ∷ []) e4))
     (subst (λ (t : List ℕ). IsWhole (open_level s lit) t looked head lists hints) (sym e5) h)))
 
+-- the trail has the decision
+put_is : (c : After-put) → c.put.new.self ≡ push c.self.inside.trail
+    (record { lit = c.args.lit; level = length (the_view c.self.inside).starts + 1; reason = None })
+put_is c =
+    let n = length (the_view c.self.inside).starts in
+    let same : c.len.result ≡ n = omega arith in
+    decided c.self.inside.trail c.put.new.self c.self.inside.trail c.args.lit c.len.result n refl same c.put.ensures.put
+
+-- so there is room for its level
+room_is : (c : After-put) → length (the_view c.self.inside).starts + 1 ≤ count_of c.self.inside.trail.sizes
+room_is c =
+    let s = the_view c.self.inside in
+    let put = put_is c in
+    let r = room c.put.new.self.sizes s.trail c.put.new.self.steps _ (length s.starts) c.put.ensures.valid
+    (ap (λ (t : Line). t.steps) put) c.self.invariant.0.sound.few in
+    le_along refl (ap (λ (t : Line). count_of t.sizes) put) r
+
 pub push_reserved-requires : goal.push_reserved-requires
 push_reserved-requires c =
-    let s = the_view c.self.inside in
-    let i = c.self.invariant in
-    let lit = c.args.lit in
-    let n : c.len.result ≡ length s.starts = omega arith in
-    let put = decided c.self.inside.trail c.put.new.self c.self.inside.trail lit c.len.result (length s.starts) refl n
-    c.put.ensures.put in
-    let r = room c.put.new.self.sizes s.trail c.put.new.self.steps _ (length s.starts) c.put.ensures.valid
-    (ap (λ (t : Line). t.steps) put) i.0.sound.few in
-    let few : length s.starts + 1 ≤ vec_capacity c.self.inside.starts =
-    le_le r (le_along (ap (λ (t : Line). count_of t.sizes) (sym put)) refl i.1) in
+    let few : length (the_view c.self.inside).starts + 1 ≤ vec_capacity c.self.inside.starts =
+    le_le (room_is (goal.at.push_reserved-requires c).After-put) c.self.invariant.1 in
     omega arith
 
 pub push_reserved-requires-2 : goal.push_reserved-requires-2
 push_reserved-requires-2 c =
     let s = the_view c.self.inside in
     let i = c.self.invariant in
-    let lit = c.args.lit in
-    let n : c.len.result ≡ length s.starts = omega arith in
-    let put = decided c.self.inside.trail c.put.new.self c.self.inside.trail lit c.len.result (length s.starts) refl n
-    c.put.ensures.put in
-    let r = room c.put.new.self.sizes s.trail c.put.new.self.steps _ (length s.starts) c.put.ensures.valid
-    (ap (λ (t : Line). t.steps) put) i.0.sound.few in
     let few : length s.starts + 1 ≤ vec_capacity c.self.inside.counts =
-    le_le r (le_along (ap (λ (t : Line). count_of t.sizes) (sym put)) refl i.2) in
+    le_le (room_is (goal.at.push_reserved-requires-2 c).After-put) i.2 in
     let same : length c.self.inside.counts.items ≡ length s.starts = i.0.counted in
     omega arith
 
@@ -84,9 +88,7 @@ invariant_of-self c =
     let s = the_view c.self.inside in
     let i = c.self.invariant in
     let lit = c.args.lit in
-    let n : c.len.result ≡ length s.starts = omega arith in
-    let put = decided c.self.inside.trail c.put.new.self c.self.inside.trail lit c.len.result (length s.starts) refl n
-    c.put.ensures.put in
+    let put = put_is (goal.at.invariant_of-self c).After-put in
     let valid : AreSteps (record { sizes = s.sizes; steps = (open_level s lit).trail }) =
     subst AreSteps put c.put.ensures.valid in
     let calm : IsSettled s = subst IsSettled (sym c.self.view_is) c.requires.settled in

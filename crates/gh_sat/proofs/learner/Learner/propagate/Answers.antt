@@ -18,6 +18,7 @@ use Rattle.gh_sat.specs.contracts.learner.Learner.{the_view}
 use Rattle.gh_sat.proofs.ListLemmas.{le_along}
 use Rattle.gh_sat.proofs.WholeLemmas.{rows_sized}
 use Rattle.gh_sat.proofs.WholeLemmas.{whole_grow, conflict_of, settled_from}
+use Rattle.gh_sat.proofs.learner.Learner.propagate.Goals.{After-propagate}
 use Rattle.gh_sat.proofs.learner.Learner.propagate.Goals as goal
 
 pub propagate-requires-clause-listed : goal.propagate-requires-clause-listed
@@ -100,17 +101,20 @@ settles : (t : SearchState) (o : Option ℕ)
 settles t None f = settled_from t f
 settles t (Some k) f = tt
 
+-- the search after it
+abbrev state : After-propagate → SearchState
+state c = record {
+  sizes = c.propagate.new.trail.sizes;
+  clauses = (the_view c.self.inside).clauses;
+  trail = c.propagate.new.trail.steps;
+  starts = (the_view c.self.inside).starts;
+}
+
 pub returns-clause-conflict : goal.returns-clause-conflict
 returns-clause-conflict c =
-    let s = the_view c.self.inside in
     let p = c.propagate.ensures in
     let new = c.propagate.new.trail.steps in
-    let t : SearchState = record {
-      sizes = c.propagate.new.trail.sizes;
-      clauses = s.clauses;
-      trail = new;
-      starts = s.starts;
-    } in
+    let t = state (goal.at.returns-clause-conflict c).After-propagate in
     conflicts t c.self.inside.counts.items c.propagate.new.looked c.propagate.new.head c.self.inside.occurrences _
     c.propagate.result (invariant_of-self c).0
     (subst (λ (x : List (List Lit)). IfSome c.propagate.result (λ k. IsFalseClause x new k)) c.as_slice.ensures.value
@@ -118,15 +122,9 @@ returns-clause-conflict c =
 
 pub returns-clause-settled : goal.returns-clause-settled
 returns-clause-settled c =
-    let s = the_view c.self.inside in
     let p = c.propagate.ensures in
     let new = c.propagate.new.trail.steps in
-    let t : SearchState = record {
-      sizes = c.propagate.new.trail.sizes;
-      clauses = s.clauses;
-      trail = new;
-      starts = s.starts;
-    } in
+    let t = state (goal.at.returns-clause-settled c).After-propagate in
     settles t c.propagate.result
     (subst (λ (x : List (List Lit)). IfNone c.propagate.result
     ((k : ℕ) (d : List Lit) → slice_get x k ≡ Some d → IsBad new d → ⊥)) c.as_slice.ensures.value p.settled)
