@@ -11,8 +11,10 @@ use Rattle.gh_base.proofs.ListLemmas.{get_within}
 use Rattle.gh_sat.proofs.LearnLemmas.{in_get}
 
 -- what a step with no level to open is given by
-cause_given : (clauses : List (List Lit)) (assumed : List Lit) (trail : List Step) (starts : List ℕ) (i : ℕ) (lit : Lit) (level : ℕ) (reason : Option ℕ) → starts ≡ []
-    → ((j : ℕ) (y : Step) → j < i → slice_get trail j ≡ Some y → Propagated clauses assumed y.lit) → IsCaused clauses trail starts i lit level reason → Propagated clauses assumed lit
+cause_given : (clauses : List (List Lit)) (assumed : List Lit) (trail : List Step) (starts : List ℕ) (i : ℕ) (lit : Lit)
+    (level : ℕ) (reason : Option ℕ) → starts ≡ []
+    → ((j : ℕ) (y : Step) → j < i → slice_get trail j ≡ Some y → Propagated clauses assumed y.lit)
+    → IsCaused clauses trail starts i lit level reason → Propagated clauses assumed lit
 cause_given clauses assumed trail starts i lit level None none before c =
     let at : slice_get [] c.0 ≡ Some i = subst (λ (xs : List ℕ). slice_get xs c.0 ≡ Some i) none c.2 in
     absurd (let lt = get_within [] c.0 i at in omega arith)
@@ -23,7 +25,8 @@ cause_given clauses assumed trail starts i lit level (Some k) none before r =
       | inr t ↦ subst (Propagated clauses assumed) t.4 (before t.0 t.1 t.2 t.3)
     ])
 
-pub given_below : (s : SearchState) (assumed : List Lit) → IsSound s → s.starts ≡ [] → (n i : ℕ) (x : Step) → i < n → slice_get s.trail i ≡ Some x → Propagated s.clauses assumed x.lit
+pub given_below : (s : SearchState) (assumed : List Lit) → IsSound s → s.starts ≡ [] → (n i : ℕ) (x : Step) → i < n
+    → slice_get s.trail i ≡ Some x → Propagated s.clauses assumed x.lit
 given_below s assumed h none zero i x lt at = absurd (omega arith)
 given_below s assumed h none (suc n) i x lt at =
     cause_given s.clauses assumed s.trail s.starts i x.lit x.level x.reason none

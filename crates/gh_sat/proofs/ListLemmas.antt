@@ -1,5 +1,6 @@
 -- Elements of a list by place.
-use Rattle.std.proofs.Common.{◌≡◌, ℕ, zero, suc, ◌+◌, ◌<◌, ◌≤◌, List, [], ◌∷◌, length, drop, get_or, Option, Some, None, Bool, refl, sym, ap, ◌∙◌, arith}
+use Rattle.std.proofs.Common.{◌≡◌, ℕ, zero, suc, ◌+◌, ◌<◌, ◌≤◌, List, [], ◌∷◌, length, drop, get_or, Option, Some, None}
+use Rattle.std.proofs.Common.{Bool, refl, sym, ap, ◌∙◌, arith}
 use Rattle.std.specs.Prelude.{slice_get, slice_set}
 use Rattle.gh_sat.specs.Trail.{end_of, unassigned}
 
@@ -13,14 +14,16 @@ end_of_past [] level n h = refl
 end_of_past (x ∷ ss) zero n h = absurd (omega arith)
 end_of_past (x ∷ ss) (suc level) n h = end_of_past ss level n (omega arith)
 
-pub fewer_left : (values : List (Option Bool)) (a : ℕ) (b : Bool) → slice_get values a ≡ Some None → unassigned (slice_set values a (Some b)) + 1 ≡ unassigned values
+pub fewer_left : (values : List (Option Bool)) (a : ℕ) (b : Bool) → slice_get values a ≡ Some None
+    → unassigned (slice_set values a (Some b)) + 1 ≡ unassigned values
 fewer_left [] a b e = cc
 fewer_left (None ∷ vs) zero b e = omega arith
 fewer_left (Some v ∷ vs) zero b e = cc
 fewer_left (None ∷ vs) (suc a) b e = omega (arith, fewer_left vs a b e)
 fewer_left (Some v ∷ vs) (suc a) b e = fewer_left vs a b e
 
-pub more_left : (values : List (Option Bool)) (a : ℕ) (b : Bool) → slice_get values a ≡ Some (Some b) → unassigned (slice_set values a None) ≡ unassigned values + 1
+pub more_left : (values : List (Option Bool)) (a : ℕ) (b : Bool) → slice_get values a ≡ Some (Some b)
+    → unassigned (slice_set values a None) ≡ unassigned values + 1
 more_left [] a b e = cc
 more_left (Some v ∷ vs) zero b e = omega arith
 more_left (None ∷ vs) zero b e = cc
@@ -62,7 +65,9 @@ zero_le a = omega arith
 pub drop_at : {X : Type 0} (xs : List X) (j : ℕ) (d : X) → j < length xs → drop j xs ≡ get_or xs j d ∷ drop (j + 1) xs
 drop_at [] j d h = absurd (omega arith)
 drop_at (x ∷ xs) zero d h = let e : 0 + 1 ≡ suc 0 = omega arith in ap (λ n. x ∷ drop n (x ∷ xs)) (sym e)
-drop_at (x ∷ xs) (suc j) d h = let e : suc j + 1 ≡ suc (j + 1) = omega arith in drop_at xs j d (omega arith) ∙ ap (λ n. get_or xs j d ∷ drop n (x ∷ xs)) (sym e)
+drop_at (x ∷ xs) (suc j) d h =
+    let e : suc j + 1 ≡ suc (j + 1) = omega arith in
+    drop_at xs j d (omega arith) ∙ ap (λ n. get_or xs j d ∷ drop n (x ∷ xs)) (sym e)
 
 pub drop_past : {X : Type 0} (xs : List X) (j : ℕ) → length xs ≤ j → drop j xs ≡ []
 drop_past [] zero h = refl

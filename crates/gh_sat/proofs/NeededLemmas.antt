@@ -1,5 +1,6 @@
 -- Literals that have a truth.
-use Rattle.std.proofs.Common.{◌≡◌, ◌<◌, ◌≤◌, ℕ, ◌+◌, Option, Some, None, Bool, true, false, List, length, get_or, take, ap, sym, subst, take_all, ◌∙◌}
+use Rattle.std.proofs.Common.{◌≡◌, ◌<◌, ◌≤◌, ℕ, ◌+◌, Option, Some, None, Bool, true, false, List, length, get_or, take}
+use Rattle.std.proofs.Common.{ap, sym, subst, take_all, ◌∙◌}
 use Rattle.std.specs.Prelude.{is_some, IfNone, All}
 use Rattle.std.proofs.lemmas.List.{length-map}
 use Rattle.std.proofs.lemmas.List.Elements.{All-more}
@@ -12,17 +13,22 @@ use Rattle.gh_sat.specs.declared.trail.Step.{Step}
 use Rattle.gh_sat.specs.Status.{IsAssigned}
 use Rattle.gh_sat.specs.Trail.{IsFree, IsValue}
 
-pub value_taken : (trail : List Step) (l : Lit) (o : Option Bool) → IsValue trail l o → is_some o ≡ true → IsFree trail l.atom → ⊥
+pub value_taken : (trail : List Step) (l : Lit) (o : Option Bool) → IsValue trail l o → is_some o ≡ true
+    → IsFree trail l.atom → ⊥
 value_taken trail l None v e free = cc
 value_taken trail l (Some true) v e free = free v.0 v.1 v.3 (ap (λ (k : Lit). k.atom) v.4)
 value_taken trail l (Some false) v e free = free v.0 v.1 v.3 (ap (λ (k : Lit). k.atom) v.4)
 
-pub value_free : (trail : List Step) (l : Lit) (o : Option Bool) → IsValue trail l o → is_some o ≡ false → IsFree trail l.atom
+pub value_free : (trail : List Step) (l : Lit) (o : Option Bool) → IsValue trail l o → is_some o ≡ false
+    → IsFree trail l.atom
 value_free trail l None v e = v
 value_free trail l (Some b) v e = cc
 
-pub assigned_more : (trail : List Step) (clause : List Lit) (i : ℕ) (d : Lit) (o : Option Bool) → i < length clause → IsAssigned trail (take i clause) → IsValue trail (get_or clause i d) o → is_some o ≡ true → IsAssigned trail (take (i + 1) clause)
-assigned_more trail clause i d o lt all v e = All-more (λ (l : Lit). IsFree trail l.atom → ⊥) clause i d lt all (value_taken trail (get_or clause i d) o v e)
+pub assigned_more : (trail : List Step) (clause : List Lit) (i : ℕ) (d : Lit) (o : Option Bool) → i < length clause
+    → IsAssigned trail (take i clause) → IsValue trail (get_or clause i d) o → is_some o ≡ true
+    → IsAssigned trail (take (i + 1) clause)
+assigned_more trail clause i d o lt all v e =
+    All-more (λ (l : Lit). IsFree trail l.atom → ⊥) clause i d lt all (value_taken trail (get_or clause i d) o v e)
 
 pub all_taken : {X : Type 0} (P : X → Type 0) (xs : List X) (i : ℕ) → length xs ≤ i → All P (take i xs) → All P xs
 all_taken P xs i le all = subst (All P) (take_all i xs le) all
@@ -31,11 +37,14 @@ none_of : (o : Option Atom) (P : Type 0) → is_some o ≡ false → IfNone o P 
 none_of None P e p = p
 none_of (Some a) P e p = cc
 
-pub clause_more : (trail : List Step) (clauses : List (List Lit)) (i : ℕ) (item lits : List Lit) (o : Option Atom) → i < length clauses → All (IsAssigned trail) (take i clauses) → item ≡ get_or clauses i item → lits ≡ item
+pub clause_more : (trail : List Step) (clauses : List (List Lit)) (i : ℕ) (item lits : List Lit) (o : Option Atom)
+    → i < length clauses → All (IsAssigned trail) (take i clauses) → item ≡ get_or clauses i item → lits ≡ item
     → IfNone o (IsAssigned trail lits) → is_some o ≡ false → All (IsAssigned trail) (take (i + 1) clauses)
 clause_more trail clauses i item lits o lt all is same none e =
-    All-more (IsAssigned trail) clauses i item lt all (subst (IsAssigned trail) (same ∙ is) (none_of o (IsAssigned trail lits) e none))
+    All-more (IsAssigned trail) clauses i item lt all
+    (subst (IsAssigned trail) (same ∙ is) (none_of o (IsAssigned trail lits) e none))
 
 -- as many clauses as rows
-pub rows_within : (s : Sizes) (clauses : List (List Lit)) (rows : List (List Numbered)) → rows ≡ rows_of s clauses → length clauses ≡ length rows
+pub rows_within : (s : Sizes) (clauses : List (List Lit)) (rows : List (List Numbered)) → rows ≡ rows_of s clauses
+    → length clauses ≡ length rows
 rows_within s clauses rows e = sym (ap length e ∙ length-map clauses (row_of s))

@@ -1,5 +1,7 @@
 -- Which clauses need no look.
-use Rattle.std.proofs.Common.{◌≡◌, ◌≢◌, ◌⊎◌, ℕ, zero, suc, ◌+◌, ◌-◌, ◌<◌, ◌≤◌, List, [], ◌∷◌, ◌++◌, length, get_or, take, take_all, Some, inl, inr, refl, sym, ap, ◌∙◌, subst, arith, All, Contains, append_assoc, length-append, length-set}
+use Rattle.std.proofs.Common.{◌≡◌, ◌≢◌, ◌⊎◌, ℕ, zero, suc, ◌+◌, ◌-◌, ◌<◌, ◌≤◌, List, [], ◌∷◌, ◌++◌, length, get_or}
+use Rattle.std.proofs.Common.{take, take_all, Some, inl, inr, refl, sym, ap, ◌∙◌, subst, arith, All, Contains}
+use Rattle.std.proofs.Common.{append_assoc, length-append, length-set}
 use Rattle.std.specs.Prelude.{slice_get, slice_set}
 use Rattle.std.proofs.lemmas.Bool.{cases_eq}
 use Rattle.std.proofs.lemmas.List.Elements.{All-cons, All-contains, Contains-append_left, Contains-push}
@@ -14,12 +16,14 @@ use Rattle.gh_sat.specs.declared.status.Hint.{Hint}
 use Rattle.gh_sat.specs.Rows.{numbered}
 use Rattle.gh_sat.specs.Status.{IsBad, IsPair, IsGuarded, IsForced, AreForced, Grows}
 use Rattle.gh_sat.specs.Watch.{AreGuarded, AreVisited, MoveHints, AreListed, ListsMore, clauses_of}
-use Rattle.gh_base.proofs.ListLemmas.{get_within, get_front, get_last, get_take, take_get, get_some, get_set_same, get_set_other}
+use Rattle.gh_base.proofs.ListLemmas.{get_within, get_front, get_last, get_take, take_get, get_some, get_set_same}
+use Rattle.gh_base.proofs.ListLemmas.{get_set_other}
 use Rattle.gh_sat.proofs.TrailLemmas.{opposite_twice}
 use Rattle.gh_sat.proofs.StatusLemmas.{true_good, not_free_opposite}
 
 -- lists grow where one of them does
-pub get_or_set : {X : Type 0} (xs : List X) (i j : ℕ) (x d : X) → i < length xs → ((j ≡ i) × (get_or (slice_set xs i x) j d ≡ x)) ⊎ ((j ≢ i) × (get_or (slice_set xs i x) j d ≡ get_or xs j d))
+pub get_or_set : {X : Type 0} (xs : List X) (i j : ℕ) (x d : X) → i < length xs
+    → ((j ≡ i) × (get_or (slice_set xs i x) j d ≡ x)) ⊎ ((j ≢ i) × (get_or (slice_set xs i x) j d ≡ get_or xs j d))
 get_or_set [] i j x d h = absurd (omega arith)
 get_or_set (y ∷ xs) zero zero x d h = inl (refl, refl)
 get_or_set (y ∷ xs) zero (suc j) x d h = inr (λ e. cc, refl)
@@ -29,7 +33,8 @@ get_or_set (y ∷ xs) (suc i) (suc j) x d h = elim (get_or_set xs i j x d (omega
   | inr n ↦ inr (λ e. n.0 (omega arith), n.1)
 ]
 
-pub list_push : (lists : List (List ℕ)) (at k : ℕ) (new : List ℕ) → at < length lists → new ≡ get_or lists at [] ++ k ∷ []
+pub list_push : (lists : List (List ℕ)) (at k : ℕ) (new : List ℕ) → at < length lists
+    → new ≡ get_or lists at [] ++ k ∷ []
     → ListsMore lists (slice_set lists at new) × Contains (get_or (slice_set lists at new) at []) k
 list_push lists at k new h e = (
   record {
@@ -54,7 +59,8 @@ pub lists_more : (a b c : List (List ℕ)) → ListsMore a b → ListsMore b c �
 lists_more a b c p q = record { long = q.long ∙ p.long; keeps = λ code k h. q.keeps code k (p.keeps code k h) }
 
 -- a list with its own element put back
-pub set_same : (lists : List (List ℕ)) (at : ℕ) (new : List ℕ) → at < length lists → new ≡ get_or lists at [] → ListsMore lists (slice_set lists at new)
+pub set_same : (lists : List (List ℕ)) (at : ℕ) (new : List ℕ) → at < length lists → new ≡ get_or lists at []
+    → ListsMore lists (slice_set lists at new)
 set_same lists at new h e = record {
   long = length-set lists at new;
   keeps = λ code j there. elim (get_or_set lists at code new [] h) [
@@ -68,15 +74,20 @@ pub in_push : {X : Type 0} (xs : List X) (y x : X) → Contains (xs ++ y ∷ [])
 in_push [] y x (zero, h, e) = inr e
 in_push [] y x (suc k, h, e) = absurd (omega arith)
 in_push (z ∷ xs) y x (zero, h, e) = inl (zero, omega arith, e)
-in_push (z ∷ xs) y x (suc k, h, e) = elim (in_push xs y x (k, omega arith, e)) [ inl r ↦ inl (suc r.0, omega (arith, r.1), r.2) | inr f ↦ inr f ]
+in_push (z ∷ xs) y x (suc k, h, e) = elim (in_push xs y x (k, omega arith, e)) [
+  | inl r ↦ inl (suc r.0, omega (arith, r.1), r.2)
+  | inr f ↦ inr f
+]
 
-pub get_front_back : {X : Type 0} (xs ys : List X) (i : ℕ) (x : X) → i < length xs → slice_get (xs ++ ys) i ≡ Some x → slice_get xs i ≡ Some x
+pub get_front_back : {X : Type 0} (xs ys : List X) (i : ℕ) (x : X) → i < length xs → slice_get (xs ++ ys) i ≡ Some x
+    → slice_get xs i ≡ Some x
 get_front_back [] ys i x h e = absurd (omega arith)
 get_front_back (y ∷ xs) ys zero x h e = e
 get_front_back (y ∷ xs) ys (suc i) x h e = get_front_back xs ys i x (omega arith) e
 
 -- a list in which each member has one of two properties has a member with the second, or all have the first
-pub any_or_all : (A B : Lit → Type 0) (c : List Lit) → All (λ m. A m ⊎ B m) c → ((m : Lit) × Contains c m × B m) ⊎ All A c
+pub any_or_all : (A B : Lit → Type 0) (c : List Lit) → All (λ m. A m ⊎ B m) c
+    → ((m : Lit) × Contains c m × B m) ⊎ All A c
 any_or_all A B [] h = inr (λ k d lt. absurd (omega arith))
 any_or_all A B (l ∷ ls) h = elim (h 0 l (omega arith)) [
   | inr b ↦ inl (l, (zero, omega arith, refl), b)
@@ -91,10 +102,12 @@ pub true_longer : (trail : List Step) (n : ℕ) (l : Lit) → IsTrueIn (take n t
 true_longer trail n l s = let o = get_take n trail s.0 s.1 s.3 in (s.0, s.1, get_within trail s.0 s.1 o.1, o.1, s.4)
 
 pub true_grown : (old added : List Step) (l : Lit) → IsTrueIn old l → IsTrueIn (old ++ added) l
-true_grown old added l s = let at = get_front old added s.0 s.1 s.3 in (s.0, s.1, get_within (old ++ added) s.0 s.1 at, at, s.4)
+true_grown old added l s =
+    let at = get_front old added s.0 s.1 s.3 in (s.0, s.1, get_within (old ++ added) s.0 s.1 at, at, s.4)
 
 -- what is false by a step more was false before, or it is the opposite of that step
-pub false_next : (trail : List Step) (head : ℕ) (x : Step) (m : Lit) → slice_get trail head ≡ Some x → IsTrueIn (take (head + 1) trail) (opposite m) → IsTrueIn (take head trail) (opposite m) ⊎ (m ≡ opposite x.lit)
+pub false_next : (trail : List Step) (head : ℕ) (x : Step) (m : Lit) → slice_get trail head ≡ Some x
+    → IsTrueIn (take (head + 1) trail) (opposite m) → IsTrueIn (take head trail) (opposite m) ⊎ (m ≡ opposite x.lit)
 false_next trail head x m here s =
     let o = get_take (head + 1) trail s.0 s.1 s.3 in
     elim (cases_eq s.0 head) [
@@ -108,8 +121,10 @@ false_next trail head x m here s =
           inl (s.0, s.1, get_within (take head trail) s.0 s.1 at, at, s.4)
     ]
 
-pub pair_less : (s : Sizes) (known less : List Step) (c : List Lit) (h : Hint) → ((l : Lit) → IsTrueIn less l → IsTrueIn known l) → IsPair s known c h → IsPair s less c h
-pair_less s known less c h f p = record {
+-- a pair stays one where by what is known neither literal is false
+pair_known : (s : Sizes) (old new : List Step) (c : List Lit) (h : Hint) (p : IsPair s old c h)
+    → (IsTrueIn new (opposite p.one) → ⊥) → (IsTrueIn new (opposite p.other) → ⊥) → IsPair s new c h
+pair_known s old new c h p one_open other_open = record {
   one = p.one;
   other = p.other;
   one_in = p.one_in;
@@ -117,18 +132,26 @@ pair_less s known less c h f p = record {
   first = p.first;
   second = p.second;
   differ = p.differ;
-  one_open = λ t. p.one_open (f (opposite p.one) t);
-  other_open = λ t. p.other_open (f (opposite p.other) t);
+  one_open = one_open;
+  other_open = other_open;
 }
 
-pub pair_front : (s : Sizes) (trail : List Step) (n : ℕ) (c : List Lit) (h : Hint) → IsPair s trail c h → IsPair s (take n trail) c h
+pub pair_less : (s : Sizes) (known less : List Step) (c : List Lit) (h : Hint)
+    → ((l : Lit) → IsTrueIn less l → IsTrueIn known l) → IsPair s known c h → IsPair s less c h
+pair_less s known less c h f p =
+    pair_known s known less c h p (λ t. p.one_open (f (opposite p.one) t)) (λ t. p.other_open (f (opposite p.other) t))
+
+pub pair_front : (s : Sizes) (trail : List Step) (n : ℕ) (c : List Lit) (h : Hint) → IsPair s trail c h
+    → IsPair s (take n trail) c h
 pair_front s trail n c h p = pair_less s trail (take n trail) c h (true_longer trail n) p
 
-pub guarded_front : (s : Sizes) (trail : List Step) (n : ℕ) (c : List Lit) (h : Hint) → IsGuarded s trail trail c h → IsGuarded s trail (take n trail) c h
+pub guarded_front : (s : Sizes) (trail : List Step) (n : ℕ) (c : List Lit) (h : Hint) → IsGuarded s trail trail c h
+    → IsGuarded s trail (take n trail) c h
 guarded_front s trail n c h (inl t) = inl t
 guarded_front s trail n c h (inr p) = inr (pair_front s trail n c h p)
 
-pub guarded_grown : (s : Sizes) (old added known : List Step) (c : List Lit) (h : Hint) → IsGuarded s old known c h → IsGuarded s (old ++ added) known c h
+pub guarded_grown : (s : Sizes) (old added known : List Step) (c : List Lit) (h : Hint) → IsGuarded s old known c h
+    → IsGuarded s (old ++ added) known c h
 guarded_grown s old added known c h (inl t) = inl (t.0, t.1, true_grown old added t.0 t.2)
 guarded_grown s old added known c h (inr p) = inr p
 
@@ -136,80 +159,104 @@ guarded_grown s old added known c h (inr p) = inr p
 pub pair_good : (s : Sizes) (trail : List Step) (c : List Lit) (h : Hint) → IsPair s trail c h → IsBad trail c → ⊥
 pair_good s trail c h p (inl f) = p.one_open (All-contains (λ m. IsTrueIn trail (opposite m)) c p.one f p.one_in)
 pair_good s trail c h p (inr (u, i)) =
-    let one : p.one ≡ u = elim (All-contains (λ m. (m ≡ u) ⊎ IsTrueIn trail (opposite m)) c p.one i.others p.one_in) [ inl e ↦ e | inr t ↦ absurd (p.one_open t) ] in
-    let other : p.other ≡ u = elim (All-contains (λ m. (m ≡ u) ⊎ IsTrueIn trail (opposite m)) c p.other i.others p.other_in) [ inl e ↦ e | inr t ↦ absurd (p.other_open t) ] in
+    let one : p.one ≡ u = elim (All-contains (λ m. (m ≡ u) ⊎ IsTrueIn trail (opposite m)) c p.one i.others p.one_in) [
+      | inl e ↦ e
+      | inr t ↦ absurd (p.one_open t)
+    ] in
+    let other : p.other ≡ u =
+    elim (All-contains (λ m. (m ≡ u) ⊎ IsTrueIn trail (opposite m)) c p.other i.others p.other_in) [
+      | inl e ↦ e
+      | inr t ↦ absurd (p.other_open t)
+    ] in
     p.differ (one ∙ sym other)
 
-pub guarded_good : (t : Line) (c : List Lit) (h : Hint) → AreSteps t → IsGuarded t.sizes t.steps t.steps c h → IsBad t.steps c → ⊥
+pub guarded_good : (t : Line) (c : List Lit) (h : Hint) → AreSteps t → IsGuarded t.sizes t.steps t.steps c h
+    → IsBad t.steps c → ⊥
 guarded_good t c h valid (inl w) bad = true_good t c w.0 valid w.1 w.2 bad
 guarded_good t c h valid (inr p) bad = pair_good t.sizes t.steps c h p bad
 
 -- a step whose opposite is none of the two leaves both
-pub pair_next : (s : Sizes) (trail : List Step) (head : ℕ) (x : Step) (c : List Lit) (h : Hint) (gone : Numbered) → slice_get trail head ≡ Some x → numbered s (opposite x.lit) ≡ gone
-    → (h.first ≡ gone → ⊥) → (h.second ≡ gone → ⊥) → IsPair s (take head trail) c h → IsPair s (take (head + 1) trail) c h
-pair_next s trail head x c h gone here is n m p = record {
-  one = p.one;
-  other = p.other;
-  one_in = p.one_in;
-  other_in = p.other_in;
-  first = p.first;
-  second = p.second;
-  differ = p.differ;
-  one_open = λ t. elim (false_next trail head x p.one here t) [ inl old ↦ p.one_open old | inr e ↦ n (sym p.first ∙ ap (numbered s) e ∙ is) ];
-  other_open = λ t. elim (false_next trail head x p.other here t) [ inl old ↦ p.other_open old | inr e ↦ m (sym p.second ∙ ap (numbered s) e ∙ is) ];
-}
+pub pair_next : (s : Sizes) (trail : List Step) (head : ℕ) (x : Step) (c : List Lit) (h : Hint) (gone : Numbered)
+    → slice_get trail head ≡ Some x → numbered s (opposite x.lit) ≡ gone
+    → (h.first ≡ gone → ⊥) → (h.second ≡ gone → ⊥) → IsPair s (take head trail) c h
+    → IsPair s (take (head + 1) trail) c h
+pair_next s trail head x c h gone here is n m p =
+    pair_known s (take head trail) (take (head + 1) trail) c h p
+    (λ t. elim (false_next trail head x p.one here t) [
+      | inl old ↦ p.one_open old
+      | inr e ↦ n (sym p.first ∙ ap (numbered s) e ∙ is)
+    ])
+    (λ t. elim (false_next trail head x p.other here t) [
+      | inl old ↦ p.other_open old
+      | inr e ↦ m (sym p.second ∙ ap (numbered s) e ∙ is)
+    ])
 
 -- hints that move, as the trail grows
-pub moves_same : (s : Sizes) (clauses : List (List Lit)) (trail : List Step) (hints : List Hint) → MoveHints s clauses trail hints hints
+pub moves_same : (s : Sizes) (clauses : List (List Lit)) (trail : List Step) (hints : List Hint)
+    → MoveHints s clauses trail hints hints
 moves_same s clauses trail hints = record { long = refl; each = λ k c h at has. inl has }
 
-pub moves_set : (s : Sizes) (clauses : List (List Lit)) (trail : List Step) (hints : List Hint) (k : ℕ) (c : List Lit) (old h : Hint) → k < length hints → slice_get clauses k ≡ Some c → slice_get hints k ≡ Some old
+pub moves_set : (s : Sizes) (clauses : List (List Lit)) (trail : List Step) (hints : List Hint) (k : ℕ) (c : List Lit)
+    (old h : Hint) → k < length hints → slice_get clauses k ≡ Some c → slice_get hints k ≡ Some old
     → (h ≡ old) ⊎ IsPair s trail c h → MoveHints s clauses trail hints (slice_set hints k h)
 moves_set s clauses trail hints k c old h lt at was m = record {
   long = length-set hints k h;
   each = λ i d x here has. elim (cases_eq i k) [
     | inl e ↦
-        let set : slice_get (slice_set hints k h) k ≡ Some x = subst (λ j. slice_get (slice_set hints k h) j ≡ Some x) e has in
+        let set : slice_get (slice_set hints k h) k ≡ Some x =
+        subst (λ j. slice_get (slice_set hints k h) j ≡ Some x) e has in
         let is : h ≡ x = let z = get_set_same hints k h lt in cc in
         let there : slice_get clauses k ≡ Some d = subst (λ j. slice_get clauses j ≡ Some d) e here in
         let one : c ≡ d = cc in
         elim m [
           | inl kept ↦ inl (subst (λ j. slice_get hints j ≡ Some x) (sym e) (was ∙ ap Some (sym kept ∙ is)))
-          | inr p ↦ inr (subst (λ (y : Hint). IsPair s trail d y) is (subst (λ (y : List Lit). IsPair s trail y h) one p))
+          | inr p ↦
+              inr (subst (λ (y : Hint). IsPair s trail d y) is (subst (λ (y : List Lit). IsPair s trail y h) one p))
         ]
     | inr n ↦ inl (sym (get_set_other hints k i h n) ∙ has)
   ];
 }
 
-pub moves_on : (s : Sizes) (clauses : List (List Lit)) (level : ℕ) (a b : List Step) (x y z : List Hint) → Grows clauses level a b → MoveHints s clauses a x y → MoveHints s clauses b y z → MoveHints s clauses a x z
+pub moves_on : (s : Sizes) (clauses : List (List Lit)) (level : ℕ) (a b : List Step) (x y z : List Hint)
+    → Grows clauses level a b → MoveHints s clauses a x y → MoveHints s clauses b y z → MoveHints s clauses a x z
 moves_on s clauses level a b x y z g m n = record {
   long = n.long ∙ m.long;
   each = λ k c h at has. elim (n.each k c h at has) [
     | inl same ↦ m.each k c h at same
-    | inr p ↦ inr (pair_less s b a c h (λ l t. subst (λ (w : List Step). IsTrueIn w l) (sym g.1) (true_grown a g.0 l t)) p)
+    | inr p ↦
+        inr (pair_less s b a c h (λ l t. subst (λ (w : List Step). IsTrueIn w l) (sym g.1) (true_grown a g.0 l t)) p)
   ];
 }
 
 -- the front up to a place, of a trail that grew
-front_grown : (clauses : List (List Lit)) (level : ℕ) (old new : List Step) (n : ℕ) → n ≤ length old → Grows clauses level old new → take n new ≡ take n old
+front_grown : (clauses : List (List Lit)) (level : ℕ) (old new : List Step) (n : ℕ) → n ≤ length old
+    → Grows clauses level old new → take n new ≡ take n old
 front_grown clauses level old new n h g = ap (take n) g.1 ∙ take-append-le n old g.0 h
 
-pub guarded_along : (s : Sizes) (clauses : List (List Lit)) (level : ℕ) (old new : List Step) (n : ℕ) (c : List Lit) (h : Hint) → n ≤ length old → Grows clauses level old new → IsGuarded s old (take n old) c h → IsGuarded s new (take n new) c h
+pub guarded_along : (s : Sizes) (clauses : List (List Lit)) (level : ℕ) (old new : List Step) (n : ℕ) (c : List Lit)
+    (h : Hint) → n ≤ length old → Grows clauses level old new → IsGuarded s old (take n old) c h
+    → IsGuarded s new (take n new) c h
 guarded_along s clauses level old new n c h le g w =
     subst (λ (k : List Step). IsGuarded s new k c h) (sym (front_grown clauses level old new n le g))
     (subst (λ (t : List Step). IsGuarded s t (take n old) c h) (sym g.1) (guarded_grown s old g.0 (take n old) c h w))
 
 -- what is guarded stays so while the trail grows and hints move
-pub guarded_on : (s : Sizes) (clauses : List (List Lit)) (level : ℕ) (old new : List Step) (hints hints' : List Hint) (head looked : ℕ) → head ≤ length old → Grows clauses level old new → MoveHints s clauses old hints hints'
+pub guarded_on : (s : Sizes) (clauses : List (List Lit)) (level : ℕ) (old new : List Step) (hints hints' : List Hint)
+    (head looked : ℕ) → head ≤ length old → Grows clauses level old new → MoveHints s clauses old hints hints'
     → AreGuarded s clauses hints old head looked → AreGuarded s clauses hints' new head looked
 guarded_on s clauses level old new hints hints' head looked le g m w k c h lt at has =
-    guarded_along s clauses level old new head c h le g (elim (m.each k c h at has) [ inl same ↦ w k c h lt at same | inr p ↦ inr (pair_front s old head c h p) ])
+    guarded_along s clauses level old new head c h le g
+    (elim (m.each k c h at has) [ inl same ↦ w k c h lt at same | inr p ↦ inr (pair_front s old head c h p) ])
 
 -- a clause more was looked at
-pub guarded_looked : (s : Sizes) (clauses : List (List Lit)) (hints : List Hint) (trail : List Step) (head looked : ℕ) → ((c : List Lit) (h : Hint) → slice_get clauses looked ≡ Some c → slice_get hints looked ≡ Some h → IsGuarded s trail trail c h)
+pub guarded_looked : (s : Sizes) (clauses : List (List Lit)) (hints : List Hint) (trail : List Step) (head looked : ℕ)
+    → ((c : List Lit) (h : Hint) → slice_get clauses looked ≡ Some c → slice_get hints looked ≡ Some h
+    → IsGuarded s trail trail c h)
     → AreGuarded s clauses hints trail head looked → AreGuarded s clauses hints trail head (looked + 1)
 guarded_looked s clauses hints trail head looked one w k c h lt at has = elim (cases_eq k looked) [
-  | inl e ↦ guarded_front s trail head c h (one c h (subst (λ i. slice_get clauses i ≡ Some c) e at) (subst (λ i. slice_get hints i ≡ Some h) e has))
+  | inl e ↦
+      guarded_front s trail head c h
+      (one c h (subst (λ i. slice_get clauses i ≡ Some c) e at) (subst (λ i. slice_get hints i ≡ Some h) e has))
   | inr n ↦ w k c h (omega (arith, n, lt)) at has
 ]
 
@@ -218,87 +265,121 @@ in_cons n k rest (zero, h, e) = inl e
 in_cons n k rest (suc i, h, e) = inr (i, omega arith, e)
 
 -- the clauses that have the opposite of the next literal are the ones to visit
-pub visited_begin : (s : Sizes) (clauses : List (List Lit)) (lists : List (List ℕ)) (hints : List Hint) (trail : List Step) (head looked : ℕ) (x : Step) → AreListed s clauses lists → slice_get trail head ≡ Some x
-    → AreGuarded s clauses hints trail head looked → AreVisited s clauses hints trail head looked (clauses_of s lists (opposite x.lit))
-visited_begin s clauses lists hints trail head looked x listed here w k c h lt at has out = elim (w k c h lt at has) [
-  | inl t ↦ inl t
-  | inr p ↦ inr (record {
-    one = p.one;
-    other = p.other;
-    one_in = p.one_in;
-    other_in = p.other_in;
-    first = p.first;
-    second = p.second;
-    differ = p.differ;
-    one_open = λ t. elim (false_next trail head x p.one here t) [ inl old ↦ p.one_open old | inr e ↦ out (subst (λ m. Contains (clauses_of s lists m) k) e (listed k c p.one at p.one_in)) ];
-    other_open = λ t. elim (false_next trail head x p.other here t) [ inl old ↦ p.other_open old | inr e ↦ out (subst (λ m. Contains (clauses_of s lists m) k) e (listed k c p.other at p.other_in)) ];
-  })
-]
+pub visited_begin : (s : Sizes) (clauses : List (List Lit)) (lists : List (List ℕ)) (hints : List Hint)
+    (trail : List Step) (head looked : ℕ) (x : Step) → AreListed s clauses lists → slice_get trail head ≡ Some x
+    → AreGuarded s clauses hints trail head looked
+    → AreVisited s clauses hints trail head looked (clauses_of s lists (opposite x.lit))
+visited_begin s clauses lists hints trail head looked x listed here w k c h lt at has out =
+    let not : (l : Lit) → Contains c l → (opposite x.lit ≡ l → ⊥) = λ l there e.
+    out (subst (λ m. Contains (clauses_of s lists m) k) (sym e) (listed k c l at there)) in
+    elim (w k c h lt at has) [
+      | inl t ↦ inl t
+      | inr p ↦
+          inr (pair_known s (take head trail) (take (head + 1) trail) c h p
+          (λ t. elim (false_next trail head x p.one here t) [
+            | inl old ↦ p.one_open old
+            | inr e ↦ not p.one p.one_in (sym e)
+          ])
+          (λ t. elim (false_next trail head x p.other here t) [
+            | inl old ↦ p.other_open old
+            | inr e ↦ not p.other p.other_in (sym e)
+          ]))
+    ]
 
 -- a clause was visited
-pub visited_next : (s : Sizes) (clauses : List (List Lit)) (level : ℕ) (old new : List Step) (hints hints' : List Hint) (head looked n : ℕ) (rest : List ℕ) (x : Step) → slice_get old head ≡ Some x
+pub visited_next : (s : Sizes) (clauses : List (List Lit)) (level : ℕ) (old new : List Step) (hints hints' : List Hint)
+    (head looked n : ℕ) (rest : List ℕ) (x : Step) → slice_get old head ≡ Some x
     → Grows clauses level old new → MoveHints s clauses old hints hints'
-    → ((c : List Lit) (h : Hint) → n < looked → slice_get clauses n ≡ Some c → slice_get hints' n ≡ Some h → IsGuarded s new (take (head + 1) new) c h)
+    → ((c : List Lit) (h : Hint) → n < looked → slice_get clauses n ≡ Some c → slice_get hints' n ≡ Some h
+    → IsGuarded s new (take (head + 1) new) c h)
     → AreVisited s clauses hints old head looked (n ∷ rest) → AreVisited s clauses hints' new head looked rest
-visited_next s clauses level old new hints hints' head looked n rest x here g m one w k c h lt at has out = elim (cases_eq k n) [
-  | inl e ↦ one c h (subst (λ i. i < looked) e lt) (subst (λ i. slice_get clauses i ≡ Some c) e at) (subst (λ i. slice_get hints' i ≡ Some h) e has)
-  | inr f ↦
-      let lt' = get_within old head x here in
-      let left : Contains (n ∷ rest) k → ⊥ = λ z. elim (in_cons n k rest z) [ inl e ↦ f (sym e) | inr r ↦ out r ] in
-      guarded_along s clauses level old new (head + 1) c h (omega arith) g (elim (m.each k c h at has) [ inl same ↦ w k c h lt at same left | inr p ↦ inr (pair_front s old (head + 1) c h p) ])
-]
+visited_next s clauses level old new hints hints' head looked n rest x here g m one w k c h lt at has out =
+    elim (cases_eq k n) [
+      | inl e ↦
+          one c h (subst (λ i. i < looked) e lt) (subst (λ i. slice_get clauses i ≡ Some c) e at)
+          (subst (λ i. slice_get hints' i ≡ Some h) e has)
+      | inr f ↦
+          let lt' = get_within old head x here in
+          let left : Contains (n ∷ rest) k → ⊥ = λ z. elim (in_cons n k rest z) [ inl e ↦ f (sym e) | inr r ↦ out r ] in
+          guarded_along s clauses level old new (head + 1) c h (omega arith) g
+          (elim (m.each k c h at has) [
+            | inl same ↦ w k c h lt at same left
+            | inr p ↦
+                inr (pair_front s old (head + 1) c h p)
+          ])
+    ]
 
 -- none is left
-pub visited_end : (s : Sizes) (clauses : List (List Lit)) (hints : List Hint) (trail : List Step) (head looked : ℕ) → AreVisited s clauses hints trail head looked [] → AreGuarded s clauses hints trail (head + 1) looked
-visited_end s clauses hints trail head looked w k c h lt at has = w k c h lt at has (λ z. absurd (let i = z.1 in omega arith))
+pub visited_end : (s : Sizes) (clauses : List (List Lit)) (hints : List Hint) (trail : List Step) (head looked : ℕ)
+    → AreVisited s clauses hints trail head looked [] → AreGuarded s clauses hints trail (head + 1) looked
+visited_end s clauses hints trail head looked w k c h lt at has =
+    w k c h lt at has (λ z. absurd (let i = z.1 in omega arith))
 
 -- nothing waits
-pub guarded_all : (t : Line) (clauses : List (List Lit)) (hints : List Hint) (head looked k : ℕ) (c : List Lit) → AreSteps t → length t.steps ≤ head → length clauses ≤ looked → length hints ≡ length clauses
+pub guarded_all : (t : Line) (clauses : List (List Lit)) (hints : List Hint) (head looked k : ℕ) (c : List Lit)
+    → AreSteps t → length t.steps ≤ head → length clauses ≤ looked → length hints ≡ length clauses
     → AreGuarded t.sizes clauses hints t.steps head looked → slice_get clauses k ≡ Some c → IsBad t.steps c → ⊥
 guarded_all t clauses hints head looked k c valid h l long w at bad =
     let lt = get_within clauses k c at in
     let hint = get_some hints k (omega (arith, long, lt)) in
-    guarded_good t c hint.0 valid (subst (λ (known : List Step). IsGuarded t.sizes t.steps known c hint.0) (take_all head t.steps h) (w k c hint.0 (omega (arith, lt, l)) at hint.1)) bad
+    guarded_good t c hint.0 valid (subst (λ (known : List Step). IsGuarded t.sizes t.steps known c hint.0)
+    (take_all head t.steps h) (w k c hint.0 (omega (arith, lt, l)) at hint.1)) bad
 
 pub append_nil : {X : Type 0} (xs : List X) → xs ++ [] ≡ xs
 append_nil [] = refl
 append_nil (x ∷ xs) = ap (λ ys. x ∷ ys) (append_nil xs)
 
-forced_append : (clauses : List (List Lit)) (level : ℕ) (trail xs ys : List Step) → AreForced clauses level trail xs → AreForced clauses level (trail ++ xs) ys → AreForced clauses level trail (xs ++ ys)
+forced_append : (clauses : List (List Lit)) (level : ℕ) (trail xs ys : List Step) → AreForced clauses level trail xs
+    → AreForced clauses level (trail ++ xs) ys → AreForced clauses level trail (xs ++ ys)
 forced_append clauses level trail [] ys f g = subst (λ t. AreForced clauses level t ys) (append_nil trail) g
-forced_append clauses level trail (x ∷ xs) ys f g = (f.0, forced_append clauses level (trail ++ x ∷ []) xs ys f.1 (subst (λ t. AreForced clauses level t ys) (sym (append_assoc trail (x ∷ []) xs)) g))
+forced_append clauses level trail (x ∷ xs) ys f g = (
+  f.0,
+  forced_append clauses level (trail ++ x ∷ []) xs ys f.1
+      (subst (λ t. AreForced clauses level t ys) (sym (append_assoc trail (x ∷ []) xs)) g),
+)
 
 pub grows_not : (clauses : List (List Lit)) (level : ℕ) (trail : List Step) → Grows clauses level trail trail
 grows_not clauses level trail = ([], sym (append_nil trail), tt)
 
-pub grows_one : (clauses : List (List Lit)) (level : ℕ) (trail : List Step) (x : Step) → IsForced clauses level trail x → Grows clauses level trail (trail ++ x ∷ [])
+pub grows_one : (clauses : List (List Lit)) (level : ℕ) (trail : List Step) (x : Step) → IsForced clauses level trail x
+    → Grows clauses level trail (trail ++ x ∷ [])
 grows_one clauses level trail x f = (x ∷ [], refl, (f, tt))
 
-pub grows_on : (clauses : List (List Lit)) (level : ℕ) (a b c : List Step) → Grows clauses level a b → Grows clauses level b c → Grows clauses level a c
+pub grows_on : (clauses : List (List Lit)) (level : ℕ) (a b c : List Step) → Grows clauses level a b
+    → Grows clauses level b c → Grows clauses level a c
 grows_on clauses level a b c f g = (
   f.0 ++ g.0,
   g.1 ∙ ap (λ t. t ++ g.0) f.1 ∙ append_assoc a f.0 g.0,
   forced_append clauses level a f.0 g.0 f.2 (subst (λ t. AreForced clauses level t g.0) f.1 g.2),
 )
 
-pub grows_long : (clauses : List (List Lit)) (level : ℕ) (a b : List Step) → Grows clauses level a b → length a ≤ length b
+pub grows_long : (clauses : List (List Lit)) (level : ℕ) (a b : List Step) → Grows clauses level a b
+    → length a ≤ length b
 grows_long clauses level a b g = omega (arith, ap length g.1, length-append a g.0)
 
 -- a clause that got its last literal is neither false nor unit
-pub unit_good : (t : Line) (c : List Lit) (u : Lit) (x : Step) → AreSteps (push t x) → x.lit ≡ u → Contains c u → IsBad (t.steps ++ x ∷ []) c → ⊥
-unit_good t c u x valid e there bad = true_good (push t x) c u valid there (length t.steps, x, omega (arith, length_push t.steps x), get_last t.steps x, e) bad
+pub unit_good : (t : Line) (c : List Lit) (u : Lit) (x : Step) → AreSteps (push t x) → x.lit ≡ u → Contains c u
+    → IsBad (t.steps ++ x ∷ []) c → ⊥
+unit_good t c u x valid e there bad =
+    true_good (push t x) c u valid there
+    (length t.steps, x, omega (arith, length_push t.steps x), get_last t.steps x, e) bad
 
 -- the unit of a clause is one
 pub one_unit : (t : Line) (c : List Lit) (u w : Lit) → IsUnitIn t.steps c u → IsUnitIn t.steps c w → u ≡ w
-one_unit t c u w i j = elim (All-contains (λ m. (m ≡ w) ⊎ IsTrueIn t.steps (opposite m)) c u j.others i.there) [ inl e ↦ e | inr f ↦ absurd (not_free_opposite t.steps u f i.free) ]
+one_unit t c u w i j = elim (All-contains (λ m. (m ≡ w) ⊎ IsTrueIn t.steps (opposite m)) c u j.others i.there) [
+  | inl e ↦ e
+  | inr f ↦ absurd (not_free_opposite t.steps u f i.free)
+]
 
 -- the clause that was added last
-pub last_at : (clauses before : List (List Lit)) (c : List Lit) (k : ℕ) → clauses ≡ before ++ c ∷ [] → k ≡ length clauses - 1 → (k ≡ length before) × (slice_get clauses k ≡ Some c)
+pub last_at : (clauses before : List (List Lit)) (c : List Lit) (k : ℕ) → clauses ≡ before ++ c ∷ []
+    → k ≡ length clauses - 1 → (k ≡ length before) × (slice_get clauses k ≡ Some c)
 last_at clauses before c k e f =
     let long : length clauses ≡ length before + 1 = ap length e ∙ length_push before c in
     let same : k ≡ length before = omega arith in
     (same, ap (slice_get clauses) same ∙ ap (λ cs. slice_get cs (length before)) e ∙ get_last before c)
 
 -- a trail that grew from one with a step more
-pub grown_from : (clauses : List (List Lit)) (level : ℕ) (old mid new : List Step) (x : Step) → mid ≡ old ++ x ∷ [] → Grows clauses level mid new → (more : List Step) × (new ≡ old ++ x ∷ [] ++ more)
+pub grown_from : (clauses : List (List Lit)) (level : ℕ) (old mid new : List Step) (x : Step) → mid ≡ old ++ x ∷ []
+    → Grows clauses level mid new → (more : List Step) × (new ≡ old ++ x ∷ [] ++ more)
 grown_from clauses level old mid new x e g = (g.0, g.1 ∙ ap (λ t. t ++ g.0) e)

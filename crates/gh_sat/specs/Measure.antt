@@ -15,7 +15,8 @@ count_at level (x ∷ xs) = one_if x.level level + count_at level xs
 
 -- the measure is greater: at the first level at which the numbers differ there are more
 abbrev pub IsFurther : List Step → List Step → Type 0
-IsFurther old new = (level : ℕ) × ((k : ℕ) → k < level → count_at k new ≡ count_at k old) × (count_at level old < count_at level new)
+IsFurther old new =
+    (level : ℕ) × ((k : ℕ) → k < level → count_at k new ≡ count_at k old) × (count_at level old < count_at level new)
 
 -- literals that are added, by a decision or by propagation, lead further
 abbrev pub StepsLeadFurther : Type 0
@@ -27,13 +28,18 @@ IsCutLevel s level to = (level ≤ to) × (to < length s.starts)
 
 -- after such a cut the learnt unit is assigned there first, by the learnt clause
 abbrev pub UnitsAreAssigned : Type 0
-UnitsAreAssigned = (s : SearchState) (k : ℕ) (clause : List Lit) (level : ℕ) (unit : Lit) (to : ℕ) (new : List Step) → IsSound s → IsLearnt s k clause level unit → IsCutLevel s level to
+UnitsAreAssigned =
+    (s : SearchState) (k : ℕ) (clause : List Lit) (level : ℕ) (unit : Lit) (to : ℕ) (new : List Step) → IsSound s
+    → IsLearnt s k clause level unit → IsCutLevel s level to
     → GivesLast (cut (add_clause s clause) to) new
-    → (more : List Step) × (new ≡ (cut s to).trail ++ (record { lit = unit; level = to; reason = Some (length s.clauses) }) ∷ [] ++ more)
+    → (more : List Step) × (new ≡ (cut s to).trail
+    ++ (record { lit = unit; level = to; reason = Some (length s.clauses) }) ∷ [] ++ more)
 
 -- and then leads further than what was before the cut
 abbrev pub JumpsLeadFurther : Type 0
-JumpsLeadFurther = (s : SearchState) (k : ℕ) (clause : List Lit) (level : ℕ) (unit : Lit) (to : ℕ) (new : List Step) → IsSound s → IsLearnt s k clause level unit → IsCutLevel s level to
+JumpsLeadFurther =
+    (s : SearchState) (k : ℕ) (clause : List Lit) (level : ℕ) (unit : Lit) (to : ℕ) (new : List Step) → IsSound s
+    → IsLearnt s k clause level unit → IsCutLevel s level to
     → GivesLast (cut (add_clause s clause) to) new → IsFurther s.trail new
 
 abbrev pub power : ℕ → ℕ → ℕ
@@ -50,8 +56,13 @@ abbrev pub left : Sizes → List Step → ℕ
 left sizes trail = power (suc (count_of sizes)) (suc (count_of sizes)) - weight (count_of sizes) trail
 
 abbrev pub StepsLeaveLess : Type 0
-StepsLeaveLess = (sizes : Sizes) (trail : List Step) (x : Step) (more : List Step) → length (trail ++ x ∷ more) ≤ count_of sizes → left sizes (trail ++ x ∷ more) < left sizes trail
+StepsLeaveLess =
+    (sizes : Sizes) (trail : List Step) (x : Step) (more : List Step) → length (trail ++ x ∷ more) ≤ count_of sizes
+    → left sizes (trail ++ x ∷ more) < left sizes trail
 
 abbrev pub JumpsLeaveLess : Type 0
-JumpsLeaveLess = (s : SearchState) (k : ℕ) (clause : List Lit) (level : ℕ) (unit : Lit) (to : ℕ) (new : List Step) → IsSound s → IsLearnt s k clause level unit → IsCutLevel s level to
-    → GivesLast (cut (add_clause s clause) to) new → length new ≤ count_of s.sizes → left s.sizes new < left s.sizes s.trail
+JumpsLeaveLess =
+    (s : SearchState) (k : ℕ) (clause : List Lit) (level : ℕ) (unit : Lit) (to : ℕ) (new : List Step) → IsSound s
+    → IsLearnt s k clause level unit → IsCutLevel s level to
+    → GivesLast (cut (add_clause s clause) to) new → length new ≤ count_of s.sizes
+    → left s.sizes new < left s.sizes s.trail

@@ -1,5 +1,6 @@
 -- What a clause is under a trail, and unit propagation.
-use Rattle.std.specs.Prelude.{◌≡◌, ◌≢◌, ◌⊎◌, ⊤, ℕ, ◌+◌, List, [], ◌∷◌, ◌++◌, All, Contains, Some, length, take, slice_get}
+use Rattle.std.specs.Prelude.{◌≡◌, ◌≢◌, ◌⊎◌, ⊤, ℕ, ◌+◌, List, [], ◌∷◌, ◌++◌, All, Contains, Some, length, take}
+use Rattle.std.specs.Prelude.{slice_get}
 use Rattle.gh_base.specs.declared.atom.Lit.{Lit}
 use Rattle.gh_base.specs.declared.sizes.Sizes.{Sizes}
 use Rattle.gh_base.specs.Atoms.{AreInRange, opposite}
@@ -39,12 +40,15 @@ IsGuarded s trail known clause hint = ((l : Lit) × Contains clause l × IsTrueI
 -- it stays so, by the step at `head` too, where that step makes the literal `gone` false
 abbrev pub StaysGuarded : Line → Hint → Numbered → Type 0
 StaysGuarded t hint gone =
-    (head : ℕ) (x : Step) (clause : List Lit) → AreInRange t.sizes clause → slice_get t.steps head ≡ Some x → numbered t.sizes (opposite x.lit) ≡ gone
-    → IsGuarded t.sizes t.steps (take head t.steps) clause hint → IsGuarded t.sizes t.steps (take (head + 1) t.steps) clause hint
+    (head : ℕ) (x : Step) (clause : List Lit) → AreInRange t.sizes clause → slice_get t.steps head ≡ Some x
+    → numbered t.sizes (opposite x.lit) ≡ gone
+    → IsGuarded t.sizes t.steps (take head t.steps) clause hint
+    → IsGuarded t.sizes t.steps (take (head + 1) t.steps) clause hint
 
 -- where the clause is open, its hint stays or has two literals that aren't false
 abbrev pub IsMoved : Sizes → List Step → List Lit → Hint → Status → Type 0
-IsMoved s trail clause old (Open hint) = IsGuarded s trail trail clause hint × ((hint ≡ old) ⊎ IsPair s trail clause hint)
+IsMoved s trail clause old (Open hint) =
+    IsGuarded s trail trail clause hint × ((hint ≡ old) ⊎ IsPair s trail clause hint)
 IsMoved s trail clause old status = ⊤
 
 -- each atom of the clause has a truth
@@ -93,10 +97,13 @@ PutsUnit clauses level old new k = (c : List Lit) (u : Lit) → slice_get clause
 
 -- .. the last clause
 abbrev pub PutsLast : List (List Lit) → ℕ → List Step → List Step → Type 0
-PutsLast clauses level old new = (before : List (List Lit)) (c : List Lit) (u : Lit) → clauses ≡ before ++ c ∷ [] → IsUnitIn old c u
+PutsLast clauses level old new =
+    (before : List (List Lit)) (c : List Lit) (u : Lit) → clauses ≡ before ++ c ∷ [] → IsUnitIn old c u
     → new ≡ old ++ (record { lit = u; level = level; reason = Some (length before) }) ∷ []
 
 -- where the last clause is unit, its literal is put on the trail first
 abbrev pub PutsLastFirst : List (List Lit) → ℕ → List Step → List Step → Type 0
-PutsLastFirst clauses level old new = (before : List (List Lit)) (c : List Lit) (u : Lit) → clauses ≡ before ++ c ∷ [] → IsUnitIn old c u
-    → (more : List Step) × (new ≡ old ++ (record { lit = u; level = level; reason = Some (length before) }) ∷ [] ++ more)
+PutsLastFirst clauses level old new =
+    (before : List (List Lit)) (c : List Lit) (u : Lit) → clauses ≡ before ++ c ∷ [] → IsUnitIn old c u
+    → (more : List Step) × (new ≡ old ++ (record { lit = u; level = level; reason = Some (length before) }) ∷ []
+    ++ more)

@@ -1,5 +1,6 @@
 -- A theory beside the clauses.
-use Rattle.std.specs.Prelude.{◌≡◌, ◌≢◌, ◌⊎◌, ℕ, ◌≤◌, List, [], ◌∷◌, ◌++◌, All, Contains, Option, Some, length, take, map, slice_get}
+use Rattle.std.specs.Prelude.{◌≡◌, ◌≢◌, ◌⊎◌, ℕ, ◌≤◌, List, [], ◌∷◌, ◌++◌, All, Contains, Option, Some, length, take}
+use Rattle.std.specs.Prelude.{map, slice_get}
 use Rattle.gh_base.specs.declared.atom.Atom.{Atom}
 use Rattle.gh_base.specs.declared.atom.Lit.{Lit}
 use Rattle.gh_base.specs.Atoms.{opposite}
@@ -37,7 +38,8 @@ HasNoConflict valid trail = (c : List Lit) → valid c → IsFalseIn trail c →
 
 -- nor was one when a level was opened
 abbrev pub WereConsistent : (List Lit → Type 0) → List Step → List ℕ → Type 0
-WereConsistent valid trail starts = (level start : ℕ) → slice_get starts level ≡ Some start → HasNoConflict valid (take start trail)
+WereConsistent valid trail starts =
+    (level start : ℕ) → slice_get starts level ≡ Some start → HasNoConflict valid (take start trail)
 
 -- a clause of the theory is added
 abbrev pub AddsValid : (List Lit → Type 0) → SearchState → SearchState → Type 0
@@ -49,4 +51,5 @@ pub record PropagatesBeside (valid : List Lit → Type 0) (old new : SearchState
   pub sizes : new.sizes ≡ old.sizes
   pub starts : new.starts ≡ old.starts
   pub grows : Grows old.clauses (length old.starts) old.trail new.trail
-  pub clauses : (new.clauses ≡ old.clauses) ⊎ ((c : List Lit) × valid c × (new.clauses ≡ old.clauses ++ c ∷ []) × (answer ≡ Some (length old.clauses)))
+  pub clauses : (new.clauses ≡ old.clauses)
+      ⊎ ((c : List Lit) × valid c × (new.clauses ≡ old.clauses ++ c ∷ []) × (answer ≡ Some (length old.clauses)))

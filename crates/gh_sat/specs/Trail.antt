@@ -1,5 +1,7 @@
--- The trail of a search: the literals that are true, in the order in which they became so, and the levels that decisions open.
-use Rattle.std.specs.Prelude.{◌≡◌, ◌≢◌, ◌⊎◌, ℕ, zero, suc, ◌+◌, ◌-◌, ◌<◌, ◌≤◌, nat_lt, if◌then◌else◌, List, [], ◌∷◌, ◌++◌, All, Contains, Bool, true, false, Option, Some, None, length, take, slice_get}
+-- The trail of a search: the literals that are true, in the order in which they became so, and the levels that
+-- decisions open.
+use Rattle.std.specs.Prelude.{◌≡◌, ◌≢◌, ◌⊎◌, ℕ, zero, suc, ◌+◌, ◌-◌, ◌<◌, ◌≤◌, nat_lt, if◌then◌else◌, List, [], ◌∷◌}
+use Rattle.std.specs.Prelude.{◌++◌, All, Contains, Bool, true, false, Option, Some, None, length, take, slice_get}
 use Rattle.gh_base.specs.declared.atom.Atom.{Atom}
 use Rattle.gh_base.specs.declared.atom.Lit.{Lit}
 use Rattle.gh_base.specs.declared.sizes.Sizes.{Sizes}
@@ -60,7 +62,8 @@ IsValue trail l None = IsFree trail l.atom
 -- each atom is in range and stands once
 pub record AreSteps (t : Line) : Type 0 where
   pub range : (i : ℕ) (x : Step) → slice_get t.steps i ≡ Some x → IsInRange t.sizes x.lit.atom
-  pub apart : (i : ℕ) (x : Step) (j : ℕ) (y : Step) → slice_get t.steps i ≡ Some x → slice_get t.steps j ≡ Some y → x.lit.atom ≡ y.lit.atom → i ≡ j
+  pub apart : (i : ℕ) (x : Step) (j : ℕ) (y : Step) → slice_get t.steps i ≡ Some x → slice_get t.steps j ≡ Some y
+      → x.lit.atom ≡ y.lit.atom → i ≡ j
   pub few : length t.steps ≤ count_of t.sizes
   pub small : count_of t.sizes ≤ 4294967294
 
@@ -84,14 +87,17 @@ pub record IsSound (s : SearchState) : Type 0 where
   pub in_range : All (AreInRange s.sizes) s.clauses
   pub steps : AreSteps (record { sizes = s.sizes; steps = s.trail })
   -- a decision opens its level, and each other literal has its reason
-  pub caused : (i : ℕ) (x : Step) → slice_get s.trail i ≡ Some x → IsCaused s.clauses s.trail s.starts i x.lit x.level x.reason
+  pub caused : (i : ℕ) (x : Step) → slice_get s.trail i ≡ Some x
+      → IsCaused s.clauses s.trail s.starts i x.lit x.level x.reason
   pub leveled : (i : ℕ) (x : Step) → slice_get s.trail i ≡ Some x → x.level ≤ length s.starts
   -- the steps before a level's start are those of lower levels
-  pub split : (i : ℕ) (x : Step) (level start : ℕ) → slice_get s.trail i ≡ Some x → slice_get s.starts level ≡ Some start
+  pub split : (i : ℕ) (x : Step) (level start : ℕ) → slice_get s.trail i ≡ Some x
+      → slice_get s.starts level ≡ Some start
       → (x.level ≤ level → i < start) × (i < start → x.level ≤ level)
   pub few : length s.starts ≤ length s.trail
   -- each level has the step that opened it
-  pub starts : (level start : ℕ) → slice_get s.starts level ≡ Some start → (level ≤ start) × (x : Step) × (slice_get s.trail start ≡ Some x) × (x.level ≡ suc level)
+  pub starts : (level start : ℕ) → slice_get s.starts level ≡ Some start
+      → (level ≤ start) × (x : Step) × (slice_get s.trail start ≡ Some x) × (x.level ≡ suc level)
 
 abbrev pub unassigned : List (Option Bool) → ℕ
 unassigned [] = 0
@@ -101,21 +107,26 @@ unassigned (Some b ∷ vs) = unassigned vs
 -- the table of truth is that of the trail
 pub record AreValues (p : Partial) (trail : List Step) : Type 0 where
   pub range : (i : ℕ) (x : Step) → slice_get trail i ≡ Some x → IsInRange p.sizes x.lit.atom
-  pub on : (i : ℕ) (x : Step) → slice_get trail i ≡ Some x → slice_get p.values (number_of p.sizes x.lit.atom) ≡ Some (Some x.lit.positive)
-  pub back : (l : Lit) → IsInRange p.sizes l.atom → slice_get p.values (number_of p.sizes l.atom) ≡ Some (Some l.positive) → IsTrueIn trail l
-  pub apart : (i : ℕ) (x : Step) (j : ℕ) (y : Step) → slice_get trail i ≡ Some x → slice_get trail j ≡ Some y → x.lit.atom ≡ y.lit.atom → i ≡ j
+  pub on : (i : ℕ) (x : Step) → slice_get trail i ≡ Some x
+      → slice_get p.values (number_of p.sizes x.lit.atom) ≡ Some (Some x.lit.positive)
+  pub back : (l : Lit) → IsInRange p.sizes l.atom
+      → slice_get p.values (number_of p.sizes l.atom) ≡ Some (Some l.positive) → IsTrueIn trail l
+  pub apart : (i : ℕ) (x : Step) (j : ℕ) (y : Step) → slice_get trail i ≡ Some x → slice_get trail j ≡ Some y
+      → x.lit.atom ≡ y.lit.atom → i ≡ j
   pub count : unassigned p.values + length trail ≡ length p.values
   pub long : length p.values ≡ count_of p.sizes
   pub small : count_of p.sizes ≤ 4294967294
 
 -- the table of places by atom is that of the trail
 abbrev pub ArePlaces : Sizes → List ℕ → List Step → Type 0
-ArePlaces s places trail = (i : ℕ) (x : Step) → slice_get trail i ≡ Some x → slice_get places (number_of s x.lit.atom) ≡ Some i
+ArePlaces s places trail =
+    (i : ℕ) (x : Step) → slice_get trail i ≡ Some x → slice_get places (number_of s x.lit.atom) ≡ Some i
 
 -- the order of decisions: equalities, then the atoms with a version from the greatest number down, then definitions. It
 -- gives the number at a place, and the place of a number
 abbrev pub turned : Sizes → ℕ → ℕ
-turned s n = if nat_lt n (btwn_start s) then n else (if nat_lt n (def_start s) then btwn_start s + (def_start s - 1 - n) else n)
+turned s n =
+    if nat_lt n (btwn_start s) then n else (if nat_lt n (def_start s) then btwn_start s + (def_start s - 1 - n) else n)
 
 -- the atom at a place in this order has no truth
 abbrev pub IsFreeAt : Partial → ℕ → Type 0
@@ -148,7 +159,11 @@ push t x = record t { steps = t.steps ++ x ∷ [] }
 
 -- a level more, opened by its decision
 abbrev pub open_level : SearchState → Lit → SearchState
-open_level s lit = record s { trail = s.trail ++ (record { lit = lit; level = length s.starts + 1; reason = None }) ∷ []; starts = s.starts ++ length s.trail ∷ [] }
+open_level s lit =
+    record s {
+      trail = s.trail ++ (record { lit = lit; level = length s.starts + 1; reason = None }) ∷ [];
+      starts = s.starts ++ length s.trail ∷ [];
+    }
 
 -- .. on an atom in range that had no truth
 abbrev pub OpensLevel : SearchState → Lit → SearchState → Type 0

@@ -1,5 +1,6 @@
 -- Which clauses need no look.
-use Rattle.std.specs.Prelude.{◌≡◌, ◌⊎◌, ℕ, ◌+◌, ◌*◌, ◌<◌, List, [], Bool, true, false, Some, All, Contains, length, map, take, slice_get, slice_index_or}
+use Rattle.std.specs.Prelude.{◌≡◌, ◌⊎◌, ℕ, ◌+◌, ◌*◌, ◌<◌, List, [], Bool, true, false, Some, All, Contains, length, map}
+use Rattle.std.specs.Prelude.{take, slice_get, slice_index_or}
 use Rattle.gh_base.specs.declared.atom.Lit.{Lit}
 use Rattle.gh_base.specs.declared.sizes.Sizes.{Sizes}
 use Rattle.gh_base.specs.Atoms.{number_of}
@@ -11,17 +12,20 @@ use Rattle.gh_sat.specs.Status.{IsPair, IsGuarded}
 -- each clause that was looked at has a true literal, or two that aren't false before `head`
 abbrev pub AreGuarded : Sizes → List (List Lit) → List Hint → List Step → ℕ → ℕ → Type 0
 AreGuarded s clauses hints trail head looked =
-    (k : ℕ) (c : List Lit) (h : Hint) → k < looked → slice_get clauses k ≡ Some c → slice_get hints k ≡ Some h → IsGuarded s trail (take head trail) c h
+    (k : ℕ) (c : List Lit) (h : Hint) → k < looked → slice_get clauses k ≡ Some c → slice_get hints k ≡ Some h
+    → IsGuarded s trail (take head trail) c h
 
 -- the same with the step at `head`, for all but the clauses that are left
 abbrev pub AreVisited : Sizes → List (List Lit) → List Hint → List Step → ℕ → ℕ → List ℕ → Type 0
 AreVisited s clauses hints trail head looked rest =
-    (k : ℕ) (c : List Lit) (h : Hint) → k < looked → slice_get clauses k ≡ Some c → slice_get hints k ≡ Some h → (Contains rest k → ⊥) → IsGuarded s trail (take (head + 1) trail) c h
+    (k : ℕ) (c : List Lit) (h : Hint) → k < looked → slice_get clauses k ≡ Some c → slice_get hints k ≡ Some h
+    → (Contains rest k → ⊥) → IsGuarded s trail (take (head + 1) trail) c h
 
 -- each hint stays or has two literals that aren't false on the trail
 pub record MoveHints (s : Sizes) (clauses : List (List Lit)) (trail : List Step) (old new : List Hint) : Type 0 where
   pub long : length new ≡ length old
-  pub each : (k : ℕ) (c : List Lit) (h : Hint) → slice_get clauses k ≡ Some c → slice_get new k ≡ Some h → (slice_get old k ≡ Some h) ⊎ IsPair s trail c h
+  pub each : (k : ℕ) (c : List Lit) (h : Hint) → slice_get clauses k ≡ Some c → slice_get new k ≡ Some h
+      → (slice_get old k ≡ Some h) ⊎ IsPair s trail c h
 
 -- the numbers of literals: an atom's negative one, then its positive one
 abbrev pub sign : Bool → ℕ
@@ -51,7 +55,8 @@ IsListed s lists clause number = (m : Lit) → Contains clause m → Contains (c
 
 -- each clause stands in the lists of its literals
 abbrev pub AreListed : Sizes → List (List Lit) → List (List ℕ) → Type 0
-AreListed s clauses lists = (k : ℕ) (c : List Lit) (m : Lit) → slice_get clauses k ≡ Some c → Contains c m → Contains (clauses_of s lists m) k
+AreListed s clauses lists =
+    (k : ℕ) (c : List Lit) (m : Lit) → slice_get clauses k ≡ Some c → Contains c m → Contains (clauses_of s lists m) k
 
 -- lists only grew
 pub record ListsMore (old new : List (List ℕ)) : Type 0 where
@@ -61,12 +66,14 @@ pub record ListsMore (old new : List (List ℕ)) : Type 0 where
 -- when a level was opened, so many clauses had a true literal, or two that weren't false
 abbrev pub WereGuarded : Sizes → List (List Lit) → List Hint → List Step → List ℕ → List ℕ → Type 0
 WereGuarded s clauses hints trail starts counts =
-    (level start count k : ℕ) (c : List Lit) (h : Hint) → slice_get starts level ≡ Some start → slice_get counts level ≡ Some count → k < count → slice_get clauses k ≡ Some c → slice_get hints k ≡ Some h
+    (level start count k : ℕ) (c : List Lit) (h : Hint) → slice_get starts level ≡ Some start
+    → slice_get counts level ≡ Some count → k < count → slice_get clauses k ≡ Some c → slice_get hints k ≡ Some h
     → IsGuarded s (take start trail) (take start trail) c h
 
 -- the clause wasn't false when a level was opened
 abbrev pub WasOpen : List Step → List ℕ → List Lit → Type 0
-WasOpen trail starts clause = (level start : ℕ) → slice_get starts level ≡ Some start → IsFalseIn (take start trail) clause → ⊥
+WasOpen trail starts clause =
+    (level start : ℕ) → slice_get starts level ≡ Some start → IsFalseIn (take start trail) clause → ⊥
 
 abbrev pub WereOpen : SearchState → Type 0
 WereOpen s = (k : ℕ) (c : List Lit) → slice_get s.clauses k ≡ Some c → WasOpen s.trail s.starts c

@@ -9,9 +9,10 @@ use Rattle.gh_sat.specs.declared.status.Hint.{Hint}
 use Rattle.gh_sat.specs.Watch.{AreGuarded, AreListed, WereGuarded, WereOpen}
 use Rattle.gh_sat.specs.Learn.{IsTop, add_clause}
 
--- `counts` tells for each level how many clauses had been looked at when it was opened, `looked` clauses were looked at,
--- and the trail is propagated up to `head`
-pub record IsWhole (s : SearchState) (counts : List ℕ) (looked head : ℕ) (lists : List (List ℕ)) (hints : List Hint) : Type 0 where
+-- `counts` tells for each level how many clauses had been looked at when it was opened, `looked` clauses were looked
+-- at, and the trail is propagated up to `head`
+pub record IsWhole (s : SearchState) (counts : List ℕ) (looked head : ℕ) (lists : List (List ℕ))
+    (hints : List Hint) : Type 0 where
   pub sound : IsSound s
   pub guarded : AreGuarded s.sizes s.clauses hints s.trail head looked
   pub were_guarded : WereGuarded s.sizes s.clauses hints s.trail s.starts counts

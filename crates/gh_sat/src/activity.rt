@@ -134,8 +134,8 @@ impl Activity {
         }
     }
 
-    // Makes an entry for an atom, for which the heap then has room, and answers its number. Where the place or the number
-    // is none, no entry has the number that is answered.
+    // Makes an entry for an atom, for which the heap then has room, and answers its number. Where the place or the
+    // number is none, no entry has the number that is answered.
     fn enter(&mut self, place: u32) -> Result<u32, AllocError>
         ensures waiting { self.new.waiting ≡ self.old.waiting }
     {

@@ -1,8 +1,8 @@
 //! Places in the order of decisions at which a free atom of a clause may stand: hints, which no clause of a search
 //! speaks of.
 
-ghost use Rattle.std.specs.Prelude.{◌≡◌, IfOk, IfSome, IfNone, length};
-ghost use Rattle.gh_sat.specs.Hinted.{Clears, HasBit, HintsNothing};
+ghost use Rattle.std.specs.Prelude.{◌≡◌, IfOk, IfSome, IfNone};
+ghost use Rattle.gh_sat.specs.Hinted.{Clears, HasBit, FindsLowest, FindsIn, Finds, HintsNothing};
 
 use std::alloc::{AllocError, Global};
 
@@ -15,7 +15,8 @@ fn set_bit(words: &mut [u64], place: usize) {
 
 // The place of the lowest bit of a word, if it has one.
 fn lowest(words: &[u64], index: usize) -> Option<usize>
-    ensures { IfSome result (HasBit words.now) }
+    ensures bit { IfSome result (HasBit words.now) }
+    ensures found { FindsLowest words.now index result }
 {
     if index >= words.len() || words[index] == 0 {
         return None;
@@ -33,18 +34,6 @@ fn clear_bit(words: &mut [u64], place: usize) -> bool
         return words[place / 64] == 0;
     }
     true
-}
-
-// Takes the bit of a place away, if there is one. Answers whether the word has none then.
-fn clear_any(words: &mut [u64], place: Option<usize>) -> bool
-    ensures long { length words.new ≡ length words.old }
-    ensures some { IfSome place (Clears words.old words.new) }
-    ensures none { IfNone place (words.new ≡ words.old) }
-{
-    match place {
-        None => true,
-        Some(place) => clear_bit(words, place),
-    }
 }
 
 /// A bit for each place, for each word of these one that it has some, and for each word of those one that it has some.
@@ -78,23 +67,25 @@ impl Hinted {
     fn take_in(&mut self, block: usize) -> Option<usize>
         ensures was { IfSome result (HasBit self.old.places.items) }
         ensures taken { IfSome result (Clears self.old.places.items self.new.places.items) }
-        ensures none { IfNone result (self.new.places.items ≡ self.old.places.items) }
+        ensures found { FindsIn self.old block result }
+        ensures none { IfNone result (self.new ≡ self.old) }
     {
         let group = lowest(self.blocks.as_slice(), block)?;
         let word = lowest(self.words.as_slice(), group)?;
-        let place = lowest(self.places.as_slice(), word);
-        if clear_any(self.places.as_mut_slice(), place) {
+        let place = lowest(self.places.as_slice(), word)?;
+        if clear_bit(self.places.as_mut_slice(), place) {
             if clear_bit(self.words.as_mut_slice(), word) {
                 clear_bit(self.blocks.as_mut_slice(), group);
             }
         }
-        place
+        Some(place)
     }
 
     /// Takes the first place out, if there is one.
     pub fn take(&mut self) -> Option<usize>
         ensures was { IfSome result (HasBit self.old.places.items) }
         ensures taken { IfSome result (Clears self.old.places.items self.new.places.items) }
+        ensures found { Finds self.old result }
         ensures none { IfNone result (self.new.places.items ≡ self.old.places.items) }
     {
         for block in 0..self.blocks.len() {

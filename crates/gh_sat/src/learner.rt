@@ -1,6 +1,7 @@
 //! A search over clauses alone.
 
-ghost use Rattle.std.specs.Prelude.{◌≡◌, ◌⊎◌, ℕ, ◌+◌, ◌*◌, ◌-◌, ◌<◌, ◌≤◌, [], length, take, IfOk, OnOk, OnErr, IfSome, IfNone, Some, None, slice_get, vec_capacity, option_copied};
+ghost use Rattle.std.specs.Prelude.{◌≡◌, ◌⊎◌, ℕ, ◌+◌, ◌*◌, ◌-◌, ◌<◌, ◌≤◌, [], length, take, IfOk, OnOk, OnErr, IfSome};
+ghost use Rattle.std.specs.Prelude.{IfNone, Some, None, slice_get, vec_capacity, option_copied};
 ghost use Rattle.gh_base.specs.declared.atom.Lit.{Lit};
 ghost use Rattle.gh_base.specs.Atoms.{IsInRange, AreInRange, count_of};
 ghost use Rattle.gh_sat.specs.declared.trail.Step.{Step};
@@ -65,10 +66,13 @@ impl Model for Learner {
 
     ghost Value = { SearchState };
 
-    ghost view = { λ s. record { sizes = s.trail.sizes; clauses = s.clauses.items; trail = s.trail.steps; starts = s.starts.items } };
+    ghost view = { λ s.
+        record { sizes = s.trail.sizes; clauses = s.clauses.items; trail = s.trail.steps; starts = s.starts.items } };
 
     ghost invariant = { λ s.
-        IsWhole (record { sizes = s.trail.sizes; clauses = s.clauses.items; trail = s.trail.steps; starts = s.starts.items }) s.counts.items s.looked s.head s.occurrences s.hints.items
+        IsWhole
+        (record { sizes = s.trail.sizes; clauses = s.clauses.items; trail = s.trail.steps; starts = s.starts.items })
+        s.counts.items s.looked s.head s.occurrences s.hints.items
         × (count_of s.trail.sizes ≤ vec_capacity s.starts)
         × (count_of s.trail.sizes ≤ vec_capacity s.counts)
         × IsBounded (marks_of s.marks)
@@ -165,8 +169,8 @@ fn bump_lits(trail: &mut Trail, lits: &[Lit]) -> Result<(), AllocError>
     Ok(())
 }
 
-// Notes that the atoms of the learnt literals, and of the marked steps from a place on, stood in a conflict. That of the
-// place counts twice, since it is in both.
+// Notes that the atoms of the learnt literals, and of the marked steps from a place on, stood in a conflict. That of
+// the place counts twice, since it is in both.
 fn bump_marked(trail: &mut Trail, marks: &Marks, place: usize) -> Result<(), AllocError>
     ensures same { trail.new ≡ trail.old }
 {
@@ -242,8 +246,8 @@ impl Learner {
         Ok(learner)
     }
 
-    /// Adds a clause last that wasn't false when a level was opened. There are at most 4,294,967,293 clauses: where there
-    /// are as many, none is added, as for want of memory.
+    /// Adds a clause last that wasn't false when a level was opened. There are at most 4,294,967,293 clauses: where
+    /// there are as many, none is added, as for want of memory.
     pub fn insert(&mut self, clause: Clause) -> Result<(), AllocError>
         requires range { AreInRange self.old.sizes clause }
         requires was_open { WasOpen self.old.trail self.old.starts clause }
@@ -398,8 +402,8 @@ impl Learner {
     }
 
     /// An atom with no truth, if there is one: after some conflicts the one that stood in most and latest of them, else
-    /// the first in the order of decisions. There equalities come first, then the atoms with a version from the greatest
-    /// number down, then definitions.
+    /// the first in the order of decisions. There equalities come first, then the atoms with a version from the
+    /// greatest number down, then definitions.
     pub fn next_free(&mut self) -> Option<Atom>
         ensures same { self.new ≡ self.old }
         ensures some { IfSome result (λ a. IsInRange self.old.sizes a × IsFree self.old.trail a) }
@@ -409,8 +413,8 @@ impl Learner {
         self.trail.next_free()
     }
 
-    /// An atom of a clause with no truth, if there is one: after some conflicts the one that stood in most and latest of
-    /// them, else mostly the first in the order of decisions.
+    /// An atom of a clause with no truth, if there is one: after some conflicts the one that stood in most and latest
+    /// of them, else mostly the first in the order of decisions.
     pub fn next_needed(&mut self) -> Option<Atom>
         ensures same { self.new ≡ self.old }
         ensures some { IfSome result (λ a. IsInRange self.old.sizes a × IsFree self.old.trail a) }
@@ -489,8 +493,8 @@ impl Learner {
         })
     }
 
-    /// Where a clause is false at level 0, numbers of clauses that, taken as hints in this order, show the empty clause:
-    /// the reasons of all that it is reached from, and itself.
+    /// Where a clause is false at level 0, numbers of clauses that, taken as hints in this order, show the empty
+    /// clause: the reasons of all that it is reached from, and itself.
     pub fn refutation(&mut self, alloc: Global, conflict: u32) -> Result<Vec<u32>, AllocError>
         requires conflict { IsConflict self.old conflict }
         requires level { self.old.starts ≡ [] }

@@ -3,7 +3,8 @@
 ghost use Rattle.std.specs.Prelude.{◌≡◌, ℕ, ◌+◌, ◌<◌, ◌≤◌, [], ◌∷◌, length, All, OnOk, IfOk};
 ghost use Rattle.gh_base.specs.Atoms.{AreInRange, IsInRange};
 ghost use Rattle.gh_sat.specs.Trail.{IsFalseIn, AreSteps};
-ghost use Rattle.gh_sat.specs.Learn.{marks_of, IsMarked, HasMark, AllMarked, IsBounded, AreMarks, MarksMore, HaveReasons, IsLeft, AreMarksWithin, IsMarkedOrFalse, IsPresent, marked_before};
+ghost use Rattle.gh_sat.specs.Learn.{marks_of, IsMarked, HasMark, AllMarked, IsBounded, AreMarks, MarksMore};
+ghost use Rattle.gh_sat.specs.Learn.{HaveReasons, IsLeft, AreMarksWithin, IsMarkedOrFalse, IsPresent, marked_before};
 
 use crate::trail::Trail;
 use gh_base::atom::Lit;

@@ -1,13 +1,15 @@
 //! Why a search ends.
 
-ghost use Rattle.gh_sat.specs.Measure.{StepsLeadFurther, UnitsAreAssigned, JumpsLeadFurther, StepsLeaveLess, JumpsLeaveLess};
+ghost use Rattle.gh_sat.specs.Measure.{StepsLeadFurther, UnitsAreAssigned, JumpsLeadFurther, StepsLeaveLess};
+ghost use Rattle.gh_sat.specs.Measure.{JumpsLeaveLess};
 
 /// Decisions and propagated literals raise the measure.
 pub fn steps_lead_further()
     ensures { StepsLeadFurther }
 {}
 
-/// A learnt unit is assigned at the level of the cut when propagation answers after a cut to the lesson's level or above.
+/// A learnt unit is assigned at the level of the cut when propagation answers after a cut to the lesson's level or
+/// above.
 pub fn units_are_assigned()
     ensures { UnitsAreAssigned }
 {}

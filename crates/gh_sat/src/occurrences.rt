@@ -1,6 +1,7 @@
 //! For each literal the numbers of the clauses that have it.
 
-ghost use Rattle.std.specs.Prelude.{◌≡◌, ◌++◌, ◌*◌, ◌∷◌, ◌<◌, ◌≤◌, ℕ, [], Contains, IfOk, OnOk, OnErr, length, slice_index_or, replicate};
+ghost use Rattle.std.specs.Prelude.{◌≡◌, ◌++◌, ◌*◌, ◌∷◌, ◌<◌, ◌≤◌, ℕ, [], Contains, IfOk, OnOk, OnErr, length};
+ghost use Rattle.std.specs.Prelude.{slice_index_or, replicate};
 ghost use Rattle.gh_base.specs.Atoms.{IsInRange, AreInRange, count_of};
 ghost use Rattle.gh_sat.specs.Watch.{code_of, clauses_of, lists_by, AreLists, ListsMore, IsListed};
 

@@ -4,7 +4,8 @@ ghost use Rattle.std.specs.Prelude.{◌≡◌, ◌*◌, ◌<◌, ◌≤◌, IsTr
 ghost use Rattle.gh_base.specs.Atoms.{count_of};
 ghost use Rattle.gh_sat.specs.Status.{IsFalseClause, HasNoBad, PutsLast, PutsLastFirst, PutsUnit};
 ghost use Rattle.gh_sat.specs.Watch.{AreListed};
-ghost use Rattle.gh_sat.specs.Propagation.{AllGuarded, IsReady, Propagates, GuardsFurther, GuardsMore, IsFalseOrGuarded, VisitsAll, VisitsOne};
+ghost use Rattle.gh_sat.specs.Propagation.{AllGuarded, IsReady, Propagates, GuardsFurther, GuardsMore};
+ghost use Rattle.gh_sat.specs.Propagation.{IsFalseOrGuarded, VisitsAll, VisitsOne};
 
 use crate::occurrences::Occurrences;
 use crate::rows::{Numbered, Row};

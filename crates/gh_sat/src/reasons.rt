@@ -4,7 +4,8 @@ ghost use Rattle.std.specs.Prelude.{◌≡◌, ◌<◌, ◌≤◌, ◌+◌, ◌�
 ghost use Rattle.std.specs.List.{cons_option};
 ghost use Rattle.gh_base.specs.Atoms.{AreInRange};
 ghost use Rattle.gh_sat.specs.Trail.{IsFalseIn, AreSteps};
-ghost use Rattle.gh_sat.specs.Learn.{marks_of, AllMarked, IsBounded, AreMarks, AllHaveReasons, ResolvedFrom, reasons_of};
+ghost use Rattle.gh_sat.specs.Learn.{marks_of, AllMarked, IsBounded, AreMarks, AllHaveReasons, ResolvedFrom};
+ghost use Rattle.gh_sat.specs.Learn.{reasons_of};
 
 use crate::marks::{Marks, last_marked, mark_all};
 use crate::trail::Trail;
@@ -51,7 +52,8 @@ fn marked_reason(marks: &Marks, trail: &Trail, place: usize) -> Option<u32>
     requires within { place < length trail.now.steps }
     requires long { length trail.now.steps ≤ length marks.now.stamps.items }
     ensures { reasons_of marks.now.round (drop place marks.now.stamps.items) (drop place trail.now.steps)
-        ≡ cons_option result (reasons_of marks.now.round (drop (place + 1) marks.now.stamps.items) (drop (place + 1) trail.now.steps)) }
+        ≡ cons_option result
+        (reasons_of marks.now.round (drop (place + 1) marks.now.stamps.items) (drop (place + 1) trail.now.steps)) }
 {
     if marks.stamps[place] == marks.round {
         trail.steps()[place].reason
@@ -70,7 +72,8 @@ pub fn reasons_from(
 ) -> Result<Vec<u32>, AllocError>
     requires { length trail.now.steps ≤ length marks.now.stamps.items }
     ensures { IfOk result
-        (λ v. v.items ≡ reasons_of marks.now.round (drop from marks.now.stamps.items) (drop from trail.now.steps) ++ conflict ∷ []) }
+        (λ v. v.items ≡ reasons_of marks.now.round (drop from marks.now.stamps.items) (drop from trail.now.steps)
+        ++ conflict ∷ []) }
 {
     let mut reasons = Vec::new(alloc);
     for place in from..trail.steps().len() {

@@ -1,8 +1,10 @@
 //! A search over clauses beside a theory.
 
-ghost use Rattle.std.specs.Prelude.{◌≡◌, ◌≤◌, ◌<◌, [], length, IfOk, OnOk, OnErr, IfSome, IfNone, option_copied, slice_get};
-ghost use Rattle.gh_base.specs.Atoms.{AreInRange};
-ghost use Rattle.gh_sat.specs.Trail.{SearchState, IsAssignmentOf, IsSound, cut, AllHaveTruth, OpensLevel, search_over};
+ghost use Rattle.std.specs.Prelude.{◌≡◌, ◌≤◌, ◌<◌, [], length, IfOk, OnOk, OnErr, IfSome, IfNone, option_copied};
+ghost use Rattle.std.specs.Prelude.{slice_get};
+ghost use Rattle.gh_base.specs.Atoms.{IsInRange, AreInRange};
+ghost use Rattle.gh_sat.specs.Trail.{SearchState, IsAssignmentOf, IsSound, IsFree, cut, AllHaveTruth, OpensLevel};
+ghost use Rattle.gh_sat.specs.Trail.{search_over};
 ghost use Rattle.gh_sat.specs.Status.{IsSettled, AreAssigned};
 ghost use Rattle.gh_sat.specs.Learn.{IsConflict, IsLearnt, AreReasons, add_clause};
 ghost use Rattle.gh_sat.specs.Whole.{GivesLast, Adds};
@@ -161,7 +163,25 @@ impl<T: Theory> Search<T> {
         }
     }
 
-    /// Opens a level with the atom of the learner's `next_free`, if there is one. The theory says which truth is tried first.
+    // Opens a level with an atom that has no truth. The theory says which truth is tried first.
+    fn open(&mut self, atom: Atom) -> Lit
+        requires settled { IsSettled self.old }
+        requires consistent { HasNoConflict (T.valid self.old.sizes) self.old.trail }
+        requires range { IsInRange self.old.sizes atom }
+        requires free { IsFree self.old.trail atom }
+        ensures atom { result.atom ≡ atom }
+        ensures opens { OpensLevel self.old result self.new }
+    {
+        let lit = Lit {
+            atom,
+            positive: self.theory.prefers(atom),
+        };
+        self.learner.assume(lit);
+        lit
+    }
+
+    /// Opens a level with the atom of the learner's `next_free`, if there is one. The theory says which truth is tried
+    /// first.
     pub fn decide(&mut self) -> Option<Lit>
         requires settled { IsSettled self.old }
         requires consistent { HasNoConflict (T.valid self.old.sizes) self.old.trail }
@@ -169,15 +189,11 @@ impl<T: Theory> Search<T> {
         ensures some { IfSome result (λ lit. OpensLevel self.old lit self.new) }
     {
         let atom = self.learner.next_free()?;
-        let lit = Lit {
-            atom,
-            positive: self.theory.prefers(atom),
-        };
-        self.learner.assume(lit);
-        Some(lit)
+        Some(self.open(atom))
     }
 
-    /// Opens a level with an atom of a clause that has no truth, if there is one. The theory says which truth is tried first.
+    /// Opens a level with an atom of a clause that has no truth, if there is one. The theory says which truth is tried
+    /// first.
     pub fn decide_needed(&mut self) -> Option<Lit>
         requires settled { IsSettled self.old }
         requires consistent { HasNoConflict (T.valid self.old.sizes) self.old.trail }
@@ -185,12 +201,7 @@ impl<T: Theory> Search<T> {
         ensures some { IfSome result (λ lit. OpensLevel self.old lit self.new) }
     {
         let atom = self.learner.next_needed()?;
-        let lit = Lit {
-            atom,
-            positive: self.theory.prefers(atom),
-        };
-        self.learner.assume(lit);
-        Some(lit)
+        Some(self.open(atom))
     }
 
     /// Adds the clause of the first unique implication point of a false clause, as [`Search::add`] does.
@@ -206,7 +217,8 @@ impl<T: Theory> Search<T> {
         self.learner.learn(alloc, k)
     }
 
-    /// Where a clause is false at level 0, numbers of clauses that, taken as hints in this order, show the empty clause.
+    /// Where a clause is false at level 0, numbers of clauses that, taken as hints in this order, show the empty
+    /// clause.
     pub fn refutation(&mut self, alloc: Global, k: u32) -> Result<Vec<u32>, AllocError>
         requires conflict { IsConflict self.old k }
         requires level { self.old.starts ≡ [] }
@@ -228,8 +240,8 @@ impl<T: Theory> Search<T> {
         }
     }
 
-    /// Adds a clause last. Where it is false under the trail, that is cut to the greatest level of its literals. There are
-    /// at most 4,294,967,293 clauses: where there are as many, none is added, as for want of memory.
+    /// Adds a clause last. Where it is false under the trail, that is cut to the greatest level of its literals. There
+    /// are at most 4,294,967,293 clauses: where there are as many, none is added, as for want of memory.
     pub fn add(&mut self, clause: Clause) -> Result<(), AllocError>
         requires { AreInRange self.old.sizes clause }
         ensures ok { OnOk result (Adds self.old clause self.new) }

@@ -42,8 +42,8 @@ fn is_false(trail: &Trail, lit: Numbered) -> bool
     }
 }
 
-/// The status of a clause. Where two of its literals aren't false, the first two such ones are its hint from now on, else
-/// the hint stays.
+/// The status of a clause. Where two of its literals aren't false, the first two such ones are its hint from now on,
+/// else the hint stays.
 pub fn status_of(trail: &Trail, clause: &[Lit], row: &[Numbered], hint: Hint) -> Status
     requires range { AreInRange trail.now.sizes clause.now }
     requires row { row.now ≡ row_of trail.now.sizes clause.now }

@@ -41,8 +41,8 @@ pub trait Theory: Drop {
         ensures asserted { asserted self.new ≡ take mark (asserted self.old) }
         ensures sizes { sizes self.new ≡ sizes self.old };
 
-    /// The truth that is tried first for an atom that has none: false, where a theory knows no better. No clause rests on
-    /// it.
+    /// The truth that is tried first for an atom that has none: false, where a theory knows no better. No clause rests
+    /// on it.
     fn prefers(&self, atom: Atom) -> bool
         requires in_range { IsInRange (sizes self.now) atom }
     {

@@ -7,7 +7,8 @@ pub returns-then-place-words : goal.returns-then-place-words
 returns-then-place-words c =
     let words = c.args.words.now in
     let index = c.args.place / 64 in
-    clears_one words (get_or words index 0) c.args.place (slice_get-get_or words index 0 (omega (arith, c.if-place-words.true)))
+    clears_one words (get_or words index 0) c.args.place
+    (slice_get-get_or words index 0 (omega (arith, c.if-place-words.true)))
 
 pub returns : goal.returns
 returns c = clears_none c.args.words.now c.args.place (omega (arith, c.if-place-words.false))

@@ -17,8 +17,18 @@ returns-clause-none c =
       | then-marks w ↦ ap (λ (m : Marks). length m.stamps.items) w.marks-is ∙ w.wipe.ensures.long
       | else-marks w ↦ ap (λ (m : Marks). length m.stamps.items) w.marks-is
     ] in
-    λ trail h k few. subst (λ (l : List Lit). AreMarks trail (record { stamps = c.if-marks.marks.stamps.items; round = c.if-marks.marks.round + 1; lower = l; level = 0; start = c.args.start; end = c.args.end; waiting = 0 }))
-    (sym c.clear.ensures.items) (marks_none trail c.if-marks.marks.stamps.items c.if-marks.marks.round c.args.start c.args.end b h k (le_along refl (sym long) few))
+    λ trail h k few. subst (λ (l : List Lit). AreMarks trail
+    (record {
+      stamps = c.if-marks.marks.stamps.items;
+      round = c.if-marks.marks.round + 1;
+      lower = l;
+      level = 0;
+      start = c.args.start;
+      end = c.args.end;
+      waiting = 0;
+    }))
+    (sym c.clear.ensures.items) (marks_none trail c.if-marks.marks.stamps.items c.if-marks.marks.round c.args.start
+    c.args.end b h k (le_along refl (sym long) few))
 
 pub returns-clause-unmarked : goal.returns-clause-unmarked
 returns-clause-unmarked c =

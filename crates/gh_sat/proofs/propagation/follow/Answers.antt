@@ -1,4 +1,5 @@
-use Rattle.std.proofs.Common.{◌≡◌, ◌≤◌, ◌<◌, ◌+◌, ◌*◌, ◌∙◌, [], ℕ, List, Bool, true, Option, Some, None, arith, ap, sym, subst, length, get_or}
+use Rattle.std.proofs.Common.{◌≡◌, ◌≤◌, ◌<◌, ◌+◌, ◌*◌, ◌∙◌, [], ℕ, List, Bool, true, Option, Some, None, arith, ap, sym}
+use Rattle.std.proofs.Common.{subst, length, get_or}
 use Rattle.std.specs.Prelude.{slice_get, IfNone}
 use Rattle.std.specs.Option.{is_some}
 use Rattle.std.proofs.lemmas.Option.{slice_get-get_or}
@@ -12,14 +13,16 @@ use Rattle.gh_sat.specs.Watch.{AreGuarded, AreVisited, clauses_of}
 use Rattle.gh_base.proofs.ListLemmas.{get_within}
 use Rattle.gh_sat.proofs.StatusLemmas.{nothing}
 use Rattle.gh_sat.proofs.WatchLemmas.{visited_begin, visited_end}
-use Rattle.gh_sat.proofs.PropagationLemmas.{propagates_not, propagates_on, propagates_long, propagates_guarded, ready_on}
+use Rattle.gh_sat.proofs.PropagationLemmas.{propagates_not, propagates_on, propagates_long, propagates_guarded}
+use Rattle.gh_sat.proofs.PropagationLemmas.{ready_on}
 use Rattle.gh_sat.proofs.propagation.follow.Goals as goal
 
 abbrev no_step : Step
 no_step = record { lit = nothing; level = 0; reason = None }
 
 -- the step that the code reads
-step_at : (t : Line) (steps steps' : List Step) (head : ℕ) → steps ≡ t.steps → steps' ≡ t.steps → head < length steps → slice_get t.steps head ≡ Some (get_or steps' head no_step)
+step_at : (t : Line) (steps steps' : List Step) (head : ℕ) → steps ≡ t.steps → steps' ≡ t.steps → head < length steps
+    → slice_get t.steps head ≡ Some (get_or steps' head no_step)
 step_at t steps steps' head e f h =
     let lt : head < length t.steps = subst (λ (s : List Step). head < length s) e h in
     slice_get-get_or t.steps head no_step lt ∙ ap (λ (s : List Step). Some (get_or s head no_step)) (sym f)
@@ -34,44 +37,57 @@ loop-head-init c = record {
 pub of-gone-requires-clause-range : goal.of-gone-requires-clause-range
 of-gone-requires-clause-range c =
     let t = c.loop-head.trail in
-    let at = step_at t c.steps.result.now c.steps-in-loop-head.result.now c.loop-head.head c.steps.ensures.steps c.steps-in-loop-head.ensures.steps c.loop-head-test.true in
-    let r = c.steps.ensures.valid.range c.loop-head.head (get_or c.steps-in-loop-head.result.now c.loop-head.head no_step) at in
-    subst (λ (s : Sizes). IsInRange s c.negated-lit.result.atom) (sym c.sizes.ensures.sizes) (subst (λ (l : Lit). IsInRange t.sizes l.atom) (sym c.negated-lit.ensures) r)
+    let at = step_at t c.steps.result.now c.steps-in-loop-head.result.now c.loop-head.head c.steps.ensures.steps
+    c.steps-in-loop-head.ensures.steps c.loop-head-test.true in
+    let r = c.steps.ensures.valid.range c.loop-head.head
+    (get_or c.steps-in-loop-head.result.now c.loop-head.head no_step) at in
+    subst (λ (s : Sizes). IsInRange s c.negated-lit.result.atom) (sym c.sizes.ensures.sizes)
+    (subst (λ (l : Lit). IsInRange t.sizes l.atom) (sym c.negated-lit.ensures) r)
 
 pub of-list-requires-clause-range : goal.of-list-requires-clause-range
 of-list-requires-clause-range c =
     let t = c.loop-head.trail in
-    let at = step_at t c.steps.result.now c.steps-in-loop-head.result.now c.loop-head.head c.steps.ensures.steps c.steps-in-loop-head.ensures.steps c.loop-head-test.true in
-    let r = c.steps.ensures.valid.range c.loop-head.head (get_or c.steps-in-loop-head.result.now c.loop-head.head no_step) at in
-    subst (λ (s : Sizes). IsInRange s c.negated-lit.result.atom) (sym c.sizes-in-loop-head.ensures.sizes) (subst (λ (l : Lit). IsInRange t.sizes l.atom) (sym c.negated-lit.ensures) r)
+    let at = step_at t c.steps.result.now c.steps-in-loop-head.result.now c.loop-head.head c.steps.ensures.steps
+    c.steps-in-loop-head.ensures.steps c.loop-head-test.true in
+    let r = c.steps.ensures.valid.range c.loop-head.head
+    (get_or c.steps-in-loop-head.result.now c.loop-head.head no_step) at in
+    subst (λ (s : Sizes). IsInRange s c.negated-lit.result.atom) (sym c.sizes-in-loop-head.ensures.sizes)
+    (subst (λ (l : Lit). IsInRange t.sizes l.atom) (sym c.negated-lit.ensures) r)
 
 pub of-list-requires-clause-long : goal.of-list-requires-clause-long
 of-list-requires-clause-long c =
-    c.requires.lists ∙ ap (λ (s : Sizes). 2 * count_of s) (sym (c.sizes-in-loop-head.ensures.sizes ∙ c.loop-head.invariant.propagates.sizes))
+    c.requires.lists ∙ ap (λ (s : Sizes). 2 * count_of s)
+    (sym (c.sizes-in-loop-head.ensures.sizes ∙ c.loop-head.invariant.propagates.sizes))
 
 pub visit-conflict-requires : goal.visit-conflict-requires
 visit-conflict-requires c =
     let l = c.loop-head in
-    record { ready = ready_on c.args.database.now c.args.level c.args.trail.now l.trail c.args.hints.now l.hints c.requires.ready l.invariant.propagates }
+    record {
+      ready = ready_on c.args.database.now c.args.level c.args.trail.now l.trail c.args.hints.now l.hints
+          c.requires.ready l.invariant.propagates;
+    }
 
 pub returns-then-is_some-clause-propagates : goal.returns-then-is_some-clause-propagates
 returns-then-is_some-clause-propagates c =
     let l = c.loop-head in
     let new = c.visit-conflict.new in
-    propagates_on c.args.database.now c.args.level c.args.trail.now l.trail new.trail c.args.hints.now l.hints new.hints l.invariant.propagates c.visit-conflict.ensures.propagates
+    propagates_on c.args.database.now c.args.level c.args.trail.now l.trail new.trail c.args.hints.now l.hints new.hints
+    l.invariant.propagates c.visit-conflict.ensures.propagates
 
 pub returns-then-is_some-clause-head : goal.returns-then-is_some-clause-head
 returns-then-is_some-clause-head c =
     let l = c.loop-head in
     let new = c.visit-conflict.new in
-    propagates_long c.args.database.now c.args.level l.trail new.trail l.hints new.hints l.head l.invariant.within c.visit-conflict.ensures.propagates
+    propagates_long c.args.database.now c.args.level l.trail new.trail l.hints new.hints l.head l.invariant.within
+    c.visit-conflict.ensures.propagates
 
 pub returns-then-is_some-clause-guarded : goal.returns-then-is_some-clause-guarded
 returns-then-is_some-clause-guarded c = λ looked w.
     let l = c.loop-head in
     let i = l.invariant in
     let new = c.visit-conflict.new in
-    propagates_guarded c.args.database.now c.args.level c.args.trail.now.sizes l.trail new.trail l.hints new.hints l.head looked i.propagates.sizes i.within c.visit-conflict.ensures.propagates (i.guarded looked w)
+    propagates_guarded c.args.database.now c.args.level c.args.trail.now.sizes l.trail new.trail l.hints new.hints
+    l.head looked i.propagates.sizes i.within c.visit-conflict.ensures.propagates (i.guarded looked w)
 
 none_of : (o : Option ℕ) (b : Bool) (P : Type 0) → b ≡ is_some o → (b ≡ true → ⊥) → IfNone o P → P
 none_of None b P e n h = h
@@ -89,19 +105,26 @@ loop-head-preserved c =
     let occ = d.occurrences.now in
     let new = c.visit-conflict.new in
     let x = get_or c.steps-in-loop-head.result.now l.head no_step in
-    let at = step_at t c.steps.result.now c.steps-in-loop-head.result.now l.head c.steps.ensures.steps c.steps-in-loop-head.ensures.steps c.loop-head-test.true in
+    let at = step_at t c.steps.result.now c.steps-in-loop-head.result.now l.head c.steps.ensures.steps
+    c.steps-in-loop-head.ensures.steps c.loop-head-test.true in
     let lt : l.head < length t.steps = get_within t.steps l.head x at in
     let up : l.head + 1 ≤ length t.steps = omega arith in
     let list : clauses_of c.args.trail.now.sizes occ (opposite x.lit) ≡ c.of-list.result.now =
-    sym (c.of-list.ensures ∙ ap (λ (z : Sizes). clauses_of z occ c.negated-lit.result) (c.sizes-in-loop-head.ensures.sizes ∙ p.sizes) ∙ ap (λ (m : Lit). clauses_of c.args.trail.now.sizes occ m) c.negated-lit.ensures) in
+    sym (c.of-list.ensures ∙ ap (λ (z : Sizes). clauses_of z occ c.negated-lit.result)
+    (c.sizes-in-loop-head.ensures.sizes ∙ p.sizes)
+    ∙ ap (λ (m : Lit). clauses_of c.args.trail.now.sizes occ m) c.negated-lit.ensures) in
     record {
-      propagates = propagates_on d c.args.level c.args.trail.now t new.trail c.args.hints.now l.hints new.hints p v.propagates;
+      propagates = propagates_on d c.args.level c.args.trail.now t new.trail c.args.hints.now l.hints new.hints p
+          v.propagates;
       within = propagates_long d c.args.level t new.trail l.hints new.hints (l.head + 1) up v.propagates;
       guarded = λ looked w.
           let s = c.args.trail.now.sizes in
           let g = i.guarded looked w in
-          let done = none_of c.visit-conflict.result c.is_some.result _ c.is_some.ensures (λ e. let f = c.if-is_some.false in cc) v.visited in
-          let gone : numbered t.sizes (opposite x.lit) ≡ c.of-gone.result = sym (c.of-gone.ensures ∙ ap (λ (z : Sizes). numbered z c.negated-lit.result) c.sizes.ensures.sizes ∙ ap (numbered t.sizes) c.negated-lit.ensures) in
+          let done = none_of c.visit-conflict.result c.is_some.result _ c.is_some.ensures
+          (λ e. let f = c.if-is_some.false in cc) v.visited in
+          let gone : numbered t.sizes (opposite x.lit) ≡ c.of-gone.result =
+          sym (c.of-gone.ensures ∙ ap (λ (z : Sizes). numbered z c.negated-lit.result) c.sizes.ensures.sizes
+          ∙ ap (numbered t.sizes) c.negated-lit.ensures) in
           visited_end s cs new.hints new.trail.steps l.head looked
           (subst (λ (z : Sizes). AreVisited z cs new.hints new.trail.steps l.head looked []) p.sizes
           (done l.head looked x at gone

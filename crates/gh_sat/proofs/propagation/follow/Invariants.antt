@@ -8,7 +8,8 @@ abbrev pub invariant-loop-head : goal.invariant-loop-head
 invariant-loop-head l = record {
   propagates : Propagates l.database l.fn.level l.initial.trail l.trail l.initial.hints l.hints;
   within : l.head ≤ length l.trail.steps;
-  guarded : (looked : ℕ) → AreGuarded l.initial.trail.sizes l.database.clauses.now l.initial.hints l.initial.trail.steps l.initial.head looked
+  guarded : (looked : ℕ) → AreGuarded l.initial.trail.sizes l.database.clauses.now l.initial.hints l.initial.trail.steps
+      l.initial.head looked
       → AreGuarded l.initial.trail.sizes l.database.clauses.now l.hints l.trail.steps l.head looked;
 }
 

@@ -2,7 +2,8 @@ use Rattle.std.proofs.Common.{arith, inl, inr, subst}
 use Rattle.gh_base.specs.declared.sizes.Sizes.{Sizes}
 use Rattle.gh_sat.specs.Status.{IsGuarded}
 use Rattle.gh_sat.proofs.WatchLemmas.{guarded_looked}
-use Rattle.gh_sat.proofs.PropagationLemmas.{propagates_not, propagates_on, propagates_long, propagates_guarded, ready_on}
+use Rattle.gh_sat.proofs.PropagationLemmas.{propagates_not, propagates_on, propagates_long, propagates_guarded}
+use Rattle.gh_sat.proofs.PropagationLemmas.{ready_on}
 use Rattle.gh_sat.proofs.propagation.look_at_new.Goals as goal
 
 pub loop-looked-init : goal.loop-looked-init
@@ -15,20 +16,24 @@ loop-looked-init c = record {
 pub look-requires-clause-ready : goal.look-requires-clause-ready
 look-requires-clause-ready c =
     let l = c.loop-looked in
-    ready_on c.args.database.now c.args.level c.args.trail.now l.trail c.args.hints.now l.hints c.requires.ready l.invariant.propagates
+    ready_on c.args.database.now c.args.level c.args.trail.now l.trail c.args.hints.now l.hints c.requires.ready
+    l.invariant.propagates
 
 pub returns-then-look-clause-propagates : goal.returns-then-look-clause-propagates
 returns-then-look-clause-propagates c =
     let l = c.loop-looked in
-    propagates_on c.args.database.now c.args.level c.args.trail.now l.trail c.look.new.trail c.args.hints.now l.hints c.look.new.hints l.invariant.propagates c.look.ensures.propagates
+    propagates_on c.args.database.now c.args.level c.args.trail.now l.trail c.look.new.trail c.args.hints.now l.hints
+    c.look.new.hints l.invariant.propagates c.look.ensures.propagates
 
 pub returns-then-look-clause-guarded : goal.returns-then-look-clause-guarded
 returns-then-look-clause-guarded c = λ head h w.
     let l = c.loop-looked in
     let i = l.invariant in
     let d = c.args.database.now in
-    propagates_guarded d c.args.level c.args.trail.now.sizes l.trail c.look.new.trail l.hints c.look.new.hints head l.looked i.propagates.sizes
-    (propagates_long d c.args.level c.args.trail.now l.trail c.args.hints.now l.hints head h i.propagates) c.look.ensures.propagates (i.guarded head h w)
+    propagates_guarded d c.args.level c.args.trail.now.sizes l.trail c.look.new.trail l.hints c.look.new.hints head
+    l.looked i.propagates.sizes
+    (propagates_long d c.args.level c.args.trail.now l.trail c.args.hints.now l.hints head h i.propagates)
+    c.look.ensures.propagates (i.guarded head h w)
 
 pub loop-looked-preserved : goal.loop-looked-preserved
 loop-looked-preserved c =
@@ -37,7 +42,8 @@ loop-looked-preserved c =
     let d = c.args.database.now in
     let new = c.look.new in
     record {
-      propagates = propagates_on d c.args.level c.args.trail.now l.trail new.trail c.args.hints.now l.hints new.hints i.propagates c.look.ensures.propagates;
+      propagates = propagates_on d c.args.level c.args.trail.now l.trail new.trail c.args.hints.now l.hints new.hints
+          i.propagates c.look.ensures.propagates;
       within = omega arith;
       guarded = λ head h w.
           guarded_looked c.args.trail.now.sizes d.clauses.now new.hints new.trail.steps head l.looked
@@ -45,6 +51,8 @@ loop-looked-preserved c =
             | inl t ↦ absurd (let f = c.if-look.false in cc)
             | inr g ↦ subst (λ (z : Sizes). IsGuarded z new.trail.steps new.trail.steps e x) i.propagates.sizes g
           ])
-          (propagates_guarded d c.args.level c.args.trail.now.sizes l.trail new.trail l.hints new.hints head l.looked i.propagates.sizes
-          (propagates_long d c.args.level c.args.trail.now l.trail c.args.hints.now l.hints head h i.propagates) c.look.ensures.propagates (i.guarded head h w));
+          (propagates_guarded d c.args.level c.args.trail.now.sizes l.trail new.trail l.hints new.hints head l.looked
+          i.propagates.sizes
+          (propagates_long d c.args.level c.args.trail.now l.trail c.args.hints.now l.hints head h i.propagates)
+          c.look.ensures.propagates (i.guarded head h w));
     }

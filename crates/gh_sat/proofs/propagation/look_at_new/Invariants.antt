@@ -7,7 +7,9 @@ abbrev pub invariant-loop-looked : goal.invariant-loop-looked
 invariant-loop-looked l = record {
   propagates : Propagates l.database l.fn.level l.initial.trail l.trail l.initial.hints l.hints;
   within : l.looked ≤ length l.database.clauses.now;
-  guarded : (head : ℕ) → head ≤ length l.initial.trail.steps → AreGuarded l.initial.trail.sizes l.database.clauses.now l.initial.hints l.initial.trail.steps head l.initial.looked
+  guarded : (head : ℕ) → head ≤ length l.initial.trail.steps
+      → AreGuarded l.initial.trail.sizes l.database.clauses.now l.initial.hints l.initial.trail.steps head
+      l.initial.looked
       → AreGuarded l.initial.trail.sizes l.database.clauses.now l.hints l.trail.steps head l.looked;
 }
 

@@ -16,10 +16,13 @@ pub returns-then-needs_no_look-clause-guarded : goal.returns-then-needs_no_look-
 returns-then-needs_no_look-clause-guarded c = λ head looked x d h lt at is w here has.
     let t = c.args.trail.now in
     let k = c.args.k in
-    let range : AreInRange t.sizes d = subst (λ (y : List Lit). AreInRange t.sizes y) (get_or_from_slice_get c.args.database.now.clauses.now k d d here) (c.requires.ready.range k d (get_within c.args.database.now.clauses.now k d here)) in
+    let range : AreInRange t.sizes d =
+    subst (λ (y : List Lit). AreInRange t.sizes y) (get_or_from_slice_get c.args.database.now.clauses.now k d d here)
+    (c.requires.ready.range k d (get_within c.args.database.now.clauses.now k d here)) in
     let e : get_or c.args.hints.now k no_hint ≡ h = get_or_from_slice_get c.args.hints.now k h no_hint has in
     inr (subst (λ (y : Hint). IsGuarded t.sizes t.steps (take (head + 1) t.steps) d y) e
-    (c.needs_no_look.ensures c.if-needs_no_look.true head x d range at is (subst (λ (y : Hint). IsGuarded t.sizes t.steps (take head t.steps) d y) (sym e) (w k d h lt here has))))
+    (c.needs_no_look.ensures c.if-needs_no_look.true head x d range at is
+    (subst (λ (y : Hint). IsGuarded t.sizes t.steps (take head t.steps) d y) (sym e) (w k d h lt here has))))
 
 pub returns-clause-guarded : goal.returns-clause-guarded
 returns-clause-guarded c = λ head looked x d h lt at is w here has. elim (c.look.ensures.guarded d h here has) [
@@ -28,4 +31,5 @@ returns-clause-guarded c = λ head looked x d h lt at is w here has. elim (c.loo
 ]
 
 pub returns-then-needs_no_look-clause-propagates : goal.returns-then-needs_no_look-clause-propagates
-returns-then-needs_no_look-clause-propagates c = propagates_not c.args.database.now c.args.level c.args.trail.now c.args.hints.now c.requires.ready.valid
+returns-then-needs_no_look-clause-propagates c =
+    propagates_not c.args.database.now c.args.level c.args.trail.now c.args.hints.now c.requires.ready.valid

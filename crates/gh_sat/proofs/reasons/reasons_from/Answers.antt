@@ -11,6 +11,8 @@ pub returns : goal.returns
 returns c =
     let m = c.args.marks.now in
     let t = c.args.trail.now.steps in
-    let past : length t ≤ c.loop-place.place = omega (arith, ap length c.steps-place-end.ensures.steps, c.loop-place-test.false) in
+    let past : length t ≤ c.loop-place.place =
+    omega (arith, ap length c.steps-place-end.ensures.steps, c.loop-place-test.false) in
     let none = reasons_past m.round m.stamps.items t c.loop-place.place past in
-    c.in_ok-push-2.ensures.items ∙ ap (λ (l : List ℕ). l ++ c.args.conflict ∷ []) (at_end _ _ _ c.loop-place.invariant none)
+    c.in_ok-push-2.ensures.items ∙ ap (λ (l : List ℕ). l ++ c.args.conflict ∷ [])
+    (at_end _ _ _ c.loop-place.invariant none)

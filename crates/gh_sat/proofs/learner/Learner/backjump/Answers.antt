@@ -12,9 +12,12 @@ invariant_of-self c =
     let s = the_view c.self.inside in
     let i = c.self.invariant in
     let e = c.cut_to-point.ensures in
-    let count : count_of c.self.inside.trail.sizes ≡ count_of c.cut_to-point.new.trail.sizes = ap count_of (sym e.sizes) in (
-      cut_whole s c.cut_to-point.new.trail.sizes c.cut_to-point.new.trail.steps c.cut_to-point.new.starts.items c.self.inside.counts.items c.cut_to-point.new.counts.items c.self.inside.looked c.self.inside.head
-          c.cut_to-point.result.count c.cut_to-point.result.start c.args.level c.self.inside.occurrences c.self.inside.hints.items i.0 e.start e.count e.sizes e.steps e.starts e.counts,
+    let count : count_of c.self.inside.trail.sizes ≡ count_of c.cut_to-point.new.trail.sizes =
+    ap count_of (sym e.sizes) in (
+      cut_whole s c.cut_to-point.new.trail.sizes c.cut_to-point.new.trail.steps c.cut_to-point.new.starts.items
+          c.self.inside.counts.items c.cut_to-point.new.counts.items c.self.inside.looked c.self.inside.head
+          c.cut_to-point.result.count c.cut_to-point.result.start c.args.level c.self.inside.occurrences
+          c.self.inside.hints.items i.0 e.start e.count e.sizes e.steps e.starts e.counts,
       le_along count (sym e.starts_room) i.1,
       le_along count (sym e.counts_room) i.2,
       i.3,
@@ -26,11 +29,13 @@ pub returns-then-level-len : goal.returns-then-level-len
 returns-then-level-len c =
     let s = the_view c.self.inside in
     let e = c.cut_to-point.ensures in
-    cut_is s c.cut_to-point.new.trail.sizes s.clauses c.cut_to-point.new.trail.steps c.cut_to-point.new.starts.items c.cut_to-point.result.start c.args.level e.start e.sizes e.steps e.starts
+    cut_is s c.cut_to-point.new.trail.sizes s.clauses c.cut_to-point.new.trail.steps c.cut_to-point.new.starts.items
+    c.cut_to-point.result.start c.args.level e.start e.sizes e.steps e.starts
     ∙ ap (λ (t : SearchState). cut t c.args.level) c.self.view_is
 
 pub returns-else-level-len : goal.returns-else-level-len
 returns-else-level-len c =
     let s = c.args.self.now in
-    let long : length s.starts ≤ c.args.level = subst (λ (t : SearchState). length t.starts ≤ c.args.level) c.self.view_is (omega (arith, c.if-level-len.false)) in
+    let long : length s.starts ≤ c.args.level =
+    subst (λ (t : SearchState). length t.starts ≤ c.args.level) c.self.view_is (omega (arith, c.if-level-len.false)) in
     cut_none s c.args.level long

@@ -1,4 +1,5 @@
-use Rattle.std.proofs.Common.{◌≡◌, ◌<◌, ◌≤◌, ◌+◌, ◌-◌, ◌∙◌, ◌++◌, ◌∷◌, [], ℕ, List, arith, sym, ap, subst, refl, get_or, length, drop, Some, None, inl, inr, Contains}
+use Rattle.std.proofs.Common.{◌≡◌, ◌<◌, ◌≤◌, ◌+◌, ◌-◌, ◌∙◌, ◌++◌, ◌∷◌, [], ℕ, List, arith, sym, ap, subst, refl, get_or}
+use Rattle.std.proofs.Common.{length, drop, Some, None, inl, inr, Contains}
 use Rattle.std.specs.Prelude.{slice_get}
 use Rattle.std.proofs.lemmas.Bool.{cases_lt}
 use Rattle.std.proofs.lemmas.Option.{get_or_from_slice_get, slice_get_read}
@@ -15,6 +16,7 @@ use Rattle.gh_sat.proofs.StatusLemmas.{nothing}
 use Rattle.gh_sat.proofs.LearnLemmas.{have_reasons, learnt, was_open, false_in_range}
 use Rattle.gh_sat.proofs.ReasonLemmas.{learnt_shows}
 use Rattle.gh_sat.proofs.learner.Learner.learn.Goals as goal
+use Rattle.gh_sat.proofs.learner.Learner.learn.Goals.{After-lits, In_ok-place, In_ok-clause, In_ok-added}
 
 -- what is known once the present level's start and the clause are read
 record Begun (s : SearchState) (k start : ℕ) (lits : List Lit) : Type 0 where
@@ -25,15 +27,18 @@ record Begun (s : SearchState) (k start : ℕ) (lits : List Lit) : Type 0 where
   conflict : IsConflict s k
   same : conflict.clause ≡ lits
 
-begun : (s now : SearchState) (k len start : ℕ) (c lits : List Lit) → IsSound s → s ≡ now → IsConflict now k → 0 < length now.starts → len ≡ length s.starts
+begun : (s now : SearchState) (k len start : ℕ) (c lits : List Lit) → IsSound s → s ≡ now → IsConflict now k
+    → 0 < length now.starts → len ≡ length s.starts
     → start ≡ get_or s.starts (len - 1) start → c ≡ get_or s.clauses k c → lits ≡ c → Begun s k start lits
 begun s now k len start c lits h is conflict some count at read same =
     let conflict' : IsConflict s k = subst (λ (t : SearchState). IsConflict t k) (sym is) conflict in
     let some' : 0 < length s.starts = subst (λ (t : SearchState). 0 < length t.starts) (sym is) some in
-    let here : slice_get s.starts (len - 1) ≡ Some start = slice_get_read s.starts (length s.starts) (len - 1) start (λ _. length s.starts) (omega arith) at in
+    let here : slice_get s.starts (len - 1) ≡ Some start =
+    slice_get_read s.starts (length s.starts) (len - 1) start (λ _. length s.starts) (omega arith) at in
     let b = h.starts (len - 1) start here in
     let w = get_within s.clauses k conflict'.clause conflict'.at in
-    let there : slice_get s.clauses k ≡ Some c = slice_get_read s.clauses (length s.clauses) k c (λ _. length s.clauses) w read in
+    let there : slice_get s.clauses k ≡ Some c =
+    slice_get_read s.clauses (length s.clauses) k c (λ _. length s.clauses) w read in
     record {
       last = len - 1;
       here = here;
@@ -43,122 +48,167 @@ begun s now k len start c lits h is conflict some count at read same =
       same = let t = conflict'.at in cc;
     }
 
+known : (c : After-lits)
+    → Begun (the_view c.self.inside) c.args.conflict c.index.result.now c.lits.result.now
+known c =
+    begun (the_view c.self.inside) c.args.self.now c.args.conflict c.len.result c.index.result.now c.index-2.result.now
+    c.lits.result.now c.self.invariant.0.sound c.self.view_is c.requires.conflict c.requires.level (omega arith)
+    c.index.ensures c.index-2.ensures c.lits.ensures
+
 pub resolve-requires-clause-marks : goal.resolve-requires-clause-marks
 resolve-requires-clause-marks c =
     let s = the_view c.self.inside in
     let i = c.self.invariant in
-    let b = begun s c.args.self.now c.args.conflict c.len.result c.index.result.now c.index-2.result.now c.lits.result.now i.0.sound c.self.view_is c.requires.conflict c.requires.level (omega arith) c.index.ensures c.index-2.ensures c.lits.ensures in
+    let b = known c in
     let steps : length s.trail ≡ length c.steps.result.now = ap length (sym c.steps.ensures.steps) in
-    c.begin.ensures.none s.trail (le_along refl steps b.within) (le_along refl refl (omega arith)) (le_along refl (sym i.4) i.0.sound.steps.few)
+    c.begin.ensures.none s.trail (le_along refl steps b.within) (le_along refl refl (omega arith))
+    (le_along refl (sym i.4) i.0.sound.steps.few)
 
 pub resolve-requires-clause-conflict_range : goal.resolve-requires-clause-conflict_range
 resolve-requires-clause-conflict_range c =
     let s = the_view c.self.inside in
     let i = c.self.invariant in
-    let b = begun s c.args.self.now c.args.conflict c.len.result c.index.result.now c.index-2.result.now c.lits.result.now i.0.sound c.self.view_is c.requires.conflict c.requires.level (omega arith) c.index.ensures c.index-2.ensures c.lits.ensures in
+    let b = known c in
     subst (AreInRange s.sizes) b.same (false_in_range s b.conflict.clause i.0.sound b.conflict.is_false)
 
 pub resolve-requires-clause-reasons : goal.resolve-requires-clause-reasons
 resolve-requires-clause-reasons c =
     let s = the_view c.self.inside in
     let i = c.self.invariant in
-    let b = begun s c.args.self.now c.args.conflict c.len.result c.index.result.now c.index-2.result.now c.lits.result.now i.0.sound c.self.view_is c.requires.conflict c.requires.level (omega arith) c.index.ensures c.index-2.ensures c.lits.ensures in
+    let b = known c in
     subst (λ (cs : List (List Lit)). HaveReasons cs s.trail c.begin.new.marks.start) (sym c.as_slice.ensures.value)
-    (subst (λ (n : ℕ). HaveReasons s.clauses s.trail n) (sym c.begin.ensures.start) (have_reasons s b.last c.index.result.now i.0.sound b.here b.long))
+    (subst (λ (n : ℕ). HaveReasons s.clauses s.trail n) (sym c.begin.ensures.start)
+    (have_reasons s b.last c.index.result.now i.0.sound b.here b.long))
 
 pub resolve-requires-clause-all_false : goal.resolve-requires-clause-all_false
 resolve-requires-clause-all_false c =
     let s = the_view c.self.inside in
     let i = c.self.invariant in
-    let b = begun s c.args.self.now c.args.conflict c.len.result c.index.result.now c.index-2.result.now c.lits.result.now i.0.sound c.self.view_is c.requires.conflict c.requires.level (omega arith) c.index.ensures c.index-2.ensures c.lits.ensures in
+    let b = known c in
     subst (IsFalseIn s.trail) b.same b.conflict.is_false
 
 pub resolve-requires-clause-present : goal.resolve-requires-clause-present
 resolve-requires-clause-present c =
     let s = the_view c.self.inside in
     let i = c.self.invariant in
-    let b = begun s c.args.self.now c.args.conflict c.len.result c.index.result.now c.index-2.result.now c.lits.result.now i.0.sound c.self.view_is c.requires.conflict c.requires.level (omega arith) c.index.ensures c.index-2.ensures c.lits.ensures in
+    let b = known c in
     let p = b.conflict.present (let l = b.long in omega arith) in
     let low = (i.0.sound.split p.2 p.3 b.last c.index.result.now p.4 b.here).1 in
-    let high : c.index.result.now ≤ p.2 = elim (cases_lt p.2 c.index.result.now) [ inl lt ↦ absurd (let e = low lt in omega (arith, p.6, b.long)) | inr ge ↦ ge ] in
+    let high : c.index.result.now ≤ p.2 = elim (cases_lt p.2 c.index.result.now) [
+      | inl lt ↦ absurd (let e = low lt in omega (arith, p.6, b.long))
+      | inr ge ↦ ge
+    ] in
     (p.0, subst (λ l. Contains l p.0) b.same p.1, p.2, p.3, le_along (sym c.begin.ensures.start) refl high, p.4, p.5)
 
-left : (s : SearchState) (clauses : List (List Lit)) (conflict : List Lit) (m : Marking) (place : ℕ) → clauses ≡ s.clauses → IsLeft clauses s.trail conflict m place → IsLeft s.clauses s.trail conflict m place
+left : (s : SearchState) (clauses : List (List Lit)) (conflict : List Lit) (m : Marking) (place : ℕ)
+    → clauses ≡ s.clauses → IsLeft clauses s.trail conflict m place → IsLeft s.clauses s.trail conflict m place
 left s clauses conflict m place e p = subst (λ cs. IsLeft cs s.trail conflict m place) e p
 
 abbrev no_step : Step
 no_step = record { lit = nothing; level = 0; reason = None }
 
 -- what is learnt, as the code makes it
-made : (s : SearchState) (m : Marking) (k start place : ℕ) (lits : List Lit) (steps : List Step) (u : Lit) (clause : List Lit)
-    → IsSound s → Begun s k start lits → m.start ≡ start → IsLeft s.clauses s.trail lits m place → steps ≡ s.trail → u ≡ opposite (get_or steps place no_step).lit
+made : (s : SearchState) (m : Marking) (k start place : ℕ) (lits : List Lit) (steps : List Step) (u : Lit)
+    (clause : List Lit)
+    → IsSound s → Begun s k start lits → m.start ≡ start → IsLeft s.clauses s.trail lits m place → steps ≡ s.trail
+    → u ≡ opposite (get_or steps place no_step).lit
     → clause ≡ m.lower ++ u ∷ [] → IsLearnt s k clause m.level u
 made s m k start place lits steps u clause h b at p same is e =
     let here : slice_get s.starts b.last ≡ Some m.start = b.here ∙ ap Some (sym at) in
-    let unit : opposite p.step.lit ≡ u = ap (λ (x : Step). opposite x.lit) (sym (get_or_from_slice_get s.trail place p.step no_step p.at)) ∙ ap (λ (t : List Step). opposite (get_or t place no_step).lit) (sym same) ∙ sym is in
+    let unit : opposite p.step.lit ≡ u =
+    ap (λ (x : Step). opposite x.lit) (sym (get_or_from_slice_get s.trail place p.step no_step p.at))
+    ∙ ap (λ (t : List Step). opposite (get_or t place no_step).lit) (sym same) ∙ sym is in
     subst (λ (x : List Lit). IsLearnt s k x m.level u) (sym e)
     (subst (λ w. IsLearnt s k (m.lower ++ w ∷ []) m.level w) unit
-    (learnt s lits m place b.last h here b.long p k (b.conflict.at ∙ ap Some b.same) (subst (IsFalseIn s.trail) b.same b.conflict.is_false)))
+    (learnt s lits m place b.last h here b.long p k (b.conflict.at ∙ ap Some b.same)
+    (subst (IsFalseIn s.trail) b.same b.conflict.is_false)))
 
 -- and its reasons
-made_reasons : (s : SearchState) (m : Marking) (k start place : ℕ) (lits : List Lit) (steps : List Step) (u : Lit) (clause : List Lit) (reasons : List ℕ)
-    → IsSound s → Begun s k start lits → m.start ≡ start → IsLeft s.clauses s.trail lits m place → steps ≡ s.trail → u ≡ opposite (get_or steps place no_step).lit
-    → clause ≡ m.lower ++ u ∷ [] → reasons ≡ reasons_of m.round (drop (place + 1) m.stamps) (drop (place + 1) s.trail) ++ k ∷ [] → AreReasons s.clauses reasons clause
+made_reasons : (s : SearchState) (m : Marking) (k start place : ℕ) (lits : List Lit) (steps : List Step) (u : Lit)
+    (clause : List Lit) (reasons : List ℕ)
+    → IsSound s → Begun s k start lits → m.start ≡ start → IsLeft s.clauses s.trail lits m place → steps ≡ s.trail
+    → u ≡ opposite (get_or steps place no_step).lit
+    → clause ≡ m.lower ++ u ∷ [] → reasons ≡ reasons_of m.round (drop (place + 1) m.stamps) (drop (place + 1) s.trail)
+    ++ k ∷ [] → AreReasons s.clauses reasons clause
 made_reasons s m k start place lits steps u clause reasons h b at p same is e all =
     let here : slice_get s.starts b.last ≡ Some m.start = b.here ∙ ap Some (sym at) in
-    let unit : opposite p.step.lit ≡ u = ap (λ (x : Step). opposite x.lit) (sym (get_or_from_slice_get s.trail place p.step no_step p.at)) ∙ ap (λ (t : List Step). opposite (get_or t place no_step).lit) (sym same) ∙ sym is in
+    let unit : opposite p.step.lit ≡ u =
+    ap (λ (x : Step). opposite x.lit) (sym (get_or_from_slice_get s.trail place p.step no_step p.at))
+    ∙ ap (λ (t : List Step). opposite (get_or t place no_step).lit) (sym same) ∙ sym is in
     let whole : m.lower ++ opposite p.step.lit ∷ [] ≡ clause = ap (λ w. m.lower ++ w ∷ []) unit ∙ sym e in
     subst (λ (ks : List ℕ). AreReasons s.clauses ks clause) (sym all)
-    (subst (AreReasons s.clauses (reasons_of m.round (drop (place + 1) m.stamps) (drop (place + 1) s.trail) ++ k ∷ [])) whole
-    (learnt_shows s lits m place b.last k h here b.long p (b.conflict.at ∙ ap Some b.same) (subst (IsFalseIn s.trail) b.same b.conflict.is_false)))
+    (subst (AreReasons s.clauses (reasons_of m.round (drop (place + 1) m.stamps) (drop (place + 1) s.trail) ++ k ∷ []))
+    whole
+    (learnt_shows s lits m place b.last k h here b.long p (b.conflict.at ∙ ap Some b.same)
+    (subst (IsFalseIn s.trail) b.same b.conflict.is_false)))
+
+-- the step at the place is the one marked step that is left
+remains : (c : In_ok-place) → IsLeft (the_view c.self.inside).clauses (the_view c.self.inside).trail c.lits.result.now
+    (marks_of c.resolve.new.marks) c.in_ok-place.place
+remains c =
+    left (the_view c.self.inside) c.as_slice.result.now c.lits.result.now (marks_of c.resolve.new.marks)
+    c.in_ok-place.place c.as_slice.ensures.value c.in_ok-place.ensures.point
+
+-- the clause is learnt
+lesson : (c : In_ok-clause) → Begun (the_view c.self.inside) c.args.conflict c.index.result.now c.lits.result.now
+    → IsLeft (the_view c.self.inside).clauses (the_view c.self.inside).trail c.lits.result.now
+    (marks_of c.resolve.new.marks) c.in_ok-place.place
+    → IsLearnt (the_view c.self.inside) c.args.conflict c.in_ok-clause.clause (marks_of c.resolve.new.marks).level
+    c.negated-unit.result
+lesson c b p =
+    made (the_view c.self.inside) (marks_of c.resolve.new.marks) c.args.conflict c.index.result.now c.in_ok-place.place
+    c.lits.result.now c.steps-2.result.now c.negated-unit.result c.in_ok-clause.clause c.self.invariant.0.sound b
+    (c.in_ok-place.ensures.start ∙ c.begin.ensures.start) p c.steps-2.ensures.steps c.negated-unit.ensures
+    (c.in_ok-clause.ensures ∙ c.as_slice-2.ensures.value ∙ c.in_ok-push.ensures.items)
 
 pub bounds-steps-place : goal.bounds-steps-place
 bounds-steps-place c =
-    let p = left (the_view c.self.inside) c.as_slice.result.now c.lits.result.now (marks_of c.resolve.new.marks) c.in_ok-place.place c.as_slice.ensures.value c.in_ok-place.ensures.point in
-    let w : c.in_ok-place.place < length c.self.inside.trail.steps = get_within c.self.inside.trail.steps c.in_ok-place.place p.step p.at in
+    let trail = c.self.inside.trail.steps in
+    let p = remains (goal.at.bounds-steps-place c).In_ok-place in
+    let w : c.in_ok-place.place < length trail = get_within trail c.in_ok-place.place p.step p.at in
     subst (λ (t : List Step). c.in_ok-place.place < length t) (sym c.steps-2.ensures.steps) w
+
+-- so is its copy
+copied : (c : In_ok-added) → IsLearnt (the_view c.self.inside) c.args.conflict c.in_ok-clause.clause
+    (marks_of c.resolve.new.marks).level c.negated-unit.result
+    → IsLearnt (the_view c.self.inside) c.args.conflict c.in_ok-added.added
+    (marks_of c.resolve.new.marks).level c.negated-unit.result
+copied c r =
+    let s = the_view c.self.inside in
+    let level = (marks_of c.resolve.new.marks).level in
+    subst (λ (x : List Lit). IsLearnt s c.args.conflict x level c.negated-unit.result) (sym c.in_ok-added.ensures) r
 
 pub insert-requires-clause-range : goal.insert-requires-clause-range
 insert-requires-clause-range c =
-    let s = the_view c.self.inside in
-    let i = c.self.invariant in
-    let b = begun s c.args.self.now c.args.conflict c.len.result c.index.result.now c.index-2.result.now c.lits.result.now i.0.sound c.self.view_is c.requires.conflict c.requires.level (omega arith) c.index.ensures c.index-2.ensures c.lits.ensures in
-    let m = marks_of c.resolve.new.marks in
-    let p = left s c.as_slice.result.now c.lits.result.now m c.in_ok-place.place c.as_slice.ensures.value c.in_ok-place.ensures.point in
-    let r = made s m c.args.conflict c.index.result.now c.in_ok-place.place c.lits.result.now c.steps-2.result.now c.negated-unit.result c.in_ok-added.added i.0.sound b (c.in_ok-place.ensures.start ∙ c.begin.ensures.start) p c.steps-2.ensures.steps c.negated-unit.ensures
-    (c.in_ok-added.ensures ∙ c.in_ok-clause.ensures ∙ c.as_slice-2.ensures.value ∙ c.in_ok-push.ensures.items) in
-    subst (λ (t : Line). AreInRange t.sizes c.in_ok-added.added) (sym c.bump_marked.ensures.same) (false_in_range s c.in_ok-added.added i.0.sound r.is_false)
+    let d = goal.at.insert-requires-clause-range c in
+    let r = copied d.In_ok-added (lesson d.In_ok-clause (known d.After-lits) (remains d.In_ok-place)) in
+    subst (λ (t : Line). AreInRange t.sizes c.in_ok-added.added) (sym c.bump_marked.ensures.same)
+    (false_in_range (the_view c.self.inside) c.in_ok-added.added c.self.invariant.0.sound r.is_false)
 
 pub insert-requires-clause-was_open : goal.insert-requires-clause-was_open
 insert-requires-clause-was_open c =
-    let s = the_view c.self.inside in
-    let i = c.self.invariant in
-    let b = begun s c.args.self.now c.args.conflict c.len.result c.index.result.now c.index-2.result.now c.lits.result.now i.0.sound c.self.view_is c.requires.conflict c.requires.level (omega arith) c.index.ensures c.index-2.ensures c.lits.ensures in
-    let m = marks_of c.resolve.new.marks in
-    let p = left s c.as_slice.result.now c.lits.result.now m c.in_ok-place.place c.as_slice.ensures.value c.in_ok-place.ensures.point in
-    let r = made s m c.args.conflict c.index.result.now c.in_ok-place.place c.lits.result.now c.steps-2.result.now c.negated-unit.result c.in_ok-added.added i.0.sound b (c.in_ok-place.ensures.start ∙ c.begin.ensures.start) p c.steps-2.ensures.steps c.negated-unit.ensures
-    (c.in_ok-added.ensures ∙ c.in_ok-clause.ensures ∙ c.as_slice-2.ensures.value ∙ c.in_ok-push.ensures.items) in
+    let d = goal.at.insert-requires-clause-was_open c in
+    let r = copied d.In_ok-added (lesson d.In_ok-clause (known d.After-lits) (remains d.In_ok-place)) in
     let x = r.present in
-    subst (λ (t : Line). WasOpen t.steps s.starts c.in_ok-added.added) (sym c.bump_marked.ensures.same) (was_open s c.in_ok-added.added c.negated-unit.result r.place x.0 i.0.sound r.there x.1 x.2 x.3)
+    subst (λ (t : Line). WasOpen t.steps (the_view c.self.inside).starts c.in_ok-added.added)
+    (sym c.bump_marked.ensures.same)
+    (was_open (the_view c.self.inside) c.in_ok-added.added c.negated-unit.result r.place x.0 c.self.invariant.0.sound
+    r.there x.1 x.2 x.3)
 
 pub returns-clause-learnt : goal.returns-clause-learnt
 returns-clause-learnt c =
-    let s = the_view c.self.inside in
-    let i = c.self.invariant in
-    let b = begun s c.args.self.now c.args.conflict c.len.result c.index.result.now c.index-2.result.now c.lits.result.now i.0.sound c.self.view_is c.requires.conflict c.requires.level (omega arith) c.index.ensures c.index-2.ensures c.lits.ensures in
-    let m = marks_of c.resolve.new.marks in
-    let p = left s c.as_slice.result.now c.lits.result.now m c.in_ok-place.place c.as_slice.ensures.value c.in_ok-place.ensures.point in
-    let r = made s m c.args.conflict c.index.result.now c.in_ok-place.place c.lits.result.now c.steps-2.result.now c.negated-unit.result c.in_ok-clause.clause i.0.sound b (c.in_ok-place.ensures.start ∙ c.begin.ensures.start) p c.steps-2.ensures.steps c.negated-unit.ensures
-    (c.in_ok-clause.ensures ∙ c.as_slice-2.ensures.value ∙ c.in_ok-push.ensures.items) in
-    subst (λ (t : SearchState). IsLearnt t c.args.conflict c.in_ok-clause.clause m.level c.negated-unit.result) c.self.view_is r
+    let d = goal.at.returns-clause-learnt c in
+    let level = (marks_of c.resolve.new.marks).level in
+    subst (λ (t : SearchState). IsLearnt t c.args.conflict c.in_ok-clause.clause level c.negated-unit.result)
+    c.self.view_is (lesson d.In_ok-clause (known d.After-lits) (remains d.In_ok-place))
 
 pub returns-clause-reasons : goal.returns-clause-reasons
 returns-clause-reasons c =
-    let s = the_view c.self.inside in
-    let i = c.self.invariant in
-    let b = begun s c.args.self.now c.args.conflict c.len.result c.index.result.now c.index-2.result.now c.lits.result.now i.0.sound c.self.view_is c.requires.conflict c.requires.level (omega arith) c.index.ensures c.index-2.ensures c.lits.ensures in
-    let m = marks_of c.resolve.new.marks in
-    let p = left s c.as_slice.result.now c.lits.result.now m c.in_ok-place.place c.as_slice.ensures.value c.in_ok-place.ensures.point in
-    let r = made_reasons s m c.args.conflict c.index.result.now c.in_ok-place.place c.lits.result.now c.steps-2.result.now c.negated-unit.result c.in_ok-clause.clause c.in_ok-reasons.reasons.items i.0.sound b
-    (c.in_ok-place.ensures.start ∙ c.begin.ensures.start) p c.steps-2.ensures.steps c.negated-unit.ensures (c.in_ok-clause.ensures ∙ c.as_slice-2.ensures.value ∙ c.in_ok-push.ensures.items) c.in_ok-reasons.ensures in
-    subst (λ (t : SearchState). AreReasons t.clauses c.in_ok-reasons.reasons.items c.in_ok-clause.clause) c.self.view_is r
+    let d = goal.at.returns-clause-reasons c in
+    let reasons = c.in_ok-reasons.reasons.items in
+    let r = made_reasons (the_view c.self.inside) (marks_of c.resolve.new.marks) c.args.conflict c.index.result.now
+    c.in_ok-place.place c.lits.result.now c.steps-2.result.now c.negated-unit.result c.in_ok-clause.clause reasons
+    c.self.invariant.0.sound (known d.After-lits) (c.in_ok-place.ensures.start ∙ c.begin.ensures.start)
+    (remains d.In_ok-place) c.steps-2.ensures.steps c.negated-unit.ensures
+    (c.in_ok-clause.ensures ∙ c.as_slice-2.ensures.value ∙ c.in_ok-push.ensures.items) c.in_ok-reasons.ensures in
+    subst (λ (t : SearchState). AreReasons t.clauses reasons c.in_ok-clause.clause) c.self.view_is r

@@ -1,4 +1,5 @@
-use Rattle.std.proofs.Common.{◌≡◌, ◌≤◌, ◌+◌, ◌∙◌, ◌++◌, ◌∷◌, [], ℕ, zero, suc, List, Some, None, arith, ap, sym, take, take_all, length}
+use Rattle.std.proofs.Common.{◌≡◌, ◌≤◌, ◌+◌, ◌∙◌, ◌++◌, ◌∷◌, [], ℕ, zero, suc, List, Some, None, arith, ap, sym, take}
+use Rattle.std.proofs.Common.{take_all, length}
 use Rattle.std.specs.Prelude.{slice_get}
 use Rattle.std.proofs.lemmas.List.{take_more}
 use Rattle.std.proofs.lemmas.Option.{get_or_from_slice_get}
@@ -23,25 +24,34 @@ loop-clause-preserved c =
     let cl = c.in-Some.clause.now in
     let at : slice_get cs n ≡ Some cl = sym c.in-Some.ensures.found in
     let lt = get_within cs n cl at in
-    let longer : take (n + 1) cs ≡ take n cs ++ cl ∷ [] = take_more cs n cl lt ∙ ap (λ (x : List Lit). take n cs ++ x ∷ []) (get_or_from_slice_get cs n cl cl at) in
+    let longer : take (n + 1) cs ≡ take n cs ++ cl ∷ [] =
+    take_more cs n cl lt ∙ ap (λ (x : List Lit). take n cs ++ x ∷ []) (get_or_from_slice_get cs n cl cl at) in
     record {
       within = omega arith;
-      so_far = c.in_ok-insert.ensures.ok ∙ ap (λ (t : SearchState). add_clause t c.in_ok-copy.field-0) c.loop-clause.invariant.so_far
-          ∙ ap (λ (x : List (List Lit)). let t : SearchState = record { sizes = c.args.ground.now.sizes; clauses = x; trail = []; starts = [] } in t) (ap (λ (x : List Lit). take n cs ++ x ∷ []) c.in_ok-copy.ensures ∙ sym longer);
+      so_far = c.in_ok-insert.ensures.ok
+          ∙ ap (λ (t : SearchState). add_clause t c.in_ok-copy.field-0) c.loop-clause.invariant.so_far
+          ∙ ap (λ (x : List (List Lit)).
+          let t : SearchState = record { sizes = c.args.ground.now.sizes; clauses = x; trail = []; starts = [] } in t)
+          (ap (λ (x : List Lit). take n cs ++ x ∷ []) c.in_ok-copy.ensures ∙ sym longer);
     }
 
 pub returns : goal.returns
 returns c =
     let cs = c.args.ground.now.clauses in
     let past : length cs ≤ c.loop-clause.number = none_past cs c.loop-clause.number (sym c.in_default.ensures.found) in
-    c.loop-clause.invariant.so_far ∙ ap (λ (x : List (List Lit)). let t : SearchState = record { sizes = c.args.ground.now.sizes; clauses = x; trail = []; starts = [] } in t) (take_all c.loop-clause.number cs past)
+    c.loop-clause.invariant.so_far ∙ ap (λ (x : List (List Lit)).
+    let t : SearchState = record { sizes = c.args.ground.now.sizes; clauses = x; trail = []; starts = [] } in t)
+    (take_all c.loop-clause.number cs past)
 
 pub insert-requires-clause-range : goal.insert-requires-clause-range
 insert-requires-clause-range c =
-    let sized : c.loop-clause.learner.sizes ≡ c.args.ground.now.sizes = ap (λ (t : SearchState). t.sizes) c.loop-clause.invariant.so_far in
-    let range : AreInRange c.loop-clause.learner.sizes c.in-Some.clause.now = subst (λ (z : Sizes). AreInRange z c.in-Some.clause.now) (sym sized) c.in-Some.ensures.in_range in
+    let sized : c.loop-clause.learner.sizes ≡ c.args.ground.now.sizes =
+    ap (λ (t : SearchState). t.sizes) c.loop-clause.invariant.so_far in
+    let range : AreInRange c.loop-clause.learner.sizes c.in-Some.clause.now =
+    subst (λ (z : Sizes). AreInRange z c.in-Some.clause.now) (sym sized) c.in-Some.ensures.in_range in
     subst (λ (l : List Lit). AreInRange c.loop-clause.learner.sizes l) (sym c.in_ok-copy.ensures) range
 
 pub loop-clause-smaller : goal.loop-clause-smaller
 loop-clause-smaller c =
-    let lt = get_within c.args.ground.now.clauses c.loop-clause.number c.in-Some.clause.now (sym c.in-Some.ensures.found) in omega (arith, lt)
+    let lt = get_within c.args.ground.now.clauses c.loop-clause.number c.in-Some.clause.now
+    (sym c.in-Some.ensures.found) in omega (arith, lt)

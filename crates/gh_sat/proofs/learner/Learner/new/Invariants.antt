@@ -4,7 +4,12 @@ use Rattle.gh_sat.proofs.learner.Learner.new.Given as goal
 abbrev pub invariant-loop-clause : goal.invariant-loop-clause
 invariant-loop-clause l = record {
   within : l.number ≤ length l.ground.clauses;
-  so_far : l.learner ≡ (record { sizes = l.ground.sizes; clauses = take l.number l.ground.clauses; trail = []; starts = [] });
+  so_far : l.learner ≡ (record {
+    sizes = l.ground.sizes;
+    clauses = take l.number l.ground.clauses;
+    trail = [];
+    starts = [];
+  });
 }
 
 abbrev pub decreases-loop-clause : goal.decreases-loop-clause

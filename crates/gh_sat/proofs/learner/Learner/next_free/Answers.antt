@@ -7,4 +7,5 @@ use Rattle.gh_sat.proofs.learner.Learner.next_free.Goals as goal
 
 pub returns-clause-none : goal.returns-clause-none
 returns-clause-none c =
-    subst (λ (t : SearchState). IfNone c.next_free.result ((a : Atom) → IsInRange t.sizes a → IsFree t.trail a → ⊥)) c.self.view_is c.next_free.ensures.none
+    subst (λ (t : SearchState). IfNone c.next_free.result ((a : Atom) → IsInRange t.sizes a → IsFree t.trail a → ⊥))
+    c.self.view_is c.next_free.ensures.none

@@ -1,4 +1,5 @@
-use Rattle.std.proofs.Common.{All, ◌≡◌, ◌≤◌, ◌∙◌, ◌++◌, ◌∷◌, [], ℕ, List, Option, Some, None, arith, ap, sym, subst, refl, length}
+use Rattle.std.proofs.Common.{All, ◌≡◌, ◌≤◌, ◌∙◌, ◌++◌, ◌∷◌, [], ℕ, List, Option, Some, None, arith, ap, sym, subst}
+use Rattle.std.proofs.Common.{refl, length}
 use Rattle.std.specs.Prelude.{slice_get, IfSome, IfNone}
 use Rattle.std.specs.Vec.{with_items}
 use Rattle.std.proofs.lemmas.List.{with_items_is}
@@ -17,11 +18,13 @@ use Rattle.gh_sat.specs.contracts.learner.Learner.{the_view}
 use Rattle.gh_sat.proofs.ListLemmas.{le_along}
 use Rattle.gh_sat.proofs.WholeLemmas.{rows_sized}
 use Rattle.gh_sat.proofs.WholeLemmas.{whole_grow, conflict_of, settled_from}
+use Rattle.gh_sat.proofs.learner.Learner.propagate.Goals.{After-propagate}
 use Rattle.gh_sat.proofs.learner.Learner.propagate.Goals as goal
 
 pub propagate-requires-clause-listed : goal.propagate-requires-clause-listed
 propagate-requires-clause-listed c =
-    subst (λ (cs : List (List Lit)). AreListed c.self.inside.trail.sizes cs c.self.inside.occurrences) (sym c.as_slice.ensures.value) c.self.invariant.0.listed
+    subst (λ (cs : List (List Lit)). AreListed c.self.inside.trail.sizes cs c.self.inside.occurrences)
+    (sym c.as_slice.ensures.value) c.self.invariant.0.listed
 
 pub propagate-requires-clause-ready : goal.propagate-requires-clause-ready
 propagate-requires-clause-ready c =
@@ -42,17 +45,30 @@ invariant_of-self c =
     let new = c.propagate.new.trail.steps in
     let cs : c.as_slice.result.now ≡ s.clauses = c.as_slice.ensures.value in
     let level : c.len-level.result ≡ length s.starts = omega arith in
-    let grows : Grows s.clauses (length s.starts) s.trail new = subst (λ n. Grows s.clauses n s.trail new) level (subst (λ (x : List (List Lit)). Grows x c.len-level.result s.trail new) cs p.propagates.grows) in
-    let valid : AreSteps (record { sizes = s.sizes; steps = new }) = subst (λ (z : Sizes). AreSteps (record { sizes = z; steps = new })) p.propagates.sizes p.propagates.valid in
+    let grows : Grows s.clauses (length s.starts) s.trail new =
+    subst (λ n. Grows s.clauses n s.trail new) level
+    (subst (λ (x : List (List Lit)). Grows x c.len-level.result s.trail new) cs p.propagates.grows) in
+    let valid : AreSteps (record { sizes = s.sizes; steps = new }) =
+    subst (λ (z : Sizes). AreSteps (record { sizes = z; steps = new })) p.propagates.sizes p.propagates.valid in
     let within : c.propagate.new.looked ≤ length s.clauses = le_along refl (ap length cs) p.looked in
-    let moves : MoveHints s.sizes s.clauses s.trail c.self.inside.hints.items c.propagate.new.hints = subst (λ (x : List (List Lit)). MoveHints s.sizes x s.trail c.self.inside.hints.items c.propagate.new.hints) cs
-    (subst (λ (y : List Hint). MoveHints s.sizes c.as_slice.result.now s.trail y c.propagate.new.hints) c.as_mut_slice.ensures.value p.propagates.moves) in
-    let guarded : AreGuarded s.sizes s.clauses c.propagate.new.hints new c.propagate.new.head c.propagate.new.looked = subst (λ (x : List (List Lit)). AreGuarded s.sizes x c.propagate.new.hints new c.propagate.new.head c.propagate.new.looked) cs p.guarded in
-    let h = whole_grow s c.self.inside.counts.items c.self.inside.looked c.self.inside.head c.propagate.new.looked c.propagate.new.head c.self.inside.occurrences c.self.inside.hints.items c.propagate.new.hints new i.0 grows valid within p.head moves guarded in
-    let written : (with_items c.self.inside.hints c.propagate.new.hints).items ≡ c.propagate.new.hints = with_items_is c.self.inside.hints c.propagate.new.hints (p.propagates.moves.long ∙ c.as_mut_slice.ensures.len) in
+    let moves : MoveHints s.sizes s.clauses s.trail c.self.inside.hints.items c.propagate.new.hints =
+    subst (λ (x : List (List Lit)). MoveHints s.sizes x s.trail c.self.inside.hints.items c.propagate.new.hints) cs
+    (subst (λ (y : List Hint). MoveHints s.sizes c.as_slice.result.now s.trail y c.propagate.new.hints)
+    c.as_mut_slice.ensures.value p.propagates.moves) in
+    let guarded : AreGuarded s.sizes s.clauses c.propagate.new.hints new c.propagate.new.head c.propagate.new.looked =
+    subst (λ (x : List (List Lit)). AreGuarded s.sizes x c.propagate.new.hints new c.propagate.new.head
+    c.propagate.new.looked) cs p.guarded in
+    let h = whole_grow s c.self.inside.counts.items c.self.inside.looked c.self.inside.head c.propagate.new.looked
+    c.propagate.new.head c.self.inside.occurrences c.self.inside.hints.items c.propagate.new.hints new i.0 grows valid
+    within p.head moves guarded in
+    let written : (with_items c.self.inside.hints c.propagate.new.hints).items ≡ c.propagate.new.hints =
+    with_items_is c.self.inside.hints c.propagate.new.hints (p.propagates.moves.long ∙ c.as_mut_slice.ensures.len) in
     let count : count_of s.sizes ≡ count_of c.propagate.new.trail.sizes = ap count_of (sym p.propagates.sizes) in (
-      subst (λ (z : Sizes). IsWhole (record { sizes = z; clauses = s.clauses; trail = new; starts = s.starts }) c.self.inside.counts.items c.propagate.new.looked c.propagate.new.head c.self.inside.occurrences (with_items c.self.inside.hints c.propagate.new.hints).items) (sym p.propagates.sizes)
-          (subst (λ (x : List Hint). IsWhole (record s { trail = new }) c.self.inside.counts.items c.propagate.new.looked c.propagate.new.head c.self.inside.occurrences x) (sym written) h),
+      subst (λ (z : Sizes). IsWhole (record { sizes = z; clauses = s.clauses; trail = new; starts = s.starts })
+          c.self.inside.counts.items c.propagate.new.looked c.propagate.new.head c.self.inside.occurrences
+          (with_items c.self.inside.hints c.propagate.new.hints).items) (sym p.propagates.sizes)
+          (subst (λ (x : List Hint). IsWhole (record s { trail = new }) c.self.inside.counts.items
+          c.propagate.new.looked c.propagate.new.head c.self.inside.occurrences x) (sym written) h),
       le_along count refl i.1,
       le_along count refl i.2,
       i.3,
@@ -67,35 +83,51 @@ returns-clause-last c =
     let new = c.propagate.new.trail.steps in
     let level : c.len-level.result ≡ length s.starts = omega arith in
     let here : GivesLast s new = λ before d u e unit.
-    let r = p.last before d u (c.as_slice.ensures.value ∙ e) unit in
-    (r.0, r.1 ∙ ap (λ (n : ℕ). s.trail ++ (let x : Step = record { lit = u; level = n; reason = Some (length before) } in x) ∷ [] ++ r.0) level) in
+    let r = p.last before d u (c.as_slice.ensures.value ∙ e) unit in (
+      r.0,
+      r.1 ∙ ap (λ (n : ℕ). s.trail
+          ++ (let x : Step = record { lit = u; level = n; reason = Some (length before) } in x) ∷ [] ++ r.0) level,
+    ) in
     subst (λ (t : SearchState). GivesLast t new) c.self.view_is here
 
-conflicts : (t : SearchState) (counts : List ℕ) (looked head : ℕ) (lists : List (List ℕ)) (hints : List Hint) (o : Option ℕ) → IsWhole t counts looked head lists hints → IfSome o (λ k. IsFalseClause t.clauses t.trail k) → IfSome o (λ k. IsConflict t k)
+conflicts : (t : SearchState) (counts : List ℕ) (looked head : ℕ) (lists : List (List ℕ)) (hints : List Hint)
+    (o : Option ℕ) → IsWhole t counts looked head lists hints → IfSome o (λ k. IsFalseClause t.clauses t.trail k)
+    → IfSome o (λ k. IsConflict t k)
 conflicts t counts looked head lists hints None h f = tt
 conflicts t counts looked head lists hints (Some k) h f = conflict_of t counts looked head lists hints k f.0 h f.1 f.2
 
-settles : (t : SearchState) (o : Option ℕ) → IfNone o ((k : ℕ) (c : List Lit) → slice_get t.clauses k ≡ Some c → IsBad t.trail c → ⊥) → IfNone o (IsSettled t)
+settles : (t : SearchState) (o : Option ℕ)
+    → IfNone o ((k : ℕ) (c : List Lit) → slice_get t.clauses k ≡ Some c → IsBad t.trail c → ⊥) → IfNone o (IsSettled t)
 settles t None f = settled_from t f
 settles t (Some k) f = tt
 
+-- the search after it
+abbrev state : After-propagate → SearchState
+state c = record {
+  sizes = c.propagate.new.trail.sizes;
+  clauses = (the_view c.self.inside).clauses;
+  trail = c.propagate.new.trail.steps;
+  starts = (the_view c.self.inside).starts;
+}
+
 pub returns-clause-conflict : goal.returns-clause-conflict
 returns-clause-conflict c =
-    let s = the_view c.self.inside in
     let p = c.propagate.ensures in
     let new = c.propagate.new.trail.steps in
-    let t : SearchState = record { sizes = c.propagate.new.trail.sizes; clauses = s.clauses; trail = new; starts = s.starts } in
-    conflicts t c.self.inside.counts.items c.propagate.new.looked c.propagate.new.head c.self.inside.occurrences _ c.propagate.result (invariant_of-self c).0
-    (subst (λ (x : List (List Lit)). IfSome c.propagate.result (λ k. IsFalseClause x new k)) c.as_slice.ensures.value p.conflict)
+    let t = state (goal.at.returns-clause-conflict c).After-propagate in
+    conflicts t c.self.inside.counts.items c.propagate.new.looked c.propagate.new.head c.self.inside.occurrences _
+    c.propagate.result (invariant_of-self c).0
+    (subst (λ (x : List (List Lit)). IfSome c.propagate.result (λ k. IsFalseClause x new k)) c.as_slice.ensures.value
+    p.conflict)
 
 pub returns-clause-settled : goal.returns-clause-settled
 returns-clause-settled c =
-    let s = the_view c.self.inside in
     let p = c.propagate.ensures in
     let new = c.propagate.new.trail.steps in
-    let t : SearchState = record { sizes = c.propagate.new.trail.sizes; clauses = s.clauses; trail = new; starts = s.starts } in
+    let t = state (goal.at.returns-clause-settled c).After-propagate in
     settles t c.propagate.result
-    (subst (λ (x : List (List Lit)). IfNone c.propagate.result ((k : ℕ) (d : List Lit) → slice_get x k ≡ Some d → IsBad new d → ⊥)) c.as_slice.ensures.value p.settled)
+    (subst (λ (x : List (List Lit)). IfNone c.propagate.result
+    ((k : ℕ) (d : List Lit) → slice_get x k ≡ Some d → IsBad new d → ⊥)) c.as_slice.ensures.value p.settled)
 
 pub returns-clause-sound : goal.returns-clause-sound
 returns-clause-sound c = (invariant_of-self c).0.sound

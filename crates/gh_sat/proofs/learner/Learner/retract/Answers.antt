@@ -17,13 +17,24 @@ invariant_of-self c =
     let i = c.self.invariant in
     let e = c.erase.ensures in
     let r = c.requires in
-    let within : c.args.place ≤ length s.trail = subst (λ (t : SearchState). c.args.place ≤ length t.trail) (sym c.self.view_is) r.within in
-    let present : (level start : ℕ) → slice_get s.starts level ≡ Some start → start < c.args.place = subst (λ (t : SearchState). (level start : ℕ) → slice_get t.starts level ≡ Some start → start < c.args.place) (sym c.self.view_is) r.present in
-    let levels : length s.starts ≤ c.args.place = subst (λ (t : SearchState). length t.starts ≤ c.args.place) (sym c.self.view_is) r.levels in
+    let within : c.args.place ≤ length s.trail =
+    subst (λ (t : SearchState). c.args.place ≤ length t.trail) (sym c.self.view_is) r.within in
+    let present : (level start : ℕ) → slice_get s.starts level ≡ Some start → start < c.args.place =
+    subst (λ (t : SearchState). (level start : ℕ) → slice_get t.starts level ≡ Some start → start < c.args.place)
+    (sym c.self.view_is) r.present in
+    let levels : length s.starts ≤ c.args.place =
+    subst (λ (t : SearchState). length t.starts ≤ c.args.place) (sym c.self.view_is) r.levels in
     let count : count_of s.sizes ≡ count_of c.erase.new.self.sizes = ap count_of (sym e.sizes) in (
-      subst (λ (z : Sizes). IsWhole (record { sizes = z; clauses = s.clauses; trail = c.erase.new.self.steps; starts = s.starts }) c.self.inside.counts.items 0 c.args.place c.self.inside.occurrences c.self.inside.hints.items) (sym e.sizes)
-          (subst (λ (t : List Step). IsWhole (record s { trail = t }) c.self.inside.counts.items 0 c.args.place c.self.inside.occurrences c.self.inside.hints.items) (sym e.steps)
-          (whole_retract s c.self.inside.counts.items c.self.inside.looked c.self.inside.head c.args.place c.self.inside.occurrences c.self.inside.hints.items i.0 within present levels)),
+      subst (λ (z : Sizes). IsWhole (record {
+        sizes = z;
+        clauses = s.clauses;
+        trail = c.erase.new.self.steps;
+        starts = s.starts;
+      }) c.self.inside.counts.items 0 c.args.place c.self.inside.occurrences c.self.inside.hints.items) (sym e.sizes)
+          (subst (λ (t : List Step). IsWhole (record s { trail = t }) c.self.inside.counts.items 0 c.args.place
+          c.self.inside.occurrences c.self.inside.hints.items) (sym e.steps)
+          (whole_retract s c.self.inside.counts.items c.self.inside.looked c.self.inside.head c.args.place
+          c.self.inside.occurrences c.self.inside.hints.items i.0 within present levels)),
       le_along count refl i.1,
       le_along count refl i.2,
       i.3,

@@ -13,14 +13,19 @@ loop-lit-preserved c =
     let front = take c.loop-lit.lit-index c.args.clause.now in
     let l = get_or c.args.clause.now c.loop-lit.lit-index nothing in
     record {
-      listed = λ m there. elim (in_push front l m (subst (λ (xs : List Lit). Contains xs m) (take_more c.args.clause.now c.loop-lit.lit-index nothing c.loop-lit-test.true) there)) [
-        | inl old ↦ e.more.keeps (code_of c.args.sizes m) c.args.number (i.listed m old)
-        | inr same ↦ subst (λ (q : Lit). Contains (clauses_of c.args.sizes c.add.new.self q) c.args.number) same e.listed
-      ];
+      listed =
+          λ m there. elim (in_push front l m
+          (subst (λ (xs : List Lit). Contains xs m)
+          (take_more c.args.clause.now c.loop-lit.lit-index nothing c.loop-lit-test.true) there)) [
+            | inl old ↦ e.more.keeps (code_of c.args.sizes m) c.args.number (i.listed m old)
+            | inr same ↦
+                subst (λ (q : Lit). Contains (clauses_of c.args.sizes c.add.new.self q) c.args.number) same e.listed
+          ];
       more = lists_more c.args.self.now c.loop-lit.self c.add.new.self i.more e.more;
     }
 
 pub returns-clause-listed : goal.returns-clause-listed
 returns-clause-listed c =
-    let whole : take c.loop-lit.lit-index c.args.clause.now ≡ c.args.clause.now = take_all c.loop-lit.lit-index c.args.clause.now (omega arith) in
+    let whole : take c.loop-lit.lit-index c.args.clause.now ≡ c.args.clause.now =
+    take_all c.loop-lit.lit-index c.args.clause.now (omega arith) in
     λ m there. c.loop-lit.invariant.listed m (subst (λ (xs : List Lit). Contains xs m) (sym whole) there)

@@ -6,16 +6,18 @@ use Rattle.gh_base.specs.declared.sizes.Sizes.{Sizes}
 use Rattle.gh_sat.specs.declared.learner.Learnt.{Learnt}
 use Rattle.gh_sat.specs.Trail.{SearchState}
 use Rattle.gh_sat.specs.Learn.{add_clause}
-use Rattle.gh_sat.specs.Theory.{IsTold, WereConsistent}
+use Rattle.gh_sat.proofs.TheoryLemmas.{Beside}
 use Rattle.gh_sat.proofs.search.Search.learn.Goals as goal
 
-abbrev Beside : (Sizes → List Lit → Type 0) → List Lit → Sizes → SearchState → Type 0
-Beside V asserted z s = IsTold asserted s.trail × (z ≡ s.sizes) × WereConsistent (V s.sizes) s.trail s.starts
-
-kept : (V : Sizes → List Lit → Type 0) (asserted : List Lit) (z : Sizes) (s new : SearchState) (r : Result Learnt AllocError) → Beside V asserted z s → IfOk r (λ l. new ≡ add_clause s l.clause) → OnErr r (new ≡ s) → Beside V asserted z new
+kept : (V : Sizes → List Lit → Type 0) (asserted : List Lit) (z : Sizes) (s new : SearchState)
+    (r : Result Learnt AllocError) → Beside V asserted z s
+    → IfOk r (λ l. new ≡ add_clause s l.clause) → OnErr r (new ≡ s) → Beside V asserted z new
 kept V asserted z s new (Ok l) b ok err = subst (Beside V asserted z) (sym ok) b
 kept V asserted z s new (Err e) b ok err = subst (Beside V asserted z) (sym err) b
 
 pub invariant_of-self : goal.invariant_of-self
 invariant_of-self g c =
-    kept g.T.Theory.valid (g.T.Theory.asserted c.self.inside.theory) (g.T.Theory.sizes c.self.inside.theory) c.self.inside.learner c.learn.new.self c.learn.result c.self.invariant c.learn.ensures.added c.learn.ensures.err
+    let T = g.T.Theory in
+    let theory = c.self.inside.theory in
+    kept T.valid (T.asserted theory) (T.sizes theory) c.self.inside.learner c.learn.new.self c.learn.result
+    c.self.invariant c.learn.ensures.added c.learn.ensures.err

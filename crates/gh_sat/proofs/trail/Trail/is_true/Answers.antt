@@ -13,6 +13,8 @@ returns-in-Some-clause-exact c =
     let s = c.self.inside in
     let t : Line = record { sizes = s.values.sizes; steps = s.steps.items } in
     let b : Bool = beq c.in-Some.truth c.args.lit.positive in
-    subst (λ (t : Line). (l : Lit) → IsInRange t.sizes l.atom → c.args.lit ≡ numbered t.sizes l → IsTrue b ↔ IsTrueIn t.steps l) c.self.view_is
+    subst (λ (t : Line). (l : Lit) → IsInRange t.sizes l.atom → c.args.lit ≡ numbered t.sizes l
+    → IsTrue b ↔ IsTrueIn t.steps l) c.self.view_is
     (λ l r e. exact_some t l b (steps_of s.values s.steps.items c.self.invariant.0)
-    (truth_is s.values s.steps.items l c.args.lit _ _ c.self.invariant.0 r e (rw c.values-values.ensures at c.in-Some.is)))
+    (truth_is s.values s.steps.items l c.args.lit _ _ c.self.invariant.0 r e
+    (rw c.values-values.ensures at c.in-Some.is)))
