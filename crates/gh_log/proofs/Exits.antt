@@ -5,23 +5,17 @@ use Rattle.std.proofs.lemmas.Result.{err_from_is_err_and}
 use Rattle.gh_log.specs.declared.error.LogError.{LogError}
 use Rattle.gh_log.specs.declared.error.Refusal.{Refusal}
 use Rattle.gh_log.specs.declared.error.Refusal.TheVariants.{Outside, OutOfMemory}
-use Rattle.gh_log.specs.Reading.{SpellsNothing, IsLogPartRefusal, IsLogPart}
+use Rattle.gh_log.specs.Reading.{SpellsNothing, IsPartRefusal, IsPartRead}
 
-pub within : {X Y : Type 0} (P : X → List ℕ → Type 0) (Q : Y → List ℕ → Type 0) (e : Refusal) → (SpellsNothing P → SpellsNothing Q) → IsLogPartRefusal P e → IsLogPartRefusal Q e
+pub within : {X Y : Type 0} (P : X → List ℕ → Type 0) (Q : Y → List ℕ → Type 0) (e : Refusal) → (SpellsNothing P → SpellsNothing Q) → IsPartRefusal P e → IsPartRefusal Q e
 within P Q Outside f h = f h
 within P Q OutOfMemory f h = tt
 
 -- at the exit of a `?`
 pub exit : {X Y Z : Type 0} (P : X → List ℕ → Type 0) (Q : Y → List ℕ → Type 0) (view : Z → Y) (answer : Result Z Refusal) (rest : List ℕ) (e : Refusal)
-    → (SpellsNothing P → SpellsNothing Q) → IsLogPartRefusal P e → IsErrAnd answer (λ d. d ≡ e) → IsLogPart Q view answer rest
+    → (SpellsNothing P → SpellsNothing Q) → IsPartRefusal P e → IsErrAnd answer (λ d. d ≡ e) → IsPartRead Q view answer rest
 exit P Q view answer rest e f h r =
     let p = err_from_is_err_and answer r in rw (p.1, p.2) (within P Q e f h)
-
--- an answer that is passed on
-pub along : {X Y : Type 0} (P Q : X → List ℕ → Type 0) (view : Y → X) (answer : Result Y Refusal) (rest : List ℕ)
-    → ((x : X) (r : List ℕ) → P x r → Q x r) → (SpellsNothing P → SpellsNothing Q) → IsLogPart P view answer rest → IsLogPart Q view answer rest
-along P Q view (Ok y) rest f g h = f (view y) rest h
-along P Q view (Err e) rest f g h = within P Q e g h
 
 -- nothing is said of what an error holds
 pub not_ok : {X : Type 0} (Q : Refusal → Type 0) (P : X → Type 0) (answer : Result X Refusal) → IsErrAnd answer Q → IfOk answer P

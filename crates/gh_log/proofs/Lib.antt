@@ -2,6 +2,7 @@ pub mod ClauseLemmas
 pub mod SectionLemmas
 pub mod WritingLemmas
 pub mod TableLemmas
+pub mod FrontLemmas
 pub mod Exits
 pub mod NumberLemmas
 pub mod AtomLemmas

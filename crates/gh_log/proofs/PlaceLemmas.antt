@@ -24,7 +24,7 @@ use Rattle.gh_log.specs.declared.error.Refusal.{Refusal}
 use Rattle.gh_log.specs.declared.error.Refusal.TheVariants.{Outside, OutOfMemory}
 use Rattle.gh_log.specs.Texts.{atom_text, sign_text, lits_text, term_text, numbers_text, line_text, header_text, section_text, sections_text, log_text}
 use Rattle.gh_log.specs.Spelled.{HasSpelledParts, IsSpelledLine, IsVersion, AreNumbers, IsSpelledAtom, AreSpelled, IsSpelled, ArePlaced, IsFirstOutside, IsLogRefusal, lines_of, lines_before}
-use Rattle.gh_log.specs.Reading.{SpellsNothing, IsLogPartRefusal, first_line, SpellsVersion, SpellsLine, SpellsHeader, SpellsSection, EndsSection, IsSectionRefusal, error_at}
+use Rattle.gh_log.specs.Reading.{SpellsNothing, IsPartRefusal, first_line, SpellsVersion, SpellsLine, SpellsHeader, SpellsSection, EndsSection, IsSectionRefusal, error_at}
 use Rattle.gh_log.proofs.NumberLemmas.{AreSmall, marked}
 use Rattle.gh_log.proofs.AtomLemmas.{kind_of, numbers_of, numbers_small, atom_parts}
 use Rattle.gh_log.proofs.LineLemmas.{IsSmallTerm, letter_is, letter_front, head_is, small_version}
@@ -322,7 +322,7 @@ up_to_spelled text version ss at rest u small =
     record { known = u.version_is; lines = u.spelled; few = omega (arith, fits.1, count) }
 
 -- refusals
-pub at_line : {X : Type 0} (P : X → List ℕ → Type 0) (Q : LogError → Type 0) (r : Refusal) (k : ℕ) (e : LogError) → IsLogPartRefusal P r → (SpellsNothing P → Q (Line k)) → Q NoMemory → e ≡ error_at r k → Q e
+pub at_line : {X : Type 0} (P : X → List ℕ → Type 0) (Q : LogError → Type 0) (r : Refusal) (k : ℕ) (e : LogError) → IsPartRefusal P r → (SpellsNothing P → Q (Line k)) → Q NoMemory → e ≡ error_at r k → Q e
 at_line P Q Outside k e h f g i = subst Q (sym i) (f h)
 at_line P Q OutOfMemory k e h f g i = subst Q (sym i) g
 

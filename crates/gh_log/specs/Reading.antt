@@ -25,19 +25,23 @@ use Rattle.gh_log.specs.Spelled.{IsSpelledAtom, AreSpelled, IsVersion, IsOfVersi
 abbrev pub SpellsNothing : {X : Type 0} → (X → List ℕ → Type 0) → Type 0
 SpellsNothing {X} P = (x : X) (rest : List ℕ) → P x rest → ⊥
 
-abbrev pub IsLogPartRefusal : {X : Type 0} → (X → List ℕ → Type 0) → Refusal → Type 0
-IsLogPartRefusal P Outside = SpellsNothing P
-IsLogPartRefusal P OutOfMemory = ⊤
+abbrev pub IsPartRefusal : {X : Type 0} → (X → List ℕ → Type 0) → Refusal → Type 0
+IsPartRefusal P Outside = SpellsNothing P
+IsPartRefusal P OutOfMemory = ⊤
 
 -- the answer is what the part spells at the front, and what is left
-abbrev pub IsLogPart : {X Y : Type 0} → (X → List ℕ → Type 0) → (Y → X) → Result Y Refusal → List ℕ → Type 0
-IsLogPart P view answer rest = MatchResult answer (λ y. P (view y) rest) (IsLogPartRefusal P)
+abbrev pub IsPartRead : {X Y : Type 0} → (X → List ℕ → Type 0) → (Y → X) → Result Y Refusal → List ℕ → Type 0
+IsPartRead P view answer rest = MatchResult answer (λ y. P (view y) rest) (IsPartRefusal P)
 
 abbrev pub SpellsText : List ℕ → List ℕ → Unit {0} → List ℕ → Type 0
 SpellsText wanted text u rest = text ≡ wanted ++ rest
 
 abbrev pub SpellsByte : List ℕ → ℕ → List ℕ → Type 0
 SpellsByte text b rest = text ≡ b ∷ rest
+
+-- the text doesn't begin so
+abbrev pub IsNotFront : List ℕ → List ℕ → Type 0
+IsNotFront front text = (rest : List ℕ) → text ≡ front ++ rest → ⊥
 
 -- another byte is next, or none
 abbrev pub IsNotNext : ℕ → List ℕ → Type 0

@@ -1,16 +1,18 @@
-//! The bytes that are left, and steps over them.
+//! Reading a text from its front.
 
-ghost use Rattle.std.specs.Prelude.{◌≡◌, ◌∷◌, ◌≤◌, [], false, length, take, drop, IsTrue, All};
+ghost use Rattle.std.specs.Prelude.{◌≡◌, ◌∷◌, ◌++◌, ◌≤◌, [], false, length, take, drop, IsTrue, All};
+ghost use Rattle.std.specs.Bool.{MatchBool};
 ghost use Rattle.std.specs.Char.{is_ascii_digit};
 ghost use Rattle.std.specs.Str.Parse.{AllDigits};
-ghost use Rattle.gh_log.specs.Reading.{IsLogPart, SpellsText, SpellsByte, SpellsNumber, SpellsBytes, EndsNumber, IsNumberOf, TakesByte};
+ghost use Rattle.gh_log.specs.Reading.{IsPartRead, IsNotFront, SpellsText, SpellsByte, SpellsNumber, SpellsBytes, EndsNumber, IsNumberOf, TakesByte};
 
 use crate::error::Refusal;
 
 /// How many digits stand where the first one is zero.
 const ALONE: usize = 1;
 
-/// The bytes that are left.
+/// A text that is read from its front: the bytes that are left. A step that takes a part goes past it; after a
+/// refusal nothing is said of what is left.
 #[derive(Drop)]
 pub struct Reader<'t> {
     pub rest: &'t [u8],
@@ -65,46 +67,33 @@ fn number_of(digits: &[u8]) -> Option<u32>
 }
 
 impl<'t> Reader<'t> {
-    /// Takes a byte.
-    pub fn any(&mut self) -> Result<u8, Refusal>
-        ensures { IsLogPart (SpellsByte self.old.rest.now) (λ b. b) result self.new.rest.now }
+    /// Whether a text is next.
+    pub fn is_next(&self, wanted: &[u8]) -> bool
+        ensures { MatchBool result (IsNotFront wanted.now self.now.rest.now → ⊥)
+            (IsNotFront wanted.now self.now.rest.now) }
     {
-        match self.rest {
-            [first, rest @ ..] => {
-                self.rest = rest;
-                Ok(*first)
-            }
-            [] => Err(Refusal::Outside),
-        }
+        self.rest.starts_with(wanted)
     }
 
-    /// Takes a byte, where it is next.
-    pub fn take(&mut self, byte: u8) -> bool
-        ensures { TakesByte byte self.old.rest.now self.new.rest.now result }
-    {
-        match self.rest {
-            [first, rest @ ..] if *first == byte => {
-                self.rest = rest;
-                true
-            }
-            _ => false,
-        }
-    }
-
-    /// Takes a text.
-    pub fn expect(&mut self, wanted: &[u8]) -> Result<(), Refusal>
-        ensures { IsLogPart (SpellsText wanted.now self.old.rest.now) (λ u. u) result self.new.rest.now }
+    /// Takes a text, where it is next. Otherwise takes nothing.
+    pub fn skip(&mut self, wanted: &[u8]) -> bool
+        ensures { MatchBool result (self.old.rest.now ≡ wanted.now ++ self.new.rest.now)
+            ((self.new.rest.now ≡ self.old.rest.now) × IsNotFront wanted.now self.old.rest.now) }
     {
         if !self.rest.starts_with(wanted) {
-            return Err(Refusal::Outside);
+            return false;
         }
         self.rest = &self.rest[wanted.len()..];
-        Ok(())
+        true
     }
 
-    /// Takes a number that isn't above the limit.
+    /// Takes a number in decimal: digits up to a byte that is none, without a zero before others.
+    ///
+    /// # Errors
+    ///
+    /// `Outside` where no number is next that isn't above the limit.
     pub fn number(&mut self, limit: u32) -> Result<u32, Refusal>
-        ensures { IsLogPart (SpellsNumber limit self.old.rest.now) (λ n. n) result self.new.rest.now }
+        ensures { IsPartRead (SpellsNumber limit self.old.rest.now) (λ n. n) result self.new.rest.now }
     {
         let (digits, rest) = self.rest.split_at(digits_length(self.rest));
         let Some(number) = number_of(digits) else {
@@ -117,9 +106,45 @@ impl<'t> Reader<'t> {
         Ok(number)
     }
 
+    /// Takes a byte.
+    pub(crate) fn any(&mut self) -> Result<u8, Refusal>
+        ensures { IsPartRead (SpellsByte self.old.rest.now) (λ b. b) result self.new.rest.now }
+    {
+        match self.rest {
+            [first, rest @ ..] => {
+                self.rest = rest;
+                Ok(*first)
+            }
+            [] => Err(Refusal::Outside),
+        }
+    }
+
+    /// Takes a byte, where it is next.
+    pub(crate) fn take(&mut self, byte: u8) -> bool
+        ensures { TakesByte byte self.old.rest.now self.new.rest.now result }
+    {
+        match self.rest {
+            [first, rest @ ..] if *first == byte => {
+                self.rest = rest;
+                true
+            }
+            _ => false,
+        }
+    }
+
+    /// Takes a text.
+    pub(crate) fn expect(&mut self, wanted: &[u8]) -> Result<(), Refusal>
+        ensures { IsPartRead (SpellsText wanted.now self.old.rest.now) (λ u. u) result self.new.rest.now }
+    {
+        if !self.skip(wanted) {
+            return Err(Refusal::Outside);
+        }
+        Ok(())
+    }
+
     /// Takes a number below 256 after a byte.
-    pub fn byte(&mut self, mark: u8) -> Result<u8, Refusal>
-        ensures { IsLogPart (SpellsBytes mark 1 self.old.rest.now) (λ n. n ∷ []) result self.new.rest.now }
+    pub(crate) fn byte(&mut self, mark: u8) -> Result<u8, Refusal>
+        ensures { IsPartRead (SpellsBytes mark 1 self.old.rest.now) (λ n. n ∷ []) result self.new.rest.now }
     {
         if !self.take(mark) {
             return Err(Refusal::Outside);
@@ -129,9 +154,9 @@ impl<'t> Reader<'t> {
     }
 
     /// Takes two numbers below 256, each after a byte.
-    pub fn pair(&mut self, mark: u8) -> Result<(u8, u8), Refusal>
+    pub(crate) fn pair(&mut self, mark: u8) -> Result<(u8, u8), Refusal>
         requires { is_ascii_digit mark ≡ false }
-        ensures { IsLogPart (SpellsBytes mark 2 self.old.rest.now) (λ p. p.0 ∷ p.1 ∷ []) result self.new.rest.now }
+        ensures { IsPartRead (SpellsBytes mark 2 self.old.rest.now) (λ p. p.0 ∷ p.1 ∷ []) result self.new.rest.now }
     {
         let first = self.byte(mark)?;
         let second = self.byte(mark)?;

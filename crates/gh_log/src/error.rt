@@ -1,4 +1,4 @@
-//! Why a text isn't read as a log.
+//! Why a text isn't read as a log, and why a part of a text isn't read.
 
 ghost use Rattle.std.specs.Prelude.{◌≡◌};
 ghost use Rattle.gh_log.specs.declared.error.LogError.TheVariants.{OutOfMemory};
@@ -34,11 +34,13 @@ impl<T: Drop> From<AllocFailed<T>> for LogError {
     }
 }
 
-/// Why a part of a line isn't read.
-#[derive(Debug, Drop)]
-pub(crate) enum Refusal {
+/// Why a part of a text isn't read.
+#[derive(Debug, Drop, Error)]
+pub enum Refusal {
     /// It isn't next.
+    #[error("the text goes on with something else")]
     Outside,
+    #[error("out of memory")]
     OutOfMemory,
 }
 

@@ -1,7 +1,7 @@
 //! Proof logs: sections of lines that end in the empty clause, and their text.
 #![tactic(auto)]
 
-mod cursor;
+pub mod cursor;
 pub mod error;
 pub mod laws;
 pub mod lines;

@@ -1,7 +1,7 @@
 //! Atoms, literals and clauses in a text.
 
 ghost use Rattle.std.specs.Prelude.{◌∷◌};
-ghost use Rattle.gh_log.specs.Reading.{IsLogPart, SpellsAtom, SpellsLit, SpellsClause, SpellsShown, SpellsNumbers};
+ghost use Rattle.gh_log.specs.Reading.{IsPartRead, SpellsAtom, SpellsLit, SpellsClause, SpellsShown, SpellsNumbers};
 
 use crate::cursor::Reader;
 use crate::error::Refusal;
@@ -10,7 +10,7 @@ use gh_base::atom::{Atom, Lit, Term};
 impl<'t> Reader<'t> {
     // Reads an equality after its letter: its terms stand in order.
     fn equality(&mut self) -> Result<Atom, Refusal>
-        ensures { IsLogPart (SpellsAtom (69 ∷ self.old.rest.now)) (λ x. x) result self.new.rest.now }
+        ensures { IsPartRead (SpellsAtom (69 ∷ self.old.rest.now)) (λ x. x) result self.new.rest.now }
     {
         let (a, b) = self.pair(b'.')?;
         if a > b {
@@ -24,7 +24,7 @@ impl<'t> Reader<'t> {
 
     // Reads a betweenness after its letter.
     fn betweenness(&mut self) -> Result<Atom, Refusal>
-        ensures { IsLogPart (SpellsAtom (66 ∷ self.old.rest.now)) (λ x. x) result self.new.rest.now }
+        ensures { IsPartRead (SpellsAtom (66 ∷ self.old.rest.now)) (λ x. x) result self.new.rest.now }
     {
         let (version, x) = self.pair(b'.')?;
         let (y, z) = self.pair(b'.')?;
@@ -38,7 +38,7 @@ impl<'t> Reader<'t> {
 
     // Reads a hop after its letter.
     fn hop(&mut self) -> Result<Atom, Refusal>
-        ensures { IsLogPart (SpellsAtom (72 ∷ self.old.rest.now)) (λ x. x) result self.new.rest.now }
+        ensures { IsPartRead (SpellsAtom (72 ∷ self.old.rest.now)) (λ x. x) result self.new.rest.now }
     {
         let version = self.byte(b'.')?;
         let (x, v) = self.pair(b'.')?;
@@ -51,7 +51,7 @@ impl<'t> Reader<'t> {
 
     // Reads an allocation after its letter.
     fn allocation(&mut self) -> Result<Atom, Refusal>
-        ensures { IsLogPart (SpellsAtom (65 ∷ self.old.rest.now)) (λ x. x) result self.new.rest.now }
+        ensures { IsPartRead (SpellsAtom (65 ∷ self.old.rest.now)) (λ x. x) result self.new.rest.now }
     {
         let (version, x) = self.pair(b'.')?;
         Ok(Atom::Alloc {
@@ -62,7 +62,7 @@ impl<'t> Reader<'t> {
 
     // Reads a defined atom after its letter.
     fn definition(&mut self) -> Result<Atom, Refusal>
-        ensures { IsLogPart (SpellsAtom (68 ∷ self.old.rest.now)) (λ x. x) result self.new.rest.now }
+        ensures { IsPartRead (SpellsAtom (68 ∷ self.old.rest.now)) (λ x. x) result self.new.rest.now }
     {
         if !self.take(b'.') {
             return Err(Refusal::Outside);
@@ -72,8 +72,8 @@ impl<'t> Reader<'t> {
     }
 
     /// Reads an atom.
-    pub fn atom(&mut self) -> Result<Atom, Refusal>
-        ensures { IsLogPart (SpellsAtom self.old.rest.now) (λ x. x) result self.new.rest.now }
+    pub(crate) fn atom(&mut self) -> Result<Atom, Refusal>
+        ensures { IsPartRead (SpellsAtom self.old.rest.now) (λ x. x) result self.new.rest.now }
     {
         match self.any()? {
             b'E' => self.equality(),
@@ -86,8 +86,8 @@ impl<'t> Reader<'t> {
     }
 
     /// Reads a literal.
-    pub fn lit(&mut self) -> Result<Lit, Refusal>
-        ensures { IsLogPart (SpellsLit self.old.rest.now) (λ l. l) result self.new.rest.now }
+    pub(crate) fn lit(&mut self) -> Result<Lit, Refusal>
+        ensures { IsPartRead (SpellsLit self.old.rest.now) (λ l. l) result self.new.rest.now }
     {
         let negative = self.take(b'-');
         let atom = self.atom()?;
@@ -98,8 +98,8 @@ impl<'t> Reader<'t> {
     }
 
     /// Reads literals, each after a space, to the end of the line.
-    pub fn clause(&mut self, clause: &mut Vec<Lit>) -> Result<(), Refusal>
-        ensures { IsLogPart (SpellsClause self.old.rest.now) (λ _. clause.new.items) result self.new.rest.now }
+    pub(crate) fn clause(&mut self, clause: &mut Vec<Lit>) -> Result<(), Refusal>
+        ensures { IsPartRead (SpellsClause self.old.rest.now) (λ _. clause.new.items) result self.new.rest.now }
     {
         clause.clear();
         'literals: loop {
@@ -114,8 +114,8 @@ impl<'t> Reader<'t> {
     }
 
     /// Reads literals, each after a space, to the sign before hints.
-    pub fn shown(&mut self, clause: &mut Vec<Lit>) -> Result<(), Refusal>
-        ensures { IsLogPart (SpellsShown self.old.rest.now) (λ _. clause.new.items) result self.new.rest.now }
+    pub(crate) fn shown(&mut self, clause: &mut Vec<Lit>) -> Result<(), Refusal>
+        ensures { IsPartRead (SpellsShown self.old.rest.now) (λ _. clause.new.items) result self.new.rest.now }
     {
         clause.clear();
         'literals: loop {
@@ -130,8 +130,8 @@ impl<'t> Reader<'t> {
     }
 
     /// Reads numbers, each after a space, to the end of the line.
-    pub fn numbers(&mut self, numbers: &mut Vec<u32>) -> Result<(), Refusal>
-        ensures { IsLogPart (SpellsNumbers self.old.rest.now) (λ _. numbers.new.items) result self.new.rest.now }
+    pub(crate) fn numbers(&mut self, numbers: &mut Vec<u32>) -> Result<(), Refusal>
+        ensures { IsPartRead (SpellsNumbers self.old.rest.now) (λ _. numbers.new.items) result self.new.rest.now }
     {
         numbers.clear();
         'numbers: loop {

@@ -4,7 +4,7 @@ ghost use Rattle.std.specs.Prelude.{◌≡◌, ◌+◌, ◌<◌, ◌^◌, ◌∷
 ghost use Rattle.gh_log.specs.Texts.{log_text};
 ghost use Rattle.gh_log.specs.Tables.{line_of};
 ghost use Rattle.gh_log.specs.Spelled.{IsVersion, IsSpelled, ArePlaced, IsLogRefusal, lines_of};
-ghost use Rattle.gh_log.specs.Reading.{IsLogPart, SpellsTerms, ArePadded, SpellsParts, SpellsLine, line_with, SpellsGround, SpellsName};
+ghost use Rattle.gh_log.specs.Reading.{IsPartRead, SpellsTerms, ArePadded, SpellsParts, SpellsLine, line_with, SpellsGround, SpellsName};
 ghost use Rattle.gh_log.specs.Reading.{SpellsVersion, SpellsHeader, EndsSection, SpellsSection, IsSectionRefusal};
 ghost use Rattle.std.specs.Bool.{MatchBool};
 
@@ -73,7 +73,7 @@ impl Parts {
 impl<'t> Reader<'t> {
     // Reads up to four terms, each after a space, to the end of the line, and counts them.
     fn terms(&mut self) -> Result<([Term; 4], u8), Refusal>
-        ensures read { IsLogPart (SpellsTerms 0 self.old.rest.now) (λ p. take p.1 p.0) result self.new.rest.now }
+        ensures read { IsPartRead (SpellsTerms 0 self.old.rest.now) (λ p. take p.1 p.0) result self.new.rest.now }
         ensures padded { IfOk result (λ p. ArePadded p.0 p.1) }
     {
         let mut terms = [Term(0); 4];
@@ -91,7 +91,7 @@ impl<'t> Reader<'t> {
 
     // Reads the name of an instance after the letter of its line, to the end of the line.
     fn name(&mut self) -> Result<InstanceName, Refusal>
-        ensures { IsLogPart (SpellsName self.old.rest.now) (λ n. n) result self.new.rest.now }
+        ensures { IsPartRead (SpellsName self.old.rest.now) (λ n. n) result self.new.rest.now }
     {
         let (row, version) = self.pair(b' ')?;
         let (terms, arity) = self.terms()?;
@@ -108,7 +108,7 @@ impl<'t> Reader<'t> {
 
     // Reads the number of a ground clause after the letter of its line, to the end of the line.
     fn ground(&mut self) -> Result<u32, Refusal>
-        ensures { IsLogPart (SpellsGround self.old.rest.now) (λ k. k) result self.new.rest.now }
+        ensures { IsPartRead (SpellsGround self.old.rest.now) (λ k. k) result self.new.rest.now }
     {
         if !self.take(b' ') {
             return Err(Refusal::Outside);
@@ -123,7 +123,7 @@ impl<'t> Reader<'t> {
     // Reads a clause that earlier lines show, after the letter of its line, to the end of the line.
     fn inferred(&mut self, parts: &mut Parts, version: u8) -> Result<Kind, Refusal>
         requires { IsVersion version }
-        ensures { IsLogPart (SpellsLine version (108 ∷ self.old.rest.now)) (line_with parts.new) result
+        ensures { IsPartRead (SpellsLine version (108 ∷ self.old.rest.now)) (line_with parts.new) result
             self.new.rest.now }
     {
         if version == WITHOUT_HINTS {
@@ -137,7 +137,7 @@ impl<'t> Reader<'t> {
 
     // Reads a deletion after the letter of its line, to the end of the line.
     fn deletion(&mut self, parts: &mut Parts, version: u8) -> Result<Kind, Refusal>
-        ensures { IsLogPart (SpellsLine version (100 ∷ self.old.rest.now)) (line_with parts.new) result
+        ensures { IsPartRead (SpellsLine version (100 ∷ self.old.rest.now)) (line_with parts.new) result
             self.new.rest.now }
     {
         if version != WITH_HINTS {
@@ -149,7 +149,7 @@ impl<'t> Reader<'t> {
 
     // Reads a lemma after the letter of its line, to the end of the line.
     fn lemma(&mut self, parts: &mut Parts) -> Result<Kind, Refusal>
-        ensures { IsLogPart (SpellsParts (101 ∷ self.old.rest.now)) (line_with parts.new) result self.new.rest.now }
+        ensures { IsPartRead (SpellsParts (101 ∷ self.old.rest.now)) (line_with parts.new) result self.new.rest.now }
     {
         self.clause(&mut parts.clause)?;
         Ok(Kind::Lemma)
@@ -158,7 +158,7 @@ impl<'t> Reader<'t> {
     // Reads a line of a section of a log of this version.
     fn line(&mut self, parts: &mut Parts, version: u8) -> Result<Kind, Refusal>
         requires { IsVersion version }
-        ensures { IsLogPart (SpellsLine version self.old.rest.now) (line_with parts.new) result self.new.rest.now }
+        ensures { IsPartRead (SpellsLine version self.old.rest.now) (line_with parts.new) result self.new.rest.now }
     {
         match self.any()? {
             b'a' => Ok(Kind::Axiom(self.name()?)),
@@ -174,7 +174,7 @@ impl<'t> Reader<'t> {
 
     // Reads the first line of a log.
     fn version(&mut self) -> Result<u8, Refusal>
-        ensures { IsLogPart (SpellsVersion self.old.rest.now) (λ v. v) result self.new.rest.now }
+        ensures { IsPartRead (SpellsVersion self.old.rest.now) (λ v. v) result self.new.rest.now }
     {
         self.expect(b"grass log ")?;
         let version = self.number(LAST_VERSION)?;
@@ -189,7 +189,7 @@ impl<'t> Reader<'t> {
 
     // Reads the first line of the section with this number.
     fn header(&mut self, number: u32) -> Result<(), Refusal>
-        ensures { IsLogPart (SpellsHeader number self.old.rest.now) (λ u. u) result self.new.rest.now }
+        ensures { IsPartRead (SpellsHeader number self.old.rest.now) (λ u. u) result self.new.rest.now }
     {
         self.expect(b"condition ")?;
         if self.number(u32::MAX)? != number {

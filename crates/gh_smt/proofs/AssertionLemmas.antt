@@ -7,10 +7,10 @@ use Rattle.gh_base.specs.declared.atom.Atom.{Atom}
 use Rattle.gh_base.specs.declared.atom.Atom.TheVariants.{Eq, Btwn, Hop, Alloc, Def}
 use Rattle.gh_base.specs.declared.atom.Lit.{Lit}
 use Rattle.gh_base.specs.declared.sizes.Sizes.{Sizes}
-use Rattle.gh_log.specs.Reading.{SpellsNothing}
+use Rattle.gh_log.specs.Reading.{SpellsNothing, IsNotFront}
 use Rattle.gh_log.proofs.NumberLemmas.{AreOne}
 use Rattle.gh_smt.specs.Texts.{atom_text, lit_text, spaced_lit, signed_text, assertion_text, foot_text}
-use Rattle.gh_smt.specs.Reading.{IsNotFront, IsSpelledLit, SpellsLit, SpellsSpaced, lits_end, SpellsLits, IsSpelledAssertion, SpellsAssertion}
+use Rattle.gh_smt.specs.Reading.{IsSpelledLit, SpellsLit, SpellsSpaced, lits_end, SpellsLits, IsSpelledAssertion, SpellsAssertion}
 use Rattle.gh_smt.proofs.ItemLemmas.{AreItems, one_items}
 use Rattle.gh_smt.proofs.LitLemmas.{one_lit, ends_lit, are_lits}
 

@@ -10,9 +10,9 @@ use Rattle.gh_base.specs.declared.atom.Atom.TheVariants.{Eq, Btwn, Hop, Alloc, D
 use Rattle.gh_base.specs.declared.sizes.Sizes.{Sizes}
 use Rattle.gh_base.specs.Atoms.{IsInRange}
 use Rattle.gh_inst.specs.Schemas.{term}
-use Rattle.gh_log.specs.Reading.{SpellsNothing, EndsNumber, SpellsNumber}
+use Rattle.gh_log.specs.Reading.{SpellsNothing, EndsNumber, SpellsNumber, IsNotFront}
 use Rattle.gh_log.proofs.NumberLemmas.{AreOne, one_number}
-use Rattle.gh_smt.specs.Reading.{IsNotFront, SpellsTerm, spaced_number, SpellsTerms, SpellsForm, SpellsAtom}
+use Rattle.gh_smt.specs.Reading.{SpellsTerm, spaced_number, SpellsTerms, SpellsForm, SpellsAtom}
 
 none : (P : ℕ → Type 0) → All P []
 none P k d l = absurd (omega arith)

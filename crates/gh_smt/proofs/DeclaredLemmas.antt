@@ -3,13 +3,13 @@ use Rattle.std.proofs.Common.{◌≡◌, ◌≢◌, ℕ, zero, suc, ◌+◌, ◌
 use Rattle.std.specs.List.{flat_map, range_with_len}
 use Rattle.std.specs.Fmt.{decimal}
 use Rattle.std.proofs.lemmas.List.{append_cancel_left}
-use Rattle.gh_log.specs.Reading.{SpellsNothing, EndsNumber, SpellsNumber, SpellsText}
+use Rattle.gh_log.specs.Reading.{SpellsNothing, EndsNumber, SpellsNumber, SpellsText, IsNotFront}
 use Rattle.gh_log.proofs.NumberLemmas.{AreOne, one_number}
 use Rattle.gh_log.proofs.AtomLemmas.{Goes}
 use Rattle.gh_smt.specs.declared.kind.Kind.{Kind}
 use Rattle.gh_smt.specs.declared.kind.Kind.TheVariants.{Term, Version, Definition}
 use Rattle.gh_smt.specs.Kinds.{declared_text, start_text}
-use Rattle.gh_smt.specs.Reading.{IsNotFront, SpellsDeclared}
+use Rattle.gh_smt.specs.Reading.{SpellsDeclared}
 
 -- a number between two texts
 around_rest : (before d after text middle rest : List ℕ) → text ≡ before ++ middle → text ≡ (before ++ (d ++ after)) ++ rest → middle ≡ d ++ (after ++ rest)

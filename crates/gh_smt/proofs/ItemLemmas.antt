@@ -3,10 +3,10 @@ use Rattle.std.proofs.Common.{◌≡◌, ℕ, List, [], ◌∷◌, ◌++◌, ref
 use Rattle.std.specs.List.{flat_map}
 use Rattle.std.proofs.lemmas.List.{append-nil, append_cancel_left}
 use Rattle.std.proofs.lemmas.List.Elements.{All-head, All-tail, All-cons}
-use Rattle.gh_log.specs.Reading.{SpellsNothing}
+use Rattle.gh_log.specs.Reading.{SpellsNothing, IsNotFront}
 use Rattle.gh_log.proofs.NumberLemmas.{AreOne}
 use Rattle.gh_log.proofs.AtomLemmas.{Goes}
-use Rattle.gh_smt.specs.Reading.{IsNotFront, SpellsItems}
+use Rattle.gh_smt.specs.Reading.{SpellsItems}
 
 -- items are read in one way before other items and before what ends them, and none is read as that end
 pub record AreItems {X : Type 0} (print : X → List ℕ) (W : X → Type 0) (end : List ℕ) (P : List ℕ → X → List ℕ → Type 0) : Type 0 where

@@ -4,8 +4,6 @@ pub mod StructureLemmas
 pub mod ScriptLemmas
 pub mod CountLemmas
 pub mod MakingLemmas
-pub mod FrontLemmas
-pub mod Exits
 pub mod AtomLemmas
 pub mod LitLemmas
 pub mod ItemLemmas

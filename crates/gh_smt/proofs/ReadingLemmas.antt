@@ -10,14 +10,14 @@ use Rattle.gh_base.specs.declared.atom.Lit.{Lit}
 use Rattle.gh_base.specs.declared.sizes.Sizes.{Sizes}
 use Rattle.gh_base.specs.Atoms.{IsInRange, AreInRange}
 use Rattle.gh_base.specs.Grounds.{Problem}
-use Rattle.gh_log.specs.Reading.{SpellsNothing}
+use Rattle.gh_log.specs.Reading.{SpellsNothing, IsNotFront}
 use Rattle.gh_log.proofs.NumberLemmas.{AreOne}
 use Rattle.gh_smt.specs.declared.kind.Kind.{Kind}
 use Rattle.gh_smt.specs.declared.kind.Kind.TheVariants.{Term, Version, Definition}
 use Rattle.gh_smt.specs.Kinds.{start_text}
 use Rattle.gh_smt.specs.Scripts.{HasLits, IsSized, IsScript}
 use Rattle.gh_smt.specs.Texts.{head_text, foot_text, term_declared, version_declared, definition_declared, assertion_text, script_text}
-use Rattle.gh_smt.specs.Reading.{IsNotFront, FitsAtom, IsSpelledLit, IsSpelledAssertion, SpellsAssertion, SpellsAssertions, SpellsDeclared, SpellsScript, IsNoScript}
+use Rattle.gh_smt.specs.Reading.{FitsAtom, IsSpelledLit, IsSpelledAssertion, SpellsAssertion, SpellsAssertions, SpellsDeclared, SpellsScript, IsNoScript}
 use Rattle.gh_smt.proofs.ItemLemmas.{one_items}
 use Rattle.gh_smt.proofs.AssertionLemmas.{are_assertions}
 use Rattle.gh_smt.proofs.DeclaredLemmas.{one_declared}

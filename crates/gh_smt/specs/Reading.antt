@@ -1,5 +1,5 @@
--- What the parts of a script's text spell at the front of a text, and what the reader answers for a part.
-use Rattle.std.specs.Prelude.{◌≡◌, ℕ, ◌+◌, ◌≤◌, List, ◌∷◌, ◌++◌, length, codes, Bool, true, false, All, ⊤, Result, MatchResult}
+-- What the parts of a script's text spell at the front of a text.
+use Rattle.std.specs.Prelude.{◌≡◌, ℕ, ◌+◌, ◌≤◌, List, ◌∷◌, ◌++◌, length, codes, Bool, true, false, All, ⊤, Result}
 use Rattle.std.specs.List.{flat_map, range_with_len}
 use Rattle.std.specs.Fmt.{decimal}
 use Rattle.gh_base.specs.declared.atom.Atom.{Atom}
@@ -8,29 +8,16 @@ use Rattle.gh_base.specs.declared.atom.Lit.{Lit}
 use Rattle.gh_base.specs.declared.sizes.Sizes.{Sizes}
 use Rattle.gh_base.specs.Atoms.{IsInRange}
 use Rattle.gh_base.specs.Grounds.{Problem}
-use Rattle.gh_log.specs.Reading.{SpellsNothing, SpellsText, EndsNumber}
+use Rattle.gh_log.specs.declared.error.Refusal.{Refusal}
+use Rattle.gh_log.specs.Reading.{IsPartRead, IsNotFront, SpellsText, EndsNumber}
 use Rattle.gh_smt.specs.declared.kind.Kind.{Kind}
-use Rattle.gh_smt.specs.declared.error.Refusal.{Refusal}
-use Rattle.gh_smt.specs.declared.error.Refusal.TheVariants.{Outside, OutOfMemory}
 use Rattle.gh_smt.specs.Scripts.{HasLits, IsScript}
 use Rattle.gh_smt.specs.Texts.{atom_text, lit_text, spaced_lit, assertion_text, foot_text, script_text}
 use Rattle.gh_smt.specs.Kinds.{declared_text, start_text}
 
-abbrev pub IsScriptPartRefusal : {X : Type 0} → (X → List ℕ → Type 0) → Refusal → Type 0
-IsScriptPartRefusal P Outside = SpellsNothing P
-IsScriptPartRefusal P OutOfMemory = ⊤
-
--- the answer is what the part spells at the front, and what is left
-abbrev pub IsScriptPart : {X Y : Type 0} → (X → List ℕ → Type 0) → (Y → X) → Result Y Refusal → List ℕ → Type 0
-IsScriptPart P view answer rest = MatchResult answer (λ y. P (view y) rest) (IsScriptPartRefusal P)
-
 -- a text stands at the front, and what is left follows it
 abbrev pub TakesText : List ℕ → List ℕ → Result (Unit {0}) Refusal → List ℕ → Type 0
-TakesText wanted text answer rest = IsScriptPart (SpellsText wanted text) (λ u. u) answer rest
-
--- the text doesn't begin so
-abbrev pub IsNotFront : List ℕ → List ℕ → Type 0
-IsNotFront front text = (rest : List ℕ) → text ≡ front ++ rest → ⊥
+TakesText wanted text answer rest = IsPartRead (SpellsText wanted text) (λ u. u) answer rest
 
 -- a term after a space
 pub record SpellsTerm (text : List ℕ) (n : ℕ) (rest : List ℕ) : Type 0 where

@@ -1,8 +1,7 @@
-//! Why there is no script, and why a part of a text isn't read.
+//! Why there is no script.
 
 ghost use Rattle.std.specs.Prelude.{◌≡◌};
 ghost use Rattle.gh_smt.specs.declared.error.ScriptError.TheVariants.{OutOfMemory};
-ghost use Rattle.gh_smt.specs.declared.error.Refusal.TheVariants.{OutOfMemory as NoMemory};
 
 use std::alloc::{AllocError, AllocFailed};
 use thiserror::Error;
@@ -30,29 +29,5 @@ impl<T: Drop> From<AllocFailed<T>> for ScriptError {
 
     fn from(_: AllocFailed<T>) -> Self {
         ScriptError::OutOfMemory
-    }
-}
-
-/// Why a part of a text isn't read.
-#[derive(Debug, Drop)]
-pub(crate) enum Refusal {
-    /// It isn't next.
-    Outside,
-    OutOfMemory,
-}
-
-impl From<AllocError> for Refusal {
-    ghost from_gives = { λ _ e. e ≡ NoMemory };
-
-    fn from(_: AllocError) -> Self {
-        Refusal::OutOfMemory
-    }
-}
-
-impl<T: Drop> From<AllocFailed<T>> for Refusal {
-    ghost from_gives = { λ _ e. e ≡ NoMemory };
-
-    fn from(_: AllocFailed<T>) -> Self {
-        Refusal::OutOfMemory
     }
 }

@@ -1,7 +1,6 @@
 //! Conditions as SMT-LIB scripts.
 #![tactic(auto)]
 
-mod cursor;
 pub mod error;
 mod kind;
 pub mod laws;

@@ -1,206 +1,209 @@
 //! Atoms, literals and clauses in a text.
 
 ghost use Rattle.std.specs.Prelude.{◌∷◌, ◌++◌, [], codes};
-ghost use Rattle.gh_smt.specs.Reading.{IsScriptPart, SpellsTerm, SpellsTerms, SpellsForm, SpellsAtom, SpellsLit, SpellsSpaced, SpellsLits};
+ghost use Rattle.gh_log.specs.Reading.{IsPartRead};
+ghost use Rattle.gh_smt.specs.Reading.{SpellsTerm, SpellsTerms, SpellsForm, SpellsAtom, SpellsLit, SpellsSpaced, SpellsLits};
 
-use crate::cursor::Reader;
-use crate::error::Refusal;
 use gh_base::atom::{Atom, Lit, Term};
 use gh_base::clause::Clause;
 use gh_base::sizes::Sizes;
+use gh_log::cursor::Reader;
+use gh_log::error::Refusal;
 use std::alloc::Global;
 
-impl<'t> Reader<'t> {
-    // Reads a term after a space.
-    fn term(&mut self) -> Result<Term, Refusal>
-        ensures { IsScriptPart (SpellsTerm self.old.rest.now) (λ t. t.0) result self.new.rest.now }
-    {
-        if !self.skip(b" t") {
-            return Err(Refusal::Outside);
+// Reads a term after a space.
+fn read_term(reader: &mut Reader<'_>) -> Result<Term, Refusal>
+    ensures { IsPartRead (SpellsTerm reader.old.rest.now) (λ t. t.0) result reader.new.rest.now }
+{
+    if !reader.skip(b" t") {
+        return Err(Refusal::Outside);
+    }
+    let number = reader.number(255)?;
+    Ok(Term(number as u8))
+}
+
+// Reads a term and the sign that ends terms.
+fn read_one(reader: &mut Reader<'_>) -> Result<Term, Refusal>
+    ensures { IsPartRead (SpellsTerms 1 reader.old.rest.now) (λ t. t.0 ∷ []) result reader.new.rest.now }
+{
+    let x = read_term(reader)?;
+    if !reader.skip(b")") {
+        return Err(Refusal::Outside);
+    }
+    Ok(x)
+}
+
+// Reads two terms and that sign.
+fn read_two(reader: &mut Reader<'_>) -> Result<(Term, Term), Refusal>
+    ensures { IsPartRead (SpellsTerms 2 reader.old.rest.now) (λ p. p.0.0 ∷ p.1.0 ∷ []) result
+        reader.new.rest.now }
+{
+    let x = read_term(reader)?;
+    let y = read_one(reader)?;
+    Ok((x, y))
+}
+
+// Reads three terms and that sign.
+fn read_three(reader: &mut Reader<'_>) -> Result<(Term, Term, Term), Refusal>
+    ensures { IsPartRead (SpellsTerms 3 reader.old.rest.now) (λ p. p.0.0 ∷ p.1.0 ∷ p.2.0 ∷ []) result
+        reader.new.rest.now }
+{
+    let x = read_term(reader)?;
+    let (y, z) = read_two(reader)?;
+    Ok((x, y, z))
+}
+
+// Reads an equality after its sign.
+fn read_equality(reader: &mut Reader<'_>) -> Result<Atom, Refusal>
+    ensures { IsPartRead (SpellsForm (codes "(=" ++ reader.old.rest.now)) (λ x. x) result reader.new.rest.now }
+{
+    let (a, b) = read_two(reader)?;
+    Ok(Atom::Eq { a, b })
+}
+
+// Reads a betweenness after its letter.
+fn read_betweenness(reader: &mut Reader<'_>) -> Result<Atom, Refusal>
+    ensures { IsPartRead (SpellsForm (codes "(b" ++ reader.old.rest.now)) (λ x. x) result reader.new.rest.now }
+{
+    let version = reader.number(255)?;
+    let (x, y, z) = read_three(reader)?;
+    Ok(Atom::Btwn {
+        version: version as u8,
+        x,
+        y,
+        z,
+    })
+}
+
+// Reads a hop after its letter.
+fn read_hop(reader: &mut Reader<'_>) -> Result<Atom, Refusal>
+    ensures { IsPartRead (SpellsForm (codes "(h" ++ reader.old.rest.now)) (λ x. x) result reader.new.rest.now }
+{
+    let version = reader.number(255)?;
+    let (x, v) = read_two(reader)?;
+    Ok(Atom::Hop {
+        version: version as u8,
+        x,
+        v,
+    })
+}
+
+// Reads an allocation after its letter.
+fn read_allocation(reader: &mut Reader<'_>) -> Result<Atom, Refusal>
+    ensures { IsPartRead (SpellsForm (codes "(a" ++ reader.old.rest.now)) (λ x. x) result reader.new.rest.now }
+{
+    let version = reader.number(255)?;
+    let x = read_one(reader)?;
+    Ok(Atom::Alloc {
+        version: version as u8,
+        x,
+    })
+}
+
+// Reads a defined atom after its letter.
+fn read_definition(reader: &mut Reader<'_>) -> Result<Atom, Refusal>
+    ensures { IsPartRead (SpellsForm (codes "d" ++ reader.old.rest.now)) (λ x. x) result reader.new.rest.now }
+{
+    let number = reader.number(u32::MAX)?;
+    Ok(Atom::Def { number })
+}
+
+// Reads a relation or an equality of terms.
+fn read_applied(reader: &mut Reader<'_>) -> Result<Atom, Refusal>
+    ensures { IsPartRead (SpellsForm (codes "(" ++ reader.old.rest.now)) (λ x. x) result reader.new.rest.now }
+{
+    if reader.skip(b"=") {
+        return read_equality(reader);
+    }
+    if reader.skip(b"b") {
+        return read_betweenness(reader);
+    }
+    if reader.skip(b"h") {
+        return read_hop(reader);
+    }
+    if reader.skip(b"a") {
+        return read_allocation(reader);
+    }
+    Err(Refusal::Outside)
+}
+
+// Reads an atom of any numbers.
+fn read_form(reader: &mut Reader<'_>) -> Result<Atom, Refusal>
+    ensures { IsPartRead (SpellsForm reader.old.rest.now) (λ x. x) result reader.new.rest.now }
+{
+    if reader.skip(b"(") {
+        return read_applied(reader);
+    }
+    if reader.skip(b"d") {
+        return read_definition(reader);
+    }
+    Err(Refusal::Outside)
+}
+
+// Reads an atom in range.
+fn read_atom(reader: &mut Reader<'_>, sizes: Sizes) -> Result<Atom, Refusal>
+    ensures { IsPartRead (SpellsAtom sizes reader.old.rest.now) (λ x. x) result reader.new.rest.now }
+{
+    let atom = read_form(reader)?;
+    if !sizes.has(atom) {
+        return Err(Refusal::Outside);
+    }
+    Ok(atom)
+}
+
+// Reads a literal after the sign of a negative one.
+fn read_negative(reader: &mut Reader<'_>, sizes: Sizes) -> Result<Lit, Refusal>
+    ensures { IsPartRead (SpellsLit sizes (codes "(not " ++ reader.old.rest.now)) (λ l. l) result
+        reader.new.rest.now }
+{
+    let atom = read_atom(reader, sizes)?;
+    if !reader.skip(b")") {
+        return Err(Refusal::Outside);
+    }
+    Ok(Lit {
+        atom,
+        positive: false,
+    })
+}
+
+// Reads a literal.
+pub(crate) fn read_lit(reader: &mut Reader<'_>, sizes: Sizes) -> Result<Lit, Refusal>
+    ensures { IsPartRead (SpellsLit sizes reader.old.rest.now) (λ l. l) result reader.new.rest.now }
+{
+    if reader.skip(b"(not ") {
+        return read_negative(reader, sizes);
+    }
+    let atom = read_atom(reader, sizes)?;
+    Ok(Lit {
+        atom,
+        positive: true,
+    })
+}
+
+// Reads a literal after a space.
+fn read_spaced(reader: &mut Reader<'_>, sizes: Sizes) -> Result<Lit, Refusal>
+    ensures { IsPartRead (SpellsSpaced sizes reader.old.rest.now) (λ l. l) result reader.new.rest.now }
+{
+    if !reader.skip(b" ") {
+        return Err(Refusal::Outside);
+    }
+    let lit = read_lit(reader, sizes)?;
+    Ok(lit)
+}
+
+// Reads literals, each after a space, to the end of their assertion.
+pub(crate) fn read_lits(
+    reader: &mut Reader<'_>,
+    alloc: Global,
+    sizes: Sizes,
+) -> Result<Clause, Refusal>
+    ensures { IsPartRead (SpellsLits sizes reader.old.rest.now) (λ c. c) result reader.new.rest.now }
+{
+    let mut clause = Clause::new(alloc);
+    'literals: loop {
+        if reader.skip(b"))\n") {
+            return Ok(clause);
         }
-        let number = self.number(255)?;
-        Ok(Term(number as u8))
-    }
-
-    // Reads a term and the sign that ends terms.
-    fn one(&mut self) -> Result<Term, Refusal>
-        ensures { IsScriptPart (SpellsTerms 1 self.old.rest.now) (λ t. t.0 ∷ []) result self.new.rest.now }
-    {
-        let x = self.term()?;
-        if !self.skip(b")") {
-            return Err(Refusal::Outside);
-        }
-        Ok(x)
-    }
-
-    // Reads two terms and that sign.
-    fn two(&mut self) -> Result<(Term, Term), Refusal>
-        ensures { IsScriptPart (SpellsTerms 2 self.old.rest.now) (λ p. p.0.0 ∷ p.1.0 ∷ []) result
-            self.new.rest.now }
-    {
-        let x = self.term()?;
-        let y = self.one()?;
-        Ok((x, y))
-    }
-
-    // Reads three terms and that sign.
-    fn three(&mut self) -> Result<(Term, Term, Term), Refusal>
-        ensures { IsScriptPart (SpellsTerms 3 self.old.rest.now) (λ p. p.0.0 ∷ p.1.0 ∷ p.2.0 ∷ []) result
-            self.new.rest.now }
-    {
-        let x = self.term()?;
-        let (y, z) = self.two()?;
-        Ok((x, y, z))
-    }
-
-    // Reads an equality after its sign.
-    fn equality(&mut self) -> Result<Atom, Refusal>
-        ensures { IsScriptPart (SpellsForm (codes "(=" ++ self.old.rest.now)) (λ x. x) result self.new.rest.now }
-    {
-        let (a, b) = self.two()?;
-        Ok(Atom::Eq { a, b })
-    }
-
-    // Reads a betweenness after its letter.
-    fn betweenness(&mut self) -> Result<Atom, Refusal>
-        ensures { IsScriptPart (SpellsForm (codes "(b" ++ self.old.rest.now)) (λ x. x) result self.new.rest.now }
-    {
-        let version = self.number(255)?;
-        let (x, y, z) = self.three()?;
-        Ok(Atom::Btwn {
-            version: version as u8,
-            x,
-            y,
-            z,
-        })
-    }
-
-    // Reads a hop after its letter.
-    fn hop(&mut self) -> Result<Atom, Refusal>
-        ensures { IsScriptPart (SpellsForm (codes "(h" ++ self.old.rest.now)) (λ x. x) result self.new.rest.now }
-    {
-        let version = self.number(255)?;
-        let (x, v) = self.two()?;
-        Ok(Atom::Hop {
-            version: version as u8,
-            x,
-            v,
-        })
-    }
-
-    // Reads an allocation after its letter.
-    fn allocation(&mut self) -> Result<Atom, Refusal>
-        ensures { IsScriptPart (SpellsForm (codes "(a" ++ self.old.rest.now)) (λ x. x) result self.new.rest.now }
-    {
-        let version = self.number(255)?;
-        let x = self.one()?;
-        Ok(Atom::Alloc {
-            version: version as u8,
-            x,
-        })
-    }
-
-    // Reads a defined atom after its letter.
-    fn definition(&mut self) -> Result<Atom, Refusal>
-        ensures { IsScriptPart (SpellsForm (codes "d" ++ self.old.rest.now)) (λ x. x) result self.new.rest.now }
-    {
-        let number = self.number(u32::MAX)?;
-        Ok(Atom::Def { number })
-    }
-
-    // Reads a relation or an equality of terms.
-    fn applied(&mut self) -> Result<Atom, Refusal>
-        ensures { IsScriptPart (SpellsForm (codes "(" ++ self.old.rest.now)) (λ x. x) result self.new.rest.now }
-    {
-        if self.skip(b"=") {
-            return self.equality();
-        }
-        if self.skip(b"b") {
-            return self.betweenness();
-        }
-        if self.skip(b"h") {
-            return self.hop();
-        }
-        if self.skip(b"a") {
-            return self.allocation();
-        }
-        Err(Refusal::Outside)
-    }
-
-    // Reads an atom of any numbers.
-    fn form(&mut self) -> Result<Atom, Refusal>
-        ensures { IsScriptPart (SpellsForm self.old.rest.now) (λ x. x) result self.new.rest.now }
-    {
-        if self.skip(b"(") {
-            return self.applied();
-        }
-        if self.skip(b"d") {
-            return self.definition();
-        }
-        Err(Refusal::Outside)
-    }
-
-    // Reads an atom in range.
-    fn atom(&mut self, sizes: Sizes) -> Result<Atom, Refusal>
-        ensures { IsScriptPart (SpellsAtom sizes self.old.rest.now) (λ x. x) result self.new.rest.now }
-    {
-        let atom = self.form()?;
-        if !sizes.has(atom) {
-            return Err(Refusal::Outside);
-        }
-        Ok(atom)
-    }
-
-    // Reads a literal after the sign of a negative one.
-    fn negative(&mut self, sizes: Sizes) -> Result<Lit, Refusal>
-        ensures { IsScriptPart (SpellsLit sizes (codes "(not " ++ self.old.rest.now)) (λ l. l) result
-            self.new.rest.now }
-    {
-        let atom = self.atom(sizes)?;
-        if !self.skip(b")") {
-            return Err(Refusal::Outside);
-        }
-        Ok(Lit {
-            atom,
-            positive: false,
-        })
-    }
-
-    // Reads a literal.
-    pub fn lit(&mut self, sizes: Sizes) -> Result<Lit, Refusal>
-        ensures { IsScriptPart (SpellsLit sizes self.old.rest.now) (λ l. l) result self.new.rest.now }
-    {
-        if self.skip(b"(not ") {
-            return self.negative(sizes);
-        }
-        let atom = self.atom(sizes)?;
-        Ok(Lit {
-            atom,
-            positive: true,
-        })
-    }
-
-    // Reads a literal after a space.
-    fn spaced(&mut self, sizes: Sizes) -> Result<Lit, Refusal>
-        ensures { IsScriptPart (SpellsSpaced sizes self.old.rest.now) (λ l. l) result self.new.rest.now }
-    {
-        if !self.skip(b" ") {
-            return Err(Refusal::Outside);
-        }
-        let lit = self.lit(sizes)?;
-        Ok(lit)
-    }
-
-    // Reads literals, each after a space, to the end of their assertion.
-    pub fn lits(&mut self, alloc: Global, sizes: Sizes) -> Result<Clause, Refusal>
-        ensures { IsScriptPart (SpellsLits sizes self.old.rest.now) (λ c. c) result self.new.rest.now }
-    {
-        let mut clause = Clause::new(alloc);
-        'literals: loop {
-            if self.skip(b"))\n") {
-                return Ok(clause);
-            }
-            clause.push(self.spaced(sizes)?)?;
-        }
+        clause.push(read_spaced(reader, sizes)?)?;
     }
 }

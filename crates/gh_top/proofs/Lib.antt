@@ -15,3 +15,4 @@ pub mod SmtLemmas
 pub mod QuestionLemmas
 pub mod SessionLemmas
 pub mod SessionLaws
+pub mod NumberLemmas

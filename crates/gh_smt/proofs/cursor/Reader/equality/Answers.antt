@@ -1,6 +1,0 @@
-use Rattle.gh_smt.proofs.AtomLemmas.{no_equality}
-use Rattle.gh_smt.proofs.Exits.{exit}
-use Rattle.gh_smt.proofs.cursor.Reader.equality.Goals as goal
-
-pub returns-in_err-a : goal.returns-in_err-a
-returns-in_err-a c = exit _ _ _ _ _ _ (no_equality c.args.self.now.rest.now) c.in_err-a.ensures c.from_residual.ensures.1

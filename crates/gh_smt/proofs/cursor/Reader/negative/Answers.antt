@@ -1,5 +1,0 @@
-use Rattle.gh_smt.proofs.LitLemmas.{no_negative_end}
-use Rattle.gh_smt.proofs.cursor.Reader.negative.Goals as goal
-
-pub returns-then-not-skip : goal.returns-then-not-skip
-returns-then-not-skip c = no_negative_end c.args.sizes c.args.self.now.rest.now c.atom.new.self.rest.now c.in_ok-atom.atom c.in_ok-atom.ensures c.if-not-skip.ensures.1
