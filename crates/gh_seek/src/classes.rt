@@ -105,10 +105,7 @@ impl Classes {
     }
 
     // The number of an atom over the leaders of its terms.
-    fn key(&self, shape: &Shape, parts: Parts, atom: usize) -> usize {
-        if parts.kind == Kind::Def {
-            return atom;
-        }
+    fn key(&self, shape: &Shape, parts: Parts) -> usize {
         let [x, y, z] = parts.terms;
         let mut over = parts;
         over.terms = [self.leader(x), self.leader(y), self.leader(z)];
@@ -118,14 +115,16 @@ impl Classes {
     /// Whether congruence makes an atom true.
     pub fn holds(&self, shape: &Shape, atom: usize) -> bool {
         let parts = shape.parts(atom);
-        if parts.kind == Kind::Eq {
-            return self.leader(parts.terms[0]) == self.leader(parts.terms[1]);
+        match parts.kind {
+            Kind::Eq => return self.leader(parts.terms[0]) == self.leader(parts.terms[1]),
+            Kind::Def => return false,
+            _ => {}
         }
-        let next = at(self.signs.as_slice(), self.key(shape, parts, atom), 0);
+        let next = at(self.signs.as_slice(), self.key(shape, parts), 0);
         next > 0 && at(self.told.as_slice(), next.wrapping_sub(1) as usize, Code(0)).is_positive()
     }
 
-    // Files a told literal under its atom over leaders. Answers a clash with an earlier one.
+    // Files a told literal, not of a definition, under its atom over leaders. Answers a clash with an earlier one.
     fn file(&mut self, shape: &Shape, place: u32) -> Result<Option<Clash>, AllocError> {
         let code = at(self.told.as_slice(), place as usize, Code(0));
         let parts = shape.parts(code.atom());
@@ -142,7 +141,7 @@ impl Classes {
                 None
             });
         }
-        let key = self.key(shape, parts, code.atom());
+        let key = self.key(shape, parts);
         let next = at(self.signs.as_slice(), key, 0);
         if next == 0 {
             put(self.signs.as_mut_slice(), key, place.wrapping_add(1));
@@ -225,7 +224,7 @@ impl Classes {
             }
         }
         let (a, b) = (parts.terms[0], parts.terms[1]);
-        if self.clash.is_some() {
+        if parts.kind == Kind::Def || self.clash.is_some() {
             return Ok(());
         }
         let found = if parts.kind != Kind::Eq || !code.is_positive() {

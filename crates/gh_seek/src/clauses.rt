@@ -43,6 +43,13 @@ impl Clauses {
         }
     }
 
+    /// Makes room for so many more clauses, with so many literals in all.
+    pub fn reserve(&mut self, clauses: usize, literals: usize) -> Result<(), AllocError> {
+        self.extents.reserve(clauses)?;
+        self.origins.reserve(clauses)?;
+        self.codes.reserve(literals)
+    }
+
     /// How many clauses there are.
     pub fn count(&self) -> usize {
         self.extents.len()

@@ -4,7 +4,7 @@
 use crate::clauses::Origin;
 use crate::rows::{Plan, Plans, Row};
 use crate::shape::{Code, Kind, Parts};
-use crate::state::{State, has};
+use crate::state::State;
 use crate::table::{at, bit, byte, put};
 use std::alloc::{AllocError, Global};
 
@@ -217,14 +217,13 @@ fn add_at(
     parts: Parts,
     positive: bool,
 ) -> Result<Option<u32>, AllocError> {
+    let [x, y, z] = parts.terms;
+    let terms = [x, y, z, 0];
     for plan in plans.of(parts.kind, positive) {
-        let Some(row) = plans.rows.get(plan.row) else {
+        let Some(tuple) = plan.tuple(&terms) else {
             continue;
         };
-        let Some(tuple) = plan.tuple(parts.terms) else {
-            continue;
-        };
-        if let Some(conflict) = add_planned(state, row, plan, least.mask, parts.version, tuple)? {
+        if let Some(conflict) = add_planned(state, plans, plan, least.mask, parts.version, tuple)? {
             return Ok(Some(conflict));
         }
     }
@@ -255,7 +254,7 @@ fn unit_terms(state: &State, plan: &Plan, mask: u32, version: u8, tuple: &[u8; 4
 // Adds the instances of a plan's row that are unit or false.
 fn add_planned(
     state: &mut State,
-    row: &Row,
+    plans: &Plans,
     plan: &Plan,
     mask: u32,
     version: u8,
@@ -263,7 +262,7 @@ fn add_planned(
 ) -> Result<Option<u32>, AllocError> {
     let mut tuple = bound;
     let Some(free) = plan.free else {
-        return add_instance(state, row, version, &tuple);
+        return add_instance(state, plans, plan, version, &tuple);
     };
     let mut found = unit_terms(state, plan, mask, version, &tuple);
     for _ in 0..32 {
@@ -272,76 +271,55 @@ fn add_planned(
         }
         tuple[(free & 3) as usize] = byte(found.trailing_zeros() as usize);
         found &= found.wrapping_sub(1);
-        if let Some(conflict) = add_instance(state, row, version, &tuple)? {
+        if let Some(conflict) = add_instance(state, plans, plan, version, &tuple)? {
             return Ok(Some(conflict));
         }
     }
     Ok(None)
 }
 
-// The literals of an instance, without repeats.
-#[derive(Clone, Copy, Debug)]
-struct Few {
-    codes: [Code; 4],
-    count: usize,
-}
-
-impl Few {
-    // The literals.
-    fn codes(&self) -> &[Code] {
-        &self.codes.as_slice()[..self.count.min(4)]
-    }
-
-    // Adds a literal that isn't there yet.
-    fn push(&mut self, code: Code) {
-        if self.count < 4 && !has(self.codes(), code) {
-            self.codes[self.count] = code;
-            self.count = self.count.wrapping_add(1);
-        }
-    }
-}
-
-// The literals of an instance, if it is unit or false: none is true, and one at most is open.
-fn due(state: &State, row: &Row, version: u8, tuple: &[u8; 4]) -> Option<Few> {
+// Whether an instance is unit or false where a plan's trigger is false: no other literal is true, and one at most is
+// open.
+fn is_due(state: &State, row: &Row, trigger: usize, version: u8, tuple: &[u8; 4]) -> bool {
     let mut open = None;
-    let mut few = Few {
-        codes: [Code(0); 4],
-        count: 0,
-    };
-    for pattern in row.patterns.as_slice() {
-        let parts = pattern.parts(version, tuple);
-        let reflexive = parts.kind == Kind::Eq
-            && pattern.positive
-            && parts.terms[0] == parts.terms[1];
-        let code = Code::new(state.shape.number(parts), pattern.positive);
-        if reflexive || state.trail.is_true(code) {
-            return None;
+    for place in 0..row.patterns.len() {
+        let pattern = &row.patterns[place];
+        if place == trigger {
+            continue;
+        }
+        let code = pattern.code(&state.shape, version, tuple);
+        if state.trail.is_true(code) || pattern.is_reflexive(tuple) {
+            return false;
         }
         if state.trail.is_open(code) {
-            if open.is_some_and(|other| other != code.0) {
-                return None;
+            let is_idle = !code.is_positive() && !state.order.is_needed(code.atom());
+            if is_idle || open.is_some_and(|other| other != code.0) {
+                return false;
             }
             open = Some(code.0);
-            if !code.is_positive() && !state.order.is_needed(code.atom()) {
-                return None;
-            }
         }
-        few.push(code);
     }
-    Some(few)
+    true
 }
 
-// Adds an instance, if it is unit or false. The number of a false one is answered.
+// Adds an instance of a plan's row, if it is unit or false. The number of a false one is answered.
 fn add_instance(
     state: &mut State,
-    row: &Row,
+    plans: &Plans,
+    plan: &Plan,
     version: u8,
     tuple: &[u8; 4],
 ) -> Result<Option<u32>, AllocError> {
-    let Some(few) = due(state, row, version, tuple) else {
+    let Some(row) = plans.rows.get(plan.row) else {
         return Ok(None);
     };
-    let name = row.name(version, tuple);
+    if !is_due(state, row, plan.trigger, version, tuple) {
+        return Ok(None);
+    }
+    let (few, name) = (
+        row.codes(&state.shape, version, tuple),
+        row.name(version, tuple),
+    );
     let added = state.add(few.codes(), Origin::Instance(name))?;
     Ok(if added.is_false {
         Some(added.number)

@@ -52,9 +52,28 @@ impl Lessons {
         let end = state.trail.start(1);
         for place in self.settled..end {
             let code = state.trail.step(place);
-            settle_one(self.alloc, state, code)?;
+            self.settle_one(state, code)?;
         }
         self.settled = end;
+        Ok(())
+    }
+
+    // Gives a literal of level 0 a clause of its own, shown by its reason and the clauses of that one's other literals.
+    fn settle_one(&mut self, state: &mut State, code: Code) -> Result<(), AllocError> {
+        let reason = state.trail.reason(code.atom());
+        if state.clauses.len(reason) <= 1 {
+            return Ok(());
+        }
+        self.hints.clear();
+        for other in state.clauses.codes(reason) {
+            if other.0 != code.0 {
+                self.hints.push(state.trail.reason(other.atom()))?;
+            }
+        }
+        self.hints.push(reason)?;
+        let number = state.clauses.learn(&[code], self.hints.as_slice())?;
+        let _added = state.attach(number)?;
+        state.trail.set_reason(code.atom(), number);
         Ok(())
     }
 
@@ -216,23 +235,4 @@ impl Lessons {
         reasons.reverse();
         Ok(reasons)
     }
-}
-
-// Gives a literal of level 0 a clause of its own, shown by its reason and the clauses of that one's other literals.
-fn settle_one(alloc: Global, state: &mut State, code: Code) -> Result<(), AllocError> {
-    let reason = state.trail.reason(code.atom());
-    if state.clauses.len(reason) <= 1 {
-        return Ok(());
-    }
-    let mut hints = Vec::new(alloc);
-    for other in state.clauses.codes(reason) {
-        if other.0 != code.0 {
-            hints.push(state.trail.reason(other.atom()))?;
-        }
-    }
-    hints.push(reason)?;
-    let number = state.clauses.learn(&[code], hints.as_slice())?;
-    let _added = state.attach(number)?;
-    state.trail.set_reason(code.atom(), number);
-    Ok(())
 }

@@ -13,8 +13,9 @@ use std::alloc::{AllocError, Global};
 #[derive(Debug, Drop)]
 struct Table {
     codes: Vec<Code>,
-    // Where each clause ends.
+    // Where each clause ends, and its greatest atom: a clause that says what a definition stands for has that one.
     ends: Vec<u32>,
+    greatest: Vec<u32>,
     // By literal: one more than the number of the last clause that has it.
     last: Vec<u32>,
 }
@@ -25,6 +26,7 @@ impl Table {
         let mut table = Table {
             codes: Vec::new(alloc),
             ends: Vec::new(alloc),
+            greatest: Vec::new(alloc),
             last: vec![in alloc; 0; shape.count.wrapping_mul(2)]?,
         };
         for number in 0..ground.count() {
@@ -32,9 +34,9 @@ impl Table {
                 break;
             };
             table.push(shape, clause)?;
-            let codes = table.clause(number as usize);
-            let defined = greatest(codes);
+            let defined = table.greatest(number as usize);
             if defined >= shape.defs {
+                let codes = table.clause(number as usize);
                 let version = latest(shape, codes, defined);
                 shape.note_version(defined, version);
             }
@@ -45,15 +47,23 @@ impl Table {
     // Adds a clause.
     fn push(&mut self, shape: &Shape, clause: &Clause) -> Result<(), AllocError> {
         let stamp = small(self.ends.len()).wrapping_add(1);
+        let mut greatest = 0;
         for lit in clause.lits() {
             let code = shape.code(*lit);
+            greatest = code.atom().max(greatest);
             if at(self.last.as_slice(), code.place(), 0) != stamp {
                 put(self.last.as_mut_slice(), code.place(), stamp);
                 self.codes.push(code)?;
             }
         }
         self.ends.push(small(self.codes.len()))?;
+        self.greatest.push(small(greatest))?;
         Ok(())
+    }
+
+    // The greatest atom of a clause.
+    fn greatest(&self, number: usize) -> usize {
+        at(self.greatest.as_slice(), number, 0) as usize
     }
 
     // The literals of a clause.
@@ -71,15 +81,6 @@ impl Table {
     }
 }
 
-// The greatest atom of a clause: a clause that says what a definition stands for has that one.
-fn greatest(codes: &[Code]) -> usize {
-    let mut greatest = 0;
-    for code in codes {
-        greatest = code.atom().max(greatest);
-    }
-    greatest
-}
-
 // The latest version of which literals speak, but for that of a definition.
 fn latest(shape: &Shape, codes: &[Code], defined: usize) -> u8 {
     let mut version = 0;
@@ -93,8 +94,7 @@ fn latest(shape: &Shape, codes: &[Code], defined: usize) -> u8 {
 
 // Whether a clause is asked for: it is unit or speaks of no definition, or it tells a literal of the definition whose
 // opposite stands in a clause that is asked for and defines another one.
-fn is_asked_for(shape: &Shape, codes: &[Code], asked: &[bool]) -> bool {
-    let defined = greatest(codes);
+fn is_asked_for(shape: &Shape, codes: &[Code], defined: usize, asked: &[bool]) -> bool {
     if codes.len() < 2 || defined < shape.defs {
         return true;
     }
@@ -102,8 +102,7 @@ fn is_asked_for(shape: &Shape, codes: &[Code], asked: &[bool]) -> bool {
 }
 
 // Notes what a clause that is asked for asks for.
-fn ask(shape: &Shape, codes: &[Code], asked: &mut [bool]) {
-    let defined = greatest(codes);
+fn ask(shape: &Shape, codes: &[Code], defined: usize, asked: &mut [bool]) {
     for code in codes {
         let atom = code.atom();
         if atom >= shape.defs && (atom != defined || codes.len() < 2) {
@@ -119,9 +118,9 @@ fn asked_for(alloc: Global, shape: &Shape, table: &Table) -> Result<Vec<bool>, A
     let mut kept = vec![in alloc; false; count]?;
     for back in 0..count {
         let number = count - 1 - back;
-        let codes = table.clause(number);
-        if is_asked_for(shape, codes, asked.as_slice()) {
-            ask(shape, codes, asked.as_mut_slice());
+        let (codes, defined) = (table.clause(number), table.greatest(number));
+        if is_asked_for(shape, codes, defined, asked.as_slice()) {
+            ask(shape, codes, defined, asked.as_mut_slice());
             put(kept.as_mut_slice(), number, true);
         }
     }
@@ -132,6 +131,7 @@ fn asked_for(alloc: Global, shape: &Shape, table: &Table) -> Result<Vec<bool>, A
 pub(crate) fn load(alloc: Global, state: &mut State, ground: &Ground) -> Result<(), AllocError> {
     let table = Table::new(alloc, &mut state.shape, ground)?;
     let kept = asked_for(alloc, &state.shape, &table)?;
+    state.clauses.reserve(table.ends.len(), table.codes.len())?;
     for number in 0..table.ends.len() {
         if !at(kept.as_slice(), number, true) {
             continue;

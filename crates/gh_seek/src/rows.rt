@@ -1,6 +1,7 @@
 //! The axiom rows as patterns, and how a row is read when one of its literals becomes false.
 
-use crate::shape::{Kind, Parts};
+use crate::shape::{Code, Kind, Parts, Shape};
+use crate::state::has;
 use crate::table::{at, byte};
 use crate::words::{Layout, Reading};
 use gh_base::atom::{Atom, Lit, Term};
@@ -55,6 +56,27 @@ impl Pattern {
             terms: [term(0, x), term(1, y), term(2, z)],
         }
     }
+
+    /// The number of the pattern's literal over a tuple of terms for the variables.
+    pub fn code(&self, shape: &Shape, version: u8, tuple: &[u8; 4]) -> Code {
+        let [x, y, z] = self.places;
+        let term = |variable: u8| tuple[(variable & 3) as usize];
+        let atom = match self.kind {
+            Kind::Eq => shape.equality(term(x), term(y)),
+            Kind::Btwn => shape.btwn(version, term(x), term(y), term(z)),
+            Kind::Hop => shape.hop(version, term(x), term(y)),
+            Kind::Alloc => shape.alloc(version, term(x)),
+            Kind::Def => shape.defs,
+        };
+        Code::new(atom, self.positive)
+    }
+
+    /// Whether the pattern says that a term of the tuple equals itself.
+    pub fn is_reflexive(&self, tuple: &[u8; 4]) -> bool {
+        let [x, y, _] = self.places;
+        let term = |variable: u8| tuple[(variable & 3) as usize];
+        self.kind == Kind::Eq && self.positive && term(x) == term(y)
+    }
 }
 
 /// A row: its number, how many variables it has, and its literals.
@@ -66,6 +88,15 @@ pub(crate) struct Row {
 }
 
 impl Row {
+    /// The literals of an instance.
+    pub fn codes(&self, shape: &Shape, version: u8, tuple: &[u8; 4]) -> Few {
+        let mut few = Few::new();
+        for pattern in self.patterns.as_slice() {
+            few.push(pattern.code(shape, version, tuple));
+        }
+        few
+    }
+
     /// The name of an instance.
     pub fn name(&self, version: u8, tuple: &[u8; 4]) -> InstanceName {
         let [x, y, u, z] = *tuple;
@@ -91,11 +122,43 @@ pub(crate) struct Read {
     pub positive: bool,
 }
 
+/// The literals of an instance, at most four, without repeats.
+#[derive(Clone, Copy, Debug)]
+pub(crate) struct Few {
+    codes: [Code; 4],
+    count: usize,
+}
+
+impl Few {
+    /// No literal.
+    pub fn new() -> Few {
+        Few {
+            codes: [Code(0); 4],
+            count: 0,
+        }
+    }
+
+    /// The literals.
+    pub fn codes(&self) -> &[Code] {
+        &self.codes.as_slice()[..self.count.min(4)]
+    }
+
+    /// Adds a literal, if it isn't there yet.
+    pub fn push(&mut self, code: Code) {
+        if self.count < 4 && !has(self.codes(), code) {
+            self.codes[self.count] = code;
+            self.count = self.count.wrapping_add(1);
+        }
+    }
+}
+
 /// What is read where a literal of a row is false: its places bind all variables but a free one, and each other literal
 /// is read over that.
 #[derive(Debug, Drop)]
 pub(crate) struct Plan {
     pub row: usize,
+    /// The place of the literal that is false among the row's.
+    pub trigger: usize,
     pub free: Option<u8>,
     /// The trigger is the row's first negative literal.
     pub is_first: bool,
@@ -107,12 +170,10 @@ pub(crate) struct Plan {
 }
 
 impl Plan {
-    /// The tuple of variables that the trigger's terms give, if equal places have equal terms.
-    pub fn tuple(&self, terms: [u8; 3]) -> Option<[u8; 4]> {
-        let [x, y, z] = terms;
-        let given = [x, y, z, 0];
-        let term = |place: u8| given[(place & 3) as usize];
-        if term(self.same[1]) != y || term(self.same[2]) != z {
+    /// The tuple of variables that the trigger's three terms give, with 0 after them, if equal places have equal terms.
+    pub fn tuple(&self, terms: &[u8; 4]) -> Option<[u8; 4]> {
+        let term = |place: u8| terms[(place & 3) as usize];
+        if term(self.same[1]) != terms[1] || term(self.same[2]) != terms[2] {
             return None;
         }
         let [first, second, third, fourth] = self.sources;
@@ -212,6 +273,7 @@ fn plan_of(
     }
     Ok(Plan {
         row: index,
+        trigger: place,
         free,
         is_first: !trigger.positive && !has_negative_before(row, place),
         reads: reads_of(alloc, layout, row, place, free)?,
@@ -237,20 +299,20 @@ impl Plans {
             plans.groups.push(Vec::new(alloc))?;
         }
         for number in 0..64 {
-            plans.add_number(alloc, layout, byte(number / 4), byte(number % 4 + 1))?;
+            let row = row_of(alloc, byte(number / 4), byte(number % 4 + 1))?;
+            plans.add_row(alloc, layout, row)?;
         }
         Ok(plans)
     }
 
-    // Adds the row of a number with so many variables, if it is there.
-    fn add_number(
+    // Adds a row, if it is there.
+    fn add_row(
         &mut self,
         alloc: Global,
         layout: &Layout,
-        number: u8,
-        arity: u8,
+        row: Option<Row>,
     ) -> Result<(), AllocError> {
-        let Some(row) = row_of(alloc, number, arity)? else {
+        let Some(row) = row else {
             return Ok(());
         };
         let index = self.rows.len();

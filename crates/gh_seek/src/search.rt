@@ -6,14 +6,14 @@ use crate::lesson::Lessons;
 use crate::load::load;
 use crate::rows::{Plans, Row};
 use crate::shape::Code;
-use crate::state::{State, has};
+use crate::state::State;
 use crate::structure::{Made, Missing, add_false};
 use crate::table::byte;
 use gh_base::ground::Ground;
 use std::alloc::{AllocError, Global};
 
 // A lesson is far if more levels than these lie between its own and the present one.
-const FAR: u32 = 20;
+const FAR: u32 = 8;
 
 /// How a search ended.
 #[derive(Debug, Drop)]
@@ -209,16 +209,11 @@ fn add_reflexive(state: &mut State, plans: &Plans) -> Result<(), AllocError> {
 fn add_row_at(state: &mut State, row: &Row, version: u8) -> Result<(), AllocError> {
     for term in 0..state.shape.terms {
         let tuple = [byte(term), 0, 0, 0];
-        let mut codes: Vec<Code> = Vec::new(state.alloc);
-        for pattern in row.patterns.as_slice() {
-            let parts = pattern.parts(version, &tuple);
-            let code = Code::new(state.shape.number(parts), pattern.positive);
-            if !has(codes.as_slice(), code) {
-                codes.push(code)?;
-            }
-        }
-        let name = row.name(version, &tuple);
-        let _added = state.add(codes.as_slice(), Origin::Instance(name))?;
+        let (few, name) = (
+            row.codes(&state.shape, version, &tuple),
+            row.name(version, &tuple),
+        );
+        let _added = state.add(few.codes(), Origin::Instance(name))?;
     }
     Ok(())
 }

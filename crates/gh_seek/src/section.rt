@@ -39,8 +39,9 @@ fn lits_of(
     clauses: &Clauses,
     number: u32,
 ) -> Result<Vec<Lit>, AllocError> {
-    let mut lits = Vec::new(alloc);
-    for code in clauses.codes(number) {
+    let codes = clauses.codes(number);
+    let mut lits = Vec::with_capacity(alloc, codes.len())?;
+    for code in codes {
         lits.push(shape.lit(*code))?;
     }
     Ok(lits)
@@ -48,7 +49,7 @@ fn lits_of(
 
 // The positions of the lines of some clauses.
 fn moved(alloc: Global, positions: &[u32], hints: &[u32]) -> Result<Vec<u32>, AllocError> {
-    let mut moved = Vec::new(alloc);
+    let mut moved = Vec::with_capacity(alloc, hints.len())?;
     for hint in hints {
         moved.push(at(positions, *hint as usize, 0))?;
     }

@@ -73,17 +73,17 @@ impl State {
     /// Makes a literal true.
     pub fn put(&mut self, code: Code, reason: u32) -> Result<(), AllocError> {
         self.trail.put(code, reason)?;
-        self.note(code, true);
+        self.note(code);
         Ok(())
     }
 
     // Takes a literal into the words, or out of them.
-    fn note(&mut self, code: Code, on: bool) {
+    fn note(&mut self, code: Code) {
         let parts = self.shape.parts(code.atom());
         if code.is_positive() {
-            self.yes.set(parts, on);
+            self.yes.turn(parts);
         } else {
-            self.no.set(parts, on);
+            self.no.turn(parts);
         }
     }
 
@@ -101,7 +101,7 @@ impl State {
         let start = self.trail.start(level.wrapping_add(1));
         for _ in start..self.trail.steps.len() {
             if let Some(code) = self.trail.pop() {
-                self.note(code, false);
+                self.note(code);
                 self.order.offer(&self.shape, code.atom())?;
             }
         }
@@ -153,28 +153,28 @@ impl State {
         Ok(())
     }
 
-    // How good a literal is to watch: a true one before an open one, and a false one by its level.
-    fn worth(&self, code: Code) -> u64 {
-        if self.trail.is_true(code) {
-            u64::MAX
-        } else if self.trail.is_open(code) {
-            u64::MAX - 1
-        } else {
-            self.trail.level_of(code.atom()) as u64
+    // The best literal of a clause to watch, from a place on: the first that isn't false, or else one of the greatest
+    // level.
+    fn best(&self, number: u32, place: usize) -> usize {
+        let (mut best, mut greatest) = (place, 0);
+        let codes = self.clauses.codes(number);
+        for index in place..codes.len() {
+            let code = codes[index];
+            if !self.trail.is_false(code) {
+                return index;
+            }
+            let level = self.trail.level_of(code.atom());
+            if level > greatest {
+                (best, greatest) = (index, level);
+            }
         }
+        best
     }
 
     // Moves the best literal of a clause from a place on to that place.
     fn bring(&mut self, number: u32, place: usize) {
         let start = self.clauses.start(number);
-        let (mut best, mut greatest) = (place, 0);
-        let codes = self.clauses.codes(number);
-        for index in place..codes.len() {
-            let worth = self.worth(codes[index]);
-            if worth > greatest {
-                (best, greatest) = (index, worth);
-            }
-        }
+        let best = self.best(number, place);
         if best != place {
             self.clauses
                 .swap(start.wrapping_add(place), start.wrapping_add(best));
@@ -362,8 +362,8 @@ impl State {
     }
 }
 
-/// The literals without repeats.
-pub(crate) fn distinct(alloc: Global, codes: &[Code]) -> Result<Vec<Code>, AllocError> {
+// The literals without repeats.
+fn distinct(alloc: Global, codes: &[Code]) -> Result<Vec<Code>, AllocError> {
     let mut found: Vec<Code> = Vec::new(alloc);
     for code in codes {
         if !has(found.as_slice(), *code) {

@@ -2,9 +2,9 @@
 
 use crate::clauses::Origin;
 use crate::early::Least;
-use crate::rows::{Plan, Plans, Row};
+use crate::rows::{Few, Plan, Plans, Row};
 use crate::shape::{Code, Kind, Parts};
-use crate::state::{State, distinct};
+use crate::state::State;
 use crate::table::byte;
 use crate::words::Words;
 use gh_inst::naming::InstanceName;
@@ -20,10 +20,10 @@ pub(crate) struct Made {
 }
 
 /// An instance with its literals.
-#[derive(Debug, Drop)]
+#[derive(Clone, Copy, Debug)]
 struct False {
     name: InstanceName,
-    codes: Vec<Code>,
+    few: Few,
 }
 
 impl Made {
@@ -33,7 +33,10 @@ impl Made {
         for code in state.trail.steps.as_slice() {
             let parts = state.shape.parts(code.atom());
             if code.is_positive() && parts.kind != Kind::Eq {
-                words.set(least.over(parts), true);
+                let over = least.over(parts);
+                if !words.has(over) {
+                    words.turn(over);
+                }
             }
         }
         Ok(Made { words })
@@ -68,22 +71,16 @@ impl Made {
 }
 
 // The literals of an instance that is false in the structure, if it is.
-fn false_codes(
-    state: &State,
-    made: &Made,
-    row: &Row,
-    version: u8,
-    tuple: &[u8; 4],
-) -> Result<Option<Vec<Code>>, AllocError> {
-    let mut codes = Vec::new(state.alloc);
+fn false_codes(state: &State, made: &Made, row: &Row, version: u8, tuple: &[u8; 4]) -> Option<Few> {
+    let mut few = Few::new();
     for pattern in row.patterns.as_slice() {
         let parts = pattern.parts(version, tuple);
         if made.holds(parts, pattern.positive) {
-            return Ok(None);
+            return None;
         }
-        codes.push(Code::new(state.shape.number(parts), pattern.positive))?;
+        few.push(pattern.code(&state.shape, version, tuple));
     }
-    Ok(Some(distinct(state.alloc, codes.as_slice())?))
+    Some(few)
 }
 
 // An instance's terms but for those of a free variable, which are bits of a word.
@@ -117,9 +114,9 @@ fn gather_row(
             tuple[(free & 3) as usize] = byte(terms.trailing_zeros() as usize);
         }
         terms &= terms.wrapping_sub(1);
-        if let Some(codes) = false_codes(state, made, row, version, &tuple)? {
+        if let Some(few) = false_codes(state, made, row, version, &tuple) {
             let name = row.name(version, &tuple);
-            found.push(False { name, codes })?;
+            found.push(False { name, few })?;
         }
     }
     Ok(())
@@ -127,7 +124,8 @@ fn gather_row(
 
 // What is open of a plan's row where its trigger's atom is true.
 fn open_of(made: &Made, plan: &Plan, mask: u32, parts: Parts) -> Option<Open> {
-    let tuple = plan.tuple(parts.terms)?;
+    let [x, y, z] = parts.terms;
+    let tuple = plan.tuple(&[x, y, z, 0])?;
     let version = parts.version;
     let terms = match plan.free {
         None => 1,
@@ -205,7 +203,7 @@ pub(crate) fn add_false(
 ) -> Result<Missing, AllocError> {
     let found = false_instances(state, plans, least, made)?;
     for instance in found.as_slice() {
-        let added = state.add(instance.codes.as_slice(), Origin::Instance(instance.name))?;
+        let added = state.add(instance.few.codes(), Origin::Instance(instance.name))?;
         if added.is_false {
             return Ok(Missing::False(added.number));
         }

@@ -56,25 +56,28 @@ impl Layout {
     // A reading of words with one for each term, which a variable of a row names, or with one for each term of a
     // version.
     fn by_term(&self, start: usize, of_version: usize, variable: u8) -> Reading {
-        let mut reading = Reading {
+        Reading {
             start,
             of_version,
-            of_terms: [0; 4],
-        };
-        reading.add(variable, 1);
-        reading
+            first: Step { variable, width: 1 },
+            second: NO_STEP,
+        }
     }
 
     // A reading of words with one for each two terms of a version.
     fn by_pair(&self, start: usize, first: u8, second: u8) -> Reading {
-        let mut reading = Reading {
+        Reading {
             start,
             of_version: self.terms.wrapping_mul(self.terms),
-            of_terms: [0; 4],
-        };
-        reading.add(first, self.terms);
-        reading.add(second, 1);
-        reading
+            first: Step {
+                variable: first,
+                width: self.terms,
+            },
+            second: Step {
+                variable: second,
+                width: 1,
+            },
+        }
     }
 
     /// The reading of a kind's atoms over places that have numbers of a row's variables, of which one is free.
@@ -92,12 +95,14 @@ impl Layout {
             Kind::Alloc if x == free => Reading {
                 start: self.allocated,
                 of_version: 1,
-                of_terms: [0; 4],
+                first: NO_STEP,
+                second: NO_STEP,
             },
             _ => Reading {
                 start: usize::MAX,
                 of_version: 0,
-                of_terms: [0; 4],
+                first: NO_STEP,
+                second: NO_STEP,
             },
         }
     }
@@ -109,26 +114,38 @@ impl Layout {
 pub(crate) struct Reading {
     start: usize,
     of_version: usize,
-    of_terms: [usize; 4],
+    first: Step,
+    second: Step,
+}
+
+/// What the term of a row's variable adds to a place: so many for each number.
+#[derive(Clone, Copy, Debug)]
+struct Step {
+    variable: u8,
+    width: usize,
+}
+
+// No term adds anything.
+const NO_STEP: Step = Step {
+    variable: 0,
+    width: 0,
+};
+
+impl Step {
+    // What the term of a tuple adds.
+    fn of(&self, tuple: &[u8; 4]) -> usize {
+        self.width
+            .wrapping_mul(tuple[(self.variable & 3) as usize] as usize)
+    }
 }
 
 impl Reading {
-    // Adds what a variable's term adds.
-    fn add(&mut self, variable: u8, step: usize) {
-        let place = (variable & 3) as usize;
-        self.of_terms[place] = self.of_terms[place].wrapping_add(step);
-    }
-
     /// The place of the word for a version and a tuple of terms for the variables.
     pub fn place(&self, version: u8, tuple: &[u8; 4]) -> usize {
-        let [x, y, u, z] = *tuple;
-        let [of_x, of_y, of_u, of_z] = self.of_terms;
         self.start
             .wrapping_add(self.of_version.wrapping_mul(version as usize))
-            .wrapping_add(of_x.wrapping_mul(x as usize))
-            .wrapping_add(of_y.wrapping_mul(y as usize))
-            .wrapping_add(of_u.wrapping_mul(u as usize))
-            .wrapping_add(of_z.wrapping_mul(z as usize))
+            .wrapping_add(self.first.of(tuple))
+            .wrapping_add(self.second.of(tuple))
     }
 }
 
@@ -148,48 +165,47 @@ impl Words {
         })
     }
 
-    // Sets or clears a bit of a word.
-    fn set_bit(&mut self, place: usize, term: u8, on: bool) {
-        let word = at(self.table.as_slice(), place, 0);
-        let changed = if on {
-            word | bit(term)
-        } else {
-            word & !bit(term)
-        };
-        put(self.table.as_mut_slice(), place, changed);
+    // Turns a bit of a word.
+    fn turn_bit(&mut self, place: usize, term: u8) {
+        if place < self.table.len() {
+            self.table[place] ^= bit(term);
+        }
     }
 
-    /// Takes an atom in or out.
-    pub fn set(&mut self, parts: Parts, on: bool) {
+    /// Takes an atom in that isn't taken in, or out again.
+    pub fn turn(&mut self, parts: Parts) {
         let [x, y, _] = parts.terms;
-        let (layout, version) = (self.layout, parts.version);
+        let version = parts.version;
         match parts.kind {
             Kind::Eq => {
-                self.set_bit(layout.equal.wrapping_add(x as usize), y, on);
-                self.set_bit(layout.equal.wrapping_add(y as usize), x, on);
+                self.turn_bit(self.layout.equal.wrapping_add(x as usize), y);
+                self.turn_bit(self.layout.equal.wrapping_add(y as usize), x);
             }
-            Kind::Btwn => self.set_btwn(parts, on),
+            Kind::Btwn => self.turn_btwn(parts),
             Kind::Hop => {
-                let (to, from) = (layout.row(version, x), layout.row(version, y));
-                self.set_bit(layout.hop_to.wrapping_add(to), y, on);
-                self.set_bit(layout.hop_from.wrapping_add(from), x, on);
+                let (to, from) = (self.layout.row(version, x), self.layout.row(version, y));
+                self.turn_bit(self.layout.hop_to.wrapping_add(to), y);
+                self.turn_bit(self.layout.hop_from.wrapping_add(from), x);
             }
             Kind::Alloc => {
-                self.set_bit(layout.allocated.wrapping_add(version as usize), x, on);
+                self.turn_bit(self.layout.allocated.wrapping_add(version as usize), x);
             }
             Kind::Def => {}
         }
     }
 
     // Takes a `Btwn` atom in or out.
-    fn set_btwn(&mut self, parts: Parts, on: bool) {
+    fn turn_btwn(&mut self, parts: Parts) {
         let [x, y, z] = parts.terms;
-        let (layout, version) = (self.layout, parts.version);
-        self.set_bit(layout.pair(version, x, y), z, on);
-        self.set_bit(layout.by_y.wrapping_add(layout.pair(version, x, z)), y, on);
-        self.set_bit(layout.by_x.wrapping_add(layout.pair(version, y, z)), x, on);
+        let terms = self.layout.terms;
+        let of_x = self.layout.row(parts.version, x);
+        let of_y = self.layout.row(parts.version, y);
+        let (y_at, z_at) = (y as usize, z as usize);
+        self.turn_bit(cell(of_x, terms, y_at), z);
+        self.turn_bit(self.layout.by_y.wrapping_add(cell(of_x, terms, z_at)), y);
+        self.turn_bit(self.layout.by_x.wrapping_add(cell(of_y, terms, z_at)), x);
         if y == z {
-            self.set_bit(layout.diagonal.wrapping_add(layout.row(version, x)), y, on);
+            self.turn_bit(self.layout.diagonal.wrapping_add(of_x), y);
         }
     }
 
