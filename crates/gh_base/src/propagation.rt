@@ -13,7 +13,8 @@ pub fn units_are_sound()
     ensures { IsSound }
 {}
 
-/// A clause that hints out of a list of clauses show follows from these by unit propagation, and is true wherever they are.
+/// A clause that hints out of a list of clauses show follows from these by unit propagation, and is true wherever they
+/// are.
 pub fn hints_are_sound()
     ensures units { HintsShowByUnits }
     ensures truth { HintsShowTruth }

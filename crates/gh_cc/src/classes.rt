@@ -106,7 +106,7 @@ fn clash_before(mark: u32, clash: Option<ClashAt>) -> Option<ClashAt>
 
 impl Classes {
     /// Nothing stands asserted. Room for all atoms is taken here. There are at most 1,431,655,764 of them, since 32
-    /// bits number three mentions of each: for more no room is taken, as for want of memory.
+    /// bits number three mentions of each: for more no room is taken, as if memory ran out.
     pub fn new(alloc: Global, terms: u8, versions: u8, defs: u32) -> Result<Classes, AllocError>
         ensures sizes { IfOk result (λ c. c.sizes ≡ record { terms = terms; versions = versions; defs = defs }) }
         ensures none { IfOk result (λ c. c.lits ≡ []) }

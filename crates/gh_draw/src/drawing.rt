@@ -125,8 +125,8 @@ pub fn state_lines(alloc: Global, state: &State) -> Result<Text, AllocError>
     Ok(text)
 }
 
-/// The text of a drawing. Its values are within 32 bits and no cell stands at null, as their types say: so a drawing over
-/// the variables of its condition is read back.
+/// The text of a drawing. Its values are within 32 bits and no cell stands at null, as their types say: so a drawing
+/// over the variables of its condition is read back.
 pub fn draw(alloc: Global, drawing: &Drawing) -> Result<Text, AllocError>
     ensures text { IfOk result (λ t. t ≡ drawing_text drawing.now.condition drawing.now.trace.states.items) }
     ensures values { OnOk result (All HasValues drawing.now.trace.states.items) }

@@ -45,7 +45,8 @@ pub record IsAdmitted (q : Question) : Type 0 where
   pub typed : IsTyped q
   pub limits : KeepsLimits q
 
--- the cause of a refusal: the first of all broken rules; where none is broken, the limit that is passed; want of memory at any time
+-- the cause of a refusal: the first of all broken rules; where none is broken, the limit that is passed; memory may run
+-- out at any time
 abbrev pub IsAskRefusal : Question → AskError → Type 0
 IsAskRefusal q (ask.TypeError number span) = IsFirstBroken q number span
 IsAskRefusal q (ask.Limit limit) = IsTyped q × IsLimit q limit

@@ -56,7 +56,7 @@ fn wanted_truth(wanted: &Option<Assignment>, atom: Atom) -> Option<bool> {
 
 impl Congruence {
     /// Nothing stands asserted, and the literals' truths are tried first. Room for all atoms is taken here, of which
-    /// there are at most 1,431,655,764: for more no room is taken, as for want of memory.
+    /// there are at most 1,431,655,764: for more no room is taken, as if memory ran out.
     pub fn new(alloc: Global, sizes: Sizes, truths: &[Lit]) -> Result<Congruence, AllocError>
         ensures sizes { IfOk result (λ c. c.classes.sizes ≡ sizes) }
         ensures none { IfOk result (λ c. c.classes.lits ≡ []) }

@@ -22,7 +22,7 @@ pub enum Answer {
     Refutation(Section),
 }
 
-// With more atoms nothing is decided, as for want of memory.
+// With more atoms nothing is decided, as if memory ran out.
 const MOST_ATOMS: usize = 1431655764;
 
 // Decides by a search that tries the literals' truths first, and adds instances where a structure makes them false.
@@ -49,7 +49,8 @@ fn search_from(alloc: Global, ground: &Ground, truths: &[Lit]) -> Result<Answer,
 /// first: a section that it finds is the answer where it refutes them, without the lines that nothing needs, and truths
 /// that it finds are tried first in this crate's own search, which decides where nothing is found that holds.
 ///
-/// More atoms than 1,431,655,764, and more than 4,294,967,293 clauses with those that are learnt, are as want of memory.
+/// More atoms than 1,431,655,764, and more than 4,294,967,293 clauses with those that are learnt, are answered as out
+/// of memory.
 pub fn solve(alloc: Global, ground: &Ground) -> Result<Answer, AllocError>
     ensures answer { IfOk result (λ answer. IsAnswer ground.now answer) }
     ensures few { OnOk result (count_of ground.now.sizes ≤ 1431655764) }

@@ -77,8 +77,8 @@ fn positions(alloc: Global, numbers: &[u32]) -> Result<Vec<u32>, AllocError>
 // A lesson is far if more levels than these lie between its own and the present one.
 const FAR: u32 = 20;
 
-// The level to cut to after a lesson: its own, or where it is far `stride` and one below the present level, since most of
-// what a long cut undoes is decided again.
+// The level to cut to after a lesson: its own, or where it is far `stride` and one below the present level, since most
+// of what a long cut undoes is decided again.
 fn cut_level(present: u32, level: u32, stride: u32) -> u32
     requires { level < present }
     ensures low { level ≤ result }
@@ -195,8 +195,8 @@ impl Solver {
         }
     }
 
-    /// Searches on until all atoms of clauses are assigned without conflict, or a clause is false at level 0, and answers
-    /// its number.
+    /// Searches on until all atoms of clauses are assigned without conflict, or a clause is false at level 0, and
+    /// answers its number.
     pub(crate) fn conflict(&mut self, alloc: Global) -> Result<Option<u32>, AllocError>
         ensures ended { IfOk result (IsEnded self.new.search) }
         ensures keeps { OnOk result (Keeps self.old.search self.old.lines self.new.search self.new.lines) }

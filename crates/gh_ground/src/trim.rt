@@ -139,8 +139,8 @@ fn push_moved(
     }
 }
 
-// The lines that were kept so far, and by the place of each line that was looked at how many were kept with it: where it
-// is kept, its new position.
+// The lines that were kept so far, and by the place of each line that was looked at how many were kept with it: where
+// it is kept, its new position.
 #[derive(Drop)]
 struct Trimmed {
     lines: Lines,

@@ -110,8 +110,8 @@ fn is_instance_true(alloc: Global, structure: &Structure, name: InstanceName) ->
     }
 }
 
-/// The first instance that is false in a structure, by a plain walk over all instances, to compare [`violated`] with.
-/// It takes no memory.
+/// The first instance that is false in a structure, by a plain walk over all instances. It takes no memory,
+/// and serves tests alone, which compare [`violated`] with it.
 pub fn violated_plainly(alloc: Global, structure: &Structure) -> Option<InstanceName>
     ensures first { IfSome result (λ name. IsFirstFalseIn structure.now name) }
     ensures none { result ≡ None ↔ AreAllTrueIn structure.now }

@@ -173,8 +173,8 @@ pub fn sections_show_validity()
     ensures { SectionsShowValidity }
 {}
 
-/// The reading law: in an interpretation that depicts an owned heap, the formulas of an assertion over terms say exactly
-/// where a part of the heap meets it, which terms lie in that part, and where the whole heap meets it.
+/// The reading law: in an interpretation that depicts an owned heap, the formulas of an assertion over terms say
+/// exactly where a part of the heap meets it, which terms lie in that part, and where the whole heap meets it.
 pub fn formulas_are_read()
     ensures { FormulasAreRead }
 {}

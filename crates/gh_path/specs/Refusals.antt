@@ -25,7 +25,7 @@ IsPathsLimit ps o = MatchOption o (NoneOf ps HasManyPaths) (FirstOf ps HasManyPa
 abbrev pub IsStepsLimit : List Procedure → Option limit.Limit → Type 0
 IsStepsLimit ps o = MatchOption o (NoneOf ps HasManySteps) (FirstOf ps HasManySteps 5 257)
 
--- a procedure with too many conditions; where there is none, a path with too many steps; want of memory at any time
+-- a procedure with too many conditions; where there is none, a path with too many steps; memory may run out at any time
 abbrev pub IsConditionsRefusal : Program → ConditionsError → Type 0
 IsConditionsRefusal P (Limit l) = Passed P HasManyPaths 4 1025 l ⊎ (NoneHas P HasManyPaths × Passed P HasManySteps 5 257 l)
 IsConditionsRefusal P OutOfMemory = ⊤

@@ -171,7 +171,7 @@ fn literals(
 }
 
 /// States a formula: its definitions, and the clause of its literal. A clause or a definition too many counts
-/// as want of memory.
+/// as out of memory.
 pub fn add_formula(alloc: Global, ground: &mut Ground, formula: &Formula) -> Result<(), AllocError>
     requires { IsWithin ground.old.sizes (claim_of formula.now) }
     ensures { OnOk result (ground.new ≡ stated_in ground.old (claim_of formula.now ∷ [])) }

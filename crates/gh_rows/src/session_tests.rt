@@ -89,8 +89,8 @@ procedure callee() // as before
 { if (null == null) { } }
 ";
 
-// The callee's return, and of the caller the entry of the callee and its own return: these two speak of the callee's contract, not of
-// its body, which has two ways in the end.
+// The callee's return, and of the caller the entry of the callee and its own return: these two speak of the callee's
+// contract, not of its body, which has two ways in the end.
 const CALLED_ANSWERS: &[u8] = b"answer 1, 3 decided
 verified: 3 of 3 valid
 answer 2, 3 decided

@@ -12,7 +12,7 @@ use crate::table::byte;
 use gh_base::ground::Ground;
 use std::alloc::{AllocError, Global};
 
-// A lesson is far if more levels than these lie between its own and the present one.
+// A lesson is far if at least so many levels lie between its own and the present one.
 const FAR: u32 = 8;
 
 /// How a search ended.

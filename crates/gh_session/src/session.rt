@@ -201,7 +201,7 @@ impl Session {
     /// what the session knows already nothing is decided anew, and it knows all that is decided here.
     ///
     /// `decided` is the number of different essences among these conditions that it did not know.
-    /// Where memory is wanting it knows what it knew, and some of what is new.
+    /// Where memory runs out it knows what it knew, and some of what is new.
     pub fn decide_all<D: Decider>(
         &mut self,
         alloc: Global,

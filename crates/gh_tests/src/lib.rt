@@ -1,5 +1,4 @@
-//! Tests that cross crates, on programs read from texts: runs, conditions over terms and their clauses,
-//! decisions, traces and drawings.
+//! Tests of public calls below the top call, alone and together.
 #![tactic(auto)]
 
 #[cfg(test)]

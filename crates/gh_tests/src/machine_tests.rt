@@ -15,8 +15,8 @@ use std::alloc::{AllocError, Global};
 // A location, a content, and the values with which a called procedure's results and locals begin.
 type Chosen<'a> = (u32, u32, &'a [u32]);
 
-// A run of a program's first procedure: the values and the cells with which it starts, the choices of its steps, what the
-// last step answers, and the values and the cells that then stand there.
+// A run of a program's first procedure: the values and the cells with which it starts, the choices of its steps, what
+// the last step answers, and the values and the cells that then stand there.
 #[derive(Clone, Copy)]
 struct Run<'a> {
     text: &'a [u8],

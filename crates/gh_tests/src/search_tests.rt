@@ -170,8 +170,8 @@ fn next_learnt(alloc: Global, search: &mut Search<Apart>) -> Result<Option<Learn
     Ok(Some(learnt))
 }
 
-// A turn of a search after an answer of `propagate`: a decision, or a jump back after a lesson, and the next answer. None
-// where all is decided, and where the conflict stands at level 0.
+// A turn of a search after an answer of `propagate`: a decision, or a jump back after a lesson, and the next answer.
+// None where all is decided, and where the conflict stands at level 0.
 fn turn<T: Theory>(
     alloc: Global,
     search: &mut Search<T>,
@@ -385,8 +385,8 @@ fn push_pair(
     push(ground, Clause::from_lits(alloc, &lits)?)
 }
 
-// The answer over so many pairs, of each of which exactly one is true, and clauses on one pair more, of which the theory
-// says that not both are true.
+// The answer over so many pairs, of each of which exactly one is true, and clauses on one pair more, of which the
+// theory says that not both are true.
 fn answer_of_pairs(
     alloc: Global,
     count: u16,
@@ -493,8 +493,8 @@ fn is_learnt(alloc: Global, lesson: &Lesson) -> Result<bool, AllocError> {
     )
 }
 
-// With few conflicts the order is fixed: the equality and the three atoms with a version are decided first, at levels 1 to
-// 4, then the definitions from the first on, each made false.
+// With few conflicts the order is fixed: the equality and the three atoms with a version are decided first, at levels 1
+// to 4, then the definitions from the first on, each made false.
 #[test]
 fn lessons(rt: HostRuntime) -> Result<(), Fail> {
     let lessons = [
@@ -505,7 +505,7 @@ fn lessons(rt: HostRuntime) -> Result<(), Fail> {
             level: 0,
             unit: 1,
         },
-        // the example of Marques-Silva and Sakallah (GRASP, 1996): 1 is x9, 2 and 3 are the opposites of x12 and x13, 4 is
+        // an example of several implication points: 1 is x9, 2 and 3 are the opposites of x12 and x13, 4 is
         // x10, 5 is x11, 6 is the opposite of x1, and 7 to 13 are x2 to x8
         Lesson {
             defs: 15,

@@ -30,7 +30,7 @@ drawn_of t = map drawn t.states.items
 abbrev pub IsRefuted : Program → kept_condition.Condition → List Drawn → Type 0
 IsRefuted P r xs = (c : Condition) → StandsFor P r c → Refutes P c xs
 
--- an error other than want of memory has the number of the first failure
+-- an error other than out of memory has the number of the first failure
 abbrev pub IsFailure : Program → kept_condition.Condition → List Drawn → ReplayError → Type 0
 IsFailure P r xs (Step n) = (c : Condition) → StandsFor P r c → FirstFailure P c xs n
 IsFailure P r xs OutOfMemory = Unit {0}

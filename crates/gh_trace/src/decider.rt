@@ -19,7 +19,7 @@ pub trait Decider {
 
     /// A counterexample of a condition of an admitted program; none where there is none.
     ///
-    /// An answer raises the count of calls by one, up to its last value; want of memory may have.
+    /// An answer raises the count of calls by one, up to its last value; one that ran out of memory may have.
     fn settle(
         &mut self,
         alloc: Global,
