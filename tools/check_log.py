@@ -3,19 +3,25 @@
 
     tools/check_log.py FILE LOG [PROGRAM]
 
-It prints what `grass recheck FILE LOG` prints. Of PROGRAM (crates/grass/out/grass if left out) it takes the ground clauses of
-each condition alone, by `smt FILE K`; docs/LOGS.md says how. Conditions whose script is too long can't be judged."""
-import os, re, subprocess, sys
+It prints what `grass recheck FILE LOG` prints. Of PROGRAM (crates/grass/out/grass if left out) it takes the ground
+clauses of each condition alone, by `smt FILE K`; docs/LOGS.md says how. Conditions whose script is too long can't be
+judged."""
+import itertools, os, re, subprocess, sys
 
 NUMBER = r"(?:0|[1-9]\d*)"
 ATOM = r"(?:E\.N\.N|B\.N\.N\.N\.N|H\.N\.N\.N|A\.N\.N|D\.N)".replace("N", NUMBER)
-LINE = re.compile(r"a(?P<a>(?: N){3,6})|g (?P<g>N)|e(?P<e>(?: -?ATOM)*)|l(?P<l>(?: -?ATOM)*)(?P<h> ;(?: N)*)?|d(?P<d>(?: N)*)".replace("ATOM", ATOM).replace("N", NUMBER))
+LINE = re.compile((
+    r"a(?P<a>(?: N){3,6})|g (?P<g>N)|e(?P<e>(?: -?ATOM)*)|l(?P<l>(?: -?ATOM)*)(?P<h> ;(?: N)*)?|d(?P<d>(?: N)*)"
+).replace("ATOM", ATOM).replace("N", NUMBER))
 # the rows of axioms: how many terms, and the clause over the version i and the terms x, y, ..
-ROWS = {1: (1, "B.i.0.0.0"), 2: (2, "-B.i.0.1.0 E.0.1"), 3: (3, "-B.i.0.1.1 -B.i.0.2.2 B.i.0.1.2 B.i.0.2.1"), 4: (3, "-B.i.0.1.2 B.i.0.1.1"),
-        5: (3, "-B.i.0.1.2 B.i.1.2.2"), 6: (3, "-B.i.0.1.1 -B.i.1.2.2 B.i.0.2.2"), 7: (4, "-B.i.0.1.3 -B.i.1.2.3 B.i.0.1.2"),
-        8: (4, "-B.i.0.1.3 -B.i.1.2.3 B.i.0.2.3"), 9: (4, "-B.i.0.1.3 -B.i.0.2.1 B.i.0.2.3"), 10: (4, "-B.i.0.1.3 -B.i.0.2.1 B.i.2.1.3"),
-        11: (2, "-H.i.0.1 B.i.0.1.1"), 12: (3, "-H.i.0.1 -B.i.0.2.2 E.2.0 B.i.0.1.2"), 13: (2, "A.i.0 -B.i.0.1.1 E.0.1"),
-        14: (2, "-H.i.0.0 -B.i.0.1.1 E.1.0"), 15: (2, "-H.i.0.1 A.i.0")}
+ROWS = {
+    1: (1, "B.i.0.0.0"), 2: (2, "-B.i.0.1.0 E.0.1"), 3: (3, "-B.i.0.1.1 -B.i.0.2.2 B.i.0.1.2 B.i.0.2.1"),
+    4: (3, "-B.i.0.1.2 B.i.0.1.1"), 5: (3, "-B.i.0.1.2 B.i.1.2.2"), 6: (3, "-B.i.0.1.1 -B.i.1.2.2 B.i.0.2.2"),
+    7: (4, "-B.i.0.1.3 -B.i.1.2.3 B.i.0.1.2"), 8: (4, "-B.i.0.1.3 -B.i.1.2.3 B.i.0.2.3"),
+    9: (4, "-B.i.0.1.3 -B.i.0.2.1 B.i.0.2.3"), 10: (4, "-B.i.0.1.3 -B.i.0.2.1 B.i.2.1.3"),
+    11: (2, "-H.i.0.1 B.i.0.1.1"), 12: (3, "-H.i.0.1 -B.i.0.2.2 E.2.0 B.i.0.1.2"), 13: (2, "A.i.0 -B.i.0.1.1 E.0.1"),
+    14: (2, "-H.i.0.0 -B.i.0.1.1 E.1.0"), 15: (2, "-H.i.0.1 A.i.0"),
+}
 
 
 def opposite(literal):
@@ -95,11 +101,12 @@ class Condition:
     """The ground clauses of a condition and its numbers of terms, versions and definitions, from its script."""
 
     def __init__(self, script):
-        self.terms, self.versions, self.definitions = (len(re.findall(r"^\(declare-fun %s\d+ " % kind, script, re.M)) for kind in "tad")
+        self.terms, self.versions, self.definitions = (script.count("\n(declare-fun " + kind) for kind in "tad")
         n, self.clauses = self.terms, []
-        asserted = re.findall(r"^\(assert (.*)\)$", script, re.M)
-        for text in asserted[: len(asserted) - self.versions * (n + 5 * n**2 + 5 * n**3 + 4 * n**4)]:
-            self.clauses.append(frozenset(self.literal(found) for found in re.findall(r"\(not d\d+\)|\(not \([^)]*\)\)|\([=bha][^)]*\)|d\d+", text)))
+        count = script.count("\n(assert ") - self.versions * (n + 5 * n**2 + 5 * n**3 + 4 * n**4)
+        for text in itertools.islice(re.finditer(r"^\(assert (.*)\)$", script, re.M), count):
+            literals = re.findall(r"\(not d\d+\)|\(not \([^)]*\)\)|\([=bha][^)]*\)|d\d+", text[1])
+            self.clauses.append(frozenset(map(self.literal, literals)))
 
     def literal(self, text):
         sign, inner = ("-", text[5:-1]) if text.startswith("(not ") else ("", text)
@@ -123,7 +130,9 @@ class Condition:
 def is_spelled(line, version):
     """Whether a line is in the grammar, with its numbers in range."""
     found = LINE.fullmatch(line)
-    if not found or (version == 1) != (found["h"] is None) and found["l"] is not None or version == 1 and found["d"] is not None:
+    if not found or found["l"] is not None and (version == 1) != (found["h"] is None):
+        return None
+    if version == 1 and found["d"] is not None:
         return None
     small = [int(number) for number in (found["a"] or "").split()]
     if small and (small[0] not in ROWS or len(small) != 2 + ROWS[small[0]][0]) and version and small[0] > 255:
@@ -138,7 +147,7 @@ def is_spelled(line, version):
 
 
 def read(data):
-    """The version and the sections, each the numbers and matches of its lines; or the first line outside the grammar."""
+    """The version and the sections, each the numbers and matches of its lines; or the first line that is no such."""
     lines = data.split("\n")
     version = {"grass log 1": 1, "grass log 2": 2}.get(lines[0])
     if version is None or len(lines) == 1:
@@ -160,7 +169,8 @@ def fault(condition, section, version, last):
     standing, clause = {}, None
     for position, (number, found) in enumerate(section, 1):
         positions = [int(word) for word in re.findall(r"\d+", found["d"] or found["h"] or "")]
-        if any(word not in standing for word in positions) or found["d"] is not None and len(set(positions)) < len(positions):
+        repeats = found["d"] is not None and len(set(positions)) < len(positions)
+        if repeats or any(word not in standing for word in positions):
             return number, "NoSuchLine"
         last = number
         if found["d"] is not None:
@@ -170,7 +180,8 @@ def fault(condition, section, version, last):
             continue
         if found["a"]:
             row, i, *terms = map(int, found["a"].split())
-            if row not in ROWS or len(terms) != ROWS[row][0] or i >= condition.versions or max(terms) >= condition.terms:
+            in_range = i < condition.versions and max(terms) < condition.terms
+            if row not in ROWS or len(terms) != ROWS[row][0] or not in_range:
                 return number, "NotInstance"
             clause = instance(row, i, terms)
         elif found["g"]:
@@ -180,9 +191,12 @@ def fault(condition, section, version, last):
         else:
             clause = frozenset((found["e"] or found["l"] or "").split())
             in_range = all(map(condition.has, clause))
-            if found["l"] is None and not (in_range and is_lemma(clause)):
-                return number, "NotLemma"
-            if found["l"] is not None and not (in_range and (is_shown(clause, positions, standing) if version == 2 else is_propagated(clause, standing))):
+            if found["l"] is None:
+                if not (in_range and is_lemma(clause)):
+                    return number, "NotLemma"
+            elif not in_range or not (
+                is_shown(clause, positions, standing) if version == 2 else is_propagated(clause, standing)
+            ):
                 return number, "NotImplied"
         standing[position] = clause
     return None if clause == frozenset() else (last + 1, "NoEmptyClause")
@@ -191,7 +205,8 @@ def fault(condition, section, version, last):
 def main():
     if len(sys.argv) not in (3, 4):
         sys.exit(__doc__)
-    program = sys.argv[3] if len(sys.argv) == 4 else os.path.join(os.path.dirname(os.path.abspath(__file__)), "../crates/grass/out/grass")
+    here = os.path.dirname(os.path.abspath(__file__))
+    program = sys.argv[3] if len(sys.argv) == 4 else os.path.join(here, "../crates/grass/out/grass")
     ask = lambda *words: subprocess.run([program, *words], capture_output=True, text=True).stdout
     count = int(ask("paths", sys.argv[1]).split("\n")[-2].split()[0])
     with open(sys.argv[2], encoding="latin-1", newline="") as file:
