@@ -1,6 +1,7 @@
 -- What a clause is under a trail, and unit propagation.
-use Rattle.std.specs.Prelude.{◌≡◌, ◌≢◌, ◌⊎◌, ⊤, ℕ, ◌+◌, List, [], ◌∷◌, ◌++◌, All, Contains, Some, length, take}
+use Rattle.std.specs.Prelude.{◌≡◌, ◌≢◌, ◌⊎◌, ⊤, ℕ, ◌+◌, List, [], ◌∷◌, ◌++◌, All, Any, Contains, Some, length, take}
 use Rattle.std.specs.Prelude.{slice_get}
+use Rattle.gh_base.specs.declared.atom.Atom.{Atom}
 use Rattle.gh_base.specs.declared.atom.Lit.{Lit}
 use Rattle.gh_base.specs.declared.sizes.Sizes.{Sizes}
 use Rattle.gh_base.specs.Atoms.{AreInRange, opposite}
@@ -58,6 +59,18 @@ IsAssigned trail clause = All (λ l. IsFree trail l.atom → ⊥) clause
 -- each atom of each clause has one
 abbrev pub AreAssigned : SearchState → Type 0
 AreAssigned s = All (IsAssigned s.trail) s.clauses
+
+-- the atom is that of a literal of the clause
+abbrev pub HasAtom : List Lit → Atom → Type 0
+HasAtom clause atom = Any (λ l. l.atom ≡ atom) clause
+
+-- .. of the clause of a number
+abbrev pub HasAtomAt : List (List Lit) → Atom → ℕ → Type 0
+HasAtomAt clauses atom k = (c : List Lit) × (slice_get clauses k ≡ Some c) × HasAtom c atom
+
+-- the atom occurs in a clause
+abbrev pub OccursIn : List (List Lit) → Atom → Type 0
+OccursIn clauses atom = Any (λ c. HasAtom c atom) clauses
 
 -- no clause is false or unit
 abbrev pub HasNoBad : List (List Lit) → List Step → Type 0

@@ -10,7 +10,7 @@ ghost use Rattle.gh_sat.specs.Trail.{IsFalseIn, AreSteps, AllHaveTruth, OpensLev
 ghost use Rattle.gh_sat.specs.Learn.{IsTop};
 
 use crate::marks::{Marks, begin, resolve};
-use crate::needed::first_free;
+use crate::needed::{first_free, occurs};
 use crate::occurrences::Occurrences;
 use crate::propagation::{Database, propagate};
 use crate::reasons::{mark_reached, reasons_from};
@@ -198,7 +198,7 @@ fn hint_rows(trail: &mut Trail, rows: &[Row], from: usize)
 impl Learner {
     ghost use Rattle.gh_base.specs.Grounds.{Problem};
     ghost use Rattle.gh_sat.specs.Trail.{SearchState, IsFree, IsAssignmentOf, IsSound, cut, open_level};
-    ghost use Rattle.gh_sat.specs.Status.{IsSettled, AreAssigned};
+    ghost use Rattle.gh_sat.specs.Status.{IsSettled, AreAssigned, OccursIn};
     ghost use Rattle.gh_sat.specs.Watch.{WasOpen};
     ghost use Rattle.gh_sat.specs.Learn.{IsConflict, IsLearnt, AreReasons, add_clause};
     ghost use Rattle.gh_sat.specs.Whole.{PropagatesTo, GivesLast, Adds};
@@ -419,13 +419,16 @@ impl Learner {
         ensures same { self.new ≡ self.old }
         ensures some { IfSome result (λ a. IsInRange self.old.sizes a × IsFree self.old.trail a) }
         ensures none { IfNone result (AreAssigned self.old) }
+        ensures occurs { IfSome result (λ a. OccursIn self.old.clauses a) }
         ensures sound { IsSound self.new }
     {
         hint_rows(&mut self.trail, self.rows.as_slice(), self.noted);
         self.noted = self.rows.len();
-        let hinted = self.trail.next_hinted();
-        if hinted.is_some() {
-            return hinted;
+        if let Some(atom) = self.trail.next_hinted() {
+            let sizes = self.trail.sizes();
+            if occurs(&self.occurrences, sizes, self.clauses.as_slice(), atom) {
+                return Some(atom);
+            }
         }
         first_free(&self.trail, self.clauses.as_slice(), self.rows.as_slice())
     }

@@ -5,7 +5,7 @@ ghost use Rattle.std.specs.Prelude.{slice_get};
 ghost use Rattle.gh_base.specs.Atoms.{IsInRange, AreInRange};
 ghost use Rattle.gh_sat.specs.Trail.{SearchState, IsAssignmentOf, IsSound, IsFree, cut, AllHaveTruth, OpensLevel};
 ghost use Rattle.gh_sat.specs.Trail.{search_over};
-ghost use Rattle.gh_sat.specs.Status.{IsSettled, AreAssigned};
+ghost use Rattle.gh_sat.specs.Status.{IsSettled, AreAssigned, OccursIn};
 ghost use Rattle.gh_sat.specs.Learn.{IsConflict, IsLearnt, AreReasons, add_clause};
 ghost use Rattle.gh_sat.specs.Whole.{GivesLast, Adds};
 ghost use Rattle.gh_sat.specs.Theory.{lits_of, IsTold, HasNoConflict, WereConsistent, PropagatesBeside, AddsValid};
@@ -199,6 +199,7 @@ impl<T: Theory> Search<T> {
         requires consistent { HasNoConflict (T.valid self.old.sizes) self.old.trail }
         ensures none { IfNone result ((self.new ≡ self.old) × AreAssigned self.old) }
         ensures some { IfSome result (λ lit. OpensLevel self.old lit self.new) }
+        ensures occurs { IfSome result (λ lit. OccursIn self.old.clauses lit.atom) }
     {
         let atom = self.learner.next_needed()?;
         Some(self.open(atom))
