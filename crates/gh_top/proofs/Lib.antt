@@ -3,6 +3,7 @@ pub mod HeadlineLemmas
 pub mod OneStatus
 pub mod FileLemmas
 pub mod FrontLemmas
+pub mod FirstLemmas
 pub mod DecidingLemmas
 pub mod RecheckLemmas
 pub mod ListingLemmas
