@@ -1,6 +1,9 @@
 pub mod SmallestLemmas
 pub mod HeadlineLemmas
 pub mod OneStatus
+pub mod OneRefusal
+pub mod OneFile
+pub mod OneText
 pub mod FileLemmas
 pub mod FrontLemmas
 pub mod FirstLemmas
