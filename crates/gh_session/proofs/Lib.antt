@@ -14,3 +14,4 @@ pub mod Separating
 pub mod PieceLemmas
 pub mod Unique
 pub mod Refusing
+pub mod Orders

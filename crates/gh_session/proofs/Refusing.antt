@@ -1,4 +1,4 @@
--- A text that is a session has no first bad line.
+-- A text that is a session has no first bad line, and another has one.
 use Rattle.std.specs.Prelude.{◌≡◌, ◌⊎◌, ℕ, suc, ◌+◌, List, [], ◌∷◌, ◌++◌, length, cond, nat_eq, Bool, true, false, Contains}
 use Rattle.std.proofs.Common.{refl, sym, ◌∙◌, ap, subst, inl, inr, arith}
 use Rattle.std.proofs.lemmas.Bool.{eqb-true}
@@ -8,7 +8,8 @@ use Rattle.gh_ast.proofs.Lists.{member_first, member_later, member_cases, no_mem
 use Rattle.gh_session.specs.declared.edits.Edit.{Edit}
 use Rattle.gh_session.specs.declared.edits.Edits.{Edits}
 use Rattle.gh_session.specs.declared.error.SessionError.TheVariants.{Line, TooMany}
-use Rattle.gh_session.specs.Lines.{lines, IsMarked, IsSeparator, IsPiece, ArePieces, AreSessionLines, IsSession, IsFirstBad}
+use Rattle.gh_session.specs.Lines.{lines, IsMarked, IsSeparator, IsPiece, ArePieces, AreSessionLines, IsSession, IsBad, Stops, IsFirstBad}
+use Rattle.gh_session.proofs.Orders.{IsOrder, one_place, left_first, right_first, ordered}
 
 -- lines that begin with `%` are counted
 
@@ -71,15 +72,16 @@ session_marks : (head : List ℕ) (es : List Edit) (ls : List (List ℕ)) → Ar
 session_marks head es ls s =
     ap marks s.whole ∙ marks_append s.first s.more ∙ none_before (marks s.first) (marks s.more) (length es) (plain_lines s.first s.text.plain) (pieces_marks es s.more s.pieces)
 
--- after 256 pieces comes no separator
-not_too_many : (text : List ℕ) (s : Edits) (n : ℕ) → IsSession text s → IsFirstBad text (TooMany n) → ⊥
-not_too_many text s n is (here, es, asks, name, stops, count, separator) =
-    let all = session_marks s.head s.edits.items (lines text) is in
-    let before = session_marks stops.head es stops.before stops.read in
-    let whole : marks (lines text) ≡ marks stops.before + (marked_one here + marks stops.after) = ap marks stops.whole ∙ marks_append stops.before (here ∷ stops.after) in
+-- lines with 256 pieces and one more separator are no lines of a session
+too_many_marks : (head first : List ℕ) (es fs : List Edit) (ls before after : List (List ℕ)) (here : List ℕ) (asks : Bool) (name : Name) → AreSessionLines head es ls → AreSessionLines first fs before → length fs ≡ 256
+    → IsSeparator here asks name → ls ≡ before ++ here ∷ after → ⊥
+too_many_marks head first es fs ls before after here asks name is read count separator whole =
+    let all = session_marks head es ls is in
+    let front = session_marks first fs before read in
+    let parts : marks ls ≡ marks before + (marked_one here + marks after) = ap marks whole ∙ marks_append before (here ∷ after) in
     let mark = separator_line here asks name separator in
     let few = is.few in
-    absurd (omega (arith, all, before, whole, mark, few, count))
+    absurd (omega (arith, all, front, parts, mark, few, count))
 
 -- what begins with `%` is a separator
 
@@ -99,15 +101,49 @@ pieces_separate (e ∷ es) ls l (own, more, whole, piece, rest) i m = elim (Cont
   | inr later ↦ pieces_separate es more l rest later m
 ]
 
-not_bad : (text : List ℕ) (s : Edits) (n : ℕ) → IsSession text s → IsFirstBad text (Line n) → ⊥
-not_bad text s n is (here, es, stops, bad) =
-    let there : Contains (lines text) here =
-    subst (λ ks. Contains ks here) (sym stops.whole) (Contains-append_right stops.before (here ∷ stops.after) here (member_first here stops.after)) in
-    elim (Contains-append_cases is.first is.more here (subst (λ ks. Contains ks here) is.whole there)) as (λ _. ⊥) [
-      | inl plain ↦ is.text.plain here plain bad.0
-      | inr later ↦ let s = pieces_separate _ is.more here is.pieces later bad.0 in bad.1 s.0 s.1 s.2
-    ]
+no_bad : (head : List ℕ) (es : List Edit) (ls : List (List ℕ)) (l : List ℕ) → AreSessionLines head es ls → Contains ls l → IsBad l → ⊥
+no_bad head es ls l is there bad = elim (Contains-append_cases is.first is.more l (subst (λ ks. Contains ks l) is.whole there)) as (λ _. ⊥) [
+  | inl plain ↦ is.text.plain l plain bad.0
+  | inr later ↦ let s = pieces_separate es is.more l is.pieces later bad.0 in bad.1 s.0 s.1 s.2
+]
+
+among : (before after : List (List ℕ)) (here : List ℕ) (ls : List (List ℕ)) → ls ≡ before ++ here ∷ after → Contains ls here
+among before after here ls whole =
+    subst (λ ks. Contains ks here) (sym whole) (Contains-append_right before (here ∷ after) here (member_first here after))
 
 -- a session has neither
 pub sessions_are_read : (text : List ℕ) (s : Edits) (n : ℕ) → IsSession text s → (IsFirstBad text (Line n) → ⊥) × (IsFirstBad text (TooMany n) → ⊥)
-sessions_are_read text s n is = (not_bad text s n is, not_too_many text s n is)
+sessions_are_read text s n is = (
+  λ (here, es, stops, bad). no_bad s.head s.edits.items (lines text) here is (among stops.before stops.after here (lines text) stops.whole) bad,
+  λ (here, es, asks, name, stops, count, separator).
+      too_many_marks s.head stops.head s.edits.items es (lines text) stops.before stops.after here asks name is stops.read count separator stops.whole,
+)
+
+-- a text has one first bad line, or one first separator too many
+
+same_place : (text : List ℕ) (n m : ℕ) (l k : List ℕ) (es fs : List Edit) → (a : Stops text n l es) → (b : Stops text m k fs) → a.before ≡ b.before → n ≡ m
+same_place text n m l k es fs a b e = a.number ∙ ap (λ ls. length ls + 1) e ∙ sym b.number
+
+places : (text : List ℕ) (n m : ℕ) (l k : List ℕ) (es fs : List Edit) → (a : Stops text n l es) → (b : Stops text m k fs) → IsOrder a.before b.before l k
+places text n m l k es fs a b = ordered a.before b.before a.after b.after l k (sym a.whole ∙ b.whole)
+
+pub one_bad_line : (text : List ℕ) (n m : ℕ) → IsFirstBad text (Line n) → IsFirstBad text (Line m) → n ≡ m
+one_bad_line text n m (l, es, a, bad) (k, fs, b, worse) = elim (places text n m l k es fs a b) as (λ _. n ≡ m) [
+  | one_place e f ↦ same_place text n m l k es fs a b e
+  | left_first d e ↦ absurd (no_bad b.head fs b.before l b.read (among a.before d l b.before e) bad)
+  | right_first d e ↦ absurd (no_bad a.head es a.before k a.read (among b.before d k a.before e) worse)
+]
+
+pub one_too_many : (text : List ℕ) (n m : ℕ) → IsFirstBad text (TooMany n) → IsFirstBad text (TooMany m) → n ≡ m
+one_too_many text n m (l, es, asks, name, a, count, separator) (k, fs, others, other, b, number, mark) = elim (places text n m l k es fs a b) as (λ _. n ≡ m) [
+  | one_place e f ↦ same_place text n m l k es fs a b e
+  | left_first d e ↦ absurd (too_many_marks b.head a.head fs es b.before a.before d l asks name b.read a.read count separator e)
+  | right_first d e ↦ absurd (too_many_marks a.head b.head es fs a.before b.before d k others other a.read b.read number mark e)
+]
+
+pub bad_or_too_many : (text : List ℕ) (n m : ℕ) → IsFirstBad text (Line n) → IsFirstBad text (TooMany m) → ⊥
+bad_or_too_many text n m (l, es, a, bad) (k, fs, asks, name, b, count, separator) = elim (places text n m l k es fs a b) as (λ _. ⊥) [
+  | one_place e f ↦ bad.1 asks name (subst (λ x. IsSeparator x asks name) (sym f) separator)
+  | left_first d e ↦ no_bad b.head fs b.before l b.read (among a.before d l b.before e) bad
+  | right_first d e ↦ too_many_marks a.head b.head es fs a.before b.before d k asks name a.read b.read count separator e
+]

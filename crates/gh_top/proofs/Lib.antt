@@ -1,8 +1,12 @@
 pub mod SmallestLemmas
 pub mod HeadlineLemmas
 pub mod OneStatus
+pub mod OneRefusal
+pub mod OneFile
+pub mod OneText
 pub mod FileLemmas
 pub mod FrontLemmas
+pub mod FirstLemmas
 pub mod DecidingLemmas
 pub mod RecheckLemmas
 pub mod ListingLemmas

@@ -1,23 +1,24 @@
 -- For given words and files there is one status.
 --
--- Each answer is brought into a form by cases in which the status is told by an equation (`IsGiven`), so that two answers are
--- compared case by case: first the requests and the programs, then what is judged of the program.
+-- Each answer is brought into a form by cases (`IsGiven`) in which the status is told by an equation, so that two
+-- answers are compared case by case: first the requests and the programs, then what is judged of the program. Texts
+-- are compared in the same form.
 use Rattle.std.proofs.Common.{◌≡◌, ◌⊎◌, inl, inr, ◌∙◌, ℕ, ◌-◌, ◌<◌, ◌≤◌, List, [], ◌∷◌, ◌++◌, length, map, refl, sym, ap, subst, arith}
 use Rattle.std.specs.Prelude.{Contains, Option, Some, All, Any, cond, true, false}
 use Rattle.std.proofs.lemmas.List.Elements.{Contains-append_right}
 use Rattle.std.proofs.lemmas.Option.{slice_get_within}
-use Rattle.gh_base.specs.Grounds.{Problem}
 use Rattle.gh_ast.proofs.Lists.{member_first}
 use Rattle.gh_ast.proofs.OneQuestion.{one_question}
 use Rattle.gh_ast.proofs.TokenLemmas.{one_whole}
 use Rattle.gh_ast.specs.Lists.{IsFirstWith}
-use Rattle.gh_ast.specs.Limits.{KeepsLimits, IsLimit, of_procedures, of_variables, of_atoms, atom_counts}
+use Rattle.gh_ast.specs.Limits.{KeepsLimits, HaveFewVariables, IsLimit, of_procedures, of_variables, of_atoms, atom_counts}
 use Rattle.gh_ast.specs.Plain.{Procedure, Program}
 use Rattle.gh_ast.specs.Occurrences.{variables_of}
 use Rattle.gh_ast.specs.Rules.{IsTyped}
 use Rattle.gh_ast.specs.QuestionGrammar.{SpellsQuestion, Poses}
 use Rattle.gh_ast.specs.Questions.{Question}
 use Rattle.gh_ast.specs.declared.typed.Limit.{Limit}
+use Rattle.gh_check.proofs.SectionLemmas.{apart}
 use Rattle.gh_decide.specs.Logs.{AreValidSections, IsValidLog}
 use Rattle.gh_draw.proofs.Shown.{file_one, file_shown}
 use Rattle.gh_draw.specs.Drawn.{IsFileOf}
@@ -27,7 +28,7 @@ use Rattle.gh_entail.specs.Meaning.{IsEntailed}
 use Rattle.gh_log.proofs.LogLemmas.{one_text}
 use Rattle.gh_log.proofs.OutsideLemmas.{logs_are_inside}
 use Rattle.gh_log.specs.Lines.{LogLine}
-use Rattle.gh_log.specs.Sections.{IsValidSection, IsFirstFault}
+use Rattle.gh_log.specs.Sections.{IsValidSection}
 use Rattle.gh_path.specs.Admitted.{Passed, NoneHas, IsFirstLimit, of_text, paths, steps, terms, versions, IsAdmitted}
 use Rattle.gh_path.specs.Conditions.{Condition, conditions}
 use Rattle.gh_run.proofs.OneFile.{state_files_are_one}
@@ -69,18 +70,18 @@ use Rattle.gh_trace.specs.Validity.{IsConditionValid, ListedAreValid, AreCounter
 
 -- a refused text is not accepted
 
-a_text : (t u : List ℕ) → Some u ≡ Some t → u ≡ t
+pub a_text : (t u : List ℕ) → Some u ≡ Some t → u ≡ t
 a_text t u e = cc
 
-first_has : (P : Program) (Q : Procedure → Type 0) (p : Procedure) → NoneHas P Q → IsFirstWith Q P.procedures p → ⊥
+pub first_has : (P : Program) (Q : Procedure → Type 0) (p : Procedure) → NoneHas P Q → IsFirstWith Q P.procedures p → ⊥
 first_has P Q p none first = none p (first.place, first.within, first.element) first.holds
 
-passed_has : (P : Program) (Q : Procedure → Type 0) (kind limit : ℕ) (l : Limit) → NoneHas P Q → Passed P Q kind limit l → ⊥
+pub passed_has : (P : Program) (Q : Procedure → Type 0) (kind limit : ℕ) (l : Limit) → NoneHas P Q → Passed P Q kind limit l → ⊥
 passed_has P Q kind limit l none passed = first_has P Q passed.procedure none passed.first
 
-few_variables : (P : Program) → KeepsLimits P → NoneHas P (λ q. 32 < length (variables_of q))
-few_variables P keeps p (k, within, at) many =
-    let few = keeps.variables k p within in
+pub few_variables : (P : Program) → HaveFewVariables P → NoneHas P (λ q. 32 < length (variables_of q))
+few_variables P all p (k, within, at) many =
+    let few = all k p within in
     let here : length (variables_of p) ≤ 32 = subst (λ q. length (variables_of q) ≤ 32) at few in
     absurd (omega (arith, here, many))
 
@@ -90,9 +91,9 @@ few_atoms P keeps p (k, within, at) (j, n, low, there, many) =
     let here : n ≤ 32 = subst (λ m. m ≤ 32) there (counts j n low) in
     absurd (omega (arith, here, many))
 
-text_limit : (P : Program) (l : Limit) → KeepsLimits P → IsLimit P l → ⊥
+pub text_limit : (P : Program) (l : Limit) → KeepsLimits P → IsLimit P l → ⊥
 text_limit P l keeps (of_procedures passed) = let few = keeps.procedures in let many = passed.passed in absurd (omega (arith, few, many))
-text_limit P l keeps (of_variables few passed) = first_has P (λ q. 32 < length (variables_of q)) passed.procedure (few_variables P keeps) passed.first
+text_limit P l keeps (of_variables few passed) = first_has P (λ q. 32 < length (variables_of q)) passed.procedure (few_variables P keeps.variables) passed.first
 text_limit P l keeps (of_atoms few fewer passed) = first_has P (λ q. Any (λ n. 32 < n) (atom_counts q)) passed.procedure (few_atoms P keeps) passed.first
 
 limit_passed : (P : Program) (l : Limit) → IsAdmitted P → IsFirstLimit P l → ⊥
@@ -120,7 +121,7 @@ not_accepted text (LimitPassed l) P (t, Q, e, is, typed, passed) a =
 
 -- the same for questions
 
-one_posed : (text : List ℕ) (p q : Question) → Poses text p → Poses text q → p ≡ q
+pub one_posed : (text : List ℕ) (p q : Question) → Poses text p → Poses text q → p ≡ q
 one_posed text p q a b = one_question a.0 p q a.2 (subst (λ z. SpellsQuestion z q) (sym (one_whole text a.0 b.0 a.1 b.1)) b.2)
 
 question_limit : (q : Question) (l : Limit) → question_limits.KeepsLimits q → question_limits.IsLimit q l → ⊥
@@ -167,34 +168,30 @@ one_decided P s t (inr (e, k, c, xs, r)) (inr (f, j, d, ys, q)) = e ∙ sym f
 
 -- log files
 
-one_log : (text : List ℕ) (log other : List (List LogLine)) → IsLogOf text log → IsLogOf text other → log ≡ other
+pub one_log : (text : List ℕ) (log other : List (List LogLine)) → IsLogOf text log → IsLogOf text other → log ≡ other
 one_log text log other a b = (one_text a.version b.version log other a.spelled b.spelled (sym a.text_is ∙ b.text_is)).1
 
-as_many : (P : Program) (cs : List Condition) (log : List (List LogLine)) → AreValidSections P cs log → length log ≡ length cs
+pub as_many : (P : Program) (cs : List Condition) (log : List (List LogLine)) → AreValidSections P cs log → length log ≡ length cs
 as_many P [] [] v = refl
 as_many P [] (s ∷ ss) v = absurd v
 as_many P (c ∷ cs) [] v = absurd v
 as_many P (c ∷ cs) (s ∷ ss) v = let more = as_many P cs ss v.1 in omega (arith, more)
 
 -- the section after valid ones
-section_at : (P : Program) (earlier : List Condition) (c : Condition) (later : List Condition) (before : List (List LogLine)) (s : List LogLine) (after : List (List LogLine)) →
+pub section_at : (P : Program) (earlier : List Condition) (c : Condition) (later : List Condition) (before : List (List LogLine)) (s : List LogLine) (after : List (List LogLine)) →
     AreValidSections P earlier before → AreValidSections P (earlier ++ c ∷ later) (before ++ s ∷ after) → IsValidSection (problem (symbolic_of P c)) s
 section_at P [] c later [] s after v w = w.0
 section_at P [] c later (t ∷ before) s after v w = absurd v
 section_at P (d ∷ earlier) c later [] s after v w = absurd v
 section_at P (d ∷ earlier) c later (t ∷ before) s after v w = section_at P earlier c later before s after v.1 w.1
 
-no_fault : (p : Problem) (lines : List LogLine) (number place : ℕ) → IsValidSection p lines → IsFirstFault p lines number place → ⊥
-no_fault p lines number place v (inl f) = f.faulty (v.of_kind place f.line f.at)
-no_fault p lines number place v (inr f) = f.no_end v.ends
-
 no_first_fault : (P : Program) (log : List (List LogLine)) (number at : ℕ) → IsValidLog P log → IsFirstFaultIn P log number at → ⊥
 no_first_fault P log number at v f =
     let whole : AreValidSections P (f.earlier ++ f.condition ∷ f.later) (f.before ++ f.lines ∷ f.after) =
     subst (λ cs. AreValidSections P cs (f.before ++ f.lines ∷ f.after)) f.whole (subst (AreValidSections P (conditions P)) f.sections v) in
-    no_fault (problem (symbolic_of P f.condition)) f.lines number f.place (section_at P f.earlier f.condition f.later f.before f.lines f.after f.valid whole) f.fault
+    apart (problem (symbolic_of P f.condition)) f.lines number f.place (section_at P f.earlier f.condition f.later f.before f.lines f.after f.valid whole) f.fault
 
-valid_log : (P : Program) (text u : List ℕ) (log : List (List LogLine)) → IsLogOf text log → IsValidLog P log → (bytes : Option (List ℕ)) → bytes ≡ Some text → IsLogRefusal P bytes u → ⊥
+pub valid_log : (P : Program) (text u : List ℕ) (log : List (List LogLine)) → IsLogOf text log → IsValidLog P log → (bytes : Option (List ℕ)) → bytes ≡ Some text → IsLogRefusal P bytes u → ⊥
 valid_log P text u log is v _ e recheck.absent = absurd cc
 valid_log P text u log is v _ e (recheck.too_long {text = t} long) =
     let short : length t ≤ 67108864 = subst (λ x. length x ≤ 67108864) (a_text t text (sym e)) is.short in
@@ -219,7 +216,7 @@ one_rechecked P bytes s t (inr (e, u, w)) (inr (f, v, x)) = e ∙ sym f
 
 -- drawing files
 
-refuting : (P : Program) (n : ℕ) (u : List ℕ) (bytes : Option (List ℕ)) → (r : IsRefutingFile P bytes n) → (other : Option (List ℕ)) → other ≡ Some r.text → IsDrawingRefusal P other u → ⊥
+pub refuting : (P : Program) (n : ℕ) (u : List ℕ) (bytes : Option (List ℕ)) → (r : IsRefutingFile P bytes n) → (other : Option (List ℕ)) → other ≡ Some r.text → IsDrawingRefusal P other u → ⊥
 refuting P n u bytes r _ e replay.absent = absurd cc
 refuting P n u bytes r _ e (replay.too_long {text = t} long) =
     let short : length t ≤ 4194304 = subst (λ x. length x ≤ 4194304) (a_text t r.text (sym e)) r.short in
@@ -252,13 +249,13 @@ IsScripted P n s =
     ⊎ ((s ≡ LogRefused) × (length (conditions P) < n))
     ⊎ ((s ≡ TextRefused) × (c : Condition) × IsAt P n c × (most_asserted < asserted_count P c))
 
-one_at : (P : Program) (n : ℕ) (c d : Condition) → IsAt P n c → IsAt P n d → c ≡ d
+pub one_at : (P : Program) (n : ℕ) (c d : Condition) → IsAt P n c → IsAt P n d → c ≡ d
 one_at P n c d a b = cc
 
-not_past : (P : Program) (n : ℕ) (c : Condition) → IsAt P n c → length (conditions P) < n → ⊥
+pub not_past : (P : Program) (n : ℕ) (c : Condition) → IsAt P n c → length (conditions P) < n → ⊥
 not_past P n c a past = let within = slice_get_within (conditions P) (n - 1) c a in absurd (omega (arith, within, past))
 
-not_long : (P : Program) (n : ℕ) (c d : Condition) → IsAt P n c → IsAt P n d → asserted_count P c ≤ most_asserted → most_asserted < asserted_count P d → ⊥
+pub not_long : (P : Program) (n : ℕ) (c d : Condition) → IsAt P n c → IsAt P n d → asserted_count P c ≤ most_asserted → most_asserted < asserted_count P d → ⊥
 not_long P n c d a b few many =
     let here = subst (λ e. asserted_count P e ≤ most_asserted) (one_at P n c d a b) few in
     absurd (omega (arith, here, many))
@@ -285,7 +282,7 @@ status_of (report.Ended k x met) = cond met Ran Refuted
 abbrev IsRan : Program → Option (List ℕ) → ℕ → Status → Type 0
 IsRan P bytes n s = ((r : Report) × (s ≡ status_of r) × IsRunFrom P bytes n r) ⊎ ((s ≡ LogRefused) × (u : List ℕ) × IsStateRefusal P bytes u)
 
-run_refused_too : (P : Program) (bytes : Option (List ℕ)) (n : ℕ) (u : List ℕ) (r : Report) → (f : IsRunFrom P bytes n r) → (other : Option (List ℕ)) → other ≡ Some f.text → IsStateRefusal P other u → ⊥
+pub run_refused_too : (P : Program) (bytes : Option (List ℕ)) (n : ℕ) (u : List ℕ) (r : Report) → (f : IsRunFrom P bytes n r) → (other : Option (List ℕ)) → other ≡ Some f.text → IsStateRefusal P other u → ⊥
 run_refused_too P bytes n u r f _ e run.absent = absurd cc
 run_refused_too P bytes n u r f _ e (run.too_long {text = t} long) =
     let short : length t ≤ 4194304 = subst (λ x. length x ≤ 4194304) (a_text t f.text (sym e)) f.short in
@@ -293,7 +290,7 @@ run_refused_too P bytes n u r f _ e (run.too_long {text = t} long) =
 run_refused_too P bytes n u r f _ e (run.faulty {text = t} k short faulty) =
     state_files_are_one.not_both P t f.begin k (rw (a_text t f.text (sym e)) at f.file) faulty
 
-one_run : (P : Program) (bytes : Option (List ℕ)) (n : ℕ) (r q : Report) → IsTyped P → IsRunFrom P bytes n r → IsRunFrom P bytes n q → r ≡ q
+pub one_run : (P : Program) (bytes : Option (List ℕ)) (n : ℕ) (r q : Report) → IsTyped P → IsRunFrom P bytes n r → IsRunFrom P bytes n q → r ≡ q
 one_run P bytes n r q typed a b =
     let texts : Some a.text ≡ Some b.text = sym a.bytes_are ∙ b.bytes_are in
     let file : IsStateFile P b.text a.begin = rw (a_text b.text a.text texts) at a.file in
@@ -373,14 +370,18 @@ IsJudged files (Run f x n) P s = IsRan P (files 2) n s
 IsJudged files (Session f) P s = ⊥
 IsJudged files (Entail f) P s = ⊥
 
-data IsGiven (words : List (List ℕ)) (files : Files) (s : Status) : Type 0 where
-  no_request : s ≡ Usage → ((r : Request) → IsRequest words r → ⊥) → IsGiven words files s
-  text_refused : (r : Request) (x : Refusal) → s ≡ TextRefused → IsRequest words r → IsOnProgram r → IsRefused (asked_text r files) x → IsGiven words files s
-  judged : (r : Request) (P : Program) → Asks words files r P → IsJudged files r P s → IsGiven words files s
-  in_session : (f : List ℕ) → IsRequest words (Session f) → IsInSession (files 1) s → IsGiven words files s
-  of_question : (f : List ℕ) → IsRequest words (Entail f) → IsJudgedQuestion (files 1) s → IsGiven words files s
+-- a row of the answer by what it is judged on; of the answer there is its status or its text
+pub data IsGiven {X : Type 0} (words : List (List ℕ)) (files : Files) (U : X → Type 0) (T : Refusal → X → Type 0) (J : Request → Program → X → Type 0) (S Q : X → Type 0) (x : X) : Type 0 where
+  no_request : U x → ((r : Request) → IsRequest words r → ⊥) → IsGiven words files U T J S Q x
+  text_refused : (r : Request) (v : Refusal) → T v x → IsRequest words r → IsOnProgram r → IsRefused (asked_text r files) v → IsGiven words files U T J S Q x
+  judged : (r : Request) (P : Program) → Asks words files r P → J r P x → IsGiven words files U T J S Q x
+  in_session : (f : List ℕ) → IsRequest words (Session f) → S x → IsGiven words files U T J S Q x
+  of_question : (f : List ℕ) → IsRequest words (Entail f) → Q x → IsGiven words files U T J S Q x
 
-given : (words : List (List ℕ)) (files : Files) (s : Status) (u : List ℕ) → Answer words files s u → IsGiven words files s
+abbrev HasStatus : List (List ℕ) → Files → Status → Type 0
+HasStatus words files s = IsGiven words files (λ t. t ≡ Usage) (λ v t. t ≡ TextRefused) (IsJudged files) (IsInSession (files 1)) (IsJudgedQuestion (files 1)) s
+
+given : (words : List (List ℕ)) (files : Files) (s : Status) (u : List ℕ) → Answer words files s u → HasStatus words files s
 given words files s u (usage h) = no_request refl h
 given words files s u (refused {r = r} x a on h) = text_refused r x refl a on h
 given words files s u (check_verified {f = f} {P = P} a v) = judged (Check f) P a (inl (refl, v))
@@ -434,36 +435,48 @@ asks_or_refused words files r q x P a w b =
 off_program : (words : List (List ℕ)) (r q : Request) → IsRequest words r → IsOnProgram r → IsRequest words q → (IsOnProgram q → ⊥) → ⊥
 off_program words r q a on b off = off (subst IsOnProgram (one_request words r q a b) on)
 
-one_given : (words : List (List ℕ)) (files : Files) (s t : Status) → IsGiven words files s → IsGiven words files t → s ≡ t
-one_given words files s t (no_request e h) (no_request f k) = e ∙ sym f
-one_given words files s t (no_request e h) (text_refused r x f a on w) = absurd (h r a)
-one_given words files s t (no_request e h) (judged r P a v) = absurd (h r a.request)
-one_given words files s t (no_request e h) (in_session f a v) = absurd (h (Session f) a)
-one_given words files s t (no_request e h) (of_question f a v) = absurd (h (Entail f) a)
-one_given words files s t (text_refused r x e a on w) (no_request f k) = absurd (k r a)
-one_given words files s t (text_refused r x e a on w) (text_refused q y f b of z) = e ∙ sym f
-one_given words files s t (text_refused r x e a on w) (judged q P b v) = absurd (asks_or_refused words files r q x P a w b)
-one_given words files s t (text_refused r x e a on w) (in_session f b v) = absurd (off_program words r (Session f) a on b (λ h. h))
-one_given words files s t (text_refused r x e a on w) (of_question f b v) = absurd (off_program words r (Entail f) a on b (λ h. h))
-one_given words files s t (judged r P a v) (no_request f k) = absurd (k r a.request)
-one_given words files s t (judged r P a v) (text_refused q x f b on w) = absurd (asks_or_refused words files q r x P b w a)
-one_given words files s t (judged r P a v) (judged q Q b w) =
-    let request : q ≡ r = one_request words q r b.request a.request in
-    let program : Q ≡ P = one_program_asked words files q r Q P b a in
-    let here : IsJudged files r P t = subst (λ p. IsJudged files r p t) program (subst (λ p. IsJudged files p Q t) request w) in
-    one_judged files r P s t a.accepted.admitted.typed v here
-one_given words files s t (judged r P a v) (in_session f b w) = absurd (off_program words r (Session f) a.request a.on_program b (λ h. h))
-one_given words files s t (judged r P a v) (of_question f b w) = absurd (off_program words r (Entail f) a.request a.on_program b (λ h. h))
-one_given words files s t (in_session f a v) (no_request e k) = absurd (k (Session f) a)
-one_given words files s t (in_session f a v) (text_refused r x e b on w) = absurd (off_program words r (Session f) b on a (λ h. h))
-one_given words files s t (in_session f a v) (judged r P b w) = absurd (off_program words r (Session f) b.request b.on_program a (λ h. h))
-one_given words files s t (in_session f a v) (in_session g b w) = one_session (files 1) s t v w
-one_given words files s t (in_session f a v) (of_question g b w) = let same = one_request words (Session f) (Entail g) a b in absurd cc
-one_given words files s t (of_question f a v) (no_request e k) = absurd (k (Entail f) a)
-one_given words files s t (of_question f a v) (text_refused r x e b on w) = absurd (off_program words r (Entail f) b on a (λ h. h))
-one_given words files s t (of_question f a v) (judged r P b w) = absurd (off_program words r (Entail f) b.request b.on_program a (λ h. h))
-one_given words files s t (of_question f a v) (in_session g b w) = let same = one_request words (Entail f) (Session g) a b in absurd cc
-one_given words files s t (of_question f a v) (of_question g b w) = one_question_judged (files 1) s t v w
+module _ {X : Type 0} (words : List (List ℕ)) (files : Files) (U : X → Type 0) (T : Refusal → X → Type 0) (J : Request → Program → X → Type 0) (S Q : X → Type 0)
+    (one_usage : (x y : X) → U x → U y → x ≡ y)
+    (one_refused : (r : Request) (v w : Refusal) (x y : X) → IsRefused (asked_text r files) v → IsRefused (asked_text r files) w → T v x → T w y → x ≡ y)
+    (one_judged_x : (r : Request) (P : Program) (x y : X) → IsTyped P → J r P x → J r P y → x ≡ y)
+    (one_session_x : (x y : X) → S x → S y → x ≡ y) (one_question_x : (x y : X) → Q x → Q y → x ≡ y) where
+  abbrev Given : X → Type 0
+  Given x = IsGiven words files U T J S Q x
+
+  pub one_given : (x y : X) → Given x → Given y → x ≡ y
+  one_given x y (no_request e h) (no_request f k) = one_usage x y e f
+  one_given x y (no_request e h) (text_refused r v f a on w) = absurd (h r a)
+  one_given x y (no_request e h) (judged r P a v) = absurd (h r a.request)
+  one_given x y (no_request e h) (in_session f a v) = absurd (h (Session f) a)
+  one_given x y (no_request e h) (of_question f a v) = absurd (h (Entail f) a)
+  one_given x y (text_refused r v e a on w) (no_request f k) = absurd (k r a)
+  one_given x y (text_refused r v e a on w) (text_refused q o f b of z) =
+      let here : IsRefused (asked_text q files) v = subst (λ p. IsRefused (asked_text p files) v) (one_request words r q a b) w in
+      one_refused q v o x y here z e f
+  one_given x y (text_refused r v e a on w) (judged q P b z) = absurd (asks_or_refused words files r q v P a w b)
+  one_given x y (text_refused r v e a on w) (in_session f b z) = absurd (off_program words r (Session f) a on b (λ h. h))
+  one_given x y (text_refused r v e a on w) (of_question f b z) = absurd (off_program words r (Entail f) a on b (λ h. h))
+  one_given x y (judged r P a v) (no_request f k) = absurd (k r a.request)
+  one_given x y (judged r P a v) (text_refused q o f b on w) = absurd (asks_or_refused words files q r o P b w a)
+  one_given x y (judged r P a v) (judged q Q b w) =
+      let request : q ≡ r = one_request words q r b.request a.request in
+      let program : Q ≡ P = one_program_asked words files q r Q P b a in
+      let here : J r P y = subst (λ p. J r p y) program (subst (λ p. J p Q y) request w) in
+      one_judged_x r P x y a.accepted.admitted.typed v here
+  one_given x y (judged r P a v) (in_session f b w) = absurd (off_program words r (Session f) a.request a.on_program b (λ h. h))
+  one_given x y (judged r P a v) (of_question f b w) = absurd (off_program words r (Entail f) a.request a.on_program b (λ h. h))
+  one_given x y (in_session f a v) (no_request e k) = absurd (k (Session f) a)
+  one_given x y (in_session f a v) (text_refused r o e b on w) = absurd (off_program words r (Session f) b on a (λ h. h))
+  one_given x y (in_session f a v) (judged r P b w) = absurd (off_program words r (Session f) b.request b.on_program a (λ h. h))
+  one_given x y (in_session f a v) (in_session g b w) = one_session_x x y v w
+  one_given x y (in_session f a v) (of_question g b w) = let same = one_request words (Session f) (Entail g) a b in absurd cc
+  one_given x y (of_question f a v) (no_request e k) = absurd (k (Entail f) a)
+  one_given x y (of_question f a v) (text_refused r o e b on w) = absurd (off_program words r (Entail f) b on a (λ h. h))
+  one_given x y (of_question f a v) (judged r P b w) = absurd (off_program words r (Entail f) b.request b.on_program a (λ h. h))
+  one_given x y (of_question f a v) (in_session g b w) = let same = one_request words (Entail f) (Session g) a b in absurd cc
+  one_given x y (of_question f a v) (of_question g b w) = one_question_x x y v w
 
 pub statuses_are_one : StatusesAreOne
-statuses_are_one words files s t u v a b = one_given words files s t (given words files s u a) (given words files t v b)
+statuses_are_one words files s t u v a b =
+    one_given words files (λ z. z ≡ Usage) (λ w z. z ≡ TextRefused) (IsJudged files) (IsInSession (files 1)) (IsJudgedQuestion (files 1)) (λ x y e f. e ∙ sym f) (λ r w z x y c d e f. e ∙ sym f)
+    (one_judged files) (one_session (files 1)) (one_question_judged (files 1)) s t (given words files s u a) (given words files t v b)

@@ -26,6 +26,7 @@ use Rattle.gh_small.specs.Models.{IsLowest}
 use Rattle.gh_small.specs.Smallest.{first_cells, IsSmallest}
 use Rattle.gh_small.specs.declared.found.Smallest.{Smallest}
 use Rattle.gh_log.specs.declared.lines.Log.{Log}
+use Rattle.gh_top.proofs.FirstLemmas.{first_reported}
 use Rattle.gh_top.specs.Headline.{smallest_verified, smallest_refuted}
 use Rattle.gh_top.specs.Lines.{verified_line, smallest_line}
 use Rattle.gh_top.specs.Replies.{Replies}
@@ -71,12 +72,7 @@ reported P k n s r front d shown bound first second third fourth typed f there i
       condition = c;
       states = map state_of s.trace.states.items;
       bound = bound;
-      first =
-          record {
-            reached = record { before = f.before; after = f.after; whole = f.whole; number = f.number_is; valid = f.valid };
-            refutes = told.refutes;
-            drawable = told.drawable;
-          };
+      first = first_reported P k s.trace typed f values;
       count = is.count ∙ same_cells s.trace.states.items;
       least = is.least c keeps;
       shown = subst (IsBoundText P c s.cells) (sym bounded) (bound_told P c s.cells s.section (is.lowest c keeps));

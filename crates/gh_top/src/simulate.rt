@@ -12,7 +12,7 @@ ghost use Rattle.gh_top.specs.declared.words.Request.TheVariants.{Run};
 use crate::file::FileText;
 use crate::front::Admitted;
 use crate::lines::plain_line;
-use crate::report::Report;
+use crate::report::{Report, refused};
 use crate::status::Status;
 use gh_draw::drawing::state_lines;
 use gh_run::simulate::{Report as RunReport, simulate as run_from};
@@ -22,17 +22,6 @@ use std::alloc::{AllocError, Global};
 
 /// The longest state file, in bytes.
 pub const MOST_STATED: usize = 4_194_304;
-
-// A state file that is refused.
-fn refused(alloc: Global, words: &str) -> Result<Report, AllocError>
-    ensures status { IfOk result (λ r. r.status ≡ Status.LogRefused) }
-    ensures text { IfOk result (λ r. r.text ≡ line words.now) }
-{
-    Ok(Report {
-        status: Status::LogRefused,
-        text: plain_line(alloc, words)?,
-    })
-}
 
 // A state file with a line that isn't as said.
 fn faulty(alloc: Global, at: u32) -> Result<Report, AllocError>

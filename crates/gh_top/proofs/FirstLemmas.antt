@@ -1,0 +1,66 @@
+-- The first refuted condition of a report and that of a decision are one.
+use Rattle.std.proofs.Common.{◌≡◌, inl, inr, ℕ, List, [], ◌∷◌, map, refl, ap, subst}
+use Rattle.std.specs.Prelude.{All, Contains}
+use Rattle.std.proofs.lemmas.List.Elements.{All-head, All-tail}
+use Rattle.gh_ast.proofs.Lists.{member_cases, no_member}
+use Rattle.gh_ast.specs.Plain.{Program}
+use Rattle.gh_ast.specs.Programs.{Name, variable_names}
+use Rattle.gh_ast.specs.Rules.{IsTyped}
+use Rattle.gh_draw.proofs.Refuted.{told_of_refuted}
+use Rattle.gh_draw.specs.Drawn.{HasValues, IsOver}
+use Rattle.gh_path.specs.Conditions.{Condition}
+use Rattle.gh_top.specs.Laws.{FirstsAreOne}
+use Rattle.gh_top.specs.Reports.{IsFirstRefuted}
+use Rattle.gh_trace.proofs.FirstRefuted.{first_at}
+use Rattle.gh_trace.specs.Kept.{state_of, drawn}
+use Rattle.gh_trace.specs.Refuted.{IsFirst}
+use Rattle.gh_trace.specs.Replay as replay
+use Rattle.gh_trace.specs.Traces.{Counterexample}
+use Rattle.gh_trace.specs.Traces as plain
+use Rattle.gh_trace.specs.Validity.{AreCounterexample}
+use Rattle.gh_trace.specs.declared.state.State.{State}
+use Rattle.gh_trace.specs.declared.state.Trace.{Trace}
+
+pub first_reported : (P : Program) (k : ℕ) (t : Trace) → IsTyped P → (f : IsFirst P k t) → All HasValues t.states.items → IsFirstRefuted P k f.condition (map state_of t.states.items)
+first_reported P k t typed f values =
+    let told = told_of_refuted P k f.condition t.states.items typed (first_at P k t f) f.refutes values in
+    record {
+      reached = record { before = f.before; after = f.after; whole = f.whole; number = f.number_is; valid = f.valid };
+      refutes = told.refutes;
+      drawable = told.drawable;
+    }
+
+plain_states : (ss : List State) → map state_of ss ≡ map (λ (x : replay.Drawn). x.state) (map drawn ss)
+plain_states [] = refl
+plain_states (s ∷ ss) = ap (λ xs. state_of s ∷ xs) (plain_states ss)
+
+drawn_over : (ns : List Name) (ss : List State) → All (IsOver ns) ss → (x : replay.Drawn) → Contains (map drawn ss) x → x.listed ≡ ns
+drawn_over ns [] over x there = absurd (no_member x there)
+drawn_over ns (s ∷ ss) over x there = elim (member_cases (drawn s) (map drawn ss) x there) as (λ _. x.listed ≡ ns) [
+  | inl is ↦ subst (λ (y : replay.Drawn). y.listed ≡ ns) is (All-head (IsOver ns) s ss over)
+  | inr later ↦ drawn_over ns ss (All-tail (IsOver ns) s ss over) x later
+]
+
+drawn_refute : (P : Program) (c : Condition) (ss : List State) → AreCounterexample P c (map state_of ss) → All (IsOver (variable_names c.procedure)) ss → replay.Refutes P c (map drawn ss)
+drawn_refute P c [] against over = absurd against
+drawn_refute P c (s ∷ ss) against over = record {
+  first = drawn s;
+  others = map drawn ss;
+  states = refl;
+  over = drawn_over (variable_names c.procedure) (s ∷ ss) over;
+  counterexample = subst (λ (ys : List plain.State). Counterexample P c.start.meets c.way.steps c.way.check (state_of s) ys) (plain_states ss) against;
+}
+
+first_decided : (P : Program) (k : ℕ) (c : Condition) (t : Trace) → IsFirstRefuted P k c (map state_of t.states.items) → All (IsOver (variable_names c.procedure)) t.states.items → IsFirst P k t
+first_decided P k c t f over = record {
+  before = f.reached.before;
+  condition = c;
+  after = f.reached.after;
+  whole = f.reached.whole;
+  number_is = f.reached.number;
+  valid = f.reached.valid;
+  refutes = drawn_refute P c t.states.items f.refutes over;
+}
+
+pub firsts_are_one : FirstsAreOne
+firsts_are_one = record { reported = first_reported; decided = first_decided }
