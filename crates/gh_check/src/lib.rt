@@ -11,6 +11,4 @@ mod lines;
 mod positions;
 mod search;
 mod standing;
-#[cfg(test)]
-mod tests;
 mod units;

@@ -2,6 +2,8 @@
 #![tactic(auto)]
 
 #[cfg(test)]
+mod check_tests;
+#[cfg(test)]
 mod congruence_tests;
 #[cfg(test)]
 mod instance_tests;
