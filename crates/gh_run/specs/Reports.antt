@@ -3,9 +3,10 @@ use Rattle.std.specs.Prelude.{◌≡◌, ◌↔◌, ℕ, List, [], length, IsTru
 use Rattle.gh_ast.specs.Plain.{Procedure, Program}
 use Rattle.gh_ast.specs.Programs.{variable_names}
 use Rattle.gh_assert.specs.Heaps.{Heap, Splits}
-use Rattle.gh_assert.specs.Meaning.{Meaning, HasPart}
+use Rattle.gh_assert.specs.Meaning.{Meaning, MeetsOneOf, HasPart}
 use Rattle.gh_assert.specs.Stores.{store_of, listed_names}
 use Rattle.gh_machine.specs.Machine.{Config, Fault, HasEnded, EndsWell, last_of, starting}
+use Rattle.gh_trace.specs.Traces.{Replaced}
 use Rattle.gh_trace.specs.declared.state.State.{State}
 use Rattle.gh_run.specs.StateFiles.{BeginsIn}
 use Rattle.gh_run.specs.Rule.{IsConcreteRun, SomeReturns, Counts}
@@ -40,6 +41,10 @@ pub record IsMet (p : Procedure) (c d : Config) : Type 0 where
   pub splits : Splits c.heap part frame
   pub needs : Meaning p.needs c.top.store part
   pub gives : EndsWell p frame d
+
+-- the part that meets what the procedure needs has given way to one that meets what it gives, and the rest stayed
+abbrev pub HasGivenWay : Procedure → Begin → State → Type 0
+HasGivenWay p b s = Replaced p.needs (store_of b.store) b.heap (MeetsOneOf p.gives (store_of s.store)) s.heap
 
 -- some part of the first heap meets what the procedure needs
 abbrev pub IsCalledWell : Procedure → Config → Type 0

@@ -3,12 +3,9 @@
 ghost use Rattle.std.specs.Prelude.{◌≡◌, ◌+◌, ◌≤◌, ◌↔◌, IfOk, IsTrue, map};
 ghost use Rattle.std.specs.FinMap.{len};
 ghost use Rattle.gh_ast.specs.Plain.{procedure_of, program_of, Procedure as PlainProcedure};
-ghost use Rattle.gh_assert.specs.Meaning.{MeetsOneOf};
-ghost use Rattle.gh_assert.specs.Stores.{store_of};
 ghost use Rattle.gh_machine.specs.Configs.{config_of, IsMadeFor};
 ghost use Rattle.gh_run.specs.StateFiles.{BeginsIn, FitsProgram};
-ghost use Rattle.gh_run.specs.Reports.{begun, IsStateOf, IsReport};
-ghost use Rattle.gh_trace.specs.Traces.{Replaced};
+ghost use Rattle.gh_run.specs.Reports.{begun, HasGivenWay, IsStateOf, IsReport};
 
 use crate::rule::{Halt, run_ruled};
 use crate::state_file::Begin;
@@ -86,8 +83,7 @@ fn is_met(
     begin: &Begin,
     last: &State,
 ) -> Result<bool, AllocError>
-    ensures { let p = procedure_of procedure.now in
-        IfOk result (λ b. IsTrue b ↔ Replaced p.needs (store_of begin.now.store) begin.now.heap (MeetsOneOf p.gives (store_of last.now.store)) last.now.heap) }
+    ensures { IfOk result (λ b. IsTrue b ↔ HasGivenWay (procedure_of procedure.now) begin.now last.now) }
 {
     let needed = Part {
         assertion: &procedure.needs,

@@ -65,8 +65,10 @@ FieldErrors f linked n s =
 abbrev pub StructErrors : List Field → Span → ℕ → Span → Type 0
 StructErrors fs close n s = FieldsErrors fs n s ⊎ ((n ≡ 12) × NoLink fs close s)
 
--- the errors of a program: of its struct, the names of its procedures, and each procedure
+-- the errors of procedures: of their names, and of each of them
+abbrev pub ProceduresErrors : List Procedure → ℕ → Span → Type 0
+ProceduresErrors ps n s = RepeatErrors 2 (map (λ q. q.name) ps) n s ⊎ Any (λ q. ProcedureErrors ps q n s) ps
+
+-- the errors of a program: of its struct and its procedures
 abbrev pub ProgramErrors : Program → ℕ → Span → Type 0
-ProgramErrors p n s =
-    StructErrors p.fields p.close n s
-    ⊎ (RepeatErrors 2 (map (λ q. q.name) p.procedures) n s ⊎ Any (λ q. ProcedureErrors p.procedures q n s) p.procedures)
+ProgramErrors p n s = StructErrors p.fields p.close n s ⊎ ProceduresErrors p.procedures n s

@@ -1,8 +1,8 @@
 // The procedures of a program.
 
-ghost use Rattle.std.specs.Prelude.{◌⊎◌, map, Any, IfOk};
+ghost use Rattle.std.specs.Prelude.{map, IfOk};
 ghost use Rattle.gh_ast.specs.Plain.{procedure_of};
-ghost use Rattle.gh_types.specs.Checks.{ProcedureErrors, RepeatErrors};
+ghost use Rattle.gh_types.specs.Checks.{ProceduresErrors};
 ghost use Rattle.gh_types.specs.Scopes.{ProcedureErrorsIn, IsFirstInEach};
 ghost use Rattle.gh_types.specs.Faults.{IsFirstOf};
 ghost use Rattle.gh_types.specs.Tables.{IsTableOf};
@@ -50,8 +50,7 @@ fn in_each<'a, 'n>(
 
 /// The first error in the procedures of a program.
 pub fn in_procedures(alloc: Global, procedures: &[Procedure]) -> Result<Option<Fault>, AllocError>
-    ensures { IfOk result (IsFirstOf (λ n s. RepeatErrors 2 (map (λ q. q.name) (map procedure_of procedures.now)) n s
-        ⊎ Any (λ q. ProcedureErrors (map procedure_of procedures.now) q n s) (map procedure_of procedures.now))) }
+    ensures { IfOk result (IsFirstOf (ProceduresErrors (map procedure_of procedures.now))) }
 {
     let names = procedure_names(alloc, procedures)?;
     let again = repeated(alloc, 2, names.as_slice())?;
