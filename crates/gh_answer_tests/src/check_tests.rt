@@ -1,7 +1,7 @@
 //! What `check` answers for worked programs.
 
 use crate::answers::{Table, answer, answers, joined, wrong_row};
-use crate::texts::{
+use gh_texts::{
     BOTH, CONCAT, CUT, DROP, FAULTY, LAST, NODE, NOP, OUTER, REUSE, REVERSE, RING, SECOND, SKIP,
     TWICE,
 };

@@ -1,23 +1,9 @@
 //! Drawing files that are replayed.
 
 use crate::answers::{Table, wrong_row};
-use crate::texts::{DROP, OUTER, REUSE};
+use gh_texts::{DROP, DROPPED, OUTER, REUSE};
 use gh_top::status::Status;
 use std::alloc::AllocError;
-
-const DROPPED: &[u8] = b"drawing
-condition 2
-state 0
-store x=1 y=0
-heap 1->0
-state 1
-store x=1 y=0
-heap 1->0
-state 2
-store x=1 y=0
-heap 1->0
-end
-";
 
 const NO_CELL: &[u8] = b"drawing
 condition 2

@@ -1,10 +1,10 @@
 //! Calls that fail, over pieces of one byte, and inputs and sinks that never fail.
 
-use crate::texts::{LOG, NOP};
 use gh_base::memory::MemoryInputs;
 use gh_base::sink::MemorySink;
 use gh_base::steady_inputs::SteadyInputs;
 use gh_base::steady_sink::SteadySink;
+use gh_texts::{LOG, NOP};
 use gh_top::run::run;
 use gh_top::status::Status;
 use gh_top::words::Words;

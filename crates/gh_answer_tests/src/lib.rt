@@ -34,6 +34,4 @@ mod smt_tests;
 #[cfg(test)]
 mod stress_tests;
 #[cfg(test)]
-mod texts;
-#[cfg(test)]
 mod verdict_tests;

@@ -1,7 +1,7 @@
 //! Texts at each limit and one past it.
 
 use crate::answers::{answer, repeated, reports};
-use crate::texts::{NODE, wide};
+use gh_texts::{NODE, wide};
 use gh_top::status::Status;
 use std::alloc::{AllocError, Global};
 

@@ -1,7 +1,7 @@
 //! Proof logs that are written and judged.
 
 use crate::answers::{Table, answer, answers, wrong_row};
-use crate::texts::{LOG, NOP, REVERSE, SECOND, wide};
+use gh_texts::{LOG, NOP, REVERSE, SECOND, wide};
 use gh_top::status::Status;
 use std::alloc::{AllocError, Global};
 

@@ -1,7 +1,7 @@
 //! Worked lists of conditions.
 
 use crate::answers::{Table, reports, wrong_row};
-use crate::texts::{CONCAT, NODE, NOP, REUSE, REVERSE, SKIP};
+use gh_texts::{CONCAT, NODE, NOP, REUSE, REVERSE, SKIP};
 use gh_top::status::Status;
 use std::alloc::AllocError;
 

@@ -1,7 +1,7 @@
 //! Texts that don't parse or break a type rule, with the refusals that are named.
 
 use crate::answers::{Table, reports, wrong_row};
-use crate::texts::NODE;
+use gh_texts::NODE;
 use gh_top::status::Status;
 use std::alloc::AllocError;
 

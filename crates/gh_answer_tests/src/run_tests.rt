@@ -1,9 +1,9 @@
 //! Words, sizes of files, and calls that fail.
 
 use crate::answers::{answers, reports};
-use crate::texts::NOP;
 use gh_base::memory::MemoryInputs;
 use gh_base::sink::MemorySink;
+use gh_texts::NOP;
 use gh_top::run::run;
 use gh_top::status::Status;
 use gh_top::words::Words;

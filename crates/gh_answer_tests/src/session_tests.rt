@@ -1,7 +1,7 @@
 //! The mode `session`.
 
 use crate::answers::{answers, reports};
-use crate::texts::NOP;
+use gh_texts::NOP;
 use gh_top::status::Status;
 use std::alloc::AllocError;
 

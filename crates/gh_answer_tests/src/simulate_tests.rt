@@ -1,7 +1,7 @@
 //! What `run` answers for worked programs and state files.
 
 use crate::answers::answers;
-use crate::texts::{DROP, REVERSE, SECOND};
+use gh_texts::{DROP, REVERSE, SECOND};
 use gh_top::status::Status;
 use std::alloc::{AllocError, Global};
 

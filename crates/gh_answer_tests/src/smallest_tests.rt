@@ -1,7 +1,7 @@
 //! What `smallest` answers for worked programs.
 
 use crate::answers::{answer, reports};
-use crate::texts::{CUT, DROP, LAST, NOP, RING, SECOND};
+use gh_texts::{CUT, DROP, LAST, NOP, RING, SECOND};
 use gh_top::status::Status;
 use std::alloc::{AllocError, Global};
 

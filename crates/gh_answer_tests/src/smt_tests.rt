@@ -1,7 +1,7 @@
 //! The mode `smt`.
 
 use crate::answers::answers;
-use crate::texts::{NOP, wide};
+use gh_texts::{NOP, wide};
 use gh_top::status::Status;
 use std::alloc::AllocError;
 

@@ -1,7 +1,7 @@
 //! Generated programs.
 
 use crate::answers::answers;
-use crate::texts::REVERSE;
+use gh_texts::REVERSE;
 use gh_top::status::Status;
 use gh_top::stress::stress_text;
 use std::alloc::AllocError;

@@ -1,15 +1,9 @@
 //! Ground clauses of programs, counted by hand.
 
 use crate::encoded::{Expected, Row, Word, are};
-use crate::symbolic_tests::{CASES, REUSE, TWICE, WALK};
+use crate::symbolic_tests::{CASES, TWICE, WALK};
+use gh_texts::{CONCAT, NOP, REUSE, REVERSE};
 use std::alloc::AllocError;
-
-const NOP: &[u8] = b"struct Node { var next: Node; }
-procedure nop()
-  requires emp
-  ensures emp
-{ }
-";
 
 const NOP_CLAUSES: [&[Word]; 25] = [
     &[Word::NotA],
@@ -38,31 +32,6 @@ const NOP_CLAUSES: [&[Word]; 25] = [
     &[Word::D(8), Word::NotD(5), Word::NotD(7)],
     &[Word::NotD(8)],
 ];
-
-// Five conditions from two starts.
-pub(crate) const REVERSE: &[u8] = b"struct Node { var next: Node; }
-procedure reverse(x: Node) returns (y: Node)
-  requires lseg(x, null)
-  ensures lseg(y, null)
-{
-  var c, t: Node;
-  c := x;
-  y := null;
-  while (c != null)
-    invariant lseg(y, null) &*& lseg(c, null)
-  { t := c.next; c.next := y; y := c; c := t; }
-}
-";
-
-const CONCAT: &[u8] = b"struct Node { var next: Node; }
-procedure concat(a: Node, b: Node) returns (r: Node)
-  requires lseg(a, null) &*& lseg(b, null)
-  ensures lseg(r, null)
-{
-  var n: Node;
-  if (a == null) { return b; } else { n := concat(a.next, b); a.next := n; return a; }
-}
-";
 
 // The definitions and clauses are counted from the shapes of the formulas. `And` or `Or` of k members
 // makes 1 definition and k + 1 clauses, `Iff` 1 and 4, an atom none, and each formula that is stated

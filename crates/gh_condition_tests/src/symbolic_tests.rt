@@ -1,6 +1,7 @@
 //! Conditions over terms of programs.
 
 use crate::encoded::{Asked, Encoded, Expected, Made, NONE, Part, Row, StepEncoding, are};
+use gh_texts::REUSE;
 use std::alloc::AllocError;
 
 const DEREF: &[u8] = b"struct Node { var next: Node; }
@@ -53,13 +54,6 @@ const LINK: &[u8] = b"struct Node { var next: Node; }
 procedure link(x: Node, y: Node) returns (z: Node)
   requires acc(x) &*& y.next |-> x
 { x.next := y.next; z := x.next; }
-";
-
-pub(crate) const REUSE: &[u8] = b"struct Node { var next: Node; }
-procedure reuse(x: Node) returns (y: Node)
-  requires acc(x)
-  ensures acc(y) &*& x != y
-{ free x; y := new Node; }
 ";
 
 const LINK_ENCODED: Encoded<'static> = Encoded {

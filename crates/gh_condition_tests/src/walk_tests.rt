@@ -1,12 +1,12 @@
 //! The walk over all conditions of a program beside each condition by its number.
 
-use crate::ground_tests::REVERSE;
 use gh_ast::typed::Typed;
 use gh_parse::parse::parse;
 use gh_path::condition::Condition;
 use gh_path::conditions::Conditions;
 use gh_path::listing::conditions;
 use gh_path::walk::Walk;
+use gh_texts::REVERSE;
 use gh_types::check::check;
 use std::alloc::{AllocError, Global};
 

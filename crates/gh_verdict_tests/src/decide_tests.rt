@@ -10,8 +10,6 @@ ghost use Rattle.gh_path.specs.Kept.{StandsFor};
 ghost use Rattle.gh_symb.specs.Encoded.{IsSymbolic};
 ghost use Rattle.gh_trace.specs.Kept.{IsOne};
 
-use crate::machine_tests::SECOND;
-use crate::replay_tests::{CUT, DROP, LAST, REUSE};
 use gh_ast::typed::Typed;
 use gh_decide::decide::{Verdict, decide, over_terms};
 use gh_decide::direct::Direct;
@@ -24,6 +22,7 @@ use gh_path::listing::conditions;
 use gh_reduce::ground::ground;
 use gh_symb::admit::admit;
 use gh_symb::over_terms::Symbolic;
+use gh_texts::{CUT, DROP, FAULTY, LAST, REUSE, RING, SECOND};
 use gh_trace::decider::Decider;
 use gh_trace::replay::{ReplayError, replay};
 use gh_trace::state::Trace;
@@ -200,28 +199,6 @@ procedure second(x: Node) returns (y: Node)
 {
   y := x.next;
 }
-";
-
-const FAULTY: &[u8] = b"struct Node { var next: Node; }
-procedure fine()
-{ }
-procedure bad(x: Node)
-  requires lseg(x, null)
-  ensures lseg(x, null)
-{
-  free x;
-}
-procedure worse(x: Node)
-{
-  x.next := x;
-}
-";
-
-const RING: &[u8] = b"struct Node { var next: Node; }
-procedure ring(x: Node, y: Node)
-  requires x != y &*& lseg(x, y) &*& lseg(y, x)
-  ensures lseg(x, x)
-{ }
 ";
 
 const ROWS: [Row<'static>; 9] = [

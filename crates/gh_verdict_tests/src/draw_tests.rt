@@ -2,27 +2,13 @@
 
 ghost use Rattle.std.specs.Prelude.{◌<◌, ◌^◌, ◌-◌, length};
 
-use crate::replay_tests::DROP;
 use gh_draw::drawing::draw;
 use gh_draw::reading::read_drawing;
 use gh_parse::parse::parse;
 use gh_path::listing::conditions;
+use gh_texts::{DROP, DROPPED};
 use gh_types::check::check;
 use std::alloc::{AllocError, Global};
-
-const DROPPED: &[u8] = b"drawing
-condition 2
-state 0
-store x=1 y=0
-heap 1->0
-state 1
-store x=1 y=0
-heap 1->0
-state 2
-store x=1 y=0
-heap 1->0
-end
-";
 
 // Cells and values of ten digits, after lines that are skipped.
 const WIDE: &[u8] = b"drawing of a list

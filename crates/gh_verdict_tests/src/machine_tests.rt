@@ -4,12 +4,12 @@ ghost use Rattle.std.specs.Prelude.{IfOk, IfSome};
 ghost use Rattle.gh_ast.specs.Plain.{program_of};
 ghost use Rattle.gh_machine.specs.Configs.{IsMadeFor};
 
-use crate::replay_tests::REUSE;
 use gh_assert::heap::Heap;
 use gh_ast::typed::Typed;
 use gh_machine::config::Config;
 use gh_machine::step::{Choice, Next, step};
 use gh_parse::parse::parse;
+use gh_texts::{REUSE, SECOND};
 use gh_types::check::check;
 use std::alloc::{AllocError, Global};
 
@@ -121,13 +121,6 @@ fn comes(alloc: Global, run: &Run) -> Result<bool, AllocError> {
 }
 
 const ANY: Chosen<'static> = (9, 0, &[]);
-
-pub(crate) const SECOND: &[u8] = b"struct Node { var next: Node; }
-procedure second(x: Node) returns (y: Node)
-  requires lseg(x, null)
-  ensures lseg(x, null)
-{ y := x.next; }
-";
 
 #[test]
 fn a_read_and_a_freed_place(rt: HostRuntime) -> Result<(), AllocError> {

@@ -7,6 +7,7 @@ use gh_assert::store::Store;
 use gh_ast::{Occ, Procedure};
 use gh_parse::parse::parse;
 use gh_path::listing::conditions;
+use gh_texts::{CUT, DROP, LAST, OUTER, REUSE};
 use gh_trace::replay::{ReplayError, replay};
 use gh_trace::state::{State, Trace};
 use gh_types::check::check;
@@ -84,13 +85,6 @@ fn ends(alloc: Global, text: &[u8], number: u32, drawn: &[Drawn]) -> Result<u16,
     }
 }
 
-pub(crate) const DROP: &[u8] = b"struct Node { var next: Node; }
-procedure drop(x: Node) returns (y: Node)
-  requires x != null &*& lseg(x, null)
-  ensures lseg(y, null)
-{ y := x.next; }
-";
-
 #[test]
 fn a_leak(rt: HostRuntime) -> Result<(), AllocError> {
     let alloc = rt.alloc();
@@ -111,43 +105,6 @@ fn a_leak(rt: HostRuntime) -> Result<(), AllocError> {
     );
     Ok(())
 }
-
-pub(crate) const CUT: &[u8] = b"struct Node { var next: Node; }
-procedure cut(x: Node)
-  requires x != null &*& lseg(x, null)
-  ensures x.next |-> null
-{ x.next := null; }
-";
-
-pub(crate) const LAST: &[u8] = b"struct Node { var next: Node; }
-procedure last(x: Node) returns (y: Node)
-  requires lseg(x, null)
-  ensures lseg(x, null)
-{
-  y := x;
-  while (y != null)
-    invariant lseg(y, null)
-  { y := y.next; }
-}
-";
-
-const OUTER: &[u8] = b"struct Node { var next: Node; }
-procedure touch(a: Node) returns (b: Node)
-  requires lseg(a, null)
-  ensures lseg(b, null)
-{ b := a; }
-procedure outer(x: Node, n: Node) returns (r: Node)
-  requires x.next |-> n &*& lseg(n, null)
-  ensures lseg(x, null)
-{ r := touch(n); }
-";
-
-pub(crate) const REUSE: &[u8] = b"struct Node { var next: Node; }
-procedure reuse(x: Node) returns (y: Node)
-  requires acc(x)
-  ensures acc(y) &*& x != y
-{ free x; y := new Node; }
-";
 
 #[test]
 fn a_write_a_loop_a_call_and_a_new_cell(rt: HostRuntime) -> Result<(), AllocError> {

@@ -1,11 +1,10 @@
 //! Concrete runs of worked programs from state files.
 
-use crate::machine_tests::SECOND;
-use crate::replay_tests::DROP;
 use gh_draw::drawing::state_lines;
 use gh_parse::parse::parse;
 use gh_run::simulate::{Report, simulate};
 use gh_run::state_file::{StateError, read_state};
+use gh_texts::{DROP, SECOND};
 use gh_trace::state::State;
 use gh_types::check::check;
 use std::alloc::{AllocError, Global};

@@ -7,7 +7,6 @@ ghost use Rattle.gh_ast.specs.Rules.{IsTyped};
 ghost use Rattle.gh_path.specs.Admitted.{IsAdmitted};
 ghost use Rattle.gh_trace.specs.Kept.{IsOne};
 
-use crate::replay_tests::CUT;
 use gh_ast::typed::Typed;
 use gh_base::ground::Ground;
 use gh_check::check::check_log;
@@ -23,6 +22,7 @@ use gh_reduce::ground::ground;
 use gh_small::bounding::{bounded, copied, has_room};
 use gh_small::smallest::smallest;
 use gh_symb::admit::admit;
+use gh_texts::CUT;
 use gh_types::check::check;
 use std::alloc::{AllocError, Global};
 

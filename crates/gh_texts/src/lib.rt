@@ -1,21 +1,22 @@
-//! Worked programs.
+//! Worked programs, a log and a drawing, as texts, which several crates of tests share.
+#![tactic(auto)]
 
 use std::alloc::{AllocError, Global};
 
-// No procedure.
-pub(crate) const NODE: &[u8] = b"struct Node { var next: Node; }
+/// No procedure.
+pub const NODE: &[u8] = b"struct Node { var next: Node; }
 ";
 
-// Nothing is done.
-pub(crate) const NOP: &[u8] = b"struct Node { var next: Node; }
+/// Nothing is done.
+pub const NOP: &[u8] = b"struct Node { var next: Node; }
 procedure nop()
   requires emp
   ensures emp
 { }
 ";
 
-// A log of it.
-pub(crate) const LOG: &[u8] = b"grass log 1
+/// A log of it.
+pub const LOG: &[u8] = b"grass log 1
 condition 1
 g 0
 g 15
@@ -26,8 +27,8 @@ g 24
 l
 ";
 
-// A list is reversed.
-pub(crate) const REVERSE: &[u8] = b"struct Node { var next: Node; }
+/// A list is reversed.
+pub const REVERSE: &[u8] = b"struct Node { var next: Node; }
 procedure reverse(x: Node) returns (y: Node)
   requires lseg(x, null)
   ensures lseg(y, null)
@@ -46,8 +47,8 @@ procedure reverse(x: Node) returns (y: Node)
 }
 ";
 
-// Two lists are joined, by recursion.
-pub(crate) const CONCAT: &[u8] = b"struct Node { var next: Node; }
+/// Two lists are joined, by recursion.
+pub const CONCAT: &[u8] = b"struct Node { var next: Node; }
 procedure concat(a: Node, b: Node) returns (r: Node)
   requires lseg(a, null) &*& lseg(b, null)
   ensures lseg(r, null)
@@ -63,8 +64,8 @@ procedure concat(a: Node, b: Node) returns (r: Node)
 }
 ";
 
-// A read that may be of null.
-pub(crate) const SECOND: &[u8] = b"struct Node { var next: Node; }
+/// A read that may be of null.
+pub const SECOND: &[u8] = b"struct Node { var next: Node; }
 procedure second(x: Node) returns (y: Node)
   requires lseg(x, null)
   ensures lseg(x, null)
@@ -73,8 +74,8 @@ procedure second(x: Node) returns (y: Node)
 }
 ";
 
-// The first cell is dropped and not freed.
-pub(crate) const DROP: &[u8] = b"struct Node { var next: Node; }
+/// The first cell is dropped and not freed.
+pub const DROP: &[u8] = b"struct Node { var next: Node; }
 procedure drop(x: Node) returns (y: Node)
   requires x != null &*& lseg(x, null)
   ensures lseg(y, null)
@@ -83,8 +84,23 @@ procedure drop(x: Node) returns (y: Node)
 }
 ";
 
-// The old content of a written cell leaks.
-pub(crate) const CUT: &[u8] = b"struct Node { var next: Node; }
+/// A drawing of its counterexample.
+pub const DROPPED: &[u8] = b"drawing
+condition 2
+state 0
+store x=1 y=0
+heap 1->0
+state 1
+store x=1 y=0
+heap 1->0
+state 2
+store x=1 y=0
+heap 1->0
+end
+";
+
+/// The old content of a written cell leaks.
+pub const CUT: &[u8] = b"struct Node { var next: Node; }
 procedure cut(x: Node)
   requires x != null &*& lseg(x, null)
   ensures x.next |-> null
@@ -93,8 +109,8 @@ procedure cut(x: Node)
 }
 ";
 
-// The invariant forgets what was walked.
-pub(crate) const LAST: &[u8] = b"struct Node { var next: Node; }
+/// The invariant forgets what was walked.
+pub const LAST: &[u8] = b"struct Node { var next: Node; }
 procedure last(x: Node) returns (y: Node)
   requires lseg(x, null)
   ensures lseg(x, null)
@@ -108,8 +124,8 @@ procedure last(x: Node) returns (y: Node)
 }
 ";
 
-// A call on one of two lists.
-pub(crate) const BOTH: &[u8] = b"struct Node { var next: Node; }
+/// A call on one of two lists.
+pub const BOTH: &[u8] = b"struct Node { var next: Node; }
 procedure touch(a: Node) returns (b: Node)
   requires lseg(a, null)
   ensures lseg(b, null)
@@ -124,8 +140,8 @@ procedure both(x: Node, y: Node) returns (r: Node)
 }
 ";
 
-// A cell that is kept leads into the list that the callee rebuilds.
-pub(crate) const OUTER: &[u8] = b"struct Node { var next: Node; }
+/// A cell that is kept leads into the list that the callee rebuilds.
+pub const OUTER: &[u8] = b"struct Node { var next: Node; }
 procedure touch(a: Node) returns (b: Node)
   requires lseg(a, null)
   ensures lseg(b, null)
@@ -140,8 +156,8 @@ procedure outer(x: Node, n: Node) returns (r: Node)
 }
 ";
 
-// Two faulty procedures, and contracts that are missing.
-pub(crate) const FAULTY: &[u8] = b"struct Node { var next: Node; }
+/// Two faulty procedures, and contracts that are missing.
+pub const FAULTY: &[u8] = b"struct Node { var next: Node; }
 procedure fine()
 { }
 procedure bad(x: Node)
@@ -156,16 +172,16 @@ procedure worse(x: Node)
 }
 ";
 
-// A cycle isn't an empty segment.
-pub(crate) const RING: &[u8] = b"struct Node { var next: Node; }
+/// A cycle isn't an empty segment.
+pub const RING: &[u8] = b"struct Node { var next: Node; }
 procedure ring(x: Node, y: Node)
   requires x != y &*& lseg(x, y) &*& lseg(y, x)
   ensures lseg(x, x)
 { }
 ";
 
-// What is required is met by no heap.
-pub(crate) const TWICE: &[u8] = b"struct Node { var next: Node; }
+/// What is required is met by no heap.
+pub const TWICE: &[u8] = b"struct Node { var next: Node; }
 procedure twice(x: Node, y: Node, z: Node)
   requires x.next |-> y &*& x.next |-> z
   ensures emp
@@ -175,8 +191,8 @@ procedure twice(x: Node, y: Node, z: Node)
 }
 ";
 
-// A freed place may come back.
-pub(crate) const REUSE: &[u8] = b"struct Node { var next: Node; }
+/// A freed place may come back.
+pub const REUSE: &[u8] = b"struct Node { var next: Node; }
 procedure reuse(x: Node) returns (y: Node)
   requires acc(x)
   ensures acc(y) &*& x != y
@@ -186,8 +202,8 @@ procedure reuse(x: Node) returns (y: Node)
 }
 ";
 
-// A test stops early.
-pub(crate) const SKIP: &[u8] = b"struct Node { var next: Node; }
+/// A test stops early.
+pub const SKIP: &[u8] = b"struct Node { var next: Node; }
 procedure skip(x: Node)
   requires lseg(x, null)
   ensures lseg(x, null)
@@ -202,8 +218,8 @@ procedure skip(x: Node)
 }
 ";
 
-// A procedure whose parameters are all equal, up to the one of a number.
-pub(crate) fn wide(alloc: Global, last: u8) -> Result<Vec<u8>, AllocError> {
+/// A procedure whose parameters are all equal, up to the one of a number.
+pub fn wide(alloc: Global, last: u8) -> Result<Vec<u8>, AllocError> {
     let mut text = Vec::from_slice(alloc, NODE)?;
     text.extend_from_slice(b"procedure wide(a1: Node")?;
     for number in 2..u32::from(last) + 1 {
