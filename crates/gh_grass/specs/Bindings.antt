@@ -1,5 +1,5 @@
 -- Names with terms, as a list.
-use Rattle.std.specs.Prelude.{◌≡◌, ◌≢◌, ℕ, ◌<◌, List, length, slice_index_or, [], ◌∷◌, ◌++◌, map, Contains, Option, Some, None, cond, AllPairs, Bool, false, ◌==◌, ◌&&◌, position, unwrap_or}
+use Rattle.std.specs.Prelude.{◌≡◌, ◌≢◌, ℕ, ◌<◌, List, length, slice_index_or, [], ◌∷◌, ◌++◌, map, Contains, Option, Some, None, cond, AllPairs, Bool, false, ◌==◌, ◌&&◌, position, slice_get, unwrap_or}
 use Rattle.std.specs.Str.{bytes_eq}
 use Rattle.gh_base.specs.declared.atom.Term.{Term}
 use Rattle.gh_base.specs.declared.term.TermKind.{TermKind}
@@ -36,6 +36,14 @@ term k = record { 0 = k }
 -- the term of a name; one without a term counts as null
 abbrev pub bound_term : List Bond → Name → Term
 bound_term bs name = unwrap_or (term_in bs name) (term 0)
+
+-- no kind stands twice
+abbrev pub AreDistinctKinds : List TermKind → Type 0
+AreDistinctKinds ks = AllPairs (λ j k. j ≢ k) ks
+
+-- no term but this one is of the kind
+abbrev pub IsOnlyAt : List TermKind → TermKind → ℕ → Type 0
+IsOnlyAt ks kind place = (t : ℕ) → slice_get ks t ≡ Some kind → t ≡ place
 
 -- a kind that wasn't there is added last
 abbrev pub AddsNew : List TermKind → List TermKind → TermKind → Type 0

@@ -2,7 +2,7 @@
 
 ghost use Rattle.std.specs.Prelude.{◌≡◌, ◌<◌, ◌∷◌, [], length, Some, slice_get, IfOk, OnErr, IfSome, IfNone, Contains, unwrap_or};
 ghost use Rattle.gh_base.specs.declared.term.TermKind.TheVariants.{Null, Next};
-ghost use Rattle.gh_grass.specs.Bindings.{term, next_term, AddsNew};
+ghost use Rattle.gh_grass.specs.Bindings.{term, next_term, AddsNew, AreDistinctKinds, IsOnlyAt};
 
 use gh_base::atom::Term;
 use gh_base::term::TermKind;
@@ -21,12 +21,14 @@ impl Model for TermList {
     ghost use Rattle.std.specs.Prelude.{◌≡◌, ◌<◌, List, length, Some, slice_get};
     ghost use Rattle.gh_base.specs.declared.term.TermKind.{TermKind};
     ghost use Rattle.gh_base.specs.declared.term.TermKind.TheVariants.{Null};
+    ghost use Rattle.gh_grass.specs.Bindings.{AreDistinctKinds};
 
     ghost Value = { List TermKind };
 
     ghost view = { λ t. t.kinds.keys };
 
-    ghost invariant = { λ t. (length t.kinds.keys < 256) × (slice_get t.kinds.keys 0 ≡ Some Null) };
+    ghost invariant = { λ t.
+        (length t.kinds.keys < 256) × (slice_get t.kinds.keys 0 ≡ Some Null) × AreDistinctKinds t.kinds.keys };
 }
 
 impl TermList {
@@ -46,9 +48,17 @@ impl TermList {
         self.kinds.len() as u8
     }
 
-    /// The kind of a term, which is none where the term isn't below the count.
+    /// No kind stands twice.
+    pub fn sound(&self)
+        ensures { AreDistinctKinds self.now }
+    {
+        let _ = &self.kinds;
+    }
+
+    /// The kind of a term, which is none where the term isn't below the count. Two terms of one kind are one term.
     pub fn kind(&self, term: Term) -> Option<TermKind>
-        ensures { result ≡ slice_get self.now term.0 }
+        ensures value { result ≡ slice_get self.now term.0 }
+        ensures only { IfSome result (λ kind. IsOnlyAt self.now kind term.0) }
     {
         self.kinds.get_index(term.0 as usize).copied()
     }

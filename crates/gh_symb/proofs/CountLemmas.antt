@@ -14,6 +14,7 @@ use Rattle.gh_path.specs.Conditions.{Condition}
 use Rattle.gh_path.specs.declared.condition.PathStep as kept_step
 use Rattle.gh_path.specs.declared.condition.Condition as kept_condition
 use Rattle.gh_path.specs.Terms.{Kind, Terms, walked, steps_walked, check_walked, condition_walked, terms_of, no_terms}
+use Rattle.gh_symb.specs.Settings.{IsWithin}
 use Rattle.gh_symb.specs.Steps.{IsStepped, EndsWith}
 use Rattle.gh_symb.specs.Remaining.{Remains}
 use Rattle.gh_symb.proofs.GrowLemmas.{size, steps_grow, check_grows}
@@ -26,13 +27,6 @@ its_procedure P ps n q p same is at =
     let there : slice_get (map procedure_of ps) n ≡ Some p = ap (λ xs. slice_get (map procedure_of xs) n) same ∙ at in
     let here : get_or (map procedure_of ps) n (procedure_of q) ≡ p = get_or_from_slice_get (map procedure_of ps) n p (procedure_of q) there in
     ap procedure_of is ∙ sym (get_or-map procedure_of ps n q) ∙ here
-
--- what a kept condition says of a condition of the procedure
-pub record IsWithin (P : Program) (p : Procedure) (r : kept_condition.Condition) (c : Condition) : Type 0 where
-  pub same : p ≡ c.procedure
-  pub start : IsStart p r.start c.start
-  pub steps : AreSteps P p r.steps.items c.way.steps
-  pub check : IsCheck P p r.check c.way.check
 
 -- the procedure at the number of a kept condition is that of the condition
 pub within_its : (P Q : whole_program.Program) (r : kept_condition.Condition) (q : whole.Procedure) (c : Condition) → Q ≡ P → q ≡ get_or Q.procedures.items r.procedure q

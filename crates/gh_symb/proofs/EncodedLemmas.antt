@@ -1,12 +1,14 @@
 -- A condition over terms that is encoded has its plain value.
-use Rattle.std.specs.Prelude.{◌≡◌, ℕ, List, [], ◌∷◌, map}
-use Rattle.std.proofs.Common.{refl, sym, ◌∙◌, ap, subst}
+use Rattle.std.specs.Prelude.{◌≡◌, ℕ, suc, ◌+◌, List, [], ◌∷◌, length, map}
+use Rattle.std.proofs.Common.{refl, sym, ◌∙◌, ap, subst, arith}
 use Rattle.gh_ast.specs.Plain.{Program}
 use Rattle.gh_path.specs.Conditions.{Condition}
-use Rattle.gh_path.specs.Terms.{Bindings, Kind}
+use Rattle.gh_ast.specs.Programs.{Name, variable_names}
+use Rattle.gh_path.specs.Graphs.{Check, PathStep}
+use Rattle.gh_path.specs.Terms.{Bindings, Kind, Terms, walked, no_terms, step_walked}
 use Rattle.gh_grass.specs.declared.binding.Bond.{Bond}
 use Rattle.gh_symb.specs.Symbolic as plain
-use Rattle.gh_symb.specs.Symbolic.{parts, sub, whole, symbolic_of}
+use Rattle.gh_symb.specs.Symbolic.{parts, sub, whole, symbolic_of, state_bindings, term_steps}
 use Rattle.gh_symb.specs.Encodings.{Each, IsBinding, IsUnder, IsTermStep, IsTermCheck}
 use Rattle.gh_symb.specs.Encoded.{IsSymbolic}
 use Rattle.gh_symb.specs.declared.over_terms.Bound.{Bound}
@@ -55,6 +57,27 @@ check_is (check.Whole bs) p h = ap whole (all_same IsUnder under_of under_is bs.
 
 binding_is : (bonds : List Bond) (b : Bindings) → IsBinding bonds b → binding_of bonds ≡ b
 binding_is bonds b h = same_function (binding_of bonds) b h
+
+pub same_length : {A B : Type 0} (R : A → B → Type 0) (as' : List A) (bs : List B) → Each R as' bs → length as' ≡ length bs
+same_length R [] [] each = refl
+same_length R [] (b ∷ bs) each = absurd each
+same_length R (a ∷ as') [] each = absurd each
+same_length R (a ∷ as') (b ∷ bs) each = ap suc (same_length R as' bs each.1)
+
+one_more_state : (P : Program) (xs : List Name) (ps : List PathStep) (k : Check) (s : Terms) → length (state_bindings P xs ps k s) ≡ length (term_steps P xs ps s) + 1
+one_more_state P xs [] k s = refl
+one_more_state P xs (p ∷ ps) k s =
+    let rest = one_more_state P xs ps k (step_walked P xs p s) in
+    omega (arith, rest)
+
+-- a condition over terms has one state more than steps
+pub states_of_steps : (P : Program) (c : Condition) (steps : List TermStep) (bindings : List (List Bond)) →
+    Each IsTermStep steps (symbolic_of P c).steps → Each IsBinding bindings (symbolic_of P c).bindings → length bindings ≡ length steps + 1
+states_of_steps P c steps bindings each_step each_binding =
+    let xs = variable_names c.procedure in
+    same_length IsBinding bindings (symbolic_of P c).bindings each_binding
+    ∙ one_more_state P xs c.way.steps c.way.check (walked c.start.meets no_terms)
+    ∙ ap (λ n. n + 1) (sym (same_length IsTermStep steps (symbolic_of P c).steps each_step))
 
 pub encoded_is : (P : Program) (c : Condition) (s : Symbolic) → IsSymbolic P c s → plain_of s ≡ symbolic_of P c
 encoded_is P c s h =

@@ -10,7 +10,7 @@ use Rattle.gh_path.specs.Graphs.{Loop, looped}
 use Rattle.gh_path.specs.Terms.{Terms, walked, moved_on, rebound, renewed, some_assigns, bound_inside}
 use Rattle.gh_symb.specs.Symbolic.{Under, under, each_under, parts, call_parts, needs_under, accessed, assumed, written, made, freed, access, sub, whole}
 use Rattle.gh_symb.specs.Encodings.{Each, IsUnder}
-use Rattle.gh_symb.specs.Fitting.{EncodesUnder, EncodesStep, EncodesCheck}
+use Rattle.gh_symb.specs.Fitting.{EncodesUnder, EncodesStep, EncodesCheck, IsTermOf, JoinsParts}
 use Rattle.gh_symb.specs.Inside.{IsUnderInside}
 use Rattle.gh_symb.specs.Phases.{under_bindings, step_encoding}
 use Rattle.gh_symb.specs.declared.over_terms.Bound.{Bound}
@@ -18,10 +18,6 @@ use Rattle.gh_symb.specs.declared.over_terms.TermStep.{TermStep}
 use Rattle.gh_symb.specs.declared.over_terms.TermStep.TheVariants as step
 use Rattle.gh_symb.specs.declared.over_terms.TermCheck.TheVariants as check
 use Rattle.gh_symb.proofs.FollowLemmas.{each_more}
-
--- a term of 8 bits is that of its number
-abbrev pub IsTermOf : Term → ℕ → Type 0
-IsTermOf x n = n < 256 → x.0 ≡ n
 
 pub accessed_encoded : (x : Term) (n : ℕ) → IsTermOf x n → EncodesStep (step.Access x) (accessed n)
 accessed_encoded x n at = λ fits. ap accessed (sym (at fits.0))
@@ -69,9 +65,6 @@ whole_encoded ways us each = λ fits. (us, each_fits ways.items us each fits, re
 
 pub one_whole : (b : Bound) (ways : Vec Bound Global) (u : Under) → ways.items ≡ b ∷ [] → EncodesUnder b u → EncodesCheck (check.Whole ways) (whole (u ∷ []))
 one_whole b ways u is one = whole_encoded ways (u ∷ []) (subst (λ (bs : List Bound). Each EncodesUnder bs (u ∷ [])) (sym is) (one, tt))
-
-abbrev pub JoinsParts : Bound → Bound → TermStep → Type 0
-JoinsParts before after encoded = (u w : Under) → EncodesUnder before u → EncodesUnder after w → EncodesStep encoded (parts u (w ∷ []))
 
 pub loop_encoded : (P : Program) (xs : List Name) (l : Loop) (s r : Terms) (before after : Bound) (encoded : TermStep) →
     EncodesUnder before (under_bindings l.invariant s.bindings s.version) → r ≡ renewed (filter (some_assigns l.body) xs) (moved_on s) → EncodesUnder after (under l.invariant r) →

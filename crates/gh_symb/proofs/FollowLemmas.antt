@@ -1,5 +1,5 @@
 -- A condition is encoded step by step.
-use Rattle.std.specs.Prelude.{◌≡◌, ℕ, ◌+◌, ◌<◌, List, [], ◌∷◌, ◌++◌, map, filter, Option, Some, None, unwrap_or}
+use Rattle.std.specs.Prelude.{◌≡◌, ℕ, ◌+◌, ◌<◌, List, [], ◌∷◌, ◌++◌, length, map, filter, Option, Some, None, unwrap_or}
 use Rattle.std.proofs.Common.{refl, sym, ◌∙◌, ap, subst}
 use Rattle.std.proofs.lemmas.List.{append_assoc, append-nil}
 use Rattle.gh_ast.specs.Plain.{Procedure, Program}
@@ -8,7 +8,7 @@ use Rattle.gh_path.specs.Graphs.{PathStep, accessed, assume, assigned, made, wri
 use Rattle.gh_path.specs.Kept.{AreSteps}
 use Rattle.gh_path.specs.Conditions.{Condition}
 use Rattle.gh_path.specs.declared.condition.PathStep as kept_step
-use Rattle.gh_path.specs.Terms.{Bindings, Terms, moved_on, renewed, some_assigns, step_walked, steps_walked, check_walked, condition_walked, no_terms}
+use Rattle.gh_path.specs.Terms.{Bindings, Terms, moved_on, renewed, some_assigns, step_walked, steps_walked, check_walked, condition_walked, no_terms, terms_of, versions_of}
 use Rattle.gh_grass.specs.declared.binding.Bond.{Bond}
 use Rattle.gh_symb.specs.Symbolic as plain
 use Rattle.gh_symb.specs.Symbolic.{under, term_step, term_steps, term_check, step_used, check_used, used_first, first_use, either_term, state_bindings}
@@ -16,8 +16,9 @@ use Rattle.gh_symb.specs.Encodings.{Each}
 use Rattle.gh_symb.specs.Fitting.{EncodesBinding, EncodesUnder, EncodesStep, EncodesCheck}
 use Rattle.gh_symb.specs.Walked.{IsWalked}
 use Rattle.gh_symb.specs.Phases.{under_bindings, step_done, step_encoding, IsUsed, learned, both}
-use Rattle.gh_symb.specs.Steps.{EndsWith}
+use Rattle.gh_symb.specs.Steps.{EndsWith, IsCount, IsStepped}
 use Rattle.gh_symb.specs.StepEncodings.{IsFinished, IsStepEncoding}
+use Rattle.gh_symb.specs.Remaining.{Remains}
 use Rattle.gh_symb.specs.Following.{met, known, begins, first_uses, Follows, Followed}
 use Rattle.gh_symb.specs.declared.over_terms.TermStep.{TermStep}
 use Rattle.gh_symb.specs.declared.symbolic.Walked.{Walked}
@@ -40,6 +41,10 @@ done_walked P xs (freed x) s = refl
 done_walked P xs (called ys f es) s = refl
 done_walked P xs (looped l) s = refl
 done_walked P xs (answered ys es) s = refl
+
+-- a step whose variables are used and which is then done is walked
+pub stepped : (P : Program) (p : Procedure) (r : kept_step.PathStep) (s t u : Terms) → IsUsed P p r s t → IsFinished P p r t u → IsStepped P p r s u
+stepped P p r s t u uses does = λ step is. does step is ∙ ap (step_done P (variable_names p) step) (uses step is) ∙ done_walked P (variable_names p) step s
 
 encoding_is : (P : Program) (xs : List Name) (p : PathStep) (s t : Terms) → t ≡ step_used p s → t.version ≡ s.version → step_encoding P xs p t ≡ term_step P xs p s
 encoding_is P xs (accessed o) s t e v = ap (step_encoding P xs (accessed o)) e
@@ -194,16 +199,23 @@ gone_on_to P p r rs c s t u firsts learns states after encoded later one left us
 -- a walk to the end of a condition
 pub is_walked : (P : Program) (p : Procedure) (c : Condition) (s : Terms) (firsts : Bindings) (states : List Bindings) (w : Walked) → p ≡ c.procedure →
     Followed P p c s firsts states w.steps.items → EndsWith (check_walked P c.way.check s) w.kinds w.version → EncodesCheck w.check (term_check P c.way.check s) →
-    EncodesUnder w.start (under c.start.meets no_terms) → Each EncodesBinding w.bindings.items (map (λ b. both b firsts) states) → IsWalked P c w
-is_walked P p c s firsts states w same followed ends asks starts binds =
+    EncodesUnder w.start (under c.start.meets no_terms) → Each EncodesBinding w.bindings.items (map (λ b. both b firsts) states) →
+    (length (terms_of P c) ≡ length w.kinds → versions_of P c ≡ w.version + 1 → IsCount P c w.counts) → IsWalked P c w
+is_walked P p c s firsts states w same followed ends asks starts binds counts =
     let f : Followed P c.procedure c s firsts states w.steps.items = subst (λ q. Followed P q c s firsts states w.steps.items) same followed in
     let whole : EndsWith (condition_walked P c) w.kinds w.version = subst (λ q. EndsWith (check_walked P c.way.check q) w.kinds w.version) f.last ends in
     record {
       kinds_are = whole.kinds_are;
       versions_are = ap (λ v. v + 1) whole.version_is;
+      counts_are = counts (ap length (sym whole.kinds_are)) (ap (λ v. v + 1) (sym whole.version_is));
       start_is = starts;
       steps_are = f.are_encodings;
       check_is = subst (λ q. EncodesCheck w.check (term_check P c.way.check q)) f.last asks;
       bindings_are = bindings_encoded P (variable_names c.procedure) c firsts w.bindings.items f.first
           (subst (λ ms. Each EncodesBinding w.bindings.items (map (λ b. both b firsts) ms)) f.meet binds);
     }
+
+-- what is left to walk
+pub remains : (P : Program) (p : Procedure) (kept : List kept_step.PathStep) (c : Condition) (s : Terms) (firsts : Bindings) (states : List Bindings) (encoded : List TermStep) →
+    Follows P p kept c s firsts states encoded → Remains P p kept c s
+remains P p kept c s firsts states encoded follows = record { steps = follows.steps; are_left = follows.are_left; lead = follows.lead }

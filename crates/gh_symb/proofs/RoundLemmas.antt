@@ -13,12 +13,8 @@ use Rattle.gh_ast.specs.Plain.{test_of, formula_of, statement_of, statements_vie
 use Rattle.gh_ast.proofs.PlainLemmas.{statement_of-If, statement_of-While, part_of-statements}
 use Rattle.gh_path.specs.Graphs.{Loop, while, loops, all_loops}
 use Rattle.gh_symb.specs.declared.rounds.Round.{Round}
-use Rattle.gh_symb.specs.Rounds.{IsRound, IsRoundAt, IsRoundOf, IsLater}
+use Rattle.gh_symb.specs.Rounds.{IsAnswer, IsRound, IsRoundAt, IsRoundOf, IsLater}
 use Rattle.gh_symb.proofs.TableLemmas.{head_of}
-
--- what is answered for a list and a number
-abbrev pub IsAnswer : List Loop → ℕ → Result Round ℕ → Type 0
-IsAnswer ls n r = MatchResult r (IsRoundAt ls n) (IsLater ls n)
 
 pub first_part : (ks ls : List Loop) (n : ℕ) (r : Round) → IsRoundAt ks n r → IsRoundAt (ks ++ ls) n r
 first_part ks ls n r at = λ ms.

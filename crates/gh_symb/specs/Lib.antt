@@ -17,3 +17,6 @@ pub mod Formulas
 pub mod Phases
 pub mod Following
 pub mod StepEncodings
+pub mod Settings
+pub mod Walkers
+pub mod Reads

@@ -41,3 +41,6 @@ IsAdmitRefusal P OutOfMemory = ⊤
 abbrev pub IsConditionRefusal : Program → Condition → SymbolicError → Type 0
 IsConditionRefusal P c (Limit l) = PassesLimit P c l
 IsConditionRefusal P c OutOfMemory = ⊤
+
+abbrev pub IsRefusedBy : SymbolicError → Program → Condition → Type 0
+IsRefusedBy e P c = IsConditionRefusal P c e

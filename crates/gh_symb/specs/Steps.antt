@@ -1,21 +1,21 @@
 -- Walks over the parts of a condition as they are kept.
-use Rattle.std.specs.Prelude.{◌≡◌, ◌<◌, ◌≤◌, ℕ, List, length, filter}
+use Rattle.std.specs.Prelude.{◌≡◌, ◌+◌, ◌<◌, ◌≤◌, ℕ, List, length, filter}
 use Rattle.gh_ast.specs.declared.Expr.{Expr}
 use Rattle.gh_ast.specs.declared.Procedure as kept
 use Rattle.gh_ast.specs.declared.Stmt.{Stmt}
 use Rattle.gh_ast.specs.Plain.{Procedure, Program, procedure_of, statements_view}
-use Rattle.gh_ast.specs.Programs.{Name, variable_names}
+use Rattle.gh_ast.specs.declared.Occ.{Occ}
+use Rattle.gh_ast.specs.Programs.{Name, names, variable_names}
 use Rattle.gh_path.specs.Admitted.{most_terms}
-use Rattle.gh_path.specs.Graphs.{Check, PathStep, Start}
-use Rattle.gh_path.specs.Kept.{IsStep, IsKind, IsStart, StandsFor}
+use Rattle.gh_path.specs.Graphs.{Check, PathStep}
+use Rattle.gh_path.specs.Kept.{IsStep, IsKind, StandsFor}
 use Rattle.gh_path.specs.Conditions.{Condition}
 use Rattle.gh_path.specs.declared.condition.Condition as kept_condition
 use Rattle.gh_path.specs.declared.condition.PathStep as kept_step
-use Rattle.gh_path.specs.declared.condition.Start as kept_start
 use Rattle.gh_path.specs.declared.condition.CheckKind as kept_kind
 use Rattle.gh_path.specs.declared.condition.PathStep.TheVariants as step
 use Rattle.gh_base.specs.declared.place.Span.{Span}
-use Rattle.gh_path.specs.Terms.{Kind, Terms, terms, with_value, bound, all_bound, expr_used, expr_term, exprs_used, exprs_terms, answered_inside, rebound, renewed, some_assigns, bound_inside, step_walked, check_walked, walked, terms_of, versions_of}
+use Rattle.gh_path.specs.Terms.{Kind, Terms, terms, with_value, bound, exprs_used, exprs_terms, rebound, renewed, some_assigns, bound_inside, step_walked, check_walked, walked, terms_of, versions_of}
 use Rattle.gh_symb.specs.declared.count.Counted.{Counted}
 use Rattle.gh_symb.specs.declared.count.Counted.TheVariants.{Within, ManyTerms}
 
@@ -23,33 +23,21 @@ use Rattle.gh_symb.specs.declared.count.Counted.TheVariants.{Within, ManyTerms}
 abbrev pub HoldsFor : Program → kept_condition.Condition → (Program → Condition → Type 0) → Type 0
 HoldsFor P r Q = (c : Condition) → StandsFor P r c → Q P c
 
--- a variable gets the term of an expression
-abbrev pub assigned_to : Name → Expr → Terms → Terms
-assigned_to x e s = let t = expr_used e s in rebound t (bound t.bindings x (expr_term e t))
+-- each of some variables that statements assign gets a new value
+abbrev pub renewed_in : List Occ → List Stmt → Terms → Terms
+renewed_in xs body = renewed (filter (some_assigns (statements_view body)) (names xs))
 
--- variables get the terms of expressions, all at once
-abbrev pub all_assigned : List Name → List Expr → Terms → Terms
-all_assigned xs es s = let t = exprs_used es s in rebound t (all_bound t.bindings xs (exprs_terms es t))
+-- .. of the variables of a procedure
+abbrev pub all_renewed : kept.Procedure → List Stmt → Terms → Terms
+all_renewed p body = renewed (filter (some_assigns (statements_view body)) (variable_names (procedure_of p)))
 
--- each variable of a procedure that statements assign gets a new value
-abbrev pub all_renewed_in : kept.Procedure → List Stmt → Terms → Terms
-all_renewed_in p body = renewed (filter (some_assigns (statements_view body)) (variable_names (procedure_of p)))
-
--- a variable gets the place of a new cell, whose content is a new value too
+-- a variable gets the place of a new cell, whose content is a new value too, in the next version
 abbrev pub cell_made : Name → Terms → Terms
-cell_made x s = terms (with_value (with_value s.kinds)) (bound s.bindings x (length s.kinds)) s.version
-
--- a call of a procedure, once its arguments are used
-abbrev pub call_made : Procedure → List Name → List Expr → Terms → Terms
-call_made p xs es s = let t = exprs_used es s in answered_inside p xs t.bindings (rebound t (bound_inside p (exprs_terms es t)))
+cell_made x s = terms (with_value (with_value s.kinds)) (bound s.bindings x (length s.kinds)) (s.version + 1)
 
 -- the terms after a step that is kept
 abbrev pub IsStepped : Program → Procedure → kept_step.PathStep → Terms → Terms → Type 0
 IsStepped P p r s t = (step : PathStep) → IsStep P p r step → t ≡ step_walked P (variable_names p) step s
-
--- the terms at a start that is kept
-abbrev pub IsStarted : Procedure → kept_start.Start → Terms → Terms → Type 0
-IsStarted p r s t = (start : Start) → IsStart p r start → t ≡ walked start.meets s
 
 -- the kinds and the version that a walk comes to
 pub record EndsWith (s : Terms) (kinds : List Kind) (version : ℕ) : Type 0 where
@@ -77,11 +65,6 @@ KeepsHeap (step.Set x e) = Unit {0}
 KeepsHeap (step.Return es) = Unit {0}
 KeepsHeap s = ⊥
 
-abbrev pub ReplacesPart : kept_step.PathStep → Type 0
-ReplacesPart (step.Call xs n es) = Unit {0}
-ReplacesPart (step.Loop n) = Unit {0}
-ReplacesPart s = ⊥
-
 pub record AreCounted (P : Program) (c : Condition) (terms versions : ℕ) : Type 0 where
   pub terms_are : length (terms_of P c) ≡ terms
   pub versions_are : versions_of P c ≡ versions
@@ -91,3 +74,7 @@ pub record AreCounted (P : Program) (c : Condition) (terms versions : ℕ) : Typ
 abbrev pub IsCount : Program → Condition → Counted → Type 0
 IsCount P c (Within terms versions) = AreCounted P c terms versions
 IsCount P c ManyTerms = most_terms < length (terms_of P c)
+
+-- the count of each condition that has so many terms and versions
+abbrev pub IsCountOf : ℕ → ℕ → Counted → Type 0
+IsCountOf terms versions n = (P : Program) (c : Condition) → length (terms_of P c) ≡ terms → versions_of P c ≡ versions → IsCount P c n

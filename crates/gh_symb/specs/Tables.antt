@@ -1,7 +1,7 @@
 -- Terms and what is bound to them, as lists.
 use Rattle.std.specs.Prelude.{◌≡◌, ◌≢◌, ℕ, ◌+◌, ◌<◌, ◌≤◌, List, [], ◌∷◌, length, slice_index_or, count_by, Contains, AllPairs}
 use Rattle.gh_ast.specs.Programs.{Name}
-use Rattle.gh_path.specs.Terms.{Kind, null, value, next, is_value, Bindings, unbound, bound, Terms, terms}
+use Rattle.gh_path.specs.Terms.{Kind, null, value, next, is_value, Bindings, unbound, bound, used, followed, Terms, terms}
 use Rattle.gh_symb.specs.declared.scope.Entry.{Entry}
 use Rattle.gh_symb.specs.declared.kinds.Kind as kept
 use Rattle.gh_symb.specs.declared.kinds.Kind.TheVariants.{Null, Value, Next}
@@ -58,6 +58,10 @@ state ks es i = terms ks (bound_by es) i
 -- a walk in version i: it leads from the terms before it to f of them
 abbrev pub Walks : (Terms → Terms) → List Kind → Bound → List Kind → Bound → ℕ → Type 0
 Walks f ks es ls fs i = state ls fs i ≡ f (state ks es i)
+
+-- a variable is used, and the content of the cell at its term is listed
+abbrev pub Visits : Name → List Kind → Bound → List Kind → Bound → ℕ → Type 0
+Visits x ks es ls fs i = Walks (λ s. followed x (used x s)) ks es ls fs i
 
 -- a walk that is the same in every version
 abbrev pub WalksAlways : (Terms → Terms) → List Kind → Bound → List Kind → Bound → Type 0

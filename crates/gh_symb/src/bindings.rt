@@ -1,16 +1,10 @@
 //! What names are bound to, as it is encoded.
 
-ghost use Rattle.std.specs.Prelude.{◌≡◌, ◌<◌, IfOk, OnOk, map};
-ghost use Rattle.gh_ast.specs.Plain.{formula_of};
-ghost use Rattle.gh_ast.specs.Programs.{Name as Word};
-ghost use Rattle.gh_path.specs.Terms.{walked, each_walked};
-ghost use Rattle.gh_symb.specs.Symbolic.{either_term, under, each_under};
-ghost use Rattle.gh_symb.specs.Phases.{learned, under_bindings, both};
-ghost use Rattle.gh_symb.specs.Tables.{bound_by, state, Walks};
-ghost use Rattle.gh_symb.specs.Encodings.{Each};
-ghost use Rattle.gh_symb.specs.Fitting.{EncodesBinding, EncodesUnder};
-ghost use Rattle.gh_symb.specs.Formulas.{variables};
+ghost use Rattle.std.specs.Prelude.{IfOk, OnOk};
+ghost use Rattle.gh_symb.specs.Tables.{bound_by, Walks};
+ghost use Rattle.gh_symb.specs.Fitting.{EncodesBeside, EncodesBinding};
 ghost use Rattle.gh_symb.specs.Inside.{binding_of};
+ghost use Rattle.gh_symb.specs.Reads.{walked_of, Learns, ReadsBound, ReadsEach, ReadsStates, ReadsWalked, WalksEach};
 
 use crate::kinds::Kinds;
 use crate::numbers::{short, term_of};
@@ -23,8 +17,7 @@ use std::alloc::{AllocError, Global};
 impl<'a> Scope<'a> {
     /// These terms, and beside them those of other variables.
     pub fn over(&self, alloc: Global, others: Binding) -> Result<Binding, AllocError>
-        ensures { IfOk result (λ b. (x : Word) → (variables (bound_by self.now) x).0 < 256 →
-            binding_of b x ≡ either_term (bound_by self.now x) (binding_of others x)) }
+        ensures { IfOk result (λ b. EncodesBeside b (bound_by self.now) (binding_of others)) }
     {
         let mut binding = others;
         for entry in self.entries() {
@@ -48,8 +41,7 @@ impl<'a> Scope<'a> {
         assertion: &'a Assertion,
         version: usize,
     ) -> Result<Bound<'a>, AllocError>
-        ensures { IfOk result (λ b. EncodesUnder b
-            (under_bindings (formula_of assertion.now) (bound_by self.now) version)) }
+        ensures { IfOk result (ReadsBound assertion.now self.now version) }
     {
         let binding = self.binding(alloc)?;
         let version = short(version);
@@ -68,10 +60,8 @@ impl<'a> Scope<'a> {
         assertion: &'a Assertion,
         version: usize,
     ) -> Result<Bound<'a>, AllocError>
-        ensures made { IfOk result (λ b.
-            Walks (walked (formula_of assertion.now)) kinds.old self.old kinds.new self.new version) }
-        ensures encodes { IfOk result (λ b.
-            EncodesUnder b (under (formula_of assertion.now) (state kinds.old self.old version))) }
+        ensures made { OnOk result (Walks (walked_of assertion.now) kinds.old self.old kinds.new self.new version) }
+        ensures encodes { IfOk result (ReadsWalked assertion.now kinds.old self.old version) }
     {
         self.walk(kinds, assertion, version)?;
         let bound = self.bound(alloc, assertion, version)?;
@@ -86,10 +76,8 @@ impl<'a> Scope<'a> {
         alternatives: &'a [Assertion],
         version: usize,
     ) -> Result<Vec<Bound<'a>>, AllocError>
-        ensures made { IfOk result (λ bs.
-            Walks (each_walked (map formula_of alternatives.now)) kinds.old self.old kinds.new self.new version) }
-        ensures encode { IfOk result (λ bs. let s = state kinds.old self.old version in
-            Each EncodesUnder bs.items (each_under (map formula_of alternatives.now) s)) }
+        ensures made { OnOk result (WalksEach alternatives.now kinds.old self.old kinds.new self.new version) }
+        ensures encode { IfOk result (λ bs. ReadsEach alternatives.now kinds.old self.old version bs.items) }
     {
         let mut bounds = Vec::new(alloc);
         for alternative in alternatives {
@@ -100,8 +88,7 @@ impl<'a> Scope<'a> {
 
     /// Variables that had no term before and have one now are remembered with it.
     pub fn learn(&mut self, before: &Scope<'a>, now: &Scope<'a>) -> Result<(), AllocError>
-        ensures { OnOk result ((x : Word) → bound_by self.new x
-            ≡ learned (bound_by before.now x) (bound_by now.now x) (bound_by self.old x)) }
+        ensures { OnOk result (Learns before.now now.now self.old self.new) }
     {
         for entry in now.entries() {
             self.learn_one(before, entry)?;
@@ -116,8 +103,7 @@ pub fn all_bindings(
     states: &[Scope<'_>],
     firsts: &Scope<'_>,
 ) -> Result<Vec<Binding>, AllocError>
-    ensures { IfOk result (λ bs.
-        Each EncodesBinding bs.items (map (λ es. both (bound_by es) (bound_by firsts.now)) states.now)) }
+    ensures { IfOk result (λ bs. ReadsStates states.now firsts.now bs.items) }
 {
     let mut bindings = Vec::new(alloc);
     for state in states {

@@ -1,12 +1,11 @@
 //! How many terms and versions of the heap a condition has.
 
-ghost use Rattle.std.specs.Prelude.{◌≡◌, length};
+ghost use Rattle.std.specs.Prelude.{◌≡◌};
 ghost use Rattle.gh_ast.specs.Plain.{Program};
 ghost use Rattle.gh_path.specs.Conditions.{Condition};
-ghost use Rattle.gh_path.specs.Terms.{terms_of, versions_of};
 ghost use Rattle.gh_symb.specs.Limits.{PassesNone};
 ghost use Rattle.gh_symb.specs.Numbers.{count_of};
-ghost use Rattle.gh_symb.specs.Steps.{IsCount};
+ghost use Rattle.gh_symb.specs.Steps.{IsCount, IsCountOf};
 
 /// The most terms of a condition.
 pub const MOST_TERMS: usize = 32;
@@ -57,8 +56,7 @@ impl Counted {
 
     /// These numbers, unless there are too many terms.
     pub(crate) fn new(terms: usize, versions: usize) -> Counted
-        ensures { (P : Program) (c : Condition) → length (terms_of P c) ≡ terms → versions_of P c ≡ versions →
-            IsCount P c result }
+        ensures { IsCountOf terms versions result }
     {
         if terms > MOST_TERMS {
             return Counted::ManyTerms;

@@ -1,41 +1,29 @@
 //! Steps over terms, made from kept ones.
 
-ghost use Rattle.std.specs.Prelude.{◌≡◌, ◌+◌, ◌<◌, ◌≤◌, [], ◌∷◌, length, unwrap_or, Some, IfOk};
-ghost use Rattle.gh_ast.specs.Plain.{Procedure as Whole, Program as Plain, procedure_of, program_of};
-ghost use Rattle.gh_ast.specs.Programs.{names, variable_names};
-ghost use Rattle.gh_path.specs.Graphs.{Loop, looped};
-ghost use Rattle.gh_path.specs.Terms.{call_walked, expr_term, exprs_terms, terms};
-ghost use Rattle.gh_symb.specs.Phases.{step_done, step_encoding};
-ghost use Rattle.gh_symb.specs.Rounds.{IsRound};
+ghost use Rattle.std.specs.Prelude.{◌≡◌, ◌+◌, ◌<◌, ◌≤◌, IfOk, OnOk};
+ghost use Rattle.gh_path.specs.Terms.{expr_term, term_of};
 ghost use Rattle.gh_path.specs.declared.condition.PathStep.TheVariants.{Loop as OnLoop};
-ghost use Rattle.gh_symb.specs.StepEncodings.{IsCallEncoding, IsCallFinished, IsFinished, IsStepEncoding};
+ghost use Rattle.gh_symb.specs.Fitting.{EncodesStep, IsTermOf, JoinsParts};
 ghost use Rattle.gh_symb.specs.Steps.{cell_made, ChangesCell, KeepsHeap};
-ghost use Rattle.gh_symb.specs.Symbolic.{Under, call_parts, parts, made};
-ghost use Rattle.gh_symb.specs.Tables.{bound_by, state, WalksAlways};
-ghost use Rattle.gh_symb.specs.Fitting.{EncodesUnder, EncodesStep};
+ghost use Rattle.gh_symb.specs.Walkers.{call_done, call_read, cell_read, terms_at, Goes};
+ghost use Rattle.gh_symb.specs.Walkers.{DoesAnywhere, DoesCall, DoesLoop, DoesStep};
+ghost use Rattle.gh_symb.specs.Walkers.{ReadsAnywhere, ReadsCall, ReadsLoop, ReadsStep, WalksStep};
 
-use crate::kinds::Kinds;
 use crate::numbers::term_of;
 use crate::over_terms::{Bound, TermStep};
 use crate::rounds::{Round, round_of};
 use crate::scope::Scope;
-use gh_ast::{Expr, Occ, Procedure, Program};
+use crate::setting::Setting;
+use crate::walker::Walker;
+use gh_ast::{Expr, Occ, Procedure};
 use gh_base::atom::Term;
 use gh_base::name::Name;
 use gh_path::condition::PathStep;
 use std::alloc::{AllocError, Global};
 
-/// The encoding of a step, and the version after it.
-#[derive(Debug, Drop)]
-pub struct StepEncoding<'a> {
-    pub step: TermStep<'a>,
-    pub version: usize,
-}
-
 /// One part of the heap in the place of another.
 fn part<'a>(alloc: Global, before: Bound<'a>, after: Bound<'a>) -> Result<TermStep<'a>, AllocError>
-    ensures { IfOk result (λ encoded. (u w : Under) → EncodesUnder before.entry u → EncodesUnder after.entry w →
-        EncodesStep encoded (parts u (w ∷ []))) }
+    ensures { IfOk result (JoinsParts before.entry after.entry) }
 {
     let mut ways = Vec::new(alloc);
     ways.push(after)?;
@@ -45,73 +33,60 @@ fn part<'a>(alloc: Global, before: Bound<'a>, after: Bound<'a>) -> Result<TermSt
     })
 }
 
-impl<'a> Scope<'a> {
+impl<'a> Walker<'a> {
     /// The term of a variable.
     fn encode_name(&self, name: &Name) -> Term
-        ensures { let t = unwrap_or (bound_by self.now name.now) 0 in t < 256 → result.0 ≡ t }
+        ensures { IsTermOf result (term_of name.now (terms_at self.now)) }
     {
-        term_of(self.term(name))
+        term_of(self.scope.term(name))
     }
 
     /// The term of an expression.
-    fn encode_expr(&self, kinds: &Kinds, expr: &Expr, version: usize) -> Term
-        ensures { let t = expr_term expr.now (state kinds.now self.now version) in t < 256 → result.0 ≡ t }
+    fn encode_expr(&self, expr: &Expr) -> Term
+        ensures { IsTermOf result (expr_term expr.now (terms_at self.now)) }
     {
-        term_of(self.expr_term(kinds, expr, version))
+        term_of(self.scope.expr_term(&self.kinds, expr, self.version))
     }
 
-    /// A variable gets the place of a new cell.
-    fn encode_new(&mut self, kinds: &mut Kinds, name: &'a Name) -> Result<TermStep<'a>, AllocError>
-        ensures made { IfOk result (λ encoded.
-            WalksAlways (cell_made name.now) kinds.old self.old kinds.new self.new) }
-        ensures encodes { IfOk result (λ encoded.
-            EncodesStep encoded (made (length kinds.old) (length kinds.old + 1))) }
+    /// A variable gets the place of a new cell. The next version begins.
+    fn encode_new(&mut self, name: &'a Name) -> Result<TermStep<'a>, AllocError>
+        requires { self.old.version < 9223372036854775807 }
+        ensures done { OnOk result (Goes (cell_made name.now) self.old self.new) }
+        ensures read { IfOk result (λ step. EncodesStep step (cell_read (terms_at self.old))) }
     {
-        let location = kinds.add_value()?;
-        let content = kinds.add_value()?;
-        self.bind(name, location)?;
+        let location = self.kinds.add_value()?;
+        let content = self.kinds.add_value()?;
+        self.scope.bind(name, location)?;
+        self.version += 1;
         let location = term_of(location);
         let content = term_of(content);
         Ok(TermStep::New { location, content })
     }
 
     /// Does a step that writes, makes or frees a cell.
-    fn encode_cell(
-        &mut self,
-        kinds: &mut Kinds,
-        step: &'a PathStep,
-        version: usize,
-    ) -> Result<StepEncoding<'a>, AllocError>
-        requires { version < 9223372036854775807 }
-        ensures done { IfOk result (λ encoded. (P : Plain) (p : Whole) → ChangesCell step.now →
-            IsFinished P p step.now (state kinds.old self.old version) (state kinds.new self.new encoded.version)) }
-        ensures encodes { IfOk result (λ encoded. (P : Plain) (p : Whole) → ChangesCell step.now →
-            IsStepEncoding P p step.now (state kinds.old self.old version) encoded.step) }
-        ensures next { IfOk result (λ encoded. encoded.version ≤ version + 1) }
+    fn encode_cell(&mut self, step: &'a PathStep) -> Result<TermStep<'a>, AllocError>
+        requires { self.old.version < 9223372036854775807 }
+        ensures done { OnOk result (ChangesCell step.now → DoesAnywhere step.now self.old self.new) }
+        ensures read { IfOk result (λ encoded. ChangesCell step.now → ReadsAnywhere step.now self.old encoded) }
+        ensures next { OnOk result (self.new.version ≤ self.old.version + 1) }
     {
         match step {
             PathStep::Write { at, value } => {
                 let x = self.encode_name(&at.name);
-                let value = self.encode_expr(kinds, value, version);
-                let step = TermStep::Write { x, value };
-                let version = version + 1;
-                Ok(StepEncoding { step, version })
+                let value = self.encode_expr(value);
+                self.version += 1;
+                Ok(TermStep::Write { x, value })
             }
             PathStep::New { target } => {
-                let step = self.encode_new(kinds, &target.name)?;
-                let version = version + 1;
-                Ok(StepEncoding { step, version })
+                let step = self.encode_new(&target.name)?;
+                Ok(step)
             }
             PathStep::Free { at } => {
                 let x = self.encode_name(&at.name);
-                let step = TermStep::Free { x };
-                let version = version + 1;
-                Ok(StepEncoding { step, version })
+                self.version += 1;
+                Ok(TermStep::Free { x })
             }
-            _ => Ok(StepEncoding {
-                step: TermStep::Same,
-                version,
-            }),
+            _ => Ok(TermStep::Same),
         }
     }
 
@@ -119,22 +94,22 @@ impl<'a> Scope<'a> {
     fn encode_loop(
         &mut self,
         alloc: Global,
-        kinds: &mut Kinds,
-        procedure: &'a Procedure,
+        setting: Setting<'a>,
         round: &Round<'a>,
-        version: usize,
     ) -> Result<TermStep<'a>, AllocError>
-        requires { version < 9223372036854775807 }
-        ensures done { IfOk result (λ encoded. (P : Plain) (l : Loop) → IsRound round.now l →
-            let xs = variable_names (procedure_of procedure.now) in state kinds.new self.new (version + 1)
-            ≡ step_done P xs (looped l) (state kinds.old self.old version)) }
-        ensures encodes { IfOk result (λ encoded. (P : Plain) (l : Loop) → IsRound round.now l →
-            let xs = variable_names (procedure_of procedure.now) in
-            EncodesStep encoded (step_encoding P xs (looped l) (state kinds.old self.old version))) }
+        requires { self.old.version < 9223372036854775807 }
+        ensures done { OnOk result (DoesLoop setting.entry round.now self.old self.new) }
+        ensures read { IfOk result (λ step. ReadsLoop setting.entry round.now self.old step) }
+        ensures next { OnOk result (self.new.version ≤ self.old.version + 1) }
     {
-        let before = self.bound(alloc, round.invariant, version)?;
-        self.renew_all(kinds, procedure, round.body.statements.as_slice())?;
-        let after = self.walk_bound(alloc, kinds, round.invariant, version + 1)?;
+        let before = self.scope.bound(alloc, round.invariant, self.version)?;
+        let body = round.body.statements.as_slice();
+        self.scope
+            .renew_all(&mut self.kinds, setting.procedure, body)?;
+        self.version += 1;
+        let after = self
+            .scope
+            .walk_bound(alloc, &mut self.kinds, round.invariant, self.version)?;
         let step = part(alloc, before, after)?;
         Ok(step)
     }
@@ -143,27 +118,27 @@ impl<'a> Scope<'a> {
     fn encode_call(
         &mut self,
         alloc: Global,
-        kinds: &mut Kinds,
         callee: &'a Procedure,
         targets: &'a [Occ],
         arguments: &'a [Expr],
-        version: usize,
     ) -> Result<TermStep<'a>, AllocError>
-        requires { version < 9223372036854775807 }
-        ensures done { IfOk result (λ encoded. let s = state kinds.old self.old version in
-            state kinds.new self.new (version + 1)
-            ≡ call_walked (Some (procedure_of callee.now)) (names targets.now) (exprs_terms arguments.now s) s) }
-        ensures encodes { IfOk result (λ encoded. let s = state kinds.old self.old version in
-            EncodesStep encoded (call_parts (Some (procedure_of callee.now)) (exprs_terms arguments.now s) s)) }
+        requires { self.old.version < 9223372036854775807 }
+        ensures done { OnOk result (Goes (call_done callee.now targets.now arguments.now) self.old self.new) }
+        ensures read { IfOk result (λ step. EncodesStep step (call_read callee.now arguments.now (terms_at self.old))) }
+        ensures next { OnOk result (self.new.version ≤ self.old.version + 1) }
     {
-        let terms = self.exprs_terms(alloc, kinds, arguments, version)?;
+        let terms = self
+            .scope
+            .exprs_terms(alloc, &self.kinds, arguments, self.version)?;
         let mut inside = Scope::new(alloc);
         inside.bind_all(callee.parameters.as_slice(), terms.as_slice())?;
-        let before = inside.walk_bound(alloc, kinds, &callee.needs, version)?;
-        inside.renew(kinds, callee.results.as_slice())?;
-        let after = inside.walk_bounds(alloc, kinds, callee.gives.as_slice(), version + 1)?;
+        let before = inside.walk_bound(alloc, &mut self.kinds, &callee.needs, self.version)?;
+        inside.renew(&mut self.kinds, callee.results.as_slice())?;
+        self.version += 1;
+        let gives = callee.gives.as_slice();
+        let after = inside.walk_bounds(alloc, &mut self.kinds, gives, self.version)?;
         let results = inside.terms(alloc, callee.results.as_slice())?;
-        self.bind_all(targets, results.as_slice())?;
+        self.scope.bind_all(targets, results.as_slice())?;
         Ok(TermStep::Part { before, after })
     }
 
@@ -171,93 +146,77 @@ impl<'a> Scope<'a> {
     fn encode_called(
         &mut self,
         alloc: Global,
-        kinds: &mut Kinds,
-        program: &'a Program,
+        setting: Setting<'a>,
         callee: u16,
         targets: &'a [Occ],
         arguments: &'a [Expr],
-        version: usize,
-    ) -> Result<StepEncoding<'a>, AllocError>
-        requires { version < 9223372036854775807 }
-        ensures done { IfOk result (λ encoded.
-            IsCallFinished (program_of program.now) callee (names targets.now) arguments.now
-            (state kinds.old self.old version) (state kinds.new self.new encoded.version)) }
-        ensures encodes { IfOk result (λ encoded.
-            IsCallEncoding (program_of program.now) callee arguments.now
-            (state kinds.old self.old version) encoded.step) }
-        ensures next { IfOk result (λ encoded. encoded.version ≤ version + 1) }
+    ) -> Result<TermStep<'a>, AllocError>
+        requires { self.old.version < 9223372036854775807 }
+        ensures done { OnOk result (DoesCall setting.entry callee targets.now arguments.now self.old self.new) }
+        ensures read { IfOk result (λ step. ReadsCall setting.entry callee arguments.now self.old step) }
+        ensures next { OnOk result (self.new.version ≤ self.old.version + 1) }
     {
-        let Some(callee) = program.procedures.get(callee as usize) else {
-            let step = TermStep::Same;
-            return Ok(StepEncoding { step, version });
+        let Some(callee) = setting.program.procedures.get(callee as usize) else {
+            return Ok(TermStep::Same);
         };
-        let step = self.encode_call(alloc, kinds, callee, targets, arguments, version)?;
-        let version = version + 1;
-        Ok(StepEncoding { step, version })
+        let step = self.encode_call(alloc, callee, targets, arguments)?;
+        Ok(step)
     }
 
     /// Does the loop of a number.
     fn encode_looped(
         &mut self,
         alloc: Global,
-        kinds: &mut Kinds,
-        procedure: &'a Procedure,
+        setting: Setting<'a>,
         number: u16,
-        version: usize,
-    ) -> Result<StepEncoding<'a>, AllocError>
-        requires { version < 9223372036854775807 }
-        ensures done { IfOk result (λ encoded. (P : Plain) →
-            IsFinished P (procedure_of procedure.now) (OnLoop number)
-            (state kinds.old self.old version) (state kinds.new self.new encoded.version)) }
-        ensures encodes { IfOk result (λ encoded. (P : Plain) →
-            IsStepEncoding P (procedure_of procedure.now) (OnLoop number)
-            (state kinds.old self.old version) encoded.step) }
-        ensures next { IfOk result (λ encoded. encoded.version ≤ version + 1) }
+    ) -> Result<TermStep<'a>, AllocError>
+        requires { self.old.version < 9223372036854775807 }
+        ensures done { OnOk result (DoesStep setting.entry (OnLoop number) self.old self.new) }
+        ensures read { IfOk result (λ step. ReadsStep setting.entry (OnLoop number) self.old step) }
+        ensures next { OnOk result (self.new.version ≤ self.old.version + 1) }
     {
-        let Some(round) = round_of(procedure, number as usize) else {
-            let step = TermStep::Same;
-            return Ok(StepEncoding { step, version });
+        let Some(round) = round_of(setting.procedure, number as usize) else {
+            return Ok(TermStep::Same);
         };
-        let step = self.encode_loop(alloc, kinds, procedure, &round, version)?;
-        let version = version + 1;
-        Ok(StepEncoding { step, version })
+        let step = self.encode_loop(alloc, setting, &round)?;
+        Ok(step)
     }
 
     /// Does a step that keeps the heap.
     fn encode_steady(
         &mut self,
         alloc: Global,
-        kinds: &mut Kinds,
-        procedure: &'a Procedure,
+        setting: Setting<'a>,
         step: &'a PathStep,
-        version: usize,
     ) -> Result<TermStep<'a>, AllocError>
-        ensures done { IfOk result (λ encoded. (P : Plain) → KeepsHeap step.now →
-            IsFinished P (procedure_of procedure.now) step.now
-            (state kinds.old self.old version) (state kinds.new self.new version)) }
-        ensures encodes { IfOk result (λ encoded. (P : Plain) → KeepsHeap step.now →
-            IsStepEncoding P (procedure_of procedure.now) step.now (state kinds.old self.old version) encoded) }
+        ensures done { OnOk result (KeepsHeap step.now → DoesStep setting.entry step.now self.old self.new) }
+        ensures read { IfOk result (λ encoded. KeepsHeap step.now → ReadsStep setting.entry step.now self.old encoded) }
+        ensures version { OnOk result (self.new.version ≡ self.old.version) }
     {
+        let version = self.version;
         match step {
             PathStep::Access { at } => {
                 let x = self.encode_name(&at.name);
-                kinds.add_next(version, self.term(&at.name))?;
+                self.kinds.add_next(version, self.scope.term(&at.name))?;
                 Ok(TermStep::Access { x })
             }
             PathStep::Assume { left, equal, right } => {
-                let left = self.encode_expr(kinds, left, version);
-                let right = self.encode_expr(kinds, right, version);
+                let left = self.encode_expr(left);
+                let right = self.encode_expr(right);
                 let equal = *equal;
                 Ok(TermStep::Assume { left, equal, right })
             }
             PathStep::Set { target, value } => {
-                let term = self.expr_term(kinds, value, version);
-                self.bind(&target.name, term)?;
+                let term = self.scope.expr_term(&self.kinds, value, version);
+                self.scope.bind(&target.name, term)?;
                 Ok(TermStep::Same)
             }
             PathStep::Return { values } => {
-                let terms = self.exprs_terms(alloc, kinds, values.as_slice(), version)?;
-                self.bind_all(procedure.results.as_slice(), terms.as_slice())?;
+                let terms = self
+                    .scope
+                    .exprs_terms(alloc, &self.kinds, values.as_slice(), version)?;
+                let results = setting.procedure.results.as_slice();
+                self.scope.bind_all(results, terms.as_slice())?;
                 Ok(TermStep::Same)
             }
             _ => Ok(TermStep::Same),
@@ -268,20 +227,13 @@ impl<'a> Scope<'a> {
     pub fn encode_step(
         &mut self,
         alloc: Global,
-        kinds: &mut Kinds,
-        program: &'a Program,
-        procedure: &'a Procedure,
+        setting: Setting<'a>,
         step: &'a PathStep,
-        version: usize,
-    ) -> Result<StepEncoding<'a>, AllocError>
-        requires { version < 9223372036854775807 }
-        ensures done { IfOk result (λ encoded.
-            IsFinished (program_of program.now) (procedure_of procedure.now) step.now
-            (state kinds.old self.old version) (state kinds.new self.new encoded.version)) }
-        ensures encodes { IfOk result (λ encoded.
-            IsStepEncoding (program_of program.now) (procedure_of procedure.now) step.now
-            (state kinds.old self.old version) encoded.step) }
-        ensures next { IfOk result (λ encoded. encoded.version ≤ version + 1) }
+    ) -> Result<TermStep<'a>, AllocError>
+        requires { self.old.version < 9223372036854775807 }
+        ensures done { OnOk result (DoesStep setting.entry step.now self.old self.new) }
+        ensures read { IfOk result (λ encoded. ReadsStep setting.entry step.now self.old encoded) }
+        ensures next { OnOk result (self.new.version ≤ self.old.version + 1) }
     {
         match step {
             PathStep::Call {
@@ -291,27 +243,40 @@ impl<'a> Scope<'a> {
             } => {
                 let targets = targets.as_slice();
                 let arguments = arguments.as_slice();
-                let callee = *callee;
-                let encoded = self.encode_called(
-                    alloc, kinds, program, callee, targets, arguments, version,
-                )?;
+                let encoded = self.encode_called(alloc, setting, *callee, targets, arguments)?;
                 Ok(encoded)
             }
             PathStep::Loop { number } => {
-                let encoded = self.encode_looped(alloc, kinds, procedure, *number, version)?;
+                let encoded = self.encode_looped(alloc, setting, *number)?;
                 Ok(encoded)
             }
             PathStep::Write { .. } | PathStep::New { .. } | PathStep::Free { .. } => {
-                let encoded = self.encode_cell(kinds, step, version)?;
+                let encoded = self.encode_cell(step)?;
                 Ok(encoded)
             }
             PathStep::Access { .. }
             | PathStep::Assume { .. }
             | PathStep::Set { .. }
             | PathStep::Return { .. } => {
-                let step = self.encode_steady(alloc, kinds, procedure, step, version)?;
-                Ok(StepEncoding { step, version })
+                let encoded = self.encode_steady(alloc, setting, step)?;
+                Ok(encoded)
             }
         }
+    }
+
+    /// Walks over a step.
+    pub fn walk_step(
+        &mut self,
+        alloc: Global,
+        setting: Setting<'a>,
+        step: &'a PathStep,
+    ) -> Result<(), AllocError>
+        requires { self.old.version < 9223372036854775807 }
+        ensures walked { OnOk result (WalksStep setting.entry step.now self.old self.new) }
+        ensures next { OnOk result (self.new.version ≤ self.old.version + 1) }
+    {
+        self.use_step(setting, step)?;
+        self.encode_step(alloc, setting, step)?;
+        Ok(())
     }
 }

@@ -1,18 +1,18 @@
 //! The limits on the terms and the versions of a condition.
 
-ghost use Rattle.std.specs.Prelude.{◌≡◌, IfOk};
+ghost use Rattle.std.specs.Prelude.{◌≡◌, ◌+◌};
 ghost use Rattle.gh_ast.specs.Plain.{procedure_of, program_of};
+ghost use Rattle.gh_path.specs.Admitted.{most_terms};
 ghost use Rattle.gh_path.specs.Conditions as plain;
 ghost use Rattle.gh_path.specs.Kept.{StandsFor};
 ghost use Rattle.gh_symb.specs.Limits.{IsLimitOf, Passes};
 ghost use Rattle.gh_symb.specs.Steps.{HoldsFor, IsCount};
 
 use crate::count::{Counted, MOST_TERMS, MOST_VERSIONS};
-use crate::counted::counted;
 use gh_ast::Procedure;
 use gh_ast::typed::{Limit, Typed};
 use gh_path::condition::Condition;
-use std::alloc::{AllocError, Global};
+use std::alloc::AllocError;
 use thiserror::Error;
 
 /// Why a condition isn't given over terms, or a program isn't admitted: a condition has more than
@@ -46,33 +46,29 @@ fn limit_at(procedure: &Procedure, kind: u8, count: u32) -> Limit
     }
 }
 
+/// The limit on terms, as a condition of a program passes it.
+pub(crate) fn terms_limit(typed: &Typed, condition: &Condition) -> Limit
+    requires { (c : plain.Condition) × StandsFor (program_of typed.now) condition.now c }
+    ensures { HoldsFor (program_of typed.now) condition.now (λ P c. IsLimitOf c.procedure 6 (most_terms + 1) result) }
+{
+    let procedure = &typed.program().procedures[condition.procedure as usize];
+    limit_at(procedure, 6, MOST_TERMS as u32 + 1)
+}
+
 /// The limit that a condition of a program with these counts passes, if it passes one: kind 6 before
 /// kind 7.
 pub(crate) fn limit_of(typed: &Typed, condition: &Condition, counts: Counted) -> Option<Limit>
     requires { (c : plain.Condition) × StandsFor (program_of typed.now) condition.now c }
     ensures { HoldsFor (program_of typed.now) condition.now (λ P c. IsCount P c counts → Passes P c result) }
 {
-    let procedure = &typed.program().procedures[condition.procedure as usize];
     match counts {
-        Counted::ManyTerms => Some(limit_at(procedure, 6, MOST_TERMS as u32 + 1)),
+        Counted::ManyTerms => Some(terms_limit(typed, condition)),
         Counted::Within { versions, .. } => {
             if versions > MOST_VERSIONS {
+                let procedure = &typed.program().procedures[condition.procedure as usize];
                 return Some(limit_at(procedure, 7, MOST_VERSIONS as u32 + 1));
             }
             None
         }
     }
-}
-
-/// The limit that a condition of a program passes, if it passes one: kind 6 before kind 7.
-pub fn passed_limit(
-    alloc: Global,
-    typed: &Typed,
-    condition: &Condition,
-) -> Result<Option<Limit>, AllocError>
-    requires { (c : plain.Condition) × StandsFor (program_of typed.now) condition.now c }
-    ensures { IfOk result (λ o. HoldsFor (program_of typed.now) condition.now (λ P c. Passes P c o)) }
-{
-    let counts = counted(alloc, typed, condition)?;
-    Ok(limit_of(typed, condition, counts))
 }

@@ -1,6 +1,6 @@
 //! Conditions over terms.
 
-ghost use Rattle.std.specs.Prelude.{◌≡◌, map, slice_get};
+ghost use Rattle.std.specs.Prelude.{◌≡◌, ◌↔◌, ◌+◌, ◌<◌, length, map, slice_get, IsNone};
 ghost use Rattle.std.specs.Option.{option_map};
 ghost use Rattle.gh_symb.specs.Encodings.{plain_kind};
 ghost use Rattle.gh_symb.specs.Inside.{check_of, step_of, under_of, IsInside};
@@ -67,6 +67,7 @@ pub struct Symbolic<'a> {
     pub(crate) bindings: Vec<Binding>,
     pub(crate) steps: Vec<TermStep<'a>>,
     pub(crate) check: TermCheck<'a>,
+    ghost states: { length bindings.items ≡ length steps.items + 1 },
     ghost inside: { IsInside (map plain_kind terms) versions (under_of start) (map step_of steps.items) (check_of check) } by { IsInside-prop (map plain_kind terms) versions (under_of start) (map step_of steps.items) (check_of check) },
 }
 
@@ -115,7 +116,8 @@ impl<'a> Symbolic<'a> {
 
     /// The terms of the variables at a state; none where the number is above that of the steps.
     pub fn binding(&self, state: u16) -> Option<&Binding>
-        ensures { option_map (λ b. b.now) result ≡ slice_get self.now.bindings.items state }
+        ensures value { option_map (λ b. b.now) result ≡ slice_get self.now.bindings.items state }
+        ensures none { IsNone result ↔ (length self.now.steps.items < state) }
     {
         self.bindings.as_slice().get(state as usize)
     }

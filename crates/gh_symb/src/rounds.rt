@@ -1,10 +1,9 @@
 //! The loops of a body by their numbers.
 
-ghost use Rattle.std.specs.Prelude.{MatchResult};
 ghost use Rattle.gh_ast.specs.Plain.{statement_of, statements_view, procedure_of};
 ghost use Rattle.gh_path.specs.Graphs.{Loop, loops, all_loops};
 ghost use Rattle.gh_path.specs.Kept.{IsLoop};
-ghost use Rattle.gh_symb.specs.Rounds.{IsRoundAt, IsRoundOf, IsLater};
+ghost use Rattle.gh_symb.specs.Rounds.{IsAnswer, IsRoundOf};
 
 use gh_ast::{Assertion, Block, Procedure, Stmt};
 
@@ -18,8 +17,7 @@ pub struct Round<'a> {
 /// The loop of a number in a statement, or the number's place among the loops after it.
 #[cycle(round_in)]
 fn round_in<'a>(statement: &'a Stmt, number: usize) -> Result<Round<'a>, usize>
-    ensures { MatchResult result (λ r. IsRoundAt (loops (statement_of statement.now)) number r)
-        (λ left. IsLater (loops (statement_of statement.now)) number left) }
+    ensures { IsAnswer (loops (statement_of statement.now)) number result }
 {
     match statement {
         Stmt::If {
@@ -47,8 +45,7 @@ fn round_in<'a>(statement: &'a Stmt, number: usize) -> Result<Round<'a>, usize>
 /// The loop of a number in some statements, or the number's place among the loops after them.
 #[cycle(round_in)]
 fn round_among<'a>(statements: &'a [Stmt], number: usize) -> Result<Round<'a>, usize>
-    ensures { MatchResult result (λ r. IsRoundAt (all_loops (statements_view statements.now)) number r)
-        (λ left. IsLater (all_loops (statements_view statements.now)) number left) }
+    ensures { IsAnswer (all_loops (statements_view statements.now)) number result }
 {
     let mut left = number;
     for statement in statements {

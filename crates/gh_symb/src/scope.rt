@@ -3,7 +3,7 @@
 ghost use Rattle.std.specs.Prelude.{◌≡◌, [], IfOk, OnOk, IfSome, IfNone, map, unwrap_or};
 ghost use Rattle.gh_ast.specs.Programs.{names};
 ghost use Rattle.gh_path.specs.Terms.{bound, all_bound, used, renewed};
-ghost use Rattle.gh_symb.specs.Phases.{bound_unless};
+ghost use Rattle.gh_symb.specs.Reads.{LearnsOne};
 ghost use Rattle.gh_symb.specs.Tables.{pair_of, bound_by, IsLastAt, NoneFrom, WalksAlways};
 
 use crate::kinds::Kinds;
@@ -110,9 +110,7 @@ impl<'a> Scope<'a> {
 
     /// Binds the variable of an entry to its term, unless it had a term before.
     pub fn learn_one(&mut self, before: &Scope<'a>, entry: &Entry<'a>) -> Result<(), AllocError>
-        ensures { OnOk result (bound_by self.new
-            ≡ bound_unless (bound_by before.now entry.now.name.now)
-            (bound_by self.old) entry.now.name.now entry.now.term) }
+        ensures { OnOk result (LearnsOne before.now entry.now self.old self.new) }
     {
         match before.get(entry.name) {
             Some(_) => Ok(()),

@@ -1,11 +1,12 @@
 //! Walks over expressions, tests and assertions.
 
 ghost use Rattle.std.specs.Prelude.{◌≡◌, ℕ, List, IfOk, OnOk, map, unwrap_or};
-ghost use Rattle.gh_ast.specs.Plain.{test_of, tests_view, formula_of, formulas_view};
+ghost use Rattle.gh_ast.specs.Plain.{test_of};
 ghost use Rattle.gh_ast.specs.Programs.{names};
-ghost use Rattle.gh_path.specs.Terms.{Kind, used, followed, operand_used, operand_term, expr_used, expr_term};
-ghost use Rattle.gh_path.specs.Terms.{exprs_used, exprs_terms, test_walked, tests_walked, walked, all_walked, each_walked};
-ghost use Rattle.gh_symb.specs.Tables.{bound_by, state, Walks, WalksAlways};
+ghost use Rattle.gh_path.specs.Terms.{Kind, operand_used, operand_term, expr_used, expr_term};
+ghost use Rattle.gh_path.specs.Terms.{exprs_used, exprs_terms, test_walked};
+ghost use Rattle.gh_symb.specs.Reads.{all_tests_of, all_walked_of, walked_of};
+ghost use Rattle.gh_symb.specs.Tables.{bound_by, state, Visits, Walks, WalksAlways};
 
 use crate::kinds::Kinds;
 use crate::scope::Scope;
@@ -21,8 +22,7 @@ impl<'a> Scope<'a> {
         name: &'a Name,
         version: usize,
     ) -> Result<(), AllocError>
-        ensures { OnOk result (state kinds.new self.new version
-            ≡ followed name.now (used name.now (state kinds.old self.old version))) }
+        ensures { OnOk result (Visits name.now kinds.old self.old kinds.new self.new version) }
     {
         let term = self.used_term(kinds, name)?;
         kinds.add_next(version, term)?;
@@ -51,49 +51,6 @@ impl<'a> Scope<'a> {
         match expr {
             Expr::Plain(operand) => self.use_operand(kinds, operand),
             Expr::Read(occ) => self.follow(kinds, &occ.name, version),
-        }
-    }
-
-    /// An operand is used, and its term is given.
-    fn operand_value(
-        &mut self,
-        kinds: &mut Kinds,
-        operand: &'a Operand,
-    ) -> Result<usize, AllocError>
-        ensures used { IfOk result (λ term.
-            WalksAlways (operand_used operand.now) kinds.old self.old kinds.new self.new) }
-        ensures term { IfOk result (λ term. (version : ℕ) →
-            term ≡ operand_term operand.now (state kinds.new self.new version)) }
-    {
-        match operand {
-            Operand::Null { .. } => Ok(0),
-            Operand::Var(occ) => {
-                let term = self.used_term(kinds, &occ.name)?;
-                Ok(term)
-            }
-        }
-    }
-
-    /// An expression is used, and its term is given.
-    pub fn expr_value(
-        &mut self,
-        kinds: &mut Kinds,
-        expr: &'a Expr,
-        version: usize,
-    ) -> Result<usize, AllocError>
-        ensures used { IfOk result (λ term.
-            Walks (expr_used expr.now) kinds.old self.old kinds.new self.new version) }
-        ensures term { IfOk result (λ term. term ≡ expr_term expr.now (state kinds.new self.new version)) }
-    {
-        match expr {
-            Expr::Plain(operand) => {
-                let term = self.operand_value(kinds, operand)?;
-                Ok(term)
-            }
-            Expr::Read(occ) => {
-                self.follow(kinds, &occ.name, version)?;
-                Ok(kinds.next(version, self.term(&occ.name)))
-            }
         }
     }
 
@@ -191,8 +148,7 @@ impl<'a> Scope<'a> {
         tests: &'a [Cond],
         version: usize,
     ) -> Result<(), AllocError>
-        ensures { OnOk result (
-            Walks (tests_walked (tests_view tests.now)) kinds.old self.old kinds.new self.new version) }
+        ensures { OnOk result (Walks (all_tests_of tests.now) kinds.old self.old kinds.new self.new version) }
     {
         for test in tests {
             self.walk_test(kinds, test, version)?;
@@ -208,8 +164,7 @@ impl<'a> Scope<'a> {
         assertion: &'a Assertion,
         version: usize,
     ) -> Result<(), AllocError>
-        ensures { OnOk result (
-            Walks (walked (formula_of assertion.now)) kinds.old self.old kinds.new self.new version) }
+        ensures { OnOk result (Walks (walked_of assertion.now) kinds.old self.old kinds.new self.new version) }
     {
         match assertion {
             Assertion::Emp => Ok(()),
@@ -243,27 +198,10 @@ impl<'a> Scope<'a> {
         assertions: &'a [Assertion],
         version: usize,
     ) -> Result<(), AllocError>
-        ensures { OnOk result (
-            Walks (all_walked (formulas_view assertions.now)) kinds.old self.old kinds.new self.new version) }
+        ensures { OnOk result (Walks (all_walked_of assertions.now) kinds.old self.old kinds.new self.new version) }
     {
         for assertion in assertions {
             self.walk(kinds, assertion, version)?;
-        }
-        Ok(())
-    }
-
-    /// Walks over alternatives in their order.
-    pub fn walk_each(
-        &mut self,
-        kinds: &mut Kinds,
-        alternatives: &'a [Assertion],
-        version: usize,
-    ) -> Result<(), AllocError>
-        ensures { OnOk result (
-            Walks (each_walked (map formula_of alternatives.now)) kinds.old self.old kinds.new self.new version) }
-    {
-        for alternative in alternatives {
-            self.walk(kinds, alternative, version)?;
         }
         Ok(())
     }

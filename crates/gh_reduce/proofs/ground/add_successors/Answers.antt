@@ -13,7 +13,7 @@ add_kind-requires c =
     let ts = c.args.terms.now in
     let t = c.loop-t.t in
     let s = c.loop-t.ground.sizes in
-    let at = kind_at ts t c.in-Some.kind c.in-Some.ensures in
+    let at = kind_at ts t c.in-Some.kind c.in-Some.ensures.value in
     let terms = c.loop-t.invariant.terms in
     record {
       version = omega (arith, c.loop-t.invariant.versions, c.requires.version);
@@ -33,7 +33,7 @@ loop-t-preserved c =
     let first = successor_claims i t (plain_kind c.in-Some.kind) in
     record {
       state = stated_first p q (stated_in c.args.ground.now (successors_from i 0 (map plain_kind ts))) (successors_from i t (map plain_kind (drop t ts))) first (successors_from i (t + 1) (map plain_kind (drop (t + 1) ts)))
-          c.loop-t.invariant.state (successors_first i ts t c.in-Some.kind c.in-Some.ensures) c.in_ok-add_kind.ensures;
+          c.loop-t.invariant.state (successors_first i ts t c.in-Some.kind c.in-Some.ensures.value) c.in_ok-add_kind.ensures;
       terms = same_terms p q first c.in_ok-add_kind.ensures ∙ c.loop-t.invariant.terms;
       versions = same_versions p q first c.in_ok-add_kind.ensures ∙ c.loop-t.invariant.versions;
     }

@@ -1,14 +1,15 @@
 use Rattle.std.proofs.Common.{◌≤◌, drop}
-use Rattle.gh_ast.specs.Plain.{program_of, procedure_of}
+use Rattle.gh_ast.specs.Plain.{program_of}
 use Rattle.gh_path.specs.Conditions.{Condition}
 use Rattle.gh_path.specs.Kept.{StandsFor}
 use Rattle.gh_symb.specs.Remaining.{Remains}
-use Rattle.gh_symb.specs.Tables.{state}
+use Rattle.gh_symb.specs.Settings.{procedure_in}
+use Rattle.gh_symb.specs.Walkers.{terms_at}
 use Rattle.gh_symb.proofs.counted.counted.Given as goal
 
 abbrev pub invariant-loop-step : goal.invariant-loop-step
 invariant-loop-step l = record {
-  few : l.version ≤ l.step-index;
+  few : l.walker.version ≤ l.step-index;
   left : (c : Condition) → StandsFor (program_of l.typed) l.condition c →
-      Remains (program_of l.typed) (procedure_of l.procedure) (drop l.step-index l.step-items) c (state l.kinds l.scope l.version);
+      Remains (program_of l.typed) (procedure_in l.setting) (drop l.step-index l.step-items) c (terms_at l.walker);
 }

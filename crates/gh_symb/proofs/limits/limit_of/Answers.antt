@@ -1,13 +1,7 @@
-use Rattle.std.proofs.Common.{◌≡◌, ◌∙◌, ap, inl}
-use Rattle.gh_ast.specs.Plain.{procedure_of}
-use Rattle.gh_symb.proofs.CountLemmas.{its_procedure}
+use Rattle.std.proofs.Common.{inl}
 use Rattle.gh_symb.proofs.limits.limit_of.Goals as goal
 
 pub returns-in-ManyTerms : goal.returns-in-ManyTerms
-returns-in-ManyTerms c =
-    λ d stands count.
-    let own : procedure_of c.index-procedure.result.now ≡ d.procedure =
-    its_procedure c.args.typed.now c.program.result.now.procedures.items c.args.condition.now.procedure c.index-procedure.result.now d.procedure
-    (ap (λ x. x.procedures.items) c.program.ensures.same) c.index-procedure.ensures stands.procedure in
+returns-in-ManyTerms c = λ d stands count.
     let many = rw c.in-ManyTerms.is at count in
-    inl (many, record { kind_is = c.limit_at.ensures.kind_is; span = c.limit_at.ensures.span ∙ ap (λ q. q.name.span) own; count_is = c.limit_at.ensures.count_is })
+    inl (many, c.terms_limit.ensures d stands)

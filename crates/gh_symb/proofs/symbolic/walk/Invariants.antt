@@ -1,14 +1,16 @@
 use Rattle.std.proofs.Common.{◌≤◌, drop, map}
-use Rattle.gh_ast.specs.Plain.{program_of, procedure_of}
+use Rattle.gh_ast.specs.Plain.{program_of}
 use Rattle.gh_path.specs.Conditions.{Condition}
 use Rattle.gh_path.specs.Kept.{StandsFor}
 use Rattle.gh_symb.specs.Following.{Follows}
-use Rattle.gh_symb.specs.Tables.{bound_by, state}
+use Rattle.gh_symb.specs.Settings.{procedure_in}
+use Rattle.gh_symb.specs.Tables.{bound_by}
+use Rattle.gh_symb.specs.Walkers.{terms_at}
 use Rattle.gh_symb.proofs.symbolic.walk.Given as goal
 
 abbrev pub invariant-loop-step : goal.invariant-loop-step
 invariant-loop-step l = record {
-  few : l.version ≤ l.step-index;
+  few : l.walker.version ≤ l.step-index;
   left : (c : Condition) → StandsFor (program_of l.typed) l.condition c →
-      Follows (program_of l.typed) (procedure_of l.procedure) (drop l.step-index l.step-items) c (state l.kinds l.scope l.version) (bound_by l.firsts) (map bound_by l.states.items) l.steps.items;
+      Follows (program_of l.typed) (procedure_in l.setting) (drop l.step-index l.step-items) c (terms_at l.walker) (bound_by l.firsts) (map bound_by l.states.items) l.steps.items;
 }

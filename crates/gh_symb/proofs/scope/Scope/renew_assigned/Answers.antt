@@ -1,4 +1,5 @@
-use Rattle.std.proofs.Common.{◌≡◌, ◌∙◌, sym, ap, true, drop, filter, ◌+◌}
+use Rattle.std.proofs.Common.{◌≡◌, ◌∙◌, [], sym, ap, true, drop, filter, ◌+◌}
+use Rattle.std.proofs.Math.ListN.{drop_of_length-le}
 use Rattle.gh_ast.specs.Plain.{statements_view}
 use Rattle.gh_ast.specs.Programs.{names}
 use Rattle.gh_path.specs.Terms.{renewed, some_assigns}
@@ -15,3 +16,8 @@ loop-occ-preserved c = λ v.
     ap (renewed (filter test (names (drop (i + 1) c.args.occs.now)))) (c.in_ok-renew_one.ensures v)
     ∙ renewed_here test c.args.occs.now i o c.loop-occ-test.true c.occ-item.is holds (state c.loop-occ.kinds c.loop-occ.self v)
     ∙ c.loop-occ.invariant v
+
+pub returns : goal.returns
+returns c = λ v.
+    let none : drop c.loop-occ.occ-index c.args.occs.now ≡ [] = drop_of_length-le c.args.occs.now c.loop-occ-test.false in
+    rw none at (c.loop-occ.invariant v)

@@ -2,22 +2,22 @@ use Rattle.std.proofs.Common.{◌≡◌, Some}
 use Rattle.gh_ast.specs.Plain.{program_of, procedure_of}
 use Rattle.gh_path.specs.Terms.{callee_in}
 use Rattle.gh_symb.proofs.StepLemmas.{called_procedure}
-use Rattle.gh_symb.proofs.scope.Scope.encode_called.Goals as goal
+use Rattle.gh_symb.proofs.walker.Walker.encode_called.Goals as goal
 
 pub returns-clause-done : goal.returns-clause-done
 returns-clause-done c = λ f k.
-    let P = c.args.program.now in
+    let P = c.args.setting.program.now in
     let q = c.in-Some.callee.now in
     let l = c.in-Some.ensures.lookup in
     let callee : callee_in (program_of P).procedures f ≡ Some (procedure_of q) =
     called_procedure P c.deref.result.now c.args.callee q f c.deref.ensures.value l.3.0 l.1 k in
     rw callee c.in_ok-step.ensures.done
 
-pub returns-clause-encodes : goal.returns-clause-encodes
-returns-clause-encodes c = λ f k.
-    let P = c.args.program.now in
+pub returns-clause-read : goal.returns-clause-read
+returns-clause-read c = λ f k.
+    let P = c.args.setting.program.now in
     let q = c.in-Some.callee.now in
     let l = c.in-Some.ensures.lookup in
     let callee : callee_in (program_of P).procedures f ≡ Some (procedure_of q) =
     called_procedure P c.deref.result.now c.args.callee q f c.deref.ensures.value l.3.0 l.1 k in
-    rw callee c.in_ok-step.ensures.encodes
+    rw callee c.in_ok-step.ensures.read

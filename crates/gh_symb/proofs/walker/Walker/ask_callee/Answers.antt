@@ -4,31 +4,32 @@ use Rattle.gh_path.specs.Terms.{Terms, exprs_used, exprs_terms, walked, rebound,
 use Rattle.gh_symb.specs.Steps.{EndsWith}
 use Rattle.gh_symb.specs.Symbolic.{needs_under}
 use Rattle.gh_symb.specs.Tables.{bound_by, state}
+use Rattle.gh_symb.specs.Walkers.{terms_at}
 use Rattle.gh_symb.specs.Fitting.{EncodesCheck}
 use Rattle.gh_symb.specs.declared.over_terms.TermCheck.TheVariants as check
 use Rattle.gh_symb.proofs.EncodingLemmas.{entry_encoded}
-use Rattle.gh_symb.proofs.scope.Scope.ask_callee.Goals as goal
+use Rattle.gh_symb.proofs.walker.Walker.ask_callee.Goals as goal
 
 pub returns-clause-ended : goal.returns-clause-ended
 returns-clause-ended c =
-    let v = c.args.version in
+    let v = c.args.self.now.version in
     let p = procedure_of c.args.callee.now in
     let es = c.args.arguments.now in
     let t = state c.use_exprs.new.kinds c.use_exprs.new.self v in
-    let used : t ≡ exprs_used es (state c.args.kinds.now c.args.self.now v) = c.in_ok-use_exprs.ensures in
+    let used : t ≡ exprs_used es (terms_at c.args.self.now) = c.in_ok-use_exprs.ensures in
     let binds : bound_by c.bind_all.new.self ≡ bound_inside p (exprs_terms es t) =
     rw (c.new-inside.ensures, c.as_slice.ensures.value, c.as_slice-2.ensures.value, c.in_ok-terms.ensures) at c.in_ok-bind_all.ensures in
     let walks = c.in_ok-bound.ensures.made ∙ ap (λ b. walked p.needs (terms c.use_exprs.new.kinds b v)) binds in
     subst (λ (q : Terms). EndsWith (walked p.needs (rebound q (bound_inside p (exprs_terms es q)))) c.walk_bound.new.kinds v) used
     (record { kinds_are = ap (λ (q : Terms). q.kinds) walks; version_is = ap (λ (q : Terms). q.version) walks })
 
-pub returns-clause-encodes : goal.returns-clause-encodes
-returns-clause-encodes c =
-    let v = c.args.version in
+pub returns-clause-read : goal.returns-clause-read
+returns-clause-read c =
+    let v = c.args.self.now.version in
     let p = procedure_of c.args.callee.now in
     let es = c.args.arguments.now in
     let t = state c.use_exprs.new.kinds c.use_exprs.new.self v in
-    let used : t ≡ exprs_used es (state c.args.kinds.now c.args.self.now v) = c.in_ok-use_exprs.ensures in
+    let used : t ≡ exprs_used es (terms_at c.args.self.now) = c.in_ok-use_exprs.ensures in
     let ts = exprs_terms es t in
     let i = state c.use_exprs.new.kinds c.bind_all.new.self v in
     let binds : bound_by c.bind_all.new.self ≡ bound_inside p ts =

@@ -1,9 +1,0 @@
-use Rattle.std.proofs.Common.{◌≡◌, drop, map}
-use Rattle.gh_ast.specs.Plain.{formula_of}
-use Rattle.gh_path.specs.Terms.{each_walked}
-use Rattle.gh_symb.specs.Tables.{state}
-use Rattle.gh_symb.proofs.scope.Scope.walk_each.Given as goal
-
-abbrev pub invariant-loop-alternative : goal.invariant-loop-alternative
-invariant-loop-alternative l =
-    each_walked (map formula_of (drop l.alternative-index l.alternatives)) (state l.kinds l.self l.version) ≡ each_walked (map formula_of l.alternatives) (state l.initial.kinds l.initial.self l.version)

@@ -1,0 +1,54 @@
+-- What is read off the names and kinds of a walk, and how first uses are learned.
+use Rattle.std.specs.Prelude.{◌≡◌, ℕ, List, map}
+use Rattle.gh_ast.specs.declared.Assertion.{Assertion}
+use Rattle.gh_ast.specs.declared.Cond.{Cond}
+use Rattle.gh_ast.specs.Plain.{formula_of, formulas_view, tests_view}
+use Rattle.gh_ast.specs.Programs.{Name}
+use Rattle.gh_path.specs.Terms.{Kind, Terms, walked, all_walked, each_walked, tests_walked}
+use Rattle.gh_grass.specs.declared.binding.Bond.{Bond}
+use Rattle.gh_symb.specs.Symbolic.{under, each_under}
+use Rattle.gh_symb.specs.Phases.{learned, bound_unless, under_bindings, both}
+use Rattle.gh_symb.specs.Tables.{Bound, bound_by, state, Walks}
+use Rattle.gh_symb.specs.Encodings.{Each}
+use Rattle.gh_symb.specs.Fitting.{EncodesBinding, EncodesUnder}
+use Rattle.gh_symb.specs.declared.scope.Entry.{Entry}
+use Rattle.gh_symb.specs.declared.over_terms.Bound as over_terms
+
+-- an assertion is walked
+abbrev pub walked_of : Assertion → Terms → Terms
+walked_of a = walked (formula_of a)
+
+-- .. as the members of a star
+abbrev pub all_walked_of : List Assertion → Terms → Terms
+all_walked_of assertions = all_walked (formulas_view assertions)
+
+-- tests are walked in order
+abbrev pub all_tests_of : List Cond → Terms → Terms
+all_tests_of tests = tests_walked (tests_view tests)
+
+-- alternatives are walked in order
+abbrev pub WalksEach : List Assertion → List Kind → Bound → List Kind → Bound → ℕ → Type 0
+WalksEach assertions ks es ls fs i = Walks (each_walked (map formula_of assertions)) ks es ls fs i
+
+-- an assertion in a version, as its variables are bound
+abbrev pub ReadsBound : Assertion → Bound → ℕ → over_terms.Bound → Type 0
+ReadsBound a es i b = EncodesUnder b (under_bindings (formula_of a) (bound_by es) i)
+
+-- .. once it is walked
+abbrev pub ReadsWalked : Assertion → List Kind → Bound → ℕ → over_terms.Bound → Type 0
+ReadsWalked a ks es i b = EncodesUnder b (under (formula_of a) (state ks es i))
+
+abbrev pub ReadsEach : List Assertion → List Kind → Bound → ℕ → List over_terms.Bound → Type 0
+ReadsEach assertions ks es i bs = Each EncodesUnder bs (each_under (map formula_of assertions) (state ks es i))
+
+-- the terms at each state, and where there are none those of first uses
+abbrev pub ReadsStates : List Bound → Bound → List (List Bond) → Type 0
+ReadsStates states firsts bs = Each EncodesBinding bs (map (λ es. both (bound_by es) (bound_by firsts)) states)
+
+-- the variable of an entry, unless it had a term before
+abbrev pub LearnsOne : Bound → Entry → Bound → Bound → Type 0
+LearnsOne before e old new = bound_by new ≡ bound_unless (bound_by before e.name.now) (bound_by old) e.name.now e.term
+
+-- the variables that had no term before and have one now
+abbrev pub Learns : Bound → Bound → Bound → Bound → Type 0
+Learns before now old new = (x : Name) → bound_by new x ≡ learned (bound_by before x) (bound_by now x) (bound_by old x)

@@ -1,0 +1,110 @@
+-- What the parts of a walk over a condition do, and what is read off them.
+use Rattle.std.specs.Prelude.{◌≡◌, ℕ, ◌+◌, List, length, Some}
+use Rattle.gh_base.specs.declared.place.Span.{Span}
+use Rattle.gh_ast.specs.declared.Expr.{Expr}
+use Rattle.gh_ast.specs.declared.Occ.{Occ}
+use Rattle.gh_ast.specs.declared.Procedure as whole
+use Rattle.gh_ast.specs.Plain.{Procedure, Program, procedure_of}
+use Rattle.gh_ast.specs.Programs.{names}
+use Rattle.gh_path.specs.Graphs.{Loop, PathStep, looped}
+use Rattle.gh_path.specs.declared.condition.PathStep as kept_step
+use Rattle.gh_path.specs.declared.condition.Start as kept_start
+use Rattle.gh_path.specs.declared.condition.CheckKind as kept_kind
+use Rattle.gh_path.specs.Kept.{IsLoop}
+use Rattle.gh_path.specs.Terms.{Terms, walked, call_walked, exprs_terms, exprs_used}
+use Rattle.gh_symb.specs.Tables.{bound_by, state}
+use Rattle.gh_symb.specs.Rounds.{IsRound}
+use Rattle.gh_symb.specs.Settings.{program_in, procedure_in, variables_in}
+use Rattle.gh_symb.specs.Steps.{IsStepped, IsChecked, EndsWith, entry_made}
+use Rattle.gh_symb.specs.Phases.{IsUsed, IsCheckUsed, IsBegun, step_done, step_encoding}
+use Rattle.gh_symb.specs.StepEncodings.{IsFinished, IsStepEncoding, IsCallFinished, IsCallEncoding, IsAsking, needs_asked}
+use Rattle.gh_symb.specs.Fitting.{EncodesStep, EncodesCheck}
+use Rattle.gh_symb.specs.Symbolic as plain
+use Rattle.gh_symb.specs.Symbolic.{call_parts}
+use Rattle.gh_symb.specs.declared.over_terms.Bound.{Bound}
+use Rattle.gh_symb.specs.declared.over_terms.TermStep.{TermStep}
+use Rattle.gh_symb.specs.declared.over_terms.TermCheck.{TermCheck}
+use Rattle.gh_symb.specs.declared.rounds.Round.{Round}
+use Rattle.gh_symb.specs.declared.setting.Setting.{Setting}
+use Rattle.gh_symb.specs.declared.walker.Walker.{Walker}
+
+abbrev pub terms_at : Walker → Terms
+terms_at w = state w.kinds w.scope w.version
+
+-- it leads from the terms before it to f of them
+abbrev pub Goes : (Terms → Terms) → Walker → Walker → Type 0
+Goes f v w = terms_at w ≡ f (terms_at v)
+
+-- the start assertion is walked, and given
+abbrev pub Begins : Setting → kept_start.Start → Walker → Walker → Bound → Type 0
+Begins s start v w b = IsBegun (procedure_in s) start (terms_at v) (terms_at w) b
+
+-- a step: its variables are used; it is done; both
+abbrev pub UsesStep : Setting → kept_step.PathStep → Walker → Walker → Type 0
+UsesStep s r v w = IsUsed (program_in s) (procedure_in s) r (terms_at v) (terms_at w)
+
+abbrev pub DoesStep : Setting → kept_step.PathStep → Walker → Walker → Type 0
+DoesStep s r v w = IsFinished (program_in s) (procedure_in s) r (terms_at v) (terms_at w)
+
+abbrev pub WalksStep : Setting → kept_step.PathStep → Walker → Walker → Type 0
+WalksStep s r v w = IsStepped (program_in s) (procedure_in s) r (terms_at v) (terms_at w)
+
+-- how it is encoded, once its variables are used
+abbrev pub ReadsStep : Setting → kept_step.PathStep → Walker → TermStep → Type 0
+ReadsStep s r v encoded = IsStepEncoding (program_in s) (procedure_in s) r (terms_at v) encoded
+
+-- the same whatever the program is
+abbrev pub DoesAnywhere : kept_step.PathStep → Walker → Walker → Type 0
+DoesAnywhere r v w = (P : Program) (p : Procedure) → IsFinished P p r (terms_at v) (terms_at w)
+
+abbrev pub ReadsAnywhere : kept_step.PathStep → Walker → TermStep → Type 0
+ReadsAnywhere r v encoded = (P : Program) (p : Procedure) → IsStepEncoding P p r (terms_at v) encoded
+
+-- the invariant of the loop of a number is walked
+abbrev pub WalksInvariant : Setting → ℕ → Walker → Walker → Type 0
+WalksInvariant s n v w = (l : Loop) → IsLoop (procedure_in s) n l → Goes (walked l.invariant) v w
+
+-- a loop that is met
+abbrev pub DoesLoop : Setting → Round → Walker → Walker → Type 0
+DoesLoop s round v w = (l : Loop) → IsRound round l → Goes (step_done (program_in s) (variables_in s) (looped l)) v w
+
+abbrev pub ReadsLoop : Setting → Round → Walker → TermStep → Type 0
+ReadsLoop s round v encoded = (l : Loop) → IsRound round l → EncodesStep encoded (step_encoding (program_in s) (variables_in s) (looped l) (terms_at v))
+
+-- a call of the procedure of a number
+abbrev pub DoesCall : Setting → ℕ → List Occ → List Expr → Walker → Walker → Type 0
+DoesCall s n xs es v w = IsCallFinished (program_in s) n (names xs) es (terms_at v) (terms_at w)
+
+abbrev pub ReadsCall : Setting → ℕ → List Expr → Walker → TermStep → Type 0
+ReadsCall s n es v encoded = IsCallEncoding (program_in s) n es (terms_at v) encoded
+
+-- a new cell
+abbrev pub cell_read : Terms → plain.TermStep
+cell_read s = plain.made (length s.kinds) (length s.kinds + 1)
+
+-- a call of a procedure, once its arguments are used
+abbrev pub call_done : whole.Procedure → List Occ → List Expr → Terms → Terms
+call_done p xs es s = call_walked (Some (procedure_of p)) (names xs) (exprs_terms es s) s
+
+abbrev pub call_read : whole.Procedure → List Expr → Terms → plain.TermStep
+call_read p es s = call_parts (Some (procedure_of p)) (exprs_terms es s) s
+
+-- a check: its variables are used; the walk ends with it; what it asks
+abbrev pub UsesCheck : Setting → kept_kind.CheckKind → Walker → Walker → Type 0
+UsesCheck s r v w = (at : Span) → IsCheckUsed (program_in s) (procedure_in s) r at (terms_at v) (bound_by w.scope)
+
+abbrev pub EndsCheck : Setting → kept_kind.CheckKind → Walker → Walker → Type 0
+EndsCheck s r v w = (at : Span) → IsChecked (program_in s) (procedure_in s) r at (terms_at v) w.kinds w.version
+
+abbrev pub ReadsCheck : Setting → kept_kind.CheckKind → Walker → TermCheck → Type 0
+ReadsCheck s r v asked = (at : Span) → IsAsking (program_in s) (procedure_in s) r at (terms_at v) asked
+
+-- the same of what a callee needs
+abbrev pub UsesAll : List Expr → Walker → Walker → Type 0
+UsesAll es v w = bound_by w.scope ≡ (exprs_used es (terms_at v)).bindings
+
+abbrev pub EndsEntry : whole.Procedure → List Expr → Walker → Walker → Type 0
+EndsEntry p es v w = EndsWith (entry_made (procedure_of p) es (terms_at v)) w.kinds w.version
+
+abbrev pub ReadsEntry : whole.Procedure → List Expr → Walker → TermCheck → Type 0
+ReadsEntry p es v asked = EncodesCheck asked (needs_asked (procedure_of p) es (terms_at v))

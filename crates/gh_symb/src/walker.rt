@@ -1,0 +1,81 @@
+//! A walk over a condition, step by step.
+
+ghost use Rattle.std.specs.Prelude.{◌≡◌, OnOk, IfOk};
+ghost use Rattle.gh_path.specs.Terms.{no_terms};
+ghost use Rattle.gh_symb.specs.Walkers.{terms_at, UsesStep, WalksInvariant};
+
+use crate::kinds::Kinds;
+use crate::rounds::round_of;
+use crate::scope::Scope;
+use crate::setting::Setting;
+use gh_path::condition::PathStep;
+use std::alloc::{AllocError, Global};
+
+/// How far a walk has come: the kinds of the terms, the variables that have terms, and the present version of the
+/// heap.
+#[derive(Debug, Drop)]
+pub struct Walker<'a> {
+    pub kinds: Kinds,
+    pub scope: Scope<'a>,
+    pub version: usize,
+}
+
+impl<'a> Walker<'a> {
+    /// Null alone, no variable with a term, and the first version.
+    pub fn new(alloc: Global) -> Result<Walker<'a>, AllocError>
+        ensures terms { IfOk result (λ w. terms_at w ≡ no_terms) }
+        ensures version { IfOk result (λ w. w.version ≡ 0) }
+    {
+        let kinds = Kinds::new(alloc)?;
+        let scope = Scope::new(alloc);
+        Ok(Walker {
+            kinds,
+            scope,
+            version: 0,
+        })
+    }
+
+    /// Walks over the invariant of a loop.
+    fn walk_invariant(&mut self, setting: Setting<'a>, number: u16) -> Result<(), AllocError>
+        ensures terms { OnOk result (WalksInvariant setting.entry number self.old self.new) }
+        ensures version { OnOk result (self.new.version ≡ self.old.version) }
+    {
+        match round_of(setting.procedure, number as usize) {
+            Some(round) => self
+                .scope
+                .walk(&mut self.kinds, round.invariant, self.version),
+            None => Ok(()),
+        }
+    }
+
+    /// The variables that a step uses get terms.
+    pub fn use_step(&mut self, setting: Setting<'a>, step: &'a PathStep) -> Result<(), AllocError>
+        ensures uses { OnOk result (UsesStep setting.entry step.now self.old self.new) }
+        ensures version { OnOk result (self.new.version ≡ self.old.version) }
+    {
+        let version = self.version;
+        match step {
+            PathStep::Access { at } => self.scope.use_name(&mut self.kinds, &at.name),
+            PathStep::Assume { left, right, .. } => {
+                self.scope.use_expr(&mut self.kinds, left, version)?;
+                self.scope.use_expr(&mut self.kinds, right, version)
+            }
+            PathStep::Set { value, .. } => self.scope.use_expr(&mut self.kinds, value, version),
+            PathStep::Write { at, value } => {
+                self.scope.use_name(&mut self.kinds, &at.name)?;
+                self.scope.use_expr(&mut self.kinds, value, version)
+            }
+            PathStep::New { .. } => Ok(()),
+            PathStep::Free { at } => self.scope.use_name(&mut self.kinds, &at.name),
+            PathStep::Call { arguments, .. } => {
+                self.scope
+                    .use_exprs(&mut self.kinds, arguments.as_slice(), version)
+            }
+            PathStep::Loop { number } => self.walk_invariant(setting, *number),
+            PathStep::Return { values } => {
+                self.scope
+                    .use_exprs(&mut self.kinds, values.as_slice(), version)
+            }
+        }
+    }
+}
