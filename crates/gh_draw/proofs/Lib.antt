@@ -12,3 +12,4 @@ pub mod Lines
 pub mod DescribedLines
 pub mod Refuted
 pub mod Reports
+pub mod Drawable

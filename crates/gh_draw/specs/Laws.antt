@@ -3,14 +3,16 @@ use Rattle.std.specs.Prelude.{◌≡◌, ◌≢◌, ℕ, ◌-◌, ◌≤◌, Lis
 use Rattle.std.specs.List.{flat_map}
 use Rattle.gh_ast.specs.Grammar.{Spells}
 use Rattle.gh_ast.specs.Plain.{Program}
-use Rattle.gh_ast.specs.Programs.{variable_names}
+use Rattle.gh_ast.specs.Programs.{Name, variable_names}
 use Rattle.gh_ast.specs.Rules.{IsTyped}
+use Rattle.gh_assert.specs.Heaps.{IsProper}
+use Rattle.gh_assert.specs.Stores.{listed_names, AreDistinct}
 use Rattle.gh_path.specs.Conditions.{Condition, conditions}
 use Rattle.gh_trace.specs.Kept.{state_of, drawn}
 use Rattle.gh_trace.specs.Replay.{Refutes}
 use Rattle.gh_trace.specs.declared.state.State.{State}
 use Rattle.gh_draw.specs.Descriptions.{description}
-use Rattle.gh_draw.specs.Drawings.{line, drawing}
+use Rattle.gh_draw.specs.Drawings.{line, drawing, IsDrawable}
 use Rattle.gh_draw.specs.Drawn.{drawing_text, IsValue, HasValues, IsOver, IsDrawnFor, IsTold, IsOtherLine, IsFileOf}
 use Rattle.gh_draw.specs.Reading.{IsDrawingIn, IsDrawingOf}
 use Rattle.gh_draw.specs.declared.drawing.Drawing.{Drawing}
@@ -52,3 +54,8 @@ RefutationsAreFiles =
     (source : List ℕ) (P : Program) (first : List ℕ) (n : ℕ) (c : Condition) (xs : List State) → Spells source P → IsTyped P → IsOtherLine first → 1 ≤ n → IsValue n
     → slice_get (conditions P) (n - 1) ≡ Some c → Refutes P c (map drawn xs) → All HasValues xs
     → IsFileOf P (line first ++ line (description c) ++ drawing n (variable_names c.procedure) (map state_of xs)) n xs
+
+-- where each name stands once and null has no cell, kept states have values within 32 bits exactly where the states that they stand for are drawable
+pub record DrawableHaveValues : Type 0 where
+  pub drawable : (names : List Name) (s : State) → HasValues s → IsDrawable names (state_of s)
+  pub values : (s : State) → AreDistinct s.store → IsProper s.heap → IsDrawable (listed_names s.store) (state_of s) → HasValues s

@@ -2,6 +2,7 @@
 //! written read back as itself.
 
 ghost use Rattle.gh_draw.specs.Laws.{DrawingsAreOne, DrawingsAreFiles, DrawingsReadBack, DrawingsAreTold, ReportsAreFiles, RefutationsAreTold, DescriptionsAreLines, RefutationsAreFiles};
+ghost use Rattle.gh_draw.specs.Laws.{DrawableHaveValues};
 
 /// A file has at most one drawing of a condition of a program.
 pub fn drawings_are_one()
@@ -43,4 +44,9 @@ pub fn descriptions_are_lines()
 /// The report on a refuted condition is a drawing file.
 pub fn refutations_are_files()
     ensures { RefutationsAreFiles }
+{}
+
+/// A kept state has values within 32 bits exactly where the state that it stands for is drawable.
+pub fn drawable_have_values()
+    ensures { DrawableHaveValues }
 {}

@@ -1,6 +1,6 @@
 //! Reading drawings back.
 
-ghost use Rattle.std.specs.Prelude.{◌≡◌, ◌++◌, IfOk, OnOk, option_map};
+ghost use Rattle.std.specs.Prelude.{◌≡◌, ◌++◌, IfOk, OnOk, OnErr, option_map};
 ghost use Rattle.gh_ast.specs.Plain.{program_of, procedure_of};
 ghost use Rattle.gh_ast.specs.Programs.{names, variable_names};
 ghost use Rattle.gh_draw.specs.Reading.{IsFrontRead, IsFound, ShowsWord, heading, ShowsEntries, ShowsCellAbove, ShowsState, ShowsStates, ShowsHeap, ShowsCondition, ShowsTrace, IsSkipped, AreDistinctNames, IsDrawingIn};
@@ -39,8 +39,8 @@ pub fn variables(alloc: Global, procedure: &Procedure) -> Result<Vec<Name>, Allo
     Ok(all)
 }
 
-/// A store with a value for each name, in their order; none where the text shows no such values.
-pub fn read_store(
+// A store with a value for each name, in their order; none where the text shows no such values.
+fn read_values(
     alloc: Global,
     cursor: &mut Cursor<'_>,
     names: &[Name],
@@ -58,8 +58,25 @@ pub fn read_store(
     Ok(Some(store))
 }
 
-/// The cells up to the end of the line, and that end; none where the text shows no ascending cells there.
-pub fn read_heap(alloc: Global, cursor: &mut Cursor<'_>) -> Result<Option<Heap>, AllocError>
+/// A store with a value for each name, in their order; none where the text shows no such values. Where memory runs
+/// out the text is left as it was.
+pub fn read_store(
+    alloc: Global,
+    cursor: &mut Cursor<'_>,
+    names: &[Name],
+) -> Result<Option<Store>, AllocError>
+    requires { AreDistinctNames names.now }
+    ensures read { IfOk result (IsFrontRead (ShowsEntries names.now) cursor.old.text.now cursor.new.text.now) }
+    ensures err { OnErr result (cursor.new.text.now ≡ cursor.old.text.now) }
+{
+    let mut ahead = Cursor { text: cursor.text };
+    let store = read_values(alloc, &mut ahead, names)?;
+    cursor.text = ahead.text;
+    Ok(store)
+}
+
+// The cells up to the end of the line, and that end; none where the text shows no ascending cells there.
+fn read_cells(alloc: Global, cursor: &mut Cursor<'_>) -> Result<Option<Heap>, AllocError>
     ensures { IfOk result (IsFrontRead ShowsHeap cursor.old.text.now cursor.new.text.now) }
 {
     let mut heap = Heap::new(alloc);
@@ -72,6 +89,18 @@ pub fn read_heap(alloc: Global, cursor: &mut Cursor<'_>) -> Result<Option<Heap>,
         low = at;
     }
     Ok(Some(heap))
+}
+
+/// The cells up to the end of the line, and that end; none where the text shows no ascending cells there. Where
+/// memory runs out the text is left as it was.
+pub fn read_heap(alloc: Global, cursor: &mut Cursor<'_>) -> Result<Option<Heap>, AllocError>
+    ensures read { IfOk result (IsFrontRead ShowsHeap cursor.old.text.now cursor.new.text.now) }
+    ensures err { OnErr result (cursor.new.text.now ≡ cursor.old.text.now) }
+{
+    let mut ahead = Cursor { text: cursor.text };
+    let heap = read_cells(alloc, &mut ahead)?;
+    cursor.text = ahead.text;
+    Ok(heap)
 }
 
 // A cell above a place.

@@ -52,6 +52,14 @@ next_one P k r (c, low, there, stands) =
 pub is_one : (P : Program) (k : ℕ) (r : kept.Condition) → IsNumbered P (k + 1) (Some r) → IsOne P r
 is_one P k r found = let c = next_one P k r found in (c.0, c.2)
 
+-- the condition of any number
+pub numbered_one : (P : Program) (n : ℕ) (r : kept.Condition) → IsNumbered P n (Some r) → IsOne P r
+numbered_one P n r (c, low, there, stands) = (c, record { stands = stands; there = placed P (n - 1) c there })
+
+-- its procedure stands at its number
+pub has_procedure : (P : Program) (r : kept.Condition) → IsOne P r → slice_get P.procedures r.procedure ≡ None → ⊥
+has_procedure P r (c, one) none = let at : slice_get P.procedures r.procedure ≡ Some c.procedure = one.stands.procedure in absurd cc
+
 -- the first that isn't valid
 
 -- the next condition is refuted, after valid ones

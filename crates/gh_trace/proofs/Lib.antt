@@ -11,3 +11,4 @@ pub mod CallLemmas
 pub mod Following
 pub mod FirstRefuted
 pub mod StepCounts
+pub mod Meanings

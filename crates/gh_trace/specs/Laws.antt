@@ -1,15 +1,17 @@
 -- The laws.
-use Rattle.std.specs.Prelude.{◌≡◌, ◌↔◌, ℕ, suc, ◌≤◌, List, length, ◌++◌, map, Contains, All}
+use Rattle.std.specs.Prelude.{◌≡◌, ◌↔◌, ℕ, suc, ◌≤◌, List, length, ◌++◌, map, false, Some, slice_get, Contains, All}
 use Rattle.gh_ast.specs.declared.Occ.{Occ}
 use Rattle.gh_ast.specs.declared.Expr.{Expr}
-use Rattle.gh_ast.specs.Plain.{Formula, Procedure, Program}
+use Rattle.gh_ast.specs.Plain.{Formula, Procedure, Program, Test}
 use Rattle.gh_ast.specs.Programs.{Name, names, parameters_of, results_of, Declares}
 use Rattle.gh_ast.specs.Names.{FormulaIn}
+use Rattle.gh_ast.specs.WellFormed.{IsFormedTest}
 use Rattle.gh_assert.specs.Heaps.{Heap, IsProper, Splits}
-use Rattle.gh_assert.specs.Meaning.{Store, Meaning, HasPart, MeetsOneOf}
-use Rattle.gh_assert.specs.Values.{Give}
+use Rattle.gh_assert.specs.Meaning.{Store, Meaning, HasPart, MeetsOneOf, truth}
+use Rattle.gh_assert.specs.Values.{Give, outcome}
 use Rattle.gh_path.specs.Graphs.{Check, entry, PathStep, called}
 use Rattle.gh_path.specs.Conditions.{Condition}
+use Rattle.gh_path.specs.Kept.{IsCallee}
 use Rattle.gh_trace.specs.Traces.{State, Replaced, Takes, Passes, IsTrace, last_state}
 use Rattle.gh_trace.specs.Replay.{Drawn, FirstFailure, Refutes}
 
@@ -55,3 +57,12 @@ CallsAreOne =
     (P : Program) (xs : List Occ) (f : Occ) (es : List Expr) (x y : State) (p : Procedure) (vs : List ℕ) (inside : Store) → HasOwnNames p → Declares P f.name p →
     Give x.store x.heap es vs → map inside (parameters_of p) ≡ vs → map inside (results_of p) ≡ map y.store (names xs) →
     Takes P (called xs f es) x y ↔ (((n : Name) → (Contains (names xs) n → ⊥) → y.store n ≡ x.store n) × Replaced p.needs inside x.heap (MeetsOneOf p.gives inside) y.heap)
+
+-- a test without reads, as those of assertions are, gives in any heap the truth that it has in an assertion
+abbrev pub TestsGiveTheirTruth : Type 0
+TestsGiveTheirTruth = (s : Store) (h : Heap) (t : Test) → IsFormedTest false t → outcome s h t ≡ Some (truth s t)
+
+-- the number of a callee is that of the procedure that a call of its name means
+abbrev pub CalleesAreNumbered : Type 0
+CalleesAreNumbered =
+    (P : Program) (f : Name) (p : Procedure) → Declares P f p ↔ ((n : ℕ) × IsCallee P n f × (slice_get P.procedures n ≡ Some p))

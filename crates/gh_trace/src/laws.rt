@@ -1,6 +1,7 @@
 //! Laws of traces.
 
 ghost use Rattle.gh_trace.specs.Laws.{FailuresAreOne, TracesAreProper, ChecksAreDecided, PartsAreReplaced, EntriesAreOne, CallsAreOne};
+ghost use Rattle.gh_trace.specs.Laws.{TestsGiveTheirTruth, CalleesAreNumbered};
 
 /// Drawn states have at most one first failure, and a counterexample has none.
 pub fn failures_are_one()
@@ -30,4 +31,14 @@ pub fn entries_are_one()
 /// Any store with the values of arguments and targets decides the step of a call.
 pub fn calls_are_one()
     ensures { CallsAreOne }
+{}
+
+/// A test without reads means the same in an assertion and in a statement.
+pub fn tests_give_their_truth()
+    ensures { TestsGiveTheirTruth }
+{}
+
+/// The number of a callee is that of the procedure that a call of its name means.
+pub fn callees_are_numbered()
+    ensures { CalleesAreNumbered }
 {}

@@ -3,7 +3,7 @@
 ghost use Rattle.std.specs.Prelude.{◌≡◌, ◌≤◌, IfErr, IfOk, OnOk, IsTrue, length};
 ghost use Rattle.gh_ast.specs.Plain.{program_of};
 ghost use Rattle.gh_assert.specs.Stores.{listed_names};
-ghost use Rattle.gh_trace.specs.Kept.{drawn_of, IsRefuted, IsFailure};
+ghost use Rattle.gh_trace.specs.Kept.{drawn_of, IsOne, IsRefuted, IsFailure};
 ghost use Rattle.gh_trace.specs.Scenes.{HasLoops, scene_variables};
 ghost use Rattle.gh_trace.specs.Decisions.{DecidesNext, IsRefutedIn, IsFailureIn};
 
@@ -105,19 +105,20 @@ fn walk(
     Ok(())
 }
 
-/// Whether a trace is a counterexample of a condition of a program.
+/// Whether a trace is a counterexample of a condition of the program.
 pub fn replay(
     alloc: Global,
     typed: &Typed,
     condition: &Condition,
     trace: &Trace,
 ) -> Result<(), ReplayError>
-    requires { length condition.now.steps.items ≤ 256 }
+    requires one { IsOne (program_of typed.now) condition.now }
+    requires few { length condition.now.steps.items ≤ 256 }
     ensures refuted { OnOk result (IsRefuted (program_of typed.now) condition.now (drawn_of trace.now)) }
     ensures failed { IfErr result (IsFailure (program_of typed.now) condition.now (drawn_of trace.now)) }
 {
     let Some(procedure) = procedure_at(typed, condition.procedure) else {
-        return Err(failure(0));
+        unreachable!();
     };
     let loops = loops_of(alloc, procedure)?;
     let scene = Scene {

@@ -117,7 +117,9 @@ fn replays(
     typed: &Typed,
     condition: &Condition,
     trace: &Trace,
-) -> Result<bool, AllocError> {
+) -> Result<bool, AllocError>
+    requires { IsOne (program_of typed.now) condition.now }
+{
     if condition.steps.as_slice().len() > 256 {
         return Ok(false);
     }

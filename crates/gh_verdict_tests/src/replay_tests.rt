@@ -1,11 +1,14 @@
 // Worked traces that are replayed.
 
-ghost use Rattle.std.specs.Prelude.{◌<◌, ◌^◌, ◌-◌, length};
+ghost use Rattle.std.specs.Prelude.{◌≡◌, ◌<◌, ◌^◌, ◌-◌, length};
+ghost use Rattle.gh_ast.specs.Plain.{program_of};
 
 use gh_assert::heap::Heap;
 use gh_assert::store::Store;
+use gh_ast::typed::Typed;
 use gh_ast::{Occ, Procedure};
 use gh_parse::parse::parse;
+use gh_path::conditions::Conditions;
 use gh_path::listing::conditions;
 use gh_texts::{CUT, DROP, LAST, OUTER, REUSE};
 use gh_trace::replay::{ReplayError, replay};
@@ -52,19 +55,16 @@ fn state_of(alloc: Global, procedure: &Procedure, drawn: Drawn) -> Result<State,
 }
 
 // How a replay of some states of a condition ends: 1000 where they are a counterexample, else the first failure.
-fn ends(alloc: Global, text: &[u8], number: u32, drawn: &[Drawn]) -> Result<u16, AllocError>
-    requires { length text.now < 2 ^ 32 - 1 }
+fn ends_of(
+    alloc: Global,
+    typed: &Typed,
+    conditions: &Conditions<'_>,
+    number: u32,
+    drawn: &[Drawn],
+) -> Result<u16, AllocError>
+    requires { program_of conditions.now ≡ program_of typed.now }
 {
-    let Ok(program) = parse(alloc, text) else {
-        return Ok(2000);
-    };
-    let Ok(typed) = check(alloc, program) else {
-        return Ok(2000);
-    };
-    let Ok(all) = conditions(alloc, &typed) else {
-        return Ok(2000);
-    };
-    let Some(condition) = all.condition(alloc, number)? else {
+    let Some(condition) = conditions.condition(alloc, number)? else {
         return Ok(2000);
     };
     let procedures = typed.program().procedures.as_slice();
@@ -78,10 +78,26 @@ fn ends(alloc: Global, text: &[u8], number: u32, drawn: &[Drawn]) -> Result<u16,
     if condition.steps.as_slice().len() > 256 {
         return Ok(2000);
     }
-    match replay(alloc, &typed, &condition, &Trace { states }) {
+    match replay(alloc, typed, &condition, &Trace { states }) {
         Ok(()) => Ok(1000),
         Err(ReplayError::Step { number }) => Ok(number),
         Err(ReplayError::OutOfMemory) => Err(AllocError),
+    }
+}
+
+// The same of a condition of a text.
+fn ends(alloc: Global, text: &[u8], number: u32, drawn: &[Drawn]) -> Result<u16, AllocError>
+    requires { length text.now < 2 ^ 32 - 1 }
+{
+    let Ok(program) = parse(alloc, text) else {
+        return Ok(2000);
+    };
+    let Ok(typed) = check(alloc, program) else {
+        return Ok(2000);
+    };
+    match conditions(alloc, &typed) {
+        Ok(all) => ends_of(alloc, &typed, &all, number, drawn),
+        Err(_) => Ok(2000),
     }
 }
 

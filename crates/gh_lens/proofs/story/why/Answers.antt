@@ -6,11 +6,20 @@ use Rattle.gh_trace.specs.declared.replay.ReplayError.TheVariants.{Step}
 use Rattle.gh_lens.specs.Stories.{IsExplained}
 use Rattle.gh_lens.specs.declared.story.Explained.TheVariants.{Fails}
 use Rattle.gh_lens.proofs.Telling.{shown, told_by_number, fails_by_number}
+use Rattle.gh_trace.proofs.FirstRefuted.{numbered_one}
 use Rattle.gh_trace.proofs.StepCounts.{few_steps}
 use Rattle.gh_lens.proofs.story.why.Goals as goal
 
-pub replay-requires : goal.replay-requires
-replay-requires c =
+pub replay-requires-clause-one : goal.replay-requires-clause-one
+replay-requires-clause-one c =
+    let P = program_of c.args.typed.now in
+    let n = c.args.drawing.now.condition in
+    let r = c.in-Some.condition in
+    let found : IsNumbered P n (Some r) = subst (λ Q. IsNumbered Q n (Some r)) c.requires.same (rw c.in-Some.is at c.in_ok-condition.ensures) in
+    numbered_one P n r found
+
+pub replay-requires-clause-few : goal.replay-requires-clause-few
+replay-requires-clause-few c =
     let P = program_of c.args.typed.now in
     let n = c.args.drawing.now.condition in
     let r = c.in-Some.condition in

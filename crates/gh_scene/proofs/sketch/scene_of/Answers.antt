@@ -3,6 +3,7 @@ use Rattle.std.proofs.lemmas.List.{nil_from_length}
 use Rattle.gh_ast.specs.Plain.{program_of}
 use Rattle.gh_path.specs.Answers.{IsNumbered}
 use Rattle.gh_scene.proofs.Sketching.{has_meaning, sketched, sketch_fails, no_states}
+use Rattle.gh_trace.proofs.FirstRefuted.{numbered_one}
 use Rattle.gh_trace.proofs.StepCounts.{few_steps}
 use Rattle.gh_scene.proofs.sketch.scene_of.Goals as goal
 use Rattle.gh_scene.specs.Sketches.{IsSketch}
@@ -20,8 +21,15 @@ returns-in_default-split_first c =
     let found : IsNumbered P n (Some c.in-Some.condition) = subst (λ Q. IsNumbered Q n (Some c.in-Some.condition)) c.requires.same (rw c.in-Some.is at c.in_ok-condition.ensures) in
     no_states P n c.in-Some.condition c.args.drawing.now.trace.states.items found (sym c.as_slice-states.ensures.value ∙ nil_from_length c.as_slice-states.result.now c.in_default-split_first.ensures.cases)
 
-pub replay-requires : goal.replay-requires
-replay-requires c =
+pub replay-requires-clause-one : goal.replay-requires-clause-one
+replay-requires-clause-one c =
+    let P = program_of c.args.typed.now in
+    let n = c.args.drawing.now.condition in
+    let found : IsNumbered P n (Some c.in-Some.condition) = subst (λ Q. IsNumbered Q n (Some c.in-Some.condition)) c.requires.same (rw c.in-Some.is at c.in_ok-condition.ensures) in
+    numbered_one P n c.in-Some.condition found
+
+pub replay-requires-clause-few : goal.replay-requires-clause-few
+replay-requires-clause-few c =
     let P = program_of c.args.typed.now in
     let n = c.args.drawing.now.condition in
     let found : IsNumbered P n (Some c.in-Some.condition) = subst (λ Q. IsNumbered Q n (Some c.in-Some.condition)) c.requires.same (rw c.in-Some.is at c.in_ok-condition.ensures) in

@@ -3,8 +3,12 @@ use Rattle.std.specs.Prelude.{OnOk, IfErr}
 use Rattle.std.proofs.lemmas.Result.{on_ok_weaker, MatchResult-weaker}
 use Rattle.gh_ast.specs.Plain.{procedure_of, program_of}
 use Rattle.gh_trace.specs.Kept.{drawn, IsRefuted, IsFailure}
+use Rattle.gh_trace.proofs.FirstRefuted.{has_procedure}
 use Rattle.gh_trace.proofs.Following.{refutes_whole, fails_whole}
 use Rattle.gh_trace.proofs.replay.replay.Goals as goal
+
+pub unreachable-requires : goal.unreachable-requires
+unreachable-requires c = has_procedure (program_of c.args.typed.now) c.args.condition.now c.requires.one c.in_default.ensures.none
 
 pub returns-clause-refuted : goal.returns-clause-refuted
 returns-clause-refuted c =

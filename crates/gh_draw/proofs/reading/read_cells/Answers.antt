@@ -1,7 +1,7 @@
 use Rattle.std.proofs.Common.{◌≡◌, ◌∙◌, sym, subst, codes}
 use Rattle.gh_draw.specs.Reading.{IsFrontRead, ShowsCellAbove}
 use Rattle.gh_draw.proofs.Reader.{HeapGoes, heap_begin, heap_more, cells_missing, cells_end, word_missing, word_taken, missing_stays}
-use Rattle.gh_draw.proofs.reading.read_heap.Goals as goal
+use Rattle.gh_draw.proofs.reading.read_cells.Goals as goal
 
 pub cells-init : goal.cells-init
 cells-init c = heap_begin c.args.cursor.now.text.now c.new-heap.result c.new-heap.ensures

@@ -3,7 +3,7 @@ use Rattle.std.specs.Prelude.{Contains}
 use Rattle.gh_assert.specs.Stores.{listed_names}
 use Rattle.gh_draw.specs.Reading.{IsFrontRead, ShowsValue}
 use Rattle.gh_draw.proofs.Reader.{store_begin, store_more, store_missing, store_end, names_more, name_is_new}
-use Rattle.gh_draw.proofs.reading.read_store.Goals as goal
+use Rattle.gh_draw.proofs.reading.read_values.Goals as goal
 
 pub loop-name-init : goal.loop-name-init
 loop-name-init c = record { goes = store_begin c.args.names.now c.args.cursor.now.text.now c.new-store.result c.new-store.ensures; listed = ap listed_names c.new-store.ensures }
