@@ -7,13 +7,13 @@ use Rattle.gh_assert.specs.Meaning.{Store}
 use Rattle.gh_assert.specs.Walks.{succ}
 use Rattle.gh_assert.specs.Ownership.{Owned}
 use Rattle.gh_assert.specs.Reading.{HasNames}
-use Rattle.gh_assert.specs.Laws.{IsReadOff}
+use Rattle.gh_assert.specs.Laws.{IsReadOff, Rows}
 use Rattle.gh_base.specs.declared.sizes.Sizes.{Sizes}
 use Rattle.gh_base.specs.Meaning as congruence
 use Rattle.gh_base.specs.Meaning.{Interpretation}
 use Rattle.gh_inst.specs.Violations.{AreInstancesTrue}
 use Rattle.gh_model.specs.Versions.{equal_in, version_of, HasHops}
-use Rattle.gh_model.specs.Structures.{Structure, Keeps, IsModel}
+use Rattle.gh_model.specs.Structures.{Structure, IsOrdered, Keeps, IsModel}
 use Rattle.gh_model.specs.BuiltHeaps.{built}
 use Rattle.gh_model.specs.Operands.{IsNamed}
 use Rattle.gh_model.specs.Representations.{Represents, AgreeOn}
@@ -85,3 +85,11 @@ InstancesAreKept = (s : Sizes) (m : Interpretation) (i : ℕ) → i < s.versions
 -- and where equality is a congruence, the classes of its terms are a model
 abbrev pub VersionsAreModels : Type 0
 VersionsAreModels = (s : Sizes) (m : Interpretation) (i : ℕ) → i < s.versions → 0 < s.terms → congruence.IsCongruence s m → AreInstancesTrue s m → HasHops s.terms (version_of m i) → HasClasses (equal_in m) s.terms (version_of m i)
+
+-- the rows that betweenness keeps in a heap are the ten rows of a structure over all values
+abbrev pub RowsAreTheOrder : Type 0
+RowsAreTheOrder = (m : Structure) → Rows (λ x y z. IsTrue (m.between x y z)) ↔ IsOrdered (λ x. Unit {0}) (λ x y. x ≡ y) m
+
+-- equality is a congruence of an interpretation exactly where it is one of each version
+abbrev pub CongruencesAreOfVersions : Type 0
+CongruencesAreOfVersions = (s : Sizes) (m : Interpretation) → congruence.IsCongruence s m ↔ ((i : ℕ) → i < s.versions → IsCongruence (equal_in m) s.terms (version_of m i))

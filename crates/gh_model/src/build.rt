@@ -1,6 +1,6 @@
 //! Heaps and traces of structures.
 
-ghost use Rattle.std.specs.Prelude.{◌≡◌, ◌≢◌, ◌<◌, ◌++◌, IfOk, OnOk, AllPairs, length, drop};
+ghost use Rattle.std.specs.Prelude.{◌≡◌, ◌≢◌, ◌<◌, ◌++◌, IfOk, OnOk, OnErr, AllPairs, length, drop};
 ghost use Rattle.gh_base.specs.Structures.{interpretation_of};
 ghost use Rattle.gh_ast.specs.Plain.{procedure_of, program_of};
 ghost use Rattle.gh_path.specs.Conditions as plain;
@@ -86,8 +86,8 @@ fn value(structure: &Structure, binding: &Binding, name: &Name) -> u32
     }
 }
 
-/// Adds variables with their values in a structure.
-pub fn add_all(
+// Adds variables with their values in a structure.
+fn add_each(
     alloc: Global,
     store: &mut Store,
     structure: &Structure,
@@ -103,6 +103,26 @@ pub fn add_all(
         let value = value(structure, binding, &occurrence.name);
         store.add(alloc, &occurrence.name, value)?;
     }
+    Ok(())
+}
+
+/// Adds variables with their values in a structure: all of them, or none where memory runs out.
+pub fn add_all(
+    alloc: Global,
+    store: &mut Store,
+    structure: &Structure,
+    binding: &Binding,
+    occurrences: &[Occ],
+) -> Result<(), AllocError>
+    requires below { AreBelow structure.now.sizes.terms binding.now }
+    requires distinct { AllPairs (λ x y. x ≢ y) (listed_names store.old ++ names occurrences.now) }
+    ensures ok { OnOk result (store.new ≡
+        store.old ++ entries_under (store_in structure.now binding.now) (names occurrences.now)) }
+    ensures err { OnErr result (store.new ≡ store.old) }
+{
+    let mut all = store.copy(alloc)?;
+    add_each(alloc, &mut all, structure, binding, occurrences)?;
+    *store = all;
     Ok(())
 }
 
@@ -129,21 +149,21 @@ fn store(
         entries_under (store_in structure.now binding.now) (variable_names (procedure_of procedure.now))) }
 {
     let mut store = Store::new(alloc);
-    add_all(
+    add_each(
         alloc,
         &mut store,
         structure,
         binding,
         procedure.parameters.as_slice(),
     )?;
-    add_all(
+    add_each(
         alloc,
         &mut store,
         structure,
         binding,
         procedure.results.as_slice(),
     )?;
-    add_all(alloc, &mut store, structure, binding, locals(procedure))?;
+    add_each(alloc, &mut store, structure, binding, locals(procedure))?;
     Ok(store)
 }
 

@@ -12,6 +12,7 @@ ghost use Rattle.gh_model.specs.Homomorphisms.{FormulasArePreserved, InstancesHo
 ghost use Rattle.gh_model.specs.Sections.{SectionsShowValidity};
 ghost use Rattle.gh_model.specs.TraceLaws.{TracesAreOwned, ValuesExist};
 ghost use Rattle.gh_model.specs.Laws.{HopsAgree, ContentsAreHops, ModelsAreBuilt, HeapsAreModels, BuiltIsRead, AssertionsAgree, BuiltAgrees, NextIsSuccessor, WritesAreBuilt, NewsAreBuilt, FreesAreBuilt, CallsAreBuilt, ClassesAreModels, RepresentationsExist, InstancesAreKept, VersionsAreModels};
+ghost use Rattle.gh_model.specs.Laws.{RowsAreTheOrder, CongruencesAreOfVersions};
 
 /// A value hops to one value at most.
 pub fn hops_agree()
@@ -197,4 +198,14 @@ pub fn only_variables_have_terms()
 /// Drawn over the variables of the condition's procedure, this trace refutes the condition.
 pub fn built_is_counterexample()
     ensures { BuiltIsCounterexample }
+{}
+
+/// What betweenness keeps in a heap is what it keeps in a structure over all values.
+pub fn rows_are_the_order()
+    ensures { RowsAreTheOrder }
+{}
+
+/// Equality is a congruence of an interpretation exactly where it is one of each version.
+pub fn congruences_are_of_versions()
+    ensures { CongruencesAreOfVersions }
 {}

@@ -1,5 +1,5 @@
 -- What represents an owned heap keeps the axioms.
-use Rattle.std.specs.Prelude.{◌≡◌, ℕ, List, Contains, Decides}
+use Rattle.std.specs.Prelude.{◌≡◌, ℕ, List, Contains, Decides, IsTrue}
 use Rattle.std.proofs.Common.{inl, inr}
 use Rattle.gh_assert.specs.Heaps.{Heap}
 use Rattle.gh_assert.specs.Walks.{succ, Between}
@@ -8,7 +8,7 @@ use Rattle.gh_assert.proofs.Rows.{rows}
 use Rattle.gh_assert.proofs.Hops.{hop_rows, hops_exist}
 use Rattle.gh_assert.proofs.WalkLaws.{unallocated_stay}
 use Rattle.gh_model.specs.Structures.{Structure, IsOrdered}
-use Rattle.gh_model.specs.Laws.{HeapsAreModels}
+use Rattle.gh_model.specs.Laws.{HeapsAreModels, RowsAreTheOrder}
 
 -- whatever else is said of its hops and cells
 pub is_ordered : (V : List ℕ) (h : Heap) (m : Structure) → ((x y z : ℕ) → Contains V x → Contains V y → Contains V z → Decides (m.between x y z) (Between h x y z)) → IsOrdered (Contains V) (λ x y. x ≡ y) m
@@ -50,3 +50,34 @@ heaps_are_models V h m c0 null own T = record {
   where
     H : HopRows V h
     H = hop_rows V h
+
+to_order : (m : Structure) → Rows (λ x y z. IsTrue (m.between x y z)) → IsOrdered (λ x. Unit {0}) (λ x y. x ≡ y) m
+to_order m R = record {
+  row_1 = λ x nx. R.row_1 x;
+  row_2 = λ x y nx ny a. R.row_2 x y a;
+  row_3 = λ x y z nx ny nz a b. R.row_3 x y z a b;
+  row_4 = λ x y z nx ny nz a. R.row_4 x y z a;
+  row_5 = λ x y z nx ny nz a. R.row_5 x y z a;
+  row_6 = λ x y z nx ny nz a b. R.row_6 x y z a b;
+  row_7 = λ x y u z nx ny nu nz a b. R.row_7 x y u z a b;
+  row_8 = λ x y u z nx ny nu nz a b. R.row_8 x y u z a b;
+  row_9 = λ x y u z nx ny nu nz a b. R.row_9 x y u z a b;
+  row_10 = λ x y u z nx ny nu nz a b. R.row_10 x y u z a b;
+}
+
+to_rows : (m : Structure) → IsOrdered (λ x. Unit {0}) (λ x y. x ≡ y) m → Rows (λ x y z. IsTrue (m.between x y z))
+to_rows m O = record {
+  row_1 = λ x. O.row_1 x tt;
+  row_2 = λ x y a. O.row_2 x y tt tt a;
+  row_3 = λ x y z a b. O.row_3 x y z tt tt tt a b;
+  row_4 = λ x y z a. O.row_4 x y z tt tt tt a;
+  row_5 = λ x y z a. O.row_5 x y z tt tt tt a;
+  row_6 = λ x y z a b. O.row_6 x y z tt tt tt a b;
+  row_7 = λ x y u z a b. O.row_7 x y u z tt tt tt tt a b;
+  row_8 = λ x y u z a b. O.row_8 x y u z tt tt tt tt a b;
+  row_9 = λ x y u z a b. O.row_9 x y u z tt tt tt tt a b;
+  row_10 = λ x y u z a b. O.row_10 x y u z tt tt tt tt a b;
+}
+
+pub rows_are_the_order : RowsAreTheOrder
+rows_are_the_order m = (to_order m, to_rows m)

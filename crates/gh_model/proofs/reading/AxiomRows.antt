@@ -8,6 +8,7 @@ use Rattle.std.proofs.Common.{refl, sym, ◌∙◌, ap, subst, inl, inr, arith}
 use Rattle.gh_base.specs.declared.atom.Term.{Term}
 use Rattle.gh_base.specs.declared.atom.Atom.TheVariants.{Btwn, Hop, Alloc}
 use Rattle.gh_base.specs.declared.sizes.Sizes.{Sizes}
+use Rattle.gh_base.specs.Meaning as congruence
 use Rattle.gh_base.specs.Meaning.{Interpretation, lit_truth}
 use Rattle.gh_inst.specs.Schemas.{term}
 use Rattle.gh_inst.specs.Table.{table, row_with}
@@ -16,7 +17,8 @@ use Rattle.gh_inst.specs.Violations.{AreInstancesTrue, IsInstanceTrue}
 use Rattle.gh_inst.specs.declared.naming.InstanceName.{InstanceName}
 use Rattle.gh_inst.proofs.ListedLemmas.{all_are_listed}
 use Rattle.gh_model.specs.Versions.{equal_in, version_of}
-use Rattle.gh_model.specs.Laws.{InstancesAreKept, VersionsAreModels}
+use Rattle.gh_model.specs.Classes.{IsCongruence}
+use Rattle.gh_model.specs.Laws.{InstancesAreKept, VersionsAreModels, CongruencesAreOfVersions}
 use Rattle.gh_model.proofs.reading.Classes.{classes_are_models}
 
 -- the test of an instance's clause
@@ -118,10 +120,9 @@ instances_are_kept s m i li A H = record {
 same_true : (a b : Bool) → a ≡ b → IsTrue a → IsTrue b
 same_true a b e t = sym e ∙ t
 
-pub versions_are_models : VersionsAreModels
-versions_are_models s m i li some C A H =
+pub is_congruence : (s : Sizes) (m : Interpretation) (i : ℕ) → i < s.versions → congruence.IsCongruence s m → IsCongruence (equal_in m) s.terms (version_of m i)
+is_congruence s m i li C =
     let same : (x y : ℕ) → IsTrue (equal_in m x y) → m.class x ≡ m.class y = λ x y e. eqb-true (m.class x) (m.class y) e in
-    classes_are_models (equal_in m) s.terms (version_of m i) some
     record {
       itself = λ x lx. eq-eqb (m.class x) (m.class x) refl;
       back = λ x y lx ly e. eq-eqb (m.class y) (m.class x) (sym (same x y e));
@@ -130,4 +131,35 @@ versions_are_models s m i li some C A H =
       hop = λ x y v w lx ly lv lw e f. same_true (m.table (Hop i (term x) (term v))) (m.table (Hop i (term y) (term w))) (C.hop i (term x) (term v) (term y) (term w) (li, lx, lv) (li, ly, lw) (same x y e) (same v w f));
       between = λ x x' y y' z z' lx lx' ly ly' lz lz' e f g. same_true (m.table (Btwn i (term x) (term y) (term z))) (m.table (Btwn i (term x') (term y') (term z'))) (C.btwn i (term x) (term y) (term z) (term x') (term y') (term z') (li, lx, ly, lz) (li, lx', ly', lz') (same x x' e) (same y y' f) (same z z' g));
     }
-    (instances_are_kept s m i li A H)
+
+pub versions_are_models : VersionsAreModels
+versions_are_models s m i li some C A H = classes_are_models (equal_in m) s.terms (version_of m i) some (is_congruence s m i li C) (instances_are_kept s m i li A H)
+
+-- and back: what is so in each version is so of the interpretation
+both_true : (a b : Bool) → (IsTrue a → IsTrue b) → (IsTrue b → IsTrue a) → a ≡ b
+both_true true b f g = sym (f refl)
+both_true false true f g = g refl
+both_true false false f g = refl
+
+equal_true : (m : Interpretation) (x y : ℕ) → m.class x ≡ m.class y → IsTrue (equal_in m x y)
+equal_true m x y e = eq-eqb (m.class x) (m.class y) e
+
+of_versions : (s : Sizes) (m : Interpretation) → ((i : ℕ) → i < s.versions → IsCongruence (equal_in m) s.terms (version_of m i)) → congruence.IsCongruence s m
+of_versions s m C = record {
+  btwn = λ v x y z x' y' z' here there e f g.
+      let c = C v here.0 in
+      both_true (m.table (Btwn v x y z)) (m.table (Btwn v x' y' z'))
+      (c.between x.0 x'.0 y.0 y'.0 z.0 z'.0 here.1 there.1 here.2 there.2 here.3 there.3 (equal_true m x.0 x'.0 e) (equal_true m y.0 y'.0 f) (equal_true m z.0 z'.0 g))
+      (c.between x'.0 x.0 y'.0 y.0 z'.0 z.0 there.1 here.1 there.2 here.2 there.3 here.3 (equal_true m x'.0 x.0 (sym e)) (equal_true m y'.0 y.0 (sym f)) (equal_true m z'.0 z.0 (sym g)));
+  hop = λ v x y x' y' here there e f.
+      let c = C v here.0 in
+      both_true (m.table (Hop v x y)) (m.table (Hop v x' y'))
+      (c.hop x.0 x'.0 y.0 y'.0 here.1 there.1 here.2 there.2 (equal_true m x.0 x'.0 e) (equal_true m y.0 y'.0 f))
+      (c.hop x'.0 x.0 y'.0 y.0 there.1 here.1 there.2 here.2 (equal_true m x'.0 x.0 (sym e)) (equal_true m y'.0 y.0 (sym f)));
+  alloc = λ v x x' here there e.
+      let c = C v here.0 in
+      both_true (m.table (Alloc v x)) (m.table (Alloc v x')) (c.alloc x.0 x'.0 here.1 there.1 (equal_true m x.0 x'.0 e)) (c.alloc x'.0 x.0 there.1 here.1 (equal_true m x'.0 x.0 (sym e)));
+}
+
+pub congruences_are_of_versions : CongruencesAreOfVersions
+congruences_are_of_versions s m = (λ C i li. is_congruence s m i li C, of_versions s m)

@@ -2,7 +2,7 @@ use Rattle.std.proofs.Common.{◌++◌}
 use Rattle.gh_ast.specs.Programs.{names}
 use Rattle.gh_model.specs.KeptTraces.{entries_under, store_in}
 use Rattle.gh_model.proofs.building.Stores.{once_under, goes_new, goes_more, goes_all}
-use Rattle.gh_model.proofs.build.add_all.Goals as goal
+use Rattle.gh_model.proofs.build.add_each.Goals as goal
 
 pub add-requires : goal.add-requires
 add-requires c =
