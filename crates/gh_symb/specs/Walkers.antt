@@ -7,7 +7,7 @@ use Rattle.gh_ast.specs.declared.Occ.{Occ}
 use Rattle.gh_ast.specs.declared.Procedure as whole
 use Rattle.gh_ast.specs.Plain.{Procedure, Program, procedure_of}
 use Rattle.gh_ast.specs.Programs.{names}
-use Rattle.gh_path.specs.Graphs.{Loop, PathStep, looped}
+use Rattle.gh_path.specs.Graphs.{Loop, looped}
 use Rattle.gh_path.specs.declared.condition.PathStep as kept_step
 use Rattle.gh_path.specs.declared.condition.Start as kept_start
 use Rattle.gh_path.specs.declared.condition.CheckKind as kept_kind
