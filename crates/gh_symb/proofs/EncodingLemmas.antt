@@ -1,5 +1,5 @@
 -- The encodings of steps and checks from those of their parts.
-use Rattle.std.specs.Prelude.{◌≡◌, ℕ, ◌<◌, List, [], ◌∷◌, ◌++◌, filter, Some, All, Bool}
+use Rattle.std.specs.Prelude.{◌≡◌, ℕ, List, [], ◌∷◌, ◌++◌, filter, Some, All, Bool}
 use Rattle.std.proofs.Common.{refl, sym, ◌∙◌, ap, subst, Vec, Global}
 use Rattle.std.proofs.lemmas.List.{append_assoc}
 use Rattle.std.proofs.lemmas.List.Elements.{All-head, All-tail}

@@ -1,5 +1,5 @@
 -- Loops by their numbers in lists that are put together.
-use Rattle.std.specs.Prelude.{◌≡◌, ℕ, suc, ◌+◌, ◌-◌, ◌<◌, List, [], ◌∷◌, ◌++◌, slice_get, length, get_or, drop, Some, MatchResult, Result, Ok, Err, None}
+use Rattle.std.specs.Prelude.{◌≡◌, ℕ, suc, ◌+◌, ◌-◌, ◌<◌, List, [], ◌∷◌, ◌++◌, slice_get, length, get_or, drop, Some, Result, Ok, Err, None}
 use Rattle.std.specs.Result.{result_ok}
 use Rattle.std.proofs.Common.{refl, sym, ◌∙◌, ap, arith, subst}
 use Rattle.std.proofs.lemmas.List.{append_assoc, append-nil}

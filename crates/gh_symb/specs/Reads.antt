@@ -27,8 +27,11 @@ abbrev pub all_tests_of : List Cond → Terms → Terms
 all_tests_of tests = tests_walked (tests_view tests)
 
 -- alternatives are walked in order
+abbrev pub each_walked_of : List Assertion → Terms → Terms
+each_walked_of assertions = each_walked (map formula_of assertions)
+
 abbrev pub WalksEach : List Assertion → List Kind → Bound → List Kind → Bound → ℕ → Type 0
-WalksEach assertions ks es ls fs i = Walks (each_walked (map formula_of assertions)) ks es ls fs i
+WalksEach assertions ks es ls fs i = Walks (each_walked_of assertions) ks es ls fs i
 
 -- an assertion in a version, as its variables are bound
 abbrev pub ReadsBound : Assertion → Bound → ℕ → over_terms.Bound → Type 0

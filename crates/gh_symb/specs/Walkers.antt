@@ -1,12 +1,13 @@
 -- What the parts of a walk over a condition do, and what is read off them.
 use Rattle.std.specs.Prelude.{◌≡◌, ℕ, ◌+◌, List, length, Some}
 use Rattle.gh_base.specs.declared.place.Span.{Span}
+use Rattle.gh_ast.specs.declared.Assertion.{Assertion}
 use Rattle.gh_ast.specs.declared.Expr.{Expr}
 use Rattle.gh_ast.specs.declared.Occ.{Occ}
 use Rattle.gh_ast.specs.declared.Procedure as whole
 use Rattle.gh_ast.specs.Plain.{Procedure, Program, procedure_of}
 use Rattle.gh_ast.specs.Programs.{names}
-use Rattle.gh_path.specs.Graphs.{Loop, PathStep, looped}
+use Rattle.gh_path.specs.Graphs.{Loop, looped}
 use Rattle.gh_path.specs.declared.condition.PathStep as kept_step
 use Rattle.gh_path.specs.declared.condition.Start as kept_start
 use Rattle.gh_path.specs.declared.condition.CheckKind as kept_kind
@@ -19,6 +20,7 @@ use Rattle.gh_symb.specs.Steps.{IsStepped, IsChecked, EndsWith, entry_made}
 use Rattle.gh_symb.specs.Phases.{IsUsed, IsCheckUsed, IsBegun, step_done, step_encoding}
 use Rattle.gh_symb.specs.StepEncodings.{IsFinished, IsStepEncoding, IsCallFinished, IsCallEncoding, IsAsking, needs_asked}
 use Rattle.gh_symb.specs.Fitting.{EncodesStep, EncodesCheck}
+use Rattle.gh_symb.specs.Reads.{ReadsEach, ReadsWalked}
 use Rattle.gh_symb.specs.Symbolic as plain
 use Rattle.gh_symb.specs.Symbolic.{call_parts}
 use Rattle.gh_symb.specs.declared.over_terms.Bound.{Bound}
@@ -34,6 +36,13 @@ terms_at w = state w.kinds w.scope w.version
 -- it leads from the terms before it to f of them
 abbrev pub Goes : (Terms → Terms) → Walker → Walker → Type 0
 Goes f v w = terms_at w ≡ f (terms_at v)
+
+-- an assertion, once it is walked; alternatives, each once it is walked
+abbrev pub ReadsAssertion : Assertion → Walker → Bound → Type 0
+ReadsAssertion a v b = ReadsWalked a v.kinds v.scope v.version b
+
+abbrev pub ReadsWays : List Assertion → Walker → List Bound → Type 0
+ReadsWays ways v bs = ReadsEach ways v.kinds v.scope v.version bs
 
 -- the start assertion is walked, and given
 abbrev pub Begins : Setting → kept_start.Start → Walker → Walker → Bound → Type 0

@@ -51,9 +51,7 @@ impl<'a> Walker<'a> {
         ensures version { OnOk result (self.new.version ≡ self.old.version) }
     {
         let assertion = start_of(setting.procedure, start);
-        let bound = self
-            .scope
-            .walk_bound(alloc, &mut self.kinds, assertion, self.version)?;
+        let bound = self.walk_bound(alloc, assertion)?;
         Ok(bound)
     }
 
@@ -93,7 +91,6 @@ impl<'a> Walker<'a> {
         ensures version { OnOk result (self.new.version ≡ self.old.version) }
     {
         let procedure = setting.procedure;
-        let version = self.version;
         match check {
             CheckKind::Access { at } => {
                 self.scope.use_name(&mut self.kinds, at)?;
@@ -111,25 +108,19 @@ impl<'a> Walker<'a> {
                 let Some(round) = round_of(procedure, *number as usize) else {
                     return Ok(TermCheck::Whole(Vec::new(alloc)));
                 };
-                let bound = self
-                    .scope
-                    .walk_bound(alloc, &mut self.kinds, round.invariant, version)?;
+                let bound = self.walk_bound(alloc, round.invariant)?;
                 Ok(TermCheck::Sub(bound))
             }
             CheckKind::Return => {
                 let gives = procedure.gives.as_slice();
-                let bounds = self
-                    .scope
-                    .walk_bounds(alloc, &mut self.kinds, gives, version)?;
+                let bounds = self.walk_bounds(alloc, gives)?;
                 Ok(TermCheck::Whole(bounds))
             }
             CheckKind::LoopEnd { number } => {
                 let Some(round) = round_of(procedure, *number as usize) else {
                     return Ok(TermCheck::Whole(Vec::new(alloc)));
                 };
-                let bound = self
-                    .scope
-                    .walk_bound(alloc, &mut self.kinds, round.invariant, version)?;
+                let bound = self.walk_bound(alloc, round.invariant)?;
                 let asked = whole(alloc, bound)?;
                 Ok(asked)
             }

@@ -107,9 +107,7 @@ impl<'a> Walker<'a> {
         self.scope
             .renew_all(&mut self.kinds, setting.procedure, body)?;
         self.version += 1;
-        let after = self
-            .scope
-            .walk_bound(alloc, &mut self.kinds, round.invariant, self.version)?;
+        let after = self.walk_bound(alloc, round.invariant)?;
         let step = part(alloc, before, after)?;
         Ok(step)
     }

@@ -2,12 +2,15 @@
 
 ghost use Rattle.std.specs.Prelude.{◌≡◌, OnOk, IfOk};
 ghost use Rattle.gh_path.specs.Terms.{no_terms};
-ghost use Rattle.gh_symb.specs.Walkers.{terms_at, UsesStep, WalksInvariant};
+ghost use Rattle.gh_symb.specs.Reads.{each_walked_of, walked_of};
+ghost use Rattle.gh_symb.specs.Walkers.{terms_at, Goes, ReadsAssertion, ReadsWays, UsesStep, WalksInvariant};
 
 use crate::kinds::Kinds;
+use crate::over_terms::Bound;
 use crate::rounds::round_of;
 use crate::scope::Scope;
 use crate::setting::Setting;
+use gh_ast::Assertion;
 use gh_path::condition::PathStep;
 use std::alloc::{AllocError, Global};
 
@@ -33,6 +36,40 @@ impl<'a> Walker<'a> {
             scope,
             version: 0,
         })
+    }
+
+    /// Walks over an assertion, and gives it.
+    pub fn walk_bound(
+        &mut self,
+        alloc: Global,
+        assertion: &'a Assertion,
+    ) -> Result<Bound<'a>, AllocError>
+        ensures made { OnOk result (Goes (walked_of assertion.now) self.old self.new) }
+        ensures encodes { IfOk result (ReadsAssertion assertion.now self.old) }
+        ensures version { OnOk result (self.new.version ≡ self.old.version) }
+    {
+        let version = self.version;
+        let bound = self
+            .scope
+            .walk_bound(alloc, &mut self.kinds, assertion, version)?;
+        Ok(bound)
+    }
+
+    /// Walks over alternatives in their order, and gives each once it is walked.
+    pub fn walk_bounds(
+        &mut self,
+        alloc: Global,
+        ways: &'a [Assertion],
+    ) -> Result<Vec<Bound<'a>>, AllocError>
+        ensures made { OnOk result (Goes (each_walked_of ways.now) self.old self.new) }
+        ensures encode { IfOk result (λ bs. ReadsWays ways.now self.old bs.items) }
+        ensures version { OnOk result (self.new.version ≡ self.old.version) }
+    {
+        let version = self.version;
+        let bounds = self
+            .scope
+            .walk_bounds(alloc, &mut self.kinds, ways, version)?;
+        Ok(bounds)
     }
 
     /// Walks over the invariant of a loop.
