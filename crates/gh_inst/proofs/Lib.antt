@@ -10,3 +10,4 @@ pub mod CollectingLemmas
 pub mod FirstLemmas
 pub mod OnceLemmas
 pub mod RangeLemmas
+pub mod UpLemmas

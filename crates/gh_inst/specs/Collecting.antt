@@ -1,5 +1,5 @@
 -- Lists of instances that are false.
-use Rattle.std.specs.Prelude.{◌≡◌, ◌<◌, ◌≤◌, ◌-◌, ℕ, List, [], ◌++◌, map, All, Contains, Option, Some}
+use Rattle.std.specs.Prelude.{◌≡◌, ◌≢◌, ◌⊎◌, ◌<◌, ◌≤◌, ◌+◌, ◌*◌, ◌-◌, ℕ, List, [], ◌∷◌, ◌++◌, length, map, slice_index_or, All, AllPairs, Contains, Option, Some}
 use Rattle.gh_base.specs.declared.atom.Term.{Term}
 use Rattle.gh_base.specs.declared.sizes.Sizes.{Sizes}
 use Rattle.gh_base.specs.Meaning.{Interpretation}
@@ -7,6 +7,7 @@ use Rattle.gh_base.specs.Structures.{Tables, interpretation_of}
 use Rattle.gh_inst.specs.declared.collecting.Looked.{Looked}
 use Rattle.gh_inst.specs.declared.naming.InstanceName.{InstanceName}
 use Rattle.gh_inst.specs.Instances.{IsInstance, name_of, row_in}
+use Rattle.gh_inst.specs.Schemas.{term}
 use Rattle.gh_inst.specs.Tuples.{tuples}
 use Rattle.gh_inst.specs.Violations.{IsInstanceTrue, IsFirstWithout, IsFirstFalseIn}
 use Rattle.gh_inst.specs.Table.{AxiomRow, row_with, table, row}
@@ -103,3 +104,27 @@ pub record VersionHolds (s : Sizes) (m : Interpretation) (version : ℕ) : Type 
 -- false instances were added to a list; where there are none, every instance in a version is true
 abbrev pub GathersVersion : Tables → ℕ → List InstanceName → List InstanceName → Type 0
 GathersVersion s version old new = Gathers s.sizes (interpretation_of s) old new (VersionHolds s.sizes (interpretation_of s) version)
+
+-- no name is listed twice
+abbrev pub AreDistinct : List InstanceName → Type 0
+AreDistinct names = AllPairs (λ a b. a ≢ b) names
+
+-- the order in which names are found: by version, then by row, then by the first two terms
+abbrev pub place : ℕ → ℕ → ℕ → ℕ → ℕ
+place version number x y = 16777216 * version + 65536 * number + 256 * x + y
+
+abbrev pub place_of : InstanceName → ℕ
+place_of name = place name.version name.row (slice_index_or name.terms 0 (term 0)).0 (slice_index_or name.terms 1 (term 0)).0
+
+-- names in this order, all before a place
+pub record IsUpTo (high : ℕ) (names : List InstanceName) : Type 0 where
+  pub ascending : AllPairs (λ a b. place_of a < place_of b) names
+  pub below : All (λ a. place_of a < high) names
+
+-- what was before one place is now before another
+abbrev pub GoesUp : ℕ → ℕ → List InstanceName → List InstanceName → Type 0
+GoesUp low high old new = IsUpTo low old → IsUpTo high new
+
+-- at most one name was added, of a tuple of the row that begins with some terms
+abbrev pub AddsOneAt : Looked → List Term → List InstanceName → List InstanceName → Type 0
+AddsOneAt r start old new = (new ≡ old) ⊎ ((rest : List Term) × (length start + length rest ≡ r.variables) × (new ≡ old ++ name_of r.number r.version (start ++ rest) ∷ []))

@@ -1,11 +1,12 @@
 //! Instances that are false in a structure, some of each row and version.
 
-ghost use Rattle.std.specs.Prelude.{◌≡◌, ◌<◌, ◌≤◌, [], ◌∷◌, ℕ, All, IfOk, OnOk, length, take};
+ghost use Rattle.std.specs.Prelude.{◌≡◌, ◌<◌, ◌≤◌, ◌+◌, [], ◌∷◌, ℕ, All, IfOk, OnOk, length, take};
 ghost use Rattle.std.specs.Int.{bit_at};
 ghost use Rattle.gh_inst.specs.Schemas.{term};
 ghost use Rattle.gh_inst.specs.Words.{AreWordsOf};
 ghost use Rattle.gh_inst.specs.Violations.{AreAllTrueIn};
 ghost use Rattle.gh_inst.specs.Collecting.{IsLooked, AreAllNamed, AreNamedIn, IsFirstNamed, GathersFrom, GathersRow, GathersVersion, IsFalseIn, IsFirstOfRow, IsRowNamed, IsTrueFrom};
+ghost use Rattle.gh_inst.specs.Collecting.{AddsOneAt, AreDistinct, GoesUp, place};
 
 use crate::naming::InstanceName;
 use crate::schema::Pattern;
@@ -64,7 +65,8 @@ fn gather_first(
     requires first { first ≤ row.now.variables }
     requires long { length (take first start) ≡ first }
     requires terms { All (λ t. t.0 < row.now.structure.now.sizes.terms) (take first start) }
-    ensures { OnOk result (GathersFrom row.now (take first start) first found.old.items found.new.items) }
+    ensures gathers { OnOk result (GathersFrom row.now (take first start) first found.old.items found.new.items) }
+    ensures one { OnOk result (AddsOneAt row.now (take first start) found.old.items found.new.items) }
 {
     if let Some(terms) = first_in(row, start, first) {
         found.push(name_of_terms(row.number, row.variables, row.version, terms))?;
@@ -95,7 +97,9 @@ fn second_terms(row: &Looked, x: Term) -> u32
 fn gather_second(row: &Looked, x: Term, found: &mut Vec<InstanceName>) -> Result<(), AllocError>
     requires looked { IsLooked row.now }
     requires x { x.0 < row.now.structure.now.sizes.terms }
-    ensures { OnOk result (GathersFrom row.now (x ∷ []) 1 found.old.items found.new.items) }
+    ensures gathers { OnOk result (GathersFrom row.now (x ∷ []) 1 found.old.items found.new.items) }
+    ensures up { let at = place row.now.version row.now.number in
+        OnOk result (GoesUp (at x.0 0) (at (x.0 + 1) 0) found.old.items found.new.items) }
 {
     if row.variables == 1 {
         return gather_first(row, [x, Term(0), Term(0), Term(0)], 1, found);
@@ -114,7 +118,9 @@ fn gather_second(row: &Looked, x: Term, found: &mut Vec<InstanceName>) -> Result
 fn gather(row: &Looked, most: usize, found: &mut Vec<InstanceName>) -> Result<(), AllocError>
     requires looked { IsLooked row.now }
     requires room { length found.old.items < most }
-    ensures { OnOk result (GathersFrom row.now [] 0 found.old.items found.new.items) }
+    ensures gathers { OnOk result (GathersFrom row.now [] 0 found.old.items found.new.items) }
+    ensures up { let at = place row.now.version in
+        OnOk result (GoesUp (at row.now.number 0 0) (at (row.now.number + 1) 0 0) found.old.items found.new.items) }
 {
     for x in 0..row.structure.terms() {
         if found.len() >= most {
@@ -137,6 +143,8 @@ fn gather_row(
     requires words { AreWordsOf structure.now version words.now }
     ensures gathers { OnOk result (GathersRow structure.now version number found.old.items found.new.items) }
     ensures named { OnOk result (IsRowNamed structure.now version number found.new.items) }
+    ensures up { let at = place version in
+        OnOk result (GoesUp (at number 0 0) (at (number + 1) 0 0) found.old.items found.new.items) }
 {
     if let Some(row) = row_numbered(number) {
         let looked = Looked {
@@ -161,6 +169,7 @@ fn gather_version(
     requires version { version < structure.now.sizes.versions }
     ensures gathers { OnOk result (GathersVersion structure.now version found.old.items found.new.items) }
     ensures named { OnOk result (AreNamedIn structure.now version found.new.items) }
+    ensures up { OnOk result (GoesUp (place version 0 0 0) (place (version + 1) 0 0 0) found.old.items found.new.items) }
 {
     if structure.terms() > 32 {
         return gather_rows(structure, version, &[], found);
@@ -180,6 +189,7 @@ fn gather_rows(
     requires words { AreWordsOf structure.now version words.now }
     ensures gathers { OnOk result (GathersVersion structure.now version found.old.items found.new.items) }
     ensures named { OnOk result (AreNamedIn structure.now version found.new.items) }
+    ensures up { OnOk result (GoesUp (place version 0 0 0) (place (version + 1) 0 0 0) found.old.items found.new.items) }
 {
     for number in 1..16 {
         gather_row(number, structure, version, words, found)?;
@@ -187,8 +197,8 @@ fn gather_rows(
     Ok(())
 }
 
-/// Names of instances that are false in a structure: of each row and version in which there is one, the first one and
-/// some others.
+/// Names of instances that are false in a structure, each once: of each row and version in which there is one, the
+/// first one and some others.
 pub fn false_instances(
     alloc: Global,
     structure: &Structure,
@@ -196,6 +206,7 @@ pub fn false_instances(
     ensures each { IfOk result (λ found. All (IsFalseIn structure.now) found.items) }
     ensures named { IfOk result (λ found. AreAllNamed structure.now found.items) }
     ensures first { IfOk result (λ found. IsFirstNamed structure.now found.items) }
+    ensures once { IfOk result (λ found. AreDistinct found.items) }
     ensures none { IfOk result (λ found. found.items ≡ [] → AreAllTrueIn structure.now) }
 {
     let mut found = Vec::new(alloc);

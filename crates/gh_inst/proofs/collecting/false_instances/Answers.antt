@@ -1,7 +1,8 @@
 use Rattle.std.proofs.Common.{◌∙◌, [], arith, sym}
 use Rattle.gh_base.specs.Structures.{interpretation_of}
-use Rattle.gh_inst.specs.Collecting.{VersionHolds}
+use Rattle.gh_inst.specs.Collecting.{VersionHolds, place}
 use Rattle.gh_inst.proofs.CollectingLemmas.{version_next, versions_hold}
+use Rattle.gh_inst.proofs.UpLemmas.{up_distinct}
 use Rattle.gh_inst.proofs.FirstLemmas.{named_versions, first_named}
 use Rattle.gh_inst.proofs.collecting.false_instances.Goals as goal
 
@@ -14,6 +15,7 @@ loop-version-preserved c =
     record {
       gathers = version_next s.sizes m [] c.loop-version.found.items c.gather_version.new.found.items k c.loop-version.invariant.gathers e.gathers;
       named = named_versions s.sizes m k (VersionHolds s.sizes m k) c.loop-version.found.items c.gather_version.new.found.items e.gathers c.loop-version.invariant.named e.named;
+      up = e.up c.loop-version.invariant.up;
     }
 
 pub returns-clause-named : goal.returns-clause-named
@@ -29,3 +31,6 @@ returns-clause-none c = λ e.
     let s = c.args.structure.now in
     versions_hold s.sizes (interpretation_of s)
     (λ v below. c.loop-version.invariant.gathers.none (sym c.loop-version.invariant.gathers.added ∙ e) v (omega (arith, below)))
+
+pub returns-clause-once : goal.returns-clause-once
+returns-clause-once c = up_distinct (place c.loop-version.version 0 0 0) c.loop-version.found.items c.loop-version.invariant.up

@@ -1,10 +1,11 @@
 use Rattle.std.proofs.Common.{◌≡◌, ◌+◌, ◌-◌, arith, subst, All, take, take_all}
 use Rattle.gh_base.specs.Structures.{interpretation_of}
 use Rattle.gh_inst.specs.Table.{AxiomRow, table}
-use Rattle.gh_inst.specs.Collecting.{Gathers, RowHolds, IsNamed}
+use Rattle.gh_inst.specs.Collecting.{Gathers, RowHolds, IsNamed, place}
 use Rattle.gh_inst.proofs.InstanceLemmas.{row_at}
 use Rattle.gh_inst.proofs.ViolationLemmas.{row_of_number}
 use Rattle.gh_inst.proofs.CollectingLemmas.{row_next, rows_hold}
+use Rattle.gh_inst.proofs.UpLemmas.{still_up}
 use Rattle.gh_inst.proofs.FirstLemmas.{named_next}
 use Rattle.gh_inst.proofs.collecting.gather_rows.Goals as goal
 
@@ -23,6 +24,7 @@ loop-number-preserved c =
       named = subst (λ k. All (IsNamed s m a.version c.gather_row.new.found.items) (take k table)) same
           (named_next s m a.version (number - 1) (RowHolds s m a.version (row_at (number - 1))) c.loop-number.found.items c.gather_row.new.found.items (row_at (number - 1)) r.0 in_row
           c.loop-number.invariant.named (c.in_ok-gather_row.ensures.named (row_at (number - 1)) r.1));
+      up = λ before. c.in_ok-gather_row.ensures.up (c.loop-number.invariant.up before);
     }
 
 pub returns-clause-gathers : goal.returns-clause-gathers
@@ -37,3 +39,8 @@ returns-clause-named c =
     let a = c.args in
     let P : AxiomRow → Type 0 = IsNamed a.structure.now.sizes (interpretation_of a.structure.now) a.version c.loop-number.found.items in
     record { rows = subst (All P) (take_all (c.loop-number.number - 1) table (omega arith)) c.loop-number.invariant.named }
+
+pub returns-clause-up : goal.returns-clause-up
+returns-clause-up c = λ before.
+    let v = c.args.version in
+    still_up (place v c.loop-number.number 0 0) (place (v + 1) 0 0 0) c.loop-number.found.items (omega arith) (c.loop-number.invariant.up before)
