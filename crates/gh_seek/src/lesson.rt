@@ -209,7 +209,48 @@ impl Lessons {
         Ok(level)
     }
 
-    // Marks the atoms of a clause whose literals all got their truths at level 0.
+    /// Learns that one of some literals is true, where the opposites of others make one so.
+    pub fn show(&mut self, state: &mut State, wanted: &[Code]) -> Result<(), AllocError> {
+        let Some(shown) = wanted.iter().find(|code| state.trail.is_true(**code)) else {
+            return Ok(());
+        };
+        let shown = *shown;
+        self.round = self.round.wrapping_add(1);
+        put(self.stamps.as_mut_slice(), shown.atom(), self.round);
+        self.trace(state)?;
+        if self.reasons.len() < 2 || state.trail.level_of(shown.atom()) == 0 {
+            return Ok(());
+        }
+        self.codes.clear();
+        for code in wanted {
+            if self.is_marked(code.atom()) {
+                self.codes.push(*code)?;
+            }
+        }
+        self.reasons.reverse();
+        let number = state
+            .clauses
+            .learn(self.codes.as_slice(), self.reasons.as_slice())?;
+        let _added = state.attach(number)?;
+        Ok(())
+    }
+
+    // Gathers the reasons of all that marked literals are reached from, the latest first.
+    fn trace(&mut self, state: &State) -> Result<(), AllocError> {
+        self.reasons.clear();
+        let length = state.trail.steps.len();
+        for back in 0..length {
+            let code = state.trail.step(length - 1 - back);
+            let reason = state.trail.reason(code.atom());
+            if self.is_marked(code.atom()) && reason != NO_CLAUSE {
+                self.reasons.push(reason)?;
+                self.stamp(state, reason);
+            }
+        }
+        Ok(())
+    }
+
+    // Marks the atoms of a clause whose literals all have truths.
     fn stamp(&mut self, state: &State, number: u32) {
         for code in state.clauses.codes(number) {
             put(self.stamps.as_mut_slice(), code.atom(), self.round);
@@ -221,18 +262,11 @@ impl Lessons {
     pub fn refutation(&mut self, state: &State, conflict: u32) -> Result<Vec<u32>, AllocError> {
         self.round = self.round.wrapping_add(1);
         self.stamp(state, conflict);
+        self.trace(state)?;
+        self.reasons.reverse();
         let mut reasons = Vec::new(self.alloc);
+        reasons.extend_from_slice(self.reasons.as_slice())?;
         reasons.push(conflict)?;
-        let length = state.trail.steps.len();
-        for back in 0..length {
-            let code = state.trail.step(length - 1 - back);
-            if self.is_marked(code.atom()) {
-                let reason = state.trail.reason(code.atom());
-                reasons.push(reason)?;
-                self.stamp(state, reason);
-            }
-        }
-        reasons.reverse();
         Ok(reasons)
     }
 }

@@ -59,7 +59,7 @@ impl Order {
     }
 
     /// Whether an atom may be decided: equalities, and what speaks of the window's versions.
-    fn is_inside(&self, shape: &Shape, atom: usize) -> bool {
+    pub fn is_inside(&self, shape: &Shape, atom: usize) -> bool {
         let parts = shape.parts(atom);
         parts.kind == Kind::Eq || self.low <= parts.version && parts.version <= self.high
     }

@@ -166,6 +166,7 @@ impl Searcher {
                 continue;
             }
             if wanted.iter().any(|code| self.state.trail.is_true(*code)) {
+                self.lessons.show(&mut self.state, wanted)?;
                 return Ok(End::Shown);
             }
             if self.decide(wanted)? {
@@ -185,11 +186,17 @@ impl Searcher {
         Ok(End::TooLong)
     }
 
-    /// Goes back to level 0, and looks at some versions alone from now on.
+    /// Goes back to level 0, and looks at some versions alone from now on: what speaks of others gets a truth at level 0
+    /// alone.
     pub fn set_window(&mut self, low: u8, high: u8) -> Result<(), AllocError> {
         self.cut(0)?;
         self.state.early = 0;
-        self.state.order.set_window(&self.state.shape, low, high)
+        self.state.order.set_window(&self.state.shape, low, high)?;
+        for atom in 0..self.state.shape.count {
+            let is_inside = self.state.order.is_inside(&self.state.shape, atom);
+            self.state.trail.set_idle(atom, !is_inside);
+        }
+        Ok(())
     }
 }
 

@@ -310,7 +310,9 @@ impl State {
         if self.trail.is_false(other) {
             return Ok(Visit::Conflict);
         }
-        self.put(other, number)?;
+        if self.trail.is_open(other) {
+            self.put(other, number)?;
+        }
         Ok(Visit::Kept)
     }
 

@@ -3,7 +3,7 @@
 use crate::clauses::Origin;
 use crate::early::Least;
 use crate::rows::{Few, Plan, Plans, Row};
-use crate::shape::{Code, Kind, Parts};
+use crate::shape::{Code, Kind, Parts, Shape};
 use crate::state::State;
 use crate::table::byte;
 use crate::words::Words;
@@ -42,9 +42,10 @@ impl Made {
         Ok(Made { words })
     }
 
-    /// Whether an atom is true.
-    pub fn has(&self, least: &Least, parts: Parts) -> bool {
-        self.words.has(least.over(parts))
+    /// Whether a literal is true that isn't of a definition.
+    pub fn makes(&self, shape: &Shape, least: &Least, code: Code) -> bool {
+        let over = least.over(shape.parts(code.atom()));
+        self.holds(over, code.is_positive())
     }
 
     // Whether a literal of a row is true.

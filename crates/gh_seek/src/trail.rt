@@ -11,6 +11,8 @@ pub(crate) const NO_CLAUSE: u32 = u32::MAX;
 #[derive(Clone, Copy, Debug, PartialEq, Eq)]
 pub(crate) enum Truth {
     Open,
+    /// Open, but given a truth at level 0 alone.
+    Idle,
     True,
     False,
 }
@@ -57,9 +59,24 @@ impl Trail {
         at(self.truths.as_slice(), code.place(), Truth::Open)
     }
 
-    /// Whether a literal has no truth.
+    /// Whether a literal has no truth, and may get one at the present level.
     pub fn is_open(&self, code: Code) -> bool {
-        self.truth(code) == Truth::Open
+        match self.truth(code) {
+            Truth::Open => true,
+            Truth::Idle => self.starts.is_empty(),
+            _ => false,
+        }
+    }
+
+    /// Says whether an atom that has no truth gets one at level 0 alone.
+    pub fn set_idle(&mut self, atom: usize, is_idle: bool) {
+        let code = Code::new(atom, true);
+        let present = self.truth(code);
+        if present == Truth::Open || present == Truth::Idle {
+            let truth = if is_idle { Truth::Idle } else { Truth::Open };
+            put(self.truths.as_mut_slice(), code.place(), truth);
+            put(self.truths.as_mut_slice(), code.negated().place(), truth);
+        }
     }
 
     /// Whether a literal is true.
