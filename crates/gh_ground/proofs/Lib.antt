@@ -5,3 +5,4 @@ pub mod OpenLemmas
 pub mod KeptLemmas
 pub mod MissingLemmas
 pub mod TrimLemmas
+pub mod SpelledLemmas

@@ -6,6 +6,7 @@ use Rattle.std.proofs.lemmas.List.{length_push, take_more}
 use Rattle.std.proofs.lemmas.Option.{get_or_from_slice_get, slice_get_read}
 use Rattle.std.proofs.lemmas.List.Elements.{All-cons, All-push, Contains-append_left, Contains-append_right}
 use Rattle.gh_base.specs.declared.atom.Lit.{Lit}
+use Rattle.gh_base.specs.declared.sizes.Sizes.{Sizes}
 use Rattle.gh_base.specs.Grounds.{Problem}
 use Rattle.gh_log.specs.Lines.{LogLine}
 use Rattle.gh_log.specs.Lines as line
@@ -14,9 +15,10 @@ use Rattle.gh_log.specs.Sections.{line_clause, HasClauseAt, Stands, AllStand, Ar
 use Rattle.gh_log.specs.Spelled.{IsOfVersion}
 use Rattle.gh_log.proofs.KindLemmas.{kind_push}
 use Rattle.gh_base.proofs.ListLemmas.{get_within, get_front, get_last, get_push, get_take}
-use Rattle.gh_ground.specs.Solving.{hints_of, IsNoDeletion, IsHintLater, IsTrimmed, RefutesProblem, IsRefutationOf}
+use Rattle.gh_ground.specs.Solving.{hints_of, FitsTypes, IsNoDeletion, IsHintLater, IsTrimmed, RefutesProblem, IsRefutationOf}
 use Rattle.gh_ground.specs.Trimming.{IsKeptAt, AreKeptBefore, KeepsOnly, IsHintOfKept, AreNeeded, IsMoved}
 use Rattle.gh_ground.proofs.KeptLemmas.{no_kinds, deletes_nothing}
+use Rattle.gh_ground.proofs.SpelledLemmas.{spelled_lines}
 
 -- what the code reads as a place's mark
 pub read_mark : (kept : List Bool) (place : ℕ) (read mark : Bool) → place < length kept → read ≡ get_or kept place read → read ≡ mark → slice_get kept place ≡ Some mark
@@ -298,10 +300,15 @@ none_left p lines kept place new positions needed end h = λ q lt.
           | inr ne ↦ let over = h.order b.0 a.0 (q + 1 + 1) (q + 1) (omega arith) a.2 b.3 a.3 in absurd (omega (arith, over))
         ]
 
+-- what a `Ground` counts
+pub fits_types : (p : Problem) (s : Sizes) (count : ℕ) → s ≡ p.sizes → count ≡ length p.clauses → s.terms ≤ 255 → s.versions ≤ 255 → s.defs ≤ 4294967295 → count ≤ 4294967295 → FitsTypes p
+fits_types p s count is counted terms versions defs few =
+    subst (λ (z : Sizes). (z.terms ≤ 255) → (z.versions ≤ 255) → (z.defs ≤ 4294967295) → FitsTypes p) (sym is) (λ t v d. record { terms = t; versions = v; defs = d; clauses = omega arith }) terms versions defs
+
 -- what was trimmed is a refutation
-pub trimmed_refutes : (p : Problem) (s t : Section) (kept : List Bool) (place : ℕ) (positions : List ℕ) → AreNeeded s.lines kept 0 → place ≡ length s.lines
+pub trimmed_refutes : (p : Problem) (s t : Section) (kept : List Bool) (place : ℕ) (positions : List ℕ) → FitsTypes p → AreNeeded s.lines kept 0 → place ≡ length s.lines
     → (IsGood p s.lines → IsRenumbered p s.lines kept place t.lines positions) → t.first ≡ 1 → length t.lines ≤ 4294967294 → RefutesProblem p s → IsRefutationOf p t
-trimmed_refutes p s t kept place positions needed end trimmed first few h =
+trimmed_refutes p s t kept place positions fits needed end trimmed first few h =
     let w = trimmed (record { kinds = h.valid.of_kind; version = h.version; none = h.no_deletions }) in
     let ends = h.valid.ends in
     let k : ℕ = length ends.0 in
@@ -311,6 +318,7 @@ trimmed_refutes p s t kept place positions needed end trimmed first few h =
     record {
       valid = record { of_kind = w.kinds; ends = (last.0, last.1, last.2, last.3 ∙ ends.3) };
       version = w.version;
+      spelled = spelled_lines p fits t.lines few w.version w.kinds;
       no_deletions = w.none;
       first = first;
       few = few;

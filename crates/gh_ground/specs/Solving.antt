@@ -5,7 +5,7 @@ use Rattle.gh_base.specs.Meaning.{IsClauseTrue, IsCongruence}
 use Rattle.gh_base.specs.Structures.{Tables, interpretation_of}
 use Rattle.gh_inst.specs.Violations.{AreInstancesTrue}
 use Rattle.gh_log.specs.Sections.{IsValidSection}
-use Rattle.gh_log.specs.Spelled.{IsOfVersion}
+use Rattle.gh_log.specs.Spelled.{IsOfVersion, IsSpelledLine}
 use Rattle.gh_log.specs.Lines.{LogLine}
 use Rattle.gh_log.specs.Lines as line
 use Rattle.gh_log.specs.declared.lines.Section.{Section}
@@ -18,6 +18,13 @@ pub record IsModelOf (p : Problem) (s : Tables) : Type 0 where
   pub clauses : All (IsClauseTrue (interpretation_of s)) p.clauses
   pub instances : AreInstancesTrue p.sizes (interpretation_of s)
   pub congruence : IsCongruence p.sizes (interpretation_of s)
+
+-- a byte counts the terms and the versions, and 32 bits count the definitions and the clauses
+pub record FitsTypes (p : Problem) : Type 0 where
+  pub terms : p.sizes.terms ≤ 255
+  pub versions : p.sizes.versions ≤ 255
+  pub defs : p.sizes.defs ≤ 4294967295
+  pub clauses : length p.clauses ≤ 4294967295
 
 -- no line deletes others
 abbrev pub IsNoDeletion : LogLine → Type 0
@@ -54,10 +61,11 @@ pub record RefutesProblem (p : Problem) (s : Section) : Type 0 where
   pub first : s.first ≡ 1
   pub few : length s.lines ≤ 4294967294
 
--- the section refutes the problem, and each line but the last is needed later
+-- the section refutes the problem, the grammar of logs can spell its lines, and each line but the last is needed later
 pub record IsRefutationOf (p : Problem) (s : Section) : Type 0 where
   pub valid : IsValidSection p s.lines
   pub version : All (IsOfVersion 2) s.lines
+  pub spelled : All (IsSpelledLine 2) s.lines
   pub no_deletions : All IsNoDeletion s.lines
   pub first : s.first ≡ 1
   pub few : length s.lines ≤ 4294967294

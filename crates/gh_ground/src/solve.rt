@@ -34,7 +34,7 @@ fn search_from(alloc: Global, ground: &Ground, truths: &[Lit]) -> Result<Answer,
     loop {
         if let Some(conflict) = solver.conflict(alloc)? {
             let section = solver.into_section(alloc, conflict)?;
-            return Ok(Answer::Refutation(trim(alloc, &section)?));
+            return Ok(Answer::Refutation(trim(alloc, ground, &section)?));
         }
         let structure = solver.structure(alloc)?;
         let names = false_instances(alloc, &structure)?;
@@ -61,7 +61,7 @@ pub fn solve(alloc: Global, ground: &Ground) -> Result<Answer, AllocError>
     match seek(alloc, ground)? {
         Found::Refutation(section) => {
             if refutes(alloc, ground, &section)? {
-                return Ok(Answer::Refutation(trim(alloc, &section)?));
+                return Ok(Answer::Refutation(trim(alloc, ground, &section)?));
             }
             Ok(search_from(alloc, ground, &[])?)
         }

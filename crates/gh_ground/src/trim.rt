@@ -1,11 +1,11 @@
 //! Sections without the lines that nothing later needs.
 
 ghost use Rattle.std.specs.Prelude.{◌≡◌, ◌⊎◌, ◌+◌, ◌-◌, ◌<◌, ◌≤◌, ◌∷◌, [], ℕ, IfOk, OnOk, length, map, slice_get, slice_index};
-ghost use Rattle.gh_base.specs.Grounds.{Problem};
 ghost use Rattle.gh_log.specs.Tables.{line_of};
 ghost use Rattle.gh_ground.specs.Solving.{hints_of, RefutesProblem, IsRefutationOf};
 ghost use Rattle.gh_ground.specs.Trimming.{IsKeptAt, AreKeptBefore, AreHintsKept, KeepsOnly, AreNeeded, AddsMoved, TakesLine, AddsPosition};
 
+use gh_base::ground::Ground;
 use gh_log::lines::{Lines, LogLine, Section};
 use std::alloc::{AllocError, Global};
 
@@ -177,11 +177,13 @@ impl Trimmed {
     }
 }
 
-/// A section without the lines that nothing later needs, a refutation where it was one.
-pub(crate) fn trim(alloc: Global, section: &Section) -> Result<Section, AllocError>
-    requires { length section.now.lines ≤ 4294967294 }
-    ensures { IfOk result (λ s. (p : Problem) → RefutesProblem p section.now → IsRefutationOf p s) }
+/// The lines that something later needs of a section that refutes ground clauses: they refute them too.
+pub(crate) fn trim(alloc: Global, ground: &Ground, section: &Section) -> Result<Section, AllocError>
+    requires { RefutesProblem ground.now section.now }
+    ensures { IfOk result (IsRefutationOf ground.now) }
 {
+    let _sizes = ground.sizes();
+    let _count = ground.count();
     let lines = &section.lines;
     let kept = needed(alloc, lines)?;
     let mut trimmed = Trimmed {

@@ -47,10 +47,5 @@ returns-then-is_empty-clause-answer c =
 pub into_section-requires : goal.into_section-requires
 into_section-requires c = ended_refuted c.conflict.new.self.search _ c.in-Some.conflict c.in_ok-conflict.ensures.ended c.in-Some.is
 
-pub returns-in-Some-clause-answer : goal.returns-in-Some-clause-answer
-returns-in-Some-clause-answer c =
-    let p = c.args.ground.now in
-    c.in_ok-trim.ensures p (c.in_ok-section.ensures p (c.in_ok-conflict.ensures.keeps.keeps p c.loop-solver.invariant))
-
 pub trim-requires : goal.trim-requires
-trim-requires c = (c.in_ok-section.ensures c.args.ground.now (c.in_ok-conflict.ensures.keeps.keeps c.args.ground.now c.loop-solver.invariant)).few
+trim-requires c = c.in_ok-section.ensures c.args.ground.now (c.in_ok-conflict.ensures.keeps.keeps c.args.ground.now c.loop-solver.invariant)

@@ -5,8 +5,9 @@ use Rattle.gh_base.specs.Grounds.{Problem}
 use Rattle.gh_log.specs.Lines.{LogLine}
 use Rattle.gh_log.specs.Tables.{line_of}
 use Rattle.gh_ground.specs.declared.trim.Trimmed.{Trimmed}
+use Rattle.gh_ground.specs.Solving.{FitsTypes}
 use Rattle.gh_ground.specs.Trimming.{AreNeeded, IsMoved}
-use Rattle.gh_ground.proofs.TrimLemmas.{IsGood, IsRenumbered, read_mark, trim_kept, trim_passed, trimmed_refutes}
+use Rattle.gh_ground.proofs.TrimLemmas.{IsGood, IsRenumbered, fits_types, read_mark, trim_kept, trim_passed, trimmed_refutes}
 use Rattle.gh_ground.proofs.trim.trim.Goals as goal
 use Rattle.gh_ground.proofs.trim.trim.Goals.{then-index+in_ok-take, else-index+in_ok-pass}
 
@@ -63,5 +64,7 @@ returns c =
     let new = c.loop-place.trimmed in
     let i = c.loop-place.invariant in
     let end : place ≡ length c.args.section.now.lines = omega (arith, c.loop-place.auto.place-end, c.loop-place-test.false) in
-    λ p h. trimmed_refutes p c.args.section.now _ kept place new.positions.items c.in_ok-kept.ensures end (i.trimmed p) refl
-    (omega (arith, i.few, end, c.requires)) h
+    let p = c.args.ground.now in
+    let fits : FitsTypes p = fits_types p c.sizes-sizes.result c.count-count.result c.sizes-sizes.ensures.sizes c.count-count.ensures.count (omega (arith, c.sizes-sizes.type_inv)) (omega (arith, c.sizes-sizes.type_inv)) (omega (arith, c.sizes-sizes.type_inv)) (omega (arith, c.count-count.ensures.bound)) in
+    trimmed_refutes p c.args.section.now _ kept place new.positions.items fits c.in_ok-kept.ensures end (i.trimmed p) refl
+    (omega (arith, i.few, end, c.requires.few)) c.requires
