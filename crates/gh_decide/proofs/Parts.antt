@@ -13,7 +13,6 @@ use Rattle.gh_ast.proofs.Lists.{member_first, member_cases, no_member}
 use Rattle.gh_ast.proofs.Sites.{any_of}
 use Rattle.gh_path.specs.Admitted.{IsAdmitted, NoneHas}
 use Rattle.gh_path.specs.Conditions.{Condition, conditions_of, IsCondition}
-use Rattle.gh_path.specs.Kept.{StandsFor}
 use Rattle.gh_path.specs.declared.condition.Condition as kept
 use Rattle.gh_path.proofs.Listed.{listed}
 use Rattle.gh_symb.specs.Limits.{HasTerms, HasVersions, PassesLimit}
@@ -36,7 +35,7 @@ use Rattle.gh_model.specs.BuiltTraces.{built_trace}
 use Rattle.gh_model.specs.KeptTraces.{drawn_over}
 use Rattle.gh_model.proofs.soundness.ClauseModels.{traces_give_models}
 use Rattle.gh_model.proofs.locality.Traces.{locality_holds}
-use Rattle.gh_decide.specs.Verdicts.{IsShown}
+use Rattle.gh_decide.specs.Verdicts.{IsGroundOf, IsShown}
 
 -- a condition is one of its procedure's
 among : (P : Program) (c : Condition) → IsCondition P c → Contains (conditions_of c.procedure) c
@@ -59,15 +58,11 @@ section_shows P c lines typed is valid = λ x ys against.
     let found = traces_give_models P c x ys typed is against in
     refute (problem (symbolic_of P c)) lines valid found.0 found.1.congruence found.1.clauses found.1.instances
 
--- the clauses of whatever condition stands behind the kept one
-abbrev pub IsGroundOf : Program → kept.Condition → Problem → Type 0
-IsGroundOf P r p = (c : Condition) → StandsFor P r c → p ≡ problem (symbolic_of P c)
-
 pub shown : (P : Program) (r : kept.Condition) (p : Problem) (s : Section) → IsTyped P → IsGroundOf P r p → IsRefutationOf p s → IsShown P r s
 shown P r p s typed ground is = record {
   valid = λ c one. section_shows P c s.lines typed one.there (at c one);
   section = at;
-  placed = record { first = is.first; few = is.few; version = is.version };
+  placed = record { first = is.first; few = is.few; spelled = is.spelled };
 }
   where
     at : (c : Condition) → IsOfProgram P r c → IsValidSection (problem (symbolic_of P c)) s.lines

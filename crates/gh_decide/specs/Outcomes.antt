@@ -4,17 +4,18 @@ use Rattle.gh_ast.specs.Plain.{Program}
 use Rattle.gh_trace.specs.Validity.{ListedAreValid}
 use Rattle.gh_trace.specs.Refuted.{IsFirst}
 use Rattle.gh_log.specs.declared.lines.Log.{Log}
-use Rattle.gh_log.specs.Spelled.{lines_of}
+use Rattle.gh_log.specs.Spelled.{IsSpelled, lines_of}
 use Rattle.gh_decide.specs.Logs.{IsValidLog}
 use Rattle.gh_decide.specs.Verdicts.{IsPlaced}
 use Rattle.gh_decide.specs.declared.outcome.Outcome.{Outcome}
 use Rattle.gh_decide.specs.declared.outcome.Outcome.TheVariants.{Verified, Refuted}
 
--- all conditions are valid, and the log, of version 2, shows it
+-- all conditions are valid, and the log, which the grammar of version 2 can spell, shows it
 pub record IsVerified (P : Program) (kept : Log) : Type 0 where
   pub valid : ListedAreValid P
   pub version : kept.version ≡ 2
   pub log : IsValidLog P (lines_of kept.sections.items)
+  pub spelled : IsSpelled 2 (lines_of kept.sections.items)
   pub placed : All IsPlaced kept.sections.items
 
 abbrev pub IsOutcome : Program → Outcome → Type 0

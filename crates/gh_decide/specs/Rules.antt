@@ -33,4 +33,4 @@ pub record KeepsRules (p : Procedure) : Type 0 where
   pub loops_return_not : AllLoopsReturnNot (body_of p)
 
 abbrev pub AllKeepRules : Program → Type 0
-AllKeepRules P = (p : Procedure) → Contains P.procedures p → KeepsRules p
+AllKeepRules P = (q : Procedure) → Contains P.procedures q → KeepsRules q

@@ -10,8 +10,8 @@ use Rattle.gh_trace.specs.Traces.{State, Takes, Passes, IsTrace, last_state}
 abbrev pub Safe : Program → Graph → State → Type 0
 Safe P dead_end x = Unit {0}
 Safe P (ends c) x = Passes P c x
-Safe P (moves p g) x = (y : State) → Takes P p x y → Safe P g y
-Safe P (guarded c p g) x = Passes P c x × ((y : State) → Takes P p x y → Safe P g y)
+Safe P (moves s g) x = (y : State) → Takes P s x y → Safe P g y
+Safe P (guarded c s g) x = Passes P c x × ((y : State) → Takes P s x y → Safe P g y)
 Safe P (fork l e r g k) x = ((y : State) → Takes P (assume l e r true) x y → Safe P g y) × ((y : State) → Takes P (assume l e r false) x y → Safe P k y)
 
 -- the same by whole paths
@@ -20,4 +20,4 @@ PathsPass P g x = (ps : List PathStep) (c : Check) → Path g ps c → (ys : Lis
 
 -- each check of each path from each start is passed
 abbrev pub AllPass : Program → Type 0
-AllPass P = (p : Procedure) → Contains P.procedures p → (a : Start) → Contains (starts p) a → (x : State) → Meaning a.meets x.store x.heap → PathsPass P a.graph x
+AllPass P = (q : Procedure) → Contains P.procedures q → (a : Start) → Contains (starts q) a → (x : State) → Meaning a.meets x.store x.heap → PathsPass P a.graph x

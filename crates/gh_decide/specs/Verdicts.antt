@@ -1,22 +1,29 @@
 -- What a decision of one condition answers.
 use Rattle.std.specs.Prelude.{◌≡◌, ◌↔◌, ◌≤◌, All, length}
+use Rattle.gh_base.specs.Grounds.{Problem}
 use Rattle.gh_ast.specs.Plain.{Program}
 use Rattle.gh_path.specs.Conditions.{Condition}
+use Rattle.gh_path.specs.Kept.{StandsFor}
 use Rattle.gh_path.specs.declared.condition.Condition as kept
 use Rattle.gh_symb.specs.Symbolic.{symbolic_of}
 use Rattle.gh_symb.specs.Formulas.{problem}
 use Rattle.gh_trace.specs.Kept.{drawn_of, IsOfProgram, IsOne, HasNoCounterexample, HasCounterexample}
 use Rattle.gh_log.specs.declared.lines.Section.{Section}
 use Rattle.gh_log.specs.Sections.{IsValidSection}
-use Rattle.gh_log.specs.Spelled.{IsOfVersion}
+use Rattle.gh_log.specs.Spelled.{IsSpelledLine}
 use Rattle.gh_decide.specs.declared.decide.Verdict.{Verdict}
 use Rattle.gh_decide.specs.declared.decide.Verdict.TheVariants.{Valid, Refuted}
 
--- a section of its own, of version 2: it stands at the first line, and its lines have numbers of 32 bits, as has the one after them
+-- a section of its own: it stands at the first line, its lines have numbers of 32 bits, as has the one after them, and the
+-- grammar of logs of version 2 can spell them
 pub record IsPlaced (s : Section) : Type 0 where
   pub first : s.first ≡ 1
   pub few : length s.lines ≤ 4294967294
-  pub version : All (IsOfVersion 2) s.lines
+  pub spelled : All (IsSpelledLine 2) s.lines
+
+-- these are the clauses of whatever condition stands behind the kept one
+abbrev pub IsGroundOf : Program → kept.Condition → Problem → Type 0
+IsGroundOf P r clauses = (c : Condition) → StandsFor P r c → clauses ≡ problem (symbolic_of P c)
 
 -- the condition has no counterexample, and the section is valid for its clauses
 pub record IsShown (P : Program) (r : kept.Condition) (s : Section) : Type 0 where

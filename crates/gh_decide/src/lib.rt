@@ -5,3 +5,4 @@ pub mod decide;
 pub mod direct;
 pub mod laws;
 pub mod outcome;
+pub mod refuted;

@@ -1,5 +1,5 @@
 -- Questions as they are kept.
-use Rattle.std.specs.Prelude.{◌≡◌, ⊤, List, map}
+use Rattle.std.specs.Prelude.{◌≡◌, ◌<◌, ◌≤◌, ⊤, List, Option, Some, None, map}
 use Rattle.gh_base.specs.declared.term.TermKind.{TermKind}
 use Rattle.gh_ast.specs.Plain.{Formula}
 use Rattle.gh_ast.specs.Questions.{Claim, Claims, Question}
@@ -10,7 +10,7 @@ use Rattle.gh_symb.specs.Formulas.{meets, meets_whole}
 use Rattle.gh_symb.specs.Encodings.{plain_kind, IsBinding}
 use Rattle.gh_symb.specs.Inside.{binding_of}
 use Rattle.gh_entail.specs.Rules.{IsTyped, IsFirstBroken}
-use Rattle.gh_entail.specs.Limits.{KeepsLimits, IsLimit}
+use Rattle.gh_entail.specs.Limits.{KeepsLimits, IsLimit, count_terms}
 use Rattle.gh_entail.specs.Terms.{question_walked}
 use Rattle.gh_entail.specs.Formulas.{claim_formula, claim_formulas}
 use Rattle.gh_entail.specs.declared.terms.QuestionTerms.{QuestionTerms}
@@ -39,6 +39,11 @@ claims_over terms bonds cs = claim_formulas (map plain_kind terms) (binding_of b
 pub record AreTerms (q : Question) (t : QuestionTerms) : Type 0 where
   pub terms : map plain_kind t.terms ≡ (question_walked q).kinds
   pub binding : IsBinding t.binding (question_walked q).bindings
+
+-- no terms: there are more than the limit; else they are the question's
+abbrev pub AreTermsInLimit : Question → Option QuestionTerms → Type 0
+AreTermsInLimit q None = 32 < count_terms q
+AreTermsInLimit q (Some t) = AreTerms q t × (count_terms q ≤ 32)
 
 -- the question breaks no rule and passes no limit
 pub record IsAdmitted (q : Question) : Type 0 where

@@ -23,6 +23,10 @@ count_atoms q = claim_atoms q.left + claim_atoms q.right
 abbrev pub count_terms : Question → ℕ
 count_terms q = length (question_walked q).kinds
 
+-- the variables and the atoms are at most their limits
+abbrev pub KeepsTextLimits : Question → Type 0
+KeepsTextLimits q = (length q.variables ≤ 32) × (count_atoms q ≤ 32)
+
 -- each quantity is at most its limit
 pub record KeepsLimits (q : Question) : Type 0 where
   pub variables : length q.variables ≤ 32

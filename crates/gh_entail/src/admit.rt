@@ -1,14 +1,12 @@
 //! The type rules of a question, and the limits on it.
 
-ghost use Rattle.std.specs.Prelude.{◌≡◌, ◌≤◌, IfErr, IfOk, OnOk, MatchOption, List, length, map};
+ghost use Rattle.std.specs.Prelude.{◌≡◌, ◌≤◌, IfErr, IfOk, OnOk, MatchOption, length, map};
 ghost use Rattle.gh_ast.specs.Limits.{reported};
 ghost use Rattle.gh_ast.specs.Questions.{question_of};
-ghost use Rattle.gh_ast.specs.declared.Occ.{Occ as Declared};
 ghost use Rattle.gh_types.specs.Faults.{IsFirstIn, IsFirstOf};
-ghost use Rattle.gh_types.specs.Tables.{IsTableOf};
-ghost use Rattle.gh_entail.specs.Checks.{UndeclaredErrors};
+ghost use Rattle.gh_entail.specs.Checks.{IsFirstUndeclared};
 ghost use Rattle.gh_entail.specs.Asked.{AreTerms, IsAdmitted, IsAskRefusal};
-ghost use Rattle.gh_entail.specs.Limits.{IsLimit, count_atoms};
+ghost use Rattle.gh_entail.specs.Limits.{IsLimit, KeepsTextLimits, count_atoms};
 ghost use Rattle.gh_entail.specs.Rules.{Broken, DuplicateName, UnknownName};
 
 use crate::occurrences::{add_claim, count_in_claim};
@@ -68,8 +66,7 @@ impl Asked {
 
 // The first occurrence whose name isn't in a table.
 fn first_undeclared(names: &Names<'_>, occurrences: &[&Occ]) -> Option<Fault>
-    ensures { (vs : List Declared) → IsTableOf (map (λ o. o.name) vs) names.now.places →
-        IsFirstIn (UndeclaredErrors vs) (map (λ o. o.now) occurrences.now) result }
+    ensures { IsFirstUndeclared names.now.places (map (λ o. o.now) occurrences.now) result }
 {
     let mut first = None;
     for occurrence in occurrences {
@@ -124,9 +121,7 @@ fn count_all_atoms(question: &Question) -> u32
 
 // The limit on the text of a question that is passed.
 fn passed_limit(question: &Question) -> Option<Limit>
-    ensures { MatchOption result
-        ((length question.now.variables.items ≤ 32) × (count_atoms (question_of question.now) ≤ 32))
-        (IsLimit (question_of question.now)) }
+    ensures { MatchOption result (KeepsTextLimits (question_of question.now)) (IsLimit (question_of question.now)) }
 {
     let variables = count_variables(question);
     if variables > 32 {

@@ -1,9 +1,8 @@
 //! The terms of a question.
 
-ghost use Rattle.std.specs.Prelude.{◌≡◌, ◌<◌, ◌≤◌, IfOk, OnOk, MatchOption};
+ghost use Rattle.std.specs.Prelude.{◌≡◌, IfOk, OnOk};
 ghost use Rattle.gh_ast.specs.Questions.{claim_of, claims_view, question_of};
-ghost use Rattle.gh_entail.specs.Asked.{AreTerms};
-ghost use Rattle.gh_entail.specs.Limits.{count_terms};
+ghost use Rattle.gh_entail.specs.Asked.{AreTermsInLimit};
 ghost use Rattle.gh_entail.specs.Terms.{WalksClaim, WalksClaims};
 
 use gh_ast::question::{Claim, Question};
@@ -63,9 +62,7 @@ fn walk_claims<'a>(
 
 /// The terms of a question, unless there are more than `MOST_TERMS`.
 pub fn terms_of(alloc: Global, question: &Question) -> Result<Option<QuestionTerms>, AllocError>
-    ensures { IfOk result (λ o. MatchOption o
-        (32 < count_terms (question_of question.now))
-        (λ t. AreTerms (question_of question.now) t × (count_terms (question_of question.now) ≤ 32))) }
+    ensures { IfOk result (AreTermsInLimit (question_of question.now)) }
 {
     let mut kinds = Kinds::new(alloc)?;
     let mut scope = Scope::new(alloc);

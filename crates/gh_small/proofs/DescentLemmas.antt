@@ -73,7 +73,7 @@ next_below p k cells s known some is few =
     omega (arith, same, bound, few)
 
 pub lower : (p : Problem) (k : ℕ) (s : Section) → IsRefutationOf (bounded_by p k) s → IsLower p k s
-lower p k s is = record { valid = is.valid; placed = record { first = is.first; few = is.few; version = is.version } }
+lower p k s is = record { valid = is.valid; placed = record { first = is.first; few = is.few; spelled = is.spelled } }
 
 -- a heap has as many cells as are listed
 pub as_many : (cells : List Cell) (h : Heap) → pairs cells ≡ entries h → length cells ≡ len h

@@ -17,7 +17,7 @@ use Rattle.gh_log.specs.declared.lines.Section.{Section}
 use Rattle.gh_trace.specs.Replay.{Drawn, Refutes}
 use Rattle.gh_trace.specs.Kept.{drawn_of, IsOfProgram, IsOne}
 use Rattle.gh_trace.specs.declared.state.Trace.{Trace}
-use Rattle.gh_decide.proofs.Parts.{IsGroundOf}
+use Rattle.gh_decide.specs.Verdicts.{IsGroundOf}
 use Rattle.gh_model.specs.Abstraction.{IsModelOf}
 use Rattle.gh_model.specs.BuiltTraces.{heap_in, built_trace, states_under, versions_along}
 use Rattle.gh_model.specs.KeptTraces.{drawn_over}

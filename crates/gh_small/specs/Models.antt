@@ -34,7 +34,7 @@ first_heap s = heap_in (interpretation_of s) s.sizes.terms 0
 abbrev pub first_classes : Tables → ℕ
 first_classes s = allocated_classes (interpretation_of s) s.sizes.terms
 
--- the section, of version 2, is valid for the clauses that say "fewer than so many cells"
+-- the section, which logs of version 2 can spell, is valid for the clauses that say "fewer than so many cells"
 pub record IsLower (p : Problem) (cells : ℕ) (s : Section) : Type 0 where
   pub valid : IsValidSection (bounded_by p cells) s.lines
   pub placed : IsPlaced s

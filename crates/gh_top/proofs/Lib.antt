@@ -19,4 +19,5 @@ pub mod SmtLemmas
 pub mod QuestionLemmas
 pub mod SessionLemmas
 pub mod SessionLaws
+pub mod LogLaws
 pub mod NumberLemmas

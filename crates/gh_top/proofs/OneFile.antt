@@ -23,7 +23,8 @@ use Rattle.gh_session.specs.declared.error.SessionError.TheVariants.{Line, TooMa
 use Rattle.gh_symb.specs.Formulas.{problem}
 use Rattle.gh_symb.specs.Symbolic.{symbolic_of}
 use Rattle.gh_top.proofs.OneRefusal.{IsFileCase, no_file, long_file, short_file, one_file_case}
-use Rattle.gh_top.proofs.OneStatus.{one_log, as_many, section_at, one_at}
+use Rattle.gh_decide.proofs.Decided.{as_many}
+use Rattle.gh_top.proofs.OneStatus.{one_log, section_at, one_at}
 use Rattle.gh_top.specs.Rechecks.{most_logged, lines_in, IsLogOf, IsFirstFaultIn, IsLogRefusal}
 use Rattle.gh_top.specs.Rechecks as recheck
 use Rattle.gh_top.specs.Replays.{most_drawn, IsAt, IsDrawingRefusal, failed_text}

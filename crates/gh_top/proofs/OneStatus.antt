@@ -19,6 +19,7 @@ use Rattle.gh_ast.specs.QuestionGrammar.{SpellsQuestion, Poses}
 use Rattle.gh_ast.specs.Questions.{Question}
 use Rattle.gh_ast.specs.declared.typed.Limit.{Limit}
 use Rattle.gh_check.proofs.SectionLemmas.{apart}
+use Rattle.gh_decide.proofs.Decided.{as_many}
 use Rattle.gh_decide.specs.Logs.{AreValidSections, IsValidLog}
 use Rattle.gh_draw.proofs.Shown.{file_one, file_shown}
 use Rattle.gh_draw.specs.Drawn.{IsFileOf}
@@ -170,12 +171,6 @@ one_decided P s t (inr (e, k, c, xs, r)) (inr (f, j, d, ys, q)) = e ∙ sym f
 
 pub one_log : (text : List ℕ) (log other : List (List LogLine)) → IsLogOf text log → IsLogOf text other → log ≡ other
 one_log text log other a b = (one_text a.version b.version log other a.spelled b.spelled (sym a.text_is ∙ b.text_is)).1
-
-pub as_many : (P : Program) (cs : List Condition) (log : List (List LogLine)) → AreValidSections P cs log → length log ≡ length cs
-as_many P [] [] v = refl
-as_many P [] (s ∷ ss) v = absurd v
-as_many P (c ∷ cs) [] v = absurd v
-as_many P (c ∷ cs) (s ∷ ss) v = let more = as_many P cs ss v.1 in omega (arith, more)
 
 -- the section after valid ones
 pub section_at : (P : Program) (earlier : List Condition) (c : Condition) (later : List Condition) (before : List (List LogLine)) (s : List LogLine) (after : List (List LogLine)) →
@@ -386,7 +381,7 @@ given words files s u (usage h) = no_request refl h
 given words files s u (refused {r = r} x a on h) = text_refused r x refl a on h
 given words files s u (check_verified {f = f} {P = P} a v) = judged (Check f) P a (inl (refl, v))
 given words files s u (check_refuted {f = f} {P = P} a r) = judged (Check f) P a (inr (refl, r.number, r.condition, r.states, r.first))
-given words files s u (log_verified {f = f} {P = P} log a v l two) = judged (Log f) P a (inl (refl, v))
+given words files s u (log_verified {f = f} {P = P} log a v l spelled) = judged (Log f) P a (inl (refl, v))
 given words files s u (log_refuted {f = f} {P = P} a r) = judged (Log f) P a (inr (refl, r.number, r.condition, r.states, r.first))
 given words files s u (recheck_refused {f = f} {l = l} {u = v} {P = P} a w) = judged (Recheck f l) P a (inr (refl, v, w))
 given words files s u (recheck_verified {f = f} {l = l} {P = P} a v) = judged (Recheck f l) P a (inl (refl, v))

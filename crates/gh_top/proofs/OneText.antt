@@ -136,7 +136,7 @@ told words files s u (usage h) free = no_request refl h
 told words files s u (refused {r = r} x a on h) free = text_refused r x refl a on h
 told words files s u (check_verified {f = f} {P = P} a v) free = judged (Check f) P a refl
 told words files s u (check_refuted {f = f} a r) free = absurd (free (Check f) a.request check_trace)
-told words files s u (log_verified {f = f} log a v l two) free = absurd (free (Log f) a.request log_of)
+told words files s u (log_verified {f = f} log a v l spelled) free = absurd (free (Log f) a.request log_of)
 told words files s u (log_refuted {f = f} a r) free = absurd (free (Log f) a.request log_trace)
 told words files s u (recheck_refused {f = f} {l = l} {P = P} a w) free = judged (Recheck f l) P a (inr w)
 told words files s u (recheck_verified {f = f} {l = l} {P = P} a v) free = judged (Recheck f l) P a (inl (v, refl))

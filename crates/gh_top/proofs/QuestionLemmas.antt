@@ -1,14 +1,13 @@
 -- From a question's text to its answer.
 use Rattle.std.proofs.Common.{◌≡◌, ℕ, ◌≤◌, List, [], ◌∷◌, ◌++◌, length, refl, sym, ◌∙◌, ap, subst}
 use Rattle.std.specs.Prelude.{Option, Some, codes, All}
-use Rattle.std.proofs.lemmas.List.Elements.{All-head, All-cons, All-nil}
+use Rattle.std.proofs.lemmas.List.Elements.{All-head}
 use Rattle.gh_base.specs.Outside.{Table}
 use Rattle.gh_ast.specs.Programs.{names}
 use Rattle.gh_ast.specs.Questions.{Question}
 use Rattle.gh_trace.specs.Kept.{state_of}
 use Rattle.gh_trace.specs.declared.state.State as kept
 use Rattle.gh_log.specs.declared.lines.Section.{Section}
-use Rattle.gh_log.specs.Spelled.{IsOfVersion}
 use Rattle.gh_log.specs.Texts.{log_text}
 use Rattle.gh_draw.specs.Drawings.{line}
 use Rattle.gh_draw.specs.Drawn.{drawing_text, HasValues}
@@ -38,6 +37,7 @@ use Rattle.gh_top.specs.declared.status.Status.{Status}
 use Rattle.gh_top.specs.declared.status.Status.TheVariants.{Verified, Refuted, TextRefused}
 use Rattle.gh_top.specs.declared.words.Request.{Request}
 use Rattle.gh_top.specs.declared.words.Request.TheVariants.{Entail}
+use Rattle.gh_top.proofs.DecidingLemmas.{alone_spelled}
 use Rattle.gh_top.proofs.FileLemmas.{one_file}
 use Rattle.gh_top.proofs.RuleLemmas.{first_asked}
 
@@ -60,7 +60,7 @@ pub entailed_report : (q : Question) (s : Section) (status : Status) (u : List �
     → IsReplyTo q status u
 entailed_report q s status u y a b =
     subst (λ t. IsReplyTo q t u) (sym a)
-    (entailed (record { entailed = y.0; section = s.lines; valid = y.1.valid; version = All-cons (λ ls. All (IsOfVersion 2) ls) s.lines [] y.1.version (All-nil (λ ls. All (IsOfVersion 2) ls)); text_is = b }))
+    (entailed (record { entailed = y.0; section = s.lines; valid = y.1.valid; spelled = alone_spelled s.lines y.1.spelled; text_is = b }))
 
 pub failing_report : (q : Question) (x : kept.State) (shown front u : List ℕ) → IsTyped q → FailsIn q x → All HasValues (x ∷ []) → shown ≡ drawing_text 1 (x ∷ []) → front ≡ line (codes "not entailed") → u ≡ front ++ shown
     → IsFailingReport q u

@@ -1,7 +1,6 @@
 -- From a smallest counterexample to what is answered for it.
 use Rattle.std.proofs.Common.{◌≡◌, ℕ, List, [], ◌∷◌, ◌++◌, length, map, Option, Some, None, refl, sym, ap, subst, append_assoc, ◌∙◌}
 use Rattle.std.specs.Prelude.{codes, All, IfSome}
-use Rattle.std.proofs.lemmas.List.Elements.{All-nil, All-cons}
 use Rattle.gh_ast.specs.Plain.{Program}
 use Rattle.gh_ast.specs.Rules.{IsTyped}
 use Rattle.gh_path.specs.Answers.{IsNumbered}
@@ -11,11 +10,10 @@ use Rattle.gh_symb.specs.Symbolic.{symbolic_of}
 use Rattle.gh_symb.specs.Formulas.{problem}
 use Rattle.gh_trace.specs.Kept.{state_of, drawn}
 use Rattle.gh_trace.specs.declared.state.State.{State}
-use Rattle.gh_log.specs.Lines.{LogLine}
 use Rattle.gh_log.specs.declared.lines.Section.{Section}
-use Rattle.gh_log.specs.Spelled.{IsOfVersion}
-use Rattle.gh_decide.specs.Outcomes.{IsVerified}
+use Rattle.gh_log.specs.Spelled.{IsSpelledLine}
 use Rattle.gh_trace.specs.Refuted.{IsFirst}
+use Rattle.gh_trace.specs.Validity.{ListedAreValid}
 use Rattle.gh_trace.proofs.FirstRefuted.{first_at, kept_first}
 use Rattle.gh_draw.specs.Descriptions.{description}
 use Rattle.gh_draw.specs.Drawings.{line}
@@ -25,7 +23,7 @@ use Rattle.gh_draw.proofs.Refuted.{told_of_refuted}
 use Rattle.gh_small.specs.Models.{IsLowest}
 use Rattle.gh_small.specs.Smallest.{first_cells, IsSmallest}
 use Rattle.gh_small.specs.declared.found.Smallest.{Smallest}
-use Rattle.gh_log.specs.declared.lines.Log.{Log}
+use Rattle.gh_top.proofs.DecidingLemmas.{alone_spelled}
 use Rattle.gh_top.proofs.FirstLemmas.{first_reported}
 use Rattle.gh_top.specs.Headline.{smallest_verified, smallest_refuted}
 use Rattle.gh_top.specs.Lines.{verified_line, smallest_line}
@@ -35,18 +33,18 @@ use Rattle.gh_top.specs.declared.words.Request.TheVariants as request
 use Rattle.gh_top.specs.declared.status.Status.{Status}
 use Rattle.gh_top.specs.declared.status.Status.TheVariants.{Verified, Refuted}
 
-second_version : (P : Program) (c : Condition) (cells : ℕ) (o : Option Section) → IsLowest (problem (symbolic_of P c)) cells o → IfSome o (λ s. All (IsOfVersion 2) s.lines)
-second_version P c cells None h = tt
-second_version P c cells (Some s) h = h.1.placed.version
+lines_spelled : (P : Program) (c : Condition) (cells : ℕ) (o : Option Section) → IsLowest (problem (symbolic_of P c)) cells o → IfSome o (λ s. All (IsSpelledLine 2) s.lines)
+lines_spelled P c cells None h = tt
+lines_spelled P c cells (Some s) h = h.1.placed.spelled
 
--- its section is of version 2
-pub of_second : (P : Program) (k : ℕ) (r : kept.Condition) (s : Smallest) → IsFirst P k s.trace → IsNumbered P k (Some r) → IsSmallest P r s → IfSome s.section (λ x. All (IsOfVersion 2) x.lines)
-of_second P k r s f n is = second_version P f.condition s.cells s.section (is.lowest f.condition (kept_first P k s.trace r f n))
+-- its section can be spelled
+pub section_spelled : (P : Program) (k : ℕ) (r : kept.Condition) (s : Smallest) → IsFirst P k s.trace → IsNumbered P k (Some r) → IsSmallest P r s → IfSome s.section (λ x. All (IsSpelledLine 2) x.lines)
+section_spelled P k r s f n is = lines_spelled P f.condition s.cells s.section (is.lowest f.condition (kept_first P k s.trace r f n))
 
 bound_told : (P : Program) (c : Condition) (cells : ℕ) (o : Option Section) → IsLowest (problem (symbolic_of P c)) cells o → IsBoundText P c cells (section_text o)
 bound_told P c cells None e = subst (λ n. IsBoundText P c n []) (sym e) no_cell
 bound_told P c cells (Some s) h =
-    some_cells s.lines h.0 h.1.valid (All-cons (λ (ls : List LogLine). All (IsOfVersion 2) ls) s.lines [] h.1.placed.version (All-nil (λ (ls : List LogLine). All (IsOfVersion 2) ls)))
+    some_cells s.lines h.0 h.1.valid (alone_spelled s.lines h.1.placed.spelled)
 
 same_cells : (ss : List State) → first_cells (map drawn ss) ≡ cells_at_first (map state_of ss)
 same_cells [] = refl
@@ -84,9 +82,9 @@ reported P k n s r front d shown bound first second third fourth typed f there i
           ∙ ap (λ z. (smallest_line k (length (conditions P)) s.cells ++ line (description c) ++ z) ++ bound) (told_by ∙ told.text);
     }
 
-pub smallest_valid : (P : Program) (n : ℕ) (log : Log) (s : Status) (u : List ℕ) → IsVerified P log → n ≡ length (conditions P) → s ≡ Verified
+pub smallest_valid : (P : Program) (n : ℕ) (s : Status) (u : List ℕ) → ListedAreValid P → n ≡ length (conditions P) → s ≡ Verified
     → u ≡ verified_line n → (file : List ℕ) → Replies (request.Smallest file) P s u
-smallest_valid P n log s u v count a b file words files asks = rw (a, b, count) (smallest_verified asks v.valid)
+smallest_valid P n s u v count a b file words files asks = rw (a, b, count) (smallest_verified asks v)
 
 pub smallest_fails : (P : Program) (s : Status) (u : List ℕ) → s ≡ Refuted → IsSmallestReport P u → (file : List ℕ) → Replies (request.Smallest file) P s u
 smallest_fails P s u a f file words files asks = rw a (smallest_refuted asks f)

@@ -9,7 +9,7 @@ use Rattle.gh_assert.specs.Heaps.{IsProper}
 use Rattle.gh_trace.specs.Traces.{State}
 use Rattle.gh_log.specs.Lines.{LogLine}
 use Rattle.gh_log.specs.Sections.{IsValidSection}
-use Rattle.gh_log.specs.Spelled.{AreOfVersion}
+use Rattle.gh_log.specs.Spelled.{IsSpelled}
 use Rattle.gh_log.specs.Texts.{log_text}
 use Rattle.gh_draw.specs.Drawings.{line, drawing, IsDrawable}
 use Rattle.gh_entail.specs.Meaning.{IsEntailed, Fails}
@@ -49,7 +49,7 @@ pub record IsEntailedReport (q : Question) (text : List ℕ) : Type 0 where
   pub entailed : IsEntailed q
   pub section : List LogLine
   pub valid : IsValidSection (question_problem q) section
-  pub version : AreOfVersion 2 (section ∷ [])
+  pub spelled : IsSpelled 2 (section ∷ [])
   pub text_is : text ≡ line (codes "entailed") ++ log_text 2 (section ∷ [])
 
 -- the left claim holds in a state and the right one doesn't; the text says that the question isn't entailed, and draws the state

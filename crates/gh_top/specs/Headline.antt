@@ -7,7 +7,7 @@ use Rattle.gh_machine.specs.Machine.{IsGood}
 use Rattle.gh_path.specs.Conditions.{Condition, conditions}
 use Rattle.gh_trace.specs.Validity.{ListedAreValid}
 use Rattle.gh_log.specs.Lines.{LogLine}
-use Rattle.gh_log.specs.Spelled.{AreOfVersion}
+use Rattle.gh_log.specs.Spelled.{IsSpelled}
 use Rattle.gh_log.specs.Texts.{log_text}
 use Rattle.gh_decide.specs.Logs.{IsValidLog}
 use Rattle.gh_draw.specs.Drawings.{line}
@@ -65,7 +65,7 @@ pub data Answer (words : List (List ℕ)) (files : Files) : Status → List ℕ 
   check_verified : {f : List ℕ} {P : Program} → Asks words files (Check f) P → ListedAreValid P → Answer words files Verified (verified_text P)
   check_refuted : {f u : List ℕ} {P : Program} → Asks words files (Check f) P → IsRefutation P u → Answer words files Refuted u
   -- log FILE
-  log_verified : {f : List ℕ} {P : Program} (log : List (List LogLine)) → Asks words files (Log f) P → ListedAreValid P → IsValidLog P log → AreOfVersion 2 log → Answer words files Verified (log_text 2 log)
+  log_verified : {f : List ℕ} {P : Program} (log : List (List LogLine)) → Asks words files (Log f) P → ListedAreValid P → IsValidLog P log → IsSpelled 2 log → Answer words files Verified (log_text 2 log)
   log_refuted : {f u : List ℕ} {P : Program} → Asks words files (Log f) P → IsRefutation P u → Answer words files Refuted u
   -- recheck FILE LOG
   recheck_refused : {f l u : List ℕ} {P : Program} → Asks words files (Recheck f l) P → IsLogRefusal P (files 2) u → Answer words files LogRefused u

@@ -41,9 +41,9 @@ abbrev pub IsRefused : Option (List ℕ) → Refusal → Type 0
 IsRefused bytes Absent = bytes ≡ None
 IsRefused bytes TooLong = (text : List ℕ) × (bytes ≡ Some text) × (most_bytes < length text)
 IsRefused bytes (Byte k) = (text : List ℕ) × (bytes ≡ Some text) × (length text ≤ most_bytes) × IsFirstByte text k
-IsRefused bytes (Deep p) = (text : List ℕ) × (bytes ≡ Some text) × IsDeepAt text p
-IsRefused bytes (Syntax p) = (text : List ℕ) × (bytes ≡ Some text) × IsReadable text × ((P : Program) → Spells text P → ⊥) × IsPlace IsProgram text p
-IsRefused bytes (TypeError r p) = (text : List ℕ) × (P : Program) × (bytes ≡ Some text) × IsText text P × IsFirstBroken P (rule_number r) p
+IsRefused bytes (Deep place) = (text : List ℕ) × (bytes ≡ Some text) × IsDeepAt text place
+IsRefused bytes (Syntax place) = (text : List ℕ) × (bytes ≡ Some text) × IsReadable text × ((P : Program) → Spells text P → ⊥) × IsPlace IsProgram text place
+IsRefused bytes (TypeError r place) = (text : List ℕ) × (P : Program) × (bytes ≡ Some text) × IsText text P × IsFirstBroken P (rule_number r) place
 IsRefused bytes (Limit l) = (text : List ℕ) × (P : Program) × (bytes ≡ Some text) × IsText text P × IsTyped P × IsFirstLimit P l
 
 -- the text spells an admitted program

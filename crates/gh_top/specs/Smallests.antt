@@ -10,7 +10,7 @@ use Rattle.gh_trace.specs.Traces.{State}
 use Rattle.gh_log.specs.Lines.{LogLine}
 use Rattle.gh_log.specs.declared.lines.Section.{Section}
 use Rattle.gh_log.specs.Sections.{IsValidSection}
-use Rattle.gh_log.specs.Spelled.{AreOfVersion}
+use Rattle.gh_log.specs.Spelled.{IsSpelled}
 use Rattle.gh_log.specs.Texts.{log_text}
 use Rattle.gh_draw.specs.Descriptions.{description}
 use Rattle.gh_draw.specs.Drawings.{line, drawing}
@@ -32,7 +32,7 @@ smallest_text P k cells c xs =
 -- the text of a log of version 2 whose one section is valid for the condition's clauses with the bound; nothing where there is no cell
 pub data IsBoundText (P : Program) (c : Condition) : ℕ → List ℕ → Type 0 where
   no_cell : IsBoundText P c 0 []
-  some_cells : {cells : ℕ} (section : List LogLine) → 0 < cells → IsValidSection (bounded_by (problem (symbolic_of P c)) cells) section → AreOfVersion 2 (section ∷ []) → IsBoundText P c cells (log_text 2 (section ∷ []))
+  some_cells : {cells : ℕ} (section : List LogLine) → 0 < cells → IsValidSection (bounded_by (problem (symbolic_of P c)) cells) section → IsSpelled 2 (section ∷ []) → IsBoundText P c cells (log_text 2 (section ∷ []))
 
 -- that log's text
 abbrev pub section_text : Option Section → List ℕ

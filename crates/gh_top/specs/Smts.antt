@@ -1,16 +1,16 @@
 -- Conditions of a program as SMT-LIB scripts.
-use Rattle.std.specs.Prelude.{ℕ, ◌<◌, ◌≤◌, List, ◌++◌, length, codes}
-use Rattle.std.specs.Fmt.{decimal}
+use Rattle.std.specs.Prelude.{ℕ, ◌<◌, ◌≤◌, List, length}
 use Rattle.gh_ast.specs.Plain.{Program}
-use Rattle.gh_path.specs.Conditions.{Condition, conditions}
+use Rattle.gh_path.specs.Conditions.{Condition, conditions, IsCondition}
 use Rattle.gh_symb.specs.Symbolic.{symbolic_of}
 use Rattle.gh_symb.specs.Formulas.{problem}
 use Rattle.gh_base.specs.Grounds.{Problem}
 use Rattle.gh_smt.specs.Scripts.{assertion_count, script_of}
 use Rattle.gh_smt.specs.Laws.{DecidesCondition}
 use Rattle.gh_smt.specs.Texts.{script_text}
-use Rattle.gh_draw.specs.Descriptions.{place_text}
-use Rattle.gh_draw.specs.Drawings.{line}
+use Rattle.gh_path.specs.Kept.{StandsFor}
+use Rattle.gh_path.specs.declared.condition.Condition as kept
+use Rattle.gh_top.specs.Lines.{unnumbered_line, script_limit_line}
 use Rattle.gh_top.specs.declared.status.Status.{Status}
 use Rattle.gh_top.specs.declared.status.Status.TheVariants.{Listed, TextRefused}
 
@@ -34,16 +34,17 @@ smt_text P c = script_text (script_for P c)
 
 -- the program has fewer conditions
 abbrev pub unnumbered_text : Program → ℕ → List ℕ
-unnumbered_text P n =
-    line (codes "refused: no condition " ++ decimal n ++ codes " of " ++ decimal (length (conditions P)))
+unnumbered_text P n = unnumbered_line n (length (conditions P))
 
 -- the script would have more assertions: at the name of the condition's procedure
 abbrev pub too_long_text : Program → Condition → List ℕ
-too_long_text P c =
-    line (codes "refused: Limit script at " ++ place_text c.procedure.name.span ++ codes ", count "
-    ++ decimal (asserted_count P c))
+too_long_text P c = script_limit_line c.procedure.name.span (asserted_count P c)
 
 -- the script of a condition, or that it is too long
 pub data IsScriptReport (P : Program) (c : Condition) : Status → List ℕ → Type 0 where
   listed : asserted_count P c ≤ most_asserted → IsDecidedByScript P c → IsScriptReport P c Listed (smt_text P c)
   too_long : most_asserted < asserted_count P c → IsScriptReport P c TextRefused (too_long_text P c)
+
+-- the same of whatever condition of the program the kept one stands for
+abbrev pub ReportsScript : Program → kept.Condition → Status → List ℕ → Type 0
+ReportsScript P r status text = (c : Condition) → IsCondition P c → StandsFor P r c → IsScriptReport P c status text

@@ -5,7 +5,7 @@ ghost use Rattle.gh_ast.specs.Questions.{question_of};
 ghost use Rattle.gh_draw.specs.Drawings.{line};
 ghost use Rattle.gh_entail.specs.Answers.{FailsIn};
 ghost use Rattle.gh_entail.specs.Asked.{IsAdmitted};
-ghost use Rattle.gh_log.specs.Spelled.{IsOfVersion};
+ghost use Rattle.gh_log.specs.Spelled.{IsSpelledLine};
 ghost use Rattle.gh_log.specs.Texts.{log_text};
 ghost use Rattle.gh_top.specs.Entails.{IsQuestionText, IsFailingReport};
 ghost use Rattle.gh_top.specs.QuestionReplies.{of_ask, IsQuestionFrontError, IsReplyTo};
@@ -70,7 +70,7 @@ fn asked(alloc: Global, file: &FileText) -> Result<Asked, FrontError>
 
 // The report on a question that is entailed, with the section that shows it.
 fn entailed(alloc: Global, section: Section) -> Result<Report, AllocError>
-    requires { All (IsOfVersion 2) section.lines }
+    requires { All (IsSpelledLine 2) section.lines }
     ensures status { IfOk result (λ r. r.status ≡ Status.Verified) }
     ensures text { IfOk result (λ r. r.text ≡ line (codes "entailed") ++ log_text 2 (section.lines ∷ [])) }
 {

@@ -5,9 +5,8 @@ ghost use Rattle.std.specs.Fmt.{decimal};
 ghost use Rattle.gh_ast.specs.Plain.{program_of};
 ghost use Rattle.gh_draw.specs.Drawings.{line};
 ghost use Rattle.gh_top.specs.Files.{IsWithin};
-ghost use Rattle.gh_top.specs.Replies.{RepliesOnText, RepliesShown};
+ghost use Rattle.gh_top.specs.Replies.{RepliesOnText, RepliesShown, run_of};
 ghost use Rattle.gh_top.specs.Runs.{most_stated, with_state, IsRunReport};
-ghost use Rattle.gh_top.specs.declared.words.Request.TheVariants.{Run};
 
 use crate::file::FileText;
 use crate::front::Admitted;
@@ -85,8 +84,7 @@ fn state_file_report(
 ) -> Result<Report, AllocError>
     requires short { length text.now ≤ most_stated }
     requires limit { number ≤ 1000000 }
-    ensures { IfOk result (λ r. RepliesOnText (λ file state. Run file state number) (program_of admitted.now)
-        text.now r.status r.text) }
+    ensures { IfOk result (λ r. RepliesOnText (run_of number) (program_of admitted.now) text.now r.status r.text) }
 {
     let typed = admitted.typed();
     let begin = match read_state(alloc, typed, text) {
@@ -107,8 +105,8 @@ pub fn simulate(
 ) -> Result<Report, AllocError>
     requires within { IsWithin most_stated state.now }
     requires limit { number ≤ 1000000 }
-    ensures { IfOk result (λ r. RepliesShown (λ file name. Run file name number) (program_of admitted.now)
-        most_stated state.now r.status r.text) }
+    ensures { IfOk result
+        (λ r. RepliesShown (run_of number) (program_of admitted.now) most_stated state.now r.status r.text) }
 {
     match state {
         FileText::Absent => refused(alloc, "refused: state Absent"),

@@ -1,14 +1,14 @@
 //! The mode `smallest`: decides a program, and draws a counterexample with the fewest cells in its first
 //! heap.
 
-ghost use Rattle.std.specs.Prelude.{◌≡◌, IfOk, IfSome, List, ℕ, All, Some};
+ghost use Rattle.std.specs.Prelude.{◌≡◌, IfOk, IfSome, All, Some};
 ghost use Rattle.gh_ast.specs.Plain.{program_of};
 ghost use Rattle.gh_trace.specs.Refuted.{IsFirst};
-ghost use Rattle.gh_log.specs.Spelled.{IsOfVersion};
+ghost use Rattle.gh_log.specs.Spelled.{IsSpelledLine};
 ghost use Rattle.gh_path.specs.Answers.{IsNumbered};
 ghost use Rattle.gh_small.specs.Smallest.{IsSmallest};
 ghost use Rattle.gh_trace.specs.declared.state.Trace as drawn;
-ghost use Rattle.gh_top.specs.Replies.{Replies};
+ghost use Rattle.gh_top.specs.Replies.{RepliesOnFile};
 ghost use Rattle.gh_top.specs.Smallests.{IsSmallestReport, section_text};
 ghost use Rattle.gh_top.specs.declared.words.Request.TheVariants as request;
 
@@ -18,7 +18,7 @@ use crate::report::Report;
 use crate::status::Status;
 use crate::verdict::verified;
 use gh_base::text::Text;
-use gh_decide::outcome::{Outcome, decide_all};
+use gh_decide::refuted::{FirstRefuted, first_refuted};
 use gh_draw::describe::describe;
 use gh_draw::drawing::{Drawing, draw};
 use gh_log::lines::{Log, Section};
@@ -30,7 +30,7 @@ use std::alloc::{AllocError, Global};
 
 // The text of a log with the section alone; nothing where there is none.
 fn bound_text(alloc: Global, section: Option<Section>) -> Result<Text, AllocError>
-    requires { IfSome section (λ s. All (IsOfVersion 2) s.lines) }
+    requires { IfSome section (λ s. All (IsSpelledLine 2) s.lines) }
     ensures { IfOk result (λ t. t ≡ section_text section) }
 {
     match section {
@@ -101,12 +101,11 @@ fn refuted(alloc: Global, admitted: &Admitted, number: u32) -> Result<Report, Al
 
 /// What `smallest` answers for an admitted program.
 pub fn smallest(alloc: Global, admitted: &Admitted) -> Result<Report, AllocError>
-    ensures { IfOk result (λ r. (file : List ℕ)
-        → Replies (request.Smallest file) (program_of admitted.now) r.status r.text) }
+    ensures { IfOk result (λ r. RepliesOnFile request.Smallest (program_of admitted.now) r.status r.text) }
 {
     let conditions = admitted.conditions();
-    match decide_all(alloc, admitted.typed(), conditions)? {
-        Outcome::Verified { .. } => Ok(verified(verified_line(alloc, conditions.count())?)),
-        Outcome::Refuted { number, .. } => refuted(alloc, admitted, number),
+    match first_refuted(alloc, admitted.typed(), conditions)? {
+        None => Ok(verified(verified_line(alloc, conditions.count())?)),
+        Some(FirstRefuted { number, .. }) => refuted(alloc, admitted, number),
     }
 }

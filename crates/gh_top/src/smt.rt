@@ -1,17 +1,14 @@
 //! The mode `smt`: a condition of a program as an SMT-LIB script.
 
-ghost use Rattle.std.specs.Prelude.{◌≡◌, ◌≤◌, ◌++◌, IfOk, List, ℕ, codes};
-ghost use Rattle.std.specs.Fmt.{decimal};
+ghost use Rattle.std.specs.Prelude.{◌≡◌, ◌≤◌, IfOk};
 ghost use Rattle.gh_ast.specs.Plain.{program_of};
 ghost use Rattle.gh_path.specs.Admitted.{IsAdmitted};
 ghost use Rattle.gh_path.specs.Conditions as plain;
 ghost use Rattle.gh_path.specs.Kept.{StandsFor};
 ghost use Rattle.gh_trace.specs.Kept.{IsOne};
-ghost use Rattle.gh_draw.specs.Descriptions.{place_text};
-ghost use Rattle.gh_draw.specs.Drawings.{line};
-ghost use Rattle.gh_top.specs.Smts.{IsScriptReport};
-ghost use Rattle.gh_top.specs.Replies.{Replies};
-ghost use Rattle.gh_top.specs.declared.words.Request.TheVariants.{Smt};
+ghost use Rattle.gh_top.specs.Lines.{unnumbered_line, script_limit_line};
+ghost use Rattle.gh_top.specs.Smts.{ReportsScript};
+ghost use Rattle.gh_top.specs.Replies.{RepliesOnFile, smt_of};
 
 use crate::front::Admitted;
 use crate::report::Report;
@@ -30,8 +27,7 @@ use std::alloc::{AllocError, Global};
 // There is no condition of the number.
 fn unnumbered(alloc: Global, number: u32, count: u32) -> Result<Report, AllocError>
     ensures status { IfOk result (λ r. r.status ≡ Status.LogRefused) }
-    ensures text { IfOk result (λ r. r.text
-        ≡ line (codes "refused: no condition " ++ decimal number ++ codes " of " ++ decimal count)) }
+    ensures text { IfOk result (λ r. r.text ≡ unnumbered_line number count) }
 {
     let written = format!(in alloc; "refused: no condition {number} of {count}\n")?;
     let mut text = Text::new(alloc);
@@ -55,8 +51,7 @@ fn place(typed: &Typed, condition: &Condition) -> Span
 // The script would have so many assertions, which are too many.
 fn too_long(alloc: Global, span: Span, count: u64) -> Result<Report, AllocError>
     ensures status { IfOk result (λ r. r.status ≡ Status.TextRefused) }
-    ensures text { IfOk result (λ r. r.text
-        ≡ line (codes "refused: Limit script at " ++ place_text span ++ codes ", count " ++ decimal count)) }
+    ensures text { IfOk result (λ r. r.text ≡ script_limit_line span count) }
 {
     let row = span.line;
     let column = span.col;
@@ -75,8 +70,7 @@ fn too_long(alloc: Global, span: Span, count: u64) -> Result<Report, AllocError>
 fn script_report(alloc: Global, typed: &Typed, condition: &Condition) -> Result<Report, AllocError>
     requires admitted { IsAdmitted (program_of typed.now) }
     requires one { IsOne (program_of typed.now) condition.now }
-    ensures { IfOk result (λ r. (c : plain.Condition) → plain.IsCondition (program_of typed.now) c
-        → StandsFor (program_of typed.now) condition.now c → IsScriptReport (program_of typed.now) c r.status r.text) }
+    ensures { IfOk result (λ r. ReportsScript (program_of typed.now) condition.now r.status r.text) }
 {
     let symbolic = over_terms(alloc, typed, condition)?;
     let ground = ground(alloc, &symbolic)?;
@@ -96,7 +90,7 @@ fn script_report(alloc: Global, typed: &Typed, condition: &Condition) -> Result<
 /// What `smt` answers for an admitted program and the number of a condition.
 pub fn smt(alloc: Global, admitted: &Admitted, number: u32) -> Result<Report, AllocError>
     requires { 1 ≤ number }
-    ensures { IfOk result (λ r. (file : List ℕ) → Replies (Smt file number) (program_of admitted.now) r.status r.text) }
+    ensures { IfOk result (λ r. RepliesOnFile (smt_of number) (program_of admitted.now) r.status r.text) }
 {
     let typed = admitted.typed();
     let conditions = admitted.conditions();

@@ -13,6 +13,7 @@ ghost use Rattle.gh_trace.specs.Kept.{IsOne};
 use gh_ast::typed::Typed;
 use gh_decide::decide::{Verdict, decide, over_terms};
 use gh_decide::direct::Direct;
+use gh_decide::refuted::first_refuted;
 use gh_ground::solve::{Answer, solve};
 use gh_model::build::build;
 use gh_parse::parse::parse;
@@ -29,12 +30,14 @@ use gh_trace::state::Trace;
 use gh_types::check::check;
 use std::alloc::{AllocError, Global};
 
-// What decides a condition: a decider, the decision itself, or a model of its clauses.
+// What decides a condition: a decider, the decision itself, a model of its clauses, or a search for the first that is
+// refuted.
 #[derive(Clone, Copy)]
 enum By {
     Settle,
     Decide,
     Model,
+    First,
 }
 
 // What is found of a condition. Wrong: it isn't there, or its trace is no counterexample.
@@ -95,12 +98,35 @@ fn built(alloc: Global, typed: &Typed, condition: &Condition) -> Result<Option<T
     modelled(alloc, typed, condition, &over)
 }
 
+// The trace that refutes the condition of a number, if none before it is refuted.
+fn first(
+    alloc: Global,
+    typed: &Typed,
+    conditions: &Conditions<'_>,
+    number: u32,
+) -> Result<Option<Trace>, AllocError>
+    requires same { program_of conditions.now ≡ program_of typed.now }
+    requires admitted { IsAdmitted (program_of typed.now) }
+{
+    let Some(found) = first_refuted(alloc, typed, conditions)? else {
+        return Ok(None);
+    };
+    if found.number == number {
+        Ok(Some(found.trace))
+    } else {
+        Ok(None)
+    }
+}
+
 fn refuting(
     alloc: Global,
     typed: &Typed,
+    conditions: &Conditions<'_>,
+    number: u32,
     condition: &Condition,
     by: By,
 ) -> Result<Option<Trace>, AllocError>
+    requires same { program_of conditions.now ≡ program_of typed.now }
     requires admitted { IsAdmitted (program_of typed.now) }
     requires one { IsOne (program_of typed.now) condition.now }
 {
@@ -108,6 +134,7 @@ fn refuting(
         By::Settle => settled(alloc, typed, condition),
         By::Decide => decided(alloc, typed, condition),
         By::Model => built(alloc, typed, condition),
+        By::First => first(alloc, typed, conditions, number),
     }
 }
 
@@ -144,7 +171,7 @@ fn judged(
     let Some(condition) = conditions.condition(alloc, number)? else {
         return Ok(Found::Wrong);
     };
-    let Some(trace) = refuting(alloc, typed, &condition, by)? else {
+    let Some(trace) = refuting(alloc, typed, conditions, number, &condition, by)? else {
         return Ok(Found::Valid);
     };
     if replays(alloc, typed, &condition, &trace)? {
@@ -224,6 +251,18 @@ fn settled_conditions(rt: HostRuntime) -> Result<(), AllocError> {
 #[test]
 fn decided_conditions(rt: HostRuntime) -> Result<(), AllocError> {
     assert_eq!(rt; wrong(rt.alloc(), &ROWS, By::Decide)?, None);
+    Ok(())
+}
+
+const FIRSTS: [Row<'static>; 3] = [
+    (CELL, 1, Found::Valid),
+    (FAULTY, 2, Found::Refuted),
+    (RING, 1, Found::Refuted),
+];
+
+#[test]
+fn first_conditions(rt: HostRuntime) -> Result<(), AllocError> {
+    assert_eq!(rt; wrong(rt.alloc(), &FIRSTS, By::First)?, None);
     Ok(())
 }
 

@@ -2,7 +2,8 @@ use Rattle.gh_ast.specs.Plain.{program_of}
 use Rattle.gh_ground.specs.Solving.{IsAnswer}
 use Rattle.gh_ground.specs.declared.solve.Answer.TheVariants.{Model, Refutation}
 use Rattle.gh_trace.specs.Kept.{drawn_of}
-use Rattle.gh_decide.proofs.Parts.{IsGroundOf, shown, refuted}
+use Rattle.gh_decide.specs.Verdicts.{IsGroundOf}
+use Rattle.gh_decide.proofs.Parts.{shown, refuted}
 use Rattle.gh_decide.proofs.decide.decide.Goals as goal
 
 pub returns-in-Refutation : goal.returns-in-Refutation

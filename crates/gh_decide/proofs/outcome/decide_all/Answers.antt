@@ -64,4 +64,4 @@ pub returns : goal.returns
 returns c =
     let P = program_of c.args.typed.now in
     let count : c.count-place-end.result ≡ length (conditions P) = c.count-place-end.ensures ∙ ap (λ Q. length (conditions Q)) c.requires.same in
-    all_decided P c.loop-place.place c.count-place-end.result (record { version = 2; sections = c.loop-place.sections }) refl count c.loop-place-test.false c.loop-place.invariant.decided
+    all_decided P c.loop-place.place c.count-place-end.result (record { version = 2; sections = c.loop-place.sections }) refl count c.loop-place-test.false (omega (arith, c.count-place-end.type_inv)) c.loop-place.invariant.decided

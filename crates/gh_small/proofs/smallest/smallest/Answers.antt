@@ -1,7 +1,8 @@
 use Rattle.gh_ast.specs.Plain.{program_of}
 use Rattle.gh_ground.specs.Solving.{IsAnswer}
 use Rattle.gh_ground.specs.declared.solve.Answer.TheVariants.{Model, Refutation}
-use Rattle.gh_decide.proofs.Parts.{IsGroundOf, shown}
+use Rattle.gh_decide.specs.Verdicts.{IsGroundOf}
+use Rattle.gh_decide.proofs.Parts.{shown}
 use Rattle.gh_small.proofs.DescentLemmas.{first_model}
 use Rattle.gh_small.proofs.SmallestLemmas.{smallest_found}
 use Rattle.gh_small.proofs.smallest.smallest.Goals as goal

@@ -9,7 +9,7 @@ use Rattle.gh_top.proofs.entail.decided.Goals as goal
 pub entailed-requires : goal.entailed-requires
 entailed-requires c =
     let answer : IsAnswer (question_of c.args.asked.now.question) (Yes c.in-Yes.section) = rw c.in-Yes.is at c.in_ok-section.ensures in
-    answer.1.version
+    answer.1.spelled
 
 pub returns-in-Yes : goal.returns-in-Yes
 returns-in-Yes c =

@@ -2,11 +2,11 @@ use Rattle.std.proofs.Common.{◌≡◌, ◌∙◌, ◌++◌, ap, length}
 use Rattle.gh_ast.specs.Plain.{program_of}
 use Rattle.gh_path.specs.Conditions.{conditions}
 use Rattle.gh_draw.specs.Kept.{Describes}
-use Rattle.gh_top.proofs.SmallestLemmas.{of_second, reported}
+use Rattle.gh_top.proofs.SmallestLemmas.{section_spelled, reported}
 use Rattle.gh_top.proofs.smallest.smallest_report.Goals as goal
 
 pub bound_text-requires : goal.bound_text-requires
-bound_text-requires c = of_second (program_of c.args.admitted.now) c.args.number c.args.condition.now c.args.found c.requires.first c.requires.numbered c.requires.smallest
+bound_text-requires c = section_spelled (program_of c.args.admitted.now) c.args.number c.args.condition.now c.args.found c.requires.first c.requires.numbered c.requires.smallest
 
 pub returns-clause-text : goal.returns-clause-text
 returns-clause-text c =
