@@ -1,16 +1,17 @@
 -- What calls and loops hand over.
-use Rattle.std.specs.Prelude.{◌≡◌, ℕ, List, map, Option, Some, None, IfSome, IfNone, IfOk, Result, Ok, Err}
+use Rattle.std.specs.Prelude.{◌≡◌, ℕ, List, map, Option, Some, None, IfSome, IfNone, IfOk, Result, Ok, Err, slice_get}
 use Rattle.std.proofs.Common.{refl, sym, ◌∙◌, ap, subst}
 use Rattle.gh_ast.specs.declared.Occ.{Occ}
 use Rattle.gh_ast.specs.declared.Expr.{Expr}
 use Rattle.gh_ast.specs.Plain.{Formula, Procedure, Program}
-use Rattle.gh_ast.specs.Programs.{parameters_of}
+use Rattle.gh_ast.specs.Programs.{Name, parameters_of}
 use Rattle.gh_ast.proofs.Lists.{same_values}
 use Rattle.gh_ast.proofs.Declared.{is_one}
 use Rattle.gh_assert.specs.Heaps.{Heap}
 use Rattle.gh_assert.specs.Meaning.{Store, Meaning}
 use Rattle.gh_assert.proofs.Agree.{maps_agree, same_meaning}
-use Rattle.gh_path.specs.Graphs.{Loop, called, looped}
+use Rattle.gh_path.specs.Graphs.{Loop, called, looped, loops_of}
+use Rattle.gh_path.specs.Kept.{IsCallee, IsLoop}
 use Rattle.gh_trace.specs.Laws.{HasOwnNames}
 use Rattle.gh_trace.specs.Traces.{State, Replaced}
 use Rattle.gh_trace.proofs.CallLemmas.{IsCall}
@@ -55,3 +56,10 @@ with_both (Err e) A B C f a b = tt
 -- a number has one loop
 pub one_loop : {o : Option Loop} (l m : Loop) → o ≡ Some l → o ≡ Some m → l ≡ m
 one_loop l m a b = cc
+
+-- a callee and a loop stand at their numbers
+pub has_callee : (P : Program) (n : ℕ) (f : Name) → IsCallee P n f → slice_get P.procedures n ≡ None → ⊥
+has_callee P n f callee none = let at : slice_get P.procedures n ≡ Some callee.callee = callee.at in absurd cc
+
+pub has_loop : (p : Procedure) (n : ℕ) (l : Loop) → IsLoop p n l → slice_get (loops_of p) n ≡ None → ⊥
+has_loop p n l at none = absurd cc

@@ -5,10 +5,11 @@ use Rattle.gh_ast.specs.Plain.{Procedure, Program}
 use Rattle.gh_path.specs.Answers.{IsNumbered}
 use Rattle.gh_path.specs.Conditions.{Condition, conditions}
 use Rattle.gh_path.specs.Graphs.{PathStep}
-use Rattle.gh_path.specs.Kept.{AreSteps, IsKind}
+use Rattle.gh_path.specs.Kept.{AreSteps, IsKind, IsStep, StandsFor}
 use Rattle.gh_path.specs.declared.condition.Condition as kept
 use Rattle.gh_path.specs.declared.condition.PathStep as kept_step
 use Rattle.gh_draw.specs.Drawings.{line}
+use Rattle.gh_draw.specs.Kept.{HasMeaning}
 use Rattle.gh_trace.specs.declared.state.State as kept_state
 use Rattle.gh_trace.specs.declared.state.Trace as kept_trace
 use Rattle.gh_trace.specs.declared.replay.ReplayError.TheVariants.{Step}
@@ -82,6 +83,22 @@ pub no_story : (P : Program) (r : kept.Condition) (p : Procedure) (x last : kept
 no_story P r p x last ys own end fails = λ c stands.
     let same : c.procedure ≡ p = one_procedure c.procedure p stands.procedure own in
     subst (λ z. (Passes P c.way.check (state_of z) → ⊥) → ⊥) end (fails r.check.span c.way.check (subst (λ q. IsKind P q r.check.kind r.check.span c.way.check) same stands.check))
+
+-- the steps of a kept condition stand for some
+pub have_steps : (P : Program) (p : Procedure) (r : kept.Condition) → HasMeaning P r → ((c : Condition) → StandsFor P r c → c.procedure ≡ p) → (ss : List PathStep) × AreSteps P p r.steps.items ss
+have_steps P p r (c, stands) own = (c.way.steps, subst (λ q. AreSteps P q r.steps.items c.way.steps) (own c stands) stands.steps)
+
+pub of_procedure : (P : Program) (p : Procedure) (r : kept.Condition) → IsOf P r p → (c : Condition) → StandsFor P r c → c.procedure ≡ p
+of_procedure P p r own c stands = one_procedure c.procedure p stands.procedure own
+
+-- and so do the first and those after it
+pub first_and_later : (P : Program) (p : Procedure) (k : kept_step.PathStep) (ks rs : List kept_step.PathStep) → rs ≡ k ∷ ks → ((ss : List PathStep) × AreSteps P p rs ss)
+    → ((s : PathStep) × IsStep P p k s) × ((ss : List PathStep) × AreSteps P p ks ss)
+first_and_later P p k ks rs e (ss, are) = parted ss (subst (λ zs. AreSteps P p zs ss) e are)
+  where
+    parted : (ss : List PathStep) → AreSteps P p (k ∷ ks) ss → ((s : PathStep) × IsStep P p k s) × ((ss : List PathStep) × AreSteps P p ks ss)
+    parted [] are = absurd are
+    parted (s ∷ ss) are = ((s, are.0), (ss, are.1))
 
 -- a counterexample is told
 pub told_whole : (P : Program) (r : kept.Condition) (xs ys : List kept_state.State) (x : kept_state.State) (text : List ℕ) → xs ≡ x ∷ ys → IsStoryOr P r x ys (Some text) → IsToldFor P r xs text

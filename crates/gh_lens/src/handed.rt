@@ -2,7 +2,7 @@
 
 ghost use Rattle.std.specs.Prelude.{IfOk};
 ghost use Rattle.gh_lens.specs.Handed.{IsHandedToCallee, IsHandedToLoop, IsHandedBetween};
-ghost use Rattle.gh_lens.specs.Settings.{HasLoops};
+ghost use Rattle.gh_lens.specs.Settings.{HasCallee, HasLoop, HasLoops, HasStep};
 
 use crate::exchange::{Exchange, exchanged};
 use crate::setting::{Setting, procedure_at};
@@ -23,10 +23,11 @@ fn handed_to_callee(
     before: &State,
     after: &State,
 ) -> Result<Option<Exchange>, AllocError>
+    requires { HasCallee setting callee }
     ensures { IfOk result (IsHandedToCallee setting.entry callee arguments.now before.now after.now) }
 {
     let Some(callee) = procedure_at(setting.typed, callee) else {
-        return Ok(None);
+        unreachable!();
     };
     let Some(given) = values_of(alloc, &before.store, &before.heap, arguments)? else {
         return Ok(None);
@@ -51,11 +52,12 @@ fn handed_to_loop(
     before: &State,
     after: &State,
 ) -> Result<Option<Exchange>, AllocError>
-    requires { HasLoops setting }
+    requires loops { HasLoops setting }
+    requires one { HasLoop setting number }
     ensures { IfOk result (IsHandedToLoop setting.entry number before.now after.now) }
 {
     let Some(round) = setting.round(number) else {
-        return Ok(None);
+        unreachable!();
     };
     let part = Part {
         assertion: round.invariant,
@@ -65,7 +67,7 @@ fn handed_to_loop(
     exchanged(alloc, part, &after.heap)
 }
 
-/// What a step hands over between two states, if it hands cells over.
+/// What a step of a condition hands over between two states, if it hands cells over.
 pub fn handed(
     alloc: Global,
     setting: Setting<'_>,
@@ -73,7 +75,8 @@ pub fn handed(
     before: &State,
     after: &State,
 ) -> Result<Option<Exchange>, AllocError>
-    requires { HasLoops setting }
+    requires loops { HasLoops setting }
+    requires one { HasStep setting step.now }
     ensures { IfOk result (IsHandedBetween setting.entry step.now before.now after.now) }
 {
     match step {

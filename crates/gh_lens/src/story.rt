@@ -4,7 +4,7 @@ ghost use Rattle.std.specs.Prelude.{◌≡◌, ◌++◌, IfOk, OnOk};
 ghost use Rattle.gh_ast.specs.Plain.{program_of};
 ghost use Rattle.gh_path.specs.Admitted.{IsAdmitted};
 ghost use Rattle.gh_draw.specs.Kept.{HasMeaning};
-ghost use Rattle.gh_lens.specs.Settings.{HasLoops, here, whole};
+ghost use Rattle.gh_lens.specs.Settings.{HasLoops, HasStep, HaveSteps, here, whole};
 ghost use Rattle.gh_lens.specs.Stories as told;
 
 use crate::exchange::Exchange;
@@ -67,7 +67,8 @@ fn step_told(
     before: &State,
     after: &State,
 ) -> Result<Text, AllocError>
-    requires { HasLoops setting }
+    requires loops { HasLoops setting }
+    requires one { HasStep setting step.now }
     ensures { IfOk result (told.TellsStep (whole setting.entry) (here setting.entry) step.now before.now after.now) }
 {
     let mut text = statement(alloc, setting, step)?;
@@ -85,7 +86,8 @@ fn steps_told(
     before: &State,
     others: &[State],
 ) -> Result<Text, AllocError>
-    requires { HasLoops setting }
+    requires loops { HasLoops setting }
+    requires some { HaveSteps setting steps.now }
     ensures { IfOk result (told.TellsSteps (whole setting.entry) (here setting.entry) steps.now before.now others.now) }
 {
     let Some((step, later)) = steps.split_first() else {

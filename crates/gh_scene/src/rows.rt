@@ -1,7 +1,7 @@
 // The rows of a picture.
 
 ghost use Rattle.std.specs.Prelude.{◌≡◌, IfOk};
-ghost use Rattle.gh_lens.specs.Settings.{HasLoops, OfStep};
+ghost use Rattle.gh_lens.specs.Settings.{HasLoops, HasStep, HaveSteps, OfStep};
 ghost use Rattle.gh_lens.specs.Statements.{statement_text};
 ghost use Rattle.gh_scene.specs.Rows as told;
 
@@ -56,7 +56,8 @@ fn step_row(
     after: &State,
     spare: &Heap,
 ) -> Result<Row, AllocError>
-    requires { HasLoops setting }
+    requires loops { HasLoops setting }
+    requires one { HasStep setting step.now }
     ensures { IfOk result (told.IsRowFor setting.entry step.now before.now after.now spare.now) }
 {
     let exchange = handed(alloc, setting, step, before, after)?;
@@ -94,7 +95,8 @@ pub fn push_rows(
     states: &[State],
     spare: &Heap,
 ) -> Result<(), AllocError>
-    requires { HasLoops setting }
+    requires loops { HasLoops setting }
+    requires some { HaveSteps setting steps.now }
     ensures { IfOk result (λ _.
         told.AddsRowsFor setting.entry steps.now states.now spare.now rows.old.items rows.new.items) }
 {

@@ -6,8 +6,11 @@ use Rattle.gh_assert.specs.Values.{result, Give}
 use Rattle.gh_trace.specs.Kept.{state_of}
 use Rattle.gh_trace.proofs.StepLemmas.{not_given}
 use Rattle.gh_trace.proofs.CallLemmas.{IsCall, count_given}
-use Rattle.gh_lens.proofs.Handing.{call_hands, with_both}
+use Rattle.gh_lens.proofs.Handing.{call_hands, has_callee, with_both}
 use Rattle.gh_lens.proofs.handed.handed_to_callee.Goals as goal
+
+pub unreachable-requires : goal.unreachable-requires
+unreachable-requires c = has_callee (program_of c.args.setting.typed.now) c.args.callee c.requires.0 c.requires.1 c.in_default.ensures.none
 
 pub returns-in_default-2 : goal.returns-in_default-2
 returns-in_default-2 c xs f callee e (q, vs, declares, give, ex) =

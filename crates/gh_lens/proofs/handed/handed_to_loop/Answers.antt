@@ -1,9 +1,12 @@
 use Rattle.std.proofs.Common.{ap}
-use Rattle.gh_ast.specs.Plain.{formula_of, program_of}
+use Rattle.gh_ast.specs.Plain.{formula_of, procedure_of, program_of}
 use Rattle.gh_path.specs.Walking.{loop_of}
 use Rattle.gh_trace.specs.Kept.{state_of}
-use Rattle.gh_lens.proofs.Handing.{loop_hands, one_loop, with_both}
+use Rattle.gh_lens.proofs.Handing.{has_loop, loop_hands, one_loop, with_both}
 use Rattle.gh_lens.proofs.handed.handed_to_loop.Goals as goal
+
+pub unreachable-requires : goal.unreachable-requires
+unreachable-requires c = has_loop (procedure_of c.args.setting.procedure.now) c.args.number c.requires.one.0 c.requires.one.1 c.in_default.ensures.none
 
 pub returns : goal.returns
 returns c =

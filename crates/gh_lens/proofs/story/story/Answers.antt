@@ -1,12 +1,21 @@
-use Rattle.std.proofs.Common.{◌≡◌, ◌++◌, ◌∙◌, None, Some, ap, subst}
+use Rattle.std.proofs.Common.{◌≡◌, ◌++◌, ◌∙◌, None, Some, sym, ap, subst}
 use Rattle.std.specs.Prelude.{codes}
 use Rattle.gh_ast.specs.Plain.{procedure_of, program_of}
 use Rattle.gh_draw.specs.Drawings.{line}
+use Rattle.gh_path.specs.Kept.{AreSteps}
 use Rattle.gh_trace.specs.Kept.{state_of}
 use Rattle.gh_lens.specs.Misses.{IsFailingOr}
 use Rattle.gh_lens.specs.Stories.{TellsSteps}
-use Rattle.gh_lens.proofs.Telling.{no_story, story_told}
+use Rattle.gh_lens.proofs.Telling.{no_story, story_told, have_steps, of_procedure}
 use Rattle.gh_lens.proofs.story.story.Goals as goal
+
+pub steps_told-requires-clause-some : goal.steps_told-requires-clause-some
+steps_told-requires-clause-some c =
+    let P = program_of c.args.setting.typed.now in
+    let p = procedure_of c.args.setting.procedure.now in
+    let r = c.args.condition.now in
+    let some = have_steps P p r c.requires.meaning (of_procedure P p r c.requires.own) in
+    (some.0, subst (λ rs. AreSteps P p rs some.0) (sym c.as_slice.ensures.value) some.1)
 
 pub returns-in_default : goal.returns-in_default
 returns-in_default c =

@@ -1,8 +1,18 @@
+use Rattle.std.proofs.Common.{◌≡◌, ◌∷◌, ap, length, arith}
 use Rattle.std.proofs.lemmas.Result.{IfOk-weaker}
 use Rattle.std.proofs.lemmas.List.{nil_from_length}
 use Rattle.gh_ast.specs.Plain.{procedure_of, program_of}
+use Rattle.gh_lens.proofs.Telling.{first_and_later}
 use Rattle.gh_scene.proofs.Rowing.{no_step, no_state, one_state, row_first}
 use Rattle.gh_scene.proofs.rows.+push_rows.Goals as goal
+
+pub step_row-requires-clause-one : goal.step_row-requires-clause-one
+step_row-requires-clause-one t c = (first_and_later (program_of c.args.setting.typed.now) (procedure_of c.args.setting.procedure.now) c.in-Some.step.now c.in-Some.later.now c.args.steps.now c.in-Some.ensures.cases.0 c.requires.some).0
+
+pub push_rows-requires : goal.push_rows-requires
+push_rows-requires t c =
+    let longer : length c.args.steps.now ≡ length (c.in-Some.step.now ∷ c.in-Some.later.now) = ap length c.in-Some.ensures.cases.0 in
+    (omega (arith, longer), (c.requires.loops, (first_and_later (program_of c.args.setting.typed.now) (procedure_of c.args.setting.procedure.now) c.in-Some.step.now c.in-Some.later.now c.args.steps.now c.in-Some.ensures.cases.0 c.requires.some).1))
 
 pub returns-in_default : goal.returns-in_default
 returns-in_default t c ss are =

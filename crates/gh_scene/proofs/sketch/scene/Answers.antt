@@ -3,12 +3,20 @@ use Rattle.gh_ast.specs.Plain.{procedure_of, program_of}
 use Rattle.gh_base.specs.declared.place.Span.{Span}
 use Rattle.gh_path.specs.Graphs.{PathStep, Check}
 use Rattle.gh_path.specs.Kept.{AreSteps, IsKind}
+use Rattle.gh_lens.proofs.Telling.{have_steps}
 use Rattle.gh_scene.specs.Rows.{AddsRows}
 use Rattle.gh_scene.specs.Spare.{IsSpare}
 use Rattle.gh_scene.proofs.Sketching.{scene_over}
 use Rattle.gh_scene.proofs.sketch.scene.Goals as goal
 use Rattle.gh_trace.specs.Kept.{state_of}
 use Rattle.gh_trace.specs.Traces.{last_state}
+
+pub push_rows-requires-clause-some : goal.push_rows-requires-clause-some
+push_rows-requires-clause-some c =
+    let P = program_of c.args.setting.typed.now in
+    let p = procedure_of c.args.setting.procedure.now in
+    let some = have_steps P p c.args.condition.now c.requires.meaning c.requires.own in
+    (some.0, subst (λ rs. AreSteps P p rs some.0) (sym c.as_slice-steps.ensures.value) some.1)
 
 pub returns : goal.returns
 returns c =
