@@ -1,5 +1,6 @@
 -- What the parts of a drawing show at the front of a text, with what is left of it after them.
-use Rattle.std.specs.Prelude.{◌≡◌, ◌≢◌, ℕ, suc, ◌-◌, ◌<◌, ◌≤◌, ◌++◌, List, [], ◌∷◌, codes, Option, Some, None, ⊤, Bool, true, false, Contains, All, AllPairs, slice_get, slice_index, take, drop, length}
+use Rattle.std.specs.Prelude.{◌≡◌, ◌≢◌, ℕ, suc, ◌-◌, ◌<◌, ◌≤◌, ◌++◌, List, [], ◌∷◌, codes, Option, Some, None, ⊤, Bool, true, false, Contains, All, AllPairs, slice_get, slice_index, take, drop, length, option_map, Vec}
+use Rattle.std.specs.Global.{Global}
 use Rattle.std.specs.Int.{IsInRange}
 use Rattle.std.specs.Str.{all_ascii_digits}
 use Rattle.std.specs.Str.Parse.{digits_value}
@@ -12,6 +13,7 @@ use Rattle.gh_assert.specs.Heaps.{Heap}
 use Rattle.gh_assert.specs.declared.store.Entry.{Entry}
 use Rattle.gh_path.specs.Conditions.{Condition, conditions}
 use Rattle.gh_trace.specs.declared.state.State.{State}
+use Rattle.gh_trace.specs.declared.state.Trace.{Trace}
 use Rattle.gh_draw.specs.Drawings.{line}
 use Rattle.gh_draw.specs.Drawn.{IsValue, IsOtherLine, IsFileOf}
 use Rattle.gh_draw.specs.declared.drawing.Drawing.{Drawing}
@@ -98,6 +100,10 @@ abbrev pub ShowsStates : List Name → ℕ → List ℕ → List State → List 
 ShowsStates names k text [] rest = text ≡ codes "end\n" ++ rest
 ShowsStates names k text (s ∷ ss) rest = (mid : List ℕ) × ShowsState names k text s mid × ShowsStates names (suc k) mid ss rest
 
+-- those that are read at the front, up to the end
+abbrev pub AreStatesRead : List Name → List ℕ → List ℕ → Option (Vec State Global) → Type 0
+AreStatesRead names text left o = IsFrontRead (ShowsStates names 0) text left (option_map (λ v. v.items) o)
+
 -- `condition K`
 abbrev pub ShowsCondition : List ℕ → ℕ → List ℕ → Type 0
 ShowsCondition text n rest = (mid : List ℕ) × (text ≡ codes "condition " ++ mid) × ShowsNumber mid n (codes "\n" ++ rest)
@@ -114,6 +120,10 @@ pub record ShowsTrace (P : Program) (number : ℕ) (text : List ℕ) (ss : List 
 abbrev pub IsFound : {X : Type 0} → (X → Type 0) → Option X → Type 0
 IsFound P (Some x) = P x
 IsFound {X} P None = (x : X) → P x → ⊥
+
+-- the states that the text shows for the condition of a number
+abbrev pub IsTraceFound : Program → ℕ → List ℕ → Option Trace → Type 0
+IsTraceFound P number text o = IsFound (ShowsTrace P number text) (option_map (λ t. t.states.items) o)
 
 -- the place of the first line feed
 pub record IsLineEnd (text : List ℕ) (n : ℕ) : Type 0 where

@@ -1,9 +1,9 @@
 //! Reading drawings back.
 
-ghost use Rattle.std.specs.Prelude.{◌≡◌, ◌++◌, IfOk, OnOk, OnErr, option_map};
+ghost use Rattle.std.specs.Prelude.{◌≡◌, ◌++◌, IfOk, OnOk, OnErr};
 ghost use Rattle.gh_ast.specs.Plain.{program_of, procedure_of};
 ghost use Rattle.gh_ast.specs.Programs.{names, variable_names};
-ghost use Rattle.gh_draw.specs.Reading.{IsFrontRead, IsFound, ShowsWord, heading, ShowsEntries, ShowsCellAbove, ShowsState, ShowsStates, ShowsHeap, ShowsCondition, ShowsTrace, IsSkipped, AreDistinctNames, IsDrawingIn};
+ghost use Rattle.gh_draw.specs.Reading.{IsFrontRead, ShowsWord, heading, ShowsEntries, ShowsCellAbove, ShowsState, AreStatesRead, ShowsHeap, ShowsCondition, IsTraceFound, IsSkipped, AreDistinctNames, IsDrawingIn};
 
 use crate::cursor::Cursor;
 use crate::drawing::Drawing;
@@ -159,8 +159,7 @@ fn read_states(
     names: &[Name],
 ) -> Result<Option<Vec<State>>, AllocError>
     requires { AreDistinctNames names.now }
-    ensures { IfOk result (λ o. IsFrontRead (ShowsStates names.now 0) cursor.old.text.now cursor.new.text.now
-        (option_map (λ v. v.items) o)) }
+    ensures { IfOk result (AreStatesRead names.now cursor.old.text.now cursor.new.text.now) }
 {
     let mut states = Vec::new(alloc);
     'states: while cursor.take(b"end\n").is_none() {
@@ -204,8 +203,7 @@ fn read_trace(
     number: u32,
 ) -> Result<Option<Trace>, AllocError>
     requires { program_of conditions.now ≡ program_of typed.now }
-    ensures { IfOk result (λ o. IsFound (ShowsTrace (program_of typed.now) number cursor.old.text.now)
-        (option_map (λ t. t.states.items) o)) }
+    ensures { IfOk result (IsTraceFound (program_of typed.now) number cursor.old.text.now) }
 {
     let Some(condition) = conditions.condition(alloc, number)? else {
         return Ok(None);

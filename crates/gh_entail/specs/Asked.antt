@@ -3,6 +3,7 @@ use Rattle.std.specs.Prelude.{◌≡◌, ◌<◌, ◌≤◌, ⊤, List, Option, 
 use Rattle.gh_base.specs.declared.term.TermKind.{TermKind}
 use Rattle.gh_ast.specs.Plain.{Formula}
 use Rattle.gh_ast.specs.Questions.{Claim, Claims, Question}
+use Rattle.gh_path.specs.Admitted.{most_terms}
 use Rattle.gh_grass.specs.Claims as ground
 use Rattle.gh_grass.specs.declared.binding.Bond.{Bond}
 use Rattle.gh_symb.specs.Symbolic.{Under}
@@ -42,8 +43,8 @@ pub record AreTerms (q : Question) (t : QuestionTerms) : Type 0 where
 
 -- no terms: there are more than the limit; else they are the question's
 abbrev pub AreTermsInLimit : Question → Option QuestionTerms → Type 0
-AreTermsInLimit q None = 32 < count_terms q
-AreTermsInLimit q (Some t) = AreTerms q t × (count_terms q ≤ 32)
+AreTermsInLimit q None = most_terms < count_terms q
+AreTermsInLimit q (Some t) = AreTerms q t × (count_terms q ≤ most_terms)
 
 -- the question breaks no rule and passes no limit
 pub record IsAdmitted (q : Question) : Type 0 where

@@ -3,7 +3,15 @@ use Rattle.std.specs.Prelude.{◌≡◌, ℕ, ◌+◌, ◌<◌, ◌≤◌, lengt
 use Rattle.gh_ast.specs.Questions.{Claim, leaf, denial, every, either, Claims, no_claims, claim_first, Question}
 use Rattle.gh_ast.specs.Limits.{atoms, reported}
 use Rattle.gh_ast.specs.declared.typed.Limit.{Limit}
+use Rattle.gh_path.specs.Admitted.{most_terms}
 use Rattle.gh_entail.specs.Terms.{question_walked}
+
+-- the most variables of a question, and the most atoms of all its assertions together
+abbrev pub most_variables : ℕ
+most_variables = 32
+
+abbrev pub most_atoms : ℕ
+most_atoms = 32
 
 -- the atoms of all assertions of a claim
 abbrev mutual
@@ -25,16 +33,15 @@ count_terms q = length (question_walked q).kinds
 
 -- the variables and the atoms are at most their limits
 abbrev pub KeepsTextLimits : Question → Type 0
-KeepsTextLimits q = (length q.variables ≤ 32) × (count_atoms q ≤ 32)
+KeepsTextLimits q = (length q.variables ≤ most_variables) × (count_atoms q ≤ most_atoms)
 
 -- each quantity is at most its limit
 pub record KeepsLimits (q : Question) : Type 0 where
-  pub variables : length q.variables ≤ 32
-  pub atoms : count_atoms q ≤ 32
-  pub terms : count_terms q ≤ 32
+  pub text : KeepsTextLimits q
+  pub terms : count_terms q ≤ most_terms
 
 -- the limit that is answered: variables before atoms, and atoms before terms, of which no more are counted than one past the limit
 pub data IsLimit (q : Question) (l : Limit) : Type 0 where
-  of_variables : 32 < length q.variables → l ≡ record { kind = 2; span = q.span; count = reported (length q.variables) } → IsLimit q l
-  of_atoms : length q.variables ≤ 32 → 32 < count_atoms q → l ≡ record { kind = 3; span = q.span; count = reported (count_atoms q) } → IsLimit q l
-  of_terms : length q.variables ≤ 32 → count_atoms q ≤ 32 → 32 < count_terms q → l ≡ record { kind = 6; span = q.span; count = 33 } → IsLimit q l
+  of_variables : most_variables < length q.variables → l ≡ record { kind = 2; span = q.span; count = reported (length q.variables) } → IsLimit q l
+  of_atoms : length q.variables ≤ most_variables → most_atoms < count_atoms q → l ≡ record { kind = 3; span = q.span; count = reported (count_atoms q) } → IsLimit q l
+  of_terms : KeepsTextLimits q → most_terms < count_terms q → l ≡ record { kind = 6; span = q.span; count = most_terms + 1 } → IsLimit q l

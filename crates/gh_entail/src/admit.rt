@@ -22,6 +22,11 @@ use gh_types::names::{Names, each, names_of, repeated};
 use std::alloc::{AllocError, Global};
 use thiserror::Error;
 
+// The most variables of a question, and the most atoms of all its assertions together.
+const MOST_VARIABLES: u32 = 32;
+
+const MOST_ATOMS: u32 = 32;
+
 /// Why a question isn't admitted.
 ///
 /// The rules by number: 1 an unknown name, 2 a duplicate name. The limits are of kind 2, variables,
@@ -124,7 +129,7 @@ fn passed_limit(question: &Question) -> Option<Limit>
     ensures { MatchOption result (KeepsTextLimits (question_of question.now)) (IsLimit (question_of question.now)) }
 {
     let variables = count_variables(question);
-    if variables > 32 {
+    if variables > MOST_VARIABLES {
         return Some(Limit {
             kind: 2,
             span: question.span,
@@ -132,7 +137,7 @@ fn passed_limit(question: &Question) -> Option<Limit>
         });
     }
     let atoms = count_all_atoms(question);
-    if atoms > 32 {
+    if atoms > MOST_ATOMS {
         return Some(Limit {
             kind: 3,
             span: question.span,

@@ -55,9 +55,9 @@ pub some_meets : (s : Subject) (q : Question) (x : State) → q ≡ question_on 
 some_meets s q x is fails = let f = subst (λ r. FailsIn r x) is fails in (store_of x.store, x.heap, one_met s.alternatives (store_of x.store) x.heap f.fails.left)
 
 limit_refuses : (q : Question) (l : _) → IsLimit q l → IsAdmitted q → ⊥
-limit_refuses q l (of_variables many e) admitted = omega (arith, many, admitted.limits.variables)
-limit_refuses q l (of_atoms few many e) admitted = omega (arith, many, admitted.limits.atoms)
-limit_refuses q l (of_terms few less many e) admitted = omega (arith, many, admitted.limits.terms)
+limit_refuses q l (of_variables many e) admitted = let few = admitted.limits.text.0 in omega (arith, few, many)
+limit_refuses q l (of_atoms few many e) admitted = let fewer = admitted.limits.text.1 in omega (arith, fewer, many)
+limit_refuses q l (of_terms few many e) admitted = let fewer = admitted.limits.terms in omega (arith, fewer, many)
 
 -- the question is refused
 pub rule_broken : (s : Subject) (q : Question) (n : _) (p : _) → q ≡ question_on s → IsAskRefusal q (ask.TypeError n p) → IsMeeting s Unknown

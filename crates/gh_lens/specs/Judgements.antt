@@ -1,8 +1,11 @@
 -- What is found of the conditions of a program, one by one.
 use Rattle.std.specs.Prelude.{◌≡◌, ℕ, suc, List, [], ◌∷◌, Bool, true, false}
-use Rattle.gh_ast.specs.Plain.{Program}
+use Rattle.gh_base.specs.declared.place.Span.{Span}
+use Rattle.gh_ast.specs.Plain.{Procedure, Program}
 use Rattle.gh_path.specs.Graphs.{Check, access, entry, loop_entry, returned, loop_end}
 use Rattle.gh_path.specs.Conditions.{Condition}
+use Rattle.gh_path.specs.Kept.{IsKind}
+use Rattle.gh_path.specs.declared.condition.CheckKind.{CheckKind}
 use Rattle.gh_path.specs.declared.condition.Condition as kept
 use Rattle.gh_trace.specs.declared.state.Trace.{Trace}
 use Rattle.gh_trace.specs.Kept.{IsOfProgram, drawn_of}
@@ -20,6 +23,10 @@ is_ground_work (entry f es) = true
 is_ground_work (loop_entry l) = true
 is_ground_work (returned at fs) = false
 is_ground_work (loop_end l) = true
+
+-- b tells it of the check that a kept one stands for
+abbrev pub TellsGroundWork : CheckKind → Bool → Type 0
+TellsGroundWork kind b = (P : Program) (p : Procedure) (at : Span) (k : Check) → IsKind P p kind at k → b ≡ is_ground_work k
 
 -- the condition has no counterexample, or it has one
 abbrev pub IsFound : Program → Condition → Finding → Type 0

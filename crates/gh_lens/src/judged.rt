@@ -4,12 +4,8 @@ ghost use Rattle.std.specs.Prelude.{◌≡◌, ◌+◌, IfOk};
 ghost use Rattle.gh_ast.specs.Plain.{program_of};
 ghost use Rattle.gh_path.specs.Admitted.{IsAdmitted};
 ghost use Rattle.gh_path.specs.Conditions as plain;
-ghost use Rattle.gh_path.specs.Graphs as graph;
-ghost use Rattle.gh_path.specs.Kept.{IsKind};
-ghost use Rattle.gh_base.specs.declared.place.Span.{Span};
-ghost use Rattle.gh_ast.specs.Plain.{Procedure, Program};
 ghost use Rattle.gh_trace.specs.Kept.{IsOne};
-ghost use Rattle.gh_lens.specs.Judgements.{is_ground_work, IsFoundFor, IsJudgedFor, AreJudged};
+ghost use Rattle.gh_lens.specs.Judgements.{TellsGroundWork, IsFoundFor, IsJudgedFor, AreJudged};
 
 use crate::progress::Progress;
 use gh_ast::typed::Typed;
@@ -39,8 +35,7 @@ pub struct Judged {
 
 // Whether what is asked is an entry of a callee or of a loop, or the end of a loop.
 fn rests_on(kind: &CheckKind) -> bool
-    ensures { (P : Program) (p : Procedure) (at : Span) (k : graph.Check) → IsKind P p kind.now at k
-        → result ≡ is_ground_work k }
+    ensures { TellsGroundWork kind.now result }
 {
     match kind {
         CheckKind::Access { .. } => false,

@@ -21,7 +21,7 @@ pub struct Setting<'t> {
 }
 
 // The procedure of a number in a program.
-fn procedure_in(program: &Program, number: u16) -> Option<&Procedure>
+pub(crate) fn procedure_in(program: &Program, number: u16) -> Option<&Procedure>
     ensures some { IfSome result (λ q.
         slice_get (program_of program.now).procedures number ≡ Some (procedure_of q.now)) }
     ensures none { IfNone result (slice_get (program_of program.now).procedures number ≡ None) }

@@ -1,14 +1,11 @@
 //! The steps of a path as statements, with their lines.
 
-ghost use Rattle.std.specs.Prelude.{◌≡◌, ◌++◌, map, OnOk, IfOk, IfSome, IfNone, Some, codes};
-ghost use Rattle.gh_ast.specs.Plain.{Procedure as PlainProcedure, Program as PlainProgram, program_of};
-ghost use Rattle.gh_ast.specs.Programs.{Name, names};
-ghost use Rattle.gh_path.specs.Graphs as graph;
-ghost use Rattle.gh_path.specs.Graphs.{loops_of};
-ghost use Rattle.gh_path.specs.Kept.{IsCallee, IsLoop, IsStep};
-ghost use Rattle.gh_path.specs.Walking.{loop_of};
+ghost use Rattle.std.specs.Prelude.{◌≡◌, ◌++◌, map, OnOk, codes};
+ghost use Rattle.gh_ast.specs.Plain.{program_of};
+ghost use Rattle.gh_ast.specs.Programs.{names};
 ghost use Rattle.gh_lens.specs.Statements as told;
 
+use crate::setting::procedure_in;
 use gh_ast::{Expr, Occ, Operand, Program};
 use gh_base::place::Span;
 use gh_base::text::Text;
@@ -85,17 +82,6 @@ fn push_targets(text: &mut Text, targets: &[Occ]) -> Result<(), AllocError>
     Ok(())
 }
 
-// The name of the procedure of a number.
-fn callee_name(program: &Program, callee: u16) -> Option<&[u8]>
-    ensures some { IfSome result (λ name. (f : Name) → IsCallee (program_of program.now) callee f → name.now ≡ f) }
-    ensures none { IfNone result ((f : Name) → IsCallee (program_of program.now) callee f → ⊥) }
-{
-    match program.procedures.get(usize::from(callee)) {
-        Some(procedure) => Some(procedure.name.name.bytes()),
-        None => None,
-    }
-}
-
 // Adds a call of a name.
 fn push_call_of(
     text: &mut Text,
@@ -113,7 +99,7 @@ fn push_call_of(
     Ok(())
 }
 
-// Adds a call of the procedure of a number.
+// Adds a call of the procedure of a number; nothing where there is none.
 fn push_call(
     text: &mut Text,
     program: &Program,
@@ -121,11 +107,10 @@ fn push_call(
     callee: u16,
     arguments: &[Expr],
 ) -> Result<(), AllocError>
-    ensures { IfOk result (λ _. (f : Name) → IsCallee (program_of program.now) callee f
-        → text.new ≡ text.old ++ told.call_text (names targets.now) f arguments.now) }
+    ensures { OnOk result (told.AddsCall (program_of program.now) callee targets.now arguments.now text.old text.new) }
 {
-    match callee_name(program, callee) {
-        Some(name) => push_call_of(text, targets, name, arguments),
+    match procedure_in(program, callee) {
+        Some(procedure) => push_call_of(text, targets, procedure.name.name.bytes(), arguments),
         None => Ok(()),
     }
 }
@@ -137,8 +122,7 @@ fn push_comparison(
     equal: bool,
     right: &Expr,
 ) -> Result<(), AllocError>
-    ensures { OnOk result (text.new
-        ≡ text.old ++ told.expr_text left.now ++ told.equality_text equal ++ told.expr_text right.now) }
+    ensures { OnOk result (text.new ≡ text.old ++ told.comparison_text left.now equal right.now) }
 {
     push_expr(text, left)?;
     text.push(if equal { b" == " } else { b" != " })?;
@@ -171,8 +155,7 @@ fn push_return(text: &mut Text, values: &[Expr]) -> Result<(), AllocError>
 
 /// Adds a step of a path as a statement.
 pub fn push_step(text: &mut Text, program: &Program, step: &PathStep) -> Result<(), AllocError>
-    ensures { IfOk result (λ _. (p : PlainProcedure) (s : graph.PathStep) → IsStep (program_of program.now) p step.now s
-        → text.new ≡ text.old ++ told.step_text s) }
+    ensures { OnOk result (told.AddsStep (program_of program.now) step.now text.old text.new) }
 {
     match step {
         PathStep::Access { at } => push_after(text, at, b" is a cell"),
@@ -252,8 +235,7 @@ fn call_place(targets: &[Occ], arguments: &[Expr]) -> Option<Span>
 
 // Where a loop stands.
 fn loop_place(loops: &[While<'_>], number: u16) -> Option<Span>
-    ensures { (p : PlainProcedure) (l : graph.Loop) → map loop_of loops.now ≡ loops_of p
-        → IsLoop p number l → result ≡ Some l.at }
+    ensures { told.IsLoopPlace loops.now number result }
 {
     match loops.get(usize::from(number)) {
         Some(found) => Some(found.at),
@@ -263,8 +245,7 @@ fn loop_place(loops: &[While<'_>], number: u16) -> Option<Span>
 
 /// Where a step stands in the text; none for a call or a return that has neither targets nor values.
 pub fn step_place(loops: &[While<'_>], step: &PathStep) -> Option<Span>
-    ensures { (P : PlainProgram) (p : PlainProcedure) (s : graph.PathStep) → map loop_of loops.now ≡ loops_of p
-        → IsStep P p step.now s → result ≡ told.step_place s }
+    ensures { told.IsStepPlace loops.now step.now result }
 {
     match step {
         PathStep::Access { at } => Some(at.span),

@@ -3,7 +3,7 @@ use Rattle.std.specs.Prelude.{◌≡◌, ℕ, ◌+◌, ◌<◌, List, [], ◌∷
 use Rattle.gh_base.specs.declared.atom.Term.{Term}
 use Rattle.gh_base.specs.Meaning.{Interpretation}
 use Rattle.gh_base.specs.Structures.{Tables, interpretation_of}
-use Rattle.gh_ast.specs.Plain.{Program}
+use Rattle.gh_ast.specs.Plain.{Procedure, Program}
 use Rattle.gh_ast.specs.Programs.{Name, variable_names}
 use Rattle.gh_ast.specs.Rules.{IsTyped}
 use Rattle.gh_assert.specs.declared.store.Entry.{Entry}
@@ -13,10 +13,12 @@ use Rattle.gh_path.specs.declared.condition.Condition as kept_condition
 use Rattle.gh_grass.specs.declared.binding.Bond.{Bond}
 use Rattle.gh_grass.specs.Bindings.{term_in}
 use Rattle.gh_symb.specs.Inside.{binding_of}
+use Rattle.gh_symb.specs.declared.over_terms.Symbolic.{Symbolic}
 use Rattle.gh_symb.specs.declared.over_terms.TermStep.{TermStep}
 use Rattle.gh_symb.specs.declared.over_terms.TermStep.TheVariants.{Access, Assume, Same, Write, New, Free, Part}
 use Rattle.gh_trace.specs.declared.state.State.{State}
-use Rattle.gh_trace.specs.Kept.{IsOfProgram}
+use Rattle.gh_trace.specs.declared.state.Trace.{Trace}
+use Rattle.gh_trace.specs.Kept.{IsOfProgram, drawn_of}
 use Rattle.gh_trace.specs.Replay.{Drawn, Refutes}
 use Rattle.gh_trace.specs.Traces as plain
 use Rattle.gh_model.specs.Classes.{class_of}
@@ -33,6 +35,13 @@ store_in s b = store_under (class_of (equal_in (interpretation_of s)) s.sizes.te
 
 abbrev pub state_in : Tables → List Name → ℕ → List Bond → State
 state_in s xs i b = record { store = entries_under (store_in s b) xs; heap = heap_in (interpretation_of s) s.sizes.terms i }
+
+-- some variables with their values in a structure, and the state of a procedure at the version i
+abbrev pub values_of : Tables → List Bond → List Name → List Entry
+values_of s b xs = entries_under (store_in s b) xs
+
+abbrev pub state_at : Tables → Procedure → ℕ → List Bond → State
+state_at s p i b = state_in s (variable_names p) i b
 
 -- the version after a step of a kept condition
 abbrev pub version_after_kept : TermStep → ℕ → ℕ
@@ -58,6 +67,10 @@ abbrev pub states_in : Tables → List Name → ℕ → List TermStep → List (
 states_in s xs i ps [] = []
 states_in s xs i ps (b ∷ bs) = state_in s xs i b ∷ states_in s xs (after_first ps i) (past_first ps) bs
 
+-- the states of a procedure for the steps and the bindings of a condition over terms
+abbrev pub states_of : Tables → Procedure → Symbolic → List State
+states_of s p y = states_in s (variable_names p) 0 y.steps.items y.bindings.items
+
 -- the terms are below n
 abbrev pub AreBelow : ℕ → List Bond → Type 0
 AreBelow n b = (x : Name) (t : Term) → term_in b x ≡ Some t → t.0 < n
@@ -74,6 +87,10 @@ drawn_over xs ys = map (λ y. record { listed = xs; state = y }) ys
 -- the states that an interpretation builds for a kept condition, over the variables of its procedure
 abbrev pub AreBuilt : Program → kept_condition.Condition → Interpretation → List Drawn → Type 0
 AreBuilt P r m xs = (c : Condition) → IsOfProgram P r c → xs ≡ drawn_over (variable_names c.procedure) (built_trace P c m)
+
+-- the trace of a structure for a kept condition
+abbrev pub IsBuilt : Program → kept_condition.Condition → Tables → Trace → Type 0
+IsBuilt P r s t = AreBuilt P r (interpretation_of s) (drawn_of t)
 
 -- the trace of a model of a condition, drawn over the variables of its procedure, is a counterexample
 abbrev pub BuiltIsCounterexample : Type 0

@@ -6,12 +6,12 @@ ghost use Rattle.gh_ast.specs.Plain.{procedure_of, program_of};
 ghost use Rattle.gh_path.specs.Conditions as plain;
 ghost use Rattle.gh_symb.specs.Encoded.{IsSymbolic};
 ghost use Rattle.gh_symb.specs.Steps.{HoldsFor};
-ghost use Rattle.gh_trace.specs.Kept.{IsOfProgram, drawn_of};
+ghost use Rattle.gh_trace.specs.Kept.{IsOfProgram};
 ghost use Rattle.gh_ast.specs.Programs.{names, variable_names};
 ghost use Rattle.gh_ast.specs.Occurrences.{locals_of};
 ghost use Rattle.gh_assert.specs.Stores.{listed_names};
 ghost use Rattle.gh_model.specs.BuiltTraces.{stands_at, content_at, heap_in};
-ghost use Rattle.gh_model.specs.KeptTraces.{entries_under, store_in, state_in, states_in, version_after_kept, after_first, AreBelow, HasAll, AreBuilt};
+ghost use Rattle.gh_model.specs.KeptTraces.{store_in, values_of, state_at, states_of, version_after_kept, after_first, AreBelow, HasAll, IsBuilt};
 
 use gh_assert::heap::Heap;
 use gh_assert::store::Store;
@@ -96,8 +96,7 @@ fn add_each(
 ) -> Result<(), AllocError>
     requires below { AreBelow structure.now.sizes.terms binding.now }
     requires distinct { AllPairs (λ x y. x ≢ y) (listed_names store.old ++ names occurrences.now) }
-    ensures { OnOk result (store.new ≡
-        store.old ++ entries_under (store_in structure.now binding.now) (names occurrences.now)) }
+    ensures { OnOk result (store.new ≡ store.old ++ values_of structure.now binding.now (names occurrences.now)) }
 {
     for occurrence in occurrences {
         let value = value(structure, binding, &occurrence.name);
@@ -116,8 +115,7 @@ pub fn add_all(
 ) -> Result<(), AllocError>
     requires below { AreBelow structure.now.sizes.terms binding.now }
     requires distinct { AllPairs (λ x y. x ≢ y) (listed_names store.old ++ names occurrences.now) }
-    ensures ok { OnOk result (store.new ≡
-        store.old ++ entries_under (store_in structure.now binding.now) (names occurrences.now)) }
+    ensures ok { OnOk result (store.new ≡ store.old ++ values_of structure.now binding.now (names occurrences.now)) }
     ensures err { OnErr result (store.new ≡ store.old) }
 {
     let mut all = store.copy(alloc)?;
@@ -145,8 +143,7 @@ fn store(
 ) -> Result<Store, AllocError>
     requires below { AreBelow structure.now.sizes.terms binding.now }
     requires distinct { AllPairs (λ x y. x ≢ y) (variable_names (procedure_of procedure.now)) }
-    ensures { IfOk result (λ s. s ≡
-        entries_under (store_in structure.now binding.now) (variable_names (procedure_of procedure.now))) }
+    ensures { IfOk result (λ s. s ≡ values_of structure.now binding.now (variable_names (procedure_of procedure.now))) }
 {
     let mut store = Store::new(alloc);
     add_each(
@@ -178,8 +175,7 @@ fn state(
     requires version { version < structure.now.sizes.versions }
     requires below { AreBelow structure.now.sizes.terms binding.now }
     requires distinct { AllPairs (λ x y. x ≢ y) (variable_names (procedure_of procedure.now)) }
-    ensures { IfOk result (λ s. s ≡
-        state_in structure.now (variable_names (procedure_of procedure.now)) version binding.now) }
+    ensures { IfOk result (λ s. s ≡ state_at structure.now (procedure_of procedure.now) version binding.now) }
 {
     Ok(State {
         store: store(alloc, structure, binding, procedure)?,
@@ -221,9 +217,7 @@ fn states(
 ) -> Result<Trace, AllocError>
     requires all { HasAll structure.now 0 symbolic.now.steps.items symbolic.now.bindings.items }
     requires distinct { AllPairs (λ x y. x ≢ y) (variable_names (procedure_of procedure.now)) }
-    ensures { IfOk result (λ t. t.states.items ≡
-        states_in structure.now (variable_names (procedure_of procedure.now)) 0
-        symbolic.now.steps.items symbolic.now.bindings.items) }
+    ensures { IfOk result (λ t. t.states.items ≡ states_of structure.now (procedure_of procedure.now) symbolic.now) }
 {
     let _versions = structure.versions();
     let mut states = Vec::new(alloc);
@@ -247,8 +241,7 @@ pub fn build(
     requires told { HoldsFor (program_of typed.now) condition.now (λ P c. IsSymbolic P c symbolic.now) }
     requires terms { structure.now.sizes.terms ≡ length symbolic.now.terms }
     requires versions { structure.now.sizes.versions ≡ symbolic.now.versions }
-    ensures { IfOk result (λ t.
-        AreBuilt (program_of typed.now) condition.now (interpretation_of structure.now) (drawn_of t)) }
+    ensures { IfOk result (IsBuilt (program_of typed.now) condition.now structure.now) }
 {
     let program = typed.program();
     let procedure = &program.procedures[condition.procedure as usize];

@@ -11,7 +11,7 @@ use Rattle.gh_path.specs.Graphs.{Graph, dead_end, ends, moves, guarded, fork, Pa
 use Rattle.gh_path.specs.Paths.{Way, ways, after_step}
 use Rattle.gh_path.specs.Conditions.{Condition, condition, from_starts, conditions_of}
 use Rattle.gh_path.specs.Counting.{nothing, stepped, checked, either, ahead, before_read, before_reads, before_test, before_all, before_some, before, before_block, entry_ahead, round_ahead, rounds_ahead, procedure_ahead}
-use Rattle.gh_path.specs.Admitted.{HasManyPaths, HasManySteps}
+use Rattle.gh_path.specs.Admitted.{most_conditions, most_steps, HasManyPaths, HasManySteps}
 use Rattle.gh_path.specs.declared.ahead.Ahead.{Ahead}
 use Rattle.gh_ast.proofs.Sites.{any_of}
 
@@ -88,8 +88,8 @@ reach_step p (w ∷ xs) = omega (arith, reach_step p xs, longer p w.steps)
 
 -- a graph has so many ways, and they have at most so many steps
 pub record Tells (a : Ahead) (n r : ℕ) : Type 0 where
-  pub count : a.count ≡ min n 1025
-  pub reach : a.reach ≡ min r 258
+  pub count : a.count ≡ min n (most_conditions + 1)
+  pub reach : a.reach ≡ min r (most_steps + 2)
 
 pub ahead_tells : (g : Graph) → Tells (ahead g) (length (ways g)) (reach_by steps_in (ways g))
 ahead_tells dead_end = record { count = refl; reach = refl }
@@ -122,7 +122,7 @@ tells_start : (p : Procedure) (a : Start) → Tells (ahead a.graph) (length (map
 tells_start p a =
     let whole = ahead_tells a.graph in
     let count : length (map (condition p a) (ways a.graph)) ≡ length (ways a.graph) = length-map (ways a.graph) (condition p a) in
-    record { count = whole.count ∙ ap (λ n. min n 1025) (sym count); reach = whole.reach ∙ ap (λ n. min n 258) (sym (reach_map steps_of (condition p a) (ways a.graph))) }
+    record { count = whole.count ∙ ap (λ n. min n (most_conditions + 1)) (sym count); reach = whole.reach ∙ ap (λ n. min n (most_steps + 2)) (sym (reach_map steps_of (condition p a) (ways a.graph))) }
 
 tells_both : (a b : Ahead) (xs ys : List Condition) → Tells a (length xs) (reach_by steps_of xs) → Tells b (length ys) (reach_by steps_of ys) → Tells (either a b) (length (xs ++ ys)) (reach_by steps_of (xs ++ ys))
 tells_both a b xs ys one two = record {
@@ -162,18 +162,18 @@ some_reach f n (w ∷ xs) x i more = elim (member_cases w xs x i) [
 ]
 
 -- the limits, read off what lies ahead
-pub many_paths : (p : Procedure) → 1024 < (procedure_ahead p).count → HasManyPaths p
+pub many_paths : (p : Procedure) → most_conditions < (procedure_ahead p).count → HasManyPaths p
 many_paths p more = omega (arith, (procedure_tells p).count, more)
 
-pub few_paths : (p : Procedure) → (procedure_ahead p).count ≤ 1024 → HasManyPaths p → ⊥
+pub few_paths : (p : Procedure) → (procedure_ahead p).count ≤ most_conditions → HasManyPaths p → ⊥
 few_paths p less many = omega (arith, (procedure_tells p).count, less, many)
 
-pub many_steps : (p : Procedure) → 257 < (procedure_ahead p).reach → HasManySteps p
-many_steps p more = reach_some steps_of 256 (conditions_of p) (omega (arith, (procedure_tells p).reach, more))
+pub many_steps : (p : Procedure) → most_steps + 1 < (procedure_ahead p).reach → HasManySteps p
+many_steps p more = reach_some steps_of most_steps (conditions_of p) (omega (arith, (procedure_tells p).reach, more))
 
-pub few_steps : (p : Procedure) → (procedure_ahead p).reach ≤ 257 → HasManySteps p → ⊥
-few_steps p less many = omega (arith, (procedure_tells p).reach, less, some_reach steps_of 256 (conditions_of p) many.1 (many.0, many.2, many.3) many.4)
+pub few_steps : (p : Procedure) → (procedure_ahead p).reach ≤ most_steps + 1 → HasManySteps p → ⊥
+few_steps p less many = omega (arith, (procedure_tells p).reach, less, some_reach steps_of most_steps (conditions_of p) many.1 (many.0, many.2, many.3) many.4)
 
 -- where there are few, the number is exact
-pub count_is : (p : Procedure) → (procedure_ahead p).count ≤ 1024 → (procedure_ahead p).count ≡ length (conditions_of p)
+pub count_is : (p : Procedure) → (procedure_ahead p).count ≤ most_conditions → (procedure_ahead p).count ≡ length (conditions_of p)
 count_is p less = omega (arith, (procedure_tells p).count, less)

@@ -7,6 +7,7 @@ use Rattle.gh_ast.specs.declared.Expr.TheVariants.{Plain, Read}
 use Rattle.gh_ast.specs.Plain.{Test, compare, negation, conjunction, disjunction, Tests, no_tests, test_first, Statement, set, new, write, free, call, choice, loop, give, Statements, no_statements, statement_first, Procedure, Inside}
 use Rattle.gh_ast.specs.Programs.{body_of, statements_in}
 use Rattle.gh_ast.specs.WellFormed.{AreManyTests, IsFormedTest, AreFormedTests, IsFormedStatement, AreFormedStatements, IsFormedBody}
+use Rattle.gh_path.specs.Admitted.{most_conditions}
 use Rattle.gh_path.specs.Graphs.{Graph, dead_end, ends, moves, guarded, fork, PathStep, assume, Check, loop_end, reads, all_reads, tested, all_tested, some_tested, lowered, all_lowered, Loop, loops, all_loops, loops_of, once_around, whole_body, round, rounds}
 use Rattle.gh_path.specs.Paths.{ways, after_step}
 use Rattle.gh_path.specs.Conditions.{condition, conditions_of, from_starts}
@@ -127,7 +128,7 @@ formed_statements : (b : Option Inside) → IsFormedBody b → AreFormedStatemen
 formed_statements None formed = tt
 formed_statements (Some i) formed = formed
 
-pub few_loops : (p : Procedure) → IsFormedBody p.body → length (conditions_of p) ≤ 1024 → length (loops_of p) ≤ 1024
+pub few_loops : (p : Procedure) → IsFormedBody p.body → length (conditions_of p) ≤ most_conditions → length (loops_of p) ≤ most_conditions
 few_loops p formed few =
     let first = from_start p (whole_body p) in
     let rest = from_starts p (rounds p 0 (loops_of p)) in

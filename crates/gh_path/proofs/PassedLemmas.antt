@@ -9,7 +9,7 @@ use Rattle.gh_ast.specs.declared.Procedure as whole
 use Rattle.gh_ast.specs.declared.Program as program
 use Rattle.gh_ast.specs.declared.typed.Limit.{Limit}
 use Rattle.gh_ast.proofs.Lists.{member_first, member_later}
-use Rattle.gh_path.specs.Admitted.{HasManyPaths, HasManySteps, Passed, NoneHas}
+use Rattle.gh_path.specs.Admitted.{most_conditions, most_steps, HasManyPaths, HasManySteps, Passed, NoneHas}
 use Rattle.gh_path.specs.Conditions.{conditions_of, from_procedures}
 use Rattle.gh_path.specs.Counting.{procedure_ahead, all_counts}
 use Rattle.gh_path.specs.Refusals.{NoneOf, FirstOf}
@@ -17,10 +17,10 @@ use Rattle.gh_path.specs.declared.ahead.Ahead.{Ahead}
 use Rattle.gh_path.proofs.AheadLemmas.{procedure_tells, many_paths, few_paths, many_steps, few_steps}
 
 abbrev pub IsWide : Ahead → Type 0
-IsWide a = 1024 < a.count
+IsWide a = most_conditions < a.count
 
 abbrev pub IsLong : Ahead → Type 0
-IsLong a = 257 < a.reach
+IsLong a = most_steps + 1 < a.reach
 
 -- a limit that is told by what lies ahead
 pub record IsTold (Q : Procedure → Type 0) (R : Ahead → Type 0) : Type 0 where
@@ -30,13 +30,13 @@ pub record IsTold (Q : Procedure → Type 0) (R : Ahead → Type 0) : Type 0 whe
 pub paths_told : IsTold HasManyPaths IsWide
 paths_told = record {
   sound = many_paths;
-  complete = λ p many. elim (over_or 1024 (procedure_ahead p).count) [ inl over ↦ over | inr few ↦ absurd (few_paths p few many) ];
+  complete = λ p many. elim (over_or most_conditions (procedure_ahead p).count) [ inl over ↦ over | inr few ↦ absurd (few_paths p few many) ];
 }
 
 pub steps_told : IsTold HasManySteps IsLong
 steps_told = record {
   sound = many_steps;
-  complete = λ p many. elim (over_or 257 (procedure_ahead p).reach) [ inl over ↦ over | inr few ↦ absurd (few_steps p few many) ];
+  complete = λ p many. elim (over_or (most_steps + 1) (procedure_ahead p).reach) [ inl over ↦ over | inr few ↦ absurd (few_steps p few many) ];
 }
 
 -- none of the first k
@@ -70,17 +70,17 @@ none_of Q R told ps aheads same none p there q =
 
 -- with few conditions each
 pub exact : (p : Procedure) → (HasManyPaths p → ⊥) → (procedure_ahead p).count ≡ length (conditions_of p)
-exact p few = elim (over_or 1024 (length (conditions_of p))) [ inl many ↦ absurd (few many) | inr less ↦ omega (arith, less, (procedure_tells p).count) ]
+exact p few = elim (over_or most_conditions (length (conditions_of p))) [ inl many ↦ absurd (few many) | inr less ↦ omega (arith, less, (procedure_tells p).count) ]
 
-pub few_of : (p : Procedure) → (HasManyPaths p → ⊥) → length (conditions_of p) ≤ 1024
-few_of p few = elim (over_or 1024 (length (conditions_of p))) [ inl many ↦ absurd (few many) | inr less ↦ less ]
+pub few_of : (p : Procedure) → (HasManyPaths p → ⊥) → length (conditions_of p) ≤ most_conditions
+few_of p few = elim (over_or most_conditions (length (conditions_of p))) [ inl many ↦ absurd (few many) | inr less ↦ less ]
 
 pub together : (ps : List Procedure) → NoneOf ps HasManyPaths → all_counts (map procedure_ahead ps) ≡ length (from_procedures ps)
 together [] none = refl
 together (p ∷ ps) none =
     omega (arith, exact p (none p (member_first p ps)), together ps (λ q there. none q (member_later p q ps there)), length-append (conditions_of p) (from_procedures ps))
 
-pub bounded : (ps : List Procedure) → NoneOf ps HasManyPaths → length (from_procedures ps) ≤ 1024 * length ps
+pub bounded : (ps : List Procedure) → NoneOf ps HasManyPaths → length (from_procedures ps) ≤ most_conditions * length ps
 bounded [] none = omega arith
 bounded (p ∷ ps) none =
     let longer : length (p ∷ ps) ≡ length ps + 1 = omega arith in

@@ -7,7 +7,7 @@ use Rattle.std.proofs.lemmas.Option.{slice_get-map, slice_get_read, slice_get_wi
 use Rattle.std.proofs.Math.ListN.{drop_of_length-le}
 use Rattle.gh_ast.specs.declared.Procedure as whole
 use Rattle.gh_ast.specs.Plain.{Procedure, Program, procedure_of}
-use Rattle.gh_path.specs.Admitted.{HasManyPaths, NoneHas}
+use Rattle.gh_path.specs.Admitted.{most_conditions, HasManyPaths, NoneHas}
 use Rattle.gh_path.specs.Conditions.{Condition, condition, conditions_of, from_starts}
 use Rattle.gh_path.specs.Counting.{entry_ahead, round_ahead}
 use Rattle.gh_path.specs.Graphs.{Loop, loops_of, once_around, round, rounds, whole_body}
@@ -27,7 +27,7 @@ procedure_there ps i r within is = slice_get-map procedure_of ps i ∙ ap (optio
 pub member : {A : Type 0} (xs : List A) (i : ℕ) (x : A) → slice_get xs i ≡ Some x → Contains xs x
 member xs i x at = (i, slice_get_within xs i x at, get_or_from_slice_get xs i x x at)
 
-pub few_there : (P : Program) (i : ℕ) (p : Procedure) → NoneHas P HasManyPaths → slice_get P.procedures i ≡ Some p → length (conditions_of p) ≤ 1024
+pub few_there : (P : Program) (i : ℕ) (p : Procedure) → NoneHas P HasManyPaths → slice_get P.procedures i ≡ Some p → length (conditions_of p) ≤ most_conditions
 few_there P i p none at = few_of p (none p (member P.procedures i p at))
 
 -- what is left of a list
@@ -63,9 +63,9 @@ starts_over P ns rs i cs ds n m past roots after =
     after_none cs n m (subst (λ xs. IsAfter cs n xs m) none after)
 
 -- what lies ahead of a start is how many ways it has
-pub entry_count : (p : Procedure) → length (conditions_of p) ≤ 1024 → (entry_ahead p).count ≡ length (ways (whole_body p).graph)
+pub entry_count : (p : Procedure) → length (conditions_of p) ≤ most_conditions → (entry_ahead p).count ≡ length (ways (whole_body p).graph)
 entry_count p few =
-    let told : (entry_ahead p).count ≡ min (length (ways (whole_body p).graph)) 1025 = ap (λ (a : Ahead). a.count) (sym (ahead_entry p)) ∙ (ahead_tells (whole_body p).graph).count in
+    let told : (entry_ahead p).count ≡ min (length (ways (whole_body p).graph)) (most_conditions + 1) = ap (λ (a : Ahead). a.count) (sym (ahead_entry p)) ∙ (ahead_tells (whole_body p).graph).count in
     let first = from_start p (whole_body p) in
     let long : length first ≡ length (ways (whole_body p).graph) = length-map (ways (whole_body p).graph) (condition p (whole_body p)) in
     omega (arith, told, long, few, length-append first (from_starts p (rounds p 0 (loops_of p))))
@@ -80,7 +80,7 @@ among_rounds p k zero (m ∷ ls) l at =
 among_rounds p k (suc n) (m ∷ ls) l at =
     omega (arith, among_rounds p (suc k) n ls l at, length-append (from_start p (round p k m)) (from_starts p (rounds p (suc k) ls)))
 
-pub round_count : (p : Procedure) (n : ℕ) (l : Loop) → IsLoop p n l → length (conditions_of p) ≤ 1024 → (round_ahead l).count ≡ length (ways (once_around p l))
+pub round_count : (p : Procedure) (n : ℕ) (l : Loop) → IsLoop p n l → length (conditions_of p) ≤ most_conditions → (round_ahead l).count ≡ length (ways (once_around p l))
 round_count p n l is few =
-    let told : (round_ahead l).count ≡ min (length (ways (once_around p l))) 1025 = ap (λ (a : Ahead). a.count) (sym (ahead_round p l)) ∙ (ahead_tells (once_around p l)).count in
+    let told : (round_ahead l).count ≡ min (length (ways (once_around p l))) (most_conditions + 1) = ap (λ (a : Ahead). a.count) (sym (ahead_round p l)) ∙ (ahead_tells (once_around p l)).count in
     omega (arith, told, among_rounds p 0 n (loops_of p) l is, few, length-append (from_start p (whole_body p)) (from_starts p (rounds p 0 (loops_of p))))

@@ -14,6 +14,7 @@ use Rattle.gh_ast.specs.declared.Expr.{Expr}
 use Rattle.gh_ast.specs.declared.Stmt.{Stmt}
 use Rattle.gh_ast.specs.Plain.{Statement, set, new, write, free, call, choice, loop, give, Statements, no_statements, statement_first, statement_of, statements_view, Inside, Procedure, Program}
 use Rattle.gh_ast.specs.Programs.{Name, name_of, body_of, statements_in, IsFirstNamed, Declares}
+use Rattle.gh_path.specs.Admitted.{most_conditions}
 use Rattle.gh_path.specs.Graphs.{Loop, loops, all_loops, loops_of}
 use Rattle.gh_path.specs.Kept.{IsLoop}
 use Rattle.gh_path.specs.Callees.{HasCallee, HasCallees, AllHaveCallees}
@@ -77,10 +78,10 @@ inside_few p n l is = by_count (length (all_loops l.body)) refl
         let last = got (all_loops l.body) m (omega (arith, some)) in
         omega (arith, some, slice_get_within (loops_of p) (n + 1 + m) last.0 (all_follow (body_of p) n l is m last.0 last.1))
 
-pub entry_suits : (w : Walker) (p : Procedure) → AllHaveCallees (program_in w) (body_of p) → length (loops_of p) ≤ 1024 → AllSuit w 0 (body_of p)
+pub entry_suits : (w : Walker) (p : Procedure) → AllHaveCallees (program_in w) (body_of p) → length (loops_of p) ≤ most_conditions → AllSuit w 0 (body_of p)
 entry_suits w p have few = record { callees = have; room = omega (arith, few) }
 
-pub round_suits : (w : Walker) (p : Procedure) (n : ℕ) (l : Loop) → IsLoop p n l → AllHaveCallees (program_in w) (body_of p) → length (loops_of p) ≤ 1024 → AllSuit w (n + 1) l.body
+pub round_suits : (w : Walker) (p : Procedure) (n : ℕ) (l : Loop) → IsLoop p n l → AllHaveCallees (program_in w) (body_of p) → length (loops_of p) ≤ most_conditions → AllSuit w (n + 1) l.body
 round_suits w p n l is have few = record { callees = all_loops_called (program_in w) (body_of p) have n l is; room = omega (arith, few, inside_few p n l is) }
 
 -- the number of the first procedure of a name

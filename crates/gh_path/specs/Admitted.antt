@@ -8,13 +8,20 @@ use Rattle.gh_ast.specs.declared.typed.Limit.{Limit}
 use Rattle.gh_path.specs.Conditions.{conditions_of}
 use Rattle.gh_path.specs.Terms.{terms_of, versions_of}
 
--- 4: more than 1,024 conditions
-abbrev pub HasManyPaths : Procedure → Type 0
-HasManyPaths p = 1024 < length (conditions_of p)
+-- the most conditions of a procedure, and the most steps of a condition
+abbrev pub most_conditions : ℕ
+most_conditions = 1024
 
--- 5: a condition with more than 256 steps
+abbrev pub most_steps : ℕ
+most_steps = 256
+
+-- 4: a procedure with more conditions
+abbrev pub HasManyPaths : Procedure → Type 0
+HasManyPaths p = most_conditions < length (conditions_of p)
+
+-- 5: a condition with more steps
 abbrev pub HasManySteps : Procedure → Type 0
-HasManySteps p = Any (λ c. 256 < length c.way.steps) (conditions_of p)
+HasManySteps p = Any (λ c. most_steps < length c.way.steps) (conditions_of p)
 
 -- the most terms, and the most versions of the heap, of a condition
 abbrev pub most_terms : ℕ
@@ -46,8 +53,8 @@ pub record Passed (P : Program) (Q : Procedure → Type 0) (kind limit : ℕ) (l
 -- the limit that is answered: kinds in order, each over the whole program before the next
 pub data IsFirstLimit (P : Program) (l : Limit) : Type 0 where
   of_text : IsLimit P l → IsFirstLimit P l
-  paths : KeepsLimits P → Passed P HasManyPaths 4 1025 l → IsFirstLimit P l
-  steps : KeepsLimits P → NoneHas P HasManyPaths → Passed P HasManySteps 5 257 l → IsFirstLimit P l
+  paths : KeepsLimits P → Passed P HasManyPaths 4 (most_conditions + 1) l → IsFirstLimit P l
+  steps : KeepsLimits P → NoneHas P HasManyPaths → Passed P HasManySteps 5 (most_steps + 1) l → IsFirstLimit P l
   terms : KeepsLimits P → NoneHas P HasManyPaths → NoneHas P HasManySteps → Passed P (HasManyTerms P) 6 (most_terms + 1) l → IsFirstLimit P l
   versions : KeepsLimits P → NoneHas P HasManyPaths → NoneHas P HasManySteps → NoneHas P (HasManyTerms P) → Passed P (HasManyVersions P) 7 (most_versions + 1) l → IsFirstLimit P l
 

@@ -5,10 +5,12 @@ use Rattle.gh_ast.specs.declared.Expr.TheVariants.{Plain, Read}
 use Rattle.gh_ast.specs.Plain.{Test, compare, negation, conjunction, disjunction, Tests, no_tests, test_first, Statement, set, new, write, free, call, choice, loop, give, Statements, no_statements, statement_first}
 use Rattle.gh_ast.specs.Plain.{Procedure}
 use Rattle.gh_ast.specs.Programs.{body_of}
+use Rattle.gh_path.specs.Admitted.{most_conditions, most_steps}
 use Rattle.gh_path.specs.Graphs.{Graph, dead_end, ends, moves, guarded, fork, Loop, loops_of}
 use Rattle.gh_path.specs.declared.ahead.Ahead.{Ahead}
 
--- `count` is counted up to 1,025; `reach` is one more than the steps of the longest path, up to 258, and 0 where there is none
+-- `count` is counted up to one past its limit; `reach` is one more than the steps of the longest path, up to two past the
+-- limit on these, and 0 where there is none
 abbrev pub nothing : Ahead
 nothing = record { count = 0; reach = 0 }
 
@@ -16,13 +18,13 @@ abbrev pub one_end : Ahead
 one_end = record { count = 1; reach = 1 }
 
 abbrev pub stepped : Ahead → Ahead
-stepped a = record { count = a.count; reach = min (a.reach + min a.reach 1) 258 }
+stepped a = record { count = a.count; reach = min (a.reach + min a.reach 1) (most_steps + 2) }
 
 abbrev pub checked : Ahead → Ahead
-checked a = record { count = min (a.count + 1) 1025; reach = max a.reach 1 }
+checked a = record { count = min (a.count + 1) (most_conditions + 1); reach = max a.reach 1 }
 
 abbrev pub either : Ahead → Ahead → Ahead
-either a b = record { count = min (a.count + b.count) 1025; reach = max a.reach b.reach }
+either a b = record { count = min (a.count + b.count) (most_conditions + 1); reach = max a.reach b.reach }
 
 -- what lies ahead of a node
 abbrev pub ahead : Graph → Ahead

@@ -1,6 +1,8 @@
 pub mod Graphs
 pub mod Paths
 pub mod Conditions
+pub mod Terms
+pub mod Admitted
 pub mod Kept
 pub mod Callees
 pub mod Shown
@@ -12,8 +14,6 @@ pub mod Walking
 pub mod Lowered
 pub mod Answers
 pub mod Walks
-pub mod Terms
-pub mod Admitted
 pub mod Refusals
 pub mod Examples
 pub mod Laws

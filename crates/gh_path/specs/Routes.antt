@@ -4,7 +4,7 @@ use Rattle.gh_ast.specs.declared.Expr.{Expr}
 use Rattle.gh_ast.specs.Plain.{Procedure, Program}
 use Rattle.gh_path.specs.Graphs.{Check, PathStep, assume, Graph}
 use Rattle.gh_path.specs.Paths.{Way, ways}
-use Rattle.gh_path.specs.Shown.{IsShown, AreShown, IsAsked, Shows, step_from, from}
+use Rattle.gh_path.specs.Shown.{IsShown, AreShown, IsAsked, Shows, LeadsBelow, step_from, from}
 use Rattle.gh_path.specs.declared.node.Asked.{Asked}
 use Rattle.gh_path.specs.declared.node.Node.{Node}
 use Rattle.gh_path.specs.declared.node.Origin.{Origin}
@@ -133,3 +133,8 @@ abbrev pub IsLess : Come → ℕ → ℕ → Type 0
 IsLess On new old = new < old
 IsLess (Found a) new old = Unit {0}
 IsLess Over new old = Unit {0}
+
+-- and so it does from where this node stands, which leads to nodes before it
+abbrev pub LooksNearer : ℕ → Node → Route → Route → Come → Type 0
+LooksNearer i n r t come =
+    LeadsBelow i n → IsLess come (weight_of t) (weights r.taken.items + weight i)

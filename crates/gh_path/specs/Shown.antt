@@ -1,5 +1,5 @@
 -- What steps and checks as the text has them stand for, and what graph a list of nodes shows.
-use Rattle.std.specs.Prelude.{◌≡◌, ◌⊎◌, ◌<◌, ℕ, List, [], ◌∷◌, ◌++◌, length, slice_get, slice_index, slice_index_or, Some, Bool, true, false, not}
+use Rattle.std.specs.Prelude.{◌≡◌, ◌⊎◌, ◌<◌, ◌≤◌, ℕ, ◌+◌, List, [], ◌∷◌, ◌++◌, length, take, slice_get, slice_index, slice_index_or, Some, Bool, true, false, not}
 use denote.Ref.{Bor}
 use Rattle.gh_base.specs.declared.place.Span.{Span}
 use Rattle.gh_ast.specs.declared.Occ.{Occ}
@@ -143,3 +143,11 @@ AreHeld ns [] [] = Unit {0}
 AreHeld ns [] (r ∷ rs) = ⊥
 AreHeld ns (o ∷ os) [] = ⊥
 AreHeld ns (o ∷ os) (r ∷ rs) = KeepsStep (step_from ns o) r × AreHeld ns os rs
+
+-- where the steps rs come from the origins os, the steps qs come from the origins ps
+abbrev pub KeepsHeld : List Node → List Origin → List kept_step.PathStep → List Origin → List kept_step.PathStep → Type 0
+KeepsHeld ns os rs ps qs = AreHeld ns os rs → AreHeld ns ps qs
+
+-- an origin stands at the place i, after those that stood before it
+abbrev pub HoldsAfter : ℕ → Origin → List Origin → List Origin → Type 0
+HoldsAfter i o os ps = i ≤ length os → take (i + 1) ps ≡ take i os ++ o ∷ []

@@ -7,10 +7,17 @@ ghost use Rattle.gh_path.specs.Counting.{nothing, one_end, stepped, checked, eit
 
 use gh_ast::{Cond, Expr, Stmt};
 
+/// The most conditions of a procedure.
+pub const MOST_CONDITIONS: u32 = 1_024;
+
+/// The most steps of a condition.
+pub const MOST_STEPS: u32 = 256;
+
 /// What lies ahead of a place.
 ///
-/// `count` is the number of conditions, counted up to 1,025. `reach` is one more than the number
-/// of steps of the longest path, up to 258, and 0 where there is no path.
+/// `count` is the number of conditions, counted up to one past `MOST_CONDITIONS`. `reach` is one
+/// more than the number of steps of the longest path, up to two past `MOST_STEPS`, and 0 where
+/// there is no path.
 #[derive(Clone, Copy, Debug, PartialEq, Eq)]
 pub struct Ahead {
     pub count: u32,
@@ -38,7 +45,10 @@ impl Ahead {
     {
         Ahead {
             count: self.count,
-            reach: self.reach.saturating_add(self.reach.min(1)).min(258),
+            reach: self
+                .reach
+                .saturating_add(self.reach.min(1))
+                .min(MOST_STEPS + 2),
         }
     }
 
@@ -47,7 +57,7 @@ impl Ahead {
         ensures { result ≡ checked self }
     {
         Ahead {
-            count: self.count.saturating_add(1).min(1_025),
+            count: self.count.saturating_add(1).min(MOST_CONDITIONS + 1),
             reach: self.reach.max(1),
         }
     }
@@ -57,7 +67,10 @@ impl Ahead {
         ensures { result ≡ either self other }
     {
         Ahead {
-            count: self.count.saturating_add(other.count).min(1_025),
+            count: self
+                .count
+                .saturating_add(other.count)
+                .min(MOST_CONDITIONS + 1),
             reach: self.reach.max(other.reach),
         }
     }

@@ -5,7 +5,7 @@ ghost use Rattle.gh_ast.specs.Plain.{procedure_of};
 ghost use Rattle.gh_path.specs.Counting.{procedure_ahead, all_counts};
 ghost use Rattle.gh_path.specs.Refusals.{IsPathsLimit, IsStepsLimit};
 
-use crate::ahead::Ahead;
+use crate::ahead::{Ahead, MOST_CONDITIONS, MOST_STEPS};
 use gh_ast::Procedure;
 use gh_ast::typed::Limit;
 
@@ -15,11 +15,11 @@ pub fn paths_limit(procedures: &[Procedure], aheads: &[Ahead]) -> Option<Limit>
     ensures { IsPathsLimit (map procedure_of procedures.now) result }
 {
     for (place, ahead) in aheads.iter().enumerate() {
-        if ahead.count > 1_024 {
+        if ahead.count > MOST_CONDITIONS {
             return Some(Limit {
                 kind: 4,
                 span: procedures[place].name.span,
-                count: 1_025,
+                count: MOST_CONDITIONS + 1,
             });
         }
     }
@@ -32,11 +32,11 @@ pub fn steps_limit(procedures: &[Procedure], aheads: &[Ahead]) -> Option<Limit>
     ensures { IsStepsLimit (map procedure_of procedures.now) result }
 {
     for (place, ahead) in aheads.iter().enumerate() {
-        if ahead.reach > 257 {
+        if ahead.reach > MOST_STEPS + 1 {
             return Some(Limit {
                 kind: 5,
                 span: procedures[place].name.span,
-                count: 257,
+                count: MOST_STEPS + 1,
             });
         }
     }

@@ -13,8 +13,8 @@ use gh_ast::typed::{Limit, Typed};
 use std::alloc::{AllocError, Global};
 use thiserror::Error;
 
-/// Why the conditions of a program aren't given: a procedure has more than 1,024 of them
-/// (kind 4), or the path of one has more than 256 steps (kind 5).
+/// Why the conditions of a program aren't given: a procedure has more than `MOST_CONDITIONS`
+/// of them (kind 4), or the path of one has more than `MOST_STEPS` steps (kind 5).
 #[derive(Debug, Drop, Error)]
 pub enum ConditionsError {
     #[error("a limit is passed")]

@@ -2,9 +2,8 @@
 
 ghost use Rattle.std.specs.Prelude.{◌≡◌, ◌+◌, [], List, IfOk, OnOk};
 ghost use Rattle.gh_ast.specs.Plain.{Procedure, Program};
-ghost use Rattle.gh_path.specs.Shown.{LeadsBelow};
-ghost use Rattle.gh_path.specs.Routes.{AreOn, HasTaken, TurnsBack, LooksAt, GoesOn, BeginsAt, Arrives, IsLess};
-ghost use Rattle.gh_path.specs.Routes.{weight, weights, weight_of};
+ghost use Rattle.gh_path.specs.Routes.{AreOn, HasTaken, TurnsBack, LooksAt, GoesOn, BeginsAt, Arrives, IsLess, LooksNearer};
+ghost use Rattle.gh_path.specs.Routes.{weights, weight_of};
 
 use crate::node::{Asked, Node, Nodes, Origin};
 use std::alloc::{AllocError, Global};
@@ -79,8 +78,7 @@ impl Route {
     /// Looks at the node at a place, which is come to.
     fn look<'t>(&mut self, place: usize, node: Node<'t>) -> Result<Come<'t>, AllocError>
         ensures come { IfOk result (LooksAt place node.entry self.old self.new) }
-        ensures less { IfOk result (λ come. LeadsBelow place node.entry →
-            IsLess come (weight_of self.new) (weights self.old.taken.items + weight place)) }
+        ensures less { IfOk result (LooksNearer place node.entry self.old self.new) }
     {
         match node {
             Node::DeadEnd => {

@@ -7,7 +7,7 @@ ghost use Rattle.gh_ast.specs.Programs.{body_of};
 ghost use Rattle.gh_ast.specs.Rules.{IsTyped};
 ghost use Rattle.gh_ast.specs.WellFormed.{IsFormedBody, IsWellFormed};
 ghost use Rattle.gh_path.specs.Graphs.{whole_body};
-ghost use Rattle.gh_path.specs.Admitted.{HasManyPaths, NoneHas};
+ghost use Rattle.gh_path.specs.Admitted.{most_conditions, HasManyPaths, NoneHas};
 ghost use Rattle.gh_path.specs.Callees.{AllHaveCallees};
 ghost use Rattle.gh_path.specs.Conditions.{conditions, conditions_of};
 ghost use Rattle.gh_path.specs.Lowered.{program_in, procedure_in, AllSuit, AddsGraph, AddsRound};
@@ -149,7 +149,7 @@ impl<'t> Starts<'t> {
         procedure: u16,
     ) -> Result<(), AllocError>
         requires suits { AllSuit walker.now 0 (body_of (procedure_in walker.now)) }
-        requires few { length (conditions_of (procedure_in walker.now)) ≤ 1024 }
+        requires few { length (conditions_of (procedure_in walker.now)) ≤ most_conditions }
         ensures { OnOk result (AddsEntry walker.now procedure self.old self.new) }
     {
         let node = walker.lower_entry(alloc, &mut self.nodes)?;
@@ -174,7 +174,7 @@ impl<'t> Starts<'t> {
         number: u16,
     ) -> Result<(), AllocError>
         requires suits { AllSuit walker.now (number + 1) (loop_of turn.now).body }
-        requires few { length (conditions_of (procedure_in walker.now)) ≤ 1024 }
+        requires few { length (conditions_of (procedure_in walker.now)) ≤ most_conditions }
         ensures { OnOk result (AddsLoop walker.now procedure number (loop_of turn.now) self.old self.new) }
     {
         let node = walker.lower_round(alloc, turn, number, &mut self.nodes)?;
@@ -197,7 +197,7 @@ impl<'t> Starts<'t> {
         procedure: u16,
     ) -> Result<(), AllocError>
         requires callees { AllHaveCallees (program_in walker.now) (body_of (procedure_in walker.now)) }
-        requires few { length (conditions_of (procedure_in walker.now)) ≤ 1024 }
+        requires few { length (conditions_of (procedure_in walker.now)) ≤ most_conditions }
         requires formed { IsFormedBody (procedure_in walker.now).body }
         ensures { OnOk result (AddsProcedure walker.now procedure self.old self.new) }
     {

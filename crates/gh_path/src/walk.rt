@@ -1,7 +1,7 @@
 //! The conditions of a program one at a time.
 
-ghost use Rattle.std.specs.Prelude.{◌≡◌, ◌≤◌, ◌<◌, ◌+◌, ◌∷◌, ◌++◌, [], length, take, map, slice_set, IfOk, OnOk};
-ghost use Rattle.gh_path.specs.Shown.{AreHeld};
+ghost use Rattle.std.specs.Prelude.{◌≡◌, ◌≤◌, ◌<◌, ◌∷◌, ◌++◌, [], length, map, slice_set, IfOk, OnOk};
+ghost use Rattle.gh_path.specs.Shown.{KeepsHeld, HoldsAfter};
 ghost use Rattle.gh_path.specs.Walks.{IsAtStart, WalksOver, WalksFrom, PassesTo};
 ghost use Rattle.gh_path.specs.Walks.{Reaches, Gives, KeepsLeft, Lends, ComesNearer};
 
@@ -69,10 +69,8 @@ fn hold_step(
     held: &mut Vec<Origin>,
     steps: &mut Vec<PathStep>,
 ) -> Result<(), AllocError>
-    ensures there { OnOk result (place ≤ length held.old.items →
-        take (place + 1) held.new.items ≡ take place held.old.items ++ origin ∷ []) }
-    ensures held { OnOk result (AreHeld nodes.now held.old.items steps.old.items →
-        AreHeld nodes.now held.new.items steps.new.items) }
+    ensures there { OnOk result (HoldsAfter place origin held.old.items held.new.items) }
+    ensures held { OnOk result (KeepsHeld nodes.now held.old.items steps.old.items held.new.items steps.new.items) }
 {
     if let Some(before) = held.get(place) {
         if *before == origin {
@@ -94,8 +92,7 @@ fn hold(
     steps: &mut Vec<PathStep>,
 ) -> Result<(), AllocError>
     ensures these { OnOk result (held.new.items ≡ map (λ t. t.origin) taken.now) }
-    ensures held { OnOk result (AreHeld nodes.now held.old.items steps.old.items →
-        AreHeld nodes.now held.new.items steps.new.items) }
+    ensures held { OnOk result (KeepsHeld nodes.now held.old.items steps.old.items held.new.items steps.new.items) }
 {
     for place in 0..taken.len() {
         hold_step(alloc, nodes, place, taken[place].origin, held, steps)?;

@@ -72,6 +72,10 @@ variable_groups changes cells spots es k [] = []
 variable_groups changes cells spots es k (f ∷ fs) =
     variable_group f (change_at changes k) (target_of cells spots (take k es) f.value) ∷ variable_groups changes cells spots es (suc k) fs
 
+-- a group for each variable of a store
+abbrev pub store_groups : List Change → List Cell → List Spot → List Entry → List Group
+store_groups changes cells spots es = variable_groups changes cells spots es 0 es
+
 -- the groups of a row whose cells stand at the spots
 abbrev pub row_groups : Row → List Spot → List Group
 row_groups row spots =

@@ -125,8 +125,7 @@ fn push_variables(
 ) -> Result<(), AllocError>
     requires ascending { T (map.is_sorted nat_cmp (pairs cells.now)) }
     requires one_each { length spots.now ≡ length cells.now }
-    ensures { OnOk result (groups.new
-        ≡ groups.old ++ drawn.variable_groups changes.now cells.now spots.now entries.now 0 entries.now) }
+    ensures { OnOk result (groups.new ≡ groups.old ++ drawn.store_groups changes.now cells.now spots.now entries.now) }
 {
     for (number, entry) in entries.iter().enumerate() {
         let change = change_at(changes, number);

@@ -1,12 +1,19 @@
 -- What is said of some terms, versions and assertions as they are encoded.
-use Rattle.std.specs.Prelude.{ℕ, ◌-◌, List, [], ◌∷◌, map}
+use Rattle.std.specs.Prelude.{◌≡◌, ℕ, ◌-◌, List, [], ◌∷◌, map, IfOk}
+use Rattle.std.specs.declared.result.Result.{Result}
+use Rattle.std.specs.declared.alloc.AllocError.{AllocError}
+use Rattle.gh_ast.specs.Plain.{Program}
 use Rattle.gh_base.specs.declared.atom.Term.{Term}
 use Rattle.gh_base.specs.declared.term.TermKind.{TermKind}
 use Rattle.gh_base.specs.Grounds.{Problem}
 use Rattle.gh_grass.specs.Claims.{Claim, negation_of, one_of}
+use Rattle.gh_path.specs.Conditions.{Condition}
 use Rattle.gh_path.specs.Terms.{Kind}
-use Rattle.gh_symb.specs.Formulas.{allocated, hops, meets_whole, meets_one_of, made_claims, check_claims, step_claims, steps_claims, versions_claims}
+use Rattle.gh_symb.specs.Encoded.{IsSymbolic}
+use Rattle.gh_symb.specs.Formulas.{allocated, hops, meets_whole, meets_one_of, made_claims, check_claims, step_claims, steps_claims, versions_claims, problem}
 use Rattle.gh_symb.specs.Inside.{check_of, step_of, under_of}
+use Rattle.gh_symb.specs.Symbolic.{symbolic_of}
+use Rattle.gh_symb.specs.declared.over_terms.Symbolic.{Symbolic}
 use Rattle.gh_symb.specs.declared.over_terms.Bound.{Bound}
 use Rattle.gh_symb.specs.declared.over_terms.TermCheck.{TermCheck}
 use Rattle.gh_symb.specs.declared.over_terms.TermStep.{TermStep}
@@ -43,3 +50,7 @@ step_stated ks i step = step_claims ks i (step_of step)
 -- what the steps of a condition say, from its first version on
 abbrev pub steps_stated : List Kind → List TermStep → List Claim
 steps_stated ks steps = steps_claims ks 0 (map step_of steps)
+
+-- where a condition over terms is that of a program's condition, these are the clauses of that
+abbrev pub TellsProblem : Symbolic → Result Problem AllocError → Type 0
+TellsProblem y result = (P : Program) (c : Condition) → IsSymbolic P c y → IfOk result (λ p. p ≡ problem (symbolic_of P c))

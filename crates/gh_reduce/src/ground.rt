@@ -1,12 +1,9 @@
 //! The ground clauses of a condition.
 
 ghost use Rattle.std.specs.Prelude.{◌≡◌, ◌+◌, ◌<◌, ◌≤◌, ◌∷◌, [], ℕ, IfOk, OnOk, length, map};
-ghost use Rattle.gh_ast.specs.Plain.{Program};
-ghost use Rattle.gh_path.specs.Conditions.{Condition};
 ghost use Rattle.gh_path.specs.Terms.{next};
-ghost use Rattle.gh_symb.specs.Symbolic.{symbolic_of};
 ghost use Rattle.gh_symb.specs.Encodings.{plain_kind};
-ghost use Rattle.gh_symb.specs.Encoded.{plain_of, IsSymbolic};
+ghost use Rattle.gh_symb.specs.Encoded.{plain_of};
 ghost use Rattle.gh_symb.specs.Inside.{under_of, step_of, check_of};
 ghost use Rattle.gh_symb.specs.Inside.{AllAreInside, AreStepsInside, IsCheckInside, IsReady, IsStepInside};
 ghost use Rattle.gh_symb.specs.Formulas.{succeeds, successor_claims, successors_from, version_claims, version_after};
@@ -14,7 +11,7 @@ ghost use Rattle.gh_symb.specs.Formulas.{written_claims, freed_claims, claims, p
 ghost use Rattle.gh_grass.specs.Claims.{claim_of, negation_of};
 ghost use Rattle.gh_reduce.specs.Growth.{stated_in, IsWithin};
 ghost use Rattle.gh_reduce.specs.Rows.{kinds_of};
-ghost use Rattle.gh_reduce.specs.Stated.{all_versions, cell_made, check_fails, none_is_met, step_stated, steps_stated};
+ghost use Rattle.gh_reduce.specs.Stated.{all_versions, cell_made, check_fails, none_is_met, step_stated, steps_stated, TellsProblem};
 
 use crate::clauses::add_formula;
 use crate::parts::{Change, add_part};
@@ -339,8 +336,7 @@ fn add_condition(alloc: Global, ground: &mut Ground, symbolic: &Symbolic) -> Res
 /// More than 4,294,967,294 clauses, or more definitions than 32 bits count, find no memory.
 pub fn ground(alloc: Global, symbolic: &Symbolic) -> Result<Ground, AllocError>
     ensures is { IfOk result (λ g. g ≡ problem (plain_of symbolic.now)) }
-    ensures told { (P : Program) (c : Condition) → IsSymbolic P c symbolic.now →
-        IfOk result (λ g. g ≡ problem (symbolic_of P c)) }
+    ensures told { TellsProblem symbolic.now result }
 {
     let terms = symbolic.terms();
     let mut ground = Ground::new(alloc, terms.count(), symbolic.versions());

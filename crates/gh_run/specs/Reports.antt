@@ -5,6 +5,8 @@ use Rattle.gh_ast.specs.Programs.{variable_names}
 use Rattle.gh_assert.specs.Heaps.{Heap, Splits}
 use Rattle.gh_assert.specs.Meaning.{Meaning, MeetsOneOf, HasPart}
 use Rattle.gh_assert.specs.Stores.{store_of, listed_names}
+use Rattle.gh_machine.specs.Configs.{config_of}
+use Rattle.gh_machine.specs.declared.config.Config as kept
 use Rattle.gh_machine.specs.Machine.{Config, Fault, HasEnded, EndsWell, last_of, starting}
 use Rattle.gh_trace.specs.Traces.{Replaced}
 use Rattle.gh_trace.specs.declared.state.State.{State}
@@ -17,6 +19,10 @@ use Rattle.gh_run.specs.declared.simulate.Report.TheVariants.{Unmet, Faulted, En
 -- the procedure at its start, with the values and the heap that are given
 abbrev pub begun : Procedure → Begin → Config
 begun p b = starting p (store_of b.store) b.heap []
+
+-- the configuration is that of the procedure that the state file names
+abbrev pub IsBegun : Program → Begin → kept.Config → Type 0
+IsBegun P b c = (p : Procedure) → BeginsIn P b p → config_of c ≡ begun p b
 
 -- the values of the variables of the topmost activation, in their order, and the heap
 pub record IsStateOf (c : Config) (s : State) : Type 0 where

@@ -1,9 +1,9 @@
 //! The lines of a state file, one after the other.
 
-ghost use Rattle.std.specs.Prelude.{◌≤◌, length, IfOk, MatchOption};
+ghost use Rattle.std.specs.Prelude.{◌≤◌, length, IfOk};
 ghost use Rattle.gh_ast.specs.Plain.{program_of};
-ghost use Rattle.gh_draw.specs.Reading.{IsFrontRead, AreDistinctNames, HasNoEnd};
-ghost use Rattle.gh_run.specs.Lines.{IsFirstLine, IsNumberOf, HasNoNumber, ShowsProcedure, ShowsStore, ShowsCellLine};
+ghost use Rattle.gh_draw.specs.Reading.{IsFrontRead, AreDistinctNames};
+ghost use Rattle.gh_run.specs.Lines.{IsLineTaken, IsNumberFound, ShowsProcedure, ShowsStore, ShowsCellLine};
 
 use gh_assert::heap::Heap;
 use gh_assert::store::Store;
@@ -16,8 +16,7 @@ use std::alloc::{AllocError, Global};
 
 // Takes the first line, and gives it without its line feed; none where there is no line feed.
 fn take_line<'t>(cursor: &mut Cursor<'t>) -> Option<&'t [u8]>
-    ensures { MatchOption result (HasNoEnd cursor.old.text.now)
-        (λ l. IsFirstLine cursor.old.text.now l.now cursor.new.text.now) }
+    ensures { IsLineTaken cursor.old.text.now cursor.new.text.now result }
 {
     let text = cursor.text;
     let end = line_end(text)?;
@@ -28,8 +27,7 @@ fn take_line<'t>(cursor: &mut Cursor<'t>) -> Option<&'t [u8]>
 // The number of the procedure of a name.
 fn number_of(program: &Program, name: &[u8]) -> Option<u16>
     requires { length (program_of program.now).procedures ≤ 256 }
-    ensures { MatchOption result (HasNoNumber (program_of program.now) name.now)
-        (IsNumberOf (program_of program.now) name.now) }
+    ensures { IsNumberFound (program_of program.now) name.now result }
 {
     for (i, procedure) in program.procedures.iter().enumerate() {
         if procedure.name.name.bytes() == name {

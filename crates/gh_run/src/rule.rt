@@ -4,7 +4,7 @@ ghost use Rattle.std.specs.Prelude.{◌+◌, ◌≤◌, ◌<◌, IfOk};
 ghost use Rattle.std.specs.FinMap.{len};
 ghost use Rattle.gh_ast.specs.Plain.{program_of};
 ghost use Rattle.gh_machine.specs.Configs.{config_of, IsMadeFor};
-ghost use Rattle.gh_run.specs.Halts.{IsRuledNext, IsHalted};
+ghost use Rattle.gh_run.specs.Halts.{LeadsRuled, HaltsRuled};
 
 use crate::free::least_free;
 use gh_ast::typed::Typed;
@@ -32,8 +32,7 @@ fn ruled_step<'p>(
 ) -> Result<Next, AllocError>
     requires made { IsMadeFor (program_of typed.now) config.old }
     requires room { len (config_of config.old).heap < 4294967295 }
-    ensures next { IfOk result (λ next.
-        IsRuledNext (program_of typed.now) next (config_of config.old) (config_of config.new)) }
+    ensures next { IfOk result (LeadsRuled (program_of typed.now) config.old config.new) }
     ensures made { IsMadeFor (program_of typed.now) config.new }
     ensures room { IfOk result (λ next. len (config_of config.new).heap ≤ len (config_of config.old).heap + 1) }
 {
@@ -56,8 +55,7 @@ pub fn run_ruled<'p>(
 ) -> Result<(u32, Halt), AllocError>
     requires made { IsMadeFor (program_of typed.now) config.old }
     requires room { len (config_of config.old).heap + limit ≤ 4294967295 }
-    ensures halted { IfOk result (λ r.
-        IsHalted (program_of typed.now) (config_of config.old) limit r.1 r.0 (config_of config.new)) }
+    ensures halted { IfOk result (HaltsRuled (program_of typed.now) config.old limit config.new) }
     ensures made { IsMadeFor (program_of typed.now) config.new }
 {
     for steps in 0..limit {

@@ -1,5 +1,5 @@
 -- What is left over where the check at the end of a path fails.
-use Rattle.std.specs.Prelude.{◌≡◌, ◌⊎◌, ℕ, List, [], ◌∷◌}
+use Rattle.std.specs.Prelude.{◌≡◌, ◌⊎◌, ℕ, List, [], ◌∷◌, Option, IfSome, IfNone}
 use Rattle.std.specs.FinMap as map
 use Rattle.gh_ast.specs.Plain.{Formula}
 use Rattle.gh_assert.specs.Heaps.{Heap}
@@ -26,6 +26,13 @@ asked_whole (loop_end l) = l.invariant ∷ []
 -- a conjunct of the assertion finds no part
 abbrev pub LeavesNothing : Formula → Store → Heap → Type 0
 LeavesNothing f s h = (r : Heap) → Leaves (conjuncts f) s h r → ⊥
+
+-- what is found to be left: a heap that the conjuncts leave, or none where one of them finds no part
+abbrev pub IsLeft : Formula → Store → Heap → Option Heap → Type 0
+IsLeft f s h o = IfSome o (Leaves (conjuncts f) s h)
+
+abbrev pub IsNoneLeft : Formula → Store → Heap → Option Heap → Type 0
+IsNoneLeft f s h o = IfNone o (LeavesNothing f s h)
 
 -- what the first alternative leaves whose conjuncts all take their parts; nothing, where there is none
 abbrev pub IsLeftOver : List Formula → Store → Heap → Heap → Type 0

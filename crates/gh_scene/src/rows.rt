@@ -4,6 +4,7 @@ ghost use Rattle.std.specs.Prelude.{◌≡◌, IfOk};
 ghost use Rattle.gh_lens.specs.Settings.{HasLoops, HasStep, HaveSteps, OfStep};
 ghost use Rattle.gh_lens.specs.Statements.{statement_text};
 ghost use Rattle.gh_scene.specs.Rows as told;
+ghost use Rattle.gh_scene.specs.Rows.{AddsRowsFor};
 
 use crate::notes::{aside, note};
 use crate::roles::{changes_of, roles_of};
@@ -98,7 +99,7 @@ pub fn push_rows(
     requires loops { HasLoops setting }
     requires some { HaveSteps setting steps.now }
     ensures { IfOk result (λ _.
-        told.AddsRowsFor setting.entry steps.now states.now spare.now rows.old.items rows.new.items) }
+        AddsRowsFor setting.entry steps.now states.now spare.now rows.old.items rows.new.items) }
 {
     let Some((step, later)) = steps.split_first() else {
         return Ok(());

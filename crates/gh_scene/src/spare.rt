@@ -1,10 +1,9 @@
 // What is left over where the check at the end of a path fails.
 
-ghost use Rattle.std.specs.Prelude.{map, IfOk, IfSome, IfNone};
+ghost use Rattle.std.specs.Prelude.{map, IfOk};
 ghost use Rattle.gh_ast.specs.Plain.{formula_of};
 ghost use Rattle.gh_assert.specs.Stores.{store_of};
 ghost use Rattle.gh_lens.specs.Settings.{HasLoops};
-ghost use Rattle.gh_lens.specs.Takings.{conjuncts as conjuncts_of, Leaves};
 ghost use Rattle.gh_scene.specs.Spare as told;
 
 use gh_assert::heap::Heap;
@@ -24,10 +23,8 @@ fn left_by(
     heap: &Heap,
     assertion: &Assertion,
 ) -> Result<Option<Heap>, AllocError>
-    ensures some { IfOk result (λ o. IfSome o (Leaves (conjuncts_of (formula_of assertion.now))
-        (store_of store.now) heap.now)) }
-    ensures none { IfOk result (λ o. IfNone o (told.LeavesNothing (formula_of assertion.now)
-        (store_of store.now) heap.now)) }
+    ensures some { IfOk result (told.IsLeft (formula_of assertion.now) (store_of store.now) heap.now) }
+    ensures none { IfOk result (told.IsNoneLeft (formula_of assertion.now) (store_of store.now) heap.now) }
 {
     match taken(alloc, store, heap, conjuncts(assertion))? {
         Taking::Whole { rest } => Ok(Some(rest)),

@@ -7,12 +7,17 @@ use Rattle.gh_trace.specs.Kept.{IsOfProgram}
 use Rattle.gh_trace.specs.Refuted.{IsFirst}
 use Rattle.gh_trace.specs.Validity.{IsConditionValid, ListedAreValid}
 use Rattle.gh_session.specs.declared.kept.Kept.{Kept}
+use Rattle.gh_session.specs.declared.session.Lesson.{Lesson}
 use Rattle.gh_session.specs.declared.session.Refutation.{Refutation}
 use Rattle.gh_session.specs.declared.session.SessionOutcome.{SessionOutcome}
 use Rattle.gh_session.specs.Essences.{Essence}
 use Rattle.gh_session.specs.Laws.{HasEssence}
-use Rattle.gh_session.specs.Known.{Known, essences}
+use Rattle.gh_session.specs.Known.{Known, essences, Learns}
 use Rattle.gh_session.specs.Places.{knowledge}
+
+-- what is learnt for the condition r of P, of what is kept before and after
+abbrev pub IsLessonOn : Program → kept.Condition → List Kept → List Kept → Lesson → Type 0
+IsLessonOn P r old new l = Learns P r (knowledge old) l.answer l.is_new (knowledge new)
 
 -- no refutation: all conditions are valid
 abbrev pub IsOutcome : Program → Option Refutation → Type 0

@@ -1,6 +1,9 @@
 -- Essences as they are kept.
-use Rattle.std.specs.Prelude.{map}
-use Rattle.gh_ast.specs.Plain.{formula_of}
+use Rattle.std.specs.Prelude.{◌≡◌, ℕ, List, map}
+use Rattle.gh_ast.specs.Plain.{Procedure, Program, formula_of}
+use Rattle.gh_ast.specs.Programs.{Name}
+use Rattle.gh_path.specs.Graphs.{Loop}
+use Rattle.gh_path.specs.declared.condition.Condition as condition
 use Rattle.gh_session.specs.Essences as plain
 use Rattle.gh_session.specs.declared.essence.Contract as kept_contract
 use Rattle.gh_session.specs.declared.essence.Round as kept_round
@@ -50,3 +53,15 @@ essence_view e =
       steps = map step_view e.steps.items;
       check = check_view e.check;
     }
+
+-- the contracts of the procedures of these numbers
+abbrev pub AreContractsAt : List Procedure → List ℕ → List kept_contract.Contract → Type 0
+AreContractsAt qs ns ks = map contract_view ks ≡ map (plain.contract_at qs) ns
+
+-- the loops of these numbers, of a procedure with the variables xs
+abbrev pub AreRoundsAt : List Name → List Loop → List ℕ → List kept_round.Round → Type 0
+AreRoundsAt xs ls ns rs = map round_view rs ≡ map (plain.round_at xs ls) ns
+
+-- that of the condition r of the procedure p
+abbrev pub IsEssenceIn : Program → Procedure → condition.Condition → kept_essence.Essence → Type 0
+IsEssenceIn P p r e = essence_view e ≡ plain.essence P p r

@@ -10,7 +10,8 @@ ghost use Rattle.gh_trace.specs.Kept.{IsOne};
 ghost use Rattle.gh_trace.specs.Scenes.{IsProcedureAt};
 ghost use Rattle.gh_session.specs.Numbering.{listed};
 ghost use Rattle.gh_session.specs.Essences as plain;
-ghost use Rattle.gh_session.specs.Views.{contract_view, round_view, start_view, step_view, check_view, essence_view};
+ghost use Rattle.gh_session.specs.Views.{contract_view, round_view, start_view, step_view, check_view};
+ghost use Rattle.gh_session.specs.Views.{essence_view, AreContractsAt, AreRoundsAt, IsEssenceIn};
 ghost use Rattle.gh_session.specs.Laws.{HasEssence};
 
 use crate::bare::{assertion, assertions, expr, exprs, names};
@@ -370,8 +371,7 @@ fn contracts(
     procedures: &[Procedure],
     numbers: &[u16],
 ) -> Result<Vec<Contract>, AllocError>
-    ensures { IfOk result (λ v.
-        map contract_view v.items ≡ map (plain.contract_at (map procedure_of procedures.now)) numbers.now) }
+    ensures { IfOk result (λ v. AreContractsAt (map procedure_of procedures.now) numbers.now v.items) }
 {
     let mut whole = Vec::new(alloc);
     for number in numbers {
@@ -421,8 +421,7 @@ fn rounds(
     loops: &[While<'_>],
     numbers: &[u16],
 ) -> Result<Vec<Round>, AllocError>
-    ensures { IfOk result (λ v.
-        map round_view v.items ≡ map (plain.round_at variables.now (map loop_of loops.now)) numbers.now) }
+    ensures { IfOk result (λ v. AreRoundsAt variables.now (map loop_of loops.now) numbers.now v.items) }
 {
     let mut whole = Vec::new(alloc);
     for number in numbers {
@@ -460,8 +459,7 @@ fn essence_in(
     procedure: &Procedure,
     condition: &Condition,
 ) -> Result<Essence, AllocError>
-    ensures { IfOk result (λ e.
-        essence_view e ≡ plain.essence (program_of program.now) (procedure_of procedure.now) condition.now) }
+    ensures { IfOk result (IsEssenceIn (program_of program.now) (procedure_of procedure.now) condition.now) }
 {
     let numbers = procedures_of(alloc, condition)?;
     let places = rounds_of(alloc, condition)?;

@@ -4,10 +4,10 @@ ghost use Rattle.std.specs.Prelude.{◌≡◌, ◌+◌, ◌∷◌, ◌++◌, [],
 ghost use Rattle.std.specs.Option.{option_map};
 ghost use Rattle.gh_ast.specs.Plain.{program_of};
 ghost use Rattle.gh_path.specs.Admitted.{IsAdmitted};
-ghost use Rattle.gh_trace.specs.Kept.{drawn_of, IsOne, HasCounterexample, HasNoCounterexample};
-ghost use Rattle.gh_session.specs.Known.{essences, IsRight, AreRight, Learns};
+ghost use Rattle.gh_trace.specs.Kept.{drawn_of, IsOne, HasNoCounterexample};
+ghost use Rattle.gh_session.specs.Known.{essences, IsRight, AreRight, IsRefutedBy};
 ghost use Rattle.gh_session.specs.Places.{known_of, knowledge, LacksAt, LacksAtAll};
-ghost use Rattle.gh_session.specs.Decided.{IsOutcome, Tells, IsCutShort};
+ghost use Rattle.gh_session.specs.Decided.{IsLessonOn, IsOutcome, Tells, IsCutShort};
 ghost use Rattle.gh_session.specs.Views.{essence_view};
 
 use crate::compare::is_same_essence;
@@ -167,10 +167,8 @@ impl Session {
         requires admitted { IsAdmitted (program_of typed.now) }
         requires one { IsOne (program_of typed.now) condition.now }
         ensures none { IfOk result (λ l. IfNone l.answer (HasNoCounterexample (program_of typed.now) condition.now)) }
-        ensures some { IfOk result (λ l. IfSome l.answer (λ t.
-            HasCounterexample (program_of typed.now) condition.now (drawn_of t))) }
-        ensures learns { IfOk result (λ l.
-            Learns (program_of typed.now) condition.now (knowledge self.old) l.answer l.is_new (knowledge self.new)) }
+        ensures some { IfOk result (λ l. IfSome l.answer (IsRefutedBy (program_of typed.now) condition.now)) }
+        ensures learns { IfOk result (IsLessonOn (program_of typed.now) condition.now self.old self.new) }
         ensures unchanged { IfErr result (λ _. self.new ≡ self.old) }
         ensures asked_once { IfOk result (λ l. D.calls decider.new ≤ D.calls decider.old + cond l.is_new 1 0) }
         ensures never_falls { D.calls decider.old ≤ D.calls decider.new }

@@ -37,6 +37,11 @@ pub record DecidesCondition (P : Program) (c : Condition) (script : Problem) : T
   pub satisfiable : IsSatisfiable script ↔ HasCounterexample P c
   pub unsatisfiable : (IsSatisfiable script → ⊥) ↔ IsConditionValid P c
 
+-- and so for each condition of which these are the clauses
+abbrev pub DecidesItsConditions : Problem → Problem → Type 0
+DecidesItsConditions clauses script =
+    (P : Program) (c : Condition) → IsTyped P → IsCondition P c → clauses ≡ problem (symbolic_of P c) → DecidesCondition P c script
+
 -- that of a condition is
 abbrev pub ScriptsDecide : Type 0
 ScriptsDecide =

@@ -97,6 +97,10 @@ pub record SpellsAssertion (s : Sizes) (text : List ℕ) (c : List Lit) (rest : 
   pub front : text ≡ assertion_text c ++ rest
   pub spelled : IsSpelledAssertion s c
 
+-- an assertion stands at the front, and what is left follows it
+abbrev pub IsAssertionRead : Sizes → List ℕ → Result (List Lit) Refusal → List ℕ → Type 0
+IsAssertionRead s text answer rest = IsPartRead (SpellsAssertion s text) (λ c. c) answer rest
+
 abbrev pub SpellsAssertions : Sizes → List ℕ → List (List Lit) → List ℕ → Type 0
 SpellsAssertions s = SpellsItems assertion_text (IsSpelledAssertion s) foot_text
 

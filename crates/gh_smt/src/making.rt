@@ -1,16 +1,12 @@
 //! The script of a condition.
 
 ghost use Rattle.std.specs.Prelude.{◌≡◌, ◌+◌, ◌*◌, ◌^◌, ◌<◌, ◌≤◌, ◌++◌, map, IfOk, IfErr, OnOk};
-ghost use Rattle.gh_ast.specs.Plain.{Program};
-ghost use Rattle.gh_ast.specs.Rules.{IsTyped};
-ghost use Rattle.gh_path.specs.Conditions.{Condition, IsCondition};
-ghost use Rattle.gh_symb.specs.Symbolic.{symbolic_of};
 ghost use Rattle.gh_symb.specs.Formulas as formulas;
 ghost use Rattle.gh_symb.specs.Encoded.{plain_of};
 ghost use Rattle.gh_inst.specs.Instances.{instances, clause_of};
 ghost use Rattle.gh_smt.specs.Scripts.{IsScript, instance_count, assertion_count, script_of};
 ghost use Rattle.gh_smt.specs.Refusals.{IsScriptRefusal};
-ghost use Rattle.gh_smt.specs.Laws.{DecidesCondition};
+ghost use Rattle.gh_smt.specs.Laws.{DecidesItsConditions};
 
 use crate::error::ScriptError;
 use crate::script::Script;
@@ -85,8 +81,7 @@ pub fn script(alloc: Global, symbolic: &Symbolic, ground: &Ground) -> Result<Scr
     ensures is { IfOk result (λ s. s ≡ script_of ground.now) }
     ensures written { IfOk result (λ s. IsScript s) }
     ensures refused { IfErr result (λ e. IsScriptRefusal ground.now e) }
-    ensures decides { IfOk result (λ s. (P : Program) (c : Condition) → IsTyped P → IsCondition P c →
-        ground.now ≡ formulas.problem (symbolic_of P c) → DecidesCondition P c s) }
+    ensures decides { IfOk result (DecidesItsConditions ground.now) }
 {
     let sizes = ground.sizes();
     let terms = symbolic.terms().count();

@@ -7,7 +7,7 @@ ghost use Rattle.gh_log.specs.Reading.{EndsNumber, IsNotFront, IsPartRead};
 ghost use Rattle.gh_smt.specs.Kinds.{declared_text, start_text};
 ghost use Rattle.gh_smt.specs.Texts.{version_declared, script_text};
 ghost use Rattle.gh_smt.specs.Scripts.{IsScript};
-ghost use Rattle.gh_smt.specs.Reading.{TakesText, SpellsAssertion, SpellsAssertions, SpellsDeclared, SpellsScript, IsNoScript};
+ghost use Rattle.gh_smt.specs.Reading.{TakesText, IsAssertionRead, SpellsAssertions, SpellsDeclared, SpellsScript, IsNoScript};
 
 use crate::kind::Kind;
 use crate::literals::{read_lit, read_lits};
@@ -93,8 +93,7 @@ fn count_declared(reader: &mut Reader<'_>, kind: Kind, limit: u32) -> Result<u32
 
 // Reads an assertion of several literals after its first words.
 fn read_several(reader: &mut Reader<'_>, alloc: Global, sizes: Sizes) -> Result<Clause, Refusal>
-    ensures { IsPartRead (SpellsAssertion sizes (codes "(assert (or" ++ reader.old.rest.now)) (λ c. c) result
-        reader.new.rest.now }
+    ensures { IsAssertionRead sizes (codes "(assert (or" ++ reader.old.rest.now) result reader.new.rest.now }
 {
     let clause = read_lits(reader, alloc, sizes)?;
     if clause.lits().len() < SEVERAL {
@@ -106,8 +105,7 @@ fn read_several(reader: &mut Reader<'_>, alloc: Global, sizes: Sizes) -> Result<
 // Reads an assertion of one literal after its first word.
 fn read_single(reader: &mut Reader<'_>, alloc: Global, sizes: Sizes) -> Result<Clause, Refusal>
     requires { IsNotFront (codes "(or") reader.old.rest.now }
-    ensures { IsPartRead (SpellsAssertion sizes (codes "(assert " ++ reader.old.rest.now)) (λ c. c) result
-        reader.new.rest.now }
+    ensures { IsAssertionRead sizes (codes "(assert " ++ reader.old.rest.now) result reader.new.rest.now }
 {
     let lit = read_lit(reader, sizes)?;
     if !reader.skip(b")\n") {
@@ -118,7 +116,7 @@ fn read_single(reader: &mut Reader<'_>, alloc: Global, sizes: Sizes) -> Result<C
 
 // Reads an assertion.
 fn read_assertion(reader: &mut Reader<'_>, alloc: Global, sizes: Sizes) -> Result<Clause, Refusal>
-    ensures { IsPartRead (SpellsAssertion sizes reader.old.rest.now) (λ c. c) result reader.new.rest.now }
+    ensures { IsAssertionRead sizes reader.old.rest.now result reader.new.rest.now }
 {
     if reader.skip(b"(assert (or") {
         return read_several(reader, alloc, sizes);

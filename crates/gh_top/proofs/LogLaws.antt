@@ -8,7 +8,6 @@ use Rattle.gh_decide.specs.Logs.{IsValidLog}
 use Rattle.gh_top.specs.Headline.{Files, Asks, Answer, usage, refused, check_verified, check_refuted, log_verified, log_refuted, recheck_refused, recheck_verified, paths_listed, replay_refused, replay_refuted, smallest_verified, smallest_refuted, stress_verified, stress_refuted, smt_listed, smt_no_condition, smt_too_long, run_refused, run_unmet, run_stopped, run_faulted, run_held, run_failed, session_refused, session_listed, entail_refused, entail_verified, entail_refuted}
 use Rattle.gh_top.specs.Laws.{LogsAreRechecked}
 use Rattle.gh_top.specs.Words.{IsRequest}
-use Rattle.gh_top.specs.declared.words.Request.{Request}
 use Rattle.gh_top.specs.declared.words.Request.TheVariants.{Check, Log, Recheck, Smallest, Stress, Entail}
 use Rattle.gh_top.specs.declared.status.Status.{Status}
 use Rattle.gh_top.specs.declared.status.Status.TheVariants.{Verified}

@@ -158,36 +158,36 @@ one_limit P l m (of_text a) (steps keeps none b) = absurd (text_limit P l keeps 
 one_limit P l m (of_text a) (terms keeps none fewer b) = absurd (text_limit P l keeps a)
 one_limit P l m (of_text a) (versions keeps none fewer never b) = absurd (text_limit P l keeps a)
 one_limit P l m (paths keeps a) (of_text b) = absurd (text_limit P m keeps b)
-one_limit P l m (paths keeps a) (paths too b) = one_passed P _ 4 1025 l m a b
-one_limit P l m (paths keeps a) (steps too none b) = absurd (passed_has P _ 4 1025 l none a)
-one_limit P l m (paths keeps a) (terms too none fewer b) = absurd (passed_has P _ 4 1025 l none a)
-one_limit P l m (paths keeps a) (versions too none fewer never b) = absurd (passed_has P _ 4 1025 l none a)
+one_limit P l m (paths keeps a) (paths too b) = one_passed P _ 4 _ l m a b
+one_limit P l m (paths keeps a) (steps too none b) = absurd (passed_has P _ 4 _ l none a)
+one_limit P l m (paths keeps a) (terms too none fewer b) = absurd (passed_has P _ 4 _ l none a)
+one_limit P l m (paths keeps a) (versions too none fewer never b) = absurd (passed_has P _ 4 _ l none a)
 one_limit P l m (steps keeps none a) (of_text b) = absurd (text_limit P m keeps b)
-one_limit P l m (steps keeps none a) (paths too b) = absurd (passed_has P _ 4 1025 m none b)
-one_limit P l m (steps keeps none a) (steps too lacks b) = one_passed P _ 5 257 l m a b
-one_limit P l m (steps keeps none a) (terms too lacks fewer b) = absurd (passed_has P _ 5 257 l fewer a)
-one_limit P l m (steps keeps none a) (versions too lacks fewer never b) = absurd (passed_has P _ 5 257 l fewer a)
+one_limit P l m (steps keeps none a) (paths too b) = absurd (passed_has P _ 4 _ m none b)
+one_limit P l m (steps keeps none a) (steps too lacks b) = one_passed P _ 5 _ l m a b
+one_limit P l m (steps keeps none a) (terms too lacks fewer b) = absurd (passed_has P _ 5 _ l fewer a)
+one_limit P l m (steps keeps none a) (versions too lacks fewer never b) = absurd (passed_has P _ 5 _ l fewer a)
 one_limit P l m (terms keeps none fewer a) (of_text b) = absurd (text_limit P m keeps b)
-one_limit P l m (terms keeps none fewer a) (paths too b) = absurd (passed_has P _ 4 1025 m none b)
-one_limit P l m (terms keeps none fewer a) (steps too lacks b) = absurd (passed_has P _ 5 257 m fewer b)
+one_limit P l m (terms keeps none fewer a) (paths too b) = absurd (passed_has P _ 4 _ m none b)
+one_limit P l m (terms keeps none fewer a) (steps too lacks b) = absurd (passed_has P _ 5 _ m fewer b)
 one_limit P l m (terms keeps none fewer a) (terms too lacks less b) = one_passed P _ 6 _ l m a b
 one_limit P l m (terms keeps none fewer a) (versions too lacks less never b) = absurd (passed_has P _ 6 _ l never a)
 one_limit P l m (versions keeps none fewer never a) (of_text b) = absurd (text_limit P m keeps b)
-one_limit P l m (versions keeps none fewer never a) (paths too b) = absurd (passed_has P _ 4 1025 m none b)
-one_limit P l m (versions keeps none fewer never a) (steps too lacks b) = absurd (passed_has P _ 5 257 m fewer b)
+one_limit P l m (versions keeps none fewer never a) (paths too b) = absurd (passed_has P _ 4 _ m none b)
+one_limit P l m (versions keeps none fewer never a) (steps too lacks b) = absurd (passed_has P _ 5 _ m fewer b)
 one_limit P l m (versions keeps none fewer never a) (terms too lacks less b) = absurd (passed_has P _ 6 _ m never b)
 one_limit P l m (versions keeps none fewer never a) (versions too lacks less nor b) = one_passed P _ 7 _ l m a b
 
 one_question_limit : (q : Question) (l m : Limit) → question_limits.IsLimit q l → question_limits.IsLimit q m → l ≡ m
 one_question_limit q l m (question_limits.of_variables many e) (question_limits.of_variables more f) = e ∙ sym f
 one_question_limit q l m (question_limits.of_variables many e) (question_limits.of_atoms few more f) = absurd (omega (arith, many, few))
-one_question_limit q l m (question_limits.of_variables many e) (question_limits.of_terms few less more f) = absurd (omega (arith, many, few))
+one_question_limit q l m (question_limits.of_variables many e) (question_limits.of_terms keeps more f) = let few = keeps.0 in absurd (omega (arith, many, few))
 one_question_limit q l m (question_limits.of_atoms few many e) (question_limits.of_variables more f) = absurd (omega (arith, more, few))
 one_question_limit q l m (question_limits.of_atoms few many e) (question_limits.of_atoms less more f) = e ∙ sym f
-one_question_limit q l m (question_limits.of_atoms few many e) (question_limits.of_terms less fewer more f) = absurd (omega (arith, many, fewer))
-one_question_limit q l m (question_limits.of_terms few less many e) (question_limits.of_variables more f) = absurd (omega (arith, more, few))
-one_question_limit q l m (question_limits.of_terms few less many e) (question_limits.of_atoms fewer more f) = absurd (omega (arith, more, less))
-one_question_limit q l m (question_limits.of_terms few less many e) (question_limits.of_terms fewer none more f) = e ∙ sym f
+one_question_limit q l m (question_limits.of_atoms few many e) (question_limits.of_terms keeps more f) = let fewer = keeps.1 in absurd (omega (arith, many, fewer))
+one_question_limit q l m (question_limits.of_terms keeps many e) (question_limits.of_variables more f) = let few = keeps.0 in absurd (omega (arith, more, few))
+one_question_limit q l m (question_limits.of_terms keeps many e) (question_limits.of_atoms fewer more f) = let less = keeps.1 in absurd (omega (arith, more, less))
+one_question_limit q l m (question_limits.of_terms keeps many e) (question_limits.of_terms fewer more f) = e ∙ sym f
 
 -- files: absent, too long, or of a text that is short enough
 

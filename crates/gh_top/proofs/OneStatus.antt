@@ -99,8 +99,8 @@ text_limit P l keeps (of_atoms few fewer passed) = first_has P (λ q. Any (λ n.
 
 limit_passed : (P : Program) (l : Limit) → IsAdmitted P → IsFirstLimit P l → ⊥
 limit_passed P l a (of_text is) = text_limit P l a.limits is
-limit_passed P l a (paths keeps passed) = passed_has P _ 4 1025 l a.paths passed
-limit_passed P l a (steps keeps none passed) = passed_has P _ 5 257 l a.steps passed
+limit_passed P l a (paths keeps passed) = passed_has P _ 4 _ l a.paths passed
+limit_passed P l a (steps keeps none passed) = passed_has P _ 5 _ l a.steps passed
 limit_passed P l a (terms keeps none fewer passed) = passed_has P _ 6 _ l a.terms passed
 limit_passed P l a (versions keeps none fewer never passed) = passed_has P _ 7 _ l a.versions passed
 
@@ -126,9 +126,9 @@ pub one_posed : (text : List ℕ) (p q : Question) → Poses text p → Poses te
 one_posed text p q a b = one_question a.0 p q a.2 (subst (λ z. SpellsQuestion z q) (sym (one_whole text a.0 b.0 a.1 b.1)) b.2)
 
 question_limit : (q : Question) (l : Limit) → question_limits.KeepsLimits q → question_limits.IsLimit q l → ⊥
-question_limit q l keeps (question_limits.of_variables many e) = let few = keeps.variables in absurd (omega (arith, few, many))
-question_limit q l keeps (question_limits.of_atoms few many e) = let fewer = keeps.atoms in absurd (omega (arith, fewer, many))
-question_limit q l keeps (question_limits.of_terms few less many e) = let fewer = keeps.terms in absurd (omega (arith, fewer, many))
+question_limit q l keeps (question_limits.of_variables many e) = let few = keeps.text.0 in absurd (omega (arith, few, many))
+question_limit q l keeps (question_limits.of_atoms few many e) = let fewer = keeps.text.1 in absurd (omega (arith, fewer, many))
+question_limit q l keeps (question_limits.of_terms few many e) = let fewer = keeps.terms in absurd (omega (arith, fewer, many))
 
 not_posed : (text : List ℕ) (x : Refusal) (q : Question) → IsQuestionRefused (Some text) x → IsQuestionText text q → asked.IsAdmitted q → ⊥
 not_posed text Absent q e a d = absurd cc

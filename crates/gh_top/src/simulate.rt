@@ -5,7 +5,7 @@ ghost use Rattle.std.specs.Fmt.{decimal};
 ghost use Rattle.gh_ast.specs.Plain.{program_of};
 ghost use Rattle.gh_draw.specs.Drawings.{line};
 ghost use Rattle.gh_top.specs.Files.{IsWithin};
-ghost use Rattle.gh_top.specs.Replies.{RepliesOnText, RepliesShown, run_of};
+ghost use Rattle.gh_top.specs.Replies.{RepliesOnText, RepliesOnState, run_of};
 ghost use Rattle.gh_top.specs.Runs.{most_stated, with_state, IsRunReport};
 
 use crate::file::FileText;
@@ -105,8 +105,7 @@ pub fn simulate(
 ) -> Result<Report, AllocError>
     requires within { IsWithin most_stated state.now }
     requires limit { number ≤ 1000000 }
-    ensures { IfOk result
-        (λ r. RepliesShown (run_of number) (program_of admitted.now) most_stated state.now r.status r.text) }
+    ensures { IfOk result (RepliesOnState number (program_of admitted.now) state.now) }
 {
     match state {
         FileText::Absent => refused(alloc, "refused: state Absent"),

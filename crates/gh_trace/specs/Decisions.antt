@@ -1,9 +1,11 @@
 -- What the tests of steps and of checks answer: b is true exactly where the step leads on, or the check is passed.
-use Rattle.std.specs.Prelude.{◌↔◌, ℕ, Bool, List, map, IsTrue}
+use Rattle.std.specs.Prelude.{◌≡◌, ◌↔◌, ℕ, Bool, List, map, IsTrue}
 use Rattle.gh_base.specs.declared.place.Span.{Span}
 use Rattle.gh_ast.specs.declared.Expr.{Expr}
 use Rattle.gh_ast.specs.declared.Occ.{Occ}
-use Rattle.gh_ast.specs.Plain.{Program}
+use Rattle.gh_ast.specs.declared.Assertion.{Assertion}
+use Rattle.gh_ast.specs.Plain.{Program, formula_of}
+use Rattle.gh_ast.specs.Programs.{results_of}
 use Rattle.gh_path.specs.Graphs as graph
 use Rattle.gh_path.specs.Kept.{IsCallee, IsKind, IsLoop, IsStart, IsStep}
 use Rattle.gh_path.specs.declared.condition.CheckKind.{CheckKind}
@@ -18,15 +20,21 @@ use Rattle.gh_trace.specs.Traces.{Passes, Takes}
 use Rattle.gh_trace.specs.declared.replay.ReplayError.{ReplayError}
 use Rattle.gh_trace.specs.declared.scene.Scene.{Scene}
 use Rattle.gh_trace.specs.declared.state.State.{State}
+use Rattle.gh_trace.specs.declared.steps.Call.{Call}
 
 -- a step that says the same in each program
 abbrev pub DecidesTaken : graph.PathStep → State → State → Bool → Type 0
 DecidesTaken s x y b = (P : Program) → IsTrue b ↔ Takes P s (state_of x) (state_of y)
 
 -- a call of the procedure of a number
-abbrev pub DecidesCall : Scene → ℕ → List Occ → List Expr → State → State → Bool → Type 0
-DecidesCall here n xs es x y b =
-    (f : Occ) → IsCallee (scene_program here) n f.name → IsTrue b ↔ Takes (scene_program here) (graph.called xs f es) (state_of x) (state_of y)
+abbrev pub DecidesCall : Scene → Call → State → State → Bool → Type 0
+DecidesCall here call x y b =
+    (f : Occ) → IsCallee (scene_program here) call.callee f.name →
+    IsTrue b ↔ Takes (scene_program here) (graph.called call.targets.now f call.arguments.now) (state_of x) (state_of y)
+
+-- a return of some values
+abbrev pub DecidesReturn : Scene → List Expr → State → State → Bool → Type 0
+DecidesReturn here es x y b = DecidesTaken (graph.answered (results_of (scene_procedure here)) es) x y b
 
 -- the loop of a number
 abbrev pub DecidesLoop : Scene → ℕ → State → State → Bool → Type 0
@@ -42,6 +50,10 @@ DecidesStep here r x y b =
 abbrev pub DecidesNext : Scene → PathStep → State → State → Bool → Type 0
 DecidesNext here r x y b =
     (s : graph.PathStep) → IsStep (scene_program here) (scene_procedure here) r s → IsTrue b ↔ LeadsTo (scene_program here) (scene_variables here) s (state_of x) (drawn y)
+
+-- the first heap of a path from a start meets the assertion
+abbrev pub IsMetAtStart : Scene → Start → Assertion → Type 0
+IsMetAtStart here at f = (a : graph.Start) → IsStart (scene_procedure here) at a → a.meets ≡ formula_of f
 
 -- the start of a path
 abbrev pub DecidesStart : Scene → Start → State → Bool → Type 0

@@ -1,5 +1,5 @@
 -- Parts of heaps that give way to others.
-use Rattle.std.specs.Prelude.{◌≡◌}
+use Rattle.std.specs.Prelude.{◌≡◌, ◌↔◌, Bool, IsTrue}
 use Rattle.gh_ast.specs.Plain.{Procedure, formula_of}
 use Rattle.gh_assert.specs.Heaps.{Heap}
 use Rattle.gh_assert.specs.Meaning.{Store, Meaning, HasPart, MeetsOneOf}
@@ -26,6 +26,10 @@ Stands p k other = GivesWay p (λ h. h ≡ other) k
 -- a part that meets what the procedure needs gives way to one that meets an alternative of what it gives
 abbrev pub IsAnswered : Procedure → Store → Heap → Heap → Type 0
 IsAnswered p s h k = Replaced p.needs s h (MeetsOneOf p.gives s) k
+
+-- b is true exactly where it does
+abbrev pub DecidesAnswer : Procedure → Store → Heap → Heap → Bool → Type 0
+DecidesAnswer p s h k b = IsTrue b ↔ IsAnswered p s h k
 
 -- the state's heap meets an alternative of what the procedure gives
 abbrev pub IsReturned : Procedure → State → Type 0

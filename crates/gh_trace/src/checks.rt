@@ -1,14 +1,14 @@
 //! Whether a state meets the start of a path, and whether it passes a check.
 
 ghost use Rattle.std.specs.Prelude.{◌≡◌, ◌↔◌, IfOk, IfNone, IfSome, IsTrue};
-ghost use Rattle.gh_ast.specs.Plain.{formula_of, procedure_of};
+ghost use Rattle.gh_ast.specs.Plain.{procedure_of};
 ghost use Rattle.gh_path.specs.Graphs as graph;
 ghost use Rattle.gh_path.specs.Kept.{IsStart};
 ghost use Rattle.gh_trace.specs.Parts.{IsReturned};
 ghost use Rattle.gh_assert.specs.Stores.{listed_names};
 ghost use Rattle.gh_trace.specs.Kept.{state_of};
 ghost use Rattle.gh_trace.specs.Scenes.{HasLoops, scene_procedure, scene_variables};
-ghost use Rattle.gh_trace.specs.Decisions.{DecidesStart, DecidesEntry, DecidesLoopCheck, DecidesCheck};
+ghost use Rattle.gh_trace.specs.Decisions.{IsMetAtStart, DecidesStart, DecidesEntry, DecidesLoopCheck, DecidesCheck};
 
 use crate::parts::{Part, has_part};
 use crate::scene::{Scene, procedure_at};
@@ -23,8 +23,7 @@ use std::alloc::{AllocError, Global};
 // What the first heap of a path meets.
 fn start_assertion<'t>(scene: Scene<'t>, start: Start) -> Option<&'t Assertion>
     requires { HasLoops scene }
-    ensures some { IfSome result (λ f. (a : graph.Start) →
-        IsStart (scene_procedure scene.entry) start a → a.meets ≡ formula_of f.now) }
+    ensures some { IfSome result (λ f. IsMetAtStart scene.entry start f.now) }
     ensures none { IfNone result ((a : graph.Start) → IsStart (scene_procedure scene.entry) start a → ⊥) }
 {
     match start {

@@ -4,7 +4,7 @@ ghost use Rattle.std.specs.Prelude.{◌↔◌, IfOk, IfSome, IfNone, IsTrue};
 ghost use Rattle.gh_ast.specs.Plain.{procedure_of};
 ghost use Rattle.gh_assert.specs.Heaps.{Heap};
 ghost use Rattle.gh_assert.specs.Stores.{store_of};
-ghost use Rattle.gh_trace.specs.Parts.{Meets, GivesWay, Stands, IsAnswered, HasMet};
+ghost use Rattle.gh_trace.specs.Parts.{Meets, GivesWay, Stands, DecidesAnswer, HasMet};
 
 use crate::heaps::outside_frame;
 use gh_assert::heap::Heap;
@@ -65,8 +65,7 @@ pub fn is_answered(
     before: &Heap,
     after: &Heap,
 ) -> Result<bool, AllocError>
-    ensures { let p = procedure_of procedure.now in
-        IfOk result (λ b. IsTrue b ↔ IsAnswered p (store_of inside.now) before.now after.now) }
+    ensures { IfOk result (DecidesAnswer (procedure_of procedure.now) (store_of inside.now) before.now after.now) }
 {
     let needed = Part {
         assertion: &procedure.needs,

@@ -3,6 +3,7 @@
 ghost use Rattle.std.specs.Prelude.{◌≡◌, ◌≤◌, IfErr, IfOk, OnOk, IsTrue, length};
 ghost use Rattle.gh_ast.specs.Plain.{program_of};
 ghost use Rattle.gh_assert.specs.Stores.{listed_names};
+ghost use Rattle.gh_path.specs.Admitted.{most_steps};
 ghost use Rattle.gh_trace.specs.Kept.{drawn_of, IsOne, IsRefuted, IsFailure};
 ghost use Rattle.gh_trace.specs.Scenes.{HasLoops, scene_variables};
 ghost use Rattle.gh_trace.specs.Decisions.{DecidesNext, IsRefutedIn, IsFailureIn};
@@ -80,7 +81,7 @@ fn walk(
     others: &[State],
 ) -> Result<(), ReplayError>
     requires loops { HasLoops scene }
-    requires few { length condition.now.steps.items ≤ 256 }
+    requires few { length condition.now.steps.items ≤ most_steps }
     requires over { listed_names first.now.store ≡ scene_variables scene }
     ensures refuted { OnOk result (IsRefutedIn scene.entry condition.now first.now others.now) }
     ensures failed { IfErr result (IsFailureIn scene.entry condition.now first.now others.now) }
@@ -113,7 +114,7 @@ pub fn replay(
     trace: &Trace,
 ) -> Result<(), ReplayError>
     requires one { IsOne (program_of typed.now) condition.now }
-    requires few { length condition.now.steps.items ≤ 256 }
+    requires few { length condition.now.steps.items ≤ most_steps }
     ensures refuted { OnOk result (IsRefuted (program_of typed.now) condition.now (drawn_of trace.now)) }
     ensures failed { IfErr result (IsFailure (program_of typed.now) condition.now (drawn_of trace.now)) }
 {

@@ -2,11 +2,10 @@
 
 ghost use Rattle.std.specs.Prelude.{◌≡◌, ◌↔◌, IfOk, IsTrue, true};
 ghost use Rattle.gh_ast.specs.declared.Occ.{Occ};
-ghost use Rattle.gh_ast.specs.Programs.{results_of};
 ghost use Rattle.gh_path.specs.Graphs as graph;
 ghost use Rattle.gh_trace.specs.Kept.{state_of, ListsAlike};
-ghost use Rattle.gh_trace.specs.Scenes.{HasLoops, scene_procedure};
-ghost use Rattle.gh_trace.specs.Decisions.{DecidesTaken, DecidesCall, DecidesLoop, DecidesStep};
+ghost use Rattle.gh_trace.specs.Scenes.{HasLoops};
+ghost use Rattle.gh_trace.specs.Decisions.{DecidesTaken, DecidesCall, DecidesReturn, DecidesLoop, DecidesStep};
 
 use crate::heaps::is_same_outside;
 use crate::parts::{Part, is_answered, is_replaced};
@@ -157,20 +156,31 @@ pub fn frees(alloc: Global, at: &Occ, before: &State, after: &State) -> Result<b
     is_same_outside(alloc, &before.heap, &[place], &after.heap, &[])
 }
 
+// A call of the procedure of a number.
+#[derive(Clone, Copy)]
+struct Call<'t> {
+    targets: &'t [Occ],
+    callee: u16,
+    arguments: &'t [Expr],
+}
+
 // A part that meets what the callee needs gives way to one that meets an alternative of what it gives,
 // and the targets have its results.
 fn calls(
     alloc: Global,
     scene: Scene<'_>,
-    targets: &[Occ],
-    callee: u16,
-    arguments: &[Expr],
+    call: Call<'_>,
     before: &State,
     after: &State,
 ) -> Result<bool, AllocError>
     requires { ListsAlike before.now after.now }
-    ensures { IfOk result (DecidesCall scene.entry callee targets.now arguments.now before.now after.now) }
+    ensures { IfOk result (DecidesCall scene.entry call.entry before.now after.now) }
 {
+    let Call {
+        targets,
+        callee,
+        arguments,
+    } = call;
     let Some(callee) = procedure_at(scene.typed, callee) else {
         return Ok(false);
     };
@@ -232,8 +242,7 @@ fn answers(
     after: &State,
 ) -> Result<bool, AllocError>
     requires { ListsAlike before.now after.now }
-    ensures { IfOk result (
-        DecidesTaken (graph.answered (results_of (scene_procedure scene.entry)) exprs.now) before.now after.now) }
+    ensures { IfOk result (DecidesReturn scene.entry exprs.now before.now after.now) }
 {
     let Some(given) = values_of(alloc, &before.store, &before.heap, exprs)? else {
         return Ok(false);
@@ -276,15 +285,14 @@ pub fn leads(
             targets,
             callee,
             arguments,
-        } => calls(
-            alloc,
-            scene,
-            targets.as_slice(),
-            *callee,
-            arguments.as_slice(),
-            before,
-            after,
-        ),
+        } => {
+            let call = Call {
+                targets: targets.as_slice(),
+                callee: *callee,
+                arguments: arguments.as_slice(),
+            };
+            calls(alloc, scene, call, before, after)
+        }
         PathStep::Loop { number } => goes_around(alloc, scene, *number, before, after),
         PathStep::Return { values } => answers(alloc, scene, values.as_slice(), before, after),
     }

@@ -4,9 +4,9 @@ use Rattle.gh_path.specs.Admitted.{HasManyPaths}
 use Rattle.gh_path.proofs.PassedLemmas.{IsWide, paths_told, NoneBefore, first_limit, none_of}
 use Rattle.gh_path.proofs.limits.paths_limit.Goals as goal
 
-pub returns-then-ahead-gt1024 : goal.returns-then-ahead-gt1024
-returns-then-ahead-gt1024 c =
-    first_limit HasManyPaths IsWide paths_told c.args.procedures.now c.args.aheads.now c.requires c.loop-place.place c.index-procedures-place.result _ 4 1025 _ (omega arith) c.loop-place.invariant c.if-ahead-gt1024.true refl refl refl
+pub returns-then-ahead-gt-MOST_CONDITIONS : goal.returns-then-ahead-gt-MOST_CONDITIONS
+returns-then-ahead-gt-MOST_CONDITIONS c =
+    first_limit HasManyPaths IsWide paths_told c.args.procedures.now c.args.aheads.now c.requires c.loop-place.place c.index-procedures-place.result _ 4 _ _ (omega arith) c.loop-place.invariant c.if-ahead-gt-MOST_CONDITIONS.true refl refl refl
 
 pub returns : goal.returns
 returns c =

@@ -4,9 +4,9 @@ use Rattle.gh_path.specs.Admitted.{HasManySteps}
 use Rattle.gh_path.proofs.PassedLemmas.{IsLong, steps_told, NoneBefore, first_limit, none_of}
 use Rattle.gh_path.proofs.limits.steps_limit.Goals as goal
 
-pub returns-then-ahead-gt257 : goal.returns-then-ahead-gt257
-returns-then-ahead-gt257 c =
-    first_limit HasManySteps IsLong steps_told c.args.procedures.now c.args.aheads.now c.requires c.loop-place.place c.index-procedures-place.result _ 5 257 _ (omega arith) c.loop-place.invariant c.if-ahead-gt257.true refl refl refl
+pub returns-then-ahead : goal.returns-then-ahead
+returns-then-ahead c =
+    first_limit HasManySteps IsLong steps_told c.args.procedures.now c.args.aheads.now c.requires c.loop-place.place c.index-procedures-place.result _ 5 _ _ (omega arith) c.loop-place.invariant c.if-ahead.true refl refl refl
 
 pub returns : goal.returns
 returns c =

@@ -13,30 +13,30 @@ pub returns-in_default-2 : goal.returns-in_default-2
 returns-in_default-2 c f callee =
     let s = store_of c.args.before.now.store in
     let h = c.args.before.now.heap in
-    let none : Any (λ e. result s h e ≡ None) c.args.arguments.now = subst (λ o. IfNone o (Any (λ e. result s h e ≡ None) c.args.arguments.now)) c.in_default-2.is c.in_ok-given.ensures.unread in
-    (λ t. absurd cc, λ takes. absurd (not_given s h c.args.arguments.now takes.1 none takes.3))
+    let none : Any (λ e. result s h e ≡ None) c.args.call.arguments.now = subst (λ o. IfNone o (Any (λ e. result s h e ≡ None) c.args.call.arguments.now)) c.in_default-2.is c.in_ok-given.ensures.unread in
+    (λ t. absurd cc, λ takes. absurd (not_given s h c.args.call.arguments.now takes.1 none takes.3))
 
 pub returns-then-as_slice : goal.returns-then-as_slice
 returns-then-as_slice c f callee =
     let P = program_of c.args.scene.typed.now in
     let q = procedure_of c.in-Some.callee.now in
     let x = state_of c.args.before.now in
-    let es = c.args.arguments.now in
-    let call : IsCall P c.args.callee f q es x c.in-Some-2.given.items = record {
+    let es = c.args.call.arguments.now in
+    let call : IsCall P c.args.call.callee f q es x c.in-Some-2.given.items = record {
       at = c.in-Some.ensures.some;
       callee = callee;
       gives = subst (λ o. IfSome o (λ vs. Give x.store x.heap es vs.items)) c.in-Some-2.is c.in_ok-given.ensures.all;
     } in (
       λ t. absurd cc,
       λ takes. absurd (c.if-as_slice.true
-          (ap length c.as_slice.ensures.value ∙ count_called P c.args.callee f q c.args.targets.now es x (state_of c.args.after.now) c.in-Some-2.given.items call takes ∙ sym (ap length c.as_slice-2.ensures.value))),
+          (ap length c.as_slice.ensures.value ∙ count_called P c.args.call.callee f q c.args.call.targets.now es x (state_of c.args.after.now) c.in-Some-2.given.items call takes ∙ sym (ap length c.as_slice-2.ensures.value))),
     )
 
 pub returns-then-targets-as_slice : goal.returns-then-targets-as_slice
 returns-then-targets-as_slice c f callee = (
   λ t. absurd cc,
   λ takes. absurd (c.if-targets-as_slice.true
-      (count_targets (program_of c.args.scene.typed.now) c.args.callee f (procedure_of c.in-Some.callee.now) c.args.targets.now c.args.arguments.now (state_of c.args.before.now) (state_of c.args.after.now) c.in-Some.ensures.some callee takes
+      (count_targets (program_of c.args.scene.typed.now) c.args.call.callee f (procedure_of c.in-Some.callee.now) c.args.call.targets.now c.args.call.arguments.now (state_of c.args.before.now) (state_of c.args.after.now) c.in-Some.ensures.some callee takes
       ∙ sym (ap length c.as_slice-3.ensures.value))),
 )
 
@@ -46,12 +46,12 @@ returns c =
     let q = procedure_of c.in-Some.callee.now in
     let x = state_of c.args.before.now in
     let y = state_of c.args.after.now in
-    let es = c.args.arguments.now in
-    let xs = c.args.targets.now in
+    let es = c.args.call.arguments.now in
+    let xs = c.args.call.targets.now in
     let gives : Give x.store x.heap es c.in-Some-2.given.items = subst (λ o. IfSome o (λ vs. Give x.store x.heap es vs.items)) c.in-Some-2.is c.in_ok-given.ensures.all in
     IfOk-weaker c.is_answered.result _ _
     (λ b w f callee.
-    let call : IsCall P c.args.callee f q es x c.as_slice-4.result.now = record { at = c.in-Some.ensures.some; callee = callee; gives = subst (λ vs. Give x.store x.heap es vs) (sym c.as_slice-4.ensures.value) gives } in
-    let r = calls_where P c.args.callee f q xs es x y c.as_slice-4.result.now (store_of c.in_ok-inside.inside) call c.in-Some.ensures.own c.in_ok-inside.ensures.given
+    let call : IsCall P c.args.call.callee f q es x c.as_slice-4.result.now = record { at = c.in-Some.ensures.some; callee = callee; gives = subst (λ vs. Give x.store x.heap es vs) (sym c.as_slice-4.ensures.value) gives } in
+    let r = calls_where P c.args.call.callee f q xs es x y c.as_slice-4.result.now (store_of c.in_ok-inside.inside) call c.in-Some.ensures.own c.in_ok-inside.ensures.given
     (c.in_ok-inside.ensures.results ∙ c.as_slice-5.ensures.value ∙ c.in_ok-results.ensures) (c.keeps.ensures.0 c.if-not-keeps.false) in
     (λ t. r.0 (w.0 t), λ takes. w.1 (r.1 takes))) c.is_answered.ensures
