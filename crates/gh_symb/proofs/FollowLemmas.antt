@@ -16,7 +16,7 @@ use Rattle.gh_symb.specs.Encodings.{Each}
 use Rattle.gh_symb.specs.Fitting.{EncodesBinding, EncodesUnder, EncodesStep, EncodesCheck}
 use Rattle.gh_symb.specs.Walked.{IsWalked}
 use Rattle.gh_symb.specs.Phases.{under_bindings, step_done, step_encoding, IsUsed, learned, both}
-use Rattle.gh_symb.specs.Steps.{EndsWith, IsCount, IsStepped}
+use Rattle.gh_symb.specs.Steps.{EndsWith, IsCount}
 use Rattle.gh_symb.specs.StepEncodings.{IsFinished, IsStepEncoding}
 use Rattle.gh_symb.specs.Remaining.{Remains}
 use Rattle.gh_symb.specs.Following.{met, known, begins, first_uses, Follows, Followed}
@@ -31,7 +31,7 @@ each_more R (x ∷ as') [] a b all one = absurd all
 each_more R (x ∷ as') (y ∷ bs) a b all one = (all.0, each_more R as' bs a b all.1 one)
 
 -- a step is its uses, and then the rest
-done_walked : (P : Program) (xs : List Name) (p : PathStep) (s : Terms) → step_done P xs p (step_used p s) ≡ step_walked P xs p s
+pub done_walked : (P : Program) (xs : List Name) (p : PathStep) (s : Terms) → step_done P xs p (step_used p s) ≡ step_walked P xs p s
 done_walked P xs (accessed o) s = refl
 done_walked P xs (assume l e r way) s = refl
 done_walked P xs (assigned x e) s = refl
@@ -42,11 +42,7 @@ done_walked P xs (called ys f es) s = refl
 done_walked P xs (looped l) s = refl
 done_walked P xs (answered ys es) s = refl
 
--- a step whose variables are used and which is then done is walked
-pub stepped : (P : Program) (p : Procedure) (r : kept_step.PathStep) (s t u : Terms) → IsUsed P p r s t → IsFinished P p r t u → IsStepped P p r s u
-stepped P p r s t u uses does = λ step is. does step is ∙ ap (step_done P (variable_names p) step) (uses step is) ∙ done_walked P (variable_names p) step s
-
-encoding_is : (P : Program) (xs : List Name) (p : PathStep) (s t : Terms) → t ≡ step_used p s → t.version ≡ s.version → step_encoding P xs p t ≡ term_step P xs p s
+pub encoding_is : (P : Program) (xs : List Name) (p : PathStep) (s t : Terms) → t ≡ step_used p s → t.version ≡ s.version → step_encoding P xs p t ≡ term_step P xs p s
 encoding_is P xs (accessed o) s t e v = ap (step_encoding P xs (accessed o)) e
 encoding_is P xs (assume l i r way) s t e v = ap (step_encoding P xs (assume l i r way)) e
 encoding_is P xs (assigned x i) s t e v = refl

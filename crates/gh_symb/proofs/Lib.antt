@@ -12,6 +12,7 @@ pub mod BindingLemmas
 pub mod EncodingLemmas
 pub mod KindLemmas
 pub mod SoundLemmas
+pub mod StepParts
 pub mod StepsInside
 pub mod EncodedLemmas
 pub mod StatesInside

@@ -8,9 +8,9 @@ use Rattle.gh_path.specs.Kept.{IsStep, IsKind, IsStart}
 use Rattle.gh_path.specs.declared.condition.PathStep as kept_step
 use Rattle.gh_path.specs.declared.condition.Start as kept_start
 use Rattle.gh_path.specs.declared.condition.CheckKind as kept_kind
-use Rattle.gh_path.specs.Terms.{Bindings, bound, all_bound, Terms, terms, with_value, term_of, followed, expr_term, exprs_terms, walked, moved_on, rebound, renewed, some_assigns, callee_in, call_walked}
+use Rattle.gh_path.specs.Terms.{Bindings, bound, all_bound, Terms, terms, with_value, term_of, followed, expr_term, exprs_terms, walked, moved_on, rebound, renewed, some_assigns, callee_in, call_walked, step_walked}
 use Rattle.gh_symb.specs.Symbolic as plain
-use Rattle.gh_symb.specs.Symbolic.{under, call_parts, step_used, check_used, either_term}
+use Rattle.gh_symb.specs.Symbolic.{under, call_parts, term_step, step_used, check_used, either_term}
 use Rattle.gh_symb.specs.Fitting.{EncodesUnder}
 use Rattle.gh_symb.specs.declared.over_terms.Bound.{Bound}
 
@@ -42,6 +42,11 @@ step_encoding P xs (path.called ys f es) t = call_parts (callee_in P.procedures 
 step_encoding P xs (path.looped l) t =
     plain.parts (under_bindings l.invariant t.bindings t.version) (under l.invariant (renewed (filter (some_assigns l.body) xs) (moved_on t)) ∷ [])
 step_encoding P xs (path.answered ys es) t = plain.same
+
+-- both parts, one after the other, are the whole step
+abbrev pub StepsHaveTwoParts : Type 0
+StepsHaveTwoParts = (P : Program) (xs : List Name) (p : path.PathStep) (s : Terms) → let t = step_used p s in
+    (step_walked P xs p s ≡ step_done P xs p t) × (term_step P xs p s ≡ step_encoding P xs p t)
 
 -- the variables of a kept step are used
 abbrev pub IsUsed : Program → Procedure → kept_step.PathStep → Terms → Terms → Type 0

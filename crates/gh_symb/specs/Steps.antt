@@ -15,7 +15,7 @@ use Rattle.gh_path.specs.declared.condition.PathStep as kept_step
 use Rattle.gh_path.specs.declared.condition.CheckKind as kept_kind
 use Rattle.gh_path.specs.declared.condition.PathStep.TheVariants as step
 use Rattle.gh_base.specs.declared.place.Span.{Span}
-use Rattle.gh_path.specs.Terms.{Kind, Terms, terms, with_value, bound, exprs_used, exprs_terms, rebound, renewed, some_assigns, bound_inside, step_walked, check_walked, walked, terms_of, versions_of}
+use Rattle.gh_path.specs.Terms.{Kind, Terms, terms, with_value, bound, expr_used, expr_term, exprs_used, exprs_terms, rebound, renewed, some_assigns, bound_inside, step_walked, check_walked, walked, terms_of, versions_of}
 use Rattle.gh_symb.specs.declared.count.Counted.{Counted}
 use Rattle.gh_symb.specs.declared.count.Counted.TheVariants.{Within, ManyTerms}
 
@@ -34,6 +34,10 @@ all_renewed p body = renewed (filter (some_assigns (statements_view body)) (vari
 -- a variable gets the place of a new cell, whose content is a new value too, in the next version
 abbrev pub cell_made : Name → Terms → Terms
 cell_made x s = terms (with_value (with_value s.kinds)) (bound s.bindings x (length s.kinds)) (s.version + 1)
+
+-- a variable gets the value of an expression, which is used
+abbrev pub value_set : Name → Expr → Terms → Terms
+value_set x e s = let t = expr_used e s in rebound t (bound t.bindings x (expr_term e t))
 
 -- the terms after a step that is kept
 abbrev pub IsStepped : Program → Procedure → kept_step.PathStep → Terms → Terms → Type 0

@@ -1,7 +1,8 @@
 -- Terms and what is bound to them, as lists.
 use Rattle.std.specs.Prelude.{◌≡◌, ◌≢◌, ℕ, ◌+◌, ◌<◌, ◌≤◌, List, [], ◌∷◌, length, slice_index_or, count_by, Contains, AllPairs}
+use Rattle.gh_ast.specs.declared.Operand.{Operand}
 use Rattle.gh_ast.specs.Programs.{Name}
-use Rattle.gh_path.specs.Terms.{Kind, null, value, next, is_value, Bindings, unbound, bound, used, followed, Terms, terms}
+use Rattle.gh_path.specs.Terms.{Kind, null, value, next, is_value, Bindings, unbound, bound, used, followed, operand_term, Terms, terms}
 use Rattle.gh_symb.specs.declared.scope.Entry.{Entry}
 use Rattle.gh_symb.specs.declared.kinds.Kind as kept
 use Rattle.gh_symb.specs.declared.kinds.Kind.TheVariants.{Null, Value, Next}
@@ -54,6 +55,10 @@ pub record IsLastAt (es : List Entry) (name : Name) (i : ℕ) : Type 0 where
 
 abbrev pub state : List Kind → Bound → ℕ → Terms
 state ks es i = terms ks (bound_by es) i
+
+-- the term of an operand, whatever the kinds and the version are
+abbrev pub IsOperandTerm : Operand → Bound → ℕ → Type 0
+IsOperandTerm o es term = (ks : List Kind) (i : ℕ) → term ≡ operand_term o (state ks es i)
 
 -- a walk in version i: it leads from the terms before it to f of them
 abbrev pub Walks : (Terms → Terms) → List Kind → Bound → List Kind → Bound → ℕ → Type 0

@@ -4,7 +4,7 @@ ghost use Rattle.std.specs.Prelude.{◌≡◌, ◌+◌, ◌<◌, ◌≤◌, IfOk
 ghost use Rattle.gh_path.specs.Terms.{expr_term, term_of};
 ghost use Rattle.gh_path.specs.declared.condition.PathStep.TheVariants.{Loop as OnLoop};
 ghost use Rattle.gh_symb.specs.Fitting.{EncodesStep, IsTermOf, JoinsParts};
-ghost use Rattle.gh_symb.specs.Steps.{cell_made, ChangesCell, KeepsHeap};
+ghost use Rattle.gh_symb.specs.Steps.{cell_made, value_set, ChangesCell, KeepsHeap};
 ghost use Rattle.gh_symb.specs.Walkers.{call_done, call_read, cell_read, terms_at, Goes};
 ghost use Rattle.gh_symb.specs.Walkers.{DoesAnywhere, DoesCall, DoesLoop, DoesStep};
 ghost use Rattle.gh_symb.specs.Walkers.{ReadsAnywhere, ReadsCall, ReadsLoop, ReadsStep, WalksStep};
@@ -262,7 +262,16 @@ impl<'a> Walker<'a> {
         }
     }
 
-    /// Walks over a step.
+    /// Walks over an assignment to a variable.
+    fn walk_set(&mut self, name: &'a Name, value: &'a Expr) -> Result<(), AllocError>
+        ensures set { OnOk result (Goes (value_set name.now value.now) self.old self.new) }
+        ensures version { OnOk result (self.new.version ≡ self.old.version) }
+    {
+        let term = self.scope.used_expr(&mut self.kinds, value, self.version)?;
+        self.scope.bind(name, term)
+    }
+
+    /// Walks over a step. Where that only sets a variable or compares values, nothing is encoded.
     pub fn walk_step(
         &mut self,
         alloc: Global,
@@ -273,8 +282,14 @@ impl<'a> Walker<'a> {
         ensures walked { OnOk result (WalksStep setting.entry step.now self.old self.new) }
         ensures next { OnOk result (self.new.version ≤ self.old.version + 1) }
     {
-        self.use_step(setting, step)?;
-        self.encode_step(alloc, setting, step)?;
-        Ok(())
+        match step {
+            PathStep::Set { target, value } => self.walk_set(&target.name, value),
+            PathStep::Assume { .. } => self.use_step(setting, step),
+            _ => {
+                self.use_step(setting, step)?;
+                self.encode_step(alloc, setting, step)?;
+                Ok(())
+            }
+        }
     }
 }

@@ -151,6 +151,7 @@ impl Kinds {
     {
         next_place(self.kinds.as_slice(), version, of).unwrap_or(self.kinds.len())
     }
+
     /// The kinds as they are encoded.
     pub fn encode(&self, alloc: Global) -> Result<TermList, AllocError>
         requires few { length self.now ≤ most_terms }

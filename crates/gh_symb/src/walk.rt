@@ -6,7 +6,7 @@ ghost use Rattle.gh_ast.specs.Programs.{names};
 ghost use Rattle.gh_path.specs.Terms.{Kind, operand_used, operand_term, expr_used, expr_term};
 ghost use Rattle.gh_path.specs.Terms.{exprs_used, exprs_terms, test_walked};
 ghost use Rattle.gh_symb.specs.Reads.{all_tests_of, all_walked_of, walked_of};
-ghost use Rattle.gh_symb.specs.Tables.{bound_by, state, Visits, Walks, WalksAlways};
+ghost use Rattle.gh_symb.specs.Tables.{bound_by, state, IsOperandTerm, Visits, Walks, WalksAlways};
 
 use crate::kinds::Kinds;
 use crate::scope::Scope;
@@ -36,6 +36,36 @@ impl<'a> Scope<'a> {
         match operand {
             Operand::Null { .. } => Ok(()),
             Operand::Var(occ) => self.use_name(kinds, &occ.name),
+        }
+    }
+
+    /// An operand is used, and its term is given.
+    fn used_operand(&mut self, kinds: &mut Kinds, operand: &'a Operand) -> Result<usize, AllocError>
+        ensures used { IfOk result (λ _. WalksAlways (operand_used operand.now) kinds.old self.old kinds.new self.new) }
+        ensures term { IfOk result (λ term. IsOperandTerm operand.now self.new term) }
+    {
+        match operand {
+            Operand::Null { .. } => Ok(0),
+            Operand::Var(occ) => self.used_term(kinds, &occ.name),
+        }
+    }
+
+    /// An expression is used, and its term is given.
+    pub fn used_expr(
+        &mut self,
+        kinds: &mut Kinds,
+        expr: &'a Expr,
+        version: usize,
+    ) -> Result<usize, AllocError>
+        ensures used { IfOk result (λ _. Walks (expr_used expr.now) kinds.old self.old kinds.new self.new version) }
+        ensures term { IfOk result (λ term. term ≡ expr_term expr.now (state kinds.new self.new version)) }
+    {
+        match expr {
+            Expr::Plain(operand) => self.used_operand(kinds, operand),
+            Expr::Read(occ) => {
+                self.follow(kinds, &occ.name, version)?;
+                Ok(kinds.next(version, self.term(&occ.name)))
+            }
         }
     }
 
