@@ -4,15 +4,28 @@ use crate::early::Least;
 use crate::lemmas::Segment;
 use crate::shape::{Code, Shape};
 use crate::structure::Made;
-use crate::table::{at, byte, put, small};
+use crate::table::{at, bit, byte, put, small};
 use std::alloc::{AllocError, Global};
 
-/// Clauses that are to be tried, the last one first.
+/// Clauses that are to be tried, the last one first. What is said of a segment has its number.
 #[derive(Debug, Drop)]
 pub(crate) struct Candidates {
     codes: Vec<Code>,
-    // Where each clause ends.
+    // Where each clause ends, and of which segment it speaks.
     ends: Vec<u32>,
+    segments: Vec<Option<u8>>,
+    // That of the clause that was taken off last.
+    tried: Option<u8>,
+    // A bit for each segment of which a structure made a clause false.
+    changed: u32,
+}
+
+// The bit of a segment.
+fn mark(segment: Option<u8>) -> u32 {
+    match segment {
+        Some(number) => bit(number),
+        None => 0,
+    }
 }
 
 impl Candidates {
@@ -21,6 +34,9 @@ impl Candidates {
         Candidates {
             codes: Vec::new(alloc),
             ends: Vec::new(alloc),
+            segments: Vec::new(alloc),
+            tried: None,
+            changed: 0,
         }
     }
 
@@ -58,6 +74,8 @@ impl Candidates {
         let start = self.start(count - 1);
         self.codes.truncate(start);
         self.ends.truncate(count - 1);
+        self.tried = self.segment(count - 1);
+        self.segments.truncate(count - 1);
         Ok(true)
     }
 
@@ -66,19 +84,44 @@ impl Candidates {
         self.ends.is_empty()
     }
 
-    /// Keeps the clauses that a structure makes true.
+    // Notes the segments of which a structure makes a clause false, that of the clause that was tried among them.
+    fn note_changed(&mut self, shape: &Shape, least: &Least, made: &Made) {
+        self.changed |= mark(self.tried);
+        let mut start = 0;
+        for number in 0..self.ends.len() {
+            let end = self.end(number);
+            let segment = mark(self.segment(number));
+            if segment & !self.changed != 0 && !self.is_true(start, end, shape, least, made) {
+                self.changed |= segment;
+            }
+            start = end;
+        }
+    }
+
+    // The number of the segment of which a clause speaks.
+    fn segment(&self, number: usize) -> Option<u8> {
+        at(self.segments.as_slice(), number, None)
+    }
+
+    /// Keeps the clauses that a structure makes true, but for those of a segment of which it makes another false: that
+    /// segment isn't as it was.
     pub fn keep_true(&mut self, shape: &Shape, least: &Least, made: &Made) {
+        self.note_changed(shape, least, made);
         let (mut kept, mut length, mut start): (usize, usize, usize) = (0, 0, 0);
         for number in 0..self.ends.len() {
             let end = self.end(number);
-            if self.is_true(start, end, shape, least, made) {
+            let segment = self.segment(number);
+            let is_changed = mark(segment) & self.changed != 0;
+            if !is_changed && self.is_true(start, end, shape, least, made) {
                 length = self.shift(start, end, length);
+                put(self.segments.as_mut_slice(), kept, segment);
                 put(self.ends.as_mut_slice(), kept, small(length));
                 kept = kept.wrapping_add(1);
             }
             start = end;
         }
         self.ends.truncate(kept);
+        self.segments.truncate(kept);
         self.codes.truncate(length);
     }
 
@@ -105,28 +148,31 @@ impl Candidates {
     }
 
     // Adds a clause.
-    fn push(&mut self, codes: &[Code]) -> Result<(), AllocError> {
+    fn push(&mut self, codes: &[Code], segment: Option<u8>) -> Result<(), AllocError> {
         self.codes.extend_from_slice(codes)?;
+        self.segments.push(segment)?;
         self.ends.push(small(self.codes.len()))?;
         Ok(())
     }
 
-    /// Adds the lemmas that terms stand on a segment in a version as in the one before. Those added last are tried
-    /// first: that it is there, then that terms stay on it, then that others don't come to it.
+    /// Adds the lemmas that terms stand on a segment of a number in a version as in the one before. Those added last are
+    /// tried first: that it is there, then that terms stay on it, then that others don't come to it.
     pub fn push_segment(
         &mut self,
         shape: &Shape,
         version: u8,
         segment: Segment,
+        number: u8,
     ) -> Result<(), AllocError> {
-        self.push_same(shape, version, segment, false)?;
-        self.push_same(shape, version, segment, true)?;
+        self.push_same(shape, version, segment, number, false)?;
+        self.push_same(shape, version, segment, number, true)?;
         let Segment { x, z } = segment;
         let (here, before) = (
             shape.btwn(version, x, z, z),
             shape.btwn(version.wrapping_sub(1), x, z, z),
         );
-        self.push(&[Code::new(here, true), Code::new(before, false)])
+        let codes = [Code::new(here, true), Code::new(before, false)];
+        self.push(codes.as_slice(), Some(number))
     }
 
     // Adds the lemmas of each term on a segment, that it stays, or that it doesn't come.
@@ -135,6 +181,7 @@ impl Candidates {
         shape: &Shape,
         version: u8,
         segment: Segment,
+        number: u8,
         stays: bool,
     ) -> Result<(), AllocError> {
         let Segment { x, z } = segment;
@@ -143,7 +190,8 @@ impl Candidates {
             if y != x && y != z {
                 let here = shape.btwn(version, x, y, z);
                 let before = shape.btwn(version.wrapping_sub(1), x, y, z);
-                self.push(&[Code::new(here, stays), Code::new(before, !stays)])?;
+                let codes = [Code::new(here, stays), Code::new(before, !stays)];
+                self.push(codes.as_slice(), Some(number))?;
             }
         }
         Ok(())
@@ -181,7 +229,7 @@ impl Candidates {
                     Code::new(shape.equality(y, other.z), true),
                 ];
                 let count = if segment.z == other.z { 3 } else { 4 };
-                self.push(&codes[..count])?;
+                self.push(&codes[..count], None)?;
             }
         }
         Ok(())
@@ -201,6 +249,7 @@ impl Candidates {
             self.codes.push(Code::new(within, true))?;
         }
         self.ends.push(small(self.codes.len()))?;
+        self.segments.push(None)?;
         Ok(())
     }
 }

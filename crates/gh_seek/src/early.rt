@@ -230,18 +230,19 @@ fn add_at(
     Ok(None)
 }
 
-// The terms for a plan's free variable over which at most one literal isn't false and none is true.
+// The terms for a plan's free variable over which at most one literal isn't false and none is true; a negative one that
+// is open is of an atom that stands in a clause.
 fn unit_terms(state: &State, plan: &Plan, mask: u32, version: u8, tuple: &[u8; 4]) -> u32 {
     let (mut open, mut all_false, mut one_left) = (mask, u32::MAX, 0);
     for read in plan.reads.as_slice() {
-        let (right, wrong) = if read.positive {
-            (&state.yes, &state.no)
-        } else {
-            (&state.no, &state.yes)
-        };
         let place = read.reading.place(version, tuple);
-        open &= !right.word(place);
-        let gone = wrong.word(place);
+        let (yes, no) = (state.yes.word(place), state.no.word(place));
+        let gone = if read.positive { no } else { yes };
+        open &= if read.positive {
+            !yes
+        } else {
+            !no & (yes | state.order.needed_word(place))
+        };
         one_left = one_left & gone | all_false & !gone;
         all_false &= gone;
         if open & (one_left | all_false) == 0 {

@@ -3,12 +3,13 @@
 //! one of them. So a version is told by its segments, and what is decided for one needs no other but the one before.
 //!
 //! Most lists stay as they were beside a write or a call. A search that meets this again and again, below decisions on
-//! later versions, takes long. Structures that refute lemmas spare most tries.
+//! later versions, takes long. Structures that refute lemmas spare most tries: a segment of which one makes a lemma
+//! false is given up in that version. In a try the cases of the lemma are decided first.
 
 use crate::candidates::Candidates;
 use crate::clauses::Origin;
 use crate::search::{End, Searcher};
-use crate::shape::{Code, Kind};
+use crate::shape::{Code, Kind, Parts};
 use crate::table::{at, bit, byte, cell, put};
 use std::alloc::AllocError;
 
@@ -78,8 +79,8 @@ fn there_in(
 fn kept(searcher: &Searcher, segments: &[Segment], version: u8) -> Result<Candidates, AllocError> {
     let mut found = Candidates::new(searcher.state.alloc);
     let there = there_in(searcher, segments, version.wrapping_sub(1))?;
-    for segment in there.as_slice() {
-        found.push_segment(&searcher.state.shape, version, *segment)?;
+    for index in 0..there.len() {
+        found.push_segment(&searcher.state.shape, version, there[index], byte(index))?;
     }
     Ok(found)
 }
@@ -102,6 +103,34 @@ fn parted(
     Ok(found)
 }
 
+// Sets the cases by which a lemma is shown: for each of its segments which terms are the one that it names, and which
+// come before that one.
+fn set_cases(searcher: &mut Searcher, wanted: &[Code]) -> Result<(), AllocError> {
+    searcher.cases.clear();
+    for code in wanted {
+        let parts = searcher.state.shape.parts(code.atom());
+        if parts.kind == Kind::Btwn {
+            push_cases(searcher, parts)?;
+        }
+    }
+    Ok(())
+}
+
+// Adds the cases on a term of a segment.
+fn push_cases(searcher: &mut Searcher, parts: Parts) -> Result<(), AllocError> {
+    let [x, y, _] = parts.terms;
+    for term in 0..searcher.state.shape.terms {
+        let (shape, other) = (&searcher.state.shape, byte(term));
+        let (same, before) = (
+            shape.equality(other, y),
+            shape.btwn(parts.version, x, other, y),
+        );
+        searcher.push_case(same)?;
+        searcher.push_case(before)?;
+    }
+    Ok(())
+}
+
 // Tries the lemmas. Answers a clause that is false at level 0, if one came to be.
 fn try_all(searcher: &mut Searcher, mut all: Candidates) -> Result<Option<u32>, AllocError> {
     if all.is_empty() {
@@ -119,7 +148,9 @@ fn try_all(searcher: &mut Searcher, mut all: Candidates) -> Result<Option<u32>, 
         if !all.pop(&mut wanted)? {
             break;
         }
+        set_cases(searcher, wanted.as_slice())?;
     }
+    searcher.cases.clear();
     searcher.cut(0)?;
     Ok(None)
 }

@@ -3,6 +3,7 @@
 use crate::shape::{Code, Kind, Shape};
 use crate::table::{at, put, small};
 use crate::trail::Trail;
+use crate::words::{Layout, Words};
 use std::alloc::{AllocError, Global};
 
 // What a conflict adds to a score at first, and past which sum all scores are made smaller, by how many bits.
@@ -25,6 +26,8 @@ pub(crate) struct Order {
     spots: Vec<u32>,
     needed: Vec<bool>,
     places: Vec<u32>,
+    // The words of the atoms that stand in a clause.
+    words: Words,
     // Before the place `next` of the row no atom of the window is open that has no score and isn't in the heap.
     row: Vec<u32>,
     next: usize,
@@ -37,12 +40,13 @@ pub(crate) struct Order {
 
 impl Order {
     /// No atom stands in a clause, and all versions are in the window.
-    pub fn new(alloc: Global, atoms: usize) -> Result<Order, AllocError> {
+    pub fn new(alloc: Global, atoms: usize, layout: Layout) -> Result<Order, AllocError> {
         Ok(Order {
             scores: vec![in alloc; 0; atoms]?,
             spots: vec![in alloc; 0; atoms]?,
             needed: vec![in alloc; false; atoms]?,
             places: vec![in alloc; 0; atoms]?,
+            words: Words::new(alloc, layout)?,
             row: Vec::new(alloc),
             next: 0,
             heap: Vec::new(alloc),
@@ -95,6 +99,7 @@ impl Order {
         for rank in 0..shape.count {
             let atom = shape.rank(rank);
             if at(self.needed.as_slice(), atom, false) {
+                self.words.turn(shape.parts(atom));
                 self.row.push(small(atom))?;
                 put(self.places.as_mut_slice(), atom, small(self.row.len()));
             }
@@ -108,6 +113,7 @@ impl Order {
             return Ok(());
         }
         put(self.needed.as_mut_slice(), atom, true);
+        self.words.turn(shape.parts(atom));
         self.entered.push(small(atom))?;
         self.offer(shape, atom)
     }
@@ -115,6 +121,11 @@ impl Order {
     /// Whether an atom stands in a clause.
     pub fn is_needed(&self, atom: usize) -> bool {
         at(self.needed.as_slice(), atom, true)
+    }
+
+    /// The word of the atoms that stand in a clause, at a place.
+    pub fn needed_word(&self, place: usize) -> u32 {
+        self.words.word(place)
     }
 
     // The score of an atom.

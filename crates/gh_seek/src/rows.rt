@@ -167,13 +167,16 @@ pub(crate) struct Plan {
     sources: [u8; 4],
     // By place of the trigger: the first that has the same variable.
     same: [u8; 3],
+    // Whether two places have the same variable.
+    has_same: bool,
 }
 
 impl Plan {
     /// The tuple of variables that the trigger's three terms give, with 0 after them, if equal places have equal terms.
+    #[inline]
     pub fn tuple(&self, terms: &[u8; 4]) -> Option<[u8; 4]> {
         let term = |place: u8| terms[(place & 3) as usize];
-        if term(self.same[1]) != terms[1] || term(self.same[2]) != terms[2] {
+        if self.has_same && (term(self.same[1]) != terms[1] || term(self.same[2]) != terms[2]) {
             return None;
         }
         let [first, second, third, fourth] = self.sources;
@@ -279,6 +282,7 @@ fn plan_of(
         reads: reads_of(alloc, layout, row, place, free)?,
         sources,
         same,
+        has_same: same[1] != 1 || same[2] != 2,
     })
 }
 

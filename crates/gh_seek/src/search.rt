@@ -34,6 +34,8 @@ pub(crate) struct Searcher {
     pub state: State,
     pub least: Least,
     pub lessons: Lessons,
+    /// Literals whose opposites are decided after those of the wanted ones.
+    pub cases: Vec<Code>,
     plans: Plans,
     // A far lesson cuts so many levels and one more.
     stride: u32,
@@ -60,6 +62,7 @@ impl Searcher {
             least: Least::new(alloc, state.shape.terms)?,
             lessons: Lessons::new(alloc, state.shape.count)?,
             state,
+            cases: Vec::new(alloc),
             plans,
             stride: 0,
         })
@@ -124,16 +127,39 @@ impl Searcher {
         Ok(false)
     }
 
-    // Decides the opposite of a wanted literal, or else the atom that goes first. Answers whether there was one.
+    // Decides the opposite of a wanted literal or of a case, or else the atom that goes first. Answers whether there was
+    // one.
     fn decide(&mut self, wanted: &[Code]) -> Result<bool, AllocError> {
         self.stride = 0;
-        for code in wanted {
-            if self.state.trail.is_open(*code) {
+        let mut next = self.first_open(wanted);
+        if next.is_none() {
+            next = self.first_open(self.cases.as_slice());
+        }
+        match next {
+            Some(code) => {
                 self.state.decide(code.negated())?;
-                return Ok(true);
+                Ok(true)
+            }
+            None => self.decide_next(),
+        }
+    }
+
+    // The first of some literals that has no truth.
+    fn first_open(&self, codes: &[Code]) -> Option<Code> {
+        for code in codes {
+            if self.state.trail.is_open(*code) {
+                return Some(*code);
             }
         }
-        self.decide_next()
+        None
+    }
+
+    /// Adds an atom as a case, if it stands in a clause.
+    pub fn push_case(&mut self, atom: usize) -> Result<(), AllocError> {
+        if self.state.order.is_needed(atom) {
+            self.cases.push(Code::new(atom, true))?;
+        }
+        Ok(())
     }
 
     // Decides the atom that goes first. Answers whether there was one.

@@ -52,13 +52,15 @@ impl State {
         let shape = Shape::new(alloc, sizes)?;
         let layout = Layout::new(shape.terms, shape.versions);
         let atoms = shape.count;
+        let mut yes = Words::new(alloc, layout)?;
+        yes.take_reflexive();
         Ok(State {
             alloc,
             clauses: Clauses::new(alloc),
             trail: Trail::new(alloc, atoms)?,
-            order: Order::new(alloc, atoms)?,
+            order: Order::new(alloc, atoms, layout)?,
             classes: Classes::new(alloc, &shape)?,
-            yes: Words::new(alloc, layout)?,
+            yes,
             no: Words::new(alloc, layout)?,
             layout,
             watches: Watches::new(alloc, atoms)?,

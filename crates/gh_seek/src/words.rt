@@ -1,7 +1,7 @@
 //! The true and the false atoms as bits over one of their terms, all words in one table.
 
 use crate::shape::{Kind, Parts};
-use crate::table::{at, bit, cell, put};
+use crate::table::{at, bit, byte, cell, put};
 use std::alloc::{AllocError, Global};
 
 /// Where the words of each kind of reading begin in the table. Bit t of the word of `by_z` at a version, x and y stands
@@ -163,6 +163,13 @@ impl Words {
             layout,
             table: vec![in alloc; 0; layout.count]?,
         })
+    }
+
+    /// Takes in that each term equals itself.
+    pub fn take_reflexive(&mut self) {
+        for term in 0..self.layout.terms {
+            self.turn_bit(self.layout.equal.wrapping_add(term), byte(term));
+        }
     }
 
     // Turns a bit of a word.
