@@ -49,20 +49,29 @@ invariants_in_body (Some b) = all_invariants_in b.statements
 abbrev pub atom_counts : Procedure → List ℕ
 atom_counts q = atoms q.needs ∷ sum (map atoms q.gives) ∷ map atoms (invariants_in_body q.body)
 
+abbrev pub most_procedures : ℕ
+most_procedures = 256
+
+abbrev pub most_variables : ℕ
+most_variables = 32
+
+abbrev pub most_atoms : ℕ
+most_atoms = 32
+
 abbrev pub HasManyVariables : Procedure → Type 0
-HasManyVariables q = 32 < length (variables_of q)
+HasManyVariables q = most_variables < length (variables_of q)
 
 abbrev pub HasManyAtomsSomewhere : Procedure → Type 0
-HasManyAtomsSomewhere q = Any (λ n. 32 < n) (atom_counts q)
+HasManyAtomsSomewhere q = Any (λ n. most_atoms < n) (atom_counts q)
 
 abbrev pub AreFew : Program → Type 0
-AreFew p = length p.procedures ≤ 256
+AreFew p = length p.procedures ≤ most_procedures
 
 abbrev pub HaveFewVariables : Program → Type 0
-HaveFewVariables p = All (λ q. length (variables_of q) ≤ 32) p.procedures
+HaveFewVariables p = All (λ q. length (variables_of q) ≤ most_variables) p.procedures
 
 abbrev pub HaveFewAtoms : Program → Type 0
-HaveFewAtoms p = All (λ q. All (λ n. n ≤ 32) (atom_counts q)) p.procedures
+HaveFewAtoms p = All (λ q. All (λ n. n ≤ most_atoms) (atom_counts q)) p.procedures
 
 -- each quantity is at most its limit
 pub record KeepsLimits (p : Program) : Type 0 where
@@ -77,8 +86,8 @@ reported n = min n 4294967295
 -- more than 256 procedures: the place is the 257th name
 pub record ProceduresPassed (ps : List Procedure) (l : Limit) : Type 0 where
   pub kind : l.kind ≡ 1
-  pub passed : 256 < length ps
-  pub span : HoldsAt (λ q. q.name.span ≡ l.span) ps 256
+  pub passed : most_procedures < length ps
+  pub span : HoldsAt (λ q. q.name.span ≡ l.span) ps most_procedures
   pub count : l.count ≡ reported (length ps)
 
 -- the first procedure with more than 32 variables
@@ -95,7 +104,7 @@ pub record AtomsPassed (ps : List Procedure) (l : Limit) : Type 0 where
   pub procedure : Procedure
   pub number : ℕ
   pub first : IsFirstWith HasManyAtomsSomewhere ps procedure
-  pub first_there : IsFirstWith (λ n. 32 < n) (atom_counts procedure) number
+  pub first_there : IsFirstWith (λ n. most_atoms < n) (atom_counts procedure) number
   pub span : procedure.name.span ≡ l.span
   pub count : l.count ≡ reported number
 

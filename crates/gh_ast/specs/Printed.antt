@@ -2,6 +2,7 @@
 use Rattle.std.specs.Prelude.{◌≡◌, ℕ, List, [], ◌∷◌, ◌++◌, Bool, true, false, cond, Option, Some, None}
 use Rattle.std.specs.List.{flat_map}
 use Rattle.std.specs.Str.{bytes_eq}
+use Rattle.gh_base.specs.Texts.{line_end}
 use Rattle.gh_ast.specs.declared.Occ.{Occ}
 use Rattle.gh_ast.specs.declared.Operand.{Operand}
 use Rattle.gh_ast.specs.declared.Operand.TheVariants as operand
@@ -42,8 +43,8 @@ pub record Adds (before after : List ℕ) (ls : List Lexeme) : Type 0 where
 
 -- one space between two tokens, and a line feed last
 abbrev pub line_of : List Lexeme → List ℕ
-line_of [] = 10 ∷ []
-line_of (l ∷ ls) = lexeme_text l ++ spaced ls ++ 10 ∷ []
+line_of [] = line_end
+line_of (l ∷ ls) = lexeme_text l ++ spaced ls ++ line_end
 
 -- members with a sign between two
 abbrev pub followed : {A : Type 0} → (A → List Lexeme) → Sign → List A → List Lexeme
@@ -69,9 +70,17 @@ abbrev pub equality : Bool → Sign
 equality true = sg.Equal
 equality false = sg.Unequal
 
+-- between `(` and `)`
+abbrev pub in_brackets : List Lexeme → List Lexeme
+in_brackets ls = mark sg.ParenOpen ∷ ls ++ mark sg.ParenClose ∷ []
+
+-- between `{` and `}`
+abbrev pub in_braces : List Lexeme → List Lexeme
+in_braces ls = mark sg.BraceOpen ∷ ls ++ mark sg.BraceClose ∷ []
+
 -- a list inside a list stands in brackets
 abbrev pub bracketed : Bool → List Lexeme → List Lexeme
-bracketed true ls = mark sg.ParenOpen ∷ ls ++ mark sg.ParenClose ∷ []
+bracketed true ls = in_brackets ls
 bracketed false ls = ls
 
 abbrev pub is_list : Test → Bool
@@ -124,10 +133,17 @@ abbrev mutual
   formulas_followed no_formulas = []
   formulas_followed (formula_first x l) = mark sg.Star ∷ bracketed (is_star x) (formula_shown x) ++ formulas_followed l
 
+-- a member of a list
+abbrev pub member_shown : Formula → List Lexeme
+member_shown f = bracketed (is_star f) (formula_shown f)
+
 -- the targets of a call and `:=`, where there are some
 abbrev pub targets_shown : List Occ → List Lexeme
 targets_shown [] = []
 targets_shown (x ∷ xs) = joined name_shown sg.Comma (x ∷ xs) ++ mark sg.Assign ∷ []
+
+abbrev pub return_shown : List Expr → List Lexeme
+return_shown es = reserved kw.Return ∷ joined expr_shown sg.Comma es ++ mark sg.Semicolon ∷ []
 
 abbrev mutual
   pub statement_shown : Statement → List Lexeme
@@ -143,7 +159,7 @@ abbrev mutual
   statement_shown (loop p t i a c) =
       reserved kw.While ∷ mark sg.ParenOpen ∷ test_shown t ++ mark sg.ParenClose ∷ reserved kw.Invariant ∷ formula_shown i
       ++ mark sg.BraceOpen ∷ statements_shown a ++ mark sg.BraceClose ∷ []
-  statement_shown (give p es) = reserved kw.Return ∷ joined expr_shown sg.Comma es ++ mark sg.Semicolon ∷ []
+  statement_shown (give p es) = return_shown es
 
   pub statements_shown : Statements → List Lexeme
   statements_shown no_statements = []
@@ -181,6 +197,13 @@ body_shown (Some b) = mark sg.BraceOpen ∷ locals_shown b.locals ++ statements_
 -- alternatives with `||` between two
 abbrev pub alternatives_shown : List Formula → List Lexeme
 alternatives_shown = joined formula_shown sg.Or
+
+abbrev pub ensures_shown : List Formula → List Lexeme
+ensures_shown fs = reserved kw.Ensures ∷ alternatives_shown fs
+
+-- a procedure's name and its parameters
+abbrev pub head_shown : Occ → List Occ → List Lexeme
+head_shown name parameters = reserved kw.Procedure ∷ word name.name ∷ in_brackets (joined parameter_shown sg.Comma parameters)
 
 -- missing conditions are written as `emp`
 abbrev pub procedure_shown : Procedure → List Lexeme

@@ -1,10 +1,10 @@
 //! The text of a program.
 
-ghost use Rattle.std.specs.Prelude.{◌≡◌, ◌++◌, ◌∷◌, [], map, Some, option_map, OnOk, IfOk};
+ghost use Rattle.std.specs.Prelude.{◌≡◌, ◌∷◌, [], map, Some, option_map, OnOk, IfOk};
 ghost use Rattle.std.specs.List.{flat_map};
 ghost use Rattle.gh_ast.specs.Plain.{set, new, write, free, call, comparison, points_to, cell, segment, test_of, tests_view, formula_of, formulas_view, statement_of, statements_view, part_of, inside_of, procedure_of, program_of};
 ghost use Rattle.gh_ast.specs.Bare.{ReadBack};
-ghost use Rattle.gh_ast.specs.Printed.{word, reserved, mark, Adds, joined, name_shown, operand_shown, expr_shown, equality, bracketed, is_list, is_star, test_shown, tests_shown, formula_shown, formulas_shown, targets_shown, statement_shown, statements_shown, otherwise_shown, field_shown, parameter_shown, results_shown, locals_shown, body_shown, alternatives_shown, procedure_shown, program_text};
+ghost use Rattle.gh_ast.specs.Printed.{word, reserved, mark, Adds, joined, name_shown, operand_shown, expr_shown, equality, bracketed, is_list, is_star, test_shown, tests_shown, formula_shown, formulas_shown, targets_shown, statement_shown, statements_shown, otherwise_shown, field_shown, parameter_shown, results_shown, locals_shown, body_shown, alternatives_shown, procedure_shown, program_text, in_brackets, in_braces, member_shown, return_shown, ensures_shown, head_shown};
 
 use crate::sign::{Keyword, Sign};
 use crate::{Assertion, Block, Body, Cond, Expr, Field, Occ, Operand, Procedure, Program, Stmt};
@@ -240,8 +240,7 @@ fn put_segment(out: &mut Text, from: &Operand, to: &Operand) -> Result<(), Alloc
 
 // `if (` and a test and `)`
 fn put_condition(out: &mut Text, key: Keyword, test: &Cond) -> Result<(), AllocError>
-    ensures { OnOk result (Adds out.old out.new
-        (reserved key ∷ mark Sign.ParenOpen ∷ test_shown (test_of test.now) ++ mark Sign.ParenClose ∷ [])) }
+    ensures { OnOk result (Adds out.old out.new (reserved key ∷ in_brackets (test_shown (test_of test.now)))) }
 {
     put_key(out, key)?;
     put_sign(out, Sign::ParenOpen)?;
@@ -253,8 +252,7 @@ fn put_condition(out: &mut Text, key: Keyword, test: &Cond) -> Result<(), AllocE
 // An assertion in braces.
 #[cycle(formula)]
 fn put_part(out: &mut Text, part: &Assertion) -> Result<(), AllocError>
-    ensures { OnOk result (Adds out.old out.new
-        (mark Sign.BraceOpen ∷ formula_shown (formula_of part.now) ++ mark Sign.BraceClose ∷ [])) }
+    ensures { OnOk result (Adds out.old out.new (in_braces (formula_shown (formula_of part.now)))) }
 {
     put_sign(out, Sign::BraceOpen)?;
     put_assertion(out, part)?;
@@ -265,8 +263,7 @@ fn put_part(out: &mut Text, part: &Assertion) -> Result<(), AllocError>
 // A member of a list of assertions.
 #[cycle(formula)]
 fn put_item(out: &mut Text, item: &Assertion) -> Result<(), AllocError>
-    ensures { OnOk result (Adds out.old out.new
-        (bracketed (is_star (formula_of item.now)) (formula_shown (formula_of item.now)))) }
+    ensures { OnOk result (Adds out.old out.new (member_shown (formula_of item.now))) }
 {
     if !is_star_formula(item) {
         return put_assertion(out, item);
@@ -325,8 +322,7 @@ fn put_statements(out: &mut Text, statements: &[Stmt]) -> Result<(), AllocError>
 
 #[cycle(statement)]
 fn put_block(out: &mut Text, block: &Block) -> Result<(), AllocError>
-    ensures { OnOk result (Adds out.old out.new
-        (mark Sign.BraceOpen ∷ statements_shown (part_of block.now).statements ++ mark Sign.BraceClose ∷ [])) }
+    ensures { OnOk result (Adds out.old out.new (in_braces (statements_shown (part_of block.now).statements))) }
 {
     put_sign(out, Sign::BraceOpen)?;
     put_statements(out, block.statements.as_slice())?;
@@ -425,8 +421,7 @@ fn put_call(
 }
 
 fn put_return(out: &mut Text, values: &[Expr]) -> Result<(), AllocError>
-    ensures { OnOk result (Adds out.old out.new
-        (reserved Keyword.Return ∷ joined expr_shown Sign.Comma values.now ++ mark Sign.Semicolon ∷ [])) }
+    ensures { OnOk result (Adds out.old out.new (return_shown values.now)) }
 {
     put_key(out, Keyword::Return)?;
     put_exprs(out, values)?;
@@ -568,8 +563,7 @@ fn put_requires(out: &mut Text, condition: &Assertion) -> Result<(), AllocError>
 }
 
 fn put_ensures(out: &mut Text, alternatives: &[Assertion]) -> Result<(), AllocError>
-    ensures { OnOk result (Adds out.old out.new
-        (reserved Keyword.Ensures ∷ alternatives_shown (map formula_of alternatives.now))) }
+    ensures { OnOk result (Adds out.old out.new (ensures_shown (map formula_of alternatives.now))) }
 {
     put_key(out, Keyword::Ensures)?;
     put_alternatives(out, alternatives)?;
@@ -578,9 +572,7 @@ fn put_ensures(out: &mut Text, alternatives: &[Assertion]) -> Result<(), AllocEr
 
 // The name and the parameters.
 fn put_head(out: &mut Text, name: &Occ, parameters: &[Occ]) -> Result<(), AllocError>
-    ensures { OnOk result (Adds out.old out.new
-        (reserved Keyword.Procedure ∷ word name.now.name ∷ mark Sign.ParenOpen ∷
-        joined parameter_shown Sign.Comma parameters.now ++ mark Sign.ParenClose ∷ [])) }
+    ensures { OnOk result (Adds out.old out.new (head_shown name.now parameters.now)) }
 {
     put_key(out, Keyword::Procedure)?;
     put_name(out, name)?;

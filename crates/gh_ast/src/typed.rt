@@ -40,7 +40,7 @@ impl Model for Typed {
 
     ghost view = { λ t. t.program };
 
-    ghost invariant = { λ t. IsTyped (program_of t.program) × KeepsLimits (program_of t.program) × IsWellFormed (program_of t.program) };
+    ghost invariant = { λ t. let P = program_of t.program in IsTyped P × KeepsLimits P × IsWellFormed P };
 }
 
 impl Typed {

@@ -1,5 +1,5 @@
--- Partial assignments, and what a clause is under one, as the set of its literals.
-use Rattle.std.specs.Prelude.{◌≡◌, ◌≢◌, ◌≤◌, List, Bool, true, false, Option, Some, None, All, Any, Contains, length, slice_index_or, slice_set, option_map}
+-- Partial assignments, by the number of each atom.
+use Rattle.std.specs.Prelude.{◌≡◌, ◌≢◌, ◌≤◌, List, Bool, Option, None, length, slice_index_or, slice_set, option_map}
 use Rattle.gh_base.specs.declared.atom.Atom.{Atom}
 use Rattle.gh_base.specs.declared.atom.Lit.{Lit}
 use Rattle.gh_base.specs.declared.sizes.Sizes.{Sizes}
@@ -32,17 +32,3 @@ pub record ChangesAtom (old new : Partial) (atom : Atom) (value : Option Bool) :
   pub sizes : new.sizes ≡ old.sizes
   pub changed : value_at new atom ≡ value
   pub others : (a : Atom) → IsInRange old.sizes a → a ≢ atom → value_at new a ≡ value_at old a
-
--- some literal is true
-abbrev pub IsTrueUnder : Partial → List Lit → Type 0
-IsTrueUnder p clause = Any (λ l. value_of p l ≡ Some true) clause
-
--- each literal is false
-abbrev pub IsFalseUnder : Partial → List Lit → Type 0
-IsFalseUnder p clause = All (λ l. value_of p l ≡ Some false) clause
-
--- one literal has no truth, and each other one is false
-pub record IsUnitUnder (p : Partial) (clause : List Lit) (unit : Lit) : Type 0 where
-  pub there : Contains clause unit
-  pub unassigned : value_of p unit ≡ None
-  pub others : (l : Lit) → Contains clause l → l ≢ unit → value_of p l ≡ Some false

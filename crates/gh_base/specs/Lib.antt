@@ -1,4 +1,5 @@
 pub mod Names
+pub mod Texts
 pub mod Outside
 pub mod Reading
 pub mod Files

@@ -1,5 +1,5 @@
 -- The answers of a call that reads a whole input.
-use Rattle.std.specs.Prelude.{◌≡◌, ◌⊎◌, ℕ, ◌<◌, ◌≤◌, ◌+◌, min, List, [], ◌++◌, length, drop, Option, Some, None, Bool, true, false, ⊤, Result, Ok, Err}
+use Rattle.std.specs.Prelude.{◌≡◌, ◌⊎◌, ℕ, ◌<◌, ◌≤◌, ◌+◌, min, List, [], ◌++◌, length, drop, Option, Some, None, Bool, true, false, ⊤, Result, Ok, Err, MatchResult}
 use Rattle.gh_base.specs.Outside.{Table, Rose}
 use Rattle.gh_base.specs.declared.reading.InputError.{InputError}
 use Rattle.gh_base.specs.declared.reading.InputError.TheVariants.{ReadFault, TooLong, Absent, OutOfMemory}
@@ -27,6 +27,10 @@ IsCaused bytes limit before now ReadFault = Rose before now
 IsCaused bytes limit before now TooLong = IsLonger bytes limit
 IsCaused bytes limit before now Absent = IsAbsent bytes
 IsCaused bytes limit before now OutOfMemory = ⊤
+
+-- a refusal of the input of a name has its cause
+abbrev pub IsRefused : {T : Type 0} → Option Table → List ℕ → ℕ → ℕ → ℕ → Result T InputError → Type 0
+IsRefused table name limit before now result = MatchResult result (λ _. ⊤) (IsCaused (told table name) limit before now)
 
 -- only a fault of the inputs raises their count
 abbrev pub IsCalm : {T : Type 0} → ℕ → ℕ → Result T InputError → Type 0
@@ -63,3 +67,7 @@ abbrev pub calls_for : Option (Option (List ℕ)) → ℕ → ℕ
 calls_for None limit = limit + 2
 calls_for (Some None) limit = 1
 calls_for (Some (Some text)) limit = min (length text) limit + 2
+
+-- the most calls that reading the input of a name takes
+abbrev pub calls_of : Option Table → List ℕ → ℕ → ℕ
+calls_of table name limit = calls_for (told table name) limit

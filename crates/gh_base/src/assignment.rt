@@ -1,7 +1,7 @@
 //! Partial assignments of truth to atoms.
 
-ghost use Rattle.std.specs.Prelude.{◌≡◌, Some, None, IfOk, All, vec_len};
-ghost use Rattle.gh_base.specs.Atoms.{IsInRange};
+ghost use Rattle.std.specs.Prelude.{◌≡◌, ◌≤◌, Some, None, IfOk, All, vec_len};
+ghost use Rattle.gh_base.specs.Atoms.{IsInRange, count_of};
 ghost use Rattle.gh_base.specs.Assignments.{IsPartial, value_of, with_value, ChangesAtom};
 
 use crate::atom::{Atom, Lit};
@@ -39,10 +39,11 @@ fn no_values(alloc: Global, count: usize) -> Result<Vec<Option<bool>>, AllocErro
 }
 
 impl Assignment {
-    /// Each atom is unassigned.
+    /// Each atom is unassigned. More than 4,294,967,294 atoms find no memory.
     pub fn new(alloc: Global, terms: u8, versions: u8, defs: u32) -> Result<Assignment, AllocError>
         ensures sizes { IfOk result (λ a. a.sizes ≡ record { terms = terms; versions = versions; defs = defs }) }
         ensures none { IfOk result (λ a. All (λ v. v ≡ None) a.values) }
+        ensures few { IfOk result (λ a. count_of a.sizes ≤ 4294967294) }
     {
         let sizes = Sizes {
             terms,

@@ -1,9 +1,9 @@
 // The two traits, each with its meaning.
 
-ghost use Rattle.std.specs.Prelude.{◌≡◌, ℕ, ◌<◌, List, length, Option, Bool, false};
+ghost use Rattle.std.specs.Prelude.{◌≡◌, ℕ, ◌<◌, List, length, Option, Bool};
 ghost use Rattle.std.specs.Result.{is_err};
 ghost use Rattle.std.specs.Io.KnownBytes.{ReadConsumes, WriteAppends};
-ghost use Rattle.gh_base.specs.Outside.{HasCause, Begins, TakesSome, ReadsWithin, Table, has_begun, GivesNothing, Counts, AddsName};
+ghost use Rattle.gh_base.specs.Outside.{HasCause, Begins, TakesSome, ReadsWithin, Table, has_begun, GivesNothing, GivesOnlyBegun, Counts, AddsName};
 
 /// The outside has failed.
 #[derive(Clone, Copy, Debug, PartialEq, Eq)]
@@ -42,7 +42,7 @@ pub trait Inputs {
     fn read(&mut self, into: &mut [u8]) -> Result<usize, Failed>
         ensures within { ReadsWithin result into.new }
         ensures bytes { ReadConsumes (left self.old) (left self.new) result into.new }
-        ensures nothing { begun self.old ≡ false → GivesNothing (faults self.old) (faults self.new) result }
+        ensures nothing { GivesOnlyBegun (begun self.old) (faults self.old) (faults self.new) result }
         ensures begun { begun self.new ≡ begun self.old }
         ensures table { table self.new ≡ table self.old }
         ensures cause { HasCause (faults self.old) (faults self.new) result }

@@ -1,8 +1,8 @@
 // Reading a whole input.
 
-ghost use Rattle.std.specs.Prelude.{◌≡◌, ◌≤◌, length, IfOk, MatchResult, ⊤};
+ghost use Rattle.std.specs.Prelude.{◌≡◌, ◌≤◌, length, IfOk};
 ghost use Rattle.gh_base.specs.Outside.{MakesAtMost, AddsName};
-ghost use Rattle.gh_base.specs.Reading.{told, IsWhole, IsCaused, IsCalm, HasBegun, ReadsTo, calls_for};
+ghost use Rattle.gh_base.specs.Reading.{told, IsWhole, IsRefused, IsCalm, HasBegun, ReadsTo, calls_of};
 ghost use Rattle.gh_base.specs.declared.reading.InputError.TheVariants.{ReadFault, OutOfMemory};
 
 use crate::outside::{Failed, Inputs};
@@ -47,15 +47,13 @@ pub fn read_input<I: Inputs>(
     limit: usize,
 ) -> Result<Text, InputError>
     ensures ok { IfOk result (λ text. (length text ≤ limit) × IsWhole (told (I.table inputs.old) name.now) text) }
-    ensures refused { MatchResult result (λ _. ⊤) (λ e.
-        IsCaused (told (I.table inputs.old) name.now) limit (I.faults inputs.old) (I.faults inputs.new) e) }
+    ensures refused { IsRefused (I.table inputs.old) name.now limit (I.faults inputs.old) (I.faults inputs.new) result }
     ensures calm { IsCalm (I.faults inputs.old) (I.faults inputs.new) result }
     ensures begun { HasBegun result (I.begun inputs.new) }
     ensures reads { ReadsTo (told (I.table inputs.old) name.now) limit result (I.left inputs.new) }
     ensures table { I.table inputs.new ≡ I.table inputs.old }
     ensures later { I.faults inputs.old ≤ I.faults inputs.new }
-    ensures few { MakesAtMost (calls_for (told (I.table inputs.old) name.now) limit)
-        (I.calls inputs.old) (I.calls inputs.new) }
+    ensures few { MakesAtMost (calls_of (I.table inputs.old) name.now limit) (I.calls inputs.old) (I.calls inputs.new) }
     ensures named { AddsName (I.names inputs.old) (I.names inputs.new) name.now }
 {
     if !inputs.begin(name)? {

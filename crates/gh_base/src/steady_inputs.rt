@@ -1,8 +1,8 @@
 //! Inputs in memory of which no call fails.
 
-ghost use Rattle.std.specs.Prelude.{◌≡◌, ℕ, List, min, Option, Some, None, is_some, Ok, false, drop, length, IfOk, OnErr};
+ghost use Rattle.std.specs.Prelude.{◌≡◌, ℕ, List, min, Option, Some, None, is_some, Ok, drop, length, IfOk, OnErr};
 ghost use Rattle.std.specs.Io.KnownBytes.{ReadConsumes};
-ghost use Rattle.gh_base.specs.Outside.{HasCause, Begins, ReadsWithin, has_begun, GivesNothing, Counts, AddsName};
+ghost use Rattle.gh_base.specs.Outside.{HasCause, Begins, ReadsWithin, has_begun, GivesOnlyBegun, Counts, AddsName};
 ghost use Rattle.gh_base.specs.Files.{table_in, left_in, AreNoFiles, HasMore};
 
 use crate::files::Files;
@@ -70,7 +70,7 @@ impl Inputs for SteadyInputs {
         ensures files { self.new.files.list ≡ self.old.files.list }
         ensures within { ReadsWithin result into.new }
         ensures bytes { ReadConsumes (Some (left_in self.old.files)) (Some (left_in self.new.files)) result into.new }
-        ensures nothing { is_some self.old.files.begun ≡ false → GivesNothing 0 0 result }
+        ensures nothing { GivesOnlyBegun (is_some self.old.files.begun) 0 0 result }
         ensures begun { is_some self.new.files.begun ≡ is_some self.old.files.begun }
         ensures table { Some (table_in self.new.files) ≡ Some (table_in self.old.files) }
         ensures cause { HasCause 0 0 result }

@@ -1,8 +1,8 @@
 // Writing a whole text.
 
-ghost use Rattle.std.specs.Prelude.{length, OnOk, OnErr};
+ghost use Rattle.std.specs.Prelude.{◌≡◌, true, length, OnOk, OnErr};
 ghost use Rattle.std.specs.Io.KnownBytes.{Appends};
-ghost use Rattle.gh_base.specs.Outside.{HasCause, AppendsFront, MakesAtMost, StopsAtFailure};
+ghost use Rattle.gh_base.specs.Outside.{HasCause, AppendsFront, MakesAtMost, CutsShort};
 
 use crate::outside::{Failed, Sink};
 
@@ -11,8 +11,8 @@ pub fn write_all<S: Sink>(out: &mut S, text: &[u8]) -> Result<(), Failed>
     ensures ok { OnOk result (Appends (S.written out.old) (S.written out.new) text.now) }
     ensures few { OnOk result (MakesAtMost (length text.now) (S.calls out.old) (S.calls out.new)) }
     ensures failed { OnErr result (AppendsFront (S.written out.old) (S.written out.new) text.now) }
-    ensures turns { OnErr result (StopsAtFailure (S.written out.old) (S.written out.new)
-        (S.calls out.old) (S.calls out.new) (S.failed out.new) text.now) }
+    ensures turns { CutsShort result (S.written out.old) (S.written out.new) (S.calls out.old) (S.calls out.new) text.now }
+    ensures last { OnErr result (S.failed out.new ≡ true) }
     ensures cause { HasCause (S.faults out.old) (S.faults out.new) result }
 {
     let mut done = 0;

@@ -3,12 +3,10 @@ use Rattle.std.specs.Prelude.{ℕ, suc, ◌<◌, ◌^◌, List, [], ◌∷◌, �
 use Rattle.std.specs.List.{flat_map}
 use Rattle.std.specs.Fmt.{decimal}
 use Rattle.std.specs.FinMap.{entries}
+use Rattle.gh_base.specs.Texts.{line_end}
 use Rattle.gh_ast.specs.Programs.{Name}
 use Rattle.gh_assert.specs.Heaps.{Heap}
 use Rattle.gh_trace.specs.Traces.{State}
-
-abbrev pub line_end : List ℕ
-line_end = 10 ∷ []
 
 -- a line of its own
 abbrev pub line : List ℕ → List ℕ

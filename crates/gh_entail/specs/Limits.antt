@@ -1,17 +1,10 @@
 -- The limits on a question: its variables, the atoms of all its assertions together, its terms.
 use Rattle.std.specs.Prelude.{◌≡◌, ℕ, ◌+◌, ◌<◌, ◌≤◌, length}
 use Rattle.gh_ast.specs.Questions.{Claim, leaf, denial, every, either, Claims, no_claims, claim_first, Question}
-use Rattle.gh_ast.specs.Limits.{atoms, reported}
+use Rattle.gh_ast.specs.Limits.{atoms, reported, most_variables, most_atoms}
 use Rattle.gh_ast.specs.declared.typed.Limit.{Limit}
 use Rattle.gh_path.specs.Admitted.{most_terms}
 use Rattle.gh_entail.specs.Terms.{question_walked}
-
--- the most variables of a question, and the most atoms of all its assertions together
-abbrev pub most_variables : ℕ
-most_variables = 32
-
-abbrev pub most_atoms : ℕ
-most_atoms = 32
 
 -- the atoms of all assertions of a claim
 abbrev mutual

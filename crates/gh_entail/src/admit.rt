@@ -16,16 +16,11 @@ use gh_ast::question::Question;
 use gh_ast::typed::Limit;
 use gh_base::place::Span;
 use gh_symb::count::MOST_TERMS;
-use gh_types::counts::reported;
+use gh_types::counts::{MOST_ATOMS, MOST_VARIABLES, reported};
 use gh_types::fault::{Fault, earlier};
 use gh_types::names::{Names, each, names_of, repeated};
 use std::alloc::{AllocError, Global};
 use thiserror::Error;
-
-// The most variables of a question, and the most atoms of all its assertions together.
-const MOST_VARIABLES: u32 = 32;
-
-const MOST_ATOMS: u32 = 32;
 
 /// Why a question isn't admitted.
 ///

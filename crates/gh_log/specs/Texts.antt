@@ -6,6 +6,7 @@ use Rattle.gh_base.specs.declared.atom.Term.{Term}
 use Rattle.gh_base.specs.declared.atom.Atom.{Atom}
 use Rattle.gh_base.specs.declared.atom.Atom.TheVariants.{Eq, Btwn, Hop, Alloc, Def}
 use Rattle.gh_base.specs.declared.atom.Lit.{Lit}
+use Rattle.gh_base.specs.Texts.{line_end}
 use Rattle.gh_inst.specs.declared.naming.InstanceName.{InstanceName}
 use Rattle.gh_inst.specs.Instances.{tuple_of}
 use Rattle.gh_log.specs.Lines.{LogLine}
@@ -14,9 +15,6 @@ use Rattle.gh_log.specs.Lines as line
 -- a text was added to another
 pub record Adds (before after added : List ℕ) : Type 0 where
   pub same : after ≡ before ++ added
-
-abbrev pub line_end : List ℕ
-line_end = 10 ∷ []
 
 -- `.` and a number
 abbrev pub dotted : ℕ → List ℕ

@@ -8,6 +8,15 @@ ghost use Rattle.gh_ast.specs.Occurrences.{variables_of};
 use crate::names::locals;
 use gh_ast::{Assertion, Cond, Procedure};
 
+/// The most procedures of a program.
+pub const MOST_PROCEDURES: usize = 256;
+
+/// The most variables of a procedure or a question.
+pub const MOST_VARIABLES: u32 = 32;
+
+/// The most atoms of what a procedure requires, of all that it ensures, of an invariant, or of a question.
+pub const MOST_ATOMS: u32 = 32;
+
 /// A number as it is reported.
 pub fn reported(count: usize) -> u32
     ensures { result ≡ reported count }

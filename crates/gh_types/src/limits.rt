@@ -2,18 +2,25 @@
 
 ghost use Rattle.std.specs.Prelude.{◌≡◌, ◌<◌, ◌≤◌, [], ◌∷◌, map, sum, MatchOption};
 ghost use Rattle.gh_ast.specs.Plain.{formula_of, procedure_of, program_of, statement_of, statements_view};
-ghost use Rattle.gh_ast.specs.Limits.{atom_counts, atoms, invariants_in, all_invariants_in, invariants_in_body, IsLimit, KeepsLimits};
+ghost use Rattle.gh_ast.specs.Limits.{atom_counts, atoms, most_atoms, invariants_in, all_invariants_in, invariants_in_body, IsLimit, KeepsLimits};
 ghost use Rattle.gh_types.specs.LimitChecks.{IsProceduresLimit, IsVariablesLimit, IsAtomsLimit, FindsMany};
 
-use crate::counts::{count_all_atoms, count_atoms, count_variables, reported};
+use crate::counts::{
+    MOST_ATOMS, MOST_PROCEDURES, MOST_VARIABLES, count_all_atoms, count_atoms, count_variables,
+    reported,
+};
 use gh_ast::typed::Limit;
 use gh_ast::{Assertion, Procedure, Program, Stmt};
 
 /// A number of atoms, where it passes the limit.
 fn over_limit(count: u32) -> Option<u32>
-    ensures { MatchOption result (count ≤ 32) (λ n. (n ≡ count) × (32 < count)) }
+    ensures { MatchOption result (count ≤ most_atoms) (λ n. (n ≡ count) × (most_atoms < count)) }
 {
-    if count > 32 { Some(count) } else { None }
+    if count > MOST_ATOMS {
+        Some(count)
+    } else {
+        None
+    }
 }
 
 /// The number of an assertion's atoms, where they are too many.
@@ -100,12 +107,12 @@ fn long_in_procedure(procedure: &Procedure) -> Option<u32>
 fn procedures_limit(procedures: &[Procedure]) -> Option<Limit>
     ensures { IsProceduresLimit (map procedure_of procedures.now) result }
 {
-    if procedures.len() <= 256 {
+    if procedures.len() <= MOST_PROCEDURES {
         return None;
     }
     Some(Limit {
         kind: 1,
-        span: procedures[256].name.span,
+        span: procedures[MOST_PROCEDURES].name.span,
         count: reported(procedures.len()),
     })
 }
@@ -116,7 +123,7 @@ fn variables_limit(procedures: &[Procedure]) -> Option<Limit>
 {
     for procedure in procedures {
         let count = count_variables(procedure);
-        if count > 32 {
+        if count > MOST_VARIABLES {
             return Some(Limit {
                 kind: 2,
                 span: procedure.name.span,

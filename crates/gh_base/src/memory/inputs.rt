@@ -1,8 +1,8 @@
 // The calls of inputs in memory.
 
-ghost use Rattle.std.specs.Prelude.{◌≡◌, ◌<◌, ◌++◌, ◌∷◌, [], ℕ, List, Option, Some, None, is_some, false, drop, length, IfOk, OnErr};
+ghost use Rattle.std.specs.Prelude.{◌≡◌, ◌<◌, ◌++◌, ◌∷◌, [], ℕ, List, Option, Some, None, is_some, drop, length, IfOk, OnErr};
 ghost use Rattle.std.specs.Io.KnownBytes.{ReadConsumes};
-ghost use Rattle.gh_base.specs.Outside.{HasCause, Begins, ReadsWithin, has_begun, GivesNothing, Counts, AddsName};
+ghost use Rattle.gh_base.specs.Outside.{HasCause, Begins, ReadsWithin, has_begun, GivesOnlyBegun, Counts, AddsName};
 ghost use Rattle.gh_base.specs.Files.{table_in, left_in, HasMore};
 ghost use Rattle.gh_base.specs.Memory.{AreNoInputs, IsBegin, IsRead};
 
@@ -87,8 +87,7 @@ impl Inputs for MemoryInputs {
         ensures past { IfOk result (λ n. drop n into.new ≡ drop n into.old) }
         ensures within { ReadsWithin result into.new }
         ensures bytes { ReadConsumes (Some (left_in self.old.files)) (Some (left_in self.new.files)) result into.new }
-        ensures nothing { is_some self.old.files.begun ≡ false →
-            GivesNothing self.old.calls.faults self.new.calls.faults result }
+        ensures nothing { GivesOnlyBegun (is_some self.old.files.begun) self.old.calls.faults self.new.calls.faults result }
         ensures begun { is_some self.new.files.begun ≡ is_some self.old.files.begun }
         ensures table { Some (table_in self.new.files) ≡ Some (table_in self.old.files) }
         ensures cause { HasCause self.old.calls.faults self.new.calls.faults result }

@@ -1,7 +1,7 @@
 use Rattle.std.proofs.Common.{◌≡◌, ◌∙◌, ◌++◌, List, ℕ, ap, append_assoc}
 use Rattle.std.specs.Prelude.{codes}
 use Rattle.std.specs.Fmt.{decimal}
-use Rattle.gh_draw.specs.Drawings.{line_end}
+use Rattle.gh_base.specs.Texts.{line_end}
 use Rattle.gh_top.proofs.lines.answer_line.Goals as goal
 
 told : (a n b d c e one : List ℕ) → one ≡ a ++ (n ++ (b ++ (d ++ (c ++ e)))) → one ≡ (a ++ n ++ b ++ d ++ c) ++ e
