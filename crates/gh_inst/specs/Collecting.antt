@@ -1,5 +1,6 @@
 -- Lists of instances that are false.
 use Rattle.std.specs.Prelude.{◌≡◌, ◌≢◌, ◌⊎◌, ◌<◌, ◌≤◌, ◌+◌, ◌*◌, ◌-◌, ℕ, List, [], ◌∷◌, ◌++◌, length, map, slice_index_or, All, AllPairs, Contains, Option, Some}
+use Rattle.std.specs.Int.{bit_at}
 use Rattle.gh_base.specs.declared.atom.Term.{Term}
 use Rattle.gh_base.specs.declared.sizes.Sizes.{Sizes}
 use Rattle.gh_base.specs.Meaning.{Interpretation}
@@ -51,6 +52,11 @@ pub record GathersAt (r : Looked) (all : List (List Term)) (old new : List Insta
 -- the row is true at all tuples that begin with some terms, of which there are so many
 abbrev pub IsTrueFrom : Looked → List Term → ℕ → Type 0
 IsTrueFrom r start first = All (IsTrueAt r) (tuples_with (r.variables - first) r.structure.now.sizes.terms start)
+
+-- the row is true after a term and any second one below 32 whose bit is 0
+abbrev pub AreSeconds : Looked → Term → ℕ → Type 0
+AreSeconds r x bits = (y : ℕ) → y < r.structure.now.sizes.terms → y < 32 → bit_at bits y ≡ 0
+    → IsTrueFrom r (x ∷ term y ∷ []) 2
 
 -- the row's first false tuple among those that begin with the first terms of another, if there is one
 abbrev pub IsFirstOfRow : Looked → ℕ → List Term → Option (List Term) → Type 0
@@ -124,6 +130,18 @@ pub record IsUpTo (high : ℕ) (names : List InstanceName) : Type 0 where
 -- what was before one place is now before another
 abbrev pub GoesUp : ℕ → ℕ → List InstanceName → List InstanceName → Type 0
 GoesUp low high old new = IsUpTo low old → IsUpTo high new
+
+-- what was before a first term of a row in a version is now before the next term
+abbrev pub PassesTerm : ℕ → ℕ → ℕ → List InstanceName → List InstanceName → Type 0
+PassesTerm version number x old new = GoesUp (place version number x 0) (place version number (x + 1) 0) old new
+
+-- .. before a row in a version, before the next row
+abbrev pub PassesRow : ℕ → ℕ → List InstanceName → List InstanceName → Type 0
+PassesRow version number old new = GoesUp (place version number 0 0) (place version (number + 1) 0 0) old new
+
+-- .. before a version, before the next version
+abbrev pub PassesVersion : ℕ → List InstanceName → List InstanceName → Type 0
+PassesVersion version old new = GoesUp (place version 0 0 0) (place (version + 1) 0 0 0) old new
 
 -- at most one name was added, of a tuple of the row that begins with some terms
 abbrev pub AddsOneAt : Looked → List Term → List InstanceName → List InstanceName → Type 0

@@ -1,12 +1,11 @@
 //! Instances that are false in a structure, some of each row and version.
 
-ghost use Rattle.std.specs.Prelude.{◌≡◌, ◌<◌, ◌≤◌, ◌+◌, [], ◌∷◌, ℕ, All, IfOk, OnOk, length, take};
-ghost use Rattle.std.specs.Int.{bit_at};
-ghost use Rattle.gh_inst.specs.Schemas.{term};
+ghost use Rattle.std.specs.Prelude.{◌≡◌, ◌<◌, ◌≤◌, [], ◌∷◌, All, IfOk, OnOk, length, take};
 ghost use Rattle.gh_inst.specs.Words.{AreWordsOf};
 ghost use Rattle.gh_inst.specs.Violations.{AreAllTrueIn};
-ghost use Rattle.gh_inst.specs.Collecting.{IsLooked, AreAllNamed, AreNamedIn, IsFirstNamed, GathersFrom, GathersRow, GathersVersion, IsFalseIn, IsFirstOfRow, IsRowNamed, IsTrueFrom};
-ghost use Rattle.gh_inst.specs.Collecting.{AddsOneAt, AreDistinct, GoesUp, place};
+ghost use Rattle.gh_inst.specs.Collecting.{IsLooked, AreAllNamed, AreNamedIn, IsFirstNamed, GathersFrom, GathersRow};
+ghost use Rattle.gh_inst.specs.Collecting.{GathersVersion, IsFalseIn, IsFirstOfRow, IsRowNamed, AddsOneAt, AreDistinct};
+ghost use Rattle.gh_inst.specs.Collecting.{AreSeconds, PassesTerm, PassesRow, PassesVersion};
 
 use crate::naming::InstanceName;
 use crate::schema::Pattern;
@@ -78,8 +77,7 @@ fn gather_first(
 fn second_terms(row: &Looked, x: Term) -> u32
     requires looked { IsLooked row.now }
     requires x { x.0 < row.now.structure.now.sizes.terms }
-    ensures { (y : ℕ) → y < row.now.structure.now.sizes.terms → y < 32 → bit_at result y ≡ 0
-        → IsTrueFrom row.now (x ∷ term y ∷ []) 2 }
+    ensures { AreSeconds row.now x result }
 {
     if row.words.is_empty() {
         return u32::MAX;
@@ -98,8 +96,7 @@ fn gather_second(row: &Looked, x: Term, found: &mut Vec<InstanceName>) -> Result
     requires looked { IsLooked row.now }
     requires x { x.0 < row.now.structure.now.sizes.terms }
     ensures gathers { OnOk result (GathersFrom row.now (x ∷ []) 1 found.old.items found.new.items) }
-    ensures up { let at = place row.now.version row.now.number in
-        OnOk result (GoesUp (at x.0 0) (at (x.0 + 1) 0) found.old.items found.new.items) }
+    ensures up { OnOk result (PassesTerm row.now.version row.now.number x.0 found.old.items found.new.items) }
 {
     if row.variables == 1 {
         return gather_first(row, [x, Term(0), Term(0), Term(0)], 1, found);
@@ -119,8 +116,7 @@ fn gather(row: &Looked, most: usize, found: &mut Vec<InstanceName>) -> Result<()
     requires looked { IsLooked row.now }
     requires room { length found.old.items < most }
     ensures gathers { OnOk result (GathersFrom row.now [] 0 found.old.items found.new.items) }
-    ensures up { let at = place row.now.version in
-        OnOk result (GoesUp (at row.now.number 0 0) (at (row.now.number + 1) 0 0) found.old.items found.new.items) }
+    ensures up { OnOk result (PassesRow row.now.version row.now.number found.old.items found.new.items) }
 {
     for x in 0..row.structure.terms() {
         if found.len() >= most {
@@ -143,8 +139,7 @@ fn gather_row(
     requires words { AreWordsOf structure.now version words.now }
     ensures gathers { OnOk result (GathersRow structure.now version number found.old.items found.new.items) }
     ensures named { OnOk result (IsRowNamed structure.now version number found.new.items) }
-    ensures up { let at = place version in
-        OnOk result (GoesUp (at number 0 0) (at (number + 1) 0 0) found.old.items found.new.items) }
+    ensures up { OnOk result (PassesRow version number found.old.items found.new.items) }
 {
     if let Some(row) = row_numbered(number) {
         let looked = Looked {
@@ -169,7 +164,7 @@ fn gather_version(
     requires version { version < structure.now.sizes.versions }
     ensures gathers { OnOk result (GathersVersion structure.now version found.old.items found.new.items) }
     ensures named { OnOk result (AreNamedIn structure.now version found.new.items) }
-    ensures up { OnOk result (GoesUp (place version 0 0 0) (place (version + 1) 0 0 0) found.old.items found.new.items) }
+    ensures up { OnOk result (PassesVersion version found.old.items found.new.items) }
 {
     if structure.terms() > 32 {
         return gather_rows(structure, version, &[], found);
@@ -189,7 +184,7 @@ fn gather_rows(
     requires words { AreWordsOf structure.now version words.now }
     ensures gathers { OnOk result (GathersVersion structure.now version found.old.items found.new.items) }
     ensures named { OnOk result (AreNamedIn structure.now version found.new.items) }
-    ensures up { OnOk result (GoesUp (place version 0 0 0) (place (version + 1) 0 0 0) found.old.items found.new.items) }
+    ensures up { OnOk result (PassesVersion version found.old.items found.new.items) }
 {
     for number in 1..16 {
         gather_row(number, structure, version, words, found)?;
