@@ -44,6 +44,10 @@ SpellsByte text b rest = text ≡ b ∷ rest
 abbrev pub IsNotFront : List ℕ → List ℕ → Type 0
 IsNotFront front text = (rest : List ℕ) → text ≡ front ++ rest → ⊥
 
+-- the text is taken where it is next, and else nothing is
+abbrev pub TakesText : List ℕ → List ℕ → List ℕ → Bool → Type 0
+TakesText front old new taken = MatchBool taken (old ≡ front ++ new) ((new ≡ old) × IsNotFront front old)
+
 -- another byte is next, or none
 abbrev pub IsNotNext : ℕ → List ℕ → Type 0
 IsNotNext b [] = ⊤

@@ -1,5 +1,5 @@
 -- Lines that the program borrows, and lines whose literals and numbers stand in tables.
-use Rattle.std.specs.Prelude.{◌≡◌, ◌≤◌, ⊤, ℕ, List, [], ◌∷◌, ◌++◌, take, drop, length}
+use Rattle.std.specs.Prelude.{◌≡◌, ◌<◌, ◌≤◌, ◌+◌, ◌^◌, ⊤, ℕ, List, [], ◌∷◌, ◌++◌, take, drop, map, length, All}
 use Rattle.gh_base.specs.declared.atom.Lit.{Lit}
 use Rattle.gh_log.specs.Lines as plain
 use Rattle.gh_log.specs.declared.lines.LogLine.{LogLine}
@@ -54,13 +54,68 @@ HasParts literals numbers (entry.Hinted part) =
 HasParts literals numbers (entry.Delete positions) = IsWithin (length numbers) positions
 HasParts literals numbers _ = ⊤
 
--- the part is what was added to a table
+-- the part is what was added to a table, whose length 32 bits count
 pub record IsAdded {X : Type 0} (old new items : List X) (part : Part) : Type 0 where
   pub grown : new ≡ old ++ items
   pub from : part.from ≡ length old
   pub to : part.to ≡ length new
+  pub few : length new < 2 ^ 32
 
 -- the list has something more at its end, or is the same
 pub record Extends {X : Type 0} (new old : List X) : Type 0 where
   pub more : List X
   pub same : new ≡ old ++ more
+
+-- how many literals the table holds of a line
+abbrev pub literals_of : plain.LogLine → ℕ
+literals_of (plain.Axiom name) = 0
+literals_of (plain.Clause k) = 0
+literals_of (plain.Lemma c) = length c
+literals_of (plain.Learnt c) = length c
+literals_of (plain.Hinted c hints) = length c
+literals_of (plain.Delete positions) = 0
+
+-- how many numbers: hints, with the two places of their clause, or positions
+abbrev pub numbers_of : plain.LogLine → ℕ
+numbers_of (plain.Axiom name) = 0
+numbers_of (plain.Clause k) = 0
+numbers_of (plain.Lemma c) = 0
+numbers_of (plain.Learnt c) = 0
+numbers_of (plain.Hinted c hints) = 2 + length hints
+numbers_of (plain.Delete positions) = length positions
+
+-- .. of all lines
+abbrev pub sum_of : (plain.LogLine → ℕ) → List plain.LogLine → ℕ
+sum_of count [] = 0
+sum_of count (l ∷ ls) = count l + sum_of count ls
+
+-- 32 bits count the literals of all lines, and their numbers
+pub record AreFew (lines : List plain.LogLine) : Type 0 where
+  pub literals : sum_of literals_of lines < 2 ^ 32
+  pub numbers : sum_of numbers_of lines < 2 ^ 32
+
+-- the tables are as long as the lines need at least
+pub record AreHeld (lines : List plain.LogLine) (literals : List Lit) (numbers : List ℕ) : Type 0 where
+  pub few : AreFew lines
+  pub literals_there : sum_of literals_of lines ≤ length literals
+  pub numbers_there : sum_of numbers_of lines ≤ length numbers
+
+-- .. for the lines of entries
+abbrev pub AreHeldIn : List Lit → List ℕ → List Entry → Type 0
+AreHeldIn literals numbers entries = AreHeld (map (line_at literals numbers) entries) literals numbers
+
+-- the parts of the entries lie within the tables, which hold their lines
+abbrev pub AreEntries : List Lit → List ℕ → List Entry → Type 0
+AreEntries literals numbers entries = All (HasParts literals numbers) entries × AreHeldIn literals numbers entries
+
+-- a table grew by so many items at least, and where there are some, 32 bits count its length
+pub record MakesRoom {X : Type 0} (old new : List X) (more : ℕ) : Type 0 where
+  pub grown : length old + more ≤ length new
+  pub few : 0 < more → length new < 2 ^ 32
+
+-- the table of literals has room for a line more, and the table of numbers
+abbrev pub HoldsLiterals : List Lit → List Lit → plain.LogLine → Type 0
+HoldsLiterals old new l = MakesRoom old new (literals_of l)
+
+abbrev pub HoldsNumbers : List ℕ → List ℕ → plain.LogLine → Type 0
+HoldsNumbers old new l = MakesRoom old new (numbers_of l)

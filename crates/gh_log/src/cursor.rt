@@ -4,7 +4,8 @@ ghost use Rattle.std.specs.Prelude.{◌≡◌, ◌∷◌, ◌++◌, ◌≤◌, [
 ghost use Rattle.std.specs.Bool.{MatchBool};
 ghost use Rattle.std.specs.Char.{is_ascii_digit};
 ghost use Rattle.std.specs.Str.Parse.{AllDigits};
-ghost use Rattle.gh_log.specs.Reading.{IsPartRead, IsNotFront, SpellsText, SpellsByte, SpellsNumber, SpellsBytes, EndsNumber, IsNumberOf, TakesByte};
+ghost use Rattle.gh_log.specs.Reading.{IsPartRead, IsNotFront, SpellsText, SpellsByte, SpellsNumber, SpellsBytes};
+ghost use Rattle.gh_log.specs.Reading.{EndsNumber, IsNumberOf, TakesText, TakesByte};
 
 use crate::error::Refusal;
 
@@ -77,8 +78,7 @@ impl<'t> Reader<'t> {
 
     /// Takes a text, where it is next. Otherwise takes nothing.
     pub fn skip(&mut self, wanted: &[u8]) -> bool
-        ensures { MatchBool result (self.old.rest.now ≡ wanted.now ++ self.new.rest.now)
-            ((self.new.rest.now ≡ self.old.rest.now) × IsNotFront wanted.now self.old.rest.now) }
+        ensures { TakesText wanted.now self.old.rest.now self.new.rest.now result }
     {
         if !self.rest.starts_with(wanted) {
             return false;

@@ -1,9 +1,10 @@
 //! Logs, their sections and lines.
 
-ghost use Rattle.std.specs.Prelude.{◌≡◌, ◌<◌, ◌∷◌, ◌++◌, [], length, slice_get, Some, IfOk, OnOk, OnErr};
+ghost use Rattle.std.specs.Prelude.{◌≡◌, ◌<◌, ◌+◌, ◌^◌, ◌∷◌, ◌++◌, [], length, slice_get, Some, IfOk, OnOk, OnErr};
 ghost use Rattle.gh_log.specs.Lines.{Hinted};
 ghost use Rattle.gh_log.specs.Tables.{line_of, part_of, hinted_at, line_at};
-ghost use Rattle.gh_log.specs.Tables.{IsWithin, HasClause, HasParts, IsAdded, Extends};
+ghost use Rattle.gh_log.specs.Tables.{IsWithin, HasClause, HasParts, IsAdded, Extends, MakesRoom};
+ghost use Rattle.gh_log.specs.Tables.{HoldsLiterals, HoldsNumbers, AreFew};
 
 use gh_base::atom::Lit;
 use gh_inst::naming::InstanceName;
@@ -57,21 +58,22 @@ pub struct Lines {
 }
 
 impl Model for Lines {
-    ghost use Rattle.std.specs.Prelude.{List, map, All};
+    ghost use Rattle.std.specs.Prelude.{List, map};
     ghost use Rattle.gh_log.specs.Lines.{LogLine};
 
     ghost Value = { List LogLine };
 
-    ghost use Rattle.gh_log.specs.Tables.{line_at, HasParts};
+    ghost use Rattle.gh_log.specs.Tables.{line_at, AreEntries};
 
     ghost view = { λ l. map (line_at l.literals.items l.numbers.items) l.entries.items };
 
-    ghost invariant = { λ l. All (HasParts l.literals.items l.numbers.items) l.entries.items };
+    ghost invariant = { λ l. AreEntries l.literals.items l.numbers.items l.entries.items };
 }
 
 // A place as tables write it: places past 32 bits are out of memory.
 fn place_at(length: usize) -> Result<u32, AllocError>
-    ensures { IfOk result (λ place. place ≡ length) }
+    ensures place { IfOk result (λ place. place ≡ length) }
+    ensures few { OnOk result (length < 2 ^ 32) }
 {
     if length > u32::MAX as usize {
         return Err(AllocError);
@@ -101,6 +103,8 @@ fn enter_hinted(
     ensures numbers { Extends numbers.new.items numbers.old.items }
     ensures parts { IfOk result (HasParts literals.new.items numbers.new.items) }
     ensures line { IfOk result (λ e. line_at literals.new.items numbers.new.items e ≡ Hinted clause.now hints.now) }
+    ensures literals_room { OnOk result (MakesRoom literals.old.items literals.new.items (length clause.now)) }
+    ensures numbers_room { OnOk result (MakesRoom numbers.old.items numbers.new.items (2 + length hints.now)) }
 {
     let clause = append(literals, clause)?;
     let first = append(numbers, &[clause.from, clause.to])?;
@@ -121,6 +125,8 @@ fn enter(
     ensures numbers { Extends numbers.new.items numbers.old.items }
     ensures parts { IfOk result (HasParts literals.new.items numbers.new.items) }
     ensures line { IfOk result (λ e. line_at literals.new.items numbers.new.items e ≡ line_of line.entry) }
+    ensures literals_room { OnOk result (HoldsLiterals literals.old.items literals.new.items (line_of line.entry)) }
+    ensures numbers_room { OnOk result (HoldsNumbers numbers.old.items numbers.new.items (line_of line.entry)) }
 {
     match line {
         LogLine::Axiom(name) => Ok(Entry::Axiom(name)),
@@ -209,10 +215,12 @@ impl Lines {
         line_in(&self.literals, &self.numbers, self.entries[place])
     }
 
-    /// Adds a line last. It is out of memory also where the lines have more literals or numbers in all than 32 bits
-    /// can count.
+    /// Adds a line last. It is out of memory also where a table would be longer than 32 bits count: where it answers Ok
+    /// the literals of all lines are at most 4,294,967,295, and so are their numbers, which are positions, hints, and
+    /// two for each clause that has hints. What a call that failed left in a table counts too.
     pub fn push(&mut self, line: LogLine<'_>) -> Result<(), AllocError>
         ensures ok { OnOk result (self.new ≡ self.old ++ line_of line.entry ∷ []) }
+        ensures few { OnOk result (AreFew self.new) }
         ensures err { OnErr result (self.new ≡ self.old) }
     {
         let entry = enter(&mut self.literals, &mut self.numbers, line)?;

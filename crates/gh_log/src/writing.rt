@@ -3,7 +3,9 @@
 ghost use Rattle.std.specs.Prelude.{◌≡◌, ◌++◌, [], codes, OnOk, IfOk};
 ghost use Rattle.std.specs.List.{flat_map};
 ghost use Rattle.std.specs.Fmt.{decimal};
-ghost use Rattle.gh_log.specs.Texts.{Adds, dotted, atom_text, sign_text, lits_text, term_text, numbers_text, line_text, section_text, log_text, name_text};
+ghost use Rattle.gh_log.specs.Lines.{Hinted};
+ghost use Rattle.gh_log.specs.Texts.{Adds, dotted, atom_text, sign_text, lits_text, term_text, numbers_text, line_text};
+ghost use Rattle.gh_log.specs.Texts.{section_text, log_text, name_text};
 ghost use Rattle.gh_log.specs.Tables.{line_of};
 ghost use Rattle.gh_log.specs.Spelled.{IsVersion, AreOfVersion, lines_of};
 ghost use Rattle.gh_inst.specs.Instances.{tuple_of};
@@ -127,8 +129,7 @@ fn put_numbers(out: &mut Text, numbers: &[u32]) -> Result<(), AllocError>
 
 // A clause that hints show, and the end of the line
 fn put_hinted(out: &mut Text, lits: &[Lit], hints: &[u32]) -> Result<(), AllocError>
-    ensures { OnOk result (Adds out.old out.new
-        (codes "l" ++ lits_text lits.now ++ codes " ;" ++ numbers_text hints.now ++ codes "\n")) }
+    ensures { OnOk result (Adds out.old out.new (line_text (Hinted lits.now hints.now))) }
 {
     put_clause(out, b"l", lits, b" ;")?;
     put_numbers(out, hints)?;
