@@ -1,9 +1,12 @@
 -- What each part of the check looks for.
-use Rattle.std.specs.Prelude.{◌≡◌, ◌≢◌, ℕ, ◌⊎◌, List, ◌++◌, Any, Bool, true, map, codes}
+use Rattle.std.specs.Borrow.{Bor}
+use Rattle.std.specs.Prelude.{◌≡◌, ◌≢◌, ℕ, ◌⊎◌, List, ◌++◌, Any, Bool, true, map, codes, Option, MatchOption}
 use Rattle.gh_base.specs.declared.place.Span.{Span}
 use Rattle.gh_ast.specs.declared.Occ.{Occ}
 use Rattle.gh_ast.specs.declared.Field.{Field}
-use Rattle.gh_ast.specs.Plain.{Procedure, Program}
+use Rattle.gh_ast.specs.declared.Procedure as kept
+use Rattle.gh_ast.specs.Plain.{Procedure, Program, procedure_of}
+use Rattle.gh_ast.specs.Programs.{IsFirstNamed}
 use Rattle.gh_ast.specs.Occurrences.{Site, mentioned, assigned, called, returned, sites_in_body, in_formula, in_alternatives, locals_of, variables_of}
 use Rattle.gh_ast.specs.Rules.{HasName, RepeatedAt, WrongCount, UnknownProcedure, ReturnInLoop, SecondLink, DataField, NoLink, NoBody}
 use Rattle.gh_types.specs.declared.scope.Setting.{Setting}
@@ -14,6 +17,11 @@ abbrev pub Forbidden : Procedure → Setting → List ℕ → Type 0
 Forbidden q Requires name = HasName (q.results ++ locals_of q) name
 Forbidden q Ensures name = HasName (locals_of q) name
 Forbidden q Inside name = ⊥
+
+-- what a name means among some procedures: the first of that name, if there is one
+abbrev pub IsMeant : List Procedure → List ℕ → Option (Bor kept.Procedure) → Type 0
+IsMeant ps name found =
+    MatchOption found (Any (λ r. r.name.name ≡ name) ps → ⊥) (λ r. IsFirstNamed ps name (procedure_of r.now))
 
 -- the errors of an occurrence of a variable: no variable, or one that may not stand there
 abbrev pub OccurrenceErrors : Procedure → Setting → Occ → ℕ → Span → Type 0

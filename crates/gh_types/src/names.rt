@@ -1,13 +1,14 @@
 // Tables of names.
 
-ghost use Rattle.std.specs.Prelude.{◌≡◌, [], ◌∷◌, ◌++◌, List, ℕ, length, IfOk, OnOk, is_none, IsTrue, ◌↔◌, Some, map};
+ghost use Rattle.std.specs.Prelude.{◌≡◌, [], List, IfOk, OnOk, is_none, IsTrue, ◌↔◌, map};
 ghost use Rattle.gh_ast.specs.declared.Occ.{Occ as Whole};
+ghost use Rattle.gh_ast.specs.Programs.{names};
 ghost use Rattle.gh_ast.specs.Rules.{HasName};
 ghost use Rattle.gh_ast.specs.Plain.{procedure_of};
 ghost use Rattle.gh_ast.specs.Occurrences.{locals_of, variables_of};
 ghost use Rattle.gh_types.specs.Faults.{IsFirstOf};
 ghost use Rattle.gh_types.specs.Checks.{RepeatErrors};
-ghost use Rattle.gh_types.specs.Tables.{place_in, IsTableOf};
+ghost use Rattle.gh_types.specs.Tables.{place_in, AddsName, IsTableOf};
 
 use crate::fault::{Fault, earlier};
 use gh_ast::{Occ, Procedure};
@@ -39,7 +40,7 @@ impl<'a> Names<'a> {
 
     /// Whether the name of an occurrence is there.
     pub fn has(&self, occurrence: &Occ) -> bool
-        ensures { (os : List Whole) → IsTableOf (map (λ o. o.name) os) self.now.places →
+        ensures { (os : List Whole) → IsTableOf (names os) self.now.places →
             (IsTrue result ↔ HasName os occurrence.now.name) }
     {
         self.places.contains_key(occurrence.name.bytes())
@@ -48,8 +49,7 @@ impl<'a> Names<'a> {
     /// Adds a name that stands at a place, unless it is there. Whether it was added.
     pub fn add(&mut self, name: &'a [u8], place: usize) -> Result<bool, AllocError>
         ensures added { IfOk result (λ added. added ≡ is_none (place_in self.old.places name.now)) }
-        ensures names { OnOk result ((names : List (List ℕ)) → place ≡ length names →
-            IsTableOf names self.old.places → IsTableOf (names ++ name.now ∷ []) self.new.places) }
+        ensures names { OnOk result (AddsName name.now place self.old.places self.new.places) }
     {
         if self.places.contains_key(name) {
             return Ok(false);

@@ -1,11 +1,10 @@
 // The names that the text of a procedure may use.
 
-ghost use Rattle.std.specs.Prelude.{◌≡◌, ◌↔◌, map, Any, IsTrue, MatchOption};
+ghost use Rattle.std.specs.Prelude.{◌≡◌, ◌↔◌, map, IsTrue};
 ghost use Rattle.gh_ast.specs.Plain.{procedure_of};
 ghost use Rattle.gh_ast.specs.Occurrences.{locals_of, variables_of};
 ghost use Rattle.gh_ast.specs.Rules.{HasName};
-ghost use Rattle.gh_ast.specs.Programs.{IsFirstNamed};
-ghost use Rattle.gh_types.specs.Checks.{Forbidden, OccurrenceErrors};
+ghost use Rattle.gh_types.specs.Checks.{Forbidden, IsMeant, OccurrenceErrors};
 ghost use Rattle.gh_types.specs.Tables.{IsTableOf};
 ghost use Rattle.gh_types.specs.Faults.{IsFirstOf};
 
@@ -90,9 +89,7 @@ impl<'a, 'n> Scope<'a, 'n> {
 
     /// The procedure that a name means.
     pub fn meant(&self, name: &Occ) -> Option<&'a Procedure>
-        ensures { MatchOption result
-            (Any (λ r. r.name.name ≡ name.now.name) (map procedure_of self.now.procedures.now) → ⊥)
-            (λ r. IsFirstNamed (map procedure_of self.now.procedures.now) name.now.name (procedure_of r.now)) }
+        ensures { IsMeant (map procedure_of self.now.procedures.now) name.now.name result }
     {
         let Some(place) = self.firsts.place(name.name.bytes()) else {
             return None;

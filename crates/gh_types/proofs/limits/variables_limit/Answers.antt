@@ -5,7 +5,7 @@ use Rattle.gh_ast.specs.Occurrences.{variables_of}
 use Rattle.gh_types.proofs.LimitLemmas.{first_there, all_more}
 use Rattle.gh_types.proofs.limits.variables_limit.Goals as goal
 
-pub returns-then-count-gt-MOST_VARIABLES : goal.returns-then-count-gt32
+pub returns-then-count-gt-MOST_VARIABLES : goal.returns-then-count-gt-MOST_VARIABLES
 returns-then-count-gt-MOST_VARIABLES c =
     let q = procedure_of c.procedure-item.result in
     let many : 32 < length (variables_of q) = omega arith in
