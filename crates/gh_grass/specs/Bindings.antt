@@ -41,6 +41,10 @@ bound_term bs name = unwrap_or (term_in bs name) (term 0)
 abbrev pub AreDistinctKinds : List TermKind → Type 0
 AreDistinctKinds ks = AllPairs (λ j k. j ≢ k) ks
 
+-- the kinds of terms, in order: null stands first, and a term is a byte
+abbrev pub AreTermKinds : List TermKind → Type 0
+AreTermKinds ks = (length ks < 256) × (slice_get ks 0 ≡ Some Null) × AreDistinctKinds ks
+
 -- no term but this one is of the kind
 abbrev pub IsOnlyAt : List TermKind → TermKind → ℕ → Type 0
 IsOnlyAt ks kind place = (t : ℕ) → slice_get ks t ≡ Some kind → t ≡ place

@@ -13,6 +13,7 @@ use Rattle.gh_ast.specs.declared.Expr.TheVariants.{Plain, Read}
 use Rattle.gh_ast.specs.Plain.{Test, compare, negation, conjunction, disjunction, Tests, no_tests, test_first, Formula, empty, comparison, points_to, cell, segment, star, cases, Formulas, no_formulas, formula_first, test_of, formula_of, formulas_view}
 use Rattle.gh_ast.specs.Programs.{Name}
 use Rattle.gh_grass.specs.declared.binding.Bond.{Bond}
+use Rattle.gh_grass.specs.declared.footprint.Interpretation.{Interpretation}
 use Rattle.gh_base.specs.declared.term.TermKind.{TermKind}
 use Rattle.gh_grass.specs.Bindings.{term, bound_term, next_term}
 use Rattle.gh_grass.specs.Claims.{Claim, atom, negation_of, all_of, one_of, equality}
@@ -121,19 +122,6 @@ footprint_of bs i z a = footprint (bound_term bs) i z (formula_of a)
 abbrev pub footprints_of : List Bond → ℕ → Term → List Assertion → List Claim
 footprints_of bs i z assertions = footprints (bound_term bs) i z (formulas_view assertions)
 
-abbrev pub apart_here_of : List Bond → ℕ → Assertion → Assertion → Term → Claim
-apart_here_of bs i first second z = apart_here (bound_term bs) i (formula_of first) (formula_of second) z
-
-abbrev pub apart_of : List Bond → ℕ → ℕ → Assertion → Assertion → List Claim
-apart_of bs i n first second = apart (bound_term bs) i n (formula_of first) (formula_of second)
-
--- .. from each of some others
-abbrev pub apart_from : List Bond → ℕ → ℕ → Assertion → List Assertion → List Claim
-apart_from bs i n first others = flat_map (apart (bound_term bs) i n (formula_of first)) (map formula_of others)
-
-abbrev pub all_apart_of : List Bond → ℕ → ℕ → List Assertion → List Claim
-all_apart_of bs i n assertions = all_apart (bound_term bs) i n (map formula_of assertions)
-
 abbrev pub leads_to_of : List Bond → List TermKind → ℕ → Occ → Operand → Claim
 leads_to_of bs terms i x y = leads_to (bound_term bs) (next_term terms i) i x y
 
@@ -142,3 +130,20 @@ structure_of bs terms i a = structure (bound_term bs) (next_term terms i) i (len
 
 abbrev pub structures_of : List Bond → List TermKind → ℕ → List Assertion → List Claim
 structures_of bs terms i assertions = structures (bound_term bs) (next_term terms i) i (length terms) (formulas_view assertions)
+
+-- .. by an interpretation
+abbrev pub apart_here_of : Interpretation → Assertion → Assertion → Term → Claim
+apart_here_of u first second z =
+    apart_here (bound_term u.binding.now) u.version (formula_of first) (formula_of second) z
+
+abbrev pub apart_of : Interpretation → Assertion → Assertion → List Claim
+apart_of u first second =
+    apart (bound_term u.binding.now) u.version u.terms (formula_of first) (formula_of second)
+
+-- from each of some others
+abbrev pub apart_from : Interpretation → Assertion → List Assertion → List Claim
+apart_from u first others =
+    flat_map (apart (bound_term u.binding.now) u.version u.terms (formula_of first)) (map formula_of others)
+
+abbrev pub all_apart_of : Interpretation → List Assertion → List Claim
+all_apart_of u assertions = all_apart (bound_term u.binding.now) u.version u.terms (map formula_of assertions)

@@ -100,8 +100,7 @@ fn apart_at(
     second: &Assertion,
     z: Term,
 ) -> Result<Formula, AllocError>
-    ensures { IfOk result (λ f.
-        claim_of f ≡ apart_here_of under.entry.binding.now under.entry.version first.now second.now z) }
+    ensures { IfOk result (λ f. claim_of f ≡ apart_here_of under.entry first.now second.now z) }
 {
     let one = footprint_at(alloc, first, under.binding, under.version, z)?;
     let other = footprint_at(alloc, second, under.binding, under.version, z)?;
@@ -116,8 +115,7 @@ fn push_apart(
     second: &Assertion,
     formulas: &mut Vec<Formula>,
 ) -> Result<(), AllocError>
-    ensures { OnOk result (Adds formulas.old formulas.new
-        (apart_of under.entry.binding.now under.entry.version under.entry.terms first.now second.now)) }
+    ensures { OnOk result (Adds formulas.old formulas.new (apart_of under.entry first.now second.now)) }
 {
     for z in 0..under.terms {
         formulas.push(apart_at(alloc, under, first, second, Term(z))?)?;
@@ -133,8 +131,7 @@ fn push_apart_from(
     others: &[Assertion],
     formulas: &mut Vec<Formula>,
 ) -> Result<(), AllocError>
-    ensures { OnOk result (Adds formulas.old formulas.new
-        (apart_from under.entry.binding.now under.entry.version under.entry.terms first.now others.now)) }
+    ensures { OnOk result (Adds formulas.old formulas.new (apart_from under.entry first.now others.now)) }
 {
     for second in others {
         push_apart(alloc, under, first, second, formulas)?;
@@ -149,8 +146,7 @@ fn push_all_apart(
     members: &[Assertion],
     formulas: &mut Vec<Formula>,
 ) -> Result<(), AllocError>
-    ensures { OnOk result (Adds formulas.old formulas.new
-        (all_apart_of under.entry.binding.now under.entry.version under.entry.terms members.now)) }
+    ensures { OnOk result (Adds formulas.old formulas.new (all_apart_of under.entry members.now)) }
 {
     for (i, first) in members.iter().enumerate() {
         let others = &members[i + 1..];

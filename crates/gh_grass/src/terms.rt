@@ -18,17 +18,15 @@ pub struct TermList {
 }
 
 impl Model for TermList {
-    ghost use Rattle.std.specs.Prelude.{◌≡◌, ◌<◌, List, length, Some, slice_get};
+    ghost use Rattle.std.specs.Prelude.{List};
     ghost use Rattle.gh_base.specs.declared.term.TermKind.{TermKind};
-    ghost use Rattle.gh_base.specs.declared.term.TermKind.TheVariants.{Null};
-    ghost use Rattle.gh_grass.specs.Bindings.{AreDistinctKinds};
+    ghost use Rattle.gh_grass.specs.Bindings.{AreTermKinds};
 
     ghost Value = { List TermKind };
 
     ghost view = { λ t. t.kinds.keys };
 
-    ghost invariant = { λ t.
-        (length t.kinds.keys < 256) × (slice_get t.kinds.keys 0 ≡ Some Null) × AreDistinctKinds t.kinds.keys };
+    ghost invariant = { λ t. AreTermKinds t.kinds.keys };
 }
 
 impl TermList {
