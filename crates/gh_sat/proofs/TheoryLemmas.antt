@@ -15,7 +15,7 @@ use Rattle.gh_sat.specs.Trail.{SearchState, IsTrueIn, IsFalseIn, IsFree, IsSound
 use Rattle.gh_sat.specs.Whole.{Adds, PropagatesTo}
 use Rattle.gh_sat.specs.Watch.{WasOpen}
 use Rattle.gh_sat.specs.Learn.{IsConflict, add_clause}
-use Rattle.gh_sat.specs.Theory.{IsRefutedBy, HasNoLit, lits_of, IsTold, HasNoConflict, WereConsistent, PropagatesBeside}
+use Rattle.gh_sat.specs.Theory.{IsRefutedBy, HasNoLit, lits_of, IsTold, HasNoConflict, WereConsistent, IsBeside, PropagatesBeside}
 use Rattle.gh_base.proofs.ListLemmas.{get_within, get_take, get_push, get_last}
 use Rattle.gh_sat.proofs.ListLemmas.{le_same}
 use Rattle.gh_sat.proofs.WholeLemmas.{take_take, take_whole, present_of, cut_none}
@@ -209,27 +209,23 @@ conflict_added s c h f was = record {
   present = λ pos. present_of s c h f was pos;
 }
 
--- what is kept of a theory beside a trail
-abbrev pub Beside : (Sizes → List Lit → Type 0) → List Lit → Sizes → SearchState → Type 0
-Beside V asserted z s = IsTold asserted s.trail × (z ≡ s.sizes) × WereConsistent (V s.sizes) s.trail s.starts
-
 -- a level is opened where the theory has no conflict
 pub beside_open : (V : Sizes → List Lit → Type 0) (a : List Lit) (z : Sizes) (s new : SearchState) (lit : Lit)
-    → Beside V a z s → HasNoConflict (V s.sizes) s.trail → new ≡ open_level s lit → IsSound new → Beside V a z new
+    → IsBeside V a z s → HasNoConflict (V s.sizes) s.trail → new ≡ open_level s lit → IsSound new → IsBeside V a z new
 beside_open V a z s new lit b calm opens h =
     let y : Step = record { lit = lit; level = length s.starts + 1; reason = None } in
     let sound : IsSound (open_level s lit) = subst IsSound opens h in
-    subst (Beside V a z) (sym opens)
+    subst (IsBeside V a z) (sym opens)
     (told_grow a s.trail (y ∷ []) b.0, b.1, consistent_open (V s.sizes) s lit sound calm b.2)
 
 -- after a cut, where the theory knows no more than what is left
 pub beside_cut : (V : Sizes → List Lit → Type 0) (a : List Lit) (z : Sizes) (s new : SearchState) (level : ℕ)
-    (cs : List (List Lit)) → Beside V a z s → new ≡ record (cut s level) { clauses = cs } → IsSound new
-    → length a ≤ length new.trail → Beside V a z new
+    (cs : List (List Lit)) → IsBeside V a z s → new ≡ record (cut s level) { clauses = cs } → IsSound new
+    → length a ≤ length new.trail → IsBeside V a z new
 beside_cut V a z s new level cs b is h le =
     let h' : IsSound (record (cut s level) { clauses = cs }) = subst IsSound is h in
     let le' : length a ≤ length (cut s level).trail = subst (λ (t : SearchState). length a ≤ length t.trail) is le in
-    subst (Beside V a z) (sym is) (
+    subst (IsBeside V a z) (sym is) (
       told_cut a s.trail (end_of s.starts level (length s.trail)) b.0 le',
       b.1,
       consistent_cut (V s.sizes) s level cs h' b.2,
@@ -237,14 +233,14 @@ beside_cut V a z s new level cs b is h le =
 
 -- or it forgets the rest
 pub beside_undo : (V : Sizes → List Lit → Type 0) (a a' : List Lit) (z z' : Sizes) (s new : SearchState) (level : ℕ)
-    (cs : List (List Lit)) → Beside V a z s → new ≡ record (cut s level) { clauses = cs } → IsSound new
-    → length new.trail ≤ length a → a' ≡ take (length new.trail) a → z' ≡ z → Beside V a' z' new
+    (cs : List (List Lit)) → IsBeside V a z s → new ≡ record (cut s level) { clauses = cs } → IsSound new
+    → length new.trail ≤ length a → a' ≡ take (length new.trail) a → z' ≡ z → IsBeside V a' z' new
 beside_undo V a a' z z' s new level cs b is h le made same =
     let h' : IsSound (record (cut s level) { clauses = cs }) = subst IsSound is h in
     let le' : length (cut s level).trail ≤ length a = subst (λ (t : SearchState). length t.trail ≤ length a) is le in
     let made' : a' ≡ take (length (cut s level).trail) a =
     subst (λ (t : SearchState). a' ≡ take (length t.trail) a) is made in
-    subst (Beside V a' z') (sym is) (
+    subst (IsBeside V a' z') (sym is) (
       told_undo a a' s.trail (end_of s.starts level (length s.trail)) b.0 le' made',
       same ∙ b.1,
       consistent_cut (V s.sizes) s level cs h' b.2,
@@ -262,7 +258,7 @@ added_cut s new c (inr w) = (
 
 -- propagation keeps it
 pub beside_grow : (V : Sizes → List Lit → Type 0) (a : List Lit) (z : Sizes) (s new : SearchState) → IsSound s
-    → Beside V a z s → PropagatesTo s new → Beside V a z new
+    → IsBeside V a z s → PropagatesTo s new → IsBeside V a z new
 beside_grow V a z s new h b p =
     let added = p.grows.0 in
     let low : (level start : ℕ) → slice_get s.starts level ≡ Some start → start ≤ length s.trail =
@@ -312,14 +308,14 @@ same_trail V mid new None added same = ap (λ (t : SearchState). t.trail) same
 same_trail V mid new (Some k) added same = ap (λ (t : SearchState). t.trail) added.2
 
 pub beside_answer : (V : Sizes → List Lit → Type 0) (a : List Lit) (z : Sizes) (mid new : SearchState) (o : Option ℕ)
-    → Beside V a z mid → IfSome o (λ _. (c : List Lit) × V mid.sizes c × (new ≡ add_clause mid c))
-    → IfNone o (new ≡ mid) → Beside V a z new
-beside_answer V a z mid new None b added same = subst (Beside V a z) (sym same) b
-beside_answer V a z mid new (Some k) b added same = subst (Beside V a z) (sym added.2) b
+    → IsBeside V a z mid → IfSome o (λ _. (c : List Lit) × V mid.sizes c × (new ≡ add_clause mid c))
+    → IfNone o (new ≡ mid) → IsBeside V a z new
+beside_answer V a z mid new None b added same = subst (IsBeside V a z) (sym same) b
+beside_answer V a z mid new (Some k) b added same = subst (IsBeside V a z) (sym added.2) b
 
 -- all was told
-pub beside_told : (V : Sizes → List Lit → Type 0) (a a' : List Lit) (z z' : Sizes) (s : SearchState) → Beside V a z s
-    → a' ≡ lits_of s.trail → z' ≡ s.sizes → Beside V a' z' s
+pub beside_told : (V : Sizes → List Lit → Type 0) (a a' : List Lit) (z z' : Sizes) (s : SearchState) → IsBeside V a z s
+    → a' ≡ lits_of s.trail → z' ≡ s.sizes → IsBeside V a' z' s
 beside_told V a a' z z' s b told same =
     ((length s.trail, le_same (length s.trail), told ∙ ap lits_of (sym (take_whole s.trail))), same, b.2)
 
@@ -337,10 +333,10 @@ grown_long s mid p = let e = ap length p.grows.1 in omega (arith, length-append 
 
 -- the theory taken back
 pub told_back : (V : Sizes → List Lit → Type 0) (a a' b : List Lit) (z z' w : Sizes) (s mid new : SearchState)
-    → Beside V a z s → PropagatesTo s mid → new ≡ s → b ≡ lits_of mid.trail → w ≡ mid.sizes
-    → a' ≡ take (length s.trail) b → z' ≡ w → Beside V a' z' new
+    → IsBeside V a z s → PropagatesTo s mid → new ≡ s → b ≡ lits_of mid.trail → w ≡ mid.sizes
+    → a' ≡ take (length s.trail) b → z' ≡ w → IsBeside V a' z' new
 told_back V a a' b z z' w s mid new beside p back told same less same' =
-    subst (Beside V a' z') (sym back)
+    subst (IsBeside V a' z') (sym back)
     (told_front b a' mid.trail s.trail p.grows.0 told p.grows.1 less, same' ∙ same ∙ p.sizes, beside.2)
 
 -- nor is a clause of the theory false after the answer

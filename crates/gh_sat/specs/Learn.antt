@@ -1,6 +1,6 @@
 -- Learnt clauses.
 use Rattle.std.specs.Prelude.{◌≡◌, ◌⊎◌, ℕ, suc, ◌+◌, ◌<◌, ◌≤◌, if◌then◌else◌, List, [], ◌∷◌, ◌++◌, All, Contains, Some}
-use Rattle.std.specs.Prelude.{length, map, take, drop, slice_get, slice_index_or, cond, nat_eq}
+use Rattle.std.specs.Prelude.{length, map, take, drop, slice_get, slice_index_or, cond, nat_eq, Option}
 use Rattle.std.specs.List.{cons_option}
 use Rattle.gh_base.specs.declared.atom.Lit.{Lit}
 use Rattle.gh_base.specs.Atoms.{opposite}
@@ -204,6 +204,15 @@ reasons_of round [] steps = []
 reasons_of round (s ∷ ss) [] = []
 reasons_of round (s ∷ ss) (x ∷ xs) =
     if nat_eq s round then cons_option x.reason (reasons_of round ss xs) else reasons_of round ss xs
+
+-- .. of the marked steps from a place on
+abbrev pub marked_reasons : Marks → List Step → ℕ → List ℕ
+marked_reasons m steps place = reasons_of m.round (drop place m.stamps.items) (drop place steps)
+
+-- this is the first of them where the step at the place is marked and has one
+abbrev pub IsMarkedReason : Marks → List Step → ℕ → Option ℕ → Type 0
+IsMarkedReason m steps place reason =
+    marked_reasons m steps place ≡ cons_option reason (marked_reasons m steps (place + 1))
 
 -- the one place from the start on to which resolving later places leads
 pub record IsAlone (clauses : List (List Lit)) (trail : List Step) (conflict : List Lit)

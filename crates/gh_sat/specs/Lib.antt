@@ -5,6 +5,7 @@ pub mod Watch
 pub mod Propagation
 pub mod Learn
 pub mod Whole
+pub mod Fields
 pub mod Theory
 pub mod Measure
 pub mod Hinted

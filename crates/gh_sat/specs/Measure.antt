@@ -55,6 +55,10 @@ weight atoms (x ∷ xs) = power (suc atoms) (atoms - x.level) + weight atoms xs
 abbrev pub left : Sizes → List Step → ℕ
 left sizes trail = power (suc (count_of sizes)) (suc (count_of sizes)) - weight (count_of sizes) trail
 
+-- from one search to another
+abbrev pub LeavesLess : SearchState → SearchState → Type 0
+LeavesLess old new = left new.sizes new.trail < left old.sizes old.trail
+
 abbrev pub StepsLeaveLess : Type 0
 StepsLeaveLess =
     (sizes : Sizes) (trail : List Step) (x : Step) (more : List Step) → length (trail ++ x ∷ more) ≤ count_of sizes

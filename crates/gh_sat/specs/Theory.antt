@@ -3,6 +3,7 @@ use Rattle.std.specs.Prelude.{◌≡◌, ◌≢◌, ◌⊎◌, ℕ, ◌≤◌, L
 use Rattle.std.specs.Prelude.{map, slice_get}
 use Rattle.gh_base.specs.declared.atom.Atom.{Atom}
 use Rattle.gh_base.specs.declared.atom.Lit.{Lit}
+use Rattle.gh_base.specs.declared.sizes.Sizes.{Sizes}
 use Rattle.gh_base.specs.Atoms.{opposite}
 use Rattle.gh_sat.specs.declared.trail.Step.{Step}
 use Rattle.gh_sat.specs.Trail.{SearchState, IsFalseIn}
@@ -36,10 +37,19 @@ IsTold asserted trail = (n : ℕ) × (n ≤ length trail) × (asserted ≡ lits_
 abbrev pub HasNoConflict : (List Lit → Type 0) → List Step → Type 0
 HasNoConflict valid trail = (c : List Lit) → valid c → IsFalseIn trail c → ⊥
 
+-- .. of a search
+abbrev pub IsCalm : (Sizes → List Lit → Type 0) → SearchState → Type 0
+IsCalm valid s = HasNoConflict (valid s.sizes) s.trail
+
 -- nor was one when a level was opened
 abbrev pub WereConsistent : (List Lit → Type 0) → List Step → List ℕ → Type 0
 WereConsistent valid trail starts =
     (level start : ℕ) → slice_get starts level ≡ Some start → HasNoConflict valid (take start trail)
+
+-- a theory over the sizes of a search is told a front of its trail, and had no conflict when a level was opened
+abbrev pub IsBeside : (Sizes → List Lit → Type 0) → List Lit → Sizes → SearchState → Type 0
+IsBeside valid asserted sizes s =
+    IsTold asserted s.trail × (sizes ≡ s.sizes) × WereConsistent (valid s.sizes) s.trail s.starts
 
 -- a clause of the theory is added
 abbrev pub AddsValid : (List Lit → Type 0) → SearchState → SearchState → Type 0

@@ -136,6 +136,16 @@ IsFreeAt p place = slice_get p.values (turned p.sizes place) ≡ Some None
 abbrev pub IsPassed : Partial → ℕ → Type 0
 IsPassed p cursor = (i : ℕ) → i < cursor → slice_get p.values (turned p.sizes i) ≢ Some None
 
+-- the tables are those of the trail, each place before the cursor is passed, and all atoms have room
+abbrev pub AreTables : Partial → List ℕ → List Step → ℕ → ℕ → Type 0
+AreTables p places trail cursor room =
+    AreValues p trail
+    × ArePlaces p.sizes places trail
+    × IsPassed p cursor
+    × (cursor ≤ count_of p.sizes)
+    × (length places ≡ count_of p.sizes)
+    × (count_of p.sizes ≤ room)
+
 -- an assignment that tells the truth of each literal by the trail
 pub record IsAssignmentOf (p : Partial) (t : Line) : Type 0 where
   pub sizes : p.sizes ≡ t.sizes

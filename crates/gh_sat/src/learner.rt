@@ -57,27 +57,15 @@ pub struct Learner {
 }
 
 impl Model for Learner {
-    ghost use Rattle.std.specs.Prelude.{◌≡◌, ◌≤◌, length, vec_capacity};
-    ghost use Rattle.gh_base.specs.Atoms.{count_of};
     ghost use Rattle.gh_sat.specs.Trail.{SearchState};
-    ghost use Rattle.gh_sat.specs.Learn.{marks_of, IsBounded};
-    ghost use Rattle.gh_sat.specs.Rows.{rows_of};
-    ghost use Rattle.gh_sat.specs.Whole.{IsWhole};
 
     ghost Value = { SearchState };
 
-    ghost view = { λ s.
-        record { sizes = s.trail.sizes; clauses = s.clauses.items; trail = s.trail.steps; starts = s.starts.items } };
+    ghost use Rattle.gh_sat.specs.Fields.{state_of, HoldsSearch};
 
-    ghost invariant = { λ s.
-        IsWhole
-        (record { sizes = s.trail.sizes; clauses = s.clauses.items; trail = s.trail.steps; starts = s.starts.items })
-        s.counts.items s.looked s.head s.occurrences s.hints.items
-        × (count_of s.trail.sizes ≤ vec_capacity s.starts)
-        × (count_of s.trail.sizes ≤ vec_capacity s.counts)
-        × IsBounded (marks_of s.marks)
-        × (length s.marks.stamps.items ≡ count_of s.trail.sizes)
-        × (s.rows.items ≡ rows_of s.trail.sizes s.clauses.items) };
+    ghost view = { state_of };
+
+    ghost invariant = { HoldsSearch };
 }
 
 // The greatest level of a clause's literals, if each of them is false.

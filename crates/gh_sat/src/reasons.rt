@@ -1,11 +1,10 @@
 //! Which clauses show what a false clause leads to: those that are reached from it, in the order of the trail.
 
-ghost use Rattle.std.specs.Prelude.{◌≡◌, ◌<◌, ◌≤◌, ◌+◌, ◌∷◌, ◌++◌, [], length, drop, All, OnOk, IfOk};
-ghost use Rattle.std.specs.List.{cons_option};
+ghost use Rattle.std.specs.Prelude.{◌≡◌, ◌<◌, ◌≤◌, ◌∷◌, ◌++◌, [], length, All, OnOk, IfOk};
 ghost use Rattle.gh_base.specs.Atoms.{AreInRange};
 ghost use Rattle.gh_sat.specs.Trail.{IsFalseIn, AreSteps};
 ghost use Rattle.gh_sat.specs.Learn.{marks_of, AllMarked, IsBounded, AreMarks, AllHaveReasons, ResolvedFrom};
-ghost use Rattle.gh_sat.specs.Learn.{reasons_of};
+ghost use Rattle.gh_sat.specs.Learn.{marked_reasons, IsMarkedReason};
 
 use crate::marks::{Marks, last_marked, mark_all};
 use crate::trail::Trail;
@@ -51,9 +50,7 @@ pub fn mark_reached(
 fn marked_reason(marks: &Marks, trail: &Trail, place: usize) -> Option<u32>
     requires within { place < length trail.now.steps }
     requires long { length trail.now.steps ≤ length marks.now.stamps.items }
-    ensures { reasons_of marks.now.round (drop place marks.now.stamps.items) (drop place trail.now.steps)
-        ≡ cons_option result
-        (reasons_of marks.now.round (drop (place + 1) marks.now.stamps.items) (drop (place + 1) trail.now.steps)) }
+    ensures { IsMarkedReason marks.now trail.now.steps place result }
 {
     if marks.stamps[place] == marks.round {
         trail.steps()[place].reason
@@ -71,9 +68,7 @@ pub fn reasons_from(
     conflict: u32,
 ) -> Result<Vec<u32>, AllocError>
     requires { length trail.now.steps ≤ length marks.now.stamps.items }
-    ensures { IfOk result
-        (λ v. v.items ≡ reasons_of marks.now.round (drop from marks.now.stamps.items) (drop from trail.now.steps)
-        ++ conflict ∷ []) }
+    ensures { IfOk result (λ v. v.items ≡ marked_reasons marks.now trail.now.steps from ++ conflict ∷ []) }
 {
     let mut reasons = Vec::new(alloc);
     for place in from..trail.steps().len() {

@@ -8,7 +8,7 @@ ghost use Rattle.gh_sat.specs.Trail.{search_over};
 ghost use Rattle.gh_sat.specs.Status.{IsSettled, AreAssigned, OccursIn};
 ghost use Rattle.gh_sat.specs.Learn.{IsConflict, IsLearnt, AreReasons, add_clause};
 ghost use Rattle.gh_sat.specs.Whole.{GivesLast, Adds};
-ghost use Rattle.gh_sat.specs.Theory.{lits_of, IsTold, HasNoConflict, WereConsistent, PropagatesBeside, AddsValid};
+ghost use Rattle.gh_sat.specs.Theory.{lits_of, IsTold, IsCalm, WereConsistent, PropagatesBeside, AddsValid};
 
 use crate::learner::{Learner, Learnt};
 use crate::theory::Theory;
@@ -28,18 +28,14 @@ pub struct Search<T: Theory> {
 }
 
 impl<T: Theory> Model for Search<T> {
-    ghost use Rattle.std.specs.Prelude.{◌≡◌};
     ghost use Rattle.gh_sat.specs.Trail.{SearchState};
-    ghost use Rattle.gh_sat.specs.Theory.{IsTold, WereConsistent};
+    ghost use Rattle.gh_sat.specs.Theory.{IsBeside};
 
     ghost Value = { SearchState };
 
     ghost view = { λ s. s.learner };
 
-    ghost invariant = { λ s.
-        IsTold (T.asserted s.theory) s.learner.trail
-        × (T.sizes s.theory ≡ s.learner.sizes)
-        × WereConsistent (T.valid s.learner.sizes) s.learner.trail s.learner.starts };
+    ghost invariant = { λ s. IsBeside T.valid (T.asserted s.theory) (T.sizes s.theory) s.learner };
 }
 
 // Asserts what the theory doesn't know yet of the trail.
@@ -71,7 +67,7 @@ fn refute<T: Theory>(
     ensures number { IfOk result (λ o. IfSome o (λ k. k ≡ length learner.old.clauses)) }
     ensures added { IfOk result (λ o. IfSome o (λ _. AddsValid (T.valid learner.old.sizes) learner.old learner.new)) }
     ensures conflict { IfOk result (λ o. IfSome o (λ k. IsConflict learner.new k)) }
-    ensures none { IfOk result (λ o. IfNone o (HasNoConflict (T.valid learner.old.sizes) learner.old.trail)) }
+    ensures none { IfOk result (λ o. IfNone o (IsCalm T.valid learner.old)) }
     ensures known { IfOk result (λ o. IfNone o (T.known learner.old.sizes (lits_of learner.old.trail))) }
     ensures same { IfOk result (λ o. IfNone o (learner.new ≡ learner.old)) }
     ensures sound { OnOk result (IsSound learner.new) }
@@ -142,7 +138,7 @@ impl<T: Theory> Search<T> {
         ensures last { OnOk result (GivesLast self.old self.new.trail) }
         ensures conflict { IfOk result (λ o. IfSome o (λ k. IsConflict self.new k)) }
         ensures settled { IfOk result (λ o. IfNone o (IsSettled self.new)) }
-        ensures consistent { IfOk result (λ o. IfNone o (HasNoConflict (T.valid self.new.sizes) self.new.trail)) }
+        ensures consistent { IfOk result (λ o. IfNone o (IsCalm T.valid self.new)) }
         ensures known { IfOk result (λ o. IfNone o (T.known self.new.sizes (lits_of self.new.trail))) }
         ensures sound { OnOk result (IsSound self.new) }
         ensures err { OnErr result (self.new ≡ self.old) }
@@ -166,7 +162,7 @@ impl<T: Theory> Search<T> {
     // Opens a level with an atom that has no truth. The theory says which truth is tried first.
     fn open(&mut self, atom: Atom) -> Lit
         requires settled { IsSettled self.old }
-        requires consistent { HasNoConflict (T.valid self.old.sizes) self.old.trail }
+        requires consistent { IsCalm T.valid self.old }
         requires range { IsInRange self.old.sizes atom }
         requires free { IsFree self.old.trail atom }
         ensures atom { result.atom ≡ atom }
@@ -184,7 +180,7 @@ impl<T: Theory> Search<T> {
     /// first.
     pub fn decide(&mut self) -> Option<Lit>
         requires settled { IsSettled self.old }
-        requires consistent { HasNoConflict (T.valid self.old.sizes) self.old.trail }
+        requires consistent { IsCalm T.valid self.old }
         ensures none { IfNone result ((self.new ≡ self.old) × AllHaveTruth self.old.sizes self.old.trail) }
         ensures some { IfSome result (λ lit. OpensLevel self.old lit self.new) }
     {
@@ -196,7 +192,7 @@ impl<T: Theory> Search<T> {
     /// first.
     pub fn decide_needed(&mut self) -> Option<Lit>
         requires settled { IsSettled self.old }
-        requires consistent { HasNoConflict (T.valid self.old.sizes) self.old.trail }
+        requires consistent { IsCalm T.valid self.old }
         ensures none { IfNone result ((self.new ≡ self.old) × AreAssigned self.old) }
         ensures some { IfSome result (λ lit. OpensLevel self.old lit self.new) }
         ensures occurs { IfSome result (λ lit. OccursIn self.old.clauses lit.atom) }

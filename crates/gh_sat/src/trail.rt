@@ -37,21 +37,14 @@ pub(crate) struct Trail {
 }
 
 impl Model for Trail {
-    ghost use Rattle.std.specs.Prelude.{◌≡◌, ◌≤◌, length, vec_capacity};
-    ghost use Rattle.gh_base.specs.Atoms.{count_of};
-    ghost use Rattle.gh_sat.specs.Trail.{Line, AreValues, ArePlaces, IsPassed};
+    ghost use Rattle.std.specs.Prelude.{vec_capacity};
+    ghost use Rattle.gh_sat.specs.Trail.{Line, AreTables};
 
     ghost Value = { Line };
 
     ghost view = { λ t. record { sizes = t.values.sizes; steps = t.steps.items } };
 
-    ghost invariant = { λ t.
-        AreValues t.values t.steps.items
-        × ArePlaces t.values.sizes t.places.items t.steps.items
-        × IsPassed t.values t.cursor
-        × (t.cursor ≤ count_of t.values.sizes)
-        × (length t.places.items ≡ count_of t.values.sizes)
-        × (count_of t.values.sizes ≤ vec_capacity t.steps) };
+    ghost invariant = { λ t. AreTables t.values t.places.items t.steps.items t.cursor (vec_capacity t.steps) };
 }
 
 // The number of the atom at a place in the order of decisions, and the place of the atom of a number: equalities stand

@@ -1,12 +1,13 @@
 use Rattle.std.proofs.Common.{◌≡◌, ◌∙◌, ◌≤◌, ◌++◌, ◌∷◌, [], ℕ, arith, ap, sym, subst, length, take}
 use Rattle.gh_sat.specs.Trail.{SearchState}
 use Rattle.gh_sat.specs.Whole.{Adds}
-use Rattle.gh_sat.proofs.TheoryLemmas.{Beside, beside_cut, beside_undo, added_cut}
+use Rattle.gh_sat.specs.Theory.{IsBeside}
+use Rattle.gh_sat.proofs.TheoryLemmas.{beside_cut, beside_undo, added_cut}
 use Rattle.gh_sat.proofs.search.Search.add.Goals as goal
 
 pub invariant_of-self : goal.invariant_of-self
 invariant_of-self g c =
-    subst (Beside g.T.Theory.valid (g.T.Theory.asserted c.self.inside.theory) (g.T.Theory.sizes c.self.inside.theory))
+    subst (IsBeside g.T.Theory.valid (g.T.Theory.asserted c.self.inside.theory) (g.T.Theory.sizes c.self.inside.theory))
     (sym c.in_err-add.ensures.err) c.self.invariant
 
 pub invariant_of-self-then-mark-length : goal.invariant_of-self-then-mark-length

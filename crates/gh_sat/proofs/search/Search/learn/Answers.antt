@@ -6,14 +6,14 @@ use Rattle.gh_base.specs.declared.sizes.Sizes.{Sizes}
 use Rattle.gh_sat.specs.declared.learner.Learnt.{Learnt}
 use Rattle.gh_sat.specs.Trail.{SearchState}
 use Rattle.gh_sat.specs.Learn.{add_clause}
-use Rattle.gh_sat.proofs.TheoryLemmas.{Beside}
+use Rattle.gh_sat.specs.Theory.{IsBeside}
 use Rattle.gh_sat.proofs.search.Search.learn.Goals as goal
 
 kept : (V : Sizes → List Lit → Type 0) (asserted : List Lit) (z : Sizes) (s new : SearchState)
-    (r : Result Learnt AllocError) → Beside V asserted z s
-    → IfOk r (λ l. new ≡ add_clause s l.clause) → OnErr r (new ≡ s) → Beside V asserted z new
-kept V asserted z s new (Ok l) b ok err = subst (Beside V asserted z) (sym ok) b
-kept V asserted z s new (Err e) b ok err = subst (Beside V asserted z) (sym err) b
+    (r : Result Learnt AllocError) → IsBeside V asserted z s
+    → IfOk r (λ l. new ≡ add_clause s l.clause) → OnErr r (new ≡ s) → IsBeside V asserted z new
+kept V asserted z s new (Ok l) b ok err = subst (IsBeside V asserted z) (sym ok) b
+kept V asserted z s new (Err e) b ok err = subst (IsBeside V asserted z) (sym err) b
 
 pub invariant_of-self : goal.invariant_of-self
 invariant_of-self g c =

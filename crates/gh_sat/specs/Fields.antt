@@ -1,0 +1,22 @@
+-- What stands in the fields of a `Learner`.
+use Rattle.std.specs.Prelude.{◌≡◌, ◌≤◌, length, vec_capacity}
+use Rattle.gh_base.specs.Atoms.{count_of}
+use Rattle.gh_sat.specs.declared.learner.Learner.TheInside.{Inside}
+use Rattle.gh_sat.specs.Trail.{SearchState}
+use Rattle.gh_sat.specs.Learn.{marks_of, IsBounded}
+use Rattle.gh_sat.specs.Rows.{rows_of}
+use Rattle.gh_sat.specs.Whole.{IsWhole}
+
+abbrev pub state_of : Inside → SearchState
+state_of s =
+    record { sizes = s.trail.sizes; clauses = s.clauses.items; trail = s.trail.steps; starts = s.starts.items }
+
+-- the search is whole, all levels have room, each place has a mark, and each clause its row
+abbrev pub HoldsSearch : Inside → Type 0
+HoldsSearch s =
+    IsWhole (state_of s) s.counts.items s.looked s.head s.occurrences s.hints.items
+    × (count_of s.trail.sizes ≤ vec_capacity s.starts)
+    × (count_of s.trail.sizes ≤ vec_capacity s.counts)
+    × IsBounded (marks_of s.marks)
+    × (length s.marks.stamps.items ≡ count_of s.trail.sizes)
+    × (s.rows.items ≡ rows_of s.trail.sizes s.clauses.items)
