@@ -4,15 +4,14 @@ use Rattle.std.proofs.Common.{refl, sym, ◌∙◌, ap, subst, inl, inr, arith}
 use Rattle.std.proofs.lemmas.List.{length-map, length-append, get_or-map, get_or_default}
 use Rattle.gh_base.proofs.ListLemmas.{over_or}
 use Rattle.gh_ast.specs.Lists.{IsFirstWith}
-use Rattle.gh_ast.specs.Plain.{Procedure, Program, procedure_of, program_of}
+use Rattle.gh_ast.specs.Plain.{Procedure, procedure_of, program_of}
 use Rattle.gh_ast.specs.declared.Procedure as whole
 use Rattle.gh_ast.specs.declared.Program as program
 use Rattle.gh_ast.specs.declared.typed.Limit.{Limit}
 use Rattle.gh_ast.proofs.Lists.{member_first, member_later}
-use Rattle.gh_path.specs.Admitted.{most_conditions, most_steps, HasManyPaths, HasManySteps, Passed, NoneHas}
+use Rattle.gh_path.specs.Admitted.{most_conditions, most_steps, HasManyPaths, HasManySteps, FirstOf, NoneHas, NoneOf}
 use Rattle.gh_path.specs.Conditions.{conditions_of, from_procedures}
 use Rattle.gh_path.specs.Counting.{procedure_ahead, all_counts}
-use Rattle.gh_path.specs.Refusals.{NoneOf, FirstOf}
 use Rattle.gh_path.specs.declared.ahead.Ahead.{Ahead}
 use Rattle.gh_path.proofs.AheadLemmas.{procedure_tells, many_paths, few_paths, many_steps, few_steps}
 
@@ -100,10 +99,7 @@ first_limit Q R told ps aheads same k r a kind number l within none here kind_is
       count = count;
     }
 
--- what is said of the list of procedures, said of the program
-pub passed : (P : Program) (Q : Procedure → Type 0) (kind number : ℕ) (l : Limit) → FirstOf P.procedures Q kind number l → Passed P Q kind number l
-passed P Q kind number l is = record { procedure = is.procedure; first = is.first; kind_is = is.kind_is; span = is.span; count = is.count }
-
+-- what is said of the procedures as they are read, said of the program
 pub none_has : (Q : Procedure → Type 0) (ps : List whole.Procedure) (p q : program.Program) → ps ≡ p.procedures.items → p ≡ q → NoneOf (map procedure_of ps) Q → NoneHas (program_of q) Q
 none_has Q ps p q same whole none =
     let all : ps ≡ q.procedures.items = same ∙ ap (λ (r : program.Program). r.procedures.items) whole in

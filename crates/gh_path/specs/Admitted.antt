@@ -1,5 +1,5 @@
 -- The limits on conditions, and admitted programs.
-use Rattle.std.specs.Prelude.{◌≡◌, ℕ, ◌+◌, ◌<◌, length, Any, Contains}
+use Rattle.std.specs.Prelude.{◌≡◌, ℕ, ◌+◌, ◌<◌, List, length, Any, Contains}
 use Rattle.gh_ast.specs.Plain.{Procedure, Program}
 use Rattle.gh_ast.specs.Lists.{IsFirstWith}
 use Rattle.gh_ast.specs.Rules.{IsTyped}
@@ -38,17 +38,24 @@ HasManyTerms P p = Any (λ c. most_terms < length (terms_of P c)) (conditions_of
 abbrev pub HasManyVersions : Program → Procedure → Type 0
 HasManyVersions P p = Any (λ c. most_versions < versions_of P c) (conditions_of p)
 
--- no procedure of the program passes the limit
-abbrev pub NoneHas : Program → (Procedure → Type 0) → Type 0
-NoneHas P Q = (p : Procedure) → Contains P.procedures p → Q p → ⊥
+-- no procedure of the list passes the limit
+abbrev pub NoneOf : List Procedure → (Procedure → Type 0) → Type 0
+NoneOf ps Q = (p : Procedure) → Contains ps p → Q p → ⊥
 
--- the first procedure that passes a limit on conditions; counting stops one past the limit
-pub record Passed (P : Program) (Q : Procedure → Type 0) (kind limit : ℕ) (l : Limit) : Type 0 where
+-- the first procedure of the list that passes a limit on conditions; counting stops one past the limit
+pub record FirstOf (ps : List Procedure) (Q : Procedure → Type 0) (kind limit : ℕ) (l : Limit) : Type 0 where
   pub procedure : Procedure
-  pub first : IsFirstWith Q P.procedures procedure
+  pub first : IsFirstWith Q ps procedure
   pub kind_is : l.kind ≡ kind
   pub span : l.span ≡ procedure.name.span
   pub count : l.count ≡ limit
+
+-- .. of the procedures of the program
+abbrev pub NoneHas : Program → (Procedure → Type 0) → Type 0
+NoneHas P Q = NoneOf P.procedures Q
+
+abbrev pub Passed : Program → (Procedure → Type 0) → ℕ → ℕ → Limit → Type 0
+Passed P Q kind limit l = FirstOf P.procedures Q kind limit l
 
 -- the limit that is answered: kinds in order, each over the whole program before the next
 pub data IsFirstLimit (P : Program) (l : Limit) : Type 0 where

@@ -8,7 +8,7 @@ use Rattle.gh_ast.specs.declared.Stmt.{Stmt}
 use Rattle.gh_ast.specs.Plain.{Procedure, Program, statement_of}
 use Rattle.gh_ast.specs.Programs.{results_of}
 use Rattle.gh_path.specs.Graphs.{Loop, loops, Check, access, entry, loop_entry, returned, loop_end, PathStep, accessed, assume, assigned, made, written, freed, called, looped, answered, Graph, dead_end, ends, moves, guarded, fork}
-use Rattle.gh_path.specs.Kept.{IsLoop, IsCallee, IsStep, AreSteps, IsKind, IsCheck}
+use Rattle.gh_path.specs.Kept.{IsLoop, IsCallee, IsStep, IsKind, IsCheck}
 use Rattle.gh_path.specs.Walking.{AreNumbered}
 use Rattle.gh_path.specs.declared.condition.PathStep as kept_step
 use Rattle.gh_path.specs.declared.condition.CheckKind as kept_kind
@@ -91,9 +91,6 @@ from i = record { place = i; turned = false }
 -- as they are kept, steps and checks stand for all that they stand for as the text has them
 abbrev pub KeepsStep : Step → kept_step.PathStep → Type 0
 KeepsStep s r = (P : Program) (p : Procedure) (x : PathStep) → IsShown P p s x → IsStep P p r x
-
-abbrev pub KeepsSteps : List Step → List kept_step.PathStep → Type 0
-KeepsSteps ss rs = (P : Program) (p : Procedure) (xs : List PathStep) → AreShown P p ss xs → AreSteps P p rs xs
 
 abbrev pub KeepsGoal : Goal → kept_kind.CheckKind → Type 0
 KeepsGoal a k = (P : Program) (p : Procedure) (at : Span) (c : Check) → IsGoal P p a at c → IsKind P p k at c
