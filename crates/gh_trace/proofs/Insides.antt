@@ -17,7 +17,7 @@ use Rattle.gh_assert.specs.declared.store.Entry.{Entry}
 use Rattle.gh_assert.specs.Stores.{listed_names, store_of, AreDistinct}
 use Rattle.gh_path.specs.Kept.{IsCallee}
 use Rattle.gh_trace.specs.Laws.{HasOwnNames}
-use Rattle.gh_trace.specs.Scenes.{HasDistinctNames}
+use Rattle.gh_trace.specs.Settings.{HasDistinctNames}
 use Rattle.gh_trace.specs.Targets.{entries_of}
 
 abbrev Distinct : List Name → Type 0

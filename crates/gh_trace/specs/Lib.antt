@@ -5,7 +5,7 @@ pub mod Kept
 pub mod Left
 pub mod Parts
 pub mod Targets
-pub mod Scenes
+pub mod Settings
 pub mod Rest
 pub mod Decisions
 pub mod Refuted

@@ -7,28 +7,27 @@ ghost use Rattle.gh_path.specs.Kept.{IsStart};
 ghost use Rattle.gh_trace.specs.Parts.{IsReturned};
 ghost use Rattle.gh_assert.specs.Stores.{listed_names};
 ghost use Rattle.gh_trace.specs.Kept.{state_of};
-ghost use Rattle.gh_trace.specs.Scenes.{HasLoops, scene_procedure, scene_variables};
+ghost use Rattle.gh_trace.specs.Settings.{HasLoops, here, variables_here};
 ghost use Rattle.gh_trace.specs.Decisions.{IsMetAtStart, DecidesStart, DecidesEntry, DecidesLoopCheck, DecidesCheck};
 
 use crate::parts::{Part, has_part};
-use crate::scene::{Scene, procedure_at};
+use crate::setting::{Setting, procedure_at};
 use crate::state::State;
 use crate::stores::{entered, is_over, value};
 use gh_assert::meaning::{holds, meets_one_of};
-use gh_assert::values::values_of;
 use gh_ast::{Assertion, Expr, Procedure};
 use gh_path::condition::{CheckKind, Start};
 use std::alloc::{AllocError, Global};
 
 // What the first heap of a path meets.
-fn start_assertion<'t>(scene: Scene<'t>, start: Start) -> Option<&'t Assertion>
-    requires { HasLoops scene }
-    ensures some { IfSome result (λ f. IsMetAtStart scene.entry start f.now) }
-    ensures none { IfNone result ((a : graph.Start) → IsStart (scene_procedure scene.entry) start a → ⊥) }
+fn start_assertion<'t>(setting: Setting<'t>, start: Start) -> Option<&'t Assertion>
+    requires { HasLoops setting }
+    ensures some { IfSome result (λ f. IsMetAtStart setting.entry start f.now) }
+    ensures none { IfNone result ((a : graph.Start) → IsStart (here setting.entry) start a → ⊥) }
 {
     match start {
-        Start::Entry => Some(&scene.procedure.needs),
-        Start::Loop { number } => match scene.round(number) {
+        Start::Entry => Some(&setting.procedure.needs),
+        Start::Loop { number } => match setting.round(number) {
             Some(round) => Some(round.invariant),
             None => None,
         },
@@ -38,18 +37,18 @@ fn start_assertion<'t>(scene: Scene<'t>, start: Start) -> Option<&'t Assertion>
 /// Whether a path may begin in a state.
 pub fn begins(
     alloc: Global,
-    scene: Scene<'_>,
+    setting: Setting<'_>,
     start: Start,
     state: &State,
 ) -> Result<bool, AllocError>
-    requires { HasLoops scene }
-    ensures begins { IfOk result (DecidesStart scene.entry start state.now) }
-    ensures over { IfOk result (λ b. IsTrue b → listed_names state.now.store ≡ scene_variables scene.entry) }
+    requires { HasLoops setting }
+    ensures begins { IfOk result (DecidesStart setting.entry start state.now) }
+    ensures over { IfOk result (λ b. IsTrue b → listed_names state.now.store ≡ variables_here setting.entry) }
 {
-    let Some(assertion) = start_assertion(scene, start) else {
+    let Some(assertion) = start_assertion(setting, start) else {
         return Ok(false);
     };
-    if !is_over(&state.store, scene.procedure) {
+    if !is_over(&state.store, setting.procedure) {
         return Ok(false);
     }
     holds(alloc, &state.store, &state.heap, assertion)
@@ -59,23 +58,19 @@ pub fn begins(
 // of them, is none.
 fn is_entered(
     alloc: Global,
-    scene: Scene<'_>,
+    setting: Setting<'_>,
     callee: u16,
     arguments: &[Expr],
     state: &State,
 ) -> Result<bool, AllocError>
-    ensures { IfOk result (DecidesEntry scene.entry callee arguments.now state.now) }
+    ensures { IfOk result (DecidesEntry setting.entry callee arguments.now state.now) }
 {
-    let Some(callee) = procedure_at(scene.typed, callee) else {
+    let Some(callee) = procedure_at(setting.typed, callee) else {
         return Ok(true);
     };
-    let Some(given) = values_of(alloc, &state.store, &state.heap, arguments)? else {
+    let Some(inside) = entered(alloc, callee, arguments, state)? else {
         return Ok(true);
     };
-    if given.as_slice().len() != callee.parameters.as_slice().len() {
-        return Ok(true);
-    }
-    let inside = entered(alloc, callee, given.as_slice())?;
     has_part(
         alloc,
         Part {
@@ -89,14 +84,14 @@ fn is_entered(
 // Some part of the heap meets the loop's invariant.
 fn is_loop_entered(
     alloc: Global,
-    scene: Scene<'_>,
+    setting: Setting<'_>,
     number: u16,
     state: &State,
 ) -> Result<bool, AllocError>
-    requires { HasLoops scene }
-    ensures { IfOk result (DecidesLoopCheck scene.entry number graph.loop_entry state.now) }
+    requires { HasLoops setting }
+    ensures { IfOk result (DecidesLoopCheck setting.entry number graph.loop_entry state.now) }
 {
-    let Some(round) = scene.round(number) else {
+    let Some(round) = setting.round(number) else {
         return Ok(true);
     };
     has_part(
@@ -112,14 +107,14 @@ fn is_loop_entered(
 // The whole heap meets the loop's invariant.
 fn is_loop_ended(
     alloc: Global,
-    scene: Scene<'_>,
+    setting: Setting<'_>,
     number: u16,
     state: &State,
 ) -> Result<bool, AllocError>
-    requires { HasLoops scene }
-    ensures { IfOk result (DecidesLoopCheck scene.entry number graph.loop_end state.now) }
+    requires { HasLoops setting }
+    ensures { IfOk result (DecidesLoopCheck setting.entry number graph.loop_end state.now) }
 {
-    let Some(round) = scene.round(number) else {
+    let Some(round) = setting.round(number) else {
         return Ok(true);
     };
     holds(alloc, &state.store, &state.heap, round.invariant)
@@ -135,20 +130,20 @@ pub fn is_returned(alloc: Global, procedure: &Procedure, state: &State) -> Resul
 /// Whether a state passes a check.
 pub fn passes(
     alloc: Global,
-    scene: Scene<'_>,
+    setting: Setting<'_>,
     kind: &CheckKind,
     state: &State,
 ) -> Result<bool, AllocError>
-    requires { HasLoops scene }
-    ensures { IfOk result (DecidesCheck scene.entry kind.now state.now) }
+    requires { HasLoops setting }
+    ensures { IfOk result (DecidesCheck setting.entry kind.now state.now) }
 {
     match kind {
         CheckKind::Access { at } => Ok(state.heap.get(value(&state.store, at)).is_some()),
         CheckKind::CalleeEntry { callee, arguments } => {
-            is_entered(alloc, scene, *callee, arguments.as_slice(), state)
+            is_entered(alloc, setting, *callee, arguments.as_slice(), state)
         }
-        CheckKind::LoopEntry { number } => is_loop_entered(alloc, scene, *number, state),
-        CheckKind::Return => is_returned(alloc, scene.procedure, state),
-        CheckKind::LoopEnd { number } => is_loop_ended(alloc, scene, *number, state),
+        CheckKind::LoopEntry { number } => is_loop_entered(alloc, setting, *number, state),
+        CheckKind::Return => is_returned(alloc, setting.procedure, state),
+        CheckKind::LoopEnd { number } => is_loop_ended(alloc, setting, *number, state),
     }
 }

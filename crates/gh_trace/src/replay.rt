@@ -5,11 +5,11 @@ ghost use Rattle.gh_ast.specs.Plain.{program_of};
 ghost use Rattle.gh_assert.specs.Stores.{listed_names};
 ghost use Rattle.gh_path.specs.Admitted.{most_steps};
 ghost use Rattle.gh_trace.specs.Kept.{drawn_of, IsOne, IsRefuted, IsFailure};
-ghost use Rattle.gh_trace.specs.Scenes.{HasLoops, scene_variables};
+ghost use Rattle.gh_trace.specs.Settings.{HasLoops, variables_here};
 ghost use Rattle.gh_trace.specs.Decisions.{DecidesNext, IsRefutedIn, IsFailureIn};
 
 use crate::checks::{begins, passes};
-use crate::scene::{Scene, procedure_at};
+use crate::setting::{Setting, procedure_at};
 use crate::state::{State, Trace};
 use crate::steps::leads;
 use crate::stores::is_over;
@@ -56,42 +56,42 @@ fn failure(number: usize) -> ReplayError
 // Whether the next state is over the variables, and the step leads to it.
 fn is_next(
     alloc: Global,
-    scene: Scene<'_>,
+    setting: Setting<'_>,
     step: &PathStep,
     before: &State,
     after: &State,
 ) -> Result<bool, AllocError>
-    requires loops { HasLoops scene }
-    requires over { listed_names before.now.store ≡ scene_variables scene }
-    ensures next { IfOk result (DecidesNext scene.entry step.now before.now after.now) }
-    ensures over { IfOk result (λ b. IsTrue b → listed_names after.now.store ≡ scene_variables scene.entry) }
+    requires loops { HasLoops setting }
+    requires over { listed_names before.now.store ≡ variables_here setting }
+    ensures next { IfOk result (DecidesNext setting.entry step.now before.now after.now) }
+    ensures over { IfOk result (λ b. IsTrue b → listed_names after.now.store ≡ variables_here setting.entry) }
 {
-    if !is_over(&after.store, scene.procedure) {
+    if !is_over(&after.store, setting.procedure) {
         return Ok(false);
     }
-    leads(alloc, scene, step, before, after)
+    leads(alloc, setting, step, before, after)
 }
 
 // Follows the steps from a first state.
 fn walk(
     alloc: Global,
-    scene: Scene<'_>,
+    setting: Setting<'_>,
     condition: &Condition,
     first: &State,
     others: &[State],
 ) -> Result<(), ReplayError>
-    requires loops { HasLoops scene }
+    requires loops { HasLoops setting }
     requires few { length condition.now.steps.items ≤ most_steps }
-    requires over { listed_names first.now.store ≡ scene_variables scene }
-    ensures refuted { OnOk result (IsRefutedIn scene.entry condition.now first.now others.now) }
-    ensures failed { IfErr result (IsFailureIn scene.entry condition.now first.now others.now) }
+    requires over { listed_names first.now.store ≡ variables_here setting }
+    ensures refuted { OnOk result (IsRefutedIn setting.entry condition.now first.now others.now) }
+    ensures failed { IfErr result (IsFailureIn setting.entry condition.now first.now others.now) }
 {
     let mut before = first;
     for (i, step) in condition.steps.iter().enumerate() {
         let Some(after) = others.get(i) else {
             return Err(failure(i + 1));
         };
-        if !is_next(alloc, scene, step, before, after)? {
+        if !is_next(alloc, setting, step, before, after)? {
             return Err(failure(i + 1));
         }
         before = after;
@@ -100,7 +100,7 @@ fn walk(
     if others.len() > count {
         return Err(failure(count + 1));
     }
-    if passes(alloc, scene, &condition.check.kind, before)? {
+    if passes(alloc, setting, &condition.check.kind, before)? {
         return Err(failure(count + 1));
     }
     Ok(())
@@ -122,7 +122,7 @@ pub fn replay(
         unreachable!();
     };
     let loops = loops_of(alloc, procedure)?;
-    let scene = Scene {
+    let setting = Setting {
         typed,
         procedure,
         loops: loops.as_slice(),
@@ -130,8 +130,8 @@ pub fn replay(
     let Some((first, others)) = trace.states.as_slice().split_first() else {
         return Err(failure(0));
     };
-    if !begins(alloc, scene, condition.start, first)? {
+    if !begins(alloc, setting, condition.start, first)? {
         return Err(failure(0));
     }
-    walk(alloc, scene, condition, first, others)
+    walk(alloc, setting, condition, first, others)
 }

@@ -4,12 +4,12 @@ ghost use Rattle.std.specs.Prelude.{◌≡◌, ◌↔◌, IfOk, IsTrue, true};
 ghost use Rattle.gh_ast.specs.declared.Occ.{Occ};
 ghost use Rattle.gh_path.specs.Graphs as graph;
 ghost use Rattle.gh_trace.specs.Kept.{state_of, ListsAlike};
-ghost use Rattle.gh_trace.specs.Scenes.{HasLoops};
+ghost use Rattle.gh_trace.specs.Settings.{HasLoops};
 ghost use Rattle.gh_trace.specs.Decisions.{DecidesTaken, DecidesCall, DecidesReturn, DecidesLoop, DecidesStep};
 
 use crate::heaps::is_same_outside;
 use crate::parts::{Part, is_answered, is_replaced};
-use crate::scene::{Scene, procedure_at};
+use crate::setting::{Setting, procedure_at};
 use crate::state::State;
 use crate::stores::{gets, inside, keeps, values};
 use crate::targets::Targets;
@@ -168,20 +168,20 @@ struct Call<'t> {
 // and the targets have its results.
 fn calls(
     alloc: Global,
-    scene: Scene<'_>,
+    setting: Setting<'_>,
     call: Call<'_>,
     before: &State,
     after: &State,
 ) -> Result<bool, AllocError>
     requires { ListsAlike before.now after.now }
-    ensures { IfOk result (DecidesCall scene.entry call.entry before.now after.now) }
+    ensures { IfOk result (DecidesCall setting.entry call.entry before.now after.now) }
 {
     let Call {
         targets,
         callee,
         arguments,
     } = call;
-    let Some(callee) = procedure_at(scene.typed, callee) else {
+    let Some(callee) = procedure_at(setting.typed, callee) else {
         return Ok(false);
     };
     let Some(given) = values_of(alloc, &before.store, &before.heap, arguments)? else {
@@ -205,16 +205,16 @@ fn calls(
 // body assigns have any values.
 fn goes_around(
     alloc: Global,
-    scene: Scene<'_>,
+    setting: Setting<'_>,
     number: u16,
     before: &State,
     after: &State,
 ) -> Result<bool, AllocError>
-    requires loops { HasLoops scene }
+    requires loops { HasLoops setting }
     requires next { ListsAlike before.now after.now }
-    ensures { IfOk result (DecidesLoop scene.entry number before.now after.now) }
+    ensures { IfOk result (DecidesLoop setting.entry number before.now after.now) }
 {
-    let Some(round) = scene.round(number) else {
+    let Some(round) = setting.round(number) else {
         return Ok(false);
     };
     if !keeps(&before.store, &after.store, Targets::Body(round.body)) {
@@ -236,18 +236,18 @@ fn goes_around(
 // The results have the values, all at once.
 fn answers(
     alloc: Global,
-    scene: Scene<'_>,
+    setting: Setting<'_>,
     exprs: &[Expr],
     before: &State,
     after: &State,
 ) -> Result<bool, AllocError>
     requires { ListsAlike before.now after.now }
-    ensures { IfOk result (DecidesReturn scene.entry exprs.now before.now after.now) }
+    ensures { IfOk result (DecidesReturn setting.entry exprs.now before.now after.now) }
 {
     let Some(given) = values_of(alloc, &before.store, &before.heap, exprs)? else {
         return Ok(false);
     };
-    let results = scene.procedure.results.as_slice();
+    let results = setting.procedure.results.as_slice();
     if !gets(
         alloc,
         &before.store,
@@ -263,14 +263,14 @@ fn answers(
 /// Whether a step leads from one state to the next, whose store lists the same names.
 pub fn leads(
     alloc: Global,
-    scene: Scene<'_>,
+    setting: Setting<'_>,
     step: &PathStep,
     before: &State,
     after: &State,
 ) -> Result<bool, AllocError>
-    requires loops { HasLoops scene }
+    requires loops { HasLoops setting }
     requires next { ListsAlike before.now after.now }
-    ensures { IfOk result (DecidesStep scene.entry step.now before.now after.now) }
+    ensures { IfOk result (DecidesStep setting.entry step.now before.now after.now) }
 {
     match step {
         PathStep::Access { at } => accesses(alloc, at, before, after),
@@ -291,9 +291,9 @@ pub fn leads(
                 callee: *callee,
                 arguments: arguments.as_slice(),
             };
-            calls(alloc, scene, call, before, after)
+            calls(alloc, setting, call, before, after)
         }
-        PathStep::Loop { number } => goes_around(alloc, scene, *number, before, after),
-        PathStep::Return { values } => answers(alloc, scene, values.as_slice(), before, after),
+        PathStep::Loop { number } => goes_around(alloc, setting, *number, before, after),
+        PathStep::Return { values } => answers(alloc, setting, values.as_slice(), before, after),
     }
 }

@@ -6,13 +6,15 @@ ghost use Rattle.gh_ast.specs.Programs.{Name, names, parameters_of, results_of, 
 ghost use Rattle.gh_ast.specs.Occurrences.{locals_of};
 ghost use Rattle.gh_assert.specs.Stores.{store_of, listed_names, AreDistinct};
 ghost use Rattle.gh_assert.specs.Values.{Gets};
-ghost use Rattle.gh_trace.specs.Scenes.{HasDistinctNames};
+ghost use Rattle.gh_trace.specs.Kept.{state_of};
+ghost use Rattle.gh_trace.specs.Settings.{HasDistinctNames, IsEnteredOr};
 ghost use Rattle.gh_trace.specs.Targets.{Keeps, entries_of};
 
+use crate::state::State;
 use crate::targets::{Targets, is_same};
 use gh_assert::store::{Entry, Store};
-use gh_assert::values::value_of;
-use gh_ast::{Occ, Procedure};
+use gh_assert::values::{value_of, values_of};
+use gh_ast::{Expr, Occ, Procedure};
 use gh_base::name::Name;
 use std::alloc::{AllocError, Global};
 
@@ -128,8 +130,8 @@ pub(crate) fn add_all(
     Ok(())
 }
 
-/// The store of a callee whose parameters have these values.
-pub fn entered(alloc: Global, callee: &Procedure, given: &[u32]) -> Result<Store, AllocError>
+// The store of a callee whose parameters have these values.
+fn with_parameters(alloc: Global, callee: &Procedure, given: &[u32]) -> Result<Store, AllocError>
     requires distinct { HasDistinctNames (procedure_of callee.now) }
     requires count { length given.now ≡ length (parameters_of (procedure_of callee.now)) }
     ensures { IfOk result (λ s. map (store_of s) (parameters_of (procedure_of callee.now)) ≡ given.now) }
@@ -137,6 +139,27 @@ pub fn entered(alloc: Global, callee: &Procedure, given: &[u32]) -> Result<Store
     let mut store = Store::new(alloc);
     add_all(alloc, &mut store, callee.parameters.as_slice(), given)?;
     Ok(store)
+}
+
+/// The store of a callee whose parameters have the values of some arguments; none where an argument reads a
+/// place that isn't allocated, or there are more or fewer of them than parameters.
+pub fn entered(
+    alloc: Global,
+    callee: &Procedure,
+    arguments: &[Expr],
+    state: &State,
+) -> Result<Option<Store>, AllocError>
+    requires { HasDistinctNames (procedure_of callee.now) }
+    ensures { IfOk result (IsEnteredOr (procedure_of callee.now) arguments.now (state_of state.now)) }
+{
+    let Some(given) = values_of(alloc, &state.store, &state.heap, arguments)? else {
+        return Ok(None);
+    };
+    if given.as_slice().len() != callee.parameters.as_slice().len() {
+        return Ok(None);
+    }
+    let inside = with_parameters(alloc, callee, given.as_slice())?;
+    Ok(Some(inside))
 }
 
 /// The store of a callee whose parameters and results have these values.

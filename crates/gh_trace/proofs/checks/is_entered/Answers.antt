@@ -1,46 +1,30 @@
-use Rattle.std.proofs.Common.{◌≡◌, ◌∙◌, sym, ap, subst, None, refl, length}
-use Rattle.std.specs.Prelude.{IfNone, IfSome, Any}
+use Rattle.std.proofs.Common.{subst, refl}
 use Rattle.std.proofs.lemmas.Result.{IfOk-weaker}
 use Rattle.gh_ast.specs.Plain.{procedure_of, program_of}
 use Rattle.gh_assert.specs.Stores.{store_of}
-use Rattle.gh_assert.specs.Values.{result, Give}
 use Rattle.gh_trace.specs.Kept.{state_of}
-use Rattle.gh_trace.proofs.StepLemmas.{not_given}
-use Rattle.gh_trace.proofs.CallLemmas.{IsCall, count_given, enters_where}
+use Rattle.gh_trace.specs.Settings.{IsEntered, IsEnteredOr, IsNeverEntered}
+use Rattle.gh_trace.proofs.CallLemmas.{IsCall, never_entered, enters_where}
 use Rattle.gh_trace.proofs.checks.is_entered.Goals as goal
 
 pub returns-in_default-2 : goal.returns-in_default-2
 returns-in_default-2 c f callee =
-    let s = store_of c.args.state.now.store in
-    let h = c.args.state.now.heap in
-    let none : Any (λ e. result s h e ≡ None) c.args.arguments.now = subst (λ o. IfNone o (Any (λ e. result s h e ≡ None) c.args.arguments.now)) c.in_default-2.is c.in_ok-given.ensures.unread in
-    (λ t p vs inside decl give params. absurd (not_given s h c.args.arguments.now vs none give), λ passes. refl)
-
-pub returns-then-as_slice : goal.returns-then-as_slice
-returns-then-as_slice c f callee =
-    let P = program_of c.args.scene.typed.now in
+    let P = program_of c.args.setting.typed.now in
     let q = procedure_of c.in-Some.callee.now in
     let x = state_of c.args.state.now in
     let es = c.args.arguments.now in
-    let call : IsCall P c.args.callee f q es x c.in-Some-2.given.items = record {
-      at = c.in-Some.ensures.some;
-      callee = callee;
-      gives = subst (λ o. IfSome o (λ vs. Give x.store x.heap es vs.items)) c.in-Some-2.is c.in_ok-given.ensures.all;
-    } in (
-      λ t p vs inside decl give params. absurd (c.if-as_slice.true
-          (ap length c.as_slice.ensures.value ∙ count_given P c.args.callee f q p es x c.in-Some-2.given.items vs inside call decl give params ∙ sym (ap length c.as_slice-2.ensures.value))),
-      λ passes. refl,
-    )
+    let none : IsNeverEntered q es x = subst (IsEnteredOr q es x) c.in_default-2.is c.in_ok-inside.ensures in
+    (λ t p vs inside decl give params. absurd (never_entered P c.args.callee f q p es x vs inside c.in-Some.ensures.some callee none decl give params), λ passes. refl)
 
 pub returns : goal.returns
 returns c =
-    let P = program_of c.args.scene.typed.now in
+    let P = program_of c.args.setting.typed.now in
     let q = procedure_of c.in-Some.callee.now in
     let x = state_of c.args.state.now in
     let es = c.args.arguments.now in
-    let gives : Give x.store x.heap es c.in-Some-2.given.items = subst (λ o. IfSome o (λ vs. Give x.store x.heap es vs.items)) c.in-Some-2.is c.in_ok-given.ensures.all in
+    let entered : IsEntered q es x (store_of c.in-Some-2.inside) = subst (IsEnteredOr q es x) c.in-Some-2.is c.in_ok-inside.ensures in
     IfOk-weaker c.has_part.result _ _
     (λ b w f callee.
-    let call : IsCall P c.args.callee f q es x c.as_slice-3.result.now = record { at = c.in-Some.ensures.some; callee = callee; gives = subst (λ vs. Give x.store x.heap es vs) (sym c.as_slice-3.ensures.value) gives } in
-    let r = enters_where P c.args.callee f q es x c.as_slice-3.result.now (store_of c.in_ok-inside.inside) call c.in-Some.ensures.own c.in_ok-inside.ensures in
+    let call : IsCall P c.args.callee f q es x _ = record { at = c.in-Some.ensures.some; callee = callee; gives = entered } in
+    let r = enters_where P c.args.callee f q es x _ (store_of c.in-Some-2.inside) call c.in-Some.ensures.own refl in
     (λ t. r.0 (w.0 t), λ passes. w.1 (r.1 passes))) c.has_part.ensures

@@ -14,4 +14,4 @@ returns c =
     IfOk-weaker c.has_part.result _ _
     (λ b w l is P.
     subst (λ f. IsTrue b ↔ HasPart f (store_of c.args.state.now.store) c.args.state.now.heap)
-    (ap (λ (k : Loop). k.invariant) (one_value (slice_get (loops_of (procedure_of c.args.scene.procedure.now)) c.args.number) (loop_of c.in-Some.round) l c.in-Some.ensures.some is)) w) c.has_part.ensures
+    (ap (λ (k : Loop). k.invariant) (one_value (slice_get (loops_of (procedure_of c.args.setting.procedure.now)) c.args.number) (loop_of c.in-Some.round) l c.in-Some.ensures.some is)) w) c.has_part.ensures

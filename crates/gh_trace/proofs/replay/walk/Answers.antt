@@ -10,8 +10,8 @@ use Rattle.gh_trace.proofs.replay.walk.Goals as goal
 
 pub loop-i-preserved : goal.loop-i-preserved
 loop-i-preserved c =
-    let P = program_of c.args.scene.typed.now in
-    let p = procedure_of c.args.scene.procedure.now in
+    let P = program_of c.args.setting.typed.now in
+    let p = procedure_of c.args.setting.procedure.now in
     let rs = c.args.condition.now.steps.items in
     let x = state_of c.args.first.now in
     let others = c.args.others.now in
@@ -28,8 +28,8 @@ loop-i-preserved c =
 
 pub returns-then-others-count-clause-failed : goal.returns-then-others-count-clause-failed
 returns-then-others-count-clause-failed c =
-    let P = program_of c.args.scene.typed.now in
-    let p = procedure_of c.args.scene.procedure.now in
+    let P = program_of c.args.setting.typed.now in
+    let p = procedure_of c.args.setting.procedure.now in
     let rs = c.args.condition.now.steps.items in
     let x = state_of c.args.first.now in
     let others = c.args.others.now in
@@ -42,8 +42,8 @@ returns-then-others-count-clause-failed c =
 
 pub returns-then-branch-clause-failed : goal.returns-then-branch-clause-failed
 returns-then-branch-clause-failed c =
-    let P = program_of c.args.scene.typed.now in
-    let p = procedure_of c.args.scene.procedure.now in
+    let P = program_of c.args.setting.typed.now in
+    let p = procedure_of c.args.setting.procedure.now in
     let rs = c.args.condition.now.steps.items in
     let x = state_of c.args.first.now in
     let others = c.args.others.now in
@@ -57,8 +57,8 @@ returns-then-branch-clause-failed c =
 
 pub returns-clause-refuted : goal.returns-clause-refuted
 returns-clause-refuted c =
-    let P = program_of c.args.scene.typed.now in
-    let p = procedure_of c.args.scene.procedure.now in
+    let P = program_of c.args.setting.typed.now in
+    let p = procedure_of c.args.setting.procedure.now in
     let rs = c.args.condition.now.steps.items in
     let x = state_of c.args.first.now in
     let others = c.args.others.now in

@@ -8,6 +8,6 @@ use Rattle.gh_trace.proofs.replay.walk.Given as goal
 
 abbrev pub invariant-loop-i : goal.invariant-loop-i
 invariant-loop-i l = record {
-  follows : Follows (program_of l.scene.typed.now) (procedure_of l.scene.procedure.now) l.condition.steps.items (state_of l.first) (map drawn l.others) (drop l.i l.condition.steps.items) (state_of l.before) (map drawn (drop l.i l.others)) l.i;
-  over : listed_names l.before.store ≡ variable_names (procedure_of l.scene.procedure.now);
+  follows : Follows (program_of l.setting.typed.now) (procedure_of l.setting.procedure.now) l.condition.steps.items (state_of l.first) (map drawn l.others) (drop l.i l.condition.steps.items) (state_of l.before) (map drawn (drop l.i l.others)) l.i;
+  over : listed_names l.before.store ≡ variable_names (procedure_of l.setting.procedure.now);
 }

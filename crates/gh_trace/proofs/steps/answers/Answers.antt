@@ -19,7 +19,7 @@ pub returns-then-not-branch : goal.returns-then-not-branch
 returns-then-not-branch c P =
     let s = store_of c.args.before.now.store in
     let h = c.args.before.now.heap in
-    let xs = results_of (procedure_of c.args.scene.procedure.now) in
+    let xs = results_of (procedure_of c.args.setting.procedure.now) in
     let t = store_of c.args.after.now.store in
     let given : Give s h c.args.exprs.now c.in-Some.given.items = subst (λ o. IfSome o (λ vs. Give s h c.args.exprs.now vs.items)) c.in-Some.is c.in_ok-given.ensures.all in (
       λ f. absurd cc,

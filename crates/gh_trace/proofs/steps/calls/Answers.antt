@@ -18,7 +18,7 @@ returns-in_default-2 c f callee =
 
 pub returns-then-as_slice : goal.returns-then-as_slice
 returns-then-as_slice c f callee =
-    let P = program_of c.args.scene.typed.now in
+    let P = program_of c.args.setting.typed.now in
     let q = procedure_of c.in-Some.callee.now in
     let x = state_of c.args.before.now in
     let es = c.args.call.arguments.now in
@@ -36,13 +36,13 @@ pub returns-then-targets-as_slice : goal.returns-then-targets-as_slice
 returns-then-targets-as_slice c f callee = (
   λ t. absurd cc,
   λ takes. absurd (c.if-targets-as_slice.true
-      (count_targets (program_of c.args.scene.typed.now) c.args.call.callee f (procedure_of c.in-Some.callee.now) c.args.call.targets.now c.args.call.arguments.now (state_of c.args.before.now) (state_of c.args.after.now) c.in-Some.ensures.some callee takes
+      (count_targets (program_of c.args.setting.typed.now) c.args.call.callee f (procedure_of c.in-Some.callee.now) c.args.call.targets.now c.args.call.arguments.now (state_of c.args.before.now) (state_of c.args.after.now) c.in-Some.ensures.some callee takes
       ∙ sym (ap length c.as_slice-3.ensures.value))),
 )
 
 pub returns : goal.returns
 returns c =
-    let P = program_of c.args.scene.typed.now in
+    let P = program_of c.args.setting.typed.now in
     let q = procedure_of c.in-Some.callee.now in
     let x = state_of c.args.before.now in
     let y = state_of c.args.after.now in

@@ -11,8 +11,8 @@ use Rattle.gh_trace.proofs.steps.goes_around.Goals as goal
 
 pub returns : goal.returns
 returns c =
-    let P = program_of c.args.scene.typed.now in
-    let p = procedure_of c.args.scene.procedure.now in
+    let P = program_of c.args.setting.typed.now in
+    let p = procedure_of c.args.setting.procedure.now in
     let x = state_of c.args.before.now in
     let y = state_of c.args.after.now in
     IfOk-weaker c.is_replaced.result _ _

@@ -14,12 +14,12 @@ use Rattle.gh_trace.proofs.steps.leads.Goals as goal
 
 pub returns-in-Access : goal.returns-in-Access
 returns-in-Access c =
-    decided_alone c.accesses.result c.args.scene c.args.step.now _ _ c.args.before.now c.args.after.now c.in-Access.is (λ t e. e) c.accesses.ensures
+    decided_alone c.accesses.result c.args.setting c.args.step.now _ _ c.args.before.now c.args.after.now c.in-Access.is (λ t e. e) c.accesses.ensures
 
 pub returns-in-Assume : goal.returns-in-Assume
 returns-in-Assume c =
-    let P = program_of c.args.scene.typed.now in
-    let p = procedure_of c.args.scene.procedure.now in
+    let P = program_of c.args.setting.typed.now in
+    let p = procedure_of c.args.setting.procedure.now in
     let x = state_of c.args.before.now in
     let y = state_of c.args.after.now in
     IfOk-weaker c.assumes.result _ _
@@ -34,24 +34,24 @@ returns-in-Assume c =
 
 pub returns-in-Set : goal.returns-in-Set
 returns-in-Set c =
-    decided_alone c.assigns.result c.args.scene c.args.step.now _ _ c.args.before.now c.args.after.now c.in-Set.is (λ t e. e) c.assigns.ensures
+    decided_alone c.assigns.result c.args.setting c.args.step.now _ _ c.args.before.now c.args.after.now c.in-Set.is (λ t e. e) c.assigns.ensures
 
 pub returns-in-Write : goal.returns-in-Write
 returns-in-Write c =
-    decided_alone c.writes.result c.args.scene c.args.step.now _ _ c.args.before.now c.args.after.now c.in-Write.is (λ t e. e) c.writes.ensures
+    decided_alone c.writes.result c.args.setting c.args.step.now _ _ c.args.before.now c.args.after.now c.in-Write.is (λ t e. e) c.writes.ensures
 
 pub returns-in-New : goal.returns-in-New
 returns-in-New c =
-    decided_alone c.makes.result c.args.scene c.args.step.now _ _ c.args.before.now c.args.after.now c.in-New.is (λ t e. e) c.makes.ensures
+    decided_alone c.makes.result c.args.setting c.args.step.now _ _ c.args.before.now c.args.after.now c.in-New.is (λ t e. e) c.makes.ensures
 
 pub returns-in-Free : goal.returns-in-Free
 returns-in-Free c =
-    decided_alone c.frees.result c.args.scene c.args.step.now _ _ c.args.before.now c.args.after.now c.in-Free.is (λ t e. e) c.frees.ensures
+    decided_alone c.frees.result c.args.setting c.args.step.now _ _ c.args.before.now c.args.after.now c.in-Free.is (λ t e. e) c.frees.ensures
 
 pub returns-in-Call : goal.returns-in-Call
 returns-in-Call c =
-    let P = program_of c.args.scene.typed.now in
-    let p = procedure_of c.args.scene.procedure.now in
+    let P = program_of c.args.setting.typed.now in
+    let p = procedure_of c.args.setting.procedure.now in
     let x = state_of c.args.before.now in
     let y = state_of c.args.after.now in
     IfOk-weaker c.calls.result _ _
@@ -63,8 +63,8 @@ returns-in-Call c =
 
 pub returns-in-Loop : goal.returns-in-Loop
 returns-in-Loop c =
-    let P = program_of c.args.scene.typed.now in
-    let p = procedure_of c.args.scene.procedure.now in
+    let P = program_of c.args.setting.typed.now in
+    let p = procedure_of c.args.setting.procedure.now in
     let x = state_of c.args.before.now in
     let y = state_of c.args.after.now in
     IfOk-weaker c.goes_around.result _ _
@@ -74,8 +74,8 @@ returns-in-Loop c =
 
 pub returns-in-Return : goal.returns-in-Return
 returns-in-Return c =
-    let P = program_of c.args.scene.typed.now in
-    let p = procedure_of c.args.scene.procedure.now in
+    let P = program_of c.args.setting.typed.now in
+    let p = procedure_of c.args.setting.procedure.now in
     let x = state_of c.args.before.now in
     let y = state_of c.args.after.now in
     IfOk-weaker c.answers.result _ _

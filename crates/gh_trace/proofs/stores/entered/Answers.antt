@@ -1,17 +1,29 @@
-use Rattle.std.proofs.Common.{◌++◌, ◌∙◌, sym, ap, subst}
+use Rattle.std.proofs.Common.{◌∙◌, ap, length, subst, sym}
+use Rattle.std.specs.Prelude.{IfNone, IfSome}
 use Rattle.gh_ast.specs.Plain.{procedure_of}
-use Rattle.gh_ast.specs.Programs.{names}
-use Rattle.gh_assert.specs.Stores.{AreDistinct}
-use Rattle.gh_trace.specs.Targets.{entries_of}
-use Rattle.gh_trace.proofs.Insides.{told_parameters, parameters_apart}
+use Rattle.gh_assert.specs.Values.{Give, HasUnread}
+use Rattle.gh_trace.specs.Kept.{state_of}
+use Rattle.gh_trace.proofs.CallLemmas.{count_entered}
+use Rattle.gh_trace.proofs.StepLemmas.{not_given}
 use Rattle.gh_trace.proofs.stores.entered.Goals as goal
 
-pub add_all-requires-clause-distinct : goal.add_all-requires-clause-distinct
-add_all-requires-clause-distinct c =
-    subst (λ os. AreDistinct (c.new-store.result ++ entries_of (names os) c.args.given.now)) (sym c.as_slice.ensures.value)
-    (parameters_apart (procedure_of c.args.callee.now) c.args.given.now c.new-store.result c.requires.distinct c.requires.count c.new-store.ensures)
+pub returns-in_default : goal.returns-in_default
+returns-in_default c inside gives =
+    let x = state_of c.args.state.now in
+    let es = c.args.arguments.now in
+    let none : HasUnread x.store x.heap es = subst (λ o. IfNone o (HasUnread x.store x.heap es)) c.in_default.is c.in_ok-given.ensures.unread in
+    not_given x.store x.heap es _ none gives
+
+pub returns-then-as_slice : goal.returns-then-as_slice
+returns-then-as_slice c inside entered =
+    let x = state_of c.args.state.now in
+    let es = c.args.arguments.now in
+    let gives : Give x.store x.heap es c.in-Some.given.items = subst (λ o. IfSome o (λ vs. Give x.store x.heap es vs.items)) c.in-Some.is c.in_ok-given.ensures.all in
+    c.if-as_slice.true (ap length c.as_slice.ensures.value ∙ count_entered (procedure_of c.args.callee.now) es x c.in-Some.given.items inside gives entered ∙ sym (ap length c.as_slice-2.ensures.value))
 
 pub returns : goal.returns
 returns c =
-    told_parameters (procedure_of c.args.callee.now) c.args.given.now c.new-store.result c.add_all.new.store c.requires.distinct c.requires.count c.new-store.ensures
-    (c.in_ok-add_all.ensures ∙ ap (λ os. c.new-store.result ++ entries_of (names os) c.args.given.now) c.as_slice.ensures.value)
+    let x = state_of c.args.state.now in
+    let es = c.args.arguments.now in
+    let gives : Give x.store x.heap es c.in-Some.given.items = subst (λ o. IfSome o (λ vs. Give x.store x.heap es vs.items)) c.in-Some.is c.in_ok-given.ensures.all in
+    subst (λ vs. Give x.store x.heap es vs) (sym c.as_slice-3.ensures.value ∙ sym c.in_ok-inside.ensures) gives
