@@ -1,12 +1,16 @@
 -- Configurations as they are kept, and what a step answers.
-use Rattle.std.specs.Prelude.{◌≡◌, ◌≢◌, ◌⊎◌, ℕ, List, slice_index_or, [], ◌∷◌, ◌++◌, map, reverse, length, None, All, Contains}
+use Rattle.std.specs.Prelude.{◌≡◌, ◌≢◌, ◌⊎◌, ℕ, List, slice_index_or, [], ◌∷◌, ◌++◌, map, reverse, length, Option, None, MatchOption, All, Contains}
+use Rattle.std.specs.Borrow.{Bor}
 use Rattle.std.specs.FinMap.{get}
+use Rattle.gh_ast.specs.declared.Occ.{Occ}
+use Rattle.gh_ast.specs.declared.Procedure as kept
 use Rattle.gh_ast.specs.Plain.{new, call, give, Statements, statement_first, statements_view, procedure_of, Procedure, Program}
 use Rattle.gh_ast.specs.Programs.{Name, names, parameters_of, results_of, variable_names, Declares, SomeAssigns}
 use Rattle.gh_ast.specs.Occurrences.{locals_of}
 use Rattle.gh_ast.specs.Rules.{IsTyped}
 use Rattle.gh_assert.specs.Heaps.{Heap}
 use Rattle.gh_assert.specs.Stores.{listed_names, store_of}
+use Rattle.gh_assert.specs.Values.{Gets}
 use Rattle.gh_assert.specs.declared.store.Entry.{Entry}
 use Rattle.gh_machine.specs.Machine as machine
 use Rattle.gh_machine.specs.Machine.{Step, HasEnded, starting}
@@ -75,6 +79,13 @@ IsNext P choice Ended c d = (HasEnded c × (d ≡ c)) ⊎ (ReturnsLast c × Step
 IsNext P choice Fault c d = machine.Fault c × (d ≡ c)
 IsNext P choice NotAChoice c d = (machine.Fault c → ⊥) × Misfits P choice c.top.rest c.heap × (d ≡ c)
 
+-- the same of configurations as they are kept
+abbrev pub IsBegun : Program → ℕ → List ℕ → List ℕ → Heap → Config → Type 0
+IsBegun P number arguments starts h c = IsBeginning P number arguments starts h (config_of c)
+
+abbrev pub IsNextOf : Program → Choice → Next → Config → Config → Type 0
+IsNextOf P choice next c d = IsNext P choice next (config_of c) (config_of d)
+
 -- there are as many values as the procedure of a number has parameters
 abbrev pub AreArguments : Program → ℕ → List ℕ → Type 0
 AreArguments P n vs = (p : Procedure) → length vs ≡ length (parameters_of (slice_index_or P.procedures n p))
@@ -86,6 +97,14 @@ AreStarts P n vs = (p : Procedure) → length vs ≡ length (starts_of (slice_in
 -- no procedure has the name
 abbrev pub DeclaresNone : Program → Name → Type 0
 DeclaresNone P f = (p : Procedure) → Declares P f p → ⊥
+
+-- what is found for the name of a call: the procedure that it means, if there is one
+abbrev pub FindsDeclared : Program → Name → Option (Bor kept.Procedure) → Type 0
+FindsDeclared P f found = MatchOption found (DeclaresNone P f) (λ p. Declares P f (procedure_of p.now))
+
+-- variables of a store get the values of variables of another store, all at once
+abbrev pub GetsFrom : List Entry → List Occ → List Entry → List Occ → List Entry → Type 0
+GetsFrom s xs t ys u = Gets (store_of s) (names xs) (map (store_of t) (names ys)) (store_of u)
 
 -- what is left to do assigns variables of its procedure alone
 abbrev pub AssignsVariables : machine.Activation → Type 0

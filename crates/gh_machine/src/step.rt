@@ -1,12 +1,11 @@
 //! One step of the machine under a choice.
 
-ghost use Rattle.std.specs.Prelude.{◌≡◌, IfOk, OnErr, MatchOption, Contains};
+ghost use Rattle.std.specs.Prelude.{◌≡◌, IfOk, OnErr, Contains};
 ghost use Rattle.gh_ast.specs.Plain as plain;
-ghost use Rattle.gh_ast.specs.Plain.{program_of, procedure_of, statements_view, test_of, part_of, Procedure as PlainProcedure};
-ghost use Rattle.gh_ast.specs.Programs.{Declares};
+ghost use Rattle.gh_ast.specs.Plain.{program_of, statements_view, test_of, part_of, Procedure as PlainProcedure};
 ghost use Rattle.gh_assert.specs.Stores.{listed_names};
 ghost use Rattle.gh_machine.specs.Fits.{Awaits};
-ghost use Rattle.gh_machine.specs.Configs.{config_of, IsNext, IsMadeFor, AllListVariables, DeclaresNone, WantsStarts};
+ghost use Rattle.gh_machine.specs.Configs.{config_of, IsNextOf, IsMadeFor, AllListVariables, FindsDeclared, WantsStarts};
 ghost use Rattle.gh_machine.specs.Turns.{Comes, CallComes, ChoiceComes, LoopComes, ReturnComes, Calls, AlwaysNext, IsPopped, IsMadeForSome};
 
 use crate::config::Config;
@@ -60,8 +59,7 @@ fn make_cell(config: &mut Config, target: &Occ, choice: &Choice) -> Result<Next,
     requires comes { Comes (plain.new target.now) config.old }
     requires listed { Contains (listed_names config.old.top.store) target.now.name }
     requires lists { AllListVariables config.old }
-    ensures next { IfOk result (λ next. (P : plain.Program) →
-        IsNext P choice.now next (config_of config.old) (config_of config.new)) }
+    ensures next { IfOk result (λ next. (P : plain.Program) → IsNextOf P choice.now next config.old config.new) }
     ensures err { OnErr result (config_of config.new ≡ config_of config.old) }
     ensures lists { AllListVariables config.new }
 {
@@ -145,8 +143,7 @@ fn turn<'p>(config: &mut Config<'p>, test: &Cond, body: &'p Block) -> Result<Nex
 
 /// The first procedure of a name.
 fn find<'p>(program: &'p Program, name: &Name) -> Option<&'p Procedure>
-    ensures { MatchOption result (DeclaresNone (program_of program.now) name.now)
-        (λ p. Declares (program_of program.now) name.now (procedure_of p.now)) }
+    ensures { FindsDeclared (program_of program.now) name.now result }
 {
     for procedure in &program.procedures {
         if procedure.name.name.bytes() == name.bytes() {
@@ -166,8 +163,7 @@ fn call<'p>(
 ) -> Result<Next, AllocError>
     requires comes { CallComes callee.now arguments.now config.old }
     requires made { IsMadeFor (program_of typed.now) config.old }
-    ensures next { IfOk result (λ next.
-        IsNext (program_of typed.now) choice.now next (config_of config.old) (config_of config.new)) }
+    ensures next { IfOk result (λ next. IsNextOf (program_of typed.now) choice.now next config.old config.new) }
     ensures err { OnErr result (config_of config.new ≡ config_of config.old) }
     ensures lists { AllListVariables config.new }
 {
@@ -263,8 +259,7 @@ pub fn step<'p>(
     choice: &Choice,
 ) -> Result<Next, AllocError>
     requires made { IsMadeFor (program_of typed.now) config.old }
-    ensures next { IfOk result (λ next.
-        IsNext (program_of typed.now) choice.now next (config_of config.old) (config_of config.new)) }
+    ensures next { IfOk result (λ next. IsNextOf (program_of typed.now) choice.now next config.old config.new) }
     ensures err { OnErr result (config_of config.new ≡ config_of config.old) }
     ensures made { IsMadeFor (program_of typed.now) config.new }
 {

@@ -1,13 +1,13 @@
 //! Stores of procedures that begin, and values that are given.
 
-ghost use Rattle.std.specs.Prelude.{◌≡◌, ◌≢◌, ◌↔◌, ◌++◌, IfOk, IsTrue, None, OnOk, OnSome, length, map, AllPairs, Contains};
+ghost use Rattle.std.specs.Prelude.{◌≡◌, ◌≢◌, ◌↔◌, ◌++◌, IfOk, IsTrue, None, OnOk, OnSome, length, AllPairs, Contains};
 ghost use Rattle.std.specs.FinMap as finite;
 ghost use Rattle.gh_ast.specs.Plain.{procedure_of, statements_view};
 ghost use Rattle.gh_ast.specs.Programs.{names, variable_names, body_of};
 ghost use Rattle.gh_ast.specs.Occurrences.{locals_of};
 ghost use Rattle.gh_assert.specs.Stores.{listed_names, store_of};
 ghost use Rattle.gh_assert.specs.Values.{Gets};
-ghost use Rattle.gh_machine.specs.Configs.{starts_of, beside, beginning};
+ghost use Rattle.gh_machine.specs.Configs.{GetsFrom, starts_of, beside, beginning};
 
 use crate::config::Activation;
 use crate::rest::Rest;
@@ -52,8 +52,7 @@ pub fn assign_from(store: &mut Store, targets: &[Occ], from: &Store, results: &[
     requires count { length targets.now ≡ length results.now }
     requires distinct { AllPairs (λ x y. x ≢ y) (names targets.now) }
     requires listed { (y : _) → Contains (names targets.now) y → Contains (listed_names store.old) y }
-    ensures gets { Gets (store_of store.old) (names targets.now) (map (store_of from.now) (names results.now))
-        (store_of store.new) }
+    ensures gets { GetsFrom store.old targets.now from.now results.now store.new }
     ensures names { listed_names store.new ≡ listed_names store.old }
 {
     for (i, target) in targets.iter().enumerate() {
