@@ -1,4 +1,4 @@
--- The fields of `Classes`, and what a literal more that may be asserted gives.
+-- What a literal more that may be asserted gives.
 use Rattle.std.proofs.Common.{◌≡◌, ◌+◌, ◌*◌, ◌≤◌, List, [], ◌∷◌, ◌++◌, length, Option, sym, ap, ◌∙◌, subst, arith}
 use Rattle.std.proofs.lemmas.List.{length_push}
 use Rattle.std.proofs.lemmas.List.Elements.{All-push}
@@ -8,19 +8,10 @@ use Rattle.gh_base.specs.Atoms.{IsInRange, AreInRange, count_of}
 use Rattle.gh_cc.specs.declared.classes.Classes.TheInside.{Inside}
 use Rattle.gh_cc.specs.Asserted.{Asserted, IsFree}
 use Rattle.gh_cc.specs.Kept.{Core, IsKept}
+use Rattle.gh_cc.specs.Fields.{core_of}
 use Rattle.gh_cc.specs.Uses.{Mentioned, all_mentions, terms_in}
 use Rattle.gh_cc.proofs.KeptLemmas.{few_lits, apart_push}
 use Rattle.gh_cc.proofs.MoveLemmas.{mentions_long, mentions_push}
-
-abbrev pub core_of : Inside → Core
-core_of i = record {
-  sizes = i.sizes;
-  lits = i.lits.items;
-  stages = i.stages.items;
-  links = i.partition.links;
-  entries = i.signs.entries;
-  clash = i.clash;
-}
 
 -- the literal's atom is in range and free, and with it the literals are in range and still few enough
 pub record MayAssert (c : Core) (x : Lit) : Type 0 where

@@ -16,7 +16,7 @@ use Rattle.gh_cc.specs.declared.partition.Link.{Link}
 use Rattle.gh_cc.specs.declared.signs.Entry.{Entry}
 use Rattle.gh_cc.specs.Partitions.{equality_of}
 use Rattle.gh_cc.specs.Signs.{find_lit}
-use Rattle.gh_cc.specs.Asserted.{Asserted, EqualitiesHold, AreEqual, HasTruth, GivesTruth, IsConsistent, HasNoTruth}
+use Rattle.gh_cc.specs.Asserted.{Asserted, EqualitiesHold, HasTruth, IsConsistent, HasNoTruth}
 use Rattle.gh_cc.specs.Asserted.{equality}
 use Rattle.gh_cc.specs.Kept.{normal, reps, IsState, IsEntry, IsRelation, IsFiledAs, HasSign, AllFiled, IsClash, Core}
 use Rattle.gh_cc.specs.Kept.{IsKept}
@@ -33,10 +33,6 @@ use Rattle.gh_cc.proofs.LemmaLemmas.{normal_truth}
 equalities_hold : (m : Interpretation) (lits : List Lit) → All (IsLitTrue m) lits → EqualitiesHold m lits
 equalities_hold m lits all a b there =
     eqb-true (m.class a.0) (m.class b.0) (All-contains (IsLitTrue m) lits (equality a b) all there)
-
-pub equal_terms : (s : Asserted) (a b : Term) → AreEqual s a b → HasTruth s (Eq a b) true
-equal_terms s a b h m congruence all =
-    eq-eqb (m.class a.0) (m.class b.0) (h m congruence (equalities_hold m s.lits all))
 
 -- representatives of terms are terms
 reps_below : (s : Sizes) (lits : List Lit) (links : List Link) (entries : List Entry) (t : ℕ)
@@ -120,23 +116,9 @@ not_opposite : (t : Bool) → not t ≡ t → ⊥
 not_opposite true e = cc
 not_opposite false e = cc
 
-given_truth : (s : Asserted) (a : Atom) (t : Bool) → IsRelation a → GivesTruth s a t → HasTruth s a t
-given_truth s (Eq a b) t h g = absurd h
-given_truth s (Btwn v x y z) t h g = g
-given_truth s (Hop v x y) t h g = g
-given_truth s (Alloc v x) t h g = g
-given_truth s (Def k) t h g = g
-
-pub truth_given : (s : Asserted) (a : Atom) (t : Bool) → IsRelation a → HasTruth s a t → GivesTruth s a t
-truth_given s (Eq a b) t h g = absurd h
-truth_given s (Btwn v x y z) t h g = g
-truth_given s (Hop v x y) t h g = g
-truth_given s (Alloc v x) t h g = g
-truth_given s (Def k) t h g = g
-
 pub unfiled_open : (s : Sizes) (lits : List Lit) (links : List Link) (entries : List Entry) (atom : Atom)
     → IsRelation atom → AllFiled s lits links entries → find_lit entries (number_of s (normal (reps links) atom)) ≡ None
-    → (t : Bool) → GivesTruth (record { sizes = s; lits = lits }) atom t → ⊥
+    → (t : Bool) → HasTruth (record { sizes = s; lits = lits }) atom t → ⊥
 unfiled_open s lits links entries atom relation all none t given =
     let form = normal (reps links) atom in
     let sign : Atom → Bool = signs_but s lits entries (number_of s form) (not t) in
@@ -145,8 +127,7 @@ unfiled_open s lits links entries atom relation all none t given =
     (but_agrees s (reps links) lits entries (number_of s form) (not t) (get_or lits k d).atom
     (get_or lits k d).positive none (all k d h)) in
     let is : atom_truth (model_of (reps links) sign) atom ≡ t =
-    given_truth (record { sizes = s; lits = lits }) atom t relation given (model_of (reps links) sign)
-    (model_congruence s (reps links) sign) holds in
+    given (model_of (reps links) sign) (model_congruence s (reps links) sign) holds in
     not_opposite t (sym (but_here s lits entries (not t) form) ∙ sym (table_truth (reps links) sign atom relation) ∙ is)
 
 both_true : (p q t : Bool) → under p t ≡ true → under q t ≡ true → p ≡ q
@@ -201,10 +182,3 @@ pub unfiled_has_none : (c : Core) (atom : Atom) → IsKept c → IsRelation atom
 unfiled_has_none c atom h relation none consistent t given =
     unfiled_open c.sizes c.lits c.links c.entries atom relation (filed_now c h (no_clash c c.clash refl h consistent))
     none t given
-
-pub relation_of : (a : Atom) → ((x y : Term) → a ≡ Eq x y → ⊥) → IsRelation a
-relation_of (Eq x y) h = h x y refl
-relation_of (Btwn v x y z) h = tt
-relation_of (Hop v x y) h = tt
-relation_of (Alloc v x) h = tt
-relation_of (Def k) h = tt

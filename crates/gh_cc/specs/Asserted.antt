@@ -33,18 +33,13 @@ abbrev pub HasTruth : Asserted → Atom → Bool → Type 0
 HasTruth s atom truth = (m : Interpretation) → IsCongruence s.sizes m → All (IsLitTrue m) s.lits
     → atom_truth m atom ≡ truth
 
--- the truth that equality and congruence give an atom; an equality is only given to be true
-abbrev pub GivesTruth : Asserted → Atom → Bool → Type 0
-GivesTruth s (Eq a b) truth = (truth ≡ true) × AreEqual s a b
-GivesTruth s atom truth = HasTruth s atom truth
-
 -- somewhere equality is a congruence and what is asserted is true
 abbrev pub IsConsistent : Sizes → List Lit → Type 0
 IsConsistent sizes lits = (m : Interpretation) × IsCongruence sizes m × All (IsLitTrue m) lits
 
 -- where what is asserted is consistent, equality and congruence give the atom no truth
 abbrev pub HasNoTruth : Asserted → Atom → Type 0
-HasNoTruth s atom = IsConsistent s.sizes s.lits → (truth : Bool) → GivesTruth s atom truth → ⊥
+HasNoTruth s atom = IsConsistent s.sizes s.lits → (truth : Bool) → HasTruth s atom truth → ⊥
 
 -- a clause that follows from equality and congruence alone, whose literals are negations of asserted ones
 pub record IsConflict (s : Asserted) (clause : List Lit) : Type 0 where

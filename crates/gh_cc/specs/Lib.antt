@@ -4,5 +4,6 @@ pub mod Asserted
 pub mod Kept
 pub mod Lemma
 pub mod Uses
+pub mod Fields
 pub mod Partials
 pub mod Laws

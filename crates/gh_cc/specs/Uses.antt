@@ -54,6 +54,10 @@ pub record AreCounts (mentions : List Mention) (counts : List ℕ) (terms : ℕ)
   pub long : length counts ≡ terms
   pub each : (t n : ℕ) → slice_get counts t ≡ Some n → n ≡ times (terms_of mentions) t
 
+-- both tables are those of the mentions
+abbrev pub AreMentions : List Mention → List ℕ → List ℕ → Type 0
+AreMentions mentions last counts = AreUses mentions last × AreCounts mentions counts (length last)
+
 -- the terms of an atom in order, and nothing in the places that it lacks
 abbrev pub first_term : Atom → Option Term
 first_term (Eq a b) = Some a

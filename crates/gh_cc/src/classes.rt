@@ -1,9 +1,9 @@
 //! Asserted literals, with the classes of terms and the truth of atoms that they give.
 
 ghost use Rattle.std.specs.Prelude.{◌≡◌, ◌<◌, ◌≤◌, ◌∷◌, ◌++◌, ◌↔◌, [], IfOk, IfSome, IfNone, IsTrue, length, take};
-ghost use Rattle.gh_cc.specs.Kept.{first_clash, clash_before};
+ghost use Rattle.gh_cc.specs.Kept.{first_clash, clash_before, IsRelation};
 ghost use Rattle.gh_base.specs.Atoms.{IsInRange, count_of};
-ghost use Rattle.gh_cc.specs.Asserted.{IsFree, AreEqual, HasTruth, GivesTruth, HasNoTruth, IsConsistent, IsConflict};
+ghost use Rattle.gh_cc.specs.Asserted.{IsFree, AreEqual, HasTruth, HasNoTruth, IsConsistent, IsConflict};
 
 use crate::clash::Clash;
 use crate::filing::{key, take_in};
@@ -49,30 +49,12 @@ impl Model for Classes {
 
     ghost Value = { Asserted };
 
-    ghost use Rattle.std.specs.Prelude.{◌≡◌, ◌≤◌, ◌*◌, length, vec_capacity};
-    ghost use Rattle.gh_base.specs.Atoms.{count_of};
+    ghost use Rattle.gh_cc.specs.Fields.{core_of, HaveSizes, HaveRoom, HasMentions};
     ghost use Rattle.gh_cc.specs.Kept.{IsKept};
-    ghost use Rattle.gh_cc.specs.Uses.{all_mentions};
 
     ghost view = { λ c. record { sizes = c.sizes; lits = c.lits.items } };
 
-    ghost invariant = { λ c.
-        IsKept (record {
-          sizes = c.sizes;
-          lits = c.lits.items;
-          stages = c.stages.items;
-          links = c.partition.links;
-          entries = c.signs.entries;
-          clash = c.clash;
-        })
-        × (c.partition.terms ≡ c.sizes.terms)
-        × (c.signs.count ≡ count_of c.sizes)
-        × (count_of c.sizes ≤ 1431655764)
-        × (count_of c.sizes ≤ vec_capacity c.lits)
-        × (count_of c.sizes ≤ vec_capacity c.stages)
-        × (c.uses.terms ≡ c.sizes.terms)
-        × (3 * count_of c.sizes ≤ c.uses.room)
-        × (c.uses.list ≡ all_mentions c.lits.items) };
+    ghost invariant = { λ c. IsKept (core_of c) × HaveSizes c × HaveRoom c × HasMentions c };
 }
 
 // The clash that stands after a literal was taken in.
@@ -186,18 +168,15 @@ impl Classes {
         self.partition.class_of(a).0 == self.partition.class_of(b).0
     }
 
-    /// The truth that equality and congruence give an atom: an equality of terms of one class is true, and any other
-    /// atom has the truth of an asserted one over terms of the same classes. None where they give none, of which
-    /// nothing is said where the asserted literals are inconsistent. It takes constant time.
+    /// The truth that equality and congruence give an atom other than an equality: that of an asserted one over terms
+    /// of the same classes. None where they give none, of which nothing is said where the asserted literals are
+    /// inconsistent. Of equalities `same` tells. It takes constant time.
     pub fn truth_of(&self, atom: Atom) -> Option<bool>
         requires in_range { IsInRange self.now.sizes atom }
+        requires relation { IsRelation atom }
         ensures truth { IfSome result (HasTruth self.now atom) }
-        ensures given { IfSome result (GivesTruth self.now atom) }
         ensures none { IfNone result (HasNoTruth self.now atom) }
     {
-        if let Atom::Eq { a, b } = atom {
-            return if self.same(a, b) { Some(true) } else { None };
-        }
         let place = self.signs.get(key(self.sizes, &self.partition, atom))?;
         Some(self.lits[place as usize].positive)
     }

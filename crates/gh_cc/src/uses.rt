@@ -26,16 +26,14 @@ pub struct Uses {
 
 impl Model for Uses {
     ghost use Rattle.std.specs.Prelude.{length, vec_capacity};
-    ghost use Rattle.gh_cc.specs.Uses.{Mentioned, AreUses, AreCounts, terms_of};
+    ghost use Rattle.gh_cc.specs.Uses.{Mentioned, AreMentions, terms_of};
 
     ghost Value = { Mentioned };
 
     ghost view = { λ u.
         record { terms = length u.last.items; room = vec_capacity u.mentions; list = terms_of u.mentions.items } };
 
-    ghost invariant = { λ u.
-        AreUses u.mentions.items u.last.items
-        × AreCounts u.mentions.items u.counts.items (length u.last.items) };
+    ghost invariant = { λ u. AreMentions u.mentions.items u.last.items u.counts.items };
 }
 
 // A 0 for each term.

@@ -4,9 +4,10 @@ use Rattle.gh_base.specs.Atoms.{AreInRange}
 use Rattle.gh_cc.specs.Kept.{first_clash}
 use Rattle.gh_cc.specs.declared.classes.Stage.{Stage}
 use Rattle.gh_cc.specs.Uses.{Mentioned}
+use Rattle.gh_cc.specs.Fields.{core_of}
 use Rattle.gh_cc.proofs.KeptLemmas.{now_of}
 use Rattle.gh_cc.proofs.AssertLemmas.{kept_assert, tied_now, front_is, taken_in, kept_along, more_core}
-use Rattle.gh_cc.proofs.MoreLemmas.{core_of, may_assert, mentions_fit, mentions_more}
+use Rattle.gh_cc.proofs.MoreLemmas.{may_assert, mentions_fit, mentions_more}
 use Rattle.gh_cc.proofs.classes.Classes.assert.Goals as goal
 
 abbrev stage_of : ℕ → ℕ → Stage
@@ -16,13 +17,13 @@ pub push_reserved-requires : goal.push_reserved-requires
 push_reserved-requires c =
     let m = may_assert c.self.inside c.args.lit _ c.self.view_is c.self.invariant.0 c.requires.in_range
     c.requires.free in
-    omega (arith, m.few, m.long, m.kept.staged, c.self.invariant.5)
+    omega (arith, m.few, m.long, m.kept.staged, c.self.invariant.2.2)
 
 pub push_reserved-requires-2 : goal.push_reserved-requires-2
 push_reserved-requires-2 c =
     let m = may_assert c.self.inside c.args.lit _ c.self.view_is c.self.invariant.0 c.requires.in_range
     c.requires.free in
-    omega (arith, m.few, m.long, c.self.invariant.4)
+    omega (arith, m.few, m.long, c.self.invariant.2.1)
 
 pub take_in-found-requires-clause-tied : goal.take_in-found-requires-clause-tied
 take_in-found-requires-clause-tied c =
@@ -33,10 +34,10 @@ take_in-found-requires-clause-tied c =
     rw (front_is i.lits.items c.as_slice.result.now c.args.lit c.len-place.result whole place)
     (record {
       in_range = c.self.invariant.0.in_range;
-      terms = c.self.invariant.1;
+      terms = c.self.invariant.1.0;
       merges = c.depth.ensures.merges;
-      count = c.self.invariant.2;
-      few = omega (arith, c.self.invariant.3);
+      count = c.self.invariant.1.1;
+      few = omega (arith, c.self.invariant.2.0);
       state = tied_now (core_of i) c.self.invariant.0;
     })
 
@@ -52,25 +53,25 @@ pub mention-requires-clause-room : goal.mention-requires-clause-room
 mention-requires-clause-room c =
     let m = may_assert c.self.inside c.args.lit _ c.self.view_is c.self.invariant.0 c.requires.in_range
     c.requires.free in
-    let fit = mentions_fit (core_of c.self.inside) c.args.lit c.self.inside.uses.list m c.self.invariant.8 in
-    omega (arith, fit, c.self.invariant.7)
+    let fit = mentions_fit (core_of c.self.inside) c.args.lit c.self.inside.uses.list m c.self.invariant.3 in
+    omega (arith, fit, c.self.invariant.2.3)
 
 pub mention-requires-clause-small : goal.mention-requires-clause-small
 mention-requires-clause-small c =
     let m = may_assert c.self.inside c.args.lit _ c.self.view_is c.self.invariant.0 c.requires.in_range
     c.requires.free in
-    let fit = mentions_fit (core_of c.self.inside) c.args.lit c.self.inside.uses.list m c.self.invariant.8 in
-    omega (arith, fit, c.self.invariant.3)
+    let fit = mentions_fit (core_of c.self.inside) c.args.lit c.self.inside.uses.list m c.self.invariant.3 in
+    omega (arith, fit, c.self.invariant.2.0)
 
 pub take_in-found-requires-clause-uses : goal.take_in-found-requires-clause-uses
 take_in-found-requires-clause-uses c =
     let whole : c.as_slice.result.now ≡ c.self.inside.lits.items ++ c.args.lit ∷ [] =
     c.as_slice.ensures.value ∙ c.push_reserved-2.ensures.items in
     mentions_more c.self.inside.lits.items c.as_slice.result.now c.args.lit c.self.inside.uses c.mention.new.uses
-    c.self.invariant.8 c.mention.ensures whole
+    c.self.invariant.3 c.mention.ensures whole
 
 pub take_in-found-requires-clause-mentioned : goal.take_in-found-requires-clause-mentioned
-take_in-found-requires-clause-mentioned c = ap (λ (u : Mentioned). u.terms) c.mention.ensures ∙ c.self.invariant.6
+take_in-found-requires-clause-mentioned c = ap (λ (u : Mentioned). u.terms) c.mention.ensures ∙ c.self.invariant.1.2
 
 pub invariant_of-self : goal.invariant_of-self
 invariant_of-self c =
@@ -97,13 +98,13 @@ invariant_of-self c =
           c.take_in-found.result)
           _ _ _ _ _ now c.push_reserved-2.ensures.items stage (λ _. c.take_in-found.new.partition.links)
           (λ _. c.take_in-found.new.signs.entries) clash,
-      t.tied.terms,
-      t.tied.count,
-      c.self.invariant.3,
-      omega (arith, c.push_reserved-2.ensures.capacity, c.self.invariant.4),
-      omega (arith, c.push_reserved.ensures.capacity, c.self.invariant.5),
-      ap (λ (u : Mentioned). u.terms) c.mention.ensures ∙ c.self.invariant.6,
-      omega (arith, ap (λ (u : Mentioned). u.room) c.mention.ensures, c.self.invariant.7),
+      (t.tied.terms, t.tied.count, ap (λ (u : Mentioned). u.terms) c.mention.ensures ∙ c.self.invariant.1.2),
+      (
+        c.self.invariant.2.0,
+        omega (arith, c.push_reserved-2.ensures.capacity, c.self.invariant.2.1),
+        omega (arith, c.push_reserved.ensures.capacity, c.self.invariant.2.2),
+        omega (arith, ap (λ (u : Mentioned). u.room) c.mention.ensures, c.self.invariant.2.3),
+      ),
       mentions_more core.lits c.push_reserved-2.new.self.items c.args.lit i.uses c.mention.new.uses
-          c.self.invariant.8 c.mention.ensures c.push_reserved-2.ensures.items,
+          c.self.invariant.3 c.mention.ensures c.push_reserved-2.ensures.items,
     )

@@ -1,9 +1,9 @@
 use Rattle.std.proofs.Common.{List, sym, subst}
 use Rattle.gh_base.specs.declared.atom.Lit.{Lit}
 use Rattle.gh_cc.specs.Kept.{IsKept, AreLinked, IsClash, reps}
+use Rattle.gh_cc.specs.Fields.{core_of}
 use Rattle.gh_cc.proofs.AssertLemmas.{tied_now, filed_now, clash_now}
 use Rattle.gh_cc.proofs.ConsistentLemmas.{filed_consistent}
-use Rattle.gh_cc.proofs.MoreLemmas.{core_of}
 use Rattle.gh_cc.proofs.classes.Classes.conflict.Goals as goal
 
 pub refutation-requires-clause-linked : goal.refutation-requires-clause-linked
@@ -11,7 +11,7 @@ refutation-requires-clause-linked c =
     let core = core_of c.self.inside in
     let kept : IsKept core = c.self.invariant.0 in
     subst (λ (ls : List Lit). AreLinked core.sizes ls c.self.inside.partition) (sym c.as_slice-lits.ensures.value)
-    (record { in_range = kept.in_range; terms = c.self.invariant.1; linked = (tied_now core kept).linked })
+    (record { in_range = kept.in_range; terms = c.self.invariant.1.0; linked = (tied_now core kept).linked })
 
 pub refutation-requires-clause-clash : goal.refutation-requires-clause-clash
 refutation-requires-clause-clash c =

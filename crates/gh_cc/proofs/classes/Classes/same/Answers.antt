@@ -1,6 +1,6 @@
 use Rattle.gh_cc.proofs.AssertLemmas.{tied_now}
 use Rattle.gh_cc.proofs.SameLemmas.{same_terms}
-use Rattle.gh_cc.proofs.MoreLemmas.{core_of}
+use Rattle.gh_cc.specs.Fields.{core_of}
 use Rattle.gh_cc.proofs.classes.Classes.same.Goals as goal
 
 pub returns : goal.returns

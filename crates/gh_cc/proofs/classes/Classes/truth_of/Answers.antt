@@ -7,11 +7,11 @@ use Rattle.gh_cc.specs.contracts.classes.Classes.{the_invariant}
 use Rattle.gh_cc.specs.Signs.{find_lit}
 use Rattle.gh_cc.specs.Asserted.{Asserted, HasTruth, HasNoTruth}
 use Rattle.gh_cc.specs.Kept.{normal, reps}
+use Rattle.gh_cc.specs.Fields.{core_of}
 use Rattle.gh_base.proofs.ListLemmas.{get_within}
 use Rattle.gh_cc.proofs.AssertLemmas.{tied_now}
 use Rattle.gh_cc.proofs.FilingLemmas.{entry_of}
-use Rattle.gh_cc.proofs.TruthLemmas.{filed_truth, truth_given, unfiled_has_none, relation_of}
-use Rattle.gh_cc.proofs.MoreLemmas.{core_of}
+use Rattle.gh_cc.proofs.TruthLemmas.{filed_truth, unfiled_has_none}
 use Rattle.gh_cc.proofs.classes.Classes.truth_of.Goals as goal
 
 place_within : (i : Inside) (n place : ℕ) → the_invariant i → find_lit i.signs.entries n ≡ Some place
@@ -44,11 +44,6 @@ returns-clause-truth c =
     (filed_truth i.sizes i.lits.items i.partition.links i.signs.entries c.args.atom place c.index.result.now
     (tied_now (core_of i) c.self.invariant.0) c.self.invariant.0.in_range inside found at)
 
-pub returns-clause-given : goal.returns-clause-given
-returns-clause-given c =
-    truth_given c.args.self.now c.args.atom c.index.result.now.positive
-    (relation_of c.args.atom (λ x y e. c.in_default.not-Eq x y e)) (returns-clause-truth c)
-
 pub returns-in_err-place : goal.returns-in_err-place
 returns-in_err-place c =
     let i = c.self.inside in
@@ -56,6 +51,5 @@ returns-in_err-place c =
     subst (λ (n : ℕ). find_lit i.signs.entries n ≡ None) c.key.ensures.value (sym c.in_err-place.ensures) in
     let open_now : HasNoTruth c.args.self.now c.args.atom =
     subst (λ (a : Asserted). HasNoTruth a c.args.atom) c.self.view_is
-    (unfiled_has_none (core_of i) c.args.atom c.self.invariant.0
-    (relation_of c.args.atom (λ x y e. c.in_default.not-Eq x y e)) none) in
-    rw c.from_residual.ensures (record { truth = tt; given = tt; none = open_now })
+    (unfiled_has_none (core_of i) c.args.atom c.self.invariant.0 c.requires.relation none) in
+    rw c.from_residual.ensures (record { truth = tt; none = open_now })
