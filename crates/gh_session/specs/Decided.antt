@@ -6,9 +6,9 @@ use Rattle.gh_path.specs.declared.condition.Condition as kept
 use Rattle.gh_trace.specs.Kept.{IsOfProgram}
 use Rattle.gh_trace.specs.Refuted.{IsFirst}
 use Rattle.gh_trace.specs.Validity.{IsConditionValid, ListedAreValid}
+use Rattle.gh_trace.specs.declared.refutation.Refutation.{Refutation}
 use Rattle.gh_session.specs.declared.kept.Kept.{Kept}
 use Rattle.gh_session.specs.declared.session.Lesson.{Lesson}
-use Rattle.gh_session.specs.declared.session.Refutation.{Refutation}
 use Rattle.gh_session.specs.declared.session.SessionOutcome.{SessionOutcome}
 use Rattle.gh_session.specs.Essences.{Essence}
 use Rattle.gh_session.specs.Laws.{HasEssence}

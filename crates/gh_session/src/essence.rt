@@ -1,13 +1,12 @@
 //! The essence of a condition.
 
-ghost use Rattle.std.specs.Prelude.{◌≡◌, ◌++◌, map, filter, slice_get, None, IfOk, IfSome, IfNone};
+ghost use Rattle.std.specs.Prelude.{◌≡◌, ◌++◌, map, filter, IfOk};
 ghost use Rattle.gh_ast.specs.Plain.{procedure_of, program_of, statements_view};
 ghost use Rattle.gh_ast.specs.Bare.{bare_expr};
 ghost use Rattle.gh_ast.specs.Programs.{names, variable_names};
 ghost use Rattle.gh_path.specs.Terms.{some_assigns};
 ghost use Rattle.gh_path.specs.Walking.{loop_of};
 ghost use Rattle.gh_trace.specs.Kept.{IsOne};
-ghost use Rattle.gh_trace.specs.Scenes.{IsProcedureAt};
 ghost use Rattle.gh_session.specs.Numbering.{listed};
 ghost use Rattle.gh_session.specs.Essences as plain;
 ghost use Rattle.gh_session.specs.Views.{contract_view, round_view, start_view, step_view, check_view};
@@ -22,6 +21,7 @@ use gh_base::name::Name;
 use gh_path::assigned::some_assigns;
 use gh_path::condition::{self, CheckKind, Condition, PathStep};
 use gh_path::loops::{While, loops_of};
+use gh_trace::setting::procedure_in;
 use std::alloc::{AllocError, Global};
 
 /// What calls of a procedure rest on.
@@ -482,14 +482,6 @@ fn essence_in(
     })
 }
 
-// The procedure of a number.
-fn procedure_at(program: &Program, number: u16) -> Option<&Procedure>
-    ensures some { IfSome result (λ q. IsProcedureAt (program_of program.now) number (procedure_of q.now)) }
-    ensures none { IfNone result (slice_get (program_of program.now).procedures number ≡ None) }
-{
-    program.procedures.get(usize::from(number))
-}
-
 /// The essence of a condition of a typed program.
 pub fn essence_of(
     alloc: Global,
@@ -500,7 +492,7 @@ pub fn essence_of(
     ensures { IfOk result (λ e. HasEssence (program_of typed.now) condition.now (essence_view e)) }
 {
     let program = typed.program();
-    let Some(procedure) = procedure_at(program, condition.procedure) else {
+    let Some(procedure) = procedure_in(program, condition.procedure) else {
         unreachable!()
     };
     Ok(essence_in(alloc, program, procedure, condition)?)

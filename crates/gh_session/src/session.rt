@@ -19,17 +19,11 @@ use gh_ast::typed::Typed;
 use gh_path::condition::Condition;
 use gh_path::conditions::Conditions;
 use gh_trace::decider::Decider;
+use gh_trace::refutation::Refutation;
 use gh_trace::state::Trace;
 use std::alloc::{AllocError, Global};
 use std::collections::HashMap;
 use std::marker::Model;
-
-/// The first condition that isn't valid, by its number, with a counterexample.
-#[derive(Debug, Drop)]
-pub struct Refutation {
-    pub number: u32,
-    pub trace: Trace,
-}
 
 /// What is decided of a program, and of how many essences it was new.
 #[derive(Debug, Drop)]
