@@ -21,7 +21,7 @@ use Rattle.gh_log.specs.Spelled.{IsSpelledLine, IsSpelled, lines_of}
 use Rattle.gh_decide.specs.Decided.{AreValidUpTo, AreDecided}
 use Rattle.gh_decide.specs.Logs.{AreValidSections}
 use Rattle.gh_decide.specs.Outcomes.{IsVerified}
-use Rattle.gh_decide.specs.Verdicts.{IsPlaced, IsShown}
+use Rattle.gh_decide.specs.Verdicts.{IsWritable, IsShown}
 
 sections_more : (P : Program) (cs : List Condition) (ss : List (List LogLine)) (c : Condition) (s : List LogLine) → AreValidSections P cs ss → IsValidSection (problem (symbolic_of P c)) s → AreValidSections P (cs ++ c ∷ []) (ss ++ s ∷ [])
 sections_more P [] [] c s valid more = (more, record {})
@@ -44,7 +44,7 @@ pub none_valid : (P : Program) → AreValidUpTo P 0
 none_valid P d i = absurd (no_member d i)
 
 pub none_decided : (P : Program) → AreDecided P 0 []
-none_decided P = record { valid = none_valid P; log = record {}; placed = λ k d l. absurd (omega arith) }
+none_decided P = record { valid = none_valid P; log = record {}; writable = λ k d l. absurd (omega arith) }
 
 taken_one : (P : Program) (k : ℕ) (c : Condition) → slice_get (conditions P) k ≡ Some c → take (k + 1) (conditions P) ≡ take k (conditions P) ++ c ∷ []
 taken_one P k c at = let more : k + 1 ≡ suc k = omega arith in ap (λ n. take n (conditions P)) more ∙ taken_more (conditions P) k c at
@@ -72,7 +72,7 @@ decided_more P k r s old new found shown pushed before =
     record {
       valid = valid_more P k r found shown.valid before.valid;
       log = subst (λ (xs : List Condition). AreValidSections P xs (lines_of new)) (sym taken) (subst (AreValidSections P (cs ++ c ∷ [])) (sym lines) sections);
-      placed = subst (All IsPlaced) (sym pushed) (All-push IsPlaced old s before.placed shown.placed);
+      writable = subst (All IsWritable) (sym pushed) (All-push IsWritable old s before.writable shown.writable);
     }
 
 -- all conditions were decided
@@ -83,10 +83,10 @@ pub all_valid : (P : Program) (k m : ℕ) → m ≡ length (conditions P) → m 
 all_valid P k m count past valid c i = valid c (subst (λ (xs : List Condition). Contains xs c) (sym (all_taken P k m count past)) i)
 
 -- sections whose lines are spelled, and that are as many as 32 bits count
-spelled_log : (ss : List Section) (m : ℕ) → All IsPlaced ss → length ss ≡ m → m ≤ 4294967295 → IsSpelled 2 (lines_of ss)
-spelled_log ss m placed many few = record {
+spelled_log : (ss : List Section) (m : ℕ) → All IsWritable ss → length ss ≡ m → m ≤ 4294967295 → IsSpelled 2 (lines_of ss)
+spelled_log ss m writable many few = record {
   known = inr refl;
-  lines = All-map (λ (ls : List LogLine). All (IsSpelledLine 2) ls) (λ (s : Section). s.lines) ss (All-weaker IsPlaced (λ (s : Section). All (IsSpelledLine 2) s.lines) (λ s p. p.spelled) ss placed);
+  lines = All-map (λ (ls : List LogLine). All (IsSpelledLine 2) ls) (λ (s : Section). s.lines) ss (All-weaker IsWritable (λ (s : Section). All (IsSpelledLine 2) s.lines) (λ s p. p.spelled) ss writable);
   few = omega (arith, length-map ss (λ (s : Section). s.lines), many);
 }
 
@@ -99,6 +99,6 @@ all_decided P k m log two count past few before =
       valid = all_valid P k m count past before.valid;
       version = two;
       log = shown;
-      spelled = spelled_log ss m before.placed many few;
-      placed = before.placed;
+      spelled = spelled_log ss m before.writable many few;
+      writable = before.writable;
     }

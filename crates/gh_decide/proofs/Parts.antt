@@ -62,7 +62,7 @@ pub shown : (P : Program) (r : kept.Condition) (p : Problem) (s : Section) → I
 shown P r p s typed ground is = record {
   valid = λ c one. section_shows P c s.lines typed one.there (at c one);
   section = at;
-  placed = record { first = is.first; few = is.few; spelled = is.spelled };
+  writable = record { first = is.first; few = is.few; spelled = is.spelled };
 }
   where
     at : (c : Condition) → IsOfProgram P r c → IsValidSection (problem (symbolic_of P c)) s.lines

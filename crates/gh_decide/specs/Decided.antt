@@ -6,7 +6,7 @@ use Rattle.gh_trace.specs.Validity.{IsConditionValid}
 use Rattle.gh_log.specs.declared.lines.Section.{Section}
 use Rattle.gh_log.specs.Spelled.{lines_of}
 use Rattle.gh_decide.specs.Logs.{AreValidSections}
-use Rattle.gh_decide.specs.Verdicts.{IsPlaced}
+use Rattle.gh_decide.specs.Verdicts.{IsWritable}
 
 -- they are valid
 abbrev pub AreValidUpTo : Program → ℕ → Type 0
@@ -16,4 +16,4 @@ AreValidUpTo P k = (d : Condition) → Contains (take k (conditions P)) d → Is
 pub record AreDecided (P : Program) (k : ℕ) (sections : List Section) : Type 0 where
   pub valid : AreValidUpTo P k
   pub log : AreValidSections P (take k (conditions P)) (lines_of sections)
-  pub placed : All IsPlaced sections
+  pub writable : All IsWritable sections

@@ -6,7 +6,7 @@ use Rattle.gh_trace.specs.Refuted.{IsFirst}
 use Rattle.gh_log.specs.declared.lines.Log.{Log}
 use Rattle.gh_log.specs.Spelled.{IsSpelled, lines_of}
 use Rattle.gh_decide.specs.Logs.{IsValidLog}
-use Rattle.gh_decide.specs.Verdicts.{IsPlaced}
+use Rattle.gh_decide.specs.Verdicts.{IsWritable}
 use Rattle.gh_decide.specs.declared.outcome.Outcome.{Outcome}
 use Rattle.gh_decide.specs.declared.outcome.Outcome.TheVariants.{Verified, Refuted}
 
@@ -16,7 +16,7 @@ pub record IsVerified (P : Program) (kept : Log) : Type 0 where
   pub version : kept.version ≡ 2
   pub log : IsValidLog P (lines_of kept.sections.items)
   pub spelled : IsSpelled 2 (lines_of kept.sections.items)
-  pub placed : All IsPlaced kept.sections.items
+  pub writable : All IsWritable kept.sections.items
 
 abbrev pub IsOutcome : Program → Outcome → Type 0
 IsOutcome P (Verified log) = IsVerified P log

@@ -14,9 +14,9 @@ use Rattle.gh_log.specs.Spelled.{IsSpelledLine}
 use Rattle.gh_decide.specs.declared.decide.Verdict.{Verdict}
 use Rattle.gh_decide.specs.declared.decide.Verdict.TheVariants.{Valid, Refuted}
 
--- a section of its own: it stands at the first line, its lines have numbers of 32 bits, as has the one after them, and the
--- grammar of logs of version 2 can spell them
-pub record IsPlaced (s : Section) : Type 0 where
+-- a log can be written of it: it stands at the first line, its lines have numbers of 32 bits, as has the one after them, and
+-- the grammar of logs of version 2 can spell them
+pub record IsWritable (s : Section) : Type 0 where
   pub first : s.first ≡ 1
   pub few : length s.lines ≤ 4294967294
   pub spelled : All (IsSpelledLine 2) s.lines
@@ -29,7 +29,7 @@ IsGroundOf P r clauses = (c : Condition) → StandsFor P r c → clauses ≡ pro
 pub record IsShown (P : Program) (r : kept.Condition) (s : Section) : Type 0 where
   pub valid : HasNoCounterexample P r
   pub section : (c : Condition) → IsOfProgram P r c → IsValidSection (problem (symbolic_of P c)) s.lines
-  pub placed : IsPlaced s
+  pub writable : IsWritable s
 
 abbrev pub IsVerdict : Program → kept.Condition → Verdict → Type 0
 IsVerdict P r (Valid s) = IsShown P r s

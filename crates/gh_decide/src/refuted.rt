@@ -9,15 +9,8 @@ ghost use Rattle.gh_trace.specs.Validity.{ListedAreValid};
 use crate::decide::{Verdict, decide};
 use gh_ast::typed::Typed;
 use gh_path::conditions::Conditions;
-use gh_trace::state::Trace;
+use gh_trace::refutation::Refutation;
 use std::alloc::{AllocError, Global};
-
-/// The number of the first condition that isn't valid, and a counterexample of it.
-#[derive(Debug, Drop)]
-pub struct FirstRefuted {
-    pub number: u32,
-    pub trace: Trace,
-}
 
 /// The first condition of an admitted program that isn't valid, by number; none where all are valid. It holds one
 /// condition at a time, and keeps nothing of those that are valid.
@@ -25,7 +18,7 @@ pub fn first_refuted(
     alloc: Global,
     typed: &Typed,
     conditions: &Conditions,
-) -> Result<Option<FirstRefuted>, AllocError>
+) -> Result<Option<Refutation>, AllocError>
     requires same { program_of conditions.now ≡ program_of typed.now }
     requires admitted { IsAdmitted (program_of typed.now) }
     ensures none { IfOk result (λ found. IfNone found (ListedAreValid (program_of typed.now))) }
@@ -40,7 +33,7 @@ pub fn first_refuted(
         }
         match decide(alloc, typed, walk.condition())? {
             Verdict::Valid(_) => {}
-            Verdict::Refuted(trace) => return Ok(Some(FirstRefuted { number, trace })),
+            Verdict::Refuted(trace) => return Ok(Some(Refutation { number, trace })),
         }
     }
     Ok(None)
