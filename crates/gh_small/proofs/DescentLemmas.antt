@@ -1,5 +1,5 @@
 -- Cells of the first heap of a structure, and models of bounded clauses.
-use Rattle.std.proofs.Common.{◌≡◌, ◌≢◌, inl, inr, ℕ, ◌<◌, ◌≤◌, List, true, false, length, sym, ap, ◌∙◌, arith}
+use Rattle.std.proofs.Common.{◌≡◌, ◌≢◌, ◌⊎◌, inl, inr, ℕ, ◌<◌, ◌≤◌, List, true, false, length, sym, ap, ◌∙◌, subst, arith}
 use Rattle.std.specs.Prelude.{◌==◌}
 use Rattle.std.specs.FinMap.{len, entries, len-entries}
 use Rattle.std.proofs.lemmas.List.{length-map}
@@ -14,8 +14,8 @@ use Rattle.gh_log.specs.declared.lines.Section.{Section}
 use Rattle.gh_model.specs.BuiltTraces.{stands_at, content_at}
 use Rattle.gh_model.proofs.building.Heaps.{stands_apart, other_not, alloc_stands}
 use Rattle.gh_small.specs.Leaders.{leads, allocated_classes}
-use Rattle.gh_small.specs.Bounded.{bounded_by}
-use Rattle.gh_small.specs.Models.{IsModelled, first_heap, IsLower}
+use Rattle.gh_small.specs.Bounded.{bounded_by, HasRoom}
+use Rattle.gh_small.specs.Models.{IsModelled, HasRoomBelow, first_heap, IsLower}
 use Rattle.gh_small.proofs.HeapLemmas.{counted_cells}
 use Rattle.gh_small.proofs.ModelLemmas.{bounded_sound}
 use Rattle.gh_small.proofs.RoomLemmas.{classes_below}
@@ -72,8 +72,18 @@ next_below p k cells s known some is few =
     let bound = (bounded_sound p k (interpretation_of s) known some (record { congruence = is.congruence; instances = is.instances; clauses = is.clauses })).1 in
     omega (arith, same, bound, few)
 
+-- what is asked first has as many cells as the first model, and what is asked later has fewer
+abbrev pub HasRoomFrom : Problem → ℕ → Tables → Type 0
+HasRoomFrom p k s = (k ≡ len (first_heap s)) ⊎ HasRoomBelow p s
+
+pub room_first : (p : Problem) (k : ℕ) (s : Tables) → HasRoomFrom p k s → HasRoom p k → HasRoomBelow p s
+room_first p k s from room = elim from as (λ _. HasRoomBelow p s) [ inl e ↦ λ some. subst (HasRoom p) e room | inr below ↦ below ]
+
+pub room_none : (p : Problem) (k : ℕ) (s : Tables) → HasRoomFrom p k s → k ≤ 0 → HasRoomBelow p s
+room_none p k s from none = elim from as (λ _. HasRoomBelow p s) [ inl e ↦ λ some. absurd (omega (arith, e, none, some)) | inr below ↦ below ]
+
 pub lower : (p : Problem) (k : ℕ) (s : Section) → IsRefutationOf (bounded_by p k) s → IsLower p k s
-lower p k s is = record { valid = is.valid; placed = record { first = is.first; few = is.few; spelled = is.spelled } }
+lower p k s is = record { valid = is.valid; writable = record { first = is.first; few = is.few; spelled = is.spelled } }
 
 -- a heap has as many cells as are listed
 pub as_many : (cells : List Cell) (h : Heap) → pairs cells ≡ entries h → length cells ≡ len h

@@ -5,13 +5,13 @@ use Rattle.gh_base.specs.Grounds.{Problem}
 use Rattle.gh_base.specs.Meaning.{Interpretation, IsClauseTrue, IsCongruence}
 use Rattle.gh_base.specs.Structures.{Tables, interpretation_of}
 use Rattle.gh_assert.specs.Heaps.{Heap}
-use Rattle.gh_decide.specs.Verdicts.{IsPlaced}
+use Rattle.gh_decide.specs.Verdicts.{IsWritable}
 use Rattle.gh_inst.specs.Violations.{AreInstancesTrue}
 use Rattle.gh_log.specs.Sections.{IsValidSection}
 use Rattle.gh_log.specs.declared.lines.Section.{Section}
 use Rattle.gh_model.specs.BuiltTraces.{heap_in}
 use Rattle.gh_small.specs.Leaders.{allocated_classes}
-use Rattle.gh_small.specs.Bounded.{bounded_by}
+use Rattle.gh_small.specs.Bounded.{bounded_by, HasRoom}
 use Rattle.gh_small.specs.declared.descent.Fewest.{Fewest}
 
 -- equality is a congruence, and all axiom instances and all clauses are true
@@ -30,6 +30,10 @@ pub record IsModelled (p : Problem) (s : Tables) : Type 0 where
 abbrev pub first_heap : Tables → Heap
 first_heap s = heap_in (interpretation_of s) s.sizes.terms 0
 
+-- where it has cells, 32 bits number the clauses and definitions of "fewer cells than that"
+abbrev pub HasRoomBelow : Problem → Tables → Type 0
+HasRoomBelow p s = 0 < len (first_heap s) → HasRoom p (len (first_heap s))
+
 -- how many classes are allocated in the first version
 abbrev pub first_classes : Tables → ℕ
 first_classes s = allocated_classes (interpretation_of s) s.sizes.terms
@@ -37,7 +41,7 @@ first_classes s = allocated_classes (interpretation_of s) s.sizes.terms
 -- the section, which logs of version 2 can spell, is valid for the clauses that say "fewer than so many cells"
 pub record IsLower (p : Problem) (cells : ℕ) (s : Section) : Type 0 where
   pub valid : IsValidSection (bounded_by p cells) s.lines
-  pub placed : IsPlaced s
+  pub writable : IsWritable s
 
 -- there is a section exactly where there is a cell
 abbrev pub IsLowest : Problem → ℕ → Option Section → Type 0

@@ -1,10 +1,10 @@
 //! From a model of ground clauses to one whose first heap has the fewest cells.
 
-ghost use Rattle.std.specs.Prelude.{◌≡◌, ◌↔◌, ◌≤◌, IsSome, IfOk, IfSome};
+ghost use Rattle.std.specs.Prelude.{◌≡◌, ◌↔◌, ◌≤◌, IsSome, IfOk, IfSome, OnOk};
 ghost use Rattle.std.specs.FinMap.{len};
 ghost use Rattle.gh_ground.specs.Solving.{IsAnswer};
 ghost use Rattle.gh_small.specs.Bounded.{bounded_by, HasRoom};
-ghost use Rattle.gh_small.specs.Models.{IsModelled, IsFewest, first_classes, first_heap};
+ghost use Rattle.gh_small.specs.Models.{IsModelled, IsFewest, HasRoomBelow, first_classes, first_heap};
 
 use crate::bounding::{bounded, copied, has_room};
 use gh_base::ground::Ground;
@@ -55,7 +55,8 @@ fn below(alloc: Global, ground: &Ground, cells: u32) -> Result<Option<Answer>, A
 /// 32 bits count, they find no memory, as too many clauses of a condition do.
 pub fn descend(alloc: Global, ground: &Ground, first: Structure) -> Result<Fewest, AllocError>
     requires { IsModelled ground.now first }
-    ensures { IfOk result (λ f. IsFewest ground.now f) }
+    ensures fewest { IfOk result (λ f. IsFewest ground.now f) }
+    ensures room { OnOk result (HasRoomBelow ground.now first) }
 {
     let _sizes = ground.sizes();
     let mut structure = first;

@@ -28,5 +28,5 @@ returns c =
     let r = c.args.condition.now in
     let p = c.in_ok-ground.ground in
     let ground : IsGroundOf P r p = λ k stands. c.in_ok-ground.ensures.told P k (c.in_ok-symbolic.ensures k stands) in
-    smallest_found P r p c.in_ok-fewest-in-Model.fewest c.in_ok-trace-in-Model.trace c.requires.admitted.typed ground c.sizes-sizes.ensures.valid c.in_ok-fewest-in-Model.ensures
+    smallest_found P r p c.in_ok-fewest-in-Model.fewest c.in_ok-trace-in-Model.trace c.requires.admitted.typed ground c.sizes-sizes.ensures.valid c.in_ok-fewest-in-Model.ensures.fewest
     c.in_ok-trace-in-Model.ensures c.requires.one
