@@ -1,22 +1,11 @@
--- The procedure that a condition is of, with its loops.
-use Rattle.std.specs.Prelude.{◌≡◌, ℕ, List, map}
+-- The kept steps, callees and loops of a setting.
+use Rattle.std.specs.Prelude.{ℕ, List}
 use Rattle.gh_ast.specs.Programs.{Name}
-use Rattle.gh_ast.specs.Plain.{Procedure, Program, procedure_of, program_of}
-use Rattle.gh_path.specs.Graphs.{Loop, PathStep, loops_of}
+use Rattle.gh_path.specs.Graphs.{Loop, PathStep}
 use Rattle.gh_path.specs.Kept.{AreSteps, IsCallee, IsLoop, IsStep}
-use Rattle.gh_path.specs.Walking.{loop_of}
 use Rattle.gh_path.specs.declared.condition.PathStep as kept
-use Rattle.gh_lens.specs.declared.setting.Setting.{Setting}
-
-abbrev pub whole : Setting → Program
-whole s = program_of s.typed.now
-
--- the procedure that the setting is in
-abbrev pub here : Setting → Procedure
-here s = procedure_of s.procedure.now
-
-abbrev pub HasLoops : Setting → Type 0
-HasLoops s = map loop_of s.loops.now ≡ loops_of (here s)
+use Rattle.gh_trace.specs.Settings.{here, whole}
+use Rattle.gh_trace.specs.declared.setting.Setting.{Setting}
 
 -- the kept step stands for one, in the setting
 abbrev pub HasStep : Setting → kept.PathStep → Type 0

@@ -1,15 +1,15 @@
 //! What a step hands over.
 
 ghost use Rattle.std.specs.Prelude.{IfOk};
+ghost use Rattle.gh_trace.specs.Settings.{HasLoops};
 ghost use Rattle.gh_lens.specs.Handed.{IsHandedToCallee, IsHandedToLoop, IsHandedBetween};
-ghost use Rattle.gh_lens.specs.Settings.{HasCallee, HasLoop, HasLoops, HasStep};
+ghost use Rattle.gh_lens.specs.Settings.{HasCallee, HasLoop, HasStep};
 
 use crate::exchange::{Exchange, exchanged};
-use crate::setting::{Setting, procedure_at};
-use gh_assert::values::values_of;
-use gh_ast::{Expr, Occ};
+use gh_ast::Expr;
 use gh_path::condition::PathStep;
 use gh_trace::parts::Part;
+use gh_trace::setting::{Setting, procedure_at};
 use gh_trace::state::State;
 use gh_trace::stores::entered;
 use std::alloc::{AllocError, Global};
@@ -29,13 +29,9 @@ fn handed_to_callee(
     let Some(callee) = procedure_at(setting.typed, callee) else {
         unreachable!();
     };
-    let Some(given) = values_of(alloc, &before.store, &before.heap, arguments)? else {
+    let Some(inside) = entered(alloc, callee, arguments, before)? else {
         return Ok(None);
     };
-    if given.as_slice().len() != callee.parameters.as_slice().len() {
-        return Ok(None);
-    }
-    let inside = entered(alloc, callee, given.as_slice())?;
     let part = Part {
         assertion: &callee.needs,
         store: &inside,

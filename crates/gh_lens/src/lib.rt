@@ -13,7 +13,6 @@ pub mod misses;
 pub mod overview;
 pub mod progress;
 pub mod remarks;
-pub mod setting;
 pub mod statement;
 pub mod story;
 pub mod taking;

@@ -4,20 +4,20 @@ ghost use Rattle.std.specs.Prelude.{◌≡◌, ◌++◌, map, IfOk, OnOk};
 ghost use Rattle.gh_ast.specs.Plain.{comparison, segment, formula_of};
 ghost use Rattle.gh_assert.specs.Stores.{store_of};
 ghost use Rattle.gh_trace.specs.Kept.{state_of};
+ghost use Rattle.gh_trace.specs.Settings.{HasLoops, here, whole};
 ghost use Rattle.gh_lens.specs.Misses as told;
-ghost use Rattle.gh_lens.specs.Settings.{HasLoops, here, whole};
 
 use crate::lines::{push_heap_line, push_number};
-use crate::setting::{Setting, procedure_at};
 use crate::statement::push_operand;
 use crate::taking::{Reason, Taking, conjuncts, reason_for, taken};
 use gh_assert::heap::Heap;
 use gh_assert::store::Store;
-use gh_assert::values::{operand_value, values_of};
+use gh_assert::values::operand_value;
 use gh_ast::{Assertion, Expr, Operand};
 use gh_base::name::Name;
 use gh_base::text::Text;
 use gh_path::condition::CheckKind;
+use gh_trace::setting::{Setting, procedure_at};
 use gh_trace::state::State;
 use gh_trace::stores::entered;
 use std::alloc::{AllocError, Global};
@@ -241,13 +241,9 @@ fn entry_miss(
     let Some(callee) = procedure_at(setting.typed, callee) else {
         return Ok(None);
     };
-    let Some(given) = values_of(alloc, &state.store, &state.heap, arguments)? else {
+    let Some(inside) = entered(alloc, callee, arguments, state)? else {
         return Ok(None);
     };
-    if given.as_slice().len() != callee.parameters.as_slice().len() {
-        return Ok(None);
-    }
-    let inside = entered(alloc, callee, given.as_slice())?;
     let text = miss(alloc, &inside, &state.heap, &callee.needs)?;
     Ok(Some(text))
 }

@@ -5,12 +5,12 @@ ghost use Rattle.gh_ast.specs.Plain.{program_of};
 ghost use Rattle.gh_ast.specs.Programs.{names};
 ghost use Rattle.gh_lens.specs.Statements as told;
 
-use crate::setting::procedure_in;
 use gh_ast::{Expr, Occ, Operand, Program};
 use gh_base::place::Span;
 use gh_base::text::Text;
 use gh_path::condition::PathStep;
 use gh_path::loops::While;
+use gh_trace::setting::procedure_in;
 use std::alloc::{AllocError, Global};
 
 /// Adds an operand.

@@ -4,14 +4,14 @@ ghost use Rattle.std.specs.Prelude.{◌≡◌, ◌++◌, IfOk, OnOk};
 ghost use Rattle.gh_ast.specs.Plain.{program_of};
 ghost use Rattle.gh_path.specs.Admitted.{IsAdmitted};
 ghost use Rattle.gh_draw.specs.Kept.{HasMeaning};
-ghost use Rattle.gh_lens.specs.Settings.{HasLoops, HasStep, HaveSteps, here, whole};
+ghost use Rattle.gh_trace.specs.Settings.{HasLoops, here, whole};
+ghost use Rattle.gh_lens.specs.Settings.{HasStep, HaveSteps};
 ghost use Rattle.gh_lens.specs.Stories as told;
 
 use crate::exchange::Exchange;
 use crate::handed::handed;
 use crate::lines::{push_changes, push_exchange};
 use crate::misses::failing;
-use crate::setting::{Setting, procedure_at};
 use crate::statement::{push_line, push_step, step_place};
 use gh_ast::typed::Typed;
 use gh_base::text::Text;
@@ -21,6 +21,7 @@ use gh_path::condition::{Condition, PathStep};
 use gh_path::conditions::Conditions;
 use gh_path::loops::loops_of;
 use gh_trace::replay::{ReplayError, replay};
+use gh_trace::setting::{Setting, procedure_at};
 use gh_trace::state::State;
 use std::alloc::{AllocError, Global};
 
