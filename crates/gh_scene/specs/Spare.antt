@@ -5,14 +5,14 @@ use Rattle.gh_ast.specs.Plain.{Formula}
 use Rattle.gh_assert.specs.Heaps.{Heap}
 use Rattle.gh_assert.specs.Meaning.{Store}
 use Rattle.gh_base.specs.declared.place.Span.{Span}
-use Rattle.gh_lens.specs.declared.setting.Setting.{Setting}
-use Rattle.gh_lens.specs.Settings.{here, whole}
 use Rattle.gh_lens.specs.Takings.{conjuncts, Leaves}
 use Rattle.gh_path.specs.Graphs.{Check, Loop, access, entry, loop_entry, returned, loop_end}
 use Rattle.gh_path.specs.Kept.{IsKind, IsLoop}
 use Rattle.gh_path.specs.declared.condition.CheckKind as kept_kind
 use Rattle.gh_trace.specs.Kept.{state_of}
+use Rattle.gh_trace.specs.Settings.{here, whole}
 use Rattle.gh_trace.specs.Traces.{State}
+use Rattle.gh_trace.specs.declared.setting.Setting.{Setting}
 use Rattle.gh_trace.specs.declared.state.State as kept_state
 
 -- the alternatives that the check asks a whole heap to meet; where it asks for a part alone, nothing is left over

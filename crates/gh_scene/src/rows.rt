@@ -1,7 +1,8 @@
 // The rows of a picture.
 
 ghost use Rattle.std.specs.Prelude.{◌≡◌, IfOk};
-ghost use Rattle.gh_lens.specs.Settings.{HasLoops, HasStep, HaveSteps, OfStep};
+ghost use Rattle.gh_trace.specs.Settings.{HasLoops};
+ghost use Rattle.gh_lens.specs.Settings.{HasStep, HaveSteps, OfStep};
 ghost use Rattle.gh_lens.specs.Statements.{statement_text};
 ghost use Rattle.gh_scene.specs.Rows as told;
 ghost use Rattle.gh_scene.specs.Rows.{AddsRowsFor};
@@ -11,10 +12,10 @@ use crate::roles::{changes_of, roles_of};
 use gh_assert::heap::Heap;
 use gh_base::text::Text;
 use gh_lens::handed::handed;
-use gh_lens::setting::Setting;
 use gh_lens::statement::{push_line, push_step, step_place};
 use gh_path::condition::PathStep;
 use gh_picture::scene::Row;
+use gh_trace::setting::Setting;
 use gh_trace::state::State;
 use std::alloc::{AllocError, Global};
 

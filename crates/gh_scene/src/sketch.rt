@@ -3,7 +3,7 @@
 ghost use Rattle.std.specs.Prelude.{◌≡◌, ◌∷◌, map, IfOk};
 ghost use Rattle.gh_ast.specs.Plain.{program_of};
 ghost use Rattle.gh_draw.specs.Kept.{HasMeaning};
-ghost use Rattle.gh_lens.specs.Settings.{HasLoops, here, whole};
+ghost use Rattle.gh_trace.specs.Settings.{HasLoops, here, whole};
 ghost use Rattle.gh_path.specs.Admitted.{IsAdmitted};
 ghost use Rattle.gh_path.specs.Conditions as plain;
 ghost use Rattle.gh_path.specs.Kept.{StandsFor};
@@ -16,12 +16,12 @@ use crate::spare::spare;
 use gh_ast::typed::Typed;
 use gh_draw::describe::describe;
 use gh_draw::drawing::Drawing;
-use gh_lens::setting::{Setting, procedure_at};
 use gh_path::condition::Condition;
 use gh_path::conditions::Conditions;
 use gh_path::loops::loops_of;
 use gh_picture::scene::Scene;
 use gh_trace::replay::{ReplayError, replay};
+use gh_trace::setting::{Setting, procedure_at};
 use gh_trace::state::State;
 use std::alloc::{AllocError, Global};
 

@@ -3,15 +3,15 @@
 ghost use Rattle.std.specs.Prelude.{map, IfOk};
 ghost use Rattle.gh_ast.specs.Plain.{formula_of};
 ghost use Rattle.gh_assert.specs.Stores.{store_of};
-ghost use Rattle.gh_lens.specs.Settings.{HasLoops};
+ghost use Rattle.gh_trace.specs.Settings.{HasLoops};
 ghost use Rattle.gh_scene.specs.Spare as told;
 
 use gh_assert::heap::Heap;
 use gh_assert::store::Store;
 use gh_ast::Assertion;
-use gh_lens::setting::Setting;
 use gh_lens::taking::{Taking, conjuncts, taken};
 use gh_path::condition::CheckKind;
+use gh_trace::setting::Setting;
 use gh_trace::state::State;
 use std::alloc::{AllocError, Global};
 use std::slice::from_ref;
