@@ -8,10 +8,10 @@ use Rattle.gh_ast.specs.Plain.{Program}
 use Rattle.gh_path.specs.Admitted.{IsAdmitted}
 use Rattle.gh_path.specs.Conditions.{Condition, conditions}
 use Rattle.gh_trace.specs.Validity.{ListedAreValid}
+use Rattle.gh_trace.specs.declared.refutation.Refutation.{Refutation}
 use Rattle.gh_session.specs.declared.edits.Edit.{Edit}
 use Rattle.gh_session.specs.declared.edits.Edits.{Edits}
 use Rattle.gh_session.specs.declared.kept.Kept.{Kept}
-use Rattle.gh_session.specs.declared.session.Refutation.{Refutation}
 use Rattle.gh_session.specs.declared.session.SessionOutcome.{SessionOutcome}
 use Rattle.gh_session.specs.Decided.{IsOutcome, asked, Grows, Tells}
 use Rattle.gh_session.specs.Known.{Known, essences}

@@ -35,7 +35,7 @@ use Rattle.gh_top.specs.declared.status.Status.TheVariants.{Verified, Refuted}
 
 lines_spelled : (P : Program) (c : Condition) (cells : ℕ) (o : Option Section) → IsLowest (problem (symbolic_of P c)) cells o → IfSome o (λ s. All (IsSpelledLine 2) s.lines)
 lines_spelled P c cells None h = tt
-lines_spelled P c cells (Some s) h = h.1.placed.spelled
+lines_spelled P c cells (Some s) h = h.1.writable.spelled
 
 -- its section can be spelled
 pub section_spelled : (P : Program) (k : ℕ) (r : kept.Condition) (s : Smallest) → IsFirst P k s.trace → IsNumbered P k (Some r) → IsSmallest P r s → IfSome s.section (λ x. All (IsSpelledLine 2) x.lines)
@@ -44,7 +44,7 @@ section_spelled P k r s f n is = lines_spelled P f.condition s.cells s.section (
 bound_told : (P : Program) (c : Condition) (cells : ℕ) (o : Option Section) → IsLowest (problem (symbolic_of P c)) cells o → IsBoundText P c cells (section_text o)
 bound_told P c cells None e = subst (λ n. IsBoundText P c n []) (sym e) no_cell
 bound_told P c cells (Some s) h =
-    some_cells s.lines h.0 h.1.valid (alone_spelled s.lines h.1.placed.spelled)
+    some_cells s.lines h.0 h.1.valid (alone_spelled s.lines h.1.writable.spelled)
 
 same_cells : (ss : List State) → first_cells (map drawn ss) ≡ cells_at_first (map state_of ss)
 same_cells [] = refl

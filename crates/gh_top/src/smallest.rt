@@ -18,7 +18,7 @@ use crate::report::Report;
 use crate::status::Status;
 use crate::verdict::verified;
 use gh_base::text::Text;
-use gh_decide::refuted::{FirstRefuted, first_refuted};
+use gh_decide::refuted::first_refuted;
 use gh_draw::describe::describe;
 use gh_draw::drawing::{Drawing, draw};
 use gh_log::lines::{Log, Section};
@@ -26,6 +26,7 @@ use gh_log::writing::write_log;
 use gh_path::condition::Condition;
 use gh_small::found::Smallest;
 use gh_small::smallest::smallest as find;
+use gh_trace::refutation::Refutation;
 use std::alloc::{AllocError, Global};
 
 // The text of a log with the section alone; nothing where there is none.
@@ -106,6 +107,6 @@ pub fn smallest(alloc: Global, admitted: &Admitted) -> Result<Report, AllocError
     let conditions = admitted.conditions();
     match first_refuted(alloc, admitted.typed(), conditions)? {
         None => Ok(verified(verified_line(alloc, conditions.count())?)),
-        Some(FirstRefuted { number, .. }) => refuted(alloc, admitted, number),
+        Some(Refutation { number, .. }) => refuted(alloc, admitted, number),
     }
 }
