@@ -5,9 +5,8 @@ ghost use Rattle.gh_ast.specs.Limits.{KeepsLimits};
 ghost use Rattle.gh_ast.specs.Plain.{program_of};
 ghost use Rattle.gh_ast.specs.Rules.{IsTyped};
 ghost use Rattle.gh_path.specs.Admitted.{IsAdmitted};
-ghost use Rattle.gh_path.specs.Conditions as plain;
-ghost use Rattle.gh_path.specs.Kept.{StandsFor};
 ghost use Rattle.gh_symb.specs.Encoded.{IsSymbolic};
+ghost use Rattle.gh_symb.specs.Steps.{HoldsFor};
 ghost use Rattle.gh_trace.specs.Kept.{IsOne};
 
 use gh_ast::typed::Typed;
@@ -76,8 +75,7 @@ fn modelled(
     over: &Symbolic<'_>,
 ) -> Result<Option<Trace>, AllocError>
     requires one { IsOne (program_of typed.now) condition.now }
-    requires told { (c : plain.Condition) → StandsFor (program_of typed.now) condition.now c →
-        IsSymbolic (program_of typed.now) c over.now }
+    requires told { HoldsFor (program_of typed.now) condition.now (λ P c. IsSymbolic P c over.now) }
 {
     let clauses = ground(alloc, over)?;
     match solve(alloc, &clauses)? {
