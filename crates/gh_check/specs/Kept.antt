@@ -7,7 +7,7 @@ use Rattle.gh_base.specs.Grounds.{Problem}
 use Rattle.gh_inst.specs.Instances.{IsInstance}
 use Rattle.gh_log.specs.Lines.{LogLine}
 use Rattle.gh_log.specs.Lines as line
-use Rattle.gh_log.specs.Sections.{line_clause, Deletes}
+use Rattle.gh_log.specs.Sections.{line_clause, AllStand, Deletes}
 
 -- What callers see of `Positions`: the ground clauses and all lines of a section, the clauses of the lines that were
 -- taken, and which positions a line deletes. Both are by position, and position 0 is that of no line.
@@ -24,6 +24,10 @@ with_line k clause = record k { clauses = k.clauses ++ clause ∷ [] }
 -- the line to be taken next
 abbrev pub next_line : Kept → Option LogLine
 next_line k = slice_get k.lines (length k.clauses - 1)
+
+-- the line to be taken next was taken
+abbrev pub TakesLine : Kept → Kept → Type 0
+TakesLine old new = (l : LogLine) → next_line old ≡ Some l → new ≡ with_line old (line_clause old.problem l)
 
 -- what the line names is an instance, if it is a line of an axiom
 abbrev pub IsNamed : Problem → LogLine → Type 0
@@ -76,6 +80,10 @@ AreWithin s entries = All (IsWithin s) entries
 abbrev pub present : List (Option (List Lit)) → List (List Lit)
 present entries = filter_map (λ o. o) entries
 
+-- .. at a position
+abbrev pub present_at : List (Option (List Lit)) → ℕ → List (List Lit)
+present_at entries position = present (slice_index_or entries position None ∷ [])
+
 -- some positions were deleted besides
 pub record AreDeleted (old new : Kept) (positions : List ℕ) : Type 0 where
   pub problem : new.problem ≡ old.problem
@@ -93,3 +101,8 @@ pub record AreLinesKept (p : Problem) (lines : List LogLine) (k : Kept) : Type 0
   pub clauses : k.clauses ≡ None ∷ map (line_clause p) lines
   pub stand : (position : ℕ) → IsLeft k position ↔ All (λ l. Deletes l position → ⊥) lines
   pub within : AreWithin p.sizes k.clauses
+
+-- whether all positions stand after the lines of which this is kept
+abbrev pub TellsStanding : Kept → List ℕ → Bool → Type 0
+TellsStanding k positions told =
+    (p : Problem) (lines : List LogLine) → AreLinesKept p lines k → IsTrue told ↔ AllStand p lines positions

@@ -1,10 +1,10 @@
 -- The check of one line.
-use Rattle.std.specs.Prelude.{◌≡◌, ⊤, List, [], ◌∷◌, ◌++◌}
+use Rattle.std.specs.Prelude.{◌≡◌, ⊤, List, [], ◌∷◌, ◌++◌, Some}
 use Rattle.gh_base.specs.Grounds.{Problem}
 use Rattle.gh_log.specs.Lines.{LogLine}
 use Rattle.gh_log.specs.Sections.{IsOfKind, IsFaultOf, line_clause}
 use Rattle.gh_base.specs.declared.sizes.Sizes.{Sizes}
-use Rattle.gh_check.specs.Kept.{Kept, with_line, AreLinesKept, IsWithin, AreWithin}
+use Rattle.gh_check.specs.Kept.{Kept, next_line, with_line, AreLinesKept, IsWithin, AreWithin}
 use Rattle.gh_check.specs.Assuming.{IsBehind}
 use Rattle.gh_check.specs.Standing.{MayStand}
 use Rattle.gh_check.specs.Names.{fault_number}
@@ -31,6 +31,10 @@ IsKeptAfter p earlier line Holds k = AreLinesKept p (earlier ++ line ∷ []) (wi
 abbrev pub Answers : Problem → Kept → LogLine → Outcome → Type 0
 Answers p k line o = (earlier : List LogLine) → AreLinesKept p earlier k → IsChecked p earlier line o
 
+-- .. of any ground clauses over these numbers
+abbrev pub AnswersOver : Sizes → Kept → LogLine → Outcome → Type 0
+AnswersOver sizes k line o = (p : Problem) → p.sizes ≡ sizes → Answers p k line o
+
 -- what is kept after that
 abbrev pub Leaves : Problem → Kept → LogLine → Outcome → Kept → Type 0
 Leaves p old line o new = (earlier : List LogLine) → AreLinesKept p earlier old → IsKeptAfter p earlier line o new
@@ -41,3 +45,8 @@ pub record IsReady (sizes : Sizes) (e : Earlier) : Type 0 where
   pub standing : MayStand sizes e.kept.clauses e.standing
   pub behind : IsBehind sizes e.kept.clauses e.units
   pub truths : e.truths.sizes ≡ sizes
+
+-- .. also when the line to be taken next was taken, if its clause is over these numbers
+abbrev pub StaysReady : Earlier → Earlier → Type 0
+StaysReady old new = (sizes : Sizes) (l : LogLine) → next_line old.kept ≡ Some l
+    → IsWithin sizes (line_clause old.kept.problem l) → IsReady sizes old → IsReady sizes new

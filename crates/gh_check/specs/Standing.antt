@@ -1,5 +1,6 @@
 -- What stands from line to line.
-use Rattle.std.specs.Prelude.{◌≡◌, ◌≢◌, ◌↔◌, ◌⊎◌, ◌++◌, ⊤, ℕ, List, map, Option, Bool, IsTrue, All, Contains, MatchOption}
+use Rattle.std.specs.Prelude.{◌≡◌, ◌≢◌, ◌↔◌, ◌⊎◌, ◌∷◌, ◌++◌, [], ⊤, ℕ, List, map, Option, None, Bool, IsTrue, All}
+use Rattle.std.specs.Prelude.{Contains, MatchOption, slice_index_or}
 use Rattle.gh_base.specs.declared.atom.Lit.{Lit}
 use Rattle.gh_base.specs.declared.sizes.Sizes.{Sizes}
 use Rattle.gh_base.specs.Atoms.{opposite}
@@ -13,6 +14,10 @@ use Rattle.gh_check.specs.declared.standing.Standing.{Standing}
 abbrev pub AreGivenBy : List (List Lit) → List Lit → Type 0
 AreGivenBy clauses set = (assumed : List Lit) (l : Lit) → Contains set l → Propagated clauses assumed l
 
+-- what the clauses give of a set is given of another
+abbrev pub KeepsGiven : List (Option (List Lit)) → List Lit → List Lit → Type 0
+KeepsGiven entries old new = AreGivenBy (present entries) old → AreGivenBy (present entries) new
+
 -- the truths are over these numbers, and what stands is given by the clauses that are kept
 pub record IsStanding (sizes : Sizes) (entries : List (Option (List Lit))) (s : Standing) : Type 0 where
   pub fixed : s.fixed.sizes ≡ sizes
@@ -22,6 +27,10 @@ pub record IsStanding (sizes : Sizes) (entries : List (Option (List Lit))) (s : 
 -- what stands, where it was made
 abbrev pub MayStand : Sizes → List (Option (List Lit)) → Option Standing → Type 0
 MayStand sizes entries standing = MatchOption standing ⊤ (λ s. IsStanding sizes entries s)
+
+-- the clauses at the positions, in order, refute the set
+abbrev pub IsRefutedAt : Kept → List ℕ → List Lit → Type 0
+IsRefutedAt k positions set = IsRefutedByHints (named k positions) set
 
 -- the positions stand, and their clauses in order refute the opposites of the clause's literals beside the set, where
 -- these aren't refuted by themselves
@@ -39,6 +48,10 @@ pub record IsAtRest (set clause : List Lit) : Type 0 where
 abbrev pub AreAtRest : List Lit → List (Option (List Lit)) → Type 0
 AreAtRest set entries = All (IsAtRest set) (present entries)
 
+-- .. with the clause at a position
+abbrev pub RestsAt : List Lit → List (Option (List Lit)) → ℕ → Type 0
+RestsAt set entries position = AreAtRest set (slice_index_or entries position None ∷ [])
+
 -- no literal and its opposite, and each clause that is there is at rest
 pub record IsClosedBy (entries : List (Option (List Lit))) (set : List Lit) : Type 0 where
   pub consistent : IsConsistent set
@@ -52,3 +65,8 @@ pub record IsRefusedBy (entries : List (Option (List Lit))) (set clause : List L
 -- whether propagation over the clauses shows a clause, where that is told
 abbrev pub IsJudged : List (List Lit) → List Lit → Option Bool → Type 0
 IsJudged clauses clause told = MatchOption told ⊤ (λ b. IsTrue b ↔ FollowsByUnits clauses clause)
+
+-- what stands fits whatever clauses what stood before fitted, if that was made
+abbrev pub StandsOn : Sizes → Option Standing → Standing → Type 0
+StandsOn sizes old new =
+    (entries : List (Option (List Lit))) → MayStand sizes entries old → IsStanding sizes entries new

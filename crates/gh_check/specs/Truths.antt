@@ -1,5 +1,5 @@
 -- Truths of literals, as a set and in a table, and what a clause is under them.
-use Rattle.std.specs.Prelude.{◌++◌, List, Option, Some, None, Bool, true, false, All, Contains, map}
+use Rattle.std.specs.Prelude.{◌++◌, List, Option, Some, None, Bool, true, false, All, Contains, MatchOption, map}
 use Rattle.gh_base.specs.declared.atom.Lit.{Lit}
 use Rattle.gh_base.specs.declared.sizes.Sizes.{Sizes}
 use Rattle.gh_base.specs.Atoms.{opposite, IsInRange, AreInRange}
@@ -36,6 +36,10 @@ IsFalseBy set clause = All (λ m. Contains set (opposite m)) clause
 -- a literal of the clause that isn't false
 abbrev pub IsOpenIn : List Lit → List Lit → Lit → Type 0
 IsOpenIn set clause l = Contains clause l × (Contains set (opposite l) → ⊥)
+
+-- such a literal is found, if the clause isn't false
+abbrev pub FindsOpen : List Lit → List Lit → Option Lit → Type 0
+FindsOpen set clause found = MatchOption found (IsFalseBy set clause) (IsOpenIn set clause)
 
 -- a literal and its opposite
 abbrev pub HasBoth : List Lit → Type 0

@@ -1,12 +1,10 @@
 //! Whether a section is valid for ground clauses.
 
-ghost use Rattle.std.specs.Prelude.{◌≡◌, ◌+◌, ◌≤◌, Some, IfOk, IfErr, OnOk, length};
-ghost use Rattle.gh_base.specs.declared.sizes.Sizes.{Sizes as Numbers};
-ghost use Rattle.gh_log.specs.Lines.{LogLine as Line};
-ghost use Rattle.gh_log.specs.Sections.{line_clause, IsValidSection};
+ghost use Rattle.std.specs.Prelude.{◌+◌, ◌≤◌, IfOk, IfErr, OnOk, length};
+ghost use Rattle.gh_log.specs.Sections.{IsValidSection};
 ghost use Rattle.gh_check.specs.Answers.{IsSectionError};
-ghost use Rattle.gh_check.specs.Kept.{IsFirst, HasNext, next_line, with_line, IsWithin};
-ghost use Rattle.gh_check.specs.Lines.{IsReady};
+ghost use Rattle.gh_check.specs.Kept.{IsFirst, HasNext, TakesLine};
+ghost use Rattle.gh_check.specs.Lines.{IsReady, StaysReady};
 
 use crate::fault::{CheckError, FaultKind, LogFault};
 use crate::hints::Truths;
@@ -40,11 +38,8 @@ fn nothing_before<'s>(
 // Keeps one more line.
 fn keep(before: &mut Earlier<'_>)
     requires { HasNext before.old.kept }
-    ensures kept { (l : Line) → next_line before.old.kept ≡ Some l
-        → before.new.kept ≡ with_line before.old.kept (line_clause before.old.kept.problem l) }
-    ensures ready { (sizes : Numbers) (l : Line) → next_line before.old.kept ≡ Some l
-        → IsWithin sizes (line_clause before.old.kept.problem l)
-        → IsReady sizes before.old → IsReady sizes before.new }
+    ensures kept { TakesLine before.old.kept before.new.kept }
+    ensures ready { StaysReady before.old before.new }
 {
     before.kept.advance();
 }

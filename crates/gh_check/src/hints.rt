@@ -1,6 +1,7 @@
 //! Unit propagation along hints.
 
-ghost use Rattle.std.specs.Prelude.{◌≡◌, ◌⊎◌, ◌↔◌, ◌∷◌, ◌++◌, [], map, false, Some, None, All, Contains, IfOk, OnOk, IsTrue, MatchOption};
+ghost use Rattle.std.specs.Prelude.{◌≡◌, ◌⊎◌, ◌↔◌, ◌∷◌, ◌++◌, [], map, false, Some, None, All, Contains, IfOk, OnOk};
+ghost use Rattle.std.specs.Prelude.{IsTrue, MatchOption};
 ghost use Rattle.gh_base.specs.declared.atom.Lit.{Lit};
 ghost use Rattle.gh_base.specs.Atoms.{opposite, IsInRange, AreInRange};
 ghost use Rattle.gh_base.specs.Assignments.{value_of};

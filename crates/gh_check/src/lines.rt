@@ -9,7 +9,7 @@ ghost use Rattle.gh_base.specs.Grounds.{Problem};
 ghost use Rattle.gh_base.specs.Meaning.{IsEqualityClause};
 ghost use Rattle.gh_base.specs.Propagation.{FollowsByUnits};
 ghost use Rattle.gh_check.specs.Kept.{AreWithin, present};
-ghost use Rattle.gh_check.specs.Lines.{IsChecked, Answers, Leaves, IsReady};
+ghost use Rattle.gh_check.specs.Lines.{IsChecked, Answers, Leaves, IsReady, AnswersOver};
 ghost use Rattle.gh_check.specs.Assuming.{IsBehind};
 ghost use Rattle.gh_check.specs.Standing.{MayStand};
 
@@ -127,8 +127,7 @@ fn checked_learnt(
     requires standing { MayStand sizes kept.now.clauses standing.old }
     requires behind { IsBehind sizes kept.now.clauses units.old }
     requires within { AreWithin sizes kept.now.clauses }
-    ensures checked { IfOk result (λ o.
-        (p : Problem) → p.sizes ≡ sizes → Answers p kept.now (line_kind.Learnt lits.now) o) }
+    ensures checked { IfOk result (AnswersOver sizes kept.now (line_kind.Learnt lits.now)) }
     ensures standing { OnOk result (MayStand sizes kept.now.clauses standing.new) }
     ensures behind { OnOk result (IsBehind sizes kept.now.clauses units.new) }
 {

@@ -1,11 +1,12 @@
 //! Lines by their positions.
 
-ghost use Rattle.std.specs.Prelude.{List, ◌≡◌, ◌↔◌, ◌-◌, ◌≤◌, ◌∷◌, [], false, Some, None, All, IfOk, IsTrue, MatchOption, is_some, length, slice_index_or};
-ghost use Rattle.gh_base.specs.Grounds.{Problem};
+ghost use Rattle.std.specs.Prelude.{◌≡◌, ◌↔◌, ◌-◌, ◌≤◌, ◌∷◌, [], false, Some, None, All, IfOk, IsTrue, MatchOption};
+ghost use Rattle.std.specs.Prelude.{is_some, length, slice_index_or};
 ghost use Rattle.gh_log.specs.Lines.{LogLine as Line};
-ghost use Rattle.gh_log.specs.Sections.{line_clause, AllStand};
+ghost use Rattle.gh_log.specs.Sections.{line_clause};
 ghost use Rattle.gh_check.specs.Clauses.{lits_in, IsLineAt};
-ghost use Rattle.gh_check.specs.Kept.{IsFirst, HasNext, next_line, with_line, AreLinesKept, stands_in, clause_at, AreDeleted, MayBeDeleted};
+ghost use Rattle.gh_check.specs.Kept.{IsFirst, HasNext, next_line, with_line, stands_in, clause_at, AreDeleted};
+ghost use Rattle.gh_check.specs.Kept.{MayBeDeleted, TellsStanding};
 
 use crate::clauses::{LineClause, clause_of, has_clause};
 use gh_base::ground::Ground;
@@ -156,8 +157,7 @@ impl<'s> Positions<'s> {
 
     /// Whether all positions stand after the lines of which this is kept.
     pub fn all_stand(&self, positions: &[u32]) -> bool
-        ensures { (p : Problem) (lines : List Line) → AreLinesKept p lines self.now
-            → IsTrue result ↔ AllStand p lines positions.now }
+        ensures { TellsStanding self.now positions.now result }
     {
         self.are_standing(positions)
     }

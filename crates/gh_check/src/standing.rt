@@ -2,14 +2,14 @@
 //! make them false and to which unit propagation adds none.
 
 ghost use Rattle.std.specs.Prelude.{◌≡◌, ◌↔◌, ◌⊎◌, ◌++◌, [], List, map, All, Contains, IfOk, OnOk, IsTrue};
-ghost use Rattle.std.specs.Prelude.{◌∷◌, MatchOption, Option, None, slice_index_or};
+ghost use Rattle.std.specs.Prelude.{Option, None};
 ghost use Rattle.gh_base.specs.declared.atom.Lit.{Lit};
 ghost use Rattle.gh_base.specs.declared.sizes.Sizes.{Sizes};
 ghost use Rattle.gh_base.specs.Atoms.{opposite, IsInRange, AreInRange};
-ghost use Rattle.gh_base.specs.Hints.{IsRefutedByHints};
-ghost use Rattle.gh_check.specs.Kept.{clause_at, named, present, AreWithin};
-ghost use Rattle.gh_check.specs.Truths.{IsConsistent, IsFalseBy, IsOpenIn, IsLook, IsMetBy};
-ghost use Rattle.gh_check.specs.Standing.{AreGivenBy, IsStanding, MayStand, IsAtRest, AreAtRest, IsClosedBy, IsJudged};
+ghost use Rattle.gh_check.specs.Kept.{clause_at, present, AreWithin};
+ghost use Rattle.gh_check.specs.Truths.{IsConsistent, IsLook, IsMetBy, FindsOpen};
+ghost use Rattle.gh_check.specs.Standing.{IsStanding, MayStand, IsAtRest, AreAtRest, IsClosedBy, IsJudged, KeepsGiven};
+ghost use Rattle.gh_check.specs.Standing.{RestsAt, IsRefutedAt, StandsOn};
 ghost use Rattle.gh_check.specs.Standing.{IsConfirmedBy, IsRefusedBy};
 
 use crate::hints::{Look, Truths};
@@ -47,8 +47,7 @@ fn is_false_or(fixed: &Truths, above: &Truths, lit: Lit, one: Lit) -> bool
 fn first_open(fixed: &Truths, above: &Truths, clause: &[Lit]) -> Option<Lit>
     requires fixed { AreInRange fixed.now.sizes clause.now }
     requires above { AreInRange above.now.sizes clause.now }
-    ensures { MatchOption result (IsFalseBy (fixed.now.lits ++ above.now.lits) clause.now)
-        (IsOpenIn (fixed.now.lits ++ above.now.lits) clause.now) }
+    ensures { FindsOpen (fixed.now.lits ++ above.now.lits) clause.now result }
 {
     for lit in clause {
         if !is_false(fixed, above, *lit) {
@@ -129,8 +128,7 @@ fn follow(
 ) -> Result<bool, AllocError>
     requires fixed { AreWithin fixed.now.sizes kept.now.clauses }
     requires above { AreWithin above.old.sizes kept.now.clauses }
-    ensures shown { IfOk result (λ b.
-        IsTrue b ↔ IsRefutedByHints (named kept.now hints.now) (fixed.now.lits ++ above.old.lits)) }
+    ensures shown { IfOk result (λ b. IsTrue b ↔ IsRefutedAt kept.now hints.now (fixed.now.lits ++ above.old.lits)) }
     ensures sizes { OnOk result (above.new.sizes ≡ above.old.sizes) }
 {
     for hint in hints {
@@ -185,8 +183,7 @@ fn rests(fixed: &Truths, above: &Truths, clause: &[Lit]) -> bool
 fn rests_at(fixed: &Truths, above: &Truths, kept: &Positions<'_>, position: usize) -> bool
     requires fixed { AreWithin fixed.now.sizes kept.now.clauses }
     requires above { AreWithin above.now.sizes kept.now.clauses }
-    ensures { IsTrue result
-        ↔ AreAtRest (fixed.now.lits ++ above.now.lits) (slice_index_or kept.now.clauses position None ∷ []) }
+    ensures { IsTrue result ↔ RestsAt (fixed.now.lits ++ above.now.lits) kept.now.clauses position }
 {
     if !kept.has_clause(position) {
         return true;
@@ -263,8 +260,7 @@ fn are_refused(fixed: &Truths, above: &Truths, kept: &Positions<'_>, lits: &[Lit
 fn fix(fixed: &mut Truths, kept: &Positions<'_>, position: u32) -> Result<(), AllocError>
     requires within { AreWithin fixed.old.sizes kept.now.clauses }
     ensures sizes { OnOk result (fixed.new.sizes ≡ fixed.old.sizes) }
-    ensures given { OnOk result (AreGivenBy (present kept.now.clauses) fixed.old.lits
-        → AreGivenBy (present kept.now.clauses) fixed.new.lits) }
+    ensures given { OnOk result (KeepsGiven kept.now.clauses fixed.old.lits fixed.new.lits) }
 {
     if !kept.stands(position) {
         return Ok(());
@@ -282,8 +278,7 @@ fn fix(fixed: &mut Truths, kept: &Positions<'_>, position: u32) -> Result<(), Al
 fn fix_all(fixed: &mut Truths, kept: &Positions<'_>, positions: &[u32]) -> Result<(), AllocError>
     requires within { AreWithin fixed.old.sizes kept.now.clauses }
     ensures sizes { OnOk result (fixed.new.sizes ≡ fixed.old.sizes) }
-    ensures given { OnOk result (AreGivenBy (present kept.now.clauses) fixed.old.lits
-        → AreGivenBy (present kept.now.clauses) fixed.new.lits) }
+    ensures given { OnOk result (KeepsGiven kept.now.clauses fixed.old.lits fixed.new.lits) }
 {
     for position in positions {
         fix(fixed, kept, *position)?;
@@ -343,8 +338,7 @@ impl Standing {
 
 // What stands; nothing where that wasn't made.
 fn begun(alloc: Global, sizes: Sizes, standing: Option<Standing>) -> Result<Standing, AllocError>
-    ensures { IfOk result (λ s. (entries : List (Option (List Lit)))
-        → MayStand sizes entries standing → IsStanding sizes entries s) }
+    ensures { IfOk result (StandsOn sizes standing) }
 {
     match standing {
         Some(standing) => Ok(standing),

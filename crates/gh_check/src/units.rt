@@ -1,6 +1,7 @@
 //! Reverse unit propagation by the trail of a search.
 
-ghost use Rattle.std.specs.Prelude.{◌≡◌, ◌↔◌, ◌≤◌, ◌∷◌, ◌++◌, [], List, Option, None, IsTrue, IfOk, OnOk, MatchOption, length, take, slice_index_or};
+ghost use Rattle.std.specs.Prelude.{◌≡◌, ◌↔◌, ◌≤◌, ◌++◌, [], List, Option, None, IsTrue, IfOk, OnOk, MatchOption};
+ghost use Rattle.std.specs.Prelude.{length, take};
 ghost use Rattle.gh_base.specs.declared.atom.Lit.{Lit};
 ghost use Rattle.gh_base.specs.declared.sizes.Sizes.{Sizes};
 ghost use Rattle.gh_base.specs.Atoms.{IsInRange, AreInRange, opposite};
@@ -8,7 +9,7 @@ ghost use Rattle.gh_base.specs.Propagation.{FollowsByUnits};
 ghost use Rattle.gh_sat.specs.Trail.{IsSound};
 ghost use Rattle.gh_sat.specs.Status.{IsSettled};
 ghost use Rattle.gh_check.specs.Assuming.{IsRefuting, IsAssumed, no_clauses, IsBehind};
-ghost use Rattle.gh_check.specs.Kept.{AreWithin, present};
+ghost use Rattle.gh_check.specs.Kept.{AreWithin, present, present_at};
 
 use crate::positions::Positions;
 use gh_base::atom::Lit;
@@ -97,8 +98,7 @@ fn insert_at(
 ) -> Result<(), AllocError>
     requires level { learner.old.starts ≡ [] }
     requires within { AreWithin learner.old.sizes kept.now.clauses }
-    ensures clauses { OnOk result (learner.new.clauses
-        ≡ learner.old.clauses ++ present (slice_index_or kept.now.clauses position None ∷ [])) }
+    ensures clauses { OnOk result (learner.new.clauses ≡ learner.old.clauses ++ present_at kept.now.clauses position) }
     ensures sizes { OnOk result (learner.new.sizes ≡ learner.old.sizes) }
     ensures level { OnOk result (learner.new.starts ≡ []) }
 {
