@@ -1,7 +1,7 @@
 -- A condition is encoded step by step.
-use Rattle.std.specs.Prelude.{◌≡◌, ℕ, ◌+◌, ◌<◌, List, [], ◌∷◌, ◌++◌, length, map, filter, Option, Some, None, unwrap_or}
+use Rattle.std.specs.Prelude.{◌≡◌, ℕ, ◌+◌, ◌<◌, List, [], ◌∷◌, ◌++◌, length, get_or, drop, map, filter, Option, Some, None, unwrap_or}
 use Rattle.std.proofs.Common.{refl, sym, ◌∙◌, ap, subst}
-use Rattle.std.proofs.lemmas.List.{append_assoc, append-nil}
+use Rattle.std.proofs.lemmas.List.{append_assoc, append-nil, map-append}
 use Rattle.gh_ast.specs.Plain.{Procedure, Program}
 use Rattle.gh_ast.specs.Programs.{Name, variable_names}
 use Rattle.gh_path.specs.Graphs.{PathStep, accessed, assume, assigned, made, written, freed, called, looped, answered, Check}
@@ -20,9 +20,16 @@ use Rattle.gh_symb.specs.Steps.{EndsWith, IsCount}
 use Rattle.gh_symb.specs.StepEncodings.{IsFinished, IsStepEncoding}
 use Rattle.gh_symb.specs.Remaining.{Remains}
 use Rattle.gh_symb.specs.Following.{met, known, begins, first_uses, Follows, Followed}
+use Rattle.gh_symb.specs.Reads.{Learns}
+use Rattle.gh_symb.specs.Settings.{program_in, procedure_in}
+use Rattle.gh_symb.specs.Tables.{Bound as Entries, bound_by}
+use Rattle.gh_symb.specs.Walkers.{terms_at, UsesStep, DoesStep, ReadsStep}
 use Rattle.gh_symb.specs.declared.over_terms.TermStep.{TermStep}
+use Rattle.gh_symb.specs.declared.setting.Setting.{Setting}
+use Rattle.gh_symb.specs.declared.walker.Walker.{Walker}
 use Rattle.gh_symb.specs.declared.symbolic.Walked.{Walked}
 use Rattle.gh_symb.proofs.LackLemmas.{step_lacks, use_lacks}
+use Rattle.gh_symb.proofs.TableLemmas.{head_of}
 
 pub each_more : {A B : Type 0} (R : A → B → Type 0) (as' : List A) (bs : List B) (a : A) (b : B) → Each R as' bs → R a b → Each R (as' ++ a ∷ []) (bs ++ b ∷ [])
 each_more R [] [] a b all one = (one, tt)
@@ -191,6 +198,25 @@ pub gone_on_to : (P : Program) (p : Procedure) (r : kept_step.PathStep) (rs : Li
 gone_on_to P p r rs c s t u firsts learns states after encoded later one left uses version does encodes learn a l =
     subst (λ ss. Follows P p rs c u learns ss later) (sym a)
     (subst (λ ts. Follows P p rs c u learns (states ++ s.bindings ∷ []) ts) (sym l) (gone_on P p r rs c s t u firsts learns states encoded one left uses version does encodes learn))
+
+-- the next of some steps, as a walk comes to it: what was met before it and what it uses are kept
+pub gone_past : (set : Setting) (P : Program) → program_in set ≡ P → (rs : List kept_step.PathStep) (i : ℕ) (r : kept_step.PathStep) (c : Condition) (u v w : Walker)
+    (before firsts learns : Entries) (states after : List Entries) (encoded later : List TermStep) (one : TermStep) → i < length rs → r ≡ get_or rs i r →
+    Follows P (procedure_in set) (drop i rs) c (terms_at u) (bound_by firsts) (map bound_by states) encoded → before ≡ u.scope →
+    UsesStep set r u v → v.version ≡ u.version → DoesStep set r v w → ReadsStep set r v one → Learns before v.scope firsts learns →
+    after ≡ states ++ before ∷ [] → later ≡ encoded ++ one ∷ [] → Follows P (procedure_in set) (drop (i + 1) rs) c (terms_at w) (bound_by learns) (map bound_by after) later
+gone_past set P program rs i r c u v w before firsts learns states after encoded later one within is left copied uses version does reads learn a l =
+    let p = procedure_in set in
+    let s = terms_at u in
+    let t = terms_at v in
+    let now : Follows P p (r ∷ drop (i + 1) rs) c s (bound_by firsts) (map bound_by states) encoded =
+    subst (λ xs. Follows P p xs c s (bound_by firsts) (map bound_by states) encoded) (head_of rs i r within is) left in
+    let learnt : (x : Name) → bound_by learns x ≡ learned (s.bindings x) (t.bindings x) (bound_by firsts x) = λ x. rw copied at (learn x) in
+    let meets : map bound_by after ≡ map bound_by states ++ s.bindings ∷ [] =
+    ap (map bound_by) a ∙ map-append bound_by states (before ∷ []) ∙ ap (λ es. map bound_by states ++ bound_by es ∷ []) copied in
+    gone_on_to P p r (drop (i + 1) rs) c s t (terms_at w) (bound_by firsts) (bound_by learns) (map bound_by states) (map bound_by after) encoded later one now
+    (subst (λ Q. IsUsed Q p r s t) program uses) version (subst (λ Q. IsFinished Q p r t (terms_at w)) program does)
+    (subst (λ Q. IsStepEncoding Q p r t one) program reads) learnt meets l
 
 -- a walk to the end of a condition
 pub is_walked : (P : Program) (p : Procedure) (c : Condition) (s : Terms) (firsts : Bindings) (states : List Bindings) (w : Walked) → p ≡ c.procedure →

@@ -1,6 +1,5 @@
 -- Loops by their numbers in lists that are put together.
 use Rattle.std.specs.Prelude.{◌≡◌, ℕ, suc, ◌+◌, ◌-◌, ◌<◌, List, [], ◌∷◌, ◌++◌, slice_get, length, get_or, drop, Some, Result, Ok, Err, None}
-use Rattle.std.specs.Result.{result_ok}
 use Rattle.std.proofs.Common.{refl, sym, ◌∙◌, ap, arith, subst}
 use Rattle.std.proofs.lemmas.List.{append_assoc, append-nil}
 use Rattle.gh_ast.specs.declared.Cond.{Cond}
@@ -13,7 +12,7 @@ use Rattle.gh_ast.specs.Plain.{test_of, formula_of, statement_of, statements_vie
 use Rattle.gh_ast.proofs.PlainLemmas.{statement_of-If, statement_of-While, part_of-statements}
 use Rattle.gh_path.specs.Graphs.{Loop, while, loops, all_loops}
 use Rattle.gh_symb.specs.declared.rounds.Round.{Round}
-use Rattle.gh_symb.specs.Rounds.{IsAnswer, IsRound, IsRoundAt, IsRoundOf, IsLater}
+use Rattle.gh_symb.specs.Rounds.{IsAnswer, IsRound, IsRoundAt, IsLater}
 use Rattle.gh_symb.proofs.TableLemmas.{head_of}
 
 pub first_part : (ks ls : List Loop) (n : ℕ) (r : Round) → IsRoundAt ks n r → IsRoundAt (ks ++ ls) n r
@@ -55,12 +54,14 @@ found_among ss i s n left r within is same at = λ ms.
     let heads = head_of ss i s within is in
     (g.0, same ms ∙ ap (λ xs. slice_get (all_loops (statements_view xs) ++ ms) left) heads ∙ ap (λ xs. slice_get xs left) (append_assoc (loops (statement_of s)) rest ms) ∙ g.1, g.2)
 
-pub one_round : (ls : List Loop) (n : ℕ) (l : Loop) (r : Result Round ℕ) → IsAnswer ls n r → slice_get ls n ≡ Some l → IsRoundOf (result_ok r) l
-one_round ls n l (Ok r) at is =
+pub one_round : (ls : List Loop) (n : ℕ) (l : Loop) (r : Round) → IsRoundAt ls n r → slice_get ls n ≡ Some l → IsRound r l
+one_round ls n l r at is =
     let g = at [] in
     let all : slice_get ls n ≡ Some g.0 = ap (λ xs. slice_get xs n) (sym (append-nil ls)) ∙ g.1 in
     let same : g.0 ≡ l = cc in
     subst (IsRound r) same g.2
-one_round ls n l (Err left) later is =
+
+pub no_round : (ls : List Loop) (n left : ℕ) (l : Loop) → IsLater ls n left → slice_get ls n ≡ Some l → ⊥
+no_round ls n left l later is =
     let none : slice_get ls n ≡ None = ap (λ xs. slice_get xs n) (sym (append-nil ls)) ∙ later [] in
-    absurd cc
+    cc

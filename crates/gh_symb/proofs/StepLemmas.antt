@@ -1,6 +1,6 @@
 -- New values for some variables, callees by number, and what a walk comes to.
 use Rattle.std.specs.Prelude.{◌≡◌, ◌≢◌, ℕ, zero, suc, ◌+◌, ◌<◌, List, [], ◌∷◌, ◌++◌, map, filter, length, get_or, drop, take, slice_get, Bool, true, Some, Contains}
-use Rattle.std.proofs.Common.{refl, sym, ◌∙◌, ap}
+use Rattle.std.proofs.Common.{refl, sym, ◌∙◌, ap, arith}
 use Rattle.std.proofs.lemmas.List.{map-append, length-map}
 use Rattle.std.proofs.lemmas.List.Elements.{filter-append}
 use Rattle.gh_ast.specs.declared.Occ.{Occ}
@@ -8,7 +8,7 @@ use Rattle.gh_ast.specs.Plain.{Procedure, procedure_of, program_of}
 use Rattle.gh_ast.specs.declared.Procedure as whole
 use Rattle.gh_ast.specs.declared.Program as whole_program
 use Rattle.gh_grass.proofs.Bonds.{same_name, other_name}
-use Rattle.std.proofs.lemmas.Option.{slice_get_read}
+use Rattle.std.proofs.lemmas.Option.{slice_get_within, get_or_from_slice_get}
 use Rattle.std.proofs.Math.ListN.{get_or-map}
 use Rattle.gh_ast.specs.Programs.{Name, names, name_of}
 use Rattle.gh_ast.proofs.Lists.{member_first, member_later}
@@ -46,12 +46,15 @@ callee_at (p ∷ ps) (suc n) f q at named first =
     rw (other_name (name_of p) f (first p (member_first p (take n ps))))
     (callee_at ps n f q at named (λ r there. first r (member_later p r (take n ps) there)))
 
-pub called_procedure : (P : whole_program.Program) (ps : List whole.Procedure) (n : ℕ) (q : whole.Procedure) (f : Name) → ps ≡ P.procedures.items → n < length ps → q ≡ get_or ps n q →
+pub called_procedure : (P : whole_program.Program) (n : ℕ) (q : whole.Procedure) (f : Name) → q ≡ get_or P.procedures.items n q →
     IsCallee (program_of P) n f → callee_in (program_of P).procedures f ≡ Some (procedure_of q)
-called_procedure P ps n q f same within is callee =
-    let here : slice_get (map procedure_of ps) n ≡ Some (procedure_of q) =
-    slice_get_read (map procedure_of ps) (length ps) n (procedure_of q) (sym (length-map ps procedure_of)) within
-    (ap procedure_of is ∙ sym (get_or-map procedure_of ps n q))
-    in
-    let all : slice_get (program_of P).procedures n ≡ Some (procedure_of q) = ap (λ xs. slice_get (map procedure_of xs) n) (sym same) ∙ here in
-    callee_at (program_of P).procedures n f callee.callee callee.at callee.named callee.first ∙ sym callee.at ∙ all
+called_procedure P n q f is callee =
+    let ps = P.procedures.items in
+    let there : get_or (map procedure_of ps) n (procedure_of q) ≡ callee.callee =
+    get_or_from_slice_get (map procedure_of ps) n callee.callee (procedure_of q) callee.at in
+    let same : callee.callee ≡ procedure_of q = sym there ∙ get_or-map procedure_of ps n q ∙ ap procedure_of (sym is) in
+    callee_at (program_of P).procedures n f callee.callee callee.at callee.named callee.first ∙ ap Some same
+
+pub callee_within : (P : whole_program.Program) (n : ℕ) (f : Name) → IsCallee (program_of P) n f → n < length P.procedures.items
+callee_within P n f callee =
+    omega (arith, slice_get_within (map procedure_of P.procedures.items) n callee.callee callee.at, length-map P.procedures.items procedure_of)

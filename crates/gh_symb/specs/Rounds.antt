@@ -1,5 +1,5 @@
 -- Loops of a text, as they are met again.
-use Rattle.std.specs.Prelude.{◌≡◌, ℕ, List, ◌++◌, slice_get, MatchResult, Option, Result, Some, None}
+use Rattle.std.specs.Prelude.{◌≡◌, ℕ, List, ◌++◌, slice_get, MatchResult, Result, Some}
 use Rattle.gh_ast.specs.Plain.{formula_of, part_of}
 use Rattle.gh_path.specs.Graphs.{Loop}
 use Rattle.gh_symb.specs.declared.rounds.Round.{Round}
@@ -19,7 +19,3 @@ IsLater ls n left = (ms : List Loop) → slice_get (ls ++ ms) n ≡ slice_get ms
 -- what is answered for a list and a number
 abbrev pub IsAnswer : List Loop → ℕ → Result Round ℕ → Type 0
 IsAnswer ls n r = MatchResult r (IsRoundAt ls n) (IsLater ls n)
-
-abbrev pub IsRoundOf : Option Round → Loop → Type 0
-IsRoundOf (Some r) l = IsRound r l
-IsRoundOf None l = ⊥

@@ -5,6 +5,7 @@ ghost use Rattle.gh_ast.specs.Plain.{formula_of, procedure_of};
 ghost use Rattle.gh_path.specs.Graphs.{Start as PlainStart};
 ghost use Rattle.gh_path.specs.Kept.{IsStart};
 ghost use Rattle.gh_symb.specs.Fitting.{AsksWhole};
+ghost use Rattle.gh_symb.specs.Settings.{HasCheck, HasStart};
 ghost use Rattle.gh_symb.specs.Walkers.{Begins, EndsCheck, EndsEntry, ReadsCheck, ReadsEntry, UsesAll, UsesCheck};
 
 use crate::numbers::term_of;
@@ -19,14 +20,12 @@ use std::alloc::{AllocError, Global};
 
 /// The start assertion.
 fn start_of(procedure: &Procedure, start: Start) -> &Assertion
+    requires { (s : PlainStart) × IsStart (procedure_of procedure.now) start s }
     ensures { (s : PlainStart) → IsStart (procedure_of procedure.now) start s → formula_of result.now ≡ s.meets }
 {
     match start {
         Start::Entry => &procedure.needs,
-        Start::Loop { number } => match round_of(procedure, number as usize) {
-            Some(round) => round.invariant,
-            None => &procedure.needs,
-        },
+        Start::Loop { number } => round_of(procedure, number as usize).invariant,
     }
 }
 
@@ -47,6 +46,7 @@ impl<'a> Walker<'a> {
         setting: Setting<'a>,
         start: Start,
     ) -> Result<Bound<'a>, AllocError>
+        requires { HasStart setting start }
         ensures begins { IfOk result (Begins setting.entry start self.old self.new) }
         ensures version { OnOk result (self.new.version ≡ self.old.version) }
     {
@@ -85,6 +85,7 @@ impl<'a> Walker<'a> {
         setting: Setting<'a>,
         check: &'a CheckKind,
     ) -> Result<TermCheck<'a>, AllocError>
+        requires { HasCheck setting check.now }
         ensures used { OnOk result (UsesCheck setting.entry check.now self.old self.new) }
         ensures ended { OnOk result (EndsCheck setting.entry check.now self.old self.new) }
         ensures read { IfOk result (ReadsCheck setting.entry check.now self.old) }
@@ -98,16 +99,12 @@ impl<'a> Walker<'a> {
                 Ok(TermCheck::Access { x })
             }
             CheckKind::CalleeEntry { callee, arguments } => {
-                let Some(callee) = setting.program.procedures.get(*callee as usize) else {
-                    return Ok(TermCheck::Whole(Vec::new(alloc)));
-                };
+                let callee = &setting.program.procedures[*callee as usize];
                 let asked = self.ask_callee(alloc, callee, arguments.as_slice())?;
                 Ok(asked)
             }
             CheckKind::LoopEntry { number } => {
-                let Some(round) = round_of(procedure, *number as usize) else {
-                    return Ok(TermCheck::Whole(Vec::new(alloc)));
-                };
+                let round = round_of(procedure, *number as usize);
                 let bound = self.walk_bound(alloc, round.invariant)?;
                 Ok(TermCheck::Sub(bound))
             }
@@ -117,9 +114,7 @@ impl<'a> Walker<'a> {
                 Ok(TermCheck::Whole(bounds))
             }
             CheckKind::LoopEnd { number } => {
-                let Some(round) = round_of(procedure, *number as usize) else {
-                    return Ok(TermCheck::Whole(Vec::new(alloc)));
-                };
+                let round = round_of(procedure, *number as usize);
                 let bound = self.walk_bound(alloc, round.invariant)?;
                 let asked = whole(alloc, bound)?;
                 Ok(asked)

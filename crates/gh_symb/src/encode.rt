@@ -4,6 +4,7 @@ ghost use Rattle.std.specs.Prelude.{◌≡◌, ◌+◌, ◌<◌, ◌≤◌, IfOk
 ghost use Rattle.gh_path.specs.Terms.{expr_term, term_of};
 ghost use Rattle.gh_path.specs.declared.condition.PathStep.TheVariants.{Loop as OnLoop};
 ghost use Rattle.gh_symb.specs.Fitting.{EncodesStep, IsTermOf, JoinsParts};
+ghost use Rattle.gh_symb.specs.Settings.{HasCallee, HasLoop, HasStep};
 ghost use Rattle.gh_symb.specs.Steps.{cell_made, value_set, ChangesCell, KeepsHeap};
 ghost use Rattle.gh_symb.specs.Walkers.{call_done, call_read, cell_read, terms_at, Goes};
 ghost use Rattle.gh_symb.specs.Walkers.{DoesAnywhere, DoesCall, DoesLoop, DoesStep};
@@ -149,14 +150,13 @@ impl<'a> Walker<'a> {
         targets: &'a [Occ],
         arguments: &'a [Expr],
     ) -> Result<TermStep<'a>, AllocError>
-        requires { self.old.version < 9223372036854775807 }
+        requires callee { HasCallee setting callee }
+        requires room { self.old.version < 9223372036854775807 }
         ensures done { OnOk result (DoesCall setting.entry callee targets.now arguments.now self.old self.new) }
         ensures read { IfOk result (λ step. ReadsCall setting.entry callee arguments.now self.old step) }
         ensures next { OnOk result (self.new.version ≤ self.old.version + 1) }
     {
-        let Some(callee) = setting.program.procedures.get(callee as usize) else {
-            return Ok(TermStep::Same);
-        };
+        let callee = &setting.program.procedures[callee as usize];
         let step = self.encode_call(alloc, callee, targets, arguments)?;
         Ok(step)
     }
@@ -168,14 +168,13 @@ impl<'a> Walker<'a> {
         setting: Setting<'a>,
         number: u16,
     ) -> Result<TermStep<'a>, AllocError>
-        requires { self.old.version < 9223372036854775807 }
+        requires round { HasLoop setting number }
+        requires room { self.old.version < 9223372036854775807 }
         ensures done { OnOk result (DoesStep setting.entry (OnLoop number) self.old self.new) }
         ensures read { IfOk result (λ step. ReadsStep setting.entry (OnLoop number) self.old step) }
         ensures next { OnOk result (self.new.version ≤ self.old.version + 1) }
     {
-        let Some(round) = round_of(setting.procedure, number as usize) else {
-            return Ok(TermStep::Same);
-        };
+        let round = round_of(setting.procedure, number as usize);
         let step = self.encode_loop(alloc, setting, &round)?;
         Ok(step)
     }
@@ -228,7 +227,8 @@ impl<'a> Walker<'a> {
         setting: Setting<'a>,
         step: &'a PathStep,
     ) -> Result<TermStep<'a>, AllocError>
-        requires { self.old.version < 9223372036854775807 }
+        requires step { HasStep setting step.now }
+        requires room { self.old.version < 9223372036854775807 }
         ensures done { OnOk result (DoesStep setting.entry step.now self.old self.new) }
         ensures read { IfOk result (λ encoded. ReadsStep setting.entry step.now self.old encoded) }
         ensures next { OnOk result (self.new.version ≤ self.old.version + 1) }
@@ -278,7 +278,8 @@ impl<'a> Walker<'a> {
         setting: Setting<'a>,
         step: &'a PathStep,
     ) -> Result<(), AllocError>
-        requires { self.old.version < 9223372036854775807 }
+        requires step { HasStep setting step.now }
+        requires room { self.old.version < 9223372036854775807 }
         ensures walked { OnOk result (WalksStep setting.entry step.now self.old self.new) }
         ensures next { OnOk result (self.new.version ≤ self.old.version + 1) }
     {

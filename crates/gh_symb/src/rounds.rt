@@ -3,7 +3,7 @@
 ghost use Rattle.gh_ast.specs.Plain.{statement_of, statements_view, procedure_of};
 ghost use Rattle.gh_path.specs.Graphs.{Loop, loops, all_loops};
 ghost use Rattle.gh_path.specs.Kept.{IsLoop};
-ghost use Rattle.gh_symb.specs.Rounds.{IsAnswer, IsRoundOf};
+ghost use Rattle.gh_symb.specs.Rounds.{IsAnswer, IsRound};
 
 use gh_ast::{Assertion, Block, Procedure, Stmt};
 
@@ -57,12 +57,16 @@ fn round_among<'a>(statements: &'a [Stmt], number: usize) -> Result<Round<'a>, u
     Err(left)
 }
 
-/// The loop of a number in a procedure, if there is one.
-pub fn round_of(procedure: &Procedure, number: usize) -> Option<Round<'_>>
-    ensures { (l : Loop) → IsLoop (procedure_of procedure.now) number l → IsRoundOf result l }
+/// The loop of a number in a procedure.
+pub fn round_of(procedure: &Procedure, number: usize) -> Round<'_>
+    requires { (l : Loop) × IsLoop (procedure_of procedure.now) number l }
+    ensures { (l : Loop) → IsLoop (procedure_of procedure.now) number l → IsRound result l }
 {
-    match &procedure.body {
-        Some(body) => round_among(body.block.statements.as_slice(), number).ok(),
-        None => None,
-    }
+    let Some(body) = &procedure.body else {
+        unreachable!();
+    };
+    let Ok(round) = round_among(body.block.statements.as_slice(), number) else {
+        unreachable!();
+    };
+    round
 }

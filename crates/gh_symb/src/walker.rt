@@ -3,6 +3,7 @@
 ghost use Rattle.std.specs.Prelude.{◌≡◌, OnOk, IfOk};
 ghost use Rattle.gh_path.specs.Terms.{no_terms};
 ghost use Rattle.gh_symb.specs.Reads.{each_walked_of, walked_of};
+ghost use Rattle.gh_symb.specs.Settings.{HasLoop, HasStep};
 ghost use Rattle.gh_symb.specs.Walkers.{terms_at, Goes, ReadsAssertion, ReadsWays, UsesStep, WalksInvariant};
 
 use crate::kinds::Kinds;
@@ -74,19 +75,18 @@ impl<'a> Walker<'a> {
 
     /// Walks over the invariant of a loop.
     fn walk_invariant(&mut self, setting: Setting<'a>, number: u16) -> Result<(), AllocError>
+        requires { HasLoop setting number }
         ensures terms { OnOk result (WalksInvariant setting.entry number self.old self.new) }
         ensures version { OnOk result (self.new.version ≡ self.old.version) }
     {
-        match round_of(setting.procedure, number as usize) {
-            Some(round) => self
-                .scope
-                .walk(&mut self.kinds, round.invariant, self.version),
-            None => Ok(()),
-        }
+        let round = round_of(setting.procedure, number as usize);
+        self.scope
+            .walk(&mut self.kinds, round.invariant, self.version)
     }
 
     /// The variables that a step uses get terms.
     pub fn use_step(&mut self, setting: Setting<'a>, step: &'a PathStep) -> Result<(), AllocError>
+        requires { HasStep setting step.now }
         ensures uses { OnOk result (UsesStep setting.entry step.now self.old self.new) }
         ensures version { OnOk result (self.new.version ≡ self.old.version) }
     {

@@ -7,7 +7,7 @@ use Rattle.gh_symb.specs.Remaining.{Remains}
 use Rattle.gh_symb.specs.Settings.{procedure_in}
 use Rattle.gh_symb.specs.Steps.{EndsWith, IsChecked, IsStepped}
 use Rattle.gh_symb.specs.Walkers.{terms_at}
-use Rattle.gh_symb.proofs.CountLemmas.{begun, gone_next, many, ended}
+use Rattle.gh_symb.proofs.CountLemmas.{has_check, has_next, begun, gone_next, many, ended}
 use Rattle.gh_symb.proofs.counted.counted.Goals as goal
 
 pub loop-step-init : goal.loop-step-init
@@ -21,8 +21,22 @@ loop-step-init c = record {
       rw c.as_slice-step-items.ensures.value (begun (program_of c.args.typed.now) (procedure_in c.setting_of-setting.result) c.args.condition.now d s its started);
 }
 
-pub walk_step-requires : goal.walk_step-requires
-walk_step-requires c =
+pub ask_start-requires : goal.ask_start-requires
+ask_start-requires c = (c.requires.0.start, (c.setting_of-setting.ensures.within c.requires.0 c.requires.1).start)
+
+pub walk_step-requires-clause-step : goal.walk_step-requires-clause-step
+walk_step-requires-clause-step c =
+    let left = c.loop-step.invariant.left c.requires.0 c.requires.1 in
+    has_next c.setting_of-setting.result (program_of c.args.typed.now) c.setting_of-setting.ensures.program c.as_slice-step-items.result.now c.loop-step.step-index c.step-item.result
+    left.steps c.loop-step-test.true c.step-item.is left.are_left
+
+pub ask_check-requires : goal.ask_check-requires
+ask_check-requires c =
+    let is = c.setting_of-setting.ensures in
+    has_check c.setting_of-setting.result (program_of c.args.typed.now) is.program c.args.condition.now c.requires.0 (is.within c.requires.0 c.requires.1)
+
+pub walk_step-requires-clause-room : goal.walk_step-requires-clause-room
+walk_step-requires-clause-room c =
     omega (arith, c.loop-step.invariant.few, c.loop-step-test.true, ap length c.as_slice-step-items.ensures.value, c.args.condition.now.steps.ok, c.args.condition.now.steps.small)
 
 pub overflow_add-walker : goal.overflow_add-walker

@@ -7,19 +7,18 @@ use Rattle.gh_ast.specs.Programs.{Name}
 use Rattle.gh_path.specs.Kept.{AreSteps}
 use Rattle.gh_path.specs.Terms.{Terms, no_terms, walked}
 use Rattle.gh_symb.specs.Following.{Follows, begins}
-use Rattle.gh_symb.specs.Phases.{learned, both, IsUsed, IsCheckUsed}
+use Rattle.gh_symb.specs.Phases.{learned, both, IsCheckUsed}
 use Rattle.gh_symb.specs.Settings.{procedure_in}
-use Rattle.gh_symb.specs.StepEncodings.{IsFinished, IsStepEncoding, IsAsking}
+use Rattle.gh_symb.specs.StepEncodings.{IsAsking}
 use Rattle.gh_symb.specs.Steps.{IsChecked}
 use Rattle.gh_symb.specs.Tables.{bound_by}
 use Rattle.gh_symb.specs.Walkers.{terms_at}
-use Rattle.gh_symb.proofs.TableLemmas.{head_of}
-use Rattle.gh_symb.proofs.CountLemmas.{many}
+use Rattle.gh_symb.proofs.CountLemmas.{many, has_check, has_next}
 use Rattle.gh_symb.specs.Symbolic.{under, check_used}
 use Rattle.gh_symb.specs.Encodings.{Each}
 use Rattle.gh_symb.specs.Fitting.{EncodesBinding, EncodesUnder}
 use Rattle.gh_symb.proofs.BindingLemmas.{states_both}
-use Rattle.gh_symb.proofs.FollowLemmas.{begun, gone_on_to, ended, is_walked, remains}
+use Rattle.gh_symb.proofs.FollowLemmas.{begun, gone_past, ended, is_walked, remains}
 use Rattle.gh_symb.proofs.symbolic.walk.Goals as goal
 
 pub loop-step-init : goal.loop-step-init
@@ -42,58 +41,48 @@ pub returns-then-count-gt-MOST_TERMS : goal.returns-then-count-gt-MOST_TERMS
 returns-then-count-gt-MOST_TERMS c = λ d stands.
     let P = program_of c.args.typed.now in
     let p = procedure_in c.setting_of-setting.result in
-    let is = c.setting_of-setting.ensures in
-    let r = c.step-item.result in
-    let s = terms_at c.loop-step.walker in
-    let t = terms_at c.use_step.new.self in
     let u = terms_at c.encode_step.new.self in
-    let one = c.in_ok-encoded.encoded in
     let rest = drop (c.loop-step.step-index + 1) c.as_slice-step-items.result.now in
-    let heads = head_of c.as_slice-step-items.result.now c.loop-step.step-index r c.loop-step-test.true c.step-item.is in
-    let now : Follows P p (r ∷ rest) d s (bound_by c.loop-step.firsts) (map bound_by c.loop-step.states.items) c.loop-step.steps.items =
-    rw heads at (c.loop-step.invariant.left d stands) in
-    let learns : (x : Name) → bound_by c.learn.new.self x ≡ learned (s.bindings x) (t.bindings x) (bound_by c.loop-step.firsts x) =
-    λ x. rw c.in_ok-before.ensures at (c.in_ok-learn.ensures x) in
-    let met : map bound_by c.push.new.self.items ≡ map bound_by c.loop-step.states.items ++ s.bindings ∷ [] =
-    ap (map bound_by) c.in_ok-push.ensures.items ∙ map-append bound_by c.loop-step.states.items (c.in_ok-before.before ∷ [])
-    ∙ ap (λ es. map bound_by c.loop-step.states.items ++ bound_by es ∷ []) c.in_ok-before.ensures in
-    let uses : IsUsed P p r s t = subst (λ Q. IsUsed Q p r s t) is.program c.in_ok-use_step.ensures.uses in
-    let does : IsFinished P p r t u = subst (λ Q. IsFinished Q p r t u) is.program c.in_ok-encoded.ensures.done in
-    let reads : IsStepEncoding P p r t one = subst (λ Q. IsStepEncoding Q p r t one) is.program c.in_ok-encoded.ensures.read in
-    let later = gone_on_to P p r rest d s t u (bound_by c.loop-step.firsts) (bound_by c.learn.new.self) (map bound_by c.loop-step.states.items) (map bound_by c.push.new.self.items)
-    c.loop-step.steps.items c.push-in-loop-step.new.self.items one now uses c.in_ok-use_step.ensures.version does reads learns met c.in_ok-push-2.ensures.items in
-    many P p rest d u (is.within d stands).same (remains P p rest d u _ _ _ later) (omega (arith, c.if-count-gt-MOST_TERMS.true, c.count.ensures))
+    let later = gone_past c.setting_of-setting.result (program_of c.args.typed.now) c.setting_of-setting.ensures.program c.as_slice-step-items.result.now c.loop-step.step-index c.step-item.result d
+    c.loop-step.walker c.use_step.new.self c.encode_step.new.self c.in_ok-before.before c.loop-step.firsts c.learn.new.self c.loop-step.states.items c.push.new.self.items
+    c.loop-step.steps.items c.push-in-loop-step.new.self.items c.in_ok-encoded.encoded c.loop-step-test.true c.step-item.is (c.loop-step.invariant.left d stands) c.in_ok-before.ensures
+    c.in_ok-use_step.ensures.uses c.in_ok-use_step.ensures.version c.in_ok-encoded.ensures.done c.in_ok-encoded.ensures.read c.in_ok-learn.ensures
+    c.in_ok-push.ensures.items c.in_ok-push-2.ensures.items in
+    many P p rest d u (c.setting_of-setting.ensures.within d stands).same (remains P p rest d u _ _ _ later) (omega (arith, c.if-count-gt-MOST_TERMS.true, c.count.ensures))
 
 pub loop-step-preserved : goal.loop-step-preserved
 loop-step-preserved c = record {
   few = omega (arith, c.loop-step.invariant.few, c.in_ok-use_step.ensures.version, c.in_ok-encoded.ensures.next);
   left = λ d stands.
-      let P = program_of c.args.typed.now in
-      let p = procedure_in c.setting_of-setting.result in
-      let is = c.setting_of-setting.ensures in
-      let r = c.step-item.result in
-      let s = terms_at c.loop-step.walker in
-      let t = terms_at c.use_step.new.self in
-      let u = terms_at c.encode_step.new.self in
-      let one = c.in_ok-encoded.encoded in
-      let rest = drop (c.loop-step.step-index + 1) c.as_slice-step-items.result.now in
-      let heads = head_of c.as_slice-step-items.result.now c.loop-step.step-index r c.loop-step-test.true c.step-item.is in
-      let now : Follows P p (r ∷ rest) d s (bound_by c.loop-step.firsts) (map bound_by c.loop-step.states.items) c.loop-step.steps.items =
-      rw heads at (c.loop-step.invariant.left d stands) in
-      let learns : (x : Name) → bound_by c.learn.new.self x ≡ learned (s.bindings x) (t.bindings x) (bound_by c.loop-step.firsts x) =
-      λ x. rw c.in_ok-before.ensures at (c.in_ok-learn.ensures x) in
-      let met : map bound_by c.push.new.self.items ≡ map bound_by c.loop-step.states.items ++ s.bindings ∷ [] =
-      ap (map bound_by) c.in_ok-push.ensures.items ∙ map-append bound_by c.loop-step.states.items (c.in_ok-before.before ∷ [])
-      ∙ ap (λ es. map bound_by c.loop-step.states.items ++ bound_by es ∷ []) c.in_ok-before.ensures in
-      let uses : IsUsed P p r s t = subst (λ Q. IsUsed Q p r s t) is.program c.in_ok-use_step.ensures.uses in
-      let does : IsFinished P p r t u = subst (λ Q. IsFinished Q p r t u) is.program c.in_ok-encoded.ensures.done in
-      let reads : IsStepEncoding P p r t one = subst (λ Q. IsStepEncoding Q p r t one) is.program c.in_ok-encoded.ensures.read in
-      gone_on_to P p r rest d s t u (bound_by c.loop-step.firsts) (bound_by c.learn.new.self) (map bound_by c.loop-step.states.items) (map bound_by c.push.new.self.items)
-      c.loop-step.steps.items c.push-in-loop-step.new.self.items one now uses c.in_ok-use_step.ensures.version does reads learns met c.in_ok-push-2.ensures.items;
+      gone_past c.setting_of-setting.result (program_of c.args.typed.now) c.setting_of-setting.ensures.program c.as_slice-step-items.result.now c.loop-step.step-index c.step-item.result d
+      c.loop-step.walker c.use_step.new.self c.encode_step.new.self c.in_ok-before.before c.loop-step.firsts c.learn.new.self c.loop-step.states.items c.push.new.self.items
+      c.loop-step.steps.items c.push-in-loop-step.new.self.items c.in_ok-encoded.encoded c.loop-step-test.true c.step-item.is (c.loop-step.invariant.left d stands) c.in_ok-before.ensures
+      c.in_ok-use_step.ensures.uses c.in_ok-use_step.ensures.version c.in_ok-encoded.ensures.done c.in_ok-encoded.ensures.read c.in_ok-learn.ensures
+      c.in_ok-push.ensures.items c.in_ok-push-2.ensures.items;
 }
 
-pub encode_step-requires : goal.encode_step-requires
-encode_step-requires c =
+pub ask_start-requires : goal.ask_start-requires
+ask_start-requires c = (c.requires.0.start, (c.setting_of-setting.ensures.within c.requires.0 c.requires.1).start)
+
+pub use_step-requires : goal.use_step-requires
+use_step-requires c =
+    let left = c.loop-step.invariant.left c.requires.0 c.requires.1 in
+    has_next c.setting_of-setting.result (program_of c.args.typed.now) c.setting_of-setting.ensures.program c.as_slice-step-items.result.now c.loop-step.step-index c.step-item.result
+    left.steps c.loop-step-test.true c.step-item.is left.are_left
+
+pub encode_step-requires-clause-step : goal.encode_step-requires-clause-step
+encode_step-requires-clause-step c =
+    let left = c.loop-step.invariant.left c.requires.0 c.requires.1 in
+    has_next c.setting_of-setting.result (program_of c.args.typed.now) c.setting_of-setting.ensures.program c.as_slice-step-items.result.now c.loop-step.step-index c.step-item.result
+    left.steps c.loop-step-test.true c.step-item.is left.are_left
+
+pub ask_check-requires : goal.ask_check-requires
+ask_check-requires c =
+    let is = c.setting_of-setting.ensures in
+    has_check c.setting_of-setting.result (program_of c.args.typed.now) is.program c.args.condition.now c.requires.0 (is.within c.requires.0 c.requires.1)
+
+pub encode_step-requires-clause-room : goal.encode_step-requires-clause-room
+encode_step-requires-clause-room c =
     omega (arith, c.loop-step.invariant.few, c.in_ok-use_step.ensures.version, c.loop-step-test.true, ap length c.as_slice-step-items.ensures.value, c.args.condition.now.steps.ok, c.args.condition.now.steps.small)
 
 pub overflow_add-walker : goal.overflow_add-walker

@@ -9,10 +9,9 @@ pub returns-in_ok-asked-in-CalleeEntry-clause-ended : goal.returns-in_ok-asked-i
 returns-in_ok-asked-in-CalleeEntry-clause-ended c = λ at check h.
     let P = c.args.setting.program.now in
     let k = rw c.in-CalleeEntry.is at h in
-    let q = c.in-Some.callee.now in
-    let l = c.in-Some.ensures.lookup in
+    let q = c.index-callee.result.now in
     let callee : callee_in (program_of P).procedures k.0.name ≡ Some (procedure_of q) =
-    called_procedure P c.deref.result.now c.in-CalleeEntry.callee q k.0.name c.deref.ensures.value l.3.0 l.1 k.1 in
+    called_procedure P c.in-CalleeEntry.callee q k.0.name c.index-callee.ensures k.1 in
     let on = rw (c.as_slice.ensures.value) at c.in_ok-asked-in-CalleeEntry.ensures.ended in
     rw (k.3, callee) on
 
@@ -20,10 +19,9 @@ pub returns-in_ok-asked-in-CalleeEntry-clause-read : goal.returns-in_ok-asked-in
 returns-in_ok-asked-in-CalleeEntry-clause-read c = λ at check h.
     let P = c.args.setting.program.now in
     let k = rw c.in-CalleeEntry.is at h in
-    let q = c.in-Some.callee.now in
-    let l = c.in-Some.ensures.lookup in
+    let q = c.index-callee.result.now in
     let callee : callee_in (program_of P).procedures k.0.name ≡ Some (procedure_of q) =
-    called_procedure P c.deref.result.now c.in-CalleeEntry.callee q k.0.name c.deref.ensures.value l.3.0 l.1 k.1 in
+    called_procedure P c.in-CalleeEntry.callee q k.0.name c.index-callee.ensures k.1 in
     let on = rw (c.as_slice.ensures.value) at c.in_ok-asked-in-CalleeEntry.ensures.read in
     rw (k.3, callee) on
 

@@ -7,17 +7,15 @@ use Rattle.gh_symb.proofs.walker.Walker.encode_called.Goals as goal
 pub returns-clause-done : goal.returns-clause-done
 returns-clause-done c = λ f k.
     let P = c.args.setting.program.now in
-    let q = c.in-Some.callee.now in
-    let l = c.in-Some.ensures.lookup in
+    let q = c.index-callee.result.now in
     let callee : callee_in (program_of P).procedures f ≡ Some (procedure_of q) =
-    called_procedure P c.deref.result.now c.args.callee q f c.deref.ensures.value l.3.0 l.1 k in
+    called_procedure P c.args.callee q f c.index-callee.ensures k in
     rw callee c.in_ok-step.ensures.done
 
 pub returns-clause-read : goal.returns-clause-read
 returns-clause-read c = λ f k.
     let P = c.args.setting.program.now in
-    let q = c.in-Some.callee.now in
-    let l = c.in-Some.ensures.lookup in
+    let q = c.index-callee.result.now in
     let callee : callee_in (program_of P).procedures f ≡ Some (procedure_of q) =
-    called_procedure P c.deref.result.now c.args.callee q f c.deref.ensures.value l.3.0 l.1 k in
+    called_procedure P c.args.callee q f c.index-callee.ensures k in
     rw callee c.in_ok-step.ensures.read
