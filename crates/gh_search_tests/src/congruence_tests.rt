@@ -342,12 +342,15 @@ fn lemmas(rt: HostRuntime) -> Result<(), AllocError> {
     Ok(())
 }
 
-// The truth of an atom that is in range.
+// The truth of an atom that is in range; of an equality only whether it is true.
 fn truth_of(classes: &Classes, lit: Lit) -> Option<bool> {
     if !classes.sizes().has(lit.atom) {
         return None;
     }
-    classes.truth_of(lit.atom)
+    match lit.atom {
+        Atom::Eq { a, b } => { if classes.same(a, b) { Some(true) } else { None } }
+        _ => classes.truth_of(lit.atom),
+    }
 }
 
 #[test]

@@ -1,12 +1,13 @@
 //! Searches over definitions, beside a theory that forbids the last two of them together.
 
-ghost use Rattle.std.specs.Prelude.{◌≡◌, ◌∷◌, ◌-◌, ◌≤◌, ◌<◌, ◌↔◌, [], false, Contains, IfOk, IfSome, IfNone, IsTrue, ⊤};
+ghost use Rattle.std.specs.Prelude.{◌≡◌, ◌≤◌, ◌↔◌, [], false, Contains, IfOk, IfSome, IfNone, IsTrue, ⊤};
 ghost use Rattle.gh_base.specs.declared.atom.Atom.TheVariants.{Def};
 ghost use Rattle.gh_sat.specs.Learn.{IsConflict};
-ghost use Rattle.gh_sat.specs.Measure.{left};
+ghost use Rattle.gh_sat.specs.Measure.{LeavesLess};
 ghost use Rattle.gh_sat.specs.Status.{IsSettled};
-ghost use Rattle.gh_sat.specs.Theory.{HasNoConflict};
+ghost use Rattle.gh_sat.specs.Theory.{IsCalm};
 ghost use Rattle.gh_sat.specs.Trail.{IsSound};
+ghost use Rattle.gh_search_tests.specs.Apart.{last_apart};
 
 use gh_base::atom::{Atom, Lit, Term};
 use gh_base::clause::Clause;
@@ -60,7 +61,7 @@ impl Theory for Apart {
 
     ghost asserted = { λ t. t.asserted.lits };
 
-    ghost valid = { λ z c. c ≡ (record { atom = Def (z.defs - 2); positive = false }) ∷ (record { atom = Def (z.defs - 1); positive = false }) ∷ [] };
+    ghost valid = { λ z c. c ≡ last_apart z };
 
     ghost known = { λ z lits. ⊤ };
 
@@ -180,14 +181,12 @@ fn turn<T: Theory>(
     requires sound { IsSound search.old }
     requires conflict { IfSome answer (λ k. IsConflict search.old k) }
     requires settled { IfNone answer (IsSettled search.old) }
-    requires consistent { IfNone answer (HasNoConflict (T.valid search.old.sizes) search.old.trail) }
-    ensures less { IfOk result (λ o. IfSome o (λ _.
-        left search.new.sizes search.new.trail < left search.old.sizes search.old.trail)) }
+    requires consistent { IfNone answer (IsCalm T.valid search.old) }
+    ensures less { IfOk result (λ o. IfSome o (λ _. LeavesLess search.old search.new)) }
     ensures sound { IfOk result (λ o. IfSome o (λ _. IsSound search.new)) }
     ensures conflict { IfOk result (λ o. IfSome o (λ next. IfSome next (λ k. IsConflict search.new k))) }
     ensures settled { IfOk result (λ o. IfSome o (λ next. IfNone next (IsSettled search.new))) }
-    ensures consistent { IfOk result (λ o. IfSome o (λ next.
-        IfNone next (HasNoConflict (T.valid search.new.sizes) search.new.trail))) }
+    ensures consistent { IfOk result (λ o. IfSome o (λ next. IfNone next (IsCalm T.valid search.new))) }
 {
     match answer {
         None => {
