@@ -1,7 +1,7 @@
 //! Equality and congruence as a theory.
 
 ghost use Rattle.std.specs.Prelude.{◌≡◌, ◌≤◌, [], IfOk};
-ghost use Rattle.gh_base.specs.Atoms.{count_of};
+ghost use Rattle.gh_base.specs.Atoms.{IsInRange, count_of};
 
 use gh_base::assignment::Assignment;
 use gh_base::atom::{Atom, Lit};
@@ -54,6 +54,16 @@ fn wanted_truth(wanted: &Option<Assignment>, atom: Atom) -> Option<bool> {
     }
 }
 
+// The truth that equality and congruence give an atom, else false.
+fn given_truth(classes: &Classes, atom: Atom) -> bool
+    requires { IsInRange classes.now.sizes atom }
+{
+    match atom {
+        Atom::Eq { a, b } => classes.same(a, b),
+        _ => classes.truth_of(atom).unwrap_or(false),
+    }
+}
+
 impl Congruence {
     /// Nothing stands asserted, and the literals' truths are tried first. Room for all atoms is taken here, of which
     /// there are at most 1,431,655,764: for more no room is taken, as if memory ran out.
@@ -93,11 +103,11 @@ impl Theory for Congruence {
         self.classes.undo_to(mark);
     }
 
-    // The truth that is wanted of an atom, else the one that it has by congruence, else false.
+    // The truth that is wanted of an atom, else the one that it has by equality and congruence, else false.
     fn prefers(&self, atom: Atom) -> bool {
         match wanted_truth(&self.wanted, atom) {
             Some(truth) => truth,
-            None => self.classes.truth_of(atom).unwrap_or(false),
+            None => given_truth(&self.classes, atom),
         }
     }
 
