@@ -1,5 +1,5 @@
 -- Ground clauses that grow by those of some formulas.
-use Rattle.std.specs.Prelude.{ℕ, ◌+◌, List, ◌++◌}
+use Rattle.std.specs.Prelude.{ℕ, ◌+◌, ◌≤◌, List, ◌++◌, length}
 use Rattle.gh_base.specs.declared.atom.Lit.{Lit}
 use Rattle.gh_base.specs.declared.sizes.Sizes.{Sizes}
 use Rattle.gh_base.specs.Atoms.{IsInRange}
@@ -37,6 +37,10 @@ all_defined_in p fs = let s = all_made fs p.sizes.defs in grown p s.next s.claus
 -- after some formulas were stated
 abbrev pub stated_in : Problem → List Claim → Problem
 stated_in p fs = grown p (next_after fs p.sizes.defs) (clauses_from fs p.sizes.defs)
+
+-- there are no more definitions and clauses than are counted: the numbers of both are of 32 bits
+abbrev pub IsCounted : Problem → Type 0
+IsCounted p = (p.sizes.defs ≤ 4294967295) × (length p.clauses ≤ 4294967294)
 
 -- each atom of the formula is in range
 abbrev mutual

@@ -4,7 +4,7 @@ ghost use Rattle.std.specs.Prelude.{◌≡◌, ◌∷◌, [], IfOk, OnOk, map};
 ghost use Rattle.gh_base.specs.Atoms.{opposite, IsInRange, AreInRange};
 ghost use Rattle.gh_grass.specs.Claims.{claim_of, claims_list, claims_view};
 ghost use Rattle.gh_grass.specs.Clauses.{defined, made, all_made, conjunction_clauses, disjunction_clauses, equivalence_clauses};
-ghost use Rattle.gh_reduce.specs.Growth.{defined_in, all_defined_in, stated_in, IsWithin, AreWithin};
+ghost use Rattle.gh_reduce.specs.Growth.{defined_in, all_defined_in, stated_in, IsCounted, IsWithin, AreWithin};
 ghost use Rattle.gh_reduce.specs.Growth.{with_clauses, with_defined, with_definition};
 
 use gh_base::atom::{Atom, Lit};
@@ -12,6 +12,14 @@ use gh_base::clause::Clause;
 use gh_base::ground::Ground;
 use gh_grass::formula::Formula;
 use std::alloc::{AllocError, Global};
+
+/// There are no more definitions and clauses than are counted.
+pub(crate) fn counted(ground: &Ground)
+    ensures { IsCounted ground.now }
+{
+    let _defs = ground.defs();
+    let _count = ground.count();
+}
 
 // The next definition, unless all numbers are taken.
 fn define(ground: &mut Ground) -> Result<Lit, AllocError>
@@ -174,10 +182,13 @@ fn literals(
 /// as out of memory.
 pub fn add_formula(alloc: Global, ground: &mut Ground, formula: &Formula) -> Result<(), AllocError>
     requires { IsWithin ground.old.sizes (claim_of formula.now) }
-    ensures { OnOk result (ground.new ≡ stated_in ground.old (claim_of formula.now ∷ [])) }
+    ensures stated { OnOk result (ground.new ≡ stated_in ground.old (claim_of formula.now ∷ [])) }
+    ensures few { OnOk result (IsCounted ground.new) }
 {
     let lit = literal(alloc, ground, formula)?;
-    Ok(add(ground, Clause::from_array(alloc, [lit]))?)
+    add(ground, Clause::from_array(alloc, [lit]))?;
+    counted(ground);
+    Ok(())
 }
 
 /// States some formulas, in order.
@@ -187,10 +198,12 @@ pub fn add_formulas(
     formulas: &[Formula],
 ) -> Result<(), AllocError>
     requires { AreWithin ground.old.sizes (claims_view formulas.now) }
-    ensures { OnOk result (ground.new ≡ stated_in ground.old (claims_list formulas.now)) }
+    ensures stated { OnOk result (ground.new ≡ stated_in ground.old (claims_list formulas.now)) }
+    ensures few { OnOk result (IsCounted ground.new) }
 {
     for formula in formulas {
         add_formula(alloc, ground, formula)?;
     }
+    counted(ground);
     Ok(())
 }

@@ -9,11 +9,11 @@ ghost use Rattle.gh_symb.specs.Inside.{AllAreInside, AreStepsInside, IsCheckInsi
 ghost use Rattle.gh_symb.specs.Formulas.{succeeds, successor_claims, successors_from, version_claims, version_after};
 ghost use Rattle.gh_symb.specs.Formulas.{written_claims, freed_claims, claims, problem};
 ghost use Rattle.gh_grass.specs.Claims.{claim_of, negation_of};
-ghost use Rattle.gh_reduce.specs.Growth.{stated_in, IsWithin};
+ghost use Rattle.gh_reduce.specs.Growth.{stated_in, IsCounted, IsWithin};
 ghost use Rattle.gh_reduce.specs.Rows.{kinds_of};
 ghost use Rattle.gh_reduce.specs.Stated.{all_versions, cell_made, check_fails, none_is_met, step_stated, steps_stated, TellsProblem};
 
-use crate::clauses::add_formula;
+use crate::clauses::{add_formula, counted};
 use crate::parts::{Change, add_part};
 use crate::rows::{EachPair, EachTerm, add_each_pair, add_each_term};
 use crate::statements::{
@@ -101,7 +101,8 @@ pub fn add_version(
 ) -> Result<(), AllocError>
     requires version { version < ground.old.sizes.versions }
     requires ready { IsReady ground.old.sizes.terms (kinds_of terms.now) }
-    ensures { OnOk result (ground.new ≡ stated_in ground.old (version_claims (kinds_of terms.now) version)) }
+    ensures stated { OnOk result (ground.new ≡ stated_in ground.old (version_claims (kinds_of terms.now) version)) }
+    ensures few { OnOk result (IsCounted ground.new) }
 {
     let null = free(alloc, version, Term(0))?;
     add_formula(alloc, ground, &null)?;
@@ -110,7 +111,9 @@ pub fn add_version(
         terms: terms.count(),
     };
     add_each_term(alloc, ground, &leads)?;
-    Ok(add_successors(alloc, ground, version, terms)?)
+    add_successors(alloc, ground, version, terms)?;
+    counted(ground);
+    Ok(())
 }
 
 fn add_versions(alloc: Global, ground: &mut Ground, terms: &TermList) -> Result<(), AllocError>
@@ -337,9 +340,11 @@ fn add_condition(alloc: Global, ground: &mut Ground, symbolic: &Symbolic) -> Res
 pub fn ground(alloc: Global, symbolic: &Symbolic) -> Result<Ground, AllocError>
     ensures is { IfOk result (λ g. g ≡ problem (plain_of symbolic.now)) }
     ensures told { TellsProblem symbolic.now result }
+    ensures few { IfOk result IsCounted }
 {
     let terms = symbolic.terms();
     let mut ground = Ground::new(alloc, terms.count(), symbolic.versions());
     add_condition(alloc, &mut ground, symbolic)?;
+    counted(&ground);
     Ok(ground)
 }

@@ -2,11 +2,11 @@
 
 ghost use Rattle.std.specs.Prelude.{◌≡◌, ◌<◌, IfOk, OnOk};
 ghost use Rattle.gh_grass.specs.Claims.{claim_of, claims_list};
-ghost use Rattle.gh_reduce.specs.Growth.{stated_in};
+ghost use Rattle.gh_reduce.specs.Growth.{stated_in, IsCounted};
 ghost use Rattle.gh_reduce.specs.Rows.{of_term, of_pair, said_of_each, said_of_pairs, with_each};
 ghost use Rattle.gh_reduce.specs.Rows.{IsEachTermInside, IsEachPairInside};
 
-use crate::clauses::add_formula;
+use crate::clauses::{add_formula, counted};
 use crate::statements::{allocated, kept, leads, same_hops, within};
 use gh_base::atom::Term;
 use gh_base::ground::Ground;
@@ -138,12 +138,14 @@ pub fn push_each_term(
 /// States it of each term.
 pub fn add_each_term(alloc: Global, ground: &mut Ground, each: &EachTerm) -> Result<(), AllocError>
     requires { IsEachTermInside ground.old.sizes each.now }
-    ensures { OnOk result (ground.new ≡ stated_in ground.old (said_of_each ground.old (of_term each.now))) }
+    ensures stated { OnOk result (ground.new ≡ stated_in ground.old (said_of_each ground.old (of_term each.now))) }
+    ensures few { OnOk result (IsCounted ground.new) }
 {
     for z in 0..ground.terms() {
         let formula = each.formula(alloc, Term(z))?;
         add_formula(alloc, ground, &formula)?;
     }
+    counted(ground);
     Ok(())
 }
 
@@ -168,10 +170,12 @@ fn add_pairs_of(
 /// States it of each two terms.
 pub fn add_each_pair(alloc: Global, ground: &mut Ground, each: &EachPair) -> Result<(), AllocError>
     requires { IsEachPairInside ground.old.sizes each.now }
-    ensures { OnOk result (ground.new ≡ stated_in ground.old (said_of_pairs ground.old (of_pair each.now))) }
+    ensures stated { OnOk result (ground.new ≡ stated_in ground.old (said_of_pairs ground.old (of_pair each.now))) }
+    ensures few { OnOk result (IsCounted ground.new) }
 {
     for z in 0..ground.terms() {
         add_pairs_of(alloc, ground, each, Term(z))?;
     }
+    counted(ground);
     Ok(())
 }

@@ -30,7 +30,7 @@ add_formula-requires c =
     let f = claim_formula ks (binding_of a.binding) q.left in
     let r = c.add_version.new.ground in
     claim_within r.sizes f (claim_of c.in_ok-left.left) c.in_ok-left.ensures
-    (claim_at q a.terms a.binding c.new-ground.result r c.count.result (version_claims ks 0) q.left k c.new-ground.ensures c.count.ensures c.in_ok-add_version.ensures)
+    (claim_at q a.terms a.binding c.new-ground.result r c.count.result (version_claims ks 0) q.left k c.new-ground.ensures c.count.ensures c.in_ok-add_version.ensures.stated)
 
 pub add_formula-requires-2 : goal.add_formula-requires-2
 add_formula-requires-2 c =
@@ -42,7 +42,7 @@ add_formula-requires-2 c =
     let g = claim_formula ks (binding_of a.binding) q.right in
     let p = c.new-ground.result in
     let r = c.add_formula.new.ground in
-    let to = one_more p c.add_version.new.ground r (version_claims ks 0) f (claim_of c.in_ok-left.left) c.in_ok-add_version.ensures c.in_ok-add_formula.ensures c.in_ok-left.ensures in
+    let to = one_more p c.add_version.new.ground r (version_claims ks 0) f (claim_of c.in_ok-left.left) c.in_ok-add_version.ensures.stated c.in_ok-add_formula.ensures.stated c.in_ok-left.ensures in
     claim_within r.sizes (negation_of g) (claim_of c.in_ok-fails.fails) (c.in_ok-fails.ensures ∙ ap negation_of c.in_ok-right.ensures)
     (claim_at q a.terms a.binding p r c.count.result (version_claims ks 0 ++ f ∷ []) q.right k c.new-ground.ensures c.count.ensures to)
 
@@ -57,6 +57,6 @@ returns c =
     let p = c.new-ground.result in
     let r = c.add_formula.new.ground in
     let end = c.add_formula-2.new.ground in
-    let to = one_more p c.add_version.new.ground r (version_claims ks 0) f (claim_of c.in_ok-left.left) c.in_ok-add_version.ensures c.in_ok-add_formula.ensures c.in_ok-left.ensures in
-    let all = one_more p r end (version_claims ks 0 ++ f ∷ []) (negation_of g) (claim_of c.in_ok-fails.fails) to c.in_ok-add_formula-2.ensures (c.in_ok-fails.ensures ∙ ap negation_of c.in_ok-right.ensures) in
+    let to = one_more p c.add_version.new.ground r (version_claims ks 0) f (claim_of c.in_ok-left.left) c.in_ok-add_version.ensures.stated c.in_ok-add_formula.ensures.stated c.in_ok-left.ensures in
+    let all = one_more p r end (version_claims ks 0 ++ f ∷ []) (negation_of g) (claim_of c.in_ok-fails.fails) to c.in_ok-add_formula-2.ensures.stated (c.in_ok-fails.ensures ∙ ap negation_of c.in_ok-right.ensures) in
     question_is q a.terms a.binding p end c.count.result k c.new-ground.ensures c.count.ensures (all ∙ ap (stated_in p) (append_assoc (version_claims ks 0) (f ∷ []) (negation_of g ∷ [])))

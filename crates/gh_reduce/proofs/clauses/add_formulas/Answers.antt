@@ -16,4 +16,4 @@ loop-formula-preserved c =
     let fs = c.args.formulas.now in
     let i = c.loop-formula.formula-index in
     left_more c.loop-formula.ground c.add_formula.new.ground (stated_in c.args.ground.now (claims_list fs)) (claims_list (drop i fs)) (claims_list (drop (i + 1) fs)) (claim_of c.formula-item.result) c.loop-formula.invariant
-    (claim_list_from fs i c.formula-item.result c.loop-formula-test.true c.formula-item.is) c.in_ok-add_formula.ensures
+    (claim_list_from fs i c.formula-item.result c.loop-formula-test.true c.formula-item.is) c.in_ok-add_formula.ensures.stated

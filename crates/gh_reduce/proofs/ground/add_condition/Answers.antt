@@ -38,9 +38,9 @@ add_steps-requires c =
     let s = plain_of c.args.symbolic.now in
     let ks = map plain_kind c.terms-terms.result.now in
     let at_p = ready_for c.args.symbolic.now c.terms-terms.result.now c.args.ground.now c.terms-terms.ensures c.requires.terms c.requires.versions in
-    let here = inside_stays s ks _ b c.in_ok-add_formula.ensures (inside_stays s ks _ _ c.in_ok-add_versions.ensures at_p) in
+    let here = inside_stays s ks _ b c.in_ok-add_formula.ensures.stated (inside_stays s ks _ _ c.in_ok-add_versions.ensures at_p) in
     let kept : b.sizes.versions ≡ c.args.ground.now.sizes.versions =
-    ap (λ (x : Problem). x.sizes.versions) c.in_ok-add_formula.ensures ∙ ap (λ (x : Problem). x.sizes.versions) c.in_ok-add_versions.ensures in
+    ap (λ (x : Problem). x.sizes.versions) c.in_ok-add_formula.ensures.stated ∙ ap (λ (x : Problem). x.sizes.versions) c.in_ok-add_versions.ensures in
     let few = c.requires.few in
     record {
       few = omega (arith, kept, few);
@@ -55,7 +55,7 @@ add_check-requires c =
     let s = plain_of c.args.symbolic.now in
     let ks = map plain_kind c.terms-terms.result.now in
     let at_p = ready_for c.args.symbolic.now c.terms-terms.result.now c.args.ground.now c.terms-terms.ensures c.requires.terms c.requires.versions in
-    let at_b = inside_stays s ks _ _ c.in_ok-add_formula.ensures (inside_stays s ks _ _ c.in_ok-add_versions.ensures at_p) in
+    let at_b = inside_stays s ks _ _ c.in_ok-add_formula.ensures.stated (inside_stays s ks _ _ c.in_ok-add_versions.ensures at_p) in
     let here = inside_stays s ks _ d c.in_ok-add_steps.ensures at_b in
     record {
       ready = here.ready;
@@ -73,7 +73,7 @@ returns c =
     let u = under_of c.start.result.now in
     let whole = meets_whole ks u in
     let b = c.add_formula.new.ground in
-    let to_b = one_more p a b vs whole (claim_of c.in_ok-start.start) c.in_ok-add_versions.ensures c.in_ok-add_formula.ensures c.in_ok-start.ensures in
+    let to_b = one_more p a b vs whole (claim_of c.in_ok-start.start) c.in_ok-add_versions.ensures c.in_ok-add_formula.ensures.stated c.in_ok-start.ensures in
     let d = c.add_steps.new.ground in
     let ss = map step_of c.steps.result.now in
     let to_d = some_more p b d (vs ++ whole ∷ []) (steps_claims ks 0 ss) to_b c.in_ok-add_steps.ensures in

@@ -18,7 +18,7 @@ add_formula-requires-2 c =
     let v = c.requires.version in
     let of = c.requires.of in
     let t = c.requires.term in
-    claim_stays p c.add_formula.new.ground (claim_of c.in_ok-next.next ∷ []) _ (claim_of c.in_ok-stays.stays) c.in_ok-add_formula.ensures c.in_ok-stays.ensures
+    claim_stays p c.add_formula.new.ground (claim_of c.in_ok-next.next ∷ []) _ (claim_of c.in_ok-stays.stays) c.in_ok-add_formula.ensures.stated c.in_ok-stays.ensures
     ((v, of), (equality_within p.sizes c.args.x c.args.t of t, tt))
 
 pub returns : goal.returns
@@ -27,4 +27,4 @@ returns c =
     let q = c.add_formula.new.ground in
     let f = one_of (negation_of (allocated c.args.version c.args.x) ∷ hops c.args.version c.args.x c.args.t ∷ []) in
     let g = one_of (allocated c.args.version c.args.x ∷ equality c.args.x c.args.t ∷ []) in
-    one_more p q c.add_formula-2.new.ground (f ∷ []) g (claim_of c.in_ok-stays.stays) (first_one p q f (claim_of c.in_ok-next.next) c.in_ok-add_formula.ensures c.in_ok-next.ensures) c.in_ok-add_formula-2.ensures c.in_ok-stays.ensures
+    one_more p q c.add_formula-2.new.ground (f ∷ []) g (claim_of c.in_ok-stays.stays) (first_one p q f (claim_of c.in_ok-next.next) c.in_ok-add_formula.ensures.stated c.in_ok-next.ensures) c.in_ok-add_formula-2.ensures.stated c.in_ok-stays.ensures

@@ -19,4 +19,4 @@ add_version-requires c =
 
 pub loop-version-preserved : goal.loop-version-preserved
 loop-version-preserved c =
-    numbers_more (version_claims (map plain_kind c.args.terms.now)) c.loop-version.version c.args.ground.now c.loop-version.ground c.add_version.new.ground c.loop-version.invariant c.in_ok-add_version.ensures
+    numbers_more (version_claims (map plain_kind c.args.terms.now)) c.loop-version.version c.args.ground.now c.loop-version.ground c.add_version.new.ground c.loop-version.invariant c.in_ok-add_version.ensures.stated

@@ -40,5 +40,5 @@ returns-in_ok-add_formula-in_default c =
     let ks = map plain_kind c.args.terms.now in
     let bs = c.args.change.after.now in
     let u = under_of c.args.change.before.now in
-    first_one p c.add_formula-in_default.new.ground (one_of (map (placed_of ks c.args.change.old u) (map under_of bs))) (claim_of c.in_ok-one-in_default.one) c.in_ok-add_formula-in_default.ensures c.in_ok-one-in_default.ensures
+    first_one p c.add_formula-in_default.new.ground (one_of (map (placed_of ks c.args.change.old u) (map under_of bs))) (claim_of c.in_ok-one-in_default.one) c.in_ok-add_formula-in_default.ensures.stated c.in_ok-one-in_default.ensures
     ∙ ap (stated_in p) (sym (several_placed ks c.args.change.old u bs c.in_default.len_at_least))

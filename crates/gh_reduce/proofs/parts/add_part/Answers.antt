@@ -24,7 +24,7 @@ returns c =
     let f = meets ks (under_of c.args.change.before.now) in
     let gs = alternatives_claims ks i (under_of c.args.change.before.now) (map under_of c.args.change.after.now) in
     let d = of_pair (Kept i (i + 1) c.args.change.before) in
-    let start = first_one p c.add_formula.new.ground f (claim_of c.in_ok-taken.taken) c.in_ok-add_formula.ensures c.in_ok-taken.ensures in
+    let start = first_one p c.add_formula.new.ground f (claim_of c.in_ok-taken.taken) c.in_ok-add_formula.ensures.stated c.in_ok-taken.ensures in
     let e = some_more p c.add_formula.new.ground c.add_alternatives.new.ground (f ∷ []) gs start c.in_ok-add_alternatives.ensures in
-    pairs_more p c.add_alternatives.new.ground c.add_each_pair.new.ground ((f ∷ []) ++ gs) d e c.in_ok-add_each_pair.ensures
+    pairs_more p c.add_alternatives.new.ground c.add_each_pair.new.ground ((f ∷ []) ++ gs) d e c.in_ok-add_each_pair.ensures.stated
     ∙ ap (λ (n : ℕ). stated_in p (((f ∷ []) ++ gs) ++ each_pair n d)) c.requires.ready.terms

@@ -19,4 +19,4 @@ add_formula-requires c =
 
 pub loop-z-preserved : goal.loop-z-preserved
 loop-z-preserved c =
-    each_more (of_term c.args.each.now) c.loop-z.z c.args.ground.now c.loop-z.ground c.add_formula.new.ground (claim_of c.in_ok-formula.formula) c.loop-z.invariant c.in_ok-formula.ensures c.in_ok-add_formula.ensures
+    each_more (of_term c.args.each.now) c.loop-z.z c.args.ground.now c.loop-z.ground c.add_formula.new.ground (claim_of c.in_ok-formula.formula) c.loop-z.invariant c.in_ok-formula.ensures c.in_ok-add_formula.ensures.stated

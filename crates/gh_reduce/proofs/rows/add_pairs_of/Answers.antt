@@ -20,4 +20,4 @@ add_formula-requires c =
 
 pub loop-v-preserved : goal.loop-v-preserved
 loop-v-preserved c =
-    each_more (of_pair c.args.each.now c.args.z) c.loop-v.v c.args.ground.now c.loop-v.ground c.add_formula.new.ground (claim_of c.in_ok-formula.formula) c.loop-v.invariant c.in_ok-formula.ensures c.in_ok-add_formula.ensures
+    each_more (of_pair c.args.each.now c.args.z) c.loop-v.v c.args.ground.now c.loop-v.ground c.add_formula.new.ground (claim_of c.in_ok-formula.formula) c.loop-v.invariant c.in_ok-formula.ensures c.in_ok-add_formula.ensures.stated
