@@ -4,7 +4,8 @@ use Rattle.gh_base.specs.declared.place.Span.{Span}
 use Rattle.gh_ast.specs.declared.Occ.{Occ}
 use Rattle.gh_ast.specs.declared.Operand.TheVariants.{Null}
 use Rattle.gh_ast.specs.declared.Expr.TheVariants.{Plain}
-use Rattle.gh_ast.specs.Plain.{Formula, empty, cell, write, free, Statements, no_statements, statement_first, Procedure, Program}
+use Rattle.gh_ast.specs.Plain.{Formula, empty, cell, write, free, Statements, no_statements, statement_first, Procedure}
+use Rattle.gh_ast.specs.Plain.{Program}
 
 abbrev pub somewhere : Span
 somewhere = record { line = 1; col = 1 }

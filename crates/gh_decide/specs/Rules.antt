@@ -1,6 +1,7 @@
 -- What the composition needs of the type rules.
 use Rattle.std.specs.Prelude.{Contains}
-use Rattle.gh_ast.specs.Plain.{Statement, choice, loop, give, Statements, no_statements, statement_first, Procedure, Program}
+use Rattle.gh_ast.specs.Plain.{Statement, choice, loop, give, Statements, no_statements, statement_first, Procedure}
+use Rattle.gh_ast.specs.Plain.{Program}
 use Rattle.gh_ast.specs.Programs.{Name, parameters_of, results_of, body_of, SomeAssigns}
 use Rattle.gh_ast.specs.Names.{FormulaIn}
 

@@ -9,11 +9,12 @@ ghost use Rattle.gh_trace.specs.Kept.{IsOne};
 ghost use Rattle.gh_decide.specs.Verdicts.{IsVerdict};
 
 use gh_ast::typed::Typed;
-use gh_ground::solve::{Answer, solve};
+use gh_ground::solve::{Answer, solve_with};
 use gh_log::lines::Section;
 use gh_model::build::build;
 use gh_path::condition::Condition;
 use gh_reduce::ground::ground;
+use gh_seek::known::Known;
 use gh_symb::limits::SymbolicError;
 use gh_symb::over_terms::Symbolic;
 use gh_symb::symbolic::symbolic;
@@ -51,9 +52,24 @@ pub fn decide(alloc: Global, typed: &Typed, condition: &Condition) -> Result<Ver
     requires one { IsOne (program_of typed.now) condition.now }
     ensures { IfOk result (λ v. IsVerdict (program_of typed.now) condition.now v) }
 {
+    decide_with(alloc, typed, condition, &mut Known::new())
+}
+
+/// Decides a condition of an admitted program as [`decide`] does. What is known from conditions that were decided before
+/// may shorten it, and what it finds is known to later ones.
+pub fn decide_with(
+    alloc: Global,
+    typed: &Typed,
+    condition: &Condition,
+    known: &mut Known,
+) -> Result<Verdict, AllocError>
+    requires admitted { IsAdmitted (program_of typed.now) }
+    requires one { IsOne (program_of typed.now) condition.now }
+    ensures { IfOk result (λ v. IsVerdict (program_of typed.now) condition.now v) }
+{
     let symbolic = over_terms(alloc, typed, condition)?;
     let ground = ground(alloc, &symbolic)?;
-    match solve(alloc, &ground)? {
+    match solve_with(alloc, &ground, known)? {
         Answer::Refutation(section) => Ok(Verdict::Valid(section)),
         Answer::Model(structure) => {
             let trace = build(alloc, typed, condition, &symbolic, &structure)?;

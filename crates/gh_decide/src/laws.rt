@@ -2,7 +2,8 @@
 
 ghost use Rattle.gh_decide.specs.Verdicts.{VerdictsAreExact};
 ghost use Rattle.gh_decide.specs.Logs.{ValidLogsShowValidity, ValidSectionsHaveNoModel};
-ghost use Rattle.gh_decide.specs.Laws.{SafeMeansPathsPass, TestsLead, Composition, ValidPass, ListedIsGood, TypedKeepRules, TypedIsGood, ExamplesHold};
+ghost use Rattle.gh_decide.specs.Laws.{SafeMeansPathsPass, TestsLead, Composition, ValidPass, ListedIsGood};
+ghost use Rattle.gh_decide.specs.Laws.{TypedKeepRules, TypedIsGood, ExamplesHold};
 
 /// A state is safe exactly where each path's check is passed.
 pub fn safe_means_paths_pass()

@@ -5,10 +5,11 @@ ghost use Rattle.gh_ast.specs.Plain.{program_of};
 ghost use Rattle.gh_path.specs.Admitted.{IsAdmitted};
 ghost use Rattle.gh_decide.specs.Outcomes.{IsOutcome};
 
-use crate::decide::{Verdict, decide};
+use crate::decide::{Verdict, decide_with};
 use gh_ast::typed::Typed;
 use gh_log::lines::Log;
 use gh_path::conditions::Conditions;
+use gh_seek::known::Known;
 use gh_trace::state::Trace;
 use std::alloc::{AllocError, Global};
 
@@ -32,6 +33,7 @@ pub fn decide_all(
     ensures { IfOk result (IsOutcome (program_of typed.now)) }
 {
     let mut sections = Vec::new(alloc);
+    let mut known = Known::new();
     let mut walk = conditions.walk(alloc);
     for place in 0..conditions.count() {
         let number = place + 1;
@@ -39,7 +41,7 @@ pub fn decide_all(
         if !more {
             unreachable!();
         }
-        match decide(alloc, typed, walk.condition())? {
+        match decide_with(alloc, typed, walk.condition(), &mut known)? {
             Verdict::Valid(section) => sections.push(section)?,
             Verdict::Refuted(trace) => return Ok(Outcome::Refuted { number, trace }),
         }

@@ -6,9 +6,10 @@ ghost use Rattle.gh_path.specs.Admitted.{IsAdmitted};
 ghost use Rattle.gh_trace.specs.Refuted.{IsFirst};
 ghost use Rattle.gh_trace.specs.Validity.{ListedAreValid};
 
-use crate::decide::{Verdict, decide};
+use crate::decide::{Verdict, decide_with};
 use gh_ast::typed::Typed;
 use gh_path::conditions::Conditions;
+use gh_seek::known::Known;
 use gh_trace::refutation::Refutation;
 use std::alloc::{AllocError, Global};
 
@@ -24,6 +25,7 @@ pub fn first_refuted(
     ensures none { IfOk result (λ found. IfNone found (ListedAreValid (program_of typed.now))) }
     ensures first { IfOk result (λ found. IfSome found (λ f. IsFirst (program_of typed.now) f.number f.trace)) }
 {
+    let mut known = Known::new();
     let mut walk = conditions.walk(alloc);
     for place in 0..conditions.count() {
         let number = place + 1;
@@ -31,7 +33,7 @@ pub fn first_refuted(
         if !more {
             unreachable!();
         }
-        match decide(alloc, typed, walk.condition())? {
+        match decide_with(alloc, typed, walk.condition(), &mut known)? {
             Verdict::Valid(_) => {}
             Verdict::Refuted(trace) => return Ok(Some(Refutation { number, trace })),
         }

@@ -84,6 +84,11 @@ impl Clauses {
         }
     }
 
+    /// Whether a clause is a ground clause.
+    pub fn is_ground(&self, number: u32) -> bool {
+        matches!(self.origin(number), Some(Origin::Ground(_)))
+    }
+
     /// The hints from one place to another.
     pub fn hints(&self, from: u32, to: u32) -> &[u32] {
         let (from, to) = (from as usize, to as usize);

@@ -103,10 +103,20 @@ fn parted(
     Ok(found)
 }
 
-// Sets the cases by which a lemma is shown: for each of its segments which terms are the one that it names, and which
-// come before that one.
+// The segment along which contents are decided: the one that a lemma of two literals begins with.
+fn chain_of(searcher: &Searcher, wanted: &[Code]) -> Option<Parts> {
+    if wanted.len() != 2 {
+        return None;
+    }
+    let begun = wanted.iter().find(|code| !code.is_positive())?;
+    Some(searcher.state.shape.parts(begun.atom()))
+}
+
+// Sets the cases by which a lemma is shown: the contents along its segment, then for each of its segments which terms
+// are the one that it names, and which come before that one.
 fn set_cases(searcher: &mut Searcher, wanted: &[Code]) -> Result<(), AllocError> {
     searcher.cases.clear();
+    searcher.chain = chain_of(searcher, wanted);
     for code in wanted {
         let parts = searcher.state.shape.parts(code.atom());
         if parts.kind == Kind::Btwn {
@@ -151,6 +161,7 @@ fn try_all(searcher: &mut Searcher, mut all: Candidates) -> Result<Option<u32>, 
         set_cases(searcher, wanted.as_slice())?;
     }
     searcher.cases.clear();
+    searcher.chain = None;
     searcher.cut(0)?;
     Ok(None)
 }

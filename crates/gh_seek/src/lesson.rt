@@ -1,7 +1,7 @@
 //! What is learnt from a conflict: the clause of the first unique implication point, with the hints that show it.
 
 use crate::shape::Code;
-use crate::state::State;
+use crate::state::{State, has};
 use crate::table::{at, put, small};
 use crate::trail::NO_CLAUSE;
 use std::alloc::{AllocError, Global};
@@ -209,18 +209,24 @@ impl Lessons {
         Ok(level)
     }
 
-    /// Learns that one of some literals is true, where the opposites of others make one so.
-    pub fn show(&mut self, state: &mut State, wanted: &[Code]) -> Result<(), AllocError> {
+    /// Learns that one of some literals is true, where the opposites of others make one so. Answers the clause that says
+    /// it, unless it is so at level 0.
+    pub fn show(&mut self, state: &mut State, wanted: &[Code]) -> Result<Option<u32>, AllocError> {
         let Some(shown) = wanted.iter().find(|code| state.trail.is_true(**code)) else {
-            return Ok(());
+            return Ok(None);
         };
         let shown = *shown;
+        if state.trail.level_of(shown.atom()) == 0 {
+            return Ok(None);
+        }
+        let reason = state.trail.reason(shown.atom());
+        let said = state.clauses.codes(reason);
+        if said.iter().all(|code| has(wanted, *code)) {
+            return Ok(Some(reason));
+        }
         self.round = self.round.wrapping_add(1);
         put(self.stamps.as_mut_slice(), shown.atom(), self.round);
         self.trace(state)?;
-        if self.reasons.len() < 2 || state.trail.level_of(shown.atom()) == 0 {
-            return Ok(());
-        }
         self.codes.clear();
         for code in wanted {
             if self.is_marked(code.atom()) {
@@ -232,7 +238,7 @@ impl Lessons {
             .clauses
             .learn(self.codes.as_slice(), self.reasons.as_slice())?;
         let _added = state.attach(number)?;
-        Ok(())
+        Ok(Some(number))
     }
 
     // Gathers the reasons of all that marked literals are reached from, the latest first.

@@ -4,13 +4,15 @@
 //! It is clause learning with two watched literals beside equality and congruence. Instances of the axiom rows are
 //! added as soon as the trail makes them unit or false, over least terms of classes alone, and unless they would only
 //! make an atom false that stands in no clause. Where that takes long, lemmas are looked for first, version by version:
-//! which terms stand on which segments in one version just as in the one before, and that segments are apart.
+//! which terms stand on which segments in one version just as in the one before, and that segments are apart. What was
+//! found ahead is carried over to the next condition of the path.
 #![tactic(auto)]
 
 mod candidates;
 mod classes;
 mod clauses;
 mod early;
+pub mod known;
 mod lemmas;
 mod lesson;
 mod load;

@@ -39,6 +39,9 @@ impl Table {
                 let codes = table.clause(number as usize);
                 let version = latest(shape, codes, defined);
                 shape.note_version(defined, version);
+                if codes.len() > 1 {
+                    shape.note_key(defined, codes);
+                }
             }
         }
         Ok(table)
@@ -127,12 +130,17 @@ fn asked_for(alloc: Global, shape: &Shape, table: &Table) -> Result<Vec<bool>, A
     Ok(kept)
 }
 
-/// Adds the clauses of a ground problem that are asked for, and has their atoms decided.
-pub(crate) fn load(alloc: Global, state: &mut State, ground: &Ground) -> Result<(), AllocError> {
+/// Adds the clauses of a ground problem that are asked for, up to a number, and has their atoms decided.
+pub(crate) fn load(
+    alloc: Global,
+    state: &mut State,
+    ground: &Ground,
+    most: u32,
+) -> Result<(), AllocError> {
     let table = Table::new(alloc, &mut state.shape, ground)?;
     let kept = asked_for(alloc, &state.shape, &table)?;
     state.clauses.reserve(table.ends.len(), table.codes.len())?;
-    for number in 0..table.ends.len() {
+    for number in 0..table.ends.len().min(most as usize) {
         if !at(kept.as_slice(), number, true) {
             continue;
         }

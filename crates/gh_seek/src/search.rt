@@ -5,8 +5,8 @@ use crate::early::{Least, add_early};
 use crate::lesson::Lessons;
 use crate::load::load;
 use crate::rows::{Plans, Row};
-use crate::shape::Code;
-use crate::state::State;
+use crate::shape::{Code, Parts};
+use crate::state::{Added, State, has};
 use crate::structure::{Made, Missing, add_false};
 use crate::table::byte;
 use gh_base::ground::Ground;
@@ -36,6 +36,11 @@ pub(crate) struct Searcher {
     pub lessons: Lessons,
     /// Literals whose opposites are decided after those of the wanted ones.
     pub cases: Vec<Code>,
+    /// Clauses that say what was wanted.
+    pub shown: Vec<u32>,
+    /// A segment: before the cases it is decided which terms are the contents along it, from its first cell on. So each
+    /// way along it is met once, and what is learnt at its end serves all other ways that lead there.
+    pub chain: Option<Parts>,
     plans: Plans,
     // A far lesson cuts so many levels and one more.
     stride: u32,
@@ -52,10 +57,10 @@ fn cut_level(present: u32, level: u32, stride: u32) -> u32 {
 }
 
 impl Searcher {
-    /// A search over the clauses of a ground problem, and the reflexive instances.
-    pub fn new(alloc: Global, ground: &Ground) -> Result<Searcher, AllocError> {
+    /// A search over the clauses of a ground problem up to a number, and the reflexive instances.
+    pub fn new(alloc: Global, ground: &Ground, most: u32) -> Result<Searcher, AllocError> {
         let mut state = State::new(alloc, ground.sizes())?;
-        load(alloc, &mut state, ground)?;
+        load(alloc, &mut state, ground, most)?;
         let plans = Plans::new(alloc, &state.layout)?;
         add_reflexive(&mut state, &plans)?;
         Ok(Searcher {
@@ -63,6 +68,8 @@ impl Searcher {
             lessons: Lessons::new(alloc, state.shape.count)?,
             state,
             cases: Vec::new(alloc),
+            shown: Vec::new(alloc),
+            chain: None,
             plans,
             stride: 0,
         })
@@ -77,6 +84,20 @@ impl Searcher {
             }
         }
         None
+    }
+
+    /// Adds the ground clause of a number at level 0. Answers whether it is false.
+    pub fn add_ground(&mut self, ground: &Ground, number: u32) -> Result<Added, AllocError> {
+        let mut codes: Vec<Code> = Vec::new(self.state.alloc);
+        if let Some(clause) = ground.clause(number) {
+            for lit in clause.lits() {
+                let code = self.state.shape.code(*lit);
+                if !has(codes.as_slice(), code) {
+                    codes.push(code)?;
+                }
+            }
+        }
+        self.state.add(codes.as_slice(), Origin::Ground(number))
     }
 
     // Adds what follows by units, congruence and instances, up to a clause that is false.
@@ -127,11 +148,14 @@ impl Searcher {
         Ok(false)
     }
 
-    // Decides the opposite of a wanted literal or of a case, or else the atom that goes first. Answers whether there was
-    // one.
+    // Decides the opposite of a wanted literal, the next content along the chain, or the opposite of a case, or else the
+    // atom that goes first. Answers whether there was one.
     fn decide(&mut self, wanted: &[Code]) -> Result<bool, AllocError> {
         self.stride = 0;
         let mut next = self.first_open(wanted);
+        if next.is_none() {
+            next = self.next_hop().map(Code::negated);
+        }
         if next.is_none() {
             next = self.first_open(self.cases.as_slice());
         }
@@ -142,6 +166,40 @@ impl Searcher {
             }
             None => self.decide_next(),
         }
+    }
+
+    // The first hop along the chain that has no truth, of the first cell whose content isn't known.
+    fn next_hop(&self) -> Option<Code> {
+        let chain = self.chain?;
+        let version = chain.version;
+        let end = self.least.of(chain.terms[2]);
+        let mut cell = self.least.of(chain.terms[0]);
+        for _ in 0..self.state.shape.terms {
+            let to = self.state.yes.hops(version, cell) & self.least.mask;
+            if cell == end {
+                return None;
+            }
+            if to == 0 {
+                return self.open_hop(version, cell);
+            }
+            cell = byte(to.trailing_zeros() as usize);
+        }
+        None
+    }
+
+    // The first hop of a cell that has no truth.
+    fn open_hop(&self, version: u8, cell: u8) -> Option<Code> {
+        for term in 0..self.state.shape.terms {
+            let code = Code::new(self.state.shape.hop(version, cell, byte(term)), true);
+            let is_least = self.least.of(byte(term)) == byte(term);
+            if is_least
+                && self.state.trail.is_open(code)
+                && self.state.order.is_needed(code.atom())
+            {
+                return Some(code);
+            }
+        }
+        None
     }
 
     // The first of some literals that has no truth.
@@ -192,7 +250,7 @@ impl Searcher {
                 continue;
             }
             if wanted.iter().any(|code| self.state.trail.is_true(*code)) {
-                self.lessons.show(&mut self.state, wanted)?;
+                self.show(wanted)?;
                 return Ok(End::Shown);
             }
             if self.decide(wanted)? {
@@ -210,6 +268,16 @@ impl Searcher {
             }
         }
         Ok(End::TooLong)
+    }
+
+    // Learns what is wanted, and notes the clause that says it.
+    fn show(&mut self, wanted: &[Code]) -> Result<(), AllocError> {
+        if let Some(shown) = self.lessons.show(&mut self.state, wanted)? {
+            if self.shown.iter().all(|number| *number != shown) {
+                self.shown.push(shown)?;
+            }
+        }
+        Ok(())
     }
 
     /// Goes back to level 0, and looks at some versions alone from now on: what speaks of others gets a truth at level 0

@@ -15,8 +15,12 @@ fn mark_all(needed: &mut [bool], numbers: &[u32]) {
     }
 }
 
-// The clauses that some hints need, with the hints of those that were learnt.
-fn needed_for(alloc: Global, clauses: &Clauses, hints: &[u32]) -> Result<Vec<bool>, AllocError> {
+/// The clauses that some hints need, with the hints of those that were learnt.
+pub(crate) fn needed_for(
+    alloc: Global,
+    clauses: &Clauses,
+    hints: &[u32],
+) -> Result<Vec<bool>, AllocError> {
     let count = clauses.count();
     let mut needed = vec![in alloc; false; count]?;
     mark_all(needed.as_mut_slice(), hints);

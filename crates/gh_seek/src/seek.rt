@@ -1,5 +1,6 @@
 //! What a search finds.
 
+use crate::known::Known;
 use crate::lemmas::try_lemmas;
 use crate::search::{End, Searcher};
 use crate::section::section_of;
@@ -19,29 +20,43 @@ pub enum Found {
     Nothing,
 }
 
-// So many conflicts for each term come before lemmas are looked for: most searches need fewer, and over many terms
-// there are many lemmas.
-const FIRST_CONFLICTS: u64 = 40;
+// So many conflicts for each pair of terms, and so many for each term, come before lemmas are looked for: most searches
+// need fewer, and over many terms there are many lemmas.
+const FOR_PAIRS: u64 = 4;
+
+const FOR_TERMS: u64 = 40;
 
 // No more terms have bits in a word, and for no more atoms tables are made.
 const MOST_TERMS: u8 = 32;
 
 const MOST_ATOMS: usize = 8000000;
 
-// Searches first as it is, then for lemmas, then as it is again.
-fn search(searcher: &mut Searcher) -> Result<End, AllocError> {
+// Searches for a while: for a short one, where something is known that may serve.
+fn begin(searcher: &mut Searcher, known: &Known) -> Result<End, AllocError> {
     if let Some(number) = searcher.false_clause() {
         return Ok(End::Refuted(number));
     }
-    let first = FIRST_CONFLICTS.saturating_mul(searcher.state.shape.terms as u64);
-    match searcher.run(&[], first)? {
-        End::TooLong => {}
-        end => return Ok(end),
+    let terms = searcher.state.shape.terms as u64;
+    let for_each = terms.saturating_mul(FOR_PAIRS).min(FOR_TERMS);
+    let most = terms.saturating_mul(for_each);
+    let is_short = known.serves(searcher);
+    searcher.run(&[], if is_short { most / 4 } else { most })
+}
+
+// Searches for lemmas first, over all clauses but the last one: that says that a check fails, and without it what is
+// found serves for later checks of the path, too. Then searches over all clauses.
+fn search(searcher: &mut Searcher, ground: &Ground, known: &Known) -> Result<End, AllocError> {
+    if let Some(conflict) = known.tell(searcher)? {
+        return Ok(End::Refuted(conflict));
     }
     if let Some(conflict) = try_lemmas(searcher)? {
         return Ok(End::Refuted(conflict));
     }
     searcher.set_window(0, u8::MAX)?;
+    let last = searcher.add_ground(ground, ground.count().saturating_sub(1))?;
+    if last.is_false {
+        return Ok(End::Refuted(last.number));
+    }
     searcher.run(&[], u64::MAX)
 }
 
@@ -54,21 +69,37 @@ fn truths(alloc: Global, searcher: &Searcher) -> Result<Vec<Lit>, AllocError> {
     Ok(lits)
 }
 
-/// Looks for a refutation of the clauses, or for a structure that makes them and all axiom instances true.
-pub fn seek(alloc: Global, ground: &Ground) -> Result<Found, AllocError> {
-    let sizes = ground.sizes();
-    if sizes.terms > MOST_TERMS || sizes.count() > MOST_ATOMS {
-        return Ok(Found::Nothing);
-    }
-    let mut searcher = Searcher::new(alloc, ground)?;
-    match search(&mut searcher)? {
-        End::Refuted(conflict) => Ok(Found::Refutation(section_of(
-            alloc,
-            &mut searcher,
-            conflict,
-        )?)),
+// What a search found that ended; what it found on the way is known from now on.
+fn outcome(
+    alloc: Global,
+    mut searcher: Searcher,
+    end: End,
+    known: &mut Known,
+) -> Result<Found, AllocError> {
+    match end {
+        End::Refuted(conflict) => {
+            let section = section_of(alloc, &mut searcher, conflict)?;
+            known.keep(searcher)?;
+            Ok(Found::Refutation(section))
+        }
         End::Found(_made) => Ok(Found::Truths(truths(alloc, &searcher)?)),
         End::Shown => Ok(Found::Nothing),
         End::TooLong => Ok(Found::Nothing),
     }
+}
+
+/// Looks for a refutation of the clauses, or for a structure that makes them and all axiom instances true. What is known
+/// from earlier ones may help, and what is found then is known to later ones.
+pub fn seek(alloc: Global, ground: &Ground, known: &mut Known) -> Result<Found, AllocError> {
+    let sizes = ground.sizes();
+    if sizes.terms > MOST_TERMS || sizes.count() > MOST_ATOMS {
+        return Ok(Found::Nothing);
+    }
+    let mut searcher = Searcher::new(alloc, ground, ground.count())?;
+    let mut end = begin(&mut searcher, known)?;
+    if let End::TooLong = end {
+        searcher = Searcher::new(alloc, ground, ground.count().saturating_sub(1))?;
+        end = search(&mut searcher, ground, known)?;
+    }
+    outcome(alloc, searcher, end, known)
 }

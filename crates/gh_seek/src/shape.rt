@@ -1,6 +1,6 @@
 //! Dense numbers of atoms and literals, and what stands behind them.
 
-use crate::table::{cell, small};
+use crate::table::{at, cell, small};
 use gh_base::atom::{Atom, Lit, Term};
 use gh_base::sizes::Sizes;
 use std::alloc::{AllocError, Global};
@@ -98,6 +98,15 @@ pub(crate) struct Shape {
     pub defs: usize,
     pub count: usize,
     parts: Vec<Parts>,
+    // By definition.
+    keys: Vec<u64>,
+}
+
+/// A word whose bits all depend on those of another.
+pub(crate) fn spread(word: u64) -> u64 {
+    let first = (word ^ (word >> 30)).wrapping_mul(13787848793156543929);
+    let second = (first ^ (first >> 27)).wrapping_mul(10723151780598845931);
+    second ^ (second >> 31)
 }
 
 // The parts of all atoms, in the order of their numbers.
@@ -173,6 +182,7 @@ impl Shape {
             defs,
             count,
             parts: all_parts(alloc, sizes, count)?,
+            keys: vec![in alloc; 0; sizes.defs as usize]?,
         })
     }
 
@@ -188,6 +198,43 @@ impl Shape {
     pub fn note_version(&mut self, number: usize, version: u8) {
         if number < self.parts.len() && self.parts[number].version < version {
             self.parts[number].version = version;
+        }
+    }
+
+    /// The key of an atom: a word that tells it from others, whatever the numbers of versions and definitions are. That
+    /// of a definition comes from the clauses that say what it stands for.
+    pub fn key(&self, atom: usize) -> u64 {
+        if atom >= self.defs {
+            return at(self.keys.as_slice(), atom.wrapping_sub(self.defs), 0);
+        }
+        let parts = self.parts(atom);
+        let mut word = parts.kind as u64;
+        for part in [
+            parts.version,
+            parts.terms[0],
+            parts.terms[1],
+            parts.terms[2],
+        ] {
+            word = word.wrapping_mul(256).wrapping_add(part as u64);
+        }
+        spread(word)
+    }
+
+    /// Takes a clause that says what a definition stands for into its key.
+    pub fn note_key(&mut self, defined: usize, codes: &[Code]) {
+        let mut sum: u64 = 0;
+        for code in codes {
+            let sign = if code.is_positive() { 1 } else { 0 };
+            let key = if code.atom() == defined {
+                0
+            } else {
+                self.key(code.atom())
+            };
+            sum = sum.wrapping_add(spread(key.wrapping_mul(2).wrapping_add(sign)));
+        }
+        let number = defined.wrapping_sub(self.defs);
+        if number < self.keys.len() {
+            self.keys[number] = self.keys[number].wrapping_add(spread(sum));
         }
     }
 

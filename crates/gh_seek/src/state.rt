@@ -200,6 +200,26 @@ impl State {
 
     /// Has a clause watched that was added last, and whose atoms are known to stand in a clause.
     pub fn watch(&mut self, number: u32) -> Result<Added, AllocError> {
+        self.keep(number)?;
+        self.link(number)
+    }
+
+    /// Keeps a clause that was added last, and that isn't watched.
+    pub fn keep(&mut self, number: u32) -> Result<(), AllocError> {
+        self.watches.enter(self.clauses.len(number))
+    }
+
+    /// Has a clause watched that was kept. Where it is unit, its literal becomes true.
+    pub fn watch_kept(&mut self, number: u32) -> Result<Added, AllocError> {
+        for index in 0..self.clauses.len(number) {
+            let code = at(self.clauses.codes(number), index, Code(0));
+            self.order.enter(&self.shape, code.atom())?;
+        }
+        self.link(number)
+    }
+
+    // Puts a clause that isn't watched into the lists of its best literals.
+    fn link(&mut self, number: u32) -> Result<Added, AllocError> {
         self.bring(number, 0);
         self.bring(number, 1);
         let (start, length) = (self.clauses.start(number), self.clauses.len(number));
@@ -207,11 +227,10 @@ impl State {
             self.clauses.code_at(start),
             self.clauses.code_at(start.wrapping_add(1)),
         );
-        self.watches.enter(first, second, length)?;
         if length > 1 {
             let node = number.wrapping_mul(2);
-            self.watches.link(first, node);
-            self.watches.link(second, node.wrapping_add(1));
+            self.watches.link(first, node, second);
+            self.watches.link(second, node.wrapping_add(1), first);
         }
         let is_false = length == 0 || self.trail.is_false(first);
         if !is_false {
@@ -279,7 +298,7 @@ impl State {
                 Visit::Kept => before = node,
                 Visit::Moved(code) => {
                     self.watches.unlink(gone, before, node);
-                    self.watches.link(Code(code), node);
+                    self.watches.move_to(Code(code), node);
                 }
                 Visit::Conflict => return Ok(Some(node / 2)),
             }
@@ -363,6 +382,15 @@ impl State {
     /// How many clauses there are.
     pub fn count(&self) -> u32 {
         small(self.clauses.count())
+    }
+
+    /// The clauses that made literals true at level 0.
+    pub fn reasons(&self) -> Result<Vec<u32>, AllocError> {
+        let mut reasons = Vec::new(self.alloc);
+        for place in 0..self.trail.start(1) {
+            reasons.push(self.trail.reason(self.trail.step(place).atom()))?;
+        }
+        Ok(reasons)
     }
 }
 

@@ -51,13 +51,11 @@ impl Watches {
     }
 
     /// Makes the two nodes of the next clause, which has so many literals. They stand in no list.
-    pub fn enter(&mut self, first: Code, second: Code, length: usize) -> Result<(), AllocError> {
-        for other in [second, first] {
-            self.nodes.push(Node {
-                next: NO_NODE,
-                other,
-                is_pair: length == 2,
-            })?;
+    pub fn enter(&mut self, length: usize) -> Result<(), AllocError> {
+        for _ in 0..2 {
+            let mut node = NOTHING;
+            node.is_pair = length == 2;
+            self.nodes.push(node)?;
         }
         Ok(())
     }
@@ -96,8 +94,14 @@ impl Watches {
         }
     }
 
-    /// Puts a node at the front of a literal's list.
-    pub fn link(&mut self, code: Code, node: u32) {
+    /// Puts a node that stands in no list at the front of a literal's list, with another literal of its clause.
+    pub fn link(&mut self, code: Code, node: u32, other: Code) {
+        self.set_other(node, other);
+        self.move_to(code, node);
+    }
+
+    /// Puts a node that stands in no list at the front of a literal's list.
+    pub fn move_to(&mut self, code: Code, node: u32) {
         let next = self.first(code);
         self.set_next(node, next);
         put(self.first.as_mut_slice(), code.place(), node);

@@ -235,6 +235,11 @@ impl Words {
         word != 0
     }
 
+    /// The terms that a term's cell leads to in a version.
+    pub fn hops(&self, version: u8, x: u8) -> u32 {
+        self.word_at(self.layout.hop_to, self.layout.row(version, x))
+    }
+
     /// The word at a place.
     pub fn word(&self, place: usize) -> u32 {
         at(self.table.as_slice(), place, 0)

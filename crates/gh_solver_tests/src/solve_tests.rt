@@ -14,6 +14,7 @@ use gh_check::check::check_log;
 use gh_ground::solve::{Answer, solve};
 use gh_inst::violation::violated;
 use gh_log::lines::{LogLine, Section};
+use gh_seek::known::Known;
 use gh_seek::seek::{Found, seek};
 use std::alloc::{AllocError, Global};
 use std::test::Fail;
@@ -307,11 +308,11 @@ fn is_section(alloc: Global, ground: &Ground, found: Found) -> bool {
 #[test]
 fn what_is_found_first(rt: HostRuntime) -> Result<(), Fail> {
     let mut ground = chain(rt.alloc(), 5)?;
-    let found = seek(rt.alloc(), &ground)?;
+    let found = seek(rt.alloc(), &ground, &mut Known::new())?;
     assert!(rt; matches!(found, Found::Truths(_)));
     let unreached = [between(0, 5, 5, false)];
     push(&mut ground, Clause::from_lits(rt.alloc(), &unreached)?)?;
-    let found = seek(rt.alloc(), &ground)?;
+    let found = seek(rt.alloc(), &ground, &mut Known::new())?;
     assert!(rt; is_section(rt.alloc(), &ground, found));
     Ok(())
 }

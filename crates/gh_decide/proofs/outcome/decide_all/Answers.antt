@@ -25,8 +25,8 @@ unreachable-requires c =
     lent_none P c.loop-place.walk c.advance.new.self c.loop-place.place c.advance.result c.in_ok-more.more c.in_ok-more.was c.if-not-more.true c.loop-place.invariant.before
     (omega (arith, count, c.loop-place-test.true)) c.advance.ensures.next
 
-pub decide-requires-clause-one : goal.decide-requires-clause-one
-decide-requires-clause-one c =
+pub decide_with-requires-clause-one : goal.decide_with-requires-clause-one
+decide_with-requires-clause-one c =
     let P = program_of c.args.typed.now in
     let s = c.loop-place.walk in
     let t = c.advance.new.self in

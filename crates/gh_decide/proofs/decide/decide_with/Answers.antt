@@ -4,7 +4,7 @@ use Rattle.gh_ground.specs.declared.solve.Answer.TheVariants.{Model, Refutation}
 use Rattle.gh_trace.specs.Kept.{drawn_of}
 use Rattle.gh_decide.specs.Verdicts.{IsGroundOf}
 use Rattle.gh_decide.proofs.Parts.{shown, refuted}
-use Rattle.gh_decide.proofs.decide.decide.Goals as goal
+use Rattle.gh_decide.proofs.decide.decide_with.Goals as goal
 
 pub returns-in-Refutation : goal.returns-in-Refutation
 returns-in-Refutation c =

@@ -1,0 +1,345 @@
+//! What a search found ahead, carried over to the next one. Conditions of one procedure begin alike, so what one of
+//! them needs of its first versions serves the others: a clause that was found is added with what shows it, where the
+//! ground clauses that this rests on stand in the next problem too, and nothing is searched for again.
+
+use crate::clauses::{Clauses, Origin};
+use crate::search::Searcher;
+use crate::section::needed_for;
+use crate::shape::{Code, Kind, Shape, spread};
+use crate::state::{State, has};
+use crate::table::{at, put, small};
+use std::alloc::{AllocError, Global};
+
+/// What earlier searches found. Nothing is promised of it: it serves a search whose answer is checked.
+#[derive(Debug, Drop)]
+pub struct Known {
+    past: Option<Past>,
+}
+
+/// The clauses of a search, the lemmas among them that it found, and what made literals true at level 0.
+#[derive(Debug, Drop)]
+struct Past {
+    shape: Shape,
+    clauses: Clauses,
+    shown: Vec<u32>,
+    units: Vec<u32>,
+}
+
+/// Numbers in lists by words.
+#[derive(Debug, Drop)]
+struct Lists {
+    // By a word's place: one more than the first number of its list, or 0.
+    heads: Vec<u32>,
+    // By number: one more than the number after it, or 0.
+    others: Vec<u32>,
+}
+
+impl Lists {
+    // No number of so many is in a list.
+    fn new(alloc: Global, count: usize) -> Result<Lists, AllocError> {
+        Ok(Lists {
+            heads: vec![in alloc; 0; count.wrapping_mul(2).wrapping_add(1)]?,
+            others: vec![in alloc; 0; count]?,
+        })
+    }
+
+    // Where the list of a word begins.
+    fn place(&self, word: u64) -> usize {
+        let count = self.heads.len() as u64;
+        if count == 0 {
+            0
+        } else {
+            (word % count) as usize
+        }
+    }
+
+    // Puts a number at the front of a word's list.
+    fn enter(&mut self, word: u64, number: usize) {
+        let place = self.place(word);
+        let before = at(self.heads.as_slice(), place, 0);
+        put(self.others.as_mut_slice(), number, before);
+        put(
+            self.heads.as_mut_slice(),
+            place,
+            small(number).wrapping_add(1),
+        );
+    }
+
+    // One more than the first number of the list that a word has, or 0.
+    fn first(&self, word: u64) -> u32 {
+        at(self.heads.as_slice(), self.place(word), 0)
+    }
+
+    // One more than the number after one, or 0.
+    fn after(&self, number: u32) -> u32 {
+        at(self.others.as_slice(), number as usize, 0)
+    }
+}
+
+// A word for some literals that no order of them changes.
+fn word_of(codes: &[Code]) -> u64 {
+    let mut sum: u64 = 0;
+    for code in codes {
+        sum = sum.wrapping_add(spread(code.0 as u64));
+    }
+    sum
+}
+
+// Whether two clauses have the same literals, each once.
+fn are_same(some: &[Code], others: &[Code]) -> bool {
+    some.len() == others.len() && some.iter().all(|code| has(others, *code))
+}
+
+// The ground clauses in lists by the words of their literals.
+fn ground_lists(alloc: Global, clauses: &Clauses) -> Result<Lists, AllocError> {
+    let mut lists = Lists::new(alloc, clauses.count())?;
+    for number in 0..clauses.count() {
+        if clauses.is_ground(small(number)) {
+            lists.enter(word_of(clauses.codes(small(number))), number);
+        }
+    }
+    Ok(lists)
+}
+
+// One more than the number of a ground clause with some literals, or 0.
+fn find_ground(lists: &Lists, clauses: &Clauses, codes: &[Code]) -> u32 {
+    let mut next = lists.first(word_of(codes));
+    for _ in 0..clauses.count() {
+        if next == 0 || are_same(clauses.codes(next.wrapping_sub(1)), codes) {
+            break;
+        }
+        next = lists.after(next.wrapping_sub(1));
+    }
+    next
+}
+
+// The definitions in lists by their keys, each list from its least number on.
+fn key_lists(alloc: Global, shape: &Shape) -> Result<Lists, AllocError> {
+    let count = shape.count.wrapping_sub(shape.defs);
+    let mut lists = Lists::new(alloc, count)?;
+    for back in 0..count {
+        let number = count - 1 - back;
+        lists.enter(shape.key(shape.defs.wrapping_add(number)), number);
+    }
+    Ok(lists)
+}
+
+// One more than the number of the first definition with a key that isn't taken, or 0.
+fn find_definition(lists: &Lists, shape: &Shape, key: u64, taken: &[bool]) -> u32 {
+    let mut next = lists.first(key);
+    for _ in 0..taken.len() {
+        let number = (next as usize).wrapping_sub(1);
+        let is_same = shape.key(shape.defs.wrapping_add(number)) == key;
+        if next == 0 || is_same && !at(taken, number, true) {
+            break;
+        }
+        next = lists.after(next.wrapping_sub(1));
+    }
+    next
+}
+
+// For each definition of a past shape one more than the number of the one of a new shape that has its key, or 0; where
+// several have the same key, the first of one that of the other, and so on.
+fn definitions(alloc: Global, from: &Shape, to: &Shape) -> Result<Vec<u32>, AllocError> {
+    let lists = key_lists(alloc, to)?;
+    let mut taken = vec![in alloc; false; to.count.wrapping_sub(to.defs)]?;
+    let mut found = Vec::new(alloc);
+    for atom in from.defs..from.count {
+        let next = find_definition(&lists, to, from.key(atom), taken.as_slice());
+        put(taken.as_mut_slice(), (next as usize).wrapping_sub(1), true);
+        found.push(next)?;
+    }
+    Ok(found)
+}
+
+/// What is carried from a past search to a new one.
+#[derive(Debug, Drop)]
+struct Carrier {
+    grounds: Lists,
+    // By past definition: one more than the number of the new one, or 0.
+    definitions: Vec<u32>,
+    // By number of a past clause: one more than its number in the new search, or 0.
+    numbers: Vec<u32>,
+    // The literals and the hints of a clause, over the new numbers.
+    codes: Vec<Code>,
+    hints: Vec<u32>,
+}
+
+impl Carrier {
+    // Nothing is carried yet.
+    fn new(alloc: Global, state: &State, past: &Past) -> Result<Carrier, AllocError> {
+        Ok(Carrier {
+            grounds: ground_lists(alloc, &state.clauses)?,
+            definitions: definitions(alloc, &past.shape, &state.shape)?,
+            numbers: vec![in alloc; 0; past.clauses.count()]?,
+            codes: Vec::new(alloc),
+            hints: Vec::new(alloc),
+        })
+    }
+
+    // The new literal that a past one becomes, if its atom is there.
+    fn code(&self, to: &Shape, from: &Shape, code: Code) -> Option<Code> {
+        let parts = from.parts(code.atom());
+        let atom = match parts.kind {
+            Kind::Def => {
+                let number = code.atom().wrapping_sub(from.defs);
+                let found = at(self.definitions.as_slice(), number, 0);
+                to.defs.wrapping_add(found as usize).wrapping_sub(1)
+            }
+            Kind::Eq => to.number(parts),
+            _ if (parts.version as usize) < to.versions => to.number(parts),
+            _ => to.count,
+        };
+        let is_def = atom >= to.defs;
+        if atom < to.count && is_def == (parts.kind == Kind::Def) {
+            Some(Code::new(atom, code.is_positive()))
+        } else {
+            None
+        }
+    }
+
+    // Finds the new literals of a past clause. Answers whether there are all.
+    fn find_codes(&mut self, state: &State, past: &Past, number: u32) -> Result<bool, AllocError> {
+        self.codes.clear();
+        for code in past.clauses.codes(number) {
+            match self.code(&state.shape, &past.shape, *code) {
+                Some(code) => self.codes.push(code)?,
+                None => return Ok(false),
+            }
+        }
+        Ok(true)
+    }
+
+    // Finds the new numbers of hints. Answers whether there are all.
+    fn find_hints(&mut self, hints: &[u32]) -> Result<bool, AllocError> {
+        self.hints.clear();
+        for hint in hints {
+            let number = at(self.numbers.as_slice(), *hint as usize, 0);
+            if number == 0 {
+                return Ok(false);
+            }
+            self.hints.push(number.wrapping_sub(1))?;
+        }
+        Ok(true)
+    }
+
+    // Adds a past clause, if what shows it is there. Answers one more than its number, or 0.
+    fn add(&mut self, state: &mut State, past: &Past, number: u32) -> Result<u32, AllocError> {
+        if !self.find_codes(state, past, number)? {
+            return Ok(0);
+        }
+        let codes = self.codes.as_slice();
+        let added = match past.clauses.origin(number) {
+            None => return Ok(0),
+            Some(Origin::Ground(_)) => {
+                return Ok(find_ground(&self.grounds, &state.clauses, codes));
+            }
+            Some(Origin::Learnt { from, to }) => {
+                if !self.find_hints(past.clauses.hints(from, to))? {
+                    return Ok(0);
+                }
+                state
+                    .clauses
+                    .learn(self.codes.as_slice(), self.hints.as_slice())?
+            }
+            Some(origin) => state.clauses.push(codes, origin)?,
+        };
+        state.keep(added)?;
+        Ok(added.wrapping_add(1))
+    }
+}
+
+impl Known {
+    /// Nothing.
+    pub fn new() -> Known {
+        Known { past: None }
+    }
+
+    /// Whether it may serve a search: it is over as many terms.
+    pub(crate) fn serves(&self, searcher: &Searcher) -> bool {
+        match &self.past {
+            Some(past) => past.shape.terms == searcher.state.shape.terms,
+            None => false,
+        }
+    }
+
+    /// Adds to a search at level 0 what is known. Answers a clause that is false then, if there is one.
+    pub(crate) fn tell(&self, searcher: &mut Searcher) -> Result<Option<u32>, AllocError> {
+        match &self.past {
+            Some(past) if self.serves(searcher) => past.tell(searcher),
+            _ => Ok(None),
+        }
+    }
+
+    /// Keeps what a search found, if it found lemmas.
+    pub(crate) fn keep(&mut self, searcher: Searcher) -> Result<(), AllocError> {
+        if searcher.shown.is_empty() {
+            return Ok(());
+        }
+        let units = searcher.state.reasons()?;
+        let Searcher { state, shown, .. } = searcher;
+        let State { shape, clauses, .. } = state;
+        self.past = Some(Past {
+            shape,
+            clauses,
+            shown,
+            units,
+        });
+        Ok(())
+    }
+}
+
+impl Past {
+    // Adds to a search what was found, with what shows it.
+    fn tell(&self, searcher: &mut Searcher) -> Result<Option<u32>, AllocError> {
+        let alloc = searcher.state.alloc;
+        let mut roots = Vec::new(alloc);
+        roots.extend_from_slice(self.shown.as_slice())?;
+        roots.extend_from_slice(self.units.as_slice())?;
+        let mut numbers = self.carried(&mut searcher.state, roots.as_slice())?;
+        for number in self.shown.as_slice() {
+            let added = at(numbers.as_slice(), *number as usize, 0);
+            if added != 0 {
+                searcher.shown.push(added.wrapping_sub(1))?;
+            }
+        }
+        watch_all(
+            &mut searcher.state,
+            numbers.as_mut_slice(),
+            roots.as_slice(),
+        )
+    }
+
+    // Adds the clauses of some numbers to a search, with what shows them. Answers for each clause one more than its
+    // number there, or 0.
+    fn carried(&self, state: &mut State, roots: &[u32]) -> Result<Vec<u32>, AllocError> {
+        let needed = needed_for(state.alloc, &self.clauses, roots)?;
+        let mut carrier = Carrier::new(state.alloc, state, self)?;
+        for number in 0..needed.len() {
+            if at(needed.as_slice(), number, false) {
+                let added = carrier.add(state, self, small(number))?;
+                put(carrier.numbers.as_mut_slice(), number, added);
+            }
+        }
+        Ok(carrier.numbers)
+    }
+}
+
+// Has the clauses watched that some past ones became, each once. Answers one that is false, if there is one.
+fn watch_all(
+    state: &mut State,
+    numbers: &mut [u32],
+    roots: &[u32],
+) -> Result<Option<u32>, AllocError> {
+    for root in roots {
+        let added = at(numbers, *root as usize, 0);
+        put(numbers, *root as usize, 0);
+        if added != 0 && !state.clauses.is_ground(added.wrapping_sub(1)) {
+            let watched = state.watch_kept(added.wrapping_sub(1))?;
+            if watched.is_false {
+                return Ok(Some(watched.number));
+            }
+        }
+    }
+    Ok(None)
+}
