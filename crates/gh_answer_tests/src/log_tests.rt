@@ -142,6 +142,32 @@ fn written_logs(rt: HostRuntime) -> Result<(), AllocError> {
     Ok(())
 }
 
+// Each call leaves the other list as it was. Searches find lemmas that say so, and hand them on to the next condition.
+const FIVE_CALLS: &[u8] = b"struct Node { var next: Node; }
+procedure rev(x: Node) returns (y: Node)
+  requires lseg(x, null)
+  ensures lseg(y, null)
+{ y := x; }
+procedure p(a1: Node, a2: Node) returns (r1: Node, r2: Node)
+  requires lseg(a1, null) &*& lseg(a2, null)
+  ensures lseg(r1, null) &*& lseg(r2, null)
+{
+  r1 := a1;
+  r2 := a2;
+  r1 := rev(r1);
+  r2 := rev(r2);
+  r1 := rev(r1);
+  r2 := rev(r2);
+  r1 := rev(r1);
+}
+";
+
+#[test]
+fn logs_of_searches_with_lemmas(rt: HostRuntime) -> Result<(), AllocError> {
+    assert!(rt; rechecks(rt.alloc(), FIVE_CALLS, b"rechecked: 7 of 7 valid\n")?);
+    Ok(())
+}
+
 // How many lines after the first are instances.
 fn count_instances(log: &[u8]) -> usize {
     let start = b"\na ".as_slice();

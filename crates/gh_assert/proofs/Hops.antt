@@ -85,9 +85,11 @@ row_14 V h x w named hop b = elim (cases_eq w x) [
 
 pub hop_rows : HopRowsHold
 hop_rows V h = record {
-  row_11 = λ x v hop. between_from (suc hop.between, hop.arrives);
-  row_12 = row_12 V h;
-  row_14 = row_14 V h;
-  row_15 = λ x v hop. hop.allocated;
+  rows = record {
+    row_11 = λ x v hop. between_from (suc hop.between, hop.arrives);
+    row_12 = row_12 V h;
+    row_14 = row_14 V h;
+    row_15 = λ x v hop. hop.allocated;
+  };
   content = λ x a named. record { allocated = a; named = named; between = 0; arrives = refl; unnamed = λ i l. absurd (omega arith) };
 }

@@ -111,12 +111,16 @@ ReadingLaw = (V : List ℕ) (h : Heap) (s : Store) (f : Formula) → IsProper h 
 abbrev pub HopsExist : Type 0
 HopsExist = (V : List ℕ) (h : Heap) (x : ℕ) → IsProper h → Owned V h → Contains V x → Allocated h x → (v : ℕ) × Hop V h x v
 
--- rows 11, 12, 14 and 15, and the hop to a named content
+-- rows 11, 12, 14 and 15 of hops among what N holds of, for any equality, betweenness and cells
+pub record LinkRows (N : ℕ → Type 0) (E : ℕ → ℕ → Type 0) (B : ℕ → ℕ → ℕ → Type 0) (H : ℕ → ℕ → Type 0) (A : ℕ → Type 0) : Type 0 where
+  pub row_11 : (x v : ℕ) → H x v → B x v v
+  pub row_12 : (x v w : ℕ) → N w → H x v → B x w w → E w x ⊎ B x v w
+  pub row_14 : (x w : ℕ) → N w → H x x → B x w w → E w x
+  pub row_15 : (x v : ℕ) → H x v → A x
+
+-- these rows in a heap, and the hop to a named content
 pub record HopRows (V : List ℕ) (h : Heap) : Type 0 where
-  pub row_11 : (x v : ℕ) → Hop V h x v → Between h x v v
-  pub row_12 : (x v w : ℕ) → Contains V w → Hop V h x v → Between h x w w → (w ≡ x) ⊎ Between h x v w
-  pub row_14 : (x w : ℕ) → Contains V w → Hop V h x x → Between h x w w → w ≡ x
-  pub row_15 : (x v : ℕ) → Hop V h x v → Allocated h x
+  pub rows : LinkRows (Contains V) (λ x y. x ≡ y) (Between h) (Hop V h) (Allocated h)
   pub content : (x : ℕ) → Allocated h x → Contains V (succ h x) → Hop V h x (succ h x)
 
 abbrev pub HopRowsHold : Type 0

@@ -1,6 +1,8 @@
 -- What an assertion says of a store and a heap.
 use Rattle.std.specs.Prelude.{◌≡◌, ℕ, List, Contains, Bool, true, false, not, ◌&&◌, ◌||◌, ◌==◌, MatchBool}
-use Rattle.gh_ast.specs.Plain.{Test, compare, negation, conjunction, disjunction, Tests, no_tests, test_first, Formula, empty, comparison, points_to, cell, segment, star, cases, Formulas, no_formulas, formula_first}
+use Rattle.gh_ast.specs.Plain.{Test, compare, negation, conjunction, disjunction, Tests, no_tests, test_first, Formula}
+use Rattle.gh_ast.specs.Plain.{empty, comparison, points_to, cell, segment, star, cases, Formulas, no_formulas}
+use Rattle.gh_ast.specs.Plain.{formula_first}
 use Rattle.gh_ast.specs.declared.Operand.{Operand}
 use Rattle.gh_ast.specs.declared.Operand.TheVariants.{Null, Var}
 use Rattle.gh_ast.specs.declared.Expr.{Expr}

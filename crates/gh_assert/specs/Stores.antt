@@ -1,5 +1,6 @@
 -- Stores as they are kept: a list of names with values.
-use Rattle.std.specs.Prelude.{◌≡◌, ◌≢◌, ℕ, ◌<◌, List, length, slice_index_or, [], ◌∷◌, map, Option, Some, None, cond, unwrap_or, AllPairs}
+use Rattle.std.specs.Prelude.{◌≡◌, ◌≢◌, ℕ, ◌<◌, List, length, slice_index_or, [], ◌∷◌, map, Option, Some, None, cond}
+use Rattle.std.specs.Prelude.{unwrap_or, AllPairs}
 use Rattle.std.specs.Str.{bytes_eq}
 use Rattle.gh_ast.specs.Programs.{Name}
 use Rattle.gh_assert.specs.declared.store.Entry.{Entry}

@@ -1,6 +1,10 @@
 //! Laws of splitting, assertions, walks and ownership.
 
-ghost use Rattle.gh_assert.specs.Laws.{SplitsCompose, MetAreProper, HaveOneFootprint, PartsAreDecided, NamesDecide, PartsSplitOff, WalksCompose, UnallocatedStay, WalksAreSimple, SegmentsExist, SegmentsAreWalks, RowsHold, WalksAreShort, TestsDecide, OnePointsThere, LastNamedExists, ReadingLaw, HopsExist, HopRowsHold, FootprintsAreOwned, FootprintsComeAndGo, CellsComeAndGo, UnionsAreOwned, HopsAreKept};
+ghost use Rattle.gh_assert.specs.Laws.{SplitsCompose, MetAreProper, HaveOneFootprint, PartsAreDecided, NamesDecide};
+ghost use Rattle.gh_assert.specs.Laws.{PartsSplitOff, WalksCompose, UnallocatedStay, WalksAreSimple, SegmentsExist};
+ghost use Rattle.gh_assert.specs.Laws.{SegmentsAreWalks, RowsHold, WalksAreShort, TestsDecide, OnePointsThere};
+ghost use Rattle.gh_assert.specs.Laws.{LastNamedExists, ReadingLaw, HopsExist, HopRowsHold, FootprintsAreOwned};
+ghost use Rattle.gh_assert.specs.Laws.{FootprintsComeAndGo, CellsComeAndGo, UnionsAreOwned, HopsAreKept};
 
 /// How heaps split.
 pub fn splits_compose()

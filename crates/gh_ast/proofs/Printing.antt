@@ -15,7 +15,7 @@ use Rattle.gh_ast.specs.Tokens.{keyword_text}
 use Rattle.gh_base.specs.declared.place.Span.{Span}
 use Rattle.gh_ast.specs.declared.Occ.{Occ}
 use Rattle.gh_ast.specs.Plain.{Test, Formula, cases, Statements, loop, test_of, tests_view, formula_of, formulas_view, statement_of, statements_view, procedure_of}
-use Rattle.gh_ast.specs.Printed.{Lexeme, reserved, mark, Adds, name_shown, targets_shown, otherwise_shown, word, word_or, parameter_shown, results_shown, locals_shown, procedure_shown, spaced, followed, joined, lexeme_text, bracketed, is_list, test_shown, tests_shown, tests_followed, is_star, formula_shown, formulas_shown, formulas_followed, statement_shown, statements_shown}
+use Rattle.gh_ast.specs.Printed.{Lexeme, reserved, mark, Adds, name_shown, targets_shown, otherwise_shown, word, word_or, parameter_shown, results_shown, locals_shown, procedure_shown, spaced, followed, with_signs, lexeme_text, bracketed, is_list, test_shown, tests_shown, tests_followed, is_star, formula_shown, formulas_shown, formulas_followed, statement_shown, statements_shown}
 use Rattle.std.specs.List.{flat_map}
 use Rattle.std.proofs.lemmas.Grind.{flat_map-append}
 
@@ -48,9 +48,9 @@ turn {A} {start} {before} {between} {after} f s xs i x h e b m a =
     (and_then b (and_then m a))
 
 pub whole_list : {A : Type 0} {start before after : List ℕ} (f : A → List Lexeme) (s : Sign) (xs rest : List A) (x : A) (i : ℕ) → xs ≡ x ∷ rest → length rest ≤ i
-    → Adds start before (f x) → Adds before after (followed f s (take i rest)) → Adds start after (joined f s xs)
+    → Adds start before (f x) → Adds before after (followed f s (take i rest)) → Adds start after (with_signs f s xs)
 whole_list {A} {start} {before} {after} f s xs rest x i e h a b =
-    subst (λ l. Adds start after (joined f s l)) (sym e) (and_then a (subst (λ l. Adds before after (followed f s l)) (take_all i rest h) b))
+    subst (λ l. Adds start after (with_signs f s l)) (sym e) (and_then a (subst (λ l. Adds before after (followed f s l)) (take_all i rest h) b))
 
 -- a test as a member of a list
 abbrev pub member_shown : Cond → List Lexeme
@@ -60,9 +60,9 @@ tests_are : (s : Sign) (xs : List Cond) → tests_followed s (tests_view xs) ≡
 tests_are s [] = refl
 tests_are s (x ∷ xs) = ap (λ t. mark s ∷ member_shown x ++ t) (tests_are s xs)
 
-pub tests_joined : (s : Sign) (xs : List Cond) → joined member_shown s xs ≡ tests_shown s (tests_view xs)
-tests_joined s [] = refl
-tests_joined s (x ∷ xs) = ap (λ t. member_shown x ++ t) (sym (tests_are s xs))
+pub tests_with_signs : (s : Sign) (xs : List Cond) → with_signs member_shown s xs ≡ tests_shown s (tests_view xs)
+tests_with_signs s [] = refl
+tests_with_signs s (x ∷ xs) = ap (λ t. member_shown x ++ t) (sym (tests_are s xs))
 
 -- a formula as a member of a list
 abbrev pub item_shown : Assertion → List Lexeme
@@ -72,9 +72,9 @@ formulas_are : (xs : List Assertion) → formulas_followed (formulas_view xs) �
 formulas_are [] = refl
 formulas_are (x ∷ xs) = ap (λ t. mark Star ∷ item_shown x ++ t) (formulas_are xs)
 
-pub formulas_joined : (xs : List Assertion) → joined item_shown Star xs ≡ formulas_shown (formulas_view xs)
-formulas_joined [] = refl
-formulas_joined (x ∷ xs) = ap (λ t. item_shown x ++ t) (sym (formulas_are xs))
+pub formulas_with_signs : (xs : List Assertion) → with_signs item_shown Star xs ≡ formulas_shown (formulas_view xs)
+formulas_with_signs [] = refl
+formulas_with_signs (x ∷ xs) = ap (λ t. item_shown x ++ t) (sym (formulas_are xs))
 
 -- one after the other
 pub each_more : {A : Type 0} {start before after : List ℕ} (f : A → List Lexeme) (xs : List A) (i : ℕ) (x : A) → i < length xs → x ≡ get_or xs i x
@@ -93,7 +93,7 @@ statements_each (x ∷ xs) = ap (λ t. statement_shown (statement_of x) ++ t) (s
 pub in_brackets : {before after : List ℕ} (b r : Bool) (ls : List Lexeme) → r ≡ b → r ≡ true → Adds before after (mark ParenOpen ∷ ls ++ mark ParenClose ∷ []) → Adds before after (bracketed b ls)
 in_brackets {before} {after} b r ls e f a = subst (λ x. Adds before after (bracketed x ls)) (sym f ∙ e) a
 
-pub some_targets : {before after : List ℕ} (xs : List Occ) (b : Bool) → b ≡ nat_eq (length xs) 0 → b ≡ false → Adds before after (joined name_shown Comma xs ++ mark Assign ∷ [])
+pub some_targets : {before after : List ℕ} (xs : List Occ) (b : Bool) → b ≡ nat_eq (length xs) 0 → b ≡ false → Adds before after (with_signs name_shown Comma xs ++ mark Assign ∷ [])
     → Adds before after (targets_shown xs)
 some_targets [] b e f a = cc
 some_targets (x ∷ xs) b e f a = a
@@ -156,19 +156,19 @@ pub as_word : {before after : List ℕ} (k : Keyword) (w : List ℕ) → Adds be
 as_word {before} {after} k w a = record { same = a.same ∙ ap (λ t. before ++ ((32 ∷ t) ++ [])) (word_is k w) }
 
 pub some_results : {before after : List ℕ} (xs : List Occ) (b : Bool) → b ≡ nat_eq (length xs) 0 → b ≡ false
-    → Adds before after (reserved Returns ∷ mark ParenOpen ∷ joined parameter_shown Comma xs ++ mark ParenClose ∷ []) → Adds before after (results_shown xs)
+    → Adds before after (reserved Returns ∷ mark ParenOpen ∷ with_signs parameter_shown Comma xs ++ mark ParenClose ∷ []) → Adds before after (results_shown xs)
 some_results [] b e f a = cc
 some_results (x ∷ xs) b e f a = a
 
 pub some_locals : {before after : List ℕ} (xs : List Occ) (b : Bool) → b ≡ nat_eq (length xs) 0 → b ≡ false
-    → Adds before after (reserved Var ∷ joined name_shown Comma xs ++ mark Colon ∷ reserved Node ∷ mark Semicolon ∷ []) → Adds before after (locals_shown xs)
+    → Adds before after (reserved Var ∷ with_signs name_shown Comma xs ++ mark Colon ∷ reserved Node ∷ mark Semicolon ∷ []) → Adds before after (locals_shown xs)
 some_locals [] b e f a = cc
 some_locals (x ∷ xs) b e f a = a
 
 -- members with a sign between two, by their plain forms
-pub joined_map : {A B : Type 0} (f : B → List Lexeme) (g : A → B) (s : Sign) (xs : List A) → joined (λ x. f (g x)) s xs ≡ joined f s (map g xs)
-joined_map f g s [] = refl
-joined_map {A} f g s (x ∷ xs) = ap (λ t. f (g x) ++ t) (rest xs)
+pub with_signs_map : {A B : Type 0} (f : B → List Lexeme) (g : A → B) (s : Sign) (xs : List A) → with_signs (λ x. f (g x)) s xs ≡ with_signs f s (map g xs)
+with_signs_map f g s [] = refl
+with_signs_map {A} f g s (x ∷ xs) = ap (λ t. f (g x) ++ t) (rest xs)
   where
     rest : (ys : List A) → followed (λ x. f (g x)) s ys ≡ followed f s (map g ys)
     rest [] = refl

@@ -16,7 +16,7 @@ use Rattle.gh_ast.specs.Plain.{Formula, Statements, Inside, Procedure, Program}
 use Rattle.gh_ast.specs.Tokens.{Token, named, key, sign, keyword_text, first_place}
 use Rattle.gh_ast.specs.TokenLaws.{IsNameWord}
 use Rattle.gh_ast.specs.Grammar as g
-use Rattle.gh_ast.specs.Printed.{Lexeme, word, reserved, mark, joined, name_shown, formula_shown, statements_shown, word_or, field_shown, parameter_shown, results_shown, locals_shown, body_shown, alternatives_shown, procedure_shown, program_shown}
+use Rattle.gh_ast.specs.Printed.{Lexeme, word, reserved, mark, with_signs, name_shown, formula_shown, statements_shown, word_or, field_shown, parameter_shown, results_shown, locals_shown, body_shown, alternatives_shown, procedure_shown, program_shown}
 use Rattle.gh_ast.specs.Bare.{bare_occ, bare_formula, bare_statements, bare_inside, bare_field, bare_procedure, bare_program}
 use Rattle.gh_ast.proofs.Printing.{no_more}
 use Rattle.gh_ast.proofs.Good.{GoodFormula, GoodStatements, GoodBody, GoodAlternatives, GoodProcedure, GoodWord, GoodField, GoodProgram, AllGood}
@@ -24,7 +24,7 @@ use Rattle.gh_ast.proofs.Respelling.{shapes, IsRespelled, take_key, take_sign, t
 use Rattle.gh_ast.proofs.FormulasAgain.{assoc3, is_sep, formula_again}
 use Rattle.gh_ast.proofs.StatementsAgain.{heads, no_key, statements_again}
 
-params_again : (x : Occ) (xs : List Occ) (us : List Token) (rest : List Lexeme) → shapes us ≡ joined parameter_shown sg.Comma (x ∷ xs) ++ mark sg.ParenClose ∷ rest
+params_again : (x : Occ) (xs : List Occ) (us : List Token) (rest : List Lexeme) → shapes us ≡ with_signs parameter_shown sg.Comma (x ∷ xs) ++ mark sg.ParenClose ∷ rest
     → IsRespelled g.SpellsParams (map bare_occ) us (x ∷ xs) rest
 params_again x [] us rest e =
     let w = take_name x us (mark sg.Colon ∷ reserved kw.Node ∷ mark sg.ParenClose ∷ rest) e in
@@ -34,7 +34,7 @@ params_again x [] us rest e =
     let here = w.here ∙ ap (λ u. named w.value ∷ u) (c.here ∙ ap (λ u. sign sg.Colon c.place ∷ u) (k.here ∙ ap (λ u. key kw.Node k.place ∷ u) p.here)) in
     record { value = w.value ∷ []; after = p.after; spells = subst (λ u. g.SpellsParams u (w.value ∷ []) p.after) (sym here) g.last_param; left = p.left; same = ap (λ v. v ∷ []) w.same }
 params_again x (y ∷ xs) us rest e =
-    let more = joined parameter_shown sg.Comma (y ∷ xs) ++ mark sg.ParenClose ∷ rest in
+    let more = with_signs parameter_shown sg.Comma (y ∷ xs) ++ mark sg.ParenClose ∷ rest in
     let w = take_name x us (mark sg.Colon ∷ reserved kw.Node ∷ mark sg.Comma ∷ more) e in
     let c = take_sign sg.Colon w.after (reserved kw.Node ∷ mark sg.Comma ∷ more) w.left in
     let k = take_key kw.Node c.after (mark sg.Comma ∷ more) c.left in
@@ -49,7 +49,7 @@ params_again x (y ∷ xs) us rest e =
       same = ap (λ v. v ∷ map bare_occ r.value) w.same ∙ ap (λ v. bare_occ x ∷ v) r.same;
     }
 
-header_again : (xs : List Occ) (us : List Token) (rest : List Lexeme) → shapes us ≡ joined parameter_shown sg.Comma xs ++ mark sg.ParenClose ∷ rest
+header_again : (xs : List Occ) (us : List Token) (rest : List Lexeme) → shapes us ≡ with_signs parameter_shown sg.Comma xs ++ mark sg.ParenClose ∷ rest
     → IsRespelled g.SpellsHeader (map bare_occ) us xs rest
 header_again [] us rest e =
     let p = take_sign sg.ParenClose us rest e in
@@ -66,7 +66,7 @@ results_again : (xs : List Occ) (us : List Token) (rest : List Lexeme) → shape
 results_again [] us rest e n =
     record { value = []; after = us; spells = g.no_results (no_key is_returns kw.Returns us rest refl e n); left = e; same = refl }
 results_again (x ∷ xs) us rest e n =
-    let list = joined parameter_shown sg.Comma (x ∷ xs) in
+    let list = with_signs parameter_shown sg.Comma (x ∷ xs) in
     let k = take_key kw.Returns us (mark sg.ParenOpen ∷ (list ++ mark sg.ParenClose ∷ []) ++ rest) e in
     let p = take_sign sg.ParenOpen k.after ((list ++ mark sg.ParenClose ∷ []) ++ rest) k.left in
     let r = header_again (x ∷ xs) p.after rest (p.left ∙ append_assoc list (mark sg.ParenClose ∷ []) rest) in
@@ -116,7 +116,7 @@ ensures_again (f ∷ fs) h us rest e n m =
     record { value = r.value; after = r.after; spells = subst (λ u. g.SpellsEnsures u r.value r.after) (sym w.here) (g.a_clause r.spells); left = r.left; same = r.same }
 
 locals_again : (x : Occ) (xs : List Occ) (us : List Token) (rest : List Lexeme)
-    → shapes us ≡ joined name_shown sg.Comma (x ∷ xs) ++ mark sg.Colon ∷ reserved kw.Node ∷ mark sg.Semicolon ∷ rest → IsRespelled g.SpellsLocals (map bare_occ) us (x ∷ xs) rest
+    → shapes us ≡ with_signs name_shown sg.Comma (x ∷ xs) ++ mark sg.Colon ∷ reserved kw.Node ∷ mark sg.Semicolon ∷ rest → IsRespelled g.SpellsLocals (map bare_occ) us (x ∷ xs) rest
 locals_again x [] us rest e =
     let w = take_name x us (mark sg.Colon ∷ reserved kw.Node ∷ mark sg.Semicolon ∷ rest) e in
     let c = take_sign sg.Colon w.after (reserved kw.Node ∷ mark sg.Semicolon ∷ rest) w.left in
@@ -125,7 +125,7 @@ locals_again x [] us rest e =
     let here = w.here ∙ ap (λ u. named w.value ∷ u) (c.here ∙ ap (λ u. sign sg.Colon c.place ∷ u) (k.here ∙ ap (λ u. key kw.Node k.place ∷ u) p.here)) in
     record { value = w.value ∷ []; after = p.after; spells = subst (λ u. g.SpellsLocals u (w.value ∷ []) p.after) (sym here) g.last_local; left = p.left; same = ap (λ v. v ∷ []) w.same }
 locals_again x (y ∷ xs) us rest e =
-    let more = joined name_shown sg.Comma (y ∷ xs) ++ mark sg.Colon ∷ reserved kw.Node ∷ mark sg.Semicolon ∷ rest in
+    let more = with_signs name_shown sg.Comma (y ∷ xs) ++ mark sg.Colon ∷ reserved kw.Node ∷ mark sg.Semicolon ∷ rest in
     let w = take_name x us (mark sg.Comma ∷ more) e in
     let c = take_sign sg.Comma w.after more w.left in
     let r = locals_again y xs c.after rest c.left in
@@ -153,7 +153,7 @@ without_locals a h c us rest e =
 inside_again : (xs : List Occ) (a : Statements) → GoodStatements a → AsInside xs a
 inside_again [] a h c us rest e = without_locals a h c us rest (e ∙ append_assoc (statements_shown a) (mark sg.BraceClose ∷ []) rest)
 inside_again (x ∷ xs) a h c us rest e =
-    let names = joined name_shown sg.Comma (x ∷ xs) in
+    let names = with_signs name_shown sg.Comma (x ∷ xs) in
     let more = statements_shown a ++ mark sg.BraceClose ∷ rest in
     let k = take_key kw.Var us (names ++ mark sg.Colon ∷ reserved kw.Node ∷ mark sg.Semicolon ∷ more)
     (e ∙ assoc3 (locals_shown (x ∷ xs)) (statements_shown a) (mark sg.BraceClose ∷ []) rest
@@ -206,7 +206,7 @@ body_starts (Some b) rest = refl
 
 procedure_again : (p : Procedure) → GoodProcedure p → (us : List Token) (rest : List Lexeme) → shapes us ≡ procedure_shown p ++ rest → IsRespelled g.SpellsProcedure bare_procedure us p rest
 procedure_again p h us rest e =
-    let params = joined parameter_shown sg.Comma p.parameters in
+    let params = with_signs parameter_shown sg.Comma p.parameters in
     let r5 = body_shown p.body ++ rest in
     let r4 = reserved kw.Ensures ∷ alternatives_shown p.gives ++ r5 in
     let r3 = reserved kw.Requires ∷ formula_shown p.needs ++ r4 in

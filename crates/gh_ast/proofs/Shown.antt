@@ -14,7 +14,7 @@ use Rattle.gh_ast.specs.declared.sign.Keyword.TheVariants as kw
 use Rattle.gh_ast.specs.Plain.{Test, compare, negation, conjunction, disjunction, Tests, no_tests, test_first, Formula, empty, comparison, points_to, cell, segment, star, cases, Formulas, no_formulas, formula_first, Statement, set, new, write, free, call, choice, loop, give, Statements, no_statements, statement_first, Inside, Procedure, Program}
 use Rattle.gh_ast.specs.Tokens.{first_place, cleared}
 use Rattle.gh_ast.specs.TokenLaws.{IsLexeme, AreLexemes}
-use Rattle.gh_ast.specs.Printed.{Lexeme, word, reserved, mark, followed, joined, name_shown, operand_shown, expr_shown, equality, bracketed, is_list, test_shown, tests_shown, tests_followed, is_star, formula_shown, formulas_shown, formulas_followed, targets_shown, statement_shown, statements_shown, otherwise_shown, word_or, field_shown, parameter_shown, results_shown, locals_shown, body_shown, alternatives_shown, procedure_shown, program_shown}
+use Rattle.gh_ast.specs.Printed.{Lexeme, word, reserved, mark, followed, with_signs, name_shown, operand_shown, expr_shown, equality, bracketed, is_list, test_shown, tests_shown, tests_followed, is_star, formula_shown, formulas_shown, formulas_followed, targets_shown, statement_shown, statements_shown, otherwise_shown, word_or, field_shown, parameter_shown, results_shown, locals_shown, body_shown, alternatives_shown, procedure_shown, program_shown}
 use Rattle.gh_ast.specs.Bare.{ReadBack}
 use Rattle.gh_ast.proofs.Good.{GoodOcc, GoodOperand, GoodExpr, AllGood, GoodTest, GoodTests, GoodFormula, GoodFormulas, SomeGood, GoodStatement, GoodStatements, GoodBody, GoodAlternatives, GoodProcedure, GoodWord, GoodField, GoodProgram, tokens_are_good, program_is_good}
 use Rattle.gh_ast.proofs.ProgramsAgain.{free_word, key_word, program_again}
@@ -31,9 +31,9 @@ followed_ok : {A : Type 0} (f : A → List Lexeme) (s : Sign) (xs : List A) → 
 followed_ok f s [] h = tt
 followed_ok f s (x ∷ xs) h = (tt, join (f x) (followed f s xs) h.0 (followed_ok f s xs h.1))
 
-joined_ok : {A : Type 0} (f : A → List Lexeme) (s : Sign) (xs : List A) → AllGood (Shows f) xs → AreLexemes (joined f s xs)
-joined_ok f s [] h = tt
-joined_ok f s (x ∷ xs) h = join (f x) (followed f s xs) h.0 (followed_ok f s xs h.1)
+with_signs_ok : {A : Type 0} (f : A → List Lexeme) (s : Sign) (xs : List A) → AllGood (Shows f) xs → AreLexemes (with_signs f s xs)
+with_signs_ok f s [] h = tt
+with_signs_ok f s (x ∷ xs) h = join (f x) (followed f s xs) h.0 (followed_ok f s xs h.1)
 
 each_ok : {A : Type 0} (f : A → List Lexeme) (xs : List A) → AllGood (Shows f) xs → AreLexemes (flat_map f xs)
 each_ok f [] h = tt
@@ -124,24 +124,24 @@ mutual
   items_ok no_formulas h = tt
   items_ok (formula_first x l) h = (formula_ok x h.0, items_ok l h.1)
 
-exprs_ok : (es : List Expr) → SomeGood es → AreLexemes (joined expr_shown sg.Comma es)
-exprs_ok es h = joined_ok expr_shown sg.Comma es (weaker (GoodExpr true) (Shows expr_shown) (expr_ok true) es h)
+exprs_ok : (es : List Expr) → SomeGood es → AreLexemes (with_signs expr_shown sg.Comma es)
+exprs_ok es h = with_signs_ok expr_shown sg.Comma es (weaker (GoodExpr true) (Shows expr_shown) (expr_ok true) es h)
 
 name_ok : (o : Occ) → GoodOcc o → AreLexemes (name_shown o)
 name_ok o h = (h, tt)
 
-names_ok : (xs : List Occ) → AllGood GoodOcc xs → AreLexemes (joined name_shown sg.Comma xs)
-names_ok xs h = joined_ok name_shown sg.Comma xs (weaker GoodOcc (Shows name_shown) name_ok xs h)
+names_ok : (xs : List Occ) → AllGood GoodOcc xs → AreLexemes (with_signs name_shown sg.Comma xs)
+names_ok xs h = with_signs_ok name_shown sg.Comma xs (weaker GoodOcc (Shows name_shown) name_ok xs h)
 
 parameter_ok : (o : Occ) → GoodOcc o → AreLexemes (parameter_shown o)
 parameter_ok o h = (h, (tt, (tt, tt)))
 
-parameters_ok : (xs : List Occ) → AllGood GoodOcc xs → AreLexemes (joined parameter_shown sg.Comma xs)
-parameters_ok xs h = joined_ok parameter_shown sg.Comma xs (weaker GoodOcc (Shows parameter_shown) parameter_ok xs h)
+parameters_ok : (xs : List Occ) → AllGood GoodOcc xs → AreLexemes (with_signs parameter_shown sg.Comma xs)
+parameters_ok xs h = with_signs_ok parameter_shown sg.Comma xs (weaker GoodOcc (Shows parameter_shown) parameter_ok xs h)
 
 targets_ok : (xs : List Occ) → AllGood GoodOcc xs → AreLexemes (targets_shown xs)
 targets_ok [] h = tt
-targets_ok (x ∷ xs) h = join (joined name_shown sg.Comma (x ∷ xs)) (mark sg.Assign ∷ []) (names_ok (x ∷ xs) h) (tt, tt)
+targets_ok (x ∷ xs) h = join (with_signs name_shown sg.Comma (x ∷ xs)) (mark sg.Assign ∷ []) (names_ok (x ∷ xs) h) (tt, tt)
 
 closed_ok : (e : Expr) → GoodExpr true e → AreLexemes (expr_shown e ++ mark sg.Semicolon ∷ [])
 closed_ok e h = join (expr_shown e) (mark sg.Semicolon ∷ []) (expr_ok true e h) (tt, tt)
@@ -169,11 +169,11 @@ mutual
   statement_ok (write o e) h = (h.0, (tt, (tt, (tt, closed_ok e h.1))))
   statement_ok (free o) h = (tt, (h, (tt, tt)))
   statement_ok (call xs f es) h =
-      join (targets_shown xs ++ word f.name ∷ mark sg.ParenOpen ∷ joined expr_shown sg.Comma es) (mark sg.ParenClose ∷ mark sg.Semicolon ∷ [])
-      (join (targets_shown xs) (word f.name ∷ mark sg.ParenOpen ∷ joined expr_shown sg.Comma es) (targets_ok xs h.0) (h.1, (tt, exprs_ok es h.2))) (tt, (tt, tt))
+      join (targets_shown xs ++ word f.name ∷ mark sg.ParenOpen ∷ with_signs expr_shown sg.Comma es) (mark sg.ParenClose ∷ mark sg.Semicolon ∷ [])
+      (join (targets_shown xs) (word f.name ∷ mark sg.ParenOpen ∷ with_signs expr_shown sg.Comma es) (targets_ok xs h.0) (h.1, (tt, exprs_ok es h.2))) (tt, (tt, tt))
   statement_ok (choice t a c b d) h = choice_ok (test_shown t) (statements_shown a) b (test_ok true t h.0) (statements_ok a h.1) (statements_ok b h.2)
   statement_ok (loop p t i a c) h = loop_ok (test_shown t) (formula_shown i) (statements_shown a) (test_ok true t h.0) (formula_ok i h.1) (statements_ok a h.2)
-  statement_ok (give p es) h = (tt, join (joined expr_shown sg.Comma es) (mark sg.Semicolon ∷ []) (exprs_ok es h) (tt, tt))
+  statement_ok (give p es) h = (tt, join (with_signs expr_shown sg.Comma es) (mark sg.Semicolon ∷ []) (exprs_ok es h) (tt, tt))
 
   statements_ok : (a : Statements) → GoodStatements a → AreLexemes (statements_shown a)
   statements_ok no_statements h = tt
@@ -188,11 +188,11 @@ field_ok f h = (tt, (word_ok kw.Next f.name.name h.name, (tt, (word_ok kw.Node f
 
 results_ok : (xs : List Occ) → AllGood GoodOcc xs → AreLexemes (results_shown xs)
 results_ok [] h = tt
-results_ok (x ∷ xs) h = (tt, (tt, join (joined parameter_shown sg.Comma (x ∷ xs)) (mark sg.ParenClose ∷ []) (parameters_ok (x ∷ xs) h) (tt, tt)))
+results_ok (x ∷ xs) h = (tt, (tt, join (with_signs parameter_shown sg.Comma (x ∷ xs)) (mark sg.ParenClose ∷ []) (parameters_ok (x ∷ xs) h) (tt, tt)))
 
 locals_ok : (xs : List Occ) → AllGood GoodOcc xs → AreLexemes (locals_shown xs)
 locals_ok [] h = tt
-locals_ok (x ∷ xs) h = (tt, join (joined name_shown sg.Comma (x ∷ xs)) (mark sg.Colon ∷ reserved kw.Node ∷ mark sg.Semicolon ∷ []) (names_ok (x ∷ xs) h) (tt, (tt, (tt, tt))))
+locals_ok (x ∷ xs) h = (tt, join (with_signs name_shown sg.Comma (x ∷ xs)) (mark sg.Colon ∷ reserved kw.Node ∷ mark sg.Semicolon ∷ []) (names_ok (x ∷ xs) h) (tt, (tt, (tt, tt))))
 
 body_ok : (b : Option Inside) → GoodBody b → AreLexemes (body_shown b)
 body_ok None h = (tt, tt)
@@ -204,7 +204,7 @@ body_ok (Some b) h = (
 
 alternatives_ok : (fs : List Formula) → GoodAlternatives fs → AreLexemes (alternatives_shown fs)
 alternatives_ok [] h = absurd h
-alternatives_ok (f ∷ fs) h = joined_ok formula_shown sg.Or (f ∷ fs) (formula_ok f h.0, all_ok fs h.1)
+alternatives_ok (f ∷ fs) h = with_signs_ok formula_shown sg.Or (f ∷ fs) (formula_ok f h.0, all_ok fs h.1)
   where
     all_ok : (l : List Formula) → AllGood GoodFormula l → AllGood (λ x. AreLexemes (formula_shown x)) l
     all_ok [] hs = tt
@@ -212,7 +212,7 @@ alternatives_ok (f ∷ fs) h = joined_ok formula_shown sg.Or (f ∷ fs) (formula
 
 procedure_ok : (p : Procedure) → GoodProcedure p → AreLexemes (procedure_shown p)
 procedure_ok p h =
-    let params = joined parameter_shown sg.Comma p.parameters in
+    let params = with_signs parameter_shown sg.Comma p.parameters in
     let a = params ++ mark sg.ParenClose ∷ [] in
     let b = a ++ results_shown p.results in
     let c = b ++ reserved kw.Requires ∷ formula_shown p.needs in

@@ -11,7 +11,7 @@ use Rattle.gh_ast.specs.declared.sign.Keyword.TheVariants as kw
 use Rattle.gh_ast.specs.Plain.{Test, Formula, Statement, set, new, write, free, call, choice, loop, give, Statements, no_statements, statement_first}
 use Rattle.gh_ast.specs.Tokens.{Token, named, key, sign, first_place}
 use Rattle.gh_ast.specs.Grammar as g
-use Rattle.gh_ast.specs.Printed.{Lexeme, word, reserved, mark, followed, joined, name_shown, expr_shown, test_shown, formula_shown, statement_shown, statements_shown, otherwise_shown}
+use Rattle.gh_ast.specs.Printed.{Lexeme, word, reserved, mark, followed, with_signs, name_shown, expr_shown, test_shown, formula_shown, statement_shown, statements_shown, otherwise_shown}
 use Rattle.gh_ast.specs.Bare.{bare_occ, bare_expr, bare_test, bare_formula, bare_statement, bare_statements}
 use Rattle.gh_ast.proofs.Printing.{no_more}
 use Rattle.gh_ast.proofs.Good.{GoodExpr, SomeGood, GoodStatement, GoodStatements}
@@ -33,7 +33,7 @@ pub no_key : (f : Keyword → Bool) (k : Keyword) (us : List Token) (rest : List
 no_key f k us rest t e m p after h =
     both_ways (heads f rest) m (subst (λ x. heads f x ≡ true) e (subst (λ u. heads f (shapes u) ≡ true) (sym h) t))
 
-targets_again : (x : Occ) (xs : List Occ) (us : List Token) (rest : List Lexeme) → shapes us ≡ joined name_shown sg.Comma (x ∷ xs) ++ mark sg.Assign ∷ rest
+targets_again : (x : Occ) (xs : List Occ) (us : List Token) (rest : List Lexeme) → shapes us ≡ with_signs name_shown sg.Comma (x ∷ xs) ++ mark sg.Assign ∷ rest
     → IsRespelled g.SpellsTargets (map bare_occ) us (x ∷ xs) rest
 targets_again x [] us rest e =
     let w = take_name x us (mark sg.Assign ∷ rest) e in
@@ -41,7 +41,7 @@ targets_again x [] us rest e =
     record { value = w.value ∷ []; after = a.after; spells = subst (λ u. g.SpellsTargets u (w.value ∷ []) a.after) (sym (w.here ∙ ap (λ u. named w.value ∷ u) a.here)) g.last_target; left = a.left; same = ap (λ v. v ∷ []) w.same }
 targets_again x (y ∷ xs) us rest e =
     let w = take_name x us (followed name_shown sg.Comma (y ∷ xs) ++ mark sg.Assign ∷ rest) e in
-    let c = take_sign sg.Comma w.after (joined name_shown sg.Comma (y ∷ xs) ++ mark sg.Assign ∷ rest) w.left in
+    let c = take_sign sg.Comma w.after (with_signs name_shown sg.Comma (y ∷ xs) ++ mark sg.Assign ∷ rest) w.left in
     let r = targets_again y xs c.after rest c.left in
     record {
       value = w.value ∷ r.value;
@@ -52,14 +52,14 @@ targets_again x (y ∷ xs) us rest e =
     }
 
 exprs_again : (close : Sign) (x : Expr) (xs : List Expr) → is_dot close ≡ false → SomeGood (x ∷ xs) → (us : List Token) (rest : List Lexeme)
-    → shapes us ≡ joined expr_shown sg.Comma (x ∷ xs) ++ mark close ∷ rest → IsRespelled (g.SpellsExprs close) (map bare_expr) us (x ∷ xs) rest
+    → shapes us ≡ with_signs expr_shown sg.Comma (x ∷ xs) ++ mark close ∷ rest → IsRespelled (g.SpellsExprs close) (map bare_expr) us (x ∷ xs) rest
 exprs_again close x [] d h us rest e =
     let a = expr_again true us x (mark close ∷ rest) h.0 (e ∙ ap (λ v. v ++ mark close ∷ rest) (no_more (expr_shown x))) d in
     let c = take_sign close a.after rest a.left in
     record { value = a.value ∷ []; after = c.after; spells = g.last_expr (subst (λ u. g.SpellsExpr true us a.value u) c.here a.spells); left = c.left; same = ap (λ v. v ∷ []) a.same }
 exprs_again close x (y ∷ xs) d h us rest e =
     let a = expr_again true us x (followed expr_shown sg.Comma (y ∷ xs) ++ mark close ∷ rest) h.0 (e ∙ append_assoc (expr_shown x) (followed expr_shown sg.Comma (y ∷ xs)) (mark close ∷ rest)) refl in
-    let c = take_sign sg.Comma a.after (joined expr_shown sg.Comma (y ∷ xs) ++ mark close ∷ rest) a.left in
+    let c = take_sign sg.Comma a.after (with_signs expr_shown sg.Comma (y ∷ xs) ++ mark close ∷ rest) a.left in
     let r = exprs_again close y xs d h.1 c.after rest c.left in
     record {
       value = a.value ∷ r.value;
@@ -70,7 +70,7 @@ exprs_again close x (y ∷ xs) d h us rest e =
     }
 
 values_again : (close : Sign) (xs : List Expr) → is_dot close ≡ false → SomeGood xs → (us : List Token) (rest : List Lexeme)
-    → shapes us ≡ joined expr_shown sg.Comma xs ++ mark close ∷ rest → IsRespelled (g.SpellsValues close) (map bare_expr) us xs rest
+    → shapes us ≡ with_signs expr_shown sg.Comma xs ++ mark close ∷ rest → IsRespelled (g.SpellsValues close) (map bare_expr) us xs rest
 values_again close [] d h us rest e =
     let c = take_sign close us rest e in
     record { value = []; after = c.after; spells = subst (λ u. g.SpellsValues close u [] c.after) (sym c.here) g.no_values; left = c.left; same = refl }
@@ -136,9 +136,9 @@ free_again o us rest e n =
 
 call_again : (xs : List Occ) (f : Occ) (es : List Expr) → SomeGood es → AsStatement (call xs f es)
 call_again [] f es h us rest e n =
-    let body = joined expr_shown sg.Comma es ++ mark sg.ParenClose ∷ mark sg.Semicolon ∷ rest in
+    let body = with_signs expr_shown sg.Comma es ++ mark sg.ParenClose ∷ mark sg.Semicolon ∷ rest in
     let w = take_name f us (mark sg.ParenOpen ∷ body)
-    (e ∙ ap (λ v. word f.name ∷ mark sg.ParenOpen ∷ v) (append_assoc (joined expr_shown sg.Comma es) (mark sg.ParenClose ∷ mark sg.Semicolon ∷ []) rest)) in
+    (e ∙ ap (λ v. word f.name ∷ mark sg.ParenOpen ∷ v) (append_assoc (with_signs expr_shown sg.Comma es) (mark sg.ParenClose ∷ mark sg.Semicolon ∷ []) rest)) in
     let p = take_sign sg.ParenOpen w.after body w.left in
     let v = values_again sg.ParenClose es refl h p.after (mark sg.Semicolon ∷ rest) p.left in
     let c = take_sign sg.Semicolon v.after rest v.left in
@@ -152,9 +152,9 @@ call_again [] f es h us rest e n =
       same = ap (λ x. call [] x (map bare_expr v.value)) w.same ∙ ap (call [] (bare_occ f)) v.same;
     }
 call_again (x ∷ xs) f es h us rest e n =
-    let body = joined expr_shown sg.Comma es ++ mark sg.ParenClose ∷ mark sg.Semicolon ∷ rest in
+    let body = with_signs expr_shown sg.Comma es ++ mark sg.ParenClose ∷ mark sg.Semicolon ∷ rest in
     let t = targets_again x xs us (word f.name ∷ mark sg.ParenOpen ∷ body)
-    (e ∙ assoc4 (joined name_shown sg.Comma (x ∷ xs)) (mark sg.Assign ∷ []) (word f.name ∷ mark sg.ParenOpen ∷ joined expr_shown sg.Comma es) (mark sg.ParenClose ∷ mark sg.Semicolon ∷ []) rest) in
+    (e ∙ assoc4 (with_signs name_shown sg.Comma (x ∷ xs)) (mark sg.Assign ∷ []) (word f.name ∷ mark sg.ParenOpen ∷ with_signs expr_shown sg.Comma es) (mark sg.ParenClose ∷ mark sg.Semicolon ∷ []) rest) in
     let w = take_name f t.after (mark sg.ParenOpen ∷ body) t.left in
     let p = take_sign sg.ParenOpen w.after body w.left in
     let v = values_again sg.ParenClose es refl h p.after (mark sg.Semicolon ∷ rest) p.left in
@@ -171,7 +171,7 @@ call_again (x ∷ xs) f es h us rest e n =
 
 give_again : (p : Span) (es : List Expr) → SomeGood es → AsStatement (give p es)
 give_again q es h us rest e n =
-    let k = take_key kw.Return us (joined expr_shown sg.Comma es ++ mark sg.Semicolon ∷ rest) (e ∙ ap (λ v. reserved kw.Return ∷ v) (append_assoc (joined expr_shown sg.Comma es) (mark sg.Semicolon ∷ []) rest)) in
+    let k = take_key kw.Return us (with_signs expr_shown sg.Comma es ++ mark sg.Semicolon ∷ rest) (e ∙ ap (λ v. reserved kw.Return ∷ v) (append_assoc (with_signs expr_shown sg.Comma es) (mark sg.Semicolon ∷ []) rest)) in
     let v = values_again sg.Semicolon es refl h k.after rest k.left in
     record { value = give k.place v.value; after = v.after; spells = subst (λ u. g.SpellsStatement u (give k.place v.value) v.after) (sym k.here) (g.a_return v.spells); left = v.left; same = ap (give first_place) v.same }
 

@@ -7,7 +7,10 @@ use Rattle.gh_ast.specs.declared.Operand.TheVariants as operand
 use Rattle.gh_ast.specs.declared.Expr.{Expr}
 use Rattle.gh_ast.specs.declared.Expr.TheVariants as expr
 use Rattle.gh_ast.specs.declared.Field.{Field}
-use Rattle.gh_ast.specs.Plain.{Test, compare, negation, conjunction, disjunction, Tests, no_tests, test_first, Formula, empty, comparison, points_to, cell, segment, star, cases, Formulas, no_formulas, formula_first, Statement, set, new, write, free, call, choice, loop, give, Statements, no_statements, statement_first, Inside, Procedure, Program}
+use Rattle.gh_ast.specs.Plain.{Test, compare, negation, conjunction, disjunction, Tests, no_tests, test_first, Formula}
+use Rattle.gh_ast.specs.Plain.{empty, comparison, points_to, cell, segment, star, cases, Formulas, no_formulas}
+use Rattle.gh_ast.specs.Plain.{formula_first, Statement, set, new, write, free, call, choice, loop, give, Statements}
+use Rattle.gh_ast.specs.Plain.{no_statements, statement_first, Inside, Procedure, Program}
 use Rattle.gh_ast.specs.Tokens.{first_place}
 use Rattle.gh_ast.specs.Grammar.{Spells}
 use Rattle.gh_ast.specs.Printed.{program_text}

@@ -12,7 +12,10 @@ use Rattle.gh_ast.specs.declared.sign.Sign.{Sign}
 use Rattle.gh_ast.specs.declared.sign.Sign.TheVariants as sg
 use Rattle.gh_ast.specs.declared.sign.Keyword.{Keyword}
 use Rattle.gh_ast.specs.declared.sign.Keyword.TheVariants as kw
-use Rattle.gh_ast.specs.Plain.{Test, compare, negation, conjunction, disjunction, Tests, no_tests, test_first, Formula, empty, comparison, points_to, cell, segment, star, cases, Formulas, no_formulas, formula_first, Statement, set, new, write, free, call, choice, loop, give, Statements, no_statements, statement_first, Inside, Procedure, Program}
+use Rattle.gh_ast.specs.Plain.{Test, compare, negation, conjunction, disjunction, Tests, no_tests, test_first, Formula}
+use Rattle.gh_ast.specs.Plain.{empty, comparison, points_to, cell, segment, star, cases, Formulas, no_formulas}
+use Rattle.gh_ast.specs.Plain.{formula_first, Statement, set, new, write, free, call, choice, loop, give, Statements}
+use Rattle.gh_ast.specs.Plain.{no_statements, statement_first, Inside, Procedure, Program}
 use Rattle.gh_ast.specs.Tokens.{Token, named, key, sign, HasTokens}
 
 -- the next token isn't this sign, or this reserved word

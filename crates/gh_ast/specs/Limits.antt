@@ -1,9 +1,11 @@
 -- The limits on a program's text: its procedures, the variables of a procedure, the atoms of what it requires, ensures or keeps in a loop.
-use Rattle.std.specs.Prelude.{◌≡◌, ℕ, ◌+◌, ◌<◌, ◌≤◌, List, [], ◌∷◌, ◌++◌, length, map, sum, Option, None, Some, All, Any, min}
+use Rattle.std.specs.Prelude.{◌≡◌, ℕ, ◌+◌, ◌<◌, ◌≤◌, List, [], ◌∷◌, ◌++◌, length, map, sum, Option, None, Some, All}
+use Rattle.std.specs.Prelude.{Any, min}
 use Rattle.std.specs.List.{HoldsAt}
 use Rattle.gh_ast.specs.Plain.{Test, compare, negation, conjunction, disjunction, Tests, no_tests, test_first}
 use Rattle.gh_ast.specs.Plain.{Formula, star, cases, Formulas, no_formulas, formula_first}
-use Rattle.gh_ast.specs.Plain.{Statement, choice, loop, Statements, no_statements, statement_first, Inside, Procedure, Program}
+use Rattle.gh_ast.specs.Plain.{Statement, choice, loop, Statements, no_statements, statement_first, Inside, Procedure}
+use Rattle.gh_ast.specs.Plain.{Program}
 use Rattle.gh_ast.specs.Lists.{IsFirstWith}
 use Rattle.gh_ast.specs.Occurrences.{variables_of}
 use Rattle.gh_ast.specs.declared.typed.Limit.{Limit}
@@ -49,6 +51,11 @@ invariants_in_body (Some b) = all_invariants_in b.statements
 abbrev pub atom_counts : Procedure → List ℕ
 atom_counts q = atoms q.needs ∷ sum (map atoms q.gives) ∷ map atoms (invariants_in_body q.body)
 
+-- the longest program text, in bytes
+abbrev pub most_bytes : ℕ
+most_bytes = 1048576
+
+-- the most procedures of a program, variables of a procedure, and atoms of an assertion
 abbrev pub most_procedures : ℕ
 most_procedures = 256
 
@@ -58,12 +65,14 @@ most_variables = 32
 abbrev pub most_atoms : ℕ
 most_atoms = 32
 
+-- one of these is passed
 abbrev pub HasManyVariables : Procedure → Type 0
 HasManyVariables q = most_variables < length (variables_of q)
 
 abbrev pub HasManyAtomsSomewhere : Procedure → Type 0
 HasManyAtomsSomewhere q = Any (λ n. most_atoms < n) (atom_counts q)
 
+-- none is
 abbrev pub AreFew : Program → Type 0
 AreFew p = length p.procedures ≤ most_procedures
 

@@ -13,7 +13,10 @@ use Rattle.gh_ast.specs.declared.sign.Sign.{Sign}
 use Rattle.gh_ast.specs.declared.sign.Sign.TheVariants as sg
 use Rattle.gh_ast.specs.declared.sign.Keyword.{Keyword}
 use Rattle.gh_ast.specs.declared.sign.Keyword.TheVariants as kw
-use Rattle.gh_ast.specs.Plain.{Test, compare, negation, conjunction, disjunction, Tests, no_tests, test_first, Formula, empty, comparison, points_to, cell, segment, star, cases, Formulas, no_formulas, formula_first, Statement, set, new, write, free, call, choice, loop, give, Statements, no_statements, statement_first, Inside, Procedure, Program}
+use Rattle.gh_ast.specs.Plain.{Test, compare, negation, conjunction, disjunction, Tests, no_tests, test_first, Formula}
+use Rattle.gh_ast.specs.Plain.{empty, comparison, points_to, cell, segment, star, cases, Formulas, no_formulas}
+use Rattle.gh_ast.specs.Plain.{formula_first, Statement, set, new, write, free, call, choice, loop, give, Statements}
+use Rattle.gh_ast.specs.Plain.{no_statements, statement_first, Inside, Procedure, Program}
 use Rattle.gh_ast.specs.Tokens.{Token, named, key, sign, sign_text, keyword_text}
 
 -- a token without its place
@@ -51,9 +54,9 @@ abbrev pub followed : {A : Type 0} → (A → List Lexeme) → Sign → List A �
 followed f s [] = []
 followed f s (x ∷ xs) = mark s ∷ f x ++ followed f s xs
 
-abbrev pub joined : {A : Type 0} → (A → List Lexeme) → Sign → List A → List Lexeme
-joined f s [] = []
-joined f s (x ∷ xs) = f x ++ followed f s xs
+abbrev pub with_signs : {A : Type 0} → (A → List Lexeme) → Sign → List A → List Lexeme
+with_signs f s [] = []
+with_signs f s (x ∷ xs) = f x ++ followed f s xs
 
 abbrev pub name_shown : Occ → List Lexeme
 name_shown o = word o.name ∷ []
@@ -140,10 +143,10 @@ member_shown f = bracketed (is_star f) (formula_shown f)
 -- the targets of a call and `:=`, where there are some
 abbrev pub targets_shown : List Occ → List Lexeme
 targets_shown [] = []
-targets_shown (x ∷ xs) = joined name_shown sg.Comma (x ∷ xs) ++ mark sg.Assign ∷ []
+targets_shown (x ∷ xs) = with_signs name_shown sg.Comma (x ∷ xs) ++ mark sg.Assign ∷ []
 
 abbrev pub return_shown : List Expr → List Lexeme
-return_shown es = reserved kw.Return ∷ joined expr_shown sg.Comma es ++ mark sg.Semicolon ∷ []
+return_shown es = reserved kw.Return ∷ with_signs expr_shown sg.Comma es ++ mark sg.Semicolon ∷ []
 
 abbrev mutual
   pub statement_shown : Statement → List Lexeme
@@ -152,7 +155,7 @@ abbrev mutual
   statement_shown (write o e) = word o.name ∷ mark sg.Dot ∷ reserved kw.Next ∷ mark sg.Assign ∷ expr_shown e ++ mark sg.Semicolon ∷ []
   statement_shown (free o) = reserved kw.Free ∷ word o.name ∷ mark sg.Semicolon ∷ []
   statement_shown (call xs f es) =
-      targets_shown xs ++ word f.name ∷ mark sg.ParenOpen ∷ joined expr_shown sg.Comma es ++ mark sg.ParenClose ∷ mark sg.Semicolon ∷ []
+      targets_shown xs ++ word f.name ∷ mark sg.ParenOpen ∷ with_signs expr_shown sg.Comma es ++ mark sg.ParenClose ∷ mark sg.Semicolon ∷ []
   statement_shown (choice t a c b d) =
       reserved kw.If ∷ mark sg.ParenOpen ∷ test_shown t ++ mark sg.ParenClose ∷ mark sg.BraceOpen ∷ statements_shown a ++ mark sg.BraceClose ∷ []
       ++ otherwise_shown b
@@ -183,12 +186,12 @@ parameter_shown o = word o.name ∷ mark sg.Colon ∷ reserved kw.Node ∷ []
 
 abbrev pub results_shown : List Occ → List Lexeme
 results_shown [] = []
-results_shown (r ∷ rs) = reserved kw.Returns ∷ mark sg.ParenOpen ∷ joined parameter_shown sg.Comma (r ∷ rs) ++ mark sg.ParenClose ∷ []
+results_shown (r ∷ rs) = reserved kw.Returns ∷ mark sg.ParenOpen ∷ with_signs parameter_shown sg.Comma (r ∷ rs) ++ mark sg.ParenClose ∷ []
 
 -- all locals stand in one declaration, where there are some
 abbrev pub locals_shown : List Occ → List Lexeme
 locals_shown [] = []
-locals_shown (o ∷ os) = reserved kw.Var ∷ joined name_shown sg.Comma (o ∷ os) ++ mark sg.Colon ∷ reserved kw.Node ∷ mark sg.Semicolon ∷ []
+locals_shown (o ∷ os) = reserved kw.Var ∷ with_signs name_shown sg.Comma (o ∷ os) ++ mark sg.Colon ∷ reserved kw.Node ∷ mark sg.Semicolon ∷ []
 
 abbrev pub body_shown : Option Inside → List Lexeme
 body_shown None = mark sg.Semicolon ∷ []
@@ -196,19 +199,19 @@ body_shown (Some b) = mark sg.BraceOpen ∷ locals_shown b.locals ++ statements_
 
 -- alternatives with `||` between two
 abbrev pub alternatives_shown : List Formula → List Lexeme
-alternatives_shown = joined formula_shown sg.Or
+alternatives_shown = with_signs formula_shown sg.Or
 
 abbrev pub ensures_shown : List Formula → List Lexeme
 ensures_shown fs = reserved kw.Ensures ∷ alternatives_shown fs
 
 -- a procedure's name and its parameters
 abbrev pub head_shown : Occ → List Occ → List Lexeme
-head_shown name parameters = reserved kw.Procedure ∷ word name.name ∷ in_brackets (joined parameter_shown sg.Comma parameters)
+head_shown name parameters = reserved kw.Procedure ∷ word name.name ∷ in_brackets (with_signs parameter_shown sg.Comma parameters)
 
 -- missing conditions are written as `emp`
 abbrev pub procedure_shown : Procedure → List Lexeme
 procedure_shown p =
-    reserved kw.Procedure ∷ word p.name.name ∷ mark sg.ParenOpen ∷ joined parameter_shown sg.Comma p.parameters ++ mark sg.ParenClose ∷ []
+    reserved kw.Procedure ∷ word p.name.name ∷ mark sg.ParenOpen ∷ with_signs parameter_shown sg.Comma p.parameters ++ mark sg.ParenClose ∷ []
     ++ results_shown p.results ++ reserved kw.Requires ∷ formula_shown p.needs ++ reserved kw.Ensures ∷ alternatives_shown p.gives ++ body_shown p.body
 
 abbrev pub program_shown : Program → List Lexeme

@@ -2,7 +2,8 @@
 use Rattle.std.specs.Prelude.{◌≡◌, ◌≢◌, ◌⊎◌, ℕ, List, [], ◌∷◌, map, Option, Some, None, Contains}
 use Rattle.gh_ast.specs.declared.Occ.{Occ}
 use Rattle.gh_ast.specs.Occurrences.{variables_of}
-use Rattle.gh_ast.specs.Plain.{Statement, set, new, write, free, call, choice, loop, give, Statements, no_statements, statement_first, Inside, Procedure, Program}
+use Rattle.gh_ast.specs.Plain.{Statement, set, new, write, free, call, choice, loop, give, Statements, no_statements}
+use Rattle.gh_ast.specs.Plain.{statement_first, Inside, Procedure, Program}
 
 -- the characters of a name
 abbrev pub Name : Type 0

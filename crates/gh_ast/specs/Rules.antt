@@ -1,10 +1,12 @@
 -- The type rules. For each rule a relation says at which places it is broken.
-use Rattle.std.specs.Prelude.{◌≡◌, ◌≢◌, ℕ, ◌<◌, ◌≤◌, ◌⊎◌, List, ◌++◌, map, length, true, None, Any, slice_index_or, take, codes}
+use Rattle.std.specs.Prelude.{◌≡◌, ◌≢◌, ℕ, ◌<◌, ◌≤◌, ◌⊎◌, List, ◌++◌, map, length, true, None, Any, slice_index_or}
+use Rattle.std.specs.Prelude.{take, codes}
 use Rattle.gh_base.specs.declared.place.Span.{Span}
 use Rattle.gh_ast.specs.declared.Occ.{Occ}
 use Rattle.gh_ast.specs.declared.Field.{Field}
 use Rattle.gh_ast.specs.Plain.{Procedure, Program}
-use Rattle.gh_ast.specs.Occurrences.{Site, mentioned, assigned, called, returned, sites_of, in_formula, in_alternatives, locals_of, variables_of}
+use Rattle.gh_ast.specs.Occurrences.{Site, mentioned, assigned, called, returned, sites_of, in_formula, in_alternatives}
+use Rattle.gh_ast.specs.Occurrences.{locals_of, variables_of}
 use Rattle.gh_ast.specs.Programs.{IsFirstNamed}
 
 -- some of these occurrences has this name

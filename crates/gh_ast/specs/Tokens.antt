@@ -1,11 +1,13 @@
 -- The characters of a text, its comments, and its tokens with their places.
-use Rattle.std.specs.Prelude.{◌≡◌, ◌≢◌, ℕ, ◌+◌, ◌<◌, ◌≤◌, List, [], ◌∷◌, ◌++◌, length, take, fold, count_by, slice_get, Some, Bool, false, ◌||◌, ◌&&◌, ◌==◌, nat_le, IsTrue, cond, codes, All}
+use Rattle.std.specs.Prelude.{◌≡◌, ◌≢◌, ℕ, ◌+◌, ◌<◌, ◌≤◌, List, [], ◌∷◌, ◌++◌, length, take, fold, count_by, slice_get}
+use Rattle.std.specs.Prelude.{Some, Bool, false, ◌||◌, ◌&&◌, ◌==◌, nat_le, IsTrue, cond, codes, All}
 use Rattle.std.specs.List.{list_any}
 use Rattle.gh_base.specs.Names.{is_name_byte}
 use Rattle.gh_base.specs.declared.place.Span.{Span}
 use Rattle.gh_ast.specs.declared.Occ.{Occ}
 use Rattle.gh_ast.specs.declared.sign.Sign.{Sign}
-use Rattle.gh_ast.specs.declared.sign.Sign.TheVariants.{BraceOpen, BraceClose, ParenOpen, ParenClose, Comma, Semicolon, Colon, Dot, Assign, Equal, Unequal, Bang, And, Or, Star, Arrow}
+use Rattle.gh_ast.specs.declared.sign.Sign.TheVariants.{BraceOpen, BraceClose, ParenOpen, ParenClose, Comma, Semicolon}
+use Rattle.gh_ast.specs.declared.sign.Sign.TheVariants.{Colon, Dot, Assign, Equal, Unequal, Bang, And, Or, Star, Arrow}
 use Rattle.gh_ast.specs.declared.sign.Keyword.{Keyword}
 use Rattle.gh_ast.specs.declared.sign.Keyword.TheVariants as keyword
 

@@ -5,7 +5,8 @@ use Rattle.gh_ast.specs.declared.Expr.{Expr}
 use Rattle.gh_ast.specs.declared.Expr.TheVariants.{Plain, Read}
 use Rattle.gh_ast.specs.Plain.{Test, compare, negation, conjunction, disjunction, Tests, no_tests, test_first}
 use Rattle.gh_ast.specs.Plain.{Formula, star, cases, Formulas, no_formulas, formula_first}
-use Rattle.gh_ast.specs.Plain.{Statement, choice, loop, Statements, no_statements, statement_first, Inside, Procedure, Program}
+use Rattle.gh_ast.specs.Plain.{Statement, choice, loop, Statements, no_statements, statement_first, Inside, Procedure}
+use Rattle.gh_ast.specs.Plain.{Program}
 
 -- a read stands only where reads may
 abbrev pub MayStand : Bool → Expr → Type 0

@@ -2,9 +2,16 @@
 
 ghost use Rattle.std.specs.Prelude.{◌≡◌, ◌∷◌, [], map, Some, option_map, OnOk, IfOk};
 ghost use Rattle.std.specs.List.{flat_map};
-ghost use Rattle.gh_ast.specs.Plain.{set, new, write, free, call, comparison, points_to, cell, segment, test_of, tests_view, formula_of, formulas_view, statement_of, statements_view, part_of, inside_of, procedure_of, program_of};
+ghost use Rattle.gh_ast.specs.Plain.{set, new, write, free, call, comparison, points_to, cell, segment, test_of};
+ghost use Rattle.gh_ast.specs.Plain.{tests_view, formula_of, formulas_view, statement_of, statements_view, part_of};
+ghost use Rattle.gh_ast.specs.Plain.{inside_of, procedure_of, program_of};
 ghost use Rattle.gh_ast.specs.Bare.{ReadBack};
-ghost use Rattle.gh_ast.specs.Printed.{word, reserved, mark, Adds, joined, name_shown, operand_shown, expr_shown, equality, bracketed, is_list, is_star, test_shown, tests_shown, formula_shown, formulas_shown, targets_shown, statement_shown, statements_shown, otherwise_shown, field_shown, parameter_shown, results_shown, locals_shown, body_shown, alternatives_shown, procedure_shown, program_text, in_brackets, in_braces, member_shown, return_shown, ensures_shown, head_shown};
+ghost use Rattle.gh_ast.specs.Printed.{word, reserved, mark, Adds, with_signs, name_shown, operand_shown, expr_shown};
+ghost use Rattle.gh_ast.specs.Printed.{equality, bracketed, is_list, is_star, test_shown, tests_shown, formula_shown};
+ghost use Rattle.gh_ast.specs.Printed.{formulas_shown, targets_shown, statement_shown, statements_shown};
+ghost use Rattle.gh_ast.specs.Printed.{otherwise_shown, field_shown, parameter_shown, results_shown, locals_shown};
+ghost use Rattle.gh_ast.specs.Printed.{body_shown, alternatives_shown, procedure_shown, program_text, in_brackets};
+ghost use Rattle.gh_ast.specs.Printed.{in_braces, member_shown, return_shown, ensures_shown, head_shown};
 
 use crate::sign::{Keyword, Sign};
 use crate::{Assertion, Block, Body, Cond, Expr, Field, Occ, Operand, Procedure, Program, Stmt};
@@ -74,7 +81,7 @@ fn put_equality(out: &mut Text, equal: bool) -> Result<(), AllocError>
 }
 
 fn put_names(out: &mut Text, names: &[Occ]) -> Result<(), AllocError>
-    ensures { OnOk result (Adds out.old out.new (joined name_shown Sign.Comma names.now)) }
+    ensures { OnOk result (Adds out.old out.new (with_signs name_shown Sign.Comma names.now)) }
 {
     let Some((first, rest)) = names.split_first() else {
         return Ok(());
@@ -88,7 +95,7 @@ fn put_names(out: &mut Text, names: &[Occ]) -> Result<(), AllocError>
 }
 
 fn put_exprs(out: &mut Text, exprs: &[Expr]) -> Result<(), AllocError>
-    ensures { OnOk result (Adds out.old out.new (joined expr_shown Sign.Comma exprs.now)) }
+    ensures { OnOk result (Adds out.old out.new (with_signs expr_shown Sign.Comma exprs.now)) }
 {
     let Some((first, rest)) = exprs.split_first() else {
         return Ok(());
@@ -112,7 +119,7 @@ fn put_parameter(out: &mut Text, parameter: &Occ) -> Result<(), AllocError>
 }
 
 fn put_parameters(out: &mut Text, parameters: &[Occ]) -> Result<(), AllocError>
-    ensures { OnOk result (Adds out.old out.new (joined parameter_shown Sign.Comma parameters.now)) }
+    ensures { OnOk result (Adds out.old out.new (with_signs parameter_shown Sign.Comma parameters.now)) }
 {
     let Some((first, rest)) = parameters.split_first() else {
         return Ok(());

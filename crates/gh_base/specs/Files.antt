@@ -1,5 +1,6 @@
 -- Named files, of which one may be begun.
-use Rattle.std.specs.Prelude.{◌≡◌, ℕ, List, [], Option, Some, None, cond, slice_get, position, unwrap_or, option_map, drop}
+use Rattle.std.specs.Prelude.{◌≡◌, ℕ, List, [], Option, Some, None, cond, slice_get, position, unwrap_or, option_map}
+use Rattle.std.specs.Prelude.{drop}
 use Rattle.std.specs.Str.{bytes_eq}
 use Rattle.gh_base.specs.Outside.{Table}
 use Rattle.gh_base.specs.declared.files.File.{File}

@@ -1,5 +1,6 @@
 -- What the inputs and the sink in memory answer.
-use Rattle.std.specs.Prelude.{◌≡◌, ◌↔◌, ◌⊎◌, ℕ, ◌-◌, ◌<◌, min, cond, List, [], length, is_some, Bool, true, false, Contains, Result, IsErr, IfOk}
+use Rattle.std.specs.Prelude.{◌≡◌, ◌↔◌, ◌⊎◌, ℕ, ◌-◌, ◌<◌, min, cond, List, [], length, is_some, Bool, true, false}
+use Rattle.std.specs.Prelude.{Contains, Result, IsErr, IfOk}
 use Rattle.std.specs.Result.{is_err}
 use Rattle.gh_base.specs.Outside.{next}
 use Rattle.gh_base.specs.Files.{AreNoFiles, left_in}

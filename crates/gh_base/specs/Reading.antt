@@ -1,5 +1,6 @@
 -- The answers of a call that reads a whole input.
-use Rattle.std.specs.Prelude.{◌≡◌, ◌⊎◌, ℕ, ◌<◌, ◌≤◌, ◌+◌, min, List, [], ◌++◌, length, drop, Option, Some, None, Bool, true, false, ⊤, Result, Ok, Err, MatchResult}
+use Rattle.std.specs.Prelude.{◌≡◌, ◌⊎◌, ℕ, ◌<◌, ◌≤◌, ◌+◌, min, List, [], ◌++◌, length, drop, Option, Some, None, Bool}
+use Rattle.std.specs.Prelude.{true, false, ⊤, Result, Ok, Err, MatchResult}
 use Rattle.gh_base.specs.Outside.{Table, Rose}
 use Rattle.gh_base.specs.declared.reading.InputError.{InputError}
 use Rattle.gh_base.specs.declared.reading.InputError.TheVariants.{ReadFault, TooLong, Absent, OutOfMemory}

@@ -1,6 +1,7 @@
 //! Ground clauses over terms, versions and definitions.
 
-ghost use Rattle.std.specs.Prelude.{◌≡◌, ◌∷◌, ◌++◌, ◌+◌, ◌^◌, ◌-◌, ◌<◌, ◌≤◌, [], IfSome, OnOk, OnErr, length, slice_get, option_copied};
+ghost use Rattle.std.specs.Prelude.{◌≡◌, ◌∷◌, ◌++◌, ◌+◌, ◌^◌, ◌-◌, ◌<◌, ◌≤◌, [], IfSome, OnOk, OnErr, length};
+ghost use Rattle.std.specs.Prelude.{slice_get, option_copied};
 ghost use Rattle.gh_base.specs.Atoms.{AreInRange};
 ghost use Rattle.gh_base.specs.Grounds.{IsProblem};
 

@@ -3,7 +3,8 @@
 ghost use Rattle.std.specs.Prelude.{◌≡◌, ℕ, ◌<◌, List, length, Option, Bool};
 ghost use Rattle.std.specs.Result.{is_err};
 ghost use Rattle.std.specs.Io.KnownBytes.{ReadConsumes, WriteAppends};
-ghost use Rattle.gh_base.specs.Outside.{HasCause, Begins, TakesSome, ReadsWithin, Table, has_begun, GivesNothing, GivesOnlyBegun, Counts, AddsName};
+ghost use Rattle.gh_base.specs.Outside.{HasCause, Begins, TakesSome, ReadsWithin, Table, has_begun, GivesNothing};
+ghost use Rattle.gh_base.specs.Outside.{GivesOnlyBegun, Counts, AddsName};
 
 /// The outside has failed.
 #[derive(Clone, Copy, Debug, PartialEq, Eq)]

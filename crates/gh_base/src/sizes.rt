@@ -1,7 +1,8 @@
 //! How many terms, versions and definitions there are, and the dense numbers of their atoms.
 
 ghost use Rattle.std.specs.Prelude.{◌≡◌, ◌+◌, ◌*◌, ◌^◌, ◌<◌, ◌≤◌, ◌↔◌, IsTrue};
-ghost use Rattle.gh_base.specs.Atoms.{IsInRange, pairs_below, btwn_start, hop_start, alloc_start, def_start, number_of, count_of, IsRow, AreNumbersApart};
+ghost use Rattle.gh_base.specs.Atoms.{IsInRange, pairs_below, btwn_start, hop_start, alloc_start, def_start, number_of};
+ghost use Rattle.gh_base.specs.Atoms.{count_of, IsRow, AreNumbersApart};
 
 use crate::atom::{Atom, Term};
 

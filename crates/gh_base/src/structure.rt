@@ -3,7 +3,8 @@
 ghost use Rattle.std.specs.Prelude.{◌≡◌, ◌≤◌, ◌<◌, false, IfOk, All, length, map, vec_len};
 ghost use Rattle.gh_base.specs.Atoms.{IsInRange};
 ghost use Rattle.gh_base.specs.Meaning.{atom_truth};
-ghost use Rattle.gh_base.specs.Structures.{AreClasses, AreTables, class_at, interpretation_of, IsEquality, with_truth, ChangesTruth, known_truth};
+ghost use Rattle.gh_base.specs.Structures.{AreClasses, AreTables, class_at, interpretation_of, IsEquality, with_truth};
+ghost use Rattle.gh_base.specs.Structures.{ChangesTruth, known_truth};
 
 use crate::assignment::Assignment;
 use crate::atom::{Atom, Term};

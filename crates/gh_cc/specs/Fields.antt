@@ -1,10 +1,11 @@
 -- What stands in the fields of `Classes`.
-use Rattle.std.specs.Prelude.{◌≡◌, ◌≤◌, ◌*◌, vec_capacity}
+use Rattle.std.specs.Prelude.{ℕ, ◌≡◌, ◌≤◌, ◌*◌, vec_capacity}
 use Rattle.gh_base.specs.Atoms.{count_of}
 use Rattle.gh_cc.specs.declared.classes.Classes.TheInside.{Inside}
 use Rattle.gh_cc.specs.Kept.{Core, IsKept}
 use Rattle.gh_cc.specs.Uses.{all_mentions}
 
+-- what the classes say, without the rooms and the mentions
 abbrev pub core_of : Inside → Core
 core_of c = record {
   sizes = c.sizes;
@@ -22,13 +23,18 @@ HaveSizes c =
     × (c.signs.count ≡ count_of c.sizes)
     × (c.uses.terms ≡ c.sizes.terms)
 
--- all atoms have room, each with three mentions, which 32 bits number
+-- the most atoms of which classes are kept: 32 bits number three mentions of each
+abbrev pub most_filed : ℕ
+most_filed = 1431655764
+
+-- all atoms have room, each with three mentions
 abbrev pub HaveRoom : Inside → Type 0
 HaveRoom c =
-    (count_of c.sizes ≤ 1431655764)
+    (count_of c.sizes ≤ most_filed)
     × (count_of c.sizes ≤ vec_capacity c.lits)
     × (count_of c.sizes ≤ vec_capacity c.stages)
     × (3 * count_of c.sizes ≤ c.uses.room)
 
+-- each literal stands where it is mentioned
 abbrev pub HasMentions : Inside → Type 0
 HasMentions c = c.uses.list ≡ all_mentions c.lits.items

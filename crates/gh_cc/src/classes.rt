@@ -3,6 +3,7 @@
 ghost use Rattle.std.specs.Prelude.{◌≡◌, ◌<◌, ◌≤◌, ◌∷◌, ◌++◌, ◌↔◌, [], IfOk, IfSome, IfNone, IsTrue, length, take};
 ghost use Rattle.gh_cc.specs.Kept.{first_clash, clash_before, IsRelation};
 ghost use Rattle.gh_base.specs.Atoms.{IsInRange, count_of};
+ghost use Rattle.gh_cc.specs.Fields.{most_filed};
 ghost use Rattle.gh_cc.specs.Asserted.{IsFree, AreEqual, HasTruth, HasNoTruth, IsConsistent, IsConflict};
 
 use crate::clash::Clash;
@@ -86,13 +87,16 @@ fn clash_before(mark: u32, clash: Option<ClashAt>) -> Option<ClashAt>
     }
 }
 
+/// The most atoms of which classes are kept: 32 bits number three mentions of each.
+pub const MOST_FILED: usize = 1_431_655_764;
+
 impl Classes {
-    /// Nothing stands asserted. Room for all atoms is taken here. There are at most 1,431,655,764 of them, since 32
-    /// bits number three mentions of each: for more no room is taken, as if memory ran out.
+    /// Nothing stands asserted. Room for all atoms is taken here. There are at most `MOST_FILED` of them: for
+    /// more no room is taken, as if memory ran out.
     pub fn new(alloc: Global, terms: u8, versions: u8, defs: u32) -> Result<Classes, AllocError>
         ensures sizes { IfOk result (λ c. c.sizes ≡ record { terms = terms; versions = versions; defs = defs }) }
         ensures none { IfOk result (λ c. c.lits ≡ []) }
-        ensures few { IfOk result (λ c. count_of c.sizes ≤ 1431655764) }
+        ensures few { IfOk result (λ c. count_of c.sizes ≤ most_filed) }
     {
         let sizes = Sizes {
             terms,
@@ -100,7 +104,7 @@ impl Classes {
             defs,
         };
         let count = sizes.count();
-        if count > 1431655764 {
+        if count > MOST_FILED {
             return Err(AllocError);
         }
         Ok(Classes {

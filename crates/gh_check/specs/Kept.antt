@@ -1,5 +1,7 @@
 -- What is kept of the lines before: their clauses by their positions, and which positions a line deletes.
-use Rattle.std.specs.Prelude.{◌≡◌, ◌≢◌, ◌↔◌, ◌&&◌, ⊤, ◌+◌, ◌-◌, ◌≤◌, ℕ, List, [], ◌∷◌, ◌++◌, map, take, length, filter_map, Bool, false, not, Option, Some, None, All, AllPairs, Contains, IsTrue, is_some, unwrap_or, slice_get, slice_index_or}
+use Rattle.std.specs.Prelude.{◌≡◌, ◌≢◌, ◌↔◌, ◌&&◌, ⊤, ◌+◌, ◌-◌, ◌≤◌, ℕ, List, [], ◌∷◌, ◌++◌, map, take, length}
+use Rattle.std.specs.Prelude.{filter_map, Bool, false, not, Option, Some, None, All, AllPairs, Contains, IsTrue}
+use Rattle.std.specs.Prelude.{is_some, unwrap_or, slice_get, slice_index_or}
 use Rattle.gh_base.specs.declared.atom.Lit.{Lit}
 use Rattle.gh_base.specs.declared.sizes.Sizes.{Sizes}
 use Rattle.gh_base.specs.Atoms.{AreInRange}

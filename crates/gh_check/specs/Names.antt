@@ -2,7 +2,8 @@
 use Rattle.std.specs.Prelude.{ℕ, List, cond, codes, ◌==◌}
 use Rattle.gh_check.specs.declared.fault.LogFault.{LogFault}
 use Rattle.gh_check.specs.declared.fault.FaultKind.{FaultKind}
-use Rattle.gh_check.specs.declared.fault.FaultKind.TheVariants.{NotInstance, NotClause, NotLemma, NotImplied, NoEmptyClause, NoSuchLine}
+use Rattle.gh_check.specs.declared.fault.FaultKind.TheVariants.{NotInstance, NotClause, NotLemma, NotImplied}
+use Rattle.gh_check.specs.declared.fault.FaultKind.TheVariants.{NoEmptyClause, NoSuchLine}
 
 abbrev pub fault_number : FaultKind → ℕ
 fault_number NotInstance = 1

@@ -14,7 +14,7 @@ use Rattle.gh_check.specs.declared.standing.Standing.{Standing}
 abbrev pub AreGivenBy : List (List Lit) → List Lit → Type 0
 AreGivenBy clauses set = (assumed : List Lit) (l : Lit) → Contains set l → Propagated clauses assumed l
 
--- what the clauses give of a set is given of another
+-- where the clauses give the literals of a set, they give those of another
 abbrev pub KeepsGiven : List (Option (List Lit)) → List Lit → List Lit → Type 0
 KeepsGiven entries old new = AreGivenBy (present entries) old → AreGivenBy (present entries) new
 
@@ -36,7 +36,7 @@ IsRefutedAt k positions set = IsRefutedByHints (named k positions) set
 -- these aren't refuted by themselves
 pub record IsConfirmedBy (k : Kept) (positions : List ℕ) (set clause : List Lit) : Type 0 where
   pub stand : All (λ position. IsTrue (stands_in k position)) positions
-  pub refuted : IsMetBy set clause ⊎ IsRefutedByHints (named k positions) (set ++ map opposite clause)
+  pub refuted : IsMetBy set clause ⊎ IsRefutedAt k positions (set ++ map opposite clause)
 
 -- the set doesn't make the clause false, and has the literal that the clause forces, if it forces one
 pub record IsAtRest (set clause : List Lit) : Type 0 where
@@ -66,7 +66,7 @@ pub record IsRefusedBy (entries : List (Option (List Lit))) (set clause : List L
 abbrev pub IsJudged : List (List Lit) → List Lit → Option Bool → Type 0
 IsJudged clauses clause told = MatchOption told ⊤ (λ b. IsTrue b ↔ FollowsByUnits clauses clause)
 
--- what stands fits whatever clauses what stood before fitted, if that was made
+-- over all clauses over which the old standing stands, if it was made, the new one stands
 abbrev pub StandsOn : Sizes → Option Standing → Standing → Type 0
 StandsOn sizes old new =
     (entries : List (Option (List Lit))) → MayStand sizes entries old → IsStanding sizes entries new

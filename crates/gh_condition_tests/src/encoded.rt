@@ -20,6 +20,7 @@ use gh_symb::limits::SymbolicError;
 use gh_symb::over_terms::{Bound, Symbolic, TermCheck, TermStep};
 use gh_symb::symbolic::symbolic;
 use gh_types::check::check;
+use gh_types::counts::MOST_BYTES;
 use std::alloc::{AllocError, Global};
 
 // Stands for the term of a variable that has none.
@@ -407,7 +408,7 @@ pub(crate) fn is(
     number: u32,
     expected: Expected<'_>,
 ) -> Result<bool, AllocError> {
-    if text.len() > 1_048_576 {
+    if text.len() > MOST_BYTES {
         return Ok(false);
     }
     let Ok(program) = parse(alloc, text) else {

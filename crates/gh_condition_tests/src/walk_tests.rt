@@ -8,6 +8,7 @@ use gh_path::listing::conditions;
 use gh_path::walk::Walk;
 use gh_texts::REVERSE;
 use gh_types::check::check;
+use gh_types::counts::MOST_BYTES;
 use std::alloc::{AllocError, Global};
 
 // 1,024 conditions from one start.
@@ -73,7 +74,7 @@ fn items(alloc: Global, typed: &Typed) -> Result<Option<u32>, AllocError> {
 }
 
 fn walked(alloc: Global, text: &[u8]) -> Result<Option<u32>, AllocError> {
-    if text.len() > 1_048_576 {
+    if text.len() > MOST_BYTES {
         return Ok(None);
     }
     let Ok(program) = parse(alloc, text) else {

@@ -2,24 +2,29 @@
 
 ghost use Rattle.std.specs.Prelude.{◌≡◌};
 
-use crate::decide::{Verdict, decide};
+use crate::decide::{Verdict, decide_with};
 use gh_ast::typed::Typed;
 use gh_path::condition::Condition;
+use gh_seek::known::Known;
 use gh_trace::decider::Decider;
 use gh_trace::state::Trace;
 use std::alloc::{AllocError, Global};
 
-/// Decides each condition that it is asked for, and keeps nothing but how often it was asked.
+/// Decides each condition that it is asked for. It keeps how often it was asked, and what its last search found.
 #[derive(Debug, Drop)]
 pub struct Direct {
     calls: u64,
+    known: Known,
 }
 
 impl Direct {
     pub fn new() -> Direct
         ensures { result.calls ≡ 0 }
     {
-        Direct { calls: 0 }
+        Direct {
+            calls: 0,
+            known: Known::new(),
+        }
     }
 
     /// How often it was asked. The count stays at its type's last value.
@@ -42,7 +47,7 @@ impl Decider for Direct {
         condition: &Condition,
     ) -> Result<Option<Trace>, AllocError> {
         self.calls = self.calls.saturating_add(1);
-        match decide(alloc, typed, condition)? {
+        match decide_with(alloc, typed, condition, &mut self.known)? {
             Verdict::Valid(_) => Ok(None),
             Verdict::Refuted(trace) => Ok(Some(trace)),
         }

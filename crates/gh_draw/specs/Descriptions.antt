@@ -3,7 +3,8 @@ use Rattle.std.specs.Prelude.{ℕ, List, ◌++◌, codes}
 use Rattle.std.specs.Fmt.{decimal}
 use Rattle.gh_base.specs.declared.place.Span.{Span}
 use Rattle.gh_ast.specs.Programs.{name_of}
-use Rattle.gh_path.specs.Graphs.{Check, access, entry, loop_entry, returned, loop_end, check_place, Origin, from_entry, from_loop}
+use Rattle.gh_path.specs.Graphs.{Check, access, entry, loop_entry, returned, loop_end, check_place, Origin, from_entry}
+use Rattle.gh_path.specs.Graphs.{from_loop}
 use Rattle.gh_path.specs.Conditions.{Condition}
 
 -- `L:C`

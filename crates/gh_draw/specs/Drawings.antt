@@ -8,6 +8,10 @@ use Rattle.gh_ast.specs.Programs.{Name}
 use Rattle.gh_assert.specs.Heaps.{Heap}
 use Rattle.gh_trace.specs.Traces.{State}
 
+-- the longest drawing file that is taken, in bytes
+abbrev pub most_drawn : ℕ
+most_drawn = 4194304
+
 -- a line of its own
 abbrev pub line : List ℕ → List ℕ
 line bytes = bytes ++ line_end

@@ -1,5 +1,6 @@
 -- Drawings as they are kept, and the files that have one.
-use Rattle.std.specs.Prelude.{◌≡◌, ◌≢◌, ℕ, suc, ◌-◌, ◌<◌, ◌≤◌, ◌^◌, List, [], ◌∷◌, ◌++◌, codes, All, Contains, Some, slice_get, map}
+use Rattle.std.specs.Prelude.{◌≡◌, ◌≢◌, ℕ, suc, ◌-◌, ◌<◌, ◌≤◌, ◌^◌, List, [], ◌∷◌, ◌++◌, codes, All, Contains, Some}
+use Rattle.std.specs.Prelude.{slice_get, map}
 use Rattle.std.specs.List.{flat_map}
 use Rattle.std.specs.Fmt.{decimal}
 use Rattle.std.specs.FinMap.{entries}
@@ -34,7 +35,8 @@ kept_texts k [] = []
 kept_texts k (s ∷ ss) = kept_text k s ++ kept_texts (suc k) ss
 
 abbrev pub drawing_text : ℕ → List State → List ℕ
-drawing_text number ss = codes "drawing\ncondition " ++ decimal number ++ codes "\n" ++ kept_texts 0 ss ++ codes "end\n"
+drawing_text number ss =
+    line (codes "drawing") ++ line (codes "condition " ++ decimal number) ++ kept_texts 0 ss ++ line (codes "end")
 
 abbrev pub IsValue : ℕ → Type 0
 IsValue n = n < 2 ^ 32

@@ -1,5 +1,7 @@
 -- What the parts of a drawing show at the front of a text, with what is left of it after them.
-use Rattle.std.specs.Prelude.{◌≡◌, ◌≢◌, ℕ, suc, ◌-◌, ◌<◌, ◌≤◌, ◌++◌, List, [], ◌∷◌, codes, Option, Some, None, ⊤, Bool, true, false, Contains, All, AllPairs, slice_get, slice_index, take, drop, length, option_map, Vec}
+use Rattle.std.specs.Prelude.{◌≡◌, ◌≢◌, ℕ, suc, ◌-◌, ◌<◌, ◌≤◌, ◌++◌, List, [], ◌∷◌, codes, Option, Some, None, ⊤, Bool}
+use Rattle.std.specs.Prelude.{true, false, Contains, All, AllPairs, slice_get, slice_index, take, drop, length}
+use Rattle.std.specs.Prelude.{option_map, Vec}
 use Rattle.std.specs.Global.{Global}
 use Rattle.std.specs.Int.{IsInRange}
 use Rattle.std.specs.Str.{all_ascii_digits}
@@ -7,6 +9,7 @@ use Rattle.std.specs.Str.Parse.{digits_value}
 use Rattle.std.specs.List.{flat_map}
 use Rattle.std.specs.Fmt.{decimal}
 use Rattle.std.specs.FinMap.{entries}
+use Rattle.gh_base.specs.Texts.{line_end}
 use Rattle.gh_ast.specs.Plain.{Program}
 use Rattle.gh_ast.specs.Programs.{Name, variable_names}
 use Rattle.gh_assert.specs.Heaps.{Heap}
@@ -77,7 +80,7 @@ pub record ShowsCellAbove (low : ℕ) (text : List ℕ) (c : ℕ × ℕ) (rest :
 
 -- cells in ascending order above a place, and the end of the line
 abbrev pub ShowsCells : ℕ → List ℕ → List (ℕ × ℕ) → List ℕ → Type 0
-ShowsCells low text [] rest = text ≡ codes "\n" ++ rest
+ShowsCells low text [] rest = text ≡ line_end ++ rest
 ShowsCells low text (c ∷ cs) rest = (mid : List ℕ) × ShowsCellAbove low text c mid × ShowsCells c.0 mid cs rest
 
 abbrev pub ShowsHeap : List ℕ → Heap → List ℕ → Type 0
@@ -106,7 +109,7 @@ AreStatesRead names text left o = IsFrontRead (ShowsStates names 0) text left (o
 
 -- `condition K`
 abbrev pub ShowsCondition : List ℕ → ℕ → List ℕ → Type 0
-ShowsCondition text n rest = (mid : List ℕ) × (text ≡ codes "condition " ++ mid) × ShowsNumber mid n (codes "\n" ++ rest)
+ShowsCondition text n rest = (mid : List ℕ) × (text ≡ codes "condition " ++ mid) × ShowsNumber mid n (line_end ++ rest)
 
 -- states for the condition of a number, to the end of the text
 pub record ShowsTrace (P : Program) (number : ℕ) (text : List ℕ) (ss : List State) : Type 0 where

@@ -5,7 +5,8 @@ ghost use Rattle.std.specs.Str.Parse.{digits_value};
 ghost use Rattle.std.specs.Str.{all_ascii_digits};
 ghost use Rattle.std.specs.Fmt.{decimal};
 ghost use Rattle.gh_draw.specs.Drawn.{IsValue};
-ghost use Rattle.gh_draw.specs.Reading.{IsFrontRead, ShowsWord, ShowsNumber, ShowsValue, ShowsCell, IsLine, IsSplitAt, IsParsed, HasLeadingZero, IsLineEnd, HasNoEnd};
+ghost use Rattle.gh_draw.specs.Reading.{IsFrontRead, ShowsWord, ShowsNumber, ShowsValue, ShowsCell, IsLine, IsSplitAt};
+ghost use Rattle.gh_draw.specs.Reading.{IsParsed, HasLeadingZero, IsLineEnd, HasNoEnd};
 
 use std::str;
 

@@ -8,7 +8,8 @@ ghost use Rattle.gh_assert.specs.Cells.{pair_of};
 ghost use Rattle.gh_assert.specs.Stores.{listed_names};
 ghost use Rattle.gh_trace.specs.Kept.{state_of};
 ghost use Rattle.gh_draw.specs.Drawings.{cell_text, state_lines as lines_of};
-ghost use Rattle.gh_draw.specs.Drawn.{entry_text, kept_lines, kept_text, kept_texts, drawing_text, IsValue, IsDrawnCell, HasValues};
+ghost use Rattle.gh_draw.specs.Drawn.{entry_text, kept_lines, kept_text, kept_texts, drawing_text, IsValue};
+ghost use Rattle.gh_draw.specs.Drawn.{IsDrawnCell, HasValues};
 
 use gh_assert::heap::{Cell, Heap};
 use gh_assert::store::{Entry, Store};

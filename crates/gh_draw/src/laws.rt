@@ -1,7 +1,8 @@
 //! Laws of drawings. Together with what `draw` and `read_drawing` say, they make a drawing that is
 //! written read back as itself.
 
-ghost use Rattle.gh_draw.specs.Laws.{DrawingsAreOne, DrawingsAreFiles, DrawingsReadBack, DrawingsAreTold, ReportsAreFiles, RefutationsAreTold, DescriptionsAreLines, RefutationsAreFiles};
+ghost use Rattle.gh_draw.specs.Laws.{DrawingsAreOne, DrawingsAreFiles, DrawingsReadBack, DrawingsAreTold};
+ghost use Rattle.gh_draw.specs.Laws.{ReportsAreFiles, RefutationsAreTold, DescriptionsAreLines, RefutationsAreFiles};
 ghost use Rattle.gh_draw.specs.Laws.{DrawableHaveValues};
 
 /// A file has at most one drawing of a condition of a program.

@@ -3,7 +3,9 @@
 ghost use Rattle.std.specs.Prelude.{◌≡◌, ◌++◌, IfOk, OnOk, OnErr};
 ghost use Rattle.gh_ast.specs.Plain.{program_of, procedure_of};
 ghost use Rattle.gh_ast.specs.Programs.{names, variable_names};
-ghost use Rattle.gh_draw.specs.Reading.{IsFrontRead, ShowsWord, heading, ShowsEntries, ShowsCellAbove, ShowsState, AreStatesRead, ShowsHeap, ShowsCondition, IsTraceFound, IsSkipped, AreDistinctNames, IsDrawingIn};
+ghost use Rattle.gh_draw.specs.Reading.{IsFrontRead, ShowsWord, heading, ShowsEntries, ShowsCellAbove, ShowsState};
+ghost use Rattle.gh_draw.specs.Reading.{AreStatesRead, ShowsHeap, ShowsCondition, IsTraceFound, IsSkipped};
+ghost use Rattle.gh_draw.specs.Reading.{AreDistinctNames, IsDrawingIn};
 
 use crate::cursor::Cursor;
 use crate::drawing::Drawing;
@@ -15,6 +17,9 @@ use gh_base::name::Name;
 use gh_path::conditions::Conditions;
 use gh_trace::state::{State, Trace};
 use std::alloc::{AllocError, Global};
+
+/// The longest drawing file that is taken, in bytes.
+pub const MOST_DRAWN: usize = 4_194_304;
 
 // Adds the names of some variables.
 fn push_names(alloc: Global, all: &mut Vec<Name>, variables: &[Occ]) -> Result<(), AllocError>

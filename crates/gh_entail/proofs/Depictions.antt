@@ -94,15 +94,15 @@ stray_alone V h x w stray cw zero e = sym e
 stray_alone V h x w stray cw (suc i) e = absurd (stray.unnamed i (subst (Contains V) (sym e) cw))
 
 head_reached : (V : List ℕ) (h : Heap) (x v : ℕ) → Heads V h x v → Between h x v v
-head_reached V h x v (inl hop) = (hop_rows V h).row_11 x v hop
+head_reached V h x v (inl hop) = (hop_rows V h).rows.row_11 x v hop
 head_reached V h x v (inr (stray, same)) = subst (λ u. Between h x u u) same ((rows (succ h)).row_1 x)
 
 head_first : (V : List ℕ) (h : Heap) (x v w : ℕ) → Contains V w → Heads V h x v → Between h x w w → (w ≡ x) ⊎ Between h x v w
-head_first V h x v w cw (inl hop) b = (hop_rows V h).row_12 x v w cw hop b
+head_first V h x v w cw (inl hop) b = (hop_rows V h).rows.row_12 x v w cw hop b
 head_first V h x v w cw (inr (stray, same)) b = inl (stray_alone V h x w stray cw b.end b.distance.arrives)
 
 head_back : (V : List ℕ) (h : Heap) (x w : ℕ) → Contains V w → Heads V h x x → Between h x w w → w ≡ x
-head_back V h x w cw (inl hop) b = (hop_rows V h).row_14 x w cw hop b
+head_back V h x w cw (inl hop) b = (hop_rows V h).rows.row_14 x w cw hop b
 head_back V h x w cw (inr (stray, same)) b = stray_alone V h x w stray cw b.end b.distance.arrives
 
 head_named : (V : List ℕ) (h : Heap) (x v : ℕ) → Contains V x → Heads V h x v → Contains V v

@@ -1,6 +1,8 @@
 //! Laws of questions.
 
-ghost use Rattle.gh_entail.specs.Laws.{WitnessesExist, DepictionsExist, DepictionsAreModels, DepictionsLookAlike, ModelsFail, FailuresAreDepicted, FailuresGiveModels, SectionsShowEntailment, ModelsDecide};
+ghost use Rattle.gh_entail.specs.Laws.{WitnessesExist, DepictionsExist, DepictionsAreModels, DepictionsLookAlike};
+ghost use Rattle.gh_entail.specs.Laws.{ModelsFail, FailuresAreDepicted, FailuresGiveModels, SectionsShowEntailment};
+ghost use Rattle.gh_entail.specs.Laws.{ModelsDecide};
 ghost use Rattle.gh_entail.specs.Examples.{ExamplesHold};
 
 /// One value is enough to show whether an assertion is met.

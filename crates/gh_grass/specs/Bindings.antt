@@ -1,5 +1,6 @@
 -- Names with terms, as a list.
-use Rattle.std.specs.Prelude.{◌≡◌, ◌≢◌, ℕ, ◌<◌, List, length, slice_index_or, [], ◌∷◌, ◌++◌, map, Contains, Option, Some, None, cond, AllPairs, Bool, false, ◌==◌, ◌&&◌, position, slice_get, unwrap_or}
+use Rattle.std.specs.Prelude.{◌≡◌, ◌≢◌, ℕ, ◌<◌, List, length, slice_index_or, [], ◌∷◌, ◌++◌, map, Contains, Option}
+use Rattle.std.specs.Prelude.{Some, None, cond, AllPairs, Bool, false, ◌==◌, ◌&&◌, position, slice_get, unwrap_or}
 use Rattle.std.specs.Str.{bytes_eq}
 use Rattle.gh_base.specs.declared.atom.Term.{Term}
 use Rattle.gh_base.specs.declared.term.TermKind.{TermKind}

@@ -4,7 +4,8 @@ use Rattle.gh_base.specs.declared.atom.Atom.{Atom}
 use Rattle.gh_base.specs.declared.atom.Atom.TheVariants.{Def}
 use Rattle.gh_base.specs.declared.atom.Lit.{Lit}
 use Rattle.gh_base.specs.Atoms.{opposite}
-use Rattle.gh_grass.specs.Claims.{Claim, atom, negation_of, conjunction_of, disjunction_of, equivalence_of, Claims, no_claims, claim_first}
+use Rattle.gh_grass.specs.Claims.{Claim, atom, negation_of, conjunction_of, disjunction_of, equivalence_of, Claims}
+use Rattle.gh_grass.specs.Claims.{no_claims, claim_first}
 
 abbrev pub positive : Atom → Lit
 positive a = record { atom = a; positive = true }

@@ -10,7 +10,9 @@ use Rattle.gh_ast.specs.declared.Assertion.{Assertion}
 use Rattle.gh_ast.specs.declared.Cond.{Cond}
 use Rattle.gh_ast.specs.declared.Expr.{Expr}
 use Rattle.gh_ast.specs.declared.Expr.TheVariants.{Plain, Read}
-use Rattle.gh_ast.specs.Plain.{Test, compare, negation, conjunction, disjunction, Tests, no_tests, test_first, Formula, empty, comparison, points_to, cell, segment, star, cases, Formulas, no_formulas, formula_first, test_of, formula_of, formulas_view}
+use Rattle.gh_ast.specs.Plain.{Test, compare, negation, conjunction, disjunction, Tests, no_tests, test_first, Formula}
+use Rattle.gh_ast.specs.Plain.{empty, comparison, points_to, cell, segment, star, cases, Formulas, no_formulas}
+use Rattle.gh_ast.specs.Plain.{formula_first, test_of, formula_of, formulas_view}
 use Rattle.gh_ast.specs.Programs.{Name}
 use Rattle.gh_grass.specs.declared.binding.Bond.{Bond}
 use Rattle.gh_grass.specs.declared.footprint.Interpretation.{Interpretation}
@@ -140,7 +142,7 @@ abbrev pub apart_of : Interpretation → Assertion → Assertion → List Claim
 apart_of u first second =
     apart (bound_term u.binding.now) u.version u.terms (formula_of first) (formula_of second)
 
--- from each of some others
+-- .. from each of some others
 abbrev pub apart_from : Interpretation → Assertion → List Assertion → List Claim
 apart_from u first others =
     flat_map (apart (bound_term u.binding.now) u.version u.terms (formula_of first)) (map formula_of others)

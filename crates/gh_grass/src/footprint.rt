@@ -2,7 +2,8 @@
 
 ghost use Rattle.std.specs.Prelude.{◌≡◌, IfOk, OnOk};
 ghost use Rattle.gh_grass.specs.Claims.{claim_of, claims_list, Adds};
-ghost use Rattle.gh_grass.specs.Footprints.{before_end, all_apart_of, apart_from, apart_here_of, apart_of, footprint_of, footprints_of, leads_to_of, structure_of, structures_of};
+ghost use Rattle.gh_grass.specs.Footprints.{before_end, all_apart_of, apart_from, apart_here_of, apart_of};
+ghost use Rattle.gh_grass.specs.Footprints.{footprint_of, footprints_of, leads_to_of, structure_of, structures_of};
 
 use crate::binding::Binding;
 use crate::formula::Formula;

@@ -1,6 +1,7 @@
 //! The terms of a condition, in order of first appearance.
 
-ghost use Rattle.std.specs.Prelude.{◌≡◌, ◌<◌, ◌∷◌, [], length, Some, slice_get, IfOk, OnErr, IfSome, IfNone, Contains, unwrap_or};
+ghost use Rattle.std.specs.Prelude.{◌≡◌, ◌<◌, ◌∷◌, [], length, Some, slice_get, IfOk, OnErr, IfSome, IfNone, Contains};
+ghost use Rattle.std.specs.Prelude.{unwrap_or};
 ghost use Rattle.gh_base.specs.declared.term.TermKind.TheVariants.{Null, Next};
 ghost use Rattle.gh_grass.specs.Bindings.{term, next_term, AddsNew, AreDistinctKinds, IsOnlyAt};
 

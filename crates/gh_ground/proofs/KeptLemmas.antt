@@ -17,7 +17,7 @@ use Rattle.gh_log.specs.declared.lines.Section.{Section}
 use Rattle.gh_log.specs.Sections.{line_clause, Deletes, HasClauseAt, Stands, AllStand, AreAt, IsHinted, IsOfKind, AreOfKind, IsValidSection}
 use Rattle.gh_log.specs.Spelled.{IsOfVersion}
 use Rattle.gh_log.proofs.KindLemmas.{kind_push}
-use Rattle.gh_sat.specs.Trail.{SearchState, IsSound, cut}
+use Rattle.gh_sat.specs.Trail.{SearchState, IsSound, cut, most_clauses}
 use Rattle.gh_sat.specs.Learn.{IsConflict, IsLearnt, AreReasons, add_clause}
 use Rattle.gh_sat.specs.Theory.{PropagatesBeside}
 use Rattle.gh_sat.specs.Whole.{Adds}
@@ -231,7 +231,7 @@ added_more names i d n old new before after lt at keeps all there =
     subst (All P) (sym longer) (All-push P (take i names) n (λ k e below. kept_longer (get_or (take i names) k e) before after keeps.more keeps.longer (all k e below)) there)
 
 -- numbers of clauses, of which there are few
-pub are_numbers : (n : ℕ) (numbers : List ℕ) → n ≤ 4294967293 → All (λ k. k < n) numbers → All (λ k. k < 4294967295) numbers
+pub are_numbers : (n : ℕ) (numbers : List ℕ) → n ≤ most_clauses → All (λ k. k < n) numbers → All (λ k. k < 4294967295) numbers
 are_numbers n numbers few h = All-weaker (λ k. k < n) (λ k. k < 4294967295) (λ k lt. omega (arith, lt, few)) numbers h
 
 pub lines_long : (p : Problem) (s : SearchState) (lines : List LogLine) → HasLineEach p s lines → length lines ≡ length s.clauses

@@ -317,7 +317,6 @@ trimmed_refutes p s t kept place positions fits needed end trimmed first few h =
     let last = w.last k ends.1 (end ∙ long) at (needed.last k long) in
     record {
       valid = record { of_kind = w.kinds; ends = (last.0, last.1, last.2, last.3 ∙ ends.3) };
-      version = w.version;
       spelled = spelled_lines p fits t.lines few w.version w.kinds;
       no_deletions = w.none;
       first = first;

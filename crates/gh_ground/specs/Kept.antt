@@ -1,5 +1,5 @@
 -- What a solver keeps: a line of a section for each clause of its search.
-use Rattle.std.specs.Prelude.{◌≡◌, ◌<◌, ◌++◌, ℕ, List, [], Option, Some, None, map, All, Contains, IfSome, IfNone}
+use Rattle.std.specs.Prelude.{◌≡◌, ◌<◌, ◌++◌, ⊤, ℕ, List, [], Option, Some, None, map, All, Contains, IfSome, IfNone}
 use Rattle.gh_base.specs.declared.atom.Lit.{Lit}
 use Rattle.gh_base.specs.Grounds.{Problem, IsProblem}
 use Rattle.gh_base.specs.Meaning.{IsEqualityClause}
@@ -7,12 +7,15 @@ use Rattle.gh_cc.specs.Asserted.{IsConsistent}
 use Rattle.gh_log.specs.Lines.{LogLine}
 use Rattle.gh_log.specs.Sections.{line_clause, AreOfKind}
 use Rattle.gh_log.specs.Spelled.{IsOfVersion}
+use Rattle.gh_ground.specs.declared.solver.Turn.{Turn}
+use Rattle.gh_ground.specs.declared.solver.Turn.TheVariants.{Ended, Answered}
 use Rattle.gh_sat.specs.Learn.{IsConflict}
 use Rattle.gh_sat.specs.Measure.{left}
 use Rattle.gh_sat.specs.Status.{IsSettled, AreAssigned}
 use Rattle.gh_sat.specs.Theory.{lits_of, HasNoConflict, PropagatesBeside}
 use Rattle.gh_sat.specs.Trail.{SearchState, IsSound}
 
+-- each clause of a search has its line, and those of the problem are among them
 pub record HasLineEach (p : Problem) (s : SearchState) (lines : List LogLine) : Type 0 where
   pub problem : IsProblem p
   pub sizes : s.sizes ≡ p.sizes
@@ -56,6 +59,17 @@ pub record IsRefuted (s : SearchState) (k : ℕ) : Type 0 where
   pub conflict : IsConflict s k
   pub first : s.starts ≡ []
 
+-- the search is over, with such an answer of its last propagation
 abbrev pub IsEnded : SearchState → Option ℕ → Type 0
 IsEnded s None = IsOpen s
 IsEnded s (Some k) = IsRefuted s k
+
+-- what holds of the answer that a turn came to
+abbrev pub IfAnswered : Turn → (Option ℕ → Type 0) → Type 0
+IfAnswered Ended P = ⊤
+IfAnswered (Answered answer) P = P answer
+
+-- what holds where a turn ended the search
+abbrev pub IfEnded : Turn → Type 0 → Type 0
+IfEnded Ended P = P
+IfEnded (Answered answer) P = ⊤

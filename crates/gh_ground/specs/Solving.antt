@@ -61,10 +61,10 @@ pub record RefutesProblem (p : Problem) (s : Section) : Type 0 where
   pub first : s.first ≡ 1
   pub few : length s.lines ≤ 4294967294
 
--- the section refutes the problem, the grammar of logs can spell its lines, and each line but the last is needed later
+-- the section refutes the problem, the grammar of logs of version 2 can spell its lines, and each line but the last is
+-- needed later
 pub record IsRefutationOf (p : Problem) (s : Section) : Type 0 where
   pub valid : IsValidSection p s.lines
-  pub version : All (IsOfVersion 2) s.lines
   pub spelled : All (IsSpelledLine 2) s.lines
   pub no_deletions : All IsNoDeletion s.lines
   pub first : s.first ≡ 1

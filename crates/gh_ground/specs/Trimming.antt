@@ -1,5 +1,6 @@
 -- Sections without the lines that nothing later needs.
-use Rattle.std.specs.Prelude.{◌≡◌, ◌⊎◌, ◌+◌, ◌-◌, ◌<◌, ◌≤◌, ◌++◌, ◌∷◌, [], ⊤, ℕ, List, Bool, true, Some, All, Contains, length, map, slice_get, slice_index}
+use Rattle.std.specs.Prelude.{◌≡◌, ◌⊎◌, ◌+◌, ◌-◌, ◌<◌, ◌≤◌, ◌++◌, ◌∷◌, [], ⊤, ℕ, List, Bool, true, Some, All, Contains}
+use Rattle.std.specs.Prelude.{length, map, slice_get, slice_index}
 use Rattle.gh_log.specs.Lines.{LogLine}
 use Rattle.gh_log.specs.Lines as line
 use Rattle.gh_ground.specs.Solving.{hints_of}
@@ -48,8 +49,8 @@ abbrev pub AddsMoved : List ℕ → LogLine → List LogLine → List LogLine �
 AddsMoved positions old before after = (l : LogLine) × IsMoved positions old l × (after ≡ before ++ l ∷ [])
 
 -- a line was kept, with its hints moved by the positions so far
-abbrev pub TakesLine : Trimmed → LogLine → Trimmed → Type 0
-TakesLine old l new = AddsMoved old.positions.items l old.lines new.lines
+abbrev pub MovesLine : Trimmed → LogLine → Trimmed → Type 0
+MovesLine old l new = AddsMoved old.positions.items l old.lines new.lines
 
 -- a new position was noted
 abbrev pub AddsPosition : Trimmed → ℕ → Trimmed → Type 0

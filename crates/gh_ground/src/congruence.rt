@@ -1,6 +1,7 @@
 //! Equality and congruence as a theory.
 
 ghost use Rattle.std.specs.Prelude.{◌≡◌, ◌≤◌, [], IfOk};
+ghost use Rattle.gh_cc.specs.Fields.{most_filed};
 ghost use Rattle.gh_base.specs.Atoms.{IsInRange, count_of};
 
 use gh_base::assignment::Assignment;
@@ -66,11 +67,11 @@ fn given_truth(classes: &Classes, atom: Atom) -> bool
 
 impl Congruence {
     /// Nothing stands asserted, and the literals' truths are tried first. Room for all atoms is taken here, of which
-    /// there are at most 1,431,655,764: for more no room is taken, as if memory ran out.
+    /// there are at most `MOST_FILED`: for more no room is taken, as if memory ran out.
     pub fn new(alloc: Global, sizes: Sizes, truths: &[Lit]) -> Result<Congruence, AllocError>
         ensures sizes { IfOk result (λ c. c.classes.sizes ≡ sizes) }
         ensures none { IfOk result (λ c. c.classes.lits ≡ []) }
-        ensures few { IfOk result (λ c. count_of c.classes.sizes ≤ 1431655764) }
+        ensures few { IfOk result (λ c. count_of c.classes.sizes ≤ most_filed) }
     {
         Ok(Congruence {
             classes: Classes::new(alloc, sizes.terms, sizes.versions, sizes.defs)?,

@@ -59,12 +59,8 @@ pub fn solve(alloc: Global, ground: &Ground) -> Result<Answer, AllocError>
 }
 
 /// Decides ground clauses as [`solve`] does. What is known from clauses that were decided before may shorten the search,
-/// and what it finds is known to later ones.
-pub fn solve_with(
-    alloc: Global,
-    ground: &Ground,
-    known: &mut Known,
-) -> Result<Answer, AllocError>
+/// and what it finds is known to later ones. Where memory runs out, more or less may be known than before.
+pub fn solve_with(alloc: Global, ground: &Ground, known: &mut Known) -> Result<Answer, AllocError>
     ensures answer { IfOk result (λ answer. IsAnswer ground.now answer) }
     ensures few { OnOk result (count_of ground.now.sizes ≤ most_filed) }
 {

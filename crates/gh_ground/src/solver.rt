@@ -1,6 +1,8 @@
 //! A search whose clauses are the lines of a section.
 
-ghost use Rattle.std.specs.Prelude.{◌≡◌, ◌<◌, ◌≤◌, ◌+◌, All, Contains, IfOk, OnOk, IfSome, IfNone, Some, None, [], length, map, slice_get};
+ghost use Rattle.std.specs.Prelude.{◌≡◌, ◌<◌, ◌≤◌, ◌+◌, All, Contains, IfOk, OnOk, Some, None, []};
+ghost use Rattle.std.specs.Prelude.{length, map, slice_get};
+ghost use Rattle.gh_cc.specs.Fields.{most_filed};
 ghost use Rattle.gh_base.specs.Atoms.{count_of};
 ghost use Rattle.gh_base.specs.Grounds.{Problem};
 ghost use Rattle.gh_base.specs.Meaning.{IsClauseTrue, IsCongruence};
@@ -9,7 +11,8 @@ ghost use Rattle.gh_inst.specs.Instances.{IsInstance};
 ghost use Rattle.gh_log.specs.Lines.{Axiom};
 ghost use Rattle.gh_log.specs.Sections.{line_clause, AreOfKind};
 ghost use Rattle.gh_log.specs.Spelled.{IsOfVersion};
-ghost use Rattle.gh_ground.specs.Kept.{HasLineEach, Keeps, Propagates, HasLessLeft, IsAnswered, IsOpen, IsRefuted, IsEnded};
+ghost use Rattle.gh_ground.specs.Kept.{HasLineEach, Keeps, Propagates, HasLessLeft, IsAnswered, IsOpen, IsRefuted};
+ghost use Rattle.gh_ground.specs.Kept.{IsEnded, IfAnswered, IfEnded};
 ghost use Rattle.gh_ground.specs.Solving.{RefutesProblem};
 ghost use Rattle.gh_sat.specs.Learn.{IsConflict};
 ghost use Rattle.gh_sat.specs.Trail.{IsSound};
@@ -33,6 +36,15 @@ pub(crate) struct Solver {
     lines: Lines,
     // A far lesson cuts so many levels and one more.
     stride: u32,
+}
+
+// What a turn of the search comes to.
+#[derive(Clone, Copy)]
+enum Turn {
+    // The search is over.
+    Ended,
+    // An answer of propagation, from which the search goes on.
+    Answered(Option<u32>),
 }
 
 // A line for each clause of a ground problem.
@@ -96,7 +108,7 @@ impl Solver {
     /// Nothing is decided yet. The literals' truths are tried first.
     pub(crate) fn new(alloc: Global, ground: &Ground, truths: &[Lit]) -> Result<Solver, AllocError>
         ensures lines { IfOk result (λ s. HasLineEach ground.now s.search s.lines) }
-        ensures few { OnOk result (count_of ground.now.sizes ≤ 1431655764) }
+        ensures few { OnOk result (count_of ground.now.sizes ≤ most_filed) }
     {
         let sizes = ground.sizes();
         let theory = Congruence::new(alloc, sizes, truths)?;
@@ -128,18 +140,18 @@ impl Solver {
     }
 
     // Decides an atom of a clause that has no truth, if there is one, and propagates.
-    fn decide(&mut self, alloc: Global) -> Result<Option<Option<u32>>, AllocError>
+    fn decide(&mut self, alloc: Global) -> Result<Turn, AllocError>
         requires { IsAnswered self.old.search None }
-        ensures less { IfOk result (λ o. IfSome o (λ _. HasLessLeft self.old.search self.new.search)) }
-        ensures answered { IfOk result (λ o. IfSome o (IsAnswered self.new.search)) }
-        ensures open { IfOk result (λ o. IfNone o (IsOpen self.new.search)) }
+        ensures less { IfOk result (λ t. IfAnswered t (λ _. HasLessLeft self.old.search self.new.search)) }
+        ensures answered { IfOk result (λ t. IfAnswered t (IsAnswered self.new.search)) }
+        ensures open { IfOk result (λ t. IfEnded t (IsOpen self.new.search)) }
         ensures keeps { OnOk result (Keeps self.old.search self.old.lines self.new.search self.new.lines) }
     {
         match self.search.decide_needed() {
-            None => Ok(None),
+            None => Ok(Turn::Ended),
             Some(_lit) => {
                 self.stride = 0;
-                Ok(Some(self.propagate(alloc)?))
+                Ok(Turn::Answered(self.propagate(alloc)?))
             }
         }
     }
@@ -167,17 +179,13 @@ impl Solver {
         Ok(next)
     }
 
-    // A decision, or a lesson, and then the next answer of `propagate`. None where all atoms of clauses are assigned,
-    // and where the conflict stands at level 0.
-    fn turn(
-        &mut self,
-        alloc: Global,
-        answer: Option<u32>,
-    ) -> Result<Option<Option<u32>>, AllocError>
+    // A decision, or a lesson, and then the next answer of `propagate`. The search is over where all atoms of clauses
+    // are assigned, and where the conflict stands at level 0.
+    fn turn(&mut self, alloc: Global, answer: Option<u32>) -> Result<Turn, AllocError>
         requires { IsAnswered self.old.search answer }
-        ensures less { IfOk result (λ o. IfSome o (λ _. HasLessLeft self.old.search self.new.search)) }
-        ensures answered { IfOk result (λ o. IfSome o (IsAnswered self.new.search)) }
-        ensures ended { IfOk result (λ o. IfNone o (IsEnded self.new.search answer)) }
+        ensures less { IfOk result (λ t. IfAnswered t (λ _. HasLessLeft self.old.search self.new.search)) }
+        ensures answered { IfOk result (λ t. IfAnswered t (IsAnswered self.new.search)) }
+        ensures ended { IfOk result (λ t. IfEnded t (IsEnded self.new.search answer)) }
         ensures keeps { OnOk result (Keeps self.old.search self.old.lines self.new.search self.new.lines) }
     {
         match answer {
@@ -187,10 +195,10 @@ impl Solver {
             }
             Some(conflict) => {
                 if self.search.level() == 0 {
-                    return Ok(None);
+                    return Ok(Turn::Ended);
                 }
                 let next = self.learn(alloc, conflict)?;
-                Ok(Some(next))
+                Ok(Turn::Answered(next))
             }
         }
     }
@@ -202,7 +210,7 @@ impl Solver {
         ensures keeps { OnOk result (Keeps self.old.search self.old.lines self.new.search self.new.lines) }
     {
         let mut found = self.propagate(alloc)?;
-        while let Some(next) = self.turn(alloc, found)? {
+        while let Turn::Answered(next) = self.turn(alloc, found)? {
             found = next;
         }
         Ok(found)

@@ -8,7 +8,8 @@ ghost use Rattle.gh_base.specs.Structures.{interpretation_of};
 ghost use Rattle.gh_cc.specs.Kept.{IsRelation};
 ghost use Rattle.gh_cc.specs.Partials.{IsStructureOf};
 ghost use Rattle.gh_sat.specs.Theory.{lits_of};
-ghost use Rattle.gh_ground.specs.Making.{AreGiven, Gives, IsAtom, IsOver, IsThird, IsSecond, IsFirst, IsLike, KeepsClasses};
+ghost use Rattle.gh_ground.specs.Making.{AreGiven, Gives, IsAtom, IsOver, IsThird, IsSecond, IsFirst, IsLike};
+ghost use Rattle.gh_ground.specs.Making.{KeepsClasses};
 
 use crate::classes::classes_of;
 use gh_base::atom::{Atom, Lit, Term};

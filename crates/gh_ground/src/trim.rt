@@ -1,9 +1,11 @@
 //! Sections without the lines that nothing later needs.
 
-ghost use Rattle.std.specs.Prelude.{◌≡◌, ◌⊎◌, ◌+◌, ◌-◌, ◌<◌, ◌≤◌, ◌∷◌, [], ℕ, IfOk, OnOk, length, map, slice_get, slice_index};
+ghost use Rattle.std.specs.Prelude.{◌≡◌, ◌⊎◌, ◌+◌, ◌-◌, ◌<◌, ◌≤◌, ◌∷◌, [], ℕ, IfOk, OnOk, length, map, slice_get};
+ghost use Rattle.std.specs.Prelude.{slice_index};
 ghost use Rattle.gh_log.specs.Tables.{line_of};
 ghost use Rattle.gh_ground.specs.Solving.{hints_of, RefutesProblem, IsRefutationOf};
-ghost use Rattle.gh_ground.specs.Trimming.{IsKeptAt, AreKeptBefore, AreHintsKept, KeepsOnly, AreNeeded, AddsMoved, TakesLine, AddsPosition};
+ghost use Rattle.gh_ground.specs.Trimming.{IsKeptAt, AreKeptBefore, AreHintsKept, KeepsOnly, AreNeeded, AddsMoved};
+ghost use Rattle.gh_ground.specs.Trimming.{MovesLine, AddsPosition};
 
 use gh_base::ground::Ground;
 use gh_log::lines::{Lines, LogLine, Section};
@@ -163,7 +165,7 @@ impl Trimmed {
     // Keeps a line.
     fn take(&mut self, line: LogLine<'_>) -> Result<(), AllocError>
         requires { length self.old.lines < 4294967295 }
-        ensures line { OnOk result (TakesLine self.old (line_of line.entry) self.new) }
+        ensures line { OnOk result (MovesLine self.old (line_of line.entry) self.new) }
         ensures positions { OnOk result (AddsPosition self.old (length self.old.lines + 1) self.new) }
     {
         push_moved(

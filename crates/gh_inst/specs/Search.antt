@@ -24,7 +24,7 @@ abbrev pub IsAmong : ℕ → Pattern → Type 0
 IsAmong first p = All (λ x. x < first) (take (places_of p.shape) p.places)
 
 -- a version of a structure, and the first terms of a tuple, which are its terms
-pub record IsBegun (s : Tables) (version : ℕ) (tuple : List Term) (first : ℕ) : Type 0 where
+pub record IsTupleBegun (s : Tables) (version : ℕ) (tuple : List Term) (first : ℕ) : Type 0 where
   pub version_there : version < s.sizes.versions
   pub few : first ≤ 4
   pub below : All (λ t. t.0 < s.sizes.terms) (take first tuple)

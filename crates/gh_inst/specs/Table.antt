@@ -3,7 +3,8 @@ use Rattle.std.specs.Prelude.{ℕ, nat_eq, cond, List, [], ◌∷◌, true, fals
 use Rattle.gh_inst.specs.declared.schema.Shape.TheVariants.{Equal, Btwn, Hop, Alloc}
 use Rattle.gh_inst.specs.declared.schema.Pattern.{Pattern}
 use Rattle.gh_inst.specs.declared.table.Row.{Row}
-use Rattle.gh_inst.specs.declared.table.Row.TheVariants.{OneOne, TwoTwo, TwoThree, ThreeTwo, ThreeThree, ThreeFour, FourThree}
+use Rattle.gh_inst.specs.declared.table.Row.TheVariants.{OneOne, TwoTwo, TwoThree, ThreeTwo, ThreeThree, ThreeFour}
+use Rattle.gh_inst.specs.declared.table.Row.TheVariants.{FourThree}
 
 -- literals over the variables 0, 1, .. of a row
 abbrev pub equal : ℕ → ℕ → Pattern

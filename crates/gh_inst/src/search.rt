@@ -3,7 +3,8 @@
 ghost use Rattle.std.specs.Prelude.{◌≡◌, ◌<◌, ◌≤◌, ◌↔◌, IsTrue, All, length, take, []};
 ghost use Rattle.gh_inst.specs.Schemas.{places_of, AreTermsBelow};
 ghost use Rattle.gh_inst.specs.Words.{IsOpenIn, IsWorded};
-ghost use Rattle.gh_inst.specs.Search.{IsAmong, IsBegun, IsFirstTuple, IsFalseOver, IsRowFalseOver, IsRowSettled, IsSettled, IsTrueOver};
+ghost use Rattle.gh_inst.specs.Search.{IsAmong, IsTupleBegun, IsFirstTuple, IsFalseOver, IsRowFalseOver, IsRowSettled};
+ghost use Rattle.gh_inst.specs.Search.{IsSettled, IsTrueOver};
 
 use crate::schema::{Pattern, Shape};
 use crate::words::{Worded, open_terms, words_of};
@@ -50,7 +51,7 @@ impl Pattern {
         tuple: &[Term; 4],
         first: usize,
     ) -> bool
-        requires { IsBegun structure.now version tuple.now first }
+        requires { IsTupleBegun structure.now version tuple.now first }
         ensures settled { IsTrue result → IsSettled structure.now version (take first tuple.now) self }
         ensures open { ¬ IsTrue result → IsFalseOver structure.now version first tuple.now self }
     {
@@ -69,7 +70,7 @@ fn is_settled(
     tuple: &[Term; 4],
     first: usize,
 ) -> bool
-    requires { IsBegun structure.now version tuple.now first }
+    requires { IsTupleBegun structure.now version tuple.now first }
     ensures settled { IsTrue result → IsRowSettled structure.now version lits.now (take first tuple.now) }
     ensures open { ¬ IsTrue result → IsRowFalseOver structure.now version first tuple.now lits.now }
 {

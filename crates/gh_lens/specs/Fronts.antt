@@ -16,6 +16,7 @@ use Rattle.gh_path.specs.Refusals as listing
 use Rattle.gh_symb.specs.declared.limits.SymbolicError.{SymbolicError}
 use Rattle.gh_symb.specs.declared.limits.SymbolicError.TheVariants as of_symbolic
 use Rattle.gh_symb.specs.Limits as terms
+use Rattle.gh_ast.specs.Limits.{most_bytes}
 use Rattle.gh_lens.specs.declared.front.FrontError.{FrontError}
 use Rattle.gh_lens.specs.declared.front.FrontError.TheVariants.{TooLong, Parse, Types, Listing, Terms}
 
@@ -30,10 +31,6 @@ of_list e = Listing e
 
 abbrev pub of_terms : SymbolicError → FrontError
 of_terms e = Terms e
-
--- the longest text that is taken
-abbrev pub most_bytes : ℕ
-most_bytes = 1048576
 
 -- the cause of a refusal of a text: its length, then its parse, then the type rules and the limits on it
 abbrev pub IsTextRefusal : List ℕ → FrontError → Type 0

@@ -6,17 +6,17 @@ use Rattle.gh_ast.specs.Plain.{Procedure, Program}
 use Rattle.gh_ast.specs.Programs.{parameters_of, Declares}
 use Rattle.gh_assert.specs.Meaning.{Store}
 use Rattle.gh_assert.specs.Values.{Give}
-use Rattle.gh_path.specs.Graphs.{Loop, PathStep, accessed, assume, assigned, made, written, freed, called, looped, answered}
+use Rattle.gh_path.specs.Graphs.{Loop, PathStep, accessed, assume, assigned, made, written, freed, called, looped}
+use Rattle.gh_path.specs.Graphs.{answered}
 use Rattle.gh_path.specs.Kept.{IsCallee, IsLoop}
 use Rattle.gh_path.specs.declared.condition.PathStep as kept_step
 use Rattle.gh_trace.specs.Kept.{state_of}
-use Rattle.gh_trace.specs.Settings.{here, whole}
+use Rattle.gh_trace.specs.Settings.{here, whole, OfStep}
 use Rattle.gh_trace.specs.Traces.{State}
 use Rattle.gh_trace.specs.declared.setting.Setting.{Setting}
 use Rattle.gh_trace.specs.declared.state.State as kept_state
 use Rattle.gh_lens.specs.declared.exchange.Exchange.{Exchange}
 use Rattle.gh_lens.specs.Exchanges.{IsExchange}
-use Rattle.gh_lens.specs.Settings.{OfStep}
 
 -- a call by what the callee requires of its arguments
 pub record IsCallExchange (q : Procedure) (vs : List ℕ) (x y : State) (e : Exchange) : Type 0 where

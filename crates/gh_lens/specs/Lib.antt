@@ -6,7 +6,6 @@ pub mod Overviews
 pub mod Statements
 pub mod Changes
 pub mod Exchanges
-pub mod Settings
 pub mod Handed
 pub mod Takings
 pub mod Lines

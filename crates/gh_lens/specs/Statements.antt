@@ -10,7 +10,8 @@ use Rattle.gh_ast.specs.declared.Expr.{Expr}
 use Rattle.gh_ast.specs.declared.Expr.TheVariants.{Plain, Read}
 use Rattle.gh_ast.specs.Plain.{Procedure, Program}
 use Rattle.gh_ast.specs.Programs.{Name, name_of, names}
-use Rattle.gh_path.specs.Graphs.{Loop, loops_of, PathStep, accessed, assume, assigned, made, written, freed, called, looped, answered}
+use Rattle.gh_path.specs.Graphs.{Loop, loops_of, PathStep, accessed, assume, assigned, made, written, freed, called}
+use Rattle.gh_path.specs.Graphs.{looped, answered}
 use Rattle.gh_path.specs.Kept.{IsLoop, IsStep}
 use Rattle.gh_path.specs.Walking.{loop_of}
 use Rattle.gh_path.specs.declared.condition.PathStep as kept

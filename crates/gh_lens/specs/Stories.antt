@@ -1,5 +1,6 @@
 -- The lines that tell a counterexample step by step.
-use Rattle.std.specs.Prelude.{◌≡◌, ◌⊎◌, ℕ, ◌-◌, ◌<◌, List, [], ◌∷◌, ◌++◌, length, map, Option, Some, None, codes, slice_get}
+use Rattle.std.specs.Prelude.{◌≡◌, ◌⊎◌, ℕ, ◌-◌, ◌<◌, List, [], ◌∷◌, ◌++◌, length, map, Option, Some, None, codes}
+use Rattle.std.specs.Prelude.{slice_get}
 use Rattle.gh_ast.specs.Plain.{Procedure, Program}
 use Rattle.gh_assert.specs.Stores.{listed_names}
 use Rattle.gh_path.specs.Graphs.{PathStep}

@@ -1,7 +1,8 @@
 -- Where an assertion fails: its conjuncts take their parts of a heap in turn.
 use Rattle.std.specs.Prelude.{◌≡◌, ◌≢◌, ◌⊎◌, ℕ, zero, suc, Option, Some, None}
 use Rattle.std.specs.FinMap.{get, remove}
-use Rattle.gh_ast.specs.Plain.{formula_of, Formula, empty, comparison, points_to, cell, segment, star, cases, Formulas, no_formulas, formula_first}
+use Rattle.gh_ast.specs.Plain.{formula_of, Formula, empty, comparison, points_to, cell, segment, star, cases, Formulas}
+use Rattle.gh_ast.specs.Plain.{no_formulas, formula_first}
 use Rattle.gh_assert.specs.Heaps.{Heap, Splits}
 use Rattle.gh_assert.specs.Meaning.{Store, Meaning, HasPart, value}
 use Rattle.gh_lens.specs.declared.taking.Taking.{Taking}

@@ -16,10 +16,8 @@ use gh_path::listing::{ConditionsError, conditions};
 use gh_symb::admit::admit;
 use gh_symb::limits::SymbolicError;
 use gh_types::check::{CheckError, check};
+use gh_types::counts::MOST_BYTES;
 use std::alloc::{AllocError, Global};
-
-/// The longest program text, in bytes.
-pub const MOST_BYTES: usize = 1_048_576;
 
 /// Why a text gives no admitted program.
 #[derive(Debug, Drop)]

@@ -10,10 +10,11 @@ ghost use Rattle.gh_lens.specs.Judgements.{TellsGroundWork, IsFoundFor, IsJudged
 use crate::progress::Progress;
 use gh_ast::typed::Typed;
 use gh_base::text::Text;
-use gh_decide::decide::{Verdict, decide};
+use gh_decide::decide::{Verdict, decide_with};
 use gh_draw::describe::describe;
 use gh_path::condition::{CheckKind, Condition};
 use gh_path::conditions::Conditions;
+use gh_seek::known::Known;
 use std::alloc::{AllocError, Global};
 
 /// Whether a condition has a counterexample.
@@ -47,12 +48,17 @@ fn rests_on(kind: &CheckKind) -> bool
 }
 
 // What is found of a condition.
-fn find_out(alloc: Global, typed: &Typed, condition: &Condition) -> Result<Finding, AllocError>
+fn find_out(
+    alloc: Global,
+    typed: &Typed,
+    condition: &Condition,
+    known: &mut Known,
+) -> Result<Finding, AllocError>
     requires admitted { IsAdmitted (program_of typed.now) }
     requires one { IsOne (program_of typed.now) condition.now }
     ensures { IfOk result (IsFoundFor (program_of typed.now) condition.now) }
 {
-    match decide(alloc, typed, condition)? {
+    match decide_with(alloc, typed, condition, known)? {
         Verdict::Valid(_) => Ok(Finding::Valid),
         Verdict::Refuted(_) => Ok(Finding::Refuted),
     }
@@ -64,13 +70,14 @@ fn judge(
     typed: &Typed,
     number: u32,
     condition: &Condition,
+    known: &mut Known,
 ) -> Result<Judged, AllocError>
     requires admitted { IsAdmitted (program_of typed.now) }
     requires one { IsOne (program_of typed.now) condition.now }
     ensures { IfOk result (IsJudgedFor (program_of typed.now) number condition.now) }
 {
     let description = describe(alloc, typed, condition)?;
-    let finding = find_out(alloc, typed, condition)?;
+    let finding = find_out(alloc, typed, condition, known)?;
     Ok(Judged {
         number,
         description,
@@ -91,6 +98,7 @@ pub fn verdicts<T: Progress>(
     ensures { IfOk result (λ v. AreJudged (program_of typed.now) 1 (plain.conditions (program_of typed.now)) v.items) }
 {
     let mut all = Vec::new(alloc);
+    let mut known = Known::new();
     let count = conditions.count();
     let mut walk = conditions.walk(alloc);
     for place in 0..count {
@@ -99,7 +107,7 @@ pub fn verdicts<T: Progress>(
         if !more {
             unreachable!();
         }
-        let judged = judge(alloc, typed, number, walk.condition())?;
+        let judged = judge(alloc, typed, number, walk.condition(), &mut known)?;
         all.push(judged)?;
         progress.settled(number, count);
     }

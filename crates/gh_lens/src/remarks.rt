@@ -4,7 +4,9 @@ ghost use Rattle.std.specs.Prelude.{◌≡◌, map, IfOk};
 ghost use Rattle.gh_ast.specs.Plain.{formula_of, procedure_of, program_of};
 ghost use Rattle.gh_ast.specs.Questions.{leaf, either, claim_of, claims_of, question_of};
 ghost use Rattle.gh_path.specs.Walking.{loop_of};
-ghost use Rattle.gh_lens.specs.Assertions.{is_empty as is_emp_formula, is_bare as is_bare_list, question_on, IsMeeting, IsRemark, AreRemarks, requires_of, ensures_of, invariant_of, subjects_of, subjects};
+ghost use Rattle.gh_lens.specs.Assertions.{is_empty as is_emp_formula, is_bare as is_bare_list, question_on, IsMeeting};
+ghost use Rattle.gh_lens.specs.Assertions.{IsRemark, AreRemarks, requires_of, ensures_of, invariant_of, subjects_of};
+ghost use Rattle.gh_lens.specs.Assertions.{subjects};
 ghost use Rattle.gh_lens.specs.Stated.{subject_of, Adds};
 
 use crate::copies::{copy_assertion, copy_variables};

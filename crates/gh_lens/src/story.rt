@@ -5,7 +5,7 @@ ghost use Rattle.gh_ast.specs.Plain.{program_of};
 ghost use Rattle.gh_path.specs.Admitted.{IsAdmitted};
 ghost use Rattle.gh_draw.specs.Kept.{HasMeaning};
 ghost use Rattle.gh_trace.specs.Settings.{HasLoops, here, whole};
-ghost use Rattle.gh_lens.specs.Settings.{HasStep, HaveSteps};
+ghost use Rattle.gh_path.specs.Kept.{AreSomeSteps, IsSomeStep};
 ghost use Rattle.gh_lens.specs.Stories as told;
 
 use crate::exchange::Exchange;
@@ -69,7 +69,7 @@ fn step_told(
     after: &State,
 ) -> Result<Text, AllocError>
     requires loops { HasLoops setting }
-    requires one { HasStep setting step.now }
+    requires one { IsSomeStep (whole setting) (here setting) step.now }
     ensures { IfOk result (told.TellsStep (whole setting.entry) (here setting.entry) step.now before.now after.now) }
 {
     let mut text = statement(alloc, setting, step)?;
@@ -88,7 +88,7 @@ fn steps_told(
     others: &[State],
 ) -> Result<Text, AllocError>
     requires loops { HasLoops setting }
-    requires some { HaveSteps setting steps.now }
+    requires some { AreSomeSteps (whole setting) (here setting) steps.now }
     ensures { IfOk result (told.TellsSteps (whole setting.entry) (here setting.entry) steps.now before.now others.now) }
 {
     let Some((step, later)) = steps.split_first() else {

@@ -1,10 +1,11 @@
 -- Tables that grow keep the lines that stand in them.
 use Rattle.std.proofs.Common.{◌≡◌, ◌<◌, ◌≤◌, ◌+◌, ◌-◌, ◌^◌, ℕ, zero, suc, List, [], ◌∷◌, ◌++◌, length, take, drop, map, Some, Result, Ok, Err, OnErr, All, refl, sym, ◌∙◌, ap, subst, arith, length-append}
 use Rattle.std.specs.Prelude.{slice_get, get_or}
-use Rattle.std.specs.List.{flat_map}
+use Rattle.std.specs.List.{flat_map, sum_by}
 use Rattle.std.proofs.lemmas.List.{drop-take, take-append-le, map-append, take_more, append-nil}
 use Rattle.std.proofs.lemmas.List.Elements.{All-head, All-tail, All-push}
 use Rattle.std.proofs.lemmas.Option.{slice_get_within, get_or_from_slice_get}
+use Rattle.std.proofs.lemmas.List.Sums.{sum_by-append}
 use Rattle.std.proofs.lemmas.Grind.{flat_map-append}
 use Rattle.gh_base.specs.declared.atom.Lit.{Lit}
 use Rattle.gh_log.specs.Lines as plain
@@ -12,7 +13,7 @@ use Rattle.gh_log.specs.declared.lines.Part.{Part}
 use Rattle.gh_log.specs.declared.lines.Entry.{Entry}
 use Rattle.gh_log.specs.declared.lines.Entry.TheVariants as entry
 use Rattle.gh_log.specs.Tables.{part_of, hinted_at, line_at, IsWithin, HasClause, HasParts, IsAdded, Extends}
-use Rattle.gh_log.specs.Tables.{literals_of, numbers_of, sum_of, AreHeld, AreHeldIn, MakesRoom, HoldsLiterals, HoldsNumbers}
+use Rattle.gh_log.specs.Tables.{literals_of, numbers_of, HoldLines, HoldEntries, MakesRoom, HoldsLiterals, HoldsNumbers}
 
 -- what stands between two places
 pub between : {X : Type 0} (from to : ℕ) (xs : List X) → from ≤ to → take (to - from) (drop from xs) ≡ drop from (take to xs)
@@ -97,23 +98,18 @@ text_more f ls i l e =
     ap (flat_map f) (take_more ls i l (slice_get_within ls i l e) ∙ ap (λ x. take i ls ++ x ∷ []) is)
     ∙ flat_map-append f (take i ls) (l ∷ []) ∙ ap (λ t. flat_map f (take i ls) ++ t) (append-nil (f l))
 
--- sums of lines grow by a line's count
-sum_push : (count : plain.LogLine → ℕ) (ls : List plain.LogLine) (l : plain.LogLine) → sum_of count (ls ++ l ∷ []) ≡ sum_of count ls + count l
-sum_push count [] l = omega arith
-sum_push count (k ∷ ls) l = let e = sum_push count ls l in omega (arith, e)
-
 more_few : (a more old new : ℕ) → a < 2 ^ 32 → a ≤ old → old + more ≤ new → (0 < more → new < 2 ^ 32) → a + more < 2 ^ 32
 more_few a zero old new small below room few = omega (arith, small)
 more_few a (suc m) old new small below room few = let h = few (omega arith) in omega (arith, below, room, h)
 
 -- a line more is held where the tables made room for it
-more_held : (cs ds : List Lit) (ns ms : List ℕ) (ls : List plain.LogLine) (l : plain.LogLine) → AreHeld ls cs ns → HoldsLiterals cs ds l → HoldsNumbers ns ms l
-    → AreHeld (ls ++ l ∷ []) ds ms
+more_held : (cs ds : List Lit) (ns ms : List ℕ) (ls : List plain.LogLine) (l : plain.LogLine) → HoldLines ls cs ns → HoldsLiterals cs ds l → HoldsNumbers ns ms l
+    → HoldLines (ls ++ l ∷ []) ds ms
 more_held cs ds ns ms ls l h x y =
-    let e = sum_push literals_of ls l in
-    let f = sum_push numbers_of ls l in
-    let p = more_few (sum_of literals_of ls) (literals_of l) (length cs) (length ds) h.few.literals h.literals_there x.grown x.few in
-    let q = more_few (sum_of numbers_of ls) (numbers_of l) (length ns) (length ms) h.few.numbers h.numbers_there y.grown y.few in
+    let e = sum_by-append literals_of ls (l ∷ []) in
+    let f = sum_by-append numbers_of ls (l ∷ []) in
+    let p = more_few (sum_by literals_of ls) (literals_of l) (length cs) (length ds) h.few.literals h.literals_there x.grown x.few in
+    let q = more_few (sum_by numbers_of ls) (numbers_of l) (length ns) (length ms) h.few.numbers h.numbers_there y.grown y.few in
     record {
       few = record { literals = omega (arith, e, p); numbers = omega (arith, f, q) };
       literals_there = omega (arith, e, h.literals_there, x.grown);
@@ -121,22 +117,22 @@ more_held cs ds ns ms ls l h x y =
     }
 
 pub pushed_held : (cs ds : List Lit) (ns ms : List ℕ) (es fs : List Entry) (e : Entry) (l : plain.LogLine) → Extends ds cs → Extends ms ns → AllHaveParts cs ns es
-    → AreHeldIn cs ns es → fs ≡ es ++ e ∷ [] → line_at ds ms e ≡ l → HoldsLiterals cs ds l → HoldsNumbers ns ms l → AreHeldIn ds ms fs
+    → HoldEntries cs ns es → fs ≡ es ++ e ∷ [] → line_at ds ms e ≡ l → HoldsLiterals cs ds l → HoldsNumbers ns ms l → HoldEntries ds ms fs
 pushed_held cs ds ns ms es fs e l x y h held f g a b =
-    subst (λ ls. AreHeld ls ds ms) (sym (pushed_line cs ds ns ms es fs e l (map (line_at cs ns) es) x y h refl f g))
+    subst (λ ls. HoldLines ls ds ms) (sym (pushed_line cs ds ns ms es fs e l (map (line_at cs ns) es) x y h refl f g))
     (more_held cs ds ns ms (map (line_at cs ns) es) l held a b)
 
 pub still_parts : (cs ds : List Lit) (ns ms : List ℕ) (es fs : List Entry) → Extends ds cs → Extends ms ns → AllHaveParts cs ns es → fs ≡ es → AllHaveParts ds ms fs
 still_parts cs ds ns ms es fs x y h f = subst (AllHaveParts ds ms) (sym f) (λ k d l. parts_kept cs ds ns ms _ x y (h k d l))
 
 -- tables that grow hold the lines that they held
-pub still_held : (cs ds : List Lit) (ns ms : List ℕ) (es fs : List Entry) → Extends ds cs → Extends ms ns → AllHaveParts cs ns es → AreHeldIn cs ns es → fs ≡ es → AreHeldIn ds ms fs
+pub still_held : (cs ds : List Lit) (ns ms : List ℕ) (es fs : List Entry) → Extends ds cs → Extends ms ns → AllHaveParts cs ns es → HoldEntries cs ns es → fs ≡ es → HoldEntries ds ms fs
 still_held cs ds ns ms es fs x y h held f =
     let a = ap length x.same in
     let b = length-append cs x.more in
     let c = ap length y.same in
     let d = length-append ns y.more in
-    subst (λ ls. AreHeld ls ds ms) (sym (same_lines cs ds ns ms es fs (map (line_at cs ns) es) x y h refl f))
+    subst (λ ls. HoldLines ls ds ms) (sym (same_lines cs ds ns ms es fs (map (line_at cs ns) es) x y h refl f))
     (record { few = held.few; literals_there = omega (arith, held.literals_there, a, b); numbers_there = omega (arith, held.numbers_there, c, d) })
 
 -- what was added to a table has room in it

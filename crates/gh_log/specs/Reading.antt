@@ -1,5 +1,6 @@
 -- What the parts of the grammar spell at the front of a text, and what the reader answers for a part.
-use Rattle.std.specs.Prelude.{◌≡◌, ◌≢◌, ◌⊎◌, ⊤, ◌+◌, ◌-◌, ◌^◌, ◌<◌, ◌≤◌, ℕ, List, [], ◌∷◌, ◌++◌, length, take, replicate, codes, Bool, false, All, Option, Result, MatchBool, MatchOption, MatchResult}
+use Rattle.std.specs.Prelude.{◌≡◌, ◌≢◌, ◌⊎◌, ⊤, ◌+◌, ◌-◌, ◌^◌, ◌<◌, ◌≤◌, ℕ, List, [], ◌∷◌, ◌++◌, length, take}
+use Rattle.std.specs.Prelude.{replicate, codes, Bool, false, All, Option, Result, MatchBool, MatchOption, MatchResult}
 use Rattle.std.specs.List.{flat_map}
 use Rattle.std.specs.Fmt.{decimal}
 use Rattle.std.specs.Char.{is_ascii_digit}
@@ -19,8 +20,10 @@ use Rattle.gh_log.specs.declared.error.LogError.TheVariants.{Line, OutOfMemory a
 use Rattle.gh_log.specs.declared.error.Refusal.{Refusal}
 use Rattle.gh_log.specs.declared.error.Refusal.TheVariants.{Outside, OutOfMemory}
 use Rattle.gh_base.specs.Texts.{line_end}
-use Rattle.gh_log.specs.Texts.{atom_text, sign_text, lits_text, term_text, numbers_text, line_text, header_text, section_text}
-use Rattle.gh_log.specs.Spelled.{IsSpelledAtom, AreSpelled, IsVersion, IsOfVersion, AreNumbers, HasSpelledParts, IsSpelledLine}
+use Rattle.gh_log.specs.Texts.{atom_text, sign_text, lits_text, term_text, numbers_text, line_text, header_text}
+use Rattle.gh_log.specs.Texts.{section_text}
+use Rattle.gh_log.specs.Spelled.{IsSpelledAtom, AreSpelled, IsVersion, IsOfVersion, AreNumbers, HasSpelledParts}
+use Rattle.gh_log.specs.Spelled.{IsSpelledLine}
 
 -- the part spells nothing at the front
 abbrev pub SpellsNothing : {X : Type 0} → (X → List ℕ → Type 0) → Type 0

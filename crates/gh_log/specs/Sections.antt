@@ -1,5 +1,6 @@
 -- The lines of a section, and when it is valid for a list of clauses with its numbers of terms, versions and definitions.
-use Rattle.std.specs.Prelude.{◌≡◌, ◌⊎◌, ⊤, ◌+◌, ◌<◌, ℕ, List, [], ◌∷◌, ◌++◌, take, length, slice_get, slice_index_or, Option, Some, None, All, Contains, filter_map, AllPairs, ◌≢◌}
+use Rattle.std.specs.Prelude.{◌≡◌, ◌⊎◌, ⊤, ◌+◌, ◌<◌, ℕ, List, [], ◌∷◌, ◌++◌, take, length, slice_get, slice_index_or}
+use Rattle.std.specs.Prelude.{Option, Some, None, All, Contains, filter_map, AllPairs, ◌≢◌}
 use Rattle.gh_base.specs.declared.atom.Lit.{Lit}
 use Rattle.gh_base.specs.Atoms.{AreInRange}
 use Rattle.gh_base.specs.Grounds.{Problem}

@@ -1,5 +1,6 @@
 -- The logs that the grammar can spell, the places of their sections, and the first line of a text that is outside the grammar.
 use Rattle.std.specs.Prelude.{◌≡◌, ◌≢◌, ◌⊎◌, ⊤, ◌+◌, ◌≤◌, ℕ, List, [], ◌∷◌, ◌++◌, map, length, All, count_by, nat_eq}
+use Rattle.gh_base.specs.Texts.{line_end}
 use Rattle.gh_base.specs.declared.atom.Atom.{Atom}
 use Rattle.gh_base.specs.declared.atom.Atom.TheVariants.{Eq, Btwn, Hop, Alloc, Def}
 use Rattle.gh_base.specs.declared.atom.Lit.{Lit}
@@ -93,7 +94,7 @@ pub record IsFirstOutside (text : List ℕ) (k : ℕ) : Type 0 where
   pub whole : text ≡ front ++ rest
   pub number_is : k ≡ lines_before front + 1
   pub before : (front ≡ []) ⊎ (IsLogText front × (rest ≢ []))
-  pub outside : (l after : List ℕ) → rest ≡ l ++ 10 ∷ after → All (λ b. b ≢ 10) l → IsLogText (front ++ l ++ 10 ∷ []) → ⊥
+  pub outside : (l after : List ℕ) → rest ≡ l ++ (line_end ++ after) → All (λ b. b ≢ 10) l → IsLogText (front ++ l ++ line_end) → ⊥
 
 -- why a text isn't read
 abbrev pub IsLogRefusal : List ℕ → LogError → Type 0

@@ -1,5 +1,5 @@
 -- Lines that the program borrows, and lines whose literals and numbers stand in tables.
-use Rattle.std.specs.Prelude.{◌≡◌, ◌<◌, ◌≤◌, ◌+◌, ◌^◌, ⊤, ℕ, List, [], ◌∷◌, ◌++◌, take, drop, map, length, All}
+use Rattle.std.specs.Prelude.{◌≡◌, ◌<◌, ◌≤◌, ◌+◌, ◌^◌, ⊤, ℕ, List, [], ◌∷◌, ◌++◌, take, drop, map, sum_by, length, All}
 use Rattle.gh_base.specs.declared.atom.Lit.{Lit}
 use Rattle.gh_log.specs.Lines as plain
 use Rattle.gh_log.specs.declared.lines.LogLine.{LogLine}
@@ -84,29 +84,24 @@ numbers_of (plain.Learnt c) = 0
 numbers_of (plain.Hinted c hints) = 2 + length hints
 numbers_of (plain.Delete positions) = length positions
 
--- .. of all lines
-abbrev pub sum_of : (plain.LogLine → ℕ) → List plain.LogLine → ℕ
-sum_of count [] = 0
-sum_of count (l ∷ ls) = count l + sum_of count ls
-
 -- 32 bits count the literals of all lines, and their numbers
-pub record AreFew (lines : List plain.LogLine) : Type 0 where
-  pub literals : sum_of literals_of lines < 2 ^ 32
-  pub numbers : sum_of numbers_of lines < 2 ^ 32
+pub record HaveFewParts (lines : List plain.LogLine) : Type 0 where
+  pub literals : sum_by literals_of lines < 2 ^ 32
+  pub numbers : sum_by numbers_of lines < 2 ^ 32
 
--- the tables are as long as the lines need at least
-pub record AreHeld (lines : List plain.LogLine) (literals : List Lit) (numbers : List ℕ) : Type 0 where
-  pub few : AreFew lines
-  pub literals_there : sum_of literals_of lines ≤ length literals
-  pub numbers_there : sum_of numbers_of lines ≤ length numbers
+-- the tables are at least as long as the lines need
+pub record HoldLines (lines : List plain.LogLine) (literals : List Lit) (numbers : List ℕ) : Type 0 where
+  pub few : HaveFewParts lines
+  pub literals_there : sum_by literals_of lines ≤ length literals
+  pub numbers_there : sum_by numbers_of lines ≤ length numbers
 
 -- .. for the lines of entries
-abbrev pub AreHeldIn : List Lit → List ℕ → List Entry → Type 0
-AreHeldIn literals numbers entries = AreHeld (map (line_at literals numbers) entries) literals numbers
+abbrev pub HoldEntries : List Lit → List ℕ → List Entry → Type 0
+HoldEntries literals numbers entries = HoldLines (map (line_at literals numbers) entries) literals numbers
 
 -- the parts of the entries lie within the tables, which hold their lines
 abbrev pub AreEntries : List Lit → List ℕ → List Entry → Type 0
-AreEntries literals numbers entries = All (HasParts literals numbers) entries × AreHeldIn literals numbers entries
+AreEntries literals numbers entries = All (HasParts literals numbers) entries × HoldEntries literals numbers entries
 
 -- a table grew by so many items at least, and where there are some, 32 bits count its length
 pub record MakesRoom {X : Type 0} (old new : List X) (more : ℕ) : Type 0 where

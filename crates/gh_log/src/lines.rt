@@ -4,7 +4,7 @@ ghost use Rattle.std.specs.Prelude.{◌≡◌, ◌<◌, ◌+◌, ◌^◌, ◌∷
 ghost use Rattle.gh_log.specs.Lines.{Hinted};
 ghost use Rattle.gh_log.specs.Tables.{line_of, part_of, hinted_at, line_at};
 ghost use Rattle.gh_log.specs.Tables.{IsWithin, HasClause, HasParts, IsAdded, Extends, MakesRoom};
-ghost use Rattle.gh_log.specs.Tables.{HoldsLiterals, HoldsNumbers, AreFew};
+ghost use Rattle.gh_log.specs.Tables.{HoldsLiterals, HoldsNumbers, HaveFewParts};
 
 use gh_base::atom::Lit;
 use gh_inst::naming::InstanceName;
@@ -220,7 +220,7 @@ impl Lines {
     /// two for each clause that has hints. What a call that failed left in a table counts too.
     pub fn push(&mut self, line: LogLine<'_>) -> Result<(), AllocError>
         ensures ok { OnOk result (self.new ≡ self.old ++ line_of line.entry ∷ []) }
-        ensures few { OnOk result (AreFew self.new) }
+        ensures few { OnOk result (HaveFewParts self.new) }
         ensures err { OnErr result (self.new ≡ self.old) }
     {
         let entry = enter(&mut self.literals, &mut self.numbers, line)?;

@@ -4,7 +4,8 @@ ghost use Rattle.std.specs.Prelude.{◌≡◌, ◌+◌, ◌<◌, ◌^◌, ◌∷
 ghost use Rattle.gh_log.specs.Texts.{log_text};
 ghost use Rattle.gh_log.specs.Tables.{line_of};
 ghost use Rattle.gh_log.specs.Spelled.{IsVersion, IsSpelled, ArePlaced, IsLogRefusal, lines_of};
-ghost use Rattle.gh_log.specs.Reading.{IsPartRead, SpellsTerms, ArePadded, SpellsParts, SpellsLine, line_with, SpellsGround, SpellsName};
+ghost use Rattle.gh_log.specs.Reading.{IsPartRead, SpellsTerms, ArePadded, SpellsParts, SpellsLine, line_with};
+ghost use Rattle.gh_log.specs.Reading.{SpellsGround, SpellsName};
 ghost use Rattle.gh_log.specs.Reading.{SpellsVersion, SpellsHeader, EndsSection, SpellsSection, IsSectionRefusal};
 ghost use Rattle.std.specs.Bool.{MatchBool};
 

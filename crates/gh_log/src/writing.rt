@@ -127,7 +127,7 @@ fn put_numbers(out: &mut Text, numbers: &[u32]) -> Result<(), AllocError>
     Ok(())
 }
 
-// A clause that hints show, and the end of the line
+// The line of a clause that hints show
 fn put_hinted(out: &mut Text, lits: &[Lit], hints: &[u32]) -> Result<(), AllocError>
     ensures { OnOk result (Adds out.old out.new (line_text (Hinted lits.now hints.now))) }
 {

@@ -1,10 +1,12 @@
 -- Configurations as they are kept, and what a step answers.
-use Rattle.std.specs.Prelude.{◌≡◌, ◌≢◌, ◌⊎◌, ℕ, List, slice_index_or, [], ◌∷◌, ◌++◌, map, reverse, length, Option, None, MatchOption, All, Contains}
+use Rattle.std.specs.Prelude.{◌≡◌, ◌≢◌, ◌⊎◌, ℕ, List, slice_index_or, [], ◌∷◌, ◌++◌, map, reverse, length, Option, None}
+use Rattle.std.specs.Prelude.{MatchOption, All, Contains}
 use Rattle.std.specs.Borrow.{Bor}
 use Rattle.std.specs.FinMap.{get}
 use Rattle.gh_ast.specs.declared.Occ.{Occ}
 use Rattle.gh_ast.specs.declared.Procedure as kept
-use Rattle.gh_ast.specs.Plain.{new, call, give, Statements, statement_first, statements_view, procedure_of, Procedure, Program}
+use Rattle.gh_ast.specs.Plain.{new, call, give, Statements, statement_first, statements_view, procedure_of, Procedure}
+use Rattle.gh_ast.specs.Plain.{Program}
 use Rattle.gh_ast.specs.Programs.{Name, names, parameters_of, results_of, variable_names, Declares, SomeAssigns}
 use Rattle.gh_ast.specs.Occurrences.{locals_of}
 use Rattle.gh_ast.specs.Rules.{IsTyped}
@@ -80,8 +82,8 @@ IsNext P choice Fault c d = machine.Fault c × (d ≡ c)
 IsNext P choice NotAChoice c d = (machine.Fault c → ⊥) × Misfits P choice c.top.rest c.heap × (d ≡ c)
 
 -- the same of configurations as they are kept
-abbrev pub IsBegun : Program → ℕ → List ℕ → List ℕ → Heap → Config → Type 0
-IsBegun P number arguments starts h c = IsBeginning P number arguments starts h (config_of c)
+abbrev pub IsBeginningOf : Program → ℕ → List ℕ → List ℕ → Heap → Config → Type 0
+IsBeginningOf P number arguments starts h c = IsBeginning P number arguments starts h (config_of c)
 
 abbrev pub IsNextOf : Program → Choice → Next → Config → Config → Type 0
 IsNextOf P choice next c d = IsNext P choice next (config_of c) (config_of d)

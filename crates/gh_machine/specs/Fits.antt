@@ -1,6 +1,7 @@
 -- What keeps a run from standing still: callees are there, counts agree, and names that get values together are distinct.
 use Rattle.std.specs.Prelude.{◌≡◌, List, [], ◌∷◌, length, Contains}
-use Rattle.gh_ast.specs.Plain.{Statement, call, choice, loop, give, Statements, no_statements, statement_first, Procedure, Program}
+use Rattle.gh_ast.specs.Plain.{Statement, call, choice, loop, give, Statements, no_statements, statement_first}
+use Rattle.gh_ast.specs.Plain.{Procedure, Program}
 use Rattle.gh_ast.specs.Programs.{Name, names, parameters_of, results_of, body_of, Declares}
 use Rattle.gh_machine.specs.Machine.{Activation, Config}
 

@@ -1,7 +1,8 @@
 -- Runs of a program.
 use Rattle.std.specs.Prelude.{◌≡◌, ◌≢◌, ◌⊎◌, ℕ, List, [], ◌∷◌, map, Bool, cond, Some, None, Contains}
 use Rattle.std.specs.FinMap.{get, insert, remove}
-use Rattle.gh_ast.specs.Plain.{set, new, write, free, call, choice, loop, give, Statements, no_statements, statement_first, Procedure, Program}
+use Rattle.gh_ast.specs.Plain.{set, new, write, free, call, choice, loop, give, Statements, no_statements}
+use Rattle.gh_ast.specs.Plain.{statement_first, Procedure, Program}
 use Rattle.gh_ast.specs.declared.Expr.{Expr}
 use Rattle.gh_assert.specs.Heaps.{Heap, Splits}
 use Rattle.gh_assert.specs.Meaning.{Store, Meaning, MeetsOneOf}

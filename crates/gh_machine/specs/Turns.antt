@@ -4,7 +4,8 @@ use Rattle.gh_base.specs.declared.place.Span.{Span}
 use Rattle.gh_ast.specs.declared.Occ.{Occ}
 use Rattle.gh_ast.specs.declared.Expr.{Expr}
 use Rattle.gh_ast.specs.declared.Stmt.{Stmt}
-use Rattle.gh_ast.specs.Plain.{Test, Formula, Statement, call, choice, loop, give, statement_first, statements_view, Part, Program}
+use Rattle.gh_ast.specs.Plain.{Test, Formula, Statement, call, choice, loop, give, statement_first, statements_view}
+use Rattle.gh_ast.specs.Plain.{Part, Program}
 use Rattle.gh_machine.specs.Machine as machine
 use Rattle.gh_machine.specs.Machine.{Pops}
 use Rattle.gh_machine.specs.Configs.{IsNext, IsMadeFor}

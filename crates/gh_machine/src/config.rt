@@ -3,7 +3,7 @@
 ghost use Rattle.std.specs.Prelude.{◌≡◌, ◌<◌, IfOk, length};
 ghost use Rattle.gh_ast.specs.Plain.{program_of};
 ghost use Rattle.gh_assert.specs.Stores.{store_of};
-ghost use Rattle.gh_machine.specs.Configs.{AreArguments, AreStarts, IsBegun, IsMadeFor, config_of};
+ghost use Rattle.gh_machine.specs.Configs.{AreArguments, AreStarts, IsBeginningOf, IsMadeFor, config_of};
 
 use crate::rest::Rest;
 use crate::stores::enter;
@@ -44,7 +44,7 @@ impl<'p> Config<'p> {
         requires there { procedure < length typed.now.procedures.items }
         requires arguments { AreArguments (program_of typed.now) procedure arguments.now }
         requires starts { AreStarts (program_of typed.now) procedure starts.now }
-        ensures start { IfOk result (λ c. IsBegun (program_of typed.now) procedure arguments.now starts.now heap c) }
+        ensures start { IfOk result (λ c. IsBeginningOf (program_of typed.now) procedure arguments.now starts.now heap c) }
         ensures made { IfOk result (λ c. IsMadeFor (program_of typed.now) c) }
     {
         let procedure = &typed.program().procedures[usize::from(procedure)];

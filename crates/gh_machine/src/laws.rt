@@ -1,6 +1,7 @@
 //! Laws of steps.
 
-ghost use Rattle.gh_machine.specs.Laws.{StepsAreChosen, FaultsStop, EndsStop, StepsKeepFrames, StepsTakeFrames, RunsKeepFrames, TypedFit, StepsFit, RunsGoOn, RunsKeepStacks};
+ghost use Rattle.gh_machine.specs.Laws.{StepsAreChosen, FaultsStop, EndsStop, StepsKeepFrames, StepsTakeFrames};
+ghost use Rattle.gh_machine.specs.Laws.{RunsKeepFrames, TypedFit, StepsFit, RunsGoOn, RunsKeepStacks};
 
 /// A step is determined by the configuration and what it may choose.
 pub fn steps_are_chosen()

@@ -5,8 +5,10 @@ ghost use Rattle.gh_ast.specs.Plain as plain;
 ghost use Rattle.gh_ast.specs.Plain.{program_of, statements_view, test_of, part_of, Procedure as PlainProcedure};
 ghost use Rattle.gh_assert.specs.Stores.{listed_names};
 ghost use Rattle.gh_machine.specs.Fits.{Awaits};
-ghost use Rattle.gh_machine.specs.Configs.{config_of, IsNextOf, IsMadeFor, AllListVariables, FindsDeclared, WantsStarts};
-ghost use Rattle.gh_machine.specs.Turns.{Comes, CallComes, ChoiceComes, LoopComes, ReturnComes, Calls, AlwaysNext, IsPopped, IsMadeForSome};
+ghost use Rattle.gh_machine.specs.Configs.{config_of, IsNextOf, IsMadeFor, AllListVariables, FindsDeclared};
+ghost use Rattle.gh_machine.specs.Configs.{WantsStarts};
+ghost use Rattle.gh_machine.specs.Turns.{Comes, CallComes, ChoiceComes, LoopComes, ReturnComes, Calls, AlwaysNext};
+ghost use Rattle.gh_machine.specs.Turns.{IsPopped, IsMadeForSome};
 
 use crate::config::Config;
 use crate::rest::Rest;

@@ -1,5 +1,6 @@
 -- The trace of an interpretation of a condition's terms.
-use Rattle.std.specs.Prelude.{◌≡◌, ℕ, zero, suc, ◌<◌, List, [], ◌∷◌, length, Option, Some, None, Bool, not, ◌&&◌, ◌==◌, cond, Contains}
+use Rattle.std.specs.Prelude.{◌≡◌, ℕ, zero, suc, ◌<◌, List, [], ◌∷◌, length, Option, Some, None, Bool, not, ◌&&◌, ◌==◌}
+use Rattle.std.specs.Prelude.{cond, Contains}
 use Rattle.std.specs.FinMap.{empty, insert, get}
 use Rattle.gh_base.specs.Meaning.{Interpretation}
 use Rattle.gh_ast.specs.Plain.{Program}

@@ -5,7 +5,8 @@ use Rattle.gh_base.specs.declared.atom.Atom.TheVariants.{Btwn, Hop, Alloc}
 use Rattle.gh_base.specs.declared.sizes.Sizes.{Sizes}
 use Rattle.gh_base.specs.Meaning.{Interpretation}
 use Rattle.gh_inst.specs.Violations.{AreInstancesTrue}
-use Rattle.gh_ast.specs.Plain.{Formula, empty, comparison, points_to, cell, segment, star, cases, Formulas, no_formulas, formula_first}
+use Rattle.gh_ast.specs.Plain.{Formula, empty, comparison, points_to, cell, segment, star, cases, Formulas, no_formulas}
+use Rattle.gh_ast.specs.Plain.{formula_first}
 use Rattle.gh_ast.specs.Programs.{Name}
 use Rattle.gh_ast.specs.Names.{FormulaIn}
 use Rattle.gh_assert.specs.Meaning.{Store}

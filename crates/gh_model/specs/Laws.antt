@@ -7,13 +7,13 @@ use Rattle.gh_assert.specs.Meaning.{Store}
 use Rattle.gh_assert.specs.Walks.{succ}
 use Rattle.gh_assert.specs.Ownership.{Owned}
 use Rattle.gh_assert.specs.Reading.{HasNames}
-use Rattle.gh_assert.specs.Laws.{IsReadOff, Rows}
+use Rattle.gh_assert.specs.Laws.{IsReadOff, Rows, LinkRows}
 use Rattle.gh_base.specs.declared.sizes.Sizes.{Sizes}
 use Rattle.gh_base.specs.Meaning as congruence
 use Rattle.gh_base.specs.Meaning.{Interpretation}
 use Rattle.gh_inst.specs.Violations.{AreInstancesTrue}
 use Rattle.gh_model.specs.Versions.{equal_in, version_of, HasHops}
-use Rattle.gh_model.specs.Structures.{Structure, IsOrdered, Keeps, IsModel}
+use Rattle.gh_model.specs.Structures.{Structure, IsOrdered, IsLinked, Keeps, IsModel}
 use Rattle.gh_model.specs.BuiltHeaps.{built}
 use Rattle.gh_model.specs.Operands.{IsNamed}
 use Rattle.gh_model.specs.Representations.{Represents, AgreeOn}
@@ -89,6 +89,26 @@ VersionsAreModels = (s : Sizes) (m : Interpretation) (i : ℕ) → i < s.version
 -- the rows that betweenness keeps in a heap are the ten rows of a structure over all values
 abbrev pub RowsAreTheOrder : Type 0
 RowsAreTheOrder = (m : Structure) → Rows (λ x y z. IsTrue (m.between x y z)) ↔ IsOrdered (λ x. Unit {0}) (λ x y. x ≡ y) m
+
+-- who reaches another is a cell, 0 is none, and each cell has a hop, among what N holds of
+pub record KeepsCells (N : ℕ → Type 0) (E : ℕ → ℕ → Type 0) (m : Structure) : Type 0 where
+  pub row_13 : (x y : ℕ) → N x → N y → IsTrue (m.between x y y) → IsTrue (m.alloc x) ⊎ (E x y)
+  pub null : IsTrue (m.alloc 0) → ⊥
+  pub hops : (x : ℕ) → N x → IsTrue (m.alloc x) → (v : ℕ) × N v × IsTrue (m.hop x v)
+
+-- the rows that hops keep in a heap, of the hops of a structure among what N holds of
+abbrev pub LinkRowsOf : (ℕ → Type 0) → (ℕ → ℕ → Type 0) → Structure → Type 0
+LinkRowsOf N E m =
+    LinkRows N E (λ x y z. IsTrue (m.between x y z)) (λ x v. N x × N v × IsTrue (m.hop x v)) (λ x. IsTrue (m.alloc x))
+
+-- these rows, with row 13, no cell at 0 and a hop from each cell, are the links of a structure
+abbrev pub AreLinks : (ℕ → Type 0) → (ℕ → ℕ → Type 0) → Structure → Type 0
+AreLinks N E m = (LinkRowsOf N E m × KeepsCells N E m) ↔ IsLinked N E m
+
+-- .. of one on values and of one on terms
+pub record RowsAreTheLinks : Type 0 where
+  pub values : (V : List ℕ) (m : Structure) → AreLinks (Contains V) (λ x y. x ≡ y) m
+  pub terms : (equal : ℕ → ℕ → Bool) (n : ℕ) (m : Structure) → AreLinks (λ t. t < n) (λ x y. IsTrue (equal x y)) m
 
 -- equality is a congruence of an interpretation exactly where it is one of each version
 abbrev pub CongruencesAreOfVersions : Type 0

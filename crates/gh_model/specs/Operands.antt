@@ -1,6 +1,7 @@
 -- The operands of an assertion are in V.
 use Rattle.std.specs.Prelude.{ℕ, List, Contains}
-use Rattle.gh_ast.specs.Plain.{Formula, empty, comparison, points_to, cell, segment, star, cases, Formulas, no_formulas, formula_first}
+use Rattle.gh_ast.specs.Plain.{Formula, empty, comparison, points_to, cell, segment, star, cases, Formulas, no_formulas}
+use Rattle.gh_ast.specs.Plain.{formula_first}
 use Rattle.gh_assert.specs.Meaning.{Store, value}
 
 abbrev mutual

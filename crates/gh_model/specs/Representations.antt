@@ -1,6 +1,7 @@
 -- A structure that represents a heap, and what it says of assertions.
 use Rattle.std.specs.Prelude.{◌≡◌, ◌≢◌, ◌⊎◌, ◌↔◌, ℕ, List, ◌==◌, true, IsTrue, MatchBool, Contains, Decides}
-use Rattle.gh_ast.specs.Plain.{Formula, empty, comparison, points_to, cell, segment, star, cases, Formulas, no_formulas, formula_first}
+use Rattle.gh_ast.specs.Plain.{Formula, empty, comparison, points_to, cell, segment, star, cases, Formulas, no_formulas}
+use Rattle.gh_ast.specs.Plain.{formula_first}
 use Rattle.gh_assert.specs.Heaps.{Heap, IsPart}
 use Rattle.gh_assert.specs.Meaning.{Store, Meaning, value, agrees, truth}
 use Rattle.gh_assert.specs.Walks.{Between, Allocated}

@@ -11,7 +11,8 @@ ghost use Rattle.gh_ast.specs.Programs.{names, variable_names};
 ghost use Rattle.gh_ast.specs.Occurrences.{locals_of};
 ghost use Rattle.gh_assert.specs.Stores.{listed_names};
 ghost use Rattle.gh_model.specs.BuiltTraces.{stands_at, content_at, heap_in};
-ghost use Rattle.gh_model.specs.KeptTraces.{store_in, values_of, state_at, states_of, version_after_kept, after_first, AreBelow, HasAll, IsBuilt};
+ghost use Rattle.gh_model.specs.KeptTraces.{store_in, values_of, state_at, states_of, version_after_kept, after_first};
+ghost use Rattle.gh_model.specs.KeptTraces.{AreBelow, HasAll, IsBuilt};
 
 use gh_assert::heap::Heap;
 use gh_assert::store::Store;

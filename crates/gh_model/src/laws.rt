@@ -1,18 +1,23 @@
 //! Laws of structures and of the heaps that they represent.
 
-ghost use Rattle.gh_model.specs.StepLaws.{WritesAreRepresented, NewsAreRepresented, FreesAreRepresented, CallsAreRepresented};
+ghost use Rattle.gh_model.specs.StepLaws.{WritesAreRepresented, NewsAreRepresented, FreesAreRepresented};
+ghost use Rattle.gh_model.specs.StepLaws.{CallsAreRepresented};
 ghost use Rattle.gh_model.specs.Abstraction.{TracesSatisfy, TracesGiveModels};
 ghost use Rattle.gh_model.specs.Depictions.{TracesAreDepicted};
 ghost use Rattle.gh_model.specs.BuiltTraces.{LocalityHolds, VersionsAreBuilt};
 ghost use Rattle.gh_model.specs.ReadingLaws.{FormulasAreRead};
 ghost use Rattle.gh_model.specs.BoundVariables.{OnlyVariablesHaveTerms};
 ghost use Rattle.gh_model.specs.KeptTraces.{BuiltIsCounterexample};
-ghost use Rattle.gh_model.specs.StepFormulas.{WritesArePreserved, NewsArePreserved, FreesArePreserved, CallsArePreserved};
+ghost use Rattle.gh_model.specs.StepFormulas.{WritesArePreserved, NewsArePreserved, FreesArePreserved};
+ghost use Rattle.gh_model.specs.StepFormulas.{CallsArePreserved};
 ghost use Rattle.gh_model.specs.Homomorphisms.{FormulasArePreserved, InstancesHold};
 ghost use Rattle.gh_model.specs.Sections.{SectionsShowValidity};
 ghost use Rattle.gh_model.specs.TraceLaws.{TracesAreOwned, ValuesExist};
-ghost use Rattle.gh_model.specs.Laws.{HopsAgree, ContentsAreHops, ModelsAreBuilt, HeapsAreModels, BuiltIsRead, AssertionsAgree, BuiltAgrees, NextIsSuccessor, WritesAreBuilt, NewsAreBuilt, FreesAreBuilt, CallsAreBuilt, ClassesAreModels, RepresentationsExist, InstancesAreKept, VersionsAreModels};
-ghost use Rattle.gh_model.specs.Laws.{RowsAreTheOrder, CongruencesAreOfVersions};
+ghost use Rattle.gh_model.specs.Laws.{HopsAgree, ContentsAreHops, ModelsAreBuilt, HeapsAreModels, BuiltIsRead};
+ghost use Rattle.gh_model.specs.Laws.{AssertionsAgree, BuiltAgrees, NextIsSuccessor, WritesAreBuilt, NewsAreBuilt};
+ghost use Rattle.gh_model.specs.Laws.{FreesAreBuilt, CallsAreBuilt, ClassesAreModels, RepresentationsExist};
+ghost use Rattle.gh_model.specs.Laws.{InstancesAreKept, VersionsAreModels};
+ghost use Rattle.gh_model.specs.Laws.{RowsAreTheOrder, RowsAreTheLinks, CongruencesAreOfVersions};
 
 /// A value hops to one value at most.
 pub fn hops_agree()
@@ -203,6 +208,11 @@ pub fn built_is_counterexample()
 /// What betweenness keeps in a heap is what it keeps in a structure over all values.
 pub fn rows_are_the_order()
     ensures { RowsAreTheOrder }
+{}
+
+/// What hops keep in a heap is what they keep in a structure, beside what it says of its cells.
+pub fn rows_are_the_links()
+    ensures { RowsAreTheLinks }
 {}
 
 /// Equality is a congruence of an interpretation exactly where it is one of each version.

@@ -30,8 +30,8 @@ abbrev pub left_of : Parser → List Token
 left_of parser = tokens_of parser.rest.now
 
 -- the same of what a parser has left before and after
-abbrev pub IsRead : {X Y : Type 0} → (List Token → Type 0) → (List Token → X → List Token → Type 0) → Parser → (Y → X) → Result Y ReadError → Parser → Type 0
-IsRead Follows P old view answer new = IsRuleRead Follows P (left_of old) view answer (left_of new)
+abbrev pub IsReadBy : {X Y : Type 0} → (List Token → Type 0) → (List Token → X → List Token → Type 0) → Parser → (Y → X) → Result Y ReadError → Parser → Type 0
+IsReadBy Follows P old view answer new = IsRuleRead Follows P (left_of old) view answer (left_of new)
 
 -- a sign is taken where it is next, and a reserved word likewise
 abbrev pub IsSignTaken : signs.Sign → Parser → Option Span → Parser → Type 0

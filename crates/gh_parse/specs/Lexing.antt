@@ -1,8 +1,10 @@
 -- What the lexer answers.
-use Rattle.std.specs.Prelude.{◌≡◌, ℕ, ◌+◌, ◌<◌, List, [], ◌∷◌, ◌++◌, length, take, drop, Option, Some, None, MatchOption, Bool, IsTrue, ◌↔◌, codes}
+use Rattle.std.specs.Prelude.{◌≡◌, ℕ, ◌+◌, ◌<◌, List, [], ◌∷◌, ◌++◌, length, take, drop, Option, Some, None}
+use Rattle.std.specs.Prelude.{MatchOption, Bool, IsTrue, ◌↔◌, codes}
 use Rattle.gh_base.specs.declared.place.Span.{Span}
 use Rattle.gh_ast.specs.declared.sign.Sign.{Sign}
-use Rattle.gh_ast.specs.Tokens.{Token, sign_text, cleared, moved_over, first_place, IsPiece, IsLongest, IsTokens, IsStuck}
+use Rattle.gh_ast.specs.Tokens.{Token, sign_text, cleared, moved_over, first_place, IsPiece, IsLongest, IsTokens}
+use Rattle.gh_ast.specs.Tokens.{IsStuck}
 use Rattle.gh_parse.specs.Views.{symbol_at, symbol_text}
 use Rattle.gh_parse.specs.declared.token.Symbol.{Symbol}
 use Rattle.gh_parse.specs.declared.lexer.Piece.{Piece}

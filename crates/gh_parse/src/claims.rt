@@ -3,7 +3,7 @@
 ghost use Rattle.gh_ast.specs.declared.sign.Sign.TheVariants.{ParenOpen, ParenClose};
 ghost use Rattle.gh_ast.specs.QuestionGrammar.{SpellsPart, SpellsDenial, SpellsBoth, SpellsClaim};
 ghost use Rattle.gh_ast.specs.Questions.{claim_of};
-ghost use Rattle.gh_parse.specs.Answers.{IsRead, IsBetween};
+ghost use Rattle.gh_parse.specs.Answers.{IsReadBy, IsBetween};
 ghost use Rattle.gh_parse.specs.Questions.{IsApart};
 
 use crate::cursor::Parser;
@@ -16,7 +16,7 @@ impl<'t> Parser<'t> {
     /// Reads a claim: conjunctions with `||` between them.
     #[cycle(claim)]
     pub fn claim(&mut self, alloc: Global) -> Result<Claim, ReadError>
-        ensures { IsRead IsApart SpellsClaim self.old claim_of result self.new }
+        ensures { IsReadBy IsApart SpellsClaim self.old claim_of result self.new }
     {
         let first = self.claims_together(alloc)?;
         let Some(_) = self.take_sign(Sign::Or) else {
@@ -35,7 +35,7 @@ impl<'t> Parser<'t> {
     // Reads parts that may be denied, with `&&` between them.
     #[cycle(claim)]
     fn claims_together(&mut self, alloc: Global) -> Result<Claim, ReadError>
-        ensures { IsRead IsApart SpellsBoth self.old claim_of result self.new }
+        ensures { IsReadBy IsApart SpellsBoth self.old claim_of result self.new }
     {
         let first = self.denial(alloc)?;
         let Some(_) = self.take_sign(Sign::And) else {
@@ -54,7 +54,7 @@ impl<'t> Parser<'t> {
     // Reads a part that may be denied.
     #[cycle(claim)]
     fn denial(&mut self, alloc: Global) -> Result<Claim, ReadError>
-        ensures { IsRead IsApart SpellsDenial self.old claim_of result self.new }
+        ensures { IsReadBy IsApart SpellsDenial self.old claim_of result self.new }
     {
         let Some(_) = self.take_sign(Sign::Bang) else {
             return self.claim_part(alloc);
@@ -66,7 +66,7 @@ impl<'t> Parser<'t> {
     // Reads an assertion in braces, or a claim in brackets.
     #[cycle(claim)]
     fn claim_part(&mut self, alloc: Global) -> Result<Claim, ReadError>
-        ensures { IsRead IsApart SpellsPart self.old claim_of result self.new }
+        ensures { IsReadBy IsApart SpellsPart self.old claim_of result self.new }
     {
         if self.is_sign(Sign::ParenOpen) {
             return self.enclosed_claim(alloc);
@@ -78,7 +78,7 @@ impl<'t> Parser<'t> {
     // Reads a claim in brackets.
     #[cycle(claim)]
     fn enclosed_claim(&mut self, alloc: Global) -> Result<Claim, ReadError>
-        ensures { IsRead IsApart (IsBetween ParenOpen ParenClose SpellsClaim) self.old claim_of result self.new }
+        ensures { IsReadBy IsApart (IsBetween ParenOpen ParenClose SpellsClaim) self.old claim_of result self.new }
     {
         self.expect_sign(Sign::ParenOpen)?;
         let inner = self.claim(alloc)?;

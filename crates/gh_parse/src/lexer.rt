@@ -1,11 +1,14 @@
 //! The tokens of a text.
 
-ghost use Rattle.std.specs.Prelude.{◌≡◌, ◌≢◌, ◌↔◌, ◌+◌, ◌<◌, ◌≤◌, ◌-◌, ◌^◌, ◌∷◌, [], length, take, drop, IsTrue, MatchOption, IfOk, All, false};
+ghost use Rattle.std.specs.Prelude.{◌≡◌, ◌≢◌, ◌↔◌, ◌+◌, ◌<◌, ◌≤◌, ◌-◌, ◌^◌, ◌∷◌, [], length, take, drop, IsTrue};
+ghost use Rattle.std.specs.Prelude.{MatchOption, IfOk, All, false};
 ghost use Rattle.gh_base.specs.Names.{is_name_byte};
 ghost use Rattle.gh_base.specs.declared.place.Span.{Span};
-ghost use Rattle.gh_ast.specs.Tokens.{is_blank, sign_text, keyword_text, cleared, moved_over, IsFree, EndsWord, IsStuck};
+ghost use Rattle.gh_ast.specs.Tokens.{is_blank, sign_text, keyword_text, cleared, moved_over, IsFree, EndsWord};
+ghost use Rattle.gh_ast.specs.Tokens.{IsStuck};
 ghost use Rattle.gh_parse.specs.Views.{tokens_of};
-ghost use Rattle.gh_parse.specs.Lexing.{BeginsWith, IsSignFound, IsCommentAhead, EndsLine, IsSymbolAhead, IsPieceAhead, IsLexed};
+ghost use Rattle.gh_parse.specs.Lexing.{BeginsWith, IsSignFound, IsCommentAhead, EndsLine, IsSymbolAhead, IsPieceAhead};
+ghost use Rattle.gh_parse.specs.Lexing.{IsLexed};
 
 use crate::scan::after_byte;
 use crate::token::{Symbol, Token, Word};

@@ -5,7 +5,8 @@ ghost use Rattle.gh_ast.specs.Plain.{program_of};
 ghost use Rattle.gh_ast.specs.Questions.{question_of};
 ghost use Rattle.gh_ast.specs.WellFormed.{IsWellFormed};
 ghost use Rattle.gh_parse.specs.Views.{tokens_of};
-ghost use Rattle.gh_parse.specs.Parsing.{IsParsed, IsParseRefusal, IsAsked, IsQuestionRefusal, IsScan, answered, PrintedParse};
+ghost use Rattle.gh_parse.specs.Parsing.{IsParsed, IsParseRefusal, IsAsked, IsQuestionRefusal, IsScan, answered};
+ghost use Rattle.gh_parse.specs.Parsing.{PrintedParse};
 
 use crate::cursor::Parser;
 use crate::error::{ParseError, ReadError};

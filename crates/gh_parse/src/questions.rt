@@ -3,7 +3,7 @@
 ghost use Rattle.gh_ast.specs.QuestionGrammar.{SpellsVariables, SpellsQuestion};
 ghost use Rattle.gh_ast.specs.Questions.{claim_of, question_of};
 ghost use Rattle.gh_parse.specs.Stops.{IsAny, IsEnd};
-ghost use Rattle.gh_parse.specs.Answers.{IsRead};
+ghost use Rattle.gh_parse.specs.Answers.{IsReadBy};
 ghost use Rattle.gh_parse.specs.Procedures.{IsWhole};
 ghost use Rattle.gh_parse.specs.Questions.{IsLast};
 ghost use Rattle.gh_ast.specs.QuestionGrammar.{SpellsClaim};
@@ -18,7 +18,7 @@ use std::alloc::Global;
 impl<'t> Parser<'t> {
     /// Reads a whole question.
     pub fn question(&mut self, alloc: Global) -> Result<Question, ReadError>
-        ensures { IsRead IsEnd (IsWhole SpellsQuestion) self.old question_of result self.new }
+        ensures { IsReadBy IsEnd (IsWhole SpellsQuestion) self.old question_of result self.new }
     {
         let variables = self.variables(alloc)?;
         let span = self.expect_key(Keyword::Requires)?;
@@ -35,7 +35,7 @@ impl<'t> Parser<'t> {
 
     // Reads the variables before the word `requires`, which may be missing.
     fn variables(&mut self, alloc: Global) -> Result<Vec<Occ>, ReadError>
-        ensures { IsRead IsAny SpellsVariables self.old (λ v. v.items) result self.new }
+        ensures { IsReadBy IsAny SpellsVariables self.old (λ v. v.items) result self.new }
     {
         let mut variables = Vec::new(alloc);
         if self.is_key(Keyword::Requires) {
@@ -48,7 +48,7 @@ impl<'t> Parser<'t> {
 
     // Reads a claim after which no token is left.
     fn last_claim(&mut self, alloc: Global) -> Result<Claim, ReadError>
-        ensures { IsRead IsEnd (IsLast SpellsClaim) self.old claim_of result self.new }
+        ensures { IsReadBy IsEnd (IsLast SpellsClaim) self.old claim_of result self.new }
     {
         let claim = self.claim(alloc)?;
         if !self.is_end() {

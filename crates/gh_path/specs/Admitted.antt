@@ -43,19 +43,19 @@ abbrev pub NoneOf : List Procedure → (Procedure → Type 0) → Type 0
 NoneOf ps Q = (p : Procedure) → Contains ps p → Q p → ⊥
 
 -- the first procedure of the list that passes a limit on conditions; counting stops one past the limit
-pub record FirstOf (ps : List Procedure) (Q : Procedure → Type 0) (kind limit : ℕ) (l : Limit) : Type 0 where
+pub record FirstOf (ps : List Procedure) (Q : Procedure → Type 0) (kind number : ℕ) (l : Limit) : Type 0 where
   pub procedure : Procedure
   pub first : IsFirstWith Q ps procedure
   pub kind_is : l.kind ≡ kind
   pub span : l.span ≡ procedure.name.span
-  pub count : l.count ≡ limit
+  pub count : l.count ≡ number
 
--- .. of the procedures of the program
+-- the same of all procedures of a program
 abbrev pub NoneHas : Program → (Procedure → Type 0) → Type 0
 NoneHas P Q = NoneOf P.procedures Q
 
 abbrev pub Passed : Program → (Procedure → Type 0) → ℕ → ℕ → Limit → Type 0
-Passed P Q kind limit l = FirstOf P.procedures Q kind limit l
+Passed P Q kind number l = FirstOf P.procedures Q kind number l
 
 -- the limit that is answered: kinds in order, each over the whole program before the next
 pub data IsFirstLimit (P : Program) (l : Limit) : Type 0 where

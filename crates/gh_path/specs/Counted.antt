@@ -6,7 +6,7 @@ use Rattle.gh_path.specs.Conditions.{conditions}
 use Rattle.gh_path.specs.Roots.{AreStarts}
 use Rattle.gh_path.specs.declared.starts.Starts.{Starts}
 
-pub record IsCounted (P : Program) (count : ℕ) (starts : Starts) : Type 0 where
+pub record KeepsCounts (P : Program) (count : ℕ) (starts : Starts) : Type 0 where
   pub all : count ≡ length (conditions P)
   pub paths : NoneHas P HasManyPaths
   pub steps : NoneHas P HasManySteps

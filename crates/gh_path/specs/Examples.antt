@@ -5,7 +5,8 @@ use Rattle.gh_ast.specs.declared.Occ.{Occ}
 use Rattle.gh_ast.specs.declared.Operand.{Operand}
 use Rattle.gh_ast.specs.declared.Operand.TheVariants.{Null, Var}
 use Rattle.gh_ast.specs.declared.Expr.TheVariants.{Plain, Read}
-use Rattle.gh_ast.specs.Plain.{compare, Formula, segment, star, no_formulas, formula_first, set, write, call, choice, loop, give, Statements, no_statements, statement_first, Procedure, Program}
+use Rattle.gh_ast.specs.Plain.{compare, Formula, segment, star, no_formulas, formula_first, set, write, call, choice}
+use Rattle.gh_ast.specs.Plain.{loop, give, Statements, no_statements, statement_first, Procedure, Program}
 use Rattle.gh_path.specs.Graphs.{check_place}
 use Rattle.gh_path.specs.Conditions.{Condition}
 

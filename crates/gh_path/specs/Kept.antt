@@ -4,7 +4,9 @@ use Rattle.gh_base.specs.declared.place.Span.{Span}
 use Rattle.gh_ast.specs.declared.Occ.{Occ}
 use Rattle.gh_ast.specs.Plain.{Procedure, Program}
 use Rattle.gh_ast.specs.Programs.{Name, name_of, results_of}
-use Rattle.gh_path.specs.Graphs.{Loop, Check, access, entry, loop_entry, returned, loop_end, PathStep, accessed, assume, assigned, made, written, freed, called, looped, answered, loops_of, Start, whole_body, round}
+use Rattle.gh_path.specs.Graphs.{Loop, Check, access, entry, loop_entry, returned, loop_end, PathStep, accessed, assume}
+use Rattle.gh_path.specs.Graphs.{assigned, made, written, freed, called, looped, answered, loops_of, Start, whole_body}
+use Rattle.gh_path.specs.Graphs.{round}
 use Rattle.gh_path.specs.Conditions.{Condition}
 use Rattle.gh_path.specs.declared.condition.PathStep as kept_step
 use Rattle.gh_path.specs.declared.condition.PathStep.TheVariants as step
@@ -59,6 +61,26 @@ IsKind P p (kind.LoopEnd n) at c = (l : Loop) × IsLoop p n l × (l.close ≡ at
 
 abbrev pub IsCheck : Program → Procedure → kept_check.Check → Check → Type 0
 IsCheck P p k c = IsKind P p k.kind k.span c
+
+-- the number is that of some callee; of some loop
+abbrev pub IsSomeCallee : Program → ℕ → Type 0
+IsSomeCallee P n = (f : Name) × IsCallee P n f
+
+abbrev pub IsSomeLoop : Procedure → ℕ → Type 0
+IsSomeLoop p n = (l : Loop) × IsLoop p n l
+
+-- a kept step, some kept steps, a kept start and the kind of a kept check stand for some of the procedure
+abbrev pub IsSomeStep : Program → Procedure → kept_step.PathStep → Type 0
+IsSomeStep P p r = (s : PathStep) × IsStep P p r s
+
+abbrev pub AreSomeSteps : Program → Procedure → List kept_step.PathStep → Type 0
+AreSomeSteps P p rs = (ss : List PathStep) × AreSteps P p rs ss
+
+abbrev pub IsSomeStart : Procedure → kept_start.Start → Type 0
+IsSomeStart p r = (a : Start) × IsStart p r a
+
+abbrev pub IsSomeKind : Program → Procedure → kept_kind.CheckKind → Type 0
+IsSomeKind P p k = (at : Span) × (c : Check) × IsKind P p k at c
 
 -- the condition r as it is kept stands for the condition c
 pub record StandsFor (P : Program) (r : kept_condition.Condition) (c : Condition) : Type 0 where

@@ -3,8 +3,10 @@ use Rattle.std.specs.Prelude.{◌≡◌, ◌+◌, ◌<◌, ◌≤◌, ℕ, List,
 use Rattle.gh_base.specs.declared.place.Span.{Span}
 use Rattle.gh_ast.specs.declared.Cond.{Cond}
 use Rattle.gh_ast.specs.declared.Stmt.{Stmt}
-use Rattle.gh_ast.specs.Plain.{Procedure, Program, Statement, Statements, test_of, statement_of, statements_view, program_of, procedure_of}
-use Rattle.gh_path.specs.Graphs.{Graph, Loop, dead_end, guarded, loop_entry, looped, tested, lowered, all_lowered, loops, all_loops, once_around}
+use Rattle.gh_ast.specs.Plain.{Procedure, Program, Statement, Statements, test_of, statement_of, statements_view}
+use Rattle.gh_ast.specs.Plain.{program_of, procedure_of}
+use Rattle.gh_path.specs.Graphs.{Graph, Loop, dead_end, guarded, loop_entry, looped, tested, lowered, all_lowered}
+use Rattle.gh_path.specs.Graphs.{loops, all_loops, once_around}
 use Rattle.gh_path.specs.Callees.{HasCallees, AllHaveCallees}
 use Rattle.gh_path.specs.Kept.{IsLoop}
 use Rattle.gh_path.specs.Shown.{Shows, Adds, HaveNumbers}

@@ -2,7 +2,8 @@
 use Rattle.std.specs.Prelude.{◌⊎◌, ⊤, ◌+◌, List, Option, MatchOption}
 use Rattle.gh_ast.specs.Plain.{Procedure, Program}
 use Rattle.gh_ast.specs.declared.typed.Limit as limit
-use Rattle.gh_path.specs.Admitted.{most_conditions, most_steps, HasManyPaths, HasManySteps, FirstOf, NoneHas, NoneOf, Passed}
+use Rattle.gh_path.specs.Admitted.{most_conditions, most_steps, HasManyPaths, HasManySteps, FirstOf, NoneHas, NoneOf}
+use Rattle.gh_path.specs.Admitted.{Passed}
 use Rattle.gh_path.specs.declared.listing.ConditionsError.{ConditionsError}
 use Rattle.gh_path.specs.declared.listing.ConditionsError.TheVariants.{Limit, OutOfMemory}
 

@@ -1,5 +1,6 @@
 -- What steps and checks as the text has them stand for, and what graph a list of nodes shows.
-use Rattle.std.specs.Prelude.{◌≡◌, ◌⊎◌, ◌<◌, ◌≤◌, ℕ, ◌+◌, List, [], ◌∷◌, ◌++◌, length, take, slice_get, slice_index, slice_index_or, Some, Bool, true, false, not}
+use Rattle.std.specs.Prelude.{◌≡◌, ◌⊎◌, ◌<◌, ◌≤◌, ℕ, ◌+◌, List, [], ◌∷◌, ◌++◌, length, take, slice_get, slice_index}
+use Rattle.std.specs.Prelude.{slice_index_or, Some, Bool, true, false, not}
 use denote.Ref.{Bor}
 use Rattle.gh_base.specs.declared.place.Span.{Span}
 use Rattle.gh_ast.specs.declared.Occ.{Occ}
@@ -7,7 +8,9 @@ use Rattle.gh_ast.specs.declared.Expr.{Expr}
 use Rattle.gh_ast.specs.declared.Stmt.{Stmt}
 use Rattle.gh_ast.specs.Plain.{Procedure, Program, statement_of}
 use Rattle.gh_ast.specs.Programs.{results_of}
-use Rattle.gh_path.specs.Graphs.{Loop, loops, Check, access, entry, loop_entry, returned, loop_end, PathStep, accessed, assume, assigned, made, written, freed, called, looped, answered, Graph, dead_end, ends, moves, guarded, fork}
+use Rattle.gh_path.specs.Graphs.{Loop, loops, Check, access, entry, loop_entry, returned, loop_end, PathStep, accessed}
+use Rattle.gh_path.specs.Graphs.{assume, assigned, made, written, freed, called, looped, answered, Graph, dead_end}
+use Rattle.gh_path.specs.Graphs.{ends, moves, guarded, fork}
 use Rattle.gh_path.specs.Kept.{IsLoop, IsCallee, IsStep, IsKind, IsCheck}
 use Rattle.gh_path.specs.Walking.{AreNumbered}
 use Rattle.gh_path.specs.declared.condition.PathStep as kept_step
@@ -58,19 +61,19 @@ IsOpposite s t = (P : Program) (p : Procedure) (l : Expr) (e : Bool) (r : Expr) 
     IsShown P p s (assume l e r true) → IsShown P p t (assume l e r false)
 
 -- with the opposite of the comparison that it assumes, if it assumes one
-abbrev pub opposite : Step → Step
-opposite (step.Access x) = step.Access x
-opposite (step.Assume l e r) = step.Assume l (not e) r
-opposite (step.Set x e) = step.Set x e
-opposite (step.Write x e) = step.Write x e
-opposite (step.New x) = step.New x
-opposite (step.Free x) = step.Free x
-opposite (step.Call xs n es) = step.Call xs n es
-opposite (step.Loop n) = step.Loop n
-opposite (step.Return es) = step.Return es
+abbrev pub with_opposite : Step → Step
+with_opposite (step.Access x) = step.Access x
+with_opposite (step.Assume l e r) = step.Assume l (not e) r
+with_opposite (step.Set x e) = step.Set x e
+with_opposite (step.Write x e) = step.Write x e
+with_opposite (step.New x) = step.New x
+with_opposite (step.Free x) = step.Free x
+with_opposite (step.Call xs n es) = step.Call xs n es
+with_opposite (step.Loop n) = step.Loop n
+with_opposite (step.Return es) = step.Return es
 
 abbrev pub turned_if : Bool → Step → Step
-turned_if true s = opposite s
+turned_if true s = with_opposite s
 turned_if false s = s
 
 -- the step that leads on from a node, at a comparison on the way where it is true; of an end any step

@@ -3,7 +3,8 @@
 
 ghost use Rattle.std.specs.Prelude.{◌≡◌};
 ghost use Rattle.gh_ast.specs.Plain.{test_of, tests_view, statement_of, statements_view};
-ghost use Rattle.gh_path.specs.Counting.{nothing, one_end, stepped, checked, either, before_read, before_reads, before_test, before_all, before_some, before, before_block};
+ghost use Rattle.gh_path.specs.Counting.{nothing, one_end, stepped, checked, either, before_read, before_reads};
+ghost use Rattle.gh_path.specs.Counting.{before_test, before_all, before_some, before, before_block};
 
 use gh_ast::{Cond, Expr, Stmt};
 

@@ -31,7 +31,7 @@ pub struct Conditions<'t> {
 impl<'t> Model for Conditions<'t> {
     ghost use Rattle.gh_ast.specs.declared.Program.{Program};
     ghost use Rattle.gh_ast.specs.Plain.{program_of};
-    ghost use Rattle.gh_path.specs.Counted.{IsCounted};
+    ghost use Rattle.gh_path.specs.Counted.{KeepsCounts};
     ghost use Rattle.gh_ast.specs.contracts.Program as whole;
 
     ghost Value = { Program };
@@ -40,7 +40,7 @@ impl<'t> Model for Conditions<'t> {
 
     ghost view = { λ c. c.typed.now };
 
-    ghost invariant = { λ c. IsCounted (program_of c.typed.now) c.count c.starts };
+    ghost invariant = { λ c. KeepsCounts (program_of c.typed.now) c.count c.starts };
 }
 
 impl<'t> Conditions<'t> {

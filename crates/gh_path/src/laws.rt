@@ -1,6 +1,7 @@
 //! Laws of paths and of the list of conditions.
 
-ghost use Rattle.gh_path.specs.Laws.{PathsAreOrdered, PathsHaveOneList, AllAreListed, KeptStandForOne, ExamplesHold, CalleesAreDeclared, AssignsDecides};
+ghost use Rattle.gh_path.specs.Laws.{PathsAreOrdered, PathsHaveOneList, AllAreListed, KeptStandForOne, ExamplesHold};
+ghost use Rattle.gh_path.specs.Laws.{CalleesAreDeclared, AssignsDecides};
 
 /// No path stands before itself, and the order goes over.
 pub fn paths_are_ordered()

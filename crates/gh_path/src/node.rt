@@ -1,7 +1,8 @@
 //! Bodies as nodes that lead to one another, with steps and checks as the text has them.
 
 ghost use Rattle.std.specs.Prelude.{◌≡◌, ◌+◌, ◌∷◌, ◌++◌, [], length, not, slice_get, slice_index_or, Some, IfOk, OnOk};
-ghost use Rattle.gh_path.specs.Shown.{KeepsStep, KeepsGoal, KeepsAsked, LeadsBelow, from, opposite, step_past, step_from};
+ghost use Rattle.gh_path.specs.Shown.{KeepsStep, KeepsGoal, KeepsAsked, LeadsBelow, from, with_opposite, step_past};
+ghost use Rattle.gh_path.specs.Shown.{step_from};
 ghost use Rattle.gh_path.specs.declared.node.Node.{Node as Plain};
 ghost use Rattle.gh_path.specs.declared.node.Node.TheVariants.{DeadEnd};
 
@@ -53,8 +54,8 @@ pub enum Step<'t> {
 
 impl<'t> Step<'t> {
     /// The step on the other way of a comparison.
-    fn opposite(self) -> Step<'t>
-        ensures { result ≡ opposite self.entry }
+    fn with_opposite(self) -> Step<'t>
+        ensures { result ≡ with_opposite self.entry }
     {
         match self {
             Step::Assume { left, equal, right } => Step::Assume {
@@ -295,7 +296,7 @@ impl<'t> Nodes<'t> {
     {
         let step = self.at(origin.place).step();
         if origin.turned {
-            return step.opposite();
+            return step.with_opposite();
         }
         step
     }

@@ -2,7 +2,8 @@
 
 ghost use Rattle.std.specs.Prelude.{◌≡◌, ◌+◌, [], List, IfOk, OnOk};
 ghost use Rattle.gh_ast.specs.Plain.{Procedure, Program};
-ghost use Rattle.gh_path.specs.Routes.{AreOn, HasTaken, TurnsBack, LooksAt, GoesOn, BeginsAt, Arrives, IsLess, LooksNearer};
+ghost use Rattle.gh_path.specs.Routes.{AreOn, HasTaken, TurnsBack, LooksAt, GoesOn, BeginsAt, Arrives, IsLess};
+ghost use Rattle.gh_path.specs.Routes.{LooksNearer};
 ghost use Rattle.gh_path.specs.Routes.{weights, weight_of};
 
 use crate::node::{Asked, Node, Nodes, Origin};

@@ -8,7 +8,7 @@ use Rattle.std.proofs.lemmas.List.Sums.{sum_by-set, count_by-le-length}
 use Rattle.gh_assert.specs.declared.heap.Cell.{Cell}
 use Rattle.gh_picture.proofs.Numbers.{number_some}
 use Rattle.gh_picture.specs.Spots.{number_in, no_cell, no_spot, spot_at, AreSpots, cell_at, LeadsTo, Follows, IsNoLater, right_of}
-use Rattle.gh_picture.specs.Placing.{Board, spot_on, Stands, AreApart, StillStands, HasLines, IsBefore, IsAwaited, IsLedTo, AreLists, IsBegun, AllStand}
+use Rattle.gh_picture.specs.Placing.{Board, spot_on, Stands, AreApart, StillStands, HasLines, IsBefore, IsAwaited, IsLedTo, AreLists, IsLineBegun, AllStand}
 use Rattle.gh_picture.specs.declared.layout.Spot.{Spot}
 
 abbrev pub spot : ℕ → ℕ → Spot
@@ -42,7 +42,7 @@ after_set b i j s t h stands = by_place (same_or_other j i)
         inr (other, sym there ∙ stands)
 
 -- a line is begun at any cell
-pub begun : (cs : List Cell) (b : Board) (line from : ℕ) → HasLines cs b line → from < length cs → IsBegun cs b line 0 from
+pub begun : (cs : List Cell) (b : Board) (line from : ℕ) → HasLines cs b line → from < length cs → IsLineBegun cs b line 0 from
 begun cs b line from lines within = record {
   one_each = lines.one_each;
   within = within;
@@ -55,7 +55,7 @@ begun cs b line from lines within = record {
 }
 
 -- the line has come to a cell that stands: it ends
-pub closes : (cs : List Cell) (b : Board) (line column next : ℕ) (t : Spot) → IsBegun cs b line column next → Stands b next t → HasLines cs b (line + 1)
+pub closes : (cs : List Cell) (b : Board) (line column next : ℕ) (t : Spot) → IsLineBegun cs b line column next → Stands b next t → HasLines cs b (line + 1)
 closes cs b line column next t begun stands = record {
   one_each = begun.one_each;
   above = λ i s h. above s (begun.before i s h);
@@ -84,7 +84,7 @@ closes cs b line column next t begun stands = record {
 abbrev pub placed : Board → ℕ → ℕ → ℕ → Board
 placed b line column next = set b next (Some (spot line column))
 
-pub inside : (cs : List Cell) (b : Board) (line column next : ℕ) → IsBegun cs b line column next → next < length b
+pub inside : (cs : List Cell) (b : Board) (line column next : ℕ) → IsLineBegun cs b line column next → next < length b
 inside cs b line column next begun = omega (arith, begun.within, begun.one_each)
 
 pub placed_kept : (b : Board) (line column next : ℕ) → spot_on b next ≡ None → StillStands b (placed b line column next)
@@ -97,7 +97,7 @@ placed_kept b line column next free i s h = by_place (same_or_other i next)
         absurd cc
     by_place (inr other) = stands_there b next i (spot line column) s other h
 
-placed_apart : (cs : List Cell) (b : Board) (line column next : ℕ) → IsBegun cs b line column next → AreApart (placed b line column next)
+placed_apart : (cs : List Cell) (b : Board) (line column next : ℕ) → IsLineBegun cs b line column next → AreApart (placed b line column next)
 placed_apart cs b line column next begun i j s differ hi hj =
     by_both (after_set b next i (spot line column) s (inside cs b line column next begun) hi) (after_set b next j (spot line column) s (inside cs b line column next begun) hj)
   where
@@ -114,7 +114,7 @@ placed_apart cs b line column next begun i j s differ hi hj =
     by_both (inr a) (inl c) = fresh i a.1 c.1
     by_both (inr a) (inr c) = begun.apart i j s differ a.1 c.1
 
-placed_before : (cs : List Cell) (b : Board) (line column next : ℕ) → IsBegun cs b line column next
+placed_before : (cs : List Cell) (b : Board) (line column next : ℕ) → IsLineBegun cs b line column next
     → (i : ℕ) (s : Spot) → Stands (placed b line column next) i s → IsBefore line (column + 1) s
 placed_before cs b line column next begun i s h = by_set (after_set b next i (spot line column) s (inside cs b line column next begun) h)
   where
@@ -134,7 +134,7 @@ placed_fewer b line column next h free =
     omega (arith, sum_by-set count b next (Some (spot line column)) None h, was)
 
 -- what a cell leads to, after the next is placed
-placed_lines : (cs : List Cell) (b : Board) (line column next : ℕ) → IsBegun cs b line column next → spot_on b next ≡ None
+placed_lines : (cs : List Cell) (b : Board) (line column next : ℕ) → IsLineBegun cs b line column next → spot_on b next ≡ None
     → (i j : ℕ) (s : Spot) → i ≢ next → Stands b i s → LeadsTo cs i j → (t : Spot) × Stands (placed b line column next) j t × Follows s t
 placed_lines cs b line column next begun free i j s other h leads = by_old (begun.in_lines i j s h leads)
   where
@@ -148,7 +148,7 @@ placed_lines cs b line column next begun free i j s other h leads = by_old (begu
 led_to_stays : (cs : List Cell) (old new : Board) (j : ℕ) (t : Spot) → StillStands old new → IsLedTo cs old j t → IsLedTo cs new j t
 led_to_stays cs old new j t kept (i, s, stands, leads, right) = (i, s, kept i s stands, leads, right)
 
-placed_lists : (cs : List Cell) (b : Board) (line column next : ℕ) → IsBegun cs b line column next → spot_on b next ≡ None → AreLists cs (placed b line column next)
+placed_lists : (cs : List Cell) (b : Board) (line column next : ℕ) → IsLineBegun cs b line column next → spot_on b next ≡ None → AreLists cs (placed b line column next)
 placed_lists cs b line column next begun free j t h some = by_set (after_set b next j (spot line column) t (inside cs b line column next begun) h)
   where
     kept : StillStands b (placed b line column next)
@@ -162,8 +162,8 @@ placed_lists cs b line column next begun free j t h some = by_set (after_set b n
     by_set (inr (differs, stands)) = led_to_stays cs b (placed b line column next) j t kept (begun.lists j t stands some)
 
 -- the cell leads to another: the line goes on there
-pub goes_on : (cs : List Cell) (b : Board) (line column next other : ℕ) → IsBegun cs b line column next → spot_on b next ≡ None
-    → number_in cs (cell_at cs next).to ≡ Some other → other < length cs → IsBegun cs (placed b line column next) line (column + 1) other
+pub goes_on : (cs : List Cell) (b : Board) (line column next other : ℕ) → IsLineBegun cs b line column next → spot_on b next ≡ None
+    → number_in cs (cell_at cs next).to ≡ Some other → other < length cs → IsLineBegun cs (placed b line column next) line (column + 1) other
 goes_on cs b line column next other begun free leads within = record {
   one_each = length-set b next (Some (spot line column)) ∙ begun.one_each;
   within = within;
@@ -184,7 +184,7 @@ goes_on cs b line column next other begun free leads within = record {
     by_set i j s to (inr (differs, stands)) = inl (placed_lines cs b line column next begun free i j s differs stands to)
 
 -- the cell leads to none: the line ends
-pub ends : (cs : List Cell) (b : Board) (line column next : ℕ) → IsBegun cs b line column next → spot_on b next ≡ None
+pub ends : (cs : List Cell) (b : Board) (line column next : ℕ) → IsLineBegun cs b line column next → spot_on b next ≡ None
     → number_in cs (cell_at cs next).to ≡ None → HasLines cs (placed b line column next) (line + 1)
 ends cs b line column next begun free leads = record {
   one_each = length-set b next (Some (spot line column)) ∙ begun.one_each;

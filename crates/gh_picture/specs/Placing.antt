@@ -1,5 +1,6 @@
 -- Cells that are placed one after the other.
-use Rattle.std.specs.Prelude.{◌≡◌, ◌≢◌, ◌⊎◌, ℕ, ◌+◌, ◌<◌, ◌≤◌, List, Option, Some, None, is_none, length, slice_index_or, IsSome}
+use Rattle.std.specs.Prelude.{◌≡◌, ◌≢◌, ◌⊎◌, ℕ, ◌+◌, ◌<◌, ◌≤◌, List, Option, Some, None, is_none, length}
+use Rattle.std.specs.Prelude.{slice_index_or, IsSome}
 use Rattle.std.specs.List.{count_by}
 use Rattle.gh_assert.specs.declared.heap.Cell.{Cell}
 use Rattle.gh_picture.specs.Spots.{LeadsTo, Follows, right_of}
@@ -48,7 +49,7 @@ abbrev pub IsAwaited : ℕ → ℕ → ℕ → Spot → ℕ → Type 0
 IsAwaited line column next s j = (j ≡ next) × (right_of s ≡ record { line = line; column = column })
 
 -- a line is begun, and the next cell is to stand at the column
-pub record IsBegun (cells : List Cell) (board : Board) (line column next : ℕ) : Type 0 where
+pub record IsLineBegun (cells : List Cell) (board : Board) (line column next : ℕ) : Type 0 where
   pub one_each : length board ≡ length cells
   pub within : next < length cells
   pub room : column + count_by is_none board ≤ length cells

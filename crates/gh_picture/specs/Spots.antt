@@ -1,5 +1,6 @@
 -- Where cells stand: each list in a line of its own.
-use Rattle.std.specs.Prelude.{◌≡◌, ◌≢◌, ◌⊎◌, ℕ, suc, ◌+◌, ◌<◌, ◌≤◌, ◌==◌, if◌then◌else◌, List, [], ◌∷◌, Option, Some, None, length, slice_index_or, All}
+use Rattle.std.specs.Prelude.{◌≡◌, ◌≢◌, ◌⊎◌, ℕ, suc, ◌+◌, ◌<◌, ◌≤◌, ◌==◌, if◌then◌else◌, List, [], ◌∷◌, Option, Some}
+use Rattle.std.specs.Prelude.{None, length, slice_index_or, All}
 use Rattle.std.specs.Option.{option_map}
 use Rattle.gh_assert.specs.declared.heap.Cell.{Cell}
 use Rattle.gh_picture.specs.declared.layout.Spot.{Spot}

@@ -5,7 +5,10 @@
 
 ghost use Rattle.std.specs.Prelude.{◌≡◌, ◌++◌, IfOk, OnOk};
 ghost use Rattle.std.specs.Fmt.{decimal};
-ghost use Rattle.gh_picture.specs.Shapes.{role_word, change_word, point_text, place_text, leaf_of, group_of, label_of, outline_of, place_label_of, role_label_of, stroke_text, back_text, jump_text, arrow_of, content_label_of, class_text, across_of, down_of, apart_text, variable_label_of};
+ghost use Rattle.gh_picture.specs.Shapes.{role_word, change_word, point_text, place_text, leaf_of, group_of, label_of};
+ghost use Rattle.gh_picture.specs.Shapes.{outline_of, place_label_of, role_label_of, stroke_text, back_text, jump_text};
+ghost use Rattle.gh_picture.specs.Shapes.{arrow_of, content_label_of, class_text, across_of, down_of, apart_text};
+ghost use Rattle.gh_picture.specs.Shapes.{variable_label_of};
 ghost use Rattle.gh_picture.specs.Shapes as drawn;
 
 use crate::layout::Spot;

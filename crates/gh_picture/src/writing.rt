@@ -2,7 +2,8 @@
 
 ghost use Rattle.std.specs.Prelude.{◌≡◌, ◌++◌, IfOk, OnOk};
 ghost use Rattle.std.specs.List.{flat_map};
-ghost use Rattle.gh_picture.specs.Written.{escape, escaped, attribute_text, opened, closed, leaf_text, group_text, panel_text, svg_text};
+ghost use Rattle.gh_picture.specs.Written.{escape, escaped, attribute_text, opened, closed, leaf_text, group_text};
+ghost use Rattle.gh_picture.specs.Written.{panel_text, svg_text};
 
 use crate::tree::{Attribute, Attributes, Group, Leaf, Panel, Svg, Tag};
 use gh_base::text::Text;

@@ -4,7 +4,8 @@ use Rattle.gh_base.specs.declared.atom.Lit.{Lit}
 use Rattle.gh_base.specs.declared.sizes.Sizes.{Sizes}
 use Rattle.gh_base.specs.Atoms.{IsInRange}
 use Rattle.gh_base.specs.Grounds.{Problem}
-use Rattle.gh_grass.specs.Claims.{Claim, atom, negation_of, conjunction_of, disjunction_of, equivalence_of, Claims, no_claims, claim_first}
+use Rattle.gh_grass.specs.Claims.{Claim, atom, negation_of, conjunction_of, disjunction_of, equivalence_of, Claims}
+use Rattle.gh_grass.specs.Claims.{no_claims, claim_first}
 use Rattle.gh_grass.specs.Clauses.{made, all_made, next_after, clauses_from}
 
 abbrev pub sized : Sizes → ℕ → Sizes
@@ -39,8 +40,8 @@ abbrev pub stated_in : Problem → List Claim → Problem
 stated_in p fs = grown p (next_after fs p.sizes.defs) (clauses_from fs p.sizes.defs)
 
 -- there are no more definitions and clauses than are counted: the numbers of both are of 32 bits
-abbrev pub IsCounted : Problem → Type 0
-IsCounted p = (p.sizes.defs ≤ 4294967295) × (length p.clauses ≤ 4294967294)
+abbrev pub IsCountable : Problem → Type 0
+IsCountable p = (p.sizes.defs ≤ 4294967295) × (length p.clauses ≤ 4294967294)
 
 -- each atom of the formula is in range
 abbrev mutual

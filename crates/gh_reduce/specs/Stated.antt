@@ -10,7 +10,8 @@ use Rattle.gh_grass.specs.Claims.{Claim, negation_of, one_of}
 use Rattle.gh_path.specs.Conditions.{Condition}
 use Rattle.gh_path.specs.Terms.{Kind}
 use Rattle.gh_symb.specs.Encoded.{IsSymbolic}
-use Rattle.gh_symb.specs.Formulas.{allocated, hops, meets_whole, meets_one_of, made_claims, check_claims, step_claims, steps_claims, versions_claims, problem}
+use Rattle.gh_symb.specs.Formulas.{allocated, hops, meets_whole, meets_one_of, made_claims, check_claims, step_claims}
+use Rattle.gh_symb.specs.Formulas.{steps_claims, versions_claims, problem}
 use Rattle.gh_symb.specs.Inside.{check_of, step_of, under_of}
 use Rattle.gh_symb.specs.Symbolic.{symbolic_of}
 use Rattle.gh_symb.specs.declared.over_terms.Symbolic.{Symbolic}

@@ -3,8 +3,9 @@
 ghost use Rattle.std.specs.Prelude.{◌≡◌, ◌∷◌, [], IfOk, OnOk, map};
 ghost use Rattle.gh_base.specs.Atoms.{opposite, IsInRange, AreInRange};
 ghost use Rattle.gh_grass.specs.Claims.{claim_of, claims_list, claims_view};
-ghost use Rattle.gh_grass.specs.Clauses.{defined, made, all_made, conjunction_clauses, disjunction_clauses, equivalence_clauses};
-ghost use Rattle.gh_reduce.specs.Growth.{defined_in, all_defined_in, stated_in, IsCounted, IsWithin, AreWithin};
+ghost use Rattle.gh_grass.specs.Clauses.{defined, made, all_made, conjunction_clauses, disjunction_clauses};
+ghost use Rattle.gh_grass.specs.Clauses.{equivalence_clauses};
+ghost use Rattle.gh_reduce.specs.Growth.{defined_in, all_defined_in, stated_in, IsCountable, IsWithin, AreWithin};
 ghost use Rattle.gh_reduce.specs.Growth.{with_clauses, with_defined, with_definition};
 
 use gh_base::atom::{Atom, Lit};
@@ -15,7 +16,7 @@ use std::alloc::{AllocError, Global};
 
 /// There are no more definitions and clauses than are counted.
 pub(crate) fn counted(ground: &Ground)
-    ensures { IsCounted ground.now }
+    ensures { IsCountable ground.now }
 {
     let _defs = ground.defs();
     let _count = ground.count();
@@ -183,7 +184,7 @@ fn literals(
 pub fn add_formula(alloc: Global, ground: &mut Ground, formula: &Formula) -> Result<(), AllocError>
     requires { IsWithin ground.old.sizes (claim_of formula.now) }
     ensures stated { OnOk result (ground.new ≡ stated_in ground.old (claim_of formula.now ∷ [])) }
-    ensures few { OnOk result (IsCounted ground.new) }
+    ensures few { OnOk result (IsCountable ground.new) }
 {
     let lit = literal(alloc, ground, formula)?;
     add(ground, Clause::from_array(alloc, [lit]))?;
@@ -199,7 +200,7 @@ pub fn add_formulas(
 ) -> Result<(), AllocError>
     requires { AreWithin ground.old.sizes (claims_view formulas.now) }
     ensures stated { OnOk result (ground.new ≡ stated_in ground.old (claims_list formulas.now)) }
-    ensures few { OnOk result (IsCounted ground.new) }
+    ensures few { OnOk result (IsCountable ground.new) }
 {
     for formula in formulas {
         add_formula(alloc, ground, formula)?;

@@ -9,9 +9,10 @@ ghost use Rattle.gh_symb.specs.Inside.{AllAreInside, AreStepsInside, IsCheckInsi
 ghost use Rattle.gh_symb.specs.Formulas.{succeeds, successor_claims, successors_from, version_claims, version_after};
 ghost use Rattle.gh_symb.specs.Formulas.{written_claims, freed_claims, claims, problem};
 ghost use Rattle.gh_grass.specs.Claims.{claim_of, negation_of};
-ghost use Rattle.gh_reduce.specs.Growth.{stated_in, IsCounted, IsWithin};
+ghost use Rattle.gh_reduce.specs.Growth.{stated_in, IsCountable, IsWithin};
 ghost use Rattle.gh_reduce.specs.Rows.{kinds_of};
-ghost use Rattle.gh_reduce.specs.Stated.{all_versions, cell_made, check_fails, none_is_met, step_stated, steps_stated, TellsProblem};
+ghost use Rattle.gh_reduce.specs.Stated.{all_versions, cell_made, check_fails, none_is_met, step_stated, steps_stated};
+ghost use Rattle.gh_reduce.specs.Stated.{TellsProblem};
 
 use crate::clauses::{add_formula, counted};
 use crate::parts::{Change, add_part};
@@ -102,7 +103,7 @@ pub fn add_version(
     requires version { version < ground.old.sizes.versions }
     requires ready { IsReady ground.old.sizes.terms (kinds_of terms.now) }
     ensures stated { OnOk result (ground.new ≡ stated_in ground.old (version_claims (kinds_of terms.now) version)) }
-    ensures few { OnOk result (IsCounted ground.new) }
+    ensures few { OnOk result (IsCountable ground.new) }
 {
     let null = free(alloc, version, Term(0))?;
     add_formula(alloc, ground, &null)?;
@@ -340,7 +341,7 @@ fn add_condition(alloc: Global, ground: &mut Ground, symbolic: &Symbolic) -> Res
 pub fn ground(alloc: Global, symbolic: &Symbolic) -> Result<Ground, AllocError>
     ensures is { IfOk result (λ g. g ≡ problem (plain_of symbolic.now)) }
     ensures told { TellsProblem symbolic.now result }
-    ensures few { IfOk result IsCounted }
+    ensures few { IfOk result IsCountable }
 {
     let terms = symbolic.terms();
     let mut ground = Ground::new(alloc, terms.count(), symbolic.versions());

@@ -2,7 +2,7 @@
 
 ghost use Rattle.std.specs.Prelude.{◌≡◌, ◌<◌, IfOk, OnOk};
 ghost use Rattle.gh_grass.specs.Claims.{claim_of, claims_list};
-ghost use Rattle.gh_reduce.specs.Growth.{stated_in, IsCounted};
+ghost use Rattle.gh_reduce.specs.Growth.{stated_in, IsCountable};
 ghost use Rattle.gh_reduce.specs.Rows.{of_term, of_pair, said_of_each, said_of_pairs, with_each};
 ghost use Rattle.gh_reduce.specs.Rows.{IsEachTermInside, IsEachPairInside};
 
@@ -139,7 +139,7 @@ pub fn push_each_term(
 pub fn add_each_term(alloc: Global, ground: &mut Ground, each: &EachTerm) -> Result<(), AllocError>
     requires { IsEachTermInside ground.old.sizes each.now }
     ensures stated { OnOk result (ground.new ≡ stated_in ground.old (said_of_each ground.old (of_term each.now))) }
-    ensures few { OnOk result (IsCounted ground.new) }
+    ensures few { OnOk result (IsCountable ground.new) }
 {
     for z in 0..ground.terms() {
         let formula = each.formula(alloc, Term(z))?;
@@ -171,7 +171,7 @@ fn add_pairs_of(
 pub fn add_each_pair(alloc: Global, ground: &mut Ground, each: &EachPair) -> Result<(), AllocError>
     requires { IsEachPairInside ground.old.sizes each.now }
     ensures stated { OnOk result (ground.new ≡ stated_in ground.old (said_of_pairs ground.old (of_pair each.now))) }
-    ensures few { OnOk result (IsCounted ground.new) }
+    ensures few { OnOk result (IsCountable ground.new) }
 {
     for z in 0..ground.terms() {
         add_pairs_of(alloc, ground, each, Term(z))?;

@@ -21,8 +21,8 @@ abbrev pub begun : Procedure → Begin → Config
 begun p b = starting p (store_of b.store) b.heap []
 
 -- the configuration is that of the procedure that the state file names
-abbrev pub IsBegun : Program → Begin → kept.Config → Type 0
-IsBegun P b c = (p : Procedure) → BeginsIn P b p → config_of c ≡ begun p b
+abbrev pub IsAtBegin : Program → Begin → kept.Config → Type 0
+IsAtBegin P b c = (p : Procedure) → BeginsIn P b p → config_of c ≡ begun p b
 
 -- the values of the variables of the topmost activation, in their order, and the heap
 pub record IsStateOf (c : Config) (s : State) : Type 0 where

@@ -5,7 +5,7 @@ ghost use Rattle.std.specs.FinMap.{len};
 ghost use Rattle.gh_ast.specs.Plain.{procedure_of, program_of};
 ghost use Rattle.gh_machine.specs.Configs.{config_of, IsMadeFor};
 ghost use Rattle.gh_run.specs.StateFiles.{FitsProgram};
-ghost use Rattle.gh_run.specs.Reports.{IsBegun, HasGivenWay, IsStateOf, IsReport};
+ghost use Rattle.gh_run.specs.Reports.{IsAtBegin, HasGivenWay, IsStateOf, IsReport};
 
 use crate::rule::{Halt, run_ruled};
 use crate::state_file::Begin;
@@ -47,7 +47,7 @@ fn values(alloc: Global, entries: &[Entry]) -> Result<Vec<u32>, AllocError>
 // The procedure at its start.
 fn start<'p>(alloc: Global, typed: &'p Typed, begin: &Begin) -> Result<Config<'p>, AllocError>
     requires fits { FitsProgram (program_of typed.now) begin.now }
-    ensures begun { IfOk result (IsBegun (program_of typed.now) begin.now) }
+    ensures begun { IfOk result (IsAtBegin (program_of typed.now) begin.now) }
     ensures made { IfOk result (IsMadeFor (program_of typed.now)) }
 {
     let procedure = &typed.program().procedures[usize::from(begin.procedure)];

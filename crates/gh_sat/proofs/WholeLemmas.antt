@@ -11,7 +11,7 @@ use Rattle.gh_base.specs.declared.sizes.Sizes.{Sizes}
 use Rattle.gh_base.specs.Atoms.{opposite, AreInRange}
 use Rattle.gh_sat.specs.declared.trail.Step.{Step}
 use Rattle.gh_sat.specs.Trail.{SearchState, Stands, IsTrueIn, IsFalseIn, IsLevelStart, IsCaused, AreSteps, IsSound, cut}
-use Rattle.gh_sat.specs.Trail.{end_of, open_level}
+use Rattle.gh_sat.specs.Trail.{end_of, open_level, most_clauses}
 use Rattle.gh_sat.specs.declared.status.Hint.{Hint}
 use Rattle.gh_sat.specs.Status.{IsBad, IsGuarded, IsSettled, IsForced, AreForced, Grows}
 use Rattle.gh_sat.specs.Watch.{AreGuarded, MoveHints, ListsMore, WasOpen, clauses_of, code_of}
@@ -434,7 +434,7 @@ pub whole_add : (s : SearchState) (counts : List ℕ) (looked head : ℕ) (lists
     (c : List Lit) (hint : Hint) → IsWhole s counts looked head lists hints → AreInRange s.sizes c
     → WasOpen s.trail s.starts c
     → ((m : Lit) → Contains c m → Contains (clauses_of s.sizes lists m) (length s.clauses))
-    → length s.clauses < 4294967293 → IsWhole (add_clause s c) counts looked head lists (hints ++ hint ∷ [])
+    → length s.clauses < most_clauses → IsWhole (add_clause s c) counts looked head lists (hints ++ hint ∷ [])
 whole_add s counts looked head lists hints c hint h range was listed few =
     let old : (k : ℕ) (d : List Lit) → k < length s.clauses → slice_get (s.clauses ++ c ∷ []) k ≡ Some d
     → slice_get s.clauses k ≡ Some d = λ k d lt at. get_front_back s.clauses (c ∷ []) k d lt at in
@@ -578,7 +578,7 @@ pub cut_add_whole : (s : SearchState) (z : Sizes) (trail : List Step) (starts co
     → clauses ≡ s.clauses ++ c ∷ [] → hints' ≡ hints ++ hint ∷ []
     → AreInRange s.sizes c → WasOpen (cut s level).trail (cut s level).starts c
     → ((m : Lit) → Contains c m → Contains (clauses_of s.sizes lists m) (length s.clauses))
-    → length s.clauses < 4294967293
+    → length s.clauses < most_clauses
     → IsWhole (record { sizes = z; clauses = clauses; trail = trail; starts = starts }) counts' count start lists hints'
 cut_add_whole s z trail starts counts counts' looked head count start level lists hints hints' c hint clauses h here
     here' e1 e2 e3 e4 e5 e6 range was listed few =

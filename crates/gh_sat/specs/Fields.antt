@@ -7,14 +7,15 @@ use Rattle.gh_sat.specs.Learn.{marks_of, IsBounded}
 use Rattle.gh_sat.specs.Rows.{rows_of}
 use Rattle.gh_sat.specs.Whole.{IsWhole}
 
-abbrev pub state_of : Inside → SearchState
-state_of s =
+-- the search that the fields tell
+abbrev pub search_of : Inside → SearchState
+search_of s =
     record { sizes = s.trail.sizes; clauses = s.clauses.items; trail = s.trail.steps; starts = s.starts.items }
 
 -- the search is whole, all levels have room, each place has a mark, and each clause its row
 abbrev pub HoldsSearch : Inside → Type 0
 HoldsSearch s =
-    IsWhole (state_of s) s.counts.items s.looked s.head s.occurrences s.hints.items
+    IsWhole (search_of s) s.counts.items s.looked s.head s.occurrences s.hints.items
     × (count_of s.trail.sizes ≤ vec_capacity s.starts)
     × (count_of s.trail.sizes ≤ vec_capacity s.counts)
     × IsBounded (marks_of s.marks)

@@ -55,7 +55,7 @@ weight atoms (x ∷ xs) = power (suc atoms) (atoms - x.level) + weight atoms xs
 abbrev pub left : Sizes → List Step → ℕ
 left sizes trail = power (suc (count_of sizes)) (suc (count_of sizes)) - weight (count_of sizes) trail
 
--- from one search to another
+-- the search that comes after another leaves less
 abbrev pub LeavesLess : SearchState → SearchState → Type 0
 LeavesLess old new = left new.sizes new.trail < left old.sizes old.trail
 

@@ -37,14 +37,14 @@ IsTold asserted trail = (n : ℕ) × (n ≤ length trail) × (asserted ≡ lits_
 abbrev pub HasNoConflict : (List Lit → Type 0) → List Step → Type 0
 HasNoConflict valid trail = (c : List Lit) → valid c → IsFalseIn trail c → ⊥
 
--- .. of a search
-abbrev pub IsCalm : (Sizes → List Lit → Type 0) → SearchState → Type 0
-IsCalm valid s = HasNoConflict (valid s.sizes) s.trail
-
 -- nor was one when a level was opened
 abbrev pub WereConsistent : (List Lit → Type 0) → List Step → List ℕ → Type 0
 WereConsistent valid trail starts =
     (level start : ℕ) → slice_get starts level ≡ Some start → HasNoConflict valid (take start trail)
+
+-- no clause of a theory over the sizes of a search is false
+abbrev pub IsConsistentWith : (Sizes → List Lit → Type 0) → SearchState → Type 0
+IsConsistentWith valid s = HasNoConflict (valid s.sizes) s.trail
 
 -- a theory over the sizes of a search is told a front of its trail, and had no conflict when a level was opened
 abbrev pub IsBeside : (Sizes → List Lit → Type 0) → List Lit → Sizes → SearchState → Type 0

@@ -21,6 +21,10 @@ pub record SearchState : Type 0 where
   pub trail : List Step
   pub starts : List ℕ
 
+-- the most clauses of a search: 32 bits then number a line for each, a last line, and the place after it
+abbrev pub most_clauses : ℕ
+most_clauses = 4294967293
+
 -- the literal is true by a step before place i
 abbrev pub Stands : List Step → ℕ → Lit → Type 0
 Stands trail i l = (j : ℕ) × (x : Step) × (j < i) × (slice_get trail j ≡ Some x) × (x.lit ≡ l)
@@ -137,8 +141,8 @@ abbrev pub IsPassed : Partial → ℕ → Type 0
 IsPassed p cursor = (i : ℕ) → i < cursor → slice_get p.values (turned p.sizes i) ≢ Some None
 
 -- the tables are those of the trail, each place before the cursor is passed, and all atoms have room
-abbrev pub AreTables : Partial → List ℕ → List Step → ℕ → ℕ → Type 0
-AreTables p places trail cursor room =
+abbrev pub AreTrailTables : Partial → List ℕ → List Step → ℕ → ℕ → Type 0
+AreTrailTables p places trail cursor room =
     AreValues p trail
     × ArePlaces p.sizes places trail
     × IsPassed p cursor

@@ -3,7 +3,7 @@ use Rattle.std.specs.Prelude.{◌≡◌, ◌⊎◌, ℕ, ◌*◌, ◌≤◌, Lis
 use Rattle.gh_base.specs.declared.atom.Lit.{Lit}
 use Rattle.gh_base.specs.Atoms.{count_of}
 use Rattle.gh_sat.specs.declared.trail.Step.{Step}
-use Rattle.gh_sat.specs.Trail.{SearchState, IsFalseIn, IsSound, cut}
+use Rattle.gh_sat.specs.Trail.{SearchState, IsFalseIn, IsSound, cut, most_clauses}
 use Rattle.gh_sat.specs.Status.{Grows, PutsLastFirst}
 use Rattle.gh_sat.specs.declared.status.Hint.{Hint}
 use Rattle.gh_sat.specs.Watch.{AreGuarded, AreListed, WereGuarded, WereOpen}
@@ -24,7 +24,7 @@ pub record IsWhole (s : SearchState) (counts : List ℕ) (looked head : ℕ) (li
   pub before : head ≤ length s.trail
   pub counted : length counts ≡ length s.starts
   pub below : (level count : ℕ) → slice_get counts level ≡ Some count → count ≤ length s.clauses
-  pub room : length s.clauses ≤ 4294967293
+  pub room : length s.clauses ≤ most_clauses
 
 -- literals were only added to the trail, each when it was the one with no truth of a clause whose others are false
 pub record PropagatesTo (old new : SearchState) : Type 0 where

@@ -6,7 +6,7 @@ ghost use Rattle.gh_base.specs.declared.atom.Lit.{Lit};
 ghost use Rattle.gh_base.specs.Atoms.{IsInRange, AreInRange, count_of};
 ghost use Rattle.gh_sat.specs.declared.trail.Step.{Step};
 ghost use Rattle.gh_sat.specs.Rows.{row_of};
-ghost use Rattle.gh_sat.specs.Trail.{IsFalseIn, AreSteps, AllHaveTruth, OpensLevel, search_over};
+ghost use Rattle.gh_sat.specs.Trail.{IsFalseIn, AreSteps, AllHaveTruth, OpensLevel, search_over, most_clauses};
 ghost use Rattle.gh_sat.specs.Learn.{IsTop};
 
 use crate::marks::{Marks, begin, resolve};
@@ -24,6 +24,9 @@ use gh_base::ground::Ground;
 use gh_base::sizes::Sizes;
 use std::alloc::{AllocError, Global};
 use std::marker::Model;
+
+/// The most clauses of a search: 32 bits then number a line for each, a last line, and the place after it.
+pub const MOST_CLAUSES: usize = 4_294_967_293;
 
 /// What was learnt: a clause, the level to cut to, the literal that is then its one unassigned one, and numbers of
 /// earlier clauses that, taken as hints in this order, show the clause.
@@ -61,9 +64,9 @@ impl Model for Learner {
 
     ghost Value = { SearchState };
 
-    ghost use Rattle.gh_sat.specs.Fields.{state_of, HoldsSearch};
+    ghost use Rattle.gh_sat.specs.Fields.{search_of, HoldsSearch};
 
-    ghost view = { state_of };
+    ghost view = { search_of };
 
     ghost invariant = { HoldsSearch };
 }
@@ -221,9 +224,11 @@ impl Learner {
         })
     }
 
-    /// A search over some clauses, with nothing on its trail.
+    /// A search over some clauses, with nothing on its trail. There are at most `MOST_CLAUSES`: more are answered as
+    /// where memory runs out.
     pub fn new(alloc: Global, ground: &Ground) -> Result<Learner, AllocError>
-        ensures { IfOk result (λ s. s ≡ search_over ground.now.sizes ground.now.clauses) }
+        ensures over { IfOk result (λ s. s ≡ search_over ground.now.sizes ground.now.clauses) }
+        ensures few { OnOk result (length ground.now.clauses ≤ most_clauses) }
     {
         let mut learner = Learner::empty(alloc, ground.sizes())?;
         let mut number = 0;
@@ -234,24 +239,25 @@ impl Learner {
         Ok(learner)
     }
 
-    /// Adds a clause last that wasn't false when a level was opened. There are at most 4,294,967,293 clauses: where
-    /// there are as many, none is added, as for want of memory.
+    /// Adds a clause last that wasn't false when a level was opened. There are at most `MOST_CLAUSES`: where there are
+    /// as many, none is added, as where memory runs out.
     pub fn insert(&mut self, clause: Clause) -> Result<(), AllocError>
         requires range { AreInRange self.old.sizes clause }
         requires was_open { WasOpen self.old.trail self.old.starts clause }
         ensures ok { OnOk result (self.new ≡ add_clause self.old clause) }
-        ensures few { OnOk result (length self.new.clauses ≤ 4294967293) }
+        ensures few { OnOk result (length self.new.clauses ≤ most_clauses) }
         ensures err { OnErr result (self.new ≡ self.old) }
     {
         let level = self.level();
         self.insert_under(clause, level)
     }
 
-    /// Adds a clause last. Where it is false under the trail, that is cut to the greatest level of its literals.
+    /// Adds a clause last. Where it is false under the trail, that is cut to the greatest level of its literals. There
+    /// are at most `MOST_CLAUSES`: where there are as many, none is added, as where memory runs out.
     pub fn add(&mut self, clause: Clause) -> Result<(), AllocError>
         requires { AreInRange self.old.sizes clause }
         ensures ok { OnOk result (Adds self.old clause self.new) }
-        ensures few { OnOk result (length self.new.clauses ≤ 4294967293) }
+        ensures few { OnOk result (length self.new.clauses ≤ most_clauses) }
         ensures err { OnErr result (self.new ≡ self.old) }
     {
         match top_of(&self.trail, clause.lits()) {
@@ -265,10 +271,10 @@ impl Learner {
         requires range { AreInRange self.old.sizes clause }
         requires was_open { WasOpen (cut self.old level).trail (cut self.old level).starts clause }
         ensures ok { OnOk result (self.new ≡ add_clause (cut self.old level) clause) }
-        ensures few { OnOk result (length self.new.clauses ≤ 4294967293) }
+        ensures few { OnOk result (length self.new.clauses ≤ most_clauses) }
         ensures err { OnErr result (self.new ≡ self.old) }
     {
-        if self.clauses.len() >= 4294967293 {
+        if self.clauses.len() >= MOST_CLAUSES {
             return Err(AllocError);
         }
         let number = self.clauses.len() as u32;
@@ -299,7 +305,7 @@ impl Learner {
     /// How many clauses there are.
     pub fn count(&self) -> u32
         ensures count { result ≡ length self.now.clauses }
-        ensures few { result ≤ 4294967293 }
+        ensures few { result ≤ most_clauses }
     {
         self.clauses.len() as u32
     }
@@ -352,6 +358,7 @@ impl Learner {
         ensures conflict { IfSome result (λ k. IsConflict self.new k) }
         ensures settled { IfNone result (IsSettled self.new) }
         ensures sound { IsSound self.new }
+        ensures few { length self.new.clauses ≤ most_clauses }
     {
         let level = self.starts.len() as u32;
         let database = Database {
@@ -450,13 +457,13 @@ impl Learner {
         }
     }
 
-    /// Adds the clause of the first unique implication point of a false clause.
+    /// Adds the clause of the first unique implication point of a false clause, as [`Learner::insert`] does.
     pub fn learn(&mut self, alloc: Global, conflict: u32) -> Result<Learnt, AllocError>
         requires conflict { IsConflict self.old conflict }
         requires level { 0 < length self.old.starts }
         ensures learnt { IfOk result (λ l. IsLearnt self.old conflict l.clause l.level l.unit) }
         ensures added { IfOk result (λ l. self.new ≡ add_clause self.old l.clause) }
-        ensures few { OnOk result (length self.new.clauses ≤ 4294967293) }
+        ensures few { OnOk result (length self.new.clauses ≤ most_clauses) }
         ensures reasons { IfOk result (λ l. AreReasons self.old.clauses l.reasons.items l.clause) }
         ensures err { OnErr result (self.new ≡ self.old) }
     {

@@ -4,11 +4,11 @@ ghost use Rattle.std.specs.Prelude.{◌≡◌, ◌≤◌, ◌<◌, [], length, I
 ghost use Rattle.std.specs.Prelude.{slice_get};
 ghost use Rattle.gh_base.specs.Atoms.{IsInRange, AreInRange};
 ghost use Rattle.gh_sat.specs.Trail.{SearchState, IsAssignmentOf, IsSound, IsFree, cut, AllHaveTruth, OpensLevel};
-ghost use Rattle.gh_sat.specs.Trail.{search_over};
+ghost use Rattle.gh_sat.specs.Trail.{search_over, most_clauses};
 ghost use Rattle.gh_sat.specs.Status.{IsSettled, AreAssigned, OccursIn};
 ghost use Rattle.gh_sat.specs.Learn.{IsConflict, IsLearnt, AreReasons, add_clause};
 ghost use Rattle.gh_sat.specs.Whole.{GivesLast, Adds};
-ghost use Rattle.gh_sat.specs.Theory.{lits_of, IsTold, IsCalm, WereConsistent, PropagatesBeside, AddsValid};
+ghost use Rattle.gh_sat.specs.Theory.{lits_of, IsTold, IsConsistentWith, WereConsistent, PropagatesBeside, AddsValid};
 
 use crate::learner::{Learner, Learnt};
 use crate::theory::Theory;
@@ -67,16 +67,17 @@ fn refute<T: Theory>(
     ensures number { IfOk result (λ o. IfSome o (λ k. k ≡ length learner.old.clauses)) }
     ensures added { IfOk result (λ o. IfSome o (λ _. AddsValid (T.valid learner.old.sizes) learner.old learner.new)) }
     ensures conflict { IfOk result (λ o. IfSome o (λ k. IsConflict learner.new k)) }
-    ensures none { IfOk result (λ o. IfNone o (IsCalm T.valid learner.old)) }
+    ensures none { IfOk result (λ o. IfNone o (IsConsistentWith T.valid learner.old)) }
     ensures known { IfOk result (λ o. IfNone o (T.known learner.old.sizes (lits_of learner.old.trail))) }
     ensures same { IfOk result (λ o. IfNone o (learner.new ≡ learner.old)) }
     ensures sound { OnOk result (IsSound learner.new) }
+    ensures few { OnOk result (length learner.new.clauses ≤ most_clauses) }
     ensures err { OnErr result (learner.new ≡ learner.old) }
 {
+    let number = learner.count();
     match theory.conflict(alloc)? {
         None => Ok(None),
         Some(clause) => {
-            let number = learner.count();
             learner.insert(clause)?;
             Ok(Some(number))
         }
@@ -84,11 +85,13 @@ fn refute<T: Theory>(
 }
 
 impl<T: Theory> Search<T> {
-    /// A search over the clauses of a ground problem, with nothing on its trail.
+    /// A search over the clauses of a ground problem, with nothing on its trail. There are at most `MOST_CLAUSES`: more
+    /// are answered as where memory runs out.
     pub fn new(alloc: Global, ground: &Ground, theory: T) -> Result<Search<T>, AllocError>
         requires none { T.asserted theory ≡ [] }
         requires sizes { T.sizes theory ≡ ground.now.sizes }
-        ensures { IfOk result (λ s. s ≡ search_over ground.now.sizes ground.now.clauses) }
+        ensures over { IfOk result (λ s. s ≡ search_over ground.now.sizes ground.now.clauses) }
+        ensures few { OnOk result (length ground.now.clauses ≤ most_clauses) }
     {
         let learner = Learner::new(alloc, ground)?;
         Ok(Search { learner, theory })
@@ -119,7 +122,7 @@ impl<T: Theory> Search<T> {
     /// How many clauses there are.
     pub fn count(&self) -> u32
         ensures count { result ≡ length self.now.clauses }
-        ensures few { result ≤ 4294967293 }
+        ensures few { result ≤ most_clauses }
     {
         self.learner.count()
     }
@@ -131,16 +134,17 @@ impl<T: Theory> Search<T> {
         self.learner.clause(k)
     }
 
-    /// Adds what follows by units to the trail, up to a clause that is false; where there is none, asks the theory. An
-    /// error leaves the search as it was.
+    /// Adds what follows by units to the trail, up to a clause that is false; where there is none, asks the theory,
+    /// whose conflict is added as [`Search::add`] does. An error leaves the search as it was.
     pub fn propagate(&mut self, alloc: Global) -> Result<Option<u32>, AllocError>
         ensures moves { IfOk result (λ o. PropagatesBeside (T.valid self.old.sizes) self.old self.new o) }
         ensures last { OnOk result (GivesLast self.old self.new.trail) }
         ensures conflict { IfOk result (λ o. IfSome o (λ k. IsConflict self.new k)) }
         ensures settled { IfOk result (λ o. IfNone o (IsSettled self.new)) }
-        ensures consistent { IfOk result (λ o. IfNone o (IsCalm T.valid self.new)) }
+        ensures consistent { IfOk result (λ o. IfNone o (IsConsistentWith T.valid self.new)) }
         ensures known { IfOk result (λ o. IfNone o (T.known self.new.sizes (lits_of self.new.trail))) }
         ensures sound { OnOk result (IsSound self.new) }
+        ensures few { OnOk result (length self.new.clauses ≤ most_clauses) }
         ensures err { OnErr result (self.new ≡ self.old) }
     {
         let before = self.learner.steps().len();
@@ -162,7 +166,7 @@ impl<T: Theory> Search<T> {
     // Opens a level with an atom that has no truth. The theory says which truth is tried first.
     fn open(&mut self, atom: Atom) -> Lit
         requires settled { IsSettled self.old }
-        requires consistent { IsCalm T.valid self.old }
+        requires consistent { IsConsistentWith T.valid self.old }
         requires range { IsInRange self.old.sizes atom }
         requires free { IsFree self.old.trail atom }
         ensures atom { result.atom ≡ atom }
@@ -180,7 +184,7 @@ impl<T: Theory> Search<T> {
     /// first.
     pub fn decide(&mut self) -> Option<Lit>
         requires settled { IsSettled self.old }
-        requires consistent { IsCalm T.valid self.old }
+        requires consistent { IsConsistentWith T.valid self.old }
         ensures none { IfNone result ((self.new ≡ self.old) × AllHaveTruth self.old.sizes self.old.trail) }
         ensures some { IfSome result (λ lit. OpensLevel self.old lit self.new) }
     {
@@ -192,7 +196,7 @@ impl<T: Theory> Search<T> {
     /// first.
     pub fn decide_needed(&mut self) -> Option<Lit>
         requires settled { IsSettled self.old }
-        requires consistent { IsCalm T.valid self.old }
+        requires consistent { IsConsistentWith T.valid self.old }
         ensures none { IfNone result ((self.new ≡ self.old) × AreAssigned self.old) }
         ensures some { IfSome result (λ lit. OpensLevel self.old lit self.new) }
         ensures occurs { IfSome result (λ lit. OccursIn self.old.clauses lit.atom) }
@@ -207,7 +211,7 @@ impl<T: Theory> Search<T> {
         requires level { 0 < length self.old.starts }
         ensures learnt { IfOk result (λ l. IsLearnt self.old k l.clause l.level l.unit) }
         ensures added { IfOk result (λ l. self.new ≡ add_clause self.old l.clause) }
-        ensures few { OnOk result (length self.new.clauses ≤ 4294967293) }
+        ensures few { OnOk result (length self.new.clauses ≤ most_clauses) }
         ensures reasons { IfOk result (λ l. AreReasons self.old.clauses l.reasons.items l.clause) }
         ensures err { OnErr result (self.new ≡ self.old) }
     {
@@ -238,11 +242,11 @@ impl<T: Theory> Search<T> {
     }
 
     /// Adds a clause last. Where it is false under the trail, that is cut to the greatest level of its literals. There
-    /// are at most 4,294,967,293 clauses: where there are as many, none is added, as for want of memory.
+    /// are at most `MOST_CLAUSES`: where there are as many, none is added, as where memory runs out.
     pub fn add(&mut self, clause: Clause) -> Result<(), AllocError>
         requires { AreInRange self.old.sizes clause }
         ensures ok { OnOk result (Adds self.old clause self.new) }
-        ensures few { OnOk result (length self.new.clauses ≤ 4294967293) }
+        ensures few { OnOk result (length self.new.clauses ≤ most_clauses) }
         ensures err { OnErr result (self.new ≡ self.old) }
     {
         self.learner.add(clause)?;

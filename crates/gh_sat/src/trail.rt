@@ -38,13 +38,13 @@ pub(crate) struct Trail {
 
 impl Model for Trail {
     ghost use Rattle.std.specs.Prelude.{vec_capacity};
-    ghost use Rattle.gh_sat.specs.Trail.{Line, AreTables};
+    ghost use Rattle.gh_sat.specs.Trail.{Line, AreTrailTables};
 
     ghost Value = { Line };
 
     ghost view = { λ t. record { sizes = t.values.sizes; steps = t.steps.items } };
 
-    ghost invariant = { λ t. AreTables t.values t.places.items t.steps.items t.cursor (vec_capacity t.steps) };
+    ghost invariant = { λ t. AreTrailTables t.values t.places.items t.steps.items t.cursor (vec_capacity t.steps) };
 }
 
 // The number of the atom at a place in the order of decisions, and the place of the atom of a number: equalities stand

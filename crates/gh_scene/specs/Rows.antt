@@ -7,7 +7,6 @@ use Rattle.gh_assert.specs.Stores.{store_of}
 use Rattle.gh_lens.specs.declared.exchange.Exchange.{Exchange}
 use Rattle.gh_lens.specs.Handed.{IsHandedOr}
 use Rattle.gh_lens.specs.Lines.{numbers_text}
-use Rattle.gh_lens.specs.Settings.{OfStep}
 use Rattle.gh_lens.specs.Statements.{statement_text}
 use Rattle.gh_path.specs.Graphs.{PathStep}
 use Rattle.gh_path.specs.Kept.{AreSteps}
@@ -17,7 +16,7 @@ use Rattle.gh_scene.specs.Roles.{roles_of, changes_of}
 use Rattle.gh_trace.specs.declared.setting.Setting.{Setting}
 use Rattle.gh_trace.specs.declared.state.State.{State}
 use Rattle.gh_trace.specs.Kept.{state_of}
-use Rattle.gh_trace.specs.Settings.{here, whole}
+use Rattle.gh_trace.specs.Settings.{here, whole, OfStep}
 
 -- the places that are handed over, those that are left aside, and those that came back
 abbrev pub exchange_note : Exchange → List ℕ

@@ -1,8 +1,8 @@
 // The rows of a picture.
 
 ghost use Rattle.std.specs.Prelude.{◌≡◌, IfOk};
-ghost use Rattle.gh_trace.specs.Settings.{HasLoops};
-ghost use Rattle.gh_lens.specs.Settings.{HasStep, HaveSteps, OfStep};
+ghost use Rattle.gh_path.specs.Kept.{AreSomeSteps, IsSomeStep};
+ghost use Rattle.gh_trace.specs.Settings.{HasLoops, OfStep, here, whole};
 ghost use Rattle.gh_lens.specs.Statements.{statement_text};
 ghost use Rattle.gh_scene.specs.Rows as told;
 ghost use Rattle.gh_scene.specs.Rows.{AddsRowsFor};
@@ -59,7 +59,7 @@ fn step_row(
     spare: &Heap,
 ) -> Result<Row, AllocError>
     requires loops { HasLoops setting }
-    requires one { HasStep setting step.now }
+    requires one { IsSomeStep (whole setting) (here setting) step.now }
     ensures { IfOk result (told.IsRowFor setting.entry step.now before.now after.now spare.now) }
 {
     let exchange = handed(alloc, setting, step, before, after)?;
@@ -98,7 +98,7 @@ pub fn push_rows(
     spare: &Heap,
 ) -> Result<(), AllocError>
     requires loops { HasLoops setting }
-    requires some { HaveSteps setting steps.now }
+    requires some { AreSomeSteps (whole setting) (here setting) steps.now }
     ensures { IfOk result (λ _.
         AddsRowsFor setting.entry steps.now states.now spare.now rows.old.items rows.new.items) }
 {

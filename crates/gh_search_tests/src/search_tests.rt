@@ -5,7 +5,7 @@ ghost use Rattle.gh_base.specs.declared.atom.Atom.TheVariants.{Def};
 ghost use Rattle.gh_sat.specs.Learn.{IsConflict};
 ghost use Rattle.gh_sat.specs.Measure.{LeavesLess};
 ghost use Rattle.gh_sat.specs.Status.{IsSettled};
-ghost use Rattle.gh_sat.specs.Theory.{IsCalm};
+ghost use Rattle.gh_sat.specs.Theory.{IsConsistentWith};
 ghost use Rattle.gh_sat.specs.Trail.{IsSound};
 ghost use Rattle.gh_search_tests.specs.Apart.{last_apart};
 
@@ -181,12 +181,12 @@ fn turn<T: Theory>(
     requires sound { IsSound search.old }
     requires conflict { IfSome answer (λ k. IsConflict search.old k) }
     requires settled { IfNone answer (IsSettled search.old) }
-    requires consistent { IfNone answer (IsCalm T.valid search.old) }
+    requires consistent { IfNone answer (IsConsistentWith T.valid search.old) }
     ensures less { IfOk result (λ o. IfSome o (λ _. LeavesLess search.old search.new)) }
     ensures sound { IfOk result (λ o. IfSome o (λ _. IsSound search.new)) }
     ensures conflict { IfOk result (λ o. IfSome o (λ next. IfSome next (λ k. IsConflict search.new k))) }
     ensures settled { IfOk result (λ o. IfSome o (λ next. IfNone next (IsSettled search.new))) }
-    ensures consistent { IfOk result (λ o. IfSome o (λ next. IfNone next (IsCalm T.valid search.new))) }
+    ensures consistent { IfOk result (λ o. IfSome o (λ next. IfNone next (IsConsistentWith T.valid search.new))) }
 {
     match answer {
         None => {

@@ -4,19 +4,20 @@
 
 use crate::clauses::{Clauses, Origin};
 use crate::search::Searcher;
-use crate::section::needed_for;
+use crate::section::{moved, needed_for};
 use crate::shape::{Code, Kind, Shape, spread};
 use crate::state::{State, has};
 use crate::table::{at, put, small};
 use std::alloc::{AllocError, Global};
 
-/// What earlier searches found. Nothing is promised of it: it serves a search whose answer is checked.
+/// What earlier searches found. Nothing is promised of it: it serves a search whose answer is checked. Where memory runs
+/// out in such a search, more may be known than before, or less.
 #[derive(Debug, Drop)]
 pub struct Known {
     past: Option<Past>,
 }
 
-/// The clauses of a search, the lemmas among them that it found, and what made literals true at level 0.
+/// The lemmas that a search found, what made literals true at level 0, and the clauses that show these.
 #[derive(Debug, Drop)]
 struct Past {
     shape: Shape,
@@ -74,6 +75,21 @@ impl Lists {
     fn after(&self, number: u32) -> u32 {
         at(self.others.as_slice(), number as usize, 0)
     }
+
+    // Takes a number out of a word's list: `before` is one more than the number before it, or 0.
+    fn remove(&mut self, word: u64, before: u32, number: u32) {
+        let next = self.after(number);
+        if before == 0 {
+            let place = self.place(word);
+            put(self.heads.as_mut_slice(), place, next);
+        } else {
+            put(
+                self.others.as_mut_slice(),
+                before.wrapping_sub(1) as usize,
+                next,
+            );
+        }
+    }
 }
 
 // A word for some literals that no order of them changes.
@@ -124,30 +140,31 @@ fn key_lists(alloc: Global, shape: &Shape) -> Result<Lists, AllocError> {
     Ok(lists)
 }
 
-// One more than the number of the first definition with a key that isn't taken, or 0.
-fn find_definition(lists: &Lists, shape: &Shape, key: u64, taken: &[bool]) -> u32 {
+// Takes the first definition with a key out of its list. Answers one more than its number, or 0.
+fn take_definition(lists: &mut Lists, shape: &Shape, key: u64) -> u32 {
+    let mut before = 0;
     let mut next = lists.first(key);
-    for _ in 0..taken.len() {
-        let number = (next as usize).wrapping_sub(1);
-        let is_same = shape.key(shape.defs.wrapping_add(number)) == key;
-        if next == 0 || is_same && !at(taken, number, true) {
+    for _ in 0..lists.others.len() {
+        let number = next.wrapping_sub(1);
+        if next == 0 || shape.key(shape.defs.wrapping_add(number as usize)) == key {
             break;
         }
-        next = lists.after(next.wrapping_sub(1));
+        before = next;
+        next = lists.after(number);
+    }
+    if next != 0 {
+        lists.remove(key, before, next.wrapping_sub(1));
     }
     next
 }
 
 // For each definition of a past shape one more than the number of the one of a new shape that has its key, or 0; where
-// several have the same key, the first of one that of the other, and so on.
+// several have the same key, they are paired in order.
 fn definitions(alloc: Global, from: &Shape, to: &Shape) -> Result<Vec<u32>, AllocError> {
-    let lists = key_lists(alloc, to)?;
-    let mut taken = vec![in alloc; false; to.count.wrapping_sub(to.defs)]?;
+    let mut lists = key_lists(alloc, to)?;
     let mut found = Vec::new(alloc);
     for atom in from.defs..from.count {
-        let next = find_definition(&lists, to, from.key(atom), taken.as_slice());
-        put(taken.as_mut_slice(), (next as usize).wrapping_sub(1), true);
-        found.push(next)?;
+        found.push(take_definition(&mut lists, to, from.key(atom)))?;
     }
     Ok(found)
 }
@@ -263,12 +280,17 @@ impl Known {
         }
     }
 
-    /// Adds to a search at level 0 what is known. Answers a clause that is false then, if there is one.
-    pub(crate) fn tell(&self, searcher: &mut Searcher) -> Result<Option<u32>, AllocError> {
-        match &self.past {
-            Some(past) if self.serves(searcher) => past.tell(searcher),
-            _ => Ok(None),
+    /// Adds to a search at level 0 what is known, which is forgotten where none of its lemmas can be added. Answers a
+    /// clause that is false then, if there is one.
+    pub(crate) fn tell(&mut self, searcher: &mut Searcher) -> Result<Option<u32>, AllocError> {
+        let conflict = match &self.past {
+            Some(past) if self.serves(searcher) => past.tell(searcher)?,
+            _ => return Ok(None),
+        };
+        if searcher.shown.is_empty() {
+            self.past = None;
         }
+        Ok(conflict)
     }
 
     /// Keeps what a search found, if it found lemmas.
@@ -278,25 +300,87 @@ impl Known {
         }
         let units = searcher.state.reasons()?;
         let Searcher { state, shown, .. } = searcher;
-        let State { shape, clauses, .. } = state;
-        self.past = Some(Past {
+        let State {
+            alloc,
             shape,
             clauses,
-            shown,
-            units,
-        });
+            ..
+        } = state;
+        let past = Past::new(alloc, shape, &clauses, shown.as_slice(), units.as_slice())?;
+        self.past = Some(past);
         Ok(())
     }
 }
 
+// Some numbers below a count, each once.
+fn each_once(alloc: Global, count: usize, numbers: &[u32]) -> Result<Vec<u32>, AllocError> {
+    let mut is_found = vec![in alloc; false; count]?;
+    let mut found = Vec::new(alloc);
+    for number in numbers {
+        if !at(is_found.as_slice(), *number as usize, false) {
+            put(is_found.as_mut_slice(), *number as usize, true);
+            found.push(*number)?;
+        }
+    }
+    Ok(found)
+}
+
+// Adds a copy of a clause. Its hints have new numbers.
+fn push_copy(
+    alloc: Global,
+    kept: &mut Clauses,
+    clauses: &Clauses,
+    numbers: &[u32],
+    number: u32,
+) -> Result<u32, AllocError> {
+    let codes = clauses.codes(number);
+    match clauses.origin(number) {
+        None => Ok(0),
+        Some(Origin::Learnt { from, to }) => {
+            let hints = moved(alloc, numbers, clauses.hints(from, to))?;
+            kept.learn(codes, hints.as_slice())
+        }
+        Some(origin) => kept.push(codes, origin),
+    }
+}
+
 impl Past {
+    // Some clauses of a search, with those that show them.
+    fn new(
+        alloc: Global,
+        shape: Shape,
+        clauses: &Clauses,
+        shown: &[u32],
+        units: &[u32],
+    ) -> Result<Past, AllocError> {
+        let mut roots = Vec::new(alloc);
+        roots.extend_from_slice(shown)?;
+        roots.extend_from_slice(units)?;
+        let needed = needed_for(alloc, clauses, roots.as_slice())?;
+        let mut kept = Clauses::new(alloc);
+        let mut numbers = vec![in alloc; 0; clauses.count()]?;
+        for number in 0..clauses.count() {
+            if at(needed.as_slice(), number, false) {
+                let copy = push_copy(alloc, &mut kept, clauses, numbers.as_slice(), small(number))?;
+                put(numbers.as_mut_slice(), number, copy);
+            }
+        }
+        let shown = moved(alloc, numbers.as_slice(), shown)?;
+        Ok(Past {
+            shape,
+            shown: each_once(alloc, kept.count(), shown.as_slice())?,
+            units: moved(alloc, numbers.as_slice(), units)?,
+            clauses: kept,
+        })
+    }
+
     // Adds to a search what was found, with what shows it.
     fn tell(&self, searcher: &mut Searcher) -> Result<Option<u32>, AllocError> {
         let alloc = searcher.state.alloc;
         let mut roots = Vec::new(alloc);
         roots.extend_from_slice(self.shown.as_slice())?;
         roots.extend_from_slice(self.units.as_slice())?;
-        let mut numbers = self.carried(&mut searcher.state, roots.as_slice())?;
+        let mut numbers = self.carried(&mut searcher.state)?;
         for number in self.shown.as_slice() {
             let added = at(numbers.as_slice(), *number as usize, 0);
             if added != 0 {
@@ -310,16 +394,12 @@ impl Past {
         )
     }
 
-    // Adds the clauses of some numbers to a search, with what shows them. Answers for each clause one more than its
-    // number there, or 0.
-    fn carried(&self, state: &mut State, roots: &[u32]) -> Result<Vec<u32>, AllocError> {
-        let needed = needed_for(state.alloc, &self.clauses, roots)?;
+    // Adds the clauses to a search. Answers for each one more than its number there, or 0.
+    fn carried(&self, state: &mut State) -> Result<Vec<u32>, AllocError> {
         let mut carrier = Carrier::new(state.alloc, state, self)?;
-        for number in 0..needed.len() {
-            if at(needed.as_slice(), number, false) {
-                let added = carrier.add(state, self, small(number))?;
-                put(carrier.numbers.as_mut_slice(), number, added);
-            }
+        for number in 0..self.clauses.count() {
+            let added = carrier.add(state, self, small(number))?;
+            put(carrier.numbers.as_mut_slice(), number, added);
         }
         Ok(carrier.numbers)
     }

@@ -4,7 +4,7 @@
 //!
 //! Most lists stay as they were beside a write or a call. A search that meets this again and again, below decisions on
 //! later versions, takes long. Structures that refute lemmas spare most tries: a segment of which one makes a lemma
-//! false is given up in that version. In a try the cases of the lemma are decided first.
+//! false is given up in that version. In a try the contents along the lemma's segment are decided first, then its cases.
 
 use crate::candidates::Candidates;
 use crate::clauses::Origin;
@@ -109,7 +109,12 @@ fn chain_of(searcher: &Searcher, wanted: &[Code]) -> Option<Parts> {
         return None;
     }
     let begun = wanted.iter().find(|code| !code.is_positive())?;
-    Some(searcher.state.shape.parts(begun.atom()))
+    let parts = searcher.state.shape.parts(begun.atom());
+    if parts.kind == Kind::Btwn {
+        Some(parts)
+    } else {
+        None
+    }
 }
 
 // Sets the cases by which a lemma is shown: the contents along its segment, then for each of its segments which terms

@@ -21,7 +21,8 @@ struct Table {
 }
 
 impl Table {
-    // All clauses. Notes the latest version of which each definition speaks.
+    // All clauses. Notes the latest version of which each definition speaks, and takes the clauses that say what it
+    // stands for into its key.
     fn new(alloc: Global, shape: &mut Shape, ground: &Ground) -> Result<Table, AllocError> {
         let mut table = Table {
             codes: Vec::new(alloc),
@@ -39,7 +40,7 @@ impl Table {
                 let codes = table.clause(number as usize);
                 let version = latest(shape, codes, defined);
                 shape.note_version(defined, version);
-                if codes.len() > 1 {
+                if codes.len() > 1 || shape.key(defined) == 0 {
                     shape.note_key(defined, codes);
                 }
             }

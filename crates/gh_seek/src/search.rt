@@ -6,7 +6,7 @@ use crate::lesson::Lessons;
 use crate::load::load;
 use crate::rows::{Plans, Row};
 use crate::shape::{Code, Parts};
-use crate::state::{Added, State, has};
+use crate::state::{Added, State, distinct};
 use crate::structure::{Made, Missing, add_false};
 use crate::table::byte;
 use gh_base::ground::Ground;
@@ -34,9 +34,9 @@ pub(crate) struct Searcher {
     pub state: State,
     pub least: Least,
     pub lessons: Lessons,
-    /// Literals whose opposites are decided after those of the wanted ones.
+    /// Literals whose opposites are decided after those of the wanted ones and the chain.
     pub cases: Vec<Code>,
-    /// Clauses that say what was wanted.
+    /// Clauses that say what was wanted, some more than once.
     pub shown: Vec<u32>,
     /// A segment: before the cases it is decided which terms are the contents along it, from its first cell on. So each
     /// way along it is met once, and what is learnt at its end serves all other ways that lead there.
@@ -86,22 +86,24 @@ impl Searcher {
         None
     }
 
-    /// Adds the ground clause of a number at level 0. Answers whether it is false.
+    /// Adds the ground clause of a number at level 0, if it is there. Answers its number here, and whether it is false.
     pub fn add_ground(&mut self, ground: &Ground, number: u32) -> Result<Added, AllocError> {
-        let mut codes: Vec<Code> = Vec::new(self.state.alloc);
-        if let Some(clause) = ground.clause(number) {
-            for lit in clause.lits() {
-                let code = self.state.shape.code(*lit);
-                if !has(codes.as_slice(), code) {
-                    codes.push(code)?;
-                }
-            }
+        let Some(clause) = ground.clause(number) else {
+            return Ok(Added {
+                number,
+                is_false: false,
+            });
+        };
+        let mut codes = Vec::new(self.state.alloc);
+        for lit in clause.lits() {
+            codes.push(self.state.shape.code(*lit))?;
         }
+        let codes = distinct(self.state.alloc, codes.as_slice())?;
         self.state.add(codes.as_slice(), Origin::Ground(number))
     }
 
-    // Adds what follows by units, congruence and instances, up to a clause that is false.
-    fn propagate(&mut self) -> Result<Option<u32>, AllocError> {
+    /// Adds what follows by units, congruence and instances. Answers a clause that is false then, if there is one.
+    pub fn propagate(&mut self) -> Result<Option<u32>, AllocError> {
         for _ in 0..u32::MAX {
             if let Some(conflict) = self.state.propagate()? {
                 return Ok(Some(conflict));
@@ -257,13 +259,13 @@ impl Searcher {
                 continue;
             }
             let made = Made::new(&self.state, &self.least)?;
-            match add_false(&mut self.state, &self.plans, &self.least, &made)? {
-                Missing::None => return Ok(End::Found(made)),
-                Missing::Added => {}
-                Missing::False(conflict) => {
-                    if self.learn(conflict)? {
-                        return Ok(End::Refuted(conflict));
-                    }
+            let missing = add_false(&mut self.state, &self.plans, &self.least, &made)?;
+            if let Missing::None = missing {
+                return Ok(End::Found(made));
+            }
+            if let Missing::False(conflict) = missing {
+                if self.learn(conflict)? {
+                    return Ok(End::Refuted(conflict));
                 }
             }
         }
@@ -273,9 +275,7 @@ impl Searcher {
     // Learns what is wanted, and notes the clause that says it.
     fn show(&mut self, wanted: &[Code]) -> Result<(), AllocError> {
         if let Some(shown) = self.lessons.show(&mut self.state, wanted)? {
-            if self.shown.iter().all(|number| *number != shown) {
-                self.shown.push(shown)?;
-            }
+            self.shown.push(shown)?;
         }
         Ok(())
     }

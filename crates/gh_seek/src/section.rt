@@ -51,8 +51,12 @@ fn lits_of(
     Ok(lits)
 }
 
-// The positions of the lines of some clauses.
-fn moved(alloc: Global, positions: &[u32], hints: &[u32]) -> Result<Vec<u32>, AllocError> {
+/// The positions of some clauses.
+pub(crate) fn moved(
+    alloc: Global,
+    positions: &[u32],
+    hints: &[u32],
+) -> Result<Vec<u32>, AllocError> {
     let mut moved = Vec::with_capacity(alloc, hints.len())?;
     for hint in hints {
         moved.push(at(positions, *hint as usize, 0))?;

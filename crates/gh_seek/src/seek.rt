@@ -20,33 +20,54 @@ pub enum Found {
     Nothing,
 }
 
-// So many conflicts for each pair of terms, and so many for each term, come before lemmas are looked for: most searches
-// need fewer, and over many terms there are many lemmas.
+// The lesser of so many conflicts for each pair of terms and so many for each term comes before lemmas are looked for:
+// most searches need fewer, and over many terms there are many lemmas.
 const FOR_PAIRS: u64 = 4;
 
 const FOR_TERMS: u64 = 40;
+
+// So many times fewer come where something is known that may serve.
+const FEWER: u64 = 4;
 
 // No more terms have bits in a word, and for no more atoms tables are made.
 const MOST_TERMS: u8 = 32;
 
 const MOST_ATOMS: usize = 8000000;
 
-// Searches for a while: for a short one, where something is known that may serve.
-fn begin(searcher: &mut Searcher, known: &Known) -> Result<End, AllocError> {
-    if let Some(number) = searcher.false_clause() {
-        return Ok(End::Refuted(number));
-    }
+// How many conflicts come before lemmas are looked for.
+fn conflicts_ahead(searcher: &Searcher, known: &Known) -> u64 {
     let terms = searcher.state.shape.terms as u64;
-    let for_each = terms.saturating_mul(FOR_PAIRS).min(FOR_TERMS);
-    let most = terms.saturating_mul(for_each);
-    let is_short = known.serves(searcher);
-    searcher.run(&[], if is_short { most / 4 } else { most })
+    let most = terms.saturating_mul(terms.saturating_mul(FOR_PAIRS).min(FOR_TERMS));
+    if known.serves(searcher) {
+        most / FEWER
+    } else {
+        most
+    }
 }
 
-// Searches for lemmas first, over all clauses but the last one: that says that a check fails, and without it what is
-// found serves for later checks of the path, too. Then searches over all clauses.
-fn search(searcher: &mut Searcher, ground: &Ground, known: &Known) -> Result<End, AllocError> {
+// Searches for a while over all clauses. Answers nothing where it takes longer.
+fn begin(alloc: Global, ground: &Ground, known: &mut Known) -> Result<Option<Found>, AllocError> {
+    let mut searcher = Searcher::new(alloc, ground, ground.count())?;
+    let end = match searcher.false_clause() {
+        Some(number) => End::Refuted(number),
+        None => {
+            let most = conflicts_ahead(&searcher, known);
+            searcher.run(&[], most)?
+        }
+    };
+    if let End::TooLong = end {
+        return Ok(None);
+    }
+    Ok(Some(outcome(alloc, searcher, end, known)?))
+}
+
+// Searches for lemmas first, over all clauses but the last one: of a condition that one says that its check fails, and
+// without it what is found serves for later checks of the path, too. Then searches over all clauses.
+fn search(searcher: &mut Searcher, ground: &Ground, known: &mut Known) -> Result<End, AllocError> {
     if let Some(conflict) = known.tell(searcher)? {
+        return Ok(End::Refuted(conflict));
+    }
+    if let Some(conflict) = searcher.propagate()? {
         return Ok(End::Refuted(conflict));
     }
     if let Some(conflict) = try_lemmas(searcher)? {
@@ -69,7 +90,7 @@ fn truths(alloc: Global, searcher: &Searcher) -> Result<Vec<Lit>, AllocError> {
     Ok(lits)
 }
 
-// What a search found that ended; what it found on the way is known from now on.
+// What a search found that ended. Lemmas that it showed are known from now on, if it is a refutation.
 fn outcome(
     alloc: Global,
     mut searcher: Searcher,
@@ -89,17 +110,16 @@ fn outcome(
 }
 
 /// Looks for a refutation of the clauses, or for a structure that makes them and all axiom instances true. What is known
-/// from earlier ones may help, and what is found then is known to later ones.
+/// from earlier searches may help, and what is found then is known to later ones.
 pub fn seek(alloc: Global, ground: &Ground, known: &mut Known) -> Result<Found, AllocError> {
     let sizes = ground.sizes();
     if sizes.terms > MOST_TERMS || sizes.count() > MOST_ATOMS {
         return Ok(Found::Nothing);
     }
-    let mut searcher = Searcher::new(alloc, ground, ground.count())?;
-    let mut end = begin(&mut searcher, known)?;
-    if let End::TooLong = end {
-        searcher = Searcher::new(alloc, ground, ground.count().saturating_sub(1))?;
-        end = search(&mut searcher, ground, known)?;
+    if let Some(found) = begin(alloc, ground, known)? {
+        return Ok(found);
     }
+    let mut searcher = Searcher::new(alloc, ground, ground.count().saturating_sub(1))?;
+    let end = search(&mut searcher, ground, known)?;
     outcome(alloc, searcher, end, known)
 }

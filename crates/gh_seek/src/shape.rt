@@ -98,7 +98,7 @@ pub(crate) struct Shape {
     pub defs: usize,
     pub count: usize,
     parts: Vec<Parts>,
-    // By definition.
+    // By definition: its key, or 0 where no clause is taken into it yet.
     keys: Vec<u64>,
 }
 
@@ -201,8 +201,8 @@ impl Shape {
         }
     }
 
-    /// The key of an atom: a word that tells it from others, whatever the numbers of versions and definitions are. That
-    /// of a definition comes from the clauses that say what it stands for.
+    /// The key of an atom, whatever the numbers of versions and definitions are: a word that no other atom has, or of a
+    /// definition a word made from the clauses that say what it stands for, which definitions that say the same share.
     pub fn key(&self, atom: usize) -> u64 {
         if atom >= self.defs {
             return at(self.keys.as_slice(), atom.wrapping_sub(self.defs), 0);
@@ -226,7 +226,7 @@ impl Shape {
         for code in codes {
             let sign = if code.is_positive() { 1 } else { 0 };
             let key = if code.atom() == defined {
-                0
+                1
             } else {
                 self.key(code.atom())
             };

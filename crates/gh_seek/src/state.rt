@@ -191,11 +191,8 @@ impl State {
 
     /// Has a clause watched that was added last.
     pub fn attach(&mut self, number: u32) -> Result<Added, AllocError> {
-        for index in 0..self.clauses.len(number) {
-            let code = at(self.clauses.codes(number), index, Code(0));
-            self.order.enter(&self.shape, code.atom())?;
-        }
-        self.watch(number)
+        self.keep(number)?;
+        self.watch_kept(number)
     }
 
     /// Has a clause watched that was added last, and whose atoms are known to stand in a clause.
@@ -229,8 +226,8 @@ impl State {
         );
         if length > 1 {
             let node = number.wrapping_mul(2);
-            self.watches.link(first, node, second);
-            self.watches.link(second, node.wrapping_add(1), first);
+            self.watches.link_with(first, node, second);
+            self.watches.link_with(second, node.wrapping_add(1), first);
         }
         let is_false = length == 0 || self.trail.is_false(first);
         if !is_false {
@@ -298,7 +295,7 @@ impl State {
                 Visit::Kept => before = node,
                 Visit::Moved(code) => {
                     self.watches.unlink(gone, before, node);
-                    self.watches.move_to(Code(code), node);
+                    self.watches.link(Code(code), node);
                 }
                 Visit::Conflict => return Ok(Some(node / 2)),
             }
@@ -394,8 +391,8 @@ impl State {
     }
 }
 
-// The literals without repeats.
-fn distinct(alloc: Global, codes: &[Code]) -> Result<Vec<Code>, AllocError> {
+/// The literals without repeats.
+pub(crate) fn distinct(alloc: Global, codes: &[Code]) -> Result<Vec<Code>, AllocError> {
     let mut found: Vec<Code> = Vec::new(alloc);
     for code in codes {
         if !has(found.as_slice(), *code) {

@@ -95,13 +95,13 @@ impl Watches {
     }
 
     /// Puts a node that stands in no list at the front of a literal's list, with another literal of its clause.
-    pub fn link(&mut self, code: Code, node: u32, other: Code) {
+    pub fn link_with(&mut self, code: Code, node: u32, other: Code) {
         self.set_other(node, other);
-        self.move_to(code, node);
+        self.link(code, node);
     }
 
     /// Puts a node that stands in no list at the front of a literal's list.
-    pub fn move_to(&mut self, code: Code, node: u32) {
+    pub fn link(&mut self, code: Code, node: u32) {
         let next = self.first(code);
         self.set_next(node, next);
         put(self.first.as_mut_slice(), code.place(), node);

@@ -4,9 +4,13 @@ use Rattle.gh_ast.specs.declared.Operand.{Operand}
 use Rattle.gh_ast.specs.declared.Operand.TheVariants.{Null, Var}
 use Rattle.gh_ast.specs.declared.Expr.{Expr}
 use Rattle.gh_ast.specs.declared.Expr.TheVariants.{Plain, Read}
-use Rattle.gh_ast.specs.Plain.{Test, compare, negation, conjunction, disjunction, Tests, no_tests, test_first, Formula, empty, comparison, points_to, cell, segment, star, cases, Formulas, no_formulas, formula_first}
+use Rattle.gh_ast.specs.Plain.{Test, compare, negation, conjunction, disjunction, Tests, no_tests, test_first, Formula}
+use Rattle.gh_ast.specs.Plain.{empty, comparison, points_to, cell, segment, star, cases, Formulas, no_formulas}
+use Rattle.gh_ast.specs.Plain.{formula_first}
 use Rattle.gh_ast.specs.Programs.{Name}
-use Rattle.gh_session.specs.Essences.{Contract, Round, Step, accessed, assumed, assigned, made, written, freed, called, looped, answered, Start, from_entry, from_loop, Check, access, entry, loop_entry, returned, loop_end, Essence}
+use Rattle.gh_session.specs.Essences.{Contract, Round, Step, accessed, assumed, assigned, made, written, freed, called}
+use Rattle.gh_session.specs.Essences.{looped, answered, Start, from_entry, from_loop, Check, access, entry, loop_entry}
+use Rattle.gh_session.specs.Essences.{returned, loop_end, Essence}
 
 -- a number with one more mixed in
 abbrev pub mixed : ℕ → ℕ → ℕ

@@ -3,6 +3,7 @@ use Rattle.std.specs.Prelude.{◌≡◌, ◌⊎◌, ℕ, ◌+◌, ◌≤◌, ◌
 use Rattle.std.specs.List.{concat}
 use Rattle.gh_ast.specs.Programs.{Name}
 use Rattle.gh_base.specs.Names.{IsNameText}
+use Rattle.gh_base.specs.Texts.{line_end}
 use Rattle.gh_session.specs.declared.edits.Edit.{Edit}
 use Rattle.gh_session.specs.declared.edits.Edits.{Edits}
 use Rattle.gh_session.specs.declared.error.SessionError.{SessionError}
@@ -16,7 +17,7 @@ begun c (l ∷ ls) = (c ∷ l) ∷ ls
 -- the lines of a text, each with its line feed, which the last may lack
 abbrev pub lines : List ℕ → List (List ℕ)
 lines [] = []
-lines (c ∷ cs) = cond (c == 10) ((10 ∷ []) ∷ lines cs) (begun c (lines cs))
+lines (c ∷ cs) = cond (c == 10) (line_end ∷ lines cs) (begun c (lines cs))
 
 -- `%% NAME` asks for an answer, `%+ NAME` does not
 abbrev pub separator : Bool → Name → List ℕ
@@ -24,7 +25,7 @@ separator asks n = 37 ∷ cond asks 37 43 ∷ 32 ∷ n
 
 pub record IsSeparator (line : List ℕ) (asks : Bool) (n : Name) : Type 0 where
   pub name : IsNameText n
-  pub is : (line ≡ separator asks n) ⊎ (line ≡ separator asks n ++ 10 ∷ [])
+  pub is : (line ≡ separator asks n) ⊎ (line ≡ separator asks n ++ line_end)
 
 -- the line begins with `%`
 abbrev pub IsMarked : List ℕ → Type 0

@@ -7,7 +7,9 @@ use Rattle.gh_assert.specs.Walks.{Allocated}
 use Rattle.gh_assert.specs.Values.{result, Give, compared, Gets}
 use Rattle.gh_trace.specs.Traces.{State, Replaced, last_state}
 use Rattle.gh_trace.specs.Replay.{Drawn}
-use Rattle.gh_session.specs.Essences.{Contract, Round, no_contract, no_round, Step, accessed, assumed, assigned, made, written, freed, called, looped, answered, Start, from_entry, from_loop, Check, access, entry, loop_entry, returned, loop_end, Essence}
+use Rattle.gh_session.specs.Essences.{Contract, Round, no_contract, no_round, Step, accessed, assumed, assigned, made}
+use Rattle.gh_session.specs.Essences.{written, freed, called, looped, answered, Start, from_entry, from_loop, Check}
+use Rattle.gh_session.specs.Essences.{access, entry, loop_entry, returned, loop_end, Essence}
 
 abbrev pub contract_at : Essence → ℕ → Contract
 contract_at E n = get_or E.contracts n no_contract

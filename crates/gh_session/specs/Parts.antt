@@ -1,13 +1,14 @@
 -- Parts of a session file as they are read.
-use Rattle.std.specs.Prelude.{◌≡◌, ◌⊎◌, ℕ, ◌+◌, ◌≤◌, List, [], ◌∷◌, ◌++◌, length}
+use Rattle.std.specs.Prelude.{◌≡◌, ◌⊎◌, ℕ, ◌+◌, ◌≤◌, List, ◌∷◌, ◌++◌, length}
+use Rattle.gh_base.specs.Texts.{line_end}
 use Rattle.gh_session.specs.declared.edits.Edit.{Edit}
 use Rattle.gh_session.specs.declared.lines.Part.{Part}
 use Rattle.gh_session.specs.Lines.{lines, IsMarked, ArePlain, AreSessionLines}
 
 -- the line without the line feed that may stand at its end
 pub record IsBare (line bare : List ℕ) : Type 0 where
-  pub is : (line ≡ bare) ⊎ (line ≡ bare ++ 10 ∷ [])
-  pub whole : (front : List ℕ) → line ≡ front ++ 10 ∷ [] → front ≡ bare
+  pub is : (line ≡ bare) ⊎ (line ≡ bare ++ line_end)
+  pub whole : (front : List ℕ) → line ≡ front ++ line_end → front ≡ bare
 
 -- the next line, if there is one, begins with `%`
 abbrev pub IsBefore : List ℕ → Type 0

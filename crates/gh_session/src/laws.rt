@@ -1,6 +1,7 @@
 //! Laws of essences.
 
-ghost use Rattle.gh_session.specs.Laws.{EssencesAnswer, EssencesDecide, HaveOneEssence, SameAnswers, SameCounterexamples};
+ghost use Rattle.gh_session.specs.Laws.{EssencesAnswer, EssencesDecide, HaveOneEssence, SameAnswers};
+ghost use Rattle.gh_session.specs.Laws.{SameCounterexamples};
 
 /// A condition has one essence, however it is kept.
 pub fn have_one_essence()

@@ -1,6 +1,7 @@
 //! Sessions: what is decided of one text is kept for the next.
 
-ghost use Rattle.std.specs.Prelude.{◌≡◌, ◌+◌, ◌∷◌, ◌++◌, [], ◌≤◌, cond, IfOk, IfErr, IfSome, IfNone, OnOk, OnErr, Contains};
+ghost use Rattle.std.specs.Prelude.{◌≡◌, ◌+◌, ◌∷◌, ◌++◌, [], ◌≤◌, cond, IfOk, IfErr, IfSome, IfNone, OnOk, OnErr};
+ghost use Rattle.std.specs.Prelude.{Contains};
 ghost use Rattle.std.specs.Option.{option_map};
 ghost use Rattle.gh_ast.specs.Plain.{program_of};
 ghost use Rattle.gh_path.specs.Admitted.{IsAdmitted};

@@ -3,7 +3,8 @@
 ghost use Rattle.gh_small.specs.Examples.{TwoAreSpelled};
 ghost use Rattle.gh_small.specs.Smallest.{FoundIsExact};
 ghost use Rattle.gh_small.specs.Cells.{CellsAreCounted, ClassesAreCells};
-ghost use Rattle.gh_small.specs.Laws.{FewerIsSound, FewerIsPossible, FewerIsCounted, ClassesAreCounted, ClassesAreFew, BoundedIsSound, BoundedIsPossible, SmallTracesAreModels, SectionsShowLeast};
+ghost use Rattle.gh_small.specs.Laws.{FewerIsSound, FewerIsPossible, FewerIsCounted, ClassesAreCounted, ClassesAreFew};
+ghost use Rattle.gh_small.specs.Laws.{BoundedIsSound, BoundedIsPossible, SmallTracesAreModels, SectionsShowLeast};
 
 /// Where the clauses are true, fewer than k classes are allocated.
 pub fn fewer_is_sound()

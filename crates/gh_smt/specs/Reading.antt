@@ -16,8 +16,8 @@ use Rattle.gh_smt.specs.Texts.{atom_text, lit_text, spaced_lit, assertion_text, 
 use Rattle.gh_smt.specs.Kinds.{declared_text, start_text}
 
 -- a text stands at the front, and what is left follows it
-abbrev pub TakesText : List ℕ → List ℕ → Result (Unit {0}) Refusal → List ℕ → Type 0
-TakesText wanted text answer rest = IsPartRead (SpellsText wanted text) (λ u. u) answer rest
+abbrev pub ReadsText : List ℕ → List ℕ → Result (Unit {0}) Refusal → List ℕ → Type 0
+ReadsText wanted text answer rest = IsPartRead (SpellsText wanted text) (λ u. u) answer rest
 
 -- a term after a space
 pub record SpellsTerm (text : List ℕ) (n : ℕ) (rest : List ℕ) : Type 0 where

@@ -2,7 +2,8 @@
 
 ghost use Rattle.std.specs.Prelude.{◌∷◌, ◌++◌, [], codes};
 ghost use Rattle.gh_log.specs.Reading.{IsPartRead};
-ghost use Rattle.gh_smt.specs.Reading.{SpellsTerm, SpellsTerms, SpellsForm, SpellsAtom, SpellsLit, SpellsSpaced, SpellsLits};
+ghost use Rattle.gh_smt.specs.Reading.{SpellsTerm, SpellsTerms, SpellsForm, SpellsAtom, SpellsLit, SpellsSpaced};
+ghost use Rattle.gh_smt.specs.Reading.{SpellsLits};
 
 use gh_base::atom::{Atom, Lit, Term};
 use gh_base::clause::Clause;

@@ -7,7 +7,8 @@ ghost use Rattle.gh_log.specs.Reading.{EndsNumber, IsNotFront, IsPartRead};
 ghost use Rattle.gh_smt.specs.Kinds.{declared_text, start_text};
 ghost use Rattle.gh_smt.specs.Texts.{version_declared, script_text};
 ghost use Rattle.gh_smt.specs.Scripts.{IsScript};
-ghost use Rattle.gh_smt.specs.Reading.{TakesText, IsAssertionRead, SpellsAssertions, SpellsDeclared, SpellsScript, IsNoScript};
+ghost use Rattle.gh_smt.specs.Reading.{ReadsText, IsAssertionRead, SpellsAssertions, SpellsDeclared, SpellsScript};
+ghost use Rattle.gh_smt.specs.Reading.{IsNoScript};
 
 use crate::kind::Kind;
 use crate::literals::{read_lit, read_lits};
@@ -40,7 +41,7 @@ fn take_around(
     after: &[u8],
 ) -> Result<(), Refusal>
     requires { (rest : List ℕ) → EndsNumber (after.now ++ rest) }
-    ensures { TakesText (before.now ++ (decimal number ++ after.now)) reader.old.rest.now result reader.new.rest.now }
+    ensures { ReadsText (before.now ++ (decimal number ++ after.now)) reader.old.rest.now result reader.new.rest.now }
 {
     if !reader.skip(before) {
         return Err(Refusal::Outside);
@@ -57,7 +58,7 @@ fn take_around(
 
 // Takes what declares the relations of a version.
 fn take_relations(reader: &mut Reader<'_>, number: u32) -> Result<(), Refusal>
-    ensures { TakesText (version_declared number) reader.old.rest.now result reader.new.rest.now }
+    ensures { ReadsText (version_declared number) reader.old.rest.now result reader.new.rest.now }
 {
     take_around(reader, b"(declare-fun b", number, b" (Loc Loc Loc) Bool)\n")?;
     take_around(reader, b"(declare-fun h", number, b" (Loc Loc) Bool)\n")?;
@@ -67,7 +68,7 @@ fn take_relations(reader: &mut Reader<'_>, number: u32) -> Result<(), Refusal>
 
 // Takes what one number of a kind declares.
 fn take_declared(reader: &mut Reader<'_>, kind: Kind, number: u32) -> Result<(), Refusal>
-    ensures { TakesText (declared_text kind number) reader.old.rest.now result reader.new.rest.now }
+    ensures { ReadsText (declared_text kind number) reader.old.rest.now result reader.new.rest.now }
 {
     match kind {
         Kind::Term => take_around(reader, b"(declare-fun t", number, b" () Loc)\n"),

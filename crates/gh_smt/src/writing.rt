@@ -4,7 +4,8 @@ ghost use Rattle.std.specs.Prelude.{◌≡◌, ◌++◌, codes, All, OnOk, IfOk}
 ghost use Rattle.std.specs.List.{flat_map, range_with_len};
 ghost use Rattle.std.specs.Fmt.{decimal};
 ghost use Rattle.gh_base.specs.Atoms.{AreInRange};
-ghost use Rattle.gh_smt.specs.Texts.{Adds, version_declared, spaced_term, atom_text, lit_text, spaced_lit, assertion_text, script_text};
+ghost use Rattle.gh_smt.specs.Texts.{Adds, version_declared, spaced_term, atom_text, lit_text, spaced_lit};
+ghost use Rattle.gh_smt.specs.Texts.{assertion_text, script_text};
 ghost use Rattle.gh_smt.specs.Kinds.{declared_text};
 ghost use Rattle.gh_smt.specs.Scripts.{HasLits};
 

@@ -9,13 +9,13 @@ use Rattle.gh_ast.specs.declared.Program as whole_program
 use Rattle.gh_ast.specs.Programs.{variable_names}
 use Rattle.gh_path.specs.Admitted.{most_terms}
 use Rattle.gh_path.specs.Graphs.{PathStep}
-use Rattle.gh_path.specs.Kept.{AreSteps, IsCheck, IsKind, IsStart, StandsFor}
+use Rattle.gh_path.specs.Kept.{AreSteps, IsCheck, IsKind, IsSomeKind, IsSomeStep, IsStart, StandsFor}
 use Rattle.gh_path.specs.Conditions.{Condition}
 use Rattle.gh_path.specs.declared.condition.PathStep as kept_step
 use Rattle.gh_path.specs.declared.condition.Condition as kept_condition
 use Rattle.gh_path.specs.Terms.{Kind, Terms, walked, steps_walked, check_walked, condition_walked, terms_of, no_terms}
-use Rattle.gh_symb.specs.Settings.{program_in, procedure_in, HasCheck, HasStep, IsWithin}
-use Rattle.gh_symb.specs.declared.setting.Setting.{Setting}
+use Rattle.gh_symb.specs.Contexts.{program_in, procedure_in, IsWithin, IsContextOf}
+use Rattle.gh_symb.specs.declared.context.Context.{Context}
 use Rattle.gh_symb.specs.Steps.{IsStepped, EndsWith}
 use Rattle.gh_symb.specs.Remaining.{Remains}
 use Rattle.gh_symb.proofs.GrowLemmas.{size, steps_grow, check_grows}
@@ -63,21 +63,21 @@ gone_on P p r rs c s t left stepped = by_steps left.steps left.are_left left.lea
     }
 
 -- a check of a kept condition stands for one
-pub has_check : (set : Setting) (P : Program) → program_in set ≡ P → (r : kept_condition.Condition) (c : Condition) → IsWithin P (procedure_in set) r c → HasCheck set r.check.kind
-has_check set P program r c its =
-    (r.check.span, c.way.check, subst (λ Q. IsKind Q (procedure_in set) r.check.kind r.check.span c.way.check) (sym program) its.check)
+pub has_check : {P : Program} {r : kept_condition.Condition} {set : Context} → IsContextOf P r set → (c : Condition) → StandsFor P r c → IsSomeKind (program_in set) (procedure_in set) r.check.kind
+has_check {P} {r} {set} is c stands =
+    (r.check.span, c.way.check, subst (λ Q. IsKind Q (procedure_in set) r.check.kind r.check.span c.way.check) (sym is.program) (is.within c stands).check)
 
 -- .. and a step that is left
-first_has : (set : Setting) (r : kept_step.PathStep) (rs : List kept_step.PathStep) (ss : List PathStep) → AreSteps (program_in set) (procedure_in set) (r ∷ rs) ss → HasStep set r
+first_has : (set : Context) (r : kept_step.PathStep) (rs : List kept_step.PathStep) (ss : List PathStep) → AreSteps (program_in set) (procedure_in set) (r ∷ rs) ss → IsSomeStep (program_in set) (procedure_in set) r
 first_has set r rs [] are = absurd are
 first_has set r rs (s ∷ ss) are = (s, are.0)
 
-pub has_next : (set : Setting) (P : Program) → program_in set ≡ P → (rs : List kept_step.PathStep) (i : ℕ) (r : kept_step.PathStep) (ss : List PathStep) → i < length rs → r ≡ get_or rs i r →
-    AreSteps P (procedure_in set) (drop i rs) ss → HasStep set r
-has_next set P program rs i r ss within is are =
+pub has_next : {P : Program} {k : kept_condition.Condition} {set : Context} → IsContextOf P k set → (rs : List kept_step.PathStep) (i : ℕ) {r : kept_step.PathStep} (ss : List PathStep) → i < length rs → r ≡ get_or rs i r →
+    AreSteps P (procedure_in set) (drop i rs) ss → IsSomeStep (program_in set) (procedure_in set) r
+has_next {P} {k} {set} of rs i {r} ss within is are =
     let p = procedure_in set in
     let heads : AreSteps P p (r ∷ drop (i + 1) rs) ss = subst (λ xs. AreSteps P p xs ss) (head_of rs i r within is) are in
-    first_has set r (drop (i + 1) rs) ss (subst (λ Q. AreSteps Q p (r ∷ drop (i + 1) rs) ss) (sym program) heads)
+    first_has set r (drop (i + 1) rs) ss (subst (λ Q. AreSteps Q p (r ∷ drop (i + 1) rs) ss) (sym of.program) heads)
 
 -- the next of some steps
 pub gone_next : (P : Program) (p : Procedure) (rs : List kept_step.PathStep) (i : ℕ) (r : kept_step.PathStep) (c : Condition) (s t : Terms) → i < length rs → r ≡ get_or rs i r →

@@ -21,11 +21,11 @@ use Rattle.gh_symb.specs.StepEncodings.{IsFinished, IsStepEncoding}
 use Rattle.gh_symb.specs.Remaining.{Remains}
 use Rattle.gh_symb.specs.Following.{met, known, begins, first_uses, Follows, Followed}
 use Rattle.gh_symb.specs.Reads.{Learns}
-use Rattle.gh_symb.specs.Settings.{program_in, procedure_in}
+use Rattle.gh_symb.specs.Contexts.{program_in, procedure_in}
 use Rattle.gh_symb.specs.Tables.{Bound as Entries, bound_by}
 use Rattle.gh_symb.specs.Walkers.{terms_at, UsesStep, DoesStep, ReadsStep}
 use Rattle.gh_symb.specs.declared.over_terms.TermStep.{TermStep}
-use Rattle.gh_symb.specs.declared.setting.Setting.{Setting}
+use Rattle.gh_symb.specs.declared.context.Context.{Context}
 use Rattle.gh_symb.specs.declared.walker.Walker.{Walker}
 use Rattle.gh_symb.specs.declared.symbolic.Walked.{Walked}
 use Rattle.gh_symb.proofs.LackLemmas.{step_lacks, use_lacks}
@@ -200,7 +200,7 @@ gone_on_to P p r rs c s t u firsts learns states after encoded later one left us
     (subst (λ ts. Follows P p rs c u learns (states ++ s.bindings ∷ []) ts) (sym l) (gone_on P p r rs c s t u firsts learns states encoded one left uses version does encodes learn))
 
 -- the next of some steps, as a walk comes to it: what was met before it and what it uses are kept
-pub gone_past : (set : Setting) (P : Program) → program_in set ≡ P → (rs : List kept_step.PathStep) (i : ℕ) (r : kept_step.PathStep) (c : Condition) (u v w : Walker)
+pub gone_past : (set : Context) (P : Program) → program_in set ≡ P → (rs : List kept_step.PathStep) (i : ℕ) (r : kept_step.PathStep) (c : Condition) (u v w : Walker)
     (before firsts learns : Entries) (states after : List Entries) (encoded later : List TermStep) (one : TermStep) → i < length rs → r ≡ get_or rs i r →
     Follows P (procedure_in set) (drop i rs) c (terms_at u) (bound_by firsts) (map bound_by states) encoded → before ≡ u.scope →
     UsesStep set r u v → v.version ≡ u.version → DoesStep set r v w → ReadsStep set r v one → Learns before v.scope firsts learns →

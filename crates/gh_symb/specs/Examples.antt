@@ -2,7 +2,8 @@
 use Rattle.std.specs.Prelude.{◌≡◌, ℕ, List, [], ◌∷◌, map, length, Option, Some, None, true, false, codes}
 use Rattle.gh_ast.specs.declared.Expr.TheVariants.{Plain}
 use Rattle.gh_ast.specs.Programs.{variable_names}
-use Rattle.gh_ast.specs.Plain.{Formula, empty, cell, points_to, segment, comparison, star, no_formulas, formula_first, set, new, free, call, no_statements, statement_first, Procedure, Program}
+use Rattle.gh_ast.specs.Plain.{Formula, empty, cell, points_to, segment, comparison, star, no_formulas, formula_first}
+use Rattle.gh_ast.specs.Plain.{set, new, free, call, no_statements, statement_first, Procedure, Program}
 use Rattle.gh_path.specs.Conditions.{Condition, conditions}
 use Rattle.gh_path.specs.Examples.{at, named, var, null, reversal, concatenation}
 use Rattle.gh_path.specs.Terms.{terms_of, versions_of}

@@ -9,7 +9,8 @@ use Rattle.gh_grass.specs.Bindings.{term}
 use Rattle.gh_grass.specs.Claims.{Claim, atom, negation_of, equivalence_of, all_of, one_of, equality}
 use Rattle.gh_grass.specs.Footprints.{Variables, compared, footprint, structure, terms_below}
 use Rattle.gh_grass.specs.Clauses.{clauses_of, definitions_of}
-use Rattle.gh_symb.specs.Symbolic.{Under, TermStep, accessed, assumed, same, written, made, freed, parts, TermCheck, access, sub, whole, Symbolic}
+use Rattle.gh_symb.specs.Symbolic.{Under, TermStep, accessed, assumed, same, written, made, freed, parts, TermCheck}
+use Rattle.gh_symb.specs.Symbolic.{access, sub, whole, Symbolic}
 
 abbrev pub allocated : ℕ → Term → Claim
 allocated i x = atom (Alloc i x)

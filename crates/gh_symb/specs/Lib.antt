@@ -17,6 +17,6 @@ pub mod Formulas
 pub mod Phases
 pub mod Following
 pub mod StepEncodings
-pub mod Settings
+pub mod Contexts
 pub mod Walkers
 pub mod Reads

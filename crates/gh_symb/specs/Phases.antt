@@ -8,7 +8,9 @@ use Rattle.gh_path.specs.Kept.{IsStep, IsKind, IsStart}
 use Rattle.gh_path.specs.declared.condition.PathStep as kept_step
 use Rattle.gh_path.specs.declared.condition.Start as kept_start
 use Rattle.gh_path.specs.declared.condition.CheckKind as kept_kind
-use Rattle.gh_path.specs.Terms.{Bindings, bound, all_bound, Terms, terms, with_value, term_of, followed, expr_term, exprs_terms, walked, moved_on, rebound, renewed, some_assigns, callee_in, call_walked, step_walked}
+use Rattle.gh_path.specs.Terms.{Bindings, bound, all_bound, Terms, terms, with_value, term_of, followed, expr_term}
+use Rattle.gh_path.specs.Terms.{exprs_terms, walked, moved_on, rebound, renewed, some_assigns, callee_in, call_walked}
+use Rattle.gh_path.specs.Terms.{step_walked}
 use Rattle.gh_symb.specs.Symbolic as plain
 use Rattle.gh_symb.specs.Symbolic.{under, call_parts, term_step, step_used, check_used, either_term}
 use Rattle.gh_symb.specs.Fitting.{EncodesUnder}
@@ -57,8 +59,8 @@ abbrev pub IsCheckUsed : Program → Procedure → kept_kind.CheckKind → Span 
 IsCheckUsed P p r at s b = (check : path.Check) → IsKind P p r at check → b ≡ (check_used check s).bindings
 
 -- the start assertion of a kept start, once it is walked
-abbrev pub IsBegun : Procedure → kept_start.Start → Terms → Terms → Bound → Type 0
-IsBegun p r s t b = (start : path.Start) → IsStart p r start → (t ≡ walked start.meets s) × EncodesUnder b (under start.meets s)
+abbrev pub IsStartUsed : Procedure → kept_start.Start → Terms → Terms → Bound → Type 0
+IsStartUsed p r s t b = (start : path.Start) → IsStart p r start → (t ≡ walked start.meets s) × EncodesUnder b (under start.meets s)
 
 -- these terms, and others where there are none
 abbrev pub both : Bindings → Bindings → Bindings

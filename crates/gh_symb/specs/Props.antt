@@ -7,7 +7,8 @@ use Rattle.gh_path.specs.Terms.{Kind}
 use Rattle.gh_symb.specs.Symbolic as plain
 use Rattle.gh_symb.specs.Symbolic.{accessed, assumed, same, written, made, freed, parts, access, sub, whole}
 use Rattle.gh_symb.specs.Formulas.{version_after}
-use Rattle.gh_symb.specs.Inside.{IsUnderInside, AllAreInside, IsStepInside, AreStepsInside, IsCheckInside, IsReady, IsInside}
+use Rattle.gh_symb.specs.Inside.{IsUnderInside, AllAreInside, IsStepInside, AreStepsInside, IsCheckInside, IsReady}
+use Rattle.gh_symb.specs.Inside.{IsInside}
 
 IsUnderInside-prop : (n v : ℕ) (u : plain.Under) → IsProp (IsUnderInside n v u)
 IsUnderInside-prop n v u p q = λ i. record {

@@ -15,7 +15,9 @@ use Rattle.gh_path.specs.declared.condition.PathStep as kept_step
 use Rattle.gh_path.specs.declared.condition.CheckKind as kept_kind
 use Rattle.gh_path.specs.declared.condition.PathStep.TheVariants as step
 use Rattle.gh_base.specs.declared.place.Span.{Span}
-use Rattle.gh_path.specs.Terms.{Kind, Terms, terms, with_value, bound, expr_used, expr_term, exprs_used, exprs_terms, rebound, renewed, some_assigns, bound_inside, step_walked, check_walked, walked, terms_of, versions_of}
+use Rattle.gh_path.specs.Terms.{Kind, Terms, terms, with_value, bound, expr_used, expr_term, exprs_used, exprs_terms}
+use Rattle.gh_path.specs.Terms.{rebound, renewed, some_assigns, bound_inside, step_walked, check_walked, walked}
+use Rattle.gh_path.specs.Terms.{terms_of, versions_of}
 use Rattle.gh_symb.specs.declared.count.Counted.{Counted}
 use Rattle.gh_symb.specs.declared.count.Counted.TheVariants.{Within, ManyTerms}
 

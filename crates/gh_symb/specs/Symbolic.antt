@@ -4,7 +4,9 @@ use Rattle.gh_ast.specs.Plain.{Formula, Procedure, Program}
 use Rattle.gh_ast.specs.Programs.{Name, results_of, variable_names}
 use Rattle.gh_path.specs.Graphs as path
 use Rattle.gh_path.specs.Conditions.{Condition}
-use Rattle.gh_path.specs.Terms.{Kind, Bindings, Terms, used, term_of, expr_used, expr_term, exprs_used, exprs_terms, walked, each_walked, moved_on, rebound, renewed, some_assigns, callee_in, bound_inside, step_walked, no_terms, terms_of, versions_of, steps_walked}
+use Rattle.gh_path.specs.Terms.{Kind, Bindings, Terms, used, term_of, expr_used, expr_term, exprs_used, exprs_terms}
+use Rattle.gh_path.specs.Terms.{walked, each_walked, moved_on, rebound, renewed, some_assigns, callee_in, bound_inside}
+use Rattle.gh_path.specs.Terms.{step_walked, no_terms, terms_of, versions_of, steps_walked}
 
 -- an assertion in a version of the heap, and the terms of its variables
 pub record Under : Type 0 where

@@ -1,8 +1,10 @@
 -- Terms and what is bound to them, as lists.
-use Rattle.std.specs.Prelude.{◌≡◌, ◌≢◌, ℕ, ◌+◌, ◌<◌, ◌≤◌, List, [], ◌∷◌, length, slice_index_or, count_by, Contains, AllPairs}
+use Rattle.std.specs.Prelude.{◌≡◌, ◌≢◌, ℕ, ◌+◌, ◌<◌, ◌≤◌, List, [], ◌∷◌, length, slice_index_or, count_by, Contains}
+use Rattle.std.specs.Prelude.{AllPairs}
 use Rattle.gh_ast.specs.declared.Operand.{Operand}
 use Rattle.gh_ast.specs.Programs.{Name}
-use Rattle.gh_path.specs.Terms.{Kind, null, value, next, is_value, Bindings, unbound, bound, used, followed, operand_term, Terms, terms}
+use Rattle.gh_path.specs.Terms.{Kind, null, value, next, is_value, Bindings, unbound, bound, used, followed}
+use Rattle.gh_path.specs.Terms.{operand_term, Terms, terms}
 use Rattle.gh_symb.specs.declared.scope.Entry.{Entry}
 use Rattle.gh_symb.specs.declared.kinds.Kind as kept
 use Rattle.gh_symb.specs.declared.kinds.Kind.TheVariants.{Null, Value, Next}

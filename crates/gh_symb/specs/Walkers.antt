@@ -15,10 +15,11 @@ use Rattle.gh_path.specs.Kept.{IsLoop}
 use Rattle.gh_path.specs.Terms.{Terms, walked, call_walked, exprs_terms, exprs_used}
 use Rattle.gh_symb.specs.Tables.{bound_by, state}
 use Rattle.gh_symb.specs.Rounds.{IsRound}
-use Rattle.gh_symb.specs.Settings.{program_in, procedure_in, variables_in}
+use Rattle.gh_symb.specs.Contexts.{program_in, procedure_in, variables_in}
 use Rattle.gh_symb.specs.Steps.{IsStepped, IsChecked, EndsWith, entry_made}
-use Rattle.gh_symb.specs.Phases.{IsUsed, IsCheckUsed, IsBegun, step_done, step_encoding}
-use Rattle.gh_symb.specs.StepEncodings.{IsFinished, IsStepEncoding, IsCallFinished, IsCallEncoding, IsAsking, needs_asked}
+use Rattle.gh_symb.specs.Phases.{IsUsed, IsCheckUsed, IsStartUsed, step_done, step_encoding}
+use Rattle.gh_symb.specs.StepEncodings.{IsFinished, IsStepEncoding, IsCallFinished, IsCallEncoding, IsAsking}
+use Rattle.gh_symb.specs.StepEncodings.{needs_asked}
 use Rattle.gh_symb.specs.Fitting.{EncodesStep, EncodesCheck}
 use Rattle.gh_symb.specs.Reads.{ReadsEach, ReadsWalked}
 use Rattle.gh_symb.specs.Symbolic as plain
@@ -27,7 +28,7 @@ use Rattle.gh_symb.specs.declared.over_terms.Bound.{Bound}
 use Rattle.gh_symb.specs.declared.over_terms.TermStep.{TermStep}
 use Rattle.gh_symb.specs.declared.over_terms.TermCheck.{TermCheck}
 use Rattle.gh_symb.specs.declared.rounds.Round.{Round}
-use Rattle.gh_symb.specs.declared.setting.Setting.{Setting}
+use Rattle.gh_symb.specs.declared.context.Context.{Context}
 use Rattle.gh_symb.specs.declared.walker.Walker.{Walker}
 
 abbrev pub terms_at : Walker → Terms
@@ -45,21 +46,21 @@ abbrev pub ReadsWays : List Assertion → Walker → List Bound → Type 0
 ReadsWays ways v bs = ReadsEach ways v.kinds v.scope v.version bs
 
 -- the start assertion is walked, and given
-abbrev pub Begins : Setting → kept_start.Start → Walker → Walker → Bound → Type 0
-Begins s start v w b = IsBegun (procedure_in s) start (terms_at v) (terms_at w) b
+abbrev pub Begins : Context → kept_start.Start → Walker → Walker → Bound → Type 0
+Begins s start v w b = IsStartUsed (procedure_in s) start (terms_at v) (terms_at w) b
 
 -- a step: its variables are used; it is done; both
-abbrev pub UsesStep : Setting → kept_step.PathStep → Walker → Walker → Type 0
+abbrev pub UsesStep : Context → kept_step.PathStep → Walker → Walker → Type 0
 UsesStep s r v w = IsUsed (program_in s) (procedure_in s) r (terms_at v) (terms_at w)
 
-abbrev pub DoesStep : Setting → kept_step.PathStep → Walker → Walker → Type 0
+abbrev pub DoesStep : Context → kept_step.PathStep → Walker → Walker → Type 0
 DoesStep s r v w = IsFinished (program_in s) (procedure_in s) r (terms_at v) (terms_at w)
 
-abbrev pub WalksStep : Setting → kept_step.PathStep → Walker → Walker → Type 0
+abbrev pub WalksStep : Context → kept_step.PathStep → Walker → Walker → Type 0
 WalksStep s r v w = IsStepped (program_in s) (procedure_in s) r (terms_at v) (terms_at w)
 
 -- how it is encoded, once its variables are used
-abbrev pub ReadsStep : Setting → kept_step.PathStep → Walker → TermStep → Type 0
+abbrev pub ReadsStep : Context → kept_step.PathStep → Walker → TermStep → Type 0
 ReadsStep s r v encoded = IsStepEncoding (program_in s) (procedure_in s) r (terms_at v) encoded
 
 -- the same whatever the program is
@@ -70,21 +71,21 @@ abbrev pub ReadsAnywhere : kept_step.PathStep → Walker → TermStep → Type 0
 ReadsAnywhere r v encoded = (P : Program) (p : Procedure) → IsStepEncoding P p r (terms_at v) encoded
 
 -- the invariant of the loop of a number is walked
-abbrev pub WalksInvariant : Setting → ℕ → Walker → Walker → Type 0
+abbrev pub WalksInvariant : Context → ℕ → Walker → Walker → Type 0
 WalksInvariant s n v w = (l : Loop) → IsLoop (procedure_in s) n l → Goes (walked l.invariant) v w
 
 -- a loop that is met
-abbrev pub DoesLoop : Setting → Round → Walker → Walker → Type 0
+abbrev pub DoesLoop : Context → Round → Walker → Walker → Type 0
 DoesLoop s round v w = (l : Loop) → IsRound round l → Goes (step_done (program_in s) (variables_in s) (looped l)) v w
 
-abbrev pub ReadsLoop : Setting → Round → Walker → TermStep → Type 0
+abbrev pub ReadsLoop : Context → Round → Walker → TermStep → Type 0
 ReadsLoop s round v encoded = (l : Loop) → IsRound round l → EncodesStep encoded (step_encoding (program_in s) (variables_in s) (looped l) (terms_at v))
 
 -- a call of the procedure of a number
-abbrev pub DoesCall : Setting → ℕ → List Occ → List Expr → Walker → Walker → Type 0
+abbrev pub DoesCall : Context → ℕ → List Occ → List Expr → Walker → Walker → Type 0
 DoesCall s n xs es v w = IsCallFinished (program_in s) n (names xs) es (terms_at v) (terms_at w)
 
-abbrev pub ReadsCall : Setting → ℕ → List Expr → Walker → TermStep → Type 0
+abbrev pub ReadsCall : Context → ℕ → List Expr → Walker → TermStep → Type 0
 ReadsCall s n es v encoded = IsCallEncoding (program_in s) n es (terms_at v) encoded
 
 -- a new cell
@@ -99,13 +100,13 @@ abbrev pub call_read : whole.Procedure → List Expr → Terms → plain.TermSte
 call_read p es s = call_parts (Some (procedure_of p)) (exprs_terms es s) s
 
 -- a check: its variables are used; the walk ends with it; what it asks
-abbrev pub UsesCheck : Setting → kept_kind.CheckKind → Walker → Walker → Type 0
+abbrev pub UsesCheck : Context → kept_kind.CheckKind → Walker → Walker → Type 0
 UsesCheck s r v w = (at : Span) → IsCheckUsed (program_in s) (procedure_in s) r at (terms_at v) (bound_by w.scope)
 
-abbrev pub EndsCheck : Setting → kept_kind.CheckKind → Walker → Walker → Type 0
+abbrev pub EndsCheck : Context → kept_kind.CheckKind → Walker → Walker → Type 0
 EndsCheck s r v w = (at : Span) → IsChecked (program_in s) (procedure_in s) r at (terms_at v) w.kinds w.version
 
-abbrev pub ReadsCheck : Setting → kept_kind.CheckKind → Walker → TermCheck → Type 0
+abbrev pub ReadsCheck : Context → kept_kind.CheckKind → Walker → TermCheck → Type 0
 ReadsCheck s r v asked = (at : Span) → IsAsking (program_in s) (procedure_in s) r at (terms_at v) asked
 
 -- the same of what a callee needs

@@ -3,16 +3,16 @@
 ghost use Rattle.std.specs.Prelude.{◌≡◌, IfOk, OnOk};
 ghost use Rattle.gh_ast.specs.Plain.{formula_of, procedure_of};
 ghost use Rattle.gh_path.specs.Graphs.{Start as PlainStart};
-ghost use Rattle.gh_path.specs.Kept.{IsStart};
+ghost use Rattle.gh_path.specs.Kept.{IsSomeKind, IsSomeStart, IsStart};
 ghost use Rattle.gh_symb.specs.Fitting.{AsksWhole};
-ghost use Rattle.gh_symb.specs.Settings.{HasCheck, HasStart};
+ghost use Rattle.gh_symb.specs.Contexts.{procedure_in, program_in};
 ghost use Rattle.gh_symb.specs.Walkers.{Begins, EndsCheck, EndsEntry, ReadsCheck, ReadsEntry, UsesAll, UsesCheck};
 
+use crate::context::Context;
 use crate::numbers::term_of;
 use crate::over_terms::{Bound, TermCheck};
 use crate::rounds::round_of;
 use crate::scope::Scope;
-use crate::setting::Setting;
 use crate::walker::Walker;
 use gh_ast::{Assertion, Expr, Procedure};
 use gh_path::condition::{CheckKind, Start};
@@ -43,14 +43,14 @@ impl<'a> Walker<'a> {
     pub fn ask_start(
         &mut self,
         alloc: Global,
-        setting: Setting<'a>,
+        context: Context<'a>,
         start: Start,
     ) -> Result<Bound<'a>, AllocError>
-        requires { HasStart setting start }
-        ensures begins { IfOk result (Begins setting.entry start self.old self.new) }
+        requires { IsSomeStart (procedure_in context) start }
+        ensures begins { IfOk result (Begins context.entry start self.old self.new) }
         ensures version { OnOk result (self.new.version ≡ self.old.version) }
     {
-        let assertion = start_of(setting.procedure, start);
+        let assertion = start_of(context.procedure, start);
         let bound = self.walk_bound(alloc, assertion)?;
         Ok(bound)
     }
@@ -82,16 +82,16 @@ impl<'a> Walker<'a> {
     pub fn ask_check(
         &mut self,
         alloc: Global,
-        setting: Setting<'a>,
+        context: Context<'a>,
         check: &'a CheckKind,
     ) -> Result<TermCheck<'a>, AllocError>
-        requires { HasCheck setting check.now }
-        ensures used { OnOk result (UsesCheck setting.entry check.now self.old self.new) }
-        ensures ended { OnOk result (EndsCheck setting.entry check.now self.old self.new) }
-        ensures read { IfOk result (ReadsCheck setting.entry check.now self.old) }
+        requires { IsSomeKind (program_in context) (procedure_in context) check.now }
+        ensures used { OnOk result (UsesCheck context.entry check.now self.old self.new) }
+        ensures ended { OnOk result (EndsCheck context.entry check.now self.old self.new) }
+        ensures read { IfOk result (ReadsCheck context.entry check.now self.old) }
         ensures version { OnOk result (self.new.version ≡ self.old.version) }
     {
-        let procedure = setting.procedure;
+        let procedure = context.procedure;
         match check {
             CheckKind::Access { at } => {
                 self.scope.use_name(&mut self.kinds, at)?;
@@ -99,7 +99,7 @@ impl<'a> Walker<'a> {
                 Ok(TermCheck::Access { x })
             }
             CheckKind::CalleeEntry { callee, arguments } => {
-                let callee = &setting.program.procedures[*callee as usize];
+                let callee = &context.program.procedures[*callee as usize];
                 let asked = self.ask_callee(alloc, callee, arguments.as_slice())?;
                 Ok(asked)
             }

@@ -6,8 +6,8 @@ ghost use Rattle.gh_path.specs.Conditions as plain;
 ghost use Rattle.gh_path.specs.Kept.{StandsFor};
 ghost use Rattle.gh_symb.specs.Steps.{HoldsFor, IsCount};
 
+use crate::context::context_of;
 use crate::count::{Counted, MOST_TERMS};
-use crate::setting::setting_of;
 use crate::walker::Walker;
 use gh_ast::typed::Typed;
 use gh_path::condition::Condition;
@@ -18,15 +18,15 @@ pub fn counted(alloc: Global, typed: &Typed, condition: &Condition) -> Result<Co
     requires { (c : plain.Condition) × StandsFor (program_of typed.now) condition.now c }
     ensures { IfOk result (λ n. HoldsFor (program_of typed.now) condition.now (λ P c. IsCount P c n)) }
 {
-    let setting = setting_of(typed, condition);
+    let context = context_of(typed, condition);
     let mut walker = Walker::new(alloc)?;
-    walker.ask_start(alloc, setting, condition.start)?;
+    walker.ask_start(alloc, context, condition.start)?;
     for step in condition.steps.as_slice() {
-        walker.walk_step(alloc, setting, step)?;
+        walker.walk_step(alloc, context, step)?;
         if walker.kinds.count() > MOST_TERMS {
             return Ok(Counted::ManyTerms);
         }
     }
-    walker.ask_check(alloc, setting, &condition.check.kind)?;
+    walker.ask_check(alloc, context, &condition.check.kind)?;
     Ok(Counted::new(walker.kinds.count(), walker.version + 1))
 }

@@ -4,17 +4,18 @@ ghost use Rattle.std.specs.Prelude.{◌≡◌, ◌+◌, ◌<◌, ◌≤◌, IfOk
 ghost use Rattle.gh_path.specs.Terms.{expr_term, term_of};
 ghost use Rattle.gh_path.specs.declared.condition.PathStep.TheVariants.{Loop as OnLoop};
 ghost use Rattle.gh_symb.specs.Fitting.{EncodesStep, IsTermOf, JoinsParts};
-ghost use Rattle.gh_symb.specs.Settings.{HasCallee, HasLoop, HasStep};
+ghost use Rattle.gh_path.specs.Kept.{IsSomeCallee, IsSomeLoop, IsSomeStep};
+ghost use Rattle.gh_symb.specs.Contexts.{procedure_in, program_in};
 ghost use Rattle.gh_symb.specs.Steps.{cell_made, value_set, ChangesCell, KeepsHeap};
 ghost use Rattle.gh_symb.specs.Walkers.{call_done, call_read, cell_read, terms_at, Goes};
 ghost use Rattle.gh_symb.specs.Walkers.{DoesAnywhere, DoesCall, DoesLoop, DoesStep};
 ghost use Rattle.gh_symb.specs.Walkers.{ReadsAnywhere, ReadsCall, ReadsLoop, ReadsStep, WalksStep};
 
+use crate::context::Context;
 use crate::numbers::term_of;
 use crate::over_terms::{Bound, TermStep};
 use crate::rounds::{Round, round_of};
 use crate::scope::Scope;
-use crate::setting::Setting;
 use crate::walker::Walker;
 use gh_ast::{Expr, Occ, Procedure};
 use gh_base::atom::Term;
@@ -95,18 +96,18 @@ impl<'a> Walker<'a> {
     fn encode_loop(
         &mut self,
         alloc: Global,
-        setting: Setting<'a>,
+        context: Context<'a>,
         round: &Round<'a>,
     ) -> Result<TermStep<'a>, AllocError>
         requires { self.old.version < 9223372036854775807 }
-        ensures done { OnOk result (DoesLoop setting.entry round.now self.old self.new) }
-        ensures read { IfOk result (λ step. ReadsLoop setting.entry round.now self.old step) }
+        ensures done { OnOk result (DoesLoop context.entry round.now self.old self.new) }
+        ensures read { IfOk result (λ step. ReadsLoop context.entry round.now self.old step) }
         ensures next { OnOk result (self.new.version ≤ self.old.version + 1) }
     {
         let before = self.scope.bound(alloc, round.invariant, self.version)?;
         let body = round.body.statements.as_slice();
         self.scope
-            .renew_all(&mut self.kinds, setting.procedure, body)?;
+            .renew_all(&mut self.kinds, context.procedure, body)?;
         self.version += 1;
         let after = self.walk_bound(alloc, round.invariant)?;
         let step = part(alloc, before, after)?;
@@ -145,18 +146,18 @@ impl<'a> Walker<'a> {
     fn encode_called(
         &mut self,
         alloc: Global,
-        setting: Setting<'a>,
+        context: Context<'a>,
         callee: u16,
         targets: &'a [Occ],
         arguments: &'a [Expr],
     ) -> Result<TermStep<'a>, AllocError>
-        requires callee { HasCallee setting callee }
+        requires callee { IsSomeCallee (program_in context) callee }
         requires room { self.old.version < 9223372036854775807 }
-        ensures done { OnOk result (DoesCall setting.entry callee targets.now arguments.now self.old self.new) }
-        ensures read { IfOk result (λ step. ReadsCall setting.entry callee arguments.now self.old step) }
+        ensures done { OnOk result (DoesCall context.entry callee targets.now arguments.now self.old self.new) }
+        ensures read { IfOk result (λ step. ReadsCall context.entry callee arguments.now self.old step) }
         ensures next { OnOk result (self.new.version ≤ self.old.version + 1) }
     {
-        let callee = &setting.program.procedures[callee as usize];
+        let callee = &context.program.procedures[callee as usize];
         let step = self.encode_call(alloc, callee, targets, arguments)?;
         Ok(step)
     }
@@ -165,17 +166,17 @@ impl<'a> Walker<'a> {
     fn encode_looped(
         &mut self,
         alloc: Global,
-        setting: Setting<'a>,
+        context: Context<'a>,
         number: u16,
     ) -> Result<TermStep<'a>, AllocError>
-        requires round { HasLoop setting number }
+        requires round { IsSomeLoop (procedure_in context) number }
         requires room { self.old.version < 9223372036854775807 }
-        ensures done { OnOk result (DoesStep setting.entry (OnLoop number) self.old self.new) }
-        ensures read { IfOk result (λ step. ReadsStep setting.entry (OnLoop number) self.old step) }
+        ensures done { OnOk result (DoesStep context.entry (OnLoop number) self.old self.new) }
+        ensures read { IfOk result (λ step. ReadsStep context.entry (OnLoop number) self.old step) }
         ensures next { OnOk result (self.new.version ≤ self.old.version + 1) }
     {
-        let round = round_of(setting.procedure, number as usize);
-        let step = self.encode_loop(alloc, setting, &round)?;
+        let round = round_of(context.procedure, number as usize);
+        let step = self.encode_loop(alloc, context, &round)?;
         Ok(step)
     }
 
@@ -183,11 +184,11 @@ impl<'a> Walker<'a> {
     fn encode_steady(
         &mut self,
         alloc: Global,
-        setting: Setting<'a>,
+        context: Context<'a>,
         step: &'a PathStep,
     ) -> Result<TermStep<'a>, AllocError>
-        ensures done { OnOk result (KeepsHeap step.now → DoesStep setting.entry step.now self.old self.new) }
-        ensures read { IfOk result (λ encoded. KeepsHeap step.now → ReadsStep setting.entry step.now self.old encoded) }
+        ensures done { OnOk result (KeepsHeap step.now → DoesStep context.entry step.now self.old self.new) }
+        ensures read { IfOk result (λ encoded. KeepsHeap step.now → ReadsStep context.entry step.now self.old encoded) }
         ensures version { OnOk result (self.new.version ≡ self.old.version) }
     {
         let version = self.version;
@@ -212,7 +213,7 @@ impl<'a> Walker<'a> {
                 let terms = self
                     .scope
                     .exprs_terms(alloc, &self.kinds, values.as_slice(), version)?;
-                let results = setting.procedure.results.as_slice();
+                let results = context.procedure.results.as_slice();
                 self.scope.bind_all(results, terms.as_slice())?;
                 Ok(TermStep::Same)
             }
@@ -224,13 +225,13 @@ impl<'a> Walker<'a> {
     pub fn encode_step(
         &mut self,
         alloc: Global,
-        setting: Setting<'a>,
+        context: Context<'a>,
         step: &'a PathStep,
     ) -> Result<TermStep<'a>, AllocError>
-        requires step { HasStep setting step.now }
+        requires step { IsSomeStep (program_in context) (procedure_in context) step.now }
         requires room { self.old.version < 9223372036854775807 }
-        ensures done { OnOk result (DoesStep setting.entry step.now self.old self.new) }
-        ensures read { IfOk result (λ encoded. ReadsStep setting.entry step.now self.old encoded) }
+        ensures done { OnOk result (DoesStep context.entry step.now self.old self.new) }
+        ensures read { IfOk result (λ encoded. ReadsStep context.entry step.now self.old encoded) }
         ensures next { OnOk result (self.new.version ≤ self.old.version + 1) }
     {
         match step {
@@ -241,11 +242,11 @@ impl<'a> Walker<'a> {
             } => {
                 let targets = targets.as_slice();
                 let arguments = arguments.as_slice();
-                let encoded = self.encode_called(alloc, setting, *callee, targets, arguments)?;
+                let encoded = self.encode_called(alloc, context, *callee, targets, arguments)?;
                 Ok(encoded)
             }
             PathStep::Loop { number } => {
-                let encoded = self.encode_looped(alloc, setting, *number)?;
+                let encoded = self.encode_looped(alloc, context, *number)?;
                 Ok(encoded)
             }
             PathStep::Write { .. } | PathStep::New { .. } | PathStep::Free { .. } => {
@@ -256,7 +257,7 @@ impl<'a> Walker<'a> {
             | PathStep::Assume { .. }
             | PathStep::Set { .. }
             | PathStep::Return { .. } => {
-                let encoded = self.encode_steady(alloc, setting, step)?;
+                let encoded = self.encode_steady(alloc, context, step)?;
                 Ok(encoded)
             }
         }
@@ -275,20 +276,20 @@ impl<'a> Walker<'a> {
     pub fn walk_step(
         &mut self,
         alloc: Global,
-        setting: Setting<'a>,
+        context: Context<'a>,
         step: &'a PathStep,
     ) -> Result<(), AllocError>
-        requires step { HasStep setting step.now }
+        requires step { IsSomeStep (program_in context) (procedure_in context) step.now }
         requires room { self.old.version < 9223372036854775807 }
-        ensures walked { OnOk result (WalksStep setting.entry step.now self.old self.new) }
+        ensures walked { OnOk result (WalksStep context.entry step.now self.old self.new) }
         ensures next { OnOk result (self.new.version ≤ self.old.version + 1) }
     {
         match step {
             PathStep::Set { target, value } => self.walk_set(&target.name, value),
-            PathStep::Assume { .. } => self.use_step(setting, step),
+            PathStep::Assume { .. } => self.use_step(context, step),
             _ => {
-                self.use_step(setting, step)?;
-                self.encode_step(alloc, setting, step)?;
+                self.use_step(context, step)?;
+                self.encode_step(alloc, context, step)?;
                 Ok(())
             }
         }

@@ -4,6 +4,7 @@
 pub mod admit;
 mod ask;
 pub mod bindings;
+mod context;
 pub mod count;
 pub mod counted;
 mod encode;
@@ -14,7 +15,6 @@ mod numbers;
 pub mod over_terms;
 mod rounds;
 pub mod scope;
-mod setting;
 mod steps;
 pub mod symbolic;
 pub mod walk;

@@ -10,12 +10,12 @@ ghost use Rattle.gh_symb.specs.Encoded.{IsSymbolic};
 ghost use Rattle.gh_symb.specs.Walked.{EncodesWalked, IsWalkedFar, IsWithinLimits};
 
 use crate::bindings::all_bindings;
+use crate::context::context_of;
 use crate::count::{Counted, MOST_TERMS};
 use crate::kinds::Kinds;
 use crate::limits::{SymbolicError, limit_of, terms_limit};
 use crate::over_terms::{Bound, Symbolic, TermCheck, TermStep};
 use crate::scope::Scope;
-use crate::setting::setting_of;
 use crate::walker::Walker;
 use gh_ast::typed::Typed;
 use gh_grass::binding::Binding;
@@ -44,25 +44,25 @@ fn walk<'a>(
     requires { (c : plain.Condition) × StandsFor (program_of typed.now) condition.now c }
     ensures { IfOk result (λ o. HoldsFor (program_of typed.now) condition.now (λ P c. IsWalkedFar P c o)) }
 {
-    let setting = setting_of(typed, condition);
+    let context = context_of(typed, condition);
     let mut walker = Walker::new(alloc)?;
-    let start = walker.ask_start(alloc, setting, condition.start)?;
+    let start = walker.ask_start(alloc, context, condition.start)?;
     let mut firsts = Scope::new(alloc);
     let mut states = Vec::new(alloc);
     let mut steps = Vec::new(alloc);
     for step in condition.steps.as_slice() {
         let before = walker.scope.copy(alloc)?;
-        walker.use_step(setting, step)?;
+        walker.use_step(context, step)?;
         firsts.learn(&before, &walker.scope)?;
         states.push(before)?;
-        let encoded = walker.encode_step(alloc, setting, step)?;
+        let encoded = walker.encode_step(alloc, context, step)?;
         steps.push(encoded)?;
         if walker.kinds.count() > MOST_TERMS {
             return Ok(None);
         }
     }
     let before = walker.scope.copy(alloc)?;
-    let check = walker.ask_check(alloc, setting, &condition.check.kind)?;
+    let check = walker.ask_check(alloc, context, &condition.check.kind)?;
     firsts.learn(&before, &walker.scope)?;
     states.push(before)?;
     let bindings = all_bindings(alloc, states.as_slice(), &firsts)?;

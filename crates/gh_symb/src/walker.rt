@@ -3,14 +3,15 @@
 ghost use Rattle.std.specs.Prelude.{◌≡◌, OnOk, IfOk};
 ghost use Rattle.gh_path.specs.Terms.{no_terms};
 ghost use Rattle.gh_symb.specs.Reads.{each_walked_of, walked_of};
-ghost use Rattle.gh_symb.specs.Settings.{HasLoop, HasStep};
+ghost use Rattle.gh_path.specs.Kept.{IsSomeLoop, IsSomeStep};
+ghost use Rattle.gh_symb.specs.Contexts.{procedure_in, program_in};
 ghost use Rattle.gh_symb.specs.Walkers.{terms_at, Goes, ReadsAssertion, ReadsWays, UsesStep, WalksInvariant};
 
+use crate::context::Context;
 use crate::kinds::Kinds;
 use crate::over_terms::Bound;
 use crate::rounds::round_of;
 use crate::scope::Scope;
-use crate::setting::Setting;
 use gh_ast::Assertion;
 use gh_path::condition::PathStep;
 use std::alloc::{AllocError, Global};
@@ -74,20 +75,20 @@ impl<'a> Walker<'a> {
     }
 
     /// Walks over the invariant of a loop.
-    fn walk_invariant(&mut self, setting: Setting<'a>, number: u16) -> Result<(), AllocError>
-        requires { HasLoop setting number }
-        ensures terms { OnOk result (WalksInvariant setting.entry number self.old self.new) }
+    fn walk_invariant(&mut self, context: Context<'a>, number: u16) -> Result<(), AllocError>
+        requires { IsSomeLoop (procedure_in context) number }
+        ensures terms { OnOk result (WalksInvariant context.entry number self.old self.new) }
         ensures version { OnOk result (self.new.version ≡ self.old.version) }
     {
-        let round = round_of(setting.procedure, number as usize);
+        let round = round_of(context.procedure, number as usize);
         self.scope
             .walk(&mut self.kinds, round.invariant, self.version)
     }
 
     /// The variables that a step uses get terms.
-    pub fn use_step(&mut self, setting: Setting<'a>, step: &'a PathStep) -> Result<(), AllocError>
-        requires { HasStep setting step.now }
-        ensures uses { OnOk result (UsesStep setting.entry step.now self.old self.new) }
+    pub fn use_step(&mut self, context: Context<'a>, step: &'a PathStep) -> Result<(), AllocError>
+        requires { IsSomeStep (program_in context) (procedure_in context) step.now }
+        ensures uses { OnOk result (UsesStep context.entry step.now self.old self.new) }
         ensures version { OnOk result (self.new.version ≡ self.old.version) }
     {
         let version = self.version;
@@ -108,7 +109,7 @@ impl<'a> Walker<'a> {
                 self.scope
                     .use_exprs(&mut self.kinds, arguments.as_slice(), version)
             }
-            PathStep::Loop { number } => self.walk_invariant(setting, *number),
+            PathStep::Loop { number } => self.walk_invariant(context, *number),
             PathStep::Return { values } => {
                 self.scope
                     .use_exprs(&mut self.kinds, values.as_slice(), version)

@@ -19,7 +19,8 @@ use Rattle.gh_path.specs.declared.listing.ConditionsError.TheVariants as of_list
 use Rattle.gh_symb.specs.Limits as symbolic
 use Rattle.gh_symb.specs.declared.limits.SymbolicError.{SymbolicError}
 use Rattle.gh_symb.specs.declared.limits.SymbolicError.TheVariants as of_symbolic
-use Rattle.gh_top.specs.Refusals.{IsText, most_bytes}
+use Rattle.gh_ast.specs.Limits.{most_bytes}
+use Rattle.gh_top.specs.Refusals.{IsText}
 use Rattle.gh_top.specs.Fronts.{of_parse, of_check, of_list, of_terms, IsFrontError}
 use Rattle.gh_top.specs.declared.front.FrontError.{FrontError}
 use Rattle.gh_top.proofs.RuleLemmas.{first_numbered}

@@ -19,14 +19,15 @@ use Rattle.gh_top.specs.Sources.{source_of, most_from, second_file}
 use Rattle.gh_top.specs.Files.{Shows, IsWithin, IsFileRead, IsSecondWithin, IsSourceRead}
 use Rattle.gh_top.specs.Rechecks.{most_logged}
 use Rattle.gh_top.specs.Runs.{most_stated}
-use Rattle.gh_top.specs.Replays.{most_drawn}
+use Rattle.gh_draw.specs.Drawings.{most_drawn}
 use Rattle.gh_top.specs.Fronts.{IsTextOf, IsFrontError}
 use Rattle.gh_top.specs.declared.front.FrontError.TheVariants.{Refused}
 use Rattle.gh_top.specs.Causes.{IsOnFiles}
 use Rattle.gh_top.specs.Checks.{IsProgramVerdict, IsCheckText, of_refusal, of_verdict, all_valid, some_refuted}
 use Rattle.gh_top.specs.Seen.{Writing, Outside, table_of, InputsCountStands, SinkCountStands, Writes}
 use Rattle.gh_top.specs.Sessions.{most_edited, IsSessionAnswer, file_refused, file_answered}
-use Rattle.gh_top.specs.Refusals.{IsText, IsAccepted, IsRefused, refusal_text, most_bytes}
+use Rattle.gh_ast.specs.Limits.{most_bytes}
+use Rattle.gh_top.specs.Refusals.{IsText, IsAccepted, IsProgramRefused, refusal_text}
 use Rattle.gh_top.specs.Headline.{Files, asked_text, Asks, Answer, usage, refused, check_verified, check_refuted, log_verified, log_refuted, recheck_refused, recheck_verified, paths_listed, replay_refused, replay_refuted, smallest_verified, smallest_refuted, stress_verified, stress_refuted, HasAnswer, IsGoodFor, IsWhole, IsAnswered, IsReadFault, IsWriteFault, NamesFile, smt_listed, smt_no_condition, smt_too_long, run_refused, run_unmet, run_stopped, run_faulted, run_held, run_failed, session_refused, session_listed, entail_refused, entail_verified, entail_refuted}
 use Rattle.gh_top.specs.Listings.{listing}
 use Rattle.gh_top.specs.Replies.{Replies, RepliesOn, RepliesOnSecond}
@@ -264,10 +265,10 @@ program_shown r bytes file on shows = subst (λ m. Shows m bytes file) (program_
 
 -- the program text is refused
 pub text_refused : (t : Option Table) (r : Request) (file : FileText) (x : Refusal) (s : Status) (u : List ℕ) → IsOnProgram r → IsSourceRead t (source_of r) file
-    → ((bytes : Option (List ℕ)) → Shows most_bytes bytes file → IsRefused bytes x) → s ≡ TextRefused → u ≡ refusal_text x → (words : List (List ℕ)) → IsRequest words r → HasAnswer t words s u
+    → ((bytes : Option (List ℕ)) → Shows most_bytes bytes file → IsProgramRefused bytes x) → s ≡ TextRefused → u ≡ refusal_text x → (words : List (List ℕ)) → IsRequest words r → HasAnswer t words s u
 text_refused t r file x s u on read why a b words asks =
     let f = one_file t words r read.bytes asks read.are in
-    record { files = f.0; told = f.1; answer = rw (a, b) (refused x asks on (subst (λ o. IsRefused o x) (sym f.2) (why read.bytes (program_shown r read.bytes file on read.shows)))) }
+    record { files = f.0; told = f.1; answer = rw (a, b) (refused x asks on (subst (λ o. IsProgramRefused o x) (sym f.2) (why read.bytes (program_shown r read.bytes file on read.shows)))) }
 
 pub asks_of : (words : List (List ℕ)) (files : Files) (r : Request) (P : Program) (bytes : Option (List ℕ)) → IsRequest words r → IsOnProgram r → asked_text r files ≡ bytes → IsTextOf bytes P → IsAdmitted P → Asks words files r P
 asks_of words files r P bytes asks on e t admitted = record { request = asks; on_program = on; text = t.text; bytes = e ∙ t.bytes_are; accepted = record { spelled = t.spelled; admitted = admitted } }
@@ -309,8 +310,8 @@ paths_reply P u e file words files asks = rw e (paths_listed asks)
 -- the steps of a reply, as they are kept
 
 pub late_refused : (file : FileText) (P : Program) (x : Refusal) → ((bytes : Option (List ℕ)) → Shows most_bytes bytes file → IsTextOf bytes P)
-    → ((text : List ℕ) → IsText text P → IsFrontError (Some text) (Refused x)) → (bytes : Option (List ℕ)) → Shows most_bytes bytes file → IsRefused bytes x
-late_refused file P x front k bytes shows = let t = front bytes shows in subst (λ o. IsRefused o x) (sym t.bytes_are) (k t.text t.spelled)
+    → ((text : List ℕ) → IsText text P → IsFrontError (Some text) (Refused x)) → (bytes : Option (List ℕ)) → Shows most_bytes bytes file → IsProgramRefused bytes x
+late_refused file P x front k bytes shows = let t = front bytes shows in subst (λ o. IsProgramRefused o x) (sym t.bytes_are) (k t.text t.spelled)
 
 -- the second file of a mode, and its limit
 

@@ -27,7 +27,8 @@ use Rattle.gh_decide.proofs.Decided.{as_many}
 use Rattle.gh_top.proofs.OneStatus.{one_log, section_at, one_at}
 use Rattle.gh_top.specs.Rechecks.{most_logged, lines_in, IsLogOf, IsFirstFaultIn, IsLogRefusal}
 use Rattle.gh_top.specs.Rechecks as recheck
-use Rattle.gh_top.specs.Replays.{most_drawn, IsAt, IsDrawingRefusal, failed_text}
+use Rattle.gh_draw.specs.Drawings.{most_drawn}
+use Rattle.gh_top.specs.Replays.{IsAt, IsDrawingRefusal, failed_text}
 use Rattle.gh_top.specs.Replays as replay
 use Rattle.gh_top.specs.Runs.{most_stated, IsStateRefusal}
 use Rattle.gh_top.specs.Runs as run

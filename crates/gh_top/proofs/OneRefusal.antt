@@ -28,7 +28,8 @@ use Rattle.gh_path.specs.Admitted.{Passed, IsFirstLimit, of_text, paths, steps, 
 use Rattle.gh_top.proofs.HeadlineLemmas.{one_spelled}
 use Rattle.gh_top.proofs.OneStatus.{a_text, one_posed, text_limit, passed_has, few_variables, first_has}
 use Rattle.gh_top.specs.Entails.{IsQuestionRefused}
-use Rattle.gh_top.specs.Refusals.{most_bytes, IsReadable, IsRefused}
+use Rattle.gh_ast.specs.Limits.{most_bytes}
+use Rattle.gh_top.specs.Refusals.{IsReadable, IsProgramRefused}
 use Rattle.gh_top.specs.Rules.{rule_number, rule_of}
 use Rattle.gh_top.specs.declared.refusal.Refusal.{Refusal}
 use Rattle.gh_top.specs.declared.refusal.Refusal.TheVariants.{Absent, TooLong, Byte, Deep, Syntax, TypeError, Limit as LimitPassed}
@@ -268,7 +269,7 @@ module _ {Y : Type 0} (S : List Token → Type 0) (Spells : List ℕ → Y → T
 abbrev ProgramCase : List ℕ → Refusal → Type 0
 ProgramCase = IsTextCase IsProgram SpellsText Broken IsFirstLimit
 
-refusal_case : (bytes : Option (List ℕ)) (x : Refusal) → IsRefused bytes x → IsFileCase most_bytes bytes Absent TooLong ProgramCase x
+refusal_case : (bytes : Option (List ℕ)) (x : Refusal) → IsProgramRefused bytes x → IsFileCase most_bytes bytes Absent TooLong ProgramCase x
 refusal_case bytes Absent e = no_file e refl
 refusal_case bytes TooLong (t, e, long) = long_file t e long refl
 refusal_case bytes (Byte k) (t, e, short, first) = short_file t e short (at_byte k refl first)
@@ -277,7 +278,7 @@ refusal_case bytes (Syntax p) (t, e, readable, none, place) = short_file t e rea
 refusal_case bytes (TypeError r p) (t, P, e, is, broken) = short_file t e is.readable.short (at_error P r p refl is.readable is.spells broken)
 refusal_case bytes (LimitPassed l) (t, P, e, is, typed, passed) = short_file t e is.readable.short (at_limit P l refl is.readable is.spells typed passed)
 
-pub one_refusal : (bytes : Option (List ℕ)) (x y : Refusal) → IsRefused bytes x → IsRefused bytes y → x ≡ y
+pub one_refusal : (bytes : Option (List ℕ)) (x y : Refusal) → IsProgramRefused bytes x → IsProgramRefused bytes y → x ≡ y
 one_refusal bytes x y a b =
     one_file_case most_bytes bytes Absent TooLong ProgramCase (one_text_case IsProgram SpellsText Broken IsFirstLimit one_spelled one_limit) x y
     (refusal_case bytes x a) (refusal_case bytes y b)

@@ -18,10 +18,12 @@ use Rattle.gh_ast.specs.Rules.{IsTyped}
 use Rattle.gh_ast.specs.QuestionGrammar.{SpellsQuestion, Poses}
 use Rattle.gh_ast.specs.Questions.{Question}
 use Rattle.gh_ast.specs.declared.typed.Limit.{Limit}
+use Rattle.gh_ast.specs.Limits.{most_bytes}
 use Rattle.gh_check.proofs.SectionLemmas.{apart}
 use Rattle.gh_decide.proofs.Decided.{as_many}
 use Rattle.gh_decide.specs.Logs.{AreValidSections, IsValidLog}
 use Rattle.gh_draw.proofs.Shown.{file_one, file_shown}
+use Rattle.gh_draw.specs.Drawings.{most_drawn}
 use Rattle.gh_draw.specs.Drawn.{IsFileOf}
 use Rattle.gh_entail.specs.Asked as asked
 use Rattle.gh_entail.specs.Limits as question_limits
@@ -44,16 +46,16 @@ use Rattle.gh_top.proofs.HeadlineLemmas.{one_request, one_program_asked, one_spe
 use Rattle.gh_top.specs.Entails.{IsQuestionText, IsQuestionRefused, PosesAdmitted, IsFailingReport}
 use Rattle.gh_top.specs.Headline.{Files, asked_text, Asks, Answer, usage, refused, check_verified, check_refuted, log_verified, log_refuted, recheck_refused, recheck_verified, paths_listed, replay_refused, replay_refuted, smallest_verified, smallest_refuted, stress_verified, stress_refuted, smt_listed, smt_no_condition, smt_too_long, run_refused, run_unmet, run_stopped, run_faulted, run_held, run_failed, session_refused, session_listed, entail_refused, entail_verified, entail_refuted}
 use Rattle.gh_top.specs.Laws.{StatusesAreOne}
-use Rattle.gh_top.specs.Rechecks.{IsLogOf, IsFirstFaultIn, IsLogRefusal, IsValidLogFile}
+use Rattle.gh_top.specs.Rechecks.{most_logged, IsLogOf, IsFirstFaultIn, IsLogRefusal, IsValidLogFile}
 use Rattle.gh_top.specs.Rechecks as recheck
-use Rattle.gh_top.specs.Refusals.{IsAccepted, IsRefused}
+use Rattle.gh_top.specs.Refusals.{IsAccepted, IsProgramRefused}
 use Rattle.gh_top.specs.Replays.{IsAt, IsDrawingRefusal, IsRefutingFile}
 use Rattle.gh_top.specs.Replays as replay
 use Rattle.gh_top.specs.Reports.{IsFirstRefuted}
 use Rattle.gh_top.specs.Rules.{rule_number}
-use Rattle.gh_top.specs.Runs.{IsStateRefusal, IsRunFrom}
+use Rattle.gh_top.specs.Runs.{most_stated, IsStateRefusal, IsRunFrom}
 use Rattle.gh_top.specs.Runs as run
-use Rattle.gh_top.specs.Sessions.{IsSessionRefusal, IsSessionReport}
+use Rattle.gh_top.specs.Sessions.{most_edited, IsSessionRefusal, IsSessionReport}
 use Rattle.gh_top.specs.Sessions as sessions
 use Rattle.gh_top.specs.Smts.{most_asserted, asserted_count}
 use Rattle.gh_top.specs.Words.{IsRequest, IsOnProgram}
@@ -104,11 +106,11 @@ limit_passed P l a (steps keeps none passed) = passed_has P _ 5 _ l a.steps pass
 limit_passed P l a (terms keeps none fewer passed) = passed_has P _ 6 _ l a.terms passed
 limit_passed P l a (versions keeps none fewer never passed) = passed_has P _ 7 _ l a.versions passed
 
-not_accepted : (text : List ℕ) (x : Refusal) (P : Program) → IsRefused (Some text) x → IsAccepted text P → ⊥
+not_accepted : (text : List ℕ) (x : Refusal) (P : Program) → IsProgramRefused (Some text) x → IsAccepted text P → ⊥
 not_accepted text Absent P e a = absurd cc
 not_accepted text TooLong P (t, e, long) a =
     let same = a_text t text e in
-    let short : length t ≤ 1048576 = subst (λ u. length u ≤ 1048576) same a.spelled.readable.short in
+    let short : length t ≤ most_bytes = subst (λ u. length u ≤ most_bytes) same a.spelled.readable.short in
     absurd (omega (arith, long, short))
 not_accepted text (Byte k) P (t, e, short, first) a = a.spelled.readable.characters k (rw (a_text t text e) first)
 not_accepted text (Deep p) P (t, e, deep) a = a.spelled.readable.shallow deep.offset (rw (a_text t text e) deep.deep)
@@ -134,7 +136,7 @@ not_posed : (text : List ℕ) (x : Refusal) (q : Question) → IsQuestionRefused
 not_posed text Absent q e a d = absurd cc
 not_posed text TooLong q (t, e, long) a d =
     let same = a_text t text e in
-    let short : length t ≤ 1048576 = subst (λ u. length u ≤ 1048576) same a.readable.short in
+    let short : length t ≤ most_bytes = subst (λ u. length u ≤ most_bytes) same a.readable.short in
     absurd (omega (arith, long, short))
 not_posed text (Byte k) q (t, e, short, first) a d = a.readable.characters k (rw (a_text t text e) first)
 not_posed text (Deep p) q (t, e, deep) a d = a.readable.shallow deep.offset (rw (a_text t text e) deep.deep)
@@ -189,7 +191,7 @@ no_first_fault P log number at v f =
 pub valid_log : (P : Program) (text u : List ℕ) (log : List (List LogLine)) → IsLogOf text log → IsValidLog P log → (bytes : Option (List ℕ)) → bytes ≡ Some text → IsLogRefusal P bytes u → ⊥
 valid_log P text u log is v _ e recheck.absent = absurd cc
 valid_log P text u log is v _ e (recheck.too_long {text = t} long) =
-    let short : length t ≤ 67108864 = subst (λ x. length x ≤ 67108864) (a_text t text (sym e)) is.short in
+    let short : length t ≤ most_logged = subst (λ x. length x ≤ most_logged) (a_text t text (sym e)) is.short in
     absurd (omega (arith, long, short))
 valid_log P text u log is v _ e (recheck.outside {text = t} k short first) =
     logs_are_inside text k (record { version = is.version; sections = log; text_is = is.text_is; spelled = is.spelled }) (rw (a_text t text (sym e)) first)
@@ -214,7 +216,7 @@ one_rechecked P bytes s t (inr (e, u, w)) (inr (f, v, x)) = e ∙ sym f
 pub refuting : (P : Program) (n : ℕ) (u : List ℕ) (bytes : Option (List ℕ)) → (r : IsRefutingFile P bytes n) → (other : Option (List ℕ)) → other ≡ Some r.text → IsDrawingRefusal P other u → ⊥
 refuting P n u bytes r _ e replay.absent = absurd cc
 refuting P n u bytes r _ e (replay.too_long {text = t} long) =
-    let short : length t ≤ 4194304 = subst (λ x. length x ≤ 4194304) (a_text t r.text (sym e)) r.short in
+    let short : length t ≤ most_drawn = subst (λ x. length x ≤ most_drawn) (a_text t r.text (sym e)) r.short in
     absurd (omega (arith, long, short))
 refuting P n u bytes r _ e (replay.no_drawing {text = t} short none) = none n r.states (rw (a_text t r.text (sym e)) at r.file)
 refuting P n u bytes r _ e (replay.fails {text = t} m k xs c short file found fails) =
@@ -280,7 +282,7 @@ IsRan P bytes n s = ((r : Report) × (s ≡ status_of r) × IsRunFrom P bytes n 
 pub run_refused_too : (P : Program) (bytes : Option (List ℕ)) (n : ℕ) (u : List ℕ) (r : Report) → (f : IsRunFrom P bytes n r) → (other : Option (List ℕ)) → other ≡ Some f.text → IsStateRefusal P other u → ⊥
 run_refused_too P bytes n u r f _ e run.absent = absurd cc
 run_refused_too P bytes n u r f _ e (run.too_long {text = t} long) =
-    let short : length t ≤ 4194304 = subst (λ x. length x ≤ 4194304) (a_text t f.text (sym e)) f.short in
+    let short : length t ≤ most_stated = subst (λ x. length x ≤ most_stated) (a_text t f.text (sym e)) f.short in
     absurd (omega (arith, long, short))
 run_refused_too P bytes n u r f _ e (run.faulty {text = t} k short faulty) =
     state_files_are_one.not_both P t f.begin k (rw (a_text t f.text (sym e)) at f.file) faulty
@@ -303,7 +305,7 @@ one_ran P bytes n s t typed (inr (e, u, w)) (inr (f, v, x)) = e ∙ sym f
 session_read : (u v : List ℕ) (bytes : Option (List ℕ)) → (r : IsSessionReport bytes u) → (other : Option (List ℕ)) → other ≡ Some r.text → IsSessionRefusal other v → ⊥
 session_read u v bytes r _ e sessions.absent = absurd cc
 session_read u v bytes r _ e (sessions.too_long {text = t} long) =
-    let short : length t ≤ 4194304 = subst (λ x. length x ≤ 4194304) (a_text t r.text (sym e)) r.short in
+    let short : length t ≤ most_edited = subst (λ x. length x ≤ most_edited) (a_text t r.text (sym e)) r.short in
     absurd (omega (arith, long, short))
 session_read u v bytes r _ e (sessions.bad_line {text = t} k short bad) = (sessions_are_read t r.edits k (rw (a_text t r.text (sym e)) at r.read)).0 bad
 session_read u v bytes r _ e (sessions.too_many {text = t} k short bad) = (sessions_are_read t r.edits k (rw (a_text t r.text (sym e)) at r.read)).1 bad
@@ -368,7 +370,7 @@ IsJudged files (Entail f) P s = ⊥
 -- a row of the answer by what it is judged on; of the answer there is its status or its text
 pub data IsGiven {X : Type 0} (words : List (List ℕ)) (files : Files) (U : X → Type 0) (T : Refusal → X → Type 0) (J : Request → Program → X → Type 0) (S Q : X → Type 0) (x : X) : Type 0 where
   no_request : U x → ((r : Request) → IsRequest words r → ⊥) → IsGiven words files U T J S Q x
-  text_refused : (r : Request) (v : Refusal) → T v x → IsRequest words r → IsOnProgram r → IsRefused (asked_text r files) v → IsGiven words files U T J S Q x
+  text_refused : (r : Request) (v : Refusal) → T v x → IsRequest words r → IsOnProgram r → IsProgramRefused (asked_text r files) v → IsGiven words files U T J S Q x
   judged : (r : Request) (P : Program) → Asks words files r P → J r P x → IsGiven words files U T J S Q x
   in_session : (f : List ℕ) → IsRequest words (Session f) → S x → IsGiven words files U T J S Q x
   of_question : (f : List ℕ) → IsRequest words (Entail f) → Q x → IsGiven words files U T J S Q x
@@ -421,18 +423,18 @@ one_judged files (Session f) P s t typed a b = absurd a
 one_judged files (Entail f) P s t typed a b = absurd a
 
 -- a text is refused or asks about a program
-asks_or_refused : (words : List (List ℕ)) (files : Files) (r q : Request) (x : Refusal) (P : Program) → IsRequest words r → IsRefused (asked_text r files) x → Asks words files q P → ⊥
+asks_or_refused : (words : List (List ℕ)) (files : Files) (r q : Request) (x : Refusal) (P : Program) → IsRequest words r → IsProgramRefused (asked_text r files) x → Asks words files q P → ⊥
 asks_or_refused words files r q x P a w b =
     let same = one_request words r q a b.request in
-    let here : IsRefused (asked_text q files) x = subst (λ p. IsRefused (asked_text p files) x) same w in
-    not_accepted b.text x P (subst (λ o. IsRefused o x) b.bytes here) b.accepted
+    let here : IsProgramRefused (asked_text q files) x = subst (λ p. IsProgramRefused (asked_text p files) x) same w in
+    not_accepted b.text x P (subst (λ o. IsProgramRefused o x) b.bytes here) b.accepted
 
 off_program : (words : List (List ℕ)) (r q : Request) → IsRequest words r → IsOnProgram r → IsRequest words q → (IsOnProgram q → ⊥) → ⊥
 off_program words r q a on b off = off (subst IsOnProgram (one_request words r q a b) on)
 
 module _ {X : Type 0} (words : List (List ℕ)) (files : Files) (U : X → Type 0) (T : Refusal → X → Type 0) (J : Request → Program → X → Type 0) (S Q : X → Type 0)
     (one_usage : (x y : X) → U x → U y → x ≡ y)
-    (one_refused : (r : Request) (v w : Refusal) (x y : X) → IsRefused (asked_text r files) v → IsRefused (asked_text r files) w → T v x → T w y → x ≡ y)
+    (one_refused : (r : Request) (v w : Refusal) (x y : X) → IsProgramRefused (asked_text r files) v → IsProgramRefused (asked_text r files) w → T v x → T w y → x ≡ y)
     (one_judged_x : (r : Request) (P : Program) (x y : X) → IsTyped P → J r P x → J r P y → x ≡ y)
     (one_session_x : (x y : X) → S x → S y → x ≡ y) (one_question_x : (x y : X) → Q x → Q y → x ≡ y) where
   abbrev Given : X → Type 0
@@ -446,7 +448,7 @@ module _ {X : Type 0} (words : List (List ℕ)) (files : Files) (U : X → Type 
   one_given x y (no_request e h) (of_question f a v) = absurd (h (Entail f) a)
   one_given x y (text_refused r v e a on w) (no_request f k) = absurd (k r a)
   one_given x y (text_refused r v e a on w) (text_refused q o f b of z) =
-      let here : IsRefused (asked_text q files) v = subst (λ p. IsRefused (asked_text p files) v) (one_request words r q a b) w in
+      let here : IsProgramRefused (asked_text q files) v = subst (λ p. IsProgramRefused (asked_text p files) v) (one_request words r q a b) w in
       one_refused q v o x y here z e f
   one_given x y (text_refused r v e a on w) (judged q P b z) = absurd (asks_or_refused words files r q v P a w b)
   one_given x y (text_refused r v e a on w) (in_session f b z) = absurd (off_program words r (Session f) a on b (λ h. h))

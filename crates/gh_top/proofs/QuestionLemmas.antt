@@ -28,7 +28,8 @@ use Rattle.gh_top.specs.Files.{Shows, IsSourceRead}
 use Rattle.gh_top.specs.Fronts.{of_parse}
 use Rattle.gh_top.specs.Headline.{HasAnswer, entail_refused, entail_verified, entail_refuted}
 use Rattle.gh_top.specs.QuestionReplies.{of_ask, IsQuestionFrontError, IsReplyTo, entailed, failing, RepliesToQuestion}
-use Rattle.gh_top.specs.Refusals.{most_bytes, refusal_text}
+use Rattle.gh_ast.specs.Limits.{most_bytes}
+use Rattle.gh_top.specs.Refusals.{refusal_text}
 use Rattle.gh_top.specs.Sources.{source_of}
 use Rattle.gh_top.specs.Words.{IsRequest}
 use Rattle.gh_top.specs.declared.file.FileText.{FileText}

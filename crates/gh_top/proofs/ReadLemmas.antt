@@ -11,7 +11,7 @@ use Rattle.gh_top.specs.Files.{Shows, IsSourceRead}
 use Rattle.gh_top.specs.Headline.{Files, AreTold, Asks}
 use Rattle.gh_top.specs.Sources.{Source, from_file, self_made, source_of, second_file}
 use Rattle.gh_top.specs.Fronts.{IsTextOf}
-use Rattle.gh_top.specs.Refusals.{most_bytes}
+use Rattle.gh_ast.specs.Limits.{most_bytes}
 use Rattle.gh_base.specs.Reading.{told, calls_for}
 use Rattle.gh_top.specs.Reads.{nothing, first, second, AddsNames, ReadsInOrder, ReadsFile, ReadsNothing, FirstRead, ReadsFor, ReadsOn}
 use Rattle.gh_top.specs.Seen.{InputsTold, Reading}

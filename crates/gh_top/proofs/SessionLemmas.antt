@@ -22,7 +22,7 @@ use Rattle.gh_draw.specs.Drawings.{line}
 use Rattle.gh_top.specs.Answering.{kept_essences, IsVerdictOn, IsAnswerOn}
 use Rattle.gh_top.specs.Checks.{IsProgramVerdict, all_valid, some_refuted, of_refusal, of_verdict}
 use Rattle.gh_top.specs.Lines.{verified_line}
-use Rattle.gh_top.specs.Refusals.{IsText, IsRefused, refusal_text}
+use Rattle.gh_top.specs.Refusals.{IsText, IsProgramRefused, refusal_text}
 use Rattle.gh_top.specs.Reports.{IsRefutation}
 use Rattle.gh_top.specs.Sessions.{most_edited, AreAsked, to_last, to_first, IsKeptToo, of_refused, of_decided, texts_after, answer_line, AreAnswers, no_more, one_more, IsSessionRefusal, absent, too_long, IsSessionAnswer, file_refused, file_answered}
 use Rattle.gh_top.specs.declared.refusal.Refusal.{Refusal}
@@ -63,7 +63,7 @@ verdict_on P old new o s u outcome told v =
 
 -- the answer to one text
 
-pub answer_refused : (text : List ℕ) (x : Refusal) (old : List Kept) (n : ℕ) (u : List ℕ) → IsRefused (Some text) x → n ≡ 0 → u ≡ refusal_text x → IsAnswerOn text old n u old
+pub answer_refused : (text : List ℕ) (x : Refusal) (old : List Kept) (n : ℕ) (u : List ℕ) → IsProgramRefused (Some text) x → n ≡ 0 → u ≡ refusal_text x → IsAnswerOn text old n u old
 answer_refused text x old n u why a b =
     rw (a, b) (record { status = TextRefused; checked = of_refusal x why; counted = of_refused x why })
 

@@ -19,7 +19,7 @@ use Rattle.gh_smt.specs.Laws.{DecidesCondition}
 use Rattle.gh_draw.specs.Descriptions.{place_text}
 use Rattle.gh_draw.specs.Drawings.{line}
 use Rattle.gh_top.specs.Headline.{smt_listed, smt_no_condition, smt_too_long}
-use Rattle.gh_top.specs.Smts.{asserted_count, script_for, smt_text, unnumbered_text, too_long_text, IsScriptReport, listed, too_long}
+use Rattle.gh_top.specs.Smts.{most_asserted, asserted_count, script_for, smt_text, unnumbered_text, too_long_text, IsScriptReport, listed, too_long}
 use Rattle.gh_top.specs.Replies.{Replies}
 use Rattle.gh_top.specs.declared.words.Request.TheVariants.{Smt}
 use Rattle.gh_top.specs.declared.status.Status.{Status}
@@ -28,20 +28,20 @@ use Rattle.gh_top.specs.declared.status.Status.TheVariants.{Listed, LogRefused, 
 pub one_there : (P : Program) (n : ℕ) (r : kept.Condition) → IsNumbered P n (Some r) → IsOne P r
 one_there P n r (c, low, there, stands) = (c, record { stands = stands; there = placed P (n - 1) c there })
 
-pub is_listed : (P : Program) (c : Condition) (p q : Problem) (s : Status) (u : List ℕ) → p ≡ problem (symbolic_of P c) → assertion_count p ≤ 2000000 → q ≡ script_of p → DecidesCondition P c q → s ≡ Listed → u ≡ script_text q → IsScriptReport P c s u
+pub is_listed : (P : Program) (c : Condition) (p q : Problem) (s : Status) (u : List ℕ) → p ≡ problem (symbolic_of P c) → assertion_count p ≤ most_asserted → q ≡ script_of p → DecidesCondition P c q → s ≡ Listed → u ≡ script_text q → IsScriptReport P c s u
 is_listed P c p q s u e few is decides a b =
     let same : q ≡ script_for P c = is ∙ ap script_of e in
     let text : u ≡ smt_text P c = b ∙ ap script_text same in
-    rw (a, text) (listed (subst (λ k. k ≤ 2000000) (ap assertion_count e) few) (subst (λ o. DecidesCondition P c o) same decides))
+    rw (a, text) (listed (subst (λ k. k ≤ most_asserted) (ap assertion_count e) few) (subst (λ o. DecidesCondition P c o) same decides))
 
-pub is_too_long : (P : Program) (c : Condition) (p : Problem) (span : Span) (count : ℕ) (s : Status) (u : List ℕ) → p ≡ problem (symbolic_of P c) → count ≡ assertion_count p → 2000000 < count → span ≡ c.procedure.name.span → s ≡ TextRefused
+pub is_too_long : (P : Program) (c : Condition) (p : Problem) (span : Span) (count : ℕ) (s : Status) (u : List ℕ) → p ≡ problem (symbolic_of P c) → count ≡ assertion_count p → most_asserted < count → span ≡ c.procedure.name.span → s ≡ TextRefused
     → u ≡ line (codes "refused: Limit script at " ++ place_text span ++ codes ", count " ++ decimal count) → IsScriptReport P c s u
 is_too_long P c p span count s u e counted many at a b =
     let count_is : count ≡ asserted_count P c = counted ∙ ap assertion_count e in
     let text : u ≡ too_long_text P c =
     b ∙ ap (λ t. line (codes "refused: Limit script at " ++ place_text t ++ codes ", count " ++ decimal count)) at
     ∙ ap (λ k. line (codes "refused: Limit script at " ++ place_text c.procedure.name.span ++ codes ", count " ++ decimal k)) count_is in
-    rw (a, text) (too_long (subst (λ k. 2000000 < k) count_is many))
+    rw (a, text) (too_long (subst (λ k. most_asserted < k) count_is many))
 
 reported : (P : Program) (n : ℕ) (c : Condition) (s : Status) (u : List ℕ) → slice_get (conditions P) (n - 1) ≡ Some c → IsScriptReport P c s u → (file : List ℕ) → Replies (Smt file n) P s u
 reported P n c s u at (listed few decides) file words files asks = smt_listed c asks at few decides

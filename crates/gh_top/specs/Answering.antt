@@ -7,7 +7,7 @@ use Rattle.gh_session.specs.Essences.{Essence}
 use Rattle.gh_session.specs.Known.{essences}
 use Rattle.gh_session.specs.Places.{knowledge}
 use Rattle.gh_top.specs.Checks.{IsProgramVerdict, IsCheckText}
-use Rattle.gh_top.specs.Sessions.{AreAsked, IsKeptToo, IsCounted}
+use Rattle.gh_top.specs.Sessions.{AreAsked, IsKeptToo, CountsDecided}
 use Rattle.gh_top.specs.declared.status.Status.{Status}
 
 -- the essences that are kept
@@ -26,4 +26,4 @@ pub record IsVerdictOn (P : Program) (old : List Kept) (n : ℕ) (u : List ℕ) 
 pub record IsAnswerOn (text : List ℕ) (old : List Kept) (n : ℕ) (u : List ℕ) (new : List Kept) : Type 0 where
   pub status : Status
   pub checked : IsCheckText (Some text) status u
-  pub counted : IsCounted text (kept_essences old) n (kept_essences new)
+  pub counted : CountsDecided text (kept_essences old) n (kept_essences new)

@@ -2,7 +2,7 @@
 use Rattle.std.specs.Prelude.{◌≡◌, ℕ, List, Option, Some}
 use Rattle.gh_ast.specs.Plain.{Program}
 use Rattle.gh_trace.specs.Validity.{ListedAreValid}
-use Rattle.gh_top.specs.Refusals.{IsAccepted, IsRefused, refusal_text}
+use Rattle.gh_top.specs.Refusals.{IsAccepted, IsProgramRefused, refusal_text}
 use Rattle.gh_top.specs.Reports.{IsRefutation, verified_text}
 use Rattle.gh_top.specs.declared.refusal.Refusal.{Refusal}
 use Rattle.gh_top.specs.declared.status.Status.{Status}
@@ -15,5 +15,5 @@ pub data IsProgramVerdict (P : Program) : Status → List ℕ → Type 0 where
 
 -- for the bytes of a program text, or for none: its refusal, or the verdict on its program
 pub data IsCheckText (bytes : Option (List ℕ)) : Status → List ℕ → Type 0 where
-  of_refusal : (x : Refusal) → IsRefused bytes x → IsCheckText bytes TextRefused (refusal_text x)
+  of_refusal : (x : Refusal) → IsProgramRefused bytes x → IsCheckText bytes TextRefused (refusal_text x)
   of_verdict : {text u : List ℕ} {P : Program} {s : Status} → bytes ≡ Some text → IsAccepted text P → IsProgramVerdict P s u → IsCheckText bytes s u

@@ -17,7 +17,8 @@ use Rattle.gh_entail.specs.Rules.{IsTyped, IsFirstBroken}
 use Rattle.gh_entail.specs.Limits.{IsLimit}
 use Rattle.gh_entail.specs.Formulas.{question_problem}
 use Rattle.gh_entail.specs.Asked.{IsAdmitted}
-use Rattle.gh_top.specs.Refusals.{most_bytes, IsReadable, IsDeepAt}
+use Rattle.gh_ast.specs.Limits.{most_bytes}
+use Rattle.gh_top.specs.Refusals.{IsReadable, IsDeepAt}
 use Rattle.gh_top.specs.Rules.{rule_number}
 use Rattle.gh_top.specs.declared.refusal.Refusal.{Refusal}
 use Rattle.gh_top.specs.declared.refusal.Refusal.TheVariants.{Absent, TooLong, Byte, Deep, Syntax, TypeError, Limit}

@@ -12,9 +12,10 @@ use Rattle.gh_log.specs.Texts.{log_text}
 use Rattle.gh_decide.specs.Logs.{IsValidLog}
 use Rattle.gh_draw.specs.Drawings.{line}
 use Rattle.gh_top.specs.Words.{IsRequest, IsOnProgram}
-use Rattle.gh_top.specs.Seen.{Writing, Outside, table_of, InputsCountRose, InputsCountStands, SinkCountRose, SinkCountStands, Writes, WritesFront, WritesNothing}
+use Rattle.gh_top.specs.Seen.{Writing, Outside, table_of, InputsCountRose, InputsCountStands, SinkCountRose}
+use Rattle.gh_top.specs.Seen.{SinkCountStands, Writes, WritesFront, WritesNothing}
 use Rattle.gh_top.specs.Stress.{stress_text}
-use Rattle.gh_top.specs.Refusals.{IsAccepted, IsRefused, refusal_text}
+use Rattle.gh_top.specs.Refusals.{IsAccepted, IsProgramRefused, refusal_text}
 use Rattle.gh_top.specs.Reports.{IsRefutation, verified_text, stressed_text}
 use Rattle.gh_top.specs.Smallests.{IsSmallestReport}
 use Rattle.gh_top.specs.Listings.{listing}
@@ -25,12 +26,16 @@ use Rattle.gh_top.specs.Entails.{IsQuestionRefused, PosesAdmitted, IsEntailedRep
 use Rattle.gh_top.specs.Runs.{IsStateRefusal, IsRunFrom, unmet_text, stopped_text, fault_text, held_text, failed_text}
 use Rattle.gh_trace.specs.declared.state.State.{State}
 use Rattle.gh_run.specs.declared.simulate.Report.TheVariants as report
-use Rattle.gh_top.specs.Smts.{IsDecidedByScript, most_asserted, asserted_count, smt_text, unnumbered_text, too_long_text}
+use Rattle.gh_top.specs.Smts.{IsDecidedByScript, most_asserted, asserted_count, smt_text, unnumbered_text}
+use Rattle.gh_top.specs.Smts.{too_long_text}
 use Rattle.gh_top.specs.declared.refusal.Refusal.{Refusal}
 use Rattle.gh_top.specs.declared.words.Request.{Request}
-use Rattle.gh_top.specs.declared.words.Request.TheVariants.{Check, Log, Recheck, Paths, Replay, Smallest, Stress, Smt, Run, Session, Entail}
+use Rattle.gh_top.specs.declared.words.Request.TheVariants.{Check, Log, Recheck, Paths, Replay, Smallest, Stress, Smt}
+use Rattle.gh_top.specs.declared.words.Request.TheVariants.{Run, Session, Entail}
 use Rattle.gh_top.specs.declared.status.Status.{Status}
-use Rattle.gh_top.specs.declared.status.Status.TheVariants.{Verified, Listed, Ran, Refuted, Usage, ReadFault, TextRefused, LogRefused, WriteFault, OutOfMemory, Stopped, Unmet}
+use Rattle.gh_top.specs.declared.status.Status.TheVariants.{Verified, Listed, Ran, Refuted, Usage, ReadFault}
+use Rattle.gh_top.specs.declared.status.Status.TheVariants.{TextRefused, LogRefused, WriteFault, OutOfMemory, Stopped}
+use Rattle.gh_top.specs.declared.status.Status.TheVariants.{Unmet}
 
 -- The files that the words name, each by the place of its name among the words: file 1 is the first file, as the
 -- program's, file 2 the log, the drawing or the state. A file is the bytes that it held when it was read, or none where
@@ -60,7 +65,7 @@ pub record Asks (words : List (List ℕ)) (files : Files) (r : Request) (P : Pro
 pub data Answer (words : List (List ℕ)) (files : Files) : Status → List ℕ → Type 0 where
   -- in any mode: the words are no request; about a program: its text is refused
   usage : ((r : Request) → IsRequest words r → ⊥) → Answer words files Usage (line (codes "refused: usage"))
-  refused : {r : Request} (x : Refusal) → IsRequest words r → IsOnProgram r → IsRefused (asked_text r files) x → Answer words files TextRefused (refusal_text x)
+  refused : {r : Request} (x : Refusal) → IsRequest words r → IsOnProgram r → IsProgramRefused (asked_text r files) x → Answer words files TextRefused (refusal_text x)
   -- check FILE
   check_verified : {f : List ℕ} {P : Program} → Asks words files (Check f) P → ListedAreValid P → Answer words files Verified (verified_text P)
   check_refuted : {f u : List ℕ} {P : Program} → Asks words files (Check f) P → IsRefutation P u → Answer words files Refuted u
@@ -118,7 +123,7 @@ pub record IsWhole (table : Option Table) (words : List (List ℕ)) (w : Writing
   pub written : Writes w text
   pub good : status ≡ Verified → IsGoodFor words given.files
 
--- THE SENTENCE, 1: but for a fault, the answer is written whole; for want of memory, nothing is
+-- THE SENTENCE, 1: but for a fault, the answer is written whole; where memory runs out, nothing is
 abbrev pub IsAnswered : List (List ℕ) → Outside → Status → Type 0
 IsAnswered words o ReadFault = ⊤
 IsAnswered words o WriteFault = ⊤
@@ -151,10 +156,10 @@ IsWriteFault words o WriteFault = SinkCountRose o.writing × IsCutOff (table_of 
 IsWriteFault words o status = SinkCountStands o.writing
 
 -- the answer is written whole, or memory runs out
-abbrev pub IsWholeOrWant : Option Table → List (List ℕ) → Writing → Status → Type 0
-IsWholeOrWant table words w status = (status ≡ OutOfMemory) ⊎ IsWhole table words w status
+abbrev pub IsWholeOrOutOfMemory : Option Table → List (List ℕ) → Writing → Status → Type 0
+IsWholeOrOutOfMemory table words w status = (status ≡ OutOfMemory) ⊎ IsWhole table words w status
 
--- 4: where neither count rises, want of memory alone keeps the answer from being written whole
+-- 4: where neither count rises, a lack of memory alone keeps the answer from being written whole
 abbrev pub IsComplete : List (List ℕ) → Outside → Status → Type 0
 IsComplete words o status =
-    (InputsCountRose o.reading → ⊥) → (SinkCountRose o.writing → ⊥) → IsWholeOrWant (table_of o) words o.writing status
+    (InputsCountRose o.reading → ⊥) → (SinkCountRose o.writing → ⊥) → IsWholeOrOutOfMemory (table_of o) words o.writing status

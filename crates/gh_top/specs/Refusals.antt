@@ -1,6 +1,7 @@
 -- The first refusal of a program text: it is absent, its length, a byte, the depth, the syntax, the first type error, the first limit.
 use Rattle.std.specs.Prelude.{◌≡◌, ℕ, ◌<◌, ◌≤◌, List, ◌++◌, length, codes, Option, Some, None}
 use Rattle.std.specs.Fmt.{decimal}
+use Rattle.gh_ast.specs.Limits.{most_bytes}
 use Rattle.gh_base.specs.declared.place.Span.{Span}
 use Rattle.gh_ast.specs.Plain.{Program}
 use Rattle.gh_ast.specs.Tokens.{IsFirstByte, IsFirstDeep, place_of}
@@ -13,10 +14,6 @@ use Rattle.gh_top.specs.declared.refusal.Refusal.{Refusal}
 use Rattle.gh_top.specs.declared.refusal.Refusal.TheVariants.{Absent, TooLong, Byte, Deep, Syntax, TypeError, Limit}
 use Rattle.gh_draw.specs.Descriptions.{place_text}
 use Rattle.gh_draw.specs.Drawings.{line}
-
--- the longest text that is taken
-abbrev pub most_bytes : ℕ
-most_bytes = 1048576
 
 -- each byte outside comments is a character, and the brackets don't nest too deep
 pub record IsReadable (text : List ℕ) : Type 0 where
@@ -37,14 +34,14 @@ pub record IsDeepAt (text : List ℕ) (p : Span) : Type 0 where
   pub place : p ≡ place_of text offset
 
 -- the first refusal of the bytes of a program text
-abbrev pub IsRefused : Option (List ℕ) → Refusal → Type 0
-IsRefused bytes Absent = bytes ≡ None
-IsRefused bytes TooLong = (text : List ℕ) × (bytes ≡ Some text) × (most_bytes < length text)
-IsRefused bytes (Byte k) = (text : List ℕ) × (bytes ≡ Some text) × (length text ≤ most_bytes) × IsFirstByte text k
-IsRefused bytes (Deep place) = (text : List ℕ) × (bytes ≡ Some text) × IsDeepAt text place
-IsRefused bytes (Syntax place) = (text : List ℕ) × (bytes ≡ Some text) × IsReadable text × ((P : Program) → Spells text P → ⊥) × IsPlace IsProgram text place
-IsRefused bytes (TypeError r place) = (text : List ℕ) × (P : Program) × (bytes ≡ Some text) × IsText text P × IsFirstBroken P (rule_number r) place
-IsRefused bytes (Limit l) = (text : List ℕ) × (P : Program) × (bytes ≡ Some text) × IsText text P × IsTyped P × IsFirstLimit P l
+abbrev pub IsProgramRefused : Option (List ℕ) → Refusal → Type 0
+IsProgramRefused bytes Absent = bytes ≡ None
+IsProgramRefused bytes TooLong = (text : List ℕ) × (bytes ≡ Some text) × (most_bytes < length text)
+IsProgramRefused bytes (Byte k) = (text : List ℕ) × (bytes ≡ Some text) × (length text ≤ most_bytes) × IsFirstByte text k
+IsProgramRefused bytes (Deep place) = (text : List ℕ) × (bytes ≡ Some text) × IsDeepAt text place
+IsProgramRefused bytes (Syntax place) = (text : List ℕ) × (bytes ≡ Some text) × IsReadable text × ((P : Program) → Spells text P → ⊥) × IsPlace IsProgram text place
+IsProgramRefused bytes (TypeError r place) = (text : List ℕ) × (P : Program) × (bytes ≡ Some text) × IsText text P × IsFirstBroken P (rule_number r) place
+IsProgramRefused bytes (Limit l) = (text : List ℕ) × (P : Program) × (bytes ≡ Some text) × IsText text P × IsTyped P × IsFirstLimit P l
 
 -- the text spells an admitted program
 pub record IsAccepted (text : List ℕ) (P : Program) : Type 0 where

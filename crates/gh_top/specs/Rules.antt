@@ -1,9 +1,12 @@
 -- The type rules and the kinds of limits: their numbers and their names.
 use Rattle.std.specs.Prelude.{ℕ, List, cond, codes, ◌==◌}
 use Rattle.gh_top.specs.declared.rule.Rule.{Rule}
-use Rattle.gh_top.specs.declared.rule.Rule.TheVariants.{UnknownName, DuplicateName, AssignToParameter, WrongCount, ReturnInLoop, UnknownProcedure, SecondLink, DataField, NameOutOfContract, RepeatedResult, NoBody, NoLink}
+use Rattle.gh_top.specs.declared.rule.Rule.TheVariants.{UnknownName, DuplicateName, AssignToParameter, WrongCount}
+use Rattle.gh_top.specs.declared.rule.Rule.TheVariants.{ReturnInLoop, UnknownProcedure, SecondLink, DataField}
+use Rattle.gh_top.specs.declared.rule.Rule.TheVariants.{NameOutOfContract, RepeatedResult, NoBody, NoLink}
 use Rattle.gh_top.specs.declared.rule.LimitKind.{LimitKind}
-use Rattle.gh_top.specs.declared.rule.LimitKind.TheVariants.{Procedures, Variables, Atoms, Paths, Steps, Terms, Versions}
+use Rattle.gh_top.specs.declared.rule.LimitKind.TheVariants.{Procedures, Variables, Atoms, Paths, Steps, Terms}
+use Rattle.gh_top.specs.declared.rule.LimitKind.TheVariants.{Versions}
 
 abbrev pub rule_number : Rule → ℕ
 rule_number UnknownName = 1

@@ -13,7 +13,7 @@ use Rattle.gh_session.specs.Lines as lines
 use Rattle.gh_session.specs.Pieces.{whole}
 use Rattle.gh_draw.specs.Drawings.{line}
 use Rattle.gh_top.specs.Checks.{IsCheckText}
-use Rattle.gh_top.specs.Refusals.{IsAccepted, IsRefused}
+use Rattle.gh_top.specs.Refusals.{IsAccepted, IsProgramRefused}
 use Rattle.gh_top.specs.Reports.{IsReached}
 use Rattle.gh_top.specs.declared.refusal.Refusal.{Refusal}
 use Rattle.gh_top.specs.declared.status.Status.{Status}
@@ -46,10 +46,10 @@ pub record IsKeptToo (P : Program) (cs : List Condition) (old : List Essence) (n
   pub whole : kept ≡ old ++ new
 
 -- how many essences are decided for a text where the old ones are kept, and what is kept then; none where the text is refused
-pub data IsCounted (text : List ℕ) (old : List Essence) : ℕ → List Essence → Type 0 where
-  of_refused : (x : Refusal) → IsRefused (Some text) x → IsCounted text old 0 old
+pub data CountsDecided (text : List ℕ) (old : List Essence) : ℕ → List Essence → Type 0 where
+  of_refused : (x : Refusal) → IsProgramRefused (Some text) x → CountsDecided text old 0 old
   of_decided : {P : Program} {cs : List Condition} {n : ℕ} {kept : List Essence}
-      → IsAccepted text P → AreAsked P cs → IsKeptToo P cs old n kept → IsCounted text old n kept
+      → IsAccepted text P → AreAsked P cs → IsKeptToo P cs old n kept → CountsDecided text old n kept
 
 -- the texts that are asked about: for each edit that asks, that of all edits up to it; these edits were before
 abbrev pub texts_after : List ℕ → List Edit → List Edit → List (List ℕ)
@@ -65,7 +65,7 @@ answer_line j n = line (codes "answer " ++ decimal j ++ codes ", " ++ decimal n 
 pub data AreAnswers : ℕ → List Essence → List (List ℕ) → List ℕ → Type 0 where
   no_more : {j : ℕ} {kept : List Essence} → AreAnswers j kept [] []
   one_more : {j n : ℕ} {old kept : List Essence} {text u rest : List ℕ} {texts : List (List ℕ)} {s : Status}
-      → IsCheckText (Some text) s u → IsCounted text old n kept → AreAnswers (suc j) kept texts rest
+      → IsCheckText (Some text) s u → CountsDecided text old n kept → AreAnswers (suc j) kept texts rest
       → AreAnswers j old (text ∷ texts) (answer_line (suc j) n ++ u ++ rest)
 
 -- the text is all answers of a session file

@@ -6,7 +6,7 @@ use Rattle.gh_top.specs.Entails.{PosesAdmitted}
 use Rattle.gh_top.specs.Files.{Shows}
 use Rattle.gh_top.specs.Fronts.{IsTextOf, IsFrontError}
 use Rattle.gh_top.specs.QuestionReplies.{IsQuestionFrontError, RepliesToQuestion}
-use Rattle.gh_top.specs.Refusals.{most_bytes}
+use Rattle.gh_ast.specs.Limits.{most_bytes}
 use Rattle.gh_top.specs.Sessions.{most_edited, IsSessionAnswer}
 use Rattle.gh_top.specs.declared.file.FileText.{FileText}
 use Rattle.gh_top.specs.declared.front.FrontError.{FrontError}

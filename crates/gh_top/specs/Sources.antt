@@ -1,15 +1,16 @@
 -- Where the text that a request is about comes from, and which other file a request names.
 use Rattle.std.specs.Prelude.{◌≡◌, ℕ, List, Option, Some, None}
-use Rattle.gh_top.specs.Refusals.{most_bytes}
+use Rattle.gh_ast.specs.Limits.{most_bytes}
 use Rattle.gh_top.specs.Rechecks.{most_logged}
-use Rattle.gh_top.specs.Replays.{most_drawn}
+use Rattle.gh_draw.specs.Drawings.{most_drawn}
 use Rattle.gh_top.specs.Runs.{most_stated}
 use Rattle.gh_top.specs.Sessions.{most_edited}
 use Rattle.gh_top.specs.Stress.{stress_text}
 use Rattle.gh_top.specs.declared.source.Source as kept
 use Rattle.gh_top.specs.declared.source.Source.TheVariants.{File, Number}
 use Rattle.gh_top.specs.declared.words.Request.{Request}
-use Rattle.gh_top.specs.declared.words.Request.TheVariants.{Check, Log, Recheck, Paths, Replay, Smallest, Stress, Smt, Run, Session, Entail}
+use Rattle.gh_top.specs.declared.words.Request.TheVariants.{Check, Log, Recheck, Paths, Replay, Smallest, Stress, Smt}
+use Rattle.gh_top.specs.declared.words.Request.TheVariants.{Run, Session, Entail}
 
 -- a file of a name, of which so many bytes are taken at most, or a text of its own
 pub data Source : Type 0 where

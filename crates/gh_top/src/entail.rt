@@ -12,7 +12,7 @@ ghost use Rattle.gh_top.specs.QuestionReplies.{of_ask, IsQuestionFrontError, IsR
 ghost use Rattle.gh_top.specs.Shown.{PosesQuestion, IsFileQuestionError, RepliesToQuestionFile};
 
 use crate::file::FileText;
-use crate::front::{FrontError, MOST_BYTES};
+use crate::front::FrontError;
 use crate::lines::plain_line;
 use crate::refusal::{Refusal, refused};
 use crate::report::Report;
@@ -25,6 +25,7 @@ use gh_log::lines::{Log, Section};
 use gh_log::writing::write_log;
 use gh_parse::parse::parse_question;
 use gh_trace::state::{State, Trace};
+use gh_types::counts::MOST_BYTES;
 use std::alloc::{AllocError, Global};
 
 impl From<AskError> for FrontError {

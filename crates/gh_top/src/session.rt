@@ -6,7 +6,8 @@ ghost use Rattle.gh_ast.specs.Plain.{program_of};
 ghost use Rattle.gh_top.specs.Answering.{IsAnswerOn, IsVerdictOn};
 ghost use Rattle.gh_top.specs.Files.{IsWithin};
 ghost use Rattle.gh_top.specs.Refusals.{refusal_text};
-ghost use Rattle.gh_top.specs.Sessions.{most_edited, answer_line as line_of_answer, AreAnswers, IsSessionAnswer, texts_after};
+ghost use Rattle.gh_top.specs.Sessions.{most_edited, answer_line as line_of_answer, AreAnswers, IsSessionAnswer};
+ghost use Rattle.gh_top.specs.Sessions.{texts_after};
 ghost use Rattle.gh_top.specs.Shown.{RepliesToSessionFile};
 
 use crate::file::FileText;

@@ -1,16 +1,16 @@
 //! Where the text that a request is about comes from, and which other file it names.
 
 ghost use Rattle.std.specs.Prelude.{◌≡◌, MatchOption, Some, None};
-ghost use Rattle.gh_top.specs.Refusals.{most_bytes};
+ghost use Rattle.gh_ast.specs.Limits.{most_bytes};
 ghost use Rattle.gh_top.specs.Sources.{IsSource, from_file, source_of, second_file};
 ghost use Rattle.gh_top.specs.declared.words.Request.{Request};
 
-use crate::front::MOST_BYTES;
 use crate::recheck::MOST_LOGGED;
-use crate::replay::MOST_DRAWN;
 use crate::session::MOST_EDITED;
 use crate::simulate::MOST_STATED;
 use crate::words::{FileName, Request};
+use gh_draw::reading::MOST_DRAWN;
+use gh_types::counts::MOST_BYTES;
 
 /// Where the text that a request is about comes from.
 #[derive(Clone, Copy)]

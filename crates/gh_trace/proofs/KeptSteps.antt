@@ -12,11 +12,16 @@ use Rattle.gh_trace.specs.Traces.{Takes}
 use Rattle.gh_trace.specs.declared.setting.Setting.{Setting}
 use Rattle.gh_trace.specs.declared.state.State.{State}
 
+pub decided_kept : {E : Type 0} (result : Result Bool E) (setting : Setting) (r q : PathStep) (D : Bool → Type 0) (x y : State) → r ≡ q
+    → ((b : Bool) → D b → (s : graph.PathStep) → IsStep (whole setting) (here setting) q s → IsTrue b ↔ Takes (whole setting) s (state_of x) (state_of y))
+    → IfOk result D → IfOk result (DecidesStep setting r x y)
+decided_kept result setting r q D x y same decide =
+    IfOk-weaker result D (DecidesStep setting r x y) (λ b w s is. decide b w s (subst (λ z. IsStep (whole setting) (here setting) z s) same is))
+
+-- where it stands for one step alone
 pub decided_alone : {E : Type 0} (result : Result Bool E) (setting : Setting) (r q : PathStep) (s : graph.PathStep) (x y : State) → r ≡ q
     → ((t : graph.PathStep) → IsStep (whole setting) (here setting) q t → t ≡ s)
     → IfOk result (DecidesTaken s x y) → IfOk result (DecidesStep setting r x y)
 decided_alone result setting r q s x y same only =
-    IfOk-weaker result (DecidesTaken s x y) (DecidesStep setting r x y)
-    (λ b w t is.
-    let e = only t (subst (λ z. IsStep (whole setting) (here setting) z t) same is) in
-    subst (λ z. IsTrue b ↔ Takes (whole setting) z (state_of x) (state_of y)) (sym e) (w (whole setting)))
+    decided_kept result setting r q (DecidesTaken s x y) x y same
+    (λ b w t is. subst (λ z. IsTrue b ↔ Takes (whole setting) z (state_of x) (state_of y)) (sym (only t is)) (w (whole setting)))

@@ -7,8 +7,10 @@ use Rattle.gh_assert.specs.Meaning.{Store}
 use Rattle.gh_assert.specs.Stores.{store_of}
 use Rattle.gh_assert.specs.Values.{Give}
 use Rattle.gh_assert.specs.declared.store.Entry.{Entry}
-use Rattle.gh_path.specs.Graphs.{loops_of}
+use Rattle.gh_path.specs.Graphs.{loops_of, PathStep}
+use Rattle.gh_path.specs.Kept.{IsStep}
 use Rattle.gh_path.specs.Walking.{loop_of}
+use Rattle.gh_path.specs.declared.condition.PathStep as kept_step
 use Rattle.gh_trace.specs.Traces.{State}
 use Rattle.gh_trace.specs.declared.setting.Setting.{Setting}
 
@@ -28,6 +30,10 @@ variables_here s = variable_names (here s)
 abbrev pub HasLoops : Setting → Type 0
 HasLoops s = map loop_of s.loops.now ≡ loops_of (here s)
 
+-- this is so of the step that a kept one stands for
+abbrev pub OfStep : Setting → kept_step.PathStep → (PathStep → Type 0) → Type 0
+OfStep s r Q = (step : PathStep) → IsStep (whole s) (here s) r step → Q step
+
 -- the procedure stands at a number
 abbrev pub IsProcedureAt : Program → ℕ → Procedure → Type 0
 IsProcedureAt P n p = slice_get P.procedures n ≡ Some p
@@ -40,11 +46,11 @@ HasDistinctNames p = AllPairs (λ x y. x ≢ y) (parameters_of p ++ results_of p
 abbrev pub IsEntered : Procedure → List Expr → State → Store → Type 0
 IsEntered p es x inside = Give x.store x.heap es (map inside (parameters_of p))
 
--- they have in no store
+-- no store gives them these values
 abbrev pub IsNeverEntered : Procedure → List Expr → State → Type 0
 IsNeverEntered p es x = (inside : Store) → IsEntered p es x inside → ⊥
 
--- a store in which they have; or there is none
+-- a store that gives them these values, or none where there is no such store
 abbrev pub IsEnteredOr : Procedure → List Expr → State → Option (List Entry) → Type 0
 IsEnteredOr p es x (Some entries) = IsEntered p es x (store_of entries)
 IsEnteredOr p es x None = IsNeverEntered p es x

@@ -7,7 +7,8 @@ use Rattle.gh_assert.specs.Meaning.{Store, Meaning, HasPart, MeetsOneOf}
 use Rattle.gh_assert.specs.Walks.{Allocated}
 use Rattle.gh_assert.specs.Values.{result, Give, compared, Gets}
 use Rattle.gh_ast.specs.Programs.{Name, names, parameters_of, results_of, Declares, SomeAssigns}
-use Rattle.gh_path.specs.Graphs.{Check, access, entry, loop_entry, returned, loop_end, PathStep, accessed, assume, assigned, made, written, freed, called, looped, answered}
+use Rattle.gh_path.specs.Graphs.{Check, access, entry, loop_entry, returned, loop_end, PathStep, accessed, assume}
+use Rattle.gh_path.specs.Graphs.{assigned, made, written, freed, called, looped, answered}
 
 -- the store tells a value for every name. A store that lists names with their values tells those, and 0 for each other name;
 -- whether it lists the variables of the procedure, in their order, is asked where a trace is drawn (`Refutes`, `FirstFailure`).

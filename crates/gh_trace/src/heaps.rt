@@ -64,11 +64,8 @@ fn cells_beside(
     for cell in heap.cells() {
         match frame.take(cell.at) {
             None => other.put(cell.at, cell.to)?,
-            Some(to) => {
-                if to != cell.to {
-                    return Ok(None);
-                }
-            }
+            Some(to) if to != cell.to => return Ok(None),
+            Some(_) => {}
         }
     }
     if !frame.is_empty() {

@@ -1,6 +1,7 @@
 //! Laws of traces.
 
-ghost use Rattle.gh_trace.specs.Laws.{FailuresAreOne, TracesAreProper, ChecksAreDecided, PartsAreReplaced, EntriesAreOne, CallsAreOne};
+ghost use Rattle.gh_trace.specs.Laws.{FailuresAreOne, TracesAreProper, ChecksAreDecided, PartsAreReplaced};
+ghost use Rattle.gh_trace.specs.Laws.{EntriesAreOne, CallsAreOne};
 ghost use Rattle.gh_trace.specs.Laws.{TestsGiveTheirTruth, CalleesAreNumbered};
 
 /// Drawn states have at most one first failure, and a counterexample has none.

@@ -7,8 +7,10 @@ use Rattle.gh_ast.specs.declared.Field.{Field}
 use Rattle.gh_ast.specs.declared.Procedure as kept
 use Rattle.gh_ast.specs.Plain.{Procedure, Program, procedure_of}
 use Rattle.gh_ast.specs.Programs.{IsFirstNamed}
-use Rattle.gh_ast.specs.Occurrences.{Site, mentioned, assigned, called, returned, sites_in_body, in_formula, in_alternatives, locals_of, variables_of}
-use Rattle.gh_ast.specs.Rules.{HasName, RepeatedAt, WrongCount, UnknownProcedure, ReturnInLoop, SecondLink, DataField, NoLink, NoBody}
+use Rattle.gh_ast.specs.Occurrences.{Site, mentioned, assigned, called, returned, sites_in_body, in_formula}
+use Rattle.gh_ast.specs.Occurrences.{in_alternatives, locals_of, variables_of}
+use Rattle.gh_ast.specs.Rules.{HasName, RepeatedAt, WrongCount, UnknownProcedure, ReturnInLoop, SecondLink, DataField}
+use Rattle.gh_ast.specs.Rules.{NoLink, NoBody}
 use Rattle.gh_types.specs.declared.scope.Setting.{Setting}
 use Rattle.gh_types.specs.declared.scope.Setting.TheVariants.{Requires, Ensures, Inside}
 

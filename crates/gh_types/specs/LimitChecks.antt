@@ -1,7 +1,8 @@
 -- What each part of the search for a passed limit looks for.
 use Rattle.std.specs.Prelude.{◌≡◌, ℕ, ◌<◌, ◌≤◌, List, length, All, Option, MatchOption}
 use Rattle.gh_ast.specs.declared.typed.Limit.{Limit}
-use Rattle.gh_ast.specs.Limits.{reported, atom_counts, most_procedures, most_variables, most_atoms, ProceduresPassed, VariablesPassed, AtomsPassed}
+use Rattle.gh_ast.specs.Limits.{reported, atom_counts, most_procedures, most_variables, most_atoms, ProceduresPassed}
+use Rattle.gh_ast.specs.Limits.{VariablesPassed, AtomsPassed}
 use Rattle.gh_ast.specs.Lists.{IsFirstWith}
 use Rattle.gh_ast.specs.Occurrences.{variables_of}
 use Rattle.gh_ast.specs.Plain.{Procedure}

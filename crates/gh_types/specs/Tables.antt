@@ -1,5 +1,6 @@
 -- Tables of names.
-use Rattle.std.specs.Prelude.{◌≡◌, ◌≢◌, ℕ, ◌<◌, List, [], ◌∷◌, ◌++◌, length, slice_index_or, Contains, Option, None, Some, MatchOption}
+use Rattle.std.specs.Prelude.{◌≡◌, ◌≢◌, ℕ, ◌<◌, List, [], ◌∷◌, ◌++◌, length, slice_index_or, Contains, Option, None}
+use Rattle.std.specs.Prelude.{Some, MatchOption}
 use Rattle.std.specs.Borrow.{Bor}
 use Rattle.std.specs.BTreeMap as tree
 use Rattle.std.specs.Cmp.Lexicographic.{slice_cmp}
@@ -29,6 +30,6 @@ pub record IsTableOf (names : List (List ℕ)) (t : Table) : Type 0 where
   pub present : (name : List ℕ) (k : ℕ) → place_in t name ≡ Some k → IsFirstPlace names name k
 
 -- a name is added at the place after others: a table of these becomes one that has it too
-abbrev pub AddsName : List ℕ → ℕ → Table → Table → Type 0
-AddsName name place old new =
+abbrev pub AddsPlace : List ℕ → ℕ → Table → Table → Type 0
+AddsPlace name place old new =
     (names : List (List ℕ)) → place ≡ length names → IsTableOf names old → IsTableOf (names ++ name ∷ []) new

@@ -1,8 +1,9 @@
 // The statements of a body.
 
 ghost use Rattle.std.specs.Prelude.{[], ◌∷◌, IfOk, false};
-ghost use Rattle.gh_ast.specs.Plain.{procedure_of, statement_of, statements_view, call};
-ghost use Rattle.gh_ast.specs.Occurrences.{assigned, mentioned, called, returned, sites_in, all_sites_in, sites_in_body};
+ghost use Rattle.gh_ast.specs.Plain.{procedure_of, statement_of, statements_view, set, call};
+ghost use Rattle.gh_ast.specs.Occurrences.{assigned, mentioned, called, returned, sites_in, all_sites_in};
+ghost use Rattle.gh_ast.specs.Occurrences.{sites_in_body};
 ghost use Rattle.gh_types.specs.Checks.{OccurrenceErrors, ParameterErrors, TargetErrors};
 ghost use Rattle.gh_types.specs.Scopes.{SiteErrorsIn, IsFirstAt};
 ghost use Rattle.gh_types.specs.declared.scope.Setting.TheVariants.{Inside};
@@ -42,6 +43,16 @@ impl<'a, 'n> Scope<'a, 'n> {
         earlier(
             self.in_target(target),
             self.in_occurrence(Setting::Inside, target),
+        )
+    }
+
+    /// The first error of an assignment of a value.
+    fn in_assignment(&self, target: &Occ, value: &Expr) -> Option<Fault>
+        ensures { IsFirstAt self.now (sites_in false (set target.now value.now)) result }
+    {
+        earlier(
+            self.in_assigned(target),
+            self.in_expr(Setting::Inside, value),
         )
     }
 
@@ -93,10 +104,7 @@ impl<'a, 'n> Scope<'a, 'n> {
         ensures { IfOk result (IsFirstIn (SiteErrorsIn self.now) (sites_in in_loop (statement_of statement.now))) }
     {
         match statement {
-            Stmt::Set { target, value } => Ok(earlier(
-                self.in_assigned(target),
-                self.in_expr(Setting::Inside, value),
-            )),
+            Stmt::Set { target, value } => Ok(self.in_assignment(target, value)),
             Stmt::New { target } => Ok(self.in_assigned(target)),
             Stmt::Write { at, value } => Ok(earlier(
                 self.in_occurrence(Setting::Inside, at),

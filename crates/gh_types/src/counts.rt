@@ -8,6 +8,9 @@ ghost use Rattle.gh_ast.specs.Occurrences.{variables_of};
 use crate::names::locals;
 use gh_ast::{Assertion, Cond, Procedure};
 
+/// The longest program text, in bytes.
+pub const MOST_BYTES: usize = 1_048_576;
+
 /// The most procedures of a program.
 pub const MOST_PROCEDURES: usize = 256;
 

@@ -2,13 +2,11 @@
 
 ghost use Rattle.std.specs.Prelude.{◌≡◌, ◌<◌, ◌≤◌, [], ◌∷◌, map, sum, MatchOption};
 ghost use Rattle.gh_ast.specs.Plain.{formula_of, procedure_of, program_of, statement_of, statements_view};
-ghost use Rattle.gh_ast.specs.Limits.{atom_counts, atoms, most_atoms, invariants_in, all_invariants_in, invariants_in_body, IsLimit, KeepsLimits};
+ghost use Rattle.gh_ast.specs.Limits.{atom_counts, atoms, most_atoms, invariants_in, all_invariants_in};
+ghost use Rattle.gh_ast.specs.Limits.{invariants_in_body, IsLimit, KeepsLimits};
 ghost use Rattle.gh_types.specs.LimitChecks.{IsProceduresLimit, IsVariablesLimit, IsAtomsLimit, FindsMany};
 
-use crate::counts::{
-    MOST_ATOMS, MOST_PROCEDURES, MOST_VARIABLES, count_all_atoms, count_atoms, count_variables,
-    reported,
-};
+use crate::counts::{self, count_all_atoms, count_atoms, count_variables, reported};
 use gh_ast::typed::Limit;
 use gh_ast::{Assertion, Procedure, Program, Stmt};
 
@@ -16,7 +14,7 @@ use gh_ast::{Assertion, Procedure, Program, Stmt};
 fn over_limit(count: u32) -> Option<u32>
     ensures { MatchOption result (count ≤ most_atoms) (λ n. (n ≡ count) × (most_atoms < count)) }
 {
-    if count > MOST_ATOMS {
+    if count > counts::MOST_ATOMS {
         Some(count)
     } else {
         None
@@ -107,12 +105,12 @@ fn long_in_procedure(procedure: &Procedure) -> Option<u32>
 fn procedures_limit(procedures: &[Procedure]) -> Option<Limit>
     ensures { IsProceduresLimit (map procedure_of procedures.now) result }
 {
-    if procedures.len() <= MOST_PROCEDURES {
+    if procedures.len() <= counts::MOST_PROCEDURES {
         return None;
     }
     Some(Limit {
         kind: 1,
-        span: procedures[MOST_PROCEDURES].name.span,
+        span: procedures[counts::MOST_PROCEDURES].name.span,
         count: reported(procedures.len()),
     })
 }
@@ -123,7 +121,7 @@ fn variables_limit(procedures: &[Procedure]) -> Option<Limit>
 {
     for procedure in procedures {
         let count = count_variables(procedure);
-        if count > MOST_VARIABLES {
+        if count > counts::MOST_VARIABLES {
             return Some(Limit {
                 kind: 2,
                 span: procedure.name.span,

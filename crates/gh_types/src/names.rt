@@ -8,7 +8,7 @@ ghost use Rattle.gh_ast.specs.Plain.{procedure_of};
 ghost use Rattle.gh_ast.specs.Occurrences.{locals_of, variables_of};
 ghost use Rattle.gh_types.specs.Faults.{IsFirstOf};
 ghost use Rattle.gh_types.specs.Checks.{RepeatErrors};
-ghost use Rattle.gh_types.specs.Tables.{place_in, AddsName, IsTableOf};
+ghost use Rattle.gh_types.specs.Tables.{place_in, AddsPlace, IsTableOf};
 
 use crate::fault::{Fault, earlier};
 use gh_ast::{Occ, Procedure};
@@ -49,7 +49,7 @@ impl<'a> Names<'a> {
     /// Adds a name that stands at a place, unless it is there. Whether it was added.
     pub fn add(&mut self, name: &'a [u8], place: usize) -> Result<bool, AllocError>
         ensures added { IfOk result (λ added. added ≡ is_none (place_in self.old.places name.now)) }
-        ensures names { OnOk result (AddsName name.now place self.old.places self.new.places) }
+        ensures names { OnOk result (AddsPlace name.now place self.old.places self.new.places) }
     {
         if self.places.contains_key(name) {
             return Ok(false);

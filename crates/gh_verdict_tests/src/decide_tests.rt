@@ -27,6 +27,7 @@ use gh_trace::decider::Decider;
 use gh_trace::replay::{ReplayError, replay};
 use gh_trace::state::Trace;
 use gh_types::check::check;
+use gh_types::counts::MOST_BYTES;
 use std::alloc::{AllocError, Global};
 
 // What decides a condition: a decider, the decision itself, a model of its clauses, or a search for the first that is
@@ -195,7 +196,7 @@ fn found_of(alloc: Global, typed: &Typed, number: u32, by: By) -> Result<Found, 
 }
 
 fn found_in(alloc: Global, text: &[u8], number: u32, by: By) -> Result<Found, AllocError> {
-    if text.len() > 1_048_576 {
+    if text.len() > MOST_BYTES {
         return Ok(Found::Wrong);
     }
     let Ok(program) = parse(alloc, text) else {

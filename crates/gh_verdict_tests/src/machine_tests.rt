@@ -11,6 +11,7 @@ use gh_machine::step::{Choice, Next, step};
 use gh_parse::parse::parse;
 use gh_texts::{REUSE, SECOND};
 use gh_types::check::check;
+use gh_types::counts::MOST_BYTES;
 use std::alloc::{AllocError, Global};
 
 // A location, a content, and the values with which a called procedure's results and locals begin.
@@ -102,7 +103,7 @@ fn stands(config: &Config, values: &[u32], cells: &[(u32, u32)]) -> bool {
 
 // Whether a run comes to what is said of it.
 fn comes(alloc: Global, run: &Run) -> Result<bool, AllocError> {
-    if run.text.len() > 1_048_576 {
+    if run.text.len() > MOST_BYTES {
         return Ok(false);
     }
     let Ok(program) = parse(alloc, run.text) else {

@@ -7,6 +7,7 @@ use gh_run::state_file::{StateError, read_state};
 use gh_texts::{DROP, SECOND};
 use gh_trace::state::State;
 use gh_types::check::check;
+use gh_types::counts::MOST_BYTES;
 use std::alloc::{AllocError, Global};
 
 // What a run comes to, with the two lines of its state, or the line of a state file that isn't as said.
@@ -57,7 +58,7 @@ fn comes(
     limit: u32,
     said: Said<'_>,
 ) -> Result<bool, AllocError> {
-    if text.len() > 1_048_576 || file.len() > 4_194_304 || limit > 1_000_000 {
+    if text.len() > MOST_BYTES || file.len() > 4_194_304 || limit > 1_000_000 {
         return Ok(false);
     }
     let Ok(program) = parse(alloc, text) else {

@@ -14,6 +14,7 @@ use gh_path::listing::conditions;
 use gh_session::session::Session;
 use gh_symb::admit::admit;
 use gh_types::check::check;
+use gh_types::counts::MOST_BYTES;
 use std::alloc::{AllocError, Global};
 
 const TWO: &[u8] = b"struct Node { var next: Node; }
@@ -75,7 +76,7 @@ fn told_of(alloc: Global, work: &mut Work, typed: &Typed) -> Result<Option<(u32,
 }
 
 fn decided(alloc: Global, work: &mut Work, text: &[u8]) -> Result<Option<(u32, u32)>, AllocError> {
-    if text.len() > 1_048_576 {
+    if text.len() > MOST_BYTES {
         return Ok(None);
     }
     let Ok(program) = parse(alloc, text) else {

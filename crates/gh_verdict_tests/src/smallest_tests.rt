@@ -24,6 +24,7 @@ use gh_small::smallest::smallest;
 use gh_symb::admit::admit;
 use gh_texts::CUT;
 use gh_types::check::check;
+use gh_types::counts::MOST_BYTES;
 use std::alloc::{AllocError, Global};
 
 // What is found of a section over bounded clauses: they have a model, and the section is valid for them.
@@ -134,7 +135,7 @@ fn bounds_of(alloc: Global, typed: &Typed, number: u32) -> Result<Option<Sides>,
 }
 
 fn bounds_in(alloc: Global, text: &[u8], number: u32) -> Result<Option<Sides>, AllocError> {
-    if text.len() > 1_048_576 {
+    if text.len() > MOST_BYTES {
         return Ok(None);
     }
     let Ok(program) = parse(alloc, text) else {

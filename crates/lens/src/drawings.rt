@@ -6,14 +6,11 @@ ghost use Rattle.gh_ast.specs.Plain.{program_of};
 use anyhow::Error;
 use gh_ast::typed::Typed;
 use gh_draw::drawing::Drawing;
-use gh_draw::reading::read_drawing;
+use gh_draw::reading::{MOST_DRAWN, read_drawing};
 use gh_path::conditions::Conditions;
 use std::alloc::Global;
 use std::fs;
 use std::rt::Files;
-
-// The longest drawing file, in bytes.
-const MOST_DRAWN: usize = 4_194_304;
 
 // The drawing in a file; none where it isn't one for a condition of the program.
 pub(crate) fn drawing_in<R: Files + Alloc<A = Global>>(

@@ -1,6 +1,7 @@
 // The calls of inputs in memory.
 
-ghost use Rattle.std.specs.Prelude.{◌≡◌, ◌<◌, ◌++◌, ◌∷◌, [], ℕ, List, Option, Some, None, is_some, drop, length, IfOk, OnErr};
+ghost use Rattle.std.specs.Prelude.{◌≡◌, ◌<◌, ◌++◌, ◌∷◌, [], ℕ, List, Option, Some, None, is_some, drop, length, IfOk};
+ghost use Rattle.std.specs.Prelude.{OnErr};
 ghost use Rattle.std.specs.Io.KnownBytes.{ReadConsumes};
 ghost use Rattle.gh_base.specs.Outside.{HasCause, Begins, ReadsWithin, has_begun, GivesOnlyBegun, Counts, AddsName};
 ghost use Rattle.gh_base.specs.Files.{table_in, left_in, HasMore};

@@ -1,14 +1,15 @@
 -- What represents an owned heap keeps the axioms.
-use Rattle.std.specs.Prelude.{◌≡◌, ℕ, List, Contains, Decides, IsTrue}
+use Rattle.std.specs.Prelude.{◌≡◌, ℕ, ◌<◌, List, Bool, Contains, Decides, IsTrue}
 use Rattle.std.proofs.Common.{inl, inr}
 use Rattle.gh_assert.specs.Heaps.{Heap}
-use Rattle.gh_assert.specs.Walks.{succ, Between}
-use Rattle.gh_assert.specs.Laws.{Rows, HopRows}
+use Rattle.gh_assert.specs.Walks.{succ, Between, Allocated}
+use Rattle.gh_assert.specs.Hops.{Hop}
+use Rattle.gh_assert.specs.Laws.{Rows, LinkRows}
 use Rattle.gh_assert.proofs.Rows.{rows}
 use Rattle.gh_assert.proofs.Hops.{hop_rows, hops_exist}
 use Rattle.gh_assert.proofs.WalkLaws.{unallocated_stay}
-use Rattle.gh_model.specs.Structures.{Structure, IsOrdered}
-use Rattle.gh_model.specs.Laws.{HeapsAreModels, RowsAreTheOrder}
+use Rattle.gh_model.specs.Structures.{Structure, IsOrdered, IsLinked}
+use Rattle.gh_model.specs.Laws.{HeapsAreModels, RowsAreTheOrder, LinkRowsOf, KeepsCells, AreLinks, RowsAreTheLinks}
 
 -- whatever else is said of its hops and cells
 pub is_ordered : (V : List ℕ) (h : Heap) (m : Structure) → ((x y z : ℕ) → Contains V x → Contains V y → Contains V z → Decides (m.between x y z) (Between h x y z)) → IsOrdered (Contains V) (λ x y. x ≡ y) m
@@ -48,8 +49,8 @@ heaps_are_models V h m c0 null own T = record {
   };
 }
   where
-    H : HopRows V h
-    H = hop_rows V h
+    H : LinkRows (Contains V) (λ x y. x ≡ y) (Between h) (Hop V h) (Allocated h)
+    H = (hop_rows V h).rows
 
 to_order : (m : Structure) → Rows (λ x y z. IsTrue (m.between x y z)) → IsOrdered (λ x. Unit {0}) (λ x y. x ≡ y) m
 to_order m R = record {
@@ -81,3 +82,34 @@ to_rows m O = record {
 
 pub rows_are_the_order : RowsAreTheOrder
 rows_are_the_order m = (to_order m, to_rows m)
+
+to_links : (N : ℕ → Type 0) (E : ℕ → ℕ → Type 0) (m : Structure) → LinkRowsOf N E m × KeepsCells N E m → IsLinked N E m
+to_links N E m K = record {
+  row_11 = λ x v nx nv a. K.0.row_11 x v (nx, nv, a);
+  row_12 = λ x v w nx nv nw a b. K.0.row_12 x v w nw (nx, nv, a) b;
+  row_13 = K.1.row_13;
+  row_14 = λ x w nx nw a b. K.0.row_14 x w nw (nx, nx, a) b;
+  row_15 = λ x v nx nv a. K.0.row_15 x v (nx, nv, a);
+  null = K.1.null;
+  hops = K.1.hops;
+}
+
+from_links : (N : ℕ → Type 0) (E : ℕ → ℕ → Type 0) (m : Structure) → IsLinked N E m → LinkRowsOf N E m × KeepsCells N E m
+from_links N E m L = (
+  record {
+    row_11 = λ x v a. L.row_11 x v a.0 a.1 a.2;
+    row_12 = λ x v w nw a b. L.row_12 x v w a.0 a.1 nw a.2 b;
+    row_14 = λ x w nw a b. L.row_14 x w a.0 nw a.2 b;
+    row_15 = λ x v a. L.row_15 x v a.0 a.1 a.2;
+  },
+  record { row_13 = L.row_13; null = L.null; hops = L.hops },
+)
+
+are_links : (N : ℕ → Type 0) (E : ℕ → ℕ → Type 0) (m : Structure) → AreLinks N E m
+are_links N E m = (to_links N E m, from_links N E m)
+
+pub rows_are_the_links : RowsAreTheLinks
+rows_are_the_links = record {
+  values = λ V m. are_links (Contains V) (λ x y. x ≡ y) m;
+  terms = λ equal n m. are_links (λ t. t < n) (λ x y. IsTrue (equal x y)) m;
+}

@@ -2,7 +2,7 @@ use Rattle.std.proofs.Common.{arith, subst, sym, ap, ◌∙◌}
 use Rattle.gh_ast.specs.Plain.{negation, test_of}
 use Rattle.gh_ast.specs.Printed.{Adds, test_shown}
 use Rattle.gh_ast.proofs.Folds.{not_of}
-use Rattle.gh_ast.proofs.Printing.{member_shown, turn, and_then, in_brackets, whole_list, tests_joined}
+use Rattle.gh_ast.proofs.Printing.{member_shown, turn, and_then, in_brackets, whole_list, tests_with_signs}
 use Rattle.gh_ast.proofs.print.+condition.Goals as goal
 
 pub put_member-returns : goal.put_member-returns
@@ -21,6 +21,6 @@ put_tests-loop-test-preserved t c =
 
 pub put_tests-returns : goal.put_tests-returns
 put_tests-returns t c =
-    subst (Adds c.args.out.now c.loop-test.out) (tests_joined c.args.between c.args.tests.now)
+    subst (Adds c.args.out.now c.loop-test.out) (tests_with_signs c.args.between c.args.tests.now)
     (whole_list member_shown c.args.between c.args.tests.now c.in-Some.rest.now c.in-Some.first.now c.loop-test.test-index c.in-Some.ensures.cases.0 (omega arith)
     c.in_ok-put_member.ensures c.loop-test.invariant)

@@ -3,7 +3,7 @@ use Rattle.gh_ast.specs.Plain.{cases, test_of, formula_of}
 use Rattle.gh_ast.specs.declared.sign.Sign.TheVariants.{Star}
 use Rattle.gh_ast.specs.Printed.{Adds, formula_shown}
 use Rattle.gh_ast.proofs.Folds.{cases_of}
-use Rattle.gh_ast.proofs.Printing.{item_shown, turn, and_then, in_brackets, whole_list, formulas_joined, cases_shown}
+use Rattle.gh_ast.proofs.Printing.{item_shown, turn, and_then, in_brackets, whole_list, formulas_with_signs, cases_shown}
 use Rattle.gh_ast.proofs.print.+formula.Goals as goal
 
 pub put_assertion-returns-in_ok-put_part-in-Cases-2 : goal.put_assertion-returns-in_ok-put_part-in-Cases-2
@@ -25,7 +25,7 @@ put_items-loop-item-preserved t c =
 
 pub put_items-returns : goal.put_items-returns
 put_items-returns t c =
-    subst (Adds c.args.out.now c.loop-item.out) (formulas_joined c.args.items.now)
+    subst (Adds c.args.out.now c.loop-item.out) (formulas_with_signs c.args.items.now)
     (whole_list item_shown Star c.args.items.now c.in-Some.rest.now c.in-Some.first.now c.loop-item.item-index c.in-Some.ensures.cases.0 (omega arith)
     c.in_ok-put_item.ensures c.loop-item.invariant)
 

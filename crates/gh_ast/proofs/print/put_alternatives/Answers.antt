@@ -2,7 +2,7 @@ use Rattle.std.proofs.Common.{arith, subst}
 use Rattle.gh_ast.specs.declared.sign.Sign.TheVariants.{Or}
 use Rattle.gh_ast.specs.Plain.{formula_of}
 use Rattle.gh_ast.specs.Printed.{Adds, formula_shown}
-use Rattle.gh_ast.proofs.Printing.{turn, whole_list, joined_map}
+use Rattle.gh_ast.proofs.Printing.{turn, whole_list, with_signs_map}
 use Rattle.gh_ast.proofs.print.put_alternatives.Goals as goal
 
 pub loop-alternative-preserved : goal.loop-alternative-preserved
@@ -12,6 +12,6 @@ loop-alternative-preserved c =
 
 pub returns : goal.returns
 returns c =
-    subst (Adds c.args.out.now c.loop-alternative.out) (joined_map formula_shown formula_of Or c.args.alternatives.now)
+    subst (Adds c.args.out.now c.loop-alternative.out) (with_signs_map formula_shown formula_of Or c.args.alternatives.now)
     (whole_list (λ x. formula_shown (formula_of x)) Or c.args.alternatives.now c.in-Some.rest.now c.in-Some.first.now c.loop-alternative.alternative-index c.in-Some.ensures.cases.0 (omega arith)
     c.in_ok-put_assertion.ensures c.loop-alternative.invariant)

@@ -1,11 +1,11 @@
 use Rattle.std.specs.Prelude.{◌≡◌, ◌⊎◌, is_none, IsSome}
 use Rattle.std.specs.List.{count_by}
-use Rattle.gh_picture.specs.Placing.{IsBegun, StillStands, spot_on}
+use Rattle.gh_picture.specs.Placing.{IsLineBegun, StillStands, spot_on}
 use Rattle.gh_picture.proofs.layout.place_line.Given as goal
 
 abbrev pub invariant-loop-spots : goal.invariant-loop-spots
 invariant-loop-spots l = record {
-  begun : IsBegun l.cells l.spots l.line l.column l.at;
+  begun : IsLineBegun l.cells l.spots l.line l.column l.at;
   kept : StillStands l.initial.spots l.spots;
   from : (l.at ≡ l.from) ⊎ IsSome (spot_on l.spots l.from);
 }

@@ -4,7 +4,7 @@ use Rattle.gh_ast.specs.Plain.{program_of}
 use Rattle.gh_base.specs.declared.place.Span.{Span}
 use Rattle.gh_path.specs.Terms.{walked, no_terms, condition_walked}
 use Rattle.gh_symb.specs.Remaining.{Remains}
-use Rattle.gh_symb.specs.Settings.{procedure_in}
+use Rattle.gh_symb.specs.Contexts.{procedure_in}
 use Rattle.gh_symb.specs.Steps.{EndsWith, IsChecked, IsStepped}
 use Rattle.gh_symb.specs.Walkers.{terms_at}
 use Rattle.gh_symb.proofs.CountLemmas.{has_check, has_next, begun, gone_next, many, ended}
@@ -14,26 +14,23 @@ pub loop-step-init : goal.loop-step-init
 loop-step-init c = record {
   few = omega (arith, c.in_ok-walker.ensures.version, c.in_ok-ask_start.ensures.version);
   left = λ d stands.
-      let its = c.setting_of-setting.ensures.within d stands in
+      let its = c.context_of-context.ensures.within d stands in
       let s = terms_at c.ask_start.new.self in
       let begin = c.in_ok-ask_start.ensures.begins d.start its.start in
       let started : s ≡ walked d.start.meets no_terms = begin.0 ∙ ap (walked d.start.meets) c.in_ok-walker.ensures.terms in
-      rw c.as_slice-step-items.ensures.value (begun (program_of c.args.typed.now) (procedure_in c.setting_of-setting.result) c.args.condition.now d s its started);
+      rw c.as_slice-step-items.ensures.value (begun (program_of c.args.typed.now) (procedure_in c.context_of-context.result) c.args.condition.now d s its started);
 }
 
 pub ask_start-requires : goal.ask_start-requires
-ask_start-requires c = (c.requires.0.start, (c.setting_of-setting.ensures.within c.requires.0 c.requires.1).start)
+ask_start-requires c = (c.requires.0.start, (c.context_of-context.ensures.within c.requires.0 c.requires.1).start)
 
 pub walk_step-requires-clause-step : goal.walk_step-requires-clause-step
 walk_step-requires-clause-step c =
     let left = c.loop-step.invariant.left c.requires.0 c.requires.1 in
-    has_next c.setting_of-setting.result (program_of c.args.typed.now) c.setting_of-setting.ensures.program c.as_slice-step-items.result.now c.loop-step.step-index c.step-item.result
-    left.steps c.loop-step-test.true c.step-item.is left.are_left
+    has_next c.context_of-context.ensures c.as_slice-step-items.result.now c.loop-step.step-index left.steps c.loop-step-test.true c.step-item.is left.are_left
 
 pub ask_check-requires : goal.ask_check-requires
-ask_check-requires c =
-    let is = c.setting_of-setting.ensures in
-    has_check c.setting_of-setting.result (program_of c.args.typed.now) is.program c.args.condition.now c.requires.0 (is.within c.requires.0 c.requires.1)
+ask_check-requires c = has_check c.context_of-context.ensures c.requires.0 c.requires.1
 
 pub walk_step-requires-clause-room : goal.walk_step-requires-clause-room
 walk_step-requires-clause-room c =
@@ -46,8 +43,8 @@ overflow_add-walker c =
 pub returns-then-count-gt-MOST_TERMS : goal.returns-then-count-gt-MOST_TERMS
 returns-then-count-gt-MOST_TERMS c = λ d stands.
     let P = program_of c.args.typed.now in
-    let p = procedure_in c.setting_of-setting.result in
-    let is = c.setting_of-setting.ensures in
+    let p = procedure_in c.context_of-context.result in
+    let is = c.context_of-context.ensures in
     let s = terms_at c.loop-step.walker in
     let t = terms_at c.walk_step.new.self in
     let stepped : IsStepped P p c.step-item.result s t = subst (λ Q. IsStepped Q p c.step-item.result s t) is.program c.in_ok-walk_step.ensures.walked in
@@ -59,8 +56,8 @@ loop-step-preserved c = record {
   few = omega (arith, c.loop-step.invariant.few, c.in_ok-walk_step.ensures.next);
   left = λ d stands.
       let P = program_of c.args.typed.now in
-      let p = procedure_in c.setting_of-setting.result in
-      let is = c.setting_of-setting.ensures in
+      let p = procedure_in c.context_of-context.result in
+      let is = c.context_of-context.ensures in
       let s = terms_at c.loop-step.walker in
       let t = terms_at c.walk_step.new.self in
       let stepped : IsStepped P p c.step-item.result s t = subst (λ Q. IsStepped Q p c.step-item.result s t) is.program c.in_ok-walk_step.ensures.walked in
@@ -70,8 +67,8 @@ loop-step-preserved c = record {
 pub returns : goal.returns
 returns c = λ d stands.
     let P = program_of c.args.typed.now in
-    let p = procedure_in c.setting_of-setting.result in
-    let is = c.setting_of-setting.ensures in
+    let p = procedure_in c.context_of-context.result in
+    let is = c.context_of-context.ensures in
     let its = is.within d stands in
     let s = terms_at c.loop-step.walker in
     let w = c.ask_check.new.self in

@@ -8,7 +8,7 @@ use Rattle.gh_path.specs.Kept.{AreSteps}
 use Rattle.gh_path.specs.Terms.{Terms, no_terms, walked}
 use Rattle.gh_symb.specs.Following.{Follows, begins}
 use Rattle.gh_symb.specs.Phases.{learned, both, IsCheckUsed}
-use Rattle.gh_symb.specs.Settings.{procedure_in}
+use Rattle.gh_symb.specs.Contexts.{procedure_in}
 use Rattle.gh_symb.specs.StepEncodings.{IsAsking}
 use Rattle.gh_symb.specs.Steps.{IsChecked}
 use Rattle.gh_symb.specs.Tables.{bound_by}
@@ -26,8 +26,8 @@ loop-step-init c = record {
   few = omega (arith, c.in_ok-walker.ensures.version, c.in_ok-start.ensures.version);
   left = λ d stands.
       let P = program_of c.args.typed.now in
-      let p = procedure_in c.setting_of-setting.result in
-      let its = c.setting_of-setting.ensures.within d stands in
+      let p = procedure_in c.context_of-context.result in
+      let its = c.context_of-context.ensures.within d stands in
       let s = terms_at c.ask_start.new.self in
       let begin = c.in_ok-start.ensures.begins d.start its.start in
       let started : s ≡ begins d = begin.0 ∙ ap (walked d.start.meets) c.in_ok-walker.ensures.terms in
@@ -40,21 +40,21 @@ loop-step-init c = record {
 pub returns-then-count-gt-MOST_TERMS : goal.returns-then-count-gt-MOST_TERMS
 returns-then-count-gt-MOST_TERMS c = λ d stands.
     let P = program_of c.args.typed.now in
-    let p = procedure_in c.setting_of-setting.result in
+    let p = procedure_in c.context_of-context.result in
     let u = terms_at c.encode_step.new.self in
     let rest = drop (c.loop-step.step-index + 1) c.as_slice-step-items.result.now in
-    let later = gone_past c.setting_of-setting.result (program_of c.args.typed.now) c.setting_of-setting.ensures.program c.as_slice-step-items.result.now c.loop-step.step-index c.step-item.result d
+    let later = gone_past c.context_of-context.result (program_of c.args.typed.now) c.context_of-context.ensures.program c.as_slice-step-items.result.now c.loop-step.step-index c.step-item.result d
     c.loop-step.walker c.use_step.new.self c.encode_step.new.self c.in_ok-before.before c.loop-step.firsts c.learn.new.self c.loop-step.states.items c.push.new.self.items
     c.loop-step.steps.items c.push-in-loop-step.new.self.items c.in_ok-encoded.encoded c.loop-step-test.true c.step-item.is (c.loop-step.invariant.left d stands) c.in_ok-before.ensures
     c.in_ok-use_step.ensures.uses c.in_ok-use_step.ensures.version c.in_ok-encoded.ensures.done c.in_ok-encoded.ensures.read c.in_ok-learn.ensures
     c.in_ok-push.ensures.items c.in_ok-push-2.ensures.items in
-    many P p rest d u (c.setting_of-setting.ensures.within d stands).same (remains P p rest d u _ _ _ later) (omega (arith, c.if-count-gt-MOST_TERMS.true, c.count.ensures))
+    many P p rest d u (c.context_of-context.ensures.within d stands).same (remains P p rest d u _ _ _ later) (omega (arith, c.if-count-gt-MOST_TERMS.true, c.count.ensures))
 
 pub loop-step-preserved : goal.loop-step-preserved
 loop-step-preserved c = record {
   few = omega (arith, c.loop-step.invariant.few, c.in_ok-use_step.ensures.version, c.in_ok-encoded.ensures.next);
   left = λ d stands.
-      gone_past c.setting_of-setting.result (program_of c.args.typed.now) c.setting_of-setting.ensures.program c.as_slice-step-items.result.now c.loop-step.step-index c.step-item.result d
+      gone_past c.context_of-context.result (program_of c.args.typed.now) c.context_of-context.ensures.program c.as_slice-step-items.result.now c.loop-step.step-index c.step-item.result d
       c.loop-step.walker c.use_step.new.self c.encode_step.new.self c.in_ok-before.before c.loop-step.firsts c.learn.new.self c.loop-step.states.items c.push.new.self.items
       c.loop-step.steps.items c.push-in-loop-step.new.self.items c.in_ok-encoded.encoded c.loop-step-test.true c.step-item.is (c.loop-step.invariant.left d stands) c.in_ok-before.ensures
       c.in_ok-use_step.ensures.uses c.in_ok-use_step.ensures.version c.in_ok-encoded.ensures.done c.in_ok-encoded.ensures.read c.in_ok-learn.ensures
@@ -62,24 +62,20 @@ loop-step-preserved c = record {
 }
 
 pub ask_start-requires : goal.ask_start-requires
-ask_start-requires c = (c.requires.0.start, (c.setting_of-setting.ensures.within c.requires.0 c.requires.1).start)
+ask_start-requires c = (c.requires.0.start, (c.context_of-context.ensures.within c.requires.0 c.requires.1).start)
 
 pub use_step-requires : goal.use_step-requires
 use_step-requires c =
     let left = c.loop-step.invariant.left c.requires.0 c.requires.1 in
-    has_next c.setting_of-setting.result (program_of c.args.typed.now) c.setting_of-setting.ensures.program c.as_slice-step-items.result.now c.loop-step.step-index c.step-item.result
-    left.steps c.loop-step-test.true c.step-item.is left.are_left
+    has_next c.context_of-context.ensures c.as_slice-step-items.result.now c.loop-step.step-index left.steps c.loop-step-test.true c.step-item.is left.are_left
 
 pub encode_step-requires-clause-step : goal.encode_step-requires-clause-step
 encode_step-requires-clause-step c =
     let left = c.loop-step.invariant.left c.requires.0 c.requires.1 in
-    has_next c.setting_of-setting.result (program_of c.args.typed.now) c.setting_of-setting.ensures.program c.as_slice-step-items.result.now c.loop-step.step-index c.step-item.result
-    left.steps c.loop-step-test.true c.step-item.is left.are_left
+    has_next c.context_of-context.ensures c.as_slice-step-items.result.now c.loop-step.step-index left.steps c.loop-step-test.true c.step-item.is left.are_left
 
 pub ask_check-requires : goal.ask_check-requires
-ask_check-requires c =
-    let is = c.setting_of-setting.ensures in
-    has_check c.setting_of-setting.result (program_of c.args.typed.now) is.program c.args.condition.now c.requires.0 (is.within c.requires.0 c.requires.1)
+ask_check-requires c = has_check c.context_of-context.ensures c.requires.0 c.requires.1
 
 pub encode_step-requires-clause-room : goal.encode_step-requires-clause-room
 encode_step-requires-clause-room c =
@@ -92,8 +88,8 @@ overflow_add-walker c =
 pub returns : goal.returns
 returns c = λ d stands.
     let P = program_of c.args.typed.now in
-    let p = procedure_in c.setting_of-setting.result in
-    let is = c.setting_of-setting.ensures in
+    let p = procedure_in c.context_of-context.result in
+    let is = c.context_of-context.ensures in
     let its = is.within d stands in
     let s = terms_at c.loop-step.walker in
     let w = c.ask_check.new.self in

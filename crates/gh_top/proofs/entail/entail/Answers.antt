@@ -4,7 +4,7 @@ use Rattle.std.proofs.lemmas.Result.{IfOk-weaker}
 use Rattle.gh_ast.specs.Questions.{question_of}
 use Rattle.gh_top.specs.Files.{Shows}
 use Rattle.gh_top.specs.QuestionReplies.{RepliesToQuestion}
-use Rattle.gh_top.specs.Refusals.{most_bytes}
+use Rattle.gh_ast.specs.Limits.{most_bytes}
 use Rattle.gh_top.proofs.HeadlineLemmas.{both_ok}
 use Rattle.gh_top.proofs.QuestionLemmas.{decided_replies, refused_replies}
 use Rattle.gh_top.proofs.entail.entail.Goals as goal

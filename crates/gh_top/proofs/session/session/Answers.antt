@@ -1,5 +1,6 @@
 use Rattle.std.proofs.Common.{◌≡◌, ◌∙◌, ◌<◌, ℕ, List, length}
 use Rattle.std.specs.Prelude.{None, Some}
+use Rattle.gh_top.specs.Sessions.{most_edited}
 use Rattle.gh_top.proofs.SessionLemmas.{absent_told, long_told}
 use Rattle.gh_top.proofs.session.session.Goals as goal
 
@@ -12,5 +13,5 @@ returns-in_ok-plain_line-in-Absent c =
 pub returns-in_ok-plain_line-in-TooLong : goal.returns-in_ok-plain_line-in-TooLong
 returns-in_ok-plain_line-in-TooLong c =
     λ bytes shows.
-    let long : (text : List ℕ) × (bytes ≡ Some text) × (4194304 < length text) = rw c.in-TooLong.is at shows in
+    let long : (text : List ℕ) × (bytes ≡ Some text) × (most_edited < length text) = rw c.in-TooLong.is at shows in
     long_told bytes _ _ long c.file_refused-in-TooLong.ensures.status (c.file_refused-in-TooLong.ensures.text ∙ c.in_ok-plain_line-in-TooLong.ensures)

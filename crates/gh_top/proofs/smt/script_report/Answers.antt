@@ -6,6 +6,7 @@ use Rattle.gh_draw.specs.Drawings.{line}
 use Rattle.gh_ast.specs.Plain.{program_of}
 use Rattle.gh_symb.specs.Symbolic.{symbolic_of}
 use Rattle.gh_symb.specs.Formulas.{problem}
+use Rattle.gh_top.specs.Smts.{most_asserted}
 use Rattle.gh_top.specs.declared.status.Status.TheVariants.{Listed}
 use Rattle.gh_top.proofs.SmtLemmas.{is_listed, is_too_long}
 use Rattle.gh_top.proofs.smt.script_report.Goals as goal
@@ -24,7 +25,7 @@ returns-in-Err-TooLong c =
     let P = program_of c.args.typed.now in
     let p = c.in_ok-ground.ground in
     let e : p ≡ problem (symbolic_of P d) = c.in_ok-ground.ensures.told P d (c.in_ok-symbolic.ensures d stands) in
-    let cause : (c.in-Err-TooLong.count ≡ assertion_count p) × (2000000 < c.in-Err-TooLong.count) = rw c.in-Err-TooLong.field-0-is at c.in-Err-TooLong.ensures.refused in
+    let cause : (c.in-Err-TooLong.count ≡ assertion_count p) × (most_asserted < c.in-Err-TooLong.count) = rw c.in-Err-TooLong.field-0-is at c.in-Err-TooLong.ensures.refused in
     let text : c.in_ok-too_long-in-Err-TooLong.field-0.text ≡ line (codes "refused: Limit script at " ++ place_text c.place-span.result ++ codes ", count " ++ decimal c.in-Err-TooLong.count) =
     c.in_ok-too_long-in-Err-TooLong.ensures.text in
     is_too_long P d p c.place-span.result c.in-Err-TooLong.count c.in_ok-too_long-in-Err-TooLong.field-0.status _ e cause.0 cause.1 (c.place-span.ensures d stands) c.in_ok-too_long-in-Err-TooLong.ensures.status text

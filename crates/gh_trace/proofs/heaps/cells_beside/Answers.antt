@@ -23,8 +23,8 @@ loop-cell-preserved c = elim c.match-take.branch [
       c.loop-cell.invariant c.take.ensures.content w.in-Some.is w.if-to-cell.false c.take.ensures.rest)
 ]
 
-pub returns-then-to-cell-clause-none : goal.returns-then-to-cell-clause-none
-returns-then-to-cell-clause-none c =
+pub returns-in-Some-clause-none : goal.returns-in-Some-clause-none
+returns-in-Some-clause-none c =
     differing_turn c.args.heap.now c.args.frame.now.1 c.cells-cell-items.result.now c.loop-cell.cell-index blank c.loop-cell.other c.loop-cell.frame.1 c.take.result c.in-Some.to c.loop-cell-test.true
     c.loop-cell.invariant c.take.ensures.content c.in-Some.is c.if-to-cell.true
 

@@ -1,6 +1,5 @@
 use Rattle.std.proofs.Common.{Option, ℕ, sym, subst, arith}
-use Rattle.std.specs.Prelude.{IfNone}
-use Rattle.gh_ground.specs.Kept.{IsAnswered, IsEnded}
+use Rattle.gh_ground.specs.Kept.{IsAnswered, IsEnded, IfEnded}
 use Rattle.gh_ground.proofs.KeptLemmas.{answered_some, none_left}
 use Rattle.gh_ground.proofs.solver.Solver.turn.Goals as goal
 
@@ -9,7 +8,7 @@ decide-requires c = subst (IsAnswered c.args.self.now.search) c.in-None.is c.req
 
 pub returns-in_ok-next-in-None-clause-ended : goal.returns-in_ok-next-in-None-clause-ended
 returns-in_ok-next-in-None-clause-ended c =
-    subst (λ (a : Option ℕ). IfNone c.in_ok-next-in-None.next (IsEnded c.decide.new.self.search a)) (sym c.in-None.is) c.in_ok-next-in-None.ensures.open
+    subst (λ (a : Option ℕ). IfEnded c.in_ok-next-in-None.next (IsEnded c.decide.new.self.search a)) (sym c.in-None.is) c.in_ok-next-in-None.ensures.open
 
 pub learn-requires-clause-conflict : goal.learn-requires-clause-conflict
 learn-requires-clause-conflict c = answered_some c.args.self.now.search c.args.answer c.in-Some.conflict c.requires c.in-Some.is

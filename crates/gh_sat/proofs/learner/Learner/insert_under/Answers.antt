@@ -3,7 +3,7 @@ use Rattle.gh_base.specs.declared.atom.Lit.{Lit}
 use Rattle.gh_base.specs.declared.sizes.Sizes.{Sizes}
 use Rattle.gh_base.specs.Atoms.{AreInRange, count_of}
 use Rattle.gh_sat.specs.declared.status.Hint.{Hint}
-use Rattle.gh_sat.specs.Trail.{SearchState, cut}
+use Rattle.gh_sat.specs.Trail.{SearchState, cut, most_clauses}
 use Rattle.gh_sat.specs.Watch.{WasOpen, clauses_of}
 use Rattle.gh_sat.specs.Learn.{add_clause}
 use Rattle.gh_sat.specs.Whole.{IsWhole}
@@ -101,7 +101,7 @@ invariant_of-self-2 c =
     let was : WasOpen (cut s c.args.level).trail (cut s c.args.level).starts c.args.clause =
     subst (λ (t : SearchState). WasOpen (cut t c.args.level).trail (cut t c.args.level).starts c.args.clause)
     (sym c.self.view_is) c.requires.was_open in
-    let few : length s.clauses < 4294967293 = omega (arith, c.if-len-ge4294967293.false) in
+    let few : length s.clauses < most_clauses = omega (arith, c.if-len-ge-MOST_CLAUSES.false) in
     let listed = listed_is d in
     let count : count_of c.self.inside.trail.sizes ≡ count_of c.cut_to-point.new.trail.sizes =
     ap count_of (sym e.sizes) in (
@@ -142,7 +142,7 @@ invariant_of-self-then-level-len c =
     subst (λ (t : SearchState). WasOpen t.trail t.starts c.args.clause) (sym none)
     (subst (λ (t : SearchState). WasOpen (cut t c.args.level).trail (cut t c.args.level).starts c.args.clause)
     (sym c.self.view_is) c.requires.was_open) in
-    let few : length s.clauses < 4294967293 = omega (arith, c.if-len-ge4294967293.false) in
+    let few : length s.clauses < most_clauses = omega (arith, c.if-len-ge-MOST_CLAUSES.false) in
     let listed = listed_is d in
     let hints : c.push_reserved-2.new.self.items ≡ c.self.inside.hints.items ++ c.default.result ∷ [] =
     c.push_reserved-2.ensures.items ∙ ap (λ (x : List Hint). x ++ c.default.result ∷ []) c.next_row.ensures.hints in (

@@ -7,9 +7,10 @@ use Rattle.gh_base.specs.declared.atom.Lit.{Lit}
 use Rattle.gh_base.specs.declared.sizes.Sizes.{Sizes}
 use Rattle.gh_base.specs.Atoms.{AreInRange}
 use Rattle.std.proofs.Common.{subst}
-use Rattle.gh_sat.specs.Trail.{SearchState}
+use Rattle.gh_sat.specs.Trail.{SearchState, most_clauses}
 use Rattle.gh_sat.specs.Learn.{add_clause}
 use Rattle.gh_base.proofs.ListLemmas.{get_within}
+use Rattle.gh_sat.proofs.learner.Learner.new.Goals.{In_default}
 use Rattle.gh_sat.proofs.learner.Learner.new.Goals as goal
 
 none_past : {X : Type 0} (xs : List X) (i : ℕ) → slice_get xs i ≡ None → length xs ≤ i
@@ -28,6 +29,7 @@ loop-clause-preserved c =
     take_more cs n cl lt ∙ ap (λ (x : List Lit). take n cs ++ x ∷ []) (get_or_from_slice_get cs n cl cl at) in
     record {
       within = omega arith;
+      few = c.in_ok-insert.ensures.few;
       so_far = c.in_ok-insert.ensures.ok
           ∙ ap (λ (t : SearchState). add_clause t c.in_ok-copy.field-0) c.loop-clause.invariant.so_far
           ∙ ap (λ (x : List (List Lit)).
@@ -35,13 +37,25 @@ loop-clause-preserved c =
           (ap (λ (x : List Lit). take n cs ++ x ∷ []) c.in_ok-copy.ensures ∙ sym longer);
     }
 
-pub returns : goal.returns
-returns c =
+-- all clauses were added
+all_taken : (c : In_default) → take c.loop-clause.number c.args.ground.now.clauses ≡ c.args.ground.now.clauses
+all_taken c =
     let cs = c.args.ground.now.clauses in
     let past : length cs ≤ c.loop-clause.number = none_past cs c.loop-clause.number (sym c.in_default.ensures.found) in
+    take_all c.loop-clause.number cs past
+
+pub returns-clause-over : goal.returns-clause-over
+returns-clause-over c =
     c.loop-clause.invariant.so_far ∙ ap (λ (x : List (List Lit)).
     let t : SearchState = record { sizes = c.args.ground.now.sizes; clauses = x; trail = []; starts = [] } in t)
-    (take_all c.loop-clause.number cs past)
+    (all_taken (goal.at.returns-clause-over c).In_default)
+
+pub returns-clause-few : goal.returns-clause-few
+returns-clause-few c =
+    let all = all_taken (goal.at.returns-clause-few c).In_default in
+    let is : c.loop-clause.learner.clauses ≡ c.args.ground.now.clauses =
+    ap (λ (t : SearchState). t.clauses) c.loop-clause.invariant.so_far ∙ all in
+    subst (λ (x : List (List Lit)). length x ≤ most_clauses) is c.loop-clause.invariant.few
 
 pub insert-requires-clause-range : goal.insert-requires-clause-range
 insert-requires-clause-range c =

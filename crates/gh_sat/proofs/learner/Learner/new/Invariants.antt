@@ -1,4 +1,5 @@
 use Rattle.std.proofs.Common.{◌≡◌, ◌≤◌, ◌-◌, [], take, length}
+use Rattle.gh_sat.specs.Trail.{most_clauses}
 use Rattle.gh_sat.proofs.learner.Learner.new.Given as goal
 
 abbrev pub invariant-loop-clause : goal.invariant-loop-clause
@@ -10,6 +11,7 @@ invariant-loop-clause l = record {
     trail = [];
     starts = [];
   });
+  few : length l.learner.clauses ≤ most_clauses;
 }
 
 abbrev pub decreases-loop-clause : goal.decreases-loop-clause

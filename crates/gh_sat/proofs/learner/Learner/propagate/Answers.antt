@@ -131,3 +131,6 @@ returns-clause-settled c =
 
 pub returns-clause-sound : goal.returns-clause-sound
 returns-clause-sound c = (invariant_of-self c).0.sound
+
+pub returns-clause-few : goal.returns-clause-few
+returns-clause-few c = (invariant_of-self c).0.room

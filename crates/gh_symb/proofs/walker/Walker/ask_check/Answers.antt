@@ -7,7 +7,7 @@ use Rattle.gh_symb.proofs.walker.Walker.ask_check.Goals as goal
 
 pub returns-in_ok-asked-in-CalleeEntry-clause-ended : goal.returns-in_ok-asked-in-CalleeEntry-clause-ended
 returns-in_ok-asked-in-CalleeEntry-clause-ended c = λ at check h.
-    let P = c.args.setting.program.now in
+    let P = c.args.context.program.now in
     let k = rw c.in-CalleeEntry.is at h in
     let q = c.index-callee.result.now in
     let callee : callee_in (program_of P).procedures k.0.name ≡ Some (procedure_of q) =
@@ -17,7 +17,7 @@ returns-in_ok-asked-in-CalleeEntry-clause-ended c = λ at check h.
 
 pub returns-in_ok-asked-in-CalleeEntry-clause-read : goal.returns-in_ok-asked-in-CalleeEntry-clause-read
 returns-in_ok-asked-in-CalleeEntry-clause-read c = λ at check h.
-    let P = c.args.setting.program.now in
+    let P = c.args.context.program.now in
     let k = rw c.in-CalleeEntry.is at h in
     let q = c.index-callee.result.now in
     let callee : callee_in (program_of P).procedures k.0.name ≡ Some (procedure_of q) =

@@ -6,7 +6,7 @@ use Rattle.gh_symb.proofs.walker.Walker.encode_called.Goals as goal
 
 pub returns-clause-done : goal.returns-clause-done
 returns-clause-done c = λ f k.
-    let P = c.args.setting.program.now in
+    let P = c.args.context.program.now in
     let q = c.index-callee.result.now in
     let callee : callee_in (program_of P).procedures f ≡ Some (procedure_of q) =
     called_procedure P c.args.callee q f c.index-callee.ensures k in
@@ -14,7 +14,7 @@ returns-clause-done c = λ f k.
 
 pub returns-clause-read : goal.returns-clause-read
 returns-clause-read c = λ f k.
-    let P = c.args.setting.program.now in
+    let P = c.args.context.program.now in
     let q = c.index-callee.result.now in
     let callee : callee_in (program_of P).procedures f ≡ Some (procedure_of q) =
     called_procedure P c.args.callee q f c.index-callee.ensures k in

@@ -1,25 +1,21 @@
 use Rattle.std.proofs.Common.{◌++◌, [], ◌∷◌, map, true, arith}
 use Rattle.gh_ast.specs.Plain.{test_of, formula_of, statement_of, statements_view}
-use Rattle.gh_ast.specs.Occurrences.{assigned, mentioned, returned, in_expr, in_exprs, in_test, in_formula, sites_in, all_sites_in}
+use Rattle.gh_ast.specs.Occurrences.{mentioned, returned, in_expr, in_exprs, in_test, in_formula, sites_in, all_sites_in}
 use Rattle.gh_ast.proofs.PlainLemmas.{statement_of-Set, statement_of-New, statement_of-Write, statement_of-Free, statement_of-Call, statement_of-If, statement_of-While, statement_of-Return, part_of-statements}
 use Rattle.gh_types.proofs.FirstLemmas.{first_one, first_cons, first_append, first_map, first_list, first_more, first_all, all_sites_flat}
 use Rattle.gh_types.proofs.scope.Scope.+statement.Goals as goal
 
 pub in_statement-returns-in-Set : goal.in_statement-returns-in-Set
-in_statement-returns-in-Set t c =
-    rw (c.in-Set.is, statement_of-Set)
-    (first_append _ (assigned (c.in-Set.target ∷ []) ∷ mentioned c.in-Set.target ∷ []) (map mentioned (in_expr c.in-Set.value)) _ _ _ c.earlier.ensures
-    c.in_assigned.ensures
-    (first_map _ mentioned (in_expr c.in-Set.value) _ c.in_expr.ensures))
+in_statement-returns-in-Set t c = rw (c.in-Set.is, statement_of-Set) c.in_assignment.ensures
 
 pub in_statement-returns-in-New : goal.in_statement-returns-in-New
-in_statement-returns-in-New t c = rw (c.in-New.is, statement_of-New) c.in_assigned-in-New.ensures
+in_statement-returns-in-New t c = rw (c.in-New.is, statement_of-New) c.in_assigned.ensures
 
 pub in_statement-returns-in-Write : goal.in_statement-returns-in-Write
 in_statement-returns-in-Write t c =
     rw (c.in-Write.is, statement_of-Write)
     (first_map _ mentioned (c.in-Write.at ∷ in_expr c.in-Write.value) _
-    (first_cons _ c.in-Write.at (in_expr c.in-Write.value) _ _ _ c.earlier-in-Write.ensures c.in_occurrence.ensures c.in_expr-in-Write.ensures))
+    (first_cons _ c.in-Write.at (in_expr c.in-Write.value) _ _ _ c.earlier.ensures c.in_occurrence.ensures c.in_expr.ensures))
 
 pub in_statement-returns-in-Free : goal.in_statement-returns-in-Free
 in_statement-returns-in-Free t c =

@@ -1,7 +1,7 @@
 use Rattle.std.proofs.Common.{ap}
 use Rattle.gh_ast.specs.Plain.{program_of}
 use Rattle.gh_symb.proofs.CountLemmas.{within_its}
-use Rattle.gh_symb.proofs.setting.setting_of.Goals as goal
+use Rattle.gh_symb.proofs.context.context_of.Goals as goal
 
 pub returns : goal.returns
 returns c = record {

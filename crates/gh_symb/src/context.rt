@@ -3,7 +3,7 @@
 ghost use Rattle.gh_ast.specs.Plain.{program_of};
 ghost use Rattle.gh_path.specs.Conditions as plain;
 ghost use Rattle.gh_path.specs.Kept.{StandsFor};
-ghost use Rattle.gh_symb.specs.Settings.{IsSettingOf};
+ghost use Rattle.gh_symb.specs.Contexts.{IsContextOf};
 
 use gh_ast::typed::Typed;
 use gh_ast::{Procedure, Program};
@@ -11,17 +11,17 @@ use gh_path::condition::Condition;
 
 /// A program, and one of its procedures.
 #[derive(Clone, Copy)]
-pub struct Setting<'a> {
+pub struct Context<'a> {
     pub program: &'a Program,
     pub procedure: &'a Procedure,
 }
 
 /// What a condition of a program is of.
-pub fn setting_of<'a>(typed: &'a Typed, condition: &Condition) -> Setting<'a>
+pub fn context_of<'a>(typed: &'a Typed, condition: &Condition) -> Context<'a>
     requires { (c : plain.Condition) × StandsFor (program_of typed.now) condition.now c }
-    ensures { IsSettingOf (program_of typed.now) condition.now result }
+    ensures { IsContextOf (program_of typed.now) condition.now result }
 {
     let program = typed.program();
     let procedure = &program.procedures[condition.procedure as usize];
-    Setting { program, procedure }
+    Context { program, procedure }
 }
