@@ -21,8 +21,7 @@ struct Table {
 }
 
 impl Table {
-    // All clauses. Notes the latest version of which each definition speaks, and takes the clauses that say what it
-    // stands for into its key.
+    // All clauses. Notes the latest version of which each definition speaks.
     fn new(alloc: Global, shape: &mut Shape, ground: &Ground) -> Result<Table, AllocError> {
         let mut table = Table {
             codes: Vec::new(alloc),
@@ -40,9 +39,6 @@ impl Table {
                 let codes = table.clause(number as usize);
                 let version = latest(shape, codes, defined);
                 shape.note_version(defined, version);
-                if codes.len() > 1 || shape.key(defined) == 0 {
-                    shape.note_key(defined, codes);
-                }
             }
         }
         Ok(table)
@@ -129,6 +125,22 @@ fn asked_for(alloc: Global, shape: &Shape, table: &Table) -> Result<Vec<bool>, A
         }
     }
     Ok(kept)
+}
+
+/// Takes the clauses that say what the definitions of a ground problem stand for into their keys.
+pub(crate) fn note_keys(
+    alloc: Global,
+    shape: &mut Shape,
+    ground: &Ground,
+) -> Result<(), AllocError> {
+    let table = Table::new(alloc, shape, ground)?;
+    for number in 0..table.ends.len() {
+        let (codes, defined) = (table.clause(number), table.greatest(number));
+        if defined >= shape.defs && (codes.len() > 1 || shape.key(defined) == 0) {
+            shape.note_key(defined, codes);
+        }
+    }
+    Ok(())
 }
 
 /// Adds the clauses of a ground problem that are asked for, up to a number, and has their atoms decided.

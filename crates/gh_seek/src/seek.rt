@@ -2,6 +2,7 @@
 
 use crate::known::Known;
 use crate::lemmas::try_lemmas;
+use crate::load::note_keys;
 use crate::search::{End, Searcher};
 use crate::section::section_of;
 use gh_base::atom::Lit;
@@ -20,10 +21,8 @@ pub enum Found {
     Nothing,
 }
 
-// The lesser of so many conflicts for each pair of terms and so many for each term comes before lemmas are looked for:
-// most searches need fewer, and over many terms there are many lemmas.
-const FOR_PAIRS: u64 = 4;
-
+// So many conflicts for each term come before lemmas are looked for: most searches need fewer, and over many terms
+// there are many lemmas.
 const FOR_TERMS: u64 = 40;
 
 // So many times fewer come where something is known that may serve.
@@ -36,8 +35,7 @@ const MOST_ATOMS: usize = 8000000;
 
 // How many conflicts come before lemmas are looked for.
 fn conflicts_ahead(searcher: &Searcher, known: &Known) -> u64 {
-    let terms = searcher.state.shape.terms as u64;
-    let most = terms.saturating_mul(terms.saturating_mul(FOR_PAIRS).min(FOR_TERMS));
+    let most = FOR_TERMS.saturating_mul(searcher.state.shape.terms as u64);
     if known.serves(searcher) {
         most / FEWER
     } else {
@@ -64,6 +62,7 @@ fn begin(alloc: Global, ground: &Ground, known: &mut Known) -> Result<Option<Fou
 // Searches for lemmas first, over all clauses but the last one: of a condition that one says that its check fails, and
 // without it what is found serves for later checks of the path, too. Then searches over all clauses.
 fn search(searcher: &mut Searcher, ground: &Ground, known: &mut Known) -> Result<End, AllocError> {
+    note_keys(searcher.state.alloc, &mut searcher.state.shape, ground)?;
     if let Some(conflict) = known.tell(searcher)? {
         return Ok(End::Refuted(conflict));
     }
