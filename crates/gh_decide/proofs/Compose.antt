@@ -1,8 +1,9 @@
 -- Why a program whose conditions are valid is good: by the number of steps, for all procedures, states and frames at once.
-use Rattle.std.specs.Prelude.{◌≡◌, ◌⊎◌, ℕ, zero, suc, ◌≤◌, List, [], ◌∷◌, map, length, Bool, cond, Some, None, Contains}
-use Rattle.std.proofs.lemmas.List.Elements.{Contains-append_left, Contains-append_right}
+use Rattle.std.specs.Prelude.{◌≡◌, ◌⊎◌, ℕ, zero, suc, ◌+◌, ◌≤◌, List, [], ◌∷◌, ◌++◌, map, length, Bool, cond, Some, None, Contains, slice_get}
+use Rattle.std.proofs.lemmas.Option.{slice_get_within}
 use Rattle.std.proofs.Common.{refl, sym, ◌∙◌, ap, subst, inl, inr, arith}
 use Rattle.gh_base.specs.declared.place.Span.{Span}
+use Rattle.gh_base.proofs.ListLemmas.{at_front, at_back}
 use Rattle.gh_ast.specs.declared.Occ.{Occ}
 use Rattle.gh_ast.specs.declared.Expr.{Expr}
 use Rattle.gh_ast.specs.Plain.{Test, Formula, Statement, set, new, write, free, call, choice, loop, give, Statements, no_statements, statement_first, Procedure, Program}
@@ -13,7 +14,9 @@ use Rattle.gh_assert.specs.Values.{Give, outcome}
 use Rattle.gh_ast.specs.Programs.{Name, names, parameters_of, results_of, body_of, Declares, Assigns, SomeAssigns, joined}
 use Rattle.gh_ast.proofs.Declared.{is_member}
 use Rattle.gh_machine.specs.Machine.{Activation, Config, Fault, IsRun, starting, EndsWell, IsGoodRun, IsGood}
-use Rattle.gh_path.specs.Graphs.{Graph, dead_end, ends, guarded, entry, loop_entry, loop_end, returned, all_reads, tested, called, looped, lowered, all_lowered, Loop, while, once_around, round, rounds, whole_body, loops, all_loops, loops_of}
+use Rattle.gh_path.specs.Graphs.{Graph, dead_end, ends, guarded, entry, loop_entry, loop_end, returned, all_reads, tested, called, looped, number_of, lowered, all_lowered, Loop, while, around, once_around, round, rounds, whole_body, invariant_of, meets_at, graph_from, loops, all_loops, loops_of}
+use Rattle.gh_path.specs.Kept.{IsLoop, IsCallee}
+use Rattle.gh_path.proofs.FormLemmas.{callees_are_numbered}
 use Rattle.gh_trace.specs.Traces.{State, Takes}
 use Rattle.gh_decide.specs.Rules.{ReturnsNot, AllReturnNot, LoopsReturnNot, AllLoopsReturnNot, KeepsRules, AllKeepRules}
 use Rattle.gh_decide.specs.Safe.{Safe}
@@ -26,27 +29,48 @@ use Rattle.gh_assert.proofs.Frames.{gives_whole, set_aside, taken_back, aside_ap
 use Rattle.gh_assert.proofs.Agree.{Agree, same_meaning}
 use Rattle.gh_decide.proofs.Sound.{Sound, working, state, Keeps, Goes, Ending, keeps_on, not_empty, sound_set, sound_new, sound_write, sound_free, sound_give, sound_test, sound_loop_test}
 
--- each way around each of the loops is safe
-abbrev pub RoundsSafe : Program → Procedure → List Loop → Type 0
-RoundsSafe P p ls = (l : Loop) → Contains ls l → (x : State) → Meaning l.invariant x.store x.heap → Safe P (once_around p l) x
+-- the loop has the number, and each way once around it is safe
+pub record IsRound (P : Program) (p : Procedure) (o : ℕ) (l : Loop) : Type 0 where
+  pub numbered : IsLoop p o l
+  pub safe : (x : State) → Meaning l.invariant x.store x.heap → Safe P p (once_around P o l) x
+
+-- so it is with some loops, which are numbered from o
+abbrev pub RoundsSafe : Program → Procedure → ℕ → List Loop → Type 0
+RoundsSafe P p o ls = (j : ℕ) (l : Loop) → slice_get ls j ≡ Some l → IsRound P p (o + j) l
+
+-- those of the first of two lists, and of the last
+first_rounds : (P : Program) (p : Procedure) (o : ℕ) (ls ms : List Loop) → RoundsSafe P p o (ls ++ ms) → RoundsSafe P p o ls
+first_rounds P p o ls ms rounds j l at = rounds j l (at_front ls ms j (slice_get_within ls j l at) ∙ at)
+
+last_rounds : (P : Program) (p : Procedure) (o : ℕ) (ls ms : List Loop) → RoundsSafe P p o (ls ++ ms) → RoundsSafe P p (o + length ls) ms
+last_rounds P p o ls ms rounds j l at =
+    let count : o + (length ls + j) ≡ (o + length ls) + j = omega arith in
+    subst (λ i. IsRound P p i l) count (rounds (length ls + j) l (at_back ls ms (length ls + j) j refl ∙ at))
+
+-- the first loop, and those after it
+first_round : (P : Program) (p : Procedure) (o : ℕ) (l : Loop) (ls : List Loop) → RoundsSafe P p o (l ∷ ls) → IsRound P p o l
+first_round P p o l ls rounds = let count : o + 0 ≡ o = omega arith in subst (λ i. IsRound P p i l) count (rounds 0 l refl)
+
+later_rounds : (P : Program) (p : Procedure) (o : ℕ) (l : Loop) (ls : List Loop) → RoundsSafe P p o (l ∷ ls) → RoundsSafe P p (suc o) ls
+later_rounds P p o l ls rounds j m at = let count : o + suc j ≡ suc o + j = omega arith in subst (λ i. IsRound P p i m) count (rounds (suc j) m at)
 
 pub record Ready (P : Program) : Type 0 where
   pub typed : AllKeepRules P
-  pub bodies : (p : Procedure) → Contains P.procedures p → (x : State) → Meaning p.needs x.store x.heap → Safe P (whole_body p).graph x
-  pub rounds : (p : Procedure) → Contains P.procedures p → RoundsSafe P p (loops_of p)
+  pub bodies : (p : Procedure) → Contains P.procedures p → (x : State) → Meaning p.needs x.store x.heap → Safe P p (graph_from P p whole_body) x
+  pub rounds : (p : Procedure) → Contains P.procedures p → RoundsSafe P p 0 (loops_of p)
 
--- what is known of statements that stand in the block b
-pub record Fits (P : Program) (p : Procedure) (b r : Statements) : Type 0 where
+-- what is known of statements that stand in the block b, whose first loop has the number o
+pub record Fits (P : Program) (p : Procedure) (b : Statements) (o : ℕ) (r : Statements) : Type 0 where
   pub assigns : (y : Name) → SomeAssigns r y → SomeAssigns b y
-  pub rounds : RoundsSafe P p (all_loops r)
+  pub rounds : RoundsSafe P p o (all_loops r)
   pub returns : AllLoopsReturnNot r
 
 -- the claim for up to n steps: statements that are safe, before a rest that is sound wherever they lead, are sound
 abbrev pub Claim : Program → (Config → Type 0) → ℕ → Type 0
 Claim P E n =
-    (m : ℕ) → m ≤ n → (p : Procedure) → Contains P.procedures p → (b : Statements) (xs : List Name) (s0 : Store) (F : Heap) (below : List Activation) (q : Statements) (k : Graph) (r : Statements) →
-    Goes P E F b xs s0 k p q below m → AllReturnNot r ⊎ Ending P E F b xs s0 p below m → Fits P p b r →
-    (s : Store) (a h : Heap) → Splits h a F → Safe P (all_lowered p r k) (state s a) → Keeps b xs s0 s → Sound P E m (working p s h (joined r q) below)
+    (m : ℕ) → m ≤ n → (p : Procedure) → Contains P.procedures p → (b : Statements) (xs : List Name) (s0 : Store) (F : Heap) (below : List Activation) (q : Statements) (k : Graph) (o : ℕ) (r : Statements) →
+    Goes P E F b xs s0 k p q below m → AllReturnNot r ⊎ Ending P E F b xs s0 p below m → Fits P p b o r →
+    (s : Store) (a h : Heap) → Splits h a F → Safe P p (all_lowered P o r k) (state s a) → Keeps b xs s0 s → Sound P E m (working p s h (joined r q) below)
 
 nothing_joined : (r : Statements) → joined r no_statements ≡ r
 nothing_joined no_statements = refl
@@ -71,7 +95,7 @@ less_ending P E F b xs s0 p below n m l end = record { results_in = end.results_
 module _ (P : Program) (ready : Ready P) (E : Config → Type 0) (n : ℕ) (claim : Claim P E n) (p : Procedure) (is : Contains P.procedures p) (b : Statements) (xs : List Name) (s0 : Store) (F : Heap) (below : List Activation) (rest : Statements) (g : Graph) where
   -- a call: the callee's run is shorter, and its end is the step of the path
   sound_call : (m : ℕ) → m ≤ n → (ts : List Occ) (f : Occ) (es : List Expr) → Goes P E F b xs s0 g p rest below m → ((y : Name) → Contains (names ts) y → SomeAssigns b y) → (s : Store) (a h : Heap) → Splits h a F →
-      Safe P (all_reads es (guarded (entry f es) (called ts f es) g)) (state s a) → Keeps b xs s0 s → Sound P E (suc m) (working p s h (statement_first (call ts f es) rest) below)
+      Safe P p (all_reads es (guarded (entry f.span (number_of P f.name) es) (called ts (number_of P f.name) es) g)) (state s a) → Keeps b xs s0 s → Sound P E (suc m) (working p s h (statement_first (call ts f es) rest) below)
   sound_call m l ts f es go mine s a h split safe keeps = (
     λ fault. all_read s h es r.0 up fault,
     λ ended. absurd (not_empty (call ts f es) rest ended.0),
@@ -80,8 +104,11 @@ module _ (P : Program) (ready : Ready P) (E : Config → Type 0) (n : ℕ) (clai
         subst (Sound P E m) (sym st.6) (inside st.0 st.2 st.3 (st.5 ∙ same)),
   )
     where
-      r : (vs : List ℕ) × Give s a es vs × Safe P (guarded (entry f es) (called ts f es) g) (state s a)
-      r = after_reads P es (guarded (entry f es) (called ts f es) g) (state s a) safe
+      num : ℕ
+      num = number_of P f.name
+
+      r : (vs : List ℕ) × Give s a es vs × Safe P p (guarded (entry f.span num es) (called ts num es) g) (state s a)
+      r = after_reads P p es (guarded (entry f.span num es) (called ts num es) g) (state s a) safe
 
       up : Give s h es r.0
       up = gives_whole s h a F split es r.0 r.1
@@ -92,7 +119,7 @@ module _ (P : Program) (ready : Ready P) (E : Config → Type 0) (n : ℕ) (clai
       inside : (c : Procedure) (t : Store) → Declares P f.name c → map t (parameters_of c) ≡ r.0 → Sound P E m (working c t h (body_of c) (caller ∷ below))
       inside c t decl params =
           subst (λ body. Sound P E m (working c t h body (caller ∷ below))) (nothing_joined (body_of c))
-          (claim m l c known (body_of c) (results_of c) t (union part.1 F) (caller ∷ below) no_statements (ends (returned c.close c.gives)) (body_of c)
+          (claim m l c known (body_of c) (results_of c) t (union part.1 F) (caller ∷ below) no_statements (ends (returned c.close)) 0 (body_of c)
           (λ j k u a' h' sp done keep. back j k u a' h' sp done keep)
           (inr (record { results_in = λ y i. i; finish = back }))
           (record { assigns = λ y i. i; rounds = ready.rounds c known; returns = typed.loops_return_not })
@@ -104,8 +131,11 @@ module _ (P : Program) (ready : Ready P) (E : Config → Type 0) (n : ℕ) (clai
           typed : KeepsRules c
           typed = ready.typed c known
 
+          callee : IsCallee P num c
+          callee = (callees_are_numbered P f.name c).1 decl
+
           part : HasPart c.needs t a
-          part = r.2.0 c r.0 t decl r.1 params
+          part = r.2.0 c r.0 t callee r.1 params
 
           back : (j : ℕ) → j ≤ m → (u : Store) (a' h' : Heap) → Splits h' a' (union part.1 F) → MeetsOneOf c.gives u a' → Keeps (body_of c) (results_of c) t u → Sound P E j (working c u h' no_statements (caller ∷ below))
           back zero k u a' h' sp met keep = tt
@@ -115,10 +145,10 @@ module _ (P : Program) (ready : Ready P) (E : Config → Type 0) (n : ℕ) (clai
             λ d st.
                 let agree : Agree (parameters_of c) t u = λ y i. sym (keep y (typed.parameters_stay y i) (typed.distinct y i)) in
                 let whole = taken_back h' a' part.1 F sp (aside_apart h a F part.0 part.1 split part.2) in
-                let step : Takes P (called ts f es) (state s a) (state st.0 (union a' part.1)) = (
+                let step : Takes P p (called ts num es) (state s a) (state st.0 (union a' part.1)) = (
                   c,
                   r.0,
-                  decl,
+                  callee,
                   r.1,
                   record {
                     inside = u;
@@ -140,14 +170,17 @@ module _ (P : Program) (ready : Ready P) (E : Config → Type 0) (n : ℕ) (clai
           )
 
   -- a loop: round after round from its own start, and out by the step of the path
-  sound_loop : (m : ℕ) → m ≤ n → (at : Span) (test : Test) (i : Formula) (body : Statements) (close : Span) → Goes P E F b xs s0 g p rest below m →
-      ((x : State) → Meaning i x.store x.heap → Safe P (once_around p (while at test i body close)) x) → RoundsSafe P p (all_loops body) → AllReturnNot body → AllLoopsReturnNot body → ((y : Name) → SomeAssigns body y → SomeAssigns b y) →
-      (s : Store) (a h : Heap) → Splits h a F → Safe P (guarded (loop_entry (while at test i body close)) (looped (while at test i body close)) (tested test dead_end g)) (state s a) → Keeps b xs s0 s → Sound P E (suc m) (working p s h (statement_first (loop at test i body close) rest) below)
-  sound_loop m l at test i body close go around rounds none inner mine s a h split safe keeps =
+  sound_loop : (m : ℕ) → m ≤ n → (o : ℕ) (at : Span) (test : Test) (i : Formula) (body : Statements) (close : Span) → Goes P E F b xs s0 g p rest below m →
+      IsRound P p o (while at test i body close) → RoundsSafe P p (suc o) (all_loops body) → AllReturnNot body → AllLoopsReturnNot body → ((y : Name) → SomeAssigns body y → SomeAssigns b y) →
+      (s : Store) (a h : Heap) → Splits h a F → Safe P p (guarded (loop_entry at o) (looped o) (tested test dead_end g)) (state s a) → Keeps b xs s0 s → Sound P E (suc m) (working p s h (statement_first (loop at test i body close) rest) below)
+  sound_loop m l o at test i body close go around rounds none inner mine s a h split safe keeps =
       again (suc m) (suc m) (omega arith) (omega arith) s part.0 h (set_aside h a F part.0 part.1 split part.2) part.3 (λ y _ _. refl)
     where
+      this : Loop
+      this = while at test i body close
+
       part : HasPart i s a
-      part = safe.0
+      part = safe.0 this around.numbered
 
       here : Statements
       here = statement_first (loop at test i body close) rest
@@ -164,19 +197,23 @@ module _ (P : Program) (ready : Ready P) (E : Config → Type 0) (n : ℕ) (clai
           back : Splits k (union c part.1) F × Splits (union c part.1) c part.1
           back = taken_back k c part.1 F sp (aside_apart h a F part.0 part.1 split part.2)
 
-          out : Safe P (tested test dead_end g) (state t (union c part.1))
+          out : Safe P p (tested test dead_end g) (state t (union c part.1))
           out = safe.1 (state t (union c part.1)) (
-            record { part = part.0; frame = part.1; other = c; splits = part.2; met = part.3; joins = back.1; meets = met },
-            λ y no. keep y no (no_member y),
+            this,
+            around.numbered,
+            record {
+              replaced = record { part = part.0; frame = part.1; other = c; splits = part.2; met = part.3; joins = back.1; meets = met };
+              kept = λ y no. keep y no (no_member y);
+            },
           )
 
           kept : Keeps b xs s0 t
           kept y nb nx = keep y (λ q. nb (mine y q)) (no_member y) ∙ keeps y nb nx
 
           both : (outcome t k test ≡ None → ⊥) × ((way : Bool) → outcome t k test ≡ Some way → Sound P E j (working p t k (cond way (joined body here) rest) below))
-          both = sound_loop_test P E j p t c part.1 k F (joined body here) rest below test (all_lowered p body (ends (loop_end (while at test i body close)))) g sp back.0 back.1 (around (state t c) met) out
-              (λ body_safe. claim j (omega (arith, v, l)) p is body [] s (union part.1 F) below here (ends (loop_end (while at test i body close))) body
-              (λ e le t' c' k' sp' done keep'. more e le t' c' k' sp' done keep')
+          both = sound_loop_test P E j p t c part.1 k F (joined body here) rest below test (all_lowered P (suc o) body (ends (loop_end close o))) g sp back.0 back.1 (around.safe (state t c) met) out
+              (λ body_safe. claim j (omega (arith, v, l)) p is body [] s (union part.1 F) below here (ends (loop_end close o)) (suc o) body
+              (λ e le t' c' k' sp' done keep'. more e le t' c' k' sp' (done this around.numbered) keep')
               (inl none) (record { assigns = λ y q. q; rounds = rounds; returns = inner }) t c k sp body_safe keep)
               (λ rest_safe. go j (omega (arith, v)) t (union c part.1) k back.0 rest_safe kept)
 
@@ -188,23 +225,24 @@ module _ (P : Program) (ready : Ready P) (E : Config → Type 0) (n : ℕ) (clai
 
 module _ (P : Program) (ready : Ready P) (E : Config → Type 0) where
   -- one statement, and then the rest of the block
-  by_first : (n : ℕ) → Claim P E n → (m : ℕ) → m ≤ n → (p : Procedure) → Contains P.procedures p → (b : Statements) (xs : List Name) (s0 : Store) (F : Heap) (below : List Activation) (q : Statements) (g : Graph) (st : Statement) →
-      Goes P E F b xs s0 g p q below m → ReturnsNot st ⊎ Ending P E F b xs s0 p below (suc m) → ((y : Name) → Assigns st y → SomeAssigns b y) → RoundsSafe P p (loops st) → LoopsReturnNot st →
-      (s : Store) (a h : Heap) → Splits h a F → Safe P (lowered p st g) (state s a) → Keeps b xs s0 s → Sound P E (suc m) (working p s h (statement_first st q) below)
-  by_first n claim m l p is b xs s0 F below q g (set x e) go end mine rounds returns s a h split safe keeps =
+  by_first : (n : ℕ) → Claim P E n → (m : ℕ) → m ≤ n → (p : Procedure) → Contains P.procedures p → (b : Statements) (xs : List Name) (s0 : Store) (F : Heap) (below : List Activation) (q : Statements) (g : Graph) (o : ℕ) (st : Statement) →
+      Goes P E F b xs s0 g p q below m → ReturnsNot st ⊎ Ending P E F b xs s0 p below (suc m) → ((y : Name) → Assigns st y → SomeAssigns b y) → RoundsSafe P p o (loops st) → LoopsReturnNot st →
+      (s : Store) (a h : Heap) → Splits h a F → Safe P p (lowered P o st g) (state s a) → Keeps b xs s0 s → Sound P E (suc m) (working p s h (statement_first st q) below)
+  by_first n claim m l p is b xs s0 F below q g o (set x e) go end mine rounds returns s a h split safe keeps =
       sound_set P E F b xs s0 g p q below m s a h x e go split safe (mine x.name refl) keeps
-  by_first n claim m l p is b xs s0 F below q g (new x) go end mine rounds returns s a h split safe keeps =
+  by_first n claim m l p is b xs s0 F below q g o (new x) go end mine rounds returns s a h split safe keeps =
       sound_new P E F b xs s0 g p q below m s a h x go split safe (mine x.name refl) keeps
-  by_first n claim m l p is b xs s0 F below q g (write x e) go end mine rounds returns s a h split safe keeps =
+  by_first n claim m l p is b xs s0 F below q g o (write x e) go end mine rounds returns s a h split safe keeps =
       sound_write P E F b xs s0 g p q below m s a h x e go split safe keeps
-  by_first n claim m l p is b xs s0 F below q g (free x) go end mine rounds returns s a h split safe keeps =
+  by_first n claim m l p is b xs s0 F below q g o (free x) go end mine rounds returns s a h split safe keeps =
       sound_free P E F b xs s0 g p q below m s a h x go split safe keeps
-  by_first n claim m l p is b xs s0 F below q g (call ts f es) go end mine rounds returns s a h split safe keeps =
+  by_first n claim m l p is b xs s0 F below q g o (call ts f es) go end mine rounds returns s a h split safe keeps =
       sound_call P ready E n claim p is b xs s0 F below q g m l ts f es go mine s a h split safe keeps
-  by_first n claim m l p is b xs s0 F below q g (choice t r1 c1 r2 c2) go end mine rounds returns s a h split safe keeps =
-      let both = sound_test P E m p s a h F (joined r1 q) (joined r2 q) below t (all_lowered p r1 g) (all_lowered p r2 g) split safe
-      (λ one. claim m l p is b xs s0 F below q g r1 go (first_end end) (record { assigns = λ y i. mine y (inl i); rounds = λ l i. rounds l (Contains-append_left (all_loops r1) (all_loops r2) l i); returns = returns.0 }) s a h split one keeps)
-      (λ two. claim m l p is b xs s0 F below q g r2 go (second_end end) (record { assigns = λ y i. mine y (inr i); rounds = λ l i. rounds l (Contains-append_right (all_loops r1) (all_loops r2) l i); returns = returns.1 }) s a h split two keeps) in (
+  by_first n claim m l p is b xs s0 F below q g o (choice t r1 c1 r2 c2) go end mine rounds returns s a h split safe keeps =
+      let both = sound_test P E m p s a h F (joined r1 q) (joined r2 q) below t (all_lowered P o r1 g) (all_lowered P (o + length (all_loops r1)) r2 g) split safe
+      (λ one. claim m l p is b xs s0 F below q g o r1 go (first_end end) (record { assigns = λ y i. mine y (inl i); rounds = first_rounds P p o (all_loops r1) (all_loops r2) rounds; returns = returns.0 }) s a h split one keeps)
+      (λ two. claim m l p is b xs s0 F below q g (o + length (all_loops r1)) r2 go (second_end end)
+      (record { assigns = λ y i. mine y (inr i); rounds = last_rounds P p o (all_loops r1) (all_loops r2) rounds; returns = returns.1 }) s a h split two keeps) in (
         both.0,
         λ ended. absurd (not_empty (choice t r1 c1 r2 c2) q ended.0),
         λ d st. subst (Sound P E m) (sym st.2) (both.1 st.0 st.1),
@@ -215,23 +253,23 @@ module _ (P : Program) (ready : Ready P) (E : Config → Type 0) where
 
       second_end : (AllReturnNot r1 × AllReturnNot r2) ⊎ Ending P E F b xs s0 p below (suc m) → AllReturnNot r2 ⊎ Ending P E F b xs s0 p below m
       second_end e = elim e [ inl none ↦ inl none.1 | inr some ↦ inr (less_ending P E F b xs s0 p below (suc m) m (omega arith) some) ]
-  by_first n claim m l p is b xs s0 F below q g (loop at t i body close) go end mine rounds returns s a h split safe keeps =
-      sound_loop P ready E n claim p is b xs s0 F below q g m l at t i body close go (rounds (while at t i body close) (member_first (while at t i body close) (all_loops body))) (λ l there. rounds l (member_later (while at t i body close) l (all_loops body) there)) returns.0 returns.1 mine s a h split safe keeps
-  by_first n claim m l p is b xs s0 F below q g (give at es) go end mine rounds returns s a h split safe keeps = elim end [
+  by_first n claim m l p is b xs s0 F below q g o (loop at t i body close) go end mine rounds returns s a h split safe keeps =
+      sound_loop P ready E n claim p is b xs s0 F below q g m l o at t i body close go (first_round P p o (while at t i body close) (all_loops body) rounds) (later_rounds P p o (while at t i body close) (all_loops body) rounds) returns.0 returns.1 mine s a h split safe keeps
+  by_first n claim m l p is b xs s0 F below q g o (give at es) go end mine rounds returns s a h split safe keeps = elim end [
     | inl none ↦ absurd none
     | inr some ↦ sound_give P E F b xs s0 g p q below m s a h at es some split safe keeps
   ]
 
-  by_rest : (n : ℕ) → Claim P E n → (m : ℕ) → m ≤ suc n → (p : Procedure) → Contains P.procedures p → (b : Statements) (xs : List Name) (s0 : Store) (F : Heap) (below : List Activation) (q : Statements) (k : Graph) (r : Statements) →
-      Goes P E F b xs s0 k p q below m → AllReturnNot r ⊎ Ending P E F b xs s0 p below m → Fits P p b r →
-      (s : Store) (a h : Heap) → Splits h a F → Safe P (all_lowered p r k) (state s a) → Keeps b xs s0 s → Sound P E m (working p s h (joined r q) below)
-  by_rest n claim m l p is b xs s0 F below q k no_statements go end fits s a h split safe keeps = go m (omega arith) s a h split safe keeps
-  by_rest n claim zero l p is b xs s0 F below q k (statement_first st r) go end fits s a h split safe keeps = tt
-  by_rest n claim (suc m) l p is b xs s0 F below q k (statement_first st r) go end fits s a h split safe keeps =
-      by_first n claim m (omega (arith, l)) p is b xs s0 F below (joined r q) (all_lowered p r k) st
-      (λ j lj t c h' sp sf kp. claim j (omega (arith, lj, l)) p is b xs s0 F below q k r (less_goes P E F b xs s0 k p q below (suc m) j (omega (arith, lj)) go) (rest_end j lj end)
-      (record { assigns = λ y i. fits.assigns y (inr i); rounds = λ l i. fits.rounds l (Contains-append_right (loops st) (all_loops r) l i); returns = fits.returns.1 }) t c h' sp sf kp)
-      (first_end end) (λ y i. fits.assigns y (inl i)) (λ l i. fits.rounds l (Contains-append_left (loops st) (all_loops r) l i)) fits.returns.0 s a h split safe keeps
+  by_rest : (n : ℕ) → Claim P E n → (m : ℕ) → m ≤ suc n → (p : Procedure) → Contains P.procedures p → (b : Statements) (xs : List Name) (s0 : Store) (F : Heap) (below : List Activation) (q : Statements) (k : Graph) (o : ℕ) (r : Statements) →
+      Goes P E F b xs s0 k p q below m → AllReturnNot r ⊎ Ending P E F b xs s0 p below m → Fits P p b o r →
+      (s : Store) (a h : Heap) → Splits h a F → Safe P p (all_lowered P o r k) (state s a) → Keeps b xs s0 s → Sound P E m (working p s h (joined r q) below)
+  by_rest n claim m l p is b xs s0 F below q k o no_statements go end fits s a h split safe keeps = go m (omega arith) s a h split safe keeps
+  by_rest n claim zero l p is b xs s0 F below q k o (statement_first st r) go end fits s a h split safe keeps = tt
+  by_rest n claim (suc m) l p is b xs s0 F below q k o (statement_first st r) go end fits s a h split safe keeps =
+      by_first n claim m (omega (arith, l)) p is b xs s0 F below (joined r q) (all_lowered P (o + length (loops st)) r k) o st
+      (λ j lj t c h' sp sf kp. claim j (omega (arith, lj, l)) p is b xs s0 F below q k (o + length (loops st)) r (less_goes P E F b xs s0 k p q below (suc m) j (omega (arith, lj)) go) (rest_end j lj end)
+      (record { assigns = λ y i. fits.assigns y (inr i); rounds = last_rounds P p o (loops st) (all_loops r) fits.rounds; returns = fits.returns.1 }) t c h' sp sf kp)
+      (first_end end) (λ y i. fits.assigns y (inl i)) (first_rounds P p o (loops st) (all_loops r) fits.rounds) fits.returns.0 s a h split safe keeps
     where
       first_end : (ReturnsNot st × AllReturnNot r) ⊎ Ending P E F b xs s0 p below (suc m) → ReturnsNot st ⊎ Ending P E F b xs s0 p below (suc m)
       first_end e = elim e [ inl none ↦ inl none.0 | inr some ↦ inr some ]
@@ -240,9 +278,9 @@ module _ (P : Program) (ready : Ready P) (E : Config → Type 0) where
       rest_end j lj e = elim e [ inl none ↦ inl none.1 | inr some ↦ inr (less_ending P E F b xs s0 p below (suc m) j (omega (arith, lj)) some) ]
 
   pub every : (n : ℕ) → Claim P E n
-  every zero zero l p is b xs s0 F below q k r go end fits s a h split safe keeps = tt
-  every zero (suc m) l p is b xs s0 F below q k r go end fits s a h split safe keeps = absurd (omega (arith, l))
-  every (suc n) m l p is b xs s0 F below q k r go end fits s a h split safe keeps = by_rest n (every n) m l p is b xs s0 F below q k r go end fits s a h split safe keeps
+  every zero zero l p is b xs s0 F below q k o r go end fits s a h split safe keeps = tt
+  every zero (suc m) l p is b xs s0 F below q k o r go end fits s a h split safe keeps = absurd (omega (arith, l))
+  every (suc n) m l p is b xs s0 F below q k o r go end fits s a h split safe keeps = by_rest n (every n) m l p is b xs s0 F below q k o r go end fits s a h split safe keeps
 
 -- from enough steps to whole runs
 sound_run : (P : Program) (p : Procedure) (frame : Heap) (c : Config) (ds : List Config) → Sound P (EndsWell p frame) (suc (length ds)) c → IsRun P c ds → IsGoodRun p frame c ds
@@ -260,7 +298,7 @@ pub ready_is_good : (P : Program) → Ready P → IsGood P
 ready_is_good P ready p is s h part frame split met ds run =
     sound_run P p frame (starting p s h []) ds
     (subst (λ body. Sound P E n (working p s h body [])) (nothing_joined (body_of p))
-    (every P ready E n n (omega arith) p is (body_of p) (results_of p) s frame [] no_statements (ends (returned p.close p.gives)) (body_of p)
+    (every P ready E n n (omega arith) p is (body_of p) (results_of p) s frame [] no_statements (ends (returned p.close)) 0 (body_of p)
     (λ j l t a k sp done keep. finish j l t a k sp done keep)
     (inr (record { results_in = λ y i. i; finish = finish }))
     (record { assigns = λ y i. i; rounds = ready.rounds p is; returns = typed.loops_return_not })
@@ -281,18 +319,33 @@ ready_is_good P ready p is s h part frame split met ds run =
     finish (suc j) l t a k sp m keep = (λ fault. fault, λ ended. (a, sp, m), λ d step. absurd step)
 
 -- a loop of the procedure is one of its starts
-numbered : (p : Procedure) (n : ℕ) (ls : List Loop) (l : Loop) → Contains ls l → (k : ℕ) × Contains (rounds p n ls) (round p k l)
-numbered p n [] l i = absurd (no_member l i)
-numbered p n (m ∷ ls) l i = elim (member_cases m ls l i) [
-  | inl same ↦ (n, subst (λ q. Contains (rounds p n (m ∷ ls)) (round p n q)) same (member_first (round p n m) (rounds p (suc n) ls)))
-  | inr more ↦ let found = numbered p (suc n) ls l more in (found.0, member_later (round p n m) (round p found.0 l) (rounds p (suc n) ls) found.1)
-]
+round_there : (o : ℕ) (ls : List Loop) (j : ℕ) (l : Loop) → slice_get ls j ≡ Some l → Contains (rounds o ls) (round (o + j))
+round_there o [] j l at = absurd cc
+round_there o (m ∷ ls) zero l at = let count : o ≡ o + 0 = omega arith in subst (λ k. Contains (rounds o (m ∷ ls)) (round k)) count (member_first (round o) (rounds (suc o) ls))
+round_there o (m ∷ ls) (suc j) l at =
+    let count : suc o + j ≡ o + suc j = omega arith in
+    subst (λ k. Contains (rounds o (m ∷ ls)) (round k)) count (member_later (round o) (round (suc o + j)) (rounds (suc o) ls) (round_there (suc o) ls j l at))
+
+-- the ways from it are those once around
+around_loop : (P : Program) (p : Procedure) (o : ℕ) (l : Loop) (x : State) → IsLoop p o l → Safe P p (graph_from P p (round o)) x → Safe P p (once_around P o l) x
+around_loop P p o l x at safe = subst (λ f. Safe P p (around P o f) x) at safe
+
+-- and what its start meets is its invariant
+met_there : (p : Procedure) (o : ℕ) (l : Loop) (x : State) → IsLoop p o l → Meaning l.invariant x.store x.heap → Meaning (meets_at p (round o)) x.store x.heap
+met_there p o l x at met = subst (λ f. Meaning (invariant_of f) x.store x.heap) (sym at) met
 
 pub composition : Composition
-composition P typed pass = ready_is_good P (record {
-  typed = typed;
-  bodies = λ p is x met. from_paths P (whole_body p).graph x (pass p is (whole_body p) (member_first (whole_body p) (rounds p 0 (loops_of p))) x met);
-  rounds = λ p is l there x met.
-      let found = numbered p 0 (loops_of p) l there in
-      from_paths P (once_around p l) x (pass p is (round p found.0 l) (member_later (whole_body p) (round p found.0 l) (rounds p 0 (loops_of p)) found.1) x met);
-})
+composition P typed pass = ready_is_good P (record { typed = typed; bodies = bodies; rounds = around_each })
+  where
+    bodies : (p : Procedure) → Contains P.procedures p → (x : State) → Meaning p.needs x.store x.heap → Safe P p (graph_from P p whole_body) x
+    bodies p is x met = from_paths P p (graph_from P p whole_body) x (pass p is whole_body (member_first whole_body (rounds 0 (loops_of p))) x met)
+
+    at_start : (p : Procedure) → Contains P.procedures p → (o : ℕ) (l : Loop) → IsLoop p o l → Contains (rounds 0 (loops_of p)) (round o) → IsRound P p o l
+    at_start p is o l at there = record {
+      numbered = at;
+      safe = λ x met. around_loop P p o l x at
+          (from_paths P p (graph_from P p (round o)) x (pass p is (round o) (member_later whole_body (round o) (rounds 0 (loops_of p)) there) x (met_there p o l x at met)));
+    }
+
+    around_each : (p : Procedure) → Contains P.procedures p → RoundsSafe P p 0 (loops_of p)
+    around_each p is j l at = let count : j ≡ 0 + j = omega arith in at_start p is (0 + j) l (subst (λ k. IsLoop p k l) count at) (round_there 0 (loops_of p) j l at)

@@ -7,23 +7,21 @@ use Rattle.gh_ast.specs.Plain.{Program}
 use Rattle.gh_ast.proofs.Lists.{no_member, only_member}
 use Rattle.gh_path.specs.Answers.{IsNumbered}
 use Rattle.gh_path.specs.Conditions.{Condition, conditions}
+use Rattle.gh_path.specs.Kept.{condition_of}
 use Rattle.gh_path.specs.declared.condition.Condition as kept
-use Rattle.gh_symb.specs.Symbolic.{symbolic_of}
-use Rattle.gh_symb.specs.Formulas.{problem}
 use Rattle.gh_trace.specs.Kept.{HasNoCounterexample}
 use Rattle.gh_trace.specs.Validity.{IsConditionValid, ListedAreValid}
 use Rattle.gh_trace.proofs.FirstRefuted.{taken_more, next_one}
 use Rattle.gh_log.specs.Lines.{LogLine}
 use Rattle.gh_log.specs.declared.lines.Log.{Log}
 use Rattle.gh_log.specs.declared.lines.Section.{Section}
-use Rattle.gh_log.specs.Sections.{IsValidSection}
 use Rattle.gh_log.specs.Spelled.{IsSpelledLine, IsSpelled, lines_of}
 use Rattle.gh_decide.specs.Decided.{AreValidUpTo, AreDecided}
-use Rattle.gh_decide.specs.Logs.{AreValidSections}
+use Rattle.gh_decide.specs.Logs.{AreValidSections, IsSectionOf}
 use Rattle.gh_decide.specs.Outcomes.{IsVerified}
 use Rattle.gh_decide.specs.Verdicts.{IsWritable, IsShown}
 
-sections_more : (P : Program) (cs : List Condition) (ss : List (List LogLine)) (c : Condition) (s : List LogLine) → AreValidSections P cs ss → IsValidSection (problem (symbolic_of P c)) s → AreValidSections P (cs ++ c ∷ []) (ss ++ s ∷ [])
+sections_more : (P : Program) (cs : List Condition) (ss : List (List LogLine)) (c : Condition) (s : List LogLine) → AreValidSections P cs ss → IsSectionOf P c s → AreValidSections P (cs ++ c ∷ []) (ss ++ s ∷ [])
 sections_more P [] [] c s valid more = (more, record {})
 sections_more P [] (t ∷ ss) c s valid more = absurd valid
 sections_more P (d ∷ ds) [] c s valid more = absurd valid
@@ -52,23 +50,21 @@ taken_one P k c at = let more : k + 1 ≡ suc k = omega arith in ap (λ n. take 
 -- one condition more is valid
 pub valid_more : (P : Program) (k : ℕ) (r : kept.Condition) → IsNumbered P (k + 1) (Some r) → HasNoCounterexample P r → AreValidUpTo P k → AreValidUpTo P (k + 1)
 valid_more P k r found valid before d i =
-    let one = next_one P k r found in
-    let c : Condition = one.0 in
+    let c : Condition = condition_of r in
     let cs : List Condition = take k (conditions P) in
-    elim (Contains-append_cases cs (c ∷ []) d (subst (λ (xs : List Condition). Contains xs d) (taken_one P k c one.1) i)) [
+    elim (Contains-append_cases cs (c ∷ []) d (subst (λ (xs : List Condition). Contains xs d) (taken_one P k c (next_one P k r found)) i)) [
       | inl earlier ↦ before d earlier
-      | inr last ↦ subst (IsConditionValid P) (sym (only_member c d last)) (valid c one.2)
+      | inr last ↦ subst (IsConditionValid P) (sym (only_member c d last)) valid
     ]
 
 -- with its section
 pub decided_more : (P : Program) (k : ℕ) (r : kept.Condition) (s : Section) (old new : List Section) → IsNumbered P (k + 1) (Some r) → IsShown P r s → new ≡ old ++ s ∷ [] → AreDecided P k old → AreDecided P (k + 1) new
 decided_more P k r s old new found shown pushed before =
-    let one = next_one P k r found in
-    let c : Condition = one.0 in
+    let c : Condition = condition_of r in
     let cs : List Condition = take k (conditions P) in
-    let taken : take (k + 1) (conditions P) ≡ cs ++ c ∷ [] = taken_one P k c one.1 in
+    let taken : take (k + 1) (conditions P) ≡ cs ++ c ∷ [] = taken_one P k c (next_one P k r found) in
     let lines : lines_of new ≡ lines_of old ++ s.lines ∷ [] = ap lines_of pushed ∙ map-append (λ (t : Section). t.lines) old (s ∷ []) in
-    let sections = sections_more P cs (lines_of old) c s.lines before.log (shown.section c one.2) in
+    let sections = sections_more P cs (lines_of old) c s.lines before.log shown.section in
     record {
       valid = valid_more P k r found shown.valid before.valid;
       log = subst (λ (xs : List Condition). AreValidSections P xs (lines_of new)) (sym taken) (subst (AreValidSections P (cs ++ c ∷ [])) (sym lines) sections);

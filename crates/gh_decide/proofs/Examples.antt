@@ -11,11 +11,11 @@ use Rattle.gh_assert.proofs.Cells.{no_cells, get_nothing, get_put, get_beside}
 use Rattle.gh_assert.proofs.Unions.{one_cell, is_one_cell}
 use Rattle.gh_ast.specs.Programs.{body_of}
 use Rattle.gh_machine.specs.Machine.{Config, starting, continuing, IsRun, IsGoodRun, IsGood}
-use Rattle.gh_path.specs.Graphs.{Start, starts, whole_body}
+use Rattle.gh_path.specs.Graphs.{Start, starts, whole_body, meets_at, graph_from}
 use Rattle.gh_trace.specs.Traces.{State}
 use Rattle.gh_decide.specs.Rules.{AllKeepRules, KeepsRules}
 use Rattle.gh_decide.specs.Examples.{x, with_cell, alone, cuts, leaks, frees_twice}
-use Rattle.gh_decide.specs.Safe.{Safe, PathsPass, AllPass}
+use Rattle.gh_decide.specs.Safe.{Safe, AllPass}
 use Rattle.gh_decide.specs.Laws.{ExamplesHold}
 use Rattle.gh_ast.proofs.Lists.{member_first, member_later, no_member, only_member}
 use Rattle.gh_decide.proofs.Safe.{to_paths}
@@ -65,7 +65,7 @@ freed_twice good =
 cut_cell : (h : Heap) (l to v : ℕ) → IsCell l to h → IsCell l v (insert h l v)
 cut_cell h l to v is = record { not_null = is.not_null; here = get_put h l v; elsewhere = λ q away. get_beside h l v q away ∙ is.elsewhere q away }
 
-cuts_safe : (s : State) → Meaning cuts.needs s.store s.heap → Safe (alone cuts) (whole_body cuts).graph s
+cuts_safe : (s : State) → Meaning cuts.needs s.store s.heap → Safe (alone cuts) cuts (graph_from (alone cuts) cuts whole_body) s
 cuts_safe s (to, is) = (
   (to, is.here),
   λ y t z u.
@@ -83,15 +83,16 @@ cuts_typed p there = subst KeepsRules (sym (only_member cuts p there)) (record {
 })
 
 cuts_pass : AllPass (alone cuts)
-cuts_pass p there a among s met = by_procedure p (only_member cuts p there) a among s met
+cuts_pass p there a among s met = to_paths (alone cuts) p (graph_from (alone cuts) p a) s (by_procedure p (only_member cuts p there) a among s met)
   where
-    by_start : (a : Start) → Contains (starts cuts) a → (s : State) → Meaning a.meets s.store s.heap → Safe (alone cuts) a.graph s
+    by_start : (a : Start) → Contains (starts cuts) a → (s : State) → Meaning (meets_at cuts a) s.store s.heap → Safe (alone cuts) cuts (graph_from (alone cuts) cuts a) s
     by_start a among s met =
-        let same : a ≡ whole_body cuts = only_member (whole_body cuts) a among in
-        subst (λ b. Meaning b.meets s.store s.heap → Safe (alone cuts) b.graph s) (sym same) (cuts_safe s) met
+        let same : a ≡ whole_body = only_member whole_body a among in
+        subst (λ b. Meaning (meets_at cuts b) s.store s.heap → Safe (alone cuts) cuts (graph_from (alone cuts) cuts b) s) (sym same) (cuts_safe s) met
 
-    by_procedure : (p : Procedure) → p ≡ cuts → (a : Start) → Contains (starts p) a → (s : State) → Meaning a.meets s.store s.heap → PathsPass (alone cuts) a.graph s
-    by_procedure p same a among s met = to_paths (alone cuts) a.graph s (by_start a (subst (λ q. Contains (starts q) a) same among) s met)
+    by_procedure : (p : Procedure) → p ≡ cuts → (a : Start) → Contains (starts p) a → (s : State) → Meaning (meets_at p a) s.store s.heap → Safe (alone cuts) p (graph_from (alone cuts) p a) s
+    by_procedure p same =
+        subst (λ q. (a : Start) → Contains (starts q) a → (s : State) → Meaning (meets_at q a) s.store s.heap → Safe (alone cuts) q (graph_from (alone cuts) q a) s) (sym same) by_start
 
 pub examples_hold : ExamplesHold
 examples_hold = record {

@@ -38,7 +38,7 @@ Keeps b xs s t = (y : Name) → (SomeAssigns b y → ⊥) → (Contains xs y →
 -- wherever the graph g is safe in a heap beside the frame, the rest is sound for up to n steps
 abbrev pub Goes : Program → (Config → Type 0) → Heap → Statements → List Name → Store → Graph → Procedure → Statements → List Activation → ℕ → Type 0
 Goes P E F b xs s0 g p rest below n =
-    (j : ℕ) → j ≤ n → (t : Store) (a h : Heap) → Splits h a F → Safe P g (state t a) → Keeps b xs s0 t → Sound P E j (working p t h rest below)
+    (j : ℕ) → j ≤ n → (t : Store) (a h : Heap) → Splits h a F → Safe P p g (state t a) → Keeps b xs s0 t → Sound P E j (working p t h rest below)
 
 -- where a procedure may return: its end is sound
 pub record Ending (P : Program) (E : Config → Type 0) (F : Heap) (b : Statements) (xs : List Name) (s0 : Store) (p : Procedure) (below : List Activation) (n : ℕ) : Type 0 where
@@ -52,9 +52,9 @@ pub not_empty : (s : Statement) (ss : Statements) → statement_first s ss ≡ n
 not_empty s ss e = absurd cc
 
 module _ (P : Program) (E : Config → Type 0) (F : Heap) (b : Statements) (xs : List Name) (s0 : Store) (g : Graph) (p : Procedure) (rest : Statements) (below : List Activation) (n : ℕ) (s : Store) (a h : Heap) where
-  pub sound_set : (x : Occ) (e : Expr) → Goes P E F b xs s0 g p rest below n → Splits h a F → Safe P (reads e (moves (assigned x e) g)) (state s a) → SomeAssigns b x.name → Keeps b xs s0 s → Sound P E (suc n) (working p s h (statement_first (set x e) rest) below)
+  pub sound_set : (x : Occ) (e : Expr) → Goes P E F b xs s0 g p rest below n → Splits h a F → Safe P p (reads e (moves (assigned x e) g)) (state s a) → SomeAssigns b x.name → Keeps b xs s0 s → Sound P E (suc n) (working p s h (statement_first (set x e) rest) below)
   sound_set x e go split safe mine keeps =
-      let r = after_read P e (moves (assigned x e) g) (state s a) safe in
+      let r = after_read P p e (moves (assigned x e) g) (state s a) safe in
       let up : result s h e ≡ Some r.0 = reads_whole s h a F split e r.0 r.1 in (
         λ none. not_both (result s h e) r.0 up none,
         λ ended. absurd (not_empty (set x e) rest ended.0),
@@ -65,7 +65,7 @@ module _ (P : Program) (E : Config → Type 0) (F : Heap) (b : Statements) (xs :
             (go n (omega arith) st.1 a h split (r.2 (state st.1 a) (r.0, r.1, gets, refl)) (keeps_on b xs s0 s (x.name ∷ []) (r.0 ∷ []) st.1 keeps gets (λ y c. inl (subst (SomeAssigns b) (sym (only_member x.name y c)) mine)))),
       )
 
-  pub sound_new : (x : Occ) → Goes P E F b xs s0 g p rest below n → Splits h a F → Safe P (moves (made x) g) (state s a) → SomeAssigns b x.name → Keeps b xs s0 s → Sound P E (suc n) (working p s h (statement_first (new x) rest) below)
+  pub sound_new : (x : Occ) → Goes P E F b xs s0 g p rest below n → Splits h a F → Safe P p (moves (made x) g) (state s a) → SomeAssigns b x.name → Keeps b xs s0 s → Sound P E (suc n) (working p s h (statement_first (new x) rest) below)
   sound_new x go split safe mine keeps = (
     λ none. none,
     λ ended. absurd (not_empty (new x) rest ended.0),
@@ -76,10 +76,10 @@ module _ (P : Program) (E : Config → Type 0) (F : Heap) (b : Statements) (xs :
         (keeps_on b xs s0 s (x.name ∷ []) (st.0 ∷ []) st.2 keeps st.5 (λ y c. inl (subst (SomeAssigns b) (sym (only_member x.name y c)) mine)))),
   )
 
-  pub sound_write : (x : Occ) (e : Expr) → Goes P E F b xs s0 g p rest below n → Splits h a F → Safe P (reads e (visits x (moves (written x e) g))) (state s a) → Keeps b xs s0 s → Sound P E (suc n) (working p s h (statement_first (write x e) rest) below)
+  pub sound_write : (x : Occ) (e : Expr) → Goes P E F b xs s0 g p rest below n → Splits h a F → Safe P p (reads e (visits x (moves (written x e) g))) (state s a) → Keeps b xs s0 s → Sound P E (suc n) (working p s h (statement_first (write x e) rest) below)
   sound_write x e go split safe keeps =
-      let r = after_read P e (visits x (moves (written x e) g)) (state s a) safe in
-      let w = after_visit P x (moves (written x e) g) (state s a) r.2 in
+      let r = after_read P p e (visits x (moves (written x e) g)) (state s a) safe in
+      let w = after_visit P p x (moves (written x e) g) (state s a) r.2 in
       let up : result s h e ≡ Some r.0 = reads_whole s h a F split e r.0 r.1 in (
         λ f. elim f [ inl none ↦ not_both (result s h e) r.0 up none | inr none ↦ not_both (get h (s x.name)) w.0.0 (in_whole h a F split (s x.name) w.0.0 w.0.1) none ],
         λ ended. absurd (not_empty (write x e) rest ended.0),
@@ -90,9 +90,9 @@ module _ (P : Program) (E : Config → Type 0) (F : Heap) (b : Statements) (xs :
             (w.1 (state s (insert a (s x.name) st.0)) (st.0, r.1 ∙ ap Some same, w.0, refl)) keeps),
       )
 
-  pub sound_free : (x : Occ) → Goes P E F b xs s0 g p rest below n → Splits h a F → Safe P (visits x (moves (freed x) g)) (state s a) → Keeps b xs s0 s → Sound P E (suc n) (working p s h (statement_first (free x) rest) below)
+  pub sound_free : (x : Occ) → Goes P E F b xs s0 g p rest below n → Splits h a F → Safe P p (visits x (moves (freed x) g)) (state s a) → Keeps b xs s0 s → Sound P E (suc n) (working p s h (statement_first (free x) rest) below)
   sound_free x go split safe keeps =
-      let w = after_visit P x (moves (freed x) g) (state s a) safe in (
+      let w = after_visit P p x (moves (freed x) g) (state s a) safe in (
         λ none. not_both (get h (s x.name)) w.0.0 (in_whole h a F split (s x.name) w.0.0 w.0.1) none,
         λ ended. absurd (not_empty (free x) rest ended.0),
         λ d st.
@@ -100,9 +100,9 @@ module _ (P : Program) (E : Config → Type 0) (F : Heap) (b : Statements) (xs :
             (go n (omega arith) s (remove a (s x.name)) (remove h (s x.name)) (remove_beside h a F (s x.name) split (not_in_frame h a F split (s x.name) w.0)) (w.1 (state s (remove a (s x.name))) (w.0, refl)) keeps),
       )
 
-  pub sound_give : (at : Span) (es : List Expr) → Ending P E F b xs s0 p below (suc n) → Splits h a F → Safe P (all_reads es (moves (answered (results_of p) es) (ends (returned at p.gives)))) (state s a) → Keeps b xs s0 s → Sound P E (suc n) (working p s h (statement_first (give at es) rest) below)
+  pub sound_give : (at : Span) (es : List Expr) → Ending P E F b xs s0 p below (suc n) → Splits h a F → Safe P p (all_reads es (moves (answered es) (ends (returned at)))) (state s a) → Keeps b xs s0 s → Sound P E (suc n) (working p s h (statement_first (give at es) rest) below)
   sound_give at es end split safe keeps =
-      let r = after_reads P es (moves (answered (results_of p) es) (ends (returned at p.gives))) (state s a) safe in
+      let r = after_reads P p es (moves (answered es) (ends (returned at))) (state s a) safe in
       let up : Give s h es r.0 = gives_whole s h a F split es r.0 r.1 in (
         λ f. all_read s h es r.0 up f,
         λ ended. absurd (not_empty (give at es) rest ended.0),
@@ -118,15 +118,15 @@ module _ (P : Program) (E : Config → Type 0) (F : Heap) (b : Statements) (xs :
       )
 
 -- a test goes one of two ways, each sound
-either_sound : (P : Program) (E : Config → Type 0) (n : ℕ) (p : Procedure) (s : Store) (h : Heap) (r1 r2 : Statements) (below : List Activation) (g1 g2 : Graph) (x : State) (way : Bool) → Safe P (cond way g1 g2) x → (Safe P g1 x → Sound P E n (working p s h r1 below)) → (Safe P g2 x → Sound P E n (working p s h r2 below)) → Sound P E n (working p s h (cond way r1 r2) below)
+either_sound : (P : Program) (E : Config → Type 0) (n : ℕ) (p : Procedure) (s : Store) (h : Heap) (r1 r2 : Statements) (below : List Activation) (g1 g2 : Graph) (x : State) (way : Bool) → Safe P p (cond way g1 g2) x → (Safe P p g1 x → Sound P E n (working p s h r1 below)) → (Safe P p g2 x → Sound P E n (working p s h r2 below)) → Sound P E n (working p s h (cond way r1 r2) below)
 either_sound P E n p s h r1 r2 below g1 g2 x true safe f1 f2 = f1 safe
 either_sound P E n p s h r1 r2 below g1 g2 x false safe f1 f2 = f2 safe
 
-pub sound_test : (P : Program) (E : Config → Type 0) (n : ℕ) (p : Procedure) (s : Store) (a h F : Heap) (r1 r2 : Statements) (below : List Activation) (t : Test) (g1 g2 : Graph) → Splits h a F → Safe P (tested t g1 g2) (state s a) →
-    (Safe P g1 (state s a) → Sound P E n (working p s h r1 below)) → (Safe P g2 (state s a) → Sound P E n (working p s h r2 below)) →
+pub sound_test : (P : Program) (E : Config → Type 0) (n : ℕ) (p : Procedure) (s : Store) (a h F : Heap) (r1 r2 : Statements) (below : List Activation) (t : Test) (g1 g2 : Graph) → Splits h a F → Safe P p (tested t g1 g2) (state s a) →
+    (Safe P p g1 (state s a) → Sound P E n (working p s h r1 below)) → (Safe P p g2 (state s a) → Sound P E n (working p s h r2 below)) →
     (outcome s h t ≡ None → ⊥) × ((way : Bool) → outcome s h t ≡ Some way → Sound P E n (working p s h (cond way r1 r2) below))
 sound_test P E n p s a h F r1 r2 below t g1 g2 split safe f1 f2 =
-    let w = lead P t g1 g2 (state s a) safe in
+    let w = lead P p t g1 g2 (state s a) safe in
     let up : outcome s h t ≡ Some w.0 = outcome_whole s h a F split t w.0 w.1 in (
       λ none. not_both (outcome s h t) w.0 up none,
       λ way e. let same : w.0 ≡ way = one_value (outcome s h t) w.0 way up e in
@@ -135,21 +135,21 @@ sound_test P E n p s a h F r1 r2 below t g1 g2 split safe f1 f2 =
 
 -- the test of a loop: true, it leads on in the loop's part; false, in that part with what was set aside
 pub sound_loop_test : (P : Program) (E : Config → Type 0) (n : ℕ) (p : Procedure) (s : Store) (c d h F : Heap) (r1 r2 : Statements) (below : List Activation) (t : Test) (g1 g2 : Graph) →
-    Splits h c (union d F) → Splits h (union c d) F → Splits (union c d) c d → Safe P (tested t g1 dead_end) (state s c) → Safe P (tested t dead_end g2) (state s (union c d)) →
-    (Safe P g1 (state s c) → Sound P E n (working p s h r1 below)) → (Safe P g2 (state s (union c d)) → Sound P E n (working p s h r2 below)) →
+    Splits h c (union d F) → Splits h (union c d) F → Splits (union c d) c d → Safe P p (tested t g1 dead_end) (state s c) → Safe P p (tested t dead_end g2) (state s (union c d)) →
+    (Safe P p g1 (state s c) → Sound P E n (working p s h r1 below)) → (Safe P p g2 (state s (union c d)) → Sound P E n (working p s h r2 below)) →
     (outcome s h t ≡ None → ⊥) × ((way : Bool) → outcome s h t ≡ Some way → Sound P E n (working p s h (cond way r1 r2) below))
 sound_loop_test P E n p s c d h F r1 r2 below t g1 g2 small large inner safe out f1 f2 =
-    let w = lead P t g1 dead_end (state s c) safe in
-    let v = lead P t dead_end g2 (state s (union c d)) out in
+    let w = lead P p t g1 dead_end (state s c) safe in
+    let v = lead P p t dead_end g2 (state s (union c d)) out in
     let up : outcome s h t ≡ Some w.0 = outcome_whole s h c (union d F) small t w.0 w.1 in
     let across : outcome s (union c d) t ≡ Some w.0 = outcome_whole s (union c d) c d inner t w.0 w.1 in
     let one : v.0 ≡ w.0 = one_value (outcome s (union c d) t) v.0 w.0 v.1 across in (
       λ none. not_both (outcome s h t) w.0 up none,
       λ way e. let same : w.0 ≡ way = one_value (outcome s h t) w.0 way up e in
           subst (λ b. Sound P E n (working p s h (cond b r1 r2) below)) same
-          (ways w.0 w.2 (subst (λ b. Safe P (cond b dead_end g2) (state s (union c d))) one v.2)),
+          (ways w.0 w.2 (subst (λ b. Safe P p (cond b dead_end g2) (state s (union c d))) one v.2)),
     )
   where
-    ways : (b : Bool) → Safe P (cond b g1 dead_end) (state s c) → Safe P (cond b dead_end g2) (state s (union c d)) → Sound P E n (working p s h (cond b r1 r2) below)
+    ways : (b : Bool) → Safe P p (cond b g1 dead_end) (state s c) → Safe P p (cond b dead_end g2) (state s (union c d)) → Sound P E n (working p s h (cond b r1 r2) below)
     ways true x y = f1 x
     ways false x y = f2 y

@@ -1,16 +1,15 @@
 -- The two answers are exact.
 use Rattle.std.specs.Prelude.{List}
 use Rattle.gh_ast.specs.Plain.{Program}
+use Rattle.gh_path.specs.Kept.{condition_of}
 use Rattle.gh_path.specs.declared.condition.Condition as kept
-use Rattle.gh_trace.specs.Kept.{drawn_of, IsOne, HasNoCounterexample, HasCounterexample}
-use Rattle.gh_trace.specs.Replay.{Drawn}
+use Rattle.gh_trace.specs.Kept.{drawn_of, HasNoCounterexample}
+use Rattle.gh_trace.specs.Replay.{Drawn, Refutes}
 use Rattle.gh_decide.specs.declared.decide.Verdict.TheVariants.{Valid, Refuted}
 use Rattle.gh_decide.specs.Verdicts.{VerdictsAreExact}
 
-not_both : (P : Program) (r : kept.Condition) (xs : List Drawn) → IsOne P r → HasNoCounterexample P r → HasCounterexample P r xs → ⊥
-not_both P r xs one none some =
-    let against = some one.0 one.1 in
-    none one.0 one.1 against.first.state _ against.counterexample
+not_both : (P : Program) (r : kept.Condition) (xs : List Drawn) → HasNoCounterexample P r → Refutes P (condition_of r) xs → ⊥
+not_both P r xs none against = none against.procedure against.of against.first.state _ against.counterexample
 
 pub verdicts_are_exact : VerdictsAreExact
 verdicts_are_exact P r (Valid s) one is = record {
@@ -18,6 +17,6 @@ verdicts_are_exact P r (Valid s) one is = record {
   refuted = (λ no. absurd no, λ some. absurd (some is.valid));
 }
 verdicts_are_exact P r (Refuted t) one is = record {
-  valid = (λ no. absurd no, λ none. absurd (not_both P r (drawn_of t) one none is));
-  refuted = (λ u none. not_both P r (drawn_of t) one none is, λ some. record {});
+  valid = (λ no. absurd no, λ none. absurd (not_both P r (drawn_of t) none is));
+  refuted = (λ u none. not_both P r (drawn_of t) none is, λ some. record {});
 }

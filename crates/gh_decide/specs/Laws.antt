@@ -1,6 +1,6 @@
 -- The laws.
 use Rattle.std.specs.Prelude.{◌≡◌, ◌↔◌, Bool, cond, Some}
-use Rattle.gh_ast.specs.Plain.{Test, Program}
+use Rattle.gh_ast.specs.Plain.{Test, Procedure, Program}
 use Rattle.gh_ast.specs.Rules.{IsTyped}
 use Rattle.gh_assert.specs.Values.{outcome}
 use Rattle.gh_machine.specs.Machine.{IsGood}
@@ -12,11 +12,12 @@ use Rattle.gh_decide.specs.Examples.{alone, cuts, leaks, frees_twice}
 use Rattle.gh_decide.specs.Safe.{Safe, PathsPass, AllPass}
 
 abbrev pub SafeMeansPathsPass : Type 0
-SafeMeansPathsPass = (P : Program) (g : Graph) (x : State) → Safe P g x ↔ PathsPass P g x
+SafeMeansPathsPass = (P : Program) (p : Procedure) (g : Graph) (x : State) → Safe P p g x ↔ PathsPass P p g x
 
 -- in a safe state a test has an outcome, and the way that it leads is safe
 abbrev pub TestsLead : Type 0
-TestsLead = (P : Program) (t : Test) (g k : Graph) (x : State) → Safe P (tested t g k) x → (way : Bool) × (outcome x.store x.heap t ≡ Some way) × Safe P (cond way g k) x
+TestsLead =
+    (P : Program) (p : Procedure) (t : Test) (g k : Graph) (x : State) → Safe P p (tested t g k) x → (way : Bool) × (outcome x.store x.heap t ≡ Some way) × Safe P p (cond way g k) x
 
 abbrev pub Composition : Type 0
 Composition = (P : Program) → AllKeepRules P → AllPass P → IsGood P

@@ -2,7 +2,7 @@ pub mod Rules
 pub mod Safe
 pub mod Examples
 pub mod Laws
-pub mod Verdicts
 pub mod Logs
+pub mod Verdicts
 pub mod Outcomes
 pub mod Decided

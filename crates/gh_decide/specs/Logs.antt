@@ -1,8 +1,8 @@
 -- Which logs are valid for a program.
 use Rattle.std.specs.Prelude.{List, [], ◌∷◌, ⊤}
-use Rattle.gh_ast.specs.Plain.{Program}
+use Rattle.gh_ast.specs.Plain.{Procedure, Program}
 use Rattle.gh_ast.specs.Rules.{IsTyped}
-use Rattle.gh_path.specs.Conditions.{Condition, conditions}
+use Rattle.gh_path.specs.Conditions.{Condition, conditions, IsOf}
 use Rattle.gh_symb.specs.Symbolic.{symbolic_of}
 use Rattle.gh_symb.specs.Formulas.{problem}
 use Rattle.gh_trace.specs.Validity.{ListedAreValid}
@@ -11,10 +11,14 @@ use Rattle.gh_log.specs.Sections.{IsValidSection}
 use Rattle.gh_base.specs.Meaning.{Interpretation}
 use Rattle.gh_model.specs.Abstraction.{IsModelOf}
 
+-- the section is valid for the clauses of the condition
+abbrev pub IsSectionOf : Program → Condition → List LogLine → Type 0
+IsSectionOf P c lines = (p : Procedure) × IsOf P c p × IsValidSection (problem (symbolic_of P p c)) lines
+
 -- the sections are as many as the conditions, and each is valid for the clauses of its condition
 abbrev pub AreValidSections : Program → List Condition → List (List LogLine) → Type 0
 AreValidSections P [] [] = ⊤
-AreValidSections P (c ∷ cs) (s ∷ ss) = IsValidSection (problem (symbolic_of P c)) s × AreValidSections P cs ss
+AreValidSections P (c ∷ cs) (s ∷ ss) = IsSectionOf P c s × AreValidSections P cs ss
 AreValidSections P _ _ = ⊥
 
 -- a valid section for each condition, in order
@@ -27,4 +31,5 @@ ValidLogsShowValidity = (P : Program) (log : List (List LogLine)) → IsTyped P 
 
 -- where a section is valid for a condition's clauses, these have no model
 abbrev pub ValidSectionsHaveNoModel : Type 0
-ValidSectionsHaveNoModel = (P : Program) (c : Condition) (lines : List LogLine) (m : Interpretation) → IsValidSection (problem (symbolic_of P c)) lines → IsModelOf P c m → ⊥
+ValidSectionsHaveNoModel =
+    (P : Program) (p : Procedure) (c : Condition) (lines : List LogLine) (m : Interpretation) → IsValidSection (problem (symbolic_of P p c)) lines → IsModelOf P p c m → ⊥

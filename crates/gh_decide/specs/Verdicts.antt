@@ -1,16 +1,17 @@
 -- What a decision of one condition answers.
 use Rattle.std.specs.Prelude.{◌≡◌, ◌↔◌, ◌≤◌, All, length}
 use Rattle.gh_base.specs.Grounds.{Problem}
-use Rattle.gh_ast.specs.Plain.{Program}
-use Rattle.gh_path.specs.Conditions.{Condition}
-use Rattle.gh_path.specs.Kept.{StandsFor}
+use Rattle.gh_ast.specs.Plain.{Procedure, Program}
+use Rattle.gh_path.specs.Conditions.{IsOf}
+use Rattle.gh_path.specs.Kept.{condition_of, IsOne}
 use Rattle.gh_path.specs.declared.condition.Condition as kept
 use Rattle.gh_symb.specs.Symbolic.{symbolic_of}
 use Rattle.gh_symb.specs.Formulas.{problem}
-use Rattle.gh_trace.specs.Kept.{drawn_of, IsOfProgram, IsOne, HasNoCounterexample, HasCounterexample}
+use Rattle.gh_trace.specs.Kept.{drawn_of, HasNoCounterexample}
+use Rattle.gh_trace.specs.Replay.{Refutes}
 use Rattle.gh_log.specs.declared.lines.Section.{Section}
-use Rattle.gh_log.specs.Sections.{IsValidSection}
 use Rattle.gh_log.specs.Spelled.{IsSpelledLine}
+use Rattle.gh_decide.specs.Logs.{IsSectionOf}
 use Rattle.gh_decide.specs.declared.decide.Verdict.{Verdict}
 use Rattle.gh_decide.specs.declared.decide.Verdict.TheVariants.{Valid, Refuted}
 
@@ -21,19 +22,19 @@ pub record IsWritable (s : Section) : Type 0 where
   pub few : length s.lines ≤ 4294967294
   pub spelled : All (IsSpelledLine 2) s.lines
 
--- these are the clauses of whatever condition stands behind the kept one
+-- these are the clauses of the condition that is kept
 abbrev pub IsGroundOf : Program → kept.Condition → Problem → Type 0
-IsGroundOf P r clauses = (c : Condition) → StandsFor P r c → clauses ≡ problem (symbolic_of P c)
+IsGroundOf P r clauses = let c = condition_of r in (p : Procedure) → IsOf P c p → clauses ≡ problem (symbolic_of P p c)
 
 -- the condition has no counterexample, and the section is valid for its clauses
 pub record IsShown (P : Program) (r : kept.Condition) (s : Section) : Type 0 where
   pub valid : HasNoCounterexample P r
-  pub section : (c : Condition) → IsOfProgram P r c → IsValidSection (problem (symbolic_of P c)) s.lines
+  pub section : IsSectionOf P (condition_of r) s.lines
   pub writable : IsWritable s
 
 abbrev pub IsVerdict : Program → kept.Condition → Verdict → Type 0
 IsVerdict P r (Valid s) = IsShown P r s
-IsVerdict P r (Refuted t) = HasCounterexample P r (drawn_of t)
+IsVerdict P r (Refuted t) = Refutes P (condition_of r) (drawn_of t)
 
 abbrev pub IsValid : Verdict → Type 0
 IsValid (Valid s) = Unit {0}

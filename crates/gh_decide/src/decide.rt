@@ -3,9 +3,9 @@
 ghost use Rattle.std.specs.Prelude.{IfOk};
 ghost use Rattle.gh_ast.specs.Plain.{program_of};
 ghost use Rattle.gh_path.specs.Admitted.{IsAdmitted};
+ghost use Rattle.gh_path.specs.Kept.{IsOne};
 ghost use Rattle.gh_symb.specs.Encoded.{IsSymbolic};
 ghost use Rattle.gh_symb.specs.Steps.{HoldsFor};
-ghost use Rattle.gh_trace.specs.Kept.{IsOne};
 ghost use Rattle.gh_decide.specs.Verdicts.{IsVerdict};
 
 use gh_ast::typed::Typed;
@@ -37,7 +37,7 @@ pub fn over_terms<'a>(
 ) -> Result<Symbolic<'a>, AllocError>
     requires admitted { IsAdmitted (program_of typed.now) }
     requires one { IsOne (program_of typed.now) condition.now }
-    ensures { IfOk result (λ s. HoldsFor (program_of typed.now) condition.now (λ P c. IsSymbolic P c s)) }
+    ensures { IfOk result (λ s. HoldsFor (program_of typed.now) condition.now (λ P p c. IsSymbolic P p c s)) }
 {
     match symbolic(alloc, typed, condition) {
         Ok(symbolic) => Ok(symbolic),

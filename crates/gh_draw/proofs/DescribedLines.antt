@@ -1,5 +1,5 @@
 -- The description of a condition of a program that a text spells is a line: the names in it are words.
-use Rattle.std.specs.Prelude.{ℕ, suc, ◌<◌, List, [], ◌∷◌, ◌++◌, codes, length, true, Option, Some, None, Contains}
+use Rattle.std.specs.Prelude.{◌≡◌, ℕ, zero, suc, ◌+◌, ◌<◌, List, [], ◌∷◌, ◌++◌, codes, length, true, Option, Some, None, Contains, slice_get}
 use Rattle.std.specs.Fmt.{decimal}
 use Rattle.std.proofs.Common.{refl, ap, subst, inl, inr, arith}
 use Rattle.std.proofs.lemmas.List.{length-append}
@@ -8,25 +8,26 @@ use Rattle.gh_ast.specs.declared.Expr.{Expr}
 use Rattle.gh_ast.specs.declared.Expr.TheVariants.{Plain, Read}
 use Rattle.gh_ast.specs.Grammar.{Spells}
 use Rattle.gh_ast.specs.Plain.{Test, compare, negation, conjunction, disjunction, Tests, no_tests, test_first, Statement, set, new, write, free, call, choice, loop, give, Statements, no_statements, statement_first, Inside, Procedure, Program}
-use Rattle.gh_ast.specs.Programs.{name_of, body_of, results_of, statements_in}
+use Rattle.gh_ast.specs.Programs.{name_of, body_of, statements_in}
 use Rattle.gh_ast.specs.Tokens.{first_place, cleared}
 use Rattle.gh_ast.proofs.Good.{AllGood, GoodExpr, SomeGood, GoodTest, GoodTests, GoodStatement, GoodStatements, GoodBody, GoodProcedure, tokens_are_good, program_is_good}
 use Rattle.gh_ast.proofs.Lists.{member_cases, no_member}
 use Rattle.gh_path.specs.Conditions.{Condition, conditions}
-use Rattle.gh_path.specs.Graphs.{Check, access, entry, loop_entry, returned, loop_end, check_place, PathStep, assigned, written, called, answered, Graph, dead_end, ends, moves, guarded, fork, visits, reads, all_reads, tested, all_tested, some_tested, lowered, all_lowered, Loop, loops, all_loops, loops_of, Origin, from_entry, from_loop, Start, whole_body, round, rounds, starts}
+use Rattle.gh_path.specs.Graphs.{Check, access, entry, loop_entry, returned, loop_end, check_place, PathStep, assigned, written, called, answered, Graph, dead_end, ends, moves, guarded, fork, visits, reads, all_reads, tested, all_tested, some_tested, number_of, lowered, all_lowered, Loop, loops, all_loops, loops_of, Start, whole_body, round, around, once_around, graph_from}
 use Rattle.gh_path.specs.Paths.{Path, at_end, arrived, past, on, on_true, on_false}
 use Rattle.gh_path.proofs.Listed.{all_are_listed}
-use Rattle.gh_draw.specs.Descriptions.{place_text, origin_text, check_text, description}
+use Rattle.gh_trace.proofs.Insides.{contained_at}
+use Rattle.gh_draw.specs.Descriptions.{place_text, name_in, loops_in, loop_text, start_text, check_text, description}
 use Rattle.gh_draw.specs.Drawn.{IsOtherLine}
 use Rattle.gh_draw.proofs.Lines.{IsOneLine, no_feed, line_both, word_line, name_line, decimal_line}
 
--- what is asked names a variable or a procedure by a word
+-- what is asked names a variable by a word
 abbrev NamesWord : Check → Type 0
 NamesWord (access o) = IsOneLine o.name
-NamesWord (entry f es) = IsOneLine f.name
-NamesWord (loop_entry l) = Unit {0}
-NamesWord (returned at f) = Unit {0}
-NamesWord (loop_end l) = Unit {0}
+NamesWord (entry at n es) = Unit {0}
+NamesWord (loop_entry at n) = Unit {0}
+NamesWord (returned at) = Unit {0}
+NamesWord (loop_end at n) = Unit {0}
 
 abbrev NameWords : Graph → Type 0
 NameWords dead_end = Unit {0}
@@ -59,19 +60,20 @@ mutual
   some_test_words (test_first t ts) g k h v w = test_words t g (some_tested ts g k) h.0 v (some_test_words ts g k h.1 v w)
 
 mutual
-  statement_words : (p : Procedure) (s : Statement) (g : Graph) → GoodStatement s → NameWords g → NameWords (lowered p s g)
-  statement_words p (set x e) g h w = read_words e (moves (assigned x e) g) h.1 w
-  statement_words p (new x) g h w = w
-  statement_words p (write x e) g h w = read_words e (visits x (moves (written x e) g)) h.1 (name_line x.name h.0, w)
-  statement_words p (free x) g h w = (name_line x.name h, w)
-  statement_words p (call xs f es) g h w = all_read_words es (guarded (entry f es) (called xs f es) g) h.2 (name_line f.name h.1, w)
-  statement_words p (choice t a c b d) g h w = test_words t (all_lowered p a g) (all_lowered p b g) h.0 (block_words p a g h.1 w) (block_words p b g h.2 w)
-  statement_words p (loop at t i body close) g h w = (tt, test_words t dead_end g h.0 tt w)
-  statement_words p (give at es) g h w = all_read_words es (moves (answered (results_of p) es) (ends (returned at p.gives))) h tt
+  statement_words : (P : Program) (o : ℕ) (s : Statement) (g : Graph) → GoodStatement s → NameWords g → NameWords (lowered P o s g)
+  statement_words P o (set x e) g h w = read_words e (moves (assigned x e) g) h.1 w
+  statement_words P o (new x) g h w = w
+  statement_words P o (write x e) g h w = read_words e (visits x (moves (written x e) g)) h.1 (name_line x.name h.0, w)
+  statement_words P o (free x) g h w = (name_line x.name h, w)
+  statement_words P o (call xs f es) g h w = all_read_words es (guarded (entry f.span (number_of P f.name) es) (called xs (number_of P f.name) es) g) h.2 (tt, w)
+  statement_words P o (choice t a c b d) g h w =
+      test_words t (all_lowered P o a g) (all_lowered P (o + length (all_loops a)) b g) h.0 (block_words P o a g h.1 w) (block_words P (o + length (all_loops a)) b g h.2 w)
+  statement_words P o (loop at t i body close) g h w = (tt, test_words t dead_end g h.0 tt w)
+  statement_words P o (give at es) g h w = all_read_words es (moves (answered es) (ends (returned at))) h tt
 
-  block_words : (p : Procedure) (ss : Statements) (g : Graph) → GoodStatements ss → NameWords g → NameWords (all_lowered p ss g)
-  block_words p no_statements g h w = w
-  block_words p (statement_first s ss) g h w = statement_words p s (all_lowered p ss g) h.0 (block_words p ss g h.1 w)
+  block_words : (P : Program) (o : ℕ) (ss : Statements) (g : Graph) → GoodStatements ss → NameWords g → NameWords (all_lowered P o ss g)
+  block_words P o no_statements g h w = w
+  block_words P o (statement_first s ss) g h w = statement_words P o s (all_lowered P (o + length (loops s)) ss g) h.0 (block_words P (o + length (loops s)) ss g h.1 w)
 
 -- the test and the body of a loop
 abbrev GoodLoop : Loop → Type 0
@@ -100,18 +102,24 @@ body_good : (b : Option Inside) → GoodBody b → GoodStatements (statements_in
 body_good None h = tt
 body_good (Some b) h = h.1
 
-round_words : (p : Procedure) (n : ℕ) (ls : List Loop) → AllGood GoodLoop ls → (a : Start) → Contains (rounds p n ls) a → NameWords a.graph
-round_words p n [] h a there = absurd (no_member a there)
-round_words p n (l ∷ ls) h a there = elim (member_cases (round p n l) (rounds p (suc n) ls) a there) [
-  | inl same ↦ subst (λ (s : Start). NameWords s.graph) same (test_words l.test (all_lowered p l.body (ends (loop_end l))) dead_end h.0.0 (block_words p l.body (ends (loop_end l)) h.0.1 tt) tt)
-  | inr later ↦ round_words p (suc n) ls h.1 a later
-]
+-- the words of the checks once around a loop
+once_words : (P : Program) (o : ℕ) (l : Loop) → GoodLoop l → NameWords (once_around P o l)
+once_words P o l h = test_words l.test (all_lowered P (suc o) l.body (ends (loop_end l.close o))) dead_end h.0 (block_words P (suc o) l.body (ends (loop_end l.close o)) h.1 tt) tt
 
-start_words : (p : Procedure) → GoodProcedure p → (a : Start) → Contains (starts p) a → NameWords a.graph
-start_words p h a there = elim (member_cases (whole_body p) (rounds p 0 (loops_of p)) a there) [
-  | inl same ↦ subst (λ (s : Start). NameWords s.graph) same (block_words p (body_of p) (ends (returned p.close p.gives)) (body_good p.body h.body) tt)
-  | inr later ↦ round_words p 0 (loops_of p) (all_good_loops (body_of p) (body_good p.body h.body)) a later
-]
+-- the loop of a number, if there is one
+good_at : (ls : List Loop) (o : ℕ) (l : Loop) → AllGood GoodLoop ls → slice_get ls o ≡ Some l → GoodLoop l
+good_at [] o l h at = absurd cc
+good_at (m ∷ ls) zero l h at = let same : m ≡ l = cc in subst GoodLoop same h.0
+good_at (m ∷ ls) (suc o) l h at = good_at ls o l h.1 at
+
+-- and of those around the loop of a number
+around_words : (P : Program) (o : ℕ) (f : Option Loop) → ((l : Loop) → f ≡ Some l → GoodLoop l) → NameWords (around P o f)
+around_words P o None h = tt
+around_words P o (Some l) h = once_words P o l (h l refl)
+
+start_words : (P : Program) (p : Procedure) → GoodProcedure p → (a : Start) → NameWords (graph_from P p a)
+start_words P p h whole_body = block_words P 0 (body_of p) (ends (returned p.close)) (body_good p.body h.body) tt
+start_words P p h (round o) = around_words P o (slice_get (loops_of p) o) (λ l at. good_at (loops_of p) o l (all_good_loops (body_of p) (body_good p.body h.body)) at)
 
 path_words : {g : Graph} {ps : List PathStep} {c : Check} → Path g ps c → NameWords g → NamesWord c
 path_words at_end w = w
@@ -130,16 +138,28 @@ one_good (q ∷ ps) p h there = elim (member_cases q ps p there) [ inl same ↦ 
 place_line : (s : Span) → IsOneLine (place_text s)
 place_line s = line_both (decimal s.line ++ codes ":") (decimal s.col) (line_both (decimal s.line) (codes ":") (decimal_line s.line) (word_line (codes ":") refl)) (decimal_line s.col)
 
-origin_line : (o : Origin) → IsOneLine (origin_text o)
-origin_line from_entry = word_line (codes "entry") refl
-origin_line (from_loop n l) = line_both (codes "loop at ") (place_text l.at) (word_line (codes "loop at ") refl) (place_line l.at)
+-- a loop's place, where there is one
+loop_line : (f : Option Loop) → IsOneLine (loop_text f)
+loop_line None = tt
+loop_line (Some l) = place_line l.at
 
-check_line : (c : Check) → NamesWord c → IsOneLine (check_text c)
-check_line (access o) w = line_both (codes "access to ") o.name (word_line (codes "access to ") refl) w
-check_line (entry f es) w = line_both (codes "entry of ") f.name (word_line (codes "entry of ") refl) w
-check_line (loop_entry l) w = word_line (codes "loop entry") refl
-check_line (returned at f) w = word_line (codes "return") refl
-check_line (loop_end l) w = word_line (codes "loop end") refl
+-- a start
+start_line : (ls : List Loop) (a : Start) → IsOneLine (start_text ls a)
+start_line ls whole_body = word_line (codes "entry") refl
+start_line ls (round n) = line_both (codes "loop at ") (loop_text (slice_get ls n)) (word_line (codes "loop at ") refl) (loop_line (slice_get ls n))
+
+-- the name of the procedure of a number, if there is one
+name_in_line : (ps : List Procedure) → AllGood GoodProcedure ps → (n : ℕ) → IsOneLine (name_in (slice_get ps n))
+name_in_line [] h n = tt
+name_in_line (p ∷ ps) h zero = name_line (name_of p) h.0.name
+name_in_line (p ∷ ps) h (suc n) = name_in_line ps h.1 n
+
+check_line : (P : Program) → AllGood GoodProcedure P.procedures → (c : Check) → NamesWord c → IsOneLine (check_text P c)
+check_line P h (access o) w = line_both (codes "access to ") o.name (word_line (codes "access to ") refl) w
+check_line P h (entry at n es) w = line_both (codes "entry of ") (name_in (slice_get P.procedures n)) (word_line (codes "entry of ") refl) (name_in_line P.procedures h n)
+check_line P h (loop_entry at n) w = word_line (codes "loop entry") refl
+check_line P h (returned at) w = word_line (codes "return") refl
+check_line P h (loop_end at n) w = word_line (codes "loop end") refl
 
 -- the parts of a description
 parts_line : (name origin check place : List ℕ) → IsOneLine name → IsOneLine origin → IsOneLine check → IsOneLine place → IsOneLine (name ++ codes " from " ++ origin ++ codes ": " ++ check ++ codes " at " ++ place)
@@ -162,10 +182,12 @@ parts_other name origin check place n o c p = record {
   other = λ e. absurd (omega (arith, ap length e, parts_long name origin check place));
 }
 
-pub description_is_other : (source : List ℕ) (P : Program) (c : Condition) → Spells source P → Contains (conditions P) c → IsOtherLine (description c)
+pub description_is_other : (source : List ℕ) (P : Program) (c : Condition) → Spells source P → Contains (conditions P) c → IsOtherLine (description P c)
 description_is_other source P c (ts, has, spells) there =
     let is = (all_are_listed P c).0 there in
-    let good = one_good P.procedures c.procedure (program_is_good spells (tokens_are_good first_place has.0 (cleared source) [] ts has.1)).procedures is.declared in
-    let words = path_words is.leads (start_words c.procedure good c.start is.begins) in
-    parts_other (name_of c.procedure) (origin_text c.start.origin) (check_text c.way.check) (place_text (check_place c.way.check)) (name_line (name_of c.procedure) good.name) (origin_line c.start.origin) (check_line c.way.check words)
+    let p = is.procedure in
+    let good = (program_is_good spells (tokens_are_good first_place has.0 (cleared source) [] ts has.1)).procedures in
+    let words = path_words is.leads (start_words P p (one_good P.procedures p good (contained_at P.procedures c.procedure p is.of)) c.start) in
+    let o = slice_get P.procedures c.procedure in
+    parts_other (name_in o) (start_text (loops_in o) c.start) (check_text P c.way.check) (place_text (check_place c.way.check)) (name_in_line P.procedures good c.procedure) (start_line (loops_in o) c.start) (check_line P good c.way.check words)
     (place_line (check_place c.way.check))

@@ -11,14 +11,15 @@ use Rattle.gh_ast.proofs.Lists.{member_first, member_later}
 use Rattle.gh_assert.specs.Stores.{listed, store_of}
 use Rattle.gh_assert.specs.declared.store.Entry.{Entry}
 use Rattle.gh_path.specs.Conditions.{Condition, conditions}
+use Rattle.gh_path.specs.Graphs.{meets_at}
 use Rattle.gh_trace.specs.Kept.{state_of, drawn}
 use Rattle.gh_trace.specs.Replay as replay
 use Rattle.gh_trace.specs.Traces as plain
 use Rattle.gh_trace.specs.Traces.{Counterexample}
 use Rattle.gh_trace.specs.Validity.{AreCounterexample}
 use Rattle.gh_trace.specs.declared.state.State.{State}
-use Rattle.gh_draw.specs.Drawings.{IsDrawable}
-use Rattle.gh_draw.specs.Drawn.{IsValue, HasValues, IsDrawnCell, IsOver, IsDrawnState, IsDrawnFor, IsTold}
+use Rattle.gh_draw.specs.Drawings.{drawing, IsDrawable}
+use Rattle.gh_draw.specs.Drawn.{drawing_text, IsValue, HasValues, IsDrawnCell, IsOver, IsDrawnState, IsDrawnFor, IsTold}
 use Rattle.gh_draw.proofs.Texts.{numbered_told}
 
 -- values
@@ -58,28 +59,40 @@ plain_refutes P c (s ∷ ss) r =
     let first : r.first ≡ drawn s = cc in
     let others : r.others ≡ map drawn ss = cc in
     let begins : r.first.state ≡ state_of s = ap (λ (x : replay.Drawn). x.state) first in
-    let follow : map (λ (x : replay.Drawn). x.state) r.others ≡ map state_of ss = ap (λ xs. map (λ (x : replay.Drawn). x.state) xs) others ∙ states_of ss in
-    subst (λ (x : plain.State). Counterexample P c.start.meets c.way.steps c.way.check x (map state_of ss)) begins
-    (subst (λ (ys : List plain.State). Counterexample P c.start.meets c.way.steps c.way.check r.first.state ys) follow r.counterexample)
+    let follow : map (λ (x : replay.Drawn). x.state) r.others ≡ map state_of ss = ap (λ xs. map (λ (x : replay.Drawn). x.state) xs) others ∙ states_of ss in (
+      r.procedure,
+      r.of,
+      subst (λ (x : plain.State). Counterexample P r.procedure (meets_at r.procedure c.start) c.way.steps c.way.check x (map state_of ss)) begins
+          (subst (λ (ys : List plain.State). Counterexample P r.procedure (meets_at r.procedure c.start) c.way.steps c.way.check r.first.state ys) follow r.counterexample),
+    )
 
 pub states_are_drawn : (ns : List Name) (ss : List State) → All (IsOver ns) ss → All HasValues ss → All (IsDrawnState ns) ss
 states_are_drawn ns ss over values = λ k d w. record { over = over k d w; values = (values k d w).values; cells = (values k d w).cells }
 
-states_drawn : (P : Program) (c : Condition) (ss : List State) → replay.Refutes P c (map drawn ss) → All HasValues ss → All (IsDrawnState (variable_names c.procedure)) ss
-states_drawn P c ss r values = states_are_drawn (variable_names c.procedure) ss (all_over (variable_names c.procedure) ss r.over) values
+states_drawn : (P : Program) (c : Condition) (ss : List State) → (r : replay.Refutes P c (map drawn ss)) → All HasValues ss → All (IsDrawnState (variable_names r.procedure)) ss
+states_drawn P c ss r values = states_are_drawn (variable_names r.procedure) ss (all_over (variable_names r.procedure) ss r.over) values
 
--- the text of the drawing is that of plain states, which refute the condition and are drawable
+-- the text of the drawing is that of plain states
+pub text_of_refuted : (P : Program) (n : ℕ) (c : Condition) (ss : List State) → IsTyped P → (r : replay.Refutes P c (map drawn ss)) → All HasValues ss
+    → drawing_text n ss ≡ drawing n (variable_names r.procedure) (map state_of ss)
+text_of_refuted P n c ss typed r values = numbered_told P n c r.procedure ss typed r.of (states_drawn P c ss r values)
+
+-- which refute the condition and are drawable
 pub told_of_refuted : (P : Program) (n : ℕ) (c : Condition) (ss : List State) → IsTyped P → slice_get (conditions P) (n - 1) ≡ Some c → replay.Refutes P c (map drawn ss) → All HasValues ss → IsTold P n c ss
 told_of_refuted P n c ss typed numbered r values = record {
-  text = numbered_told P n c ss typed numbered (states_drawn P c ss r values);
+  procedure = r.procedure;
+  of = r.of;
+  text = text_of_refuted P n c ss typed r values;
   refutes = plain_refutes P c ss r;
-  drawable = states_drawable (variable_names c.procedure) ss values;
+  drawable = states_drawable (variable_names r.procedure) ss values;
 }
 
 pub drawn_of_refuted : (P : Program) (n : ℕ) (c : Condition) (ss : List State) → 1 ≤ n → IsValue n → slice_get (conditions P) (n - 1) ≡ Some c → replay.Refutes P c (map drawn ss) → All HasValues ss
     → IsDrawnFor P n ss
 drawn_of_refuted P n c ss low fits numbered r values = record {
   condition = c;
+  procedure = r.procedure;
+  of = r.of;
   low = low;
   fits = fits;
   numbered = numbered;

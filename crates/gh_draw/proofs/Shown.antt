@@ -1,5 +1,5 @@
 -- A text is shown part by part exactly where it is the text of a drawing.
-use Rattle.std.specs.Prelude.{◌≡◌, ◌≢◌, ℕ, suc, ◌-◌, ◌<◌, List, [], ◌∷◌, ◌++◌, codes, length, T, true, false, Bool, ◌&&◌, All, slice_get, Some, Option}
+use Rattle.std.specs.Prelude.{◌≡◌, ◌≢◌, ℕ, suc, ◌-◌, ◌<◌, List, [], ◌∷◌, ◌++◌, codes, length, T, true, false, Bool, ◌&&◌, All, slice_get, Some}
 use Rattle.std.specs.List.{flat_map}
 use Rattle.std.specs.Ordering.{is_lt, nat_cmp}
 use Rattle.std.specs.Fmt.{decimal}
@@ -9,12 +9,13 @@ use Rattle.std.proofs.Common.{refl, sym, ◌∙◌, ap, subst, arith, Ordering, 
 use Rattle.std.proofs.lemmas.Bool.Decides.{nat_tests}
 use Rattle.std.proofs.lemmas.List.{append_assoc, length-append}
 use Rattle.std.proofs.lemmas.List.Elements.{All-cons, All-head, All-tail, All-nil}
-use Rattle.gh_ast.specs.Plain.{Program}
+use Rattle.gh_ast.specs.Plain.{Procedure, Program}
 use Rattle.gh_ast.specs.Programs.{Name, variable_names}
+use Rattle.gh_ast.proofs.Lists.{one_value}
 use Rattle.gh_assert.specs.declared.store.Entry.{Entry}
 use Rattle.gh_assert.specs.Stores.{listed_names}
 use Rattle.gh_trace.specs.declared.state.State.{State}
-use Rattle.gh_path.specs.Conditions.{Condition, conditions}
+use Rattle.gh_path.specs.Conditions.{Condition, conditions, IsOf}
 use Rattle.gh_draw.specs.Drawings.{line, cell_text}
 use Rattle.gh_draw.specs.Drawn.{entry_text, kept_text, kept_texts, IsValue, IsDrawnCell, IsDrawnState, IsFileOf}
 use Rattle.gh_draw.specs.Reading.{After, NoDigitFirst, ShowsNumber, ShowsValue, ShowsEntries, ShowsCell, ShowsCellAbove, ShowsCells, ShowsState, ShowsStates, ShowsCondition, ShowsTrace, Skips, heading}
@@ -235,14 +236,22 @@ file_shown P t n xs f =
       states_text = S;
       skips = record { skipped = f.skipped; others = f.others; whole = f.whole ∙ whole_apart (flat_map line f.skipped) (decimal n) (kept_texts 0 xs) };
       condition = (decimal n ++ (10 ∷ S), refl, record { fits = f.drawn.fits; shown = refl; ends = no_digit 10 S (omega arith) });
-      trace = record { condition = f.drawn.condition; low = f.drawn.low; numbered = f.drawn.numbered; some = f.drawn.some; states = states_shown (variable_names f.drawn.condition.procedure) 0 xs [] f.drawn.states };
+      trace = record {
+        condition = f.drawn.condition;
+        procedure = f.drawn.procedure;
+        of = f.drawn.of;
+        low = f.drawn.low;
+        numbered = f.drawn.numbered;
+        some = f.drawn.some;
+        states = states_shown (variable_names f.drawn.procedure) 0 xs [] f.drawn.states;
+      };
     }
 
 pub shown_file : (P : Program) (t : List ℕ) (n : ℕ) (xs : List State) → ShowsFile P t n xs → IsFileOf P t n xs
 shown_file P t n xs f = parts f.condition
   where
-    all : AreStates (variable_names f.trace.condition.procedure) 0 f.states_text xs []
-    all = are_states (variable_names f.trace.condition.procedure) 0 f.states_text xs [] f.trace.states
+    all : AreStates (variable_names f.trace.procedure) 0 f.states_text xs []
+    all = are_states (variable_names f.trace.procedure) 0 f.states_text xs [] f.trace.states
 
     parts : ShowsCondition f.body n f.states_text → IsFileOf P t n xs
     parts (mid, p, s) = record {
@@ -250,17 +259,19 @@ shown_file P t n xs f = parts f.condition
       others = f.skips.others;
       whole = f.skips.whole ∙ ap (λ z. flat_map line f.skips.skipped ++ (codes "drawing\n" ++ z)) (p ∙ ap (λ z. codes "condition " ++ z) (s.shown ∙ ap (λ z. decimal n ++ (10 ∷ z)) all.text))
           ∙ sym (whole_apart (flat_map line f.skips.skipped) (decimal n) (kept_texts 0 xs));
-      drawn = record { condition = f.trace.condition; low = f.trace.low; fits = s.fits; numbered = f.trace.numbered; some = f.trace.some; states = all.drawn };
+      drawn = record { condition = f.trace.condition; procedure = f.trace.procedure; of = f.trace.of; low = f.trace.low; fits = s.fits; numbered = f.trace.numbered; some = f.trace.some; states = all.drawn };
     }
 
-same_condition : (o : Option Condition) (c d : Condition) → o ≡ Some c → o ≡ Some d → c ≡ d
-same_condition o c d e f = cc
+-- of one condition one procedure
+pub same_procedure : (P : Program) (c d : Condition) (p q : Procedure) → c ≡ d → IsOf P c p → IsOf P d q → p ≡ q
+same_procedure P c d p q same of there = one_value (slice_get P.procedures d.procedure) p q (subst (λ (e : Condition). IsOf P e p) same of) there
 
 pub file_one : (P : Program) (t : List ℕ) (n m : ℕ) (xs ys : List State) → ShowsFile P t n xs → ShowsFile P t m ys → (n ≡ m) × (xs ≡ ys)
 file_one P t n m xs ys f g =
     let bodies : f.body ≡ g.body = skips_one t f.body g.body f.skips g.skips in
     let numbers = condition_one g.body n m f.states_text g.states_text (subst (λ z. ShowsCondition z n f.states_text) bodies f.condition) g.condition in
-    let same : f.trace.condition ≡ g.trace.condition = same_condition (slice_get (conditions P) (m - 1)) f.trace.condition g.trace.condition (subst (λ z. slice_get (conditions P) (z - 1) ≡ Some f.trace.condition) numbers.0 f.trace.numbered) g.trace.numbered in
-    let ns = variable_names g.trace.condition.procedure in
-    let moved : ShowsStates ns 0 g.states_text xs [] = subst (λ z. ShowsStates ns 0 z xs []) numbers.1 (subst (λ (c : Condition). ShowsStates (variable_names c.procedure) 0 f.states_text xs []) same f.trace.states) in
+    let same : f.trace.condition ≡ g.trace.condition = one_value (slice_get (conditions P) (m - 1)) f.trace.condition g.trace.condition (subst (λ z. slice_get (conditions P) (z - 1) ≡ Some f.trace.condition) numbers.0 f.trace.numbered) g.trace.numbered in
+    let procedures : f.trace.procedure ≡ g.trace.procedure = same_procedure P f.trace.condition g.trace.condition f.trace.procedure g.trace.procedure same f.trace.of g.trace.of in
+    let ns = variable_names g.trace.procedure in
+    let moved : ShowsStates ns 0 g.states_text xs [] = subst (λ z. ShowsStates ns 0 z xs []) numbers.1 (subst (λ (p : Procedure). ShowsStates (variable_names p) 0 f.states_text xs []) procedures f.trace.states) in
     (numbers.0, (states_one ns 0 g.states_text xs ys [] [] moved g.trace.states).0)

@@ -6,18 +6,18 @@ use Rattle.std.proofs.Common.{refl, sym, ◌∙◌, ap, subst, arith}
 use Rattle.std.proofs.lemmas.List.{get_or-map, get_or_default, length-map, append_assoc}
 use Rattle.std.proofs.lemmas.List.Elements.{All-head, All-tail}
 use Rattle.std.proofs.lemmas.Option.{slice_get_within, get_or_from_slice_get}
-use Rattle.gh_ast.specs.Plain.{Program}
+use Rattle.gh_ast.specs.Plain.{Procedure, Program}
 use Rattle.gh_ast.specs.Programs.{Name, variable_names}
 use Rattle.gh_ast.specs.Rules.{IsTyped}
 use Rattle.gh_ast.proofs.TypedPrograms.{variables_are_distinct}
 use Rattle.gh_assert.specs.declared.store.Entry.{Entry}
 use Rattle.gh_assert.specs.Stores.{listed_names, AreDistinct, store_of, IsListedAt}
 use Rattle.gh_assert.proofs.Entries.{listed_here}
-use Rattle.gh_path.specs.Conditions.{Condition, conditions}
-use Rattle.gh_path.proofs.Listed.{all_are_listed}
+use Rattle.gh_path.specs.Conditions.{Condition, conditions, IsOf}
 use Rattle.gh_trace.specs.Kept.{state_of}
 use Rattle.gh_trace.specs.Traces as plain
 use Rattle.gh_trace.specs.declared.state.State.{State}
+use Rattle.gh_trace.proofs.Insides.{contained_at}
 use Rattle.gh_draw.specs.Drawings.{line, value_text, heap_line, state_lines, state_text, states_text, drawing}
 use Rattle.gh_draw.specs.Drawn.{entry_text, kept_lines, kept_text, kept_texts, drawing_text, IsDrawnState, IsDrawnFor}
 
@@ -81,15 +81,15 @@ numbered_by_split P n c before after whole number =
 pub numbered_there : (P : Program) (n : ℕ) (c : Condition) → slice_get (conditions P) (n - 1) ≡ Some c → Contains (conditions P) c
 numbered_there P n c numbered = (n - 1, slice_get_within (conditions P) (n - 1) c numbered, get_or_from_slice_get (conditions P) (n - 1) c c numbered)
 
-names_apart : (P : Program) (n : ℕ) (c : Condition) → IsTyped P → slice_get (conditions P) (n - 1) ≡ Some c → AllPairs (λ x y. x ≢ y) (variable_names c.procedure)
-names_apart P n c typed numbered = variables_are_distinct P typed c.procedure ((all_are_listed P c).0 (numbered_there P n c numbered)).declared
+names_apart : (P : Program) (c : Condition) (p : Procedure) → IsTyped P → IsOf P c p → AllPairs (λ x y. x ≢ y) (variable_names p)
+names_apart P c p typed of = variables_are_distinct P typed p (contained_at P.procedures c.procedure p of)
 
-pub numbered_told : (P : Program) (n : ℕ) (c : Condition) (xs : List State) → IsTyped P → slice_get (conditions P) (n - 1) ≡ Some c → All (IsDrawnState (variable_names c.procedure)) xs
-    → drawing_text n xs ≡ drawing n (variable_names c.procedure) (map state_of xs)
-numbered_told P n c xs typed numbered are =
-    let ns = variable_names c.procedure in
+pub numbered_told : (P : Program) (n : ℕ) (c : Condition) (p : Procedure) (xs : List State) → IsTyped P → IsOf P c p → All (IsDrawnState (variable_names p)) xs
+    → drawing_text n xs ≡ drawing n (variable_names p) (map state_of xs)
+numbered_told P n c p xs typed of are =
+    let ns = variable_names p in
     drawing_apart (decimal n) (kept_texts 0 xs)
-    ∙ ap (λ z. line (codes "drawing") ++ line (codes "condition " ++ decimal n) ++ z ++ line (codes "end")) (states_told ns 0 xs (names_apart P n c typed numbered) are)
+    ∙ ap (λ z. line (codes "drawing") ++ line (codes "condition " ++ decimal n) ++ z ++ line (codes "end")) (states_told ns 0 xs (names_apart P c p typed of) are)
 
-pub drawing_told : (P : Program) (n : ℕ) (xs : List State) → IsTyped P → (d : IsDrawnFor P n xs) → drawing_text n xs ≡ drawing n (variable_names d.condition.procedure) (map state_of xs)
-drawing_told P n xs typed d = numbered_told P n d.condition xs typed d.numbered d.states
+pub drawing_told : (P : Program) (n : ℕ) (xs : List State) → IsTyped P → (d : IsDrawnFor P n xs) → drawing_text n xs ≡ drawing n (variable_names d.procedure) (map state_of xs)
+drawing_told P n xs typed d = numbered_told P n d.condition d.procedure xs typed d.of d.states

@@ -1,24 +1,28 @@
 -- A whole file: the states for a condition, and a drawing after the lines that are skipped.
-use Rattle.std.specs.Prelude.{◌≡◌, ◌≢◌, ◌⊎◌, ℕ, ◌-◌, ◌<◌, ◌≤◌, List, [], ◌∷◌, length, get_or, slice_get, Option, Some, None, true, false, ◌==◌, AllPairs, Contains}
+use Rattle.std.specs.Prelude.{◌≡◌, ◌≢◌, ◌⊎◌, ℕ, ◌-◌, ◌<◌, ◌≤◌, List, [], ◌∷◌, length, get_or, slice_get, Option, Some, None, true, false, ◌==◌, AllPairs}
 use Rattle.std.proofs.Common.{refl, sym, ◌∙◌, ap, subst, inl, inr, arith}
 use Rattle.std.proofs.lemmas.List.{length-map}
 use Rattle.std.proofs.lemmas.List.Elements.{All-nil}
 use Rattle.std.proofs.lemmas.Bool.Decides.{nat_tests}
-use Rattle.std.proofs.lemmas.Option.{slice_get_within, get_or_from_slice_get}
+use Rattle.std.proofs.lemmas.Option.{slice_get_within}
 use Rattle.gh_ast.specs.declared.Program as read
-use Rattle.gh_ast.specs.Plain.{Program, program_of, procedure_of}
+use Rattle.gh_ast.specs.Plain.{Procedure, Program, program_of, procedure_of}
 use Rattle.gh_ast.specs.Programs.{Name, variable_names}
 use Rattle.gh_ast.specs.Rules.{IsTyped}
+use Rattle.gh_ast.proofs.Lists.{one_value}
 use Rattle.gh_ast.proofs.TypedPrograms.{variables_are_distinct}
 use Rattle.gh_path.specs.Answers.{IsNumbered}
-use Rattle.gh_path.specs.Conditions.{Condition, conditions}
+use Rattle.gh_path.specs.Conditions.{Condition, conditions, IsOf}
+use Rattle.gh_path.specs.Kept.{condition_of}
 use Rattle.gh_path.specs.declared.condition.Condition as kept
 use Rattle.gh_trace.specs.declared.state.State.{State}
+use Rattle.gh_trace.proofs.FirstRefuted.{placed}
+use Rattle.gh_trace.proofs.Insides.{contained_at}
 use Rattle.gh_draw.specs.Drawn.{drawing_text, IsDrawnFor, IsOtherLine, IsFileOf}
 use Rattle.gh_draw.specs.Reading.{IsFrontRead, IsDrawingIn, IsDrawingOf, ShowsStates, ShowsTrace, ShowsCondition, Skips}
 use Rattle.gh_draw.specs.declared.drawing.Drawing.{Drawing}
 use Rattle.gh_draw.proofs.Fronts.{states_one, condition_one, skips_one}
-use Rattle.gh_draw.proofs.Shown.{file_shown, shown_file, file_one}
+use Rattle.gh_draw.proofs.Shown.{file_shown, shown_file, file_one, same_procedure}
 use Rattle.gh_draw.proofs.Told.{image}
 
 -- the text of a drawing is a file that has it
@@ -27,10 +31,7 @@ file_alone P n xs drawn = record { skipped = []; others = All-nil IsOtherLine; w
 
 -- the condition of the number is the one that a trace is for
 same_numbered : (P : Program) (n : ℕ) (t : List ℕ) (xs : List State) (c : Condition) → slice_get (conditions P) (n - 1) ≡ Some c → (s : ShowsTrace P n t xs) → s.condition ≡ c
-same_numbered P n t xs c there s = one (slice_get (conditions P) (n - 1)) s.condition c s.numbered there
-  where
-    one : (o : Option Condition) (c d : Condition) → o ≡ Some c → o ≡ Some d → c ≡ d
-    one o c d e f = cc
+same_numbered P n t xs c there s = one_value (slice_get (conditions P) (n - 1)) s.condition c s.numbered there
 
 pub trace_no_condition : (P : Program) (n : ℕ) (t : List ℕ) → IsNumbered P n None → (xs : List State) → ShowsTrace P n t xs → ⊥
 trace_no_condition P n t (inl none) xs s = absurd (omega (arith, none, s.low))
@@ -39,26 +40,29 @@ trace_no_condition P n t (inr past) xs s = absurd (omega (arith, s.low, past, sl
 -- names that are the variables of the condition of a number
 pub record AreNamesFor (P : Program) (n : ℕ) (ns : List Name) : Type 0 where
   pub condition : Condition
+  pub procedure : Procedure
+  pub of : IsOf P condition procedure
   pub low : 1 ≤ n
   pub numbered : slice_get (conditions P) (n - 1) ≡ Some condition
-  pub names : ns ≡ variable_names condition.procedure
-  pub there : Contains P.procedures condition.procedure
+  pub names : ns ≡ variable_names procedure
 
 pub names_for : (P : read.Program) (n : ℕ) (r : kept.Condition) (q : _) (ns : List Name) → IsNumbered (program_of P) n (Some r) → q ≡ get_or P.procedures.items r.procedure q → ns ≡ variable_names (procedure_of q)
     → AreNamesFor (program_of P) n ns
-names_for P n r q ns (c, low, there, stands) is named = record {
-  condition = c;
-  low = low;
-  numbered = there;
-  names = named ∙ ap variable_names (image procedure_of P.procedures.items r.procedure q c.procedure is stands.procedure);
-  there =
-      (r.procedure, slice_get_within (program_of P).procedures r.procedure c.procedure stands.procedure, get_or_from_slice_get (program_of P).procedures r.procedure c.procedure c.procedure stands.procedure);
-}
+names_for P n r q ns (low, there) is named =
+    let at = placed (program_of P) (n - 1) (condition_of r) there in
+    record {
+      condition = condition_of r;
+      procedure = at.procedure;
+      of = at.of;
+      low = low;
+      numbered = there;
+      names = named ∙ ap variable_names (image procedure_of P.procedures.items r.procedure q at.procedure is at.of);
+    }
 
 moved : (P : Program) (n : ℕ) (ns : List Name) (t : List ℕ) (xs : List State) → AreNamesFor P n ns → ShowsTrace P n t xs → ShowsStates ns 0 t xs []
 moved P n ns t xs a s =
-    let same = same_numbered P n t xs a.condition a.numbered s in
-    subst (λ z. ShowsStates z 0 t xs []) (sym a.names) (subst (λ (c : Condition). ShowsStates (variable_names c.procedure) 0 t xs []) same s.states)
+    let same = same_procedure P s.condition a.condition s.procedure a.procedure (same_numbered P n t xs a.condition a.numbered s) s.of a.of in
+    subst (λ z. ShowsStates z 0 t xs []) (sym a.names) (subst (λ (p : Procedure). ShowsStates (variable_names p) 0 t xs []) same s.states)
 
 pub trace_no_states : (P : Program) (n : ℕ) (ns : List Name) (t left : List ℕ) → AreNamesFor P n ns → IsFrontRead (ShowsStates ns 0) t left None → (xs : List State) → ShowsTrace P n t xs → ⊥
 trace_no_states P n ns t left a none xs s = none xs [] (moved P n ns t xs a s)
@@ -73,6 +77,8 @@ trace_no_more P n ns t left ys a shown bad xs s = by_case bad (states_one ns 0 t
 pub trace_whole : (P : Program) (n : ℕ) (ns : List Name) (t left : List ℕ) (ys : List State) → AreNamesFor P n ns → ShowsStates ns 0 t ys left → ys ≢ [] → left ≡ [] → ShowsTrace P n t ys
 trace_whole P n ns t left ys a shown some none = record {
   condition = a.condition;
+  procedure = a.procedure;
+  of = a.of;
   low = a.low;
   numbered = a.numbered;
   some = some;
@@ -80,10 +86,12 @@ trace_whole P n ns t left ys a shown some none = record {
 }
 
 pub within : (P : read.Program) (n : ℕ) (r : kept.Condition) → IsNumbered (program_of P) n (Some r) → r.procedure < length P.procedures.items
-within P n r (c, low, there, stands) = omega (arith, slice_get_within (program_of P).procedures r.procedure c.procedure stands.procedure, length-map P.procedures.items procedure_of)
+within P n r (low, there) =
+    let at = placed (program_of P) (n - 1) (condition_of r) there in
+    omega (arith, slice_get_within (program_of P).procedures r.procedure at.procedure at.of, length-map P.procedures.items procedure_of)
 
 pub names_distinct : (P : Program) (n : ℕ) (ns : List Name) → IsTyped P → AreNamesFor P n ns → AllPairs (λ x y. x ≢ y) ns
-names_distinct P n ns typed a = subst (λ zs. AllPairs (λ x y. x ≢ y) zs) (sym a.names) (variables_are_distinct P typed a.condition.procedure a.there)
+names_distinct P n ns typed a = subst (λ zs. AllPairs (λ x y. x ≢ y) zs) (sym a.names) (variables_are_distinct P typed a.procedure (contained_at P.procedures a.condition.procedure a.procedure a.of))
 
 is_other : (n : ℕ) → 0 < n → (n == 0) ≡ false
 is_other n p = grind (arith, nat_tests)

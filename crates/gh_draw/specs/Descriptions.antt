@@ -1,27 +1,43 @@
--- The description of a condition: `PROC from START: CHECK at L:C`.
-use Rattle.std.specs.Prelude.{ℕ, List, ◌++◌, codes}
+-- The description of a condition: `PROC from START: CHECK at L:C`. What its numbers mean is read from the program.
+use Rattle.std.specs.Prelude.{ℕ, List, [], ◌++◌, codes, Option, Some, None, slice_get}
 use Rattle.std.specs.Fmt.{decimal}
 use Rattle.gh_base.specs.declared.place.Span.{Span}
-use Rattle.gh_ast.specs.Programs.{name_of}
-use Rattle.gh_path.specs.Graphs.{Check, access, entry, loop_entry, returned, loop_end, check_place, Origin, from_entry}
-use Rattle.gh_path.specs.Graphs.{from_loop}
+use Rattle.gh_ast.specs.Plain.{Procedure, Program}
+use Rattle.gh_ast.specs.Programs.{Name, name_of}
+use Rattle.gh_path.specs.Graphs.{Check, access, entry, loop_entry, returned, loop_end, check_place, Loop, loops_of}
+use Rattle.gh_path.specs.Graphs.{Start, whole_body, round}
 use Rattle.gh_path.specs.Conditions.{Condition}
 
 -- `L:C`
 abbrev pub place_text : Span → List ℕ
 place_text p = decimal p.line ++ codes ":" ++ decimal p.col
 
-abbrev pub origin_text : Origin → List ℕ
-origin_text from_entry = codes "entry"
-origin_text (from_loop n l) = codes "loop at " ++ place_text l.at
+abbrev pub name_in : Option Procedure → Name
+name_in (Some p) = name_of p
+name_in None = []
 
-abbrev pub check_text : Check → List ℕ
-check_text (access o) = codes "access to " ++ o.name
-check_text (entry f es) = codes "entry of " ++ f.name
-check_text (loop_entry l) = codes "loop entry"
-check_text (returned p f) = codes "return"
-check_text (loop_end l) = codes "loop end"
+abbrev pub loops_in : Option Procedure → List Loop
+loops_in (Some p) = loops_of p
+loops_in None = []
 
-abbrev pub description : Condition → List ℕ
-description c =
-    name_of c.procedure ++ codes " from " ++ origin_text c.start.origin ++ codes ": " ++ check_text c.way.check ++ codes " at " ++ place_text (check_place c.way.check)
+-- the place of a loop
+abbrev pub loop_text : Option Loop → List ℕ
+loop_text (Some l) = place_text l.at
+loop_text None = []
+
+-- a start, or the loop of a number among those of the procedure
+abbrev pub start_text : List Loop → Start → List ℕ
+start_text ls whole_body = codes "entry"
+start_text ls (round n) = codes "loop at " ++ loop_text (slice_get ls n)
+
+abbrev pub check_text : Program → Check → List ℕ
+check_text P (access o) = codes "access to " ++ o.name
+check_text P (entry at n es) = codes "entry of " ++ name_in (slice_get P.procedures n)
+check_text P (loop_entry at n) = codes "loop entry"
+check_text P (returned at) = codes "return"
+check_text P (loop_end at n) = codes "loop end"
+
+abbrev pub description : Program → Condition → List ℕ
+description P c =
+    let p = slice_get P.procedures c.procedure in
+    name_in p ++ codes " from " ++ start_text (loops_in p) c.start ++ codes ": " ++ check_text P c.way.check ++ codes " at " ++ place_text (check_place c.way.check)

@@ -4,11 +4,11 @@ use Rattle.std.specs.Prelude.{slice_get, map}
 use Rattle.std.specs.List.{flat_map}
 use Rattle.std.specs.Fmt.{decimal}
 use Rattle.std.specs.FinMap.{entries}
-use Rattle.gh_ast.specs.Plain.{Program}
+use Rattle.gh_ast.specs.Plain.{Procedure, Program}
 use Rattle.gh_ast.specs.Programs.{Name, variable_names}
 use Rattle.gh_assert.specs.declared.store.Entry.{Entry}
 use Rattle.gh_assert.specs.Stores.{listed_names}
-use Rattle.gh_path.specs.Conditions.{Condition, conditions}
+use Rattle.gh_path.specs.Conditions.{Condition, conditions, IsOf}
 use Rattle.gh_trace.specs.Kept.{state_of}
 use Rattle.gh_trace.specs.Validity.{AreCounterexample}
 use Rattle.gh_trace.specs.declared.state.State.{State}
@@ -64,11 +64,13 @@ pub record IsDrawnState (names : List Name) (s : State) : Type 0 where
 -- the states are drawn for the condition of the number, and there is at least one
 pub record IsDrawnFor (P : Program) (number : ℕ) (ss : List State) : Type 0 where
   pub condition : Condition
+  pub procedure : Procedure
+  pub of : IsOf P condition procedure
   pub low : 1 ≤ number
   pub fits : IsValue number
   pub numbered : slice_get (conditions P) (number - 1) ≡ Some condition
   pub some : ss ≢ []
-  pub states : All (IsDrawnState (variable_names condition.procedure)) ss
+  pub states : All (IsDrawnState (variable_names procedure)) ss
 
 -- a line before the drawing
 pub record IsOtherLine (l : List ℕ) : Type 0 where
@@ -84,6 +86,8 @@ pub record IsFileOf (P : Program) (text : List ℕ) (number : ℕ) (ss : List St
 
 -- kept states of a condition, drawn under its number: the text is that of the states that they stand for, which refute it and have no greater values
 pub record IsTold (P : Program) (number : ℕ) (c : Condition) (ss : List State) : Type 0 where
-  pub text : drawing_text number ss ≡ drawing number (variable_names c.procedure) (map state_of ss)
+  pub procedure : Procedure
+  pub of : IsOf P c procedure
+  pub text : drawing_text number ss ≡ drawing number (variable_names procedure) (map state_of ss)
   pub refutes : AreCounterexample P c (map state_of ss)
-  pub drawable : All (IsDrawable (variable_names c.procedure)) (map state_of ss)
+  pub drawable : All (IsDrawable (variable_names procedure)) (map state_of ss)

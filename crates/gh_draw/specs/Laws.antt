@@ -2,12 +2,12 @@
 use Rattle.std.specs.Prelude.{◌≡◌, ◌≢◌, ℕ, ◌-◌, ◌≤◌, List, [], ◌++◌, map, All, Contains, Option, Some, slice_get}
 use Rattle.std.specs.List.{flat_map}
 use Rattle.gh_ast.specs.Grammar.{Spells}
-use Rattle.gh_ast.specs.Plain.{Program}
+use Rattle.gh_ast.specs.Plain.{Procedure, Program}
 use Rattle.gh_ast.specs.Programs.{Name, variable_names}
 use Rattle.gh_ast.specs.Rules.{IsTyped}
 use Rattle.gh_assert.specs.Heaps.{IsProper}
 use Rattle.gh_assert.specs.Stores.{listed_names, AreDistinct}
-use Rattle.gh_path.specs.Conditions.{Condition, conditions}
+use Rattle.gh_path.specs.Conditions.{Condition, conditions, IsOf}
 use Rattle.gh_trace.specs.Kept.{state_of, drawn}
 use Rattle.gh_trace.specs.Replay.{Refutes}
 use Rattle.gh_trace.specs.declared.state.State.{State}
@@ -27,17 +27,17 @@ DrawingsAreFiles = (P : Program) (n : ℕ) (xs : List State) → IsDrawnFor P n 
 
 -- what is read from the text of a drawing over the variables of its condition is that drawing
 abbrev pub DrawingsReadBack : Type 0
-DrawingsReadBack = (P : Program) (n : ℕ) (c : Condition) (xs : List State) (read : Option Drawing) → 1 ≤ n → IsValue n → slice_get (conditions P) (n - 1) ≡ Some c
-    → xs ≢ [] → All (IsOver (variable_names c.procedure)) xs → All HasValues xs → IsDrawingIn P (drawing_text n xs) read → IsDrawingOf n xs read
+DrawingsReadBack = (P : Program) (n : ℕ) (c : Condition) (p : Procedure) (xs : List State) (read : Option Drawing) → 1 ≤ n → IsValue n → slice_get (conditions P) (n - 1) ≡ Some c
+    → IsOf P c p → xs ≢ [] → All (IsOver (variable_names p)) xs → All HasValues xs → IsDrawingIn P (drawing_text n xs) read → IsDrawingOf n xs read
 
 -- the text of a drawing is that of its states over the variables of its condition
 abbrev pub DrawingsAreTold : Type 0
-DrawingsAreTold = (P : Program) (n : ℕ) (xs : List State) → IsTyped P → (d : IsDrawnFor P n xs) → drawing_text n xs ≡ drawing n (variable_names d.condition.procedure) (map state_of xs)
+DrawingsAreTold = (P : Program) (n : ℕ) (xs : List State) → IsTyped P → (d : IsDrawnFor P n xs) → drawing_text n xs ≡ drawing n (variable_names d.procedure) (map state_of xs)
 
 -- a report that ends in a drawing, after other lines, is a file that has it
 abbrev pub ReportsAreFiles : Type 0
 ReportsAreFiles = (P : Program) (lines : List (List ℕ)) (n : ℕ) (xs : List State) → IsTyped P → All IsOtherLine lines → (d : IsDrawnFor P n xs)
-    → IsFileOf P (flat_map line lines ++ drawing n (variable_names d.condition.procedure) (map state_of xs)) n xs
+    → IsFileOf P (flat_map line lines ++ drawing n (variable_names d.procedure) (map state_of xs)) n xs
 
 -- kept states that refute the condition of a number are told by their drawing
 abbrev pub RefutationsAreTold : Type 0
@@ -46,14 +46,14 @@ RefutationsAreTold =
 
 -- the description of a condition of a program that a text spells is a line that may stand before a drawing
 abbrev pub DescriptionsAreLines : Type 0
-DescriptionsAreLines = (source : List ℕ) (P : Program) (c : Condition) → Spells source P → Contains (conditions P) c → IsOtherLine (description c)
+DescriptionsAreLines = (source : List ℕ) (P : Program) (c : Condition) → Spells source P → Contains (conditions P) c → IsOtherLine (description P c)
 
 -- and so the report on what they refute, a line, the description and the drawing, is a file that has them
 abbrev pub RefutationsAreFiles : Type 0
 RefutationsAreFiles =
     (source : List ℕ) (P : Program) (first : List ℕ) (n : ℕ) (c : Condition) (xs : List State) → Spells source P → IsTyped P → IsOtherLine first → 1 ≤ n → IsValue n
-    → slice_get (conditions P) (n - 1) ≡ Some c → Refutes P c (map drawn xs) → All HasValues xs
-    → IsFileOf P (line first ++ line (description c) ++ drawing n (variable_names c.procedure) (map state_of xs)) n xs
+    → slice_get (conditions P) (n - 1) ≡ Some c → (r : Refutes P c (map drawn xs)) → All HasValues xs
+    → IsFileOf P (line first ++ line (description P c) ++ drawing n (variable_names r.procedure) (map state_of xs)) n xs
 
 -- where each name stands once and null has no cell, kept states have values within 32 bits exactly where the states that they stand for are drawable
 pub record DrawableHaveValues : Type 0 where

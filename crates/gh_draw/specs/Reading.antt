@@ -10,11 +10,11 @@ use Rattle.std.specs.List.{flat_map}
 use Rattle.std.specs.Fmt.{decimal}
 use Rattle.std.specs.FinMap.{entries}
 use Rattle.gh_base.specs.Texts.{line_end}
-use Rattle.gh_ast.specs.Plain.{Program}
+use Rattle.gh_ast.specs.Plain.{Procedure, Program}
 use Rattle.gh_ast.specs.Programs.{Name, variable_names}
 use Rattle.gh_assert.specs.Heaps.{Heap}
 use Rattle.gh_assert.specs.declared.store.Entry.{Entry}
-use Rattle.gh_path.specs.Conditions.{Condition, conditions}
+use Rattle.gh_path.specs.Conditions.{Condition, conditions, IsOf}
 use Rattle.gh_trace.specs.declared.state.State.{State}
 use Rattle.gh_trace.specs.declared.state.Trace.{Trace}
 use Rattle.gh_draw.specs.Drawings.{line}
@@ -114,10 +114,12 @@ ShowsCondition text n rest = (mid : List ℕ) × (text ≡ codes "condition " ++
 -- states for the condition of a number, to the end of the text
 pub record ShowsTrace (P : Program) (number : ℕ) (text : List ℕ) (ss : List State) : Type 0 where
   pub condition : Condition
+  pub procedure : Procedure
+  pub of : IsOf P condition procedure
   pub low : 1 ≤ number
   pub numbered : slice_get (conditions P) (number - 1) ≡ Some condition
   pub some : ss ≢ []
-  pub states : ShowsStates (variable_names condition.procedure) 0 text ss []
+  pub states : ShowsStates (variable_names procedure) 0 text ss []
 
 -- found, or there is none
 abbrev pub IsFound : {X : Type 0} → (X → Type 0) → Option X → Type 0

@@ -2,8 +2,9 @@
 
 ghost use Rattle.std.specs.Prelude.{◌≡◌, ◌++◌, IfOk};
 ghost use Rattle.gh_ast.specs.Plain.{program_of, procedure_of};
+ghost use Rattle.gh_path.specs.Kept.{Fits};
 ghost use Rattle.gh_draw.specs.Descriptions.{place_text};
-ghost use Rattle.gh_draw.specs.Kept.{HasStart, HasKind, HasMeaning, TellsStart, TellsKind, Describes};
+ghost use Rattle.gh_draw.specs.Kept.{HasStart, HasKind, TellsStart, TellsKind, Describes};
 
 use gh_ast::typed::Typed;
 use gh_ast::{Procedure, Program};
@@ -65,7 +66,7 @@ fn push_kind(text: &mut Text, program: &Program, kind: &CheckKind) -> Result<(),
 
 /// The description of a condition of the program: its procedure, its start, what is asked and where.
 pub fn describe(alloc: Global, typed: &Typed, condition: &Condition) -> Result<Text, AllocError>
-    requires { HasMeaning (program_of typed.now) condition.now }
+    requires { Fits (program_of typed.now) condition.now }
     ensures { IfOk result (λ t. Describes (program_of typed.now) condition.now t) }
 {
     let program = typed.program();

@@ -1,8 +1,8 @@
 -- Checks that fail.
-use Rattle.std.specs.Prelude.{◌≡◌, ℕ, ◌+◌, ◌<◌, List, [], ◌∷◌, ◌++◌, map, take, length, Option, Some, None}
+use Rattle.std.specs.Prelude.{◌≡◌, ℕ, ◌+◌, ◌<◌, List, [], ◌∷◌, ◌++◌, map, take, length, Option, Some, None, slice_get}
 use Rattle.std.proofs.Common.{Vec, Global, refl, sym, ◌∙◌, ap, subst, get_or}
 use Rattle.std.proofs.lemmas.List.{append_assoc, map-append, take_more}
-use Rattle.gh_ast.specs.declared.Occ.{Occ}
+use Rattle.gh_base.specs.declared.place.Span.{Span}
 use Rattle.gh_ast.specs.declared.Expr.{Expr}
 use Rattle.gh_ast.specs.declared.Assertion.{Assertion}
 use Rattle.gh_ast.specs.Plain.{Formula, formula_of, Procedure, Program}
@@ -11,16 +11,19 @@ use Rattle.gh_assert.specs.Heaps.{Heap}
 use Rattle.gh_assert.specs.Meaning.{Store}
 use Rattle.gh_path.specs.Graphs.{entry}
 use Rattle.gh_path.specs.declared.condition.CheckKind.TheVariants as kind
-use Rattle.gh_trace.specs.Traces.{State, Passes}
+use Rattle.gh_trace.specs.Traces.{State}
 use Rattle.gh_trace.proofs.CallLemmas.{IsCall}
-use Rattle.gh_trace.proofs.Insides.{declares_at}
-use Rattle.gh_lens.specs.Misses.{IsMiss, AreMisses, IsFailing, IsEntryOr, IsInvariantOr, IsFailingOr}
+use Rattle.gh_lens.specs.Misses.{IsMiss, AreMisses, IsFailing, IsCheckOr, IsEntryOr, IsInvariantOr, IsFailingOr}
 
 -- where the entry of a callee fails
-pub entry_fails : (P : Program) (n : ℕ) (f : Occ) (q : Procedure) (es : List Expr) (x : State) (given : List ℕ) (inside : Store) (text : List ℕ) → IsCall P n f q es x given → map inside (parameters_of q) ≡ given
-    → IsMiss q.needs inside x.heap text → IsFailing P (entry f es) x text
-entry_fails P n f q es x given inside text call arguments miss =
-    (q, given, declares_at P n f.name q call.at call.callee, call.gives, record { inside = inside; arguments = arguments; miss = miss })
+pub entry_fails : (P : Program) (p : Procedure) (at : Span) (n : ℕ) (q : Procedure) (es : List Expr) (x : State) (given : List ℕ) (inside : Store) (text : List ℕ) → IsCall P n q es x given → map inside (parameters_of q) ≡ given
+    → IsMiss q.needs inside x.heap text → IsFailing P p (entry at n es) x text
+entry_fails P p at n q es x given inside text call arguments miss =
+    (q, given, call.callee, call.gives, record { inside = inside; arguments = arguments; miss = miss })
+
+-- a callee that isn't there is passed
+pub no_callee : (P : Program) (n : ℕ) (es : List Expr) (x : State) → slice_get P.procedures n ≡ None → IsEntryOr P n es x None
+no_callee P n es x none p at fails = fails (λ q vs inside is give params. absurd cc)
 
 -- one alternative more
 pub misses_more : (fs : List Formula) (f : Formula) (s : Store) (h : Heap) (old line new : List ℕ) → AreMisses fs s h old → IsMiss f s h line → new ≡ old ++ line → AreMisses (fs ++ f ∷ []) s h new
@@ -42,18 +45,13 @@ misses_next xs i x s h old line new within is are one e =
 
 -- the entry of a callee, by its kind
 pub callee_or : (P : Program) (p : Procedure) (n : ℕ) (es : Vec Expr Global) (given : List Expr) (x : State) (o : Option (List ℕ)) → given ≡ es.items → IsEntryOr P n given x o → IsFailingOr P p (kind.CalleeEntry n es) x o
-callee_or P p n es given x (Some t) e some = λ at k (f, callee, place, is).
-    let here : entry f given ≡ k = ap (entry f) e ∙ sym is in
-    subst (λ c. IsFailing P c x t) here (some f callee)
-callee_or P p n es given x None e none = λ at k (f, callee, place, is) fails.
-    let here : k ≡ entry f given = is ∙ ap (entry f) (sym e) in
-    none f callee (subst (λ c. Passes P c x → ⊥) here fails)
+callee_or P p n es given x o e is = λ at. subst (λ gs. IsCheckOr P p (entry at n gs) x o) e (is p at)
 
 -- the entry and the end of a loop
 pub loop_entry_or : (P : Program) (p : Procedure) (n : ℕ) (x : State) (o : Option (List ℕ)) → IsInvariantOr p n x o → IsFailingOr P p (kind.LoopEntry n) x o
-loop_entry_or P p n x (Some t) some = λ at k (l, loop, place, is). subst (λ c. IsFailing P c x t) (sym is) (some l loop)
-loop_entry_or P p n x None none = λ at k (l, loop, place, is) fails. none l loop
+loop_entry_or P p n x (Some t) some = λ at. some
+loop_entry_or P p n x None none = λ at fails. fails (λ l loop. absurd (none l loop))
 
 pub loop_end_or : (P : Program) (p : Procedure) (n : ℕ) (x : State) (o : Option (List ℕ)) → IsInvariantOr p n x o → IsFailingOr P p (kind.LoopEnd n) x o
-loop_end_or P p n x (Some t) some = λ at k (l, loop, place, is). subst (λ c. IsFailing P c x t) (sym is) (some l loop)
-loop_end_or P p n x None none = λ at k (l, loop, place, is) fails. none l loop
+loop_end_or P p n x (Some t) some = λ at. some
+loop_end_or P p n x None none = λ at fails. fails (λ l loop. absurd (none l loop))

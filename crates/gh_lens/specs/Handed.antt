@@ -3,15 +3,15 @@ use Rattle.std.specs.Prelude.{◌≡◌, ℕ, List, map, Option, Some, None}
 use Rattle.gh_ast.specs.declared.Expr.{Expr}
 use Rattle.gh_ast.specs.declared.Occ.{Occ}
 use Rattle.gh_ast.specs.Plain.{Procedure, Program}
-use Rattle.gh_ast.specs.Programs.{parameters_of, Declares}
+use Rattle.gh_ast.specs.Programs.{parameters_of}
 use Rattle.gh_assert.specs.Meaning.{Store}
 use Rattle.gh_assert.specs.Values.{Give}
 use Rattle.gh_path.specs.Graphs.{Loop, PathStep, accessed, assume, assigned, made, written, freed, called, looped}
 use Rattle.gh_path.specs.Graphs.{answered}
-use Rattle.gh_path.specs.Kept.{IsCallee, IsLoop}
+use Rattle.gh_path.specs.Kept.{IsCallee, IsLoop, step_of}
 use Rattle.gh_path.specs.declared.condition.PathStep as kept_step
 use Rattle.gh_trace.specs.Kept.{state_of}
-use Rattle.gh_trace.specs.Settings.{here, whole, OfStep}
+use Rattle.gh_trace.specs.Settings.{here, whole}
 use Rattle.gh_trace.specs.Traces.{State}
 use Rattle.gh_trace.specs.declared.setting.Setting.{Setting}
 use Rattle.gh_trace.specs.declared.state.State as kept_state
@@ -25,32 +25,32 @@ pub record IsCallExchange (q : Procedure) (vs : List ℕ) (x y : State) (e : Exc
   pub exchange : IsExchange q.needs inside x.heap y.heap e
 
 -- only a call and a loop hand cells over: by what the callee requires, and by the invariant
-abbrev pub IsHanded : Program → PathStep → State → State → Exchange → Type 0
-IsHanded P (accessed o) x y e = ⊥
-IsHanded P (assume l c r way) x y e = ⊥
-IsHanded P (assigned o v) x y e = ⊥
-IsHanded P (made o) x y e = ⊥
-IsHanded P (written o v) x y e = ⊥
-IsHanded P (freed o) x y e = ⊥
-IsHanded P (called xs f es) x y e = (q : Procedure) × (vs : List ℕ) × Declares P f.name q × Give x.store x.heap es vs × IsCallExchange q vs x y e
-IsHanded P (looped l) x y e = IsExchange l.invariant x.store x.heap y.heap e
-IsHanded P (answered xs es) x y e = ⊥
+abbrev pub IsHanded : Program → Procedure → PathStep → State → State → Exchange → Type 0
+IsHanded P p (accessed o) x y e = ⊥
+IsHanded P p (assume l c r) x y e = ⊥
+IsHanded P p (assigned o v) x y e = ⊥
+IsHanded P p (made o) x y e = ⊥
+IsHanded P p (written o v) x y e = ⊥
+IsHanded P p (freed o) x y e = ⊥
+IsHanded P p (called xs n es) x y e = (q : Procedure) × (vs : List ℕ) × IsCallee P n q × Give x.store x.heap es vs × IsCallExchange q vs x y e
+IsHanded P p (looped n) x y e = (l : Loop) × IsLoop p n l × IsExchange l.invariant x.store x.heap y.heap e
+IsHanded P p (answered es) x y e = ⊥
 
 -- what is handed over; or nothing is
-abbrev pub IsHandedOr : Program → PathStep → State → State → Option Exchange → Type 0
-IsHandedOr P s x y (Some e) = IsHanded P s x y e
-IsHandedOr P s x y None = (e : Exchange) → IsHanded P s x y e → ⊥
-
--- what a call of the procedure of a number hands over between two states
-abbrev pub IsHandedToCallee : Setting → ℕ → List Expr → kept_state.State → kept_state.State → Option Exchange → Type 0
-IsHandedToCallee setting callee es x y o =
-    (xs : List Occ) (f : Occ) → IsCallee (whole setting) callee f.name → IsHandedOr (whole setting) (called xs f es) (state_of x) (state_of y) o
-
--- what the loop of a number hands over between two states
-abbrev pub IsHandedToLoop : Setting → ℕ → kept_state.State → kept_state.State → Option Exchange → Type 0
-IsHandedToLoop setting number x y o =
-    (l : Loop) → IsLoop (here setting) number l → IsHandedOr (whole setting) (looped l) (state_of x) (state_of y) o
+abbrev pub IsHandedOr : Program → Procedure → PathStep → State → State → Option Exchange → Type 0
+IsHandedOr P p s x y (Some e) = IsHanded P p s x y e
+IsHandedOr P p s x y None = (e : Exchange) → IsHanded P p s x y e → ⊥
 
 -- what a step hands over between two states
+abbrev pub IsHandedIn : Setting → PathStep → kept_state.State → kept_state.State → Option Exchange → Type 0
+IsHandedIn setting s x y o = IsHandedOr (whole setting) (here setting) s (state_of x) (state_of y) o
+
+-- a call of the procedure of a number; the loop of a number; a step as it is kept
+abbrev pub IsHandedToCallee : Setting → ℕ → List Expr → kept_state.State → kept_state.State → Option Exchange → Type 0
+IsHandedToCallee setting callee es x y o = (xs : List Occ) → IsHandedIn setting (called xs callee es) x y o
+
+abbrev pub IsHandedToLoop : Setting → ℕ → kept_state.State → kept_state.State → Option Exchange → Type 0
+IsHandedToLoop setting number x y o = IsHandedIn setting (looped number) x y o
+
 abbrev pub IsHandedBetween : Setting → kept_step.PathStep → kept_state.State → kept_state.State → Option Exchange → Type 0
-IsHandedBetween setting step x y o = OfStep setting step (λ s. IsHandedOr (whole setting) s (state_of x) (state_of y) o)
+IsHandedBetween setting step x y o = IsHandedIn setting (step_of step) x y o

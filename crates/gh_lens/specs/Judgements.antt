@@ -1,14 +1,14 @@
 -- What is found of the conditions of a program, one by one.
 use Rattle.std.specs.Prelude.{◌≡◌, ℕ, suc, List, [], ◌∷◌, Bool, true, false}
 use Rattle.gh_base.specs.declared.place.Span.{Span}
-use Rattle.gh_ast.specs.Plain.{Procedure, Program}
+use Rattle.gh_ast.specs.Plain.{Program}
 use Rattle.gh_path.specs.Graphs.{Check, access, entry, loop_entry, returned, loop_end}
 use Rattle.gh_path.specs.Conditions.{Condition}
-use Rattle.gh_path.specs.Kept.{IsKind}
+use Rattle.gh_path.specs.Kept.{asked_at, condition_of}
 use Rattle.gh_path.specs.declared.condition.CheckKind.{CheckKind}
 use Rattle.gh_path.specs.declared.condition.Condition as kept
 use Rattle.gh_trace.specs.declared.state.Trace.{Trace}
-use Rattle.gh_trace.specs.Kept.{IsOfProgram, drawn_of}
+use Rattle.gh_trace.specs.Kept.{drawn_of}
 use Rattle.gh_trace.specs.Replay.{Refutes}
 use Rattle.gh_trace.specs.Validity.{IsConditionValid}
 use Rattle.gh_draw.specs.Descriptions.{description}
@@ -19,34 +19,34 @@ use Rattle.gh_lens.specs.declared.judged.Judged.{Judged}
 -- an entry of a callee or of a loop, or the end of a loop: what comes after such a place rests on it
 abbrev pub is_ground_work : Check → Bool
 is_ground_work (access x) = false
-is_ground_work (entry f es) = true
-is_ground_work (loop_entry l) = true
-is_ground_work (returned at fs) = false
-is_ground_work (loop_end l) = true
+is_ground_work (entry at n es) = true
+is_ground_work (loop_entry at n) = true
+is_ground_work (returned at) = false
+is_ground_work (loop_end at n) = true
 
--- b tells it of the check that a kept one stands for
+-- b tells it of what is asked at any place
 abbrev pub TellsGroundWork : CheckKind → Bool → Type 0
-TellsGroundWork kind b = (P : Program) (p : Procedure) (at : Span) (k : Check) → IsKind P p kind at k → b ≡ is_ground_work k
+TellsGroundWork kind b = (at : Span) → b ≡ is_ground_work (asked_at kind at)
 
 -- the condition has no counterexample, or it has one
 abbrev pub IsFound : Program → Condition → Finding → Type 0
 IsFound P c Valid = IsConditionValid P c
 IsFound P c Refuted = (t : Trace) × Refutes P c (drawn_of t)
 
--- the same of the condition that a kept one stands for
+-- the same of a condition as it is kept
 abbrev pub IsFoundFor : Program → kept.Condition → Finding → Type 0
-IsFoundFor P r f = (c : Condition) → IsOfProgram P r c → IsFound P c f
+IsFoundFor P r f = IsFound P (condition_of r) f
 
 -- what is kept of the k-th condition
 pub record IsJudged (P : Program) (k : ℕ) (c : Condition) (j : Judged) : Type 0 where
   pub number : j.number ≡ k
-  pub description : j.description ≡ description c
+  pub description : j.description ≡ description P c
   pub ground_work : j.is_ground_work ≡ is_ground_work c.way.check
   pub found : IsFound P c j.finding
 
--- the same of the condition that a kept one stands for
+-- the same of a condition as it is kept
 abbrev pub IsJudgedFor : Program → ℕ → kept.Condition → Judged → Type 0
-IsJudgedFor P k r j = (c : Condition) → IsOfProgram P r c → IsJudged P k c j
+IsJudgedFor P k r j = IsJudged P k (condition_of r) j
 
 -- the conditions, numbered from k, one by one
 abbrev pub AreJudged : Program → ℕ → List Condition → List Judged → Type 0

@@ -3,17 +3,16 @@ use Rattle.std.specs.Prelude.{◌≡◌, ℕ, List, [], ◌∷◌, ◌++◌, map
 use Rattle.std.specs.Fmt.{decimal}
 use Rattle.std.specs.FinMap.{keys}
 use Rattle.gh_base.specs.declared.place.Span.{Span}
-use Rattle.gh_ast.specs.declared.Occ.{Occ}
 use Rattle.gh_ast.specs.declared.Operand.{Operand}
 use Rattle.gh_ast.specs.declared.Expr.{Expr}
 use Rattle.gh_ast.specs.Plain.{Formula, empty, comparison, points_to, cell, segment, star, cases, Procedure, Program}
-use Rattle.gh_ast.specs.Programs.{parameters_of, Declares}
+use Rattle.gh_ast.specs.Programs.{parameters_of}
 use Rattle.gh_assert.specs.Heaps.{Heap}
 use Rattle.gh_assert.specs.Meaning.{Store, value}
 use Rattle.gh_assert.specs.Values.{Give}
 use Rattle.gh_draw.specs.Drawings.{line}
 use Rattle.gh_path.specs.Graphs.{Check, access, entry, loop_entry, returned, loop_end, Loop}
-use Rattle.gh_path.specs.Kept.{IsCallee, IsLoop, IsKind}
+use Rattle.gh_path.specs.Kept.{IsCallee, IsLoop, asked_at}
 use Rattle.gh_path.specs.declared.condition.CheckKind as kept
 use Rattle.gh_trace.specs.Traces.{State, Passes}
 use Rattle.gh_lens.specs.Statements.{operand_text, equality_text}
@@ -81,25 +80,27 @@ pub record IsEntryMiss (P : Program) (q : Procedure) (vs : List ℕ) (x : State)
   pub arguments : map inside (parameters_of q) ≡ vs
   pub miss : IsMiss q.needs inside x.heap text
 
--- where a check fails in a state
-abbrev pub IsFailing : Program → Check → State → List ℕ → Type 0
-IsFailing P (access o) x text = text ≡ access_line o.name (x.store o.name)
-IsFailing P (entry f es) x text = (q : Procedure) × (vs : List ℕ) × Declares P f.name q × Give x.store x.heap es vs × IsEntryMiss P q vs x text
-IsFailing P (loop_entry l) x text = IsMiss l.invariant x.store x.heap text
-IsFailing P (returned at fs) x text = AreMisses fs x.store x.heap text
-IsFailing P (loop_end l) x text = IsMiss l.invariant x.store x.heap text
+-- where a check of the procedure p fails in a state
+abbrev pub IsFailing : Program → Procedure → Check → State → List ℕ → Type 0
+IsFailing P p (access o) x text = text ≡ access_line o.name (x.store o.name)
+IsFailing P p (entry at n es) x text = (q : Procedure) × (vs : List ℕ) × IsCallee P n q × Give x.store x.heap es vs × IsEntryMiss P q vs x text
+IsFailing P p (loop_entry at n) x text = (l : Loop) × IsLoop p n l × IsMiss l.invariant x.store x.heap text
+IsFailing P p (returned at) x text = AreMisses p.gives x.store x.heap text
+IsFailing P p (loop_end at n) x text = (l : Loop) × IsLoop p n l × IsMiss l.invariant x.store x.heap text
 
--- where the entry of the procedure of a number fails; or it is passed, up to a double negation
+-- where it fails; or it is passed, up to a double negation
+abbrev pub IsCheckOr : Program → Procedure → Check → State → Option (List ℕ) → Type 0
+IsCheckOr P p c x (Some text) = IsFailing P p c x text
+IsCheckOr P p c x None = (Passes P p c x → ⊥) → ⊥
+
+-- the same of the entry of the procedure of a number, and of what is asked at any place
 abbrev pub IsEntryOr : Program → ℕ → List Expr → State → Option (List ℕ) → Type 0
-IsEntryOr P n es x (Some text) = (f : Occ) → IsCallee P n f.name → IsFailing P (entry f es) x text
-IsEntryOr P n es x None = (f : Occ) → IsCallee P n f.name → (Passes P (entry f es) x → ⊥) → ⊥
+IsEntryOr P n es x o = (p : Procedure) (at : Span) → IsCheckOr P p (entry at n es) x o
+
+abbrev pub IsFailingOr : Program → Procedure → kept.CheckKind → State → Option (List ℕ) → Type 0
+IsFailingOr P p kind x o = (at : Span) → IsCheckOr P p (asked_at kind at) x o
 
 -- where the invariant of the loop of a number fails; or there is no such loop
 abbrev pub IsInvariantOr : Procedure → ℕ → State → Option (List ℕ) → Type 0
-IsInvariantOr p n x (Some text) = (l : Loop) → IsLoop p n l → IsMiss l.invariant x.store x.heap text
+IsInvariantOr p n x (Some text) = (l : Loop) × IsLoop p n l × IsMiss l.invariant x.store x.heap text
 IsInvariantOr p n x None = (l : Loop) → IsLoop p n l → ⊥
-
--- where the check of a kind fails; or it is passed, up to a double negation
-abbrev pub IsFailingOr : Program → Procedure → kept.CheckKind → State → Option (List ℕ) → Type 0
-IsFailingOr P p kind x (Some text) = (at : Span) (k : Check) → IsKind P p kind at k → IsFailing P k x text
-IsFailingOr P p kind x None = (at : Span) (k : Check) → IsKind P p kind at k → (Passes P k x → ⊥) → ⊥

@@ -12,7 +12,7 @@ use Rattle.gh_ast.specs.Plain.{Procedure, Program}
 use Rattle.gh_ast.specs.Programs.{Name, name_of, names}
 use Rattle.gh_path.specs.Graphs.{Loop, loops_of, PathStep, accessed, assume, assigned, made, written, freed, called}
 use Rattle.gh_path.specs.Graphs.{looped, answered}
-use Rattle.gh_path.specs.Kept.{IsLoop, IsStep}
+use Rattle.gh_path.specs.Kept.{step_of}
 use Rattle.gh_path.specs.Walking.{loop_of}
 use Rattle.gh_path.specs.declared.condition.PathStep as kept
 use Rattle.gh_path.specs.declared.loops.While.{While}
@@ -31,13 +31,6 @@ equality_text false = codes " != "
 
 abbrev pub comparison_text : Expr → Bool → Expr → List ℕ
 comparison_text l e r = expr_text l ++ equality_text e ++ expr_text r
-
--- a comparison that is false is told as its opposite
-abbrev pub assumed_text : Bool → Bool → List ℕ
-assumed_text true true = codes " == "
-assumed_text false true = codes " != "
-assumed_text true false = codes " != "
-assumed_text false false = codes " == "
 
 -- each after `, `
 abbrev pub others_text : List (List ℕ) → List ℕ
@@ -68,20 +61,20 @@ abbrev pub values_text : List (List ℕ) → List ℕ
 values_text [] = []
 values_text (t ∷ ts) = codes " " ++ list_text (t ∷ ts)
 
-abbrev pub step_text : PathStep → List ℕ
-step_text (accessed o) = o.name ++ codes " is a cell"
-step_text (assume l e r way) = expr_text l ++ assumed_text e way ++ expr_text r
-step_text (assigned o e) = o.name ++ codes " := " ++ expr_text e
-step_text (made o) = o.name ++ codes " := new Node"
-step_text (written o e) = o.name ++ codes ".next := " ++ expr_text e
-step_text (freed o) = codes "free " ++ o.name
-step_text (called xs f es) = call_text (names xs) f.name es
-step_text (looped l) = codes "the loop"
-step_text (answered xs es) = codes "return" ++ values_text (map expr_text es)
+abbrev pub step_text : Program → PathStep → List ℕ
+step_text P (accessed o) = o.name ++ codes " is a cell"
+step_text P (assume l e r) = comparison_text l e r
+step_text P (assigned o e) = o.name ++ codes " := " ++ expr_text e
+step_text P (made o) = o.name ++ codes " := new Node"
+step_text P (written o e) = o.name ++ codes ".next := " ++ expr_text e
+step_text P (freed o) = codes "free " ++ o.name
+step_text P (called xs n es) = called_text (slice_get P.procedures n) (names xs) es
+step_text P (looped n) = codes "the loop"
+step_text P (answered es) = codes "return" ++ values_text (map expr_text es)
 
--- the statement of the step that a kept one stands for is added
+-- the statement of a step as it is kept is added
 abbrev pub AddsStep : Program → kept.PathStep → List ℕ → List ℕ → Type 0
-AddsStep P r old new = (p : Procedure) (s : PathStep) → IsStep P p r s → new ≡ old ++ step_text s
+AddsStep P r old new = new ≡ old ++ step_text P (step_of r)
 
 abbrev pub operand_place : Operand → Span
 operand_place (Null span) = span
@@ -100,30 +93,34 @@ abbrev pub call_place : List Occ → List Expr → Option Span
 call_place [] es = exprs_place es
 call_place (x ∷ xs) es = Some x.span
 
--- where the step stands; none for a call or a return that has neither targets nor values
-abbrev pub step_place : PathStep → Option Span
-step_place (accessed o) = Some o.span
-step_place (assume l e r way) = Some (expr_place l)
-step_place (assigned o e) = Some o.span
-step_place (made o) = Some o.span
-step_place (written o e) = Some o.span
-step_place (freed o) = Some o.span
-step_place (called xs f es) = call_place xs es
-step_place (looped l) = Some l.at
-step_place (answered xs es) = exprs_place es
+-- where a loop stands, if there is one
+abbrev pub loop_place : Option Loop → Option Span
+loop_place (Some l) = Some l.at
+loop_place None = None
 
--- where the loop of a number stands, and the step that a kept one stands for, in a procedure with these loops
+-- where the step stands, in a procedure with these loops; none for a call or a return that has neither targets nor values
+abbrev pub step_place : List Loop → PathStep → Option Span
+step_place ls (accessed o) = Some o.span
+step_place ls (assume l e r) = Some (expr_place l)
+step_place ls (assigned o e) = Some o.span
+step_place ls (made o) = Some o.span
+step_place ls (written o e) = Some o.span
+step_place ls (freed o) = Some o.span
+step_place ls (called xs n es) = call_place xs es
+step_place ls (looped n) = loop_place (slice_get ls n)
+step_place ls (answered es) = exprs_place es
+
+-- where the loop of a number stands, and a step as it is kept
 abbrev pub IsLoopPlace : List While → ℕ → Option Span → Type 0
-IsLoopPlace loops n o = (p : Procedure) (l : Loop) → map loop_of loops ≡ loops_of p → IsLoop p n l → o ≡ Some l.at
+IsLoopPlace loops n o = o ≡ loop_place (slice_get (map loop_of loops) n)
 
 abbrev pub IsStepPlace : List While → kept.PathStep → Option Span → Type 0
-IsStepPlace loops r o =
-    (P : Program) (p : Procedure) (s : PathStep) → map loop_of loops ≡ loops_of p → IsStep P p r s → o ≡ step_place s
+IsStepPlace loops r o = o ≡ step_place (map loop_of loops) (step_of r)
 
 abbrev pub line_text : Option Span → List ℕ
 line_text None = []
 line_text (Some p) = codes "line " ++ decimal p.line ++ codes ": "
 
--- `line L: STATEMENT`
-abbrev pub statement_text : PathStep → List ℕ
-statement_text s = line_text (step_place s) ++ step_text s
+-- `line L: STATEMENT`, in the procedure p
+abbrev pub statement_text : Program → Procedure → PathStep → List ℕ
+statement_text P p s = line_text (step_place (loops_of p) s) ++ step_text P s

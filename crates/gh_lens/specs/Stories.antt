@@ -4,11 +4,11 @@ use Rattle.std.specs.Prelude.{slice_get}
 use Rattle.gh_ast.specs.Plain.{Procedure, Program}
 use Rattle.gh_assert.specs.Stores.{listed_names}
 use Rattle.gh_path.specs.Graphs.{PathStep}
-use Rattle.gh_path.specs.Conditions.{Condition, conditions}
+use Rattle.gh_path.specs.Conditions.{Condition, conditions, IsOf}
 use Rattle.gh_draw.specs.Descriptions.{description}
 use Rattle.gh_draw.specs.Drawings.{line, state_lines}
 use Rattle.gh_trace.specs.declared.state.State.{State}
-use Rattle.gh_path.specs.Kept.{IsStep, AreSteps, StandsFor}
+use Rattle.gh_path.specs.Kept.{condition_of, step_of}
 use Rattle.gh_path.specs.declared.condition.Condition as kept
 use Rattle.gh_path.specs.declared.condition.PathStep as kept_step
 use Rattle.gh_trace.specs.Kept.{state_of, drawn}
@@ -27,66 +27,60 @@ handed_text None = []
 handed_text (Some e) = exchange_text e
 
 -- the statement, what changes, and what is handed over
-pub record IsStepTold (P : Program) (s : PathStep) (x y : State) (text : List ℕ) : Type 0 where
+pub record IsStepTold (P : Program) (p : Procedure) (s : PathStep) (x y : State) (text : List ℕ) : Type 0 where
   pub exchange : Option Exchange
-  pub handed : IsHandedOr P s (state_of x) (state_of y) exchange
-  pub text_is : text ≡ line (statement_text s) ++ changes_text x y ++ handed_text exchange
+  pub handed : IsHandedOr P p s (state_of x) (state_of y) exchange
+  pub text_is : text ≡ line (statement_text P p s) ++ changes_text x y ++ handed_text exchange
 
--- the same of a step as it is kept
+-- the same of a step as it is kept, and its statement alone
 abbrev pub TellsStep : Program → Procedure → kept_step.PathStep → State → State → List ℕ → Type 0
-TellsStep P p r x y text = (s : PathStep) → IsStep P p r s → IsStepTold P s x y text
+TellsStep P p r x y text = IsStepTold P p (step_of r) x y text
 
 abbrev pub TellsStatement : Program → Procedure → kept_step.PathStep → List ℕ → Type 0
-TellsStatement P p r text = (s : PathStep) → IsStep P p r s → text ≡ line (statement_text s)
+TellsStatement P p r text = text ≡ line (statement_text P p (step_of r))
 
 -- the steps in turn, as far as there are states
-abbrev pub AreTold : Program → List PathStep → State → List State → List ℕ → Type 0
-AreTold P [] x ys text = text ≡ []
-AreTold P (s ∷ ss) x [] text = text ≡ []
-AreTold P (s ∷ ss) x (y ∷ ys) text = (a : List ℕ) × (b : List ℕ) × (text ≡ a ++ b) × IsStepTold P s x y a × AreTold P ss y ys b
+abbrev pub AreTold : Program → Procedure → List PathStep → State → List State → List ℕ → Type 0
+AreTold P p [] x ys text = text ≡ []
+AreTold P p (s ∷ ss) x [] text = text ≡ []
+AreTold P p (s ∷ ss) x (y ∷ ys) text = (a : List ℕ) × (b : List ℕ) × (text ≡ a ++ b) × IsStepTold P p s x y a × AreTold P p ss y ys b
 
 abbrev pub TellsSteps : Program → Procedure → List kept_step.PathStep → State → List State → List ℕ → Type 0
-TellsSteps P p rs x ys text = (ss : List PathStep) → AreSteps P p rs ss → AreTold P ss x ys text
+TellsSteps P p rs x ys text = AreTold P p (map step_of rs) x ys text
 
 abbrev pub last_of : State → List State → State
 last_of x [] = x
 last_of x (y ∷ ys) = last_of y ys
 
 -- the condition and the first state
-abbrev pub heading : Condition → State → List ℕ
-heading c x = line (description c) ++ state_lines (listed_names x.store) (state_of x)
+abbrev pub heading : Program → Condition → State → List ℕ
+heading P c x = line (description P c) ++ state_lines (listed_names x.store) (state_of x)
 
 abbrev pub TellsHeading : Program → kept.Condition → State → List ℕ → Type 0
-TellsHeading P r x text = (c : Condition) → StandsFor P r c → text ≡ heading c x
+TellsHeading P r x text = text ≡ heading P (condition_of r) x
 
 -- the condition, the first state, the steps, and where the check fails in the last state
 pub record IsStory (P : Program) (c : Condition) (x : State) (ys : List State) (text : List ℕ) : Type 0 where
+  pub procedure : Procedure
+  pub of : IsOf P c procedure
   pub steps : List ℕ
   pub failing : List ℕ
-  pub are_told : AreTold P c.way.steps x ys steps
-  pub is_failing : IsFailing P c.way.check (state_of (last_of x ys)) failing
-  pub text_is : text ≡ heading c x ++ steps ++ line (codes "the check fails:") ++ failing
+  pub are_told : AreTold P procedure c.way.steps x ys steps
+  pub is_failing : IsFailing P procedure c.way.check (state_of (last_of x ys)) failing
+  pub text_is : text ≡ heading P c x ++ steps ++ line (codes "the check fails:") ++ failing
 
 -- the check is passed in the last state, up to a double negation
 abbrev pub PassesAtEnd : Program → Condition → State → List State → Type 0
-PassesAtEnd P c x ys = (Passes P c.way.check (state_of (last_of x ys)) → ⊥) → ⊥
-
--- the kept condition is one of the procedure
-abbrev pub IsOf : Program → kept.Condition → Procedure → Type 0
-IsOf P r p = slice_get P.procedures r.procedure ≡ Some p
+PassesAtEnd P c x ys = (p : Procedure) → IsOf P c p → (Passes P p c.way.check (state_of (last_of x ys)) → ⊥) → ⊥
 
 -- the story of the condition that is kept; or its check is passed
 abbrev pub IsStoryOr : Program → kept.Condition → State → List State → Option (List ℕ) → Type 0
-IsStoryOr P r x ys (Some text) = (c : Condition) → StandsFor P r c → IsStory P c x ys text
-IsStoryOr P r x ys None = (c : Condition) → StandsFor P r c → PassesAtEnd P c x ys
+IsStoryOr P r x ys (Some text) = IsStory P (condition_of r) x ys text
+IsStoryOr P r x ys None = PassesAtEnd P (condition_of r) x ys
 
--- the kept condition stands for the condition, and the states are a counterexample of it
-pub record IsShownBy (P : Program) (r : kept.Condition) (c : Condition) (xs : List State) : Type 0 where
-  pub stands : StandsFor P r c
-  pub refutes : Refutes P c (map drawn xs)
-
+-- the states are a counterexample of the condition that is kept
 abbrev pub IsShown : Program → kept.Condition → List State → Type 0
-IsShown P r xs = (c : Condition) × IsShownBy P r c xs
+IsShown P r xs = Refutes P (condition_of r) (map drawn xs)
 
 -- the states are a counterexample of the condition, and the text tells it
 pub record IsToldOf (P : Program) (c : Condition) (xs : List State) (text : List ℕ) : Type 0 where
@@ -97,7 +91,7 @@ pub record IsToldOf (P : Program) (c : Condition) (xs : List State) (text : List
   pub story : IsStory P c first others text
 
 abbrev pub IsToldFor : Program → kept.Condition → List State → List ℕ → Type 0
-IsToldFor P r xs text = (c : Condition) → IsShownBy P r c xs → IsToldOf P c xs text
+IsToldFor P r xs text = IsToldOf P (condition_of r) xs text
 
 -- what is told of states for the condition of a number: a story, or their first failure, or that there is no such condition
 abbrev pub IsExplained : Program → ℕ → List State → Explained → Type 0

@@ -3,7 +3,7 @@
 ghost use Rattle.std.specs.Prelude.{IfOk};
 ghost use Rattle.gh_trace.specs.Settings.{HasLoops, here, whole};
 ghost use Rattle.gh_lens.specs.Handed.{IsHandedToCallee, IsHandedToLoop, IsHandedBetween};
-ghost use Rattle.gh_path.specs.Kept.{IsSomeCallee, IsSomeLoop, IsSomeStep};
+ghost use Rattle.gh_path.specs.Kept.{step_of, HasCallee, HasLoop, StepIsThere};
 
 use crate::exchange::{Exchange, exchanged};
 use gh_ast::Expr;
@@ -23,7 +23,7 @@ fn handed_to_callee(
     before: &State,
     after: &State,
 ) -> Result<Option<Exchange>, AllocError>
-    requires { IsSomeCallee (whole setting) callee }
+    requires { HasCallee (whole setting) callee }
     ensures { IfOk result (IsHandedToCallee setting.entry callee arguments.now before.now after.now) }
 {
     let Some(callee) = procedure_at(setting.typed, callee) else {
@@ -49,7 +49,7 @@ fn handed_to_loop(
     after: &State,
 ) -> Result<Option<Exchange>, AllocError>
     requires loops { HasLoops setting }
-    requires one { IsSomeLoop (here setting) number }
+    requires there { HasLoop (here setting) number }
     ensures { IfOk result (IsHandedToLoop setting.entry number before.now after.now) }
 {
     let Some(round) = setting.round(number) else {
@@ -72,7 +72,7 @@ pub fn handed(
     after: &State,
 ) -> Result<Option<Exchange>, AllocError>
     requires loops { HasLoops setting }
-    requires one { IsSomeStep (whole setting) (here setting) step.now }
+    requires there { StepIsThere (whole setting) (here setting) (step_of step.now) }
     ensures { IfOk result (IsHandedBetween setting.entry step.now before.now after.now) }
 {
     match step {

@@ -4,7 +4,7 @@ ghost use Rattle.std.specs.Prelude.{◌≡◌, ◌+◌, IfOk};
 ghost use Rattle.gh_ast.specs.Plain.{program_of};
 ghost use Rattle.gh_path.specs.Admitted.{IsAdmitted};
 ghost use Rattle.gh_path.specs.Conditions as plain;
-ghost use Rattle.gh_trace.specs.Kept.{IsOne};
+ghost use Rattle.gh_path.specs.Kept.{IsOne};
 ghost use Rattle.gh_lens.specs.Judgements.{TellsGroundWork, IsFoundFor, IsJudgedFor, AreJudged};
 
 use crate::progress::Progress;

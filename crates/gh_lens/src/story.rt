@@ -1,11 +1,11 @@
 //! A counterexample, told step by step.
 
-ghost use Rattle.std.specs.Prelude.{◌≡◌, ◌++◌, IfOk, OnOk};
+ghost use Rattle.std.specs.Prelude.{◌≡◌, ◌++◌, map, All, IfOk, OnOk};
 ghost use Rattle.gh_ast.specs.Plain.{program_of};
 ghost use Rattle.gh_path.specs.Admitted.{IsAdmitted};
-ghost use Rattle.gh_draw.specs.Kept.{HasMeaning};
 ghost use Rattle.gh_trace.specs.Settings.{HasLoops, here, whole};
-ghost use Rattle.gh_path.specs.Kept.{AreSomeSteps, IsSomeStep};
+ghost use Rattle.gh_path.specs.Conditions.{IsOf};
+ghost use Rattle.gh_path.specs.Kept.{condition_of, step_of, Fits, StepIsThere};
 ghost use Rattle.gh_lens.specs.Stories as told;
 
 use crate::exchange::Exchange;
@@ -69,7 +69,7 @@ fn step_told(
     after: &State,
 ) -> Result<Text, AllocError>
     requires loops { HasLoops setting }
-    requires one { IsSomeStep (whole setting) (here setting) step.now }
+    requires there { StepIsThere (whole setting) (here setting) (step_of step.now) }
     ensures { IfOk result (told.TellsStep (whole setting.entry) (here setting.entry) step.now before.now after.now) }
 {
     let mut text = statement(alloc, setting, step)?;
@@ -88,7 +88,7 @@ fn steps_told(
     others: &[State],
 ) -> Result<Text, AllocError>
     requires loops { HasLoops setting }
-    requires some { AreSomeSteps (whole setting) (here setting) steps.now }
+    requires there { All (StepIsThere (whole setting) (here setting)) (map step_of steps.now) }
     ensures { IfOk result (told.TellsSteps (whole setting.entry) (here setting.entry) steps.now before.now others.now) }
 {
     let Some((step, later)) = steps.split_first() else {
@@ -121,7 +121,7 @@ fn heading(
     condition: &Condition,
     first: &State,
 ) -> Result<Text, AllocError>
-    requires { HasMeaning (program_of typed.now) condition.now }
+    requires { Fits (program_of typed.now) condition.now }
     ensures { IfOk result (told.TellsHeading (program_of typed.now) condition.now first.now) }
 {
     let mut text = describe(alloc, typed, condition)?;
@@ -140,8 +140,8 @@ fn story(
     others: &[State],
 ) -> Result<Option<Text>, AllocError>
     requires loops { HasLoops setting }
-    requires meaning { HasMeaning (whole setting) condition.now }
-    requires own { told.IsOf (whole setting) condition.now (here setting) }
+    requires fits { Fits (whole setting) condition.now }
+    requires own { IsOf (whole setting) (condition_of condition.now) (here setting) }
     ensures { IfOk result (told.IsStoryOr (whole setting.entry) condition.now first.now others.now) }
 {
     let Some(missed) = failing(alloc, setting, &condition.check.kind, last(first, others))? else {
@@ -162,7 +162,8 @@ fn told_of(
     condition: &Condition,
     states: &[State],
 ) -> Result<Text, AllocError>
-    requires { told.IsShown (program_of typed.now) condition.now states.now }
+    requires fits { Fits (program_of typed.now) condition.now }
+    requires shown { told.IsShown (program_of typed.now) condition.now states.now }
     ensures { IfOk result (told.IsToldFor (program_of typed.now) condition.now states.now) }
 {
     let Some(procedure) = procedure_at(typed, condition.procedure) else {

@@ -1,9 +1,9 @@
 -- From counterexamples to interpretations.
 use Rattle.std.specs.Prelude.{List}
 use Rattle.gh_base.specs.Meaning.{Interpretation, IsCongruence}
-use Rattle.gh_ast.specs.Plain.{Program}
+use Rattle.gh_ast.specs.Plain.{Procedure, Program}
 use Rattle.gh_ast.specs.Rules.{IsTyped}
-use Rattle.gh_path.specs.Conditions.{Condition, IsCondition}
+use Rattle.gh_path.specs.Conditions.{Condition, IsCondition, IsOf}
 use Rattle.gh_symb.specs.Symbolic.{symbolic_of}
 use Rattle.gh_symb.specs.Formulas.{claims, problem}
 use Rattle.gh_inst.specs.Violations.{AreInstancesTrue}
@@ -11,21 +11,26 @@ use Rattle.gh_grass.specs.Truth.{AreTrue, AreClausesTrue}
 use Rattle.gh_trace.specs.Traces.{State}
 use Rattle.gh_model.specs.TraceLaws.{IsCounterexample}
 
--- equality is a congruence, and all instances of the axioms and all formulas of the condition are true
-pub record Satisfies (P : Program) (c : Condition) (m : Interpretation) : Type 0 where
-  pub congruence : IsCongruence (problem (symbolic_of P c)).sizes m
-  pub instances : AreInstancesTrue (problem (symbolic_of P c)).sizes m
-  pub formulas : AreTrue m (claims (symbolic_of P c))
+-- equality is a congruence, and all instances of the axioms and all formulas of the condition, which is one of the
+-- procedure p, are true
+pub record Satisfies (P : Program) (p : Procedure) (c : Condition) (m : Interpretation) : Type 0 where
+  pub congruence : IsCongruence (problem (symbolic_of P p c)).sizes m
+  pub instances : AreInstancesTrue (problem (symbolic_of P p c)).sizes m
+  pub formulas : AreTrue m (claims (symbolic_of P p c))
 
 -- a counterexample gives such an interpretation
 abbrev pub TracesSatisfy : Type 0
-TracesSatisfy = (P : Program) (c : Condition) (x : State) (ys : List State) → IsTyped P → IsCondition P c → IsCounterexample P c x ys → (m : Interpretation) × Satisfies P c m
+TracesSatisfy =
+    (P : Program) (p : Procedure) (c : Condition) (x : State) (ys : List State) → IsTyped P → IsCondition P c → IsOf P c p → IsCounterexample P p c x ys →
+    (m : Interpretation) × Satisfies P p c m
 
 -- a model of the condition: all its clauses are true
-pub record IsModelOf (P : Program) (c : Condition) (m : Interpretation) : Type 0 where
-  pub congruence : IsCongruence (problem (symbolic_of P c)).sizes m
-  pub instances : AreInstancesTrue (problem (symbolic_of P c)).sizes m
-  pub clauses : AreClausesTrue m (problem (symbolic_of P c)).clauses
+pub record IsModelOf (P : Program) (p : Procedure) (c : Condition) (m : Interpretation) : Type 0 where
+  pub congruence : IsCongruence (problem (symbolic_of P p c)).sizes m
+  pub instances : AreInstancesTrue (problem (symbolic_of P p c)).sizes m
+  pub clauses : AreClausesTrue m (problem (symbolic_of P p c)).clauses
 
 abbrev pub TracesGiveModels : Type 0
-TracesGiveModels = (P : Program) (c : Condition) (x : State) (ys : List State) → IsTyped P → IsCondition P c → IsCounterexample P c x ys → (m : Interpretation) × IsModelOf P c m
+TracesGiveModels =
+    (P : Program) (p : Procedure) (c : Condition) (x : State) (ys : List State) → IsTyped P → IsCondition P c → IsOf P c p → IsCounterexample P p c x ys →
+    (m : Interpretation) × IsModelOf P p c m

@@ -1,9 +1,9 @@
 -- The variables that have terms at the states of a condition.
 use Rattle.std.specs.Prelude.{◌≡◌, ℕ, List, [], ◌∷◌, Some, Contains}
-use Rattle.gh_ast.specs.Plain.{Program}
+use Rattle.gh_ast.specs.Plain.{Procedure, Program}
 use Rattle.gh_ast.specs.Programs.{Name, variable_names}
 use Rattle.gh_ast.specs.Rules.{IsTyped}
-use Rattle.gh_path.specs.Conditions.{Condition, IsCondition}
+use Rattle.gh_path.specs.Conditions.{Condition, IsCondition, IsOf}
 use Rattle.gh_path.specs.Terms.{Bindings}
 use Rattle.gh_symb.specs.Symbolic.{symbolic_of}
 
@@ -17,4 +17,5 @@ AllAreOf xs (b ∷ bs) = AreOf xs b × AllAreOf xs bs
 
 -- at the states of a condition only variables of its procedure have terms
 abbrev pub OnlyVariablesHaveTerms : Type 0
-OnlyVariablesHaveTerms = (P : Program) (c : Condition) → IsTyped P → IsCondition P c → AllAreOf (variable_names c.procedure) (symbolic_of P c).bindings
+OnlyVariablesHaveTerms =
+    (P : Program) (p : Procedure) (c : Condition) → IsTyped P → IsCondition P c → IsOf P c p → AllAreOf (variable_names p) (symbolic_of P p c).bindings

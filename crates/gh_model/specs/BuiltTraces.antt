@@ -3,12 +3,12 @@ use Rattle.std.specs.Prelude.{◌≡◌, ℕ, zero, suc, ◌<◌, List, [], ◌�
 use Rattle.std.specs.Prelude.{cond, Contains}
 use Rattle.std.specs.FinMap.{empty, insert, get}
 use Rattle.gh_base.specs.Meaning.{Interpretation}
-use Rattle.gh_ast.specs.Plain.{Program}
+use Rattle.gh_ast.specs.Plain.{Procedure, Program}
 use Rattle.gh_ast.specs.Rules.{IsTyped}
 use Rattle.gh_assert.specs.Heaps.{Heap}
 use Rattle.gh_assert.specs.Meaning.{Store}
 use Rattle.gh_path.specs.Graphs.{PathStep}
-use Rattle.gh_path.specs.Conditions.{Condition, IsCondition}
+use Rattle.gh_path.specs.Conditions.{Condition, IsCondition, IsOf}
 use Rattle.gh_path.specs.Terms.{Bindings}
 use Rattle.gh_symb.specs.Symbolic.{symbolic_of}
 use Rattle.gh_model.specs.Abstraction.{IsModelOf}
@@ -60,12 +60,14 @@ states_under m n (i ∷ is) [] = []
 states_under m n (i ∷ is) (b ∷ bs) = state_under m n i b ∷ states_under m n is bs
 
 -- a term's value is its class, which is named by its least term
-abbrev pub built_trace : Program → Condition → Interpretation → List State
-built_trace P c m = states_under m (length (symbolic_of P c).terms) (versions_along 0 c.way.steps) (symbolic_of P c).bindings
+abbrev pub built_trace : Program → Procedure → Condition → Interpretation → List State
+built_trace P p c m = states_under m (length (symbolic_of P p c).terms) (versions_along 0 c.way.steps) (symbolic_of P p c).bindings
 
 -- the trace of a model of a condition is a counterexample
 abbrev pub LocalityHolds : Type 0
-LocalityHolds = (P : Program) (c : Condition) (m : Interpretation) → IsTyped P → IsCondition P c → IsModelOf P c m → AreCounterexample P c (built_trace P c m)
+LocalityHolds =
+    (P : Program) (p : Procedure) (c : Condition) (m : Interpretation) → IsTyped P → IsCondition P c → IsOf P c p → IsModelOf P p c m →
+    AreCounterexample P c (built_trace P p c m)
 
 -- a heap that version i depicts over the values V: its cells stand at values and contain values
 pub record IsVersionBuilt (V : List ℕ) (m : Interpretation) (i : ℕ) (h : Heap) : Type 0 where
@@ -77,5 +79,5 @@ pub record IsVersionBuilt (V : List ℕ) (m : Interpretation) (i : ℕ) (h : Hea
 -- contents are the hops, and whose Between is that of the version; the values are the classes of the terms
 abbrev pub VersionsAreBuilt : Type 0
 VersionsAreBuilt =
-    (P : Program) (c : Condition) (m : Interpretation) (i : ℕ) → IsModelOf P c m → i < (symbolic_of P c).versions →
-    let n = length (symbolic_of P c).terms in IsVersionBuilt (classes (equal_in m) n) m i (heap_in m n i)
+    (P : Program) (p : Procedure) (c : Condition) (m : Interpretation) (i : ℕ) → IsModelOf P p c m → i < (symbolic_of P p c).versions →
+    let n = length (symbolic_of P p c).terms in IsVersionBuilt (classes (equal_in m) n) m i (heap_in m n i)

@@ -2,13 +2,13 @@
 use Rattle.std.specs.Prelude.{◌≡◌, ◌↔◌, ℕ, List, [], ◌∷◌, slice_get, Some, Decides}
 use Rattle.gh_base.specs.declared.atom.Atom.TheVariants.{Btwn, Hop as HopAtom, Alloc}
 use Rattle.gh_base.specs.Meaning.{Interpretation, atom_truth}
-use Rattle.gh_ast.specs.Plain.{Program}
+use Rattle.gh_ast.specs.Plain.{Procedure, Program}
 use Rattle.gh_ast.specs.Rules.{IsTyped}
 use Rattle.gh_assert.specs.Heaps.{Heap}
 use Rattle.gh_assert.specs.Walks.{Allocated, Between}
 use Rattle.gh_assert.specs.Hops.{Hop}
 use Rattle.gh_path.specs.Graphs as path
-use Rattle.gh_path.specs.Conditions.{Condition, IsCondition}
+use Rattle.gh_path.specs.Conditions.{Condition, IsCondition, IsOf}
 use Rattle.gh_grass.specs.Bindings.{term}
 use Rattle.gh_trace.specs.Traces.{State}
 use Rattle.gh_model.specs.TermValues.{version_after, AreTermValues}
@@ -35,5 +35,5 @@ pub record IsDepicted (c : Condition) (x : State) (ys : List State) (V : List �
 -- a counterexample gives a model of the condition that depicts its heaps
 abbrev pub TracesAreDepicted : Type 0
 TracesAreDepicted =
-    (P : Program) (c : Condition) (x : State) (ys : List State) (V : List ℕ) → IsTyped P → IsCondition P c → IsCounterexample P c x ys → AreTermValues P c x ys V →
-    (m : Interpretation) × IsModelOf P c m × IsDepicted c x ys V m
+    (P : Program) (p : Procedure) (c : Condition) (x : State) (ys : List State) (V : List ℕ) → IsTyped P → IsCondition P c → IsOf P c p → IsCounterexample P p c x ys → AreTermValues P p c x ys V →
+    (m : Interpretation) × IsModelOf P p c m × IsDepicted c x ys V m

@@ -8,7 +8,8 @@ use Rattle.gh_ast.specs.Programs.{Name, variable_names}
 use Rattle.gh_ast.specs.Rules.{IsTyped}
 use Rattle.gh_assert.specs.declared.store.Entry.{Entry}
 use Rattle.gh_assert.specs.Meaning.{Store}
-use Rattle.gh_path.specs.Conditions.{Condition, IsCondition}
+use Rattle.gh_path.specs.Conditions.{Condition, IsCondition, IsOf}
+use Rattle.gh_path.specs.Kept.{condition_of}
 use Rattle.gh_path.specs.declared.condition.Condition as kept_condition
 use Rattle.gh_grass.specs.declared.binding.Bond.{Bond}
 use Rattle.gh_grass.specs.Bindings.{term_in}
@@ -18,7 +19,7 @@ use Rattle.gh_symb.specs.declared.over_terms.TermStep.{TermStep}
 use Rattle.gh_symb.specs.declared.over_terms.TermStep.TheVariants.{Access, Assume, Same, Write, New, Free, Part}
 use Rattle.gh_trace.specs.declared.state.State.{State}
 use Rattle.gh_trace.specs.declared.state.Trace.{Trace}
-use Rattle.gh_trace.specs.Kept.{IsOfProgram, drawn_of}
+use Rattle.gh_trace.specs.Kept.{drawn_of}
 use Rattle.gh_trace.specs.Replay.{Drawn, Refutes}
 use Rattle.gh_trace.specs.Traces as plain
 use Rattle.gh_model.specs.Classes.{class_of}
@@ -86,7 +87,7 @@ drawn_over xs ys = map (λ y. record { listed = xs; state = y }) ys
 
 -- the states that an interpretation builds for a kept condition, over the variables of its procedure
 abbrev pub AreBuilt : Program → kept_condition.Condition → Interpretation → List Drawn → Type 0
-AreBuilt P r m xs = (c : Condition) → IsOfProgram P r c → xs ≡ drawn_over (variable_names c.procedure) (built_trace P c m)
+AreBuilt P r m xs = (p : Procedure) → IsOf P (condition_of r) p → xs ≡ drawn_over (variable_names p) (built_trace P p (condition_of r) m)
 
 -- the trace of a structure for a kept condition
 abbrev pub IsBuilt : Program → kept_condition.Condition → Tables → Trace → Type 0
@@ -95,5 +96,5 @@ IsBuilt P r s t = AreBuilt P r (interpretation_of s) (drawn_of t)
 -- the trace of a model of a condition, drawn over the variables of its procedure, is a counterexample
 abbrev pub BuiltIsCounterexample : Type 0
 BuiltIsCounterexample =
-    (P : Program) (c : Condition) (m : Interpretation) → IsTyped P → IsCondition P c → IsModelOf P c m →
-    Refutes P c (drawn_over (variable_names c.procedure) (built_trace P c m))
+    (P : Program) (p : Procedure) (c : Condition) (m : Interpretation) → IsTyped P → IsCondition P c → IsOf P c p → IsModelOf P p c m →
+    Refutes P c (drawn_over (variable_names p) (built_trace P p c m))

@@ -2,11 +2,12 @@
 use Rattle.std.specs.Prelude.{◌≡◌, ℕ, ◌+◌, List, [], ◌∷◌, length, map, slice_get, Some, Contains}
 use Rattle.std.specs.FinMap.{get}
 use Rattle.gh_ast.specs.Plain.{Procedure, Program}
-use Rattle.gh_ast.specs.Programs.{Name, names, results_of, Declares}
+use Rattle.gh_ast.specs.Programs.{Name, names, results_of}
 use Rattle.gh_assert.specs.Meaning.{Store}
 use Rattle.gh_assert.specs.Walks.{succ}
 use Rattle.gh_path.specs.Graphs as path
 use Rattle.gh_path.specs.Conditions.{Condition}
+use Rattle.gh_path.specs.Kept.{IsCallee}
 use Rattle.gh_path.specs.Terms.{Kind, next, Bindings}
 use Rattle.gh_symb.specs.Symbolic.{Under, TermStep, accessed, assumed, same, written, made, freed, parts, symbolic_of}
 use Rattle.gh_trace.specs.Traces.{State}
@@ -14,14 +15,14 @@ use Rattle.gh_trace.specs.Traces.{State}
 -- writes, new and freed cells, calls and loops begin the next version of the heap
 abbrev pub version_after : path.PathStep → ℕ → ℕ
 version_after (path.accessed o) i = i
-version_after (path.assume l e r way) i = i
+version_after (path.assume l e r) i = i
 version_after (path.assigned x e) i = i
 version_after (path.made x) i = i + 1
 version_after (path.written x e) i = i + 1
 version_after (path.freed x) i = i + 1
-version_after (path.called ys f es) i = i + 1
-version_after (path.looped l) i = i + 1
-version_after (path.answered ys es) i = i
+version_after (path.called ys n es) i = i + 1
+version_after (path.looped n) i = i + 1
+version_after (path.answered es) i = i
 
 -- in a state with heap version i: what follows a term has the value that follows its value, and a variable's term has what the store gives
 pub record HasStateValues (K : List Kind) (V : List ℕ) (i : ℕ) (b : Bindings) (x : State) : Type 0 where
@@ -40,8 +41,8 @@ HasCellValues V (parts b a) y = Unit {0}
 
 -- a call's results have the values that its targets get, whatever alternative speaks of them
 abbrev pub HasResultValues : Program → List ℕ → path.PathStep → TermStep → State → Type 0
-HasResultValues P V (path.called ys f es) (parts b as') y =
-    (p : Procedure) (inside : Store) → Declares P f.name p → map inside (results_of p) ≡ map y.store (names ys) →
+HasResultValues P V (path.called ys n es) (parts b as') y =
+    (p : Procedure) (inside : Store) → IsCallee P n p → map inside (results_of p) ≡ map y.store (names ys) →
     (a : Under) → Contains as' a → (r : Name) (t : ℕ) → Contains (results_of p) r → a.binding r ≡ Some t → slice_get V t ≡ Some (inside r)
 HasResultValues P V _ _ y = Unit {0}
 
@@ -58,7 +59,7 @@ HaveValues P K V (p ∷ ps) (q ∷ qs) (b ∷ bs) i x (y ∷ ys) =
 -- a value for each term. In a program that keeps the type rules there is one such list: a successor's value comes from that of an earlier term in
 -- a state of its version, each version having one heap; a value was made for a variable that is bound to it in the state where it is used, for a
 -- variable that a loop assigns, bound to it in the state after, for a new cell, or for a result
-pub record AreTermValues (P : Program) (c : Condition) (x : State) (ys : List State) (V : List ℕ) : Type 0 where
-  pub count : length V ≡ length (symbolic_of P c).terms
+pub record AreTermValues (P : Program) (p : Procedure) (c : Condition) (x : State) (ys : List State) (V : List ℕ) : Type 0 where
+  pub count : length V ≡ length (symbolic_of P p c).terms
   pub null : slice_get V 0 ≡ Some 0
-  pub along : HaveValues P (symbolic_of P c).terms V c.way.steps (symbolic_of P c).steps (symbolic_of P c).bindings 0 x ys
+  pub along : HaveValues P (symbolic_of P p c).terms V c.way.steps (symbolic_of P p c).steps (symbolic_of P p c).bindings 0 x ys

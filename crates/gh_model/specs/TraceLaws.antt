@@ -1,21 +1,25 @@
 -- The laws on traces.
 use Rattle.std.specs.Prelude.{ℕ, List, ◌∷◌, Contains}
-use Rattle.gh_ast.specs.Plain.{Program}
+use Rattle.gh_ast.specs.Plain.{Procedure, Program}
 use Rattle.gh_ast.specs.Rules.{IsTyped}
 use Rattle.gh_assert.specs.Ownership.{Owned}
-use Rattle.gh_path.specs.Conditions.{Condition, IsCondition}
+use Rattle.gh_path.specs.Graphs.{meets_at}
+use Rattle.gh_path.specs.Conditions.{Condition, IsCondition, IsOf}
 use Rattle.gh_trace.specs.Traces.{State, Counterexample}
 use Rattle.gh_model.specs.TermValues.{AreTermValues}
 
-abbrev pub IsCounterexample : Program → Condition → State → List State → Type 0
-IsCounterexample P c x ys = Counterexample P c.start.meets c.way.steps c.way.check x ys
+-- of a condition of the procedure p
+abbrev pub IsCounterexample : Program → Procedure → Condition → State → List State → Type 0
+IsCounterexample P p c x ys = Counterexample P p (meets_at p c.start) c.way.steps c.way.check x ys
 
 -- in a counterexample the terms have values
 abbrev pub ValuesExist : Type 0
-ValuesExist = (P : Program) (c : Condition) (x : State) (ys : List State) → IsTyped P → IsCondition P c → IsCounterexample P c x ys → (V : List ℕ) × AreTermValues P c x ys V
+ValuesExist =
+    (P : Program) (p : Procedure) (c : Condition) (x : State) (ys : List State) → IsTyped P → IsCondition P c → IsOf P c p → IsCounterexample P p c x ys →
+    (V : List ℕ) × AreTermValues P p c x ys V
 
 -- and each of its heaps is owned over these values
 abbrev pub TracesAreOwned : Type 0
 TracesAreOwned =
-    (P : Program) (c : Condition) (x : State) (ys : List State) (V : List ℕ) → IsTyped P → IsCondition P c → IsCounterexample P c x ys → AreTermValues P c x ys V →
+    (P : Program) (p : Procedure) (c : Condition) (x : State) (ys : List State) (V : List ℕ) → IsTyped P → IsCondition P c → IsOf P c p → IsCounterexample P p c x ys → AreTermValues P p c x ys V →
     (y : State) → Contains (x ∷ ys) y → Owned V y.heap

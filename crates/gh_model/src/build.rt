@@ -3,10 +3,9 @@
 ghost use Rattle.std.specs.Prelude.{◌≡◌, ◌≢◌, ◌<◌, ◌++◌, IfOk, OnOk, OnErr, AllPairs, length, drop};
 ghost use Rattle.gh_base.specs.Structures.{interpretation_of};
 ghost use Rattle.gh_ast.specs.Plain.{procedure_of, program_of};
-ghost use Rattle.gh_path.specs.Conditions as plain;
+ghost use Rattle.gh_path.specs.Kept.{IsOne};
 ghost use Rattle.gh_symb.specs.Encoded.{IsSymbolic};
 ghost use Rattle.gh_symb.specs.Steps.{HoldsFor};
-ghost use Rattle.gh_trace.specs.Kept.{IsOfProgram};
 ghost use Rattle.gh_ast.specs.Programs.{names, variable_names};
 ghost use Rattle.gh_ast.specs.Occurrences.{locals_of};
 ghost use Rattle.gh_assert.specs.Stores.{listed_names};
@@ -238,8 +237,8 @@ pub fn build(
     symbolic: &Symbolic<'_>,
     structure: &Structure,
 ) -> Result<Trace, AllocError>
-    requires of { (c : plain.Condition) × IsOfProgram (program_of typed.now) condition.now c }
-    requires told { HoldsFor (program_of typed.now) condition.now (λ P c. IsSymbolic P c symbolic.now) }
+    requires of { IsOne (program_of typed.now) condition.now }
+    requires told { HoldsFor (program_of typed.now) condition.now (λ P p c. IsSymbolic P p c symbolic.now) }
     requires terms { structure.now.sizes.terms ≡ length symbolic.now.terms }
     requires versions { structure.now.sizes.versions ≡ symbolic.now.versions }
     ensures { IfOk result (IsBuilt (program_of typed.now) condition.now structure.now) }

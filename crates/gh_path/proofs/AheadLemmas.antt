@@ -1,19 +1,21 @@
 -- What lies ahead by the text is what lies ahead in the graph, and that is how many ways there are and how long they are.
-use Rattle.std.specs.Prelude.{◌≡◌, ◌⊎◌, ℕ, suc, ◌+◌, ◌<◌, ◌≤◌, min, max, List, [], ◌∷◌, ◌++◌, map, length, true, false, Any, Contains}
+use Rattle.std.specs.Prelude.{◌≡◌, ◌⊎◌, ℕ, suc, ◌+◌, ◌<◌, ◌≤◌, min, max, List, [], ◌∷◌, ◌++◌, map, length, drop, not, Any, Contains}
 use Rattle.std.proofs.Common.{refl, sym, ◌∙◌, ap, subst, inl, inr, arith}
 use Rattle.std.proofs.lemmas.List.{length-map, length-append}
 use Rattle.gh_ast.specs.declared.Expr.{Expr}
 use Rattle.gh_ast.specs.declared.Expr.TheVariants.{Plain, Read}
-use Rattle.gh_ast.specs.Plain.{Test, compare, negation, conjunction, disjunction, Tests, no_tests, test_first, Statement, set, new, write, free, call, choice, loop, give, Statements, no_statements, statement_first, Procedure}
+use Rattle.gh_ast.specs.Plain.{Test, compare, negation, conjunction, disjunction, Tests, no_tests, test_first, Statement, set, new, write, free, call, choice, loop, give, Statements, no_statements, statement_first, Procedure, Program}
 use Rattle.gh_ast.specs.Programs.{body_of}
 use Rattle.gh_ast.proofs.Lists.{member_first, member_later, member_cases, no_member}
-use Rattle.gh_path.specs.Graphs.{Graph, dead_end, ends, moves, guarded, fork, PathStep, assume, reads, all_reads, tested, all_tested, some_tested, lowered, all_lowered, Loop, loops_of, once_around, Start, whole_body, round, rounds, returned}
+use Rattle.gh_path.specs.Graphs.{Graph, dead_end, ends, moves, guarded, fork, PathStep, assume, reads, all_reads, tested, all_tested, some_tested, lowered, all_lowered, Loop, loops, all_loops, loops_of, once_around, around, graph_from, Start, whole_body, round, rounds, returned}
 use Rattle.gh_path.specs.Paths.{Way, ways, after_step}
-use Rattle.gh_path.specs.Conditions.{Condition, condition, from_starts, conditions_of}
+use Rattle.gh_path.specs.Conditions.{Course, course, from_starts, courses_of}
+use Rattle.gh_path.specs.Kept.{IsLoop}
 use Rattle.gh_path.specs.Counting.{nothing, stepped, checked, either, ahead, before_read, before_reads, before_test, before_all, before_some, before, before_block, entry_ahead, round_ahead, rounds_ahead, procedure_ahead}
 use Rattle.gh_path.specs.Admitted.{most_conditions, most_steps, HasManyPaths, HasManySteps}
 use Rattle.gh_path.specs.declared.ahead.Ahead.{Ahead}
 use Rattle.gh_ast.proofs.Sites.{any_of}
+use Rattle.gh_path.proofs.ListLemmas.{first_of, rest_of}
 
 pub ahead_read : (e : Expr) (g : Graph) → ahead (reads e g) ≡ before_read e (ahead g)
 ahead_read (Plain o) g = refl
@@ -39,29 +41,32 @@ mutual
   ahead_some (test_first t ts) g k = ahead_tested t g (some_tested ts g k) ∙ ap (before_test t (ahead g)) (ahead_some ts g k)
 
 mutual
-  pub ahead_lowered : (p : Procedure) (s : Statement) (g : Graph) → ahead (lowered p s g) ≡ before s (ahead g)
-  ahead_lowered p (set x e) g = ahead_read e _
-  ahead_lowered p (new x) g = refl
-  ahead_lowered p (write x e) g = ahead_read e _
-  ahead_lowered p (free x) g = refl
-  ahead_lowered p (call xs f es) g = ahead_reads es _
-  ahead_lowered p (choice t a c b d) g =
-      ahead_tested t (all_lowered p a g) (all_lowered p b g)
-      ∙ ap (λ x. before_test t x (ahead (all_lowered p b g))) (ahead_block p a g)
-      ∙ ap (before_test t (before_block a (ahead g))) (ahead_block p b g)
-  ahead_lowered p (loop at t i body close) g = ap (λ a. checked (stepped a)) (ahead_tested t dead_end g)
-  ahead_lowered p (give at es) g = ahead_reads es _
+  pub ahead_lowered : (P : Program) (n : ℕ) (s : Statement) (g : Graph) → ahead (lowered P n s g) ≡ before s (ahead g)
+  ahead_lowered P n (set x e) g = ahead_read e _
+  ahead_lowered P n (new x) g = refl
+  ahead_lowered P n (write x e) g = ahead_read e _
+  ahead_lowered P n (free x) g = refl
+  ahead_lowered P n (call xs f es) g = ahead_reads es _
+  ahead_lowered P n (choice t a c b d) g =
+      let m = n + length (all_loops a) in
+      ahead_tested t (all_lowered P n a g) (all_lowered P m b g)
+      ∙ ap (λ x. before_test t x (ahead (all_lowered P m b g))) (ahead_block P n a g)
+      ∙ ap (before_test t (before_block a (ahead g))) (ahead_block P m b g)
+  ahead_lowered P n (loop at t i body close) g = ap (λ a. checked (stepped a)) (ahead_tested t dead_end g)
+  ahead_lowered P n (give at es) g = ahead_reads es _
 
-  pub ahead_block : (p : Procedure) (ss : Statements) (g : Graph) → ahead (all_lowered p ss g) ≡ before_block ss (ahead g)
-  ahead_block p no_statements g = refl
-  ahead_block p (statement_first s ss) g = ahead_lowered p s (all_lowered p ss g) ∙ ap (before s) (ahead_block p ss g)
+  pub ahead_block : (P : Program) (n : ℕ) (ss : Statements) (g : Graph) → ahead (all_lowered P n ss g) ≡ before_block ss (ahead g)
+  ahead_block P n no_statements g = refl
+  ahead_block P n (statement_first s ss) g =
+      let m = n + length (loops s) in
+      ahead_lowered P n s (all_lowered P m ss g) ∙ ap (before s) (ahead_block P m ss g)
 
-pub ahead_entry : (p : Procedure) → ahead (whole_body p).graph ≡ entry_ahead p
-ahead_entry p = ahead_block p (body_of p) (ends (returned p.close p.gives))
+pub ahead_entry : (P : Program) (p : Procedure) → ahead (graph_from P p whole_body) ≡ entry_ahead p
+ahead_entry P p = ahead_block P 0 (body_of p) (ends (returned p.close))
 
-pub ahead_round : (p : Procedure) (l : Loop) → ahead (once_around p l) ≡ round_ahead l
-ahead_round p l =
-    ahead_tested l.test (all_lowered p l.body _) dead_end ∙ ap (λ a. before_test l.test a nothing) (ahead_block p l.body _)
+pub ahead_round : (P : Program) (n : ℕ) (l : Loop) → ahead (once_around P n l) ≡ round_ahead l
+ahead_round P n l =
+    ahead_tested l.test (all_lowered P (suc n) l.body _) dead_end ∙ ap (λ a. before_test l.test a nothing) (ahead_block P (suc n) l.body _)
 
 -- one more than the greatest number, and 0 for an empty list
 abbrev pub reach_by : {A : Type 0} → (A → ℕ) → List A → ℕ
@@ -105,43 +110,54 @@ ahead_tells (guarded c p g) =
 ahead_tells (fork l e r g k) =
     let one = ahead_tells g in
     let two = ahead_tells k in
-    let yes = map (after_step (assume l e r true)) (ways g) in
-    let no = map (after_step (assume l e r false)) (ways k) in
-    let first : length yes ≡ length (ways g) = length-map (ways g) (after_step (assume l e r true)) in
-    let second : length no ≡ length (ways k) = length-map (ways k) (after_step (assume l e r false)) in
+    let yes = map (after_step (assume l e r)) (ways g) in
+    let no = map (after_step (assume l (not e) r)) (ways k) in
+    let first : length yes ≡ length (ways g) = length-map (ways g) (after_step (assume l e r)) in
+    let second : length no ≡ length (ways k) = length-map (ways k) (after_step (assume l (not e) r)) in
     record {
       count = omega (arith, one.count, two.count, first, second, length-append yes no);
-      reach = omega (arith, one.reach, two.reach, reach_step (assume l e r true) (ways g), reach_step (assume l e r false) (ways k), reach_append steps_in yes no);
+      reach = omega (arith, one.reach, two.reach, reach_step (assume l e r) (ways g), reach_step (assume l (not e) r) (ways k), reach_append steps_in yes no);
     }
 
-abbrev pub steps_of : Condition → ℕ
+abbrev pub steps_of : Course → ℕ
 steps_of c = length c.way.steps
 
--- of the conditions from some starts
-tells_start : (p : Procedure) (a : Start) → Tells (ahead a.graph) (length (map (condition p a) (ways a.graph))) (reach_by steps_of (map (condition p a) (ways a.graph)))
-tells_start p a =
-    let whole = ahead_tells a.graph in
-    let count : length (map (condition p a) (ways a.graph)) ≡ length (ways a.graph) = length-map (ways a.graph) (condition p a) in
-    record { count = whole.count ∙ ap (λ n. min n (most_conditions + 1)) (sym count); reach = whole.reach ∙ ap (λ n. min n (most_steps + 2)) (sym (reach_map steps_of (condition p a) (ways a.graph))) }
+-- of some courses
+abbrev CoursesTell : Ahead → List Course → Type 0
+CoursesTell a cs = Tells a (length cs) (reach_by steps_of cs)
 
-tells_both : (a b : Ahead) (xs ys : List Condition) → Tells a (length xs) (reach_by steps_of xs) → Tells b (length ys) (reach_by steps_of ys) → Tells (either a b) (length (xs ++ ys)) (reach_by steps_of (xs ++ ys))
+-- of those from some starts
+tells_start : (a : Start) (g : Graph) → CoursesTell (ahead g) (map (course a) (ways g))
+tells_start a g =
+    let whole = ahead_tells g in
+    let count : length (map (course a) (ways g)) ≡ length (ways g) = length-map (ways g) (course a) in
+    record { count = whole.count ∙ ap (λ n. min n (most_conditions + 1)) (sym count); reach = whole.reach ∙ ap (λ n. min n (most_steps + 2)) (sym (reach_map steps_of (course a) (ways g))) }
+
+tells_both : (a b : Ahead) (xs ys : List Course) → CoursesTell a xs → CoursesTell b ys → CoursesTell (either a b) (xs ++ ys)
 tells_both a b xs ys one two = record {
   count = omega (arith, one.count, two.count, length-append xs ys);
   reach = omega (arith, one.reach, two.reach, reach_append steps_of xs ys);
 }
 
-tells_rounds : (p : Procedure) (n : ℕ) (ls : List Loop) → Tells (rounds_ahead ls) (length (from_starts p (rounds p n ls))) (reach_by steps_of (from_starts p (rounds p n ls)))
-tells_rounds p n [] = record { count = refl; reach = refl }
-tells_rounds p n (l ∷ ls) =
-    tells_both (round_ahead l) (rounds_ahead ls) (map (condition p (round p n l)) (ways (once_around p l))) (from_starts p (rounds p (suc n) ls))
-    (subst (λ a. Tells a (length (map (condition p (round p n l)) (ways (once_around p l)))) (reach_by steps_of (map (condition p (round p n l)) (ways (once_around p l))))) (ahead_round p l) (tells_start p (round p n l)))
-    (tells_rounds p (suc n) ls)
+tells_round : (P : Program) (p : Procedure) (n : ℕ) (l : Loop) → IsLoop p n l → CoursesTell (round_ahead l) (map (course (round n)) (ways (graph_from P p (round n))))
+tells_round P p n l is =
+    let same : graph_from P p (round n) ≡ once_around P n l = ap (around P n) is in
+    subst (λ a. CoursesTell a (map (course (round n)) (ways (graph_from P p (round n))))) (ap ahead same ∙ ahead_round P n l) (tells_start (round n) (graph_from P p (round n)))
 
-pub procedure_tells : (p : Procedure) → Tells (procedure_ahead p) (length (conditions_of p)) (reach_by steps_of (conditions_of p))
-procedure_tells p =
-    tells_both (entry_ahead p) (rounds_ahead (loops_of p)) (map (condition p (whole_body p)) (ways (whole_body p).graph)) (from_starts p (rounds p 0 (loops_of p)))
-    (subst (λ a. Tells a (length (map (condition p (whole_body p)) (ways (whole_body p).graph))) (reach_by steps_of (map (condition p (whole_body p)) (ways (whole_body p).graph)))) (ahead_entry p) (tells_start p (whole_body p)))
-    (tells_rounds p 0 (loops_of p))
+-- the loops from the number n on
+tells_rounds : (P : Program) (p : Procedure) (n : ℕ) (ls : List Loop) → drop n (loops_of p) ≡ ls → CoursesTell (rounds_ahead ls) (from_starts P p (rounds n ls))
+tells_rounds P p n [] left = record { count = refl; reach = refl }
+tells_rounds P p n (l ∷ ls) left =
+    tells_both (round_ahead l) (rounds_ahead ls) (map (course (round n)) (ways (graph_from P p (round n)))) (from_starts P p (rounds (suc n) ls))
+    (tells_round P p n l (first_of (loops_of p) n l ls left))
+    (tells_rounds P p (suc n) ls (sym (rest_of (loops_of p) n l ls left)))
+
+pub procedure_tells : (P : Program) (p : Procedure) → CoursesTell (procedure_ahead p) (courses_of P p)
+procedure_tells P p =
+    let g = graph_from P p whole_body in
+    tells_both (entry_ahead p) (rounds_ahead (loops_of p)) (map (course whole_body) (ways g)) (from_starts P p (rounds 0 (loops_of p)))
+    (subst (λ a. CoursesTell a (map (course whole_body) (ways g))) (ahead_entry P p) (tells_start whole_body g))
+    (tells_rounds P p 0 (loops_of p) refl)
 
 -- some member is past a number exactly where the reach is
 pub reach_some : {A : Type 0} (f : A → ℕ) (n : ℕ) (xs : List A) → n + 1 < reach_by f xs → Any (λ x. n < f x) xs
@@ -162,18 +178,18 @@ some_reach f n (w ∷ xs) x i more = elim (member_cases w xs x i) [
 ]
 
 -- the limits, read off what lies ahead
-pub many_paths : (p : Procedure) → most_conditions < (procedure_ahead p).count → HasManyPaths p
-many_paths p more = omega (arith, (procedure_tells p).count, more)
+pub many_paths : (P : Program) (p : Procedure) → most_conditions < (procedure_ahead p).count → HasManyPaths P p
+many_paths P p more = omega (arith, (procedure_tells P p).count, more)
 
-pub few_paths : (p : Procedure) → (procedure_ahead p).count ≤ most_conditions → HasManyPaths p → ⊥
-few_paths p less many = omega (arith, (procedure_tells p).count, less, many)
+pub few_paths : (P : Program) (p : Procedure) → (procedure_ahead p).count ≤ most_conditions → HasManyPaths P p → ⊥
+few_paths P p less many = omega (arith, (procedure_tells P p).count, less, many)
 
-pub many_steps : (p : Procedure) → most_steps + 1 < (procedure_ahead p).reach → HasManySteps p
-many_steps p more = reach_some steps_of most_steps (conditions_of p) (omega (arith, (procedure_tells p).reach, more))
+pub many_steps : (P : Program) (p : Procedure) → most_steps + 1 < (procedure_ahead p).reach → HasManySteps P p
+many_steps P p more = reach_some steps_of most_steps (courses_of P p) (omega (arith, (procedure_tells P p).reach, more))
 
-pub few_steps : (p : Procedure) → (procedure_ahead p).reach ≤ most_steps + 1 → HasManySteps p → ⊥
-few_steps p less many = omega (arith, (procedure_tells p).reach, less, some_reach steps_of most_steps (conditions_of p) many.1 (many.0, many.2, many.3) many.4)
+pub few_steps : (P : Program) (p : Procedure) → (procedure_ahead p).reach ≤ most_steps + 1 → HasManySteps P p → ⊥
+few_steps P p less many = omega (arith, (procedure_tells P p).reach, less, some_reach steps_of most_steps (courses_of P p) many.1 (many.0, many.2, many.3) many.4)
 
 -- where there are few, the number is exact
-pub count_is : (p : Procedure) → (procedure_ahead p).count ≤ most_conditions → (procedure_ahead p).count ≡ length (conditions_of p)
-count_is p less = omega (arith, (procedure_tells p).count, less)
+pub count_is : (P : Program) (p : Procedure) → (procedure_ahead p).count ≤ most_conditions → (procedure_ahead p).count ≡ length (courses_of P p)
+count_is P p less = omega (arith, (procedure_tells P p).count, less)

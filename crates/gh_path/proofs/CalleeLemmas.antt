@@ -1,54 +1,59 @@
--- The first procedure of a name.
-use Rattle.std.specs.Prelude.{◌≡◌, ℕ, ◌+◌, ◌<◌, ◌≤◌, List, map, length, get_or, take, Some, slice_get}
-use Rattle.std.specs.Option.{option_map}
-use Rattle.std.proofs.Common.{refl, sym, ◌∙◌, ap, inl, inr, arith}
-use Rattle.std.proofs.lemmas.List.{length-map, length-take-le, get_or-take, get_or-map, get_or_default}
-use Rattle.std.proofs.lemmas.Option.{slice_get-map, slice_get_read, slice_get_within}
+-- The number of the first procedure of a name.
+use Rattle.std.specs.Prelude.{◌≡◌, ℕ, ◌+◌, ◌<◌, ◌≤◌, List, ◌∷◌, map, length, get_or, drop, true, false, not, cond, Some, None, nat_lt, position, unwrap_or}
+use Rattle.std.specs.List.{position_or_len}
+use Rattle.std.specs.Str.{bytes_eq}
+use Rattle.std.proofs.Common.{◌∙◌, ap, inl, inr, arith}
+use Rattle.std.proofs.lemmas.Bool.{cases_Bool, lt-ltb, le-ltb}
+use Rattle.std.proofs.lemmas.List.Sums.{prefix_len-le-length}
+use Rattle.std.proofs.lemmas.Slice.Eq.{bytes_eq-Decides}
 use Rattle.gh_base.proofs.ListLemmas.{over_or}
 use Rattle.gh_ast.specs.declared.Procedure as whole
-use Rattle.gh_ast.specs.Plain.{Procedure, Program, procedure_of}
-use Rattle.gh_ast.specs.Programs.{Name}
-use Rattle.gh_path.specs.Kept.{IsCallee}
-use Rattle.gh_path.proofs.ListLemmas.{same_some}
+use Rattle.gh_ast.specs.Plain.{Procedure, procedure_of}
+use Rattle.gh_ast.specs.Programs.{Name, name_of}
+use Rattle.gh_path.proofs.ListLemmas.{next}
 
--- none of the first k has the name
-abbrev pub NoneNamed : List whole.Procedure → Name → ℕ → Type 0
-NoneNamed ps f k = (j : ℕ) (d : whole.Procedure) → j < k → (get_or ps j d).name.name ≡ f → ⊥
+-- among some procedures
+abbrev pub number_in : List Procedure → Name → ℕ
+number_in ps f = unwrap_or (position (λ p. bytes_eq (name_of p) f) ps) (length ps)
 
-pub one_more : (ps : List whole.Procedure) (f : Name) (k : ℕ) (r : whole.Procedure) → k < length ps → r ≡ get_or ps k r → NoneNamed ps f k → (r.name.name ≡ f → ⊥) → NoneNamed ps f (k + 1)
-one_more ps f k r within is none here j d less named = elim (over_or j k) [
-  | inl before ↦ none j d before named
-  | inr after ↦
-      let same : j ≡ k = omega (arith, after, less) in
-      here (ap (λ (q : whole.Procedure). q.name.name) (is ∙ sym (get_or_default ps k d r within) ∙ ap (λ i. get_or ps i d) (sym same)) ∙ named)
-]
-
-pub is_callee : (ps : List whole.Procedure) (f : Name) (n : ℕ) (r : whole.Procedure) (P : Program) → P.procedures ≡ map procedure_of ps → n < length ps → r ≡ get_or ps n r → r.name.name ≡ f → NoneNamed ps f n → IsCallee P n f
-is_callee ps f n r P same within is named none = record {
-  callee = procedure_of r;
-  at = ap (λ xs. slice_get xs n) same ∙ slice_get-map procedure_of ps n ∙ ap (option_map procedure_of) (slice_get_read ps (length ps) n r refl within is);
-  named = named;
-  first = λ q there is_named.
-      let count : length (take n P.procedures) ≡ n = ap (λ xs. length (take n xs)) same ∙ length-take-le n (map procedure_of ps) (omega (arith, within, length-map ps procedure_of)) in
-      let less : there.0 < n = omega (arith, there.1, count) in
-      let far : there.0 < length ps = omega (arith, less, within) in
-      let at : get_or (map procedure_of ps) there.0 q ≡ q = sym (get_or-take n (map procedure_of ps) there.0 q less) ∙ ap (λ xs. get_or (take n xs) there.0 q) (sym same) ∙ there.2 in
-      none there.0 r less (ap (λ (p : Procedure). p.name.name) (sym (get_or-map procedure_of ps there.0 r q far) ∙ at) ∙ is_named);
-}
-
--- where there is such a procedure, one comes before the end
-pub callee_within : (ps : List whole.Procedure) (f : Name) (n : ℕ) (P : Program) → P.procedures ≡ map procedure_of ps → IsCallee P n f → n < length ps
-callee_within ps f n P same is =
-    let count : length P.procedures ≡ length ps = ap length same ∙ length-map ps procedure_of in
-    omega (arith, count, slice_get_within P.procedures n is.callee is.at)
-
-pub callee_later : (ps : List whole.Procedure) (f : Name) (n k : ℕ) (r : whole.Procedure) (P : Program) → P.procedures ≡ map procedure_of ps → IsCallee P n f → k ≤ n → r ≡ get_or ps k r → (r.name.name ≡ f → ⊥) → k + 1 ≤ n
-callee_later ps f n k r P same is low at other = elim (over_or k n) [
-  | inl less ↦ omega (arith, less)
+at_place : (k n : ℕ) → k ≤ n → unwrap_or (cond (nat_lt k n) (Some k) None) n ≡ k
+at_place k n low = elim (over_or k n) [
+  | inl less ↦ let is : nat_lt k n ≡ true = lt-ltb k n less in ap (λ b. unwrap_or (cond b (Some k) None) n) is
   | inr past ↦
-      let here : n ≡ k = omega (arith, past, low) in
-      let got : slice_get (map procedure_of ps) n ≡ Some (procedure_of r) =
-      slice_get-map procedure_of ps n ∙ ap (option_map procedure_of) (slice_get_read ps (length ps) n r refl (callee_within ps f n P same is) (at ∙ ap (λ i. get_or ps i r) (sym here))) in
-      let one : is.callee ≡ procedure_of r = same_some is.callee (procedure_of r) (sym is.at ∙ ap (λ xs. slice_get xs n) same ∙ got) in
-      absurd (other (ap (λ (p : Procedure). p.name.name) (sym one) ∙ is.named))
+      let is : nat_lt k n ≡ false = le-ltb k n past in
+      let same : n ≡ k = omega (arith, low, past) in
+      ap (λ b. unwrap_or (cond b (Some k) None) n) is ∙ same
 ]
+
+number_is : (ps : List Procedure) (f : Name) → number_in ps f ≡ position_or_len (λ p. bytes_eq (name_of p) f) ps
+number_is ps f = at_place (position_or_len (λ p. bytes_eq (name_of p) f) ps) (length ps) (prefix_len-le-length (λ p. not (bytes_eq (name_of p) f)) ps)
+
+pub number_here : (p : Procedure) (ps : List Procedure) (f : Name) → name_of p ≡ f → number_in (p ∷ ps) f ≡ 0
+number_here p ps f named =
+    let is : bytes_eq (name_of p) f ≡ true = (bytes_eq-Decides (name_of p) f).1 named in
+    number_is (p ∷ ps) f ∙ ap (λ b. cond (not b) (1 + position_or_len (λ p. bytes_eq (name_of p) f) ps) 0) is
+
+pub number_later : (p : Procedure) (ps : List Procedure) (f : Name) → (name_of p ≡ f → ⊥) → number_in (p ∷ ps) f ≡ number_in ps f + 1
+number_later p ps f other = elim (cases_Bool (bytes_eq (name_of p) f)) [
+  | inl is ↦ absurd (other ((bytes_eq-Decides (name_of p) f).0 is))
+  | inr is ↦
+      let more : number_in (p ∷ ps) f ≡ 1 + position_or_len (λ p. bytes_eq (name_of p) f) ps =
+      number_is (p ∷ ps) f ∙ ap (λ b. cond (not b) (1 + position_or_len (λ p. bytes_eq (name_of p) f) ps) 0) is in
+      omega (arith, more, number_is ps f)
+]
+
+-- the same of what is left of the procedures as they are read
+abbrev pub AsFar : List whole.Procedure → Name → ℕ → Type 0
+AsFar ps f k = number_in (map procedure_of ps) f ≡ k + number_in (map procedure_of (drop k ps)) f
+
+pub number_at : (ps : List whole.Procedure) (f : Name) (k : ℕ) (r : whole.Procedure) → k < length ps → r ≡ get_or ps k r → AsFar ps f k → r.name.name ≡ f → k ≡ number_in (map procedure_of ps) f
+number_at ps f k r within is far named =
+    let none : number_in (map procedure_of (drop k ps)) f ≡ 0 =
+    ap (λ (qs : List whole.Procedure). number_in (map procedure_of qs) f) (next ps k r within is) ∙ number_here (procedure_of r) (map procedure_of (drop (k + 1) ps)) f named in
+    omega (arith, far, none)
+
+pub number_past : (ps : List whole.Procedure) (f : Name) (k : ℕ) (r : whole.Procedure) → k < length ps → r ≡ get_or ps k r → AsFar ps f k → (r.name.name ≡ f → ⊥) → AsFar ps f (k + 1)
+number_past ps f k r within is far other =
+    let more : number_in (map procedure_of (drop k ps)) f ≡ number_in (map procedure_of (drop (k + 1) ps)) f + 1 =
+    ap (λ (qs : List whole.Procedure). number_in (map procedure_of qs) f) (next ps k r within is) ∙ number_later (procedure_of r) (map procedure_of (drop (k + 1) ps)) f other in
+    omega (arith, far, more)

@@ -1,17 +1,17 @@
 -- A body in the shape that texts give it has a condition from each of its loops, so there are no more loops than conditions.
-use Rattle.std.specs.Prelude.{◌≡◌, ◌⊎◌, ℕ, suc, ◌+◌, ◌≤◌, List, [], ◌∷◌, ◌++◌, map, length, Bool, true, false, Option, Some, None}
-use Rattle.std.proofs.Common.{inl, inr, arith}
+use Rattle.std.specs.Prelude.{◌≡◌, ◌⊎◌, ℕ, suc, ◌+◌, ◌≤◌, List, [], ◌∷◌, ◌++◌, map, length, drop, Bool, true, not, Option, Some, None}
+use Rattle.std.proofs.Common.{refl, sym, ap, inl, inr, arith}
 use Rattle.std.proofs.lemmas.List.{length-map, length-append}
 use Rattle.gh_ast.specs.declared.Expr.{Expr}
 use Rattle.gh_ast.specs.declared.Expr.TheVariants.{Plain, Read}
-use Rattle.gh_ast.specs.Plain.{Test, compare, negation, conjunction, disjunction, Tests, no_tests, test_first, Statement, set, new, write, free, call, choice, loop, give, Statements, no_statements, statement_first, Procedure, Inside}
+use Rattle.gh_ast.specs.Plain.{Test, compare, negation, conjunction, disjunction, Tests, no_tests, test_first, Statement, set, new, write, free, call, choice, loop, give, Statements, no_statements, statement_first, Procedure, Program, Inside}
 use Rattle.gh_ast.specs.Programs.{body_of, statements_in}
 use Rattle.gh_ast.specs.WellFormed.{AreManyTests, IsFormedTest, AreFormedTests, IsFormedStatement, AreFormedStatements, IsFormedBody}
 use Rattle.gh_path.specs.Admitted.{most_conditions}
-use Rattle.gh_path.specs.Graphs.{Graph, dead_end, ends, moves, guarded, fork, PathStep, assume, Check, loop_end, reads, all_reads, tested, all_tested, some_tested, lowered, all_lowered, Loop, loops, all_loops, loops_of, once_around, whole_body, round, rounds}
+use Rattle.gh_path.specs.Graphs.{Graph, dead_end, ends, moves, fork, PathStep, assume, loop_end, reads, all_reads, tested, all_tested, some_tested, lowered, all_lowered, Loop, loops, all_loops, loops_of, around, once_around, graph_from, whole_body, round, rounds}
 use Rattle.gh_path.specs.Paths.{ways, after_step}
-use Rattle.gh_path.specs.Conditions.{condition, conditions_of, from_starts}
-use Rattle.gh_path.specs.Roots.{from_start}
+use Rattle.gh_path.specs.Conditions.{course, courses_of, from_starts}
+use Rattle.gh_path.proofs.ListLemmas.{first_of, rest_of}
 
 -- there is a way
 abbrev HasWay : Graph → Type 0
@@ -20,15 +20,12 @@ HasWay g = 1 ≤ length (ways g)
 way_on : (p : PathStep) (g : Graph) → HasWay g → HasWay (moves p g)
 way_on p g way = let long : length (map (after_step p) (ways g)) ≡ length (ways g) = length-map (ways g) (after_step p) in omega (arith, long, way)
 
-way_at : (c : Check) (p : PathStep) (g : Graph) → HasWay (guarded c p g)
-way_at c p g = omega arith
-
 way_to : (l : Expr) (e : Bool) (r : Expr) (g k : Graph) → HasWay g ⊎ HasWay k → HasWay (fork l e r g k)
 way_to l e r g k some =
-    let yes = map (after_step (assume l e r true)) (ways g) in
-    let no = map (after_step (assume l e r false)) (ways k) in
-    let first : length yes ≡ length (ways g) = length-map (ways g) (after_step (assume l e r true)) in
-    let second : length no ≡ length (ways k) = length-map (ways k) (after_step (assume l e r false)) in
+    let yes = map (after_step (assume l e r)) (ways g) in
+    let no = map (after_step (assume l (not e) r)) (ways k) in
+    let first : length yes ≡ length (ways g) = length-map (ways g) (after_step (assume l e r)) in
+    let second : length no ≡ length (ways k) = length-map (ways k) (after_step (assume l (not e) r)) in
     elim some [ inl one ↦ omega (arith, first, one, length-append yes no) | inr other ↦ omega (arith, second, other, length-append yes no) ]
 
 way_read : (e : Expr) (g : Graph) → HasWay g → HasWay (reads e g)
@@ -77,19 +74,21 @@ mutual
   way_one b (test_first t ts) g k formed some one = way_tested b t g (some_tested ts g k) formed.0 (inl one)
 
 mutual
-  way_lowered : (p : Procedure) (s : Statement) (g : Graph) → IsFormedStatement s → HasWay g → HasWay (lowered p s g)
-  way_lowered p (set x e) g formed way = way_read e (moves _ g) (way_on _ g way)
-  way_lowered p (new x) g formed way = way_on _ g way
-  way_lowered p (write x e) g formed way = way_read e _ (omega arith)
-  way_lowered p (free x) g formed way = omega arith
-  way_lowered p (call xs f es) g formed way = way_reads es _ (omega arith)
-  way_lowered p (choice t a c b d) g formed way = way_tested true t (all_lowered p a g) (all_lowered p b g) formed.0 (inl (way_block p a g formed.1 way))
-  way_lowered p (loop at t i body close) g formed way = omega arith
-  way_lowered p (give at es) g formed way = way_reads es _ (omega arith)
+  way_lowered : (P : Program) (n : ℕ) (s : Statement) (g : Graph) → IsFormedStatement s → HasWay g → HasWay (lowered P n s g)
+  way_lowered P n (set x e) g formed way = way_read e (moves _ g) (way_on _ g way)
+  way_lowered P n (new x) g formed way = way_on _ g way
+  way_lowered P n (write x e) g formed way = way_read e _ (omega arith)
+  way_lowered P n (free x) g formed way = omega arith
+  way_lowered P n (call xs f es) g formed way = way_reads es _ (omega arith)
+  way_lowered P n (choice t a c b d) g formed way =
+      way_tested true t (all_lowered P n a g) (all_lowered P (n + length (all_loops a)) b g) formed.0 (inl (way_block P n a g formed.1 way))
+  way_lowered P n (loop at t i body close) g formed way = omega arith
+  way_lowered P n (give at es) g formed way = way_reads es _ (omega arith)
 
-  way_block : (p : Procedure) (ss : Statements) (g : Graph) → AreFormedStatements ss → HasWay g → HasWay (all_lowered p ss g)
-  way_block p no_statements g formed way = way
-  way_block p (statement_first s ss) g formed way = way_lowered p s (all_lowered p ss g) formed.0 (way_block p ss g formed.1 way)
+  way_block : (P : Program) (n : ℕ) (ss : Statements) (g : Graph) → AreFormedStatements ss → HasWay g → HasWay (all_lowered P n ss g)
+  way_block P n no_statements g formed way = way
+  way_block P n (statement_first s ss) g formed way =
+      way_lowered P n s (all_lowered P (n + length (loops s)) ss g) formed.0 (way_block P (n + length (loops s)) ss g formed.1 way)
 
 -- loops whose tests and bodies have the shape
 abbrev AreFormedLoops : List Loop → Type 0
@@ -115,21 +114,25 @@ mutual
   all_loops_formed no_statements formed = tt
   all_loops_formed (statement_first s ss) formed = both_formed (loops s) (all_loops ss) (loops_formed s formed.0) (all_loops_formed ss formed.1)
 
-many_rounds : (p : Procedure) (n : ℕ) (ls : List Loop) → AreFormedLoops ls → length ls ≤ length (from_starts p (rounds p n ls))
-many_rounds p n [] formed = omega arith
-many_rounds p n (l ∷ ls) formed =
-    let first = from_start p (round p n l) in
-    let one : HasWay (once_around p l) = way_tested true l.test (all_lowered p l.body (ends (loop_end l))) dead_end formed.0.0 (inl (way_block p l.body (ends (loop_end l)) formed.0.1 (omega arith))) in
-    let long : length first ≡ length (ways (once_around p l)) = length-map (ways (once_around p l)) (condition p (round p n l)) in
+-- the loops from the number n on
+many_rounds : (P : Program) (p : Procedure) (n : ℕ) (ls : List Loop) → drop n (loops_of p) ≡ ls → AreFormedLoops ls → length ls ≤ length (from_starts P p (rounds n ls))
+many_rounds P p n [] left formed = omega arith
+many_rounds P p n (l ∷ ls) left formed =
+    let g = graph_from P p (round n) in
+    let first = map (course (round n)) (ways g) in
+    let last = ends (loop_end l.close n) in
+    let one : HasWay (once_around P n l) = way_tested true l.test (all_lowered P (suc n) l.body last) dead_end formed.0.0 (inl (way_block P (suc n) l.body last formed.0.1 (omega arith))) in
+    let same : length (ways g) ≡ length (ways (once_around P n l)) = ap (λ o. length (ways (around P n o))) (first_of (loops_of p) n l ls left) in
+    let long : length first ≡ length (ways g) = length-map (ways g) (course (round n)) in
     let more : length (l ∷ ls) ≡ length ls + 1 = omega arith in
-    omega (arith, one, long, more, many_rounds p (suc n) ls formed.1, length-append first (from_starts p (rounds p (suc n) ls)))
+    omega (arith, one, same, long, more, many_rounds P p (suc n) ls (sym (rest_of (loops_of p) n l ls left)) formed.1, length-append first (from_starts P p (rounds (suc n) ls)))
 
 formed_statements : (b : Option Inside) → IsFormedBody b → AreFormedStatements (statements_in b)
 formed_statements None formed = tt
 formed_statements (Some i) formed = formed
 
-pub few_loops : (p : Procedure) → IsFormedBody p.body → length (conditions_of p) ≤ most_conditions → length (loops_of p) ≤ most_conditions
-few_loops p formed few =
-    let first = from_start p (whole_body p) in
-    let rest = from_starts p (rounds p 0 (loops_of p)) in
-    omega (arith, many_rounds p 0 (loops_of p) (all_loops_formed (body_of p) (formed_statements p.body formed)), few, length-append first rest)
+pub few_loops : (P : Program) (p : Procedure) → IsFormedBody p.body → length (courses_of P p) ≤ most_conditions → length (loops_of p) ≤ most_conditions
+few_loops P p formed few =
+    let first = map (course whole_body) (ways (graph_from P p whole_body)) in
+    let rest = from_starts P p (rounds 0 (loops_of p)) in
+    omega (arith, many_rounds P p 0 (loops_of p) refl (all_loops_formed (body_of p) (formed_statements p.body formed)), few, length-append first rest)

@@ -1,5 +1,5 @@
 -- What an item of a walk says of the list of conditions.
-use Rattle.std.specs.Prelude.{◌≡◌, ℕ, zero, suc, ◌+◌, ◌-◌, ◌<◌, List, [], ◌∷◌, length, drop, Some, None, Ok, slice_get, Bool, true, false}
+use Rattle.std.specs.Prelude.{◌≡◌, ℕ, suc, ◌+◌, ◌-◌, ◌<◌, length, drop, Some, None, Ok, slice_get, Bool, true, false}
 use Rattle.std.proofs.Common.{sym, ◌∙◌, ap, subst, arith}
 use Rattle.std.proofs.lemmas.List.{length-drop}
 use Rattle.std.specs.declared.alloc.AllocError.{AllocError}
@@ -7,33 +7,23 @@ use Rattle.std.specs.declared.result.Result.{Result}
 use Rattle.gh_ast.specs.Plain.{Program}
 use Rattle.gh_path.specs.Answers.{IsNumbered}
 use Rattle.gh_path.specs.Conditions.{Condition, conditions}
+use Rattle.gh_path.specs.Kept.{condition_of}
 use Rattle.gh_path.specs.Walks.{IsBefore, IsGiven, Lends}
 use Rattle.gh_path.specs.declared.condition.Condition as kept
 use Rattle.gh_path.specs.declared.walk.Walk.{Walk}
-
-first_of : {A : Type 0} (xs : List A) (k : ℕ) (x : A) (ys : List A) → drop k xs ≡ x ∷ ys → slice_get xs k ≡ Some x
-first_of [] zero x ys e = absurd cc
-first_of [] (suc k) x ys e = absurd cc
-first_of (z ∷ xs) zero x ys e = let same : z ≡ x = cc in ap Some same
-first_of (z ∷ xs) (suc k) x ys e = first_of xs k x ys e
-
-rest_of : {A : Type 0} (xs : List A) (k : ℕ) (x : A) (ys : List A) → drop k xs ≡ x ∷ ys → ys ≡ drop (suc k) xs
-rest_of [] zero x ys e = absurd cc
-rest_of [] (suc k) x ys e = absurd cc
-rest_of (z ∷ xs) zero x ys e = let same : xs ≡ ys = cc in sym same
-rest_of (z ∷ xs) (suc k) x ys e = rest_of xs k x ys e
+use Rattle.gh_path.proofs.ListLemmas.{first_of, rest_of}
 
 -- the k-th item is the condition of number k + 1
 pub given_next : (P : Program) (s t : Walk) (k : ℕ) (r : kept.Condition) → IsBefore P s (drop k (conditions P)) → IsGiven s (Some (Ok r)) t →
     IsNumbered P (k + 1) (Some r) × IsBefore P t (drop (k + 1) (conditions P))
 given_next P s t k r before given =
     let item = given P (drop k (conditions P)) before in
-    let c : Condition = item.1.0 in
+    let c : Condition = condition_of r in
     let place : k ≡ k + 1 - 1 = omega arith in
-    let at : slice_get (conditions P) k ≡ Some c = first_of (conditions P) k c item.0 item.1.1 in
+    let at : slice_get (conditions P) k ≡ Some c = first_of (conditions P) k c item.0 item.1 in
     let more : suc k ≡ k + 1 = omega arith in (
-      (c, omega arith, ap (slice_get (conditions P)) (sym place) ∙ at, item.1.2),
-      subst (IsBefore P t) (rest_of (conditions P) k c item.0 item.1.1 ∙ ap (λ n. drop n (conditions P)) more) item.2,
+      (omega arith, ap (slice_get (conditions P)) (sym place) ∙ at),
+      subst (IsBefore P t) (rest_of (conditions P) k c item.0 item.1 ∙ ap (λ n. drop n (conditions P)) more) item.2,
     )
 
 -- an item comes as long as there are conditions
@@ -43,7 +33,7 @@ given_none P s t k before less given =
     let empty : length (drop k (conditions P)) ≡ 0 = ap length item.1.0 in
     omega (arith, empty, length-drop k (conditions P), less)
 
--- a condition is lent: it stands for the one at the place k, and those after it are still to come
+-- a condition is lent: it is the one at the place k, and those after it are still to come
 lent_next : (P : Program) (s t : Walk) (k : ℕ) (o : Result Bool AllocError) (more : Bool) → o ≡ Ok more → more ≡ true → IsBefore P s (drop k (conditions P)) → Lends s o t →
     IsNumbered P (k + 1) (Some t.condition) × IsBefore P t (drop (k + 1) (conditions P))
 lent_next P s t k o more was is before came =

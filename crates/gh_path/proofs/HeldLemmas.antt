@@ -1,53 +1,41 @@
 -- The steps that a walk holds, each with the origin that it comes from.
 use Rattle.std.specs.Prelude.{◌≡◌, ◌⊎◌, ℕ, zero, suc, ◌+◌, ◌<◌, ◌≤◌, List, [], ◌∷◌, ◌++◌, map, length, take, get_or, slice_set, slice_get, Some}
 use Rattle.std.proofs.Common.{refl, sym, ◌∙◌, ap, subst, inl, inr, arith}
-use Rattle.std.proofs.lemmas.List.{take_all, take_more, take_more_set, map_more, length_push, length-take-le, length-map}
+use Rattle.std.proofs.lemmas.List.{take_all, take_more, take_more_set, take-map, map-append, map_more, length_push, length-take-le, length-map}
 use Rattle.std.proofs.lemmas.Option.{slice_get_within, get_or_from_slice_get}
-use Rattle.gh_ast.specs.Plain.{Procedure, Program}
 use Rattle.gh_path.specs.Graphs.{PathStep}
-use Rattle.gh_path.specs.Kept.{AreSteps}
-use Rattle.gh_path.specs.Shown.{AreShown, AreHeld, KeepsStep, step_from}
+use Rattle.gh_path.specs.Kept.{step_of}
+use Rattle.gh_path.specs.Shown.{AreHeld, KeepsStep, step_shown, step_from, steps_from}
 use Rattle.gh_path.specs.declared.condition.PathStep as kept
 use Rattle.gh_path.specs.declared.node.Node.{Node}
 use Rattle.gh_path.specs.declared.node.Origin.{Origin}
 use Rattle.gh_path.specs.declared.route.Taken.{Taken}
 
+-- the step of an origin
+abbrev of_origin : List Node → Origin → PathStep
+of_origin ns o = step_shown (step_from ns o)
+
 held_length : (ns : List Node) (os : List Origin) (rs : List kept.PathStep) → AreHeld ns os rs → length os ≡ length rs
-held_length ns [] [] held = refl
-held_length ns [] (r ∷ rs) held = absurd held
-held_length ns (o ∷ os) [] held = absurd held
-held_length ns (o ∷ os) (r ∷ rs) held = omega (arith, held_length ns os rs held.1)
+held_length ns os rs held =
+    let same : length (map step_of rs) ≡ length (steps_from ns os) = ap length held in
+    sym (length-map os (of_origin ns)) ∙ sym same ∙ length-map rs step_of
+
+map_set : {A B : Type 0} (f : A → B) (xs : List A) (i : ℕ) (y : A) → map f (slice_set xs i y) ≡ slice_set (map f xs) i (f y)
+map_set f [] i y = refl
+map_set f (x ∷ xs) zero y = refl
+map_set f (x ∷ xs) (suc i) y = ap (λ ys. f x ∷ ys) (map_set f xs i y)
 
 held_set : (ns : List Node) (os : List Origin) (rs : List kept.PathStep) (i : ℕ) (o : Origin) (r : kept.PathStep) → KeepsStep (step_from ns o) r → AreHeld ns os rs →
     AreHeld ns (slice_set os i o) (slice_set rs i r)
-held_set ns [] [] i o r keeps held = tt
-held_set ns [] (q ∷ rs) i o r keeps held = absurd held
-held_set ns (p ∷ os) [] i o r keeps held = absurd held
-held_set ns (p ∷ os) (q ∷ rs) zero o r keeps held = (λ P f x shown. keeps P f x shown, held.1)
-held_set ns (p ∷ os) (q ∷ rs) (suc i) o r keeps held = (held.0, held_set ns os rs i o r keeps held.1)
+held_set ns os rs i o r keeps held =
+    map_set step_of rs i r ∙ ap (λ xs. slice_set xs i (step_of r)) held ∙ ap (slice_set (steps_from ns os) i) keeps ∙ sym (map_set (of_origin ns) os i o)
 
 held_push : (ns : List Node) (os : List Origin) (rs : List kept.PathStep) (o : Origin) (r : kept.PathStep) → KeepsStep (step_from ns o) r → AreHeld ns os rs → AreHeld ns (os ++ o ∷ []) (rs ++ r ∷ [])
-held_push ns [] [] o r keeps held = (λ P f x shown. keeps P f x shown, tt)
-held_push ns [] (q ∷ rs) o r keeps held = absurd held
-held_push ns (p ∷ os) [] o r keeps held = absurd held
-held_push ns (p ∷ os) (q ∷ rs) o r keeps held = (held.0, held_push ns os rs o r keeps held.1)
+held_push ns os rs o r keeps held =
+    map-append step_of rs (r ∷ []) ∙ ap (λ xs. xs ++ step_of r ∷ []) held ∙ ap (λ x. steps_from ns os ++ x ∷ []) keeps ∙ sym (map-append (of_origin ns) os (o ∷ []))
 
 pub held_take : (ns : List Node) (os : List Origin) (rs : List kept.PathStep) (n : ℕ) → AreHeld ns os rs → AreHeld ns (take n os) (take n rs)
-held_take ns os rs zero held = tt
-held_take ns [] [] (suc n) held = tt
-held_take ns [] (r ∷ rs) (suc n) held = absurd held
-held_take ns (o ∷ os) [] (suc n) held = absurd held
-held_take ns (o ∷ os) (r ∷ rs) (suc n) held = (held.0, held_take ns os rs n held.1)
-
--- they stand for what the way shows
-pub held_shown : (P : Program) (p : Procedure) (ns : List Node) (ts : List Taken) (rs : List kept.PathStep) (xs : List PathStep) → AreHeld ns (map (λ t. t.origin) ts) rs →
-    AreShown P p (map (λ t. step_from ns t.origin) ts) xs → AreSteps P p rs xs
-held_shown P p ns [] [] [] held shown = tt
-held_shown P p ns [] [] (x ∷ xs) held shown = absurd shown
-held_shown P p ns [] (r ∷ rs) xs held shown = absurd held
-held_shown P p ns (t ∷ ts) [] xs held shown = absurd held
-held_shown P p ns (t ∷ ts) (r ∷ rs) [] held shown = absurd shown
-held_shown P p ns (t ∷ ts) (r ∷ rs) (x ∷ xs) held shown = (held.0 P p x shown.0, held_shown P p ns ts rs xs held.1 shown.1)
+held_take ns os rs n held = sym (take-map step_of n rs) ∙ ap (take n) held ∙ take-map (of_origin ns) n os
 
 -- a list in which an item is put at a place
 abbrev pub IsPut : {A : Type 0} → List A → ℕ → A → List A → Type 0

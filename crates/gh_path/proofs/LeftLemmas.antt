@@ -1,19 +1,20 @@
 -- The conditions that a walk has still to give.
-use Rattle.std.specs.Prelude.{◌≡◌, ℕ, zero, suc, ◌+◌, ◌-◌, ◌<◌, ◌≤◌, List, [], ◌∷◌, ◌++◌, map, length, drop, Option, Some, None, Ok, Err, Bool, true, false, slice_get}
+use Rattle.std.specs.Prelude.{◌≡◌, ℕ, zero, suc, ◌+◌, ◌-◌, ◌<◌, ◌≤◌, List, [], ◌∷◌, ◌++◌, length, drop, Option, Some, None, Ok, Err, Bool, true, false, slice_get}
 use Rattle.std.proofs.Common.{Vec, Global, refl, sym, ◌∙◌, ap, subst, arith}
 use Rattle.std.proofs.lemmas.List.{drop_more}
 use Rattle.std.proofs.lemmas.Option.{slice_get_within, get_or_from_slice_get}
 use Rattle.std.proofs.Math.ListN.{drop_of_length-le}
 use Rattle.std.specs.declared.alloc.AllocError.{AllocError}
 use Rattle.std.specs.declared.result.Result.{Result}
-use Rattle.gh_ast.specs.Plain.{Procedure, Program}
-use Rattle.gh_path.specs.Graphs.{Graph}
+use Rattle.gh_ast.specs.Plain.{Program}
+use Rattle.gh_path.specs.Graphs.{Check, Graph, PathStep, Start}
 use Rattle.gh_path.specs.Paths.{Way, ways}
-use Rattle.gh_path.specs.Conditions.{Condition, condition}
+use Rattle.gh_path.specs.Conditions.{Condition, condition, course}
+use Rattle.gh_path.specs.Kept.{start_of, condition_of}
 use Rattle.gh_path.specs.Shown.{AreHeld, Shows}
-use Rattle.gh_path.specs.Routes.{AreToCome, IsReached}
-use Rattle.gh_path.specs.Roots.{AreRoots, AreStarts, IsAfter}
-use Rattle.gh_path.specs.Walks.{AreLeft, IsBefore, IsAt, HasCome, Reaches, Gives, IsGiven, Lends, lent}
+use Rattle.gh_path.specs.Routes.{way, AreToCome, IsReached}
+use Rattle.gh_path.specs.Roots.{on_ways, graph_of, AreRoots, AreStarts, IsAfter}
+use Rattle.gh_path.specs.Walks.{AreLeft, IsBefore, come_to, IsAt, HasCome, Reaches, Gives, IsGiven, Lends, lent}
 use Rattle.gh_path.specs.declared.condition.Condition as kept
 use Rattle.gh_path.specs.declared.node.Asked.{Asked}
 use Rattle.gh_path.specs.declared.node.Node.{Node}
@@ -25,15 +26,12 @@ use Rattle.gh_path.specs.declared.walk.Walk.{Walk}
 
 -- at a start
 pub at_left : (P : Program) (s : Walk) (cs : List Condition) → AreRoots P s.starts.now.nodes (s.present ∷ drop s.next s.starts.now.roots.items) cs →
-    ((p : Procedure) (g : Graph) → Shows P p s.starts.now.nodes s.present.node g → AreToCome P p s.starts.now.nodes s.route.taken.items s.route.onward (ways g)) →
+    ((g : Graph) → Shows s.starts.now.nodes s.present.node g → AreToCome s.starts.now.nodes s.route.taken.items s.route.onward (ways g)) →
     AreHeld s.starts.now.nodes s.held.items s.condition.steps.items → AreLeft P s cs
-at_left P s cs (p, a, ds, root, rest, split) come held = record {
-  procedure = p;
-  start = a;
-  ways = ways a.graph;
+at_left P s cs (p, ds, root, rest, split) come held = record {
+  ways = ways (graph_of P p s.present);
   later = ds;
-  root = root;
-  here = come p a.graph root.shows;
+  here = come (graph_of P p s.present) root.shows;
   after = rest;
   are = split;
   held = held;
@@ -53,11 +51,8 @@ from_first P s r cs roots some first = by_roots s.roots.items refl roots
 -- only what is counted changes
 pub left_too : (P : Program) (s : Walk) (cs : List Condition) (given end : ℕ) → AreLeft P s cs → AreLeft P (record s { given = given; end = end }) cs
 left_too P s cs given end left = record {
-  procedure = left.procedure;
-  start = left.start;
   ways = left.ways;
   later = left.later;
-  root = left.root;
   here = left.here;
   after = left.after;
   are = left.are;
@@ -84,7 +79,7 @@ passed P s t (d ∷ ds) found before reach given end =
   where
     rest : (o : Option Asked) → HasCome P t o (d ∷ ds) → AreLeft P t ds
     rest None none = absurd cc
-    rest (Some a) at = let same : at.rest ≡ ds = tail at.first at.rest (sym at.are) in subst (AreLeft P t) same at.left
+    rest (Some a) at = let same : at.rest ≡ ds = tail (come_to t a) at.rest (sym at.are) in subst (AreLeft P t) same at.left
       where
         tail : (c : Condition) (cs : List Condition) → c ∷ cs ≡ d ∷ ds → cs ≡ ds
         tail c cs e = cc
@@ -109,10 +104,10 @@ drop_after {A = A} xs ys n m is = sym (ap (λ k. drop k xs) is.place ∙ ap (dro
 
 -- the present start has no way any more
 pub over_left : (P : Program) (s : Walk) (cs : List Condition) → AreLeft P s cs →
-    ((p : Procedure) (ws : List Way) → AreToCome P p s.starts.now.nodes s.route.taken.items s.route.onward ws → ws ≡ []) → AreRoots P s.starts.now.nodes (drop s.next s.starts.now.roots.items) cs
+    ((ws : List Way) → AreToCome s.starts.now.nodes s.route.taken.items s.route.onward ws → ws ≡ []) → AreRoots P s.starts.now.nodes (drop s.next s.starts.now.roots.items) cs
 over_left P s cs left over =
-    let none : left.ways ≡ [] = over left.procedure left.ways left.here in
-    let same : cs ≡ left.later = left.are ∙ ap (λ ws. map (condition left.procedure left.start) ws ++ left.later) none in
+    let none : left.ways ≡ [] = over left.ways left.here in
+    let same : cs ≡ left.later = left.are ∙ ap (λ ws. on_ways s.present.procedure (start_of s.present.start) ws ++ left.later) none in
     subst (AreRoots P s.starts.now.nodes (drop s.next s.starts.now.roots.items)) (sym same) left.after
 
 -- and no start comes any more
@@ -128,7 +123,7 @@ none_left P ns rs n cs past roots =
 
 -- the next start
 pub next_left : (P : Program) (s : Walk) (cs : List Condition) (r : Root) (t : Route) → AreRoots P s.starts.now.nodes (drop s.next s.starts.now.roots.items) cs → slice_get s.starts.now.roots.items s.next ≡ Some r →
-    ((p : Procedure) (g : Graph) → Shows P p s.starts.now.nodes r.node g → AreToCome P p s.starts.now.nodes t.taken.items t.onward (ways g)) →
+    ((g : Graph) → Shows s.starts.now.nodes r.node g → AreToCome s.starts.now.nodes t.taken.items t.onward (ways g)) →
     AreHeld s.starts.now.nodes s.held.items s.condition.steps.items → AreLeft P (record s { present = r; next = s.next + 1; route = t }) cs
 next_left P s cs r t roots at come held =
     let rs = s.starts.now.roots.items in
@@ -136,37 +131,28 @@ next_left P s cs r t roots at come held =
     drop_more rs s.next r (slice_get_within rs s.next r at) ∙ ap (λ q. q ∷ drop (s.next + 1) rs) (get_or_from_slice_get rs s.next r r at) in
     let here = subst (λ qs. AreRoots P s.starts.now.nodes qs cs) split roots in
     record {
-      procedure = here.0;
-      start = here.1;
-      ways = ways here.1.graph;
-      later = here.2;
-      root = here.3;
-      here = come here.0 here.1.graph here.3.shows;
-      after = here.4;
-      are = here.5;
+      ways = ways (graph_of P here.0 r);
+      later = here.1;
+      here = come (graph_of P here.0 r) here.2.shows;
+      after = here.3;
+      are = here.4;
       held = held;
     }
 
 -- a condition is come to
 pub found_at : (P : Program) (s : Walk) (cs : List Condition) (a : Asked) (t : Route) → AreLeft P s cs →
-    ((p : Procedure) (ws : List Way) → AreToCome P p s.starts.now.nodes s.route.taken.items s.route.onward ws → IsReached P p s.starts.now.nodes t.taken.items t.onward a ws) →
+    ((ws : List Way) → AreToCome s.starts.now.nodes s.route.taken.items s.route.onward ws → IsReached s.starts.now.nodes t.taken.items t.onward a ws) →
     IsAt P (record s { route = t }) a cs
 found_at P s cs a t left reach =
-    let here = reach left.procedure left.ways left.here in
-    let f = condition left.procedure left.start in
+    let here = reach left.ways left.here in
+    let n = s.present.procedure in
+    let start = start_of s.present.start in
     record {
-      first = f (record { steps = here.steps; check = here.check });
-      rest = map f here.rest ++ left.later;
-      are = left.are ∙ ap (λ ws. map f ws ++ left.later) here.are;
-      root = left.root;
-      shown = here.shown;
-      asked = here.asked;
+      rest = on_ways n start here.rest ++ left.later;
+      are = left.are ∙ ap (λ ws. on_ways n start ws ++ left.later) here.are;
       left = record {
-        procedure = left.procedure;
-        start = left.start;
         ways = here.rest;
         later = left.later;
-        root = left.root;
         here = here.later;
         after = left.after;
         are = refl;
@@ -174,15 +160,16 @@ found_at P s cs a t left reach =
       };
     }
 
+-- as it is kept
+pub kept_is : (n : ℕ) (a : Start) (xs ys : List PathStep) (c d : Check) → xs ≡ ys → c ≡ d → condition n (course a (way xs c)) ≡ condition n (course a (way ys d))
+kept_is n a xs ys c d steps check = ap (λ zs. condition n (course a (way zs c))) steps ∙ ap (λ k. condition n (course a (way ys k))) check
+
 -- another condition is lent, whose steps come from these origins
 pub left_with : (P : Program) (s : Walk) (cs : List Condition) (held : Vec Origin Global) (r : kept.Condition) → AreLeft P s cs → AreHeld s.starts.now.nodes held.items r.steps.items →
     AreLeft P (record s { held = held; condition = r }) cs
 left_with P s cs os r left held = record {
-  procedure = left.procedure;
-  start = left.start;
   ways = left.ways;
   later = left.later;
-  root = left.root;
   here = left.here;
   after = left.after;
   are = left.are;
@@ -193,9 +180,9 @@ left_with P s cs os r left held = record {
 pub next_item : (s t : Walk) → s.given < s.end → t.given ≡ s.given → t.end ≡ s.end → Gives s t true → IsGiven s (Some (Ok t.condition)) (record t { given = t.given + 1 })
 next_item s t less given end gives = λ P cs before.
     let next = gives P cs (before.left less) in
-    let count : length cs ≡ length (next.0 ∷ next.1) = ap length next.2 in
-    let more : length (next.0 ∷ next.1) ≡ length next.1 + 1 = omega arith in
-    (next.1, (next.0, next.2, next.3), record { count = omega (arith, count, more, before.count, given, end, less); left = λ later. left_too P t next.1 (t.given + 1) t.end next.4 })
+    let count : length cs ≡ length (condition_of t.condition ∷ next.0) = ap length next.1 in
+    let more : length (condition_of t.condition ∷ next.0) ≡ length next.0 + 1 = omega arith in
+    (next.0, next.1, record { count = omega (arith, count, more, before.count, given, end, less); left = λ later. left_too P t next.0 (t.given + 1) t.end next.2 })
 
 pub no_item : (s t : Walk) → s.end ≤ s.given → t.end ≤ t.given → IsGiven s None t
 no_item s t past over = λ P cs before.

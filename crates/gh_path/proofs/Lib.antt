@@ -9,7 +9,7 @@ pub mod NumberLemmas
 pub mod PlaceLemmas
 pub mod FormedLemmas
 pub mod SuitLemmas
-pub mod KeptLemmas
+pub mod Numbers
 pub mod ShownLemmas
 pub mod LowerLemmas
 pub mod RouteLemmas

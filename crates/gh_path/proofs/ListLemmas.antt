@@ -1,8 +1,9 @@
 -- Members of lists by place.
-use Rattle.std.specs.Prelude.{◌≡◌, ℕ, zero, suc, ◌+◌, ◌<◌, List, [], ◌∷◌, ◌++◌, length, map, Bool, ◌||◌, Some, None, slice_get, get_or, drop}
+use Rattle.std.specs.Prelude.{◌≡◌, ℕ, zero, suc, ◌+◌, ◌<◌, List, [], ◌∷◌, ◌++◌, length, map, Bool, ◌||◌, Some, None, slice_get, get_or, drop, Contains}
 use Rattle.std.specs.List.{list_any}
 use Rattle.std.proofs.Common.{refl, sym, ◌∙◌, ap, subst, arith}
 use Rattle.std.proofs.lemmas.List.{drop_more}
+use Rattle.std.proofs.lemmas.Option.{slice_get_within, get_or_from_slice_get}
 
 pub same_some : {A : Type 0} (x y : A) → Some x ≡ Some y → x ≡ y
 same_some x y e = cc
@@ -45,3 +46,20 @@ got (x ∷ xs) (suc n) less = got xs n (omega (arith, less))
 pub any_map : {A B : Type 0} (p : B → Bool) (f : A → B) (xs : List A) → list_any p (map f xs) ≡ list_any (λ x. p (f x)) xs
 any_map p f [] = refl
 any_map p f (x ∷ xs) = ap (λ b. p (f x) || b) (any_map p f xs)
+
+-- what stands at a place is a member
+pub member : {A : Type 0} (xs : List A) (i : ℕ) (x : A) → slice_get xs i ≡ Some x → Contains xs x
+member xs i x at = (i, slice_get_within xs i x at, get_or_from_slice_get xs i x x at)
+
+-- the first of what is left of a list, and the others
+pub first_of : {A : Type 0} (xs : List A) (k : ℕ) (x : A) (ys : List A) → drop k xs ≡ x ∷ ys → slice_get xs k ≡ Some x
+first_of [] zero x ys e = absurd cc
+first_of [] (suc k) x ys e = absurd cc
+first_of (z ∷ xs) zero x ys e = let same : z ≡ x = cc in ap Some same
+first_of (z ∷ xs) (suc k) x ys e = first_of xs k x ys e
+
+pub rest_of : {A : Type 0} (xs : List A) (k : ℕ) (x : A) (ys : List A) → drop k xs ≡ x ∷ ys → ys ≡ drop (suc k) xs
+rest_of [] zero x ys e = absurd cc
+rest_of [] (suc k) x ys e = absurd cc
+rest_of (z ∷ xs) zero x ys e = let same : xs ≡ ys = cc in sym same
+rest_of (z ∷ xs) (suc k) x ys e = rest_of xs k x ys e

@@ -1,15 +1,14 @@
 -- The listed conditions are all conditions.
-use Rattle.std.specs.Prelude.{◌≡◌, ℕ, ◌-◌, List, [], ◌∷◌, length, map, slice_get, Some, Any, Contains}
+use Rattle.std.specs.Prelude.{◌≡◌, ℕ, zero, suc, ◌+◌, List, [], ◌∷◌, map, slice_get, Some, Contains}
 use Rattle.std.proofs.lemmas.List.Elements.{Contains-append_left, Contains-append_right, Contains-append_cases}
-use Rattle.std.proofs.lemmas.Option.{get_or_from_slice_get}
-use Rattle.std.proofs.Common.{sym, ◌∙◌, subst, inl, inr, arith}
-use Rattle.gh_base.proofs.ListLemmas.{over_or, at_front, at_back}
+use Rattle.std.proofs.Common.{refl, sym, ◌∙◌, ap, subst, inl, inr, arith}
 use Rattle.gh_ast.specs.Plain.{Procedure, Program}
-use Rattle.gh_path.specs.Graphs.{Start, starts}
-use Rattle.gh_path.specs.Paths.{Way, ways}
-use Rattle.gh_path.specs.Conditions.{Condition, condition, from_starts, conditions_of, from_procedures, conditions, IsCondition}
+use Rattle.gh_path.specs.Graphs.{Start, starts, graph_from}
+use Rattle.gh_path.specs.Paths.{Path, Way, ways}
+use Rattle.gh_path.specs.Conditions.{Course, course, from_starts, courses_of, Condition, condition, from_procedures, conditions, IsCondition}
 use Rattle.gh_path.specs.Laws.{AllAreListed}
 use Rattle.gh_ast.proofs.Lists.{member_first, member_later, member_cases, no_member}
+use Rattle.gh_path.proofs.ListLemmas.{no_some, same_some}
 use Rattle.gh_path.proofs.Order.{paths_have_one_list}
 
 mapped : {A B : Type 0} (f : A → B) (xs : List A) (x : A) → Contains xs x → Contains (map f xs) (f x)
@@ -26,64 +25,78 @@ unmapped f (w ∷ xs) y i = elim (member_cases (f w) (map f xs) y i) [
   | inr more ↦ let found = unmapped f xs y more in (found.0, member_later w found.0 xs found.1, found.2)
 ]
 
--- a condition of some start
-abbrev IsFrom : Procedure → List Start → Condition → Type 0
-IsFrom p all c = (a : Start) × (w : Way) × Contains all a × Contains (ways a.graph) w × (condition p a w ≡ c)
+-- a course from some start
+abbrev IsFrom : Program → Procedure → List Start → Course → Type 0
+IsFrom P p all d = (a : Start) × (w : Way) × Contains all a × Contains (ways (graph_from P p a)) w × (course a w ≡ d)
 
-to_start : (p : Procedure) (all : List Start) (c : Condition) → Contains (from_starts p all) c → IsFrom p all c
-to_start p [] c i = absurd (no_member c i)
-to_start p (a ∷ all) c i = elim (Contains-append_cases (map (condition p a) (ways a.graph)) (from_starts p all) c i) [
-  | inl here ↦ let found = unmapped (condition p a) (ways a.graph) c here in (a, found.0, member_first a all, found.1, found.2)
-  | inr there ↦ let found = to_start p all c there in (found.0, found.1, member_later a found.0 all found.2, found.3, found.4)
+to_start : (P : Program) (p : Procedure) (all : List Start) (d : Course) → Contains (from_starts P p all) d → IsFrom P p all d
+to_start P p [] d i = absurd (no_member d i)
+to_start P p (a ∷ all) d i = elim (Contains-append_cases (map (course a) (ways (graph_from P p a))) (from_starts P p all) d i) [
+  | inl here ↦ let found = unmapped (course a) (ways (graph_from P p a)) d here in (a, found.0, member_first a all, found.1, found.2)
+  | inr there ↦ let found = to_start P p all d there in (found.0, found.1, member_later a found.0 all found.2, found.3, found.4)
 ]
 
-from_start : (p : Procedure) (all : List Start) (a : Start) (w : Way) → Contains all a → Contains (ways a.graph) w → Contains (from_starts p all) (condition p a w)
-from_start p [] a w i j = absurd (no_member a i)
-from_start p (b ∷ all) a w i j = elim (member_cases b all a i) [
-  | inl same ↦ Contains-append_left (map (condition p b) (ways b.graph)) (from_starts p all) (condition p a w)
-      (subst (λ s. Contains (map (condition p b) (ways b.graph)) (condition p s w)) same
-      (mapped (condition p b) (ways b.graph) w (subst (λ s. Contains (ways s.graph) w) (sym same) j)))
-  | inr more ↦ Contains-append_right (map (condition p b) (ways b.graph)) (from_starts p all) (condition p a w) (from_start p all a w more j)
+from_start : (P : Program) (p : Procedure) (all : List Start) (a : Start) (w : Way) → Contains all a → Contains (ways (graph_from P p a)) w → Contains (from_starts P p all) (course a w)
+from_start P p [] a w i j = absurd (no_member a i)
+from_start P p (b ∷ all) a w i j = elim (member_cases b all a i) [
+  | inl same ↦ Contains-append_left (map (course b) (ways (graph_from P p b))) (from_starts P p all) (course a w)
+      (subst (λ s. Contains (map (course b) (ways (graph_from P p b))) (course s w)) same
+      (mapped (course b) (ways (graph_from P p b)) w (subst (λ s. Contains (ways (graph_from P p s)) w) (sym same) j)))
+  | inr more ↦ Contains-append_right (map (course b) (ways (graph_from P p b))) (from_starts P p all) (course a w) (from_start P p all a w more j)
 ]
 
-to_procedure : (ps : List Procedure) (c : Condition) → Contains (from_procedures ps) c → (p : Procedure) × Contains ps p × IsFrom p (starts p) c
-to_procedure [] c i = absurd (no_member c i)
-to_procedure (p ∷ rest) c i = elim (Contains-append_cases (conditions_of p) (from_procedures rest) c i) [
-  | inl here ↦ (p, member_first p rest, to_start p (starts p) c here)
-  | inr there ↦ let found = to_procedure rest c there in (found.0, member_later p found.0 rest found.1, found.2)
+-- a path from a start of the procedure is one of its courses
+pub course_there : (P : Program) (p : Procedure) (a : Start) (w : Way) → Contains (starts p) a → Path (graph_from P p a) w.steps w.check → Contains (courses_of P p) (course a w)
+course_there P p a w begins leads = from_start P p (starts p) a w begins (((paths_have_one_list (graph_from P p a)).is_list.members w).1 leads)
+
+-- the procedure of a number, and one of its courses
+abbrev IsOfSome : Program → ℕ → List Procedure → Condition → Type 0
+IsOfSome P n ps c = (k : ℕ) × (p : Procedure) × (d : Course) × (slice_get ps k ≡ Some p) × Contains (courses_of P p) d × (condition (n + k) d ≡ c)
+
+to_procedure : (P : Program) (n : ℕ) (ps : List Procedure) (c : Condition) → Contains (from_procedures P n ps) c → IsOfSome P n ps c
+to_procedure P n [] c i = absurd (no_member c i)
+to_procedure P n (p ∷ rest) c i = elim (Contains-append_cases (map (condition n) (courses_of P p)) (from_procedures P (suc n) rest) c i) [
+  | inl here ↦
+      let found = unmapped (condition n) (courses_of P p) c here in
+      let same : n + 0 ≡ n = omega arith in
+      (0, p, found.0, refl, found.1, ap (λ k. condition k found.0) same ∙ found.2)
+  | inr there ↦
+      let found = to_procedure P (suc n) rest c there in
+      let same : n + suc found.0 ≡ suc n + found.0 = omega arith in
+      (suc found.0, found.1, found.2, found.3, found.4, ap (λ k. condition k found.2) same ∙ found.5)
 ]
 
-from_procedure : (ps : List Procedure) (p : Procedure) (c : Condition) → Contains ps p → Contains (conditions_of p) c → Contains (from_procedures ps) c
-from_procedure [] p c i j = absurd (no_member p i)
-from_procedure (q ∷ rest) p c i j = elim (member_cases q rest p i) [
-  | inl same ↦ Contains-append_left (conditions_of q) (from_procedures rest) c (subst (λ r. Contains (conditions_of r) c) (sym same) j)
-  | inr more ↦ Contains-append_right (conditions_of q) (from_procedures rest) c (from_procedure rest p c more j)
-]
+from_procedure : (P : Program) (n : ℕ) (ps : List Procedure) (k : ℕ) (p : Procedure) (d : Course) → slice_get ps k ≡ Some p → Contains (courses_of P p) d → Contains (from_procedures P n ps) (condition (n + k) d)
+from_procedure P n [] k p d at j = absurd (no_some p at)
+from_procedure P n (q ∷ rest) zero p d at j =
+    let same : n ≡ n + 0 = omega arith in
+    let mine : Contains (courses_of P q) d = subst (λ r. Contains (courses_of P r) d) (sym (same_some q p at)) j in
+    Contains-append_left (map (condition n) (courses_of P q)) (from_procedures P (suc n) rest) (condition (n + 0) d)
+    (subst (λ m. Contains (map (condition n) (courses_of P q)) (condition m d)) same (mapped (condition n) (courses_of P q) d mine))
+from_procedure P n (q ∷ rest) (suc k) p d at j =
+    let same : suc n + k ≡ n + suc k = omega arith in
+    Contains-append_right (map (condition n) (courses_of P q)) (from_procedures P (suc n) rest) (condition (n + suc k) d)
+    (subst (λ m. Contains (from_procedures P (suc n) rest) (condition m d)) same (from_procedure P (suc n) rest k p d at j))
 
 pub listed : (P : Program) (c : Condition) → IsCondition P c → Contains (conditions P) c
-listed P c is = from_procedure P.procedures c.procedure c is.declared
-    (from_start c.procedure (starts c.procedure) c.start c.way is.begins (((paths_have_one_list c.start.graph).is_list.members c.way).1 is.leads))
+listed P c is =
+    let same : 0 + c.procedure ≡ c.procedure = omega arith in
+    subst (λ m. Contains (conditions P) (condition m (course c.start c.way))) same
+    (from_procedure P 0 P.procedures c.procedure is.procedure (course c.start c.way) is.of (course_there P is.procedure c.start c.way is.begins is.leads))
 
-is_condition : (P : Program) (p : Procedure) (a : Start) (w : Way) → Contains P.procedures p → Contains (starts p) a → Contains (ways a.graph) w → IsCondition P (condition p a w)
-is_condition P p a w there among on = record { declared = there; begins = among; leads = ((paths_have_one_list a.graph).is_list.members w).0 on }
+is_condition : (P : Program) (k : ℕ) (p : Procedure) (d : Course) → slice_get P.procedures k ≡ Some p → Contains (courses_of P p) d → IsCondition P (condition k d)
+is_condition P k p d at j =
+    let found = to_start P p (starts p) d j in
+    let a = found.0 in
+    let w = found.1 in
+    let is : IsCondition P (condition k (course a w)) = record { procedure = p; of = at; begins = found.2; leads = ((paths_have_one_list (graph_from P p a)).is_list.members w).0 found.3 } in
+    subst (λ e. IsCondition P (condition k e)) found.4 is
 
 pub all_are_listed : AllAreListed
 all_are_listed P c = (
-  λ i. let found = to_procedure P.procedures c i in
-      let at = found.2 in
-      subst (IsCondition P) at.4 (is_condition P found.0 at.0 at.1 found.1 at.2 at.3),
+  λ i.
+      let found = to_procedure P 0 P.procedures c i in
+      let same : found.0 ≡ 0 + found.0 = omega arith in
+      subst (IsCondition P) (ap (λ k. condition k found.2) same ∙ found.5) (is_condition P found.0 found.1 found.2 found.3 found.4),
   listed P c,
 )
-
--- no condition of the list has a property that no procedure has a condition with
-pub none_passes : (Q : Condition → Type 0) (ps : List Procedure) (k : ℕ) (c : Condition) → slice_get (from_procedures ps) k ≡ Some c
-    → ((p : Procedure) → Contains ps p → Any Q (conditions_of p) → ⊥) → Q c → ⊥
-none_passes Q [] k c there none holds = absurd cc
-none_passes Q (p ∷ ps) k c there none holds = elim (over_or k (length (conditions_of p))) [
-  | inl within ↦
-      let here : slice_get (conditions_of p) k ≡ Some c = sym (at_front (conditions_of p) (from_procedures ps) k within) ∙ there in
-      none p (member_first p ps) (k, c, within, get_or_from_slice_get (conditions_of p) k c c here, holds)
-  | inr past ↦
-      none_passes Q ps (k - length (conditions_of p)) c
-      (sym (at_back (conditions_of p) (from_procedures ps) k (k - length (conditions_of p)) (omega (arith, past))) ∙ there) (λ q in_rest. none q (member_later p q ps in_rest)) holds
-]

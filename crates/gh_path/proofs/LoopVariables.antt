@@ -1,97 +1,27 @@
--- The variables that a loop on a path assigns are variables of the procedure.
-use Rattle.std.specs.Prelude.{◌≡◌, ◌⊎◌, ℕ, suc, List, [], ◌∷◌, ◌++◌, map, filter, Bool, true, false, ◌||◌, cond, Contains}
+-- The variables that a loop assigns are variables of the procedure.
+use Rattle.std.specs.Prelude.{◌≡◌, ◌⊎◌, ℕ, List, [], ◌∷◌, ◌++◌, map, filter, Bool, true, false, ◌||◌, cond, Contains}
 use Rattle.std.specs.List.{list_any}
 use Rattle.std.specs.Str.{bytes_eq}
 use Rattle.std.proofs.Common.{refl, sym, ◌∙◌, ap, subst, inl, inr}
 use Rattle.std.proofs.lemmas.Bool.{cases_Bool, false≢true}
 use Rattle.std.proofs.lemmas.List.Elements.{Contains-append_left, Contains-append_right, Contains-append_cases}
 use Rattle.std.proofs.lemmas.Slice.Eq.{bytes_eq-Decides}
+use Rattle.std.proofs.lemmas.Option.{slice_get_within, get_or_from_slice_get}
 use Rattle.gh_base.proofs.ListLemmas.{either_holds}
 use Rattle.gh_ast.specs.declared.Occ.{Occ}
-use Rattle.gh_ast.specs.declared.Expr.{Expr}
-use Rattle.gh_ast.specs.declared.Expr.TheVariants.{Plain, Read}
-use Rattle.gh_ast.specs.Plain.{Test, compare, negation, conjunction, disjunction, Tests, no_tests, test_first, Statement, set, new, write, free, call, choice, loop, give, Statements, no_statements, statement_first, Procedure, Program}
+use Rattle.gh_ast.specs.Plain.{Statement, set, new, write, free, call, choice, loop, give, Statements, no_statements, statement_first, Procedure, Program}
 use Rattle.gh_ast.specs.Programs.{Name, names, body_of, variable_names, Assigns, SomeAssigns}
 use Rattle.gh_ast.specs.Occurrences.{in_expr, in_exprs, in_test, in_formula, Site, mentioned, assigned as assigned_at, called as called_at, sites_in, all_sites_in}
 use Rattle.gh_ast.specs.Rules.{IsTyped}
 use Rattle.gh_ast.proofs.Lists.{member_first, member_later, member_cases, no_member}
 use Rattle.gh_ast.proofs.Sites.{member_map, occurrence_of, site_in_body}
 use Rattle.gh_ast.proofs.TypedPrograms.{mention_is_variable}
-use Rattle.gh_path.specs.Graphs.{Check, PathStep, accessed, assume, assigned, made, written, freed, called, looped, answered, Graph, dead_end, ends, moves, guarded, fork, reads, all_reads, tested, all_tested, some_tested, lowered, all_lowered, Loop, loops, all_loops, loops_of, Start, rounds, round, starts}
-use Rattle.gh_path.specs.Paths.{Path, at_end, arrived, past, on, on_true, on_false}
+use Rattle.gh_path.specs.Graphs.{Loop, loops, all_loops, loops_of}
+use Rattle.gh_path.specs.Kept.{IsLoop}
 use Rattle.gh_path.specs.Terms.{assigns, some_assigns}
 
 abbrev pub NamesIn : List Name → Statements → Type 0
 NamesIn xs ss = (n : Name) → SomeAssigns ss n → Contains xs n
-
-abbrev pub IsOver : List Name → PathStep → Type 0
-IsOver xs (accessed x) = Unit {0}
-IsOver xs (assume l e r way) = Unit {0}
-IsOver xs (assigned x e) = Unit {0}
-IsOver xs (made x) = Unit {0}
-IsOver xs (written x e) = Unit {0}
-IsOver xs (freed x) = Unit {0}
-IsOver xs (called ys f es) = Unit {0}
-IsOver xs (looped l) = NamesIn xs l.body
-IsOver xs (answered ys es) = Unit {0}
-
-abbrev pub AreOver : List Name → List PathStep → Type 0
-AreOver xs [] = Unit {0}
-AreOver xs (p ∷ ps) = IsOver xs p × AreOver xs ps
-
-abbrev AllOver : List Name → Graph → Type 0
-AllOver xs dead_end = Unit {0}
-AllOver xs (ends c) = Unit {0}
-AllOver xs (moves p g) = IsOver xs p × AllOver xs g
-AllOver xs (guarded c p g) = IsOver xs p × AllOver xs g
-AllOver xs (fork l e r g k) = AllOver xs g × AllOver xs k
-
-path_over : (xs : List Name) (g : Graph) (ps : List PathStep) (c : Check) → Path g ps c → AllOver xs g → AreOver xs ps
-path_over xs g ps c (at_end {c = d}) A = tt
-path_over xs g ps c (arrived {g = h} {p = p} {c = d}) A = tt
-path_over xs g ps c (past {g = h} {d = d} {p = p} {ps = qs} {c = k} rest) A = (A.0, path_over xs h qs k rest A.1)
-path_over xs g ps c (on {g = h} {p = p} {ps = qs} {c = k} rest) A = (A.0, path_over xs h qs k rest A.1)
-path_over xs g ps c (on_true {l = l} {e = e} {r = r} {g = h} {k = h'} {ps = qs} {c = k} rest) A = (tt, path_over xs h qs k rest A.0)
-path_over xs g ps c (on_false {l = l} {e = e} {r = r} {g = h} {k = h'} {ps = qs} {c = k} rest) A = (tt, path_over xs h' qs k rest A.1)
-
-reads_over : (xs : List Name) (e : Expr) (g : Graph) → AllOver xs g → AllOver xs (reads e g)
-reads_over xs (Plain o) g A = A
-reads_over xs (Read o) g A = (tt, A)
-
-all_reads_over : (xs : List Name) (es : List Expr) (g : Graph) → AllOver xs g → AllOver xs (all_reads es g)
-all_reads_over xs [] g A = A
-all_reads_over xs (e ∷ es) g A = reads_over xs e (all_reads es g) (all_reads_over xs es g A)
-
-mutual
-  tested_over : (xs : List Name) (t : Test) (g k : Graph) → AllOver xs g → AllOver xs k → AllOver xs (tested t g k)
-  tested_over xs (compare l e r) g k A B = reads_over xs l (reads r (fork l e r g k)) (reads_over xs r (fork l e r g k) (A, B))
-  tested_over xs (negation t) g k A B = tested_over xs t k g B A
-  tested_over xs (conjunction ts) g k A B = all_tested_over xs ts g k A B
-  tested_over xs (disjunction ts) g k A B = some_tested_over xs ts g k A B
-
-  all_tested_over : (xs : List Name) (ts : Tests) (g k : Graph) → AllOver xs g → AllOver xs k → AllOver xs (all_tested ts g k)
-  all_tested_over xs no_tests g k A B = A
-  all_tested_over xs (test_first t ts) g k A B = tested_over xs t (all_tested ts g k) k (all_tested_over xs ts g k A B) B
-
-  some_tested_over : (xs : List Name) (ts : Tests) (g k : Graph) → AllOver xs g → AllOver xs k → AllOver xs (some_tested ts g k)
-  some_tested_over xs no_tests g k A B = B
-  some_tested_over xs (test_first t ts) g k A B = tested_over xs t g (some_tested ts g k) A (some_tested_over xs ts g k A B)
-
-mutual
-  lowered_over : (xs : List Name) (p : Procedure) (s : Statement) (g : Graph) → ((n : Name) → Assigns s n → Contains xs n) → AllOver xs g → AllOver xs (lowered p s g)
-  lowered_over xs p (set x e) g N A = reads_over xs e (moves (assigned x e) g) (tt, A)
-  lowered_over xs p (new x) g N A = (tt, A)
-  lowered_over xs p (write x e) g N A = reads_over xs e _ (tt, (tt, A))
-  lowered_over xs p (free x) g N A = (tt, (tt, A))
-  lowered_over xs p (call ys f es) g N A = all_reads_over xs es _ (tt, A)
-  lowered_over xs p (choice t a c b d) g N A =
-      tested_over xs t (all_lowered p a g) (all_lowered p b g) (all_over xs p a g (λ n m. N n (inl m)) A) (all_over xs p b g (λ n m. N n (inr m)) A)
-  lowered_over xs p (loop at t i body close) g N A = (N, tested_over xs t dead_end g tt A)
-  lowered_over xs p (give at es) g N A = all_reads_over xs es _ (tt, tt)
-
-  all_over : (xs : List Name) (p : Procedure) (ss : Statements) (g : Graph) → NamesIn xs ss → AllOver xs g → AllOver xs (all_lowered p ss g)
-  all_over xs p no_statements g N A = A
-  all_over xs p (statement_first s ss) g N A = lowered_over xs p s (all_lowered p ss g) (λ n m. N n (inl m)) (all_over xs p ss g (λ n m. N n (inr m)) A)
 
 mutual
   loop_names : (xs : List Name) (s : Statement) (l : Loop) → ((n : Name) → Assigns s n → Contains xs n) → Contains (loops s) l → NamesIn xs l.body
@@ -116,19 +46,6 @@ mutual
     | inl first ↦ loop_names xs s l (λ n m. N n (inl m)) first
     | inr second ↦ loops_names xs ss l (λ n m. N n (inr m)) second
   ]
-
-rounds_over : (xs : List Name) (p : Procedure) (n : ℕ) (ls : List Loop) (a : Start) → ((l : Loop) → Contains ls l → NamesIn xs l.body) → Contains (rounds p n ls) a → AllOver xs a.graph
-rounds_over xs p n [] a N c = absurd (no_member a c)
-rounds_over xs p n (l ∷ ls) a N c = elim (member_cases (round p n l) (rounds p (suc n) ls) a c) [
-  | inl same ↦ subst (λ (b : Start). AllOver xs b.graph) same (tested_over xs l.test _ dead_end (all_over xs p l.body _ (N l (member_first l ls)) tt) tt)
-  | inr more ↦ rounds_over xs p (suc n) ls a (λ k m. N k (member_later l k ls m)) more
-]
-
-start_over : (xs : List Name) (p : Procedure) (a : Start) (ps : List PathStep) (c : Check) → NamesIn xs (body_of p) → Contains (starts p) a → Path a.graph ps c → AreOver xs ps
-start_over xs p a ps c N at way = path_over xs a.graph ps c way (elim (member_cases _ (rounds p 0 (loops_of p)) a at) [
-  | inl same ↦ subst (λ (b : Start). AllOver xs b.graph) same (all_over xs p (body_of p) _ N tt)
-  | inr more ↦ rounds_over xs p 0 (loops_of p) a (λ l m. loops_names xs (body_of p) l N m) more
-])
 
 -- what is assigned is mentioned
 abbrev MentionedAt : List Site → Name → Type 0
@@ -166,10 +83,14 @@ mutual
     | inr m ↦ mention_within (all_sites_in inside ss) (all_sites_in inside (statement_first s ss)) y (λ x c. Contains-append_right (sites_in inside s) (all_sites_in inside ss) x c) (mentions inside ss y m)
   ]
 
-pub loops_are_over : (P : Program) → IsTyped P → (p : Procedure) → Contains P.procedures p → (a : Start) (ps : List PathStep) (c : Check) → Contains (starts p) a → Path a.graph ps c → AreOver (variable_names p) ps
-loops_are_over P typed p declared a ps c = start_over (variable_names p) p a ps c (λ n m.
-    let at = mentions false (body_of p) n m in
-    subst (Contains (variable_names p)) at.2 (mention_is_variable P typed p declared at.0 (site_in_body p (mentioned at.0) at.1)))
+-- a loop of a procedure assigns variables of it alone
+pub loop_is_over : (P : Program) → IsTyped P → (p : Procedure) → Contains P.procedures p → (n : ℕ) (l : Loop) → IsLoop p n l → NamesIn (variable_names p) l.body
+loop_is_over P typed p declared n l at =
+    loops_names (variable_names p) (body_of p) l
+    (λ y m.
+    let found = mentions false (body_of p) y m in
+    subst (Contains (variable_names p)) found.2 (mention_is_variable P typed p declared found.0 (site_in_body p (mentioned found.0) found.1)))
+    (n, slice_get_within (loops_of p) n l at, get_or_from_slice_get (loops_of p) n l l at)
 
 -- the test of what is assigned
 either_true : (a b : Bool) → (a ≡ true) ⊎ (b ≡ true) → (a || b) ≡ true

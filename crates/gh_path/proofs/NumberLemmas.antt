@@ -1,5 +1,5 @@
 -- Loops by their numbers.
-use Rattle.std.specs.Prelude.{◌≡◌, ℕ, zero, suc, ◌+◌, ◌-◌, ◌<◌, min, List, [], ◌∷◌, ◌++◌, map, length, get_or, drop, Some, slice_get}
+use Rattle.std.specs.Prelude.{◌≡◌, ℕ, zero, suc, ◌+◌, ◌-◌, ◌<◌, List, [], ◌∷◌, ◌++◌, map, length, get_or, Some, slice_get}
 use Rattle.std.specs.Option.{option_map}
 use Rattle.std.proofs.Common.{refl, sym, ◌∙◌, ap, subst, inl, inr, arith}
 use Rattle.std.proofs.lemmas.Option.{slice_get-map, slice_get_read}
@@ -13,26 +13,9 @@ use Rattle.gh_ast.specs.Plain.{Procedure, Statement, set, new, write, free, call
 use Rattle.gh_ast.proofs.PlainLemmas.{statement_of-If, part_of-statements}
 use Rattle.gh_path.specs.Graphs.{Loop, loops, all_loops, loops_of}
 use Rattle.gh_path.specs.Kept.{IsLoop}
-use Rattle.gh_path.specs.Walking.{AreNumbered, loop_of}
+use Rattle.gh_path.specs.Walking.{loop_of}
 use Rattle.gh_path.specs.declared.loops.While.{While}
-use Rattle.gh_path.proofs.ListLemmas.{next, same_some, no_some, got_left, got_right, got_front, got_back}
-
-pub numbered_front : (p : Procedure) (n : ℕ) (xs ys : List Loop) → AreNumbered p n (xs ++ ys) → AreNumbered p n xs
-numbered_front p n xs ys are less j l at = are less j l (got_front xs ys j l at)
-
-pub numbered_back : (p : Procedure) (n m : ℕ) (xs ys : List Loop) → m ≡ min (n + min (length xs) 4294967295) 4294967295 → AreNumbered p n (xs ++ ys) → AreNumbered p m ys
-numbered_back p n m xs ys is are less j l at =
-    let same : n + (length xs + j) ≡ m + j = omega (arith, is, less) in
-    let few : n < 4294967295 = omega (arith, is, less) in
-    subst (λ k. IsLoop p k l) same (are few (length xs + j) l (got_back xs ys j l at))
-
-pub number_of : (p : Procedure) (n : ℕ) (l : Loop) (ls : List Loop) → AreNumbered p n (l ∷ ls) → n < 4294967295 → IsLoop p n l
-number_of p n l ls are less = let same : n + 0 ≡ n = omega arith in subst (λ k. IsLoop p k l) same (are less 0 l refl)
-
-pub numbered_next : (p : Procedure) (n m : ℕ) (ss : List Stmt) (i : ℕ) (x : Stmt) → i < length ss → x ≡ get_or ss i x → m ≡ min (n + min (length (loops (statement_of x))) 4294967295) 4294967295
-    → AreNumbered p n (all_loops (statements_view (drop i ss))) → AreNumbered p m (all_loops (statements_view (drop (i + 1) ss)))
-numbered_next p n m ss i x within is sum are =
-    numbered_back p n m (loops (statement_of x)) (all_loops (statements_view (drop (i + 1) ss))) sum (subst (λ ys. AreNumbered p n (all_loops (statements_view ys))) (next ss i x within is) are)
+use Rattle.gh_path.proofs.ListLemmas.{same_some, no_some, got_left, got_right, got_front, got_back}
 
 -- the plain form of an `if` by its blocks
 pub choice_at : (s : Stmt) (t : Cond) (a b : Block) (xs ys : List Stmt) → s ≡ If t a b → xs ≡ a.statements.items → ys ≡ b.statements.items

@@ -1,16 +1,16 @@
 -- The first procedure that passes a limit, and how many conditions there are together.
-use Rattle.std.specs.Prelude.{◌≡◌, ℕ, ◌+◌, ◌*◌, ◌<◌, ◌≤◌, List, [], ◌∷◌, map, length, get_or}
+use Rattle.std.specs.Prelude.{◌≡◌, ℕ, suc, ◌+◌, ◌*◌, ◌<◌, ◌≤◌, List, [], ◌∷◌, map, length, get_or}
 use Rattle.std.proofs.Common.{refl, sym, ◌∙◌, ap, subst, inl, inr, arith}
 use Rattle.std.proofs.lemmas.List.{length-map, length-append, get_or-map, get_or_default}
 use Rattle.gh_base.proofs.ListLemmas.{over_or}
 use Rattle.gh_ast.specs.Lists.{IsFirstWith}
-use Rattle.gh_ast.specs.Plain.{Procedure, procedure_of, program_of}
+use Rattle.gh_ast.specs.Plain.{Procedure, Program, procedure_of, program_of}
 use Rattle.gh_ast.specs.declared.Procedure as whole
 use Rattle.gh_ast.specs.declared.Program as program
 use Rattle.gh_ast.specs.declared.typed.Limit.{Limit}
 use Rattle.gh_ast.proofs.Lists.{member_first, member_later}
 use Rattle.gh_path.specs.Admitted.{most_conditions, most_steps, HasManyPaths, HasManySteps, FirstOf, NoneHas, NoneOf}
-use Rattle.gh_path.specs.Conditions.{conditions_of, from_procedures}
+use Rattle.gh_path.specs.Conditions.{condition, courses_of, from_procedures}
 use Rattle.gh_path.specs.Counting.{procedure_ahead, all_counts}
 use Rattle.gh_path.specs.declared.ahead.Ahead.{Ahead}
 use Rattle.gh_path.proofs.AheadLemmas.{procedure_tells, many_paths, few_paths, many_steps, few_steps}
@@ -26,16 +26,16 @@ pub record IsTold (Q : Procedure → Type 0) (R : Ahead → Type 0) : Type 0 whe
   pub sound : (p : Procedure) → R (procedure_ahead p) → Q p
   pub complete : (p : Procedure) → Q p → R (procedure_ahead p)
 
-pub paths_told : IsTold HasManyPaths IsWide
-paths_told = record {
-  sound = many_paths;
-  complete = λ p many. elim (over_or most_conditions (procedure_ahead p).count) [ inl over ↦ over | inr few ↦ absurd (few_paths p few many) ];
+pub paths_told : (P : Program) → IsTold (HasManyPaths P) IsWide
+paths_told P = record {
+  sound = many_paths P;
+  complete = λ p many. elim (over_or most_conditions (procedure_ahead p).count) [ inl over ↦ over | inr few ↦ absurd (few_paths P p few many) ];
 }
 
-pub steps_told : IsTold HasManySteps IsLong
-steps_told = record {
-  sound = many_steps;
-  complete = λ p many. elim (over_or (most_steps + 1) (procedure_ahead p).reach) [ inl over ↦ over | inr few ↦ absurd (few_steps p few many) ];
+pub steps_told : (P : Program) → IsTold (HasManySteps P) IsLong
+steps_told P = record {
+  sound = many_steps P;
+  complete = λ p many. elim (over_or (most_steps + 1) (procedure_ahead p).reach) [ inl over ↦ over | inr few ↦ absurd (few_steps P p few many) ];
 }
 
 -- none of the first k
@@ -68,22 +68,29 @@ none_of Q R told ps aheads same none p there q =
     (subst R (sym (ap (λ xs. get_or xs there.0 (procedure_ahead p)) same ∙ get_or-map procedure_ahead ps there.0 p (procedure_ahead p) there.1 ∙ ap procedure_ahead there.2)) (told.complete p q))
 
 -- with few conditions each
-pub exact : (p : Procedure) → (HasManyPaths p → ⊥) → (procedure_ahead p).count ≡ length (conditions_of p)
-exact p few = elim (over_or most_conditions (length (conditions_of p))) [ inl many ↦ absurd (few many) | inr less ↦ omega (arith, less, (procedure_tells p).count) ]
+pub exact : (P : Program) (p : Procedure) → (HasManyPaths P p → ⊥) → (procedure_ahead p).count ≡ length (courses_of P p)
+exact P p few = elim (over_or most_conditions (length (courses_of P p))) [ inl many ↦ absurd (few many) | inr less ↦ omega (arith, less, (procedure_tells P p).count) ]
 
-pub few_of : (p : Procedure) → (HasManyPaths p → ⊥) → length (conditions_of p) ≤ most_conditions
-few_of p few = elim (over_or most_conditions (length (conditions_of p))) [ inl many ↦ absurd (few many) | inr less ↦ less ]
+pub few_of : (P : Program) (p : Procedure) → (HasManyPaths P p → ⊥) → length (courses_of P p) ≤ most_conditions
+few_of P p few = elim (over_or most_conditions (length (courses_of P p))) [ inl many ↦ absurd (few many) | inr less ↦ less ]
 
-pub together : (ps : List Procedure) → NoneOf ps HasManyPaths → all_counts (map procedure_ahead ps) ≡ length (from_procedures ps)
-together [] none = refl
-together (p ∷ ps) none =
-    omega (arith, exact p (none p (member_first p ps)), together ps (λ q there. none q (member_later p q ps there)), length-append (conditions_of p) (from_procedures ps))
+-- the conditions of a procedure, and those of the others
+first_long : (P : Program) (n : ℕ) (p : Procedure) (ps : List Procedure) → length (from_procedures P n (p ∷ ps)) ≡ length (courses_of P p) + length (from_procedures P (suc n) ps)
+first_long P n p ps =
+    let one = map (condition n) (courses_of P p) in
+    let long : length one ≡ length (courses_of P p) = length-map (courses_of P p) (condition n) in
+    omega (arith, long, length-append one (from_procedures P (suc n) ps))
 
-pub bounded : (ps : List Procedure) → NoneOf ps HasManyPaths → length (from_procedures ps) ≤ most_conditions * length ps
-bounded [] none = omega arith
-bounded (p ∷ ps) none =
+pub together : (P : Program) (n : ℕ) (ps : List Procedure) → NoneOf ps (HasManyPaths P) → all_counts (map procedure_ahead ps) ≡ length (from_procedures P n ps)
+together P n [] none = refl
+together P n (p ∷ ps) none =
+    omega (arith, exact P p (none p (member_first p ps)), together P (suc n) ps (λ q there. none q (member_later p q ps there)), first_long P n p ps)
+
+pub bounded : (P : Program) (n : ℕ) (ps : List Procedure) → NoneOf ps (HasManyPaths P) → length (from_procedures P n ps) ≤ most_conditions * length ps
+bounded P n [] none = omega arith
+bounded P n (p ∷ ps) none =
     let longer : length (p ∷ ps) ≡ length ps + 1 = omega arith in
-    omega (arith, few_of p (none p (member_first p ps)), bounded ps (λ q there. none q (member_later p q ps there)), length-append (conditions_of p) (from_procedures ps), longer)
+    omega (arith, few_of P p (none p (member_first p ps)), bounded P (suc n) ps (λ q there. none q (member_later p q ps there)), first_long P n p ps, longer)
 
 pub first_limit : (Q : Procedure → Type 0) (R : Ahead → Type 0) → IsTold Q R → (ps : List whole.Procedure) (aheads : List Ahead) → aheads ≡ map procedure_ahead (map procedure_of ps)
     → (k : ℕ) (r : whole.Procedure) (a : Ahead) (kind number : ℕ) (l : Limit) → k < length aheads → NoneBefore R aheads k → R (get_or aheads k a)

@@ -1,10 +1,10 @@
 -- In a typed program the calls of each body name procedures, and the loops of a body that has few have numbers of 16 bits.
-use Rattle.std.specs.Prelude.{◌≡◌, ◌≢◌, ℕ, zero, suc, ◌+◌, ◌<◌, ◌≤◌, min, List, [], ◌∷◌, ◌++◌, map, length, get_or, take, drop, Bool, true, false, Option, Some, None, slice_get, Contains}
-use Rattle.std.proofs.Common.{refl, sym, ap, subst, inl, inr, arith}
+use Rattle.std.specs.Prelude.{◌≡◌, ℕ, zero, suc, ◌+◌, ◌<◌, ◌≤◌, min, List, [], ◌∷◌, ◌++◌, map, length, get_or, drop, Bool, true, false, Option, Some, None, slice_get, Contains}
+use Rattle.std.proofs.Common.{refl, subst, arith}
 use Rattle.std.proofs.lemmas.List.{length-append}
 use Rattle.std.proofs.lemmas.Option.{slice_get_within}
 use Rattle.std.proofs.lemmas.List.Elements.{Contains-append_left, Contains-append_right}
-use Rattle.gh_ast.proofs.Lists.{member_first, member_later, member_cases, no_member}
+use Rattle.gh_ast.proofs.Lists.{member_first, member_later}
 use Rattle.gh_ast.proofs.TypedPrograms.{callee_is_known}
 use Rattle.gh_ast.specs.Limits.{AreFew}
 use Rattle.gh_ast.specs.Occurrences.{Site, mentioned, assigned, called, sites_in, all_sites_in, sites_in_body, sites_of, in_test, in_exprs, in_formula, in_alternatives}
@@ -13,14 +13,15 @@ use Rattle.gh_ast.specs.declared.Occ.{Occ}
 use Rattle.gh_ast.specs.declared.Expr.{Expr}
 use Rattle.gh_ast.specs.declared.Stmt.{Stmt}
 use Rattle.gh_ast.specs.Plain.{Statement, set, new, write, free, call, choice, loop, give, Statements, no_statements, statement_first, statement_of, statements_view, Inside, Procedure, Program}
-use Rattle.gh_ast.specs.Programs.{Name, name_of, body_of, statements_in, IsFirstNamed, Declares}
+use Rattle.gh_ast.specs.Programs.{Name, body_of, statements_in, Declares}
 use Rattle.gh_path.specs.Admitted.{most_conditions}
-use Rattle.gh_path.specs.Graphs.{Loop, loops, all_loops, loops_of}
+use Rattle.gh_path.specs.Graphs.{Loop, loops, all_loops, loops_of, number_of}
 use Rattle.gh_path.specs.Kept.{IsLoop}
-use Rattle.gh_path.specs.Callees.{HasCallee, HasCallees, AllHaveCallees}
+use Rattle.gh_path.specs.Callees.{IsKnown, CallsAreKnown, AllCallsAreKnown}
 use Rattle.gh_path.specs.Lowered.{Suits, AllSuit, program_in}
 use Rattle.gh_path.specs.declared.walker.Walker.{Walker}
 use Rattle.gh_path.proofs.ListLemmas.{next, got, same_some, no_some}
+use Rattle.gh_path.proofs.FormLemmas.{callees_are_numbered}
 use Rattle.gh_path.proofs.NumberLemmas.{all_follow}
 
 -- the first of some statements, and the others
@@ -28,33 +29,33 @@ pub suit_first : (w : Walker) (n : ℕ) (ss : List Stmt) (i : ℕ) (x : Stmt) �
 suit_first w n ss i x within is suit =
     let rest = statements_view (drop (i + 1) ss) in
     let all : AllSuit w n (statement_first (statement_of x) rest) = subst (λ ys. AllSuit w n (statements_view ys)) (next ss i x within is) suit in
-    record { callees = all.callees.0; room = omega (arith, all.room, length-append (loops (statement_of x)) (all_loops rest)) }
+    record { few = all.few; callees = all.callees.0; room = omega (arith, all.room, length-append (loops (statement_of x)) (all_loops rest)) }
 
 pub suit_next : (w : Walker) (n m : ℕ) (ss : List Stmt) (i : ℕ) (x : Stmt) → i < length ss → x ≡ get_or ss i x → m ≡ min (n + min (length (loops (statement_of x))) 4294967295) 4294967295 →
     AllSuit w n (statements_view (drop i ss)) → AllSuit w m (statements_view (drop (i + 1) ss))
 suit_next w n m ss i x within is sum suit =
     let rest = statements_view (drop (i + 1) ss) in
     let all : AllSuit w n (statement_first (statement_of x) rest) = subst (λ ys. AllSuit w n (statements_view ys)) (next ss i x within is) suit in
-    record { callees = all.callees.1; room = omega (arith, sum, all.room, length-append (loops (statement_of x)) (all_loops rest)) }
+    record { few = all.few; callees = all.callees.1; room = omega (arith, sum, all.room, length-append (loops (statement_of x)) (all_loops rest)) }
 
 -- the loops of a body
 abbrev AreCalled : Program → List Loop → Type 0
-AreCalled P ls = (n : ℕ) (l : Loop) → slice_get ls n ≡ Some l → AllHaveCallees P l.body
+AreCalled P ls = (n : ℕ) (l : Loop) → slice_get ls n ≡ Some l → AllCallsAreKnown P l.body
 
 both_called : (P : Program) (xs ys : List Loop) → AreCalled P xs → AreCalled P ys → AreCalled P (xs ++ ys)
 both_called P [] ys one two n l at = two n l at
 both_called P (x ∷ xs) ys one two zero l at = one zero l at
 both_called P (x ∷ xs) ys one two (suc n) l at = both_called P xs ys (λ k m there. one (suc k) m there) two n l at
 
-one_called : (P : Program) (x : Loop) (ls : List Loop) → AllHaveCallees P x.body → AreCalled P ls → AreCalled P (x ∷ ls)
-one_called P x ls mine rest zero l at = subst (λ (q : Loop). AllHaveCallees P q.body) (same_some x l at) mine
+one_called : (P : Program) (x : Loop) (ls : List Loop) → AllCallsAreKnown P x.body → AreCalled P ls → AreCalled P (x ∷ ls)
+one_called P x ls mine rest zero l at = subst (λ (q : Loop). AllCallsAreKnown P q.body) (same_some x l at) mine
 one_called P x ls mine rest (suc n) l at = rest n l at
 
 none_called : (P : Program) → AreCalled P []
 none_called P n l at = absurd (no_some l at)
 
 mutual
-  loops_called : (P : Program) (s : Statement) → HasCallees P s → AreCalled P (loops s)
+  loops_called : (P : Program) (s : Statement) → CallsAreKnown P s → AreCalled P (loops s)
   loops_called P (set x e) have = none_called P
   loops_called P (new x) have = none_called P
   loops_called P (write x e) have = none_called P
@@ -64,7 +65,7 @@ mutual
   loops_called P (loop at t i body close) have = one_called P (record { at = at; test = t; invariant = i; body = body; close = close }) (all_loops body) have (all_loops_called P body have)
   loops_called P (give at es) have = none_called P
 
-  pub all_loops_called : (P : Program) (ss : Statements) → AllHaveCallees P ss → AreCalled P (all_loops ss)
+  pub all_loops_called : (P : Program) (ss : Statements) → AllCallsAreKnown P ss → AreCalled P (all_loops ss)
   all_loops_called P no_statements have = none_called P
   all_loops_called P (statement_first s ss) have = both_called P (loops s) (all_loops ss) (loops_called P s have.0) (all_loops_called P ss have.1)
 
@@ -78,45 +79,25 @@ inside_few p n l is = by_count (length (all_loops l.body)) refl
         let last = got (all_loops l.body) m (omega (arith, some)) in
         omega (arith, some, slice_get_within (loops_of p) (n + 1 + m) last.0 (all_follow (body_of p) n l is m last.0 last.1))
 
-pub entry_suits : (w : Walker) (p : Procedure) → AllHaveCallees (program_in w) (body_of p) → length (loops_of p) ≤ most_conditions → AllSuit w 0 (body_of p)
-entry_suits w p have few = record { callees = have; room = omega (arith, few) }
+pub entry_suits : (w : Walker) (p : Procedure) → AreFew (program_in w) → AllCallsAreKnown (program_in w) (body_of p) → length (loops_of p) ≤ most_conditions → AllSuit w 0 (body_of p)
+entry_suits w p procedures have few = record { few = procedures; callees = have; room = omega (arith, few) }
 
-pub round_suits : (w : Walker) (p : Procedure) (n : ℕ) (l : Loop) → IsLoop p n l → AllHaveCallees (program_in w) (body_of p) → length (loops_of p) ≤ most_conditions → AllSuit w (n + 1) l.body
-round_suits w p n l is have few = record { callees = all_loops_called (program_in w) (body_of p) have n l is; room = omega (arith, few, inside_few p n l is) }
+pub round_suits : (w : Walker) (p : Procedure) (n : ℕ) (l : Loop) → IsLoop p n l → AreFew (program_in w) → AllCallsAreKnown (program_in w) (body_of p) → length (loops_of p) ≤ most_conditions → AllSuit w (n + 1) l.body
+round_suits w p n l is procedures have few = record { few = procedures; callees = all_loops_called (program_in w) (body_of p) have n l is; room = omega (arith, few, inside_few p n l is) }
 
--- the number of the first procedure of a name
-first_at : (ps : List Procedure) (f : Name) (q : Procedure) → IsFirstNamed ps f q →
-    (n : ℕ) × (slice_get ps n ≡ Some q) × (name_of q ≡ f) × ((r : Procedure) → Contains (take n ps) r → name_of r ≢ f)
-first_at [] f q is = absurd is
-first_at (p ∷ ps) f q (inl (named, same)) = (0, ap Some (sym same), subst (λ r. name_of r ≡ f) (sym same) named, λ r i. absurd (no_member r i))
-first_at (p ∷ ps) f q (inr (differs, later)) =
-    let rest = first_at ps f q later in (
-      suc rest.0,
-      rest.1,
-      rest.2,
-      λ r i. elim (member_cases p (take rest.0 ps) r i) [
-        | inl same ↦ subst (λ s. name_of s ≢ f) same differs
-        | inr more ↦ rest.3 r more
-      ],
-    )
-
-pub has_callee : (P : Program) → AreFew P → (f : Name) (q : Procedure) → Declares P f q → HasCallee P f
-has_callee P few f q declares =
-    let at = first_at P.procedures f q declares in (
-      at.0,
-      omega (arith, few, slice_get_within P.procedures at.0 q at.1),
-      record { callee = q; at = at.1; named = at.2; first = at.3 },
-    )
+-- a procedure that is declared has a number
+pub has_callee : (P : Program) (f : Name) (q : Procedure) → Declares P f q → IsKnown P f
+has_callee P f q declares = slice_get_within P.procedures (number_of P f) q ((callees_are_numbered P f q).1 declares)
 
 -- the calls of a body are sites of its procedure
 abbrev AreKnown : Program → Procedure → Type 0
-AreKnown P q = (ts : List Occ) (f : Occ) (es : List Expr) → Contains (sites_of q) (called ts f es) → HasCallee P f.name
+AreKnown P q = (ts : List Occ) (f : Occ) (es : List Expr) → Contains (sites_of q) (called ts f es) → IsKnown P f.name
 
 abbrev AreSites : Procedure → List Site → Type 0
 AreSites q xs = (x : Site) → Contains xs x → Contains (sites_of q) x
 
 mutual
-  statement_calls : (P : Program) (q : Procedure) → AreKnown P q → (b : Bool) (s : Statement) → AreSites q (sites_in b s) → HasCallees P s
+  statement_calls : (P : Program) (q : Procedure) → AreKnown P q → (b : Bool) (s : Statement) → AreSites q (sites_in b s) → CallsAreKnown P s
   statement_calls P q known b (set x e) sites = tt
   statement_calls P q known b (new x) sites = tt
   statement_calls P q known b (write x e) sites = tt
@@ -136,19 +117,19 @@ mutual
       block_calls P q known true body (λ x j. sites x (Contains-append_right front (all_sites_in true body) x j))
   statement_calls P q known b (give at es) sites = tt
 
-  block_calls : (P : Program) (q : Procedure) → AreKnown P q → (b : Bool) (ss : Statements) → AreSites q (all_sites_in b ss) → AllHaveCallees P ss
+  block_calls : (P : Program) (q : Procedure) → AreKnown P q → (b : Bool) (ss : Statements) → AreSites q (all_sites_in b ss) → AllCallsAreKnown P ss
   block_calls P q known b no_statements sites = tt
   block_calls P q known b (statement_first s ss) sites = (
     statement_calls P q known b s (λ x i. sites x (Contains-append_left (sites_in b s) (all_sites_in b ss) x i)),
     block_calls P q known b ss (λ x i. sites x (Contains-append_right (sites_in b s) (all_sites_in b ss) x i)),
   )
 
-in_body : (P : Program) (q : Procedure) → AreKnown P q → (o : Option Inside) → AreSites q (sites_in_body o) → AllHaveCallees P (statements_in o)
+in_body : (P : Program) (q : Procedure) → AreKnown P q → (o : Option Inside) → AreSites q (sites_in_body o) → AllCallsAreKnown P (statements_in o)
 in_body P q known None sites = tt
 in_body P q known (Some i) sites = block_calls P q known false i.statements sites
 
-pub body_calls : (P : Program) → IsTyped P → AreFew P → (q : Procedure) → Contains P.procedures q → AllHaveCallees P (body_of q)
-body_calls P typed few q here =
+pub body_calls : (P : Program) → IsTyped P → (q : Procedure) → Contains P.procedures q → AllCallsAreKnown P (body_of q)
+body_calls P typed q here =
     let front = map mentioned (in_formula q.needs ++ in_alternatives q.gives) in
-    in_body P q (λ ts f es there. let one = callee_is_known P typed q here ts f es there in has_callee P few f.name one.0 one.1) q.body
+    in_body P q (λ ts f es there. let one = callee_is_known P typed q here ts f es there in has_callee P f.name one.0 one.1) q.body
     (λ x i. Contains-append_right front (sites_in_body q.body) x i)

@@ -5,7 +5,7 @@ use Rattle.gh_ast.specs.Lists.{IsFirstWith}
 use Rattle.gh_ast.specs.Rules.{IsTyped}
 use Rattle.gh_ast.specs.Limits.{KeepsLimits, IsLimit}
 use Rattle.gh_ast.specs.declared.typed.Limit.{Limit}
-use Rattle.gh_path.specs.Conditions.{conditions_of}
+use Rattle.gh_path.specs.Conditions.{courses_of}
 use Rattle.gh_path.specs.Terms.{terms_of, versions_of}
 
 -- the most conditions of a procedure, and the most steps of a condition
@@ -16,12 +16,12 @@ abbrev pub most_steps : ℕ
 most_steps = 256
 
 -- 4: a procedure with more conditions
-abbrev pub HasManyPaths : Procedure → Type 0
-HasManyPaths p = most_conditions < length (conditions_of p)
+abbrev pub HasManyPaths : Program → Procedure → Type 0
+HasManyPaths P p = most_conditions < length (courses_of P p)
 
 -- 5: a condition with more steps
-abbrev pub HasManySteps : Procedure → Type 0
-HasManySteps p = Any (λ c. most_steps < length c.way.steps) (conditions_of p)
+abbrev pub HasManySteps : Program → Procedure → Type 0
+HasManySteps P p = Any (λ c. most_steps < length c.way.steps) (courses_of P p)
 
 -- the most terms, and the most versions of the heap, of a condition
 abbrev pub most_terms : ℕ
@@ -32,11 +32,11 @@ most_versions = 24
 
 -- 6: a condition with more terms
 abbrev pub HasManyTerms : Program → Procedure → Type 0
-HasManyTerms P p = Any (λ c. most_terms < length (terms_of P c)) (conditions_of p)
+HasManyTerms P p = Any (λ c. most_terms < length (terms_of P p c.start c.way)) (courses_of P p)
 
 -- 7: a condition with more versions of the heap
 abbrev pub HasManyVersions : Program → Procedure → Type 0
-HasManyVersions P p = Any (λ c. most_versions < versions_of P c) (conditions_of p)
+HasManyVersions P p = Any (λ c. most_versions < versions_of P p c.start c.way) (courses_of P p)
 
 -- no procedure of the list passes the limit
 abbrev pub NoneOf : List Procedure → (Procedure → Type 0) → Type 0
@@ -60,16 +60,16 @@ Passed P Q kind number l = FirstOf P.procedures Q kind number l
 -- the limit that is answered: kinds in order, each over the whole program before the next
 pub data IsFirstLimit (P : Program) (l : Limit) : Type 0 where
   of_text : IsLimit P l → IsFirstLimit P l
-  paths : KeepsLimits P → Passed P HasManyPaths 4 (most_conditions + 1) l → IsFirstLimit P l
-  steps : KeepsLimits P → NoneHas P HasManyPaths → Passed P HasManySteps 5 (most_steps + 1) l → IsFirstLimit P l
-  terms : KeepsLimits P → NoneHas P HasManyPaths → NoneHas P HasManySteps → Passed P (HasManyTerms P) 6 (most_terms + 1) l → IsFirstLimit P l
-  versions : KeepsLimits P → NoneHas P HasManyPaths → NoneHas P HasManySteps → NoneHas P (HasManyTerms P) → Passed P (HasManyVersions P) 7 (most_versions + 1) l → IsFirstLimit P l
+  paths : KeepsLimits P → Passed P (HasManyPaths P) 4 (most_conditions + 1) l → IsFirstLimit P l
+  steps : KeepsLimits P → NoneHas P (HasManyPaths P) → Passed P (HasManySteps P) 5 (most_steps + 1) l → IsFirstLimit P l
+  terms : KeepsLimits P → NoneHas P (HasManyPaths P) → NoneHas P (HasManySteps P) → Passed P (HasManyTerms P) 6 (most_terms + 1) l → IsFirstLimit P l
+  versions : KeepsLimits P → NoneHas P (HasManyPaths P) → NoneHas P (HasManySteps P) → NoneHas P (HasManyTerms P) → Passed P (HasManyVersions P) 7 (most_versions + 1) l → IsFirstLimit P l
 
 -- no rule is broken, and no counted quantity passes its limit
 pub record IsAdmitted (P : Program) : Type 0 where
   pub typed : IsTyped P
   pub limits : KeepsLimits P
-  pub paths : NoneHas P HasManyPaths
-  pub steps : NoneHas P HasManySteps
+  pub paths : NoneHas P (HasManyPaths P)
+  pub steps : NoneHas P (HasManySteps P)
   pub terms : NoneHas P (HasManyTerms P)
   pub versions : NoneHas P (HasManyVersions P)

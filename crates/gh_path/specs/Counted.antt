@@ -8,6 +8,6 @@ use Rattle.gh_path.specs.declared.starts.Starts.{Starts}
 
 pub record KeepsCounts (P : Program) (count : ℕ) (starts : Starts) : Type 0 where
   pub all : count ≡ length (conditions P)
-  pub paths : NoneHas P HasManyPaths
-  pub steps : NoneHas P HasManySteps
+  pub paths : NoneHas P (HasManyPaths P)
+  pub steps : NoneHas P (HasManySteps P)
   pub starts_are : AreStarts P starts (conditions P)

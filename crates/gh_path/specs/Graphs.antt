@@ -1,13 +1,16 @@
--- Bodies as graphs: each statement is given what comes after it.
-use Rattle.std.specs.Prelude.{ℕ, suc, List, [], ◌∷◌, ◌++◌, Bool}
+-- Bodies as graphs: each statement is given what comes after it. Procedures and loops are told by their numbers.
+use Rattle.std.specs.Prelude.{ℕ, suc, ◌+◌, List, [], ◌∷◌, ◌++◌, Bool, length, position, unwrap_or, Some, None}
+use Rattle.std.specs.Prelude.{Option, slice_get}
+use Rattle.std.specs.Str.{bytes_eq}
 use Rattle.gh_base.specs.declared.place.Span.{Span}
 use Rattle.gh_ast.specs.declared.Occ.{Occ}
 use Rattle.gh_ast.specs.declared.Expr.{Expr}
 use Rattle.gh_ast.specs.declared.Expr.TheVariants.{Plain, Read}
 use Rattle.gh_ast.specs.Plain.{Test, compare, negation, conjunction, disjunction, Tests, no_tests, test_first, Formula}
+use Rattle.gh_ast.specs.Plain.{empty, Program}
 use Rattle.gh_ast.specs.Plain.{Statement, set, new, write, free, call, choice, loop, give, Statements, no_statements}
 use Rattle.gh_ast.specs.Plain.{statement_first, Procedure}
-use Rattle.gh_ast.specs.Programs.{Name, results_of, body_of}
+use Rattle.gh_ast.specs.Programs.{Name, name_of, body_of}
 
 -- a `while`: the places of its word and of its last brace, and its parts
 pub record Loop : Type 0 where
@@ -20,34 +23,35 @@ pub record Loop : Type 0 where
 abbrev pub while : Span → Test → Formula → Statements → Span → Loop
 while at t i body close = record { at = at; test = t; invariant = i; body = body; close = close }
 
--- what is asked at a node: the place is allocated; some part meets what the callee needs; some part meets the loop's invariant;
--- the whole heap meets one alternative of what the procedure gives, or the loop's invariant
+-- what is asked at a node, with its place: the place of a variable is allocated; some part meets what the callee needs;
+-- some part meets the loop's invariant; the whole heap meets one alternative of what the procedure gives, or the loop's
+-- invariant
 pub data Check : Type 0 where
   access : Occ → Check
-  entry : Occ → List Expr → Check
-  loop_entry : Loop → Check
-  returned : Span → List Formula → Check
-  loop_end : Loop → Check
+  entry : Span → ℕ → List Expr → Check
+  loop_entry : Span → ℕ → Check
+  returned : Span → Check
+  loop_end : Span → ℕ → Check
 
 -- the place that a check is named by: of the variable, the callee, the word `while`, the word `return` or a last brace
 abbrev pub check_place : Check → Span
 check_place (access x) = x.span
-check_place (entry f es) = f.span
-check_place (loop_entry l) = l.at
-check_place (returned at f) = at
-check_place (loop_end l) = l.close
+check_place (entry at n es) = at
+check_place (loop_entry at n) = at
+check_place (returned at) = at
+check_place (loop_end at n) = at
 
--- `assume l e r way`: the comparison is true where `way` is, else false
+-- `assume l e r`: the comparison is true
 pub data PathStep : Type 0 where
   accessed : Occ → PathStep
-  assume : Expr → Bool → Expr → Bool → PathStep
+  assume : Expr → Bool → Expr → PathStep
   assigned : Occ → Expr → PathStep
   made : Occ → PathStep
   written : Occ → Expr → PathStep
   freed : Occ → PathStep
-  called : List Occ → Occ → List Expr → PathStep
-  looped : Loop → PathStep
-  answered : List Name → List Expr → PathStep
+  called : List Occ → ℕ → List Expr → PathStep
+  looped : ℕ → PathStep
+  answered : List Expr → PathStep
 
 -- a first node, with a check, a step or both, and what comes after it. Without cycles, since a loop on the way is one step;
 -- a node that several ways lead to stands once for each of them
@@ -85,21 +89,6 @@ abbrev mutual
   some_tested no_tests g k = k
   some_tested (test_first t ts) g k = tested t g (some_tested ts g k)
 
-abbrev mutual
-  pub lowered : Procedure → Statement → Graph → Graph
-  lowered p (set x e) g = reads e (moves (assigned x e) g)
-  lowered p (new x) g = moves (made x) g
-  lowered p (write x e) g = reads e (visits x (moves (written x e) g))
-  lowered p (free x) g = visits x (moves (freed x) g)
-  lowered p (call xs f es) g = all_reads es (guarded (entry f es) (called xs f es) g)
-  lowered p (choice t a c b d) g = tested t (all_lowered p a g) (all_lowered p b g)
-  lowered p (loop at t i body close) g = guarded (loop_entry (while at t i body close)) (looped (while at t i body close)) (tested t dead_end g)
-  lowered p (give at es) g = all_reads es (moves (answered (results_of p) es) (ends (returned at p.gives)))
-
-  pub all_lowered : Procedure → Statements → Graph → Graph
-  all_lowered p no_statements g = g
-  all_lowered p (statement_first s ss) g = lowered p s (all_lowered p ss g)
-
 -- the loops of a block in the order of their words, so that each place in the list is a loop's number
 abbrev mutual
   pub loops : Statement → List Loop
@@ -114,31 +103,57 @@ abbrev mutual
 abbrev pub loops_of : Procedure → List Loop
 loops_of p = all_loops (body_of p)
 
+-- the number of the first procedure of a name, or how many there are where there is none
+abbrev pub number_of : Program → Name → ℕ
+number_of P f = unwrap_or (position (λ p. bytes_eq (name_of p) f) P.procedures) (length P.procedures)
+
+-- a statement before a graph, and a block; the first loop in it has the number n
+abbrev mutual
+  pub lowered : Program → ℕ → Statement → Graph → Graph
+  lowered P n (set x e) g = reads e (moves (assigned x e) g)
+  lowered P n (new x) g = moves (made x) g
+  lowered P n (write x e) g = reads e (visits x (moves (written x e) g))
+  lowered P n (free x) g = visits x (moves (freed x) g)
+  lowered P n (call xs f es) g = all_reads es (guarded (entry f.span (number_of P f.name) es) (called xs (number_of P f.name) es) g)
+  lowered P n (choice t a c b d) g = tested t (all_lowered P n a g) (all_lowered P (n + length (all_loops a)) b g)
+  lowered P n (loop at t i body close) g = guarded (loop_entry at n) (looped n) (tested t dead_end g)
+  lowered P n (give at es) g = all_reads es (moves (answered es) (ends (returned at)))
+
+  pub all_lowered : Program → ℕ → Statements → Graph → Graph
+  all_lowered P n no_statements g = g
+  all_lowered P n (statement_first s ss) g = lowered P n s (all_lowered P (n + length (loops s)) ss g)
+
 -- where paths begin: at the entry, or at the loop of a number
-pub data Origin : Type 0 where
-  from_entry : Origin
-  from_loop : ℕ → Loop → Origin
+pub data Start : Type 0 where
+  whole_body : Start
+  round : ℕ → Start
 
--- where paths begin, what the whole heap meets there, and the way on
-pub record Start : Type 0 where
-  pub origin : Origin
-  pub meets : Formula
-  pub graph : Graph
+abbrev pub invariant_of : Option Loop → Formula
+invariant_of (Some l) = l.invariant
+invariant_of None = empty
 
-abbrev pub whole_body : Procedure → Start
-whole_body p = record { origin = from_entry; meets = p.needs; graph = all_lowered p (body_of p) (ends (returned p.close p.gives)) }
+-- what the whole heap meets there
+abbrev pub meets_at : Procedure → Start → Formula
+meets_at p whole_body = p.needs
+meets_at p (round n) = invariant_of (slice_get (loops_of p) n)
 
--- once around a loop
-abbrev pub once_around : Procedure → Loop → Graph
-once_around p l = tested l.test (all_lowered p l.body (ends (loop_end l))) dead_end
+-- once around the loop of a number
+abbrev pub once_around : Program → ℕ → Loop → Graph
+once_around P n l = tested l.test (all_lowered P (suc n) l.body (ends (loop_end l.close n))) dead_end
 
-abbrev pub round : Procedure → ℕ → Loop → Start
-round p n l = record { origin = from_loop n l; meets = l.invariant; graph = once_around p l }
+abbrev pub around : Program → ℕ → Option Loop → Graph
+around P n (Some l) = once_around P n l
+around P n None = dead_end
 
--- the loops of a list, numbered from n
-abbrev pub rounds : Procedure → ℕ → List Loop → List Start
-rounds p n [] = []
-rounds p n (l ∷ ls) = round p n l ∷ rounds p (suc n) ls
+-- the way on from a start
+abbrev pub graph_from : Program → Procedure → Start → Graph
+graph_from P p whole_body = all_lowered P 0 (body_of p) (ends (returned p.close))
+graph_from P p (round n) = around P n (slice_get (loops_of p) n)
+
+-- the starts at so many loops, numbered from n
+abbrev pub rounds : ℕ → List Loop → List Start
+rounds n [] = []
+rounds n (l ∷ ls) = round n ∷ rounds (suc n) ls
 
 abbrev pub starts : Procedure → List Start
-starts p = whole_body p ∷ rounds p 0 (loops_of p)
+starts p = whole_body ∷ rounds 0 (loops_of p)

@@ -1,5 +1,5 @@
 -- Paths of a graph, and their order.
-use Rattle.std.specs.Prelude.{List, [], ◌∷◌, ◌++◌, map, true, false, Bool, Contains, ◌↔◌}
+use Rattle.std.specs.Prelude.{List, [], ◌∷◌, ◌++◌, map, not, Bool, Contains, ◌↔◌}
 use Rattle.gh_ast.specs.declared.Expr.{Expr}
 use Rattle.gh_path.specs.Graphs.{Check, PathStep, assume, Graph, dead_end, ends, moves, guarded, fork}
 
@@ -9,14 +9,18 @@ pub data Path : Graph → List PathStep → Check → Type 0 where
   arrived : {g : Graph} {p : PathStep} {c : Check} → Path (guarded c p g) [] c
   past : {g : Graph} {d : Check} {p : PathStep} {ps : List PathStep} {c : Check} → Path g ps c → Path (guarded d p g) (p ∷ ps) c
   on : {g : Graph} {p : PathStep} {ps : List PathStep} {c : Check} → Path g ps c → Path (moves p g) (p ∷ ps) c
-  on_true : {l : Expr} {e : Bool} {r : Expr} {g k : Graph} {ps : List PathStep} {c : Check} → Path g ps c → Path (fork l e r g k) (assume l e r true ∷ ps) c
-  on_false : {l : Expr} {e : Bool} {r : Expr} {g k : Graph} {ps : List PathStep} {c : Check} → Path k ps c → Path (fork l e r g k) (assume l e r false ∷ ps) c
+  on_true : {l : Expr} {e : Bool} {r : Expr} {g k : Graph} {ps : List PathStep} {c : Check} → Path g ps c → Path (fork l e r g k) (assume l e r ∷ ps) c
+  on_false : {l : Expr} {e : Bool} {r : Expr} {g k : Graph} {ps : List PathStep} {c : Check} → Path k ps c → Path (fork l e r g k) (assume l (not e) r ∷ ps) c
 
--- a path stands before those that go on from it, and the way of a true comparison before that of its opposite
-pub data Before : List PathStep → List PathStep → Type 0 where
-  shorter : {p : PathStep} {ps : List PathStep} → Before [] (p ∷ ps)
-  later : {p : PathStep} {ps qs : List PathStep} → Before ps qs → Before (p ∷ ps) (p ∷ qs)
-  true_first : {l : Expr} {e : Bool} {r : Expr} {ps qs : List PathStep} → Before (assume l e r true ∷ ps) (assume l e r false ∷ qs)
+-- of two paths of a graph the one that the other goes on from stands first; else the one that takes the way of the true
+-- comparison where they part
+pub data Before : Graph → List PathStep → List PathStep → Type 0 where
+  shorter : {g : Graph} {p : PathStep} {ps : List PathStep} → Before g [] (p ∷ ps)
+  past : {c : Check} {p : PathStep} {g : Graph} {ps qs : List PathStep} → Before g ps qs → Before (guarded c p g) (p ∷ ps) (p ∷ qs)
+  on : {p : PathStep} {g : Graph} {ps qs : List PathStep} → Before g ps qs → Before (moves p g) (p ∷ ps) (p ∷ qs)
+  both_true : {l : Expr} {e : Bool} {r : Expr} {g k : Graph} {ps qs : List PathStep} → Before g ps qs → Before (fork l e r g k) (assume l e r ∷ ps) (assume l e r ∷ qs)
+  both_false : {l : Expr} {e : Bool} {r : Expr} {g k : Graph} {ps qs : List PathStep} → Before k ps qs → Before (fork l e r g k) (assume l (not e) r ∷ ps) (assume l (not e) r ∷ qs)
+  true_first : {l : Expr} {e : Bool} {r : Expr} {g k : Graph} {ps qs : List PathStep} → Before (fork l e r g k) (assume l e r ∷ ps) (assume l (not e) r ∷ qs)
 
 -- the steps to a node, and its check
 pub record Way : Type 0 where
@@ -24,14 +28,14 @@ pub record Way : Type 0 where
   pub check : Check
 
 -- each way stands before all that come after it in the list
-abbrev pub IsInOrder : List Way → Type 0
-IsInOrder [] = Unit {0}
-IsInOrder (x ∷ xs) = ((y : Way) → Contains xs y → Before x.steps y.steps) × IsInOrder xs
+abbrev pub IsInOrder : Graph → List Way → Type 0
+IsInOrder g [] = Unit {0}
+IsInOrder g (x ∷ xs) = ((y : Way) → Contains xs y → Before g x.steps y.steps) × IsInOrder g xs
 
 -- all paths of the graph and nothing else, in order: there is one such list
 pub record IsListOf (g : Graph) (xs : List Way) : Type 0 where
   pub members : (y : Way) → Contains xs y ↔ Path g y.steps y.check
-  pub in_order : IsInOrder xs
+  pub in_order : IsInOrder g xs
 
 abbrev pub after_step : PathStep → Way → Way
 after_step p x = record { steps = p ∷ x.steps; check = x.check }
@@ -41,4 +45,4 @@ ways dead_end = []
 ways (ends c) = record { steps = []; check = c } ∷ []
 ways (moves p g) = map (after_step p) (ways g)
 ways (guarded c p g) = record { steps = []; check = c } ∷ map (after_step p) (ways g)
-ways (fork l e r g k) = map (after_step (assume l e r true)) (ways g) ++ map (after_step (assume l e r false)) (ways k)
+ways (fork l e r g k) = map (after_step (assume l e r)) (ways g) ++ map (after_step (assume l (not e) r)) (ways k)

@@ -8,13 +8,13 @@ use Rattle.gh_path.specs.declared.listing.ConditionsError.{ConditionsError}
 use Rattle.gh_path.specs.declared.listing.ConditionsError.TheVariants.{Limit, OutOfMemory}
 
 -- none: no procedure has too many conditions; or too many steps on a path
-abbrev pub IsPathsLimit : List Procedure → Option limit.Limit → Type 0
-IsPathsLimit ps o = MatchOption o (NoneOf ps HasManyPaths) (FirstOf ps HasManyPaths 4 (most_conditions + 1))
+abbrev pub IsPathsLimit : Program → List Procedure → Option limit.Limit → Type 0
+IsPathsLimit P ps o = MatchOption o (NoneOf ps (HasManyPaths P)) (FirstOf ps (HasManyPaths P) 4 (most_conditions + 1))
 
-abbrev pub IsStepsLimit : List Procedure → Option limit.Limit → Type 0
-IsStepsLimit ps o = MatchOption o (NoneOf ps HasManySteps) (FirstOf ps HasManySteps 5 (most_steps + 1))
+abbrev pub IsStepsLimit : Program → List Procedure → Option limit.Limit → Type 0
+IsStepsLimit P ps o = MatchOption o (NoneOf ps (HasManySteps P)) (FirstOf ps (HasManySteps P) 5 (most_steps + 1))
 
 -- a procedure with too many conditions; where there is none, a path with too many steps; memory may run out at any time
 abbrev pub IsConditionsRefusal : Program → ConditionsError → Type 0
-IsConditionsRefusal P (Limit l) = Passed P HasManyPaths 4 (most_conditions + 1) l ⊎ (NoneHas P HasManyPaths × Passed P HasManySteps 5 (most_steps + 1) l)
+IsConditionsRefusal P (Limit l) = Passed P (HasManyPaths P) 4 (most_conditions + 1) l ⊎ (NoneHas P (HasManyPaths P) × Passed P (HasManySteps P) 5 (most_steps + 1) l)
 IsConditionsRefusal P OutOfMemory = ⊤

@@ -1,10 +1,10 @@
 -- The starts of a program in order, each with its first node.
-use Rattle.std.specs.Prelude.{◌≡◌, ◌≤◌, ◌+◌, ℕ, List, [], ◌∷◌, ◌++◌, map, length, drop, Option, Some, None, slice_get}
+use Rattle.std.specs.Prelude.{◌≡◌, ◌≤◌, ◌+◌, ℕ, List, [], ◌∷◌, ◌++◌, map, length, drop, Option, Some, None}
 use Rattle.gh_ast.specs.Plain.{Procedure, Program}
-use Rattle.gh_path.specs.Graphs.{Loop, Start, whole_body, round}
-use Rattle.gh_path.specs.Paths.{ways}
-use Rattle.gh_path.specs.Conditions.{Condition, condition, conditions_of}
-use Rattle.gh_path.specs.Kept.{IsStart, IsLoop}
+use Rattle.gh_path.specs.Graphs.{Graph, Loop, Start, whole_body, round, graph_from}
+use Rattle.gh_path.specs.Paths.{Way, ways}
+use Rattle.gh_path.specs.Conditions.{Condition, condition, course, courses_of}
+use Rattle.gh_path.specs.Kept.{IsCallee, IsLoop, start_of}
 use Rattle.gh_path.specs.Lowered.{program_in, procedure_in}
 use Rattle.gh_path.specs.Shown.{Shows}
 use Rattle.gh_path.specs.declared.node.Node.{Node}
@@ -13,23 +13,30 @@ use Rattle.gh_path.specs.declared.starts.Sought.{Sought}
 use Rattle.gh_path.specs.declared.starts.Starts.{Starts}
 use Rattle.gh_path.specs.declared.walker.Walker.{Walker}
 
--- a start of a procedure, whose first node shows its graph, with the number of its ways
-pub record IsRoot (P : Program) (ns : List Node) (r : Root) (p : Procedure) (a : Start) : Type 0 where
-  pub procedure : slice_get P.procedures r.procedure ≡ Some p
-  pub start : IsStart p r.start a
-  pub shows : Shows P p ns r.node a.graph
-  pub count : r.count ≡ length (ways a.graph)
+-- the conditions of some ways from a start of the procedure of the number n
+abbrev pub on_ways : ℕ → Start → List Way → List Condition
+on_ways n a ws = map (condition n) (map (course a) ws)
 
--- the conditions from a start
-abbrev pub from_start : Procedure → Start → List Condition
-from_start p a = map (condition p a) (ways a.graph)
+-- all that begin at a start
+abbrev pub from_start : Program → Procedure → ℕ → Start → List Condition
+from_start P p n a = on_ways n a (ways (graph_from P p a))
+
+-- where a path from a start of the procedure p leads, read off the start as it is kept
+abbrev pub graph_of : Program → Procedure → Root → Graph
+graph_of P p r = graph_from P p (start_of r.start)
+
+-- a start of the procedure p, whose first node shows its graph, with the number of its ways
+pub record IsRoot (P : Program) (ns : List Node) (r : Root) (p : Procedure) : Type 0 where
+  pub procedure : IsCallee P r.procedure p
+  pub shows : Shows ns r.node (graph_of P p r)
+  pub count : r.count ≡ length (ways (graph_of P p r))
 
 -- the conditions from some starts, in order
 abbrev pub AreRoots : Program → List Node → List Root → List Condition → Type 0
 AreRoots P ns [] cs = cs ≡ []
 AreRoots P ns (r ∷ rs) cs =
-    (p : Procedure) × (a : Start) × (ds : List Condition) × IsRoot P ns r p a × AreRoots P ns rs ds
-    × (cs ≡ from_start p a ++ ds)
+    (p : Procedure) × (ds : List Condition) × IsRoot P ns r p × AreRoots P ns rs ds
+    × (cs ≡ from_start P p r.procedure (start_of r.start) ++ ds)
 
 -- the starts are those of some conditions
 abbrev pub AreStarts : Program → Starts → List Condition → Type 0
@@ -57,17 +64,18 @@ IsSoughtIn s n found = (P : Program) (cs : List Condition) → AreStarts P s cs 
 -- where the walker's procedure has the number n, conditions are added to those of the starts
 abbrev pub AddsConditions : Walker → ℕ → List Condition → Starts → Starts → Type 0
 AddsConditions w n ds old new = (cs : List Condition) → AreStarts (program_in w) old cs →
-    slice_get (program_in w).procedures n ≡ Some (procedure_in w) → AreStarts (program_in w) new (cs ++ ds)
+    IsCallee (program_in w) n (procedure_in w) → AreStarts (program_in w) new (cs ++ ds)
 
 -- all of the procedure
 abbrev pub AddsProcedure : Walker → ℕ → Starts → Starts → Type 0
-AddsProcedure w n old new = AddsConditions w n (conditions_of (procedure_in w)) old new
+AddsProcedure w n old new =
+    AddsConditions w n (map (condition n) (courses_of (program_in w) (procedure_in w))) old new
 
 -- those from its entry
 abbrev pub AddsEntry : Walker → ℕ → Starts → Starts → Type 0
-AddsEntry w n old new = AddsConditions w n (from_start (procedure_in w) (whole_body (procedure_in w))) old new
+AddsEntry w n old new = AddsConditions w n (from_start (program_in w) (procedure_in w) n whole_body) old new
 
--- those from a loop of the number k
+-- those from its loop l of the number k
 abbrev pub AddsLoop : Walker → ℕ → ℕ → Loop → Starts → Starts → Type 0
 AddsLoop w n k l old new =
-    IsLoop (procedure_in w) k l → AddsConditions w n (from_start (procedure_in w) (round (procedure_in w) k l)) old new
+    IsLoop (procedure_in w) k l → AddsConditions w n (from_start (program_in w) (procedure_in w) n (round k)) old new

@@ -1,11 +1,8 @@
 -- A walk over the ways of a graph: the steps that were taken, and the ways that are still to come.
-use Rattle.std.specs.Prelude.{◌≡◌, ℕ, zero, suc, ◌+◌, ◌*◌, ◌<◌, List, [], ◌∷◌, ◌++◌, map, Option, Some, None, Bool}
-use Rattle.std.specs.Prelude.{true, false, slice_get}
-use Rattle.gh_ast.specs.declared.Expr.{Expr}
-use Rattle.gh_ast.specs.Plain.{Procedure, Program}
-use Rattle.gh_path.specs.Graphs.{Check, PathStep, assume, Graph}
+use Rattle.std.specs.Prelude.{◌≡◌, ℕ, zero, suc, ◌+◌, ◌*◌, ◌<◌, List, [], ◌∷◌, ◌++◌, map, Option, Some, None, slice_get}
+use Rattle.gh_path.specs.Graphs.{Check, PathStep, Graph}
 use Rattle.gh_path.specs.Paths.{Way, ways}
-use Rattle.gh_path.specs.Shown.{IsShown, AreShown, IsAsked, Shows, LeadsBelow, step_from, from}
+use Rattle.gh_path.specs.Shown.{step_shown, asked_of, Shows, LeadsBelow, step_from, steps_from, from, opposite}
 use Rattle.gh_path.specs.declared.node.Asked.{Asked}
 use Rattle.gh_path.specs.declared.node.Node.{Node}
 use Rattle.gh_path.specs.declared.node.Origin.{Origin}
@@ -24,61 +21,57 @@ way xs c = record { steps = xs; check = c }
 abbrev pub ways_from : List PathStep → Graph → List Way
 ways_from xs g = map (λ w. way (xs ++ w.steps) w.check) (ways g)
 
--- the ways on which a comparison is false that was taken to be true after the steps xs
-abbrev pub AreOthers : Program → Procedure → List Node → List PathStep → PathStep → Option ℕ → List Way → Type 0
-AreOthers P p ns xs x None ws = ws ≡ []
-AreOthers P p ns xs x (Some i) ws =
-    (l : Expr) × (e : Bool) × (r : Expr) × (g : Graph) × (x ≡ assume l e r true) × Shows P p ns i g
-    × (ws ≡ ways_from (xs ++ assume l e r false ∷ []) g)
+-- the steps that were taken
+abbrev pub steps_taken : List Node → List Taken → List PathStep
+steps_taken ns ts = steps_from ns (map (λ t. t.origin) ts)
 
--- the steps that were taken after xs lead to zs, and the ways ws from the comparisons among them are still to come
-abbrev pub IsTaken : Program → Procedure → List Node → List PathStep → List Taken → List PathStep → List Way → Type 0
-IsTaken P p ns xs [] zs ws = (zs ≡ xs) × (ws ≡ [])
-IsTaken P p ns xs (t ∷ ts) zs ws =
-    (x : PathStep) × (us : List Way) × (vs : List Way) × IsShown P p (step_from ns t.origin) x × IsTaken P p ns (xs ++ x ∷ []) ts zs us
-    × AreOthers P p ns xs x t.other vs × (ws ≡ us ++ vs)
+-- the ways on which a comparison is false that was taken to be true after the steps xs
+abbrev pub AreOthers : List Node → List PathStep → Origin → Option ℕ → List Way → Type 0
+AreOthers ns xs o None ws = ws ≡ []
+AreOthers ns xs o (Some i) ws =
+    (g : Graph) × Shows ns i g × (ws ≡ ways_from (xs ++ step_shown (step_from ns (opposite o)) ∷ []) g)
+
+-- the ways from the comparisons among the steps that were taken after xs
+abbrev pub AreBehind : List Node → List PathStep → List Taken → List Way → Type 0
+AreBehind ns xs [] ws = ws ≡ []
+AreBehind ns xs (t ∷ ts) ws =
+    (us : List Way) × (vs : List Way) × AreBehind ns (xs ++ step_shown (step_from ns t.origin) ∷ []) ts us
+    × AreOthers ns xs t.origin t.other vs × (ws ≡ us ++ vs)
 
 -- the ways from where the walk goes on
-abbrev pub AreOnward : Program → Procedure → List Node → List PathStep → onward.Onward → List Way → Type 0
-AreOnward P p ns zs Back ws = ws ≡ []
-AreOnward P p ns zs (Past i j) ws =
-    (x : PathStep) × (g : Graph) × IsShown P p (step_from ns (from i)) x × Shows P p ns j g × (ws ≡ ways_from (zs ++ x ∷ []) g)
-AreOnward P p ns zs (place.Node i) ws = (g : Graph) × Shows P p ns i g × (ws ≡ ways_from zs g)
+abbrev pub AreOnward : List Node → List PathStep → onward.Onward → List Way → Type 0
+AreOnward ns xs Back ws = ws ≡ []
+AreOnward ns xs (Past i j) ws =
+    (g : Graph) × Shows ns j g × (ws ≡ ways_from (xs ++ step_shown (step_from ns (from i)) ∷ []) g)
+AreOnward ns xs (place.Node i) ws = (g : Graph) × Shows ns i g × (ws ≡ ways_from xs g)
 
 -- all ways that are still to come
-pub record AreToCome (P : Program) (p : Procedure) (ns : List Node) (ts : List Taken) (o : onward.Onward)
-    (ws : List Way) : Type 0 where
-  pub steps : List PathStep
+pub record AreToCome (ns : List Node) (ts : List Taken) (o : onward.Onward) (ws : List Way) : Type 0 where
   pub ahead : List Way
   pub behind : List Way
-  pub taken : IsTaken P p ns [] ts steps behind
-  pub are_ahead : AreOnward P p ns steps o ahead
+  pub are_behind : AreBehind ns [] ts behind
+  pub are_ahead : AreOnward ns (steps_taken ns ts) o ahead
   pub are : ws ≡ ahead ++ behind
 
 -- the first of the ways is come to, and the others are still to come
-pub record IsReached (P : Program) (p : Procedure) (ns : List Node) (ts : List Taken) (o : onward.Onward) (a : Asked)
-    (ws : List Way) : Type 0 where
-  pub steps : List PathStep
-  pub check : Check
+pub record IsReached (ns : List Node) (ts : List Taken) (o : onward.Onward) (a : Asked) (ws : List Way) : Type 0 where
   pub rest : List Way
-  pub shown : AreShown P p (map (λ t. step_from ns t.origin) ts) steps
-  pub asked : IsAsked P p a check
-  pub are : ws ≡ way steps check ∷ rest
-  pub later : AreToCome P p ns ts o rest
+  pub are : ws ≡ way (steps_taken ns ts) (asked_of a) ∷ rest
+  pub later : AreToCome ns ts o rest
 
-abbrev pub IsCome : Program → Procedure → List Node → List Taken → onward.Onward → Come → List Way → Type 0
-IsCome P p ns ts o On ws = AreToCome P p ns ts o ws
-IsCome P p ns ts o (Found a) ws = IsReached P p ns ts o a ws
-IsCome P p ns ts o Over ws = ws ≡ []
+abbrev pub IsCome : List Node → List Taken → onward.Onward → Come → List Way → Type 0
+IsCome ns ts o On ws = AreToCome ns ts o ws
+IsCome ns ts o (Found a) ws = IsReached ns ts o a ws
+IsCome ns ts o Over ws = ws ≡ []
 
 -- none: there is no way any more
-abbrev pub IsFound : Program → Procedure → List Node → List Taken → onward.Onward → Option Asked → List Way → Type 0
-IsFound P p ns ts o (Some a) ws = IsReached P p ns ts o a ws
-IsFound P p ns ts o None ws = ws ≡ []
+abbrev pub IsFound : List Node → List Taken → onward.Onward → Option Asked → List Way → Type 0
+IsFound ns ts o (Some a) ws = IsReached ns ts o a ws
+IsFound ns ts o None ws = ws ≡ []
 
 -- all ways that are still to come on a route
-abbrev pub AreOn : Program → Procedure → List Node → Route → List Way → Type 0
-AreOn P p ns r ws = AreToCome P p ns r.taken.items r.onward ws
+abbrev pub AreOn : List Node → Route → List Way → Type 0
+AreOn ns r ws = AreToCome ns r.taken.items r.onward ws
 
 -- one step more is taken
 abbrev pub HasTaken : Route → Route → Origin → Option ℕ → Type 0
@@ -86,27 +79,25 @@ HasTaken r t o other = t.taken.items ≡ r.taken.items ++ record { origin = o; o
 
 -- at the end of a way, where those from the comparisons among its steps are still to come
 abbrev pub TurnsBack : Route → Route → Come → Type 0
-TurnsBack r t come = (P : Program) (p : Procedure) (ns : List Node) (zs : List PathStep) (ws : List Way) →
-    IsTaken P p ns [] r.taken.items zs ws → IsCome P p ns t.taken.items t.onward come ws
+TurnsBack r t come =
+    (ns : List Node) (ws : List Way) → AreBehind ns [] r.taken.items ws → IsCome ns t.taken.items t.onward come ws
 
 -- from where this node stands
 abbrev pub LooksAt : ℕ → Node → Route → Route → Come → Type 0
-LooksAt i n r t come = (P : Program) (p : Procedure) (ns : List Node) (ws : List Way) → slice_get ns i ≡ Some n →
-    AreToCome P p ns r.taken.items (place.Node i) ws → IsCome P p ns t.taken.items t.onward come ws
+LooksAt i n r t come = (ns : List Node) (ws : List Way) → slice_get ns i ≡ Some n →
+    AreToCome ns r.taken.items (place.Node i) ws → IsCome ns t.taken.items t.onward come ws
 
 -- one turn
 abbrev pub GoesOn : List Node → Route → Route → Come → Type 0
-GoesOn ns r t come = (P : Program) (p : Procedure) (ws : List Way) →
-    AreOn P p ns r ws → IsCome P p ns t.taken.items t.onward come ws
+GoesOn ns r t come = (ws : List Way) → AreOn ns r ws → IsCome ns t.taken.items t.onward come ws
 
 -- as many turns as lead to the next check
 abbrev pub Arrives : List Node → Route → Route → Option Asked → Type 0
-Arrives ns r t found = (P : Program) (p : Procedure) (ws : List Way) →
-    AreOn P p ns r ws → IsFound P p ns t.taken.items t.onward found ws
+Arrives ns r t found = (ws : List Way) → AreOn ns r ws → IsFound ns t.taken.items t.onward found ws
 
 -- all ways from a node are still to come
 abbrev pub BeginsAt : ℕ → Route → Type 0
-BeginsAt i r = (P : Program) (p : Procedure) (ns : List Node) (g : Graph) → Shows P p ns i g → AreOn P p ns r (ways g)
+BeginsAt i r = (ns : List Node) (g : Graph) → Shows ns i g → AreOn ns r (ways g)
 
 -- that of a node is greater than those of any two nodes before it together
 unfoldable pub weight : ℕ → ℕ

@@ -1,18 +1,13 @@
--- What steps and checks as the text has them stand for, and what graph a list of nodes shows.
-use Rattle.std.specs.Prelude.{◌≡◌, ◌⊎◌, ◌<◌, ◌≤◌, ℕ, ◌+◌, List, [], ◌∷◌, ◌++◌, length, take, slice_get, slice_index}
-use Rattle.std.specs.Prelude.{slice_index_or, Some, Bool, true, false, not}
+-- Steps and checks as the text has them, and what graph a list of nodes shows.
+use Rattle.std.specs.Prelude.{◌≡◌, ◌<◌, ◌≤◌, ℕ, ◌+◌, List, [], ◌∷◌, ◌++◌, map, length, take, slice_get, slice_index_or}
+use Rattle.std.specs.Prelude.{Some, Bool, true, false, not}
 use denote.Ref.{Bor}
 use Rattle.gh_base.specs.declared.place.Span.{Span}
-use Rattle.gh_ast.specs.declared.Occ.{Occ}
 use Rattle.gh_ast.specs.declared.Expr.{Expr}
-use Rattle.gh_ast.specs.declared.Stmt.{Stmt}
-use Rattle.gh_ast.specs.Plain.{Procedure, Program, statement_of}
-use Rattle.gh_ast.specs.Programs.{results_of}
-use Rattle.gh_path.specs.Graphs.{Loop, loops, Check, access, entry, loop_entry, returned, loop_end, PathStep, accessed}
+use Rattle.gh_path.specs.Graphs.{Check, access, entry, loop_entry, returned, loop_end, PathStep, accessed}
 use Rattle.gh_path.specs.Graphs.{assume, assigned, made, written, freed, called, looped, answered, Graph, dead_end}
 use Rattle.gh_path.specs.Graphs.{ends, moves, guarded, fork}
-use Rattle.gh_path.specs.Kept.{IsLoop, IsCallee, IsStep, IsKind, IsCheck}
-use Rattle.gh_path.specs.Walking.{AreNumbered}
+use Rattle.gh_path.specs.Kept.{step_of, asked_at, check_of}
 use Rattle.gh_path.specs.declared.condition.PathStep as kept_step
 use Rattle.gh_path.specs.declared.condition.CheckKind as kept_kind
 use Rattle.gh_path.specs.declared.condition.Check as kept_check
@@ -25,40 +20,38 @@ use Rattle.gh_path.specs.declared.node.Node.{Node}
 use Rattle.gh_path.specs.declared.node.Node.TheVariants as node
 use Rattle.gh_path.specs.declared.node.Origin.{Origin}
 
--- a comparison that is assumed is one of the text that is true, or the opposite of one that is false
-abbrev pub IsShown : Program → Procedure → Step → PathStep → Type 0
-IsShown P p (step.Access x) s = s ≡ accessed x.now
-IsShown P p (step.Assume l e r) s = (s ≡ assume l.now e r.now true) ⊎ (s ≡ assume l.now (not e) r.now false)
-IsShown P p (step.Set x e) s = s ≡ assigned x.now e.now
-IsShown P p (step.Write x e) s = s ≡ written x.now e.now
-IsShown P p (step.New x) s = s ≡ made x.now
-IsShown P p (step.Free x) s = s ≡ freed x.now
-IsShown P p (step.Call xs n es) s = (f : Occ) × IsCallee P n f.name × (s ≡ called xs.now f es.now)
-IsShown P p (step.Loop n) s = (l : Loop) × IsLoop p n l × (s ≡ looped l)
-IsShown P p (step.Return es) s = s ≡ answered (results_of p) es.now
-
--- one by one
-abbrev pub AreShown : Program → Procedure → List Step → List PathStep → Type 0
-AreShown P p [] [] = Unit {0}
-AreShown P p [] (s ∷ ss) = ⊥
-AreShown P p (r ∷ rs) [] = ⊥
-AreShown P p (r ∷ rs) (s ∷ ss) = IsShown P p r s × AreShown P p rs ss
+-- a step as the text has it, seen as one of the definitions
+abbrev pub step_shown : Step → PathStep
+step_shown (step.Access x) = accessed x.now
+step_shown (step.Assume l e r) = assume l.now e r.now
+step_shown (step.Set x e) = assigned x.now e.now
+step_shown (step.Write x e) = written x.now e.now
+step_shown (step.New x) = made x.now
+step_shown (step.Free x) = freed x.now
+step_shown (step.Call xs n es) = called xs.now n es.now
+step_shown (step.Loop n) = looped n
+step_shown (step.Return es) = answered es.now
 
 -- what is asked at a place
-abbrev pub IsGoal : Program → Procedure → Goal → Span → Check → Type 0
-IsGoal P p (goal.Access x) at c = c ≡ access (record { name = x.now; span = at })
-IsGoal P p (goal.CalleeEntry n es) at c = (f : Occ) × IsCallee P n f.name × (f.span ≡ at) × (c ≡ entry f es.now)
-IsGoal P p (goal.LoopEntry n) at c = (l : Loop) × IsLoop p n l × (l.at ≡ at) × (c ≡ loop_entry l)
-IsGoal P p goal.Return at c = c ≡ returned at p.gives
-IsGoal P p (goal.LoopEnd n) at c = (l : Loop) × IsLoop p n l × (l.close ≡ at) × (c ≡ loop_end l)
+abbrev pub goal_at : Goal → Span → Check
+goal_at (goal.Access x) at = access (record { name = x.now; span = at })
+goal_at (goal.CalleeEntry n es) at = entry at n es.now
+goal_at (goal.LoopEntry n) at = loop_entry at n
+goal_at goal.Return at = returned at
+goal_at (goal.LoopEnd n) at = loop_end at n
 
-abbrev pub IsAsked : Program → Procedure → Asked → Check → Type 0
-IsAsked P p a c = IsGoal P p a.goal a.span c
+abbrev pub asked_of : Asked → Check
+asked_of a = goal_at a.goal a.span
 
--- where the first assumes a comparison, the second assumes its opposite
-abbrev pub IsOpposite : Step → Step → Type 0
-IsOpposite s t = (P : Program) (p : Procedure) (l : Expr) (e : Bool) (r : Expr) →
-    IsShown P p s (assume l e r true) → IsShown P p t (assume l e r false)
+-- as they are kept, steps and checks are what they are as the text has them
+abbrev pub KeepsStep : Step → kept_step.PathStep → Type 0
+KeepsStep s r = step_of r ≡ step_shown s
+
+abbrev pub KeepsGoal : Goal → kept_kind.CheckKind → Type 0
+KeepsGoal a k = (at : Span) → asked_at k at ≡ goal_at a at
+
+abbrev pub KeepsAsked : Asked → kept_check.Check → Type 0
+KeepsAsked a k = check_of k ≡ asked_of a
 
 -- with the opposite of the comparison that it assumes, if it assumes one
 abbrev pub with_opposite : Step → Step
@@ -91,28 +84,26 @@ step_from ns o = turned_if o.turned (step_past (slice_index_or ns o.place node.D
 abbrev pub from : ℕ → Origin
 from i = record { place = i; turned = false }
 
--- as they are kept, steps and checks stand for all that they stand for as the text has them
-abbrev pub KeepsStep : Step → kept_step.PathStep → Type 0
-KeepsStep s r = (P : Program) (p : Procedure) (x : PathStep) → IsShown P p s x → IsStep P p r x
+-- on the other way of the comparison
+abbrev pub opposite : Origin → Origin
+opposite o = record { place = o.place; turned = not o.turned }
 
-abbrev pub KeepsGoal : Goal → kept_kind.CheckKind → Type 0
-KeepsGoal a k = (P : Program) (p : Procedure) (at : Span) (c : Check) → IsGoal P p a at c → IsKind P p k at c
-
-abbrev pub KeepsAsked : Asked → kept_check.Check → Type 0
-KeepsAsked a k = (P : Program) (p : Procedure) (c : Check) → IsAsked P p a c → IsCheck P p k c
+-- the steps of some origins
+abbrev pub steps_from : List Node → List Origin → List PathStep
+steps_from ns os = map (λ o. step_shown (step_from ns o)) os
 
 -- the node at i leads on as the graph does
-abbrev pub Shows : Program → Procedure → List Node → ℕ → Graph → Type 0
-Shows P p ns i dead_end = slice_get ns i ≡ Some node.DeadEnd
-Shows P p ns i (ends c) = (a : Asked) × (slice_get ns i ≡ Some (node.Ends a)) × IsAsked P p a c
-Shows P p ns i (moves x g) =
-    (s : Step) × (j : ℕ) × (slice_get ns i ≡ Some (node.Moves s j)) × IsShown P p s x × Shows P p ns j g
-Shows P p ns i (guarded c x g) =
-    (a : Asked) × (s : Step) × (j : ℕ) × (slice_get ns i ≡ Some (node.Guarded a s j)) × IsAsked P p a c
-    × IsShown P p s x × Shows P p ns j g
-Shows P p ns i (fork l e r g k) =
+abbrev pub Shows : List Node → ℕ → Graph → Type 0
+Shows ns i dead_end = slice_get ns i ≡ Some node.DeadEnd
+Shows ns i (ends c) = (a : Asked) × (slice_get ns i ≡ Some (node.Ends a)) × (asked_of a ≡ c)
+Shows ns i (moves x g) =
+    (s : Step) × (j : ℕ) × (slice_get ns i ≡ Some (node.Moves s j)) × (step_shown s ≡ x) × Shows ns j g
+Shows ns i (guarded c x g) =
+    (a : Asked) × (s : Step) × (j : ℕ) × (slice_get ns i ≡ Some (node.Guarded a s j)) × (asked_of a ≡ c)
+    × (step_shown s ≡ x) × Shows ns j g
+Shows ns i (fork l e r g k) =
     (a b : Bor Expr) × (j m : ℕ) × (slice_get ns i ≡ Some (node.Fork a e b j m)) × (a.now ≡ l) × (b.now ≡ r)
-    × Shows P p ns j g × Shows P p ns m k
+    × Shows ns j g × Shows ns m k
 
 -- a node leads to nodes before the place k
 abbrev pub LeadsBelow : ℕ → Node → Type 0
@@ -126,23 +117,15 @@ LeadsBelow k (node.Fork l e r i j) = (i < k) × (j < k)
 abbrev pub AreLinked : List Node → Type 0
 AreLinked ns = (i : ℕ) (n : Node) → slice_get ns i ≡ Some n → LeadsBelow i n
 
--- nodes are added, of which the last one shows the graph
-pub record Adds (P : Program) (p : Procedure) (old new : List Node) (i : ℕ) (g : Graph) : Type 0 where
+-- nodes are added, of which the one at i shows the graph
+pub record Adds (old new : List Node) (i : ℕ) (g : Graph) : Type 0 where
   pub more : List Node
   pub is : new ≡ old ++ more
-  pub shows : Shows P p new i g
-
--- each of some statements has the number of its first loop
-abbrev pub HaveNumbers : Procedure → List Stmt → List ℕ → Type 0
-HaveNumbers p ss ns =
-    (k : ℕ) (d : Stmt) → k < length ss → AreNumbered p (slice_index ns k) (loops (statement_of (slice_index_or ss k d)))
+  pub shows : Shows new i g
 
 -- the steps that are kept come from these origins, one by one
 abbrev pub AreHeld : List Node → List Origin → List kept_step.PathStep → Type 0
-AreHeld ns [] [] = Unit {0}
-AreHeld ns [] (r ∷ rs) = ⊥
-AreHeld ns (o ∷ os) [] = ⊥
-AreHeld ns (o ∷ os) (r ∷ rs) = KeepsStep (step_from ns o) r × AreHeld ns os rs
+AreHeld ns os rs = map step_of rs ≡ steps_from ns os
 
 -- where the steps rs come from the origins os, the steps qs come from the origins ps
 abbrev pub KeepsHeld : List Node → List Origin → List kept_step.PathStep → List Origin → List kept_step.PathStep → Type 0

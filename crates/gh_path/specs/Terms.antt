@@ -1,6 +1,6 @@
 -- The terms of a path condition, in order of first appearance, and its heap versions.
 use Rattle.std.specs.Prelude.{ℕ, ◌+◌, List, [], ◌∷◌, ◌++◌, length, map, filter, count_by, position, Option, Some, None}
-use Rattle.std.specs.Prelude.{Bool, true, false, ◌==◌, ◌||◌, ◌&&◌, unwrap_or, cond}
+use Rattle.std.specs.Prelude.{Bool, true, false, ◌==◌, ◌||◌, ◌&&◌, unwrap_or, cond, slice_get}
 use Rattle.std.specs.List.{list_any}
 use Rattle.std.specs.Str.{bytes_eq}
 use Rattle.gh_ast.specs.declared.Operand.{Operand}
@@ -12,10 +12,10 @@ use Rattle.gh_ast.specs.Plain.{Formula, empty, comparison, points_to, cell, segm
 use Rattle.gh_ast.specs.Plain.{formula_first}
 use Rattle.gh_ast.specs.Plain.{Statement, set, new, call, choice, loop, Statements, no_statements, statement_first}
 use Rattle.gh_ast.specs.Plain.{Procedure, Program}
-use Rattle.gh_ast.specs.Programs.{Name, names, name_of, parameters_of, results_of, variable_names}
+use Rattle.gh_ast.specs.Programs.{Name, names, parameters_of, results_of, variable_names}
 use Rattle.gh_path.specs.Graphs.{Check, access, entry, loop_entry, returned, loop_end, PathStep, accessed, assume}
-use Rattle.gh_path.specs.Graphs.{assigned, made, written, freed, called, looped, answered}
-use Rattle.gh_path.specs.Conditions.{Condition}
+use Rattle.gh_path.specs.Graphs.{assigned, made, written, freed, called, looped, answered, Loop, loops_of, Start, meets_at}
+use Rattle.gh_path.specs.Paths.{Way}
 
 -- null; the value of a variable or of a new cell; the successor of a term in a version of the heap
 pub data Kind : Type 0 where
@@ -162,11 +162,6 @@ abbrev mutual
   some_assigns no_statements y = false
   some_assigns (statement_first s ss) y = assigns s y || some_assigns ss y
 
--- the procedure that a call means
-abbrev pub callee_in : List Procedure → Name → Option Procedure
-callee_in [] f = None
-callee_in (p ∷ ps) f = cond (bytes_eq (name_of p) f) (Some p) (callee_in ps f)
-
 -- the callee's parameters are bound to the arguments' terms, and nothing else is
 abbrev pub bound_inside : Procedure → List ℕ → Bindings
 bound_inside p ts = all_bound unbound (parameters_of p) ts
@@ -185,47 +180,57 @@ call_walked (Some p) xs ts s = answered_inside p xs s.bindings (rebound s (bound
 abbrev pub exprs_terms : List Expr → Terms → List ℕ
 exprs_terms es s = map (λ e. expr_term e s) es
 
--- the terms of one step; `xs` are the variables of the procedure
-abbrev pub step_walked : Program → List Name → PathStep → Terms → Terms
-step_walked P xs (accessed o) s = followed o.name (used o.name s)
-step_walked P xs (assume l e r way) s = expr_used r (expr_used l s)
-step_walked P xs (assigned x e) s = let t = expr_used e s in rebound t (bound t.bindings x.name (expr_term e t))
-step_walked P xs (made x) s =
-    terms (with_value (with_value s.kinds)) (bound s.bindings x.name (length s.kinds)) (s.version + 1)
-step_walked P xs (written x e) s = moved_on (expr_used e (used x.name s))
-step_walked P xs (freed x) s = moved_on (used x.name s)
-step_walked P xs (called ys f es) s = let t = exprs_used es s in call_walked (callee_in P.procedures f.name) (names ys) (exprs_terms es t) t
-step_walked P xs (looped l) s = walked l.invariant (renewed (filter (some_assigns l.body) xs) (moved_on (walked l.invariant s)))
-step_walked P xs (answered ys es) s = let t = exprs_used es s in rebound t (all_bound t.bindings ys (exprs_terms es t))
+-- what a loop keeps to is walked, the variables that its body assigns get new values in the next version, and what it
+-- keeps to is walked there
+abbrev pub loop_walked : Option Loop → List Name → Terms → Terms
+loop_walked None xs s = s
+loop_walked (Some l) xs s = walked l.invariant (renewed (filter (some_assigns l.body) xs) (moved_on (walked l.invariant s)))
 
-abbrev pub steps_walked : Program → List Name → List PathStep → Terms → Terms
-steps_walked P xs [] s = s
-steps_walked P xs (p ∷ ps) s = steps_walked P xs ps (step_walked P xs p s)
+-- the terms of one step of a path of the procedure p
+abbrev pub step_walked : Program → Procedure → PathStep → Terms → Terms
+step_walked P p (accessed o) s = followed o.name (used o.name s)
+step_walked P p (assume l e r) s = expr_used r (expr_used l s)
+step_walked P p (assigned x e) s = let t = expr_used e s in rebound t (bound t.bindings x.name (expr_term e t))
+step_walked P p (made x) s =
+    terms (with_value (with_value s.kinds)) (bound s.bindings x.name (length s.kinds)) (s.version + 1)
+step_walked P p (written x e) s = moved_on (expr_used e (used x.name s))
+step_walked P p (freed x) s = moved_on (used x.name s)
+step_walked P p (called ys n es) s = let t = exprs_used es s in call_walked (slice_get P.procedures n) (names ys) (exprs_terms es t) t
+step_walked P p (looped n) s = loop_walked (slice_get (loops_of p) n) (variable_names p) s
+step_walked P p (answered es) s = let t = exprs_used es s in rebound t (all_bound t.bindings (results_of p) (exprs_terms es t))
+
+abbrev pub steps_walked : Program → Procedure → List PathStep → Terms → Terms
+steps_walked P p [] s = s
+steps_walked P p (x ∷ xs) s = steps_walked P p xs (step_walked P p x s)
 
 abbrev pub entry_walked : Option Procedure → List ℕ → Terms → Terms
 entry_walked None ts s = s
 entry_walked (Some p) ts s = walked p.needs (rebound s (bound_inside p ts))
 
+abbrev pub invariant_walked : Option Loop → Terms → Terms
+invariant_walked None s = s
+invariant_walked (Some l) s = walked l.invariant s
+
 -- the terms of the check, in the last version
-abbrev pub check_walked : Program → Check → Terms → Terms
-check_walked P (access o) s = used o.name s
-check_walked P (entry f es) s = let t = exprs_used es s in entry_walked (callee_in P.procedures f.name) (exprs_terms es t) t
-check_walked P (loop_entry l) s = walked l.invariant s
-check_walked P (returned at fs) s = each_walked fs s
-check_walked P (loop_end l) s = walked l.invariant s
+abbrev pub check_walked : Program → Procedure → Check → Terms → Terms
+check_walked P p (access o) s = used o.name s
+check_walked P p (entry at n es) s = let t = exprs_used es s in entry_walked (slice_get P.procedures n) (exprs_terms es t) t
+check_walked P p (loop_entry at n) s = invariant_walked (slice_get (loops_of p) n) s
+check_walked P p (returned at) s = each_walked p.gives s
+check_walked P p (loop_end at n) s = invariant_walked (slice_get (loops_of p) n) s
 
 -- null alone, no variable with a term, the first version
 abbrev pub no_terms : Terms
 no_terms = terms (null ∷ []) unbound 0
 
--- the start assertion, the steps, and the check
-abbrev pub condition_walked : Program → Condition → Terms
-condition_walked P c = check_walked P c.way.check (steps_walked P (variable_names c.procedure) c.way.steps (walked c.start.meets no_terms))
+-- the start assertion, the steps, and the check of a way of the procedure p
+abbrev pub way_walked : Program → Procedure → Start → Way → Terms
+way_walked P p a w = check_walked P p w.check (steps_walked P p w.steps (walked (meets_at p a) no_terms))
 
--- the kinds of the terms of a condition, each at its term
-abbrev pub terms_of : Program → Condition → List Kind
-terms_of P c = (condition_walked P c).kinds
+-- the kinds of the terms, each at its term
+abbrev pub terms_of : Program → Procedure → Start → Way → List Kind
+terms_of P p a w = (way_walked P p a w).kinds
 
--- how many versions of the heap a condition has
-abbrev pub versions_of : Program → Condition → ℕ
-versions_of P c = (condition_walked P c).version + 1
+-- how many versions of the heap there are
+abbrev pub versions_of : Program → Procedure → Start → Way → ℕ
+versions_of P p a w = (way_walked P p a w).version + 1

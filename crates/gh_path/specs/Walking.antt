@@ -1,8 +1,7 @@
--- Loops as the text has them, and their numbers.
-use Rattle.std.specs.Prelude.{◌≡◌, ℕ, ◌+◌, ◌<◌, ◌++◌, List, map, slice_get, Some}
-use Rattle.gh_ast.specs.Plain.{test_of, formula_of, part_of, Procedure}
+-- Loops as the text has them.
+use Rattle.std.specs.Prelude.{◌≡◌, ◌++◌, List, map}
+use Rattle.gh_ast.specs.Plain.{test_of, formula_of, part_of}
 use Rattle.gh_path.specs.Graphs.{Loop, while}
-use Rattle.gh_path.specs.Kept.{IsLoop}
 use Rattle.gh_path.specs.declared.loops.While.{While}
 
 abbrev pub loop_of : While → Loop
@@ -11,7 +10,3 @@ loop_of w = while w.at (test_of w.test.now) (formula_of w.invariant.now) (part_o
 -- these loops are added to those that were found before
 abbrev pub AddsLoops : List Loop → List While → List While → Type 0
 AddsLoops ls old new = map loop_of new ≡ map loop_of old ++ ls
-
--- the loops of the list have the numbers from n on, unless n is where counts of loops stop
-abbrev pub AreNumbered : Procedure → ℕ → List Loop → Type 0
-AreNumbered p n ls = n < 4294967295 → (j : ℕ) (l : Loop) → slice_get ls j ≡ Some l → IsLoop p (n + j) l

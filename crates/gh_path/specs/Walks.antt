@@ -1,16 +1,15 @@
 -- A walk over the conditions of a program, one at a time.
-use Rattle.std.specs.Prelude.{◌≡◌, ◌≢◌, ℕ, ◌-◌, ◌<◌, List, [], ◌∷◌, ◌++◌, map, length, drop, Option, Some, None, Ok}
+use Rattle.std.specs.Prelude.{◌≡◌, ◌≢◌, ℕ, ◌-◌, ◌<◌, List, [], ◌∷◌, ◌++◌, length, drop, Option, Some, None, Ok}
 use Rattle.std.specs.Prelude.{Err, Bool, true, false}
 use Rattle.std.specs.declared.result.Result.{Result}
 use Rattle.std.specs.declared.alloc.AllocError.{AllocError}
-use Rattle.gh_ast.specs.Plain.{Procedure, Program}
-use Rattle.gh_path.specs.Graphs.{Start}
+use Rattle.gh_ast.specs.Plain.{Program}
 use Rattle.gh_path.specs.Paths.{Way}
-use Rattle.gh_path.specs.Conditions.{Condition, condition}
-use Rattle.gh_path.specs.Kept.{StandsFor}
-use Rattle.gh_path.specs.Shown.{AreShown, AreHeld, IsAsked, step_from}
-use Rattle.gh_path.specs.Routes.{AreToCome}
-use Rattle.gh_path.specs.Roots.{IsRoot, AreRoots, AreStarts, AreFrom}
+use Rattle.gh_path.specs.Conditions.{Condition, condition, course}
+use Rattle.gh_path.specs.Kept.{start_of, condition_of}
+use Rattle.gh_path.specs.Shown.{AreHeld, asked_of}
+use Rattle.gh_path.specs.Routes.{way, steps_taken, AreToCome}
+use Rattle.gh_path.specs.Roots.{on_ways, AreRoots, AreStarts, AreFrom}
 use Rattle.gh_path.specs.declared.condition.Condition as kept
 use Rattle.gh_path.specs.declared.node.Asked.{Asked}
 use Rattle.gh_path.specs.declared.starts.Sought.{Sought}
@@ -20,14 +19,11 @@ use Rattle.gh_path.specs.declared.walk.Walk.{Walk}
 -- the conditions that are still to come: from the present start, and from those after it. The steps of the condition
 -- that is lent come from the origins that are held
 pub record AreLeft (P : Program) (s : Walk) (cs : List Condition) : Type 0 where
-  pub procedure : Procedure
-  pub start : Start
   pub ways : List Way
   pub later : List Condition
-  pub root : IsRoot P s.starts.now.nodes s.present procedure start
-  pub here : AreToCome P procedure s.starts.now.nodes s.route.taken.items s.route.onward ways
+  pub here : AreToCome s.starts.now.nodes s.route.taken.items s.route.onward ways
   pub after : AreRoots P s.starts.now.nodes (drop s.next s.starts.now.roots.items) later
-  pub are : cs ≡ map (condition procedure start) ways ++ later
+  pub are : cs ≡ on_ways s.present.procedure (start_of s.present.start) ways ++ later
   pub held : AreHeld s.starts.now.nodes s.held.items s.condition.steps.items
 
 -- these conditions of a program are still to come
@@ -52,14 +48,16 @@ WalksFrom s end n w =
 abbrev pub PassesTo : Walk → ℕ → Walk → Type 0
 PassesTo s n t = (P : Program) (cs : List Condition) → IsBefore P s cs → IsBefore P t (drop (n - s.given) cs)
 
--- the first of some conditions is come to, and the others are still to come
+-- from the present start, over the steps that were taken, to a check
+abbrev pub come_to : Walk → Asked → Condition
+come_to s a =
+    condition s.present.procedure
+    (course (start_of s.present.start) (way (steps_taken s.starts.now.nodes s.route.taken.items) (asked_of a)))
+
+-- it is the first of some conditions, and the others are still to come
 pub record IsAt (P : Program) (s : Walk) (a : Asked) (cs : List Condition) : Type 0 where
-  pub first : Condition
   pub rest : List Condition
-  pub are : cs ≡ first ∷ rest
-  pub root : IsRoot P s.starts.now.nodes s.present first.procedure first.start
-  pub shown : AreShown P first.procedure (map (λ t. step_from s.starts.now.nodes t.origin) s.route.taken.items) first.way.steps
-  pub asked : IsAsked P first.procedure a first.way.check
+  pub are : cs ≡ come_to s a ∷ rest
   pub left : AreLeft P s rest
 
 abbrev pub HasCome : Program → Walk → Option Asked → List Condition → Type 0
@@ -74,7 +72,7 @@ Reaches s t found = (P : Program) (cs : List Condition) → AreLeft P s cs → H
 abbrev pub IsNextKept : Program → Walk → Bool → List Condition → Type 0
 IsNextKept P s false cs = cs ≡ []
 IsNextKept P s true cs =
-    (c : Condition) × (ds : List Condition) × (cs ≡ c ∷ ds) × StandsFor P s.condition c × AreLeft P s ds
+    (ds : List Condition) × (cs ≡ condition_of s.condition ∷ ds) × AreLeft P s ds
 
 -- the next condition that is still to come is kept, if there is one
 abbrev pub Gives : Walk → Walk → Bool → Type 0
@@ -86,15 +84,15 @@ KeepsLeft s t = (P : Program) (cs : List Condition) → AreLeft P s cs → AreLe
 
 -- what is given where some conditions are to come, and what is to come then: none exactly where nothing is to come; an
 -- error only where something is, and then nothing is to come any more
-abbrev pub IsItem : Program → List Condition → Option (Result kept.Condition AllocError) → List Condition → Type 0
-IsItem P cs None ds = (cs ≡ []) × (ds ≡ [])
-IsItem P cs (Some (Ok r)) ds = (c : Condition) × (cs ≡ c ∷ ds) × StandsFor P r c
-IsItem P cs (Some (Err e)) ds = (cs ≢ []) × (ds ≡ [])
+abbrev pub IsItem : List Condition → Option (Result kept.Condition AllocError) → List Condition → Type 0
+IsItem cs None ds = (cs ≡ []) × (ds ≡ [])
+IsItem cs (Some (Ok r)) ds = cs ≡ condition_of r ∷ ds
+IsItem cs (Some (Err e)) ds = (cs ≢ []) × (ds ≡ [])
 
 -- one item more
 abbrev pub IsGiven : Walk → Option (Result kept.Condition AllocError) → Walk → Type 0
 IsGiven s r t =
-    (P : Program) (cs : List Condition) → IsBefore P s cs → (ds : List Condition) × IsItem P cs r ds × IsBefore P t ds
+    (P : Program) (cs : List Condition) → IsBefore P s cs → (ds : List Condition) × IsItem cs r ds × IsBefore P t ds
 
 -- an item that is lent: the condition itself, none, or an error
 abbrev pub lent : Result Bool AllocError → kept.Condition → Option (Result kept.Condition AllocError)

@@ -49,8 +49,8 @@ impl<'t> Conditions<'t> {
     pub(crate) fn new(typed: &'t Typed, aheads: &[Ahead], starts: Starts<'t>) -> Conditions<'t>
         requires few { AreFew (program_of typed.now) }
         requires counts { aheads.now ≡ map procedure_ahead (program_of typed.now).procedures }
-        requires paths { NoneHas (program_of typed.now) HasManyPaths }
-        requires steps { NoneHas (program_of typed.now) HasManySteps }
+        requires paths { NoneHas (program_of typed.now) (HasManyPaths (program_of typed.now)) }
+        requires steps { NoneHas (program_of typed.now) (HasManySteps (program_of typed.now)) }
         requires starts { AreStarts (program_of typed.now) starts (conditions (program_of typed.now)) }
         ensures { result ≡ typed.now }
     {

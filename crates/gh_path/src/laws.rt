@@ -1,9 +1,9 @@
 //! Laws of paths and of the list of conditions.
 
-ghost use Rattle.gh_path.specs.Laws.{PathsAreOrdered, PathsHaveOneList, AllAreListed, KeptStandForOne, ExamplesHold};
-ghost use Rattle.gh_path.specs.Laws.{CalleesAreDeclared, AssignsDecides};
+ghost use Rattle.gh_path.specs.Laws.{PathsAreOrdered, PathsHaveOneList, AllAreListed, NumbersAreThere, ExamplesHold};
+ghost use Rattle.gh_path.specs.Laws.{CalleesAreNumbered, AssignsDecides};
 
-/// No path stands before itself, and the order goes over.
+/// No path of a graph stands before itself, and the order goes over.
 pub fn paths_are_ordered()
     ensures { PathsAreOrdered }
 {}
@@ -18,9 +18,9 @@ pub fn all_are_listed()
     ensures { AllAreListed }
 {}
 
-/// A condition as it is kept stands for at most one condition of a program.
-pub fn kept_stand_for_one()
-    ensures { KeptStandForOne }
+/// The numbers in the conditions of a typed program are those of procedures and loops.
+pub fn numbers_are_there()
+    ensures { NumbersAreThere }
 {}
 
 /// The conditions of two small programs.
@@ -28,9 +28,9 @@ pub fn examples_hold()
     ensures { ExamplesHold }
 {}
 
-/// The walk of terms finds the procedure that a call means.
-pub fn callees_are_declared()
-    ensures { CalleesAreDeclared }
+/// The number that a call has is that of the procedure which it means.
+pub fn callees_are_numbered()
+    ensures { CalleesAreNumbered }
 {}
 
 /// The walk of terms knows which variables a statement assigns.

@@ -1,7 +1,7 @@
 //! The limits on the number of conditions and on the steps of their paths.
 
 ghost use Rattle.std.specs.Prelude.{◌≡◌, map, min};
-ghost use Rattle.gh_ast.specs.Plain.{procedure_of};
+ghost use Rattle.gh_ast.specs.Plain.{Program, procedure_of};
 ghost use Rattle.gh_path.specs.Counting.{procedure_ahead, all_counts};
 ghost use Rattle.gh_path.specs.Refusals.{IsPathsLimit, IsStepsLimit};
 
@@ -12,7 +12,7 @@ use gh_ast::typed::Limit;
 /// The limit on the conditions of a procedure, where it is passed.
 pub fn paths_limit(procedures: &[Procedure], aheads: &[Ahead]) -> Option<Limit>
     requires { aheads.now ≡ map procedure_ahead (map procedure_of procedures.now) }
-    ensures { IsPathsLimit (map procedure_of procedures.now) result }
+    ensures { (P : Program) → IsPathsLimit P (map procedure_of procedures.now) result }
 {
     for (place, ahead) in aheads.iter().enumerate() {
         if ahead.count > MOST_CONDITIONS {
@@ -29,7 +29,7 @@ pub fn paths_limit(procedures: &[Procedure], aheads: &[Ahead]) -> Option<Limit>
 /// The limit on the steps of a condition, where it is passed.
 pub fn steps_limit(procedures: &[Procedure], aheads: &[Ahead]) -> Option<Limit>
     requires { aheads.now ≡ map procedure_ahead (map procedure_of procedures.now) }
-    ensures { IsStepsLimit (map procedure_of procedures.now) result }
+    ensures { (P : Program) → IsStepsLimit P (map procedure_of procedures.now) result }
 {
     for (place, ahead) in aheads.iter().enumerate() {
         if ahead.reach > MOST_STEPS + 1 {

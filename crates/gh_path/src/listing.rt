@@ -37,8 +37,8 @@ impl From<AllocError> for ConditionsError {
 /// before those that go on from it, and the way of a true comparison before that of its opposite.
 pub fn conditions(alloc: Global, typed: &Typed) -> Result<Conditions<'_>, ConditionsError>
     ensures same { IfOk result (λ c. c ≡ typed.now) }
-    ensures paths { OnOk result (NoneHas (program_of typed.now) HasManyPaths) }
-    ensures steps { OnOk result (NoneHas (program_of typed.now) HasManySteps) }
+    ensures paths { OnOk result (NoneHas (program_of typed.now) (HasManyPaths (program_of typed.now))) }
+    ensures steps { OnOk result (NoneHas (program_of typed.now) (HasManySteps (program_of typed.now))) }
     ensures refused { IfErr result (IsConditionsRefusal (program_of typed.now)) }
 {
     let procedures = typed.program().procedures.as_slice();

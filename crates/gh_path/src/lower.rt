@@ -20,7 +20,7 @@ impl<'t> Walker<'t> {
     ) -> Result<usize, AllocError>
         requires below { next < length nodes.now }
         ensures grows { IfOk result (Grows nodes.old nodes.new) }
-        ensures adds { IfOk result (AddsBefore self.now (visits at.now) nodes.old next nodes.new) }
+        ensures adds { IfOk result (AddsBefore (visits at.now) nodes.old next nodes.new) }
     {
         let asked = Asked {
             goal: Goal::Access { at: &at.name },
@@ -40,7 +40,7 @@ impl<'t> Walker<'t> {
     ) -> Result<usize, AllocError>
         requires below { next < length nodes.now }
         ensures grows { IfOk result (Grows nodes.old nodes.new) }
-        ensures adds { IfOk result (AddsBefore self.now (reads expr.now) nodes.old next nodes.new) }
+        ensures adds { IfOk result (AddsBefore (reads expr.now) nodes.old next nodes.new) }
     {
         match expr {
             Expr::Plain(_) => Ok(next),
@@ -57,7 +57,7 @@ impl<'t> Walker<'t> {
     ) -> Result<usize, AllocError>
         requires below { next < length nodes.now }
         ensures grows { IfOk result (Grows nodes.old nodes.new) }
-        ensures adds { IfOk result (AddsBefore self.now (all_reads exprs.now) nodes.old next nodes.new) }
+        ensures adds { IfOk result (AddsBefore (all_reads exprs.now) nodes.old next nodes.new) }
     {
         let mut place = next;
         let mut left = exprs.len();
@@ -80,7 +80,7 @@ impl<'t> Walker<'t> {
         requires yes { yes < length nodes.now }
         requires no { no < length nodes.now }
         ensures grows { IfOk result (Grows nodes.old nodes.new) }
-        ensures adds { IfOk result (AddsChoice self.now (tested (test_of test.now)) nodes.old yes no nodes.new) }
+        ensures adds { IfOk result (AddsChoice (tested (test_of test.now)) nodes.old yes no nodes.new) }
     {
         match test {
             Cond::Compare { left, equal, right } => {
@@ -114,8 +114,7 @@ impl<'t> Walker<'t> {
         requires yes { yes < length nodes.now }
         requires no { no < length nodes.now }
         ensures grows { IfOk result (Grows nodes.old nodes.new) }
-        ensures adds { IfOk result
-            (AddsChoice self.now (all_tested (tests_view tests.now)) nodes.old yes no nodes.new) }
+        ensures adds { IfOk result (AddsChoice (all_tested (tests_view tests.now)) nodes.old yes no nodes.new) }
     {
         let mut place = yes;
         let mut left = tests.len();
@@ -138,8 +137,7 @@ impl<'t> Walker<'t> {
         requires yes { yes < length nodes.now }
         requires no { no < length nodes.now }
         ensures grows { IfOk result (Grows nodes.old nodes.new) }
-        ensures adds { IfOk result
-            (AddsChoice self.now (some_tested (tests_view tests.now)) nodes.old yes no nodes.new) }
+        ensures adds { IfOk result (AddsChoice (some_tested (tests_view tests.now)) nodes.old yes no nodes.new) }
     {
         let mut place = no;
         let mut left = tests.len();

@@ -2,7 +2,8 @@
 
 ghost use Rattle.std.specs.Prelude.{◌≡◌, ◌<◌, length, slice_index, IfOk};
 ghost use Rattle.gh_ast.specs.Plain.{statement_of, statements_view, set, write, free, call, give};
-ghost use Rattle.gh_path.specs.Callees.{HasCallee};
+ghost use Rattle.gh_ast.specs.Limits.{AreFew};
+ghost use Rattle.gh_path.specs.Callees.{IsKnown};
 ghost use Rattle.gh_path.specs.Lowered.{program_in, Suits, AllSuit, EachSuits, SuitEach, SuitsAt};
 ghost use Rattle.gh_path.specs.Lowered.{Grows, AddsPlain, AddsEnd, AddsPass, AddsStatement, AddsBlock, AreFirstLoops};
 
@@ -97,7 +98,8 @@ impl<'t> Walker<'t> {
         next: usize,
         nodes: &mut Nodes<'t>,
     ) -> Result<usize, AllocError>
-        requires known { HasCallee (program_in self.now) callee.now.name }
+        requires known { IsKnown (program_in self.now) callee.now.name }
+        requires few { AreFew (program_in self.now) }
         requires below { next < length nodes.now }
         ensures grows { IfOk result (Grows nodes.old nodes.new) }
         ensures adds { IfOk result
@@ -149,10 +151,10 @@ impl<'t> Walker<'t> {
         next: usize,
         nodes: &mut Nodes<'t>,
     ) -> Result<usize, AllocError>
-        requires few { number < 65536 }
+        requires low { number < 65536 }
         requires below { next < length nodes.now }
         ensures grows { IfOk result (Grows nodes.old nodes.new) }
-        ensures adds { IfOk result (AddsPass self.now span test.now number nodes.old next nodes.new) }
+        ensures adds { IfOk result (AddsPass span test.now number nodes.old next nodes.new) }
     {
         let number = number as u16;
         let dead = nodes.add(Node::DeadEnd)?;

@@ -1,8 +1,8 @@
 //! Bodies as nodes that lead to one another, with steps and checks as the text has them.
 
-ghost use Rattle.std.specs.Prelude.{◌≡◌, ◌+◌, ◌∷◌, ◌++◌, [], length, not, slice_get, slice_index_or, Some, IfOk, OnOk};
+ghost use Rattle.std.specs.Prelude.{◌≡◌, ◌+◌, ◌∷◌, ◌++◌, [], length, slice_get, slice_index_or, Some, IfOk, OnOk};
 ghost use Rattle.gh_path.specs.Shown.{KeepsStep, KeepsGoal, KeepsAsked, LeadsBelow, from, with_opposite, step_past};
-ghost use Rattle.gh_path.specs.Shown.{step_from};
+ghost use Rattle.gh_path.specs.Shown.{step_from, opposite};
 ghost use Rattle.gh_path.specs.declared.node.Node.{Node as Plain};
 ghost use Rattle.gh_path.specs.declared.node.Node.TheVariants.{DeadEnd};
 
@@ -229,7 +229,7 @@ impl Origin {
 
     /// On the other way of the comparison.
     pub(crate) fn opposite(self) -> Origin
-        ensures { result ≡ record { place = self.place; turned = not self.turned } }
+        ensures { result ≡ opposite self }
     {
         Origin {
             place: self.place,

@@ -1,7 +1,6 @@
 //! A walk over the ways of a graph, which shares the steps that two neighbouring ways begin with.
 
 ghost use Rattle.std.specs.Prelude.{◌≡◌, ◌+◌, [], List, IfOk, OnOk};
-ghost use Rattle.gh_ast.specs.Plain.{Procedure, Program};
 ghost use Rattle.gh_path.specs.Routes.{AreOn, HasTaken, TurnsBack, LooksAt, GoesOn, BeginsAt, Arrives, IsLess};
 ghost use Rattle.gh_path.specs.Routes.{LooksNearer};
 ghost use Rattle.gh_path.specs.Routes.{weights, weight_of};
@@ -44,7 +43,7 @@ pub struct Route {
 impl Route {
     /// A walk that ended.
     pub fn new(alloc: Global) -> Route
-        ensures { (P : Program) (p : Procedure) (nodes : List Node) → AreOn P p nodes result [] }
+        ensures { (nodes : List Node) → AreOn nodes result [] }
     {
         Route {
             taken: Vec::new(alloc),

@@ -6,11 +6,12 @@ ghost use Rattle.gh_ast.specs.Plain.{Program as Plain, program_of};
 ghost use Rattle.gh_ast.specs.Programs.{body_of};
 ghost use Rattle.gh_ast.specs.Rules.{IsTyped};
 ghost use Rattle.gh_ast.specs.WellFormed.{IsFormedBody, IsWellFormed};
-ghost use Rattle.gh_path.specs.Graphs.{whole_body};
+ghost use Rattle.gh_path.specs.Graphs.{graph_from, whole_body, once_around};
 ghost use Rattle.gh_path.specs.Admitted.{most_conditions, HasManyPaths, NoneHas};
-ghost use Rattle.gh_path.specs.Callees.{AllHaveCallees};
-ghost use Rattle.gh_path.specs.Conditions.{conditions, conditions_of};
-ghost use Rattle.gh_path.specs.Lowered.{program_in, procedure_in, AllSuit, AddsGraph, AddsRound};
+ghost use Rattle.gh_path.specs.Callees.{AllCallsAreKnown};
+ghost use Rattle.gh_path.specs.Conditions.{conditions, courses_of};
+ghost use Rattle.gh_path.specs.Lowered.{program_in, procedure_in, AllSuit};
+ghost use Rattle.gh_path.specs.Shown.{Adds};
 ghost use Rattle.gh_path.specs.Roots.{AreStarts, AddsProcedure, AddsEntry, AddsLoop, IsSoughtIn};
 ghost use Rattle.gh_path.specs.Walking.{loop_of};
 ghost use Rattle.gh_path.specs.declared.starts.Root.{Root as Kept};
@@ -52,7 +53,8 @@ impl<'t> Walker<'t> {
     /// The nodes from the entry on.
     fn lower_entry(&self, alloc: Global, nodes: &mut Nodes<'t>) -> Result<usize, AllocError>
         requires { AllSuit self.now 0 (body_of (procedure_in self.now)) }
-        ensures { IfOk result (AddsGraph self.now (whole_body (procedure_in self.now)).graph nodes.old nodes.new) }
+        ensures { IfOk result (λ i.
+            Adds nodes.old nodes.new i (graph_from (program_in self.now) (procedure_in self.now) whole_body)) }
     {
         let goal = Goal::Return;
         let span = self.procedure.close;
@@ -73,7 +75,8 @@ impl<'t> Walker<'t> {
         nodes: &mut Nodes<'t>,
     ) -> Result<usize, AllocError>
         requires { AllSuit self.now (number + 1) (loop_of turn.now).body }
-        ensures { IfOk result (AddsRound self.now number (loop_of turn.now) nodes.old nodes.new) }
+        ensures { IfOk result (λ i.
+            Adds nodes.old nodes.new i (once_around (program_in self.now) number (loop_of turn.now))) }
     {
         let goal = Goal::LoopEnd { number };
         let span = turn.body.close;
@@ -149,7 +152,7 @@ impl<'t> Starts<'t> {
         procedure: u16,
     ) -> Result<(), AllocError>
         requires suits { AllSuit walker.now 0 (body_of (procedure_in walker.now)) }
-        requires few { length (conditions_of (procedure_in walker.now)) ≤ most_conditions }
+        requires few { length (courses_of (program_in walker.now) (procedure_in walker.now)) ≤ most_conditions }
         ensures { OnOk result (AddsEntry walker.now procedure self.old self.new) }
     {
         let node = walker.lower_entry(alloc, &mut self.nodes)?;
@@ -174,7 +177,7 @@ impl<'t> Starts<'t> {
         number: u16,
     ) -> Result<(), AllocError>
         requires suits { AllSuit walker.now (number + 1) (loop_of turn.now).body }
-        requires few { length (conditions_of (procedure_in walker.now)) ≤ most_conditions }
+        requires few { length (courses_of (program_in walker.now) (procedure_in walker.now)) ≤ most_conditions }
         ensures { OnOk result (AddsLoop walker.now procedure number (loop_of turn.now) self.old self.new) }
     {
         let node = walker.lower_round(alloc, turn, number, &mut self.nodes)?;
@@ -196,8 +199,9 @@ impl<'t> Starts<'t> {
         walker: &Walker<'t>,
         procedure: u16,
     ) -> Result<(), AllocError>
-        requires callees { AllHaveCallees (program_in walker.now) (body_of (procedure_in walker.now)) }
-        requires few { length (conditions_of (procedure_in walker.now)) ≤ most_conditions }
+        requires procedures { AreFew (program_in walker.now) }
+        requires callees { AllCallsAreKnown (program_in walker.now) (body_of (procedure_in walker.now)) }
+        requires few { length (courses_of (program_in walker.now) (procedure_in walker.now)) ≤ most_conditions }
         requires formed { IsFormedBody (procedure_in walker.now).body }
         ensures { OnOk result (AddsProcedure walker.now procedure self.old self.new) }
     {
@@ -215,7 +219,7 @@ pub fn starts_of(alloc: Global, program: &Program) -> Result<Starts<'_>, AllocEr
     requires typed { IsTyped (program_of program.now) }
     requires few { AreFew (program_of program.now) }
     requires formed { IsWellFormed (program_of program.now) }
-    requires paths { NoneHas (program_of program.now) HasManyPaths }
+    requires paths { NoneHas (program_of program.now) (HasManyPaths (program_of program.now)) }
     ensures { IfOk result (λ s. AreStarts (program_of program.now) s (conditions (program_of program.now))) }
 {
     let mut starts = Starts::new(alloc);

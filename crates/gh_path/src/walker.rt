@@ -1,8 +1,9 @@
 //! A procedure in its program.
 
 ghost use Rattle.std.specs.Prelude.{◌≡◌, ◌↔◌, IsTrue};
-ghost use Rattle.gh_path.specs.Kept.{IsCallee};
-ghost use Rattle.gh_path.specs.Callees.{HasCallee};
+ghost use Rattle.gh_ast.specs.Limits.{AreFew};
+ghost use Rattle.gh_path.specs.Graphs.{number_of};
+ghost use Rattle.gh_path.specs.Callees.{IsKnown};
 ghost use Rattle.gh_path.specs.Lowered.{program_in};
 
 use gh_ast::{Occ, Procedure, Program};
@@ -24,8 +25,9 @@ pub struct Walker<'t> {
 impl<'t> Walker<'t> {
     /// The number of the procedure that a call names.
     pub(crate) fn callee(&self, callee: &Occ) -> u16
-        requires { HasCallee (program_in self.now) callee.now.name }
-        ensures { IsCallee (program_in self.now) result callee.now.name }
+        requires known { IsKnown (program_in self.now) callee.now.name }
+        requires few { AreFew (program_in self.now) }
+        ensures { result ≡ number_of (program_in self.now) callee.now.name }
     {
         let procedures = self.program.procedures.as_slice();
         let name = callee.name.bytes();

@@ -5,7 +5,7 @@ use Rattle.std.proofs.Math.Seq.{drop-cons}
 use Rattle.std.proofs.lemmas.List.{length-map}
 use Rattle.gh_base.specs.declared.term.TermKind.{TermKind}
 use Rattle.gh_base.specs.Grounds.{Problem}
-use Rattle.gh_ast.specs.Plain.{Program}
+use Rattle.gh_ast.specs.Plain.{Procedure, Program}
 use Rattle.gh_path.specs.Conditions.{Condition}
 use Rattle.gh_path.specs.Terms.{Kind}
 use Rattle.gh_symb.specs.Symbolic as plain
@@ -59,8 +59,8 @@ finished s p q n v e terms versions h =
     h
     ∙ ap (λ (x : Problem). stated_in x (claims s)) (e ∙ ap (λ (k : ℕ). empty_problem k v) terms ∙ ap (empty_problem (length s.terms)) versions)
 
-pub told_problem : (P : Program) (c : Condition) (s : Symbolic) (q : Problem) → IsSymbolic P c s → q ≡ problem (plain_of s) → q ≡ problem (plain.symbolic_of P c)
-told_problem P c s q h e = e ∙ ap problem (encoded_is P c s h)
+pub told_problem : (P : Program) (p : Procedure) (c : Condition) (s : Symbolic) (q : Problem) → IsSymbolic P p c s → q ≡ problem (plain_of s) → q ≡ problem (plain.symbolic_of P p c)
+told_problem P p c s q h e = e ∙ ap problem (encoded_is P p c s h)
 
 -- what a condition says of its terms and versions, at the numbers of a problem
 pub record InsideAt (n v : ℕ) (kinds : List Kind) (s : plain.Symbolic) : Type 0 where

@@ -1,15 +1,14 @@
 -- The clauses of the smallest program, and of one that gives one of two assertions.
-use Rattle.std.specs.Prelude.{◌≡◌, ℕ, List, ◌++◌, ◌+◌, [], ◌∷◌, map, true, false}
+use Rattle.std.specs.Prelude.{◌≡◌, ℕ, List, ◌++◌, ◌+◌, [], ◌∷◌, true, false}
 use Rattle.gh_base.specs.declared.atom.Atom.TheVariants.{Hop, Alloc, Def}
 use Rattle.gh_base.specs.declared.atom.Lit.{Lit}
 use Rattle.gh_base.specs.Grounds.{Problem}
 use Rattle.gh_ast.specs.Plain.{empty, Program}
-use Rattle.gh_path.specs.Conditions.{conditions}
 use Rattle.gh_path.specs.Examples.{at}
 use Rattle.gh_grass.specs.Bindings.{term}
 use Rattle.gh_symb.specs.Symbolic.{symbolic_of}
 use Rattle.gh_symb.specs.Formulas.{problem}
-use Rattle.gh_symb.specs.Examples.{nop, smallest}
+use Rattle.gh_symb.specs.Examples.{nop, smallest, all_told}
 
 abbrev pub D : ℕ → Lit
 D k = record { atom = Def k; positive = true }
@@ -65,7 +64,7 @@ smallest_problem =
     }
 
 abbrev pub SmallestHolds : Type 0
-SmallestHolds = map (λ c. problem (symbolic_of smallest c)) (conditions smallest) ≡ smallest_problem ∷ []
+SmallestHolds = all_told (λ p c. problem (symbolic_of smallest p c)) smallest ≡ smallest_problem ∷ []
 
 -- the whole heap meets `emp`, by four definitions from k on
 abbrev pub meets_nothing : ℕ → List (List Lit)
@@ -101,4 +100,4 @@ two_ways_problem =
     }
 
 abbrev pub TwoWaysHold : Type 0
-TwoWaysHold = map (λ c. problem (symbolic_of two_ways c)) (conditions two_ways) ≡ two_ways_problem ∷ []
+TwoWaysHold = all_told (λ p c. problem (symbolic_of two_ways p c)) two_ways ≡ two_ways_problem ∷ []

@@ -2,7 +2,7 @@
 use Rattle.std.specs.Prelude.{◌≡◌, ℕ, ◌-◌, List, [], ◌∷◌, map, IfOk}
 use Rattle.std.specs.declared.result.Result.{Result}
 use Rattle.std.specs.declared.alloc.AllocError.{AllocError}
-use Rattle.gh_ast.specs.Plain.{Program}
+use Rattle.gh_ast.specs.Plain.{Procedure, Program}
 use Rattle.gh_base.specs.declared.atom.Term.{Term}
 use Rattle.gh_base.specs.declared.term.TermKind.{TermKind}
 use Rattle.gh_base.specs.Grounds.{Problem}
@@ -54,4 +54,5 @@ steps_stated ks steps = steps_claims ks 0 (map step_of steps)
 
 -- where a condition over terms is that of a program's condition, these are the clauses of that
 abbrev pub TellsProblem : Symbolic → Result Problem AllocError → Type 0
-TellsProblem y result = (P : Program) (c : Condition) → IsSymbolic P c y → IfOk result (λ p. p ≡ problem (symbolic_of P c))
+TellsProblem y result =
+    (P : Program) (p : Procedure) (c : Condition) → IsSymbolic P p c y → IfOk result (λ q. q ≡ problem (symbolic_of P p c))

@@ -1,7 +1,7 @@
 -- The rows of a picture.
-use Rattle.std.specs.Prelude.{◌≡◌, ℕ, List, [], ◌∷◌, ◌++◌, Option, Some, None, codes}
+use Rattle.std.specs.Prelude.{◌≡◌, ℕ, List, [], ◌∷◌, ◌++◌, map, Option, Some, None, codes}
 use Rattle.std.specs.FinMap as finite
-use Rattle.gh_ast.specs.Plain.{Program}
+use Rattle.gh_ast.specs.Plain.{Procedure, Program}
 use Rattle.gh_assert.specs.Heaps.{Heap}
 use Rattle.gh_assert.specs.Stores.{store_of}
 use Rattle.gh_lens.specs.declared.exchange.Exchange.{Exchange}
@@ -9,14 +9,14 @@ use Rattle.gh_lens.specs.Handed.{IsHandedOr}
 use Rattle.gh_lens.specs.Lines.{numbers_text}
 use Rattle.gh_lens.specs.Statements.{statement_text}
 use Rattle.gh_path.specs.Graphs.{PathStep}
-use Rattle.gh_path.specs.Kept.{AreSteps}
+use Rattle.gh_path.specs.Kept.{step_of}
 use Rattle.gh_path.specs.declared.condition.PathStep as kept
 use Rattle.gh_picture.specs.declared.scene.Row.{Row}
 use Rattle.gh_scene.specs.Roles.{roles_of, changes_of}
 use Rattle.gh_trace.specs.declared.setting.Setting.{Setting}
 use Rattle.gh_trace.specs.declared.state.State.{State}
 use Rattle.gh_trace.specs.Kept.{state_of}
-use Rattle.gh_trace.specs.Settings.{here, whole, OfStep}
+use Rattle.gh_trace.specs.Settings.{here, whole}
 
 -- the places that are handed over, those that are left aside, and those that came back
 abbrev pub exchange_note : Exchange → List ℕ
@@ -42,11 +42,11 @@ pub record IsRowUnder (statement note : List ℕ) (old : State) (apart spare : H
   pub roles_are : row.roles.items ≡ roles_of old.heap apart spare new.heap
   pub changes_are : row.changes.items ≡ changes_of (store_of old.store) new.store
 
--- the row of the state y, to which a step leads from x
-pub record IsRowOf (P : Program) (s : PathStep) (x y : State) (spare : Heap) (row : Row) : Type 0 where
+-- the row of the state y, to which a step of the procedure p leads from x
+pub record IsRowOf (P : Program) (p : Procedure) (s : PathStep) (x y : State) (spare : Heap) (row : Row) : Type 0 where
   pub exchange : Option Exchange
-  pub handed : IsHandedOr P s (state_of x) (state_of y) exchange
-  pub is : IsRowUnder (statement_text s) (note_text exchange) x (aside exchange) spare y row
+  pub handed : IsHandedOr P p s (state_of x) (state_of y) exchange
+  pub is : IsRowUnder (statement_text P p s) (note_text exchange) x (aside exchange) spare y row
 
 -- the row of the first state, which is compared with itself
 abbrev pub IsStartRow : State → Heap → Row → Type 0
@@ -58,24 +58,23 @@ left_at_end [] spare = spare
 left_at_end (y ∷ ys) spare = finite.empty
 
 -- a row for each state after the first, in turn
-abbrev pub AreRows : Program → List PathStep → List State → Heap → List Row → Type 0
-AreRows P [] xs spare rows = rows ≡ []
-AreRows P (s ∷ ss) [] spare rows = rows ≡ []
-AreRows P (s ∷ ss) (x ∷ []) spare rows = rows ≡ []
-AreRows P (s ∷ ss) (x ∷ y ∷ ys) spare rows =
-    (r : Row) × (rs : List Row) × (rows ≡ r ∷ rs) × IsRowOf P s x y (left_at_end ys spare) r × AreRows P ss (y ∷ ys) spare rs
+abbrev pub AreRows : Program → Procedure → List PathStep → List State → Heap → List Row → Type 0
+AreRows P p [] xs spare rows = rows ≡ []
+AreRows P p (s ∷ ss) [] spare rows = rows ≡ []
+AreRows P p (s ∷ ss) (x ∷ []) spare rows = rows ≡ []
+AreRows P p (s ∷ ss) (x ∷ y ∷ ys) spare rows =
+    (r : Row) × (rs : List Row) × (rows ≡ r ∷ rs) × IsRowOf P p s x y (left_at_end ys spare) r × AreRows P p ss (y ∷ ys) spare rs
 
 -- such rows are added
-pub record AddsRows (P : Program) (ss : List PathStep) (xs : List State) (spare : Heap) (old new : List Row) : Type 0 where
+pub record AddsRows (P : Program) (p : Procedure) (ss : List PathStep) (xs : List State) (spare : Heap) (old new : List Row) : Type 0 where
   pub rest : List Row
   pub whole : new ≡ old ++ rest
-  pub rows : AreRows P ss xs spare rest
+  pub rows : AreRows P p ss xs spare rest
 
 -- the row of a state that a kept step leads to
 abbrev pub IsRowFor : Setting → kept.PathStep → State → State → Heap → Row → Type 0
-IsRowFor setting step x y spare row = OfStep setting step (λ s. IsRowOf (whole setting) s x y spare row)
+IsRowFor setting step x y spare row = IsRowOf (whole setting) (here setting) (step_of step) x y spare row
 
 -- the rows of the states that kept steps lead to are added
 abbrev pub AddsRowsFor : Setting → List kept.PathStep → List State → Heap → List Row → List Row → Type 0
-AddsRowsFor setting steps xs spare old new =
-    (ss : List PathStep) → AreSteps (whole setting) (here setting) steps ss → AddsRows (whole setting) ss xs spare old new
+AddsRowsFor setting steps xs spare old new = AddsRows (whole setting) (here setting) (map step_of steps) xs spare old new

@@ -1,10 +1,10 @@
 -- The scene of a counterexample, and what is answered for a drawing.
 use Rattle.std.specs.Prelude.{◌≡◌, ◌⊎◌, ℕ, ◌-◌, ◌<◌, ◌≤◌, List, ◌∷◌, length, map, Some, slice_get}
-use Rattle.gh_ast.specs.Plain.{Program}
+use Rattle.gh_ast.specs.Plain.{Procedure, Program}
 use Rattle.gh_assert.specs.Heaps.{Heap}
 use Rattle.gh_draw.specs.Descriptions.{description}
-use Rattle.gh_path.specs.Conditions.{Condition, conditions}
-use Rattle.gh_path.specs.Kept.{StandsFor}
+use Rattle.gh_path.specs.Conditions.{Condition, conditions, IsOf}
+use Rattle.gh_path.specs.Kept.{condition_of}
 use Rattle.gh_path.specs.declared.condition.Condition as kept
 use Rattle.gh_picture.specs.declared.scene.Row.{Row}
 use Rattle.gh_picture.specs.declared.scene.Scene.{Scene}
@@ -19,18 +19,20 @@ use Rattle.gh_trace.specs.Traces.{last_state}
 
 -- the description of the condition, the row of the first state, and a row for each later one
 pub record IsSceneOver (P : Program) (c : Condition) (x : State) (ys : List State) (scene : Scene) : Type 0 where
-  pub title : scene.title ≡ description c
+  pub procedure : Procedure
+  pub of : IsOf P c procedure
+  pub title : scene.title ≡ description P c
   pub spare : Heap
-  pub spare_is : IsSpare c.way.check (last_state (state_of x) (map state_of ys)) spare
+  pub spare_is : IsSpare procedure c.way.check (last_state (state_of x) (map state_of ys)) spare
   pub first : Row
   pub rest : List Row
   pub rows : scene.rows.items ≡ first ∷ rest
   pub first_is : IsStartRow x (left_at_end ys spare) first
-  pub rest_are : AreRows P c.way.steps (x ∷ ys) spare rest
+  pub rest_are : AreRows P procedure c.way.steps (x ∷ ys) spare rest
 
--- the scene is over the condition that a kept one stands for
+-- the same of a condition as it is kept
 abbrev pub IsSceneFor : Program → kept.Condition → State → List State → Scene → Type 0
-IsSceneFor P r x ys scene = (c : Condition) → StandsFor P r c → IsSceneOver P c x ys scene
+IsSceneFor P r x ys scene = IsSceneOver P (condition_of r) x ys scene
 
 -- the states are a counterexample of the condition, and the scene shows them
 pub record IsSceneOf (P : Program) (c : Condition) (xs : List State) (scene : Scene) : Type 0 where

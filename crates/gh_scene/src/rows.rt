@@ -1,8 +1,8 @@
 // The rows of a picture.
 
-ghost use Rattle.std.specs.Prelude.{◌≡◌, IfOk};
-ghost use Rattle.gh_path.specs.Kept.{AreSomeSteps, IsSomeStep};
-ghost use Rattle.gh_trace.specs.Settings.{HasLoops, OfStep, here, whole};
+ghost use Rattle.std.specs.Prelude.{◌≡◌, map, All, IfOk};
+ghost use Rattle.gh_path.specs.Kept.{step_of, StepIsThere};
+ghost use Rattle.gh_trace.specs.Settings.{HasLoops, here, whole};
 ghost use Rattle.gh_lens.specs.Statements.{statement_text};
 ghost use Rattle.gh_scene.specs.Rows as told;
 ghost use Rattle.gh_scene.specs.Rows.{AddsRowsFor};
@@ -22,7 +22,7 @@ use std::alloc::{AllocError, Global};
 // The statement of a step, with its line.
 fn statement(alloc: Global, setting: Setting<'_>, step: &PathStep) -> Result<Text, AllocError>
     requires { HasLoops setting }
-    ensures { IfOk result (λ t. OfStep setting.entry step.now (λ s. t ≡ statement_text s)) }
+    ensures { IfOk result (λ t. t ≡ statement_text (whole setting.entry) (here setting.entry) (step_of step.now)) }
 {
     let mut text = Text::new(alloc);
     push_line(alloc, &mut text, step_place(setting.loops, step))?;
@@ -59,7 +59,7 @@ fn step_row(
     spare: &Heap,
 ) -> Result<Row, AllocError>
     requires loops { HasLoops setting }
-    requires one { IsSomeStep (whole setting) (here setting) step.now }
+    requires there { StepIsThere (whole setting) (here setting) (step_of step.now) }
     ensures { IfOk result (told.IsRowFor setting.entry step.now before.now after.now spare.now) }
 {
     let exchange = handed(alloc, setting, step, before, after)?;
@@ -98,7 +98,7 @@ pub fn push_rows(
     spare: &Heap,
 ) -> Result<(), AllocError>
     requires loops { HasLoops setting }
-    requires some { AreSomeSteps (whole setting) (here setting) steps.now }
+    requires there { All (StepIsThere (whole setting) (here setting)) (map step_of steps.now) }
     ensures { IfOk result (λ _.
         AddsRowsFor setting.entry steps.now states.now spare.now rows.old.items rows.new.items) }
 {

@@ -5,7 +5,6 @@ use Rattle.gh_ast.specs.Programs.{variable_names}
 use Rattle.std.specs.Prelude.{slice_get}
 use Rattle.gh_ast.specs.declared.Program as whole
 use Rattle.gh_ast.specs.Rules.{IsTyped}
-use Rattle.gh_trace.specs.Kept.{IsOne}
 use Rattle.gh_session.specs.Laws.{HasEssence}
 use Rattle.gh_ast.specs.Bare.{bare_formula}
 use Rattle.gh_ast.specs.declared.Assertion.{Assertion}
@@ -17,21 +16,23 @@ use Rattle.gh_path.specs.Graphs.{Loop, loops_of}
 use Rattle.gh_path.specs.Terms.{some_assigns}
 use Rattle.gh_path.specs.Walking.{loop_of}
 use Rattle.gh_path.specs.declared.loops.While.{While}
+use Rattle.gh_path.specs.Conditions.{Condition}
+use Rattle.gh_path.specs.Kept.{IsOne, condition_of}
 use Rattle.gh_path.specs.declared.condition.Condition as kept_condition
 use Rattle.gh_session.specs.Essences.{Essence, contract_of, round_of, no_contract, no_round, procedures_of, rounds_of, start_in, step_in, check_in, essence}
 use Rattle.gh_session.specs.Views.{contract_view, round_view, start_view, step_view, check_view, essence_view}
 use Rattle.gh_session.specs.declared.essence.Essence as kept_essence
 
-pub assembled : (P : Program) (p : Procedure) (r : kept_condition.Condition) (e : kept_essence.Essence) (ps ls : List ℕ) (table : List Procedure) (vars : List plain_name.Name) (loops : List Loop) → ps ≡ procedures_of r → ls ≡ rounds_of r → table ≡ P.procedures → vars ≡ variable_names p → loops ≡ loops_of p →
+pub assembled : (P : Program) (p : Procedure) (c : Condition) (e : kept_essence.Essence) (ps ls : List ℕ) (table : List Procedure) (vars : List plain_name.Name) (loops : List Loop) → ps ≡ procedures_of c → ls ≡ rounds_of c → table ≡ P.procedures → vars ≡ variable_names p → loops ≡ loops_of p →
     e.variables.items ≡ variable_names p → map contract_view e.contracts.items ≡ map (λ n. get_or (map contract_of table) n no_contract) ps → map round_view e.loops.items ≡ map (λ n. get_or (map (round_of vars) loops) n no_round) ls →
-    start_view e.start ≡ start_in ls r.start → map step_view e.steps.items ≡ map (step_in ps ls) r.steps.items → check_view e.check ≡ check_in ps ls r.check.kind → essence_view e ≡ essence P p r
-assembled P p r e ps ls table vars loops is_ps is_ls is_table is_vars is_loops variables contracts rounds start steps check = λ i. record {
+    start_view e.start ≡ start_in ls c.start → map step_view e.steps.items ≡ map (step_in ps ls) c.way.steps → check_view e.check ≡ check_in ps ls c.way.check → essence_view e ≡ essence P p c
+assembled P p c e ps ls table vars loops is_ps is_ls is_table is_vars is_loops variables contracts rounds start steps check = λ i. record {
   variables = variables i;
   contracts = (contracts ∙ (λ j. map (λ n. get_or (map contract_of (is_table j)) n no_contract) (is_ps j))) i;
   loops = (rounds ∙ (λ j. map (λ n. get_or (map (round_of (is_vars j)) (is_loops j)) n no_round) (is_ls j))) i;
-  start = (start ∙ (λ j. start_in (is_ls j) r.start)) i;
-  steps = (steps ∙ (λ j. map (step_in (is_ps j) (is_ls j)) r.steps.items)) i;
-  check = (check ∙ (λ j. check_in (is_ps j) (is_ls j) r.check.kind)) i;
+  start = (start ∙ (λ j. start_in (is_ls j) c.start)) i;
+  steps = (steps ∙ (λ j. map (step_in (is_ps j) (is_ls j)) c.way.steps)) i;
+  check = (check ∙ (λ j. check_in (is_ps j) (is_ls j) c.way.check)) i;
 }
 
 -- the alternatives of a procedure at 1:1
@@ -43,6 +44,6 @@ pub made_round : (f : Assertion) (ns : Vec Name Global) (xs : List plain_name.Na
     (let r : kept_round.Round = record { invariant = f; assigned = ns } in round_view r) ≡ round_of xs (loop_of w)
 made_round f ns xs w is named = λ i. record { invariant = is i; assigned = (named ∙ ap (λ ss. filter (some_assigns ss) xs) (sym (part_of-statements w.body.now))) i }
 
-pub gives_essence : (P Q : whole.Program) (r : kept_condition.Condition) (p : Procedure) (E : Essence) → P ≡ Q → IsTyped (program_of P) → IsOne (program_of Q) r → slice_get (program_of P).procedures r.procedure ≡ Some p → E ≡ essence (program_of P) p r →
-    HasEssence (program_of Q) r E
-gives_essence P Q r p E same typed one at is = subst (λ R. IsOne (program_of R) r → HasEssence (program_of R) r E) same (λ o. record { typed = typed; one = o; procedure = p; at = at; is = sym is }) one
+pub gives_essence : (P Q : whole.Program) (r : kept_condition.Condition) (p : Procedure) (E : Essence) → P ≡ Q → IsTyped (program_of P) → IsOne (program_of Q) r → slice_get (program_of P).procedures r.procedure ≡ Some p → E ≡ essence (program_of P) p (condition_of r) →
+    HasEssence (program_of Q) (condition_of r) E
+gives_essence P Q r p E same typed one at is = subst (λ R. IsOne (program_of R) r → HasEssence (program_of R) (condition_of r) E) same (λ o. record { typed = typed; one = o; procedure = p; of = at; is = sym is }) one

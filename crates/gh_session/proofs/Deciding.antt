@@ -1,41 +1,32 @@
 -- A condition has the counterexamples of its essence.
-use Rattle.std.specs.Prelude.{◌≡◌, ◌↔◌, ℕ, List, [], ◌∷◌, ◌++◌, map, flat_map, get_or, slice_get, option_map, Option, Some, None, Bool, true, false, not, nat_eq, Contains}
-use Rattle.std.proofs.Common.{refl, sym, ◌∙◌, ap, subst, inl, inr}
+use Rattle.std.specs.Prelude.{◌≡◌, ◌↔◌, ℕ, zero, suc, ◌<◌, List, [], ◌∷◌, ◌++◌, map, flat_map, length, get_or, slice_get, option_map, Some, true, Contains}
+use Rattle.std.proofs.Common.{refl, sym, ◌∙◌, ap, subst, inl, inr, arith}
 use Rattle.std.proofs.lemmas.Option.{slice_get-map, get_or_from_slice_get}
 use Rattle.std.proofs.lemmas.List.Elements.{Contains-append_left, Contains-append_right}
 use Rattle.gh_base.specs.declared.place.Span.{Span}
 use Rattle.gh_ast.specs.declared.Occ.{Occ}
 use Rattle.gh_ast.specs.declared.Expr.{Expr}
 use Rattle.gh_ast.specs.Plain.{Formula, Procedure, Program}
-use Rattle.gh_ast.specs.Programs.{Name, names, parameters_of, variable_names, Declares}
+use Rattle.gh_ast.specs.Programs.{Name, names, variable_names}
 use Rattle.gh_ast.specs.Bare.{bare_expr, bare_formula}
 use Rattle.gh_ast.proofs.Lists.{member_first, member_later, member_cases, no_member}
-use Rattle.gh_ast.proofs.Declared.{is_one}
 use Rattle.gh_ast.proofs.Sites.{member_map}
 use Rattle.gh_assert.specs.Heaps.{Heap}
-use Rattle.gh_assert.specs.Meaning.{Store, Meaning, HasPart, MeetsOneOf, agrees}
-use Rattle.gh_assert.specs.Values.{result, Give, compared, Gets}
-use Rattle.gh_path.specs.Graphs as graph
+use Rattle.gh_assert.specs.Meaning.{Store, Meaning, HasPart, MeetsOneOf}
+use Rattle.gh_assert.specs.Values.{Give, compared, Gets}
+use Rattle.gh_path.specs.Graphs as path
 use Rattle.gh_path.specs.Graphs.{Loop, loops_of}
-use Rattle.gh_path.specs.Kept.{IsLoop, IsCallee, IsStep, AreSteps, IsStart, IsKind}
-use Rattle.gh_path.specs.declared.condition.PathStep as kept_step
-use Rattle.gh_path.specs.declared.condition.PathStep.TheVariants as step
-use Rattle.gh_path.specs.declared.condition.Start as kept_start
-use Rattle.gh_path.specs.declared.condition.Start.TheVariants as start
-use Rattle.gh_path.specs.declared.condition.CheckKind as kept_kind
-use Rattle.gh_path.specs.declared.condition.CheckKind.TheVariants as kind
-use Rattle.gh_path.specs.declared.condition.Condition as kept_condition
+use Rattle.gh_path.specs.Conditions.{Condition, IsOf}
+use Rattle.gh_path.specs.Kept.{IsLoop, IsCallee, HasLoop, HasCallee, StartIsThere, StepIsThere, CheckIsThere}
+use Rattle.gh_path.proofs.LoopVariables.{NamesIn, assigned_listed, listed_assigned}
 use Rattle.gh_trace.specs.Traces as trace
 use Rattle.gh_trace.specs.Traces.{State, Replaced}
-use Rattle.gh_trace.proofs.Insides.{declares_at}
 use Rattle.gh_session.specs.Numbering.{place}
 use Rattle.gh_session.specs.Essences.{Contract, Round, Essence, contract_of, round_of, no_contract, no_round, callees_in, callees_at, loops_from, loops_in, loops_at, procedures_of, rounds_of, start_in, step_in, check_in, essence}
 use Rattle.gh_session.specs.Meaning.{contract_at, round_at, own, StartsIn}
 use Rattle.gh_session.specs.Meaning as of
-use Rattle.gh_session.specs.Essences as essences
 use Rattle.gh_session.proofs.Placing.{front, at_place}
 use Rattle.gh_session.proofs.Places.{result_stays, results_stay, meaning_stays}
-use Rattle.gh_path.proofs.LoopVariables.{NamesIn, IsOver, AreOver, assigned_listed, listed_assigned}
 
 -- E has the procedures ps of P and the loops ls of p at their places
 pub record Knows (P : Program) (p : Procedure) (ps ls : List ℕ) (E : Essence) : Type 0 where
@@ -51,11 +42,11 @@ looked f d table ns k n a at is =
     ∙ ap (option_map (λ m. get_or (map f table) m d)) at
     ∙ ap Some (get_or_from_slice_get (map f table) n (f a) d (slice_get-map f table n ∙ ap (option_map f) is)))
 
-pub knows : (P : Program) (p : Procedure) (r : kept_condition.Condition) → slice_get P.procedures r.procedure ≡ Some p → Knows P p (procedures_of r) (rounds_of r) (essence P p r)
-knows P p r is = record {
-  own_is = looked contract_of no_contract P.procedures (procedures_of r) 0 r.procedure p (front r.procedure (r.procedure ∷ []) (flat_map callees_in r.steps.items ++ callees_at r.check.kind) refl) is;
-  callees = λ n q there at. looked contract_of no_contract P.procedures (procedures_of r) (place n (procedures_of r)) n q (at_place n (procedures_of r) there) at;
-  loops = λ n l there at. looked (round_of (variable_names p)) no_round (loops_of p) (rounds_of r) (place n (rounds_of r)) n l (at_place n (rounds_of r) there) at;
+pub knows : (P : Program) (p : Procedure) (c : Condition) → IsOf P c p → Knows P p (procedures_of c) (rounds_of c) (essence P p c)
+knows P p c is = record {
+  own_is = looked contract_of no_contract P.procedures (procedures_of c) 0 c.procedure p (front c.procedure (c.procedure ∷ []) (flat_map callees_in c.way.steps ++ callees_at c.way.check) refl) is;
+  callees = λ n q there at. looked contract_of no_contract P.procedures (procedures_of c) (place n (procedures_of c)) n q (at_place n (procedures_of c) there) at;
+  loops = λ n l there at. looked (round_of (variable_names p)) no_round (loops_of p) (rounds_of c) (place n (rounds_of c)) n l (at_place n (rounds_of c) there) at;
 }
 
 -- two ways of one path
@@ -99,155 +90,126 @@ called q vs xs x y = (
   λ c. record { inside = c.inside; arguments = c.arguments; targets = c.targets; replaced = (answered q c.inside x y).1 c.replaced },
 )
 
-agreed : (e b : Bool) → agrees (not e) b ≡ not (agrees e b)
-agreed true true = refl
-agreed true false = refl
-agreed false true = refl
-agreed false false = refl
-
-is_not : (b : Bool) → (Some (not b) ≡ Some false) ↔ (Some b ≡ Some true)
-is_not true = (λ h. refl, λ h. refl)
-is_not false = (λ h. absurd cc, λ h. absurd cc)
-
-opposed : (e : Bool) (a b : Option ℕ) → (compared (not e) a b ≡ Some false) ↔ (compared e a b ≡ Some true)
-opposed e (Some a) (Some b) =
-    let both = is_not (agrees e (nat_eq a b)) in
-    let turn : Some (agrees (not e) (nat_eq a b)) ≡ Some (not (agrees e (nat_eq a b))) = ap Some (agreed e (nat_eq a b)) in
-    (λ h. both.0 (sym turn ∙ h), λ h. turn ∙ both.1 h)
-opposed e (Some a) None = (λ h. absurd cc, λ h. absurd cc)
-opposed e None b = (λ h. absurd cc, λ h. absurd cc)
-
 abbrev pub Within : List ℕ → List ℕ → Type 0
 Within ps ns = (n : ℕ) → Contains ns n → Contains ps n
 
-abbrev pub SameTakes : Program → Essence → List ℕ → List ℕ → State → State → kept_step.PathStep → graph.PathStep → Type 0
-SameTakes P E ps ls x y r s = trace.Takes P s x y ↔ of.Takes E (step_in ps ls r) x y
+-- the entry of a list at a place below its length
+at_below : {A : Type 0} (xs : List A) (n : ℕ) → n < length xs → (x : A) × (slice_get xs n ≡ Some x)
+at_below [] n low = absurd (omega (arith, low))
+at_below (x ∷ xs) zero low = (x, refl)
+at_below (x ∷ xs) (suc n) low = at_below xs n (omega (arith, low))
 
-call_takes : (P : Program) (p : Procedure) (ps ls : List ℕ) (E : Essence) → Knows P p ps ls E → (x y : State) (xs : List Occ) (n : ℕ) (f : Occ) (es : List Expr) → IsCallee P n f.name → Contains ps n →
-    trace.Takes P (graph.called xs f es) x y ↔ of.Takes E (essences.called (names xs) (place n ps) (map bare_expr es)) x y
-call_takes P p ps ls E K x y xs n f es callee there = (
-  λ (q', vs, decl, gives, c).
-      let same : q' ≡ q = is_one P.procedures f.name q' q decl declares in
-      (vs, (give x.store x.heap es vs).0 gives, subst (λ k. of.Called k vs (names xs) x y) (sym is) ((called q vs (names xs) x y).0 (subst (λ r. trace.Called r vs (names xs) x y) same c))),
-  λ (vs, gives, c). (q, vs, declares, (give x.store x.heap es vs).1 gives, (called q vs (names xs) x y).1 (subst (λ k. of.Called k vs (names xs) x y) is c)),
+abbrev pub SameTakes : Program → Procedure → Essence → List ℕ → List ℕ → State → State → path.PathStep → Type 0
+SameTakes P p E ps ls x y s = trace.Takes P p s x y ↔ of.Takes E (step_in ps ls s) x y
+
+call_takes : (P : Program) (p : Procedure) (ps ls : List ℕ) (E : Essence) → Knows P p ps ls E → (x y : State) (xs : List Occ) (n : ℕ) (es : List Expr) → HasCallee P n → Contains ps n → SameTakes P p E ps ls x y (path.called xs n es)
+call_takes P p ps ls E K x y xs n es low there = (
+  λ (r, vs, at, gives, c). (vs, (give x.store x.heap es vs).0 gives, subst (λ k. of.Called k vs (names xs) x y) (sym (K.callees n r there at)) ((called r vs (names xs) x y).0 c)),
+  λ (vs, gives, c). (q.0, vs, q.1, (give x.store x.heap es vs).1 gives, (called q.0 vs (names xs) x y).1 (subst (λ k. of.Called k vs (names xs) x y) (K.callees n q.0 there q.1) c)),
 )
   where
-    q : Procedure
-    q = callee.callee
+    q : (r : Procedure) × IsCallee P n r
+    q = at_below P.procedures n low
 
-    declares : Declares P f.name q
-    declares = declares_at P n f.name q callee.at callee
+-- the loops of the procedure assign variables of it alone
+abbrev pub LoopsAreOver : Procedure → Type 0
+LoopsAreOver p = (n : ℕ) (l : Loop) → IsLoop p n l → NamesIn (variable_names p) l.body
 
-    is : contract_at E (place n ps) ≡ contract_of q
-    is = K.callees n q there callee.at
+abbrev RoundAround : Round → State → State → Type 0
+RoundAround k x y = Replaced k.invariant x.store x.heap (Meaning k.invariant y.store) y.heap × ((a : Name) → (Contains k.assigned a → ⊥) → y.store a ≡ x.store a)
 
-loop_takes : (P : Program) (p : Procedure) (ps ls : List ℕ) (E : Essence) → Knows P p ps ls E → (x y : State) (n : ℕ) (l : Loop) → IsLoop p n l → Contains ls n → NamesIn (variable_names p) l.body →
-    trace.Takes P (graph.looped l) x y ↔ of.Takes E (essences.looped (place n ls)) x y
-loop_takes P p ps ls E K x y n l at there over = (
-  λ (r, kept). subst Around (sym (K.loops n l there at)) (both.0 r, λ a out. kept a (λ m. out (assigned_listed (variable_names p) l a over m))),
-  λ takes.
-      let t = subst Around (K.loops n l there at) takes in
-      (both.1 t.0, λ a out. t.1 a (λ m. out (listed_assigned (variable_names p) l a m))),
+around : (p : Procedure) (l : Loop) (x y : State) → NamesIn (variable_names p) l.body → trace.Around l x y ↔ RoundAround (round_of (variable_names p) l) x y
+around p l x y over = (
+  λ r. (both.0 r.replaced, λ a out. r.kept a (λ m. out (assigned_listed (variable_names p) l a over m))),
+  λ t. record { replaced = both.1 t.0; kept = λ a out. t.1 a (λ m. out (listed_assigned (variable_names p) l a m)) },
 )
   where
-    Around : Round → Type 0
-    Around k = Replaced k.invariant x.store x.heap (Meaning k.invariant y.store) y.heap × ((a : Name) → (Contains k.assigned a → ⊥) → y.store a ≡ x.store a)
-
     both : Replaced l.invariant x.store x.heap (Meaning l.invariant y.store) y.heap ↔ Replaced (bare_formula l.invariant) x.store x.heap (Meaning (bare_formula l.invariant) y.store) y.heap
     both = replaced l.invariant x.store x.heap (Meaning l.invariant y.store) (Meaning (bare_formula l.invariant) y.store) y.heap (meaning l.invariant y.store)
 
-pub takes : (P : Program) (p : Procedure) (ps ls : List ℕ) (E : Essence) → Knows P p ps ls E → (x y : State) (r : kept_step.PathStep) (s : graph.PathStep) → IsStep P p r s → Within ps (callees_in r) → Within ls (loops_in r) → IsOver (variable_names p) s →
-    SameTakes P E ps ls x y r s
-takes P p ps ls E K x y (step.Access a) s is wp wl over = subst (SameTakes P E ps ls x y (step.Access a)) (sym is) (λ t. t, λ t. t)
-takes P p ps ls E K x y (step.Assume l e r) s is wp wl over = elim is [
-  | inl one ↦ subst (SameTakes P E ps ls x y (step.Assume l e r)) (sym one) true_way
-  | inr two ↦ subst (SameTakes P E ps ls x y (step.Assume l e r)) (sym two) (
-    λ t. true_way.0 ((opposed e (result x.store x.heap l) (result x.store x.heap r)).0 t.0, t.1),
-    λ t. let u = true_way.1 t in ((opposed e (result x.store x.heap l) (result x.store x.heap r)).1 u.0, u.1),
-  )
-]
+loop_takes : (P : Program) (p : Procedure) (ps ls : List ℕ) (E : Essence) → Knows P p ps ls E → LoopsAreOver p → (x y : State) (n : ℕ) → HasLoop p n → Contains ls n → SameTakes P p E ps ls x y (path.looped n)
+loop_takes P p ps ls E K over x y n low there = (
+  λ (k, at, r). subst (λ m. RoundAround m x y) (sym (K.loops n k there at)) ((around p k x y (over n k at)).0 r),
+  λ t. (l.0, l.1, (around p l.0 x y (over n l.0 l.1)).1 (subst (λ m. RoundAround m x y) (K.loops n l.0 there l.1) t)),
+)
   where
-    true_way : SameTakes P E ps ls x y (step.Assume l e r) (graph.assume l e r true)
-    true_way = along (sym (λ i. (compared e (result_stays x.store x.heap l i) (result_stays x.store x.heap r i) ≡ Some true) × (y ≡ x)))
-takes P p ps ls E K x y (step.Set a e) s is wp wl over = subst (SameTakes P E ps ls x y (step.Set a e)) (sym is) (
+    l : (k : Loop) × IsLoop p n k
+    l = at_below (loops_of p) n low
+
+pub takes : (P : Program) (p : Procedure) (ps ls : List ℕ) (E : Essence) → Knows P p ps ls E → LoopsAreOver p → (x y : State) (s : path.PathStep) → StepIsThere P p s → Within ps (callees_in s) → Within ls (loops_in s) → SameTakes P p E ps ls x y s
+takes P p ps ls E K over x y (path.accessed a) there wp wl = (λ t. t, λ t. t)
+takes P p ps ls E K over x y (path.assume l e r) there wp wl =
+    along (sym (λ i. (compared e (result_stays x.store x.heap l i) (result_stays x.store x.heap r i) ≡ Some true) × (y ≡ x)))
+takes P p ps ls E K over x y (path.assigned a e) there wp wl = (
   λ (v, gives, gets, stays). (v, result_stays x.store x.heap e ∙ gives, gets, stays),
   λ (v, gives, gets, stays). (v, sym (result_stays x.store x.heap e) ∙ gives, gets, stays),
 )
-takes P p ps ls E K x y (step.Write a e) s is wp wl over = subst (SameTakes P E ps ls x y (step.Write a e)) (sym is) (
-  λ (v, gives, there, to). (v, result_stays x.store x.heap e ∙ gives, there, to),
-  λ (v, gives, there, to). (v, sym (result_stays x.store x.heap e) ∙ gives, there, to),
+takes P p ps ls E K over x y (path.written a e) there wp wl = (
+  λ (v, gives, here, to). (v, result_stays x.store x.heap e ∙ gives, here, to),
+  λ (v, gives, here, to). (v, sym (result_stays x.store x.heap e) ∙ gives, here, to),
 )
-takes P p ps ls E K x y (step.New a) s is wp wl over = subst (SameTakes P E ps ls x y (step.New a)) (sym is) (λ t. t, λ t. t)
-takes P p ps ls E K x y (step.Free a) s is wp wl over = subst (SameTakes P E ps ls x y (step.Free a)) (sym is) (λ t. t, λ t. t)
-takes P p ps ls E K x y (step.Call xs n es) s (f, callee, is) wp wl over =
-    subst (SameTakes P E ps ls x y (step.Call xs n es)) (sym is) (call_takes P p ps ls E K x y xs.items n f es.items callee (wp n (member_first n [])))
-takes P p ps ls E K x y (step.Loop n) s (l, at, is) wp wl over =
-    subst (SameTakes P E ps ls x y (step.Loop n)) (sym is) (loop_takes P p ps ls E K x y n l at (wl n (member_first n [])) (subst (IsOver (variable_names p)) is over))
-takes P p ps ls E K x y (step.Return es) s is wp wl over = subst (SameTakes P E ps ls x y (step.Return es)) (sym is) (
-  λ (vs, gives, gets, stays). (vs, (give x.store x.heap es.items vs).0 gives, subst (λ (k : Contract). Gets x.store k.results vs y.store) (sym K.own_is) gets, stays),
-  λ (vs, gives, gets, stays). (vs, (give x.store x.heap es.items vs).1 gives, subst (λ (k : Contract). Gets x.store k.results vs y.store) K.own_is gets, stays),
+takes P p ps ls E K over x y (path.made a) there wp wl = (λ t. t, λ t. t)
+takes P p ps ls E K over x y (path.freed a) there wp wl = (λ t. t, λ t. t)
+takes P p ps ls E K over x y (path.called xs n es) there wp wl = call_takes P p ps ls E K x y xs n es there (wp n (member_first n []))
+takes P p ps ls E K over x y (path.looped n) there wp wl = loop_takes P p ps ls E K over x y n there (wl n (member_first n []))
+takes P p ps ls E K over x y (path.answered es) there wp wl = (
+  λ (vs, gives, gets, stays). (vs, (give x.store x.heap es vs).0 gives, subst (λ (k : Contract). Gets x.store k.results vs y.store) (sym K.own_is) gets, stays),
+  λ (vs, gives, gets, stays). (vs, (give x.store x.heap es vs).1 gives, subst (λ (k : Contract). Gets x.store k.results vs y.store) K.own_is gets, stays),
 )
 
-abbrev pub SamePasses : Program → Essence → List ℕ → List ℕ → State → kept_kind.CheckKind → graph.Check → Type 0
-SamePasses P E ps ls x k c = trace.Passes P c x ↔ of.Passes E (check_in ps ls k) x
+abbrev pub SamePasses : Program → Procedure → Essence → List ℕ → List ℕ → State → path.Check → Type 0
+SamePasses P p E ps ls x c = trace.Passes P p c x ↔ of.Passes E (check_in ps ls c) x
 
-entry_passes : (P : Program) (p : Procedure) (ps ls : List ℕ) (E : Essence) → Knows P p ps ls E → (x : State) (n : ℕ) (f : Occ) (es : List Expr) → IsCallee P n f.name → Contains ps n →
-    trace.Passes P (graph.entry f es) x ↔ of.Passes E (essences.entry (place n ps) (map bare_expr es)) x
-entry_passes P p ps ls E K x n f es callee there = (
-  λ passed. subst Enters (sym is) (λ vs inside gives arguments. (part q.needs inside x.heap).0 (passed q vs inside declares ((give x.store x.heap es vs).1 gives) arguments)),
-  λ passed q' vs inside decl gives arguments.
-      let same : q' ≡ q = is_one P.procedures f.name q' q decl declares in
-      subst (λ (r : Procedure). HasPart r.needs inside x.heap) (sym same)
-      ((part q.needs inside x.heap).1 (subst Enters is passed vs inside ((give x.store x.heap es vs).0 gives) (subst (λ (r : Procedure). map inside (parameters_of r) ≡ vs) same arguments))),
+abbrev Enters : Contract → List Expr → State → Type 0
+Enters k es x = (vs : List ℕ) (inside : Store) → Give x.store x.heap es vs → map inside k.parameters ≡ vs → HasPart k.needs inside x.heap
+
+entry_passes : (P : Program) (p : Procedure) (ps ls : List ℕ) (E : Essence) → Knows P p ps ls E → (x : State) (at : Span) (n : ℕ) (es : List Expr) → HasCallee P n → Contains ps n → SamePasses P p E ps ls x (path.entry at n es)
+entry_passes P p ps ls E K x at n es low there = (
+  λ passed. subst (λ k. Enters k (map bare_expr es) x) (sym (K.callees n q.0 there q.1))
+      (λ vs inside gives arguments. (part q.0.needs inside x.heap).0 (passed q.0 vs inside q.1 ((give x.store x.heap es vs).1 gives) arguments)),
+  λ passed r vs inside is gives arguments.
+      (part r.needs inside x.heap).1 (subst (λ k. Enters k (map bare_expr es) x) (K.callees n r there is) passed vs inside ((give x.store x.heap es vs).0 gives) arguments),
 )
   where
-    q : Procedure
-    q = callee.callee
+    q : (r : Procedure) × IsCallee P n r
+    q = at_below P.procedures n low
 
-    declares : Declares P f.name q
-    declares = declares_at P n f.name q callee.at callee
+-- what is said of the loop of a number is said of it at its place in the essence
+round_passes : (P : Program) (p : Procedure) (ps ls : List ℕ) (E : Essence) → Knows P p ps ls E → (Q : Formula → Type 0) → ((f : Formula) → Q f ↔ Q (bare_formula f)) → (n : ℕ) → HasLoop p n → Contains ls n →
+    ((l : Loop) → IsLoop p n l → Q l.invariant) ↔ Q (round_at E (place n ls)).invariant
+round_passes P p ps ls E K Q bare n low there = (
+  λ all. subst (λ (k : Round). Q k.invariant) (sym (K.loops n l.0 there l.1)) ((bare l.0.invariant).0 (all l.0 l.1)),
+  λ one k at. (bare k.invariant).1 (subst (λ (m : Round). Q m.invariant) (K.loops n k there at) one),
+)
+  where
+    l : (k : Loop) × IsLoop p n k
+    l = at_below (loops_of p) n low
 
-    is : contract_at E (place n ps) ≡ contract_of q
-    is = K.callees n q there callee.at
+pub passes : (P : Program) (p : Procedure) (ps ls : List ℕ) (E : Essence) → Knows P p ps ls E → (x : State) (c : path.Check) → CheckIsThere P p c → Within ps (callees_at c) → Within ls (loops_at c) → SamePasses P p E ps ls x c
+passes P p ps ls E K x (path.access a) there wp wl = (λ t. t, λ t. t)
+passes P p ps ls E K x (path.entry at n es) there wp wl = entry_passes P p ps ls E K x at n es there (wp n (member_first n []))
+passes P p ps ls E K x (path.loop_entry at n) there wp wl = round_passes P p ps ls E K (λ f. HasPart f x.store x.heap) (λ f. part f x.store x.heap) n there (wl n (member_first n []))
+passes P p ps ls E K x (path.returned at) there wp wl =
+    subst (λ (k : Contract). MeetsOneOf p.gives x.store x.heap ↔ MeetsOneOf k.gives x.store x.heap) (sym K.own_is) (one_of p.gives x.store x.heap)
+passes P p ps ls E K x (path.loop_end at n) there wp wl = round_passes P p ps ls E K (λ f. Meaning f x.store x.heap) (λ f. meaning f x.store x.heap) n there (wl n (member_first n []))
 
-    Enters : Contract → Type 0
-    Enters k = (vs : List ℕ) (inside : Store) → Give x.store x.heap (map bare_expr es) vs → map inside k.parameters ≡ vs → HasPart k.needs inside x.heap
+abbrev pub SameStarts : Procedure → Essence → List ℕ → State → path.Start → Type 0
+SameStarts p E ls x a = Meaning (path.meets_at p a) x.store x.heap ↔ StartsIn E (start_in ls a) x
 
-pub passes : (P : Program) (p : Procedure) (ps ls : List ℕ) (E : Essence) → Knows P p ps ls E → (x : State) (k : kept_kind.CheckKind) (at : Span) (c : graph.Check) → IsKind P p k at c → Within ps (callees_at k) → Within ls (loops_at k) →
-    SamePasses P E ps ls x k c
-passes P p ps ls E K x (kind.Access a) at c is wp wl = subst (SamePasses P E ps ls x (kind.Access a)) (sym is) (λ t. t, λ t. t)
-passes P p ps ls E K x (kind.CalleeEntry n es) at c (f, callee, here, is) wp wl =
-    subst (SamePasses P E ps ls x (kind.CalleeEntry n es)) (sym is) (entry_passes P p ps ls E K x n f es.items callee (wp n (member_first n [])))
-passes P p ps ls E K x (kind.LoopEntry n) at c (l, found, here, is) wp wl =
-    let round = K.loops n l (wl n (member_first n [])) found in
-    subst (SamePasses P E ps ls x (kind.LoopEntry n)) (sym is)
-    (subst (λ (k : Round). HasPart l.invariant x.store x.heap ↔ HasPart k.invariant x.store x.heap) (sym round) (part l.invariant x.store x.heap))
-passes P p ps ls E K x kind.Return at c is wp wl =
-    subst (SamePasses P E ps ls x kind.Return) (sym is) (subst (λ (k : Contract). MeetsOneOf p.gives x.store x.heap ↔ MeetsOneOf k.gives x.store x.heap) (sym K.own_is) (one_of p.gives x.store x.heap))
-passes P p ps ls E K x (kind.LoopEnd n) at c (l, found, here, is) wp wl =
-    let round = K.loops n l (wl n (member_first n [])) found in
-    subst (SamePasses P E ps ls x (kind.LoopEnd n)) (sym is)
-    (subst (λ (k : Round). Meaning l.invariant x.store x.heap ↔ Meaning k.invariant x.store x.heap) (sym round) (meaning l.invariant x.store x.heap))
+pub starts : (P : Program) (p : Procedure) (ps ls : List ℕ) (E : Essence) → Knows P p ps ls E → (x : State) (a : path.Start) → StartIsThere p a → Within ls (loops_from a) → SameStarts p E ls x a
+starts P p ps ls E K x path.whole_body there wl = subst (λ (k : Contract). Meaning p.needs x.store x.heap ↔ Meaning k.needs x.store x.heap) (sym K.own_is) (meaning p.needs x.store x.heap)
+starts P p ps ls E K x (path.round n) there wl =
+    let l = at_below (loops_of p) n there in
+    let is : path.meets_at p (path.round n) ≡ l.0.invariant = ap path.invariant_of l.1 in
+    subst (λ f. Meaning f x.store x.heap ↔ Meaning (round_at E (place n ls)).invariant x.store x.heap) (sym is)
+    (subst (λ (k : Round). Meaning l.0.invariant x.store x.heap ↔ Meaning k.invariant x.store x.heap) (sym (K.loops n l.0 (wl n (member_first n [])) l.1)) (meaning l.0.invariant x.store x.heap))
 
-abbrev pub SameStarts : Essence → List ℕ → State → kept_start.Start → graph.Start → Type 0
-SameStarts E ls x k a = Meaning a.meets x.store x.heap ↔ StartsIn E (start_in ls k) x
-
-pub starts : (P : Program) (p : Procedure) (ps ls : List ℕ) (E : Essence) → Knows P p ps ls E → (x : State) (k : kept_start.Start) (a : graph.Start) → IsStart p k a → Within ls (loops_from k) → SameStarts E ls x k a
-starts P p ps ls E K x start.Entry a is wl =
-    subst (SameStarts E ls x start.Entry) (sym is) (subst (λ (k : Contract). Meaning p.needs x.store x.heap ↔ Meaning k.needs x.store x.heap) (sym K.own_is) (meaning p.needs x.store x.heap))
-starts P p ps ls E K x (start.Loop n) a (l, found, is) wl =
-    let round = K.loops n l (wl n (member_first n [])) found in
-    subst (SameStarts E ls x (start.Loop n)) (sym is)
-    (subst (λ (k : Round). Meaning l.invariant x.store x.heap ↔ Meaning k.invariant x.store x.heap) (sym round) (meaning l.invariant x.store x.heap))
-
-pub traces : (P : Program) (p : Procedure) (ps ls : List ℕ) (E : Essence) → Knows P p ps ls E → (rs : List kept_step.PathStep) (ss : List graph.PathStep) (x : State) (ys : List State) → AreSteps P p rs ss →
-    Within ps (flat_map callees_in rs) → Within ls (flat_map loops_in rs) → AreOver (variable_names p) ss → trace.IsTrace P x ss ys ↔ of.IsTrace E x (map (step_in ps ls) rs) ys
-traces P p ps ls E K [] [] x [] are wp wl over = (λ t. t, λ t. t)
-traces P p ps ls E K [] [] x (y ∷ ys) are wp wl over = (λ t. t, λ t. t)
-traces P p ps ls E K [] (s ∷ ss) x ys are wp wl over = absurd are
-traces P p ps ls E K (r ∷ rs) [] x ys are wp wl over = absurd are
-traces P p ps ls E K (r ∷ rs) (s ∷ ss) x [] are wp wl over = (λ t. t, λ t. t)
-traces P p ps ls E K (r ∷ rs) (s ∷ ss) x (y ∷ ys) are wp wl over =
-    let first = takes P p ps ls E K x y r s are.0 (λ n there. wp n (Contains-append_left (callees_in r) (flat_map callees_in rs) n there)) (λ n there. wl n (Contains-append_left (loops_in r) (flat_map loops_in rs) n there)) over.0 in
-    let more = traces P p ps ls E K rs ss y ys are.1 (λ n there. wp n (Contains-append_right (callees_in r) (flat_map callees_in rs) n there)) (λ n there. wl n (Contains-append_right (loops_in r) (flat_map loops_in rs) n there)) over.1 in
+pub traces : (P : Program) (p : Procedure) (ps ls : List ℕ) (E : Essence) → Knows P p ps ls E → LoopsAreOver p → (ss : List path.PathStep) (x : State) (ys : List State) → ((s : path.PathStep) → Contains ss s → StepIsThere P p s) →
+    Within ps (flat_map callees_in ss) → Within ls (flat_map loops_in ss) → trace.IsTrace P p x ss ys ↔ of.IsTrace E x (map (step_in ps ls) ss) ys
+traces P p ps ls E K over [] x [] are wp wl = (λ t. t, λ t. t)
+traces P p ps ls E K over [] x (y ∷ ys) are wp wl = (λ t. t, λ t. t)
+traces P p ps ls E K over (s ∷ ss) x [] are wp wl = (λ t. t, λ t. t)
+traces P p ps ls E K over (s ∷ ss) x (y ∷ ys) are wp wl =
+    let first = takes P p ps ls E K over x y s (are s (member_first s ss)) (λ n there. wp n (Contains-append_left (callees_in s) (flat_map callees_in ss) n there)) (λ n there. wl n (Contains-append_left (loops_in s) (flat_map loops_in ss) n there)) in
+    let more = traces P p ps ls E K over ss y ys (λ t there. are t (member_later s t ss there)) (λ n there. wp n (Contains-append_right (callees_in s) (flat_map callees_in ss) n there)) (λ n there. wl n (Contains-append_right (loops_in s) (flat_map loops_in ss) n there)) in
     (λ t. (first.0 t.0, more.0 t.1), λ t. (first.1 t.0, more.1 t.1))

@@ -1,5 +1,5 @@
 -- What a session knows after some conditions.
-use Rattle.std.specs.Prelude.{◌≡◌, ℕ, suc, ◌+◌, ◌≤◌, List, [], ◌∷◌, ◌++◌, length, take, slice_get, Option, Some, Bool, true, false, cond, Contains}
+use Rattle.std.specs.Prelude.{◌≡◌, ℕ, suc, ◌+◌, ◌-◌, ◌≤◌, List, [], ◌∷◌, ◌++◌, length, take, slice_get, Option, Some, Bool, true, false, cond, Contains}
 use Rattle.std.proofs.Common.{refl, sym, ◌∙◌, ap, subst, inl, inr, arith}
 use Rattle.std.proofs.lemmas.List.{map-append, take_all, append_assoc, append-nil, length-append}
 use Rattle.std.proofs.lemmas.List.Elements.{Contains-append_left, Contains-append_cases}
@@ -7,19 +7,27 @@ use Rattle.gh_ast.specs.Plain.{Program}
 use Rattle.gh_ast.proofs.Lists.{no_member, only_member}
 use Rattle.gh_path.specs.Answers.{IsNumbered}
 use Rattle.gh_path.specs.Conditions.{Condition, conditions}
+use Rattle.gh_path.specs.Kept.{condition_of}
 use Rattle.gh_path.specs.declared.condition.Condition as kept
 use Rattle.gh_trace.specs.Kept.{HasNoCounterexample}
 use Rattle.gh_trace.specs.Validity.{IsConditionValid, ListedAreValid}
 use Rattle.gh_trace.specs.declared.state.Trace.{Trace}
-use Rattle.gh_trace.proofs.FirstRefuted.{taken_more, next_one}
+use Rattle.gh_trace.proofs.FirstRefuted.{taken_more}
 use Rattle.gh_session.specs.Essences.{Essence}
+use Rattle.gh_session.specs.Laws.{HasEssence}
 use Rattle.gh_session.specs.Known.{Known, known, essences, Adds, Learns}
-use Rattle.gh_session.specs.Decided.{IsEssence, AreEssences, AreNew, none, is_known, is_new, Grows, AreDecided}
+use Rattle.gh_session.specs.Decided.{AreEssences, AreNew, none, is_known, is_new, Grows, AreDecided}
 
 taken : (P : Program) (k : ℕ) (c : Condition) → slice_get (conditions P) k ≡ Some c → take (k + 1) (conditions P) ≡ take k (conditions P) ++ c ∷ []
 taken P k c at =
     let more : k + 1 ≡ suc k = omega arith in
     ap (λ n. take n (conditions P)) more ∙ taken_more (conditions P) k c at
+
+-- the condition of the number k + 1 stands at the place k
+at_place : (P : Program) (k : ℕ) (r : kept.Condition) → IsNumbered P (k + 1) (Some r) → slice_get (conditions P) k ≡ Some (condition_of r)
+at_place P k r found =
+    let same : k + 1 - 1 ≡ k = omega arith in
+    subst (λ n. slice_get (conditions P) n ≡ Some (condition_of r)) same found.1
 
 pub at_most_one : (b : Bool) → cond b 1 0 ≤ 1
 at_most_one true = omega arith
@@ -38,7 +46,7 @@ known_last _ _ _ E (is_known {old = old} {Es = Es} {new = new} {E = F} there res
 known_last _ _ _ E (is_new {old = old} {Es = Es} {new = new} {E = F} not_old rest) has =
     is_new not_old (known_last (old ++ F ∷ []) Es new E rest (subst (λ xs. Contains xs E) (sym (append_assoc old (F ∷ []) new)) has))
 
-essences_more : (P : Program) (cs : List Condition) (Es : List Essence) (c : Condition) (E : Essence) → AreEssences P cs Es → IsEssence P c E → AreEssences P (cs ++ c ∷ []) (Es ++ E ∷ [])
+essences_more : (P : Program) (cs : List Condition) (Es : List Essence) (c : Condition) (E : Essence) → AreEssences P cs Es → HasEssence P c E → AreEssences P (cs ++ c ∷ []) (Es ++ E ∷ [])
 essences_more P [] [] c E are is = (is, record {})
 essences_more P [] (F ∷ Es) c E are is = absurd are
 essences_more P (d ∷ cs) [] c E are is = absurd are
@@ -50,9 +58,9 @@ none_decided P old = record {
   grows = record { all = []; are = record {}; added = []; whole = sym (append-nil old); are_new = none; count = refl };
 }
 
-grown : (P : Program) (cs : List Condition) (c : Condition) (r : kept.Condition) (answer : Option Trace) (new_one : Bool) (E : Essence) (old mid new : List Known) (n : ℕ) → IsEssence P c E →
+grown : (P : Program) (cs : List Condition) (c : Condition) (answer : Option Trace) (new_one : Bool) (E : Essence) (old mid new : List Known) (n : ℕ) → HasEssence P c E →
     Adds mid E answer new_one new → Grows P cs old n mid → Grows P (cs ++ c ∷ []) old (n + cond new_one 1 0) new
-grown P cs c r answer false E old mid new n is adds before = record {
+grown P cs c answer false E old mid new n is adds before = record {
   all = before.all ++ E ∷ [];
   are = essences_more P cs before.all c E before.are is;
   added = before.added;
@@ -61,7 +69,7 @@ grown P cs c r answer false E old mid new n is adds before = record {
       (subst (λ xs. Contains xs E) (ap essences before.whole ∙ map-append (λ (k : Known). k.essence) old before.added) adds.0);
   count = omega (arith, before.count);
 }
-grown P cs c r answer true E old mid new n is adds before = record {
+grown P cs c answer true E old mid new n is adds before = record {
   all = before.all ++ E ∷ [];
   are = essences_more P cs before.all c E before.are is;
   added = before.added ++ known E answer ∷ [];
@@ -77,19 +85,17 @@ grown P cs c r answer true E old mid new n is adds before = record {
 pub grown_one : (P : Program) (k : ℕ) (r : kept.Condition) (answer : Option Trace) (new_one : Bool) (old mid new : List Known) (n : ℕ) → IsNumbered P (k + 1) (Some r) → Learns P r mid answer new_one new →
     AreDecided P k old n mid → Grows P (take (k + 1) (conditions P)) old (n + cond new_one 1 0) new
 grown_one P k r answer new_one old mid new n found learns before =
-    let one = next_one P k r found in
-    subst (λ cs. Grows P cs old (n + cond new_one 1 0) new) (sym (taken P k one.0 one.1))
-    (grown P (take k (conditions P)) one.0 r answer new_one learns.essence old mid new n (r, one.2, learns.has) learns.adds before.grows)
+    subst (λ cs. Grows P cs old (n + cond new_one 1 0) new) (sym (taken P k (condition_of r) (at_place P k r found)))
+    (grown P (take k (conditions P)) (condition_of r) answer new_one learns.essence old mid new n learns.has learns.adds before.grows)
 
 -- one condition more is valid
 pub decided_more : (P : Program) (k : ℕ) (r : kept.Condition) (answer : Option Trace) (new_one : Bool) (old mid new : List Known) (n : ℕ) → IsNumbered P (k + 1) (Some r) → Learns P r mid answer new_one new →
     HasNoCounterexample P r → AreDecided P k old n mid → AreDecided P (k + 1) old (n + cond new_one 1 0) new
 decided_more P k r answer new_one old mid new n found learns passes before =
-    let one = next_one P k r found in
     record {
-      valid = λ d i. elim (Contains-append_cases (take k (conditions P)) (one.0 ∷ []) d (subst (λ (xs : List Condition). Contains xs d) (taken P k one.0 one.1) i)) [
+      valid = λ d i. elim (Contains-append_cases (take k (conditions P)) (condition_of r ∷ []) d (subst (λ (xs : List Condition). Contains xs d) (taken P k (condition_of r) (at_place P k r found)) i)) [
         | inl earlier ↦ before.valid d earlier
-        | inr last ↦ subst (IsConditionValid P) (sym (only_member one.0 d last)) (passes one.0 one.2)
+        | inr last ↦ subst (IsConditionValid P) (sym (only_member (condition_of r) d last)) passes
       ];
       grows = grown_one P k r answer new_one old mid new n found learns before;
     }

@@ -9,7 +9,8 @@ use Rattle.std.proofs.lemmas.List.Elements.{Contains-append_cases}
 use Rattle.gh_ast.specs.Plain.{Program}
 use Rattle.gh_ast.proofs.Lists.{member_first, member_later, member_cases, no_member, only_member}
 use Rattle.gh_path.specs.declared.condition.Condition as kept_condition
-use Rattle.gh_trace.specs.Kept.{drawn_of, HasNoCounterexample, HasCounterexample}
+use Rattle.gh_path.specs.Kept.{condition_of}
+use Rattle.gh_trace.specs.Kept.{drawn_of, HasNoCounterexample, IsRefuted}
 use Rattle.gh_trace.specs.declared.state.Trace.{Trace}
 use Rattle.gh_session.specs.Essences.{Essence}
 use Rattle.gh_session.specs.Meaning.{RefutesEssence, IsValid}
@@ -19,7 +20,7 @@ use Rattle.gh_session.specs.Views.{essence_view}
 use Rattle.gh_session.specs.Known.{known, essences, IsRight}
 use Rattle.gh_session.specs.Places.{known_of, knowledge, filed, IsFiled}
 use Rattle.gh_session.specs.declared.kept.Kept.{Kept}
-use Rattle.gh_session.proofs.Alike.{essences_answer}
+use Rattle.gh_session.proofs.Alike.{essences_decide}
 
 -- the last place of a list that grew
 at_last : {A : Type 0} (xs : List A) (x : A) (n : ℕ) (y : A) → slice_get (xs ++ x ∷ []) n ≡ Some y → (slice_get xs n ≡ Some y) ⊎ ((n ≡ length xs) × (y ≡ x))
@@ -81,17 +82,17 @@ has_essence (j ∷ ks) k there = elim (member_cases j ks k there) [
 -- a right answer to an essence answers its conditions
 pub record Answers (P : Program) (r : kept_condition.Condition) (answer : Option Trace) : Type 0 where
   pub none : IfNone answer (HasNoCounterexample P r)
-  pub some : IfSome answer (λ t. HasCounterexample P r (drawn_of t))
+  pub some : IfSome answer (λ t. IsRefuted P r (drawn_of t))
 
-answered_by : (P : Program) (r : kept_condition.Condition) (E : Essence) (a : Option Trace) → HasEssence P r E → IsRight (known E a) → Answers P r a
-answered_by P r E None has right = record { none = (essences_answer P r E has).none.1 right; some = record {} }
-answered_by P r E (Some t) has right = record { none = record {}; some = ((essences_answer P r E has).some (drawn_of t)).1 right }
+answered_by : (P : Program) (r : kept_condition.Condition) (E : Essence) (a : Option Trace) → HasEssence P (condition_of r) E → IsRight (known E a) → Answers P r a
+answered_by P r E None has right = record { none = (essences_decide P (condition_of r) E has).valid.1 right; some = record {} }
+answered_by P r E (Some t) has right = record { none = record {}; some = ((essences_decide P (condition_of r) E has).drawn (drawn_of t)).1 right }
 
-pub answered : (P : Program) (r : kept_condition.Condition) (E F : Essence) (a b : Option Trace) → HasEssence P r E → F ≡ E → IsRight (known F b) → option_map drawn_of a ≡ option_map drawn_of b → Answers P r a
+pub answered : (P : Program) (r : kept_condition.Condition) (E F : Essence) (a b : Option Trace) → HasEssence P (condition_of r) E → F ≡ E → IsRight (known F b) → option_map drawn_of a ≡ option_map drawn_of b → Answers P r a
 answered P r E F a b has same right copied =
     let one : IsRight (known E b) = subst (λ G. IsRight (known G b)) same right in
     answered_by P r E a has (subst (λ o. MatchOption o (IsValid E) (RefutesEssence E)) (sym copied) one)
 
-pub right_of : (P : Program) (r : kept_condition.Condition) (E : Essence) (a : Option Trace) → HasEssence P r E → IfNone a (HasNoCounterexample P r) → IfSome a (λ t. HasCounterexample P r (drawn_of t)) → IsRight (known E a)
-right_of P r E None has none some = (essences_answer P r E has).none.0 none
-right_of P r E (Some t) has none some = ((essences_answer P r E has).some (drawn_of t)).0 some
+pub right_of : (P : Program) (r : kept_condition.Condition) (E : Essence) (a : Option Trace) → HasEssence P (condition_of r) E → IfNone a (HasNoCounterexample P r) → IfSome a (λ t. IsRefuted P r (drawn_of t)) → IsRight (known E a)
+right_of P r E None has none some = (essences_decide P (condition_of r) E has).valid.0 none
+right_of P r E (Some t) has none some = ((essences_decide P (condition_of r) E has).drawn (drawn_of t)).0 some

@@ -12,6 +12,5 @@ pub mod Placings
 pub mod Cutting
 pub mod Separating
 pub mod PieceLemmas
-pub mod Unique
 pub mod Refusing
 pub mod Orders

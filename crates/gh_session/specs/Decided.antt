@@ -3,7 +3,6 @@ use Rattle.std.specs.Prelude.{◌≡◌, ℕ, List, [], ◌∷◌, ◌++◌, len
 use Rattle.gh_ast.specs.Plain.{Program}
 use Rattle.gh_path.specs.Conditions.{Condition, conditions}
 use Rattle.gh_path.specs.declared.condition.Condition as kept
-use Rattle.gh_trace.specs.Kept.{IsOfProgram}
 use Rattle.gh_trace.specs.Refuted.{IsFirst}
 use Rattle.gh_trace.specs.Validity.{IsConditionValid, ListedAreValid}
 use Rattle.gh_trace.specs.declared.refutation.Refutation.{Refutation}
@@ -29,16 +28,12 @@ abbrev pub asked : Program → Option Refutation → List Condition
 asked P None = conditions P
 asked P (Some r) = take r.number (conditions P)
 
--- E is the essence of the condition c of P
-abbrev pub IsEssence : Program → Condition → Essence → Type 0
-IsEssence P c E = (r : kept.Condition) × IsOfProgram P r c × HasEssence P r E
-
--- one by one
+-- they are the essences of some conditions of P, one by one
 abbrev pub AreEssences : Program → List Condition → List Essence → Type 0
 AreEssences P [] [] = Unit {0}
 AreEssences P [] (E ∷ Es) = ⊥
 AreEssences P (c ∷ cs) [] = ⊥
-AreEssences P (c ∷ cs) (E ∷ Es) = IsEssence P c E × AreEssences P cs Es
+AreEssences P (c ∷ cs) (E ∷ Es) = HasEssence P c E × AreEssences P cs Es
 
 -- of some essences those that are not among the old ones, each once, in the order in which they first appear
 pub data AreNew : List Essence → List Essence → List Essence → Type 0 where

@@ -5,15 +5,10 @@ use Rattle.gh_ast.specs.declared.Expr.{Expr}
 use Rattle.gh_ast.specs.Plain.{Formula, empty, Procedure, Program}
 use Rattle.gh_ast.specs.Programs.{Name, names, parameters_of, results_of, variable_names}
 use Rattle.gh_ast.specs.Bare.{bare_expr, bare_formula}
+use Rattle.gh_path.specs.Graphs as path
 use Rattle.gh_path.specs.Graphs.{Loop, loops_of}
+use Rattle.gh_path.specs.Conditions.{Condition}
 use Rattle.gh_path.specs.Terms.{some_assigns}
-use Rattle.gh_path.specs.declared.condition.PathStep as kept_step
-use Rattle.gh_path.specs.declared.condition.PathStep.TheVariants as step
-use Rattle.gh_path.specs.declared.condition.Start as kept_start
-use Rattle.gh_path.specs.declared.condition.Start.TheVariants as start
-use Rattle.gh_path.specs.declared.condition.CheckKind as kept_kind
-use Rattle.gh_path.specs.declared.condition.CheckKind.TheVariants as kind
-use Rattle.gh_path.specs.declared.condition.Condition as kept_condition
 use Rattle.gh_session.specs.Numbering.{listed, place}
 
 pub record Contract : Type 0 where
@@ -82,65 +77,65 @@ abbrev pub round_at : List Name → List Loop → ℕ → Round
 round_at xs ls n = get_or (map (round_of xs) ls) n no_round
 
 -- the procedures and the loops that a condition names, as they stand in it
-abbrev pub callees_in : kept_step.PathStep → List ℕ
-callees_in (step.Call xs n es) = n ∷ []
+abbrev pub callees_in : path.PathStep → List ℕ
+callees_in (path.called xs n es) = n ∷ []
 callees_in _ = []
 
-abbrev pub callees_at : kept_kind.CheckKind → List ℕ
-callees_at (kind.CalleeEntry n es) = n ∷ []
+abbrev pub callees_at : path.Check → List ℕ
+callees_at (path.entry at n es) = n ∷ []
 callees_at _ = []
 
-abbrev pub loops_from : kept_start.Start → List ℕ
-loops_from start.Entry = []
-loops_from (start.Loop n) = n ∷ []
+abbrev pub loops_from : path.Start → List ℕ
+loops_from path.whole_body = []
+loops_from (path.round n) = n ∷ []
 
-abbrev pub loops_in : kept_step.PathStep → List ℕ
-loops_in (step.Loop n) = n ∷ []
+abbrev pub loops_in : path.PathStep → List ℕ
+loops_in (path.looped n) = n ∷ []
 loops_in _ = []
 
-abbrev pub loops_at : kept_kind.CheckKind → List ℕ
-loops_at (kind.LoopEntry n) = n ∷ []
-loops_at (kind.LoopEnd n) = n ∷ []
+abbrev pub loops_at : path.Check → List ℕ
+loops_at (path.loop_entry at n) = n ∷ []
+loops_at (path.loop_end at n) = n ∷ []
 loops_at _ = []
 
 -- each once: its own procedure first, and the loop that it starts at first
-abbrev pub procedures_of : kept_condition.Condition → List ℕ
-procedures_of r = listed (r.procedure ∷ []) (flat_map callees_in r.steps.items ++ callees_at r.check.kind)
+abbrev pub procedures_of : Condition → List ℕ
+procedures_of c = listed (c.procedure ∷ []) (flat_map callees_in c.way.steps ++ callees_at c.way.check)
 
-abbrev pub rounds_of : kept_condition.Condition → List ℕ
-rounds_of r = listed (loops_from r.start) (flat_map loops_in r.steps.items ++ loops_at r.check.kind)
+abbrev pub rounds_of : Condition → List ℕ
+rounds_of c = listed (loops_from c.start) (flat_map loops_in c.way.steps ++ loops_at c.way.check)
 
 -- a start, a step and a check over the lists ps of procedures and ls of loops
-abbrev pub start_in : List ℕ → kept_start.Start → Start
-start_in ls start.Entry = from_entry
-start_in ls (start.Loop n) = from_loop (place n ls)
+abbrev pub start_in : List ℕ → path.Start → Start
+start_in ls path.whole_body = from_entry
+start_in ls (path.round n) = from_loop (place n ls)
 
-abbrev pub step_in : List ℕ → List ℕ → kept_step.PathStep → Step
-step_in ps ls (step.Access x) = accessed x.name
-step_in ps ls (step.Assume l e r) = assumed (bare_expr l) e (bare_expr r)
-step_in ps ls (step.Set x e) = assigned x.name (bare_expr e)
-step_in ps ls (step.Write x e) = written x.name (bare_expr e)
-step_in ps ls (step.New x) = made x.name
-step_in ps ls (step.Free x) = freed x.name
-step_in ps ls (step.Call xs n es) = called (names xs.items) (place n ps) (map bare_expr es.items)
-step_in ps ls (step.Loop n) = looped (place n ls)
-step_in ps ls (step.Return es) = answered (map bare_expr es.items)
+abbrev pub step_in : List ℕ → List ℕ → path.PathStep → Step
+step_in ps ls (path.accessed x) = accessed x.name
+step_in ps ls (path.assume l e r) = assumed (bare_expr l) e (bare_expr r)
+step_in ps ls (path.assigned x e) = assigned x.name (bare_expr e)
+step_in ps ls (path.written x e) = written x.name (bare_expr e)
+step_in ps ls (path.made x) = made x.name
+step_in ps ls (path.freed x) = freed x.name
+step_in ps ls (path.called xs n es) = called (names xs) (place n ps) (map bare_expr es)
+step_in ps ls (path.looped n) = looped (place n ls)
+step_in ps ls (path.answered es) = answered (map bare_expr es)
 
-abbrev pub check_in : List ℕ → List ℕ → kept_kind.CheckKind → Check
-check_in ps ls (kind.Access x) = access x
-check_in ps ls (kind.CalleeEntry n es) = entry (place n ps) (map bare_expr es.items)
-check_in ps ls (kind.LoopEntry n) = loop_entry (place n ls)
-check_in ps ls kind.Return = returned
-check_in ps ls (kind.LoopEnd n) = loop_end (place n ls)
+abbrev pub check_in : List ℕ → List ℕ → path.Check → Check
+check_in ps ls (path.access x) = access x.name
+check_in ps ls (path.entry at n es) = entry (place n ps) (map bare_expr es)
+check_in ps ls (path.loop_entry at n) = loop_entry (place n ls)
+check_in ps ls (path.returned at) = returned
+check_in ps ls (path.loop_end at n) = loop_end (place n ls)
 
--- of the condition r of the procedure p of the program P
-abbrev pub essence : Program → Procedure → kept_condition.Condition → Essence
-essence P p r =
+-- of the condition c of the procedure p of the program P
+abbrev pub essence : Program → Procedure → Condition → Essence
+essence P p c =
     record {
       variables = variable_names p;
-      contracts = map (contract_at P.procedures) (procedures_of r);
-      loops = map (round_at (variable_names p) (loops_of p)) (rounds_of r);
-      start = start_in (rounds_of r) r.start;
-      steps = map (step_in (procedures_of r) (rounds_of r)) r.steps.items;
-      check = check_in (procedures_of r) (rounds_of r) r.check.kind;
+      contracts = map (contract_at P.procedures) (procedures_of c);
+      loops = map (round_at (variable_names p) (loops_of p)) (rounds_of c);
+      start = start_in (rounds_of c) c.start;
+      steps = map (step_in (procedures_of c) (rounds_of c)) c.way.steps;
+      check = check_in (procedures_of c) (rounds_of c) c.way.check;
     }

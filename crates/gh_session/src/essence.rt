@@ -4,9 +4,9 @@ ghost use Rattle.std.specs.Prelude.{◌≡◌, ◌++◌, map, filter, IfOk};
 ghost use Rattle.gh_ast.specs.Plain.{procedure_of, program_of, statements_view};
 ghost use Rattle.gh_ast.specs.Bare.{bare_expr};
 ghost use Rattle.gh_ast.specs.Programs.{names, variable_names};
+ghost use Rattle.gh_path.specs.Kept.{check_of, condition_of, IsOne, start_of, step_of};
 ghost use Rattle.gh_path.specs.Terms.{some_assigns};
 ghost use Rattle.gh_path.specs.Walking.{loop_of};
-ghost use Rattle.gh_trace.specs.Kept.{IsOne};
 ghost use Rattle.gh_session.specs.Numbering.{listed};
 ghost use Rattle.gh_session.specs.Essences as plain;
 ghost use Rattle.gh_session.specs.Views.{contract_view, round_view, start_view, step_view, check_view};
@@ -118,7 +118,7 @@ pub struct Essence {
 
 // Adds the callee of a step.
 fn add_callee(numbers: &mut Vec<u16>, step: &PathStep) -> Result<(), AllocError>
-    ensures { IfOk result (λ _. numbers.new.items ≡ listed numbers.old.items (plain.callees_in step.now)) }
+    ensures { IfOk result (λ _. numbers.new.items ≡ listed numbers.old.items (plain.callees_in (step_of step.now))) }
 {
     match step {
         PathStep::Call { callee, .. } => Ok(add(numbers, *callee)?),
@@ -127,10 +127,10 @@ fn add_callee(numbers: &mut Vec<u16>, step: &PathStep) -> Result<(), AllocError>
 }
 
 // Adds the callee of a check.
-fn add_entered(numbers: &mut Vec<u16>, kind: &CheckKind) -> Result<(), AllocError>
-    ensures { IfOk result (λ _. numbers.new.items ≡ listed numbers.old.items (plain.callees_at kind.now)) }
+fn add_entered(numbers: &mut Vec<u16>, check: &condition::Check) -> Result<(), AllocError>
+    ensures { IfOk result (λ _. numbers.new.items ≡ listed numbers.old.items (plain.callees_at (check_of check.now))) }
 {
-    match kind {
+    match &check.kind {
         CheckKind::CalleeEntry { callee, .. } => Ok(add(numbers, *callee)?),
         _ => Ok(()),
     }
@@ -138,7 +138,7 @@ fn add_entered(numbers: &mut Vec<u16>, kind: &CheckKind) -> Result<(), AllocErro
 
 // Adds the loop of a step.
 fn add_loop(numbers: &mut Vec<u16>, step: &PathStep) -> Result<(), AllocError>
-    ensures { IfOk result (λ _. numbers.new.items ≡ listed numbers.old.items (plain.loops_in step.now)) }
+    ensures { IfOk result (λ _. numbers.new.items ≡ listed numbers.old.items (plain.loops_in (step_of step.now))) }
 {
     match step {
         PathStep::Loop { number } => Ok(add(numbers, *number)?),
@@ -147,10 +147,10 @@ fn add_loop(numbers: &mut Vec<u16>, step: &PathStep) -> Result<(), AllocError>
 }
 
 // Adds the loop of a check.
-fn add_looped(numbers: &mut Vec<u16>, kind: &CheckKind) -> Result<(), AllocError>
-    ensures { IfOk result (λ _. numbers.new.items ≡ listed numbers.old.items (plain.loops_at kind.now)) }
+fn add_looped(numbers: &mut Vec<u16>, check: &condition::Check) -> Result<(), AllocError>
+    ensures { IfOk result (λ _. numbers.new.items ≡ listed numbers.old.items (plain.loops_at (check_of check.now))) }
 {
-    match kind {
+    match &check.kind {
         CheckKind::LoopEntry { number } => Ok(add(numbers, *number)?),
         CheckKind::LoopEnd { number } => Ok(add(numbers, *number)?),
         _ => Ok(()),
@@ -159,7 +159,7 @@ fn add_looped(numbers: &mut Vec<u16>, kind: &CheckKind) -> Result<(), AllocError
 
 // The loop of a start.
 fn loops_from(alloc: Global, start: condition::Start) -> Result<Vec<u16>, AllocError>
-    ensures { IfOk result (λ v. v.items ≡ plain.loops_from start) }
+    ensures { IfOk result (λ v. v.items ≡ plain.loops_from (start_of start)) }
 {
     let mut numbers = Vec::new(alloc);
     match start {
@@ -173,26 +173,26 @@ fn loops_from(alloc: Global, start: condition::Start) -> Result<Vec<u16>, AllocE
 
 // The procedures that a condition names, its own first.
 fn procedures_of(alloc: Global, condition: &Condition) -> Result<Vec<u16>, AllocError>
-    ensures { IfOk result (λ v. v.items ≡ plain.procedures_of condition.now) }
+    ensures { IfOk result (λ v. v.items ≡ plain.procedures_of (condition_of condition.now)) }
 {
     let mut numbers = Vec::new(alloc);
     numbers.push(condition.procedure)?;
     for step in condition.steps.as_slice() {
         add_callee(&mut numbers, step)?;
     }
-    add_entered(&mut numbers, &condition.check.kind)?;
+    add_entered(&mut numbers, &condition.check)?;
     Ok(numbers)
 }
 
 // The loops that a condition names, that of its start first.
 fn rounds_of(alloc: Global, condition: &Condition) -> Result<Vec<u16>, AllocError>
-    ensures { IfOk result (λ v. v.items ≡ plain.rounds_of condition.now) }
+    ensures { IfOk result (λ v. v.items ≡ plain.rounds_of (condition_of condition.now)) }
 {
     let mut numbers = loops_from(alloc, condition.start)?;
     for step in condition.steps.as_slice() {
         add_loop(&mut numbers, step)?;
     }
-    add_looped(&mut numbers, &condition.check.kind)?;
+    add_looped(&mut numbers, &condition.check)?;
     Ok(numbers)
 }
 
@@ -251,7 +251,7 @@ fn step_in(
     loops: &[u16],
     step: &PathStep,
 ) -> Result<Step, AllocError>
-    ensures { IfOk result (λ s. step_view s ≡ plain.step_in procedures.now loops.now step.now) }
+    ensures { IfOk result (λ s. step_view s ≡ plain.step_in procedures.now loops.now (step_of step.now)) }
 {
     match step {
         PathStep::Access { at } => Ok(Step::Access {
@@ -285,7 +285,7 @@ fn step_in(
 
 // A start, its loop numbered by the list.
 fn start_in(loops: &[u16], start: condition::Start) -> Start
-    ensures { start_view result ≡ plain.start_in loops.now start }
+    ensures { start_view result ≡ plain.start_in loops.now (start_of start) }
 {
     match start {
         condition::Start::Entry => Start::Entry,
@@ -300,11 +300,11 @@ fn check_in(
     alloc: Global,
     procedures: &[u16],
     loops: &[u16],
-    kind: &CheckKind,
+    check: &condition::Check,
 ) -> Result<Check, AllocError>
-    ensures { IfOk result (λ c. check_view c ≡ plain.check_in procedures.now loops.now kind.now) }
+    ensures { IfOk result (λ c. check_view c ≡ plain.check_in procedures.now loops.now (check_of check.now)) }
 {
-    match kind {
+    match &check.kind {
         CheckKind::Access { at } => Ok(Check::Access {
             at: at.copy(alloc)?,
         }),
@@ -329,7 +329,8 @@ fn steps_in(
     loops: &[u16],
     steps: &[PathStep],
 ) -> Result<Vec<Step>, AllocError>
-    ensures { IfOk result (λ v. map step_view v.items ≡ map (plain.step_in procedures.now loops.now) steps.now) }
+    ensures { IfOk result (λ v.
+        map step_view v.items ≡ map (plain.step_in procedures.now loops.now) (map step_of steps.now)) }
 {
     let mut whole = Vec::new(alloc);
     for step in steps {
@@ -470,7 +471,7 @@ fn essence_in(
     let contracts = contracts(alloc, program.procedures.as_slice(), ps)?;
     let loops = rounds(alloc, variables.as_slice(), found.as_slice(), ls)?;
     let steps = steps_in(alloc, ps, ls, condition.steps.as_slice())?;
-    let check = check_in(alloc, ps, ls, &condition.check.kind)?;
+    let check = check_in(alloc, ps, ls, &condition.check)?;
     let start = start_in(ls, condition.start);
     Ok(Essence {
         variables,
@@ -489,7 +490,7 @@ pub fn essence_of(
     condition: &Condition,
 ) -> Result<Essence, AllocError>
     requires { IsOne (program_of typed.now) condition.now }
-    ensures { IfOk result (λ e. HasEssence (program_of typed.now) condition.now (essence_view e)) }
+    ensures { IfOk result (λ e. HasEssence (program_of typed.now) (condition_of condition.now) (essence_view e)) }
 {
     let program = typed.program();
     let Some(procedure) = procedure_in(program, condition.procedure) else {

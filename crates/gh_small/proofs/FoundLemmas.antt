@@ -7,6 +7,6 @@ found_is_exact P r None one is = (λ e. is, λ valid. refl)
 found_is_exact P r (Some s) one is = (
   λ e. absurd (cc (e)),
   λ valid.
-      let against = is.counterexample one.0 one.1 in
-      absurd (valid one.0 one.1 against.first.state _ against.counterexample),
+      let against = is.counterexample in
+      absurd (valid against.procedure against.of against.first.state _ against.counterexample),
 )

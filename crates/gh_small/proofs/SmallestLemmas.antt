@@ -4,23 +4,25 @@ use Rattle.std.specs.FinMap.{len}
 use Rattle.gh_base.specs.Grounds.{Problem, IsProblem}
 use Rattle.gh_base.specs.Meaning.{Interpretation}
 use Rattle.gh_base.specs.Structures.{interpretation_of}
-use Rattle.gh_ast.specs.Plain.{Program}
+use Rattle.gh_ast.specs.Plain.{Procedure, Program}
 use Rattle.gh_ast.specs.Programs.{Name, variable_names}
 use Rattle.gh_ast.specs.Rules.{IsTyped}
 use Rattle.gh_path.specs.Graphs.{PathStep}
-use Rattle.gh_path.specs.Conditions.{Condition, IsCondition}
+use Rattle.gh_path.specs.Conditions.{Condition, IsCondition, IsOf}
+use Rattle.gh_path.specs.Kept.{condition_of, IsOne}
 use Rattle.gh_path.specs.Terms.{Bindings}
 use Rattle.gh_path.specs.declared.condition.Condition as kept
 use Rattle.gh_symb.specs.Symbolic.{symbolic_of}
 use Rattle.gh_symb.specs.Formulas.{problem}
 use Rattle.gh_log.specs.declared.lines.Section.{Section}
 use Rattle.gh_trace.specs.Replay.{Drawn, Refutes}
-use Rattle.gh_trace.specs.Kept.{drawn_of, IsOfProgram, IsOne}
+use Rattle.gh_trace.specs.Kept.{drawn_of}
 use Rattle.gh_trace.specs.declared.state.Trace.{Trace}
+use Rattle.gh_trace.proofs.FirstRefuted.{condition_one}
 use Rattle.gh_decide.specs.Verdicts.{IsGroundOf}
 use Rattle.gh_model.specs.Abstraction.{IsModelOf}
 use Rattle.gh_model.specs.BuiltTraces.{heap_in, built_trace, states_under, versions_along}
-use Rattle.gh_model.specs.KeptTraces.{drawn_over}
+use Rattle.gh_model.specs.KeptTraces.{drawn_over, IsBuilt}
 use Rattle.gh_model.proofs.building.Drawings.{built_is_counterexample}
 use Rattle.gh_small.specs.Models.{IsModel, IsFewest, IsLowest}
 use Rattle.gh_small.specs.Smallest.{first_cells, IsLeast, IsSmallest}
@@ -28,9 +30,9 @@ use Rattle.gh_small.specs.declared.descent.Fewest.{Fewest}
 use Rattle.gh_small.proofs.TraceLemmas.{sections_show}
 
 -- a model of the clauses is one of the condition
-of_condition : (P : Program) (c : Condition) (p : Problem) (m : Interpretation) → p ≡ problem (symbolic_of P c) → IsModel p m → IsModelOf P c m
-of_condition P c p m same is =
-    let here = subst (λ (q : Problem). IsModel q m) same is in
+of_condition : (P : Program) (q : Procedure) (c : Condition) (p : Problem) (m : Interpretation) → p ≡ problem (symbolic_of P q c) → IsModel p m → IsModelOf P q c m
+of_condition P q c p m same is =
+    let here = subst (λ (g : Problem). IsModel g m) same is in
     record { congruence = here.congruence; instances = here.instances; clauses = here.clauses }
 
 -- a trace that has a state begins with the heap of the first version
@@ -42,33 +44,42 @@ begins_first m n vs [] (b ∷ bs) x xs e = refl
 begins_first m n vs (p ∷ ps) (b ∷ bs) x xs e = refl
 
 -- what is lowest shows what is least
-shows_least : (P : Program) (c : Condition) (cells : ℕ) (o : Option Section) → IsTyped P → IsCondition P c → IsProblem (problem (symbolic_of P c)) → IsLowest (problem (symbolic_of P c)) cells o → IsLeast P c cells
-shows_least P c cells None typed is known e = λ x ys against. omega (arith, e)
-shows_least P c cells (Some s) typed is known h = sections_show P c s.lines cells typed is known (omega (arith, h.0)) h.1.valid
+shows_least : (P : Program) (q : Procedure) (c : Condition) (cells : ℕ) (o : Option Section) → IsTyped P → IsCondition P c → IsOf P c q → IsProblem (problem (symbolic_of P q c)) →
+    IsLowest (problem (symbolic_of P q c)) cells o → IsLeast P c cells
+shows_least P q c cells None typed is of known e = λ p its x ys against. omega (arith, e)
+shows_least P q c cells (Some s) typed is of known h = sections_show P q c s.lines cells typed is of known (omega (arith, h.0)) h.1.valid
 
 module _ (P : Program) (r : kept.Condition) (p : Problem) (f : Fewest) (t : Trace) (typed : IsTyped P) (ground : IsGroundOf P r p) (known : IsProblem p) (is : IsFewest p f)
-    (drawn : (c : Condition) → IsOfProgram P r c → drawn_of t ≡ drawn_over (variable_names c.procedure) (built_trace P c (interpretation_of f.structure))) where
+    (drawn : IsBuilt P r f.structure t) where
   abbrev meaning : Interpretation
   meaning = interpretation_of f.structure
 
-  built : (c : Condition) → IsOfProgram P r c → Refutes P c (drawn_over (variable_names c.procedure) (built_trace P c meaning))
-  built c one = built_is_counterexample P c meaning typed one.there (of_condition P c p meaning (ground c one.stands) is.model.model)
+  abbrev its : Condition
+  its = condition_of r
 
-  counted_first : (c : Condition) → IsOfProgram P r c → f.cells ≡ first_cells (drawn_of t)
-  counted_first c one =
-      let refutes = built c one in
-      let terms : f.structure.sizes.terms ≡ length (symbolic_of P c).terms = is.model.terms ∙ ap (λ (q : Problem). q.sizes.terms) (ground c one.stands) in
+  built : (q : Procedure) → IsCondition P its → IsOf P its q → Refutes P its (drawn_over (variable_names q) (built_trace P q its meaning))
+  built q there of = built_is_counterexample P q its meaning typed there of (of_condition P q its p meaning (ground q of) is.model.model)
+
+  counted_first : (q : Procedure) → IsCondition P its → IsOf P its q → f.cells ≡ first_cells (drawn_of t)
+  counted_first q there of =
+      let s = symbolic_of P q its in
+      let refutes = built q there of in
+      let terms : f.structure.sizes.terms ≡ length s.terms = is.model.terms ∙ ap (λ (g : Problem). g.sizes.terms) (ground q of) in
       is.count ∙ ap (λ n. len (heap_in meaning n 0)) terms
-      ∙ sym (begins_first meaning (length (symbolic_of P c).terms) (variable_names c.procedure) c.way.steps (symbolic_of P c).bindings refutes.first refutes.others refutes.states)
-      ∙ sym (ap first_cells (drawn c one))
+      ∙ sym (begins_first meaning (length s.terms) (variable_names q) its.way.steps s.bindings refutes.first refutes.others refutes.states)
+      ∙ sym (ap first_cells (drawn q of))
 
-  lowest : (c : Condition) → IsOfProgram P r c → IsLowest (problem (symbolic_of P c)) f.cells f.section
-  lowest c one = subst (λ (q : Problem). IsLowest q f.cells f.section) (ground c one.stands) is.lowest
+  lowest : (q : Procedure) → IsOf P its q → IsLowest (problem (symbolic_of P q its)) f.cells f.section
+  lowest q of = subst (λ (g : Problem). IsLowest g f.cells f.section) (ground q of) is.lowest
 
   pub smallest_found : IsOne P r → IsSmallest P r (record { trace = t; cells = f.cells; section = f.section })
-  smallest_found one = record {
-    counterexample = λ c kept. subst (Refutes P c) (sym (drawn c kept)) (built c kept);
-    count = counted_first one.0 one.1;
-    least = λ c kept. shows_least P c f.cells f.section typed kept.there (subst IsProblem (ground c kept.stands) known) (lowest c kept);
-    lowest = lowest;
-  }
+  smallest_found one =
+      let there = condition_one P r one in
+      let q = there.procedure in
+      let of = there.of in
+      record {
+        counterexample = subst (Refutes P its) (sym (drawn q of)) (built q there of);
+        count = counted_first q there of;
+        least = shows_least P q its f.cells f.section typed there of (subst IsProblem (ground q of) known) (lowest q of);
+        lowest = lowest;
+      }

@@ -4,9 +4,9 @@ use Rattle.std.specs.FinMap.{len}
 use Rattle.gh_base.specs.declared.sizes.Sizes.{Sizes}
 use Rattle.gh_base.specs.Meaning.{Interpretation, IsClauseTrue, IsCongruence}
 use Rattle.gh_base.specs.Grounds.{Problem, IsProblem}
-use Rattle.gh_ast.specs.Plain.{Program}
+use Rattle.gh_ast.specs.Plain.{Procedure, Program}
 use Rattle.gh_ast.specs.Rules.{IsTyped}
-use Rattle.gh_path.specs.Conditions.{Condition, IsCondition}
+use Rattle.gh_path.specs.Conditions.{Condition, IsCondition, IsOf}
 use Rattle.gh_grass.specs.Truth.{IsOneBefore}
 use Rattle.gh_symb.specs.Symbolic.{symbolic_of}
 use Rattle.gh_symb.specs.Formulas.{problem}
@@ -63,11 +63,12 @@ BoundedIsPossible =
 -- a counterexample with fewer than k first cells gives a model of the bounded clauses of its condition
 abbrev pub SmallTracesAreModels : Type 0
 SmallTracesAreModels =
-    (P : Program) (c : Condition) (x : State) (ys : List State) (k : ℕ) → IsTyped P → IsCondition P c → IsProblem (problem (symbolic_of P c)) → 1 ≤ k
-    → IsCounterexample P c x ys → len x.heap < k → (m : Interpretation) × IsModel (bounded_by (problem (symbolic_of P c)) k) m
+    (P : Program) (p : Procedure) (c : Condition) (x : State) (ys : List State) (k : ℕ) → IsTyped P → IsCondition P c → IsOf P c p
+    → IsProblem (problem (symbolic_of P p c)) → 1 ≤ k → IsCounterexample P p c x ys → len x.heap < k
+    → (m : Interpretation) × IsModel (bounded_by (problem (symbolic_of P p c)) k) m
 
 -- so where a section is valid for these clauses, no counterexample has fewer than k first cells
 abbrev pub SectionsShowLeast : Type 0
 SectionsShowLeast =
-    (P : Program) (c : Condition) (lines : List LogLine) (k : ℕ) → IsTyped P → IsCondition P c → IsProblem (problem (symbolic_of P c)) → 1 ≤ k
-    → IsValidSection (bounded_by (problem (symbolic_of P c)) k) lines → IsLeast P c k
+    (P : Program) (p : Procedure) (c : Condition) (lines : List LogLine) (k : ℕ) → IsTyped P → IsCondition P c → IsOf P c p
+    → IsProblem (problem (symbolic_of P p c)) → 1 ≤ k → IsValidSection (bounded_by (problem (symbolic_of P p c)) k) lines → IsLeast P c k

@@ -1,14 +1,15 @@
 -- Counterexamples with the fewest cells in the first heap.
 use Rattle.std.specs.Prelude.{◌≡◌, ◌↔◌, ◌≤◌, ℕ, List, [], ◌∷◌, Option, Some, None}
 use Rattle.std.specs.FinMap.{len}
-use Rattle.gh_ast.specs.Plain.{Program}
-use Rattle.gh_path.specs.Conditions.{Condition}
+use Rattle.gh_ast.specs.Plain.{Procedure, Program}
+use Rattle.gh_path.specs.Conditions.{Condition, IsOf}
+use Rattle.gh_path.specs.Kept.{condition_of, IsOne}
 use Rattle.gh_path.specs.declared.condition.Condition as kept
 use Rattle.gh_symb.specs.Symbolic.{symbolic_of}
 use Rattle.gh_symb.specs.Formulas.{problem}
 use Rattle.gh_trace.specs.Traces.{State}
-use Rattle.gh_trace.specs.Replay.{Drawn}
-use Rattle.gh_trace.specs.Kept.{drawn_of, IsOfProgram, IsOne, HasNoCounterexample, HasCounterexample}
+use Rattle.gh_trace.specs.Replay.{Drawn, Refutes}
+use Rattle.gh_trace.specs.Kept.{drawn_of, HasNoCounterexample}
 use Rattle.gh_model.specs.TraceLaws.{IsCounterexample}
 use Rattle.gh_small.specs.Models.{IsLowest}
 use Rattle.gh_small.specs.declared.found.Smallest.{Smallest}
@@ -20,14 +21,14 @@ first_cells (x ∷ xs) = len x.state.heap
 
 -- no counterexample of the condition has fewer cells in its first heap
 abbrev pub IsLeast : Program → Condition → ℕ → Type 0
-IsLeast P c cells = (x : State) (ys : List State) → IsCounterexample P c x ys → cells ≤ len x.heap
+IsLeast P c cells = (p : Procedure) → IsOf P c p → (x : State) (ys : List State) → IsCounterexample P p c x ys → cells ≤ len x.heap
 
 -- the trace is a counterexample with so many first cells, and none has fewer; where there is a cell, the section shows that
 pub record IsSmallest (P : Program) (r : kept.Condition) (s : Smallest) : Type 0 where
-  pub counterexample : HasCounterexample P r (drawn_of s.trace)
+  pub counterexample : Refutes P (condition_of r) (drawn_of s.trace)
   pub count : s.cells ≡ first_cells (drawn_of s.trace)
-  pub least : (c : Condition) → IsOfProgram P r c → IsLeast P c s.cells
-  pub lowest : (c : Condition) → IsOfProgram P r c → IsLowest (problem (symbolic_of P c)) s.cells s.section
+  pub least : IsLeast P (condition_of r) s.cells
+  pub lowest : (p : Procedure) → IsOf P (condition_of r) p → IsLowest (problem (symbolic_of P p (condition_of r))) s.cells s.section
 
 -- the condition is valid, or this is the smallest of its counterexamples
 abbrev pub IsFound : Program → kept.Condition → Option Smallest → Type 0

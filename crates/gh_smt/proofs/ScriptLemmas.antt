@@ -1,6 +1,6 @@
 -- What the script of a condition means.
 use Rattle.std.proofs.Common.{◌≡◌, ℕ, List, [], ◌∷◌, map, All, sym, ◌∙◌, ap, subst, arith}
-use Rattle.std.specs.Prelude.{Contains}
+use Rattle.std.specs.Prelude.{Contains, slice_get}
 use Rattle.std.proofs.lemmas.List.Elements.{All-cons, All-head, All-tail, All-append, All-weaker, All-map, All-contains_itself}
 use Rattle.gh_base.specs.declared.atom.Lit.{Lit}
 use Rattle.gh_base.specs.declared.sizes.Sizes.{Sizes}
@@ -12,14 +12,16 @@ use Rattle.gh_inst.specs.Instances.{instances, clause_of, IsInstance}
 use Rattle.gh_inst.specs.Violations.{AreInstancesTrue}
 use Rattle.gh_inst.proofs.ListedLemmas.{all_are_listed}
 use Rattle.gh_inst.proofs.RangeLemmas.{instance_in_range}
-use Rattle.gh_ast.specs.Plain.{Program}
+use Rattle.gh_ast.specs.Plain.{Procedure, Program}
 use Rattle.gh_ast.specs.Rules.{IsTyped}
-use Rattle.gh_path.specs.Conditions.{Condition, IsCondition}
+use Rattle.gh_ast.proofs.Lists.{one_value}
+use Rattle.gh_path.specs.Conditions.{Condition, IsCondition, IsOf}
 use Rattle.gh_grass.specs.Truth.{AreClausesTrue}
 use Rattle.gh_symb.specs.Symbolic.{symbolic_of}
 use Rattle.gh_symb.specs.Formulas.{problem}
 use Rattle.gh_trace.specs.Traces.{State}
-use Rattle.gh_trace.specs.Validity.{AreCounterexample}
+use Rattle.gh_trace.specs.Validity.{AreCounterexample, IsConditionValid}
+use Rattle.gh_model.specs.TraceLaws.{IsCounterexample}
 use Rattle.gh_model.specs.BuiltTraces.{built_trace}
 use Rattle.gh_model.proofs.locality.Traces.{locality_holds}
 use Rattle.gh_model.proofs.soundness.ClauseModels.{traces_give_models}
@@ -79,31 +81,39 @@ from_model p r (m, h) =
 pub scripts_mean_models : ScriptsMeanModels
 scripts_mean_models p is = (to_model p, from_model p is.in_range)
 
--- a list of states that refutes
-refuting : (P : Program) (c : Condition) (xs : List State) → AreCounterexample P c xs → HasCounterexample P c
-refuting P c [] h = absurd h
-refuting P c (x ∷ ys) h = (x, ys, h)
+to_counterexample : (P : Program) (p : Procedure) (c : Condition) → IsTyped P → IsCondition P c → IsOf P c p → HasModel (problem (symbolic_of P p c)) → HasCounterexample P c
+to_counterexample P p c t is of (m, h) =
+    (built_trace P p c m, locality_holds P p c m t is of (record { congruence = h.congruence; instances = h.instances; clauses = h.clauses }))
 
-to_counterexample : (P : Program) (c : Condition) → IsTyped P → IsCondition P c → HasModel (problem (symbolic_of P c)) → HasCounterexample P c
-to_counterexample P c t is (m, h) =
-    refuting P c (built_trace P c m) (locality_holds P c m t is (record { congruence = h.congruence; instances = h.instances; clauses = h.clauses }))
+-- the procedure of a condition is one
+at_procedure : (P : Program) (p q : Procedure) (c : Condition) (x : State) (ys : List State) → IsOf P c p → IsOf P c q → IsCounterexample P q c x ys → IsCounterexample P p c x ys
+at_procedure P p q c x ys of its h =
+    let same : q ≡ p = one_value (slice_get P.procedures c.procedure) q p its of in
+    subst (λ (o : Procedure). IsCounterexample P o c x ys) same h
 
-from_counterexample : (P : Program) (c : Condition) → IsTyped P → IsCondition P c → HasCounterexample P c → HasModel (problem (symbolic_of P c))
-from_counterexample P c t is (x, ys, h) =
-    let m = traces_give_models P c x ys t is h in
+from_counterexample : (P : Program) (p : Procedure) (c : Condition) → IsTyped P → IsCondition P c → IsOf P c p → (xs : List State) → AreCounterexample P c xs → HasModel (problem (symbolic_of P p c))
+from_counterexample P p c t is of [] h = absurd h
+from_counterexample P p c t is of (x ∷ ys) (q, its, h) =
+    let m = traces_give_models P p c x ys t is of (at_procedure P p q c x ys of its h) in
     (m.0, record { congruence = m.1.congruence; instances = m.1.instances; clauses = m.1.clauses })
 
+-- a valid condition has no counterexample
+not_valid : (P : Program) (c : Condition) → IsConditionValid P c → (xs : List State) → AreCounterexample P c xs → ⊥
+not_valid P c valid [] h = h
+not_valid P c valid (x ∷ ys) (q, its, h) = valid q its x ys h
+
 pub scripts_decide : ScriptsDecide
-scripts_decide P c t is p =
-    let s = problem (symbolic_of P c) in
-    let satisfied : HasCounterexample P c → IsSatisfiable (script_of s) = λ h. from_model s p.in_range (from_counterexample P c t is h) in
-    let refuted : IsSatisfiable (script_of s) → HasCounterexample P c = λ h. to_counterexample P c t is (to_model s h) in
+scripts_decide P p c t is of known =
+    let s = problem (symbolic_of P p c) in
+    let satisfied : HasCounterexample P c → IsSatisfiable (script_of s) = λ h. from_model s known.in_range (from_counterexample P p c t is of h.0 h.1) in
+    let refuted : IsSatisfiable (script_of s) → HasCounterexample P c = λ h. to_counterexample P p c t is of (to_model s h) in
     record {
       satisfiable = (refuted, satisfied);
-      unsatisfiable = (λ none x ys h. none (satisfied (x, ys, h)), λ valid h. let w = refuted h in valid w.0 w.1 w.2);
+      unsatisfiable = (λ none q its x ys h. none (satisfied (x ∷ ys, (q, its, h))), λ valid h. let w = refuted h in not_valid P c valid w.0 w.1);
     }
 
 -- the same of a script and a problem that are those
-pub script_decides : (P : Program) (c : Condition) (p s : Problem) → IsTyped P → IsCondition P c → p ≡ problem (symbolic_of P c) → IsProblem p → s ≡ script_of p → DecidesCondition P c s
-script_decides P c p s t is e i same =
-    subst (DecidesCondition P c) (sym (same ∙ ap script_of e)) (scripts_decide P c t is (subst IsProblem e i))
+pub script_decides : (P : Program) (q : Procedure) (c : Condition) (p s : Problem) → IsTyped P → IsCondition P c → IsOf P c q → p ≡ problem (symbolic_of P q c) → IsProblem p → s ≡ script_of p →
+    DecidesCondition P c s
+script_decides P q c p s t is of e i same =
+    subst (DecidesCondition P c) (sym (same ∙ ap script_of e)) (scripts_decide P q c t is of (subst IsProblem e i))

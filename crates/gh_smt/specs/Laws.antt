@@ -2,16 +2,15 @@
 use Rattle.std.specs.Prelude.{◌≡◌, ◌↔◌, List}
 use Rattle.gh_base.specs.Grounds.{Problem, IsProblem}
 use Rattle.gh_base.specs.Meaning.{Interpretation, IsCongruence}
-use Rattle.gh_ast.specs.Plain.{Program}
+use Rattle.gh_ast.specs.Plain.{Procedure, Program}
 use Rattle.gh_ast.specs.Rules.{IsTyped}
-use Rattle.gh_path.specs.Conditions.{Condition, IsCondition}
+use Rattle.gh_path.specs.Conditions.{Condition, IsCondition, IsOf}
 use Rattle.gh_grass.specs.Truth.{AreClausesTrue}
 use Rattle.gh_symb.specs.Symbolic.{symbolic_of}
 use Rattle.gh_symb.specs.Formulas.{problem}
 use Rattle.gh_inst.specs.Violations.{AreInstancesTrue}
 use Rattle.gh_trace.specs.Traces.{State}
-use Rattle.gh_trace.specs.Validity.{IsConditionValid}
-use Rattle.gh_model.specs.TraceLaws.{IsCounterexample}
+use Rattle.gh_trace.specs.Validity.{AreCounterexample, IsConditionValid}
 use Rattle.gh_smt.specs.Scripts.{IsScript, script_of}
 use Rattle.gh_smt.specs.Texts.{script_text}
 use Rattle.gh_smt.specs.Meaning.{IsSatisfiable}
@@ -30,7 +29,7 @@ abbrev pub ScriptsMeanModels : Type 0
 ScriptsMeanModels = (p : Problem) → IsProblem p → IsSatisfiable (script_of p) ↔ HasModel p
 
 abbrev pub HasCounterexample : Program → Condition → Type 0
-HasCounterexample P c = (x : State) × (ys : List State) × IsCounterexample P c x ys
+HasCounterexample P c = (xs : List State) × AreCounterexample P c xs
 
 -- satisfiable exactly where the condition has a counterexample, unsatisfiable exactly where it is valid
 pub record DecidesCondition (P : Program) (c : Condition) (script : Problem) : Type 0 where
@@ -40,13 +39,14 @@ pub record DecidesCondition (P : Program) (c : Condition) (script : Problem) : T
 -- and so for each condition of which these are the clauses
 abbrev pub DecidesItsConditions : Problem → Problem → Type 0
 DecidesItsConditions clauses script =
-    (P : Program) (c : Condition) → IsTyped P → IsCondition P c → clauses ≡ problem (symbolic_of P c) → DecidesCondition P c script
+    (P : Program) (p : Procedure) (c : Condition) → IsTyped P → IsCondition P c → IsOf P c p → clauses ≡ problem (symbolic_of P p c)
+    → DecidesCondition P c script
 
 -- that of a condition is
 abbrev pub ScriptsDecide : Type 0
 ScriptsDecide =
-    (P : Program) (c : Condition) → IsTyped P → IsCondition P c → IsProblem (problem (symbolic_of P c))
-    → DecidesCondition P c (script_of (problem (symbolic_of P c)))
+    (P : Program) (p : Procedure) (c : Condition) → IsTyped P → IsCondition P c → IsOf P c p → IsProblem (problem (symbolic_of P p c))
+    → DecidesCondition P c (script_of (problem (symbolic_of P p c)))
 
 -- two scripts that have one text are one
 abbrev pub TextsAreOne : Type 0

@@ -1,21 +1,23 @@
 -- The encodings of steps and checks from those of their parts.
-use Rattle.std.specs.Prelude.{◌≡◌, ℕ, List, [], ◌∷◌, ◌++◌, filter, Some, All, Bool}
+use Rattle.std.specs.Prelude.{◌≡◌, ℕ, List, [], ◌∷◌, ◌++◌, filter, Option, Some, All, Bool}
 use Rattle.std.proofs.Common.{refl, sym, ◌∙◌, ap, subst, Vec, Global}
 use Rattle.std.proofs.lemmas.List.{append_assoc}
 use Rattle.std.proofs.lemmas.List.Elements.{All-head, All-tail}
 use Rattle.gh_base.specs.declared.atom.Term.{Term}
-use Rattle.gh_ast.specs.Plain.{Formula, Procedure, Program}
+use Rattle.gh_ast.specs.Plain.{Formula, Procedure}
 use Rattle.gh_ast.specs.Programs.{Name, results_of}
-use Rattle.gh_path.specs.Graphs.{Loop, looped}
-use Rattle.gh_path.specs.Terms.{Terms, walked, moved_on, rebound, renewed, some_assigns, bound_inside}
-use Rattle.gh_symb.specs.Symbolic.{Under, under, each_under, parts, call_parts, needs_under, accessed, assumed, written, made, freed, access, sub, whole}
+use Rattle.gh_path.specs.Graphs.{Loop}
+use Rattle.gh_path.specs.Terms.{Terms, walked, invariant_walked, moved_on, rebound, renewed, some_assigns, bound_inside}
+use Rattle.gh_symb.specs.Symbolic.{Under, under, each_under, parts, call_parts, needs_under, entered_under, ended_under, accessed, assumed, written, made, freed, access, sub, whole}
 use Rattle.gh_symb.specs.Encodings.{Each, IsUnder}
-use Rattle.gh_symb.specs.Fitting.{EncodesUnder, EncodesStep, EncodesCheck, IsTermOf, JoinsParts}
+use Rattle.gh_symb.specs.Fitting.{EncodesUnder, EncodesStep, EncodesCheck, IsTermOf, JoinsParts, AsksWhole}
 use Rattle.gh_symb.specs.Inside.{IsUnderInside}
-use Rattle.gh_symb.specs.Phases.{under_bindings, step_encoding}
+use Rattle.gh_symb.specs.Phases.{under_bindings, loop_encoding}
+use Rattle.gh_symb.specs.Steps.{EndsWith}
 use Rattle.gh_symb.specs.declared.over_terms.Bound.{Bound}
 use Rattle.gh_symb.specs.declared.over_terms.TermStep.{TermStep}
 use Rattle.gh_symb.specs.declared.over_terms.TermStep.TheVariants as step
+use Rattle.gh_symb.specs.declared.over_terms.TermCheck.{TermCheck}
 use Rattle.gh_symb.specs.declared.over_terms.TermCheck.TheVariants as check
 use Rattle.gh_symb.proofs.FollowLemmas.{each_more}
 
@@ -66,10 +68,10 @@ whole_encoded ways us each = λ fits. (us, each_fits ways.items us each fits, re
 pub one_whole : (b : Bound) (ways : Vec Bound Global) (u : Under) → ways.items ≡ b ∷ [] → EncodesUnder b u → EncodesCheck (check.Whole ways) (whole (u ∷ []))
 one_whole b ways u is one = whole_encoded ways (u ∷ []) (subst (λ (bs : List Bound). Each EncodesUnder bs (u ∷ [])) (sym is) (one, tt))
 
-pub loop_encoded : (P : Program) (xs : List Name) (l : Loop) (s r : Terms) (before after : Bound) (encoded : TermStep) →
+pub loop_encoded : (xs : List Name) (l : Loop) (s r : Terms) (before after : Bound) (encoded : TermStep) →
     EncodesUnder before (under_bindings l.invariant s.bindings s.version) → r ≡ renewed (filter (some_assigns l.body) xs) (moved_on s) → EncodesUnder after (under l.invariant r) →
-    JoinsParts before after encoded → EncodesStep encoded (step_encoding P xs (looped l) s)
-loop_encoded P xs l s r before after encoded first renew second joins =
+    JoinsParts before after encoded → EncodesStep encoded (loop_encoding (Some l) xs s)
+loop_encoded xs l s r before after encoded first renew second joins =
     joins (under_bindings l.invariant s.bindings s.version) (under l.invariant (renewed (filter (some_assigns l.body) xs) (moved_on s))) first
     (subst (λ q. EncodesUnder after (under l.invariant q)) renew second)
 
@@ -87,6 +89,22 @@ call_encoded p ts s i r before after enters first renew all = λ fits.
 pub entry_encoded : (p : Procedure) (ts : List ℕ) (s i : Terms) (b : Bound) → i ≡ rebound s (bound_inside p ts) → EncodesUnder b (under p.needs i) → EncodesCheck (check.Sub b) (needs_under (Some p) ts s)
 entry_encoded p ts s i b enters first =
     sub_encoded b (under p.needs (rebound s (bound_inside p ts))) (subst (λ q. EncodesUnder b (under p.needs q)) enters first)
+
+-- the invariant of a loop that is found by its number, once it is walked; as it is asked where the loop is entered, and where its body ends
+pub invariant_goes : (o : Option Loop) (l : Loop) (f : Formula) (s t : Terms) → o ≡ Some l → f ≡ l.invariant → t ≡ walked f s → t ≡ invariant_walked o s
+invariant_goes o l f s t at is walks = walks ∙ ap (λ g. walked g s) is ∙ ap (λ q. invariant_walked q s) (sym at)
+
+pub entered_encoded : (o : Option Loop) (l : Loop) (f : Formula) (s : Terms) (b : Bound) → o ≡ Some l → f ≡ l.invariant → EncodesUnder b (under f s) → EncodesCheck (check.Sub b) (entered_under o s)
+entered_encoded o l f s b at is one =
+    subst (λ q. EncodesCheck (check.Sub b) (entered_under q s)) (sym at) (subst (λ g. EncodesCheck (check.Sub b) (sub (under g s))) is (sub_encoded b (under f s) one))
+
+pub ended_encoded : (o : Option Loop) (l : Loop) (f : Formula) (s : Terms) (b : Bound) (asked : TermCheck) → o ≡ Some l → f ≡ l.invariant → EncodesUnder b (under f s) → AsksWhole b asked →
+    EncodesCheck asked (ended_under o s)
+ended_encoded o l f s b asked at is one asks =
+    subst (λ q. EncodesCheck asked (ended_under q s)) (sym at) (subst (λ g. EncodesCheck asked (whole (under g s ∷ []))) is (asks (under f s) one))
+
+pub ends_with : (s t : Terms) → t ≡ s → EndsWith s t.kinds t.version
+ends_with s t e = record { kinds_are = ap (λ (q : Terms). q.kinds) e; version_is = ap (λ (q : Terms). q.version) e }
 
 -- one more alternative is walked and encoded
 pub each_encoded : (bs : List Bound) (b : Bound) (encoded_so_far : List Under) (f : Formula) (fs : List Formula) (s t : Terms) (all : List Under) →

@@ -1,59 +1,89 @@
--- The first procedure that has a condition with a property.
+-- The first procedure that has a way with a property.
 use Rattle.std.specs.Prelude.{◌≡◌, ℕ, zero, suc, ◌+◌, ◌-◌, ◌<◌, List, [], ◌∷◌, map, length, get_or, slice_get, Some, Any, Contains}
+use Rattle.std.specs.Option.{option_map}
 use Rattle.std.proofs.Common.{refl, sym, ◌∙◌, ap, subst, inl, inr, arith}
-use Rattle.std.proofs.lemmas.Option.{slice_get_read, get_or_from_slice_get}
+use Rattle.std.proofs.lemmas.List.{length-map}
+use Rattle.std.proofs.lemmas.Option.{slice_get_read, slice_get-map, slice_get_within, get_or_from_slice_get}
 use Rattle.gh_base.proofs.ListLemmas.{over_or, at_front, at_back}
 use Rattle.gh_ast.specs.Lists.{IsFirstWith}
-use Rattle.gh_ast.specs.Plain.{Procedure}
-use Rattle.gh_ast.proofs.Lists.{member_cases, no_member}
-use Rattle.gh_path.specs.Graphs.{Start, starts}
-use Rattle.gh_path.specs.Paths.{Way, ways}
-use Rattle.gh_path.specs.Conditions.{Condition, condition, from_starts, conditions_of, from_procedures}
+use Rattle.gh_ast.specs.Plain.{Procedure, Program}
+use Rattle.gh_ast.proofs.Lists.{member_cases, no_member, one_value}
+use Rattle.gh_path.specs.Graphs.{Start}
+use Rattle.gh_path.specs.Paths.{Way}
+use Rattle.gh_path.specs.Conditions.{Course, courses_of, Condition, condition, from_procedures, IsOf}
 
-own_way : (p : Procedure) (a : Start) (ws : List Way) (k : ℕ) (c : Condition) → slice_get (map (condition p a) ws) k ≡ Some c → c.procedure ≡ p
-own_way p a [] k c at = absurd cc
-own_way p a (w ∷ ws) zero c at = let same : c ≡ condition p a w = cc in ap (λ d. d.procedure) same
-own_way p a (w ∷ ws) (suc k) c at = own_way p a ws k c at
+-- a procedure has a way with the property
+abbrev pub HasSome : Program → (Procedure → Start → Way → Type 0) → Procedure → Type 0
+HasSome P Q p = Any (λ c. Q p c.start c.way) (courses_of P p)
 
-own_start : (p : Procedure) (all : List Start) (k : ℕ) (c : Condition) → slice_get (from_starts p all) k ≡ Some c → c.procedure ≡ p
-own_start p [] k c at = absurd cc
-own_start p (a ∷ all) k c at =
-    let here = map (condition p a) (ways a.graph) in
-    elim (over_or k (length here)) [
-      | inl within ↦ own_way p a (ways a.graph) k c (sym (at_front here (from_starts p all) k within) ∙ at)
-      | inr past ↦ own_start p all (k - length here) c (sym (at_back here (from_starts p all) k (k - length here) (omega (arith, past))) ∙ at)
-    ]
+-- the procedures stand in the program from the number n on
+abbrev pub StandFrom : Program → ℕ → List Procedure → Type 0
+StandFrom P n ps = (j : ℕ) → slice_get P.procedures (n + j) ≡ slice_get ps j
+
+pub all_stand : (P : Program) → StandFrom P 0 P.procedures
+all_stand P = λ j. let same : 0 + j ≡ j = omega arith in ap (slice_get P.procedures) same
+
+first_stands : (P : Program) (n : ℕ) (p : Procedure) (ps : List Procedure) → StandFrom P n (p ∷ ps) → slice_get P.procedures n ≡ Some p
+first_stands P n p ps stand = let same : n ≡ n + 0 = omega arith in ap (slice_get P.procedures) same ∙ stand 0
+
+rest_stand : (P : Program) (n : ℕ) (p : Procedure) (ps : List Procedure) → StandFrom P n (p ∷ ps) → StandFrom P (suc n) ps
+rest_stand P n p ps stand = λ j. let same : suc n + j ≡ n + suc j = omega arith in ap (slice_get P.procedures) same ∙ stand (suc j)
+
+own_course : (n : ℕ) (cs : List Course) (k : ℕ) (d : Condition) → slice_get (map (condition n) cs) k ≡ Some d → (c : Course) × (slice_get cs k ≡ Some c) × (condition n c ≡ d)
+own_course n [] k d at = absurd cc
+own_course n (c ∷ cs) zero d at = let same : condition n c ≡ d = cc in (c, refl, same)
+own_course n (c ∷ cs) (suc k) d at = own_course n cs k d at
+
+-- the condition of a course stands where the course stands
+condition_at : (P : Program) (n : ℕ) (p : Procedure) (ps : List Procedure) (k : ℕ) (c : Course) → k < length (courses_of P p) → c ≡ get_or (courses_of P p) k c →
+    slice_get (from_procedures P n (p ∷ ps)) k ≡ Some (condition n c)
+condition_at P n p ps k c within is =
+    let cs = courses_of P p in
+    let here = map (condition n) cs in
+    let inside : k < length here = omega (arith, within, length-map cs (condition n)) in
+    at_front here (from_procedures P (suc n) ps) k inside ∙ slice_get-map (condition n) cs k ∙ ap (option_map (condition n)) (slice_get_read cs (length cs) k c refl within is)
 
 -- the condition at k is the first with the property, so its procedure is the first that has one
-pub first_in : (Q : Condition → Type 0) (ps : List Procedure) (k : ℕ) (c : Condition) → slice_get (from_procedures ps) k ≡ Some c → Q c →
-    ((j : ℕ) (d : Condition) → j < k → slice_get (from_procedures ps) j ≡ Some d → Q d → ⊥) → IsFirstWith (λ p. Any Q (conditions_of p)) ps c.procedure
-first_in Q [] k c at holds none = absurd cc
-first_in Q (p ∷ ps) k c at holds none =
-    let here = conditions_of p in
-    let rest = from_procedures ps in
+pub first_in : (P : Program) (Q : Procedure → Start → Way → Type 0) (n : ℕ) (ps : List Procedure) → StandFrom P n ps →
+    (k : ℕ) (d : Condition) (q : Procedure) → slice_get (from_procedures P n ps) k ≡ Some d → IsOf P d q → Q q d.start d.way →
+    ((j : ℕ) (e : Condition) (r : Procedure) → j < k → slice_get (from_procedures P n ps) j ≡ Some e → IsOf P e r → Q r e.start e.way → ⊥) → IsFirstWith (HasSome P Q) ps q
+first_in P Q n [] stand k d q at of holds none = absurd cc
+first_in P Q n (p ∷ ps) stand k d q at of holds none =
+    let cs = courses_of P p in
+    let here = map (condition n) cs in
+    let rest = from_procedures P (suc n) ps in
+    let its = first_stands P n p ps stand in
     elim (over_or k (length here)) [
       | inl within ↦
-          let there : slice_get here k ≡ Some c = sym (at_front here rest k within) ∙ at in
-          let own : c.procedure ≡ p = own_start p (starts p) k c there in
-          let one : Any Q here = (k, c, within, get_or_from_slice_get here k c c there, holds) in
+          let found = own_course n cs k d (sym (at_front here rest k within) ∙ at) in
+          let number : n ≡ d.procedure = ap (λ (e : Condition). e.procedure) found.2 in
+          let same : p ≡ q = one_value (slice_get P.procedures n) p q its (ap (slice_get P.procedures) number ∙ of) in
+          let there : Q q found.0.start found.0.way = subst (λ (e : Condition). Q q e.start e.way) (sym found.2) holds in
+          let one : HasSome P Q p = (
+            k,
+            found.0,
+            slice_get_within cs k found.0 found.1,
+            get_or_from_slice_get cs k found.0 found.0 found.1,
+            subst (λ r. Q r found.0.start found.0.way) (sym same) there,
+          ) in
           record {
             place = 0;
             within = omega arith;
-            element = sym own;
-            holds = subst (λ q. Any Q (conditions_of q)) (sym own) one;
-            earlier = λ j d less. absurd (omega (arith, less));
+            element = same;
+            holds = subst (HasSome P Q) same one;
+            earlier = λ j e less. absurd (omega (arith, less));
           }
       | inr past ↦
-          let there : slice_get rest (k - length here) ≡ Some c = sym (at_back here rest k (k - length here) (omega (arith, past))) ∙ at in
-          let later = first_in Q ps (k - length here) c there holds
-          (λ j d less found. none (length here + j) d (omega (arith, less, past)) (at_back here rest (length here + j) j refl ∙ found)) in
-          let empty : Any Q here → ⊥ = λ any.
-          none any.0 any.1 (omega (arith, any.2, past)) (at_front here rest any.0 any.2 ∙ slice_get_read here (length here) any.0 any.1 refl any.2 (sym any.3)) any.4 in
-          after p ps c.procedure empty later
+          let there : slice_get rest (k - length here) ≡ Some d = sym (at_back here rest k (k - length here) (omega (arith, past))) ∙ at in
+          let later = first_in P Q (suc n) ps (rest_stand P n p ps stand) (k - length here) d q there of holds
+          (λ j e r less found. none (length here + j) e r (omega (arith, less, past)) (at_back here rest (length here + j) j refl ∙ found)) in
+          let size : length here ≡ length cs = length-map cs (condition n) in
+          let empty : HasSome P Q p → ⊥ = λ any.
+          none any.0 (condition n any.1) p (omega (arith, any.2, past, size)) (condition_at P n p ps any.0 any.1 any.2 (sym any.3)) its any.4 in
+          after p ps q empty later
     ]
   where
-    after : (p : Procedure) (ps : List Procedure) (q : Procedure) → (Any Q (conditions_of p) → ⊥) → IsFirstWith (λ p. Any Q (conditions_of p)) ps q →
-        IsFirstWith (λ p. Any Q (conditions_of p)) (p ∷ ps) q
+    after : (p : Procedure) (ps : List Procedure) (q : Procedure) → (HasSome P Q p → ⊥) → IsFirstWith (HasSome P Q) ps q → IsFirstWith (HasSome P Q) (p ∷ ps) q
     after p ps q empty later = record {
       place = suc later.place;
       within = omega (arith, later.within);
@@ -62,19 +92,20 @@ first_in Q (p ∷ ps) k c at holds none =
       earlier = by_place;
     }
       where
-        by_place : (j : ℕ) (d : Procedure) → j < suc later.place → Any Q (conditions_of (get_or (p ∷ ps) j d)) → ⊥
-        by_place zero d less any = empty any
-        by_place (suc j) d less any = later.earlier j d (omega (arith, less)) any
+        by_place : (j : ℕ) (r : Procedure) → j < suc later.place → HasSome P Q (get_or (p ∷ ps) j r) → ⊥
+        by_place zero r less any = empty any
+        by_place (suc j) r less any = later.earlier j r (omega (arith, less)) any
 
-pub none_in : (Q : Condition → Type 0) (ps : List Procedure) → ((j : ℕ) (d : Condition) → slice_get (from_procedures ps) j ≡ Some d → Q d → ⊥) →
-    (p : Procedure) → Contains ps p → Any Q (conditions_of p) → ⊥
-none_in Q [] none p there any = no_member p there
-none_in Q (q ∷ ps) none p there any =
-    let here = conditions_of q in
-    let rest = from_procedures ps in
+pub none_in : (P : Program) (Q : Procedure → Start → Way → Type 0) (n : ℕ) (ps : List Procedure) → StandFrom P n ps →
+    ((j : ℕ) (e : Condition) (r : Procedure) → slice_get (from_procedures P n ps) j ≡ Some e → IsOf P e r → Q r e.start e.way → ⊥) → (p : Procedure) → Contains ps p → HasSome P Q p → ⊥
+none_in P Q n [] stand none p there any = no_member p there
+none_in P Q n (q ∷ ps) stand none p there any =
+    let here = map (condition n) (courses_of P q) in
+    let rest = from_procedures P (suc n) ps in
     elim (member_cases q ps p there) [
       | inl same ↦
-          let own : Any Q here = subst (λ r. Any Q (conditions_of r)) (sym same) any in
-          none own.0 own.1 (at_front here rest own.0 own.2 ∙ slice_get_read here (length here) own.0 own.1 refl own.2 (sym own.3)) own.4
-      | inr more ↦ none_in Q ps (λ j d found. none (length here + j) d (at_back here rest (length here + j) j refl ∙ found)) p more any
+          let own : HasSome P Q q = subst (HasSome P Q) (sym same) any in
+          none own.0 (condition n own.1) q (condition_at P n q ps own.0 own.1 own.2 (sym own.3)) (first_stands P n q ps stand) own.4
+      | inr more ↦
+          none_in P Q (suc n) ps (rest_stand P n q ps stand) (λ j e r found. none (length here + j) e r (at_back here rest (length here + j) j refl ∙ found)) p more any
     ]

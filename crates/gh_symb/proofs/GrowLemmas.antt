@@ -1,5 +1,5 @@
 -- A walk only adds terms.
-use Rattle.std.specs.Prelude.{ℕ, ◌≤◌, List, [], ◌∷◌, ◌++◌, length, Option, Some, None, Bool, true, false, cond, filter}
+use Rattle.std.specs.Prelude.{ℕ, ◌≤◌, List, [], ◌∷◌, ◌++◌, length, Option, Some, None, Bool, true, false, cond, filter, slice_get}
 use Rattle.std.specs.List.{list_any}
 use Rattle.std.proofs.Common.{arith}
 use Rattle.std.proofs.lemmas.List.{length-append}
@@ -9,9 +9,9 @@ use Rattle.gh_ast.specs.declared.Expr.{Expr}
 use Rattle.gh_ast.specs.declared.Expr.TheVariants.{Plain, Read}
 use Rattle.gh_ast.specs.Plain.{Test, compare, negation, conjunction, disjunction, Tests, no_tests, test_first}
 use Rattle.gh_ast.specs.Plain.{Formula, empty, comparison, points_to, cell, segment, star, cases, Formulas, no_formulas, formula_first, Procedure, Program}
-use Rattle.gh_ast.specs.Programs.{Name, names, results_of}
-use Rattle.gh_path.specs.Graphs.{Check, access, entry, loop_entry, returned, loop_end, PathStep, accessed, assume, assigned, made, written, freed, called, looped, answered}
-use Rattle.gh_path.specs.Terms.{Kind, next, same_kind, added, with_value, Bindings, bound, Terms, terms, used, used_as, term_of, followed, operand_used, expr_used, exprs_used, exprs_terms, test_walked, tests_walked, walked, all_walked, each_walked, moved_on, rebound, renewed, callee_in, bound_inside, answered_inside, call_walked, step_walked, steps_walked, entry_walked, check_walked, some_assigns}
+use Rattle.gh_ast.specs.Programs.{Name, names, results_of, variable_names}
+use Rattle.gh_path.specs.Graphs.{Check, access, entry, loop_entry, returned, loop_end, PathStep, accessed, assume, assigned, made, written, freed, called, looped, answered, Loop, loops_of}
+use Rattle.gh_path.specs.Terms.{Kind, next, same_kind, added, with_value, Bindings, bound, Terms, terms, used, used_as, term_of, followed, operand_used, expr_used, exprs_used, exprs_terms, test_walked, tests_walked, walked, all_walked, each_walked, moved_on, rebound, renewed, bound_inside, answered_inside, call_walked, loop_walked, step_walked, steps_walked, entry_walked, invariant_walked, check_walked, some_assigns}
 
 abbrev pub size : Terms → ℕ
 size s = length s.kinds
@@ -99,34 +99,42 @@ pub call_grows : (o : Option Procedure) (xs : List Name) (ts : List ℕ) (s : Te
 call_grows None xs ts s = same (size s)
 call_grows (Some p) xs ts s = inside_grows p xs s.bindings (rebound s (bound_inside p ts))
 
-step_grows : (P : Program) (xs : List Name) (p : PathStep) (s : Terms) → size s ≤ size (step_walked P xs p s)
-step_grows P xs (accessed o) s = visited_grows o.name s
-step_grows P xs (assume l e r way) s = onto (expr_grows l s) (expr_grows r (expr_used l s))
-step_grows P xs (assigned x e) s = expr_grows e s
-step_grows P xs (made x) s = onto (value_grows s.kinds) (value_grows (with_value s.kinds))
-step_grows P xs (written x e) s = onto (used_grows x.name s) (expr_grows e (used x.name s))
-step_grows P xs (freed x) s = used_grows x.name s
-step_grows P xs (called ys f es) s =
-    let t = exprs_used es s in
-    onto (exprs_grow es s) (call_grows (callee_in P.procedures f.name) (names ys) (exprs_terms es t) t)
-step_grows P xs (looped l) s =
+loop_grows : (o : Option Loop) (xs : List Name) (s : Terms) → size s ≤ size (loop_walked o xs s)
+loop_grows None xs s = same (size s)
+loop_grows (Some l) xs s =
     let t = moved_on (walked l.invariant s) in
     onto (walked_grows l.invariant s) (onto (renewed_grows (filter (some_assigns l.body) xs) t) (walked_grows l.invariant (renewed (filter (some_assigns l.body) xs) t)))
-step_grows P xs (answered ys es) s = exprs_grow es s
 
-pub steps_grow : (P : Program) (xs : List Name) (ps : List PathStep) (s : Terms) → size s ≤ size (steps_walked P xs ps s)
-steps_grow P xs [] s = same (size s)
-steps_grow P xs (p ∷ ps) s = onto (step_grows P xs p s) (steps_grow P xs ps (step_walked P xs p s))
+step_grows : (P : Program) (p : Procedure) (x : PathStep) (s : Terms) → size s ≤ size (step_walked P p x s)
+step_grows P p (accessed o) s = visited_grows o.name s
+step_grows P p (assume l e r) s = onto (expr_grows l s) (expr_grows r (expr_used l s))
+step_grows P p (assigned x e) s = expr_grows e s
+step_grows P p (made x) s = onto (value_grows s.kinds) (value_grows (with_value s.kinds))
+step_grows P p (written x e) s = onto (used_grows x.name s) (expr_grows e (used x.name s))
+step_grows P p (freed x) s = used_grows x.name s
+step_grows P p (called ys n es) s =
+    let t = exprs_used es s in
+    onto (exprs_grow es s) (call_grows (slice_get P.procedures n) (names ys) (exprs_terms es t) t)
+step_grows P p (looped n) s = loop_grows (slice_get (loops_of p) n) (variable_names p) s
+step_grows P p (answered es) s = exprs_grow es s
+
+pub steps_grow : (P : Program) (p : Procedure) (xs : List PathStep) (s : Terms) → size s ≤ size (steps_walked P p xs s)
+steps_grow P p [] s = same (size s)
+steps_grow P p (x ∷ xs) s = onto (step_grows P p x s) (steps_grow P p xs (step_walked P p x s))
 
 pub entry_grows : (o : Option Procedure) (ts : List ℕ) (s : Terms) → size s ≤ size (entry_walked o ts s)
 entry_grows None ts s = same (size s)
 entry_grows (Some p) ts s = walked_grows p.needs (rebound s (bound_inside p ts))
 
-pub check_grows : (P : Program) (c : Check) (s : Terms) → size s ≤ size (check_walked P c s)
-check_grows P (access o) s = used_grows o.name s
-check_grows P (entry f es) s =
+invariant_grows : (o : Option Loop) (s : Terms) → size s ≤ size (invariant_walked o s)
+invariant_grows None s = same (size s)
+invariant_grows (Some l) s = walked_grows l.invariant s
+
+pub check_grows : (P : Program) (p : Procedure) (c : Check) (s : Terms) → size s ≤ size (check_walked P p c s)
+check_grows P p (access o) s = used_grows o.name s
+check_grows P p (entry at n es) s =
     let t = exprs_used es s in
-    onto (exprs_grow es s) (entry_grows (callee_in P.procedures f.name) (exprs_terms es t) t)
-check_grows P (loop_entry l) s = walked_grows l.invariant s
-check_grows P (returned at fs) s = each_grows fs s
-check_grows P (loop_end l) s = walked_grows l.invariant s
+    onto (exprs_grow es s) (entry_grows (slice_get P.procedures n) (exprs_terms es t) t)
+check_grows P p (loop_entry at n) s = invariant_grows (slice_get (loops_of p) n) s
+check_grows P p (returned at) s = each_grows p.gives s
+check_grows P p (loop_end at n) s = invariant_grows (slice_get (loops_of p) n) s

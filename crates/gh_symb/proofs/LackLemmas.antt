@@ -1,5 +1,5 @@
 -- A variable that has no term after a walk had none before.
-use Rattle.std.specs.Prelude.{◌≡◌, ℕ, List, [], ◌∷◌, map, length, Option, Some, None, Bool, true, false, cond, filter}
+use Rattle.std.specs.Prelude.{◌≡◌, ℕ, List, [], ◌∷◌, map, length, Option, Some, None, Bool, true, false, cond, filter, slice_get}
 use Rattle.std.specs.Str.{bytes_eq}
 use Rattle.gh_ast.specs.declared.Operand.{Operand}
 use Rattle.gh_ast.specs.declared.Operand.TheVariants.{Null, Var}
@@ -7,9 +7,9 @@ use Rattle.gh_ast.specs.declared.Expr.{Expr}
 use Rattle.gh_ast.specs.declared.Expr.TheVariants.{Plain, Read}
 use Rattle.gh_ast.specs.Plain.{Test, compare, negation, conjunction, disjunction, Tests, no_tests, test_first}
 use Rattle.gh_ast.specs.Plain.{Formula, empty, comparison, points_to, cell, segment, star, cases, Formulas, no_formulas, formula_first, Procedure, Program}
-use Rattle.gh_ast.specs.Programs.{Name, names, results_of}
-use Rattle.gh_path.specs.Graphs.{PathStep, accessed, assume, assigned, made, written, freed, called, looped, answered}
-use Rattle.gh_path.specs.Terms.{with_value, Bindings, bound, all_bound, Terms, terms, used, used_as, term_of, followed, operand_used, expr_used, expr_term, exprs_used, exprs_terms, test_walked, tests_walked, walked, all_walked, each_walked, moved_on, rebound, renewed, callee_in, bound_inside, answered_inside, call_walked, step_walked, some_assigns}
+use Rattle.gh_ast.specs.Programs.{Name, names, results_of, variable_names}
+use Rattle.gh_path.specs.Graphs.{PathStep, accessed, assume, assigned, made, written, freed, called, looped, answered, Loop, loops_of}
+use Rattle.gh_path.specs.Terms.{with_value, Bindings, bound, all_bound, Terms, terms, used, used_as, term_of, followed, operand_used, expr_used, expr_term, exprs_used, exprs_terms, test_walked, tests_walked, walked, all_walked, each_walked, moved_on, rebound, renewed, bound_inside, answered_inside, call_walked, loop_walked, invariant_walked, step_walked, some_assigns}
 use Rattle.gh_symb.specs.Symbolic.{step_used}
 
 abbrev pub Lacks : Terms → Name → Type 0
@@ -84,28 +84,36 @@ call_lacks : (o : Option Procedure) (ys : List Name) (ts : List ℕ) (s : Terms)
 call_lacks None ys ts s x none = none
 call_lacks (Some p) ys ts s x none = inside_lacks p ys s.bindings (rebound s (bound_inside p ts)) x none
 
--- what a step does after its uses
-pub step_lacks : (P : Program) (xs : List Name) (p : PathStep) (s : Terms) (x : Name) → Lacks (step_walked P xs p s) x → Lacks (step_used p s) x
-step_lacks P xs (accessed o) s x none = none
-step_lacks P xs (assume l e r way) s x none = none
-step_lacks P xs (assigned y e) s x none = bound_lacks (expr_used e s).bindings y.name (expr_term e (expr_used e s)) x none
-step_lacks P xs (made y) s x none = bound_lacks s.bindings y.name (length s.kinds) x none
-step_lacks P xs (written y e) s x none = none
-step_lacks P xs (freed y) s x none = none
-step_lacks P xs (called ys f es) s x none = call_lacks (callee_in P.procedures f.name) (names ys) (exprs_terms es (exprs_used es s)) (exprs_used es s) x none
-step_lacks P xs (looped l) s x none =
+loop_lacks : (o : Option Loop) (ys : List Name) (s : Terms) (x : Name) → Lacks (loop_walked o ys s) x → Lacks (invariant_walked o s) x
+loop_lacks None ys s x none = none
+loop_lacks (Some l) ys s x none =
     let t = moved_on (walked l.invariant s) in
-    renewed_lacks (filter (some_assigns l.body) xs) t x (walked_lacks l.invariant (renewed (filter (some_assigns l.body) xs) t) x none)
-step_lacks P xs (answered ys es) s x none = all_bound_lacks (exprs_used es s).bindings ys (exprs_terms es (exprs_used es s)) x none
+    renewed_lacks (filter (some_assigns l.body) ys) t x (walked_lacks l.invariant (renewed (filter (some_assigns l.body) ys) t) x none)
+
+-- what a step does after its uses
+pub step_lacks : (P : Program) (p : Procedure) (a : PathStep) (s : Terms) (x : Name) → Lacks (step_walked P p a s) x → Lacks (step_used p a s) x
+step_lacks P p (accessed o) s x none = none
+step_lacks P p (assume l e r) s x none = none
+step_lacks P p (assigned y e) s x none = bound_lacks (expr_used e s).bindings y.name (expr_term e (expr_used e s)) x none
+step_lacks P p (made y) s x none = bound_lacks s.bindings y.name (length s.kinds) x none
+step_lacks P p (written y e) s x none = none
+step_lacks P p (freed y) s x none = none
+step_lacks P p (called ys n es) s x none = call_lacks (slice_get P.procedures n) (names ys) (exprs_terms es (exprs_used es s)) (exprs_used es s) x none
+step_lacks P p (looped n) s x none = loop_lacks (slice_get (loops_of p) n) (variable_names p) s x none
+step_lacks P p (answered es) s x none = all_bound_lacks (exprs_used es s).bindings (results_of p) (exprs_terms es (exprs_used es s)) x none
+
+invariant_lacks : (o : Option Loop) (s : Terms) (x : Name) → Lacks (invariant_walked o s) x → Lacks s x
+invariant_lacks None s x none = none
+invariant_lacks (Some l) s x none = walked_lacks l.invariant s x none
 
 -- what a step uses
-pub use_lacks : (p : PathStep) (s : Terms) (x : Name) → Lacks (step_used p s) x → Lacks s x
-use_lacks (accessed o) s x none = used_lacks o.name s x none
-use_lacks (assume l e r way) s x none = expr_lacks l s x (expr_lacks r (expr_used l s) x none)
-use_lacks (assigned y e) s x none = expr_lacks e s x none
-use_lacks (made y) s x none = none
-use_lacks (written y e) s x none = used_lacks y.name s x (expr_lacks e (used y.name s) x none)
-use_lacks (freed y) s x none = used_lacks y.name s x none
-use_lacks (called ys f es) s x none = exprs_lack es s x none
-use_lacks (looped l) s x none = walked_lacks l.invariant s x none
-use_lacks (answered ys es) s x none = exprs_lack es s x none
+pub use_lacks : (p : Procedure) (a : PathStep) (s : Terms) (x : Name) → Lacks (step_used p a s) x → Lacks s x
+use_lacks p (accessed o) s x none = used_lacks o.name s x none
+use_lacks p (assume l e r) s x none = expr_lacks l s x (expr_lacks r (expr_used l s) x none)
+use_lacks p (assigned y e) s x none = expr_lacks e s x none
+use_lacks p (made y) s x none = none
+use_lacks p (written y e) s x none = used_lacks y.name s x (expr_lacks e (used y.name s) x none)
+use_lacks p (freed y) s x none = used_lacks y.name s x none
+use_lacks p (called ys n es) s x none = exprs_lack es s x none
+use_lacks p (looped n) s x none = invariant_lacks (slice_get (loops_of p) n) s x none
+use_lacks p (answered es) s x none = exprs_lack es s x none

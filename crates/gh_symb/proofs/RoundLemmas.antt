@@ -1,6 +1,6 @@
 -- Loops by their numbers in lists that are put together.
-use Rattle.std.specs.Prelude.{◌≡◌, ℕ, suc, ◌+◌, ◌-◌, ◌<◌, List, [], ◌∷◌, ◌++◌, slice_get, length, get_or, drop, Some, Result, Ok, Err, None}
-use Rattle.std.proofs.Common.{refl, sym, ◌∙◌, ap, arith, subst}
+use Rattle.std.specs.Prelude.{◌≡◌, ℕ, zero, suc, ◌+◌, ◌-◌, ◌<◌, List, [], ◌∷◌, ◌++◌, slice_get, length, get_or, drop, Some, Result, Ok, Err, None}
+use Rattle.std.proofs.Common.{refl, sym, ◌∙◌, ap, arith}
 use Rattle.std.proofs.lemmas.List.{append_assoc, append-nil}
 use Rattle.gh_ast.specs.declared.Cond.{Cond}
 use Rattle.gh_ast.specs.declared.Assertion.{Assertion}
@@ -54,14 +54,20 @@ found_among ss i s n left r within is same at = λ ms.
     let heads = head_of ss i s within is in
     (g.0, same ms ∙ ap (λ xs. slice_get (all_loops (statements_view xs) ++ ms) left) heads ∙ ap (λ xs. slice_get xs left) (append_assoc (loops (statement_of s)) rest ms) ∙ g.1, g.2)
 
-pub one_round : (ls : List Loop) (n : ℕ) (l : Loop) (r : Round) → IsRoundAt ls n r → slice_get ls n ≡ Some l → IsRound r l
-one_round ls n l r at is =
-    let g = at [] in
-    let all : slice_get ls n ≡ Some g.0 = ap (λ xs. slice_get xs n) (sym (append-nil ls)) ∙ g.1 in
-    let same : g.0 ≡ l = cc in
-    subst (IsRound r) same g.2
+-- the list has a loop of a number that is below its length, and this is the one that is found
+loop_at : (ls : List Loop) (n : ℕ) → n < length ls → (l : Loop) × (slice_get ls n ≡ Some l)
+loop_at [] n within = absurd (omega (arith, within))
+loop_at (l ∷ ls) zero within = (l, refl)
+loop_at (l ∷ ls) (suc n) within = loop_at ls n (omega (arith, within))
 
-pub no_round : (ls : List Loop) (n left : ℕ) (l : Loop) → IsLater ls n left → slice_get ls n ≡ Some l → ⊥
-no_round ls n left l later is =
+pub one_round : (ls : List Loop) (n : ℕ) (r : Round) → IsRoundAt ls n r → (l : Loop) × (slice_get ls n ≡ Some l) × IsRound r l
+one_round ls n r at =
+    let g = at [] in
+    (g.0, ap (λ xs. slice_get xs n) (sym (append-nil ls)) ∙ g.1, g.2)
+
+pub no_round : (ls : List Loop) (n left : ℕ) → IsLater ls n left → n < length ls → ⊥
+no_round ls n left later within =
+    let found = loop_at ls n within in
+    let one : slice_get ls n ≡ Some found.0 = found.1 in
     let none : slice_get ls n ≡ None = ap (λ xs. slice_get xs n) (sym (append-nil ls)) ∙ later [] in
     cc

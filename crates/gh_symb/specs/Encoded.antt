@@ -1,6 +1,6 @@
 -- A condition over terms, as it is encoded.
 use Rattle.std.specs.Prelude.{◌≡◌, map}
-use Rattle.gh_ast.specs.Plain.{Program}
+use Rattle.gh_ast.specs.Plain.{Procedure, Program}
 use Rattle.gh_path.specs.Conditions.{Condition}
 use Rattle.gh_symb.specs.Symbolic as plain
 use Rattle.gh_symb.specs.Encodings.{plain_kind, Each, IsBinding, IsUnder, IsTermStep, IsTermCheck}
@@ -19,11 +19,11 @@ plain_of s =
       bindings = map binding_of s.bindings.items;
     }
 
--- it is that of a program's condition
-pub record IsSymbolic (P : Program) (c : Condition) (s : Symbolic) : Type 0 where
-  pub terms : map plain_kind s.terms ≡ (plain.symbolic_of P c).terms
-  pub versions : s.versions ≡ (plain.symbolic_of P c).versions
-  pub start : IsUnder s.start (plain.symbolic_of P c).start
-  pub steps : Each IsTermStep s.steps.items (plain.symbolic_of P c).steps
-  pub check : IsTermCheck s.check (plain.symbolic_of P c).check
-  pub bindings : Each IsBinding s.bindings.items (plain.symbolic_of P c).bindings
+-- it is that of a condition of the procedure p
+pub record IsSymbolic (P : Program) (p : Procedure) (c : Condition) (s : Symbolic) : Type 0 where
+  pub terms : map plain_kind s.terms ≡ (plain.symbolic_of P p c).terms
+  pub versions : s.versions ≡ (plain.symbolic_of P p c).versions
+  pub start : IsUnder s.start (plain.symbolic_of P p c).start
+  pub steps : Each IsTermStep s.steps.items (plain.symbolic_of P p c).steps
+  pub check : IsTermCheck s.check (plain.symbolic_of P p c).check
+  pub bindings : Each IsBinding s.bindings.items (plain.symbolic_of P p c).bindings

@@ -1,5 +1,6 @@
 -- Six programs, and how many versions and terms their conditions have.
-use Rattle.std.specs.Prelude.{◌≡◌, ℕ, List, [], ◌∷◌, map, length, Option, Some, None, true, false, codes}
+use Rattle.std.specs.Prelude.{◌≡◌, ℕ, List, [], ◌∷◌, map, length, Option, Some, None, true, false, codes, slice_get}
+use Rattle.std.specs.List.{flat_map}
 use Rattle.gh_ast.specs.declared.Expr.TheVariants.{Plain}
 use Rattle.gh_ast.specs.Programs.{variable_names}
 use Rattle.gh_ast.specs.Plain.{Formula, empty, cell, points_to, segment, comparison, star, no_formulas, formula_first}
@@ -93,11 +94,20 @@ pub record Size : Type 0 where
 abbrev pub size : ℕ → ℕ → Size
 size v t = record { versions = v; terms = t }
 
-abbrev pub size_of : Program → Condition → Size
-size_of P c = size (versions_of P c) (length (terms_of P c))
+-- what f tells of a condition and its procedure
+abbrev pub told : {A : Type 0} → (Procedure → Condition → A) → Condition → Option Procedure → List A
+told f c None = []
+told f c (Some p) = f p c ∷ []
+
+-- .. of all conditions of a program, in order
+abbrev pub all_told : {A : Type 0} → (Procedure → Condition → A) → Program → List A
+all_told f P = flat_map (λ c. told f c (slice_get P.procedures c.procedure)) (conditions P)
+
+abbrev pub size_of : Program → Procedure → Condition → Size
+size_of P p c = size (versions_of P p c.start c.way) (length (terms_of P p c.start c.way))
 
 abbrev pub sizes : Program → List Size
-sizes P = map (size_of P) (conditions P)
+sizes P = all_told (size_of P) P
 
 -- the sizes of their conditions, in order
 pub record ExamplesHold : Type 0 where
@@ -129,11 +139,11 @@ abbrev pub used_late : Program
 used_late = record { fields = []; close = at 1 32; procedures = late ∷ [] }
 
 -- the terms of the variables of its procedure at each state of a condition
-abbrev pub states_of : Program → Condition → List (List (Option ℕ))
-states_of P c = map (λ b. map b (variable_names c.procedure)) (symbolic_of P c).bindings
+abbrev pub states_of : Program → Procedure → Condition → List (List (Option ℕ))
+states_of P p c = map (λ b. map b (variable_names p)) (symbolic_of P p c).bindings
 
 abbrev pub all_states : Program → List (List (List (Option ℕ)))
-all_states P = map (states_of P) (conditions P)
+all_states P = all_told (states_of P) P
 
 -- a local that is never assigned has its term from the start; one that is first assigned has none before
 pub record StatesHold : Type 0 where
@@ -142,4 +152,4 @@ pub record StatesHold : Type 0 where
       ((Some 1 ∷ None ∷ []) ∷ [])
       ∷ ((Some 1 ∷ None ∷ []) ∷ (Some 1 ∷ None ∷ []) ∷ (Some 1 ∷ None ∷ []) ∷ (Some 1 ∷ Some 3 ∷ []) ∷ [])
       ∷ []
-  pub over_terms : map (λ c. (symbolic_of freed_again c).steps) (conditions freed_again) ≡ [] ∷ (accessed 1 ∷ freed 1 ∷ made 3 4 ∷ []) ∷ []
+  pub over_terms : all_told (λ p c. (symbolic_of freed_again p c).steps) freed_again ≡ [] ∷ (accessed 1 ∷ freed 1 ∷ made 3 4 ∷ []) ∷ []

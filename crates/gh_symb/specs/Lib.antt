@@ -16,7 +16,6 @@ pub mod Walked
 pub mod Formulas
 pub mod Phases
 pub mod Following
-pub mod StepEncodings
 pub mod Contexts
 pub mod Walkers
 pub mod Reads

@@ -8,11 +8,12 @@ use Rattle.gh_path.specs.Terms.{terms_of, versions_of}
 use Rattle.gh_symb.specs.declared.limits.SymbolicError.{SymbolicError}
 use Rattle.gh_symb.specs.declared.limits.SymbolicError.TheVariants.{Limit, OutOfMemory}
 
-abbrev pub HasTerms : Program → Condition → Type 0
-HasTerms P c = most_terms < length (terms_of P c)
+-- a condition of the procedure p with more terms, with more versions
+abbrev pub HasTerms : Program → Procedure → Condition → Type 0
+HasTerms P p c = most_terms < length (terms_of P p c.start c.way)
 
-abbrev pub HasVersions : Program → Condition → Type 0
-HasVersions P c = most_versions < versions_of P c
+abbrev pub HasVersions : Program → Procedure → Condition → Type 0
+HasVersions P p c = most_versions < versions_of P p c.start c.way
 
 -- counting stops one past the limit
 pub record IsLimitOf (p : Procedure) (kind count : ℕ) (l : limit.Limit) : Type 0 where
@@ -21,16 +22,17 @@ pub record IsLimitOf (p : Procedure) (kind count : ℕ) (l : limit.Limit) : Type
   pub count_is : l.count ≡ count
 
 -- the limit that a condition passes, terms before versions
-abbrev pub PassesLimit : Program → Condition → limit.Limit → Type 0
-PassesLimit P c l = (HasTerms P c × IsLimitOf c.procedure 6 (most_terms + 1) l) ⊎ ((HasTerms P c → ⊥) × HasVersions P c × IsLimitOf c.procedure 7 (most_versions + 1) l)
+abbrev pub PassesLimit : Program → Procedure → Condition → limit.Limit → Type 0
+PassesLimit P p c l =
+    (HasTerms P p c × IsLimitOf p 6 (most_terms + 1) l) ⊎ ((HasTerms P p c → ⊥) × HasVersions P p c × IsLimitOf p 7 (most_versions + 1) l)
 
-pub record PassesNone (P : Program) (c : Condition) : Type 0 where
-  pub terms : HasTerms P c → ⊥
-  pub versions : HasVersions P c → ⊥
+pub record PassesNone (P : Program) (p : Procedure) (c : Condition) : Type 0 where
+  pub terms : HasTerms P p c → ⊥
+  pub versions : HasVersions P p c → ⊥
 
-abbrev pub Passes : Program → Condition → Option limit.Limit → Type 0
-Passes P c None = PassesNone P c
-Passes P c (Some l) = PassesLimit P c l
+abbrev pub Passes : Program → Procedure → Condition → Option limit.Limit → Type 0
+Passes P p c None = PassesNone P p c
+Passes P p c (Some l) = PassesLimit P p c l
 
 -- the first procedure with a condition that passes: terms over the whole program before versions
 abbrev pub IsAdmitRefusal : Program → SymbolicError → Type 0
@@ -38,9 +40,9 @@ IsAdmitRefusal P (Limit l) = Passed P (HasManyTerms P) 6 (most_terms + 1) l ⊎ 
 IsAdmitRefusal P OutOfMemory = ⊤
 
 -- the refusal of one condition
-abbrev pub IsConditionRefusal : Program → Condition → SymbolicError → Type 0
-IsConditionRefusal P c (Limit l) = PassesLimit P c l
-IsConditionRefusal P c OutOfMemory = ⊤
+abbrev pub IsConditionRefusal : Program → Procedure → Condition → SymbolicError → Type 0
+IsConditionRefusal P p c (Limit l) = PassesLimit P p c l
+IsConditionRefusal P p c OutOfMemory = ⊤
 
-abbrev pub IsRefusedBy : SymbolicError → Program → Condition → Type 0
-IsRefusedBy e P c = IsConditionRefusal P c e
+abbrev pub IsRefusedBy : SymbolicError → Program → Procedure → Condition → Type 0
+IsRefusedBy e P p c = IsConditionRefusal P p c e

@@ -1,23 +1,25 @@
 -- The first k conditions of a program, and the limits that they pass.
 use Rattle.std.specs.Prelude.{◌≡◌, ℕ, ◌+◌, ◌<◌, slice_get, Option, Some, None}
-use Rattle.gh_ast.specs.Plain.{Program}
+use Rattle.gh_ast.specs.Plain.{Procedure, Program}
 use Rattle.gh_ast.specs.declared.typed.Limit.{Limit}
 use Rattle.gh_path.specs.Admitted.{most_versions}
-use Rattle.gh_path.specs.Conditions.{Condition, conditions}
+use Rattle.gh_path.specs.Conditions.{Condition, conditions, IsOf}
 use Rattle.gh_symb.specs.Limits.{HasVersions, IsLimitOf}
 
 -- none of them has the property
-abbrev pub NoneMet : Program → (Condition → Type 0) → ℕ → Type 0
-NoneMet P Q k = (j : ℕ) (d : Condition) → j < k → slice_get (conditions P) j ≡ Some d → Q d → ⊥
+abbrev pub NoneMet : Program → (Procedure → Condition → Type 0) → ℕ → Type 0
+NoneMet P Q k = (j : ℕ) (d : Condition) (p : Procedure) → j < k → slice_get (conditions P) j ≡ Some d → IsOf P d p → Q p d → ⊥
 
 -- the limit is that of the first of them that has it
-pub record IsFirstMet (P : Program) (Q : Condition → Type 0) (k kind count : ℕ) (l : Limit) : Type 0 where
+pub record IsFirstMet (P : Program) (Q : Procedure → Condition → Type 0) (k kind count : ℕ) (l : Limit) : Type 0 where
   pub place : ℕ
   pub condition : Condition
+  pub procedure : Procedure
   pub within : place < k
   pub at : slice_get (conditions P) place ≡ Some condition
-  pub holds : Q condition
-  pub limit : IsLimitOf condition.procedure kind count l
+  pub of : IsOf P condition procedure
+  pub holds : Q procedure condition
+  pub limit : IsLimitOf procedure kind count l
   pub earlier : NoneMet P Q place
 
 -- the first limit on versions that they pass

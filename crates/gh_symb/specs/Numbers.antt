@@ -1,14 +1,18 @@
 -- The numbers of terms and versions of a condition.
-use Rattle.std.specs.Prelude.{List, length, map}
-use Rattle.gh_ast.specs.Plain.{Program}
+use Rattle.std.specs.Prelude.{List, length, map, Option, Some, None, slice_get}
+use Rattle.gh_ast.specs.Plain.{Procedure, Program}
 use Rattle.gh_path.specs.Conditions.{Condition, conditions}
 use Rattle.gh_path.specs.Terms.{terms_of, versions_of}
 use Rattle.gh_symb.specs.declared.count.Count.{Count}
 
--- how many terms and versions of the heap it has
-abbrev pub count_of : Program → Condition → Count
-count_of P c = record { terms = length (terms_of P c); versions = versions_of P c }
+-- how many terms and versions of the heap a condition of the procedure p has
+abbrev pub count_of : Program → Procedure → Condition → Count
+count_of P p c = record { terms = length (terms_of P p c.start c.way); versions = versions_of P p c.start c.way }
 
--- those of all conditions of a program, in order
+abbrev pub count_in : Program → Option Procedure → Condition → Count
+count_in P None c = record { terms = 0; versions = 0 }
+count_in P (Some p) c = count_of P p c
+
+-- those of all conditions of a program, in order, each by its procedure
 abbrev pub counts_of : Program → List Count
-counts_of P = map (count_of P) (conditions P)
+counts_of P = map (λ c. count_in P (slice_get P.procedures c.procedure) c) (conditions P)

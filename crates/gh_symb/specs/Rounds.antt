@@ -1,12 +1,17 @@
 -- Loops of a text, as they are met again.
 use Rattle.std.specs.Prelude.{◌≡◌, ℕ, List, ◌++◌, slice_get, MatchResult, Result, Some}
-use Rattle.gh_ast.specs.Plain.{formula_of, part_of}
+use Rattle.gh_ast.specs.Plain.{formula_of, part_of, Procedure}
 use Rattle.gh_path.specs.Graphs.{Loop}
+use Rattle.gh_path.specs.Kept.{IsLoop}
 use Rattle.gh_symb.specs.declared.rounds.Round.{Round}
 
 pub record IsRound (r : Round) (l : Loop) : Type 0 where
   pub invariant : formula_of r.invariant.now ≡ l.invariant
   pub body : (part_of r.body.now).statements ≡ l.body
+
+-- the loop of a number of a procedure
+abbrev pub IsRoundOf : Procedure → ℕ → Round → Type 0
+IsRoundOf p n r = (l : Loop) × IsLoop p n l × IsRound r l
 
 -- the loop of a number among those of a list, whatever loops come after them
 abbrev pub IsRoundAt : List Loop → ℕ → Round → Type 0

@@ -7,23 +7,19 @@ use Rattle.gh_ast.specs.Plain.{Procedure, Program, procedure_of, statements_view
 use Rattle.gh_ast.specs.declared.Occ.{Occ}
 use Rattle.gh_ast.specs.Programs.{Name, names, variable_names}
 use Rattle.gh_path.specs.Admitted.{most_terms}
-use Rattle.gh_path.specs.Graphs.{Check, PathStep}
-use Rattle.gh_path.specs.Kept.{IsStep, IsKind, StandsFor}
-use Rattle.gh_path.specs.Conditions.{Condition}
+use Rattle.gh_path.specs.Kept.{condition_of}
+use Rattle.gh_path.specs.Conditions.{Condition, IsOf}
 use Rattle.gh_path.specs.declared.condition.Condition as kept_condition
 use Rattle.gh_path.specs.declared.condition.PathStep as kept_step
-use Rattle.gh_path.specs.declared.condition.CheckKind as kept_kind
 use Rattle.gh_path.specs.declared.condition.PathStep.TheVariants as step
-use Rattle.gh_base.specs.declared.place.Span.{Span}
 use Rattle.gh_path.specs.Terms.{Kind, Terms, terms, with_value, bound, expr_used, expr_term, exprs_used, exprs_terms}
-use Rattle.gh_path.specs.Terms.{rebound, renewed, some_assigns, bound_inside, step_walked, check_walked, walked}
-use Rattle.gh_path.specs.Terms.{terms_of, versions_of}
+use Rattle.gh_path.specs.Terms.{rebound, renewed, some_assigns, bound_inside, walked, terms_of, versions_of}
 use Rattle.gh_symb.specs.declared.count.Counted.{Counted}
 use Rattle.gh_symb.specs.declared.count.Counted.TheVariants.{Within, ManyTerms}
 
--- what holds of each condition that a kept one stands for
-abbrev pub HoldsFor : Program → kept_condition.Condition → (Program → Condition → Type 0) → Type 0
-HoldsFor P r Q = (c : Condition) → StandsFor P r c → Q P c
+-- what holds of a condition that is kept, and of the procedure that it is of
+abbrev pub HoldsFor : Program → kept_condition.Condition → (Program → Procedure → Condition → Type 0) → Type 0
+HoldsFor P r Q = (p : Procedure) → IsOf P (condition_of r) p → Q P p (condition_of r)
 
 -- each of some variables that statements assign gets a new value
 abbrev pub renewed_in : List Occ → List Stmt → Terms → Terms
@@ -41,18 +37,10 @@ cell_made x s = terms (with_value (with_value s.kinds)) (bound s.bindings x (len
 abbrev pub value_set : Name → Expr → Terms → Terms
 value_set x e s = let t = expr_used e s in rebound t (bound t.bindings x (expr_term e t))
 
--- the terms after a step that is kept
-abbrev pub IsStepped : Program → Procedure → kept_step.PathStep → Terms → Terms → Type 0
-IsStepped P p r s t = (step : PathStep) → IsStep P p r step → t ≡ step_walked P (variable_names p) step s
-
 -- the kinds and the version that a walk comes to
 pub record EndsWith (s : Terms) (kinds : List Kind) (version : ℕ) : Type 0 where
   pub kinds_are : kinds ≡ s.kinds
   pub version_is : version ≡ s.version
-
--- the same after a check that is kept
-abbrev pub IsChecked : Program → Procedure → kept_kind.CheckKind → Span → Terms → List Kind → ℕ → Type 0
-IsChecked P p r at s kinds version = (check : Check) → IsKind P p r at check → EndsWith (check_walked P check s) kinds version
 
 -- what a procedure needs, once the arguments are used
 abbrev pub entry_made : Procedure → List Expr → Terms → Terms
@@ -71,16 +59,17 @@ KeepsHeap (step.Set x e) = Unit {0}
 KeepsHeap (step.Return es) = Unit {0}
 KeepsHeap s = ⊥
 
-pub record AreCounted (P : Program) (c : Condition) (terms versions : ℕ) : Type 0 where
-  pub terms_are : length (terms_of P c) ≡ terms
-  pub versions_are : versions_of P c ≡ versions
+pub record AreCounted (P : Program) (p : Procedure) (c : Condition) (terms versions : ℕ) : Type 0 where
+  pub terms_are : length (terms_of P p c.start c.way) ≡ terms
+  pub versions_are : versions_of P p c.start c.way ≡ versions
   pub few : terms ≤ most_terms
 
 -- the numbers of terms and versions of a condition, or that there are too many terms
-abbrev pub IsCount : Program → Condition → Counted → Type 0
-IsCount P c (Within terms versions) = AreCounted P c terms versions
-IsCount P c ManyTerms = most_terms < length (terms_of P c)
+abbrev pub IsCount : Program → Procedure → Condition → Counted → Type 0
+IsCount P p c (Within terms versions) = AreCounted P p c terms versions
+IsCount P p c ManyTerms = most_terms < length (terms_of P p c.start c.way)
 
 -- the count of each condition that has so many terms and versions
 abbrev pub IsCountOf : ℕ → ℕ → Counted → Type 0
-IsCountOf terms versions n = (P : Program) (c : Condition) → length (terms_of P c) ≡ terms → versions_of P c ≡ versions → IsCount P c n
+IsCountOf terms versions n =
+    (P : Program) (p : Procedure) (c : Condition) → length (terms_of P p c.start c.way) ≡ terms → versions_of P p c.start c.way ≡ versions → IsCount P p c n

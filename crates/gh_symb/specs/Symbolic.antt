@@ -1,12 +1,14 @@
 -- A condition over terms: its start, its steps and its check over terms, and the terms of the variables at each state.
-use Rattle.std.specs.Prelude.{ℕ, ◌+◌, List, [], ◌∷◌, length, filter, Bool, not, cond, Option, Some, None}
+-- `symbolic_of P p c` is the condition c over terms, which is one of the procedure p of the program P.
+use Rattle.std.specs.Prelude.{ℕ, ◌+◌, List, [], ◌∷◌, length, filter, Bool, Option, Some, None, slice_get}
 use Rattle.gh_ast.specs.Plain.{Formula, Procedure, Program}
 use Rattle.gh_ast.specs.Programs.{Name, results_of, variable_names}
 use Rattle.gh_path.specs.Graphs as path
+use Rattle.gh_path.specs.Graphs.{Loop, loops_of, Start, meets_at}
 use Rattle.gh_path.specs.Conditions.{Condition}
 use Rattle.gh_path.specs.Terms.{Kind, Bindings, Terms, used, term_of, expr_used, expr_term, exprs_used, exprs_terms}
-use Rattle.gh_path.specs.Terms.{walked, each_walked, moved_on, rebound, renewed, some_assigns, callee_in, bound_inside}
-use Rattle.gh_path.specs.Terms.{step_walked, no_terms, terms_of, versions_of, steps_walked}
+use Rattle.gh_path.specs.Terms.{walked, each_walked, moved_on, rebound, renewed, some_assigns, bound_inside, no_terms}
+use Rattle.gh_path.specs.Terms.{invariant_walked, step_walked, steps_walked, terms_of, versions_of}
 
 -- an assertion in a version of the heap, and the terms of its variables
 pub record Under : Type 0 where
@@ -46,52 +48,66 @@ call_parts (Some p) ts s =
     let inside = rebound s (bound_inside p ts) in
     parts (under p.needs inside) (each_under p.gives (renewed (results_of p) (moved_on (walked p.needs inside))))
 
--- a step over terms, from the terms before it
-abbrev pub term_step : Program → List Name → path.PathStep → Terms → TermStep
-term_step P xs (path.accessed o) s = accessed (term_of o.name (used o.name s))
-term_step P xs (path.assume l e r way) s = let t = expr_used r (expr_used l s) in assumed (expr_term l t) (cond way e (not e)) (expr_term r t)
-term_step P xs (path.assigned x e) s = same
-term_step P xs (path.made x) s = made (length s.kinds) (length s.kinds + 1)
-term_step P xs (path.written x e) s = let t = expr_used e (used x.name s) in written (term_of x.name t) (expr_term e t)
-term_step P xs (path.freed x) s = freed (term_of x.name (used x.name s))
-term_step P xs (path.called ys f es) s = let t = exprs_used es s in call_parts (callee_in P.procedures f.name) (exprs_terms es t) t
-term_step P xs (path.looped l) s =
+-- what a loop keeps to, before it and after it; the variables that its body assigns (some of xs) get new values in between
+abbrev pub loop_parts : Option Loop → List Name → Terms → TermStep
+loop_parts None xs s = same
+loop_parts (Some l) xs s =
     parts (under l.invariant s) (under l.invariant (renewed (filter (some_assigns l.body) xs) (moved_on (walked l.invariant s))) ∷ [])
-term_step P xs (path.answered ys es) s = same
 
-abbrev pub term_steps : Program → List Name → List path.PathStep → Terms → List TermStep
-term_steps P xs [] s = []
-term_steps P xs (p ∷ ps) s = term_step P xs p s ∷ term_steps P xs ps (step_walked P xs p s)
+-- a step of a path of the procedure p over terms, from the terms before it
+abbrev pub term_step : Program → Procedure → path.PathStep → Terms → TermStep
+term_step P p (path.accessed o) s = accessed (term_of o.name (used o.name s))
+term_step P p (path.assume l e r) s = let t = expr_used r (expr_used l s) in assumed (expr_term l t) e (expr_term r t)
+term_step P p (path.assigned x e) s = same
+term_step P p (path.made x) s = made (length s.kinds) (length s.kinds + 1)
+term_step P p (path.written x e) s = let t = expr_used e (used x.name s) in written (term_of x.name t) (expr_term e t)
+term_step P p (path.freed x) s = freed (term_of x.name (used x.name s))
+term_step P p (path.called ys n es) s = let t = exprs_used es s in call_parts (slice_get P.procedures n) (exprs_terms es t) t
+term_step P p (path.looped n) s = loop_parts (slice_get (loops_of p) n) (variable_names p) s
+term_step P p (path.answered es) s = same
+
+abbrev pub term_steps : Program → Procedure → List path.PathStep → Terms → List TermStep
+term_steps P p [] s = []
+term_steps P p (x ∷ xs) s = term_step P p x s ∷ term_steps P p xs (step_walked P p x s)
 
 abbrev pub needs_under : Option Procedure → List ℕ → Terms → TermCheck
 needs_under None ts s = whole []
 needs_under (Some p) ts s = sub (under p.needs (rebound s (bound_inside p ts)))
 
-abbrev pub term_check : Program → path.Check → Terms → TermCheck
-term_check P (path.access o) s = access (term_of o.name (used o.name s))
-term_check P (path.entry f es) s = let t = exprs_used es s in needs_under (callee_in P.procedures f.name) (exprs_terms es t) t
-term_check P (path.loop_entry l) s = sub (under l.invariant s)
-term_check P (path.returned at fs) s = whole (each_under fs s)
-term_check P (path.loop_end l) s = whole (under l.invariant s ∷ [])
+-- what is asked where a loop is entered, and where its body ends
+abbrev pub entered_under : Option Loop → Terms → TermCheck
+entered_under None s = whole []
+entered_under (Some l) s = sub (under l.invariant s)
+
+abbrev pub ended_under : Option Loop → Terms → TermCheck
+ended_under None s = whole []
+ended_under (Some l) s = whole (under l.invariant s ∷ [])
+
+abbrev pub term_check : Program → Procedure → path.Check → Terms → TermCheck
+term_check P p (path.access o) s = access (term_of o.name (used o.name s))
+term_check P p (path.entry at n es) s = let t = exprs_used es s in needs_under (slice_get P.procedures n) (exprs_terms es t) t
+term_check P p (path.loop_entry at n) s = entered_under (slice_get (loops_of p) n) s
+term_check P p (path.returned at) s = whole (each_under p.gives s)
+term_check P p (path.loop_end at n) s = ended_under (slice_get (loops_of p) n) s
 
 -- the variables that a step uses have terms, and nothing is assigned yet
-abbrev pub step_used : path.PathStep → Terms → Terms
-step_used (path.accessed o) s = used o.name s
-step_used (path.assume l e r way) s = expr_used r (expr_used l s)
-step_used (path.assigned x e) s = expr_used e s
-step_used (path.made x) s = s
-step_used (path.written x e) s = expr_used e (used x.name s)
-step_used (path.freed x) s = used x.name s
-step_used (path.called ys f es) s = exprs_used es s
-step_used (path.looped l) s = walked l.invariant s
-step_used (path.answered ys es) s = exprs_used es s
+abbrev pub step_used : Procedure → path.PathStep → Terms → Terms
+step_used p (path.accessed o) s = used o.name s
+step_used p (path.assume l e r) s = expr_used r (expr_used l s)
+step_used p (path.assigned x e) s = expr_used e s
+step_used p (path.made x) s = s
+step_used p (path.written x e) s = expr_used e (used x.name s)
+step_used p (path.freed x) s = used x.name s
+step_used p (path.called ys n es) s = exprs_used es s
+step_used p (path.looped n) s = invariant_walked (slice_get (loops_of p) n) s
+step_used p (path.answered es) s = exprs_used es s
 
-abbrev pub check_used : path.Check → Terms → Terms
-check_used (path.access o) s = used o.name s
-check_used (path.entry f es) s = exprs_used es s
-check_used (path.loop_entry l) s = walked l.invariant s
-check_used (path.returned at fs) s = each_walked fs s
-check_used (path.loop_end l) s = walked l.invariant s
+abbrev pub check_used : Procedure → path.Check → Terms → Terms
+check_used p (path.access o) s = used o.name s
+check_used p (path.entry at n es) s = exprs_used es s
+check_used p (path.loop_entry at n) s = invariant_walked (slice_get (loops_of p) n) s
+check_used p (path.returned at) s = each_walked p.gives s
+check_used p (path.loop_end at n) s = invariant_walked (slice_get (loops_of p) n) s
 
 -- used in a step; else assigned in it; else what comes later
 abbrev pub used_first : Option ℕ → Option ℕ → Option ℕ → Option ℕ
@@ -100,11 +116,11 @@ used_first None (Some t) later = None
 used_first None None later = later
 
 -- the value that a variable gets at its first use, unless it is assigned before
-abbrev pub first_use : Program → List Name → List path.PathStep → path.Check → Terms → Bindings
-first_use P xs [] k s x = (check_used k s).bindings x
-first_use P xs (p ∷ ps) k s x =
-    let t = step_walked P xs p s in
-    used_first ((step_used p s).bindings x) (t.bindings x) (first_use P xs ps k t x)
+abbrev pub first_use : Program → Procedure → List path.PathStep → path.Check → Terms → Bindings
+first_use P p [] k s y = (check_used p k s).bindings y
+first_use P p (x ∷ xs) k s y =
+    let t = step_walked P p x s in
+    used_first ((step_used p x s).bindings y) (t.bindings y) (first_use P p xs k t y)
 
 -- what a variable got before, else what it gets at its first use
 abbrev pub either_term : Option ℕ → Option ℕ → Option ℕ
@@ -112,9 +128,10 @@ either_term (Some t) later = Some t
 either_term None later = later
 
 -- the terms of the variables at each state
-abbrev pub state_bindings : Program → List Name → List path.PathStep → path.Check → Terms → List Bindings
-state_bindings P xs [] k s = (λ x. either_term (s.bindings x) (first_use P xs [] k s x)) ∷ []
-state_bindings P xs (p ∷ ps) k s = (λ x. either_term (s.bindings x) (first_use P xs (p ∷ ps) k s x)) ∷ state_bindings P xs ps k (step_walked P xs p s)
+abbrev pub state_bindings : Program → Procedure → List path.PathStep → path.Check → Terms → List Bindings
+state_bindings P p [] k s = (λ y. either_term (s.bindings y) (first_use P p [] k s y)) ∷ []
+state_bindings P p (x ∷ xs) k s =
+    (λ y. either_term (s.bindings y) (first_use P p (x ∷ xs) k s y)) ∷ state_bindings P p xs k (step_walked P p x s)
 
 pub record Symbolic : Type 0 where
   pub terms : List Kind
@@ -124,15 +141,18 @@ pub record Symbolic : Type 0 where
   pub check : TermCheck
   pub bindings : List Bindings
 
-abbrev pub symbolic_of : Program → Condition → Symbolic
-symbolic_of P c =
-    let xs = variable_names c.procedure in
-    let first = walked c.start.meets no_terms in
+-- the terms once the start assertion is walked
+abbrev pub begins : Procedure → Start → Terms
+begins p a = walked (meets_at p a) no_terms
+
+abbrev pub symbolic_of : Program → Procedure → Condition → Symbolic
+symbolic_of P p c =
+    let first = begins p c.start in
     record {
-      terms = terms_of P c;
-      versions = versions_of P c;
-      start = under c.start.meets no_terms;
-      steps = term_steps P xs c.way.steps first;
-      check = term_check P c.way.check (steps_walked P xs c.way.steps first);
-      bindings = state_bindings P xs c.way.steps c.way.check first;
+      terms = terms_of P p c.start c.way;
+      versions = versions_of P p c.start c.way;
+      start = under (meets_at p c.start) no_terms;
+      steps = term_steps P p c.way.steps first;
+      check = term_check P p c.way.check (steps_walked P p c.way.steps first);
+      bindings = state_bindings P p c.way.steps c.way.check first;
     }

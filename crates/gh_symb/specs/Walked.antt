@@ -1,6 +1,6 @@
 -- A condition that is walked to its end.
 use Rattle.std.specs.Prelude.{◌≡◌, ◌+◌, Option, Some, None}
-use Rattle.gh_ast.specs.Plain.{Program}
+use Rattle.gh_ast.specs.Plain.{Procedure, Program}
 use Rattle.gh_path.specs.Conditions.{Condition}
 use Rattle.gh_path.specs.Terms.{terms_of, versions_of}
 use Rattle.gh_symb.specs.Symbolic.{symbolic_of}
@@ -13,25 +13,25 @@ use Rattle.gh_symb.specs.declared.over_terms.Symbolic.{Symbolic}
 use Rattle.gh_symb.specs.declared.symbolic.Walked.{Walked}
 
 -- its terms and versions are listed, and its parts are encoded
-pub record IsWalked (P : Program) (c : Condition) (w : Walked) : Type 0 where
-  pub kinds_are : w.kinds ≡ terms_of P c
-  pub versions_are : w.version + 1 ≡ versions_of P c
-  pub counts_are : IsCount P c w.counts
-  pub start_is : EncodesUnder w.start (symbolic_of P c).start
-  pub steps_are : Each EncodesStep w.steps.items (symbolic_of P c).steps
-  pub check_is : EncodesCheck w.check (symbolic_of P c).check
-  pub bindings_are : Each EncodesBinding w.bindings.items (symbolic_of P c).bindings
+pub record IsWalked (P : Program) (p : Procedure) (c : Condition) (w : Walked) : Type 0 where
+  pub kinds_are : w.kinds ≡ terms_of P p c.start c.way
+  pub versions_are : w.version + 1 ≡ versions_of P p c.start c.way
+  pub counts_are : IsCount P p c w.counts
+  pub start_is : EncodesUnder w.start (symbolic_of P p c).start
+  pub steps_are : Each EncodesStep w.steps.items (symbolic_of P p c).steps
+  pub check_is : EncodesCheck w.check (symbolic_of P p c).check
+  pub bindings_are : Each EncodesBinding w.bindings.items (symbolic_of P p c).bindings
 
 -- it is walked to its end, unless it has too many terms
-abbrev pub IsWalkedFar : Program → Condition → Option Walked → Type 0
-IsWalkedFar P c (Some w) = IsWalked P c w
-IsWalkedFar P c None = HasTerms P c
+abbrev pub IsWalkedFar : Program → Procedure → Condition → Option Walked → Type 0
+IsWalkedFar P p c (Some w) = IsWalked P p c w
+IsWalkedFar P p c None = HasTerms P p c
 
 -- it is walked, and passes no limit
-pub record IsWithinLimits (P : Program) (c : Condition) (w : Walked) : Type 0 where
-  pub walked : IsWalked P c w
-  pub few : PassesNone P c
+pub record IsWithinLimits (P : Program) (p : Procedure) (c : Condition) (w : Walked) : Type 0 where
+  pub walked : IsWalked P p c w
+  pub few : PassesNone P p c
 
 -- it is encoded as each condition that it is a walk over
 abbrev pub EncodesWalked : Walked → Symbolic → Type 0
-EncodesWalked w s = (P : Program) (c : Condition) → IsWithinLimits P c w → IsSymbolic P c s
+EncodesWalked w s = (P : Program) (p : Procedure) (c : Condition) → IsWithinLimits P p c w → IsSymbolic P p c s

@@ -1,5 +1,5 @@
 -- What the parts of a walk over a condition do, and what is read off them.
-use Rattle.std.specs.Prelude.{◌≡◌, ℕ, ◌+◌, List, length, Some}
+use Rattle.std.specs.Prelude.{◌≡◌, ℕ, ◌+◌, List, length, Some, slice_get}
 use Rattle.gh_base.specs.declared.place.Span.{Span}
 use Rattle.gh_ast.specs.declared.Assertion.{Assertion}
 use Rattle.gh_ast.specs.declared.Expr.{Expr}
@@ -7,23 +7,22 @@ use Rattle.gh_ast.specs.declared.Occ.{Occ}
 use Rattle.gh_ast.specs.declared.Procedure as whole
 use Rattle.gh_ast.specs.Plain.{Procedure, Program, procedure_of}
 use Rattle.gh_ast.specs.Programs.{names}
-use Rattle.gh_path.specs.Graphs.{Loop, looped}
+use Rattle.gh_path.specs.Graphs.{Loop, loops_of, meets_at}
 use Rattle.gh_path.specs.declared.condition.PathStep as kept_step
 use Rattle.gh_path.specs.declared.condition.Start as kept_start
 use Rattle.gh_path.specs.declared.condition.CheckKind as kept_kind
-use Rattle.gh_path.specs.Kept.{IsLoop}
-use Rattle.gh_path.specs.Terms.{Terms, walked, call_walked, exprs_terms, exprs_used}
+use Rattle.gh_path.specs.Kept.{step_of, start_of, asked_at}
+use Rattle.gh_path.specs.Terms.{Terms, walked, call_walked, exprs_terms, exprs_used, invariant_walked, step_walked}
+use Rattle.gh_path.specs.Terms.{check_walked}
 use Rattle.gh_symb.specs.Tables.{bound_by, state}
 use Rattle.gh_symb.specs.Rounds.{IsRound}
 use Rattle.gh_symb.specs.Contexts.{program_in, procedure_in, variables_in}
-use Rattle.gh_symb.specs.Steps.{IsStepped, IsChecked, EndsWith, entry_made}
-use Rattle.gh_symb.specs.Phases.{IsUsed, IsCheckUsed, IsStartUsed, step_done, step_encoding}
-use Rattle.gh_symb.specs.StepEncodings.{IsFinished, IsStepEncoding, IsCallFinished, IsCallEncoding, IsAsking}
-use Rattle.gh_symb.specs.StepEncodings.{needs_asked}
-use Rattle.gh_symb.specs.Fitting.{EncodesStep, EncodesCheck}
+use Rattle.gh_symb.specs.Steps.{EndsWith, entry_made}
+use Rattle.gh_symb.specs.Phases.{loop_done, loop_encoding, step_done, step_encoding}
+use Rattle.gh_symb.specs.Fitting.{EncodesUnder, EncodesStep, EncodesCheck}
 use Rattle.gh_symb.specs.Reads.{ReadsEach, ReadsWalked}
 use Rattle.gh_symb.specs.Symbolic as plain
-use Rattle.gh_symb.specs.Symbolic.{call_parts}
+use Rattle.gh_symb.specs.Symbolic.{under, call_parts, needs_under, term_check, step_used, check_used}
 use Rattle.gh_symb.specs.declared.over_terms.Bound.{Bound}
 use Rattle.gh_symb.specs.declared.over_terms.TermStep.{TermStep}
 use Rattle.gh_symb.specs.declared.over_terms.TermCheck.{TermCheck}
@@ -47,46 +46,46 @@ ReadsWays ways v bs = ReadsEach ways v.kinds v.scope v.version bs
 
 -- the start assertion is walked, and given
 abbrev pub Begins : Context → kept_start.Start → Walker → Walker → Bound → Type 0
-Begins s start v w b = IsStartUsed (procedure_in s) start (terms_at v) (terms_at w) b
+Begins s start v w b = let f = meets_at (procedure_in s) (start_of start) in Goes (walked f) v w × EncodesUnder b (under f (terms_at v))
 
 -- a step: its variables are used; it is done; both
 abbrev pub UsesStep : Context → kept_step.PathStep → Walker → Walker → Type 0
-UsesStep s r v w = IsUsed (program_in s) (procedure_in s) r (terms_at v) (terms_at w)
+UsesStep s r v w = Goes (step_used (procedure_in s) (step_of r)) v w
 
 abbrev pub DoesStep : Context → kept_step.PathStep → Walker → Walker → Type 0
-DoesStep s r v w = IsFinished (program_in s) (procedure_in s) r (terms_at v) (terms_at w)
+DoesStep s r v w = Goes (step_done (program_in s) (procedure_in s) (step_of r)) v w
 
 abbrev pub WalksStep : Context → kept_step.PathStep → Walker → Walker → Type 0
-WalksStep s r v w = IsStepped (program_in s) (procedure_in s) r (terms_at v) (terms_at w)
+WalksStep s r v w = Goes (step_walked (program_in s) (procedure_in s) (step_of r)) v w
 
 -- how it is encoded, once its variables are used
 abbrev pub ReadsStep : Context → kept_step.PathStep → Walker → TermStep → Type 0
-ReadsStep s r v encoded = IsStepEncoding (program_in s) (procedure_in s) r (terms_at v) encoded
+ReadsStep s r v encoded = EncodesStep encoded (step_encoding (program_in s) (procedure_in s) (step_of r) (terms_at v))
 
 -- the same whatever the program is
 abbrev pub DoesAnywhere : kept_step.PathStep → Walker → Walker → Type 0
-DoesAnywhere r v w = (P : Program) (p : Procedure) → IsFinished P p r (terms_at v) (terms_at w)
+DoesAnywhere r v w = (P : Program) (p : Procedure) → Goes (step_done P p (step_of r)) v w
 
 abbrev pub ReadsAnywhere : kept_step.PathStep → Walker → TermStep → Type 0
-ReadsAnywhere r v encoded = (P : Program) (p : Procedure) → IsStepEncoding P p r (terms_at v) encoded
+ReadsAnywhere r v encoded = (P : Program) (p : Procedure) → EncodesStep encoded (step_encoding P p (step_of r) (terms_at v))
 
 -- the invariant of the loop of a number is walked
 abbrev pub WalksInvariant : Context → ℕ → Walker → Walker → Type 0
-WalksInvariant s n v w = (l : Loop) → IsLoop (procedure_in s) n l → Goes (walked l.invariant) v w
+WalksInvariant s n v w = Goes (invariant_walked (slice_get (loops_of (procedure_in s)) n)) v w
 
 -- a loop that is met
 abbrev pub DoesLoop : Context → Round → Walker → Walker → Type 0
-DoesLoop s round v w = (l : Loop) → IsRound round l → Goes (step_done (program_in s) (variables_in s) (looped l)) v w
+DoesLoop s round v w = (l : Loop) → IsRound round l → Goes (loop_done (Some l) (variables_in s)) v w
 
 abbrev pub ReadsLoop : Context → Round → Walker → TermStep → Type 0
-ReadsLoop s round v encoded = (l : Loop) → IsRound round l → EncodesStep encoded (step_encoding (program_in s) (variables_in s) (looped l) (terms_at v))
+ReadsLoop s round v encoded = (l : Loop) → IsRound round l → EncodesStep encoded (loop_encoding (Some l) (variables_in s) (terms_at v))
 
 -- a call of the procedure of a number
 abbrev pub DoesCall : Context → ℕ → List Occ → List Expr → Walker → Walker → Type 0
-DoesCall s n xs es v w = IsCallFinished (program_in s) n (names xs) es (terms_at v) (terms_at w)
+DoesCall s n xs es v w = Goes (λ t. call_walked (slice_get (program_in s).procedures n) (names xs) (exprs_terms es t) t) v w
 
 abbrev pub ReadsCall : Context → ℕ → List Expr → Walker → TermStep → Type 0
-ReadsCall s n es v encoded = IsCallEncoding (program_in s) n es (terms_at v) encoded
+ReadsCall s n es v encoded = let t = terms_at v in EncodesStep encoded (call_parts (slice_get (program_in s).procedures n) (exprs_terms es t) t)
 
 -- a new cell
 abbrev pub cell_read : Terms → plain.TermStep
@@ -101,13 +100,13 @@ call_read p es s = call_parts (Some (procedure_of p)) (exprs_terms es s) s
 
 -- a check: its variables are used; the walk ends with it; what it asks
 abbrev pub UsesCheck : Context → kept_kind.CheckKind → Walker → Walker → Type 0
-UsesCheck s r v w = (at : Span) → IsCheckUsed (program_in s) (procedure_in s) r at (terms_at v) (bound_by w.scope)
+UsesCheck s r v w = (at : Span) → bound_by w.scope ≡ (check_used (procedure_in s) (asked_at r at) (terms_at v)).bindings
 
 abbrev pub EndsCheck : Context → kept_kind.CheckKind → Walker → Walker → Type 0
-EndsCheck s r v w = (at : Span) → IsChecked (program_in s) (procedure_in s) r at (terms_at v) w.kinds w.version
+EndsCheck s r v w = (at : Span) → EndsWith (check_walked (program_in s) (procedure_in s) (asked_at r at) (terms_at v)) w.kinds w.version
 
 abbrev pub ReadsCheck : Context → kept_kind.CheckKind → Walker → TermCheck → Type 0
-ReadsCheck s r v asked = (at : Span) → IsAsking (program_in s) (procedure_in s) r at (terms_at v) asked
+ReadsCheck s r v asked = (at : Span) → EncodesCheck asked (term_check (program_in s) (procedure_in s) (asked_at r at) (terms_at v))
 
 -- the same of what a callee needs
 abbrev pub UsesAll : List Expr → Walker → Walker → Type 0
@@ -117,4 +116,4 @@ abbrev pub EndsEntry : whole.Procedure → List Expr → Walker → Walker → T
 EndsEntry p es v w = EndsWith (entry_made (procedure_of p) es (terms_at v)) w.kinds w.version
 
 abbrev pub ReadsEntry : whole.Procedure → List Expr → Walker → TermCheck → Type 0
-ReadsEntry p es v asked = EncodesCheck asked (needs_asked (procedure_of p) es (terms_at v))
+ReadsEntry p es v asked = let t = exprs_used es (terms_at v) in EncodesCheck asked (needs_under (Some (procedure_of p)) (exprs_terms es t) t)

@@ -60,6 +60,7 @@ pub fn admit_counted(
     ensures versions { OnOk result (NoneHas (program_of typed.now) (HasManyVersions (program_of typed.now))) }
     ensures refused { IfErr result (IsAdmitRefusal (program_of typed.now)) }
 {
+    let _program = typed.program();
     let mut late = None;
     let mut counts = Vec::new(alloc);
     let mut walk = conditions.walk(alloc);

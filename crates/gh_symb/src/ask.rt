@@ -2,8 +2,9 @@
 
 ghost use Rattle.std.specs.Prelude.{◌≡◌, IfOk, OnOk};
 ghost use Rattle.gh_ast.specs.Plain.{formula_of, procedure_of};
-ghost use Rattle.gh_path.specs.Graphs.{Start as PlainStart};
-ghost use Rattle.gh_path.specs.Kept.{IsSomeKind, IsSomeStart, IsStart};
+ghost use Rattle.gh_base.specs.declared.place.Span.{Span};
+ghost use Rattle.gh_path.specs.Graphs.{meets_at};
+ghost use Rattle.gh_path.specs.Kept.{asked_at, start_of, CheckIsThere, StartIsThere};
 ghost use Rattle.gh_symb.specs.Fitting.{AsksWhole};
 ghost use Rattle.gh_symb.specs.Contexts.{procedure_in, program_in};
 ghost use Rattle.gh_symb.specs.Walkers.{Begins, EndsCheck, EndsEntry, ReadsCheck, ReadsEntry, UsesAll, UsesCheck};
@@ -20,8 +21,8 @@ use std::alloc::{AllocError, Global};
 
 /// The start assertion.
 fn start_of(procedure: &Procedure, start: Start) -> &Assertion
-    requires { (s : PlainStart) × IsStart (procedure_of procedure.now) start s }
-    ensures { (s : PlainStart) → IsStart (procedure_of procedure.now) start s → formula_of result.now ≡ s.meets }
+    requires { StartIsThere (procedure_of procedure.now) (start_of start) }
+    ensures { formula_of result.now ≡ meets_at (procedure_of procedure.now) (start_of start) }
 {
     match start {
         Start::Entry => &procedure.needs,
@@ -46,7 +47,7 @@ impl<'a> Walker<'a> {
         context: Context<'a>,
         start: Start,
     ) -> Result<Bound<'a>, AllocError>
-        requires { IsSomeStart (procedure_in context) start }
+        requires { StartIsThere (procedure_in context) (start_of start) }
         ensures begins { IfOk result (Begins context.entry start self.old self.new) }
         ensures version { OnOk result (self.new.version ≡ self.old.version) }
     {
@@ -85,7 +86,7 @@ impl<'a> Walker<'a> {
         context: Context<'a>,
         check: &'a CheckKind,
     ) -> Result<TermCheck<'a>, AllocError>
-        requires { IsSomeKind (program_in context) (procedure_in context) check.now }
+        requires { (at : Span) × CheckIsThere (program_in context) (procedure_in context) (asked_at check.now at) }
         ensures used { OnOk result (UsesCheck context.entry check.now self.old self.new) }
         ensures ended { OnOk result (EndsCheck context.entry check.now self.old self.new) }
         ensures read { IfOk result (ReadsCheck context.entry check.now self.old) }

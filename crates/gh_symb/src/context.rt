@@ -1,8 +1,7 @@
 //! What a condition is of.
 
 ghost use Rattle.gh_ast.specs.Plain.{program_of};
-ghost use Rattle.gh_path.specs.Conditions as plain;
-ghost use Rattle.gh_path.specs.Kept.{StandsFor};
+ghost use Rattle.gh_path.specs.Kept.{Fits};
 ghost use Rattle.gh_symb.specs.Contexts.{IsContextOf};
 
 use gh_ast::typed::Typed;
@@ -18,7 +17,7 @@ pub struct Context<'a> {
 
 /// What a condition of a program is of.
 pub fn context_of<'a>(typed: &'a Typed, condition: &Condition) -> Context<'a>
-    requires { (c : plain.Condition) × StandsFor (program_of typed.now) condition.now c }
+    requires { Fits (program_of typed.now) condition.now }
     ensures { IsContextOf (program_of typed.now) condition.now result }
 {
     let program = typed.program();

@@ -1,7 +1,7 @@
 //! How many terms and versions of the heap a condition has.
 
 ghost use Rattle.std.specs.Prelude.{◌≡◌};
-ghost use Rattle.gh_ast.specs.Plain.{Program};
+ghost use Rattle.gh_ast.specs.Plain.{Procedure, Program};
 ghost use Rattle.gh_path.specs.Conditions.{Condition};
 ghost use Rattle.gh_symb.specs.Limits.{PassesNone};
 ghost use Rattle.gh_symb.specs.Numbers.{count_of};
@@ -31,8 +31,8 @@ pub struct Count {
 impl Counted {
     /// The numbers where the limits are kept, else zeros.
     pub(crate) fn count(self) -> Count
-        ensures { (P : Program) (c : Condition) → IsCount P c self →
-            PassesNone P c → result ≡ count_of P c }
+        ensures { (P : Program) (p : Procedure) (c : Condition) → IsCount P p c self →
+            PassesNone P p c → result ≡ count_of P p c }
     {
         match self {
             Counted::Within { terms, versions } => {

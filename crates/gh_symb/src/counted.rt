@@ -2,8 +2,7 @@
 
 ghost use Rattle.std.specs.Prelude.{IfOk};
 ghost use Rattle.gh_ast.specs.Plain.{program_of};
-ghost use Rattle.gh_path.specs.Conditions as plain;
-ghost use Rattle.gh_path.specs.Kept.{StandsFor};
+ghost use Rattle.gh_path.specs.Kept.{Fits};
 ghost use Rattle.gh_symb.specs.Steps.{HoldsFor, IsCount};
 
 use crate::context::context_of;
@@ -15,8 +14,8 @@ use std::alloc::{AllocError, Global};
 
 /// Counts the terms and versions of a condition of a program.
 pub fn counted(alloc: Global, typed: &Typed, condition: &Condition) -> Result<Counted, AllocError>
-    requires { (c : plain.Condition) × StandsFor (program_of typed.now) condition.now c }
-    ensures { IfOk result (λ n. HoldsFor (program_of typed.now) condition.now (λ P c. IsCount P c n)) }
+    requires { Fits (program_of typed.now) condition.now }
+    ensures { IfOk result (λ n. HoldsFor (program_of typed.now) condition.now (λ P p c. IsCount P p c n)) }
 {
     let context = context_of(typed, condition);
     let mut walker = Walker::new(alloc)?;

@@ -4,7 +4,7 @@ ghost use Rattle.std.specs.Prelude.{◌≡◌, ◌+◌, ◌<◌, ◌≤◌, IfOk
 ghost use Rattle.gh_path.specs.Terms.{expr_term, term_of};
 ghost use Rattle.gh_path.specs.declared.condition.PathStep.TheVariants.{Loop as OnLoop};
 ghost use Rattle.gh_symb.specs.Fitting.{EncodesStep, IsTermOf, JoinsParts};
-ghost use Rattle.gh_path.specs.Kept.{IsSomeCallee, IsSomeLoop, IsSomeStep};
+ghost use Rattle.gh_path.specs.Kept.{step_of, HasCallee, HasLoop, StepIsThere};
 ghost use Rattle.gh_symb.specs.Contexts.{procedure_in, program_in};
 ghost use Rattle.gh_symb.specs.Steps.{cell_made, value_set, ChangesCell, KeepsHeap};
 ghost use Rattle.gh_symb.specs.Walkers.{call_done, call_read, cell_read, terms_at, Goes};
@@ -151,7 +151,7 @@ impl<'a> Walker<'a> {
         targets: &'a [Occ],
         arguments: &'a [Expr],
     ) -> Result<TermStep<'a>, AllocError>
-        requires callee { IsSomeCallee (program_in context) callee }
+        requires callee { HasCallee (program_in context) callee }
         requires room { self.old.version < 9223372036854775807 }
         ensures done { OnOk result (DoesCall context.entry callee targets.now arguments.now self.old self.new) }
         ensures read { IfOk result (λ step. ReadsCall context.entry callee arguments.now self.old step) }
@@ -169,7 +169,7 @@ impl<'a> Walker<'a> {
         context: Context<'a>,
         number: u16,
     ) -> Result<TermStep<'a>, AllocError>
-        requires round { IsSomeLoop (procedure_in context) number }
+        requires round { HasLoop (procedure_in context) number }
         requires room { self.old.version < 9223372036854775807 }
         ensures done { OnOk result (DoesStep context.entry (OnLoop number) self.old self.new) }
         ensures read { IfOk result (λ step. ReadsStep context.entry (OnLoop number) self.old step) }
@@ -228,7 +228,7 @@ impl<'a> Walker<'a> {
         context: Context<'a>,
         step: &'a PathStep,
     ) -> Result<TermStep<'a>, AllocError>
-        requires step { IsSomeStep (program_in context) (procedure_in context) step.now }
+        requires step { StepIsThere (program_in context) (procedure_in context) (step_of step.now) }
         requires room { self.old.version < 9223372036854775807 }
         ensures done { OnOk result (DoesStep context.entry step.now self.old self.new) }
         ensures read { IfOk result (λ encoded. ReadsStep context.entry step.now self.old encoded) }
@@ -279,7 +279,7 @@ impl<'a> Walker<'a> {
         context: Context<'a>,
         step: &'a PathStep,
     ) -> Result<(), AllocError>
-        requires step { IsSomeStep (program_in context) (procedure_in context) step.now }
+        requires step { StepIsThere (program_in context) (procedure_in context) (step_of step.now) }
         requires room { self.old.version < 9223372036854775807 }
         ensures walked { OnOk result (WalksStep context.entry step.now self.old self.new) }
         ensures next { OnOk result (self.new.version ≤ self.old.version + 1) }

@@ -3,8 +3,7 @@
 ghost use Rattle.std.specs.Prelude.{◌≡◌, ◌+◌};
 ghost use Rattle.gh_ast.specs.Plain.{procedure_of, program_of};
 ghost use Rattle.gh_path.specs.Admitted.{most_terms};
-ghost use Rattle.gh_path.specs.Conditions as plain;
-ghost use Rattle.gh_path.specs.Kept.{StandsFor};
+ghost use Rattle.gh_path.specs.Kept.{Fits};
 ghost use Rattle.gh_symb.specs.Limits.{IsLimitOf, Passes};
 ghost use Rattle.gh_symb.specs.Steps.{HoldsFor, IsCount};
 
@@ -48,8 +47,8 @@ fn limit_at(procedure: &Procedure, kind: u8, count: u32) -> Limit
 
 /// The limit on terms, as a condition of a program passes it.
 pub(crate) fn terms_limit(typed: &Typed, condition: &Condition) -> Limit
-    requires { (c : plain.Condition) × StandsFor (program_of typed.now) condition.now c }
-    ensures { HoldsFor (program_of typed.now) condition.now (λ P c. IsLimitOf c.procedure 6 (most_terms + 1) result) }
+    requires { Fits (program_of typed.now) condition.now }
+    ensures { HoldsFor (program_of typed.now) condition.now (λ P p c. IsLimitOf p 6 (most_terms + 1) result) }
 {
     let procedure = &typed.program().procedures[condition.procedure as usize];
     limit_at(procedure, 6, MOST_TERMS as u32 + 1)
@@ -58,8 +57,8 @@ pub(crate) fn terms_limit(typed: &Typed, condition: &Condition) -> Limit
 /// The limit that a condition of a program with these counts passes, if it passes one: kind 6 before
 /// kind 7.
 pub(crate) fn limit_of(typed: &Typed, condition: &Condition, counts: Counted) -> Option<Limit>
-    requires { (c : plain.Condition) × StandsFor (program_of typed.now) condition.now c }
-    ensures { HoldsFor (program_of typed.now) condition.now (λ P c. IsCount P c counts → Passes P c result) }
+    requires { Fits (program_of typed.now) condition.now }
+    ensures { HoldsFor (program_of typed.now) condition.now (λ P p c. IsCount P p c counts → Passes P p c result) }
 {
     match counts {
         Counted::ManyTerms => Some(terms_limit(typed, condition)),

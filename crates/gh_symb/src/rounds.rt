@@ -1,9 +1,9 @@
 //! The loops of a body by their numbers.
 
 ghost use Rattle.gh_ast.specs.Plain.{statement_of, statements_view, procedure_of};
-ghost use Rattle.gh_path.specs.Graphs.{Loop, loops, all_loops};
-ghost use Rattle.gh_path.specs.Kept.{IsLoop};
-ghost use Rattle.gh_symb.specs.Rounds.{IsAnswer, IsRound};
+ghost use Rattle.gh_path.specs.Graphs.{loops, all_loops};
+ghost use Rattle.gh_path.specs.Kept.{HasLoop};
+ghost use Rattle.gh_symb.specs.Rounds.{IsAnswer, IsRoundOf};
 
 use gh_ast::{Assertion, Block, Procedure, Stmt};
 
@@ -59,8 +59,8 @@ fn round_among<'a>(statements: &'a [Stmt], number: usize) -> Result<Round<'a>, u
 
 /// The loop of a number in a procedure.
 pub fn round_of(procedure: &Procedure, number: usize) -> Round<'_>
-    requires { (l : Loop) × IsLoop (procedure_of procedure.now) number l }
-    ensures { (l : Loop) → IsLoop (procedure_of procedure.now) number l → IsRound result l }
+    requires { HasLoop (procedure_of procedure.now) number }
+    ensures { IsRoundOf (procedure_of procedure.now) number result }
 {
     let Some(body) = &procedure.body else {
         unreachable!();

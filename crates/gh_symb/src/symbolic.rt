@@ -1,9 +1,9 @@
 //! A condition over terms, made from a kept one.
 
 ghost use Rattle.std.specs.Prelude.{IfOk, IfErr};
-ghost use Rattle.gh_ast.specs.Plain.{Program, program_of};
+ghost use Rattle.gh_ast.specs.Plain.{Procedure, Program, program_of};
 ghost use Rattle.gh_path.specs.Conditions as plain;
-ghost use Rattle.gh_path.specs.Kept.{StandsFor};
+ghost use Rattle.gh_path.specs.Kept.{Fits};
 ghost use Rattle.gh_symb.specs.Limits.{PassesNone, IsRefusedBy};
 ghost use Rattle.gh_symb.specs.Steps.{HoldsFor};
 ghost use Rattle.gh_symb.specs.Encoded.{IsSymbolic};
@@ -41,8 +41,8 @@ fn walk<'a>(
     typed: &'a Typed,
     condition: &'a Condition,
 ) -> Result<Option<Walked<'a>>, AllocError>
-    requires { (c : plain.Condition) × StandsFor (program_of typed.now) condition.now c }
-    ensures { IfOk result (λ o. HoldsFor (program_of typed.now) condition.now (λ P c. IsWalkedFar P c o)) }
+    requires { Fits (program_of typed.now) condition.now }
+    ensures { IfOk result (λ o. HoldsFor (program_of typed.now) condition.now (λ P p c. IsWalkedFar P p c o)) }
 {
     let context = context_of(typed, condition);
     let mut walker = Walker::new(alloc)?;
@@ -80,7 +80,7 @@ fn walk<'a>(
 
 /// The condition over terms of a condition that passes no limit.
 fn encode<'a>(alloc: Global, walked: Walked<'a>) -> Result<Symbolic<'a>, AllocError>
-    requires { (P : Program) × (c : plain.Condition) × IsWithinLimits P c walked }
+    requires { (P : Program) × (p : Procedure) × (c : plain.Condition) × IsWithinLimits P p c walked }
     ensures { IfOk result (EncodesWalked walked.entry) }
 {
     let terms = walked.kinds.encode(alloc)?;
@@ -101,8 +101,8 @@ pub fn symbolic<'a>(
     typed: &'a Typed,
     condition: &'a Condition,
 ) -> Result<Symbolic<'a>, SymbolicError>
-    requires { (c : plain.Condition) × StandsFor (program_of typed.now) condition.now c }
-    ensures encoded { IfOk result (λ s. HoldsFor (program_of typed.now) condition.now (λ P c. IsSymbolic P c s)) }
+    requires { Fits (program_of typed.now) condition.now }
+    ensures encoded { IfOk result (λ s. HoldsFor (program_of typed.now) condition.now (λ P p c. IsSymbolic P p c s)) }
     ensures few { IfOk result (λ _. HoldsFor (program_of typed.now) condition.now PassesNone) }
     ensures refused { IfErr result (λ e. HoldsFor (program_of typed.now) condition.now (IsRefusedBy e)) }
 {

@@ -3,7 +3,7 @@
 ghost use Rattle.std.specs.Prelude.{◌≡◌, OnOk, IfOk};
 ghost use Rattle.gh_path.specs.Terms.{no_terms};
 ghost use Rattle.gh_symb.specs.Reads.{each_walked_of, walked_of};
-ghost use Rattle.gh_path.specs.Kept.{IsSomeLoop, IsSomeStep};
+ghost use Rattle.gh_path.specs.Kept.{step_of, HasLoop, StepIsThere};
 ghost use Rattle.gh_symb.specs.Contexts.{procedure_in, program_in};
 ghost use Rattle.gh_symb.specs.Walkers.{terms_at, Goes, ReadsAssertion, ReadsWays, UsesStep, WalksInvariant};
 
@@ -76,7 +76,7 @@ impl<'a> Walker<'a> {
 
     /// Walks over the invariant of a loop.
     fn walk_invariant(&mut self, context: Context<'a>, number: u16) -> Result<(), AllocError>
-        requires { IsSomeLoop (procedure_in context) number }
+        requires { HasLoop (procedure_in context) number }
         ensures terms { OnOk result (WalksInvariant context.entry number self.old self.new) }
         ensures version { OnOk result (self.new.version ≡ self.old.version) }
     {
@@ -87,7 +87,7 @@ impl<'a> Walker<'a> {
 
     /// The variables that a step uses get terms.
     pub fn use_step(&mut self, context: Context<'a>, step: &'a PathStep) -> Result<(), AllocError>
-        requires { IsSomeStep (program_in context) (procedure_in context) step.now }
+        requires { StepIsThere (program_in context) (procedure_in context) (step_of step.now) }
         ensures uses { OnOk result (UsesStep context.entry step.now self.old self.new) }
         ensures version { OnOk result (self.new.version ≡ self.old.version) }
     {

@@ -1,14 +1,16 @@
 -- The first refuted condition of a report and that of a decision are one.
-use Rattle.std.proofs.Common.{◌≡◌, inl, inr, ℕ, List, [], ◌∷◌, map, refl, ap, subst}
-use Rattle.std.specs.Prelude.{All, Contains}
+use Rattle.std.proofs.Common.{◌≡◌, ◌∙◌, inl, inr, ℕ, List, [], ◌∷◌, map, refl, ap, subst}
+use Rattle.std.specs.Prelude.{All, Contains, slice_get}
 use Rattle.std.proofs.lemmas.List.Elements.{All-head, All-tail}
-use Rattle.gh_ast.proofs.Lists.{member_cases, no_member}
-use Rattle.gh_ast.specs.Plain.{Program}
+use Rattle.gh_ast.proofs.Lists.{member_cases, no_member, one_value}
+use Rattle.gh_ast.specs.Plain.{Procedure, Program}
 use Rattle.gh_ast.specs.Programs.{Name, variable_names}
 use Rattle.gh_ast.specs.Rules.{IsTyped}
 use Rattle.gh_draw.proofs.Refuted.{told_of_refuted}
-use Rattle.gh_draw.specs.Drawn.{HasValues, IsOver}
-use Rattle.gh_path.specs.Conditions.{Condition}
+use Rattle.gh_draw.specs.Drawings.{drawing}
+use Rattle.gh_draw.specs.Drawn.{drawing_text, HasValues, IsOver}
+use Rattle.gh_path.specs.Conditions.{Condition, IsOf}
+use Rattle.gh_path.specs.Graphs.{meets_at}
 use Rattle.gh_top.specs.Laws.{FirstsAreOne}
 use Rattle.gh_top.specs.Reports.{IsFirstRefuted}
 use Rattle.gh_trace.proofs.FirstRefuted.{first_at}
@@ -25,10 +27,21 @@ pub first_reported : (P : Program) (k : ℕ) (t : Trace) → IsTyped P → (f : 
 first_reported P k t typed f values =
     let told = told_of_refuted P k f.condition t.states.items typed (first_at P k t f) f.refutes values in
     record {
+      procedure = told.procedure;
+      of = told.of;
       reached = record { before = f.before; after = f.after; whole = f.whole; number = f.number_is; valid = f.valid };
       refutes = told.refutes;
       drawable = told.drawable;
     }
+
+-- its drawing is one over the variables of its procedure
+pub first_drawn : (P : Program) (k : ℕ) (t : Trace) (typed : IsTyped P) (f : IsFirst P k t) (values : All HasValues t.states.items)
+    → drawing_text k t.states.items ≡ drawing k (variable_names (first_reported P k t typed f values).procedure) (map state_of t.states.items)
+first_drawn P k t typed f values =
+    let told = told_of_refuted P k f.condition t.states.items typed (first_at P k t f) f.refutes values in
+    let reported = first_reported P k t typed f values in
+    let same : told.procedure ≡ reported.procedure = one_value (slice_get P.procedures f.condition.procedure) told.procedure reported.procedure told.of reported.of in
+    told.text ∙ ap (λ (p : Procedure). drawing k (variable_names p) (map state_of t.states.items)) same
 
 plain_states : (ss : List State) → map state_of ss ≡ map (λ (x : replay.Drawn). x.state) (map drawn ss)
 plain_states [] = refl
@@ -41,17 +54,22 @@ drawn_over ns (s ∷ ss) over x there = elim (member_cases (drawn s) (map drawn 
   | inr later ↦ drawn_over ns ss (All-tail (IsOver ns) s ss over) x later
 ]
 
-drawn_refute : (P : Program) (c : Condition) (ss : List State) → AreCounterexample P c (map state_of ss) → All (IsOver (variable_names c.procedure)) ss → replay.Refutes P c (map drawn ss)
-drawn_refute P c [] against over = absurd against
-drawn_refute P c (s ∷ ss) against over = record {
+drawn_refute : (P : Program) (c : Condition) (p : Procedure) (ss : List State) → AreCounterexample P c (map state_of ss) → IsOf P c p → All (IsOver (variable_names p)) ss
+    → replay.Refutes P c (map drawn ss)
+drawn_refute P c p [] against of over = absurd against
+drawn_refute P c p (s ∷ ss) (q, its, against) of over = record {
+  procedure = p;
+  of = of;
   first = drawn s;
   others = map drawn ss;
   states = refl;
-  over = drawn_over (variable_names c.procedure) (s ∷ ss) over;
-  counterexample = subst (λ (ys : List plain.State). Counterexample P c.start.meets c.way.steps c.way.check (state_of s) ys) (plain_states ss) against;
+  over = drawn_over (variable_names p) (s ∷ ss) over;
+  counterexample =
+      let here = subst (λ (x : Procedure). Counterexample P x (meets_at x c.start) c.way.steps c.way.check (state_of s) (map state_of ss)) (one_value (slice_get P.procedures c.procedure) q p its of) against in
+      subst (λ (ys : List plain.State). Counterexample P p (meets_at p c.start) c.way.steps c.way.check (state_of s) ys) (plain_states ss) here;
 }
 
-first_decided : (P : Program) (k : ℕ) (c : Condition) (t : Trace) → IsFirstRefuted P k c (map state_of t.states.items) → All (IsOver (variable_names c.procedure)) t.states.items → IsFirst P k t
+first_decided : (P : Program) (k : ℕ) (c : Condition) (t : Trace) → (f : IsFirstRefuted P k c (map state_of t.states.items)) → All (IsOver (variable_names f.procedure)) t.states.items → IsFirst P k t
 first_decided P k c t f over = record {
   before = f.reached.before;
   condition = c;
@@ -59,7 +77,7 @@ first_decided P k c t f over = record {
   whole = f.reached.whole;
   number_is = f.reached.number;
   valid = f.reached.valid;
-  refutes = drawn_refute P c t.states.items f.refutes over;
+  refutes = drawn_refute P c f.procedure t.states.items f.refutes f.of over;
 }
 
 pub firsts_are_one : FirstsAreOne

@@ -44,7 +44,7 @@ list_refused P (of_listing.Limit passed) typed keeps (inl many) text spelled = (
 list_refused P (of_listing.Limit passed) typed keeps (inr many) text spelled = (text, P, refl, spelled, typed, admitted.steps keeps many.0 many.1)
 list_refused P of_listing.OutOfMemory typed keeps why text spelled = tt
 
-pub terms_refused : (P : Program) (e : SymbolicError) → IsTyped P → KeepsLimits P → NoneHas P HasManyPaths → NoneHas P HasManySteps → symbolic.IsAdmitRefusal P e → (text : List ℕ) → IsText text P → IsFrontError (Some text) (of_terms e)
+pub terms_refused : (P : Program) (e : SymbolicError) → IsTyped P → KeepsLimits P → NoneHas P (HasManyPaths P) → NoneHas P (HasManySteps P) → symbolic.IsAdmitRefusal P e → (text : List ℕ) → IsText text P → IsFrontError (Some text) (of_terms e)
 terms_refused P (of_symbolic.Limit passed) typed keeps few short (inl many) text spelled = (text, P, refl, spelled, typed, admitted.terms keeps few short many)
 terms_refused P (of_symbolic.Limit passed) typed keeps few short (inr many) text spelled = (text, P, refl, spelled, typed, admitted.versions keeps few short many.0 many.1)
 terms_refused P of_symbolic.OutOfMemory typed keeps few short why text spelled = tt
@@ -57,7 +57,7 @@ list_exit P e result typed keeps why is =
     let p = err_from_is_err_and result is in
     rw (p.1, p.2) (list_refused P e typed keeps why)
 
-pub terms_exit : {T : Type 0} (P : Program) (e : SymbolicError) (result : Result T FrontError) → IsTyped P → KeepsLimits P → NoneHas P HasManyPaths → NoneHas P HasManySteps → symbolic.IsAdmitRefusal P e
+pub terms_exit : {T : Type 0} (P : Program) (e : SymbolicError) (result : Result T FrontError) → IsTyped P → KeepsLimits P → NoneHas P (HasManyPaths P) → NoneHas P (HasManySteps P) → symbolic.IsAdmitRefusal P e
     → IsErrAnd result (λ f. f ≡ of_terms e) → IfErr result (λ x. (text : List ℕ) → IsText text P → IsFrontError (Some text) x)
 terms_exit P e result typed keeps few short why is =
     let p = err_from_is_err_and result is in

@@ -1,8 +1,9 @@
 -- A log, a drawing, a state or a session file that is refused is refused with one text.
 use Rattle.std.proofs.Common.{◌≡◌, ◌≢◌, ◌⊎◌, inl, inr, ◌∙◌, ℕ, ◌+◌, ◌<◌, List, [], ◌∷◌, ◌++◌, length, map, append_assoc, length-append, refl, sym, ap, subst, arith}
-use Rattle.std.specs.Prelude.{Option, codes}
+use Rattle.std.specs.Prelude.{Option, codes, slice_get}
 use Rattle.std.specs.Fmt.{decimal}
 use Rattle.gh_ast.specs.Plain.{Program}
+use Rattle.gh_ast.proofs.Lists.{one_value}
 use Rattle.gh_check.proofs.SectionLemmas.{apart, one}
 use Rattle.gh_check.specs.Names.{fault_kind, fault_name}
 use Rattle.gh_decide.specs.Logs.{AreValidSections}
@@ -13,7 +14,7 @@ use Rattle.gh_log.proofs.OutsideLemmas.{logs_are_inside}
 use Rattle.gh_log.specs.Lines.{LogLine}
 use Rattle.gh_log.specs.Sections.{IsFirstFault}
 use Rattle.gh_log.specs.Spelled.{IsLogText, IsFirstOutside, lines_before}
-use Rattle.gh_path.specs.Conditions.{Condition, conditions}
+use Rattle.gh_path.specs.Conditions.{Condition, conditions, IsOf}
 use Rattle.gh_run.proofs.OneFile.{state_files_are_one}
 use Rattle.gh_run.specs.StateFiles.{IsFaultyLine}
 use Rattle.gh_session.proofs.Orders.{IsOrder, one_place, left_first, right_first, ordered}
@@ -113,7 +114,7 @@ fault_later P log n m at there rest f g e (one_place same c) =
     absurd (omega (arith, own, other, counts, long))
 fault_later P log n m at there rest f g e (left_first more whole) =
     let valid : AreValidSections P (f.earlier ++ f.condition ∷ more) (f.before ++ f.lines ∷ rest) = subst (λ cs. AreValidSections P cs (f.before ++ f.lines ∷ rest)) whole (subst (AreValidSections P g.earlier) e g.valid) in
-    apart (problem (symbolic_of P f.condition)) f.lines n f.place (section_at P f.earlier f.condition more f.before f.lines rest f.valid valid) f.fault
+    apart (problem (symbolic_of P f.procedure f.condition)) f.lines n f.place (section_at P f.earlier f.condition more f.before f.lines rest f.valid valid f.procedure f.of) f.fault
 fault_later P log n m at there rest f g e (right_first more whole) =
     let long = longer_list f.before g.before rest f.lines e in
     let longer = longer_list g.earlier f.earlier more g.condition whole in
@@ -144,9 +145,14 @@ record IsSameFault (n m at there : ℕ) : Type 0 where
 
 same_fault : (P : Program) (log : List (List LogLine)) (n m at there : ℕ) → (f : IsFirstFaultIn P log n at) → (g : IsFirstFaultIn P log m there) → f.before ≡ g.before → f.lines ≡ g.lines → f.condition ≡ g.condition → IsSameFault n m at there
 same_fault P log n m at there f g before lines condition =
-    let moved : IsFirstFault (problem (symbolic_of P g.condition)) g.lines n f.place =
-    subst (λ c. IsFirstFault (problem (symbolic_of P c)) g.lines n f.place) condition (subst (λ ls. IsFirstFault (problem (symbolic_of P f.condition)) ls n f.place) lines f.fault) in
-    let both = one (problem (symbolic_of P g.condition)) g.lines n f.place m g.place moved g.fault in
+    let of : IsOf P g.condition f.procedure = subst (λ c. IsOf P c f.procedure) condition f.of in
+    let procedure : f.procedure ≡ g.procedure = one_value (slice_get P.procedures g.condition.procedure) f.procedure g.procedure of g.of in
+    let there : IsFirstFault (problem (symbolic_of P f.procedure g.condition)) g.lines n f.place =
+    subst (λ c. IsFirstFault (problem (symbolic_of P f.procedure c)) g.lines n f.place) condition
+    (subst (λ ls. IsFirstFault (problem (symbolic_of P f.procedure f.condition)) ls n f.place) lines f.fault) in
+    let moved : IsFirstFault (problem (symbolic_of P g.procedure g.condition)) g.lines n f.place =
+    subst (λ p. IsFirstFault (problem (symbolic_of P p g.condition)) g.lines n f.place) procedure there in
+    let both = one (problem (symbolic_of P g.procedure g.condition)) g.lines n f.place m g.place moved g.fault in
     record {
       number = both.0;
       place = f.at_is ∙ ap (λ ss. 1 + lines_in ss + 1 + f.place + 1) before ∙ ap (λ k. 1 + lines_in g.before + 1 + k + 1) both.1 ∙ sym g.at_is;

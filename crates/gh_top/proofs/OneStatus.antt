@@ -4,10 +4,10 @@
 -- answers are compared case by case: first the requests and the programs, then what is judged of the program. Texts
 -- are compared in the same form.
 use Rattle.std.proofs.Common.{◌≡◌, ◌⊎◌, inl, inr, ◌∙◌, ℕ, ◌-◌, ◌<◌, ◌≤◌, List, [], ◌∷◌, ◌++◌, length, map, refl, sym, ap, subst, arith}
-use Rattle.std.specs.Prelude.{Contains, Option, Some, All, Any, cond, true, false}
+use Rattle.std.specs.Prelude.{Contains, Option, Some, All, Any, cond, true, false, slice_get}
 use Rattle.std.proofs.lemmas.List.Elements.{Contains-append_right}
 use Rattle.std.proofs.lemmas.Option.{slice_get_within}
-use Rattle.gh_ast.proofs.Lists.{member_first}
+use Rattle.gh_ast.proofs.Lists.{member_first, one_value}
 use Rattle.gh_ast.proofs.OneQuestion.{one_question}
 use Rattle.gh_ast.proofs.TokenLemmas.{one_whole}
 use Rattle.gh_ast.specs.Lists.{IsFirstWith}
@@ -33,7 +33,7 @@ use Rattle.gh_log.proofs.OutsideLemmas.{logs_are_inside}
 use Rattle.gh_log.specs.Lines.{LogLine}
 use Rattle.gh_log.specs.Sections.{IsValidSection}
 use Rattle.gh_path.specs.Admitted.{Passed, NoneHas, IsFirstLimit, of_text, paths, steps, terms, versions, IsAdmitted}
-use Rattle.gh_path.specs.Conditions.{Condition, conditions}
+use Rattle.gh_path.specs.Conditions.{Condition, conditions, IsOf}
 use Rattle.gh_run.proofs.OneFile.{state_files_are_one}
 use Rattle.gh_run.proofs.OneReport.{reports_are_one}
 use Rattle.gh_run.specs.StateFiles.{IsStateFile}
@@ -155,7 +155,7 @@ IsDecided P s = ((s ≡ Verified) × ListedAreValid P) ⊎ ((s ≡ Refuted) × (
 
 not_refuted : (P : Program) (c : Condition) (xs : List State) → IsConditionValid P c → AreCounterexample P c xs → ⊥
 not_refuted P c [] valid r = r
-not_refuted P c (x ∷ ys) valid r = valid x ys r
+not_refuted P c (x ∷ ys) valid (p, of, r) = valid p of x ys r
 
 not_decided : (P : Program) (k : ℕ) (c : Condition) (xs : List State) → ListedAreValid P → IsFirstRefuted P k c xs → ⊥
 not_decided P k c xs valid f =
@@ -176,17 +176,19 @@ one_log text log other a b = (one_text a.version b.version log other a.spelled b
 
 -- the section after valid ones
 pub section_at : (P : Program) (earlier : List Condition) (c : Condition) (later : List Condition) (before : List (List LogLine)) (s : List LogLine) (after : List (List LogLine)) →
-    AreValidSections P earlier before → AreValidSections P (earlier ++ c ∷ later) (before ++ s ∷ after) → IsValidSection (problem (symbolic_of P c)) s
-section_at P [] c later [] s after v w = w.0
-section_at P [] c later (t ∷ before) s after v w = absurd v
-section_at P (d ∷ earlier) c later [] s after v w = absurd v
-section_at P (d ∷ earlier) c later (t ∷ before) s after v w = section_at P earlier c later before s after v.1 w.1
+    AreValidSections P earlier before → AreValidSections P (earlier ++ c ∷ later) (before ++ s ∷ after) → (p : Procedure) → IsOf P c p → IsValidSection (problem (symbolic_of P p c)) s
+section_at P [] c later [] s after v w p of =
+    let (q, its, valid) = w.0 in
+    subst (λ x. IsValidSection (problem (symbolic_of P x c)) s) (one_value (slice_get P.procedures c.procedure) q p its of) valid
+section_at P [] c later (t ∷ before) s after v w p of = absurd v
+section_at P (d ∷ earlier) c later [] s after v w p of = absurd v
+section_at P (d ∷ earlier) c later (t ∷ before) s after v w p of = section_at P earlier c later before s after v.1 w.1 p of
 
 no_first_fault : (P : Program) (log : List (List LogLine)) (number at : ℕ) → IsValidLog P log → IsFirstFaultIn P log number at → ⊥
 no_first_fault P log number at v f =
     let whole : AreValidSections P (f.earlier ++ f.condition ∷ f.later) (f.before ++ f.lines ∷ f.after) =
     subst (λ cs. AreValidSections P cs (f.before ++ f.lines ∷ f.after)) f.whole (subst (AreValidSections P (conditions P)) f.sections v) in
-    apart (problem (symbolic_of P f.condition)) f.lines number f.place (section_at P f.earlier f.condition f.later f.before f.lines f.after f.valid whole) f.fault
+    apart (problem (symbolic_of P f.procedure f.condition)) f.lines number f.place (section_at P f.earlier f.condition f.later f.before f.lines f.after f.valid whole f.procedure f.of) f.fault
 
 pub valid_log : (P : Program) (text u : List ℕ) (log : List (List LogLine)) → IsLogOf text log → IsValidLog P log → (bytes : Option (List ℕ)) → bytes ≡ Some text → IsLogRefusal P bytes u → ⊥
 valid_log P text u log is v _ e recheck.absent = absurd cc
@@ -242,9 +244,9 @@ one_replayed P bytes s t (inr (e, u, w)) (inr (f, v, x)) = e ∙ sym f
 
 abbrev IsScripted : Program → ℕ → Status → Type 0
 IsScripted P n s =
-    ((s ≡ Listed) × (c : Condition) × IsAt P n c × (asserted_count P c ≤ most_asserted))
+    ((s ≡ Listed) × (p : Procedure) × (c : Condition) × IsAt P n c × IsOf P c p × (asserted_count P p c ≤ most_asserted))
     ⊎ ((s ≡ LogRefused) × (length (conditions P) < n))
-    ⊎ ((s ≡ TextRefused) × (c : Condition) × IsAt P n c × (most_asserted < asserted_count P c))
+    ⊎ ((s ≡ TextRefused) × (p : Procedure) × (c : Condition) × IsAt P n c × IsOf P c p × (most_asserted < asserted_count P p c))
 
 pub one_at : (P : Program) (n : ℕ) (c d : Condition) → IsAt P n c → IsAt P n d → c ≡ d
 one_at P n c d a b = cc
@@ -252,21 +254,29 @@ one_at P n c d a b = cc
 pub not_past : (P : Program) (n : ℕ) (c : Condition) → IsAt P n c → length (conditions P) < n → ⊥
 not_past P n c a past = let within = slice_get_within (conditions P) (n - 1) c a in absurd (omega (arith, within, past))
 
-pub not_long : (P : Program) (n : ℕ) (c d : Condition) → IsAt P n c → IsAt P n d → asserted_count P c ≤ most_asserted → most_asserted < asserted_count P d → ⊥
-not_long P n c d a b few many =
-    let here = subst (λ e. asserted_count P e ≤ most_asserted) (one_at P n c d a b) few in
-    absurd (omega (arith, here, many))
+-- what is told of the condition of a number and of its procedure is one
+pub one_told : {X : Type 0} (P : Program) (n : ℕ) (p q : Procedure) (c d : Condition) → IsAt P n c → IsAt P n d → IsOf P c p → IsOf P d q → (told : Procedure → Condition → X) → told p c ≡ told q d
+one_told P n p q c d a b of its told =
+    let same : c ≡ d = one_at P n c d a b in
+    let here : IsOf P d p = subst (λ x. IsOf P x p) same of in
+    ap (told p) same ∙ ap (λ x. told x d) (one_value (slice_get P.procedures d.procedure) p q here its)
+
+pub not_long : (P : Program) (n : ℕ) (p q : Procedure) (c d : Condition) → IsAt P n c → IsAt P n d → IsOf P c p → IsOf P d q → asserted_count P p c ≤ most_asserted
+    → most_asserted < asserted_count P q d → ⊥
+not_long P n p q c d a b of its few many =
+    let same = one_told P n p q c d a b of its (asserted_count P) in
+    absurd (omega (arith, same, few, many))
 
 one_scripted : (P : Program) (n : ℕ) (s t : Status) → IsScripted P n s → IsScripted P n t → s ≡ t
-one_scripted P n s t (inl (e, c, a, few)) (inl (f, d, b, less)) = e ∙ sym f
-one_scripted P n s t (inl (e, c, a, few)) (inr (inl (f, past))) = absurd (not_past P n c a past)
-one_scripted P n s t (inl (e, c, a, few)) (inr (inr (f, d, b, many))) = absurd (not_long P n c d a b few many)
-one_scripted P n s t (inr (inl (e, past))) (inl (f, d, b, less)) = absurd (not_past P n d b past)
+one_scripted P n s t (inl (e, p, c, a, of, few)) (inl (f, q, d, b, its, less)) = e ∙ sym f
+one_scripted P n s t (inl (e, p, c, a, of, few)) (inr (inl (f, past))) = absurd (not_past P n c a past)
+one_scripted P n s t (inl (e, p, c, a, of, few)) (inr (inr (f, q, d, b, its, many))) = absurd (not_long P n p q c d a b of its few many)
+one_scripted P n s t (inr (inl (e, past))) (inl (f, q, d, b, its, less)) = absurd (not_past P n d b past)
 one_scripted P n s t (inr (inl (e, past))) (inr (inl (f, more))) = e ∙ sym f
-one_scripted P n s t (inr (inl (e, past))) (inr (inr (f, d, b, many))) = absurd (not_past P n d b past)
-one_scripted P n s t (inr (inr (e, c, a, many))) (inl (f, d, b, less)) = absurd (not_long P n d c b a less many)
-one_scripted P n s t (inr (inr (e, c, a, many))) (inr (inl (f, past))) = absurd (not_past P n c a past)
-one_scripted P n s t (inr (inr (e, c, a, many))) (inr (inr (f, d, b, more))) = e ∙ sym f
+one_scripted P n s t (inr (inl (e, past))) (inr (inr (f, q, d, b, its, many))) = absurd (not_past P n d b past)
+one_scripted P n s t (inr (inr (e, p, c, a, of, many))) (inl (f, q, d, b, its, less)) = absurd (not_long P n q p d c b a its of less many)
+one_scripted P n s t (inr (inr (e, p, c, a, of, many))) (inr (inl (f, past))) = absurd (not_past P n c a past)
+one_scripted P n s t (inr (inr (e, p, c, a, of, many))) (inr (inr (f, q, d, b, its, more))) = e ∙ sym f
 
 -- runs
 
@@ -394,9 +404,9 @@ given words files s u (smallest_verified {f = f} {P = P} a v) = judged (Smallest
 given words files s u (smallest_refuted {f = f} {P = P} a r) = judged (Smallest f) P a (inr (refl, r.number, r.condition, r.states, r.first))
 given words files s u (stress_verified {n = n} {P = P} a v) = judged (Stress n) P a (inl (refl, v))
 given words files s u (stress_refuted {n = n} {P = P} a r) = judged (Stress n) P a (inr (refl, r.number, r.condition, r.states, r.first))
-given words files s u (smt_listed {f = f} {n = n} {P = P} c a found few decides) = judged (Smt f n) P a (inl (refl, c, found, few))
+given words files s u (smt_listed {f = f} {n = n} {P = P} p c a found of few decides) = judged (Smt f n) P a (inl (refl, p, c, found, of, few))
 given words files s u (smt_no_condition {f = f} {n = n} {P = P} a past) = judged (Smt f n) P a (inr (inl (refl, past)))
-given words files s u (smt_too_long {f = f} {n = n} {P = P} c a found many) = judged (Smt f n) P a (inr (inr (refl, c, found, many)))
+given words files s u (smt_too_long {f = f} {n = n} {P = P} p c a found of many) = judged (Smt f n) P a (inr (inr (refl, p, c, found, of, many)))
 given words files s u (run_refused {f = f} {x = x} {u = v} {n = n} {P = P} a w) = judged (Run f x n) P a (inr (refl, v, w))
 given words files s u (run_unmet {f = f} {x = x} {n = n} {P = P} a from) = judged (Run f x n) P a (inl (report.Unmet, refl, from))
 given words files s u (run_stopped {f = f} {x = x} {n = n} {P = P} k y a from) = judged (Run f x n) P a (inl (report.Stopped k y, refl, from))

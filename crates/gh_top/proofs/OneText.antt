@@ -1,17 +1,17 @@
 -- For given words and files there is one text, but for the choice of a log or of a trace.
 use Rattle.std.proofs.Common.{◌≡◌, ◌⊎◌, inl, inr, ◌∙◌, ℕ, ◌<◌, ◌≤◌, List, length, refl, sym, ap, subst}
 use Rattle.std.specs.Prelude.{Option, codes, cond, true, false}
-use Rattle.gh_ast.specs.Plain.{Program}
+use Rattle.gh_ast.specs.Plain.{Procedure, Program}
 use Rattle.gh_ast.specs.Rules.{IsTyped}
 use Rattle.gh_draw.proofs.Shown.{file_one, file_shown}
 use Rattle.gh_draw.specs.Drawings.{line}
 use Rattle.gh_draw.specs.Drawn.{IsFileOf}
-use Rattle.gh_path.specs.Conditions.{Condition, conditions}
+use Rattle.gh_path.specs.Conditions.{Condition, conditions, IsOf}
 use Rattle.gh_run.specs.declared.simulate.Report.{Report}
 use Rattle.gh_run.specs.declared.simulate.Report.TheVariants as report
 use Rattle.gh_top.proofs.OneFile.{one_log_refusal, one_drawing_refusal, one_state_refusal, one_session_refusal}
 use Rattle.gh_top.proofs.OneRefusal.{same_text, one_refusal, one_question_refusal}
-use Rattle.gh_top.proofs.OneStatus.{valid_log, refuting, one_at, not_past, not_long, one_run, run_refused_too, IsGiven, no_request, text_refused, judged, in_session, of_question, one_given}
+use Rattle.gh_top.proofs.OneStatus.{valid_log, refuting, one_told, not_past, not_long, one_run, run_refused_too, IsGiven, no_request, text_refused, judged, in_session, of_question, one_given}
 use Rattle.gh_top.specs.Entails.{IsQuestionRefused}
 use Rattle.gh_top.specs.Headline.{Files, asked_text, Answer, usage, refused, check_verified, check_refuted, log_verified, log_refuted, recheck_refused, recheck_verified, paths_listed, replay_refused, replay_refuted, smallest_verified, smallest_refuted, stress_verified, stress_refuted, smt_listed, smt_no_condition, smt_too_long, run_refused, run_unmet, run_stopped, run_faulted, run_held, run_failed, session_refused, session_listed, entail_refused, entail_verified, entail_refuted}
 use Rattle.gh_top.specs.Laws.{log_of, section_of, check_trace, log_trace, smallest_trace, stress_trace, entail_state, session_traces, LeavesNoChoice, TextsAreOne}
@@ -55,20 +55,20 @@ one_replay_text P bytes u v (inr w) (inr x) = one_drawing_refusal P bytes u v w 
 
 abbrev IsScriptText : Program → ℕ → List ℕ → Type 0
 IsScriptText P n u =
-    ((c : Condition) × IsAt P n c × (asserted_count P c ≤ most_asserted) × (u ≡ smt_text P c))
+    ((p : Procedure) × (c : Condition) × IsAt P n c × IsOf P c p × (asserted_count P p c ≤ most_asserted) × (u ≡ smt_text P p c))
     ⊎ ((length (conditions P) < n) × (u ≡ unnumbered_text P n))
-    ⊎ ((c : Condition) × IsAt P n c × (most_asserted < asserted_count P c) × (u ≡ too_long_text P c))
+    ⊎ ((p : Procedure) × (c : Condition) × IsAt P n c × IsOf P c p × (most_asserted < asserted_count P p c) × (u ≡ too_long_text P p c))
 
 one_script_text : (P : Program) (n : ℕ) (u v : List ℕ) → IsScriptText P n u → IsScriptText P n v → u ≡ v
-one_script_text P n u v (inl (c, a, few, e)) (inl (d, b, less, f)) = e ∙ ap (smt_text P) (one_at P n c d a b) ∙ sym f
-one_script_text P n u v (inl (c, a, few, e)) (inr (inl (past, f))) = absurd (not_past P n c a past)
-one_script_text P n u v (inl (c, a, few, e)) (inr (inr (d, b, many, f))) = absurd (not_long P n c d a b few many)
-one_script_text P n u v (inr (inl (past, e))) (inl (d, b, less, f)) = absurd (not_past P n d b past)
+one_script_text P n u v (inl (p, c, a, of, few, e)) (inl (q, d, b, its, less, f)) = e ∙ one_told P n p q c d a b of its (smt_text P) ∙ sym f
+one_script_text P n u v (inl (p, c, a, of, few, e)) (inr (inl (past, f))) = absurd (not_past P n c a past)
+one_script_text P n u v (inl (p, c, a, of, few, e)) (inr (inr (q, d, b, its, many, f))) = absurd (not_long P n p q c d a b of its few many)
+one_script_text P n u v (inr (inl (past, e))) (inl (q, d, b, its, less, f)) = absurd (not_past P n d b past)
 one_script_text P n u v (inr (inl (past, e))) (inr (inl (more, f))) = e ∙ sym f
-one_script_text P n u v (inr (inl (past, e))) (inr (inr (d, b, many, f))) = absurd (not_past P n d b past)
-one_script_text P n u v (inr (inr (c, a, many, e))) (inl (d, b, less, f)) = absurd (not_long P n d c b a less many)
-one_script_text P n u v (inr (inr (c, a, many, e))) (inr (inl (past, f))) = absurd (not_past P n c a past)
-one_script_text P n u v (inr (inr (c, a, many, e))) (inr (inr (d, b, more, f))) = e ∙ ap (too_long_text P) (one_at P n c d a b) ∙ sym f
+one_script_text P n u v (inr (inl (past, e))) (inr (inr (q, d, b, its, many, f))) = absurd (not_past P n d b past)
+one_script_text P n u v (inr (inr (p, c, a, of, many, e))) (inl (q, d, b, its, less, f)) = absurd (not_long P n q p d c b a its of less many)
+one_script_text P n u v (inr (inr (p, c, a, of, many, e))) (inr (inl (past, f))) = absurd (not_past P n c a past)
+one_script_text P n u v (inr (inr (p, c, a, of, many, e))) (inr (inr (q, d, b, its, more, f))) = e ∙ one_told P n p q c d a b of its (too_long_text P) ∙ sym f
 
 abbrev run_text : Report → List ℕ
 run_text report.Unmet = unmet_text
@@ -147,9 +147,9 @@ told words files s u (smallest_verified {f = f} {P = P} a v) free = judged (Smal
 told words files s u (smallest_refuted {f = f} a r) free = absurd (free (Smallest f) a.request smallest_trace)
 told words files s u (stress_verified {n = n} {P = P} a v) free = judged (Stress n) P a refl
 told words files s u (stress_refuted {n = n} a r) free = absurd (free (Stress n) a.request stress_trace)
-told words files s u (smt_listed {f = f} {n = n} {P = P} c a found few decides) free = judged (Smt f n) P a (inl (c, found, few, refl))
+told words files s u (smt_listed {f = f} {n = n} {P = P} p c a found of few decides) free = judged (Smt f n) P a (inl (p, c, found, of, few, refl))
 told words files s u (smt_no_condition {f = f} {n = n} {P = P} a past) free = judged (Smt f n) P a (inr (inl (past, refl)))
-told words files s u (smt_too_long {f = f} {n = n} {P = P} c a found many) free = judged (Smt f n) P a (inr (inr (c, found, many, refl)))
+told words files s u (smt_too_long {f = f} {n = n} {P = P} p c a found of many) free = judged (Smt f n) P a (inr (inr (p, c, found, of, many, refl)))
 told words files s u (run_refused {f = f} {x = x} {n = n} {P = P} a w) free = judged (Run f x n) P a (inr w)
 told words files s u (run_unmet {f = f} {x = x} {n = n} {P = P} a from) free = judged (Run f x n) P a (inl (report.Unmet, from, refl))
 told words files s u (run_stopped {f = f} {x = x} {n = n} {P = P} k y a from) free = judged (Run f x n) P a (inl (report.Stopped k y, from, refl))

@@ -44,7 +44,7 @@ are_asked : (P : Program) (o : Option Refutation) → IsOutcome P o → AreAsked
 are_asked P None valid = to_last valid
 are_asked P (Some r) f =
     to_first r.number f.condition (record { before = f.before; after = f.after; whole = f.whole; number = f.number_is; valid = f.valid })
-    (λ valid. valid f.refutes.first.state (map (λ x. x.state) f.refutes.others) f.refutes.counterexample)
+    (λ valid. valid f.refutes.procedure f.refutes.of f.refutes.first.state (map (λ x. x.state) f.refutes.others) f.refutes.counterexample)
 
 kept_too : (P : Program) (cs : List Condition) (old new : List Kept) (n : ℕ) → Grows P cs (knowledge old) n (knowledge new) → IsKeptToo P cs (kept_essences old) n (kept_essences new)
 kept_too P cs old new n g =

@@ -1,10 +1,11 @@
 -- From a smallest counterexample to what is answered for it.
 use Rattle.std.proofs.Common.{◌≡◌, ℕ, List, [], ◌∷◌, ◌++◌, length, map, Option, Some, None, refl, sym, ap, subst, append_assoc, ◌∙◌}
 use Rattle.std.specs.Prelude.{codes, All, IfSome}
-use Rattle.gh_ast.specs.Plain.{Program}
+use Rattle.gh_ast.specs.Plain.{Procedure, Program}
 use Rattle.gh_ast.specs.Rules.{IsTyped}
 use Rattle.gh_path.specs.Answers.{IsNumbered}
-use Rattle.gh_path.specs.Conditions.{Condition, conditions}
+use Rattle.gh_path.specs.Conditions.{Condition, IsOf, conditions}
+use Rattle.gh_path.specs.Kept.{condition_of}
 use Rattle.gh_path.specs.declared.condition.Condition as kept
 use Rattle.gh_symb.specs.Symbolic.{symbolic_of}
 use Rattle.gh_symb.specs.Formulas.{problem}
@@ -14,17 +15,16 @@ use Rattle.gh_log.specs.declared.lines.Section.{Section}
 use Rattle.gh_log.specs.Spelled.{IsSpelledLine}
 use Rattle.gh_trace.specs.Refuted.{IsFirst}
 use Rattle.gh_trace.specs.Validity.{ListedAreValid}
-use Rattle.gh_trace.proofs.FirstRefuted.{first_at, kept_first}
+use Rattle.gh_trace.proofs.FirstRefuted.{kept_first, numbered_one, condition_one}
 use Rattle.gh_draw.specs.Descriptions.{description}
 use Rattle.gh_draw.specs.Drawings.{line}
 use Rattle.gh_draw.specs.Drawn.{drawing_text, HasValues}
 use Rattle.gh_draw.specs.Kept.{Describes}
-use Rattle.gh_draw.proofs.Refuted.{told_of_refuted}
 use Rattle.gh_small.specs.Models.{IsLowest}
-use Rattle.gh_small.specs.Smallest.{first_cells, IsSmallest}
+use Rattle.gh_small.specs.Smallest.{first_cells, IsLeast, IsSmallest}
 use Rattle.gh_small.specs.declared.found.Smallest.{Smallest}
 use Rattle.gh_top.proofs.DecidingLemmas.{alone_spelled}
-use Rattle.gh_top.proofs.FirstLemmas.{first_reported}
+use Rattle.gh_top.proofs.FirstLemmas.{first_reported, first_drawn}
 use Rattle.gh_top.specs.Headline.{smallest_verified, smallest_refuted}
 use Rattle.gh_top.specs.Lines.{verified_line, smallest_line}
 use Rattle.gh_top.specs.Replies.{Replies}
@@ -33,17 +33,20 @@ use Rattle.gh_top.specs.declared.words.Request.TheVariants as request
 use Rattle.gh_top.specs.declared.status.Status.{Status}
 use Rattle.gh_top.specs.declared.status.Status.TheVariants.{Verified, Refuted}
 
-lines_spelled : (P : Program) (c : Condition) (cells : ℕ) (o : Option Section) → IsLowest (problem (symbolic_of P c)) cells o → IfSome o (λ s. All (IsSpelledLine 2) s.lines)
-lines_spelled P c cells None h = tt
-lines_spelled P c cells (Some s) h = h.1.writable.spelled
+lines_spelled : (P : Program) (p : Procedure) (c : Condition) (cells : ℕ) (o : Option Section) → IsLowest (problem (symbolic_of P p c)) cells o
+    → IfSome o (λ s. All (IsSpelledLine 2) s.lines)
+lines_spelled P p c cells None h = tt
+lines_spelled P p c cells (Some s) h = h.1.writable.spelled
 
 -- its section can be spelled
-pub section_spelled : (P : Program) (k : ℕ) (r : kept.Condition) (s : Smallest) → IsFirst P k s.trace → IsNumbered P k (Some r) → IsSmallest P r s → IfSome s.section (λ x. All (IsSpelledLine 2) x.lines)
-section_spelled P k r s f n is = lines_spelled P f.condition s.cells s.section (is.lowest f.condition (kept_first P k s.trace r f n))
+pub section_spelled : (P : Program) (k : ℕ) (r : kept.Condition) (s : Smallest) → IsNumbered P k (Some r) → IsSmallest P r s → IfSome s.section (λ x. All (IsSpelledLine 2) x.lines)
+section_spelled P k r s n is =
+    let one = condition_one P r (numbered_one P k r n) in
+    lines_spelled P one.procedure (condition_of r) s.cells s.section (is.lowest one.procedure one.of)
 
-bound_told : (P : Program) (c : Condition) (cells : ℕ) (o : Option Section) → IsLowest (problem (symbolic_of P c)) cells o → IsBoundText P c cells (section_text o)
-bound_told P c cells None e = subst (λ n. IsBoundText P c n []) (sym e) no_cell
-bound_told P c cells (Some s) h =
+bound_told : (P : Program) (p : Procedure) (c : Condition) (cells : ℕ) (o : Option Section) → IsLowest (problem (symbolic_of P p c)) cells o → IsBoundText P p c cells (section_text o)
+bound_told P p c cells None e = subst (λ n. IsBoundText P p c n []) (sym e) no_cell
+bound_told P p c cells (Some s) h =
     some_cells s.lines h.0 h.1.valid (alone_spelled s.lines h.1.writable.spelled)
 
 same_cells : (ss : List State) → first_cells (map drawn ss) ≡ cells_at_first (map state_of ss)
@@ -61,25 +64,28 @@ pub reported : (P : Program) (k n : ℕ) (s : Smallest) (r : kept.Condition) (fr
     → first ≡ front ++ d → second ≡ first ++ codes "\n" → third ≡ second ++ shown → fourth ≡ third ++ bound → IsSmallestReport P fourth
 reported P k n s r front d shown bound first second third fourth typed f there is values count begun described told_by bounded a b e g =
     let c : Condition = f.condition in
-    let keeps = kept_first P k s.trace r f there in
-    let told = told_of_refuted P k c s.trace.states.items typed (first_at P k s.trace f) f.refutes values in
-    let text : d ≡ description c = described c keeps.stands in
+    let same : condition_of r ≡ c = kept_first P k s.trace r f there in
+    let refuted = first_reported P k s.trace typed f values in
+    let text : d ≡ description P c = described ∙ ap (description P) same in
+    let p : Procedure = refuted.procedure in
+    let here : IsOf P (condition_of r) p = subst (λ (b : Condition). IsOf P b p) (sym same) refuted.of in
+    let lowest : IsLowest (problem (symbolic_of P p c)) s.cells s.section = subst (λ (b : Condition). IsLowest (problem (symbolic_of P p b)) s.cells s.section) same (is.lowest p here) in
     record {
       number = k;
       cells = s.cells;
       condition = c;
       states = map state_of s.trace.states.items;
       bound = bound;
-      first = first_reported P k s.trace typed f values;
+      first = refuted;
       count = is.count ∙ same_cells s.trace.states.items;
-      least = is.least c keeps;
-      shown = subst (IsBoundText P c s.cells) (sym bounded) (bound_told P c s.cells s.section (is.lowest c keeps));
+      least = subst (λ (b : Condition). IsLeast P b s.cells) same is.least;
+      shown = subst (IsBoundText P p c s.cells) (sym bounded) (bound_told P p c s.cells s.section lowest);
       text_is =
           assembled front d (codes "\n") shown bound first second third fourth a b e g
           ∙ ap (λ z. (z ++ (d ++ codes "\n") ++ shown) ++ bound) begun
           ∙ ap (λ m. (smallest_line k m s.cells ++ (d ++ codes "\n") ++ shown) ++ bound) count
           ∙ ap (λ z. (smallest_line k (length (conditions P)) s.cells ++ (z ++ codes "\n") ++ shown) ++ bound) text
-          ∙ ap (λ z. (smallest_line k (length (conditions P)) s.cells ++ line (description c) ++ z) ++ bound) (told_by ∙ told.text);
+          ∙ ap (λ z. (smallest_line k (length (conditions P)) s.cells ++ line (description P c) ++ z) ++ bound) (told_by ∙ first_drawn P k s.trace typed f values);
     }
 
 pub smallest_valid : (P : Program) (n : ℕ) (s : Status) (u : List ℕ) → ListedAreValid P → n ≡ length (conditions P) → s ≡ Verified

@@ -3,15 +3,14 @@ use Rattle.std.proofs.Common.{◌≡◌, ℕ, ◌-◌, ◌<◌, ◌≤◌, List,
 use Rattle.std.specs.Prelude.{Some, None, slice_get}
 use Rattle.std.specs.Fmt.{decimal}
 use Rattle.gh_base.specs.declared.place.Span.{Span}
-use Rattle.gh_ast.specs.Plain.{Program}
+use Rattle.gh_ast.specs.Plain.{Procedure, Program}
 use Rattle.gh_path.specs.Answers.{IsNumbered}
-use Rattle.gh_path.specs.Conditions.{Condition, IsCondition, conditions}
-use Rattle.gh_path.specs.Kept.{StandsFor}
+use Rattle.gh_path.specs.Conditions.{Condition, IsOf, conditions}
+use Rattle.gh_path.specs.Kept.{condition_of}
 use Rattle.gh_path.specs.declared.condition.Condition as kept
 use Rattle.gh_base.specs.Grounds.{Problem}
 use Rattle.gh_symb.specs.Symbolic.{symbolic_of}
 use Rattle.gh_symb.specs.Formulas.{problem}
-use Rattle.gh_trace.specs.Kept.{IsOne}
 use Rattle.gh_trace.proofs.FirstRefuted.{placed}
 use Rattle.gh_smt.specs.Scripts.{assertion_count, script_of}
 use Rattle.gh_smt.specs.Texts.{script_text}
@@ -19,36 +18,38 @@ use Rattle.gh_smt.specs.Laws.{DecidesCondition}
 use Rattle.gh_draw.specs.Descriptions.{place_text}
 use Rattle.gh_draw.specs.Drawings.{line}
 use Rattle.gh_top.specs.Headline.{smt_listed, smt_no_condition, smt_too_long}
-use Rattle.gh_top.specs.Smts.{most_asserted, asserted_count, script_for, smt_text, unnumbered_text, too_long_text, IsScriptReport, listed, too_long}
+use Rattle.gh_top.specs.Smts.{most_asserted, asserted_count, script_for, smt_text, unnumbered_text, too_long_text, IsScriptReport, listed, too_long, ReportsScript}
 use Rattle.gh_top.specs.Replies.{Replies}
 use Rattle.gh_top.specs.declared.words.Request.TheVariants.{Smt}
 use Rattle.gh_top.specs.declared.status.Status.{Status}
 use Rattle.gh_top.specs.declared.status.Status.TheVariants.{Listed, LogRefused, TextRefused}
 
-pub one_there : (P : Program) (n : ℕ) (r : kept.Condition) → IsNumbered P n (Some r) → IsOne P r
-one_there P n r (c, low, there, stands) = (c, record { stands = stands; there = placed P (n - 1) c there })
-
-pub is_listed : (P : Program) (c : Condition) (p q : Problem) (s : Status) (u : List ℕ) → p ≡ problem (symbolic_of P c) → assertion_count p ≤ most_asserted → q ≡ script_of p → DecidesCondition P c q → s ≡ Listed → u ≡ script_text q → IsScriptReport P c s u
-is_listed P c p q s u e few is decides a b =
-    let same : q ≡ script_for P c = is ∙ ap script_of e in
-    let text : u ≡ smt_text P c = b ∙ ap script_text same in
+pub is_listed : (P : Program) (p : Procedure) (c : Condition) (g q : Problem) (s : Status) (u : List ℕ) → g ≡ problem (symbolic_of P p c) → assertion_count g ≤ most_asserted
+    → q ≡ script_of g → DecidesCondition P c q → s ≡ Listed → u ≡ script_text q → IsScriptReport P p c s u
+is_listed P p c g q s u e few is decides a b =
+    let same : q ≡ script_for P p c = is ∙ ap script_of e in
+    let text : u ≡ smt_text P p c = b ∙ ap script_text same in
     rw (a, text) (listed (subst (λ k. k ≤ most_asserted) (ap assertion_count e) few) (subst (λ o. DecidesCondition P c o) same decides))
 
-pub is_too_long : (P : Program) (c : Condition) (p : Problem) (span : Span) (count : ℕ) (s : Status) (u : List ℕ) → p ≡ problem (symbolic_of P c) → count ≡ assertion_count p → most_asserted < count → span ≡ c.procedure.name.span → s ≡ TextRefused
-    → u ≡ line (codes "refused: Limit script at " ++ place_text span ++ codes ", count " ++ decimal count) → IsScriptReport P c s u
-is_too_long P c p span count s u e counted many at a b =
-    let count_is : count ≡ asserted_count P c = counted ∙ ap assertion_count e in
-    let text : u ≡ too_long_text P c =
+pub is_too_long : (P : Program) (p : Procedure) (c : Condition) (g : Problem) (span : Span) (count : ℕ) (s : Status) (u : List ℕ) → g ≡ problem (symbolic_of P p c)
+    → count ≡ assertion_count g → most_asserted < count → span ≡ p.name.span → s ≡ TextRefused
+    → u ≡ line (codes "refused: Limit script at " ++ place_text span ++ codes ", count " ++ decimal count) → IsScriptReport P p c s u
+is_too_long P p c g span count s u e counted many at a b =
+    let count_is : count ≡ asserted_count P p c = counted ∙ ap assertion_count e in
+    let text : u ≡ too_long_text P p c =
     b ∙ ap (λ t. line (codes "refused: Limit script at " ++ place_text t ++ codes ", count " ++ decimal count)) at
-    ∙ ap (λ k. line (codes "refused: Limit script at " ++ place_text c.procedure.name.span ++ codes ", count " ++ decimal k)) count_is in
+    ∙ ap (λ k. line (codes "refused: Limit script at " ++ place_text p.name.span ++ codes ", count " ++ decimal k)) count_is in
     rw (a, text) (too_long (subst (λ k. most_asserted < k) count_is many))
 
-reported : (P : Program) (n : ℕ) (c : Condition) (s : Status) (u : List ℕ) → slice_get (conditions P) (n - 1) ≡ Some c → IsScriptReport P c s u → (file : List ℕ) → Replies (Smt file n) P s u
-reported P n c s u at (listed few decides) file words files asks = smt_listed c asks at few decides
-reported P n c s u at (too_long many) file words files asks = smt_too_long c asks at many
+reported : (P : Program) (n : ℕ) (p : Procedure) (c : Condition) (s : Status) (u : List ℕ) → slice_get (conditions P) (n - 1) ≡ Some c → IsOf P c p → IsScriptReport P p c s u
+    → (file : List ℕ) → Replies (Smt file n) P s u
+reported P n p c s u at of (listed few decides) file words files asks = smt_listed p c asks at of few decides
+reported P n p c s u at of (too_long many) file words files asks = smt_too_long p c asks at of many
 
-pub script_replies : (P : Program) (n : ℕ) (r : kept.Condition) (s : Status) (u : List ℕ) → IsNumbered P n (Some r) → ((c : Condition) → IsCondition P c → StandsFor P r c → IsScriptReport P c s u) → (file : List ℕ) → Replies (Smt file n) P s u
-script_replies P n r s u (c, low, there, stands) k = reported P n c s u there (k c (placed P (n - 1) c there) stands)
+pub script_replies : (P : Program) (n : ℕ) (r : kept.Condition) (s : Status) (u : List ℕ) → IsNumbered P n (Some r) → ReportsScript P r s u → (file : List ℕ) → Replies (Smt file n) P s u
+script_replies P n r s u (low, there) told =
+    let is = placed P (n - 1) (condition_of r) there in
+    reported P n is.procedure (condition_of r) s u there is.of (told is.procedure is.of)
 
 pub none_replies : (P : Program) (n m : ℕ) (s : Status) (u : List ℕ) → 1 ≤ n → IsNumbered P n None → m ≡ length (conditions P) → s ≡ LogRefused
     → u ≡ line (codes "refused: no condition " ++ decimal n ++ codes " of " ++ decimal m) → (file : List ℕ) → Replies (Smt file n) P s u

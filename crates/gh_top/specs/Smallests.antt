@@ -1,7 +1,7 @@
 -- The report on a counterexample with the fewest cells in its first heap.
 use Rattle.std.specs.Prelude.{◌≡◌, ℕ, ◌<◌, List, [], ◌∷◌, ◌++◌, length, Option, Some, None}
 use Rattle.std.specs.FinMap.{len}
-use Rattle.gh_ast.specs.Plain.{Program}
+use Rattle.gh_ast.specs.Plain.{Procedure, Program}
 use Rattle.gh_ast.specs.Programs.{variable_names}
 use Rattle.gh_path.specs.Conditions.{Condition, conditions}
 use Rattle.gh_symb.specs.Symbolic.{symbolic_of}
@@ -24,15 +24,16 @@ abbrev pub cells_at_first : List State → ℕ
 cells_at_first [] = 0
 cells_at_first (x ∷ xs) = len x.heap
 
--- the number, the cells, the description and the drawing
-abbrev pub smallest_text : Program → ℕ → ℕ → Condition → List State → List ℕ
-smallest_text P k cells c xs =
-    smallest_line k (length (conditions P)) cells ++ line (description c) ++ drawing k (variable_names c.procedure) xs
+-- the number, the cells, the description and the drawing of a condition of the procedure p
+abbrev pub smallest_text : Program → Procedure → ℕ → ℕ → Condition → List State → List ℕ
+smallest_text P p k cells c xs =
+    smallest_line k (length (conditions P)) cells ++ line (description P c) ++ drawing k (variable_names p) xs
 
 -- the text of a log of version 2 whose one section is valid for the condition's clauses with the bound; nothing where there is no cell
-pub data IsBoundText (P : Program) (c : Condition) : ℕ → List ℕ → Type 0 where
-  no_cell : IsBoundText P c 0 []
-  some_cells : {cells : ℕ} (section : List LogLine) → 0 < cells → IsValidSection (bounded_by (problem (symbolic_of P c)) cells) section → IsSpelled 2 (section ∷ []) → IsBoundText P c cells (log_text 2 (section ∷ []))
+pub data IsBoundText (P : Program) (p : Procedure) (c : Condition) : ℕ → List ℕ → Type 0 where
+  no_cell : IsBoundText P p c 0 []
+  some_cells : {cells : ℕ} (section : List LogLine) → 0 < cells → IsValidSection (bounded_by (problem (symbolic_of P p c)) cells) section → IsSpelled 2 (section ∷ [])
+      → IsBoundText P p c cells (log_text 2 (section ∷ []))
 
 -- that log's text
 abbrev pub section_text : Option Section → List ℕ
@@ -49,5 +50,5 @@ pub record IsSmallestReport (P : Program) (text : List ℕ) : Type 0 where
   pub first : IsFirstRefuted P number condition states
   pub count : cells ≡ cells_at_first states
   pub least : IsLeast P condition cells
-  pub shown : IsBoundText P condition cells bound
-  pub text_is : text ≡ smallest_text P number cells condition states ++ bound
+  pub shown : IsBoundText P first.procedure condition cells bound
+  pub text_is : text ≡ smallest_text P first.procedure number cells condition states ++ bound

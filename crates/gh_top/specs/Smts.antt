@@ -1,14 +1,14 @@
 -- Conditions of a program as SMT-LIB scripts.
 use Rattle.std.specs.Prelude.{ℕ, ◌<◌, ◌≤◌, List, length}
-use Rattle.gh_ast.specs.Plain.{Program}
-use Rattle.gh_path.specs.Conditions.{Condition, conditions, IsCondition}
+use Rattle.gh_ast.specs.Plain.{Procedure, Program}
+use Rattle.gh_path.specs.Conditions.{Condition, conditions}
 use Rattle.gh_symb.specs.Symbolic.{symbolic_of}
 use Rattle.gh_symb.specs.Formulas.{problem}
+use Rattle.gh_symb.specs.Steps.{HoldsFor}
 use Rattle.gh_base.specs.Grounds.{Problem}
 use Rattle.gh_smt.specs.Scripts.{assertion_count, script_of}
 use Rattle.gh_smt.specs.Laws.{DecidesCondition}
 use Rattle.gh_smt.specs.Texts.{script_text}
-use Rattle.gh_path.specs.Kept.{StandsFor}
 use Rattle.gh_path.specs.declared.condition.Condition as kept
 use Rattle.gh_top.specs.Lines.{unnumbered_line, script_limit_line}
 use Rattle.gh_top.specs.declared.status.Status.{Status}
@@ -18,33 +18,33 @@ use Rattle.gh_top.specs.declared.status.Status.TheVariants.{Listed, TextRefused}
 abbrev pub most_asserted : ℕ
 most_asserted = 2000000
 
--- how many assertions the script of a condition has
-abbrev pub asserted_count : Program → Condition → ℕ
-asserted_count P c = assertion_count (problem (symbolic_of P c))
+-- how many assertions the script of a condition of the procedure p has
+abbrev pub asserted_count : Program → Procedure → Condition → ℕ
+asserted_count P p c = assertion_count (problem (symbolic_of P p c))
 
-abbrev pub script_for : Program → Condition → Problem
-script_for P c = script_of (problem (symbolic_of P c))
+abbrev pub script_for : Program → Procedure → Condition → Problem
+script_for P p c = script_of (problem (symbolic_of P p c))
 
 -- the script decides the condition: it is satisfiable exactly where the condition has a counterexample
-abbrev pub IsDecidedByScript : Program → Condition → Type 0
-IsDecidedByScript P c = DecidesCondition P c (script_for P c)
+abbrev pub IsDecidedByScript : Program → Procedure → Condition → Type 0
+IsDecidedByScript P p c = DecidesCondition P c (script_for P p c)
 
-abbrev pub smt_text : Program → Condition → List ℕ
-smt_text P c = script_text (script_for P c)
+abbrev pub smt_text : Program → Procedure → Condition → List ℕ
+smt_text P p c = script_text (script_for P p c)
 
 -- the program has fewer conditions
 abbrev pub unnumbered_text : Program → ℕ → List ℕ
 unnumbered_text P n = unnumbered_line n (length (conditions P))
 
 -- the script would have more assertions: at the name of the condition's procedure
-abbrev pub too_long_text : Program → Condition → List ℕ
-too_long_text P c = script_limit_line c.procedure.name.span (asserted_count P c)
+abbrev pub too_long_text : Program → Procedure → Condition → List ℕ
+too_long_text P p c = script_limit_line p.name.span (asserted_count P p c)
 
 -- the script of a condition, or that it is too long
-pub data IsScriptReport (P : Program) (c : Condition) : Status → List ℕ → Type 0 where
-  listed : asserted_count P c ≤ most_asserted → IsDecidedByScript P c → IsScriptReport P c Listed (smt_text P c)
-  too_long : most_asserted < asserted_count P c → IsScriptReport P c TextRefused (too_long_text P c)
+pub data IsScriptReport (P : Program) (p : Procedure) (c : Condition) : Status → List ℕ → Type 0 where
+  listed : asserted_count P p c ≤ most_asserted → IsDecidedByScript P p c → IsScriptReport P p c Listed (smt_text P p c)
+  too_long : most_asserted < asserted_count P p c → IsScriptReport P p c TextRefused (too_long_text P p c)
 
--- the same of whatever condition of the program the kept one stands for
+-- the same of a condition that is kept
 abbrev pub ReportsScript : Program → kept.Condition → Status → List ℕ → Type 0
-ReportsScript P r status text = (c : Condition) → IsCondition P c → StandsFor P r c → IsScriptReport P c status text
+ReportsScript P r status text = HoldsFor P r (λ Q p c. IsScriptReport Q p c status text)

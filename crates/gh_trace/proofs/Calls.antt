@@ -1,11 +1,10 @@
 -- A call is judged by one store and one split.
-use Rattle.std.specs.Prelude.{◌≡◌, ◌++◌, map, Contains}
+use Rattle.std.specs.Prelude.{◌≡◌, ◌++◌, map, Contains, slice_get}
 use Rattle.std.proofs.lemmas.List.Elements.{Contains-append_cases}
 use Rattle.std.proofs.Common.{sym, ◌∙◌, ap, subst, inl, inr}
 use Rattle.gh_ast.specs.Plain.{Formula}
 use Rattle.gh_ast.specs.Programs.{Name, names, parameters_of, results_of}
-use Rattle.gh_ast.proofs.Lists.{same_values}
-use Rattle.gh_ast.proofs.Declared.{is_one}
+use Rattle.gh_ast.proofs.Lists.{same_values, one_value}
 use Rattle.gh_assert.specs.Heaps.{Heap, Splits}
 use Rattle.gh_assert.specs.Meaning.{Store, Meaning, MeetsOneOf, HasPart}
 use Rattle.gh_assert.proofs.Alternatives.{one_met_agrees}
@@ -33,48 +32,48 @@ parts_are_replaced = record {
 }
 
 pub entries_are_one : EntriesAreOne
-entries_are_one P f es x p vs inside own decl gives params = (λ passed. passed p vs inside decl gives params, back)
+entries_are_one P p at n es x q vs inside own is gives params = (λ passed. passed q vs inside is gives params, back)
   where
-    here : (inside' : Store) → map inside' (parameters_of p) ≡ vs → HasPart p.needs inside x.heap → HasPart p.needs inside' x.heap
+    here : (inside' : Store) → map inside' (parameters_of q) ≡ vs → HasPart q.needs inside x.heap → HasPart q.needs inside' x.heap
     here inside' params' (a, b, split, m) =
-        (a, b, split, same_meaning p.needs (parameters_of p) inside inside' a (maps_agree (parameters_of p) inside inside' (params ∙ sym params')) own.needs_in m)
+        (a, b, split, same_meaning q.needs (parameters_of q) inside inside' a (maps_agree (parameters_of q) inside inside' (params ∙ sym params')) own.needs_in m)
 
-    back : HasPart p.needs inside x.heap → Passes P (entry f es) x
-    back part q ws inside' decl' gives' params' =
-        let same : p ≡ q = is_one P.procedures f.name p q decl decl' in
+    back : HasPart q.needs inside x.heap → Passes P p (entry at n es) x
+    back part r ws inside' is' gives' params' =
+        let same : q ≡ r = one_value (slice_get P.procedures n) q r is is' in
         let values : ws ≡ vs = same_values ws vs (sym gives' ∙ gives) in
-        let params'' : map inside' (parameters_of p) ≡ vs = ap (λ r. map inside' (parameters_of r)) same ∙ params' ∙ values in
-        subst (λ r. HasPart r.needs inside' x.heap) same (here inside' params'' part)
+        let params'' : map inside' (parameters_of q) ≡ vs = ap (λ z. map inside' (parameters_of z)) same ∙ params' ∙ values in
+        subst (λ z. HasPart z.needs inside' x.heap) same (here inside' params'' part)
 
 replaced_agrees : (f : Formula) (s s' : Store) (Q R : Heap → Type 0) (h k : Heap) → ((a : Heap) → Meaning f s a → Meaning f s' a) → ((a : Heap) → Q a → R a) → Replaced f s h Q k → Replaced f s' h R k
 replaced_agrees f s s' Q R h k before after r =
     record { part = r.part; frame = r.frame; other = r.other; splits = r.splits; met = before r.part r.met; joins = r.joins; meets = after r.other r.meets }
 
 pub calls_are_one : CallsAreOne
-calls_are_one P xs f es x y p vs inside own decl gives params results = (
-  λ (q, ws, decl', gives', c).
-      let same : q ≡ p = is_one P.procedures f.name q p decl' decl in
+calls_are_one P p xs n es x y q vs inside own is gives params results = (
+  λ (r, ws, is', gives', c).
+      let same : r ≡ q = one_value (slice_get P.procedures n) r q is' is in
       let values : ws ≡ vs = same_values ws vs (sym gives' ∙ gives) in
-      one (subst (λ us. Called p us (names xs) x y) values (subst (λ r. Called r ws (names xs) x y) same c)),
+      one (subst (λ us. Called q us (names xs) x y) values (subst (λ z. Called z ws (names xs) x y) same c)),
   λ (kept, replaced). (
-    p,
+    q,
     vs,
-    decl,
+    is,
     gives,
     record { inside = inside; arguments = params; targets = record { given = sym results; kept = kept }; replaced = replaced },
   ),
 )
   where
-    one : Called p vs (names xs) x y → ((n : Name) → (Contains (names xs) n → ⊥) → y.store n ≡ x.store n) × Replaced p.needs inside x.heap (MeetsOneOf p.gives inside) y.heap
+    one : Called q vs (names xs) x y → ((m : Name) → (Contains (names xs) m → ⊥) → y.store m ≡ x.store m) × Replaced q.needs inside x.heap (MeetsOneOf q.gives inside) y.heap
     one c =
-        let on_parameters : Agree (parameters_of p) c.inside inside = maps_agree (parameters_of p) c.inside inside (c.arguments ∙ sym params) in
-        let on_results : Agree (results_of p) c.inside inside = maps_agree (results_of p) c.inside inside (sym c.targets.given ∙ sym results) in
-        let on_both : Agree (parameters_of p ++ results_of p) c.inside inside = λ n i. elim (Contains-append_cases (parameters_of p) (results_of p) n i) [
-          | inl left ↦ on_parameters n left
-          | inr right ↦ on_results n right
+        let on_parameters : Agree (parameters_of q) c.inside inside = maps_agree (parameters_of q) c.inside inside (c.arguments ∙ sym params) in
+        let on_results : Agree (results_of q) c.inside inside = maps_agree (results_of q) c.inside inside (sym c.targets.given ∙ sym results) in
+        let on_both : Agree (parameters_of q ++ results_of q) c.inside inside = λ m i. elim (Contains-append_cases (parameters_of q) (results_of q) m i) [
+          | inl left ↦ on_parameters m left
+          | inr right ↦ on_results m right
         ] in (
           c.targets.kept,
-          replaced_agrees p.needs c.inside inside (MeetsOneOf p.gives c.inside) (MeetsOneOf p.gives inside) x.heap y.heap
-              (λ a m. same_meaning p.needs (parameters_of p) c.inside inside a on_parameters own.needs_in m)
-              (λ a m. one_met_agrees p.gives (parameters_of p ++ results_of p) c.inside inside a on_both own.gives_in m) c.replaced,
+          replaced_agrees q.needs c.inside inside (MeetsOneOf q.gives c.inside) (MeetsOneOf q.gives inside) x.heap y.heap
+              (λ a m. same_meaning q.needs (parameters_of q) c.inside inside a on_parameters own.needs_in m)
+              (λ a m. one_met_agrees q.gives (parameters_of q ++ results_of q) c.inside inside a on_both own.gives_in m) c.replaced,
         )

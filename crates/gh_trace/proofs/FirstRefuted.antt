@@ -2,13 +2,16 @@
 use Rattle.std.specs.Prelude.{◌≡◌, ℕ, zero, suc, ◌+◌, ◌-◌, ◌≤◌, List, [], ◌∷◌, ◌++◌, length, take, drop, slice_get, Some, None, Contains}
 use Rattle.std.proofs.Common.{refl, sym, ◌∙◌, ap, subst, inl, inr, arith}
 use Rattle.std.proofs.lemmas.Option.{slice_get_within, get_or_from_slice_get}
-use Rattle.gh_ast.specs.Plain.{Program}
+use Rattle.gh_ast.specs.Plain.{Procedure, Program}
+use Rattle.gh_ast.specs.Rules.{IsTyped}
+use Rattle.gh_ast.proofs.Lists.{one_value, not_both}
 use Rattle.gh_path.specs.Answers.{IsNumbered}
-use Rattle.gh_path.specs.Conditions.{Condition, conditions, IsCondition}
-use Rattle.gh_path.specs.Kept.{StandsFor}
+use Rattle.gh_path.specs.Conditions.{Condition, conditions, IsCondition, IsOf}
+use Rattle.gh_path.specs.Kept.{condition_of, IsOne, IsThere}
 use Rattle.gh_path.specs.declared.condition.Condition as kept
 use Rattle.gh_path.proofs.Listed.{all_are_listed}
-use Rattle.gh_trace.specs.Kept.{drawn_of, IsOfProgram, IsOne, HasCounterexample, HasNoCounterexample}
+use Rattle.gh_path.proofs.Numbers.{numbers_are_there}
+use Rattle.gh_trace.specs.Kept.{drawn_of, HasNoCounterexample, IsRefuted}
 use Rattle.gh_trace.specs.Refuted.{IsFirst}
 use Rattle.gh_trace.specs.Replay.{Refutes}
 use Rattle.gh_trace.specs.Validity.{IsConditionValid}
@@ -39,42 +42,51 @@ at_seam (y ∷ before) x after = at_seam before x after
 -- conditions by their numbers
 
 -- the condition at a place is one of the program's
+pub listed_at : (P : Program) (k : ℕ) (c : Condition) → slice_get (conditions P) k ≡ Some c → Contains (conditions P) c
+listed_at P k c at = (k, slice_get_within (conditions P) k c at, get_or_from_slice_get (conditions P) k c c at)
+
 pub placed : (P : Program) (k : ℕ) (c : Condition) → slice_get (conditions P) k ≡ Some c → IsCondition P c
-placed P k c at = (all_are_listed P c).0 (k, slice_get_within (conditions P) k c at, get_or_from_slice_get (conditions P) k c c at)
+placed P k c at = (all_are_listed P c).0 (listed_at P k c at)
 
 -- the condition of the next number
-pub next_one : (P : Program) (k : ℕ) (r : kept.Condition) → IsNumbered P (k + 1) (Some r) → (c : Condition) × (slice_get (conditions P) k ≡ Some c) × IsOfProgram P r c
-next_one P k r (c, low, there, stands) =
-    let place : k ≡ k + 1 - 1 = omega arith in
-    let at : slice_get (conditions P) k ≡ Some c = ap (slice_get (conditions P)) place ∙ there in
-    (c, at, record { stands = stands; there = placed P k c at })
+pub next_one : (P : Program) (k : ℕ) (r : kept.Condition) → IsNumbered P (k + 1) (Some r) → slice_get (conditions P) k ≡ Some (condition_of r)
+next_one P k r (low, there) = let place : k ≡ k + 1 - 1 = omega arith in ap (slice_get (conditions P)) place ∙ there
 
 pub is_one : (P : Program) (k : ℕ) (r : kept.Condition) → IsNumbered P (k + 1) (Some r) → IsOne P r
-is_one P k r found = let c = next_one P k r found in (c.0, c.2)
+is_one P k r found = listed_at P k (condition_of r) (next_one P k r found)
 
 -- the condition of any number
 pub numbered_one : (P : Program) (n : ℕ) (r : kept.Condition) → IsNumbered P n (Some r) → IsOne P r
-numbered_one P n r (c, low, there, stands) = (c, record { stands = stands; there = placed P (n - 1) c there })
+numbered_one P n r (low, there) = listed_at P (n - 1) (condition_of r) there
+
+-- it is a path of one of the procedures
+pub condition_one : (P : Program) (r : kept.Condition) → IsOne P r → IsCondition P (condition_of r)
+condition_one P r one = (all_are_listed P (condition_of r)).0 one
 
 -- its procedure stands at its number
 pub has_procedure : (P : Program) (r : kept.Condition) → IsOne P r → slice_get P.procedures r.procedure ≡ None → ⊥
-has_procedure P r (c, one) none = let at : slice_get P.procedures r.procedure ≡ Some c.procedure = one.stands.procedure in absurd cc
+has_procedure P r one none = let is = condition_one P r one in not_both (slice_get P.procedures r.procedure) is.procedure is.of none
+
+-- and all its numbers are there
+pub is_there : (P : Program) (p : Procedure) (r : kept.Condition) → IsTyped P → IsOne P r → IsOf P (condition_of r) p → IsThere P p (condition_of r)
+is_there P p r typed one of = numbers_are_there P (condition_of r) p typed (condition_one P r one) of
 
 -- the first that isn't valid
 
 -- the next condition is refuted, after valid ones
-pub next_refuted : (P : Program) (k : ℕ) (r : kept.Condition) (t : Trace) → IsNumbered P (k + 1) (Some r) → HasCounterexample P r (drawn_of t) →
+pub next_refuted : (P : Program) (k : ℕ) (r : kept.Condition) (t : Trace) → IsNumbered P (k + 1) (Some r) → IsRefuted P r (drawn_of t) →
     ((d : Condition) → Contains (take k (conditions P)) d → IsConditionValid P d) → IsFirst P (k + 1) t
 next_refuted P k r t found against valid =
-    let one = next_one P k r found in
+    let c : Condition = condition_of r in
+    let at : slice_get (conditions P) k ≡ Some c = next_one P k r found in
     record {
       before = take k (conditions P);
-      condition = one.0;
+      condition = c;
       after = drop (suc k) (conditions P);
-      whole = parted (conditions P) k one.0 one.1;
-      number_is = ap (λ n. n + 1) (sym (taken_length (conditions P) k one.0 one.1));
+      whole = parted (conditions P) k c at;
+      number_is = ap (λ n. n + 1) (sym (taken_length (conditions P) k c at));
       valid = valid;
-      refutes = against one.0 one.2;
+      refutes = against;
     }
 
 pub first_at : (P : Program) (k : ℕ) (t : Trace) → (f : IsFirst P k t) → slice_get (conditions P) (k - 1) ≡ Some f.condition
@@ -90,17 +102,16 @@ first_there P k t f (inl none) = omega (arith, none, f.number_is)
 first_there P k t f (inr past) = omega (arith, past, f.number_is, slice_get_within (conditions P) (k - 1) f.condition (first_at P k t f))
 
 -- the condition that is kept is the first that isn't valid
-pub kept_first : (P : Program) (k : ℕ) (t : Trace) (r : kept.Condition) → (f : IsFirst P k t) → IsNumbered P k (Some r) → IsOfProgram P r f.condition
-kept_first P k t r f (c, low, there, stands) =
-    let at = first_at P k t f in
-    let same : c ≡ f.condition = cc in
-    record { stands = subst (StandsFor P r) same stands; there = placed P (k - 1) f.condition at }
+pub kept_first : (P : Program) (k : ℕ) (t : Trace) (r : kept.Condition) → (f : IsFirst P k t) → IsNumbered P k (Some r) → condition_of r ≡ f.condition
+kept_first P k t r f (low, there) = one_value (slice_get (conditions P) (k - 1)) (condition_of r) f.condition there (first_at P k t f)
 
 pub first_one : (P : Program) (k : ℕ) (t : Trace) (r : kept.Condition) → IsFirst P k t → IsNumbered P k (Some r) → IsOne P r
-first_one P k t r f n = (f.condition, kept_first P k t r f n)
+first_one P k t r f n = numbered_one P k r n
 
 pub never_valid : (P : Program) (k : ℕ) (t : Trace) (r : kept.Condition) → IsFirst P k t → IsNumbered P k (Some r) → HasNoCounterexample P r → ⊥
-never_valid P k t r f n valid = valid f.condition (kept_first P k t r f n) f.refutes.first.state _ f.refutes.counterexample
+never_valid P k t r f n valid =
+    let against : Refutes P (condition_of r) (drawn_of t) = subst (λ c. Refutes P c (drawn_of t)) (sym (kept_first P k t r f n)) f.refutes in
+    valid against.procedure against.of against.first.state _ against.counterexample
 
 -- another counterexample of that condition shows it too
 pub still_first : (P : Program) (k : ℕ) (t u : Trace) → (f : IsFirst P k t) → Refutes P f.condition (drawn_of u) → IsFirst P k u

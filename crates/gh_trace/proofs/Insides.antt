@@ -1,5 +1,5 @@
 -- The store of a callee.
-use Rattle.std.specs.Prelude.{◌≡◌, ◌≢◌, ℕ, zero, suc, ◌+◌, List, [], ◌∷◌, ◌++◌, length, map, take, slice_get, Option, Some, None, true, false, IfSome, IfNone, All, AllPairs, Contains, get_or}
+use Rattle.std.specs.Prelude.{◌≡◌, ◌≢◌, ℕ, suc, ◌+◌, List, [], ◌∷◌, ◌++◌, length, map, slice_get, Option, Some, None, true, false, IfSome, IfNone, All, AllPairs, Contains, get_or}
 use Rattle.std.specs.Str.{bytes_eq}
 use Rattle.std.proofs.Common.{refl, sym, ◌∙◌, ap, subst, inl, inr, arith}
 use Rattle.std.proofs.lemmas.Slice.Eq.{bytes_eq-Decides}
@@ -8,10 +8,10 @@ use Rattle.std.proofs.lemmas.List.{length-append, get_or_append_left, get_or_def
 use Rattle.std.proofs.lemmas.Option.{slice_get_within, get_or_from_slice_get}
 use Rattle.gh_ast.specs.Plain.{Procedure, Program}
 use Rattle.gh_ast.specs.Occurrences.{locals_of}
-use Rattle.gh_ast.specs.Programs.{Name, names, name_of, parameters_of, results_of, IsFirstNamed, Declares}
+use Rattle.gh_ast.specs.Programs.{Name, names, parameters_of, results_of}
 use Rattle.gh_ast.specs.Names.{FormulaIn}
 use Rattle.gh_ast.specs.Rules.{IsTyped}
-use Rattle.gh_ast.proofs.Lists.{member_first, member_later, one_value}
+use Rattle.gh_ast.proofs.Lists.{member_first, member_later}
 use Rattle.gh_ast.proofs.TypedPrograms.{variables_are_distinct, variables_split, needs_are_parameters, gives_are_contract}
 use Rattle.gh_assert.specs.declared.store.Entry.{Entry}
 use Rattle.gh_assert.specs.Stores.{listed_names, store_of, AreDistinct}
@@ -111,28 +111,19 @@ told_both q vs ws start es es' apart count count' none is is' =
     halves (store_of es') (parameters_of q) (results_of q) vs ws count
     (subst (λ z. map (store_of z) (parameters_of q ++ results_of q) ≡ vs ++ ws) (sym all) (told (parameters_of q ++ results_of q) (vs ++ ws) apart (counts q vs ws count count')))
 
-first_at : (ps : List Procedure) (n : ℕ) (f : Name) (q : Procedure) → slice_get ps n ≡ Some q → name_of q ≡ f → ((r : Procedure) → Contains (take n ps) r → name_of r ≢ f) → IsFirstNamed ps f q
-first_at [] n f q at named first = absurd cc
-first_at (p ∷ ps) zero f q at named first = let same : p ≡ q = cc in inl (ap name_of same ∙ named, sym same)
-first_at (p ∷ ps) (suc n) f q at named first = inr (first p (member_first p (take n ps)), first_at ps n f q at named (λ r there. first r (member_later p r (take n ps) there)))
-
-pub declares_at : (P : Program) (n : ℕ) (f : Name) (q : Procedure) → slice_get P.procedures n ≡ Some q → IsCallee P n f → Declares P f q
-declares_at P n f q at callee =
-    subst (IsFirstNamed P.procedures f) (one_value (slice_get P.procedures n) callee.callee q callee.at at) (first_at P.procedures n f callee.callee callee.at callee.named callee.first)
-
 pub contained_at : (ps : List Procedure) (n : ℕ) (q : Procedure) → slice_get ps n ≡ Some q → Contains ps q
 contained_at ps n q at = (n, slice_get_within ps n q at, get_or_from_slice_get ps n q q at)
 
 each_is : {X : Type 0} (P : X → Type 0) (xs : List X) → ((x : X) → Contains xs x → P x) → All P xs
 each_is P xs f k d within = f (get_or xs k d) (k, within, get_or_default xs k (get_or xs k d) d within)
 
-pub own_names : (P : Program) (n : ℕ) (q : Procedure) → IsTyped P → slice_get P.procedures n ≡ Some q → HasOwnNames q
+pub own_names : (P : Program) (n : ℕ) (q : Procedure) → IsTyped P → IsCallee P n q → HasOwnNames q
 own_names P n q typed at = record {
   needs_in = needs_are_parameters P typed q (contained_at P.procedures n q at);
   gives_in = each_is (λ f. FormulaIn f (parameters_of q ++ results_of q)) q.gives (λ f there. gives_are_contract P typed q (contained_at P.procedures n q at) f there);
 }
 
-pub distinct_names : (P : Program) (n : ℕ) (q : Procedure) → IsTyped P → slice_get P.procedures n ≡ Some q → HasDistinctNames q
+pub distinct_names : (P : Program) (n : ℕ) (q : Procedure) → IsTyped P → IsCallee P n q → HasDistinctNames q
 distinct_names P n q typed at =
     distinct_front (parameters_of q ++ results_of q) (names (locals_of q)) (subst Distinct (variables_split q) (variables_are_distinct P typed q (contained_at P.procedures n q at)))
 

@@ -8,6 +8,7 @@ pub mod StepLemmas
 pub mod KeptSteps
 pub mod Insides
 pub mod CallLemmas
+pub mod LoopLemmas
 pub mod Following
 pub mod FirstRefuted
 pub mod StepCounts

@@ -1,16 +1,13 @@
--- What is said twice, of tests and of callees, is one.
-use Rattle.std.specs.Prelude.{◌≡◌, ◌≢◌, ℕ, suc, List, [], ◌∷◌, take, Bool, true, false, ◌&&◌, ◌||◌, Some, slice_get, Contains}
-use Rattle.std.proofs.Common.{refl, sym, ◌∙◌, ap, inl, inr}
+-- What is said twice of tests is one.
+use Rattle.std.specs.Prelude.{◌≡◌, Bool, true, false, ◌&&◌, ◌||◌, Some}
+use Rattle.std.proofs.Common.{refl, ◌∙◌, ap}
 use Rattle.gh_ast.specs.declared.Expr.TheVariants.{Plain, Read}
-use Rattle.gh_ast.specs.Plain.{Procedure, Test, compare, negation, conjunction, disjunction, Tests, no_tests, test_first}
-use Rattle.gh_ast.specs.Programs.{Name, name_of, IsFirstNamed}
+use Rattle.gh_ast.specs.Plain.{Test, compare, negation, conjunction, disjunction, Tests, no_tests, test_first}
 use Rattle.gh_ast.specs.WellFormed.{IsFormedTest, AreFormedTests}
-use Rattle.gh_ast.proofs.Lists.{member_cases, no_member}
 use Rattle.gh_assert.specs.Heaps.{Heap}
 use Rattle.gh_assert.specs.Meaning.{Store, truth, all_true, some_true}
 use Rattle.gh_assert.specs.Values.{not_outcome, and_then, or_then, outcome, all_outcome, some_outcome}
-use Rattle.gh_trace.specs.Laws.{TestsGiveTheirTruth, CalleesAreNumbered}
-use Rattle.gh_trace.proofs.Insides.{declares_at}
+use Rattle.gh_trace.specs.Laws.{TestsGiveTheirTruth}
 
 both_then : (a b : Bool) → and_then (Some a) (Some b) ≡ Some (a && b)
 both_then true b = refl
@@ -46,28 +43,3 @@ mutual
 
 pub tests_give_their_truth : TestsGiveTheirTruth
 tests_give_their_truth = gives
-
--- where the first procedure of a name stands
-record StandsAt (ps : List Procedure) (f : Name) (p : Procedure) (n : ℕ) : Type 0 where
-  at : slice_get ps n ≡ Some p
-  named : name_of p ≡ f
-  first : (q : Procedure) → Contains (take n ps) q → name_of q ≢ f
-
-stands_at : (ps : List Procedure) (f : Name) (p : Procedure) → IsFirstNamed ps f p → (n : ℕ) × StandsAt ps f p n
-stands_at [] f p h = absurd h
-stands_at (q ∷ ps) f p (inl (named, same)) = (0, record { at = ap Some (sym same); named = ap name_of same ∙ named; first = λ r there. absurd (no_member r there) })
-stands_at (q ∷ ps) f p (inr (other, later)) =
-    let w = stands_at ps f p later in (
-      suc w.0,
-      record {
-        at = w.1.at;
-        named = w.1.named;
-        first = λ r there named. elim (member_cases q (take w.0 ps) r there) [ inl same ↦ other (ap name_of same ∙ named) | inr more ↦ w.1.first r more named ];
-      },
-    )
-
-pub callees_are_numbered : CalleesAreNumbered
-callees_are_numbered P f p = (
-  λ declares. (let w = stands_at P.procedures f p declares in (w.0, record { callee = p; at = w.1.at; named = w.1.named; first = w.1.first }, w.1.at)),
-  λ (n, callee, at). declares_at P n f p at callee,
-)

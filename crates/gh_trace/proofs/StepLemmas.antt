@@ -1,5 +1,5 @@
 -- What the parts of a step say together.
-use Rattle.std.specs.Prelude.{◌≡◌, ◌≢◌, ◌↔◌, ℕ, zero, suc, ◌<◌, List, [], ◌∷◌, length, get_or, Option, Some, None, Bool, true, false, not, ◌==◌, is_some, IsTrue, Any, Contains}
+use Rattle.std.specs.Prelude.{◌≡◌, ◌≢◌, ◌↔◌, ℕ, zero, suc, ◌<◌, List, [], ◌∷◌, length, get_or, Option, Some, None, Bool, true, false, not, is_some, IsTrue, Any, Contains}
 use Rattle.std.specs.Option.{option_eq}
 use Rattle.std.proofs.Common.{refl, sym, ◌∙◌, ap, subst, inl, inr, arith, eqb, eq-eqb}
 use Rattle.std.specs.FinMap.{get, insert, remove}
@@ -8,8 +8,8 @@ use Rattle.gh_ast.specs.Programs.{Name}
 use Rattle.gh_ast.specs.declared.Expr.{Expr}
 use Rattle.gh_ast.proofs.Lists.{no_member, one_value}
 use Rattle.gh_assert.specs.Heaps.{Heap}
-use Rattle.gh_assert.specs.Meaning.{Store, agrees}
-use Rattle.gh_assert.specs.Values.{Gets, Give, result, compared}
+use Rattle.gh_assert.specs.Meaning.{Store}
+use Rattle.gh_assert.specs.Values.{Gets, Give, result}
 use Rattle.gh_assert.specs.Walks.{Allocated}
 use Rattle.gh_assert.proofs.Cells.{by_look_ups, get_put, get_beside}
 use Rattle.gh_assert.proofs.Unique.{get_removed, get_kept}
@@ -154,15 +154,3 @@ pub allocated_where : (h : Heap) (p q : ℕ) (o : Option ℕ) (b : Bool) → q �
 allocated_where h p q None b place content is =
     (λ t. absurd cc, λ (v, there). let none : get h p ≡ None = ap (get h) (sym place) ∙ sym content in absurd cc)
 allocated_where h p q (Some v) b place content is = (λ t. (v, ap (get h) (sym place) ∙ sym content), λ at. is)
-
-turned : (e t : Bool) → (Some (agrees (not e) t) ≡ Some false) ↔ (Some (agrees e t) ≡ Some true)
-turned true true = (λ is. refl, λ is. refl)
-turned true false = (λ is. absurd cc, λ is. absurd cc)
-turned false true = (λ is. absurd cc, λ is. absurd cc)
-turned false false = (λ is. refl, λ is. refl)
-
--- the opposite of a comparison is false exactly where the comparison is true
-pub opposite_false : (e : Bool) (a b : Option ℕ) → (compared (not e) a b ≡ Some false) ↔ (compared e a b ≡ Some true)
-opposite_false e None b = (λ is. absurd cc, λ is. absurd cc)
-opposite_false e (Some v) None = (λ is. absurd cc, λ is. absurd cc)
-opposite_false e (Some v) (Some w) = turned e (v == w)

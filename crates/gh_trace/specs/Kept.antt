@@ -2,8 +2,7 @@
 use Rattle.std.specs.Prelude.{◌≡◌, List, map}
 use Rattle.gh_ast.specs.Plain.{Program}
 use Rattle.gh_assert.specs.Stores.{listed_names, store_of}
-use Rattle.gh_path.specs.Conditions.{Condition, IsCondition}
-use Rattle.gh_path.specs.Kept.{StandsFor}
+use Rattle.gh_path.specs.Kept.{condition_of}
 use Rattle.gh_path.specs.declared.condition.Condition as kept_condition
 use Rattle.gh_trace.specs.Traces.{State}
 use Rattle.gh_trace.specs.Replay.{Drawn, FirstFailure, Refutes}
@@ -28,24 +27,13 @@ drawn_of t = map drawn t.states.items
 
 -- the states refute the condition that is kept
 abbrev pub IsRefuted : Program → kept_condition.Condition → List Drawn → Type 0
-IsRefuted P r xs = (c : Condition) → StandsFor P r c → Refutes P c xs
+IsRefuted P r xs = Refutes P (condition_of r) xs
 
 -- an error other than out of memory has the number of the first failure
 abbrev pub IsFailure : Program → kept_condition.Condition → List Drawn → ReplayError → Type 0
-IsFailure P r xs (Step n) = (c : Condition) → StandsFor P r c → FirstFailure P c xs n
+IsFailure P r xs (Step n) = FirstFailure P (condition_of r) xs n
 IsFailure P r xs OutOfMemory = Unit {0}
-
--- the kept condition is one of the program's
-pub record IsOfProgram (P : Program) (r : kept_condition.Condition) (c : Condition) : Type 0 where
-  pub stands : StandsFor P r c
-  pub there : IsCondition P c
-
-abbrev pub IsOne : Program → kept_condition.Condition → Type 0
-IsOne P r = (c : Condition) × IsOfProgram P r c
 
 -- no states are a counterexample
 abbrev pub HasNoCounterexample : Program → kept_condition.Condition → Type 0
-HasNoCounterexample P r = (c : Condition) → IsOfProgram P r c → IsConditionValid P c
-
-abbrev pub HasCounterexample : Program → kept_condition.Condition → List Drawn → Type 0
-HasCounterexample P r xs = (c : Condition) → IsOfProgram P r c → Refutes P c xs
+HasNoCounterexample P r = IsConditionValid P (condition_of r)

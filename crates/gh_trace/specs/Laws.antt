@@ -1,16 +1,17 @@
 -- The laws.
-use Rattle.std.specs.Prelude.{◌≡◌, ◌↔◌, ℕ, suc, ◌≤◌, List, length, ◌++◌, map, false, Some, slice_get, Contains, All}
+use Rattle.std.specs.Prelude.{◌≡◌, ◌↔◌, ℕ, suc, ◌≤◌, List, length, ◌++◌, map, false, Some, Contains, All}
+use Rattle.gh_base.specs.declared.place.Span.{Span}
 use Rattle.gh_ast.specs.declared.Occ.{Occ}
 use Rattle.gh_ast.specs.declared.Expr.{Expr}
 use Rattle.gh_ast.specs.Plain.{Formula, Procedure, Program, Test}
-use Rattle.gh_ast.specs.Programs.{Name, names, parameters_of, results_of, Declares}
+use Rattle.gh_ast.specs.Programs.{Name, names, parameters_of, results_of}
 use Rattle.gh_ast.specs.Names.{FormulaIn}
 use Rattle.gh_ast.specs.WellFormed.{IsFormedTest}
 use Rattle.gh_assert.specs.Heaps.{Heap, IsProper, Splits}
 use Rattle.gh_assert.specs.Meaning.{Store, Meaning, HasPart, MeetsOneOf, truth}
 use Rattle.gh_assert.specs.Values.{Give, outcome}
 use Rattle.gh_path.specs.Graphs.{Check, entry, PathStep, called}
-use Rattle.gh_path.specs.Conditions.{Condition}
+use Rattle.gh_path.specs.Conditions.{Condition, IsOf}
 use Rattle.gh_path.specs.Kept.{IsCallee}
 use Rattle.gh_trace.specs.Traces.{State, Replaced, Takes, Passes, IsTrace, last_state}
 use Rattle.gh_trace.specs.Replay.{Drawn, FirstFailure, Refutes}
@@ -19,16 +20,16 @@ use Rattle.gh_trace.specs.Replay.{Drawn, FirstFailure, Refutes}
 pub record FailuresAreOne : Type 0 where
   pub one : (P : Program) (c : Condition) (xs : List Drawn) (n m : ℕ) → FirstFailure P c xs n → FirstFailure P c xs m → n ≡ m
   pub none : (P : Program) (c : Condition) (xs : List Drawn) → Refutes P c xs → (n : ℕ) → FirstFailure P c xs n → ⊥
-  pub some : (P : Program) (c : Condition) (xs : List Drawn) → ((n : ℕ) → FirstFailure P c xs n → ⊥) → (Refutes P c xs → ⊥) → ⊥
+  pub some : (P : Program) (c : Condition) (p : Procedure) (xs : List Drawn) → IsOf P c p → ((n : ℕ) → FirstFailure P c xs n → ⊥) → (Refutes P c xs → ⊥) → ⊥
   pub within : (P : Program) (c : Condition) (xs : List Drawn) (n : ℕ) → FirstFailure P c xs n → n ≤ suc (length c.way.steps)
 
 -- from a heap that meets an assertion no trace leads to a cell at null
 abbrev pub TracesAreProper : Type 0
-TracesAreProper = (P : Program) (f : Formula) (x : State) (ps : List PathStep) (ys : List State) → Meaning f x.store x.heap → IsTrace P x ps ys → IsProper (last_state x ys).heap
+TracesAreProper = (P : Program) (p : Procedure) (f : Formula) (x : State) (ss : List PathStep) (ys : List State) → Meaning f x.store x.heap → IsTrace P p x ss ys → IsProper (last_state x ys).heap
 
 -- a check that doesn't fail is passed
 abbrev pub ChecksAreDecided : Type 0
-ChecksAreDecided = (P : Program) (c : Check) (x : State) → IsProper x.heap → ((Passes P c x → ⊥) → ⊥) → Passes P c x
+ChecksAreDecided = (P : Program) (p : Procedure) (c : Check) (x : State) → IsProper x.heap → ((Passes P p c x → ⊥) → ⊥) → Passes P p c x
 
 -- any split that shows the part tells what stays: the rest of the heap is judged by Q
 abbrev pub IsToldBySplits : Formula → Store → Heap → (Heap → Type 0) → Heap → Type 0
@@ -48,21 +49,16 @@ pub record HasOwnNames (p : Procedure) : Type 0 where
 -- any store that gives the parameters the arguments' values decides the check of a call
 abbrev pub EntriesAreOne : Type 0
 EntriesAreOne =
-    (P : Program) (f : Occ) (es : List Expr) (x : State) (p : Procedure) (vs : List ℕ) (inside : Store) → HasOwnNames p → Declares P f.name p →
-    Give x.store x.heap es vs → map inside (parameters_of p) ≡ vs → Passes P (entry f es) x ↔ HasPart p.needs inside x.heap
+    (P : Program) (p : Procedure) (at : Span) (n : ℕ) (es : List Expr) (x : State) (q : Procedure) (vs : List ℕ) (inside : Store) → HasOwnNames q → IsCallee P n q →
+    Give x.store x.heap es vs → map inside (parameters_of q) ≡ vs → Passes P p (entry at n es) x ↔ HasPart q.needs inside x.heap
 
 -- and one that also gives the results what the targets got decides its step
 abbrev pub CallsAreOne : Type 0
 CallsAreOne =
-    (P : Program) (xs : List Occ) (f : Occ) (es : List Expr) (x y : State) (p : Procedure) (vs : List ℕ) (inside : Store) → HasOwnNames p → Declares P f.name p →
-    Give x.store x.heap es vs → map inside (parameters_of p) ≡ vs → map inside (results_of p) ≡ map y.store (names xs) →
-    Takes P (called xs f es) x y ↔ (((n : Name) → (Contains (names xs) n → ⊥) → y.store n ≡ x.store n) × Replaced p.needs inside x.heap (MeetsOneOf p.gives inside) y.heap)
+    (P : Program) (p : Procedure) (xs : List Occ) (n : ℕ) (es : List Expr) (x y : State) (q : Procedure) (vs : List ℕ) (inside : Store) → HasOwnNames q → IsCallee P n q →
+    Give x.store x.heap es vs → map inside (parameters_of q) ≡ vs → map inside (results_of q) ≡ map y.store (names xs) →
+    Takes P p (called xs n es) x y ↔ (((m : Name) → (Contains (names xs) m → ⊥) → y.store m ≡ x.store m) × Replaced q.needs inside x.heap (MeetsOneOf q.gives inside) y.heap)
 
 -- a test without reads, as those of assertions are, gives in any heap the truth that it has in an assertion
 abbrev pub TestsGiveTheirTruth : Type 0
 TestsGiveTheirTruth = (s : Store) (h : Heap) (t : Test) → IsFormedTest false t → outcome s h t ≡ Some (truth s t)
-
--- the number of a callee is that of the procedure that a call of its name means
-abbrev pub CalleesAreNumbered : Type 0
-CalleesAreNumbered =
-    (P : Program) (f : Name) (p : Procedure) → Declares P f p ↔ ((n : ℕ) × IsCallee P n f × (slice_get P.procedures n ≡ Some p))

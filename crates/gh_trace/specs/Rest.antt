@@ -1,9 +1,9 @@
 -- What a walk along the steps finds.
 use Rattle.std.specs.Prelude.{◌≡◌, List, map, Contains}
 use Rattle.gh_ast.specs.Plain.{Procedure, Program}
-use Rattle.gh_ast.specs.Programs.{Name, variable_names}
+use Rattle.gh_ast.specs.Programs.{variable_names}
 use Rattle.gh_path.specs.Graphs.{Check, PathStep}
-use Rattle.gh_path.specs.Kept.{AreSteps, IsCheck}
+use Rattle.gh_path.specs.Kept.{condition_of}
 use Rattle.gh_path.specs.declared.condition.Condition as kept_condition
 use Rattle.gh_trace.specs.Traces.{State, Passes, IsTrace, last_state}
 use Rattle.gh_trace.specs.Replay.{Drawn, FailsAfter}
@@ -14,15 +14,15 @@ abbrev pub states : List Drawn → List State
 states = map (λ y. y.state)
 
 -- the states after x are over the variables, the steps lead to them, and the last one doesn't pass the check
-pub record RefutesAfter (P : Program) (vs : List Name) (x : State) (ps : List PathStep) (c : Check) (ys : List Drawn) : Type 0 where
-  pub over : (y : Drawn) → Contains ys y → y.listed ≡ vs
-  pub leads : IsTrace P x ps (states ys)
-  pub fails : Passes P c (last_state x (states ys)) → ⊥
+pub record RefutesAfter (P : Program) (p : Procedure) (x : State) (ss : List PathStep) (c : Check) (ys : List Drawn) : Type 0 where
+  pub over : (y : Drawn) → Contains ys y → y.listed ≡ variable_names p
+  pub leads : IsTrace P p x ss (states ys)
+  pub fails : Passes P p c (last_state x (states ys)) → ⊥
 
 -- the same of the steps and the check that are kept
 abbrev pub IsRefutedAfter : Program → Procedure → kept_condition.Condition → State → List Drawn → Type 0
-IsRefutedAfter P p r x ys = (ps : List PathStep) (c : Check) → AreSteps P p r.steps.items ps → IsCheck P p r.check c → RefutesAfter P (variable_names p) x ps c ys
+IsRefutedAfter P p r x ys = let w = (condition_of r).way in RefutesAfter P p x w.steps w.check ys
 
 abbrev pub IsFailureAfter : Program → Procedure → kept_condition.Condition → State → List Drawn → ReplayError → Type 0
-IsFailureAfter P p r x ys (Step n) = (ps : List PathStep) (c : Check) → AreSteps P p r.steps.items ps → IsCheck P p r.check c → FailsAfter P (variable_names p) x ps c ys n
+IsFailureAfter P p r x ys (Step n) = let w = (condition_of r).way in FailsAfter P p x w.steps w.check ys n
 IsFailureAfter P p r x ys OutOfMemory = Unit {0}

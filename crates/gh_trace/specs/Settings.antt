@@ -1,5 +1,5 @@
 -- The procedure that a condition is of, with its loops.
-use Rattle.std.specs.Prelude.{◌≡◌, ◌≢◌, ℕ, ◌++◌, List, map, slice_get, Option, Some, None, AllPairs}
+use Rattle.std.specs.Prelude.{◌≡◌, ◌≢◌, ◌++◌, List, map, Option, Some, None, AllPairs}
 use Rattle.gh_ast.specs.declared.Expr.{Expr}
 use Rattle.gh_ast.specs.Plain.{procedure_of, program_of, Procedure, Program}
 use Rattle.gh_ast.specs.Programs.{Name, parameters_of, results_of, variable_names}
@@ -7,10 +7,8 @@ use Rattle.gh_assert.specs.Meaning.{Store}
 use Rattle.gh_assert.specs.Stores.{store_of}
 use Rattle.gh_assert.specs.Values.{Give}
 use Rattle.gh_assert.specs.declared.store.Entry.{Entry}
-use Rattle.gh_path.specs.Graphs.{loops_of, PathStep}
-use Rattle.gh_path.specs.Kept.{IsStep}
+use Rattle.gh_path.specs.Graphs.{loops_of}
 use Rattle.gh_path.specs.Walking.{loop_of}
-use Rattle.gh_path.specs.declared.condition.PathStep as kept_step
 use Rattle.gh_trace.specs.Traces.{State}
 use Rattle.gh_trace.specs.declared.setting.Setting.{Setting}
 
@@ -29,14 +27,6 @@ variables_here s = variable_names (here s)
 -- the loops are those of the procedure
 abbrev pub HasLoops : Setting → Type 0
 HasLoops s = map loop_of s.loops.now ≡ loops_of (here s)
-
--- this is so of the step that a kept one stands for
-abbrev pub OfStep : Setting → kept_step.PathStep → (PathStep → Type 0) → Type 0
-OfStep s r Q = (step : PathStep) → IsStep (whole s) (here s) r step → Q step
-
--- the procedure stands at a number
-abbrev pub IsProcedureAt : Program → ℕ → Procedure → Type 0
-IsProcedureAt P n p = slice_get P.procedures n ≡ Some p
 
 -- no two parameters or results have one name
 abbrev pub HasDistinctNames : Procedure → Type 0

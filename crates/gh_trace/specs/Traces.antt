@@ -1,14 +1,15 @@
 -- What a path's steps do, and counterexamples.
-use Rattle.std.specs.Prelude.{◌≡◌, ◌≢◌, ℕ, List, [], ◌∷◌, map, Some, None}
+use Rattle.std.specs.Prelude.{◌≡◌, ◌≢◌, ℕ, List, [], ◌∷◌, map, Some, None, true}
 use Rattle.std.specs.FinMap.{get, insert, remove}
 use Rattle.gh_ast.specs.Plain.{Formula, Procedure, Program}
 use Rattle.gh_assert.specs.Heaps.{Heap, Splits}
 use Rattle.gh_assert.specs.Meaning.{Store, Meaning, HasPart, MeetsOneOf}
 use Rattle.gh_assert.specs.Walks.{Allocated}
 use Rattle.gh_assert.specs.Values.{result, Give, compared, Gets}
-use Rattle.gh_ast.specs.Programs.{Name, names, parameters_of, results_of, Declares, SomeAssigns}
+use Rattle.gh_ast.specs.Programs.{Name, names, parameters_of, results_of, SomeAssigns}
 use Rattle.gh_path.specs.Graphs.{Check, access, entry, loop_entry, returned, loop_end, PathStep, accessed, assume}
-use Rattle.gh_path.specs.Graphs.{assigned, made, written, freed, called, looped, answered}
+use Rattle.gh_path.specs.Graphs.{assigned, made, written, freed, called, looped, answered, Loop}
+use Rattle.gh_path.specs.Kept.{IsCallee, IsLoop}
 
 -- the store tells a value for every name. A store that lists names with their values tells those, and 0 for each other name;
 -- whether it lists the variables of the procedure, in their order, is asked where a trace is drawn (`Refutes`, `FirstFailure`).
@@ -34,44 +35,50 @@ pub record Called (p : Procedure) (vs : List ℕ) (xs : List Name) (x y : State)
   pub targets : Gets x.store xs (map inside (results_of p)) y.store
   pub replaced : Replaced p.needs inside x.heap (MeetsOneOf p.gives inside) y.heap
 
--- a step leads from one state to another
-abbrev pub Takes : Program → PathStep → State → State → Type 0
-Takes P (accessed o) x y = Allocated x.heap (x.store o.name) × (y ≡ x)
-Takes P (assume l e r way) x y = (compared e (result x.store x.heap l) (result x.store x.heap r) ≡ Some way) × (y ≡ x)
-Takes P (assigned o e) x y = (v : ℕ) × (result x.store x.heap e ≡ Some v) × Gets x.store (o.name ∷ []) (v ∷ []) y.store × (y.heap ≡ x.heap)
-Takes P (made o) x y = (l : ℕ) × (v : ℕ) × (l ≢ 0) × (get x.heap l ≡ None) × Gets x.store (o.name ∷ []) (l ∷ []) y.store × (y.heap ≡ insert x.heap l v)
-Takes P (written o e) x y =
+-- a part that meets the loop's invariant gives way to one that meets it in the next store, in which variables that the
+-- loop doesn't assign keep their values
+pub record Around (l : Loop) (x y : State) : Type 0 where
+  pub replaced : Replaced l.invariant x.store x.heap (Meaning l.invariant y.store) y.heap
+  pub kept : (n : Name) → (SomeAssigns l.body n → ⊥) → y.store n ≡ x.store n
+
+-- a step of a path of the procedure p leads from one state to another
+abbrev pub Takes : Program → Procedure → PathStep → State → State → Type 0
+Takes P p (accessed o) x y = Allocated x.heap (x.store o.name) × (y ≡ x)
+Takes P p (assume l e r) x y = (compared e (result x.store x.heap l) (result x.store x.heap r) ≡ Some true) × (y ≡ x)
+Takes P p (assigned o e) x y = (v : ℕ) × (result x.store x.heap e ≡ Some v) × Gets x.store (o.name ∷ []) (v ∷ []) y.store × (y.heap ≡ x.heap)
+Takes P p (made o) x y = (l : ℕ) × (v : ℕ) × (l ≢ 0) × (get x.heap l ≡ None) × Gets x.store (o.name ∷ []) (l ∷ []) y.store × (y.heap ≡ insert x.heap l v)
+Takes P p (written o e) x y =
     (v : ℕ) × (result x.store x.heap e ≡ Some v) × Allocated x.heap (x.store o.name) × (y ≡ record { store = x.store; heap = insert x.heap (x.store o.name) v })
-Takes P (freed o) x y = Allocated x.heap (x.store o.name) × (y ≡ record { store = x.store; heap = remove x.heap (x.store o.name) })
-Takes P (called xs f es) x y = (p : Procedure) × (vs : List ℕ) × Declares P f.name p × Give x.store x.heap es vs × Called p vs (names xs) x y
-Takes P (looped l) x y = Replaced l.invariant x.store x.heap (Meaning l.invariant y.store) y.heap × ((n : Name) → (SomeAssigns l.body n → ⊥) → y.store n ≡ x.store n)
-Takes P (answered xs es) x y = (vs : List ℕ) × Give x.store x.heap es vs × Gets x.store xs vs y.store × (y.heap ≡ x.heap)
+Takes P p (freed o) x y = Allocated x.heap (x.store o.name) × (y ≡ record { store = x.store; heap = remove x.heap (x.store o.name) })
+Takes P p (called xs n es) x y = (q : Procedure) × (vs : List ℕ) × IsCallee P n q × Give x.store x.heap es vs × Called q vs (names xs) x y
+Takes P p (looped n) x y = (l : Loop) × IsLoop p n l × Around l x y
+Takes P p (answered es) x y = (vs : List ℕ) × Give x.store x.heap es vs × Gets x.store (results_of p) vs y.store × (y.heap ≡ x.heap)
 
 -- the check is passed in the state
-abbrev pub Passes : Program → Check → State → Type 0
-Passes P (access o) x = Allocated x.heap (x.store o.name)
-Passes P (entry f es) x =
-    (p : Procedure) (vs : List ℕ) (inside : Store) → Declares P f.name p → Give x.store x.heap es vs → map inside (parameters_of p) ≡ vs → HasPart p.needs inside x.heap
-Passes P (loop_entry l) x = HasPart l.invariant x.store x.heap
-Passes P (returned at fs) x = MeetsOneOf fs x.store x.heap
-Passes P (loop_end l) x = Meaning l.invariant x.store x.heap
+abbrev pub Passes : Program → Procedure → Check → State → Type 0
+Passes P p (access o) x = Allocated x.heap (x.store o.name)
+Passes P p (entry at n es) x =
+    (q : Procedure) (vs : List ℕ) (inside : Store) → IsCallee P n q → Give x.store x.heap es vs → map inside (parameters_of q) ≡ vs → HasPart q.needs inside x.heap
+Passes P p (loop_entry at n) x = (l : Loop) → IsLoop p n l → HasPart l.invariant x.store x.heap
+Passes P p (returned at) x = MeetsOneOf p.gives x.store x.heap
+Passes P p (loop_end at n) x = (l : Loop) → IsLoop p n l → Meaning l.invariant x.store x.heap
 
 -- one state for each step, after the first state
-abbrev pub IsTrace : Program → State → List PathStep → List State → Type 0
-IsTrace P x [] [] = Unit {0}
-IsTrace P x [] (y ∷ ys) = ⊥
-IsTrace P x (p ∷ ps) [] = ⊥
-IsTrace P x (p ∷ ps) (y ∷ ys) = Takes P p x y × IsTrace P y ps ys
+abbrev pub IsTrace : Program → Procedure → State → List PathStep → List State → Type 0
+IsTrace P p x [] [] = Unit {0}
+IsTrace P p x [] (y ∷ ys) = ⊥
+IsTrace P p x (s ∷ ss) [] = ⊥
+IsTrace P p x (s ∷ ss) (y ∷ ys) = Takes P p s x y × IsTrace P p y ss ys
 
 abbrev pub last_state : State → List State → State
 last_state x [] = x
 last_state x (y ∷ ys) = last_state y ys
 
--- the first heap meets the start's assertion whole, the steps lead on, and in the last state the check fails
-pub record Counterexample (P : Program) (f : Formula) (ps : List PathStep) (c : Check) (x : State) (ys : List State) : Type 0 where
+-- the first heap meets the assertion whole, the steps lead on, and in the last state the check fails
+pub record Counterexample (P : Program) (p : Procedure) (f : Formula) (ss : List PathStep) (c : Check) (x : State) (ys : List State) : Type 0 where
   pub begins : Meaning f x.store x.heap
-  pub leads : IsTrace P x ps ys
-  pub fails : Passes P c (last_state x ys) → ⊥
+  pub leads : IsTrace P p x ss ys
+  pub fails : Passes P p c (last_state x ys) → ⊥
 
-abbrev pub IsValid : Program → Formula → List PathStep → Check → Type 0
-IsValid P f ps c = (x : State) (ys : List State) → Counterexample P f ps c x ys → ⊥
+abbrev pub IsValid : Program → Procedure → Formula → List PathStep → Check → Type 0
+IsValid P p f ss c = (x : State) (ys : List State) → Counterexample P p f ss c x ys → ⊥

@@ -2,13 +2,13 @@
 
 ghost use Rattle.std.specs.Prelude.{◌≡◌, ◌↔◌, IfOk, IfNone, IfSome, IsTrue};
 ghost use Rattle.gh_ast.specs.Plain.{procedure_of};
-ghost use Rattle.gh_path.specs.Graphs as graph;
-ghost use Rattle.gh_path.specs.Kept.{IsStart};
+ghost use Rattle.gh_path.specs.Kept.{start_of, StartIsThere};
 ghost use Rattle.gh_trace.specs.Parts.{IsReturned};
 ghost use Rattle.gh_assert.specs.Stores.{listed_names};
 ghost use Rattle.gh_trace.specs.Kept.{state_of};
 ghost use Rattle.gh_trace.specs.Settings.{HasLoops, here, variables_here};
-ghost use Rattle.gh_trace.specs.Decisions.{IsMetAtStart, DecidesStart, DecidesEntry, DecidesLoopCheck, DecidesCheck};
+ghost use Rattle.gh_trace.specs.Decisions.{IsMetAtStart, DecidesStart, DecidesEntry, DecidesLoopEntry, DecidesLoopEnd};
+ghost use Rattle.gh_trace.specs.Decisions.{DecidesCheck};
 
 use crate::parts::{Part, has_part};
 use crate::setting::{Setting, procedure_at};
@@ -23,7 +23,7 @@ use std::alloc::{AllocError, Global};
 fn start_assertion<'t>(setting: Setting<'t>, start: Start) -> Option<&'t Assertion>
     requires { HasLoops setting }
     ensures some { IfSome result (λ f. IsMetAtStart setting.entry start f.now) }
-    ensures none { IfNone result ((a : graph.Start) → IsStart (here setting.entry) start a → ⊥) }
+    ensures none { IfNone result (StartIsThere (here setting.entry) (start_of start) → ⊥) }
 {
     match start {
         Start::Entry => Some(&setting.procedure.needs),
@@ -41,7 +41,8 @@ pub fn begins(
     start: Start,
     state: &State,
 ) -> Result<bool, AllocError>
-    requires { HasLoops setting }
+    requires loops { HasLoops setting }
+    requires there { StartIsThere (here setting) (start_of start) }
     ensures begins { IfOk result (DecidesStart setting.entry start state.now) }
     ensures over { IfOk result (λ b. IsTrue b → listed_names state.now.store ≡ variables_here setting.entry) }
 {
@@ -89,7 +90,7 @@ fn is_loop_entered(
     state: &State,
 ) -> Result<bool, AllocError>
     requires { HasLoops setting }
-    ensures { IfOk result (DecidesLoopCheck setting.entry number graph.loop_entry state.now) }
+    ensures { IfOk result (DecidesLoopEntry setting.entry number state.now) }
 {
     let Some(round) = setting.round(number) else {
         return Ok(true);
@@ -112,7 +113,7 @@ fn is_loop_ended(
     state: &State,
 ) -> Result<bool, AllocError>
     requires { HasLoops setting }
-    ensures { IfOk result (DecidesLoopCheck setting.entry number graph.loop_end state.now) }
+    ensures { IfOk result (DecidesLoopEnd setting.entry number state.now) }
 {
     let Some(round) = setting.round(number) else {
         return Ok(true);

@@ -3,7 +3,8 @@
 ghost use Rattle.std.specs.Prelude.{◌≡◌, ℕ, ◌+◌, ◌≤◌, min, IfOk, IfNone, IfSome};
 ghost use Rattle.gh_ast.specs.Plain.{program_of};
 ghost use Rattle.gh_path.specs.Admitted.{IsAdmitted};
-ghost use Rattle.gh_trace.specs.Kept.{drawn_of, IsOne, HasNoCounterexample, HasCounterexample};
+ghost use Rattle.gh_path.specs.Kept.{IsOne};
+ghost use Rattle.gh_trace.specs.Kept.{drawn_of, HasNoCounterexample, IsRefuted};
 
 use crate::state::Trace;
 use gh_ast::typed::Typed;
@@ -30,7 +31,7 @@ pub trait Decider {
         requires one { IsOne (program_of typed.now) condition.now }
         ensures none { IfOk result (λ o. IfNone o (HasNoCounterexample (program_of typed.now) condition.now)) }
         ensures some { IfOk result (λ o. IfSome o (λ t.
-            HasCounterexample (program_of typed.now) condition.now (drawn_of t))) }
+            IsRefuted (program_of typed.now) condition.now (drawn_of t))) }
         ensures counted { IfOk result (λ _. calls self.new ≡ min last (calls self.old + 1)) }
         ensures never_falls { calls self.old ≤ calls self.new }
         ensures at_most_one { calls self.new ≤ calls self.old + 1 };

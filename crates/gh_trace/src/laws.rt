@@ -2,7 +2,7 @@
 
 ghost use Rattle.gh_trace.specs.Laws.{FailuresAreOne, TracesAreProper, ChecksAreDecided, PartsAreReplaced};
 ghost use Rattle.gh_trace.specs.Laws.{EntriesAreOne, CallsAreOne};
-ghost use Rattle.gh_trace.specs.Laws.{TestsGiveTheirTruth, CalleesAreNumbered};
+ghost use Rattle.gh_trace.specs.Laws.{TestsGiveTheirTruth};
 
 /// Drawn states have at most one first failure, and a counterexample has none.
 pub fn failures_are_one()
@@ -37,9 +37,4 @@ pub fn calls_are_one()
 /// A test without reads means the same in an assertion and in a statement.
 pub fn tests_give_their_truth()
     ensures { TestsGiveTheirTruth }
-{}
-
-/// The number of a callee is that of the procedure that a call of its name means.
-pub fn callees_are_numbered()
-    ensures { CalleesAreNumbered }
 {}

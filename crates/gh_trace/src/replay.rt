@@ -4,7 +4,8 @@ ghost use Rattle.std.specs.Prelude.{◌≡◌, ◌≤◌, IfErr, IfOk, OnOk, IsT
 ghost use Rattle.gh_ast.specs.Plain.{program_of};
 ghost use Rattle.gh_assert.specs.Stores.{listed_names};
 ghost use Rattle.gh_path.specs.Admitted.{most_steps};
-ghost use Rattle.gh_trace.specs.Kept.{drawn_of, IsOne, IsRefuted, IsFailure};
+ghost use Rattle.gh_path.specs.Kept.{IsOne};
+ghost use Rattle.gh_trace.specs.Kept.{drawn_of, IsRefuted, IsFailure};
 ghost use Rattle.gh_trace.specs.Settings.{HasLoops, variables_here};
 ghost use Rattle.gh_trace.specs.Decisions.{DecidesNext, IsRefutedIn, IsFailureIn};
 

@@ -1,6 +1,6 @@
 //! Whether a step leads from one state to another.
 
-ghost use Rattle.std.specs.Prelude.{◌≡◌, ◌↔◌, IfOk, IsTrue, true};
+ghost use Rattle.std.specs.Prelude.{◌≡◌, ◌↔◌, IfOk, IsTrue};
 ghost use Rattle.gh_ast.specs.declared.Occ.{Occ};
 ghost use Rattle.gh_path.specs.Graphs as graph;
 ghost use Rattle.gh_trace.specs.Kept.{state_of, ListsAlike};
@@ -52,7 +52,7 @@ pub fn assumes(
     after: &State,
 ) -> Result<bool, AllocError>
     requires { ListsAlike before.now after.now }
-    ensures { IfOk result (DecidesTaken (graph.assume left.now equal right.now true) before.now after.now) }
+    ensures { IfOk result (DecidesTaken (graph.assume left.now equal right.now) before.now after.now) }
 {
     let Some(left) = expr_value(&before.store, &before.heap, left) else {
         return Ok(false);

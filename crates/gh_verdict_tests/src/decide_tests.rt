@@ -7,7 +7,7 @@ ghost use Rattle.gh_ast.specs.Rules.{IsTyped};
 ghost use Rattle.gh_path.specs.Admitted.{IsAdmitted};
 ghost use Rattle.gh_symb.specs.Encoded.{IsSymbolic};
 ghost use Rattle.gh_symb.specs.Steps.{HoldsFor};
-ghost use Rattle.gh_trace.specs.Kept.{IsOne};
+ghost use Rattle.gh_path.specs.Kept.{IsOne};
 
 use gh_ast::typed::Typed;
 use gh_decide::decide::{Verdict, decide, over_terms};
@@ -76,7 +76,7 @@ fn modelled(
     over: &Symbolic<'_>,
 ) -> Result<Option<Trace>, AllocError>
     requires one { IsOne (program_of typed.now) condition.now }
-    requires told { HoldsFor (program_of typed.now) condition.now (λ P c. IsSymbolic P c over.now) }
+    requires told { HoldsFor (program_of typed.now) condition.now (λ P p c. IsSymbolic P p c over.now) }
 {
     let clauses = ground(alloc, over)?;
     match solve(alloc, &clauses)? {

@@ -5,7 +5,7 @@ ghost use Rattle.gh_ast.specs.Limits.{KeepsLimits};
 ghost use Rattle.gh_ast.specs.Plain.{program_of};
 ghost use Rattle.gh_ast.specs.Rules.{IsTyped};
 ghost use Rattle.gh_path.specs.Admitted.{IsAdmitted};
-ghost use Rattle.gh_trace.specs.Kept.{IsOne};
+ghost use Rattle.gh_path.specs.Kept.{IsOne};
 
 use gh_ast::typed::Typed;
 use gh_base::ground::Ground;

@@ -1,13 +1,15 @@
 -- States that are drawn over the variables of a procedure.
-use Rattle.std.specs.Prelude.{◌≡◌, List, [], ◌∷◌, map, Contains}
+use Rattle.std.specs.Prelude.{◌≡◌, List, [], ◌∷◌, map, slice_get, Contains}
 use Rattle.std.proofs.Common.{refl, sym, ap, subst, inl, inr}
-use Rattle.gh_ast.specs.Plain.{Program}
+use Rattle.gh_ast.specs.Plain.{Procedure, Program}
 use Rattle.gh_ast.specs.Programs.{Name, variable_names}
-use Rattle.gh_ast.proofs.Lists.{member_cases, no_member}
-use Rattle.gh_path.specs.Conditions.{Condition}
+use Rattle.gh_ast.proofs.Lists.{member_cases, no_member, one_value}
+use Rattle.gh_path.specs.Graphs.{meets_at}
+use Rattle.gh_path.specs.Conditions.{Condition, IsOf}
 use Rattle.gh_trace.specs.Traces.{State, Counterexample}
 use Rattle.gh_trace.specs.Validity as whole
 use Rattle.gh_trace.specs.Replay.{Drawn, Refutes}
+use Rattle.gh_model.specs.TraceLaws.{IsCounterexample}
 use Rattle.gh_model.specs.BuiltTraces.{built_trace}
 use Rattle.gh_model.specs.KeptTraces.{drawn_over, BuiltIsCounterexample}
 use Rattle.gh_model.proofs.locality.Traces.{locality_holds}
@@ -24,18 +26,23 @@ all_over xs (y ∷ ys) d there = elim (member_cases (record { listed = xs; state
   | inr later ↦ all_over xs ys d later
 ]
 
--- a counterexample that is drawn over the variables refutes the condition
-pub drawn_refutes : (P : Program) (c : Condition) (ys : List State) → whole.AreCounterexample P c ys → Refutes P c (drawn_over (variable_names c.procedure) ys)
-drawn_refutes P c [] R = absurd R
-drawn_refutes P c (y ∷ ys) R =
-    let xs = variable_names c.procedure in
+-- a counterexample that is drawn over the variables of the condition's procedure refutes the condition
+pub drawn_refutes : (P : Program) (p : Procedure) (c : Condition) (ys : List State) → IsOf P c p → whole.AreCounterexample P c ys → Refutes P c (drawn_over (variable_names p) ys)
+drawn_refutes P p c [] of R = absurd R
+drawn_refutes P p c (y ∷ ys) of R =
+    let (q, of', C) = R in
+    let xs = variable_names p in
+    let same : q ≡ p = one_value (slice_get P.procedures c.procedure) q p of' of in
+    let C' : IsCounterexample P p c y ys = subst (λ (r : Procedure). IsCounterexample P r c y ys) same C in
     record {
+      procedure = p;
+      of = of;
       first = record { listed = xs; state = y };
       others = drawn_over xs ys;
       states = refl;
       over = all_over xs (y ∷ ys);
-      counterexample = subst (Counterexample P c.start.meets c.way.steps c.way.check y) (sym (states_of xs ys)) R;
+      counterexample = subst (Counterexample P p (meets_at p c.start) c.way.steps c.way.check y) (sym (states_of xs ys)) C';
     }
 
 pub built_is_counterexample : BuiltIsCounterexample
-built_is_counterexample P c m typed is I = drawn_refutes P c (built_trace P c m) (locality_holds P c m typed is I)
+built_is_counterexample P p c m typed is of I = drawn_refutes P p c (built_trace P p c m) of (locality_holds P p c m typed is of I)

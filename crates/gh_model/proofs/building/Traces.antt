@@ -1,5 +1,5 @@
 -- The states of a structure over a condition's terms are those of its interpretation.
-use Rattle.std.specs.Prelude.{◌≡◌, ℕ, ◌+◌, ◌<◌, List, [], ◌∷◌, length, map, filter, Some, unwrap_or, true, cond, Contains}
+use Rattle.std.specs.Prelude.{◌≡◌, ℕ, ◌+◌, ◌<◌, List, [], ◌∷◌, length, map, Option, Some, None, unwrap_or, true, cond, slice_get, Contains}
 use Rattle.std.specs.Option.{option_map}
 use Rattle.std.specs.Str.{bytes_eq}
 use Rattle.std.proofs.Common.{refl, sym, ◌∙◌, ap, subst, inl, inr, arith}
@@ -10,19 +10,19 @@ use Rattle.gh_base.specs.declared.atom.Term.{Term}
 use Rattle.gh_base.specs.declared.sizes.Sizes.{Sizes}
 use Rattle.gh_base.specs.Meaning.{Interpretation}
 use Rattle.gh_base.specs.Structures.{Tables, interpretation_of}
-use Rattle.gh_ast.specs.Plain.{Program}
+use Rattle.gh_ast.specs.Plain.{Procedure, Program}
 use Rattle.gh_ast.specs.Programs.{Name, names, variable_names}
 use Rattle.gh_ast.specs.Rules.{IsTyped}
 use Rattle.gh_ast.proofs.Lists.{member_cases, no_member}
 use Rattle.gh_assert.specs.Meaning.{Store}
 use Rattle.gh_assert.specs.Stores.{listed, store_of}
 use Rattle.gh_path.specs.Graphs as path
-use Rattle.gh_path.specs.Conditions.{Condition, IsCondition}
-use Rattle.gh_path.specs.Terms.{Kind, Bindings, Terms, exprs_used, exprs_terms, walked, moved_on, renewed, some_assigns, callee_in, check_walked, step_walked, steps_walked, no_terms, used}
+use Rattle.gh_path.specs.Conditions.{Condition, IsCondition, IsOf}
+use Rattle.gh_path.specs.Terms.{Kind, Bindings, Terms, exprs_used, exprs_terms, loop_walked, invariant_walked, check_walked, step_walked, steps_walked, no_terms, used}
 use Rattle.gh_grass.specs.declared.binding.Bond.{Bond}
 use Rattle.gh_symb.specs.Formulas.{version_after as version_past, problem}
 use Rattle.gh_symb.specs.Symbolic as plain
-use Rattle.gh_symb.specs.Symbolic.{term_step, term_steps, step_used, check_used, first_use, state_bindings, symbolic_of}
+use Rattle.gh_symb.specs.Symbolic.{term_step, term_steps, step_used, check_used, first_use, state_bindings, begins, symbolic_of}
 use Rattle.gh_symb.specs.Encodings.{plain_kind, Each, IsBinding, IsTermStep}
 use Rattle.gh_symb.specs.Encoded.{IsSymbolic}
 use Rattle.gh_symb.specs.declared.over_terms.Symbolic.{Symbolic}
@@ -37,10 +37,10 @@ use Rattle.gh_model.specs.BuiltTraces.{value_under, store_under, heap_in, state_
 use Rattle.gh_model.specs.BoundVariables.{AreOf, AllAreOf}
 use Rattle.gh_model.specs.KeptTraces.{entries_under, store_in, state_in, states_in, version_after_kept, AreBelow, HasAll, drawn_over}
 use Rattle.gh_model.proofs.terms.Extension.{Within, walked_grows}
-use Rattle.gh_model.proofs.terms.Callees.{renewed_within}
+use Rattle.gh_model.proofs.terms.Callees.{with_assigned, assigned_within}
 use Rattle.gh_model.proofs.ownership.Traces.{here, call_within, step_within, steps_within, check_within, check_used_within}
 use Rattle.gh_model.proofs.paths.Typing.{Nowhere, ArePrepared, ready_after, paths_are_prepared}
-use Rattle.gh_model.proofs.terms.Bounds.{IsBounded, still_below, follow_within, used_bounded, exprs_bounded, walked_bounded, used_step_bounded, step_bounded, steps_up, check_version, each_bounded}
+use Rattle.gh_model.proofs.terms.Bounds.{IsBounded, still_below, follow_within, used_bounded, exprs_bounded, walked_bounded, invariant_bounded, used_step_bounded, step_bounded, steps_up, check_version, each_bounded}
 use Rattle.gh_model.proofs.locality.Steps.{prepared_version}
 use Rattle.gh_model.proofs.locality.Traces.{prepared_past, none_bounded}
 use Rattle.gh_model.proofs.terms.BoundVariables.{first_cases, either_cases, no_term_outside, only_variables_have_terms}
@@ -83,65 +83,66 @@ kept_past (Free x) r i e = ap (version_past i) (sym e)
 kept_past (Part b a) r i e = ap (version_past i) (sym e.4)
 
 -- terms that a step or check uses are listed after it
-used_within : (P : Program) (xs : List Name) (p : path.PathStep) (s : Terms) → Within (step_used p s).kinds (step_walked P xs p s).kinds
-used_within P xs (path.accessed o) s = follow_within o.name (used o.name s)
-used_within P xs (path.assume l e r way) s = λ i k f. f
-used_within P xs (path.assigned x e) s = λ i k f. f
-used_within P xs (path.made x) s = step_within P xs (path.made x) s
-used_within P xs (path.written x e) s = λ i k f. f
-used_within P xs (path.freed x) s = λ i k f. f
-used_within P xs (path.called ys f es) s = call_within (callee_in P.procedures f.name) (names ys) (exprs_terms es (exprs_used es s)) (exprs_used es s)
-used_within P xs (path.looped l) s =
-    let t = walked l.invariant s in
-    let zs = filter (some_assigns l.body) xs in
-    λ i k f. (walked_grows l.invariant (renewed zs (moved_on t))).kinds i k (renewed_within zs (moved_on t) i k f)
-used_within P xs (path.answered ys es) s = λ i k f. f
+loop_used_within : (o : Option path.Loop) (xs : List Name) (s : Terms) → Within (invariant_walked o s).kinds (loop_walked o xs s).kinds
+loop_used_within None xs s = λ i k f. f
+loop_used_within (Some l) xs s = λ i k f. (walked_grows l.invariant (with_assigned l xs s)).kinds i k (assigned_within l xs s i k f)
 
-check_used_bounded : (c : path.Check) (s : Terms) → IsBounded s → IsBounded (check_used c s)
-check_used_bounded (path.access o) s B = used_bounded o.name s B
-check_used_bounded (path.entry g es) s B = exprs_bounded es s B
-check_used_bounded (path.loop_entry l) s B = walked_bounded l.invariant s B
-check_used_bounded (path.returned at gs) s B = each_bounded gs s B
-check_used_bounded (path.loop_end l) s B = walked_bounded l.invariant s B
+used_within : (P : Program) (home : Procedure) (p : path.PathStep) (s : Terms) → Within (step_used home p s).kinds (step_walked P home p s).kinds
+used_within P home (path.accessed o) s = follow_within o.name (used o.name s)
+used_within P home (path.assume l e r) s = λ i k f. f
+used_within P home (path.assigned x e) s = λ i k f. f
+used_within P home (path.made x) s = step_within P home (path.made x) s
+used_within P home (path.written x e) s = λ i k f. f
+used_within P home (path.freed x) s = λ i k f. f
+used_within P home (path.called ys n es) s = call_within (slice_get P.procedures n) (names ys) (exprs_terms es (exprs_used es s)) (exprs_used es s)
+used_within P home (path.looped n) s = loop_used_within (slice_get (path.loops_of home) n) (variable_names home) s
+used_within P home (path.answered es) s = λ i k f. f
+
+check_used_bounded : (home : Procedure) (c : path.Check) (s : Terms) → IsBounded s → IsBounded (check_used home c s)
+check_used_bounded home (path.access o) s B = used_bounded o.name s B
+check_used_bounded home (path.entry spot n es) s B = exprs_bounded es s B
+check_used_bounded home (path.loop_entry spot n) s B = invariant_bounded (slice_get (path.loops_of home) n) s B
+check_used_bounded home (path.returned spot) s B = each_bounded home.gives s B
+check_used_bounded home (path.loop_end spot n) s B = invariant_bounded (slice_get (path.loops_of home) n) s B
 
 -- all terms that are listed at the end of a path
-abbrev at_end : Program → List Name → List path.PathStep → path.Check → Terms → List Kind
-at_end P xs ps c s = (check_walked P c (steps_walked P xs ps s)).kinds
+abbrev at_end : Program → Procedure → List path.PathStep → path.Check → Terms → List Kind
+at_end P home ps c s = (check_walked P home c (steps_walked P home ps s)).kinds
 
-on_the_way : (P : Program) (xs : List Name) (ps : List path.PathStep) (c : path.Check) (s : Terms) → Within s.kinds (at_end P xs ps c s)
-on_the_way P xs ps c s i k e = check_within P c (steps_walked P xs ps s) i k (steps_within P xs ps s i k e)
+on_the_way : (P : Program) (home : Procedure) (ps : List path.PathStep) (c : path.Check) (s : Terms) → Within s.kinds (at_end P home ps c s)
+on_the_way P home ps c s i k e = check_within P home c (steps_walked P home ps s) i k (steps_within P home ps s i k e)
 
 -- a term of a variable that is used later is listed at the end
-first_below : (P : Program) (xs : List Name) (ps : List path.PathStep) (c : path.Check) (s : Terms) → IsBounded s → (y : Name) (t : ℕ) → first_use P xs ps c s y ≡ Some t → t < length (at_end P xs ps c s)
-first_below P xs [] c s B y t e = still_below (check_used c s).kinds (check_walked P c s).kinds t (check_used_within P c s) ((check_used_bounded c s B).below y t e)
-first_below P xs (p ∷ ps) c s B y t e =
-    let z = step_walked P xs p s in
-    elim (first_cases ((step_used p s).bindings y) (z.bindings y) (first_use P xs ps c z y) t e) [
-      | inl now ↦ still_below (step_used p s).kinds (at_end P xs ps c z) t (λ i k f. on_the_way P xs ps c z i k (used_within P xs p s i k f)) ((used_step_bounded p s B).below y t now)
-      | inr later ↦ first_below P xs ps c z (step_bounded P xs p s B) y t later
+first_below : (P : Program) (home : Procedure) (ps : List path.PathStep) (c : path.Check) (s : Terms) → IsBounded s → (y : Name) (t : ℕ) → first_use P home ps c s y ≡ Some t → t < length (at_end P home ps c s)
+first_below P home [] c s B y t e = still_below (check_used home c s).kinds (check_walked P home c s).kinds t (check_used_within P home c s) ((check_used_bounded home c s B).below y t e)
+first_below P home (p ∷ ps) c s B y t e =
+    let z = step_walked P home p s in
+    elim (first_cases ((step_used home p s).bindings y) (z.bindings y) (first_use P home ps c z y) t e) [
+      | inl now ↦ still_below (step_used home p s).kinds (at_end P home ps c z) t (λ i k f. on_the_way P home ps c z i k (used_within P home p s i k f)) ((used_step_bounded home p s B).below y t now)
+      | inr later ↦ first_below P home ps c z (step_bounded P home p s B) y t later
     ]
 
 -- so is the term of each variable at a state
-here_below : (P : Program) (xs : List Name) (ps : List path.PathStep) (c : path.Check) (s : Terms) (K : List Kind) (b : List Bond) → IsBounded s → Within (at_end P xs ps c s) K → IsBinding b (here P xs ps c s) → AreBelow (length K) b
-here_below P xs ps c s K b B w is x u e =
-    let bound : here P xs ps c s x ≡ Some u.0 = sym (is x) ∙ ap (option_map (λ (v : Term). v.0)) e in
-    let end = at_end P xs ps c s in
-    elim (either_cases (s.bindings x) (first_use P xs ps c s x) u.0 bound) [
-      | inl own ↦ still_below s.kinds K u.0 (λ i k f. w i k (on_the_way P xs ps c s i k f)) (B.below x u.0 own)
-      | inr first ↦ still_below end K u.0 w (first_below P xs ps c s B x u.0 first)
+here_below : (P : Program) (home : Procedure) (ps : List path.PathStep) (c : path.Check) (s : Terms) (K : List Kind) (b : List Bond) → IsBounded s → Within (at_end P home ps c s) K → IsBinding b (here P home ps c s) → AreBelow (length K) b
+here_below P home ps c s K b B w is x u e =
+    let bound : here P home ps c s x ≡ Some u.0 = sym (is x) ∙ ap (option_map (λ (v : Term). v.0)) e in
+    let end = at_end P home ps c s in
+    elim (either_cases (s.bindings x) (first_use P home ps c s x) u.0 bound) [
+      | inl own ↦ still_below s.kinds K u.0 (λ i k f. w i k (on_the_way P home ps c s i k f)) (B.below x u.0 own)
+      | inr first ↦ still_below end K u.0 w (first_below P home ps c s B x u.0 first)
     ]
 
 -- what is known from a state on, in version i
-record IsOnWay (P : Program) (xs : List Name) (s : Tables) (K : List Kind) (c : path.Check) (R : Name → Type 0) (ps : List path.PathStep) (t : Terms) (i : ℕ) (qs : List TermStep) (bs : List (List Bond)) : Type 0 where
+record IsOnWay (P : Program) (home : Procedure) (s : Tables) (K : List Kind) (c : path.Check) (R : Name → Type 0) (ps : List path.PathStep) (t : Terms) (i : ℕ) (qs : List TermStep) (bs : List (List Bond)) : Type 0 where
   terms : s.sizes.terms ≡ length K
-  versions : s.sizes.versions ≡ (steps_walked P xs ps t).version + 1
-  prepared : ArePrepared P R ps c
-  within : Within (at_end P xs ps c t) K
+  versions : s.sizes.versions ≡ (steps_walked P home ps t).version + 1
+  prepared : ArePrepared P home R ps c
+  within : Within (at_end P home ps c t) K
   bounded : IsBounded t
   version : t.version ≡ i
-  steps : Each IsTermStep qs (term_steps P xs ps t)
-  bindings : Each IsBinding bs (state_bindings P xs ps c t)
-  own : AllAreOf xs (state_bindings P xs ps c t)
+  steps : Each IsTermStep qs (term_steps P home ps t)
+  bindings : Each IsBinding bs (state_bindings P home ps c t)
+  own : AllAreOf (variable_names home) (state_bindings P home ps c t)
 
 -- the structure has all terms and versions from a state on, and the states are those of its interpretation
 pub record AreBuilt (s : Tables) (xs : List Name) (ps : List path.PathStep) (i : ℕ) (qs : List TermStep) (bs : List (List Bond)) (Bs : List Bindings) : Type 0 where
@@ -150,41 +151,42 @@ pub record AreBuilt (s : Tables) (xs : List Name) (ps : List path.PathStep) (i :
   pub count : length bs ≡ length ps + 1
 
 -- a state that the structure has
-here_there : (P : Program) (xs : List Name) (s : Tables) (K : List Kind) (c : path.Check) (ps : List path.PathStep) (t : Terms) (i : ℕ) (b : List Bond) → s.sizes.terms ≡ length K → s.sizes.versions ≡ (steps_walked P xs ps t).version + 1 → Within (at_end P xs ps c t) K → IsBounded t → t.version ≡ i
-    → IsBinding b (here P xs ps c t) → (i < s.sizes.versions) × AreBelow s.sizes.terms b
-here_there P xs s K c ps t i b terms versions within bounded version is =
-    (omega (arith, version, versions, steps_up P xs ps t), subst (λ n. AreBelow n b) (sym terms) (here_below P xs ps c t K b bounded within is))
+here_there : (P : Program) (home : Procedure) (s : Tables) (K : List Kind) (c : path.Check) (ps : List path.PathStep) (t : Terms) (i : ℕ) (b : List Bond) → s.sizes.terms ≡ length K → s.sizes.versions ≡ (steps_walked P home ps t).version + 1 → Within (at_end P home ps c t) K → IsBounded t → t.version ≡ i
+    → IsBinding b (here P home ps c t) → (i < s.sizes.versions) × AreBelow s.sizes.terms b
+here_there P home s K c ps t i b terms versions within bounded version is =
+    (omega (arith, version, versions, steps_up P home ps t), subst (λ n. AreBelow n b) (sym terms) (here_below P home ps c t K b bounded within is))
 
-along : (P : Program) (xs : List Name) (s : Tables) (K : List Kind) (c : path.Check) (R : Name → Type 0) (ps : List path.PathStep) (t : Terms) (i : ℕ) (qs : List TermStep) (bs : List (List Bond)) → IsOnWay P xs s K c R ps t i qs bs → AreBuilt s xs ps i qs bs (state_bindings P xs ps c t)
-along P xs s K c R [] t i [] [] I = absurd I.bindings
-along P xs s K c R [] t i [] (b ∷ []) I =
-    let there = here_there P xs s K c [] t i b I.terms I.versions I.within I.bounded I.version I.bindings.0 in
+along : (P : Program) (home : Procedure) (s : Tables) (K : List Kind) (c : path.Check) (R : Name → Type 0) (ps : List path.PathStep) (t : Terms) (i : ℕ) (qs : List TermStep) (bs : List (List Bond)) → IsOnWay P home s K c R ps t i qs bs → AreBuilt s (variable_names home) ps i qs bs (state_bindings P home ps c t)
+along P home s K c R [] t i [] [] I = absurd I.bindings
+along P home s K c R [] t i [] (b ∷ []) I =
+    let there = here_there P home s K c [] t i b I.terms I.versions I.within I.bounded I.version I.bindings.0 in
     record {
       all = (there.0, there.1, tt);
-      are = ap (λ d. d ∷ []) (drawn_state s xs i b (here P xs [] c t) I.bindings.0 I.own.0);
+      are = ap (λ d. d ∷ []) (drawn_state s (variable_names home) i b (here P home [] c t) I.bindings.0 I.own.0);
       count = refl;
     }
-along P xs s K c R [] t i [] (b ∷ d ∷ bs) I = absurd I.bindings.1
-along P xs s K c R [] t i (q ∷ qs) bs I = absurd I.steps
-along P xs s K c R (p ∷ ps) t i [] bs I = absurd I.steps
-along P xs s K c R (p ∷ ps) t i (q ∷ qs) [] I = absurd I.bindings
-along P xs s K c R (p ∷ ps) t i (q ∷ qs) (b ∷ bs) I =
-    let z = step_walked P xs p t in
+along P home s K c R [] t i [] (b ∷ d ∷ bs) I = absurd I.bindings.1
+along P home s K c R [] t i (q ∷ qs) bs I = absurd I.steps
+along P home s K c R (p ∷ ps) t i [] bs I = absurd I.steps
+along P home s K c R (p ∷ ps) t i (q ∷ qs) [] I = absurd I.bindings
+along P home s K c R (p ∷ ps) t i (q ∷ qs) (b ∷ bs) I =
+    let xs = variable_names home in
+    let z = step_walked P home p t in
     let j = version_after p i in
-    let there = here_there P xs s K c (p ∷ ps) t i b I.terms I.versions I.within I.bounded I.version I.bindings.0 in
-    let next : version_after_kept q i ≡ j = kept_past q (term_step P xs p t) i I.steps.0 ∙ prepared_past P xs R p t i I.prepared.0 in
-    let rest : AreBuilt s xs ps j qs bs (state_bindings P xs ps c z) = along P xs s K c (ready_after p R) ps z j qs bs (record {
+    let there = here_there P home s K c (p ∷ ps) t i b I.terms I.versions I.within I.bounded I.version I.bindings.0 in
+    let next : version_after_kept q i ≡ j = kept_past q (term_step P home p t) i I.steps.0 ∙ prepared_past P home R p t i I.prepared.0 in
+    let rest : AreBuilt s xs ps j qs bs (state_bindings P home ps c z) = along P home s K c (ready_after p R) ps z j qs bs (record {
       terms = I.terms;
       versions = I.versions;
       prepared = I.prepared.1;
       within = I.within;
-      bounded = step_bounded P xs p t I.bounded;
-      version = prepared_version P xs R p t I.prepared.0 ∙ ap (version_after p) I.version;
+      bounded = step_bounded P home p t I.bounded;
+      version = prepared_version P home R p t I.prepared.0 ∙ ap (version_after p) I.version;
       steps = I.steps.1;
       bindings = I.bindings.1;
       own = I.own.1;
     }) in
-    let B = here P xs (p ∷ ps) c t in
+    let B = here P home (p ∷ ps) c t in
     let first : Drawn = record { listed = xs; state = state_under (interpretation_of s) s.sizes.terms i B } in
     record {
       all = (there.0, there.1, subst (λ k. HasAll s k qs bs) (sym next) rest.all);
@@ -195,38 +197,37 @@ along P xs s K c R (p ∷ ps) t i (q ∷ qs) (b ∷ bs) I =
     }
 
 -- a condition over terms, as it is kept, and a structure with its terms and versions
-pub are_built : (P : Program) (c : Condition) (y : Symbolic) (s : Tables) → IsTyped P → IsCondition P c → IsSymbolic P c y → s.sizes.terms ≡ length y.terms → s.sizes.versions ≡ y.versions
-    → AreBuilt s (variable_names c.procedure) c.way.steps 0 y.steps.items y.bindings.items (symbolic_of P c).bindings
-are_built P c y s typed is kept_is terms versions =
-    let xs = variable_names c.procedure in
-    let f = c.start.meets in
+pub are_built : (P : Program) (p : Procedure) (c : Condition) (y : Symbolic) (s : Tables) → IsTyped P → IsCondition P c → IsOf P c p → IsSymbolic P p c y → s.sizes.terms ≡ length y.terms → s.sizes.versions ≡ y.versions
+    → AreBuilt s (variable_names p) c.way.steps 0 y.steps.items y.bindings.items (symbolic_of P p c).bindings
+are_built P p c y s typed is of kept_is terms versions =
+    let f = path.meets_at p c.start in
     let ps = c.way.steps in
     let k = c.way.check in
-    let t = walked f no_terms in
-    along P xs s (symbolic_of P c).terms k Nowhere ps t 0 y.steps.items y.bindings.items (record {
+    let t = begins p c.start in
+    along P p s (symbolic_of P p c).terms k Nowhere ps t 0 y.steps.items y.bindings.items (record {
       terms = terms ∙ sym (length-map y.terms plain_kind) ∙ ap length kept_is.terms;
-      versions = versions ∙ kept_is.versions ∙ ap (λ i. i + 1) (check_version P k (steps_walked P xs ps t));
-      prepared = paths_are_prepared P typed c.procedure is.declared c.start ps k is.begins is.leads;
+      versions = versions ∙ kept_is.versions ∙ ap (λ i. i + 1) (check_version P p k (steps_walked P p ps t));
+      prepared = paths_are_prepared P p c typed is of;
       within = λ i l e. e;
       bounded = walked_bounded f no_terms none_bounded;
       version = (walked_grows f no_terms).version;
       steps = kept_is.steps;
       bindings = kept_is.bindings;
-      own = only_variables_have_terms P c typed is;
+      own = only_variables_have_terms P p c typed is of;
     })
 
 -- the states of the trace
-pub built_is : (P : Program) (c : Condition) (y : Symbolic) (s : Tables) → IsTyped P → IsCondition P c → IsSymbolic P c y → s.sizes.terms ≡ length y.terms → s.sizes.versions ≡ y.versions
-    → map drawn (states_in s (variable_names c.procedure) 0 y.steps.items y.bindings.items) ≡ drawn_over (variable_names c.procedure) (built_trace P c (interpretation_of s))
-built_is P c y s typed is kept_is terms versions =
-    let xs = variable_names c.procedure in
-    let count : s.sizes.terms ≡ length (symbolic_of P c).terms = terms ∙ sym (length-map y.terms plain_kind) ∙ ap length kept_is.terms in
-    (are_built P c y s typed is kept_is terms versions).are
-    ∙ ap (λ n. drawn_over xs (states_under (interpretation_of s) n (versions_along 0 c.way.steps) (symbolic_of P c).bindings)) count
+pub built_is : (P : Program) (p : Procedure) (c : Condition) (y : Symbolic) (s : Tables) → IsTyped P → IsCondition P c → IsOf P c p → IsSymbolic P p c y → s.sizes.terms ≡ length y.terms → s.sizes.versions ≡ y.versions
+    → map drawn (states_in s (variable_names p) 0 y.steps.items y.bindings.items) ≡ drawn_over (variable_names p) (built_trace P p c (interpretation_of s))
+built_is P p c y s typed is of kept_is terms versions =
+    let xs = variable_names p in
+    let count : s.sizes.terms ≡ length (symbolic_of P p c).terms = terms ∙ sym (length-map y.terms plain_kind) ∙ ap length kept_is.terms in
+    (are_built P p c y s typed is of kept_is terms versions).are
+    ∙ ap (λ n. drawn_over xs (states_under (interpretation_of s) n (versions_along 0 c.way.steps) (symbolic_of P p c).bindings)) count
 
 -- the numbers of a condition's problem are those of its terms and versions
-pub numbers_are : (P : Program) (c : Condition) (y : Symbolic) (s : Tables) → IsSymbolic P c y → s.sizes ≡ (problem (symbolic_of P c)).sizes → (s.sizes.terms ≡ length y.terms) × (s.sizes.versions ≡ y.versions)
-numbers_are P c y s kept_is sizes = (
+pub numbers_are : (P : Program) (p : Procedure) (c : Condition) (y : Symbolic) (s : Tables) → IsSymbolic P p c y → s.sizes ≡ (problem (symbolic_of P p c)).sizes → (s.sizes.terms ≡ length y.terms) × (s.sizes.versions ≡ y.versions)
+numbers_are P p c y s kept_is sizes = (
   ap (λ (z : Sizes). z.terms) sizes ∙ sym (ap length kept_is.terms) ∙ length-map y.terms plain_kind,
   ap (λ (z : Sizes). z.versions) sizes ∙ sym kept_is.versions,
 )

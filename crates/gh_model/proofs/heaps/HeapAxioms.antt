@@ -1,5 +1,5 @@
 -- What represents an owned heap keeps the axioms.
-use Rattle.std.specs.Prelude.{◌≡◌, ℕ, ◌<◌, List, Bool, Contains, Decides, IsTrue}
+use Rattle.std.specs.Prelude.{◌≡◌, ℕ, ◌<◌, List, Contains, Decides, IsTrue}
 use Rattle.std.proofs.Common.{inl, inr}
 use Rattle.gh_assert.specs.Heaps.{Heap}
 use Rattle.gh_assert.specs.Walks.{succ, Between, Allocated}

@@ -6,11 +6,10 @@ use Rattle.std.proofs.lemmas.List.Elements.{Contains-append_cases}
 use Rattle.gh_base.specs.Meaning.{Interpretation}
 use Rattle.gh_ast.specs.declared.Occ.{Occ}
 use Rattle.gh_ast.specs.declared.Expr.{Expr}
-use Rattle.gh_ast.specs.Plain.{Formula, empty, comparison, points_to, cell, segment, star, cases, Formulas, no_formulas, formula_first, Program}
-use Rattle.gh_ast.specs.Programs.{Name, names, parameters_of, results_of}
+use Rattle.gh_ast.specs.Plain.{Formula, empty, comparison, points_to, cell, segment, star, cases, Formulas, no_formulas, formula_first, Procedure, Program}
+use Rattle.gh_ast.specs.Programs.{Name, names, parameters_of, results_of, variable_names, SomeAssigns}
 use Rattle.gh_ast.specs.Names.{FormulaIn}
 use Rattle.gh_ast.specs.Occurrences.{in_formula}
-use Rattle.gh_ast.proofs.Declared.{is_member}
 use Rattle.gh_ast.proofs.Lists.{member_first, member_later}
 use Rattle.gh_ast.proofs.Members.{name_or}
 use Rattle.gh_ast.proofs.Sites.{member_map, occurrence_of, formula_in}
@@ -19,11 +18,10 @@ use Rattle.gh_assert.specs.Heaps.{Heap}
 use Rattle.gh_assert.specs.Meaning.{Store, Meaning, MeetsOneOf}
 use Rattle.gh_assert.specs.Reading.{HasNames, HaveNames}
 use Rattle.gh_path.specs.Graphs as path
-use Rattle.gh_path.specs.Terms.{Kind, with_value, Bindings, unbound, bound, all_bound, Terms, terms, term_of, exprs_used, expr_term, exprs_terms, walked, each_walked, moved_on, rebound, renewed, some_assigns, bound_inside, call_walked}
+use Rattle.gh_path.specs.Terms.{Kind, with_value, Bindings, unbound, bound, all_bound, Terms, terms, term_of, exprs_used, expr_term, exprs_terms, walked, each_walked, moved_on, rebound, renewed, some_assigns, bound_inside, call_walked, loop_walked, invariant_walked, step_walked}
 use Rattle.gh_path.proofs.LoopVariables.{listed_assigned}
-use Rattle.gh_path.proofs.FormLemmas.{callee_found}
 use Rattle.gh_grass.specs.Truth.{AreTrue}
-use Rattle.gh_symb.specs.Symbolic.{under, each_under, call_parts}
+use Rattle.gh_symb.specs.Symbolic.{under, each_under, call_parts, loop_parts, step_used}
 use Rattle.gh_symb.specs.Formulas.{variables, successor, parts_claims, step_claims}
 use Rattle.gh_trace.specs.Traces.{Replaced, Takes}
 use Rattle.gh_trace.specs.Laws.{HasOwnNames}
@@ -34,12 +32,13 @@ use Rattle.gh_model.specs.Homomorphisms.{IsPreserved}
 use Rattle.gh_model.specs.BuiltTraces.{value_under, store_under}
 use Rattle.gh_model.proofs.terms.Extension.{Within, exprs_grow, walked_grows, each_grows}
 use Rattle.gh_model.proofs.terms.Denotation.{Sound, formula_named, exprs_values}
-use Rattle.gh_model.proofs.terms.Callees.{Gives, Knows, AllBound, all_known, renewed_known, renewed_version, renewed_within, walk_keeps, each_keeps, with_results, inside_before, inside_after}
+use Rattle.gh_model.proofs.terms.Callees.{Gives, Knows, AllBound, all_known, renewed_known, renewed_version, renewed_within, walk_keeps, each_keeps, with_results, with_assigned, assigned_within, assigned_version, inside_before, inside_after}
 use Rattle.gh_model.proofs.terms.Alternatives.{alternative_of, alternative_sound, one_part, met_one}
 use Rattle.gh_model.proofs.heaps.HeapSteps.{calls_are_built}
 use Rattle.gh_model.proofs.reading.StepFormulas.{calls_are_preserved}
 use Rattle.gh_model.proofs.soundness.Interpretation.{value_at, formula_known}
 use Rattle.gh_model.proofs.ownership.Traces.{here, own_names}
+use Rattle.gh_path.proofs.ListLemmas.{member as numbered}
 use Rattle.gh_model.proofs.paths.Typing.{Distinct, parameters_and_results}
 use Rattle.gh_model.proofs.terms.Bounds.{IsBounded, still_below, call_within, inside_bounded, results_bounded}
 use Rattle.gh_model.proofs.locality.BuiltVersions.{AreGround, preserved, value_is}
@@ -85,28 +84,34 @@ renewed_outside (x ∷ xs) s n out =
     renewed_outside xs (terms (with_value s.kinds) (bound s.bindings x (length s.kinds)) s.version) n (λ c. out (member_later x n xs c))
     ∙ bound_away s.bindings x (length s.kinds) n (λ e. out (subst (λ y. Contains (x ∷ xs) y) (sym e) (member_first x xs)))
 
-pub loop_takes : (P : Program) (xs : List Name) (m : Interpretation) (K : List Kind) (V : List ℕ) (at : ℕ → ℕ) (N : ℕ) (c : path.Check) (R : Name → Type 0) (l : path.Loop) (ps : List path.PathStep) (s : Terms) → IsLocal P xs m K V at N c R (path.looped l) ps s
-    → Takes P (path.looped l) (state_before P xs m V at c (path.looped l) ps s) (state_after P xs m V at c (path.looped l) ps s)
-loop_takes P xs m K V at N c R l ps s I =
-    let p = path.looped l in
+pub loop_takes : (P : Program) (home : Procedure) (m : Interpretation) (K : List Kind) (V : List ℕ) (at : ℕ → ℕ) (N : ℕ) (c : path.Check) (R : Name → Type 0) (n : ℕ) (ps : List path.PathStep) (s : Terms) → IsLocal P home m K V at N c R (path.looped n) ps s
+    → Takes P home (path.looped n) (state_before P home m V at c (path.looped n) ps s) (state_after P home m V at c (path.looped n) ps s)
+loop_takes P home m K V at N c R n ps s I =
+    let p = path.looped n in
+    let (l, is) = I.prepared in
+    let xs = variable_names home in
     let f = l.invariant in
     let zs = filter (some_assigns l.body) xs in
     let u = walked f s in
-    let mid : Terms = renewed zs (moved_on u) in
-    let st = store_under at (here P xs (p ∷ ps) c s) in
-    let st' = store_under at (here P xs ps c (walked f mid)) in
-    let few : Within u.kinds K = λ i k e. I.within i k ((walked_grows f mid).kinds i k (renewed_within zs (moved_on u) i k e)) in
-    let version : mid.version ≡ s.version + 1 = renewed_version zs (moved_on u) ∙ ap (λ i. i + 1) (walked_grows f s).version in
-    let r : Replaced f st (heap_of m V s.version) (Meaning f st') (heap_of m V (s.version + 1)) = replaced m K V at N I.ground f f st st' s mid I.before I.after version
-    (sound_used P xs m K V at N c R p ps s I few) (sound_after P xs m K V at N c R p ps s I (prepared_version P xs R p s I.prepared)) I.claims in
+    let mid : Terms = with_assigned l xs s in
+    let st = store_under at (here P home (p ∷ ps) c s) in
+    let st' = store_under at (here P home ps c (step_walked P home p s)) in
+    let claims : AreTrue m (step_claims K s.version (loop_parts (Some l) xs s)) = subst (λ o. AreTrue m (step_claims K s.version (loop_parts o xs s))) is I.claims in
+    let all : Within (walked f mid).kinds K = subst (λ o. Within (loop_walked o xs s).kinds K) is I.within in
+    let few : Within u.kinds K = λ i k e. all i k ((walked_grows f mid).kinds i k (assigned_within l xs s i k e)) in
+    let S : Sound K V st (heap_of m V s.version) u = subst (λ o. Sound K V st (heap_of m V s.version) (invariant_walked o s)) is
+    (sound_used P home m K V at N c R p ps s I (subst (λ o. Within (invariant_walked o s).kinds K) (sym is) few)) in
+    let S' : Sound K V st' (heap_of m V (s.version + 1)) (walked f mid) = subst (λ o. Sound K V st' (heap_of m V (s.version + 1)) (loop_walked o xs s)) is
+    (sound_after P home m K V at N c R p ps s I (prepared_version P home R p s I.prepared)) in
+    let r : Replaced f st (heap_of m V s.version) (Meaning f st') (heap_of m V (s.version + 1)) = replaced m K V at N I.ground f f st st' s mid I.before I.after (assigned_version l xs s) S S' claims in
     let ns = names (in_formula f) in
     let own : FormulaIn f ns = formula_in f ns (λ o c. member_map (λ (q : Occ). q.name) (in_formula f) o c) in
     let known : AllBound mid ns = λ x c. (let o = occurrence_of (in_formula f) x c in renewed_known zs (moved_on u) x (inr (subst (λ y. Knows u.bindings y) o.2 (formula_known f s o.0 o.1)))) in
-    let keep : (walked f mid).bindings ≡ mid.bindings = walk_keeps f ns mid own known in (
-      r,
-      λ n out. ap (value_under at) (sym (term_stays P xs p ps c s n
-          (ap (λ (b : Bindings). b n) keep ∙ renewed_outside zs (moved_on u) n (λ there. out (listed_assigned xs l n there))))),
-    )
+    let keep : (walked f mid).bindings ≡ mid.bindings = walk_keeps f ns mid own known in
+    let stays : (y : Name) → (SomeAssigns l.body y → ⊥) → (step_walked P home p s).bindings y ≡ (step_used home p s).bindings y = λ y out.
+    subst (λ o. (loop_walked o xs s).bindings y ≡ (invariant_walked o s).bindings y) (sym is)
+    (ap (λ (b : Bindings). b y) keep ∙ renewed_outside zs (moved_on u) y (λ there. out (listed_assigned xs l y there))) in
+    (l, is, record { replaced = r; kept = λ y out. ap (value_under at) (sym (term_stays P home p ps c s y (stays y out))) })
 
 -- the parameters' values
 pub parameter_values : (m : Interpretation) (K : List Kind) (V : List ℕ) (at : ℕ → ℕ) (N : ℕ) → AreGround m K V at N → (b : Bindings) (ns : List Name) (ts vs : List ℕ) → Distinct ns → length ts ≡ length ns → map (slice_get V) ts ≡ map Some vs
@@ -126,16 +131,16 @@ result_terms W inside t (r ∷ rs) G known =
     cons_options (slice_get W (term_of r t)) (Some (inside r)) (map (slice_get W) (map (λ n. term_of n t) rs)) (map Some (map inside rs))
     (ap (λ o. slice_get W (unwrap_or o 0)) k.1 ∙ G r k.0 k.1) (result_terms W inside t rs G (λ n c. known n (member_later r n rs c)))
 
-pub call_takes : (P : Program) (xs : List Name) (m : Interpretation) (K : List Kind) (V : List ℕ) (at : ℕ → ℕ) (N : ℕ) (c : path.Check) (R : Name → Type 0) (ys : List Occ) (f : Occ) (es : List Expr) (ps : List path.PathStep) (s : Terms) → IsLocal P xs m K V at N c R (path.called ys f es) ps s
-    → Takes P (path.called ys f es) (state_before P xs m V at c (path.called ys f es) ps s) (state_after P xs m V at c (path.called ys f es) ps s)
-call_takes P xs m K V at N c R ys f es ps s I =
-    let p = path.called ys f es in
+pub call_takes : (P : Program) (home : Procedure) (m : Interpretation) (K : List Kind) (V : List ℕ) (at : ℕ → ℕ) (N : ℕ) (c : path.Check) (R : Name → Type 0) (ys : List Occ) (n : ℕ) (es : List Expr) (ps : List path.PathStep) (s : Terms) → IsLocal P home m K V at N c R (path.called ys n es) ps s
+    → Takes P home (path.called ys n es) (state_before P home m V at c (path.called ys n es) ps s) (state_after P home m V at c (path.called ys n es) ps s)
+call_takes P home m K V at N c R ys n es ps s I =
+    let p = path.called ys n es in
     let fit = I.prepared.1 in
     let q = fit.entry.callee in
     let G = I.ground in
     let i = s.version in
-    let member = is_member P.procedures f.name q fit.entry.declares in
-    let found = callee_found P.procedures f.name q fit.entry.declares in
+    let found = fit.entry.at in
+    let member = numbered P.procedures n q found in
     let own : HasOwnNames q = own_names P I.typed q member in
     let apart = parameters_and_results P I.typed q member in
     let T = exprs_used es s in
@@ -145,13 +150,13 @@ call_takes P xs m K V at N c R ys f es ps s I =
     let u : Terms = walked q.needs r in
     let mid : Terms = with_results q r in
     let after : Terms = each_walked q.gives mid in
-    let st = store_under at (here P xs (p ∷ ps) c s) in
+    let st = store_under at (here P home (p ∷ ps) c s) in
     let inside : Store = store_under at after.bindings in
     let claims : AreTrue m (parts_claims K i (under q.needs r) (each_under q.gives mid)) = subst (λ o. AreTrue m (step_claims K i (call_parts o ts T))) found I.claims in
     let all : Within after.kinds K = subst (λ o. Within (call_walked o (names ys) ts T).kinds K) found I.within in
     let some : Within u.kinds K = λ j k e. all j k ((each_grows q.gives mid).kinds j k (renewed_within (results_of q) (moved_on u) j k e)) in
     let few : Within T.kinds K = λ j k e. all j k (call_within q r j k e) in
-    let S : Sound K V st (heap_of m V i) T = sound_used P xs m K V at N c R p ps s I few in
+    let S : Sound K V st (heap_of m V i) T = sound_used P home m K V at N c R p ps s I few in
     let (vs, gives) = exprs_result R st (heap_of m V i) es I.prepared.0 I.ready in
     let args : map (slice_get V) ts ≡ map Some vs = exprs_values K V st (heap_of m V i) es vs s S gives in
     let count : length ts ≡ length (parameters_of q) = length-map es (λ e. expr_term e T) ∙ fit.entry.arguments in
@@ -182,6 +187,6 @@ call_takes P xs m K V at N c R ys f es ps s I =
     (met_one q.needs inside (heap_of m V T.version) q.gives g inside (heap_of m V (T.version + 1)) W.member done) in
     let rs = map (λ x. term_of x after) (results_of q) in
     let known : (x : Name) → Contains (results_of q) x → Knows after.bindings x = λ x there. (let k = renewed_known (results_of q) (moved_on u) x (inl there) in (k.0, (each_grows q.gives mid).bindings x k.0 k.1)) in
-    let targets = step_gets P xs m K V at N c p ps s G (names ys) rs (map inside (results_of q)) (ap (λ o. (call_walked o (names ys) ts T).bindings) found) fit.distinct (length-map (results_of q) (λ x. term_of x after) ∙ sym fit.targets)
+    let targets = step_gets P home m K V at N c p ps s G (names ys) rs (map inside (results_of q)) (ap (λ o. (call_walked o (names ys) ts T).bindings) found) fit.distinct (length-map (results_of q) (λ x. term_of x after) ∙ sym fit.targets)
     (result_terms V inside after (results_of q) last.bound known) in
-    (q, vs, fit.entry.declares, gives, record { inside = inside; arguments = params; targets = targets; replaced = done' })
+    (q, vs, found, gives, record { inside = inside; arguments = params; targets = targets; replaced = done' })

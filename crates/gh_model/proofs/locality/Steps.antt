@@ -1,9 +1,9 @@
 -- The steps of a built trace, but for calls and loops.
-use Rattle.std.specs.Prelude.{◌≡◌, ◌≢◌, ◌↔◌, ℕ, ◌+◌, ◌<◌, List, [], ◌∷◌, length, map, filter, slice_get, Option, Some, None, Bool, true, false, not, cond, ◌==◌, IsTrue, Contains}
+use Rattle.std.specs.Prelude.{◌≡◌, ◌≢◌, ◌↔◌, ℕ, ◌+◌, ◌<◌, List, [], ◌∷◌, length, map, slice_get, Option, Some, None, Bool, true, false, not, cond, ◌==◌, IsTrue, Contains}
 use Rattle.std.specs.FinMap.{get, insert, remove}
 use Rattle.std.specs.Str.{bytes_eq}
 use Rattle.std.proofs.Common.{refl, sym, ◌∙◌, ap, subst, inl, inr, arith}
-use Rattle.std.proofs.lemmas.Bool.{cases_eq, eqb-true, eq-eqb, false≢true}
+use Rattle.std.proofs.lemmas.Bool.{cases_eq, eqb-true, eq-eqb}
 use Rattle.std.proofs.lemmas.List.{length-map}
 use Rattle.std.proofs.lemmas.List.Elements.{All-head}
 use Rattle.std.proofs.lemmas.Slice.Eq.{bytes_eq-Decides}
@@ -15,7 +15,7 @@ use Rattle.gh_ast.specs.declared.Operand.TheVariants.{Var}
 use Rattle.gh_ast.specs.declared.Expr.{Expr}
 use Rattle.gh_ast.specs.declared.Expr.TheVariants.{Plain, Read}
 use Rattle.gh_ast.specs.Plain.{Procedure, Program}
-use Rattle.gh_ast.specs.Programs.{Name, names, results_of}
+use Rattle.gh_ast.specs.Programs.{Name, names, results_of, variable_names}
 use Rattle.gh_ast.specs.Rules.{IsTyped}
 use Rattle.gh_ast.proofs.Lists.{member_first, member_later, no_member, cons_both, one_value}
 use Rattle.gh_assert.specs.Heaps.{Heap}
@@ -25,8 +25,7 @@ use Rattle.gh_assert.specs.Walks.{Allocated}
 use Rattle.gh_assert.proofs.Cells.{by_look_ups, get_put, get_beside}
 use Rattle.gh_assert.proofs.Unique.{get_removed, get_kept}
 use Rattle.gh_path.specs.Graphs as path
-use Rattle.gh_path.specs.Terms.{Kind, with_value, Bindings, bound, all_bound, Terms, used, term_of, expr_used, expr_term, exprs_used, exprs_terms, walked, moved_on, renewed, some_assigns, bound_inside, call_walked, step_walked, rebound}
-use Rattle.gh_path.proofs.FormLemmas.{callee_found}
+use Rattle.gh_path.specs.Terms.{Kind, with_value, Bindings, bound, all_bound, Terms, used, term_of, expr_used, expr_term, exprs_used, exprs_terms, walked, moved_on, bound_inside, call_walked, loop_walked, step_walked, rebound}
 use Rattle.gh_grass.specs.Bindings.{term}
 use Rattle.gh_grass.specs.Claims.{equality}
 use Rattle.gh_grass.specs.Footprints.{compared}
@@ -50,7 +49,7 @@ use Rattle.gh_model.proofs.reading.StepFormulas.{writes_are_preserved, news_are_
 use Rattle.gh_model.proofs.soundness.Interpretation.{value_at, value_of, there_at, within_list}
 use Rattle.gh_model.proofs.ownership.Traces.{used_step_grows, here, own_term, used_term}
 use Rattle.gh_model.proofs.paths.Typing.{ExprReady, ExprsReady, Distinct, IsPrepared}
-use Rattle.gh_model.proofs.terms.Bounds.{IsBounded, longer, follow_within, still_below, step_bounded, used_step_bounded}
+use Rattle.gh_model.proofs.terms.Bounds.{IsBounded, longer, follow_within, still_below, step_bounded, used_step_bounded, loop_version}
 use Rattle.gh_model.proofs.locality.BuiltVersions.{T, AreGround, state_sound, value_is}
 use Rattle.gh_model.proofs.reading.Classes.{same_test}
 
@@ -58,19 +57,19 @@ not_both : (o : Option ℕ) (u : ℕ) → o ≡ Some u → o ≡ None → ⊥
 not_both o u e f = absurd cc
 
 -- a variable that a step doesn't assign keeps its term
-pub term_stays : (P : Program) (xs : List Name) (p : path.PathStep) (ps : List path.PathStep) (c : path.Check) (s : Terms) (y : Name) → (step_walked P xs p s).bindings y ≡ (step_used p s).bindings y → here P xs (p ∷ ps) c s y ≡ here P xs ps c (step_walked P xs p s) y
-term_stays P xs p ps c s y same = by_used ((step_used p s).bindings y) refl
+pub term_stays : (P : Program) (home : Procedure) (p : path.PathStep) (ps : List path.PathStep) (c : path.Check) (s : Terms) (y : Name) → (step_walked P home p s).bindings y ≡ (step_used home p s).bindings y → here P home (p ∷ ps) c s y ≡ here P home ps c (step_walked P home p s) y
+term_stays P home p ps c s y same = by_used ((step_used home p s).bindings y) refl
   where
-    by_own : (o : Option ℕ) → s.bindings y ≡ o → (step_used p s).bindings y ≡ None → here P xs (p ∷ ps) c s y ≡ here P xs ps c (step_walked P xs p s) y
-    by_own (Some u) g f = absurd (not_both ((step_used p s).bindings y) u ((used_step_grows p s).bindings y u g) f)
+    by_own : (o : Option ℕ) → s.bindings y ≡ o → (step_used home p s).bindings y ≡ None → here P home (p ∷ ps) c s y ≡ here P home ps c (step_walked P home p s) y
+    by_own (Some u) g f = absurd (not_both ((step_used home p s).bindings y) u ((used_step_grows home p s).bindings y u g) f)
     by_own None g f =
-        ap (λ o. either_term o (first_use P xs (p ∷ ps) c s y)) g
-        ∙ ap (λ o. used_first o ((step_walked P xs p s).bindings y) (first_use P xs ps c (step_walked P xs p s) y)) f
-        ∙ ap (λ o. used_first None o (first_use P xs ps c (step_walked P xs p s) y)) (same ∙ f)
-        ∙ sym (ap (λ o. either_term o (first_use P xs ps c (step_walked P xs p s) y)) (same ∙ f))
+        ap (λ o. either_term o (first_use P home (p ∷ ps) c s y)) g
+        ∙ ap (λ o. used_first o ((step_walked P home p s).bindings y) (first_use P home ps c (step_walked P home p s) y)) f
+        ∙ ap (λ o. used_first None o (first_use P home ps c (step_walked P home p s) y)) (same ∙ f)
+        ∙ sym (ap (λ o. either_term o (first_use P home ps c (step_walked P home p s) y)) (same ∙ f))
 
-    by_used : (o : Option ℕ) → (step_used p s).bindings y ≡ o → here P xs (p ∷ ps) c s y ≡ here P xs ps c (step_walked P xs p s) y
-    by_used (Some u) f = used_term P xs p ps c s y u f ∙ sym (own_term P xs ps c (step_walked P xs p s) y u (same ∙ f))
+    by_used : (o : Option ℕ) → (step_used home p s).bindings y ≡ o → here P home (p ∷ ps) c s y ≡ here P home ps c (step_walked P home p s) y
+    by_used (Some u) f = used_term P home p ps c s y u f ∙ sym (own_term P home ps c (step_walked P home p s) y u (same ∙ f))
     by_used None f = by_own (s.bindings y) refl f
 
 -- the heap of a version
@@ -82,32 +81,32 @@ abbrev pub state_with : List ℕ → (ℕ → ℕ) → Structure → Bindings �
 state_with V at M b = record { store = store_under at b; heap = built V M }
 
 -- all that is known of a step
-pub record IsLocal (P : Program) (xs : List Name) (m : Interpretation) (K : List Kind) (V : List ℕ) (at : ℕ → ℕ) (N : ℕ) (c : path.Check) (R : Name → Type 0) (p : path.PathStep) (ps : List path.PathStep) (s : Terms) : Type 0 where
+pub record IsLocal (P : Program) (home : Procedure) (m : Interpretation) (K : List Kind) (V : List ℕ) (at : ℕ → ℕ) (N : ℕ) (c : path.Check) (R : Name → Type 0) (p : path.PathStep) (ps : List path.PathStep) (s : Terms) : Type 0 where
   pub typed : IsTyped P
   pub ground : AreGround m K V at N
-  pub prepared : IsPrepared P R p
-  pub ready : (n : Name) → R n → Allocated (heap_of m V s.version) (store_under at (here P xs (p ∷ ps) c s) n)
-  pub claims : AreTrue m (step_claims K s.version (term_step P xs p s))
-  pub within : Within (step_walked P xs p s).kinds K
+  pub prepared : IsPrepared P home R p
+  pub ready : (n : Name) → R n → Allocated (heap_of m V s.version) (store_under at (here P home (p ∷ ps) c s) n)
+  pub claims : AreTrue m (step_claims K s.version (term_step P home p s))
+  pub within : Within (step_walked P home p s).kinds K
   pub bounded : IsBounded s
   pub before : s.version < N
   pub after : version_after p s.version < N
 
 -- the states before and after it
-abbrev pub state_before : Program → List Name → Interpretation → List ℕ → (ℕ → ℕ) → path.Check → path.PathStep → List path.PathStep → Terms → State
-state_before P xs m V at c p ps s = state_with V at (version_of m s.version) (here P xs (p ∷ ps) c s)
+abbrev pub state_before : Program → Procedure → Interpretation → List ℕ → (ℕ → ℕ) → path.Check → path.PathStep → List path.PathStep → Terms → State
+state_before P home m V at c p ps s = state_with V at (version_of m s.version) (here P home (p ∷ ps) c s)
 
-abbrev pub state_after : Program → List Name → Interpretation → List ℕ → (ℕ → ℕ) → path.Check → path.PathStep → List path.PathStep → Terms → State
-state_after P xs m V at c p ps s = state_with V at (version_of m (version_after p s.version)) (here P xs ps c (step_walked P xs p s))
+abbrev pub state_after : Program → Procedure → Interpretation → List ℕ → (ℕ → ℕ) → path.Check → path.PathStep → List path.PathStep → Terms → State
+state_after P home m V at c p ps s = state_with V at (version_of m (version_after p s.version)) (here P home ps c (step_walked P home p s))
 
-pub sound_used : (P : Program) (xs : List Name) (m : Interpretation) (K : List Kind) (V : List ℕ) (at : ℕ → ℕ) (N : ℕ) (c : path.Check) (R : Name → Type 0) (p : path.PathStep) (ps : List path.PathStep) (s : Terms) → IsLocal P xs m K V at N c R p ps s → Within (step_used p s).kinds K
-    → Sound K V (store_under at (here P xs (p ∷ ps) c s)) (heap_of m V s.version) (step_used p s)
-sound_used P xs m K V at N c R p ps s I w = state_sound m K V at N I.ground s.version I.before (here P xs (p ∷ ps) c s) (step_used p s) (used_step_grows p s).version w (used_step_bounded p s I.bounded) (used_term P xs p ps c s)
+pub sound_used : (P : Program) (home : Procedure) (m : Interpretation) (K : List Kind) (V : List ℕ) (at : ℕ → ℕ) (N : ℕ) (c : path.Check) (R : Name → Type 0) (p : path.PathStep) (ps : List path.PathStep) (s : Terms) → IsLocal P home m K V at N c R p ps s → Within (step_used home p s).kinds K
+    → Sound K V (store_under at (here P home (p ∷ ps) c s)) (heap_of m V s.version) (step_used home p s)
+sound_used P home m K V at N c R p ps s I w = state_sound m K V at N I.ground s.version I.before (here P home (p ∷ ps) c s) (step_used home p s) (used_step_grows home p s).version w (used_step_bounded home p s I.bounded) (used_term P home p ps c s)
 
-pub sound_after : (P : Program) (xs : List Name) (m : Interpretation) (K : List Kind) (V : List ℕ) (at : ℕ → ℕ) (N : ℕ) (c : path.Check) (R : Name → Type 0) (p : path.PathStep) (ps : List path.PathStep) (s : Terms) → IsLocal P xs m K V at N c R p ps s → (step_walked P xs p s).version ≡ version_after p s.version
-    → Sound K V (store_under at (here P xs ps c (step_walked P xs p s))) (heap_of m V (version_after p s.version)) (step_walked P xs p s)
-sound_after P xs m K V at N c R p ps s I version =
-    state_sound m K V at N I.ground (version_after p s.version) I.after (here P xs ps c (step_walked P xs p s)) (step_walked P xs p s) version I.within (step_bounded P xs p s I.bounded) (own_term P xs ps c (step_walked P xs p s))
+pub sound_after : (P : Program) (home : Procedure) (m : Interpretation) (K : List Kind) (V : List ℕ) (at : ℕ → ℕ) (N : ℕ) (c : path.Check) (R : Name → Type 0) (p : path.PathStep) (ps : List path.PathStep) (s : Terms) → IsLocal P home m K V at N c R p ps s → (step_walked P home p s).version ≡ version_after p s.version
+    → Sound K V (store_under at (here P home ps c (step_walked P home p s))) (heap_of m V (version_after p s.version)) (step_walked P home p s)
+sound_after P home m K V at N c R p ps s I version =
+    state_sound m K V at N I.ground (version_after p s.version) I.after (here P home ps c (step_walked P home p s)) (step_walked P home p s) version I.within (step_bounded P home p s I.bounded) (own_term P home ps c (step_walked P home p s))
 
 -- a term's value
 pub at_is : (m : Interpretation) (K : List Kind) (V : List ℕ) (at : ℕ → ℕ) (N : ℕ) → AreGround m K V at N → (t v : ℕ) → slice_get V t ≡ Some v → at t ≡ v
@@ -191,51 +190,44 @@ all_at m K V at N G (t ∷ ts) (v ∷ vs) e =
     cons_numbers (at t) v (map at ts) vs (at_is m K V at N G t v both.0) (all_at m K V at N G ts vs both.1)
 
 -- a step that assigns some variables
-pub step_gets : (P : Program) (xs : List Name) (m : Interpretation) (K : List Kind) (V : List ℕ) (at : ℕ → ℕ) (N : ℕ) (c : path.Check) (p : path.PathStep) (ps : List path.PathStep) (s : Terms) → AreGround m K V at N → (ys : List Name) (ts vs : List ℕ)
-    → (step_walked P xs p s).bindings ≡ all_bound (step_used p s).bindings ys ts → Distinct ys → length ts ≡ length ys → map (slice_get V) ts ≡ map Some vs
-    → Gets (store_under at (here P xs (p ∷ ps) c s)) ys vs (store_under at (here P xs ps c (step_walked P xs p s)))
-step_gets P xs m K V at N c p ps s G ys ts vs is D count e =
-    let t = step_walked P xs p s in
-    let terms : map t.bindings ys ≡ map Some ts = ap (λ (b : Bindings). map b ys) is ∙ bound_terms (step_used p s).bindings ys ts D count in
+pub step_gets : (P : Program) (home : Procedure) (m : Interpretation) (K : List Kind) (V : List ℕ) (at : ℕ → ℕ) (N : ℕ) (c : path.Check) (p : path.PathStep) (ps : List path.PathStep) (s : Terms) → AreGround m K V at N → (ys : List Name) (ts vs : List ℕ)
+    → (step_walked P home p s).bindings ≡ all_bound (step_used home p s).bindings ys ts → Distinct ys → length ts ≡ length ys → map (slice_get V) ts ≡ map Some vs
+    → Gets (store_under at (here P home (p ∷ ps) c s)) ys vs (store_under at (here P home ps c (step_walked P home p s)))
+step_gets P home m K V at N c p ps s G ys ts vs is D count e =
+    let t = step_walked P home p s in
+    let terms : map t.bindings ys ≡ map Some ts = ap (λ (b : Bindings). map b ys) is ∙ bound_terms (step_used home p s).bindings ys ts D count in
     record {
-      given = store_values at (here P xs ps c t) t.bindings ys ts (own_term P xs ps c t) terms ∙ all_at m K V at N G ts vs e;
-      kept = λ y out. ap (value_under at) (sym (term_stays P xs p ps c s y (ap (λ (b : Bindings). b y) is ∙ bound_outside (step_used p s).bindings ys ts y out)));
+      given = store_values at (here P home ps c t) t.bindings ys ts (own_term P home ps c t) terms ∙ all_at m K V at N G ts vs e;
+      kept = λ y out. ap (value_under at) (sym (term_stays P home p ps c s y (ap (λ (b : Bindings). b y) is ∙ bound_outside (step_used home p s).bindings ys ts y out)));
     }
 
-pub access_takes : (P : Program) (xs : List Name) (m : Interpretation) (K : List Kind) (V : List ℕ) (at : ℕ → ℕ) (N : ℕ) (c : path.Check) (R : Name → Type 0) (o : Occ) (ps : List path.PathStep) (s : Terms) → IsLocal P xs m K V at N c R (path.accessed o) ps s
-    → Takes P (path.accessed o) (state_before P xs m V at c (path.accessed o) ps s) (state_after P xs m V at c (path.accessed o) ps s)
-access_takes P xs m K V at N c R o ps s I =
+pub access_takes : (P : Program) (home : Procedure) (m : Interpretation) (K : List Kind) (V : List ℕ) (at : ℕ → ℕ) (N : ℕ) (c : path.Check) (R : Name → Type 0) (o : Occ) (ps : List path.PathStep) (s : Terms) → IsLocal P home m K V at N c R (path.accessed o) ps s
+    → Takes P home (path.accessed o) (state_before P home m V at c (path.accessed o) ps s) (state_after P home m V at c (path.accessed o) ps s)
+access_takes P home m K V at N c R o ps s I =
     let p = path.accessed o in
     let u = used o.name s in
-    let st = store_under at (here P xs (p ∷ ps) c s) in
+    let st = store_under at (here P home (p ∷ ps) c s) in
     let h = heap_of m V s.version in
-    let S : Sound K V st h u = sound_used P xs m K V at N c R p ps s I (λ i k e. I.within i k (follow_within o.name u i k e)) in
+    let S : Sound K V st h u = sound_used P home m K V at N c R p ps s I (λ i k e. I.within i k (follow_within o.name u i k e)) in
     let there : slice_get V (term_of o.name u) ≡ Some (st o.name) = expr_value K V st h (Plain (Var o)) s u (st o.name) (stays u) S refl in
     let said = All-head (T m) (allocated s.version (term (term_of o.name u))) [] I.claims in (
       (alloc_is m K V at N I.ground s.version I.before (term_of o.name u) (st o.name) there).0 said,
-      same_state (store_under at (here P xs ps c (step_walked P xs p s))) st h h (λ n. ap (value_under at) (sym (term_stays P xs p ps c s n refl))) refl,
+      same_state (store_under at (here P home ps c (step_walked P home p s))) st h h (λ n. ap (value_under at) (sym (term_stays P home p ps c s n refl))) refl,
     )
 
 compared_is : (m : Interpretation) (x y : Term) (e t : Bool) → truth m (equality x y) ≡ t → truth m (compared x e y) ≡ agrees e t
 compared_is m x y true t is = is
 compared_is m x y false t is = ap not is
 
-turned : (e way a : Bool) → agrees (cond way e (not e)) a ≡ true → agrees e a ≡ way
-turned true true a h = h
-turned true false true h = absurd (false≢true h)
-turned true false false h = refl
-turned false true a h = h
-turned false false a h = ap not h
-
-pub assume_takes : (P : Program) (xs : List Name) (m : Interpretation) (K : List Kind) (V : List ℕ) (at : ℕ → ℕ) (N : ℕ) (c : path.Check) (R : Name → Type 0) (l : Expr) (e : Bool) (r : Expr) (way : Bool) (ps : List path.PathStep) (s : Terms) → IsLocal P xs m K V at N c R (path.assume l e r way) ps s
-    → Takes P (path.assume l e r way) (state_before P xs m V at c (path.assume l e r way) ps s) (state_after P xs m V at c (path.assume l e r way) ps s)
-assume_takes P xs m K V at N c R l e r way ps s I =
-    let p = path.assume l e r way in
+pub assume_takes : (P : Program) (home : Procedure) (m : Interpretation) (K : List Kind) (V : List ℕ) (at : ℕ → ℕ) (N : ℕ) (c : path.Check) (R : Name → Type 0) (l : Expr) (e : Bool) (r : Expr) (ps : List path.PathStep) (s : Terms) → IsLocal P home m K V at N c R (path.assume l e r) ps s
+    → Takes P home (path.assume l e r) (state_before P home m V at c (path.assume l e r) ps s) (state_after P home m V at c (path.assume l e r) ps s)
+assume_takes P home m K V at N c R l e r ps s I =
+    let p = path.assume l e r in
     let t = expr_used r (expr_used l s) in
     let i = s.version in
-    let st = store_under at (here P xs (p ∷ ps) c s) in
+    let st = store_under at (here P home (p ∷ ps) c s) in
     let h = heap_of m V i in
-    let S : Sound K V st h t = sound_used P xs m K V at N c R p ps s I I.within in
+    let S : Sound K V st h t = sound_used P home m K V at N c R p ps s I I.within in
     let (u, ru) = expr_result R st h l I.prepared.0 I.ready in
     let (v, rv) = expr_result R st h r I.prepared.1 I.ready in
     let a : slice_get V (expr_term l t) ≡ Some u = expr_value K V st h l s t u (expr_grows r (expr_used l s)) S ru in
@@ -243,35 +235,35 @@ assume_takes P xs m K V at N c R l e r way ps s I =
     let E = equal_is m i (length K) (value_at V) V (version_of m i) (I.ground.homomorphism i I.before) (expr_term l t) (expr_term r t) u v
     (below_count m K V at N I.ground (expr_term l t) u a) (below_count m K V at N I.ground (expr_term r t) v b) (value_of V (expr_term l t) u a) (value_of V (expr_term r t) v b) in
     let equal : truth m (equality (term (expr_term l t)) (term (expr_term r t))) ≡ (u == v) = same_test (truth m (equality (term (expr_term l t)) (term (expr_term r t)))) (u == v) (λ f. eq-eqb u v (E.0 f)) (λ f. E.1 (eqb-true u v f)) in
-    let said : truth m (compared (term (expr_term l t)) (cond way e (not e)) (term (expr_term r t))) ≡ true = All-head (T m) (compared (term (expr_term l t)) (cond way e (not e)) (term (expr_term r t))) [] I.claims in
-    let is : agrees e (u == v) ≡ way = turned e way (u == v) (sym (compared_is m (term (expr_term l t)) (term (expr_term r t)) (cond way e (not e)) (u == v) equal) ∙ said) in (
+    let said : truth m (compared (term (expr_term l t)) e (term (expr_term r t))) ≡ true = All-head (T m) (compared (term (expr_term l t)) e (term (expr_term r t))) [] I.claims in
+    let is : agrees e (u == v) ≡ true = sym (compared_is m (term (expr_term l t)) (term (expr_term r t)) e (u == v) equal) ∙ said in (
       ap (λ w. outcome_of e w (result st h r)) ru ∙ ap (outcome_of e (Some u)) rv ∙ ap Some is,
-      same_state (store_under at (here P xs ps c (step_walked P xs p s))) st h h (λ n. ap (value_under at) (sym (term_stays P xs p ps c s n refl))) refl,
+      same_state (store_under at (here P home ps c (step_walked P home p s))) st h h (λ n. ap (value_under at) (sym (term_stays P home p ps c s n refl))) refl,
     )
 
-pub set_takes : (P : Program) (xs : List Name) (m : Interpretation) (K : List Kind) (V : List ℕ) (at : ℕ → ℕ) (N : ℕ) (c : path.Check) (R : Name → Type 0) (o : Occ) (e : Expr) (ps : List path.PathStep) (s : Terms) → IsLocal P xs m K V at N c R (path.assigned o e) ps s
-    → Takes P (path.assigned o e) (state_before P xs m V at c (path.assigned o e) ps s) (state_after P xs m V at c (path.assigned o e) ps s)
-set_takes P xs m K V at N c R o e ps s I =
+pub set_takes : (P : Program) (home : Procedure) (m : Interpretation) (K : List Kind) (V : List ℕ) (at : ℕ → ℕ) (N : ℕ) (c : path.Check) (R : Name → Type 0) (o : Occ) (e : Expr) (ps : List path.PathStep) (s : Terms) → IsLocal P home m K V at N c R (path.assigned o e) ps s
+    → Takes P home (path.assigned o e) (state_before P home m V at c (path.assigned o e) ps s) (state_after P home m V at c (path.assigned o e) ps s)
+set_takes P home m K V at N c R o e ps s I =
     let p = path.assigned o e in
     let t = expr_used e s in
-    let st = store_under at (here P xs (p ∷ ps) c s) in
+    let st = store_under at (here P home (p ∷ ps) c s) in
     let h = heap_of m V s.version in
-    let S : Sound K V st h t = sound_used P xs m K V at N c R p ps s I I.within in
+    let S : Sound K V st h t = sound_used P home m K V at N c R p ps s I I.within in
     let (v, rv) = expr_result R st h e I.prepared I.ready in
     let a : slice_get V (expr_term e t) ≡ Some v = expr_value K V st h e s t v (stays t) S rv in
-    (v, rv, step_gets P xs m K V at N c p ps s I.ground (o.name ∷ []) (expr_term e t ∷ []) (v ∷ []) refl ((λ n. no_member o.name n), tt) refl (ap (λ w. w ∷ []) a), refl)
+    (v, rv, step_gets P home m K V at N c p ps s I.ground (o.name ∷ []) (expr_term e t ∷ []) (v ∷ []) refl ((λ n. no_member o.name n), tt) refl (ap (λ w. w ∷ []) a), refl)
 
-pub return_takes : (P : Program) (xs : List Name) (m : Interpretation) (K : List Kind) (V : List ℕ) (at : ℕ → ℕ) (N : ℕ) (c : path.Check) (R : Name → Type 0) (ys : List Name) (es : List Expr) (ps : List path.PathStep) (s : Terms) → IsLocal P xs m K V at N c R (path.answered ys es) ps s
-    → Takes P (path.answered ys es) (state_before P xs m V at c (path.answered ys es) ps s) (state_after P xs m V at c (path.answered ys es) ps s)
-return_takes P xs m K V at N c R ys es ps s I =
-    let p = path.answered ys es in
+pub return_takes : (P : Program) (home : Procedure) (m : Interpretation) (K : List Kind) (V : List ℕ) (at : ℕ → ℕ) (N : ℕ) (c : path.Check) (R : Name → Type 0) (es : List Expr) (ps : List path.PathStep) (s : Terms) → IsLocal P home m K V at N c R (path.answered es) ps s
+    → Takes P home (path.answered es) (state_before P home m V at c (path.answered es) ps s) (state_after P home m V at c (path.answered es) ps s)
+return_takes P home m K V at N c R es ps s I =
+    let p = path.answered es in
     let t = exprs_used es s in
-    let st = store_under at (here P xs (p ∷ ps) c s) in
+    let st = store_under at (here P home (p ∷ ps) c s) in
     let h = heap_of m V s.version in
-    let S : Sound K V st h t = sound_used P xs m K V at N c R p ps s I I.within in
+    let S : Sound K V st h t = sound_used P home m K V at N c R p ps s I I.within in
     let (vs, rv) = exprs_result R st h es I.prepared.0 I.ready in
     let a : map (slice_get V) (exprs_terms es t) ≡ map Some vs = exprs_values K V st h es vs s S rv in
-    (vs, rv, step_gets P xs m K V at N c p ps s I.ground ys (exprs_terms es t) vs refl I.prepared.2 (length-map es (λ e. expr_term e t) ∙ I.prepared.1) a, refl)
+    (vs, rv, step_gets P home m K V at N c p ps s I.ground (results_of home) (exprs_terms es t) vs refl I.prepared.2 (length-map es (λ e. expr_term e t) ∙ I.prepared.1) a, refl)
 
 heap_put : (h k : Heap) (x v : ℕ) → IsPut h k x v → k ≡ insert h x v
 heap_put h k x v p = by_look_ups k (insert h x v) (λ q. elim (cases_eq q x) [
@@ -285,9 +277,9 @@ heap_freed h k x p = by_look_ups k (remove h x) (λ q. elim (cases_eq q x) [
   | inr away ↦ p.elsewhere q away ∙ sym (get_kept h x q away)
 ])
 
-pub new_takes : (P : Program) (xs : List Name) (m : Interpretation) (K : List Kind) (V : List ℕ) (at : ℕ → ℕ) (N : ℕ) (c : path.Check) (R : Name → Type 0) (o : Occ) (ps : List path.PathStep) (s : Terms) → IsLocal P xs m K V at N c R (path.made o) ps s
-    → Takes P (path.made o) (state_before P xs m V at c (path.made o) ps s) (state_after P xs m V at c (path.made o) ps s)
-new_takes P xs m K V at N c R o ps s I =
+pub new_takes : (P : Program) (home : Procedure) (m : Interpretation) (K : List Kind) (V : List ℕ) (at : ℕ → ℕ) (N : ℕ) (c : path.Check) (R : Name → Type 0) (o : Occ) (ps : List path.PathStep) (s : Terms) → IsLocal P home m K V at N c R (path.made o) ps s
+    → Takes P home (path.made o) (state_before P home m V at c (path.made o) ps s) (state_after P home m V at c (path.made o) ps s)
+new_takes P home m K V at N c R o ps s I =
     let p = path.made o in
     let i = s.version in
     let n = length K in
@@ -307,13 +299,13 @@ new_takes P xs m K V at N c R o ps s I =
       value_at V (l + 1),
       some,
       put.0,
-      step_gets P xs m K V at N c p ps s G (o.name ∷ []) (l ∷ []) (value_at V l ∷ []) refl ((λ e. no_member o.name e), tt) refl (ap (λ w. w ∷ []) here'),
+      step_gets P home m K V at N c p ps s G (o.name ∷ []) (l ∷ []) (value_at V l ∷ []) refl ((λ e. no_member o.name e), tt) refl (ap (λ w. w ∷ []) here'),
       heap_put (heap_of m V i) (heap_of m V (i + 1)) (value_at V l) (value_at V (l + 1)) put.1,
     )
 
-pub write_takes : (P : Program) (xs : List Name) (m : Interpretation) (K : List Kind) (V : List ℕ) (at : ℕ → ℕ) (N : ℕ) (c : path.Check) (R : Name → Type 0) (o : Occ) (e : Expr) (ps : List path.PathStep) (s : Terms) → IsLocal P xs m K V at N c R (path.written o e) ps s
-    → Takes P (path.written o e) (state_before P xs m V at c (path.written o e) ps s) (state_after P xs m V at c (path.written o e) ps s)
-write_takes P xs m K V at N c R o e ps s I =
+pub write_takes : (P : Program) (home : Procedure) (m : Interpretation) (K : List Kind) (V : List ℕ) (at : ℕ → ℕ) (N : ℕ) (c : path.Check) (R : Name → Type 0) (o : Occ) (e : Expr) (ps : List path.PathStep) (s : Terms) → IsLocal P home m K V at N c R (path.written o e) ps s
+    → Takes P home (path.written o e) (state_before P home m V at c (path.written o e) ps s) (state_after P home m V at c (path.written o e) ps s)
+write_takes P home m K V at N c R o e ps s I =
     let p = path.written o e in
     let i = s.version in
     let n = length K in
@@ -321,9 +313,9 @@ write_takes P xs m K V at N c R o e ps s I =
     let M = version_of m i in
     let M' = version_of m (i + 1) in
     let t = expr_used e (used o.name s) in
-    let st = store_under at (here P xs (p ∷ ps) c s) in
+    let st = store_under at (here P home (p ∷ ps) c s) in
     let h = heap_of m V i in
-    let S : Sound K V st h t = sound_used P xs m K V at N c R p ps s I I.within in
+    let S : Sound K V st h t = sound_used P home m K V at N c R p ps s I I.within in
     let (v, rv) = expr_result R st h e I.prepared.0 I.ready in
     let x = term_of o.name t in
     let a : slice_get V x ≡ Some (st o.name) = expr_value K V st h (Plain (Var o)) s t (st o.name) (expr_grows e (used o.name s)) S refl in
@@ -337,12 +329,12 @@ write_takes P xs m K V at N c R o e ps s I =
       v,
       rv,
       I.ready o.name I.prepared.1,
-      same_state (store_under at (here P xs ps c (step_walked P xs p s))) st (heap_of m V (i + 1)) (insert h (st o.name) v) (λ y. ap (value_under at) (sym (term_stays P xs p ps c s y refl))) (heap_put h (heap_of m V (i + 1)) (st o.name) v put'),
+      same_state (store_under at (here P home ps c (step_walked P home p s))) st (heap_of m V (i + 1)) (insert h (st o.name) v) (λ y. ap (value_under at) (sym (term_stays P home p ps c s y refl))) (heap_put h (heap_of m V (i + 1)) (st o.name) v put'),
     )
 
-pub free_takes : (P : Program) (xs : List Name) (m : Interpretation) (K : List Kind) (V : List ℕ) (at : ℕ → ℕ) (N : ℕ) (c : path.Check) (R : Name → Type 0) (o : Occ) (ps : List path.PathStep) (s : Terms) → IsLocal P xs m K V at N c R (path.freed o) ps s
-    → Takes P (path.freed o) (state_before P xs m V at c (path.freed o) ps s) (state_after P xs m V at c (path.freed o) ps s)
-free_takes P xs m K V at N c R o ps s I =
+pub free_takes : (P : Program) (home : Procedure) (m : Interpretation) (K : List Kind) (V : List ℕ) (at : ℕ → ℕ) (N : ℕ) (c : path.Check) (R : Name → Type 0) (o : Occ) (ps : List path.PathStep) (s : Terms) → IsLocal P home m K V at N c R (path.freed o) ps s
+    → Takes P home (path.freed o) (state_before P home m V at c (path.freed o) ps s) (state_after P home m V at c (path.freed o) ps s)
+free_takes P home m K V at N c R o ps s I =
     let p = path.freed o in
     let i = s.version in
     let n = length K in
@@ -350,9 +342,9 @@ free_takes P xs m K V at N c R o ps s I =
     let M = version_of m i in
     let M' = version_of m (i + 1) in
     let t = used o.name s in
-    let st = store_under at (here P xs (p ∷ ps) c s) in
+    let st = store_under at (here P home (p ∷ ps) c s) in
     let h = heap_of m V i in
-    let S : Sound K V st h t = sound_used P xs m K V at N c R p ps s I I.within in
+    let S : Sound K V st h t = sound_used P home m K V at N c R p ps s I I.within in
     let x = term_of o.name t in
     let a : slice_get V x ≡ Some (st o.name) = expr_value K V st h (Plain (Var o)) s t (st o.name) (stays t) S refl in
     let lx = below_count m K V at N G x (st o.name) a in
@@ -361,7 +353,7 @@ free_takes P xs m K V at N c R o ps s I =
     let put = frees_are_built V M M' (G.model i I.before) (G.model (i + 1) I.after) (value_at V x) (Q.named x lx) said in
     let put' : IsFreed h (heap_of m V (i + 1)) (st o.name) = subst (IsFreed h (heap_of m V (i + 1))) (value_of V x (st o.name) a) put in (
       I.ready o.name I.prepared,
-      same_state (store_under at (here P xs ps c (step_walked P xs p s))) st (heap_of m V (i + 1)) (remove h (st o.name)) (λ y. ap (value_under at) (sym (term_stays P xs p ps c s y refl))) (heap_freed h (heap_of m V (i + 1)) (st o.name) put'),
+      same_state (store_under at (here P home ps c (step_walked P home p s))) st (heap_of m V (i + 1)) (remove h (st o.name)) (λ y. ap (value_under at) (sym (term_stays P home p ps c s y refl))) (heap_freed h (heap_of m V (i + 1)) (st o.name) put'),
     )
 
 -- the version after a step of a path
@@ -370,17 +362,17 @@ call_version o q e ys ts s =
     let r = rebound s (bound_inside q ts) in
     ap (λ u. (call_walked u ys ts s).version) e ∙ (each_grows q.gives (with_results q r)).version ∙ renewed_version (results_of q) (moved_on (walked q.needs r)) ∙ ap (λ i. i + 1) (walked_grows q.needs r).version
 
-pub prepared_version : (P : Program) (xs : List Name) (R : Name → Type 0) (p : path.PathStep) (s : Terms) → IsPrepared P R p → (step_walked P xs p s).version ≡ version_after p s.version
-prepared_version P xs R (path.accessed o) s A = (visited_grows o.name s).version
-prepared_version P xs R (path.assume l e r way) s A = (onto (expr_grows l s) (expr_grows r (expr_used l s))).version
-prepared_version P xs R (path.assigned x e) s A = (expr_grows e s).version
-prepared_version P xs R (path.made x) s A = refl
-prepared_version P xs R (path.written x e) s A = ap (λ i. i + 1) (onto (used_grows x.name s) (expr_grows e (used x.name s))).version
-prepared_version P xs R (path.freed x) s A = ap (λ i. i + 1) (used_grows x.name s).version
-prepared_version P xs R (path.called ys f es) s A =
+pub prepared_version : (P : Program) (home : Procedure) (R : Name → Type 0) (p : path.PathStep) (s : Terms) → IsPrepared P home R p → (step_walked P home p s).version ≡ version_after p s.version
+prepared_version P home R (path.accessed o) s A = (visited_grows o.name s).version
+prepared_version P home R (path.assume l e r) s A = (onto (expr_grows l s) (expr_grows r (expr_used l s))).version
+prepared_version P home R (path.assigned x e) s A = (expr_grows e s).version
+prepared_version P home R (path.made x) s A = refl
+prepared_version P home R (path.written x e) s A = ap (λ i. i + 1) (onto (used_grows x.name s) (expr_grows e (used x.name s))).version
+prepared_version P home R (path.freed x) s A = ap (λ i. i + 1) (used_grows x.name s).version
+prepared_version P home R (path.called ys n es) s A =
     let q = A.1.entry.callee in
-    call_version _ q (callee_found P.procedures f.name q A.1.entry.declares) (names ys) (exprs_terms es (exprs_used es s)) (exprs_used es s) ∙ ap (λ i. i + 1) (exprs_grow es s).version
-prepared_version P xs R (path.looped l) s A =
-    let zs = filter (some_assigns l.body) xs in
-    (walked_grows l.invariant (renewed zs (moved_on (walked l.invariant s)))).version ∙ renewed_version zs (moved_on (walked l.invariant s)) ∙ ap (λ i. i + 1) (walked_grows l.invariant s).version
-prepared_version P xs R (path.answered ys es) s A = (exprs_grow es s).version
+    call_version _ q A.1.entry.at (names ys) (exprs_terms es (exprs_used es s)) (exprs_used es s) ∙ ap (λ i. i + 1) (exprs_grow es s).version
+prepared_version P home R (path.looped n) s A =
+    let xs = variable_names home in
+    ap (λ o. (loop_walked o xs s).version) A.1 ∙ loop_version A.0 xs s
+prepared_version P home R (path.answered es) s A = (exprs_grow es s).version

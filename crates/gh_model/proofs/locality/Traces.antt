@@ -2,16 +2,15 @@
 use Rattle.std.specs.Prelude.{◌≡◌, ℕ, ◌+◌, ◌-◌, ◌<◌, List, [], ◌∷◌, length}
 use Rattle.std.proofs.Common.{refl, sym, ◌∙◌, ap, subst, inl, inr, arith}
 use Rattle.gh_base.specs.Meaning.{Interpretation}
-use Rattle.gh_ast.specs.Plain.{Program}
+use Rattle.gh_ast.specs.Plain.{Procedure, Program}
 use Rattle.gh_ast.specs.Programs.{Name, variable_names}
 use Rattle.gh_ast.specs.Rules.{IsTyped}
 use Rattle.gh_assert.specs.Meaning.{Meaning}
 use Rattle.gh_assert.specs.Walks.{Allocated}
 use Rattle.gh_path.specs.Graphs as path
-use Rattle.gh_path.specs.Terms.{Kind, Terms, exprs_used, exprs_terms, walked, check_walked, step_walked, steps_walked, no_terms}
-use Rattle.gh_path.proofs.FormLemmas.{callee_found}
+use Rattle.gh_path.specs.Terms.{Kind, Terms, exprs_used, exprs_terms, check_walked, step_walked, steps_walked, no_terms}
 use Rattle.gh_grass.specs.Truth.{AreTrue}
-use Rattle.gh_symb.specs.Symbolic.{call_parts, term_step, term_steps, term_check, state_bindings, symbolic_of}
+use Rattle.gh_symb.specs.Symbolic.{call_parts, loop_parts, begins, term_step, term_steps, term_check, state_bindings, symbolic_of}
 use Rattle.gh_symb.specs.Formulas.{step_claims, steps_claims, check_claims, version_after as version_past}
 use Rattle.gh_trace.specs.Traces.{State, Takes, Passes, IsTrace, last_state, Counterexample}
 use Rattle.gh_trace.specs.Validity.{AreCounterexample}
@@ -29,130 +28,130 @@ use Rattle.gh_model.proofs.locality.Steps.{heap_of, make, IsLocal, state_before,
 use Rattle.gh_model.proofs.locality.Calls.{loop_takes, call_takes}
 use Rattle.gh_model.proofs.locality.Checks.{check_fails}
 
-step_takes : (P : Program) (xs : List Name) (m : Interpretation) (K : List Kind) (V : List ℕ) (at : ℕ → ℕ) (N : ℕ) (c : path.Check) (R : Name → Type 0) (p : path.PathStep) (ps : List path.PathStep) (s : Terms) → IsLocal P xs m K V at N c R p ps s → Takes P p (state_before P xs m V at c p ps s) (state_after P xs m V at c p ps s)
-step_takes P xs m K V at N c R (path.accessed o) ps s I = access_takes P xs m K V at N c R o ps s I
-step_takes P xs m K V at N c R (path.assume l e r way) ps s I = assume_takes P xs m K V at N c R l e r way ps s I
-step_takes P xs m K V at N c R (path.assigned o e) ps s I = set_takes P xs m K V at N c R o e ps s I
-step_takes P xs m K V at N c R (path.made o) ps s I = new_takes P xs m K V at N c R o ps s I
-step_takes P xs m K V at N c R (path.written o e) ps s I = write_takes P xs m K V at N c R o e ps s I
-step_takes P xs m K V at N c R (path.freed o) ps s I = free_takes P xs m K V at N c R o ps s I
-step_takes P xs m K V at N c R (path.called ys f es) ps s I = call_takes P xs m K V at N c R ys f es ps s I
-step_takes P xs m K V at N c R (path.looped l) ps s I = loop_takes P xs m K V at N c R l ps s I
-step_takes P xs m K V at N c R (path.answered ys es) ps s I = return_takes P xs m K V at N c R ys es ps s I
+step_takes : (P : Program) (home : Procedure) (m : Interpretation) (K : List Kind) (V : List ℕ) (at : ℕ → ℕ) (N : ℕ) (c : path.Check) (R : Name → Type 0) (p : path.PathStep) (ps : List path.PathStep) (s : Terms) → IsLocal P home m K V at N c R p ps s → Takes P home p (state_before P home m V at c p ps s) (state_after P home m V at c p ps s)
+step_takes P home m K V at N c R (path.accessed o) ps s I = access_takes P home m K V at N c R o ps s I
+step_takes P home m K V at N c R (path.assume l e r) ps s I = assume_takes P home m K V at N c R l e r ps s I
+step_takes P home m K V at N c R (path.assigned o e) ps s I = set_takes P home m K V at N c R o e ps s I
+step_takes P home m K V at N c R (path.made o) ps s I = new_takes P home m K V at N c R o ps s I
+step_takes P home m K V at N c R (path.written o e) ps s I = write_takes P home m K V at N c R o e ps s I
+step_takes P home m K V at N c R (path.freed o) ps s I = free_takes P home m K V at N c R o ps s I
+step_takes P home m K V at N c R (path.called ys n es) ps s I = call_takes P home m K V at N c R ys n es ps s I
+step_takes P home m K V at N c R (path.looped n) ps s I = loop_takes P home m K V at N c R n ps s I
+step_takes P home m K V at N c R (path.answered es) ps s I = return_takes P home m K V at N c R es ps s I
 
 -- the version after a step, as its formulas count it
-pub prepared_past : (P : Program) (xs : List Name) (R : Name → Type 0) (p : path.PathStep) (s : Terms) (i : ℕ) → IsPrepared P R p → version_past i (term_step P xs p s) ≡ version_after p i
-prepared_past P xs R (path.accessed o) s i A = refl
-prepared_past P xs R (path.assume l e r way) s i A = refl
-prepared_past P xs R (path.assigned x e) s i A = refl
-prepared_past P xs R (path.made x) s i A = refl
-prepared_past P xs R (path.written x e) s i A = refl
-prepared_past P xs R (path.freed x) s i A = refl
-prepared_past P xs R (path.called ys f es) s i A =
-    ap (λ o. version_past i (call_parts o (exprs_terms es (exprs_used es s)) (exprs_used es s))) (callee_found P.procedures f.name A.1.entry.callee A.1.entry.declares)
-prepared_past P xs R (path.looped l) s i A = refl
-prepared_past P xs R (path.answered ys es) s i A = refl
+pub prepared_past : (P : Program) (home : Procedure) (R : Name → Type 0) (p : path.PathStep) (s : Terms) (i : ℕ) → IsPrepared P home R p → version_past i (term_step P home p s) ≡ version_after p i
+prepared_past P home R (path.accessed o) s i A = refl
+prepared_past P home R (path.assume l e r) s i A = refl
+prepared_past P home R (path.assigned x e) s i A = refl
+prepared_past P home R (path.made x) s i A = refl
+prepared_past P home R (path.written x e) s i A = refl
+prepared_past P home R (path.freed x) s i A = refl
+prepared_past P home R (path.called ys n es) s i A =
+    ap (λ o. version_past i (call_parts o (exprs_terms es (exprs_used es s)) (exprs_used es s))) A.1.entry.at
+prepared_past P home R (path.looped n) s i A = ap (λ o. version_past i (loop_parts o (variable_names home) s)) A.1
+prepared_past P home R (path.answered es) s i A = refl
 
 -- what was accessed stays so
-ready_next : (P : Program) (xs : List Name) (m : Interpretation) (K : List Kind) (V : List ℕ) (at : ℕ → ℕ) (N : ℕ) (c : path.Check) (R : Name → Type 0) (p : path.PathStep) (ps : List path.PathStep) (s : Terms) → IsLocal P xs m K V at N c R p ps s → (n : Name) → ready_after p R n
-    → Allocated (heap_of m V (version_after p s.version)) (store_under at (here P xs ps c (step_walked P xs p s)) n)
-ready_next P xs m K V at N c R (path.accessed o) ps s I n r =
+ready_next : (P : Program) (home : Procedure) (m : Interpretation) (K : List Kind) (V : List ℕ) (at : ℕ → ℕ) (N : ℕ) (c : path.Check) (R : Name → Type 0) (p : path.PathStep) (ps : List path.PathStep) (s : Terms) → IsLocal P home m K V at N c R p ps s → (n : Name) → ready_after p R n
+    → Allocated (heap_of m V (version_after p s.version)) (store_under at (here P home ps c (step_walked P home p s)) n)
+ready_next P home m K V at N c R (path.accessed o) ps s I n r =
     let p = path.accessed o in
-    let takes = access_takes P xs m K V at N c R o ps s I in
-    let x = state_before P xs m V at c p ps s in
+    let takes = access_takes P home m K V at N c R o ps s I in
+    let x = state_before P home m V at c p ps s in
     let before : Allocated x.heap (x.store n) = elim r [
       | inl same ↦ subst (λ y. Allocated x.heap (x.store y)) (sym same) takes.0
       | inr old ↦ I.ready n old
     ] in
     subst (λ (z : State). Allocated z.heap (z.store n)) (sym takes.1) before
-ready_next P xs m K V at N c R (path.assume l e r' way) ps s I n r = absurd r
-ready_next P xs m K V at N c R (path.assigned o e) ps s I n r = absurd r
-ready_next P xs m K V at N c R (path.made o) ps s I n r = absurd r
-ready_next P xs m K V at N c R (path.written o e) ps s I n r = absurd r
-ready_next P xs m K V at N c R (path.freed o) ps s I n r = absurd r
-ready_next P xs m K V at N c R (path.called ys f es) ps s I n r = absurd r
-ready_next P xs m K V at N c R (path.looped l) ps s I n r = absurd r
-ready_next P xs m K V at N c R (path.answered ys es) ps s I n r = absurd r
+ready_next P home m K V at N c R (path.assume l e r') ps s I n r = absurd r
+ready_next P home m K V at N c R (path.assigned o e) ps s I n r = absurd r
+ready_next P home m K V at N c R (path.made o) ps s I n r = absurd r
+ready_next P home m K V at N c R (path.written o e) ps s I n r = absurd r
+ready_next P home m K V at N c R (path.freed o) ps s I n r = absurd r
+ready_next P home m K V at N c R (path.called ys k es) ps s I n r = absurd r
+ready_next P home m K V at N c R (path.looped k) ps s I n r = absurd r
+ready_next P home m K V at N c R (path.answered es) ps s I n r = absurd r
 
 -- the state at a walk's terms, in version i, and the states after it
-abbrev state_in : Program → List Name → Interpretation → ℕ → path.Check → List path.PathStep → Terms → ℕ → State
-state_in P xs m n c ps s i = state_under m n i (here P xs ps c s)
+abbrev state_in : Program → Procedure → Interpretation → ℕ → path.Check → List path.PathStep → Terms → ℕ → State
+state_in P home m n c ps s i = state_under m n i (here P home ps c s)
 
-abbrev rest_in : Program → List Name → Interpretation → ℕ → path.Check → List path.PathStep → Terms → ℕ → List State
-rest_in P xs m n c [] s i = []
-rest_in P xs m n c (p ∷ ps) s i = state_in P xs m n c ps (step_walked P xs p s) (version_after p i) ∷ rest_in P xs m n c ps (step_walked P xs p s) (version_after p i)
+abbrev rest_in : Program → Procedure → Interpretation → ℕ → path.Check → List path.PathStep → Terms → ℕ → List State
+rest_in P home m n c [] s i = []
+rest_in P home m n c (p ∷ ps) s i = state_in P home m n c ps (step_walked P home p s) (version_after p i) ∷ rest_in P home m n c ps (step_walked P home p s) (version_after p i)
 
-states_are : (P : Program) (xs : List Name) (m : Interpretation) (n : ℕ) (c : path.Check) (ps : List path.PathStep) (s : Terms) (i : ℕ) → states_under m n (versions_along i ps) (state_bindings P xs ps c s) ≡ state_in P xs m n c ps s i ∷ rest_in P xs m n c ps s i
-states_are P xs m n c [] s i = refl
-states_are P xs m n c (p ∷ ps) s i = ap (λ zs. state_in P xs m n c (p ∷ ps) s i ∷ zs) (states_are P xs m n c ps (step_walked P xs p s) (version_after p i))
+states_are : (P : Program) (home : Procedure) (m : Interpretation) (n : ℕ) (c : path.Check) (ps : List path.PathStep) (s : Terms) (i : ℕ) → states_under m n (versions_along i ps) (state_bindings P home ps c s) ≡ state_in P home m n c ps s i ∷ rest_in P home m n c ps s i
+states_are P home m n c [] s i = refl
+states_are P home m n c (p ∷ ps) s i = ap (λ zs. state_in P home m n c (p ∷ ps) s i ∷ zs) (states_are P home m n c ps (step_walked P home p s) (version_after p i))
 
 -- all that is known from a state on
-record IsOnWay (P : Program) (xs : List Name) (m : Interpretation) (K : List Kind) (V : List ℕ) (at : ℕ → ℕ) (N : ℕ) (c : path.Check) (R : Name → Type 0) (ps : List path.PathStep) (s : Terms) (i : ℕ) : Type 0 where
-  prepared : ArePrepared P R ps c
-  ready : (n : Name) → R n → Allocated (heap_of m V i) (store_under at (here P xs ps c s) n)
-  steps : AreTrue m (steps_claims K i (term_steps P xs ps s))
-  within : Within (check_walked P c (steps_walked P xs ps s)).kinds K
+record IsOnWay (P : Program) (home : Procedure) (m : Interpretation) (K : List Kind) (V : List ℕ) (at : ℕ → ℕ) (N : ℕ) (c : path.Check) (R : Name → Type 0) (ps : List path.PathStep) (s : Terms) (i : ℕ) : Type 0 where
+  prepared : ArePrepared P home R ps c
+  ready : (n : Name) → R n → Allocated (heap_of m V i) (store_under at (here P home ps c s) n)
+  steps : AreTrue m (steps_claims K i (term_steps P home ps s))
+  within : Within (check_walked P home c (steps_walked P home ps s)).kinds K
   bounded : IsBounded s
   version : s.version ≡ i
-  last : N ≡ (steps_walked P xs ps s).version + 1
+  last : N ≡ (steps_walked P home ps s).version + 1
 
-record IsLed (P : Program) (c : path.Check) (x : State) (ps : List path.PathStep) (ys : List State) : Type 0 where
-  leads : IsTrace P x ps ys
-  fails : Passes P c (last_state x ys) → ⊥
+record IsLed (P : Program) (home : Procedure) (c : path.Check) (x : State) (ps : List path.PathStep) (ys : List State) : Type 0 where
+  leads : IsTrace P home x ps ys
+  fails : Passes P home c (last_state x ys) → ⊥
 
-along : (P : Program) (xs : List Name) (m : Interpretation) (K : List Kind) (V : List ℕ) (N : ℕ) (c : path.Check) → IsTyped P → AreGround m K V (class_of (equal_in m) (length K)) N → (R : Name → Type 0) (ps : List path.PathStep) (s : Terms) (i : ℕ) → IsOnWay P xs m K V (class_of (equal_in m) (length K)) N c R ps s i
-    → AreTrue m (check_claims K (N - 1) (term_check P c (steps_walked P xs ps s))) → IsLed P c (state_in P xs m (length K) c ps s i) ps (rest_in P xs m (length K) c ps s i)
-along P xs m K V N c typed G R [] s i I check =
+along : (P : Program) (home : Procedure) (m : Interpretation) (K : List Kind) (V : List ℕ) (N : ℕ) (c : path.Check) → IsTyped P → AreGround m K V (class_of (equal_in m) (length K)) N → (R : Name → Type 0) (ps : List path.PathStep) (s : Terms) (i : ℕ) → IsOnWay P home m K V (class_of (equal_in m) (length K)) N c R ps s i
+    → AreTrue m (check_claims K (N - 1) (term_check P home c (steps_walked P home ps s))) → IsLed P home c (state_in P home m (length K) c ps s i) ps (rest_in P home m (length K) c ps s i)
+along P home m K V N c typed G R [] s i I check =
     let at = class_of (equal_in m) (length K) in
     let v : N - 1 ≡ s.version = omega (arith, I.last) in
     let before : s.version < N = omega (arith, I.last) in
-    let st = store_under at (here P xs [] c s) in
-    let fails : Passes P c (make st (heap_of m V s.version)) → ⊥ = check_fails P xs m K V at N c R s record {
+    let st = store_under at (here P home [] c s) in
+    let fails : Passes P home c (make st (heap_of m V s.version)) → ⊥ = check_fails P home m K V at N c R s record {
       typed = typed;
       ground = G;
       prepared = I.prepared;
       ready = subst (λ j. (n : Name) → R n → Allocated (heap_of m V j) (st n)) (sym I.version) I.ready;
-      claims = subst (λ j. AreTrue m (check_claims K j (term_check P c s))) v check;
+      claims = subst (λ j. AreTrue m (check_claims K j (term_check P home c s))) v check;
       within = I.within;
       bounded = I.bounded;
       before = before;
     } in
-    let fails' : Passes P c (make st (heap_in m (length K) s.version)) → ⊥ = subst (λ h. Passes P c (make st h) → ⊥) (sym (G.heap s.version before)) fails in
-    record { leads = tt; fails = subst (λ j. Passes P c (make st (heap_in m (length K) j)) → ⊥) I.version fails' }
-along P xs m K V N c typed G R (p ∷ ps) s i I check =
+    let fails' : Passes P home c (make st (heap_in m (length K) s.version)) → ⊥ = subst (λ h. Passes P home c (make st h) → ⊥) (sym (G.heap s.version before)) fails in
+    record { leads = tt; fails = subst (λ j. Passes P home c (make st (heap_in m (length K) j)) → ⊥) I.version fails' }
+along P home m K V N c typed G R (p ∷ ps) s i I check =
     let at = class_of (equal_in m) (length K) in
     let n = length K in
-    let t = step_walked P xs p s in
-    let end = steps_walked P xs ps t in
-    let version : t.version ≡ version_after p s.version = prepared_version P xs R p s I.prepared.0 in
+    let t = step_walked P home p s in
+    let end = steps_walked P home ps t in
+    let version : t.version ≡ version_after p s.version = prepared_version P home R p s I.prepared.0 in
     let version' : t.version ≡ version_after p i = version ∙ ap (version_after p) I.version in
-    let within : Within t.kinds K = λ j k e. I.within j k (check_within P c end j k (steps_within P xs ps t j k e)) in
-    let before : s.version < N = omega (arith, I.last, steps_up P xs (p ∷ ps) s) in
-    let after : version_after p s.version < N = subst (λ j. j < N) version (omega (arith, I.last, steps_up P xs ps t)) in
-    let st = store_under at (here P xs (p ∷ ps) c s) in
-    let st' = store_under at (here P xs ps c t) in
-    let local : IsLocal P xs m K V at N c R p ps s = record {
+    let within : Within t.kinds K = λ j k e. I.within j k (check_within P home c end j k (steps_within P home ps t j k e)) in
+    let before : s.version < N = omega (arith, I.last, steps_up P home (p ∷ ps) s) in
+    let after : version_after p s.version < N = subst (λ j. j < N) version (omega (arith, I.last, steps_up P home ps t)) in
+    let st = store_under at (here P home (p ∷ ps) c s) in
+    let st' = store_under at (here P home ps c t) in
+    let local : IsLocal P home m K V at N c R p ps s = record {
       typed = typed;
       ground = G;
       prepared = I.prepared.0;
       ready = subst (λ j. (n : Name) → R n → Allocated (heap_of m V j) (st n)) (sym I.version) I.ready;
-      claims = subst (λ j. AreTrue m (step_claims K j (term_step P xs p s))) (sym I.version) (all_front m (step_claims K i (term_step P xs p s)) (steps_claims K (version_past i (term_step P xs p s)) (term_steps P xs ps t)) I.steps);
+      claims = subst (λ j. AreTrue m (step_claims K j (term_step P home p s))) (sym I.version) (all_front m (step_claims K i (term_step P home p s)) (steps_claims K (version_past i (term_step P home p s)) (term_steps P home ps t)) I.steps);
       within = within;
       bounded = I.bounded;
       before = before;
       after = after;
     } in
-    let built' : Takes P p (make st (heap_of m V s.version)) (make st' (heap_of m V (version_after p s.version))) = step_takes P xs m K V at N c R p ps s local in
-    let half : Takes P p (make st (heap_in m n s.version)) (make st' (heap_of m V (version_after p s.version))) = subst (λ h. Takes P p (make st h) (make st' (heap_of m V (version_after p s.version)))) (sym (G.heap s.version before)) built' in
-    let full : Takes P p (make st (heap_in m n s.version)) (make st' (heap_in m n (version_after p s.version))) = subst (λ h. Takes P p (make st (heap_in m n s.version)) (make st' h)) (sym (G.heap (version_after p s.version) after)) half in
-    let takes : Takes P p (make st (heap_in m n i)) (make st' (heap_in m n (version_after p i))) = subst (λ j. Takes P p (make st (heap_in m n j)) (make st' (heap_in m n (version_after p j)))) I.version full in
-    let rest = along P xs m K V N c typed G (ready_after p R) ps t (version_after p i) (record {
+    let built' : Takes P home p (make st (heap_of m V s.version)) (make st' (heap_of m V (version_after p s.version))) = step_takes P home m K V at N c R p ps s local in
+    let half : Takes P home p (make st (heap_in m n s.version)) (make st' (heap_of m V (version_after p s.version))) = subst (λ h. Takes P home p (make st h) (make st' (heap_of m V (version_after p s.version)))) (sym (G.heap s.version before)) built' in
+    let full : Takes P home p (make st (heap_in m n s.version)) (make st' (heap_in m n (version_after p s.version))) = subst (λ h. Takes P home p (make st (heap_in m n s.version)) (make st' h)) (sym (G.heap (version_after p s.version) after)) half in
+    let takes : Takes P home p (make st (heap_in m n i)) (make st' (heap_in m n (version_after p i))) = subst (λ j. Takes P home p (make st (heap_in m n j)) (make st' (heap_in m n (version_after p j)))) I.version full in
+    let rest = along P home m K V N c typed G (ready_after p R) ps t (version_after p i) (record {
       prepared = I.prepared.1;
-      ready = subst (λ j. (n : Name) → ready_after p R n → Allocated (heap_of m V (version_after p j)) (st' n)) I.version (ready_next P xs m K V at N c R p ps s local);
-      steps = subst (λ j. AreTrue m (steps_claims K j (term_steps P xs ps t))) (prepared_past P xs R p s i I.prepared.0)
-          (all_back m (step_claims K i (term_step P xs p s)) (steps_claims K (version_past i (term_step P xs p s)) (term_steps P xs ps t)) I.steps);
+      ready = subst (λ j. (n : Name) → ready_after p R n → Allocated (heap_of m V (version_after p j)) (st' n)) I.version (ready_next P home m K V at N c R p ps s local);
+      steps = subst (λ j. AreTrue m (steps_claims K j (term_steps P home ps t))) (prepared_past P home R p s i I.prepared.0)
+          (all_back m (step_claims K i (term_step P home p s)) (steps_claims K (version_past i (term_step P home p s)) (term_steps P home ps t)) I.steps);
       within = I.within;
-      bounded = step_bounded P xs p s I.bounded;
+      bounded = step_bounded P home p s I.bounded;
       version = version';
       last = I.last;
     }) check in
@@ -162,30 +161,29 @@ pub none_bounded : IsBounded no_terms
 none_bounded = record { some = omega arith; below = λ y t e. absurd cc }
 
 pub locality_holds : LocalityHolds
-locality_holds P c m typed is I =
-    let S = symbolic_of P c in
-    let xs = variable_names c.procedure in
+locality_holds P p c m typed is of I =
+    let S = symbolic_of P p c in
     let K = S.terms in
     let n = length K in
     let N = S.versions in
     let V : List ℕ = classes (equal_in m) n in
     let at = class_of (equal_in m) n in
-    let f = c.start.meets in
+    let f = path.meets_at p c.start in
     let ps = c.way.steps in
     let k = c.way.check in
-    let s = walked f no_terms in
-    let end = steps_walked P xs ps s in
-    let G = ground P c m I in
-    let parts = parts_true S m (all_claims P c m I) in
+    let s = begins p c.start in
+    let end = steps_walked P p ps s in
+    let G = ground P p c m I in
+    let parts = parts_true S m (all_claims P p c m I) in
     let version : s.version ≡ 0 = (walked_grows f no_terms).version in
-    let last : N ≡ end.version + 1 = ap (λ i. i + 1) (check_version P k end) in
-    let within : Within (check_walked P k end).kinds K = λ i l e. e in
-    let first : Within s.kinds K = λ i l e. check_within P k end i l (steps_within P xs ps s i l e) in
+    let last : N ≡ end.version + 1 = ap (λ i. i + 1) (check_version P p k end) in
+    let within : Within (check_walked P p k end).kinds K = λ i l e. e in
+    let first : Within s.kinds K = λ i l e. check_within P p k end i l (steps_within P p ps s i l e) in
     let bounded : IsBounded s = walked_bounded f no_terms none_bounded in
     let some : 0 < N = omega (arith, last) in
-    let sound : Sound K V (store_under at (here P xs ps k s)) (heap_of m V 0) s = state_sound m K V at N G 0 some (here P xs ps k s) s version first bounded (own_term P xs ps k s) in
-    let led = along P xs m K V N k typed G Nowhere ps s 0 (record {
-      prepared = paths_are_prepared P typed c.procedure is.declared c.start ps k is.begins is.leads;
+    let sound : Sound K V (store_under at (here P p ps k s)) (heap_of m V 0) s = state_sound m K V at N G 0 some (here P p ps k s) s version first bounded (own_term P p ps k s) in
+    let led = along P p m K V N k typed G Nowhere ps s 0 (record {
+      prepared = paths_are_prepared P p c typed is of;
       ready = λ y r. absurd r;
       steps = parts.steps;
       within = within;
@@ -193,11 +191,12 @@ locality_holds P c m typed is I =
       version = version;
       last = last;
     }) parts.check in
-    let st = store_under at (here P xs ps k s) in
-    let begins : Meaning f st (heap_of m V 0) = (whole_is m K V at N G st f no_terms some sound).0 parts.start in
-    let done : Counterexample P f ps k (state_in P xs m n k ps s 0) (rest_in P xs m n k ps s 0) = record {
-      begins = subst (Meaning f st) (sym (G.heap 0 some)) begins;
+    let st = store_under at (here P p ps k s) in
+    let begins' : Meaning f st (heap_of m V 0) = (whole_is m K V at N G st f no_terms some sound).0 parts.start in
+    let done : Counterexample P p f ps k (state_in P p m n k ps s 0) (rest_in P p m n k ps s 0) = record {
+      begins = subst (Meaning f st) (sym (G.heap 0 some)) begins';
       leads = led.leads;
       fails = led.fails;
     } in
-    subst (AreCounterexample P c) (sym (states_are P xs m n k ps s 0)) done
+    let all : AreCounterexample P c (state_in P p m n k ps s 0 ∷ rest_in P p m n k ps s 0) = (p, of, done) in
+    subst (AreCounterexample P c) (sym (states_are P p m n k ps s 0)) all

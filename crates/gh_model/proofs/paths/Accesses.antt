@@ -1,37 +1,36 @@
 -- A place that a path writes or frees was accessed right before.
-use Rattle.std.specs.Prelude.{◌≡◌, ℕ, suc, List, [], ◌∷◌, Option, Some, None, Contains}
-use Rattle.std.proofs.Common.{refl, subst, inl, inr}
+use Rattle.std.specs.Prelude.{◌≡◌, ℕ, suc, ◌+◌, List, [], ◌∷◌, length, Option, Some, None, slice_get}
+use Rattle.std.proofs.Common.{refl}
 use Rattle.gh_ast.specs.declared.Expr.{Expr}
 use Rattle.gh_ast.specs.declared.Expr.TheVariants.{Plain, Read}
-use Rattle.gh_ast.specs.Plain.{Test, compare, negation, conjunction, disjunction, Tests, no_tests, test_first, Statement, set, new, write, free, call, choice, loop, give, Statements, no_statements, statement_first, Procedure}
+use Rattle.gh_ast.specs.Plain.{Test, compare, negation, conjunction, disjunction, Tests, no_tests, test_first, Statement, set, new, write, free, call, choice, loop, give, Statements, no_statements, statement_first, Procedure, Program}
 use Rattle.gh_ast.specs.Programs.{Name, body_of}
-use Rattle.gh_ast.proofs.Lists.{member_cases, no_member}
-use Rattle.gh_path.specs.Graphs.{Check, PathStep, accessed, assume, assigned, made, written, freed, called, looped, answered, Graph, dead_end, ends, moves, guarded, fork, reads, all_reads, tested, all_tested, some_tested, lowered, all_lowered, Loop, Start, rounds, round, starts, loops_of, once_around}
+use Rattle.gh_path.specs.Graphs.{Check, PathStep, accessed, assume, assigned, made, written, freed, called, looped, answered, Graph, dead_end, ends, moves, guarded, fork, reads, all_reads, tested, all_tested, some_tested, lowered, all_lowered, Loop, loops, all_loops, loops_of, Start, whole_body, round, once_around, around, graph_from}
 use Rattle.gh_path.specs.Paths.{Path, at_end, arrived, past, on, on_true, on_false}
 
 -- the variable that a step accesses
 abbrev pub accesses : PathStep → Option Name
 accesses (accessed o) = Some o.name
-accesses (assume l e r way) = None
+accesses (assume l e r) = None
 accesses (assigned x e) = None
 accesses (made x) = None
 accesses (written x e) = None
 accesses (freed x) = None
-accesses (called ys f es) = None
-accesses (looped l) = None
-accesses (answered ys es) = None
+accesses (called ys n es) = None
+accesses (looped n) = None
+accesses (answered es) = None
 
 -- after an access of o
 abbrev pub IsReady : Option Name → PathStep → Type 0
 IsReady o (accessed x) = Unit {0}
-IsReady o (assume l e r way) = Unit {0}
+IsReady o (assume l e r) = Unit {0}
 IsReady o (assigned x e) = Unit {0}
 IsReady o (made x) = Unit {0}
 IsReady o (written x e) = o ≡ Some x.name
 IsReady o (freed x) = o ≡ Some x.name
-IsReady o (called ys f es) = Unit {0}
-IsReady o (looped l) = Unit {0}
-IsReady o (answered ys es) = Unit {0}
+IsReady o (called ys n es) = Unit {0}
+IsReady o (looped n) = Unit {0}
+IsReady o (answered es) = Unit {0}
 
 abbrev pub AreReady : Option Name → List PathStep → Type 0
 AreReady o [] = Unit {0}
@@ -54,14 +53,14 @@ path_ready o g ps c (on_false {l = l} {e = e} {r = r} {g = h} {k = h'} {ps = qs}
 
 none_ready : (o : Option Name) (p : PathStep) → IsReady None p → IsReady o p
 none_ready o (accessed x) A = tt
-none_ready o (assume l e r way) A = tt
+none_ready o (assume l e r) A = tt
 none_ready o (assigned x e) A = tt
 none_ready o (made x) A = tt
 none_ready o (written x e) A = absurd cc
 none_ready o (freed x) A = absurd cc
-none_ready o (called ys f es) A = tt
-none_ready o (looped l) A = tt
-none_ready o (answered ys es) A = tt
+none_ready o (called ys n es) A = tt
+none_ready o (looped n) A = tt
+none_ready o (answered es) A = tt
 
 weaker : (o : Option Name) (g : Graph) → AllReady None g → AllReady o g
 weaker o dead_end A = tt
@@ -94,32 +93,32 @@ mutual
   some_tested_ready (test_first t ts) g k A B = tested_ready t g (some_tested ts g k) A (some_tested_ready ts g k A B)
 
 mutual
-  lowered_ready : (p : Procedure) (s : Statement) (g : Graph) → AllReady None g → AllReady None (lowered p s g)
-  lowered_ready p (set x e) g A = reads_ready e (moves (assigned x e) g) (tt, A)
-  lowered_ready p (new x) g A = (tt, A)
-  lowered_ready p (write x e) g A = reads_ready e _ (tt, (refl, A))
-  lowered_ready p (free x) g A = (tt, (refl, A))
-  lowered_ready p (call xs f es) g A = all_reads_ready es _ (tt, A)
-  lowered_ready p (choice t a c b d) g A = tested_ready t (all_lowered p a g) (all_lowered p b g) (all_ready p a g A) (all_ready p b g A)
-  lowered_ready p (loop at t i body close) g A = (tt, tested_ready t dead_end g tt A)
-  lowered_ready p (give at es) g A = all_reads_ready es _ (tt, tt)
+  lowered_ready : (P : Program) (n : ℕ) (s : Statement) (g : Graph) → AllReady None g → AllReady None (lowered P n s g)
+  lowered_ready P n (set x e) g A = reads_ready e (moves (assigned x e) g) (tt, A)
+  lowered_ready P n (new x) g A = (tt, A)
+  lowered_ready P n (write x e) g A = reads_ready e _ (tt, (refl, A))
+  lowered_ready P n (free x) g A = (tt, (refl, A))
+  lowered_ready P n (call xs f es) g A = all_reads_ready es _ (tt, A)
+  lowered_ready P n (choice t a c b d) g A =
+      let m = n + length (all_loops a) in
+      tested_ready t (all_lowered P n a g) (all_lowered P m b g) (all_ready P n a g A) (all_ready P m b g A)
+  lowered_ready P n (loop at t i body close) g A = (tt, tested_ready t dead_end g tt A)
+  lowered_ready P n (give at es) g A = all_reads_ready es _ (tt, tt)
 
-  all_ready : (p : Procedure) (ss : Statements) (g : Graph) → AllReady None g → AllReady None (all_lowered p ss g)
-  all_ready p no_statements g A = A
-  all_ready p (statement_first s ss) g A = lowered_ready p s (all_lowered p ss g) (all_ready p ss g A)
+  all_ready : (P : Program) (n : ℕ) (ss : Statements) (g : Graph) → AllReady None g → AllReady None (all_lowered P n ss g)
+  all_ready P n no_statements g A = A
+  all_ready P n (statement_first s ss) g A = lowered_ready P n s (all_lowered P (n + length (loops s)) ss g) (all_ready P (n + length (loops s)) ss g A)
 
-round_ready : (p : Procedure) (l : Loop) → AllReady None (once_around p l)
-round_ready p l = tested_ready l.test _ dead_end (all_ready p l.body _ tt) tt
+round_ready : (P : Program) (n : ℕ) (l : Loop) → AllReady None (once_around P n l)
+round_ready P n l = tested_ready l.test _ dead_end (all_ready P (suc n) l.body _ tt) tt
 
-rounds_ready : (p : Procedure) (n : ℕ) (ls : List Loop) (a : Start) → Contains (rounds p n ls) a → AllReady None a.graph
-rounds_ready p n [] a c = absurd (no_member a c)
-rounds_ready p n (l ∷ ls) a c = elim (member_cases (round p n l) (rounds p (suc n) ls) a c) [
-  | inl same ↦ subst (λ (b : Start). AllReady None b.graph) same (round_ready p l)
-  | inr later ↦ rounds_ready p (suc n) ls a later
-]
+around_ready : (P : Program) (n : ℕ) (o : Option Loop) → AllReady None (around P n o)
+around_ready P n (Some l) = round_ready P n l
+around_ready P n None = tt
 
-pub start_ready : (p : Procedure) (a : Start) (ps : List PathStep) (c : Check) → Contains (starts p) a → Path a.graph ps c → AreReady None ps
-start_ready p a ps c here path = path_ready None a.graph ps c path (elim (member_cases _ (rounds p 0 (loops_of p)) a here) [
-  | inl same ↦ subst (λ (b : Start). AllReady None b.graph) same (all_ready p (body_of p) _ tt)
-  | inr later ↦ rounds_ready p 0 (loops_of p) a later
-])
+graph_ready : (P : Program) (p : Procedure) (a : Start) → AllReady None (graph_from P p a)
+graph_ready P p whole_body = all_ready P 0 (body_of p) _ tt
+graph_ready P p (round n) = around_ready P n (slice_get (loops_of p) n)
+
+pub start_ready : (P : Program) (p : Procedure) (a : Start) (ps : List PathStep) (c : Check) → Path (graph_from P p a) ps c → AreReady None ps
+start_ready P p a ps c path = path_ready None (graph_from P p a) ps c path (graph_ready P p a)

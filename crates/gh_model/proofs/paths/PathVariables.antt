@@ -1,6 +1,6 @@
 -- The names on a path of a typed program are variables of the procedure.
-use Rattle.std.specs.Prelude.{ℕ, suc, List, [], ◌∷◌, ◌++◌, map, Bool, true, false, Contains, All}
-use Rattle.std.proofs.Common.{sym, subst, inl, inr}
+use Rattle.std.specs.Prelude.{◌≡◌, ℕ, suc, ◌+◌, List, [], ◌∷◌, ◌++◌, length, map, Option, Some, None, Bool, true, false, slice_get, Contains, All}
+use Rattle.std.proofs.Common.{refl, sym, subst, inl, inr}
 use Rattle.std.proofs.lemmas.List.Elements.{Contains-append_left, Contains-append_right, Contains-append_cases}
 use Rattle.gh_ast.specs.declared.Occ.{Occ}
 use Rattle.gh_ast.specs.declared.Expr.{Expr}
@@ -13,9 +13,11 @@ use Rattle.gh_ast.specs.Rules.{IsTyped}
 use Rattle.gh_ast.proofs.Lists.{member_first, member_later, member_cases, no_member}
 use Rattle.gh_ast.proofs.Sites.{AllIn, member_map, occurrence_of, expr_in, test_in, formula_in, site_in_body}
 use Rattle.gh_ast.proofs.TypedPrograms.{mention_is_variable, needs_are_variables, gives_are_variables, variables_split}
-use Rattle.gh_path.specs.Graphs.{Check, access, entry, loop_entry, returned, loop_end, PathStep, accessed, assume, assigned, made, written, freed, called, looped, answered, Graph, dead_end, ends, moves, guarded, fork, reads, all_reads, visits, tested, all_tested, some_tested, lowered, all_lowered, Loop, loops, all_loops, loops_of, Start, rounds, round, starts}
+use Rattle.gh_path.specs.Graphs.{Check, access, entry, loop_entry, returned, loop_end, PathStep, accessed, assume, assigned, made, written, freed, called, looped, answered, Graph, dead_end, ends, moves, guarded, fork, reads, all_reads, visits, tested, all_tested, some_tested, number_of, lowered, all_lowered, Loop, loops, all_loops, loops_of, Start, whole_body, round, invariant_of, meets_at, around, graph_from}
+use Rattle.gh_path.specs.Kept.{IsLoop}
 use Rattle.gh_path.specs.Paths.{Path, at_end, arrived, past, on, on_true, on_false}
 use Rattle.gh_model.proofs.terms.Alternatives.{all_of_members}
+use Rattle.gh_path.proofs.ListLemmas.{member as numbered}
 
 abbrev pub AllOf : List Name → List Name → Type 0
 AllOf ys xs = (y : Name) → Contains ys y → Contains xs y
@@ -24,65 +26,72 @@ abbrev pub ExprsIn : List Expr → List Name → Type 0
 ExprsIn [] xs = Unit {0}
 ExprsIn (e ∷ es) xs = ExprIn e xs × ExprsIn es xs
 
-abbrev pub StepIn : List Name → PathStep → Type 0
-StepIn xs (accessed o) = Contains xs o.name
-StepIn xs (assume l e r way) = ExprIn l xs × ExprIn r xs
-StepIn xs (assigned x e) = Contains xs x.name × ExprIn e xs
-StepIn xs (made x) = Contains xs x.name
-StepIn xs (written x e) = Contains xs x.name × ExprIn e xs
-StepIn xs (freed x) = Contains xs x.name
-StepIn xs (called ys f es) = AllOf (names ys) xs × ExprsIn es xs
-StepIn xs (looped l) = FormulaIn l.invariant xs
-StepIn xs (answered ys es) = AllOf ys xs × ExprsIn es xs
+abbrev pub IsVariable : Procedure → Name → Type 0
+IsVariable q y = Contains (variable_names q) y
 
-abbrev pub CheckIn : List Name → Check → Type 0
-CheckIn xs (access o) = Contains xs o.name
-CheckIn xs (entry f es) = ExprsIn es xs
-CheckIn xs (loop_entry l) = FormulaIn l.invariant xs
-CheckIn xs (returned at fs) = All (λ f. FormulaIn f xs) fs
-CheckIn xs (loop_end l) = FormulaIn l.invariant xs
+-- the invariant of the loop of a number is over variables
+abbrev pub LoopIsIn : Procedure → ℕ → Type 0
+LoopIsIn q n = (l : Loop) → IsLoop q n l → FormulaIn l.invariant (variable_names q)
 
-abbrev pub PathIn : List Name → List PathStep → Check → Type 0
-PathIn xs [] c = CheckIn xs c
-PathIn xs (p ∷ ps) c = StepIn xs p × PathIn xs ps c
+abbrev pub StepIn : Procedure → PathStep → Type 0
+StepIn q (accessed o) = IsVariable q o.name
+StepIn q (assume l e r) = ExprIn l (variable_names q) × ExprIn r (variable_names q)
+StepIn q (assigned x e) = IsVariable q x.name × ExprIn e (variable_names q)
+StepIn q (made x) = IsVariable q x.name
+StepIn q (written x e) = IsVariable q x.name × ExprIn e (variable_names q)
+StepIn q (freed x) = IsVariable q x.name
+StepIn q (called ys n es) = AllOf (names ys) (variable_names q) × ExprsIn es (variable_names q)
+StepIn q (looped n) = LoopIsIn q n
+StepIn q (answered es) = AllOf (results_of q) (variable_names q) × ExprsIn es (variable_names q)
 
-abbrev GraphIn : List Name → Graph → Type 0
-GraphIn xs dead_end = Unit {0}
-GraphIn xs (ends c) = CheckIn xs c
-GraphIn xs (moves p g) = StepIn xs p × GraphIn xs g
-GraphIn xs (guarded c p g) = CheckIn xs c × StepIn xs p × GraphIn xs g
-GraphIn xs (fork l e r g k) = ExprIn l xs × ExprIn r xs × GraphIn xs g × GraphIn xs k
+abbrev pub CheckIn : Procedure → Check → Type 0
+CheckIn q (access o) = IsVariable q o.name
+CheckIn q (entry at n es) = ExprsIn es (variable_names q)
+CheckIn q (loop_entry at n) = LoopIsIn q n
+CheckIn q (returned at) = All (λ f. FormulaIn f (variable_names q)) q.gives
+CheckIn q (loop_end at n) = LoopIsIn q n
 
-path_in : (xs : List Name) (g : Graph) (ps : List PathStep) (c : Check) → Path g ps c → GraphIn xs g → PathIn xs ps c
-path_in xs g ps c (at_end {c = d}) A = A
-path_in xs g ps c (arrived {g = h} {p = p} {c = d}) A = A.0
-path_in xs g ps c (past {g = h} {d = d} {p = p} {ps = qs} {c = k} rest) A = (A.1, path_in xs h qs k rest A.2)
-path_in xs g ps c (on {g = h} {p = p} {ps = qs} {c = k} rest) A = (A.0, path_in xs h qs k rest A.1)
-path_in xs g ps c (on_true {l = l} {e = e} {r = r} {g = h} {k = h'} {ps = qs} {c = k} rest) A = ((A.0, A.1), path_in xs h qs k rest A.2)
-path_in xs g ps c (on_false {l = l} {e = e} {r = r} {g = h} {k = h'} {ps = qs} {c = k} rest) A = ((A.0, A.1), path_in xs h' qs k rest A.3)
+abbrev pub PathIn : Procedure → List PathStep → Check → Type 0
+PathIn q [] c = CheckIn q c
+PathIn q (p ∷ ps) c = StepIn q p × PathIn q ps c
 
-reads_in : (xs : List Name) (e : Expr) (g : Graph) → ExprIn e xs → GraphIn xs g → GraphIn xs (reads e g)
-reads_in xs (Plain o) g E A = A
-reads_in xs (Read o) g E A = (E, E, A)
+abbrev GraphIn : Procedure → Graph → Type 0
+GraphIn q dead_end = Unit {0}
+GraphIn q (ends c) = CheckIn q c
+GraphIn q (moves p g) = StepIn q p × GraphIn q g
+GraphIn q (guarded c p g) = CheckIn q c × StepIn q p × GraphIn q g
+GraphIn q (fork l e r g k) = ExprIn l (variable_names q) × ExprIn r (variable_names q) × GraphIn q g × GraphIn q k
 
-all_reads_in : (xs : List Name) (es : List Expr) (g : Graph) → ExprsIn es xs → GraphIn xs g → GraphIn xs (all_reads es g)
-all_reads_in xs [] g E A = A
-all_reads_in xs (e ∷ es) g E A = reads_in xs e (all_reads es g) E.0 (all_reads_in xs es g E.1 A)
+path_in : (q : Procedure) (g : Graph) (ps : List PathStep) (c : Check) → Path g ps c → GraphIn q g → PathIn q ps c
+path_in q g ps c (at_end {c = d}) A = A
+path_in q g ps c (arrived {g = h} {p = p} {c = d}) A = A.0
+path_in q g ps c (past {g = h} {d = d} {p = p} {ps = qs} {c = k} rest) A = (A.1, path_in q h qs k rest A.2)
+path_in q g ps c (on {g = h} {p = p} {ps = qs} {c = k} rest) A = (A.0, path_in q h qs k rest A.1)
+path_in q g ps c (on_true {l = l} {e = e} {r = r} {g = h} {k = h'} {ps = qs} {c = k} rest) A = ((A.0, A.1), path_in q h qs k rest A.2)
+path_in q g ps c (on_false {l = l} {e = e} {r = r} {g = h} {k = h'} {ps = qs} {c = k} rest) A = ((A.0, A.1), path_in q h' qs k rest A.3)
+
+reads_in : (q : Procedure) (e : Expr) (g : Graph) → ExprIn e (variable_names q) → GraphIn q g → GraphIn q (reads e g)
+reads_in q (Plain o) g E A = A
+reads_in q (Read o) g E A = (E, E, A)
+
+all_reads_in : (q : Procedure) (es : List Expr) (g : Graph) → ExprsIn es (variable_names q) → GraphIn q g → GraphIn q (all_reads es g)
+all_reads_in q [] g E A = A
+all_reads_in q (e ∷ es) g E A = reads_in q e (all_reads es g) E.0 (all_reads_in q es g E.1 A)
 
 mutual
-  tested_in : (xs : List Name) (t : Test) (g k : Graph) → TestIn t xs → GraphIn xs g → GraphIn xs k → GraphIn xs (tested t g k)
-  tested_in xs (compare l e r) g k T A B = reads_in xs l (reads r (fork l e r g k)) T.0 (reads_in xs r (fork l e r g k) T.1 (T.0, T.1, A, B))
-  tested_in xs (negation t) g k T A B = tested_in xs t k g T B A
-  tested_in xs (conjunction ts) g k T A B = all_tested_in xs ts g k T A B
-  tested_in xs (disjunction ts) g k T A B = some_tested_in xs ts g k T A B
+  tested_in : (q : Procedure) (t : Test) (g k : Graph) → TestIn t (variable_names q) → GraphIn q g → GraphIn q k → GraphIn q (tested t g k)
+  tested_in q (compare l e r) g k T A B = reads_in q l (reads r (fork l e r g k)) T.0 (reads_in q r (fork l e r g k) T.1 (T.0, T.1, A, B))
+  tested_in q (negation t) g k T A B = tested_in q t k g T B A
+  tested_in q (conjunction ts) g k T A B = all_tested_in q ts g k T A B
+  tested_in q (disjunction ts) g k T A B = some_tested_in q ts g k T A B
 
-  all_tested_in : (xs : List Name) (ts : Tests) (g k : Graph) → TestsIn ts xs → GraphIn xs g → GraphIn xs k → GraphIn xs (all_tested ts g k)
-  all_tested_in xs no_tests g k T A B = A
-  all_tested_in xs (test_first t ts) g k T A B = tested_in xs t (all_tested ts g k) k T.0 (all_tested_in xs ts g k T.1 A B) B
+  all_tested_in : (q : Procedure) (ts : Tests) (g k : Graph) → TestsIn ts (variable_names q) → GraphIn q g → GraphIn q k → GraphIn q (all_tested ts g k)
+  all_tested_in q no_tests g k T A B = A
+  all_tested_in q (test_first t ts) g k T A B = tested_in q t (all_tested ts g k) k T.0 (all_tested_in q ts g k T.1 A B) B
 
-  some_tested_in : (xs : List Name) (ts : Tests) (g k : Graph) → TestsIn ts xs → GraphIn xs g → GraphIn xs k → GraphIn xs (some_tested ts g k)
-  some_tested_in xs no_tests g k T A B = B
-  some_tested_in xs (test_first t ts) g k T A B = tested_in xs t g (some_tested ts g k) T.0 A (some_tested_in xs ts g k T.1 A B)
+  some_tested_in : (q : Procedure) (ts : Tests) (g k : Graph) → TestsIn ts (variable_names q) → GraphIn q g → GraphIn q k → GraphIn q (some_tested ts g k)
+  some_tested_in q no_tests g k T A B = B
+  some_tested_in q (test_first t ts) g k T A B = tested_in q t g (some_tested ts g k) T.0 A (some_tested_in q ts g k T.1 A B)
 
 -- the names at sites
 abbrev SitesIn : List Name → List Site → Type 0
@@ -106,49 +115,6 @@ exprs_in xs (e ∷ es) A = (expr_in e xs (λ o c. A o (Contains-append_left (in_
 
 targets_in : (xs : List Name) (os : List Occ) → AllIn os xs → AllOf (names os) xs
 targets_in xs os A y c = let found = occurrence_of os y c in subst (Contains xs) found.2 (A found.0 found.1)
-
--- what a procedure gives, and its results
-record IsOwn (q : Procedure) (xs : List Name) : Type 0 where
-  gives : All (λ f. FormulaIn f xs) q.gives
-  results : AllOf (results_of q) xs
-
-mutual
-  lowered_in : (xs : List Name) (q : Procedure) (inside : Bool) (s : Statement) (g : Graph) → IsOwn q xs → SitesIn xs (sites_in inside s) → GraphIn xs g → GraphIn xs (lowered q s g)
-  lowered_in xs q inside (set x e) g O S A =
-      let all = mentions_in xs (x ∷ in_expr e) (sites_past xs (assigned_at (x ∷ [])) (map mentioned (x ∷ in_expr e)) S) in
-      let E : ExprIn e xs = expr_in e xs (λ o c. all o (member_later x o (in_expr e) c)) in
-      reads_in xs e (moves (assigned x e) g) E ((all x (member_first x (in_expr e)), E), A)
-  lowered_in xs q inside (new x) g O S A = (S x (member_later (assigned_at (x ∷ [])) (mentioned x) (mentioned x ∷ []) (member_first (mentioned x) [])), A)
-  lowered_in xs q inside (write x e) g O S A =
-      let all = mentions_in xs (x ∷ in_expr e) S in
-      let E : ExprIn e xs = expr_in e xs (λ o c. all o (member_later x o (in_expr e) c)) in
-      let X : Contains xs x.name = all x (member_first x (in_expr e)) in
-      reads_in xs e (visits x (moves (written x e) g)) E (X, X, ((X, E), A))
-  lowered_in xs q inside (free x) g O S A = let X : Contains xs x.name = S x (member_first (mentioned x) []) in (X, X, (X, A))
-  lowered_in xs q inside (call ts f es) g O S A =
-      let rest = map mentioned (ts ++ in_exprs es) in
-      let all = mentions_in xs (ts ++ in_exprs es) (sites_past xs (called_at ts f es) rest (sites_past xs (assigned_at ts) (called_at ts f es ∷ rest) S)) in
-      let E = exprs_in xs es (λ o c. all o (Contains-append_right ts (in_exprs es) o c)) in
-      all_reads_in xs es (guarded (entry f es) (called ts f es) g) E (E, (targets_in xs ts (λ o c. all o (Contains-append_left ts (in_exprs es) o c)), E), A)
-  lowered_in xs q inside (choice t a c b d) g O S A =
-      let front = sites_left xs (map mentioned (in_test t) ++ all_sites_in inside a) (all_sites_in inside b) S in
-      tested_in xs t (all_lowered q a g) (all_lowered q b g)
-      (test_in t xs (mentions_in xs (in_test t) (sites_left xs (map mentioned (in_test t)) (all_sites_in inside a) front)))
-      (all_lowered_in xs q inside a g O (sites_right xs (map mentioned (in_test t)) (all_sites_in inside a) front) A)
-      (all_lowered_in xs q inside b g O (sites_right xs (map mentioned (in_test t) ++ all_sites_in inside a) (all_sites_in inside b) S) A)
-  lowered_in xs q inside (loop at t i body close) g O S A =
-      let all = mentions_in xs (in_test t ++ in_formula i) (sites_left xs (map mentioned (in_test t ++ in_formula i)) (all_sites_in true body) S) in
-      let I : FormulaIn i xs = formula_in i xs (λ o c. all o (Contains-append_right (in_test t) (in_formula i) o c)) in
-      (I, I, tested_in xs t dead_end g (test_in t xs (λ o c. all o (Contains-append_left (in_test t) (in_formula i) o c))) tt A)
-  lowered_in xs q inside (give at es) g O S A =
-      let E = exprs_in xs es (mentions_in xs (in_exprs es) (sites_past xs (returned_at inside at es) (map mentioned (in_exprs es)) S)) in
-      all_reads_in xs es (moves (answered (results_of q) es) (ends (returned at q.gives))) E ((O.results, E), O.gives)
-
-  all_lowered_in : (xs : List Name) (q : Procedure) (inside : Bool) (ss : Statements) (g : Graph) → IsOwn q xs → SitesIn xs (all_sites_in inside ss) → GraphIn xs g → GraphIn xs (all_lowered q ss g)
-  all_lowered_in xs q inside no_statements g O S A = A
-  all_lowered_in xs q inside (statement_first s ss) g O S A =
-      lowered_in xs q inside s (all_lowered q ss g) O (sites_left xs (sites_in inside s) (all_sites_in inside ss) S)
-      (all_lowered_in xs q inside ss g O (sites_right xs (sites_in inside s) (all_sites_in inside ss) S) A)
 
 -- a loop's test, invariant and body
 record LoopIn (xs : List Name) (l : Loop) : Type 0 where
@@ -191,31 +157,94 @@ mutual
     | inr second ↦ loops_in xs inside ss l (sites_right xs (sites_in inside s) (all_sites_in inside ss) S) second
   ]
 
--- a start's assertion and graph
-pub record StartIn (xs : List Name) (a : Start) : Type 0 where
-  pub meets : FormulaIn a.meets xs
-  pub graph : (ps : List PathStep) (c : Check) → Path a.graph ps c → PathIn xs ps c
+-- what a procedure gives, its results, and its loops
+record IsOwn (q : Procedure) : Type 0 where
+  gives : All (λ f. FormulaIn f (variable_names q)) q.gives
+  results : AllOf (results_of q) (variable_names q)
+  loops : (n : ℕ) (l : Loop) → IsLoop q n l → LoopIn (variable_names q) l
 
-rounds_in : (xs : List Name) (q : Procedure) (n : ℕ) (ls : List Loop) (a : Start) → IsOwn q xs → ((l : Loop) → Contains ls l → LoopIn xs l) → Contains (rounds q n ls) a → StartIn xs a
-rounds_in xs q n [] a O N c = absurd (no_member a c)
-rounds_in xs q n (l ∷ ls) a O N c = elim (member_cases (round q n l) (rounds q (suc n) ls) a c) [
-  | inl same ↦ subst (λ (b : Start). StartIn xs b) same
-      (let L = N l (member_first l ls) in
-      record { meets = L.invariant; graph = λ ps k way. path_in xs (round q n l).graph ps k way (tested_in xs l.test (all_lowered q l.body (ends (loop_end l))) dead_end L.test (all_lowered_in xs q true l.body (ends (loop_end l)) O L.body L.invariant) tt) })
-  | inr more ↦ rounds_in xs q (suc n) ls a O (λ k m. N k (member_later l k ls m)) more
-]
+loop_is_in : (q : Procedure) → IsOwn q → (n : ℕ) → LoopIsIn q n
+loop_is_in q O n l is = (O.loops n l is).invariant
+
+mutual
+  lowered_in : (P : Program) (q : Procedure) (inside : Bool) (n : ℕ) (s : Statement) (g : Graph) → IsOwn q → SitesIn (variable_names q) (sites_in inside s) → GraphIn q g → GraphIn q (lowered P n s g)
+  lowered_in P q inside n (set x e) g O S A =
+      let xs = variable_names q in
+      let all = mentions_in xs (x ∷ in_expr e) (sites_past xs (assigned_at (x ∷ [])) (map mentioned (x ∷ in_expr e)) S) in
+      let E : ExprIn e xs = expr_in e xs (λ o c. all o (member_later x o (in_expr e) c)) in
+      reads_in q e (moves (assigned x e) g) E ((all x (member_first x (in_expr e)), E), A)
+  lowered_in P q inside n (new x) g O S A = (S x (member_later (assigned_at (x ∷ [])) (mentioned x) (mentioned x ∷ []) (member_first (mentioned x) [])), A)
+  lowered_in P q inside n (write x e) g O S A =
+      let xs = variable_names q in
+      let all = mentions_in xs (x ∷ in_expr e) S in
+      let E : ExprIn e xs = expr_in e xs (λ o c. all o (member_later x o (in_expr e) c)) in
+      let X : Contains xs x.name = all x (member_first x (in_expr e)) in
+      reads_in q e (visits x (moves (written x e) g)) E (X, X, ((X, E), A))
+  lowered_in P q inside n (free x) g O S A = let X : IsVariable q x.name = S x (member_first (mentioned x) []) in (X, X, (X, A))
+  lowered_in P q inside n (call ts f es) g O S A =
+      let xs = variable_names q in
+      let rest = map mentioned (ts ++ in_exprs es) in
+      let all = mentions_in xs (ts ++ in_exprs es) (sites_past xs (called_at ts f es) rest (sites_past xs (assigned_at ts) (called_at ts f es ∷ rest) S)) in
+      let E = exprs_in xs es (λ o c. all o (Contains-append_right ts (in_exprs es) o c)) in
+      let m = number_of P f.name in
+      all_reads_in q es (guarded (entry f.span m es) (called ts m es) g) E (E, (targets_in xs ts (λ o c. all o (Contains-append_left ts (in_exprs es) o c)), E), A)
+  lowered_in P q inside n (choice t a c b d) g O S A =
+      let xs = variable_names q in
+      let m = n + length (all_loops a) in
+      let front = sites_left xs (map mentioned (in_test t) ++ all_sites_in inside a) (all_sites_in inside b) S in
+      tested_in q t (all_lowered P n a g) (all_lowered P m b g)
+      (test_in t xs (mentions_in xs (in_test t) (sites_left xs (map mentioned (in_test t)) (all_sites_in inside a) front)))
+      (all_lowered_in P q inside n a g O (sites_right xs (map mentioned (in_test t)) (all_sites_in inside a) front) A)
+      (all_lowered_in P q inside m b g O (sites_right xs (map mentioned (in_test t) ++ all_sites_in inside a) (all_sites_in inside b) S) A)
+  lowered_in P q inside n (loop at t i body close) g O S A =
+      let xs = variable_names q in
+      let all = mentions_in xs (in_test t ++ in_formula i) (sites_left xs (map mentioned (in_test t ++ in_formula i)) (all_sites_in true body) S) in
+      (loop_is_in q O n, loop_is_in q O n, tested_in q t dead_end g (test_in t xs (λ o c. all o (Contains-append_left (in_test t) (in_formula i) o c))) tt A)
+  lowered_in P q inside n (give at es) g O S A =
+      let xs = variable_names q in
+      let E = exprs_in xs es (mentions_in xs (in_exprs es) (sites_past xs (returned_at inside at es) (map mentioned (in_exprs es)) S)) in
+      all_reads_in q es (moves (answered es) (ends (returned at))) E ((O.results, E), O.gives)
+
+  all_lowered_in : (P : Program) (q : Procedure) (inside : Bool) (n : ℕ) (ss : Statements) (g : Graph) → IsOwn q → SitesIn (variable_names q) (all_sites_in inside ss) → GraphIn q g → GraphIn q (all_lowered P n ss g)
+  all_lowered_in P q inside n no_statements g O S A = A
+  all_lowered_in P q inside n (statement_first s ss) g O S A =
+      let xs = variable_names q in
+      let m = n + length (loops s) in
+      lowered_in P q inside n s (all_lowered P m ss g) O (sites_left xs (sites_in inside s) (all_sites_in inside ss) S)
+      (all_lowered_in P q inside m ss g O (sites_right xs (sites_in inside s) (all_sites_in inside ss) S) A)
 
 results_are_variables : (q : Procedure) → AllOf (results_of q) (variable_names q)
 results_are_variables q y c = subst (λ ys. Contains ys y) (sym (variables_split q)) (Contains-append_left _ (names (locals_of q)) y (Contains-append_right _ (results_of q) y c))
 
+-- a start's assertion and graph
+abbrev IsStartIn : Program → Procedure → Start → Type 0
+IsStartIn P q a = FormulaIn (meets_at q a) (variable_names q) × GraphIn q (graph_from P q a)
+
+around_in : (P : Program) (q : Procedure) (n : ℕ) → IsOwn q → (o : Option Loop) → slice_get (loops_of q) n ≡ o → FormulaIn (invariant_of o) (variable_names q) × GraphIn q (around P n o)
+around_in P q n O (Some l) e =
+    let L = O.loops n l e in
+    let end = ends (loop_end l.close n) in
+    (L.invariant, tested_in q l.test (all_lowered P (suc n) l.body end) dead_end L.test (all_lowered_in P q true (suc n) l.body end O L.body (loop_is_in q O n)) tt)
+around_in P q n O None e = (tt, tt)
+
+is_start_in : (P : Program) (q : Procedure) → IsOwn q → FormulaIn q.needs (variable_names q) → SitesIn (variable_names q) (all_sites_in false (body_of q)) → (a : Start) → IsStartIn P q a
+is_start_in P q O needs S whole_body = (needs, all_lowered_in P q false 0 (body_of q) (ends (returned q.close)) O S O.gives)
+is_start_in P q O needs S (round n) = around_in P q n O (slice_get (loops_of q) n) refl
+
+-- .. and each path from it
+pub record StartIn (P : Program) (q : Procedure) (a : Start) : Type 0 where
+  pub meets : FormulaIn (meets_at q a) (variable_names q)
+  pub graph : (ps : List PathStep) (c : Check) → Path (graph_from P q a) ps c → PathIn q ps c
+
 -- the names of a start and of each path from it
-pub start_in : (P : Program) → IsTyped P → (q : Procedure) → Contains P.procedures q → (a : Start) → Contains (starts q) a → StartIn (variable_names q) a
-start_in P typed q here a at =
+pub start_in : (P : Program) → IsTyped P → (q : Procedure) → Contains P.procedures q → (a : Start) → StartIn P q a
+start_in P typed q here a =
     let xs = variable_names q in
-    let O : IsOwn q xs = record { gives = all_of_members (λ f. FormulaIn f xs) q.gives (gives_are_variables P typed q here); results = results_are_variables q } in
     let S : SitesIn xs (all_sites_in false (body_of q)) = λ o c. mention_is_variable P typed q here o (site_in_body q (mentioned o) c) in
-    elim (member_cases _ (rounds q 0 (loops_of q)) a at) [
-      | inl same ↦ subst (λ (b : Start). StartIn xs b) same
-          (record { meets = needs_are_variables P typed q here; graph = λ ps k way. path_in xs (all_lowered q (body_of q) (ends (returned q.close q.gives))) ps k way (all_lowered_in xs q false (body_of q) (ends (returned q.close q.gives)) O S O.gives) })
-      | inr more ↦ rounds_in xs q 0 (loops_of q) a O (λ l m. loops_in xs false (body_of q) l S m) more
-    ]
+    let O : IsOwn q = record {
+      gives = all_of_members (λ f. FormulaIn f xs) q.gives (gives_are_variables P typed q here);
+      results = results_are_variables q;
+      loops = λ n l is. loops_in xs false (body_of q) l S (numbered (loops_of q) n l is);
+    } in
+    let both : IsStartIn P q a = is_start_in P q O (needs_are_variables P typed q here) S a in
+    record { meets = both.0; graph = λ ps k way. path_in q (graph_from P q a) ps k way both.1 }

@@ -8,7 +8,7 @@ use Rattle.gh_base.specs.declared.atom.Term.{Term}
 use Rattle.gh_base.specs.declared.atom.Atom.TheVariants.{Btwn, Hop, Alloc}
 use Rattle.gh_base.specs.declared.sizes.Sizes.{Sizes}
 use Rattle.gh_base.specs.Meaning.{Interpretation, IsCongruence, lit_truth, under as signed}
-use Rattle.gh_ast.specs.Plain.{Program, Test, compare, negation, conjunction, disjunction, Tests, no_tests, test_first, Formula, empty, comparison, points_to, cell, segment, star, cases, Formulas, no_formulas, formula_first}
+use Rattle.gh_ast.specs.Plain.{Procedure, Program, Test, compare, negation, conjunction, disjunction, Tests, no_tests, test_first, Formula, empty, comparison, points_to, cell, segment, star, cases, Formulas, no_formulas, formula_first}
 use Rattle.gh_path.specs.Conditions.{Condition}
 use Rattle.gh_inst.specs.declared.schema.Shape.{Shape}
 use Rattle.gh_inst.specs.declared.schema.Shape.TheVariants.{Equal, Btwn as Between, Hop as Step, Alloc as Allocated}
@@ -232,11 +232,11 @@ pub instance_stays : (m n : Interpretation) → IsOneBefore 0 m n → (name : In
 instance_stays m n B name t = Any-from_list_any (lit_truth n) (clause_of name) (sym (row_stays m n B name (row_with name.row table)) ∙ list_any-from_Any (lit_truth m) (clause_of name) t)
 
 -- definitions can be given values that make all clauses true
-pub model_from : (P : Program) (c : Condition) (m : Interpretation) → Satisfies P c m → (n : Interpretation) × IsOneBefore 0 m n × IsModelOf P c n
-model_from P c m S =
-    let fs = claims (symbolic_of P c) in
-    let made' = formulas_give_clauses m fs 0 (all_plain fs (plain_claims (symbolic_of P c))) S.formulas in
-    let sizes = (problem (symbolic_of P c)).sizes in (
+pub model_from : (P : Program) (p : Procedure) (c : Condition) (m : Interpretation) → Satisfies P p c m → (n : Interpretation) × IsOneBefore 0 m n × IsModelOf P p c n
+model_from P p c m S =
+    let fs = claims (symbolic_of P p c) in
+    let made' = formulas_give_clauses m fs 0 (all_plain fs (plain_claims (symbolic_of P p c))) S.formulas in
+    let sizes = (problem (symbolic_of P p c)).sizes in (
       made'.0,
       made'.1,
       record {
@@ -247,7 +247,7 @@ model_from P c m S =
     )
 
 pub traces_give_models : TracesGiveModels
-traces_give_models P c x ys typed is C =
-    let (m, S) = traces_satisfy P c x ys typed is C in
-    let made' = model_from P c m S in
+traces_give_models P p c x ys typed is of C =
+    let (m, S) = traces_satisfy P p c x ys typed is of C in
+    let made' = model_from P p c m S in
     (made'.0, made'.2)

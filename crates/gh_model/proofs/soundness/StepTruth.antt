@@ -1,5 +1,5 @@
 -- The formulas of the steps of a counterexample.
-use Rattle.std.specs.Prelude.{◌≡◌, ℕ, ◌+◌, ◌<◌, List, [], ◌∷◌, length, filter, slice_get, Option, Some, None, Bool, true, false, not, cond, ◌==◌, Contains}
+use Rattle.std.specs.Prelude.{◌≡◌, ℕ, ◌+◌, ◌<◌, List, [], ◌∷◌, length, slice_get, Option, Some, None, Bool, true, ◌==◌, Contains}
 use Rattle.std.specs.FinMap.{get, insert, remove}
 use Rattle.std.proofs.Common.{refl, sym, ◌∙◌, ap, subst, arith}
 use Rattle.std.proofs.lemmas.List.Elements.{All-nil, All-cons, All-append}
@@ -7,8 +7,7 @@ use Rattle.gh_base.specs.Meaning.{Interpretation}
 use Rattle.gh_ast.specs.declared.Occ.{Occ}
 use Rattle.gh_ast.specs.declared.Expr.{Expr}
 use Rattle.gh_ast.specs.Plain.{Formula, Procedure, Program}
-use Rattle.gh_ast.specs.Programs.{Name, names, results_of}
-use Rattle.gh_ast.proofs.Declared.{is_member}
+use Rattle.gh_ast.specs.Programs.{Name, names, results_of, variable_names}
 use Rattle.gh_assert.specs.Heaps.{Heap, IsProper}
 use Rattle.gh_assert.specs.Meaning.{Store, Meaning, agrees}
 use Rattle.gh_assert.specs.Values.{result, compared as outcome_of}
@@ -16,13 +15,12 @@ use Rattle.gh_assert.specs.Ownership.{Owned}
 use Rattle.gh_assert.proofs.Cells.{get_put, get_beside}
 use Rattle.gh_assert.proofs.Unique.{get_removed, get_kept}
 use Rattle.gh_path.specs.Graphs as path
-use Rattle.gh_path.specs.Terms.{Kind, next, Terms, used, term_of, expr_used, expr_term, exprs_used, exprs_terms, walked, each_walked, moved_on, rebound, renewed, some_assigns, bound_inside, call_walked, step_walked, steps_walked}
-use Rattle.gh_path.proofs.FormLemmas.{callee_found}
+use Rattle.gh_path.specs.Terms.{Kind, next, Terms, used, term_of, expr_used, expr_term, exprs_used, exprs_terms, walked, each_walked, moved_on, rebound, bound_inside, call_walked, step_walked, steps_walked}
 use Rattle.gh_grass.specs.Bindings.{term}
 use Rattle.gh_grass.specs.Claims.{Claim}
 use Rattle.gh_grass.specs.Footprints.{compared}
 use Rattle.gh_grass.specs.Truth.{truth, AreTrue}
-use Rattle.gh_symb.specs.Symbolic.{under, each_under, call_parts, term_step, term_steps, state_bindings}
+use Rattle.gh_symb.specs.Symbolic.{under, each_under, call_parts, loop_parts, term_step, term_steps, state_bindings}
 use Rattle.gh_symb.specs.Formulas.{allocated, variables, successor, parts_claims, step_claims, steps_claims, version_after as version_past}
 use Rattle.gh_trace.specs.Traces.{State, Replaced, Takes, IsTrace}
 use Rattle.gh_trace.specs.Laws.{HasOwnNames}
@@ -34,12 +32,13 @@ use Rattle.gh_model.specs.Homomorphisms.{IsHomomorphism, IsPreserved}
 use Rattle.gh_model.specs.TermValues.{version_after, HasResultValues, HaveValues}
 use Rattle.gh_model.proofs.terms.Extension.{Within, stays, bound_same, followed_grows, expr_grows, exprs_grow, walked_grows, each_grows}
 use Rattle.gh_model.proofs.terms.Denotation.{Sound, listed, term_at, formula_named, expr_value, exprs_values}
-use Rattle.gh_model.proofs.terms.Callees.{with_results, renewed_within, renewed_version, inside_before, inside_after}
+use Rattle.gh_model.proofs.terms.Callees.{with_results, with_assigned, assigned_version, renewed_within, renewed_version, inside_before, inside_after}
 use Rattle.gh_model.proofs.terms.Alternatives.{walked_there, alternative_sound, one_met, part_one}
 use Rattle.gh_model.proofs.reading.Assertions.{compared_truth, value_truth}
 use Rattle.gh_model.proofs.reading.StepFormulas.{writes_are_preserved, news_are_preserved, frees_are_preserved, calls_are_preserved}
 use Rattle.gh_model.proofs.heaps.StructureSteps.{writes_are_represented, news_are_represented, frees_are_represented, calls_are_represented}
-use Rattle.gh_model.proofs.ownership.Traces.{step_version, steps_within, first_values, IsStep, sound_used, sound_after, one_given, same_number}
+use Rattle.gh_model.proofs.ownership.Traces.{step_version, steps_within, first_values, IsStep, sound_used, sound_after, loop_sound, one_given, same_number}
+use Rattle.gh_path.proofs.ListLemmas.{member as numbered}
 use Rattle.gh_model.proofs.soundness.TraceValues.{HeapsAre, first_heap}
 use Rattle.gh_model.proofs.soundness.Interpretation.{value_at, value_of, within_list, reflection, reflection_homomorphism, walked_preserved}
 use Rattle.gh_model.proofs.soundness.Versions.{AreVersions}
@@ -80,51 +79,41 @@ called_of : (f g : Formula) (s t : Store) (h k : Heap) → Replaced f s h (Meani
 called_of f g s t h k R = record { given = R.part; back = R.other; rest = R.frame; before = R.splits; after = R.joins; meets = R.met; returns = R.meets }
 
 -- what a comparison gave
-both_known : (e : Bool) (a b : Option ℕ) (way : Bool) → outcome_of e a b ≡ Some way → (u : ℕ) × (v : ℕ) × (a ≡ Some u) × (b ≡ Some v) × (agrees e (u == v) ≡ way)
-both_known e (Some u) (Some v) way is = (u, v, refl, refl, cc)
-both_known e (Some u) None way is = absurd cc
-both_known e None b way is = absurd cc
-
-not_not : (a : Bool) → not (not a) ≡ a
-not_not true = refl
-not_not false = refl
-
-turned : (e way a : Bool) → agrees e a ≡ way → agrees (cond way e (not e)) a ≡ true
-turned true true a is = is
-turned true false a is = ap not is
-turned false true a is = is
-turned false false a is = sym (not_not a) ∙ ap not is
+both_known : (e : Bool) (a b : Option ℕ) → outcome_of e a b ≡ Some true → (u : ℕ) × (v : ℕ) × (a ≡ Some u) × (b ≡ Some v) × (agrees e (u == v) ≡ true)
+both_known e (Some u) (Some v) is = (u, v, refl, refl, cc)
+both_known e (Some u) None is = absurd cc
+both_known e None b is = absurd cc
 
 pub one_claim : (m : Interpretation) (g : Claim) → truth m g ≡ true → AreTrue m (g ∷ [])
 one_claim m g e = All-cons (λ u. truth m u ≡ true) g [] e (All-nil (λ u. truth m u ≡ true))
 
-access_true : (P : Program) (xs : List Name) (K : List Kind) (V : List ℕ) (H : ℕ → Heap) (M : ℕ → Structure) → AreVersions V K H M → (c : path.Check) (o : Occ) (ps : List path.PathStep) (s : Terms) (x y : State) → IsStep P xs K V c (path.accessed o) ps s x y → H s.version ≡ x.heap → AreTrue (reflection V M) (step_claims K s.version (term_step P xs (path.accessed o) s))
-access_true P xs K V H M A c o ps s x y I at =
-    let S : Sound K V x.store x.heap (used o.name s) = sound_used P xs K V c (path.accessed o) ps s x y I (λ i k e. I.within i k ((followed_grows o.name (used o.name s)).kinds i k e)) in
+access_true : (P : Program) (home : Procedure) (K : List Kind) (V : List ℕ) (H : ℕ → Heap) (M : ℕ → Structure) → AreVersions V K H M → (c : path.Check) (o : Occ) (ps : List path.PathStep) (s : Terms) (x y : State) → IsStep P home K V c (path.accessed o) ps s x y → H s.version ≡ x.heap → AreTrue (reflection V M) (step_claims K s.version (term_step P home (path.accessed o) s))
+access_true P home K V H M A c o ps s x y I at =
+    let S : Sound K V x.store x.heap (used o.name s) = sound_used P home K V c (path.accessed o) ps s x y I (λ i k e. I.within i k ((followed_grows o.name (used o.name s)).kinds i k e)) in
     let t = term_of o.name (used o.name s) in
     let value' : slice_get V t ≡ Some (x.store o.name) = term_at K V x.store x.heap o.name s (used o.name s) (stays (used o.name s)) S in
     let is : value_at V t ≡ x.store o.name = value_of V t (x.store o.name) value' in
     let T : Represents V x.heap (M s.version) = subst (λ g. Represents V g (M s.version)) at (A.represents s.version) in
     one_claim (reflection V M) (allocated s.version (term t)) (ap (M s.version).alloc is ∙ (T.alloc (x.store o.name) (listed V t (x.store o.name) value')).1 I.takes.0)
 
-assume_true : (P : Program) (xs : List Name) (K : List Kind) (V : List ℕ) (H : ℕ → Heap) (M : ℕ → Structure) → AreVersions V K H M → (c : path.Check) (l : Expr) (e : Bool) (r : Expr) (way : Bool) (ps : List path.PathStep) (s : Terms) (x y : State) → IsStep P xs K V c (path.assume l e r way) ps s x y → AreTrue (reflection V M) (step_claims K s.version (term_step P xs (path.assume l e r way) s))
-assume_true P xs K V H M A c l e r way ps s x y I =
+assume_true : (P : Program) (home : Procedure) (K : List Kind) (V : List ℕ) (H : ℕ → Heap) (M : ℕ → Structure) → AreVersions V K H M → (c : path.Check) (l : Expr) (e : Bool) (r : Expr) (ps : List path.PathStep) (s : Terms) (x y : State) → IsStep P home K V c (path.assume l e r) ps s x y → AreTrue (reflection V M) (step_claims K s.version (term_step P home (path.assume l e r) s))
+assume_true P home K V H M A c l e r ps s x y I =
     let T = expr_used r (expr_used l s) in
-    let S : Sound K V x.store x.heap T = sound_used P xs K V c (path.assume l e r way) ps s x y I I.within in
-    let (u, v, eu, ev, is) = both_known e (result x.store x.heap l) (result x.store x.heap r) way I.takes.0 in
+    let S : Sound K V x.store x.heap T = sound_used P home K V c (path.assume l e r) ps s x y I I.within in
+    let (u, v, eu, ev, is) = both_known e (result x.store x.heap l) (result x.store x.heap r) I.takes.0 in
     let a = expr_value K V x.store x.heap l s T u (expr_grows r (expr_used l s)) S eu in
     let b = expr_value K V x.store x.heap r (expr_used l s) T v (stays T) S ev in
     let n = length K in
     let same = value_truth (reflection V M) s.version n (value_at V) V (M s.version) (homomorphism_at K V H M A s.version) (expr_term l T) (expr_term r T) (below V n (expr_term l T) u A.kinds.count a) (below V n (expr_term r T) v A.kinds.count b)
     ∙ ap (λ w. w == value_at V (expr_term r T)) (value_of V (expr_term l T) u a) ∙ ap (λ w. u == w) (value_of V (expr_term r T) v b) in
-    one_claim (reflection V M) (compared (term (expr_term l T)) (cond way e (not e)) (term (expr_term r T)))
-    (compared_truth (reflection V M) (cond way e (not e)) (term (expr_term l T)) (term (expr_term r T)) (u == v) same ∙ turned e way (u == v) is)
+    one_claim (reflection V M) (compared (term (expr_term l T)) e (term (expr_term r T)))
+    (compared_truth (reflection V M) e (term (expr_term l T)) (term (expr_term r T)) (u == v) same ∙ is)
 
-new_true : (P : Program) (xs : List Name) (K : List Kind) (V : List ℕ) (H : ℕ → Heap) (M : ℕ → Structure) → AreVersions V K H M → (c : path.Check) (o : Occ) (ps : List path.PathStep) (s : Terms) (x y : State) → IsStep P xs K V c (path.made o) ps s x y → H s.version ≡ x.heap → H (s.version + 1) ≡ y.heap → AreTrue (reflection V M) (step_claims K s.version (term_step P xs (path.made o) s))
-new_true P xs K V H M A c o ps s x y I at at' =
+new_true : (P : Program) (home : Procedure) (K : List Kind) (V : List ℕ) (H : ℕ → Heap) (M : ℕ → Structure) → AreVersions V K H M → (c : path.Check) (o : Occ) (ps : List path.PathStep) (s : Terms) (x y : State) → IsStep P home K V c (path.made o) ps s x y → H s.version ≡ x.heap → H (s.version + 1) ≡ y.heap → AreTrue (reflection V M) (step_claims K s.version (term_step P home (path.made o) s))
+new_true P home K V H M A c o ps s x y I at at' =
     let (l, v, some, free, gets, heap) = I.takes in
     let (l', v', el, ev, content) = I.cells in
-    let S = sound_after P xs K V c (path.made o) ps s x y I in
+    let S = sound_after P home K V c (path.made o) ps s x y I in
     let placed : slice_get V (length s.kinds) ≡ Some (y.store o.name) = S.bound o.name (length s.kinds) (bound_same s.bindings o.name (length s.kinds)) in
     let place : l' ≡ l = same_number l' l (sym el ∙ placed ∙ ap Some (one_given (y.store o.name) l gets.given)) in
     let cell : v' ≡ v = same_number v' v (sym content ∙ ap (get y.heap) place ∙ ap (λ h. get h l) heap ∙ get_put x.heap l v) in
@@ -136,11 +125,11 @@ new_true P xs K V H M A c o ps s x y I at at' =
     (news_are_preserved (reflection V M) i n (value_at V) V (M i) (M (i + 1)) (homomorphism_at K V H M A i) (homomorphism_at K V H M A (i + 1)) (length s.kinds) (length s.kinds + 1) (below V n (length s.kinds) l A.kinds.count el') (below V n (length s.kinds + 1) v A.kinds.count ev')).1
     (subst (λ a. StepsByNew V (M i) (M (i + 1)) a (value_at V (length s.kinds + 1))) (sym (value_of V (length s.kinds) l el')) (subst (λ b. StepsByNew V (M i) (M (i + 1)) l b) (sym (value_of V (length s.kinds + 1) v ev')) says))
 
-write_true : (P : Program) (xs : List Name) (K : List Kind) (V : List ℕ) (H : ℕ → Heap) (M : ℕ → Structure) → AreVersions V K H M → (c : path.Check) (o : Occ) (e : Expr) (ps : List path.PathStep) (s : Terms) (x y : State) → IsStep P xs K V c (path.written o e) ps s x y → H s.version ≡ x.heap → H (s.version + 1) ≡ y.heap → AreTrue (reflection V M) (step_claims K s.version (term_step P xs (path.written o e) s))
-write_true P xs K V H M A c o e ps s x y I at at' =
+write_true : (P : Program) (home : Procedure) (K : List Kind) (V : List ℕ) (H : ℕ → Heap) (M : ℕ → Structure) → AreVersions V K H M → (c : path.Check) (o : Occ) (e : Expr) (ps : List path.PathStep) (s : Terms) (x y : State) → IsStep P home K V c (path.written o e) ps s x y → H s.version ≡ x.heap → H (s.version + 1) ≡ y.heap → AreTrue (reflection V M) (step_claims K s.version (term_step P home (path.written o e) s))
+write_true P home K V H M A c o e ps s x y I at at' =
     let (v, gives, a, to) = I.takes in
     let T = expr_used e (used o.name s) in
-    let S : Sound K V x.store x.heap T = sound_used P xs K V c (path.written o e) ps s x y I I.within in
+    let S : Sound K V x.store x.heap T = sound_used P home K V c (path.written o e) ps s x y I I.within in
     let tx = term_of o.name T in
     let te = expr_term e T in
     let ex : slice_get V tx ≡ Some (x.store o.name) = term_at K V x.store x.heap o.name s T (expr_grows e (used o.name s)) S in
@@ -151,11 +140,11 @@ write_true P xs K V H M A c o e ps s x y I at at' =
     (writes_are_preserved (reflection V M) i n (value_at V) V (M i) (M (i + 1)) (homomorphism_at K V H M A i) (homomorphism_at K V H M A (i + 1)) tx te (below V n tx (x.store o.name) A.kinds.count ex) (below V n te v A.kinds.count ee)).1
     (subst (λ u. StepsByWrite V (M i) (M (i + 1)) u (value_at V te)) (sym (value_of V tx (x.store o.name) ex)) (subst (λ b. StepsByWrite V (M i) (M (i + 1)) (x.store o.name) b) (sym (value_of V te v ee)) says))
 
-free_true : (P : Program) (xs : List Name) (K : List Kind) (V : List ℕ) (H : ℕ → Heap) (M : ℕ → Structure) → AreVersions V K H M → (c : path.Check) (o : Occ) (ps : List path.PathStep) (s : Terms) (x y : State) → IsStep P xs K V c (path.freed o) ps s x y → H s.version ≡ x.heap → H (s.version + 1) ≡ y.heap → AreTrue (reflection V M) (step_claims K s.version (term_step P xs (path.freed o) s))
-free_true P xs K V H M A c o ps s x y I at at' =
+free_true : (P : Program) (home : Procedure) (K : List Kind) (V : List ℕ) (H : ℕ → Heap) (M : ℕ → Structure) → AreVersions V K H M → (c : path.Check) (o : Occ) (ps : List path.PathStep) (s : Terms) (x y : State) → IsStep P home K V c (path.freed o) ps s x y → H s.version ≡ x.heap → H (s.version + 1) ≡ y.heap → AreTrue (reflection V M) (step_claims K s.version (term_step P home (path.freed o) s))
+free_true P home K V H M A c o ps s x y I at at' =
     let (a, to) = I.takes in
     let T = used o.name s in
-    let S : Sound K V x.store x.heap T = sound_used P xs K V c (path.freed o) ps s x y I I.within in
+    let S : Sound K V x.store x.heap T = sound_used P home K V c (path.freed o) ps s x y I I.within in
     let tx = term_of o.name T in
     let ex : slice_get V tx ≡ Some (x.store o.name) = term_at K V x.store x.heap o.name s T (stays T) S in
     let n = length K in
@@ -180,91 +169,90 @@ replaced_true K V H M A f g s r i st st' h k vs vr at at' S S' R =
     (subst (λ j. StepsByCall V (M j) (M (j + 1)) f g st st') (sym vs) says) in
     subst (λ j. AreTrue m (parts_claims K j (under f s) (under g r ∷ []))) vs step
 
-called_true : (P : Program) (xs : List Name) (K : List Kind) (V : List ℕ) (H : ℕ → Heap) (M : ℕ → Structure) → AreVersions V K H M → (c : path.Check) (ys : List Occ) (f : Occ) (es : List Expr) (ps : List path.PathStep) (s : Terms) (x y : State) → IsStep P xs K V c (path.called ys f es) ps s x y → H s.version ≡ x.heap → H (s.version + 1) ≡ y.heap → AreTrue (reflection V M) (step_claims K s.version (term_step P xs (path.called ys f es) s))
-called_true P xs K V H M A c ys f es ps s x y I at at' =
-    let (p, vs, declares, give, C) = I.takes in
+called_true : (P : Program) (home : Procedure) (K : List Kind) (V : List ℕ) (H : ℕ → Heap) (M : ℕ → Structure) → AreVersions V K H M → (c : path.Check) (ys : List Occ) (n : ℕ) (es : List Expr) (ps : List path.PathStep) (s : Terms) (x y : State) → IsStep P home K V c (path.called ys n es) ps s x y → H s.version ≡ x.heap → H (s.version + 1) ≡ y.heap → AreTrue (reflection V M) (step_claims K s.version (term_step P home (path.called ys n es) s))
+called_true P home K V H M A c ys n es ps s x y I at at' =
+    let (p, vs, found', give, C) = I.takes in
     let T = exprs_used es s in
     let ts = exprs_terms es T in
-    let found' = callee_found P.procedures f.name p declares in
-    let own = I.own_names p (is_member P.procedures f.name p declares) in
+    let own = I.own_names p (numbered P.procedures n p found') in
     let s1 : Terms = rebound T (bound_inside p ts) in
     let mid : Terms = with_results p s1 in
     let all : Within (each_walked p.gives mid).kinds K = subst (λ o. Within (call_walked o (names ys) ts T).kinds K) found' I.within in
     let some : Within (walked p.needs s1).kinds K = λ i k e. all i k ((each_grows p.gives mid).kinds i k (renewed_within (results_of p) (moved_on (walked p.needs s1)) i k e)) in
     let few : Within T.kinds K = λ i k e. some i k ((walked_grows p.needs s1).kinds i k e) in
-    let S : Sound K V x.store x.heap T = sound_used P xs K V c (path.called ys f es) ps s x y I few in
+    let S : Sound K V x.store x.heap T = sound_used P home K V c (path.called ys n es) ps s x y I few in
     let values = exprs_values K V x.store x.heap es vs s S give in
-    let R : HasResultValues P V (path.called ys f es) (call_parts (Some p) ts T) y = subst (λ o. HasResultValues P V (path.called ys f es) (call_parts o ts T) y) found' I.results in
+    let R : HasResultValues P V (path.called ys n es) (call_parts (Some p) ts T) y = subst (λ o. HasResultValues P V (path.called ys n es) (call_parts o ts T) y) found' I.results in
     let version : T.version ≡ s.version = (exprs_grow es s).version in
     let first = inside_before K V x.heap p ts vs T C.inside own.needs_in values C.arguments I.null some (λ t u v e. I.values.next t u v (e ∙ ap (λ i. Some (next i u)) version)) in
     let (g, there, R') = one_met p.needs C.inside x.heap p.gives C.inside y.heap C.replaced in
     let (t, W) = walked_there p.gives mid g there in
     let results : (r : Name) (j : ℕ) → Contains (results_of p) r → mid.bindings r ≡ Some j → slice_get V j ≡ Some (C.inside r) =
-    λ r j c e. R p C.inside declares (sym C.targets.given) (under g t) W.told r j c ((walked_grows g t).bindings r j (W.first.bindings r j e)) in
+    λ r j c e. R p C.inside found' (sym C.targets.given) (under g t) W.told r j c ((walked_grows g t).bindings r j (W.first.bindings r j e)) in
     let last = inside_after K V y.heap p ts vs T C.inside own.needs_in own.gives_in values C.arguments I.null all (λ t u v e. I.after.next t u v (e ∙ ap (λ i. Some (next (i + 1) u)) version)) results in
     let later : mid.version ≡ s.version + 1 = renewed_version (results_of p) (moved_on (walked p.needs s1)) ∙ ap (λ i. i + 1) ((walked_grows p.needs s1).version ∙ version) in
     let one = replaced_true K V H M A p.needs g s1 t s.version C.inside C.inside x.heap y.heap version (W.first.version ∙ later) at at' first (alternative_sound K V C.inside y.heap p.gives mid g t W last) R' in
     subst (λ o. AreTrue (reflection V M) (step_claims K s.version (call_parts o ts T))) (sym found')
     (part_one (reflection V M) K s.version (under p.needs s1) (each_under p.gives mid) (under g t) W.told one)
 
-looped_true : (P : Program) (xs : List Name) (K : List Kind) (V : List ℕ) (H : ℕ → Heap) (M : ℕ → Structure) → AreVersions V K H M → (c : path.Check) (l : path.Loop) (ps : List path.PathStep) (s : Terms) (x y : State) → IsStep P xs K V c (path.looped l) ps s x y → H s.version ≡ x.heap → H (s.version + 1) ≡ y.heap → AreTrue (reflection V M) (step_claims K s.version (term_step P xs (path.looped l) s))
-looped_true P xs K V H M A c l ps s x y I at at' =
-    let zs = filter (some_assigns l.body) xs in
-    let mid = renewed zs (moved_on (walked l.invariant s)) in
-    let few : Within (walked l.invariant s).kinds K = λ i k e. I.within i k ((walked_grows l.invariant mid).kinds i k (renewed_within zs (moved_on (walked l.invariant s)) i k e)) in
-    let later : mid.version ≡ s.version + 1 = renewed_version zs (moved_on (walked l.invariant s)) ∙ ap (λ i. i + 1) (walked_grows l.invariant s).version in
-    replaced_true K V H M A l.invariant l.invariant s mid s.version x.store y.store x.heap y.heap refl later at at'
-    (sound_used P xs K V c (path.looped l) ps s x y I few) (sound_after P xs K V c (path.looped l) ps s x y I) I.takes.0
+looped_true : (P : Program) (home : Procedure) (K : List Kind) (V : List ℕ) (H : ℕ → Heap) (M : ℕ → Structure) → AreVersions V K H M → (c : path.Check) (n : ℕ) (ps : List path.PathStep) (s : Terms) (x y : State) → IsStep P home K V c (path.looped n) ps s x y → H s.version ≡ x.heap → H (s.version + 1) ≡ y.heap → AreTrue (reflection V M) (step_claims K s.version (term_step P home (path.looped n) s))
+looped_true P home K V H M A c n ps s x y I at at' =
+    let (l, is, R) = I.takes in
+    let xs = variable_names home in
+    let S = loop_sound P home K V c n l ps s x y is I in
+    let one : AreTrue (reflection V M) (step_claims K s.version (loop_parts (Some l) xs s)) =
+    replaced_true K V H M A l.invariant l.invariant s (with_assigned l xs s) s.version x.store y.store x.heap y.heap refl (assigned_version l xs s) at at' S.0 S.1 R.replaced in
+    subst (λ o. AreTrue (reflection V M) (step_claims K s.version (loop_parts o xs s))) (sym is) one
 
-step_true : (P : Program) (xs : List Name) (K : List Kind) (V : List ℕ) (H : ℕ → Heap) (M : ℕ → Structure) → AreVersions V K H M → (c : path.Check) (p : path.PathStep) (ps : List path.PathStep) (s : Terms) (x y : State) → IsStep P xs K V c p ps s x y → H s.version ≡ x.heap → H (version_after p s.version) ≡ y.heap → AreTrue (reflection V M) (step_claims K s.version (term_step P xs p s))
-step_true P xs K V H M A c (path.accessed o) ps s x y I at at' = access_true P xs K V H M A c o ps s x y I at
-step_true P xs K V H M A c (path.assume l e r way) ps s x y I at at' = assume_true P xs K V H M A c l e r way ps s x y I
-step_true P xs K V H M A c (path.assigned o e) ps s x y I at at' = All-nil (λ g. truth (reflection V M) g ≡ true)
-step_true P xs K V H M A c (path.made o) ps s x y I at at' = new_true P xs K V H M A c o ps s x y I at at'
-step_true P xs K V H M A c (path.written o e) ps s x y I at at' = write_true P xs K V H M A c o e ps s x y I at at'
-step_true P xs K V H M A c (path.freed o) ps s x y I at at' = free_true P xs K V H M A c o ps s x y I at at'
-step_true P xs K V H M A c (path.called ys f es) ps s x y I at at' = called_true P xs K V H M A c ys f es ps s x y I at at'
-step_true P xs K V H M A c (path.looped l) ps s x y I at at' = looped_true P xs K V H M A c l ps s x y I at at'
-step_true P xs K V H M A c (path.answered ns es) ps s x y I at at' = All-nil (λ g. truth (reflection V M) g ≡ true)
+step_true : (P : Program) (home : Procedure) (K : List Kind) (V : List ℕ) (H : ℕ → Heap) (M : ℕ → Structure) → AreVersions V K H M → (c : path.Check) (p : path.PathStep) (ps : List path.PathStep) (s : Terms) (x y : State) → IsStep P home K V c p ps s x y → H s.version ≡ x.heap → H (version_after p s.version) ≡ y.heap → AreTrue (reflection V M) (step_claims K s.version (term_step P home p s))
+step_true P home K V H M A c (path.accessed o) ps s x y I at at' = access_true P home K V H M A c o ps s x y I at
+step_true P home K V H M A c (path.assume l e r) ps s x y I at at' = assume_true P home K V H M A c l e r ps s x y I
+step_true P home K V H M A c (path.assigned o e) ps s x y I at at' = All-nil (λ g. truth (reflection V M) g ≡ true)
+step_true P home K V H M A c (path.made o) ps s x y I at at' = new_true P home K V H M A c o ps s x y I at at'
+step_true P home K V H M A c (path.written o e) ps s x y I at at' = write_true P home K V H M A c o e ps s x y I at at'
+step_true P home K V H M A c (path.freed o) ps s x y I at at' = free_true P home K V H M A c o ps s x y I at at'
+step_true P home K V H M A c (path.called ys n es) ps s x y I at at' = called_true P home K V H M A c ys n es ps s x y I at at'
+step_true P home K V H M A c (path.looped n) ps s x y I at at' = looped_true P home K V H M A c n ps s x y I at at'
+step_true P home K V H M A c (path.answered es) ps s x y I at at' = All-nil (λ g. truth (reflection V M) g ≡ true)
 
 -- the version after a step, read off its terms
-same_version : (P : Program) (xs : List Name) (p : path.PathStep) (s : Terms) (i : ℕ) (x y : State) → Takes P p x y → version_past i (term_step P xs p s) ≡ version_after p i
-same_version P xs (path.accessed o) s i x y t = refl
-same_version P xs (path.assume l e r way) s i x y t = refl
-same_version P xs (path.assigned o e) s i x y t = refl
-same_version P xs (path.made o) s i x y t = refl
-same_version P xs (path.written o e) s i x y t = refl
-same_version P xs (path.freed o) s i x y t = refl
-same_version P xs (path.called ys f es) s i x y t = ap (λ o. version_past i (call_parts o (exprs_terms es (exprs_used es s)) (exprs_used es s))) (callee_found P.procedures f.name t.0 t.2)
-same_version P xs (path.looped l) s i x y t = refl
-same_version P xs (path.answered ns es) s i x y t = refl
+same_version : (P : Program) (home : Procedure) (p : path.PathStep) (s : Terms) (i : ℕ) (x y : State) → Takes P home p x y → version_past i (term_step P home p s) ≡ version_after p i
+same_version P home (path.accessed o) s i x y t = refl
+same_version P home (path.assume l e r) s i x y t = refl
+same_version P home (path.assigned o e) s i x y t = refl
+same_version P home (path.made o) s i x y t = refl
+same_version P home (path.written o e) s i x y t = refl
+same_version P home (path.freed o) s i x y t = refl
+same_version P home (path.called ys n es) s i x y t = ap (λ o. version_past i (call_parts o (exprs_terms es (exprs_used es s)) (exprs_used es s))) t.2
+same_version P home (path.looped n) s i x y t = ap (λ o. version_past i (loop_parts o (variable_names home) s)) t.1
+same_version P home (path.answered es) s i x y t = refl
 
-pub steps_true : (P : Program) (xs : List Name) (K : List Kind) (V : List ℕ) (H : ℕ → Heap) (M : ℕ → Structure) → AreVersions V K H M → (c : path.Check) → ((q : Procedure) → Contains P.procedures q → HasOwnNames q)
-    → (ps : List path.PathStep) (s : Terms) (x : State) (ys : List State) → Within (steps_walked P xs ps s).kinds K
-    → HaveValues P K V ps (term_steps P xs ps s) (state_bindings P xs ps c s) s.version x ys → HeapsAre H ps x ys s.version → IsTrace P x ps ys → AreTrue (reflection V M) (steps_claims K s.version (term_steps P xs ps s))
-steps_true P xs K V H M A c N [] s x ys w values at T = All-nil (λ g. truth (reflection V M) g ≡ true)
-steps_true P xs K V H M A c N (p ∷ ps) s x [] w values at T = absurd T
-steps_true P xs K V H M A c N (p ∷ ps) s x (y ∷ ys) w values at T =
-    let t = step_walked P xs p s in
+pub steps_true : (P : Program) (home : Procedure) (K : List Kind) (V : List ℕ) (H : ℕ → Heap) (M : ℕ → Structure) → AreVersions V K H M → (c : path.Check) → ((q : Procedure) → Contains P.procedures q → HasOwnNames q)
+    → (ps : List path.PathStep) (s : Terms) (x : State) (ys : List State) → Within (steps_walked P home ps s).kinds K
+    → HaveValues P K V ps (term_steps P home ps s) (state_bindings P home ps c s) s.version x ys → HeapsAre H ps x ys s.version → IsTrace P home x ps ys → AreTrue (reflection V M) (steps_claims K s.version (term_steps P home ps s))
+steps_true P home K V H M A c N [] s x ys w values at T = All-nil (λ g. truth (reflection V M) g ≡ true)
+steps_true P home K V H M A c N (p ∷ ps) s x [] w values at T = absurd T
+steps_true P home K V H M A c N (p ∷ ps) s x (y ∷ ys) w values at T =
+    let t = step_walked P home p s in
     let i = s.version in
     let next' : H (version_after p i) ≡ y.heap = first_heap H ps y ys (version_after p i) at.1 in
-    let version : t.version ≡ version_after p i = step_version P xs p s x y T.0 in
-    let I : IsStep P xs K V c p ps s x y = record {
+    let version : t.version ≡ version_after p i = step_version P home p s x y T.0 in
+    let I : IsStep P home K V c p ps s x y = record {
       own_names = N;
       null = A.kinds.null;
-      within = λ j k e. w j k (steps_within P xs ps t j k e);
+      within = λ j k e. w j k (steps_within P home ps t j k e);
       values = values.0;
       cells = values.1;
       results = values.2;
-      after = first_values P xs K V c ps t (version_after p i) y ys values.3;
+      after = first_values P home K V c ps t (version_after p i) y ys values.3;
       takes = T.0;
       proper = subst IsProper at.0 (A.proper i);
       owned = subst (Owned V) at.0 (A.owned i);
     } in
-    let rest = steps_true P xs K V H M A c N ps t y ys w
-    (subst (λ j. HaveValues P K V ps (term_steps P xs ps t) (state_bindings P xs ps c t) j y ys) (sym version) values.3)
+    let rest = steps_true P home K V H M A c N ps t y ys w
+    (subst (λ j. HaveValues P K V ps (term_steps P home ps t) (state_bindings P home ps c t) j y ys) (sym version) values.3)
     (subst (HeapsAre H ps y ys) (sym version) at.1) T.1 in
-    let past : t.version ≡ version_past i (term_step P xs p s) = version ∙ sym (same_version P xs p s i x y T.0) in
-    All-append (λ g. truth (reflection V M) g ≡ true) (step_claims K i (term_step P xs p s)) (steps_claims K (version_past i (term_step P xs p s)) (term_steps P xs ps t))
-    (step_true P xs K V H M A c p ps s x y I at.0 next')
-    (subst (λ j. AreTrue (reflection V M) (steps_claims K j (term_steps P xs ps t))) past rest)
+    let past : t.version ≡ version_past i (term_step P home p s) = version ∙ sym (same_version P home p s i x y T.0) in
+    All-append (λ g. truth (reflection V M) g ≡ true) (step_claims K i (term_step P home p s)) (steps_claims K (version_past i (term_step P home p s)) (term_steps P home ps t))
+    (step_true P home K V H M A c p ps s x y I at.0 next')
+    (subst (λ j. AreTrue (reflection V M) (steps_claims K j (term_steps P home ps t))) past rest)

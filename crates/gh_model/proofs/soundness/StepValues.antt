@@ -6,26 +6,25 @@ use Rattle.std.proofs.lemmas.List.{length-map, length-append}
 use Rattle.gh_ast.specs.declared.Occ.{Occ}
 use Rattle.gh_ast.specs.declared.Expr.{Expr}
 use Rattle.gh_ast.specs.Plain.{Procedure, Program}
-use Rattle.gh_ast.specs.Programs.{Name, names, parameters_of, results_of, Declares}
-use Rattle.gh_ast.proofs.Declared.{is_one}
-use Rattle.gh_ast.proofs.Lists.{member_first, member_later, member_cases, no_member}
+use Rattle.gh_ast.specs.Programs.{Name, names, parameters_of, results_of, variable_names}
+use Rattle.gh_ast.proofs.Lists.{member_first, member_later, member_cases, no_member, one_value}
 use Rattle.gh_ast.proofs.Members.{name_or}
 use Rattle.gh_assert.specs.Heaps.{Heap}
 use Rattle.gh_assert.specs.Meaning.{Store}
 use Rattle.gh_assert.specs.Values.{Gets}
 use Rattle.gh_assert.proofs.Cells.{get_put}
 use Rattle.gh_path.specs.Graphs as path
-use Rattle.gh_path.specs.Terms.{Bindings, unbound, all_bound, Terms, terms, used, term_of, followed, expr_used, expr_term, exprs_used, exprs_terms, walked, moved_on, rebound, renewed, with_value, some_assigns, bound_inside, call_walked, step_walked, each_walked}
-use Rattle.gh_symb.specs.Symbolic.{Under, TermStep, call_parts, term_step, step_used}
+use Rattle.gh_path.specs.Terms.{Bindings, unbound, all_bound, Terms, terms, used, term_of, followed, expr_used, expr_term, exprs_used, exprs_terms, walked, moved_on, rebound, with_value, some_assigns, bound_inside, call_walked, loop_walked, invariant_walked, step_walked, each_walked}
+use Rattle.gh_path.specs.Kept.{IsCallee, IsLoop}
+use Rattle.gh_symb.specs.Symbolic.{Under, TermStep, call_parts, loop_parts, term_step, step_used}
 use Rattle.gh_model.proofs.terms.Alternatives.{alternative_of}
-use Rattle.gh_trace.specs.Traces.{State, Called, Takes}
+use Rattle.gh_trace.specs.Traces.{State, Called, Around, Takes}
 use Rattle.gh_model.specs.TermValues.{HasCellValues, HasResultValues}
 use Rattle.gh_model.proofs.terms.Extension.{stays, expr_grows, exprs_grow, walked_grows, each_grows}
 use Rattle.gh_model.proofs.terms.Denotation.{expr_value, exprs_values}
-use Rattle.gh_model.proofs.terms.Callees.{Gives, Knows, all_give, all_known, renewed_known, with_results, counted}
+use Rattle.gh_model.proofs.terms.Callees.{Gives, Knows, all_give, all_known, renewed_known, with_results, with_assigned, counted}
 use Rattle.gh_model.proofs.soundness.WalkValues.{More, front_of, last_of, IsKindValuation, IsValuation, later, value_more, gives_more, used_valued, visited_valued, expr_valued, exprs_valued, walked_valued, GivesBut, renewed_valued, assigned_give, sound_of, each_valued}
-use Rattle.gh_path.proofs.LoopVariables.{IsOver, assigned_listed}
-use Rattle.gh_path.proofs.FormLemmas.{callee_found}
+use Rattle.gh_path.proofs.LoopVariables.{NamesIn, assigned_listed}
 
 -- values after a step: `u` are the terms once its variables are used, `t` those at its end
 pub record StepValues (H : ℕ → Heap) (V : List ℕ) (P : Program) (p : path.PathStep) (x y : State) (u t : Terms) (q : TermStep) : Type 0 where
@@ -61,8 +60,8 @@ assign H W xs ts vs T x y S e gets = record {
 one_option : (a b : Option ℕ) → a ≡ b → a ∷ [] ≡ b ∷ []
 one_option a b e = ap (λ o. o ∷ []) e
 
-set_values : (H : ℕ → Heap) (V : List ℕ) (P : Program) (xs : List Name) (o : Occ) (e : Expr) (s : Terms) (x y : State) → IsValuation H V x.store s → H s.version ≡ x.heap → Takes P (path.assigned o e) x y → StepValues H V P (path.assigned o e) x y (expr_used e s) (step_walked P xs (path.assigned o e) s) (term_step P xs (path.assigned o e) s)
-set_values H V P xs o e s x y S at takes =
+set_values : (H : ℕ → Heap) (V : List ℕ) (P : Program) (home : Procedure) (o : Occ) (e : Expr) (s : Terms) (x y : State) → IsValuation H V x.store s → H s.version ≡ x.heap → Takes P home (path.assigned o e) x y → StepValues H V P (path.assigned o e) x y (expr_used e s) (step_walked P home (path.assigned o e) s) (term_step P home (path.assigned o e) s)
+set_values H V P home o e s x y S at takes =
     let (v, gives, gets, heap) = takes in
     let T = expr_used e s in
     let E = expr_valued H V x.store e s S in
@@ -71,18 +70,18 @@ set_values H V P xs o e s x y S at takes =
     let A = assign H E.values (o.name ∷ []) (expr_term e T ∷ []) (v ∷ []) T x y E.valued (one_option (slice_get E.values (expr_term e T)) (Some v) term) gets in
     record { values = E.values; more = E.more; valued = A.valued; used = E.valued.gives; cells = tt; results = tt; kept = A.kept }
 
-return_values : (H : ℕ → Heap) (V : List ℕ) (P : Program) (xs : List Name) (ns : List Name) (es : List Expr) (s : Terms) (x y : State) → IsValuation H V x.store s → H s.version ≡ x.heap → Takes P (path.answered ns es) x y → StepValues H V P (path.answered ns es) x y (exprs_used es s) (step_walked P xs (path.answered ns es) s) (term_step P xs (path.answered ns es) s)
-return_values H V P xs ns es s x y S at takes =
+return_values : (H : ℕ → Heap) (V : List ℕ) (P : Program) (home : Procedure) (es : List Expr) (s : Terms) (x y : State) → IsValuation H V x.store s → H s.version ≡ x.heap → Takes P home (path.answered es) x y → StepValues H V P (path.answered es) x y (exprs_used es s) (step_walked P home (path.answered es) s) (term_step P home (path.answered es) s)
+return_values H V P home es s x y S at takes =
     let (vs, give, gets, heap) = takes in
     let T = exprs_used es s in
     let E = exprs_valued H V x.store es s S in
     let sound = sound_of H E.values x.store x.heap T (ap H (exprs_grow es s).version ∙ at) E.valued in
-    let A = assign H E.values ns (exprs_terms es T) vs T x y E.valued (exprs_values T.kinds E.values x.store x.heap es vs s sound give) gets in
+    let A = assign H E.values (results_of home) (exprs_terms es T) vs T x y E.valued (exprs_values T.kinds E.values x.store x.heap es vs s sound give) gets in
     record { values = E.values; more = E.more; valued = A.valued; used = E.valued.gives; cells = tt; results = tt; kept = A.kept }
 
 -- a new cell's place and content
-new_values : (H : ℕ → Heap) (V : List ℕ) (P : Program) (xs : List Name) (o : Occ) (s : Terms) (x y : State) → IsValuation H V x.store s → Takes P (path.made o) x y → StepValues H V P (path.made o) x y s (step_walked P xs (path.made o) s) (term_step P xs (path.made o) s)
-new_values H V P xs o s x y S takes =
+new_values : (H : ℕ → Heap) (V : List ℕ) (P : Program) (home : Procedure) (o : Occ) (s : Terms) (x y : State) → IsValuation H V x.store s → Takes P home (path.made o) x y → StepValues H V P (path.made o) x y s (step_walked P home (path.made o) s) (term_step P home (path.made o) s)
+new_values H V P home o s x y S takes =
     let (l, v, some, free, gets, heap) = takes in
     let U : List ℕ = V ++ l ∷ [] in
     let W : List ℕ = U ++ v ∷ [] in
@@ -125,10 +124,10 @@ result_terms W inside T (r ∷ rs) G known =
     (ap (λ o. slice_get W (unwrap_or o 0)) k.1 ∙ G r k.0 k.1) (result_terms W inside T rs G (λ n c. known n (member_later r n rs c)))
 
 -- a call of a procedure
-call_values : (H : ℕ → Heap) (V : List ℕ) (P : Program) (p : Procedure) (ys : List Occ) (f : Occ) (es : List Expr) (vs : List ℕ) (T : Terms) (x y : State) → IsValuation H V x.store T → H T.version ≡ x.heap → map (slice_get V) (exprs_terms es T) ≡ map Some vs
-    → Declares P f.name p → Called p vs (names ys) x y
-    → StepValues H V P (path.called ys f es) x y T (call_walked (Some p) (names ys) (exprs_terms es T) T) (call_parts (Some p) (exprs_terms es T) T)
-call_values H V P p ys f es vs T x y S at args declares C =
+call_values : (H : ℕ → Heap) (V : List ℕ) (P : Program) (p : Procedure) (ys : List Occ) (n : ℕ) (es : List Expr) (vs : List ℕ) (T : Terms) (x y : State) → IsValuation H V x.store T → H T.version ≡ x.heap → map (slice_get V) (exprs_terms es T) ≡ map Some vs
+    → IsCallee P n p → Called p vs (names ys) x y
+    → StepValues H V P (path.called ys n es) x y T (call_walked (Some p) (names ys) (exprs_terms es T) T) (call_parts (Some p) (exprs_terms es T) T)
+call_values H V P p ys n es vs T x y S at args callee C =
     let ts = exprs_terms es T in
     let s : Terms = rebound T (bound_inside p ts) in
     let start : IsValuation H V C.inside s = record { kinds = S.kinds; gives = all_give V C.inside unbound (parameters_of p) ts vs args C.arguments (λ n t e. absurd cc) } in
@@ -148,25 +147,25 @@ call_values H V P p ys f es vs T x y S at args declares C =
       valued = A.valued;
       used = outer;
       cells = tt;
-      results = λ q inside' declares' targets a chosen r t c e.
+      results = λ q inside' callee' targets a chosen r t c e.
           let (g, u, is, W) = alternative_of p.gives (with_results p s) a chosen in
           let e' : after.bindings r ≡ Some t = W.last.bindings r t (ap (λ (w : Under). w.binding r) (sym is) ∙ e) in
-          let same : q ≡ p = is_one P.procedures f.name q p declares' declares in
+          let same : q ≡ p = one_value (slice_get P.procedures n) q p callee' callee in
           let c' : Contains (results_of p) r = subst (λ (z : Procedure). Contains (results_of z) r) same c in
           let targets' : map inside' (results_of p) ≡ map y.store (names ys) = subst (λ (z : Procedure). map inside' (results_of z) ≡ map y.store (names ys)) same targets in
           G.valued.gives r t e' ∙ ap Some (sym (same_at inside' C.inside (results_of p) r (targets' ∙ C.targets.given) c'));
       kept = A.kept;
     }
 
-called_values : (H : ℕ → Heap) (V : List ℕ) (P : Program) (xs : List Name) (ys : List Occ) (f : Occ) (es : List Expr) (s : Terms) (x y : State) → IsValuation H V x.store s → H s.version ≡ x.heap → Takes P (path.called ys f es) x y → StepValues H V P (path.called ys f es) x y (exprs_used es s) (step_walked P xs (path.called ys f es) s) (term_step P xs (path.called ys f es) s)
-called_values H V P xs ys f es s x y S at takes =
-    let (p, vs, declares, give, C) = takes in
+called_values : (H : ℕ → Heap) (V : List ℕ) (P : Program) (home : Procedure) (ys : List Occ) (n : ℕ) (es : List Expr) (s : Terms) (x y : State) → IsValuation H V x.store s → H s.version ≡ x.heap → Takes P home (path.called ys n es) x y → StepValues H V P (path.called ys n es) x y (exprs_used es s) (step_walked P home (path.called ys n es) s) (term_step P home (path.called ys n es) s)
+called_values H V P home ys n es s x y S at takes =
+    let (p, vs, callee, give, C) = takes in
     let T = exprs_used es s in
     let E = exprs_valued H V x.store es s S in
     let here : H T.version ≡ x.heap = ap H (exprs_grow es s).version ∙ at in
     let args = exprs_values T.kinds E.values x.store x.heap es vs s (sound_of H E.values x.store x.heap T here E.valued) give in
-    let R = call_values H E.values P p ys f es vs T x y E.valued here args declares C in
-    let Q : StepValues H V P (path.called ys f es) x y T (call_walked (Some p) (names ys) (exprs_terms es T) T) (call_parts (Some p) (exprs_terms es T) T) = record {
+    let R = call_values H E.values P p ys n es vs T x y E.valued here args callee C in
+    let Q : StepValues H V P (path.called ys n es) x y T (call_walked (Some p) (names ys) (exprs_terms es T) T) (call_parts (Some p) (exprs_terms es T) T) = record {
       values = R.values;
       more = λ t v e. R.more t v (E.more t v e);
       valued = R.valued;
@@ -175,21 +174,27 @@ called_values H V P xs ys f es s x y S at takes =
       results = R.results;
       kept = R.kept;
     } in
-    subst (λ o. StepValues H V P (path.called ys f es) x y T (call_walked o (names ys) (exprs_terms es T) T) (call_parts o (exprs_terms es T) T)) (sym (callee_found P.procedures f.name p declares)) Q
+    subst (λ o. StepValues H V P (path.called ys n es) x y T (call_walked o (names ys) (exprs_terms es T) T) (call_parts o (exprs_terms es T) T)) (sym callee) Q
+
+-- the loops of a procedure assign variables of it alone
+abbrev pub LoopsAreOver : Procedure → Type 0
+LoopsAreOver p = (n : ℕ) (l : path.Loop) → IsLoop p n l → NamesIn (variable_names p) l.body
 
 -- once around a loop, any number of times
-loop_values : (H : ℕ → Heap) (V : List ℕ) (P : Program) (xs : List Name) (l : path.Loop) (s : Terms) (x y : State) → IsOver xs (path.looped l) → IsValuation H V x.store s → Takes P (path.looped l) x y → StepValues H V P (path.looped l) x y (walked l.invariant s) (step_walked P xs (path.looped l) s) (term_step P xs (path.looped l) s)
-loop_values H V P xs l s x y over S takes =
+loop_values : (H : ℕ → Heap) (V : List ℕ) (P : Program) (xs : List Name) (n : ℕ) (l : path.Loop) (s : Terms) (x y : State) → NamesIn xs l.body → IsValuation H V x.store s → Around l x y
+    → StepValues H V P (path.looped n) x y (invariant_walked (Some l) s) (loop_walked (Some l) xs s) (loop_parts (Some l) xs s)
+loop_values H V P xs n l s x y over S A =
     let zs = filter (some_assigns l.body) xs in
-    let kept : (n : Name) → (Contains zs n → ⊥) → y.store n ≡ x.store n = λ n out. takes.1 n (λ m. out (assigned_listed xs l n over m)) in
+    let kept : (m : Name) → (Contains zs m → ⊥) → y.store m ≡ x.store m = λ m out. A.kept m (λ is. out (assigned_listed xs l m over is)) in
     let E = walked_valued H x.store l.invariant V s S in
     let T : Terms = moved_on (walked l.invariant s) in
-    let but : GivesBut zs E.values y.store T.bindings = λ n t e. elim (name_or zs n) [
+    let mid = with_assigned l xs s in
+    let but : GivesBut zs E.values y.store T.bindings = λ m t e. elim (name_or zs m) [
       | inl there ↦ inl there
-      | inr out ↦ inr (E.valued.gives n t e ∙ ap Some (sym (kept n out)))
+      | inr out ↦ inr (E.valued.gives m t e ∙ ap Some (sym (kept m out)))
     ] in
     let F = renewed_valued H y.store zs E.values T E.valued.kinds but in
-    let G = walked_valued H y.store l.invariant F.values (renewed zs T) F.valued in
+    let G = walked_valued H y.store l.invariant F.values mid F.valued in
     let more : More E.values G.values = λ t v e. G.more t v (F.more t v e) in
     record {
       values = G.values;
@@ -198,35 +203,42 @@ loop_values H V P xs l s x y over S takes =
       used = gives_more E.values G.values x.store (walked l.invariant s).bindings more E.valued.gives;
       cells = tt;
       results = tt;
-      kept = λ n none. kept n (λ there.
-          let k = renewed_known zs T n (inl there) in
-          let some : (walked l.invariant (renewed zs T)).bindings n ≡ Some k.0 = (walked_grows l.invariant (renewed zs T)).bindings n k.0 k.1 in
+      kept = λ m none. kept m (λ there.
+          let k = renewed_known zs T m (inl there) in
+          let some : (walked l.invariant mid).bindings m ≡ Some k.0 = (walked_grows l.invariant mid).bindings m k.0 k.1 in
           absurd cc);
     }
 
+looped_values : (H : ℕ → Heap) (V : List ℕ) (P : Program) (home : Procedure) (n : ℕ) (s : Terms) (x y : State) → LoopsAreOver home → IsValuation H V x.store s → Takes P home (path.looped n) x y
+    → StepValues H V P (path.looped n) x y (step_used home (path.looped n) s) (step_walked P home (path.looped n) s) (term_step P home (path.looped n) s)
+looped_values H V P home n s x y over S takes =
+    let (l, is, A) = takes in
+    let xs = variable_names home in
+    subst (λ o. StepValues H V P (path.looped n) x y (invariant_walked o s) (loop_walked o xs s) (loop_parts o xs s)) (sym is) (loop_values H V P xs n l s x y (over n l is) S A)
+
 -- each step
-pub step_values : (H : ℕ → Heap) (V : List ℕ) (P : Program) (xs : List Name) (p : path.PathStep) (s : Terms) (x y : State) → IsOver xs p → IsValuation H V x.store s → H s.version ≡ x.heap → Takes P p x y → StepValues H V P p x y (step_used p s) (step_walked P xs p s) (term_step P xs p s)
-step_values H V P xs (path.accessed o) s x y over S at takes =
+pub step_values : (H : ℕ → Heap) (V : List ℕ) (P : Program) (home : Procedure) (p : path.PathStep) (s : Terms) (x y : State) → LoopsAreOver home → IsValuation H V x.store s → H s.version ≡ x.heap → Takes P home p x y → StepValues H V P p x y (step_used home p s) (step_walked P home p s) (term_step P home p s)
+step_values H V P home (path.accessed o) s x y over S at takes =
     let E = visited_valued H V x.store o.name s S in
-    subst (λ (z : State). StepValues H V P (path.accessed o) x z (used o.name s) (followed o.name (used o.name s)) (term_step P xs (path.accessed o) s)) (sym takes.1)
+    subst (λ (z : State). StepValues H V P (path.accessed o) x z (used o.name s) (followed o.name (used o.name s)) (term_step P home (path.accessed o) s)) (sym takes.1)
     record { values = E.values; more = E.more; valued = E.valued; used = E.valued.gives; cells = tt; results = tt; kept = λ n e. refl }
-step_values H V P xs (path.assume l e r way) s x y over S at takes =
+step_values H V P home (path.assume l e r) s x y over S at takes =
     let T = expr_used r (expr_used l s) in
     let E = later H V x.store (expr_used l s) T (expr_valued H V x.store l s S) (λ W F. expr_valued H W x.store r (expr_used l s) F) in
-    subst (λ (z : State). StepValues H V P (path.assume l e r way) x z T T (term_step P xs (path.assume l e r way) s)) (sym takes.1)
+    subst (λ (z : State). StepValues H V P (path.assume l e r) x z T T (term_step P home (path.assume l e r) s)) (sym takes.1)
     record { values = E.values; more = E.more; valued = E.valued; used = E.valued.gives; cells = tt; results = tt; kept = λ n e. refl }
-step_values H V P xs (path.assigned o e) s x y over S at takes = set_values H V P xs o e s x y S at takes
-step_values H V P xs (path.made o) s x y over S at takes = new_values H V P xs o s x y S takes
-step_values H V P xs (path.written o e) s x y over S at takes =
+step_values H V P home (path.assigned o e) s x y over S at takes = set_values H V P home o e s x y S at takes
+step_values H V P home (path.made o) s x y over S at takes = new_values H V P home o s x y S takes
+step_values H V P home (path.written o e) s x y over S at takes =
     let T = expr_used e (used o.name s) in
     let E = later H V x.store (used o.name s) T (used_valued H V x.store o.name s S) (λ W F. expr_valued H W x.store e (used o.name s) F) in
-    subst (λ (z : State). StepValues H V P (path.written o e) x z T (moved_on T) (term_step P xs (path.written o e) s)) (sym takes.3)
+    subst (λ (z : State). StepValues H V P (path.written o e) x z T (moved_on T) (term_step P home (path.written o e) s)) (sym takes.3)
     record { values = E.values; more = E.more; valued = record { kinds = E.valued.kinds; gives = E.valued.gives }; used = E.valued.gives; cells = tt; results = tt; kept = λ n e. refl }
-step_values H V P xs (path.freed o) s x y over S at takes =
+step_values H V P home (path.freed o) s x y over S at takes =
     let T = used o.name s in
     let E = used_valued H V x.store o.name s S in
-    subst (λ (z : State). StepValues H V P (path.freed o) x z T (moved_on T) (term_step P xs (path.freed o) s)) (sym takes.1)
+    subst (λ (z : State). StepValues H V P (path.freed o) x z T (moved_on T) (term_step P home (path.freed o) s)) (sym takes.1)
     record { values = E.values; more = E.more; valued = record { kinds = E.valued.kinds; gives = E.valued.gives }; used = E.valued.gives; cells = tt; results = tt; kept = λ n e. refl }
-step_values H V P xs (path.called ys f es) s x y over S at takes = called_values H V P xs ys f es s x y S at takes
-step_values H V P xs (path.looped l) s x y over S at takes = loop_values H V P xs l s x y over S takes
-step_values H V P xs (path.answered ns es) s x y over S at takes = return_values H V P xs ns es s x y S at takes
+step_values H V P home (path.called ys n es) s x y over S at takes = called_values H V P home ys n es s x y S at takes
+step_values H V P home (path.looped n) s x y over S at takes = looped_values H V P home n s x y over S takes
+step_values H V P home (path.answered es) s x y over S at takes = return_values H V P home es s x y S at takes

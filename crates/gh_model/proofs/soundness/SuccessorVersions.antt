@@ -14,9 +14,9 @@ use Rattle.gh_ast.specs.Rules.{IsTyped}
 use Rattle.gh_assert.specs.Heaps.{Heap}
 use Rattle.gh_assert.specs.Walks.{succ}
 use Rattle.gh_path.specs.Graphs as path
-use Rattle.gh_path.specs.Conditions.{Condition, IsCondition}
-use Rattle.gh_path.specs.Terms.{Kind, next, same_kind, added, with_value, bound, Terms, terms, used, used_as, term_of, followed, operand_used, expr_used, exprs_used, exprs_terms, test_walked, tests_walked, walked, all_walked, each_walked, moved_on, rebound, renewed, some_assigns, callee_in, bound_inside, call_walked, step_walked, steps_walked, entry_walked, check_walked, no_terms}
-use Rattle.gh_symb.specs.Symbolic.{term_steps, state_bindings, symbolic_of}
+use Rattle.gh_path.specs.Conditions.{Condition, IsOf}
+use Rattle.gh_path.specs.Terms.{Kind, next, same_kind, added, with_value, bound, Terms, terms, used, used_as, term_of, followed, operand_used, expr_used, exprs_used, exprs_terms, test_walked, tests_walked, walked, all_walked, each_walked, moved_on, rebound, renewed, some_assigns, bound_inside, call_walked, loop_walked, step_walked, steps_walked, entry_walked, invariant_walked, check_walked, no_terms}
+use Rattle.gh_symb.specs.Symbolic.{term_steps, state_bindings, begins, symbolic_of}
 use Rattle.gh_trace.specs.Traces.{State, IsTrace}
 use Rattle.gh_model.specs.TermValues.{version_after, HaveValues, AreTermValues}
 use Rattle.gh_model.specs.TraceLaws.{IsCounterexample}
@@ -119,33 +119,41 @@ call_up (Some p) xs ts s B =
     let r = rebound s (bound_inside p ts) in
     each_up p.gives (renewed (results_of p) (moved_on (walked p.needs r))) (then_up p.needs (results_of p) r B)
 
-step_up : (P : Program) (xs : List Name) (p : path.PathStep) (s : Terms) → UpToNow s → UpToNow (step_walked P xs p s)
-step_up P xs (path.accessed o) s B = visited_up o.name s B
-step_up P xs (path.assume l e r way) s B = expr_up r (expr_used l s) (expr_up l s B)
-step_up P xs (path.assigned x e) s B = expr_up e s B
-step_up P xs (path.made x) s B = moved_up (with_value (with_value s.kinds)) s.version (value_up (with_value s.kinds) s.version (value_up s.kinds s.version B))
-step_up P xs (path.written x e) s B = moved_up (expr_used e (used x.name s)).kinds (expr_used e (used x.name s)).version (expr_up e (used x.name s) (used_up x.name s B))
-step_up P xs (path.freed x) s B = moved_up (used x.name s).kinds (used x.name s).version (used_up x.name s B)
-step_up P xs (path.called ys f es) s B = call_up (callee_in P.procedures f.name) (names ys) (exprs_terms es (exprs_used es s)) (exprs_used es s) (exprs_up es s B)
-step_up P xs (path.looped l) s B =
+loop_up : (o : Option path.Loop) (xs : List Name) (s : Terms) → UpToNow s → UpToNow (loop_walked o xs s)
+loop_up None xs s B = B
+loop_up (Some l) xs s B =
     let zs = filter (some_assigns l.body) xs in
     walked_up l.invariant (renewed zs (moved_on (walked l.invariant s))) (then_up l.invariant zs s B)
-step_up P xs (path.answered ys es) s B = exprs_up es s B
 
-steps_up : (P : Program) (xs : List Name) (ps : List path.PathStep) (s : Terms) → UpToNow s → UpToNow (steps_walked P xs ps s)
-steps_up P xs [] s B = B
-steps_up P xs (p ∷ ps) s B = steps_up P xs ps (step_walked P xs p s) (step_up P xs p s B)
+step_up : (P : Program) (home : Procedure) (p : path.PathStep) (s : Terms) → UpToNow s → UpToNow (step_walked P home p s)
+step_up P home (path.accessed o) s B = visited_up o.name s B
+step_up P home (path.assume l e r) s B = expr_up r (expr_used l s) (expr_up l s B)
+step_up P home (path.assigned x e) s B = expr_up e s B
+step_up P home (path.made x) s B = moved_up (with_value (with_value s.kinds)) s.version (value_up (with_value s.kinds) s.version (value_up s.kinds s.version B))
+step_up P home (path.written x e) s B = moved_up (expr_used e (used x.name s)).kinds (expr_used e (used x.name s)).version (expr_up e (used x.name s) (used_up x.name s B))
+step_up P home (path.freed x) s B = moved_up (used x.name s).kinds (used x.name s).version (used_up x.name s B)
+step_up P home (path.called ys n es) s B = call_up (slice_get P.procedures n) (names ys) (exprs_terms es (exprs_used es s)) (exprs_used es s) (exprs_up es s B)
+step_up P home (path.looped n) s B = loop_up (slice_get (path.loops_of home) n) (variable_names home) s B
+step_up P home (path.answered es) s B = exprs_up es s B
+
+steps_up : (P : Program) (home : Procedure) (ps : List path.PathStep) (s : Terms) → UpToNow s → UpToNow (steps_walked P home ps s)
+steps_up P home [] s B = B
+steps_up P home (p ∷ ps) s B = steps_up P home ps (step_walked P home p s) (step_up P home p s B)
 
 entry_up : (o : Option Procedure) (ts : List ℕ) (s : Terms) → UpToNow s → UpToNow (entry_walked o ts s)
 entry_up None ts s B = B
 entry_up (Some p) ts s B = walked_up p.needs (rebound s (bound_inside p ts)) B
 
-check_up : (P : Program) (c : path.Check) (s : Terms) → UpToNow s → UpToNow (check_walked P c s)
-check_up P (path.access o) s B = used_up o.name s B
-check_up P (path.entry f es) s B = entry_up (callee_in P.procedures f.name) (exprs_terms es (exprs_used es s)) (exprs_used es s) (exprs_up es s B)
-check_up P (path.loop_entry l) s B = walked_up l.invariant s B
-check_up P (path.returned at fs) s B = each_up fs s B
-check_up P (path.loop_end l) s B = walked_up l.invariant s B
+invariant_up : (o : Option path.Loop) (s : Terms) → UpToNow s → UpToNow (invariant_walked o s)
+invariant_up None s B = B
+invariant_up (Some l) s B = walked_up l.invariant s B
+
+check_up : (P : Program) (home : Procedure) (c : path.Check) (s : Terms) → UpToNow s → UpToNow (check_walked P home c s)
+check_up P home (path.access o) s B = used_up o.name s B
+check_up P home (path.entry at n es) s B = entry_up (slice_get P.procedures n) (exprs_terms es (exprs_used es s)) (exprs_used es s) (exprs_up es s B)
+check_up P home (path.loop_entry at n) s B = invariant_up (slice_get (path.loops_of home) n) s B
+check_up P home (path.returned at) s B = each_up home.gives s B
+check_up P home (path.loop_end at n) s B = invariant_up (slice_get (path.loops_of home) n) s B
 
 null_up : UpToNow no_terms
 null_up zero i u e = absurd cc
@@ -153,50 +161,52 @@ null_up (suc t) i u e = absurd cc
 
 one_up : (p : path.PathStep) (i j : ℕ) → i ≤ j → (i ≡ j → ⊥) → version_after p i ≤ j
 one_up (path.accessed o) i j l n = l
-one_up (path.assume a e r way) i j l n = l
+one_up (path.assume a e r) i j l n = l
 one_up (path.assigned x e) i j l n = l
 one_up (path.made x) i j l n = omega (arith, l, n)
 one_up (path.written x e) i j l n = omega (arith, l, n)
 one_up (path.freed x) i j l n = omega (arith, l, n)
-one_up (path.called ys f es) i j l n = omega (arith, l, n)
-one_up (path.looped a) i j l n = omega (arith, l, n)
-one_up (path.answered ys es) i j l n = l
+one_up (path.called ys k es) i j l n = omega (arith, l, n)
+one_up (path.looped k) i j l n = omega (arith, l, n)
+one_up (path.answered es) i j l n = l
 
 -- in each version of the path what follows a term has its value
 abbrev Follows : (K : List Kind) (V : List ℕ) (h : Heap) (j : ℕ) → Type 0
 Follows K V h j = (t u v : ℕ) → slice_get K t ≡ Some (next j u) → slice_get V u ≡ Some v → slice_get V t ≡ Some (succ h v)
 
-follows_along : (P : Program) (xs : List Name) (K : List Kind) (V : List ℕ) (c : path.Check) (H : ℕ → Heap) (ps : List path.PathStep) (s : Terms) (x : State) (ys : List State)
-    → HaveValues P K V ps (term_steps P xs ps s) (state_bindings P xs ps c s) s.version x ys → HeapsAre H ps x ys s.version → IsTrace P x ps ys
-    → (j : ℕ) → s.version ≤ j → j ≤ (steps_walked P xs ps s).version → Follows K V (H j) j
-follows_along P xs K V c H [] s x ys W A T j low high =
+follows_along : (P : Program) (home : Procedure) (K : List Kind) (V : List ℕ) (c : path.Check) (H : ℕ → Heap) (ps : List path.PathStep) (s : Terms) (x : State) (ys : List State)
+    → HaveValues P K V ps (term_steps P home ps s) (state_bindings P home ps c s) s.version x ys → HeapsAre H ps x ys s.version → IsTrace P home x ps ys
+    → (j : ℕ) → s.version ≤ j → j ≤ (steps_walked P home ps s).version → Follows K V (H j) j
+follows_along P home K V c H [] s x ys W A T j low high =
     let same : s.version ≡ j = omega (arith, low, high) in
     subst (λ i. Follows K V (H i) i) same (subst (λ h. Follows K V h s.version) (sym A) W.next)
-follows_along P xs K V c H (p ∷ ps) s x [] W A T j low high = absurd W
-follows_along P xs K V c H (p ∷ ps) s x (y ∷ ys) W A T j low high = elim (cases_eq s.version j) [
+follows_along P home K V c H (p ∷ ps) s x [] W A T j low high = absurd W
+follows_along P home K V c H (p ∷ ps) s x (y ∷ ys) W A T j low high = elim (cases_eq s.version j) [
   | inl same ↦ subst (λ i. Follows K V (H i) i) same (subst (λ h. Follows K V h s.version) (sym A.0) W.0.next)
   | inr other ↦
-      let t = step_walked P xs p s in
-      let version : t.version ≡ version_after p s.version = step_version P xs p s x y T.0 in
+      let t = step_walked P home p s in
+      let version : t.version ≡ version_after p s.version = step_version P home p s x y T.0 in
       let above : version_after p s.version ≤ j = one_up p s.version j low (λ e. absurd (omega (arith, e, other))) in
       let from : t.version ≤ j = omega (arith, version, above) in
-      follows_along P xs K V c H ps t y ys (subst (λ i. HaveValues P K V ps (term_steps P xs ps t) (state_bindings P xs ps c t) i y ys) (sym version) W.3) (subst (HeapsAre H ps y ys) (sym version) A.1) T.1 j from high
+      follows_along P home K V c H ps t y ys (subst (λ i. HaveValues P K V ps (term_steps P home ps t) (state_bindings P home ps c t) i y ys) (sym version) W.3) (subst (HeapsAre H ps y ys) (sym version) A.1) T.1 j from high
 ]
 
 -- any values of the terms are values of their kinds
-pub kinds_valued : (P : Program) (c : Condition) (x : State) (ys : List State) (V : List ℕ) → IsTyped P → IsCondition P c → IsCounterexample P c x ys → AreTermValues P c x ys V → IsKindValuation (heap_in c.way.steps x ys 0) V (symbolic_of P c).terms
-kinds_valued P c x ys V typed is C values =
-    let f = found P c x ys typed is C in
-    let xs = variable_names c.procedure in
-    let K = (symbolic_of P c).terms in
-    let H = heap_in c.way.steps x ys 0 in
-    let s = walked c.start.meets no_terms in
-    let sN = steps_walked P xs c.way.steps s in
-    let version : s.version ≡ 0 = (walked_grows c.start.meets no_terms).version in
-    let up : UpTo K (check_walked P c.way.check sN).version = check_up P c.way.check sN (steps_up P xs c.way.steps s (walked_up c.start.meets no_terms null_up)) in
-    let end : (check_walked P c.way.check sN).version ≡ sN.version = check_version P c.way.check sN in
-    let heaps : HeapsAre H c.way.steps x ys s.version = subst (HeapsAre H c.way.steps x ys) (sym version) (heaps_are P H c.way.steps x ys 0 C.leads (λ j l. refl)) in
-    let along : HaveValues P K V c.way.steps (term_steps P xs c.way.steps s) (state_bindings P xs c.way.steps c.way.check s) s.version x ys = subst (λ i. HaveValues P K V c.way.steps (term_steps P xs c.way.steps s) (state_bindings P xs c.way.steps c.way.check s) i x ys) (sym version) values.along in
+pub kinds_valued : (P : Program) (p : Procedure) (c : Condition) (x : State) (ys : List State) (V : List ℕ) → IsTyped P → IsOf P c p → IsCounterexample P p c x ys → AreTermValues P p c x ys V → IsKindValuation (heap_in c.way.steps x ys 0) V (symbolic_of P p c).terms
+kinds_valued P p c x ys V typed of C values =
+    let f = found P p c x ys typed of C in
+    let K = (symbolic_of P p c).terms in
+    let ps = c.way.steps in
+    let k = c.way.check in
+    let H = heap_in ps x ys 0 in
+    let m = path.meets_at p c.start in
+    let s = begins p c.start in
+    let sN = steps_walked P p ps s in
+    let version : s.version ≡ 0 = (walked_grows m no_terms).version in
+    let up : UpTo K (check_walked P p k sN).version = check_up P p k sN (steps_up P p ps s (walked_up m no_terms null_up)) in
+    let end : (check_walked P p k sN).version ≡ sN.version = check_version P p k sN in
+    let heaps : HeapsAre H ps x ys s.version = subst (HeapsAre H ps x ys) (sym version) (heaps_are P p H ps x ys 0 C.leads (λ j l. refl)) in
+    let along : HaveValues P K V ps (term_steps P p ps s) (state_bindings P p ps k s) s.version x ys = subst (λ i. HaveValues P K V ps (term_steps P p ps s) (state_bindings P p ps k s) i x ys) (sym version) values.along in
     record {
       count = values.count;
       null = values.null;
@@ -206,5 +216,5 @@ kinds_valued P c x ys V typed is C values =
           let there = there_at V u below in
           let low : s.version ≤ i = omega (arith, version) in
           let high : i ≤ sN.version = omega (arith, up t i u e, end) in
-          (value_at V u, there, follows_along P xs K V c.way.check H c.way.steps s x ys along heaps C.leads i low high t u (value_at V u) e there);
+          (value_at V u, there, follows_along P p K V k H ps s x ys along heaps C.leads i low high t u (value_at V u) e there);
     }

@@ -4,24 +4,25 @@ use Rattle.std.proofs.Common.{refl, sym, ◌∙◌, ap, subst, inl, inr, arith}
 use Rattle.std.proofs.lemmas.Bool.{eq-eqb, eqb-true, cases_Bool}
 use Rattle.gh_ast.specs.declared.Expr.{Expr}
 use Rattle.gh_ast.specs.Plain.{Procedure, Program}
-use Rattle.gh_ast.specs.Programs.{Name, parameters_of, variable_names}
+use Rattle.gh_ast.specs.Programs.{Name, parameters_of}
 use Rattle.gh_assert.specs.Heaps.{Heap}
 use Rattle.gh_assert.specs.Meaning.{Store}
 use Rattle.gh_assert.specs.Walks.{succ}
 use Rattle.gh_path.specs.Graphs as path
-use Rattle.gh_path.specs.Terms.{Kind, null, next, Bindings, unbound, bound, all_bound, Terms, expr_used, exprs_used, exprs_terms, walked, rebound, callee_in, bound_inside, entry_walked, check_walked, step_walked, steps_walked, no_terms}
-use Rattle.gh_symb.specs.Symbolic.{TermStep, accessed, assumed, same, written, made, freed, parts, term_step, term_steps, step_used, check_used, first_use, used_first, either_term, state_bindings, symbolic_of}
+use Rattle.gh_path.specs.Terms.{Kind, null, next, Bindings, unbound, bound, all_bound, Terms, expr_used, exprs_used, exprs_terms, rebound, bound_inside, entry_walked, invariant_walked, check_walked, step_walked, steps_walked, no_terms}
+use Rattle.gh_symb.specs.Symbolic.{TermStep, accessed, assumed, same, written, made, freed, parts, term_step, term_steps, step_used, check_used, first_use, used_first, either_term, state_bindings, begins, symbolic_of}
 use Rattle.gh_trace.specs.Traces.{State, Takes, IsTrace}
 use Rattle.gh_model.specs.TermValues.{version_after, HasStateValues, HasCellValues, HasResultValues, HaveValues, AreTermValues}
 use Rattle.gh_ast.specs.Rules.{IsTyped}
-use Rattle.gh_path.specs.Conditions.{Condition, IsCondition}
+use Rattle.gh_path.specs.Conditions.{Condition, IsOf}
 use Rattle.gh_model.specs.TraceLaws.{IsCounterexample, ValuesExist}
 use Rattle.gh_model.proofs.terms.Extension.{Grows, stays, onto, bound_cases, exprs_grow, walked_grows}
 use Rattle.gh_model.proofs.terms.Denotation.{Sound, expr_some}
 use Rattle.gh_model.proofs.terms.Callees.{Gives}
-use Rattle.gh_model.proofs.soundness.WalkValues.{More, IsKindValuation, IsValuation, gives_more, used_valued, exprs_valued, walked_valued, sound_of, each_valued, same_term}
-use Rattle.gh_path.proofs.LoopVariables.{AreOver, loops_are_over}
-use Rattle.gh_model.proofs.soundness.StepValues.{step_values}
+use Rattle.gh_model.proofs.soundness.WalkValues.{More, IsKindValuation, IsValuation, Extended, done, gives_more, used_valued, exprs_valued, walked_valued, sound_of, each_valued, same_term}
+use Rattle.gh_path.proofs.LoopVariables.{loop_is_over}
+use Rattle.gh_model.proofs.paths.Ways.{its_declared}
+use Rattle.gh_model.proofs.soundness.StepValues.{LoopsAreOver, step_values}
 use Rattle.gh_model.proofs.ownership.Traces.{here, step_version}
 
 -- the heap of each version
@@ -42,45 +43,45 @@ front_heap (p ∷ ps) x (y ∷ ys) i = ap (λ b. cond b x.heap (heap_in ps y ys 
 
 goes_up : (p : path.PathStep) (i : ℕ) → i ≤ version_after p i
 goes_up (path.accessed o) i = omega arith
-goes_up (path.assume l e r way) i = omega arith
+goes_up (path.assume l e r) i = omega arith
 goes_up (path.assigned x e) i = omega arith
 goes_up (path.made x) i = omega arith
 goes_up (path.written x e) i = omega arith
 goes_up (path.freed x) i = omega arith
-goes_up (path.called ys f es) i = omega arith
-goes_up (path.looped l) i = omega arith
-goes_up (path.answered ys es) i = omega arith
+goes_up (path.called ys n es) i = omega arith
+goes_up (path.looped n) i = omega arith
+goes_up (path.answered es) i = omega arith
 
 not_up : (i : ℕ) → i + 1 ≡ i → ⊥
 not_up i e = omega arith
 
-same_heap : (P : Program) (p : path.PathStep) (i : ℕ) (x y : State) → Takes P p x y → version_after p i ≡ i → y.heap ≡ x.heap
-same_heap P (path.accessed o) i x y t e = ap (λ (z : State). z.heap) t.1
-same_heap P (path.assume l e' r way) i x y t e = ap (λ (z : State). z.heap) t.1
-same_heap P (path.assigned z e') i x y t e = t.3
-same_heap P (path.made z) i x y t e = absurd (not_up i e)
-same_heap P (path.written z e') i x y t e = absurd (not_up i e)
-same_heap P (path.freed z) i x y t e = absurd (not_up i e)
-same_heap P (path.called zs f es) i x y t e = absurd (not_up i e)
-same_heap P (path.looped l) i x y t e = absurd (not_up i e)
-same_heap P (path.answered zs es) i x y t e = t.3
+same_heap : (P : Program) (home : Procedure) (p : path.PathStep) (i : ℕ) (x y : State) → Takes P home p x y → version_after p i ≡ i → y.heap ≡ x.heap
+same_heap P home (path.accessed o) i x y t e = ap (λ (z : State). z.heap) t.1
+same_heap P home (path.assume l e' r) i x y t e = ap (λ (z : State). z.heap) t.1
+same_heap P home (path.assigned z e') i x y t e = t.3
+same_heap P home (path.made z) i x y t e = absurd (not_up i e)
+same_heap P home (path.written z e') i x y t e = absurd (not_up i e)
+same_heap P home (path.freed z) i x y t e = absurd (not_up i e)
+same_heap P home (path.called zs n es) i x y t e = absurd (not_up i e)
+same_heap P home (path.looped n) i x y t e = absurd (not_up i e)
+same_heap P home (path.answered es) i x y t e = t.3
 
 -- past the first version the heaps are those of the rest
-past_heap : (P : Program) (p : path.PathStep) (ps : List path.PathStep) (x y : State) (ys : List State) (i j : ℕ) → Takes P p x y → version_after p i ≤ j → heap_in (p ∷ ps) x (y ∷ ys) i j ≡ heap_in ps y ys (version_after p i) j
-past_heap P p ps x y ys i j t l = elim (cases_Bool (j == i)) [
+past_heap : (P : Program) (home : Procedure) (p : path.PathStep) (ps : List path.PathStep) (x y : State) (ys : List State) (i j : ℕ) → Takes P home p x y → version_after p i ≤ j → heap_in (p ∷ ps) x (y ∷ ys) i j ≡ heap_in ps y ys (version_after p i) j
+past_heap P home p ps x y ys i j t l = elim (cases_Bool (j == i)) [
   | inr off ↦ ap (λ b. cond b x.heap (heap_in ps y ys (version_after p i) j)) off
   | inl yes' ↦
       let equal : j ≡ i = eqb-true j i yes' in
       let stays' : version_after p i ≡ i = omega (arith, goes_up p i, l) in
       let at : version_after p i ≡ j = omega arith in
-      ap (λ b. cond b x.heap (heap_in ps y ys (version_after p i) j)) yes' ∙ sym (same_heap P p i x y t stays') ∙ sym (front_heap ps y ys (version_after p i)) ∙ ap (heap_in ps y ys (version_after p i)) at
+      ap (λ b. cond b x.heap (heap_in ps y ys (version_after p i) j)) yes' ∙ sym (same_heap P home p i x y t stays') ∙ sym (front_heap ps y ys (version_after p i)) ∙ ap (heap_in ps y ys (version_after p i)) at
 ]
 
-pub heaps_are : (P : Program) (H : ℕ → Heap) (ps : List path.PathStep) (x : State) (ys : List State) (i : ℕ) → IsTrace P x ps ys → ((j : ℕ) → i ≤ j → H j ≡ heap_in ps x ys i j) → HeapsAre H ps x ys i
-heaps_are P H [] x ys i T e = e i (omega arith)
-heaps_are P H (p ∷ ps) x [] i T e = absurd T
-heaps_are P H (p ∷ ps) x (y ∷ ys) i T e =
-    (e i (omega arith) ∙ front_heap (p ∷ ps) x (y ∷ ys) i, heaps_are P H ps y ys (version_after p i) T.1 (λ j l. e j (omega (arith, goes_up p i, l)) ∙ past_heap P p ps x y ys i j T.0 l))
+pub heaps_are : (P : Program) (home : Procedure) (H : ℕ → Heap) (ps : List path.PathStep) (x : State) (ys : List State) (i : ℕ) → IsTrace P home x ps ys → ((j : ℕ) → i ≤ j → H j ≡ heap_in ps x ys i j) → HeapsAre H ps x ys i
+heaps_are P home H [] x ys i T e = e i (omega arith)
+heaps_are P home H (p ∷ ps) x [] i T e = absurd T
+heaps_are P home H (p ∷ ps) x (y ∷ ys) i T e =
+    (e i (omega arith) ∙ front_heap (p ∷ ps) x (y ∷ ys) i, heaps_are P home H ps y ys (version_after p i) T.1 (λ j l. e j (omega (arith, goes_up p i, l)) ∙ past_heap P home p ps x y ys i j T.0 l))
 
 pub first_heap : (H : ℕ → Heap) (ps : List path.PathStep) (x : State) (ys : List State) (i : ℕ) → HeapsAre H ps x ys i → H i ≡ x.heap
 first_heap H [] x ys i A = A
@@ -88,11 +89,11 @@ first_heap H (p ∷ ps) x [] i A = A
 first_heap H (p ∷ ps) x (y ∷ ys) i A = A.0
 
 -- the terms of a check
-record CheckValues (H : ℕ → Heap) (V : List ℕ) (P : Program) (c : path.Check) (x : State) (s : Terms) : Type 0 where
+record CheckValues (H : ℕ → Heap) (V : List ℕ) (P : Program) (home : Procedure) (c : path.Check) (x : State) (s : Terms) : Type 0 where
   values : List ℕ
   more : More V values
-  kinds : IsKindValuation H values (check_walked P c s).kinds
-  used : Gives values x.store (check_used c s).bindings
+  kinds : IsKindValuation H values (check_walked P home c s).kinds
+  used : Gives values x.store (check_used home c s).bindings
 
 -- a store for a callee's parameters
 abbrev AreListed : List ℕ → Bindings → Type 0
@@ -132,17 +133,21 @@ entry_values H V (Some p) ts t K L =
     let E = walked_valued H (λ n. value_under V (b n)) p.needs V (rebound t b) (record { kinds = K; gives = store_under V b B }) in
     (E.values, E.more, E.valued.kinds)
 
-check_values : (H : ℕ → Heap) (V : List ℕ) (P : Program) (c : path.Check) (x : State) (s : Terms) → IsValuation H V x.store s → H s.version ≡ x.heap → CheckValues H V P c x s
-check_values H V P (path.access o) x s S at = let E = used_valued H V x.store o.name s S in record { values = E.values; more = E.more; kinds = E.valued.kinds; used = E.valued.gives }
-check_values H V P (path.entry f es) x s S at =
+invariant_values : (H : ℕ → Heap) (V : List ℕ) (st : Store) (o : Option path.Loop) (s : Terms) → IsValuation H V st s → Extended H V st (invariant_walked o s)
+invariant_values H V st None s S = done H V st s S
+invariant_values H V st (Some l) s S = walked_valued H st l.invariant V s S
+
+check_values : (H : ℕ → Heap) (V : List ℕ) (P : Program) (home : Procedure) (c : path.Check) (x : State) (s : Terms) → IsValuation H V x.store s → H s.version ≡ x.heap → CheckValues H V P home c x s
+check_values H V P home (path.access o) x s S at = let E = used_valued H V x.store o.name s S in record { values = E.values; more = E.more; kinds = E.valued.kinds; used = E.valued.gives }
+check_values H V P home (path.entry w n es) x s S at =
     let T = exprs_used es s in
     let E = exprs_valued H V x.store es s S in
     let sound = sound_of H E.values x.store x.heap T (ap H (exprs_grow es s).version ∙ at) E.valued in
-    let F = entry_values H E.values (callee_in P.procedures f.name) (exprs_terms es T) T E.valued.kinds (exprs_listed T.kinds E.values x.store x.heap es s T (stays T) sound) in
+    let F = entry_values H E.values (slice_get P.procedures n) (exprs_terms es T) T E.valued.kinds (exprs_listed T.kinds E.values x.store x.heap es s T (stays T) sound) in
     record { values = F.0; more = λ t v e. F.1 t v (E.more t v e); kinds = F.2; used = gives_more E.values F.0 x.store T.bindings F.1 E.valued.gives }
-check_values H V P (path.loop_entry l) x s S at = let E = walked_valued H x.store l.invariant V s S in record { values = E.values; more = E.more; kinds = E.valued.kinds; used = E.valued.gives }
-check_values H V P (path.returned w fs) x s S at = let E = each_valued H x.store fs V s S in record { values = E.values; more = E.more; kinds = E.valued.kinds; used = E.valued.gives }
-check_values H V P (path.loop_end l) x s S at = let E = walked_valued H x.store l.invariant V s S in record { values = E.values; more = E.more; kinds = E.valued.kinds; used = E.valued.gives }
+check_values H V P home (path.loop_entry w n) x s S at = let E = invariant_values H V x.store (slice_get (path.loops_of home) n) s S in record { values = E.values; more = E.more; kinds = E.valued.kinds; used = E.valued.gives }
+check_values H V P home (path.returned w) x s S at = let E = each_valued H x.store home.gives V s S in record { values = E.values; more = E.more; kinds = E.valued.kinds; used = E.valued.gives }
+check_values H V P home (path.loop_end w n) x s S at = let E = invariant_values H V x.store (slice_get (path.loops_of home) n) s S in record { values = E.values; more = E.more; kinds = E.valued.kinds; used = E.valued.gives }
 
 -- a state, once the values of all terms stand
 state_values : (H : ℕ → Heap) (W : List ℕ) (K : List Kind) (i : ℕ) (b : Bindings) (x : State) → IsKindValuation H W K → H i ≡ x.heap → Gives W x.store b → HasStateValues K W i b x
@@ -154,39 +159,39 @@ state_values H W K i b x S at G = record {
 }
 
 -- what variables get at their first use
-abbrev FirstGives : Program → List Name → List path.PathStep → path.Check → Terms → List ℕ → Store → Type 0
-FirstGives P xs ps c s W st = (n : Name) (t : ℕ) → first_use P xs ps c s n ≡ Some t → slice_get W t ≡ Some (st n)
+abbrev FirstGives : Program → Procedure → List path.PathStep → path.Check → Terms → List ℕ → Store → Type 0
+FirstGives P home ps c s W st = (n : Name) (t : ℕ) → first_use P home ps c s n ≡ Some t → slice_get W t ≡ Some (st n)
 
-here_gives : (P : Program) (xs : List Name) (ps : List path.PathStep) (c : path.Check) (s : Terms) (W : List ℕ) (st : Store) → Gives W st s.bindings → FirstGives P xs ps c s W st → Gives W st (here P xs ps c s)
-here_gives P xs ps c s W st G F n t e = by_binding (s.bindings n) refl
+here_gives : (P : Program) (home : Procedure) (ps : List path.PathStep) (c : path.Check) (s : Terms) (W : List ℕ) (st : Store) → Gives W st s.bindings → FirstGives P home ps c s W st → Gives W st (here P home ps c s)
+here_gives P home ps c s W st G F n t e = by_binding (s.bindings n) refl
   where
     by_binding : (o : Option ℕ) → s.bindings n ≡ o → slice_get W t ≡ Some (st n)
     by_binding (Some u) f =
-        let is : u ≡ t = same_term u t (sym (ap (λ o. either_term o (first_use P xs ps c s n)) f) ∙ e) in
+        let is : u ≡ t = same_term u t (sym (ap (λ o. either_term o (first_use P home ps c s n)) f) ∙ e) in
         ap (slice_get W) (sym is) ∙ G n u f
-    by_binding None f = F n t (sym (ap (λ o. either_term o (first_use P xs ps c s n)) f) ∙ e)
+    by_binding None f = F n t (sym (ap (λ o. either_term o (first_use P home ps c s n)) f) ∙ e)
 
 -- the values of all terms, from a state on
-record Along (P : Program) (xs : List Name) (H : ℕ → Heap) (c : path.Check) (ps : List path.PathStep) (s : Terms) (x : State) (ys : List State) (V : List ℕ) : Type 0 where
+record Along (P : Program) (home : Procedure) (H : ℕ → Heap) (c : path.Check) (ps : List path.PathStep) (s : Terms) (x : State) (ys : List State) (V : List ℕ) : Type 0 where
   values : List ℕ
   more : More V values
-  kinds : IsKindValuation H values (check_walked P c (steps_walked P xs ps s)).kinds
-  along : HaveValues P (check_walked P c (steps_walked P xs ps s)).kinds values ps (term_steps P xs ps s) (state_bindings P xs ps c s) s.version x ys
-  first : FirstGives P xs ps c s values x.store
+  kinds : IsKindValuation H values (check_walked P home c (steps_walked P home ps s)).kinds
+  along : HaveValues P (check_walked P home c (steps_walked P home ps s)).kinds values ps (term_steps P home ps s) (state_bindings P home ps c s) s.version x ys
+  first : FirstGives P home ps c s values x.store
 
 -- a step's first uses, from those after it
-first_before : (P : Program) (xs : List Name) (p : path.PathStep) (ps : List path.PathStep) (c : path.Check) (s : Terms) (W : List ℕ) (x y : State) → Gives W x.store (step_used p s).bindings → ((n : Name) → (step_walked P xs p s).bindings n ≡ None → y.store n ≡ x.store n) → FirstGives P xs ps c (step_walked P xs p s) W y.store → FirstGives P xs (p ∷ ps) c s W x.store
-first_before P xs p ps c s W x y G kept F n t e = by_used ((step_used p s).bindings n) refl
+first_before : (P : Program) (home : Procedure) (p : path.PathStep) (ps : List path.PathStep) (c : path.Check) (s : Terms) (W : List ℕ) (x y : State) → Gives W x.store (step_used home p s).bindings → ((n : Name) → (step_walked P home p s).bindings n ≡ None → y.store n ≡ x.store n) → FirstGives P home ps c (step_walked P home p s) W y.store → FirstGives P home (p ∷ ps) c s W x.store
+first_before P home p ps c s W x y G kept F n t e = by_used ((step_used home p s).bindings n) refl
   where
-    by_bound : (o : Option ℕ) → (step_walked P xs p s).bindings n ≡ o → used_first None o (first_use P xs ps c (step_walked P xs p s) n) ≡ Some t → slice_get W t ≡ Some (x.store n)
+    by_bound : (o : Option ℕ) → (step_walked P home p s).bindings n ≡ o → used_first None o (first_use P home ps c (step_walked P home p s) n) ≡ Some t → slice_get W t ≡ Some (x.store n)
     by_bound (Some u) f g = absurd cc
     by_bound None f g = F n t g ∙ ap Some (kept n f)
 
-    by_used : (o : Option ℕ) → (step_used p s).bindings n ≡ o → slice_get W t ≡ Some (x.store n)
+    by_used : (o : Option ℕ) → (step_used home p s).bindings n ≡ o → slice_get W t ≡ Some (x.store n)
     by_used (Some u) f =
-        let is : u ≡ t = same_term u t (sym (ap (λ o. used_first o ((step_walked P xs p s).bindings n) (first_use P xs ps c (step_walked P xs p s) n)) f) ∙ e) in
+        let is : u ≡ t = same_term u t (sym (ap (λ o. used_first o ((step_walked P home p s).bindings n) (first_use P home ps c (step_walked P home p s) n)) f) ∙ e) in
         ap (slice_get W) (sym is) ∙ G n u f
-    by_used None f = by_bound ((step_walked P xs p s).bindings n) refl (sym (ap (λ o. used_first o ((step_walked P xs p s).bindings n) (first_use P xs ps c (step_walked P xs p s) n)) f) ∙ e)
+    by_used None f = by_bound ((step_walked P home p s).bindings n) refl (sym (ap (λ o. used_first o ((step_walked P home p s).bindings n) (first_use P home ps c (step_walked P home p s) n)) f) ∙ e)
 
 cells_more : (V W : List ℕ) (q : TermStep) (y : State) → More V W → HasCellValues V q y → HasCellValues W q y
 cells_more V W (made l t) y m c = (c.0, c.1, m l c.0 c.2, m t c.1 c.3, c.4)
@@ -198,51 +203,51 @@ cells_more V W (freed t) y m c = tt
 cells_more V W (parts b a) y m c = tt
 
 results_more : (P : Program) (V W : List ℕ) (p : path.PathStep) (q : TermStep) (y : State) → More V W → HasResultValues P V p q y → HasResultValues P W p q y
-results_more P V W (path.called ys f es) (parts b as') y m R = λ p inside d e a there r t c g. m t (inside r) (R p inside d e a there r t c g)
-results_more P V W (path.called ys f es) (made l t) y m R = tt
-results_more P V W (path.called ys f es) (accessed t) y m R = tt
-results_more P V W (path.called ys f es) (assumed t e u) y m R = tt
-results_more P V W (path.called ys f es) same y m R = tt
-results_more P V W (path.called ys f es) (written t u) y m R = tt
-results_more P V W (path.called ys f es) (freed t) y m R = tt
+results_more P V W (path.called ys n es) (parts b as') y m R = λ p inside d e a there r t c g. m t (inside r) (R p inside d e a there r t c g)
+results_more P V W (path.called ys n es) (made l t) y m R = tt
+results_more P V W (path.called ys n es) (accessed t) y m R = tt
+results_more P V W (path.called ys n es) (assumed t e u) y m R = tt
+results_more P V W (path.called ys n es) same y m R = tt
+results_more P V W (path.called ys n es) (written t u) y m R = tt
+results_more P V W (path.called ys n es) (freed t) y m R = tt
 results_more P V W (path.accessed o) q y m R = tt
-results_more P V W (path.assume l e r way) q y m R = tt
+results_more P V W (path.assume l e r) q y m R = tt
 results_more P V W (path.assigned x e) q y m R = tt
 results_more P V W (path.made x) q y m R = tt
 results_more P V W (path.written x e) q y m R = tt
 results_more P V W (path.freed x) q y m R = tt
-results_more P V W (path.looped l) q y m R = tt
-results_more P V W (path.answered ys es) q y m R = tt
+results_more P V W (path.looped n) q y m R = tt
+results_more P V W (path.answered es) q y m R = tt
 
-values_along : (P : Program) (xs : List Name) (H : ℕ → Heap) (c : path.Check) (ps : List path.PathStep) (s : Terms) (x : State) (ys : List State) (V : List ℕ) → IsValuation H V x.store s → HeapsAre H ps x ys s.version → IsTrace P x ps ys → AreOver xs ps → Along P xs H c ps s x ys V
-values_along P xs H c [] s x ys V S A T over =
-    let C = check_values H V P c x s S A in
+values_along : (P : Program) (home : Procedure) (H : ℕ → Heap) (c : path.Check) → LoopsAreOver home → (ps : List path.PathStep) (s : Terms) (x : State) (ys : List State) (V : List ℕ) → IsValuation H V x.store s → HeapsAre H ps x ys s.version → IsTrace P home x ps ys → Along P home H c ps s x ys V
+values_along P home H c over [] s x ys V S A T =
+    let C = check_values H V P home c x s S A in
     record {
       values = C.values;
       more = C.more;
       kinds = C.kinds;
-      along = state_values H C.values (check_walked P c s).kinds s.version (here P xs [] c s) x C.kinds A (here_gives P xs [] c s C.values x.store (gives_more V C.values x.store s.bindings C.more S.gives) C.used);
+      along = state_values H C.values (check_walked P home c s).kinds s.version (here P home [] c s) x C.kinds A (here_gives P home [] c s C.values x.store (gives_more V C.values x.store s.bindings C.more S.gives) C.used);
       first = C.used;
     }
-values_along P xs H c (p ∷ ps) s x [] V S A T over = absurd T
-values_along P xs H c (p ∷ ps) s x (y ∷ ys) V S A T over =
-    let t = step_walked P xs p s in
-    let R = step_values H V P xs p s x y over.0 S A.0 T.0 in
-    let version : t.version ≡ version_after p s.version = step_version P xs p s x y T.0 in
-    let I = values_along P xs H c ps t y ys R.values R.valued (subst (HeapsAre H ps y ys) (sym version) A.1) T.1 over.1 in
+values_along P home H c over (p ∷ ps) s x [] V S A T = absurd T
+values_along P home H c over (p ∷ ps) s x (y ∷ ys) V S A T =
+    let t = step_walked P home p s in
+    let R = step_values H V P home p s x y over S A.0 T.0 in
+    let version : t.version ≡ version_after p s.version = step_version P home p s x y T.0 in
+    let I = values_along P home H c over ps t y ys R.values R.valued (subst (HeapsAre H ps y ys) (sym version) A.1) T.1 in
     let W = I.values in
-    let K = (check_walked P c (steps_walked P xs ps t)).kinds in
+    let K = (check_walked P home c (steps_walked P home ps t)).kinds in
     let more : More V W = λ j v e. I.more j v (R.more j v e) in
-    let first : FirstGives P xs (p ∷ ps) c s W x.store = first_before P xs p ps c s W x y (gives_more R.values W x.store (step_used p s).bindings I.more R.used) R.kept I.first in
+    let first : FirstGives P home (p ∷ ps) c s W x.store = first_before P home p ps c s W x y (gives_more R.values W x.store (step_used home p s).bindings I.more R.used) R.kept I.first in
     record {
       values = W;
       more = more;
       kinds = I.kinds;
       along = (
-        state_values H W K s.version (here P xs (p ∷ ps) c s) x I.kinds A.0 (here_gives P xs (p ∷ ps) c s W x.store (gives_more V W x.store s.bindings more S.gives) first),
-        cells_more R.values W (term_step P xs p s) y I.more R.cells,
-        results_more P R.values W p (term_step P xs p s) y I.more R.results,
-        subst (λ i. HaveValues P K W ps (term_steps P xs ps t) (state_bindings P xs ps c t) i y ys) version I.along,
+        state_values H W K s.version (here P home (p ∷ ps) c s) x I.kinds A.0 (here_gives P home (p ∷ ps) c s W x.store (gives_more V W x.store s.bindings more S.gives) first),
+        cells_more R.values W (term_step P home p s) y I.more R.cells,
+        results_more P R.values W p (term_step P home p s) y I.more R.results,
+        subst (λ i. HaveValues P K W ps (term_steps P home ps t) (state_bindings P home ps c t) i y ys) version I.along,
       );
       first = first;
     }
@@ -255,24 +260,26 @@ null_kinds H = record { count = refl; null = refl; follows = λ t i u e. null_on
     null_only zero i u e = absurd cc
     null_only (suc t) i u e = absurd cc
 
-pub found : (P : Program) (c : Condition) (x : State) (ys : List State) → IsTyped P → IsCondition P c → IsCounterexample P c x ys → (V : List ℕ) × AreTermValues P c x ys V × IsKindValuation (heap_in c.way.steps x ys 0) V (symbolic_of P c).terms
-found P c x ys typed is C =
-    let xs = variable_names c.procedure in
-    let H = heap_in c.way.steps x ys 0 in
-    let s = walked c.start.meets no_terms in
-    let version : s.version ≡ 0 = (walked_grows c.start.meets no_terms).version in
-    let E = walked_valued H x.store c.start.meets (0 ∷ []) no_terms (record { kinds = null_kinds H; gives = λ n t e. absurd cc }) in
-    let A : HeapsAre H c.way.steps x ys 0 = heaps_are P H c.way.steps x ys 0 C.leads (λ j l. refl) in
-    let over : AreOver xs c.way.steps = loops_are_over P typed c.procedure is.declared c.start c.way.steps c.way.check is.begins is.leads in
-    let I = values_along P xs H c.way.check c.way.steps s x ys E.values E.valued (subst (HeapsAre H c.way.steps x ys) (sym version) A) C.leads over in (
+pub found : (P : Program) (p : Procedure) (c : Condition) (x : State) (ys : List State) → IsTyped P → IsOf P c p → IsCounterexample P p c x ys → (V : List ℕ) × AreTermValues P p c x ys V × IsKindValuation (heap_in c.way.steps x ys 0) V (symbolic_of P p c).terms
+found P p c x ys typed of C =
+    let ps = c.way.steps in
+    let k = c.way.check in
+    let H = heap_in ps x ys 0 in
+    let f = path.meets_at p c.start in
+    let s = begins p c.start in
+    let version : s.version ≡ 0 = (walked_grows f no_terms).version in
+    let E = walked_valued H x.store f (0 ∷ []) no_terms (record { kinds = null_kinds H; gives = λ n t e. absurd cc }) in
+    let A : HeapsAre H ps x ys 0 = heaps_are P p H ps x ys 0 C.leads (λ j l. refl) in
+    let over : LoopsAreOver p = loop_is_over P typed p (its_declared P p c of) in
+    let I = values_along P p H k over ps s x ys E.values E.valued (subst (HeapsAre H ps x ys) (sym version) A) C.leads in (
       I.values,
       record {
         count = I.kinds.count;
         null = I.kinds.null;
-        along = subst (λ i. HaveValues P (symbolic_of P c).terms I.values c.way.steps (term_steps P xs c.way.steps s) (state_bindings P xs c.way.steps c.way.check s) i x ys) version I.along;
+        along = subst (λ i. HaveValues P (symbolic_of P p c).terms I.values ps (term_steps P p ps s) (state_bindings P p ps k s) i x ys) version I.along;
       },
       I.kinds,
     )
 
 pub values_exist : ValuesExist
-values_exist P c x ys typed is C = let f = found P c x ys typed is C in (f.0, f.1)
+values_exist P p c x ys typed is of C = let f = found P p c x ys typed of C in (f.0, f.1)

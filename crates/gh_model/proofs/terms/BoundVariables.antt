@@ -1,5 +1,5 @@
 -- Only variables of a condition's procedure have terms at its states.
-use Rattle.std.specs.Prelude.{◌≡◌, ◌⊎◌, ℕ, List, [], ◌∷◌, filter, Option, Some, None, Bool, true, false, cond, Contains, All}
+use Rattle.std.specs.Prelude.{◌≡◌, ◌⊎◌, ℕ, List, [], ◌∷◌, filter, Option, Some, None, Bool, true, false, cond, slice_get, Contains, All}
 use Rattle.std.proofs.lemmas.List.Elements.{All-head, All-tail}
 use Rattle.std.proofs.Common.{refl, sym, subst, inl, inr}
 use Rattle.gh_ast.specs.declared.Operand.{Operand}
@@ -8,14 +8,15 @@ use Rattle.gh_ast.specs.declared.Expr.{Expr}
 use Rattle.gh_ast.specs.declared.Expr.TheVariants.{Plain, Read}
 use Rattle.gh_ast.specs.Plain.{Test, compare, negation, conjunction, disjunction, Tests, no_tests, test_first}
 use Rattle.gh_ast.specs.Plain.{Formula, empty, comparison, points_to, cell, segment, star, cases, Formulas, no_formulas, formula_first, Procedure, Program}
-use Rattle.gh_ast.specs.Programs.{Name, names, variable_names}
+use Rattle.gh_ast.specs.Programs.{Name, names, results_of, variable_names}
 use Rattle.gh_ast.specs.Names.{OperandIn, ExprIn, TestIn, TestsIn, FormulaIn, FormulasIn}
 use Rattle.gh_ast.proofs.Lists.{member_first, member_later, member_cases}
-use Rattle.gh_path.specs.Graphs.{Check, access, entry, loop_entry, returned, loop_end, PathStep, accessed, assume, assigned, made, written, freed, called, looped, answered}
-use Rattle.gh_path.specs.Terms.{with_value, Bindings, bound, all_bound, Terms, terms, used, used_as, followed, operand_used, expr_used, expr_term, exprs_used, exprs_terms, test_walked, tests_walked, walked, all_walked, moved_on, renewed, some_assigns, callee_in, call_walked, step_walked, no_terms, each_walked}
-use Rattle.gh_symb.specs.Symbolic.{step_used, check_used, used_first, first_use, either_term, state_bindings}
+use Rattle.gh_path.specs.Graphs.{Check, access, entry, loop_entry, returned, loop_end, PathStep, accessed, assume, assigned, made, written, freed, called, looped, answered, Loop, loops_of, meets_at}
+use Rattle.gh_path.specs.Terms.{with_value, Bindings, bound, all_bound, Terms, terms, used, used_as, followed, operand_used, expr_used, expr_term, exprs_used, exprs_terms, test_walked, tests_walked, walked, all_walked, moved_on, renewed, some_assigns, call_walked, loop_walked, invariant_walked, step_walked, no_terms, each_walked}
+use Rattle.gh_symb.specs.Symbolic.{step_used, check_used, used_first, first_use, either_term, state_bindings, begins}
 use Rattle.gh_model.specs.BoundVariables.{AreOf, AllAreOf, OnlyVariablesHaveTerms}
 use Rattle.gh_model.proofs.terms.Extension.{bound_cases}
+use Rattle.gh_model.proofs.paths.Ways.{its_declared, its_path}
 use Rattle.gh_model.proofs.paths.PathVariables.{AllOf, ExprsIn, StepIn, CheckIn, PathIn, start_in}
 
 bound_of : (xs : List Name) (b : Bindings) (x : Name) (u : ℕ) → Contains xs x → AreOf xs b → AreOf xs (bound b x u)
@@ -97,36 +98,52 @@ call_of : (xs : List Name) (o : Option Procedure) (ys : List Name) (ts : List �
 call_of xs None ys ts s A B = B
 call_of xs (Some p) ys ts s A B = all_bound_of xs s.bindings ys _ A B
 
-step_of : (P : Program) (xs : List Name) (p : PathStep) (s : Terms) → StepIn xs p → AreOf xs s.bindings → AreOf xs (step_walked P xs p s).bindings
-step_of P xs (accessed o) s c B = used_of xs o.name s c B
-step_of P xs (assume l e r way) s c B = expr_of xs r (expr_used l s) c.1 (expr_of xs l s c.0 B)
-step_of P xs (assigned x e) s c B = bound_of xs (expr_used e s).bindings x.name (expr_term e (expr_used e s)) c.0 (expr_of xs e s c.1 B)
-step_of P xs (made x) s c B = bound_of xs s.bindings x.name _ c B
-step_of P xs (written x e) s c B = expr_of xs e (used x.name s) c.1 (used_of xs x.name s c.0 B)
-step_of P xs (freed x) s c B = used_of xs x.name s c B
-step_of P xs (called ys f es) s c B = call_of xs (callee_in P.procedures f.name) (names ys) (exprs_terms es (exprs_used es s)) (exprs_used es s) c.0 (exprs_of xs es s c.1 B)
-step_of P xs (looped l) s c B =
-    walked_of xs l.invariant (renewed (filter (some_assigns l.body) xs) (moved_on (walked l.invariant s))) c
-    (renewed_of xs (filter (some_assigns l.body) xs) (moved_on (walked l.invariant s)) (filter_of (some_assigns l.body) xs) (walked_of xs l.invariant s c B))
-step_of P xs (answered ys es) s c B = all_bound_of xs (exprs_used es s).bindings ys (exprs_terms es (exprs_used es s)) c.0 (exprs_of xs es s c.1 B)
+-- what a loop keeps to, and what it assigns
+invariant_of : (xs : List Name) (o : Option Loop) (s : Terms) → ((l : Loop) → o ≡ Some l → FormulaIn l.invariant xs) → AreOf xs s.bindings → AreOf xs (invariant_walked o s).bindings
+invariant_of xs None s c B = B
+invariant_of xs (Some l) s c B = walked_of xs l.invariant s (c l refl) B
 
-step_used_of : (xs : List Name) (p : PathStep) (s : Terms) → StepIn xs p → AreOf xs s.bindings → AreOf xs (step_used p s).bindings
-step_used_of xs (accessed o) s c B = used_of xs o.name s c B
-step_used_of xs (assume l e r way) s c B = expr_of xs r (expr_used l s) c.1 (expr_of xs l s c.0 B)
-step_used_of xs (assigned x e) s c B = expr_of xs e s c.1 B
-step_used_of xs (made x) s c B = B
-step_used_of xs (written x e) s c B = expr_of xs e (used x.name s) c.1 (used_of xs x.name s c.0 B)
-step_used_of xs (freed x) s c B = used_of xs x.name s c B
-step_used_of xs (called ys f es) s c B = exprs_of xs es s c.1 B
-step_used_of xs (looped l) s c B = walked_of xs l.invariant s c B
-step_used_of xs (answered ys es) s c B = exprs_of xs es s c.1 B
+loop_of : (xs : List Name) (o : Option Loop) (s : Terms) → ((l : Loop) → o ≡ Some l → FormulaIn l.invariant xs) → AreOf xs s.bindings → AreOf xs (loop_walked o xs s).bindings
+loop_of xs None s c B = B
+loop_of xs (Some l) s c B =
+    let zs = filter (some_assigns l.body) xs in
+    let t = moved_on (walked l.invariant s) in
+    walked_of xs l.invariant (renewed zs t) (c l refl) (renewed_of xs zs t (filter_of (some_assigns l.body) xs) (walked_of xs l.invariant s (c l refl) B))
 
-check_used_of : (xs : List Name) (k : Check) (s : Terms) → CheckIn xs k → AreOf xs s.bindings → AreOf xs (check_used k s).bindings
-check_used_of xs (access o) s c B = used_of xs o.name s c B
-check_used_of xs (entry f es) s c B = exprs_of xs es s c B
-check_used_of xs (loop_entry l) s c B = walked_of xs l.invariant s c B
-check_used_of xs (returned at fs) s c B = each_of xs fs s c B
-check_used_of xs (loop_end l) s c B = walked_of xs l.invariant s c B
+step_of : (P : Program) (home : Procedure) (p : PathStep) (s : Terms) → StepIn home p → AreOf (variable_names home) s.bindings → AreOf (variable_names home) (step_walked P home p s).bindings
+step_of P home (accessed o) s c B = used_of (variable_names home) o.name s c B
+step_of P home (assume l e r) s c B = expr_of (variable_names home) r (expr_used l s) c.1 (expr_of (variable_names home) l s c.0 B)
+step_of P home (assigned x e) s c B =
+    let xs = variable_names home in
+    bound_of xs (expr_used e s).bindings x.name (expr_term e (expr_used e s)) c.0 (expr_of xs e s c.1 B)
+step_of P home (made x) s c B = bound_of (variable_names home) s.bindings x.name _ c B
+step_of P home (written x e) s c B = expr_of (variable_names home) e (used x.name s) c.1 (used_of (variable_names home) x.name s c.0 B)
+step_of P home (freed x) s c B = used_of (variable_names home) x.name s c B
+step_of P home (called ys n es) s c B =
+    let xs = variable_names home in
+    call_of xs (slice_get P.procedures n) (names ys) (exprs_terms es (exprs_used es s)) (exprs_used es s) c.0 (exprs_of xs es s c.1 B)
+step_of P home (looped n) s c B = loop_of (variable_names home) (slice_get (loops_of home) n) s c B
+step_of P home (answered es) s c B =
+    let xs = variable_names home in
+    all_bound_of xs (exprs_used es s).bindings (results_of home) (exprs_terms es (exprs_used es s)) c.0 (exprs_of xs es s c.1 B)
+
+step_used_of : (home : Procedure) (p : PathStep) (s : Terms) → StepIn home p → AreOf (variable_names home) s.bindings → AreOf (variable_names home) (step_used home p s).bindings
+step_used_of home (accessed o) s c B = used_of (variable_names home) o.name s c B
+step_used_of home (assume l e r) s c B = expr_of (variable_names home) r (expr_used l s) c.1 (expr_of (variable_names home) l s c.0 B)
+step_used_of home (assigned x e) s c B = expr_of (variable_names home) e s c.1 B
+step_used_of home (made x) s c B = B
+step_used_of home (written x e) s c B = expr_of (variable_names home) e (used x.name s) c.1 (used_of (variable_names home) x.name s c.0 B)
+step_used_of home (freed x) s c B = used_of (variable_names home) x.name s c B
+step_used_of home (called ys n es) s c B = exprs_of (variable_names home) es s c.1 B
+step_used_of home (looped n) s c B = invariant_of (variable_names home) (slice_get (loops_of home) n) s c B
+step_used_of home (answered es) s c B = exprs_of (variable_names home) es s c.1 B
+
+check_used_of : (home : Procedure) (k : Check) (s : Terms) → CheckIn home k → AreOf (variable_names home) s.bindings → AreOf (variable_names home) (check_used home k s).bindings
+check_used_of home (access o) s c B = used_of (variable_names home) o.name s c B
+check_used_of home (entry at n es) s c B = exprs_of (variable_names home) es s c B
+check_used_of home (loop_entry at n) s c B = invariant_of (variable_names home) (slice_get (loops_of home) n) s c B
+check_used_of home (returned at) s c B = each_of (variable_names home) home.gives s c B
+check_used_of home (loop_end at n) s c B = invariant_of (variable_names home) (slice_get (loops_of home) n) s c B
 
 pub first_cases : (o q r : Option ℕ) (t : ℕ) → used_first o q r ≡ Some t → (o ≡ Some t) ⊎ (r ≡ Some t)
 first_cases (Some u) q r t e = inl e
@@ -137,29 +154,28 @@ pub either_cases : (o r : Option ℕ) (t : ℕ) → either_term o r ≡ Some t �
 either_cases (Some u) r t e = inl e
 either_cases None r t e = inr e
 
-first_of : (P : Program) (xs : List Name) (ps : List PathStep) (k : Check) (s : Terms) → PathIn xs ps k → AreOf xs s.bindings → AreOf xs (first_use P xs ps k s)
-first_of P xs [] k s c B y t e = check_used_of xs k s c B y t e
-first_of P xs (p ∷ ps) k s c B y t e = elim (first_cases ((step_used p s).bindings y) ((step_walked P xs p s).bindings y) (first_use P xs ps k (step_walked P xs p s) y) t e) [
-  | inl here ↦ step_used_of xs p s c.0 B y t here
-  | inr later ↦ first_of P xs ps k (step_walked P xs p s) c.1 (step_of P xs p s c.0 B) y t later
+first_of : (P : Program) (home : Procedure) (ps : List PathStep) (k : Check) (s : Terms) → PathIn home ps k → AreOf (variable_names home) s.bindings → AreOf (variable_names home) (first_use P home ps k s)
+first_of P home [] k s c B y t e = check_used_of home k s c B y t e
+first_of P home (p ∷ ps) k s c B y t e = elim (first_cases ((step_used home p s).bindings y) ((step_walked P home p s).bindings y) (first_use P home ps k (step_walked P home p s) y) t e) [
+  | inl here ↦ step_used_of home p s c.0 B y t here
+  | inr later ↦ first_of P home ps k (step_walked P home p s) c.1 (step_of P home p s c.0 B) y t later
 ]
 
-either_of : (P : Program) (xs : List Name) (ps : List PathStep) (k : Check) (s : Terms) → PathIn xs ps k → AreOf xs s.bindings → AreOf xs (λ x. either_term (s.bindings x) (first_use P xs ps k s x))
-either_of P xs ps k s c B y t e = elim (either_cases (s.bindings y) (first_use P xs ps k s y) t e) [
+either_of : (P : Program) (home : Procedure) (ps : List PathStep) (k : Check) (s : Terms) → PathIn home ps k → AreOf (variable_names home) s.bindings → AreOf (variable_names home) (λ x. either_term (s.bindings x) (first_use P home ps k s x))
+either_of P home ps k s c B y t e = elim (either_cases (s.bindings y) (first_use P home ps k s y) t e) [
   | inl here ↦ B y t here
-  | inr later ↦ first_of P xs ps k s c B y t later
+  | inr later ↦ first_of P home ps k s c B y t later
 ]
 
-states_of : (P : Program) (xs : List Name) (ps : List PathStep) (k : Check) (s : Terms) → PathIn xs ps k → AreOf xs s.bindings → AllAreOf xs (state_bindings P xs ps k s)
-states_of P xs [] k s c B = (either_of P xs [] k s c B, tt)
-states_of P xs (p ∷ ps) k s c B = (either_of P xs (p ∷ ps) k s c B, states_of P xs ps k (step_walked P xs p s) c.1 (step_of P xs p s c.0 B))
+states_of : (P : Program) (home : Procedure) (ps : List PathStep) (k : Check) (s : Terms) → PathIn home ps k → AreOf (variable_names home) s.bindings → AllAreOf (variable_names home) (state_bindings P home ps k s)
+states_of P home [] k s c B = (either_of P home [] k s c B, tt)
+states_of P home (p ∷ ps) k s c B = (either_of P home (p ∷ ps) k s c B, states_of P home ps k (step_walked P home p s) c.1 (step_of P home p s c.0 B))
 
 pub only_variables_have_terms : OnlyVariablesHaveTerms
-only_variables_have_terms P c typed is =
-    let xs = variable_names c.procedure in
-    let S = start_in P typed c.procedure is.declared c.start is.begins in
-    states_of P xs c.way.steps c.way.check (walked c.start.meets no_terms) (S.graph c.way.steps c.way.check is.leads)
-    (walked_of xs c.start.meets no_terms S.meets (λ y t e. absurd cc))
+only_variables_have_terms P p c typed is of =
+    let S = start_in P typed p (its_declared P p c of) c.start in
+    states_of P p c.way.steps c.way.check (begins p c.start) (S.graph c.way.steps c.way.check (its_path P p c is of))
+    (walked_of (variable_names p) (meets_at p c.start) no_terms S.meets (λ y t e. absurd cc))
 
 -- a name that is no variable has no term
 pub no_term_outside : (xs : List Name) (b : Bindings) → AreOf xs b → (y : Name) → (Contains xs y → ⊥) → b y ≡ None

@@ -9,12 +9,12 @@ use Rattle.gh_ast.specs.declared.Expr.{Expr}
 use Rattle.gh_ast.specs.declared.Expr.TheVariants.{Plain, Read}
 use Rattle.gh_ast.specs.Plain.{Test, compare, negation, conjunction, disjunction, Tests, no_tests, test_first}
 use Rattle.gh_ast.specs.Plain.{Formula, empty, comparison, points_to, cell, segment, star, cases, Formulas, no_formulas, formula_first, Procedure, Program}
-use Rattle.gh_ast.specs.Programs.{Name, names, parameters_of, results_of}
+use Rattle.gh_ast.specs.Programs.{Name, names, parameters_of, results_of, variable_names}
 use Rattle.gh_path.specs.Graphs as path
-use Rattle.gh_path.specs.Terms.{Kind, next, same_kind, added, with_value, Bindings, unbound, bound, all_bound, Terms, terms, used, used_as, term_of, followed, operand_used, expr_used, expr_term, exprs_used, exprs_terms, test_walked, tests_walked, walked, all_walked, each_walked, moved_on, rebound, renewed, some_assigns, callee_in, bound_inside, answered_inside, call_walked, step_walked, steps_walked, entry_walked, check_walked}
+use Rattle.gh_path.specs.Terms.{Kind, next, same_kind, added, with_value, Bindings, unbound, bound, all_bound, Terms, terms, used, used_as, term_of, followed, operand_used, expr_used, expr_term, exprs_used, exprs_terms, test_walked, tests_walked, walked, all_walked, each_walked, moved_on, rebound, renewed, some_assigns, bound_inside, answered_inside, call_walked, loop_walked, step_walked, steps_walked, entry_walked, invariant_walked, check_walked}
 use Rattle.gh_symb.specs.Symbolic.{step_used}
 use Rattle.gh_model.proofs.terms.Extension.{Within, Grows, stays, onto, bound_cases, used_bound, followed_there, used_grows, visited_grows, expr_grows, exprs_grow, walked_grows, each_grows, place_there, at_front}
-use Rattle.gh_model.proofs.terms.Callees.{with_results, renewed_within, renewed_version}
+use Rattle.gh_model.proofs.terms.Callees.{with_results, with_assigned, renewed_within, renewed_version, assigned_version}
 
 -- null is listed, and each variable's term
 pub record IsBounded (s : Terms) : Type 0 where
@@ -199,40 +199,50 @@ call_bounded (Some p) ys es s B =
     let D = results_bounded p r (inside_bounded p es s B) in
     rebound_bounded after T.bindings ys (map (λ x. term_of x after) (results_of p)) (terms_below (results_of p) after D) D.some (λ y u e. still_below T.kinds after.kinds u (call_within p r) (C.below y u e))
 
-pub used_step_bounded : (p : path.PathStep) (s : Terms) → IsBounded s → IsBounded (step_used p s)
-used_step_bounded (path.accessed o) s B = used_bounded o.name s B
-used_step_bounded (path.assume l e r way) s B = expr_bounded r (expr_used l s) (expr_bounded l s B)
-used_step_bounded (path.assigned x e) s B = expr_bounded e s B
-used_step_bounded (path.made x) s B = B
-used_step_bounded (path.written x e) s B = expr_bounded e (used x.name s) (used_bounded x.name s B)
-used_step_bounded (path.freed x) s B = used_bounded x.name s B
-used_step_bounded (path.called ys f es) s B = exprs_bounded es s B
-used_step_bounded (path.looped l) s B = walked_bounded l.invariant s B
-used_step_bounded (path.answered ys es) s B = exprs_bounded es s B
+-- what a loop keeps to, and what it assigns
+pub invariant_bounded : (o : Option path.Loop) (s : Terms) → IsBounded s → IsBounded (invariant_walked o s)
+invariant_bounded None s B = B
+invariant_bounded (Some l) s B = walked_bounded l.invariant s B
 
-pub step_bounded : (P : Program) (xs : List Name) (p : path.PathStep) (s : Terms) → IsBounded s → IsBounded (step_walked P xs p s)
-step_bounded P xs (path.accessed o) s B = visited_bounded o.name s B
-step_bounded P xs (path.assume l e r way) s B = expr_bounded r (expr_used l s) (expr_bounded l s B)
-step_bounded P xs (path.assigned x e) s B =
+loop_bounded : (o : Option path.Loop) (xs : List Name) (s : Terms) → IsBounded s → IsBounded (loop_walked o xs s)
+loop_bounded None xs s B = B
+loop_bounded (Some l) xs s B =
+    let t = walked l.invariant s in
+    walked_bounded l.invariant (with_assigned l xs s) (renewed_bounded (filter (some_assigns l.body) xs) (moved_on t) (moved_bounded t (walked_bounded l.invariant s B)))
+
+pub used_step_bounded : (home : Procedure) (p : path.PathStep) (s : Terms) → IsBounded s → IsBounded (step_used home p s)
+used_step_bounded home (path.accessed o) s B = used_bounded o.name s B
+used_step_bounded home (path.assume l e r) s B = expr_bounded r (expr_used l s) (expr_bounded l s B)
+used_step_bounded home (path.assigned x e) s B = expr_bounded e s B
+used_step_bounded home (path.made x) s B = B
+used_step_bounded home (path.written x e) s B = expr_bounded e (used x.name s) (used_bounded x.name s B)
+used_step_bounded home (path.freed x) s B = used_bounded x.name s B
+used_step_bounded home (path.called ys n es) s B = exprs_bounded es s B
+used_step_bounded home (path.looped n) s B = invariant_bounded (slice_get (path.loops_of home) n) s B
+used_step_bounded home (path.answered es) s B = exprs_bounded es s B
+
+pub step_bounded : (P : Program) (home : Procedure) (p : path.PathStep) (s : Terms) → IsBounded s → IsBounded (step_walked P home p s)
+step_bounded P home (path.accessed o) s B = visited_bounded o.name s B
+step_bounded P home (path.assume l e r) s B = expr_bounded r (expr_used l s) (expr_bounded l s B)
+step_bounded P home (path.assigned x e) s B =
     let T = expr_used e s in
     let C = expr_bounded e s B in
     rebound_bounded T T.bindings (x.name ∷ []) (expr_term e T ∷ []) (expr_below e s T (stays T) C, tt) C.some C.below
-step_bounded P xs (path.made x) s B = record {
+step_bounded P home (path.made x) s B = record {
   some = omega (arith, longer (with_value s.kinds), longer s.kinds, B.some);
   below = λ y t e. elim (bound_cases s.bindings x.name (length s.kinds) y t e) [
     | inl (same, at) ↦ omega (arith, longer (with_value s.kinds), longer s.kinds, at)
     | inr old ↦ omega (arith, longer (with_value s.kinds), longer s.kinds, B.below y t old)
   ];
 }
-step_bounded P xs (path.written x e) s B = moved_bounded (expr_used e (used x.name s)) (expr_bounded e (used x.name s) (used_bounded x.name s B))
-step_bounded P xs (path.freed x) s B = moved_bounded (used x.name s) (used_bounded x.name s B)
-step_bounded P xs (path.called ys f es) s B = call_bounded (callee_in P.procedures f.name) (names ys) es s B
-step_bounded P xs (path.looped l) s B =
-    walked_bounded l.invariant (renewed (filter (some_assigns l.body) xs) (moved_on (walked l.invariant s))) (renewed_bounded (filter (some_assigns l.body) xs) (moved_on (walked l.invariant s)) (moved_bounded (walked l.invariant s) (walked_bounded l.invariant s B)))
-step_bounded P xs (path.answered ys es) s B =
+step_bounded P home (path.written x e) s B = moved_bounded (expr_used e (used x.name s)) (expr_bounded e (used x.name s) (used_bounded x.name s B))
+step_bounded P home (path.freed x) s B = moved_bounded (used x.name s) (used_bounded x.name s B)
+step_bounded P home (path.called ys n es) s B = call_bounded (slice_get P.procedures n) (names ys) es s B
+step_bounded P home (path.looped n) s B = loop_bounded (slice_get (path.loops_of home) n) (variable_names home) s B
+step_bounded P home (path.answered es) s B =
     let T = exprs_used es s in
     let C = exprs_bounded es s B in
-    rebound_bounded T T.bindings ys (exprs_terms es T) (exprs_below es s T (stays T) C) C.some C.below
+    rebound_bounded T T.bindings (results_of home) (exprs_terms es T) (exprs_below es s T (stays T) C) C.some C.below
 
 -- versions
 inside_up : (p : Procedure) (ys : List Name) (b : Bindings) (s : Terms) → (answered_inside p ys b s).version ≡ s.version + 1
@@ -242,30 +252,40 @@ call_up : (o : Option Procedure) (ys : List Name) (ts : List ℕ) (s : Terms) �
 call_up None ys ts s = omega arith
 call_up (Some p) ys ts s = omega (arith, inside_up p ys s.bindings (rebound s (bound_inside p ts)))
 
-pub step_up : (P : Program) (xs : List Name) (p : path.PathStep) (s : Terms) → s.version ≤ (step_walked P xs p s).version
-step_up P xs (path.accessed o) s = omega (arith, (visited_grows o.name s).version)
-step_up P xs (path.assume l e r way) s = omega (arith, (onto (expr_grows l s) (expr_grows r (expr_used l s))).version)
-step_up P xs (path.assigned x e) s = omega (arith, (expr_grows e s).version)
-step_up P xs (path.made x) s = omega arith
-step_up P xs (path.written x e) s = omega (arith, (onto (used_grows x.name s) (expr_grows e (used x.name s))).version)
-step_up P xs (path.freed x) s = omega (arith, (used_grows x.name s).version)
-step_up P xs (path.called ys f es) s = omega (arith, (exprs_grow es s).version, call_up (callee_in P.procedures f.name) (names ys) (exprs_terms es (exprs_used es s)) (exprs_used es s))
-step_up P xs (path.looped l) s =
-    let zs = filter (some_assigns l.body) xs in
-    omega (arith, (walked_grows l.invariant (renewed zs (moved_on (walked l.invariant s)))).version, renewed_version zs (moved_on (walked l.invariant s)), (walked_grows l.invariant s).version)
-step_up P xs (path.answered ys es) s = omega (arith, (exprs_grow es s).version)
+-- the version after what a loop does
+pub loop_version : (l : path.Loop) (xs : List Name) (s : Terms) → (loop_walked (Some l) xs s).version ≡ s.version + 1
+loop_version l xs s = (walked_grows l.invariant (with_assigned l xs s)).version ∙ assigned_version l xs s
 
-pub steps_up : (P : Program) (xs : List Name) (ps : List path.PathStep) (s : Terms) → s.version ≤ (steps_walked P xs ps s).version
-steps_up P xs [] s = omega arith
-steps_up P xs (p ∷ ps) s = omega (arith, step_up P xs p s, steps_up P xs ps (step_walked P xs p s))
+loop_up : (o : Option path.Loop) (xs : List Name) (s : Terms) → s.version ≤ (loop_walked o xs s).version
+loop_up None xs s = omega arith
+loop_up (Some l) xs s = omega (arith, loop_version l xs s)
+
+pub step_up : (P : Program) (home : Procedure) (p : path.PathStep) (s : Terms) → s.version ≤ (step_walked P home p s).version
+step_up P home (path.accessed o) s = omega (arith, (visited_grows o.name s).version)
+step_up P home (path.assume l e r) s = omega (arith, (onto (expr_grows l s) (expr_grows r (expr_used l s))).version)
+step_up P home (path.assigned x e) s = omega (arith, (expr_grows e s).version)
+step_up P home (path.made x) s = omega arith
+step_up P home (path.written x e) s = omega (arith, (onto (used_grows x.name s) (expr_grows e (used x.name s))).version)
+step_up P home (path.freed x) s = omega (arith, (used_grows x.name s).version)
+step_up P home (path.called ys n es) s = omega (arith, (exprs_grow es s).version, call_up (slice_get P.procedures n) (names ys) (exprs_terms es (exprs_used es s)) (exprs_used es s))
+step_up P home (path.looped n) s = loop_up (slice_get (path.loops_of home) n) (variable_names home) s
+step_up P home (path.answered es) s = omega (arith, (exprs_grow es s).version)
+
+pub steps_up : (P : Program) (home : Procedure) (ps : List path.PathStep) (s : Terms) → s.version ≤ (steps_walked P home ps s).version
+steps_up P home [] s = omega arith
+steps_up P home (p ∷ ps) s = omega (arith, step_up P home p s, steps_up P home ps (step_walked P home p s))
 
 entry_version : (o : Option Procedure) (ts : List ℕ) (s : Terms) → (entry_walked o ts s).version ≡ s.version
 entry_version None ts s = refl
 entry_version (Some p) ts s = (walked_grows p.needs (rebound s (bound_inside p ts))).version
 
-pub check_version : (P : Program) (c : path.Check) (s : Terms) → (check_walked P c s).version ≡ s.version
-check_version P (path.access o) s = (used_grows o.name s).version
-check_version P (path.entry f es) s = entry_version (callee_in P.procedures f.name) (exprs_terms es (exprs_used es s)) (exprs_used es s) ∙ (exprs_grow es s).version
-check_version P (path.loop_entry l) s = (walked_grows l.invariant s).version
-check_version P (path.returned at fs) s = (each_grows fs s).version
-check_version P (path.loop_end l) s = (walked_grows l.invariant s).version
+invariant_version : (o : Option path.Loop) (s : Terms) → (invariant_walked o s).version ≡ s.version
+invariant_version None s = refl
+invariant_version (Some l) s = (walked_grows l.invariant s).version
+
+pub check_version : (P : Program) (home : Procedure) (c : path.Check) (s : Terms) → (check_walked P home c s).version ≡ s.version
+check_version P home (path.access o) s = (used_grows o.name s).version
+check_version P home (path.entry at n es) s = entry_version (slice_get P.procedures n) (exprs_terms es (exprs_used es s)) (exprs_used es s) ∙ (exprs_grow es s).version
+check_version P home (path.loop_entry at n) s = invariant_version (slice_get (path.loops_of home) n) s
+check_version P home (path.returned at) s = (each_grows home.gives s).version
+check_version P home (path.loop_end at n) s = invariant_version (slice_get (path.loops_of home) n) s

@@ -1,5 +1,5 @@
--- The terms of a callee's variables.
-use Rattle.std.specs.Prelude.{◌≡◌, ◌⊎◌, ℕ, ◌+◌, List, [], ◌∷◌, ◌++◌, length, map, slice_get, Option, Some, Bool, true, false, cond, All, Contains}
+-- The terms of a callee's variables, and of those that a loop assigns.
+use Rattle.std.specs.Prelude.{◌≡◌, ◌⊎◌, ℕ, ◌+◌, List, [], ◌∷◌, ◌++◌, length, map, filter, slice_get, Option, Some, Bool, true, false, cond, All, Contains}
 use Rattle.std.specs.Str.{bytes_eq}
 use Rattle.std.proofs.Common.{refl, sym, ◌∙◌, ap, subst, inl, inr, arith}
 use Rattle.std.proofs.lemmas.List.{length-map}
@@ -16,7 +16,8 @@ use Rattle.gh_ast.proofs.Lists.{member_first, member_later, member_cases, no_mem
 use Rattle.gh_assert.specs.Heaps.{Heap}
 use Rattle.gh_assert.specs.Meaning.{Store}
 use Rattle.gh_assert.specs.Walks.{succ}
-use Rattle.gh_path.specs.Terms.{Kind, next, with_value, Bindings, unbound, bound, all_bound, Terms, terms, used, followed, operand_used, expr_used, test_walked, tests_walked, walked, all_walked, each_walked, moved_on, rebound, renewed, bound_inside}
+use Rattle.gh_path.specs.Graphs.{Loop}
+use Rattle.gh_path.specs.Terms.{Kind, next, with_value, Bindings, unbound, bound, all_bound, Terms, terms, used, followed, operand_used, expr_used, test_walked, tests_walked, walked, all_walked, each_walked, moved_on, rebound, renewed, some_assigns, bound_inside}
 use Rattle.gh_model.proofs.terms.Extension.{Within, Grows, value_within, bound_same, bound_cases, used_known, walked_grows, each_grows}
 use Rattle.gh_model.proofs.terms.Denotation.{Sound}
 
@@ -198,6 +199,16 @@ inside_before K V h p ts vs t inside own e f null within N = record {
 -- the terms in which a callee gives its results
 abbrev pub with_results : Procedure → Terms → Terms
 with_results p s = renewed (results_of p) (moved_on (walked p.needs s))
+
+-- .. and those in which the variables that a loop assigns (some of xs) have new values
+abbrev pub with_assigned : Loop → List Name → Terms → Terms
+with_assigned l xs s = renewed (filter (some_assigns l.body) xs) (moved_on (walked l.invariant s))
+
+pub assigned_within : (l : Loop) (xs : List Name) (s : Terms) → Within (walked l.invariant s).kinds (with_assigned l xs s).kinds
+assigned_within l xs s = renewed_within (filter (some_assigns l.body) xs) (moved_on (walked l.invariant s))
+
+pub assigned_version : (l : Loop) (xs : List Name) (s : Terms) → (with_assigned l xs s).version ≡ s.version + 1
+assigned_version l xs s = renewed_version (filter (some_assigns l.body) xs) (moved_on (walked l.invariant s)) ∙ ap (λ i. i + 1) (walked_grows l.invariant s).version
 
 -- what a callee gives is walked in the next version
 pub inside_after : (K : List Kind) (V : List ℕ) (k : Heap) (p : Procedure) (ts vs : List ℕ) (t : Terms) (inside : Store)

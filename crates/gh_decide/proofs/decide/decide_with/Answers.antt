@@ -1,4 +1,5 @@
 use Rattle.gh_ast.specs.Plain.{program_of}
+use Rattle.gh_path.specs.Kept.{condition_of}
 use Rattle.gh_ground.specs.Solving.{IsAnswer}
 use Rattle.gh_ground.specs.declared.solve.Answer.TheVariants.{Model, Refutation}
 use Rattle.gh_trace.specs.Kept.{drawn_of}
@@ -11,15 +12,15 @@ returns-in-Refutation c =
     let P = program_of c.args.typed.now in
     let r = c.args.condition.now in
     let p = c.in_ok-ground.ground in
-    let ground : IsGroundOf P r p = λ k stands. c.in_ok-ground.ensures.told P k (c.in_ok-symbolic.ensures k stands) in
+    let ground : IsGroundOf P r p = λ q of. c.in_ok-ground.ensures.told P q (condition_of r) (c.in_ok-symbolic.ensures q of) in
     let is : IsAnswer p (Refutation c.in-Refutation.section) = rw c.in-Refutation.is at c.in_ok-section.ensures.answer in
-    shown P r p c.in-Refutation.section c.requires.admitted.typed ground is
+    shown P r p c.in-Refutation.section c.requires.admitted.typed c.requires.one ground is
 
 pub returns : goal.returns
 returns c =
     let P = program_of c.args.typed.now in
     let r = c.args.condition.now in
     let p = c.in_ok-ground.ground in
-    let ground : IsGroundOf P r p = λ k stands. c.in_ok-ground.ensures.told P k (c.in_ok-symbolic.ensures k stands) in
+    let ground : IsGroundOf P r p = λ q of. c.in_ok-ground.ensures.told P q (condition_of r) (c.in_ok-symbolic.ensures q of) in
     let is : IsAnswer p (Model c.in-Model.structure) = rw c.in-Model.is at c.in_ok-section.ensures.answer in
-    refuted P r p c.in-Model.structure (drawn_of c.in_ok-trace-in-Model.trace) c.requires.admitted.typed ground is c.in_ok-trace-in-Model.ensures
+    refuted P r p c.in-Model.structure (drawn_of c.in_ok-trace-in-Model.trace) c.requires.admitted.typed c.requires.one ground is c.in_ok-trace-in-Model.ensures

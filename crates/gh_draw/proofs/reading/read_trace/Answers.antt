@@ -1,10 +1,19 @@
-use Rattle.std.proofs.Common.{◌∙◌, sym, ap, subst, Some, inl, inr}
+use Rattle.std.proofs.Common.{◌∙◌, sym, ap, subst, Some, inl, inr, arith}
 use Rattle.std.specs.Prelude.{option_map}
 use Rattle.gh_ast.specs.Plain.{program_of}
 use Rattle.gh_path.specs.Answers.{IsNumbered}
 use Rattle.gh_draw.specs.Reading.{IsFrontRead, ShowsStates}
-use Rattle.gh_draw.proofs.Whole.{AreNamesFor, names_for, names_distinct, trace_no_states, trace_no_more, trace_whole, is_nothing, is_something}
+use Rattle.gh_draw.proofs.Whole.{AreNamesFor, within, names_for, names_distinct, trace_no_states, trace_no_more, trace_whole, is_nothing, is_something}
 use Rattle.gh_draw.proofs.reading.read_trace.Goals as goal
+
+pub index-procedure-requires : goal.index-procedure-requires
+index-procedure-requires c =
+    let Q = c.program.result.now in
+    let n = c.args.number in
+    let found = subst (λ o. IsNumbered (program_of c.args.conditions.now) n o) c.in-Some.is c.in_ok-condition.ensures in
+    let asked = subst (λ p. IsNumbered p n (Some c.in-Some.condition)) (c.requires ∙ sym (ap program_of c.program.ensures.same)) found in
+    let low = within Q n c.in-Some.condition asked in
+    omega (arith, low, Q.procedures.ok)
 
 pub read_states-requires : goal.read_states-requires
 read_states-requires c =

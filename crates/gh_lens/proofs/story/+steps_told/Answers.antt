@@ -4,13 +4,13 @@ use Rattle.gh_ast.specs.Plain.{procedure_of, program_of}
 use Rattle.gh_lens.proofs.Telling.{no_steps, no_states, one_more, first_and_later}
 use Rattle.gh_lens.proofs.story.+steps_told.Goals as goal
 
-pub step_told-requires-clause-one : goal.step_told-requires-clause-one
-step_told-requires-clause-one t c = (first_and_later (program_of c.args.setting.typed.now) (procedure_of c.args.setting.procedure.now) c.in-Some.step.now c.in-Some.later.now c.args.steps.now c.in-Some.ensures.cases.0 c.requires.some).0
+pub step_told-requires-clause-there : goal.step_told-requires-clause-there
+step_told-requires-clause-there t c = (first_and_later (program_of c.args.setting.typed.now) (procedure_of c.args.setting.procedure.now) c.in-Some.step.now c.in-Some.later.now c.args.steps.now c.in-Some.ensures.cases.0 c.requires.there).0
 
 pub steps_told-requires : goal.steps_told-requires
 steps_told-requires t c =
     let longer : length c.args.steps.now ≡ length (c.in-Some.step.now ∷ c.in-Some.later.now) = ap length c.in-Some.ensures.cases.0 in
-    (omega (arith, longer), (c.requires.loops, (first_and_later (program_of c.args.setting.typed.now) (procedure_of c.args.setting.procedure.now) c.in-Some.step.now c.in-Some.later.now c.args.steps.now c.in-Some.ensures.cases.0 c.requires.some).1))
+    (omega (arith, longer), (c.requires.loops, (first_and_later (program_of c.args.setting.typed.now) (procedure_of c.args.setting.procedure.now) c.in-Some.step.now c.in-Some.later.now c.args.steps.now c.in-Some.ensures.cases.0 c.requires.there).1))
 
 pub returns-in_default : goal.returns-in_default
 returns-in_default t c =

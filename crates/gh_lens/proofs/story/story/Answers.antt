@@ -1,21 +1,19 @@
-use Rattle.std.proofs.Common.{◌≡◌, ◌++◌, ◌∙◌, None, Some, sym, ap, subst}
+use Rattle.std.proofs.Common.{◌≡◌, ◌++◌, ◌∙◌, All, None, Some, map, sym, ap, subst}
 use Rattle.std.specs.Prelude.{codes}
 use Rattle.gh_ast.specs.Plain.{procedure_of, program_of}
 use Rattle.gh_draw.specs.Drawings.{line}
-use Rattle.gh_path.specs.Kept.{AreSteps}
+use Rattle.gh_path.specs.Kept.{step_of, StepIsThere}
 use Rattle.gh_trace.specs.Kept.{state_of}
 use Rattle.gh_lens.specs.Misses.{IsFailingOr}
 use Rattle.gh_lens.specs.Stories.{TellsSteps}
-use Rattle.gh_lens.proofs.Telling.{no_story, story_told, have_steps, of_procedure}
+use Rattle.gh_lens.proofs.Telling.{no_story, story_told, steps_there}
 use Rattle.gh_lens.proofs.story.story.Goals as goal
 
-pub steps_told-requires-clause-some : goal.steps_told-requires-clause-some
-steps_told-requires-clause-some c =
+pub steps_told-requires-clause-there : goal.steps_told-requires-clause-there
+steps_told-requires-clause-there c =
     let P = program_of c.args.setting.typed.now in
     let p = procedure_of c.args.setting.procedure.now in
-    let r = c.args.condition.now in
-    let some = have_steps P p r c.requires.meaning (of_procedure P p r c.requires.own) in
-    (some.0, subst (λ rs. AreSteps P p rs some.0) (sym c.as_slice.ensures.value) some.1)
+    subst (λ rs. All (StepIsThere P p) (map step_of rs)) (sym c.as_slice.ensures.value) (steps_there P p c.args.condition.now c.requires.fits c.requires.own)
 
 pub returns-in_default : goal.returns-in_default
 returns-in_default c =

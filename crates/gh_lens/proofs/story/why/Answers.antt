@@ -1,6 +1,7 @@
 use Rattle.std.proofs.Common.{Some, sym, subst}
 use Rattle.gh_ast.specs.Plain.{program_of}
 use Rattle.gh_path.specs.Answers.{IsNumbered}
+use Rattle.gh_path.proofs.Numbers.{one_fits}
 use Rattle.gh_trace.specs.Kept.{drawn_of, IsFailure}
 use Rattle.gh_trace.specs.declared.replay.ReplayError.TheVariants.{Step}
 use Rattle.gh_lens.specs.Stories.{IsExplained}
@@ -26,13 +27,17 @@ replay-requires-clause-few c =
     let found : IsNumbered P n (Some r) = subst (λ Q. IsNumbered Q n (Some r)) c.requires.same (rw c.in-Some.is at c.in_ok-condition.ensures) in
     few_steps P n r c.requires.admitted found
 
-pub told_of-requires : goal.told_of-requires
-told_of-requires c =
+pub told_of-requires-clause-fits : goal.told_of-requires-clause-fits
+told_of-requires-clause-fits c =
     let P = program_of c.args.typed.now in
     let n = c.args.drawing.now.condition in
     let r = c.in-Some.condition in
     let found : IsNumbered P n (Some r) = subst (λ Q. IsNumbered Q n (Some r)) c.requires.same (rw c.in-Some.is at c.in_ok-condition.ensures) in
-    shown P n r c.args.drawing.now.trace c.as_slice-states.result.now found c.in-Ok.ensures.refuted c.as_slice-states.ensures.value
+    one_fits P r c.requires.admitted.typed (numbered_one P n r found)
+
+pub told_of-requires-clause-shown : goal.told_of-requires-clause-shown
+told_of-requires-clause-shown c =
+    shown (program_of c.args.typed.now) c.in-Some.condition c.args.drawing.now.trace c.as_slice-states.result.now c.in-Ok.ensures.refuted c.as_slice-states.ensures.value
 
 pub returns-in-Ok : goal.returns-in-Ok
 returns-in-Ok c =
@@ -40,7 +45,7 @@ returns-in-Ok c =
     let n = c.args.drawing.now.condition in
     let r = c.in-Some.condition in
     let found : IsNumbered P n (Some r) = subst (λ Q. IsNumbered Q n (Some r)) c.requires.same (rw c.in-Some.is at c.in_ok-condition.ensures) in
-    told_by_number P n r c.args.drawing.now.trace c.as_slice-states.result.now c.in_ok-text-in-Ok.text found c.in-Ok.ensures.refuted c.as_slice-states.ensures.value c.in_ok-text-in-Ok.ensures
+    told_by_number P n r c.args.drawing.now.trace c.as_slice-states.result.now c.in_ok-text-in-Ok.text found c.as_slice-states.ensures.value c.in_ok-text-in-Ok.ensures
 
 pub returns-in-Err-Step : goal.returns-in-Err-Step
 returns-in-Err-Step c =

@@ -1,10 +1,15 @@
+use Rattle.std.proofs.Common.{subst, slice_get}
 use Rattle.gh_log.proofs.SectionLemmas.{refute}
+use Rattle.gh_ast.specs.Plain.{Procedure}
+use Rattle.gh_ast.proofs.Lists.{one_value}
 use Rattle.gh_symb.specs.Symbolic.{symbolic_of}
 use Rattle.gh_symb.specs.Formulas.{problem}
+use Rattle.gh_model.specs.TraceLaws.{IsCounterexample}
 use Rattle.gh_model.proofs.soundness.ClauseModels.{traces_give_models}
 use Rattle.gh_model.proofs.laws.sections_show_validity.Goals as goal
 
 pub returns : goal.returns
-returns c = λ P k lines typed is valid x ys against.
-    let found = traces_give_models P k x ys typed is against in
-    refute (problem (symbolic_of P k)) lines valid found.0 found.1.congruence found.1.clauses found.1.instances
+returns c = λ P p k lines typed is of valid q of' x ys against.
+    let here = subst (λ (r : Procedure). IsCounterexample P r k x ys) (one_value (slice_get P.procedures k.procedure) q p of' of) against in
+    let found = traces_give_models P p k x ys typed is of here in
+    refute (problem (symbolic_of P p k)) lines valid found.0 found.1.congruence found.1.clauses found.1.instances

@@ -5,10 +5,10 @@ use Rattle.gh_path.proofs.PassedLemmas.{IsLong, steps_told, NoneBefore, first_li
 use Rattle.gh_path.proofs.limits.steps_limit.Goals as goal
 
 pub returns-then-ahead : goal.returns-then-ahead
-returns-then-ahead c =
-    first_limit HasManySteps IsLong steps_told c.args.procedures.now c.args.aheads.now c.requires c.loop-place.place c.index-procedures-place.result _ 5 _ _ (omega arith) c.loop-place.invariant c.if-ahead.true refl refl refl
+returns-then-ahead c = λ P.
+    first_limit (HasManySteps P) IsLong (steps_told P) c.args.procedures.now c.args.aheads.now c.requires c.loop-place.place c.index-procedures-place.result _ 5 _ _ (omega arith) c.loop-place.invariant c.if-ahead.true refl refl refl
 
 pub returns : goal.returns
-returns c =
+returns c = λ P.
     let end : c.loop-place.place ≡ length c.args.aheads.now = omega arith in
-    none_of HasManySteps IsLong steps_told (map procedure_of c.args.procedures.now) c.args.aheads.now c.requires (subst (NoneBefore IsLong c.args.aheads.now) end c.loop-place.invariant)
+    none_of (HasManySteps P) IsLong (steps_told P) (map procedure_of c.args.procedures.now) c.args.aheads.now c.requires (subst (NoneBefore IsLong c.args.aheads.now) end c.loop-place.invariant)

@@ -1,9 +1,8 @@
-use Rattle.std.proofs.Common.{◌≡◌, ◌<◌, ℕ, drop, vec_len, get_or}
-use Rattle.gh_ast.specs.Plain.{Procedure, statement_of, statements_view}
+use Rattle.std.proofs.Common.{◌≡◌, ◌+◌, ◌++◌, ◌<◌, ◌≤◌, ℕ, length, drop, vec_len, get_or}
+use Rattle.gh_ast.specs.Plain.{statement_of, statements_view}
 use Rattle.gh_ast.specs.declared.Stmt.{Stmt}
-use Rattle.gh_path.specs.Graphs.{loops, all_loops}
-use Rattle.gh_path.specs.Lowered.{Suits, AllSuit}
-use Rattle.gh_path.specs.Walking.{AreNumbered}
+use Rattle.gh_path.specs.Graphs.{all_loops}
+use Rattle.gh_path.specs.Lowered.{Suits, AllSuit, first_loops}
 use Rattle.gh_path.specs.declared.walker.Walker.{Walker}
 use Rattle.gh_path.proofs.lower_body.first_loops.Given as goal
 
@@ -13,7 +12,8 @@ invariant-loop-statement l = record {
   suits_next : (w : Walker) → AllSuit w l.fn.first (statements_view l.statements) → AllSuit w l.number (statements_view (drop l.statement-index l.statements));
   suit : (w : Walker) → AllSuit w l.fn.first (statements_view l.statements) →
       (k : ℕ) (d : Stmt) → k < l.statement-index → Suits w (get_or l.numbers.items k 0) (statement_of (get_or l.statements k d));
-  next : (p : Procedure) → AreNumbered p l.fn.first (all_loops (statements_view l.statements)) → AreNumbered p l.number (all_loops (statements_view (drop l.statement-index l.statements)));
-  have : (p : Procedure) → AreNumbered p l.fn.first (all_loops (statements_view l.statements)) →
-      (k : ℕ) (d : Stmt) → k < l.statement-index → AreNumbered p (get_or l.numbers.items k 0) (loops (statement_of (get_or l.statements k d)));
+  sum : l.fn.first + length (all_loops (statements_view l.statements)) ≤ 65536 →
+      l.number + length (all_loops (statements_view (drop l.statement-index l.statements))) ≡ l.fn.first + length (all_loops (statements_view l.statements));
+  are : l.fn.first + length (all_loops (statements_view l.statements)) ≤ 65536 →
+      l.numbers.items ++ first_loops l.number (drop l.statement-index l.statements) ≡ first_loops l.fn.first l.statements;
 }

@@ -7,9 +7,10 @@ use Rattle.std.proofs.lemmas.Option.{slice_get_within, get_or_from_slice_get}
 use Rattle.gh_ast.specs.declared.Procedure as whole
 use Rattle.gh_ast.specs.Plain.{Procedure, program_of, procedure_of}
 use Rattle.gh_ast.specs.WellFormed.{IsFormedProcedure}
-use Rattle.gh_path.specs.Conditions.{from_procedures, conditions_of, conditions}
+use Rattle.gh_path.specs.Conditions.{condition, from_procedures, courses_of, conditions}
 use Rattle.gh_path.specs.Roots.{AreStarts}
-use Rattle.gh_path.proofs.PlaceLemmas.{procedure_there, few_there, member}
+use Rattle.gh_path.proofs.ListLemmas.{member}
+use Rattle.gh_path.proofs.PlaceLemmas.{procedure_there, few_there}
 use Rattle.gh_path.proofs.RootLemmas.{procedures_go}
 use Rattle.gh_path.proofs.SuitLemmas.{body_calls}
 use Rattle.gh_path.proofs.starts.starts_of.Goals as goal
@@ -44,7 +45,7 @@ add_procedure-requires-clause-callees c =
     let same : map procedure_of qs ≡ P.procedures = ap (map procedure_of) c.as_slice-procedure-items.ensures.value in
     let there : slice_get P.procedures i ≡ Some (procedure_of x) =
     subst (λ (ps : List Procedure). slice_get ps i ≡ Some (procedure_of x)) same (procedure_there qs i x c.loop-index-test.true c.procedure-item.is) in
-    body_calls P c.requires.typed c.requires.few (procedure_of x) (member P.procedures i (procedure_of x) there)
+    body_calls P c.requires.typed (procedure_of x) (member P.procedures i (procedure_of x) there)
 
 pub add_procedure-requires-clause-formed : goal.add_procedure-requires-clause-formed
 add_procedure-requires-clause-formed c =
@@ -68,9 +69,9 @@ loop-index-preserved c =
     let before = c.loop-index.invariant in
     let same : map procedure_of qs ≡ P.procedures = ap (map procedure_of) c.as_slice-procedure-items.ensures.value in
     let there : slice_get P.procedures i ≡ Some p = subst (λ (ps : List Procedure). slice_get ps i ≡ Some p) same (procedure_there qs i x c.loop-index-test.true c.procedure-item.is) in (
-      before.0 ++ conditions_of p,
+      before.0 ++ map (condition i) (courses_of P p),
       c.in_ok-add_procedure.ensures before.0 before.1 there,
-      procedures_go P.procedures i p before.0 (conditions P) (slice_get_within P.procedures i p there) (sym (get_or_from_slice_get P.procedures i p p there)) before.2,
+      procedures_go P P.procedures i p before.0 (conditions P) (slice_get_within P.procedures i p there) (sym (get_or_from_slice_get P.procedures i p p there)) before.2,
     )
 
 pub returns : goal.returns
@@ -82,5 +83,5 @@ returns c =
     let long : length P.procedures ≡ length qs = ap (λ (rs : List whole.Procedure). length (map procedure_of rs)) (sym c.as_slice-procedure-items.ensures.value) ∙ length-map qs procedure_of in
     let past : length P.procedures ≤ i = omega (arith, long, c.loop-index-test.false) in
     let none : drop i P.procedures ≡ [] = drop_of_length-le P.procedures past in
-    let all : last.0 ≡ conditions P = sym (append-nil last.0) ∙ ap (λ ps. last.0 ++ from_procedures ps) (sym none) ∙ last.2 in
+    let all : last.0 ≡ conditions P = sym (append-nil last.0) ∙ ap (λ ps. last.0 ++ from_procedures P i ps) (sym none) ∙ last.2 in
     subst (AreStarts P c.loop-index.starts) all last.1

@@ -1,29 +1,31 @@
-use Rattle.std.proofs.Common.{◌≡◌, ◌∷◌, ap, length, arith}
+use Rattle.std.proofs.Common.{◌≡◌, ◌∷◌, ap, length, map, arith}
 use Rattle.std.proofs.lemmas.Result.{IfOk-weaker}
 use Rattle.std.proofs.lemmas.List.{nil_from_length}
 use Rattle.gh_ast.specs.Plain.{procedure_of, program_of}
+use Rattle.gh_path.specs.Kept.{step_of}
 use Rattle.gh_lens.proofs.Telling.{first_and_later}
 use Rattle.gh_scene.proofs.Rowing.{no_step, no_state, one_state, row_first}
 use Rattle.gh_scene.proofs.rows.+push_rows.Goals as goal
 
-pub step_row-requires-clause-one : goal.step_row-requires-clause-one
-step_row-requires-clause-one t c = (first_and_later (program_of c.args.setting.typed.now) (procedure_of c.args.setting.procedure.now) c.in-Some.step.now c.in-Some.later.now c.args.steps.now c.in-Some.ensures.cases.0 c.requires.some).0
+pub step_row-requires-clause-there : goal.step_row-requires-clause-there
+step_row-requires-clause-there t c = (first_and_later (program_of c.args.setting.typed.now) (procedure_of c.args.setting.procedure.now) c.in-Some.step.now c.in-Some.later.now c.args.steps.now c.in-Some.ensures.cases.0 c.requires.there).0
 
 pub push_rows-requires : goal.push_rows-requires
 push_rows-requires t c =
     let longer : length c.args.steps.now ≡ length (c.in-Some.step.now ∷ c.in-Some.later.now) = ap length c.in-Some.ensures.cases.0 in
-    (omega (arith, longer), (c.requires.loops, (first_and_later (program_of c.args.setting.typed.now) (procedure_of c.args.setting.procedure.now) c.in-Some.step.now c.in-Some.later.now c.args.steps.now c.in-Some.ensures.cases.0 c.requires.some).1))
+    (omega (arith, longer), (c.requires.loops, (first_and_later (program_of c.args.setting.typed.now) (procedure_of c.args.setting.procedure.now) c.in-Some.step.now c.in-Some.later.now c.args.steps.now c.in-Some.ensures.cases.0 c.requires.there).1))
 
 pub returns-in_default : goal.returns-in_default
-returns-in_default t c ss are =
-    no_step (program_of c.args.setting.typed.now) (procedure_of c.args.setting.procedure.now) c.args.steps.now ss c.args.states.now c.args.spare.now c.args.rows.now.items (nil_from_length c.args.steps.now c.in_default.ensures.cases) are
+returns-in_default t c =
+    no_step (program_of c.args.setting.typed.now) (procedure_of c.args.setting.procedure.now) c.args.steps.now c.args.states.now c.args.spare.now c.args.rows.now.items (nil_from_length c.args.steps.now c.in_default.ensures.cases)
 
 pub returns-in_default-split_first : goal.returns-in_default-split_first
-returns-in_default-split_first t c ss are = no_state (program_of c.args.setting.typed.now) ss c.args.states.now c.args.spare.now c.args.rows.now.items (nil_from_length c.args.states.now c.in_default-split_first.ensures.cases)
+returns-in_default-split_first t c =
+    no_state (program_of c.args.setting.typed.now) (procedure_of c.args.setting.procedure.now) (map step_of c.args.steps.now) c.args.states.now c.args.spare.now c.args.rows.now.items (nil_from_length c.args.states.now c.in_default-split_first.ensures.cases)
 
 pub returns-in_default-split_first-2 : goal.returns-in_default-split_first-2
-returns-in_default-split_first-2 t c ss are =
-    one_state (program_of c.args.setting.typed.now) ss c.args.states.now c.in-Some-split_first.others.now c.in-Some-split_first.before.now c.args.spare.now c.args.rows.now.items c.in-Some-split_first.ensures.cases.0 (nil_from_length c.in-Some-split_first.others.now c.in_default-split_first-2.ensures.cases)
+returns-in_default-split_first-2 t c =
+    one_state (program_of c.args.setting.typed.now) (procedure_of c.args.setting.procedure.now) (map step_of c.args.steps.now) c.args.states.now c.in-Some-split_first.others.now c.in-Some-split_first.before.now c.args.spare.now c.args.rows.now.items c.in-Some-split_first.ensures.cases.0 (nil_from_length c.in-Some-split_first.others.now c.in_default-split_first-2.ensures.cases)
 
 pub returns : goal.returns
 returns t c =

@@ -2,7 +2,8 @@ use Rattle.std.proofs.Common.{◌≡◌, ◌∙◌, ◌∷◌, sym, subst, map, 
 use Rattle.std.proofs.lemmas.List.{nil_from_length}
 use Rattle.gh_ast.specs.Plain.{program_of}
 use Rattle.gh_path.specs.Answers.{IsNumbered}
-use Rattle.gh_scene.proofs.Sketching.{has_meaning, sketched, sketch_fails, no_states}
+use Rattle.gh_path.proofs.Numbers.{one_fits}
+use Rattle.gh_scene.proofs.Sketching.{sketched, sketch_fails, no_states}
 use Rattle.gh_trace.proofs.FirstRefuted.{numbered_one}
 use Rattle.gh_trace.proofs.StepCounts.{few_steps}
 use Rattle.gh_scene.proofs.sketch.scene_of.Goals as goal
@@ -19,7 +20,8 @@ returns-in_default-split_first c =
     let P = program_of c.args.typed.now in
     let n = c.args.drawing.now.condition in
     let found : IsNumbered P n (Some c.in-Some.condition) = subst (λ Q. IsNumbered Q n (Some c.in-Some.condition)) c.requires.same (rw c.in-Some.is at c.in_ok-condition.ensures) in
-    no_states P n c.in-Some.condition c.args.drawing.now.trace.states.items found (sym c.as_slice-states.ensures.value ∙ nil_from_length c.as_slice-states.result.now c.in_default-split_first.ensures.cases)
+    let fits = one_fits P c.in-Some.condition c.requires.admitted.typed (numbered_one P n c.in-Some.condition found) in
+    no_states P n c.in-Some.condition fits.0 c.args.drawing.now.trace.states.items found fits.1 (sym c.as_slice-states.ensures.value ∙ nil_from_length c.as_slice-states.result.now c.in_default-split_first.ensures.cases)
 
 pub replay-requires-clause-one : goal.replay-requires-clause-one
 replay-requires-clause-one c =
@@ -35,12 +37,12 @@ replay-requires-clause-few c =
     let found : IsNumbered P n (Some c.in-Some.condition) = subst (λ Q. IsNumbered Q n (Some c.in-Some.condition)) c.requires.same (rw c.in-Some.is at c.in_ok-condition.ensures) in
     few_steps P n c.in-Some.condition c.requires.admitted found
 
-pub shown-requires-clause-meaning : goal.shown-requires-clause-meaning
-shown-requires-clause-meaning c =
+pub shown-requires-clause-fits : goal.shown-requires-clause-fits
+shown-requires-clause-fits c =
     let P = program_of c.args.typed.now in
     let n = c.args.drawing.now.condition in
     let found : IsNumbered P n (Some c.in-Some.condition) = subst (λ Q. IsNumbered Q n (Some c.in-Some.condition)) c.requires.same (rw c.in-Some.is at c.in_ok-condition.ensures) in
-    has_meaning P n c.in-Some.condition found
+    one_fits P c.in-Some.condition c.requires.admitted.typed (numbered_one P n c.in-Some.condition found)
 
 pub returns-in-Ok : goal.returns-in-Ok
 returns-in-Ok c =

@@ -1,9 +1,28 @@
-use Rattle.gh_ast.specs.Plain.{procedure_of}
-use Rattle.gh_session.specs.Views.{essence_view}
-use Rattle.gh_session.proofs.Assembling.{gives_essence}
+use Rattle.std.proofs.Common.{◌≡◌, None, sym, subst}
+use Rattle.std.specs.Prelude.{slice_get}
+use Rattle.gh_ast.specs.Plain.{procedure_of, program_of}
+use Rattle.gh_ast.specs.Rules.{IsTyped}
+use Rattle.gh_ast.specs.declared.Program as whole
+use Rattle.gh_path.specs.Conditions.{IsOf}
+use Rattle.gh_path.specs.Kept.{condition_of, IsCallee}
+use Rattle.gh_trace.proofs.FirstRefuted.{has_procedure}
+use Rattle.gh_session.specs.Views.{IsEssenceIn}
 use Rattle.gh_session.proofs.essence.essence_of.Goals as goal
+
+pub unreachable-requires : goal.unreachable-requires
+unreachable-requires c =
+    let r = c.args.condition.now in
+    has_procedure (program_of c.args.typed.now) r c.requires
+    (subst (λ (P : whole.Program). slice_get (program_of P).procedures r.procedure ≡ None) c.program-program.ensures.same c.in_default.ensures.none)
 
 pub returns : goal.returns
 returns c =
-    gives_essence c.program-program.result.now c.args.typed.now c.args.condition.now (procedure_of c.in-Some.procedure.now) (essence_view c.in_ok-essence_in.field-0) c.program-program.ensures.same c.program-program.ensures.typed c.requires
-    c.in-Some.ensures.some c.in_ok-essence_in.ensures
+    let P = program_of c.args.typed.now in
+    let r = c.args.condition.now in
+    let p = procedure_of c.in-Some.procedure.now in
+    let e = c.in_ok-essence_in.field-0 in
+    let same = c.program-program.ensures.same in
+    let of : IsOf P (condition_of r) p = subst (λ (Q : whole.Program). IsCallee (program_of Q) r.procedure p) same c.in-Some.ensures.some in
+    let typed : IsTyped P = subst (λ (Q : whole.Program). IsTyped (program_of Q)) same c.program-program.ensures.typed in
+    let told : IsEssenceIn P p r e = subst (λ (Q : whole.Program). IsEssenceIn (program_of Q) p r e) same c.in_ok-essence_in.ensures in
+    record { typed = typed; one = c.requires; procedure = p; of = of; is = sym told }

@@ -1,4 +1,4 @@
-use Rattle.gh_session.proofs.Unique.{have_one_essence}
+use Rattle.gh_session.proofs.Alike.{have_one_essence}
 use Rattle.gh_session.proofs.laws.have_one_essence.Goals as goal
 
 pub returns : goal.returns

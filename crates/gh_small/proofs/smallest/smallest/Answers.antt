@@ -1,4 +1,5 @@
 use Rattle.gh_ast.specs.Plain.{program_of}
+use Rattle.gh_path.specs.Kept.{condition_of}
 use Rattle.gh_ground.specs.Solving.{IsAnswer}
 use Rattle.gh_ground.specs.declared.solve.Answer.TheVariants.{Model, Refutation}
 use Rattle.gh_decide.specs.Verdicts.{IsGroundOf}
@@ -12,9 +13,9 @@ returns-in-Refutation c =
     let P = program_of c.args.typed.now in
     let r = c.args.condition.now in
     let p = c.in_ok-ground.ground in
-    let ground : IsGroundOf P r p = λ k stands. c.in_ok-ground.ensures.told P k (c.in_ok-symbolic.ensures k stands) in
+    let ground : IsGroundOf P r p = λ q of. c.in_ok-ground.ensures.told P q (condition_of r) (c.in_ok-symbolic.ensures q of) in
     let is : IsAnswer p (Refutation c.in-Refutation.field-0) = rw c.in-Refutation.is at c.in_ok-answer.ensures.answer in
-    (shown P r p c.in-Refutation.field-0 c.requires.admitted.typed ground is).valid
+    (shown P r p c.in-Refutation.field-0 c.requires.admitted.typed c.requires.one ground is).valid
 
 pub descend-requires : goal.descend-requires
 descend-requires c =
@@ -27,6 +28,6 @@ returns c =
     let P = program_of c.args.typed.now in
     let r = c.args.condition.now in
     let p = c.in_ok-ground.ground in
-    let ground : IsGroundOf P r p = λ k stands. c.in_ok-ground.ensures.told P k (c.in_ok-symbolic.ensures k stands) in
+    let ground : IsGroundOf P r p = λ q of. c.in_ok-ground.ensures.told P q (condition_of r) (c.in_ok-symbolic.ensures q of) in
     smallest_found P r p c.in_ok-fewest-in-Model.fewest c.in_ok-trace-in-Model.trace c.requires.admitted.typed ground c.sizes-sizes.ensures.valid c.in_ok-fewest-in-Model.ensures.fewest
     c.in_ok-trace-in-Model.ensures c.requires.one

@@ -20,5 +20,5 @@ returns c =
       is = same;
       written = is_script (plain_of s) p c.new.result c.requires c.sizes-sizes.ensures.valid (subst IsSized c.sizes-sizes.ensures.sizes sized) same;
       refused = tt;
-      decides = λ P d t is e. script_decides P d p c.new.result t is e c.sizes-sizes.ensures.valid same;
+      decides = λ P q d t is of e. script_decides P q d p c.new.result t is of e c.sizes-sizes.ensures.valid same;
     }

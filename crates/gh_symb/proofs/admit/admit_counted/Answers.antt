@@ -2,23 +2,24 @@ use Rattle.std.proofs.Common.{◌≡◌, ◌∙◌, ◌+◌, ◌≤◌, ap, sym,
 use Rattle.std.specs.Prelude.{slice_get}
 use Rattle.std.proofs.lemmas.List.{take_all}
 use Rattle.gh_ast.specs.Plain.{program_of}
+use Rattle.gh_ast.specs.Rules.{IsTyped}
 use Rattle.gh_path.specs.Admitted.{most_terms, most_versions}
 use Rattle.gh_path.specs.Answers.{IsNumbered}
 use Rattle.gh_path.specs.Conditions.{conditions}
+use Rattle.gh_path.specs.Kept.{condition_of}
 use Rattle.gh_path.specs.Walks.{IsBefore}
 use Rattle.gh_path.proofs.GivenLemmas.{lent_one, lent_on, lent_none}
-use Rattle.gh_symb.specs.Limits.{HasTerms, HasVersions, Passes}
+use Rattle.gh_symb.specs.Limits.{HasTerms, Passes}
 use Rattle.gh_symb.specs.Met.{IsMet}
-use Rattle.gh_symb.specs.Numbers.{count_of}
 use Rattle.gh_symb.specs.Steps.{IsCount}
-use Rattle.gh_symb.proofs.AdmitLemmas.{one_more, met_more, first_passed, none_has, few_terms, many_terms, number_at, counts_more}
+use Rattle.gh_symb.proofs.AdmitLemmas.{ManyTerms, ManyVersions, its_count, one_more, met_more, first_passed, none_has, few_terms, many_terms, number_at, numbered_fits, counts_more}
 use Rattle.gh_symb.proofs.admit.admit_counted.Goals as goal
 
 pub loop-place-init : goal.loop-place-init
 loop-place-init c = record {
   before = subst (λ Q. IsBefore Q c.walk-walk.result (conditions Q)) c.requires c.walk-walk.ensures;
-  few = λ j d less at holds. omega (arith, less);
-  late = λ j d less at holds. omega (arith, less);
+  few = λ j d p less at of holds. omega (arith, less);
+  late = λ j d p less at of holds. omega (arith, less);
   counts = λ none. c.new-counts.ensures.items;
 }
 
@@ -33,18 +34,20 @@ unreachable-requires c =
 pub counted-requires : goal.counted-requires
 counted-requires c =
     let P = program_of c.args.typed.now in
-    let found = lent_one P c.loop-place.walk c.advance.new.self c.loop-place.place c.advance.result c.in_ok-more.more
-    c.condition-condition.result.now c.in_ok-more.was c.if-not-more.false c.condition-condition.ensures c.loop-place.invariant.before
-    c.advance.ensures.next in
-    (found.0, found.3)
+    let r = c.condition-condition.result.now in
+    let typed : IsTyped P = subst (λ Q. IsTyped (program_of Q)) c.program-program.ensures.same c.program-program.ensures.typed in
+    numbered_fits P (c.loop-place.place + 1) r typed
+    (lent_one P c.loop-place.walk c.advance.new.self c.loop-place.place c.advance.result c.in_ok-more.more r c.in_ok-more.was
+    c.if-not-more.false c.condition-condition.ensures c.loop-place.invariant.before c.advance.ensures.next)
 
 pub limit_of-passed-requires : goal.limit_of-passed-requires
 limit_of-passed-requires c =
     let P = program_of c.args.typed.now in
-    let found = lent_one P c.loop-place.walk c.advance.new.self c.loop-place.place c.advance.result c.in_ok-more.more
-    c.condition-condition.result.now c.in_ok-more.was c.if-not-more.false c.condition-condition.ensures c.loop-place.invariant.before
-    c.advance.ensures.next in
-    (found.0, found.3)
+    let r = c.condition-condition.result.now in
+    let typed : IsTyped P = subst (λ Q. IsTyped (program_of Q)) c.program-program.ensures.same c.program-program.ensures.typed in
+    numbered_fits P (c.loop-place.place + 1) r typed
+    (lent_one P c.loop-place.walk c.advance.new.self c.loop-place.place c.advance.result c.in_ok-more.more r c.in_ok-more.was
+    c.if-not-more.false c.condition-condition.ensures c.loop-place.invariant.before c.advance.ensures.next)
 
 pub returns-in-Some-clause-refused : goal.returns-in-Some-clause-refused
 returns-in-Some-clause-refused c =
@@ -54,16 +57,20 @@ returns-in-Some-clause-refused c =
     let found : IsNumbered P (k + 1) (Some r) =
     lent_one P c.loop-place.walk c.advance.new.self k c.advance.result c.in_ok-more.more r c.in_ok-more.was
     c.if-not-more.false c.condition-condition.ensures c.loop-place.invariant.before c.advance.ensures.next in
-    let at : slice_get (conditions P) k ≡ Some found.0 = number_at P k r found in
-    let passes : Passes P found.0 c.limit_of-passed.result =
-    c.limit_of-passed.ensures found.0 found.3 (c.in_ok-found.ensures found.0 found.3) in
-    let many = many_terms P found.0 c.limit_of-passed.result c.in-Some.limit passes c.in-Some.ensures in
-    inl (first_passed P (HasTerms P) (k + 1) 6 (most_terms + 1) c.in-Some.limit
+    let typed : IsTyped P = subst (λ Q. IsTyped (program_of Q)) c.program-program.ensures.same c.program-program.ensures.typed in
+    let is = numbered_fits P (k + 1) r typed found in
+    let p = is.0 in
+    let d = condition_of r in
+    let passes : Passes P p d c.limit_of-passed.result = c.limit_of-passed.ensures p is.1 (c.in_ok-found.ensures p is.1) in
+    let many = many_terms P p d c.limit_of-passed.result c.in-Some.limit passes c.in-Some.ensures in
+    inl (first_passed P (ManyTerms P) (k + 1) 6 (most_terms + 1) c.in-Some.limit
     (record {
       place = k;
-      condition = found.0;
+      condition = d;
+      procedure = p;
       within = omega arith;
-      at = at;
+      at = number_at P k r found;
+      of = is.1;
       holds = many.0;
       limit = many.1;
       earlier = c.loop-place.invariant.few;
@@ -79,18 +86,22 @@ loop-place-preserved c =
     let found : IsNumbered P (k + 1) (Some r) =
     lent_one P s t k c.advance.result c.in_ok-more.more r c.in_ok-more.was c.if-not-more.false c.condition-condition.ensures
     c.loop-place.invariant.before c.advance.ensures.next in
-    let at : slice_get (conditions P) k ≡ Some found.0 = number_at P k r found in
-    let counted : IsCount P found.0 c.in_ok-found.found = c.in_ok-found.ensures found.0 found.3 in
+    let typed : IsTyped P = subst (λ Q. IsTyped (program_of Q)) c.program-program.ensures.same c.program-program.ensures.typed in
+    let is = numbered_fits P (k + 1) r typed found in
+    let p = is.0 in
+    let d = condition_of r in
+    let here : slice_get (conditions P) k ≡ Some d = number_at P k r found in
+    let counted : IsCount P p d c.in_ok-found.found = c.in_ok-found.ensures p is.1 in
     let passed = c.limit_of-passed.result in
-    let passes : Passes P found.0 passed = c.limit_of-passed.ensures found.0 found.3 counted in
-    let few = few_terms P found.0 passed passes c.in_default.ensures in
+    let passes : Passes P p d passed = c.limit_of-passed.ensures p is.1 counted in
+    let few = few_terms P p d passed passes c.in_default.ensures in
     record {
       before = lent_on P s t k c.advance.result c.in_ok-more.more c.in_ok-more.was c.if-not-more.false
           c.loop-place.invariant.before c.advance.ensures.next;
-      few = one_more P (HasTerms P) k found.0 at c.loop-place.invariant.few few;
-      late = rw c.earlier-late.ensures (met_more P k found.0 c.loop-place.late passed at passes few c.loop-place.invariant.late);
-      counts = λ none. counts_more P k found.0 c.loop-place.late passed c.loop-place.counts.items c.add.new.counts.items
-          c.count.result at passes (λ keeps. c.count.ensures P found.0 counted keeps) c.in_ok-add.ensures
+      few = one_more P (HasTerms P) k d p here is.1 c.loop-place.invariant.few few;
+      late = rw c.earlier-late.ensures (met_more P k d p c.loop-place.late passed here is.1 passes few c.loop-place.invariant.late);
+      counts = λ none. counts_more P k d p c.loop-place.late passed c.loop-place.counts.items c.add.new.counts.items
+          c.count.result here is.1 passes (λ keeps. c.count.ensures P p d counted keeps) c.in_ok-add.ensures
           c.loop-place.invariant.counts (sym c.earlier-late.ensures ∙ none);
     }
 
@@ -101,7 +112,7 @@ returns-in-Some-late-clause-refused c =
     let count : c.count-place-end.result ≡ length (conditions P) = c.count-place-end.ensures ∙ ap (λ Q. length (conditions Q)) c.requires in
     let all : length (conditions P) ≤ k = omega (arith, count, c.loop-place-test.false) in
     let met : IsMet P k (Some c.in-Some-late.limit) = rw c.in-Some-late.is at c.loop-place.invariant.late in
-    inr (none_has P (HasTerms P) k all c.loop-place.invariant.few, first_passed P (HasVersions P) k 7 (most_versions + 1) c.in-Some-late.limit met)
+    inr (none_has P (ManyTerms P) k all c.loop-place.invariant.few, first_passed P (ManyVersions P) k 7 (most_versions + 1) c.in-Some-late.limit met)
 
 pub returns-in-None-clause-terms : goal.returns-in-None-clause-terms
 returns-in-None-clause-terms c =
@@ -109,7 +120,7 @@ returns-in-None-clause-terms c =
     let k = c.loop-place.place in
     let count : c.count-place-end.result ≡ length (conditions P) = c.count-place-end.ensures ∙ ap (λ Q. length (conditions Q)) c.requires in
     let all : length (conditions P) ≤ k = omega (arith, count, c.loop-place-test.false) in
-    none_has P (HasTerms P) k all c.loop-place.invariant.few
+    none_has P (ManyTerms P) k all c.loop-place.invariant.few
 
 pub returns-in-None-clause-versions : goal.returns-in-None-clause-versions
 returns-in-None-clause-versions c =
@@ -118,7 +129,7 @@ returns-in-None-clause-versions c =
     let count : c.count-place-end.result ≡ length (conditions P) = c.count-place-end.ensures ∙ ap (λ Q. length (conditions Q)) c.requires in
     let all : length (conditions P) ≤ k = omega (arith, count, c.loop-place-test.false) in
     let met : IsMet P k None = rw c.in-None.is at c.loop-place.invariant.late in
-    none_has P (HasVersions P) k all met
+    none_has P (ManyVersions P) k all met
 
 pub returns-in-None-clause-counts : goal.returns-in-None-clause-counts
 returns-in-None-clause-counts c =
@@ -126,4 +137,4 @@ returns-in-None-clause-counts c =
     let k = c.loop-place.place in
     let count : c.count-place-end.result ≡ length (conditions P) = c.count-place-end.ensures ∙ ap (λ Q. length (conditions Q)) c.requires in
     let all : length (conditions P) ≤ k = omega (arith, count, c.loop-place-test.false) in
-    c.loop-place.invariant.counts c.in-None.is ∙ ap (map (count_of P)) (take_all k (conditions P) all)
+    c.loop-place.invariant.counts c.in-None.is ∙ ap (map (its_count P)) (take_all k (conditions P) all)

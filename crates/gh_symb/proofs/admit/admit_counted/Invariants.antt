@@ -4,7 +4,7 @@ use Rattle.gh_path.specs.Conditions.{conditions}
 use Rattle.gh_path.specs.Walks.{IsBefore}
 use Rattle.gh_symb.specs.Limits.{HasTerms}
 use Rattle.gh_symb.specs.Met.{NoneMet, IsMet}
-use Rattle.gh_symb.specs.Numbers.{count_of}
+use Rattle.gh_symb.proofs.AdmitLemmas.{its_count}
 use Rattle.gh_symb.proofs.admit.admit_counted.Given as goal
 
 abbrev pub invariant-loop-place : goal.invariant-loop-place
@@ -12,5 +12,5 @@ invariant-loop-place l = record {
   before : IsBefore (program_of l.typed) l.walk (drop l.place (conditions (program_of l.typed)));
   few : NoneMet (program_of l.typed) (HasTerms (program_of l.typed)) l.place;
   late : IsMet (program_of l.typed) l.place l.late;
-  counts : l.late ≡ None → l.counts.items ≡ map (count_of (program_of l.typed)) (take l.place (conditions (program_of l.typed)));
+  counts : l.late ≡ None → l.counts.items ≡ map (its_count (program_of l.typed)) (take l.place (conditions (program_of l.typed)));
 }

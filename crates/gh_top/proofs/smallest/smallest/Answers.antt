@@ -1,4 +1,5 @@
-use Rattle.std.proofs.Common.{◌≡◌, ◌∙◌, ap, length, List, ℕ}
+use Rattle.std.proofs.Common.{◌≡◌, ◌∙◌, ap, subst, length, List, ℕ}
+use Rattle.std.specs.Prelude.{IfNone}
 use Rattle.gh_ast.specs.Plain.{program_of}
 use Rattle.gh_path.specs.Conditions.{conditions}
 use Rattle.gh_trace.specs.Refuted.{IsFirst}
@@ -15,7 +16,8 @@ returns c =
     let P = program_of c.args.admitted.now in
     elim c.match-branch-2.branch [
       | in-None+in_ok-verified_line-in-None w ↦
-          let valid : ListedAreValid P = rw (w.in-None.is, c.typed.ensures.same) at c.in_ok-first_refuted.ensures.none in
+          let valid : ListedAreValid P = subst (λ p. ListedAreValid (program_of p)) c.typed.ensures.same
+          (subst (λ o. IfNone o (ListedAreValid (program_of c.typed.result.now))) w.in-None.is c.in_ok-first_refuted.ensures.none) in
           let count : w.count.result ≡ length (conditions P) = w.count.ensures ∙ ap (λ p. length (conditions (program_of p))) c.conditions-conditions.ensures in
           rw w.result-is (smallest_valid P w.count.result _ _ valid count w.verified.ensures.status (w.verified.ensures.text ∙ w.in_ok-verified_line-in-None.ensures))
       | in-Some w ↦ rw w.result-is

@@ -5,8 +5,8 @@ use Rattle.gh_top.proofs.smt.place.Goals as goal
 
 pub returns : goal.returns
 returns c =
-    λ d stands.
-    let own : procedure_of c.index-procedure.result.now ≡ d.procedure =
-    its_procedure c.args.typed.now c.program.result.now.procedures.items c.args.condition.now.procedure c.index-procedure.result.now d.procedure
-    (ap (λ x. x.procedures.items) c.program.ensures.same) c.index-procedure.ensures stands.procedure in
+    λ p of.
+    let own : procedure_of c.index-procedure.result.now ≡ p =
+    its_procedure c.args.typed.now c.program.result.now.procedures.items c.args.condition.now.procedure c.index-procedure.result.now p
+    (ap (λ x. x.procedures.items) c.program.ensures.same) c.index-procedure.ensures of in
     ap (λ q. q.name.span) own

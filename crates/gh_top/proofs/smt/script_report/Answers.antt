@@ -4,6 +4,9 @@ use Rattle.gh_smt.specs.Scripts.{assertion_count}
 use Rattle.gh_draw.specs.Descriptions.{place_text}
 use Rattle.gh_draw.specs.Drawings.{line}
 use Rattle.gh_ast.specs.Plain.{program_of}
+use Rattle.gh_path.specs.Kept.{condition_of}
+use Rattle.gh_path.proofs.Numbers.{one_fits}
+use Rattle.gh_trace.proofs.FirstRefuted.{condition_one}
 use Rattle.gh_symb.specs.Symbolic.{symbolic_of}
 use Rattle.gh_symb.specs.Formulas.{problem}
 use Rattle.gh_top.specs.Smts.{most_asserted}
@@ -13,19 +16,25 @@ use Rattle.gh_top.proofs.smt.script_report.Goals as goal
 
 pub returns-in-Ok : goal.returns-in-Ok
 returns-in-Ok c =
-    λ d is stands.
+    λ p of.
     let P = program_of c.args.typed.now in
-    let e : c.in_ok-ground.ground ≡ problem (symbolic_of P d) = c.in_ok-ground.ensures.told P d (c.in_ok-symbolic.ensures d stands) in
-    is_listed P d c.in_ok-ground.ground c.in-Ok.script Listed _ e c.in-Ok.ensures.short c.in-Ok.ensures.is
-    (c.in-Ok.ensures.decides P d c.requires.admitted.typed is e) refl c.in_ok-write_script-in-Ok.ensures
+    let d = condition_of c.args.condition.now in
+    let is = condition_one P c.args.condition.now c.requires.one in
+    let e : c.in_ok-ground.ground ≡ problem (symbolic_of P p d) = c.in_ok-ground.ensures.told P p d (c.in_ok-symbolic.ensures p of) in
+    is_listed P p d c.in_ok-ground.ground c.in-Ok.script Listed _ e c.in-Ok.ensures.short c.in-Ok.ensures.is
+    (c.in-Ok.ensures.decides P p d c.requires.admitted.typed is of e) refl c.in_ok-write_script-in-Ok.ensures
 
 pub returns-in-Err-TooLong : goal.returns-in-Err-TooLong
 returns-in-Err-TooLong c =
-    λ d is stands.
+    λ p of.
     let P = program_of c.args.typed.now in
-    let p = c.in_ok-ground.ground in
-    let e : p ≡ problem (symbolic_of P d) = c.in_ok-ground.ensures.told P d (c.in_ok-symbolic.ensures d stands) in
-    let cause : (c.in-Err-TooLong.count ≡ assertion_count p) × (most_asserted < c.in-Err-TooLong.count) = rw c.in-Err-TooLong.field-0-is at c.in-Err-TooLong.ensures.refused in
+    let d = condition_of c.args.condition.now in
+    let g = c.in_ok-ground.ground in
+    let e : g ≡ problem (symbolic_of P p d) = c.in_ok-ground.ensures.told P p d (c.in_ok-symbolic.ensures p of) in
+    let cause : (c.in-Err-TooLong.count ≡ assertion_count g) × (most_asserted < c.in-Err-TooLong.count) = rw c.in-Err-TooLong.field-0-is at c.in-Err-TooLong.ensures.refused in
     let text : c.in_ok-too_long-in-Err-TooLong.field-0.text ≡ line (codes "refused: Limit script at " ++ place_text c.place-span.result ++ codes ", count " ++ decimal c.in-Err-TooLong.count) =
     c.in_ok-too_long-in-Err-TooLong.ensures.text in
-    is_too_long P d p c.place-span.result c.in-Err-TooLong.count c.in_ok-too_long-in-Err-TooLong.field-0.status _ e cause.0 cause.1 (c.place-span.ensures d stands) c.in_ok-too_long-in-Err-TooLong.ensures.status text
+    is_too_long P p d g c.place-span.result c.in-Err-TooLong.count c.in_ok-too_long-in-Err-TooLong.field-0.status _ e cause.0 cause.1 (c.place-span.ensures p of) c.in_ok-too_long-in-Err-TooLong.ensures.status text
+
+pub place-span-requires : goal.place-span-requires
+place-span-requires c = one_fits (program_of c.args.typed.now) c.args.condition.now c.requires.admitted.typed c.requires.one

@@ -2,11 +2,11 @@ use Rattle.std.proofs.Common.{◌∙◌, length, ap, sym, subst}
 use Rattle.std.specs.Prelude.{Some, None}
 use Rattle.gh_ast.specs.Plain.{program_of}
 use Rattle.gh_path.specs.Answers.{IsNumbered}
-use Rattle.gh_path.specs.Conditions.{Condition, IsCondition, conditions}
-use Rattle.gh_path.specs.Kept.{StandsFor}
-use Rattle.gh_trace.specs.Kept.{IsOne}
-use Rattle.gh_top.specs.Smts.{IsScriptReport}
-use Rattle.gh_top.proofs.SmtLemmas.{one_there, script_replies, none_replies}
+use Rattle.gh_path.specs.Conditions.{conditions}
+use Rattle.gh_path.specs.Kept.{IsOne}
+use Rattle.gh_trace.proofs.FirstRefuted.{numbered_one}
+use Rattle.gh_top.specs.Smts.{ReportsScript}
+use Rattle.gh_top.proofs.SmtLemmas.{script_replies, none_replies}
 use Rattle.gh_top.proofs.smt.smt.Goals as goal
 
 pub script_report-requires-clause-one : goal.script_report-requires-clause-one
@@ -14,7 +14,7 @@ script_report-requires-clause-one c =
     let P = program_of c.args.admitted.now in
     let found : IsNumbered P c.args.number (Some c.in-Some.condition) = subst (λ p. IsNumbered (program_of p) c.args.number (Some c.in-Some.condition)) c.conditions-conditions.ensures
     (subst (λ o. IsNumbered (program_of c.conditions-conditions.result.now) c.args.number o) c.in-Some.is c.in_ok-condition.ensures) in
-    subst (λ p. IsOne (program_of p) c.in-Some.condition) (sym c.typed-typed.ensures.same) (one_there P c.args.number c.in-Some.condition found)
+    subst (λ p. IsOne (program_of p) c.in-Some.condition) (sym c.typed-typed.ensures.same) (numbered_one P c.args.number c.in-Some.condition found)
 
 pub returns-in_ok-script_report-in-Some : goal.returns-in_ok-script_report-in-Some
 returns-in_ok-script_report-in-Some c =
@@ -23,7 +23,7 @@ returns-in_ok-script_report-in-Some c =
     let found : IsNumbered P c.args.number (Some c.in-Some.condition) = subst (λ p. IsNumbered (program_of p) c.args.number (Some c.in-Some.condition)) c.conditions-conditions.ensures
     (subst (λ o. IsNumbered (program_of c.conditions-conditions.result.now) c.args.number o) c.in-Some.is c.in_ok-condition.ensures) in
     script_replies P c.args.number c.in-Some.condition r.status r.text found
-    (subst (λ p. (d : Condition) → IsCondition (program_of p) d → StandsFor (program_of p) c.in-Some.condition d → IsScriptReport (program_of p) d r.status r.text) c.typed-typed.ensures.same c.in_ok-script_report-in-Some.ensures)
+    (subst (λ p. ReportsScript (program_of p) c.in-Some.condition r.status r.text) c.typed-typed.ensures.same c.in_ok-script_report-in-Some.ensures)
 
 pub returns-in_ok-unnumbered-in-None : goal.returns-in_ok-unnumbered-in-None
 returns-in_ok-unnumbered-in-None c =

@@ -1,17 +1,19 @@
-use Rattle.std.proofs.Common.{ap, subst}
-use Rattle.std.specs.Prelude.{◌↔◌, IsTrue, slice_get}
+use Rattle.std.proofs.Common.{refl}
+use Rattle.std.specs.Prelude.{slice_get}
 use Rattle.std.proofs.lemmas.Result.{IfOk-weaker}
 use Rattle.gh_ast.specs.Plain.{procedure_of}
-use Rattle.gh_ast.proofs.Lists.{one_value}
-use Rattle.gh_assert.specs.Meaning.{HasPart}
-use Rattle.gh_assert.specs.Stores.{store_of}
-use Rattle.gh_path.specs.Graphs.{Loop, loops_of}
+use Rattle.gh_ast.proofs.Lists.{not_both}
+use Rattle.gh_path.specs.Graphs.{loops_of}
 use Rattle.gh_path.specs.Walking.{loop_of}
+use Rattle.gh_trace.specs.Kept.{state_of}
+use Rattle.gh_trace.proofs.LoopLemmas.{entered_where}
 use Rattle.gh_trace.proofs.checks.is_loop_entered.Goals as goal
+
+pub returns-in_default : goal.returns-in_default
+returns-in_default c at =
+    (λ t l is. absurd (not_both (slice_get (loops_of (procedure_of c.args.setting.procedure.now)) c.args.number) l is c.in_default.ensures.none), λ passes. refl)
 
 pub returns : goal.returns
 returns c =
-    IfOk-weaker c.has_part.result _ _
-    (λ b w l is P.
-    subst (λ f. IsTrue b ↔ HasPart f (store_of c.args.state.now.store) c.args.state.now.heap)
-    (ap (λ (k : Loop). k.invariant) (one_value (slice_get (loops_of (procedure_of c.args.setting.procedure.now)) c.args.number) (loop_of c.in-Some.round) l c.in-Some.ensures.some is)) w) c.has_part.ensures
+    let r = entered_where (procedure_of c.args.setting.procedure.now) c.args.number (loop_of c.in-Some.round) (state_of c.args.state.now) c.in-Some.ensures.some in
+    IfOk-weaker c.has_part.result _ _ (λ b w at. (λ t. r.1 (w.0 t), λ passes. w.1 (r.0 passes))) c.has_part.ensures

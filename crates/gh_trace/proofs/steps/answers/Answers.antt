@@ -9,14 +9,14 @@ use Rattle.gh_trace.proofs.StepLemmas.{not_given}
 use Rattle.gh_trace.proofs.steps.answers.Goals as goal
 
 pub returns-in_default : goal.returns-in_default
-returns-in_default c P =
+returns-in_default c =
     let s = store_of c.args.before.now.store in
     let h = c.args.before.now.heap in
     let none : Any (λ e. result s h e ≡ None) c.args.exprs.now = subst (λ o. IfNone o (Any (λ e. result s h e ≡ None) c.args.exprs.now)) c.in_default.is c.in_ok-given.ensures.unread in
     (λ f. absurd cc, λ takes. absurd (not_given s h c.args.exprs.now takes.0 none takes.1))
 
 pub returns-then-not-branch : goal.returns-then-not-branch
-returns-then-not-branch c P =
+returns-then-not-branch c =
     let s = store_of c.args.before.now.store in
     let h = c.args.before.now.heap in
     let xs = results_of (procedure_of c.args.setting.procedure.now) in

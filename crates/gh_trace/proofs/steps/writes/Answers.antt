@@ -8,7 +8,7 @@ use Rattle.gh_trace.proofs.StepLemmas.{there_at, other_contents, state_keeps, wr
 use Rattle.gh_trace.proofs.steps.writes.Goals as goal
 
 pub returns-then-ne : goal.returns-then-ne
-returns-then-ne c P =
+returns-then-ne c P p =
     let s = store_of c.args.before.now.store in
     let h = c.args.before.now.heap in
     let v = sym c.expr_value.ensures ∙ c.in-Some.is in (
@@ -18,7 +18,7 @@ returns-then-ne c P =
     )
 
 pub returns-then-not-keeps : goal.returns-then-not-keeps
-returns-then-not-keeps c P =
+returns-then-not-keeps c P p =
     let s = store_of c.args.before.now.store in
     let h = c.args.before.now.heap in
     (λ f. absurd cc, λ takes. (let kept = c.keeps.ensures.1 (state_keeps s (store_of c.args.after.now.store) (insert h (s c.args.at.now.name) takes.0) c.args.after.now.heap takes.3) in absurd cc))
@@ -34,4 +34,4 @@ returns c =
     let v = sym c.expr_value.ensures ∙ c.in-Some.is in
     let there = sym c.get-2.ensures ∙ same_contents c.get-2.result (Some c.in-Some.value) (sym c.ne.ensures ∙ c.if-ne.false) in
     let r = writes_where s t h k p c.value_of-place.result c.in-Some.value (result s h c.args.expr.now) c.value_of-place.ensures v at there (c.keeps.ensures.0 c.if-not-keeps.false) in
-    IfOk-weaker c.is_same_outside.result _ _ (λ b w P. (λ is. r.0 (w.0 is), λ takes. w.1 (r.1 takes))) c.is_same_outside.ensures
+    IfOk-weaker c.is_same_outside.result _ _ (λ b w P p. (λ is. r.0 (w.0 is), λ takes. w.1 (r.1 takes))) c.is_same_outside.ensures

@@ -6,11 +6,11 @@ use Rattle.gh_path.proofs.RouteLemmas.{go_past, weights_push, shown_node}
 use Rattle.gh_path.proofs.route.Route.turn.Goals as goal
 
 pub returns-in_ok-go-in-Past-clause-come : goal.returns-in_ok-go-in-Past-clause-come
-returns-in_ok-go-in-Past-clause-come c = λ P p ws come.
+returns-in_ok-go-in-Past-clause-come c = λ ws come.
     let ts = c.args.self.now.taken.items in
     rw c.in_ok-go-in-Past.ensures.onward
-    (go_past P p c.args.nodes.now ts c.go.new.self.taken.items c.in-Past.place c.in-Past.next ws (rw c.new.ensures at c.in_ok-go-in-Past.ensures.taken)
-    (subst (λ o. AreToCome P p c.args.nodes.now ts o ws) c.in-Past.is come))
+    (go_past c.args.nodes.now ts c.go.new.self.taken.items c.in-Past.place c.in-Past.next ws (rw c.new.ensures at c.in_ok-go-in-Past.ensures.taken)
+    (subst (λ o. AreToCome c.args.nodes.now ts o ws) c.in-Past.is come))
 
 pub returns-in_ok-go-in-Past-clause-less : goal.returns-in_ok-go-in-Past-clause-less
 returns-in_ok-go-in-Past-clause-less c =
@@ -21,10 +21,10 @@ returns-in_ok-go-in-Past-clause-less c =
     omega (arith, total, on, was)
 
 pub returns-in_ok-come-in-Node-clause-come : goal.returns-in_ok-come-in-Node-clause-come
-returns-in_ok-come-in-Node-clause-come c = λ P p ws come.
+returns-in_ok-come-in-Node-clause-come c = λ ws come.
     let ns = c.args.nodes.now in
     let i = c.in-Node.place in
-    let there : AreToCome P p ns c.args.self.now.taken.items (place.Node i) ws = subst (λ o. AreToCome P p ns c.args.self.now.taken.items o ws) c.in-Node.is come in
-    let n = shown_node P p ns i there.are_ahead.0 there.are_ahead.1 in
+    let there : AreToCome ns c.args.self.now.taken.items (place.Node i) ws = subst (λ o. AreToCome ns c.args.self.now.taken.items o ws) c.in-Node.is come in
+    let n = shown_node ns i there.are_ahead.0 there.are_ahead.1 in
     let at : slice_get ns i ≡ Some c.at-node.result = n.1 ∙ ap Some (sym (c.at-node.ensures.there n.0 n.1)) in
-    c.in_ok-come-in-Node.ensures.come P p ns ws at there
+    c.in_ok-come-in-Node.ensures.come ns ws at there

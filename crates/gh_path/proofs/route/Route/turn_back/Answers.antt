@@ -1,14 +1,14 @@
 use Rattle.std.proofs.Common.{◌≡◌, ◌∙◌, ◌+◌, ◌++◌, ◌∷◌, [], ap, subst, arith, None}
-use Rattle.gh_path.specs.Routes.{IsTaken, weight, weights, other_weight, onward_weight}
+use Rattle.gh_path.specs.Routes.{AreBehind, weight, weights, other_weight, onward_weight}
 use Rattle.gh_path.proofs.RouteLemmas.{back_to, back_over, weights_push}
 use Rattle.gh_path.proofs.route.Route.turn_back.Goals as goal
 
 pub returns-in-Some-other-clause-come : goal.returns-in-Some-other-clause-come
-returns-in-Some-other-clause-come c = λ P p nodes zs ws taken.
-    let back = c.loop-last.invariant.taken P p nodes zs ws taken in
-    let at : IsTaken P p nodes [] (c.pop.new.self.items ++ c.in-Some.last ∷ []) back.0 ws = subst (λ ts. IsTaken P p nodes [] ts back.0 ws) c.in-Some.ensures.items back.1 in
+returns-in-Some-other-clause-come c = λ nodes ws behind.
+    let back = c.loop-last.invariant.behind nodes ws behind in
+    let at : AreBehind nodes [] (c.pop.new.self.items ++ c.in-Some.last ∷ []) ws = subst (λ ts. AreBehind nodes [] ts ws) c.in-Some.ensures.items back in
     rw c.in_ok-go.ensures.onward
-    (back_to P p nodes c.pop.new.self.items c.go.new.self.taken.items c.in-Some.last c.in-Some-other.place back.0 ws c.in-Some-other.is
+    (back_to nodes c.pop.new.self.items c.go.new.self.taken.items c.in-Some.last c.in-Some-other.place ws c.in-Some-other.is
     (rw c.opposite.ensures at c.in_ok-go.ensures.taken) at)
 
 pub returns-in-Some-other-clause-less : goal.returns-in-Some-other-clause-less
@@ -27,9 +27,9 @@ loop-last-preserved c =
     ap weights c.in-Some.ensures.items ∙ weights_push c.pop.new.self.items c.in-Some.last in
     let none : other_weight c.in-Some.last.other ≡ 0 = ap other_weight c.in_default-other.is in
     record {
-      taken = λ P p nodes zs ws taken.
-          let back = c.loop-last.invariant.taken P p nodes zs ws taken in
-          let at : IsTaken P p nodes [] (c.pop.new.self.items ++ c.in-Some.last ∷ []) back.0 ws = subst (λ ts. IsTaken P p nodes [] ts back.0 ws) c.in-Some.ensures.items back.1 in
-          back_over P p nodes c.pop.new.self.items c.in-Some.last back.0 ws c.in_default-other.is at;
+      behind = λ nodes ws behind.
+          let back = c.loop-last.invariant.behind nodes ws behind in
+          let at : AreBehind nodes [] (c.pop.new.self.items ++ c.in-Some.last ∷ []) ws = subst (λ ts. AreBehind nodes [] ts ws) c.in-Some.ensures.items back in
+          back_over nodes c.pop.new.self.items c.in-Some.last ws c.in_default-other.is at;
       weighs = omega (arith, popped, none, c.loop-last.invariant.weighs);
     }

@@ -1,6 +1,6 @@
-use Rattle.std.proofs.Common.{◌≡◌, ◌∙◌, length, refl, ap}
+use Rattle.std.proofs.Common.{◌≡◌, ◌∙◌, length, ap}
 use Rattle.gh_ast.specs.Plain.{program_of, procedure_of}
-use Rattle.gh_path.specs.Graphs.{whole_body}
+use Rattle.gh_path.specs.Graphs.{graph_from, whole_body}
 use Rattle.gh_path.specs.Paths.{ways}
 use Rattle.gh_path.specs.declared.ahead.Ahead.{Ahead}
 use Rattle.gh_path.specs.declared.condition.Start.TheVariants.{Entry}
@@ -12,6 +12,6 @@ pub returns : goal.returns
 returns c = λ cs are there.
     let P = program_of c.args.walker.now.program.now in
     let p = procedure_of c.args.walker.now.procedure.now in
-    let count : c.entry_ahead-count.result.count ≡ length (ways (whole_body p).graph) = ap (λ (a : Ahead). a.count) c.entry_ahead-count.ensures ∙ entry_count p c.requires.few in
-    started P c.args.self.now (record { nodes = c.lower_entry.new.nodes; roots = c.push.new.self }) (record { procedure = c.args.procedure; start = Entry; node = c.in_ok-node.node; count = c.entry_ahead-count.result.count }) p (whole_body p) cs
-    c.in_ok-node.ensures c.in_ok-push.ensures.items there refl count are
+    let count : c.entry_ahead-count.result.count ≡ length (ways (graph_from P p whole_body)) = ap (λ (a : Ahead). a.count) c.entry_ahead-count.ensures ∙ entry_count P p c.requires.few in
+    started P c.args.self.now (record { nodes = c.lower_entry.new.nodes; roots = c.push.new.self }) (record { procedure = c.args.procedure; start = Entry; node = c.in_ok-node.node; count = c.entry_ahead-count.result.count }) p cs
+    c.in_ok-node.ensures c.in_ok-push.ensures.items there count are

@@ -1,9 +1,10 @@
 use Rattle.std.proofs.Common.{◌≡◌, ◌∙◌, ◌++◌, [], length, map, drop, sym, ap, arith, append_assoc, append-nil, subst}
 use Rattle.std.proofs.Math.ListN.{drop_of_length-le}
-use Rattle.std.proofs.lemmas.List.{length-map}
+use Rattle.std.proofs.lemmas.List.{length-map, map-append}
 use Rattle.gh_ast.specs.Plain.{program_of, procedure_of}
-use Rattle.gh_path.specs.Conditions.{from_starts, conditions_of}
-use Rattle.gh_path.specs.Graphs.{whole_body, loops_of, round, rounds}
+use Rattle.gh_path.specs.Conditions.{condition, course, from_starts, courses_of}
+use Rattle.gh_path.specs.Graphs.{graph_from, whole_body, loops_of, round, rounds}
+use Rattle.gh_path.specs.Paths.{ways}
 use Rattle.gh_path.specs.Kept.{IsLoop}
 use Rattle.gh_path.specs.Roots.{from_start, AreStarts}
 use Rattle.gh_path.specs.Walking.{loop_of}
@@ -15,35 +16,42 @@ use Rattle.gh_path.proofs.starts.Starts.add_procedure.Goals as goal
 
 pub add_entry-requires-clause-suits : goal.add_entry-requires-clause-suits
 add_entry-requires-clause-suits c =
+    let P = program_of c.args.walker.now.program.now in
     let p = procedure_of c.args.walker.now.procedure.now in
-    entry_suits c.args.walker.now p c.requires.callees (few_loops p c.requires.formed c.requires.few)
+    entry_suits c.args.walker.now p c.requires.procedures c.requires.callees (few_loops P p c.requires.formed c.requires.few)
 
 pub add_round-requires-clause-suits : goal.add_round-requires-clause-suits
 add_round-requires-clause-suits c =
+    let P = program_of c.args.walker.now.program.now in
     let p = procedure_of c.args.walker.now.procedure.now in
     let ts = c.as_slice-turn-items.result.now in
     let x = c.turn-item.result in
     let turns : map loop_of ts ≡ loops_of p = ap (map loop_of) c.as_slice-turn-items.ensures.value ∙ c.in_ok-turns.ensures in
     let here : IsLoop p c.loop-place.place (loop_of x) = loop_there p ts c.loop-place.place x turns c.loop-place-test.true c.turn-item.is in
-    round_suits c.args.walker.now p c.loop-place.place (loop_of x) here c.requires.callees (few_loops p c.requires.formed c.requires.few)
+    round_suits c.args.walker.now p c.loop-place.place (loop_of x) here c.requires.procedures c.requires.callees (few_loops P p c.requires.formed c.requires.few)
 
 pub overflow_cast-place : goal.overflow_cast-place
 overflow_cast-place c =
+    let P = program_of c.args.walker.now.program.now in
     let p = procedure_of c.args.walker.now.procedure.now in
     let ts = c.as_slice-turn-items.result.now in
     let turns : map loop_of ts ≡ loops_of p = ap (map loop_of) c.as_slice-turn-items.ensures.value ∙ c.in_ok-turns.ensures in
     let count : length (map loop_of ts) ≡ length (loops_of p) = ap length turns in
-    omega (arith, c.loop-place-test.true, length-map ts loop_of, count, few_loops p c.requires.formed c.requires.few)
+    omega (arith, c.loop-place-test.true, length-map ts loop_of, count, few_loops P p c.requires.formed c.requires.few)
 
 pub loop-place-init : goal.loop-place-init
 loop-place-init c = λ cs are there.
     let P = program_of c.args.walker.now.program.now in
     let p = procedure_of c.args.walker.now.procedure.now in
     let turns : map loop_of c.as_slice-turn-items.result.now ≡ loops_of p = ap (map loop_of) c.as_slice-turn-items.ensures.value ∙ c.in_ok-turns.ensures in
-    let first = from_start p (whole_body p) in (
+    let n = c.args.procedure in
+    let first = from_start P p n whole_body in
+    let rest = rounds 0 (loops_of p) in (
       cs ++ first,
       c.in_ok-add_entry.ensures cs are there,
-      append_assoc cs first (from_starts p (rounds p 0 (map loop_of c.as_slice-turn-items.result.now))) ∙ ap (λ ls. cs ++ (first ++ from_starts p (rounds p 0 ls))) turns,
+      append_assoc cs first (map (condition n) (from_starts P p (rounds 0 (map loop_of c.as_slice-turn-items.result.now))))
+          ∙ ap (λ ls. cs ++ (first ++ map (condition n) (from_starts P p (rounds 0 ls)))) turns
+          ∙ ap (λ ds. cs ++ ds) (sym (map-append (condition n) (map (course whole_body) (ways (graph_from P p whole_body))) (from_starts P p rest))),
     )
 
 pub loop-place-preserved : goal.loop-place-preserved
@@ -56,10 +64,11 @@ loop-place-preserved c = λ cs are there.
     let before = c.loop-place.invariant cs are there in
     let turns : map loop_of ts ≡ loops_of p = ap (map loop_of) c.as_slice-turn-items.ensures.value ∙ c.in_ok-turns.ensures in
     let here : IsLoop p i (loop_of x) = loop_there p ts i x turns c.loop-place-test.true c.turn-item.is in
+    let n = c.args.procedure in
     let more = c.in_ok-add_round.ensures here before.0 before.1 there in (
-      before.0 ++ from_start p (round p i (loop_of x)),
+      before.0 ++ from_start P p n (round i),
       more,
-      loops_go p ts i x before.0 (cs ++ conditions_of p) c.loop-place-test.true c.turn-item.is before.2,
+      loops_go P p n ts i x before.0 (cs ++ map (condition n) (courses_of P p)) c.loop-place-test.true c.turn-item.is before.2,
     )
 
 pub returns : goal.returns
@@ -70,5 +79,6 @@ returns c = λ cs are there.
     let i = c.loop-place.place in
     let last = c.loop-place.invariant cs are there in
     let none : drop i ts ≡ [] = drop_of_length-le ts c.loop-place-test.false in
-    let all : last.0 ≡ cs ++ conditions_of p = sym (append-nil last.0) ∙ ap (λ ys. last.0 ++ from_starts p (rounds p i (map loop_of ys))) (sym none) ∙ last.2 in
+    let n = c.args.procedure in
+    let all : last.0 ≡ cs ++ map (condition n) (courses_of P p) = sym (append-nil last.0) ∙ ap (λ ys. last.0 ++ map (condition n) (from_starts P p (rounds i (map loop_of ys)))) (sym none) ∙ last.2 in
     subst (AreStarts P c.loop-place.self) all last.1

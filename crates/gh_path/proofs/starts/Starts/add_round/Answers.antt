@@ -1,7 +1,8 @@
-use Rattle.std.proofs.Common.{◌≡◌, ◌∙◌, length, refl, ap}
+use Rattle.std.proofs.Common.{◌≡◌, ◌∙◌, length, sym, ap, subst}
 use Rattle.gh_ast.specs.Plain.{program_of, procedure_of}
-use Rattle.gh_path.specs.Graphs.{once_around, round}
+use Rattle.gh_path.specs.Graphs.{around, graph_from, once_around, round}
 use Rattle.gh_path.specs.Paths.{ways}
+use Rattle.gh_path.specs.Shown.{Adds}
 use Rattle.gh_path.specs.declared.ahead.Ahead.{Ahead}
 use Rattle.gh_path.specs.Walking.{loop_of}
 use Rattle.gh_path.specs.declared.condition.Start.TheVariants as start
@@ -14,6 +15,9 @@ returns c = λ is cs are there.
     let P = program_of c.args.walker.now.program.now in
     let p = procedure_of c.args.walker.now.procedure.now in
     let l = loop_of c.args.turn.now in
-    let count : c.round_ahead-count.result.count ≡ length (ways (once_around p l)) = ap (λ (a : Ahead). a.count) c.round_ahead-count.ensures ∙ round_count p c.args.number l is c.requires.few in
-    started P c.args.self.now (record { nodes = c.lower_round.new.nodes; roots = c.push.new.self }) (record { procedure = c.args.procedure; start = start.Loop c.args.number; node = c.in_ok-node.node; count = c.round_ahead-count.result.count }) p
-    (round p c.args.number l) cs (c.in_ok-node.ensures is) c.in_ok-push.ensures.items there (l, is, refl) count are
+    let n = c.args.number in
+    let count : c.round_ahead-count.result.count ≡ length (ways (graph_from P p (round n))) = ap (λ (a : Ahead). a.count) c.round_ahead-count.ensures ∙ round_count P p n l is c.requires.few in
+    let same : graph_from P p (round n) ≡ once_around P n l = ap (around P n) is in
+    let adds : Adds c.args.self.now.nodes c.lower_round.new.nodes c.in_ok-node.node (graph_from P p (round n)) = subst (Adds c.args.self.now.nodes c.lower_round.new.nodes c.in_ok-node.node) (sym same) c.in_ok-node.ensures in
+    started P c.args.self.now (record { nodes = c.lower_round.new.nodes; roots = c.push.new.self }) (record { procedure = c.args.procedure; start = start.Loop n; node = c.in_ok-node.node; count = c.round_ahead-count.result.count }) p cs
+    adds c.in_ok-push.ensures.items there count are

@@ -1,4 +1,4 @@
-use Rattle.std.proofs.Common.{[], sym, subst}
+use Rattle.std.proofs.Common.{[], refl, sym, subst}
 use Rattle.gh_path.specs.Shown.{AreHeld}
 use Rattle.gh_path.specs.declared.condition.Condition as kept
 use Rattle.gh_path.proofs.LeftLemmas.{left_with}
@@ -10,4 +10,4 @@ returns-clause-left c = λ P cs left.
     left_with P c.args.self.now cs c.clear.new.self c.replace.new.dest left
     (subst (λ os. AreHeld ns os c.replace.new.dest.steps.items) (sym c.clear.ensures.items)
     (subst (λ (r : kept.Condition). AreHeld ns [] r.steps.items) (sym c.replace.ensures.after)
-    (subst (λ rs. AreHeld ns [] rs) (sym c.without_steps.ensures) tt)))
+    (subst (λ rs. AreHeld ns [] rs) (sym c.without_steps.ensures) refl)))

@@ -1,5 +1,5 @@
 use Rattle.std.proofs.Common.{drop, ◌≤◌, length}
-use Rattle.gh_ast.specs.Plain.{program_of, procedure_of, tests_view}
+use Rattle.gh_ast.specs.Plain.{tests_view}
 use Rattle.gh_path.specs.Graphs.{Graph, all_tested, some_tested}
 use Rattle.gh_path.specs.Lowered.{Grows}
 use Rattle.gh_path.specs.Shown.{Shows, Adds}
@@ -9,18 +9,16 @@ abbrev pub invariant-lower_all-loop-left : goal.invariant-lower_all-loop-left
 invariant-lower_all-loop-left l = record {
   within : l.left ≤ length l.tests;
   grows : Grows l.fn.nodes l.nodes l.place;
-  adds : (g k : Graph) → Shows (program_of l.self.program.now) (procedure_of l.self.procedure.now) l.fn.nodes l.fn.yes g →
-      Shows (program_of l.self.program.now) (procedure_of l.self.procedure.now) l.fn.nodes l.fn.no k →
-      Adds (program_of l.self.program.now) (procedure_of l.self.procedure.now) l.fn.nodes l.nodes l.place (all_tested (tests_view (drop l.left l.tests)) g k);
+  adds : (g k : Graph) → Shows l.fn.nodes l.fn.yes g → Shows l.fn.nodes l.fn.no k →
+      Adds l.fn.nodes l.nodes l.place (all_tested (tests_view (drop l.left l.tests)) g k);
 }
 
 abbrev pub invariant-lower_some-loop-left : goal.invariant-lower_some-loop-left
 invariant-lower_some-loop-left l = record {
   within : l.left ≤ length l.tests;
   grows : Grows l.fn.nodes l.nodes l.place;
-  adds : (g k : Graph) → Shows (program_of l.self.program.now) (procedure_of l.self.procedure.now) l.fn.nodes l.fn.yes g →
-      Shows (program_of l.self.program.now) (procedure_of l.self.procedure.now) l.fn.nodes l.fn.no k →
-      Adds (program_of l.self.program.now) (procedure_of l.self.procedure.now) l.fn.nodes l.nodes l.place (some_tested (tests_view (drop l.left l.tests)) g k);
+  adds : (g k : Graph) → Shows l.fn.nodes l.fn.yes g → Shows l.fn.nodes l.fn.no k →
+      Adds l.fn.nodes l.nodes l.place (some_tested (tests_view (drop l.left l.tests)) g k);
 }
 
 abbrev pub decreases-lower_all-loop-left : goal.decreases-lower_all-loop-left

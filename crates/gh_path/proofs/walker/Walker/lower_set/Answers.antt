@@ -1,5 +1,4 @@
 use Rattle.std.proofs.Common.{refl}
-use Rattle.gh_ast.specs.Plain.{program_of, procedure_of}
 use Rattle.gh_path.specs.Graphs.{reads, moves, assigned}
 use Rattle.gh_path.specs.declared.node.Step.TheVariants as step
 use Rattle.gh_path.proofs.ShownLemmas.{add_move, then}
@@ -7,9 +6,7 @@ use Rattle.gh_path.proofs.walker.Walker.lower_set.Goals as goal
 
 pub returns-clause-adds : goal.returns-clause-adds
 returns-clause-adds c = λ g shows.
-    let P = program_of c.args.self.now.program.now in
-    let p = procedure_of c.args.self.now.procedure.now in
     let ns = c.args.nodes.now in
     let k = moves (assigned c.args.target.now c.args.value.now) g in
-    let one = add_move P p ns c.add.new.self c.in_ok-place.place c.args.next (step.Set c.args.target c.args.value) (assigned c.args.target.now c.args.value.now) g c.in_ok-place.ensures.added c.in_ok-place.ensures.place refl shows in
-    then P p ns c.add.new.self c.lower_read.new.nodes c.in_ok-place.place c.in_ok-first.first k (reads c.args.value.now k) one (c.in_ok-first.ensures.adds k one.shows)
+    let one = add_move ns c.add.new.self c.in_ok-place.place c.args.next (step.Set c.args.target c.args.value) (assigned c.args.target.now c.args.value.now) g c.in_ok-place.ensures.added c.in_ok-place.ensures.place refl shows in
+    then ns c.add.new.self c.lower_read.new.nodes c.in_ok-place.place c.in_ok-first.first k (reads c.args.value.now k) one (c.in_ok-first.ensures.adds k one.shows)

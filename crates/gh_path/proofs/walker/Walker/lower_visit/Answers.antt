@@ -1,5 +1,4 @@
 use Rattle.std.proofs.Common.{refl}
-use Rattle.gh_ast.specs.Plain.{program_of, procedure_of}
 use Rattle.gh_path.specs.Graphs.{access, accessed}
 use Rattle.gh_path.specs.declared.node.Step.TheVariants as step
 use Rattle.gh_path.proofs.ShownLemmas.{add_guard}
@@ -7,5 +6,5 @@ use Rattle.gh_path.proofs.walker.Walker.lower_visit.Goals as goal
 
 pub returns-clause-adds : goal.returns-clause-adds
 returns-clause-adds c = λ g shows.
-    add_guard (program_of c.args.self.now.program.now) (procedure_of c.args.self.now.procedure.now) c.args.nodes.now c.add.new.self c.in_ok-place.place c.args.next _ (step.Access c.args.at)
+    add_guard c.args.nodes.now c.add.new.self c.in_ok-place.place c.args.next _ (step.Access c.args.at)
     (access c.args.at.now) (accessed c.args.at.now) g c.in_ok-place.ensures.added c.in_ok-place.ensures.place refl refl shows

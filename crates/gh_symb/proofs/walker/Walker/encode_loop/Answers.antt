@@ -4,7 +4,7 @@ use Rattle.gh_ast.proofs.PlainLemmas.{part_of-statements}
 use Rattle.gh_path.specs.Terms.{renewed, some_assigns, moved_on}
 use Rattle.gh_symb.specs.Phases.{under_bindings}
 use Rattle.gh_symb.specs.Symbolic.{under}
-use Rattle.gh_symb.specs.Contexts.{program_in, variables_in}
+use Rattle.gh_symb.specs.Contexts.{variables_in}
 use Rattle.gh_symb.specs.Tables.{state}
 use Rattle.gh_symb.specs.Walkers.{terms_at}
 use Rattle.gh_symb.specs.Fitting.{EncodesUnder}
@@ -20,6 +20,6 @@ returns-clause-read c = λ l round.
     let body : statements_view c.as_slice-body.result.now ≡ l.body =
     ap statements_view c.as_slice-body.ensures.value ∙ sym (part_of-statements c.args.round.now.body.now) ∙ round.body in
     let renew : r ≡ renewed (filter (some_assigns l.body) xs) (moved_on s) = rw body at (c.in_ok-renew_all.ensures (v + 1)) in
-    loop_encoded (program_in c.args.context) xs l s r c.in_ok-before.before c.in_ok-after.after c.in_ok-step.step
+    loop_encoded xs l s r c.in_ok-before.before c.in_ok-after.after c.in_ok-step.step
     (subst (λ f. EncodesUnder c.in_ok-before.before (under_bindings f s.bindings v)) round.invariant c.in_ok-before.ensures) renew
     (subst (λ f. EncodesUnder c.in_ok-after.after (under f r)) round.invariant c.in_ok-after.ensures.encodes) c.in_ok-step.ensures

@@ -1,11 +1,11 @@
 use Rattle.gh_symb.proofs.walker.Walker.encode_looped.Goals as goal
 
 pub returns-clause-done : goal.returns-clause-done
-returns-clause-done c = λ step k.
-    let round = c.round_of-round.ensures k.0 k.1 in
-    rw k.2 (c.in_ok-step.ensures.done k.0 round)
+returns-clause-done c =
+    let found = c.round_of-round.ensures in
+    rw found.1 (c.in_ok-step.ensures.done found.0 found.2)
 
 pub returns-clause-read : goal.returns-clause-read
-returns-clause-read c = λ step k.
-    let round = c.round_of-round.ensures k.0 k.1 in
-    rw k.2 (c.in_ok-step.ensures.read k.0 round)
+returns-clause-read c =
+    let found = c.round_of-round.ensures in
+    rw found.1 (c.in_ok-step.ensures.read found.0 found.2)

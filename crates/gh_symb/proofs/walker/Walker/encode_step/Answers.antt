@@ -1,11 +1,7 @@
 use Rattle.gh_symb.proofs.walker.Walker.encode_step.Goals as goal
 
 pub encode_called-requires-clause-callee : goal.encode_called-requires-clause-callee
-encode_called-requires-clause-callee c =
-    let k = rw c.in-Call.is at c.requires.step.1 in
-    (k.0.name, k.1)
+encode_called-requires-clause-callee c = rw c.in-Call.is at c.requires.step
 
 pub encode_looped-requires-clause-round : goal.encode_looped-requires-clause-round
-encode_looped-requires-clause-round c =
-    let k = rw c.in-Loop.is at c.requires.step.1 in
-    (k.0, k.1)
+encode_looped-requires-clause-round c = rw c.in-Loop.is at c.requires.step

@@ -1,5 +1,0 @@
-use Rattle.gh_path.proofs.FormLemmas.{callees_are_declared}
-use Rattle.gh_path.proofs.laws.callees_are_declared.Goals as goal
-
-pub returns : goal.returns
-returns c = callees_are_declared
