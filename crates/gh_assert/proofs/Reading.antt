@@ -77,7 +77,7 @@ mutual
 
 -- a part that meets an assertion makes it read true, whatever has a name
 mutual
-  reads : (f : Formula) (s : Store) (a h : Heap) (V : List ℕ) → Meaning f s a → IsPart a h → Reads f s h V
+  pub reads : (f : Formula) (s : Store) (a h : Heap) (V : List ℕ) → Meaning f s a → IsPart a h → Reads f s h V
   reads empty s a h V m p = tt
   reads (comparison l e r) s a h V m p = m.1
   reads (points_to at to) s a h V m p = p (s at.name) (value s to) m.here

@@ -1,7 +1,7 @@
 //! Conditions over terms as they are encoded, and their ground clauses, to compare with.
 
 ghost use Rattle.gh_ast.specs.Plain.{program_of};
-ghost use Rattle.gh_path.specs.Kept.{Fits};
+ghost use Rattle.gh_path.specs.Kept.{IsScoped};
 
 use gh_ast::typed::{Limit, Typed};
 use gh_base::atom::{Atom, Lit, Term};
@@ -388,7 +388,7 @@ pub(crate) fn meets(
     condition: &Condition,
     expected: &Expected<'_>,
 ) -> Result<bool, AllocError>
-    requires { Fits (program_of typed.now) condition.now }
+    requires { IsScoped (program_of typed.now) condition.now }
 {
     match symbolic(alloc, typed, condition) {
         Ok(over) => Ok(shows(alloc, &over, expected)?),

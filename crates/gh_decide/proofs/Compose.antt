@@ -15,7 +15,7 @@ use Rattle.gh_ast.specs.Programs.{Name, names, parameters_of, results_of, body_o
 use Rattle.gh_ast.proofs.Declared.{is_member}
 use Rattle.gh_machine.specs.Machine.{Activation, Config, Fault, IsRun, starting, EndsWell, IsGoodRun, IsGood}
 use Rattle.gh_path.specs.Graphs.{Graph, dead_end, ends, guarded, entry, loop_entry, loop_end, returned, all_reads, tested, called, looped, number_of, lowered, all_lowered, Loop, while, around, once_around, round, rounds, whole_body, invariant_of, meets_at, graph_from, loops, all_loops, loops_of}
-use Rattle.gh_path.specs.Kept.{IsLoop, IsCallee}
+use Rattle.gh_path.specs.Graphs.{IsLoopAt, IsProcedureAt}
 use Rattle.gh_path.proofs.FormLemmas.{callees_are_numbered}
 use Rattle.gh_trace.specs.Traces.{State, Takes}
 use Rattle.gh_decide.specs.Rules.{ReturnsNot, AllReturnNot, LoopsReturnNot, AllLoopsReturnNot, KeepsRules, AllKeepRules}
@@ -31,7 +31,7 @@ use Rattle.gh_decide.proofs.Sound.{Sound, working, state, Keeps, Goes, Ending, k
 
 -- the loop has the number, and each way once around it is safe
 pub record IsRound (P : Program) (p : Procedure) (o : ℕ) (l : Loop) : Type 0 where
-  pub numbered : IsLoop p o l
+  pub numbered : IsLoopAt p o l
   pub safe : (x : State) → Meaning l.invariant x.store x.heap → Safe P p (once_around P o l) x
 
 -- so it is with some loops, which are numbered from o
@@ -131,7 +131,7 @@ module _ (P : Program) (ready : Ready P) (E : Config → Type 0) (n : ℕ) (clai
           typed : KeepsRules c
           typed = ready.typed c known
 
-          callee : IsCallee P num c
+          callee : IsProcedureAt P num c
           callee = (callees_are_numbered P f.name c).1 decl
 
           part : HasPart c.needs t a
@@ -327,11 +327,11 @@ round_there o (m ∷ ls) (suc j) l at =
     subst (λ k. Contains (rounds o (m ∷ ls)) (round k)) count (member_later (round o) (round (suc o + j)) (rounds (suc o) ls) (round_there (suc o) ls j l at))
 
 -- the ways from it are those once around
-around_loop : (P : Program) (p : Procedure) (o : ℕ) (l : Loop) (x : State) → IsLoop p o l → Safe P p (graph_from P p (round o)) x → Safe P p (once_around P o l) x
+around_loop : (P : Program) (p : Procedure) (o : ℕ) (l : Loop) (x : State) → IsLoopAt p o l → Safe P p (graph_from P p (round o)) x → Safe P p (once_around P o l) x
 around_loop P p o l x at safe = subst (λ f. Safe P p (around P o f) x) at safe
 
 -- and what its start meets is its invariant
-met_there : (p : Procedure) (o : ℕ) (l : Loop) (x : State) → IsLoop p o l → Meaning l.invariant x.store x.heap → Meaning (meets_at p (round o)) x.store x.heap
+met_there : (p : Procedure) (o : ℕ) (l : Loop) (x : State) → IsLoopAt p o l → Meaning l.invariant x.store x.heap → Meaning (meets_at p (round o)) x.store x.heap
 met_there p o l x at met = subst (λ f. Meaning (invariant_of f) x.store x.heap) (sym at) met
 
 pub composition : Composition
@@ -340,7 +340,7 @@ composition P typed pass = ready_is_good P (record { typed = typed; bodies = bod
     bodies : (p : Procedure) → Contains P.procedures p → (x : State) → Meaning p.needs x.store x.heap → Safe P p (graph_from P p whole_body) x
     bodies p is x met = from_paths P p (graph_from P p whole_body) x (pass p is whole_body (member_first whole_body (rounds 0 (loops_of p))) x met)
 
-    at_start : (p : Procedure) → Contains P.procedures p → (o : ℕ) (l : Loop) → IsLoop p o l → Contains (rounds 0 (loops_of p)) (round o) → IsRound P p o l
+    at_start : (p : Procedure) → Contains P.procedures p → (o : ℕ) (l : Loop) → IsLoopAt p o l → Contains (rounds 0 (loops_of p)) (round o) → IsRound P p o l
     at_start p is o l at there = record {
       numbered = at;
       safe = λ x met. around_loop P p o l x at
@@ -348,4 +348,4 @@ composition P typed pass = ready_is_good P (record { typed = typed; bodies = bod
     }
 
     around_each : (p : Procedure) → Contains P.procedures p → RoundsSafe P p 0 (loops_of p)
-    around_each p is j l at = let count : j ≡ 0 + j = omega arith in at_start p is (0 + j) l (subst (λ k. IsLoop p k l) count at) (round_there 0 (loops_of p) j l at)
+    around_each p is j l at = let count : j ≡ 0 + j = omega arith in at_start p is (0 + j) l (subst (λ k. IsLoopAt p k l) count at) (round_there 0 (loops_of p) j l at)

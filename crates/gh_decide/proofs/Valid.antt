@@ -4,9 +4,8 @@ use Rattle.std.proofs.Common.{refl, sym}
 use Rattle.std.proofs.lemmas.Option.{slice_get_read}
 use Rattle.gh_ast.specs.Plain.{Procedure, Program}
 use Rattle.gh_assert.proofs.Proper.{met_proper}
-use Rattle.gh_path.specs.Graphs.{meets_at}
+use Rattle.gh_path.specs.Graphs.{meets_at, IsProcedureAt}
 use Rattle.gh_path.specs.Conditions.{Condition, condition, course}
-use Rattle.gh_path.specs.Kept.{IsCallee}
 use Rattle.gh_path.proofs.Listed.{all_are_listed}
 use Rattle.gh_trace.specs.Traces.{last_state}
 use Rattle.gh_trace.proofs.Proper.{trace_proper, pass}
@@ -14,7 +13,7 @@ use Rattle.gh_decide.specs.Laws.{ValidPass, ListedIsGood}
 use Rattle.gh_decide.proofs.Compose.{composition}
 
 -- a procedure of the program has a number
-at_place : (P : Program) (q : Procedure) → (is : Contains P.procedures q) → IsCallee P is.0 q
+at_place : (P : Program) (q : Procedure) → (is : Contains P.procedures q) → IsProcedureAt P is.0 q
 at_place P q is = slice_get_read P.procedures (length P.procedures) is.0 q refl is.1 (sym is.2)
 
 pub valid_pass : ValidPass

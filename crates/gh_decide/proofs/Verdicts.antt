@@ -12,11 +12,11 @@ not_both : (P : Program) (r : kept.Condition) (xs : List Drawn) → HasNoCounter
 not_both P r xs none against = none against.procedure against.of against.first.state _ against.counterexample
 
 pub verdicts_are_exact : VerdictsAreExact
-verdicts_are_exact P r (Valid s) one is = record {
+verdicts_are_exact P r (Valid s) is = record {
   valid = (λ u. is.valid, λ none. record {});
   refuted = (λ no. absurd no, λ some. absurd (some is.valid));
 }
-verdicts_are_exact P r (Refuted t) one is = record {
+verdicts_are_exact P r (Refuted t) is = record {
   valid = (λ no. absurd no, λ none. absurd (not_both P r (drawn_of t) none is));
   refuted = (λ u none. not_both P r (drawn_of t) none is, λ some. record {});
 }

@@ -1,9 +1,8 @@
 -- What a decision of one condition answers.
 use Rattle.std.specs.Prelude.{◌≡◌, ◌↔◌, ◌≤◌, All, length}
 use Rattle.gh_base.specs.Grounds.{Problem}
-use Rattle.gh_ast.specs.Plain.{Procedure, Program}
-use Rattle.gh_path.specs.Conditions.{IsOf}
-use Rattle.gh_path.specs.Kept.{condition_of, IsOne}
+use Rattle.gh_ast.specs.Plain.{Program}
+use Rattle.gh_path.specs.Kept.{condition_of, HoldsFor}
 use Rattle.gh_path.specs.declared.condition.Condition as kept
 use Rattle.gh_symb.specs.Symbolic.{symbolic_of}
 use Rattle.gh_symb.specs.Formulas.{problem}
@@ -24,7 +23,7 @@ pub record IsWritable (s : Section) : Type 0 where
 
 -- these are the clauses of the condition that is kept
 abbrev pub IsGroundOf : Program → kept.Condition → Problem → Type 0
-IsGroundOf P r clauses = let c = condition_of r in (p : Procedure) → IsOf P c p → clauses ≡ problem (symbolic_of P p c)
+IsGroundOf P r clauses = HoldsFor P r (λ P p c. clauses ≡ problem (symbolic_of P p c))
 
 -- the condition has no counterexample, and the section is valid for its clauses
 pub record IsShown (P : Program) (r : kept.Condition) (s : Section) : Type 0 where
@@ -50,4 +49,4 @@ pub record IsExact (P : Program) (r : kept.Condition) (v : Verdict) : Type 0 whe
   pub refuted : IsRefuted v ↔ (HasNoCounterexample P r → ⊥)
 
 abbrev pub VerdictsAreExact : Type 0
-VerdictsAreExact = (P : Program) (r : kept.Condition) (v : Verdict) → IsOne P r → IsVerdict P r v → IsExact P r v
+VerdictsAreExact = (P : Program) (r : kept.Condition) (v : Verdict) → IsVerdict P r v → IsExact P r v

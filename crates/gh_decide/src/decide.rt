@@ -3,9 +3,8 @@
 ghost use Rattle.std.specs.Prelude.{IfOk};
 ghost use Rattle.gh_ast.specs.Plain.{program_of};
 ghost use Rattle.gh_path.specs.Admitted.{IsAdmitted};
-ghost use Rattle.gh_path.specs.Kept.{IsOne};
+ghost use Rattle.gh_path.specs.Kept.{IsOne, HoldsFor};
 ghost use Rattle.gh_symb.specs.Encoded.{IsSymbolic};
-ghost use Rattle.gh_symb.specs.Steps.{HoldsFor};
 ghost use Rattle.gh_decide.specs.Verdicts.{IsVerdict};
 
 use gh_ast::typed::Typed;

@@ -9,7 +9,8 @@ use Rattle.gh_ast.specs.declared.Procedure.{Procedure}
 use Rattle.gh_ast.specs.Plain.{program_of, procedure_of}
 use Rattle.gh_ast.proofs.Lists.{one_value}
 use Rattle.gh_path.specs.Graphs.{loops_of, check_place}
-use Rattle.gh_path.specs.Kept.{start_of, asked_at, check_of, condition_of, IsThere, Fits}
+use Rattle.gh_path.specs.Conditions.{IsThere}
+use Rattle.gh_path.specs.Kept.{start_of, asked_at, check_of, condition_of, IsScoped}
 use Rattle.gh_path.specs.declared.loops.While.{While}
 use Rattle.gh_path.specs.Walking.{loop_of}
 use Rattle.gh_path.specs.declared.condition.Start.TheVariants as start
@@ -39,13 +40,13 @@ pub number_within : {A B : Type 0} (f : A → B) (xs : List A) (ys : List B) (n 
 number_within f xs ys n are low = let many : length (map f xs) ≡ length ys = ap length are in omega (arith, low, many, length-map xs f)
 
 -- the procedure of a condition that fits is there
-pub procedure_within : (P : Program) (r : kept.Condition) → Fits (program_of P) r → r.procedure < length P.procedures.items
+pub procedure_within : (P : Program) (r : kept.Condition) → IsScoped (program_of P) r → r.procedure < length P.procedures.items
 procedure_within P r fits =
     let qs = (program_of P).procedures in
     number_within procedure_of P.procedures.items qs r.procedure refl (slice_get_within qs r.procedure fits.0 fits.1)
 
 -- and so are all its numbers
-pub all_there : (P : Program) (r : kept.Condition) (q : Procedure) → Fits (program_of P) r → q ≡ slice_index_or P.procedures.items r.procedure q
+pub all_there : (P : Program) (r : kept.Condition) (q : Procedure) → IsScoped (program_of P) r → q ≡ slice_index_or P.procedures.items r.procedure q
     → IsThere (program_of P) (procedure_of q) (condition_of r)
 all_there P r q fits is =
     let qs = (program_of P).procedures in

@@ -1,4 +1,6 @@
 -- The description of a condition: `PROC from START: CHECK at L:C`. What its numbers mean is read from the program.
+-- A number that no procedure or loop has (`None` of `Option Procedure` or `Option Loop`) is in no condition of a typed
+-- program, so what is said of it doesn't matter.
 use Rattle.std.specs.Prelude.{ℕ, List, [], ◌++◌, codes, Option, Some, None, slice_get}
 use Rattle.std.specs.Fmt.{decimal}
 use Rattle.gh_base.specs.declared.place.Span.{Span}

@@ -3,7 +3,8 @@ use Rattle.std.specs.Prelude.{◌≡◌, ℕ, List, ◌++◌}
 use Rattle.gh_base.specs.declared.place.Span.{Span}
 use Rattle.gh_ast.specs.Plain.{Procedure, Program}
 use Rattle.gh_path.specs.Graphs.{loops_of}
-use Rattle.gh_path.specs.Kept.{start_of, asked_at, condition_of, StartIsThere, CheckIsThere}
+use Rattle.gh_path.specs.Conditions.{StartIsThere, CheckIsThere}
+use Rattle.gh_path.specs.Kept.{start_of, asked_at, condition_of}
 use Rattle.gh_draw.specs.Descriptions.{start_text, check_text, description}
 use Rattle.gh_path.specs.declared.condition.Start as kept_start
 use Rattle.gh_path.specs.declared.condition.CheckKind as kept_kind

@@ -2,7 +2,7 @@
 
 ghost use Rattle.std.specs.Prelude.{◌≡◌, ◌++◌, IfOk};
 ghost use Rattle.gh_ast.specs.Plain.{program_of, procedure_of};
-ghost use Rattle.gh_path.specs.Kept.{Fits};
+ghost use Rattle.gh_path.specs.Kept.{IsScoped};
 ghost use Rattle.gh_draw.specs.Descriptions.{place_text};
 ghost use Rattle.gh_draw.specs.Kept.{HasStart, HasKind, TellsStart, TellsKind, Describes};
 
@@ -66,7 +66,7 @@ fn push_kind(text: &mut Text, program: &Program, kind: &CheckKind) -> Result<(),
 
 /// The description of a condition of the program: its procedure, its start, what is asked and where.
 pub fn describe(alloc: Global, typed: &Typed, condition: &Condition) -> Result<Text, AllocError>
-    requires { Fits (program_of typed.now) condition.now }
+    requires { IsScoped (program_of typed.now) condition.now }
     ensures { IfOk result (λ t. Describes (program_of typed.now) condition.now t) }
 {
     let program = typed.program();

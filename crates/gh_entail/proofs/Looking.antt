@@ -11,7 +11,7 @@ use Rattle.gh_assert.specs.Reading.{Covers, CoversAny, Reads, ReadsAll, HasNames
 use Rattle.gh_assert.proofs.Cells.{succ_at, at_succ}
 use Rattle.gh_assert.proofs.Reading.{covered, covering, reading}
 use Rattle.gh_entail.specs.Alike.{LooksLike, IsShown}
-use Rattle.gh_entail.proofs.Witnesses.{reads}
+use Rattle.gh_assert.proofs.Reading.{reads}
 
 same_choice : (t : Bool) (P Q P' Q' : Type 0) → P ↔ P' → Q ↔ Q' → MatchBool t P Q ↔ MatchBool t P' Q'
 same_choice true P Q P' Q' p q = p

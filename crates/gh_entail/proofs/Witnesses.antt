@@ -11,38 +11,13 @@ use Rattle.gh_assert.specs.Tests.{reaches}
 use Rattle.gh_assert.specs.Walks.{succ, Allocated}
 use Rattle.gh_assert.specs.Reading.{Reads, ReadsAll}
 use Rattle.gh_assert.proofs.Cells.{by_look_ups, no_cells, no_cells_part, get_nothing, allocated_or}
-use Rattle.gh_assert.proofs.Unions.{union, get_union, union_part, one_cell, is_one_cell, without, get_without, parts_apart}
-use Rattle.gh_assert.proofs.Unique.{tie, part_left, part_right}
-use Rattle.gh_assert.proofs.Rows.{between_itself}
+use Rattle.gh_assert.proofs.Unions.{union, get_union, union_part, one_cell, is_one_cell, without, get_without}
+use Rattle.gh_assert.proofs.Unique.{tie}
 use Rattle.gh_assert.proofs.Steps.{distance_from}
-use Rattle.gh_assert.proofs.Segments.{segment_from, segment_distance}
+use Rattle.gh_assert.proofs.Segments.{segment_from}
 use Rattle.gh_assert.proofs.Tests.{tests_decide}
 use Rattle.gh_assert.proofs.Reading.{only_cell, covered, covering}
 use Rattle.gh_entail.specs.Laws.{WitnessesExist}
-
-to_choice : (t : Bool) (F G F' G' : Type 0) → (F → F') → (G → G') → MatchBool t F G → MatchBool t F' G'
-to_choice true F G F' G' f g u = f u
-to_choice false F G F' G' f g u = g u
-
--- a part that meets an assertion makes it read true
-mutual
-  pub reads : (f : Formula) (s : Store) (a h : Heap) (V : List ℕ) → Meaning f s a → IsPart a h → Reads f s h V
-  reads empty s a h V m p = tt
-  reads (comparison l e r) s a h V m p = m.1
-  reads (points_to at to) s a h V m p = p (s at.name) (value s to) m.here
-  reads (cell at) s a h V (to, m) p = (to, p (s at.name) to m.here)
-  reads (segment x y) s a h V (n, m) p = between_itself (segment_distance n (value s x) (value s y) a h m p)
-  reads (star fs) s a h V m p = reads_all fs s a h V m p
-  reads (cases t f g) s a h V m p =
-      to_choice (truth s t) (Meaning f s a) (Meaning g s a) (Reads f s h V) (Reads g s h V) (λ u. reads f s a h V u p) (λ u. reads g s a h V u p) m
-
-  reads_all : (fs : Formulas) (s : Store) (a h : Heap) (V : List ℕ) → MeaningAll fs s a → IsPart a h → ReadsAll fs s h V
-  reads_all no_formulas s a h V m p = tt
-  reads_all (formula_first f fs) s a h V (b, c, split, m, ms) p = (
-    reads f s b h V m (part_left a b c h split p),
-    reads_all fs s c h V ms (part_right a b c h split p),
-    λ z named u v. parts_apart a b c z split (covering f s b h m (part_left a b c h split p) z u) (covering (star fs) s c h ms (part_right a b c h split p) z v),
-  )
 
 -- a heap is empty or has a cell
 by_entries : (m : Heap) (es : List (ℕ × ℕ)) → entries m ≡ es → ((q : ℕ) → get m q ≡ None) ⊎ ((q : ℕ) × Allocated m q)

@@ -10,8 +10,7 @@ use Rattle.gh_ast.proofs.Lists.{same_values, one_value}
 use Rattle.gh_assert.specs.Heaps.{Heap}
 use Rattle.gh_assert.specs.Meaning.{Store, Meaning}
 use Rattle.gh_assert.proofs.Agree.{maps_agree, same_meaning}
-use Rattle.gh_path.specs.Graphs.{Loop, called, looped, loops_of}
-use Rattle.gh_path.specs.Kept.{IsLoop}
+use Rattle.gh_path.specs.Graphs.{Loop, called, looped, loops_of, IsLoopAt}
 use Rattle.gh_trace.specs.Laws.{HasOwnNames}
 use Rattle.gh_trace.specs.Traces.{State, Replaced}
 use Rattle.gh_trace.proofs.CallLemmas.{IsCall}
@@ -28,7 +27,7 @@ exchange_agrees : (f : Formula) (s t : Store) (h k : Heap) (e : Exchange) → ((
 exchange_agrees f s t h k e means x = record { part = x.part; splits = x.splits; meets = means x.part x.meets; handed = x.handed; joins = x.joins }
 
 -- the loop of a number hands over by its invariant
-pub loop_hands : (P : Program) (p : Procedure) (n : ℕ) (l : Loop) (x y : State) (o : Option Exchange) → IsLoop p n l → IfSome o (IsExchange l.invariant x.store x.heap y.heap)
+pub loop_hands : (P : Program) (p : Procedure) (n : ℕ) (l : Loop) (x y : State) (o : Option Exchange) → IsLoopAt p n l → IfSome o (IsExchange l.invariant x.store x.heap y.heap)
     → IfNone o ((other : Heap) → Replaced l.invariant x.store x.heap (λ z. z ≡ other) y.heap → ⊥) → IsHandedOr P p (looped n) x y o
 loop_hands P p n l x y (Some e) at some none = (l, at, some)
 loop_hands P p n l x y None at some none = λ e (m, there, ex).

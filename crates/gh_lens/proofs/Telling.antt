@@ -5,20 +5,20 @@ use Rattle.std.proofs.lemmas.List.Elements.{All-head, All-tail}
 use Rattle.gh_ast.specs.Plain.{Procedure, Program}
 use Rattle.gh_ast.proofs.Lists.{one_value}
 use Rattle.gh_path.specs.Answers.{IsNumbered}
-use Rattle.gh_path.specs.Conditions.{Condition, conditions, IsOf}
+use Rattle.gh_path.specs.Conditions.{Condition, conditions, IsOf, StepIsThere}
 use Rattle.gh_path.specs.Graphs.{PathStep}
-use Rattle.gh_path.specs.Kept.{condition_of, step_of, Fits, StepIsThere}
+use Rattle.gh_path.specs.Kept.{condition_of, step_of, IsScoped}
 use Rattle.gh_path.specs.declared.condition.Condition as kept
 use Rattle.gh_path.specs.declared.condition.PathStep as kept_step
 use Rattle.gh_draw.specs.Drawings.{line}
 use Rattle.gh_trace.specs.declared.state.State as kept_state
 use Rattle.gh_trace.specs.declared.state.Trace as kept_trace
 use Rattle.gh_trace.specs.declared.replay.ReplayError.TheVariants.{Step}
-use Rattle.gh_trace.specs.Kept.{state_of, drawn, drawn_of, IsRefuted, IsFailure}
+use Rattle.gh_trace.specs.Kept.{state_of, drawn, drawn_of, IsFailure}
 use Rattle.gh_trace.specs.Replay.{Drawn, Refutes, FirstFailure}
 use Rattle.gh_trace.specs.Traces.{Passes, last_state}
 use Rattle.gh_lens.specs.Misses.{IsFailing, IsFailingOr}
-use Rattle.gh_lens.specs.Stories.{TellsStep, AreTold, TellsSteps, last_of, TellsHeading, IsStoryOr, IsShown, IsToldOf, IsToldFor, PassesAtEnd}
+use Rattle.gh_lens.specs.Stories.{TellsStep, AreTold, TellsSteps, last_of, TellsHeading, IsStoryOr, IsToldOf, IsToldFor, PassesAtEnd}
 
 -- the last of some states as they are kept
 last_same : (x : kept_state.State) (ys : List kept_state.State) → last_state (state_of x) (map (λ (d : Drawn). d.state) (map drawn ys)) ≡ state_of (last_of x ys)
@@ -80,7 +80,7 @@ no_story P r p x last ys own end fails q of =
     (subst (λ z. (Passes P p (condition_of r).way.check (state_of z) → ⊥) → ⊥) end (fails r.check.span))
 
 -- the numbers of the steps of a condition of the procedure are there
-pub steps_there : (P : Program) (p : Procedure) (r : kept.Condition) → Fits P r → IsOf P (condition_of r) p → All (StepIsThere P p) (map step_of r.steps.items)
+pub steps_there : (P : Program) (p : Procedure) (r : kept.Condition) → IsScoped P r → IsOf P (condition_of r) p → All (StepIsThere P p) (map step_of r.steps.items)
 steps_there P p r (q, of, there) own =
     let same : q ≡ p = one_value (slice_get P.procedures r.procedure) q p of own in
     subst (λ t. All (StepIsThere P t) (map step_of r.steps.items)) same there.steps
@@ -92,18 +92,18 @@ first_and_later P p k ks rs e there =
     (All-head (StepIsThere P p) (step_of k) (map step_of ks) all, All-tail (StepIsThere P p) (step_of k) (map step_of ks) all)
 
 -- a counterexample is told
-pub told_whole : (P : Program) (r : kept.Condition) (xs ys : List kept_state.State) (x : kept_state.State) (text : List ℕ) → xs ≡ x ∷ ys → IsShown P r xs → IsStoryOr P r x ys (Some text) → IsToldFor P r xs text
+pub told_whole : (P : Program) (r : kept.Condition) (xs ys : List kept_state.State) (x : kept_state.State) (text : List ℕ) → xs ≡ x ∷ ys → Refutes P (condition_of r) (map drawn xs) → IsStoryOr P r x ys (Some text) → IsToldFor P r xs text
 told_whole P r xs ys x text states shown story = record { first = x; others = ys; states = states; refutes = shown; story = story }
 
-pub told_by_a_story : (P : Program) (r : kept.Condition) (xs ys : List kept_state.State) (x : kept_state.State) → xs ≡ x ∷ ys → IsShown P r xs → IsStoryOr P r x ys None → ⊥
+pub told_by_a_story : (P : Program) (r : kept.Condition) (xs ys : List kept_state.State) (x : kept_state.State) → xs ≡ x ∷ ys → Refutes P (condition_of r) (map drawn xs) → IsStoryOr P r x ys None → ⊥
 told_by_a_story P r xs ys x states shown passes = fails_at_end P (condition_of r) x ys (subst (λ zs. Refutes P (condition_of r) (map drawn zs)) states shown) passes
 
 -- a condition that fits is of a procedure
-pub has_procedure : (P : Program) (r : kept.Condition) → Fits P r → slice_get P.procedures r.procedure ≡ None → ⊥
+pub has_procedure : (P : Program) (r : kept.Condition) → IsScoped P r → slice_get P.procedures r.procedure ≡ None → ⊥
 has_procedure P r (p, of, there) none = let at : slice_get P.procedures r.procedure ≡ Some p = of in absurd cc
 
 -- the condition of a number, and what is drawn for it
-pub shown : (P : Program) (r : kept.Condition) (t : kept_trace.Trace) (xs : List kept_state.State) → IsRefuted P r (drawn_of t) → xs ≡ t.states.items → IsShown P r xs
+pub shown : (P : Program) (r : kept.Condition) (t : kept_trace.Trace) (xs : List kept_state.State) → Refutes P (condition_of r) (drawn_of t) → xs ≡ t.states.items → Refutes P (condition_of r) (map drawn xs)
 shown P r t xs refuted is = subst (λ zs. Refutes P (condition_of r) (map drawn zs)) (sym is) refuted
 
 pub told_by_number : (P : Program) (n : ℕ) (r : kept.Condition) (t : kept_trace.Trace) (xs : List kept_state.State) (text : List ℕ) → IsNumbered P n (Some r) → xs ≡ t.states.items → IsToldFor P r xs text

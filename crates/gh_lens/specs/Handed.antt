@@ -7,8 +7,8 @@ use Rattle.gh_ast.specs.Programs.{parameters_of}
 use Rattle.gh_assert.specs.Meaning.{Store}
 use Rattle.gh_assert.specs.Values.{Give}
 use Rattle.gh_path.specs.Graphs.{Loop, PathStep, accessed, assume, assigned, made, written, freed, called, looped}
-use Rattle.gh_path.specs.Graphs.{answered}
-use Rattle.gh_path.specs.Kept.{IsCallee, IsLoop, step_of}
+use Rattle.gh_path.specs.Graphs.{answered, IsProcedureAt, IsLoopAt}
+use Rattle.gh_path.specs.Kept.{step_of}
 use Rattle.gh_path.specs.declared.condition.PathStep as kept_step
 use Rattle.gh_trace.specs.Kept.{state_of}
 use Rattle.gh_trace.specs.Settings.{here, whole}
@@ -32,8 +32,8 @@ IsHanded P p (assigned o v) x y e = ⊥
 IsHanded P p (made o) x y e = ⊥
 IsHanded P p (written o v) x y e = ⊥
 IsHanded P p (freed o) x y e = ⊥
-IsHanded P p (called xs n es) x y e = (q : Procedure) × (vs : List ℕ) × IsCallee P n q × Give x.store x.heap es vs × IsCallExchange q vs x y e
-IsHanded P p (looped n) x y e = (l : Loop) × IsLoop p n l × IsExchange l.invariant x.store x.heap y.heap e
+IsHanded P p (called xs n es) x y e = (q : Procedure) × (vs : List ℕ) × IsProcedureAt P n q × Give x.store x.heap es vs × IsCallExchange q vs x y e
+IsHanded P p (looped n) x y e = (l : Loop) × IsLoopAt p n l × IsExchange l.invariant x.store x.heap y.heap e
 IsHanded P p (answered es) x y e = ⊥
 
 -- what is handed over; or nothing is

@@ -11,8 +11,8 @@ use Rattle.gh_assert.specs.Heaps.{Heap}
 use Rattle.gh_assert.specs.Meaning.{Store, value}
 use Rattle.gh_assert.specs.Values.{Give}
 use Rattle.gh_draw.specs.Drawings.{line}
-use Rattle.gh_path.specs.Graphs.{Check, access, entry, loop_entry, returned, loop_end, Loop}
-use Rattle.gh_path.specs.Kept.{IsCallee, IsLoop, asked_at}
+use Rattle.gh_path.specs.Graphs.{Check, access, entry, loop_entry, returned, loop_end, Loop, IsProcedureAt, IsLoopAt}
+use Rattle.gh_path.specs.Kept.{asked_at}
 use Rattle.gh_path.specs.declared.condition.CheckKind as kept
 use Rattle.gh_trace.specs.Traces.{State, Passes}
 use Rattle.gh_lens.specs.Statements.{operand_text, equality_text}
@@ -83,10 +83,10 @@ pub record IsEntryMiss (P : Program) (q : Procedure) (vs : List ℕ) (x : State)
 -- where a check of the procedure p fails in a state
 abbrev pub IsFailing : Program → Procedure → Check → State → List ℕ → Type 0
 IsFailing P p (access o) x text = text ≡ access_line o.name (x.store o.name)
-IsFailing P p (entry at n es) x text = (q : Procedure) × (vs : List ℕ) × IsCallee P n q × Give x.store x.heap es vs × IsEntryMiss P q vs x text
-IsFailing P p (loop_entry at n) x text = (l : Loop) × IsLoop p n l × IsMiss l.invariant x.store x.heap text
+IsFailing P p (entry at n es) x text = (q : Procedure) × (vs : List ℕ) × IsProcedureAt P n q × Give x.store x.heap es vs × IsEntryMiss P q vs x text
+IsFailing P p (loop_entry at n) x text = (l : Loop) × IsLoopAt p n l × IsMiss l.invariant x.store x.heap text
 IsFailing P p (returned at) x text = AreMisses p.gives x.store x.heap text
-IsFailing P p (loop_end at n) x text = (l : Loop) × IsLoop p n l × IsMiss l.invariant x.store x.heap text
+IsFailing P p (loop_end at n) x text = (l : Loop) × IsLoopAt p n l × IsMiss l.invariant x.store x.heap text
 
 -- where it fails; or it is passed, up to a double negation
 abbrev pub IsCheckOr : Program → Procedure → Check → State → Option (List ℕ) → Type 0
@@ -102,5 +102,5 @@ IsFailingOr P p kind x o = (at : Span) → IsCheckOr P p (asked_at kind at) x o
 
 -- where the invariant of the loop of a number fails; or there is no such loop
 abbrev pub IsInvariantOr : Procedure → ℕ → State → Option (List ℕ) → Type 0
-IsInvariantOr p n x (Some text) = (l : Loop) × IsLoop p n l × IsMiss l.invariant x.store x.heap text
-IsInvariantOr p n x None = (l : Loop) → IsLoop p n l → ⊥
+IsInvariantOr p n x (Some text) = (l : Loop) × IsLoopAt p n l × IsMiss l.invariant x.store x.heap text
+IsInvariantOr p n x None = (l : Loop) → IsLoopAt p n l → ⊥

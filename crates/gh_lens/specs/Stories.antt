@@ -78,10 +78,6 @@ abbrev pub IsStoryOr : Program → kept.Condition → State → List State → O
 IsStoryOr P r x ys (Some text) = IsStory P (condition_of r) x ys text
 IsStoryOr P r x ys None = PassesAtEnd P (condition_of r) x ys
 
--- the states are a counterexample of the condition that is kept
-abbrev pub IsShown : Program → kept.Condition → List State → Type 0
-IsShown P r xs = Refutes P (condition_of r) (map drawn xs)
-
 -- the states are a counterexample of the condition, and the text tells it
 pub record IsToldOf (P : Program) (c : Condition) (xs : List State) (text : List ℕ) : Type 0 where
   pub first : State

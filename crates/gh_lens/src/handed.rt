@@ -3,7 +3,9 @@
 ghost use Rattle.std.specs.Prelude.{IfOk};
 ghost use Rattle.gh_trace.specs.Settings.{HasLoops, here, whole};
 ghost use Rattle.gh_lens.specs.Handed.{IsHandedToCallee, IsHandedToLoop, IsHandedBetween};
-ghost use Rattle.gh_path.specs.Kept.{step_of, HasCallee, HasLoop, StepIsThere};
+ghost use Rattle.gh_path.specs.Graphs.{HasProcedure, HasLoop};
+ghost use Rattle.gh_path.specs.Conditions.{StepIsThere};
+ghost use Rattle.gh_path.specs.Kept.{step_of};
 
 use crate::exchange::{Exchange, exchanged};
 use gh_ast::Expr;
@@ -23,7 +25,7 @@ fn handed_to_callee(
     before: &State,
     after: &State,
 ) -> Result<Option<Exchange>, AllocError>
-    requires { HasCallee (whole setting) callee }
+    requires { HasProcedure (whole setting) callee }
     ensures { IfOk result (IsHandedToCallee setting.entry callee arguments.now before.now after.now) }
 {
     let Some(callee) = procedure_at(setting.typed, callee) else {

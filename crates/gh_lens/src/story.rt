@@ -4,8 +4,10 @@ ghost use Rattle.std.specs.Prelude.{◌≡◌, ◌++◌, map, All, IfOk, OnOk};
 ghost use Rattle.gh_ast.specs.Plain.{program_of};
 ghost use Rattle.gh_path.specs.Admitted.{IsAdmitted};
 ghost use Rattle.gh_trace.specs.Settings.{HasLoops, here, whole};
-ghost use Rattle.gh_path.specs.Conditions.{IsOf};
-ghost use Rattle.gh_path.specs.Kept.{condition_of, step_of, Fits, StepIsThere};
+ghost use Rattle.gh_path.specs.Conditions.{IsOf, StepIsThere};
+ghost use Rattle.gh_path.specs.Kept.{condition_of, step_of, IsScoped};
+ghost use Rattle.gh_trace.specs.Kept.{drawn};
+ghost use Rattle.gh_trace.specs.Replay.{Refutes};
 ghost use Rattle.gh_lens.specs.Stories as told;
 
 use crate::exchange::Exchange;
@@ -121,7 +123,7 @@ fn heading(
     condition: &Condition,
     first: &State,
 ) -> Result<Text, AllocError>
-    requires { Fits (program_of typed.now) condition.now }
+    requires { IsScoped (program_of typed.now) condition.now }
     ensures { IfOk result (told.TellsHeading (program_of typed.now) condition.now first.now) }
 {
     let mut text = describe(alloc, typed, condition)?;
@@ -140,7 +142,7 @@ fn story(
     others: &[State],
 ) -> Result<Option<Text>, AllocError>
     requires loops { HasLoops setting }
-    requires fits { Fits (whole setting) condition.now }
+    requires scoped { IsScoped (whole setting) condition.now }
     requires own { IsOf (whole setting) (condition_of condition.now) (here setting) }
     ensures { IfOk result (told.IsStoryOr (whole setting.entry) condition.now first.now others.now) }
 {
@@ -162,8 +164,8 @@ fn told_of(
     condition: &Condition,
     states: &[State],
 ) -> Result<Text, AllocError>
-    requires fits { Fits (program_of typed.now) condition.now }
-    requires shown { told.IsShown (program_of typed.now) condition.now states.now }
+    requires scoped { IsScoped (program_of typed.now) condition.now }
+    requires shown { Refutes (program_of typed.now) (condition_of condition.now) (map drawn states.now) }
     ensures { IfOk result (told.IsToldFor (program_of typed.now) condition.now states.now) }
 {
     let Some(procedure) = procedure_at(typed, condition.procedure) else {

@@ -7,7 +7,7 @@ use Rattle.gh_assert.specs.Meaning.{Store}
 use Rattle.gh_assert.specs.Walks.{succ}
 use Rattle.gh_path.specs.Graphs as path
 use Rattle.gh_path.specs.Conditions.{Condition}
-use Rattle.gh_path.specs.Kept.{IsCallee}
+use Rattle.gh_path.specs.Graphs.{IsProcedureAt}
 use Rattle.gh_path.specs.Terms.{Kind, next, Bindings}
 use Rattle.gh_symb.specs.Symbolic.{Under, TermStep, accessed, assumed, same, written, made, freed, parts, symbolic_of}
 use Rattle.gh_trace.specs.Traces.{State}
@@ -42,7 +42,7 @@ HasCellValues V (parts b a) y = Unit {0}
 -- a call's results have the values that its targets get, whatever alternative speaks of them
 abbrev pub HasResultValues : Program → List ℕ → path.PathStep → TermStep → State → Type 0
 HasResultValues P V (path.called ys n es) (parts b as') y =
-    (p : Procedure) (inside : Store) → IsCallee P n p → map inside (results_of p) ≡ map y.store (names ys) →
+    (p : Procedure) (inside : Store) → IsProcedureAt P n p → map inside (results_of p) ≡ map y.store (names ys) →
     (a : Under) → Contains as' a → (r : Name) (t : ℕ) → Contains (results_of p) r → a.binding r ≡ Some t → slice_get V t ≡ Some (inside r)
 HasResultValues P V _ _ y = Unit {0}
 

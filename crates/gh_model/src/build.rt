@@ -3,9 +3,8 @@
 ghost use Rattle.std.specs.Prelude.{◌≡◌, ◌≢◌, ◌<◌, ◌++◌, IfOk, OnOk, OnErr, AllPairs, length, drop};
 ghost use Rattle.gh_base.specs.Structures.{interpretation_of};
 ghost use Rattle.gh_ast.specs.Plain.{procedure_of, program_of};
-ghost use Rattle.gh_path.specs.Kept.{IsOne};
+ghost use Rattle.gh_path.specs.Kept.{IsOne, HoldsFor};
 ghost use Rattle.gh_symb.specs.Encoded.{IsSymbolic};
-ghost use Rattle.gh_symb.specs.Steps.{HoldsFor};
 ghost use Rattle.gh_ast.specs.Programs.{names, variable_names};
 ghost use Rattle.gh_ast.specs.Occurrences.{locals_of};
 ghost use Rattle.gh_assert.specs.Stores.{listed_names};

@@ -10,7 +10,7 @@ use Rattle.gh_ast.proofs.Lists.{member_first, member_later, member_cases, no_mem
 use Rattle.gh_path.specs.Graphs.{Graph, dead_end, ends, moves, guarded, fork, PathStep, assume, reads, all_reads, tested, all_tested, some_tested, lowered, all_lowered, Loop, loops, all_loops, loops_of, once_around, around, graph_from, Start, whole_body, round, rounds, returned}
 use Rattle.gh_path.specs.Paths.{Way, ways, after_step}
 use Rattle.gh_path.specs.Conditions.{Course, course, from_starts, courses_of}
-use Rattle.gh_path.specs.Kept.{IsLoop}
+use Rattle.gh_path.specs.Graphs.{IsLoopAt}
 use Rattle.gh_path.specs.Counting.{nothing, stepped, checked, either, ahead, before_read, before_reads, before_test, before_all, before_some, before, before_block, entry_ahead, round_ahead, rounds_ahead, procedure_ahead}
 use Rattle.gh_path.specs.Admitted.{most_conditions, most_steps, HasManyPaths, HasManySteps}
 use Rattle.gh_path.specs.declared.ahead.Ahead.{Ahead}
@@ -139,7 +139,7 @@ tells_both a b xs ys one two = record {
   reach = omega (arith, one.reach, two.reach, reach_append steps_of xs ys);
 }
 
-tells_round : (P : Program) (p : Procedure) (n : ℕ) (l : Loop) → IsLoop p n l → CoursesTell (round_ahead l) (map (course (round n)) (ways (graph_from P p (round n))))
+tells_round : (P : Program) (p : Procedure) (n : ℕ) (l : Loop) → IsLoopAt p n l → CoursesTell (round_ahead l) (map (course (round n)) (ways (graph_from P p (round n))))
 tells_round P p n l is =
     let same : graph_from P p (round n) ≡ once_around P n l = ap (around P n) is in
     subst (λ a. CoursesTell a (map (course (round n)) (ways (graph_from P p (round n))))) (ap ahead same ∙ ahead_round P n l) (tells_start (round n) (graph_from P p (round n)))

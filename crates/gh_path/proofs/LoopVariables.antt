@@ -16,8 +16,7 @@ use Rattle.gh_ast.specs.Rules.{IsTyped}
 use Rattle.gh_ast.proofs.Lists.{member_first, member_later, member_cases, no_member}
 use Rattle.gh_ast.proofs.Sites.{member_map, occurrence_of, site_in_body}
 use Rattle.gh_ast.proofs.TypedPrograms.{mention_is_variable}
-use Rattle.gh_path.specs.Graphs.{Loop, loops, all_loops, loops_of}
-use Rattle.gh_path.specs.Kept.{IsLoop}
+use Rattle.gh_path.specs.Graphs.{Loop, loops, all_loops, loops_of, IsLoopAt}
 use Rattle.gh_path.specs.Terms.{assigns, some_assigns}
 
 abbrev pub NamesIn : List Name → Statements → Type 0
@@ -84,7 +83,7 @@ mutual
   ]
 
 -- a loop of a procedure assigns variables of it alone
-pub loop_is_over : (P : Program) → IsTyped P → (p : Procedure) → Contains P.procedures p → (n : ℕ) (l : Loop) → IsLoop p n l → NamesIn (variable_names p) l.body
+pub loop_is_over : (P : Program) → IsTyped P → (p : Procedure) → Contains P.procedures p → (n : ℕ) (l : Loop) → IsLoopAt p n l → NamesIn (variable_names p) l.body
 loop_is_over P typed p declared n l at =
     loops_names (variable_names p) (body_of p) l
     (λ y m.

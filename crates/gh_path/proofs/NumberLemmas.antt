@@ -11,8 +11,7 @@ use Rattle.gh_ast.specs.declared.Stmt.TheFolds.{fold_out-Block}
 use Rattle.gh_ast.specs.declared.Stmt.TheVariants.{If}
 use Rattle.gh_ast.specs.Plain.{Procedure, Statement, set, new, write, free, call, choice, loop, give, Statements, no_statements, statement_first, test_of, statement_of, statements_view, Part, part_of, statement_step, part_step}
 use Rattle.gh_ast.proofs.PlainLemmas.{statement_of-If, part_of-statements}
-use Rattle.gh_path.specs.Graphs.{Loop, loops, all_loops, loops_of}
-use Rattle.gh_path.specs.Kept.{IsLoop}
+use Rattle.gh_path.specs.Graphs.{Loop, loops, all_loops, loops_of, IsLoopAt}
 use Rattle.gh_path.specs.Walking.{loop_of}
 use Rattle.gh_path.specs.declared.loops.While.{While}
 use Rattle.gh_path.proofs.ListLemmas.{same_some, no_some, got_left, got_right, got_front, got_back}
@@ -69,7 +68,7 @@ mutual
   all_follow (statement_first s ss) = both_follow (loops s) (all_loops ss) (follow s) (all_follow ss)
 
 -- a loop of a procedure by its number
-pub loop_there : (p : Procedure) (turns : List While) (i : ℕ) (x : While) → map loop_of turns ≡ loops_of p → i < length turns → x ≡ get_or turns i x → IsLoop p i (loop_of x)
+pub loop_there : (p : Procedure) (turns : List While) (i : ℕ) (x : While) → map loop_of turns ≡ loops_of p → i < length turns → x ≡ get_or turns i x → IsLoopAt p i (loop_of x)
 loop_there p turns i x same within is =
     ap (λ ls. slice_get ls i) (sym same) ∙ slice_get-map loop_of turns i ∙ ap (option_map loop_of) (slice_get_read turns (length turns) i x refl within is)
 

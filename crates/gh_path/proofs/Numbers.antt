@@ -11,9 +11,10 @@ use Rattle.gh_ast.specs.Programs.{body_of}
 use Rattle.gh_ast.specs.Rules.{IsTyped}
 use Rattle.gh_ast.proofs.Lists.{member_cases, no_member}
 use Rattle.gh_path.specs.Callees.{CallsAreKnown, AllCallsAreKnown}
-use Rattle.gh_path.specs.Conditions.{Condition}
+use Rattle.gh_path.specs.Conditions.{Condition, StartIsThere, StepIsThere, CheckIsThere, IsThere}
 use Rattle.gh_path.specs.Graphs.{Check, loop_end, returned, PathStep, assume, assigned, written, called, answered, entry, Graph, dead_end, ends, moves, guarded, fork, visits, reads, all_reads, tested, all_tested, some_tested, number_of, lowered, all_lowered, Loop, loops, all_loops, loops_of, around, graph_from, Start, whole_body, round, rounds, starts}
-use Rattle.gh_path.specs.Kept.{condition_of, IsOne, HasLoop, StartIsThere, StepIsThere, CheckIsThere, IsThere, Fits}
+use Rattle.gh_path.specs.Graphs.{HasLoop}
+use Rattle.gh_path.specs.Kept.{condition_of, IsOne, IsScoped}
 use Rattle.gh_path.specs.declared.condition.Condition as kept_condition
 use Rattle.gh_path.specs.Laws.{NumbersAreThere}
 use Rattle.gh_path.specs.Paths.{Path, at_end, arrived, on_true, on_false}
@@ -133,7 +134,7 @@ pub each_is_there : (P : Program) (p : Procedure) (c : Condition) → IsThere P 
 each_is_there P p c there s among = All-contains (StepIsThere P p) c.way.steps s there.steps among
 
 -- each condition of a typed program fits it
-pub one_fits : (P : Program) (r : kept_condition.Condition) → IsTyped P → IsOne P r → Fits P r
-one_fits P r typed one =
+pub one_is_scoped : (P : Program) (r : kept_condition.Condition) → IsTyped P → IsOne P r → IsScoped P r
+one_is_scoped P r typed one =
     let is = (all_are_listed P (condition_of r)).0 one in
     (is.procedure, is.of, numbers_are_there P (condition_of r) is.procedure typed is is.of)

@@ -11,7 +11,8 @@ use Rattle.gh_path.specs.Admitted.{most_conditions, HasManyPaths, NoneHas}
 use Rattle.gh_path.specs.Conditions.{Condition, condition, course, courses_of, from_starts}
 use Rattle.gh_path.specs.Counting.{entry_ahead, round_ahead}
 use Rattle.gh_path.specs.Graphs.{Loop, loops_of, around, once_around, round, rounds, whole_body, graph_from, Start}
-use Rattle.gh_path.specs.Kept.{IsLoop, start_of}
+use Rattle.gh_path.specs.Graphs.{IsLoopAt}
+use Rattle.gh_path.specs.Kept.{start_of}
 use Rattle.gh_path.specs.Paths.{ways}
 use Rattle.gh_path.specs.Roots.{AreRoots, IsAfter, from_start}
 use Rattle.gh_path.specs.declared.ahead.Ahead.{Ahead}
@@ -88,7 +89,7 @@ among_rounds P p k (suc n) (m ∷ ls) within =
     let less : n < length ls = omega (arith, within) in
     omega (arith, here, among_rounds P p (suc k) n ls less, course_long P p (round k) (rounds (suc k) ls))
 
-pub round_count : (P : Program) (p : Procedure) (n : ℕ) (l : Loop) → IsLoop p n l → length (courses_of P p) ≤ most_conditions → (round_ahead l).count ≡ length (ways (graph_from P p (round n)))
+pub round_count : (P : Program) (p : Procedure) (n : ℕ) (l : Loop) → IsLoopAt p n l → length (courses_of P p) ≤ most_conditions → (round_ahead l).count ≡ length (ways (graph_from P p (round n)))
 round_count P p n l is few =
     let g = once_around P n l in
     let told : (round_ahead l).count ≡ min (length (ways g)) (most_conditions + 1) = ap (λ (a : Ahead). a.count) (sym (ahead_round P n l)) ∙ (ahead_tells g).count in

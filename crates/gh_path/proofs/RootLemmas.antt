@@ -7,7 +7,8 @@ use Rattle.gh_ast.specs.Plain.{Procedure, Program, statements_view}
 use Rattle.gh_ast.specs.Programs.{body_of}
 use Rattle.gh_path.specs.Graphs.{Graph, dead_end, ends, returned, loop_end, tested, all_lowered, Loop, whole_body, once_around, round, rounds, graph_from}
 use Rattle.gh_path.specs.Conditions.{Condition, condition, course, courses_of, from_starts, from_procedures}
-use Rattle.gh_path.specs.Kept.{IsCallee, start_of}
+use Rattle.gh_path.specs.Graphs.{IsProcedureAt}
+use Rattle.gh_path.specs.Kept.{start_of}
 use Rattle.gh_path.specs.Paths.{ways}
 use Rattle.gh_path.specs.Roots.{IsRoot, graph_of, from_start, AreRoots, AreStarts}
 use Rattle.gh_path.specs.Shown.{Shows, asked_of, Adds}
@@ -40,7 +41,7 @@ roots_push P ns (q ∷ rs) r p cs (p', ds, first, rest, split) root =
 
 -- a start more
 pub started : (P : Program) (s t : Starts) (r : Root) (p : Procedure) (cs : List Condition) → Adds s.nodes t.nodes r.node (graph_of P p r) → t.roots.items ≡ s.roots.items ++ r ∷ [] →
-    IsCallee P r.procedure p → r.count ≡ length (ways (graph_of P p r)) → AreStarts P s cs → AreStarts P t (cs ++ from_start P p r.procedure (start_of r.start))
+    IsProcedureAt P r.procedure p → r.count ≡ length (ways (graph_of P p r)) → AreStarts P s cs → AreStarts P t (cs ++ from_start P p r.procedure (start_of r.start))
 started P s t r p cs adds pushed there count are =
     let old : AreRoots P t.nodes s.roots.items cs = subst (λ ns. AreRoots P ns s.roots.items cs) (sym adds.is) (roots_more P s.nodes adds.more s.roots.items cs are) in
     let root : IsRoot P t.nodes r p = record { procedure = there; shows = adds.shows; count = count } in

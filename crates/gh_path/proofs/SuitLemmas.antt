@@ -15,8 +15,7 @@ use Rattle.gh_ast.specs.declared.Stmt.{Stmt}
 use Rattle.gh_ast.specs.Plain.{Statement, set, new, write, free, call, choice, loop, give, Statements, no_statements, statement_first, statement_of, statements_view, Inside, Procedure, Program}
 use Rattle.gh_ast.specs.Programs.{Name, body_of, statements_in, Declares}
 use Rattle.gh_path.specs.Admitted.{most_conditions}
-use Rattle.gh_path.specs.Graphs.{Loop, loops, all_loops, loops_of, number_of}
-use Rattle.gh_path.specs.Kept.{IsLoop}
+use Rattle.gh_path.specs.Graphs.{Loop, loops, all_loops, loops_of, number_of, IsLoopAt}
 use Rattle.gh_path.specs.Callees.{IsKnown, CallsAreKnown, AllCallsAreKnown}
 use Rattle.gh_path.specs.Lowered.{Suits, AllSuit, program_in}
 use Rattle.gh_path.specs.declared.walker.Walker.{Walker}
@@ -70,7 +69,7 @@ mutual
   all_loops_called P (statement_first s ss) have = both_called P (loops s) (all_loops ss) (loops_called P s have.0) (all_loops_called P ss have.1)
 
 -- the loops of a loop's body stand after it, so they are fewer than those that come
-pub inside_few : (p : Procedure) (n : ℕ) (l : Loop) → IsLoop p n l → n + 1 + length (all_loops l.body) ≤ length (loops_of p)
+pub inside_few : (p : Procedure) (n : ℕ) (l : Loop) → IsLoopAt p n l → n + 1 + length (all_loops l.body) ≤ length (loops_of p)
 inside_few p n l is = by_count (length (all_loops l.body)) refl
   where
     by_count : (m : ℕ) → m ≡ length (all_loops l.body) → n + 1 + length (all_loops l.body) ≤ length (loops_of p)
@@ -82,7 +81,7 @@ inside_few p n l is = by_count (length (all_loops l.body)) refl
 pub entry_suits : (w : Walker) (p : Procedure) → AreFew (program_in w) → AllCallsAreKnown (program_in w) (body_of p) → length (loops_of p) ≤ most_conditions → AllSuit w 0 (body_of p)
 entry_suits w p procedures have few = record { few = procedures; callees = have; room = omega (arith, few) }
 
-pub round_suits : (w : Walker) (p : Procedure) (n : ℕ) (l : Loop) → IsLoop p n l → AreFew (program_in w) → AllCallsAreKnown (program_in w) (body_of p) → length (loops_of p) ≤ most_conditions → AllSuit w (n + 1) l.body
+pub round_suits : (w : Walker) (p : Procedure) (n : ℕ) (l : Loop) → IsLoopAt p n l → AreFew (program_in w) → AllCallsAreKnown (program_in w) (body_of p) → length (loops_of p) ≤ most_conditions → AllSuit w (n + 1) l.body
 round_suits w p n l is procedures have few = record { few = procedures; callees = all_loops_called (program_in w) (body_of p) have n l is; room = omega (arith, few, inside_few p n l is) }
 
 -- a procedure that is declared has a number

@@ -1,5 +1,5 @@
 -- The limits on conditions, and admitted programs.
-use Rattle.std.specs.Prelude.{◌≡◌, ℕ, ◌+◌, ◌<◌, List, length, Any, Contains}
+use Rattle.std.specs.Prelude.{◌≡◌, ℕ, ◌+◌, ◌<◌, ◌≤◌, List, length, Any, Contains}
 use Rattle.gh_ast.specs.Plain.{Procedure, Program}
 use Rattle.gh_ast.specs.Lists.{IsFirstWith}
 use Rattle.gh_ast.specs.Rules.{IsTyped}
@@ -15,11 +15,15 @@ most_conditions = 1024
 abbrev pub most_steps : ℕ
 most_steps = 256
 
--- 4: a procedure with more conditions
+-- the limit 4 is passed: the procedure has more conditions
 abbrev pub HasManyPaths : Program → Procedure → Type 0
 HasManyPaths P p = most_conditions < length (courses_of P p)
 
--- 5: a condition with more steps
+-- .. or it isn't
+abbrev pub HasFewPaths : Program → Procedure → Type 0
+HasFewPaths P p = length (courses_of P p) ≤ most_conditions
+
+-- the limit 5 is passed: one of its conditions has more steps
 abbrev pub HasManySteps : Program → Procedure → Type 0
 HasManySteps P p = Any (λ c. most_steps < length c.way.steps) (courses_of P p)
 
@@ -30,11 +34,11 @@ most_terms = 32
 abbrev pub most_versions : ℕ
 most_versions = 24
 
--- 6: a condition with more terms
+-- the limit 6 is passed: one of its conditions has more terms
 abbrev pub HasManyTerms : Program → Procedure → Type 0
 HasManyTerms P p = Any (λ c. most_terms < length (terms_of P p c.start c.way)) (courses_of P p)
 
--- 7: a condition with more versions of the heap
+-- the limit 7 is passed: one of its conditions has more versions of the heap
 abbrev pub HasManyVersions : Program → Procedure → Type 0
 HasManyVersions P p = Any (λ c. most_versions < versions_of P p c.start c.way) (courses_of P p)
 

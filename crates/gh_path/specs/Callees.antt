@@ -1,12 +1,11 @@
 -- Procedures that calls name.
 use Rattle.gh_ast.specs.Plain.{Statement, call, choice, loop, Statements, no_statements, statement_first, Program}
 use Rattle.gh_ast.specs.Programs.{Name}
-use Rattle.gh_path.specs.Graphs.{number_of}
-use Rattle.gh_path.specs.Kept.{HasCallee}
+use Rattle.gh_path.specs.Graphs.{number_of, HasProcedure}
 
 -- a procedure has the name
 abbrev pub IsKnown : Program → Name → Type 0
-IsKnown P f = HasCallee P (number_of P f)
+IsKnown P f = HasProcedure P (number_of P f)
 
 abbrev mutual
   -- each call in a statement names a procedure

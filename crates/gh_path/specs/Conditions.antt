@@ -1,7 +1,8 @@
 -- The conditions of a program, in order.
-use Rattle.std.specs.Prelude.{◌≡◌, ℕ, suc, List, [], ◌∷◌, ◌++◌, map, Contains, Some, slice_get}
+use Rattle.std.specs.Prelude.{ℕ, suc, List, [], ◌∷◌, ◌++◌, map, All, Contains}
 use Rattle.gh_ast.specs.Plain.{Procedure, Program}
-use Rattle.gh_path.specs.Graphs.{Start, starts, graph_from}
+use Rattle.gh_path.specs.Graphs.{Start, whole_body, round, starts, PathStep, called, looped, Check, entry, loop_entry}
+use Rattle.gh_path.specs.Graphs.{loop_end, graph_from, HasLoop, IsProcedureAt, HasProcedure}
 use Rattle.gh_path.specs.Paths.{Path, Way, ways}
 
 -- a start of a procedure and a way from it
@@ -40,7 +41,29 @@ conditions P = from_procedures P 0 P.procedures
 
 -- the procedure that a condition is of
 abbrev pub IsOf : Program → Condition → Procedure → Type 0
-IsOf P c p = slice_get P.procedures c.procedure ≡ Some p
+IsOf P c p = IsProcedureAt P c.procedure p
+
+-- the numbers of a start, a step and a check are those of a loop of the procedure, or of a procedure of the program
+abbrev pub StartIsThere : Procedure → Start → Type 0
+StartIsThere p whole_body = Unit {0}
+StartIsThere p (round n) = HasLoop p n
+
+abbrev pub StepIsThere : Program → Procedure → PathStep → Type 0
+StepIsThere P p (called xs n es) = HasProcedure P n
+StepIsThere P p (looped n) = HasLoop p n
+StepIsThere P p s = Unit {0}
+
+abbrev pub CheckIsThere : Program → Procedure → Check → Type 0
+CheckIsThere P p (entry at n es) = HasProcedure P n
+CheckIsThere P p (loop_entry at n) = HasLoop p n
+CheckIsThere P p (loop_end at n) = HasLoop p n
+CheckIsThere P p c = Unit {0}
+
+-- all numbers of a condition of the procedure p are there
+pub record IsThere (P : Program) (p : Procedure) (c : Condition) : Type 0 where
+  pub start : StartIsThere p c.start
+  pub steps : All (StepIsThere P p) c.way.steps
+  pub check : CheckIsThere P p c.way.check
 
 -- a path from one of the starts of one of the procedures
 pub record IsCondition (P : Program) (c : Condition) : Type 0 where

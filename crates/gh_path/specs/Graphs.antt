@@ -1,5 +1,7 @@
 -- Bodies as graphs: each statement is given what comes after it. Procedures and loops are told by their numbers.
-use Rattle.std.specs.Prelude.{ℕ, suc, ◌+◌, List, [], ◌∷◌, ◌++◌, Bool, length, position, unwrap_or, Some, None}
+-- A number that no procedure or loop has (`None` of `Option Procedure` or `Option Loop`) is in no condition of a typed
+-- program, so what is said of it doesn't matter.
+use Rattle.std.specs.Prelude.{◌≡◌, ◌<◌, ℕ, suc, ◌+◌, List, [], ◌∷◌, ◌++◌, Bool, length, position, unwrap_or, Some, None}
 use Rattle.std.specs.Prelude.{Option, slice_get}
 use Rattle.std.specs.Str.{bytes_eq}
 use Rattle.gh_base.specs.declared.place.Span.{Span}
@@ -23,9 +25,9 @@ pub record Loop : Type 0 where
 abbrev pub while : Span → Test → Formula → Statements → Span → Loop
 while at t i body close = record { at = at; test = t; invariant = i; body = body; close = close }
 
--- what is asked at a node, with its place: the place of a variable is allocated; some part meets what the callee needs;
--- some part meets the loop's invariant; the whole heap meets one alternative of what the procedure gives, or the loop's
--- invariant
+-- what is asked at a node, and where in the text: what a variable points to is allocated; some part meets what the
+-- callee needs; some part meets the loop's invariant; the whole heap meets one alternative of what the procedure
+-- gives, or the loop's invariant
 pub data Check : Type 0 where
   access : Occ → Check
   entry : Span → ℕ → List Expr → Check
@@ -41,7 +43,7 @@ check_place (loop_entry at n) = at
 check_place (returned at) = at
 check_place (loop_end at n) = at
 
--- `assume l e r`: the comparison is true
+-- `assume l e r`: l and r are equal where e is true, and differ where it is false
 pub data PathStep : Type 0 where
   accessed : Occ → PathStep
   assume : Expr → Bool → Expr → PathStep
@@ -53,8 +55,8 @@ pub data PathStep : Type 0 where
   looped : ℕ → PathStep
   answered : List Expr → PathStep
 
--- a first node, with a check, a step or both, and what comes after it. Without cycles, since a loop on the way is one step;
--- a node that several ways lead to stands once for each of them
+-- a first node and what comes after it: nothing; a check; a step; a check and a step; a comparison with a way for each
+-- truth. Without cycles, since a loop on the way is one step; a node that several ways lead to stands once for each
 pub data Graph : Type 0 where
   dead_end : Graph
   ends : Check → Graph
@@ -103,6 +105,20 @@ abbrev mutual
 abbrev pub loops_of : Procedure → List Loop
 loops_of p = all_loops (body_of p)
 
+-- the loop of a number: from 0, in the order of the words `while`
+abbrev pub IsLoopAt : Procedure → ℕ → Loop → Type 0
+IsLoopAt p n l = slice_get (loops_of p) n ≡ Some l
+
+abbrev pub HasLoop : Procedure → ℕ → Type 0
+HasLoop p n = n < length (loops_of p)
+
+-- the procedure of a number
+abbrev pub IsProcedureAt : Program → ℕ → Procedure → Type 0
+IsProcedureAt P n p = slice_get P.procedures n ≡ Some p
+
+abbrev pub HasProcedure : Program → ℕ → Type 0
+HasProcedure P n = n < length P.procedures
+
 -- the number of the first procedure of a name, or how many there are where there is none
 abbrev pub number_of : Program → Name → ℕ
 number_of P f = unwrap_or (position (λ p. bytes_eq (name_of p) f) P.procedures) (length P.procedures)
@@ -123,7 +139,7 @@ abbrev mutual
   all_lowered P n no_statements g = g
   all_lowered P n (statement_first s ss) g = lowered P n s (all_lowered P (n + length (loops s)) ss g)
 
--- where paths begin: at the entry, or at the loop of a number
+-- where paths begin: at the first statement of the body, or at the test of the loop of a number
 pub data Start : Type 0 where
   whole_body : Start
   round : ℕ → Start
@@ -132,7 +148,7 @@ abbrev pub invariant_of : Option Loop → Formula
 invariant_of (Some l) = l.invariant
 invariant_of None = empty
 
--- what the whole heap meets there
+-- the assertion that the whole heap meets at a start
 abbrev pub meets_at : Procedure → Start → Formula
 meets_at p whole_body = p.needs
 meets_at p (round n) = invariant_of (slice_get (loops_of p) n)
@@ -145,7 +161,7 @@ abbrev pub around : Program → ℕ → Option Loop → Graph
 around P n (Some l) = once_around P n l
 around P n None = dead_end
 
--- the way on from a start
+-- the graph from a start
 abbrev pub graph_from : Program → Procedure → Start → Graph
 graph_from P p whole_body = all_lowered P 0 (body_of p) (ends (returned p.close))
 graph_from P p (round n) = around P n (slice_get (loops_of p) n)

@@ -1,11 +1,10 @@
--- A condition as it is kept, seen as one of the definitions.
-use Rattle.std.specs.Prelude.{◌≡◌, ◌<◌, ℕ, map, length, Some, Contains, All, slice_get}
+-- A condition as the code keeps it, and its plain form (`condition_of`).
+use Rattle.std.specs.Prelude.{map, Contains}
 use Rattle.gh_base.specs.declared.place.Span.{Span}
 use Rattle.gh_ast.specs.Plain.{Procedure, Program}
-use Rattle.gh_path.specs.Graphs.{Loop, Check, access, entry, loop_entry, returned, loop_end, PathStep, accessed, assume}
-use Rattle.gh_path.specs.Graphs.{assigned, made, written, freed, called, looped, answered, loops_of, Start, whole_body}
-use Rattle.gh_path.specs.Graphs.{round}
-use Rattle.gh_path.specs.Conditions.{Condition, conditions, IsOf}
+use Rattle.gh_path.specs.Graphs.{Check, access, entry, loop_entry, returned, loop_end, PathStep, accessed, assume}
+use Rattle.gh_path.specs.Graphs.{assigned, made, written, freed, called, looped, answered, Start, whole_body, round}
+use Rattle.gh_path.specs.Conditions.{Condition, conditions, IsOf, IsThere}
 use Rattle.gh_path.specs.declared.condition.PathStep as kept_step
 use Rattle.gh_path.specs.declared.condition.PathStep.TheVariants as step
 use Rattle.gh_path.specs.declared.condition.Start as kept_start
@@ -52,43 +51,11 @@ condition_of r = record {
 abbrev pub IsOne : Program → kept_condition.Condition → Type 0
 IsOne P r = Contains (conditions P) (condition_of r)
 
--- the loop of a number, in the order of the words
-abbrev pub IsLoop : Procedure → ℕ → Loop → Type 0
-IsLoop p n l = slice_get (loops_of p) n ≡ Some l
+-- Q holds of the plain form of a condition that is kept, and of the procedure that it is of, where there is one
+abbrev pub HoldsFor : Program → kept_condition.Condition → (Program → Procedure → Condition → Type 0) → Type 0
+HoldsFor P r Q = (p : Procedure) → IsOf P (condition_of r) p → Q P p (condition_of r)
 
--- the procedure of a number
-abbrev pub IsCallee : Program → ℕ → Procedure → Type 0
-IsCallee P n q = slice_get P.procedures n ≡ Some q
-
--- the numbers of a start, a step and a check are those of a loop of the procedure, or of a procedure of the program
-abbrev pub HasLoop : Procedure → ℕ → Type 0
-HasLoop p n = n < length (loops_of p)
-
-abbrev pub HasCallee : Program → ℕ → Type 0
-HasCallee P n = n < length P.procedures
-
-abbrev pub StartIsThere : Procedure → Start → Type 0
-StartIsThere p whole_body = Unit {0}
-StartIsThere p (round n) = HasLoop p n
-
-abbrev pub StepIsThere : Program → Procedure → PathStep → Type 0
-StepIsThere P p (called xs n es) = HasCallee P n
-StepIsThere P p (looped n) = HasLoop p n
-StepIsThere P p s = Unit {0}
-
-abbrev pub CheckIsThere : Program → Procedure → Check → Type 0
-CheckIsThere P p (entry at n es) = HasCallee P n
-CheckIsThere P p (loop_entry at n) = HasLoop p n
-CheckIsThere P p (loop_end at n) = HasLoop p n
-CheckIsThere P p c = Unit {0}
-
--- all numbers of a condition of the procedure p
-pub record IsThere (P : Program) (p : Procedure) (c : Condition) : Type 0 where
-  pub start : StartIsThere p c.start
-  pub steps : All (StepIsThere P p) c.way.steps
-  pub check : CheckIsThere P p c.way.check
-
--- the condition that is kept fits the program: it is of one of its procedures, and all its numbers are there. Each of
--- the program's conditions fits
-abbrev pub Fits : Program → kept_condition.Condition → Type 0
-Fits P r = (p : Procedure) × IsOf P (condition_of r) p × IsThere P p (condition_of r)
+-- the condition that is kept is well scoped: it is of one of the program's procedures, and all its numbers are there.
+-- Each condition that a typed program has (`IsOne`) is, by `numbers_are_there`
+abbrev pub IsScoped : Program → kept_condition.Condition → Type 0
+IsScoped P r = (p : Procedure) × IsOf P (condition_of r) p × IsThere P p (condition_of r)

@@ -3,10 +3,9 @@ use Rattle.std.specs.Prelude.{◌≡◌, ◌↔◌, List, map, Contains, Decides
 use Rattle.gh_ast.specs.Plain.{Statement, Procedure, Program}
 use Rattle.gh_ast.specs.Programs.{Name, Declares, Assigns}
 use Rattle.gh_ast.specs.Rules.{IsTyped}
-use Rattle.gh_path.specs.Graphs.{PathStep, Graph, number_of}
+use Rattle.gh_path.specs.Graphs.{PathStep, Graph, number_of, IsProcedureAt}
 use Rattle.gh_path.specs.Paths.{Before, Way, IsListOf, ways}
-use Rattle.gh_path.specs.Conditions.{Condition, conditions, IsCondition, IsOf}
-use Rattle.gh_path.specs.Kept.{IsCallee, IsThere}
+use Rattle.gh_path.specs.Conditions.{Condition, conditions, IsCondition, IsOf, IsThere}
 use Rattle.gh_path.specs.Terms.{assigns}
 use Rattle.gh_path.specs.Examples.{reversal, concatenation, row_of, reversal_rows, concatenation_rows}
 
@@ -38,7 +37,7 @@ pub record ExamplesHold : Type 0 where
 
 -- the number that a call has is that of the procedure which it means
 abbrev pub CalleesAreNumbered : Type 0
-CalleesAreNumbered = (P : Program) (f : Name) (p : Procedure) → IsCallee P (number_of P f) p ↔ Declares P f p
+CalleesAreNumbered = (P : Program) (f : Name) (p : Procedure) → IsProcedureAt P (number_of P f) p ↔ Declares P f p
 
 -- the walk's test of assigned variables decides which variables a statement assigns
 abbrev pub AssignsDecides : Type 0

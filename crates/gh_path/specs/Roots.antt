@@ -1,10 +1,10 @@
 -- The starts of a program in order, each with its first node.
 use Rattle.std.specs.Prelude.{◌≡◌, ◌≤◌, ◌+◌, ℕ, List, [], ◌∷◌, ◌++◌, map, length, drop, Option, Some, None}
 use Rattle.gh_ast.specs.Plain.{Procedure, Program}
-use Rattle.gh_path.specs.Graphs.{Graph, Loop, Start, whole_body, round, graph_from}
+use Rattle.gh_path.specs.Graphs.{Graph, Loop, Start, whole_body, round, graph_from, IsProcedureAt, IsLoopAt}
 use Rattle.gh_path.specs.Paths.{Way, ways}
 use Rattle.gh_path.specs.Conditions.{Condition, condition, course, courses_of}
-use Rattle.gh_path.specs.Kept.{IsCallee, IsLoop, start_of}
+use Rattle.gh_path.specs.Kept.{start_of}
 use Rattle.gh_path.specs.Lowered.{program_in, procedure_in}
 use Rattle.gh_path.specs.Shown.{Shows}
 use Rattle.gh_path.specs.declared.node.Node.{Node}
@@ -27,7 +27,7 @@ graph_of P p r = graph_from P p (start_of r.start)
 
 -- a start of the procedure p, whose first node shows its graph, with the number of its ways
 pub record IsRoot (P : Program) (ns : List Node) (r : Root) (p : Procedure) : Type 0 where
-  pub procedure : IsCallee P r.procedure p
+  pub procedure : IsProcedureAt P r.procedure p
   pub shows : Shows ns r.node (graph_of P p r)
   pub count : r.count ≡ length (ways (graph_of P p r))
 
@@ -64,7 +64,7 @@ IsSoughtIn s n found = (P : Program) (cs : List Condition) → AreStarts P s cs 
 -- where the walker's procedure has the number n, conditions are added to those of the starts
 abbrev pub AddsConditions : Walker → ℕ → List Condition → Starts → Starts → Type 0
 AddsConditions w n ds old new = (cs : List Condition) → AreStarts (program_in w) old cs →
-    IsCallee (program_in w) n (procedure_in w) → AreStarts (program_in w) new (cs ++ ds)
+    IsProcedureAt (program_in w) n (procedure_in w) → AreStarts (program_in w) new (cs ++ ds)
 
 -- all of the procedure
 abbrev pub AddsProcedure : Walker → ℕ → Starts → Starts → Type 0
@@ -78,4 +78,4 @@ AddsEntry w n old new = AddsConditions w n (from_start (program_in w) (procedure
 -- those from its loop l of the number k
 abbrev pub AddsLoop : Walker → ℕ → ℕ → Loop → Starts → Starts → Type 0
 AddsLoop w n k l old new =
-    IsLoop (procedure_in w) k l → AddsConditions w n (from_start (program_in w) (procedure_in w) n (round k)) old new
+    IsLoopAt (procedure_in w) k l → AddsConditions w n (from_start (program_in w) (procedure_in w) n (round k)) old new

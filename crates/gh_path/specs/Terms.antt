@@ -1,4 +1,6 @@
--- The terms of a path condition, in order of first appearance, and its heap versions.
+-- The terms of a condition, in order of first appearance, and its heap versions.
+-- A number that no procedure or loop has (`None` of `Option Procedure` or `Option Loop`) is in no condition of a typed
+-- program, so what is said of it doesn't matter.
 use Rattle.std.specs.Prelude.{ℕ, ◌+◌, List, [], ◌∷◌, ◌++◌, length, map, filter, count_by, position, Option, Some, None}
 use Rattle.std.specs.Prelude.{Bool, true, false, ◌==◌, ◌||◌, ◌&&◌, unwrap_or, cond, slice_get}
 use Rattle.std.specs.List.{list_any}
@@ -17,7 +19,8 @@ use Rattle.gh_path.specs.Graphs.{Check, access, entry, loop_entry, returned, loo
 use Rattle.gh_path.specs.Graphs.{assigned, made, written, freed, called, looped, answered, Loop, loops_of, Start, meets_at}
 use Rattle.gh_path.specs.Paths.{Way}
 
--- null; the value of a variable or of a new cell; the successor of a term in a version of the heap
+-- null; the value of a number: that of a variable, or of a new cell's place or content; `next i x`: the successor of the
+-- term x in the version i of the heap
 pub data Kind : Type 0 where
   null : Kind
   value : ℕ → Kind
@@ -166,8 +169,8 @@ abbrev mutual
 abbrev pub bound_inside : Procedure → List ℕ → Bindings
 bound_inside p ts = all_bound unbound (parameters_of p) ts
 
--- what the callee requires is walked, the results get new values, and what it ensures, each alternative, is walked in the next version;
--- `outside` are the caller's bindings, in which the targets get the results' terms
+-- what the callee needs is walked; then, in the next version, its results get new values, and each alternative of what
+-- it gives is walked. `outside` are the caller's bindings, in which the targets get the results' terms
 abbrev pub answered_inside : Procedure → List Name → Bindings → Terms → Terms
 answered_inside p xs outside s =
     let after = each_walked p.gives (renewed (results_of p) (moved_on (walked p.needs s))) in
@@ -180,13 +183,13 @@ call_walked (Some p) xs ts s = answered_inside p xs s.bindings (rebound s (bound
 abbrev pub exprs_terms : List Expr → Terms → List ℕ
 exprs_terms es s = map (λ e. expr_term e s) es
 
--- what a loop keeps to is walked, the variables that its body assigns get new values in the next version, and what it
--- keeps to is walked there
+-- the loop's invariant is walked; then, in the next version, those of the variables xs that its body assigns get new
+-- values, and the invariant is walked again
 abbrev pub loop_walked : Option Loop → List Name → Terms → Terms
 loop_walked None xs s = s
 loop_walked (Some l) xs s = walked l.invariant (renewed (filter (some_assigns l.body) xs) (moved_on (walked l.invariant s)))
 
--- the terms of one step of a path of the procedure p
+-- the terms after a step of a path of the procedure p
 abbrev pub step_walked : Program → Procedure → PathStep → Terms → Terms
 step_walked P p (accessed o) s = followed o.name (used o.name s)
 step_walked P p (assume l e r) s = expr_used r (expr_used l s)
@@ -227,7 +230,7 @@ no_terms = terms (null ∷ []) unbound 0
 abbrev pub way_walked : Program → Procedure → Start → Way → Terms
 way_walked P p a w = check_walked P p w.check (steps_walked P p w.steps (walked (meets_at p a) no_terms))
 
--- the kinds of the terms, each at its term
+-- the kinds of the terms: that of the term t stands at the place t
 abbrev pub terms_of : Program → Procedure → Start → Way → List Kind
 terms_of P p a w = (way_walked P p a w).kinds
 

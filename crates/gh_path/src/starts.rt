@@ -1,15 +1,15 @@
 //! The starts of the procedures of a program, with their nodes.
 
-ghost use Rattle.std.specs.Prelude.{◌≡◌, ◌+◌, ◌≤◌, ◌∷◌, [], List, length, slice_get, IfOk, IfSome, OnOk};
+ghost use Rattle.std.specs.Prelude.{◌≡◌, ◌+◌, ◌≤◌, ◌∷◌, [], List, slice_get, IfOk, IfSome, OnOk};
 ghost use Rattle.gh_ast.specs.Limits.{AreFew};
 ghost use Rattle.gh_ast.specs.Plain.{Program as Plain, program_of};
 ghost use Rattle.gh_ast.specs.Programs.{body_of};
 ghost use Rattle.gh_ast.specs.Rules.{IsTyped};
 ghost use Rattle.gh_ast.specs.WellFormed.{IsFormedBody, IsWellFormed};
 ghost use Rattle.gh_path.specs.Graphs.{graph_from, whole_body, once_around};
-ghost use Rattle.gh_path.specs.Admitted.{most_conditions, HasManyPaths, NoneHas};
+ghost use Rattle.gh_path.specs.Admitted.{HasManyPaths, HasFewPaths, NoneHas};
 ghost use Rattle.gh_path.specs.Callees.{AllCallsAreKnown};
-ghost use Rattle.gh_path.specs.Conditions.{conditions, courses_of};
+ghost use Rattle.gh_path.specs.Conditions.{conditions};
 ghost use Rattle.gh_path.specs.Lowered.{program_in, procedure_in, AllSuit};
 ghost use Rattle.gh_path.specs.Shown.{Adds};
 ghost use Rattle.gh_path.specs.Roots.{AreStarts, AddsProcedure, AddsEntry, AddsLoop, IsSoughtIn};
@@ -152,7 +152,7 @@ impl<'t> Starts<'t> {
         procedure: u16,
     ) -> Result<(), AllocError>
         requires suits { AllSuit walker.now 0 (body_of (procedure_in walker.now)) }
-        requires few { length (courses_of (program_in walker.now) (procedure_in walker.now)) ≤ most_conditions }
+        requires few { HasFewPaths (program_in walker.now) (procedure_in walker.now) }
         ensures { OnOk result (AddsEntry walker.now procedure self.old self.new) }
     {
         let node = walker.lower_entry(alloc, &mut self.nodes)?;
@@ -177,7 +177,7 @@ impl<'t> Starts<'t> {
         number: u16,
     ) -> Result<(), AllocError>
         requires suits { AllSuit walker.now (number + 1) (loop_of turn.now).body }
-        requires few { length (courses_of (program_in walker.now) (procedure_in walker.now)) ≤ most_conditions }
+        requires few { HasFewPaths (program_in walker.now) (procedure_in walker.now) }
         ensures { OnOk result (AddsLoop walker.now procedure number (loop_of turn.now) self.old self.new) }
     {
         let node = walker.lower_round(alloc, turn, number, &mut self.nodes)?;
@@ -201,7 +201,7 @@ impl<'t> Starts<'t> {
     ) -> Result<(), AllocError>
         requires procedures { AreFew (program_in walker.now) }
         requires callees { AllCallsAreKnown (program_in walker.now) (body_of (procedure_in walker.now)) }
-        requires few { length (courses_of (program_in walker.now) (procedure_in walker.now)) ≤ most_conditions }
+        requires few { HasFewPaths (program_in walker.now) (procedure_in walker.now) }
         requires formed { IsFormedBody (procedure_in walker.now).body }
         ensures { OnOk result (AddsProcedure walker.now procedure self.old self.new) }
     {
@@ -217,7 +217,7 @@ impl<'t> Starts<'t> {
 /// The starts of a program.
 pub fn starts_of(alloc: Global, program: &Program) -> Result<Starts<'_>, AllocError>
     requires typed { IsTyped (program_of program.now) }
-    requires few { AreFew (program_of program.now) }
+    requires procedures { AreFew (program_of program.now) }
     requires formed { IsWellFormed (program_of program.now) }
     requires paths { NoneHas (program_of program.now) (HasManyPaths (program_of program.now)) }
     ensures { IfOk result (λ s. AreStarts (program_of program.now) s (conditions (program_of program.now))) }

@@ -52,7 +52,7 @@ step_stated ks i step = step_claims ks i (step_of step)
 abbrev pub steps_stated : List Kind → List TermStep → List Claim
 steps_stated ks steps = steps_claims ks 0 (map step_of steps)
 
--- where a condition over terms is that of a program's condition, these are the clauses of that
+-- where y is the form over terms of a condition of some program, the result has that condition's clauses
 abbrev pub TellsProblem : Symbolic → Result Problem AllocError → Type 0
 TellsProblem y result =
     (P : Program) (p : Procedure) (c : Condition) → IsSymbolic P p c y → IfOk result (λ q. q ≡ problem (symbolic_of P p c))

@@ -16,7 +16,8 @@ use Rattle.gh_scene.specs.Spare.{IsSpare}
 use Rattle.gh_scene.specs.declared.sketch.Sketch.TheVariants.{Shown, Fails}
 use Rattle.gh_trace.specs.declared.state.State.{State}
 use Rattle.gh_trace.specs.declared.replay.ReplayError.TheVariants.{Step}
-use Rattle.gh_trace.specs.Kept.{state_of, drawn, IsRefuted, IsFailure}
+use Rattle.gh_trace.specs.Kept.{state_of, drawn, IsFailure}
+use Rattle.gh_trace.specs.Replay.{Refutes}
 use Rattle.gh_trace.specs.Traces.{last_state}
 
 -- the rows and the title make up a scene
@@ -40,7 +41,7 @@ scene_over P p r x ys xs scene spare left title start none pushed new own states
     }
 
 -- a drawing that is a counterexample
-pub sketched : (P : Program) (n : ℕ) (r : kept.Condition) (x : State) (ys xs : List State) (scene : Scene) → IsNumbered P n (Some r) → xs ≡ x ∷ ys → IsRefuted P r (map drawn xs) → IsSceneFor P r x ys scene → IsSketch P n xs (Shown scene)
+pub sketched : (P : Program) (n : ℕ) (r : kept.Condition) (x : State) (ys xs : List State) (scene : Scene) → IsNumbered P n (Some r) → xs ≡ x ∷ ys → Refutes P (condition_of r) (map drawn xs) → IsSceneFor P r x ys scene → IsSketch P n xs (Shown scene)
 sketched P n r x ys xs scene found states refuted shows =
     (condition_of r, found, record { first = x; others = ys; states = states; refutes = refuted; shows = shows })
 

@@ -1,7 +1,8 @@
 // The rows of a picture.
 
 ghost use Rattle.std.specs.Prelude.{◌≡◌, map, All, IfOk};
-ghost use Rattle.gh_path.specs.Kept.{step_of, StepIsThere};
+ghost use Rattle.gh_path.specs.Conditions.{StepIsThere};
+ghost use Rattle.gh_path.specs.Kept.{step_of};
 ghost use Rattle.gh_trace.specs.Settings.{HasLoops, here, whole};
 ghost use Rattle.gh_lens.specs.Statements.{statement_text};
 ghost use Rattle.gh_scene.specs.Rows as told;

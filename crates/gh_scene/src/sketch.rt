@@ -5,7 +5,7 @@ ghost use Rattle.gh_ast.specs.Plain.{program_of};
 ghost use Rattle.gh_trace.specs.Settings.{HasLoops, here, whole};
 ghost use Rattle.gh_path.specs.Admitted.{IsAdmitted};
 ghost use Rattle.gh_path.specs.Conditions.{IsOf};
-ghost use Rattle.gh_path.specs.Kept.{condition_of, Fits};
+ghost use Rattle.gh_path.specs.Kept.{condition_of, IsScoped};
 ghost use Rattle.gh_trace.specs.Kept.{state_of};
 ghost use Rattle.gh_trace.specs.Traces.{last_state};
 ghost use Rattle.gh_scene.specs.Sketches as told;
@@ -54,7 +54,7 @@ fn scene(
     others: &[State],
 ) -> Result<Scene, AllocError>
     requires loops { HasLoops setting }
-    requires fits { Fits (whole setting) condition.now }
+    requires scoped { IsScoped (whole setting) condition.now }
     requires own { IsOf (whole setting) (condition_of condition.now) (here setting) }
     requires parts { states.now ≡ first.now ∷ others.now }
     ensures { IfOk result (told.IsSceneFor (whole setting.entry) condition.now first.now others.now) }
@@ -79,7 +79,7 @@ fn shown(
     first: &State,
     others: &[State],
 ) -> Result<Scene, AllocError>
-    requires fits { Fits (program_of typed.now) condition.now }
+    requires scoped { IsScoped (program_of typed.now) condition.now }
     requires parts { states.now ≡ first.now ∷ others.now }
     ensures { IfOk result (told.IsSceneFor (program_of typed.now) condition.now first.now others.now) }
 {

@@ -4,8 +4,8 @@ use crate::shape::{Kind, Parts};
 use crate::table::{at, bit, byte, cell, put};
 use std::alloc::{AllocError, Global};
 
-/// Where the words of each kind of reading begin in the table. Bit t of the word of `by_z` at a version, x and y stands
-/// for the atom over x, y and t.
+/// Where the words of each kind of reading begin in the table. Those of betweenness with z left open stand first: bit t
+/// of the word at a version, x and y stands for the atom over x, y and t.
 #[derive(Clone, Copy, Debug)]
 pub(crate) struct Layout {
     terms: usize,

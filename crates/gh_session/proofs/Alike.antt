@@ -8,15 +8,15 @@ use Rattle.gh_ast.specs.Programs.{variable_names}
 use Rattle.gh_ast.specs.Rules.{IsTyped}
 use Rattle.gh_ast.proofs.Lists.{one_value}
 use Rattle.gh_path.specs.Graphs.{meets_at}
-use Rattle.gh_path.specs.Conditions.{Condition, IsOf}
-use Rattle.gh_path.specs.Kept.{IsThere}
+use Rattle.gh_path.specs.Conditions.{Condition, IsOf, IsThere}
 use Rattle.gh_path.proofs.Listed.{all_are_listed}
 use Rattle.gh_path.proofs.LoopVariables.{loop_is_over}
 use Rattle.gh_path.proofs.Numbers.{numbers_are_there, each_is_there}
 use Rattle.gh_trace.specs.Traces.{State, Counterexample, IsTrace, last_state}
+use Rattle.gh_trace.specs.Validity.{AreCounterexample}
 use Rattle.gh_session.specs.Essences.{Essence, essence, callees_in, callees_at, loops_from, loops_in, loops_at, procedures_of, rounds_of}
 use Rattle.gh_session.specs.Meaning as of
-use Rattle.gh_session.specs.Laws.{HaveOneEssence, CounterexampleOf, Decides, EssencesDecide, SameCounterexamples}
+use Rattle.gh_session.specs.Laws.{HaveOneEssence, Decides, EssencesDecide, SameCounterexamples}
 use Rattle.gh_session.proofs.Placing.{listed_keeps, listed_has}
 use Rattle.gh_session.proofs.Deciding.{Knows, knows, traces, SamePasses, passes, SameStarts, starts}
 
@@ -65,7 +65,7 @@ module _ (P : Program) (c : Condition) (p : Procedure) (typed : IsTyped P) (of_p
   )
 
   -- whatever procedure it is said of, it is p
-  here : (x : State) (ys : List State) → CounterexampleOf P c x ys → of.Counterexample E x ys
+  here : (x : State) (ys : List State) → AreCounterexample P c (x ∷ ys) → of.Counterexample E x ys
   here x ys (q, of_q, w) = (both x ys).0 (subst (λ r. Counterexample P r (meets_at r c.start) c.way.steps c.way.check x ys) (one_procedure P c q p of_q of_p) w)
 
   pub decided : Decides P c E

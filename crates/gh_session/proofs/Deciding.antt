@@ -15,9 +15,8 @@ use Rattle.gh_assert.specs.Heaps.{Heap}
 use Rattle.gh_assert.specs.Meaning.{Store, Meaning, HasPart, MeetsOneOf}
 use Rattle.gh_assert.specs.Values.{Give, compared, Gets}
 use Rattle.gh_path.specs.Graphs as path
-use Rattle.gh_path.specs.Graphs.{Loop, loops_of}
-use Rattle.gh_path.specs.Conditions.{Condition, IsOf}
-use Rattle.gh_path.specs.Kept.{IsLoop, IsCallee, HasLoop, HasCallee, StartIsThere, StepIsThere, CheckIsThere}
+use Rattle.gh_path.specs.Graphs.{Loop, loops_of, IsLoopAt, IsProcedureAt, HasLoop, HasProcedure}
+use Rattle.gh_path.specs.Conditions.{Condition, IsOf, StartIsThere, StepIsThere, CheckIsThere}
 use Rattle.gh_path.proofs.LoopVariables.{NamesIn, assigned_listed, listed_assigned}
 use Rattle.gh_trace.specs.Traces as trace
 use Rattle.gh_trace.specs.Traces.{State, Replaced}
@@ -32,7 +31,7 @@ use Rattle.gh_session.proofs.Places.{result_stays, results_stay, meaning_stays}
 pub record Knows (P : Program) (p : Procedure) (ps ls : List ℕ) (E : Essence) : Type 0 where
   pub own_is : own E ≡ contract_of p
   pub callees : (n : ℕ) (q : Procedure) → Contains ps n → slice_get P.procedures n ≡ Some q → contract_at E (place n ps) ≡ contract_of q
-  pub loops : (n : ℕ) (l : Loop) → Contains ls n → IsLoop p n l → round_at E (place n ls) ≡ round_of (variable_names p) l
+  pub loops : (n : ℕ) (l : Loop) → Contains ls n → IsLoopAt p n l → round_at E (place n ls) ≡ round_of (variable_names p) l
 
 looked : {A B : Type 0} (f : A → B) (d : B) (table : List A) (ns : List ℕ) (k n : ℕ) (a : A) → slice_get ns k ≡ Some n → slice_get table n ≡ Some a →
     get_or (map (λ m. get_or (map f table) m d) ns) k d ≡ f a
@@ -102,18 +101,18 @@ at_below (x ∷ xs) (suc n) low = at_below xs n (omega (arith, low))
 abbrev pub SameTakes : Program → Procedure → Essence → List ℕ → List ℕ → State → State → path.PathStep → Type 0
 SameTakes P p E ps ls x y s = trace.Takes P p s x y ↔ of.Takes E (step_in ps ls s) x y
 
-call_takes : (P : Program) (p : Procedure) (ps ls : List ℕ) (E : Essence) → Knows P p ps ls E → (x y : State) (xs : List Occ) (n : ℕ) (es : List Expr) → HasCallee P n → Contains ps n → SameTakes P p E ps ls x y (path.called xs n es)
+call_takes : (P : Program) (p : Procedure) (ps ls : List ℕ) (E : Essence) → Knows P p ps ls E → (x y : State) (xs : List Occ) (n : ℕ) (es : List Expr) → HasProcedure P n → Contains ps n → SameTakes P p E ps ls x y (path.called xs n es)
 call_takes P p ps ls E K x y xs n es low there = (
   λ (r, vs, at, gives, c). (vs, (give x.store x.heap es vs).0 gives, subst (λ k. of.Called k vs (names xs) x y) (sym (K.callees n r there at)) ((called r vs (names xs) x y).0 c)),
   λ (vs, gives, c). (q.0, vs, q.1, (give x.store x.heap es vs).1 gives, (called q.0 vs (names xs) x y).1 (subst (λ k. of.Called k vs (names xs) x y) (K.callees n q.0 there q.1) c)),
 )
   where
-    q : (r : Procedure) × IsCallee P n r
+    q : (r : Procedure) × IsProcedureAt P n r
     q = at_below P.procedures n low
 
 -- the loops of the procedure assign variables of it alone
 abbrev pub LoopsAreOver : Procedure → Type 0
-LoopsAreOver p = (n : ℕ) (l : Loop) → IsLoop p n l → NamesIn (variable_names p) l.body
+LoopsAreOver p = (n : ℕ) (l : Loop) → IsLoopAt p n l → NamesIn (variable_names p) l.body
 
 abbrev RoundAround : Round → State → State → Type 0
 RoundAround k x y = Replaced k.invariant x.store x.heap (Meaning k.invariant y.store) y.heap × ((a : Name) → (Contains k.assigned a → ⊥) → y.store a ≡ x.store a)
@@ -133,7 +132,7 @@ loop_takes P p ps ls E K over x y n low there = (
   λ t. (l.0, l.1, (around p l.0 x y (over n l.0 l.1)).1 (subst (λ m. RoundAround m x y) (K.loops n l.0 there l.1) t)),
 )
   where
-    l : (k : Loop) × IsLoop p n k
+    l : (k : Loop) × IsLoopAt p n k
     l = at_below (loops_of p) n low
 
 pub takes : (P : Program) (p : Procedure) (ps ls : List ℕ) (E : Essence) → Knows P p ps ls E → LoopsAreOver p → (x y : State) (s : path.PathStep) → StepIsThere P p s → Within ps (callees_in s) → Within ls (loops_in s) → SameTakes P p E ps ls x y s
@@ -163,7 +162,7 @@ SamePasses P p E ps ls x c = trace.Passes P p c x ↔ of.Passes E (check_in ps l
 abbrev Enters : Contract → List Expr → State → Type 0
 Enters k es x = (vs : List ℕ) (inside : Store) → Give x.store x.heap es vs → map inside k.parameters ≡ vs → HasPart k.needs inside x.heap
 
-entry_passes : (P : Program) (p : Procedure) (ps ls : List ℕ) (E : Essence) → Knows P p ps ls E → (x : State) (at : Span) (n : ℕ) (es : List Expr) → HasCallee P n → Contains ps n → SamePasses P p E ps ls x (path.entry at n es)
+entry_passes : (P : Program) (p : Procedure) (ps ls : List ℕ) (E : Essence) → Knows P p ps ls E → (x : State) (at : Span) (n : ℕ) (es : List Expr) → HasProcedure P n → Contains ps n → SamePasses P p E ps ls x (path.entry at n es)
 entry_passes P p ps ls E K x at n es low there = (
   λ passed. subst (λ k. Enters k (map bare_expr es) x) (sym (K.callees n q.0 there q.1))
       (λ vs inside gives arguments. (part q.0.needs inside x.heap).0 (passed q.0 vs inside q.1 ((give x.store x.heap es vs).1 gives) arguments)),
@@ -171,18 +170,18 @@ entry_passes P p ps ls E K x at n es low there = (
       (part r.needs inside x.heap).1 (subst (λ k. Enters k (map bare_expr es) x) (K.callees n r there is) passed vs inside ((give x.store x.heap es vs).0 gives) arguments),
 )
   where
-    q : (r : Procedure) × IsCallee P n r
+    q : (r : Procedure) × IsProcedureAt P n r
     q = at_below P.procedures n low
 
 -- what is said of the loop of a number is said of it at its place in the essence
 round_passes : (P : Program) (p : Procedure) (ps ls : List ℕ) (E : Essence) → Knows P p ps ls E → (Q : Formula → Type 0) → ((f : Formula) → Q f ↔ Q (bare_formula f)) → (n : ℕ) → HasLoop p n → Contains ls n →
-    ((l : Loop) → IsLoop p n l → Q l.invariant) ↔ Q (round_at E (place n ls)).invariant
+    ((l : Loop) → IsLoopAt p n l → Q l.invariant) ↔ Q (round_at E (place n ls)).invariant
 round_passes P p ps ls E K Q bare n low there = (
   λ all. subst (λ (k : Round). Q k.invariant) (sym (K.loops n l.0 there l.1)) ((bare l.0.invariant).0 (all l.0 l.1)),
   λ one k at. (bare k.invariant).1 (subst (λ (m : Round). Q m.invariant) (K.loops n k there at) one),
 )
   where
-    l : (k : Loop) × IsLoop p n k
+    l : (k : Loop) × IsLoopAt p n k
     l = at_below (loops_of p) n low
 
 pub passes : (P : Program) (p : Procedure) (ps ls : List ℕ) (E : Essence) → Knows P p ps ls E → (x : State) (c : path.Check) → CheckIsThere P p c → Within ps (callees_at c) → Within ls (loops_at c) → SamePasses P p E ps ls x c

@@ -10,7 +10,8 @@ use Rattle.gh_ast.specs.Plain.{Program}
 use Rattle.gh_ast.proofs.Lists.{member_first, member_later, member_cases, no_member, only_member}
 use Rattle.gh_path.specs.declared.condition.Condition as kept_condition
 use Rattle.gh_path.specs.Kept.{condition_of}
-use Rattle.gh_trace.specs.Kept.{drawn_of, HasNoCounterexample, IsRefuted}
+use Rattle.gh_trace.specs.Kept.{drawn_of, HasNoCounterexample}
+use Rattle.gh_trace.specs.Replay.{Refutes}
 use Rattle.gh_trace.specs.declared.state.Trace.{Trace}
 use Rattle.gh_session.specs.Essences.{Essence}
 use Rattle.gh_session.specs.Meaning.{RefutesEssence, IsValid}
@@ -82,7 +83,7 @@ has_essence (j ∷ ks) k there = elim (member_cases j ks k there) [
 -- a right answer to an essence answers its conditions
 pub record Answers (P : Program) (r : kept_condition.Condition) (answer : Option Trace) : Type 0 where
   pub none : IfNone answer (HasNoCounterexample P r)
-  pub some : IfSome answer (λ t. IsRefuted P r (drawn_of t))
+  pub some : IfSome answer (λ t. Refutes P (condition_of r) (drawn_of t))
 
 answered_by : (P : Program) (r : kept_condition.Condition) (E : Essence) (a : Option Trace) → HasEssence P (condition_of r) E → IsRight (known E a) → Answers P r a
 answered_by P r E None has right = record { none = (essences_decide P (condition_of r) E has).valid.1 right; some = record {} }
@@ -93,6 +94,6 @@ answered P r E F a b has same right copied =
     let one : IsRight (known E b) = subst (λ G. IsRight (known G b)) same right in
     answered_by P r E a has (subst (λ o. MatchOption o (IsValid E) (RefutesEssence E)) (sym copied) one)
 
-pub right_of : (P : Program) (r : kept_condition.Condition) (E : Essence) (a : Option Trace) → HasEssence P (condition_of r) E → IfNone a (HasNoCounterexample P r) → IfSome a (λ t. IsRefuted P r (drawn_of t)) → IsRight (known E a)
+pub right_of : (P : Program) (r : kept_condition.Condition) (E : Essence) (a : Option Trace) → HasEssence P (condition_of r) E → IfNone a (HasNoCounterexample P r) → IfSome a (λ t. Refutes P (condition_of r) (drawn_of t)) → IsRight (known E a)
 right_of P r E None has none some = (essences_decide P (condition_of r) E has).valid.0 none
 right_of P r E (Some t) has none some = ((essences_decide P (condition_of r) E has).drawn (drawn_of t)).0 some

@@ -4,7 +4,7 @@ use Rattle.std.specs.Option.{option_map}
 use Rattle.gh_ast.specs.Plain.{Program}
 use Rattle.gh_path.specs.declared.condition.Condition as kept
 use Rattle.gh_path.specs.Kept.{condition_of}
-use Rattle.gh_trace.specs.Kept.{drawn_of, IsRefuted}
+use Rattle.gh_trace.specs.Kept.{drawn_of}
 use Rattle.gh_trace.specs.Replay.{Drawn}
 use Rattle.gh_trace.specs.declared.state.Trace.{Trace}
 use Rattle.gh_session.specs.Essences.{Essence}
@@ -32,10 +32,6 @@ AreRight ks = (k : Known) → Contains ks k → IsRight k
 abbrev pub Adds : List Known → Essence → Option Trace → Bool → List Known → Type 0
 Adds old E answer false new = Contains (essences old) E × (new ≡ old)
 Adds old E answer true new = (Contains (essences old) E → ⊥) × (new ≡ old ++ known E answer ∷ [])
-
--- the trace refutes the condition r of P
-abbrev pub IsRefutedBy : Program → kept.Condition → Trace → Type 0
-IsRefutedBy P r t = IsRefuted P r (drawn_of t)
 
 -- for the condition r of P
 pub record Learns (P : Program) (r : kept.Condition) (old : List Known) (answer : Option Trace) (added : Bool) (new : List Known) : Type 0 where

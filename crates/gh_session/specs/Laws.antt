@@ -1,12 +1,11 @@
 -- The laws.
-use Rattle.std.specs.Prelude.{◌≡◌, ◌↔◌, List, Contains}
+use Rattle.std.specs.Prelude.{◌≡◌, ◌↔◌, ◌∷◌, List, Contains}
 use Rattle.gh_ast.specs.Plain.{Procedure, Program}
 use Rattle.gh_ast.specs.Rules.{IsTyped}
-use Rattle.gh_path.specs.Graphs.{meets_at}
 use Rattle.gh_path.specs.Conditions.{Condition, conditions, IsOf}
-use Rattle.gh_trace.specs.Traces.{State, Counterexample}
+use Rattle.gh_trace.specs.Traces.{State}
 use Rattle.gh_trace.specs.Replay.{Drawn, Refutes}
-use Rattle.gh_trace.specs.Validity.{IsConditionValid}
+use Rattle.gh_trace.specs.Validity.{IsConditionValid, AreCounterexample}
 use Rattle.gh_session.specs.Essences.{Essence, essence}
 use Rattle.gh_session.specs.Meaning as of_essence
 
@@ -22,12 +21,9 @@ pub record HasEssence (P : Program) (c : Condition) (E : Essence) : Type 0 where
 abbrev pub HaveOneEssence : Type 0
 HaveOneEssence = (P : Program) (c : Condition) (E F : Essence) → HasEssence P c E → HasEssence P c F → E ≡ F
 
-abbrev pub CounterexampleOf : Program → Condition → State → List State → Type 0
-CounterexampleOf P c x ys = (p : Procedure) × IsOf P c p × Counterexample P p (meets_at p c.start) c.way.steps c.way.check x ys
-
 -- a condition has the counterexamples of its essence
 pub record Decides (P : Program) (c : Condition) (E : Essence) : Type 0 where
-  pub traces : (x : State) (ys : List State) → CounterexampleOf P c x ys ↔ of_essence.Counterexample E x ys
+  pub traces : (x : State) (ys : List State) → AreCounterexample P c (x ∷ ys) ↔ of_essence.Counterexample E x ys
   pub drawn : (xs : List Drawn) → Refutes P c xs ↔ of_essence.RefutesEssence E xs
   pub valid : IsConditionValid P c ↔ of_essence.IsValid E
 
@@ -36,7 +32,7 @@ EssencesDecide = (P : Program) (c : Condition) (E : Essence) → HasEssence P c 
 
 -- two conditions, of one program or of two, have the same counterexamples
 pub record AreAlike (P Q : Program) (c d : Condition) : Type 0 where
-  pub traces : (x : State) (ys : List State) → CounterexampleOf P c x ys ↔ CounterexampleOf Q d x ys
+  pub traces : (x : State) (ys : List State) → AreCounterexample P c (x ∷ ys) ↔ AreCounterexample Q d (x ∷ ys)
   pub drawn : (xs : List Drawn) → Refutes P c xs ↔ Refutes Q d xs
   pub valid : IsConditionValid P c ↔ IsConditionValid Q d
 

@@ -5,9 +5,10 @@ ghost use Rattle.std.specs.Prelude.{Contains};
 ghost use Rattle.std.specs.Option.{option_map};
 ghost use Rattle.gh_ast.specs.Plain.{program_of};
 ghost use Rattle.gh_path.specs.Admitted.{IsAdmitted};
-ghost use Rattle.gh_path.specs.Kept.{IsOne};
+ghost use Rattle.gh_path.specs.Kept.{IsOne, condition_of};
 ghost use Rattle.gh_trace.specs.Kept.{drawn_of, HasNoCounterexample};
-ghost use Rattle.gh_session.specs.Known.{essences, IsRight, AreRight, IsRefutedBy};
+ghost use Rattle.gh_trace.specs.Replay.{Refutes};
+ghost use Rattle.gh_session.specs.Known.{essences, IsRight, AreRight};
 ghost use Rattle.gh_session.specs.Places.{known_of, knowledge, LacksAt, LacksAtAll};
 ghost use Rattle.gh_session.specs.Decided.{IsLessonOn, IsOutcome, Tells, IsCutShort};
 ghost use Rattle.gh_session.specs.Views.{essence_view};
@@ -163,7 +164,8 @@ impl Session {
         requires admitted { IsAdmitted (program_of typed.now) }
         requires one { IsOne (program_of typed.now) condition.now }
         ensures none { IfOk result (λ l. IfNone l.answer (HasNoCounterexample (program_of typed.now) condition.now)) }
-        ensures some { IfOk result (λ l. IfSome l.answer (IsRefutedBy (program_of typed.now) condition.now)) }
+        ensures some { IfOk result (λ l. IfSome l.answer (λ t.
+            Refutes (program_of typed.now) (condition_of condition.now) (drawn_of t))) }
         ensures learns { IfOk result (IsLessonOn (program_of typed.now) condition.now self.old self.new) }
         ensures unchanged { IfErr result (λ _. self.new ≡ self.old) }
         ensures asked_once { IfOk result (λ l. D.calls decider.new ≤ D.calls decider.old + cond l.is_new 1 0) }

@@ -3,8 +3,8 @@ use Rattle.std.proofs.Common.{Some, None, refl}
 use Rattle.gh_small.specs.Smallest.{FoundIsExact}
 
 pub found_is_exact : FoundIsExact
-found_is_exact P r None one is = (λ e. is, λ valid. refl)
-found_is_exact P r (Some s) one is = (
+found_is_exact P r None is = (λ e. is, λ valid. refl)
+found_is_exact P r (Some s) is = (
   λ e. absurd (cc (e)),
   λ valid.
       let against = is.counterexample in

@@ -3,7 +3,7 @@ use Rattle.std.specs.Prelude.{◌≡◌, ◌↔◌, ◌≤◌, ℕ, List, [], �
 use Rattle.std.specs.FinMap.{len}
 use Rattle.gh_ast.specs.Plain.{Procedure, Program}
 use Rattle.gh_path.specs.Conditions.{Condition, IsOf}
-use Rattle.gh_path.specs.Kept.{condition_of, IsOne}
+use Rattle.gh_path.specs.Kept.{condition_of}
 use Rattle.gh_path.specs.declared.condition.Condition as kept
 use Rattle.gh_symb.specs.Symbolic.{symbolic_of}
 use Rattle.gh_symb.specs.Formulas.{problem}
@@ -37,4 +37,4 @@ IsFound P r (Some s) = IsSmallest P r s
 
 -- there is none exactly where the condition has no counterexample
 abbrev pub FoundIsExact : Type 0
-FoundIsExact = (P : Program) (r : kept.Condition) (found : Option Smallest) → IsOne P r → IsFound P r found → (found ≡ None) ↔ HasNoCounterexample P r
+FoundIsExact = (P : Program) (r : kept.Condition) (found : Option Smallest) → IsFound P r found → (found ≡ None) ↔ HasNoCounterexample P r

@@ -11,11 +11,11 @@ use Rattle.gh_path.specs.Admitted.{NoneHas, Passed, most_terms, most_versions}
 use Rattle.gh_path.specs.Answers.{IsNumbered}
 use Rattle.gh_path.specs.Conditions.{Condition, conditions, IsOf}
 use Rattle.gh_path.specs.Graphs.{Start}
-use Rattle.gh_path.specs.Kept.{condition_of, Fits}
+use Rattle.gh_path.specs.Kept.{condition_of, IsScoped}
 use Rattle.gh_path.specs.Paths.{Way}
 use Rattle.gh_path.specs.declared.condition.Condition as kept
 use Rattle.gh_path.specs.Terms.{terms_of, versions_of}
-use Rattle.gh_path.proofs.Numbers.{one_fits}
+use Rattle.gh_path.proofs.Numbers.{one_is_scoped}
 use Rattle.gh_symb.specs.Limits.{HasTerms, HasVersions, IsLimitOf, PassesLimit, PassesNone, Passes}
 use Rattle.gh_symb.specs.Met.{NoneMet, IsFirstMet, IsMet, IsOfTerms, earlier}
 use Rattle.gh_symb.specs.Numbers.{count_of, count_in}
@@ -105,10 +105,10 @@ number_at P k r found =
     let place : k ≡ k + 1 - 1 = omega arith in
     ap (slice_get (conditions P)) place ∙ found.1
 
-pub numbered_fits : (P : Program) (n : ℕ) (r : kept.Condition) → IsTyped P → IsNumbered P n (Some r) → Fits P r
-numbered_fits P n r typed found =
+pub numbered_is_scoped : (P : Program) (n : ℕ) (r : kept.Condition) → IsTyped P → IsNumbered P n (Some r) → IsScoped P r
+numbered_is_scoped P n r typed found =
     let d = condition_of r in
-    one_fits P r typed (n - 1, slice_get_within (conditions P) (n - 1) d found.1, get_or_from_slice_get (conditions P) (n - 1) d d found.1)
+    one_is_scoped P r typed (n - 1, slice_get_within (conditions P) (n - 1) d found.1, get_or_from_slice_get (conditions P) (n - 1) d d found.1)
 
 -- the counts of a condition, by its procedure
 abbrev pub its_count : Program → Condition → Count

@@ -11,15 +11,15 @@ use Rattle.gh_ast.specs.declared.Program as whole_program
 use Rattle.gh_ast.proofs.Lists.{one_value}
 use Rattle.gh_path.specs.Admitted.{most_terms}
 use Rattle.gh_path.specs.Graphs.{PathStep}
-use Rattle.gh_path.specs.Kept.{step_of, asked_at, condition_of, IsThere, Fits, StepIsThere, CheckIsThere}
-use Rattle.gh_path.specs.Conditions.{Condition, IsOf}
+use Rattle.gh_path.specs.Kept.{step_of, asked_at, condition_of, IsScoped, HoldsFor}
+use Rattle.gh_path.specs.Conditions.{Condition, IsOf, IsThere, StepIsThere, CheckIsThere}
 use Rattle.gh_path.specs.declared.condition.PathStep as kept_step
 use Rattle.gh_path.specs.declared.condition.Condition as kept_condition
 use Rattle.gh_path.specs.Terms.{Kind, Terms, step_walked, steps_walked, check_walked, way_walked, terms_of}
 use Rattle.gh_symb.specs.Contexts.{program_in, procedure_in, IsContextOf}
 use Rattle.gh_symb.specs.declared.context.Context.{Context}
 use Rattle.gh_symb.specs.Limits.{HasTerms}
-use Rattle.gh_symb.specs.Steps.{EndsWith, HoldsFor}
+use Rattle.gh_symb.specs.Steps.{EndsWith}
 use Rattle.gh_symb.specs.Symbolic.{begins}
 use Rattle.gh_symb.specs.Remaining.{Remains}
 use Rattle.gh_symb.proofs.GrowLemmas.{size, steps_grow, check_grows}
@@ -35,20 +35,20 @@ its_procedure P ps n q p same is at =
     ap procedure_of is ∙ sym (get_or-map procedure_of ps n q) ∙ here
 
 -- the procedure's number of a condition that fits the program is there, and what stands at it is the procedure
-pub fits_within : (P Q : whole_program.Program) (r : kept_condition.Condition) → Q ≡ P → Fits (program_of P) r → r.procedure < length Q.procedures.items
-fits_within P Q r same fits =
-    let here : Fits (program_of Q) r = subst (λ (x : whole_program.Program). Fits (program_of x) r) (sym same) fits in
+pub scoped_within : (P Q : whole_program.Program) (r : kept_condition.Condition) → Q ≡ P → IsScoped (program_of P) r → r.procedure < length Q.procedures.items
+scoped_within P Q r same fits =
+    let here : IsScoped (program_of Q) r = subst (λ (x : whole_program.Program). IsScoped (program_of x) r) (sym same) fits in
     callee_within Q r.procedure (slice_get_within (program_of Q).procedures r.procedure here.0 here.1)
 
-pub fits_of : (P Q : whole_program.Program) (r : kept_condition.Condition) (q : whole.Procedure) → Q ≡ P → Fits (program_of P) r → q ≡ get_or Q.procedures.items r.procedure q →
+pub scoped_of : (P Q : whole_program.Program) (r : kept_condition.Condition) (q : whole.Procedure) → Q ≡ P → IsScoped (program_of P) r → q ≡ get_or Q.procedures.items r.procedure q →
     IsOf (program_of P) (condition_of r) (procedure_of q)
-fits_of P Q r q same fits is =
+scoped_of P Q r q same fits is =
     subst (λ (x : whole_program.Program). IsOf (program_of x) (condition_of r) (procedure_of q)) same
-    (called_procedure Q r.procedure q (fits_within P Q r same fits) is)
+    (called_procedure Q r.procedure q (scoped_within P Q r same fits) is)
 
 -- .. and all numbers are there
-pub fits_there : (P : Program) (r : kept_condition.Condition) (p : Procedure) → Fits P r → IsOf P (condition_of r) p → IsThere P p (condition_of r)
-fits_there P r p fits of = subst (λ q. IsThere P q (condition_of r)) (one_value (slice_get P.procedures r.procedure) fits.0 p fits.1 of) fits.2
+pub scoped_there : (P : Program) (r : kept_condition.Condition) (p : Procedure) → IsScoped P r → IsOf P (condition_of r) p → IsThere P p (condition_of r)
+scoped_there P r p fits of = subst (λ q. IsThere P q (condition_of r)) (one_value (slice_get P.procedures r.procedure) fits.0 p fits.1 of) fits.2
 
 -- what holds of a condition and the procedure of its context holds for it
 pub holds_here : (P : Program) (r : kept_condition.Condition) (p : Procedure) (Q : Program → Procedure → Condition → Type 0) → IsOf P (condition_of r) p → Q P p (condition_of r) → HoldsFor P r Q

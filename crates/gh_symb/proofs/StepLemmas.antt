@@ -11,7 +11,7 @@ use Rattle.gh_ast.specs.declared.Program as whole_program
 use Rattle.std.proofs.lemmas.Option.{slice_get-map, slice_get_read}
 use Rattle.gh_ast.specs.Programs.{Name, names}
 use Rattle.gh_path.specs.Terms.{Terms, renewed, terms, with_value, bound}
-use Rattle.gh_path.specs.Kept.{HasCallee, IsCallee}
+use Rattle.gh_path.specs.Graphs.{HasProcedure, IsProcedureAt}
 use Rattle.gh_symb.proofs.TableLemmas.{head_of}
 
 pub renewed_more : (xs ys : List Name) (s : Terms) → renewed (xs ++ ys) s ≡ renewed ys (renewed xs s)
@@ -35,11 +35,11 @@ renewed_three test xs ys zs s =
     rw (three test xs ys zs, renewed_more (filter test (names xs) ++ filter test (names ys)) (filter test (names zs)) s, renewed_more (filter test (names xs)) (filter test (names ys)) s) refl
 
 -- the number of a procedure is one of those of the text, and the procedure at it is its plain form
-pub callee_within : (P : whole_program.Program) (n : ℕ) → HasCallee (program_of P) n → n < length P.procedures.items
+pub callee_within : (P : whole_program.Program) (n : ℕ) → HasProcedure (program_of P) n → n < length P.procedures.items
 callee_within P n has = omega (arith, has, length-map P.procedures.items procedure_of)
 
 pub called_procedure : (P : whole_program.Program) (n : ℕ) (q : whole.Procedure) → n < length P.procedures.items → q ≡ get_or P.procedures.items n q →
-    IsCallee (program_of P) n (procedure_of q)
+    IsProcedureAt (program_of P) n (procedure_of q)
 called_procedure P n q within is =
     let ps = P.procedures.items in
     slice_get-map procedure_of ps n ∙ ap (option_map procedure_of) (slice_get_read ps (length ps) n q refl within is)

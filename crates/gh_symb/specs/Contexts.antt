@@ -2,8 +2,8 @@
 use Rattle.std.specs.Prelude.{◌≡◌, List}
 use Rattle.gh_ast.specs.Plain.{Procedure, Program, procedure_of, program_of}
 use Rattle.gh_ast.specs.Programs.{Name, variable_names}
-use Rattle.gh_path.specs.Conditions.{IsOf}
-use Rattle.gh_path.specs.Kept.{condition_of, IsThere}
+use Rattle.gh_path.specs.Conditions.{IsOf, IsThere}
+use Rattle.gh_path.specs.Kept.{condition_of}
 use Rattle.gh_path.specs.declared.condition.Condition as kept_condition
 use Rattle.gh_symb.specs.declared.context.Context.{Context}
 

@@ -1,4 +1,6 @@
--- The numbers of terms and versions of a condition.
+-- How many terms and versions of the heap a condition has.
+-- A number that no procedure or loop has (`None` of `Option Procedure` or `Option Loop`) is in no condition of a typed
+-- program, so what is said of it doesn't matter.
 use Rattle.std.specs.Prelude.{List, length, map, Option, Some, None, slice_get}
 use Rattle.gh_ast.specs.Plain.{Procedure, Program}
 use Rattle.gh_path.specs.Conditions.{Condition, conditions}
@@ -13,6 +15,9 @@ abbrev pub count_in : Program → Option Procedure → Condition → Count
 count_in P None c = record { terms = 0; versions = 0 }
 count_in P (Some p) c = count_of P p c
 
--- those of all conditions of a program, in order, each by its procedure
+-- the same of a condition of a program, by its procedure; and of all conditions, in order
+abbrev pub condition_count : Program → Condition → Count
+condition_count P c = count_in P (slice_get P.procedures c.procedure) c
+
 abbrev pub counts_of : Program → List Count
-counts_of P = map (λ c. count_in P (slice_get P.procedures c.procedure) c) (conditions P)
+counts_of P = map (condition_count P) (conditions P)

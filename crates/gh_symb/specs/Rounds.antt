@@ -1,8 +1,7 @@
 -- Loops of a text, as they are met again.
 use Rattle.std.specs.Prelude.{◌≡◌, ℕ, List, ◌++◌, slice_get, MatchResult, Result, Some}
 use Rattle.gh_ast.specs.Plain.{formula_of, part_of, Procedure}
-use Rattle.gh_path.specs.Graphs.{Loop}
-use Rattle.gh_path.specs.Kept.{IsLoop}
+use Rattle.gh_path.specs.Graphs.{Loop, IsLoopAt}
 use Rattle.gh_symb.specs.declared.rounds.Round.{Round}
 
 pub record IsRound (r : Round) (l : Loop) : Type 0 where
@@ -11,7 +10,7 @@ pub record IsRound (r : Round) (l : Loop) : Type 0 where
 
 -- the loop of a number of a procedure
 abbrev pub IsRoundOf : Procedure → ℕ → Round → Type 0
-IsRoundOf p n r = (l : Loop) × IsLoop p n l × IsRound r l
+IsRoundOf p n r = (l : Loop) × IsLoopAt p n l × IsRound r l
 
 -- the loop of a number among those of a list, whatever loops come after them
 abbrev pub IsRoundAt : List Loop → ℕ → Round → Type 0

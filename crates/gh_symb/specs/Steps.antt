@@ -7,9 +7,7 @@ use Rattle.gh_ast.specs.Plain.{Procedure, Program, procedure_of, statements_view
 use Rattle.gh_ast.specs.declared.Occ.{Occ}
 use Rattle.gh_ast.specs.Programs.{Name, names, variable_names}
 use Rattle.gh_path.specs.Admitted.{most_terms}
-use Rattle.gh_path.specs.Kept.{condition_of}
-use Rattle.gh_path.specs.Conditions.{Condition, IsOf}
-use Rattle.gh_path.specs.declared.condition.Condition as kept_condition
+use Rattle.gh_path.specs.Conditions.{Condition}
 use Rattle.gh_path.specs.declared.condition.PathStep as kept_step
 use Rattle.gh_path.specs.declared.condition.PathStep.TheVariants as step
 use Rattle.gh_path.specs.Terms.{Kind, Terms, terms, with_value, bound, expr_used, expr_term, exprs_used, exprs_terms}
@@ -17,15 +15,11 @@ use Rattle.gh_path.specs.Terms.{rebound, renewed, some_assigns, bound_inside, wa
 use Rattle.gh_symb.specs.declared.count.Counted.{Counted}
 use Rattle.gh_symb.specs.declared.count.Counted.TheVariants.{Within, ManyTerms}
 
--- what holds of a condition that is kept, and of the procedure that it is of
-abbrev pub HoldsFor : Program → kept_condition.Condition → (Program → Procedure → Condition → Type 0) → Type 0
-HoldsFor P r Q = (p : Procedure) → IsOf P (condition_of r) p → Q P p (condition_of r)
-
--- each of some variables that statements assign gets a new value
+-- each of the variables xs that the statements assign gets a new value
 abbrev pub renewed_in : List Occ → List Stmt → Terms → Terms
 renewed_in xs body = renewed (filter (some_assigns (statements_view body)) (names xs))
 
--- .. of the variables of a procedure
+-- the same for the variables of a procedure
 abbrev pub all_renewed : kept.Procedure → List Stmt → Terms → Terms
 all_renewed p body = renewed (filter (some_assigns (statements_view body)) (variable_names (procedure_of p)))
 

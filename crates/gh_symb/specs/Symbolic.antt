@@ -1,5 +1,7 @@
 -- A condition over terms: its start, its steps and its check over terms, and the terms of the variables at each state.
 -- `symbolic_of P p c` is the condition c over terms, which is one of the procedure p of the program P.
+-- A number that no procedure or loop has (`None` of `Option Procedure` or `Option Loop`) is in no condition of a typed
+-- program, so what is said of it doesn't matter.
 use Rattle.std.specs.Prelude.{ℕ, ◌+◌, List, [], ◌∷◌, length, filter, Bool, Option, Some, None, slice_get}
 use Rattle.gh_ast.specs.Plain.{Formula, Procedure, Program}
 use Rattle.gh_ast.specs.Programs.{Name, results_of, variable_names}
@@ -26,7 +28,8 @@ pub data TermStep : Type 0 where
   freed : ℕ → TermStep
   parts : Under → List Under → TermStep
 
--- the term is allocated; some part of the heap meets it; the whole heap meets one of some alternatives
+-- `access`: the term is allocated; `sub`: some part of the heap meets the assertion; `whole`: the whole heap meets one
+-- of the assertions
 pub data TermCheck : Type 0 where
   access : ℕ → TermCheck
   sub : Under → TermCheck
@@ -48,7 +51,7 @@ call_parts (Some p) ts s =
     let inside = rebound s (bound_inside p ts) in
     parts (under p.needs inside) (each_under p.gives (renewed (results_of p) (moved_on (walked p.needs inside))))
 
--- what a loop keeps to, before it and after it; the variables that its body assigns (some of xs) get new values in between
+-- a loop's invariant, before it and after it; the variables of xs that its body assigns get new values in between
 abbrev pub loop_parts : Option Loop → List Name → Terms → TermStep
 loop_parts None xs s = same
 loop_parts (Some l) xs s =
@@ -109,13 +112,13 @@ check_used p (path.loop_entry at n) s = invariant_walked (slice_get (loops_of p)
 check_used p (path.returned at) s = each_walked p.gives s
 check_used p (path.loop_end at n) s = invariant_walked (slice_get (loops_of p) n) s
 
--- used in a step; else assigned in it; else what comes later
+-- the term that a step uses; none where the step assigns the variable without using it; else what comes later
 abbrev pub used_first : Option ℕ → Option ℕ → Option ℕ → Option ℕ
 used_first (Some t) assigned later = Some t
 used_first None (Some t) later = None
 used_first None None later = later
 
--- the value that a variable gets at its first use, unless it is assigned before
+-- the term that a variable gets at its first use; none where it is assigned before
 abbrev pub first_use : Program → Procedure → List path.PathStep → path.Check → Terms → Bindings
 first_use P p [] k s y = (check_used p k s).bindings y
 first_use P p (x ∷ xs) k s y =

@@ -1,10 +1,11 @@
-//! The start and the check over terms, made from kept ones.
+//! The start and the check of a condition, over terms.
 
 ghost use Rattle.std.specs.Prelude.{◌≡◌, IfOk, OnOk};
 ghost use Rattle.gh_ast.specs.Plain.{formula_of, procedure_of};
 ghost use Rattle.gh_base.specs.declared.place.Span.{Span};
 ghost use Rattle.gh_path.specs.Graphs.{meets_at};
-ghost use Rattle.gh_path.specs.Kept.{asked_at, start_of, CheckIsThere, StartIsThere};
+ghost use Rattle.gh_path.specs.Conditions.{CheckIsThere, StartIsThere};
+ghost use Rattle.gh_path.specs.Kept.{asked_at, start_of};
 ghost use Rattle.gh_symb.specs.Fitting.{AsksWhole};
 ghost use Rattle.gh_symb.specs.Contexts.{procedure_in, program_in};
 ghost use Rattle.gh_symb.specs.Walkers.{Begins, EndsCheck, EndsEntry, ReadsCheck, ReadsEntry, UsesAll, UsesCheck};
@@ -20,7 +21,7 @@ use gh_path::condition::{CheckKind, Start};
 use std::alloc::{AllocError, Global};
 
 /// The start assertion.
-fn start_of(procedure: &Procedure, start: Start) -> &Assertion
+fn start_assertion(procedure: &Procedure, start: Start) -> &Assertion
     requires { StartIsThere (procedure_of procedure.now) (start_of start) }
     ensures { formula_of result.now ≡ meets_at (procedure_of procedure.now) (start_of start) }
 {
@@ -51,7 +52,7 @@ impl<'a> Walker<'a> {
         ensures begins { IfOk result (Begins context.entry start self.old self.new) }
         ensures version { OnOk result (self.new.version ≡ self.old.version) }
     {
-        let assertion = start_of(context.procedure, start);
+        let assertion = start_assertion(context.procedure, start);
         let bound = self.walk_bound(alloc, assertion)?;
         Ok(bound)
     }

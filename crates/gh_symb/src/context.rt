@@ -1,7 +1,7 @@
 //! What a condition is of.
 
 ghost use Rattle.gh_ast.specs.Plain.{program_of};
-ghost use Rattle.gh_path.specs.Kept.{Fits};
+ghost use Rattle.gh_path.specs.Kept.{IsScoped};
 ghost use Rattle.gh_symb.specs.Contexts.{IsContextOf};
 
 use gh_ast::typed::Typed;
@@ -17,7 +17,7 @@ pub struct Context<'a> {
 
 /// What a condition of a program is of.
 pub fn context_of<'a>(typed: &'a Typed, condition: &Condition) -> Context<'a>
-    requires { Fits (program_of typed.now) condition.now }
+    requires { IsScoped (program_of typed.now) condition.now }
     ensures { IsContextOf (program_of typed.now) condition.now result }
 {
     let program = typed.program();

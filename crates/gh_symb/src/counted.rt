@@ -2,8 +2,8 @@
 
 ghost use Rattle.std.specs.Prelude.{IfOk};
 ghost use Rattle.gh_ast.specs.Plain.{program_of};
-ghost use Rattle.gh_path.specs.Kept.{Fits};
-ghost use Rattle.gh_symb.specs.Steps.{HoldsFor, IsCount};
+ghost use Rattle.gh_path.specs.Kept.{IsScoped, HoldsFor};
+ghost use Rattle.gh_symb.specs.Steps.{IsCount};
 
 use crate::context::context_of;
 use crate::count::{Counted, MOST_TERMS};
@@ -14,7 +14,7 @@ use std::alloc::{AllocError, Global};
 
 /// Counts the terms and versions of a condition of a program.
 pub fn counted(alloc: Global, typed: &Typed, condition: &Condition) -> Result<Counted, AllocError>
-    requires { Fits (program_of typed.now) condition.now }
+    requires { IsScoped (program_of typed.now) condition.now }
     ensures { IfOk result (λ n. HoldsFor (program_of typed.now) condition.now (λ P p c. IsCount P p c n)) }
 {
     let context = context_of(typed, condition);

@@ -1,10 +1,12 @@
-//! Steps over terms, made from kept ones.
+//! The steps of a condition, over terms.
 
 ghost use Rattle.std.specs.Prelude.{◌≡◌, ◌+◌, ◌<◌, ◌≤◌, IfOk, OnOk};
 ghost use Rattle.gh_path.specs.Terms.{expr_term, term_of};
 ghost use Rattle.gh_path.specs.declared.condition.PathStep.TheVariants.{Loop as OnLoop};
 ghost use Rattle.gh_symb.specs.Fitting.{EncodesStep, IsTermOf, JoinsParts};
-ghost use Rattle.gh_path.specs.Kept.{step_of, HasCallee, HasLoop, StepIsThere};
+ghost use Rattle.gh_path.specs.Graphs.{HasProcedure, HasLoop};
+ghost use Rattle.gh_path.specs.Conditions.{StepIsThere};
+ghost use Rattle.gh_path.specs.Kept.{step_of};
 ghost use Rattle.gh_symb.specs.Contexts.{procedure_in, program_in};
 ghost use Rattle.gh_symb.specs.Steps.{cell_made, value_set, ChangesCell, KeepsHeap};
 ghost use Rattle.gh_symb.specs.Walkers.{call_done, call_read, cell_read, terms_at, Goes};
@@ -151,7 +153,7 @@ impl<'a> Walker<'a> {
         targets: &'a [Occ],
         arguments: &'a [Expr],
     ) -> Result<TermStep<'a>, AllocError>
-        requires callee { HasCallee (program_in context) callee }
+        requires callee { HasProcedure (program_in context) callee }
         requires room { self.old.version < 9223372036854775807 }
         ensures done { OnOk result (DoesCall context.entry callee targets.now arguments.now self.old self.new) }
         ensures read { IfOk result (λ step. ReadsCall context.entry callee arguments.now self.old step) }

@@ -3,9 +3,9 @@
 ghost use Rattle.std.specs.Prelude.{◌≡◌, ◌+◌};
 ghost use Rattle.gh_ast.specs.Plain.{procedure_of, program_of};
 ghost use Rattle.gh_path.specs.Admitted.{most_terms};
-ghost use Rattle.gh_path.specs.Kept.{Fits};
+ghost use Rattle.gh_path.specs.Kept.{IsScoped, HoldsFor};
 ghost use Rattle.gh_symb.specs.Limits.{IsLimitOf, Passes};
-ghost use Rattle.gh_symb.specs.Steps.{HoldsFor, IsCount};
+ghost use Rattle.gh_symb.specs.Steps.{IsCount};
 
 use crate::count::{Counted, MOST_TERMS, MOST_VERSIONS};
 use gh_ast::Procedure;
@@ -47,7 +47,7 @@ fn limit_at(procedure: &Procedure, kind: u8, count: u32) -> Limit
 
 /// The limit on terms, as a condition of a program passes it.
 pub(crate) fn terms_limit(typed: &Typed, condition: &Condition) -> Limit
-    requires { Fits (program_of typed.now) condition.now }
+    requires { IsScoped (program_of typed.now) condition.now }
     ensures { HoldsFor (program_of typed.now) condition.now (λ P p c. IsLimitOf p 6 (most_terms + 1) result) }
 {
     let procedure = &typed.program().procedures[condition.procedure as usize];
@@ -57,7 +57,7 @@ pub(crate) fn terms_limit(typed: &Typed, condition: &Condition) -> Limit
 /// The limit that a condition of a program with these counts passes, if it passes one: kind 6 before
 /// kind 7.
 pub(crate) fn limit_of(typed: &Typed, condition: &Condition, counts: Counted) -> Option<Limit>
-    requires { Fits (program_of typed.now) condition.now }
+    requires { IsScoped (program_of typed.now) condition.now }
     ensures { HoldsFor (program_of typed.now) condition.now (λ P p c. IsCount P p c counts → Passes P p c result) }
 {
     match counts {

@@ -1,8 +1,7 @@
 //! The loops of a body by their numbers.
 
 ghost use Rattle.gh_ast.specs.Plain.{statement_of, statements_view, procedure_of};
-ghost use Rattle.gh_path.specs.Graphs.{loops, all_loops};
-ghost use Rattle.gh_path.specs.Kept.{HasLoop};
+ghost use Rattle.gh_path.specs.Graphs.{loops, all_loops, HasLoop};
 ghost use Rattle.gh_symb.specs.Rounds.{IsAnswer, IsRoundOf};
 
 use gh_ast::{Assertion, Block, Procedure, Stmt};

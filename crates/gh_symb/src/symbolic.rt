@@ -1,11 +1,10 @@
-//! A condition over terms, made from a kept one.
+//! A condition over terms.
 
 ghost use Rattle.std.specs.Prelude.{IfOk, IfErr};
 ghost use Rattle.gh_ast.specs.Plain.{Procedure, Program, program_of};
 ghost use Rattle.gh_path.specs.Conditions as plain;
-ghost use Rattle.gh_path.specs.Kept.{Fits};
+ghost use Rattle.gh_path.specs.Kept.{IsScoped, HoldsFor};
 ghost use Rattle.gh_symb.specs.Limits.{PassesNone, IsRefusedBy};
-ghost use Rattle.gh_symb.specs.Steps.{HoldsFor};
 ghost use Rattle.gh_symb.specs.Encoded.{IsSymbolic};
 ghost use Rattle.gh_symb.specs.Walked.{EncodesWalked, IsWalkedFar, IsWithinLimits};
 
@@ -41,7 +40,7 @@ fn walk<'a>(
     typed: &'a Typed,
     condition: &'a Condition,
 ) -> Result<Option<Walked<'a>>, AllocError>
-    requires { Fits (program_of typed.now) condition.now }
+    requires { IsScoped (program_of typed.now) condition.now }
     ensures { IfOk result (λ o. HoldsFor (program_of typed.now) condition.now (λ P p c. IsWalkedFar P p c o)) }
 {
     let context = context_of(typed, condition);
@@ -101,7 +100,7 @@ pub fn symbolic<'a>(
     typed: &'a Typed,
     condition: &'a Condition,
 ) -> Result<Symbolic<'a>, SymbolicError>
-    requires { Fits (program_of typed.now) condition.now }
+    requires { IsScoped (program_of typed.now) condition.now }
     ensures encoded { IfOk result (λ s. HoldsFor (program_of typed.now) condition.now (λ P p c. IsSymbolic P p c s)) }
     ensures few { IfOk result (λ _. HoldsFor (program_of typed.now) condition.now PassesNone) }
     ensures refused { IfErr result (λ e. HoldsFor (program_of typed.now) condition.now (IsRefusedBy e)) }

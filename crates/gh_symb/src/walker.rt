@@ -3,7 +3,9 @@
 ghost use Rattle.std.specs.Prelude.{◌≡◌, OnOk, IfOk};
 ghost use Rattle.gh_path.specs.Terms.{no_terms};
 ghost use Rattle.gh_symb.specs.Reads.{each_walked_of, walked_of};
-ghost use Rattle.gh_path.specs.Kept.{step_of, HasLoop, StepIsThere};
+ghost use Rattle.gh_path.specs.Graphs.{HasLoop};
+ghost use Rattle.gh_path.specs.Conditions.{StepIsThere};
+ghost use Rattle.gh_path.specs.Kept.{step_of};
 ghost use Rattle.gh_symb.specs.Contexts.{procedure_in, program_in};
 ghost use Rattle.gh_symb.specs.Walkers.{terms_at, Goes, ReadsAssertion, ReadsWays, UsesStep, WalksInvariant};
 

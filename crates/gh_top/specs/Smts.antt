@@ -4,7 +4,7 @@ use Rattle.gh_ast.specs.Plain.{Procedure, Program}
 use Rattle.gh_path.specs.Conditions.{Condition, conditions}
 use Rattle.gh_symb.specs.Symbolic.{symbolic_of}
 use Rattle.gh_symb.specs.Formulas.{problem}
-use Rattle.gh_symb.specs.Steps.{HoldsFor}
+use Rattle.gh_path.specs.Kept.{HoldsFor}
 use Rattle.gh_base.specs.Grounds.{Problem}
 use Rattle.gh_smt.specs.Scripts.{assertion_count, script_of}
 use Rattle.gh_smt.specs.Laws.{DecidesCondition}

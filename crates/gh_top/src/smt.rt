@@ -3,8 +3,7 @@
 ghost use Rattle.std.specs.Prelude.{◌≡◌, ◌≤◌, IfOk};
 ghost use Rattle.gh_ast.specs.Plain.{program_of};
 ghost use Rattle.gh_path.specs.Admitted.{IsAdmitted};
-ghost use Rattle.gh_path.specs.Kept.{Fits, IsOne};
-ghost use Rattle.gh_symb.specs.Steps.{HoldsFor};
+ghost use Rattle.gh_path.specs.Kept.{IsScoped, IsOne, HoldsFor};
 ghost use Rattle.gh_top.specs.Lines.{unnumbered_line, script_limit_line};
 ghost use Rattle.gh_top.specs.Smts.{ReportsScript};
 ghost use Rattle.gh_top.specs.Replies.{RepliesOnFile, smt_of};
@@ -39,7 +38,7 @@ fn unnumbered(alloc: Global, number: u32, count: u32) -> Result<Report, AllocErr
 
 // The place of the name of a condition's procedure.
 fn place(typed: &Typed, condition: &Condition) -> Span
-    requires { Fits (program_of typed.now) condition.now }
+    requires { IsScoped (program_of typed.now) condition.now }
     ensures { HoldsFor (program_of typed.now) condition.now (λ _ p _. result ≡ p.name.span) }
 {
     let procedure = &typed.program().procedures[condition.procedure as usize];

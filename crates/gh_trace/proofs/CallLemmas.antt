@@ -10,8 +10,7 @@ use Rattle.gh_ast.specs.Programs.{names, parameters_of, results_of}
 use Rattle.gh_ast.proofs.Lists.{same_values, one_value}
 use Rattle.gh_assert.specs.Meaning.{Store, MeetsOneOf, HasPart}
 use Rattle.gh_assert.specs.Values.{Give}
-use Rattle.gh_path.specs.Graphs.{called, entry}
-use Rattle.gh_path.specs.Kept.{IsCallee}
+use Rattle.gh_path.specs.Graphs.{called, entry, IsProcedureAt}
 use Rattle.gh_trace.specs.Settings.{IsEntered, IsNeverEntered}
 use Rattle.gh_trace.specs.Traces.{State, Replaced, Takes, Passes}
 use Rattle.gh_trace.specs.Laws.{HasOwnNames}
@@ -20,11 +19,11 @@ use Rattle.gh_trace.proofs.StepLemmas.{Kept}
 
 -- the callee of a number, and the values of the arguments
 pub record IsCall (P : Program) (n : ℕ) (q : Procedure) (es : List Expr) (x : State) (given : List ℕ) : Type 0 where
-  pub callee : IsCallee P n q
+  pub callee : IsProcedureAt P n q
   pub gives : Give x.store x.heap es given
 
 -- as many values as parameters
-pub count_given : (P : Program) (n : ℕ) (q r : Procedure) (es : List Expr) (x : State) (given vs : List ℕ) (inside : Store) → IsCall P n q es x given → IsCallee P n r → Give x.store x.heap es vs → map inside (parameters_of r) ≡ vs
+pub count_given : (P : Program) (n : ℕ) (q r : Procedure) (es : List Expr) (x : State) (given vs : List ℕ) (inside : Store) → IsCall P n q es x given → IsProcedureAt P n r → Give x.store x.heap es vs → map inside (parameters_of r) ≡ vs
     → length given ≡ length q.parameters
 count_given P n q r es x given vs inside call is give arguments =
     let same : r ≡ q = one_value (slice_get P.procedures n) r q is call.callee in
@@ -37,8 +36,8 @@ count_entered q es x given inside gives entered =
     ap length values ∙ length-map (parameters_of q) inside ∙ length-map q.parameters (λ (o : Occ). o.name)
 
 -- a procedure that is never entered
-pub never_entered : (P : Program) (n : ℕ) (q r : Procedure) (es : List Expr) (x : State) (vs : List ℕ) (inside : Store) → IsCallee P n q → IsNeverEntered q es x
-    → IsCallee P n r → Give x.store x.heap es vs → map inside (parameters_of r) ≡ vs → ⊥
+pub never_entered : (P : Program) (n : ℕ) (q r : Procedure) (es : List Expr) (x : State) (vs : List ℕ) (inside : Store) → IsProcedureAt P n q → IsNeverEntered q es x
+    → IsProcedureAt P n r → Give x.store x.heap es vs → map inside (parameters_of r) ≡ vs → ⊥
 never_entered P n q r es x vs inside callee none is give arguments =
     let same : r ≡ q = one_value (slice_get P.procedures n) r q is callee in
     let values : vs ≡ map inside (parameters_of q) = sym arguments ∙ ap (λ (z : Procedure). map inside (parameters_of z)) same in
@@ -47,7 +46,7 @@ never_entered P n q r es x vs inside callee none is give arguments =
 pub count_called : (P : Program) (p : Procedure) (n : ℕ) (q : Procedure) (xs : List Occ) (es : List Expr) (x y : State) (given : List ℕ) → IsCall P n q es x given → Takes P p (called xs n es) x y → length given ≡ length q.parameters
 count_called P p n q xs es x y given call (r, vs, is, give, c) = count_given P n q r es x given vs c.inside call is give c.arguments
 
-pub count_targets : (P : Program) (p : Procedure) (n : ℕ) (q : Procedure) (xs : List Occ) (es : List Expr) (x y : State) → IsCallee P n q → Takes P p (called xs n es) x y → length xs ≡ length q.results
+pub count_targets : (P : Program) (p : Procedure) (n : ℕ) (q : Procedure) (xs : List Occ) (es : List Expr) (x y : State) → IsProcedureAt P n q → Takes P p (called xs n es) x y → length xs ≡ length q.results
 count_targets P p n q xs es x y callee (r, vs, is, give, c) =
     let same : r ≡ q = one_value (slice_get P.procedures n) r q is callee in
     sym (length-map (names xs) y.store ∙ length-map xs (λ (o : Occ). o.name)) ∙ ap length c.targets.given ∙ length-map (results_of r) c.inside ∙ length-map r.results (λ (o : Occ). o.name) ∙ ap (λ (z : Procedure). length z.results) same

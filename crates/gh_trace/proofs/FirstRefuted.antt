@@ -6,12 +6,12 @@ use Rattle.gh_ast.specs.Plain.{Procedure, Program}
 use Rattle.gh_ast.specs.Rules.{IsTyped}
 use Rattle.gh_ast.proofs.Lists.{one_value, not_both}
 use Rattle.gh_path.specs.Answers.{IsNumbered}
-use Rattle.gh_path.specs.Conditions.{Condition, conditions, IsCondition, IsOf}
-use Rattle.gh_path.specs.Kept.{condition_of, IsOne, IsThere}
+use Rattle.gh_path.specs.Conditions.{Condition, conditions, IsCondition, IsOf, IsThere}
+use Rattle.gh_path.specs.Kept.{condition_of, IsOne}
 use Rattle.gh_path.specs.declared.condition.Condition as kept
 use Rattle.gh_path.proofs.Listed.{all_are_listed}
 use Rattle.gh_path.proofs.Numbers.{numbers_are_there}
-use Rattle.gh_trace.specs.Kept.{drawn_of, HasNoCounterexample, IsRefuted}
+use Rattle.gh_trace.specs.Kept.{drawn_of, HasNoCounterexample}
 use Rattle.gh_trace.specs.Refuted.{IsFirst}
 use Rattle.gh_trace.specs.Replay.{Refutes}
 use Rattle.gh_trace.specs.Validity.{IsConditionValid}
@@ -74,7 +74,7 @@ is_there P p r typed one of = numbers_are_there P (condition_of r) p typed (cond
 -- the first that isn't valid
 
 -- the next condition is refuted, after valid ones
-pub next_refuted : (P : Program) (k : ℕ) (r : kept.Condition) (t : Trace) → IsNumbered P (k + 1) (Some r) → IsRefuted P r (drawn_of t) →
+pub next_refuted : (P : Program) (k : ℕ) (r : kept.Condition) (t : Trace) → IsNumbered P (k + 1) (Some r) → Refutes P (condition_of r) (drawn_of t) →
     ((d : Condition) → Contains (take k (conditions P)) d → IsConditionValid P d) → IsFirst P (k + 1) t
 next_refuted P k r t found against valid =
     let c : Condition = condition_of r in

@@ -14,8 +14,8 @@ use Rattle.gh_trace.specs.declared.state.State as kept_state
 use Rattle.gh_trace.specs.declared.replay.ReplayError.{ReplayError}
 use Rattle.gh_trace.specs.declared.replay.ReplayError.TheVariants.{Step, OutOfMemory}
 use Rattle.gh_trace.specs.Traces.{State, Passes}
-use Rattle.gh_trace.specs.Replay.{Drawn, Begins, LeadsTo, FailsAfter}
-use Rattle.gh_trace.specs.Kept.{drawn, IsRefuted, IsFailure}
+use Rattle.gh_trace.specs.Replay.{Drawn, Begins, LeadsTo, FailsAfter, Refutes}
+use Rattle.gh_trace.specs.Kept.{drawn, IsFailure}
 use Rattle.gh_trace.specs.Rest.{RefutesAfter, IsRefutedAfter, IsFailureAfter}
 use Rattle.gh_trace.proofs.Listings.{next}
 
@@ -119,7 +119,7 @@ past P p rs x others x' i n zs len same whole far within all g = record {
 }
 
 -- from a first state on
-pub refutes_whole : (P : Program) (p : Procedure) (r : kept_condition.Condition) (x : Drawn) (ys : List Drawn) → IsOf P (condition_of r) p → Begins p (meets_at p (condition_of r).start) x → IsRefutedAfter P p r x.state ys → IsRefuted P r (x ∷ ys)
+pub refutes_whole : (P : Program) (p : Procedure) (r : kept_condition.Condition) (x : Drawn) (ys : List Drawn) → IsOf P (condition_of r) p → Begins p (meets_at p (condition_of r).start) x → IsRefutedAfter P p r x.state ys → Refutes P (condition_of r) (x ∷ ys)
 refutes_whole P p r x ys of begins after = record {
   procedure = p;
   of = of;

@@ -15,7 +15,7 @@ use Rattle.gh_ast.proofs.Lists.{member_first, member_later}
 use Rattle.gh_ast.proofs.TypedPrograms.{variables_are_distinct, variables_split, needs_are_parameters, gives_are_contract}
 use Rattle.gh_assert.specs.declared.store.Entry.{Entry}
 use Rattle.gh_assert.specs.Stores.{listed_names, store_of, AreDistinct}
-use Rattle.gh_path.specs.Kept.{IsCallee}
+use Rattle.gh_path.specs.Graphs.{IsProcedureAt}
 use Rattle.gh_trace.specs.Laws.{HasOwnNames}
 use Rattle.gh_trace.specs.Settings.{HasDistinctNames}
 use Rattle.gh_trace.specs.Targets.{entries_of}
@@ -117,13 +117,13 @@ contained_at ps n q at = (n, slice_get_within ps n q at, get_or_from_slice_get p
 each_is : {X : Type 0} (P : X → Type 0) (xs : List X) → ((x : X) → Contains xs x → P x) → All P xs
 each_is P xs f k d within = f (get_or xs k d) (k, within, get_or_default xs k (get_or xs k d) d within)
 
-pub own_names : (P : Program) (n : ℕ) (q : Procedure) → IsTyped P → IsCallee P n q → HasOwnNames q
+pub own_names : (P : Program) (n : ℕ) (q : Procedure) → IsTyped P → IsProcedureAt P n q → HasOwnNames q
 own_names P n q typed at = record {
   needs_in = needs_are_parameters P typed q (contained_at P.procedures n q at);
   gives_in = each_is (λ f. FormulaIn f (parameters_of q ++ results_of q)) q.gives (λ f there. gives_are_contract P typed q (contained_at P.procedures n q at) f there);
 }
 
-pub distinct_names : (P : Program) (n : ℕ) (q : Procedure) → IsTyped P → IsCallee P n q → HasDistinctNames q
+pub distinct_names : (P : Program) (n : ℕ) (q : Procedure) → IsTyped P → IsProcedureAt P n q → HasDistinctNames q
 distinct_names P n q typed at =
     distinct_front (parameters_of q ++ results_of q) (names (locals_of q)) (subst Distinct (variables_split q) (variables_are_distinct P typed q (contained_at P.procedures n q at)))
 

@@ -5,7 +5,7 @@ use Rattle.gh_assert.specs.Stores.{listed_names, store_of}
 use Rattle.gh_path.specs.Kept.{condition_of}
 use Rattle.gh_path.specs.declared.condition.Condition as kept_condition
 use Rattle.gh_trace.specs.Traces.{State}
-use Rattle.gh_trace.specs.Replay.{Drawn, FirstFailure, Refutes}
+use Rattle.gh_trace.specs.Replay.{Drawn, FirstFailure}
 use Rattle.gh_trace.specs.Validity.{IsConditionValid}
 use Rattle.gh_trace.specs.declared.state.State as kept_state
 use Rattle.gh_trace.specs.declared.state.Trace as kept_trace
@@ -24,10 +24,6 @@ drawn s = record { listed = listed_names s.store; state = state_of s }
 
 abbrev pub drawn_of : kept_trace.Trace → List Drawn
 drawn_of t = map drawn t.states.items
-
--- the states refute the condition that is kept
-abbrev pub IsRefuted : Program → kept_condition.Condition → List Drawn → Type 0
-IsRefuted P r xs = Refutes P (condition_of r) xs
 
 -- an error other than out of memory has the number of the first failure
 abbrev pub IsFailure : Program → kept_condition.Condition → List Drawn → ReplayError → Type 0

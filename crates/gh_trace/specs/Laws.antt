@@ -10,9 +10,8 @@ use Rattle.gh_ast.specs.WellFormed.{IsFormedTest}
 use Rattle.gh_assert.specs.Heaps.{Heap, IsProper, Splits}
 use Rattle.gh_assert.specs.Meaning.{Store, Meaning, HasPart, MeetsOneOf, truth}
 use Rattle.gh_assert.specs.Values.{Give, outcome}
-use Rattle.gh_path.specs.Graphs.{Check, entry, PathStep, called}
+use Rattle.gh_path.specs.Graphs.{Check, entry, PathStep, called, IsProcedureAt}
 use Rattle.gh_path.specs.Conditions.{Condition, IsOf}
-use Rattle.gh_path.specs.Kept.{IsCallee}
 use Rattle.gh_trace.specs.Traces.{State, Replaced, Takes, Passes, IsTrace, last_state}
 use Rattle.gh_trace.specs.Replay.{Drawn, FirstFailure, Refutes}
 
@@ -49,13 +48,13 @@ pub record HasOwnNames (p : Procedure) : Type 0 where
 -- any store that gives the parameters the arguments' values decides the check of a call
 abbrev pub EntriesAreOne : Type 0
 EntriesAreOne =
-    (P : Program) (p : Procedure) (at : Span) (n : ℕ) (es : List Expr) (x : State) (q : Procedure) (vs : List ℕ) (inside : Store) → HasOwnNames q → IsCallee P n q →
+    (P : Program) (p : Procedure) (at : Span) (n : ℕ) (es : List Expr) (x : State) (q : Procedure) (vs : List ℕ) (inside : Store) → HasOwnNames q → IsProcedureAt P n q →
     Give x.store x.heap es vs → map inside (parameters_of q) ≡ vs → Passes P p (entry at n es) x ↔ HasPart q.needs inside x.heap
 
 -- and one that also gives the results what the targets got decides its step
 abbrev pub CallsAreOne : Type 0
 CallsAreOne =
-    (P : Program) (p : Procedure) (xs : List Occ) (n : ℕ) (es : List Expr) (x y : State) (q : Procedure) (vs : List ℕ) (inside : Store) → HasOwnNames q → IsCallee P n q →
+    (P : Program) (p : Procedure) (xs : List Occ) (n : ℕ) (es : List Expr) (x y : State) (q : Procedure) (vs : List ℕ) (inside : Store) → HasOwnNames q → IsProcedureAt P n q →
     Give x.store x.heap es vs → map inside (parameters_of q) ≡ vs → map inside (results_of q) ≡ map y.store (names xs) →
     Takes P p (called xs n es) x y ↔ (((m : Name) → (Contains (names xs) m → ⊥) → y.store m ≡ x.store m) × Replaced q.needs inside x.heap (MeetsOneOf q.gives inside) y.heap)
 

@@ -7,7 +7,7 @@ use Rattle.gh_path.specs.Graphs.{Check, PathStep, meets_at}
 use Rattle.gh_path.specs.Conditions.{Condition, IsOf}
 use Rattle.gh_trace.specs.Traces.{State, Takes, Passes, Counterexample}
 
--- a state as it is drawn: the names that its store lists, in their order, and what it says
+-- a state as it is drawn: the names that its store lists, in their order, and the state
 pub record Drawn : Type 0 where
   pub listed : List Name
   pub state : State
@@ -20,7 +20,8 @@ Begins p f x = (x.listed ≡ variable_names p) × Meaning f x.state.store x.stat
 abbrev pub LeadsTo : Program → Procedure → PathStep → State → Drawn → Type 0
 LeadsTo P p s x y = (y.listed ≡ variable_names p) × Takes P p s x y.state
 
--- a state is missing, or the step doesn't lead to it; or at the end the check is passed, or more states follow
+-- a state is missing, or the step doesn't lead to it; or at the end the check is passed, or more states follow. These
+-- steps are counted from 1, and the check as one more
 abbrev pub FailsAfter : Program → Procedure → State → List PathStep → Check → List Drawn → ℕ → Type 0
 FailsAfter P p x [] c [] n = Passes P p c x × (n ≡ 1)
 FailsAfter P p x [] c (y ∷ ys) n = n ≡ 1

@@ -9,10 +9,10 @@ use Rattle.gh_assert.specs.Values.{result, Give, compared, Gets}
 use Rattle.gh_ast.specs.Programs.{Name, names, parameters_of, results_of, SomeAssigns}
 use Rattle.gh_path.specs.Graphs.{Check, access, entry, loop_entry, returned, loop_end, PathStep, accessed, assume}
 use Rattle.gh_path.specs.Graphs.{assigned, made, written, freed, called, looped, answered, Loop}
-use Rattle.gh_path.specs.Kept.{IsCallee, IsLoop}
+use Rattle.gh_path.specs.Graphs.{IsProcedureAt, IsLoopAt}
 
--- the store tells a value for every name. A store that lists names with their values tells those, and 0 for each other name;
--- whether it lists the variables of the procedure, in their order, is asked where a trace is drawn (`Refutes`, `FirstFailure`).
+-- the store tells a value for every name: one that lists names with values tells those, and 0 for each other name.
+-- Whether it lists the procedure's variables, in their order, is asked of drawn states (`Refutes`, `FirstFailure`).
 -- A program that keeps the type rules neither reads nor assigns a name that is no variable
 pub record State : Type 0 where
   pub store : Store
@@ -28,7 +28,8 @@ pub record Replaced (f : Formula) (s : Store) (h : Heap) (Q : Heap → Type 0) (
   pub joins : Splits k other frame
   pub meets : Q other
 
--- the callee's variables: the parameters have the arguments' values, the results those that the targets get
+-- a call of p with the values vs, for the targets xs. `inside` is the callee's store: the parameters have vs, the
+-- results what the targets get. A part that meets what p needs gives way to one that meets one of what it gives
 pub record Called (p : Procedure) (vs : List ℕ) (xs : List Name) (x y : State) : Type 0 where
   pub inside : Store
   pub arguments : map inside (parameters_of p) ≡ vs
@@ -41,7 +42,7 @@ pub record Around (l : Loop) (x y : State) : Type 0 where
   pub replaced : Replaced l.invariant x.store x.heap (Meaning l.invariant y.store) y.heap
   pub kept : (n : Name) → (SomeAssigns l.body n → ⊥) → y.store n ≡ x.store n
 
--- a step of a path of the procedure p leads from one state to another
+-- a step of a path of the procedure p leads from one state to another; that of a number that isn't there nowhere
 abbrev pub Takes : Program → Procedure → PathStep → State → State → Type 0
 Takes P p (accessed o) x y = Allocated x.heap (x.store o.name) × (y ≡ x)
 Takes P p (assume l e r) x y = (compared e (result x.store x.heap l) (result x.store x.heap r) ≡ Some true) × (y ≡ x)
@@ -50,18 +51,18 @@ Takes P p (made o) x y = (l : ℕ) × (v : ℕ) × (l ≢ 0) × (get x.heap l �
 Takes P p (written o e) x y =
     (v : ℕ) × (result x.store x.heap e ≡ Some v) × Allocated x.heap (x.store o.name) × (y ≡ record { store = x.store; heap = insert x.heap (x.store o.name) v })
 Takes P p (freed o) x y = Allocated x.heap (x.store o.name) × (y ≡ record { store = x.store; heap = remove x.heap (x.store o.name) })
-Takes P p (called xs n es) x y = (q : Procedure) × (vs : List ℕ) × IsCallee P n q × Give x.store x.heap es vs × Called q vs (names xs) x y
-Takes P p (looped n) x y = (l : Loop) × IsLoop p n l × Around l x y
+Takes P p (called xs n es) x y = (q : Procedure) × (vs : List ℕ) × IsProcedureAt P n q × Give x.store x.heap es vs × Called q vs (names xs) x y
+Takes P p (looped n) x y = (l : Loop) × IsLoopAt p n l × Around l x y
 Takes P p (answered es) x y = (vs : List ℕ) × Give x.store x.heap es vs × Gets x.store (results_of p) vs y.store × (y.heap ≡ x.heap)
 
--- the check is passed in the state
+-- the check is passed in the state, as is one of a number that isn't there
 abbrev pub Passes : Program → Procedure → Check → State → Type 0
 Passes P p (access o) x = Allocated x.heap (x.store o.name)
 Passes P p (entry at n es) x =
-    (q : Procedure) (vs : List ℕ) (inside : Store) → IsCallee P n q → Give x.store x.heap es vs → map inside (parameters_of q) ≡ vs → HasPart q.needs inside x.heap
-Passes P p (loop_entry at n) x = (l : Loop) → IsLoop p n l → HasPart l.invariant x.store x.heap
+    (q : Procedure) (vs : List ℕ) (inside : Store) → IsProcedureAt P n q → Give x.store x.heap es vs → map inside (parameters_of q) ≡ vs → HasPart q.needs inside x.heap
+Passes P p (loop_entry at n) x = (l : Loop) → IsLoopAt p n l → HasPart l.invariant x.store x.heap
 Passes P p (returned at) x = MeetsOneOf p.gives x.store x.heap
-Passes P p (loop_end at n) x = (l : Loop) → IsLoop p n l → Meaning l.invariant x.store x.heap
+Passes P p (loop_end at n) x = (l : Loop) → IsLoopAt p n l → Meaning l.invariant x.store x.heap
 
 -- one state for each step, after the first state
 abbrev pub IsTrace : Program → Procedure → State → List PathStep → List State → Type 0

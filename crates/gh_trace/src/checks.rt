@@ -2,7 +2,8 @@
 
 ghost use Rattle.std.specs.Prelude.{◌≡◌, ◌↔◌, IfOk, IfNone, IfSome, IsTrue};
 ghost use Rattle.gh_ast.specs.Plain.{procedure_of};
-ghost use Rattle.gh_path.specs.Kept.{start_of, StartIsThere};
+ghost use Rattle.gh_path.specs.Conditions.{StartIsThere};
+ghost use Rattle.gh_path.specs.Kept.{start_of};
 ghost use Rattle.gh_trace.specs.Parts.{IsReturned};
 ghost use Rattle.gh_assert.specs.Stores.{listed_names};
 ghost use Rattle.gh_trace.specs.Kept.{state_of};

@@ -3,8 +3,9 @@
 ghost use Rattle.std.specs.Prelude.{◌≡◌, ℕ, ◌+◌, ◌≤◌, min, IfOk, IfNone, IfSome};
 ghost use Rattle.gh_ast.specs.Plain.{program_of};
 ghost use Rattle.gh_path.specs.Admitted.{IsAdmitted};
-ghost use Rattle.gh_path.specs.Kept.{IsOne};
-ghost use Rattle.gh_trace.specs.Kept.{drawn_of, HasNoCounterexample, IsRefuted};
+ghost use Rattle.gh_path.specs.Kept.{IsOne, condition_of};
+ghost use Rattle.gh_trace.specs.Kept.{drawn_of, HasNoCounterexample};
+ghost use Rattle.gh_trace.specs.Replay.{Refutes};
 
 use crate::state::Trace;
 use gh_ast::typed::Typed;
@@ -31,7 +32,7 @@ pub trait Decider {
         requires one { IsOne (program_of typed.now) condition.now }
         ensures none { IfOk result (λ o. IfNone o (HasNoCounterexample (program_of typed.now) condition.now)) }
         ensures some { IfOk result (λ o. IfSome o (λ t.
-            IsRefuted (program_of typed.now) condition.now (drawn_of t))) }
+            Refutes (program_of typed.now) (condition_of condition.now) (drawn_of t))) }
         ensures counted { IfOk result (λ _. calls self.new ≡ min last (calls self.old + 1)) }
         ensures never_falls { calls self.old ≤ calls self.new }
         ensures at_most_one { calls self.new ≤ calls self.old + 1 };

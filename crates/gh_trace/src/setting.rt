@@ -3,8 +3,7 @@
 ghost use Rattle.std.specs.Prelude.{◌≡◌, IfNone, IfSome, slice_get, None};
 ghost use Rattle.gh_ast.specs.Plain.{procedure_of, program_of};
 ghost use Rattle.gh_ast.specs.Rules.{IsTyped};
-ghost use Rattle.gh_path.specs.Graphs.{loops_of};
-ghost use Rattle.gh_path.specs.Kept.{IsCallee, IsLoop};
+ghost use Rattle.gh_path.specs.Graphs.{loops_of, IsProcedureAt, IsLoopAt};
 ghost use Rattle.gh_path.specs.Walking.{loop_of};
 ghost use Rattle.gh_trace.specs.Settings.{HasLoops, HasDistinctNames, here};
 ghost use Rattle.gh_trace.specs.Laws.{HasOwnNames};
@@ -23,7 +22,7 @@ pub struct Setting<'t> {
 
 /// The procedure of a number in a program.
 pub fn procedure_in(program: &Program, number: u16) -> Option<&Procedure>
-    ensures some { IfSome result (λ q. IsCallee (program_of program.now) number (procedure_of q.now)) }
+    ensures some { IfSome result (λ q. IsProcedureAt (program_of program.now) number (procedure_of q.now)) }
     ensures none { IfNone result (slice_get (program_of program.now).procedures number ≡ None) }
 {
     program.procedures.get(usize::from(number))
@@ -31,7 +30,7 @@ pub fn procedure_in(program: &Program, number: u16) -> Option<&Procedure>
 
 /// The procedure of a number in a typed program.
 pub fn procedure_at(typed: &Typed, number: u16) -> Option<&Procedure>
-    ensures some { IfSome result (λ q. IsCallee (program_of typed.now) number (procedure_of q.now)) }
+    ensures some { IfSome result (λ q. IsProcedureAt (program_of typed.now) number (procedure_of q.now)) }
     ensures none { IfNone result (slice_get (program_of typed.now).procedures number ≡ None) }
     ensures typed { IsTyped (program_of typed.now) }
     ensures own { IfSome result (λ q. HasOwnNames (procedure_of q.now)) }
@@ -44,7 +43,7 @@ impl<'t> Setting<'t> {
     /// The loop of a number.
     pub fn round(self, number: u16) -> Option<While<'t>>
         requires { HasLoops self }
-        ensures some { IfSome result (λ w. IsLoop (here self.entry) number (loop_of w)) }
+        ensures some { IfSome result (λ w. IsLoopAt (here self.entry) number (loop_of w)) }
         ensures none { IfNone result (slice_get (loops_of (here self.entry)) number ≡ None) }
     {
         self.loops.get(usize::from(number)).copied()

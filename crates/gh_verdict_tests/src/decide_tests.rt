@@ -6,8 +6,7 @@ ghost use Rattle.gh_ast.specs.Plain.{program_of};
 ghost use Rattle.gh_ast.specs.Rules.{IsTyped};
 ghost use Rattle.gh_path.specs.Admitted.{IsAdmitted};
 ghost use Rattle.gh_symb.specs.Encoded.{IsSymbolic};
-ghost use Rattle.gh_symb.specs.Steps.{HoldsFor};
-ghost use Rattle.gh_path.specs.Kept.{IsOne};
+ghost use Rattle.gh_path.specs.Kept.{IsOne, HoldsFor};
 
 use gh_ast::typed::Typed;
 use gh_decide::decide::{Verdict, decide, over_terms};

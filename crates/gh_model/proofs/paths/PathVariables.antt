@@ -14,7 +14,7 @@ use Rattle.gh_ast.proofs.Lists.{member_first, member_later, member_cases, no_mem
 use Rattle.gh_ast.proofs.Sites.{AllIn, member_map, occurrence_of, expr_in, test_in, formula_in, site_in_body}
 use Rattle.gh_ast.proofs.TypedPrograms.{mention_is_variable, needs_are_variables, gives_are_variables, variables_split}
 use Rattle.gh_path.specs.Graphs.{Check, access, entry, loop_entry, returned, loop_end, PathStep, accessed, assume, assigned, made, written, freed, called, looped, answered, Graph, dead_end, ends, moves, guarded, fork, reads, all_reads, visits, tested, all_tested, some_tested, number_of, lowered, all_lowered, Loop, loops, all_loops, loops_of, Start, whole_body, round, invariant_of, meets_at, around, graph_from}
-use Rattle.gh_path.specs.Kept.{IsLoop}
+use Rattle.gh_path.specs.Graphs.{IsLoopAt}
 use Rattle.gh_path.specs.Paths.{Path, at_end, arrived, past, on, on_true, on_false}
 use Rattle.gh_model.proofs.terms.Alternatives.{all_of_members}
 use Rattle.gh_path.proofs.ListLemmas.{member as numbered}
@@ -31,7 +31,7 @@ IsVariable q y = Contains (variable_names q) y
 
 -- the invariant of the loop of a number is over variables
 abbrev pub LoopIsIn : Procedure → ℕ → Type 0
-LoopIsIn q n = (l : Loop) → IsLoop q n l → FormulaIn l.invariant (variable_names q)
+LoopIsIn q n = (l : Loop) → IsLoopAt q n l → FormulaIn l.invariant (variable_names q)
 
 abbrev pub StepIn : Procedure → PathStep → Type 0
 StepIn q (accessed o) = IsVariable q o.name
@@ -161,7 +161,7 @@ mutual
 record IsOwn (q : Procedure) : Type 0 where
   gives : All (λ f. FormulaIn f (variable_names q)) q.gives
   results : AllOf (results_of q) (variable_names q)
-  loops : (n : ℕ) (l : Loop) → IsLoop q n l → LoopIn (variable_names q) l
+  loops : (n : ℕ) (l : Loop) → IsLoopAt q n l → LoopIn (variable_names q) l
 
 loop_is_in : (q : Procedure) → IsOwn q → (n : ℕ) → LoopIsIn q n
 loop_is_in q O n l is = (O.loops n l is).invariant

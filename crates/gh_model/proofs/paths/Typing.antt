@@ -14,8 +14,8 @@ use Rattle.gh_ast.proofs.Lists.{member_first, member_later, member_cases, no_mem
 use Rattle.gh_ast.proofs.Sites.{site_in_body}
 use Rattle.gh_ast.proofs.TypedPrograms.{variables_are_distinct, variables_split, targets_are_distinct, callee_is_known, counts_agree, values_are_counted}
 use Rattle.gh_path.specs.Graphs.{Check, access, entry, loop_entry, returned, loop_end, PathStep, accessed, assume, assigned, made, written, freed, called, looped, answered, Graph, dead_end, ends, moves, guarded, fork, reads, all_reads, visits, tested, all_tested, some_tested, number_of, lowered, all_lowered, Loop, loops, all_loops, loops_of, Start, whole_body, round, around, graph_from}
-use Rattle.gh_path.specs.Conditions.{Condition, IsCondition, IsOf}
-use Rattle.gh_path.specs.Kept.{IsCallee, IsLoop, HasLoop, StepIsThere, CheckIsThere}
+use Rattle.gh_path.specs.Conditions.{Condition, IsCondition, IsOf, StepIsThere, CheckIsThere}
+use Rattle.gh_path.specs.Graphs.{IsProcedureAt, IsLoopAt, HasLoop}
 use Rattle.gh_path.specs.Paths.{Path, at_end, arrived, past, on, on_true, on_false}
 use Rattle.gh_path.proofs.FormLemmas.{callees_are_numbered}
 use Rattle.gh_path.proofs.Numbers.{numbers_are_there}
@@ -38,7 +38,7 @@ Distinct (x ∷ xs) = (Contains xs x → ⊥) × Distinct xs
 -- a callee with as many parameters as there are arguments
 pub record IsFitEntry (P : Program) (n : ℕ) (es : List Expr) : Type 0 where
   pub callee : Procedure
-  pub at : IsCallee P n callee
+  pub at : IsProcedureAt P n callee
   pub arguments : length es ≡ length (parameters_of callee)
 
 -- and as many results as there are targets
@@ -49,7 +49,7 @@ pub record IsFitCall (P : Program) (ts : List Occ) (n : ℕ) (es : List Expr) : 
 
 -- the procedure has a loop of the number
 abbrev pub IsFitLoop : Procedure → ℕ → Type 0
-IsFitLoop p n = (l : Loop) × IsLoop p n l
+IsFitLoop p n = (l : Loop) × IsLoopAt p n l
 
 -- where the variables of R were accessed since the last other step
 abbrev pub IsPrepared : Program → Procedure → (Name → Type 0) → PathStep → Type 0

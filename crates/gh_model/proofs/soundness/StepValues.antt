@@ -15,7 +15,7 @@ use Rattle.gh_assert.specs.Values.{Gets}
 use Rattle.gh_assert.proofs.Cells.{get_put}
 use Rattle.gh_path.specs.Graphs as path
 use Rattle.gh_path.specs.Terms.{Bindings, unbound, all_bound, Terms, terms, used, term_of, followed, expr_used, expr_term, exprs_used, exprs_terms, walked, moved_on, rebound, with_value, some_assigns, bound_inside, call_walked, loop_walked, invariant_walked, step_walked, each_walked}
-use Rattle.gh_path.specs.Kept.{IsCallee, IsLoop}
+use Rattle.gh_path.specs.Graphs.{IsProcedureAt, IsLoopAt}
 use Rattle.gh_symb.specs.Symbolic.{Under, TermStep, call_parts, loop_parts, term_step, step_used}
 use Rattle.gh_model.proofs.terms.Alternatives.{alternative_of}
 use Rattle.gh_trace.specs.Traces.{State, Called, Around, Takes}
@@ -125,7 +125,7 @@ result_terms W inside T (r ∷ rs) G known =
 
 -- a call of a procedure
 call_values : (H : ℕ → Heap) (V : List ℕ) (P : Program) (p : Procedure) (ys : List Occ) (n : ℕ) (es : List Expr) (vs : List ℕ) (T : Terms) (x y : State) → IsValuation H V x.store T → H T.version ≡ x.heap → map (slice_get V) (exprs_terms es T) ≡ map Some vs
-    → IsCallee P n p → Called p vs (names ys) x y
+    → IsProcedureAt P n p → Called p vs (names ys) x y
     → StepValues H V P (path.called ys n es) x y T (call_walked (Some p) (names ys) (exprs_terms es T) T) (call_parts (Some p) (exprs_terms es T) T)
 call_values H V P p ys n es vs T x y S at args callee C =
     let ts = exprs_terms es T in
@@ -178,7 +178,7 @@ called_values H V P home ys n es s x y S at takes =
 
 -- the loops of a procedure assign variables of it alone
 abbrev pub LoopsAreOver : Procedure → Type 0
-LoopsAreOver p = (n : ℕ) (l : path.Loop) → IsLoop p n l → NamesIn (variable_names p) l.body
+LoopsAreOver p = (n : ℕ) (l : path.Loop) → IsLoopAt p n l → NamesIn (variable_names p) l.body
 
 -- once around a loop, any number of times
 loop_values : (H : ℕ → Heap) (V : List ℕ) (P : Program) (xs : List Name) (n : ℕ) (l : path.Loop) (s : Terms) (x y : State) → NamesIn xs l.body → IsValuation H V x.store s → Around l x y

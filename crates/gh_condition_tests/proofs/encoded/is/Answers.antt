@@ -3,7 +3,7 @@ use Rattle.gh_ast.specs.declared.Program.{Program}
 use Rattle.gh_ast.specs.Plain.{program_of}
 use Rattle.gh_ast.specs.Rules.{IsTyped}
 use Rattle.gh_path.specs.Answers.{IsNumbered}
-use Rattle.gh_symb.proofs.AdmitLemmas.{numbered_fits}
+use Rattle.gh_symb.proofs.AdmitLemmas.{numbered_is_scoped}
 use Rattle.gh_condition_tests.proofs.encoded.is.Goals as goal
 
 pub meets-requires : goal.meets-requires
@@ -13,4 +13,4 @@ meets-requires c =
     let found = subst (λ (p : Program). IsNumbered (program_of p) c.args.number (Some r)) c.in-Ok-conditions.ensures.same listed in
     let rules = c.in-Ok-check.ensures in
     let typed = subst (λ (p : Program). IsTyped (program_of p)) (sym rules.ok) rules.rules in
-    numbered_fits (program_of c.in-Ok-check.typed) c.args.number r typed found
+    numbered_is_scoped (program_of c.in-Ok-check.typed) c.args.number r typed found

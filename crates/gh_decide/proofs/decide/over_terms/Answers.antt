@@ -1,6 +1,6 @@
 use Rattle.gh_ast.specs.Plain.{program_of}
 use Rattle.gh_path.specs.Kept.{condition_of}
-use Rattle.gh_path.proofs.Numbers.{one_fits}
+use Rattle.gh_path.proofs.Numbers.{one_is_scoped}
 use Rattle.gh_symb.specs.Limits.{IsConditionRefusal}
 use Rattle.gh_symb.specs.declared.limits.SymbolicError.TheVariants.{Limit}
 use Rattle.gh_trace.proofs.FirstRefuted.{condition_one}
@@ -8,7 +8,7 @@ use Rattle.gh_decide.proofs.Parts.{never_refused}
 use Rattle.gh_decide.proofs.decide.over_terms.Goals as goal
 
 pub symbolic-requires : goal.symbolic-requires
-symbolic-requires c = one_fits (program_of c.args.typed.now) c.args.condition.now c.requires.admitted.typed c.requires.one
+symbolic-requires c = one_is_scoped (program_of c.args.typed.now) c.args.condition.now c.requires.admitted.typed c.requires.one
 
 pub unreachable-requires : goal.unreachable-requires
 unreachable-requires c =

@@ -1,6 +1,6 @@
 use Rattle.std.proofs.Common.{◌∙◌, ◌++◌, ap, sym, subst, arith}
 use Rattle.gh_ast.specs.Plain.{procedure_of, program_of}
-use Rattle.gh_path.specs.Kept.{Fits}
+use Rattle.gh_path.specs.Kept.{IsScoped}
 use Rattle.gh_draw.specs.Kept.{Describes}
 use Rattle.gh_draw.proofs.Told.{procedure_within, all_there, described}
 use Rattle.gh_draw.proofs.describe.describe.Goals as goal
@@ -9,7 +9,7 @@ pub index-procedure-requires : goal.index-procedure-requires
 index-procedure-requires c =
     let Q = c.program-program.result.now in
     let r = c.args.condition.now in
-    let fits : Fits (program_of Q) r = subst (λ x. Fits (program_of x) r) (sym c.program-program.ensures.same) c.requires in
+    let fits : IsScoped (program_of Q) r = subst (λ x. IsScoped (program_of x) r) (sym c.program-program.ensures.same) c.requires in
     let within = procedure_within Q r fits in
     omega (arith, within, Q.procedures.ok)
 
@@ -17,7 +17,7 @@ pub push_start-requires : goal.push_start-requires
 push_start-requires c =
     let Q = c.program-program.result.now in
     let r = c.args.condition.now in
-    let fits : Fits (program_of Q) r = subst (λ x. Fits (program_of x) r) (sym c.program-program.ensures.same) c.requires in
+    let fits : IsScoped (program_of Q) r = subst (λ x. IsScoped (program_of x) r) (sym c.program-program.ensures.same) c.requires in
     (all_there Q r c.index-procedure.result.now fits c.index-procedure.ensures).start
 
 pub push_kind-requires : goal.push_kind-requires
@@ -25,7 +25,7 @@ push_kind-requires c =
     let Q = c.program-program.result.now in
     let r = c.args.condition.now in
     let q = c.index-procedure.result.now in
-    let fits : Fits (program_of Q) r = subst (λ x. Fits (program_of x) r) (sym c.program-program.ensures.same) c.requires in
+    let fits : IsScoped (program_of Q) r = subst (λ x. IsScoped (program_of x) r) (sym c.program-program.ensures.same) c.requires in
     (procedure_of q, r.check.span, (all_there Q r q fits c.index-procedure.ensures).check)
 
 pub returns : goal.returns
@@ -33,7 +33,7 @@ returns c =
     let Q = c.program-program.result.now in
     let r = c.args.condition.now in
     let q = c.index-procedure.result.now in
-    let fits : Fits (program_of Q) r = subst (λ x. Fits (program_of x) r) (sym c.program-program.ensures.same) c.requires in
+    let fits : IsScoped (program_of Q) r = subst (λ x. IsScoped (program_of x) r) (sym c.program-program.ensures.same) c.requires in
     let a = c.new-text.result in
     let b = c.push.new.self in
     let e = c.push-3.new.self in

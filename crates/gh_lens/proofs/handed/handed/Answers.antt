@@ -1,6 +1,7 @@
 use Rattle.std.proofs.Common.{subst}
 use Rattle.gh_ast.specs.Plain.{procedure_of, program_of}
-use Rattle.gh_path.specs.Kept.{step_of, StepIsThere}
+use Rattle.gh_path.specs.Conditions.{StepIsThere}
+use Rattle.gh_path.specs.Kept.{step_of}
 use Rattle.gh_lens.proofs.handed.handed.Goals as goal
 
 pub handed_to_callee-requires : goal.handed_to_callee-requires

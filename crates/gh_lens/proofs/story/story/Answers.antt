@@ -2,7 +2,8 @@ use Rattle.std.proofs.Common.{◌≡◌, ◌++◌, ◌∙◌, All, None, Some, m
 use Rattle.std.specs.Prelude.{codes}
 use Rattle.gh_ast.specs.Plain.{procedure_of, program_of}
 use Rattle.gh_draw.specs.Drawings.{line}
-use Rattle.gh_path.specs.Kept.{step_of, StepIsThere}
+use Rattle.gh_path.specs.Conditions.{StepIsThere}
+use Rattle.gh_path.specs.Kept.{step_of}
 use Rattle.gh_trace.specs.Kept.{state_of}
 use Rattle.gh_lens.specs.Misses.{IsFailingOr}
 use Rattle.gh_lens.specs.Stories.{TellsSteps}
@@ -13,7 +14,7 @@ pub steps_told-requires-clause-there : goal.steps_told-requires-clause-there
 steps_told-requires-clause-there c =
     let P = program_of c.args.setting.typed.now in
     let p = procedure_of c.args.setting.procedure.now in
-    subst (λ rs. All (StepIsThere P p) (map step_of rs)) (sym c.as_slice.ensures.value) (steps_there P p c.args.condition.now c.requires.fits c.requires.own)
+    subst (λ rs. All (StepIsThere P p) (map step_of rs)) (sym c.as_slice.ensures.value) (steps_there P p c.args.condition.now c.requires.scoped c.requires.own)
 
 pub returns-in_default : goal.returns-in_default
 returns-in_default c =

@@ -7,7 +7,7 @@ use Rattle.gh_lens.proofs.Telling.{told_whole, told_by_a_story, not_empty, has_p
 use Rattle.gh_lens.proofs.story.told_of.Goals as goal
 
 pub unreachable-requires : goal.unreachable-requires
-unreachable-requires c = has_procedure (program_of c.args.typed.now) c.args.condition.now c.requires.fits c.in_default.ensures.none
+unreachable-requires c = has_procedure (program_of c.args.typed.now) c.args.condition.now c.requires.scoped c.in_default.ensures.none
 
 pub unreachable-requires-in_default-split_first : goal.unreachable-requires-in_default-split_first
 unreachable-requires-in_default-split_first c =

@@ -1,7 +1,7 @@
 use Rattle.std.proofs.Common.{Some, sym, subst}
 use Rattle.gh_ast.specs.Plain.{program_of}
 use Rattle.gh_path.specs.Answers.{IsNumbered}
-use Rattle.gh_path.proofs.Numbers.{one_fits}
+use Rattle.gh_path.proofs.Numbers.{one_is_scoped}
 use Rattle.gh_trace.specs.Kept.{drawn_of, IsFailure}
 use Rattle.gh_trace.specs.declared.replay.ReplayError.TheVariants.{Step}
 use Rattle.gh_lens.specs.Stories.{IsExplained}
@@ -27,13 +27,13 @@ replay-requires-clause-few c =
     let found : IsNumbered P n (Some r) = subst (λ Q. IsNumbered Q n (Some r)) c.requires.same (rw c.in-Some.is at c.in_ok-condition.ensures) in
     few_steps P n r c.requires.admitted found
 
-pub told_of-requires-clause-fits : goal.told_of-requires-clause-fits
-told_of-requires-clause-fits c =
+pub told_of-requires-clause-scoped : goal.told_of-requires-clause-scoped
+told_of-requires-clause-scoped c =
     let P = program_of c.args.typed.now in
     let n = c.args.drawing.now.condition in
     let r = c.in-Some.condition in
     let found : IsNumbered P n (Some r) = subst (λ Q. IsNumbered Q n (Some r)) c.requires.same (rw c.in-Some.is at c.in_ok-condition.ensures) in
-    one_fits P r c.requires.admitted.typed (numbered_one P n r found)
+    one_is_scoped P r c.requires.admitted.typed (numbered_one P n r found)
 
 pub told_of-requires-clause-shown : goal.told_of-requires-clause-shown
 told_of-requires-clause-shown c =

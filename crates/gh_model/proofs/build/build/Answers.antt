@@ -7,8 +7,8 @@ use Rattle.gh_ast.proofs.Lists.{one_value}
 use Rattle.gh_ast.proofs.TypedPrograms.{variables_are_distinct}
 use Rattle.gh_path.specs.Conditions.{IsOf}
 use Rattle.gh_path.specs.Kept.{condition_of}
-use Rattle.gh_path.proofs.Numbers.{one_fits}
-use Rattle.gh_symb.proofs.CountLemmas.{fits_within, fits_of}
+use Rattle.gh_path.proofs.Numbers.{one_is_scoped}
+use Rattle.gh_symb.proofs.CountLemmas.{scoped_within, scoped_of}
 use Rattle.gh_trace.specs.Kept.{drawn}
 use Rattle.gh_trace.proofs.FirstRefuted.{condition_one}
 use Rattle.gh_model.specs.KeptTraces.{states_in}
@@ -23,7 +23,7 @@ index-procedure-requires c =
     let r = c.args.condition.now in
     let same = c.program-program.ensures.same in
     let typed : IsTyped (program_of T) = subst (λ Q. IsTyped (program_of Q)) same c.program-program.ensures.typed in
-    let within = fits_within T Q r same (one_fits (program_of T) r typed c.requires.of) in
+    let within = scoped_within T Q r same (one_is_scoped (program_of T) r typed c.requires.of) in
     omega (arith, within, Q.procedures.ok)
 
 pub states-requires-clause-all : goal.states-requires-clause-all
@@ -35,7 +35,7 @@ states-requires-clause-all c =
     let p = procedure_of c.index-procedure.result.now in
     let typed : IsTyped P = subst (λ Q. IsTyped (program_of Q)) same c.program-program.ensures.typed in
     let of : IsOf P (condition_of r) p =
-    fits_of T c.program-program.result.now r c.index-procedure.result.now same (one_fits P r typed c.requires.of) c.index-procedure.ensures in
+    scoped_of T c.program-program.result.now r c.index-procedure.result.now same (one_is_scoped P r typed c.requires.of) c.index-procedure.ensures in
     (are_built P p (condition_of r) c.args.symbolic.now c.args.structure.now typed (condition_one P r c.requires.of) of (c.requires.told p of) c.requires.terms c.requires.versions).all
 
 pub states-requires-clause-distinct : goal.states-requires-clause-distinct
@@ -47,7 +47,7 @@ states-requires-clause-distinct c =
     let p = procedure_of c.index-procedure.result.now in
     let typed : IsTyped P = subst (λ Q. IsTyped (program_of Q)) same c.program-program.ensures.typed in
     let of : IsOf P (condition_of r) p =
-    fits_of T c.program-program.result.now r c.index-procedure.result.now same (one_fits P r typed c.requires.of) c.index-procedure.ensures in
+    scoped_of T c.program-program.result.now r c.index-procedure.result.now same (one_is_scoped P r typed c.requires.of) c.index-procedure.ensures in
     variables_are_distinct P typed p (its_declared P p (condition_of r) of)
 
 pub returns : goal.returns
@@ -61,7 +61,7 @@ returns c =
     let p = procedure_of c.index-procedure.result.now in
     let typed : IsTyped P = subst (λ Q. IsTyped (program_of Q)) same c.program-program.ensures.typed in
     let of : IsOf P (condition_of r) p =
-    fits_of T c.program-program.result.now r c.index-procedure.result.now same (one_fits P r typed c.requires.of) c.index-procedure.ensures in
+    scoped_of T c.program-program.result.now r c.index-procedure.result.now same (one_is_scoped P r typed c.requires.of) c.index-procedure.ensures in
     IfOk-weaker c.states.result _ _ (λ t w q of'.
     ap (map drawn) w
     ∙ ap (λ z. map drawn (states_in s (variable_names z) 0 y.steps.items y.bindings.items)) (one_value (slice_get P.procedures r.procedure) p q of of')

@@ -23,7 +23,7 @@ overflow_cast-index c =
     let P = program_of c.args.program.now in
     let qs = c.as_slice-procedure-items.result.now in
     let long : length P.procedures ≡ length qs = ap (λ (rs : List whole.Procedure). length (map procedure_of rs)) (sym c.as_slice-procedure-items.ensures.value) ∙ length-map qs procedure_of in
-    omega (arith, long, c.loop-index-test.true, c.requires.few)
+    omega (arith, long, c.loop-index-test.true, c.requires.procedures)
 
 pub add_procedure-requires-clause-few : goal.add_procedure-requires-clause-few
 add_procedure-requires-clause-few c =

@@ -1,6 +1,7 @@
 use Rattle.std.proofs.Common.{sym, subst, refl, All, map}
 use Rattle.gh_ast.specs.Plain.{procedure_of, program_of}
-use Rattle.gh_path.specs.Kept.{condition_of, step_of, StepIsThere}
+use Rattle.gh_path.specs.Conditions.{StepIsThere}
+use Rattle.gh_path.specs.Kept.{condition_of, step_of}
 use Rattle.gh_lens.proofs.Telling.{steps_there}
 use Rattle.gh_scene.specs.Rows.{AddsRows}
 use Rattle.gh_scene.specs.Spare.{IsSpare}
@@ -13,7 +14,7 @@ pub push_rows-requires-clause-there : goal.push_rows-requires-clause-there
 push_rows-requires-clause-there c =
     let P = program_of c.args.setting.typed.now in
     let p = procedure_of c.args.setting.procedure.now in
-    subst (λ rs. All (StepIsThere P p) (map step_of rs)) (sym c.as_slice-steps.ensures.value) (steps_there P p c.args.condition.now c.requires.fits c.requires.own)
+    subst (λ rs. All (StepIsThere P p) (map step_of rs)) (sym c.as_slice-steps.ensures.value) (steps_there P p c.args.condition.now c.requires.scoped c.requires.own)
 
 pub returns : goal.returns
 returns c =

@@ -2,7 +2,7 @@ use Rattle.std.proofs.Common.{◌≡◌, ◌∙◌, ◌∷◌, sym, subst, map, 
 use Rattle.std.proofs.lemmas.List.{nil_from_length}
 use Rattle.gh_ast.specs.Plain.{program_of}
 use Rattle.gh_path.specs.Answers.{IsNumbered}
-use Rattle.gh_path.proofs.Numbers.{one_fits}
+use Rattle.gh_path.proofs.Numbers.{one_is_scoped}
 use Rattle.gh_scene.proofs.Sketching.{sketched, sketch_fails, no_states}
 use Rattle.gh_trace.proofs.FirstRefuted.{numbered_one}
 use Rattle.gh_trace.proofs.StepCounts.{few_steps}
@@ -20,7 +20,7 @@ returns-in_default-split_first c =
     let P = program_of c.args.typed.now in
     let n = c.args.drawing.now.condition in
     let found : IsNumbered P n (Some c.in-Some.condition) = subst (λ Q. IsNumbered Q n (Some c.in-Some.condition)) c.requires.same (rw c.in-Some.is at c.in_ok-condition.ensures) in
-    let fits = one_fits P c.in-Some.condition c.requires.admitted.typed (numbered_one P n c.in-Some.condition found) in
+    let fits = one_is_scoped P c.in-Some.condition c.requires.admitted.typed (numbered_one P n c.in-Some.condition found) in
     no_states P n c.in-Some.condition fits.0 c.args.drawing.now.trace.states.items found fits.1 (sym c.as_slice-states.ensures.value ∙ nil_from_length c.as_slice-states.result.now c.in_default-split_first.ensures.cases)
 
 pub replay-requires-clause-one : goal.replay-requires-clause-one
@@ -37,12 +37,12 @@ replay-requires-clause-few c =
     let found : IsNumbered P n (Some c.in-Some.condition) = subst (λ Q. IsNumbered Q n (Some c.in-Some.condition)) c.requires.same (rw c.in-Some.is at c.in_ok-condition.ensures) in
     few_steps P n c.in-Some.condition c.requires.admitted found
 
-pub shown-requires-clause-fits : goal.shown-requires-clause-fits
-shown-requires-clause-fits c =
+pub shown-requires-clause-scoped : goal.shown-requires-clause-scoped
+shown-requires-clause-scoped c =
     let P = program_of c.args.typed.now in
     let n = c.args.drawing.now.condition in
     let found : IsNumbered P n (Some c.in-Some.condition) = subst (λ Q. IsNumbered Q n (Some c.in-Some.condition)) c.requires.same (rw c.in-Some.is at c.in_ok-condition.ensures) in
-    one_fits P c.in-Some.condition c.requires.admitted.typed (numbered_one P n c.in-Some.condition found)
+    one_is_scoped P c.in-Some.condition c.requires.admitted.typed (numbered_one P n c.in-Some.condition found)
 
 pub returns-in-Ok : goal.returns-in-Ok
 returns-in-Ok c =

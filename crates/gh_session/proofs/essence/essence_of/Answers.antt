@@ -4,7 +4,8 @@ use Rattle.gh_ast.specs.Plain.{procedure_of, program_of}
 use Rattle.gh_ast.specs.Rules.{IsTyped}
 use Rattle.gh_ast.specs.declared.Program as whole
 use Rattle.gh_path.specs.Conditions.{IsOf}
-use Rattle.gh_path.specs.Kept.{condition_of, IsCallee}
+use Rattle.gh_path.specs.Graphs.{IsProcedureAt}
+use Rattle.gh_path.specs.Kept.{condition_of}
 use Rattle.gh_trace.proofs.FirstRefuted.{has_procedure}
 use Rattle.gh_session.specs.Views.{IsEssenceIn}
 use Rattle.gh_session.proofs.essence.essence_of.Goals as goal
@@ -22,7 +23,7 @@ returns c =
     let p = procedure_of c.in-Some.procedure.now in
     let e = c.in_ok-essence_in.field-0 in
     let same = c.program-program.ensures.same in
-    let of : IsOf P (condition_of r) p = subst (λ (Q : whole.Program). IsCallee (program_of Q) r.procedure p) same c.in-Some.ensures.some in
+    let of : IsOf P (condition_of r) p = subst (λ (Q : whole.Program). IsProcedureAt (program_of Q) r.procedure p) same c.in-Some.ensures.some in
     let typed : IsTyped P = subst (λ (Q : whole.Program). IsTyped (program_of Q)) same c.program-program.ensures.typed in
     let told : IsEssenceIn P p r e = subst (λ (Q : whole.Program). IsEssenceIn (program_of Q) p r e) same c.in_ok-essence_in.ensures in
     record { typed = typed; one = c.requires; procedure = p; of = of; is = sym told }

@@ -12,7 +12,7 @@ use Rattle.gh_path.proofs.GivenLemmas.{lent_one, lent_on, lent_none}
 use Rattle.gh_symb.specs.Limits.{HasTerms, Passes}
 use Rattle.gh_symb.specs.Met.{IsMet}
 use Rattle.gh_symb.specs.Steps.{IsCount}
-use Rattle.gh_symb.proofs.AdmitLemmas.{ManyTerms, ManyVersions, its_count, one_more, met_more, first_passed, none_has, few_terms, many_terms, number_at, numbered_fits, counts_more}
+use Rattle.gh_symb.proofs.AdmitLemmas.{ManyTerms, ManyVersions, its_count, one_more, met_more, first_passed, none_has, few_terms, many_terms, number_at, numbered_is_scoped, counts_more}
 use Rattle.gh_symb.proofs.admit.admit_counted.Goals as goal
 
 pub loop-place-init : goal.loop-place-init
@@ -36,7 +36,7 @@ counted-requires c =
     let P = program_of c.args.typed.now in
     let r = c.condition-condition.result.now in
     let typed : IsTyped P = subst (λ Q. IsTyped (program_of Q)) c.program-program.ensures.same c.program-program.ensures.typed in
-    numbered_fits P (c.loop-place.place + 1) r typed
+    numbered_is_scoped P (c.loop-place.place + 1) r typed
     (lent_one P c.loop-place.walk c.advance.new.self c.loop-place.place c.advance.result c.in_ok-more.more r c.in_ok-more.was
     c.if-not-more.false c.condition-condition.ensures c.loop-place.invariant.before c.advance.ensures.next)
 
@@ -45,7 +45,7 @@ limit_of-passed-requires c =
     let P = program_of c.args.typed.now in
     let r = c.condition-condition.result.now in
     let typed : IsTyped P = subst (λ Q. IsTyped (program_of Q)) c.program-program.ensures.same c.program-program.ensures.typed in
-    numbered_fits P (c.loop-place.place + 1) r typed
+    numbered_is_scoped P (c.loop-place.place + 1) r typed
     (lent_one P c.loop-place.walk c.advance.new.self c.loop-place.place c.advance.result c.in_ok-more.more r c.in_ok-more.was
     c.if-not-more.false c.condition-condition.ensures c.loop-place.invariant.before c.advance.ensures.next)
 
@@ -58,7 +58,7 @@ returns-in-Some-clause-refused c =
     lent_one P c.loop-place.walk c.advance.new.self k c.advance.result c.in_ok-more.more r c.in_ok-more.was
     c.if-not-more.false c.condition-condition.ensures c.loop-place.invariant.before c.advance.ensures.next in
     let typed : IsTyped P = subst (λ Q. IsTyped (program_of Q)) c.program-program.ensures.same c.program-program.ensures.typed in
-    let is = numbered_fits P (k + 1) r typed found in
+    let is = numbered_is_scoped P (k + 1) r typed found in
     let p = is.0 in
     let d = condition_of r in
     let passes : Passes P p d c.limit_of-passed.result = c.limit_of-passed.ensures p is.1 (c.in_ok-found.ensures p is.1) in
@@ -87,7 +87,7 @@ loop-place-preserved c =
     lent_one P s t k c.advance.result c.in_ok-more.more r c.in_ok-more.was c.if-not-more.false c.condition-condition.ensures
     c.loop-place.invariant.before c.advance.ensures.next in
     let typed : IsTyped P = subst (λ Q. IsTyped (program_of Q)) c.program-program.ensures.same c.program-program.ensures.typed in
-    let is = numbered_fits P (k + 1) r typed found in
+    let is = numbered_is_scoped P (k + 1) r typed found in
     let p = is.0 in
     let d = condition_of r in
     let here : slice_get (conditions P) k ≡ Some d = number_at P k r found in

@@ -1,12 +1,12 @@
 use Rattle.std.proofs.Common.{ap, arith}
 use Rattle.gh_ast.specs.Plain.{procedure_of, program_of}
-use Rattle.gh_symb.proofs.CountLemmas.{fits_within, fits_of, fits_there}
+use Rattle.gh_symb.proofs.CountLemmas.{scoped_within, scoped_of, scoped_there}
 use Rattle.gh_symb.proofs.context.context_of.Goals as goal
 
 pub index-procedure-requires : goal.index-procedure-requires
 index-procedure-requires c =
     let Q = c.program-program.result.now in
-    let within = fits_within c.args.typed.now Q c.args.condition.now c.program-program.ensures.same c.requires in
+    let within = scoped_within c.args.typed.now Q c.args.condition.now c.program-program.ensures.same c.requires in
     omega (arith, within, Q.procedures.ok)
 
 pub returns : goal.returns
@@ -15,5 +15,5 @@ returns c =
     let r = c.args.condition.now in
     let same = c.program-program.ensures.same in
     let q = c.index-procedure.result.now in
-    let of = fits_of T c.program-program.result.now r q same c.requires c.index-procedure.ensures in
-    record { program = ap program_of same; of = of; there = fits_there (program_of T) r (procedure_of q) c.requires of }
+    let of = scoped_of T c.program-program.result.now r q same c.requires c.index-procedure.ensures in
+    record { program = ap program_of same; of = of; there = scoped_there (program_of T) r (procedure_of q) c.requires of }

@@ -1,9 +1,9 @@
 use Rattle.std.proofs.Common.{◌≡◌, ◌∙◌, ◌++◌, sym, ap, subst, length}
 use Rattle.gh_ast.specs.Plain.{program_of}
 use Rattle.gh_path.specs.Conditions.{conditions}
-use Rattle.gh_path.specs.Kept.{Fits}
+use Rattle.gh_path.specs.Kept.{IsScoped}
 use Rattle.gh_draw.specs.Kept.{Describes}
-use Rattle.gh_path.proofs.Numbers.{one_fits}
+use Rattle.gh_path.proofs.Numbers.{one_is_scoped}
 use Rattle.gh_trace.proofs.FirstRefuted.{numbered_one}
 use Rattle.gh_top.proofs.SmallestLemmas.{section_spelled, reported}
 use Rattle.gh_top.proofs.smallest.smallest_report.Goals as goal
@@ -15,7 +15,7 @@ pub describe-requires : goal.describe-requires
 describe-requires c =
     let P = program_of c.args.admitted.now in
     let r = c.args.condition.now in
-    subst (λ p. Fits (program_of p) r) (sym c.typed-typed.ensures.same) (one_fits P r c.typed-typed.ensures.admitted.typed (numbered_one P c.args.number r c.requires.numbered))
+    subst (λ p. IsScoped (program_of p) r) (sym c.typed-typed.ensures.same) (one_is_scoped P r c.typed-typed.ensures.admitted.typed (numbered_one P c.args.number r c.requires.numbered))
 
 pub returns-clause-text : goal.returns-clause-text
 returns-clause-text c =

@@ -5,7 +5,7 @@ use Rattle.gh_draw.specs.Descriptions.{place_text}
 use Rattle.gh_draw.specs.Drawings.{line}
 use Rattle.gh_ast.specs.Plain.{program_of}
 use Rattle.gh_path.specs.Kept.{condition_of}
-use Rattle.gh_path.proofs.Numbers.{one_fits}
+use Rattle.gh_path.proofs.Numbers.{one_is_scoped}
 use Rattle.gh_trace.proofs.FirstRefuted.{condition_one}
 use Rattle.gh_symb.specs.Symbolic.{symbolic_of}
 use Rattle.gh_symb.specs.Formulas.{problem}
@@ -37,4 +37,4 @@ returns-in-Err-TooLong c =
     is_too_long P p d g c.place-span.result c.in-Err-TooLong.count c.in_ok-too_long-in-Err-TooLong.field-0.status _ e cause.0 cause.1 (c.place-span.ensures p of) c.in_ok-too_long-in-Err-TooLong.ensures.status text
 
 pub place-span-requires : goal.place-span-requires
-place-span-requires c = one_fits (program_of c.args.typed.now) c.args.condition.now c.requires.admitted.typed c.requires.one
+place-span-requires c = one_is_scoped (program_of c.args.typed.now) c.args.condition.now c.requires.admitted.typed c.requires.one

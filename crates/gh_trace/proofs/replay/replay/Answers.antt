@@ -3,9 +3,11 @@ use Rattle.std.specs.Prelude.{OnOk, IfErr}
 use Rattle.std.proofs.lemmas.Result.{on_ok_weaker, MatchResult-weaker}
 use Rattle.std.proofs.lemmas.List.{nil_from_length}
 use Rattle.gh_ast.specs.Plain.{procedure_of, program_of}
-use Rattle.gh_trace.specs.Kept.{drawn, IsRefuted, IsFailure}
+use Rattle.gh_trace.specs.Kept.{drawn, IsFailure}
+use Rattle.gh_trace.specs.Replay.{Refutes}
 use Rattle.gh_trace.proofs.FirstRefuted.{has_procedure, is_there}
 use Rattle.gh_trace.proofs.Following.{refutes_whole, fails_whole, nothing_fails, start_fails}
+use Rattle.gh_path.specs.Kept.{condition_of}
 use Rattle.gh_trace.proofs.replay.replay.Goals as goal
 
 pub unreachable-requires : goal.unreachable-requires
@@ -43,7 +45,7 @@ returns-clause-refuted c =
     let x = c.in-Some-split_first.first.now in
     let ys = c.in-Some-split_first.others.now in
     let whole : x ∷ ys ≡ c.args.trace.now.states.items = sym c.in-Some-split_first.ensures.cases.0 ∙ c.as_slice-2.ensures.value in
-    subst (λ zs. OnOk c.walk.result (IsRefuted P r (map drawn zs))) whole
+    subst (λ zs. OnOk c.walk.result (Refutes P (condition_of r) (map drawn zs))) whole
     (on_ok_weaker c.walk.result (λ after. refutes_whole P p r (drawn x) (map drawn ys) c.in-Some.ensures.some (c.in_ok-begins.ensures.begins.0 c.if-not-branch.false) after) c.walk.ensures.refuted)
 
 pub returns-clause-failed : goal.returns-clause-failed

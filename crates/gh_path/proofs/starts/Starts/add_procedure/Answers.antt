@@ -3,9 +3,8 @@ use Rattle.std.proofs.Math.ListN.{drop_of_length-le}
 use Rattle.std.proofs.lemmas.List.{length-map, map-append}
 use Rattle.gh_ast.specs.Plain.{program_of, procedure_of}
 use Rattle.gh_path.specs.Conditions.{condition, course, from_starts, courses_of}
-use Rattle.gh_path.specs.Graphs.{graph_from, whole_body, loops_of, round, rounds}
+use Rattle.gh_path.specs.Graphs.{graph_from, whole_body, loops_of, round, rounds, IsLoopAt}
 use Rattle.gh_path.specs.Paths.{ways}
-use Rattle.gh_path.specs.Kept.{IsLoop}
 use Rattle.gh_path.specs.Roots.{from_start, AreStarts}
 use Rattle.gh_path.specs.Walking.{loop_of}
 use Rattle.gh_path.proofs.NumberLemmas.{loop_there}
@@ -27,7 +26,7 @@ add_round-requires-clause-suits c =
     let ts = c.as_slice-turn-items.result.now in
     let x = c.turn-item.result in
     let turns : map loop_of ts ≡ loops_of p = ap (map loop_of) c.as_slice-turn-items.ensures.value ∙ c.in_ok-turns.ensures in
-    let here : IsLoop p c.loop-place.place (loop_of x) = loop_there p ts c.loop-place.place x turns c.loop-place-test.true c.turn-item.is in
+    let here : IsLoopAt p c.loop-place.place (loop_of x) = loop_there p ts c.loop-place.place x turns c.loop-place-test.true c.turn-item.is in
     round_suits c.args.walker.now p c.loop-place.place (loop_of x) here c.requires.procedures c.requires.callees (few_loops P p c.requires.formed c.requires.few)
 
 pub overflow_cast-place : goal.overflow_cast-place
@@ -63,7 +62,7 @@ loop-place-preserved c = λ cs are there.
     let x = c.turn-item.result in
     let before = c.loop-place.invariant cs are there in
     let turns : map loop_of ts ≡ loops_of p = ap (map loop_of) c.as_slice-turn-items.ensures.value ∙ c.in_ok-turns.ensures in
-    let here : IsLoop p i (loop_of x) = loop_there p ts i x turns c.loop-place-test.true c.turn-item.is in
+    let here : IsLoopAt p i (loop_of x) = loop_there p ts i x turns c.loop-place-test.true c.turn-item.is in
     let n = c.args.procedure in
     let more = c.in_ok-add_round.ensures here before.0 before.1 there in (
       before.0 ++ from_start P p n (round i),

@@ -4,11 +4,13 @@ use Rattle.gh_path.specs.Answers.{IsNumbered}
 use Rattle.gh_path.specs.Conditions.{conditions}
 use Rattle.gh_path.specs.Walks.{IsBefore}
 use Rattle.gh_path.proofs.GivenLemmas.{lent_one, lent_on, lent_none}
-use Rattle.gh_trace.specs.Kept.{drawn_of, HasNoCounterexample, IsRefuted}
+use Rattle.gh_trace.specs.Kept.{drawn_of, HasNoCounterexample}
+use Rattle.gh_trace.specs.Replay.{Refutes}
 use Rattle.gh_session.specs.Decided.{Grows, AreDecided}
 use Rattle.gh_session.specs.Places.{knowledge}
 use Rattle.gh_trace.proofs.FirstRefuted.{is_one, next_refuted}
 use Rattle.gh_session.proofs.Growing.{at_most_one, none_decided, grown_one, decided_more}
+use Rattle.gh_path.specs.Kept.{condition_of}
 use Rattle.gh_session.proofs.session.Session.decide_all.Goals as goal
 
 pub loop-place-init : goal.loop-place-init
@@ -41,7 +43,7 @@ returns-in-Some-clause-outcome g c =
     let found : IsNumbered P (c.loop-place.place + 1) (Some c.condition.result.now) =
     lent_one P c.loop-place.walk c.advance.new.self c.loop-place.place c.advance.result c.in_ok-more.more c.condition.result.now c.in_ok-more.was c.if-not-more.false c.condition.ensures
     c.loop-place.invariant.before c.advance.ensures.next in
-    let against : IsRefuted P c.condition.result.now (drawn_of c.in-Some.trace) = rw c.in-Some.is at c.in_ok-answer.ensures.some in
+    let against : Refutes P (condition_of c.condition.result.now) (drawn_of c.in-Some.trace) = rw c.in-Some.is at c.in_ok-answer.ensures.some in
     next_refuted P c.loop-place.place c.condition.result.now c.in-Some.trace found against c.loop-place.invariant.decided.valid
 
 pub returns-in-Some-clause-decided : goal.returns-in-Some-clause-decided

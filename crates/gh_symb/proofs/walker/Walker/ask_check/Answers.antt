@@ -1,7 +1,7 @@
 use Rattle.std.proofs.Common.{◌≡◌, Some, arith}
 use Rattle.std.specs.Prelude.{slice_get}
 use Rattle.gh_ast.specs.Plain.{program_of, procedure_of}
-use Rattle.gh_path.specs.Kept.{HasCallee}
+use Rattle.gh_path.specs.Graphs.{HasProcedure}
 use Rattle.gh_symb.proofs.EncodingLemmas.{whole_encoded}
 use Rattle.gh_symb.proofs.StepLemmas.{callee_within, called_procedure}
 use Rattle.gh_symb.proofs.walker.Walker.ask_check.Goals as goal
@@ -9,7 +9,7 @@ use Rattle.gh_symb.proofs.walker.Walker.ask_check.Goals as goal
 pub index-callee-requires : goal.index-callee-requires
 index-callee-requires c =
     let P = c.args.context.program.now in
-    let has : HasCallee (program_of P) c.in-CalleeEntry.callee = rw c.in-CalleeEntry.is at c.requires.1 in
+    let has : HasProcedure (program_of P) c.in-CalleeEntry.callee = rw c.in-CalleeEntry.is at c.requires.1 in
     let within = callee_within P c.in-CalleeEntry.callee has in
     omega (arith, within, P.procedures.ok)
 
@@ -17,7 +17,7 @@ pub returns-in_ok-asked-in-CalleeEntry-clause-ended : goal.returns-in_ok-asked-i
 returns-in_ok-asked-in-CalleeEntry-clause-ended c = λ place.
     let P = c.args.context.program.now in
     let q = c.index-callee.result.now in
-    let has : HasCallee (program_of P) c.in-CalleeEntry.callee = rw c.in-CalleeEntry.is at c.requires.1 in
+    let has : HasProcedure (program_of P) c.in-CalleeEntry.callee = rw c.in-CalleeEntry.is at c.requires.1 in
     let callee : slice_get (program_of P).procedures c.in-CalleeEntry.callee ≡ Some (procedure_of q) =
     called_procedure P c.in-CalleeEntry.callee q (callee_within P c.in-CalleeEntry.callee has) c.index-callee.ensures in
     let on = rw (c.as_slice.ensures.value) at c.in_ok-asked-in-CalleeEntry.ensures.ended in
@@ -27,7 +27,7 @@ pub returns-in_ok-asked-in-CalleeEntry-clause-read : goal.returns-in_ok-asked-in
 returns-in_ok-asked-in-CalleeEntry-clause-read c = λ place.
     let P = c.args.context.program.now in
     let q = c.index-callee.result.now in
-    let has : HasCallee (program_of P) c.in-CalleeEntry.callee = rw c.in-CalleeEntry.is at c.requires.1 in
+    let has : HasProcedure (program_of P) c.in-CalleeEntry.callee = rw c.in-CalleeEntry.is at c.requires.1 in
     let callee : slice_get (program_of P).procedures c.in-CalleeEntry.callee ≡ Some (procedure_of q) =
     called_procedure P c.in-CalleeEntry.callee q (callee_within P c.in-CalleeEntry.callee has) c.index-callee.ensures in
     let on = rw (c.as_slice.ensures.value) at c.in_ok-asked-in-CalleeEntry.ensures.read in

@@ -1,4 +1,4 @@
-use Rattle.gh_symb.proofs.ask.start_of.Goals as goal
+use Rattle.gh_symb.proofs.ask.start_assertion.Goals as goal
 
 pub round_of-requires : goal.round_of-requires
 round_of-requires c = rw c.in-Loop.is at c.requires
