@@ -1,11 +1,11 @@
 -- The traces that are told.
-use Rattle.std.specs.Prelude.{◌≡◌, ℕ, ◌-◌, List, [], ◌∷◌, ◌++◌, map, All, Some, None, slice_get, codes}
+use Rattle.std.specs.Prelude.{◌≡◌, ℕ, List, [], ◌∷◌, ◌++◌, map, All, Some, None, slice_get, codes}
 use Rattle.std.proofs.Common.{refl, sym, ◌∙◌, ap, subst}
 use Rattle.std.proofs.lemmas.List.Elements.{All-head, All-tail}
 use Rattle.gh_ast.specs.Plain.{Procedure, Program}
 use Rattle.gh_ast.proofs.Lists.{one_value}
 use Rattle.gh_path.specs.Answers.{IsNumbered}
-use Rattle.gh_path.specs.Conditions.{Condition, conditions, IsOf, StepIsThere}
+use Rattle.gh_path.specs.Conditions.{Condition, IsOf, StepIsThere}
 use Rattle.gh_path.specs.Graphs.{PathStep}
 use Rattle.gh_path.specs.Kept.{condition_of, step_of, IsScoped}
 use Rattle.gh_path.specs.declared.condition.Condition as kept
@@ -18,7 +18,7 @@ use Rattle.gh_trace.specs.Kept.{state_of, drawn, drawn_of, IsFailure}
 use Rattle.gh_trace.specs.Replay.{Drawn, Refutes, FirstFailure}
 use Rattle.gh_trace.specs.Traces.{Passes, last_state}
 use Rattle.gh_lens.specs.Misses.{IsFailing, IsFailingOr}
-use Rattle.gh_lens.specs.Stories.{TellsStep, AreTold, TellsSteps, last_of, TellsHeading, IsStoryOr, IsToldOf, IsToldFor, PassesAtEnd}
+use Rattle.gh_lens.specs.Stories.{TellsStep, AreTold, TellsSteps, last_of, TellsHeading, IsStoryOr, IsConditionAt, IsToldOf, IsToldFor, PassesAtEnd}
 
 -- the last of some states as they are kept
 last_same : (x : kept_state.State) (ys : List kept_state.State) → last_state (state_of x) (map (λ (d : Drawn). d.state) (map drawn ys)) ≡ state_of (last_of x ys)
@@ -107,9 +107,9 @@ pub shown : (P : Program) (r : kept.Condition) (t : kept_trace.Trace) (xs : List
 shown P r t xs refuted is = subst (λ zs. Refutes P (condition_of r) (map drawn zs)) (sym is) refuted
 
 pub told_by_number : (P : Program) (n : ℕ) (r : kept.Condition) (t : kept_trace.Trace) (xs : List kept_state.State) (text : List ℕ) → IsNumbered P n (Some r) → xs ≡ t.states.items → IsToldFor P r xs text
-    → (c : Condition) × (slice_get (conditions P) (n - 1) ≡ Some c) × IsToldOf P c t.states.items text
-told_by_number P n r t xs text (low, there) is told = (condition_of r, there, subst (λ zs. IsToldOf P (condition_of r) zs text) is told)
+    → (c : Condition) × IsConditionAt P n c × IsToldOf P c t.states.items text
+told_by_number P n r t xs text found is told = (condition_of r, found, subst (λ zs. IsToldOf P (condition_of r) zs text) is told)
 
 pub fails_by_number : (P : Program) (n k : ℕ) (r : kept.Condition) (t : kept_trace.Trace) → IsNumbered P n (Some r) → IsFailure P r (drawn_of t) (Step k)
-    → (c : Condition) × (slice_get (conditions P) (n - 1) ≡ Some c) × FirstFailure P c (map drawn t.states.items) k
-fails_by_number P n k r t (low, there) fails = (condition_of r, there, fails)
+    → (c : Condition) × IsConditionAt P n c × FirstFailure P c (map drawn t.states.items) k
+fails_by_number P n k r t found fails = (condition_of r, found, fails)

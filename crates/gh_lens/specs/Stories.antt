@@ -1,6 +1,6 @@
 -- The lines that tell a counterexample step by step.
 use Rattle.std.specs.Prelude.{◌≡◌, ◌⊎◌, ℕ, ◌-◌, ◌<◌, List, [], ◌∷◌, ◌++◌, length, map, Option, Some, None, codes}
-use Rattle.std.specs.Prelude.{slice_get}
+use Rattle.std.specs.Prelude.{◌≤◌, slice_get}
 use Rattle.gh_ast.specs.Plain.{Procedure, Program}
 use Rattle.gh_assert.specs.Stores.{listed_names}
 use Rattle.gh_path.specs.Graphs.{PathStep}
@@ -89,8 +89,12 @@ pub record IsToldOf (P : Program) (c : Condition) (xs : List State) (text : List
 abbrev pub IsToldFor : Program → kept.Condition → List State → List ℕ → Type 0
 IsToldFor P r xs text = IsToldOf P (condition_of r) xs text
 
+-- the condition of a number, from 1
+abbrev pub IsConditionAt : Program → ℕ → Condition → Type 0
+IsConditionAt P n c = (1 ≤ n) × (slice_get (conditions P) (n - 1) ≡ Some c)
+
 -- what is told of states for the condition of a number: a story, or their first failure, or that there is no such condition
 abbrev pub IsExplained : Program → ℕ → List State → Explained → Type 0
-IsExplained P n xs (Told text) = (c : Condition) × (slice_get (conditions P) (n - 1) ≡ Some c) × IsToldOf P c xs text
-IsExplained P n xs (Fails k) = (c : Condition) × (slice_get (conditions P) (n - 1) ≡ Some c) × FirstFailure P c (map drawn xs) k
+IsExplained P n xs (Told text) = (c : Condition) × IsConditionAt P n c × IsToldOf P c xs text
+IsExplained P n xs (Fails k) = (c : Condition) × IsConditionAt P n c × FirstFailure P c (map drawn xs) k
 IsExplained P n xs Unnumbered = (n ≡ 0) ⊎ (length (conditions P) < n)

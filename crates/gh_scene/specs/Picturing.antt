@@ -2,11 +2,12 @@
 use Rattle.std.specs.Prelude.{◌⊎◌, ◌≡◌, ◌<◌, ℕ, List, length, map}
 use Rattle.gh_ast.specs.Plain.{Program}
 use Rattle.gh_path.specs.Conditions.{Condition, conditions}
+use Rattle.gh_lens.specs.Stories.{IsConditionAt}
 use Rattle.gh_picture.specs.declared.scene.Scene.{Scene}
 use Rattle.gh_picture.specs.Pictures.{IsPicture}
 use Rattle.gh_scene.specs.declared.pictured.Pictured.{Pictured}
 use Rattle.gh_scene.specs.declared.pictured.Pictured.TheVariants.{Drawn, Fails, Unnumbered}
-use Rattle.gh_scene.specs.Sketches.{IsConditionAt, IsSceneOf}
+use Rattle.gh_scene.specs.Sketches.{IsSceneOf}
 use Rattle.gh_trace.specs.declared.state.State.{State}
 use Rattle.gh_trace.specs.Kept.{drawn}
 use Rattle.gh_trace.specs.Replay.{FirstFailure}

@@ -1,11 +1,12 @@
 -- The scene of a counterexample, and what is answered for a drawing.
-use Rattle.std.specs.Prelude.{◌≡◌, ◌⊎◌, ℕ, ◌-◌, ◌<◌, ◌≤◌, List, ◌∷◌, length, map, Some, slice_get}
+use Rattle.std.specs.Prelude.{◌≡◌, ◌⊎◌, ℕ, ◌<◌, List, ◌∷◌, length, map}
 use Rattle.gh_ast.specs.Plain.{Procedure, Program}
 use Rattle.gh_assert.specs.Heaps.{Heap}
 use Rattle.gh_draw.specs.Descriptions.{description}
 use Rattle.gh_path.specs.Conditions.{Condition, conditions, IsOf}
 use Rattle.gh_path.specs.Kept.{condition_of}
 use Rattle.gh_path.specs.declared.condition.Condition as kept
+use Rattle.gh_lens.specs.Stories.{IsConditionAt}
 use Rattle.gh_picture.specs.declared.scene.Row.{Row}
 use Rattle.gh_picture.specs.declared.scene.Scene.{Scene}
 use Rattle.gh_scene.specs.declared.sketch.Sketch.{Sketch}
@@ -41,10 +42,6 @@ pub record IsSceneOf (P : Program) (c : Condition) (xs : List State) (scene : Sc
   pub states : xs ≡ first ∷ others
   pub refutes : Refutes P c (map drawn xs)
   pub shows : IsSceneOver P c first others scene
-
--- the condition of a number
-abbrev pub IsConditionAt : Program → ℕ → Condition → Type 0
-IsConditionAt P n c = (1 ≤ n) × (slice_get (conditions P) (n - 1) ≡ Some c)
 
 -- a scene of states for the condition of a number, or their first failure, or that there is no such condition
 abbrev pub IsSketch : Program → ℕ → List State → Sketch → Type 0
