@@ -20,7 +20,7 @@ pub record AreCells (cells : List Cell) : Type 0 where
 abbrev pub heap_of : List Cell → Heap
 heap_of cells = from_sorted (pairs cells)
 
--- each cell before i lies below
+-- each cell before the index i has a place below `at`
 abbrev pub AreBelow : List Cell → ℕ → ℕ → Type 0
 AreBelow cells i at = (k : ℕ) (d : Cell) → k < i → (slice_index_or cells k d).at < at
 

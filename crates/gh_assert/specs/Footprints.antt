@@ -23,7 +23,7 @@ abbrev pub Took : Bool → (Heap → Type 0) → Heap → Heap → Type 0
 Took true Q h rest = Takes Q h rest
 Took false Q h rest = NoPart Q h
 
--- the places that aren't left of a heap, ascending
+-- the places of the part that is taken off the heap, so that the rest is left, ascending
 abbrev pub AreTaken : Heap → Heap → List ℕ → Type 0
 AreTaken h rest places = (a : Heap) → Splits h a rest → places ≡ keys a
 

@@ -1,4 +1,5 @@
--- Heaps: finite maps from places to contents. Place 0 is null: no assertion describes a cell there. All facts are about look-ups.
+-- Heaps: finite maps from places to contents. Place 0 is null: no assertion describes a cell at null. All facts are
+-- about look-ups.
 use Rattle.std.specs.Prelude.{◌≡◌, ◌≢◌, ◌⊎◌, ℕ, zero, suc, Option, Some, None}
 use Rattle.std.specs.Ordering.{nat_cmp}
 use Rattle.std.specs.FinMap.{FinMap, get, remove}
@@ -18,13 +19,13 @@ pub record Splits (h a b : Heap) : Type 0 where
 abbrev pub IsEmpty : Heap → Type 0
 IsEmpty h = (x : ℕ) → get h x ≡ None
 
--- one cell
+-- the heap is one cell, with the content `to`
 pub record IsCell (at to : ℕ) (h : Heap) : Type 0 where
   pub not_null : at ≢ 0
   pub here : get h at ≡ Some to
   pub elsewhere : (x : ℕ) → x ≢ at → get h x ≡ None
 
--- a segment of n cells
+-- the heap is a segment of n cells from x to y
 abbrev pub Segment : ℕ → ℕ → ℕ → Heap → Type 0
 Segment zero x y h = (x ≡ y) × IsEmpty h
 Segment (suc n) x y h = (x ≢ y) × (x ≢ 0) × (z : ℕ) × (get h x ≡ Some z) × Segment n z y (remove h x)

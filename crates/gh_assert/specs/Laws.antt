@@ -1,4 +1,4 @@
--- The laws.
+-- The laws of splitting, assertions, walks and ownership.
 use Rattle.std.specs.Prelude.{◌≡◌, ◌≢◌, ◌⊎◌, ◌↔◌, ℕ, ◌+◌, ◌≤◌, ◌<◌, List, length, map, Contains, Decides}
 use Rattle.std.specs.FinMap.{entries}
 use Rattle.gh_ast.specs.Plain.{Formula}
@@ -27,10 +27,12 @@ MetAreProper = (f : Formula) (s : Store) (h : Heap) → Meaning f s h → IsProp
 abbrev pub HaveOneFootprint : Type 0
 HaveOneFootprint = (f : Formula) (s : Store) (a b h : Heap) → Meaning f s a → Meaning f s b → IsPart a h → IsPart b h → a ≡ b
 
+-- whether some part of a heap meets an assertion is decided, and so is whether the heap itself does
 abbrev pub PartsAreDecided : Type 0
 PartsAreDecided = (f : Formula) (s : Store) (h : Heap) → IsProper h → (HasPart f s h ⊎ (HasPart f s h → ⊥)) × (Meaning f s h ⊎ (Meaning f s h → ⊥))
 
--- stores that agree on the names of an assertion are one to it: so any store that gives a callee's parameters the arguments will do
+-- stores that agree on the names of an assertion are one to it: so any store that gives a callee's parameters the
+-- arguments will do
 abbrev pub NamesDecide : Type 0
 NamesDecide = (f : Formula) (xs : List Name) (s t : Store) (h : Heap) → FormulaIn f xs → map s xs ≡ map t xs → Meaning f s h ↔ Meaning f t h
 
@@ -87,10 +89,11 @@ RowsHold = (h : Heap) → Rows (Between h)
 abbrev pub WalksAreShort : Type 0
 WalksAreShort = (h : Heap) (x y : ℕ) → IsProper h → Reaches h x y → (n : ℕ) × (n ≤ length (entries h)) × IsDistance (succ h) x y n
 
+-- the tests of walks decide whether x reaches y, and whether y lies between x and z
 abbrev pub TestsDecide : Type 0
 TestsDecide = (h : Heap) → IsProper h → ((x y : ℕ) → Decides (reaches h x y) (Reaches h x y)) × ((x y z : ℕ) → Decides (is_between h x y z) (Between h x y z))
 
--- the other way to say the second part of ownership
+-- to each unnamed cell of an owned heap exactly one cell points
 abbrev pub OnePointsThere : Type 0
 OnePointsThere = (V : List ℕ) (h : Heap) → Owned V h → (c : ℕ) → Allocated h c → IsUnnamed V c → IsPointedToOnce h c
 

@@ -22,6 +22,7 @@ abbrev pub plain_value : Store → Expr → ℕ
 plain_value s (Plain o) = value s o
 plain_value s (Read o) = 0
 
+-- whether a comparison is true: the first value says whether it asks for equal sides, the second whether they are equal
 abbrev pub agrees : Bool → Bool → Bool
 agrees true b = b
 agrees false b = not b

@@ -11,7 +11,8 @@ IsUnnamed V c = Contains V c → ⊥
 abbrev pub HangsBelow : List ℕ → Heap → ℕ → Type 0
 HangsBelow V h c = (n : ℕ) × (k : ℕ) × Contains V n × Allocated h n × (walk h k n ≡ c)
 
--- a cell points to a name or to a cell; two cells that point to one unnamed place are one; an unnamed cell hangs below a named one
+-- a cell points to a named value or to a cell; two cells that point to one unnamed place are one; an unnamed cell
+-- hangs below a named one
 pub record Owned (V : List ℕ) (h : Heap) : Type 0 where
   pub points : (x v : ℕ) → get h x ≡ Some v → Contains V v ⊎ Allocated h v
   pub one_predecessor : (c p q : ℕ) → IsUnnamed V c → get h p ≡ Some c → get h q ≡ Some c → p ≡ q
@@ -23,7 +24,7 @@ pub record IsPointedToOnce (h : Heap) (c : ℕ) : Type 0 where
   pub points : get h from ≡ Some c
   pub alone : (q : ℕ) → get h q ≡ Some c → q ≡ from
 
--- from the last named cell, the walk to c meets no other name
+-- the walk from a named cell leads to c, and meets no named value after its start, c included
 pub record LastNamed (V : List ℕ) (h : Heap) (c : ℕ) : Type 0 where
   pub start : ℕ
   pub count : ℕ

@@ -13,7 +13,7 @@ listed_names entries = map (λ e. e.name) entries
 abbrev pub AreDistinct : List Entry → Type 0
 AreDistinct entries = AllPairs (λ x y. x ≢ y) (listed_names entries)
 
--- the value beside a name
+-- the value of the first entry of the name, if there is one
 abbrev pub listed : List Entry → Name → Option ℕ
 listed [] name = None
 listed (e ∷ es) name = cond (bytes_eq e.name name) (Some e.value) (listed es name)

@@ -1,4 +1,4 @@
--- Stores, and what expressions and tests give.
+-- What expressions and tests give, and stores in which names get values.
 use Rattle.std.specs.Prelude.{◌≡◌, ℕ, List, map, Bool, true, false, not, ◌==◌, Option, Some, None, Any, Contains}
 use Rattle.std.specs.FinMap.{get}
 use Rattle.gh_ast.specs.Plain.{Test, compare, negation, conjunction, disjunction, Tests, no_tests, test_first}

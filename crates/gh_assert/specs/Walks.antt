@@ -44,6 +44,6 @@ Between h = IsBetween (succ h)
 abbrev pub Allocated : Heap → ℕ → Type 0
 Allocated h x = (v : ℕ) × (get h x ≡ Some v)
 
--- among the first n values of the walk from x
+-- q is among the first n values of the walk from x
 abbrev pub Meets : (ℕ → ℕ) → ℕ → ℕ → ℕ → Type 0
 Meets f x n q = (i : ℕ) × (i < n) × (steps f i x ≡ q)

@@ -182,17 +182,18 @@ pub data SpellsInside : List Token → Inside → List Token → Type 0 where
       → SpellsLocals ts xs us → SpellsInside us (record { locals = ys; statements = a; close = c }) rest
       → SpellsInside (key kw.Var p ∷ ts) (record { locals = xs ++ ys; statements = a; close = c }) rest
 
--- parameters with commas between them, and then the bracket
+-- parameters with commas between them, and then the closing bracket
 pub data SpellsParams : List Token → List Occ → List Token → Type 0 where
   last_param : {o : Occ} {p q r : Span} {rest : List Token} → SpellsParams (named o ∷ sign sg.Colon p ∷ key kw.Node q ∷ sign sg.ParenClose r ∷ rest) (o ∷ []) rest
   next_param : {o : Occ} {p q r : Span} {ts rest : List Token} {l : List Occ}
       → SpellsParams ts l rest → SpellsParams (named o ∷ sign sg.Colon p ∷ key kw.Node q ∷ sign sg.Comma r ∷ ts) (o ∷ l) rest
 
--- after the bracket that opens them: none, or some
+-- what comes after the opening bracket: no parameters or some, and the closing bracket
 pub data SpellsHeader : List Token → List Occ → List Token → Type 0 where
   no_params : {p : Span} {rest : List Token} → SpellsHeader (sign sg.ParenClose p ∷ rest) [] rest
   params : {ts rest : List Token} {l : List Occ} → SpellsParams ts l rest → SpellsHeader ts l rest
 
+-- `returns` and the results in brackets, or nothing
 pub data SpellsResults : List Token → List Occ → List Token → Type 0 where
   no_results : {rest : List Token} → NoKey kw.Returns rest → SpellsResults rest [] rest
   results : {p q : Span} {ts rest : List Token} {l : List Occ} → SpellsHeader ts l rest → SpellsResults (key kw.Returns p ∷ sign sg.ParenOpen q ∷ ts) l rest

@@ -1,4 +1,5 @@
--- The limits on a program's text: its procedures, the variables of a procedure, the atoms of what it requires, ensures or keeps in a loop.
+-- The limits on a program's text: its procedures, the variables of a procedure, the atoms of what it requires,
+-- ensures or keeps in a loop.
 use Rattle.std.specs.Prelude.{◌≡◌, ℕ, ◌+◌, ◌<◌, ◌≤◌, List, [], ◌∷◌, ◌++◌, length, map, sum, Option, None, Some, All}
 use Rattle.std.specs.Prelude.{Any, min}
 use Rattle.std.specs.List.{HoldsAt}
@@ -11,6 +12,7 @@ use Rattle.gh_ast.specs.Occurrences.{variables_of}
 use Rattle.gh_ast.specs.declared.typed.Limit.{Limit}
 
 abbrev mutual
+  -- how many comparisons a test has
   pub test_atoms : Test → ℕ
   test_atoms (compare l e r) = 1
   test_atoms (negation t) = test_atoms t
@@ -22,7 +24,7 @@ abbrev mutual
   tests_atoms (test_first t ts) = test_atoms t + tests_atoms ts
 
 abbrev mutual
-  -- `emp`, cells, segments, points-to and comparisons, those in tests of cases included
+  -- how many atoms an assertion has: `emp`, cells, segments, points-to and comparisons, those in tests of cases too
   pub atoms : Formula → ℕ
   atoms (star fs) = all_atoms fs
   atoms (cases t a b) = test_atoms t + atoms a + atoms b
@@ -47,7 +49,8 @@ abbrev pub invariants_in_body : Option Inside → List Formula
 invariants_in_body None = []
 invariants_in_body (Some b) = all_invariants_in b.statements
 
--- how many atoms stand in what a procedure requires, in all alternatives of what it ensures together, and in each invariant
+-- how many atoms stand in what a procedure requires, in all alternatives of what it ensures together, and in each
+-- invariant
 abbrev pub atom_counts : Procedure → List ℕ
 atom_counts q = atoms q.needs ∷ sum (map atoms q.gives) ∷ map atoms (invariants_in_body q.body)
 
@@ -65,14 +68,14 @@ most_variables = 32
 abbrev pub most_atoms : ℕ
 most_atoms = 32
 
--- one of these is passed
+-- the procedure has too many variables; one of its numbers of atoms is too great
 abbrev pub HasManyVariables : Procedure → Type 0
 HasManyVariables q = most_variables < length (variables_of q)
 
 abbrev pub HasManyAtomsSomewhere : Procedure → Type 0
 HasManyAtomsSomewhere q = Any (λ n. most_atoms < n) (atom_counts q)
 
--- none is
+-- the whole program keeps one limit: that on procedures, that on variables, that on atoms
 abbrev pub AreFew : Program → Type 0
 AreFew p = length p.procedures ≤ most_procedures
 
@@ -92,7 +95,7 @@ pub record KeepsLimits (p : Program) : Type 0 where
 abbrev pub reported : ℕ → ℕ
 reported n = min n 4294967295
 
--- more than 256 procedures: the place is the 257th name
+-- more than 256 procedures: the place is that of the 257th procedure's name
 pub record ProceduresPassed (ps : List Procedure) (l : Limit) : Type 0 where
   pub kind : l.kind ≡ 1
   pub passed : most_procedures < length ps
@@ -107,7 +110,8 @@ pub record VariablesPassed (ps : List Procedure) (l : Limit) : Type 0 where
   pub span : procedure.name.span ≡ l.span
   pub count : l.count ≡ reported (length (variables_of procedure))
 
--- the first procedure with more than 32 atoms in what it requires, in what it ensures or in an invariant, and the first such number of it
+-- the first procedure with more than 32 atoms in what it requires, in what it ensures or in an invariant, and the
+-- first of its numbers of atoms that is so great
 pub record AtomsPassed (ps : List Procedure) (l : Limit) : Type 0 where
   pub kind : l.kind ≡ 3
   pub procedure : Procedure

@@ -15,8 +15,8 @@ begin_of (sign s p) = p
 abbrev pub IsPrefix : (List Token → Type 0) → List Token → Type 0
 IsPrefix Spells ts = (more : List Token) × Spells (ts ++ more)
 
--- the first token such that the tokens up to and with it are no prefix; a place where no token fits counts as such a token;
--- where all tokens of the text are a prefix and no sentence, the place after the last byte
+-- the place of the first token such that the tokens up to and with it are no prefix; a place where no token fits
+-- counts as such a token; where all tokens of the text are a prefix and no sentence, the place after the last byte
 pub data IsPlace (Spells : List Token → Type 0) (text : List ℕ) : Span → Type 0 where
   at_token : (before : List Token) (t : Token) (after : List Token) (end : Span) (rest : List ℕ)
       → IsTokens first_place (cleared text) (before ++ t ∷ after) end rest
@@ -26,10 +26,10 @@ pub data IsPlace (Spells : List Token → Type 0) (text : List ℕ) : Span → T
   at_end : (tokens : List Token) (end : Span)
       → IsTokens first_place (cleared text) tokens end [] → IsPrefix Spells tokens → (Spells tokens → ⊥) → IsPlace Spells text end
 
--- a text has one place at most
+-- a text has at most one place of a syntax error
 abbrev pub HaveOnePlace : (List Token → Type 0) → Type 0
 HaveOnePlace Spells = (text : List ℕ) (p q : Span) → IsPlace Spells text p → IsPlace Spells text q → p ≡ q
 
--- the tokens of a program
+-- the tokens spell some program
 abbrev pub IsProgram : List Token → Type 0
 IsProgram ts = (p : Program) × SpellsProgram ts p

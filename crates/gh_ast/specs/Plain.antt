@@ -21,6 +21,7 @@ use Rattle.gh_ast.specs.declared.Procedure as whole_procedure
 use Rattle.gh_ast.specs.declared.Program as whole_program
 
 mutual
+  -- in `compare l e r`, l and r are to be equal where e is true, and to differ where it is false
   pub data Test : Type 0 where
     compare : Expr → Bool → Expr → Test
     negation : Test → Test
@@ -48,6 +49,7 @@ abbrev pub tests_view : List Cond → Tests
 tests_view cs = tests_of (map test_of cs)
 
 mutual
+  -- in `comparison l e r`, e says whether l and r are to be equal; `cell at` is `acc(at)`, a cell with any content
   pub data Formula : Type 0 where
     empty : Formula
     comparison : Operand → Bool → Operand → Formula
@@ -81,6 +83,7 @@ abbrev pub formulas_view : List Assertion → Formulas
 formulas_view xs = formulas_of (map formula_of xs)
 
 mutual
+  -- a block has the place of its last brace after it; a loop and a return begin with the place of their word
   pub data Statement : Type 0 where
     set : Occ → Expr → Statement
     new : Occ → Statement
@@ -99,6 +102,7 @@ abbrev pub statements_of : List Statement → Statements
 statements_of [] = no_statements
 statements_of (t ∷ ts) = statement_first t (statements_of ts)
 
+-- a block: its statements, and the place of its last brace
 pub record Part : Type 0 where
   pub statements : Statements
   pub close : Span
@@ -125,12 +129,13 @@ part_of = fold-Block Statement Part statement_step part_step
 abbrev pub statements_view : List Stmt → Statements
 statements_view xs = statements_of (map statement_of xs)
 
--- a procedure's body: its locals, its statements, and its last brace
+-- a procedure's body: its locals, its statements, and the place of its last brace
 pub record Inside : Type 0 where
   pub locals : List Occ
   pub statements : Statements
   pub close : Span
 
+-- `close` is the place of the body's last brace, or of the semicolon in the place of a body
 pub record Procedure : Type 0 where
   pub name : Occ
   pub parameters : List Occ
@@ -141,6 +146,7 @@ pub record Procedure : Type 0 where
   pub body : Option Inside
   pub close : Span
 
+-- `close` is the place of the struct's last brace
 pub record Program : Type 0 where
   pub fields : List Field
   pub close : Span

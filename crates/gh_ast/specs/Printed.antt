@@ -49,7 +49,7 @@ abbrev pub line_of : List Lexeme → List ℕ
 line_of [] = line_end
 line_of (l ∷ ls) = lexeme_text l ++ spaced ls ++ line_end
 
--- members with a sign between two
+-- members, each after a sign; and members with a sign between two
 abbrev pub followed : {A : Type 0} → (A → List Lexeme) → Sign → List A → List Lexeme
 followed f s [] = []
 followed f s (x ∷ xs) = mark s ∷ f x ++ followed f s xs
@@ -81,7 +81,7 @@ in_brackets ls = mark sg.ParenOpen ∷ ls ++ mark sg.ParenClose ∷ []
 abbrev pub in_braces : List Lexeme → List Lexeme
 in_braces ls = mark sg.BraceOpen ∷ ls ++ mark sg.BraceClose ∷ []
 
--- a list inside a list stands in brackets
+-- in brackets where the truth value is true: a list inside a list stands in them
 abbrev pub bracketed : Bool → List Lexeme → List Lexeme
 bracketed true ls = in_brackets ls
 bracketed false ls = ls
@@ -136,7 +136,7 @@ abbrev mutual
   formulas_followed no_formulas = []
   formulas_followed (formula_first x l) = mark sg.Star ∷ bracketed (is_star x) (formula_shown x) ++ formulas_followed l
 
--- a member of a list
+-- a member of a star: in brackets where it is a star itself
 abbrev pub member_shown : Formula → List Lexeme
 member_shown f = bracketed (is_star f) (formula_shown f)
 
@@ -174,7 +174,7 @@ abbrev mutual
   otherwise_shown (statement_first s a) =
       reserved kw.Else ∷ mark sg.BraceOpen ∷ statement_shown s ++ statements_shown a ++ mark sg.BraceClose ∷ []
 
--- a field's words may be reserved ones
+-- the reserved word where w is its text, else the word w: a field's name and its type may be `next` and `Node`
 abbrev pub word_or : Keyword → List ℕ → Lexeme
 word_or k w = cond (bytes_eq w (keyword_text k)) (reserved k) (word w)
 

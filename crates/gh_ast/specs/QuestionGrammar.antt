@@ -1,4 +1,5 @@
--- The grammar of questions: which tokens spell what. `Spells.. ts x rest` says that the tokens ts are those of x and then the rest.
+-- The grammar of questions: which tokens spell what. `Spells.. ts x rest` says that the tokens ts are those of x and
+-- then the rest.
 use Rattle.std.specs.Prelude.{◌≡◌, ℕ, List, [], ◌∷◌}
 use Rattle.gh_base.specs.declared.place.Span.{Span}
 use Rattle.gh_ast.specs.declared.Occ.{Occ}
@@ -53,7 +54,7 @@ pub data SpellsQuestion : List Token → Question → Type 0 where
       → SpellsVariables ts xs (key kw.Requires p ∷ us) → SpellsClaim us c (key kw.Ensures q ∷ vs) → SpellsClaim vs d []
       → SpellsQuestion ts (record { variables = xs; span = p; left = c; right = d })
 
--- the tokens of a question
+-- the tokens spell some question
 abbrev pub IsQuestion : List Token → Type 0
 IsQuestion ts = (q : Question) × SpellsQuestion ts q
 

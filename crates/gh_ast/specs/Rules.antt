@@ -9,11 +9,11 @@ use Rattle.gh_ast.specs.Occurrences.{Site, mentioned, assigned, called, returned
 use Rattle.gh_ast.specs.Occurrences.{locals_of, variables_of}
 use Rattle.gh_ast.specs.Programs.{IsFirstNamed}
 
--- some of these occurrences has this name
+-- one of these occurrences has this name
 abbrev pub HasName : List Occ → List ℕ → Type 0
 HasName os name = Any (λ o. o.name ≡ name) os
 
--- an occurrence whose name stands earlier in the list
+-- the list has at s an occurrence whose name stands earlier in it
 pub record RepeatedAt (os : List Occ) (s : Span) : Type 0 where
   pub here : Occ
   pub place : ℕ
@@ -82,7 +82,7 @@ abbrev pub RepeatedResult : Procedure → Site → Span → Type 0
 RepeatedResult q (assigned ts) s = RepeatedAt ts s
 RepeatedResult q _ s = ⊥
 
--- 11: the sign in the place of a body
+-- 11: the semicolon in the place of a body
 abbrev pub NoBody : Procedure → Span → Type 0
 NoBody q s = (q.close ≡ s) × (q.body ≡ None)
 

@@ -12,6 +12,7 @@ pub record IsNameWord (w : List ℕ) : Type 0 where
   pub word : IsWord w
   pub free : IsFree w
 
+-- a token that a text can have: where it is a word, the word is a name
 abbrev pub IsLexeme : Lexeme → Type 0
 IsLexeme (word w) = IsNameWord w
 IsLexeme (reserved k) = Unit {0}

@@ -73,6 +73,7 @@ abbrev mutual
   cleared [] = []
   cleared (b ∷ rest) = cond ((b == 47) && is_ahead 47 rest) (32 ∷ wiped rest) (b ∷ cleared rest)
 
+  -- the same of a text that begins inside a comment
   pub wiped : List ℕ → List ℕ
   wiped [] = []
   wiped (b ∷ rest) = cond (b == 10) (b ∷ cleared rest) (32 ∷ wiped rest)
@@ -91,7 +92,7 @@ first_place = record { line = 1; col = 1 }
 abbrev pub place_of : List ℕ → ℕ → Span
 place_of text k = moved_over first_place (take k text)
 
--- a byte outside comments isn't a character of the grammar, and it is the first
+-- the byte at the offset is the first one outside comments that is no character of the grammar
 pub record IsFirstByte (text : List ℕ) (offset : ℕ) : Type 0 where
   pub byte : ℕ
   pub here : slice_get (cleared text) offset ≡ Some byte
@@ -104,7 +105,7 @@ opens b = (b == 40) || (b == 123)
 abbrev pub closes : ℕ → Bool
 closes b = (b == 41) || (b == 125)
 
--- more than 64 of the opened brackets before the offset aren't closed there
+-- outside its comments, the text before the offset has over 64 more opening than closing brackets
 abbrev pub IsTooDeep : List ℕ → ℕ → Type 0
 IsTooDeep text n = count_by closes (take n (cleared text)) + 64 < count_by opens (take n (cleared text))
 
@@ -139,7 +140,7 @@ EndsWord (b ∷ rest) = is_name_byte b ≡ false
 abbrev pub IsLongest : Sign → List ℕ → Type 0
 IsLongest s text = (t : Sign) (more : List ℕ) → text ≡ sign_text t ++ more → length (sign_text t) ≤ length (sign_text s)
 
--- what a text without comments begins with, w, and the token that it is: a blank is none
+-- a text without comments is w and then the rest; w is one token, with its place, or it is a blank, which is none
 pub data IsPiece (place : Span) (w rest : List ℕ) : List Token → Type 0 where
   a_blank : (b : ℕ) → w ≡ b ∷ [] → IsTrue (is_blank b) → IsPiece place w rest []
   a_name : IsWord w → EndsWord rest → IsFree w → IsPiece place w rest (named (record { name = w; span = place }) ∷ [])
@@ -152,6 +153,7 @@ pub data IsTokens : Span → List ℕ → List Token → Span → List ℕ → T
   piece : {p end : Span} {text w rest last : List ℕ} {us ts all : List Token}
       → text ≡ w ++ rest → IsPiece p w rest us → IsTokens (moved_over p w) rest ts end last → all ≡ us ++ ts → IsTokens p text all end last
 
+-- without its comments, the whole text falls into these tokens
 abbrev pub HasTokens : List ℕ → List Token → Type 0
 HasTokens text ts = (end : Span) × IsTokens first_place (cleared text) ts end []
 

@@ -1,5 +1,5 @@
--- Programs in the shape that texts give them: lists of tests, of parts of an assertion and of alternatives have no fewer members than
--- a text can spell, and no test of an assertion's cases has a read.
+-- Programs in the shape that texts give them: lists of tests, of parts of an assertion and of alternatives have no
+-- fewer members than a text can spell, and no test of an assertion's cases has a read.
 use Rattle.std.specs.Prelude.{◌≡◌, ◌≤◌, length, Bool, true, false, Option, None, Some, All}
 use Rattle.gh_ast.specs.declared.Expr.{Expr}
 use Rattle.gh_ast.specs.declared.Expr.TheVariants.{Plain, Read}
@@ -20,7 +20,7 @@ AreManyTests (test_first t no_tests) = ⊥
 AreManyTests (test_first t (test_first u us)) = Unit {0}
 
 abbrev mutual
-  -- a test in a place where reads may stand, or may not
+  -- a test in the shape that texts give it; the truth value says whether reads may stand in it
   pub IsFormedTest : Bool → Test → Type 0
   IsFormedTest reads (compare l e r) = MayStand reads l × MayStand reads r
   IsFormedTest reads (negation t) = IsFormedTest reads t

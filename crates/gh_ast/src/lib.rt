@@ -28,14 +28,14 @@ pub enum Operand {
     Var(Occ),
 }
 
-/// An operand, or a read of one step.
+/// An operand, or the read `x.next` of a variable.
 #[derive(Debug, Drop)]
 pub enum Expr {
     Plain(Operand),
     Read(Occ),
 }
 
-/// A test.
+/// A test: a comparison, or a boolean combination of tests.
 #[derive(Debug, Drop)]
 pub enum Cond {
     Compare {
@@ -76,7 +76,7 @@ pub enum Assertion {
     },
 }
 
-/// Statements between braces.
+/// Statements between braces. `close` is the place of the last brace.
 #[derive(Debug, Drop)]
 #[cycle(stmt)]
 pub struct Block {
@@ -124,7 +124,7 @@ pub enum Stmt {
     },
 }
 
-/// A field of the struct.
+/// A field of the struct: its name, and the name of its type.
 #[derive(Debug, Drop)]
 pub struct Field {
     pub name: Occ,
@@ -139,7 +139,7 @@ pub struct Body {
 }
 
 /// A procedure. `needs` is what it requires, and `gives` what it ensures: its alternatives, at
-/// least one.
+/// least one. `close` is the place of the body's last brace, or of the semicolon in its place.
 #[derive(Debug, Drop)]
 pub struct Procedure {
     pub name: Occ,
@@ -152,7 +152,7 @@ pub struct Procedure {
     ghost some: { 0 < length gives.items },
 }
 
-/// A whole text.
+/// A program: the struct's fields, the place of the struct's last brace, and the procedures.
 #[derive(Debug, Drop)]
 pub struct Program {
     pub fields: Vec<Field>,

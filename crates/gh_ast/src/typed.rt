@@ -13,6 +13,9 @@ use std::marker::Model;
 /// up to 32; kind 3 the atoms of what a procedure requires, of all alternatives of what it ensures
 /// together, or of an invariant, up to 32. `span` is the place of the procedure's name, for kind 1
 /// that of the 257th. `count` is the counted number, or the greatest `u32` where that is greater.
+///
+/// Kinds 4 to 7 are the limits on conditions: on paths, steps, terms and versions; `count` is then one
+/// more than the limit. A question has kinds 2, 3 and 6, at the place of its word `requires`.
 #[derive(Clone, Copy, Debug, PartialEq, Eq)]
 pub struct Limit {
     pub kind: u8,

@@ -11,6 +11,7 @@ pub record Partial : Type 0 where
   pub sizes : Sizes
   pub values : List (Option Bool)
 
+-- there is an entry for each atom in range, and there are at most 4294967294 atoms
 pub record IsPartial (p : Partial) : Type 0 where
   pub all : length p.values ≡ count_of p.sizes
   pub room : count_of p.sizes ≤ 4294967294
@@ -23,7 +24,7 @@ value_at p atom = slice_index_or p.values (number_of p.sizes atom) None
 abbrev pub value_of : Partial → Lit → Option Bool
 value_of p l = option_map (under l.positive) (value_at p l.atom)
 
--- the table after an atom got a truth, or lost it
+-- the assignment after an atom got a truth, or lost it
 abbrev pub with_value : Partial → Atom → Option Bool → Partial
 with_value p atom value = record p { values = slice_set p.values (number_of p.sizes atom) value }
 

@@ -20,7 +20,7 @@ IsInRange s (Def number) = number < s.defs
 abbrev pub AreInRange : Sizes → List Lit → Type 0
 AreInRange s clause = All (λ l. IsInRange s l.atom) clause
 
--- the pairs of numbers of which the greater one is below b, equal ones included
+-- how many pairs of numbers have their greater one below b, pairs of equal numbers included
 abbrev pub pairs_below : ℕ → ℕ
 pairs_below b = b * (b + 1) / 2
 
@@ -37,10 +37,11 @@ alloc_start s = hop_start s + s.versions * s.terms * s.terms
 abbrev pub def_start : Sizes → ℕ
 def_start s = alloc_start s + s.versions * s.terms
 
+-- how many atoms are in range
 abbrev pub count_of : Sizes → ℕ
 count_of s = def_start s + s.defs
 
--- equalities by their greater term first, the others by version and then by each place in order
+-- the number of an atom: equalities by their greater term first, the others by version and then by each term in order
 abbrev pub number_of : Sizes → Atom → ℕ
 number_of s (Eq a b) = pairs_below b.0 + a.0
 number_of s (Btwn v x y z) = btwn_start s + (((v * s.terms + x.0) * s.terms + y.0) * s.terms + z.0)
@@ -48,7 +49,7 @@ number_of s (Hop v x y) = hop_start s + ((v * s.terms + x.0) * s.terms + y.0)
 number_of s (Alloc v x) = alloc_start s + (v * s.terms + x.0)
 number_of s (Def number) = def_start s + number
 
--- a place of a table with this many terms in a row
+-- the place is that of a term in a row of a table that has `terms` places in each row
 pub record IsRow (place terms row : ℕ) (term : Term) : Type 0 where
   pub is : place ≡ row * terms + term.0
   pub within : term.0 < terms

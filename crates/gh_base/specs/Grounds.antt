@@ -9,7 +9,7 @@ pub record Problem : Type 0 where
   pub sizes : Sizes
   pub clauses : List (List Lit)
 
--- there is a term and a version, and each atom is in range
+-- there is a term and a version, each atom is in range, and there are at most 4294967294 clauses
 pub record IsProblem (p : Problem) : Type 0 where
   pub terms : 1 ≤ p.sizes.terms
   pub versions : 1 ≤ p.sizes.versions

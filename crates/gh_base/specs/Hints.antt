@@ -5,14 +5,14 @@ use Rattle.gh_base.specs.Atoms.{opposite}
 use Rattle.gh_base.specs.Meaning.{Interpretation, IsClauseTrue}
 use Rattle.gh_base.specs.Propagation.{FollowsByUnits}
 
--- the set has the opposites of all literals of a clause but this one
+-- the clause has this literal, and the set has the opposites of all its literals but this one
 pub record HasAllButOne (set clause : List Lit) (l : Lit) : Type 0 where
   pub there : Contains clause l
   pub missing : Contains set (opposite l) → ⊥
   pub others : (m : Lit) → Contains clause m → m ≢ l → Contains set (opposite m)
 
--- A set of literals comes to a contradiction by hints, in order: it has the opposites of all literals of the first hint, or
--- those of all but one, that one joins it, and it comes to a contradiction by the hints after that.
+-- A set of literals comes to a contradiction by hints, in order: it has the opposites of all literals of the first
+-- hint, or those of all but one, that one joins it, and it comes to a contradiction by the hints after the first.
 pub data IsRefutedByHints : List (List Lit) → List Lit → Type 0 where
   refuted : (c : List Lit) (hints : List (List Lit)) (set : List Lit) → All (λ m. Contains set (opposite m)) c
       → IsRefutedByHints (c ∷ hints) set

@@ -37,7 +37,8 @@ pub record IsBegin {E : Type 0} (old new : MemoryInputs) (result : Result Bool E
   pub files : new.files.list ≡ old.files.list
   pub piece : new.piece ≡ old.piece
 
--- a `read` fails exactly where its number is listed and something is begun; it gives as much as there is and fits, at most a piece
+-- a `read` fails exactly where its number is listed and an input is begun; it gives as much as there is and fits, at
+-- most a piece
 pub record IsRead {E : Type 0} (old new : MemoryInputs) (room : ℕ) (result : Result ℕ E) : Type 0 where
   pub fails : IsErr result ↔ (IsListed old.calls × (is_some old.files.begun ≡ true))
   pub given : IfOk result (λ n. n ≡ min (min (length (left_in old.files)) room) old.piece)
@@ -57,7 +58,8 @@ pub record IsNewSink (s : MemorySink) (room piece : ℕ) : Type 0 where
 abbrev pub IsFull : MemorySink → Type 0
 IsFull s = s.room - length s.bytes.items ≡ 0
 
--- a `write` of some bytes fails exactly where its number is listed or no room is left; it takes as much as fits, at most a piece
+-- a `write` of some bytes fails exactly where its number is listed or no room is left, and one of none never fails; it
+-- takes as much as fits, at most a piece
 pub record IsWrite {E : Type 0} (old new : MemorySink) (bytes : List ℕ) (result : Result ℕ E) : Type 0 where
   pub fails : IsErr result ↔ ((0 < length bytes) × (IsListed old.calls ⊎ IsFull old))
   pub taken : IfOk result (λ n. n ≡ min (min (length bytes) old.piece) (old.room - length old.bytes.items))

@@ -11,7 +11,7 @@ pub data Propagated (clauses : List (List Lit)) (assumed : List Lit) : Lit → T
   forced : (c : List Lit) (l : Lit) → Contains clauses c → Contains c l
       → ((m : Lit) → Contains c m → m ≢ l → Propagated clauses assumed (opposite m)) → Propagated clauses assumed l
 
--- the set has a literal and its opposite, or the opposites of all literals of a clause
+-- propagation gives a literal and its opposite, or the opposites of all literals of a clause
 abbrev pub IsRefutedByUnits : List (List Lit) → List Lit → Type 0
 IsRefutedByUnits clauses assumed =
     ((l : Lit) × Propagated clauses assumed l × Propagated clauses assumed (opposite l))
@@ -33,7 +33,7 @@ IsLeast =
     (clauses : List (List Lit)) (assumed : List Lit) (set : Lit → Bool) → IsClosed clauses assumed set
     → (l : Lit) → Propagated clauses assumed l → IsTrue (set l)
 
--- a clause that propagation shows is true wherever the clauses before it are
+-- a clause that propagation over some clauses shows is true wherever these are
 abbrev pub IsSound : Type 0
 IsSound =
     (clauses : List (List Lit)) (clause : List Lit) (m : Interpretation) → All (IsClauseTrue m) clauses

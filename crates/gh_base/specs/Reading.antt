@@ -5,19 +5,22 @@ use Rattle.gh_base.specs.Outside.{Table, Rose}
 use Rattle.gh_base.specs.declared.reading.InputError.{InputError}
 use Rattle.gh_base.specs.declared.reading.InputError.TheVariants.{ReadFault, TooLong, Absent, OutOfMemory}
 
--- the bytes of a name, where the table is told
+-- what the table has for a name: its bytes, or that there is no such input; None where the table isn't told
 abbrev pub told : Option Table → List ℕ → Option (Option (List ℕ))
 told None name = None
 told (Some table) name = Some (table name)
 
+-- the text is the whole input, where the table is told
 abbrev pub IsWhole : Option (Option (List ℕ)) → List ℕ → Type 0
 IsWhole None text = ⊤
 IsWhole (Some bytes) text = bytes ≡ Some text
 
+-- the input is longer than the limit, where the table is told
 abbrev pub IsLonger : Option (Option (List ℕ)) → ℕ → Type 0
 IsLonger None limit = ⊤
 IsLonger (Some bytes) limit = (text : List ℕ) × (bytes ≡ Some text) × (limit < length text)
 
+-- there is no such input, where the table is told
 abbrev pub IsAbsent : Option (Option (List ℕ)) → Type 0
 IsAbsent None = ⊤
 IsAbsent (Some bytes) = bytes ≡ None
@@ -33,22 +36,23 @@ IsCaused bytes limit before now OutOfMemory = ⊤
 abbrev pub IsRefused : {T : Type 0} → Option Table → List ℕ → ℕ → ℕ → ℕ → Result T InputError → Type 0
 IsRefused table name limit before now result = MatchResult result (λ _. ⊤) (IsCaused (told table name) limit before now)
 
--- only a fault of the inputs raises their count
+-- the count of faults is as before, unless the answer is a fault
 abbrev pub IsCalm : {T : Type 0} → ℕ → ℕ → Result T InputError → Type 0
 IsCalm before now (Err ReadFault) = ⊤
 IsCalm before now result = now ≡ before
 
--- an input is begun but where there was none, or where a fault came
+-- an input is begun, unless there was none; after a fault nothing is said
 abbrev pub HasBegun : {T : Type 0} → Result T InputError → Bool → Type 0
 HasBegun (Err Absent) begun = begun ≡ false
 HasBegun (Err ReadFault) begun = ⊤
 HasBegun result begun = begun ≡ true
 
--- so many bytes of the input were read, at most `most`
+-- at most `most` bytes of the input were read, and the others are left
 abbrev pub StandsWithin : Option (List ℕ) → ℕ → Option (List ℕ) → Type 0
 StandsWithin bytes most left = (text : List ℕ) × (n : ℕ) × (bytes ≡ Some text) × (n ≤ most) × (left ≡ Some (drop n text))
 
--- the input was read to its end, or one byte past the limit and no further; or it stands where reading stopped
+-- what is left of the input: nothing where it was read or is absent, what comes after limit + 1 bytes where it is too
+-- long, and else what wasn't read, of which a fault may leave nothing
 abbrev pub ReadsTo : {T : Type 0} → Option (Option (List ℕ)) → ℕ → Result T InputError → Option (List ℕ) → Type 0
 ReadsTo None limit result left = ⊤
 ReadsTo (Some bytes) limit (Ok text) left = left ≡ Some []
@@ -62,8 +66,8 @@ abbrev pub IsReading : Option (Option (List ℕ)) → List ℕ → Option (List 
 IsReading None text left = ⊤
 IsReading (Some bytes) text left = (rest : List ℕ) × (left ≡ Some rest) × (bytes ≡ Some (text ++ rest))
 
--- the most calls that reading an input takes: one `begin`, a `read` for each byte that is taken, and one that gives nothing, fails, or takes the
--- byte past the limit
+-- the most calls that reading an input takes: one `begin`, a `read` for each byte that is taken, and one that gives
+-- nothing, fails, or takes the byte past the limit
 abbrev pub calls_for : Option (Option (List ℕ)) → ℕ → ℕ
 calls_for None limit = limit + 2
 calls_for (Some None) limit = 1

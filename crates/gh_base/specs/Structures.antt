@@ -14,11 +14,11 @@ pub record Tables : Type 0 where
   pub classes : List Term
   pub table : List Bool
 
--- the class of a term
+-- the class of a term; a term past the list is its own class
 abbrev pub class_at : List Term → ℕ → ℕ
 class_at classes t = (slice_index_or classes t (record { 0 = t })).0
 
--- each class is the least term of its class
+-- each class is named by its least term, which is no greater than its terms and is itself in the class
 pub record AreClasses (classes : List Term) : Type 0 where
   pub least : (t : ℕ) → t < length classes → class_at classes t ≤ t
   pub own : (t : ℕ) → t < length classes → class_at classes (class_at classes t) ≡ class_at classes t
@@ -41,6 +41,7 @@ IsEquality (Hop v x y) = ⊥
 IsEquality (Alloc v x) = ⊥
 IsEquality (Def number) = ⊥
 
+-- the tables with this truth at the atom's number
 abbrev pub with_truth : Tables → Atom → Bool → Tables
 with_truth s atom value = record s { table = slice_set s.table (number_of s.sizes atom) value }
 

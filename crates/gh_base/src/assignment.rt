@@ -39,7 +39,7 @@ fn no_values(alloc: Global, count: usize) -> Result<Vec<Option<bool>>, AllocErro
 }
 
 impl Assignment {
-    /// Each atom is unassigned. More than 4,294,967,294 atoms find no memory.
+    /// Each atom is unassigned. More than 4,294,967,294 atoms are answered as where memory runs out.
     pub fn new(alloc: Global, terms: u8, versions: u8, defs: u32) -> Result<Assignment, AllocError>
         ensures sizes { IfOk result (λ a. a.sizes ≡ record { terms = terms; versions = versions; defs = defs }) }
         ensures none { IfOk result (λ a. All (λ v. v ≡ None) a.values) }

@@ -7,8 +7,8 @@ use smallvec::SmallVec;
 use std::alloc::{AllocError, Global};
 use std::marker::Model;
 
-/// A disjunction of literals, four of them in place. Contracts see it as the list of its literals; it
-/// means their set.
+/// A disjunction of literals, four of them in place. Contracts see it as the list of its literals; neither their order
+/// nor a repetition changes what the clause means.
 #[derive(Debug, Drop)]
 pub struct Clause {
     lits: SmallVec<Lit, 4>,

@@ -44,7 +44,7 @@ impl Ground {
         }
     }
 
-    /// The next definition's number.
+    /// Adds a definition, and answers its number.
     pub fn define(&mut self) -> u32
         requires { self.old.sizes.defs < 2 ^ 32 - 1 }
         ensures number { result ≡ self.old.sizes.defs }

@@ -7,8 +7,7 @@ use smallvec::SmallVec;
 use std::alloc::{AllocError, Global};
 use std::marker::Model;
 
-/// A text of 1 to 64 letters, digits and `_`, at most 16 of them in place. Contracts see it as the list of its
-/// characters.
+/// A text of 1 to 64 letters, digits and `_`, at most 16 of them in place. Contracts see it as the list of its bytes.
 #[derive(Debug, Drop)]
 pub struct Name {
     text: SmallVec<u8, 16>,
@@ -64,7 +63,7 @@ impl Name {
         })
     }
 
-    /// The characters of the name.
+    /// The bytes of the name.
     pub fn bytes(&self) -> &[u8]
         ensures text { result.now ≡ self.now }
         ensures valid { IsNameText result.now }

@@ -1,4 +1,4 @@
-// The two traits, each with its meaning.
+// The traits `Inputs` and `Sink`, each with its meaning.
 
 ghost use Rattle.std.specs.Prelude.{◌≡◌, ℕ, ◌<◌, List, length, Option, Bool};
 ghost use Rattle.std.specs.Result.{is_err};
@@ -51,7 +51,7 @@ pub trait Inputs {
         ensures names { names self.new ≡ names self.old };
 }
 
-/// A place that takes bytes.
+/// What takes bytes.
 pub trait Sink {
     /// The bytes written, where they are told.
     ghost written: { Self → Option (List ℕ) };

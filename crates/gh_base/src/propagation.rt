@@ -8,7 +8,7 @@ pub fn units_are_least()
     ensures { IsLeast }
 {}
 
-/// A clause that reverse unit propagation shows is true wherever the clauses before it are.
+/// A clause that reverse unit propagation over some clauses shows is true wherever these are.
 pub fn units_are_sound()
     ensures { IsSound }
 {}

@@ -39,7 +39,7 @@ impl From<AllocError> for InputError {
     }
 }
 
-/// All bytes of the input of a name, at most `limit` of them.
+/// Reads all bytes of the input of a name. An input of more than `limit` bytes is refused.
 pub fn read_input<I: Inputs>(
     alloc: Global,
     inputs: &mut I,

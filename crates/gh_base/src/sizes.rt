@@ -59,7 +59,8 @@ fn equality_at(number: usize, terms: u8) -> Atom
 }
 
 impl Sizes {
-    /// Whether the terms, the version and the definition of an atom are there.
+    /// Whether an atom is in range: its terms, version and definition are there, and an equality has its smaller term
+    /// first.
     pub fn has(self, atom: Atom) -> bool
         ensures { IsTrue result ↔ IsInRange self atom }
     {
@@ -140,7 +141,7 @@ impl Sizes {
         }
     }
 
-    // The `Btwn` atom of a place among those.
+    // The `Btwn` atom at a place among all `Btwn` atoms.
     fn btwn_at(self, place: usize) -> Atom
         requires { place < self.versions * self.terms * self.terms * self.terms }
         ensures in_range { IsInRange self result }
@@ -158,7 +159,7 @@ impl Sizes {
         }
     }
 
-    // The `Hop` atom of a place among those.
+    // The `Hop` atom at a place among all `Hop` atoms.
     fn hop_at(self, place: usize) -> Atom
         requires { place < self.versions * self.terms * self.terms }
         ensures in_range { IsInRange self result }
@@ -174,7 +175,7 @@ impl Sizes {
         }
     }
 
-    // The `Alloc` atom of a place among those.
+    // The `Alloc` atom at a place among all `Alloc` atoms.
     fn alloc_at(self, place: usize) -> Atom
         requires { place < self.versions * self.terms }
         ensures in_range { IsInRange self result }

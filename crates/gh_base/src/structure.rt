@@ -126,7 +126,7 @@ impl Structure {
         self.table[number] = value;
     }
 
-    /// The class of a term, which is its least term.
+    /// The class of a term, which is the least term of that class.
     pub fn class(&self, term: Term) -> Term
         requires { term.0 < self.now.sizes.terms }
         ensures { result.0 ≡ class_at self.now.classes term.0 }

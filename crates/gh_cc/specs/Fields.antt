@@ -35,6 +35,6 @@ HaveRoom c =
     × (count_of c.sizes ≤ vec_capacity c.stages)
     × (3 * count_of c.sizes ≤ c.uses.room)
 
--- each literal stands where it is mentioned
+-- the mentions are those of the asserted literals, in order
 abbrev pub HasMentions : Inside → Type 0
 HasMentions c = c.uses.list ≡ all_mentions c.lits.items

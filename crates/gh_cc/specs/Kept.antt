@@ -23,7 +23,7 @@ use Rattle.gh_cc.specs.Asserted.{equality}
 abbrev pub at : (ℕ → ℕ) → Term → Term
 at r t = record { 0 = r t.0 }
 
--- representatives in the places of terms
+-- representatives in the places of terms, but for an equality, which stays as it is
 abbrev pub normal : (ℕ → ℕ) → Atom → Atom
 normal r (Eq a b) = Eq a b
 normal r (Btwn v x y z) = Btwn v (at r x) (at r y) (at r z)
@@ -149,7 +149,7 @@ pub record LinksMore (old new : Merged) : Type 0 where
   pub more : new.links ≡ old.links ++ added
   pub terms : new.terms ≡ old.terms
 
--- the fields of `Classes`
+-- the fields of `Classes` but for the mentions
 pub record Core : Type 0 where
   pub sizes : Sizes
   pub lits : List Lit
@@ -177,7 +177,7 @@ stage_at c k = slice_index_or c.stages k (record { depth = length c.links; entri
 abbrev pub NoClashBefore : Option ClashAt → ℕ → Type 0
 NoClashBefore clash k = (f : ClashAt) → clash ≡ Some f → k ≤ f.place
 
--- what was so when the first literals stood
+-- what was so at stage t, when only the first k literals stood
 pub record IsStage (c : Core) (k : ℕ) (t : Stage) : Type 0 where
   pub depth : t.depth ≤ length c.links
   pub count : t.entries ≤ length c.entries
@@ -192,6 +192,7 @@ pub record IsBefore (t u : Stage) : Type 0 where
   pub depth : t.depth ≤ u.depth
   pub entries : t.entries ≤ u.entries
 
+-- what is true of `Classes` between its calls
 pub record IsKept (c : Core) : Type 0 where
   pub few : length c.lits ≤ count_of c.sizes
   pub staged : length c.stages ≡ length c.lits
@@ -202,7 +203,7 @@ pub record IsKept (c : Core) : Type 0 where
   pub clashed : (f : ClashAt) → c.clash ≡ Some f → f.place < length c.lits
   pub rising : (j k : ℕ) → j ≤ k → k ≤ length c.lits → IsBefore (stage_at c j) (stage_at c k)
 
--- negated equalities of links were added to a clause, and where they hold the two atoms have one truth
+-- negated equalities of links were added to a clause, and where all of these are false the two atoms have one truth
 pub record ExplainsAtoms (s : Sizes) (links : List Link) (a b : Atom) (old new : List Lit) : Type 0 where
   pub added : List Lit
   pub more : new ≡ old ++ added

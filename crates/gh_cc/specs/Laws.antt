@@ -9,7 +9,7 @@ use Rattle.gh_cc.specs.Asserted.{IsFree, IsConsistent}
 use Rattle.gh_cc.specs.Kept.{normal, IsRelation}
 use Rattle.gh_cc.specs.Partials.{IsStructureOf}
 
--- its equality is a congruence
+-- the equality of the structure is a congruence
 abbrev pub AreCongruences : Type 0
 AreCongruences = (s : Sizes) (lits : List Lit) (m : Interpretation) → IsStructureOf s lits m → IsCongruence s m
 
@@ -18,7 +18,8 @@ abbrev pub AreAssertedTrue : Type 0
 AreAssertedTrue = (s : Sizes) (lits : List Lit) (m : Interpretation) → IsStructureOf s lits m → AreInRange s lits
     → IsConsistent s lits → All (IsLitTrue m) lits
 
--- then a clause all of whose atoms are assigned is true, unless each of its literals is negated
+-- where what is asserted is consistent, a clause each of whose atoms is asserted or negated is true, unless the
+-- opposite of each of its literals is asserted
 abbrev pub AreAssignedTrue : Type 0
 AreAssignedTrue =
     (s : Sizes) (lits : List Lit) (m : Interpretation) (clause : List Lit) → IsStructureOf s lits m → AreInRange s lits

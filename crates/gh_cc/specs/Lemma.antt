@@ -26,7 +26,7 @@ pub record Opposes (s : Sizes) (links : List Link) (other l : Lit) : Type 0 wher
   pub key : number_of s (normal (reps links) other.atom) ≡ number_of s (normal (reps links) l.atom)
   pub signs : other.positive ≢ l.positive
 
--- some literal opposes it
+-- some literal of the list opposes this one
 abbrev pub IsOpposed : Sizes → List Link → List Lit → Lit → Type 0
 IsOpposed s links lits l = (other : Lit) × Contains lits other × Opposes s links other l
 
@@ -42,7 +42,7 @@ pub record HasSettled (s : Sizes) (links : List Link) (lits : List Lit) : Type 0
   pub there : Contains lits lit
   pub settled : IsSettled s links lits lit
 
--- some literal of this sign has the key
+-- some literal of this sign has the key: the number of its atom with representatives in the places of terms
 pub record HasKey (s : Sizes) (links : List Link) (lits : List Lit) (sign : Bool) (key : ℕ) : Type 0 where
   pub lit : Lit
   pub there : Contains lits lit
@@ -59,6 +59,7 @@ pub record AreKeys (s : Sizes) (links : List Link) (lits : List Lit) (sign : Boo
   pub listed : AreListed s links lits sign keys
   pub ascending : IsNonDecreasing keys
 
+-- the keys of the positive literals and those of the negated ones
 pub record IsKeyed (s : Sizes) (links : List Link) (k : Keyed) : Type 0 where
   pub positive : AreKeys s links k.lits.now true k.positive.items
   pub negated : AreKeys s links k.lits.now false k.negated.items
@@ -73,15 +74,15 @@ pub record HaveOneClass (old new : Merged) (a b : Term) : Type 0 where
   pub same : reps old.links a.0 ≡ reps old.links b.0
   pub stays : new ≡ old
 
--- the answer tells which of both
+-- the answer tells whether the terms were joined
 abbrev pub TellsJoin : Merged → Merged → Term → Term → Bool → Type 0
 TellsJoin old new a b answer = MatchBool answer (JoinsTerms old new a b) (HaveOneClass old new a b)
 
--- the literal joins no two classes by its negation
+-- where the literal is a negated equality, its terms have one class
 abbrev pub IsJoined : List Link → Lit → Type 0
 IsJoined links l = (a b : Term) → opposite l ≡ equality a b → reps links a.0 ≡ reps links b.0
 
--- the classes are those of the first negated equalities of a clause
+-- the links rest on negated equalities of the clause, and join the terms of those in `first`
 pub record AreNegatedClasses (lits first : List Lit) (p : Merged) : Type 0 where
   pub merges : AreMerges p.terms p.links
   pub linked : (k : Link) → Contains p.links k → Contains lits (disequality_of k)

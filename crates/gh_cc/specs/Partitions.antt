@@ -47,7 +47,7 @@ abbrev pub disequality_of : Link → Lit
 disequality_of l =
     record { atom = Eq (record { 0 = min l.from.0 l.to.0 }) (record { 0 = max l.from.0 l.to.0 }); positive = false }
 
--- the added literals negate equalities of links, and where these hold the two terms have one class
+-- the added literals negate equalities of links, and where all added ones are false the two terms have one class
 pub record Explains (links : List Link) (a b : Term) (added : List Lit) : Type 0 where
   pub negated : All (λ l. (k : Link) × Contains links k × (l ≡ disequality_of k)) added
   pub joins : (m : Interpretation) → All (λ l. lit_truth m l ≡ false) added → m.class a.0 ≡ m.class b.0

@@ -12,7 +12,7 @@ pub record Filed : Type 0 where
 abbrev pub with_entry : Filed → ℕ → ℕ → Filed
 with_entry f number lit = record f { entries = f.entries ++ (record { number = number; lit = lit }) ∷ [] }
 
--- the literal of the first entry of a number
+-- the place of the literal of the first entry of a number
 abbrev pub find_lit : List Entry → ℕ → Option ℕ
 find_lit [] number = None
 find_lit (e ∷ es) number = if nat_eq e.number number then Some e.lit else find_lit es number

@@ -1,4 +1,4 @@
-//! Contradictions among asserted literals, and the clauses that they make.
+//! Contradictions among asserted literals.
 
 /// Asserted literals that contradict each other, by their places.
 #[derive(Clone, Copy, Debug, PartialEq, Eq)]

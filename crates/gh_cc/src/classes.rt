@@ -173,8 +173,8 @@ impl Classes {
     }
 
     /// The truth that equality and congruence give an atom other than an equality: that of an asserted one over terms
-    /// of the same classes. None where they give none, of which nothing is said where the asserted literals are
-    /// inconsistent. Of equalities `same` tells. It takes constant time.
+    /// of the same classes. None where they give it none; where the asserted literals are inconsistent, None says
+    /// nothing. `same` tells of equalities. It takes constant time.
     pub fn truth_of(&self, atom: Atom) -> Option<bool>
         requires in_range { IsInRange self.now.sizes atom }
         requires relation { IsRelation atom }

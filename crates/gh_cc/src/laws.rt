@@ -12,17 +12,18 @@ pub fn are_asserted_true()
     ensures { AreAssertedTrue }
 {}
 
-/// A clause all of whose atoms are assigned is true there, unless it is false.
+/// Where what is asserted is consistent, a clause each of whose atoms is asserted or negated is true in the structure,
+/// unless the opposite of each of its literals is asserted.
 pub fn are_assigned_true()
     ensures { AreAssignedTrue }
 {}
 
-/// The structure gives each atom one truth.
+/// All structures of the same literals give each atom one truth.
 pub fn are_alike()
     ensures { AreAlike }
 {}
 
-/// An atom has the truth of the one over the least terms of its classes.
+/// An atom has the truth of the one over other terms of the same classes, as the least ones.
 pub fn are_least_enough()
     ensures { AreLeastEnough }
 {}

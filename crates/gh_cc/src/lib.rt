@@ -1,4 +1,4 @@
-//! Congruence: what asserted literals say by equality alone.
+//! Congruence: what asserted literals say by equality and congruence alone.
 #![tactic(auto)]
 
 mod clash;

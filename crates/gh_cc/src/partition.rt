@@ -150,7 +150,7 @@ impl Partition {
         relabel(&mut self.reps, old, new);
     }
 
-    /// Leaves the first merges.
+    /// Leaves the first `depth` merges.
     pub fn cut(&mut self, depth: usize)
         requires { depth ≤ length self.old.links }
         ensures { self.new ≡ record self.old { links = take depth self.old.links } }
@@ -228,7 +228,8 @@ impl Partition {
         }
     }
 
-    /// Adds to a clause the negated equalities of links that give two terms of one class one value.
+    /// Adds negated equalities of links to a clause: where all of these are false, the two terms, which have one class,
+    /// are equal.
     pub fn explain(&self, clause: &mut Clause, a: Term, b: Term) -> Result<(), AllocError>
         requires a { a.0 < self.now.terms }
         requires b { b.0 < self.now.terms }

@@ -1,4 +1,4 @@
-//! Which literal gave an atom its truth, by the atom's number, with what was written in order.
+//! Which literal gave an atom its truth, by the atom's number, with the entries in their order.
 
 ghost use Rattle.std.specs.Prelude.{◌≡◌, ◌<◌, ◌^◌, [], None, IfOk, All, length, take, vec_capacity};
 ghost use Rattle.gh_cc.specs.Signs.{AreSigns, free_places, find_lit, with_entry};
@@ -72,7 +72,7 @@ impl Signs {
         })
     }
 
-    /// The literal of a number, if there is an entry.
+    /// The place of the literal of a number's entry, if there is one.
     pub fn get(&self, number: usize) -> Option<u32>
         requires { number < self.now.count }
         ensures { result ≡ find_lit self.now.entries number }

@@ -13,7 +13,7 @@ abbrev pub lits_in : LineClause → List Lit
 lits_in (Borrowed lits) = lits.now
 lits_in (Instance clause) = clause
 
--- the line stands at the position, and was taken
+-- what the line names is an instance, if it is a line of an axiom, and its clause is the one at the position
 pub record IsLineAt (k : Kept) (position : ℕ) (line : LogLine) : Type 0 where
   pub named : IsNamed k.problem (line_of line)
   pub clause : slice_index_or k.clauses position None ≡ line_clause k.problem (line_of line)

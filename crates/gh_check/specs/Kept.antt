@@ -46,7 +46,7 @@ pub record HasNext (k : Kept) : Type 0 where
 abbrev pub IsLeft : Kept → ℕ → Type 0
 IsLeft k position = slice_index_or k.deleted position false ≡ false
 
--- before the first line of these
+-- what is kept before the first of these lines
 pub record IsFirst (p : Problem) (lines : List LogLine) (k : Kept) : Type 0 where
   pub problem : k.problem ≡ p
   pub lines_are : k.lines ≡ lines
@@ -71,6 +71,7 @@ clause_at k position = unwrap_or (slice_index_or k.clauses position None) []
 abbrev pub named : Kept → List ℕ → List (List Lit)
 named k positions = map (clause_at k) positions
 
+-- the clause, if there is one, is in range
 abbrev pub IsWithin : Sizes → Option (List Lit) → Type 0
 IsWithin s entry = (c : List Lit) → entry ≡ Some c → AreInRange s c
 
@@ -98,7 +99,7 @@ pub record MayBeDeleted (k : Kept) (positions : List ℕ) : Type 0 where
   pub stand : All (λ position. IsTrue (stands_in k position)) positions
   pub distinct : AllPairs ◌≢◌ positions
 
--- this is kept of some lines
+-- this is kept of these lines, and their clauses are in range
 pub record AreLinesKept (p : Problem) (lines : List LogLine) (k : Kept) : Type 0 where
   pub clauses : k.clauses ≡ None ∷ map (line_clause p) lines
   pub stand : (position : ℕ) → IsLeft k position ↔ All (λ l. Deletes l position → ⊥) lines

@@ -12,7 +12,7 @@ use Rattle.gh_check.specs.declared.lines.Earlier.{Earlier}
 use Rattle.gh_check.specs.declared.lines.Outcome.{Outcome}
 use Rattle.gh_check.specs.declared.lines.Outcome.TheVariants.{Faulty, Holds}
 
--- the line is of its kind after these lines
+-- the line is of its kind after these lines, and its clause is in range
 pub record IsTaken (p : Problem) (earlier : List LogLine) (line : LogLine) : Type 0 where
   pub kind : IsOfKind p earlier line
   pub within : IsWithin p.sizes (line_clause p line)
@@ -22,7 +22,7 @@ abbrev pub IsChecked : Problem → List LogLine → LogLine → Outcome → Type
 IsChecked p earlier line (Faulty kind) = (IsOfKind p earlier line → ⊥) × IsFaultOf p earlier line (fault_number kind)
 IsChecked p earlier line Holds = IsTaken p earlier line
 
--- with the clause of a line that is of its kind, this is kept of it and the lines before
+-- where the line is of its kind, this with the line's clause is what is kept of the lines before and the line
 abbrev pub IsKeptAfter : Problem → List LogLine → LogLine → Outcome → Kept → Type 0
 IsKeptAfter p earlier line (Faulty kind) k = ⊤
 IsKeptAfter p earlier line Holds k = AreLinesKept p (earlier ++ line ∷ []) (with_line k (line_clause p line))
@@ -35,7 +35,7 @@ Answers p k line o = (earlier : List LogLine) → AreLinesKept p earlier k → I
 abbrev pub AnswersOver : Sizes → Kept → LogLine → Outcome → Type 0
 AnswersOver sizes k line o = (p : Problem) → p.sizes ≡ sizes → Answers p k line o
 
--- what is kept after that
+-- what is kept after the check of a line
 abbrev pub Leaves : Problem → Kept → LogLine → Outcome → Kept → Type 0
 Leaves p old line o new = (earlier : List LogLine) → AreLinesKept p earlier old → IsKeptAfter p earlier line o new
 

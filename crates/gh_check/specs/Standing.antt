@@ -14,7 +14,7 @@ use Rattle.gh_check.specs.declared.standing.Standing.{Standing}
 abbrev pub AreGivenBy : List (List Lit) → List Lit → Type 0
 AreGivenBy clauses set = (assumed : List Lit) (l : Lit) → Contains set l → Propagated clauses assumed l
 
--- where the clauses give the literals of a set, they give those of another
+-- where the clauses give the literals of the old set, they give those of the new one
 abbrev pub KeepsGiven : List (Option (List Lit)) → List Lit → List Lit → Type 0
 KeepsGiven entries old new = AreGivenBy (present entries) old → AreGivenBy (present entries) new
 
@@ -44,7 +44,7 @@ pub record IsAtRest (set clause : List Lit) : Type 0 where
   pub forced : (l : Lit) → Contains clause l
       → ((m : Lit) → Contains clause m → m ≢ l → Contains set (opposite m)) → Contains set l
 
--- so it is with each clause that is there
+-- each clause that is there is at rest
 abbrev pub AreAtRest : List Lit → List (Option (List Lit)) → Type 0
 AreAtRest set entries = All (IsAtRest set) (present entries)
 
@@ -57,7 +57,7 @@ pub record IsClosedBy (entries : List (Option (List Lit))) (set : List Lit) : Ty
   pub consistent : IsConsistent set
   pub at_rest : AreAtRest set entries
 
--- such a set makes the clause false
+-- the set makes the clause false, and is closed so
 pub record IsRefusedBy (entries : List (Option (List Lit))) (set clause : List Lit) : Type 0 where
   pub falsified : IsFalseBy set clause
   pub closed : IsClosedBy entries set

@@ -29,7 +29,7 @@ pub record IsTable (table : Partial) (set : List Lit) : Type 0 where
   pub apart : IsConsistent set
   pub tells : (l : Lit) → IsInRange table.sizes l.atom → IsValueIn set l (value_of table l)
 
--- the set has the opposites of all literals
+-- the set has the opposites of all literals of the clause
 abbrev pub IsFalseBy : List Lit → List Lit → Type 0
 IsFalseBy set clause = All (λ m. Contains set (opposite m)) clause
 
@@ -37,11 +37,11 @@ IsFalseBy set clause = All (λ m. Contains set (opposite m)) clause
 abbrev pub IsOpenIn : List Lit → List Lit → Lit → Type 0
 IsOpenIn set clause l = Contains clause l × (Contains set (opposite l) → ⊥)
 
--- such a literal is found, if the clause isn't false
+-- a literal of the clause that isn't false is found, or none is and the clause is false
 abbrev pub FindsOpen : List Lit → List Lit → Option Lit → Type 0
 FindsOpen set clause found = MatchOption found (IsFalseBy set clause) (IsOpenIn set clause)
 
--- a literal and its opposite
+-- the set has a literal and its opposite
 abbrev pub HasBoth : List Lit → Type 0
 HasBoth set = (l : Lit) × Contains set l × Contains set (opposite l)
 
@@ -53,7 +53,7 @@ HasOpposites clause = HasBoth (map opposite clause)
 abbrev pub IsMetBy : List Lit → List Lit → Type 0
 IsMetBy set clause = (l : Lit) × Contains clause l × Contains (set ++ map opposite clause) l
 
--- what a clause is, as the set of its literals
+-- what a clause, taken as the set of its literals, is where the literals of a set are true
 abbrev pub IsLook : List Lit → List Lit → Look → Type 0
 IsLook set clause False = IsFalseBy set clause
 IsLook set clause (One l) = HasAllButOne set clause l

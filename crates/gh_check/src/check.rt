@@ -44,7 +44,7 @@ fn keep(before: &mut Earlier<'_>)
     before.kept.advance();
 }
 
-/// Checks each line of a section, in order.
+/// Checks each line of a section, in order, and that the clause of the last one is empty.
 pub fn check_log(alloc: Global, ground: &Ground, section: &Section) -> Result<(), CheckError>
     requires { section.now.first + length section.now.lines ≤ 4294967295 }
     ensures valid { OnOk result (IsValidSection ground.now section.now.lines) }

@@ -1,5 +1,5 @@
-//! Rows of codes that differ, in a tree by their bits: a row is found in the time of its own codes. No clause speaks of
-//! it: a row that isn't found is taken in again.
+//! Rows of codes that differ, in a tree by their bits: a row is found in the time of its own codes. No contract speaks
+//! of the tree: a row that isn't found is taken in again.
 
 use std::alloc::{AllocError, Global};
 

@@ -22,7 +22,7 @@ pub enum FaultKind {
 }
 
 impl FaultKind {
-    /// Its number, from 1 on.
+    /// The number of the fault, from 1.
     pub fn number(self) -> u8
         ensures { result ≡ fault_number self }
     {
@@ -100,7 +100,7 @@ impl LogFault {
         }
     }
 
-    /// What is wrong.
+    /// What is wrong, by the number. A number that is no fault's gives `NoSuchLine`.
     pub fn kind(self) -> FaultKind
         ensures { result ≡ fault_kind self.number }
     {

@@ -50,7 +50,7 @@ pub fn are_in_range(sizes: Sizes, lits: &[Lit]) -> bool
     lits.iter().all(|lit| sizes.has(lit.atom))
 }
 
-// An instance.
+// Checks the name of an instance.
 fn checked_axiom(alloc: Global, ground: &Ground, name: InstanceName) -> Outcome
     ensures { (earlier : List Line) → IsChecked ground.now earlier (line_kind.Axiom name) result }
 {
@@ -60,7 +60,7 @@ fn checked_axiom(alloc: Global, ground: &Ground, name: InstanceName) -> Outcome
     }
 }
 
-// The number of a ground clause.
+// Checks the number of a ground clause.
 fn checked_clause(ground: &Ground, number: u32) -> Outcome
     ensures { (earlier : List Line) → IsChecked ground.now earlier (line_kind.Clause number) result }
 {
@@ -79,7 +79,7 @@ fn follows_alone(alloc: Global, sizes: Sizes, lits: &[Lit]) -> Result<bool, Allo
     Ok(follows)
 }
 
-// A clause that follows from equality and congruence alone.
+// Checks that a clause follows from equality and congruence alone.
 fn checked_lemma(alloc: Global, ground: &Ground, lits: &[Lit]) -> Result<Outcome, AllocError>
     ensures { IfOk result (λ o. (earlier : List Line) → IsChecked ground.now earlier (line_kind.Lemma lits.now) o) }
 {
@@ -115,7 +115,7 @@ fn is_implied(
     }
 }
 
-// A clause over atoms in range that unit propagation shows from all lines before.
+// Checks that the atoms of a clause are in range and unit propagation shows it from all lines before.
 fn checked_learnt(
     alloc: Global,
     sizes: Sizes,
@@ -140,7 +140,7 @@ fn checked_learnt(
     Ok(Outcome::Holds)
 }
 
-// A clause over atoms in range that its hints show, which all stand.
+// Checks that the atoms of a clause are in range, and that its hints all stand and show it.
 fn checked_hinted(
     ground: &Ground,
     kept: &Positions<'_>,
@@ -165,7 +165,7 @@ fn checked_hinted(
     Ok(Outcome::Holds)
 }
 
-// A deletion of positions that stand and are distinct.
+// Checks that positions stand and are distinct, and deletes them.
 fn checked_deletion(kept: &mut Positions<'_>, positions: &[u32]) -> Outcome
     ensures problem { kept.new.problem ≡ kept.old.problem }
     ensures lines { kept.new.lines ≡ kept.old.lines }
@@ -180,7 +180,7 @@ fn checked_deletion(kept: &mut Positions<'_>, positions: &[u32]) -> Outcome
     }
 }
 
-/// Checks a line after those that are kept. Where it holds, what is kept is to have it too.
+/// Checks a line after those that are kept. Where the answer is `Holds`, the line is to be kept too.
 pub fn checked(
     alloc: Global,
     ground: &Ground,

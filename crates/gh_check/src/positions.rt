@@ -14,8 +14,8 @@ use gh_log::lines::{Lines, LogLine};
 use std::alloc::{AllocError, Global};
 use std::marker::Model;
 
-/// The lines of a section that were taken, by their positions from 1, and which of these a line deletes. Each has the
-/// clause that the section or the ground clauses have; a deletion has none.
+/// The lines of a section that were taken, by their positions from 1, and which of these a line deletes. The clause of
+/// a line is that of its instance, its ground clause, or its own; a deletion has none.
 #[derive(Drop)]
 pub struct Positions<'s> {
     alloc: Global,

@@ -72,7 +72,7 @@ fn is_implied(learner: &mut Learner, lits: &[Lit]) -> bool
 }
 
 /// The search by which clauses are shown from all lines before. It is made at the first such clause, and has the
-/// clauses of so many positions.
+/// clauses of the first `taken` positions.
 #[derive(Drop)]
 pub struct Units {
     learner: Option<Learner>,

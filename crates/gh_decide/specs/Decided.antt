@@ -8,11 +8,11 @@ use Rattle.gh_log.specs.Spelled.{lines_of}
 use Rattle.gh_decide.specs.Logs.{AreValidSections}
 use Rattle.gh_decide.specs.Verdicts.{IsWritable}
 
--- they are valid
+-- the first k conditions are valid
 abbrev pub AreValidUpTo : Program → ℕ → Type 0
 AreValidUpTo P k = (d : Condition) → Contains (take k (conditions P)) d → IsConditionValid P d
 
--- they are valid, and so are their sections
+-- the first k conditions are valid, and so are their sections, of which a log can be written
 pub record AreDecided (P : Program) (k : ℕ) (sections : List Section) : Type 0 where
   pub valid : AreValidUpTo P k
   pub log : AreValidSections P (take k (conditions P)) (lines_of sections)

@@ -34,6 +34,7 @@ alone p = record { fields = []; close = somewhere; procedures = p ∷ [] }
 abbrev pub cuts : Procedure
 cuts = with_cell (cell x) (statement_first (write x (Plain (Null somewhere))) no_statements)
 
+-- nothing is done, so the cell isn't given back: `ensures emp`
 abbrev pub leaks : Procedure
 leaks = with_cell empty no_statements
 

@@ -11,6 +11,7 @@ use Rattle.gh_decide.specs.Rules.{AllKeepRules}
 use Rattle.gh_decide.specs.Examples.{alone, cuts, leaks, frees_twice}
 use Rattle.gh_decide.specs.Safe.{Safe, PathsPass, AllPass}
 
+-- a state is safe exactly where each path's check is passed
 abbrev pub SafeMeansPathsPass : Type 0
 SafeMeansPathsPass = (P : Program) (p : Procedure) (g : Graph) (x : State) → Safe P p g x ↔ PathsPass P p g x
 
@@ -19,6 +20,7 @@ abbrev pub TestsLead : Type 0
 TestsLead =
     (P : Program) (p : Procedure) (t : Test) (g k : Graph) (x : State) → Safe P p (tested t g k) x → (way : Bool) × (outcome x.store x.heap t ≡ Some way) × Safe P p (cond way g k) x
 
+-- a program that keeps the rules is good where each check of each path is passed
 abbrev pub Composition : Type 0
 Composition = (P : Program) → AllKeepRules P → AllPass P → IsGood P
 

@@ -18,6 +18,7 @@ pub record IsVerified (P : Program) (kept : Log) : Type 0 where
   pub spelled : IsSpelled 2 (lines_of kept.sections.items)
   pub writable : All IsWritable kept.sections.items
 
+-- all conditions are valid, or the condition of the number is the first that isn't, which the trace shows
 abbrev pub IsOutcome : Program → Outcome → Type 0
 IsOutcome P (Verified log) = IsVerified P log
 IsOutcome P (Refuted number trace) = IsFirst P number trace

@@ -5,6 +5,7 @@ use Rattle.gh_ast.specs.Plain.{Program}
 use Rattle.gh_ast.specs.Programs.{Name, parameters_of, results_of, body_of, SomeAssigns}
 use Rattle.gh_ast.specs.Names.{FormulaIn}
 
+-- no return stands in the statement
 abbrev mutual
   pub ReturnsNot : Statement → Type 0
   ReturnsNot (choice t a c b d) = AllReturnNot a × AllReturnNot b
@@ -27,6 +28,7 @@ abbrev mutual
   AllLoopsReturnNot no_statements = Unit {0}
   AllLoopsReturnNot (statement_first s ss) = LoopsReturnNot s × AllLoopsReturnNot ss
 
+-- no parameter is assigned or is a result, `requires` speaks of parameters alone, and no return stands in a loop
 pub record KeepsRules (p : Procedure) : Type 0 where
   pub parameters_stay : (y : Name) → Contains (parameters_of p) y → SomeAssigns (body_of p) y → ⊥
   pub distinct : (y : Name) → Contains (parameters_of p) y → Contains (results_of p) y → ⊥

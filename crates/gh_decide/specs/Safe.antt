@@ -15,7 +15,7 @@ Safe P p (moves s g) x = (y : State) → Takes P p s x y → Safe P p g y
 Safe P p (guarded c s g) x = Passes P p c x × ((y : State) → Takes P p s x y → Safe P p g y)
 Safe P p (fork l e r g k) x = ((y : State) → Takes P p (assume l e r) x y → Safe P p g y) × ((y : State) → Takes P p (assume l (not e) r) x y → Safe P p k y)
 
--- the same by whole paths
+-- the same by whole paths: each path's check is passed in the last state of each trace of the path from x
 abbrev pub PathsPass : Program → Procedure → Graph → State → Type 0
 PathsPass P p g x = (ss : List PathStep) (c : Check) → Path g ss c → (ys : List State) → IsTrace P p x ss ys → Passes P p c (last_state x ys)
 

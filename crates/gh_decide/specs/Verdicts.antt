@@ -14,8 +14,8 @@ use Rattle.gh_decide.specs.Logs.{IsSectionOf}
 use Rattle.gh_decide.specs.declared.decide.Verdict.{Verdict}
 use Rattle.gh_decide.specs.declared.decide.Verdict.TheVariants.{Valid, Refuted}
 
--- a log can be written of it: it stands at the first line, its lines have numbers of 32 bits, as has the one after them, and
--- the grammar of logs of version 2 can spell them
+-- a log can be written of the section: it stands at the first line, its lines have numbers of 32 bits, as has the one
+-- after them, and the grammar of logs of version 2 can spell them
 pub record IsWritable (s : Section) : Type 0 where
   pub first : s.first ≡ 1
   pub few : length s.lines ≤ 4294967294
@@ -31,6 +31,7 @@ pub record IsShown (P : Program) (r : kept.Condition) (s : Section) : Type 0 whe
   pub section : IsSectionOf P (condition_of r) s.lines
   pub writable : IsWritable s
 
+-- the condition is valid, which the section shows; or the trace is a counterexample of it
 abbrev pub IsVerdict : Program → kept.Condition → Verdict → Type 0
 IsVerdict P r (Valid s) = IsShown P r s
 IsVerdict P r (Refuted t) = Refutes P (condition_of r) (drawn_of t)

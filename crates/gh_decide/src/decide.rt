@@ -54,9 +54,9 @@ pub fn decide(alloc: Global, typed: &Typed, condition: &Condition) -> Result<Ver
     decide_with(alloc, typed, condition, &mut Known::new())
 }
 
-/// Decides a condition of an admitted program as [`decide`] does. What is known from conditions that were decided before
-/// may shorten it, and what it finds is known to later ones. Where memory runs out, more or less may be known than
-/// before.
+/// Decides a condition of an admitted program as [`decide`] does. What is known from conditions that were decided
+/// before may shorten the search, and what the search finds is known to later ones. Where memory runs out, more or less
+/// may be known than before.
 pub fn decide_with(
     alloc: Global,
     typed: &Typed,

@@ -15,7 +15,7 @@ pub fn tests_lead()
     ensures { TestsLead }
 {}
 
-/// Where each check of each path is passed, every run of every procedure is good.
+/// In a program that keeps the rules, where each check of each path is passed, every run of every procedure is good.
 pub fn composition()
     ensures { Composition }
 {}

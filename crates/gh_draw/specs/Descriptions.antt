@@ -27,7 +27,7 @@ abbrev pub loop_text : Option Loop → List ℕ
 loop_text (Some l) = place_text l.at
 loop_text None = []
 
--- a start, or the loop of a number among those of the procedure
+-- `entry`, or `loop at L:C` with the place of the loop of a number among those of the procedure
 abbrev pub start_text : List Loop → Start → List ℕ
 start_text ls whole_body = codes "entry"
 start_text ls (round n) = codes "loop at " ++ loop_text (slice_get ls n)

@@ -56,6 +56,7 @@ pub record HasValues (s : State) : Type 0 where
 abbrev pub IsOver : List Name → State → Type 0
 IsOver names s = listed_names s.store ≡ names
 
+-- a state over these variables in which all values are within 32 bits, and null has no cell
 pub record IsDrawnState (names : List Name) (s : State) : Type 0 where
   pub over : IsOver names s
   pub values : All (λ e. IsValue e.value) s.store
@@ -84,7 +85,8 @@ pub record IsFileOf (P : Program) (text : List ℕ) (number : ℕ) (ss : List St
   pub whole : text ≡ flat_map line skipped ++ drawing_text number ss
   pub drawn : IsDrawnFor P number ss
 
--- kept states of a condition, drawn under its number: the text is that of the states that they stand for, which refute it and have no greater values
+-- kept states of a condition, drawn under its number: the text is that of the states that they stand for; these
+-- refute the condition, and have no value past 32 bits
 pub record IsTold (P : Program) (number : ℕ) (c : Condition) (ss : List State) : Type 0 where
   pub procedure : Procedure
   pub of : IsOf P c procedure

@@ -10,7 +10,7 @@ use Rattle.gh_path.specs.declared.condition.Start as kept_start
 use Rattle.gh_path.specs.declared.condition.CheckKind as kept_kind
 use Rattle.gh_path.specs.declared.condition.Condition as kept_condition
 
--- the numbers of a start and of what is asked are there
+-- the loop that a start names is there, and so is the procedure or the loop that a check names
 abbrev pub HasStart : Procedure → kept_start.Start → Type 0
 HasStart p start = StartIsThere p (start_of start)
 

@@ -48,14 +48,16 @@ RefutationsAreTold =
 abbrev pub DescriptionsAreLines : Type 0
 DescriptionsAreLines = (source : List ℕ) (P : Program) (c : Condition) → Spells source P → Contains (conditions P) c → IsOtherLine (description P c)
 
--- and so the report on what they refute, a line, the description and the drawing, is a file that has them
+-- and so a report of one line, the description of a condition and the drawing of states that refute it is a file that
+-- has these states
 abbrev pub RefutationsAreFiles : Type 0
 RefutationsAreFiles =
     (source : List ℕ) (P : Program) (first : List ℕ) (n : ℕ) (c : Condition) (xs : List State) → Spells source P → IsTyped P → IsOtherLine first → 1 ≤ n → IsValue n
     → slice_get (conditions P) (n - 1) ≡ Some c → (r : Refutes P c (map drawn xs)) → All HasValues xs
     → IsFileOf P (line first ++ line (description P c) ++ drawing n (variable_names r.procedure) (map state_of xs)) n xs
 
--- where each name stands once and null has no cell, kept states have values within 32 bits exactly where the states that they stand for are drawable
+-- where each name stands once and null has no cell, kept states have values within 32 bits exactly where the states
+-- that they stand for are drawable
 pub record DrawableHaveValues : Type 0 where
   pub drawable : (names : List Name) (s : State) → HasValues s → IsDrawable names (state_of s)
   pub values : (s : State) → AreDistinct s.store → IsProper s.heap → IsDrawable (listed_names s.store) (state_of s) → HasValues s

@@ -26,11 +26,11 @@ abbrev pub IsFrontRead : {X : Type 0} → (List ℕ → X → List ℕ → Type 
 IsFrontRead Shows text left (Some x) = Shows text x left
 IsFrontRead {X} Shows text left None = (x : X) (rest : List ℕ) → Shows text x rest → ⊥
 
--- a word that is known
+-- the text begins with the word; nothing more is read from it
 abbrev pub ShowsWord : List ℕ → List ℕ → Unit {0} → List ℕ → Type 0
 ShowsWord word text u rest = text ≡ word ++ rest
 
--- the word first
+-- the word, and then what is shown
 abbrev pub After : {X : Type 0} → List ℕ → (List ℕ → X → List ℕ → Type 0) → List ℕ → X → List ℕ → Type 0
 After word Shows text x rest = (mid : List ℕ) × (text ≡ word ++ mid) × Shows mid x rest
 
@@ -38,7 +38,7 @@ abbrev pub NoDigitFirst : List ℕ → Type 0
 NoDigitFirst [] = ⊤
 NoDigitFirst (c ∷ cs) = IsInRange 48 57 c → ⊥
 
--- digits, and none after them
+-- the first `count` characters are digits, and no digit follows them
 pub record IsSplitAt (text : List ℕ) (count : ℕ) : Type 0 where
   pub within : count ≤ length text
   pub digits : all_ascii_digits (take count text) ≡ true
@@ -47,7 +47,7 @@ pub record IsSplitAt (text : List ℕ) (count : ℕ) : Type 0 where
 abbrev pub HasLeadingZero : List ℕ → Type 0
 HasLeadingZero digits = (1 < length digits) × (slice_index digits 0 ≡ 48)
 
--- the value of digits that fits 32 bits
+-- n is the value of the digits, of which there is at least one, and fits 32 bits
 pub record IsParsed (digits : List ℕ) (n : ℕ) : Type 0 where
   pub some : 0 < length digits
   pub fits : IsValue n
@@ -73,7 +73,7 @@ ShowsEntries (n ∷ ns) text es rest =
 abbrev pub ShowsCell : List ℕ → ℕ × ℕ → List ℕ → Type 0
 ShowsCell text c rest = (mid : List ℕ) × ShowsNumber text c.0 mid × After (codes "->") ShowsNumber mid c.1 rest
 
--- the same after a space, above a place
+-- a cell after a space, with a place above `low`
 pub record ShowsCellAbove (low : ℕ) (text : List ℕ) (c : ℕ × ℕ) (rest : List ℕ) : Type 0 where
   pub above : low < c.0
   pub cell : After (codes " ") ShowsCell text c rest
@@ -103,7 +103,7 @@ abbrev pub ShowsStates : List Name → ℕ → List ℕ → List State → List 
 ShowsStates names k text [] rest = text ≡ codes "end\n" ++ rest
 ShowsStates names k text (s ∷ ss) rest = (mid : List ℕ) × ShowsState names k text s mid × ShowsStates names (suc k) mid ss rest
 
--- those that are read at the front, up to the end
+-- the states that are read at the front of the text, up to the line `end`
 abbrev pub AreStatesRead : List Name → List ℕ → List ℕ → Option (Vec State Global) → Type 0
 AreStatesRead names text left o = IsFrontRead (ShowsStates names 0) text left (option_map (λ v. v.items) o)
 

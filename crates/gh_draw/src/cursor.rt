@@ -83,7 +83,7 @@ impl<'t> Cursor<'t> {
         Some(())
     }
 
-    /// A number without leading zeros.
+    /// Takes a number without leading zeros, where it is next.
     pub fn number(&mut self) -> Option<u32>
         ensures { IsFrontRead ShowsNumber self.old.text.now self.new.text.now result }
     {
@@ -93,7 +93,7 @@ impl<'t> Cursor<'t> {
         Some(value)
     }
 
-    /// A value of the variable of a name.
+    /// Takes ` NAME=VALUE` for a name, where it is next, and gives the value.
     pub fn value(&mut self, name: &[u8]) -> Option<u32>
         ensures { IsFrontRead (ShowsValue name.now) self.old.text.now self.new.text.now result }
     {
@@ -103,7 +103,7 @@ impl<'t> Cursor<'t> {
         self.number()
     }
 
-    /// A place and its content.
+    /// Takes `PLACE->CONTENT`, where it is next, and gives both.
     pub fn cell(&mut self) -> Option<(u32, u32)>
         ensures { IsFrontRead ShowsCell self.old.text.now self.new.text.now result }
     {

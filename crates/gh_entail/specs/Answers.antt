@@ -14,11 +14,12 @@ use Rattle.gh_entail.specs.declared.admit.Asked.{Asked}
 use Rattle.gh_entail.specs.declared.answer.Entailment.{Entailment}
 use Rattle.gh_entail.specs.declared.answer.Entailment.TheVariants.{Yes, No}
 
--- the state of the variables of a question in a structure
+-- the state of a question in a structure: the variables with their values, and the heap of version 0
 abbrev pub shown_state : Tables → Asked → State
 shown_state s asked = state_in s (names asked.question.variables.items) 0 asked.over.binding
 
--- the store lists the variables of the question in order, no cell stands at null, and there the left claim holds and the right one doesn't
+-- the store lists the variables of the question in order, no cell stands at null, and in the state the left claim holds
+-- and the right one doesn't
 pub record FailsIn (q : Question) (x : State) : Type 0 where
   pub names : listed_names x.store ≡ names q.variables
   pub proper : IsProper x.heap

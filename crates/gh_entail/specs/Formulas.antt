@@ -14,6 +14,7 @@ use Rattle.gh_entail.specs.Terms.{question_walked}
 abbrev pub leaf_formula : List Kind → Bindings → Formula → ground.Claim
 leaf_formula ks b f = meets_whole ks (record { assertion = f; binding = b; version = 0 })
 
+-- the claim holds, over terms of the kinds ks, where b gives the terms of the variables
 abbrev mutual
   pub claim_formula : List Kind → Bindings → Claim → ground.Claim
   claim_formula ks b (leaf f) = leaf_formula ks b f
@@ -32,7 +33,7 @@ formulas_over t q = version_claims t.kinds 0 ++ claim_formula t.kinds t.bindings
 abbrev pub question_formulas : Question → List ground.Claim
 question_formulas q = formulas_over (question_walked q) q
 
--- one version of the heap
+-- the clauses of a question, over its terms and one version of the heap
 abbrev pub question_problem : Question → Problem
 question_problem q =
     record {

@@ -59,7 +59,8 @@ heap_from q m = heap_in m (length (question_walked q).kinds) 0
 abbrev pub ModelsFail : Type 0
 ModelsFail = (q : Question) (m : Interpretation) → IsModelOf q m → Fails q (store_from q m) (heap_from q m)
 
--- a value for each term: null, the successor of an earlier term's value, what the store gives a variable; the values of witnesses are free
+-- a value for each term: null, the successor of an earlier term's value, what the store gives a variable; the values of
+-- witnesses are free
 pub record AreValues (q : Question) (s : Store) (h : Heap) (V : List ℕ) : Type 0 where
   pub count : length V ≡ length (question_walked q).kinds
   pub null : slice_get V 0 ≡ Some 0
@@ -77,7 +78,7 @@ pub record IsDepicted (V : List ℕ) (h : Heap) (m : Interpretation) : Type 0 wh
 abbrev pub FailuresAreDepicted : Type 0
 FailuresAreDepicted = (q : Question) (s : Store) (h : Heap) → IsProper h → Fails q s h → (V : List ℕ) × AreValues q s h V × ((m : Interpretation) × IsModelOf q m × IsDepicted V h m)
 
--- also where the heap has a cell at null
+-- they give a model also where the heap has a cell at null
 abbrev pub FailuresGiveModels : Type 0
 FailuresGiveModels = (q : Question) (s : Store) (h : Heap) → Fails q s h → (m : Interpretation) × IsModelOf q m
 

@@ -19,7 +19,7 @@ abbrev mutual
   in_claims no_claims = []
   in_claims (claim_first c cs) = in_claim c ++ in_claims cs
 
--- these occurrences are added last to those that are lent
+-- the occurrences os are added last to the borrowed ones
 abbrev pub Gathers : List (Bor Occ) → List (Bor Occ) → List Occ → Type 0
 Gathers old new os = map (λ o. o.now) new ≡ map (λ o. o.now) old ++ os
 

@@ -1,4 +1,5 @@
--- The terms of a question, in order: null, then those of its leaves from left to right, and after each negative leaf one more value, its witness.
+-- The terms of a question, in order: null, then those of its leaves from left to right, and after each negative leaf
+-- one more value, its witness.
 use Rattle.std.specs.Prelude.{◌≡◌, List, Bool, true, false, not}
 use Rattle.gh_path.specs.Terms.{Kind, with_value, Terms, terms, walked, no_terms}
 use Rattle.gh_symb.specs.Tables.{Bound, state}
@@ -9,7 +10,7 @@ abbrev pub witnessed : Bool → Terms → Terms
 witnessed true s = terms (with_value s.kinds) s.bindings s.version
 witnessed false s = s
 
--- true where the claim stands under an odd number of negations
+-- the terms after a claim; `negative` is true where the claim stands under an odd number of negations
 abbrev mutual
   pub claim_walked : Bool → Claim → Terms → Terms
   claim_walked negative (leaf f) s = witnessed negative (walked f s)

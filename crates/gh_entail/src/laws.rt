@@ -15,12 +15,12 @@ pub fn depictions_exist()
     ensures { DepictionsExist }
 {}
 
-/// It keeps the axioms.
+/// A structure that depicts a heap keeps the axioms.
 pub fn depictions_are_models()
     ensures { DepictionsAreModels }
 {}
 
-/// Its built heap looks like the heap.
+/// The built heap of a structure that depicts a heap looks like that heap.
 pub fn depictions_look_alike()
     ensures { DepictionsLookAlike }
 {}

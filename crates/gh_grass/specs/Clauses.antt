@@ -10,7 +10,7 @@ use Rattle.gh_grass.specs.Claims.{no_claims, claim_first}
 abbrev pub positive : Atom → Lit
 positive a = record { atom = a; positive = true }
 
--- the statement defined with a number
+-- the literal of the definition d
 abbrev pub defined : ℕ → Lit
 defined d = positive (Def d)
 
@@ -43,6 +43,7 @@ equivalence_clauses d l m =
     ∷ (defined d ∷ opposite l ∷ opposite m ∷ [])
     ∷ []
 
+-- the conjunction of some formulas, defined with the next number
 abbrev pub conjoined : AllMade → Made
 conjoined s = record { lit = defined s.next; next = s.next + 1; clauses = s.clauses ++ conjunction_clauses s.next s.lits }
 
@@ -52,10 +53,11 @@ disjoined s = record { lit = defined s.next; next = s.next + 1; clauses = s.clau
 abbrev pub equated : Made → Made → Made
 equated r s = record { lit = defined s.next; next = s.next + 1; clauses = (r.clauses ++ s.clauses) ++ equivalence_clauses s.next r.lit s.lit }
 
+-- a formula before others that were made after it
 abbrev pub put_first : Made → AllMade → AllMade
 put_first r s = record { lits = r.lit ∷ s.lits; next = s.next; clauses = r.clauses ++ s.clauses }
 
--- a formula, from the next free number of a definition on
+-- what is made of a formula, where d is the next free number of a definition
 abbrev mutual
   pub made : Claim → ℕ → Made
   made (atom a) d = record { lit = positive a; next = d; clauses = [] }

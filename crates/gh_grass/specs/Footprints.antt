@@ -34,11 +34,12 @@ abbrev pub plain_term : Variables → Expr → Term
 plain_term b (Plain o) = operand_term b o
 plain_term b (Read o) = term 0
 
--- two terms are equal, or they aren't
+-- `compared l e r`: l and r are equal where e is true, and differ where it is false
 abbrev pub compared : Term → Bool → Term → Claim
 compared l true r = equality l r
 compared l false r = negation_of (equality l r)
 
+-- the formula of a test
 abbrev mutual
   pub tested : Variables → Test → Claim
   tested b (compare l e r) = compared (plain_term b l) e (plain_term b r)
@@ -54,7 +55,7 @@ abbrev mutual
 abbrev pub by_test : Claim → Claim → Claim → Claim
 by_test t f g = one_of (all_of (t ∷ f ∷ []) ∷ all_of (negation_of t ∷ g ∷ []) ∷ [])
 
--- after x and before the first y: on the way to it, and not yet there
+-- z is on the way from x to the first y, and isn't y
 abbrev pub before_end : ℕ → Term → Term → Term → Claim
 before_end i x z y = all_of (atom (Btwn i x z y) ∷ negation_of (equality z y) ∷ [])
 
@@ -82,11 +83,11 @@ members (formula_first f fs) = f ∷ members fs
 abbrev pub terms_below : ℕ → List Term
 terms_below n = map term (range_with_len 0 n)
 
--- the term isn't in two footprints
+-- the term z isn't in the footprints of both f and g
 abbrev pub apart_here : Variables → ℕ → Formula → Formula → Term → Claim
 apart_here b i f g z = negation_of (all_of (footprint b i z f ∷ footprint b i z g ∷ []))
 
--- no term is in two footprints, for each of n terms
+-- none of n terms is in the footprints of both f and g
 abbrev pub apart : Variables → ℕ → ℕ → Formula → Formula → List Claim
 apart b i n f g = map (apart_here b i f g) (terms_below n)
 

@@ -35,7 +35,7 @@ AreTrue m fs = All (λ f. truth m f ≡ true) fs
 abbrev pub AreClausesTrue : Interpretation → List (List Lit) → Type 0
 AreClausesTrue m clauses = All (IsClauseTrue m) clauses
 
--- the statement was defined before the number d
+-- the atom is no definition, or one of a number below d
 abbrev pub IsEarlier : ℕ → Atom → Type 0
 IsEarlier d (Eq a b) = Unit {0}
 IsEarlier d (Btwn v x y z) = Unit {0}
@@ -43,7 +43,7 @@ IsEarlier d (Hop v x y) = Unit {0}
 IsEarlier d (Alloc v x) = Unit {0}
 IsEarlier d (Def number) = number < d
 
--- each definition of the formula is an earlier one
+-- each definition in the formula has a number below d
 abbrev mutual
   pub HasEarlier : ℕ → Claim → Type 0
   HasEarlier d (atom a) = IsEarlier d a
@@ -61,7 +61,7 @@ pub record IsOneBefore (d : ℕ) (m n : Interpretation) : Type 0 where
   pub class : n.class ≡ m.class
   pub table : (a : Atom) → IsEarlier d a → n.table a ≡ m.table a
 
--- where the defining clauses are true, the literal is what the formula is
+-- where the defining clauses are true, the literal is true exactly where the formula is
 abbrev pub LiteralsAreFormulas : Type 0
 LiteralsAreFormulas = (m : Interpretation) (f : Claim) (d : ℕ) → AreClausesTrue m (made f d).clauses → lit_truth m (made f d).lit ≡ truth m f
 

@@ -13,7 +13,7 @@ use gh_ast::{Assertion, Occ, Operand};
 use gh_base::atom::{Atom, Term};
 use std::alloc::{AllocError, Global};
 
-// A term is met after `x` and before the first `y`.
+// The term `z` is on the way from `x` to the first `y`, and isn't `y`.
 fn segment_footprint(
     alloc: Global,
     version: u8,
@@ -173,7 +173,7 @@ fn points_to(
     Ok(Formula::Atom(Atom::Alloc { version, x }).and(alloc, content)?)
 }
 
-/// Some part of the heap meets an assertion in a version of it.
+/// Some part of the heap meets an assertion in a version of the heap.
 ///
 /// A name that isn't bound and a successor that isn't listed count as null.
 #[cycle(structure)]

@@ -2,7 +2,7 @@
 
 ghost use Rattle.gh_grass.specs.Truth.{LiteralsAreFormulas, ClausesMeanFormulas, DefinitionsExist, FormulasGiveClauses};
 
-/// Where the defining clauses of a formula are true, its literal is what the formula is.
+/// Where the defining clauses of a formula are true, its literal is true exactly where the formula is.
 pub fn literals_are_formulas()
     ensures { LiteralsAreFormulas }
 {}

@@ -1,4 +1,4 @@
-//! Terms of conditions, and what the variables of a formula are bound to.
+//! Terms of conditions, what variables are bound to, and the ground formulas of assertions over terms.
 #![tactic(auto)]
 
 pub mod binding;

@@ -39,7 +39,7 @@ fn plain_expr_term(binding: &Binding, expr: &Expr) -> Term
     }
 }
 
-/// Two terms are equal, or they aren't.
+/// `left` and `right` are equal where `equal` is true, and differ where it is false.
 pub fn comparison(
     alloc: Global,
     left: Term,

@@ -23,7 +23,7 @@ IsFalseInstance s m name = IsInstance s.terms s.versions name × ¬ IsInstanceTr
 abbrev pub IsFalseIn : Tables → InstanceName → Type 0
 IsFalseIn s name = IsFalseInstance s.sizes (interpretation_of s) name
 
--- false instances were added to a list; where there are none, this holds
+-- false instances were added to a list; where none was added, `Otherwise` holds
 pub record Gathers (s : Sizes) (m : Interpretation) (old new : List InstanceName) (Otherwise : Type 0) : Type 0 where
   pub more : List InstanceName
   pub added : new ≡ old ++ more
@@ -83,7 +83,7 @@ pub record IsNamed (s : Sizes) (m : Interpretation) (version : ℕ) (found : Lis
 abbrev pub IsRowNamed : Tables → ℕ → ℕ → List InstanceName → Type 0
 IsRowNamed s version number found = (r : AxiomRow) → row_with number table ≡ Some r → IsNamed s.sizes (interpretation_of s) version found r
 
--- false instances were added to a list; where there are none, the row of a number holds in a version
+-- false instances were added to a list; where none was added, the row of a number holds in a version
 abbrev pub GathersRow : Tables → ℕ → ℕ → List InstanceName → List InstanceName → Type 0
 GathersRow s version number old new = (r : AxiomRow) → row_with number table ≡ Some r
     → Gathers s.sizes (interpretation_of s) old new (RowHolds s.sizes (interpretation_of s) version r)
@@ -108,7 +108,7 @@ IsFirstNamed s found = (name : InstanceName) → IsFirstFalseIn s name → Conta
 pub record VersionHolds (s : Sizes) (m : Interpretation) (version : ℕ) : Type 0 where
   pub holds : All (RowHolds s m version) table
 
--- false instances were added to a list; where there are none, every instance in a version is true
+-- false instances were added to a list; where none was added, every instance in a version is true
 abbrev pub GathersVersion : Tables → ℕ → List InstanceName → List InstanceName → Type 0
 GathersVersion s version old new = Gathers s.sizes (interpretation_of s) old new (VersionHolds s.sizes (interpretation_of s) version)
 

@@ -33,10 +33,11 @@ IsNameInRow number variables n versions place name =
 abbrev pub instances : ℕ → ℕ → List InstanceName
 instances n versions = flat_map (row_instances n versions) table
 
--- the terms that count
+-- the terms of an instance, without those past its arity
 abbrev pub tuple_of : InstanceName → List Term
 tuple_of name = take name.arity name.terms
 
+-- the clause of an instance of a row, empty where there is no row
 abbrev pub clause_with : InstanceName → Option AxiomRow → List Lit
 clause_with name None = []
 clause_with name (Some r) = clause_over name.version (tuple_of name) r.lits

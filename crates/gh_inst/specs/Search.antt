@@ -15,7 +15,7 @@ abbrev pub Comes : {X : Type 0} → (X → Type 0) → List X → Option X → T
 Comes P all None = All P all
 Comes P all (Some x) = IsFirstWithout P all x
 
--- all have the property, or it is the first without it
+-- what a search through a list found: the first one without the property, or none where all have it
 pub record IsSearched {X : Type 0} (P : X → Type 0) (all : List X) (found : Option X) : Type 0 where
   pub comes : Comes P all found
 

@@ -8,7 +8,7 @@ use Rattle.gh_inst.specs.Schemas.{term}
 abbrev pub terms_below : ℕ → List Term
 terms_below n = map term (range_with_len 0 n)
 
--- those of some length over the first n terms: by the first term, then by the rest
+-- the tuples of a length over the first n terms: by the first term, then by the rest
 abbrev pub tuples : ℕ → ℕ → List (List Term)
 tuples zero n = [] ∷ []
 tuples (suc v) n = flat_map (λ t. map (λ rest. t ∷ rest) (tuples v n)) (terms_below n)

@@ -1,4 +1,4 @@
--- Betweenness of one version in words: a bit for each third term; what a word leaves open.
+-- Betweenness and hops of one version in words, a bit for each last term; and what a word leaves open.
 use Rattle.std.specs.Prelude.{ℕ, ◌≡◌, ◌≢◌, ◌<◌, ◌≤◌, ◌+◌, ◌*◌, ◌++◌, All, take, List, Bool, true, false, length}
 use Rattle.std.specs.Prelude.{slice_get, slice_index_or, Some}
 use Rattle.std.specs.Int.{bit_at}
@@ -79,7 +79,7 @@ abbrev pub IsHopWordAt : Tables → ℕ → ℕ → ℕ → Type 0
 IsHopWordAt s version place word = (x y : ℕ) → x < s.sizes.terms → y < s.sizes.terms → place ≡ 1056 + x
     → bit_at word y ≡ bit_of (is_hop (interpretation_of s) version x y)
 
--- a literal on betweenness, of which the first two terms are known
+-- a literal on betweenness, of which the first two terms are known, and the place of their word
 pub record IsPair (p : Pattern) (tuple : List Term) (first place : ℕ) : Type 0 where
   pub shape : p.shape ≡ Between
   pub x_known : slice_index_or p.places 0 0 < first
@@ -119,8 +119,8 @@ abbrev pub TellsFalse : Pattern → ℕ → ℕ → Type 0
 TellsFalse p word left = (m : Interpretation) (version n : ℕ) (tuple : List Term) (first place : ℕ) → n ≤ 32
     → AreTruths m version n p tuple first place word → AreFalse m version n p tuple first place left
 
--- a literal is true, whatever comes later, where the next term's bit isn't there; with a bit it is false, if it is
--- known
+-- a literal is true, whatever terms come later, where the bit of the next term is 0; where the word isn't 0, it is
+-- false, if its variables are all known
 pub record IsLitOpen (m : Interpretation) (version n : ℕ) (p : Pattern) (tuple : List Term)
     (first word : ℕ) : Type 0 where
   pub closed : (z : ℕ) (rest : List Term) → z < n → All (λ t. t.0 < n) rest

@@ -2,7 +2,8 @@
 
 ghost use Rattle.gh_inst.specs.Laws.{AreAllInstances, AreDistinct, AreCounted};
 
-/// The names in the list of all instances are those of which row, arity, version and terms are there.
+/// The names in the list of all instances are those of which row, arity, version and terms are there, with term 0 past
+/// the arity.
 pub fn all_are_listed()
     ensures { AreAllInstances }
 {}

@@ -35,7 +35,7 @@ fn are_zero(all: &[Term]) -> bool
     all.iter().all(|term| term.0 == 0)
 }
 
-/// The first terms.
+/// The first `V` terms.
 pub(crate) fn first_terms<const V: usize>(terms: [Term; 4]) -> [Term; V]
     requires { V ≤ 4 }
     ensures { result ≡ take V terms }

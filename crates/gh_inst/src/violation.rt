@@ -86,7 +86,7 @@ fn is_lit_true(structure: &Structure, lit: Lit) -> bool
     structure.holds(lit.atom) == lit.positive
 }
 
-// Whether a clause is.
+// Whether a clause is true in a structure.
 fn is_clause_true(structure: &Structure, clause: &[Lit]) -> bool
     requires { AreInRange structure.now.sizes clause.now }
     ensures { MatchBool result (IsClauseTrueIn structure.now clause.now) (¬ IsClauseTrueIn structure.now clause.now) }
@@ -99,7 +99,7 @@ fn is_clause_true(structure: &Structure, clause: &[Lit]) -> bool
     false
 }
 
-// Whether an instance is.
+// Whether an instance is true in a structure.
 fn is_instance_true(alloc: Global, structure: &Structure, name: InstanceName) -> bool
     requires { IsInstance structure.now.sizes.terms structure.now.sizes.versions name }
     ensures { MatchBool result (IsTrueIn structure.now name) (¬ IsTrueIn structure.now name) }

@@ -1,4 +1,4 @@
-//! Betweenness of one version in words, a bit for each third term, and the next terms that they leave open.
+//! Betweenness and hops of one version in words, a bit for each last term, and the next terms that words leave open.
 
 ghost use Rattle.std.specs.Prelude.{◌≡◌, ◌≢◌, ◌<◌, ◌≤◌, ℕ, All, IfSome, None, length, take};
 ghost use Rattle.std.specs.Int.{bit_at};

@@ -35,7 +35,7 @@ invariant_of p l = record { kind = Invariant; procedure = p; place = l.at; alter
 abbrev pub subjects_of : Procedure → List Subject
 subjects_of p = requires_of p ∷ ensures_of p ∷ map (invariant_of p) (loops_of p)
 
--- all of a program, in order
+-- all contracts and invariants of a program, in their order
 abbrev pub subjects : Program → List Subject
 subjects P = flat_map subjects_of P.procedures
 
@@ -70,7 +70,7 @@ is_bare [] = false
 is_bare (f ∷ []) = is_empty f
 is_bare (f ∷ g ∷ fs) = false
 
--- what is kept of a subject
+-- the remark tells the subject's kind, procedure and place, whether it is just `emp`, and whether some heap meets it
 pub record IsRemark (s : Subject) (r : Remark) : Type 0 where
   pub kind : r.kind ≡ s.kind
   pub procedure : r.procedure ≡ name_of s.procedure
@@ -78,7 +78,7 @@ pub record IsRemark (s : Subject) (r : Remark) : Type 0 where
   pub bare : r.is_bare ≡ is_bare s.alternatives
   pub meeting : IsMeeting s r.meeting
 
--- one by one
+-- a remark on each subject, one by one
 abbrev pub AreRemarks : List Subject → List Remark → Type 0
 AreRemarks [] [] = Unit {0}
 AreRemarks [] (r ∷ rs) = ⊥

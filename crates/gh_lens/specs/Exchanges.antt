@@ -8,7 +8,8 @@ use Rattle.gh_assert.specs.Stores.{store_of}
 use Rattle.gh_trace.specs.declared.parts.Part.{Part}
 use Rattle.gh_lens.specs.declared.exchange.Exchange.{Exchange}
 
--- the old heap is the part that meets the assertion, whose places are handed over, and a frame; the new one is what came back, and that frame
+-- the old heap is the part that meets the assertion, whose places are handed over, and a frame; the new heap is what
+-- came back, and the same frame
 pub record IsExchange (f : Formula) (s : Store) (old new : Heap) (e : Exchange) : Type 0 where
   pub part : Heap
   pub splits : Splits old part e.frame

@@ -18,7 +18,7 @@ use Rattle.gh_trace.specs.declared.state.State as kept_state
 use Rattle.gh_lens.specs.declared.exchange.Exchange.{Exchange}
 use Rattle.gh_lens.specs.Exchanges.{IsExchange}
 
--- a call by what the callee requires of its arguments
+-- the exchange of a call of q with the argument values vs, by what q requires
 pub record IsCallExchange (q : Procedure) (vs : List ℕ) (x y : State) (e : Exchange) : Type 0 where
   pub inside : Store
   pub arguments : map inside (parameters_of q) ≡ vs
@@ -45,7 +45,7 @@ IsHandedOr P p s x y None = (e : Exchange) → IsHanded P p s x y e → ⊥
 abbrev pub IsHandedIn : Setting → PathStep → kept_state.State → kept_state.State → Option Exchange → Type 0
 IsHandedIn setting s x y o = IsHandedOr (whole setting) (here setting) s (state_of x) (state_of y) o
 
--- a call of the procedure of a number; the loop of a number; a step as it is kept
+-- the same of a call of the procedure of a number, of the loop of a number, and of a step as it is kept
 abbrev pub IsHandedToCallee : Setting → ℕ → List Expr → kept_state.State → kept_state.State → Option Exchange → Type 0
 IsHandedToCallee setting callee es x y o = (xs : List Occ) → IsHandedIn setting (called xs callee es) x y o
 

@@ -24,7 +24,7 @@ is_ground_work (loop_entry at n) = true
 is_ground_work (returned at) = false
 is_ground_work (loop_end at n) = true
 
--- b tells it of what is asked at any place
+-- b says whether a check of this kind is ground work, wherever it stands
 abbrev pub TellsGroundWork : CheckKind → Bool → Type 0
 TellsGroundWork kind b = (at : Span) → b ≡ is_ground_work (asked_at kind at)
 
@@ -37,7 +37,7 @@ IsFound P c Refuted = (t : Trace) × Refutes P c (drawn_of t)
 abbrev pub IsFoundFor : Program → kept.Condition → Finding → Type 0
 IsFoundFor P r f = IsFound P (condition_of r) f
 
--- what is kept of the k-th condition
+-- j tells of c, the k-th condition: its number, its description, whether it is ground work, and what is found
 pub record IsJudged (P : Program) (k : ℕ) (c : Condition) (j : Judged) : Type 0 where
   pub number : j.number ≡ k
   pub description : j.description ≡ description P c

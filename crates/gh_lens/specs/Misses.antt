@@ -75,6 +75,7 @@ AreMisses (f ∷ fs) s h text = (a : List ℕ) × (b : List ℕ) × (text ≡ a 
 abbrev pub access_line : List ℕ → ℕ → List ℕ
 access_line name v = line (codes "  " ++ name ++ codes " = " ++ decimal v ++ codes ": no cell")
 
+-- where what the procedure q requires fails, for the argument values vs
 pub record IsEntryMiss (P : Program) (q : Procedure) (vs : List ℕ) (x : State) (text : List ℕ) : Type 0 where
   pub inside : Store
   pub arguments : map inside (parameters_of q) ≡ vs
@@ -88,7 +89,7 @@ IsFailing P p (loop_entry at n) x text = (l : Loop) × IsLoopAt p n l × IsMiss 
 IsFailing P p (returned at) x text = AreMisses p.gives x.store x.heap text
 IsFailing P p (loop_end at n) x text = (l : Loop) × IsLoopAt p n l × IsMiss l.invariant x.store x.heap text
 
--- where it fails; or it is passed, up to a double negation
+-- where the check fails; or the check is passed, up to a double negation
 abbrev pub IsCheckOr : Program → Procedure → Check → State → Option (List ℕ) → Type 0
 IsCheckOr P p c x (Some text) = IsFailing P p c x text
 IsCheckOr P p c x None = (Passes P p c x → ⊥) → ⊥

@@ -26,7 +26,7 @@ rank_of Valid b = 2
 abbrev pub rank : Judged → ℕ
 rank j = rank_of j.finding j.is_ground_work
 
--- those of a rank, in the order of their numbers
+-- the conditions of a rank, in the order of their numbers
 abbrev pub of_rank : ℕ → List Judged → List Judged
 of_rank n js = filter (λ j. rank j == n) js
 

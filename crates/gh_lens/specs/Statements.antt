@@ -32,11 +32,11 @@ equality_text false = codes " != "
 abbrev pub comparison_text : Expr → Bool → Expr → List ℕ
 comparison_text l e r = expr_text l ++ equality_text e ++ expr_text r
 
--- each after `, `
+-- the texts, each after `, `
 abbrev pub others_text : List (List ℕ) → List ℕ
 others_text ts = flat_map (λ t. codes ", " ++ t) ts
 
--- with `, ` between two
+-- the texts, with `, ` between two
 abbrev pub list_text : List (List ℕ) → List ℕ
 list_text [] = []
 list_text (t ∷ ts) = t ++ others_text ts
@@ -98,7 +98,8 @@ abbrev pub loop_place : Option Loop → Option Span
 loop_place (Some l) = Some l.at
 loop_place None = None
 
--- where the step stands, in a procedure with these loops; none for a call or a return that has neither targets nor values
+-- where the step stands, in a procedure with these loops; none for a call or a return that has neither targets nor
+-- values
 abbrev pub step_place : List Loop → PathStep → Option Span
 step_place ls (accessed o) = Some o.span
 step_place ls (assume l e r) = Some (expr_place l)

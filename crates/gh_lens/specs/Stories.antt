@@ -93,7 +93,8 @@ IsToldFor P r xs text = IsToldOf P (condition_of r) xs text
 abbrev pub IsConditionAt : Program → ℕ → Condition → Type 0
 IsConditionAt P n c = (1 ≤ n) × (slice_get (conditions P) (n - 1) ≡ Some c)
 
--- what is told of states for the condition of a number: a story, or their first failure, or that there is no such condition
+-- what is told of states for the condition of a number: a story, or their first failure, or that there is no such
+-- condition
 abbrev pub IsExplained : Program → ℕ → List State → Explained → Type 0
 IsExplained P n xs (Told text) = (c : Condition) × IsConditionAt P n c × IsToldOf P c xs text
 IsExplained P n xs (Fails k) = (c : Condition) × IsConditionAt P n c × FirstFailure P c (map drawn xs) k

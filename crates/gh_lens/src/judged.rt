@@ -24,8 +24,8 @@ pub enum Finding {
     Refuted,
 }
 
-/// A condition by its number, with its description, whether others rest on what it asks, and what is
-/// found of it.
+/// A condition by its number, with its description, whether it is ground work, on which others rest,
+/// and what is found of it.
 #[derive(Debug, Drop)]
 pub struct Judged {
     pub number: u32,

@@ -2,7 +2,7 @@
 
 /// Takes how many of all conditions are settled. Nothing that is found depends on it.
 pub trait Progress {
-    /// So many of so many are settled.
+    /// `done` of all `count` conditions are settled.
     fn settled(&mut self, done: u32, count: u32);
 }
 

@@ -21,7 +21,7 @@ use gh_path::loops::{While, loops_of};
 use std::alloc::{AllocError, Global};
 use std::slice::from_ref;
 
-/// What is asserted.
+/// Whether an assertion is what a procedure requires, what it ensures, or a loop's invariant.
 #[derive(Clone, Copy, Debug, PartialEq, Eq)]
 pub enum Kind {
     Requires,
@@ -195,7 +195,7 @@ fn push_remarks(
     Ok(())
 }
 
-/// What is kept of all contracts and invariants of a program, in order: of each procedure what it
+/// The remarks on all contracts and invariants of a program, in order: of each procedure what it
 /// requires, what it ensures, and the invariants of its loops.
 pub fn remarks(alloc: Global, typed: &Typed) -> Result<Vec<Remark>, AllocError>
     ensures { IfOk result (λ v. AreRemarks (subjects (program_of typed.now)) v.items) }

@@ -10,9 +10,9 @@ pub data LogLine : Type 0 where
   Clause : ℕ → LogLine
   -- a clause that follows from equality and congruence alone
   Lemma : List Lit → LogLine
-  -- a clause that all earlier lines show
+  -- a clause that unit propagation over all earlier lines shows
   Learnt : List Lit → LogLine
-  -- a clause, and the positions of the lines that show it
+  -- a clause, and the positions of the earlier lines along which unit propagation shows it, in order
   Hinted : List Lit → List ℕ → LogLine
   -- the positions of lines that later ones don't name
   Delete : List ℕ → LogLine

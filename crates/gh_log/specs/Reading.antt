@@ -29,6 +29,7 @@ use Rattle.gh_log.specs.Spelled.{IsSpelledLine}
 abbrev pub SpellsNothing : {X : Type 0} → (X → List ℕ → Type 0) → Type 0
 SpellsNothing {X} P = (x : X) (rest : List ℕ) → P x rest → ⊥
 
+-- why a part isn't read: it spells nothing at the front, or memory runs out
 abbrev pub IsPartRefusal : {X : Type 0} → (X → List ℕ → Type 0) → Refusal → Type 0
 IsPartRefusal P Outside = SpellsNothing P
 IsPartRefusal P OutOfMemory = ⊤
@@ -37,13 +38,14 @@ IsPartRefusal P OutOfMemory = ⊤
 abbrev pub IsPartRead : {X Y : Type 0} → (X → List ℕ → Type 0) → (Y → X) → Result Y Refusal → List ℕ → Type 0
 IsPartRead P view answer rest = MatchResult answer (λ y. P (view y) rest) (IsPartRefusal P)
 
+-- the text begins with `wanted`, and the rest comes after that
 abbrev pub SpellsText : List ℕ → List ℕ → Unit {0} → List ℕ → Type 0
 SpellsText wanted text u rest = text ≡ wanted ++ rest
 
 abbrev pub SpellsByte : List ℕ → ℕ → List ℕ → Type 0
 SpellsByte text b rest = text ≡ b ∷ rest
 
--- the text doesn't begin so
+-- the text doesn't begin with this front
 abbrev pub IsNotFront : List ℕ → List ℕ → Type 0
 IsNotFront front text = (rest : List ℕ) → text ≡ front ++ rest → ⊥
 
@@ -69,12 +71,13 @@ abbrev pub EndsNumber : List ℕ → Type 0
 EndsNumber [] = ⊤
 EndsNumber (b ∷ rest) = is_ascii_digit b ≡ false
 
+-- a number that isn't above the limit, with no digit after it
 pub record SpellsNumber (limit : ℕ) (text : List ℕ) (n : ℕ) (rest : List ℕ) : Type 0 where
   pub front : text ≡ decimal n ++ rest
   pub within : n ≤ limit
   pub ends : EndsNumber rest
 
--- so many numbers below 256, each after the byte
+-- `count` numbers below 256, each after the byte `mark`, with no digit after the last
 pub record SpellsBytes (mark count : ℕ) (text : List ℕ) (ns : List ℕ) (rest : List ℕ) : Type 0 where
   pub front : text ≡ flat_map (λ n. mark ∷ decimal n) ns ++ rest
   pub counted : length ns ≡ count
@@ -100,7 +103,7 @@ pub record SpellsLits (end text : List ℕ) (c : List Lit) (rest : List ℕ) : T
 abbrev pub SpellsClause : List ℕ → List Lit → List ℕ → Type 0
 SpellsClause = SpellsLits line_end
 
--- literals, and the sign before hints
+-- literals, and the ` ;` before hints
 abbrev pub SpellsShown : List ℕ → List Lit → List ℕ → Type 0
 SpellsShown = SpellsLits (codes " ;")
 
@@ -109,13 +112,13 @@ pub record SpellsNumbers (text ns rest : List ℕ) : Type 0 where
   pub front : text ≡ numbers_text ns ++ 10 ∷ rest
   pub within : AreNumbers ns
 
--- terms after k earlier ones, four at most, and the end of the line
+-- terms, each after a space, at most four together with k earlier ones, and the end of the line
 pub record SpellsTerms (k : ℕ) (text : List ℕ) (tuple : List Term) (rest : List ℕ) : Type 0 where
   pub front : text ≡ flat_map term_text tuple ++ 10 ∷ rest
   pub few : k + length tuple ≤ 4
   pub within : All (λ t. t.0 ≤ 255) tuple
 
--- four terms, of which those past the first ones are term 0
+-- four terms, of which those past the arity are term 0
 pub record ArePadded (terms : List Term) (arity : ℕ) : Type 0 where
   pub few : arity ≤ 4
   pub four : length terms ≡ 4
@@ -133,6 +136,7 @@ SpellsName text name = SpellsParts (97 ∷ text) (line.Axiom name)
 abbrev pub SpellsGround : List ℕ → ℕ → List ℕ → Type 0
 SpellsGround text k = SpellsParts (103 ∷ text) (line.Clause k)
 
+-- a line of a log of this version
 pub record SpellsLine (version : ℕ) (text : List ℕ) (l : LogLine) (rest : List ℕ) : Type 0 where
   pub of_version : IsOfVersion version l
   pub parts : SpellsParts text l rest
@@ -154,10 +158,11 @@ pub record SpellsVersion (text : List ℕ) (version : ℕ) (rest : List ℕ) : T
   pub front : text ≡ first_line version ++ rest
   pub is : IsVersion version
 
+-- the header of the section with this number
 abbrev pub SpellsHeader : ℕ → List ℕ → Unit {0} → List ℕ → Type 0
 SpellsHeader number text u rest = text ≡ header_text number ++ rest
 
--- the text ends, or a line that begins with `c`
+-- the text ends here, or its next byte is `c`, with which headers begin
 abbrev pub EndsSection : List ℕ → Type 0
 EndsSection [] = ⊤
 EndsSection (b ∷ rest) = b ≡ 99
@@ -169,7 +174,8 @@ pub record SpellsSection (version number k : ℕ) (text : List ℕ) (s : Section
   pub first : s.first ≡ k + 1
   pub ends : EndsSection rest
 
--- after some lines of a section comes one that can't be there
+-- after the header and some lines of a section comes a line that is outside the grammar: the file's line `stuck`, where
+-- the header is line k
 pub record IsStuck (version number k : ℕ) (text : List ℕ) (stuck : ℕ) : Type 0 where
   pub lines : List LogLine
   pub rest : List ℕ
@@ -185,6 +191,7 @@ IsSectionRefusal version number k text (Line stuck) =
     ((stuck ≡ k) × SpellsNothing (SpellsHeader number text)) ⊎ IsStuck version number k text stuck
 IsSectionRefusal version number k text NoMemory = ⊤
 
+-- the error of a refusal in this line
 abbrev pub error_at : Refusal → ℕ → LogError
 error_at Outside line = Line line
 error_at OutOfMemory line = NoMemory

@@ -1,4 +1,5 @@
--- The lines of a section, and when it is valid for a list of clauses with its numbers of terms, versions and definitions.
+-- The lines of a section, and when it is valid for a problem: a list of clauses with its numbers of terms, versions and
+-- definitions.
 use Rattle.std.specs.Prelude.{◌≡◌, ◌⊎◌, ⊤, ◌+◌, ◌<◌, ℕ, List, [], ◌∷◌, ◌++◌, take, length, slice_get, slice_index_or}
 use Rattle.std.specs.Prelude.{Option, Some, None, All, Contains, filter_map, AllPairs, ◌≢◌}
 use Rattle.gh_base.specs.declared.atom.Lit.{Lit}
@@ -12,7 +13,7 @@ use Rattle.gh_inst.specs.Violations.{AreInstancesTrue}
 use Rattle.gh_log.specs.Lines.{LogLine}
 use Rattle.gh_log.specs.Lines as line
 
--- that of an instance or of a ground clause, or the line's own; a deletion has none
+-- the clause of a line: that of its instance or its ground clause, or its own; a deletion has none
 abbrev pub line_clause : Problem → LogLine → Option (List Lit)
 line_clause p (line.Axiom name) = Some (clause_of name)
 line_clause p (line.Clause k) = Some (slice_index_or p.clauses k [])
@@ -25,6 +26,7 @@ line_clause p (line.Delete positions) = None
 abbrev pub clauses_of : Problem → List LogLine → List (List Lit)
 clauses_of p lines = filter_map (line_clause p) lines
 
+-- the line deletes the position k
 abbrev pub Deletes : LogLine → ℕ → Type 0
 Deletes (line.Delete positions) k = Contains positions k
 Deletes _ k = ⊥
@@ -99,7 +101,7 @@ pub record IsFirstFaulty (p : Problem) (lines : List LogLine) (number place : �
   pub faulty : IsOfKind p (take place lines) line → ⊥
   pub number_is : IsFaultOf p (take place lines) line number
 
--- every line is of its kind, and there is none or the last one has no clause or one that isn't empty
+-- every line is of its kind, but there is no last line whose clause is empty
 pub record HasNoEnd (p : Problem) (lines : List LogLine) (number place : ℕ) : Type 0 where
   pub of_kind : AreOfKind p lines
   pub no_end : EndsEmpty p lines → ⊥
@@ -110,9 +112,10 @@ pub record HasNoEnd (p : Problem) (lines : List LogLine) (number place : ℕ) : 
 abbrev pub IsFirstFault : Problem → List LogLine → ℕ → ℕ → Type 0
 IsFirstFault p lines number place = IsFirstFaulty p lines number place ⊎ HasNoEnd p lines number place
 
--- no structure whose equality is a congruence makes the clauses and all axiom instances true
+-- no interpretation whose equality is a congruence makes the clauses and all axiom instances true
 abbrev pub HasNoModel : Problem → Type 0
 HasNoModel p = (m : Interpretation) → IsCongruence p.sizes m → All (IsClauseTrue m) p.clauses → AreInstancesTrue p.sizes m → ⊥
 
+-- a problem for which a section is valid has no model
 abbrev pub ValidSectionsRefute : Type 0
 ValidSectionsRefute = (p : Problem) (lines : List LogLine) → IsValidSection p lines → HasNoModel p

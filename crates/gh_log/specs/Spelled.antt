@@ -1,4 +1,5 @@
--- The logs that the grammar can spell, the places of their sections, and the first line of a text that is outside the grammar.
+-- The logs that the grammar can spell, the places of their sections, and the first line of a text that is outside the
+-- grammar.
 use Rattle.std.specs.Prelude.{◌≡◌, ◌≢◌, ◌⊎◌, ⊤, ◌+◌, ◌≤◌, ℕ, List, [], ◌∷◌, ◌++◌, map, length, All, count_by, nat_eq}
 use Rattle.gh_base.specs.Texts.{line_end}
 use Rattle.gh_base.specs.declared.atom.Atom.{Atom}
@@ -24,7 +25,7 @@ IsSpelledAtom (Def number) = number ≤ 4294967295
 abbrev pub AreSpelled : List Lit → Type 0
 AreSpelled clause = All (λ l. IsSpelledAtom l.atom) clause
 
--- one to four terms
+-- one to four terms and term 0 past them, and numbers within their limits
 pub record IsSpelledName (name : InstanceName) : Type 0 where
   pub row : name.row ≤ 255
   pub version : name.version ≤ 255
@@ -63,6 +64,7 @@ HasSpelledParts (line.Delete positions) = AreNumbers positions
 abbrev pub IsSpelledLine : ℕ → LogLine → Type 0
 IsSpelledLine version l = IsOfVersion version l × HasSpelledParts l
 
+-- the grammar can spell a log of this version with these sections
 pub record IsSpelled (version : ℕ) (sections : List (List LogLine)) : Type 0 where
   pub known : IsVersion version
   pub lines : All (λ s. All (IsSpelledLine version) s) sections
@@ -83,6 +85,7 @@ pub record IsLogText (text : List ℕ) : Type 0 where
   pub text_is : text ≡ log_text version sections
   pub spelled : IsSpelled version sections
 
+-- how many lines end in the front
 abbrev pub lines_before : List ℕ → ℕ
 lines_before front = count_by (λ b. nat_eq b 10) front
 

@@ -8,6 +8,7 @@ use Rattle.gh_log.specs.declared.lines.Part.{Part}
 use Rattle.gh_log.specs.declared.lines.Entry.{Entry}
 use Rattle.gh_log.specs.declared.lines.Entry.TheVariants as entry
 
+-- the plain line of one that the program borrows
 abbrev pub line_of : LogLine → plain.LogLine
 line_of (line.Axiom name) = plain.Axiom name
 line_of (line.Clause k) = plain.Clause k
@@ -20,12 +21,14 @@ line_of (line.Delete positions) = plain.Delete positions.now
 abbrev pub part_of : {X : Type 0} → List X → Part → List X
 part_of table part = drop part.from (take part.to table)
 
--- a clause that hints show: the places where its literals begin and end, and then the hints
+-- the line of a clause that hints show, by its numbers: the places where its literals begin and end, and then the
+-- hints
 abbrev pub hinted_at : List Lit → List ℕ → plain.LogLine
 hinted_at literals [] = plain.Hinted [] []
 hinted_at literals (from ∷ []) = plain.Hinted [] (from ∷ [])
 hinted_at literals (from ∷ to ∷ hints) = plain.Hinted (part_of literals (record { from = from; to = to })) hints
 
+-- the plain line of an entry, whose literals and numbers stand in these tables
 abbrev pub line_at : List Lit → List ℕ → Entry → plain.LogLine
 line_at literals numbers (entry.Axiom name) = plain.Axiom name
 line_at literals numbers (entry.Clause k) = plain.Clause k
@@ -61,7 +64,7 @@ pub record IsAdded {X : Type 0} (old new items : List X) (part : Part) : Type 0 
   pub to : part.to ≡ length new
   pub few : length new < 2 ^ 32
 
--- the list has something more at its end, or is the same
+-- the new list is the old one with something more at its end, or the same
 pub record Extends {X : Type 0} (new old : List X) : Type 0 where
   pub more : List X
   pub same : new ≡ old ++ more
@@ -75,7 +78,7 @@ literals_of (plain.Learnt c) = length c
 literals_of (plain.Hinted c hints) = length c
 literals_of (plain.Delete positions) = 0
 
--- how many numbers: hints, with the two places of their clause, or positions
+-- how many numbers the table holds of a line: hints, with the two places of their clause, or positions
 abbrev pub numbers_of : plain.LogLine → ℕ
 numbers_of (plain.Axiom name) = 0
 numbers_of (plain.Clause k) = 0
@@ -108,7 +111,7 @@ pub record MakesRoom {X : Type 0} (old new : List X) (more : ℕ) : Type 0 where
   pub grown : length old + more ≤ length new
   pub few : 0 < more → length new < 2 ^ 32
 
--- the table of literals has room for a line more, and the table of numbers
+-- the table of literals grew by as many as the line has at least, and so did the table of numbers
 abbrev pub HoldsLiterals : List Lit → List Lit → plain.LogLine → Type 0
 HoldsLiterals old new l = MakesRoom old new (literals_of l)
 

@@ -41,7 +41,7 @@ term_text t = codes " " ++ decimal t.0
 abbrev pub numbers_text : List ℕ → List ℕ
 numbers_text ns = flat_map (λ n. codes " " ++ decimal n) ns
 
--- row, version and terms of an instance, after the letter of its line
+-- the line of an instance: its letter, and then row, version and terms
 abbrev pub name_text : InstanceName → List ℕ
 name_text name = codes "a " ++ decimal name.row ++ codes " " ++ decimal name.version ++ flat_map term_text (tuple_of name) ++ line_end
 
@@ -53,7 +53,7 @@ line_text (line.Learnt c) = codes "l" ++ lits_text c ++ line_end
 line_text (line.Hinted c hints) = codes "l" ++ lits_text c ++ codes " ;" ++ numbers_text hints ++ line_end
 line_text (line.Delete positions) = codes "d" ++ numbers_text positions ++ line_end
 
--- the first line of a section
+-- the header of a section, after which its lines come
 abbrev pub header_text : ℕ → List ℕ
 header_text number = codes "condition " ++ decimal number ++ line_end
 
@@ -65,6 +65,6 @@ abbrev pub sections_text : ℕ → List (List LogLine) → List ℕ
 sections_text k [] = []
 sections_text k (s ∷ ss) = section_text k s ++ sections_text (suc k) ss
 
--- a log of this version
+-- the text of a log of this version
 abbrev pub log_text : ℕ → List (List LogLine) → List ℕ
 log_text version ss = codes "grass log " ++ decimal version ++ line_end ++ sections_text 1 ss

@@ -9,7 +9,7 @@ ghost use Rattle.gh_log.specs.Reading.{EndsNumber, IsNumberOf, TakesText, TakesB
 
 use crate::error::Refusal;
 
-/// How many digits stand where the first one is zero.
+/// How many digits a number has whose first one is zero.
 const ALONE: usize = 1;
 
 /// A text that is read from its front: the bytes that are left. A step that takes a part goes past it; after a
@@ -106,7 +106,7 @@ impl<'t> Reader<'t> {
         Ok(number)
     }
 
-    /// Takes a byte.
+    /// Takes the next byte, whichever it is.
     pub(crate) fn any(&mut self) -> Result<u8, Refusal>
         ensures { IsPartRead (SpellsByte self.old.rest.now) (λ b. b) result self.new.rest.now }
     {
@@ -142,7 +142,7 @@ impl<'t> Reader<'t> {
         Ok(())
     }
 
-    /// Takes a number below 256 after a byte.
+    /// Takes the byte `mark`, and a number below 256 after it.
     pub(crate) fn byte(&mut self, mark: u8) -> Result<u8, Refusal>
         ensures { IsPartRead (SpellsBytes mark 1 self.old.rest.now) (λ n. n ∷ []) result self.new.rest.now }
     {
@@ -153,7 +153,7 @@ impl<'t> Reader<'t> {
         Ok(number as u8)
     }
 
-    /// Takes two numbers below 256, each after a byte.
+    /// Takes two numbers below 256, each after the byte `mark`.
     pub(crate) fn pair(&mut self, mark: u8) -> Result<(u8, u8), Refusal>
         requires { is_ascii_digit mark ≡ false }
         ensures { IsPartRead (SpellsBytes mark 2 self.old.rest.now) (λ p. p.0 ∷ p.1 ∷ []) result self.new.rest.now }

@@ -37,7 +37,7 @@ impl<T: Drop> From<AllocFailed<T>> for LogError {
 /// Why a part of a text isn't read.
 #[derive(Debug, Drop, Error)]
 pub enum Refusal {
-    /// It isn't next.
+    /// The part isn't next.
     #[error("the text goes on with something else")]
     Outside,
     #[error("out of memory")]
@@ -61,7 +61,7 @@ impl<T: Drop> From<AllocFailed<T>> for Refusal {
 }
 
 impl Refusal {
-    /// The error where it is in this line.
+    /// The error of a refusal in this line.
     pub(crate) fn at(self, line: u32) -> LogError
         ensures { result ≡ error_at self line }
     {

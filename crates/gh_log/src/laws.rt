@@ -3,8 +3,8 @@
 ghost use Rattle.gh_log.specs.Sections.{ValidSectionsRefute};
 ghost use Rattle.gh_log.specs.Laws.{HaveOneText, LogsAreInside};
 
-/// Where a section is valid for ground clauses, no structure whose equality is a congruence makes these clauses and all
-/// axiom instances true.
+/// Where a section is valid for ground clauses, no interpretation whose equality is a congruence makes these clauses
+/// and all axiom instances true.
 pub fn valid_sections_refute()
     ensures { ValidSectionsRefute }
 {}

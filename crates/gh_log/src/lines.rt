@@ -43,7 +43,7 @@ enum Entry {
     Clause { number: u32 },
     Lemma(Part),
     Learnt(Part),
-    /// The places where the literals begin and end, and then the hints.
+    /// The part of the numbers that has the places where the literals begin and end, and then the hints.
     Hinted(Part),
     Delete { positions: Part },
 }

@@ -113,7 +113,7 @@ impl<'t> Reader<'t> {
         }
     }
 
-    /// Reads literals, each after a space, to the sign before hints.
+    /// Reads literals, each after a space, to the ` ;` before hints.
     pub(crate) fn shown(&mut self, clause: &mut Vec<Lit>) -> Result<(), Refusal>
         ensures { IsPartRead (SpellsShown self.old.rest.now) (λ _. clause.new.items) result self.new.rest.now }
     {

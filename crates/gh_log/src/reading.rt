@@ -188,7 +188,7 @@ impl<'t> Reader<'t> {
         Ok(version as u8)
     }
 
-    // Reads the first line of the section with this number.
+    // Reads the header of the section with this number.
     fn header(&mut self, number: u32) -> Result<(), Refusal>
         ensures { IsPartRead (SpellsHeader number self.old.rest.now) (λ u. u) result self.new.rest.now }
     {
@@ -212,7 +212,7 @@ impl<'t> Reader<'t> {
         }
     }
 
-    // Reads a section, whose first line is the file's with this number.
+    // Reads the section with this number, whose header is the file's line `at`.
     fn section(
         &mut self,
         alloc: Global,

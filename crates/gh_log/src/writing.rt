@@ -148,7 +148,7 @@ fn put_terms(out: &mut Text, terms: &[Term]) -> Result<(), AllocError>
     Ok(())
 }
 
-// The terms that count.
+// The terms of an instance, without those past its arity.
 fn tuple(name: &InstanceName) -> &[Term]
     ensures { result.now ≡ tuple_of name.now }
 {
@@ -159,7 +159,7 @@ fn tuple(name: &InstanceName) -> &[Term]
     &name.terms[..arity]
 }
 
-// Row, version and terms
+// The line of an instance: its letter, and then row, version and terms
 fn put_name(out: &mut Text, name: &InstanceName) -> Result<(), AllocError>
     ensures { OnOk result (Adds out.old out.new (name_text name.now)) }
 {
@@ -206,7 +206,7 @@ fn put_section(out: &mut Text, number: usize, section: &Section) -> Result<(), A
     Ok(())
 }
 
-/// The text of a log of its version. The places of its sections don't matter.
+/// The text of a log in its version. The numbers of its sections' first lines don't matter.
 pub fn write_log(alloc: Global, log: &Log) -> Result<Text, AllocError>
     requires version { IsVersion log.now.version }
     requires lines { AreOfVersion log.now.version (lines_of log.now.sections.items) }

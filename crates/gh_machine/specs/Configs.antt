@@ -92,7 +92,7 @@ IsNextOf P choice next c d = IsNext P choice next (config_of c) (config_of d)
 abbrev pub AreArguments : Program → ℕ → List ℕ → Type 0
 AreArguments P n vs = (p : Procedure) → length vs ≡ length (parameters_of (slice_index_or P.procedures n p))
 
--- as many as it has results and locals
+-- there are as many values as the procedure of a number has results and locals
 abbrev pub AreStarts : Program → ℕ → List ℕ → Type 0
 AreStarts P n vs = (p : Procedure) → length vs ≡ length (starts_of (slice_index_or P.procedures n p))
 

@@ -1,4 +1,5 @@
--- What keeps a run from standing still: callees are there, counts agree, and names that get values together are distinct.
+-- What keeps a run from standing still: callees are declared, counts agree, and names that get values together are
+-- distinct.
 use Rattle.std.specs.Prelude.{◌≡◌, List, [], ◌∷◌, length, Contains}
 use Rattle.gh_ast.specs.Plain.{Statement, call, choice, loop, give, Statements, no_statements, statement_first}
 use Rattle.gh_ast.specs.Plain.{Procedure, Program}
@@ -10,6 +11,8 @@ AreDistinct [] = Unit {0}
 AreDistinct (x ∷ xs) = (Contains xs x → ⊥) × AreDistinct xs
 
 abbrev mutual
+  -- in the body of p, each call in the statement has a callee, the right counts and distinct targets, and each return
+  -- has the right count
   pub Fits : Program → Procedure → Statement → Type 0
   Fits P p (call xs f es) =
       ((q : Procedure) × Declares P f.name q) × ((q : Procedure) → Declares P f.name q → (length es ≡ length (parameters_of q)) × (length xs ≡ length (results_of q))) × AreDistinct (names xs)
@@ -35,6 +38,7 @@ abbrev pub Awaits : Statements → Procedure → Type 0
 Awaits (statement_first (call xs f es) rest) q = length xs ≡ length (results_of q)
 Awaits rest q = ⊥
 
+-- the activations below one of the procedure q: what each still has to do fits, and it awaits the one above
 abbrev pub StackFits : Program → Procedure → List Activation → Type 0
 StackFits P q [] = Unit {0}
 StackFits P q (a ∷ below) = Contains P.procedures a.procedure × AllFit P a.procedure a.rest × Awaits a.rest q × StackFits P a.procedure below

@@ -1,4 +1,4 @@
--- The laws.
+-- The laws of steps and runs.
 use Rattle.std.specs.Prelude.{◌≡◌, ◌⊎◌, List, [], ◌∷◌, ◌++◌, map, Contains}
 use Rattle.gh_ast.specs.Plain.{Program}
 use Rattle.gh_ast.specs.Rules.{IsTyped}
@@ -28,7 +28,8 @@ StepsKeepFrames =
     (P : Program) (c d : Config) (part frame : Heap) → Splits c.heap part frame → (Fault (holding c part) → ⊥) → Step P c d →
     (k : Heap) × Splits d.heap k frame × Step P (holding c part) (holding d k)
 
--- and a step of the part is one of the whole, as long as what it comes to is apart from the frame: a new cell may not stand there
+-- a step of a part is one of the whole, as long as the heap after it is apart from the frame: a new cell may not
+-- stand in the frame
 abbrev pub StepsTakeFrames : Type 0
 StepsTakeFrames =
     (P : Program) (b e : Config) (whole after frame : Heap) → Splits whole b.heap frame → Splits after e.heap frame → Step P b e → Step P (holding b whole) (holding e after)

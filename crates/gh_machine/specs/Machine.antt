@@ -44,6 +44,7 @@ Pops (a ∷ below) p t h d = Answers a.rest a below p t h d
 abbrev pub Returns : Config → Store → Config → Type 0
 Returns c t d = ((c.below ≡ []) × (d ≡ continuing c t c.heap no_statements)) ⊎ Pops c.below c.top.procedure t c.heap d
 
+-- one step by the first of these statements; where there are none, the activation is popped
 abbrev pub StepOn : Program → Statements → Config → Config → Type 0
 StepOn P no_statements c d = Pops c.below c.top.procedure c.top.store c.heap d
 StepOn P (statement_first (set x e) rest) c d =
@@ -101,6 +102,7 @@ last_of c (d ∷ ds) = last_of d ds
 abbrev pub EndsWell : Procedure → Heap → Config → Type 0
 EndsWell p frame c = (h : Heap) × Splits c.heap h frame × MeetsOneOf p.gives c.top.store h
 
+-- no configuration of the run faults, and if the last one has ended, it ends well
 pub record IsGoodRun (p : Procedure) (frame : Heap) (c : Config) (ds : List Config) : Type 0 where
   pub never_faults : (d : Config) → Contains (c ∷ ds) d → Fault d → ⊥
   pub ends_well : HasEnded (last_of c ds) → EndsWell p frame (last_of c ds)

@@ -13,6 +13,6 @@ IsOver no_statements = Unit {0}
 IsOver (statement_first (give at es) rest) = Unit {0}
 IsOver ss = ⊥
 
--- its one activation has come to its end: what comes next leaves it
+-- the configuration has one activation, with nothing left to do or a return next
 abbrev pub IsAtEnd : Config → Type 0
 IsAtEnd c = (c.below ≡ []) × IsOver c.top.rest

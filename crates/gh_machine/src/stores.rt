@@ -78,14 +78,14 @@ fn statements(procedure: &Procedure) -> &[Stmt]
     }
 }
 
-/// How many results and locals there are.
+/// How many results and locals a procedure has.
 pub fn count_starts(procedure: &Procedure) -> usize
     ensures { result ≡ length (starts_of (procedure_of procedure.now)) }
 {
     procedure.results.len() + locals(procedure).len()
 }
 
-/// A procedure at its start.
+/// A procedure at its start, with the values of its parameters, and those of its results and locals.
 pub fn enter<'p>(
     alloc: Global,
     procedure: &'p Procedure,

@@ -18,13 +18,13 @@ pub record Satisfies (P : Program) (p : Procedure) (c : Condition) (m : Interpre
   pub instances : AreInstancesTrue (problem (symbolic_of P p c)).sizes m
   pub formulas : AreTrue m (claims (symbolic_of P p c))
 
--- a counterexample gives such an interpretation
+-- a counterexample gives an interpretation that satisfies its condition
 abbrev pub TracesSatisfy : Type 0
 TracesSatisfy =
     (P : Program) (p : Procedure) (c : Condition) (x : State) (ys : List State) → IsTyped P → IsCondition P c → IsOf P c p → IsCounterexample P p c x ys →
     (m : Interpretation) × Satisfies P p c m
 
--- a model of the condition: all its clauses are true
+-- a model of the condition: equality is a congruence, and all instances of the axioms and all its clauses are true
 pub record IsModelOf (P : Program) (p : Procedure) (c : Condition) (m : Interpretation) : Type 0 where
   pub congruence : IsCongruence (problem (symbolic_of P p c)).sizes m
   pub instances : AreInstancesTrue (problem (symbolic_of P p c)).sizes m

@@ -14,5 +14,6 @@ abbrev pub cells_at : List ℕ → Structure → List ℕ → Heap
 cells_at V m [] = empty
 cells_at V m (x ∷ xs) = cond (m.alloc x) (insert (cells_at V m xs) x (first (m.hop x) V)) (cells_at V m xs)
 
+-- the built heap of a structure: its cells at the values of V
 abbrev pub built : List ℕ → Structure → Heap
 built V m = cells_at V m V

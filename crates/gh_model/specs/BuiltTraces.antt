@@ -25,10 +25,11 @@ abbrev pub value_under : (ℕ → ℕ) → Option ℕ → ℕ
 value_under at None = 0
 value_under at (Some t) = at t
 
+-- the values of all variables, where `at` gives those of terms
 abbrev pub store_under : (ℕ → ℕ) → Bindings → Store
 store_under at b x = value_under at (b x)
 
--- a cell stands at each class other than null's whose least term is allocated
+-- a cell stands at x: x isn't null, is the least of n terms of its class, and is allocated in version i
 abbrev pub stands_at : Interpretation → ℕ → ℕ → ℕ → Bool
 stands_at m n i x = not (x == 0) && ((class_of (equal_in m) n x == x) && (version_of m i).alloc x)
 
@@ -41,6 +42,7 @@ abbrev pub cells_below : (ℕ → Bool) → (ℕ → ℕ) → ℕ → Heap
 cells_below stands to zero = empty
 cells_below stands to (suc k) = cond (stands k) (insert (cells_below stands to k) k (to k)) (cells_below stands to k)
 
+-- the heap of version i over n terms
 abbrev pub heap_in : Interpretation → ℕ → ℕ → Heap
 heap_in m n i = cells_below (stands_at m n i) (content_at m n i) n
 

@@ -3,15 +3,16 @@ use Rattle.std.specs.Prelude.{◌≡◌, ◌↔◌, ℕ, zero, suc, ◌<◌, Lis
 use Rattle.gh_model.specs.Structures.{Structure, IsModel}
 use Rattle.gh_model.specs.BuiltHeaps.{first}
 
--- k, k + 1, .. , n numbers
+-- the n numbers from k on, in order
 abbrev pub numbers : ℕ → ℕ → List ℕ
 numbers k zero = []
 numbers k (suc n) = k ∷ numbers (suc k) n
 
--- the least term that equals t
+-- the least of n terms that equals t
 abbrev pub class_of : (ℕ → ℕ → Bool) → ℕ → ℕ → ℕ
 class_of equal n t = first (equal t) (numbers 0 n)
 
+-- the class of each of n terms, in order
 abbrev pub classes : (ℕ → ℕ → Bool) → ℕ → List ℕ
 classes equal n = map (class_of equal n) (numbers 0 n)
 
@@ -24,7 +25,7 @@ pub record IsCongruence (equal : ℕ → ℕ → Bool) (n : ℕ) (m : Structure)
   pub hop : (x y v w : ℕ) → x < n → y < n → v < n → w < n → IsTrue (equal x y) → IsTrue (equal v w) → IsTrue (m.hop x v) → IsTrue (m.hop y w)
   pub between : (x x' y y' z z' : ℕ) → x < n → x' < n → y < n → y' < n → z < n → z' < n → IsTrue (equal x x') → IsTrue (equal y y') → IsTrue (equal z z') → IsTrue (m.between x y z) → IsTrue (m.between x' y' z')
 
--- the classes are a model, and terms have the values of their classes
+-- the classes of n terms are a model, and the structure says of terms what it says of their classes
 pub record HasClasses (equal : ℕ → ℕ → Bool) (n : ℕ) (m : Structure) : Type 0 where
   pub model : IsModel (classes equal n) m
   pub named : (t : ℕ) → t < n → Contains (classes equal n) (class_of equal n t)

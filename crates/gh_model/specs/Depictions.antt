@@ -21,13 +21,13 @@ pub record IsHeapDepicted (V : List ℕ) (m : Interpretation) (i : ℕ) (h : Hea
   pub between : (t u w x y z : ℕ) → slice_get V t ≡ Some x → slice_get V u ≡ Some y → slice_get V w ≡ Some z → Decides (atom_truth m (Btwn i (term t) (term u) (term w))) (Between h x y z)
   pub hop : (t u x v : ℕ) → slice_get V t ≡ Some x → slice_get V u ≡ Some v → Decides (atom_truth m (HopAtom i (term t) (term u))) (Hop V h x v)
 
--- the states of a path, the first with version i
+-- the heaps of the states of a path are depicted by their versions, that of the first state x by version i
 abbrev pub AreHeapsDepicted : List ℕ → Interpretation → List path.PathStep → ℕ → State → List State → Type 0
 AreHeapsDepicted V m [] i x ys = IsHeapDepicted V m i x.heap
 AreHeapsDepicted V m (p ∷ ps) i x [] = ⊥
 AreHeapsDepicted V m (p ∷ ps) i x (y ∷ ys) = IsHeapDepicted V m i x.heap × AreHeapsDepicted V m ps (version_after p i) y ys
 
--- terms of one class are those of one value, and each version is that of its states' heap
+-- terms of one class are those of one value, and each version depicts the heap of its states
 pub record IsDepicted (c : Condition) (x : State) (ys : List State) (V : List ℕ) (m : Interpretation) : Type 0 where
   pub classes : (t u v w : ℕ) → slice_get V t ≡ Some v → slice_get V u ≡ Some w → (m.class t ≡ m.class u) ↔ (v ≡ w)
   pub along : AreHeapsDepicted V m c.way.steps 0 x ys

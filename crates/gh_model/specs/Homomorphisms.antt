@@ -18,7 +18,8 @@ use Rattle.gh_model.specs.Structures.{Structure, IsModel}
 use Rattle.gh_model.specs.Representations.{IsInside, Fits, FitsWhole}
 use Rattle.gh_model.specs.Versions.{equal_in}
 
--- `at` maps n terms onto V, null to null, and version i of the interpretation says of terms what the structure says of their values
+-- `at` maps n terms onto V, null to null, and version i of the interpretation says of terms what the structure says of
+-- their values
 pub record IsHomomorphism (m : Interpretation) (i n : ℕ) (at : ℕ → ℕ) (V : List ℕ) (M : Structure) : Type 0 where
   pub some : 0 < n
   pub null : at 0 ≡ 0
@@ -33,11 +34,11 @@ pub record IsHomomorphism (m : Interpretation) (i n : ℕ) (at : ℕ → ℕ) (V
 abbrev pub HaveTerms : Variables → ℕ → (ℕ → ℕ) → Store → List Name → Type 0
 HaveTerms b n at st xs = (x : Name) → Contains xs x → ((b x).0 < n) × (at (b x).0 ≡ st x)
 
--- where there is a cell at x, it hops to the term of its content
+-- `next` gives one of n terms for x, and where there is a cell at x, it hops to the value of that term
 abbrev pub HasNext : Variables → (Term → Term) → ℕ → (ℕ → ℕ) → Structure → Name → Type 0
 HasNext b next n at M x = ((next (b x)).0 < n) × (IsTrue (M.alloc (at (b x).0)) → IsTrue (M.hop (at (b x).0) (at (next (b x)).0)))
 
--- at the places whose content an assertion speaks of
+-- Q holds of each variable x for which the assertion says what the cell at x contains
 abbrev mutual
   pub AtCells : (Name → Type 0) → Formula → Type 0
   AtCells Q empty = Unit {0}

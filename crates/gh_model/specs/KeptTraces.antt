@@ -31,9 +31,11 @@ use Rattle.gh_model.specs.BuiltTraces.{store_under, heap_in, built_trace}
 abbrev pub entries_under : Store → List Name → List Entry
 entries_under s xs = map (λ x. record { name = x; value = s x }) xs
 
+-- a variable has the class of its term in the structure, or 0 where it has no term
 abbrev pub store_in : Tables → List Bond → Store
 store_in s b = store_under (class_of (equal_in (interpretation_of s)) s.sizes.terms) (binding_of b)
 
+-- the variables xs in order with these values, and the heap of version i
 abbrev pub state_in : Tables → List Name → ℕ → List Bond → State
 state_in s xs i b = record { store = entries_under (store_in s b) xs; heap = heap_in (interpretation_of s) s.sizes.terms i }
 

@@ -49,11 +49,11 @@ BuiltIsRead = (V : List ℕ) (m : Structure) (s : Store) (f : Formula) → IsMod
 abbrev pub AssertionsAgree : Type 0
 AssertionsAgree = (V : List ℕ) (h : Heap) (m : Structure) (s : Store) (f : Formula) → get h 0 ≡ None → Owned V h → Represents V h m → HasNames f s h V → AgreeOn V h m s f
 
--- and so with its built heap
+-- a model agrees on each assertion with its built heap
 abbrev pub BuiltAgrees : Type 0
 BuiltAgrees = (V : List ℕ) (m : Structure) (s : Store) (f : Formula) → IsModel V m → IsNamed f s V → AgreeOn V (built V m) m s f
 
--- a term for what follows x has that value
+-- what x hops to where x is allocated, and x itself where it isn't, is the successor of x in the built heap
 abbrev pub NextIsSuccessor : Type 0
 NextIsSuccessor = (V : List ℕ) (m : Structure) → IsModel V m → (x t : ℕ) → Contains V x → Contains V t → (IsTrue (m.alloc x) → IsTrue (m.hop x t)) → IsTrue (m.alloc x) ⊎ (x ≡ t) → succ (built V m) x ≡ t
 
@@ -90,7 +90,7 @@ VersionsAreModels = (s : Sizes) (m : Interpretation) (i : ℕ) → i < s.version
 abbrev pub RowsAreTheOrder : Type 0
 RowsAreTheOrder = (m : Structure) → Rows (λ x y z. IsTrue (m.between x y z)) ↔ IsOrdered (λ x. Unit {0}) (λ x y. x ≡ y) m
 
--- who reaches another is a cell, 0 is none, and each cell has a hop, among what N holds of
+-- 0 is no cell, and among what N holds of, what reaches another is a cell, and each cell has a hop
 pub record KeepsCells (N : ℕ → Type 0) (E : ℕ → ℕ → Type 0) (m : Structure) : Type 0 where
   pub row_13 : (x y : ℕ) → N x → N y → IsTrue (m.between x y y) → IsTrue (m.alloc x) ⊎ (E x y)
   pub null : IsTrue (m.alloc 0) → ⊥
@@ -105,7 +105,7 @@ LinkRowsOf N E m =
 abbrev pub AreLinks : (ℕ → Type 0) → (ℕ → ℕ → Type 0) → Structure → Type 0
 AreLinks N E m = (LinkRowsOf N E m × KeepsCells N E m) ↔ IsLinked N E m
 
--- .. of one on values and of one on terms
+-- this is so of a structure on values, and of one on terms
 pub record RowsAreTheLinks : Type 0 where
   pub values : (V : List ℕ) (m : Structure) → AreLinks (Contains V) (λ x y. x ≡ y) m
   pub terms : (equal : ℕ → ℕ → Bool) (n : ℕ) (m : Structure) → AreLinks (λ t. t < n) (λ x y. IsTrue (equal x y)) m

@@ -1,4 +1,4 @@
--- The operands of an assertion are in V.
+-- The values of an assertion's operands are in V.
 use Rattle.std.specs.Prelude.{ℕ, List, Contains}
 use Rattle.gh_ast.specs.Plain.{Formula, empty, comparison, points_to, cell, segment, star, cases, Formulas, no_formulas}
 use Rattle.gh_ast.specs.Plain.{formula_first}

@@ -25,7 +25,8 @@ pub record IsOwnedHeap (V : List ℕ) (m : Interpretation) (i : ℕ) (h : Heap) 
   pub equal : (t u v w : ℕ) → slice_get V t ≡ Some v → slice_get V u ≡ Some w → (m.class t ≡ m.class u) ↔ (v ≡ w)
   pub depicted : IsHeapDepicted V m i h
 
--- the operands are terms with their values, and so is what follows the place of a single cell
+-- the variables of the assertion have terms with their values, and so has what follows a place whose content the
+-- assertion speaks of; all values that the assertion names are in V
 pub record HasTerms (V : List ℕ) (b : Variables) (next : Term → Term) (st : Store) (h : Heap) (xs : List Name) (f : Formula) : Type 0 where
   pub over : FormulaIn f xs
   pub bound : (x : Name) → Contains xs x → slice_get V (b x).0 ≡ Some (st x)
@@ -33,7 +34,8 @@ pub record HasTerms (V : List ℕ) (b : Variables) (next : Term → Term) (st : 
   pub named : HasNames f st h V
 
 -- the structure formula is true exactly where some part of the heap meets the assertion, the footprint formula then
--- exactly for the terms whose values lie in that part, and the formula of the whole exactly where the whole heap meets it
+-- exactly for the terms whose values lie in that part, and the formula of the whole exactly where the whole heap meets
+-- the assertion
 pub record IsReadOffTerms (V : List ℕ) (m : Interpretation) (i : ℕ) (b : Variables) (next : Term → Term) (st : Store) (h : Heap) (f : Formula) : Type 0 where
   pub part : IsTrue (truth m (structure b next i (length V) f)) ↔ ((a : Heap) × IsPart a h × Meaning f st a)
   pub footprint : (a : Heap) → IsPart a h → Meaning f st a → (t z : ℕ) → slice_get V t ≡ Some z → IsTrue (truth m (footprint b i (term t) f)) ↔ Allocated a z

@@ -29,7 +29,7 @@ abbrev mutual
   IsInsideAny no_formulas s m z = ⊥
   IsInsideAny (formula_first f fs) s m z = IsInside f s m z ⊎ IsInsideAny fs s m z
 
--- some part meets the assertion
+-- some part of the heap meets the assertion. Of the parts of a star only values of V are asked to be apart
 abbrev mutual
   pub Fits : Formula → Store → Structure → List ℕ → Type 0
   Fits empty s m V = Unit {0}

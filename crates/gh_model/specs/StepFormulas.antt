@@ -11,7 +11,8 @@ use Rattle.gh_model.specs.Structures.{Structure}
 use Rattle.gh_model.specs.Transitions.{StepsByWrite, StepsByNew, StepsByFree, StepsByCall}
 use Rattle.gh_model.specs.Homomorphisms.{IsHomomorphism, IsPreserved}
 
--- where terms map onto the values of the structures before and after a step, in two versions
+-- where n terms map onto the values of M in version i and of N in version i + 1, the formulas of a step are true
+-- exactly where N is one such step after M
 abbrev pub WritesArePreserved : Type 0
 WritesArePreserved =
     (m : Interpretation) (i n : ℕ) (at : ℕ → ℕ) (V : List ℕ) (M N : Structure) → IsHomomorphism m i n at V M → IsHomomorphism m (i + 1) n at V N → (x e : ℕ) → x < n → e < n →
@@ -27,7 +28,7 @@ FreesArePreserved =
     (m : Interpretation) (i n : ℕ) (at : ℕ → ℕ) (V : List ℕ) (M N : Structure) → IsHomomorphism m i n at V M → IsHomomorphism m (i + 1) n at V N → (x : ℕ) → x < n →
     AreTrue m (freed_claims n i (term x)) ↔ StepsByFree V M N (at x)
 
--- a part u gives way to a part q
+-- the same of a call or a loop: a part u gives way to a part q
 abbrev pub CallsArePreserved : Type 0
 CallsArePreserved =
     (m : Interpretation) (at : ℕ → ℕ) (V : List ℕ) (M N : Structure) (ks : List Kind) (u q : Under) (s t : Store) → IsHomomorphism m u.version (length ks) at V M → IsHomomorphism m (u.version + 1) (length ks) at V N →

@@ -24,12 +24,13 @@ version_after (path.called ys n es) i = i + 1
 version_after (path.looped n) i = i + 1
 version_after (path.answered es) i = i
 
--- in a state with heap version i: what follows a term has the value that follows its value, and a variable's term has what the store gives
+-- in a state with heap version i: what follows a term has the value that follows that of the term, and the term of a
+-- variable has the value that the store gives the variable
 pub record HasStateValues (K : List Kind) (V : List ℕ) (i : ℕ) (b : Bindings) (x : State) : Type 0 where
   pub next : (t u v : ℕ) → slice_get K t ≡ Some (next i u) → slice_get V u ≡ Some v → slice_get V t ≡ Some (succ x.heap v)
   pub bound : (y : Name) (t : ℕ) → b y ≡ Some t → slice_get V t ≡ Some (x.store y)
 
--- a new cell's place and content
+-- the terms of a new cell's place and content have these as their values, in the state y after the step
 abbrev pub HasCellValues : List ℕ → TermStep → State → Type 0
 HasCellValues V (made l t) y = (v : ℕ) × (w : ℕ) × (slice_get V l ≡ Some v) × (slice_get V t ≡ Some w) × (get y.heap v ≡ Some w)
 HasCellValues V (accessed t) y = Unit {0}
@@ -56,9 +57,10 @@ HaveValues P K V (p ∷ ps) (q ∷ qs) (b ∷ bs) i x [] = ⊥
 HaveValues P K V (p ∷ ps) (q ∷ qs) (b ∷ bs) i x (y ∷ ys) =
     HasStateValues K V i b x × HasCellValues V q y × HasResultValues P V p q y × HaveValues P K V ps qs bs (version_after p i) y ys
 
--- a value for each term. In a program that keeps the type rules there is one such list: a successor's value comes from that of an earlier term in
--- a state of its version, each version having one heap; a value was made for a variable that is bound to it in the state where it is used, for a
--- variable that a loop assigns, bound to it in the state after, for a new cell, or for a result
+-- a value for each term. In a program that keeps the type rules there is one such list: a successor's value comes from
+-- that of an earlier term in a state of its version, each version having one heap; a value was made for a variable that
+-- is bound to it in the state where it is used, for a variable that a loop assigns, bound to it in the state after, for
+-- a new cell, or for a result
 pub record AreTermValues (P : Program) (p : Procedure) (c : Condition) (x : State) (ys : List State) (V : List ℕ) : Type 0 where
   pub count : length V ≡ length (symbolic_of P p c).terms
   pub null : slice_get V 0 ≡ Some 0

@@ -8,7 +8,7 @@ use Rattle.gh_path.specs.Conditions.{Condition, IsCondition, IsOf}
 use Rattle.gh_trace.specs.Traces.{State, Counterexample}
 use Rattle.gh_model.specs.TermValues.{AreTermValues}
 
--- of a condition of the procedure p
+-- the state x and the states ys after it are a counterexample of the condition c of the procedure p
 abbrev pub IsCounterexample : Program → Procedure → Condition → State → List State → Type 0
 IsCounterexample P p c x ys = Counterexample P p (meets_at p c.start) c.way.steps c.way.check x ys
 

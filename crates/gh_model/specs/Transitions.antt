@@ -11,26 +11,29 @@ use Rattle.gh_model.specs.Representations.{IsInside, Fits}
 abbrev pub KeepsHops : List ℕ → Structure → Structure → ℕ → Type 0
 KeepsHops V m n x = (z v : ℕ) → Contains V z → Contains V v → z ≢ x → IsTrue (n.hop z v) ↔ IsTrue (m.hop z v)
 
+-- a write, from m to n: x hops to v, and the other hops and the cells stay
 pub record StepsByWrite (V : List ℕ) (m n : Structure) (x v : ℕ) : Type 0 where
   pub alloc : (z : ℕ) → Contains V z → IsTrue (n.alloc z) ↔ IsTrue (m.alloc z)
   pub here : IsTrue (n.hop x v)
   pub kept : KeepsHops V m n x
 
+-- a new cell, from m to n: x becomes a cell and hops to v, and the other hops and cells stay
 pub record StepsByNew (V : List ℕ) (m n : Structure) (x v : ℕ) : Type 0 where
   pub fresh : IsTrue (m.alloc x) → ⊥
   pub alloc : (z : ℕ) → Contains V z → IsTrue (n.alloc z) ↔ (IsTrue (m.alloc z) ⊎ (z ≡ x))
   pub here : IsTrue (n.hop x v)
   pub kept : KeepsHops V m n x
 
+-- a freed cell, from m to n: x is no cell in n, and the other hops and cells stay
 pub record StepsByFree (V : List ℕ) (m n : Structure) (x : ℕ) : Type 0 where
   pub alloc : (z : ℕ) → Contains V z → IsTrue (n.alloc z) ↔ (IsTrue (m.alloc z) × (z ≢ x))
   pub kept : KeepsHops V m n x
 
--- the cells that a call or a loop keeps: those outside of what p speaks of
+-- z is a cell that a call or a loop keeps: it is outside the footprint of p
 abbrev pub IsSetAside : Formula → Store → Structure → ℕ → Type 0
 IsSetAside p s m z = IsTrue (m.alloc z) × (IsInside p s m z → ⊥)
 
--- p is given up in s, and q is given back in t
+-- from m to n a part that meets p under the store s gives way to one that meets q under the store t
 pub record StepsByCall (V : List ℕ) (m n : Structure) (p q : Formula) (s t : Store) : Type 0 where
   pub before : Fits p s m V
   pub after : Fits q t n V
@@ -38,14 +41,16 @@ pub record StepsByCall (V : List ℕ) (m n : Structure) (p q : Formula) (s t : S
   pub alloc : (z : ℕ) → Contains V z → IsTrue (n.alloc z) ↔ (IsSetAside p s m z ⊎ IsInside q t n z)
   pub kept : (z v : ℕ) → Contains V z → Contains V v → IsSetAside p s m z → IsTrue (n.hop z v) ↔ IsTrue (m.hop z v)
 
+-- the heaps are the same at all places but x
 abbrev pub IsAwayFrom : ℕ → Heap → Heap → Type 0
 IsAwayFrom x h k = (z : ℕ) → z ≢ x → get k z ≡ get h z
 
--- a cell's content changes, or a cell comes
+-- from h to k the cell at x gets the content v, or a cell comes at x with it
 pub record IsPut (h k : Heap) (x v : ℕ) : Type 0 where
   pub here : get k x ≡ Some v
   pub elsewhere : IsAwayFrom x h k
 
+-- k is h without a cell at x
 pub record IsFreed (h k : Heap) (x : ℕ) : Type 0 where
   pub here : get k x ≡ None
   pub elsewhere : IsAwayFrom x h k

@@ -54,7 +54,7 @@ pub fn built_agrees()
     ensures { BuiltAgrees }
 {}
 
-/// A term for what follows a value has that value in the built heap.
+/// The successor of a value in the built heap is what it hops to where it is allocated, and itself where it isn't.
 pub fn next_is_successor()
     ensures { NextIsSuccessor }
 {}
@@ -89,12 +89,12 @@ pub fn representations_exist()
     ensures { RepresentationsExist }
 {}
 
-/// A version of an interpretation keeps the axioms whose instances are true.
+/// Where all instances of the axioms are true, a version in which null is no cell and each cell hops keeps the axioms.
 pub fn instances_are_kept()
     ensures { InstancesAreKept }
 {}
 
-/// The classes of its terms are a model.
+/// Where equality is a congruence too, such a version is a model over the classes of its terms.
 pub fn versions_are_models()
     ensures { VersionsAreModels }
 {}
@@ -169,7 +169,7 @@ pub fn traces_give_models()
     ensures { TracesGiveModels }
 {}
 
-/// In one of these models terms are equal where their values are, and each version represents its heap.
+/// In one of these models terms are equal exactly where their values are, and each version depicts its heap.
 pub fn traces_are_depicted()
     ensures { TracesAreDepicted }
 {}
@@ -200,17 +200,17 @@ pub fn only_variables_have_terms()
     ensures { OnlyVariablesHaveTerms }
 {}
 
-/// Drawn over the variables of the condition's procedure, this trace refutes the condition.
+/// The trace of a model of a condition, drawn over the variables of its procedure, refutes the condition.
 pub fn built_is_counterexample()
     ensures { BuiltIsCounterexample }
 {}
 
-/// What betweenness keeps in a heap is what it keeps in a structure over all values.
+/// The rows that betweenness keeps in a heap are the ten rows of a structure over all values.
 pub fn rows_are_the_order()
     ensures { RowsAreTheOrder }
 {}
 
-/// What hops keep in a heap is what they keep in a structure, beside what it says of its cells.
+/// The rows that hops keep in a heap, with what a structure says of its cells, are the links of the structure.
 pub fn rows_are_the_links()
     ensures { RowsAreTheLinks }
 {}

@@ -40,7 +40,7 @@ IsSignTaken s old found new = MatchOption found (NoSign s (left_of old)) (λ p. 
 abbrev pub IsKeyTaken : words.Keyword → Parser → Option Span → Parser → Type 0
 IsKeyTaken k old found new = MatchOption found (NoKey k (left_of old)) (λ p. left_of old ≡ key k p ∷ left_of new)
 
--- a token that isn't there: nothing is taken
+-- no token of the kind k is next, and nothing is taken
 pub record IsGap {X : Type 0} (k : X → Token) (ts left : List Token) : Type 0 where
   pub stays : left ≡ ts
   pub none : NoToken k ts
@@ -49,7 +49,7 @@ abbrev pub IsMissing : {X : Type 0} → (X → Token) → List Token → List To
 IsMissing k ts left Unexpected = IsGap k ts left
 IsMissing k ts left OutOfMemory = ⊤
 
--- the answer for one token
+-- the answer where one token of the kind k is asked for
 abbrev pub IsTaken : {X : Type 0} → (X → Token) → List Token → Result X ReadError → List Token → Type 0
 IsTaken k ts answer left = MatchResult answer (λ x. ts ≡ k x ∷ left) (IsMissing k ts left)
 
@@ -60,7 +60,7 @@ HasSign s ts = (p : Span) × (rest : List Token) × (ts ≡ sign s p ∷ rest)
 abbrev pub HasKey : words.Keyword → List Token → Type 0
 HasKey k ts = (p : Span) × (rest : List Token) × (ts ≡ key k p ∷ rest)
 
--- whether it is
+-- the answer says whether the next token is this sign, or this reserved word
 abbrev pub IsSignNext : signs.Sign → Parser → Bool → Type 0
 IsSignNext s parser answer = MatchBool answer (HasSign s (left_of parser)) (NoSign s (left_of parser))
 
@@ -79,7 +79,7 @@ abbrev pub next_place : Span → List Token → Span
 next_place end [] = end
 next_place end (t ∷ ts) = begin_of t
 
--- the sign of an equation, or of a comparison that is to fail
+-- `==` where the two are to be equal, `!=` where they are to differ
 abbrev pub comparison_sign : Bool → signs.Sign
 comparison_sign b = cond b sg.Equal sg.Unequal
 

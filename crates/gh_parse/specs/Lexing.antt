@@ -43,7 +43,7 @@ pub record IsPieceAhead (text : List ℕ) (p : Piece) : Type 0 where
   pub reads : (place : Span)
       → IsTokens place (cleared text) (tokens_at p.symbol place) (moved_over place (take p.length text)) (cleared (drop p.length text))
 
--- the tokens at the front of a text, up to a place after which there are none
+-- the tokens at the front of a text, up to a place after which there are none; `whole` says whether the text ends there
 pub record IsLexed (text : List ℕ) (tokens : List Token) (end : Span) (whole : Bool) : Type 0 where
   pub rest : List ℕ
   pub front : IsTokens first_place (cleared text) tokens end rest

@@ -27,13 +27,13 @@ HasCharacters text = (k : ℕ) → IsFirstByte text k → ⊥
 abbrev pub IsShallow : List ℕ → Type 0
 IsShallow text = (k : ℕ) → IsFirstDeep text k → ⊥
 
--- the text is well formed, and its tokens spell the value
+-- no byte and no bracket of the text is refused, and its tokens spell the value
 pub record IsParsedAs {X : Type 0} (Spells : List Token → X → Type 0) (text : List ℕ) (x : X) : Type 0 where
   pub characters : HasCharacters text
   pub shallow : IsShallow text
   pub spelled : (ts : List Token) × HasTokens text ts × Spells ts x
 
--- the text is well formed, and its tokens spell no value; this is the place of its error
+-- no byte and no bracket of the text is refused, but its tokens spell no value; the span is the place of its error
 pub record IsMisspelled {X : Type 0} (Spells : List Token → X → Type 0) (text : List ℕ) (span : Span) : Type 0 where
   pub characters : HasCharacters text
   pub shallow : IsShallow text
@@ -61,7 +61,7 @@ IsAsked = IsParsedAs SpellsQuestion
 abbrev pub IsQuestionRefusal : List ℕ → ParseError → Type 0
 IsQuestionRefusal = IsRefusalOf SpellsQuestion
 
--- the text is well formed, and these are its tokens
+-- no byte and no bracket of the text is refused, and these are the tokens at its front
 pub record IsScanned (text : List ℕ) (tokens : List Token) (end : Span) (whole : Bool) : Type 0 where
   pub characters : HasCharacters text
   pub shallow : IsShallow text
@@ -78,13 +78,15 @@ IsScanRefusal text OutOfMemory = ⊤
 abbrev pub IsScan : List ℕ → Result Lexed ParseError → Type 0
 IsScan text answer = MatchResult answer (λ l. IsScanned text (tokens_of l.tokens.items) l.end l.whole) (IsScanRefusal text)
 
--- what is answered for a text by what a rule of the grammar answers for its tokens: a text that isn't all tokens is refused where they end
+-- what is answered for a text by what a rule of the grammar answers for its tokens: a text that isn't all tokens is
+-- refused where they end
 abbrev pub answered : {X : Type 0} → Bool → Span → List Token → Result X ReadError → Result X ParseError
 answered true end left (Ok x) = Ok x
 answered false end left (Ok x) = Err (Syntax end)
 answered whole end left (Err read.Unexpected) = Err (Syntax (next_place end left))
 answered whole end left (Err read.OutOfMemory) = Err OutOfMemory
 
--- a program that a text can give is given again by its printed text, places aside, where that text doesn't nest too deep
+-- a program that a text can give is given again by its printed text, places aside, where the printed text doesn't
+-- nest too deep
 abbrev pub PrintedParse : Type 0
 PrintedParse = (text : List ℕ) (p : Program) → IsParsed text p → IsShallow (program_text p) → (q : Program) × IsParsed (program_text p) q × (bare_program q ≡ bare_program p)

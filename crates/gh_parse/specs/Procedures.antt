@@ -12,7 +12,7 @@ use Rattle.gh_ast.specs.Grammar.{SpellsLocals, SpellsBody, SpellsWord, SpellsFie
 use Rattle.gh_parse.specs.declared.procedures.Ending.{Ending}
 use Rattle.gh_parse.specs.declared.programs.Fields.{Fields}
 
--- the locals of a declaration stand after those before
+-- the locals of a declaration are added after the old ones
 pub record AddsLocals (old : List Occ) (ts : List Token) (new : List Occ) (rest : List Token) : Type 0 where
   pub locals : List Occ
   pub spelled : SpellsLocals ts locals rest

@@ -24,7 +24,7 @@ pub data Seq (A B : List Token → List Token → Type 0) : List Token → List 
 pub data Then {X : Type 0} (A : List Token → X → List Token → Type 0) (B : X → List Token → List Token → Type 0) : List Token → List Token → Type 0 where
   and_then : {x : X} {ts us rest : List Token} → A ts x us → B x us rest → Then A B ts rest
 
--- nothing, where none of these tokens is next
+-- nothing where none of these tokens is next; else one of them, and then A
 pub data Opt {X : Type 0} (k : X → Token) (A : List Token → List Token → Type 0) : List Token → List Token → Type 0 where
   without : {rest : List Token} → NoToken k rest → Opt k A rest rest
   with : {p : X} {ts rest : List Token} → A ts rest → Opt k A (k p ∷ ts) rest
@@ -69,8 +69,8 @@ pub data SameNext : List Token → List Token → Type 0 where
   same : {t : Token} {ts us : List Token} → SameNext (t ∷ ts) (t ∷ us)
   none : SameNext [] []
 
--- reading by the rule P stops where `left` is left: the tokens before it go on to a sentence, before each rest that may follow;
--- with the next token, or as they stand at the end, they are the front of none
+-- reading by the rule P stops where `left` is left: the tokens before it go on to a sentence, before each rest that
+-- may follow; with the next token, or as they stand at the end, they are the front of none
 pub record Stops (Follows : List Token → Type 0) (P : List Token → List Token → Type 0) (ts left : List Token) : Type 0 where
   pub before : List Token
   pub split : ts ≡ before ++ left

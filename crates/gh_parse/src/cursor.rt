@@ -107,7 +107,7 @@ impl<'t> Parser<'t> {
         }
     }
 
-    /// Takes a sign.
+    /// Takes a sign; an error where it isn't next.
     pub fn expect_sign(&mut self, wanted: Sign) -> Result<Span, ReadError>
         ensures { IsTaken (sign wanted) (tokens_of self.old.rest.now) result (tokens_of self.new.rest.now) }
     {
@@ -117,7 +117,7 @@ impl<'t> Parser<'t> {
         }
     }
 
-    /// Takes a reserved word.
+    /// Takes a reserved word; an error where it isn't next.
     pub fn expect_key(&mut self, wanted: Keyword) -> Result<Span, ReadError>
         ensures { IsTaken (key wanted) (tokens_of self.old.rest.now) result (tokens_of self.new.rest.now) }
     {
@@ -127,7 +127,7 @@ impl<'t> Parser<'t> {
         }
     }
 
-    /// Takes a name.
+    /// Takes a name; an error where none is next.
     pub fn expect_name(&mut self, alloc: Global) -> Result<Occ, ReadError>
         ensures { IsTaken named (tokens_of self.old.rest.now) result (tokens_of self.new.rest.now) }
     {

@@ -17,8 +17,9 @@ pub enum ParseError {
     /// Too many brackets stand open.
     #[error("too many brackets are open")]
     Deep { span: Span },
-    /// The text is no program. The place is that of the first token with which the tokens are no
-    /// prefix of any program's, or that after the last byte.
+    /// The text is no program, or no question. The place is that of the first token with which the
+    /// tokens are no prefix of any program's, or any question's, the place where no token fits, or
+    /// that after the last byte.
     #[error("syntax error")]
     Syntax { span: Span },
     #[error("out of memory")]

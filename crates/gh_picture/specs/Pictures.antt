@@ -26,11 +26,11 @@ pub record AddsPanels (rows : List Row) (old new : List Panel) (below : ℕ) : T
   pub whole : new ≡ old ++ rest
   pub panels : ArePanelsOf 0 rows rest below
 
--- so many hundreds
+-- n hundreds in decimal digits
 abbrev pub hundreds_text : ℕ → List ℕ
 hundreds_text n = decimal n ++ codes "00"
 
--- the size of a picture in columns and lines
+-- the attributes that give a picture the size of so many columns and lines
 abbrev pub frame_of : ℕ → ℕ → List Attribute
 frame_of columns lines =
     attribute key.Xmlns (codes "http://www.w3.org/2000/svg") ∷ attribute key.Width (hundreds_text columns) ∷ attribute key.Height (hundreds_text lines) ∷

@@ -24,7 +24,7 @@ AreApart board = (i j : ℕ) (s : Spot) → i ≢ j → Stands board i s → Sta
 abbrev pub StillStands : Board → Board → Type 0
 StillStands old new = (i : ℕ) (s : Spot) → Stands old i s → Stands new i s
 
--- another cell leads to it, from the left
+-- a cell that stands just left of the spot t leads to the cell j
 abbrev pub IsLedTo : List Cell → Board → ℕ → Spot → Type 0
 IsLedTo cells board j t = (i : ℕ) × (s : Spot) × Stands board i s × LeadsTo cells i j × (t ≡ right_of s)
 
@@ -32,7 +32,7 @@ IsLedTo cells board j t = (i : ℕ) × (s : Spot) × Stands board i s × LeadsTo
 abbrev pub AreLists : List Cell → Board → Type 0
 AreLists cells board = (j : ℕ) (t : Spot) → Stands board j t → 0 < t.column → IsLedTo cells board j t
 
--- whole lines before a line
+-- the cells that stand are whole lists, in the lines before this one
 pub record HasLines (cells : List Cell) (board : Board) (line : ℕ) : Type 0 where
   pub one_each : length board ≡ length cells
   pub above : (i : ℕ) (s : Spot) → Stands board i s → s.line < line
@@ -40,11 +40,11 @@ pub record HasLines (cells : List Cell) (board : Board) (line : ℕ) : Type 0 wh
   pub in_lines : (i j : ℕ) (s : Spot) → Stands board i s → LeadsTo cells i j → (t : Spot) × Stands board j t × Follows s t
   pub lists : AreLists cells board
 
--- in an earlier line, or before the column
+-- the spot is in an earlier line, or in this one before the column
 abbrev pub IsBefore : ℕ → ℕ → Spot → Type 0
 IsBefore line column s = (s.line < line) ⊎ ((s.line ≡ line) × (s.column < column))
 
--- the cell is the next in the line
+-- j is the next cell of the line, and its spot is just right of s
 abbrev pub IsAwaited : ℕ → ℕ → ℕ → Spot → ℕ → Type 0
 IsAwaited line column next s j = (j ≡ next) × (right_of s ≡ record { line = line; column = column })
 

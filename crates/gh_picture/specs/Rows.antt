@@ -28,7 +28,7 @@ use Rattle.gh_picture.specs.declared.tree.Panel.{Panel}
 abbrev pub cells_of : Heap → List Cell
 cells_of h = map (λ p. record { at = p.0; to = p.1 }) (entries h)
 
--- from one spot to another
+-- how the arrow from one spot to another goes
 abbrev pub link_between : Spot → Spot → Link
 link_between s t = if s.line == t.line then (if s.column + 1 == t.column then link.Beside else link.Back t) else link.Jump t
 
@@ -63,7 +63,7 @@ abbrev pub target_to : List Cell → List Spot → List Entry → ℕ → Option
 target_to cells spots seen value None = target.Apart (apart_count cells seen)
 target_to cells spots seen value (Some j) = target.Above (spot_at spots j) (equal_count seen value)
 
--- where a name stands, after those of some variables
+-- where the name of a variable with this value stands, after those of the variables that are seen
 abbrev pub target_of : List Cell → List Spot → List Entry → ℕ → Target
 target_of cells spots seen value = target_to cells spots seen value (number_in cells value)
 
@@ -84,11 +84,11 @@ row_groups row spots =
     caption_group row.statement row.note ∷
     (cell_groups row.roles.items cells spots 0 cells ++ variable_groups row.changes.items cells spots row.state.store 0 row.state.store)
 
--- below so many lines
+-- the attributes of a panel that stands below so many lines
 abbrev pub row_attributes : ℕ → List Attribute
 row_attributes top = attribute key.Class (codes "row") ∷ attribute key.Transform (codes "translate(10 " ++ decimal top ++ codes "50)") ∷ []
 
--- the greatest number of lines
+-- n, or the greatest 64-bit number where n is greater
 abbrev pub cut : ℕ → ℕ
 cut n = min (2 ^ 64 - 1) n
 
@@ -97,7 +97,8 @@ pub record IsPast (top : ℕ) (spots : List Spot) (below : ℕ) : Type 0 where
   pub caption : cut (top + 1) ≤ below
   pub cells : (i : ℕ) → i < length spots → cut (top + (spot_at spots i).line + 1) ≤ below
 
--- the panel shows the row, from one line to another: its caption, each cell of its heap once, and each variable of its store once, in their orders
+-- the panel shows the row, from one line to another: its caption, each cell of its heap once, and each variable of
+-- its store once, in their orders
 pub record IsPanelOf (row : Row) (top below : ℕ) (panel : Panel) : Type 0 where
   pub spots : List Spot
   pub stand : AreSpots (cells_of row.state.heap) spots

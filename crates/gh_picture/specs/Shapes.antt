@@ -62,7 +62,7 @@ place_label_of s at = label_of (codes "place") s (codes "42") (codes "55") (deci
 abbrev pub role_label_of : Spot → Role → Leaf
 role_label_of s r = label_of (codes "role") s (codes "44") (codes "78") (role_word r)
 
--- from the right of a box
+-- a stroke from the right of a box, which goes on as `rest` says
 abbrev pub stroke_text : Spot → List ℕ → List ℕ
 stroke_text s rest = codes "M" ++ point_text s (codes "70") (codes "50") ++ rest
 
@@ -85,7 +85,7 @@ arrow_of s link.Beside = path_of (codes "next") (stroke_text s (codes "h38"))
 arrow_of s (link.Back t) = path_of (codes "next") (back_text s t)
 arrow_of s (link.Jump t) = path_of (codes "next") (jump_text s t)
 
--- the content is told where it is the place of no cell
+-- the content of a cell is told where it is neither null nor the place of a cell
 abbrev pub content_text : Link → ℕ → List ℕ
 content_text link.Null to = []
 content_text link.Lost to = decimal to

@@ -29,7 +29,7 @@ LeadsTo cells i j = (i < length cells) × (number_in cells (cell_at cells i).to 
 abbrev pub right_of : Spot → Spot
 right_of s = record s { column = s.column + 1 }
 
--- in an earlier line, or no later in the same
+-- t is in an earlier line than s, or in the same line and no later
 abbrev pub IsNoLater : Spot → Spot → Type 0
 IsNoLater t s = (t.line < s.line) ⊎ ((t.line ≡ s.line) × (t.column ≤ s.column))
 

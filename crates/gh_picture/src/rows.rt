@@ -178,7 +178,7 @@ pub struct Drawn {
     pub columns: usize,
 }
 
-/// How many columns a text takes.
+/// How many columns a text of so many bytes takes.
 pub fn text_columns(length: usize) -> usize
     ensures { result ≡ length / 10 + 1 }
 {

@@ -10,6 +10,7 @@ use Rattle.gh_symb.specs.Symbolic.{symbolic_of}
 use Rattle.gh_symb.specs.Formulas.{problem}
 use Rattle.gh_symb.specs.Examples.{nop, smallest, all_told}
 
+-- the definition k is true
 abbrev pub D : ℕ → Lit
 D k = record { atom = Def k; positive = true }
 

@@ -8,10 +8,11 @@ use Rattle.gh_grass.specs.Claims.{Claim, atom, negation_of, conjunction_of, disj
 use Rattle.gh_grass.specs.Claims.{no_claims, claim_first}
 use Rattle.gh_grass.specs.Clauses.{made, all_made, next_after, clauses_from}
 
+-- the sizes with another number of definitions
 abbrev pub sized : Sizes → ℕ → Sizes
 sized s defs = record { terms = s.terms; versions = s.versions; defs = defs }
 
--- some clauses more, and definitions up to a number
+-- some clauses more, and `next` definitions in all
 abbrev pub grown : Problem → ℕ → List (List Lit) → Problem
 grown p next clauses = record { sizes = sized p.sizes next; clauses = p.clauses ++ clauses }
 

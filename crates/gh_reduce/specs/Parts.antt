@@ -17,11 +17,11 @@ placed_of ks i u q = all_of (placed_claims ks i u q)
 abbrev pub placed_list : List Kind → ℕ → Bound → Bound → List Claim
 placed_list ks i u q = placed_claims ks i (under_of u) (under_of q)
 
--- one of some alternatives does
+-- one of some alternatives stands in the place of the part
 abbrev pub one_is_placed : List Kind → ℕ → Bound → List Bound → Claim
 one_is_placed ks i u qs = one_of (map (placed_of ks i (under_of u)) (map under_of qs))
 
--- its terms and versions are there
+-- the terms and versions of the change are there
 pub record IsChangeInside (s : Sizes) (change : Change) : Type 0 where
   pub version : change.old + 1 < s.versions
   pub before : IsUnderInside s.terms s.versions (under_of change.before.now)

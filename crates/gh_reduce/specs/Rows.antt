@@ -19,10 +19,11 @@ use Rattle.gh_symb.specs.Inside.{under_of, IsUnderInside}
 abbrev pub kinds_of : List TermKind → List Kind
 kinds_of terms = map plain_kind terms
 
--- the cell at z leads in a version where it leads in another
+-- the cell at z leads to v in the new version exactly where it does in the old one
 abbrev pub same_hops : ℕ → ℕ → Term → Term → Claim
 same_hops new old z v = equivalence_of (hops new z v) (hops old z v)
 
+-- what a statement of each term says of the term z
 abbrev pub of_term : EachTerm → Term → Claim
 of_term (Leads i n) z = leads n i z
 of_term (Same old new) z = equivalence_of (allocated new z) (allocated old z)
@@ -31,6 +32,7 @@ of_term (Freed old new x) z = equivalence_of (allocated new z) (all_of (allocate
 of_term (Apart old u q) z = negation_of (all_of (kept old (under_of u.now) z ∷ within (under_of q.now) z ∷ []))
 of_term (Replaced old new u q) z = equivalence_of (allocated new z) (one_of (kept old (under_of u.now) z ∷ within (under_of q.now) z ∷ []))
 
+-- what a statement of each two terms says of the terms z and v
 abbrev pub of_pair : EachPair → Term → Term → Claim
 of_pair (Others old new x) z v = one_of (equality z x ∷ same_hops new old z v ∷ [])
 of_pair (Kept old new u) z v = one_of (negation_of (kept old (under_of u.now) z) ∷ same_hops new old z v ∷ [])
@@ -39,15 +41,15 @@ of_pair (Kept old new u) z v = one_of (negation_of (kept old (under_of u.now) z)
 abbrev pub with_each : List Formula → ℕ → (Term → Claim) → List Claim
 with_each members n f = claims_list members ++ each n f
 
--- it is said of each term of a problem
+-- f is said of each term of a problem
 abbrev pub said_of_each : Problem → (Term → Claim) → List Claim
 said_of_each p f = each p.sizes.terms f
 
--- it is said of each two terms of a problem
+-- f is said of each two terms of a problem
 abbrev pub said_of_pairs : Problem → (Term → Term → Claim) → List Claim
 said_of_pairs p f = each_pair p.sizes.terms f
 
--- its terms and versions are there
+-- the terms and versions of a statement are there
 abbrev pub IsEachTermInside : Sizes → EachTerm → Type 0
 IsEachTermInside s (Leads i n) = (i < s.versions) × (n ≡ s.terms)
 IsEachTermInside s (Same old new) = (old < s.versions) × (new < s.versions)

@@ -28,7 +28,7 @@ next_where_allocated i x next = one_of (negation_of (allocated i x) ∷ hops i x
 abbrev pub one_is_met : List Kind → List Bound → Claim
 one_is_met ks bounds = one_of (map (meets_whole ks) (map under_of bounds))
 
--- it meets none of some alternatives
+-- the whole heap meets none of some alternatives
 abbrev pub none_is_met : List Kind → List Bound → List Claim
 none_is_met ks bounds = map negation_of (meets_one_of ks (map under_of bounds))
 
@@ -36,7 +36,7 @@ none_is_met ks bounds = map negation_of (meets_one_of ks (map under_of bounds))
 abbrev pub all_versions : Problem → List TermKind → List Claim
 all_versions p terms = versions_claims (kinds_of terms) p.sizes.versions
 
--- a cell is made, in version i of a problem
+-- a cell is made, from version i of a problem to the next
 abbrev pub cell_made : Problem → ℕ → Term → Term → List Claim
 cell_made p i location content = made_claims p.sizes.terms i location content
 

@@ -95,7 +95,7 @@ fn add_alternatives(
     }
 }
 
-/// The part gives way.
+/// States that the part gives way to one of the alternatives, and that the rest of the heap stays.
 pub fn add_part(
     alloc: Global,
     ground: &mut Ground,

@@ -120,7 +120,7 @@ impl EachPair<'_, '_> {
     }
 }
 
-/// Adds it for each of some terms to other formulas.
+/// Adds a statement of each term, for the first `terms` terms, to other formulas.
 pub fn push_each_term(
     alloc: Global,
     members: &mut Vec<Formula>,
@@ -135,7 +135,7 @@ pub fn push_each_term(
     Ok(())
 }
 
-/// States it of each term.
+/// Adds a statement of each term to ground clauses.
 pub fn add_each_term(alloc: Global, ground: &mut Ground, each: &EachTerm) -> Result<(), AllocError>
     requires { IsEachTermInside ground.old.sizes each.now }
     ensures stated { OnOk result (ground.new ≡ stated_in ground.old (said_of_each ground.old (of_term each.now))) }
@@ -149,7 +149,7 @@ pub fn add_each_term(alloc: Global, ground: &mut Ground, each: &EachTerm) -> Res
     Ok(())
 }
 
-// States it of each two terms of which the first is given.
+// Adds a statement of each two terms of which `z` is the first.
 fn add_pairs_of(
     alloc: Global,
     ground: &mut Ground,
@@ -167,7 +167,7 @@ fn add_pairs_of(
     Ok(())
 }
 
-/// States it of each two terms.
+/// Adds a statement of each two terms to ground clauses.
 pub fn add_each_pair(alloc: Global, ground: &mut Ground, each: &EachPair) -> Result<(), AllocError>
     requires { IsEachPairInside ground.old.sizes each.now }
     ensures stated { OnOk result (ground.new ≡ stated_in ground.old (said_of_pairs ground.old (of_pair each.now))) }

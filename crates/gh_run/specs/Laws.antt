@@ -15,7 +15,7 @@ pub record ReportsRefute : Type 0 where
   pub by_fault : (P : Program) (b : Begin) (n steps : ℕ) (s : State) → IsReport P b n (Faulted steps s) → IsGood P → ⊥
   pub by_end : (P : Program) (b : Begin) (n steps : ℕ) (s : State) → IsReport P b n (Ended steps s false) → IsGood P → ⊥
 
--- there is one report
+-- on a run of at most n steps there is at most one report
 abbrev pub ReportsAreOne : Type 0
 ReportsAreOne = (P : Program) (b : Begin) (n : ℕ) (r t : Report) → IsTyped P → IsReport P b n r → IsReport P b n t → r ≡ t
 

@@ -14,7 +14,7 @@ pub record IsFirstLine (text l rest : List ℕ) : Type 0 where
   pub whole : text ≡ line l ++ rest
   pub one : IsOneLine l
 
--- that line, and what is left after it; none where there is no line feed
+-- the first line, and what is left after it; none where there is no line feed
 abbrev pub IsLineTaken : List ℕ → List ℕ → Option (Bor (List ℕ)) → Type 0
 IsLineTaken text left o = MatchOption o (HasNoEnd text) (λ l. IsFirstLine text l.now left)
 

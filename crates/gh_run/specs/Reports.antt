@@ -40,7 +40,8 @@ pub record ComesTo (P : Program) (c : Config) (n : ℕ) (ds : List Config) (step
 abbrev pub IsStopped : Config → ℕ → List Config → Type 0
 IsStopped c n ds = (length ds ≡ n) × (SomeReturns c ds → ⊥)
 
--- the last heap is the cells outside the footprint of what the procedure needs, as they were, and a heap that meets what it gives
+-- the last heap is the cells outside the footprint of what the procedure needs, as they were, and a heap that meets
+-- what the procedure gives
 pub record IsMet (p : Procedure) (c d : Config) : Type 0 where
   pub part : Heap
   pub frame : Heap

@@ -1,4 +1,5 @@
--- Runs under the rule of choice: a new cell stands at the least free place and contains 0, and a callee's results and locals begin with 0.
+-- Runs under the rule of choice: a new cell stands at the least free place and contains 0, and a callee's results and
+-- locals begin with 0.
 use Rattle.std.specs.Prelude.{◌≡◌, ◌≢◌, ◌⊎◌, ℕ, suc, ◌<◌, ◌≤◌, List, [], ◌∷◌, length, None}
 use Rattle.std.specs.FinMap.{get}
 use Rattle.gh_ast.specs.Plain.{Program}

@@ -51,7 +51,7 @@ pub record IsFaultyLine (P : Program) (text : List ℕ) (n : ℕ) : Type 0 where
   pub before : (k : ℕ) → 1 ≤ k → k < n → AreAsSaid P text k
   pub here : AreAsSaid P text n → ⊥
 
--- an error other than out of memory has that number
+-- an error other than out of memory has the number of the first line that isn't as said
 abbrev pub IsStateError : Program → List ℕ → StateError → Type 0
 IsStateError P text (Line n) = IsFaultyLine P text n
 IsStateError P text OutOfMemory = Unit {0}

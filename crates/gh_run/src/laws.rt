@@ -7,7 +7,7 @@ pub fn reports_refute()
     ensures { ReportsRefute }
 {}
 
-/// There is one report.
+/// On a run of at most n steps there is at most one report.
 pub fn reports_are_one()
     ensures { ReportsAreOne }
 {}

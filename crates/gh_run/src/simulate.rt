@@ -27,7 +27,7 @@ pub enum Report {
     /// A place that isn't allocated would be read, written or freed.
     Faulted { steps: u32, state: State },
     /// The run has ended. `met` tells whether the heap is what lay outside the footprint of what the
-    /// procedure needs, as it was, and a part that meets what it gives.
+    /// procedure needs, as it was, and a part that meets what the procedure gives.
     Ended { steps: u32, state: State, met: bool },
     /// As many steps were made as were asked for.
     Stopped { steps: u32, state: State },

@@ -12,7 +12,7 @@ abbrev pub search_of : Inside → SearchState
 search_of s =
     record { sizes = s.trail.sizes; clauses = s.clauses.items; trail = s.trail.steps; starts = s.starts.items }
 
--- the search is whole, all levels have room, each place has a mark, and each clause its row
+-- the search is whole, all levels have room, each place has a stamp, and each clause its row
 abbrev pub HoldsSearch : Inside → Type 0
 HoldsSearch s =
     IsWhole (search_of s) s.counts.items s.looked s.head s.occurrences s.hints.items

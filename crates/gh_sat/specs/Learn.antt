@@ -10,8 +10,8 @@ use Rattle.gh_sat.specs.declared.trail.Step.{Step}
 use Rattle.gh_sat.specs.declared.marks.Marks.{Marks}
 use Rattle.gh_sat.specs.Trail.{SearchState, cut, Stands, IsFalseIn, IsReason, IsUnitIn}
 
--- The least set of places that has those of the clause's literals and, where it has a place from this one on, the
--- places of the other literals of that step's reason.
+-- The least set of places on the trail that has those of the conflict's literals and, where it has a place not before
+-- `from`, the places of the other literals of the reason of the step at that place.
 pub data Reached (clauses : List (List Lit)) (trail : List Step) (conflict : List Lit) (from : ℕ) : ℕ → Type 0 where
   by_conflict : (j : ℕ) (x : Step) → slice_get trail j ≡ Some x → Contains conflict (opposite x.lit)
       → Reached clauses trail conflict from j
@@ -28,12 +28,13 @@ pub record IsPoint (s : SearchState) (conflict : List Lit) (place : ℕ) : Type 
   pub alone : (j : ℕ) (x : Step) → Reached s.clauses s.trail conflict (suc place) j → slice_get s.trail j ≡ Some x
       → x.level ≡ length s.starts → j ≤ place → j ≡ place
 
--- the one that is met first
+-- the unique implication point that is met first
 pub record IsFirstPoint (s : SearchState) (conflict : List Lit) (place : ℕ) : Type 0 where
   pub is : IsPoint s conflict place
   pub first : (q : ℕ) → place < q → IsPoint s conflict q → ⊥
 
--- the clause has the opposites of what is reached without a step past the point, up to it
+-- the clause has just the opposites of the literals at the point and before it that are reached by the reasons of the
+-- steps after it
 pub record IsClauseOf (s : SearchState) (conflict : List Lit) (place : ℕ) (clause : List Lit) : Type 0 where
   pub only : All (λ l. (j : ℕ) × (x : Step) × (j ≤ place) × (slice_get s.trail j ≡ Some x) × (x.lit ≡ opposite l)
       × Reached s.clauses s.trail conflict (suc place) j) clause
@@ -110,7 +111,7 @@ marks_of m = record {
 abbrev pub IsMarked : Marking → ℕ → Type 0
 IsMarked m j = slice_get m.stamps j ≡ Some m.round
 
--- the place of the literal's atom has it
+-- the place of the literal's atom has the mark of this round
 abbrev pub HasMark : List Step → Marking → Lit → Type 0
 HasMark trail m l = (j : ℕ) × (x : Step) × (slice_get trail j ≡ Some x) × (x.lit.atom ≡ l.atom) × IsMarked m j
 
@@ -121,10 +122,11 @@ IsMarkedOrFalse trail m l = HasMark trail m l ⊎ Stands trail m.end (opposite l
 abbrev pub AllMarked : List Step → Marking → List Lit → Type 0
 AllMarked trail m clause = All (λ l. HasMark trail m l) clause
 
+-- 1 where the stamp is that of the round, else 0
 abbrev pub one_if : ℕ → ℕ → ℕ
 one_if stamp round = cond (nat_eq stamp round) 1 0
 
--- how many places have a mark
+-- how many places have the mark of the round
 abbrev pub marked : ℕ → List ℕ → ℕ
 marked round [] = 0
 marked round (s ∷ ss) = one_if s round + marked round ss
@@ -133,7 +135,7 @@ marked round (s ∷ ss) = one_if s round + marked round ss
 abbrev pub marked_before : Marking → ℕ → ℕ
 marked_before m place = marked m.round (drop m.start (take place m.stamps))
 
--- no mark is of a later round
+-- no stamp is of a later round
 abbrev pub IsBounded : Marking → Type 0
 IsBounded m = All (λ s. s ≤ m.round) m.stamps
 

@@ -26,7 +26,7 @@ StepsLeadFurther = (trail : List Step) (x : Step) (more : List Step) → IsFurth
 abbrev pub IsCutLevel : SearchState → ℕ → ℕ → Type 0
 IsCutLevel s level to = (level ≤ to) × (to < length s.starts)
 
--- after such a cut the learnt unit is assigned there first, by the learnt clause
+-- after such a cut the learnt unit is assigned first, at the level of the cut and by the learnt clause
 abbrev pub UnitsAreAssigned : Type 0
 UnitsAreAssigned =
     (s : SearchState) (k : ℕ) (clause : List Lit) (level : ℕ) (unit : Lit) (to : ℕ) (new : List Step) → IsSound s
@@ -35,7 +35,7 @@ UnitsAreAssigned =
     → (more : List Step) × (new ≡ (cut s to).trail
     ++ (record { lit = unit; level = to; reason = Some (length s.clauses) }) ∷ [] ++ more)
 
--- and then leads further than what was before the cut
+-- after such a cut and the propagation, the measure is greater than before the cut
 abbrev pub JumpsLeadFurther : Type 0
 JumpsLeadFurther =
     (s : SearchState) (k : ℕ) (clause : List Lit) (level : ℕ) (unit : Lit) (to : ℕ) (new : List Step) → IsSound s
@@ -59,11 +59,13 @@ left sizes trail = power (suc (count_of sizes)) (suc (count_of sizes)) - weight 
 abbrev pub LeavesLess : SearchState → SearchState → Type 0
 LeavesLess old new = left new.sizes new.trail < left old.sizes old.trail
 
+-- literals that are added leave less
 abbrev pub StepsLeaveLess : Type 0
 StepsLeaveLess =
     (sizes : Sizes) (trail : List Step) (x : Step) (more : List Step) → length (trail ++ x ∷ more) ≤ count_of sizes
     → left sizes (trail ++ x ∷ more) < left sizes trail
 
+-- after such a cut and the propagation, less is left than before the cut
 abbrev pub JumpsLeaveLess : Type 0
 JumpsLeaveLess =
     (s : SearchState) (k : ℕ) (clause : List Lit) (level : ℕ) (unit : Lit) (to : ℕ) (new : List Step) → IsSound s

@@ -22,7 +22,7 @@ IsStatus trail clause False = IsFalseIn trail clause
 IsStatus trail clause (IsOne unit) = IsUnitIn trail clause unit
 IsStatus trail clause (Open hint) = IsBad trail clause → ⊥
 
--- two literals of the clause that aren't false by what is known, with their numbers
+-- the hint has the numbers of two literals of the clause that aren't false by the steps that are known
 pub record IsPair (s : Sizes) (known : List Step) (clause : List Lit) (hint : Hint) : Type 0 where
   pub one : Lit
   pub other : Lit
@@ -38,7 +38,7 @@ pub record IsPair (s : Sizes) (known : List Step) (clause : List Lit) (hint : Hi
 abbrev pub IsGuarded : Sizes → List Step → List Step → List Lit → Hint → Type 0
 IsGuarded s trail known clause hint = ((l : Lit) × Contains clause l × IsTrueIn trail l) ⊎ IsPair s known clause hint
 
--- it stays so, by the step at `head` too, where that step makes the literal `gone` false
+-- a guarded clause stays guarded by the step at `head` too, where that step makes the literal `gone` false
 abbrev pub StaysGuarded : Line → Hint → Numbered → Type 0
 StaysGuarded t hint gone =
     (head : ℕ) (x : Step) (clause : List Lit) → AreInRange t.sizes clause → slice_get t.steps head ≡ Some x
@@ -56,7 +56,7 @@ IsMoved s trail clause old status = ⊤
 abbrev pub IsAssigned : List Step → List Lit → Type 0
 IsAssigned trail clause = All (λ l. IsFree trail l.atom → ⊥) clause
 
--- each atom of each clause has one
+-- each atom of each clause has a truth
 abbrev pub AreAssigned : SearchState → Type 0
 AreAssigned s = All (IsAssigned s.trail) s.clauses
 
@@ -108,7 +108,7 @@ abbrev pub PutsUnit : List (List Lit) → ℕ → List Step → List Step → �
 PutsUnit clauses level old new k = (c : List Lit) (u : Lit) → slice_get clauses k ≡ Some c → IsUnitIn old c u
     → new ≡ old ++ (record { lit = u; level = level; reason = Some k }) ∷ []
 
--- .. the last clause
+-- the same of the last clause
 abbrev pub PutsLast : List (List Lit) → ℕ → List Step → List Step → Type 0
 PutsLast clauses level old new =
     (before : List (List Lit)) (c : List Lit) (u : Lit) → clauses ≡ before ++ c ∷ [] → IsUnitIn old c u

@@ -10,7 +10,7 @@ use Rattle.gh_sat.specs.Trail.{SearchState, IsFalseIn}
 use Rattle.gh_sat.specs.Status.{Grows}
 use Rattle.gh_sat.specs.Learn.{add_clause}
 
--- the opposite of each literal stands asserted
+-- the opposite of each literal of the clause stands asserted
 abbrev pub IsRefutedBy : List Lit → List Lit → Type 0
 IsRefutedBy asserted clause = All (λ l. Contains asserted (opposite l)) clause
 
@@ -18,7 +18,7 @@ IsRefutedBy asserted clause = All (λ l. Contains asserted (opposite l)) clause
 abbrev pub IsRefuted : (List Lit → Type 0) → List Lit → List Lit → Type 0
 IsRefuted valid asserted clause = valid clause × IsRefutedBy asserted clause
 
--- none is
+-- no clause of the theory is refuted
 abbrev pub HasNoRefuted : (List Lit → Type 0) → List Lit → Type 0
 HasNoRefuted valid asserted = (c : List Lit) → valid c → IsRefutedBy asserted c → ⊥
 
@@ -37,7 +37,7 @@ IsTold asserted trail = (n : ℕ) × (n ≤ length trail) × (asserted ≡ lits_
 abbrev pub HasNoConflict : (List Lit → Type 0) → List Step → Type 0
 HasNoConflict valid trail = (c : List Lit) → valid c → IsFalseIn trail c → ⊥
 
--- nor was one when a level was opened
+-- no clause of the theory was false when a level was opened
 abbrev pub WereConsistent : (List Lit → Type 0) → List Step → List ℕ → Type 0
 WereConsistent valid trail starts =
     (level start : ℕ) → slice_get starts level ≡ Some start → HasNoConflict valid (take start trail)

@@ -9,7 +9,7 @@ use Rattle.gh_base.specs.Atoms.{opposite, IsInRange, AreInRange, number_of, btwn
 use Rattle.gh_base.specs.Assignments.{Partial, value_of}
 use Rattle.gh_sat.specs.declared.trail.Step.{Step}
 
--- what callers see of a `Trail`
+-- what callers see of a `Trail`: its sizes and its steps
 pub record Line : Type 0 where
   pub sizes : Sizes
   pub steps : List Step
@@ -82,6 +82,7 @@ pub record IsReason (clauses : List (List Lit)) (trail : List Step) (i : ℕ) (l
 abbrev pub IsLevelStart : List ℕ → ℕ → ℕ → Type 0
 IsLevelStart starts level i = (below : ℕ) × (level ≡ suc below) × (slice_get starts below ≡ Some i)
 
+-- the literal at place i opens its level, or follows by the clause that is its reason
 abbrev pub IsCaused : List (List Lit) → List Step → List ℕ → ℕ → Lit → ℕ → Option ℕ → Type 0
 IsCaused clauses trail starts i lit level None = IsLevelStart starts level i
 IsCaused clauses trail starts i lit level (Some k) = IsReason clauses trail i lit k
@@ -103,6 +104,7 @@ pub record IsSound (s : SearchState) : Type 0 where
   pub starts : (level start : ℕ) → slice_get s.starts level ≡ Some start
       → (level ≤ start) × (x : Step) × (slice_get s.trail start ≡ Some x) × (x.level ≡ suc level)
 
+-- how many entries have no truth
 abbrev pub unassigned : List (Option Bool) → ℕ
 unassigned [] = 0
 unassigned (None ∷ vs) = suc (unassigned vs)
@@ -159,12 +161,13 @@ pub record IsAssignmentOf (p : Partial) (t : Line) : Type 0 where
 abbrev pub search_over : Sizes → List (List Lit) → SearchState
 search_over s clauses = record { sizes = s; clauses = clauses; trail = []; starts = [] }
 
--- the place at which the levels above this one begin
+-- the place at which the levels above this one begin, or n where there is none
 abbrev pub end_of : List ℕ → ℕ → ℕ → ℕ
 end_of [] level n = n
 end_of (s ∷ ss) zero n = s
 end_of (s ∷ ss) (suc level) n = end_of ss level n
 
+-- the search after the levels above this one were taken off its trail
 abbrev pub cut : SearchState → ℕ → SearchState
 cut s level = record s { trail = take (end_of s.starts level (length s.trail)) s.trail; starts = take level s.starts }
 

@@ -75,5 +75,6 @@ abbrev pub WasOpen : List Step → List ℕ → List Lit → Type 0
 WasOpen trail starts clause =
     (level start : ℕ) → slice_get starts level ≡ Some start → IsFalseIn (take start trail) clause → ⊥
 
+-- no clause was false when a level was opened
 abbrev pub WereOpen : SearchState → Type 0
 WereOpen s = (k : ℕ) (c : List Lit) → slice_get s.clauses k ≡ Some c → WasOpen s.trail s.starts c

@@ -1,6 +1,6 @@
 //! Which atoms stood in conflicts of late. The search decides those first, the ones that stood in more and later
-//! conflicts before the others. No clause speaks of it, and no invariant is kept: with any scores a search gives the
-//! same answers, in other times.
+//! conflicts before the others. No contract speaks of scores, and no invariant of them is kept: with any scores what is
+//! proved of a search holds, and its course alone changes.
 
 ghost use Rattle.std.specs.Prelude.{◌≡◌, ◌<◌, ◌≤◌, ◌+◌, IfOk, IfSome};
 

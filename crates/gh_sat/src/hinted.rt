@@ -1,4 +1,4 @@
-//! Places in the order of decisions at which a free atom of a clause may stand: hints, which no clause of a search
+//! Places in the order of decisions at which a free atom of a clause may stand: hints, which no contract of a search
 //! speaks of.
 
 ghost use Rattle.std.specs.Prelude.{◌≡◌, IfOk, IfSome, IfNone};
@@ -36,7 +36,8 @@ fn clear_bit(words: &mut [u64], place: usize) -> bool
     true
 }
 
-/// A bit for each place, for each word of these one that it has some, and for each word of those one that it has some.
+/// A bit for each place, a bit for each word of `places` that tells whether it has any, and a bit for each word of
+/// `words` that tells whether that has any.
 #[derive(Drop)]
 pub(crate) struct Hinted {
     places: Vec<u64>,

@@ -351,7 +351,7 @@ impl Learner {
         self.clauses.get(k as usize)
     }
 
-    /// Adds what follows by units to the trail, up to a clause that is false.
+    /// Adds what follows by units to the trail, up to a clause that is false. Answers the number of that clause.
     pub fn propagate(&mut self) -> Option<u32>
         ensures moves { PropagatesTo self.old self.new }
         ensures last { GivesLast self.old self.new.trail }
@@ -492,7 +492,7 @@ impl Learner {
     }
 
     /// Where a clause is false at level 0, numbers of clauses that, taken as hints in this order, show the empty
-    /// clause: the reasons of all that it is reached from, and itself.
+    /// clause: the reasons of all that is reached from the false clause, and its own.
     pub fn refutation(&mut self, alloc: Global, conflict: u32) -> Result<Vec<u32>, AllocError>
         requires conflict { IsConflict self.old conflict }
         requires level { self.old.starts ≡ [] }

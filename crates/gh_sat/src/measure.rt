@@ -14,7 +14,7 @@ pub fn units_are_assigned()
     ensures { UnitsAreAssigned }
 {}
 
-/// The measure is then greater than it was before the cut.
+/// With the learnt unit assigned, the measure is greater than it was before the cut.
 pub fn jumps_lead_further()
     ensures { JumpsLeadFurther }
 {}
@@ -24,7 +24,7 @@ pub fn steps_leave_less()
     ensures { StepsLeaveLess }
 {}
 
-/// It falls with a learnt unit too.
+/// With the learnt unit assigned, the same number is less than it was before the cut.
 pub fn jumps_leave_less()
     ensures { JumpsLeaveLess }
 {}

@@ -73,7 +73,7 @@ fn occurs_among(clauses: &[Clause], numbers: &[u32], atom: Atom) -> bool
         .any(|number| has_atom_at(clauses, *number, atom))
 }
 
-/// Whether an atom occurs in a clause, by the lists of its literals.
+/// Whether an atom occurs in some clause, by the lists of its literals.
 pub(crate) fn occurs(
     occurrences: &Occurrences,
     sizes: Sizes,

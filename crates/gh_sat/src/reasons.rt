@@ -1,4 +1,5 @@
-//! Which clauses show what a false clause leads to: those that are reached from it, in the order of the trail.
+//! Clauses that, as hints, show what is learnt from a false clause: the reasons of the marked steps, in the order of
+//! the trail, and the false clause last.
 
 ghost use Rattle.std.specs.Prelude.{◌≡◌, ◌<◌, ◌≤◌, ◌∷◌, ◌++◌, [], length, All, OnOk, IfOk};
 ghost use Rattle.gh_base.specs.Atoms.{AreInRange};
@@ -12,7 +13,7 @@ use gh_base::atom::Lit;
 use gh_base::clause::Clause;
 use std::alloc::{AllocError, Global};
 
-/// Marks the places of all that a false clause is reached from, where each step has a reason.
+/// Marks the places of all that is reached from a false clause, where each step has a reason.
 pub fn mark_reached(
     marks: &mut Marks,
     trail: &Trail,

@@ -135,7 +135,8 @@ impl<T: Theory> Search<T> {
     }
 
     /// Adds what follows by units to the trail, up to a clause that is false; where there is none, asks the theory,
-    /// whose conflict is added as [`Search::add`] does. An error leaves the search as it was.
+    /// whose conflict is added as [`Search::add`] does. Answers the number of the false clause. An error leaves the
+    /// search as it was.
     pub fn propagate(&mut self, alloc: Global) -> Result<Option<u32>, AllocError>
         ensures moves { IfOk result (λ o. PropagatesBeside (T.valid self.old.sizes) self.old self.new o) }
         ensures last { OnOk result (GivesLast self.old self.new.trail) }

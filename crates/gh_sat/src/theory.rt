@@ -21,7 +21,7 @@ pub trait Theory: Drop {
     /// The clauses that the theory makes true.
     ghost valid: { Sizes → List Lit → Type 0 };
 
-    /// What is known of asserted literals that refute none of these clauses.
+    /// What is known of asserted literals that refute no clause of the theory.
     ghost known: { Sizes → List Lit → Type 0 };
 
     /// Asserts a literal. Takes no memory.
@@ -35,14 +35,14 @@ pub trait Theory: Drop {
     fn mark(&self) -> u32
         ensures { result ≡ length (asserted self.now) };
 
-    /// Leaves the first ones.
+    /// Leaves the first `mark` asserted literals.
     fn undo_to(&mut self, mark: u32)
         requires { mark ≤ length (asserted self.old) }
         ensures asserted { asserted self.new ≡ take mark (asserted self.old) }
         ensures sizes { sizes self.new ≡ sizes self.old };
 
-    /// The truth that is tried first for an atom that has none: false, where a theory knows no better. No clause rests
-    /// on it.
+    /// The truth that is tried first for an atom that has none: false, where a theory knows no better. No contract
+    /// rests on it.
     fn prefers(&self, atom: Atom) -> bool
         requires in_range { IsInRange (sizes self.now) atom }
     {

@@ -199,7 +199,7 @@ impl Trail {
         }
     }
 
-    /// The place at which an atom stands, if it does.
+    /// The place at which an atom stands. Where the atom has no truth, nothing is said of the answer.
     pub fn place(&self, atom: Atom) -> u32
         requires { IsInRange self.now.sizes atom }
         ensures { StandsOnlyAt self.now.steps atom result }

@@ -10,7 +10,7 @@ use Rattle.gh_picture.specs.declared.scene.Change.TheVariants as change
 use Rattle.gh_picture.specs.declared.scene.Role.{Role}
 use Rattle.gh_picture.specs.declared.scene.Role.TheVariants.{Owned, Framed, Changed, Leaked}
 
--- whether the cell is left over, whether it was set aside, whether it was there before with the same content
+-- a role: whether the cell is left over, whether it was set aside, whether it was there before with the same content
 abbrev pub role_by : Bool → Bool → Bool → Role
 role_by true aside same = Leaked
 role_by false true same = Framed
@@ -21,13 +21,13 @@ role_by false false false = Changed
 abbrev pub role_of : Heap → Heap → Heap → ℕ × ℕ → Role
 role_of old aside spare c = role_by (is_some (get spare c.0)) (is_some (get aside c.0)) (is_content (get old c.0) c.1)
 
--- one for each cell, the places ascending
+-- a role for each cell of the new heap, the places ascending
 abbrev pub roles_of : Heap → Heap → Heap → Heap → List Role
 roles_of old aside spare new = map (role_of old aside spare) (entries new)
 
 abbrev pub change_between : ℕ → ℕ → Change
 change_between old new = if old == new then change.Same else change.Changed
 
--- one for each variable, in their order
+-- a change for each variable of the new store, in their order
 abbrev pub changes_of : Store → List Entry → List Change
 changes_of old new = map (λ e. change_between (old e.name) e.value) new

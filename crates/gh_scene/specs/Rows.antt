@@ -29,7 +29,7 @@ abbrev pub note_text : Option Exchange → List ℕ
 note_text None = []
 note_text (Some e) = exchange_note e
 
--- what is left aside
+-- the cells that an exchange leaves aside; none where nothing is exchanged
 abbrev pub aside : Option Exchange → Heap
 aside None = finite.empty
 aside (Some e) = e.frame
@@ -65,7 +65,7 @@ AreRows P p (s ∷ ss) (x ∷ []) spare rows = rows ≡ []
 AreRows P p (s ∷ ss) (x ∷ y ∷ ys) spare rows =
     (r : Row) × (rs : List Row) × (rows ≡ r ∷ rs) × IsRowOf P p s x y (left_at_end ys spare) r × AreRows P p ss (y ∷ ys) spare rs
 
--- such rows are added
+-- a row for each state after the first is added
 pub record AddsRows (P : Program) (p : Procedure) (ss : List PathStep) (xs : List State) (spare : Heap) (old new : List Row) : Type 0 where
   pub rest : List Row
   pub whole : new ≡ old ++ rest

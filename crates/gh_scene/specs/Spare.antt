@@ -20,8 +20,8 @@ abbrev pub asked_round : Option Loop → List Formula
 asked_round (Some l) = l.invariant ∷ []
 asked_round None = []
 
--- the alternatives that a check of the procedure p asks a whole heap to meet; where it asks for a part alone, nothing is
--- left over
+-- the alternatives that a check of the procedure p asks a whole heap to meet; where it asks for a part alone, nothing
+-- is left over
 abbrev pub asked_whole : Procedure → Check → List Formula
 asked_whole p (access o) = []
 asked_whole p (entry at n es) = []

@@ -89,7 +89,7 @@ pub fn note(alloc: Global, exchange: &Option<Exchange>) -> Result<Text, AllocErr
     }
 }
 
-/// The cells that are left aside.
+/// The cells that are left aside; none where nothing is handed over.
 pub fn aside(alloc: Global, exchange: &Option<Exchange>) -> Result<Heap, AllocError>
     ensures { IfOk result (λ h. h ≡ told.aside exchange.now) }
 {

@@ -71,7 +71,8 @@ fn change_between(old: u32, new: u32) -> Change
     }
 }
 
-/// Which variables of a store have another value than in the store before, in their order.
+/// For each variable of a store, in their order, whether it has another value than in the store
+/// before.
 pub fn changes_of(alloc: Global, old: &Store, new: &Store) -> Result<Vec<Change>, AllocError>
     ensures { IfOk result (λ v. v.items ≡ told.changes_of (store_of old.now) new.now) }
 {

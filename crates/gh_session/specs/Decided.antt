@@ -28,7 +28,7 @@ abbrev pub asked : Program → Option Refutation → List Condition
 asked P None = conditions P
 asked P (Some r) = take r.number (conditions P)
 
--- they are the essences of some conditions of P, one by one
+-- the essences are those of the conditions of P, one by one
 abbrev pub AreEssences : Program → List Condition → List Essence → Type 0
 AreEssences P [] [] = Unit {0}
 AreEssences P [] (E ∷ Es) = ⊥

@@ -1,5 +1,5 @@
--- The essence of a condition: all that its counterexamples depend on, with its procedures and loops numbered as they appear and each
--- place forgotten.
+-- The essence of a condition: all that its counterexamples depend on, with its procedures and loops numbered as they
+-- appear and each place forgotten.
 use Rattle.std.specs.Prelude.{ℕ, List, [], ◌∷◌, ◌++◌, map, filter, flat_map, get_or, Bool}
 use Rattle.gh_ast.specs.declared.Expr.{Expr}
 use Rattle.gh_ast.specs.Plain.{Formula, empty, Procedure, Program}
@@ -26,6 +26,7 @@ pub record Round : Type 0 where
 -- a procedure is a place in the list of contracts, a loop one in the list of loops
 pub data Step : Type 0 where
   accessed : Name → Step
+  -- `assumed l e r`: l and r are equal where e is true, and differ where it is false
   assumed : Expr → Bool → Expr → Step
   assigned : Name → Expr → Step
   made : Name → Step
@@ -98,7 +99,7 @@ loops_at (path.loop_entry at n) = n ∷ []
 loops_at (path.loop_end at n) = n ∷ []
 loops_at _ = []
 
--- each once: its own procedure first, and the loop that it starts at first
+-- each of these numbers once: the condition's own procedure first, and the loop at which it starts first
 abbrev pub procedures_of : Condition → List ℕ
 procedures_of c = listed (c.procedure ∷ []) (flat_map callees_in c.way.steps ++ callees_at c.way.check)
 
@@ -128,7 +129,7 @@ check_in ps ls (path.loop_entry at n) = loop_entry (place n ls)
 check_in ps ls (path.returned at) = returned
 check_in ps ls (path.loop_end at n) = loop_end (place n ls)
 
--- of the condition c of the procedure p of the program P
+-- the essence of the condition c of the procedure p of the program P
 abbrev pub essence : Program → Procedure → Condition → Essence
 essence P p c =
     record {

@@ -1,4 +1,4 @@
--- A number of an essence's content: essences of two numbers are two.
+-- A number that is computed from an essence: essences with different numbers are different.
 use Rattle.std.specs.Prelude.{ℕ, ◌+◌, ◌*◌, ◌%◌, ◌^◌, List, [], ◌∷◌, length, cond}
 use Rattle.gh_ast.specs.declared.Operand.{Operand}
 use Rattle.gh_ast.specs.declared.Operand.TheVariants.{Null, Var}

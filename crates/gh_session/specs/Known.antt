@@ -22,6 +22,7 @@ known E answer = record { essence = E; answer = option_map drawn_of answer }
 abbrev pub essences : List Known → List Essence
 essences = map (λ k. k.essence)
 
+-- what is known is right: without an answer the essence is valid, and an answer refutes it
 abbrev pub IsRight : Known → Type 0
 IsRight k = MatchOption k.answer (IsValid k.essence) (RefutesEssence k.essence)
 
@@ -33,7 +34,7 @@ abbrev pub Adds : List Known → Essence → Option Trace → Bool → List Know
 Adds old E answer false new = Contains (essences old) E × (new ≡ old)
 Adds old E answer true new = (Contains (essences old) E → ⊥) × (new ≡ old ++ known E answer ∷ [])
 
--- for the condition r of P
+-- the same for the essence of the condition r of P
 pub record Learns (P : Program) (r : kept.Condition) (old : List Known) (answer : Option Trace) (added : Bool) (new : List Known) : Type 0 where
   pub essence : Essence
   pub has : HasEssence P (condition_of r) essence

@@ -1,4 +1,4 @@
--- The laws.
+-- The laws of essences.
 use Rattle.std.specs.Prelude.{◌≡◌, ◌↔◌, ◌∷◌, List, Contains}
 use Rattle.gh_ast.specs.Plain.{Procedure, Program}
 use Rattle.gh_ast.specs.Rules.{IsTyped}

@@ -9,7 +9,7 @@ use Rattle.gh_session.specs.declared.edits.Edits.{Edits}
 use Rattle.gh_session.specs.declared.error.SessionError.{SessionError}
 use Rattle.gh_session.specs.declared.error.SessionError.TheVariants.{Line, TooMany, OutOfMemory}
 
--- a text with one byte more before its first line
+-- the lines of a text with one byte more before its first line
 abbrev pub begun : ℕ → List (List ℕ) → List (List ℕ)
 begun c [] = (c ∷ []) ∷ []
 begun c (l ∷ ls) = (c ∷ l) ∷ ls
@@ -31,6 +31,7 @@ pub record IsSeparator (line : List ℕ) (asks : Bool) (n : Name) : Type 0 where
 abbrev pub IsMarked : List ℕ → Type 0
 IsMarked line = (rest : List ℕ) × (line ≡ 37 ∷ rest)
 
+-- the line begins with `%`, but is no separator
 abbrev pub IsBad : List ℕ → Type 0
 IsBad line = IsMarked line × ((asks : Bool) (n : Name) → IsSeparator line asks n → ⊥)
 
@@ -61,10 +62,11 @@ pub record AreSessionLines (head : List ℕ) (es : List Edit) (ls : List (List �
   pub pieces : ArePieces es more
   pub few : length es ≤ 256
 
+-- the text is a session file with this head and these pieces
 abbrev pub IsSession : List ℕ → Edits → Type 0
 IsSession text s = AreSessionLines s.head s.edits.items (lines text)
 
--- before line n stand a head and pieces
+-- `here` is line n of the text, and before it stand a head and the pieces es
 pub record Stops (text : List ℕ) (n : ℕ) (here : List ℕ) (es : List Edit) : Type 0 where
   pub before : List (List ℕ)
   pub after : List (List ℕ)

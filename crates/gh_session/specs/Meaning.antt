@@ -25,12 +25,14 @@ abbrev pub StartsIn : Essence → Start → State → Type 0
 StartsIn E from_entry x = Meaning (own E).needs x.store x.heap
 StartsIn E (from_loop n) x = Meaning (round_at E n).invariant x.store x.heap
 
+-- a call by the contract k leads from x to y, with the argument values vs and the targets xs
 pub record Called (k : Contract) (vs : List ℕ) (xs : List Name) (x y : State) : Type 0 where
   pub inside : Store
   pub arguments : map inside k.parameters ≡ vs
   pub targets : Gets x.store xs (map inside k.results) y.store
   pub replaced : Replaced k.needs inside x.heap (MeetsOneOf k.gives inside) y.heap
 
+-- the step leads from the state x to the state y
 abbrev pub Takes : Essence → Step → State → State → Type 0
 Takes E (accessed a) x y = Allocated x.heap (x.store a) × (y ≡ x)
 Takes E (assumed l e r) x y = (compared e (result x.store x.heap l) (result x.store x.heap r) ≡ Some true) × (y ≡ x)
@@ -44,6 +46,7 @@ Takes E (looped n) x y =
     Replaced (round_at E n).invariant x.store x.heap (Meaning (round_at E n).invariant y.store) y.heap × ((a : Name) → (Contains (round_at E n).assigned a → ⊥) → y.store a ≡ x.store a)
 Takes E (answered es) x y = (vs : List ℕ) × Give x.store x.heap es vs × Gets x.store (own E).results vs y.store × (y.heap ≡ x.heap)
 
+-- the state passes the check
 abbrev pub Passes : Essence → Check → State → Type 0
 Passes E (access a) x = Allocated x.heap (x.store a)
 Passes E (entry n es) x =

@@ -13,7 +13,7 @@ abbrev pub placed : List Edit → Edit → List Edit
 placed [] p = p ∷ []
 placed (q ∷ qs) p = cond (bytes_eq q.name p.name) (p ∷ qs) (q ∷ placed qs p)
 
--- one after the other
+-- the pieces of the second list are placed one after the other
 abbrev pub all_placed : List Edit → List Edit → List Edit
 all_placed qs [] = qs
 all_placed qs (p ∷ ps) = all_placed (placed qs p) ps

@@ -20,7 +20,7 @@ knowledge = map known_of
 abbrev pub LacksAt : List Kept → Essence → ℕ → Type 0
 LacksAt kept e n = (k : Kept) → slice_get kept n ≡ Some k → essence_view k.essence ≡ e → ⊥
 
--- and so at each of some places
+-- what is kept at each of some places, if anything is, has another essence
 abbrev pub LacksAtAll : List Kept → Essence → List ℕ → Type 0
 LacksAtAll kept e ns = (n : ℕ) (k : Kept) → Contains ns n → slice_get kept n ≡ Some k → essence_view k.essence ≡ e → ⊥
 

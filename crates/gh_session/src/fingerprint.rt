@@ -1,4 +1,4 @@
-//! A number of an essence's content, by which it is found.
+//! A number that is computed from an essence, by which the essence is found.
 
 ghost use Rattle.std.specs.Prelude.{◌≡◌, map};
 ghost use Rattle.gh_ast.specs.Plain.{test_of, tests_view, comparison, formula_of, formulas_view};
@@ -253,7 +253,7 @@ fn with_check(hash: u64, check: &Check) -> u64
     }
 }
 
-/// The number of an essence's content.
+/// The number that is computed from an essence.
 pub fn fingerprint(essence: &Essence) -> u64
     ensures { result ≡ plain.fingerprint (essence_view essence.now) }
 {

@@ -3,7 +3,7 @@
 use crate::essence::Essence;
 use gh_trace::state::Trace;
 
-/// An essence with a counterexample, or with none where there is none.
+/// An essence with a counterexample, if it has one.
 #[derive(Debug, Drop)]
 pub struct Kept {
     pub essence: Essence,

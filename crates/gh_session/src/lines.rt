@@ -4,7 +4,8 @@ ghost use Rattle.std.specs.Prelude.{◌≡◌, ◌∷◌, ◌-◌, ◌<◌, ◌�
 ghost use Rattle.gh_session.specs.Lines.{lines};
 ghost use Rattle.gh_session.specs.Parts.{IsFirstPart};
 
-/// The first lines of a text, none of which begins with `%`, and what comes after them.
+/// The first lines of a text, none of which begins with `%`, what comes after them, and how many they
+/// are.
 #[derive(Clone, Copy)]
 pub struct Part<'t> {
     pub text: &'t [u8],
@@ -12,7 +13,7 @@ pub struct Part<'t> {
     pub lines: u32,
 }
 
-/// Where the first line of a text ends.
+/// Where the first line of a text ends, its line feed included.
 pub fn line_end(text: &[u8]) -> usize
     requires { 1 ≤ length text.now }
     ensures some { 1 ≤ result }

@@ -13,7 +13,7 @@ fn has(list: &[u16], number: u16) -> bool
     list.iter().any(|listed| number == *listed)
 }
 
-/// Adds a number that isn't listed yet.
+/// Adds a number, unless it is listed already.
 pub fn add(list: &mut Vec<u16>, number: u16) -> Result<(), AllocError>
     ensures { IfOk result (λ _. list.new.items ≡ numbering.added list.old.items number) }
 {

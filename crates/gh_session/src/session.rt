@@ -122,7 +122,7 @@ impl Session {
         }
     }
 
-    /// All that it knows, in the order in which it was decided.
+    /// All that the session knows, in the order in which it was decided.
     pub fn kept(&self) -> &[Kept]
         ensures same { result.now ≡ self.now }
         ensures right { AreRight (knowledge result.now) }

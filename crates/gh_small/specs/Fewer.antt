@@ -35,21 +35,23 @@ counter n d k t j = Def (d + n + t * k + j)
 abbrev pub earlier : ℕ → List Lit
 earlier t = each t (λ u. positive (Eq (term u) (term t)) ∷ [])
 
+-- t leads, isn't allocated, or equals an earlier term
 abbrev pub leader_clause : ℕ → ℕ → List Lit
 leader_clause d t = positive (leader d t) ∷ negative (is_allocated t) ∷ earlier t
 
--- a leader t makes one
+-- where t leads, more than 0 of the terms up to t are leaders
 abbrev pub begins : ℕ → ℕ → ℕ → ℕ → List Lit
 begins n d k t = positive (counter n d k t 0) ∷ negative (leader d t) ∷ []
 
--- the term after t makes one more than the terms up to t
+-- where the term after t leads, the terms up to it have one leader more than those up to t
 abbrev pub raises : ℕ → ℕ → ℕ → ℕ → ℕ → List Lit
 raises n d k t j = positive (counter n d k (suc t) (suc j)) ∷ negative (leader d (suc t)) ∷ negative (counter n d k t j) ∷ []
 
--- and never less
+-- the terms up to the one after t have no fewer leaders than those up to t
 abbrev pub keeps : ℕ → ℕ → ℕ → ℕ → ℕ → List Lit
 keeps n d k t j = positive (counter n d k (suc t) j) ∷ negative (counter n d k t j) ∷ []
 
+-- the clauses of the counter of t and j
 abbrev pub counter_clauses : ℕ → ℕ → ℕ → ℕ → ℕ → List (List Lit)
 counter_clauses n d k zero zero = begins n d k 0 ∷ []
 counter_clauses n d k zero (suc j) = []
@@ -59,13 +61,14 @@ counter_clauses n d k (suc t) (suc j) = raises n d k t j ∷ keeps n d k t (suc 
 abbrev pub all_leaders : ℕ → ℕ → List (List Lit)
 all_leaders n d = each n (λ t. leader_clause d t ∷ [])
 
--- for each number
+-- the clauses of the k counters of t
 abbrev pub counter_row : ℕ → ℕ → ℕ → ℕ → List (List Lit)
 counter_row n d k t = each k (counter_clauses n d k t)
 
 abbrev pub all_counters : ℕ → ℕ → ℕ → List (List Lit)
 all_counters n d k = each n (counter_row n d k)
 
+-- fewer than k of the n terms are leaders
 abbrev pub last_clause : ℕ → ℕ → ℕ → List Lit
 last_clause n d k = negative (counter n d k (n - 1) (k - 1)) ∷ []
 

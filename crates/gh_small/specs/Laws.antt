@@ -34,17 +34,18 @@ FewerIsPossible =
 abbrev pub FewerIsCounted : Type 0
 FewerIsCounted = (n d k : ℕ) → 1 ≤ n → 1 ≤ k → length (fewer n d k) ≡ n + (n - 1) * (2 * k) + 2
 
--- a value of a list is the class of an allocated one of the first n terms, and the other way
+-- the values are the classes of the allocated ones of the first n terms
 abbrev pub AreAllocated : Interpretation → ℕ → List ℕ → Type 0
 AreAllocated m n values = (v : ℕ) → Contains values v ↔ ((t : ℕ) × (t < n) × (m.table (is_allocated t) ≡ true) × (m.class t ≡ v))
 
--- the leaders are as many as there are allocated classes
+-- where equality is a congruence, `allocated_classes` is the number of distinct classes of allocated terms
 abbrev pub ClassesAreCounted : Type 0
 ClassesAreCounted =
     (s : Sizes) (m : Interpretation) (values : List ℕ) → 1 ≤ s.versions → IsCongruence s m → AllPairs (λ a b. a ≢ b) values → AreAllocated m s.terms values
     → allocated_classes m s.terms ≡ length values
 
--- without a congruence: terms have values, those of one value are of one class, and each allocated term has one of these values
+-- without a congruence: where terms have values, those of one value are of one class, and each allocated term has a
+-- value of the list, there are no more allocated classes than values in the list
 abbrev pub ClassesAreFew : Type 0
 ClassesAreFew =
     (m : Interpretation) (at : ℕ → ℕ) (n : ℕ) (values : List ℕ) → ((t u : ℕ) → t < n → u < n → at t ≡ at u → m.class t ≡ m.class u)
@@ -60,14 +61,14 @@ BoundedIsPossible =
     (p : Problem) (k : ℕ) (m : Interpretation) → IsProblem p → 1 ≤ k → IsModel p m → allocated_classes m p.sizes.terms < k
     → (w : Interpretation) × IsOneBefore p.sizes.defs m w × IsModel (bounded_by p k) w
 
--- a counterexample with fewer than k first cells gives a model of the bounded clauses of its condition
+-- a counterexample with fewer than k cells in its first heap gives a model of the bounded clauses of its condition
 abbrev pub SmallTracesAreModels : Type 0
 SmallTracesAreModels =
     (P : Program) (p : Procedure) (c : Condition) (x : State) (ys : List State) (k : ℕ) → IsTyped P → IsCondition P c → IsOf P c p
     → IsProblem (problem (symbolic_of P p c)) → 1 ≤ k → IsCounterexample P p c x ys → len x.heap < k
     → (m : Interpretation) × IsModel (bounded_by (problem (symbolic_of P p c)) k) m
 
--- so where a section is valid for these clauses, no counterexample has fewer than k first cells
+-- so where a section is valid for these clauses, no counterexample has fewer than k cells in its first heap
 abbrev pub SectionsShowLeast : Type 0
 SectionsShowLeast =
     (P : Program) (p : Procedure) (c : Condition) (lines : List LogLine) (k : ℕ) → IsTyped P → IsCondition P c → IsOf P c p

@@ -1,4 +1,4 @@
--- Models of ground clauses and of all axiom instances, and those with the fewest first cells.
+-- Models of ground clauses and of all axiom instances, and those with the fewest cells in the first heap.
 use Rattle.std.specs.Prelude.{◌≡◌, ◌<◌, ℕ, Option, Some, None, All}
 use Rattle.std.specs.FinMap.{len}
 use Rattle.gh_base.specs.Grounds.{Problem}
@@ -43,7 +43,7 @@ pub record IsLower (p : Problem) (cells : ℕ) (s : Section) : Type 0 where
   pub valid : IsValidSection (bounded_by p cells) s.lines
   pub writable : IsWritable s
 
--- there is a section exactly where there is a cell
+-- there is a section exactly where there is a cell, and it shows that no model has fewer
 abbrev pub IsLowest : Problem → ℕ → Option Section → Type 0
 IsLowest p cells None = cells ≡ 0
 IsLowest p cells (Some s) = (0 < cells) × IsLower p cells s

@@ -23,7 +23,8 @@ first_cells (x ∷ xs) = len x.state.heap
 abbrev pub IsLeast : Program → Condition → ℕ → Type 0
 IsLeast P c cells = (p : Procedure) → IsOf P c p → (x : State) (ys : List State) → IsCounterexample P p c x ys → cells ≤ len x.heap
 
--- the trace is a counterexample with so many first cells, and none has fewer; where there is a cell, the section shows that
+-- the trace is a counterexample with so many cells in its first heap, and none has fewer; where there is a cell, the
+-- section shows that
 pub record IsSmallest (P : Program) (r : kept.Condition) (s : Smallest) : Type 0 where
   pub counterexample : Refutes P (condition_of r) (drawn_of s.trace)
   pub count : s.cells ≡ first_cells (drawn_of s.trace)
@@ -35,6 +36,6 @@ abbrev pub IsFound : Program → kept.Condition → Option Smallest → Type 0
 IsFound P r None = HasNoCounterexample P r
 IsFound P r (Some s) = IsSmallest P r s
 
--- there is none exactly where the condition has no counterexample
+-- nothing is found exactly where the condition has no counterexample
 abbrev pub FoundIsExact : Type 0
 FoundIsExact = (P : Program) (r : kept.Condition) (found : Option Smallest) → IsFound P r found → (found ≡ None) ↔ HasNoCounterexample P r

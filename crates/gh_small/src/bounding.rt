@@ -62,7 +62,7 @@ impl Numbers {
         }
     }
 
-    // That a leader makes one.
+    // That more than 0 of the terms up to `t` are leaders, if `t` leads.
     fn begins(self, alloc: Global, t: u8) -> Clause
         requires within { t < self.terms }
         requires numbered { IsNumbered self }
@@ -75,7 +75,7 @@ impl Numbers {
         )
     }
 
-    // That the term after `t` makes one more than the terms up to `t`, if it leads.
+    // That there is one leader more up to the term after `t` than up to `t`, if that term leads.
     fn raises(self, alloc: Global, t: u8, j: u32) -> Clause
         requires within { t + 1 < self.terms }
         requires below { j + 1 < self.cells }
@@ -93,7 +93,7 @@ impl Numbers {
         )
     }
 
-    // That the terms up to the one after `t` make as many as those up to `t`.
+    // That there are no fewer leaders up to the term after `t` than up to `t`.
     fn keeps(self, alloc: Global, t: u8, j: u32) -> Clause
         requires within { t + 1 < self.terms }
         requires below { j < self.cells }
@@ -207,7 +207,7 @@ impl Numbers {
         Ok(())
     }
 
-    // The last clause: that the terms don't make as many as `cells`.
+    // The last clause: that fewer than `cells` of the terms are leaders.
     fn last(self, alloc: Global) -> Clause
         requires numbered { IsNumbered self }
         requires some { 1 ≤ self.terms }
@@ -220,7 +220,7 @@ impl Numbers {
     }
 }
 
-/// Numbers so many definitions more.
+/// Adds `more` definitions, which have the next numbers.
 pub fn define_all(ground: &mut Ground, more: u32)
     requires { ground.old.sizes.defs + more < 2 ^ 32 }
     ensures { ground.new ≡ with_defs ground.old more }

@@ -16,7 +16,7 @@ pub fn fewer_is_possible()
     ensures { FewerIsPossible }
 {}
 
-/// How many clauses there are.
+/// How many clauses say that fewer than k classes are allocated.
 pub fn fewer_is_counted()
     ensures { FewerIsCounted }
 {}
@@ -26,7 +26,7 @@ pub fn classes_are_counted()
     ensures { ClassesAreCounted }
 {}
 
-/// They are no more than values among which are the classes of all allocated terms.
+/// Where terms of one value are of one class, allocated terms have no more classes than values.
 pub fn classes_are_few()
     ensures { ClassesAreFew }
 {}
@@ -56,12 +56,12 @@ pub fn classes_are_cells()
     ensures { ClassesAreCells }
 {}
 
-/// A counterexample with fewer first cells gives a model of the bounded clauses.
+/// A counterexample with fewer than k cells in its first heap gives a model of the bounded clauses.
 pub fn small_traces_are_models()
     ensures { SmallTracesAreModels }
 {}
 
-/// Where a section is valid for the bounded clauses, no counterexample has fewer first cells.
+/// Where a section is valid for the bounded clauses, no counterexample has fewer than k cells in its first heap.
 pub fn sections_show_least()
     ensures { SectionsShowLeast }
 {}

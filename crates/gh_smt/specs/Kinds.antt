@@ -9,7 +9,7 @@ declared_text Term i = term_declared i
 declared_text Version i = version_declared i
 declared_text Definition i = definition_declared i
 
--- how what a kind declares begins
+-- how the text that declares a number of a kind begins
 abbrev pub start_text : Kind → List ℕ
 start_text Term = codes "(declare-fun t"
 start_text Version = codes "(declare-fun b"

@@ -42,7 +42,7 @@ DecidesItsConditions clauses script =
     (P : Program) (p : Procedure) (c : Condition) → IsTyped P → IsCondition P c → IsOf P c p → clauses ≡ problem (symbolic_of P p c)
     → DecidesCondition P c script
 
--- that of a condition is
+-- the script of a condition's clauses decides the condition
 abbrev pub ScriptsDecide : Type 0
 ScriptsDecide =
     (P : Program) (p : Procedure) (c : Condition) → IsTyped P → IsCondition P c → IsOf P c p → IsProblem (problem (symbolic_of P p c))

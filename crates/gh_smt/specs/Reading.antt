@@ -15,7 +15,7 @@ use Rattle.gh_smt.specs.Scripts.{HasLits, IsScript}
 use Rattle.gh_smt.specs.Texts.{atom_text, lit_text, spaced_lit, assertion_text, foot_text, script_text}
 use Rattle.gh_smt.specs.Kinds.{declared_text, start_text}
 
--- a text stands at the front, and what is left follows it
+-- the wanted text stands at the front, and what is left follows it
 abbrev pub ReadsText : List ℕ → List ℕ → Result (Unit {0}) Refusal → List ℕ → Type 0
 ReadsText wanted text answer rest = IsPartRead (SpellsText wanted text) (λ u. u) answer rest
 
@@ -42,11 +42,12 @@ FitsAtom (Hop v x y) = (v ≤ 255) × (x.0 ≤ 255) × (y.0 ≤ 255)
 FitsAtom (Alloc v x) = (v ≤ 255) × (x.0 ≤ 255)
 FitsAtom (Def number) = number ≤ 4294967295
 
--- a definition's number ends
+-- no digit follows the number of a definition
 abbrev pub EndsAtom : Atom → List ℕ → Type 0
 EndsAtom (Def number) rest = EndsNumber rest
 EndsAtom atom rest = ⊤
 
+-- an atom, in range or not, stands at the front
 pub record SpellsForm (text : List ℕ) (x : Atom) (rest : List ℕ) : Type 0 where
   pub front : text ≡ atom_text x ++ rest
   pub fits : FitsAtom x
@@ -57,6 +58,7 @@ pub record SpellsAtom (s : Sizes) (text : List ℕ) (x : Atom) (rest : List ℕ)
   pub form : SpellsForm text x rest
   pub in_range : IsInRange s x
 
+-- the same of a literal of the atom; a negative one ends with a sign
 abbrev pub EndsLit : Bool → Atom → List ℕ → Type 0
 EndsLit true x rest = EndsAtom x rest
 EndsLit false x rest = ⊤
@@ -76,7 +78,7 @@ pub record SpellsSpaced (s : Sizes) (text : List ℕ) (l : Lit) (rest : List ℕ
   pub front : text ≡ 32 ∷ middle
   pub lit : SpellsLit s middle l rest
 
--- some of one kind, and what ends them
+-- the texts of items of which W holds, one after the other, and the text `end` after them
 pub record SpellsItems {X : Type 0} (print : X → List ℕ) (W : X → Type 0) (end text : List ℕ) (xs : List X) (rest : List ℕ)
     : Type 0 where
   pub front : text ≡ flat_map print xs ++ (end ++ rest)
@@ -110,6 +112,7 @@ pub record SpellsDeclared (kind : Kind) (limit k : ℕ) (text : List ℕ) (n : �
   pub within : k + n ≤ limit
   pub ends : IsNotFront (start_text kind) rest
 
+-- a script's text stands at the front
 pub record SpellsScript (text : List ℕ) (p : Problem) (rest : List ℕ) : Type 0 where
   pub front : text ≡ script_text p ++ rest
   pub is : IsScript p

@@ -9,7 +9,7 @@ use Rattle.gh_inst.specs.Instances.{instances, clause_of}
 abbrev pub HasLits : List Lit → Type 0
 HasLits clause = 1 ≤ length clause
 
--- the numbers are those of a script
+-- the numbers of terms, versions and definitions are in the range of a script
 pub record IsSized (s : Sizes) : Type 0 where
   pub terms : s.terms ≤ 255
   pub versions : s.versions ≤ 255
@@ -21,7 +21,7 @@ pub record IsScript (p : Problem) : Type 0 where
   pub lits : All HasLits p.clauses
   pub in_range : All (AreInRange p.sizes) p.clauses
 
--- how many instances of the axioms there are
+-- how many instances of the axioms there are over n terms and so many versions
 abbrev pub instance_count : ℕ → ℕ → ℕ
 instance_count n versions = versions * (n + 5 * n ^ 2 + 5 * n ^ 3 + 4 * n ^ 4)
 

@@ -8,7 +8,7 @@ use Rattle.gh_base.specs.declared.atom.Atom.TheVariants.{Eq, Btwn, Hop, Alloc, D
 use Rattle.gh_base.specs.declared.atom.Lit.{Lit}
 use Rattle.gh_base.specs.Grounds.{Problem}
 
--- a text was added to another
+-- the text `added` was added last to the text `before`
 pub record Adds (before after added : List ℕ) : Type 0 where
   pub same : after ≡ before ++ added
 
@@ -41,7 +41,7 @@ definition_declared i = codes "(declare-fun d" ++ (decimal i ++ codes " () Bool)
 abbrev pub spaced_term : Term → List ℕ
 spaced_term t = codes " t" ++ decimal t.0
 
--- a relation of some terms
+-- a relation, or `=`, applied to some terms
 abbrev pub applied : List ℕ → List Term → List ℕ
 applied name terms = codes "(" ++ (name ++ (flat_map spaced_term terms ++ codes ")"))
 
@@ -52,7 +52,7 @@ atom_text (Hop v x y) = applied (codes "h" ++ decimal v) (x ∷ y ∷ [])
 atom_text (Alloc v x) = applied (codes "a" ++ decimal v) (x ∷ [])
 atom_text (Def number) = codes "d" ++ decimal number
 
--- what is true or false
+-- a text as it is, or negated
 abbrev pub signed_text : Bool → List ℕ → List ℕ
 signed_text true text = text
 signed_text false text = codes "(not " ++ (text ++ codes ")")
@@ -64,12 +64,12 @@ lit_text l = signed_text l.positive (atom_text l.atom)
 abbrev pub spaced_lit : Lit → List ℕ
 spaced_lit l = codes " " ++ lit_text l
 
--- one literal stands alone
+-- a clause is asserted: one literal stands alone, several stand in an `or`
 abbrev pub assertion_text : List Lit → List ℕ
 assertion_text (l ∷ []) = codes "(assert " ++ (lit_text l ++ codes ")\n")
 assertion_text ls = codes "(assert (or" ++ (flat_map spaced_lit ls ++ codes "))\n")
 
--- the question, and the end
+-- the commands that ask for satisfiability and end the script
 abbrev pub foot_text : List ℕ
 foot_text = codes "(check-sat)\n(exit)\n"
 

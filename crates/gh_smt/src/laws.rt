@@ -2,7 +2,7 @@
 
 ghost use Rattle.gh_smt.specs.Laws.{ScriptsMeanModels, ScriptsDecide, TextsAreOne};
 
-/// The script of some clauses is satisfiable exactly where some structure whose equality is a
+/// The script of some clauses is satisfiable exactly where some interpretation whose equality is a
 /// congruence makes the clauses and all instances of the axioms true.
 pub fn scripts_mean_models()
     ensures { ScriptsMeanModels }

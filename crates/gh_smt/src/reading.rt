@@ -22,7 +22,7 @@ use std::alloc::{AllocError, Global};
 /// The least number of literals that stand in one `or`.
 const SEVERAL: usize = 2;
 
-// How what a kind declares begins.
+// How the text that declares a number of a kind begins.
 fn start(kind: Kind) -> &'static [u8]
     ensures { result.now ≡ start_text kind }
 {

@@ -7,7 +7,7 @@ use Rattle.gh_symb.specs.Encodings.{plain_kind, Each, IsBinding, IsUnder, IsTerm
 use Rattle.gh_symb.specs.Inside.{binding_of, under_of, step_of, check_of}
 use Rattle.gh_symb.specs.declared.over_terms.Symbolic.{Symbolic}
 
--- as a plain value
+-- a condition over terms as a plain value
 abbrev pub plain_of : Symbolic → plain.Symbolic
 plain_of s =
     record {
@@ -19,7 +19,7 @@ plain_of s =
       bindings = map binding_of s.bindings.items;
     }
 
--- it is that of a condition of the procedure p
+-- s encodes the condition c of the procedure p over terms
 pub record IsSymbolic (P : Program) (p : Procedure) (c : Condition) (s : Symbolic) : Type 0 where
   pub terms : map plain_kind s.terms ≡ (plain.symbolic_of P p c).terms
   pub versions : s.versions ≡ (plain.symbolic_of P p c).versions

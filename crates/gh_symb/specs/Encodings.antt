@@ -21,7 +21,7 @@ plain_kind Null = null
 plain_kind (Value n) = value n
 plain_kind (Next i t) = next i t.0
 
--- the members of two lists, one by one
+-- R holds of the members of two lists, one by one, and the lists are equally long
 abbrev pub Each : {A B : Type 0} → (A → B → Type 0) → List A → List B → Type 0
 Each R [] [] = Unit {0}
 Each R [] (b ∷ bs) = ⊥

@@ -83,7 +83,7 @@ use_pick =
 abbrev pub picked : Program
 picked = record { fields = []; close = at 1 32; procedures = pick some_list ∷ use_pick ∷ [] }
 
--- its second alternative is `x.next |-> null`
+-- `pick` alone, whose second alternative is `x.next |-> null`
 abbrev pub picked_first : Program
 picked_first = record { fields = []; close = at 1 32; procedures = pick (points_to (named (120 ∷ []) (at 3 38)) (null 3 49)) ∷ [] }
 
@@ -109,7 +109,7 @@ size_of P p c = size (versions_of P p c.start c.way) (length (terms_of P p c.sta
 abbrev pub sizes : Program → List Size
 sizes P = all_told (size_of P) P
 
--- the sizes of their conditions, in order
+-- the sizes of the conditions of six programs, in order
 pub record ExamplesHold : Type 0 where
   pub of_nothing : sizes smallest ≡ size 1 1 ∷ []
   pub with_a_loop : sizes reversal ≡ size 1 2 ∷ size 2 5 ∷ size 1 3 ∷ size 1 4 ∷ size 2 4 ∷ []
@@ -145,7 +145,7 @@ states_of P p c = map (λ b. map b (variable_names p)) (symbolic_of P p c).bindi
 abbrev pub all_states : Program → List (List (List (Option ℕ)))
 all_states P = all_told (states_of P) P
 
--- a local that is never assigned has its term from the start; one that is first assigned has none before
+-- a local that is never assigned has its term from the start; a result has none before it is first assigned
 pub record StatesHold : Type 0 where
   pub used_later : all_states used_late ≡ ((Some 1 ∷ None ∷ Some 2 ∷ []) ∷ (Some 1 ∷ Some 1 ∷ Some 2 ∷ []) ∷ (Some 1 ∷ Some 2 ∷ Some 2 ∷ []) ∷ []) ∷ []
   pub made_later : all_states freed_again ≡

@@ -33,10 +33,10 @@ EncodesStep e s = IsStepInside 256 256 0 s → IsTermStep e s
 abbrev pub EncodesCheck : TermCheck → plain.TermCheck → Type 0
 EncodesCheck e k = IsCheckInside 256 256 k → IsTermCheck e k
 
--- it has one part in the place of another, whatever the parts are
+-- the step has one part in the place of another, whatever parts `before` and `after` encode
 abbrev pub JoinsParts : Bound → Bound → TermStep → Type 0
 JoinsParts before after encoded = (u w : plain.Under) → EncodesUnder before u → EncodesUnder after w → EncodesStep encoded (plain.parts u (w ∷ []))
 
--- it asks that the whole heap meets one assertion
+-- the check asks that the whole heap meets the assertion that b encodes
 abbrev pub AsksWhole : Bound → TermCheck → Type 0
 AsksWhole b asked = (u : plain.Under) → EncodesUnder b u → EncodesCheck asked (plain.whole (u ∷ []))

@@ -36,7 +36,7 @@ pub record Follows (P : Program) (p : Procedure) (steps : List PathStep) (c : Co
   pub lack : (y : Name) → s.bindings y ≡ None → firsts y ≡ None
   pub first : (y : Name) → known (s.bindings y) (firsts y) (first_use P p steps c.way.check s y) ≡ first_uses P p c y
 
--- nothing is left
+-- no steps are left
 pub record Followed (P : Program) (p : Procedure) (c : Condition) (s : Terms) (firsts : Bindings) (states : List Bindings) (encoded : List TermStep) : Type 0 where
   pub last : s ≡ steps_walked P p c.way.steps (begins p c.start)
   pub are_encodings : Each EncodesStep encoded (term_steps P p c.way.steps (begins p c.start))

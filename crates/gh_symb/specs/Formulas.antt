@@ -27,10 +27,11 @@ variables b x = term (unwrap_or (b x) 0)
 abbrev pub successor : List Kind → ℕ → Term → Term
 successor ks i x = term (unwrap_or (position (same_kind (next i x.0)) ks) 0)
 
+-- the term z is in the footprint of the assertion
 abbrev pub within : Under → Term → Claim
 within u z = footprint (variables u.binding) u.version z u.assertion
 
--- some part of the heap meets it
+-- some part of the heap meets the assertion
 abbrev pub meets : List Kind → Under → Claim
 meets ks u = structure (variables u.binding) (successor ks u.version) u.version (length ks) u.assertion
 
@@ -42,7 +43,7 @@ each n f = map f (terms_below n)
 abbrev pub covers : Under → Term → Claim
 covers u z = equivalence_of (allocated u.version z) (within u z)
 
--- the whole heap meets it: some part does, and the footprint is all that is allocated
+-- the whole heap meets the assertion: some part does, and the footprint is all that is allocated
 abbrev pub meets_whole : List Kind → Under → Claim
 meets_whole ks u = all_of (meets ks u ∷ each (length ks) (covers u))
 
@@ -50,7 +51,7 @@ meets_whole ks u = all_of (meets ks u ∷ each (length ks) (covers u))
 abbrev pub each_pair : ℕ → (Term → Term → Claim) → List Claim
 each_pair n f = flat_map (λ z. each n (f z)) (terms_below n)
 
--- what is allocated leads to a term
+-- the term x leads to one of n terms, if it is allocated
 abbrev pub leads : ℕ → ℕ → Term → Claim
 leads n i x = one_of (negation_of (allocated i x) ∷ each n (hops i x))
 
@@ -61,6 +62,7 @@ succeeds i x t =
     ∷ one_of (allocated i (term x) ∷ equality (term x) (term t) ∷ [])
     ∷ []
 
+-- the formulas of the term t by its kind; there are some only where it is a successor in version i
 abbrev pub successor_claims : ℕ → ℕ → Kind → List Claim
 successor_claims i t null = []
 successor_claims i t (value n) = []
@@ -71,10 +73,11 @@ abbrev pub successors_from : ℕ → ℕ → List Kind → List Claim
 successors_from i t [] = []
 successors_from i t (k ∷ ks) = successor_claims i t k ++ successors_from i (t + 1) ks
 
+-- what holds in version i: null isn't allocated, what is allocated leads to a term, and successors are where cells lead
 abbrev pub version_claims : List Kind → ℕ → List Claim
 version_claims ks i = negation_of (allocated i (term 0)) ∷ each (length ks) (leads (length ks) i) ++ successors_from i 0 ks
 
--- the cell at z leads where it led before
+-- the cell at z leads to v in version i + 1 exactly where it does in version i
 abbrev pub keeps : ℕ → Term → Term → Claim
 keeps i z v = equivalence_of (hops (i + 1) z v) (hops i z v)
 
@@ -82,12 +85,14 @@ keeps i z v = equivalence_of (hops (i + 1) z v) (hops i z v)
 abbrev pub others_keep : ℕ → ℕ → Term → List Claim
 others_keep n i x = each_pair n (λ z v. one_of (equality z x ∷ keeps i z v ∷ []))
 
+-- from version i to the next, the cell at x gets the content e
 abbrev pub written_claims : ℕ → ℕ → Term → Term → List Claim
 written_claims n i x e =
     each n (λ z. equivalence_of (allocated (i + 1) z) (allocated i z))
     ++ hops (i + 1) x e ∷ []
     ++ others_keep n i x
 
+-- from version i to the next, a cell with the content c is made at l
 abbrev pub made_claims : ℕ → ℕ → Term → Term → List Claim
 made_claims n i l c =
     negation_of (allocated i l) ∷ []
@@ -95,6 +100,7 @@ made_claims n i l c =
     ++ hops (i + 1) l c ∷ []
     ++ others_keep n i l
 
+-- from version i to the next, the cell at x is freed
 abbrev pub freed_claims : ℕ → ℕ → Term → List Claim
 freed_claims n i x =
     each n (λ z. equivalence_of (allocated (i + 1) z) (all_of (allocated i z ∷ negation_of (equality z x) ∷ [])))
@@ -115,7 +121,7 @@ placed_claims ks i u q =
 abbrev pub kept_claims : ℕ → ℕ → Under → List Claim
 kept_claims n i u = each_pair n (λ z v. one_of (negation_of (kept i u z) ∷ keeps i z v ∷ []))
 
--- one alternative is in its place; of several, one is, and of none, none is
+-- one of the alternatives is in the place of the part u; this is false where there are none
 abbrev pub alternatives_claims : List Kind → ℕ → Under → List Under → List Claim
 alternatives_claims ks i u [] = one_of [] ∷ []
 alternatives_claims ks i u (q ∷ []) = placed_claims ks i u q
@@ -149,7 +155,7 @@ abbrev pub steps_claims : List Kind → ℕ → List TermStep → List Claim
 steps_claims ks i [] = []
 steps_claims ks i (s ∷ ss) = step_claims ks i s ++ steps_claims ks (version_after i s) ss
 
--- the whole heap meets the one alternative, or one of several
+-- the whole heap meets the one alternative, or one of several; there is no formula where there is no alternative
 abbrev pub meets_one_of : List Kind → List Under → List Claim
 meets_one_of ks [] = []
 meets_one_of ks (u ∷ []) = meets_whole ks u ∷ []
@@ -161,7 +167,7 @@ check_claims ks i (access x) = negation_of (allocated i (term x)) ∷ []
 check_claims ks i (sub u) = negation_of (meets ks u) ∷ []
 check_claims ks i (whole us) = map negation_of (meets_one_of ks us)
 
--- the formulas of the first versions
+-- the formulas of the first n versions
 abbrev pub versions_claims : List Kind → ℕ → List Claim
 versions_claims ks n = flat_map (version_claims ks) (range_with_len 0 n)
 

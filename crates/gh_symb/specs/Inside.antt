@@ -44,6 +44,7 @@ pub record IsUnderInside (n versions : ℕ) (u : plain.Under) : Type 0 where
 abbrev pub AllAreInside : ℕ → ℕ → List plain.Under → Type 0
 AllAreInside n versions us = All (IsUnderInside n versions) us
 
+-- the terms of a step from version i are some of n terms, and its versions some of the versions
 abbrev pub IsStepInside : ℕ → ℕ → ℕ → plain.TermStep → Type 0
 IsStepInside n versions i (accessed x) = (x < n) × (i < versions)
 IsStepInside n versions i (assumed l e r) = (l < n) × (r < n)

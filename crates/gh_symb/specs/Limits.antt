@@ -8,20 +8,20 @@ use Rattle.gh_path.specs.Terms.{terms_of, versions_of}
 use Rattle.gh_symb.specs.declared.limits.SymbolicError.{SymbolicError}
 use Rattle.gh_symb.specs.declared.limits.SymbolicError.TheVariants.{Limit, OutOfMemory}
 
--- a condition of the procedure p with more terms, with more versions
+-- the condition c of the procedure p has more terms than the limit; it has more versions than the limit
 abbrev pub HasTerms : Program → Procedure → Condition → Type 0
 HasTerms P p c = most_terms < length (terms_of P p c.start c.way)
 
 abbrev pub HasVersions : Program → Procedure → Condition → Type 0
 HasVersions P p c = most_versions < versions_of P p c.start c.way
 
--- counting stops one past the limit
+-- the limit is reported at the name of the procedure p, with its kind and a count
 pub record IsLimitOf (p : Procedure) (kind count : ℕ) (l : limit.Limit) : Type 0 where
   pub kind_is : l.kind ≡ kind
   pub span : l.span ≡ p.name.span
   pub count_is : l.count ≡ count
 
--- the limit that a condition passes, terms before versions
+-- the limit that a condition passes, terms before versions; counting stops one past the limit
 abbrev pub PassesLimit : Program → Procedure → Condition → limit.Limit → Type 0
 PassesLimit P p c l =
     (HasTerms P p c × IsLimitOf p 6 (most_terms + 1) l) ⊎ ((HasTerms P p c → ⊥) × HasVersions P p c × IsLimitOf p 7 (most_versions + 1) l)
@@ -34,7 +34,7 @@ abbrev pub Passes : Program → Procedure → Condition → Option limit.Limit �
 Passes P p c None = PassesNone P p c
 Passes P p c (Some l) = PassesLimit P p c l
 
--- the first procedure with a condition that passes: terms over the whole program before versions
+-- the limit of the first procedure with a condition that passes one: terms over the whole program before versions
 abbrev pub IsAdmitRefusal : Program → SymbolicError → Type 0
 IsAdmitRefusal P (Limit l) = Passed P (HasManyTerms P) 6 (most_terms + 1) l ⊎ (NoneHas P (HasManyTerms P) × Passed P (HasManyVersions P) 7 (most_versions + 1) l)
 IsAdmitRefusal P OutOfMemory = ⊤

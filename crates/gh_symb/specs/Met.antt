@@ -32,6 +32,7 @@ abbrev pub IsOfTerms : Option Limit → Option Limit → Type 0
 IsOfTerms passed None = (l : Limit) → passed ≡ Some l → l.kind ≡ 6 → ⊥
 IsOfTerms passed (Some l) = (passed ≡ Some l) × (l.kind ≡ 6)
 
+-- the first of two limits, or the one that there is
 abbrev pub earlier : Option Limit → Option Limit → Option Limit
 earlier (Some l) later = Some l
 earlier None later = later

@@ -62,6 +62,7 @@ learned (Some t) now known = known
 learned None (Some t) known = Some t
 learned None None known = known
 
+-- x is bound to t, unless it had a term before
 abbrev pub bound_unless : Option ℕ → Bindings → Name → ℕ → Bindings
 bound_unless (Some u) b x t = b
 bound_unless None b x t = bound b x t

@@ -48,10 +48,10 @@ ReadsEach assertions ks es i bs = Each EncodesUnder bs (each_under (map formula_
 abbrev pub ReadsStates : List Bound → Bound → List (List Bond) → Type 0
 ReadsStates states firsts bs = Each EncodesBinding bs (map (λ es. both (bound_by es) (bound_by firsts)) states)
 
--- the variable of an entry, unless it had a term before
+-- the variable of the entry e is bound to its term, unless the variable had a term before
 abbrev pub LearnsOne : Bound → Entry → Bound → Bound → Type 0
 LearnsOne before e old new = bound_by new ≡ bound_unless (bound_by before e.name.now) (bound_by old) e.name.now e.term
 
--- the variables that had no term before and have one now
+-- the variables that had no term before and have one now are bound to it
 abbrev pub Learns : Bound → Bound → Bound → Bound → Type 0
 Learns before now old new = (x : Name) → bound_by new x ≡ learned (bound_by before x) (bound_by now x) (bound_by old x)

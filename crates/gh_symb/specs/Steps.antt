@@ -36,7 +36,7 @@ pub record EndsWith (s : Terms) (kinds : List Kind) (version : ℕ) : Type 0 whe
   pub kinds_are : kinds ≡ s.kinds
   pub version_is : version ≡ s.version
 
--- what a procedure needs, once the arguments are used
+-- the terms once the arguments are used and what the procedure needs is walked
 abbrev pub entry_made : Procedure → List Expr → Terms → Terms
 entry_made p es s = let t = exprs_used es s in walked p.needs (rebound t (bound_inside p (exprs_terms es t)))
 
@@ -53,6 +53,7 @@ KeepsHeap (step.Set x e) = Unit {0}
 KeepsHeap (step.Return es) = Unit {0}
 KeepsHeap s = ⊥
 
+-- a condition has so many terms and versions, and no more terms than the limit
 pub record AreCounted (P : Program) (p : Procedure) (c : Condition) (terms versions : ℕ) : Type 0 where
   pub terms_are : length (terms_of P p c.start c.way) ≡ terms
   pub versions_are : versions_of P p c.start c.way ≡ versions

@@ -18,7 +18,9 @@ pub record Under : Type 0 where
   pub binding : Bindings
   pub version : ℕ
 
--- `parts`: what is taken from the heap, and the alternatives of what is put in its place
+-- `assumed l e r`: l and r are equal where e is true, and differ where it is false; `written x e`: the cell at x gets
+-- the content e; `made l c`: a cell at l with the content c; `parts`: what is taken from the heap, and the alternatives
+-- of what is put in its place
 pub data TermStep : Type 0 where
   accessed : ℕ → TermStep
   assumed : ℕ → Bool → ℕ → TermStep
@@ -73,6 +75,7 @@ abbrev pub term_steps : Program → Procedure → List path.PathStep → Terms �
 term_steps P p [] s = []
 term_steps P p (x ∷ xs) s = term_step P p x s ∷ term_steps P p xs (step_walked P p x s)
 
+-- what is asked where a procedure is called, its parameters bound to the terms of the arguments
 abbrev pub needs_under : Option Procedure → List ℕ → Terms → TermCheck
 needs_under None ts s = whole []
 needs_under (Some p) ts s = sub (under p.needs (rebound s (bound_inside p ts)))
@@ -86,6 +89,7 @@ abbrev pub ended_under : Option Loop → Terms → TermCheck
 ended_under None s = whole []
 ended_under (Some l) s = whole (under l.invariant s ∷ [])
 
+-- a check of the procedure p over terms, from the terms before it
 abbrev pub term_check : Program → Procedure → path.Check → Terms → TermCheck
 term_check P p (path.access o) s = access (term_of o.name (used o.name s))
 term_check P p (path.entry at n es) s = let t = exprs_used es s in needs_under (slice_get P.procedures n) (exprs_terms es t) t
@@ -105,6 +109,7 @@ step_used p (path.called ys n es) s = exprs_used es s
 step_used p (path.looped n) s = invariant_walked (slice_get (loops_of p) n) s
 step_used p (path.answered es) s = exprs_used es s
 
+-- the variables that a check uses have terms
 abbrev pub check_used : Procedure → path.Check → Terms → Terms
 check_used p (path.access o) s = used o.name s
 check_used p (path.entry at n es) s = exprs_used es s

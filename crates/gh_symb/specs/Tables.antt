@@ -37,6 +37,7 @@ Bound = List (Name × ℕ)
 abbrev pub pair_of : Entry → Name × ℕ
 pair_of e = (e.name.now, e.term)
 
+-- the bindings b, once the names of the list are bound, in order
 abbrev pub bound_from : Bindings → Bound → Bindings
 bound_from b [] = b
 bound_from b ((x, t) ∷ es) = bound_from (bound b x t) es

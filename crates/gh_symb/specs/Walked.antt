@@ -12,7 +12,7 @@ use Rattle.gh_symb.specs.Steps.{IsCount}
 use Rattle.gh_symb.specs.declared.over_terms.Symbolic.{Symbolic}
 use Rattle.gh_symb.specs.declared.symbolic.Walked.{Walked}
 
--- its terms and versions are listed, and its parts are encoded
+-- the terms and versions of the condition are listed and counted, and its parts are encoded
 pub record IsWalked (P : Program) (p : Procedure) (c : Condition) (w : Walked) : Type 0 where
   pub kinds_are : w.kinds ≡ terms_of P p c.start c.way
   pub versions_are : w.version + 1 ≡ versions_of P p c.start c.way
@@ -22,16 +22,16 @@ pub record IsWalked (P : Program) (p : Procedure) (c : Condition) (w : Walked) :
   pub check_is : EncodesCheck w.check (symbolic_of P p c).check
   pub bindings_are : Each EncodesBinding w.bindings.items (symbolic_of P p c).bindings
 
--- it is walked to its end, unless it has too many terms
+-- the condition is walked to its end, unless it has too many terms
 abbrev pub IsWalkedFar : Program → Procedure → Condition → Option Walked → Type 0
 IsWalkedFar P p c (Some w) = IsWalked P p c w
 IsWalkedFar P p c None = HasTerms P p c
 
--- it is walked, and passes no limit
+-- the condition is walked, and passes no limit
 pub record IsWithinLimits (P : Program) (p : Procedure) (c : Condition) (w : Walked) : Type 0 where
   pub walked : IsWalked P p c w
   pub few : PassesNone P p c
 
--- it is encoded as each condition that it is a walk over
+-- s encodes each condition that w is a walk over and that passes no limit
 abbrev pub EncodesWalked : Walked → Symbolic → Type 0
 EncodesWalked w s = (P : Program) (p : Procedure) (c : Condition) → IsWithinLimits P p c w → IsSymbolic P p c s

@@ -33,7 +33,7 @@ use Rattle.gh_symb.specs.declared.walker.Walker.{Walker}
 abbrev pub terms_at : Walker → Terms
 terms_at w = state w.kinds w.scope w.version
 
--- it leads from the terms before it to f of them
+-- a part of a walk leads from the terms before it to f of them
 abbrev pub Goes : (Terms → Terms) → Walker → Walker → Type 0
 Goes f v w = terms_at w ≡ f (terms_at v)
 
@@ -58,7 +58,7 @@ DoesStep s r v w = Goes (step_done (program_in s) (procedure_in s) (step_of r)) 
 abbrev pub WalksStep : Context → kept_step.PathStep → Walker → Walker → Type 0
 WalksStep s r v w = Goes (step_walked (program_in s) (procedure_in s) (step_of r)) v w
 
--- how it is encoded, once its variables are used
+-- how a step is encoded, once its variables are used
 abbrev pub ReadsStep : Context → kept_step.PathStep → Walker → TermStep → Type 0
 ReadsStep s r v encoded = EncodesStep encoded (step_encoding (program_in s) (procedure_in s) (step_of r) (terms_at v))
 
@@ -87,7 +87,7 @@ DoesCall s n xs es v w = Goes (λ t. call_walked (slice_get (program_in s).proce
 abbrev pub ReadsCall : Context → ℕ → List Expr → Walker → TermStep → Type 0
 ReadsCall s n es v encoded = let t = terms_at v in EncodesStep encoded (call_parts (slice_get (program_in s).procedures n) (exprs_terms es t) t)
 
--- a new cell
+-- the step that makes a new cell, from the terms before it
 abbrev pub cell_read : Terms → plain.TermStep
 cell_read s = plain.made (length s.kinds) (length s.kinds + 1)
 

@@ -1,4 +1,4 @@
-//! What a condition is of.
+//! The program and the procedure of a condition.
 
 ghost use Rattle.gh_ast.specs.Plain.{program_of};
 ghost use Rattle.gh_path.specs.Kept.{IsScoped};
@@ -15,7 +15,7 @@ pub struct Context<'a> {
     pub procedure: &'a Procedure,
 }
 
-/// What a condition of a program is of.
+/// The program and the procedure of a condition.
 pub fn context_of<'a>(typed: &'a Typed, condition: &Condition) -> Context<'a>
     requires { IsScoped (program_of typed.now) condition.now }
     ensures { IsContextOf (program_of typed.now) condition.now result }

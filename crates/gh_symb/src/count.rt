@@ -7,10 +7,10 @@ ghost use Rattle.gh_symb.specs.Limits.{PassesNone};
 ghost use Rattle.gh_symb.specs.Numbers.{count_of};
 ghost use Rattle.gh_symb.specs.Steps.{IsCount, IsCountOf};
 
-/// The most terms of a condition.
+/// The most terms that a condition may have.
 pub const MOST_TERMS: usize = 32;
 
-/// The most versions of the heap of a condition.
+/// The most versions of the heap that a condition may have.
 pub const MOST_VERSIONS: usize = 24;
 
 /// The number of terms of a condition, and that of its versions of the heap; or that it has more

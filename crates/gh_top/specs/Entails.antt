@@ -23,7 +23,7 @@ use Rattle.gh_top.specs.Rules.{rule_number}
 use Rattle.gh_top.specs.declared.refusal.Refusal.{Refusal}
 use Rattle.gh_top.specs.declared.refusal.Refusal.TheVariants.{Absent, TooLong, Byte, Deep, Syntax, TypeError, Limit}
 
--- the text is read, and poses the question
+-- the text is readable, and poses the question
 pub record IsQuestionText (text : List ℕ) (q : Question) : Type 0 where
   pub readable : IsReadable text
   pub poses : Poses text q
@@ -45,7 +45,8 @@ pub record PosesAdmitted (bytes : Option (List ℕ)) (q : Question) : Type 0 whe
   pub posed : IsQuestionText text q
   pub admitted : IsAdmitted q
 
--- the question is entailed; the text is that word, and a log of version 2 whose one section is valid for the question's clauses
+-- the question is entailed; the text is the word `entailed`, and a log of version 2 whose one section is valid for
+-- the question's clauses
 pub record IsEntailedReport (q : Question) (text : List ℕ) : Type 0 where
   pub entailed : IsEntailed q
   pub section : List LogLine
@@ -53,7 +54,8 @@ pub record IsEntailedReport (q : Question) (text : List ℕ) : Type 0 where
   pub spelled : IsSpelled 2 (section ∷ [])
   pub text_is : text ≡ line (codes "entailed") ++ log_text 2 (section ∷ [])
 
--- the left claim holds in a state and the right one doesn't; the text says that the question isn't entailed, and draws the state
+-- the left claim holds in a state and the right one doesn't; the text says that the question isn't entailed, and
+-- draws the state
 pub record IsFailingReport (q : Question) (text : List ℕ) : Type 0 where
   pub state : State
   pub proper : IsProper state.heap

@@ -61,7 +61,7 @@ pub record Asks (words : List (List ℕ)) (files : Files) (r : Request) (P : Pro
   pub bytes : asked_text r files ≡ Some text
   pub accepted : IsAccepted text P
 
--- THE ANSWER: the status and the text that words and files give. A row is a line.
+-- THE ANSWER: the status and the text that words and files give, a constructor for each case.
 pub data Answer (words : List (List ℕ)) (files : Files) : Status → List ℕ → Type 0 where
   -- in any mode: the words are no request; about a program: its text is refused
   usage : ((r : Request) → IsRequest words r → ⊥) → Answer words files Usage (line (codes "refused: usage"))

@@ -5,7 +5,7 @@ use Rattle.gh_base.specs.declared.place.Span.{Span}
 use Rattle.gh_draw.specs.Descriptions.{place_text}
 use Rattle.gh_draw.specs.Drawings.{line}
 
--- so many of so many conditions are valid
+-- all of so many conditions are valid
 abbrev pub verified_line : ℕ → List ℕ
 verified_line count = line (codes "verified: " ++ decimal count ++ codes " of " ++ decimal count ++ codes " valid")
 

@@ -9,8 +9,8 @@ use Rattle.gh_top.specs.Headline.{Files, AreTold, Asks}
 use Rattle.gh_top.specs.Seen.{InputsTold, Reading}
 use Rattle.gh_top.specs.declared.words.Request.{Request}
 
--- The names that a run begins, and how many calls it makes at most, those that reading these files takes: none, the
--- first file, or that and the second file, which is begun only where the program is accepted.
+-- The names of the files that a run begins, and how many calls it makes at most, those that reading these files takes:
+-- none, the first file, or the first and the second file, which is begun only where the program is accepted.
 pub data IsOrder (table : Option Table) (words : List (List ℕ)) : List (List ℕ) → ℕ → Type 0 where
   nothing : IsOrder table words [] 0
   first : {f : List ℕ} {most : ℕ} (r : Request) → IsRequest words r → source_of r ≡ from_file f most → IsOrder table words (f ∷ []) (calls_for (told table f) most)
@@ -53,7 +53,7 @@ FirstRead (from_file file most) r = ReadsFile file most r
 abbrev pub ReadsFor : Request → Reading → Type 0
 ReadsFor q r = (words : List (List ℕ)) → IsRequest words q → ReadsInOrder words r
 
--- the same, where the first one had been read before
+-- the same, where the first file had been read before
 abbrev pub ReadsOn : Request → Reading → Type 0
 ReadsOn q r =
     (first : InputsTold) → FirstRead (source_of q) (record { before = first; after = r.before })

@@ -1,4 +1,5 @@
--- The first refusal of a program text: it is absent, its length, a byte, the depth, the syntax, the first type error, the first limit.
+-- The first refusal of a program text: it is absent, its length, a byte, the depth, the syntax, the first type error,
+-- the first limit.
 use Rattle.std.specs.Prelude.{◌≡◌, ℕ, ◌<◌, ◌≤◌, List, ◌++◌, length, codes, Option, Some, None}
 use Rattle.std.specs.Fmt.{decimal}
 use Rattle.gh_ast.specs.Limits.{most_bytes}
@@ -15,17 +16,18 @@ use Rattle.gh_top.specs.declared.refusal.Refusal.TheVariants.{Absent, TooLong, B
 use Rattle.gh_draw.specs.Descriptions.{place_text}
 use Rattle.gh_draw.specs.Drawings.{line}
 
--- each byte outside comments is a character, and the brackets don't nest too deep
+-- the text isn't too long, each byte outside comments is a character, and the brackets don't nest too deep
 pub record IsReadable (text : List ℕ) : Type 0 where
   pub short : length text ≤ most_bytes
   pub characters : (k : ℕ) → IsFirstByte text k → ⊥
   pub shallow : (k : ℕ) → IsFirstDeep text k → ⊥
 
--- the text is read, and spells the program
+-- the text is readable, and spells the program
 pub record IsText (text : List ℕ) (P : Program) : Type 0 where
   pub readable : IsReadable text
   pub spells : Spells text P
 
+-- nothing before the depth is refused, and p is the place of the first bracket that nests too deep
 pub record IsDeepAt (text : List ℕ) (p : Span) : Type 0 where
   pub short : length text ≤ most_bytes
   pub characters : (k : ℕ) → IsFirstByte text k → ⊥

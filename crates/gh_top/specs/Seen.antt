@@ -5,29 +5,30 @@ use Rattle.gh_base.specs.Outside.{Table, Rose, AppendsFront}
 use Rattle.gh_base.specs.declared.outside.Inputs as inputs
 use Rattle.gh_base.specs.declared.outside.Sink as sink
 
--- of inputs at one time: the bytes for each name, the names begun, how many calls were made, and how often one failed
+-- what is told of inputs at one time: the bytes for each name, the names begun, how many calls were made, and how often
+-- one failed
 pub record InputsTold : Type 0 where
   pub table : Option Table
   pub names : Option (List (List ℕ))
   pub calls : Option ℕ
   pub faults : ℕ
 
--- of a sink at one time: the bytes written, and how often a call failed
+-- what is told of a sink at one time: the bytes written, and how often a call failed
 pub record SinkTold : Type 0 where
   pub written : Option (List ℕ)
   pub faults : ℕ
 
--- of inputs before and after
+-- what is told of inputs before a run and after it
 pub record Reading : Type 0 where
   pub before : InputsTold
   pub after : InputsTold
 
--- of a sink before and after
+-- what is told of a sink before a run and after it
 pub record Writing : Type 0 where
   pub before : SinkTold
   pub after : SinkTold
 
--- of both
+-- what is told of the inputs and of the sink
 pub record Outside : Type 0 where
   pub reading : Reading
   pub writing : Writing
@@ -80,6 +81,6 @@ writing S u v = record { before = sink_at S u; after = sink_at S v }
 abbrev pub seen : {T U : Type 0} → inputs.Ghosts T → sink.Ghosts U → T → T → U → U → Outside
 seen I S x y u v = record { reading = reading I x y; writing = writing S u v }
 
--- of a sink that tells nothing and never fails
+-- what is told of a sink that tells nothing and never fails
 abbrev pub silent : Writing
 silent = record { before = record { written = None; faults = 0 }; after = record { written = None; faults = 0 } }

@@ -23,7 +23,8 @@ use Rattle.gh_top.specs.declared.status.Status.TheVariants.{Listed, LogRefused}
 abbrev pub most_edited : ℕ
 most_edited = 4194304
 
--- why a session file is refused: it is absent, too long, a line that begins with `%` is no separator, or there are too many
+-- why a session file is refused: it is absent, too long, a line that begins with `%` is no separator, or there are too
+-- many separators
 pub data IsSessionRefusal : Option (List ℕ) → List ℕ → Type 0 where
   absent : IsSessionRefusal None (line (codes "refused: session Absent"))
   too_long : {text : List ℕ} → most_edited < length text → IsSessionRefusal (Some text) (line (codes "refused: session TooLong"))
@@ -45,13 +46,14 @@ pub record IsKeptToo (P : Program) (cs : List Condition) (old : List Essence) (n
   pub count : n ≡ length new
   pub whole : kept ≡ old ++ new
 
--- how many essences are decided for a text where the old ones are kept, and what is kept then; none where the text is refused
+-- how many essences are decided for a text where the old ones are kept, and what is kept then; none is decided where
+-- the text is refused
 pub data CountsDecided (text : List ℕ) (old : List Essence) : ℕ → List Essence → Type 0 where
   of_refused : (x : Refusal) → IsProgramRefused (Some text) x → CountsDecided text old 0 old
   of_decided : {P : Program} {cs : List Condition} {n : ℕ} {kept : List Essence}
       → IsAccepted text P → AreAsked P cs → IsKeptToo P cs old n kept → CountsDecided text old n kept
 
--- the texts that are asked about: for each edit that asks, that of all edits up to it; these edits were before
+-- the texts that are asked about: for each edit that asks, the text of all edits up to it, with `before` in front
 abbrev pub texts_after : List ℕ → List Edit → List Edit → List (List ℕ)
 texts_after head before [] = []
 texts_after head before (e ∷ es) =
@@ -61,7 +63,8 @@ texts_after head before (e ∷ es) =
 abbrev pub answer_line : ℕ → ℕ → List ℕ
 answer_line j n = line (codes "answer " ++ decimal j ++ codes ", " ++ decimal n ++ codes " decided")
 
--- the answers to some texts in order, after so many others: each is its line, and then what `check` answers for the text
+-- the answers to some texts in order, after so many others: each is its line, and then what `check` answers for the
+-- text
 pub data AreAnswers : ℕ → List Essence → List (List ℕ) → List ℕ → Type 0 where
   no_more : {j : ℕ} {kept : List Essence} → AreAnswers j kept [] []
   one_more : {j n : ℕ} {old kept : List Essence} {text u rest : List ℕ} {texts : List (List ℕ)} {s : Status}

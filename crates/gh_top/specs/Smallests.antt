@@ -29,13 +29,14 @@ abbrev pub smallest_text : Program → Procedure → ℕ → ℕ → Condition �
 smallest_text P p k cells c xs =
     smallest_line k (length (conditions P)) cells ++ line (description P c) ++ drawing k (variable_names p) xs
 
--- the text of a log of version 2 whose one section is valid for the condition's clauses with the bound; nothing where there is no cell
+-- the text of a log of version 2 whose one section is valid for the condition's clauses with the bound; nothing where
+-- there is no cell
 pub data IsBoundText (P : Program) (p : Procedure) (c : Condition) : ℕ → List ℕ → Type 0 where
   no_cell : IsBoundText P p c 0 []
   some_cells : {cells : ℕ} (section : List LogLine) → 0 < cells → IsValidSection (bounded_by (problem (symbolic_of P p c)) cells) section → IsSpelled 2 (section ∷ [])
       → IsBoundText P p c cells (log_text 2 (section ∷ []))
 
--- that log's text
+-- the text of a log of version 2 with this section; nothing where there is none
 abbrev pub section_text : Option Section → List ℕ
 section_text None = []
 section_text (Some s) = log_text 2 (s.lines ∷ [])

@@ -32,11 +32,11 @@ IsDecidedByScript P p c = DecidesCondition P c (script_for P p c)
 abbrev pub smt_text : Program → Procedure → Condition → List ℕ
 smt_text P p c = script_text (script_for P p c)
 
--- the program has fewer conditions
+-- the answer where the program has fewer than n conditions
 abbrev pub unnumbered_text : Program → ℕ → List ℕ
 unnumbered_text P n = unnumbered_line n (length (conditions P))
 
--- the script would have more assertions: at the name of the condition's procedure
+-- the answer where the script would have too many assertions, with the place of the name of the procedure p
 abbrev pub too_long_text : Program → Procedure → Condition → List ℕ
 too_long_text P p c = script_limit_line p.name.span (asserted_count P p c)
 

@@ -21,7 +21,7 @@ pub enum FileText {
     Whole(Text),
 }
 
-/// Reads a file of at most so many bytes.
+/// Reads a file, which may have at most `limit` bytes.
 pub fn read_file<I: Inputs>(
     alloc: Global,
     inputs: &mut I,

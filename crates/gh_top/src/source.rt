@@ -33,7 +33,7 @@ fn text_file(file: &FileName) -> Source<'_>
 }
 
 impl Request {
-    /// Its first file, or the number that makes its text.
+    /// The first file of the request, or the number that makes its text.
     pub fn source(&self) -> Source<'_>
         ensures { IsSource result self.now }
     {
@@ -55,7 +55,7 @@ impl Request {
         }
     }
 
-    /// Its second file, and how many bytes are taken of it at most.
+    /// The second file of the request, and how many bytes are taken of it at most.
     pub fn second_file(&self) -> Option<(&str, usize)>
         ensures { MatchOption result (second_file self.now ≡ None) (λ f. second_file self.now ≡ Some (f.0.now, f.1)) }
     {

@@ -25,7 +25,7 @@ abbrev pub IsMeant : List Procedure → List ℕ → Option (Bor kept.Procedure)
 IsMeant ps name found =
     MatchOption found (Any (λ r. r.name.name ≡ name) ps → ⊥) (λ r. IsFirstNamed ps name (procedure_of r.now))
 
--- the errors of an occurrence of a variable: no variable, or one that may not stand there
+-- the errors of an occurrence: it names no variable, or one that may not stand in this setting
 abbrev pub OccurrenceErrors : Procedure → Setting → Occ → ℕ → Span → Type 0
 OccurrenceErrors q setting o n s =
     ((n ≡ 1) × (o.span ≡ s) × (HasName (variables_of q) o.name → ⊥)) ⊎ ((n ≡ 9) × (o.span ≡ s) × Forbidden q setting o.name)
@@ -65,7 +65,7 @@ ProcedureErrors ps q n s =
 abbrev pub FieldsErrors : List Field → ℕ → Span → Type 0
 FieldsErrors fs n s = ((n ≡ 7) × SecondLink fs s) ⊎ ((n ≡ 8) × DataField fs s)
 
--- the errors of a field, of which an earlier one is the link or not
+-- the errors of a field; `linked` says whether an earlier field is the link
 abbrev pub FieldErrors : Field → Bool → ℕ → Span → Type 0
 FieldErrors f linked n s =
     ((n ≡ 7) × (f.name.span ≡ s) × (f.kind ≡ codes "Node") × ((f.name.name ≢ codes "next") ⊎ (linked ≡ true)))

@@ -13,7 +13,7 @@ pub record IsFirstMany (ns : List ℕ) (number : ℕ) : Type 0 where
   pub first : IsFirstWith (λ n. most_atoms < n) ns many
   pub count : number ≡ reported many
 
--- what a search for one finds in a list
+-- what a search for the first such number finds in a list
 pub record FindsMany (ns : List ℕ) (found : Option ℕ) : Type 0 where
   pub says : MatchOption found (All (λ n. n ≤ most_atoms) ns) (IsFirstMany ns)
 

@@ -21,7 +21,7 @@ SiteErrorsIn scope = SiteErrors (map procedure_of scope.procedures.now) (procedu
 abbrev pub IsFirstAt : Scope → List Site → Option Fault → Type 0
 IsFirstAt scope sites found = IsFirstIn (SiteErrorsIn scope) sites found
 
--- .. of some procedures, each among all of them
+-- what was found is the first error of some procedures, each judged among all of them, or there is none
 abbrev pub IsFirstInEach : List Procedure → Option Fault → Type 0
 IsFirstInEach procedures found = IsFirstIn (ProcedureErrors procedures) procedures found
 

@@ -31,7 +31,7 @@ fn is_link(field: &Field) -> bool
     is_next(&field.name.name) && is_node(&field.kind)
 }
 
-/// The error of a field, of which an earlier one is the link or not.
+/// The error of a field; `linked` says whether an earlier field is the link.
 fn in_field(field: &Field, linked: bool) -> Option<Fault>
     ensures { IsFirstOf (FieldErrors field.now linked) result }
 {

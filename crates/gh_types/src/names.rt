@@ -31,14 +31,14 @@ impl<'a> Names<'a> {
         }
     }
 
-    /// Where a name is.
+    /// The first place of a name, if it has one.
     pub fn place(&self, name: &[u8]) -> Option<usize>
         ensures { result ≡ place_in self.now.places name.now }
     {
         self.places.get(name).copied()
     }
 
-    /// Whether the name of an occurrence is there.
+    /// Whether the name of an occurrence has a place.
     pub fn has(&self, occurrence: &Occ) -> bool
         ensures { (os : List Whole) → IsTableOf (names os) self.now.places →
             (IsTrue result ↔ HasName os occurrence.now.name) }
@@ -46,7 +46,7 @@ impl<'a> Names<'a> {
         self.places.contains_key(occurrence.name.bytes())
     }
 
-    /// Adds a name that stands at a place, unless it is there. Whether it was added.
+    /// Adds a name that stands at a place, unless the name has one, and says whether it was added.
     pub fn add(&mut self, name: &'a [u8], place: usize) -> Result<bool, AllocError>
         ensures added { IfOk result (λ added. added ≡ is_none (place_in self.old.places name.now)) }
         ensures names { OnOk result (AddsPlace name.now place self.old.places self.new.places) }

@@ -40,7 +40,8 @@ impl MemoryInputs {
         self.files.add(alloc, name, bytes)
     }
 
-    /// A call of `begin` or `read`, numbered together from 1, that is to fail. It hasn't happened yet.
+    /// Lists a call of `begin` or `read` that is to fail, by its number: both are numbered together, from 1. The call
+    /// wasn't made yet.
     pub fn fail_at(&mut self, call: u64) -> Result<(), AllocError>
         requires { self.old.calls.made < call }
         ensures listed { IfOk result (λ _. self.new.calls.failing.items ≡ self.old.calls.failing.items ++ call ∷ []) }

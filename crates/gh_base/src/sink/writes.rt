@@ -26,7 +26,7 @@ impl MemorySink {
         })
     }
 
-    /// A call of `write`, numbered from 1, that is to fail. It hasn't happened yet.
+    /// Lists a call of `write` that is to fail, by its number from 1. The call wasn't made yet.
     pub fn fail_at(&mut self, call: u64) -> Result<(), AllocError>
         requires { self.old.calls.made < call }
         ensures listed { IfOk result (λ _. self.new.calls.failing.items ≡ self.old.calls.failing.items ++ call ∷ []) }
