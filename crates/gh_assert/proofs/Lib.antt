@@ -4,6 +4,7 @@ pub mod Betweens
 pub mod Cells
 pub mod Decide
 pub mod Frames
+pub mod Given
 pub mod Hops
 pub mod Kept
 pub mod Owned

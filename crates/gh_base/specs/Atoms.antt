@@ -1,10 +1,31 @@
--- Atoms and literals: which are in range, their opposites, and the dense numbers of atoms.
-use Rattle.std.specs.Prelude.{ℕ, ◌+◌, ◌*◌, ◌/◌, ◌<◌, ◌≤◌, ◌≡◌, List, All, not}
+-- Terms, atoms and literals: which are in range, their opposites, and the dense numbers of atoms.
+use Rattle.std.specs.Prelude.{ℕ, ◌+◌, ◌*◌, ◌/◌, ◌<◌, ◌≤◌, ◌≡◌, List, map, min, max, All, true, false, not}
+use Rattle.std.specs.List.{range_with_len}
 use Rattle.gh_base.specs.declared.atom.Term.{Term}
 use Rattle.gh_base.specs.declared.atom.Atom.{Atom}
 use Rattle.gh_base.specs.declared.atom.Atom.TheVariants.{Eq, Btwn, Hop, Alloc, Def}
 use Rattle.gh_base.specs.declared.atom.Lit.{Lit}
 use Rattle.gh_base.specs.declared.sizes.Sizes.{Sizes}
+
+-- the term of a number
+abbrev pub term : ℕ → Term
+term n = record { 0 = n }
+
+-- the first n terms
+abbrev pub terms_below : ℕ → List Term
+terms_below n = map term (range_with_len 0 n)
+
+-- the atom that two terms are equal, with the smaller one first
+abbrev pub equation : Term → Term → Atom
+equation a b = Eq (term (min a.0 b.0)) (term (max a.0 b.0))
+
+-- the literal that an atom is true
+abbrev pub positive : Atom → Lit
+positive a = record { atom = a; positive = true }
+
+-- the literal that an atom is false
+abbrev pub negative : Atom → Lit
+negative a = record { atom = a; positive = false }
 
 abbrev pub opposite : Lit → Lit
 opposite l = record { atom = l.atom; positive = not l.positive }

@@ -1,8 +1,7 @@
 //! Terms, atoms and literals.
 
-ghost use Rattle.std.specs.Prelude.{◌≡◌, ◌↔◌, IsTrue, min, max};
-ghost use Rattle.gh_base.specs.declared.atom.Atom.TheVariants.{Eq as Equality};
-ghost use Rattle.gh_base.specs.Atoms.{opposite};
+ghost use Rattle.std.specs.Prelude.{◌≡◌, ◌↔◌, IsTrue};
+ghost use Rattle.gh_base.specs.Atoms.{opposite, equation};
 
 /// A term of a condition, by its position. Term 0 is null.
 #[derive(Clone, Copy, Debug, Default, PartialEq, Eq, Hash)]
@@ -49,7 +48,7 @@ impl Default for Atom {
 impl Atom {
     /// The equality of two terms, the smaller one first.
     pub fn equal(a: Term, b: Term) -> Atom
-        ensures { result ≡ Equality (record { 0 = min a.0 b.0 }) (record { 0 = max a.0 b.0 }) }
+        ensures { result ≡ equation a b }
     {
         if a.0 <= b.0 {
             Atom::Eq { a, b }

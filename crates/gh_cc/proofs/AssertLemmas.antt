@@ -10,7 +10,7 @@ use Rattle.std.proofs.lemmas.List.Elements.{All-push, All-take}
 use Rattle.gh_base.specs.declared.atom.Lit.{Lit}
 use Rattle.gh_base.specs.Atoms.{IsInRange}
 use Rattle.gh_cc.specs.declared.partition.Link.{Link}
-use Rattle.gh_cc.specs.declared.signs.Entry.{Entry}
+use Rattle.gh_cc.specs.declared.signs.SignEntry.{SignEntry}
 use Rattle.gh_cc.specs.declared.clash.Clash.{Clash}
 use Rattle.gh_cc.specs.declared.classes.Stage.{Stage}
 use Rattle.gh_cc.specs.declared.classes.ClashAt.{ClashAt}
@@ -66,7 +66,7 @@ pub record TakenIn (c : Core) (x : Lit) (p : Merged) (f : Filed) (found : Option
   pub tied : AreTied c.sizes (c.lits ++ x ∷ []) p f
   pub added_links : List Link
   pub links : p.links ≡ c.links ++ added_links
-  pub added_entries : List Entry
+  pub added_entries : List SignEntry
   pub entries : f.entries ≡ c.entries ++ added_entries
   pub filed : found ≡ None → c.clash ≡ None → AllFiled c.sizes (c.lits ++ x ∷ []) p.links f.entries
   pub clash : (k : Clash) → found ≡ Some k → IsClash (reps p.links) (c.lits ++ x ∷ []) k
@@ -291,7 +291,7 @@ front_is lits all x place whole is =
 
 pub taken_in : (c : Core) (x : Lit) (all : List Lit) (place : ℕ) (old p : Merged) (f : Filed) (found : Option Clash)
     (clashed : Bool) → all ≡ c.lits ++ x ∷ [] → place ≡ length c.lits → clashed ≡ is_some c.clash → IsKept c
-    → AreTied c.sizes all p f → LinksMore (record { terms = old.terms; links = c.links }) p → (added : List Entry)
+    → AreTied c.sizes all p f → LinksMore (record { terms = old.terms; links = c.links }) p → (added : List SignEntry)
     → f.entries ≡ c.entries ++ added
     → IfNone found (clashed ≡ false → AllFiled c.sizes (take place all) c.links c.entries
     → AllFiled c.sizes all p.links f.entries)
@@ -313,7 +313,7 @@ taken_in c x all place old p f found clashed whole is flag h tied links added en
           (IfSome_at (λ j. IsClash (reps p.links) all j) found k clash at);
     }
 
-pub kept_along : (c : Core) (lits : List Lit) (stages : List Stage) (links : List Link) (entries : List Entry)
+pub kept_along : (c : Core) (lits : List Lit) (stages : List Stage) (links : List Link) (entries : List SignEntry)
     (clash : Option ClashAt) → IsKept c
     → lits ≡ c.lits → stages ≡ c.stages → links ≡ c.links → entries ≡ c.entries → clash ≡ c.clash
     → IsKept (record { sizes = c.sizes; lits = lits; stages = stages; links = links; entries = entries; clash = clash })

@@ -21,7 +21,7 @@ use Rattle.gh_cc.specs.declared.partition.Link.{Link}
 use Rattle.gh_cc.specs.Partitions.{Merged, AreMerges, disequality_of}
 use Rattle.gh_cc.specs.Asserted.{equality}
 use Rattle.gh_cc.specs.Kept.{at, normal, reps, IsRelation}
-use Rattle.gh_cc.specs.Lemma.{Opposes, IsOpposed, IsSettled, JoinsTerms, HaveOneClass, IsJoined, AreNegatedClasses}
+use Rattle.gh_cc.specs.Lemma.{Opposes, IsOpposed, IsDerived, JoinsTerms, HaveOneClass, IsJoined, AreNegatedClasses}
 use Rattle.gh_cc.proofs.PartitionLemmas.{Respects, rep_sound, same_sound, merges_more, slice_get-contains}
 use Rattle.gh_cc.proofs.ExplainLemmas.{IsLitFalse, link_holds}
 use Rattle.gh_cc.proofs.FilingLemmas.{normal_range}
@@ -113,11 +113,11 @@ both_false true false false e f = cc
 both_false false true true e f = cc
 both_false false true false e f = cc
 
--- a clause with a settled literal follows
-pub settled_follows : (s : Sizes) (lits : List Lit) (p : Merged) (l : Lit) → AreInRange s lits → p.terms ≡ s.terms
-    → AreNegatedClasses lits lits p → Contains lits l → IsSettled s p.links lits l
+-- a clause with a derived literal follows
+pub derived_follows : (s : Sizes) (lits : List Lit) (p : Merged) (l : Lit) → AreInRange s lits → p.terms ≡ s.terms
+    → AreNegatedClasses lits lits p → Contains lits l → IsDerived s p.links lits l
     → IsEqualityClause s lits
-settled_follows s lits p l all terms h there settled = record {
+derived_follows s lits p l all terms h there derived = record {
   in_range = all;
   follows = λ m congruence. elim (true_or_false m lits) as (λ _. IsClauseTrue m lits) [
     | inl t ↦ t
@@ -128,7 +128,7 @@ settled_follows s lits p l all terms h there settled = record {
         link_holds m k
         (All-contains (IsLitFalse m) lits (disequality_of k) none (h.linked k (slice_get-contains links i k at))) in
         let off : IsLitFalse m l = All-contains (IsLitFalse m) lits l none there in
-        elim settled as (λ _. IsClauseTrue m lits) [
+        elim derived as (λ _. IsClauseTrue m lits) [
           | inl w ↦
               let same : m.class w.0.0 ≡ m.class w.1.0 =
               same_sound m.class links (length links) w.0.0 w.1.0 (omega arith) holds w.3 in
@@ -188,28 +188,28 @@ sign_is s links lits l true e there none =
     (λ o. none (get_or lits i d, Contains-get_or lits i d h, o)))
 
 relation_agrees : (s : Sizes) (lits : List Lit) (links : List Link) (l : Lit) (a : Atom) (p : Bool) → l.atom ≡ a
-    → l.positive ≡ p → Contains lits l → IsRelation a → (IsSettled s links lits l → ⊥)
+    → l.positive ≡ p → Contains lits l → IsRelation a → (IsDerived s links lits l → ⊥)
     → negated_sign s links lits (normal (reps links) a) ≡ not p
 relation_agrees s lits links l a p e f there relation none =
     let is : IsRelation l.atom = subst IsRelation (sym e) relation in
     ap (λ (b : Atom). negated_sign s links lits (normal (reps links) b)) (sym e)
     ∙ sign_is s links lits l p f there (λ o. none (inr (is, o)))
 
--- what an unsettled literal's negation asks holds
-unsettled_agrees : (s : Sizes) (lits : List Lit) (links : List Link) (l : Lit) (a : Atom) (p : Bool) → l.atom ≡ a
-    → l.positive ≡ p → Contains lits l → IsJoined links l → (IsSettled s links lits l → ⊥)
+-- what an underived literal's negation asks holds
+underived_agrees : (s : Sizes) (lits : List Lit) (links : List Link) (l : Lit) (a : Atom) (p : Bool) → l.atom ≡ a
+    → l.positive ≡ p → Contains lits l → IsJoined links l → (IsDerived s links lits l → ⊥)
     → Agrees (reps links) (negated_sign s links lits) a (not p)
-unsettled_agrees s lits links l (Eq a b) true e f there joined none = λ same.
+underived_agrees s lits links l (Eq a b) true e f there joined none = λ same.
     none (inl (a, b, (λ i. record { atom = e i; positive = f i }), same))
-unsettled_agrees s lits links l (Eq a b) false e f there joined none =
+underived_agrees s lits links l (Eq a b) false e f there joined none =
     joined a b (λ i. record { atom = e i; positive = not (f i) })
-unsettled_agrees s lits links l (Btwn v x y z) p e f there joined none =
+underived_agrees s lits links l (Btwn v x y z) p e f there joined none =
     relation_agrees s lits links l (Btwn v x y z) p e f there tt none
-unsettled_agrees s lits links l (Hop v x y) p e f there joined none =
+underived_agrees s lits links l (Hop v x y) p e f there joined none =
     relation_agrees s lits links l (Hop v x y) p e f there tt none
-unsettled_agrees s lits links l (Alloc v x) p e f there joined none =
+underived_agrees s lits links l (Alloc v x) p e f there joined none =
     relation_agrees s lits links l (Alloc v x) p e f there tt none
-unsettled_agrees s lits links l (Def k) p e f there joined none =
+underived_agrees s lits links l (Def k) p e f there joined none =
     relation_agrees s lits links l (Def k) p e f there tt none
 
 not_both : (p t : Bool) → under p t ≡ true → under (not p) t ≡ true → ⊥
@@ -218,17 +218,17 @@ not_both true false e f = cc
 not_both false true e f = cc
 not_both false false e f = cc
 
--- a clause with no settled literal doesn't follow
-pub unsettled_open : (s : Sizes) (lits : List Lit) (p : Merged) → AreNegatedClasses lits lits p
-    → ((l : Lit) → Contains lits l → IsSettled s p.links lits l → ⊥) → IsEqualityClause s lits → ⊥
-unsettled_open s lits p h none e =
+-- a clause with no derived literal doesn't follow
+pub underived_open : (s : Sizes) (lits : List Lit) (p : Merged) → AreNegatedClasses lits lits p
+    → ((l : Lit) → Contains lits l → IsDerived s p.links lits l → ⊥) → IsEqualityClause s lits → ⊥
+underived_open s lits p h none e =
     let links = p.links in
     let sign = negated_sign s links lits in
     let m = model_of (reps links) sign in
     let w = e.follows m (model_congruence s (reps links) sign) in
     let l = w.1 in
     let there : Contains lits l = (w.0, w.2, w.3) in
-    let agrees = unsettled_agrees s lits links l l.atom l.positive refl refl there
+    let agrees = underived_agrees s lits links l l.atom l.positive refl refl there
     (All-contains (IsJoined links) lits l h.joined there) (none l there) in
     let off = agrees_true (reps links) sign l.atom (not l.positive) agrees in
     not_both l.positive (atom_truth m l.atom) w.4 off

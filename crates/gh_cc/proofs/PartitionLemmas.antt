@@ -9,14 +9,11 @@ use Rattle.std.proofs.lemmas.List.{length-take-le, length_push, length-map, leng
 use Rattle.std.proofs.lemmas.List.Elements.{All-contains, All-set}
 use Rattle.std.specs.Prelude.{Contains, map, option_map, slice_set}
 use Rattle.gh_base.specs.declared.atom.Term.{Term}
+use Rattle.gh_base.specs.Atoms.{term}
 use Rattle.gh_cc.specs.declared.partition.Link.{Link}
 use Rattle.gh_cc.specs.Partitions.{no_link, relabel, rep, AreMerges, IsPartition, moved}
 use Rattle.gh_cc.specs.Uses.{one_if}
 use Rattle.gh_base.proofs.ListLemmas.{get_within, get_push, get_last, get_some, get_take, get_set_same, get_set_other}
-
--- the term of a number
-abbrev pub term : ℕ → Term
-term n = record { 0 = n }
 
 pub slice_get-contains : {X : Type 0} (xs : List X) (i : ℕ) (x : X) → slice_get xs i ≡ Some x → Contains xs x
 slice_get-contains xs i x at = (i, get_within xs i x at, get_or_from_slice_get xs i x x at)

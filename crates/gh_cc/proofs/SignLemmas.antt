@@ -5,7 +5,7 @@ use Rattle.std.specs.Prelude.{slice_get, slice_set}
 use Rattle.std.proofs.lemmas.Bool.{cases_eq, eq-eqb}
 use Rattle.std.proofs.lemmas.Bool.Decides.{eqb_tells}
 use Rattle.std.proofs.lemmas.List.{length_push}
-use Rattle.gh_cc.specs.declared.signs.Entry.{Entry}
+use Rattle.gh_cc.specs.declared.signs.SignEntry.{SignEntry}
 use Rattle.gh_cc.specs.Signs.{find_lit, free_places, AreSigns}
 use Rattle.gh_base.proofs.ListLemmas.{get_within, get_front, get_push, get_last, get_some, get_set_same, get_set_other}
 
@@ -45,7 +45,7 @@ cond_no true x y e = cc
 cond_no false x y e = refl
 
 -- what is found is an entry
-pub find_sound : (entries : List Entry) (number lit : ℕ) → find_lit entries number ≡ Some lit
+pub find_sound : (entries : List SignEntry) (number lit : ℕ) → find_lit entries number ≡ Some lit
     → (i : ℕ) × (slice_get entries i ≡ Some (record { number = number; lit = lit }))
 find_sound [] number lit e = cc
 find_sound (x ∷ xs) number lit e =
@@ -55,21 +55,21 @@ find_sound (x ∷ xs) number lit e =
           let same : Some x.lit ≡ Some lit = sym (cond_yes _ (Some x.lit) (find_lit xs number) h.0) ∙ e in
           let lits : x.lit ≡ lit = cc in
           let numbers : x.number ≡ number = h.1 in
-          (0, ap (λ (y : Entry). Some y) (λ i. record { number = numbers i; lit = lits i }))
+          (0, ap (λ (y : SignEntry). Some y) (λ i. record { number = numbers i; lit = lits i }))
       | inr h ↦
           let rest = find_sound xs number lit (sym (cond_no _ (Some x.lit) (find_lit xs number) h.0) ∙ e) in
           (suc rest.0, rest.1)
     ]
 
 -- an entry's number is found
-pub find_some : (entries : List Entry) (i : ℕ) (e : Entry) → slice_get entries i ≡ Some e
+pub find_some : (entries : List SignEntry) (i : ℕ) (e : SignEntry) → slice_get entries i ≡ Some e
     → (lit : ℕ) × (find_lit entries e.number ≡ Some lit)
 find_some [] i e at = cc
 find_some (x ∷ xs) zero e at =
     let here : x ≡ e = cc in (
       x.lit,
       cond_yes _ (Some x.lit) (find_lit xs e.number)
-          (eq-eqb x.number e.number (ap (λ (y : Entry). y.number) here)),
+          (eq-eqb x.number e.number (ap (λ (y : SignEntry). y.number) here)),
     )
 find_some (x ∷ xs) (suc i) e at =
     let rest = find_some xs i e at in
@@ -79,7 +79,7 @@ find_some (x ∷ xs) (suc i) e at =
     ]
 
 -- what the table has is what is found
-pub table_is : (table : List (Option ℕ)) (entries : List Entry) (room n : ℕ) (o : Option ℕ)
+pub table_is : (table : List (Option ℕ)) (entries : List SignEntry) (room n : ℕ) (o : Option ℕ)
     → AreSigns table entries room → slice_get table n ≡ Some o → o ≡ find_lit entries n
 table_is table entries room n None s at = none_is (find_lit entries n) refl where
   none_is : (f : Option ℕ) → find_lit entries n ≡ f → None ≡ f
@@ -94,26 +94,26 @@ table_is table entries room n (Some lit) s at =
     sym (f.1 ∙ ap (λ (x : ℕ). Some x) same)
 
 -- nothing is found where the table has nothing
-pub table_free : (table : List (Option ℕ)) (entries : List Entry) (room n : ℕ) → AreSigns table entries room
+pub table_free : (table : List (Option ℕ)) (entries : List SignEntry) (room n : ℕ) → AreSigns table entries room
     → n < length table → find_lit entries n ≡ None → slice_get table n ≡ Some None
 table_free table entries room n s h none =
     let r = get_some table n h in
     let is = table_is table entries room n r.0 s r.1 in
     r.1 ∙ ap (λ (x : Option ℕ). Some x) (is ∙ none)
 
-pub signs_more : (table : List (Option ℕ)) (entries : List Entry) (room : ℕ) (y : Entry) → AreSigns table entries room
+pub signs_more : (table : List (Option ℕ)) (entries : List SignEntry) (room : ℕ) (y : SignEntry) → AreSigns table entries room
     → y.number < length table → find_lit entries y.number ≡ None
     → AreSigns (slice_set table y.number (Some y.lit)) (entries ++ y ∷ []) room
 signs_more table entries room y s h none =
     let free = table_free table entries room y.number s h none in
-    let other : (i : ℕ) (x : Entry) → slice_get entries i ≡ Some x → x.number ≢ y.number = λ i x at e.
+    let other : (i : ℕ) (x : SignEntry) → slice_get entries i ≡ Some x → x.number ≢ y.number = λ i x at e.
     let there : slice_get table y.number ≡ Some (Some x.lit) =
     subst (λ n. slice_get table n ≡ Some (Some x.lit)) e (s.on i x at) in cc in
     let now = slice_set table y.number (Some y.lit) in
     record {
       on = λ i x at. elim (get_push entries y i x at) as (λ _. slice_get now x.number ≡ Some (Some x.lit)) [
         | inl old ↦ get_set_other table y.number x.number (Some y.lit) (other i x old) ∙ s.on i x old
-        | inr new ↦ subst (λ (z : Entry). slice_get now z.number ≡ Some (Some z.lit)) new.1
+        | inr new ↦ subst (λ (z : SignEntry). slice_get now z.number ≡ Some (Some z.lit)) new.1
             (get_set_same table y.number (Some y.lit) h)
       ];
       back = λ n lit at.
@@ -126,7 +126,7 @@ signs_more table entries room y s h none =
                 let numbers : y.number ≡ n = sym e in (
                   length entries,
                   get_last entries y
-                      ∙ ap (λ (z : Entry). Some z) (λ i. record { number = numbers i; lit = p i }),
+                      ∙ ap (λ (z : SignEntry). Some z) (λ i. record { number = numbers i; lit = p i }),
                 )
             | inr ne ↦
                 let w = s.back n lit (sym (get_set_other table y.number n (Some y.lit) ne) ∙ at) in
@@ -135,10 +135,10 @@ signs_more table entries room y s h none =
       apart = λ i x j z at at' e. elim (get_push entries y i x at) as (λ _. i ≡ j) [
         | inl old ↦ elim (get_push entries y j z at') as (λ _. i ≡ j) [
           | inl old' ↦ s.apart i x j z old old' e
-          | inr new' ↦ absurd (other i x old (e ∙ ap (λ (t : Entry). t.number) (sym new'.1)))
+          | inr new' ↦ absurd (other i x old (e ∙ ap (λ (t : SignEntry). t.number) (sym new'.1)))
         ]
         | inr new ↦ elim (get_push entries y j z at') as (λ _. i ≡ j) [
-          | inl old' ↦ absurd (other j z old' (sym e ∙ ap (λ (t : Entry). t.number) (sym new.1)))
+          | inl old' ↦ absurd (other j z old' (sym e ∙ ap (λ (t : SignEntry). t.number) (sym new.1)))
           | inr new' ↦ new.0 ∙ sym new'.0
         ]
       ];
@@ -154,12 +154,12 @@ signs_more table entries room y s h none =
     }
 
 -- the last entry leaves
-pub signs_less : (table : List (Option ℕ)) (entries : List Entry) (room : ℕ) (y : Entry)
+pub signs_less : (table : List (Option ℕ)) (entries : List SignEntry) (room : ℕ) (y : SignEntry)
     → AreSigns table (entries ++ y ∷ []) room → AreSigns (slice_set table y.number None) entries room
 signs_less table entries room y s =
     let last = s.on (length entries) y (get_last entries y) in
     let here = get_within table y.number (Some y.lit) last in
-    let away : (i : ℕ) (x : Entry) → slice_get entries i ≡ Some x → x.number ≢ y.number = λ i x at e.
+    let away : (i : ℕ) (x : SignEntry) → slice_get entries i ≡ Some x → x.number ≢ y.number = λ i x at e.
     let same = s.apart i x (length entries) y (get_front entries (y ∷ []) i x at) (get_last entries y) e in
     let lt = get_within entries i x at in absurd (omega arith) in
     let now = slice_set table y.number None in
@@ -178,7 +178,7 @@ signs_less table entries room y s =
                 elim (get_push entries y w.0 (record { number = n; lit = lit }) w.1) as (λ _. (i : ℕ)
                 × (slice_get entries i ≡ Some (record { number = n; lit = lit }))) [
                   | inl old ↦ (w.0, old)
-                  | inr new ↦ absurd (ne (ap (λ (t : Entry). t.number) (sym new.1)))
+                  | inr new ↦ absurd (ne (ap (λ (t : SignEntry). t.number) (sym new.1)))
                 ]
           ];
       apart = λ i x j z at at' e. s.apart i x j z (get_front entries (y ∷ []) i x at)

@@ -10,20 +10,20 @@ use Rattle.gh_base.specs.declared.atom.Term.{Term}
 use Rattle.gh_base.specs.declared.atom.Atom.TheVariants.{Eq}
 use Rattle.gh_base.specs.declared.atom.Lit.{Lit}
 use Rattle.gh_base.specs.declared.sizes.Sizes.{Sizes}
-use Rattle.gh_base.specs.Atoms.{IsInRange, AreInRange}
-use Rattle.gh_cc.specs.declared.moving.Standing.{Standing}
+use Rattle.gh_base.specs.Atoms.{IsInRange, AreInRange, term}
+use Rattle.gh_cc.specs.declared.moving.IndexedLits.{IndexedLits}
 use Rattle.gh_cc.specs.declared.partition.Link.{Link}
-use Rattle.gh_cc.specs.declared.signs.Entry.{Entry}
+use Rattle.gh_cc.specs.declared.signs.SignEntry.{SignEntry}
 use Rattle.gh_cc.specs.Partitions.{Merged, rep, relabel, equality_of}
 use Rattle.gh_cc.specs.Signs.{Filed}
 use Rattle.gh_cc.specs.Uses.{AreEnds, JoinsLighter}
 use Rattle.gh_cc.specs.Asserted.{equality}
 use Rattle.gh_cc.specs.Kept.{normal, reps, IsEntry, IsFiled, AllFiled, AreTied, Grows, LinksMore}
 use Rattle.gh_base.proofs.ListLemmas.{get_front, get_last}
-use Rattle.gh_cc.proofs.PartitionLemmas.{term, rep_own, rep_more, rep_joins, relabel_same, merges_more}
+use Rattle.gh_cc.proofs.PartitionLemmas.{rep_own, rep_more, rep_joins, relabel_same, merges_more}
 use Rattle.gh_cc.proofs.FilingLemmas.{normal_coarser, filed_along, grows_find}
 
-pub entry_front : (s : Sizes) (r : ℕ → ℕ) (lits more : List Lit) (e : Entry) → IsEntry s r lits e
+pub entry_front : (s : Sizes) (r : ℕ → ℕ) (lits more : List Lit) (e : SignEntry) → IsEntry s r lits e
     → IsEntry s r (lits ++ more) e
 entry_front s r lits more e h = record {
   lit = h.lit;
@@ -128,7 +128,7 @@ tied_merge s lits p f k a b t inside ends apart =
     let below = ends_range k a b s.terms ends (omega (arith, inside.0, inside.1)) inside.1 in
     let l = equality a b in
     let now = p.links ++ k ∷ [] in
-    let turn : (e : Entry) → IsEntry s (reps p.links) lits e → IsEntry s (reps now) (lits ++ l ∷ []) e = λ e h. record {
+    let turn : (e : SignEntry) → IsEntry s (reps p.links) lits e → IsEntry s (reps now) (lits ++ l ∷ []) e = λ e h. record {
       lit = h.lit;
       atom = h.atom;
       there = get_front lits (l ∷ []) e.lit h.lit h.there;
@@ -208,7 +208,7 @@ taken_more s lits place p f t long all joins =
     subst (λ (ls : List Lit). AreTied s ls p f) (front_last lits place no_lit long)
     (tied_more s (take place lits) p f (last_of lits place) t (last_range s lits place all long) joins)
 
-pub taken_merge : (a : Standing) (place : ℕ) (p now : Merged) (f : Filed) (x y : Term) (rep_x rep_y : ℕ)
+pub taken_merge : (a : IndexedLits) (place : ℕ) (p now : Merged) (f : Filed) (x y : Term) (rep_x rep_y : ℕ)
     → AreTied a.sizes (take place a.lits.now) p f → length a.lits.now ≡ place + 1 → AreInRange a.sizes a.lits.now
     → last_of a.lits.now place ≡ equality x y → rep_x ≡ reps p.links x.0 → rep_y ≡ reps p.links y.0 → rep_x ≢ rep_y
     → JoinsLighter a.uses.now.list p now x y → AreTied a.sizes a.lits.now now f

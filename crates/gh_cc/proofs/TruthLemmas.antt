@@ -4,7 +4,6 @@ use Rattle.std.proofs.Common.{Some, None, refl, sym, ap, ◌∙◌, subst, arith
 use Rattle.std.specs.Prelude.{slice_get, Contains}
 use Rattle.std.proofs.lemmas.Bool.{eq-eqb, ne_eqb, eqb-true}
 use Rattle.std.proofs.lemmas.List.Elements.{All-contains}
-use Rattle.gh_base.specs.declared.atom.Term.{Term}
 use Rattle.gh_base.specs.declared.atom.Atom.{Atom}
 use Rattle.gh_base.specs.declared.atom.Atom.TheVariants.{Eq, Btwn, Hop, Alloc, Def}
 use Rattle.gh_base.specs.declared.atom.Lit.{Lit}
@@ -13,10 +12,10 @@ use Rattle.gh_base.specs.Atoms.{IsInRange, AreInRange, number_of}
 use Rattle.gh_base.specs.Meaning.{Interpretation, IsLitTrue, atom_truth, lit_truth, under}
 use Rattle.gh_base.proofs.NumberLemmas.{apart}
 use Rattle.gh_cc.specs.declared.partition.Link.{Link}
-use Rattle.gh_cc.specs.declared.signs.Entry.{Entry}
+use Rattle.gh_cc.specs.declared.signs.SignEntry.{SignEntry}
 use Rattle.gh_cc.specs.Partitions.{equality_of}
 use Rattle.gh_cc.specs.Signs.{find_lit}
-use Rattle.gh_cc.specs.Asserted.{Asserted, EqualitiesHold, HasTruth, IsConsistent, HasNoTruth}
+use Rattle.gh_cc.specs.Asserted.{EqualitiesHold, HasTruth, IsConsistent, HasNoTruth}
 use Rattle.gh_cc.specs.Asserted.{equality}
 use Rattle.gh_cc.specs.Kept.{normal, reps, IsState, IsEntry, IsRelation, IsFiledAs, HasSign, AllFiled, IsClash, Core}
 use Rattle.gh_cc.specs.Kept.{IsKept}
@@ -35,7 +34,7 @@ equalities_hold m lits all a b there =
     eqb-true (m.class a.0) (m.class b.0) (All-contains (IsLitTrue m) lits (equality a b) all there)
 
 -- representatives of terms are terms
-reps_below : (s : Sizes) (lits : List Lit) (links : List Link) (entries : List Entry) (t : ℕ)
+reps_below : (s : Sizes) (lits : List Lit) (links : List Link) (entries : List SignEntry) (t : ℕ)
     → IsState s lits links entries → AreInRange s lits → t < s.terms → reps links t < s.terms
 reps_below s lits links entries t h range below =
     let ends : (i : ℕ) (l : Link) → slice_get links i ≡ Some l → l.to.0 < s.terms = λ i l at.
@@ -51,7 +50,7 @@ truth_under false true e = cc
 truth_under false false e = refl
 
 -- an atom has the truth of the literal that is filed under its key
-pub filed_truth : (s : Sizes) (lits : List Lit) (links : List Link) (entries : List Entry) (atom : Atom) (place : ℕ)
+pub filed_truth : (s : Sizes) (lits : List Lit) (links : List Link) (entries : List SignEntry) (atom : Atom) (place : ℕ)
     (l : Lit) → IsState s lits links entries → AreInRange s lits → IsInRange s atom
     → find_lit entries (number_of s (normal (reps links) atom)) ≡ Some place → slice_get lits place ≡ Some l
     → HasTruth (record { sizes = s; lits = lits }) atom l.positive
@@ -77,15 +76,15 @@ filed_truth s lits links entries atom place l h range inside found at m congruen
     truths ∙ truth_under e.lit.positive (atom_truth m e.lit.atom) yes ∙ ap (λ (k : Lit). k.positive) one
 
 -- an atom whose key has no entry has both truths somewhere
-abbrev signs_but : Sizes → List Lit → List Entry → ℕ → Bool → Atom → Bool
+abbrev signs_but : Sizes → List Lit → List SignEntry → ℕ → Bool → Atom → Bool
 signs_but s lits entries n t a = cond (eqb (number_of s a) n) t (signs_in s lits entries a)
 
-but_here : (s : Sizes) (lits : List Lit) (entries : List Entry) (t : Bool) (a : Atom)
+but_here : (s : Sizes) (lits : List Lit) (entries : List SignEntry) (t : Bool) (a : Atom)
     → signs_but s lits entries (number_of s a) t a ≡ t
 but_here s lits entries t a =
     ap (λ (b : Bool). cond b t (signs_in s lits entries a)) (eq-eqb (number_of s a) (number_of s a) refl)
 
-but_found : (s : Sizes) (lits : List Lit) (entries : List Entry) (n : ℕ) (t : Bool) (a : Atom) (p : Bool)
+but_found : (s : Sizes) (lits : List Lit) (entries : List SignEntry) (n : ℕ) (t : Bool) (a : Atom) (p : Bool)
     → find_lit entries n ≡ None → HasSign lits entries (number_of s a) p → signs_but s lits entries n t a ≡ p
 but_found s lits entries n t a p none h =
     let apart : number_of s a ≢ n = λ e. let found : find_lit entries n ≡ Some h.place = ap (find_lit entries) (sym e)
@@ -93,7 +92,7 @@ but_found s lits entries n t a p none h =
     ap (λ (b : Bool). cond b t (signs_in s lits entries a)) (ne_eqb (number_of s a) n apart)
     ∙ sign_found s lits entries a p h
 
-but_agrees : (s : Sizes) (r : ℕ → ℕ) (lits : List Lit) (entries : List Entry) (n : ℕ) (t : Bool) (a : Atom) (p : Bool)
+but_agrees : (s : Sizes) (r : ℕ → ℕ) (lits : List Lit) (entries : List SignEntry) (n : ℕ) (t : Bool) (a : Atom) (p : Bool)
     → find_lit entries n ≡ None → IsFiledAs s r lits entries a p
     → Agrees r (signs_but s lits entries n t) a p
 but_agrees s r lits entries n t (Eq a b) true none h = h
@@ -116,7 +115,7 @@ not_opposite : (t : Bool) → not t ≡ t → ⊥
 not_opposite true e = cc
 not_opposite false e = cc
 
-pub unfiled_open : (s : Sizes) (lits : List Lit) (links : List Link) (entries : List Entry) (atom : Atom)
+pub unfiled_open : (s : Sizes) (lits : List Lit) (links : List Link) (entries : List SignEntry) (atom : Atom)
     → IsRelation atom → AllFiled s lits links entries → find_lit entries (number_of s (normal (reps links) atom)) ≡ None
     → (t : Bool) → HasTruth (record { sizes = s; lits = lits }) atom t → ⊥
 unfiled_open s lits links entries atom relation all none t given =
@@ -139,7 +138,7 @@ both_true false true true e f = cc
 both_true false true false e f = cc
 
 -- literals with a clash aren't consistent
-pub clash_inconsistent : (s : Sizes) (lits : List Lit) (links : List Link) (entries : List Entry) (clash : Clash)
+pub clash_inconsistent : (s : Sizes) (lits : List Lit) (links : List Link) (entries : List SignEntry) (clash : Clash)
     → IsState s lits links entries → AreInRange s lits → IsClash (reps links) lits clash → IsConsistent s lits → ⊥
 clash_inconsistent s lits links entries (Unequal place) h range w c =
     let m = c.0 in

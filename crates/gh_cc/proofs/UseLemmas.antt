@@ -9,7 +9,7 @@ use Rattle.gh_base.specs.declared.atom.Term.{Term}
 use Rattle.gh_cc.specs.declared.uses.Mention.{Mention}
 use Rattle.gh_cc.specs.Uses.{terms_of, IsLast, AreUses}
 use Rattle.gh_base.proofs.ListLemmas.{get_within, get_front, get_push, get_last, get_set_same, get_set_other}
-use Rattle.gh_cc.proofs.PartitionLemmas.{term}
+use Rattle.gh_base.specs.Atoms.{term}
 
 pub terms_push : (ms : List Mention) (m : Mention) → terms_of (ms ++ m ∷ []) ≡ terms_of ms ++ m.term ∷ []
 terms_push [] m = refl

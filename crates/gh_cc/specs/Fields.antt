@@ -2,7 +2,7 @@
 use Rattle.std.specs.Prelude.{ℕ, ◌≡◌, ◌≤◌, ◌*◌, vec_capacity}
 use Rattle.gh_base.specs.Atoms.{count_of}
 use Rattle.gh_cc.specs.declared.classes.Classes.TheInside.{Inside}
-use Rattle.gh_cc.specs.Kept.{Core, IsKept}
+use Rattle.gh_cc.specs.Kept.{Core}
 use Rattle.gh_cc.specs.Uses.{all_mentions}
 
 -- what the classes say, without the rooms and the mentions

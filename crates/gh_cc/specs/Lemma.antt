@@ -30,17 +30,18 @@ pub record Opposes (s : Sizes) (links : List Link) (other l : Lit) : Type 0 wher
 abbrev pub IsOpposed : Sizes → List Link → List Lit → Lit → Type 0
 IsOpposed s links lits l = (other : Lit) × Contains lits other × Opposes s links other l
 
--- an equality of terms of one class, or a literal that is opposed
-abbrev pub IsSettled : Sizes → List Link → List Lit → Lit → Type 0
-IsSettled s links lits l =
+-- a literal that is true where the negations of the others are: an equality of terms of one class, or one that is
+-- opposed
+abbrev pub IsDerived : Sizes → List Link → List Lit → Lit → Type 0
+IsDerived s links lits l =
     ((a : Term) × (b : Term) × (l ≡ equality a b) × (reps links a.0 ≡ reps links b.0))
     ⊎ (IsRelation l.atom × IsOpposed s links lits l)
 
--- some literal is settled
-pub record HasSettled (s : Sizes) (links : List Link) (lits : List Lit) : Type 0 where
+-- some literal is
+pub record HasDerived (s : Sizes) (links : List Link) (lits : List Lit) : Type 0 where
   pub lit : Lit
   pub there : Contains lits lit
-  pub settled : IsSettled s links lits lit
+  pub derived : IsDerived s links lits lit
 
 -- some literal of this sign has the key: the number of its atom with representatives in the places of terms
 pub record HasKey (s : Sizes) (links : List Link) (lits : List Lit) (sign : Bool) (key : ℕ) : Type 0 where

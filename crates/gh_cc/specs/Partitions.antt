@@ -1,10 +1,10 @@
 -- Classes of terms that are merged one link after another.
-use Rattle.std.specs.Prelude.{◌≡◌, ◌≢◌, ◌<◌, ◌≤◌, ◌++◌, ℕ, zero, suc, List, true, false, All, Contains, Some, length}
-use Rattle.std.specs.Prelude.{slice_get, slice_index_or, nat_eq, if◌then◌else◌, min, max}
+use Rattle.std.specs.Prelude.{◌≡◌, ◌≢◌, ◌<◌, ◌≤◌, ◌++◌, ℕ, zero, suc, List, false, All, Contains, Some, length}
+use Rattle.std.specs.Prelude.{slice_get, slice_index_or, nat_eq, if◌then◌else◌}
 use Rattle.gh_base.specs.declared.atom.Term.{Term}
-use Rattle.gh_base.specs.declared.atom.Atom.TheVariants.{Eq}
 use Rattle.gh_base.specs.declared.atom.Lit.{Lit}
 use Rattle.gh_base.specs.Meaning.{Interpretation, lit_truth}
+use Rattle.gh_base.specs.Atoms.{positive, negative, equation}
 use Rattle.gh_cc.specs.declared.partition.Link.{Link}
 
 -- what callers see of a `Partition`: how many terms there are, and the links that merged classes, in order
@@ -40,12 +40,10 @@ AreMerges terms links =
 
 -- the equality that a link rests on
 abbrev pub equality_of : Link → Lit
-equality_of l =
-    record { atom = Eq (record { 0 = min l.from.0 l.to.0 }) (record { 0 = max l.from.0 l.to.0 }); positive = true }
+equality_of l = positive (equation l.from l.to)
 
 abbrev pub disequality_of : Link → Lit
-disequality_of l =
-    record { atom = Eq (record { 0 = min l.from.0 l.to.0 }) (record { 0 = max l.from.0 l.to.0 }); positive = false }
+disequality_of l = negative (equation l.from l.to)
 
 -- the added literals negate equalities of links, and where all added ones are false the two terms have one class
 pub record Explains (links : List Link) (a b : Term) (added : List Lit) : Type 0 where

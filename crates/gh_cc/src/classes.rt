@@ -8,7 +8,7 @@ ghost use Rattle.gh_cc.specs.Asserted.{IsFree, AreEqual, HasTruth, HasNoTruth, I
 
 use crate::clash::Clash;
 use crate::filing::{key, take_in};
-use crate::moving::{Standing, mention};
+use crate::moving::{IndexedLits, mention};
 use crate::partition::Partition;
 use crate::refuting::refutation;
 use crate::signs::Signs;
@@ -132,14 +132,14 @@ impl Classes {
         });
         self.lits.push_reserved(lit);
         mention(self.sizes, &mut self.uses, lit.atom);
-        let standing = Standing {
+        let indexed = IndexedLits {
             sizes: self.sizes,
             lits: self.lits.as_slice(),
             uses: &self.uses,
         };
         let clashed = self.clash.is_some();
         let found = take_in(
-            &standing,
+            &indexed,
             &mut self.partition,
             &mut self.signs,
             place,

@@ -9,7 +9,7 @@ ghost use Rattle.gh_cc.specs.Kept.{AreTied, Grows, LinksMore, IsClash, normal, r
 ghost use Rattle.gh_cc.specs.Kept.{IsFiledAt, Files};
 
 use crate::clash::Clash;
-use crate::moving::{Standing, merge_lighter, refile_moved};
+use crate::moving::{IndexedLits, merge_lighter, refile_moved};
 use crate::partition::Partition;
 use crate::signs::Signs;
 use gh_base::atom::{Atom, Lit, Term};
@@ -103,40 +103,40 @@ pub(crate) fn equal_terms(lit: Lit) -> Option<(Term, Term)>
 
 // Takes in the last literal, and finds the clash that it brings. Once there is a clash, only classes are kept.
 pub(crate) fn take_in(
-    standing: &Standing,
+    indexed: &IndexedLits,
     partition: &mut Partition,
     signs: &mut Signs,
     place: u32,
     clashed: bool,
 ) -> Option<Clash>
-    requires tied { AreTied standing.now.sizes (take place standing.now.lits.now) partition.old signs.old }
-    requires last { length standing.now.lits.now ≡ place + 1 }
-    requires in_range { AreInRange standing.now.sizes standing.now.lits.now }
-    requires uses { standing.now.uses.now.list ≡ all_mentions standing.now.lits.now }
-    requires mentioned { standing.now.uses.now.terms ≡ standing.now.sizes.terms }
-    ensures tied { AreTied standing.now.sizes standing.now.lits.now partition.new signs.new }
+    requires tied { AreTied indexed.now.sizes (take place indexed.now.lits.now) partition.old signs.old }
+    requires last { length indexed.now.lits.now ≡ place + 1 }
+    requires in_range { AreInRange indexed.now.sizes indexed.now.lits.now }
+    requires uses { indexed.now.uses.now.list ≡ all_mentions indexed.now.lits.now }
+    requires mentioned { indexed.now.uses.now.terms ≡ indexed.now.sizes.terms }
+    ensures tied { AreTied indexed.now.sizes indexed.now.lits.now partition.new signs.new }
     ensures links { LinksMore partition.old partition.new }
     ensures grows { Grows signs.old signs.new }
-    ensures filed { IfNone result (Files clashed standing.now place partition.old partition.new signs.old signs.new) }
-    ensures clash { IfSome result (λ c. IsClash (reps partition.new.links) standing.now.lits.now c) }
+    ensures filed { IfNone result (Files clashed indexed.now place partition.old partition.new signs.old signs.new) }
+    ensures clash { IfSome result (λ c. IsClash (reps partition.new.links) indexed.now.lits.now c) }
 {
-    let lit = standing.lits[place as usize];
+    let lit = indexed.lits[place as usize];
     match equal_terms(lit) {
         Some((a, b)) => {
             if partition.rep(a).0 == partition.rep(b).0 {
                 return None;
             }
-            merge_lighter(standing.sizes, partition, standing.uses, a, b);
+            merge_lighter(indexed.sizes, partition, indexed.uses, a, b);
             if clashed {
                 return None;
             }
-            refile_moved(standing, partition, signs)
+            refile_moved(indexed, partition, signs)
         }
         None => {
             if clashed {
                 return None;
             }
-            file(standing.sizes, standing.lits, partition, signs, place)
+            file(indexed.sizes, indexed.lits, partition, signs, place)
         }
     }
 }

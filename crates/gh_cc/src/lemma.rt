@@ -2,7 +2,7 @@
 
 ghost use Rattle.std.specs.Prelude.{◌≡◌, ◌<◌, ◌↔◌, [], IfOk, IsTrue};
 ghost use Rattle.gh_base.specs.Atoms.{IsInRange, AreInRange};
-ghost use Rattle.gh_cc.specs.Lemma.{Tells, IsKeyed, IsSettled, HasSettled, AreNegatedClasses, IsLemmaOver, TellsJoin};
+ghost use Rattle.gh_cc.specs.Lemma.{Tells, IsKeyed, IsDerived, HasDerived, AreNegatedClasses, IsLemmaOver, TellsJoin};
 
 use crate::filing::equal_terms;
 use crate::keys::{Keyed, is_opposed, with_keys};
@@ -48,11 +48,11 @@ fn join_negated(sizes: Sizes, lits: &[Lit], partition: &mut Partition)
 }
 
 // Whether a literal is true where the negations of the others are.
-fn is_settled(sizes: Sizes, keyed: &Keyed, partition: &Partition, lit: Lit) -> bool
+fn is_derived(sizes: Sizes, keyed: &Keyed, partition: &Partition, lit: Lit) -> bool
     requires keyed { IsKeyed sizes partition.now.links keyed.now }
     requires lit { IsInRange sizes lit.atom }
     requires terms { partition.now.terms ≡ sizes.terms }
-    ensures { Tells result (IsSettled sizes partition.now.links keyed.now.lits.now lit) }
+    ensures { Tells result (IsDerived sizes partition.now.links keyed.now.lits.now lit) }
 {
     match equal_terms(lit) {
         Some((a, b)) => partition.rep(a).0 == partition.rep(b).0,
@@ -64,14 +64,14 @@ fn is_settled(sizes: Sizes, keyed: &Keyed, partition: &Partition, lit: Lit) -> b
 }
 
 // Whether some literal is true where the negations of the others are.
-fn any_settled(sizes: Sizes, keyed: &Keyed, partition: &Partition) -> bool
+fn any_derived(sizes: Sizes, keyed: &Keyed, partition: &Partition) -> bool
     requires keyed { IsKeyed sizes partition.now.links keyed.now }
     requires in_range { AreInRange sizes keyed.now.lits.now }
     requires terms { partition.now.terms ≡ sizes.terms }
-    ensures { Tells result (HasSettled sizes partition.now.links keyed.now.lits.now) }
+    ensures { Tells result (HasDerived sizes partition.now.links keyed.now.lits.now) }
 {
     for l in keyed.lits {
-        if is_settled(sizes, keyed, partition, *l) {
+        if is_derived(sizes, keyed, partition, *l) {
             return true;
         }
     }
@@ -101,5 +101,5 @@ pub fn is_lemma(
     let mut partition = Partition::new(alloc, terms)?;
     join_negated(sizes, lits, &mut partition);
     let keyed = with_keys(alloc, sizes, lits, &partition)?;
-    Ok(any_settled(sizes, &keyed, &partition))
+    Ok(any_derived(sizes, &keyed, &partition))
 }

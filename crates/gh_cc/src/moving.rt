@@ -14,9 +14,9 @@ use crate::uses::Uses;
 use gh_base::atom::{Atom, Lit, Term};
 use gh_base::sizes::Sizes;
 
-// The literals that stand asserted, and their mentions of terms.
+// The literals that stand asserted, with an index of those that mention a term.
 #[derive(Drop)]
-pub(crate) struct Standing<'a> {
+pub(crate) struct IndexedLits<'a> {
     pub sizes: Sizes,
     pub lits: &'a [Lit],
     pub uses: &'a Uses,
@@ -86,48 +86,48 @@ pub(crate) fn merge_lighter(sizes: Sizes, partition: &mut Partition, uses: &Uses
 
 // Files each literal that mentions a term, up to the first clash.
 fn refile_term(
-    standing: &Standing,
+    indexed: &IndexedLits,
     partition: &Partition,
     signs: &mut Signs,
     term: Term,
 ) -> Option<Clash>
-    requires tied { AreTied standing.now.sizes standing.now.lits.now partition.now signs.old }
-    requires uses { standing.now.uses.now.list ≡ all_mentions standing.now.lits.now }
-    requires term { term.0 < standing.now.uses.now.terms }
-    ensures tied { AreTied standing.now.sizes standing.now.lits.now partition.now signs.new }
+    requires tied { AreTied indexed.now.sizes indexed.now.lits.now partition.now signs.old }
+    requires uses { indexed.now.uses.now.list ≡ all_mentions indexed.now.lits.now }
+    requires term { term.0 < indexed.now.uses.now.terms }
+    ensures tied { AreTied indexed.now.sizes indexed.now.lits.now partition.now signs.new }
     ensures grows { Grows signs.old signs.new }
-    ensures filed { IfNone result (AreFiledOf standing.now partition.now.links signs.new.entries term) }
-    ensures clash { IfSome result (λ c. IsClash (reps partition.now.links) standing.now.lits.now c) }
+    ensures filed { IfNone result (AreFiledOf indexed.now partition.now.links signs.new.entries term) }
+    ensures clash { IfSome result (λ c. IsClash (reps partition.now.links) indexed.now.lits.now c) }
 {
-    let mut next = standing.uses.last(term);
+    let mut next = indexed.uses.last(term);
     while next > 0 {
         let place = next - 1;
-        if let Some(clash) = file(standing.sizes, standing.lits, partition, signs, place / 3) {
+        if let Some(clash) = file(indexed.sizes, indexed.lits, partition, signs, place / 3) {
             return Some(clash);
         }
-        next = standing.uses.before(place, term);
+        next = indexed.uses.before(place, term);
     }
     None
 }
 
 // Files each literal that mentions a term which the last merge moved, up to the first clash.
 pub(crate) fn refile_moved(
-    standing: &Standing,
+    indexed: &IndexedLits,
     partition: &Partition,
     signs: &mut Signs,
 ) -> Option<Clash>
-    requires tied { AreTied standing.now.sizes standing.now.lits.now partition.now signs.old }
-    requires uses { standing.now.uses.now.list ≡ all_mentions standing.now.lits.now }
-    requires terms { standing.now.uses.now.terms ≡ standing.now.sizes.terms }
+    requires tied { AreTied indexed.now.sizes indexed.now.lits.now partition.now signs.old }
+    requires uses { indexed.now.uses.now.list ≡ all_mentions indexed.now.lits.now }
+    requires terms { indexed.now.uses.now.terms ≡ indexed.now.sizes.terms }
     requires merged { 0 < length partition.now.links }
-    ensures tied { AreTied standing.now.sizes standing.now.lits.now partition.now signs.new }
+    ensures tied { AreTied indexed.now.sizes indexed.now.lits.now partition.now signs.new }
     ensures grows { Grows signs.old signs.new }
-    ensures filed { IfNone result (AreFiledMoved standing.now partition.now.links signs.new.entries) }
-    ensures clash { IfSome result (λ c. IsClash (reps partition.now.links) standing.now.lits.now c) }
+    ensures filed { IfNone result (AreFiledMoved indexed.now partition.now.links signs.new.entries) }
+    ensures clash { IfSome result (λ c. IsClash (reps partition.now.links) indexed.now.lits.now c) }
 {
-    for t in 0..standing.sizes.terms {
+    for t in 0..indexed.sizes.terms {
         if partition.is_moved(Term(t)) {
-            if let Some(clash) = refile_term(standing, partition, signs, Term(t)) {
+            if let Some(clash) = refile_term(indexed, partition, signs, Term(t)) {
                 return Some(clash);
             }
         }

@@ -8,7 +8,7 @@ use std::marker::Model;
 
 /// An atom's number, and the place of the literal that gave the atom its truth.
 #[derive(Clone, Copy, Debug, PartialEq, Eq)]
-pub struct Entry {
+pub struct SignEntry {
     pub number: u32,
     pub lit: u32,
 }
@@ -17,7 +17,7 @@ pub struct Entry {
 #[derive(Debug, Drop)]
 pub struct Signs {
     table: Vec<Option<u32>>,
-    entries: Vec<Entry>,
+    entries: Vec<SignEntry>,
 }
 
 impl Model for Signs {
@@ -46,7 +46,7 @@ fn empty_table(alloc: Global, count: usize) -> Result<Vec<Option<u32>>, AllocErr
 }
 
 // Takes the entries from a place on off, the last one first.
-fn erase(table: &mut Vec<Option<u32>>, entries: &mut Vec<Entry>, len: usize)
+fn erase(table: &mut Vec<Option<u32>>, entries: &mut Vec<SignEntry>, len: usize)
     requires { AreSigns table.old.items entries.old.items (vec_capacity entries.old) }
     ensures signs { AreSigns table.new.items entries.new.items (vec_capacity entries.new) }
     ensures entries { entries.new.items ≡ take len entries.old.items }
@@ -86,7 +86,7 @@ impl Signs {
         requires free { find_lit self.old.entries number ≡ None }
         ensures { self.new ≡ with_entry self.old number lit }
     {
-        self.entries.push_reserved(Entry {
+        self.entries.push_reserved(SignEntry {
             number: number as u32,
             lit,
         });

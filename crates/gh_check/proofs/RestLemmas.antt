@@ -8,8 +8,9 @@ use Rattle.gh_base.specs.declared.sizes.Sizes.{Sizes}
 use Rattle.gh_base.specs.Atoms.{opposite, IsInRange, AreInRange}
 use Rattle.gh_base.specs.Propagation.{Propagated, given, forced, FollowsByUnits}
 use Rattle.gh_base.specs.Hints.{HasAllButOne}
+use Rattle.gh_sat.specs.Theory.{IsRefutedBy}
 use Rattle.gh_check.specs.Kept.{present}
-use Rattle.gh_check.specs.Truths.{IsConsistent, IsFalseBy}
+use Rattle.gh_check.specs.Truths.{IsConsistent}
 use Rattle.gh_check.specs.Standing.{IsAtRest, AreAtRest, IsRefusedBy}
 use Rattle.gh_check.proofs.AssumingLemmas.{lit_cases}
 use Rattle.gh_check.proofs.TruthLemmas.{twice}
@@ -19,7 +20,7 @@ pub in_range : (s : Sizes) (clause : List Lit) (m : Lit) → AreInRange s clause
 in_range s clause m ranged in_c = All-contains (λ (x : Lit). IsInRange s x.atom) clause m ranged in_c
 
 -- two literals aren't false
-pub open_rests : (s : Sizes) (set clause : List Lit) → AreInRange s clause → (IsFalseBy set clause → ⊥) × ((l : Lit) → HasAllButOne set clause l → ⊥) → IsAtRest set clause
+pub open_rests : (s : Sizes) (set clause : List Lit) → AreInRange s clause → (IsRefutedBy set clause → ⊥) × ((l : Lit) → HasAllButOne set clause l → ⊥) → IsAtRest set clause
 open_rests s set clause ranged two = record {
   not_false = two.0;
   forced = λ l there rest. absurd (two.1 l (record {
@@ -100,7 +101,7 @@ all_there clauses set assumed base rests _ (given l there) = All-contains (Conta
 all_there clauses set assumed base rests _ (forced c l among there rest) =
     (All-contains (IsAtRest set) clauses c rests among).forced l there (λ m in_c ne. all_there clauses set assumed base rests (opposite m) (rest m in_c ne))
 
-pub never_follows : (clauses : List (List Lit)) (set lits : List Lit) → IsFalseBy set lits → IsConsistent set → All (IsAtRest set) clauses → FollowsByUnits clauses lits → ⊥
+pub never_follows : (clauses : List (List Lit)) (set lits : List Lit) → IsRefutedBy set lits → IsConsistent set → All (IsAtRest set) clauses → FollowsByUnits clauses lits → ⊥
 never_follows clauses set lits falses apart rests follows =
     let all = all_there clauses set (map opposite lits) (All-map (Contains set) opposite lits falses) rests in
     elim follows as (λ _. ⊥) [

@@ -16,19 +16,6 @@ use Rattle.gh_check.proofs.AssumingLemmas.{in_opposites}
 use Rattle.gh_check.proofs.TruthLemmas.{twice, first_or_other}
 use Rattle.gh_check.proofs.UnitsLemmas.{present_append}
 
--- false by one of two sets
-pub false_first : (fixed above : List Lit) (l : Lit) (b : Bool) → IsTrue b ↔ Contains fixed l → IsTrue b → IsTrue true ↔ Contains (fixed ++ above) l
-false_first fixed above l b exact t = ((λ _. Contains-append_left fixed above l (exact.0 t)), λ _. refl)
-
-pub false_second : (fixed above : List Lit) (l : Lit) (a b : Bool) → IsTrue a ↔ Contains fixed l → IsTrue b ↔ Contains above l → (IsTrue a → ⊥) → IsTrue b ↔ Contains (fixed ++ above) l
-false_second fixed above l a b one other fails = (
-  (λ t. Contains-append_right fixed above l (other.0 t)),
-  (λ w. elim (Contains-append_cases fixed above l w) as (λ _. IsTrue b) [
-    | inl q ↦ absurd (fails (one.1 q))
-    | inr q ↦ other.1 q
-  ]),
-)
-
 -- hints out of the clauses
 refuted_by : (clauses hints : List (List Lit)) (assumed set : List Lit) → All (Contains clauses) hints → IsRefutedByHints hints set
     → ((l : Lit) → Contains set l → Propagated clauses assumed l) → IsRefutedByUnits clauses assumed

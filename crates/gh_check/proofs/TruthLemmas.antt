@@ -2,7 +2,7 @@
 use Rattle.std.proofs.Common.{◌≡◌, ◌≢◌, ◌↔◌, ◌∙◌, ◌⊎◌, inl, inr, ◌+◌, ◌<◌, ◌≤◌, ℕ, zero, suc, List, [], ◌∷◌, ◌++◌, length, map, take, drop, get_or, Bool, true, false, not, Option, Some, None, All, IsTrue, refl, sym, ap, subst, arith, add-one, drop-cons, length-drop, take_all}
 use Rattle.std.specs.Prelude.{slice_index_or, unwrap_or, Contains, option_map}
 use Rattle.std.proofs.lemmas.List.{map-append, take_more, take-append-drop, drop_all}
-use Rattle.std.proofs.lemmas.List.Elements.{All-head, All-tail, All-push, All-contains, Contains-push, Contains-push_cases, Contains-append_left, Contains-get_or}
+use Rattle.std.proofs.lemmas.List.Elements.{All-head, All-tail, All-push, All-contains, Contains-push, Contains-push_cases, Contains-append_left, Contains-append_right, Contains-append_cases, Contains-get_or}
 use Rattle.std.proofs.lemmas.Bool.{cases_eq}
 use Rattle.gh_base.specs.declared.atom.Atom.{Atom}
 use Rattle.gh_base.specs.declared.atom.Lit.{Lit}
@@ -12,9 +12,10 @@ use Rattle.gh_base.specs.Meaning.{under}
 use Rattle.gh_base.specs.Assignments.{Partial, value_at, value_of, ChangesAtom}
 use Rattle.gh_base.specs.Hints.{HasAllButOne, IsRefutedByHints, refuted, joined, IsShownByHints}
 use Rattle.gh_base.proofs.NumberLemmas.{apart}
+use Rattle.gh_sat.specs.Theory.{IsRefutedBy}
 use Rattle.gh_sat.proofs.TrailLemmas.{same_lit}
 use Rattle.gh_check.specs.Kept.{Kept, clause_at, named, AreWithin}
-use Rattle.gh_check.specs.Truths.{IsValueIn, IsTable, IsConsistent, IsFalseBy}
+use Rattle.gh_check.specs.Truths.{IsValueIn, IsTable, IsConsistent}
 use Rattle.gh_check.proofs.AssumingLemmas.{lit_cases, in_opposites}
 
 not_twice : (b : Bool) → not (not b) ≡ b
@@ -61,6 +62,19 @@ told_some a set l false h r e =
 
 nothing_in : (l : Lit) → Contains [] l → ⊥
 nothing_in l w = absurd (omega (arith, w.1))
+
+-- false by one of two sets
+pub false_first : (fixed above : List Lit) (l : Lit) (b : Bool) → IsTrue b ↔ Contains fixed l → IsTrue b → IsTrue true ↔ Contains (fixed ++ above) l
+false_first fixed above l b exact t = ((λ _. Contains-append_left fixed above l (exact.0 t)), λ _. refl)
+
+pub false_second : (fixed above : List Lit) (l : Lit) (a b : Bool) → IsTrue a ↔ Contains fixed l → IsTrue b ↔ Contains above l → (IsTrue a → ⊥) → IsTrue b ↔ Contains (fixed ++ above) l
+false_second fixed above l a b one other fails = (
+  (λ t. Contains-append_right fixed above l (other.0 t)),
+  (λ w. elim (Contains-append_cases fixed above l w) as (λ _. IsTrue b) [
+    | inl q ↦ absurd (fails (one.1 q))
+    | inr q ↦ other.1 q
+  ]),
+)
 
 pub table_none : (a : Partial) → ((l : Lit) → IsInRange a.sizes l.atom → value_of a l ≡ None) → IsTable a []
 table_none a none =
@@ -187,7 +201,7 @@ one_open set clause l there missing all =
     }
 
 pub not_one_open : (s : Sizes) (set clause : List Lit) (l : Lit) → AreInRange s clause → Contains clause l → (Contains set (opposite l) → ⊥) → (All (λ m. (m ≡ l) ⊎ Contains set (opposite m)) clause → ⊥)
-    → (IsFalseBy set clause → ⊥) × ((m : Lit) → HasAllButOne set clause m → ⊥)
+    → (IsRefutedBy set clause → ⊥) × ((m : Lit) → HasAllButOne set clause m → ⊥)
 not_one_open s set clause l ranged there missing fails = (
   (λ all. missing (All-contains (λ m. Contains set (opposite m)) clause l all there)),
   (λ k one. elim (lit_cases s l k (in_range l there) (in_range k one.there)) as (λ _. ⊥) [
@@ -243,7 +257,7 @@ unit_back s _ _ _ l ranged one (joined c hints set k other more) =
       | inr ne ↦ absurd (other.missing (one.others k other.there ne))
     ]
 
-never_open : (c : List Lit) (hints : List (List Lit)) (set : List Lit) → (IsFalseBy set c → ⊥) → ((l : Lit) → HasAllButOne set c l → ⊥) → IsRefutedByHints (c ∷ hints) set → ⊥
+never_open : (c : List Lit) (hints : List (List Lit)) (set : List Lit) → (IsRefutedBy set c → ⊥) → ((l : Lit) → HasAllButOne set c l → ⊥) → IsRefutedByHints (c ∷ hints) set → ⊥
 never_open _ _ _ no_false no_one (refuted c hints set all) = no_false all
 never_open _ _ _ no_false no_one (joined c hints set l one more) = no_one l one
 
@@ -251,32 +265,32 @@ none_left : (set : List Lit) → IsRefutedByHints [] set → ⊥
 none_left set h = elim h [ ]
 
 -- the hints from a place on, and what is true there, come to the same as all of them from the first truths
-pub record Follows (k : Kept) (hints : List ℕ) (first : List Lit) (i : ℕ) (set : List Lit) : Type 0 where
+pub record WalksTo (k : Kept) (hints : List ℕ) (first : List Lit) (i : ℕ) (set : List Lit) : Type 0 where
   pub forth : IsRefutedByHints (named k (drop i hints)) set → IsRefutedByHints (named k hints) first
   pub back : IsRefutedByHints (named k hints) first → IsRefutedByHints (named k (drop i hints)) set
 
-pub follows_first : (k : Kept) (hints : List ℕ) (first : List Lit) → Follows k hints first 0 first
-follows_first k hints first = record { forth = λ h. h; back = λ h. h }
+pub walks_first : (k : Kept) (hints : List ℕ) (first : List Lit) → WalksTo k hints first 0 first
+walks_first k hints first = record { forth = λ h. h; back = λ h. h }
 
-module _ (k : Kept) (hints : List ℕ) (first : List Lit) (i d n : ℕ) (set : List Lit) (lt : i < length hints) (at : n ≡ get_or hints i d) (f : Follows k hints first i set) where
+module _ (k : Kept) (hints : List ℕ) (first : List Lit) (i d n : ℕ) (set : List Lit) (lt : i < length hints) (at : n ≡ get_or hints i d) (f : WalksTo k hints first i set) where
   next_is : named k (drop i hints) ≡ clause_at k n ∷ named k (drop (i + 1) hints)
   next_is = ap (named k) (drop-cons hints i d lt ∙ ap (λ m. m ∷ drop (suc i) hints) (sym at) ∙ ap (λ m. n ∷ drop m hints) (sym (add-one i)))
 
-  pub follows_false : IsFalseBy set (clause_at k n) → IsRefutedByHints (named k hints) first
-  follows_false all = f.forth (subst (λ cs. IsRefutedByHints cs set) (sym next_is) (refuted (clause_at k n) (named k (drop (i + 1) hints)) set all))
+  pub walks_false : IsRefutedBy set (clause_at k n) → IsRefutedByHints (named k hints) first
+  walks_false all = f.forth (subst (λ cs. IsRefutedByHints cs set) (sym next_is) (refuted (clause_at k n) (named k (drop (i + 1) hints)) set all))
 
-  pub follows_unit : (s : Sizes) (l : Lit) → AreInRange s (clause_at k n) → HasAllButOne set (clause_at k n) l → Follows k hints first (i + 1) (set ++ l ∷ [])
-  follows_unit s l ranged one =
+  pub walks_unit : (s : Sizes) (l : Lit) → AreInRange s (clause_at k n) → HasAllButOne set (clause_at k n) l → WalksTo k hints first (i + 1) (set ++ l ∷ [])
+  walks_unit s l ranged one =
       record {
         forth = λ h. f.forth (subst (λ cs. IsRefutedByHints cs set) (sym next_is) (unit_forth (clause_at k n) (named k (drop (i + 1) hints)) set l one h));
         back = λ h. unit_back s (clause_at k n) (named k (drop (i + 1) hints)) set l ranged one (subst (λ cs. IsRefutedByHints cs set) next_is (f.back h));
       }
 
-  pub follows_open : (IsFalseBy set (clause_at k n) → ⊥) → ((l : Lit) → HasAllButOne set (clause_at k n) l → ⊥) → IsRefutedByHints (named k hints) first → ⊥
-  follows_open no_false no_one h = never_open (clause_at k n) (named k (drop (i + 1) hints)) set no_false no_one (subst (λ cs. IsRefutedByHints cs set) next_is (f.back h))
+  pub walks_open : (IsRefutedBy set (clause_at k n) → ⊥) → ((l : Lit) → HasAllButOne set (clause_at k n) l → ⊥) → IsRefutedByHints (named k hints) first → ⊥
+  walks_open no_false no_one h = never_open (clause_at k n) (named k (drop (i + 1) hints)) set no_false no_one (subst (λ cs. IsRefutedByHints cs set) next_is (f.back h))
 
-pub follows_end : (k : Kept) (hints : List ℕ) (first : List Lit) (n : ℕ) (set : List Lit) → length hints ≤ n → Follows k hints first n set → IsRefutedByHints (named k hints) first → ⊥
-follows_end k hints first n set long f h = none_left set (subst (λ ks. IsRefutedByHints (named k ks) set) (drop_all n hints long) (f.back h))
+pub walks_end : (k : Kept) (hints : List ℕ) (first : List Lit) (n : ℕ) (set : List Lit) → length hints ≤ n → WalksTo k hints first n set → IsRefutedByHints (named k hints) first → ⊥
+walks_end k hints first n set long f h = none_left set (subst (λ ks. IsRefutedByHints (named k ks) set) (drop_all n hints long) (f.back h))
 
 -- the clause at a position is in range
 pub at_within : (s : Sizes) (k : Kept) (n : ℕ) → AreWithin s k.clauses → AreInRange s (clause_at k n)

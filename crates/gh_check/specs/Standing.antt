@@ -6,8 +6,9 @@ use Rattle.gh_base.specs.declared.sizes.Sizes.{Sizes}
 use Rattle.gh_base.specs.Atoms.{opposite}
 use Rattle.gh_base.specs.Hints.{IsRefutedByHints}
 use Rattle.gh_base.specs.Propagation.{Propagated, FollowsByUnits}
+use Rattle.gh_sat.specs.Theory.{IsRefutedBy}
 use Rattle.gh_check.specs.Kept.{Kept, named, present, stands_in}
-use Rattle.gh_check.specs.Truths.{IsConsistent, IsFalseBy, IsMetBy}
+use Rattle.gh_check.specs.Truths.{IsConsistent, IsMetBy}
 use Rattle.gh_check.specs.declared.standing.Standing.{Standing}
 
 -- propagation over the clauses gives each literal of the set, whatever is assumed
@@ -40,7 +41,7 @@ pub record IsConfirmedBy (k : Kept) (positions : List ℕ) (set clause : List Li
 
 -- the set doesn't make the clause false, and has the literal that the clause forces, if it forces one
 pub record IsAtRest (set clause : List Lit) : Type 0 where
-  pub not_false : IsFalseBy set clause → ⊥
+  pub not_false : IsRefutedBy set clause → ⊥
   pub forced : (l : Lit) → Contains clause l
       → ((m : Lit) → Contains clause m → m ≢ l → Contains set (opposite m)) → Contains set l
 
@@ -59,7 +60,7 @@ pub record IsClosedBy (entries : List (Option (List Lit))) (set : List Lit) : Ty
 
 -- the set makes the clause false, and is closed so
 pub record IsRefusedBy (entries : List (Option (List Lit))) (set clause : List Lit) : Type 0 where
-  pub falsified : IsFalseBy set clause
+  pub falsified : IsRefutedBy set clause
   pub closed : IsClosedBy entries set
 
 -- whether propagation over the clauses shows a clause, where that is told

@@ -1,14 +1,15 @@
 -- Truths of literals, as a set and in a table, and what a clause is under them.
-use Rattle.std.specs.Prelude.{◌++◌, List, Option, Some, None, Bool, true, false, All, Contains, MatchOption, map}
+use Rattle.std.specs.Prelude.{◌++◌, List, Option, Some, None, Bool, true, false, Contains, MatchOption, map}
 use Rattle.gh_base.specs.declared.atom.Lit.{Lit}
 use Rattle.gh_base.specs.declared.sizes.Sizes.{Sizes}
 use Rattle.gh_base.specs.Atoms.{opposite, IsInRange, AreInRange}
 use Rattle.gh_base.specs.Assignments.{Partial, value_of}
 use Rattle.gh_base.specs.Hints.{HasAllButOne}
+use Rattle.gh_sat.specs.Theory.{IsRefutedBy}
 use Rattle.gh_check.specs.declared.hints.Look.{Look}
 use Rattle.gh_check.specs.declared.hints.Look.TheVariants.{False, Unit as One, Open}
 
--- what callers see of `Truths`: the literals that are true
+-- what callers see of `Truths` and of `Layers`: the literals that are true
 pub record TruthSet : Type 0 where
   pub sizes : Sizes
   pub lits : List Lit
@@ -29,17 +30,13 @@ pub record IsTable (table : Partial) (set : List Lit) : Type 0 where
   pub apart : IsConsistent set
   pub tells : (l : Lit) → IsInRange table.sizes l.atom → IsValueIn set l (value_of table l)
 
--- the set has the opposites of all literals of the clause
-abbrev pub IsFalseBy : List Lit → List Lit → Type 0
-IsFalseBy set clause = All (λ m. Contains set (opposite m)) clause
-
 -- a literal of the clause that isn't false
 abbrev pub IsOpenIn : List Lit → List Lit → Lit → Type 0
 IsOpenIn set clause l = Contains clause l × (Contains set (opposite l) → ⊥)
 
 -- a literal of the clause that isn't false is found, or none is and the clause is false
 abbrev pub FindsOpen : List Lit → List Lit → Option Lit → Type 0
-FindsOpen set clause found = MatchOption found (IsFalseBy set clause) (IsOpenIn set clause)
+FindsOpen set clause found = MatchOption found (IsRefutedBy set clause) (IsOpenIn set clause)
 
 -- the set has a literal and its opposite
 abbrev pub HasBoth : List Lit → Type 0
@@ -55,6 +52,6 @@ IsMetBy set clause = (l : Lit) × Contains clause l × Contains (set ++ map oppo
 
 -- what a clause, taken as the set of its literals, is where the literals of a set are true
 abbrev pub IsLook : List Lit → List Lit → Look → Type 0
-IsLook set clause False = IsFalseBy set clause
+IsLook set clause False = IsRefutedBy set clause
 IsLook set clause (One l) = HasAllButOne set clause l
-IsLook set clause Open = (IsFalseBy set clause → ⊥) × ((l : Lit) → HasAllButOne set clause l → ⊥)
+IsLook set clause Open = (IsRefutedBy set clause → ⊥) × ((l : Lit) → HasAllButOne set clause l → ⊥)

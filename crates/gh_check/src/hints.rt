@@ -1,13 +1,13 @@
 //! Unit propagation along hints.
 
 ghost use Rattle.std.specs.Prelude.{◌≡◌, ◌⊎◌, ◌↔◌, ◌∷◌, ◌++◌, [], map, false, Some, None, All, Contains, IfOk, OnOk};
-ghost use Rattle.std.specs.Prelude.{IsTrue, MatchOption};
+ghost use Rattle.std.specs.Prelude.{IsTrue};
 ghost use Rattle.gh_base.specs.declared.atom.Lit.{Lit};
 ghost use Rattle.gh_base.specs.Atoms.{opposite, IsInRange, AreInRange};
 ghost use Rattle.gh_base.specs.Assignments.{value_of};
 ghost use Rattle.gh_base.specs.Hints.{IsRefutedByHints, IsShownByHints};
 ghost use Rattle.gh_check.specs.Kept.{clause_at, named, AreWithin};
-ghost use Rattle.gh_check.specs.Truths.{IsTable, IsConsistent, IsFalseBy, IsOpenIn, HasOpposites, IsLook};
+ghost use Rattle.gh_check.specs.Truths.{IsTable, IsConsistent, HasOpposites, FindsOpen, IsLook};
 
 use crate::positions::Positions;
 use gh_base::assignment::Assignment;
@@ -105,64 +105,12 @@ impl Truths {
         }
     }
 
-    // Whether a literal is this one or false.
-    fn is_false_or(&self, lit: Lit, one: Lit) -> bool
-        requires { IsInRange self.now.sizes lit.atom }
-        ensures { IsTrue result ↔ ((lit ≡ one) ⊎ Contains self.now.lits (opposite lit)) }
-    {
-        if lit.is_same(one) {
-            return true;
-        }
-        self.is_false(lit)
-    }
-
-    // The first literal that isn't false.
-    fn first_open(&self, clause: &[Lit]) -> Option<Lit>
-        requires { AreInRange self.now.sizes clause.now }
-        ensures { MatchOption result (IsFalseBy self.now.lits clause.now) (IsOpenIn self.now.lits clause.now) }
-    {
-        for lit in clause {
-            if !self.is_false(*lit) {
-                return Some(*lit);
-            }
-        }
-        None
-    }
-
-    // Whether each literal but this one is false.
-    fn are_false_but(&self, clause: &[Lit], one: Lit) -> bool
-        requires { AreInRange self.now.sizes clause.now }
-        ensures { IsTrue result ↔ All (λ l. (l ≡ one) ⊎ Contains self.now.lits (opposite l)) clause.now }
-    {
-        for lit in clause {
-            if !self.is_false_or(*lit, one) {
-                return false;
-            }
-        }
-        true
-    }
-
-    /// What a clause is.
-    pub fn look(&self, clause: &[Lit]) -> Look
-        requires { AreInRange self.now.sizes clause.now }
-        ensures { IsLook self.now.lits clause.now result }
-    {
-        let Some(one) = self.first_open(clause) else {
-            return Look::False;
-        };
-        if self.are_false_but(clause, one) {
-            return Look::Unit(one);
-        }
-        Look::Open
-    }
-
     /// What the clause at a position is.
     pub fn look_at(&self, kept: &Positions<'_>, position: u32) -> Look
         requires { AreWithin self.now.sizes kept.now.clauses }
         ensures { IsLook self.now.lits (clause_at kept.now position) result }
     {
-        let clause = kept.clause(position as usize);
-        self.look(clause.lits())
+        Layers::only(self).look_at(kept, position)
     }
 
     // Makes literals false, where none is true. Answers whether one of them and its opposite are among them.
@@ -217,5 +165,123 @@ impl Truths {
             return Ok(true);
         }
         Ok(self.follow(kept, hints)?)
+    }
+}
+
+/// Truths as one set: some alone, or some and those that stand below them.
+#[derive(Drop)]
+pub struct Layers<'a> {
+    below: Option<&'a Truths>,
+    above: &'a Truths,
+}
+
+impl<'a> Model for Layers<'a> {
+    ghost use Rattle.std.specs.Prelude.{◌≡◌, ◌++◌, [], ⊤, MatchOption, option_map, unwrap_or};
+    ghost use Rattle.gh_check.specs.Truths.{TruthSet};
+
+    ghost Value = { TruthSet };
+
+    ghost view = { λ t. record {
+      sizes = t.above.now.sizes;
+      lits = unwrap_or (option_map (λ below. below.now.lits) t.below) [] ++ t.above.now.lits;
+    } };
+
+    ghost invariant = { λ t. MatchOption t.below ⊤ (λ below. below.now.sizes ≡ t.above.now.sizes) };
+}
+
+impl<'a> Layers<'a> {
+    /// Some truths alone.
+    pub fn only(truths: &'a Truths) -> Layers<'a>
+        ensures { result ≡ truths.now }
+    {
+        Layers {
+            below: None,
+            above: truths,
+        }
+    }
+
+    /// Some truths, and those that stand below them.
+    pub fn both(below: &'a Truths, above: &'a Truths) -> Layers<'a>
+        requires { above.now.sizes ≡ below.now.sizes }
+        ensures { result ≡ record { sizes = below.now.sizes; lits = below.now.lits ++ above.now.lits } }
+    {
+        Layers {
+            below: Some(below),
+            above,
+        }
+    }
+
+    /// Whether a literal is false.
+    pub fn is_false(&self, lit: Lit) -> bool
+        requires { IsInRange self.now.sizes lit.atom }
+        ensures { IsTrue result ↔ Contains self.now.lits (opposite lit) }
+    {
+        let Some(below) = self.below else {
+            return self.above.is_false(lit);
+        };
+        if below.is_false(lit) {
+            return true;
+        }
+        self.above.is_false(lit)
+    }
+
+    // Whether a literal is this one or false.
+    fn is_false_or(&self, lit: Lit, one: Lit) -> bool
+        requires { IsInRange self.now.sizes lit.atom }
+        ensures { IsTrue result ↔ ((lit ≡ one) ⊎ Contains self.now.lits (opposite lit)) }
+    {
+        if lit.is_same(one) {
+            return true;
+        }
+        self.is_false(lit)
+    }
+
+    /// A literal that isn't false, if there is one.
+    pub fn find_open(&self, clause: &[Lit]) -> Option<Lit>
+        requires { AreInRange self.now.sizes clause.now }
+        ensures { FindsOpen self.now.lits clause.now result }
+    {
+        for lit in clause {
+            if !self.is_false(*lit) {
+                return Some(*lit);
+            }
+        }
+        None
+    }
+
+    // Whether each literal but this one is false.
+    fn are_false_but(&self, clause: &[Lit], one: Lit) -> bool
+        requires { AreInRange self.now.sizes clause.now }
+        ensures { IsTrue result ↔ All (λ l. (l ≡ one) ⊎ Contains self.now.lits (opposite l)) clause.now }
+    {
+        for lit in clause {
+            if !self.is_false_or(*lit, one) {
+                return false;
+            }
+        }
+        true
+    }
+
+    /// What a clause is.
+    pub fn look(&self, clause: &[Lit]) -> Look
+        requires { AreInRange self.now.sizes clause.now }
+        ensures { IsLook self.now.lits clause.now result }
+    {
+        let Some(one) = self.find_open(clause) else {
+            return Look::False;
+        };
+        if self.are_false_but(clause, one) {
+            return Look::Unit(one);
+        }
+        Look::Open
+    }
+
+    /// What the clause at a position is.
+    pub fn look_at(&self, kept: &Positions<'_>, position: u32) -> Look
+        requires { AreWithin self.now.sizes kept.now.clauses }
+        ensures { IsLook self.now.lits (clause_at kept.now position) result }
+    {
+        let clause = kept.clause(position as usize);
+        self.look(clause.lits())
     }
 }

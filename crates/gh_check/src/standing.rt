@@ -1,117 +1,35 @@
 //! Literals that stand from line to line, and lines that are shown by them and by hints, or refused by literals that
 //! make them false and to which unit propagation adds none.
 
-ghost use Rattle.std.specs.Prelude.{◌≡◌, ◌↔◌, ◌⊎◌, ◌++◌, [], List, map, All, Contains, IfOk, OnOk, IsTrue};
-ghost use Rattle.std.specs.Prelude.{Option, None};
+ghost use Rattle.std.specs.Prelude.{◌≡◌, ◌↔◌, ◌++◌, [], List, map, All, Contains, IfOk, OnOk, IsTrue, Option};
 ghost use Rattle.gh_base.specs.declared.atom.Lit.{Lit};
 ghost use Rattle.gh_base.specs.declared.sizes.Sizes.{Sizes};
-ghost use Rattle.gh_base.specs.Atoms.{opposite, IsInRange, AreInRange};
-ghost use Rattle.gh_check.specs.Kept.{clause_at, present, AreWithin};
-ghost use Rattle.gh_check.specs.Truths.{IsConsistent, IsLook, IsMetBy, FindsOpen};
+ghost use Rattle.gh_base.specs.Atoms.{opposite, AreInRange};
+ghost use Rattle.gh_check.specs.Kept.{present, AreWithin};
+ghost use Rattle.gh_check.specs.Truths.{IsConsistent, IsMetBy};
 ghost use Rattle.gh_check.specs.Standing.{IsStanding, MayStand, IsAtRest, AreAtRest, IsClosedBy, IsJudged, KeepsGiven};
 ghost use Rattle.gh_check.specs.Standing.{RestsAt, IsRefutedAt, StandsOn};
 ghost use Rattle.gh_check.specs.Standing.{IsConfirmedBy, IsRefusedBy};
 
-use crate::hints::{Look, Truths};
+use crate::hints::{Layers, Look, Truths};
 use crate::positions::Positions;
 use crate::search::Search;
 use gh_base::atom::Lit;
 use gh_base::sizes::Sizes;
 use std::alloc::{AllocError, Global};
 
-// Whether a literal is false by one of two sets of truths.
-fn is_false(fixed: &Truths, above: &Truths, lit: Lit) -> bool
-    requires fixed { IsInRange fixed.now.sizes lit.atom }
-    requires above { IsInRange above.now.sizes lit.atom }
-    ensures { IsTrue result ↔ Contains (fixed.now.lits ++ above.now.lits) (opposite lit) }
-{
-    if fixed.is_false(lit) {
-        return true;
-    }
-    above.is_false(lit)
-}
-
-// Whether a literal is this one or false.
-fn is_false_or(fixed: &Truths, above: &Truths, lit: Lit, one: Lit) -> bool
-    requires fixed { IsInRange fixed.now.sizes lit.atom }
-    requires above { IsInRange above.now.sizes lit.atom }
-    ensures { IsTrue result ↔ ((lit ≡ one) ⊎ Contains (fixed.now.lits ++ above.now.lits) (opposite lit)) }
-{
-    if lit.is_same(one) {
-        return true;
-    }
-    is_false(fixed, above, lit)
-}
-
-// The first literal that isn't false.
-fn first_open(fixed: &Truths, above: &Truths, clause: &[Lit]) -> Option<Lit>
-    requires fixed { AreInRange fixed.now.sizes clause.now }
-    requires above { AreInRange above.now.sizes clause.now }
-    ensures { FindsOpen (fixed.now.lits ++ above.now.lits) clause.now result }
-{
-    for lit in clause {
-        if !is_false(fixed, above, *lit) {
-            return Some(*lit);
-        }
-    }
-    None
-}
-
-// Whether each literal but this one is false.
-fn are_false_but(fixed: &Truths, above: &Truths, clause: &[Lit], one: Lit) -> bool
-    requires fixed { AreInRange fixed.now.sizes clause.now }
-    requires above { AreInRange above.now.sizes clause.now }
-    ensures { IsTrue result
-        ↔ All (λ l. (l ≡ one) ⊎ Contains (fixed.now.lits ++ above.now.lits) (opposite l)) clause.now }
-{
-    for lit in clause {
-        if !is_false_or(fixed, above, *lit, one) {
-            return false;
-        }
-    }
-    true
-}
-
-// What a clause is.
-fn look(fixed: &Truths, above: &Truths, clause: &[Lit]) -> Look
-    requires fixed { AreInRange fixed.now.sizes clause.now }
-    requires above { AreInRange above.now.sizes clause.now }
-    ensures { IsLook (fixed.now.lits ++ above.now.lits) clause.now result }
-{
-    match first_open(fixed, above, clause) {
-        None => Look::False,
-        Some(one) => {
-            if are_false_but(fixed, above, clause, one) {
-                Look::Unit(one)
-            } else {
-                Look::Open
-            }
-        }
-    }
-}
-
-// What the clause at a position is.
-fn look_at(fixed: &Truths, above: &Truths, kept: &Positions<'_>, position: u32) -> Look
-    requires fixed { AreWithin fixed.now.sizes kept.now.clauses }
-    requires above { AreWithin above.now.sizes kept.now.clauses }
-    ensures { IsLook (fixed.now.lits ++ above.now.lits) (clause_at kept.now position) result }
-{
-    let clause = kept.clause(position as usize);
-    look(fixed, above, clause.lits())
-}
-
 // Makes literals false, where none is true but those that stand. Answers whether one of them is true.
 fn falsify(fixed: &Truths, above: &mut Truths, lits: &[Lit]) -> Result<bool, AllocError>
     requires none { above.old.lits ≡ [] }
-    requires fixed { AreInRange fixed.now.sizes lits.now }
-    requires above { AreInRange above.old.sizes lits.now }
+    requires sizes { above.old.sizes ≡ fixed.now.sizes }
+    requires range { AreInRange fixed.now.sizes lits.now }
     ensures sizes { OnOk result (above.new.sizes ≡ above.old.sizes) }
     ensures clash { IfOk result (λ b. IsTrue b ↔ IsMetBy fixed.now.lits lits.now) }
     ensures set { IfOk result (λ b. (IsTrue b → ⊥) → above.new.lits ≡ map opposite lits.now) }
 {
     for lit in lits {
         let negated = lit.negated();
-        if is_false(fixed, above, negated) {
+        if Layers::both(fixed, above).is_false(negated) {
             return Ok(true);
         }
         above.add(negated)?;
@@ -126,13 +44,13 @@ fn follow(
     kept: &Positions<'_>,
     hints: &[u32],
 ) -> Result<bool, AllocError>
-    requires fixed { AreWithin fixed.now.sizes kept.now.clauses }
-    requires above { AreWithin above.old.sizes kept.now.clauses }
+    requires sizes { above.old.sizes ≡ fixed.now.sizes }
+    requires within { AreWithin fixed.now.sizes kept.now.clauses }
     ensures shown { IfOk result (λ b. IsTrue b ↔ IsRefutedAt kept.now hints.now (fixed.now.lits ++ above.old.lits)) }
     ensures sizes { OnOk result (above.new.sizes ≡ above.old.sizes) }
 {
     for hint in hints {
-        match look_at(fixed, above, kept, *hint) {
+        match Layers::both(fixed, above).look_at(kept, *hint) {
             Look::False => return Ok(true),
             Look::Unit(lit) => above.add(lit)?,
             Look::Open => return Ok(false),
@@ -149,10 +67,9 @@ fn are_confirmed(
     lits: &[Lit],
     hints: &[u32],
 ) -> Result<bool, AllocError>
-    requires fixed { AreInRange fixed.now.sizes lits.now }
-    requires above { AreInRange above.old.sizes lits.now }
-    requires fixed_within { AreWithin fixed.now.sizes kept.now.clauses }
-    requires above_within { AreWithin above.old.sizes kept.now.clauses }
+    requires sizes { above.old.sizes ≡ fixed.now.sizes }
+    requires range { AreInRange fixed.now.sizes lits.now }
+    requires within { AreWithin fixed.now.sizes kept.now.clauses }
     ensures exact { IfOk result (λ b. IsTrue b ↔ IsConfirmedBy kept.now hints.now fixed.now.lits lits.now) }
     ensures sizes { OnOk result (above.new.sizes ≡ above.old.sizes) }
 {
@@ -167,39 +84,36 @@ fn are_confirmed(
 }
 
 // Whether a clause isn't false and forces no literal that isn't true.
-fn rests(fixed: &Truths, above: &Truths, clause: &[Lit]) -> bool
-    requires fixed { AreInRange fixed.now.sizes clause.now }
-    requires above { AreInRange above.now.sizes clause.now }
-    ensures { IsTrue result ↔ IsAtRest (fixed.now.lits ++ above.now.lits) clause.now }
+fn rests(told: &Layers<'_>, clause: &[Lit]) -> bool
+    requires { AreInRange told.now.sizes clause.now }
+    ensures { IsTrue result ↔ IsAtRest told.now.lits clause.now }
 {
-    match look(fixed, above, clause) {
+    match told.look(clause) {
         Look::False => false,
-        Look::Unit(lit) => is_false(fixed, above, lit.negated()),
+        Look::Unit(lit) => told.is_false(lit.negated()),
         Look::Open => true,
     }
 }
 
 // Whether the clause at a position, if there is one, isn't false and forces no literal that isn't true.
-fn rests_at(fixed: &Truths, above: &Truths, kept: &Positions<'_>, position: usize) -> bool
-    requires fixed { AreWithin fixed.now.sizes kept.now.clauses }
-    requires above { AreWithin above.now.sizes kept.now.clauses }
-    ensures { IsTrue result ↔ RestsAt (fixed.now.lits ++ above.now.lits) kept.now.clauses position }
+fn rests_at(told: &Layers<'_>, kept: &Positions<'_>, position: usize) -> bool
+    requires { AreWithin told.now.sizes kept.now.clauses }
+    ensures { IsTrue result ↔ RestsAt told.now.lits kept.now.clauses position }
 {
     if !kept.has_clause(position) {
         return true;
     }
     let clause = kept.clause(position);
-    rests(fixed, above, clause.lits())
+    rests(told, clause.lits())
 }
 
 // Whether no clause is false or forces a literal that isn't true.
-fn all_rest(fixed: &Truths, above: &Truths, kept: &Positions<'_>) -> bool
-    requires fixed { AreWithin fixed.now.sizes kept.now.clauses }
-    requires above { AreWithin above.now.sizes kept.now.clauses }
-    ensures { IsTrue result ↔ AreAtRest (fixed.now.lits ++ above.now.lits) kept.now.clauses }
+fn all_rest(told: &Layers<'_>, kept: &Positions<'_>) -> bool
+    requires { AreWithin told.now.sizes kept.now.clauses }
+    ensures { IsTrue result ↔ AreAtRest told.now.lits kept.now.clauses }
 {
     for position in 0..kept.count() {
-        if !rests_at(fixed, above, kept, position) {
+        if !rests_at(told, kept, position) {
             return false;
         }
     }
@@ -207,13 +121,12 @@ fn all_rest(fixed: &Truths, above: &Truths, kept: &Positions<'_>) -> bool
 }
 
 // Whether no literal is false.
-fn none_false(fixed: &Truths, above: &Truths, lits: &[Lit]) -> bool
-    requires fixed { AreInRange fixed.now.sizes lits.now }
-    requires above { AreInRange above.now.sizes lits.now }
-    ensures { IsTrue result ↔ All (λ l. Contains (fixed.now.lits ++ above.now.lits) (opposite l) → ⊥) lits.now }
+fn none_false(told: &Layers<'_>, lits: &[Lit]) -> bool
+    requires { AreInRange told.now.sizes lits.now }
+    ensures { IsTrue result ↔ All (λ l. Contains told.now.lits (opposite l) → ⊥) lits.now }
 {
     for lit in lits {
-        if is_false(fixed, above, *lit) {
+        if told.is_false(*lit) {
             return false;
         }
     }
@@ -225,10 +138,11 @@ fn are_apart(fixed: &Truths, above: &Truths) -> bool
     requires { above.now.sizes ≡ fixed.now.sizes }
     ensures { IsTrue result ↔ IsConsistent (fixed.now.lits ++ above.now.lits) }
 {
-    if !none_false(fixed, above, fixed.lits()) {
+    let told = Layers::both(fixed, above);
+    if !none_false(&told, fixed.lits()) {
         return false;
     }
-    none_false(fixed, above, above.lits())
+    none_false(&told, above.lits())
 }
 
 // Whether no literal is true and false, and unit propagation adds none.
@@ -240,7 +154,7 @@ fn is_closed(fixed: &Truths, above: &Truths, kept: &Positions<'_>) -> bool
     if !are_apart(fixed, above) {
         return false;
     }
-    all_rest(fixed, above, kept)
+    all_rest(&Layers::both(fixed, above), kept)
 }
 
 // Whether literals are false by truths to which unit propagation adds none, and which are no contradiction.
@@ -250,7 +164,7 @@ fn are_refused(fixed: &Truths, above: &Truths, kept: &Positions<'_>, lits: &[Lit
     requires within { AreWithin fixed.now.sizes kept.now.clauses }
     ensures { IsTrue result ↔ IsRefusedBy kept.now.clauses (fixed.now.lits ++ above.now.lits) lits.now }
 {
-    match first_open(fixed, above, lits) {
+    match Layers::both(fixed, above).find_open(lits) {
         None => is_closed(fixed, above, kept),
         Some(_one) => false,
     }

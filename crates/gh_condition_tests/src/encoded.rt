@@ -16,7 +16,7 @@ use gh_path::condition::Condition;
 use gh_path::listing::conditions;
 use gh_reduce::ground::ground;
 use gh_symb::limits::SymbolicError;
-use gh_symb::over_terms::{Bound, Symbolic, TermCheck, TermStep};
+use gh_symb::over_terms::{BoundAssertion, Symbolic, TermCheck, TermStep};
 use gh_symb::symbolic::symbolic;
 use gh_types::check::check;
 use gh_types::counts::MOST_BYTES;

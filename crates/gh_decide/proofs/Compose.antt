@@ -24,7 +24,7 @@ use Rattle.gh_decide.specs.Laws.{Composition}
 use Rattle.gh_ast.proofs.Lists.{member_first, member_later, member_cases, no_member, same_values}
 use Rattle.gh_decide.proofs.Tests.{after_reads}
 use Rattle.gh_decide.proofs.Safe.{from_paths}
-use Rattle.gh_machine.proofs.Faults.{all_read}
+use Rattle.gh_assert.proofs.Given.{not_given}
 use Rattle.gh_assert.proofs.Frames.{gives_whole, set_aside, taken_back, aside_apart}
 use Rattle.gh_assert.proofs.Agree.{Agree, same_meaning}
 use Rattle.gh_decide.proofs.Sound.{Sound, working, state, Keeps, Goes, Ending, keeps_on, not_empty, sound_set, sound_new, sound_write, sound_free, sound_give, sound_test, sound_loop_test}
@@ -65,9 +65,9 @@ pub record Fits (P : Program) (p : Procedure) (b : Statements) (o : ℕ) (r : St
   pub rounds : RoundsSafe P p o (all_loops r)
   pub returns : AllLoopsReturnNot r
 
--- the claim for up to n steps: statements that are safe, before a rest that is sound wherever they lead, are sound
-abbrev pub Claim : Program → (Config → Type 0) → ℕ → Type 0
-Claim P E n =
+-- for up to n steps: statements that are safe, before a rest that is sound wherever they lead, are sound
+abbrev pub AreSoundUpTo : Program → (Config → Type 0) → ℕ → Type 0
+AreSoundUpTo P E n =
     (m : ℕ) → m ≤ n → (p : Procedure) → Contains P.procedures p → (b : Statements) (xs : List Name) (s0 : Store) (F : Heap) (below : List Activation) (q : Statements) (k : Graph) (o : ℕ) (r : Statements) →
     Goes P E F b xs s0 k p q below m → AllReturnNot r ⊎ Ending P E F b xs s0 p below m → Fits P p b o r →
     (s : Store) (a h : Heap) → Splits h a F → Safe P p (all_lowered P o r k) (state s a) → Keeps b xs s0 s → Sound P E m (working p s h (joined r q) below)
@@ -92,12 +92,12 @@ less_goes P E F b xs s0 g p rest below n m l go j k = go j (omega (arith, l, k))
 less_ending : (P : Program) (E : Config → Type 0) (F : Heap) (b : Statements) (xs : List Name) (s0 : Store) (p : Procedure) (below : List Activation) (n m : ℕ) → m ≤ n → Ending P E F b xs s0 p below n → Ending P E F b xs s0 p below m
 less_ending P E F b xs s0 p below n m l end = record { results_in = end.results_in; finish = λ j k. end.finish j (omega (arith, l, k)) }
 
-module _ (P : Program) (ready : Ready P) (E : Config → Type 0) (n : ℕ) (claim : Claim P E n) (p : Procedure) (is : Contains P.procedures p) (b : Statements) (xs : List Name) (s0 : Store) (F : Heap) (below : List Activation) (rest : Statements) (g : Graph) where
+module _ (P : Program) (ready : Ready P) (E : Config → Type 0) (n : ℕ) (claim : AreSoundUpTo P E n) (p : Procedure) (is : Contains P.procedures p) (b : Statements) (xs : List Name) (s0 : Store) (F : Heap) (below : List Activation) (rest : Statements) (g : Graph) where
   -- a call: the callee's run is shorter, and its end is the step of the path
   sound_call : (m : ℕ) → m ≤ n → (ts : List Occ) (f : Occ) (es : List Expr) → Goes P E F b xs s0 g p rest below m → ((y : Name) → Contains (names ts) y → SomeAssigns b y) → (s : Store) (a h : Heap) → Splits h a F →
       Safe P p (all_reads es (guarded (entry f.span (number_of P f.name) es) (called ts (number_of P f.name) es) g)) (state s a) → Keeps b xs s0 s → Sound P E (suc m) (working p s h (statement_first (call ts f es) rest) below)
   sound_call m l ts f es go mine s a h split safe keeps = (
-    λ fault. all_read s h es r.0 up fault,
+    λ fault. not_given s h es r.0 fault up,
     λ ended. absurd (not_empty (call ts f es) rest ended.0),
     λ d st.
         let same : st.1 ≡ r.0 = same_values st.1 r.0 (sym st.4 ∙ up) in
@@ -225,7 +225,7 @@ module _ (P : Program) (ready : Ready P) (E : Config → Type 0) (n : ℕ) (clai
 
 module _ (P : Program) (ready : Ready P) (E : Config → Type 0) where
   -- one statement, and then the rest of the block
-  by_first : (n : ℕ) → Claim P E n → (m : ℕ) → m ≤ n → (p : Procedure) → Contains P.procedures p → (b : Statements) (xs : List Name) (s0 : Store) (F : Heap) (below : List Activation) (q : Statements) (g : Graph) (o : ℕ) (st : Statement) →
+  by_first : (n : ℕ) → AreSoundUpTo P E n → (m : ℕ) → m ≤ n → (p : Procedure) → Contains P.procedures p → (b : Statements) (xs : List Name) (s0 : Store) (F : Heap) (below : List Activation) (q : Statements) (g : Graph) (o : ℕ) (st : Statement) →
       Goes P E F b xs s0 g p q below m → ReturnsNot st ⊎ Ending P E F b xs s0 p below (suc m) → ((y : Name) → Assigns st y → SomeAssigns b y) → RoundsSafe P p o (loops st) → LoopsReturnNot st →
       (s : Store) (a h : Heap) → Splits h a F → Safe P p (lowered P o st g) (state s a) → Keeps b xs s0 s → Sound P E (suc m) (working p s h (statement_first st q) below)
   by_first n claim m l p is b xs s0 F below q g o (set x e) go end mine rounds returns s a h split safe keeps =
@@ -260,7 +260,7 @@ module _ (P : Program) (ready : Ready P) (E : Config → Type 0) where
     | inr some ↦ sound_give P E F b xs s0 g p q below m s a h at es some split safe keeps
   ]
 
-  by_rest : (n : ℕ) → Claim P E n → (m : ℕ) → m ≤ suc n → (p : Procedure) → Contains P.procedures p → (b : Statements) (xs : List Name) (s0 : Store) (F : Heap) (below : List Activation) (q : Statements) (k : Graph) (o : ℕ) (r : Statements) →
+  by_rest : (n : ℕ) → AreSoundUpTo P E n → (m : ℕ) → m ≤ suc n → (p : Procedure) → Contains P.procedures p → (b : Statements) (xs : List Name) (s0 : Store) (F : Heap) (below : List Activation) (q : Statements) (k : Graph) (o : ℕ) (r : Statements) →
       Goes P E F b xs s0 k p q below m → AllReturnNot r ⊎ Ending P E F b xs s0 p below m → Fits P p b o r →
       (s : Store) (a h : Heap) → Splits h a F → Safe P p (all_lowered P o r k) (state s a) → Keeps b xs s0 s → Sound P E m (working p s h (joined r q) below)
   by_rest n claim m l p is b xs s0 F below q k o no_statements go end fits s a h split safe keeps = go m (omega arith) s a h split safe keeps
@@ -277,7 +277,7 @@ module _ (P : Program) (ready : Ready P) (E : Config → Type 0) where
       rest_end : (j : ℕ) → j ≤ m → (ReturnsNot st × AllReturnNot r) ⊎ Ending P E F b xs s0 p below (suc m) → AllReturnNot r ⊎ Ending P E F b xs s0 p below j
       rest_end j lj e = elim e [ inl none ↦ inl none.1 | inr some ↦ inr (less_ending P E F b xs s0 p below (suc m) j (omega (arith, lj)) some) ]
 
-  pub every : (n : ℕ) → Claim P E n
+  pub every : (n : ℕ) → AreSoundUpTo P E n
   every zero zero l p is b xs s0 F below q k o r go end fits s a h split safe keeps = tt
   every zero (suc m) l p is b xs s0 F below q k o r go end fits s a h split safe keeps = absurd (omega (arith, l))
   every (suc n) m l p is b xs s0 F below q k o r go end fits s a h split safe keeps = by_rest n (every n) m l p is b xs s0 F below q k o r go end fits s a h split safe keeps

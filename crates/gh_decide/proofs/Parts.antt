@@ -1,8 +1,8 @@
 -- From what the parts of a decision answer to what is decided.
-use Rattle.std.specs.Prelude.{◌≡◌, ◌<◌, List, length, slice_get}
+use Rattle.std.specs.Prelude.{◌≡◌, ◌<◌, List, All, length, slice_get}
 use Rattle.std.proofs.Common.{sym, subst, inl, inr}
 use Rattle.gh_base.specs.Grounds.{Problem}
-use Rattle.gh_base.specs.Meaning.{IsCongruence}
+use Rattle.gh_base.specs.Meaning.{IsCongruence, IsClauseTrue}
 use Rattle.gh_base.specs.Structures.{Tables, interpretation_of}
 use Rattle.gh_ast.specs.Plain.{Procedure, Program}
 use Rattle.gh_ast.specs.Rules.{IsTyped}
@@ -25,7 +25,6 @@ use Rattle.gh_log.specs.Lines.{LogLine}
 use Rattle.gh_log.specs.declared.lines.Section.{Section}
 use Rattle.gh_log.proofs.SectionLemmas.{refute}
 use Rattle.gh_inst.specs.Violations.{AreInstancesTrue}
-use Rattle.gh_grass.specs.Truth.{AreClausesTrue}
 use Rattle.gh_ground.specs.Solving.{IsModelOf, IsRefutationOf}
 use Rattle.gh_model.specs.Abstraction as abstraction
 use Rattle.gh_model.specs.KeptTraces.{AreBuilt}
@@ -65,7 +64,7 @@ models : (P : Program) (q : Procedure) (c : Condition) (p : Problem) (s : Tables
 models P q c p s same is = record {
   congruence = subst (λ (g : Problem). IsCongruence g.sizes (interpretation_of s)) same is.congruence;
   instances = subst (λ (g : Problem). AreInstancesTrue g.sizes (interpretation_of s)) same is.instances;
-  clauses = subst (λ (g : Problem). AreClausesTrue (interpretation_of s) g.clauses) same is.clauses;
+  clauses = subst (λ (g : Problem). All (IsClauseTrue (interpretation_of s)) g.clauses) same is.clauses;
 }
 
 -- the trace of a model refutes the condition

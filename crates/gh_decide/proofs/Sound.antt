@@ -17,7 +17,7 @@ use Rattle.gh_trace.specs.Traces.{State}
 use Rattle.gh_decide.specs.Safe.{Safe}
 use Rattle.gh_ast.proofs.Lists.{only_member, same_values, one_value, not_both}
 use Rattle.gh_decide.proofs.Tests.{after_visit, after_read, after_reads, lead}
-use Rattle.gh_machine.proofs.Faults.{all_read}
+use Rattle.gh_assert.proofs.Given.{not_given}
 use Rattle.gh_assert.proofs.Frames.{in_whole, not_in_frame, in_neither, put_beside, remove_beside, reads_whole, gives_whole, outcome_whole}
 
 -- in n configurations from c on there is no fault, and what has ended has ended as E says
@@ -104,7 +104,7 @@ module _ (P : Program) (E : Config → Type 0) (F : Heap) (b : Statements) (xs :
   sound_give at es end split safe keeps =
       let r = after_reads P p es (moves (answered es) (ends (returned at))) (state s a) safe in
       let up : Give s h es r.0 = gives_whole s h a F split es r.0 r.1 in (
-        λ f. all_read s h es r.0 up f,
+        λ f. not_given s h es r.0 f up,
         λ ended. absurd (not_empty (give at es) rest ended.0),
         λ d st.
             let same : st.0 ≡ r.0 = same_values st.0 r.0 (sym st.2 ∙ up) in

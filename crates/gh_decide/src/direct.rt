@@ -18,6 +18,7 @@ pub struct Direct {
 }
 
 impl Direct {
+    /// It wasn't asked yet, and knows of no search.
     pub fn new() -> Direct
         ensures { result.calls ≡ 0 }
     {

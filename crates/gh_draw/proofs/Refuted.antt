@@ -1,5 +1,5 @@
 -- Kept states that refute a condition, and the drawing of them.
-use Rattle.std.specs.Prelude.{◌≡◌, ℕ, ◌-◌, ◌≤◌, List, [], ◌∷◌, Option, Some, Bool, true, false, cond, unwrap_or, map, get_or, All, Contains, slice_get}
+use Rattle.std.specs.Prelude.{◌≡◌, ℕ, List, [], ◌∷◌, Option, Some, Bool, true, false, cond, unwrap_or, map, get_or, All, Contains}
 use Rattle.std.specs.Str.{bytes_eq}
 use Rattle.std.specs.FinMap.{entries}
 use Rattle.std.proofs.Common.{refl, sym, ◌∙◌, ap, subst, arith}
@@ -10,7 +10,7 @@ use Rattle.gh_ast.specs.Rules.{IsTyped}
 use Rattle.gh_ast.proofs.Lists.{member_first, member_later}
 use Rattle.gh_assert.specs.Stores.{listed, store_of}
 use Rattle.gh_assert.specs.declared.store.Entry.{Entry}
-use Rattle.gh_path.specs.Conditions.{Condition, conditions}
+use Rattle.gh_path.specs.Conditions.{Condition, IsConditionAt}
 use Rattle.gh_path.specs.Graphs.{meets_at}
 use Rattle.gh_trace.specs.Kept.{state_of, drawn}
 use Rattle.gh_trace.specs.Replay as replay
@@ -19,7 +19,7 @@ use Rattle.gh_trace.specs.Traces.{Counterexample}
 use Rattle.gh_trace.specs.Validity.{AreCounterexample}
 use Rattle.gh_trace.specs.declared.state.State.{State}
 use Rattle.gh_draw.specs.Drawings.{drawing, IsDrawable}
-use Rattle.gh_draw.specs.Drawn.{drawing_text, IsValue, HasValues, IsDrawnCell, IsOver, IsDrawnState, IsDrawnFor, IsTold}
+use Rattle.gh_draw.specs.Drawn.{drawing_text, IsValue, HasValues, IsDrawnCell, HasVariables, IsDrawnState, IsDrawnFor, IsTold}
 use Rattle.gh_draw.proofs.Texts.{numbered_told}
 
 -- values
@@ -44,10 +44,10 @@ states_drawable ns ss p = All-map (IsDrawable ns) state_of ss (All-weaker HasVal
 
 -- states
 
-all_over : (ns : List Name) (ss : List State) → ((x : replay.Drawn) → Contains (map drawn ss) x → x.listed ≡ ns) → All (IsOver ns) ss
-all_over ns [] f = All-nil (IsOver ns)
+all_over : (ns : List Name) (ss : List State) → ((x : replay.Drawn) → Contains (map drawn ss) x → x.listed ≡ ns) → All (HasVariables ns) ss
+all_over ns [] f = All-nil (HasVariables ns)
 all_over ns (s ∷ ss) f =
-    All-cons (IsOver ns) s ss (f (drawn s) (member_first (drawn s) (map drawn ss))) (all_over ns ss (λ x i. f x (member_later (drawn s) x (map drawn ss) i)))
+    All-cons (HasVariables ns) s ss (f (drawn s) (member_first (drawn s) (map drawn ss))) (all_over ns ss (λ x i. f x (member_later (drawn s) x (map drawn ss) i)))
 
 states_of : (ss : List State) → map (λ x. x.state) (map drawn ss) ≡ map state_of ss
 states_of [] = refl
@@ -66,7 +66,7 @@ plain_refutes P c (s ∷ ss) r =
           (subst (λ (ys : List plain.State). Counterexample P r.procedure (meets_at r.procedure c.start) c.way.steps c.way.check r.first.state ys) follow r.counterexample),
     )
 
-pub states_are_drawn : (ns : List Name) (ss : List State) → All (IsOver ns) ss → All HasValues ss → All (IsDrawnState ns) ss
+pub states_are_drawn : (ns : List Name) (ss : List State) → All (HasVariables ns) ss → All HasValues ss → All (IsDrawnState ns) ss
 states_are_drawn ns ss over values = λ k d w. record { over = over k d w; values = (values k d w).values; cells = (values k d w).cells }
 
 states_drawn : (P : Program) (c : Condition) (ss : List State) → (r : replay.Refutes P c (map drawn ss)) → All HasValues ss → All (IsDrawnState (variable_names r.procedure)) ss
@@ -78,8 +78,8 @@ pub text_of_refuted : (P : Program) (n : ℕ) (c : Condition) (ss : List State) 
 text_of_refuted P n c ss typed r values = numbered_told P n c r.procedure ss typed r.of (states_drawn P c ss r values)
 
 -- which refute the condition and are drawable
-pub told_of_refuted : (P : Program) (n : ℕ) (c : Condition) (ss : List State) → IsTyped P → slice_get (conditions P) (n - 1) ≡ Some c → replay.Refutes P c (map drawn ss) → All HasValues ss → IsTold P n c ss
-told_of_refuted P n c ss typed numbered r values = record {
+pub told_of_refuted : (P : Program) (n : ℕ) (c : Condition) (ss : List State) → IsTyped P → IsConditionAt P n c → replay.Refutes P c (map drawn ss) → All HasValues ss → IsTold P n c ss
+told_of_refuted P n c ss typed at r values = record {
   procedure = r.procedure;
   of = r.of;
   text = text_of_refuted P n c ss typed r values;
@@ -87,15 +87,14 @@ told_of_refuted P n c ss typed numbered r values = record {
   drawable = states_drawable (variable_names r.procedure) ss values;
 }
 
-pub drawn_of_refuted : (P : Program) (n : ℕ) (c : Condition) (ss : List State) → 1 ≤ n → IsValue n → slice_get (conditions P) (n - 1) ≡ Some c → replay.Refutes P c (map drawn ss) → All HasValues ss
+pub drawn_of_refuted : (P : Program) (n : ℕ) (c : Condition) (ss : List State) → IsConditionAt P n c → IsValue n → replay.Refutes P c (map drawn ss) → All HasValues ss
     → IsDrawnFor P n ss
-drawn_of_refuted P n c ss low fits numbered r values = record {
+drawn_of_refuted P n c ss at fits r values = record {
   condition = c;
   procedure = r.procedure;
   of = r.of;
-  low = low;
+  at = at;
   fits = fits;
-  numbered = numbered;
   some = λ none. let empty : [] ≡ r.first ∷ r.others = ap (λ xs. map drawn xs) (sym none) ∙ r.states in absurd cc;
   states = states_drawn P c ss r values;
 }

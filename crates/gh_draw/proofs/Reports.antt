@@ -1,5 +1,5 @@
 -- A report that ends in a drawing is a file that has it.
-use Rattle.std.specs.Prelude.{◌≡◌, ℕ, ◌-◌, ◌≤◌, List, [], ◌∷◌, ◌++◌, map, All, Some, slice_get}
+use Rattle.std.specs.Prelude.{◌≡◌, ℕ, List, [], ◌∷◌, ◌++◌, map, All}
 use Rattle.std.specs.List.{flat_map}
 use Rattle.std.proofs.Common.{sym, ap}
 use Rattle.std.proofs.lemmas.List.{append-nil}
@@ -8,7 +8,7 @@ use Rattle.gh_ast.specs.Grammar.{Spells}
 use Rattle.gh_ast.specs.Plain.{Program}
 use Rattle.gh_ast.specs.Programs.{variable_names}
 use Rattle.gh_ast.specs.Rules.{IsTyped}
-use Rattle.gh_path.specs.Conditions.{Condition, conditions}
+use Rattle.gh_path.specs.Conditions.{Condition, IsConditionAt}
 use Rattle.gh_trace.specs.Kept.{state_of, drawn}
 use Rattle.gh_trace.specs.Replay.{Refutes}
 use Rattle.gh_trace.specs.declared.state.State.{State}
@@ -29,12 +29,12 @@ two_lines : (a b d e : List ℕ) → d ≡ e → (a ++ b) ++ e ≡ (a ++ (b ++ [
 two_lines a b d e same = rw same (simp append-nil)
 
 -- after a line and the description
-pub report_of_refuted : (source : List ℕ) (P : Program) (first : List ℕ) (n : ℕ) (c : Condition) (xs : List State) → Spells source P → IsTyped P → IsOtherLine first → 1 ≤ n → IsValue n
-    → slice_get (conditions P) (n - 1) ≡ Some c → (r : Refutes P c (map drawn xs)) → All HasValues xs
+pub report_of_refuted : (source : List ℕ) (P : Program) (first : List ℕ) (n : ℕ) (c : Condition) (xs : List State) → Spells source P → IsTyped P → IsOtherLine first → IsConditionAt P n c → IsValue n
+    → (r : Refutes P c (map drawn xs)) → All HasValues xs
     → IsFileOf P (line first ++ line (description P c) ++ drawing n (variable_names r.procedure) (map state_of xs)) n xs
-report_of_refuted source P first n c xs spells typed other low fits numbered r values =
-    let d = drawn_of_refuted P n c xs low fits numbered r values in
-    let second = description_is_other source P c spells (numbered_there P n c numbered) in
+report_of_refuted source P first n c xs spells typed other at fits r values =
+    let d = drawn_of_refuted P n c xs at fits r values in
+    let second = description_is_other source P c spells (numbered_there P n c at.1) in
     record {
       skipped = first ∷ description P c ∷ [];
       others = All-cons IsOtherLine first (description P c ∷ []) other (All-cons IsOtherLine (description P c) [] second (All-nil IsOtherLine));

@@ -11,7 +11,7 @@ use Rattle.std.proofs.lemmas.List.{append_assoc, take_all, length-drop, take-app
 use Rattle.std.proofs.lemmas.Fmt.{decimal_digit, decimal_nonempty, first_decimal, digits_value-decimal, decimal-digits_value, IsAscii-from_digits}
 use Rattle.std.proofs.lemmas.Str.{IsUtf8-from_ascii}
 use Rattle.gh_draw.specs.Drawn.{IsValue}
-use Rattle.gh_draw.specs.Reading.{NoDigitFirst, IsSplitAt, IsParsed, HasLeadingZero, ShowsNumber, IsLineEnd, IsLine}
+use Rattle.gh_draw.specs.Reading.{NoDigitFirst, IsSplitAt, IsValueOf, HasLeadingZero, ShowsNumber, IsLineEnd, IsLine}
 use Rattle.gh_draw.proofs.Fronts.{own_digits, each_digit, decimal_digits, span_one, wide}
 
 first_true : (a b : Bool) → (a && b) ≡ true → a ≡ true
@@ -55,7 +55,7 @@ not_less n m h = elim (either n m) [ inl less ↦ absurd (h less) | inr more ↦
     either : (n m : ℕ) → (n < m) ⊎ (m ≤ n)
     either n m = grind arith
 
-pub parsed_is : (ds : List ℕ) (n : ℕ) → all_ascii_digits ds ≡ true → (HasLeadingZero ds → ⊥) → IsParsed ds n → ds ≡ decimal n
+pub parsed_is : (ds : List ℕ) (n : ℕ) → all_ascii_digits ds ≡ true → (HasLeadingZero ds → ⊥) → IsValueOf ds n → ds ≡ decimal n
 parsed_is ds n h z p =
     let small : digits_value 10 ds < 2 ^ 64 = wide (digits_value 10 ds) (subst IsValue p.value_is p.fits) in
     let some : 0 < length ds = p.some in

@@ -240,8 +240,7 @@ file_shown P t n xs f =
         condition = f.drawn.condition;
         procedure = f.drawn.procedure;
         of = f.drawn.of;
-        low = f.drawn.low;
-        numbered = f.drawn.numbered;
+        at = f.drawn.at;
         some = f.drawn.some;
         states = states_shown (variable_names f.drawn.procedure) 0 xs [] f.drawn.states;
       };
@@ -259,7 +258,7 @@ shown_file P t n xs f = parts f.condition
       others = f.skips.others;
       whole = f.skips.whole ∙ ap (λ z. flat_map line f.skips.skipped ++ (codes "drawing\n" ++ z)) (p ∙ ap (λ z. codes "condition " ++ z) (s.shown ∙ ap (λ z. decimal n ++ (10 ∷ z)) all.text))
           ∙ sym (whole_apart (flat_map line f.skips.skipped) (decimal n) (kept_texts 0 xs));
-      drawn = record { condition = f.trace.condition; procedure = f.trace.procedure; of = f.trace.of; low = f.trace.low; fits = s.fits; numbered = f.trace.numbered; some = f.trace.some; states = all.drawn };
+      drawn = record { condition = f.trace.condition; procedure = f.trace.procedure; of = f.trace.of; at = f.trace.at; fits = s.fits; some = f.trace.some; states = all.drawn };
     }
 
 -- of one condition one procedure
@@ -270,7 +269,7 @@ pub file_one : (P : Program) (t : List ℕ) (n m : ℕ) (xs ys : List State) →
 file_one P t n m xs ys f g =
     let bodies : f.body ≡ g.body = skips_one t f.body g.body f.skips g.skips in
     let numbers = condition_one g.body n m f.states_text g.states_text (subst (λ z. ShowsCondition z n f.states_text) bodies f.condition) g.condition in
-    let same : f.trace.condition ≡ g.trace.condition = one_value (slice_get (conditions P) (m - 1)) f.trace.condition g.trace.condition (subst (λ z. slice_get (conditions P) (z - 1) ≡ Some f.trace.condition) numbers.0 f.trace.numbered) g.trace.numbered in
+    let same : f.trace.condition ≡ g.trace.condition = one_value (slice_get (conditions P) (m - 1)) f.trace.condition g.trace.condition (subst (λ z. slice_get (conditions P) (z - 1) ≡ Some f.trace.condition) numbers.0 f.trace.at.1) g.trace.at.1 in
     let procedures : f.trace.procedure ≡ g.trace.procedure = same_procedure P f.trace.condition g.trace.condition f.trace.procedure g.trace.procedure same f.trace.of g.trace.of in
     let ns = variable_names g.trace.procedure in
     let moved : ShowsStates ns 0 g.states_text xs [] = subst (λ z. ShowsStates ns 0 z xs []) numbers.1 (subst (λ (p : Procedure). ShowsStates (variable_names p) 0 f.states_text xs []) procedures f.trace.states) in

@@ -1,5 +1,5 @@
 -- A whole file: the states for a condition, and a drawing after the lines that are skipped.
-use Rattle.std.specs.Prelude.{◌≡◌, ◌≢◌, ◌⊎◌, ℕ, ◌-◌, ◌<◌, ◌≤◌, List, [], ◌∷◌, length, get_or, slice_get, Option, Some, None, true, false, ◌==◌, AllPairs}
+use Rattle.std.specs.Prelude.{◌≡◌, ◌≢◌, ◌⊎◌, ℕ, ◌-◌, ◌<◌, List, [], ◌∷◌, length, get_or, slice_get, Option, Some, None, true, false, ◌==◌, AllPairs}
 use Rattle.std.proofs.Common.{refl, sym, ◌∙◌, ap, subst, inl, inr, arith}
 use Rattle.std.proofs.lemmas.List.{length-map}
 use Rattle.std.proofs.lemmas.List.Elements.{All-nil}
@@ -12,7 +12,7 @@ use Rattle.gh_ast.specs.Rules.{IsTyped}
 use Rattle.gh_ast.proofs.Lists.{one_value}
 use Rattle.gh_ast.proofs.TypedPrograms.{variables_are_distinct}
 use Rattle.gh_path.specs.Answers.{IsNumbered}
-use Rattle.gh_path.specs.Conditions.{Condition, conditions, IsOf}
+use Rattle.gh_path.specs.Conditions.{Condition, conditions, IsConditionAt, IsOf}
 use Rattle.gh_path.specs.Kept.{condition_of}
 use Rattle.gh_path.specs.declared.condition.Condition as kept
 use Rattle.gh_trace.specs.declared.state.State.{State}
@@ -31,19 +31,18 @@ file_alone P n xs drawn = record { skipped = []; others = All-nil IsOtherLine; w
 
 -- the condition of the number is the one that a trace is for
 same_numbered : (P : Program) (n : ℕ) (t : List ℕ) (xs : List State) (c : Condition) → slice_get (conditions P) (n - 1) ≡ Some c → (s : ShowsTrace P n t xs) → s.condition ≡ c
-same_numbered P n t xs c there s = one_value (slice_get (conditions P) (n - 1)) s.condition c s.numbered there
+same_numbered P n t xs c there s = one_value (slice_get (conditions P) (n - 1)) s.condition c s.at.1 there
 
 pub trace_no_condition : (P : Program) (n : ℕ) (t : List ℕ) → IsNumbered P n None → (xs : List State) → ShowsTrace P n t xs → ⊥
-trace_no_condition P n t (inl none) xs s = absurd (omega (arith, none, s.low))
-trace_no_condition P n t (inr past) xs s = absurd (omega (arith, s.low, past, slice_get_within (conditions P) (n - 1) s.condition s.numbered))
+trace_no_condition P n t (inl none) xs s = absurd (let low = s.at.0 in omega (arith, none, low))
+trace_no_condition P n t (inr past) xs s = absurd (let low = s.at.0 in omega (arith, low, past, slice_get_within (conditions P) (n - 1) s.condition s.at.1))
 
 -- names that are the variables of the condition of a number
 pub record AreNamesFor (P : Program) (n : ℕ) (ns : List Name) : Type 0 where
   pub condition : Condition
   pub procedure : Procedure
   pub of : IsOf P condition procedure
-  pub low : 1 ≤ n
-  pub numbered : slice_get (conditions P) (n - 1) ≡ Some condition
+  pub at : IsConditionAt P n condition
   pub names : ns ≡ variable_names procedure
 
 pub names_for : (P : read.Program) (n : ℕ) (r : kept.Condition) (q : _) (ns : List Name) → IsNumbered (program_of P) n (Some r) → q ≡ get_or P.procedures.items r.procedure q → ns ≡ variable_names (procedure_of q)
@@ -54,14 +53,13 @@ names_for P n r q ns (low, there) is named =
       condition = condition_of r;
       procedure = at.procedure;
       of = at.of;
-      low = low;
-      numbered = there;
+      at = (low, there);
       names = named ∙ ap variable_names (image procedure_of P.procedures.items r.procedure q at.procedure is at.of);
     }
 
 moved : (P : Program) (n : ℕ) (ns : List Name) (t : List ℕ) (xs : List State) → AreNamesFor P n ns → ShowsTrace P n t xs → ShowsStates ns 0 t xs []
 moved P n ns t xs a s =
-    let same = same_procedure P s.condition a.condition s.procedure a.procedure (same_numbered P n t xs a.condition a.numbered s) s.of a.of in
+    let same = same_procedure P s.condition a.condition s.procedure a.procedure (same_numbered P n t xs a.condition a.at.1 s) s.of a.of in
     subst (λ z. ShowsStates z 0 t xs []) (sym a.names) (subst (λ (p : Procedure). ShowsStates (variable_names p) 0 t xs []) same s.states)
 
 pub trace_no_states : (P : Program) (n : ℕ) (ns : List Name) (t left : List ℕ) → AreNamesFor P n ns → IsFrontRead (ShowsStates ns 0) t left None → (xs : List State) → ShowsTrace P n t xs → ⊥
@@ -79,8 +77,7 @@ trace_whole P n ns t left ys a shown some none = record {
   condition = a.condition;
   procedure = a.procedure;
   of = a.of;
-  low = a.low;
-  numbered = a.numbered;
+  at = a.at;
   some = some;
   states = subst (λ z. ShowsStates z 0 t ys []) a.names (subst (λ z. ShowsStates ns 0 t ys z) none shown);
 }

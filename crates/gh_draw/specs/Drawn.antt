@@ -1,6 +1,5 @@
 -- Drawings as they are kept, and the files that have one.
-use Rattle.std.specs.Prelude.{◌≡◌, ◌≢◌, ℕ, suc, ◌-◌, ◌<◌, ◌≤◌, ◌^◌, List, [], ◌∷◌, ◌++◌, codes, All, Contains, Some}
-use Rattle.std.specs.Prelude.{slice_get, map}
+use Rattle.std.specs.Prelude.{◌≡◌, ◌≢◌, ℕ, suc, ◌<◌, ◌^◌, List, [], ◌∷◌, ◌++◌, codes, All, Contains, map}
 use Rattle.std.specs.List.{flat_map}
 use Rattle.std.specs.Fmt.{decimal}
 use Rattle.std.specs.FinMap.{entries}
@@ -8,7 +7,7 @@ use Rattle.gh_ast.specs.Plain.{Procedure, Program}
 use Rattle.gh_ast.specs.Programs.{Name, variable_names}
 use Rattle.gh_assert.specs.declared.store.Entry.{Entry}
 use Rattle.gh_assert.specs.Stores.{listed_names}
-use Rattle.gh_path.specs.Conditions.{Condition, conditions, IsOf}
+use Rattle.gh_path.specs.Conditions.{Condition, IsConditionAt, IsOf}
 use Rattle.gh_trace.specs.Kept.{state_of}
 use Rattle.gh_trace.specs.Validity.{AreCounterexample}
 use Rattle.gh_trace.specs.declared.state.State.{State}
@@ -53,12 +52,12 @@ pub record HasValues (s : State) : Type 0 where
   pub cells : All IsDrawnCell (entries s.heap)
 
 -- the store has these variables in their order
-abbrev pub IsOver : List Name → State → Type 0
-IsOver names s = listed_names s.store ≡ names
+abbrev pub HasVariables : List Name → State → Type 0
+HasVariables names s = listed_names s.store ≡ names
 
 -- a state over these variables in which all values are within 32 bits, and null has no cell
 pub record IsDrawnState (names : List Name) (s : State) : Type 0 where
-  pub over : IsOver names s
+  pub over : HasVariables names s
   pub values : All (λ e. IsValue e.value) s.store
   pub cells : All IsDrawnCell (entries s.heap)
 
@@ -67,9 +66,8 @@ pub record IsDrawnFor (P : Program) (number : ℕ) (ss : List State) : Type 0 wh
   pub condition : Condition
   pub procedure : Procedure
   pub of : IsOf P condition procedure
-  pub low : 1 ≤ number
+  pub at : IsConditionAt P number condition
   pub fits : IsValue number
-  pub numbered : slice_get (conditions P) (number - 1) ≡ Some condition
   pub some : ss ≢ []
   pub states : All (IsDrawnState (variable_names procedure)) ss
 

@@ -1,5 +1,5 @@
 -- Drawings and their files.
-use Rattle.std.specs.Prelude.{◌≡◌, ◌≢◌, ℕ, ◌-◌, ◌≤◌, List, [], ◌++◌, map, All, Contains, Option, Some, slice_get}
+use Rattle.std.specs.Prelude.{◌≡◌, ◌≢◌, ℕ, List, [], ◌++◌, map, All, Contains, Option}
 use Rattle.std.specs.List.{flat_map}
 use Rattle.gh_ast.specs.Grammar.{Spells}
 use Rattle.gh_ast.specs.Plain.{Procedure, Program}
@@ -7,13 +7,13 @@ use Rattle.gh_ast.specs.Programs.{Name, variable_names}
 use Rattle.gh_ast.specs.Rules.{IsTyped}
 use Rattle.gh_assert.specs.Heaps.{IsProper}
 use Rattle.gh_assert.specs.Stores.{listed_names, AreDistinct}
-use Rattle.gh_path.specs.Conditions.{Condition, conditions, IsOf}
+use Rattle.gh_path.specs.Conditions.{Condition, conditions, IsConditionAt, IsOf}
 use Rattle.gh_trace.specs.Kept.{state_of, drawn}
 use Rattle.gh_trace.specs.Replay.{Refutes}
 use Rattle.gh_trace.specs.declared.state.State.{State}
 use Rattle.gh_draw.specs.Descriptions.{description}
 use Rattle.gh_draw.specs.Drawings.{line, drawing, IsDrawable}
-use Rattle.gh_draw.specs.Drawn.{drawing_text, IsValue, HasValues, IsOver, IsDrawnFor, IsTold, IsOtherLine, IsFileOf}
+use Rattle.gh_draw.specs.Drawn.{drawing_text, IsValue, HasValues, HasVariables, IsDrawnFor, IsTold, IsOtherLine, IsFileOf}
 use Rattle.gh_draw.specs.Reading.{IsDrawingIn, IsDrawingOf}
 use Rattle.gh_draw.specs.declared.drawing.Drawing.{Drawing}
 
@@ -27,8 +27,8 @@ DrawingsAreFiles = (P : Program) (n : ℕ) (xs : List State) → IsDrawnFor P n 
 
 -- what is read from the text of a drawing over the variables of its condition is that drawing
 abbrev pub DrawingsReadBack : Type 0
-DrawingsReadBack = (P : Program) (n : ℕ) (c : Condition) (p : Procedure) (xs : List State) (read : Option Drawing) → 1 ≤ n → IsValue n → slice_get (conditions P) (n - 1) ≡ Some c
-    → IsOf P c p → xs ≢ [] → All (IsOver (variable_names p)) xs → All HasValues xs → IsDrawingIn P (drawing_text n xs) read → IsDrawingOf n xs read
+DrawingsReadBack = (P : Program) (n : ℕ) (c : Condition) (p : Procedure) (xs : List State) (read : Option Drawing) → IsConditionAt P n c → IsValue n
+    → IsOf P c p → xs ≢ [] → All (HasVariables (variable_names p)) xs → All HasValues xs → IsDrawingIn P (drawing_text n xs) read → IsDrawingOf n xs read
 
 -- the text of a drawing is that of its states over the variables of its condition
 abbrev pub DrawingsAreTold : Type 0
@@ -42,7 +42,7 @@ ReportsAreFiles = (P : Program) (lines : List (List ℕ)) (n : ℕ) (xs : List S
 -- kept states that refute the condition of a number are told by their drawing
 abbrev pub RefutationsAreTold : Type 0
 RefutationsAreTold =
-    (P : Program) (n : ℕ) (c : Condition) (xs : List State) → IsTyped P → slice_get (conditions P) (n - 1) ≡ Some c → Refutes P c (map drawn xs) → All HasValues xs → IsTold P n c xs
+    (P : Program) (n : ℕ) (c : Condition) (xs : List State) → IsTyped P → IsConditionAt P n c → Refutes P c (map drawn xs) → All HasValues xs → IsTold P n c xs
 
 -- the description of a condition of a program that a text spells is a line that may stand before a drawing
 abbrev pub DescriptionsAreLines : Type 0
@@ -52,8 +52,8 @@ DescriptionsAreLines = (source : List ℕ) (P : Program) (c : Condition) → Spe
 -- has these states
 abbrev pub RefutationsAreFiles : Type 0
 RefutationsAreFiles =
-    (source : List ℕ) (P : Program) (first : List ℕ) (n : ℕ) (c : Condition) (xs : List State) → Spells source P → IsTyped P → IsOtherLine first → 1 ≤ n → IsValue n
-    → slice_get (conditions P) (n - 1) ≡ Some c → (r : Refutes P c (map drawn xs)) → All HasValues xs
+    (source : List ℕ) (P : Program) (first : List ℕ) (n : ℕ) (c : Condition) (xs : List State) → Spells source P → IsTyped P → IsOtherLine first → IsConditionAt P n c → IsValue n
+    → (r : Refutes P c (map drawn xs)) → All HasValues xs
     → IsFileOf P (line first ++ line (description P c) ++ drawing n (variable_names r.procedure) (map state_of xs)) n xs
 
 -- where each name stands once and null has no cell, kept states have values within 32 bits exactly where the states

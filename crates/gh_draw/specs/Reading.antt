@@ -1,6 +1,6 @@
 -- What the parts of a drawing show at the front of a text, with what is left of it after them.
-use Rattle.std.specs.Prelude.{◌≡◌, ◌≢◌, ℕ, suc, ◌-◌, ◌<◌, ◌≤◌, ◌++◌, List, [], ◌∷◌, codes, Option, Some, None, ⊤, Bool}
-use Rattle.std.specs.Prelude.{true, false, Contains, All, AllPairs, slice_get, slice_index, take, drop, length}
+use Rattle.std.specs.Prelude.{◌≡◌, ◌≢◌, ℕ, suc, ◌<◌, ◌≤◌, ◌++◌, List, [], ◌∷◌, codes, Option, Some, None, ⊤, Bool}
+use Rattle.std.specs.Prelude.{true, false, Contains, All, AllPairs, slice_index, take, drop, length}
 use Rattle.std.specs.Prelude.{option_map, Vec}
 use Rattle.std.specs.Global.{Global}
 use Rattle.std.specs.Int.{IsInRange}
@@ -14,7 +14,7 @@ use Rattle.gh_ast.specs.Plain.{Procedure, Program}
 use Rattle.gh_ast.specs.Programs.{Name, variable_names}
 use Rattle.gh_assert.specs.Heaps.{Heap}
 use Rattle.gh_assert.specs.declared.store.Entry.{Entry}
-use Rattle.gh_path.specs.Conditions.{Condition, conditions, IsOf}
+use Rattle.gh_path.specs.Conditions.{Condition, IsConditionAt, IsOf}
 use Rattle.gh_trace.specs.declared.state.State.{State}
 use Rattle.gh_trace.specs.declared.state.Trace.{Trace}
 use Rattle.gh_draw.specs.Drawings.{line}
@@ -48,7 +48,7 @@ abbrev pub HasLeadingZero : List ℕ → Type 0
 HasLeadingZero digits = (1 < length digits) × (slice_index digits 0 ≡ 48)
 
 -- n is the value of the digits, of which there is at least one, and fits 32 bits
-pub record IsParsed (digits : List ℕ) (n : ℕ) : Type 0 where
+pub record IsValueOf (digits : List ℕ) (n : ℕ) : Type 0 where
   pub some : 0 < length digits
   pub fits : IsValue n
   pub value_is : n ≡ digits_value 10 digits
@@ -116,8 +116,7 @@ pub record ShowsTrace (P : Program) (number : ℕ) (text : List ℕ) (ss : List 
   pub condition : Condition
   pub procedure : Procedure
   pub of : IsOf P condition procedure
-  pub low : 1 ≤ number
-  pub numbered : slice_get (conditions P) (number - 1) ≡ Some condition
+  pub at : IsConditionAt P number condition
   pub some : ss ≢ []
   pub states : ShowsStates (variable_names procedure) 0 text ss []
 

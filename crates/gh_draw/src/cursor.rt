@@ -1,12 +1,12 @@
 //! What is left of a text, and steps over its front.
 
-ghost use Rattle.std.specs.Prelude.{◌≡◌, ◌<◌, ◌≤◌, ◌^◌, ℕ, ◌↔◌, IfNone, IsTrue, MatchOption, true, length};
+ghost use Rattle.std.specs.Prelude.{◌≡◌, ◌<◌, ◌≤◌, ◌^◌, ℕ, ◌↔◌, IfNone, IsTrue, MatchOption, true, false, length};
 ghost use Rattle.std.specs.Str.Parse.{digits_value};
 ghost use Rattle.std.specs.Str.{all_ascii_digits};
 ghost use Rattle.std.specs.Fmt.{decimal};
 ghost use Rattle.gh_draw.specs.Drawn.{IsValue};
 ghost use Rattle.gh_draw.specs.Reading.{IsFrontRead, ShowsWord, ShowsNumber, ShowsValue, ShowsCell, IsLine, IsSplitAt};
-ghost use Rattle.gh_draw.specs.Reading.{IsParsed, HasLeadingZero, IsLineEnd, HasNoEnd};
+ghost use Rattle.gh_draw.specs.Reading.{IsValueOf, HasLeadingZero, IsLineEnd, HasNoEnd};
 
 use std::str;
 
@@ -31,7 +31,7 @@ fn digits_first(text: &[u8]) -> usize
 // The value of a text of digits, where it has one that fits 32 bits.
 fn parsed(text: &str) -> Option<u32>
     requires { all_ascii_digits text.now ≡ true }
-    ensures { MatchOption result (0 < length text.now → 2 ^ 32 ≤ digits_value 10 text.now) (IsParsed text.now) }
+    ensures { MatchOption result (0 < length text.now → 2 ^ 32 ≤ digits_value 10 text.now) (IsValueOf text.now) }
 {
     match text.parse::<u32>() {
         Ok(value) => Some(value),
@@ -74,7 +74,7 @@ pub fn line_end(text: &[u8]) -> Option<usize>
 }
 
 impl<'t> Cursor<'t> {
-    /// Takes a word, where it is next.
+    /// Takes a word, where it is next; else nothing is taken.
     pub fn take(&mut self, word: &[u8]) -> Option<()>
         ensures read { IsFrontRead (ShowsWord word.now) self.old.text.now self.new.text.now result }
         ensures stays { IfNone result (self.new.text.now ≡ self.old.text.now) }
@@ -83,9 +83,10 @@ impl<'t> Cursor<'t> {
         Some(())
     }
 
-    /// Takes a number without leading zeros, where it is next.
+    /// Takes a number without leading zeros, where it is next; else nothing is taken.
     pub fn number(&mut self) -> Option<u32>
-        ensures { IsFrontRead ShowsNumber self.old.text.now self.new.text.now result }
+        ensures read { IsFrontRead ShowsNumber self.old.text.now self.new.text.now result }
+        ensures stays { IfNone result (self.new.text.now ≡ self.old.text.now) }
     {
         let (digits, rest) = self.text.split_at(digits_first(self.text));
         let value = value_of(digits)?;
@@ -93,29 +94,37 @@ impl<'t> Cursor<'t> {
         Some(value)
     }
 
-    /// Takes ` NAME=VALUE` for a name, where it is next, and gives the value.
+    /// Takes ` NAME=VALUE` for a name, where it is next, and gives the value; else nothing is taken.
     pub fn value(&mut self, name: &[u8]) -> Option<u32>
-        ensures { IsFrontRead (ShowsValue name.now) self.old.text.now self.new.text.now result }
+        ensures read { IsFrontRead (ShowsValue name.now) self.old.text.now self.new.text.now result }
+        ensures stays { IfNone result (self.new.text.now ≡ self.old.text.now) }
     {
-        self.take(b" ")?;
-        self.take(name)?;
-        self.take(b"=")?;
-        self.number()
+        let mut ahead = Cursor { text: self.text };
+        ahead.take(b" ")?;
+        ahead.take(name)?;
+        ahead.take(b"=")?;
+        let value = ahead.number()?;
+        self.text = ahead.text;
+        Some(value)
     }
 
-    /// Takes `PLACE->CONTENT`, where it is next, and gives both.
+    /// Takes `PLACE->CONTENT`, where it is next, and gives both; else nothing is taken.
     pub fn cell(&mut self) -> Option<(u32, u32)>
-        ensures { IsFrontRead ShowsCell self.old.text.now self.new.text.now result }
+        ensures read { IsFrontRead ShowsCell self.old.text.now self.new.text.now result }
+        ensures stays { IfNone result (self.new.text.now ≡ self.old.text.now) }
     {
-        let at = self.number()?;
-        self.take(b"->")?;
-        let to = self.number()?;
+        let mut ahead = Cursor { text: self.text };
+        let at = ahead.number()?;
+        ahead.take(b"->")?;
+        let to = ahead.number()?;
+        self.text = ahead.text;
         Some((at, to))
     }
 
-    /// Skips a line, if there is one.
+    /// Skips a line, if there is one; else nothing is skipped.
     pub fn line(&mut self) -> bool
         ensures line { IsLine self.old.text.now self.new.text.now result }
+        ensures stays { result ≡ false → self.new.text.now ≡ self.old.text.now }
     {
         let Some(end) = line_end(self.text) else {
             return false;

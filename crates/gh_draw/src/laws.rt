@@ -47,7 +47,8 @@ pub fn refutations_are_files()
     ensures { RefutationsAreFiles }
 {}
 
-/// A kept state has values within 32 bits exactly where the state that it stands for is drawable.
+/// Where each name stands once and null has no cell, a kept state has values within 32 bits exactly where the state
+/// that it stands for is drawable.
 pub fn drawable_have_values()
     ensures { DrawableHaveValues }
 {}

@@ -1,6 +1,6 @@
 //! Reading drawings back.
 
-ghost use Rattle.std.specs.Prelude.{◌≡◌, ◌++◌, IfOk, OnOk, OnErr};
+ghost use Rattle.std.specs.Prelude.{◌≡◌, ◌++◌, IfOk, OnOk, OnErr, IfNone};
 ghost use Rattle.gh_ast.specs.Plain.{program_of, procedure_of};
 ghost use Rattle.gh_ast.specs.Programs.{names, variable_names};
 ghost use Rattle.gh_draw.specs.Reading.{IsFrontRead, ShowsWord, heading, ShowsEntries, ShowsCellAbove, ShowsState};
@@ -63,8 +63,8 @@ fn read_values(
     Ok(Some(store))
 }
 
-/// A store with a value for each name, in their order; none where the text shows no such values. Where memory runs
-/// out the text is left as it was.
+/// A store with a value for each name, in their order; none where the text shows no such values. Then, and where
+/// memory runs out, the text is left as it was.
 pub fn read_store(
     alloc: Global,
     cursor: &mut Cursor<'_>,
@@ -72,12 +72,15 @@ pub fn read_store(
 ) -> Result<Option<Store>, AllocError>
     requires { AreDistinctNames names.now }
     ensures read { IfOk result (IsFrontRead (ShowsEntries names.now) cursor.old.text.now cursor.new.text.now) }
+    ensures stays { IfOk result (λ o. IfNone o (cursor.new.text.now ≡ cursor.old.text.now)) }
     ensures err { OnErr result (cursor.new.text.now ≡ cursor.old.text.now) }
 {
     let mut ahead = Cursor { text: cursor.text };
-    let store = read_values(alloc, &mut ahead, names)?;
+    let Some(store) = read_values(alloc, &mut ahead, names)? else {
+        return Ok(None);
+    };
     cursor.text = ahead.text;
-    Ok(store)
+    Ok(Some(store))
 }
 
 // The cells up to the end of the line, and that end; none where the text shows no ascending cells there.
@@ -96,16 +99,19 @@ fn read_cells(alloc: Global, cursor: &mut Cursor<'_>) -> Result<Option<Heap>, Al
     Ok(Some(heap))
 }
 
-/// The cells up to the end of the line, and that end; none where the text shows no ascending cells there. Where
-/// memory runs out the text is left as it was.
+/// The cells up to the end of the line, and that end; none where the text shows no ascending cells there. Then, and
+/// where memory runs out, the text is left as it was.
 pub fn read_heap(alloc: Global, cursor: &mut Cursor<'_>) -> Result<Option<Heap>, AllocError>
     ensures read { IfOk result (IsFrontRead ShowsHeap cursor.old.text.now cursor.new.text.now) }
+    ensures stays { IfOk result (λ o. IfNone o (cursor.new.text.now ≡ cursor.old.text.now)) }
     ensures err { OnErr result (cursor.new.text.now ≡ cursor.old.text.now) }
 {
     let mut ahead = Cursor { text: cursor.text };
-    let heap = read_cells(alloc, &mut ahead)?;
+    let Some(heap) = read_cells(alloc, &mut ahead)? else {
+        return Ok(None);
+    };
     cursor.text = ahead.text;
-    Ok(heap)
+    Ok(Some(heap))
 }
 
 // A cell above a place.

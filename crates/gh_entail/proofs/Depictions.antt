@@ -15,7 +15,7 @@ use Rattle.gh_assert.proofs.Hops.{hop_rows}
 use Rattle.gh_assert.proofs.Owned.{named_or}
 use Rattle.gh_assert.proofs.Tests.{walk_short, tests_decide}
 use Rattle.gh_assert.proofs.WalkLaws.{unallocated_stay}
-use Rattle.gh_model.specs.Structures.{IsModel}
+use Rattle.gh_model.specs.Structures.{IsModelOver}
 use Rattle.gh_model.specs.Laws.{IsBuilt}
 use Rattle.gh_model.proofs.heaps.Representation.{one_hop, some_decides}
 use Rattle.gh_model.proofs.heaps.HeapAxioms.{is_ordered}
@@ -141,7 +141,7 @@ depictions_look_alike V h m null c0 T = record {
   inside = succ_named V m M;
 }
   where
-    M : IsModel V m
+    M : IsModelOver V m
     M = depictions_are_models V h m null c0 T
 
     B : IsBuilt V m

@@ -3,14 +3,14 @@ use Rattle.std.specs.Prelude.{◌≡◌, ℕ, ◌+◌, ◌<◌, List, [], ◌∷
 use Rattle.std.proofs.Common.{refl, sym, ◌∙◌, ap, subst, arith}
 use Rattle.std.proofs.lemmas.List.{length-map}
 use Rattle.std.proofs.lemmas.List.Elements.{All-head, All-tail}
+use Rattle.gh_base.specs.Atoms.{term}
 use Rattle.gh_assert.specs.Meaning.{Store}
 use Rattle.gh_path.specs.Terms.{Kind, null, next, no_terms}
-use Rattle.gh_grass.specs.Bindings.{term}
 use Rattle.gh_grass.specs.Claims.{negation_of}
 use Rattle.gh_grass.specs.Truth.{truth, AreTrue}
 use Rattle.gh_grass.proofs.LawLemmas.{clauses_mean_formulas}
 use Rattle.gh_symb.specs.Formulas.{allocated, each, leads, successors_from, version_claims}
-use Rattle.gh_model.specs.Structures.{Structure}
+use Rattle.gh_model.specs.Structures.{HeapStructure}
 use Rattle.gh_model.specs.BuiltHeaps.{built}
 use Rattle.gh_model.specs.Classes.{numbers, class_of, classes, HasClasses}
 use Rattle.gh_model.specs.Versions.{equal_in, version_of}
@@ -34,7 +34,7 @@ models_fail q m I =
     let n = length K in
     let E = equal_in m in
     let V : List ℕ = classes E n in
-    let M : Structure = version_of m 0 in
+    let M : HeapStructure = version_of m 0 in
     let st : Store = store_from q m in
     let F = claim_formula K t.bindings q.left in
     let G = claim_formula K t.bindings q.right in

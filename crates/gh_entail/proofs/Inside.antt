@@ -7,13 +7,12 @@ use Rattle.gh_base.specs.declared.term.TermKind.{TermKind}
 use Rattle.gh_base.specs.Grounds.{Problem}
 use Rattle.gh_path.specs.Terms.{Kind, null, Bindings, with_value, Terms, walked, no_terms}
 use Rattle.gh_grass.specs.declared.binding.Bond.{Bond}
-use Rattle.gh_grass.specs.Claims as ground
-use Rattle.gh_grass.specs.Claims.{claims_of, negation_of}
+use Rattle.gh_grass.specs.Claims.{claims_of, negation_of, GroundClaim}
 use Rattle.gh_symb.specs.Symbolic.{Under}
 use Rattle.gh_symb.specs.Formulas.{variables, version_claims}
 use Rattle.gh_symb.specs.Encodings.{plain_kind, IsBinding}
 use Rattle.gh_symb.specs.Fitting.{EncodesBinding}
-use Rattle.gh_symb.specs.Tables.{Bound as Table, bound_by, state}
+use Rattle.gh_symb.specs.Tables.{Pairs, bound_by, state}
 use Rattle.gh_reduce.specs.Growth.{stated_in, IsWithin, AreWithin}
 use Rattle.gh_symb.specs.Inside.{binding_of, AreSuccessors, IsReady}
 use Rattle.gh_symb.proofs.EncodedLemmas.{same_function}
@@ -53,20 +52,20 @@ question_sound q =
     claim_sound q.right true (claim_walked false q.left no_terms) (claim_sound q.left false no_terms (record { some = omega arith; successors = tt; bindings = nothing_bound 1 }))
 
 -- a walk over a question that lists few kinds has terms and versions of 8 bits
-walk_sound : (q : Question) (ks : List Kind) (es : Table) → state ks es 0 ≡ question_walked q → Sound (state ks es 0)
+walk_sound : (q : Question) (ks : List Kind) (es : Pairs) → state ks es 0 ≡ question_walked q → Sound (state ks es 0)
 walk_sound q ks es e = subst Sound (sym e) (question_sound q)
 
 -- walks over the left claim and then over the right one, from null alone, are a walk over the question
-pub walked_both : (q : Question) (ks ls ms : List Kind) (es fs gs : Table) → ks ≡ null ∷ [] → es ≡ [] → state ls fs 0 ≡ claim_walked false q.left (state ks es 0)
+pub walked_both : (q : Question) (ks ls ms : List Kind) (es fs gs : Pairs) → ks ≡ null ∷ [] → es ≡ [] → state ls fs 0 ≡ claim_walked false q.left (state ks es 0)
     → state ms gs 0 ≡ claim_walked true q.right (state ls fs 0) → state ms gs 0 ≡ question_walked q
 walked_both q ks ls ms es fs gs first none left right =
     let begun : state ks es 0 ≡ no_terms = ap (λ k. state k es 0) first ∙ ap (λ e. state (null ∷ []) e 0) none in
     right ∙ ap (claim_walked true q.right) (left ∙ ap (claim_walked false q.left) begun)
 
-pub short_kinds : (q : Question) (ks : List Kind) (es : Table) → state ks es 0 ≡ question_walked q → length ks ≤ 32 → AreSuccessors 256 256 ks
+pub short_kinds : (q : Question) (ks : List Kind) (es : Pairs) → state ks es 0 ≡ question_walked q → length ks ≤ 32 → AreSuccessors 256 256 ks
 short_kinds q ks es e few = successors_more (length ks) 256 1 256 (omega (arith, few)) (omega arith) ks (walk_sound q ks es e).successors
 
-pub bindings_are : (q : Question) (ks : List Kind) (es : Table) (bonds : List Bond) → state ks es 0 ≡ question_walked q → length ks ≤ 32 → EncodesBinding bonds (bound_by es) → IsBinding bonds (question_walked q).bindings
+pub bindings_are : (q : Question) (ks : List Kind) (es : Pairs) (bonds : List Bond) → state ks es 0 ≡ question_walked q → length ks ≤ 32 → EncodesBinding bonds (bound_by es) → IsBinding bonds (question_walked q).bindings
 bindings_are q ks es bonds e few encodes =
     subst (IsBinding bonds) (ap (λ (s : Terms). s.bindings) e)
     (λ x. encodes x (let there = term_there x (state ks es 0) (walk_sound q ks es e) in omega (arith, there, few)))
@@ -115,7 +114,7 @@ pub ready_at : (q : Question) (ks : List TermKind) (bonds : List Bond) (p : Prob
 ready_at q ks bonds p n k e m = subst (λ (x : Problem). IsReady x.sizes.terms (map plain_kind ks)) (sym e) (subst (λ i. IsReady i (map plain_kind ks)) (sym m) k.ready)
 
 -- a claim is in range of the clauses so far
-pub claim_at : (q : Question) (ks : List TermKind) (bonds : List Bond) (p r : Problem) (n : ℕ) (fs : List ground.Claim) (c : Claim) → Kept q ks bonds → p ≡ empty_problem n 1 → n ≡ length ks → r ≡ stated_in p fs
+pub claim_at : (q : Question) (ks : List TermKind) (bonds : List Bond) (p r : Problem) (n : ℕ) (fs : List GroundClaim) (c : Claim) → Kept q ks bonds → p ≡ empty_problem n 1 → n ≡ length ks → r ≡ stated_in p fs
     → IsWithin r.sizes (claim_formula (map plain_kind ks) (binding_of bonds) c)
 claim_at q ks bonds p r n fs c k e m to =
     let first : p.sizes.terms ≡ n = ap (λ (x : Problem). x.sizes.terms) e in
@@ -136,7 +135,7 @@ pub question_is : (q : Question) (ks : List TermKind) (bonds : List Bond) (p r :
     → r ≡ question_problem q
 question_is q ks bonds p r n k e m to =
     let t = question_walked q in
-    let form : List Kind → Bindings → List ground.Claim = λ xs b. version_claims xs 0 ++ claim_formula xs b q.left ∷ negation_of (claim_formula xs b q.right) ∷ [] in
+    let form : List Kind → Bindings → List GroundClaim = λ xs b. version_claims xs 0 ++ claim_formula xs b q.left ∷ negation_of (claim_formula xs b q.right) ∷ [] in
     to
     ∙ ap (λ (x : Problem). stated_in x (form (map plain_kind ks) (binding_of bonds))) (e ∙ ap (λ i. empty_problem i 1) (m ∙ k.count))
     ∙ ap (λ xs. stated_in (empty_problem (length t.kinds) 1) (form xs (binding_of bonds))) k.terms

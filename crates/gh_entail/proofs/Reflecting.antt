@@ -4,19 +4,18 @@ use Rattle.std.proofs.Common.{refl, sym, ◌∙◌, ap, subst}
 use Rattle.std.proofs.lemmas.List.Elements.{All-nil, All-cons, All-append, All-weaker}
 use Rattle.gh_base.specs.declared.atom.Atom.TheVariants.{Btwn, Hop, Alloc}
 use Rattle.gh_base.specs.Meaning.{Interpretation, IsCongruence}
+use Rattle.gh_base.specs.Atoms.{term}
 use Rattle.gh_inst.specs.Instances.{instances}
 use Rattle.gh_inst.specs.Violations.{IsInstanceTrue, AreInstancesTrue}
 use Rattle.gh_assert.specs.Heaps.{Heap}
 use Rattle.gh_assert.specs.Walks.{succ, Allocated, Between}
 use Rattle.gh_path.specs.Terms.{Kind, Bindings, no_terms}
-use Rattle.gh_grass.specs.Bindings.{term}
-use Rattle.gh_grass.specs.Claims as ground
-use Rattle.gh_grass.specs.Claims.{negation_of}
+use Rattle.gh_grass.specs.Claims.{negation_of, GroundClaim}
 use Rattle.gh_grass.specs.Truth.{truth, AreTrue, HasEarlier, IsOneBefore}
 use Rattle.gh_grass.proofs.LawLemmas.{formulas_give_clauses}
 use Rattle.gh_symb.specs.Symbolic.{Under}
 use Rattle.gh_symb.specs.Formulas.{version_claims}
-use Rattle.gh_model.specs.Structures.{Structure, IsModel}
+use Rattle.gh_model.specs.Structures.{HeapStructure, IsModelOver}
 use Rattle.gh_model.specs.BuiltHeaps.{built}
 use Rattle.gh_model.specs.Laws.{IsBuilt}
 use Rattle.gh_model.proofs.terms.Extension.{stays}
@@ -90,7 +89,7 @@ model_from q m C I A =
       },
     )
 
-depicted : (V : List ℕ) (h : Heap) (M : Structure) (n : Interpretation) → IsOneBefore 0 (reflection V (λ i. M)) n → Depicts V h M → IsDepicted V h n
+depicted : (V : List ℕ) (h : Heap) (M : HeapStructure) (n : Interpretation) → IsOneBefore 0 (reflection V (λ i. M)) n → Depicts V h M → IsDepicted V h n
 depicted V h M n B T = record {
   classes = λ t u v w e f. (λ same. sym (class_of t v e) ∙ same ∙ class_of u w f, λ same. class_of t v e ∙ same ∙ sym (class_of u w f));
   alloc = λ t x e.
@@ -117,10 +116,10 @@ failures_are_depicted q st h null against =
     let Q = question_valued q h st null in
     let V : List ℕ = Q.values in
     let drawn = depictions_exist V h null in
-    let M : Structure = drawn.0 in
+    let M : HeapStructure = drawn.0 in
     let k : Heap = built V M in
     let c0 = listed V 0 0 Q.valued.kinds.null in
-    let model : IsModel V M = depictions_are_models V h M null c0 drawn.1 in
+    let model : IsModelOver V M = depictions_are_models V h M null c0 drawn.1 in
     let B : IsBuilt V M = models_are_built V M model in
     let like : LooksLike V h k = depictions_look_alike V h M null c0 drawn.1 in
     let seen : Looks K V st h k t = record { like = like; null = B.null; owned = B.owned; sound = sound_of (λ i. h) V st h t refl Q.valued } in
@@ -138,7 +137,7 @@ failures_are_depicted q st h null against =
       sound = sound_of (λ i. k) V st k t refl valued;
     } in
     let A : AreVersions V K (λ i. k) (λ i. M) = record { kinds = kinds; proper = λ i. B.null; owned = λ i. B.owned; represents = λ i. B.represents; models = λ i. model } in
-    let T : ground.Claim → Type 0 = λ g. truth m g ≡ true in
+    let T : GroundClaim → Type 0 = λ g. truth m g ≡ true in
     let F = claim_formula K t.bindings q.left in
     let G = claim_formula K t.bindings q.right in
     let is_left : T F = (claim_is m K V M st t S q.left false no_terms right_grows).1 left in

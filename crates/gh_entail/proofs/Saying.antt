@@ -13,7 +13,7 @@ use Rattle.gh_path.specs.Terms.{Kind, Terms, walked}
 use Rattle.gh_grass.specs.Claims.{claims_of}
 use Rattle.gh_grass.specs.Truth.{truth, all_true, some_true}
 use Rattle.gh_symb.specs.Formulas.{variables, successor}
-use Rattle.gh_model.specs.Structures.{Structure, IsModel}
+use Rattle.gh_model.specs.Structures.{HeapStructure, IsModelOver}
 use Rattle.gh_model.specs.BuiltHeaps.{built}
 use Rattle.gh_model.specs.Homomorphisms.{IsHomomorphism, HaveTerms, HasNext, AtCells, IsPreserved}
 use Rattle.gh_model.specs.Representations.{AgreeOn}
@@ -32,14 +32,14 @@ use Rattle.gh_entail.specs.Formulas.{leaf_formula, claim_formula, claim_formulas
 use Rattle.gh_entail.proofs.Walking.{leaf_grows, claims_grow}
 
 -- version 0 of an interpretation says of the terms t what a model says of their values, which are those of a store and its built heap
-pub record Says (m : Interpretation) (K : List Kind) (V : List ℕ) (M : Structure) (st : Store) (t : Terms) : Type 0 where
+pub record Says (m : Interpretation) (K : List Kind) (V : List ℕ) (M : HeapStructure) (st : Store) (t : Terms) : Type 0 where
   pub count : length V ≡ length K
-  pub model : IsModel V M
+  pub model : IsModelOver V M
   pub homomorphism : IsHomomorphism m 0 (length K) (value_at V) V M
   pub version : t.version ≡ 0
   pub sound : Sound K V st (built V M) t
 
-leaf_is : (m : Interpretation) (K : List Kind) (V : List ℕ) (M : Structure) (st : Store) (t : Terms) → Says m K V M st t → (f : Formula) (s : Terms) → Grows (walked f s) t → IsTrue (truth m (leaf_formula K t.bindings f)) ↔ Meaning f st (built V M)
+leaf_is : (m : Interpretation) (K : List Kind) (V : List ℕ) (M : HeapStructure) (st : Store) (t : Terms) → Says m K V M st t → (f : Formula) (s : Terms) → Grows (walked f s) t → IsTrue (truth m (leaf_formula K t.bindings f)) ↔ Meaning f st (built V M)
 leaf_is m K V M st t S f s g = (λ e. told.whole.0 (preserved.whole.0 e), λ w. preserved.whole.1 (told.whole.1 w))
   where
     B : IsBuilt V M
@@ -68,19 +68,19 @@ leaf_is m K V M st t S f s g = (λ e. told.whole.0 (preserved.whole.0 e), λ w. 
     told = assertions_agree V (built V M) M st f B.null B.owned B.represents (formula_named K V st (built V M) f s (before K V st (built V M) (walked f s) t g S.sound))
 
 mutual
-  pub claim_is : (m : Interpretation) (K : List Kind) (V : List ℕ) (M : Structure) (st : Store) (t : Terms) → Says m K V M st t → (c : Claim) (n : Bool) (s : Terms) → Grows (claim_walked n c s) t → IsTrue (truth m (claim_formula K t.bindings c)) ↔ Holds c st (built V M)
+  pub claim_is : (m : Interpretation) (K : List Kind) (V : List ℕ) (M : HeapStructure) (st : Store) (t : Terms) → Says m K V M st t → (c : Claim) (n : Bool) (s : Terms) → Grows (claim_walked n c s) t → IsTrue (truth m (claim_formula K t.bindings c)) ↔ Holds c st (built V M)
   claim_is m K V M st t S (leaf f) n s g = leaf_is m K V M st t S f s (leaf_grows n (walked f s) t g)
   claim_is m K V M st t S (denial c) n s g = not_is (truth m (claim_formula K t.bindings c)) (Holds c st (built V M)) (claim_is m K V M st t S c (not n) s g)
   claim_is m K V M st t S (every cs) n s g = all_are m K V M st t S cs n s g
   claim_is m K V M st t S (either cs) n s g = some_is m K V M st t S cs n s g
 
-  all_are : (m : Interpretation) (K : List Kind) (V : List ℕ) (M : Structure) (st : Store) (t : Terms) → Says m K V M st t → (cs : Claims) (n : Bool) (s : Terms) → Grows (claims_walked n cs s) t → IsTrue (all_true m (claims_of (claim_formulas K t.bindings cs))) ↔ AllHold cs st (built V M)
+  all_are : (m : Interpretation) (K : List Kind) (V : List ℕ) (M : HeapStructure) (st : Store) (t : Terms) → Says m K V M st t → (cs : Claims) (n : Bool) (s : Terms) → Grows (claims_walked n cs s) t → IsTrue (all_true m (claims_of (claim_formulas K t.bindings cs))) ↔ AllHold cs st (built V M)
   all_are m K V M st t S no_claims n s g = (λ e. tt, λ u. refl)
   all_are m K V M st t S (claim_first c cs) n s g =
       and_is (truth m (claim_formula K t.bindings c)) (all_true m (claims_of (claim_formulas K t.bindings cs))) (Holds c st (built V M)) (AllHold cs st (built V M))
       (claim_is m K V M st t S c n s (onto (claims_grow cs n (claim_walked n c s)) g)) (all_are m K V M st t S cs n (claim_walked n c s) g)
 
-  some_is : (m : Interpretation) (K : List Kind) (V : List ℕ) (M : Structure) (st : Store) (t : Terms) → Says m K V M st t → (cs : Claims) (n : Bool) (s : Terms) → Grows (claims_walked n cs s) t → IsTrue (some_true m (claims_of (claim_formulas K t.bindings cs))) ↔ SomeHolds cs st (built V M)
+  some_is : (m : Interpretation) (K : List Kind) (V : List ℕ) (M : HeapStructure) (st : Store) (t : Terms) → Says m K V M st t → (cs : Claims) (n : Bool) (s : Terms) → Grows (claims_walked n cs s) t → IsTrue (some_true m (claims_of (claim_formulas K t.bindings cs))) ↔ SomeHolds cs st (built V M)
   some_is m K V M st t S no_claims n s g = none_is
   some_is m K V M st t S (claim_first c cs) n s g =
       or_is (truth m (claim_formula K t.bindings c)) (some_true m (claims_of (claim_formulas K t.bindings cs))) (Holds c st (built V M)) (SomeHolds cs st (built V M))

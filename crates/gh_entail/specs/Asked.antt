@@ -4,8 +4,8 @@ use Rattle.gh_base.specs.declared.term.TermKind.{TermKind}
 use Rattle.gh_ast.specs.Plain.{Formula}
 use Rattle.gh_ast.specs.Questions.{Claim, Claims, Question}
 use Rattle.gh_path.specs.Admitted.{most_terms}
-use Rattle.gh_grass.specs.Claims as ground
 use Rattle.gh_grass.specs.declared.binding.Bond.{Bond}
+use Rattle.gh_grass.specs.Claims.{GroundClaim}
 use Rattle.gh_symb.specs.Symbolic.{Under}
 use Rattle.gh_symb.specs.Formulas.{meets, meets_whole}
 use Rattle.gh_symb.specs.Encodings.{plain_kind, IsBinding}
@@ -23,17 +23,17 @@ abbrev pub under_at : List Bond → Formula → Under
 under_at bonds f = record { assertion = f; binding = binding_of bonds; version = 0 }
 
 -- over terms and bonds as they are kept: that some part of the heap meets an assertion, and that the whole heap does
-abbrev pub meets_over : List TermKind → List Bond → Formula → ground.Claim
+abbrev pub meets_over : List TermKind → List Bond → Formula → GroundClaim
 meets_over terms bonds f = meets (map plain_kind terms) (under_at bonds f)
 
-abbrev pub meets_whole_over : List TermKind → List Bond → Formula → ground.Claim
+abbrev pub meets_whole_over : List TermKind → List Bond → Formula → GroundClaim
 meets_whole_over terms bonds f = meets_whole (map plain_kind terms) (under_at bonds f)
 
 -- and the formulas of claims
-abbrev pub claim_over : List TermKind → List Bond → Claim → ground.Claim
+abbrev pub claim_over : List TermKind → List Bond → Claim → GroundClaim
 claim_over terms bonds c = claim_formula (map plain_kind terms) (binding_of bonds) c
 
-abbrev pub claims_over : List TermKind → List Bond → Claims → List ground.Claim
+abbrev pub claims_over : List TermKind → List Bond → Claims → List GroundClaim
 claims_over terms bonds cs = claim_formulas (map plain_kind terms) (binding_of bonds) cs
 
 -- the terms and the bindings of a question

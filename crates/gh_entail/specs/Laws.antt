@@ -1,8 +1,9 @@
 -- The laws.
 use Rattle.std.specs.Prelude.{◌≡◌, ◌↔◌, ℕ, List, length, slice_get, Some, Contains, Decides}
 use Rattle.gh_base.specs.declared.atom.Atom.TheVariants.{Btwn, Hop, Alloc}
-use Rattle.gh_base.specs.Meaning.{Interpretation, IsCongruence, atom_truth}
-use Rattle.gh_inst.specs.Violations.{AreInstancesTrue}
+use Rattle.gh_base.specs.Meaning.{Interpretation, atom_truth}
+use Rattle.gh_base.specs.Atoms.{term}
+use Rattle.gh_inst.specs.Models.{IsModel}
 use Rattle.gh_log.specs.Lines.{LogLine}
 use Rattle.gh_log.specs.Sections.{IsValidSection}
 use Rattle.gh_ast.specs.Plain.{Formula}
@@ -11,9 +12,7 @@ use Rattle.gh_assert.specs.Heaps.{Heap, IsProper}
 use Rattle.gh_assert.specs.Meaning.{Store}
 use Rattle.gh_assert.specs.Walks.{succ, Allocated, Between}
 use Rattle.gh_path.specs.Terms.{next}
-use Rattle.gh_grass.specs.Bindings.{term}
-use Rattle.gh_grass.specs.Truth.{AreClausesTrue}
-use Rattle.gh_model.specs.Structures.{Structure, IsModel}
+use Rattle.gh_model.specs.Structures.{HeapStructure, IsModelOver}
 use Rattle.gh_model.specs.BuiltHeaps.{built}
 use Rattle.gh_model.specs.Classes.{class_of}
 use Rattle.gh_model.specs.Versions.{equal_in}
@@ -31,21 +30,19 @@ WitnessesExist = (f : Formula) (s : Store) (h : Heap) → IsProper h → (z : �
 
 -- each heap is depicted by some structure, owned or not
 abbrev pub DepictionsExist : Type 0
-DepictionsExist = (V : List ℕ) (h : Heap) → IsProper h → (m : Structure) × Depicts V h m
+DepictionsExist = (V : List ℕ) (h : Heap) → IsProper h → (m : HeapStructure) × Depicts V h m
 
 -- which keeps the axioms
 abbrev pub DepictionsAreModels : Type 0
-DepictionsAreModels = (V : List ℕ) (h : Heap) (m : Structure) → IsProper h → Contains V 0 → Depicts V h m → IsModel V m
+DepictionsAreModels = (V : List ℕ) (h : Heap) (m : HeapStructure) → IsProper h → Contains V 0 → Depicts V h m → IsModelOver V m
 
 -- and whose built heap, which is owned, looks like the heap
 abbrev pub DepictionsLookAlike : Type 0
-DepictionsLookAlike = (V : List ℕ) (h : Heap) (m : Structure) → IsProper h → Contains V 0 → Depicts V h m → LooksLike V h (built V m)
+DepictionsLookAlike = (V : List ℕ) (h : Heap) (m : HeapStructure) → IsProper h → Contains V 0 → Depicts V h m → LooksLike V h (built V m)
 
--- equality is a congruence, and all instances of the axioms and all clauses of the question are true
-pub record IsModelOf (q : Question) (m : Interpretation) : Type 0 where
-  pub congruence : IsCongruence (question_problem q).sizes m
-  pub instances : AreInstancesTrue (question_problem q).sizes m
-  pub clauses : AreClausesTrue m (question_problem q).clauses
+-- a model of the clauses of the question and of the axioms
+abbrev pub IsModelOf : Question → Interpretation → Type 0
+IsModelOf q m = IsModel (question_problem q) m
 
 -- the variables have the classes of their terms (one without a term has 0)
 abbrev pub store_from : Question → Interpretation → Store

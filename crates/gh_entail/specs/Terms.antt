@@ -2,7 +2,7 @@
 -- one more value, its witness.
 use Rattle.std.specs.Prelude.{◌≡◌, List, Bool, true, false, not}
 use Rattle.gh_path.specs.Terms.{Kind, with_value, Terms, terms, walked, no_terms}
-use Rattle.gh_symb.specs.Tables.{Bound, state}
+use Rattle.gh_symb.specs.Tables.{Pairs, state}
 use Rattle.gh_ast.specs.Questions.{Claim, leaf, denial, every, either, Claims, no_claims, claim_first, Question}
 
 -- one more value after a negative leaf
@@ -23,10 +23,10 @@ abbrev mutual
   claims_walked negative (claim_first c cs) s = claims_walked negative cs (claim_walked negative c s)
 
 -- kinds and names with terms, in version 0, before and after the walk over a claim, and over claims
-abbrev pub WalksClaim : Bool → Claim → List Kind → Bound → List Kind → Bound → Type 0
+abbrev pub WalksClaim : Bool → Claim → List Kind → Pairs → List Kind → Pairs → Type 0
 WalksClaim negative c ks es new_ks new_es = state new_ks new_es 0 ≡ claim_walked negative c (state ks es 0)
 
-abbrev pub WalksClaims : Bool → Claims → List Kind → Bound → List Kind → Bound → Type 0
+abbrev pub WalksClaims : Bool → Claims → List Kind → Pairs → List Kind → Pairs → Type 0
 WalksClaims negative cs ks es new_ks new_es = state new_ks new_es 0 ≡ claims_walked negative cs (state ks es 0)
 
 -- the whole right claim counts as negated once more

@@ -1,9 +1,9 @@
 //! The type rules of a question, and the limits on it.
 
-ghost use Rattle.std.specs.Prelude.{◌≡◌, ◌≤◌, IfErr, IfOk, OnOk, MatchOption, length, map};
+ghost use Rattle.std.specs.Prelude.{◌≡◌, IfErr, IfOk, OnOk, MatchOption, length, map};
 ghost use Rattle.gh_ast.specs.Limits.{reported};
 ghost use Rattle.gh_ast.specs.Questions.{question_of};
-ghost use Rattle.gh_types.specs.Faults.{IsFirstIn, IsFirstOf};
+ghost use Rattle.gh_types.specs.Faults.{IsFirstOf};
 ghost use Rattle.gh_entail.specs.Checks.{IsFirstUndeclared};
 ghost use Rattle.gh_entail.specs.Asked.{AreTerms, IsAdmitted, IsAskRefusal};
 ghost use Rattle.gh_entail.specs.Limits.{IsLimit, KeepsTextLimits, count_atoms};

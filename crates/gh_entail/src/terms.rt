@@ -1,6 +1,6 @@
 //! The terms of a question.
 
-ghost use Rattle.std.specs.Prelude.{◌≡◌, IfOk, OnOk};
+ghost use Rattle.std.specs.Prelude.{IfOk, OnOk};
 ghost use Rattle.gh_ast.specs.Questions.{claim_of, claims_view, question_of};
 ghost use Rattle.gh_entail.specs.Asked.{AreTermsInLimit};
 ghost use Rattle.gh_entail.specs.Terms.{WalksClaim, WalksClaims};

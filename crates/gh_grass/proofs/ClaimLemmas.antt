@@ -5,6 +5,7 @@ use Rattle.std.proofs.Math.Seq.{drop-cons}
 use Rattle.std.proofs.lemmas.List.{map-append, append-nil, drop_all}
 use Rattle.std.proofs.lemmas.List.FromFn.{map-range_with_len_more}
 use Rattle.gh_base.specs.declared.atom.Term.{Term}
+use Rattle.gh_base.specs.Atoms.{term, terms_below}
 use Rattle.gh_ast.specs.declared.Assertion.{Assertion}
 use Rattle.gh_ast.specs.declared.Cond.{Cond}
 use Rattle.gh_ast.specs.Plain.{test_of, tests_view, test_first, formula_of, formulas_of, formulas_view, formula_first, star, Formula as Plain}
@@ -12,19 +13,18 @@ use Rattle.gh_grass.specs.declared.formula.Formula.{Formula}
 use Rattle.gh_grass.specs.declared.formula.Formula.TheOpen.{Formula-F}
 use Rattle.gh_grass.specs.declared.formula.Formula.TheFolds.{fold-roll-Formula}
 use Rattle.gh_grass.specs.declared.formula.Formula.TheVariants.{And, rolls-And}
-use Rattle.gh_grass.specs.Bindings.{term}
-use Rattle.gh_grass.specs.Claims.{Claim, claim_step, claim_of, claims_of, claims_list, claims_view, conjunction_of}
-use Rattle.gh_grass.specs.Footprints.{Variables, members, terms_below, all_apart, structure, structures}
+use Rattle.gh_grass.specs.Claims.{GroundClaim, claim_step, claim_of, claims_of, claims_list, claims_view, conjunction_of}
+use Rattle.gh_grass.specs.Footprints.{Variables, members, all_apart, structure, structures}
 
 -- a formula is put last, and the claim of it was the first of those to come
-pub put_more : (fs : List Formula) (f : Formula) (here rest total : List Claim) → claims_list fs ++ here ≡ total → here ≡ claim_of f ∷ rest → claims_list (fs ++ f ∷ []) ++ rest ≡ total
+pub put_more : (fs : List Formula) (f : Formula) (here rest total : List GroundClaim) → claims_list fs ++ here ≡ total → here ≡ claim_of f ∷ rest → claims_list (fs ++ f ∷ []) ++ rest ≡ total
 put_more fs f here rest total so first =
     ap (λ ps. ps ++ rest) (map-append claim_of fs (f ∷ []))
     ∙ append_assoc (claims_list fs) (claim_of f ∷ []) rest
     ∙ ap (λ ps. claims_list fs ++ ps) (sym first)
     ∙ so
 
-pub put_all : (xs here total : List Claim) → xs ++ here ≡ total → here ≡ [] → xs ≡ total
+pub put_all : (xs here total : List GroundClaim) → xs ++ here ≡ total → here ≡ [] → xs ≡ total
 put_all xs here total so none = sym (append-nil xs) ∙ ap (λ ps. xs ++ ps) (sym none) ∙ so
 
 -- the terms up to the next one
@@ -34,7 +34,7 @@ below_more n = map-range_with_len_more term 0 n n (omega arith)
 pub map_below_more : {X : Type 0} (f : Term → X) (n : ℕ) → map f (terms_below (n + 1)) ≡ map f (terms_below n) ++ f (term n) ∷ []
 map_below_more f n = ap (map f) (below_more n) ∙ map-append f (terms_below n) (term n ∷ [])
 
-pub put_term : (f : Term → Claim) (fs : List Formula) (g : Formula) (first : List Claim) (n : ℕ) → claims_list fs ≡ first ++ map f (terms_below n) → claim_of g ≡ f (term n) →
+pub put_term : (f : Term → GroundClaim) (fs : List Formula) (g : Formula) (first : List GroundClaim) (n : ℕ) → claims_list fs ≡ first ++ map f (terms_below n) → claim_of g ≡ f (term n) →
     claims_list (fs ++ g ∷ []) ≡ first ++ map f (terms_below (n + 1))
 put_term f fs g first n so is =
     map-append claim_of fs (g ∷ [])
@@ -57,19 +57,19 @@ pub none_from : {A : Type 0} {B : Type 0} (f : List A → B) (xs : List A) (i : 
 none_from f xs i far = ap f (drop_all i xs far)
 
 -- some claims are put last, and they were the first of those to come
-pub put_some : (now old more here rest total : List Claim) → now ≡ old ++ more → old ++ here ≡ total → here ≡ more ++ rest → now ++ rest ≡ total
+pub put_some : (now old more here rest total : List GroundClaim) → now ≡ old ++ more → old ++ here ≡ total → here ≡ more ++ rest → now ++ rest ≡ total
 put_some now old more here rest total is so first =
     ap (λ ps. ps ++ rest) is ∙ append_assoc old more rest ∙ ap (λ ps. old ++ ps) (sym first) ∙ so
 
 -- the plain form of a variant
 pub claim_of-And : (v : Vec Formula Global) → claim_of (And v) ≡ conjunction_of (claims_view v.items)
-claim_of-And v = ap claim_of (sym (rolls-And v)) ∙ fold-roll-Formula Claim claim_step (Formula-F.And v)
+claim_of-And v = ap claim_of (sym (rolls-And v)) ∙ fold-roll-Formula GroundClaim claim_step (Formula-F.And v)
 
 members_are : (fs : List Plain) → members (formulas_of fs) ≡ fs
 members_are [] = refl
 members_are (f ∷ fs) = ap (λ gs. f ∷ gs) (members_are fs)
 
-pub star_structure : (v : Vec Formula Global) (f : Plain) (b : Variables) (next : Term → Term) (i n : ℕ) (xs : List Assertion) (first : List Claim) →
+pub star_structure : (v : Vec Formula Global) (f : Plain) (b : Variables) (next : Term → Term) (i n : ℕ) (xs : List Assertion) (first : List GroundClaim) →
     f ≡ star (formulas_view xs) → first ≡ structures b next i n (formulas_view xs) → claims_list v.items ≡ first ++ all_apart b i n (map formula_of xs) →
     claim_of (And v) ≡ structure b next i n f
 star_structure v f b next i n xs first is parts so =

@@ -7,7 +7,7 @@ use Rattle.gh_base.specs.declared.atom.Atom.TheVariants.{Eq, Btwn, Hop, Alloc, D
 use Rattle.gh_base.specs.declared.atom.Lit.{Lit}
 use Rattle.gh_base.specs.Meaning.{Interpretation, atom_truth, lit_truth}
 use Rattle.gh_base.proofs.UnitLemmas.{truth_of_opposite}
-use Rattle.gh_grass.specs.Claims.{Claim, atom, negation_of, conjunction_of, disjunction_of, equivalence_of, Claims, no_claims, claim_first}
+use Rattle.gh_grass.specs.Claims.{GroundClaim, atom, negation_of, conjunction_of, disjunction_of, equivalence_of, GroundClaims, no_claims, claim_first}
 use Rattle.gh_grass.specs.Clauses.{Made, AllMade, made, all_made, stated, clauses_from, conjunction_clauses, disjunction_clauses, equivalence_clauses}
 use Rattle.gh_grass.specs.Truth.{agree, truth, all_true, some_true, AreTrue, IsEarlier, HasEarlier, HaveEarlier, IsOneBefore, LiteralsAreFormulas, ClausesMeanFormulas, DefinitionsExist, FormulasGiveClauses}
 use Rattle.gh_grass.proofs.TruthLemmas.{some_lit, all_lits, all_clauses, both, joined, and_same, or_same, agree_same, agree_is, agree_self, clauses_true, true_clauses, all_append, conj_clauses, disj_clauses, equiv_clauses}
@@ -19,12 +19,12 @@ two m xs ys h = both (all_clauses m xs) (all_clauses m ys) (sym (all_append m xs
 put_two : (m : Interpretation) (xs ys : List (List Lit)) → all_clauses m xs ≡ true → all_clauses m ys ≡ true → all_clauses m (xs ++ ys) ≡ true
 put_two m xs ys h k = all_append m xs ys ∙ joined (all_clauses m xs) (all_clauses m ys) h k
 
-record AllTruth (m : Interpretation) (s : AllMade) (fs : Claims) : Type 0 where
+record AllTruth (m : Interpretation) (s : AllMade) (fs : GroundClaims) : Type 0 where
   all : all_lits m s.lits ≡ all_true m fs
   some : some_lit m s.lits ≡ some_true m fs
 
 mutual
-  made_truth : (m : Interpretation) (f : Claim) (d : ℕ) → all_clauses m (made f d).clauses ≡ true → lit_truth m (made f d).lit ≡ truth m f
+  made_truth : (m : Interpretation) (f : GroundClaim) (d : ℕ) → all_clauses m (made f d).clauses ≡ true → lit_truth m (made f d).lit ≡ truth m f
   made_truth m (atom a) d h = refl
   made_truth m (negation_of f) d h = truth_of_opposite m (made f d).lit ∙ ap not (made_truth m f d h)
   made_truth m (conjunction_of fs) d h =
@@ -43,7 +43,7 @@ mutual
       agree_is (m.table (Def s.next)) (agree (lit_truth m r.lit) (lit_truth m s.lit)) (sym (equiv_clauses m s.next r.lit s.lit) ∙ p.1)
       ∙ agree_same (lit_truth m r.lit) (truth m f) (lit_truth m s.lit) (truth m g) (made_truth m f d q.0) (made_truth m g r.next q.1)
 
-  all_truth : (m : Interpretation) (fs : Claims) (d : ℕ) → all_clauses m (all_made fs d).clauses ≡ true → AllTruth m (all_made fs d) fs
+  all_truth : (m : Interpretation) (fs : GroundClaims) (d : ℕ) → all_clauses m (all_made fs d).clauses ≡ true → AllTruth m (all_made fs d) fs
   all_truth m no_claims d h = record { all = refl; some = refl }
   all_truth m (claim_first f fs) d h =
       let r = made f d in
@@ -59,7 +59,7 @@ mutual
 pub literals_are_formulas : LiteralsAreFormulas
 literals_are_formulas m f d h = made_truth m f d (true_clauses m (made f d).clauses h)
 
-mean_formulas : (m : Interpretation) (fs : List Claim) (d : ℕ) → all_clauses m (clauses_from fs d) ≡ true → AreTrue m fs
+mean_formulas : (m : Interpretation) (fs : List GroundClaim) (d : ℕ) → all_clauses m (clauses_from fs d) ≡ true → AreTrue m fs
 mean_formulas m [] d h = λ k e l. absurd (omega (arith, l))
 mean_formulas m (f ∷ fs) d h =
     let r = made f d in
@@ -80,7 +80,7 @@ onto : (a b c : ℕ) → a ≤ b → b ≤ c → a ≤ c
 onto a b c h k = omega arith
 
 mutual
-  pub made_grows : (f : Claim) (d : ℕ) → d ≤ (made f d).next
+  pub made_grows : (f : GroundClaim) (d : ℕ) → d ≤ (made f d).next
   made_grows (atom a) d = omega arith
   made_grows (negation_of f) d = made_grows f d
   made_grows (conjunction_of fs) d = onto d (all_made fs d).next ((all_made fs d).next + 1) (all_made_grows fs d) (omega arith)
@@ -89,7 +89,7 @@ mutual
       let e = (made f d).next in
       onto d e ((made g e).next + 1) (made_grows f d) (onto e (made g e).next ((made g e).next + 1) (made_grows g e) (omega arith))
 
-  pub all_made_grows : (fs : Claims) (d : ℕ) → d ≤ (all_made fs d).next
+  pub all_made_grows : (fs : GroundClaims) (d : ℕ) → d ≤ (all_made fs d).next
   all_made_grows no_claims d = omega arith
   all_made_grows (claim_first f fs) d = onto d (made f d).next (all_made fs (made f d).next).next (made_grows f d) (all_made_grows fs (made f d).next)
 
@@ -101,14 +101,14 @@ earlier_more d e l (Alloc v x) h = tt
 earlier_more d e l (Def number) h = omega arith
 
 mutual
-  has_more : (d e : ℕ) → d ≤ e → (f : Claim) → HasEarlier d f → HasEarlier e f
+  has_more : (d e : ℕ) → d ≤ e → (f : GroundClaim) → HasEarlier d f → HasEarlier e f
   has_more d e l (atom a) h = earlier_more d e l a h
   has_more d e l (negation_of f) h = has_more d e l f h
   has_more d e l (conjunction_of fs) h = have_more d e l fs h
   has_more d e l (disjunction_of fs) h = have_more d e l fs h
   has_more d e l (equivalence_of f g) h = (has_more d e l f h.0, has_more d e l g h.1)
 
-  have_more : (d e : ℕ) → d ≤ e → (fs : Claims) → HaveEarlier d fs → HaveEarlier e fs
+  have_more : (d e : ℕ) → d ≤ e → (fs : GroundClaims) → HaveEarlier d fs → HaveEarlier e fs
   have_more d e l no_claims h = tt
   have_more d e l (claim_first f fs) h = (has_more d e l f h.0, have_more d e l fs h.1)
 
@@ -127,14 +127,14 @@ same_atom d m n o (Alloc v x) h = o.table (Alloc v x) h
 same_atom d m n o (Def number) h = o.table (Def number) h
 
 mutual
-  same_truth : (d : ℕ) (m n : Interpretation) → IsOneBefore d m n → (f : Claim) → HasEarlier d f → truth n f ≡ truth m f
+  same_truth : (d : ℕ) (m n : Interpretation) → IsOneBefore d m n → (f : GroundClaim) → HasEarlier d f → truth n f ≡ truth m f
   same_truth d m n o (atom a) h = same_atom d m n o a h
   same_truth d m n o (negation_of f) h = ap not (same_truth d m n o f h)
   same_truth d m n o (conjunction_of fs) h = (same_truths d m n o fs h).0
   same_truth d m n o (disjunction_of fs) h = (same_truths d m n o fs h).1
   same_truth d m n o (equivalence_of f g) h = agree_same (truth n f) (truth m f) (truth n g) (truth m g) (same_truth d m n o f h.0) (same_truth d m n o g h.1)
 
-  same_truths : (d : ℕ) (m n : Interpretation) → IsOneBefore d m n → (fs : Claims) → HaveEarlier d fs → (all_true n fs ≡ all_true m fs) × (some_true n fs ≡ some_true m fs)
+  same_truths : (d : ℕ) (m n : Interpretation) → IsOneBefore d m n → (fs : GroundClaims) → HaveEarlier d fs → (all_true n fs ≡ all_true m fs) × (some_true n fs ≡ some_true m fs)
   same_truths d m n o no_claims h = (refl, refl)
   same_truths d m n o (claim_first f fs) h =
       let here = same_truth d m n o f h.0 in
@@ -162,7 +162,7 @@ the_last : (d : ℕ) → d < d + 1
 the_last d = omega arith
 
 mutual
-  same_made : (m n : Interpretation) (f : Claim) (d : ℕ) → HasEarlier d f → IsOneBefore (made f d).next m n → Same m n (made f d)
+  same_made : (m n : Interpretation) (f : GroundClaim) (d : ℕ) → HasEarlier d f → IsOneBefore (made f d).next m n → Same m n (made f d)
   same_made m n (atom a) d h o = record { lit = same_atom d m n o a h; clauses = refl }
   same_made m n (negation_of f) d h o =
       let r = same_made m n f d h o in
@@ -201,7 +201,7 @@ mutual
             ∙ sym (equiv_clauses m s.next r.lit s.lit));
       }
 
-  same_all : (m n : Interpretation) (fs : Claims) (d : ℕ) → HaveEarlier d fs → IsOneBefore (all_made fs d).next m n → AllSame m n (all_made fs d)
+  same_all : (m n : Interpretation) (fs : GroundClaims) (d : ℕ) → HaveEarlier d fs → IsOneBefore (all_made fs d).next m n → AllSame m n (all_made fs d)
   same_all m n no_claims d h o = record { all = refl; some = refl; clauses = refl }
   same_all m n (claim_first f fs) d h o =
       let r = made f d in
@@ -266,7 +266,7 @@ agrees_with : (a b c : Bool) → a ≡ b → c ≡ b → agree a c ≡ true
 agrees_with a b c e f = agree_same a b c b e f ∙ agree_self b
 
 mutual
-  define_made : (m : Interpretation) (f : Claim) (d : ℕ) → HasEarlier d f → Defined d m (made f d).clauses
+  define_made : (m : Interpretation) (f : GroundClaim) (d : ℕ) → HasEarlier d f → Defined d m (made f d).clauses
   define_made m (atom a) d h = record { found = m; before = record { class = refl; table = λ a h. refl }; holds = refl }
   define_made m (negation_of f) d h = define_made m f d h
   define_made m (conjunction_of fs) d h =
@@ -308,7 +308,7 @@ mutual
       ∙ agrees_with (n.table (Def s.next)) b (agree (lit_truth n r.lit) (lit_truth n s.lit)) (given_here s.next b second.found.table)
       (agree_same (lit_truth n r.lit) (lit_truth second.found r.lit) (lit_truth n s.lit) (lit_truth second.found s.lit) left.lit right.lit))
 
-  define_all : (m : Interpretation) (fs : Claims) (d : ℕ) → HaveEarlier d fs → Defined d m (all_made fs d).clauses
+  define_all : (m : Interpretation) (fs : GroundClaims) (d : ℕ) → HaveEarlier d fs → Defined d m (all_made fs d).clauses
   define_all m no_claims d h = record { found = m; before = record { class = refl; table = λ a h. refl }; holds = refl }
   define_all m (claim_first f fs) d h =
       let r = made f d in
@@ -332,7 +332,7 @@ alone : (b : Bool) → b ≡ true → (b || false) && true ≡ true
 alone true e = refl
 alone false e = absurd cc
 
-give_clauses : (m : Interpretation) (fs : List Claim) (d : ℕ) → All (HasEarlier d) fs → AreTrue m fs → Defined d m (clauses_from fs d)
+give_clauses : (m : Interpretation) (fs : List GroundClaim) (d : ℕ) → All (HasEarlier d) fs → AreTrue m fs → Defined d m (clauses_from fs d)
 give_clauses m [] d h t = record { found = m; before = record { class = refl; table = λ a h. refl }; holds = refl }
 give_clauses m (f ∷ fs) d h t =
     let r = made f d in

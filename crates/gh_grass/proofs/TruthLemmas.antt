@@ -1,5 +1,5 @@
 -- Truth of clauses as a test, and what the clauses of each kind of definition say.
-use Rattle.std.specs.Prelude.{◌≡◌, ◌⊎◌, ℕ, zero, suc, List, [], ◌∷◌, ◌++◌, map, Bool, true, false, not, ◌&&◌, ◌||◌}
+use Rattle.std.specs.Prelude.{◌≡◌, ◌⊎◌, ℕ, zero, suc, List, [], ◌∷◌, ◌++◌, map, All, Bool, true, false, not, ◌&&◌, ◌||◌}
 use Rattle.std.proofs.Common.{refl, ◌∙◌, ap, inl, inr, arith}
 use Rattle.std.proofs.lemmas.List.Elements.{All-cons}
 use Rattle.gh_base.specs.declared.atom.Atom.TheVariants.{Def}
@@ -8,7 +8,7 @@ use Rattle.gh_base.specs.Atoms.{opposite}
 use Rattle.gh_base.specs.Meaning.{Interpretation, lit_truth, IsClauseTrue}
 use Rattle.gh_base.proofs.UnitLemmas.{truth_of_opposite}
 use Rattle.gh_grass.specs.Clauses.{defined, conjunction_clauses, disjunction_clauses, equivalence_clauses}
-use Rattle.gh_grass.specs.Truth.{agree, AreClausesTrue}
+use Rattle.gh_grass.specs.Truth.{agree}
 
 abbrev pub some_lit : Interpretation → List Lit → Bool
 some_lit m [] = false
@@ -74,13 +74,13 @@ true_clause m [] (k, x, h, e, t) = absurd (omega (arith, h))
 true_clause m (l ∷ ls) (zero, x, h, e, t) = or_left (lit_truth m l) (some_lit m ls) (ap (lit_truth m) e ∙ t)
 true_clause m (l ∷ ls) (suc k, x, h, e, t) = or_right (lit_truth m l) (some_lit m ls) (true_clause m ls (k, x, omega (arith, h), e, t))
 
-pub clauses_true : (m : Interpretation) (cs : List (List Lit)) → all_clauses m cs ≡ true → AreClausesTrue m cs
+pub clauses_true : (m : Interpretation) (cs : List (List Lit)) → all_clauses m cs ≡ true → All (IsClauseTrue m) cs
 clauses_true m [] e = λ k d h. absurd (omega (arith, h))
 clauses_true m (c ∷ cs) e =
     let p = both (some_lit m c) (all_clauses m cs) e in
     All-cons (IsClauseTrue m) c cs (clause_true m c p.0) (clauses_true m cs p.1)
 
-pub true_clauses : (m : Interpretation) (cs : List (List Lit)) → AreClausesTrue m cs → all_clauses m cs ≡ true
+pub true_clauses : (m : Interpretation) (cs : List (List Lit)) → All (IsClauseTrue m) cs → all_clauses m cs ≡ true
 true_clauses m [] h = refl
 true_clauses m (c ∷ cs) h =
     joined (some_lit m c) (all_clauses m cs) (true_clause m c (h 0 c (omega arith))) (true_clauses m cs (λ k d l. h (suc k) d (omega (arith, l))))

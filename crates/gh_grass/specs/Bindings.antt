@@ -5,6 +5,7 @@ use Rattle.std.specs.Str.{bytes_eq}
 use Rattle.gh_base.specs.declared.atom.Term.{Term}
 use Rattle.gh_base.specs.declared.term.TermKind.{TermKind}
 use Rattle.gh_base.specs.declared.term.TermKind.TheVariants.{Null, Value, Next}
+use Rattle.gh_base.specs.Atoms.{term}
 use Rattle.gh_ast.specs.Programs.{Name}
 use Rattle.gh_grass.specs.declared.binding.Bond.{Bond}
 
@@ -30,9 +31,6 @@ pub record IsListedAt (bs : List Bond) (name : Name) (i : ℕ) : Type 0 where
 pub record IsBound (old new : List Bond) (name : Name) (term : Term) : Type 0 where
   pub term_is : term_in new name ≡ Some term
   pub others : (other : Name) → other ≢ name → term_in new other ≡ term_in old other
-
-abbrev pub term : ℕ → Term
-term k = record { 0 = k }
 
 -- the term of a name; one without a term counts as null
 abbrev pub bound_term : List Bond → Name → Term

@@ -1,14 +1,10 @@
 -- The clauses of ground formulas. Each conjunction, disjunction and equivalence is defined anew.
-use Rattle.std.specs.Prelude.{ℕ, ◌+◌, List, [], ◌∷◌, ◌++◌, map, true}
-use Rattle.gh_base.specs.declared.atom.Atom.{Atom}
+use Rattle.std.specs.Prelude.{ℕ, ◌+◌, List, [], ◌∷◌, ◌++◌, map}
 use Rattle.gh_base.specs.declared.atom.Atom.TheVariants.{Def}
 use Rattle.gh_base.specs.declared.atom.Lit.{Lit}
-use Rattle.gh_base.specs.Atoms.{opposite}
-use Rattle.gh_grass.specs.Claims.{Claim, atom, negation_of, conjunction_of, disjunction_of, equivalence_of, Claims}
+use Rattle.gh_base.specs.Atoms.{opposite, positive}
+use Rattle.gh_grass.specs.Claims.{GroundClaim, atom, negation_of, conjunction_of, disjunction_of, equivalence_of, GroundClaims}
 use Rattle.gh_grass.specs.Claims.{no_claims, claim_first}
-
-abbrev pub positive : Atom → Lit
-positive a = record { atom = a; positive = true }
 
 -- the literal of the definition d
 abbrev pub defined : ℕ → Lit
@@ -59,14 +55,14 @@ put_first r s = record { lits = r.lit ∷ s.lits; next = s.next; clauses = r.cla
 
 -- what is made of a formula, where d is the next free number of a definition
 abbrev mutual
-  pub made : Claim → ℕ → Made
+  pub made : GroundClaim → ℕ → Made
   made (atom a) d = record { lit = positive a; next = d; clauses = [] }
   made (negation_of f) d = let r = made f d in record { lit = opposite r.lit; next = r.next; clauses = r.clauses }
   made (conjunction_of fs) d = conjoined (all_made fs d)
   made (disjunction_of fs) d = disjoined (all_made fs d)
   made (equivalence_of f g) d = let r = made f d in equated r (made g r.next)
 
-  pub all_made : Claims → ℕ → AllMade
+  pub all_made : GroundClaims → ℕ → AllMade
   all_made no_claims d = record { lits = []; next = d; clauses = [] }
   all_made (claim_first f fs) d = let r = made f d in put_first r (all_made fs r.next)
 
@@ -75,18 +71,18 @@ abbrev pub stated : Made → List (List Lit)
 stated r = r.clauses ++ (r.lit ∷ []) ∷ []
 
 -- the next free number after some formulas
-abbrev pub next_after : List Claim → ℕ → ℕ
+abbrev pub next_after : List GroundClaim → ℕ → ℕ
 next_after [] d = d
 next_after (f ∷ fs) d = next_after fs (made f d).next
 
 -- the clauses of some formulas, one after the other
-abbrev pub clauses_from : List Claim → ℕ → List (List Lit)
+abbrev pub clauses_from : List GroundClaim → ℕ → List (List Lit)
 clauses_from [] d = []
 clauses_from (f ∷ fs) d = let r = made f d in stated r ++ clauses_from fs r.next
 
 -- the clauses of a list of formulas, and how many definitions they have
-abbrev pub clauses_of : List Claim → List (List Lit)
+abbrev pub clauses_of : List GroundClaim → List (List Lit)
 clauses_of fs = clauses_from fs 0
 
-abbrev pub definitions_of : List Claim → ℕ
+abbrev pub definitions_of : List GroundClaim → ℕ
 definitions_of fs = next_after fs 0

@@ -1,6 +1,6 @@
 -- The ground formulas of an assertion: a term is in its footprint; some part of the heap meets it.
 use Rattle.std.specs.Prelude.{ℕ, List, [], ◌∷◌, ◌++◌, length, map, Bool, true, false}
-use Rattle.std.specs.List.{flat_map, range_with_len}
+use Rattle.std.specs.List.{flat_map}
 use Rattle.gh_base.specs.declared.atom.Term.{Term}
 use Rattle.gh_base.specs.declared.atom.Atom.TheVariants.{Btwn, Alloc}
 use Rattle.gh_ast.specs.declared.Occ.{Occ}
@@ -17,8 +17,9 @@ use Rattle.gh_ast.specs.Programs.{Name}
 use Rattle.gh_grass.specs.declared.binding.Bond.{Bond}
 use Rattle.gh_grass.specs.declared.footprint.Interpretation.{Interpretation}
 use Rattle.gh_base.specs.declared.term.TermKind.{TermKind}
-use Rattle.gh_grass.specs.Bindings.{term, bound_term, next_term}
-use Rattle.gh_grass.specs.Claims.{Claim, atom, negation_of, all_of, one_of, equality}
+use Rattle.gh_base.specs.Atoms.{term, terms_below}
+use Rattle.gh_grass.specs.Bindings.{bound_term, next_term}
+use Rattle.gh_grass.specs.Claims.{GroundClaim, atom, negation_of, all_of, one_of, equality}
 
 -- the terms of variables
 abbrev pub Variables : Type 0
@@ -35,33 +36,33 @@ plain_term b (Plain o) = operand_term b o
 plain_term b (Read o) = term 0
 
 -- `compared l e r`: l and r are equal where e is true, and differ where it is false
-abbrev pub compared : Term → Bool → Term → Claim
+abbrev pub compared : Term → Bool → Term → GroundClaim
 compared l true r = equality l r
 compared l false r = negation_of (equality l r)
 
 -- the formula of a test
 abbrev mutual
-  pub tested : Variables → Test → Claim
+  pub tested : Variables → Test → GroundClaim
   tested b (compare l e r) = compared (plain_term b l) e (plain_term b r)
   tested b (negation t) = negation_of (tested b t)
   tested b (conjunction ts) = all_of (all_tested b ts)
   tested b (disjunction ts) = one_of (all_tested b ts)
 
-  pub all_tested : Variables → Tests → List Claim
+  pub all_tested : Variables → Tests → List GroundClaim
   all_tested b no_tests = []
   all_tested b (test_first t ts) = tested b t ∷ all_tested b ts
 
 -- one of two claims, by a test
-abbrev pub by_test : Claim → Claim → Claim → Claim
+abbrev pub by_test : GroundClaim → GroundClaim → GroundClaim → GroundClaim
 by_test t f g = one_of (all_of (t ∷ f ∷ []) ∷ all_of (negation_of t ∷ g ∷ []) ∷ [])
 
 -- z is on the way from x to the first y, and isn't y
-abbrev pub before_end : ℕ → Term → Term → Term → Claim
+abbrev pub before_end : ℕ → Term → Term → Term → GroundClaim
 before_end i x z y = all_of (atom (Btwn i x z y) ∷ negation_of (equality z y) ∷ [])
 
 -- the term z is in the footprint of an assertion, in version i
 abbrev mutual
-  pub footprint : Variables → ℕ → Term → Formula → Claim
+  pub footprint : Variables → ℕ → Term → Formula → GroundClaim
   footprint b i z empty = one_of []
   footprint b i z (comparison l e r) = one_of []
   footprint b i z (points_to x y) = equality z (b x.name)
@@ -70,7 +71,7 @@ abbrev mutual
   footprint b i z (star fs) = one_of (footprints b i z fs)
   footprint b i z (cases t f g) = by_test (tested b t) (footprint b i z f) (footprint b i z g)
 
-  pub footprints : Variables → ℕ → Term → Formulas → List Claim
+  pub footprints : Variables → ℕ → Term → Formulas → List GroundClaim
   footprints b i z no_formulas = []
   footprints b i z (formula_first f fs) = footprint b i z f ∷ footprints b i z fs
 
@@ -79,30 +80,26 @@ abbrev pub members : Formulas → List Formula
 members no_formulas = []
 members (formula_first f fs) = f ∷ members fs
 
--- the first n terms
-abbrev pub terms_below : ℕ → List Term
-terms_below n = map term (range_with_len 0 n)
-
 -- the term z isn't in the footprints of both f and g
-abbrev pub apart_here : Variables → ℕ → Formula → Formula → Term → Claim
+abbrev pub apart_here : Variables → ℕ → Formula → Formula → Term → GroundClaim
 apart_here b i f g z = negation_of (all_of (footprint b i z f ∷ footprint b i z g ∷ []))
 
 -- none of n terms is in the footprints of both f and g
-abbrev pub apart : Variables → ℕ → ℕ → Formula → Formula → List Claim
+abbrev pub apart : Variables → ℕ → ℕ → Formula → Formula → List GroundClaim
 apart b i n f g = map (apart_here b i f g) (terms_below n)
 
 -- no term is in the footprints of two members, for each pair of them in order
-abbrev pub all_apart : Variables → ℕ → ℕ → List Formula → List Claim
+abbrev pub all_apart : Variables → ℕ → ℕ → List Formula → List GroundClaim
 all_apart b i n [] = []
 all_apart b i n (f ∷ fs) = flat_map (apart b i n f) fs ++ all_apart b i n fs
 
 -- there is a cell at x, and its content is y
-abbrev pub leads_to : Variables → (Term → Term) → ℕ → Occ → Operand → Claim
+abbrev pub leads_to : Variables → (Term → Term) → ℕ → Occ → Operand → GroundClaim
 leads_to b next i x y = all_of (atom (Alloc i (b x.name)) ∷ equality (next (b x.name)) (operand_term b y) ∷ [])
 
 -- some part of the heap meets the assertion, in version i of n terms; `next` gives the term of a successor in it
 abbrev mutual
-  pub structure : Variables → (Term → Term) → ℕ → ℕ → Formula → Claim
+  pub structure : Variables → (Term → Term) → ℕ → ℕ → Formula → GroundClaim
   structure b next i n empty = all_of []
   structure b next i n (comparison l e r) = compared (operand_term b l) e (operand_term b r)
   structure b next i n (points_to x y) = leads_to b next i x y
@@ -111,42 +108,42 @@ abbrev mutual
   structure b next i n (star fs) = all_of (structures b next i n fs ++ all_apart b i n (members fs))
   structure b next i n (cases t f g) = by_test (tested b t) (structure b next i n f) (structure b next i n g)
 
-  pub structures : Variables → (Term → Term) → ℕ → ℕ → Formulas → List Claim
+  pub structures : Variables → (Term → Term) → ℕ → ℕ → Formulas → List GroundClaim
   structures b next i n no_formulas = []
   structures b next i n (formula_first f fs) = structure b next i n f ∷ structures b next i n fs
 
 -- the same of assertions and tests of the code, by the terms of listed names and of listed successors
-abbrev pub by_test_of : List Bond → Cond → Claim → Claim → Claim
+abbrev pub by_test_of : List Bond → Cond → GroundClaim → GroundClaim → GroundClaim
 by_test_of bs t f g = by_test (tested (bound_term bs) (test_of t)) f g
 
-abbrev pub footprint_of : List Bond → ℕ → Term → Assertion → Claim
+abbrev pub footprint_of : List Bond → ℕ → Term → Assertion → GroundClaim
 footprint_of bs i z a = footprint (bound_term bs) i z (formula_of a)
 
-abbrev pub footprints_of : List Bond → ℕ → Term → List Assertion → List Claim
+abbrev pub footprints_of : List Bond → ℕ → Term → List Assertion → List GroundClaim
 footprints_of bs i z assertions = footprints (bound_term bs) i z (formulas_view assertions)
 
-abbrev pub leads_to_of : List Bond → List TermKind → ℕ → Occ → Operand → Claim
+abbrev pub leads_to_of : List Bond → List TermKind → ℕ → Occ → Operand → GroundClaim
 leads_to_of bs terms i x y = leads_to (bound_term bs) (next_term terms i) i x y
 
-abbrev pub structure_of : List Bond → List TermKind → ℕ → Assertion → Claim
+abbrev pub structure_of : List Bond → List TermKind → ℕ → Assertion → GroundClaim
 structure_of bs terms i a = structure (bound_term bs) (next_term terms i) i (length terms) (formula_of a)
 
-abbrev pub structures_of : List Bond → List TermKind → ℕ → List Assertion → List Claim
+abbrev pub structures_of : List Bond → List TermKind → ℕ → List Assertion → List GroundClaim
 structures_of bs terms i assertions = structures (bound_term bs) (next_term terms i) i (length terms) (formulas_view assertions)
 
 -- .. by an interpretation
-abbrev pub apart_here_of : Interpretation → Assertion → Assertion → Term → Claim
+abbrev pub apart_here_of : Interpretation → Assertion → Assertion → Term → GroundClaim
 apart_here_of u first second z =
     apart_here (bound_term u.binding.now) u.version (formula_of first) (formula_of second) z
 
-abbrev pub apart_of : Interpretation → Assertion → Assertion → List Claim
+abbrev pub apart_of : Interpretation → Assertion → Assertion → List GroundClaim
 apart_of u first second =
     apart (bound_term u.binding.now) u.version u.terms (formula_of first) (formula_of second)
 
 -- .. from each of some others
-abbrev pub apart_from : Interpretation → Assertion → List Assertion → List Claim
+abbrev pub apart_from : Interpretation → Assertion → List Assertion → List GroundClaim
 apart_from u first others =
     flat_map (apart (bound_term u.binding.now) u.version u.terms (formula_of first)) (map formula_of others)
 
-abbrev pub all_apart_of : Interpretation → List Assertion → List Claim
+abbrev pub all_apart_of : Interpretation → List Assertion → List GroundClaim
 all_apart_of u assertions = all_apart (bound_term u.binding.now) u.version u.terms (map formula_of assertions)

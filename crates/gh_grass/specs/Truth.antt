@@ -2,9 +2,8 @@
 use Rattle.std.specs.Prelude.{◌≡◌, ℕ, ◌<◌, List, Bool, true, false, not, ◌&&◌, ◌||◌, All}
 use Rattle.gh_base.specs.declared.atom.Atom.{Atom}
 use Rattle.gh_base.specs.declared.atom.Atom.TheVariants.{Eq, Btwn, Hop, Alloc, Def}
-use Rattle.gh_base.specs.declared.atom.Lit.{Lit}
 use Rattle.gh_base.specs.Meaning.{Interpretation, atom_truth, lit_truth, IsClauseTrue}
-use Rattle.gh_grass.specs.Claims.{Claim, atom, negation_of, conjunction_of, disjunction_of, equivalence_of, Claims}
+use Rattle.gh_grass.specs.Claims.{GroundClaim, atom, negation_of, conjunction_of, disjunction_of, equivalence_of, GroundClaims}
 use Rattle.gh_grass.specs.Claims.{no_claims, claim_first}
 use Rattle.gh_grass.specs.Clauses.{made, clauses_from}
 
@@ -14,26 +13,23 @@ agree true b = b
 agree false b = not b
 
 abbrev mutual
-  pub truth : Interpretation → Claim → Bool
+  pub truth : Interpretation → GroundClaim → Bool
   truth m (atom a) = atom_truth m a
   truth m (negation_of f) = not (truth m f)
   truth m (conjunction_of fs) = all_true m fs
   truth m (disjunction_of fs) = some_true m fs
   truth m (equivalence_of f g) = agree (truth m f) (truth m g)
 
-  pub all_true : Interpretation → Claims → Bool
+  pub all_true : Interpretation → GroundClaims → Bool
   all_true m no_claims = true
   all_true m (claim_first f fs) = truth m f && all_true m fs
 
-  pub some_true : Interpretation → Claims → Bool
+  pub some_true : Interpretation → GroundClaims → Bool
   some_true m no_claims = false
   some_true m (claim_first f fs) = truth m f || some_true m fs
 
-abbrev pub AreTrue : Interpretation → List Claim → Type 0
+abbrev pub AreTrue : Interpretation → List GroundClaim → Type 0
 AreTrue m fs = All (λ f. truth m f ≡ true) fs
-
-abbrev pub AreClausesTrue : Interpretation → List (List Lit) → Type 0
-AreClausesTrue m clauses = All (IsClauseTrue m) clauses
 
 -- the atom is no definition, or one of a number below d
 abbrev pub IsEarlier : ℕ → Atom → Type 0
@@ -45,14 +41,14 @@ IsEarlier d (Def number) = number < d
 
 -- each definition in the formula has a number below d
 abbrev mutual
-  pub HasEarlier : ℕ → Claim → Type 0
+  pub HasEarlier : ℕ → GroundClaim → Type 0
   HasEarlier d (atom a) = IsEarlier d a
   HasEarlier d (negation_of f) = HasEarlier d f
   HasEarlier d (conjunction_of fs) = HaveEarlier d fs
   HasEarlier d (disjunction_of fs) = HaveEarlier d fs
   HasEarlier d (equivalence_of f g) = HasEarlier d f × HasEarlier d g
 
-  pub HaveEarlier : ℕ → Claims → Type 0
+  pub HaveEarlier : ℕ → GroundClaims → Type 0
   HaveEarlier d no_claims = Unit {0}
   HaveEarlier d (claim_first f fs) = HasEarlier d f × HaveEarlier d fs
 
@@ -63,16 +59,16 @@ pub record IsOneBefore (d : ℕ) (m n : Interpretation) : Type 0 where
 
 -- where the defining clauses are true, the literal is true exactly where the formula is
 abbrev pub LiteralsAreFormulas : Type 0
-LiteralsAreFormulas = (m : Interpretation) (f : Claim) (d : ℕ) → AreClausesTrue m (made f d).clauses → lit_truth m (made f d).lit ≡ truth m f
+LiteralsAreFormulas = (m : Interpretation) (f : GroundClaim) (d : ℕ) → All (IsClauseTrue m) (made f d).clauses → lit_truth m (made f d).lit ≡ truth m f
 
 -- where the clauses of some formulas are true, the formulas are
 abbrev pub ClausesMeanFormulas : Type 0
-ClausesMeanFormulas = (m : Interpretation) (fs : List Claim) (d : ℕ) → AreClausesTrue m (clauses_from fs d) → AreTrue m fs
+ClausesMeanFormulas = (m : Interpretation) (fs : List GroundClaim) (d : ℕ) → All (IsClauseTrue m) (clauses_from fs d) → AreTrue m fs
 
 -- the definitions can be given values that make all defining clauses true, whatever the earlier atoms are
 abbrev pub DefinitionsExist : Type 0
-DefinitionsExist = (m : Interpretation) (f : Claim) (d : ℕ) → HasEarlier d f → (n : Interpretation) × IsOneBefore d m n × AreClausesTrue n (made f d).clauses
+DefinitionsExist = (m : Interpretation) (f : GroundClaim) (d : ℕ) → HasEarlier d f → (n : Interpretation) × IsOneBefore d m n × All (IsClauseTrue n) (made f d).clauses
 
 -- where some formulas are true, their definitions can be given values that make all clauses true
 abbrev pub FormulasGiveClauses : Type 0
-FormulasGiveClauses = (m : Interpretation) (fs : List Claim) (d : ℕ) → All (HasEarlier d) fs → AreTrue m fs → (n : Interpretation) × IsOneBefore d m n × AreClausesTrue n (clauses_from fs d)
+FormulasGiveClauses = (m : Interpretation) (fs : List GroundClaim) (d : ℕ) → All (HasEarlier d) fs → AreTrue m fs → (n : Interpretation) × IsOneBefore d m n × All (IsClauseTrue n) (clauses_from fs d)

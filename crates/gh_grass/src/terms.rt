@@ -3,7 +3,8 @@
 ghost use Rattle.std.specs.Prelude.{◌≡◌, ◌<◌, ◌∷◌, [], length, Some, slice_get, IfOk, OnErr, IfSome, IfNone, Contains};
 ghost use Rattle.std.specs.Prelude.{unwrap_or};
 ghost use Rattle.gh_base.specs.declared.term.TermKind.TheVariants.{Null, Next};
-ghost use Rattle.gh_grass.specs.Bindings.{term, next_term, AddsNew, AreDistinctKinds, IsOnlyAt};
+ghost use Rattle.gh_base.specs.Atoms.{term};
+ghost use Rattle.gh_grass.specs.Bindings.{next_term, AddsNew, AreDistinctKinds, IsOnlyAt};
 
 use gh_base::atom::Term;
 use gh_base::term::TermKind;

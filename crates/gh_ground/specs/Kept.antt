@@ -1,5 +1,5 @@
 -- What a solver keeps: a line of a section for each clause of its search.
-use Rattle.std.specs.Prelude.{◌≡◌, ◌<◌, ◌++◌, ⊤, ℕ, List, [], Option, Some, None, map, All, Contains, IfSome, IfNone}
+use Rattle.std.specs.Prelude.{◌≡◌, ◌++◌, ⊤, ℕ, List, [], Option, Some, None, map, All, Contains, IfSome, IfNone}
 use Rattle.gh_base.specs.declared.atom.Lit.{Lit}
 use Rattle.gh_base.specs.Grounds.{Problem, IsProblem}
 use Rattle.gh_base.specs.Meaning.{IsEqualityClause}
@@ -10,7 +10,6 @@ use Rattle.gh_log.specs.Spelled.{IsOfVersion}
 use Rattle.gh_ground.specs.declared.solver.Turn.{Turn}
 use Rattle.gh_ground.specs.declared.solver.Turn.TheVariants.{Ended, Answered}
 use Rattle.gh_sat.specs.Learn.{IsConflict}
-use Rattle.gh_sat.specs.Measure.{left}
 use Rattle.gh_sat.specs.Status.{IsSettled, AreAssigned}
 use Rattle.gh_sat.specs.Theory.{lits_of, HasNoConflict, PropagatesBeside}
 use Rattle.gh_sat.specs.Trail.{SearchState, IsSound}
@@ -34,10 +33,6 @@ pub record Keeps (old : SearchState) (before : List LogLine) (new : SearchState)
 -- propagation beside equality and congruence, with its answer
 abbrev pub Propagates : SearchState → SearchState → Option ℕ → Type 0
 Propagates old new answer = PropagatesBeside (IsEqualityClause old.sizes) old new answer
-
--- the measure of a search, by its trail, is less than before
-abbrev pub HasLessLeft : SearchState → SearchState → Type 0
-HasLessLeft old new = left new.sizes new.trail < left old.sizes old.trail
 
 -- what holds of a search after an answer of its propagation
 pub record IsAnswered (s : SearchState) (answer : Option ℕ) : Type 0 where

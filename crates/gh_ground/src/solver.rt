@@ -11,10 +11,11 @@ ghost use Rattle.gh_inst.specs.Instances.{IsInstance};
 ghost use Rattle.gh_log.specs.Lines.{Axiom};
 ghost use Rattle.gh_log.specs.Sections.{line_clause, AreOfKind};
 ghost use Rattle.gh_log.specs.Spelled.{IsOfVersion};
-ghost use Rattle.gh_ground.specs.Kept.{HasLineEach, Keeps, Propagates, HasLessLeft, IsAnswered, IsOpen, IsRefuted};
+ghost use Rattle.gh_ground.specs.Kept.{HasLineEach, Keeps, Propagates, IsAnswered, IsOpen, IsRefuted};
 ghost use Rattle.gh_ground.specs.Kept.{IsEnded, IfAnswered, IfEnded};
 ghost use Rattle.gh_ground.specs.Solving.{RefutesProblem};
 ghost use Rattle.gh_sat.specs.Learn.{IsConflict};
+ghost use Rattle.gh_sat.specs.Measure.{LeavesLess};
 ghost use Rattle.gh_sat.specs.Trail.{IsSound};
 ghost use Rattle.gh_sat.specs.Whole.{GivesLast};
 
@@ -142,7 +143,7 @@ impl Solver {
     // Decides an atom of a clause that has no truth, if there is one, and propagates.
     fn decide(&mut self, alloc: Global) -> Result<Turn, AllocError>
         requires { IsAnswered self.old.search None }
-        ensures less { IfOk result (λ t. IfAnswered t (λ _. HasLessLeft self.old.search self.new.search)) }
+        ensures less { IfOk result (λ t. IfAnswered t (λ _. LeavesLess self.old.search self.new.search)) }
         ensures answered { IfOk result (λ t. IfAnswered t (IsAnswered self.new.search)) }
         ensures open { IfOk result (λ t. IfEnded t (IsOpen self.new.search)) }
         ensures keeps { OnOk result (Keeps self.old.search self.old.lines self.new.search self.new.lines) }
@@ -162,7 +163,7 @@ impl Solver {
         requires sound { IsSound self.old.search }
         requires conflict { IsConflict self.old.search conflict }
         requires level { 0 < length self.old.search.starts }
-        ensures less { OnOk result (HasLessLeft self.old.search self.new.search) }
+        ensures less { OnOk result (LeavesLess self.old.search self.new.search) }
         ensures answered { IfOk result (IsAnswered self.new.search) }
         ensures keeps { OnOk result (Keeps self.old.search self.old.lines self.new.search self.new.lines) }
     {
@@ -183,7 +184,7 @@ impl Solver {
     // are assigned, and where the conflict stands at level 0.
     fn turn(&mut self, alloc: Global, answer: Option<u32>) -> Result<Turn, AllocError>
         requires { IsAnswered self.old.search answer }
-        ensures less { IfOk result (λ t. IfAnswered t (λ _. HasLessLeft self.old.search self.new.search)) }
+        ensures less { IfOk result (λ t. IfAnswered t (λ _. LeavesLess self.old.search self.new.search)) }
         ensures answered { IfOk result (λ t. IfAnswered t (IsAnswered self.new.search)) }
         ensures ended { IfOk result (λ t. IfEnded t (IsEnded self.new.search answer)) }
         ensures keeps { OnOk result (Keeps self.old.search self.old.lines self.new.search self.new.lines) }

@@ -8,9 +8,8 @@ use Rattle.gh_base.specs.declared.atom.Term.{Term}
 use Rattle.gh_base.specs.Meaning.{IsClauseTrue}
 use Rattle.gh_inst.specs.declared.schema.Pattern.{Pattern}
 use Rattle.gh_inst.specs.Table.{AxiomRow, row, table, row_with}
-use Rattle.gh_inst.specs.Tuples.{tuples, terms_below}
+use Rattle.gh_inst.specs.Tuples.{tuples}
 use Rattle.gh_inst.specs.Instances.{name_of, row_instances}
-use Rattle.gh_inst.specs.Schemas.{term}
 use Rattle.gh_inst.proofs.TupleLemmas.{term_there, terms_length}
 use Rattle.gh_inst.specs.Search.{IsSearched, IsRowTrue, tuples_with}
 use Rattle.gh_inst.proofs.ListedLemmas.{one_listed}
@@ -19,6 +18,7 @@ use Rattle.gh_inst.proofs.ViolationLemmas.{clause_there, names_searched}
 use Rattle.gh_inst.specs.Violations.{IsInstanceTrue, AreInstancesTrue}
 use Rattle.gh_base.specs.declared.sizes.Sizes.{Sizes}
 use Rattle.gh_base.specs.Meaning.{Interpretation}
+use Rattle.gh_base.specs.Atoms.{terms_below, term}
 use Rattle.gh_inst.specs.declared.naming.InstanceName.{InstanceName}
 use Rattle.gh_inst.specs.Collecting.{IsFalseInstance, Gathers, RowHolds, VersionHolds}
 

@@ -14,9 +14,8 @@ use Rattle.gh_base.specs.Structures.{interpretation_of}
 use Rattle.gh_inst.specs.declared.collecting.Looked.{Looked}
 use Rattle.gh_inst.specs.declared.naming.InstanceName.{InstanceName}
 use Rattle.gh_inst.specs.Instances.{name_of, row_instances, row_in}
-use Rattle.gh_inst.specs.Schemas.{term}
 use Rattle.gh_inst.specs.Table.{AxiomRow, table, row_with}
-use Rattle.gh_inst.specs.Tuples.{tuples, terms_below}
+use Rattle.gh_inst.specs.Tuples.{tuples}
 use Rattle.gh_inst.specs.Search.{IsSearched, IsRowTrue, tuples_with}
 use Rattle.gh_inst.specs.Violations.{IsFirstWithout, IsInstanceTrue, IsFirstFalse}
 use Rattle.gh_inst.specs.Collecting.{IsFalseInstance, Gathers, GathersAt, IsTrueAt, IsNamed, AreNamed}
@@ -25,6 +24,7 @@ use Rattle.gh_inst.proofs.SearchLemmas.{among, range_below}
 use Rattle.gh_inst.proofs.ViolationLemmas.{clause_there}
 use Rattle.gh_inst.proofs.CollectingLemmas.{nothing_added, one_added, added_on, some_added, take_more_all, earlier_or}
 use Rattle.gh_base.proofs.ListLemmas.{get_within}
+use Rattle.gh_base.specs.Atoms.{term, terms_below}
 
 -- where there is one, not all have the property
 pub first_off : {X : Type 0} (P : X → Type 0) (all : List X) (x : X) → IsFirstWithout P all x → All P all → ⊥

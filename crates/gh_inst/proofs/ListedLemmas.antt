@@ -6,12 +6,12 @@ use Rattle.std.proofs.lemmas.List.{take_at, get_or_default}
 use Rattle.std.proofs.lemmas.List.Elements.{All-map, All-weaker, All-contains, All-head, All-tail}
 use Rattle.gh_base.specs.declared.atom.Term.{Term}
 use Rattle.gh_inst.specs.declared.naming.InstanceName.{InstanceName}
-use Rattle.gh_inst.specs.Schemas.{term}
 use Rattle.gh_inst.specs.Table.{AxiomRow, row, table, row_with}
-use Rattle.gh_inst.specs.Tuples.{tuples, terms_below}
+use Rattle.gh_inst.specs.Tuples.{tuples}
 use Rattle.gh_inst.specs.Instances.{name_of, row_instances, instances, tuple_of, IsInstance}
 use Rattle.gh_inst.specs.Laws.{AreAllInstances}
 use Rattle.std.proofs.lemmas.Bool.Decides.{eqb_tells}
+use Rattle.gh_base.specs.Atoms.{term, terms_below}
 use Rattle.gh_inst.proofs.InstanceLemmas.{row_at, row_there, some_same}
 use Rattle.gh_inst.proofs.SearchLemmas.{all_joined, range_below, tuples_are, IsTuple}
 

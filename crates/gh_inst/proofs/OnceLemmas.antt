@@ -5,9 +5,9 @@ use Rattle.std.proofs.Math.Nat.{pow-suc, pow-zero}
 use Rattle.std.proofs.lemmas.List.{get_or_default}
 use Rattle.std.proofs.lemmas.List.Elements.{All-append, All-nil, All-cons, All-map, All-weaker, All-head, All-tail}
 use Rattle.gh_base.specs.declared.atom.Term.{Term}
-use Rattle.gh_inst.specs.Schemas.{term}
+use Rattle.gh_base.specs.Atoms.{term, terms_below}
 use Rattle.gh_inst.specs.Table.{AxiomRow, row, table}
-use Rattle.gh_inst.specs.Tuples.{tuples, terms_below}
+use Rattle.gh_inst.specs.Tuples.{tuples}
 use Rattle.gh_inst.specs.Instances.{name_of, row_instances, tuple_of}
 use Rattle.gh_inst.specs.Laws.{AreDistinct, AreCounted}
 use Rattle.gh_inst.proofs.InstanceLemmas.{row_there, row_length}

@@ -7,8 +7,9 @@ use Rattle.std.proofs.lemmas.List.{take_more_set}
 use Rattle.std.proofs.lemmas.List.Elements.{All-append, All-cons, All-nil}
 use Rattle.gh_base.specs.declared.atom.Term.{Term}
 use Rattle.gh_base.specs.Meaning.{Interpretation, IsLitTrue}
+use Rattle.gh_base.specs.Atoms.{term}
 use Rattle.gh_inst.specs.declared.schema.Pattern.{Pattern}
-use Rattle.gh_inst.specs.Schemas.{term, lit_over, places_of}
+use Rattle.gh_inst.specs.Schemas.{lit_over, places_of}
 use Rattle.gh_inst.specs.Search.{IsAmong, IsSearched, IsRowTrue, tuples_with}
 use Rattle.gh_inst.specs.Words.{AreFalse, IsLitOpen, IsOpen}
 use Rattle.gh_inst.proofs.SearchLemmas.{index_front, index_below, few_places, place_among, block_ruled_out}
@@ -22,9 +23,9 @@ not_among first k p three used late among =
     absurd (omega (arith, early, late))
 
 -- a literal that is true whatever comes next
-pub lit_settled : (m : Interpretation) (version n : ℕ) (p : Pattern) (tuple : List Term) (first : ℕ)
+pub lit_always : (m : Interpretation) (version n : ℕ) (p : Pattern) (tuple : List Term) (first : ℕ)
     → ((rest : List Term) → All (λ t. t.0 < n) rest → IsLitTrue m (lit_over version (take first tuple ++ rest) p)) → IsLitOpen m version n p tuple first 0
-lit_settled m version n p tuple first h = record {
+lit_always m version n p tuple first h = record {
   closed = λ z rest below later end bit. h rest later;
   known = λ some. absurd (some refl);
 }
@@ -48,7 +49,7 @@ pub term_true : (m : Interpretation) (version n first k : ℕ) (p : Pattern) (tu
     → All (λ t. t.0 < n) (take first tuple) → slice_index_or p.places k 0 < first → bit_at word (slice_index_or tuple (slice_index_or p.places k 0) (term 0)).0 ≡ 0
     → IsLitOpen m version n p tuple first 0
 term_true m version n first k p tuple word t long below known bit =
-    lit_settled m version n p tuple first
+    lit_always m version n p tuple first
     (λ rest later. t.holds _ rest (index_below first n tuple (slice_index_or p.places k 0) known long below) (index_front first tuple rest (slice_index_or p.places k 0) known long) bit)
 
 pub term_false : (m : Interpretation) (version n first k : ℕ) (p : Pattern) (tuple : List Term) (word : ℕ) → AreFalse m version n p tuple first k word → first ≤ length tuple → n ≤ 32
@@ -71,7 +72,7 @@ term_next m version n first k p tuple word t next late = record {
 pub term_none : (m : Interpretation) (version n first k : ℕ) (p : Pattern) (tuple : List Term) (word : ℕ) → AreFalse m version n p tuple first k word → word ≡ 0 → 0 < n → All (λ t. t.0 < n) (take first tuple)
     → IsLitOpen m version n p tuple first 0
 term_none m version n first k p tuple word t none some below =
-    lit_settled m version n p tuple first
+    lit_always m version n p tuple first
     (λ rest later.
     let full = take first tuple ++ rest in
     let z = (slice_index_or full (slice_index_or p.places k 0) (term 0)).0 in

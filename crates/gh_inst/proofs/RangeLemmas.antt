@@ -9,12 +9,12 @@ use Rattle.std.proofs.lemmas.List.Elements.{All-map, All-weaker, All-contains, A
 use Rattle.std.proofs.lemmas.List.Sums.{AllPass-from_list_all}
 use Rattle.gh_base.specs.declared.atom.Term.{Term}
 use Rattle.gh_base.specs.declared.sizes.Sizes.{Sizes}
-use Rattle.gh_base.specs.Atoms.{IsInRange, AreInRange}
+use Rattle.gh_base.specs.Atoms.{IsInRange, AreInRange, term}
 use Rattle.gh_inst.specs.declared.naming.InstanceName.{InstanceName}
 use Rattle.gh_inst.specs.declared.schema.Shape.{Shape}
 use Rattle.gh_inst.specs.declared.schema.Shape.TheVariants.{Equal, Btwn, Hop, Alloc}
 use Rattle.gh_inst.specs.declared.schema.Pattern.{Pattern}
-use Rattle.gh_inst.specs.Schemas.{term, places_of, term_at, atom_of, lit_over, clause_over}
+use Rattle.gh_inst.specs.Schemas.{places_of, term_at, atom_of, lit_over, clause_over}
 use Rattle.gh_inst.specs.Search.{IsAmong}
 use Rattle.gh_inst.specs.Table.{AxiomRow, table, row_with}
 use Rattle.gh_inst.specs.Instances.{tuple_of, clause_of, clause_with, IsInstance, IsPadded}

@@ -7,11 +7,12 @@ use Rattle.std.proofs.lemmas.List.{take_all, map-append, take_more_set, get_or_a
 use Rattle.std.proofs.lemmas.List.Elements.{All-append, All-nil, All-cons, All-head, All-tail, All-weaker, All-map, All-contains}
 use Rattle.gh_base.specs.declared.atom.Term.{Term}
 use Rattle.gh_base.specs.Meaning.{Interpretation, IsLitTrue}
+use Rattle.gh_base.specs.Atoms.{term, terms_below}
 use Rattle.gh_inst.specs.declared.schema.Shape.{Shape}
 use Rattle.gh_inst.specs.declared.schema.Shape.TheVariants.{Equal, Btwn, Hop, Alloc}
 use Rattle.gh_inst.specs.declared.schema.Pattern.{Pattern}
-use Rattle.gh_inst.specs.Schemas.{term, places_of, term_at, atom_of, lit_over}
-use Rattle.gh_inst.specs.Tuples.{terms_below, tuples}
+use Rattle.gh_inst.specs.Schemas.{places_of, term_at, atom_of, lit_over}
+use Rattle.gh_inst.specs.Tuples.{tuples}
 use Rattle.gh_inst.specs.Violations.{IsFirstWithout}
 use Rattle.gh_inst.specs.Search.{IsAmong, IsSearched, IsRowTrue, tuples_with}
 

@@ -7,8 +7,8 @@ use Rattle.std.proofs.lemmas.Nat.{div-add-mod'}
 use Rattle.std.proofs.lemmas.List.{take_more_set, length-map}
 use Rattle.std.proofs.lemmas.Option.{slice_get-map}
 use Rattle.gh_base.specs.declared.atom.Term.{Term}
-use Rattle.gh_inst.specs.Schemas.{term}
-use Rattle.gh_inst.specs.Tuples.{terms_below, tuples}
+use Rattle.gh_base.specs.Atoms.{term, terms_below}
+use Rattle.gh_inst.specs.Tuples.{tuples}
 
 pub get_left : {X : Type 0} (xs ys : List X) (k : ℕ) → k < length xs → slice_get (xs ++ ys) k ≡ slice_get xs k
 get_left [] ys k h = absurd (omega arith)

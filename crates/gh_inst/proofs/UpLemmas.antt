@@ -5,8 +5,8 @@ use Rattle.std.proofs.lemmas.List.{nil_from_length, length-map, get_or-map, get_
 use Rattle.std.proofs.lemmas.List.Elements.{All-nil, All-cons, All-append, All-contains}
 use Rattle.std.proofs.lemmas.List.Quantifiers.{all_pairs_push}
 use Rattle.gh_base.specs.declared.atom.Term.{Term}
+use Rattle.gh_base.specs.Atoms.{term}
 use Rattle.gh_inst.specs.Instances.{name_of}
-use Rattle.gh_inst.specs.Schemas.{term}
 use Rattle.gh_inst.specs.declared.collecting.Looked.{Looked}
 use Rattle.gh_inst.specs.declared.naming.InstanceName.{InstanceName}
 use Rattle.gh_inst.specs.Search.{tuples_with}

@@ -10,10 +10,11 @@ use Rattle.std.proofs.lemmas.List.Elements.{All-append, All-nil, All-cons}
 use Rattle.gh_base.specs.declared.atom.Term.{Term}
 use Rattle.gh_base.specs.Meaning.{Interpretation, IsClauseTrue}
 use Rattle.gh_base.specs.Structures.{Tables, interpretation_of}
+use Rattle.gh_base.specs.Atoms.{term}
 use Rattle.gh_inst.specs.declared.naming.InstanceName.{InstanceName}
 use Rattle.gh_inst.specs.declared.schema.Pattern.{Pattern}
 use Rattle.gh_inst.specs.declared.table.Row.{Row}
-use Rattle.gh_inst.specs.Schemas.{term, clause_over}
+use Rattle.gh_inst.specs.Schemas.{clause_over}
 use Rattle.gh_inst.specs.Table.{AxiomRow, row, table, row_with, row_of, variables_of, lits_of}
 use Rattle.gh_inst.specs.Tuples.{tuples}
 use Rattle.gh_inst.specs.Instances.{name_of, tuple_of, clause_of, clause_with, instances, row_in, row_instances}

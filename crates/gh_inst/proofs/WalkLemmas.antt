@@ -5,8 +5,7 @@ use Rattle.std.specs.List.{flat_map}
 use Rattle.std.specs.Option.{is_some}
 use Rattle.std.proofs.lemmas.List.{take-set}
 use Rattle.gh_base.specs.declared.atom.Term.{Term}
-use Rattle.gh_inst.specs.Schemas.{term}
-use Rattle.gh_inst.specs.Tuples.{terms_below}
+use Rattle.gh_base.specs.Atoms.{term, terms_below}
 use Rattle.gh_inst.specs.Search.{IsSearched, tuples_with}
 use Rattle.gh_inst.proofs.TupleLemmas.{term_there, terms_length}
 use Rattle.gh_inst.proofs.SearchLemmas.{blocks_of, blocks_end, found_in_block, none_in_block, is_some_map}

@@ -9,11 +9,11 @@ use Rattle.gh_base.specs.declared.atom.Atom.TheVariants.{Btwn, Hop}
 use Rattle.gh_inst.specs.declared.schema.Shape.TheVariants.{Btwn as Between, Hop as Step}
 use Rattle.gh_base.specs.Meaning.{Interpretation, under, atom_truth, lit_truth}
 use Rattle.gh_base.specs.declared.sizes.Sizes.{Sizes}
-use Rattle.gh_base.specs.Atoms.{IsInRange}
+use Rattle.gh_base.specs.Atoms.{IsInRange, term}
 use Rattle.gh_inst.specs.declared.schema.Pattern.{Pattern}
 use Rattle.gh_inst.specs.declared.words.WordOf.{WordOf}
 use Rattle.gh_inst.specs.declared.words.WordOf.TheVariants.{Pair, Reach, Cell}
-use Rattle.gh_inst.specs.Schemas.{term, places_of, term_at, atom_of, lit_over}
+use Rattle.gh_inst.specs.Schemas.{places_of, term_at, atom_of, lit_over}
 use Rattle.gh_inst.specs.Words.{bit_of, is_between, is_hop, atom_in, AreThere, AreWords, IsPair, AreTruths, AreFalse}
 use Rattle.gh_inst.proofs.SearchLemmas.{index_front, index_below}
 

@@ -6,10 +6,10 @@ use Rattle.gh_base.specs.declared.atom.Term.{Term}
 use Rattle.gh_base.specs.declared.sizes.Sizes.{Sizes}
 use Rattle.gh_base.specs.Meaning.{Interpretation}
 use Rattle.gh_base.specs.Structures.{Tables, interpretation_of}
+use Rattle.gh_base.specs.Atoms.{term}
 use Rattle.gh_inst.specs.declared.collecting.Looked.{Looked}
 use Rattle.gh_inst.specs.declared.naming.InstanceName.{InstanceName}
 use Rattle.gh_inst.specs.Instances.{IsInstance, name_of, row_in}
-use Rattle.gh_inst.specs.Schemas.{term}
 use Rattle.gh_inst.specs.Tuples.{tuples}
 use Rattle.gh_inst.specs.Violations.{IsInstanceTrue, IsFirstWithout, IsFirstFalseIn}
 use Rattle.gh_inst.specs.Table.{AxiomRow, row_with, table, row}

@@ -5,9 +5,9 @@ use Rattle.std.specs.List.{flat_map, range_with_len}
 use Rattle.gh_base.specs.declared.atom.Term.{Term}
 use Rattle.gh_base.specs.declared.atom.Lit.{Lit}
 use Rattle.gh_base.specs.declared.sizes.Sizes.{Sizes}
-use Rattle.gh_base.specs.Atoms.{AreInRange}
+use Rattle.gh_base.specs.Atoms.{AreInRange, term}
 use Rattle.gh_inst.specs.declared.naming.InstanceName.{InstanceName}
-use Rattle.gh_inst.specs.Schemas.{term, clause_over}
+use Rattle.gh_inst.specs.Schemas.{clause_over}
 use Rattle.gh_inst.specs.Table.{AxiomRow, table, row_with}
 use Rattle.gh_inst.specs.Tuples.{tuples}
 

@@ -3,6 +3,7 @@ pub mod Table
 pub mod Tuples
 pub mod Instances
 pub mod Violations
+pub mod Models
 pub mod Collecting
 pub mod Search
 pub mod Words

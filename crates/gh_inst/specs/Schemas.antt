@@ -1,9 +1,10 @@
 -- Literals over variables, and what they are at some terms.
-use Rattle.std.specs.Prelude.{ℕ, ◌<◌, ◌≤◌, List, length, map, take, min, max, All, slice_index_or}
+use Rattle.std.specs.Prelude.{ℕ, ◌<◌, ◌≤◌, List, length, map, take, All, slice_index_or}
 use Rattle.gh_base.specs.declared.atom.Term.{Term}
 use Rattle.gh_base.specs.declared.atom.Atom.{Atom}
-use Rattle.gh_base.specs.declared.atom.Atom.TheVariants.{Eq, Btwn, Hop, Alloc}
+use Rattle.gh_base.specs.declared.atom.Atom.TheVariants.{Btwn, Hop, Alloc}
 use Rattle.gh_base.specs.declared.atom.Lit.{Lit}
+use Rattle.gh_base.specs.Atoms.{term, equation}
 use Rattle.gh_inst.specs.declared.schema.Shape.{Shape}
 use Rattle.gh_inst.specs.declared.schema.Shape.TheVariants.{Equal, Btwn as Between, Hop as Step, Alloc as Allocated}
 use Rattle.gh_inst.specs.declared.schema.Pattern.{Pattern}
@@ -23,13 +24,6 @@ pub record IsSchema (variables : ℕ) (lits : List Pattern) : Type 0 where
   pub few_lits : length lits ≤ 4
   pub places : All (λ p. All (λ x. x < variables) (take (places_of p.shape) p.places)) lits
 
-abbrev pub term : ℕ → Term
-term k = record { 0 = k }
-
--- the equality of two terms, the smaller one first
-abbrev pub equality : Term → Term → Atom
-equality a b = Eq (term (min a.0 b.0)) (term (max a.0 b.0))
-
 -- the term of the variable at a place
 abbrev pub term_at : List Term → List ℕ → ℕ → Term
 term_at terms places k = slice_index_or terms (slice_index_or places k 0) (term 0)
@@ -40,7 +34,7 @@ AreTermsBelow n p terms = (k : ℕ) → k < places_of p.shape → (term_at terms
 
 -- an atom, by the term at each place
 abbrev pub atom_of : Shape → ℕ → (ℕ → Term) → Atom
-atom_of Equal version at = equality (at 0) (at 1)
+atom_of Equal version at = equation (at 0) (at 1)
 atom_of Between version at = Btwn version (at 0) (at 1) (at 2)
 atom_of Step version at = Hop version (at 0) (at 1)
 atom_of Allocated version at = Alloc version (at 0)

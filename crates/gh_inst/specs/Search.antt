@@ -38,16 +38,16 @@ abbrev pub IsTrueOver : Tables → ℕ → List Term → Pattern → Type 0
 IsTrueOver s version terms p = IsLitTrueIn s (lit_over version terms p)
 
 -- .. whatever the terms after them are
-abbrev pub IsSettled : Tables → ℕ → List Term → Pattern → Type 0
-IsSettled s version terms p = (rest : List Term) → IsTrueOver s version (terms ++ rest) p
+abbrev pub IsAlwaysTrue : Tables → ℕ → List Term → Pattern → Type 0
+IsAlwaysTrue s version terms p = (rest : List Term) → IsTrueOver s version (terms ++ rest) p
 
 -- the clause of a row is true in a structure, at a tuple
 abbrev pub IsRowTrueIn : Tables → ℕ → List Pattern → List Term → Type 0
 IsRowTrueIn s version lits tuple = IsRowTrue (interpretation_of s) version lits tuple
 
 -- .. whatever the terms after it are
-abbrev pub IsRowSettled : Tables → ℕ → List Pattern → List Term → Type 0
-IsRowSettled s version lits tuple = (rest : List Term) → IsRowTrueIn s version lits (tuple ++ rest)
+abbrev pub IsRowAlwaysTrue : Tables → ℕ → List Pattern → List Term → Type 0
+IsRowAlwaysTrue s version lits tuple = (rest : List Term) → IsRowTrueIn s version lits (tuple ++ rest)
 
 -- a literal and a row are false at the first terms of a tuple, where these are all that they have
 abbrev pub IsFalseOver : Tables → ℕ → ℕ → List Term → Pattern → Type 0

@@ -1,12 +1,8 @@
 -- The tuples of terms in lexicographic order.
 use Rattle.std.specs.Prelude.{ℕ, zero, suc, List, [], ◌∷◌, map}
-use Rattle.std.specs.List.{flat_map, range_with_len}
+use Rattle.std.specs.List.{flat_map}
 use Rattle.gh_base.specs.declared.atom.Term.{Term}
-use Rattle.gh_inst.specs.Schemas.{term}
-
--- the first n terms
-abbrev pub terms_below : ℕ → List Term
-terms_below n = map term (range_with_len 0 n)
+use Rattle.gh_base.specs.Atoms.{terms_below}
 
 -- the tuples of a length over the first n terms: by the first term, then by the rest
 abbrev pub tuples : ℕ → ℕ → List (List Term)

@@ -7,12 +7,13 @@ use Rattle.gh_base.specs.declared.atom.Atom.{Atom}
 use Rattle.gh_base.specs.declared.atom.Atom.TheVariants.{Btwn, Hop}
 use Rattle.gh_base.specs.Meaning.{Interpretation, IsLitTrue, under, atom_truth, lit_truth}
 use Rattle.gh_base.specs.Structures.{Tables, interpretation_of}
+use Rattle.gh_base.specs.Atoms.{term}
 use Rattle.gh_inst.specs.declared.schema.Shape.TheVariants.{Btwn as Between}
 use Rattle.gh_inst.specs.declared.schema.Pattern.{Pattern}
 use Rattle.gh_inst.specs.declared.words.WordOf.{WordOf}
 use Rattle.gh_inst.specs.declared.words.WordOf.TheVariants.{Pair, Reach, Cell}
 use Rattle.gh_inst.specs.declared.words.Worded.{Worded}
-use Rattle.gh_inst.specs.Schemas.{term, places_of, lit_over}
+use Rattle.gh_inst.specs.Schemas.{places_of, lit_over}
 use Rattle.gh_inst.specs.Search.{IsAmong, IsRowTrue}
 
 abbrev pub bit_of : Bool → ℕ

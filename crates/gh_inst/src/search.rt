@@ -1,10 +1,10 @@
 //! The first tuple at which a row is false.
 
-ghost use Rattle.std.specs.Prelude.{◌≡◌, ◌<◌, ◌≤◌, ◌↔◌, IsTrue, All, length, take, []};
+ghost use Rattle.std.specs.Prelude.{◌≡◌, ◌<◌, ◌≤◌, ◌↔◌, IsTrue, All, take, []};
 ghost use Rattle.gh_inst.specs.Schemas.{places_of, AreTermsBelow};
 ghost use Rattle.gh_inst.specs.Words.{IsOpenIn, IsWorded};
-ghost use Rattle.gh_inst.specs.Search.{IsAmong, IsTupleBegun, IsFirstTuple, IsFalseOver, IsRowFalseOver, IsRowSettled};
-ghost use Rattle.gh_inst.specs.Search.{IsSettled, IsTrueOver};
+ghost use Rattle.gh_inst.specs.Search.{IsAmong, IsTupleBegun, IsFirstTuple, IsFalseOver, IsRowFalseOver};
+ghost use Rattle.gh_inst.specs.Search.{IsAlwaysTrue, IsRowAlwaysTrue, IsTrueOver};
 
 use crate::schema::{Pattern, Shape};
 use crate::words::{Worded, open_terms, words_of};
@@ -44,7 +44,7 @@ impl Pattern {
     }
 
     // Whether its variables are among the first ones, and it is true whatever the others are.
-    pub(crate) fn settles(
+    pub(crate) fn is_always_true(
         self,
         structure: &Structure,
         version: u8,
@@ -52,7 +52,7 @@ impl Pattern {
         first: usize,
     ) -> bool
         requires { IsTupleBegun structure.now version tuple.now first }
-        ensures settled { IsTrue result → IsSettled structure.now version (take first tuple.now) self }
+        ensures always { IsTrue result → IsAlwaysTrue structure.now version (take first tuple.now) self }
         ensures open { ¬ IsTrue result → IsFalseOver structure.now version first tuple.now self }
     {
         if self.is_among(first) {
@@ -63,7 +63,7 @@ impl Pattern {
 }
 
 // Whether a literal over the first variables is true, so that the row is, whatever the others are.
-fn is_settled(
+fn is_row_always_true(
     lits: &[Pattern],
     structure: &Structure,
     version: u8,
@@ -71,11 +71,11 @@ fn is_settled(
     first: usize,
 ) -> bool
     requires { IsTupleBegun structure.now version tuple.now first }
-    ensures settled { IsTrue result → IsRowSettled structure.now version lits.now (take first tuple.now) }
+    ensures always { IsTrue result → IsRowAlwaysTrue structure.now version lits.now (take first tuple.now) }
     ensures open { ¬ IsTrue result → IsRowFalseOver structure.now version first tuple.now lits.now }
 {
     for pattern in lits {
-        if pattern.settles(structure, version, tuple, first) {
+        if pattern.is_always_true(structure, version, tuple, first) {
             return true;
         }
     }
@@ -98,7 +98,7 @@ pub(crate) fn first_from(
     requires terms { All (λ t. t.0 < structure.now.sizes.terms) (take first start) }
     ensures { IsFirstTuple structure.now version lits.now variables first start result }
 {
-    if is_settled(lits, structure, version, &start, first) {
+    if is_row_always_true(lits, structure, version, &start, first) {
         return None;
     }
     if first == variables {

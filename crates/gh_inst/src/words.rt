@@ -220,7 +220,7 @@ impl Pattern {
             Shape::Hop => return self.next_hop(worded.words, tuple, first),
             Shape::Equal | Shape::Alloc => {}
         }
-        if self.settles(worded.structure, worded.version, tuple, first) {
+        if self.is_always_true(worded.structure, worded.version, tuple, first) {
             return 0;
         }
         u32::MAX

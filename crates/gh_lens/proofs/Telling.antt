@@ -5,7 +5,7 @@ use Rattle.std.proofs.lemmas.List.Elements.{All-head, All-tail}
 use Rattle.gh_ast.specs.Plain.{Procedure, Program}
 use Rattle.gh_ast.proofs.Lists.{one_value}
 use Rattle.gh_path.specs.Answers.{IsNumbered}
-use Rattle.gh_path.specs.Conditions.{Condition, IsOf, StepIsThere}
+use Rattle.gh_path.specs.Conditions.{Condition, IsConditionAt, IsOf, StepIsThere}
 use Rattle.gh_path.specs.Graphs.{PathStep}
 use Rattle.gh_path.specs.Kept.{condition_of, step_of, IsScoped}
 use Rattle.gh_path.specs.declared.condition.Condition as kept
@@ -18,20 +18,20 @@ use Rattle.gh_trace.specs.Kept.{state_of, drawn, drawn_of, IsFailure}
 use Rattle.gh_trace.specs.Replay.{Drawn, Refutes, FirstFailure}
 use Rattle.gh_trace.specs.Traces.{Passes, last_state}
 use Rattle.gh_lens.specs.Misses.{IsFailing, IsFailingOr}
-use Rattle.gh_lens.specs.Stories.{TellsStep, AreTold, TellsSteps, last_of, TellsHeading, IsStoryOr, IsConditionAt, IsToldOf, IsToldFor, PassesAtEnd}
+use Rattle.gh_lens.specs.Stories.{TellsStep, AreStepsTold, TellsSteps, TellsHeading, IsStoryOr, IsToldOf, IsToldFor, PassesAtEnd}
 
--- the last of some states as they are kept
-last_same : (x : kept_state.State) (ys : List kept_state.State) → last_state (state_of x) (map (λ (d : Drawn). d.state) (map drawn ys)) ≡ state_of (last_of x ys)
-last_same x [] = refl
-last_same x (y ∷ ys) = last_same y ys
+-- the states that are drawn
+states_same : (ys : List kept_state.State) → map (λ (d : Drawn). d.state) (map drawn ys) ≡ map state_of ys
+states_same [] = refl
+states_same (y ∷ ys) = ap (λ zs. state_of y ∷ zs) (states_same ys)
 
 -- a counterexample doesn't pass its check
 pub fails_at_end : (P : Program) (c : Condition) (x : kept_state.State) (ys : List kept_state.State) → Refutes P c (map drawn (x ∷ ys)) → PassesAtEnd P c x ys → ⊥
 fails_at_end P c x ys against passes =
     let first : against.first ≡ drawn x = cc (sym against.states) in
     let others : against.others ≡ map drawn ys = cc (sym against.states) in
-    let end : last_state against.first.state (map (λ (d : Drawn). d.state) against.others) ≡ state_of (last_of x ys) =
-    ap (λ d. last_state d.state (map (λ (d : Drawn). d.state) against.others)) first ∙ ap (λ ds. last_state (state_of x) (map (λ (d : Drawn). d.state) ds)) others ∙ last_same x ys in
+    let end : last_state against.first.state (map (λ (d : Drawn). d.state) against.others) ≡ last_state (state_of x) (map state_of ys) =
+    ap (λ d. last_state d.state (map (λ (d : Drawn). d.state) against.others)) first ∙ ap (λ ds. last_state (state_of x) (map (λ (d : Drawn). d.state) ds)) others ∙ ap (last_state (state_of x)) (states_same ys) in
     passes against.procedure against.of (subst (λ z. Passes P against.procedure c.way.check z → ⊥) end against.counterexample.fails)
 
 -- a counterexample has a first state
@@ -48,7 +48,7 @@ no_steps P p rs x ys text none e = subst (λ zs. TellsSteps P p zs x ys text) (s
 pub no_states : (P : Program) (p : Procedure) (rs : List kept_step.PathStep) (x : kept_state.State) (ys : List kept_state.State) (text : List ℕ) → ys ≡ [] → text ≡ [] → TellsSteps P p rs x ys text
 no_states P p rs x ys text none e = subst (λ zs. TellsSteps P p rs x zs text) (sym none) (told (map step_of rs))
   where
-    told : (ss : List PathStep) → AreTold P p ss x [] text
+    told : (ss : List PathStep) → AreStepsTold P p ss x [] text
     told [] = e
     told (s ∷ ss) = e
 
@@ -59,7 +59,7 @@ one_more P p rs later r x y all ys first rest text steps states one more e =
     subst (λ zs. TellsSteps P p rs x zs text) (sym states) (subst (λ zs. TellsSteps P p zs x (y ∷ ys) text) (sym steps) told)
 
 -- the lines of a condition, from its description to its check
-pub story_told : (P : Program) (r : kept.Condition) (p : Procedure) (x last : kept_state.State) (ys : List kept_state.State) (missed lines steps text : List ℕ) → IsOf P (condition_of r) p → last ≡ last_of x ys
+pub story_told : (P : Program) (r : kept.Condition) (p : Procedure) (x last : kept_state.State) (ys : List kept_state.State) (missed lines steps text : List ℕ) → IsOf P (condition_of r) p → state_of last ≡ last_state (state_of x) (map state_of ys)
     → IsFailingOr P p r.check.kind (state_of last) (Some missed) → TellsHeading P r x lines → TellsSteps P p r.steps.items x ys steps → text ≡ lines ++ steps ++ line (codes "the check fails:") ++ missed → IsStoryOr P r x ys (Some text)
 story_told P r p x last ys missed lines steps text own end fails heads tells e =
     record {
@@ -68,16 +68,16 @@ story_told P r p x last ys missed lines steps text own end fails heads tells e =
       steps = steps;
       failing = missed;
       are_told = tells;
-      is_failing = subst (λ z. IsFailing P p (condition_of r).way.check (state_of z) missed) end (fails r.check.span);
+      is_failing = subst (λ z. IsFailing P p (condition_of r).way.check z missed) end (fails r.check.span);
       text_is = e ∙ ap (λ t. t ++ steps ++ line (codes "the check fails:") ++ missed) heads;
     }
 
 -- no lines, where the check is passed
-pub no_story : (P : Program) (r : kept.Condition) (p : Procedure) (x last : kept_state.State) (ys : List kept_state.State) → IsOf P (condition_of r) p → last ≡ last_of x ys → IsFailingOr P p r.check.kind (state_of last) None → IsStoryOr P r x ys None
+pub no_story : (P : Program) (r : kept.Condition) (p : Procedure) (x last : kept_state.State) (ys : List kept_state.State) → IsOf P (condition_of r) p → state_of last ≡ last_state (state_of x) (map state_of ys) → IsFailingOr P p r.check.kind (state_of last) None → IsStoryOr P r x ys None
 no_story P r p x last ys own end fails q of =
     let same : p ≡ q = one_value (slice_get P.procedures r.procedure) p q own of in
-    subst (λ t. (Passes P t (condition_of r).way.check (state_of (last_of x ys)) → ⊥) → ⊥) same
-    (subst (λ z. (Passes P p (condition_of r).way.check (state_of z) → ⊥) → ⊥) end (fails r.check.span))
+    subst (λ t. (Passes P t (condition_of r).way.check (last_state (state_of x) (map state_of ys)) → ⊥) → ⊥) same
+    (subst (λ z. (Passes P p (condition_of r).way.check z → ⊥) → ⊥) end (fails r.check.span))
 
 -- the numbers of the steps of a condition of the procedure are there
 pub steps_there : (P : Program) (p : Procedure) (r : kept.Condition) → IsScoped P r → IsOf P (condition_of r) p → All (StepIsThere P p) (map step_of r.steps.items)

@@ -5,6 +5,7 @@ use Rattle.std.specs.Fmt.{decimal}
 use Rattle.std.specs.FinMap.{keys}
 use Rattle.gh_assert.specs.Stores.{store_of}
 use Rattle.gh_draw.specs.Drawings.{line}
+use Rattle.gh_log.specs.Texts.{numbers_text}
 use Rattle.gh_trace.specs.declared.state.State.{State}
 use Rattle.gh_lens.specs.declared.changes.VariableChange.{VariableChange}
 use Rattle.gh_lens.specs.declared.changes.CellChange.{CellChange}
@@ -29,11 +30,7 @@ cell_line c = line (codes "  " ++ decimal c.at ++ codes ".next: " ++ contents_te
 abbrev pub changes_text : State → State → List ℕ
 changes_text old new = flat_map variable_line (variable_changes old.store (store_of new.store)) ++ flat_map cell_line (cell_changes old.heap new.heap)
 
--- ` N` for each number
-abbrev pub numbers_text : List ℕ → List ℕ
-numbers_text ns = flat_map (λ n. codes " " ++ decimal n) ns
-
--- the same for the places of some cells
+-- ` N` for the place of each of some cells
 abbrev pub places_text : List (ℕ × ℕ) → List ℕ
 places_text cs = numbers_text (map (λ c. c.0) cs)
 

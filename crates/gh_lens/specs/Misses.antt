@@ -11,13 +11,13 @@ use Rattle.gh_assert.specs.Heaps.{Heap}
 use Rattle.gh_assert.specs.Meaning.{Store, value}
 use Rattle.gh_assert.specs.Values.{Give}
 use Rattle.gh_draw.specs.Drawings.{line}
+use Rattle.gh_log.specs.Texts.{numbers_text}
 use Rattle.gh_path.specs.Graphs.{Check, access, entry, loop_entry, returned, loop_end, Loop, IsProcedureAt, IsLoopAt}
 use Rattle.gh_path.specs.Kept.{asked_at}
 use Rattle.gh_path.specs.declared.condition.CheckKind as kept
 use Rattle.gh_trace.specs.Traces.{State, Passes}
 use Rattle.gh_lens.specs.Statements.{operand_text, equality_text}
-use Rattle.gh_lens.specs.Lines.{numbers_text}
-use Rattle.gh_lens.specs.Takings.{conjuncts, StopsAt, Leaves, IsReason}
+use Rattle.gh_lens.specs.Takings.{conjuncts, IsBlockedAt, Leaves, IsReason}
 use Rattle.gh_lens.specs.declared.taking.Reason.{Reason}
 use Rattle.gh_lens.specs.declared.taking.Reason.TheVariants.{Untrue, Missing, Shared, Content}
 
@@ -54,8 +54,8 @@ compared_text s (star fs) = []
 compared_text s (cases t a b) = []
 
 -- `  CONJUNCT: REASON`
-abbrev pub stop_line : Store → Formula → Reason → List ℕ
-stop_line s f r = line (codes "  " ++ formula_text f ++ codes ": " ++ reason_text r ++ compared_text s f)
+abbrev pub blocked_line : Store → Formula → Reason → List ℕ
+blocked_line s f r = line (codes "  " ++ formula_text f ++ codes ": " ++ reason_text r ++ compared_text s f)
 
 -- the places of the cells that no conjunct takes
 abbrev pub left_line : Heap → List ℕ
@@ -63,7 +63,7 @@ left_line rest = line (codes "  leaked:" ++ numbers_text (keys rest))
 
 -- one conjunct finds no part; or all find theirs, and cells are left over
 pub data IsMiss (f : Formula) (s : Store) (h : Heap) (text : List ℕ) : Type 0 where
-  stopped : (g : Formula) (rest : Heap) (r : Reason) → StopsAt (conjuncts f) s h g rest → IsReason g s h rest r → text ≡ stop_line s g r → IsMiss f s h text
+  blocked : (g : Formula) (rest : Heap) (r : Reason) → IsBlockedAt (conjuncts f) s h g rest → IsReason g s h rest r → text ≡ blocked_line s g r → IsMiss f s h text
   left_over : (rest : Heap) → Leaves (conjuncts f) s h rest → text ≡ left_line rest → IsMiss f s h text
 
 -- a line for each of some alternatives

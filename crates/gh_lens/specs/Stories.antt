@@ -1,10 +1,9 @@
 -- The lines that tell a counterexample step by step.
-use Rattle.std.specs.Prelude.{◌≡◌, ◌⊎◌, ℕ, ◌-◌, ◌<◌, List, [], ◌∷◌, ◌++◌, length, map, Option, Some, None, codes}
-use Rattle.std.specs.Prelude.{◌≤◌, slice_get}
+use Rattle.std.specs.Prelude.{◌≡◌, ℕ, List, [], ◌∷◌, ◌++◌, map, Option, Some, None, codes}
 use Rattle.gh_ast.specs.Plain.{Procedure, Program}
 use Rattle.gh_assert.specs.Stores.{listed_names}
 use Rattle.gh_path.specs.Graphs.{PathStep}
-use Rattle.gh_path.specs.Conditions.{Condition, conditions, IsOf}
+use Rattle.gh_path.specs.Conditions.{Condition, IsConditionAt, IsNoNumber, IsOf}
 use Rattle.gh_draw.specs.Descriptions.{description}
 use Rattle.gh_draw.specs.Drawings.{line, state_lines}
 use Rattle.gh_trace.specs.declared.state.State.{State}
@@ -12,7 +11,7 @@ use Rattle.gh_path.specs.Kept.{condition_of, step_of}
 use Rattle.gh_path.specs.declared.condition.Condition as kept
 use Rattle.gh_path.specs.declared.condition.PathStep as kept_step
 use Rattle.gh_trace.specs.Kept.{state_of, drawn}
-use Rattle.gh_trace.specs.Traces.{Passes}
+use Rattle.gh_trace.specs.Traces.{Passes, last_state}
 use Rattle.gh_trace.specs.Replay.{Refutes, FirstFailure}
 use Rattle.gh_lens.specs.declared.exchange.Exchange.{Exchange}
 use Rattle.gh_lens.specs.declared.story.Explained.{Explained}
@@ -40,17 +39,13 @@ abbrev pub TellsStatement : Program → Procedure → kept_step.PathStep → Lis
 TellsStatement P p r text = text ≡ line (statement_text P p (step_of r))
 
 -- the steps in turn, as far as there are states
-abbrev pub AreTold : Program → Procedure → List PathStep → State → List State → List ℕ → Type 0
-AreTold P p [] x ys text = text ≡ []
-AreTold P p (s ∷ ss) x [] text = text ≡ []
-AreTold P p (s ∷ ss) x (y ∷ ys) text = (a : List ℕ) × (b : List ℕ) × (text ≡ a ++ b) × IsStepTold P p s x y a × AreTold P p ss y ys b
+abbrev pub AreStepsTold : Program → Procedure → List PathStep → State → List State → List ℕ → Type 0
+AreStepsTold P p [] x ys text = text ≡ []
+AreStepsTold P p (s ∷ ss) x [] text = text ≡ []
+AreStepsTold P p (s ∷ ss) x (y ∷ ys) text = (a : List ℕ) × (b : List ℕ) × (text ≡ a ++ b) × IsStepTold P p s x y a × AreStepsTold P p ss y ys b
 
 abbrev pub TellsSteps : Program → Procedure → List kept_step.PathStep → State → List State → List ℕ → Type 0
-TellsSteps P p rs x ys text = AreTold P p (map step_of rs) x ys text
-
-abbrev pub last_of : State → List State → State
-last_of x [] = x
-last_of x (y ∷ ys) = last_of y ys
+TellsSteps P p rs x ys text = AreStepsTold P p (map step_of rs) x ys text
 
 -- the condition and the first state
 abbrev pub heading : Program → Condition → State → List ℕ
@@ -65,13 +60,13 @@ pub record IsStory (P : Program) (c : Condition) (x : State) (ys : List State) (
   pub of : IsOf P c procedure
   pub steps : List ℕ
   pub failing : List ℕ
-  pub are_told : AreTold P procedure c.way.steps x ys steps
-  pub is_failing : IsFailing P procedure c.way.check (state_of (last_of x ys)) failing
+  pub are_told : AreStepsTold P procedure c.way.steps x ys steps
+  pub is_failing : IsFailing P procedure c.way.check (last_state (state_of x) (map state_of ys)) failing
   pub text_is : text ≡ heading P c x ++ steps ++ line (codes "the check fails:") ++ failing
 
 -- the check is passed in the last state, up to a double negation
 abbrev pub PassesAtEnd : Program → Condition → State → List State → Type 0
-PassesAtEnd P c x ys = (p : Procedure) → IsOf P c p → (Passes P p c.way.check (state_of (last_of x ys)) → ⊥) → ⊥
+PassesAtEnd P c x ys = (p : Procedure) → IsOf P c p → (Passes P p c.way.check (last_state (state_of x) (map state_of ys)) → ⊥) → ⊥
 
 -- the story of the condition that is kept; or its check is passed
 abbrev pub IsStoryOr : Program → kept.Condition → State → List State → Option (List ℕ) → Type 0
@@ -89,13 +84,9 @@ pub record IsToldOf (P : Program) (c : Condition) (xs : List State) (text : List
 abbrev pub IsToldFor : Program → kept.Condition → List State → List ℕ → Type 0
 IsToldFor P r xs text = IsToldOf P (condition_of r) xs text
 
--- the condition of a number, from 1
-abbrev pub IsConditionAt : Program → ℕ → Condition → Type 0
-IsConditionAt P n c = (1 ≤ n) × (slice_get (conditions P) (n - 1) ≡ Some c)
-
 -- what is told of states for the condition of a number: a story, or their first failure, or that there is no such
 -- condition
 abbrev pub IsExplained : Program → ℕ → List State → Explained → Type 0
 IsExplained P n xs (Told text) = (c : Condition) × IsConditionAt P n c × IsToldOf P c xs text
 IsExplained P n xs (Fails k) = (c : Condition) × IsConditionAt P n c × FirstFailure P c (map drawn xs) k
-IsExplained P n xs Unnumbered = (n ≡ 0) ⊎ (length (conditions P) < n)
+IsExplained P n xs Unnumbered = IsNoNumber P n

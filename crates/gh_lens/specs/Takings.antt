@@ -6,7 +6,7 @@ use Rattle.gh_ast.specs.Plain.{no_formulas, formula_first}
 use Rattle.gh_assert.specs.Heaps.{Heap, Splits}
 use Rattle.gh_assert.specs.Meaning.{Store, Meaning, HasPart, value}
 use Rattle.gh_lens.specs.declared.taking.Taking.{Taking}
-use Rattle.gh_lens.specs.declared.taking.Taking.TheVariants.{Stops, Whole}
+use Rattle.gh_lens.specs.declared.taking.Taking.TheVariants.{Blocked, Whole}
 use Rattle.gh_lens.specs.declared.taking.Reason.{Reason}
 use Rattle.gh_lens.specs.declared.taking.Reason.TheVariants.{Untrue, Missing, Shared, Content}
 
@@ -21,10 +21,10 @@ conjuncts (star fs) = fs
 conjuncts (cases t a b) = formula_first (cases t a b) no_formulas
 
 -- the conjuncts before one, g, take their parts; no part of the rest meets g
-abbrev pub StopsAt : Formulas → Store → Heap → Formula → Heap → Type 0
-StopsAt no_formulas s h g rest = ⊥
-StopsAt (formula_first f fs) s h g rest =
-    ((g ≡ f) × (rest ≡ h) × (HasPart f s h → ⊥)) ⊎ ((a : Heap) × (b : Heap) × Splits h a b × Meaning f s a × StopsAt fs s b g rest)
+abbrev pub IsBlockedAt : Formulas → Store → Heap → Formula → Heap → Type 0
+IsBlockedAt no_formulas s h g rest = ⊥
+IsBlockedAt (formula_first f fs) s h g rest =
+    ((g ≡ f) × (rest ≡ h) × (HasPart f s h → ⊥)) ⊎ ((a : Heap) × (b : Heap) × Splits h a b × Meaning f s a × IsBlockedAt fs s b g rest)
 
 -- all conjuncts take their parts, and this is left over
 abbrev pub Leaves : Formulas → Store → Heap → Heap → Type 0
@@ -32,16 +32,17 @@ Leaves no_formulas s h rest = rest ≡ h
 Leaves (formula_first f fs) s h rest = (a : Heap) × (b : Heap) × Splits h a b × Meaning f s a × Leaves fs s b rest
 
 abbrev pub IsTaking : Formulas → Store → Heap → Taking → Type 0
-IsTaking fs s h (Stops a rest) = StopsAt fs s h (formula_of a.now) rest
+IsTaking fs s h (Blocked a rest) = IsBlockedAt fs s h (formula_of a.now) rest
 IsTaking fs s h (Whole rest) = Leaves fs s h rest
 
 -- n cells on the way from x, none of them y, and then, at v, there is none left
-abbrev pub Sticks : ℕ → ℕ → ℕ → Heap → ℕ → Type 0
-Sticks zero x y h v = (x ≢ y) × (get h x ≡ None) × (v ≡ x)
-Sticks (suc n) x y h v = (x ≢ y) × (z : ℕ) × (get h x ≡ Some z) × Sticks n z y (remove h x) v
+abbrev pub BreaksAfter : ℕ → ℕ → ℕ → Heap → ℕ → Type 0
+BreaksAfter zero x y h v = (x ≢ y) × (get h x ≡ None) × (v ≡ x)
+BreaksAfter (suc n) x y h v = (x ≢ y) × (z : ℕ) × (get h x ≡ Some z) × BreaksAfter n z y (remove h x) v
 
-abbrev pub IsStuck : ℕ → ℕ → Heap → ℕ → Type 0
-IsStuck x y h v = (n : ℕ) × Sticks n x y h v
+-- the way from x to y breaks at v
+abbrev pub IsBrokenAt : ℕ → ℕ → Heap → ℕ → Type 0
+IsBrokenAt x y h v = (n : ℕ) × BreaksAfter n x y h v
 
 -- a cell that isn't left: the whole heap has none at the place, or an earlier conjunct, or the way itself, took it
 abbrev pub gone_reason : Option ℕ → ℕ → Reason
@@ -55,7 +56,7 @@ content_reason (Some w) o v = Content v w
 
 -- the way from x to y comes to a cell that isn't left; else the reason isn't told
 abbrev pub IsNoSegment : ℕ → ℕ → Heap → Heap → Reason → Type 0
-IsNoSegment x y h rest r = ((v : ℕ) × IsStuck x y rest v × (r ≡ gone_reason (get h v) v)) ⊎ (((v : ℕ) → IsStuck x y rest v → ⊥) × (r ≡ Untrue))
+IsNoSegment x y h rest r = ((v : ℕ) × IsBrokenAt x y rest v × (r ≡ gone_reason (get h v) v)) ⊎ (((v : ℕ) → IsBrokenAt x y rest v → ⊥) × (r ≡ Untrue))
 
 -- why no part of what is left of a heap meets a conjunct
 abbrev pub IsReason : Formula → Store → Heap → Heap → Reason → Type 0

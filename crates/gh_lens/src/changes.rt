@@ -49,8 +49,8 @@ pub fn variable_changes(
     Ok(all)
 }
 
-// Whether a place has this content.
-fn is_content(content: Option<u32>, value: u32) -> bool
+/// Whether a place has this content.
+pub fn is_content(content: Option<u32>, value: u32) -> bool
     ensures { result ≡ told.is_content content value }
 {
     match content {

@@ -86,7 +86,7 @@ fn judge(
     })
 }
 
-/// Decides all conditions of an admitted program, in order, and tells after each how many are settled.
+/// What is found of each condition of an admitted program, in order.
 pub fn verdicts<T: Progress>(
     alloc: Global,
     typed: &Typed,
@@ -109,6 +109,7 @@ pub fn verdicts<T: Progress>(
         }
         let judged = judge(alloc, typed, number, walk.condition(), &mut known)?;
         all.push(judged)?;
+        // How many are settled: nothing that is found depends on it.
         progress.settled(number, count);
     }
     Ok(all)

@@ -7,6 +7,7 @@ ghost use Rattle.std.specs.FinMap as map;
 ghost use Rattle.gh_lens.specs.Lines as told;
 ghost use Rattle.gh_assert.specs.Cells.{pairs};
 ghost use Rattle.gh_draw.specs.Drawings.{line};
+ghost use Rattle.gh_log.specs.Texts.{numbers_text};
 
 use crate::changes::{CellChange, VariableChange, cell_changes, variable_changes};
 use crate::exchange::Exchange;
@@ -114,8 +115,9 @@ pub fn push_changes(
     Ok(())
 }
 
-fn push_numbers(alloc: Global, text: &mut Text, numbers: &[u32]) -> Result<(), AllocError>
-    ensures { OnOk result (text.new ≡ text.old ++ told.numbers_text numbers.now) }
+/// Adds numbers, each after a space.
+pub fn push_numbers(alloc: Global, text: &mut Text, numbers: &[u32]) -> Result<(), AllocError>
+    ensures { OnOk result (text.new ≡ text.old ++ numbers_text numbers.now) }
 {
     for number in numbers {
         text.push(b" ")?;
@@ -135,21 +137,21 @@ fn push_places_of(alloc: Global, text: &mut Text, cells: &[Cell]) -> Result<(), 
     Ok(())
 }
 
-// Adds the places of a heap.
-fn push_places(alloc: Global, text: &mut Text, heap: &Heap) -> Result<(), AllocError>
-    ensures { OnOk result (text.new ≡ text.old ++ told.numbers_text (map.keys heap.now)) }
+/// Adds the places of a heap, each after a space.
+pub fn push_places(alloc: Global, text: &mut Text, heap: &Heap) -> Result<(), AllocError>
+    ensures { OnOk result (text.new ≡ text.old ++ numbers_text (map.keys heap.now)) }
 {
     push_places_of(alloc, text, heap.cells())
 }
 
-// Adds a line of numbers.
+// Adds a line of some words and numbers.
 fn push_numbers_line(
     alloc: Global,
     text: &mut Text,
     head: &[u8],
     numbers: &[u32],
 ) -> Result<(), AllocError>
-    ensures { OnOk result (text.new ≡ text.old ++ line (head.now ++ told.numbers_text numbers.now)) }
+    ensures { OnOk result (text.new ≡ text.old ++ line (head.now ++ numbers_text numbers.now)) }
 {
     text.push(head)?;
     push_numbers(alloc, text, numbers)?;
@@ -157,14 +159,14 @@ fn push_numbers_line(
     Ok(())
 }
 
-/// Adds a line with the places of a heap.
+/// Adds a line of some words and the places of a heap.
 pub fn push_heap_line(
     alloc: Global,
     text: &mut Text,
     head: &[u8],
     heap: &Heap,
 ) -> Result<(), AllocError>
-    ensures { OnOk result (text.new ≡ text.old ++ line (head.now ++ told.numbers_text (map.keys heap.now))) }
+    ensures { OnOk result (text.new ≡ text.old ++ line (head.now ++ numbers_text (map.keys heap.now))) }
 {
     text.push(head)?;
     push_places(alloc, text, heap)?;

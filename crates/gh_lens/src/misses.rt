@@ -152,13 +152,13 @@ fn push_compared(
 }
 
 // The line on a conjunct that finds no part.
-fn stop_line(
+fn blocked_line(
     alloc: Global,
     store: &Store,
     conjunct: &Assertion,
     reason: Reason,
 ) -> Result<Text, AllocError>
-    ensures { IfOk result (λ t. t ≡ told.stop_line (store_of store.now) (formula_of conjunct.now) reason) }
+    ensures { IfOk result (λ t. t ≡ told.blocked_line (store_of store.now) (formula_of conjunct.now) reason) }
 {
     let mut text = Text::new(alloc);
     text.push(b"  ")?;
@@ -190,9 +190,9 @@ pub fn miss(
     ensures { IfOk result (told.IsMiss (formula_of assertion.now) (store_of store.now) heap.now) }
 {
     match taken(alloc, store, heap, conjuncts(assertion))? {
-        Taking::Stops { conjunct, rest } => {
+        Taking::Blocked { conjunct, rest } => {
             let reason = reason_for(alloc, store, heap, &rest, conjunct)?;
-            stop_line(alloc, store, conjunct, reason)
+            blocked_line(alloc, store, conjunct, reason)
         }
         Taking::Whole { rest } => left_line(alloc, &rest),
     }

@@ -6,8 +6,9 @@ ghost use Rattle.gh_path.specs.Admitted.{IsAdmitted};
 ghost use Rattle.gh_trace.specs.Settings.{HasLoops, here, whole};
 ghost use Rattle.gh_path.specs.Conditions.{IsOf, StepIsThere};
 ghost use Rattle.gh_path.specs.Kept.{condition_of, step_of, IsScoped};
-ghost use Rattle.gh_trace.specs.Kept.{drawn};
+ghost use Rattle.gh_trace.specs.Kept.{drawn, state_of};
 ghost use Rattle.gh_trace.specs.Replay.{Refutes};
+ghost use Rattle.gh_trace.specs.Traces.{last_state};
 ghost use Rattle.gh_lens.specs.Stories as told;
 
 use crate::exchange::Exchange;
@@ -105,9 +106,9 @@ fn steps_told(
     Ok(text)
 }
 
-// The last of some states.
-fn last<'s>(first: &'s State, others: &'s [State]) -> &'s State
-    ensures { result.now ≡ told.last_of first.now others.now }
+/// A state with the values and the cells of the last of some states.
+pub fn last<'s>(first: &'s State, others: &'s [State]) -> &'s State
+    ensures { state_of result.now ≡ last_state (state_of first.now) (map state_of others.now) }
 {
     let mut last = first;
     for other in others {

@@ -19,7 +19,7 @@ use std::slice::from_ref;
 /// left meets, or all of them. `rest` is what is left.
 #[derive(Drop)]
 pub enum Taking<'t> {
-    Stops { conjunct: &'t Assertion, rest: Heap },
+    Blocked { conjunct: &'t Assertion, rest: Heap },
     Whole { rest: Heap },
 }
 
@@ -60,7 +60,7 @@ pub fn taken<'t>(
     let mut rest = heap.copy(alloc)?;
     for conjunct in conjuncts {
         let Some(places) = footprint(alloc, store, &rest, conjunct)? else {
-            return Ok(Taking::Stops { conjunct, rest });
+            return Ok(Taking::Blocked { conjunct, rest });
         };
         rest = without(alloc, &rest, places.as_slice())?;
     }
@@ -88,9 +88,9 @@ fn other_content(heap: &Heap, rest: &Heap, at: u32) -> Reason
 }
 
 // Where the way between two places comes to a place that has no cell left.
-fn stuck(alloc: Global, rest: &Heap, from: u32, to: u32) -> Result<Option<u32>, AllocError>
-    ensures some { IfOk result (λ o. IfSome o (told.IsStuck from to rest.now)) }
-    ensures none { IfOk result (λ o. IfNone o ((v : ℕ) → told.IsStuck from to rest.now v → ⊥)) }
+fn broken_at(alloc: Global, rest: &Heap, from: u32, to: u32) -> Result<Option<u32>, AllocError>
+    ensures some { IfOk result (λ o. IfSome o (told.IsBrokenAt from to rest.now)) }
+    ensures none { IfOk result (λ o. IfNone o ((v : ℕ) → told.IsBrokenAt from to rest.now v → ⊥)) }
 {
     let mut left = rest.copy(alloc)?;
     let mut at = from;
@@ -113,7 +113,7 @@ fn no_segment(
 ) -> Result<Reason, AllocError>
     ensures { IfOk result (told.IsNoSegment from to heap.now rest.now) }
 {
-    match stuck(alloc, rest, from, to)? {
+    match broken_at(alloc, rest, from, to)? {
         Some(at) => Ok(gone(heap, at)),
         None => Ok(Reason::Untrue),
     }

@@ -6,8 +6,8 @@ use Rattle.std.proofs.lemmas.List.Elements.{All-head, All-tail, All-cons}
 use Rattle.gh_base.specs.declared.atom.Atom.{Atom}
 use Rattle.gh_base.specs.declared.atom.Atom.TheVariants.{Eq, Btwn, Hop, Alloc, Def}
 use Rattle.gh_base.specs.declared.atom.Lit.{Lit}
-use Rattle.gh_inst.specs.Schemas.{term}
 use Rattle.gh_base.specs.Texts.{line_end}
+use Rattle.gh_base.specs.Atoms.{term}
 use Rattle.gh_log.specs.Texts.{atom_text, sign_text, lits_text}
 use Rattle.gh_log.specs.Spelled.{IsSpelledAtom}
 use Rattle.gh_log.specs.Reading.{SpellsNothing, IsNotNext, EndsNumber, SpellsBytes, SpellsAtom, SpellsLit, SpellsLits, SpellsClause, SpellsShown}

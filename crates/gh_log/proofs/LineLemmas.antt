@@ -7,8 +7,8 @@ use Rattle.std.proofs.Math.ListN.{length-set}
 use Rattle.std.proofs.lemmas.List.Elements.{All-head, All-tail, All-cons}
 use Rattle.gh_base.specs.declared.atom.Term.{Term}
 use Rattle.gh_base.specs.declared.atom.Lit.{Lit}
+use Rattle.gh_base.specs.Atoms.{term}
 use Rattle.gh_inst.specs.declared.naming.InstanceName.{InstanceName}
-use Rattle.gh_inst.specs.Schemas.{term}
 use Rattle.gh_inst.specs.Instances.{tuple_of, IsPadded}
 use Rattle.gh_log.specs.Lines.{LogLine}
 use Rattle.gh_log.specs.Lines as line

@@ -8,7 +8,6 @@ use Rattle.gh_base.specs.declared.atom.Term.{Term}
 use Rattle.gh_base.specs.declared.atom.Atom.{Atom}
 use Rattle.gh_base.specs.declared.atom.Lit.{Lit}
 use Rattle.gh_inst.specs.declared.naming.InstanceName.{InstanceName}
-use Rattle.gh_inst.specs.Schemas.{term}
 use Rattle.gh_log.specs.Lines.{LogLine}
 use Rattle.gh_log.specs.Lines as line
 use Rattle.gh_log.specs.declared.reading.Kind.{Kind}
@@ -20,6 +19,7 @@ use Rattle.gh_log.specs.declared.error.LogError.TheVariants.{Line, OutOfMemory a
 use Rattle.gh_log.specs.declared.error.Refusal.{Refusal}
 use Rattle.gh_log.specs.declared.error.Refusal.TheVariants.{Outside, OutOfMemory}
 use Rattle.gh_base.specs.Texts.{line_end}
+use Rattle.gh_base.specs.Atoms.{term}
 use Rattle.gh_log.specs.Texts.{atom_text, sign_text, lits_text, term_text, numbers_text, line_text, header_text}
 use Rattle.gh_log.specs.Texts.{section_text}
 use Rattle.gh_log.specs.Spelled.{IsSpelledAtom, AreSpelled, IsVersion, IsOfVersion, AreNumbers, HasSpelledParts}

@@ -6,22 +6,23 @@ use Rattle.gh_ast.specs.declared.Expr.{Expr}
 use Rattle.gh_ast.specs.Plain.{set, new, write, free, call, choice, loop, give, Statements, no_statements, statement_first, Procedure, Program}
 use Rattle.gh_assert.specs.Heaps.{Heap, Splits}
 use Rattle.gh_assert.specs.Meaning.{Store}
-use Rattle.gh_assert.specs.Values.{result, Give, outcome}
-use Rattle.gh_machine.specs.Machine.{Activation, Config, Answers, Pops, StepOn, SomeUnread, FaultOn}
+use Rattle.gh_assert.specs.Values.{result, Give, outcome, HasUnread}
+use Rattle.gh_machine.specs.Machine.{Activation, Config, Answers, Pops, StepOn, FaultOn}
 use Rattle.gh_machine.specs.Framed.{holding}
 use Rattle.gh_machine.specs.Laws.{StepsKeepFrames}
-use Rattle.gh_ast.proofs.Lists.{member_first, member_later, same_values, cons_both, one_value}
+use Rattle.gh_ast.proofs.Lists.{same_values, cons_both, one_value}
 use Rattle.gh_assert.proofs.Frames.{in_neither, not_in_frame, put_beside, remove_beside, reads_whole, gives_whole, outcome_whole}
+use Rattle.gh_assert.proofs.Given.{unread_first, unread_later}
 
 pub there_is : {A : Type 0} (o : Option A) → (o ≡ None → ⊥) → (v : A) × (o ≡ Some v)
 there_is None f = absurd (f refl)
 there_is (Some v) f = (v, refl)
 
-pub all_there : (s : Store) (a : Heap) (es : List Expr) → (SomeUnread s a es → ⊥) → (vs : List ℕ) × Give s a es vs
+pub all_there : (s : Store) (a : Heap) (es : List Expr) → (HasUnread s a es → ⊥) → (vs : List ℕ) × Give s a es vs
 all_there s a [] f = ([], refl)
 all_there s a (e ∷ es) f =
-    let first = there_is (result s a e) (λ none. f (e, member_first e es, none)) in
-    let others = all_there s a es (λ (d, i, none). f (d, member_later e d es i, none)) in
+    let first = there_is (result s a e) (λ none. f (unread_first s a e es none)) in
+    let others = all_there s a es (λ unread. f (unread_later s a e es unread)) in
     (first.0 ∷ others.0, cons_both (result s a e) first.0 (map (result s a) es) others.0 first.1 others.1)
 
 answers_framed : (rest : Statements) (b : Activation) (bs : List Activation) (p : Procedure) (t : Store) (h a F : Heap) (d : Config) → Splits h a F → Answers rest b bs p t h d → Splits d.heap a F × Answers rest b bs p t a (holding d a)

@@ -31,7 +31,7 @@ use Rattle.gh_machine.specs.declared.step.Choice.{Choice}
 use Rattle.gh_machine.specs.declared.step.Next.TheVariants.{Moved, NotAChoice}
 use Rattle.gh_machine.proofs.Stepping.{moves, joined_view}
 use Rattle.gh_machine.proofs.Begun.{set_gets, names_beside, arguments_given, starts_chosen}
-use Rattle.gh_machine.proofs.Faults.{all_read}
+use Rattle.gh_assert.proofs.Given.{not_given}
 use Rattle.gh_machine.proofs.Progress.{same_length}
 use Rattle.gh_machine.proofs.TypedFits.{typed_fit}
 use Rattle.gh_machine.proofs.Made.{pairs_apart, body_known}
@@ -104,7 +104,7 @@ turn_moves c t body xs r (at, inv, comes) gives block left P ch =
 pub call_misfits : (P : Program) (ch : Choice) (c : Config) (f : Occ) (es : List Expr) (vs : List ℕ) (q : Procedure) → CallComes f es c → Give (store_of c.top.store) c.heap es vs → Declares P f.name q → length ch.starts.items ≢ length (starts_of q)
     → IsNext P ch NotAChoice (config_of c) (config_of c)
 call_misfits P ch c f es vs q (xs, comes) gives decl other = (
-  λ fault. all_read (store_of c.top.store) c.heap es vs gives (subst (λ ss. FaultOn ss (store_of c.top.store) c.heap) comes fault),
+  λ fault. not_given (store_of c.top.store) c.heap es vs (subst (λ ss. FaultOn ss (store_of c.top.store) c.heap) comes fault) gives,
   subst (λ ss. Misfits P ch ss c.heap) (sym comes) (q, decl, other),
   refl,
 )

@@ -3,11 +3,10 @@ use Rattle.std.specs.Prelude.{◌≡◌, ◌≢◌, ◌⊎◌, ℕ, List, [], �
 use Rattle.std.specs.FinMap.{get, insert, remove}
 use Rattle.gh_ast.specs.Plain.{set, new, write, free, call, choice, loop, give, Statements, no_statements}
 use Rattle.gh_ast.specs.Plain.{statement_first, Procedure, Program}
-use Rattle.gh_ast.specs.declared.Expr.{Expr}
 use Rattle.gh_assert.specs.Heaps.{Heap, Splits}
 use Rattle.gh_assert.specs.Meaning.{Store, Meaning, MeetsOneOf}
 use Rattle.gh_assert.specs.Walks.{Allocated}
-use Rattle.gh_assert.specs.Values.{result, Give, outcome, Gets}
+use Rattle.gh_assert.specs.Values.{result, Give, outcome, Gets, HasUnread}
 use Rattle.gh_ast.specs.Programs.{names, parameters_of, results_of, body_of, Declares, joined}
 
 -- a procedure at work: its variables, and what it has still to do
@@ -68,19 +67,16 @@ StepOn P (statement_first (give at es) rest) c d =
 abbrev pub Step : Program → Config → Config → Type 0
 Step P c d = StepOn P c.top.rest c d
 
-abbrev pub SomeUnread : Store → Heap → List Expr → Type 0
-SomeUnread s h es = (e : Expr) × Contains es e × (result s h e ≡ None)
-
 abbrev pub FaultOn : Statements → Store → Heap → Type 0
 FaultOn no_statements s h = ⊥
 FaultOn (statement_first (set x e) rest) s h = result s h e ≡ None
 FaultOn (statement_first (new x) rest) s h = ⊥
 FaultOn (statement_first (write x e) rest) s h = (result s h e ≡ None) ⊎ (get h (s x.name) ≡ None)
 FaultOn (statement_first (free x) rest) s h = get h (s x.name) ≡ None
-FaultOn (statement_first (call xs f es) rest) s h = SomeUnread s h es
+FaultOn (statement_first (call xs f es) rest) s h = HasUnread s h es
 FaultOn (statement_first (choice test a ca b cb) rest) s h = outcome s h test ≡ None
 FaultOn (statement_first (loop at test inv body close) rest) s h = outcome s h test ≡ None
-FaultOn (statement_first (give at es) rest) s h = SomeUnread s h es
+FaultOn (statement_first (give at es) rest) s h = HasUnread s h es
 
 -- what the first statement reads, writes or frees isn't allocated
 abbrev pub Fault : Config → Type 0

@@ -7,7 +7,8 @@ use Rattle.gh_path.specs.Conditions.{Condition, IsCondition, IsOf}
 use Rattle.gh_symb.specs.Symbolic.{symbolic_of}
 use Rattle.gh_symb.specs.Formulas.{claims, problem}
 use Rattle.gh_inst.specs.Violations.{AreInstancesTrue}
-use Rattle.gh_grass.specs.Truth.{AreTrue, AreClausesTrue}
+use Rattle.gh_inst.specs.Models.{IsModel}
+use Rattle.gh_grass.specs.Truth.{AreTrue}
 use Rattle.gh_trace.specs.Traces.{State}
 use Rattle.gh_model.specs.TraceLaws.{IsCounterexample}
 
@@ -24,11 +25,9 @@ TracesSatisfy =
     (P : Program) (p : Procedure) (c : Condition) (x : State) (ys : List State) → IsTyped P → IsCondition P c → IsOf P c p → IsCounterexample P p c x ys →
     (m : Interpretation) × Satisfies P p c m
 
--- a model of the condition: equality is a congruence, and all instances of the axioms and all its clauses are true
-pub record IsModelOf (P : Program) (p : Procedure) (c : Condition) (m : Interpretation) : Type 0 where
-  pub congruence : IsCongruence (problem (symbolic_of P p c)).sizes m
-  pub instances : AreInstancesTrue (problem (symbolic_of P p c)).sizes m
-  pub clauses : AreClausesTrue m (problem (symbolic_of P p c)).clauses
+-- a model of the clauses of the condition and of the axioms
+abbrev pub IsModelOf : Program → Procedure → Condition → Interpretation → Type 0
+IsModelOf P p c m = IsModel (problem (symbolic_of P p c)) m
 
 abbrev pub TracesGiveModels : Type 0
 TracesGiveModels =

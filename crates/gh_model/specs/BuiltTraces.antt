@@ -17,7 +17,7 @@ use Rattle.gh_trace.specs.Validity.{AreCounterexample}
 use Rattle.gh_model.specs.BuiltHeaps.{first}
 use Rattle.gh_model.specs.Classes.{numbers, class_of, classes}
 use Rattle.gh_model.specs.Versions.{equal_in, version_of}
-use Rattle.gh_model.specs.TermValues.{version_after}
+use Rattle.gh_model.specs.TermValues.{path_version}
 use Rattle.gh_model.specs.Depictions.{IsHeapDepicted}
 
 -- the value of a variable: that of its term, or 0 where it has none
@@ -53,7 +53,7 @@ state_under m n i b = record { store = store_under (class_of (equal_in m) n) b; 
 -- the version of the heap in each state, from version i on
 abbrev pub versions_along : ℕ → List PathStep → List ℕ
 versions_along i [] = i ∷ []
-versions_along i (p ∷ ps) = i ∷ versions_along (version_after p i) ps
+versions_along i (p ∷ ps) = i ∷ versions_along (path_version p i) ps
 
 -- a state for each version and the terms of the variables there
 abbrev pub states_under : Interpretation → ℕ → List ℕ → List Bindings → List State

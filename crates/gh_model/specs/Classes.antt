@@ -1,6 +1,6 @@
 -- Terms are numbers below n. A class is named by its least term.
 use Rattle.std.specs.Prelude.{◌≡◌, ◌↔◌, ℕ, zero, suc, ◌<◌, List, [], ◌∷◌, map, Bool, IsTrue, Contains}
-use Rattle.gh_model.specs.Structures.{Structure, IsModel}
+use Rattle.gh_model.specs.Structures.{HeapStructure, IsModelOver}
 use Rattle.gh_model.specs.BuiltHeaps.{first}
 
 -- the n numbers from k on, in order
@@ -17,7 +17,7 @@ abbrev pub classes : (ℕ → ℕ → Bool) → ℕ → List ℕ
 classes equal n = map (class_of equal n) (numbers 0 n)
 
 -- equality is an equivalence, and what a structure says is the same of equal terms
-pub record IsCongruence (equal : ℕ → ℕ → Bool) (n : ℕ) (m : Structure) : Type 0 where
+pub record IsCongruence (equal : ℕ → ℕ → Bool) (n : ℕ) (m : HeapStructure) : Type 0 where
   pub itself : (x : ℕ) → x < n → IsTrue (equal x x)
   pub back : (x y : ℕ) → x < n → y < n → IsTrue (equal x y) → IsTrue (equal y x)
   pub on : (x y z : ℕ) → x < n → y < n → z < n → IsTrue (equal x y) → IsTrue (equal y z) → IsTrue (equal x z)
@@ -26,8 +26,8 @@ pub record IsCongruence (equal : ℕ → ℕ → Bool) (n : ℕ) (m : Structure)
   pub between : (x x' y y' z z' : ℕ) → x < n → x' < n → y < n → y' < n → z < n → z' < n → IsTrue (equal x x') → IsTrue (equal y y') → IsTrue (equal z z') → IsTrue (m.between x y z) → IsTrue (m.between x' y' z')
 
 -- the classes of n terms are a model, and the structure says of terms what it says of their classes
-pub record HasClasses (equal : ℕ → ℕ → Bool) (n : ℕ) (m : Structure) : Type 0 where
-  pub model : IsModel (classes equal n) m
+pub record HasClasses (equal : ℕ → ℕ → Bool) (n : ℕ) (m : HeapStructure) : Type 0 where
+  pub model : IsModelOver (classes equal n) m
   pub named : (t : ℕ) → t < n → Contains (classes equal n) (class_of equal n t)
   pub own : (c : ℕ) → Contains (classes equal n) c → (c < n) × (class_of equal n c ≡ c)
   pub null : class_of equal n 0 ≡ 0

@@ -2,6 +2,7 @@
 use Rattle.std.specs.Prelude.{◌≡◌, ◌↔◌, ℕ, List, [], ◌∷◌, slice_get, Some, Decides}
 use Rattle.gh_base.specs.declared.atom.Atom.TheVariants.{Btwn, Hop as HopAtom, Alloc}
 use Rattle.gh_base.specs.Meaning.{Interpretation, atom_truth}
+use Rattle.gh_base.specs.Atoms.{term}
 use Rattle.gh_ast.specs.Plain.{Procedure, Program}
 use Rattle.gh_ast.specs.Rules.{IsTyped}
 use Rattle.gh_assert.specs.Heaps.{Heap}
@@ -9,9 +10,8 @@ use Rattle.gh_assert.specs.Walks.{Allocated, Between}
 use Rattle.gh_assert.specs.Hops.{Hop}
 use Rattle.gh_path.specs.Graphs as path
 use Rattle.gh_path.specs.Conditions.{Condition, IsCondition, IsOf}
-use Rattle.gh_grass.specs.Bindings.{term}
 use Rattle.gh_trace.specs.Traces.{State}
-use Rattle.gh_model.specs.TermValues.{version_after, AreTermValues}
+use Rattle.gh_model.specs.TermValues.{path_version, AreTermValues}
 use Rattle.gh_model.specs.TraceLaws.{IsCounterexample}
 use Rattle.gh_model.specs.Abstraction.{IsModelOf}
 
@@ -25,10 +25,10 @@ pub record IsHeapDepicted (V : List ℕ) (m : Interpretation) (i : ℕ) (h : Hea
 abbrev pub AreHeapsDepicted : List ℕ → Interpretation → List path.PathStep → ℕ → State → List State → Type 0
 AreHeapsDepicted V m [] i x ys = IsHeapDepicted V m i x.heap
 AreHeapsDepicted V m (p ∷ ps) i x [] = ⊥
-AreHeapsDepicted V m (p ∷ ps) i x (y ∷ ys) = IsHeapDepicted V m i x.heap × AreHeapsDepicted V m ps (version_after p i) y ys
+AreHeapsDepicted V m (p ∷ ps) i x (y ∷ ys) = IsHeapDepicted V m i x.heap × AreHeapsDepicted V m ps (path_version p i) y ys
 
 -- terms of one class are those of one value, and each version depicts the heap of its states
-pub record IsDepicted (c : Condition) (x : State) (ys : List State) (V : List ℕ) (m : Interpretation) : Type 0 where
+pub record IsTraceDepicted (c : Condition) (x : State) (ys : List State) (V : List ℕ) (m : Interpretation) : Type 0 where
   pub classes : (t u v w : ℕ) → slice_get V t ≡ Some v → slice_get V u ≡ Some w → (m.class t ≡ m.class u) ↔ (v ≡ w)
   pub along : AreHeapsDepicted V m c.way.steps 0 x ys
 
@@ -36,4 +36,4 @@ pub record IsDepicted (c : Condition) (x : State) (ys : List State) (V : List �
 abbrev pub TracesAreDepicted : Type 0
 TracesAreDepicted =
     (P : Program) (p : Procedure) (c : Condition) (x : State) (ys : List State) (V : List ℕ) → IsTyped P → IsCondition P c → IsOf P c p → IsCounterexample P p c x ys → AreTermValues P p c x ys V →
-    (m : Interpretation) × IsModelOf P p c m × IsDepicted c x ys V m
+    (m : Interpretation) × IsModelOf P p c m × IsTraceDepicted c x ys V m

@@ -1,5 +1,5 @@
 -- Traces of structures, as they are kept.
-use Rattle.std.specs.Prelude.{◌≡◌, ℕ, ◌+◌, ◌<◌, List, [], ◌∷◌, map, Some}
+use Rattle.std.specs.Prelude.{◌≡◌, ℕ, ◌<◌, List, [], ◌∷◌, map, Some}
 use Rattle.gh_base.specs.declared.atom.Term.{Term}
 use Rattle.gh_base.specs.Meaning.{Interpretation}
 use Rattle.gh_base.specs.Structures.{Tables, interpretation_of}
@@ -9,14 +9,14 @@ use Rattle.gh_ast.specs.Rules.{IsTyped}
 use Rattle.gh_assert.specs.declared.store.Entry.{Entry}
 use Rattle.gh_assert.specs.Meaning.{Store}
 use Rattle.gh_path.specs.Conditions.{Condition, IsCondition, IsOf}
-use Rattle.gh_path.specs.Kept.{condition_of}
+use Rattle.gh_path.specs.Kept.{HoldsFor}
 use Rattle.gh_path.specs.declared.condition.Condition as kept_condition
 use Rattle.gh_grass.specs.declared.binding.Bond.{Bond}
 use Rattle.gh_grass.specs.Bindings.{term_in}
-use Rattle.gh_symb.specs.Inside.{binding_of}
+use Rattle.gh_symb.specs.Formulas.{version_after}
+use Rattle.gh_symb.specs.Inside.{binding_of, step_of}
 use Rattle.gh_symb.specs.declared.over_terms.Symbolic.{Symbolic}
 use Rattle.gh_symb.specs.declared.over_terms.TermStep.{TermStep}
-use Rattle.gh_symb.specs.declared.over_terms.TermStep.TheVariants.{Access, Assume, Same, Write, New, Free, Part}
 use Rattle.gh_trace.specs.declared.state.State.{State}
 use Rattle.gh_trace.specs.declared.state.Trace.{Trace}
 use Rattle.gh_trace.specs.Kept.{drawn_of}
@@ -46,20 +46,10 @@ values_of s b xs = entries_under (store_in s b) xs
 abbrev pub state_at : Tables → Procedure → ℕ → List Bond → State
 state_at s p i b = state_in s (variable_names p) i b
 
--- the version after a step of a kept condition
-abbrev pub version_after_kept : TermStep → ℕ → ℕ
-version_after_kept (Access x) i = i
-version_after_kept (Assume l e r) i = i
-version_after_kept Same i = i
-version_after_kept (Write x v) i = i + 1
-version_after_kept (New l c) i = i + 1
-version_after_kept (Free x) i = i + 1
-version_after_kept (Part b a) i = i + 1
-
 -- the version after the first of some steps, and the others
 abbrev pub after_first : List TermStep → ℕ → ℕ
 after_first [] i = i
-after_first (p ∷ ps) i = version_after_kept p i
+after_first (p ∷ ps) i = version_after i (step_of p)
 
 abbrev pub past_first : List TermStep → List TermStep
 past_first [] = []
@@ -89,11 +79,11 @@ drawn_over xs ys = map (λ y. record { listed = xs; state = y }) ys
 
 -- the states that an interpretation builds for a kept condition, over the variables of its procedure
 abbrev pub AreBuilt : Program → kept_condition.Condition → Interpretation → List Drawn → Type 0
-AreBuilt P r m xs = (p : Procedure) → IsOf P (condition_of r) p → xs ≡ drawn_over (variable_names p) (built_trace P p (condition_of r) m)
+AreBuilt P r m xs = HoldsFor P r (λ P p c. xs ≡ drawn_over (variable_names p) (built_trace P p c m))
 
 -- the trace of a structure for a kept condition
-abbrev pub IsBuilt : Program → kept_condition.Condition → Tables → Trace → Type 0
-IsBuilt P r s t = AreBuilt P r (interpretation_of s) (drawn_of t)
+abbrev pub IsTraceOf : Program → kept_condition.Condition → Tables → Trace → Type 0
+IsTraceOf P r s t = AreBuilt P r (interpretation_of s) (drawn_of t)
 
 -- the trace of a model of a condition, drawn over the variables of its procedure, is a counterexample
 abbrev pub BuiltIsCounterexample : Type 0

@@ -3,6 +3,7 @@ use Rattle.std.specs.Prelude.{◌≡◌, ◌↔◌, ℕ, List, length, slice_get
 use Rattle.std.specs.FinMap.{get}
 use Rattle.gh_base.specs.declared.atom.Term.{Term}
 use Rattle.gh_base.specs.Meaning.{Interpretation}
+use Rattle.gh_base.specs.Atoms.{term}
 use Rattle.gh_ast.specs.Plain.{Formula}
 use Rattle.gh_ast.specs.Programs.{Name}
 use Rattle.gh_ast.specs.Names.{FormulaIn}
@@ -11,7 +12,6 @@ use Rattle.gh_assert.specs.Meaning.{Store, Meaning}
 use Rattle.gh_assert.specs.Walks.{succ, Allocated}
 use Rattle.gh_assert.specs.Ownership.{Owned}
 use Rattle.gh_assert.specs.Reading.{HasNames}
-use Rattle.gh_grass.specs.Bindings.{term}
 use Rattle.gh_grass.specs.Footprints.{Variables, footprint, structure}
 use Rattle.gh_grass.specs.Truth.{truth}
 use Rattle.gh_model.specs.Depictions.{IsHeapDepicted}

@@ -7,12 +7,12 @@ use Rattle.gh_assert.specs.Meaning.{Store}
 use Rattle.gh_assert.specs.Walks.{Allocated}
 use Rattle.gh_assert.specs.Ownership.{Owned}
 use Rattle.gh_assert.specs.Reading.{HasNames}
-use Rattle.gh_model.specs.Structures.{Structure}
+use Rattle.gh_model.specs.Structures.{HeapStructure}
 use Rattle.gh_model.specs.Representations.{Represents}
 use Rattle.gh_model.specs.Transitions.{StepsByWrite, StepsByNew, StepsByFree, StepsByCall, IsPut, IsFreed, IsCalled}
 
 -- two owned heaps, and a structure that represents each
-pub record AreRepresented (V : List ℕ) (h k : Heap) (m n : Structure) : Type 0 where
+pub record AreRepresented (V : List ℕ) (h k : Heap) (m n : HeapStructure) : Type 0 where
   pub proper : IsProper h
   pub proper_after : IsProper k
   pub owned : Owned V h
@@ -21,14 +21,14 @@ pub record AreRepresented (V : List ℕ) (h k : Heap) (m n : Structure) : Type 0
   pub represents_after : Represents V k n
 
 abbrev pub WritesAreRepresented : Type 0
-WritesAreRepresented = (V : List ℕ) (h k : Heap) (m n : Structure) → AreRepresented V h k m n → (x v : ℕ) → Contains V x → Contains V v → Allocated h x → IsPut h k x v → StepsByWrite V m n x v
+WritesAreRepresented = (V : List ℕ) (h k : Heap) (m n : HeapStructure) → AreRepresented V h k m n → (x v : ℕ) → Contains V x → Contains V v → Allocated h x → IsPut h k x v → StepsByWrite V m n x v
 
 abbrev pub NewsAreRepresented : Type 0
-NewsAreRepresented = (V : List ℕ) (h k : Heap) (m n : Structure) → AreRepresented V h k m n → (x v : ℕ) → Contains V x → Contains V v → get h x ≡ None → IsPut h k x v → StepsByNew V m n x v
+NewsAreRepresented = (V : List ℕ) (h k : Heap) (m n : HeapStructure) → AreRepresented V h k m n → (x v : ℕ) → Contains V x → Contains V v → get h x ≡ None → IsPut h k x v → StepsByNew V m n x v
 
 abbrev pub FreesAreRepresented : Type 0
-FreesAreRepresented = (V : List ℕ) (h k : Heap) (m n : Structure) → AreRepresented V h k m n → (x : ℕ) → Contains V x → IsFreed h k x → StepsByFree V m n x
+FreesAreRepresented = (V : List ℕ) (h k : Heap) (m n : HeapStructure) → AreRepresented V h k m n → (x : ℕ) → Contains V x → IsFreed h k x → StepsByFree V m n x
 
 abbrev pub CallsAreRepresented : Type 0
 CallsAreRepresented =
-    (V : List ℕ) (h k : Heap) (m n : Structure) (p q : Formula) (s t : Store) → AreRepresented V h k m n → HasNames p s h V → HasNames q t k V → IsCalled h k p q s t → StepsByCall V m n p q s t
+    (V : List ℕ) (h k : Heap) (m n : HeapStructure) (p q : Formula) (s t : Store) → AreRepresented V h k m n → HasNames p s h V → HasNames q t k V → IsCalled h k p q s t → StepsByCall V m n p q s t

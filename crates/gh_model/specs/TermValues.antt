@@ -13,16 +13,16 @@ use Rattle.gh_symb.specs.Symbolic.{Under, TermStep, accessed, assumed, same, wri
 use Rattle.gh_trace.specs.Traces.{State}
 
 -- writes, new and freed cells, calls and loops begin the next version of the heap
-abbrev pub version_after : path.PathStep → ℕ → ℕ
-version_after (path.accessed o) i = i
-version_after (path.assume l e r) i = i
-version_after (path.assigned x e) i = i
-version_after (path.made x) i = i + 1
-version_after (path.written x e) i = i + 1
-version_after (path.freed x) i = i + 1
-version_after (path.called ys n es) i = i + 1
-version_after (path.looped n) i = i + 1
-version_after (path.answered es) i = i
+abbrev pub path_version : path.PathStep → ℕ → ℕ
+path_version (path.accessed o) i = i
+path_version (path.assume l e r) i = i
+path_version (path.assigned x e) i = i
+path_version (path.made x) i = i + 1
+path_version (path.written x e) i = i + 1
+path_version (path.freed x) i = i + 1
+path_version (path.called ys n es) i = i + 1
+path_version (path.looped n) i = i + 1
+path_version (path.answered es) i = i
 
 -- in a state with heap version i: what follows a term has the value that follows that of the term, and the term of a
 -- variable has the value that the store gives the variable
@@ -55,7 +55,7 @@ HaveValues P K V (p ∷ ps) [] bs i x ys = ⊥
 HaveValues P K V (p ∷ ps) (q ∷ qs) [] i x ys = ⊥
 HaveValues P K V (p ∷ ps) (q ∷ qs) (b ∷ bs) i x [] = ⊥
 HaveValues P K V (p ∷ ps) (q ∷ qs) (b ∷ bs) i x (y ∷ ys) =
-    HasStateValues K V i b x × HasCellValues V q y × HasResultValues P V p q y × HaveValues P K V ps qs bs (version_after p i) y ys
+    HasStateValues K V i b x × HasCellValues V q y × HasResultValues P V p q y × HaveValues P K V ps qs bs (path_version p i) y ys
 
 -- a value for each term. In a program that keeps the type rules there is one such list: a successor's value comes from
 -- that of an earlier term in a state of its version, each version having one heap; a value was made for a variable that

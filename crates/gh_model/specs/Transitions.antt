@@ -4,37 +4,37 @@ use Rattle.std.specs.FinMap.{get}
 use Rattle.gh_ast.specs.Plain.{Formula}
 use Rattle.gh_assert.specs.Heaps.{Heap, Splits}
 use Rattle.gh_assert.specs.Meaning.{Store, Meaning}
-use Rattle.gh_model.specs.Structures.{Structure}
+use Rattle.gh_model.specs.Structures.{HeapStructure}
 use Rattle.gh_model.specs.Representations.{IsInside, Fits}
 
 -- away from x the hops stay
-abbrev pub KeepsHops : List ℕ → Structure → Structure → ℕ → Type 0
+abbrev pub KeepsHops : List ℕ → HeapStructure → HeapStructure → ℕ → Type 0
 KeepsHops V m n x = (z v : ℕ) → Contains V z → Contains V v → z ≢ x → IsTrue (n.hop z v) ↔ IsTrue (m.hop z v)
 
 -- a write, from m to n: x hops to v, and the other hops and the cells stay
-pub record StepsByWrite (V : List ℕ) (m n : Structure) (x v : ℕ) : Type 0 where
+pub record StepsByWrite (V : List ℕ) (m n : HeapStructure) (x v : ℕ) : Type 0 where
   pub alloc : (z : ℕ) → Contains V z → IsTrue (n.alloc z) ↔ IsTrue (m.alloc z)
   pub here : IsTrue (n.hop x v)
   pub kept : KeepsHops V m n x
 
 -- a new cell, from m to n: x becomes a cell and hops to v, and the other hops and cells stay
-pub record StepsByNew (V : List ℕ) (m n : Structure) (x v : ℕ) : Type 0 where
+pub record StepsByNew (V : List ℕ) (m n : HeapStructure) (x v : ℕ) : Type 0 where
   pub fresh : IsTrue (m.alloc x) → ⊥
   pub alloc : (z : ℕ) → Contains V z → IsTrue (n.alloc z) ↔ (IsTrue (m.alloc z) ⊎ (z ≡ x))
   pub here : IsTrue (n.hop x v)
   pub kept : KeepsHops V m n x
 
 -- a freed cell, from m to n: x is no cell in n, and the other hops and cells stay
-pub record StepsByFree (V : List ℕ) (m n : Structure) (x : ℕ) : Type 0 where
+pub record StepsByFree (V : List ℕ) (m n : HeapStructure) (x : ℕ) : Type 0 where
   pub alloc : (z : ℕ) → Contains V z → IsTrue (n.alloc z) ↔ (IsTrue (m.alloc z) × (z ≢ x))
   pub kept : KeepsHops V m n x
 
 -- z is a cell that a call or a loop keeps: it is outside the footprint of p
-abbrev pub IsSetAside : Formula → Store → Structure → ℕ → Type 0
+abbrev pub IsSetAside : Formula → Store → HeapStructure → ℕ → Type 0
 IsSetAside p s m z = IsTrue (m.alloc z) × (IsInside p s m z → ⊥)
 
 -- from m to n a part that meets p under the store s gives way to one that meets q under the store t
-pub record StepsByCall (V : List ℕ) (m n : Structure) (p q : Formula) (s t : Store) : Type 0 where
+pub record StepsByCall (V : List ℕ) (m n : HeapStructure) (p q : Formula) (s t : Store) : Type 0 where
   pub before : Fits p s m V
   pub after : Fits q t n V
   pub apart : (z : ℕ) → Contains V z → IsSetAside p s m z → IsInside q t n z → ⊥

@@ -5,12 +5,14 @@ ghost use Rattle.gh_base.specs.Structures.{interpretation_of};
 ghost use Rattle.gh_ast.specs.Plain.{procedure_of, program_of};
 ghost use Rattle.gh_path.specs.Kept.{IsOne, HoldsFor};
 ghost use Rattle.gh_symb.specs.Encoded.{IsSymbolic};
+ghost use Rattle.gh_symb.specs.Formulas.{version_after};
+ghost use Rattle.gh_symb.specs.Inside.{step_of};
 ghost use Rattle.gh_ast.specs.Programs.{names, variable_names};
 ghost use Rattle.gh_ast.specs.Occurrences.{locals_of};
 ghost use Rattle.gh_assert.specs.Stores.{listed_names};
 ghost use Rattle.gh_model.specs.BuiltTraces.{stands_at, content_at, heap_in};
-ghost use Rattle.gh_model.specs.KeptTraces.{store_in, values_of, state_at, states_of, version_after_kept, after_first};
-ghost use Rattle.gh_model.specs.KeptTraces.{AreBelow, HasAll, IsBuilt};
+ghost use Rattle.gh_model.specs.KeptTraces.{store_in, values_of, state_at, states_of, after_first};
+ghost use Rattle.gh_model.specs.KeptTraces.{AreBelow, HasAll, IsTraceOf};
 
 use gh_assert::heap::Heap;
 use gh_assert::store::Store;
@@ -185,7 +187,7 @@ fn state(
 // The version after a step.
 fn after(step: &TermStep<'_>, version: u8) -> u8
     requires { version < 255 }
-    ensures { result ≡ version_after_kept step.now version }
+    ensures { result ≡ version_after version (step_of step.now) }
 {
     match step {
         TermStep::Access { .. } | TermStep::Assume { .. } | TermStep::Same => version,
@@ -240,7 +242,7 @@ pub fn build(
     requires told { HoldsFor (program_of typed.now) condition.now (λ P p c. IsSymbolic P p c symbolic.now) }
     requires terms { structure.now.sizes.terms ≡ length symbolic.now.terms }
     requires versions { structure.now.sizes.versions ≡ symbolic.now.versions }
-    ensures { IfOk result (IsBuilt (program_of typed.now) condition.now structure.now) }
+    ensures { IfOk result (IsTraceOf (program_of typed.now) condition.now structure.now) }
 {
     let program = typed.program();
     let procedure = &program.procedures[condition.procedure as usize];

@@ -12,7 +12,7 @@ use Rattle.gh_parse.specs.declared.error.ReadError.{ReadError}
 use Rattle.gh_parse.specs.declared.error.ReadError.TheVariants.{Unexpected, OutOfMemory}
 use Rattle.gh_parse.specs.Answers.{IsRuleRead, next_place}
 use Rattle.gh_parse.specs.Lexing.{IsLexed}
-use Rattle.gh_parse.specs.Procedures.{IsWhole}
+use Rattle.gh_parse.specs.Procedures.{SpellsToEnd}
 use Rattle.gh_parse.specs.Parsing.{IsParsedAs, IsMisspelled, IsRefusalOf, IsScanned, IsScanRefusal, answered}
 use Rattle.gh_parse.proofs.Lexing.{lexed_refusal, lexed_whole}
 
@@ -21,12 +21,12 @@ abbrev Spelled : {X : Type 0} → (List Token → X → Type 0) → List Token �
 Spelled {X} S ts = (x : X) × S ts x
 
 abbrev IsStopped : {X : Type 0} → (List Token → X → Type 0) → List Token → List Token → Type 0
-IsStopped S ts left = Stops IsEnd (Any (IsWhole S)) ts left
+IsStopped S ts left = Stops IsEnd (Any (SpellsToEnd S)) ts left
 
-is_spelled : {X : Type 0} {S : List Token → X → Type 0} {ts rest : List Token} → Any (IsWhole S) ts rest → Spelled S ts
+is_spelled : {X : Type 0} {S : List Token → X → Type 0} {ts rest : List Token} → Any (SpellsToEnd S) ts rest → Spelled S ts
 is_spelled (any {x = p} w) = (p, w.spelled)
 
-is_whole : {X : Type 0} {S : List Token → X → Type 0} {ts : List Token} (x : X) → S ts x → Any (IsWhole S) ts []
+is_whole : {X : Type 0} {S : List Token → X → Type 0} {ts : List Token} (x : X) → S ts x → Any (SpellsToEnd S) ts []
 is_whole x s = any {x = x} (record { spelled = s; end = refl })
 
 before_is_prefix : {X : Type 0} {S : List Token → X → Type 0} {ts left : List Token} (s : IsStopped S ts left) → IsPrefix (Spelled S) s.before
@@ -87,7 +87,7 @@ cut_short {S = S} {text = text} {ts = ts} {end = end} x a w =
 
 -- the answer for a text, by what was read of its tokens
 pub answer_spelled : {X Y : Type 0} (S : List Token → X → Type 0) {text : List ℕ} {ts : List Token} (left : List Token) {end : Span} (whole : Bool) (view : Y → X) (read : Result Y ReadError)
-    → IsScanned text ts end whole → IsRuleRead IsEnd (IsWhole S) ts view read left → IfOk (answered whole end left read) (λ y. IsParsedAs S text (view y))
+    → IsScanned text ts end whole → IsRuleRead IsEnd (SpellsToEnd S) ts view read left → IfOk (answered whole end left read) (λ y. IsParsedAs S text (view y))
 answer_spelled S {text = text} {ts = ts} left {end = end} true view (Ok y) a r =
     record { characters = a.characters; shallow = a.shallow; spelled = (ts, lexed_whole text ts end true a.lexed refl, r.spelled) }
 answer_spelled S left false view (Ok y) a r = tt
@@ -97,7 +97,7 @@ answer_spelled S left true view (Err OutOfMemory) a r = tt
 answer_spelled S left false view (Err OutOfMemory) a r = tt
 
 pub answer_refused : {X Y : Type 0} (S : List Token → X → Type 0) {text : List ℕ} {ts : List Token} (left : List Token) {end : Span} (whole : Bool) (view : Y → X) (read : Result Y ReadError)
-    → IsScanned text ts end whole → IsRuleRead IsEnd (IsWhole S) ts view read left → IfErr (answered whole end left read) (IsRefusalOf S text)
+    → IsScanned text ts end whole → IsRuleRead IsEnd (SpellsToEnd S) ts view read left → IfErr (answered whole end left read) (IsRefusalOf S text)
 answer_refused S left true view (Ok y) a r = tt
 answer_refused S left false view (Ok y) a r = cut_short (view y) a r.spelled
 answer_refused S left true view (Err Unexpected) a r = refused_at left a r
@@ -112,7 +112,7 @@ scan_refused S text (parse.Syntax p) h = absurd h
 scan_refused S text parse.OutOfMemory h = tt
 
 pub answer_keeps : {X Y : Type 0} (S : List Token → X → Type 0) (ts left : List Token) (end : Span) (whole : Bool) (view : Y → X) (read : Result Y ReadError) (Q : Y → Type 0)
-    → ((y : Y) → S ts (view y) → Q y) → IsRuleRead IsEnd (IsWhole S) ts view read left → IfOk (answered whole end left read) Q
+    → ((y : Y) → S ts (view y) → Q y) → IsRuleRead IsEnd (SpellsToEnd S) ts view read left → IfOk (answered whole end left read) Q
 answer_keeps S ts left end true view (Ok y) Q keeps r = keeps y r.spelled
 answer_keeps S ts left end false view (Ok y) Q keeps r = tt
 answer_keeps S ts left end true view (Err Unexpected) Q keeps r = tt

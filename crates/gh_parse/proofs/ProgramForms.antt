@@ -15,7 +15,7 @@ use Rattle.gh_ast.specs.Grammar.{NoSign, NoKey, SpellsWord, by_name, by_key, Spe
 use Rattle.gh_ast.specs.Readings.{IsUnique}
 use Rattle.gh_ast.proofs.OneProgram.{one_word, one_fields}
 use Rattle.gh_parse.specs.Stops.{Tok, tok, Any, any, Seq, seq, IsPlain, IsEnd, SameNext, same, none}
-use Rattle.gh_parse.specs.Procedures.{SpellsField, Shape, SpellsShape, SpellsAll, IsWhole}
+use Rattle.gh_parse.specs.Procedures.{SpellsField, Shape, SpellsShape, SpellsAll, SpellsToEnd}
 use Rattle.gh_parse.proofs.Rules.{Exact, exact_tok, exact_seq, exact_by, kept, kept_rest, each, taken_tok, by, begins_not, next, Ends, ends_tok, ends_seq, ends_by, plain_end}
 use Rattle.gh_parse.proofs.Turns.{Goes}
 use Rattle.gh_parse.proofs.ValueForms.{a_name}
@@ -142,35 +142,35 @@ abbrev pub AllProcedures : List Token → List Token → Type 0
 AllProcedures = Any SpellsAll
 
 pub make_all : (xs r : List Token) → Seq (Any SpellsProcedure) AllProcedures xs r → AllProcedures xs r
-make_all _ _ (seq (any a) (any b)) = any (record { procedures = one_procedure a b.procedures; end = b.end })
+make_all _ _ (seq (any a) (any b)) = any (record { spelled = one_procedure a b.spelled; end = b.end })
 
 all_parts : {ts rest : List Token} {ps : List Procedure} → (ts ≡ [] → ⊥) → rest ≡ [] → SpellsProcedures ts ps → Seq (Any SpellsProcedure) AllProcedures ts rest
 all_parts n e no_procedures = absurd (n refl)
-all_parts n e (one_procedure a i) = seq (any a) (any (record { procedures = i; end = e }))
+all_parts n e (one_procedure a i) = seq (any a) (any (record { spelled = i; end = e }))
 
 not_end : {us xs : List Token} → (us ≡ [] → ⊥) → SameNext us xs → xs ≡ [] → ⊥
 not_end n same e = cc
 not_end n none e = n refl
 
 pub part_all : {us : List Token} (xs r : List Token) → (us ≡ [] → ⊥) → SameNext us xs → AllProcedures xs r → Seq (Any SpellsProcedure) AllProcedures xs r
-part_all xs r n d (any a) = all_parts (not_end n d) a.end a.procedures
+part_all xs r n d (any a) = all_parts (not_end n d) a.end a.spelled
 
 pub ends_all : Ends IsEnd AllProcedures
-ends_all = record { sentence = λ rest h. ([], plain_end [] refl, any {x = []} (record { procedures = no_procedures; end = h })) }
+ends_all = record { sentence = λ rest h. ([], plain_end [] refl, any {x = []} (record { spelled = no_procedures; end = h })) }
 
 pub all_more : {start ts us : List Token} {p : Procedure} (xs ys : List Procedure) → Goes IsEnd SpellsAll SpellsAll ts start (λ ps. xs ++ ps) → SpellsProcedure ts p us → (ts ≡ [] → ⊥) → ys ≡ xs ++ p ∷ []
     → Goes IsEnd SpellsAll SpellsAll us start (λ ps. ys ++ ps)
 all_more {start = start} {ts = ts} {us = us} {p = p} xs ys g s n e =
     record {
       forth = λ ps rest i.
-          let j = g.forth (p ∷ ps) rest (record { procedures = one_procedure s i.procedures; end = i.end }) in
-          record { procedures = subst (λ z. SpellsProcedures start z) (sym (ap (λ z. z ++ ps) e ∙ append_assoc xs (p ∷ []) ps)) j.procedures; end = j.end };
+          let j = g.forth (p ∷ ps) rest (record { spelled = one_procedure s i.spelled; end = i.end }) in
+          record { spelled = subst (λ z. SpellsProcedures start z) (sym (ap (λ z. z ++ ps) e ∙ append_assoc xs (p ∷ []) ps)) j.spelled; end = j.end };
       back = λ left i. g.back left (by make_all (λ zs q k j. part_all zs q n k j) (next (each exact_procedure) (any s) i));
     }
 
 pub all_spelled : {start ts : List Token} (xs : List Procedure) → Goes IsEnd SpellsAll SpellsAll ts start (λ ps. xs ++ ps) → ts ≡ [] → SpellsAll start xs ts
 all_spelled {start = start} {ts = ts} xs g e =
-    subst (λ z. SpellsAll start z ts) (append-nil xs) (g.forth [] ts (record { procedures = subst (λ z. SpellsProcedures z []) (sym e) no_procedures; end = e }))
+    subst (λ z. SpellsAll start z ts) (append-nil xs) (g.forth [] ts (record { spelled = subst (λ z. SpellsProcedures z []) (sym e) no_procedures; end = e }))
 
 pub procedure_pushed : (xs ys : List whole.Procedure) (x : whole.Procedure) → ys ≡ xs ++ x ∷ [] → map procedure_of ys ≡ map procedure_of xs ++ procedure_of x ∷ []
 procedure_pushed xs ys x e = ap (λ z. map procedure_of z) e ∙ map-append procedure_of xs (x ∷ [])
@@ -179,21 +179,21 @@ procedure_pushed xs ys x e = ap (λ z. map procedure_of z) e ∙ map-append proc
 abbrev pub AProgram : List Token → List Token → Type 0
 AProgram = Seq (Tok (key kw.Struct)) (Seq (Tok (key kw.Node)) (Seq (Tok (sign sg.BraceOpen)) (Seq AShape AllProcedures)))
 
-pub make_program : (xs r : List Token) → AProgram xs r → Any (IsWhole SpellsProgram) xs r
+pub make_program : (xs r : List Token) → AProgram xs r → Any (SpellsToEnd SpellsProgram) xs r
 make_program _ _ (seq tok (seq tok (seq tok (seq (any {x = s} a) (any {x = ps} b))))) =
-    any {x = record { fields = s.fields; close = s.close; procedures = ps }} (record { spelled = a_program a b.procedures; end = b.end })
+    any {x = record { fields = s.fields; close = s.close; procedures = ps }} (record { spelled = a_program a b.spelled; end = b.end })
 
 program_parts : {ts rest : List Token} {x : Program} → rest ≡ [] → SpellsProgram ts x → AProgram ts rest
-program_parts e (a_program a i) = seq tok (seq tok (seq tok (seq (a_shape a) (any (record { procedures = i; end = e })))))
+program_parts e (a_program a i) = seq tok (seq tok (seq tok (seq (a_shape a) (any (record { spelled = i; end = e })))))
 
-pub part_program : (xs r : List Token) → Any (IsWhole SpellsProgram) xs r → AProgram xs r
+pub part_program : (xs r : List Token) → Any (SpellsToEnd SpellsProgram) xs r → AProgram xs r
 part_program _ _ (any w) = program_parts w.end w.spelled
 
 pub ends_after_brace : Ends IsEnd (Seq AShape AllProcedures)
 ends_after_brace = ends_seq ends_shape ends_all
 
 pub program_spelled : {ts us vs ws xs rest : List Token} {p q r : Span} {s : Shape} {ps : List Procedure} → ts ≡ key kw.Struct p ∷ us → us ≡ key kw.Node q ∷ vs → vs ≡ sign sg.BraceOpen r ∷ ws
-    → SpellsShape ws s xs → SpellsAll xs ps rest → IsWhole SpellsProgram ts (record { fields = s.fields; close = s.close; procedures = ps }) rest
+    → SpellsShape ws s xs → SpellsAll xs ps rest → SpellsToEnd SpellsProgram ts (record { fields = s.fields; close = s.close; procedures = ps }) rest
 program_spelled {ts = ts} {ws = ws} {p = p} {q = q} {r = r} {s = s} {ps = ps} a b c d i =
     let e : ts ≡ key kw.Struct p ∷ key kw.Node q ∷ sign sg.BraceOpen r ∷ ws = cc in
-    record { spelled = subst (λ z. SpellsProgram z (record { fields = s.fields; close = s.close; procedures = ps })) (sym e) (a_program d i.procedures); end = i.end }
+    record { spelled = subst (λ z. SpellsProgram z (record { fields = s.fields; close = s.close; procedures = ps })) (sym e) (a_program d i.spelled); end = i.end }

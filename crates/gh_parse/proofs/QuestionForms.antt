@@ -10,7 +10,7 @@ use Rattle.gh_ast.specs.Grammar.{NoKey, SpellsLocals, last_local, next_local}
 use Rattle.gh_ast.specs.QuestionGrammar.{SpellsClaim, SpellsVariables, no_variables, some_variables, SpellsQuestion, a_question}
 use Rattle.gh_ast.proofs.OneQuestion.{one_claim, one_variables}
 use Rattle.gh_parse.specs.Stops.{Tok, tok, Any, any, Seq, seq, IsPlain, IsAny, IsEnd, IsAlike, SameNext, same, none, Stops}
-use Rattle.gh_parse.specs.Procedures.{AddsLocals, IsWhole}
+use Rattle.gh_parse.specs.Procedures.{AddsLocals, SpellsToEnd}
 use Rattle.gh_parse.specs.Questions.{IsApart, IsLast}
 use Rattle.gh_parse.proofs.Rules.{Breaks, after_any, alike_same, begins_not, form, by, through, first_any, next, after, each, Sentences, plain_first, plain_end}
 use Rattle.gh_parse.proofs.ValueForms.{a_name}
@@ -104,7 +104,7 @@ a_pair : (rest : List Token) → IsEnd rest → (us : List Token) × Claims us r
 a_pair rest h = let b = a_right rest h in let a = a_claim b.0 b.1 in (a.0, seq a.2 b.2)
 
 abbrev pub AQuestion : List Token → List Token → Type 0
-AQuestion = Any (IsWhole SpellsQuestion)
+AQuestion = Any (SpellsToEnd SpellsQuestion)
 
 make_question : {ts us rest : List Token} {p : Span} {xs : List Occ} → SpellsVariables ts xs (key kw.Requires p ∷ us) → Claims us rest → AQuestion ts rest
 make_question {ts = ts} {p = p} v (seq (any {x = c} a) (seq (tok {rest = vs}) (any {x = d} b))) =
@@ -160,7 +160,7 @@ past_word {p = p} {ts = ts} {us = us} {left = left} {xs = xs} v e s =
     (through (f.taken ++ word ∷ []) (λ zs r h. make_question (at zs) h) (λ zs r d h. part_question (at zs) h) s)
 
 pub question_spelled : {ts us vs ws zs rest : List Token} {p q : Span} {xs : List Occ} {c d : Claim} → SpellsVariables ts xs us → us ≡ key kw.Requires p ∷ vs → SpellsClaim vs c ws → ws ≡ key kw.Ensures q ∷ zs
-    → IsLast SpellsClaim zs d rest → IsWhole SpellsQuestion ts (record { variables = xs; span = p; left = c; right = d }) rest
+    → IsLast SpellsClaim zs d rest → SpellsToEnd SpellsQuestion ts (record { variables = xs; span = p; left = c; right = d }) rest
 question_spelled {ts = ts} {vs = vs} {zs = zs} {xs = xs} {c = c} {d = d} v e a f l =
     record {
       spelled = a_question (subst (λ z. SpellsVariables ts xs z) e v) (subst (λ z. SpellsClaim vs c z) f a) (subst (λ z. SpellsClaim zs d z) l.end l.spelled);

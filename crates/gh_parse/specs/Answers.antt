@@ -1,13 +1,13 @@
 -- What the parser answers for a rule of the grammar.
-use Rattle.std.specs.Prelude.{◌≡◌, List, [], ◌∷◌, Bool, cond, ⊤, Option, MatchOption, MatchBool, Result, MatchResult}
+use Rattle.std.specs.Prelude.{◌≡◌, List, [], ◌∷◌, Bool, ⊤, Option, MatchOption, MatchBool, Result, MatchResult}
 use Rattle.gh_base.specs.declared.place.Span.{Span}
 use Rattle.gh_ast.specs.declared.Occ.{Occ}
 use Rattle.gh_ast.specs.declared.sign.Sign as signs
-use Rattle.gh_ast.specs.declared.sign.Sign.TheVariants as sg
 use Rattle.gh_ast.specs.declared.sign.Keyword as words
 use Rattle.gh_ast.specs.Grammar.{NoSign, NoKey}
 use Rattle.gh_ast.specs.Tokens.{Token, named, key, sign}
 use Rattle.gh_ast.specs.Place.{begin_of}
+use Rattle.gh_ast.specs.Printed.{equality}
 use Rattle.gh_parse.specs.Stops.{NoToken, Any, Stops}
 use Rattle.gh_parse.specs.declared.error.ReadError.{ReadError}
 use Rattle.gh_parse.specs.declared.error.ReadError.TheVariants.{Unexpected, OutOfMemory}
@@ -80,11 +80,8 @@ next_place end [] = end
 next_place end (t ∷ ts) = begin_of t
 
 -- `==` where the two are to be equal, `!=` where they are to differ
-abbrev pub comparison_sign : Bool → signs.Sign
-comparison_sign b = cond b sg.Equal sg.Unequal
-
 abbrev pub SpellsComparison : List Token → Bool → List Token → Type 0
-SpellsComparison ts equal rest = (p : Span) × (ts ≡ sign (comparison_sign equal) p ∷ rest)
+SpellsComparison ts equal rest = (p : Span) × (ts ≡ sign (equality equal) p ∷ rest)
 
 -- what a rule spells, between two signs
 pub record IsBetween {X : Type 0} (opening closing : signs.Sign) (P : List Token → X → List Token → Type 0) (ts : List Token) (x : X) (rest : List Token) : Type 0 where

@@ -57,12 +57,11 @@ shape_of f = record { fields = f.fields.items; close = f.close }
 abbrev pub SpellsShape : List Token → Shape → List Token → Type 0
 SpellsShape ts s rest = SpellsFields ts s.fields s.close rest
 
--- procedures up to the end: no token is left
-pub record SpellsAll (ts : List Token) (ps : List plain.Procedure) (rest : List Token) : Type 0 where
-  pub procedures : SpellsProcedures ts ps
-  pub end : rest ≡ []
-
 -- what a rule spells of all tokens: none is left
-pub record IsWhole {X : Type 0} (Spells : List Token → X → Type 0) (ts : List Token) (x : X) (rest : List Token) : Type 0 where
+pub record SpellsToEnd {X : Type 0} (Spells : List Token → X → Type 0) (ts : List Token) (x : X) (rest : List Token) : Type 0 where
   pub spelled : Spells ts x
   pub end : rest ≡ []
+
+-- procedures up to the end
+abbrev pub SpellsAll : List Token → List plain.Procedure → List Token → Type 0
+SpellsAll = SpellsToEnd SpellsProcedures

@@ -7,7 +7,7 @@ ghost use Rattle.gh_ast.specs.Plain.{procedure_of, program_of};
 ghost use Rattle.gh_parse.specs.Views.{tokens_of};
 ghost use Rattle.gh_parse.specs.Stops.{IsPlain, IsEnd};
 ghost use Rattle.gh_parse.specs.Answers.{IsReadBy};
-ghost use Rattle.gh_parse.specs.Procedures.{SpellsField, SpellsShape, SpellsAll, IsWhole, shape_of};
+ghost use Rattle.gh_parse.specs.Procedures.{SpellsField, SpellsShape, SpellsAll, SpellsToEnd, shape_of};
 
 use crate::cursor::Parser;
 use crate::error::ReadError;
@@ -84,7 +84,7 @@ impl<'t> Parser<'t> {
 
     /// Reads a whole program.
     pub fn program(&mut self, alloc: Global) -> Result<Program, ReadError>
-        ensures { IsReadBy IsEnd (IsWhole SpellsProgram) self.old program_of result self.new }
+        ensures { IsReadBy IsEnd (SpellsToEnd SpellsProgram) self.old program_of result self.new }
     {
         self.expect_key(Keyword::Struct)?;
         self.expect_key(Keyword::Node)?;

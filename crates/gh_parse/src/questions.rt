@@ -4,7 +4,7 @@ ghost use Rattle.gh_ast.specs.QuestionGrammar.{SpellsVariables, SpellsQuestion};
 ghost use Rattle.gh_ast.specs.Questions.{claim_of, question_of};
 ghost use Rattle.gh_parse.specs.Stops.{IsAny, IsEnd};
 ghost use Rattle.gh_parse.specs.Answers.{IsReadBy};
-ghost use Rattle.gh_parse.specs.Procedures.{IsWhole};
+ghost use Rattle.gh_parse.specs.Procedures.{SpellsToEnd};
 ghost use Rattle.gh_parse.specs.Questions.{IsLast};
 ghost use Rattle.gh_ast.specs.QuestionGrammar.{SpellsClaim};
 
@@ -18,7 +18,7 @@ use std::alloc::Global;
 impl<'t> Parser<'t> {
     /// Reads a whole question.
     pub fn question(&mut self, alloc: Global) -> Result<Question, ReadError>
-        ensures { IsReadBy IsEnd (IsWhole SpellsQuestion) self.old question_of result self.new }
+        ensures { IsReadBy IsEnd (SpellsToEnd SpellsQuestion) self.old question_of result self.new }
     {
         let variables = self.variables(alloc)?;
         let span = self.expect_key(Keyword::Requires)?;

@@ -1,5 +1,6 @@
 -- The conditions of a program, in order.
-use Rattle.std.specs.Prelude.{ℕ, suc, List, [], ◌∷◌, ◌++◌, map, All, Contains}
+use Rattle.std.specs.Prelude.{◌≡◌, ◌⊎◌, ℕ, suc, ◌-◌, ◌<◌, ◌≤◌, List, [], ◌∷◌, ◌++◌, length, map, Some, slice_get, All}
+use Rattle.std.specs.Prelude.{Contains}
 use Rattle.gh_ast.specs.Plain.{Procedure, Program}
 use Rattle.gh_path.specs.Graphs.{Start, whole_body, round, starts, PathStep, called, looped, Check, entry, loop_entry}
 use Rattle.gh_path.specs.Graphs.{loop_end, graph_from, HasLoop, IsProcedureAt, HasProcedure}
@@ -38,6 +39,14 @@ from_procedures P n (p ∷ rest) = map (condition n) (courses_of P p) ++ from_pr
 -- by procedure, then by start, then in the order of paths: the first is number 1
 abbrev pub conditions : Program → List Condition
 conditions P = from_procedures P 0 P.procedures
+
+-- the condition of a number, from 1
+abbrev pub IsConditionAt : Program → ℕ → Condition → Type 0
+IsConditionAt P n c = (1 ≤ n) × (slice_get (conditions P) (n - 1) ≡ Some c)
+
+-- no condition has the number: it is 0 or above the count
+abbrev pub IsNoNumber : Program → ℕ → Type 0
+IsNoNumber P n = (n ≡ 0) ⊎ (length (conditions P) < n)
 
 -- the procedure that a condition is of
 abbrev pub IsOf : Program → Condition → Procedure → Type 0

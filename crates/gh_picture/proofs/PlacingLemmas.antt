@@ -8,13 +8,13 @@ use Rattle.std.proofs.lemmas.List.Sums.{sum_by-set, count_by-le-length}
 use Rattle.gh_assert.specs.declared.heap.Cell.{Cell}
 use Rattle.gh_picture.proofs.Numbers.{number_some}
 use Rattle.gh_picture.specs.Spots.{number_in, no_cell, no_spot, spot_at, AreSpots, cell_at, LeadsTo, Follows, IsNoLater, right_of}
-use Rattle.gh_picture.specs.Placing.{Board, spot_on, Stands, AreApart, StillStands, HasLines, IsBefore, IsAwaited, IsLedTo, AreLists, IsLineBegun, AllStand}
+use Rattle.gh_picture.specs.Placing.{Board, spot_on, Stands, AreApart, StillStands, HasLines, IsBefore, IsAwaited, IsLedTo, AreLists, IsLineBegun, IsOnLine}
 use Rattle.gh_picture.specs.declared.layout.Spot.{Spot}
 
 abbrev pub spot : ℕ → ℕ → Spot
 spot line column = record { line = line; column = column }
 
-same_or_other : (i j : ℕ) → (i ≡ j) ⊎ (i ≢ j)
+pub same_or_other : (i j : ℕ) → (i ≡ j) ⊎ (i ≢ j)
 same_or_other i j = by_test (nat_eq i j) refl
   where
     by_test : (b : Bool) → nat_eq i j ≡ b → (i ≡ j) ⊎ (i ≢ j)
@@ -45,6 +45,8 @@ after_set b i j s t h stands = by_place (same_or_other j i)
 pub begun : (cs : List Cell) (b : Board) (line from : ℕ) → HasLines cs b line → from < length cs → IsLineBegun cs b line 0 from
 begun cs b line from lines within = record {
   one_each = lines.one_each;
+  some = lines.some;
+  from_one = lines.from_one;
   within = within;
   room = omega (arith, count_by-le-length is_none b, lines.one_each);
   before = λ i s h. inl (lines.above i s h);
@@ -58,6 +60,8 @@ begun cs b line from lines within = record {
 pub closes : (cs : List Cell) (b : Board) (line column next : ℕ) (t : Spot) → IsLineBegun cs b line column next → Stands b next t → HasLines cs b (line + 1)
 closes cs b line column next t begun stands = record {
   one_each = begun.one_each;
+  some = omega arith;
+  from_one = begun.from_one;
   above = λ i s h. above s (begun.before i s h);
   apart = begun.apart;
   in_lines = λ i j s h leads. joined i j s (begun.in_lines i j s h leads);
@@ -126,6 +130,14 @@ placed_before cs b line column next begun i s h = by_set (after_set b next i (sp
     by_set (inl a) = inr (ap (λ (z : Spot). z.line) a.1, omega (arith, ap (λ (z : Spot). z.column) a.1))
     by_set (inr a) = further (begun.before i s a.1)
 
+placed_from_one : (cs : List Cell) (b : Board) (line column next : ℕ) → IsLineBegun cs b line column next
+    → (i : ℕ) (s : Spot) → Stands (placed b line column next) i s → 0 < s.line
+placed_from_one cs b line column next begun i s h = by_set (after_set b next i (spot line column) s (inside cs b line column next begun) h)
+  where
+    by_set : ((i ≡ next) × (s ≡ spot line column)) ⊎ ((i ≢ next) × Stands b i s) → 0 < s.line
+    by_set (inl a) = omega (arith, ap (λ (z : Spot). z.line) a.1, begun.some)
+    by_set (inr a) = begun.from_one i s a.1
+
 -- one cell fewer is to be placed
 pub placed_fewer : (b : Board) (line column next : ℕ) → next < length b → spot_on b next ≡ None → count_by is_none (placed b line column next) + 1 ≡ count_by is_none b
 placed_fewer b line column next h free =
@@ -166,6 +178,8 @@ pub goes_on : (cs : List Cell) (b : Board) (line column next other : ℕ) → Is
     → number_in cs (cell_at cs next).to ≡ Some other → other < length cs → IsLineBegun cs (placed b line column next) line (column + 1) other
 goes_on cs b line column next other begun free leads within = record {
   one_each = length-set b next (Some (spot line column)) ∙ begun.one_each;
+  some = begun.some;
+  from_one = placed_from_one cs b line column next begun;
   within = within;
   room = omega (arith, placed_fewer b line column next (inside cs b line column next begun) free, begun.room);
   before = placed_before cs b line column next begun;
@@ -188,6 +202,8 @@ pub ends : (cs : List Cell) (b : Board) (line column next : ℕ) → IsLineBegun
     → number_in cs (cell_at cs next).to ≡ None → HasLines cs (placed b line column next) (line + 1)
 ends cs b line column next begun free leads = record {
   one_each = length-set b next (Some (spot line column)) ∙ begun.one_each;
+  some = omega arith;
+  from_one = placed_from_one cs b line column next begun;
   above = λ i s h. above s (placed_before cs b line column next begun i s h);
   apart = placed_apart cs b line column next begun;
   in_lines = λ i j s h to. by_set i j s to (after_set b next i (spot line column) s (inside cs b line column next begun) h);
@@ -230,16 +246,24 @@ start_stands b line column next from h free (inl same) =
     subst (λ (k : ℕ). IsSome (spot_on (placed b line column next) k)) same (is_some_of (spot_on (placed b line column next) next) (spot line column) (stands_here b next (spot line column) h))
 start_stands b line column next from h free (inr stands) = still_stands b (placed b line column next) from (placed_kept b line column next free) stands
 
--- one more cell stands
-pub more_stand : (old new : Board) (n : ℕ) → StillStands old new → IsSome (spot_on new n) → AllStand old n → AllStand new (n + 1)
-more_stand old new n kept here all i h = by_place (same_or_other i n)
-  where
-    by_place : (i ≡ n) ⊎ (i ≢ n) → IsSome (spot_on new i)
-    by_place (inl same) = subst (λ (k : ℕ). IsSome (spot_on new k)) (sym same) here
-    by_place (inr other) = still_stands old new i kept (all i (omega (arith, h, other)))
+-- the first cell of a line stands at its beginning, once it is placed
+pub line_stays : (b : Board) (line column next from : ℕ) → next < length b → spot_on b next ≡ None → IsOnLine b line from next column
+    → Stands (placed b line column next) from (spot line 0)
+line_stays b line column next from h free (inl (same, first, none)) =
+    let at : Stands (placed b line column next) from (spot line column) = subst (λ (k : ℕ). Stands (placed b line column next) k (spot line column)) same (stands_here b next (spot line column) h) in
+    subst (λ (n : ℕ). Stands (placed b line column next) from (spot line n)) first at
+line_stays b line column next from h free (inr stands) = placed_kept b line column next free from (spot line 0) stands
+
+-- and so it does where a line ends at a cell that stands
+pub line_closes : (b : Board) (line column next from : ℕ) (t : Spot) → Stands b next t → IsOnLine b line from next column → Stands b from (spot line 0)
+line_closes b line column next from t at (inl (same, first, none)) =
+    let here : Stands b from t = subst (λ (k : ℕ). Stands b k t) same at in
+    let both : None ≡ Some t = sym none ∙ here in
+    absurd cc
+line_closes b line column next from t at (inr stands) = stands
 
 -- where a cell stands, by the list of spots
-listed : (ss : List Spot) (i : ℕ) → i < length ss → get_or (map Some ss) i None ≡ Some (get_or ss i no_spot)
+pub listed : (ss : List Spot) (i : ℕ) → i < length ss → get_or (map Some ss) i None ≡ Some (get_or ss i no_spot)
 listed [] i h = absurd (omega (arith, h))
 listed (s ∷ ss) zero h = refl
 listed (s ∷ ss) (suc i) h = listed ss i (omega (arith, h))

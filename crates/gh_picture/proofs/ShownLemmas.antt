@@ -97,5 +97,5 @@ shown row spots =
       names = names;
     }
 
-pub shows_each : (row : Row) (top below : ℕ) (panel : Panel) → IsPanelOf row top below panel → ShowsEach row panel.groups
-shows_each row top below panel is = subst (λ (gs : List Group). ShowsEach row gs) (sym is.groups) (shown row is.spots)
+pub shows_each : (row : Row) (top below columns : ℕ) (panel : Panel) → IsPanelOf row top below columns panel → ShowsEach row panel.groups
+shows_each row top below columns panel is = subst (λ (gs : List Group). ShowsEach row gs) (sym is.groups) (shown row is.spots)

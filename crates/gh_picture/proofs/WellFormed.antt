@@ -6,7 +6,7 @@ use Rattle.std.proofs.lemmas.Bool.Decides.{nat_tests}
 use Rattle.std.proofs.lemmas.List.{append_assoc}
 use Rattle.gh_picture.specs.Words.{tag_word, key_word}
 use Rattle.gh_picture.specs.Written.{escape, escaped, attribute_text, opened, closed, leaf_text, group_text, panel_text, svg_text, printed}
-use Rattle.gh_picture.specs.Elements.{IsName, IsPlain, AreCharacters, no_characters, plain_first, less_first, greater_first, and_first, quote_first, AreAttributes, no_attributes, attribute_first, IsElement, element, IsInside, characters, element_first}
+use Rattle.gh_picture.specs.Elements.{IsName, IsUnescaped, AreCharacters, no_characters, unescaped_first, less_first, greater_first, and_first, quote_first, AreAttributes, no_attributes, attribute_first, IsElement, element, IsInside, characters, element_first}
 use Rattle.gh_picture.specs.declared.tree.Tag.{Tag}
 use Rattle.gh_picture.specs.declared.tree.Tag.TheVariants as tag
 use Rattle.gh_picture.specs.declared.tree.Key.{Key}
@@ -17,15 +17,15 @@ use Rattle.gh_picture.specs.declared.tree.Group.{Group}
 use Rattle.gh_picture.specs.declared.tree.Panel.{Panel}
 use Rattle.gh_picture.specs.declared.tree.Svg.{Svg}
 
-question : IsPlain 63
+question : IsUnescaped 63
 question = record { low = omega arith; high = omega arith; no_less = λ e. omega (arith, e); no_greater = λ e. omega (arith, e); no_and = λ e. omega (arith, e); no_quote = λ e. omega (arith, e) }
 
 printed_first : (c : ℕ) (rest : List ℕ) → c ≢ 60 → c ≢ 62 → c ≢ 38 → c ≢ 34 → AreCharacters rest → AreCharacters (printed c ++ rest)
 printed_first c rest l g a q more = by_test (nat_le 32 c && nat_le c 126) refl
   where
     by_test : (b : Bool) → (nat_le 32 c && nat_le c 126) ≡ b → AreCharacters ((if b then c ∷ [] else 63 ∷ []) ++ rest)
-    by_test true e = plain_first (record { low = grind (arith, nat_tests); high = grind (arith, nat_tests); no_less = l; no_greater = g; no_and = a; no_quote = q }) more
-    by_test false e = plain_first question more
+    by_test true e = unescaped_first (record { low = grind (arith, nat_tests); high = grind (arith, nat_tests); no_less = l; no_greater = g; no_and = a; no_quote = q }) more
+    by_test false e = unescaped_first question more
 
 escape_first : (c : ℕ) (rest : List ℕ) → AreCharacters rest → AreCharacters (escape c ++ rest)
 escape_first c rest more = less (c == 60) refl

@@ -12,8 +12,8 @@ pub record IsName (n : List ℕ) : Type 0 where
   pub some : n ≢ []
   pub letters : IsTrue (list_all is_letter n)
 
--- a printable character that is none of `<`, `>`, `&` and `"`
-pub record IsPlain (c : ℕ) : Type 0 where
+-- a printable character that is none of `<`, `>`, `&` and `"`, and so is written as it is
+pub record IsUnescaped (c : ℕ) : Type 0 where
   pub low : 32 ≤ c
   pub high : c ≤ 126
   pub no_less : c ≢ 60
@@ -21,10 +21,10 @@ pub record IsPlain (c : ℕ) : Type 0 where
   pub no_and : c ≢ 38
   pub no_quote : c ≢ 34
 
--- plain characters, and those of markup by their names
+-- characters as they are, and those of markup by their names
 pub data AreCharacters : List ℕ → Type 0 where
   no_characters : AreCharacters []
-  plain_first : {c : ℕ} {rest : List ℕ} → IsPlain c → AreCharacters rest → AreCharacters (c ∷ rest)
+  unescaped_first : {c : ℕ} {rest : List ℕ} → IsUnescaped c → AreCharacters rest → AreCharacters (c ∷ rest)
   less_first : {rest : List ℕ} → AreCharacters rest → AreCharacters (codes "&lt;" ++ rest)
   greater_first : {rest : List ℕ} → AreCharacters rest → AreCharacters (codes "&gt;" ++ rest)
   and_first : {rest : List ℕ} → AreCharacters rest → AreCharacters (codes "&amp;" ++ rest)

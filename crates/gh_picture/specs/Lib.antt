@@ -4,6 +4,7 @@ pub mod Elements
 pub mod Spots
 pub mod Placing
 pub mod Shapes
+pub mod Looks
 pub mod Rows
 pub mod Shown
 pub mod Pictures

@@ -1,9 +1,9 @@
 -- Cells that are placed one after the other.
-use Rattle.std.specs.Prelude.{◌≡◌, ◌≢◌, ◌⊎◌, ℕ, ◌+◌, ◌<◌, ◌≤◌, List, Option, Some, None, is_none, length}
-use Rattle.std.specs.Prelude.{slice_index_or, IsSome}
-use Rattle.std.specs.List.{count_by}
+use Rattle.std.specs.Prelude.{◌≡◌, ◌≢◌, ◌⊎◌, ℕ, ◌+◌, ◌<◌, ◌≤◌, Bool, false, List, ◌∷◌, ◌++◌, Option, Some, None}
+use Rattle.std.specs.Prelude.{is_none, length, get_or, slice_index_or, IsSome, All}
+use Rattle.std.specs.List.{count_by, list_any}
 use Rattle.gh_assert.specs.declared.heap.Cell.{Cell}
-use Rattle.gh_picture.specs.Spots.{LeadsTo, Follows, right_of}
+use Rattle.gh_picture.specs.Spots.{LeadsTo, Follows, right_of, leads_to}
 use Rattle.gh_picture.specs.declared.layout.Spot.{Spot}
 
 abbrev pub Board : Type 0
@@ -35,6 +35,8 @@ AreLists cells board = (j : ℕ) (t : Spot) → Stands board j t → 0 < t.colum
 -- the cells that stand are whole lists, in the lines before this one
 pub record HasLines (cells : List Cell) (board : Board) (line : ℕ) : Type 0 where
   pub one_each : length board ≡ length cells
+  pub some : 0 < line
+  pub from_one : (i : ℕ) (s : Spot) → Stands board i s → 0 < s.line
   pub above : (i : ℕ) (s : Spot) → Stands board i s → s.line < line
   pub apart : AreApart board
   pub in_lines : (i j : ℕ) (s : Spot) → Stands board i s → LeadsTo cells i j → (t : Spot) × Stands board j t × Follows s t
@@ -51,6 +53,8 @@ IsAwaited line column next s j = (j ≡ next) × (right_of s ≡ record { line =
 -- a line is begun, and the next cell is to stand at the column
 pub record IsLineBegun (cells : List Cell) (board : Board) (line column next : ℕ) : Type 0 where
   pub one_each : length board ≡ length cells
+  pub some : 0 < line
+  pub from_one : (i : ℕ) (s : Spot) → Stands board i s → 0 < s.line
   pub within : next < length cells
   pub room : column + count_by is_none board ≤ length cells
   pub before : (i : ℕ) (s : Spot) → Stands board i s → IsBefore line column s
@@ -62,3 +66,38 @@ pub record IsLineBegun (cells : List Cell) (board : Board) (line column next : �
 -- all cells before a number stand
 abbrev pub AllStand : Board → ℕ → Type 0
 AllStand board n = (i : ℕ) → i < n → IsSome (spot_on board i)
+
+-- all cells of some numbers stand
+abbrev pub EachStands : Board → List ℕ → Type 0
+EachStands board ns = All (λ i. IsSome (spot_on board i)) ns
+
+-- while a line is placed that begins at a cell: no cell of it stands, or the first one stands at its beginning
+abbrev pub IsOnLine : Board → ℕ → ℕ → ℕ → ℕ → Type 0
+IsOnLine board line from next column =
+    ((next ≡ from) × (column ≡ 0) × (spot_on board from ≡ None)) ⊎ Stands board from (record { line = line; column = 0 })
+
+-- no line is begun, as the cell stands already; or one is, and begins at the cell
+abbrev pub MayBegin : Board → ℕ → ℕ → ℕ → Type 0
+MayBegin board line from next = (next ≡ line) ⊎ ((next ≡ line + 1) × Stands board from (record { line = line; column = 0 }))
+
+-- the cell stands in a line before this one
+abbrev pub StandsAbove : Board → ℕ → ℕ → Type 0
+StandsAbove board line i = (s : Spot) × Stands board i s × (s.line < line)
+
+-- the line begins at the first cell, in the order, that stands in no earlier line
+pub record BeginsOn (order : List ℕ) (board : Board) (line : ℕ) : Type 0 where
+  pub before : List ℕ
+  pub first : ℕ
+  pub after : List ℕ
+  pub split : order ≡ before ++ first ∷ after
+  pub begins : Stands board first (record { line = line; column = 0 })
+  pub earlier : All (StandsAbove board line) before
+
+-- so do all lines before one
+abbrev pub AllBegin : List ℕ → Board → ℕ → Type 0
+AllBegin order board line = (k : ℕ) → 0 < k → k < line → BeginsOn order board k
+
+-- for each cell whether one of those that are seen leads to it
+pub record AreFlags (cells seen : List Cell) (flags : List Bool) : Type 0 where
+  pub one_each : length flags ≡ length cells
+  pub each : (j : ℕ) → j < length cells → get_or flags j false ≡ list_any (leads_to cells j) seen

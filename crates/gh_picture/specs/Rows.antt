@@ -1,6 +1,6 @@
 -- The panel of a row: its statement, a group for each cell and a group for each variable.
-use Rattle.std.specs.Prelude.{◌≡◌, ℕ, suc, ◌+◌, ◌-◌, ◌^◌, ◌<◌, ◌≤◌, ◌==◌, min, length, if◌then◌else◌, List, [], ◌∷◌}
-use Rattle.std.specs.Prelude.{◌++◌, codes, map, take, Option, Some, None, is_none, slice_index_or}
+use Rattle.std.specs.Prelude.{◌≡◌, ℕ, suc, ◌+◌, ◌-◌, ◌/◌, ◌^◌, ◌<◌, ◌≤◌, ◌==◌, min, max, length, if◌then◌else◌, List}
+use Rattle.std.specs.Prelude.{[], ◌∷◌, ◌++◌, codes, map, take, Option, Some, None, is_none, slice_index_or}
 use Rattle.std.specs.List.{count_by}
 use Rattle.std.specs.Fmt.{decimal}
 use Rattle.std.specs.FinMap.{entries}
@@ -8,7 +8,7 @@ use Rattle.gh_assert.specs.Heaps.{Heap}
 use Rattle.gh_assert.specs.declared.heap.Cell.{Cell}
 use Rattle.gh_assert.specs.declared.store.Entry.{Entry}
 use Rattle.gh_picture.specs.Shapes.{attribute, cell_group, variable_group, caption_group}
-use Rattle.gh_picture.specs.Spots.{number_in, cell_at, spot_at, AreSpots}
+use Rattle.gh_picture.specs.Spots.{number_in, cell_at, spot_at, order_of, AreSpots, AreInOrder}
 use Rattle.gh_picture.specs.declared.layout.Spot.{Spot}
 use Rattle.gh_picture.specs.declared.scene.Change.{Change}
 use Rattle.gh_picture.specs.declared.scene.Change.TheVariants as change
@@ -97,11 +97,30 @@ pub record IsPast (top : ℕ) (spots : List Spot) (below : ℕ) : Type 0 where
   pub caption : cut (top + 1) ≤ below
   pub cells : (i : ℕ) → i < length spots → cut (top + (spot_at spots i).line + 1) ≤ below
 
--- the panel shows the row, from one line to another: its caption, each cell of its heap once, and each variable of
--- its store once, in their orders
-pub record IsPanelOf (row : Row) (top below : ℕ) (panel : Panel) : Type 0 where
+-- how many columns a text takes
+abbrev pub text_columns : List ℕ → ℕ
+text_columns text = length text / 10 + 1
+
+-- how many columns cells take with their arrows, and n at least
+abbrev pub columns_from : ℕ → List Spot → ℕ
+columns_from n [] = n
+columns_from n (s ∷ ss) = columns_from (max n (cut (s.column + 2))) ss
+
+abbrev pub cell_columns : List Spot → ℕ
+cell_columns spots = columns_from 2 spots
+
+-- how many columns a row takes: those of its cells, of its texts, or one for each variable, whatever is most
+abbrev pub row_columns : Row → List Spot → ℕ
+row_columns row spots =
+    max (max (cell_columns spots) (max (text_columns row.statement) (text_columns row.note))) (length row.state.store)
+
+-- the panel shows the row, from one line to another and in so many columns: its caption, each cell of its heap once,
+-- and each variable of its store once, in their orders
+pub record IsPanelOf (row : Row) (top below columns : ℕ) (panel : Panel) : Type 0 where
   pub spots : List Spot
   pub stand : AreSpots (cells_of row.state.heap) spots
+  pub order : AreInOrder (order_of (cells_of row.state.heap) row.state.store) spots
   pub past : IsPast top spots below
+  pub columns_are : columns ≡ row_columns row spots
   pub attributes : panel.attributes ≡ row_attributes top
   pub groups : panel.groups ≡ row_groups row spots

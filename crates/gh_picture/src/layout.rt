@@ -1,11 +1,13 @@
 //! Where cells stand: each list in a line of its own, from left to right.
 
-ghost use Rattle.std.specs.Prelude.{◌≡◌, ◌+◌, ◌<◌, ◌≤◌, ◌^◌, IfOk, IfSome, IsSome, T, length, map as each};
+ghost use Rattle.std.specs.Prelude.{◌≡◌, ◌++◌, ◌+◌, ◌<◌, ◌≤◌, ◌^◌, None, IfOk, IfSome, IsSome, OnOk, T, length};
+ghost use Rattle.std.specs.Prelude.{map as each};
 ghost use Rattle.std.specs.Ordering.{nat_cmp};
 ghost use Rattle.std.specs.FinMap as map;
 ghost use Rattle.gh_assert.specs.Cells.{pairs};
-ghost use Rattle.gh_picture.specs.Spots.{number_in, AreSpots, AreStarts};
-ghost use Rattle.gh_picture.specs.Placing.{HasLines, StillStands, AllStand, spot_on};
+ghost use Rattle.gh_picture.specs.Spots.{number_in, heads, pointed, numbers, order_of, AreSpots, AreInOrder, AreWithin};
+ghost use Rattle.gh_picture.specs.Placing.{AllBegin, AllStand, AreFlags, EachStands, HasLines, MayBegin, Stands};
+ghost use Rattle.gh_picture.specs.Placing.{StillStands, spot_on};
 
 use gh_assert::heap::{Cell, place};
 use gh_assert::store::Entry;
@@ -30,7 +32,7 @@ pub fn number_of(cells: &[Cell], at: u32) -> Option<usize>
 // For each cell whether some cell leads to it.
 fn led_to(alloc: Global, cells: &[Cell]) -> Result<Vec<bool>, AllocError>
     requires { T (map.is_sorted nat_cmp (pairs cells.now)) }
-    ensures { IfOk result (λ flags. length flags.items ≡ length cells.now) }
+    ensures { IfOk result (λ flags. AreFlags cells.now cells.now flags.items) }
 {
     let mut flags = vec![in alloc; false; cells.len()]?;
     for cell in cells {
@@ -41,23 +43,53 @@ fn led_to(alloc: Global, cells: &[Cell]) -> Result<Vec<bool>, AllocError>
     Ok(flags)
 }
 
-// Where lines begin first: at cells to which none leads, then at cells to which variables point.
-fn starts(alloc: Global, cells: &[Cell], entries: &[Entry]) -> Result<Vec<usize>, AllocError>
-    requires { T (map.is_sorted nat_cmp (pairs cells.now)) }
-    ensures { IfOk result (λ starts. AreStarts cells.now starts.items) }
+// Adds the numbers of the cells to which none leads.
+fn push_heads(order: &mut Vec<usize>, cells: &[Cell], flags: &[bool]) -> Result<(), AllocError>
+    requires { AreFlags cells.now cells.now flags.now }
+    ensures { OnOk result (order.new.items ≡ order.old.items ++ heads cells.now 0 cells.now) }
 {
-    let mut starts = Vec::new(alloc);
-    for (number, is_led_to) in led_to(alloc, cells)?.iter().enumerate() {
-        if !*is_led_to {
-            starts.push(number)?;
+    for (number, _) in cells.iter().enumerate() {
+        if !flags[number] {
+            order.push(number)?;
         }
     }
+    Ok(())
+}
+
+// Adds the numbers of the cells to which variables point.
+fn push_pointed(order: &mut Vec<usize>, cells: &[Cell], entries: &[Entry]) -> Result<(), AllocError>
+    requires { T (map.is_sorted nat_cmp (pairs cells.now)) }
+    ensures { OnOk result (order.new.items ≡ order.old.items ++ pointed cells.now entries.now) }
+{
     for entry in entries {
         if let Some(number) = number_of(cells, entry.value) {
-            starts.push(number)?;
+            order.push(number)?;
         }
     }
-    Ok(starts)
+    Ok(())
+}
+
+// Adds the numbers of all cells.
+fn push_numbers(order: &mut Vec<usize>, cells: &[Cell]) -> Result<(), AllocError>
+    ensures { OnOk result (order.new.items ≡ order.old.items ++ numbers 0 cells.now) }
+{
+    for (number, _) in cells.iter().enumerate() {
+        order.push(number)?;
+    }
+    Ok(())
+}
+
+// The order in which cells begin lines.
+fn order(alloc: Global, cells: &[Cell], entries: &[Entry]) -> Result<Vec<usize>, AllocError>
+    requires { T (map.is_sorted nat_cmp (pairs cells.now)) }
+    ensures { IfOk result (λ order. order.items ≡ order_of cells.now entries.now) }
+{
+    let flags = led_to(alloc, cells)?;
+    let mut order = Vec::new(alloc);
+    push_heads(&mut order, cells, flags.as_slice())?;
+    push_pointed(&mut order, cells, entries)?;
+    push_numbers(&mut order, cells)?;
+    Ok(order)
 }
 
 // Places a cell and those to which it leads, up to one that stands already.
@@ -68,6 +100,7 @@ fn place_line(cells: &[Cell], spots: &mut [Option<Spot>], line: usize, from: usi
     ensures lines { HasLines cells.now spots.new (line + 1) }
     ensures kept { StillStands spots.old spots.new }
     ensures placed { IsSome (spot_on spots.new from) }
+    ensures begins { spot_on spots.old from ≡ None → Stands spots.new from (record { line = line; column = 0 }) }
 {
     let mut at = from;
     let mut column = 0;
@@ -91,6 +124,7 @@ fn begin_line(cells: &[Cell], spots: &mut [Option<Spot>], line: usize, from: usi
     ensures kept { StillStands spots.old spots.new }
     ensures placed { IsSome (spot_on spots.new from) }
     ensures few { result ≤ line + 1 }
+    ensures begins { MayBegin spots.new line from result }
 {
     if spots[from].is_some() {
         return line;
@@ -99,33 +133,19 @@ fn begin_line(cells: &[Cell], spots: &mut [Option<Spot>], line: usize, from: usi
     line + 1
 }
 
-// Begins a line at each start that does not stand already, and answers the number of the line to
-// come.
-fn place_each(cells: &[Cell], spots: &mut [Option<Spot>], starts: &[usize]) -> usize
+// Begins a line at each cell that does not stand already, in an order, and answers the number of the
+// line to come.
+fn place_each(cells: &[Cell], spots: &mut [Option<Spot>], order: &[usize]) -> usize
     requires ascending { T (map.is_sorted nat_cmp (pairs cells.now)) }
-    requires starts { AreStarts cells.now starts.now }
+    requires within { AreWithin cells.now order.now }
     requires lines { HasLines cells.now spots.old 1 }
     ensures lines { HasLines cells.now spots.new result }
-    ensures few { result ≤ length starts.now + 1 }
+    ensures begun { AllBegin order.now spots.new result }
+    ensures all { EachStands spots.new order.now }
 {
     let mut line = 1;
-    for from in starts {
+    for from in order {
         line = begin_line(cells, spots, line, *from);
-    }
-    line
-}
-
-// Begins a line at each cell that does not stand already.
-fn place_rest(cells: &[Cell], spots: &mut [Option<Spot>], lines: usize) -> usize
-    requires ascending { T (map.is_sorted nat_cmp (pairs cells.now)) }
-    requires lines { HasLines cells.now spots.old lines }
-    requires few { lines + length cells.now < 2 ^ 64 }
-    ensures lines { HasLines cells.now spots.new result }
-    ensures all { AllStand spots.new (length cells.now) }
-{
-    let mut line = lines;
-    for from in 0..cells.len() {
-        line = begin_line(cells, spots, line, from);
     }
     line
 }
@@ -151,11 +171,11 @@ fn all_placed(alloc: Global, spots: &[Option<Spot>]) -> Result<Vec<Spot>, AllocE
 /// others, each in their order. A search for each cell and variable.
 pub fn spots_of(alloc: Global, cells: &[Cell], entries: &[Entry]) -> Result<Vec<Spot>, AllocError>
     requires { T (map.is_sorted nat_cmp (pairs cells.now)) }
-    ensures { IfOk result (λ spots. AreSpots cells.now spots.items) }
+    ensures lists { IfOk result (λ spots. AreSpots cells.now spots.items) }
+    ensures order { IfOk result (λ spots. AreInOrder (order_of cells.now entries.now) spots.items) }
 {
     let mut spots = vec![in alloc; None; cells.len()]?;
-    let starts = starts(alloc, cells, entries)?;
-    let lines = place_each(cells, spots.as_mut_slice(), starts.as_slice());
-    let _lines = place_rest(cells, spots.as_mut_slice(), lines);
+    let order = order(alloc, cells, entries)?;
+    let _lines = place_each(cells, spots.as_mut_slice(), order.as_slice());
     all_placed(alloc, spots.as_slice())
 }

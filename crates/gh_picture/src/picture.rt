@@ -1,13 +1,14 @@
 //! Pictures.
 
 ghost use Rattle.std.specs.Prelude.{◌≡◌, IfOk};
+ghost use Rattle.gh_picture.specs.Looks.{style_group, marker_group};
 ghost use Rattle.gh_picture.specs.Pictures as drawn;
 ghost use Rattle.gh_picture.specs.Pictures.{IsHead, IsTreeOf, IsPicture, AddsPanels, frame_of, hundreds_text};
 
 use crate::rows::{draw_row, text_columns};
 use crate::scene::{Row, Scene};
 use crate::shapes::{group, leaf};
-use crate::tree::{Attributes, Group, Groups, Key, Leaf, Leaves, Panel, Panels, Svg, Tag};
+use crate::tree::{Attributes, Group, Items, Key, Leaf, Panel, Svg, Tag};
 use crate::writing::write;
 use gh_base::text::Text;
 use itoa::Buffer;
@@ -17,7 +18,10 @@ use std::alloc::{AllocError, Global};
 pub const STYLE: &[u8] =
     b"svg{background:#fff}text{font:12px monospace;fill:#222}path{fill:none;stroke:#222;stroke-width:1.3}.rule{stroke:#ccc;stroke-width:1}.next,.lost{marker-end:url(#arrow)}.place,.name,.role{text-anchor:middle}.title{font-size:15px;font-weight:bold}.statement{font-weight:bold}.note{fill:#555}.name,.apart{fill:#124a91}.apart{font-size:11px}.role{font-size:9px}.owned .role{display:none}.framed path{stroke:#999;stroke-dasharray:4 3}.framed text{fill:#888}.changed path{stroke:#c1440e;stroke-width:2.6}.changed text{fill:#c1440e;font-weight:bold}.variable.changed text{text-decoration:underline}.leaked .box{stroke:#a3008c;stroke-width:2;stroke-dasharray:1 2;fill:#f6e3f4}.leaked text{fill:#a3008c;font-weight:bold}";
 
-fn style(alloc: Global) -> Result<Group, AllocError> {
+// The style sheet of a picture.
+fn style(alloc: Global) -> Result<Group, AllocError>
+    ensures { IfOk result (λ g. g ≡ style_group) }
+{
     let mut text = Text::new(alloc);
     text.push(STYLE)?;
     let leaf = Leaf {
@@ -25,11 +29,13 @@ fn style(alloc: Global) -> Result<Group, AllocError> {
         attributes: Attributes::new(alloc),
         text,
     };
-    group(alloc, b"style", Leaves::new(alloc).with(leaf)?)
+    group(alloc, b"style", Items::new(alloc).with(leaf)?)
 }
 
 // The head of an arrow.
-fn marker(alloc: Global) -> Result<Group, AllocError> {
+fn marker(alloc: Global) -> Result<Group, AllocError>
+    ensures { IfOk result (λ g. g ≡ marker_group) }
+{
     let attributes = Attributes::new(alloc)
         .with(alloc, Key::Id, b"arrow")?
         .with(alloc, Key::RefX, b"6")?
@@ -41,7 +47,7 @@ fn marker(alloc: Global) -> Result<Group, AllocError> {
     Ok(Group {
         tag: Tag::Marker,
         attributes,
-        leaves: Leaves::new(alloc).with(head)?,
+        leaves: Items::new(alloc).with(head)?,
     })
 }
 
@@ -56,14 +62,14 @@ fn title_group(alloc: Global, title: &[u8]) -> Result<Group, AllocError>
         b"translate(14 30)",
         title,
     )?;
-    group(alloc, b"head", Leaves::new(alloc).with(words)?)
+    group(alloc, b"head", Items::new(alloc).with(words)?)
 }
 
 // What stands before the rows.
 fn head(alloc: Global, title: &[u8]) -> Result<Panel, AllocError>
     ensures { IfOk result (IsHead title.now) }
 {
-    let mut groups = Groups::new(alloc);
+    let mut groups = Items::new(alloc);
     groups.push(style(alloc)?)?;
     groups.push(marker(alloc)?)?;
     groups.push(title_group(alloc, title)?)?;
@@ -109,14 +115,15 @@ struct Extent {
     lines: usize,
 }
 
-// Adds a panel for each row, one below the other.
+// Adds a panel for each row, one below the other, and answers their extent, with no fewer columns than
+// are given.
 fn push_rows(
     alloc: Global,
-    panels: &mut Panels,
+    panels: &mut Items<Panel>,
     rows: &[Row],
     columns: usize,
 ) -> Result<Extent, AllocError>
-    ensures { IfOk result (λ e. AddsPanels rows.now panels.old panels.new e.lines) }
+    ensures { IfOk result (λ e. AddsPanels rows.now columns panels.old panels.new e.lines e.columns) }
 {
     let mut extent = Extent { columns, lines: 0 };
     for row in rows {
@@ -134,10 +141,10 @@ fn push_rows(
 fn tree(alloc: Global, scene: &Scene) -> Result<Svg, AllocError>
     ensures { IfOk result (IsTreeOf scene.now) }
 {
-    let mut panels = Panels::new(alloc);
+    let mut panels = Items::new(alloc);
     let head = head(alloc, scene.title.bytes())?;
     panels.push(head)?;
-    let columns = text_columns(scene.title.bytes().len());
+    let columns = text_columns(&scene.title);
     let extent = push_rows(alloc, &mut panels, scene.rows.as_slice(), columns)?;
     let attributes = frame(alloc, extent.columns, extent.lines.saturating_add(1))?;
     Ok(Svg { attributes, panels })

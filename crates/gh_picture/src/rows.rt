@@ -1,6 +1,6 @@
 //! The panel of a row: its statement, its cells and its variables.
 
-ghost use Rattle.std.specs.Prelude.{◌≡◌, ◌++◌, ◌+◌, ◌/◌, ◌<◌, IfOk, OnOk, T, length};
+ghost use Rattle.std.specs.Prelude.{◌≡◌, ◌++◌, ◌<◌, IfOk, OnOk, T, length};
 ghost use Rattle.std.specs.Ordering.{nat_cmp};
 ghost use Rattle.std.specs.FinMap as map;
 ghost use Rattle.gh_assert.specs.Cells.{pairs};
@@ -10,7 +10,7 @@ ghost use Rattle.gh_picture.specs.Rows.{cells_of, IsPanelOf, IsPast};
 use crate::layout::{Spot, number_of, spots_of};
 use crate::scene::{Change, Role, Row};
 use crate::shapes::{Link, Target, caption_group, cell_group, variable_group};
-use crate::tree::{Attributes, Groups, Key, Panel};
+use crate::tree::{Attributes, Group, Items, Key, Panel};
 use gh_assert::heap::Cell;
 use gh_assert::store::Entry;
 use gh_base::text::Text;
@@ -98,7 +98,7 @@ fn change_at(changes: &[Change], number: usize) -> Change
 
 fn push_cells(
     alloc: Global,
-    groups: &mut Groups,
+    groups: &mut Items<Group>,
     roles: &[Role],
     cells: &[Cell],
     spots: &[Spot],
@@ -117,7 +117,7 @@ fn push_cells(
 
 fn push_variables(
     alloc: Global,
-    groups: &mut Groups,
+    groups: &mut Items<Group>,
     changes: &[Change],
     cells: &[Cell],
     spots: &[Spot],
@@ -136,13 +136,13 @@ fn push_variables(
 }
 
 // The groups of a row, with the cells at their spots.
-fn row_groups(alloc: Global, row: &Row, spots: &[Spot]) -> Result<Groups, AllocError>
+fn row_groups(alloc: Global, row: &Row, spots: &[Spot]) -> Result<Items<Group>, AllocError>
     requires { length spots.now ≡ length (cells_of row.now.state.heap) }
     ensures { IfOk result (λ g. g ≡ drawn.row_groups row.now spots.now) }
 {
     let cells = row.state.heap.cells();
     let entries = row.state.store.entries();
-    let mut groups = Groups::new(alloc);
+    let mut groups = Items::new(alloc);
     groups.push(caption_group(alloc, row.statement.bytes(), row.note.bytes())?)?;
     push_cells(alloc, &mut groups, row.roles.as_slice(), cells, spots)?;
     push_variables(
@@ -170,7 +170,7 @@ fn row_attributes(alloc: Global, top: usize) -> Result<Attributes, AllocError>
         .with(alloc, Key::Transform, place.bytes())
 }
 
-/// A row with the number of the line after it and of the columns that it takes.
+/// A row with the number of the line after it, and of the columns that it takes.
 #[derive(Debug, Drop)]
 pub struct Drawn {
     pub panel: Panel,
@@ -178,23 +178,32 @@ pub struct Drawn {
     pub columns: usize,
 }
 
-/// How many columns a text of so many bytes takes.
-pub fn text_columns(length: usize) -> usize
-    ensures { result ≡ length / 10 + 1 }
+/// How many columns a text takes.
+pub fn text_columns(text: &Text) -> usize
+    ensures { result ≡ drawn.text_columns text.now }
 {
-    length / 10 + 1
+    text.bytes().len() / 10 + 1
+}
+
+// How many columns cells take with their arrows.
+fn cell_columns(spots: &[Spot]) -> usize
+    ensures { result ≡ drawn.cell_columns spots.now }
+{
+    let mut columns = 2;
+    for spot in spots {
+        columns = columns.max(spot.column.saturating_add(2));
+    }
+    columns
 }
 
 // How many columns a row takes.
-fn row_columns(row: &Row, spots: &[Spot]) -> usize {
-    let cells = spots
-        .iter()
-        .map(|spot| spot.column)
-        .max()
-        .unwrap_or(0)
-        .saturating_add(2);
-    let words = text_columns(row.statement.bytes().len()).max(text_columns(row.note.bytes().len()));
-    cells.max(words).max(row.state.store.entries().len())
+fn row_columns(row: &Row, spots: &[Spot]) -> usize
+    ensures { result ≡ drawn.row_columns row.now spots.now }
+{
+    let words = text_columns(&row.statement).max(text_columns(&row.note));
+    cell_columns(spots)
+        .max(words)
+        .max(row.state.store.entries().len())
 }
 
 // The number of a line past those of a row.
@@ -210,7 +219,7 @@ fn line_below(spots: &[Spot], top: usize) -> usize
 
 /// Draws a row below so many lines.
 pub fn draw_row(alloc: Global, row: &Row, top: usize) -> Result<Drawn, AllocError>
-    ensures { IfOk result (λ d. IsPanelOf row.now top d.below d.panel) }
+    ensures { IfOk result (λ d. IsPanelOf row.now top d.below d.columns d.panel) }
 {
     let spots = spots_of(alloc, row.state.heap.cells(), row.state.store.entries())?;
     let groups = row_groups(alloc, row, spots.as_slice())?;

@@ -13,7 +13,7 @@ ghost use Rattle.gh_picture.specs.Shapes as drawn;
 
 use crate::layout::Spot;
 use crate::scene::{Change, Role};
-use crate::tree::{Attributes, Group, Key, Leaf, Leaves, Tag};
+use crate::tree::{Attributes, Group, Items, Key, Leaf, Tag};
 use gh_assert::heap::Cell;
 use gh_assert::store::Entry;
 use gh_base::text::Text;
@@ -270,7 +270,7 @@ fn class(alloc: Global, kind: &[u8], mark: &[u8]) -> Result<Text, AllocError>
 }
 
 /// An element `g` with a class.
-pub fn group(alloc: Global, class: &[u8], leaves: Leaves) -> Result<Group, AllocError>
+pub fn group(alloc: Global, class: &[u8], leaves: Items<Leaf>) -> Result<Group, AllocError>
     ensures { IfOk result (λ g. g ≡ group_of class.now leaves) }
 {
     let attributes = Attributes::new(alloc).with(alloc, Key::Class, class)?;
@@ -291,7 +291,7 @@ pub fn cell_group(
 ) -> Result<Group, AllocError>
     ensures { IfOk result (λ g. g ≡ drawn.cell_group cell role spot link) }
 {
-    let leaves = Leaves::new(alloc)
+    let leaves = Items::new(alloc)
         .with(outline(alloc, spot)?)?
         .with(place_label(alloc, spot, cell.at)?)?
         .with(role_label(alloc, spot, role)?)?
@@ -368,7 +368,7 @@ pub fn variable_group(
 ) -> Result<Group, AllocError>
     ensures { IfOk result (λ g. g ≡ drawn.variable_group entry.now change target) }
 {
-    let leaves = Leaves::new(alloc).with(variable_label(alloc, entry, target)?)?;
+    let leaves = Items::new(alloc).with(variable_label(alloc, entry, target)?)?;
     let class = class(alloc, b"variable", change.word())?;
     group(alloc, class.bytes(), leaves)
 }
@@ -377,7 +377,7 @@ pub fn variable_group(
 pub fn caption_group(alloc: Global, statement: &[u8], note: &[u8]) -> Result<Group, AllocError>
     ensures { IfOk result (λ g. g ≡ drawn.caption_group statement.now note.now) }
 {
-    let leaves = Leaves::new(alloc)
+    let leaves = Items::new(alloc)
         .with(leaf(alloc, Tag::Path, b"rule", Key::D, b"M4 2h380", b"")?)?
         .with(leaf(
             alloc,

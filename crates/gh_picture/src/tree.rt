@@ -129,6 +129,57 @@ impl Attributes {
     }
 }
 
+/// The leaves of a group, the groups of a panel, or the panels of a picture. Contracts see them as a list.
+#[derive(Debug, Drop)]
+pub struct Items<T> {
+    items: Vec<T>,
+}
+
+impl<T> Model for Items<T> {
+    ghost use Rattle.std.specs.Prelude.{List};
+    ghost use Rattle.std.specs.Coded.{coded_list};
+
+    ghost Value = { List T };
+
+    ghost coded = { coded_list T.code };
+
+    ghost view = { λ l. l.items.items };
+}
+
+impl<T: Drop> Items<T> {
+    /// None.
+    pub fn new(alloc: Global) -> Items<T>
+        ensures { result ≡ [] }
+    {
+        Items {
+            items: Vec::new(alloc),
+        }
+    }
+
+    /// Adds one after the others.
+    pub fn push(&mut self, item: T) -> Result<(), AllocError>
+        ensures { IfOk result (λ _. self.new ≡ self.old ++ item ∷ []) }
+    {
+        self.items.push(item)?;
+        Ok(())
+    }
+
+    /// One more, after the others.
+    pub fn with(mut self, item: T) -> Result<Items<T>, AllocError>
+        ensures { IfOk result (λ l. l ≡ self ++ item ∷ []) }
+    {
+        self.items.push(item)?;
+        Ok(self)
+    }
+
+    /// All.
+    pub fn as_slice(&self) -> &[T]
+        ensures { result.now ≡ self.now }
+    {
+        self.items.as_slice()
+    }
+}
+
 /// An element with a text.
 #[derive(Debug, Drop)]
 pub struct Leaf {
@@ -137,147 +188,24 @@ pub struct Leaf {
     pub text: Text,
 }
 
-/// The leaves of a group. Contracts see them as a list.
-#[derive(Debug, Drop)]
-pub struct Leaves {
-    items: Vec<Leaf>,
-}
-
-impl Model for Leaves {
-    ghost use Rattle.std.specs.Prelude.{List};
-    ghost use Rattle.gh_picture.specs.declared.tree.Leaf.{Leaf};
-
-    ghost Value = { List Leaf };
-
-    ghost view = { λ l. l.items.items };
-}
-
-impl Leaves {
-    /// No leaves.
-    pub fn new(alloc: Global) -> Leaves
-        ensures { result ≡ [] }
-    {
-        Leaves {
-            items: Vec::new(alloc),
-        }
-    }
-
-    /// One more leaf, after the others.
-    pub fn with(mut self, leaf: Leaf) -> Result<Leaves, AllocError>
-        ensures { IfOk result (λ l. l ≡ self ++ leaf ∷ []) }
-    {
-        self.items.push(leaf)?;
-        Ok(self)
-    }
-
-    /// All leaves.
-    pub fn as_slice(&self) -> &[Leaf]
-        ensures { result.now ≡ self.now }
-    {
-        self.items.as_slice()
-    }
-}
-
 /// An element with leaves.
 #[derive(Debug, Drop)]
 pub struct Group {
     pub tag: Tag,
     pub attributes: Attributes,
-    pub leaves: Leaves,
-}
-
-/// The groups of a panel. Contracts see them as a list.
-#[derive(Debug, Drop)]
-pub struct Groups {
-    items: Vec<Group>,
-}
-
-impl Model for Groups {
-    ghost use Rattle.std.specs.Prelude.{List};
-    ghost use Rattle.gh_picture.specs.declared.tree.Group.{Group};
-
-    ghost Value = { List Group };
-
-    ghost view = { λ g. g.items.items };
-}
-
-impl Groups {
-    /// No groups.
-    pub fn new(alloc: Global) -> Groups
-        ensures { result ≡ [] }
-    {
-        Groups {
-            items: Vec::new(alloc),
-        }
-    }
-
-    /// Adds a group after the others.
-    pub fn push(&mut self, group: Group) -> Result<(), AllocError>
-        ensures { IfOk result (λ _. self.new ≡ self.old ++ group ∷ []) }
-    {
-        self.items.push(group)?;
-        Ok(())
-    }
-
-    /// All groups.
-    pub fn as_slice(&self) -> &[Group]
-        ensures { result.now ≡ self.now }
-    {
-        self.items.as_slice()
-    }
+    pub leaves: Items<Leaf>,
 }
 
 /// An element `g` with groups.
 #[derive(Debug, Drop)]
 pub struct Panel {
     pub attributes: Attributes,
-    pub groups: Groups,
-}
-
-/// The panels of a picture. Contracts see them as a list.
-#[derive(Debug, Drop)]
-pub struct Panels {
-    items: Vec<Panel>,
-}
-
-impl Model for Panels {
-    ghost use Rattle.std.specs.Prelude.{List};
-    ghost use Rattle.gh_picture.specs.declared.tree.Panel.{Panel};
-
-    ghost Value = { List Panel };
-
-    ghost view = { λ p. p.items.items };
-}
-
-impl Panels {
-    /// No panels.
-    pub fn new(alloc: Global) -> Panels
-        ensures { result ≡ [] }
-    {
-        Panels {
-            items: Vec::new(alloc),
-        }
-    }
-
-    /// Adds a panel after the others.
-    pub fn push(&mut self, panel: Panel) -> Result<(), AllocError>
-        ensures { IfOk result (λ _. self.new ≡ self.old ++ panel ∷ []) }
-    {
-        self.items.push(panel)?;
-        Ok(())
-    }
-
-    /// All panels.
-    pub fn as_slice(&self) -> &[Panel]
-        ensures { result.now ≡ self.now }
-    {
-        self.items.as_slice()
-    }
+    pub groups: Items<Group>,
 }
 
 /// An element `svg` with panels.
 #[derive(Debug, Drop)]
 pub struct Svg {
     pub attributes: Attributes,
-    pub panels: Panels,
+    pub panels: Items<Panel>,
 }

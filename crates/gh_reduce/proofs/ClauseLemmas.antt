@@ -8,8 +8,8 @@ use Rattle.gh_base.specs.declared.sizes.Sizes.{Sizes}
 use Rattle.gh_base.specs.Atoms.{opposite, IsInRange, AreInRange}
 use Rattle.gh_base.specs.Grounds.{Problem}
 use Rattle.gh_grass.specs.Clauses.{defined, conjunction_clauses, disjunction_clauses, equivalence_clauses}
-use Rattle.gh_reduce.specs.Growth.{sized, grown}
-use Rattle.gh_reduce.proofs.GrowthLemmas.{in_range_more, all_in_range_more, with_clauses, defined_twice}
+use Rattle.gh_reduce.specs.Growth.{with_clauses, sized, grown}
+use Rattle.gh_reduce.proofs.GrowthLemmas.{in_range_more, all_in_range_more, defined_twice}
 
 pub none_in_range : (s : Sizes) → AreInRange s []
 none_in_range s = λ k x l. absurd (omega (arith, l))

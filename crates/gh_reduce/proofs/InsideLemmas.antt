@@ -8,16 +8,17 @@ use Rattle.gh_base.specs.declared.atom.Term.{Term}
 use Rattle.gh_base.specs.declared.term.TermKind.{TermKind}
 use Rattle.gh_base.specs.declared.term.TermKind.TheVariants.{Null, Value, Next}
 use Rattle.gh_base.specs.declared.sizes.Sizes.{Sizes}
+use Rattle.gh_base.specs.Atoms.{term, terms_below}
 use Rattle.gh_ast.specs.Plain.{formula_of}
 use Rattle.gh_path.specs.Terms.{Kind, next, same_kind}
 use Rattle.gh_grass.specs.declared.binding.Bond.{Bond}
-use Rattle.gh_grass.specs.Bindings.{term, term_in, bound_term, is_next, next_term}
+use Rattle.gh_grass.specs.Bindings.{term_in, bound_term, is_next, next_term}
 use Rattle.gh_grass.specs.Claims.{claims_of}
-use Rattle.gh_grass.specs.Footprints.{Variables, structure, footprint, terms_below}
+use Rattle.gh_grass.specs.Footprints.{Variables, structure, footprint}
 use Rattle.gh_symb.specs.Symbolic.{Under}
 use Rattle.gh_symb.specs.Formulas.{variables, successor, within, meets, meets_whole, covers}
 use Rattle.gh_symb.specs.Encodings.{plain_kind}
-use Rattle.gh_symb.specs.declared.over_terms.Bound.{Bound}
+use Rattle.gh_symb.specs.declared.over_terms.BoundAssertion.{BoundAssertion}
 use Rattle.gh_reduce.specs.Growth.{IsWithin, AreWithin}
 use Rattle.gh_symb.specs.Inside.{binding_of, under_of, IsUnderInside}
 use Rattle.gh_symb.proofs.EncodedLemmas.{same_function}
@@ -45,10 +46,10 @@ position_same i x ks = rw (place_same i x ks, length-map ks plain_kind) refl
 pub successor_is : (ks : List TermKind) (i : ℕ) → successor (map plain_kind ks) i ≡ next_term ks i
 successor_is ks i = same_function (successor (map plain_kind ks) i) (next_term ks i) (λ x. ap (λ (o : Option ℕ). term (unwrap_or o 0)) (position_same i x ks))
 
-pub within_is : (b : Bound) (z : Term) → footprint (bound_term b.binding) b.version z (formula_of b.assertion.now) ≡ within (under_of b) z
+pub within_is : (b : BoundAssertion) (z : Term) → footprint (bound_term b.binding) b.version z (formula_of b.assertion.now) ≡ within (under_of b) z
 within_is b z = ap (λ (v : Variables). footprint v b.version z (formula_of b.assertion.now)) (sym (variables_are b.binding))
 
-pub meets_is : (ks : List TermKind) (b : Bound) →
+pub meets_is : (ks : List TermKind) (b : BoundAssertion) →
     structure (bound_term b.binding) (next_term ks b.version) b.version (length ks) (formula_of b.assertion.now) ≡ meets (map plain_kind ks) (under_of b)
 meets_is ks b =
     ap (λ (v : Variables). structure v (next_term ks b.version) b.version (length ks) (formula_of b.assertion.now)) (sym (variables_are b.binding))

@@ -4,26 +4,26 @@ use Rattle.std.specs.List.{flat_map, range_with_len}
 use Rattle.std.proofs.Common.{arith}
 use Rattle.gh_base.specs.declared.atom.Term.{Term}
 use Rattle.gh_base.specs.declared.sizes.Sizes.{Sizes}
+use Rattle.gh_base.specs.Atoms.{term, terms_below}
 use Rattle.gh_ast.specs.declared.Operand.{Operand}
 use Rattle.gh_ast.specs.declared.Operand.TheVariants.{Null, Var}
 use Rattle.gh_ast.specs.declared.Expr.{Expr}
 use Rattle.gh_ast.specs.declared.Expr.TheVariants.{Plain, Read}
 use Rattle.gh_ast.specs.Plain.{Test, compare, negation, conjunction, disjunction, Tests, no_tests, test_first, Formula, empty, comparison, points_to, cell, segment, star, cases, Formulas, no_formulas, formula_first}
 use Rattle.gh_ast.specs.Programs.{Name}
-use Rattle.gh_grass.specs.Bindings.{term}
-use Rattle.gh_grass.specs.Claims.{Claim, claims_of, equality}
-use Rattle.gh_grass.specs.Footprints.{Variables, operand_term, plain_term, compared, tested, all_tested, footprint, footprints, members, terms_below, apart, all_apart, structure, structures}
+use Rattle.gh_grass.specs.Claims.{GroundClaim, claims_of, equality}
+use Rattle.gh_grass.specs.Footprints.{Variables, operand_term, plain_term, compared, tested, all_tested, footprint, footprints, members, apart, all_apart, structure, structures}
 use Rattle.gh_reduce.specs.Growth.{IsWithin, AreWithin}
 
-pub joined_within : (s : Sizes) (fs gs : List Claim) → AreWithin s (claims_of fs) → AreWithin s (claims_of gs) → AreWithin s (claims_of (fs ++ gs))
+pub joined_within : (s : Sizes) (fs gs : List GroundClaim) → AreWithin s (claims_of fs) → AreWithin s (claims_of gs) → AreWithin s (claims_of (fs ++ gs))
 joined_within s [] gs h k = k
 joined_within s (f ∷ fs) gs h k = (h.0, joined_within s fs gs h.1 k)
 
-range_within : (s : Sizes) (f : Term → Claim) → ((z : Term) → z.0 < s.terms → IsWithin s (f z)) → (a n : ℕ) → a + n ≤ s.terms → AreWithin s (claims_of (map f (map term (range_with_len a n))))
+range_within : (s : Sizes) (f : Term → GroundClaim) → ((z : Term) → z.0 < s.terms → IsWithin s (f z)) → (a n : ℕ) → a + n ≤ s.terms → AreWithin s (claims_of (map f (map term (range_with_len a n))))
 range_within s f h a zero l = tt
 range_within s f h a (suc n) l = (h (term a) (omega arith), range_within s f h (a + 1) n (omega arith))
 
-pub below_within : (s : Sizes) (f : Term → Claim) → ((z : Term) → z.0 < s.terms → IsWithin s (f z)) → AreWithin s (claims_of (map f (terms_below s.terms)))
+pub below_within : (s : Sizes) (f : Term → GroundClaim) → ((z : Term) → z.0 < s.terms → IsWithin s (f z)) → AreWithin s (claims_of (map f (terms_below s.terms)))
 below_within s f h = range_within s f h 0 s.terms (omega arith)
 
 pub equality_within : (s : Sizes) (a b : Term) → a.0 < s.terms → b.0 < s.terms → IsWithin s (equality a b)

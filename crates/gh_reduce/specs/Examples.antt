@@ -3,9 +3,9 @@ use Rattle.std.specs.Prelude.{◌≡◌, ℕ, List, ◌++◌, ◌+◌, [], ◌�
 use Rattle.gh_base.specs.declared.atom.Atom.TheVariants.{Hop, Alloc, Def}
 use Rattle.gh_base.specs.declared.atom.Lit.{Lit}
 use Rattle.gh_base.specs.Grounds.{Problem}
+use Rattle.gh_base.specs.Atoms.{term}
 use Rattle.gh_ast.specs.Plain.{empty, Program}
 use Rattle.gh_path.specs.Examples.{at}
-use Rattle.gh_grass.specs.Bindings.{term}
 use Rattle.gh_symb.specs.Symbolic.{symbolic_of}
 use Rattle.gh_symb.specs.Formulas.{problem}
 use Rattle.gh_symb.specs.Examples.{nop, smallest, all_told}

@@ -4,7 +4,7 @@ use Rattle.gh_base.specs.declared.atom.Lit.{Lit}
 use Rattle.gh_base.specs.declared.sizes.Sizes.{Sizes}
 use Rattle.gh_base.specs.Atoms.{IsInRange}
 use Rattle.gh_base.specs.Grounds.{Problem}
-use Rattle.gh_grass.specs.Claims.{Claim, atom, negation_of, conjunction_of, disjunction_of, equivalence_of, Claims}
+use Rattle.gh_grass.specs.Claims.{GroundClaim, atom, negation_of, conjunction_of, disjunction_of, equivalence_of, GroundClaims}
 use Rattle.gh_grass.specs.Claims.{no_claims, claim_first}
 use Rattle.gh_grass.specs.Clauses.{made, all_made, next_after, clauses_from}
 
@@ -29,15 +29,15 @@ abbrev pub with_defined : Problem → (ℕ → List (List Lit)) → Problem
 with_defined p f = grown p (p.sizes.defs + 1) (f p.sizes.defs)
 
 -- after the definitions of a formula
-abbrev pub defined_in : Problem → Claim → Problem
+abbrev pub defined_in : Problem → GroundClaim → Problem
 defined_in p f = let r = made f p.sizes.defs in grown p r.next r.clauses
 
 -- after those of some formulas
-abbrev pub all_defined_in : Problem → Claims → Problem
+abbrev pub all_defined_in : Problem → GroundClaims → Problem
 all_defined_in p fs = let s = all_made fs p.sizes.defs in grown p s.next s.clauses
 
 -- after some formulas were stated
-abbrev pub stated_in : Problem → List Claim → Problem
+abbrev pub stated_in : Problem → List GroundClaim → Problem
 stated_in p fs = grown p (next_after fs p.sizes.defs) (clauses_from fs p.sizes.defs)
 
 -- there are no more definitions and clauses than are counted: the numbers of both are of 32 bits
@@ -46,13 +46,13 @@ IsCountable p = (p.sizes.defs ≤ 4294967295) × (length p.clauses ≤ 429496729
 
 -- each atom of the formula is in range
 abbrev mutual
-  pub IsWithin : Sizes → Claim → Type 0
+  pub IsWithin : Sizes → GroundClaim → Type 0
   IsWithin s (atom a) = IsInRange s a
   IsWithin s (negation_of f) = IsWithin s f
   IsWithin s (conjunction_of fs) = AreWithin s fs
   IsWithin s (disjunction_of fs) = AreWithin s fs
   IsWithin s (equivalence_of f g) = IsWithin s f × IsWithin s g
 
-  pub AreWithin : Sizes → Claims → Type 0
+  pub AreWithin : Sizes → GroundClaims → Type 0
   AreWithin s no_claims = Unit {0}
   AreWithin s (claim_first f fs) = IsWithin s f × AreWithin s fs

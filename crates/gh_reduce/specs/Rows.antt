@@ -5,7 +5,7 @@ use Rattle.gh_base.specs.declared.sizes.Sizes.{Sizes}
 use Rattle.gh_base.specs.declared.term.TermKind.{TermKind}
 use Rattle.gh_base.specs.Grounds.{Problem}
 use Rattle.gh_grass.specs.declared.formula.Formula.{Formula}
-use Rattle.gh_grass.specs.Claims.{Claim, claims_list, negation_of, equivalence_of, all_of, one_of, equality}
+use Rattle.gh_grass.specs.Claims.{GroundClaim, claims_list, negation_of, equivalence_of, all_of, one_of, equality}
 use Rattle.gh_path.specs.Terms.{Kind}
 use Rattle.gh_symb.specs.Encodings.{plain_kind}
 use Rattle.gh_symb.specs.Formulas.{allocated, hops, within, leads, kept, each, each_pair}
@@ -20,11 +20,11 @@ abbrev pub kinds_of : List TermKind → List Kind
 kinds_of terms = map plain_kind terms
 
 -- the cell at z leads to v in the new version exactly where it does in the old one
-abbrev pub same_hops : ℕ → ℕ → Term → Term → Claim
+abbrev pub same_hops : ℕ → ℕ → Term → Term → GroundClaim
 same_hops new old z v = equivalence_of (hops new z v) (hops old z v)
 
 -- what a statement of each term says of the term z
-abbrev pub of_term : EachTerm → Term → Claim
+abbrev pub of_term : EachTerm → Term → GroundClaim
 of_term (Leads i n) z = leads n i z
 of_term (Same old new) z = equivalence_of (allocated new z) (allocated old z)
 of_term (Made old new l) z = equivalence_of (allocated new z) (one_of (allocated old z ∷ equality z l ∷ []))
@@ -33,20 +33,20 @@ of_term (Apart old u q) z = negation_of (all_of (kept old (under_of u.now) z ∷
 of_term (Replaced old new u q) z = equivalence_of (allocated new z) (one_of (kept old (under_of u.now) z ∷ within (under_of q.now) z ∷ []))
 
 -- what a statement of each two terms says of the terms z and v
-abbrev pub of_pair : EachPair → Term → Term → Claim
+abbrev pub of_pair : EachPair → Term → Term → GroundClaim
 of_pair (Others old new x) z v = one_of (equality z x ∷ same_hops new old z v ∷ [])
 of_pair (Kept old new u) z v = one_of (negation_of (kept old (under_of u.now) z) ∷ same_hops new old z v ∷ [])
 
 -- formulas, and then one of each of n terms
-abbrev pub with_each : List Formula → ℕ → (Term → Claim) → List Claim
+abbrev pub with_each : List Formula → ℕ → (Term → GroundClaim) → List GroundClaim
 with_each members n f = claims_list members ++ each n f
 
 -- f is said of each term of a problem
-abbrev pub said_of_each : Problem → (Term → Claim) → List Claim
+abbrev pub said_of_each : Problem → (Term → GroundClaim) → List GroundClaim
 said_of_each p f = each p.sizes.terms f
 
 -- f is said of each two terms of a problem
-abbrev pub said_of_pairs : Problem → (Term → Term → Claim) → List Claim
+abbrev pub said_of_pairs : Problem → (Term → Term → GroundClaim) → List GroundClaim
 said_of_pairs p f = each_pair p.sizes.terms f
 
 -- the terms and versions of a statement are there

@@ -26,7 +26,7 @@ use gh_base::term::TermKind;
 use gh_grass::formula::Formula;
 use gh_grass::terms::TermList;
 use gh_grass::tested::comparison;
-use gh_symb::over_terms::{Bound, Symbolic, TermCheck, TermStep};
+use gh_symb::over_terms::{BoundAssertion, Symbolic, TermCheck, TermStep};
 use std::alloc::{AllocError, Global};
 
 // The term `t` is the successor of `x` in a version.
@@ -281,7 +281,7 @@ fn add_failing(alloc: Global, ground: &mut Ground, formula: Formula) -> Result<(
 fn add_not_whole(
     alloc: Global,
     ground: &mut Ground,
-    bounds: &[Bound],
+    bounds: &[BoundAssertion],
     terms: &TermList,
 ) -> Result<(), AllocError>
     requires ready { IsReady ground.old.sizes.terms (kinds_of terms.now) }

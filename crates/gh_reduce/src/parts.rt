@@ -13,15 +13,15 @@ use crate::statements::{meets, never};
 use gh_base::ground::Ground;
 use gh_grass::formula::Formula;
 use gh_grass::terms::TermList;
-use gh_symb::over_terms::Bound;
+use gh_symb::over_terms::BoundAssertion;
 use std::alloc::{AllocError, Global};
 
 // One alternative stands in the place of the part.
 fn placed<'s, 'a>(
     alloc: Global,
     old: u8,
-    before: &'s Bound<'a>,
-    after: &'s Bound<'a>,
+    before: &'s BoundAssertion<'a>,
+    after: &'s BoundAssertion<'a>,
     terms: &TermList,
 ) -> Result<Vec<Formula>, AllocError>
     requires { old < 255 }
@@ -46,8 +46,8 @@ fn placed<'s, 'a>(
 fn one_placed<'s, 'a>(
     alloc: Global,
     old: u8,
-    before: &'s Bound<'a>,
-    after: &'s [Bound<'a>],
+    before: &'s BoundAssertion<'a>,
+    after: &'s [BoundAssertion<'a>],
     terms: &TermList,
 ) -> Result<Formula, AllocError>
     requires { old < 255 }
@@ -65,8 +65,8 @@ fn one_placed<'s, 'a>(
 #[derive(Clone, Copy, Debug)]
 pub struct Change<'s, 'a> {
     pub old: u8,
-    pub before: &'s Bound<'a>,
-    pub after: &'s [Bound<'a>],
+    pub before: &'s BoundAssertion<'a>,
+    pub after: &'s [BoundAssertion<'a>],
 }
 
 // What comes in the place of the part.

@@ -11,7 +11,7 @@ use crate::statements::{allocated, kept, leads, same_hops, within};
 use gh_base::atom::Term;
 use gh_base::ground::Ground;
 use gh_grass::formula::Formula;
-use gh_symb::over_terms::Bound;
+use gh_symb::over_terms::BoundAssertion;
 use std::alloc::{AllocError, Global};
 
 /// A statement of each term, in an old and a new version: what is allocated leads to a term; what was
@@ -39,14 +39,14 @@ pub enum EachTerm<'s, 'a> {
     },
     Apart {
         old: u8,
-        before: &'s Bound<'a>,
-        after: &'s Bound<'a>,
+        before: &'s BoundAssertion<'a>,
+        after: &'s BoundAssertion<'a>,
     },
     Replaced {
         old: u8,
         new: u8,
-        before: &'s Bound<'a>,
-        after: &'s Bound<'a>,
+        before: &'s BoundAssertion<'a>,
+        after: &'s BoundAssertion<'a>,
     },
 }
 
@@ -61,7 +61,7 @@ pub enum EachPair<'s, 'a> {
     Kept {
         old: u8,
         new: u8,
-        before: &'s Bound<'a>,
+        before: &'s BoundAssertion<'a>,
     },
 }
 

@@ -11,7 +11,7 @@ use gh_base::atom::{Atom, Term};
 use gh_grass::footprint::{footprint_at, structure_of};
 use gh_grass::formula::Formula;
 use gh_grass::terms::TermList;
-use gh_symb::over_terms::Bound;
+use gh_symb::over_terms::BoundAssertion;
 use std::alloc::{AllocError, Global};
 
 /// A formula that is false.
@@ -74,21 +74,26 @@ pub fn same_hops(alloc: Global, new: u8, old: u8, z: Term, v: Term) -> Result<Fo
 }
 
 /// A term is in the footprint of an assertion.
-pub fn within(alloc: Global, bound: &Bound, z: Term) -> Result<Formula, AllocError>
+pub fn within(alloc: Global, bound: &BoundAssertion, z: Term) -> Result<Formula, AllocError>
     ensures { IfOk result (λ f. claim_of f ≡ formulas.within (under_of bound.now) z) }
 {
     Ok(footprint_at(alloc, bound.assertion, &bound.binding, bound.version, z)?)
 }
 
 /// Some part of the heap meets an assertion.
-pub fn meets(alloc: Global, bound: &Bound, terms: &TermList) -> Result<Formula, AllocError>
+pub fn meets(alloc: Global, bound: &BoundAssertion, terms: &TermList) -> Result<Formula, AllocError>
     ensures { IfOk result (λ f. claim_of f ≡ formulas.meets (kinds_of terms.now) (under_of bound.now)) }
 {
     Ok(structure_of(alloc, bound.assertion, &bound.binding, bound.version, terms)?)
 }
 
 /// A term is allocated, and isn't in the footprint of an assertion.
-pub fn kept(alloc: Global, version: u8, bound: &Bound, z: Term) -> Result<Formula, AllocError>
+pub fn kept(
+    alloc: Global,
+    version: u8,
+    bound: &BoundAssertion,
+    z: Term,
+) -> Result<Formula, AllocError>
     ensures { IfOk result (λ f. claim_of f ≡ formulas.kept version (under_of bound.now) z) }
 {
     let outside = within(alloc, bound, z)?.negated(alloc)?;
@@ -108,7 +113,7 @@ pub fn leads(alloc: Global, terms: u8, version: u8, x: Term) -> Result<Formula, 
 }
 
 // A term is allocated exactly where it is in the footprint of an assertion.
-fn covers(alloc: Global, bound: &Bound, z: Term) -> Result<Formula, AllocError>
+fn covers(alloc: Global, bound: &BoundAssertion, z: Term) -> Result<Formula, AllocError>
     ensures { IfOk result (λ f. claim_of f ≡ formulas.covers (under_of bound.now) z) }
 {
     let inside = within(alloc, bound, z)?;
@@ -116,7 +121,11 @@ fn covers(alloc: Global, bound: &Bound, z: Term) -> Result<Formula, AllocError>
 }
 
 /// The whole heap meets an assertion.
-pub fn meets_whole(alloc: Global, bound: &Bound, terms: &TermList) -> Result<Formula, AllocError>
+pub fn meets_whole(
+    alloc: Global,
+    bound: &BoundAssertion,
+    terms: &TermList,
+) -> Result<Formula, AllocError>
     ensures { IfOk result (λ f. claim_of f ≡ formulas.meets_whole (kinds_of terms.now) (under_of bound.now)) }
 {
     let mut members = Vec::new(alloc);
@@ -128,7 +137,11 @@ pub fn meets_whole(alloc: Global, bound: &Bound, terms: &TermList) -> Result<For
 }
 
 /// The whole heap meets one of some assertions.
-pub fn meets_one(alloc: Global, bounds: &[Bound], terms: &TermList) -> Result<Formula, AllocError>
+pub fn meets_one(
+    alloc: Global,
+    bounds: &[BoundAssertion],
+    terms: &TermList,
+) -> Result<Formula, AllocError>
     ensures { IfOk result (λ f. claim_of f ≡ one_is_met (kinds_of terms.now) bounds.now) }
 {
     let mut members = Vec::new(alloc);

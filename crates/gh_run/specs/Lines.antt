@@ -1,10 +1,11 @@
 -- What the lines of a state file show, with what is left of the text after them.
-use Rattle.std.specs.Prelude.{◌≡◌, ℕ, List, [], ◌++◌, codes, Option, Some, MatchOption, slice_get}
+use Rattle.std.specs.Prelude.{◌≡◌, ℕ, List, [], ◌++◌, codes, Option, MatchOption}
 use denote.Ref.{Bor}
 use Rattle.gh_ast.specs.Plain.{Procedure, Program}
 use Rattle.gh_ast.specs.Programs.{Name, name_of}
 use Rattle.gh_assert.specs.Heaps.{Heap}
 use Rattle.gh_assert.specs.declared.store.Entry.{Entry}
+use Rattle.gh_path.specs.Graphs.{IsProcedureAt}
 use Rattle.gh_draw.specs.Drawings.{line}
 use Rattle.gh_draw.specs.Reading.{After, HasNoEnd, ShowsEntries, ShowsHeap}
 use Rattle.gh_run.specs.StateFiles.{IsOneLine}
@@ -21,7 +22,7 @@ IsLineTaken text left o = MatchOption o (HasNoEnd text) (λ l. IsFirstLine text 
 -- the procedure of the number has the name
 pub record IsNumberOf (P : Program) (name : Name) (n : ℕ) : Type 0 where
   pub procedure : Procedure
-  pub numbered : slice_get P.procedures n ≡ Some procedure
+  pub numbered : IsProcedureAt P n procedure
   pub named : name_of procedure ≡ name
 
 -- no procedure has the name

@@ -1,10 +1,11 @@
 -- State files: a procedure, the values of its variables, and cells.
-use Rattle.std.specs.Prelude.{◌≡◌, ℕ, ◌<◌, ◌≤◌, List, [], ◌∷◌, ◌++◌, codes, take, Some, All, Contains, slice_get}
+use Rattle.std.specs.Prelude.{◌≡◌, ℕ, ◌<◌, ◌≤◌, List, [], ◌∷◌, ◌++◌, codes, take, All, Contains}
 use Rattle.std.specs.List.{flat_map}
 use Rattle.std.specs.FinMap.{entries}
 use Rattle.gh_ast.specs.Plain.{Procedure, Program}
 use Rattle.gh_ast.specs.Programs.{name_of, variable_names}
 use Rattle.gh_assert.specs.Stores.{listed_names}
+use Rattle.gh_path.specs.Graphs.{IsProcedureAt}
 use Rattle.gh_draw.specs.Drawings.{line, heap_line}
 use Rattle.gh_draw.specs.Drawn.{entries_line, IsValue, IsDrawnCell}
 use Rattle.gh_run.specs.declared.state_file.Begin.{Begin}
@@ -13,7 +14,7 @@ use Rattle.gh_run.specs.declared.state_file.StateError.TheVariants.{Line, OutOfM
 
 -- the procedure of the number, with a value for each of its variables in their order
 pub record BeginsIn (P : Program) (b : Begin) (p : Procedure) : Type 0 where
-  pub numbered : slice_get P.procedures b.procedure ≡ Some p
+  pub numbered : IsProcedureAt P b.procedure p
   pub lists : listed_names b.store ≡ variable_names p
 
 abbrev pub FitsProgram : Program → Begin → Type 0

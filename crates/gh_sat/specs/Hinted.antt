@@ -42,10 +42,11 @@ abbrev pub FindsIn : Hinted → ℕ → Option ℕ → Type 0
 FindsIn h block None = (place : ℕ) → LeadsTo h block place → ⊥
 FindsIn h block (Some place) = LeadsTo h block place
 
--- a place that a block leads to is found, and none exactly where no block leads to one
+-- a place is found to which the first block leads that leads to one, and none exactly where no block does
 abbrev pub Finds : Hinted → Option ℕ → Type 0
 Finds h None = (block place : ℕ) → LeadsTo h block place → ⊥
-Finds h (Some place) = (block : ℕ) × LeadsTo h block place
+Finds h (Some place) =
+    (block : ℕ) × LeadsTo h block place × ((other next : ℕ) → other < block → LeadsTo h other next → ⊥)
 
 -- nothing is hinted at
 abbrev pub HintsNothing : Hinted → Type 0

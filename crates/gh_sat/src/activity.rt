@@ -16,9 +16,9 @@ const GREATEST_STEP: u64 = 288230376151711744;
 
 const SMALLER_BY: u32 = 16;
 
-// An atom that stood in a conflict.
+// An atom that stood in a conflict, with its score.
 #[derive(Clone, Copy)]
-struct Entry {
+struct ScoredAtom {
     // The atom's place in the order of decisions.
     place: u32,
     score: u64,
@@ -32,7 +32,7 @@ struct Entry {
 pub(crate) struct Activity {
     // The number of each atom's entry and one more, or 0 where it has none.
     numbers: Vec<u32>,
-    entries: Vec<Entry>,
+    entries: Vec<ScoredAtom>,
     // The numbers of the entries in the heap, of which so many wait there, and then room for all others.
     heap: Vec<u32>,
     waiting: usize,
@@ -105,7 +105,7 @@ impl Activity {
         }
     }
 
-    /// Takes the atom that goes before all others out of the heap, once there were some conflicts.
+    /// Takes an atom out of the heap, the one at its top, once there were some conflicts. No clause says which it is.
     pub fn take(&mut self) -> Option<u32>
         ensures less { IfSome result (λ place. self.new.waiting < self.old.waiting) }
     {
@@ -144,7 +144,7 @@ impl Activity {
             return Ok(u32::MAX);
         }
         self.heap.push(0)?;
-        self.entries.push(Entry {
+        self.entries.push(ScoredAtom {
             place,
             score: 0,
             spot: None,

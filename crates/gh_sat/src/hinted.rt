@@ -64,7 +64,7 @@ impl Hinted {
         set_bit(self.blocks.as_mut_slice(), place / 4096);
     }
 
-    // Takes the first place of a block out, if there is one.
+    // Takes a place out to which a block leads, if there is one.
     fn take_in(&mut self, block: usize) -> Option<usize>
         ensures was { IfSome result (HasBit self.old.places.items) }
         ensures taken { IfSome result (Clears self.old.places.items self.new.places.items) }
@@ -82,7 +82,7 @@ impl Hinted {
         Some(place)
     }
 
-    /// Takes the first place out, if there is one.
+    /// Takes the place out to which the first block leads that leads to one, if there is one.
     pub fn take(&mut self) -> Option<usize>
         ensures was { IfSome result (HasBit self.old.places.items) }
         ensures taken { IfSome result (Clears self.old.places.items self.new.places.items) }

@@ -1,7 +1,7 @@
 //! A search over clauses alone.
 
 ghost use Rattle.std.specs.Prelude.{◌≡◌, ◌⊎◌, ℕ, ◌+◌, ◌*◌, ◌-◌, ◌<◌, ◌≤◌, [], length, take, IfOk, OnOk, OnErr, IfSome};
-ghost use Rattle.std.specs.Prelude.{IfNone, Some, None, slice_get, vec_capacity, option_copied};
+ghost use Rattle.std.specs.Prelude.{IfNone, Some, None, false, slice_get, vec_capacity, option_copied};
 ghost use Rattle.gh_base.specs.declared.atom.Lit.{Lit};
 ghost use Rattle.gh_base.specs.Atoms.{IsInRange, AreInRange, count_of};
 ghost use Rattle.gh_sat.specs.declared.trail.Step.{Step};
@@ -187,7 +187,6 @@ fn hint_rows(trail: &mut Trail, rows: &[Row], from: usize)
 }
 
 impl Learner {
-    ghost use Rattle.gh_base.specs.Grounds.{Problem};
     ghost use Rattle.gh_sat.specs.Trail.{SearchState, IsFree, IsAssignmentOf, IsSound, cut, open_level};
     ghost use Rattle.gh_sat.specs.Status.{IsSettled, AreAssigned, OccursIn};
     ghost use Rattle.gh_sat.specs.Watch.{WasOpen};
@@ -396,9 +395,9 @@ impl Learner {
         self.counts.push_reserved(count);
     }
 
-    /// An atom with no truth, if there is one: after some conflicts the one that stood in most and latest of them, else
-    /// the first in the order of decisions. There equalities come first, then the atoms with a version from the
-    /// greatest number down, then definitions.
+    /// An atom with no truth, if there is one. No clause says which: it is chosen by the conflicts, and else by the
+    /// order of decisions, where equalities come first, then the atoms with a version from the greatest number down,
+    /// then definitions.
     pub fn next_free(&mut self) -> Option<Atom>
         ensures same { self.new ≡ self.old }
         ensures some { IfSome result (λ a. IsInRange self.old.sizes a × IsFree self.old.trail a) }
@@ -408,8 +407,8 @@ impl Learner {
         self.trail.next_free()
     }
 
-    /// An atom of a clause with no truth, if there is one: after some conflicts the one that stood in most and latest
-    /// of them, else mostly the first in the order of decisions.
+    /// An atom of a clause with no truth, if there is one. No clause says which: it is chosen by the conflicts, and
+    /// else mostly by the order of decisions.
     pub fn next_needed(&mut self) -> Option<Atom>
         ensures same { self.new ≡ self.old }
         ensures some { IfSome result (λ a. IsInRange self.old.sizes a × IsFree self.old.trail a) }
@@ -428,11 +427,12 @@ impl Learner {
         first_free(&self.trail, self.clauses.as_slice(), self.rows.as_slice())
     }
 
-    /// Opens a level with the atom of `next_free`, made false, if there is one.
+    /// Opens a level with an atom that has no truth, made false, if there is one.
     pub fn decide(&mut self) -> Option<Lit>
         requires { IsSettled self.old }
         ensures none { IfNone result ((self.new ≡ self.old) × AllHaveTruth self.old.sizes self.old.trail) }
         ensures some { IfSome result (λ lit. OpensLevel self.old lit self.new) }
+        ensures negated { IfSome result (λ lit. lit.positive ≡ false) }
         ensures sound { IsSound self.new }
     {
         let atom = self.next_free()?;
@@ -492,7 +492,7 @@ impl Learner {
     }
 
     /// Where a clause is false at level 0, numbers of clauses that, taken as hints in this order, show the empty
-    /// clause: the reasons of all that is reached from the false clause, and its own.
+    /// clause.
     pub fn refutation(&mut self, alloc: Global, conflict: u32) -> Result<Vec<u32>, AllocError>
         requires conflict { IsConflict self.old conflict }
         requires level { self.old.starts ≡ [] }

@@ -14,7 +14,7 @@ use gh_base::atom::{Atom, Lit};
 use gh_base::clause::Clause;
 use gh_base::sizes::Sizes;
 
-// The first atom of a clause that has no truth.
+// An atom of a clause that has no truth, if there is one.
 fn free_in(trail: &Trail, clause: &[Lit], row: &[Numbered]) -> Option<Atom>
     requires range { AreInRange trail.now.sizes clause.now }
     requires row { row.now ≡ row_of trail.now.sizes clause.now }
@@ -30,7 +30,7 @@ fn free_in(trail: &Trail, clause: &[Lit], row: &[Numbered]) -> Option<Atom>
     None
 }
 
-/// The first atom of some clauses that has no truth.
+/// An atom of some clauses that has no truth, if there is one.
 pub(crate) fn first_free(trail: &Trail, clauses: &[Clause], rows: &[Row]) -> Option<Atom>
     requires range { All (AreInRange trail.now.sizes) clauses.now }
     requires rows { rows.now ≡ rows_of trail.now.sizes clauses.now }

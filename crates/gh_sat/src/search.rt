@@ -135,8 +135,9 @@ impl<T: Theory> Search<T> {
     }
 
     /// Adds what follows by units to the trail, up to a clause that is false; where there is none, asks the theory,
-    /// whose conflict is added as [`Search::add`] does. Answers the number of the false clause. An error leaves the
-    /// search as it was.
+    /// whose conflict is added last, with no cut. Answers the number of the false clause. An error leaves the
+    /// search as it was. There are at most `MOST_CLAUSES`: where there are as many, none is added, as where memory runs
+    /// out.
     pub fn propagate(&mut self, alloc: Global) -> Result<Option<u32>, AllocError>
         ensures moves { IfOk result (λ o. PropagatesBeside (T.valid self.old.sizes) self.old self.new o) }
         ensures last { OnOk result (GivesLast self.old self.new.trail) }
@@ -181,8 +182,7 @@ impl<T: Theory> Search<T> {
         lit
     }
 
-    /// Opens a level with the atom of the learner's `next_free`, if there is one. The theory says which truth is tried
-    /// first.
+    /// Opens a level with an atom that has no truth, if there is one. The theory says which truth is tried first.
     pub fn decide(&mut self) -> Option<Lit>
         requires settled { IsSettled self.old }
         requires consistent { IsConsistentWith T.valid self.old }
@@ -206,7 +206,8 @@ impl<T: Theory> Search<T> {
         Some(self.open(atom))
     }
 
-    /// Adds the clause of the first unique implication point of a false clause, as [`Search::add`] does.
+    /// Adds the clause of the first unique implication point of a false clause last, with no cut. There are at
+    /// most `MOST_CLAUSES`: where there are as many, none is added, as where memory runs out.
     pub fn learn(&mut self, alloc: Global, k: u32) -> Result<Learnt, AllocError>
         requires conflict { IsConflict self.old k }
         requires level { 0 < length self.old.starts }

@@ -42,8 +42,8 @@ fn is_false(trail: &Trail, lit: Numbered) -> bool
     }
 }
 
-/// The status of a clause. Where two of its literals aren't false, the first two such ones are its hint from now on,
-/// else the hint stays.
+/// The status of a clause. The hint of an open one has two literals of it that aren't false, or stays where one is
+/// true.
 pub fn status_of(trail: &Trail, clause: &[Lit], row: &[Numbered], hint: Hint) -> Status
     requires range { AreInRange trail.now.sizes clause.now }
     requires row { row.now ≡ row_of trail.now.sizes clause.now }
@@ -73,8 +73,8 @@ pub fn status_of(trail: &Trail, clause: &[Lit], row: &[Numbered], hint: Hint) ->
     }
 }
 
-/// Whether a clause needs no look when a literal has become false: one of the two literals of its hint is true, or the
-/// one that is false now is neither of them.
+/// Whether it is sure that a clause needs no look when a literal has become false: one of the two literals of its hint
+/// is true, or the one that is false now is neither of them.
 pub fn needs_no_look(trail: &Trail, hint: Hint, gone: Numbered) -> bool
     ensures { IsTrue result → StaysGuarded trail.now hint gone }
 {

@@ -85,7 +85,7 @@ fn free_from(values: &Assignment, from: u32) -> u32
     place
 }
 
-// The first place, by activity, whose atom has no truth, if one is in the heap; those before it leave the heap.
+// A place whose atom has no truth, if one is in the heap by which atoms are taken after conflicts.
 fn free_of(values: &Assignment, activity: &mut Activity) -> Option<u32>
     ensures range { IfSome result (λ place. place < count_of values.now.sizes) }
     ensures free { IfSome result (λ place. IsFreeAt values.now place) }
@@ -101,7 +101,7 @@ fn free_of(values: &Assignment, activity: &mut Activity) -> Option<u32>
     None
 }
 
-// The first place at which a hint points and whose atom has no truth, if there is one.
+// A place whose atom has no truth, if hints lead to one.
 fn hinted_of(values: &Assignment, hinted: &mut Hinted) -> Option<usize>
     ensures range { IfSome result (λ place. place < count_of values.now.sizes) }
     ensures free { IfSome result (λ place. IsFreeAt values.now place) }
@@ -261,15 +261,15 @@ impl Trail {
         Ok(())
     }
 
-    /// Ends a conflict: the atoms of later ones go before those of earlier ones.
+    /// Ends a conflict.
     pub fn end_conflict(&mut self)
         ensures same { self.new ≡ self.old }
     {
         self.activity.end_conflict();
     }
 
-    /// An atom with no truth, if there is one: after some conflicts the one that stood in most and latest of them, else
-    /// the first in the order of decisions.
+    /// An atom with no truth, if there is one. No clause says which: it is chosen by the conflicts, and else by the
+    /// order of decisions.
     pub fn next_free(&mut self) -> Option<Atom>
         ensures same { self.new ≡ self.old }
         ensures some { IfSome result (λ a. IsInRange self.old.sizes a × IsFree self.old.steps a) }
@@ -298,7 +298,7 @@ impl Trail {
         }
     }
 
-    /// An atom with no truth at which a hint points, or that stood in conflicts, if there is one.
+    /// An atom with no truth, if conflicts or hints lead to one.
     pub fn next_hinted(&mut self) -> Option<Atom>
         ensures same { self.new ≡ self.old }
         ensures some { IfSome result (λ a. IsInRange self.old.sizes a × IsFree self.old.steps a) }

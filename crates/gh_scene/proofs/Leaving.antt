@@ -9,7 +9,7 @@ use Rattle.gh_assert.specs.Heaps.{Heap, Splits}
 use Rattle.gh_assert.specs.Meaning.{Store}
 use Rattle.gh_assert.proofs.Unions.{split_part}
 use Rattle.gh_assert.proofs.Unique.{one_footprint}
-use Rattle.gh_lens.specs.Takings.{conjuncts, StopsAt, Leaves}
+use Rattle.gh_lens.specs.Takings.{conjuncts, IsBlockedAt, Leaves}
 use Rattle.gh_scene.specs.Spare.{LeavesNothing, IsLeftOver}
 use Rattle.gh_trace.specs.Left.{left}
 use Rattle.gh_trace.proofs.Lefts.{left_is_rest}
@@ -19,13 +19,13 @@ use Rattle.gh_trace.proofs.Listings.{next}
 one_rest : (h a b c d : Heap) → Splits h a b → Splits h c d → a ≡ c → b ≡ d
 one_rest h a b c d u v same = sym (left_is_rest h a b u) ∙ ap (λ z. left h (finite.keys z)) same ∙ left_is_rest h c d v
 
--- conjuncts that stop leave nothing over
-pub stopped : (fs : Formulas) (s : Store) (h : Heap) (g : Formula) (rest r : Heap) → StopsAt fs s h g rest → Leaves fs s h r → ⊥
-stopped no_formulas s h g rest r stops leaves = stops
-stopped (formula_first f fs) s h g rest r (inl (is, same, none)) (c, d, splits, meets, later) = none (c, d, splits, meets)
-stopped (formula_first f fs) s h g rest r (inr (a, b, halves, met, on)) (c, d, splits, meets, later) =
+-- conjuncts of which one is blocked leave nothing over
+pub blocked_leave_none : (fs : Formulas) (s : Store) (h : Heap) (g : Formula) (rest r : Heap) → IsBlockedAt fs s h g rest → Leaves fs s h r → ⊥
+blocked_leave_none no_formulas s h g rest r block leaves = block
+blocked_leave_none (formula_first f fs) s h g rest r (inl (is, same, none)) (c, d, splits, meets, later) = none (c, d, splits, meets)
+blocked_leave_none (formula_first f fs) s h g rest r (inr (a, b, halves, met, on)) (c, d, splits, meets, later) =
     let one : a ≡ c = one_footprint f s a c h met meets (split_part h a b halves) (split_part h c d splits) in
-    stopped fs s b g rest r on (subst (λ z. Leaves fs s z r) (sym (one_rest h a b c d halves splits one)) later)
+    blocked_leave_none fs s b g rest r on (subst (λ z. Leaves fs s z r) (sym (one_rest h a b c d halves splits one)) later)
 
 -- what the later alternatives leave over is what all of them do
 abbrev pub LeadsBack : List Assertion → ℕ → Store → Heap → Type 0

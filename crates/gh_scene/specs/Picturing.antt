@@ -1,8 +1,7 @@
 -- The picture of a drawing.
-use Rattle.std.specs.Prelude.{◌⊎◌, ◌≡◌, ◌<◌, ℕ, List, length, map}
+use Rattle.std.specs.Prelude.{ℕ, List, map}
 use Rattle.gh_ast.specs.Plain.{Program}
-use Rattle.gh_path.specs.Conditions.{Condition, conditions}
-use Rattle.gh_lens.specs.Stories.{IsConditionAt}
+use Rattle.gh_path.specs.Conditions.{Condition, IsConditionAt, IsNoNumber}
 use Rattle.gh_picture.specs.declared.scene.Scene.{Scene}
 use Rattle.gh_picture.specs.Pictures.{IsPicture}
 use Rattle.gh_scene.specs.declared.pictured.Pictured.{Pictured}
@@ -22,4 +21,4 @@ pub record IsDrawn (P : Program) (c : Condition) (xs : List State) (text : List 
 abbrev pub IsPictured : Program → ℕ → List State → Pictured → Type 0
 IsPictured P n xs (Drawn text) = (c : Condition) × IsConditionAt P n c × IsDrawn P c xs text
 IsPictured P n xs (Fails k) = (c : Condition) × IsConditionAt P n c × FirstFailure P c (map drawn xs) k
-IsPictured P n xs Unnumbered = (n ≡ 0) ⊎ (length (conditions P) < n)
+IsPictured P n xs Unnumbered = IsNoNumber P n

@@ -6,8 +6,8 @@ use Rattle.gh_assert.specs.Heaps.{Heap}
 use Rattle.gh_assert.specs.Stores.{store_of}
 use Rattle.gh_lens.specs.declared.exchange.Exchange.{Exchange}
 use Rattle.gh_lens.specs.Handed.{IsHandedOr}
-use Rattle.gh_lens.specs.Lines.{numbers_text}
 use Rattle.gh_lens.specs.Statements.{statement_text}
+use Rattle.gh_log.specs.Texts.{numbers_text}
 use Rattle.gh_path.specs.Graphs.{PathStep}
 use Rattle.gh_path.specs.Kept.{step_of}
 use Rattle.gh_path.specs.declared.condition.PathStep as kept

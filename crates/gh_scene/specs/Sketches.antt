@@ -1,12 +1,11 @@
 -- The scene of a counterexample, and what is answered for a drawing.
-use Rattle.std.specs.Prelude.{◌≡◌, ◌⊎◌, ℕ, ◌<◌, List, ◌∷◌, length, map}
+use Rattle.std.specs.Prelude.{◌≡◌, ℕ, List, ◌∷◌, map}
 use Rattle.gh_ast.specs.Plain.{Procedure, Program}
 use Rattle.gh_assert.specs.Heaps.{Heap}
 use Rattle.gh_draw.specs.Descriptions.{description}
-use Rattle.gh_path.specs.Conditions.{Condition, conditions, IsOf}
+use Rattle.gh_path.specs.Conditions.{Condition, IsConditionAt, IsNoNumber, IsOf}
 use Rattle.gh_path.specs.Kept.{condition_of}
 use Rattle.gh_path.specs.declared.condition.Condition as kept
-use Rattle.gh_lens.specs.Stories.{IsConditionAt}
 use Rattle.gh_picture.specs.declared.scene.Row.{Row}
 use Rattle.gh_picture.specs.declared.scene.Scene.{Scene}
 use Rattle.gh_scene.specs.declared.sketch.Sketch.{Sketch}
@@ -47,4 +46,4 @@ pub record IsSceneOf (P : Program) (c : Condition) (xs : List State) (scene : Sc
 abbrev pub IsSketch : Program → ℕ → List State → Sketch → Type 0
 IsSketch P n xs (Shown scene) = (c : Condition) × IsConditionAt P n c × IsSceneOf P c xs scene
 IsSketch P n xs (Fails k) = (c : Condition) × IsConditionAt P n c × FirstFailure P c (map drawn xs) k
-IsSketch P n xs Unnumbered = (n ≡ 0) ⊎ (length (conditions P) < n)
+IsSketch P n xs Unnumbered = IsNoNumber P n

@@ -2,43 +2,14 @@
 
 ghost use Rattle.std.specs.Prelude.{◌≡◌, ◌++◌, IfOk, OnOk};
 ghost use Rattle.std.specs.FinMap as finite;
-ghost use Rattle.gh_assert.specs.Cells.{pairs};
-ghost use Rattle.gh_lens.specs.Lines.{numbers_text, places_text};
+ghost use Rattle.gh_log.specs.Texts.{numbers_text};
 ghost use Rattle.gh_scene.specs.Rows as told;
 
-use gh_assert::heap::{Cell, Heap};
+use gh_assert::heap::Heap;
 use gh_base::text::Text;
 use gh_lens::exchange::Exchange;
-use gh_lens::lines::push_number;
+use gh_lens::lines::{push_numbers, push_places};
 use std::alloc::{AllocError, Global};
-
-fn push_numbers(alloc: Global, text: &mut Text, numbers: &[u32]) -> Result<(), AllocError>
-    ensures { OnOk result (text.new ≡ text.old ++ numbers_text numbers.now) }
-{
-    for number in numbers {
-        text.push(b" ")?;
-        push_number(alloc, text, *number)?;
-    }
-    Ok(())
-}
-
-// Adds the places of some cells.
-fn push_places(alloc: Global, text: &mut Text, cells: &[Cell]) -> Result<(), AllocError>
-    ensures { OnOk result (text.new ≡ text.old ++ places_text (pairs cells.now)) }
-{
-    for cell in cells {
-        text.push(b" ")?;
-        push_number(alloc, text, cell.at)?;
-    }
-    Ok(())
-}
-
-// Adds the places of a heap.
-fn push_heap_places(alloc: Global, text: &mut Text, heap: &Heap) -> Result<(), AllocError>
-    ensures { OnOk result (text.new ≡ text.old ++ numbers_text (finite.keys heap.now)) }
-{
-    push_places(alloc, text, heap.cells())
-}
 
 // Adds some words and numbers.
 fn push_handed(
@@ -59,7 +30,7 @@ fn push_heap(alloc: Global, text: &mut Text, head: &[u8], heap: &Heap) -> Result
     ensures { OnOk result (text.new ≡ text.old ++ (head.now ++ numbers_text (finite.keys heap.now))) }
 {
     text.push(head)?;
-    push_heap_places(alloc, text, heap)?;
+    push_places(alloc, text, heap)?;
     Ok(())
 }
 

@@ -3,11 +3,11 @@
 ghost use Rattle.std.specs.Prelude.{◌≡◌, IfOk};
 ghost use Rattle.gh_assert.specs.Cells.{pair_of};
 ghost use Rattle.gh_assert.specs.Stores.{store_of};
-ghost use Rattle.gh_lens.specs.Changes.{is_content};
 ghost use Rattle.gh_scene.specs.Roles as told;
 
 use gh_assert::heap::{Cell, Heap};
 use gh_assert::store::Store;
+use gh_lens::changes::is_content;
 use gh_picture::scene::{Change, Role};
 use std::alloc::{AllocError, Global};
 
@@ -22,16 +22,6 @@ fn role_by(is_spare: bool, is_aside: bool, is_same: bool) -> Role
     }
 }
 
-// Whether a place has this content.
-fn has_content(content: Option<u32>, value: u32) -> bool
-    ensures { result ≡ is_content content value }
-{
-    match content {
-        Some(found) => found == value,
-        None => false,
-    }
-}
-
 // The role of a cell, given the heap before, what was set aside, and what is left over.
 fn role_of(old: &Heap, aside: &Heap, spare: &Heap, cell: &Cell) -> Role
     ensures { result ≡ told.role_of old.now aside.now spare.now (pair_of cell.now) }
@@ -39,7 +29,7 @@ fn role_of(old: &Heap, aside: &Heap, spare: &Heap, cell: &Cell) -> Role
     role_by(
         spare.get(cell.at).is_some(),
         aside.get(cell.at).is_some(),
-        has_content(old.get(cell.at), cell.to),
+        is_content(old.get(cell.at), cell.to),
     )
 }
 

@@ -1,13 +1,11 @@
 //! The scene of a drawing.
 
-ghost use Rattle.std.specs.Prelude.{◌≡◌, ◌∷◌, map, IfOk};
+ghost use Rattle.std.specs.Prelude.{◌≡◌, ◌∷◌, IfOk};
 ghost use Rattle.gh_ast.specs.Plain.{program_of};
 ghost use Rattle.gh_trace.specs.Settings.{HasLoops, here, whole};
 ghost use Rattle.gh_path.specs.Admitted.{IsAdmitted};
 ghost use Rattle.gh_path.specs.Conditions.{IsOf};
 ghost use Rattle.gh_path.specs.Kept.{condition_of, IsScoped};
-ghost use Rattle.gh_trace.specs.Kept.{state_of};
-ghost use Rattle.gh_trace.specs.Traces.{last_state};
 ghost use Rattle.gh_scene.specs.Sketches as told;
 
 use crate::rows::{left_at_end, push_rows, start_row};
@@ -15,6 +13,7 @@ use crate::spare::spare;
 use gh_ast::typed::Typed;
 use gh_draw::describe::describe;
 use gh_draw::drawing::Drawing;
+use gh_lens::story::last;
 use gh_path::condition::Condition;
 use gh_path::conditions::Conditions;
 use gh_path::loops::loops_of;
@@ -31,17 +30,6 @@ pub enum Sketch {
     Shown(Scene),
     Fails { number: u16 },
     Unnumbered,
-}
-
-// The last of some states.
-fn last<'s>(first: &'s State, others: &'s [State]) -> &'s State
-    ensures { state_of result.now ≡ last_state (state_of first.now) (map state_of others.now) }
-{
-    let mut last = first;
-    for other in others {
-        last = other;
-    }
-    last
 }
 
 // The scene of a first state and others for a condition of a procedure.

@@ -28,7 +28,7 @@ fn left_by(
 {
     match taken(alloc, store, heap, conjuncts(assertion))? {
         Taking::Whole { rest } => Ok(Some(rest)),
-        Taking::Stops { .. } => Ok(None),
+        Taking::Blocked { .. } => Ok(None),
     }
 }
 

@@ -7,7 +7,7 @@ use Rattle.gh_session.specs.declared.edits.Edit.{Edit}
 use Rattle.gh_session.specs.declared.edits.Edits.{Edits}
 use Rattle.gh_session.specs.declared.lines.Part.{Part}
 use Rattle.gh_session.specs.declared.error.SessionError.TheVariants.{Line, TooMany}
-use Rattle.gh_session.specs.Lines.{lines, IsSeparator, IsPiece, ArePieces, AreSessionLines, IsSession, Stops, IsFirstBad}
+use Rattle.gh_session.specs.Lines.{lines, IsSeparator, IsPiece, ArePieces, AreSessionLines, IsSession, IsLineAfter, IsFirstBad}
 use Rattle.gh_session.specs.Parts.{IsFirstPart, IsReadBefore}
 
 pieces_more : (es : List Edit) (ls : List (List ℕ)) (e : Edit) (own : List (List ℕ)) → ArePieces es ls → IsPiece e own → ArePieces (es ++ e ∷ []) (ls ++ own)
@@ -53,7 +53,7 @@ one_more text head es number rest n e part is first some within separated next s
     own : List (List ℕ)
     own = take n rest ∷ next.taken
 
-pub stops : (text head : List ℕ) (es : List Edit) (number : ℕ) (rest : List ℕ) (n : ℕ) → IsReadBefore text head es number rest → lines rest ≡ take n rest ∷ lines (drop n rest) → Stops text (number + 1) (take n rest) es
+pub stops : (text head : List ℕ) (es : List Edit) (number : ℕ) (rest : List ℕ) (n : ℕ) → IsReadBefore text head es number rest → lines rest ≡ take n rest ∷ lines (drop n rest) → IsLineAfter text (number + 1) (take n rest) es
 stops text head es number rest n is first = record {
   before = is.before;
   after = lines (drop n rest);

@@ -8,7 +8,7 @@ use Rattle.gh_ast.proofs.Lists.{member_first, member_later, member_cases, no_mem
 use Rattle.gh_session.specs.declared.edits.Edit.{Edit}
 use Rattle.gh_session.specs.declared.edits.Edits.{Edits}
 use Rattle.gh_session.specs.declared.error.SessionError.TheVariants.{Line, TooMany}
-use Rattle.gh_session.specs.Lines.{lines, IsMarked, IsSeparator, IsPiece, ArePieces, AreSessionLines, IsSession, IsBad, Stops, IsFirstBad}
+use Rattle.gh_session.specs.Lines.{lines, IsMarked, IsSeparator, IsPiece, ArePieces, AreSessionLines, IsSession, IsBad, IsLineAfter, IsFirstBad}
 use Rattle.gh_session.proofs.Orders.{IsOrder, one_place, left_first, right_first, ordered}
 
 -- lines that begin with `%` are counted
@@ -121,10 +121,10 @@ sessions_are_read text s n is = (
 
 -- a text has one first bad line, or one first separator too many
 
-same_place : (text : List ℕ) (n m : ℕ) (l k : List ℕ) (es fs : List Edit) → (a : Stops text n l es) → (b : Stops text m k fs) → a.before ≡ b.before → n ≡ m
+same_place : (text : List ℕ) (n m : ℕ) (l k : List ℕ) (es fs : List Edit) → (a : IsLineAfter text n l es) → (b : IsLineAfter text m k fs) → a.before ≡ b.before → n ≡ m
 same_place text n m l k es fs a b e = a.number ∙ ap (λ ls. length ls + 1) e ∙ sym b.number
 
-places : (text : List ℕ) (n m : ℕ) (l k : List ℕ) (es fs : List Edit) → (a : Stops text n l es) → (b : Stops text m k fs) → IsOrder a.before b.before l k
+places : (text : List ℕ) (n m : ℕ) (l k : List ℕ) (es fs : List Edit) → (a : IsLineAfter text n l es) → (b : IsLineAfter text m k fs) → IsOrder a.before b.before l k
 places text n m l k es fs a b = ordered a.before b.before a.after b.after l k (sym a.whole ∙ b.whole)
 
 pub one_bad_line : (text : List ℕ) (n m : ℕ) → IsFirstBad text (Line n) → IsFirstBad text (Line m) → n ≡ m

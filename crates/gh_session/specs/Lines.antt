@@ -67,7 +67,7 @@ abbrev pub IsSession : List ℕ → Edits → Type 0
 IsSession text s = AreSessionLines s.head s.edits.items (lines text)
 
 -- `here` is line n of the text, and before it stand a head and the pieces es
-pub record Stops (text : List ℕ) (n : ℕ) (here : List ℕ) (es : List Edit) : Type 0 where
+pub record IsLineAfter (text : List ℕ) (n : ℕ) (here : List ℕ) (es : List Edit) : Type 0 where
   pub before : List (List ℕ)
   pub after : List (List ℕ)
   pub whole : lines text ≡ before ++ here ∷ after
@@ -77,6 +77,6 @@ pub record Stops (text : List ℕ) (n : ℕ) (here : List ℕ) (es : List Edit) 
 
 -- the first line that is bad, or the separator after 256 pieces
 abbrev pub IsFirstBad : List ℕ → SessionError → Type 0
-IsFirstBad text (Line n) = (here : List ℕ) × (es : List Edit) × Stops text n here es × IsBad here
-IsFirstBad text (TooMany n) = (here : List ℕ) × (es : List Edit) × (asks : Bool) × (name : Name) × Stops text n here es × (length es ≡ 256) × IsSeparator here asks name
+IsFirstBad text (Line n) = (here : List ℕ) × (es : List Edit) × IsLineAfter text n here es × IsBad here
+IsFirstBad text (TooMany n) = (here : List ℕ) × (es : List Edit) × (asks : Bool) × (name : Name) × IsLineAfter text n here es × (length es ≡ 256) × IsSeparator here asks name
 IsFirstBad text OutOfMemory = Unit {0}

@@ -7,7 +7,7 @@ pub fn have_one_essence()
     ensures { HaveOneEssence }
 {}
 
-/// States refute a condition where they refute its essence, and it is valid where its essence is.
+/// States refute a condition exactly where they refute its essence, and it is valid exactly where its essence is.
 pub fn essences_decide()
     ensures { EssencesDecide }
 {}

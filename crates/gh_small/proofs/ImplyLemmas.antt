@@ -4,7 +4,7 @@ use Rattle.std.proofs.lemmas.Bool.{cases_Bool}
 use Rattle.gh_base.specs.declared.atom.Atom.{Atom}
 use Rattle.gh_base.specs.declared.atom.Lit.{Lit}
 use Rattle.gh_base.specs.Meaning.{Interpretation, atom_truth, IsLitTrue, IsClauseTrue}
-use Rattle.gh_small.specs.Fewer.{positive, negative}
+use Rattle.gh_base.specs.Atoms.{positive, negative}
 use Rattle.gh_small.proofs.EachLemmas.{any_here, any_later, any_cases, any_none}
 
 abbrev pub Holds : Interpretation → Atom → Type 0

@@ -4,7 +4,8 @@ use Rattle.std.proofs.lemmas.Bool.{cases_Bool, cases_eq, eq-eqb, eqb-true, cond-
 use Rattle.std.specs.Prelude.{nat_eq}
 use Rattle.gh_base.specs.declared.sizes.Sizes.{Sizes}
 use Rattle.gh_base.specs.Meaning.{Interpretation, IsCongruence}
-use Rattle.gh_small.specs.Fewer.{term, is_allocated}
+use Rattle.gh_base.specs.Atoms.{term}
+use Rattle.gh_small.specs.Fewer.{is_allocated}
 use Rattle.gh_small.specs.Leaders.{is_met, leads}
 
 -- a term below u that equals t

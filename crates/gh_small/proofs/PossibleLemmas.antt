@@ -6,7 +6,8 @@ use Rattle.std.proofs.lemmas.List.Elements.{All-nil, All-cons}
 use Rattle.gh_base.specs.declared.atom.Atom.{Atom}
 use Rattle.gh_base.specs.declared.atom.Atom.TheVariants.{Eq, Btwn, Hop, Alloc, Def}
 use Rattle.gh_base.specs.Meaning.{Interpretation, IsLitTrue, IsClauseTrue}
-use Rattle.gh_small.specs.Fewer.{term, positive, negative, earlier, is_allocated, leader, counter, leader_clause, begins, raises, keeps, counter_clauses, last_clause}
+use Rattle.gh_base.specs.Atoms.{term, positive, negative}
+use Rattle.gh_small.specs.Fewer.{earlier, is_allocated, leader, counter, leader_clause, begins, raises, keeps, counter_clauses, last_clause}
 use Rattle.gh_small.specs.Leaders.{counted, is_met, leads, allocated_classes}
 use Rattle.gh_grass.specs.Truth.{IsEarlier}
 use Rattle.gh_small.specs.Laws.{FewerIsPossible}

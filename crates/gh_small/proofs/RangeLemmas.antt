@@ -4,9 +4,9 @@ use Rattle.std.proofs.lemmas.List.Elements.{All-nil, All-cons}
 use Rattle.gh_base.specs.declared.atom.Atom.TheVariants.{Eq}
 use Rattle.gh_base.specs.declared.atom.Lit.{Lit}
 use Rattle.gh_base.specs.declared.sizes.Sizes.{Sizes}
-use Rattle.gh_base.specs.Atoms.{IsInRange, AreInRange}
+use Rattle.gh_base.specs.Atoms.{IsInRange, AreInRange, term, positive, negative}
 use Rattle.gh_small.specs.declared.bounding.Numbers.{Numbers}
-use Rattle.gh_small.specs.Fewer.{term, positive, negative, earlier, is_allocated, leader, counter, leader_clause, begins, raises, keeps, last_clause}
+use Rattle.gh_small.specs.Fewer.{earlier, is_allocated, leader, counter, leader_clause, begins, raises, keeps, last_clause}
 use Rattle.gh_small.specs.Bounded.{IsWithin}
 use Rattle.gh_small.proofs.EachLemmas.{pair_all, each_all}
 use Rattle.gh_small.proofs.NumberLemmas.{counter_below, leader_below}

@@ -22,9 +22,10 @@ use Rattle.gh_trace.proofs.FirstRefuted.{condition_one}
 use Rattle.gh_decide.specs.Verdicts.{IsGroundOf}
 use Rattle.gh_model.specs.Abstraction.{IsModelOf}
 use Rattle.gh_model.specs.BuiltTraces.{heap_in, built_trace, states_under, versions_along}
-use Rattle.gh_model.specs.KeptTraces.{drawn_over, IsBuilt}
+use Rattle.gh_model.specs.KeptTraces.{drawn_over, IsTraceOf}
 use Rattle.gh_model.proofs.building.Drawings.{built_is_counterexample}
-use Rattle.gh_small.specs.Models.{IsModel, IsFewest, IsLowest}
+use Rattle.gh_inst.specs.Models.{IsModel}
+use Rattle.gh_small.specs.Models.{IsFewest, IsLowest}
 use Rattle.gh_small.specs.Smallest.{first_cells, IsLeast, IsSmallest}
 use Rattle.gh_small.specs.declared.descent.Fewest.{Fewest}
 use Rattle.gh_small.proofs.TraceLemmas.{sections_show}
@@ -50,7 +51,7 @@ shows_least P q c cells None typed is of known e = λ p its x ys against. omega 
 shows_least P q c cells (Some s) typed is of known h = sections_show P q c s.lines cells typed is of known (omega (arith, h.0)) h.1.valid
 
 module _ (P : Program) (r : kept.Condition) (p : Problem) (f : Fewest) (t : Trace) (typed : IsTyped P) (ground : IsGroundOf P r p) (known : IsProblem p) (is : IsFewest p f)
-    (drawn : IsBuilt P r f.structure t) where
+    (drawn : IsTraceOf P r f.structure t) where
   abbrev meaning : Interpretation
   meaning = interpretation_of f.structure
 

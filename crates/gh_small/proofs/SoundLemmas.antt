@@ -4,7 +4,8 @@ use Rattle.std.proofs.lemmas.Bool.{cases_lt, eqb-true}
 use Rattle.std.proofs.lemmas.List.Elements.{All-head}
 use Rattle.gh_base.specs.declared.atom.Atom.TheVariants.{Eq}
 use Rattle.gh_base.specs.Meaning.{Interpretation, IsLitTrue, IsClauseTrue}
-use Rattle.gh_small.specs.Fewer.{term, positive, negative, earlier, is_allocated, leader, counter, begins, raises, keeps}
+use Rattle.gh_base.specs.Atoms.{term, positive, negative}
+use Rattle.gh_small.specs.Fewer.{earlier, is_allocated, leader, counter, begins, raises, keeps}
 use Rattle.gh_small.specs.Leaders.{counted, leads, allocated_classes}
 use Rattle.gh_small.specs.Laws.{FewerIsSound}
 use Rattle.gh_small.proofs.EachLemmas.{any_each, any_cases, any_none, pair_first, pair_second}

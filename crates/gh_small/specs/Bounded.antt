@@ -3,16 +3,13 @@ use Rattle.std.specs.Prelude.{ℕ, ◌+◌, ◌*◌, ◌^◌, ◌<◌, ◌≤◌
 use Rattle.gh_base.specs.declared.atom.Lit.{Lit}
 use Rattle.gh_base.specs.declared.sizes.Sizes.{Sizes}
 use Rattle.gh_base.specs.Grounds.{Problem}
+use Rattle.gh_reduce.specs.Growth.{with_clauses}
 use Rattle.gh_small.specs.declared.bounding.Numbers.{Numbers}
 use Rattle.gh_small.specs.Fewer.{fewer}
 
--- the problem with the clauses cs after its own
-abbrev pub with_more : Problem → List (List Lit) → Problem
-with_more p cs = record p { clauses = p.clauses ++ cs }
-
 -- the clauses are added last
 abbrev pub Gains : Problem → Problem → List (List Lit) → Type 0
-Gains old new cs = new ≡ with_more old cs
+Gains old new cs = new ≡ with_clauses old cs
 
 -- 32 bits number the clauses with those that are added
 abbrev pub HasRoomFor : Problem → List (List Lit) → Type 0

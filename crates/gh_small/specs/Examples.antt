@@ -1,7 +1,8 @@
 -- Two terms, fewer than two classes, definitions from 5 on: leaders 5 and 6, counters 7 to 10.
 use Rattle.std.specs.Prelude.{◌≡◌, [], ◌∷◌}
 use Rattle.gh_base.specs.declared.atom.Atom.TheVariants.{Eq, Alloc, Def}
-use Rattle.gh_small.specs.Fewer.{term, positive, negative, fewer}
+use Rattle.gh_base.specs.Atoms.{term, positive, negative}
+use Rattle.gh_small.specs.Fewer.{fewer}
 
 abbrev pub TwoAreSpelled : Type 0
 TwoAreSpelled =

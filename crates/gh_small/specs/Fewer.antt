@@ -1,19 +1,10 @@
 -- The clauses that say: fewer than k classes of the first n terms are allocated in version 0.
 -- Definitions are numbered from d on: first one for each term, then k for each term.
-use Rattle.std.specs.Prelude.{ℕ, zero, suc, ◌+◌, ◌-◌, ◌*◌, List, [], ◌∷◌, ◌++◌, true, false}
-use Rattle.gh_base.specs.declared.atom.Term.{Term}
+use Rattle.std.specs.Prelude.{ℕ, zero, suc, ◌+◌, ◌-◌, ◌*◌, List, [], ◌∷◌, ◌++◌}
 use Rattle.gh_base.specs.declared.atom.Atom.{Atom}
 use Rattle.gh_base.specs.declared.atom.Atom.TheVariants.{Eq, Alloc, Def}
 use Rattle.gh_base.specs.declared.atom.Lit.{Lit}
-
-abbrev pub term : ℕ → Term
-term t = record { 0 = t }
-
-abbrev pub positive : Atom → Lit
-positive a = record { atom = a; positive = true }
-
-abbrev pub negative : Atom → Lit
-negative a = record { atom = a; positive = false }
+use Rattle.gh_base.specs.Atoms.{term, positive, negative}
 
 -- the lists of the numbers below n, one after the other
 abbrev pub each : {A : Type 0} → ℕ → (ℕ → List A) → List A

@@ -17,7 +17,7 @@ use Rattle.gh_model.specs.TraceLaws.{IsCounterexample}
 use Rattle.gh_small.specs.Fewer.{is_allocated, fewer}
 use Rattle.gh_small.specs.Leaders.{allocated_classes}
 use Rattle.gh_small.specs.Bounded.{bounded_by}
-use Rattle.gh_small.specs.Models.{IsModel}
+use Rattle.gh_inst.specs.Models.{IsModel}
 use Rattle.gh_small.specs.Smallest.{IsLeast}
 
 -- where the clauses are true, fewer than k classes are allocated

@@ -1,24 +1,17 @@
 -- Models of ground clauses and of all axiom instances, and those with the fewest cells in the first heap.
-use Rattle.std.specs.Prelude.{◌≡◌, ◌<◌, ℕ, Option, Some, None, All}
+use Rattle.std.specs.Prelude.{◌≡◌, ◌<◌, ℕ, Option, Some, None}
 use Rattle.std.specs.FinMap.{len}
 use Rattle.gh_base.specs.Grounds.{Problem}
-use Rattle.gh_base.specs.Meaning.{Interpretation, IsClauseTrue, IsCongruence}
 use Rattle.gh_base.specs.Structures.{Tables, interpretation_of}
 use Rattle.gh_assert.specs.Heaps.{Heap}
 use Rattle.gh_decide.specs.Verdicts.{IsWritable}
-use Rattle.gh_inst.specs.Violations.{AreInstancesTrue}
+use Rattle.gh_inst.specs.Models.{IsModel}
 use Rattle.gh_log.specs.Sections.{IsValidSection}
 use Rattle.gh_log.specs.declared.lines.Section.{Section}
 use Rattle.gh_model.specs.BuiltTraces.{heap_in}
 use Rattle.gh_small.specs.Leaders.{allocated_classes}
 use Rattle.gh_small.specs.Bounded.{bounded_by, HasRoom}
 use Rattle.gh_small.specs.declared.descent.Fewest.{Fewest}
-
--- equality is a congruence, and all axiom instances and all clauses are true
-pub record IsModel (p : Problem) (m : Interpretation) : Type 0 where
-  pub congruence : IsCongruence p.sizes m
-  pub instances : AreInstancesTrue p.sizes m
-  pub clauses : All (IsClauseTrue m) p.clauses
 
 -- a structure over the terms and versions of the clauses, with whatever definitions
 pub record IsModelled (p : Problem) (s : Tables) : Type 0 where

@@ -3,7 +3,7 @@ use Rattle.std.specs.Prelude.{◌≡◌, ◌↔◌, ◌≤◌, ℕ, List, [], �
 use Rattle.std.specs.FinMap.{len}
 use Rattle.gh_ast.specs.Plain.{Procedure, Program}
 use Rattle.gh_path.specs.Conditions.{Condition, IsOf}
-use Rattle.gh_path.specs.Kept.{condition_of}
+use Rattle.gh_path.specs.Kept.{condition_of, HoldsFor}
 use Rattle.gh_path.specs.declared.condition.Condition as kept
 use Rattle.gh_symb.specs.Symbolic.{symbolic_of}
 use Rattle.gh_symb.specs.Formulas.{problem}
@@ -29,7 +29,7 @@ pub record IsSmallest (P : Program) (r : kept.Condition) (s : Smallest) : Type 0
   pub counterexample : Refutes P (condition_of r) (drawn_of s.trace)
   pub count : s.cells ≡ first_cells (drawn_of s.trace)
   pub least : IsLeast P (condition_of r) s.cells
-  pub lowest : (p : Procedure) → IsOf P (condition_of r) p → IsLowest (problem (symbolic_of P p (condition_of r))) s.cells s.section
+  pub lowest : HoldsFor P r (λ P p c. IsLowest (problem (symbolic_of P p c)) s.cells s.section)
 
 -- the condition is valid, or this is the smallest of its counterexamples
 abbrev pub IsFound : Program → kept.Condition → Option Smallest → Type 0

@@ -2,9 +2,9 @@
 
 ghost use Rattle.std.specs.Prelude.{IsTrue, ◌↔◌, ◌≡◌, ◌∷◌, ◌+◌, ◌-◌, ◌*◌, ◌^◌, ◌<◌, ◌≤◌, [], OnOk, IfOk, length};
 ghost use Rattle.gh_base.specs.declared.sizes.Sizes.{Sizes};
-ghost use Rattle.gh_base.specs.Atoms.{AreInRange};
+ghost use Rattle.gh_base.specs.Atoms.{AreInRange, positive, negative};
 ghost use Rattle.gh_small.specs.Fewer.{leader, counter, leader_clause, begins, raises, keeps, counter_clauses};
-ghost use Rattle.gh_small.specs.Fewer.{counter_row, all_leaders, all_counters, last_clause, positive, negative};
+ghost use Rattle.gh_small.specs.Fewer.{counter_row, all_leaders, all_counters, last_clause};
 ghost use Rattle.gh_small.specs.Bounded.{bounded_by, with_defs, Gains, HasRoom, HasRoomFor, IsNumbered, IsWithin};
 
 use gh_base::atom::{Atom, Lit, Term};

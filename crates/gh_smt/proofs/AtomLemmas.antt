@@ -8,8 +8,7 @@ use Rattle.gh_base.specs.declared.atom.Term.{Term}
 use Rattle.gh_base.specs.declared.atom.Atom.{Atom}
 use Rattle.gh_base.specs.declared.atom.Atom.TheVariants.{Eq, Btwn, Hop, Alloc, Def}
 use Rattle.gh_base.specs.declared.sizes.Sizes.{Sizes}
-use Rattle.gh_base.specs.Atoms.{IsInRange}
-use Rattle.gh_inst.specs.Schemas.{term}
+use Rattle.gh_base.specs.Atoms.{IsInRange, term}
 use Rattle.gh_log.specs.Reading.{SpellsNothing, EndsNumber, SpellsNumber, IsNotFront}
 use Rattle.gh_log.proofs.NumberLemmas.{AreOne, one_number}
 use Rattle.gh_smt.specs.Reading.{SpellsTerm, spaced_number, SpellsTerms, SpellsForm, SpellsAtom}

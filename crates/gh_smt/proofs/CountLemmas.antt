@@ -10,7 +10,7 @@ use Rattle.std.proofs.lemmas.List.Elements.{All-cons, All-append, All-weaker, Al
 use Rattle.gh_base.specs.declared.atom.Lit.{Lit}
 use Rattle.gh_base.specs.Grounds.{Problem, IsProblem}
 use Rattle.gh_base.specs.Atoms.{opposite}
-use Rattle.gh_grass.specs.Claims.{Claim, atom, negation_of, conjunction_of, disjunction_of, equivalence_of, Claims, no_claims, claim_first}
+use Rattle.gh_grass.specs.Claims.{GroundClaim, atom, negation_of, conjunction_of, disjunction_of, equivalence_of, GroundClaims, no_claims, claim_first}
 use Rattle.gh_grass.specs.Clauses.{made, all_made, stated, clauses_from, defined, conjunction_clauses, disjunction_clauses, equivalence_clauses}
 use Rattle.gh_symb.specs.Formulas.{problem}
 use Rattle.gh_symb.specs.Symbolic.{Symbolic}
@@ -65,7 +65,7 @@ equated_lits d l m =
     All-cons HasLits a (b ∷ e ∷ f ∷ []) (omega arith) (All-cons HasLits b (e ∷ f ∷ []) (omega arith) (All-cons HasLits e (f ∷ []) (omega arith) (one f (omega arith))))
 
 mutual
-  made_lits : (f : Claim) (d : ℕ) → All HasLits (made f d).clauses
+  made_lits : (f : GroundClaim) (d : ℕ) → All HasLits (made f d).clauses
   made_lits (atom a) d = λ k e l. absurd (omega arith)
   made_lits (negation_of f) d = made_lits f d
   made_lits (conjunction_of fs) d =
@@ -76,12 +76,12 @@ mutual
       let r = made f d in let s = made g r.next in
       All-append HasLits (r.clauses ++ s.clauses) (equivalence_clauses s.next r.lit s.lit) (All-append HasLits r.clauses s.clauses (made_lits f d) (made_lits g r.next)) (equated_lits s.next r.lit s.lit)
 
-  all_made_lits : (fs : Claims) (d : ℕ) → All HasLits (all_made fs d).clauses
+  all_made_lits : (fs : GroundClaims) (d : ℕ) → All HasLits (all_made fs d).clauses
   all_made_lits no_claims d = λ k e l. absurd (omega arith)
   all_made_lits (claim_first f fs) d =
       let r = made f d in All-append HasLits r.clauses (all_made fs r.next).clauses (made_lits f d) (all_made_lits fs r.next)
 
-clauses_lits : (fs : List Claim) (d : ℕ) → All HasLits (clauses_from fs d)
+clauses_lits : (fs : List GroundClaim) (d : ℕ) → All HasLits (clauses_from fs d)
 clauses_lits [] d = λ k e l. absurd (omega arith)
 clauses_lits (f ∷ fs) d =
     let r = made f d in

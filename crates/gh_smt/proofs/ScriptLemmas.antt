@@ -16,7 +16,6 @@ use Rattle.gh_ast.specs.Plain.{Procedure, Program}
 use Rattle.gh_ast.specs.Rules.{IsTyped}
 use Rattle.gh_ast.proofs.Lists.{one_value}
 use Rattle.gh_path.specs.Conditions.{Condition, IsCondition, IsOf}
-use Rattle.gh_grass.specs.Truth.{AreClausesTrue}
 use Rattle.gh_symb.specs.Symbolic.{symbolic_of}
 use Rattle.gh_symb.specs.Formulas.{problem}
 use Rattle.gh_trace.specs.Traces.{State}
@@ -51,14 +50,14 @@ script_in_range p h =
     (instances p.sizes.terms p.sizes.versions) (all_are_instances p.sizes.terms p.sizes.versions)))
 
 -- the clauses and the instances are true
-parts : (p : Problem) (m : Interpretation) → AreClausesTrue m (script_of p).clauses → AreClausesTrue m p.clauses × AreInstancesTrue p.sizes m
+parts : (p : Problem) (m : Interpretation) → All (ground.IsClauseTrue m) (script_of p).clauses → All (ground.IsClauseTrue m) p.clauses × AreInstancesTrue p.sizes m
 parts p m h =
     let is = map clause_of (instances p.sizes.terms p.sizes.versions) in (
       all_before (ground.IsClauseTrue m) p.clauses is h,
       all_mapped (ground.IsClauseTrue m) clause_of (instances p.sizes.terms p.sizes.versions) (all_after (ground.IsClauseTrue m) p.clauses is h),
     )
 
-whole : (p : Problem) (m : Interpretation) → AreClausesTrue m p.clauses → AreInstancesTrue p.sizes m → AreClausesTrue m (script_of p).clauses
+whole : (p : Problem) (m : Interpretation) → All (ground.IsClauseTrue m) p.clauses → AreInstancesTrue p.sizes m → All (ground.IsClauseTrue m) (script_of p).clauses
 whole p m h k =
     let is = map clause_of (instances p.sizes.terms p.sizes.versions) in
     All-append (ground.IsClauseTrue m) p.clauses is h (All-map (ground.IsClauseTrue m) clause_of (instances p.sizes.terms p.sizes.versions) k)
@@ -68,7 +67,7 @@ to_model p (m, h) =
     let t = parts p (structure_of m) (All-weaker (IsAssertionTrue m) (ground.IsClauseTrue (structure_of m)) (structure_clause m) (script_of p).clauses h) in
     (structure_of m, record { congruence = is_congruence p.sizes m; instances = t.1; clauses = t.0 })
 
-all_in_model : (s : Sizes) (m : Interpretation) → IsCongruence s m → (cs : List (List Lit)) → All (AreInRange s) cs → AreClausesTrue m cs → All (IsAssertionTrue (model_of s m)) cs
+all_in_model : (s : Sizes) (m : Interpretation) → IsCongruence s m → (cs : List (List Lit)) → All (AreInRange s) cs → All (ground.IsClauseTrue m) cs → All (IsAssertionTrue (model_of s m)) cs
 all_in_model s m g [] r h = λ k d l. absurd (omega arith)
 all_in_model s m g (c ∷ cs) r h =
     All-cons (IsAssertionTrue (model_of s m)) c cs (model_clause s m g c (All-head (AreInRange s) c cs r) (All-head (ground.IsClauseTrue m) c cs h))

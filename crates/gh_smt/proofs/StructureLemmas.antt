@@ -7,10 +7,9 @@ use Rattle.gh_base.specs.declared.atom.Atom.{Atom}
 use Rattle.gh_base.specs.declared.atom.Atom.TheVariants.{Eq, Btwn, Hop, Alloc, Def}
 use Rattle.gh_base.specs.declared.atom.Lit.{Lit}
 use Rattle.gh_base.specs.declared.sizes.Sizes.{Sizes}
-use Rattle.gh_base.specs.Atoms.{IsInRange, AreInRange}
+use Rattle.gh_base.specs.Atoms.{IsInRange, AreInRange, term}
 use Rattle.gh_base.specs.Meaning as ground
 use Rattle.gh_base.specs.Meaning.{Interpretation, IsCongruence, atom_truth}
-use Rattle.gh_inst.specs.Schemas.{term}
 use Rattle.gh_smt.specs.Meaning.{SmtModel, IsAtomTrue, IsLitTrue, IsAssertionTrue}
 use Rattle.gh_smt.proofs.MeaningLemmas.{Says, signed_says, any_weaker}
 

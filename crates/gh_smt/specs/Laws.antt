@@ -1,25 +1,18 @@
 -- The laws.
 use Rattle.std.specs.Prelude.{◌≡◌, ◌↔◌, List}
 use Rattle.gh_base.specs.Grounds.{Problem, IsProblem}
-use Rattle.gh_base.specs.Meaning.{Interpretation, IsCongruence}
+use Rattle.gh_base.specs.Meaning.{Interpretation}
 use Rattle.gh_ast.specs.Plain.{Procedure, Program}
 use Rattle.gh_ast.specs.Rules.{IsTyped}
 use Rattle.gh_path.specs.Conditions.{Condition, IsCondition, IsOf}
-use Rattle.gh_grass.specs.Truth.{AreClausesTrue}
 use Rattle.gh_symb.specs.Symbolic.{symbolic_of}
 use Rattle.gh_symb.specs.Formulas.{problem}
-use Rattle.gh_inst.specs.Violations.{AreInstancesTrue}
+use Rattle.gh_inst.specs.Models.{IsModel}
 use Rattle.gh_trace.specs.Traces.{State}
 use Rattle.gh_trace.specs.Validity.{AreCounterexample, IsConditionValid}
 use Rattle.gh_smt.specs.Scripts.{IsScript, script_of}
 use Rattle.gh_smt.specs.Texts.{script_text}
 use Rattle.gh_smt.specs.Meaning.{IsSatisfiable}
-
--- equality is a congruence, and all clauses and all instances of the axioms are true
-pub record IsModel (p : Problem) (m : Interpretation) : Type 0 where
-  pub congruence : IsCongruence p.sizes m
-  pub instances : AreInstancesTrue p.sizes m
-  pub clauses : AreClausesTrue m p.clauses
 
 abbrev pub HasModel : Problem → Type 0
 HasModel p = (m : Interpretation) × IsModel p m

@@ -17,8 +17,8 @@ use Rattle.gh_symb.specs.Fitting.{EncodesUnder}
 use Rattle.gh_symb.specs.Formulas.{variables}
 use Rattle.gh_symb.specs.Inside.{binding_of}
 use Rattle.gh_symb.specs.Phases.{learned, bound_unless, under_bindings, both}
-use Rattle.gh_symb.specs.Tables.{Bound as Table, bound_by, pair_of}
-use Rattle.gh_symb.specs.declared.over_terms.Bound.{Bound}
+use Rattle.gh_symb.specs.Tables.{Pairs, bound_by, pair_of}
+use Rattle.gh_symb.specs.declared.over_terms.BoundAssertion.{BoundAssertion}
 use Rattle.gh_symb.specs.declared.scope.Entry.{Entry}
 use Rattle.gh_symb.proofs.TableLemmas.{latest_more}
 
@@ -73,11 +73,11 @@ learned_more es i e within is before old new initial one all x =
     at_other None other = rw other refl
 
 -- an assertion under the bindings of its walk
-pub is_under : (f : Formula) (b : Bound) (s t : Terms) → t ≡ walked f s → t.version ≡ s.version → EncodesUnder b (under_bindings f t.bindings t.version) → EncodesUnder b (under f s)
+pub is_under : (f : Formula) (b : BoundAssertion) (s t : Terms) → t ≡ walked f s → t.version ≡ s.version → EncodesUnder b (under_bindings f t.bindings t.version) → EncodesUnder b (under f s)
 is_under f b s t e v is =
     subst (λ (q : Terms). EncodesUnder b (under_bindings f q.bindings s.version)) e (subst (λ i. EncodesUnder b (under_bindings f t.bindings i)) v is)
 
-pub states_both : (F : Bindings) (ss : List Table) → map (λ es. both (bound_by es) F) ss ≡ map (λ b. both b F) (map bound_by ss)
+pub states_both : (F : Bindings) (ss : List Pairs) → map (λ es. both (bound_by es) F) ss ≡ map (λ b. both b F) (map bound_by ss)
 states_both F [] = refl
 states_both F (es ∷ ss) = ap (λ bs. both (bound_by es) F ∷ bs) (states_both F ss)
 

@@ -10,7 +10,7 @@ use Rattle.gh_symb.specs.Symbolic as plain
 use Rattle.gh_symb.specs.Symbolic.{parts, sub, whole, begins, symbolic_of, state_bindings, term_steps}
 use Rattle.gh_symb.specs.Encodings.{Each, IsBinding, IsUnder, IsTermStep, IsTermCheck}
 use Rattle.gh_symb.specs.Encoded.{IsSymbolic}
-use Rattle.gh_symb.specs.declared.over_terms.Bound.{Bound}
+use Rattle.gh_symb.specs.declared.over_terms.BoundAssertion.{BoundAssertion}
 use Rattle.gh_symb.specs.declared.over_terms.TermStep.{TermStep}
 use Rattle.gh_symb.specs.declared.over_terms.TermStep.TheVariants as step
 use Rattle.gh_symb.specs.declared.over_terms.TermCheck.{TermCheck}
@@ -32,7 +32,7 @@ all_same R f h [] (b ∷ bs) t = absurd t
 all_same R f h (a ∷ as') [] t = absurd t
 all_same R f h (a ∷ as') (b ∷ bs) t = both_first (f a) b (map f as') bs (h a b t.0) (all_same R f h as' bs t.1)
 
-under_is : (b : Bound) (u : plain.Under) → IsUnder b u → under_of b ≡ u
+under_is : (b : BoundAssertion) (u : plain.Under) → IsUnder b u → under_of b ≡ u
 under_is b u h =
     let e = same_function (binding_of b.binding) u.binding h.binding in
     λ i. record { assertion = h.assertion i; binding = e i; version = h.version i }
@@ -86,7 +86,7 @@ encoded_is P p c s h =
     λ i. record { terms = h.terms i; versions = h.versions i; start = start i; steps = steps i; check = check i; bindings = bindings i }
 
 -- its terms and versions are those of the condition
-pub encoded_inside : (P : Program) (p : Procedure) (c : Condition) (ks : List Kind) (v : ℕ) (start : Bound) (steps : List TermStep) (check : TermCheck) →
+pub encoded_inside : (P : Program) (p : Procedure) (c : Condition) (ks : List Kind) (v : ℕ) (start : BoundAssertion) (steps : List TermStep) (check : TermCheck) →
     ks ≡ (symbolic_of P p c).terms → v ≡ (symbolic_of P p c).versions → IsUnder start (symbolic_of P p c).start → Each IsTermStep steps (symbolic_of P p c).steps → IsTermCheck check (symbolic_of P p c).check →
     IsInside ks v (under_of start) (map step_of steps) (check_of check)
 encoded_inside P p c ks v start steps check terms versions starts each asks =

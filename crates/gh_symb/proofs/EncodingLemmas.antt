@@ -14,7 +14,7 @@ use Rattle.gh_symb.specs.Fitting.{EncodesUnder, EncodesStep, EncodesCheck, IsTer
 use Rattle.gh_symb.specs.Inside.{IsUnderInside}
 use Rattle.gh_symb.specs.Phases.{under_bindings, loop_encoding}
 use Rattle.gh_symb.specs.Steps.{EndsWith}
-use Rattle.gh_symb.specs.declared.over_terms.Bound.{Bound}
+use Rattle.gh_symb.specs.declared.over_terms.BoundAssertion.{BoundAssertion}
 use Rattle.gh_symb.specs.declared.over_terms.TermStep.{TermStep}
 use Rattle.gh_symb.specs.declared.over_terms.TermStep.TheVariants as step
 use Rattle.gh_symb.specs.declared.over_terms.TermCheck.{TermCheck}
@@ -43,39 +43,39 @@ pub access_encoded : (x : Term) (n : ℕ) → IsTermOf x n → EncodesCheck (che
 access_encoded x n at = λ fits. ap access (sym (at fits))
 
 -- alternatives of 8 bits are encoded one by one
-pub each_fits : (bs : List Bound) (us : List Under) → Each EncodesUnder bs us → All (IsUnderInside 256 256) us → Each IsUnder bs us
+pub each_fits : (bs : List BoundAssertion) (us : List Under) → Each EncodesUnder bs us → All (IsUnderInside 256 256) us → Each IsUnder bs us
 each_fits [] [] each fits = tt
 each_fits [] (u ∷ us) each fits = absurd each
 each_fits (b ∷ bs) [] each fits = absurd each
 each_fits (b ∷ bs) (u ∷ us) each fits =
     (each.0 (All-head (IsUnderInside 256 256) u us fits), each_fits bs us each.1 (All-tail (IsUnderInside 256 256) u us fits))
 
-pub one_part : (before after : Bound) (ways : Vec Bound Global) (u w : Under) → ways.items ≡ after ∷ [] → EncodesUnder before u → EncodesUnder after w → EncodesStep (step.Part before ways) (parts u (w ∷ []))
+pub one_part : (before after : BoundAssertion) (ways : Vec BoundAssertion Global) (u w : Under) → ways.items ≡ after ∷ [] → EncodesUnder before u → EncodesUnder after w → EncodesStep (step.Part before ways) (parts u (w ∷ []))
 one_part before after ways u w is first second = λ fits. (
   u,
   w ∷ [],
   first fits.0,
-  subst (λ (bs : List Bound). Each IsUnder bs (w ∷ [])) (sym is) (second (All-head (IsUnderInside 256 256) w [] fits.1), tt),
+  subst (λ (bs : List BoundAssertion). Each IsUnder bs (w ∷ [])) (sym is) (second (All-head (IsUnderInside 256 256) w [] fits.1), tt),
   refl,
 )
 
-pub sub_encoded : (b : Bound) (u : Under) → EncodesUnder b u → EncodesCheck (check.Sub b) (sub u)
+pub sub_encoded : (b : BoundAssertion) (u : Under) → EncodesUnder b u → EncodesCheck (check.Sub b) (sub u)
 sub_encoded b u one = λ fits. (u, one fits, refl)
 
-pub whole_encoded : (ways : Vec Bound Global) (us : List Under) → Each EncodesUnder ways.items us → EncodesCheck (check.Whole ways) (whole us)
+pub whole_encoded : (ways : Vec BoundAssertion Global) (us : List Under) → Each EncodesUnder ways.items us → EncodesCheck (check.Whole ways) (whole us)
 whole_encoded ways us each = λ fits. (us, each_fits ways.items us each fits, refl)
 
-pub one_whole : (b : Bound) (ways : Vec Bound Global) (u : Under) → ways.items ≡ b ∷ [] → EncodesUnder b u → EncodesCheck (check.Whole ways) (whole (u ∷ []))
-one_whole b ways u is one = whole_encoded ways (u ∷ []) (subst (λ (bs : List Bound). Each EncodesUnder bs (u ∷ [])) (sym is) (one, tt))
+pub one_whole : (b : BoundAssertion) (ways : Vec BoundAssertion Global) (u : Under) → ways.items ≡ b ∷ [] → EncodesUnder b u → EncodesCheck (check.Whole ways) (whole (u ∷ []))
+one_whole b ways u is one = whole_encoded ways (u ∷ []) (subst (λ (bs : List BoundAssertion). Each EncodesUnder bs (u ∷ [])) (sym is) (one, tt))
 
-pub loop_encoded : (xs : List Name) (l : Loop) (s r : Terms) (before after : Bound) (encoded : TermStep) →
+pub loop_encoded : (xs : List Name) (l : Loop) (s r : Terms) (before after : BoundAssertion) (encoded : TermStep) →
     EncodesUnder before (under_bindings l.invariant s.bindings s.version) → r ≡ renewed (filter (some_assigns l.body) xs) (moved_on s) → EncodesUnder after (under l.invariant r) →
     JoinsParts before after encoded → EncodesStep encoded (loop_encoding (Some l) xs s)
 loop_encoded xs l s r before after encoded first renew second joins =
     joins (under_bindings l.invariant s.bindings s.version) (under l.invariant (renewed (filter (some_assigns l.body) xs) (moved_on s))) first
     (subst (λ q. EncodesUnder after (under l.invariant q)) renew second)
 
-pub call_encoded : (p : Procedure) (ts : List ℕ) (s i r : Terms) (before : Bound) (after : Vec Bound Global) →
+pub call_encoded : (p : Procedure) (ts : List ℕ) (s i r : Terms) (before : BoundAssertion) (after : Vec BoundAssertion Global) →
     i ≡ rebound s (bound_inside p ts) → EncodesUnder before (under p.needs i) → r ≡ renewed (results_of p) (moved_on (walked p.needs i)) → Each EncodesUnder after.items (each_under p.gives r) →
     EncodesStep (step.Part before after) (call_parts (Some p) ts s)
 call_encoded p ts s i r before after enters first renew all = λ fits.
@@ -86,7 +86,7 @@ call_encoded p ts s i r before after enters first renew all = λ fits.
     let begins : EncodesUnder before (under p.needs inside) = subst (λ q. EncodesUnder before (under p.needs q)) enters first in
     (under p.needs inside, at_end, begins fits.0, each_fits after.items at_end ends fits.1, refl)
 
-pub entry_encoded : (p : Procedure) (ts : List ℕ) (s i : Terms) (b : Bound) → i ≡ rebound s (bound_inside p ts) → EncodesUnder b (under p.needs i) → EncodesCheck (check.Sub b) (needs_under (Some p) ts s)
+pub entry_encoded : (p : Procedure) (ts : List ℕ) (s i : Terms) (b : BoundAssertion) → i ≡ rebound s (bound_inside p ts) → EncodesUnder b (under p.needs i) → EncodesCheck (check.Sub b) (needs_under (Some p) ts s)
 entry_encoded p ts s i b enters first =
     sub_encoded b (under p.needs (rebound s (bound_inside p ts))) (subst (λ q. EncodesUnder b (under p.needs q)) enters first)
 
@@ -94,11 +94,11 @@ entry_encoded p ts s i b enters first =
 pub invariant_goes : (o : Option Loop) (l : Loop) (f : Formula) (s t : Terms) → o ≡ Some l → f ≡ l.invariant → t ≡ walked f s → t ≡ invariant_walked o s
 invariant_goes o l f s t at is walks = walks ∙ ap (λ g. walked g s) is ∙ ap (λ q. invariant_walked q s) (sym at)
 
-pub entered_encoded : (o : Option Loop) (l : Loop) (f : Formula) (s : Terms) (b : Bound) → o ≡ Some l → f ≡ l.invariant → EncodesUnder b (under f s) → EncodesCheck (check.Sub b) (entered_under o s)
+pub entered_encoded : (o : Option Loop) (l : Loop) (f : Formula) (s : Terms) (b : BoundAssertion) → o ≡ Some l → f ≡ l.invariant → EncodesUnder b (under f s) → EncodesCheck (check.Sub b) (entered_under o s)
 entered_encoded o l f s b at is one =
     subst (λ q. EncodesCheck (check.Sub b) (entered_under q s)) (sym at) (subst (λ g. EncodesCheck (check.Sub b) (sub (under g s))) is (sub_encoded b (under f s) one))
 
-pub ended_encoded : (o : Option Loop) (l : Loop) (f : Formula) (s : Terms) (b : Bound) (asked : TermCheck) → o ≡ Some l → f ≡ l.invariant → EncodesUnder b (under f s) → AsksWhole b asked →
+pub ended_encoded : (o : Option Loop) (l : Loop) (f : Formula) (s : Terms) (b : BoundAssertion) (asked : TermCheck) → o ≡ Some l → f ≡ l.invariant → EncodesUnder b (under f s) → AsksWhole b asked →
     EncodesCheck asked (ended_under o s)
 ended_encoded o l f s b asked at is one asks =
     subst (λ q. EncodesCheck asked (ended_under q s)) (sym at) (subst (λ g. EncodesCheck asked (whole (under g s ∷ []))) is (asks (under f s) one))
@@ -107,7 +107,7 @@ pub ends_with : (s t : Terms) → t ≡ s → EndsWith s t.kinds t.version
 ends_with s t e = record { kinds_are = ap (λ (q : Terms). q.kinds) e; version_is = ap (λ (q : Terms). q.version) e }
 
 -- one more alternative is walked and encoded
-pub each_encoded : (bs : List Bound) (b : Bound) (encoded_so_far : List Under) (f : Formula) (fs : List Formula) (s t : Terms) (all : List Under) →
+pub each_encoded : (bs : List BoundAssertion) (b : BoundAssertion) (encoded_so_far : List Under) (f : Formula) (fs : List Formula) (s t : Terms) (all : List Under) →
     Each EncodesUnder bs encoded_so_far → EncodesUnder b (under f s) → t ≡ walked f s → encoded_so_far ++ each_under (f ∷ fs) s ≡ all →
     Each EncodesUnder (bs ++ b ∷ []) (encoded_so_far ++ under f s ∷ []) × ((encoded_so_far ++ under f s ∷ []) ++ each_under fs t ≡ all)
 each_encoded bs b us f fs s t all before one walks is = (

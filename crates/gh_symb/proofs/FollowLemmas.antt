@@ -20,7 +20,7 @@ use Rattle.gh_symb.specs.Steps.{EndsWith, IsCount}
 use Rattle.gh_symb.specs.Following.{met, known, first_uses, Follows, Followed}
 use Rattle.gh_symb.specs.Reads.{Learns}
 use Rattle.gh_symb.specs.Contexts.{program_in, procedure_in}
-use Rattle.gh_symb.specs.Tables.{Bound as Entries, bound_by}
+use Rattle.gh_symb.specs.Tables.{Pairs, bound_by}
 use Rattle.gh_symb.specs.Walkers.{terms_at, UsesStep, DoesStep, ReadsStep}
 use Rattle.gh_symb.specs.declared.over_terms.TermStep.{TermStep}
 use Rattle.gh_symb.specs.declared.context.Context.{Context}
@@ -184,7 +184,7 @@ gone_on_to P p x xs c s t u firsts learns states after encoded later one left us
 
 -- the next of some steps, as a walk comes to it: what was met before it and what it uses are kept
 pub gone_past : (set : Context) (P : Program) → program_in set ≡ P → (rs : List kept_step.PathStep) (i : ℕ) (r : kept_step.PathStep) (c : Condition) (u v w : Walker)
-    (before firsts learns : Entries) (states after : List Entries) (encoded later : List TermStep) (one : TermStep) → i < length rs → r ≡ get_or rs i r →
+    (before firsts learns : Pairs) (states after : List Pairs) (encoded later : List TermStep) (one : TermStep) → i < length rs → r ≡ get_or rs i r →
     Follows P (procedure_in set) (map step_of (drop i rs)) c (terms_at u) (bound_by firsts) (map bound_by states) encoded → before ≡ u.scope →
     UsesStep set r u v → v.version ≡ u.version → DoesStep set r v w → ReadsStep set r v one → Learns before v.scope firsts learns →
     after ≡ states ++ before ∷ [] → later ≡ encoded ++ one ∷ [] → Follows P (procedure_in set) (map step_of (drop (i + 1) rs)) c (terms_at w) (bound_by learns) (map bound_by after) later

@@ -14,7 +14,7 @@ use Rattle.gh_ast.specs.Programs.{Name, names}
 use Rattle.gh_ast.specs.declared.Occ.{Occ}
 use Rattle.gh_path.specs.Terms.{Bindings, bound, unbound, all_bound}
 use Rattle.gh_grass.proofs.Bonds.{same_name, other_name}
-use Rattle.gh_symb.specs.Tables.{Bound, bound_from, bound_by, pair_of, NoneFrom, IsLastAt}
+use Rattle.gh_symb.specs.Tables.{Pairs, bound_from, bound_by, pair_of, NoneFrom, IsLastAt}
 use Rattle.gh_symb.specs.declared.scope.Entry.{Entry}
 
 first_map : {A B : Type 0} (p : B → Bool) (f : A → B) (xs : List A) → position_or_len p (map f xs) ≡ position_or_len (λ x. p (f x)) xs
@@ -24,12 +24,12 @@ first_map p f (x ∷ xs) = rw (first_map p f xs) refl
 pub position_map : {A B : Type 0} (p : B → Bool) (f : A → B) (xs : List A) → position p (map f xs) ≡ position (λ x. p (f x)) xs
 position_map p f xs = rw (first_map p f xs, length-map xs f) refl
 
-from_more : (b : Bindings) (es : Bound) (x : Name) (t : ℕ) → bound_from b (es ++ (x, t) ∷ []) ≡ bound (bound_from b es) x t
+from_more : (b : Bindings) (es : Pairs) (x : Name) (t : ℕ) → bound_from b (es ++ (x, t) ∷ []) ≡ bound (bound_from b es) x t
 from_more b [] x t = refl
 from_more b ((y, u) ∷ es) x t = from_more (bound b y u) es x t
 
 -- an entry that is added last counts first
-pub bound_more : (es : Bound) (x : Name) (t : ℕ) → bound_by (es ++ (x, t) ∷ []) ≡ bound (bound_by es) x t
+pub bound_more : (es : Pairs) (x : Name) (t : ℕ) → bound_by (es ++ (x, t) ∷ []) ≡ bound (bound_by es) x t
 bound_more es x t = from_more unbound es x t
 
 pub bound_push : (es : List Entry) (e : Entry) → bound_by (map pair_of (es ++ e ∷ [])) ≡ bound (bound_by (map pair_of es)) e.name.now e.term

@@ -10,7 +10,7 @@ use Rattle.gh_path.specs.Terms.{Kind, null, value, next, Bindings}
 use Rattle.gh_grass.specs.declared.binding.Bond.{Bond}
 use Rattle.gh_grass.specs.Bindings.{term_in}
 use Rattle.gh_symb.specs.Symbolic as plain
-use Rattle.gh_symb.specs.declared.over_terms.Bound.{Bound}
+use Rattle.gh_symb.specs.declared.over_terms.BoundAssertion.{BoundAssertion}
 use Rattle.gh_symb.specs.declared.over_terms.TermStep.{TermStep}
 use Rattle.gh_symb.specs.declared.over_terms.TermStep.TheVariants as step
 use Rattle.gh_symb.specs.declared.over_terms.TermCheck.{TermCheck}
@@ -32,7 +32,7 @@ Each R (a ∷ as') (b ∷ bs) = R a b × Each R as' bs
 abbrev pub IsBinding : List Bond → Bindings → Type 0
 IsBinding bonds b = (x : Name) → option_map (λ (t : Term). t.0) (term_in bonds x) ≡ b x
 
-pub record IsUnder (b : Bound) (u : plain.Under) : Type 0 where
+pub record IsUnder (b : BoundAssertion) (u : plain.Under) : Type 0 where
   pub assertion : formula_of b.assertion.now ≡ u.assertion
   pub binding : IsBinding b.binding u.binding
   pub version : b.version ≡ u.version

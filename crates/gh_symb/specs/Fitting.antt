@@ -9,7 +9,7 @@ use Rattle.gh_symb.specs.Symbolic.{either_term}
 use Rattle.gh_symb.specs.Formulas.{variables}
 use Rattle.gh_symb.specs.Encodings.{IsUnder, IsTermStep, IsTermCheck}
 use Rattle.gh_symb.specs.Inside.{binding_of, IsUnderInside, IsStepInside, IsCheckInside}
-use Rattle.gh_symb.specs.declared.over_terms.Bound.{Bound}
+use Rattle.gh_symb.specs.declared.over_terms.BoundAssertion.{BoundAssertion}
 use Rattle.gh_symb.specs.declared.over_terms.TermStep.{TermStep}
 use Rattle.gh_symb.specs.declared.over_terms.TermCheck.{TermCheck}
 
@@ -24,7 +24,7 @@ EncodesBinding bonds b = (x : Name) → (variables b x).0 < 256 → binding_of b
 abbrev pub EncodesBeside : List Bond → Bindings → Bindings → Type 0
 EncodesBeside bonds b others = (x : Name) → (variables b x).0 < 256 → binding_of bonds x ≡ either_term (b x) (others x)
 
-abbrev pub EncodesUnder : Bound → plain.Under → Type 0
+abbrev pub EncodesUnder : BoundAssertion → plain.Under → Type 0
 EncodesUnder b u = IsUnderInside 256 256 u → IsUnder b u
 
 abbrev pub EncodesStep : TermStep → plain.TermStep → Type 0
@@ -34,9 +34,9 @@ abbrev pub EncodesCheck : TermCheck → plain.TermCheck → Type 0
 EncodesCheck e k = IsCheckInside 256 256 k → IsTermCheck e k
 
 -- the step has one part in the place of another, whatever parts `before` and `after` encode
-abbrev pub JoinsParts : Bound → Bound → TermStep → Type 0
+abbrev pub JoinsParts : BoundAssertion → BoundAssertion → TermStep → Type 0
 JoinsParts before after encoded = (u w : plain.Under) → EncodesUnder before u → EncodesUnder after w → EncodesStep encoded (plain.parts u (w ∷ []))
 
 -- the check asks that the whole heap meets the assertion that b encodes
-abbrev pub AsksWhole : Bound → TermCheck → Type 0
+abbrev pub AsksWhole : BoundAssertion → TermCheck → Type 0
 AsksWhole b asked = (u : plain.Under) → EncodesUnder b u → EncodesCheck asked (plain.whole (u ∷ []))

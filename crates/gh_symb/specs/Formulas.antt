@@ -4,19 +4,19 @@ use Rattle.std.specs.List.{flat_map, range_with_len}
 use Rattle.gh_base.specs.declared.atom.Term.{Term}
 use Rattle.gh_base.specs.declared.atom.Atom.TheVariants.{Hop, Alloc}
 use Rattle.gh_base.specs.Grounds.{Problem}
+use Rattle.gh_base.specs.Atoms.{term, terms_below}
 use Rattle.gh_path.specs.Terms.{Kind, null, value, next, same_kind, Bindings}
-use Rattle.gh_grass.specs.Bindings.{term}
-use Rattle.gh_grass.specs.Claims.{Claim, atom, negation_of, equivalence_of, all_of, one_of, equality}
-use Rattle.gh_grass.specs.Footprints.{Variables, compared, footprint, structure, terms_below}
+use Rattle.gh_grass.specs.Claims.{GroundClaim, atom, negation_of, equivalence_of, all_of, one_of, equality}
+use Rattle.gh_grass.specs.Footprints.{Variables, compared, footprint, structure}
 use Rattle.gh_grass.specs.Clauses.{clauses_of, definitions_of}
 use Rattle.gh_symb.specs.Symbolic.{Under, TermStep, accessed, assumed, same, written, made, freed, parts, TermCheck}
 use Rattle.gh_symb.specs.Symbolic.{access, sub, whole, Symbolic}
 
-abbrev pub allocated : ℕ → Term → Claim
+abbrev pub allocated : ℕ → Term → GroundClaim
 allocated i x = atom (Alloc i x)
 
 -- the cell at x leads to v
-abbrev pub hops : ℕ → Term → Term → Claim
+abbrev pub hops : ℕ → Term → Term → GroundClaim
 hops i x v = atom (Hop i x v)
 
 -- a variable without a term counts as null
@@ -28,72 +28,72 @@ abbrev pub successor : List Kind → ℕ → Term → Term
 successor ks i x = term (unwrap_or (position (same_kind (next i x.0)) ks) 0)
 
 -- the term z is in the footprint of the assertion
-abbrev pub within : Under → Term → Claim
+abbrev pub within : Under → Term → GroundClaim
 within u z = footprint (variables u.binding) u.version z u.assertion
 
 -- some part of the heap meets the assertion
-abbrev pub meets : List Kind → Under → Claim
+abbrev pub meets : List Kind → Under → GroundClaim
 meets ks u = structure (variables u.binding) (successor ks u.version) u.version (length ks) u.assertion
 
 -- for each of n terms
-abbrev pub each : ℕ → (Term → Claim) → List Claim
+abbrev pub each : ℕ → (Term → GroundClaim) → List GroundClaim
 each n f = map f (terms_below n)
 
 -- the term is allocated exactly where it is in the footprint
-abbrev pub covers : Under → Term → Claim
+abbrev pub covers : Under → Term → GroundClaim
 covers u z = equivalence_of (allocated u.version z) (within u z)
 
 -- the whole heap meets the assertion: some part does, and the footprint is all that is allocated
-abbrev pub meets_whole : List Kind → Under → Claim
+abbrev pub meets_whole : List Kind → Under → GroundClaim
 meets_whole ks u = all_of (meets ks u ∷ each (length ks) (covers u))
 
 -- for each pair of n terms
-abbrev pub each_pair : ℕ → (Term → Term → Claim) → List Claim
+abbrev pub each_pair : ℕ → (Term → Term → GroundClaim) → List GroundClaim
 each_pair n f = flat_map (λ z. each n (f z)) (terms_below n)
 
 -- the term x leads to one of n terms, if it is allocated
-abbrev pub leads : ℕ → ℕ → Term → Claim
+abbrev pub leads : ℕ → ℕ → Term → GroundClaim
 leads n i x = one_of (negation_of (allocated i x) ∷ each n (hops i x))
 
 -- t is the successor of x: it is the next term where x is allocated, and x itself where it isn't
-abbrev pub succeeds : ℕ → ℕ → ℕ → List Claim
+abbrev pub succeeds : ℕ → ℕ → ℕ → List GroundClaim
 succeeds i x t =
     one_of (negation_of (allocated i (term x)) ∷ hops i (term x) (term t) ∷ [])
     ∷ one_of (allocated i (term x) ∷ equality (term x) (term t) ∷ [])
     ∷ []
 
 -- the formulas of the term t by its kind; there are some only where it is a successor in version i
-abbrev pub successor_claims : ℕ → ℕ → Kind → List Claim
+abbrev pub successor_claims : ℕ → ℕ → Kind → List GroundClaim
 successor_claims i t null = []
 successor_claims i t (value n) = []
 successor_claims i t (next j x) = cond (j == i) (succeeds i x t) []
 
 -- for the terms from t on, those that are successors in version i
-abbrev pub successors_from : ℕ → ℕ → List Kind → List Claim
+abbrev pub successors_from : ℕ → ℕ → List Kind → List GroundClaim
 successors_from i t [] = []
 successors_from i t (k ∷ ks) = successor_claims i t k ++ successors_from i (t + 1) ks
 
 -- what holds in version i: null isn't allocated, what is allocated leads to a term, and successors are where cells lead
-abbrev pub version_claims : List Kind → ℕ → List Claim
+abbrev pub version_claims : List Kind → ℕ → List GroundClaim
 version_claims ks i = negation_of (allocated i (term 0)) ∷ each (length ks) (leads (length ks) i) ++ successors_from i 0 ks
 
 -- the cell at z leads to v in version i + 1 exactly where it does in version i
-abbrev pub keeps : ℕ → Term → Term → Claim
+abbrev pub keeps : ℕ → Term → Term → GroundClaim
 keeps i z v = equivalence_of (hops (i + 1) z v) (hops i z v)
 
 -- each cell but that at x leads where it led
-abbrev pub others_keep : ℕ → ℕ → Term → List Claim
+abbrev pub others_keep : ℕ → ℕ → Term → List GroundClaim
 others_keep n i x = each_pair n (λ z v. one_of (equality z x ∷ keeps i z v ∷ []))
 
 -- from version i to the next, the cell at x gets the content e
-abbrev pub written_claims : ℕ → ℕ → Term → Term → List Claim
+abbrev pub written_claims : ℕ → ℕ → Term → Term → List GroundClaim
 written_claims n i x e =
     each n (λ z. equivalence_of (allocated (i + 1) z) (allocated i z))
     ++ hops (i + 1) x e ∷ []
     ++ others_keep n i x
 
 -- from version i to the next, a cell with the content c is made at l
-abbrev pub made_claims : ℕ → ℕ → Term → Term → List Claim
+abbrev pub made_claims : ℕ → ℕ → Term → Term → List GroundClaim
 made_claims n i l c =
     negation_of (allocated i l) ∷ []
     ++ each n (λ z. equivalence_of (allocated (i + 1) z) (one_of (allocated i z ∷ equality z l ∷ [])))
@@ -101,38 +101,38 @@ made_claims n i l c =
     ++ others_keep n i l
 
 -- from version i to the next, the cell at x is freed
-abbrev pub freed_claims : ℕ → ℕ → Term → List Claim
+abbrev pub freed_claims : ℕ → ℕ → Term → List GroundClaim
 freed_claims n i x =
     each n (λ z. equivalence_of (allocated (i + 1) z) (all_of (allocated i z ∷ negation_of (equality z x) ∷ [])))
     ++ others_keep n i x
 
 -- the cell at z is kept: it is allocated, and isn't in the part that is taken
-abbrev pub kept : ℕ → Under → Term → Claim
+abbrev pub kept : ℕ → Under → Term → GroundClaim
 kept i u z = all_of (allocated i z ∷ negation_of (within u z) ∷ [])
 
 -- a part q stands beside what is kept of the heap without the part u, and nothing else is allocated
-abbrev pub placed_claims : List Kind → ℕ → Under → Under → List Claim
+abbrev pub placed_claims : List Kind → ℕ → Under → Under → List GroundClaim
 placed_claims ks i u q =
     let n = length ks in
     meets ks q ∷ each n (λ z. negation_of (all_of (kept i u z ∷ within q z ∷ [])))
     ++ each n (λ z. equivalence_of (allocated (i + 1) z) (one_of (kept i u z ∷ within q z ∷ [])))
 
 -- what is kept leads where it led
-abbrev pub kept_claims : ℕ → ℕ → Under → List Claim
+abbrev pub kept_claims : ℕ → ℕ → Under → List GroundClaim
 kept_claims n i u = each_pair n (λ z v. one_of (negation_of (kept i u z) ∷ keeps i z v ∷ []))
 
 -- one of the alternatives is in the place of the part u; this is false where there are none
-abbrev pub alternatives_claims : List Kind → ℕ → Under → List Under → List Claim
+abbrev pub alternatives_claims : List Kind → ℕ → Under → List Under → List GroundClaim
 alternatives_claims ks i u [] = one_of [] ∷ []
 alternatives_claims ks i u (q ∷ []) = placed_claims ks i u q
 alternatives_claims ks i u (q ∷ r ∷ qs) = one_of (map (λ a. all_of (placed_claims ks i u a)) (q ∷ r ∷ qs)) ∷ []
 
 -- a part u of the heap gives way to an alternative
-abbrev pub parts_claims : List Kind → ℕ → Under → List Under → List Claim
+abbrev pub parts_claims : List Kind → ℕ → Under → List Under → List GroundClaim
 parts_claims ks i u qs = meets ks u ∷ alternatives_claims ks i u qs ++ kept_claims (length ks) i u
 
 -- a step from version i
-abbrev pub step_claims : List Kind → ℕ → TermStep → List Claim
+abbrev pub step_claims : List Kind → ℕ → TermStep → List GroundClaim
 step_claims ks i (accessed x) = allocated i (term x) ∷ []
 step_claims ks i (assumed l e r) = compared (term l) e (term r) ∷ []
 step_claims ks i same = []
@@ -151,28 +151,28 @@ version_after i (made l c) = i + 1
 version_after i (freed x) = i + 1
 version_after i (parts u qs) = i + 1
 
-abbrev pub steps_claims : List Kind → ℕ → List TermStep → List Claim
+abbrev pub steps_claims : List Kind → ℕ → List TermStep → List GroundClaim
 steps_claims ks i [] = []
 steps_claims ks i (s ∷ ss) = step_claims ks i s ++ steps_claims ks (version_after i s) ss
 
 -- the whole heap meets the one alternative, or one of several; there is no formula where there is no alternative
-abbrev pub meets_one_of : List Kind → List Under → List Claim
+abbrev pub meets_one_of : List Kind → List Under → List GroundClaim
 meets_one_of ks [] = []
 meets_one_of ks (u ∷ []) = meets_whole ks u ∷ []
 meets_one_of ks (u ∷ v ∷ us) = one_of (map (meets_whole ks) (u ∷ v ∷ us)) ∷ []
 
 -- the check fails, in the last version i
-abbrev pub check_claims : List Kind → ℕ → TermCheck → List Claim
+abbrev pub check_claims : List Kind → ℕ → TermCheck → List GroundClaim
 check_claims ks i (access x) = negation_of (allocated i (term x)) ∷ []
 check_claims ks i (sub u) = negation_of (meets ks u) ∷ []
 check_claims ks i (whole us) = map negation_of (meets_one_of ks us)
 
 -- the formulas of the first n versions
-abbrev pub versions_claims : List Kind → ℕ → List Claim
+abbrev pub versions_claims : List Kind → ℕ → List GroundClaim
 versions_claims ks n = flat_map (version_claims ks) (range_with_len 0 n)
 
 -- the formulas of a condition: its versions, its start, its steps, its check
-abbrev pub claims : Symbolic → List Claim
+abbrev pub claims : Symbolic → List GroundClaim
 claims s =
     versions_claims s.terms s.versions
     ++ meets_whole s.terms s.start ∷ []

@@ -10,7 +10,7 @@ use Rattle.gh_grass.specs.Bindings.{term_in}
 use Rattle.gh_symb.specs.Symbolic as plain
 use Rattle.gh_symb.specs.Symbolic.{accessed, assumed, same, written, made, freed, parts, access, sub, whole}
 use Rattle.gh_symb.specs.Formulas.{variables, version_after}
-use Rattle.gh_symb.specs.declared.over_terms.Bound.{Bound}
+use Rattle.gh_symb.specs.declared.over_terms.BoundAssertion.{BoundAssertion}
 use Rattle.gh_symb.specs.declared.over_terms.TermStep.{TermStep}
 use Rattle.gh_symb.specs.declared.over_terms.TermStep.TheVariants as step
 use Rattle.gh_symb.specs.declared.over_terms.TermCheck.{TermCheck}
@@ -19,7 +19,7 @@ use Rattle.gh_symb.specs.declared.over_terms.TermCheck.TheVariants as check
 abbrev pub binding_of : List Bond → Bindings
 binding_of bonds x = option_map (λ (t : Term). t.0) (term_in bonds x)
 
-abbrev pub under_of : Bound → plain.Under
+abbrev pub under_of : BoundAssertion → plain.Under
 under_of b = record { assertion = formula_of b.assertion.now; binding = binding_of b.binding; version = b.version }
 
 abbrev pub step_of : TermStep → plain.TermStep

@@ -11,8 +11,11 @@ use Rattle.gh_symb.specs.declared.count.Count.{Count}
 abbrev pub count_of : Program → Procedure → Condition → Count
 count_of P p c = record { terms = length (terms_of P p c.start c.way); versions = versions_of P p c.start c.way }
 
+abbrev pub no_count : Count
+no_count = record { terms = 0; versions = 0 }
+
 abbrev pub count_in : Program → Option Procedure → Condition → Count
-count_in P None c = record { terms = 0; versions = 0 }
+count_in P None c = no_count
 count_in P (Some p) c = count_of P p c
 
 -- the same of a condition of a program, by its procedure; and of all conditions, in order

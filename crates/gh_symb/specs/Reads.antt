@@ -8,11 +8,11 @@ use Rattle.gh_path.specs.Terms.{Kind, Terms, walked, all_walked, each_walked, te
 use Rattle.gh_grass.specs.declared.binding.Bond.{Bond}
 use Rattle.gh_symb.specs.Symbolic.{under, each_under}
 use Rattle.gh_symb.specs.Phases.{learned, bound_unless, under_bindings, both}
-use Rattle.gh_symb.specs.Tables.{Bound, bound_by, state, Walks}
+use Rattle.gh_symb.specs.Tables.{Pairs, bound_by, state, Walks}
 use Rattle.gh_symb.specs.Encodings.{Each}
 use Rattle.gh_symb.specs.Fitting.{EncodesBinding, EncodesUnder}
 use Rattle.gh_symb.specs.declared.scope.Entry.{Entry}
-use Rattle.gh_symb.specs.declared.over_terms.Bound as over_terms
+use Rattle.gh_symb.specs.declared.over_terms.BoundAssertion.{BoundAssertion}
 
 -- an assertion is walked
 abbrev pub walked_of : Assertion → Terms → Terms
@@ -30,28 +30,28 @@ all_tests_of tests = tests_walked (tests_view tests)
 abbrev pub each_walked_of : List Assertion → Terms → Terms
 each_walked_of assertions = each_walked (map formula_of assertions)
 
-abbrev pub WalksEach : List Assertion → List Kind → Bound → List Kind → Bound → ℕ → Type 0
+abbrev pub WalksEach : List Assertion → List Kind → Pairs → List Kind → Pairs → ℕ → Type 0
 WalksEach assertions ks es ls fs i = Walks (each_walked_of assertions) ks es ls fs i
 
 -- an assertion in a version, as its variables are bound
-abbrev pub ReadsBound : Assertion → Bound → ℕ → over_terms.Bound → Type 0
+abbrev pub ReadsBound : Assertion → Pairs → ℕ → BoundAssertion → Type 0
 ReadsBound a es i b = EncodesUnder b (under_bindings (formula_of a) (bound_by es) i)
 
 -- .. once it is walked
-abbrev pub ReadsWalked : Assertion → List Kind → Bound → ℕ → over_terms.Bound → Type 0
+abbrev pub ReadsWalked : Assertion → List Kind → Pairs → ℕ → BoundAssertion → Type 0
 ReadsWalked a ks es i b = EncodesUnder b (under (formula_of a) (state ks es i))
 
-abbrev pub ReadsEach : List Assertion → List Kind → Bound → ℕ → List over_terms.Bound → Type 0
+abbrev pub ReadsEach : List Assertion → List Kind → Pairs → ℕ → List BoundAssertion → Type 0
 ReadsEach assertions ks es i bs = Each EncodesUnder bs (each_under (map formula_of assertions) (state ks es i))
 
 -- the terms at each state, and where there are none those of first uses
-abbrev pub ReadsStates : List Bound → Bound → List (List Bond) → Type 0
+abbrev pub ReadsStates : List Pairs → Pairs → List (List Bond) → Type 0
 ReadsStates states firsts bs = Each EncodesBinding bs (map (λ es. both (bound_by es) (bound_by firsts)) states)
 
 -- the variable of the entry e is bound to its term, unless the variable had a term before
-abbrev pub LearnsOne : Bound → Entry → Bound → Bound → Type 0
+abbrev pub LearnsOne : Pairs → Entry → Pairs → Pairs → Type 0
 LearnsOne before e old new = bound_by new ≡ bound_unless (bound_by before e.name.now) (bound_by old) e.name.now e.term
 
 -- the variables that had no term before and have one now are bound to it
-abbrev pub Learns : Bound → Bound → Bound → Bound → Type 0
+abbrev pub Learns : Pairs → Pairs → Pairs → Pairs → Type 0
 Learns before now old new = (x : Name) → bound_by new x ≡ learned (bound_by before x) (bound_by now x) (bound_by old x)

@@ -31,19 +31,19 @@ IsShort (Value n) = n < 65536
 IsShort (Next i x) = (i < 256) × (x < 256)
 
 -- names with terms, in the order in which they were bound
-abbrev pub Bound : Type 0
-Bound = List (Name × ℕ)
+abbrev pub Pairs : Type 0
+Pairs = List (Name × ℕ)
 
 abbrev pub pair_of : Entry → Name × ℕ
 pair_of e = (e.name.now, e.term)
 
 -- the bindings b, once the names of the list are bound, in order
-abbrev pub bound_from : Bindings → Bound → Bindings
+abbrev pub bound_from : Bindings → Pairs → Bindings
 bound_from b [] = b
 bound_from b ((x, t) ∷ es) = bound_from (bound b x t) es
 
 -- the last term of a name counts
-abbrev pub bound_by : Bound → Bindings
+abbrev pub bound_by : Pairs → Bindings
 bound_by es = bound_from unbound es
 
 -- no entry of the name stands at i or later
@@ -56,21 +56,21 @@ pub record IsLastAt (es : List Entry) (name : Name) (i : ℕ) : Type 0 where
   pub named : (d : Entry) → (slice_index_or es i d).name.now ≡ name
   pub later : NoneFrom es name (i + 1)
 
-abbrev pub state : List Kind → Bound → ℕ → Terms
+abbrev pub state : List Kind → Pairs → ℕ → Terms
 state ks es i = terms ks (bound_by es) i
 
 -- the term of an operand, whatever the kinds and the version are
-abbrev pub IsOperandTerm : Operand → Bound → ℕ → Type 0
+abbrev pub IsOperandTerm : Operand → Pairs → ℕ → Type 0
 IsOperandTerm o es term = (ks : List Kind) (i : ℕ) → term ≡ operand_term o (state ks es i)
 
 -- a walk in version i: it leads from the terms before it to f of them
-abbrev pub Walks : (Terms → Terms) → List Kind → Bound → List Kind → Bound → ℕ → Type 0
+abbrev pub Walks : (Terms → Terms) → List Kind → Pairs → List Kind → Pairs → ℕ → Type 0
 Walks f ks es ls fs i = state ls fs i ≡ f (state ks es i)
 
 -- a variable is used, and the content of the cell at its term is listed
-abbrev pub Visits : Name → List Kind → Bound → List Kind → Bound → ℕ → Type 0
+abbrev pub Visits : Name → List Kind → Pairs → List Kind → Pairs → ℕ → Type 0
 Visits x ks es ls fs i = Walks (λ s. followed x (used x s)) ks es ls fs i
 
 -- a walk that is the same in every version
-abbrev pub WalksAlways : (Terms → Terms) → List Kind → Bound → List Kind → Bound → Type 0
+abbrev pub WalksAlways : (Terms → Terms) → List Kind → Pairs → List Kind → Pairs → Type 0
 WalksAlways f ks es ls fs = (i : ℕ) → Walks f ks es ls fs i

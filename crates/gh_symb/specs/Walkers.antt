@@ -23,7 +23,7 @@ use Rattle.gh_symb.specs.Fitting.{EncodesUnder, EncodesStep, EncodesCheck}
 use Rattle.gh_symb.specs.Reads.{ReadsEach, ReadsWalked}
 use Rattle.gh_symb.specs.Symbolic as plain
 use Rattle.gh_symb.specs.Symbolic.{under, call_parts, needs_under, term_check, step_used, check_used}
-use Rattle.gh_symb.specs.declared.over_terms.Bound.{Bound}
+use Rattle.gh_symb.specs.declared.over_terms.BoundAssertion.{BoundAssertion}
 use Rattle.gh_symb.specs.declared.over_terms.TermStep.{TermStep}
 use Rattle.gh_symb.specs.declared.over_terms.TermCheck.{TermCheck}
 use Rattle.gh_symb.specs.declared.rounds.Round.{Round}
@@ -38,14 +38,14 @@ abbrev pub Goes : (Terms → Terms) → Walker → Walker → Type 0
 Goes f v w = terms_at w ≡ f (terms_at v)
 
 -- an assertion, once it is walked; alternatives, each once it is walked
-abbrev pub ReadsAssertion : Assertion → Walker → Bound → Type 0
+abbrev pub ReadsAssertion : Assertion → Walker → BoundAssertion → Type 0
 ReadsAssertion a v b = ReadsWalked a v.kinds v.scope v.version b
 
-abbrev pub ReadsWays : List Assertion → Walker → List Bound → Type 0
+abbrev pub ReadsWays : List Assertion → Walker → List BoundAssertion → Type 0
 ReadsWays ways v bs = ReadsEach ways v.kinds v.scope v.version bs
 
 -- the start assertion is walked, and given
-abbrev pub Begins : Context → kept_start.Start → Walker → Walker → Bound → Type 0
+abbrev pub Begins : Context → kept_start.Start → Walker → Walker → BoundAssertion → Type 0
 Begins s start v w b = let f = meets_at (procedure_in s) (start_of start) in Goes (walked f) v w × EncodesUnder b (under f (terms_at v))
 
 -- a step: its variables are used; it is done; both

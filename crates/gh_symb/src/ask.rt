@@ -12,7 +12,7 @@ ghost use Rattle.gh_symb.specs.Walkers.{Begins, EndsCheck, EndsEntry, ReadsCheck
 
 use crate::context::Context;
 use crate::numbers::term_of;
-use crate::over_terms::{Bound, TermCheck};
+use crate::over_terms::{BoundAssertion, TermCheck};
 use crate::rounds::round_of;
 use crate::scope::Scope;
 use crate::walker::Walker;
@@ -32,7 +32,7 @@ fn start_assertion(procedure: &Procedure, start: Start) -> &Assertion
 }
 
 /// One assertion that the whole heap meets.
-fn whole<'a>(alloc: Global, bound: Bound<'a>) -> Result<TermCheck<'a>, AllocError>
+fn whole<'a>(alloc: Global, bound: BoundAssertion<'a>) -> Result<TermCheck<'a>, AllocError>
     ensures { IfOk result (AsksWhole bound.entry) }
 {
     let mut ways = Vec::new(alloc);
@@ -47,7 +47,7 @@ impl<'a> Walker<'a> {
         alloc: Global,
         context: Context<'a>,
         start: Start,
-    ) -> Result<Bound<'a>, AllocError>
+    ) -> Result<BoundAssertion<'a>, AllocError>
         requires { StartIsThere (procedure_in context) (start_of start) }
         ensures begins { IfOk result (Begins context.entry start self.old self.new) }
         ensures version { OnOk result (self.new.version ≡ self.old.version) }

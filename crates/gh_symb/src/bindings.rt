@@ -8,7 +8,7 @@ ghost use Rattle.gh_symb.specs.Reads.{walked_of, Learns, ReadsBound, ReadsEach, 
 
 use crate::kinds::Kinds;
 use crate::numbers::{short, term_of};
-use crate::over_terms::Bound;
+use crate::over_terms::BoundAssertion;
 use crate::scope::Scope;
 use gh_ast::Assertion;
 use gh_grass::binding::Binding;
@@ -40,12 +40,12 @@ impl<'a> Scope<'a> {
         alloc: Global,
         assertion: &'a Assertion,
         version: usize,
-    ) -> Result<Bound<'a>, AllocError>
+    ) -> Result<BoundAssertion<'a>, AllocError>
         ensures { IfOk result (ReadsBound assertion.now self.now version) }
     {
         let binding = self.binding(alloc)?;
         let version = short(version);
-        Ok(Bound {
+        Ok(BoundAssertion {
             assertion,
             binding,
             version,
@@ -59,7 +59,7 @@ impl<'a> Scope<'a> {
         kinds: &mut Kinds,
         assertion: &'a Assertion,
         version: usize,
-    ) -> Result<Bound<'a>, AllocError>
+    ) -> Result<BoundAssertion<'a>, AllocError>
         ensures made { OnOk result (Walks (walked_of assertion.now) kinds.old self.old kinds.new self.new version) }
         ensures encodes { IfOk result (ReadsWalked assertion.now kinds.old self.old version) }
     {
@@ -75,7 +75,7 @@ impl<'a> Scope<'a> {
         kinds: &mut Kinds,
         alternatives: &'a [Assertion],
         version: usize,
-    ) -> Result<Vec<Bound<'a>>, AllocError>
+    ) -> Result<Vec<BoundAssertion<'a>>, AllocError>
         ensures made { OnOk result (WalksEach alternatives.now kinds.old self.old kinds.new self.new version) }
         ensures encode { IfOk result (λ bs. ReadsEach alternatives.now kinds.old self.old version bs.items) }
     {

@@ -4,7 +4,7 @@ ghost use Rattle.std.specs.Prelude.{◌≡◌};
 ghost use Rattle.gh_ast.specs.Plain.{Procedure, Program};
 ghost use Rattle.gh_path.specs.Conditions.{Condition};
 ghost use Rattle.gh_symb.specs.Limits.{PassesNone};
-ghost use Rattle.gh_symb.specs.Numbers.{count_of};
+ghost use Rattle.gh_symb.specs.Numbers.{count_of, no_count};
 ghost use Rattle.gh_symb.specs.Steps.{IsCount, IsCountOf};
 
 /// The most terms that a condition may have.
@@ -31,8 +31,10 @@ pub struct Count {
 impl Counted {
     /// The numbers where the limits are kept, else zeros.
     pub(crate) fn count(self) -> Count
-        ensures { (P : Program) (p : Procedure) (c : Condition) → IsCount P p c self →
+        ensures kept { (P : Program) (p : Procedure) (c : Condition) → IsCount P p c self →
             PassesNone P p c → result ≡ count_of P p c }
+        ensures zeros { (P : Program) (p : Procedure) (c : Condition) → IsCount P p c self →
+            (PassesNone P p c → ⊥) → result ≡ no_count }
     {
         match self {
             Counted::Within { terms, versions } => {

@@ -15,7 +15,7 @@ ghost use Rattle.gh_symb.specs.Walkers.{ReadsAnywhere, ReadsCall, ReadsLoop, Rea
 
 use crate::context::Context;
 use crate::numbers::term_of;
-use crate::over_terms::{Bound, TermStep};
+use crate::over_terms::{BoundAssertion, TermStep};
 use crate::rounds::{Round, round_of};
 use crate::scope::Scope;
 use crate::walker::Walker;
@@ -26,7 +26,11 @@ use gh_path::condition::PathStep;
 use std::alloc::{AllocError, Global};
 
 /// One part of the heap in the place of another.
-fn part<'a>(alloc: Global, before: Bound<'a>, after: Bound<'a>) -> Result<TermStep<'a>, AllocError>
+fn part<'a>(
+    alloc: Global,
+    before: BoundAssertion<'a>,
+    after: BoundAssertion<'a>,
+) -> Result<TermStep<'a>, AllocError>
     ensures { IfOk result (JoinsParts before.entry after.entry) }
 {
     let mut ways = Vec::new(alloc);

@@ -13,7 +13,7 @@ use gh_grass::terms::TermList;
 
 /// An assertion in a version of the heap, with the terms of its variables.
 #[derive(Debug, Drop)]
-pub struct Bound<'a> {
+pub struct BoundAssertion<'a> {
     pub assertion: &'a Assertion,
     pub binding: Binding,
     pub version: u8,
@@ -44,8 +44,8 @@ pub enum TermStep<'a> {
         x: Term,
     },
     Part {
-        before: Bound<'a>,
-        after: Vec<Bound<'a>>,
+        before: BoundAssertion<'a>,
+        after: Vec<BoundAssertion<'a>>,
     },
 }
 
@@ -54,8 +54,8 @@ pub enum TermStep<'a> {
 #[derive(Debug, Drop)]
 pub enum TermCheck<'a> {
     Access { x: Term },
-    Sub(Bound<'a>),
-    Whole(Vec<Bound<'a>>),
+    Sub(BoundAssertion<'a>),
+    Whole(Vec<BoundAssertion<'a>>),
 }
 
 /// A condition over terms. Its terms are those that it lists, and its versions those that it counts.
@@ -63,7 +63,7 @@ pub enum TermCheck<'a> {
 pub struct Symbolic<'a> {
     pub(crate) terms: TermList,
     pub(crate) versions: u8,
-    pub(crate) start: Bound<'a>,
+    pub(crate) start: BoundAssertion<'a>,
     pub(crate) bindings: Vec<Binding>,
     pub(crate) steps: Vec<TermStep<'a>>,
     pub(crate) check: TermCheck<'a>,
@@ -87,7 +87,7 @@ impl<'a> Symbolic<'a> {
     }
 
     /// The start assertion.
-    pub fn start(&self) -> &Bound<'a>
+    pub fn start(&self) -> &BoundAssertion<'a>
         ensures { result.now ≡ self.now.start }
     {
         &self.start

@@ -28,9 +28,9 @@ pub struct Scope<'a> {
 
 impl<'a> Model for Scope<'a> {
     ghost use Rattle.std.specs.Prelude.{map};
-    ghost use Rattle.gh_symb.specs.Tables.{Bound, pair_of};
+    ghost use Rattle.gh_symb.specs.Tables.{Pairs, pair_of};
 
-    ghost Value = { Bound };
+    ghost Value = { Pairs };
 
     ghost view = { λ s. map pair_of s.entries.items };
 }

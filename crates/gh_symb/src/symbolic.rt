@@ -13,7 +13,7 @@ use crate::context::context_of;
 use crate::count::{Counted, MOST_TERMS};
 use crate::kinds::Kinds;
 use crate::limits::{SymbolicError, limit_of, terms_limit};
-use crate::over_terms::{Bound, Symbolic, TermCheck, TermStep};
+use crate::over_terms::{BoundAssertion, Symbolic, TermCheck, TermStep};
 use crate::scope::Scope;
 use crate::walker::Walker;
 use gh_ast::typed::Typed;
@@ -28,7 +28,7 @@ pub struct Walked<'a> {
     pub kinds: Kinds,
     pub version: usize,
     pub counts: Counted,
-    pub start: Bound<'a>,
+    pub start: BoundAssertion<'a>,
     pub steps: Vec<TermStep<'a>>,
     pub check: TermCheck<'a>,
     pub bindings: Vec<Binding>,

@@ -11,7 +11,7 @@ ghost use Rattle.gh_symb.specs.Walkers.{terms_at, Goes, ReadsAssertion, ReadsWay
 
 use crate::context::Context;
 use crate::kinds::Kinds;
-use crate::over_terms::Bound;
+use crate::over_terms::BoundAssertion;
 use crate::rounds::round_of;
 use crate::scope::Scope;
 use gh_ast::Assertion;
@@ -47,7 +47,7 @@ impl<'a> Walker<'a> {
         &mut self,
         alloc: Global,
         assertion: &'a Assertion,
-    ) -> Result<Bound<'a>, AllocError>
+    ) -> Result<BoundAssertion<'a>, AllocError>
         ensures made { OnOk result (Goes (walked_of assertion.now) self.old self.new) }
         ensures encodes { IfOk result (ReadsAssertion assertion.now self.old) }
         ensures version { OnOk result (self.new.version ≡ self.old.version) }
@@ -64,7 +64,7 @@ impl<'a> Walker<'a> {
         &mut self,
         alloc: Global,
         ways: &'a [Assertion],
-    ) -> Result<Vec<Bound<'a>>, AllocError>
+    ) -> Result<Vec<BoundAssertion<'a>>, AllocError>
         ensures made { OnOk result (Goes (each_walked_of ways.now) self.old self.new) }
         ensures encode { IfOk result (λ bs. ReadsWays ways.now self.old bs.items) }
         ensures version { OnOk result (self.new.version ≡ self.old.version) }

@@ -8,12 +8,12 @@ use Rattle.gh_ast.specs.Programs.{Name, variable_names}
 use Rattle.gh_ast.specs.Rules.{IsTyped}
 use Rattle.gh_draw.proofs.Refuted.{told_of_refuted}
 use Rattle.gh_draw.specs.Drawings.{drawing}
-use Rattle.gh_draw.specs.Drawn.{drawing_text, HasValues, IsOver}
+use Rattle.gh_draw.specs.Drawn.{drawing_text, HasValues, HasVariables}
 use Rattle.gh_path.specs.Conditions.{Condition, IsOf}
 use Rattle.gh_path.specs.Graphs.{meets_at}
 use Rattle.gh_top.specs.Laws.{FirstsAreOne}
 use Rattle.gh_top.specs.Reports.{IsFirstRefuted}
-use Rattle.gh_trace.proofs.FirstRefuted.{first_at}
+use Rattle.gh_trace.proofs.FirstRefuted.{first_at, first_low}
 use Rattle.gh_trace.specs.Kept.{state_of, drawn}
 use Rattle.gh_trace.specs.Refuted.{IsFirst}
 use Rattle.gh_trace.specs.Replay as replay
@@ -25,7 +25,7 @@ use Rattle.gh_trace.specs.declared.state.Trace.{Trace}
 
 pub first_reported : (P : Program) (k : ℕ) (t : Trace) → IsTyped P → (f : IsFirst P k t) → All HasValues t.states.items → IsFirstRefuted P k f.condition (map state_of t.states.items)
 first_reported P k t typed f values =
-    let told = told_of_refuted P k f.condition t.states.items typed (first_at P k t f) f.refutes values in
+    let told = told_of_refuted P k f.condition t.states.items typed (first_low P k t f, first_at P k t f) f.refutes values in
     record {
       procedure = told.procedure;
       of = told.of;
@@ -38,7 +38,7 @@ first_reported P k t typed f values =
 pub first_drawn : (P : Program) (k : ℕ) (t : Trace) (typed : IsTyped P) (f : IsFirst P k t) (values : All HasValues t.states.items)
     → drawing_text k t.states.items ≡ drawing k (variable_names (first_reported P k t typed f values).procedure) (map state_of t.states.items)
 first_drawn P k t typed f values =
-    let told = told_of_refuted P k f.condition t.states.items typed (first_at P k t f) f.refutes values in
+    let told = told_of_refuted P k f.condition t.states.items typed (first_low P k t f, first_at P k t f) f.refutes values in
     let reported = first_reported P k t typed f values in
     let same : told.procedure ≡ reported.procedure = one_value (slice_get P.procedures f.condition.procedure) told.procedure reported.procedure told.of reported.of in
     told.text ∙ ap (λ (p : Procedure). drawing k (variable_names p) (map state_of t.states.items)) same
@@ -47,14 +47,14 @@ plain_states : (ss : List State) → map state_of ss ≡ map (λ (x : replay.Dra
 plain_states [] = refl
 plain_states (s ∷ ss) = ap (λ xs. state_of s ∷ xs) (plain_states ss)
 
-drawn_over : (ns : List Name) (ss : List State) → All (IsOver ns) ss → (x : replay.Drawn) → Contains (map drawn ss) x → x.listed ≡ ns
+drawn_over : (ns : List Name) (ss : List State) → All (HasVariables ns) ss → (x : replay.Drawn) → Contains (map drawn ss) x → x.listed ≡ ns
 drawn_over ns [] over x there = absurd (no_member x there)
 drawn_over ns (s ∷ ss) over x there = elim (member_cases (drawn s) (map drawn ss) x there) as (λ _. x.listed ≡ ns) [
-  | inl is ↦ subst (λ (y : replay.Drawn). y.listed ≡ ns) is (All-head (IsOver ns) s ss over)
-  | inr later ↦ drawn_over ns ss (All-tail (IsOver ns) s ss over) x later
+  | inl is ↦ subst (λ (y : replay.Drawn). y.listed ≡ ns) is (All-head (HasVariables ns) s ss over)
+  | inr later ↦ drawn_over ns ss (All-tail (HasVariables ns) s ss over) x later
 ]
 
-drawn_refute : (P : Program) (c : Condition) (p : Procedure) (ss : List State) → AreCounterexample P c (map state_of ss) → IsOf P c p → All (IsOver (variable_names p)) ss
+drawn_refute : (P : Program) (c : Condition) (p : Procedure) (ss : List State) → AreCounterexample P c (map state_of ss) → IsOf P c p → All (HasVariables (variable_names p)) ss
     → replay.Refutes P c (map drawn ss)
 drawn_refute P c p [] against of over = absurd against
 drawn_refute P c p (s ∷ ss) (q, its, against) of over = record {
@@ -69,7 +69,7 @@ drawn_refute P c p (s ∷ ss) (q, its, against) of over = record {
       subst (λ (ys : List plain.State). Counterexample P p (meets_at p c.start) c.way.steps c.way.check (state_of s) ys) (plain_states ss) here;
 }
 
-first_decided : (P : Program) (k : ℕ) (c : Condition) (t : Trace) → (f : IsFirstRefuted P k c (map state_of t.states.items)) → All (IsOver (variable_names f.procedure)) t.states.items → IsFirst P k t
+first_decided : (P : Program) (k : ℕ) (c : Condition) (t : Trace) → (f : IsFirstRefuted P k c (map state_of t.states.items)) → All (HasVariables (variable_names f.procedure)) t.states.items → IsFirst P k t
 first_decided P k c t f over = record {
   before = f.reached.before;
   condition = c;

@@ -27,7 +27,7 @@ use Rattle.gh_top.proofs.RuleLemmas.{first_numbered}
 
 pub parse_refused : (text : List ℕ) (e : ParseError) → length text ≤ most_bytes → IsParseRefusal text e → IsFrontError (Some text) (of_parse e)
 parse_refused text (parsing.Byte offset) short why = (text, refl, short, why)
-parse_refused text (parsing.Deep span) short why = (text, refl, record { short = short; characters = why.0; offset = why.1.0; deep = why.1.1; place = why.1.2 })
+parse_refused text (parsing.Deep span) short why = (text, refl, record { short = short; characters = why.0; deep = why.1 })
 parse_refused text (parsing.Syntax span) short why = (text, refl, record { short = short; characters = why.characters; shallow = why.shallow }, why.none, why.place)
 parse_refused text parsing.OutOfMemory short why = tt
 

@@ -28,7 +28,7 @@ use Rattle.gh_top.specs.Seen.{Writing, Outside, table_of, InputsCountStands, Sin
 use Rattle.gh_top.specs.Sessions.{most_edited, IsSessionAnswer, file_refused, file_answered}
 use Rattle.gh_ast.specs.Limits.{most_bytes}
 use Rattle.gh_top.specs.Refusals.{IsText, IsAccepted, IsProgramRefused, refusal_text}
-use Rattle.gh_top.specs.Headline.{Files, asked_text, Asks, Answer, usage, refused, check_verified, check_refuted, log_verified, log_refuted, recheck_refused, recheck_verified, paths_listed, replay_refused, replay_refuted, smallest_verified, smallest_refuted, stress_verified, stress_refuted, HasAnswer, IsGoodFor, IsWhole, IsAnswered, IsReadFault, IsWriteFault, NamesFile, smt_listed, smt_no_condition, smt_too_long, run_refused, run_unmet, run_stopped, run_faulted, run_held, run_failed, session_refused, session_listed, entail_refused, entail_verified, entail_refuted}
+use Rattle.gh_top.specs.Headline.{Files, asked_text, Asks, Answer, usage, refused, check_verified, check_refuted, log_verified, log_refuted, recheck_refused, recheck_verified, paths_listed, replay_refused, replay_refuted, smallest_verified, smallest_refuted, stress_verified, stress_refuted, HasAnswer, IsGoodFor, IsWrittenWhole, IsAnswered, IsReadFault, IsWriteFault, NamesFile, smt_listed, smt_no_condition, smt_too_long, run_refused, run_unmet, run_stopped, run_faulted, run_held, run_failed, session_refused, session_listed, entail_refused, entail_verified, entail_refuted}
 use Rattle.gh_top.specs.Listings.{listing}
 use Rattle.gh_top.specs.Replies.{Replies, RepliesOn, RepliesOnSecond}
 use Rattle.gh_top.specs.declared.file.FileText.{FileText}
@@ -193,7 +193,7 @@ good words files s u (entail_refused x a h) e = absurd cc
 good words files s u (entail_verified a p v) e = λ r P asks. absurd (no_program words _ r a asks.request asks.on_program)
 good words files s u (entail_refuted a p f) e = absurd cc
 
-pub is_whole : (t : Option Table) (words : List (List ℕ)) (w : Writing) (s : Status) (u : List ℕ) → HasAnswer t words s u → Writes w u → IsWhole t words w s
+pub is_whole : (t : Option Table) (words : List (List ℕ)) (w : Writing) (s : Status) (u : List ℕ) → HasAnswer t words s u → Writes w u → IsWrittenWhole t words w s
 is_whole t words w s u a written = record { text = u; given = a; written = written; good = λ e. good words a.files s u a.answer e }
 
 pub answered : (words : List (List ℕ)) (o : Outside) (s : Status) (u : List ℕ) → HasAnswer (table_of o) words s u → Writes o.writing u → IsAnswered words o s

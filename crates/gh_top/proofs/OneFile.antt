@@ -14,7 +14,7 @@ use Rattle.gh_log.proofs.OutsideLemmas.{logs_are_inside}
 use Rattle.gh_log.specs.Lines.{LogLine}
 use Rattle.gh_log.specs.Sections.{IsFirstFault}
 use Rattle.gh_log.specs.Spelled.{IsLogText, IsFirstOutside, lines_before}
-use Rattle.gh_path.specs.Conditions.{Condition, conditions, IsOf}
+use Rattle.gh_path.specs.Conditions.{Condition, conditions, IsConditionAt, IsOf}
 use Rattle.gh_run.proofs.OneFile.{state_files_are_one}
 use Rattle.gh_run.specs.StateFiles.{IsFaultyLine}
 use Rattle.gh_session.proofs.Orders.{IsOrder, one_place, left_first, right_first, ordered}
@@ -29,7 +29,7 @@ use Rattle.gh_top.proofs.OneStatus.{one_log, section_at, one_at}
 use Rattle.gh_top.specs.Rechecks.{most_logged, lines_in, IsLogOf, IsFirstFaultIn, IsLogRefusal}
 use Rattle.gh_top.specs.Rechecks as recheck
 use Rattle.gh_draw.specs.Drawings.{most_drawn}
-use Rattle.gh_top.specs.Replays.{IsAt, IsDrawingRefusal, failed_text}
+use Rattle.gh_top.specs.Replays.{IsDrawingRefusal, failed_step_text}
 use Rattle.gh_top.specs.Replays as replay
 use Rattle.gh_top.specs.Runs.{most_stated, IsStateRefusal}
 use Rattle.gh_top.specs.Runs as run
@@ -209,7 +209,7 @@ one_log_refusal P bytes u v a b =
 
 data IsDrawingCase (P : Program) (text u : List ℕ) : Type 0 where
   none_drawn : ((n : ℕ) (xs : List State) → IsFileOf P text n xs → ⊥) → u ≡ line (codes "refused: drawing") → IsDrawingCase P text u
-  at_step : (n k : ℕ) (xs : List State) (c : Condition) → IsFileOf P text n xs → IsAt P n c → FirstFailure P c (map drawn xs) k → u ≡ failed_text k → IsDrawingCase P text u
+  at_step : (n k : ℕ) (xs : List State) (c : Condition) → IsFileOf P text n xs → IsConditionAt P n c → FirstFailure P c (map drawn xs) k → u ≡ failed_step_text k → IsDrawingCase P text u
 
 one_drawing_case : (P : Program) (text u v : List ℕ) → IsDrawingCase P text u → IsDrawingCase P text v → u ≡ v
 one_drawing_case P text u v (none_drawn none e) (none_drawn never f) = e ∙ sym f
@@ -217,10 +217,10 @@ one_drawing_case P text u v (none_drawn none e) (at_step m j ys d file at fails 
 one_drawing_case P text u v (at_step n k xs c file at fails e) (none_drawn none f) = absurd (none n xs file)
 one_drawing_case P text u v (at_step n k xs c file at fails e) (at_step m j ys d other there breaks f) =
     let same = file_one P text n m xs ys (file_shown P text n xs file) (file_shown P text m ys other) in
-    let moved : IsAt P m c = subst (λ i. IsAt P i c) same.0 at in
+    let moved : IsConditionAt P m c = subst (λ i. IsConditionAt P i c) same.0 at in
     let condition = one_at P m c d moved there in
     let here : FirstFailure P d (map drawn ys) k = subst (λ z. FirstFailure P z (map drawn ys) k) condition (subst (λ zs. FirstFailure P c (map drawn zs) k) same.1 fails) in
-    e ∙ ap failed_text (failures_are_one.one P d (map drawn ys) k j here breaks) ∙ sym f
+    e ∙ ap failed_step_text (failures_are_one.one P d (map drawn ys) k j here breaks) ∙ sym f
 
 drawing_case : (P : Program) (bytes : Option (List ℕ)) (u : List ℕ) → IsDrawingRefusal P bytes u → IsFileCase most_drawn bytes (line (codes "refused: drawing Absent")) (line (codes "refused: drawing TooLong")) (IsDrawingCase P) u
 drawing_case P bytes u replay.absent = no_file refl refl

@@ -273,7 +273,7 @@ refusal_case : (bytes : Option (List ℕ)) (x : Refusal) → IsProgramRefused by
 refusal_case bytes Absent e = no_file e refl
 refusal_case bytes TooLong (t, e, long) = long_file t e long refl
 refusal_case bytes (Byte k) (t, e, short, first) = short_file t e short (at_byte k refl first)
-refusal_case bytes (Deep p) (t, e, d) = short_file t e d.short (at_deep d.offset (ap Deep d.place) d.characters d.deep)
+refusal_case bytes (Deep p) (t, e, d) = short_file t e d.short (at_deep d.deep.0 (ap Deep d.deep.2) d.characters d.deep.1)
 refusal_case bytes (Syntax p) (t, e, readable, none, place) = short_file t e readable.short (at_syntax p refl readable none place)
 refusal_case bytes (TypeError r p) (t, P, e, is, broken) = short_file t e is.readable.short (at_error P r p refl is.readable is.spells broken)
 refusal_case bytes (LimitPassed l) (t, P, e, is, typed, passed) = short_file t e is.readable.short (at_limit P l refl is.readable is.spells typed passed)
@@ -290,7 +290,7 @@ question_case : (bytes : Option (List ℕ)) (x : Refusal) → IsQuestionRefused 
 question_case bytes Absent e = no_file e refl
 question_case bytes TooLong (t, e, long) = long_file t e long refl
 question_case bytes (Byte k) (t, e, short, first) = short_file t e short (at_byte k refl first)
-question_case bytes (Deep p) (t, e, d) = short_file t e d.short (at_deep d.offset (ap Deep d.place) d.characters d.deep)
+question_case bytes (Deep p) (t, e, d) = short_file t e d.short (at_deep d.deep.0 (ap Deep d.deep.2) d.characters d.deep.1)
 question_case bytes (Syntax p) (t, e, readable, none, place) = short_file t e readable.short (at_syntax p refl readable none place)
 question_case bytes (TypeError r p) (t, q, e, is, broken) = short_file t e is.readable.short (at_error q r p refl is.readable is.poses broken)
 question_case bytes (LimitPassed l) (t, q, e, is, typed, passed) = short_file t e is.readable.short (at_limit q l refl is.readable is.poses typed passed)

@@ -33,7 +33,7 @@ use Rattle.gh_log.proofs.OutsideLemmas.{logs_are_inside}
 use Rattle.gh_log.specs.Lines.{LogLine}
 use Rattle.gh_log.specs.Sections.{IsValidSection}
 use Rattle.gh_path.specs.Admitted.{Passed, NoneHas, IsFirstLimit, of_text, paths, steps, terms, versions, IsAdmitted}
-use Rattle.gh_path.specs.Conditions.{Condition, conditions, IsOf}
+use Rattle.gh_path.specs.Conditions.{Condition, conditions, IsConditionAt, IsOf}
 use Rattle.gh_run.proofs.OneFile.{state_files_are_one}
 use Rattle.gh_run.proofs.OneReport.{reports_are_one}
 use Rattle.gh_run.specs.StateFiles.{IsStateFile}
@@ -49,7 +49,7 @@ use Rattle.gh_top.specs.Laws.{StatusesAreOne}
 use Rattle.gh_top.specs.Rechecks.{most_logged, IsLogOf, IsFirstFaultIn, IsLogRefusal, IsValidLogFile}
 use Rattle.gh_top.specs.Rechecks as recheck
 use Rattle.gh_top.specs.Refusals.{IsAccepted, IsProgramRefused}
-use Rattle.gh_top.specs.Replays.{IsAt, IsDrawingRefusal, IsRefutingFile}
+use Rattle.gh_top.specs.Replays.{IsDrawingRefusal, IsRefutingFile}
 use Rattle.gh_top.specs.Replays as replay
 use Rattle.gh_top.specs.Reports.{IsFirstRefuted}
 use Rattle.gh_top.specs.Rules.{rule_number}
@@ -113,7 +113,7 @@ not_accepted text TooLong P (t, e, long) a =
     let short : length t ≤ most_bytes = subst (λ u. length u ≤ most_bytes) same a.spelled.readable.short in
     absurd (omega (arith, long, short))
 not_accepted text (Byte k) P (t, e, short, first) a = a.spelled.readable.characters k (rw (a_text t text e) first)
-not_accepted text (Deep p) P (t, e, deep) a = a.spelled.readable.shallow deep.offset (rw (a_text t text e) deep.deep)
+not_accepted text (Deep p) P (t, e, deep) a = a.spelled.readable.shallow deep.deep.0 (rw (a_text t text e) deep.deep.1)
 not_accepted text (Syntax p) P (t, e, readable, none, place) a = none P (rw (a_text t text e) at a.spelled.spells)
 not_accepted text (TypeError r p) P (t, Q, e, is, broken) a =
     let one : Q ≡ P = one_spelled text Q P (rw (a_text t text e) is.spells) a.spelled.spells in
@@ -139,7 +139,7 @@ not_posed text TooLong q (t, e, long) a d =
     let short : length t ≤ most_bytes = subst (λ u. length u ≤ most_bytes) same a.readable.short in
     absurd (omega (arith, long, short))
 not_posed text (Byte k) q (t, e, short, first) a d = a.readable.characters k (rw (a_text t text e) first)
-not_posed text (Deep p) q (t, e, deep) a d = a.readable.shallow deep.offset (rw (a_text t text e) deep.deep)
+not_posed text (Deep p) q (t, e, deep) a d = a.readable.shallow deep.deep.0 (rw (a_text t text e) deep.deep.1)
 not_posed text (Syntax p) q (t, e, readable, none, place) a d = none q (rw (a_text t text e) at a.poses)
 not_posed text (TypeError r p) q (t, o, e, is, broken) a d =
     let one : o ≡ q = one_posed text o q (rw (a_text t text e) is.poses) a.poses in
@@ -224,9 +224,8 @@ refuting P n u bytes r _ e (replay.no_drawing {text = t} short none) = none n r.
 refuting P n u bytes r _ e (replay.fails {text = t} m k xs c short file found fails) =
     let here : IsFileOf P t n r.states = rw (a_text t r.text (sym e)) at r.file in
     let one = file_one P t n m r.states xs (file_shown P t n r.states here) (file_shown P t m xs file) in
-    let there : IsAt P n c = rw one.0 found in
-    let known = r.at in
-    let same : c ≡ r.condition = cc in
+    let there : IsConditionAt P n c = rw one.0 found in
+    let same : c ≡ r.condition = one_value (slice_get (conditions P) (n - 1)) c r.condition there.1 r.at.1 in
     let fails_here : FirstFailure P r.condition (map drawn r.states) k =
     subst (λ d. FirstFailure P d (map drawn r.states) k) same (subst (λ ys. FirstFailure P c (map drawn ys) k) (sym one.1) fails) in
     failures_are_one.none P r.condition (map drawn r.states) r.refutes k fails_here
@@ -244,24 +243,24 @@ one_replayed P bytes s t (inr (e, u, w)) (inr (f, v, x)) = e ∙ sym f
 
 abbrev IsScripted : Program → ℕ → Status → Type 0
 IsScripted P n s =
-    ((s ≡ Listed) × (p : Procedure) × (c : Condition) × IsAt P n c × IsOf P c p × (asserted_count P p c ≤ most_asserted))
+    ((s ≡ Listed) × (p : Procedure) × (c : Condition) × IsConditionAt P n c × IsOf P c p × (asserted_count P p c ≤ most_asserted))
     ⊎ ((s ≡ LogRefused) × (length (conditions P) < n))
-    ⊎ ((s ≡ TextRefused) × (p : Procedure) × (c : Condition) × IsAt P n c × IsOf P c p × (most_asserted < asserted_count P p c))
+    ⊎ ((s ≡ TextRefused) × (p : Procedure) × (c : Condition) × IsConditionAt P n c × IsOf P c p × (most_asserted < asserted_count P p c))
 
-pub one_at : (P : Program) (n : ℕ) (c d : Condition) → IsAt P n c → IsAt P n d → c ≡ d
-one_at P n c d a b = cc
+pub one_at : (P : Program) (n : ℕ) (c d : Condition) → IsConditionAt P n c → IsConditionAt P n d → c ≡ d
+one_at P n c d a b = one_value (slice_get (conditions P) (n - 1)) c d a.1 b.1
 
-pub not_past : (P : Program) (n : ℕ) (c : Condition) → IsAt P n c → length (conditions P) < n → ⊥
-not_past P n c a past = let within = slice_get_within (conditions P) (n - 1) c a in absurd (omega (arith, within, past))
+pub not_past : (P : Program) (n : ℕ) (c : Condition) → IsConditionAt P n c → length (conditions P) < n → ⊥
+not_past P n c a past = let within = slice_get_within (conditions P) (n - 1) c a.1 in let low = a.0 in absurd (omega (arith, low, within, past))
 
 -- what is told of the condition of a number and of its procedure is one
-pub one_told : {X : Type 0} (P : Program) (n : ℕ) (p q : Procedure) (c d : Condition) → IsAt P n c → IsAt P n d → IsOf P c p → IsOf P d q → (told : Procedure → Condition → X) → told p c ≡ told q d
+pub one_told : {X : Type 0} (P : Program) (n : ℕ) (p q : Procedure) (c d : Condition) → IsConditionAt P n c → IsConditionAt P n d → IsOf P c p → IsOf P d q → (told : Procedure → Condition → X) → told p c ≡ told q d
 one_told P n p q c d a b of its told =
     let same : c ≡ d = one_at P n c d a b in
     let here : IsOf P d p = subst (λ x. IsOf P x p) same of in
     ap (told p) same ∙ ap (λ x. told x d) (one_value (slice_get P.procedures d.procedure) p q here its)
 
-pub not_long : (P : Program) (n : ℕ) (p q : Procedure) (c d : Condition) → IsAt P n c → IsAt P n d → IsOf P c p → IsOf P d q → asserted_count P p c ≤ most_asserted
+pub not_long : (P : Program) (n : ℕ) (p q : Procedure) (c d : Condition) → IsConditionAt P n c → IsConditionAt P n d → IsOf P c p → IsOf P d q → asserted_count P p c ≤ most_asserted
     → most_asserted < asserted_count P q d → ⊥
 not_long P n p q c d a b of its few many =
     let same = one_told P n p q c d a b of its (asserted_count P) in

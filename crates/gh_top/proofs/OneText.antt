@@ -6,7 +6,7 @@ use Rattle.gh_ast.specs.Rules.{IsTyped}
 use Rattle.gh_draw.proofs.Shown.{file_one, file_shown}
 use Rattle.gh_draw.specs.Drawings.{line}
 use Rattle.gh_draw.specs.Drawn.{IsFileOf}
-use Rattle.gh_path.specs.Conditions.{Condition, conditions, IsOf}
+use Rattle.gh_path.specs.Conditions.{Condition, conditions, IsConditionAt, IsOf}
 use Rattle.gh_run.specs.declared.simulate.Report.{Report}
 use Rattle.gh_run.specs.declared.simulate.Report.TheVariants as report
 use Rattle.gh_top.proofs.OneFile.{one_log_refusal, one_drawing_refusal, one_state_refusal, one_session_refusal}
@@ -18,7 +18,7 @@ use Rattle.gh_top.specs.Laws.{log_of, section_of, check_trace, log_trace, smalle
 use Rattle.gh_top.specs.Listings.{listing}
 use Rattle.gh_top.specs.Rechecks.{IsLogRefusal, IsValidLogFile, rechecked_text}
 use Rattle.gh_top.specs.Refusals.{refusal_text}
-use Rattle.gh_top.specs.Replays.{IsAt, IsDrawingRefusal, IsRefutingFile, replayed_text}
+use Rattle.gh_top.specs.Replays.{IsDrawingRefusal, IsRefutingFile, replayed_text}
 use Rattle.gh_top.specs.Reports.{verified_text, stressed_text}
 use Rattle.gh_top.specs.Runs.{IsStateRefusal, IsRunFrom, unmet_text, stopped_text, fault_text, held_text, failed_text}
 use Rattle.gh_top.specs.Sessions.{IsSessionRefusal}
@@ -55,9 +55,9 @@ one_replay_text P bytes u v (inr w) (inr x) = one_drawing_refusal P bytes u v w 
 
 abbrev IsScriptText : Program → ℕ → List ℕ → Type 0
 IsScriptText P n u =
-    ((p : Procedure) × (c : Condition) × IsAt P n c × IsOf P c p × (asserted_count P p c ≤ most_asserted) × (u ≡ smt_text P p c))
+    ((p : Procedure) × (c : Condition) × IsConditionAt P n c × IsOf P c p × (asserted_count P p c ≤ most_asserted) × (u ≡ smt_text P p c))
     ⊎ ((length (conditions P) < n) × (u ≡ unnumbered_text P n))
-    ⊎ ((p : Procedure) × (c : Condition) × IsAt P n c × IsOf P c p × (most_asserted < asserted_count P p c) × (u ≡ too_long_text P p c))
+    ⊎ ((p : Procedure) × (c : Condition) × IsConditionAt P n c × IsOf P c p × (most_asserted < asserted_count P p c) × (u ≡ too_long_text P p c))
 
 one_script_text : (P : Program) (n : ℕ) (u v : List ℕ) → IsScriptText P n u → IsScriptText P n v → u ≡ v
 one_script_text P n u v (inl (p, c, a, of, few, e)) (inl (q, d, b, its, less, f)) = e ∙ one_told P n p q c d a b of its (smt_text P) ∙ sym f

@@ -44,7 +44,7 @@ use Rattle.gh_top.proofs.RuleLemmas.{first_asked}
 
 pub question_refused : (text : List ℕ) (e : ParseError) → length text ≤ most_bytes → IsQuestionRefusal text e → IsQuestionFrontError (Some text) (of_parse e)
 question_refused text (parsing.Byte offset) short why = (text, refl, short, why)
-question_refused text (parsing.Deep span) short why = (text, refl, record { short = short; characters = why.0; offset = why.1.0; deep = why.1.1; place = why.1.2 })
+question_refused text (parsing.Deep span) short why = (text, refl, record { short = short; characters = why.0; deep = why.1 })
 question_refused text (parsing.Syntax span) short why = (text, refl, record { short = short; characters = why.characters; shallow = why.shallow }, why.none, why.place)
 question_refused text parsing.OutOfMemory short why = tt
 

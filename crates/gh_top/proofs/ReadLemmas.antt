@@ -8,7 +8,7 @@ use Rattle.gh_path.specs.Admitted.{IsAdmitted}
 use Rattle.gh_top.specs.Causes.{IsFile}
 use Rattle.gh_top.specs.Words.{IsRequest, IsOnProgram}
 use Rattle.gh_top.specs.Files.{Shows, IsSourceRead}
-use Rattle.gh_top.specs.Headline.{Files, AreTold, Asks}
+use Rattle.gh_top.specs.Headline.{Files, AreAsTold, Asks}
 use Rattle.gh_top.specs.Sources.{Source, from_file, self_made, source_of, second_file}
 use Rattle.gh_top.specs.Fronts.{IsTextOf}
 use Rattle.gh_ast.specs.Limits.{most_bytes}
@@ -98,14 +98,14 @@ stays_on q i j h words asks = first_ordered q (record { before = j; after = i })
 -- the second file was begun too
 
 second_at : (words : List (List ℕ)) (q : Request) (s : Source) (g : List ℕ) (limit : ℕ) (P : Program) (files : Files) (i : InputsTold) (r : Reading)
-    → source_of q ≡ s → IsFile s → second_file q ≡ Some (g, limit) → AreTold r.before.table words files → Asks words files q P
+    → source_of q ≡ s → IsFile s → second_file q ≡ Some (g, limit) → AreAsTold r.before.table words files → Asks words files q P
     → FirstRead s (record { before = i; after = r.before }) → ReadsFile g limit r → ReadsInOrder words (record { before = i; after = r.after })
 second_at words q (self_made text) g limit P files i r is on second_is told_by asked h file = absurd on
 second_at words q (from_file f most) g limit P files i r is on second_is told_by asked h file =
     record {
       names = f ∷ g ∷ [];
       most = calls_for (told i.table f) most + calls_for (told i.table g) limit;
-      order = second q files (subst (λ t. AreTold t words files) h.table told_by) asked is second_is;
+      order = second q files (subst (λ t. AreAsTold t words files) h.table told_by) asked is second_is;
       begun = two_names i.names r.before.names r.after.names f g h.begun file.begun;
       calls = more_calls (calls_for (told i.table f) most) (calls_for (told i.table g) limit) i.calls r.before.calls r.after.calls h.calls
           (subst (λ t. MakesAtMost (calls_for (told t g) limit) r.before.calls r.after.calls) h.table file.calls);

@@ -1,11 +1,11 @@
 -- From a condition of a number to what is answered for it.
 use Rattle.std.proofs.Common.{◌≡◌, ℕ, ◌-◌, ◌<◌, ◌≤◌, List, ◌++◌, length, codes, ◌∙◌, ap, subst, arith, inl, inr}
-use Rattle.std.specs.Prelude.{Some, None, slice_get}
+use Rattle.std.specs.Prelude.{Some, None}
 use Rattle.std.specs.Fmt.{decimal}
 use Rattle.gh_base.specs.declared.place.Span.{Span}
 use Rattle.gh_ast.specs.Plain.{Procedure, Program}
 use Rattle.gh_path.specs.Answers.{IsNumbered}
-use Rattle.gh_path.specs.Conditions.{Condition, IsOf, conditions}
+use Rattle.gh_path.specs.Conditions.{Condition, conditions, IsConditionAt, IsOf}
 use Rattle.gh_path.specs.Kept.{condition_of}
 use Rattle.gh_path.specs.declared.condition.Condition as kept
 use Rattle.gh_base.specs.Grounds.{Problem}
@@ -41,15 +41,15 @@ is_too_long P p c g span count s u e counted many at a b =
     ∙ ap (λ k. line (codes "refused: Limit script at " ++ place_text p.name.span ++ codes ", count " ++ decimal k)) count_is in
     rw (a, text) (too_long (subst (λ k. most_asserted < k) count_is many))
 
-reported : (P : Program) (n : ℕ) (p : Procedure) (c : Condition) (s : Status) (u : List ℕ) → slice_get (conditions P) (n - 1) ≡ Some c → IsOf P c p → IsScriptReport P p c s u
+reported : (P : Program) (n : ℕ) (p : Procedure) (c : Condition) (s : Status) (u : List ℕ) → IsConditionAt P n c → IsOf P c p → IsScriptReport P p c s u
     → (file : List ℕ) → Replies (Smt file n) P s u
 reported P n p c s u at of (listed few decides) file words files asks = smt_listed p c asks at of few decides
 reported P n p c s u at of (too_long many) file words files asks = smt_too_long p c asks at of many
 
 pub script_replies : (P : Program) (n : ℕ) (r : kept.Condition) (s : Status) (u : List ℕ) → IsNumbered P n (Some r) → ReportsScript P r s u → (file : List ℕ) → Replies (Smt file n) P s u
-script_replies P n r s u (low, there) told =
-    let is = placed P (n - 1) (condition_of r) there in
-    reported P n is.procedure (condition_of r) s u there is.of (told is.procedure is.of)
+script_replies P n r s u at told =
+    let is = placed P (n - 1) (condition_of r) at.1 in
+    reported P n is.procedure (condition_of r) s u at is.of (told is.procedure is.of)
 
 pub none_replies : (P : Program) (n m : ℕ) (s : Status) (u : List ℕ) → 1 ≤ n → IsNumbered P n None → m ≡ length (conditions P) → s ≡ LogRefused
     → u ≡ line (codes "refused: no condition " ++ decimal n ++ codes " of " ++ decimal m) → (file : List ℕ) → Replies (Smt file n) P s u

@@ -4,7 +4,7 @@ use Rattle.gh_base.specs.Outside.{Table}
 use Rattle.gh_ast.specs.Plain.{Procedure, Program}
 use Rattle.gh_ast.specs.Questions.{Question}
 use Rattle.gh_machine.specs.Machine.{IsGood}
-use Rattle.gh_path.specs.Conditions.{Condition, conditions, IsOf}
+use Rattle.gh_path.specs.Conditions.{Condition, conditions, IsConditionAt, IsOf}
 use Rattle.gh_trace.specs.Validity.{ListedAreValid}
 use Rattle.gh_log.specs.Lines.{LogLine}
 use Rattle.gh_log.specs.Spelled.{IsSpelled}
@@ -20,7 +20,7 @@ use Rattle.gh_top.specs.Reports.{IsRefutation, verified_text, stressed_text}
 use Rattle.gh_top.specs.Smallests.{IsSmallestReport}
 use Rattle.gh_top.specs.Listings.{listing}
 use Rattle.gh_top.specs.Rechecks.{IsLogRefusal, IsValidLogFile, rechecked_text}
-use Rattle.gh_top.specs.Replays.{IsAt, IsDrawingRefusal, IsRefutingFile, replayed_text}
+use Rattle.gh_top.specs.Replays.{IsDrawingRefusal, IsRefutingFile, replayed_text}
 use Rattle.gh_top.specs.Sessions.{IsSessionRefusal, IsSessionReport}
 use Rattle.gh_top.specs.Entails.{IsQuestionRefused, PosesAdmitted, IsEntailedReport, IsFailingReport}
 use Rattle.gh_top.specs.Runs.{IsStateRefusal, IsRunFrom, unmet_text, stopped_text, fault_text, held_text, failed_text}
@@ -44,9 +44,9 @@ abbrev pub Files : Type 0
 Files = ℕ → Option (List ℕ)
 
 -- where the inputs tell what each name holds, the files are that
-abbrev pub AreTold : Option Table → List (List ℕ) → Files → Type 0
-AreTold None words files = ⊤
-AreTold (Some table) words files = (k : ℕ) (name : List ℕ) → slice_get words k ≡ Some name → files k ≡ table name
+abbrev pub AreAsTold : Option Table → List (List ℕ) → Files → Type 0
+AreAsTold None words files = ⊤
+AreAsTold (Some table) words files = (k : ℕ) (name : List ℕ) → slice_get words k ≡ Some name → files k ≡ table name
 
 -- the text that a request is about: that of file 1; `stress` makes its own
 abbrev pub asked_text : Request → Files → Option (List ℕ)
@@ -87,9 +87,9 @@ pub data Answer (words : List (List ℕ)) (files : Files) : Status → List ℕ 
   stress_verified : {n : ℕ} {P : Program} → Asks words files (Stress n) P → ListedAreValid P → Answer words files Verified (stressed_text n P)
   stress_refuted : {n : ℕ} {u : List ℕ} {P : Program} → Asks words files (Stress n) P → IsRefutation P u → Answer words files Refuted u
   -- smt FILE K
-  smt_listed : {f : List ℕ} {n : ℕ} {P : Program} (p : Procedure) (c : Condition) → Asks words files (Smt f n) P → IsAt P n c → IsOf P c p → asserted_count P p c ≤ most_asserted → IsDecidedByScript P p c → Answer words files Listed (smt_text P p c)
+  smt_listed : {f : List ℕ} {n : ℕ} {P : Program} (p : Procedure) (c : Condition) → Asks words files (Smt f n) P → IsConditionAt P n c → IsOf P c p → asserted_count P p c ≤ most_asserted → IsDecidedByScript P p c → Answer words files Listed (smt_text P p c)
   smt_no_condition : {f : List ℕ} {n : ℕ} {P : Program} → Asks words files (Smt f n) P → length (conditions P) < n → Answer words files LogRefused (unnumbered_text P n)
-  smt_too_long : {f : List ℕ} {n : ℕ} {P : Program} (p : Procedure) (c : Condition) → Asks words files (Smt f n) P → IsAt P n c → IsOf P c p → most_asserted < asserted_count P p c → Answer words files TextRefused (too_long_text P p c)
+  smt_too_long : {f : List ℕ} {n : ℕ} {P : Program} (p : Procedure) (c : Condition) → Asks words files (Smt f n) P → IsConditionAt P n c → IsOf P c p → most_asserted < asserted_count P p c → Answer words files TextRefused (too_long_text P p c)
   -- run FILE STATE N
   run_refused : {f x u : List ℕ} {n : ℕ} {P : Program} → Asks words files (Run f x n) P → IsStateRefusal P (files 2) u → Answer words files LogRefused u
   run_unmet : {f x : List ℕ} {n : ℕ} {P : Program} → Asks words files (Run f x n) P → IsRunFrom P (files 2) n report.Unmet → Answer words files Unmet unmet_text
@@ -108,7 +108,7 @@ pub data Answer (words : List (List ℕ)) (files : Files) : Status → List ℕ 
 -- some files that are told give this answer
 pub record HasAnswer (table : Option Table) (words : List (List ℕ)) (status : Status) (text : List ℕ) : Type 0 where
   pub files : Files
-  pub told : AreTold table words files
+  pub told : AreAsTold table words files
   pub answer : Answer words files status text
 
 -- the program that the words ask about is good: no run of any procedure from a state that meets its precondition,
@@ -117,7 +117,7 @@ abbrev pub IsGoodFor : List (List ℕ) → Files → Type 0
 IsGoodFor words files = (r : Request) (P : Program) → Asks words files r P → IsGood P
 
 -- exactly one text was written, it is the answer, and what is verified is good
-pub record IsWhole (table : Option Table) (words : List (List ℕ)) (w : Writing) (status : Status) : Type 0 where
+pub record IsWrittenWhole (table : Option Table) (words : List (List ℕ)) (w : Writing) (status : Status) : Type 0 where
   pub text : List ℕ
   pub given : HasAnswer table words status text
   pub written : Writes w text
@@ -128,7 +128,7 @@ abbrev pub IsAnswered : List (List ℕ) → Outside → Status → Type 0
 IsAnswered words o ReadFault = ⊤
 IsAnswered words o WriteFault = ⊤
 IsAnswered words o OutOfMemory = WritesNothing o.writing
-IsAnswered words o status = IsWhole (table_of o) words o.writing status
+IsAnswered words o status = IsWrittenWhole (table_of o) words o.writing status
 
 -- the words name a file
 pub record NamesFile (words : List (List ℕ)) : Type 0 where
@@ -156,10 +156,10 @@ IsWriteFault words o WriteFault = SinkCountRose o.writing × IsCutOff (table_of 
 IsWriteFault words o status = SinkCountStands o.writing
 
 -- the answer is written whole, or memory runs out
-abbrev pub IsWholeOrOutOfMemory : Option Table → List (List ℕ) → Writing → Status → Type 0
-IsWholeOrOutOfMemory table words w status = (status ≡ OutOfMemory) ⊎ IsWhole table words w status
+abbrev pub IsWrittenWholeOrOutOfMemory : Option Table → List (List ℕ) → Writing → Status → Type 0
+IsWrittenWholeOrOutOfMemory table words w status = (status ≡ OutOfMemory) ⊎ IsWrittenWhole table words w status
 
 -- 4: where neither count rises, a lack of memory alone keeps the answer from being written whole
 abbrev pub IsComplete : List (List ℕ) → Outside → Status → Type 0
 IsComplete words o status =
-    (InputsCountRose o.reading → ⊥) → (SinkCountRose o.writing → ⊥) → IsWholeOrOutOfMemory (table_of o) words o.writing status
+    (InputsCountRose o.reading → ⊥) → (SinkCountRose o.writing → ⊥) → IsWrittenWholeOrOutOfMemory (table_of o) words o.writing status

@@ -5,7 +5,7 @@ use Rattle.gh_base.specs.Reading.{told, calls_for}
 use Rattle.gh_ast.specs.Plain.{Program}
 use Rattle.gh_top.specs.Words.{IsRequest}
 use Rattle.gh_top.specs.Sources.{Source, from_file, self_made, source_of, second_file}
-use Rattle.gh_top.specs.Headline.{Files, AreTold, Asks}
+use Rattle.gh_top.specs.Headline.{Files, AreAsTold, Asks}
 use Rattle.gh_top.specs.Seen.{InputsTold, Reading}
 use Rattle.gh_top.specs.declared.words.Request.{Request}
 
@@ -14,7 +14,7 @@ use Rattle.gh_top.specs.declared.words.Request.{Request}
 pub data IsOrder (table : Option Table) (words : List (List ℕ)) : List (List ℕ) → ℕ → Type 0 where
   nothing : IsOrder table words [] 0
   first : {f : List ℕ} {most : ℕ} (r : Request) → IsRequest words r → source_of r ≡ from_file f most → IsOrder table words (f ∷ []) (calls_for (told table f) most)
-  second : {f g : List ℕ} {most limit : ℕ} {P : Program} (r : Request) (files : Files) → AreTold table words files → Asks words files r P
+  second : {f g : List ℕ} {most limit : ℕ} {P : Program} (r : Request) (files : Files) → AreAsTold table words files → Asks words files r P
       → source_of r ≡ from_file f most → second_file r ≡ Some (g, limit) → IsOrder table words (f ∷ g ∷ []) (calls_for (told table f) most + calls_for (told table g) limit)
 
 -- some names were begun after those before them, where names are told; the telling may end

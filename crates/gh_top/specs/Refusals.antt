@@ -5,10 +5,12 @@ use Rattle.std.specs.Fmt.{decimal}
 use Rattle.gh_ast.specs.Limits.{most_bytes}
 use Rattle.gh_base.specs.declared.place.Span.{Span}
 use Rattle.gh_ast.specs.Plain.{Program}
-use Rattle.gh_ast.specs.Tokens.{IsFirstByte, IsFirstDeep, place_of}
+use Rattle.gh_ast.specs.Tokens.{IsFirstByte}
 use Rattle.gh_ast.specs.Grammar.{Spells}
 use Rattle.gh_ast.specs.Place.{IsPlace, IsProgram}
 use Rattle.gh_ast.specs.Rules.{IsTyped, IsFirstBroken}
+use Rattle.gh_parse.specs.Parsing.{HasCharacters, IsShallow}
+use Rattle.gh_parse.specs.Scanning.{IsDeepPlace}
 use Rattle.gh_path.specs.Admitted.{IsFirstLimit, IsAdmitted}
 use Rattle.gh_top.specs.Rules.{rule_number, rule_name, kind_of, kind_name}
 use Rattle.gh_top.specs.declared.refusal.Refusal.{Refusal}
@@ -19,8 +21,8 @@ use Rattle.gh_draw.specs.Drawings.{line}
 -- the text isn't too long, each byte outside comments is a character, and the brackets don't nest too deep
 pub record IsReadable (text : List ℕ) : Type 0 where
   pub short : length text ≤ most_bytes
-  pub characters : (k : ℕ) → IsFirstByte text k → ⊥
-  pub shallow : (k : ℕ) → IsFirstDeep text k → ⊥
+  pub characters : HasCharacters text
+  pub shallow : IsShallow text
 
 -- the text is readable, and spells the program
 pub record IsText (text : List ℕ) (P : Program) : Type 0 where
@@ -30,10 +32,8 @@ pub record IsText (text : List ℕ) (P : Program) : Type 0 where
 -- nothing before the depth is refused, and p is the place of the first bracket that nests too deep
 pub record IsDeepAt (text : List ℕ) (p : Span) : Type 0 where
   pub short : length text ≤ most_bytes
-  pub characters : (k : ℕ) → IsFirstByte text k → ⊥
-  pub offset : ℕ
-  pub deep : IsFirstDeep text offset
-  pub place : p ≡ place_of text offset
+  pub characters : HasCharacters text
+  pub deep : IsDeepPlace text p
 
 -- the first refusal of the bytes of a program text
 abbrev pub IsProgramRefused : Option (List ℕ) → Refusal → Type 0

@@ -2,7 +2,7 @@
 
 ghost use Rattle.std.specs.Prelude.{Some};
 ghost use Rattle.gh_base.specs.Files.{table_in};
-ghost use Rattle.gh_top.specs.Headline.{IsWholeOrOutOfMemory};
+ghost use Rattle.gh_top.specs.Headline.{IsWrittenWholeOrOutOfMemory};
 ghost use Rattle.gh_top.specs.Seen.{silent};
 
 use crate::run::run;
@@ -19,7 +19,7 @@ pub fn steady_run(
     inputs: &mut SteadyInputs,
     out: &mut SteadySink,
 ) -> Status
-    ensures { IsWholeOrOutOfMemory (Some (table_in inputs.old.files)) words.now silent result }
+    ensures { IsWrittenWholeOrOutOfMemory (Some (table_in inputs.old.files)) words.now silent result }
 {
     run(alloc, words, inputs, out)
 }

@@ -1,15 +1,14 @@
 -- What the parts of a step say together.
-use Rattle.std.specs.Prelude.{◌≡◌, ◌≢◌, ◌↔◌, ℕ, zero, suc, ◌<◌, List, [], ◌∷◌, length, get_or, Option, Some, None, Bool, true, false, not, is_some, IsTrue, Any, Contains}
+use Rattle.std.specs.Prelude.{◌≡◌, ◌≢◌, ◌↔◌, ℕ, zero, List, [], ◌∷◌, Option, Some, None, Bool, true, false, not, is_some, IsTrue, Contains}
 use Rattle.std.specs.Option.{option_eq}
-use Rattle.std.proofs.Common.{refl, sym, ◌∙◌, ap, subst, inl, inr, arith, eqb, eq-eqb}
+use Rattle.std.proofs.Common.{refl, sym, ◌∙◌, ap, subst, inl, inr, eqb, eq-eqb}
 use Rattle.std.specs.FinMap.{get, insert, remove}
 use Rattle.std.proofs.lemmas.Bool.{cases_eq}
 use Rattle.gh_ast.specs.Programs.{Name}
-use Rattle.gh_ast.specs.declared.Expr.{Expr}
 use Rattle.gh_ast.proofs.Lists.{no_member, one_value}
 use Rattle.gh_assert.specs.Heaps.{Heap}
 use Rattle.gh_assert.specs.Meaning.{Store}
-use Rattle.gh_assert.specs.Values.{Gets, Give, result}
+use Rattle.gh_assert.specs.Values.{Gets}
 use Rattle.gh_assert.specs.Walks.{Allocated}
 use Rattle.gh_assert.proofs.Cells.{by_look_ups, get_put, get_beside}
 use Rattle.gh_assert.proofs.Unique.{get_removed, get_kept}
@@ -133,22 +132,6 @@ frees_where s t h k p q place at kept = (
   λ same. (at, same_state s t (remove h p) k kept (ap (remove h) (sym place) ∙ same)),
   λ (at', states). ap (remove h) place ∙ state_heap s t (remove h p) k states,
 )
-
--- where a read has no value, values aren't given
-pub not_given : (s : Store) (h : Heap) (es : List Expr) (vs : List ℕ) → Any (λ e. result s h e ≡ None) es → Give s h es vs → ⊥
-not_given s h [] vs any give = absurd (omega (arith, any.2))
-not_given s h (e ∷ es) [] any give = absurd cc
-not_given s h (e ∷ es) (v ∷ vs) (i, x, within, is, none) give = by_place (λ k l same. not_given s h es vs (k, x, l, same, none) others) i within is
-  where
-    first : result s h e ≡ Some v
-    first = cc
-
-    others : Give s h es vs
-    others = cc
-
-    by_place : ((k : ℕ) → k < length es → get_or es k x ≡ x → ⊥) → (i : ℕ) → i < suc (length es) → get_or (e ∷ es) i x ≡ x → ⊥
-    by_place later zero within is = let none' : result s h e ≡ None = ap (result s h) is ∙ none in absurd cc
-    by_place later (suc i) within is = later i (omega (arith, within)) is
 
 pub allocated_where : (h : Heap) (p q : ℕ) (o : Option ℕ) (b : Bool) → q ≡ p → o ≡ get h q → b ≡ is_some o → IsTrue b ↔ Allocated h p
 allocated_where h p q None b place content is =

@@ -20,9 +20,10 @@ use Rattle.gh_path.specs.Graphs as path
 use Rattle.gh_path.specs.Conditions.{Condition, IsCondition, IsOf}
 use Rattle.gh_path.specs.Terms.{Kind, Bindings, Terms, exprs_used, exprs_terms, loop_walked, invariant_walked, check_walked, step_walked, steps_walked, no_terms, used}
 use Rattle.gh_grass.specs.declared.binding.Bond.{Bond}
-use Rattle.gh_symb.specs.Formulas.{version_after as version_past, problem}
+use Rattle.gh_symb.specs.Formulas.{version_after, problem}
 use Rattle.gh_symb.specs.Symbolic as plain
 use Rattle.gh_symb.specs.Symbolic.{term_step, term_steps, step_used, check_used, first_use, state_bindings, begins, symbolic_of}
+use Rattle.gh_symb.specs.Inside.{step_of}
 use Rattle.gh_symb.specs.Encodings.{plain_kind, Each, IsBinding, IsTermStep}
 use Rattle.gh_symb.specs.Encoded.{IsSymbolic}
 use Rattle.gh_symb.specs.declared.over_terms.Symbolic.{Symbolic}
@@ -32,10 +33,10 @@ use Rattle.gh_trace.specs.Kept.{drawn}
 use Rattle.gh_trace.specs.Replay.{Drawn}
 use Rattle.gh_model.specs.Classes.{class_of}
 use Rattle.gh_model.specs.Versions.{equal_in}
-use Rattle.gh_model.specs.TermValues.{version_after}
+use Rattle.gh_model.specs.TermValues.{path_version}
 use Rattle.gh_model.specs.BuiltTraces.{value_under, store_under, heap_in, state_under, versions_along, states_under, built_trace}
 use Rattle.gh_model.specs.BoundVariables.{AreOf, AllAreOf}
-use Rattle.gh_model.specs.KeptTraces.{entries_under, store_in, state_in, states_in, version_after_kept, AreBelow, HasAll, drawn_over}
+use Rattle.gh_model.specs.KeptTraces.{entries_under, store_in, state_in, states_in, AreBelow, HasAll, drawn_over}
 use Rattle.gh_model.proofs.terms.Extension.{Within, walked_grows}
 use Rattle.gh_model.proofs.terms.Callees.{with_assigned, assigned_within}
 use Rattle.gh_model.proofs.ownership.Traces.{here, call_within, step_within, steps_within, check_within, check_used_within}
@@ -73,14 +74,14 @@ drawn_state s xs i b B is of =
     ap (λ ys. over ys (store_of (entries_under S xs)) m n i) (listed_under S xs) ∙ ap (λ st. over xs st m n i) stores
 
 -- the version after a step of a condition over terms, as it is kept
-kept_past : (q : TermStep) (r : plain.TermStep) (i : ℕ) → IsTermStep q r → version_after_kept q i ≡ version_past i r
-kept_past (Access x) r i e = ap (version_past i) (sym e)
-kept_past (Assume l w r') r i e = ap (version_past i) (sym e)
-kept_past Same r i e = ap (version_past i) (sym e)
-kept_past (Write x v) r i e = ap (version_past i) (sym e)
-kept_past (New l k) r i e = ap (version_past i) (sym e)
-kept_past (Free x) r i e = ap (version_past i) (sym e)
-kept_past (Part b a) r i e = ap (version_past i) (sym e.4)
+kept_past : (q : TermStep) (r : plain.TermStep) (i : ℕ) → IsTermStep q r → version_after i (step_of q) ≡ version_after i r
+kept_past (Access x) r i e = ap (version_after i) (sym e)
+kept_past (Assume l w r') r i e = ap (version_after i) (sym e)
+kept_past Same r i e = ap (version_after i) (sym e)
+kept_past (Write x v) r i e = ap (version_after i) (sym e)
+kept_past (New l k) r i e = ap (version_after i) (sym e)
+kept_past (Free x) r i e = ap (version_after i) (sym e)
+kept_past (Part b a) r i e = ap (version_after i) (sym e.4)
 
 -- terms that a step or check uses are listed after it
 loop_used_within : (o : Option path.Loop) (xs : List Name) (s : Terms) → Within (invariant_walked o s).kinds (loop_walked o xs s).kinds
@@ -145,7 +146,7 @@ record IsOnWay (P : Program) (home : Procedure) (s : Tables) (K : List Kind) (c 
   own : AllAreOf (variable_names home) (state_bindings P home ps c t)
 
 -- the structure has all terms and versions from a state on, and the states are those of its interpretation
-pub record AreBuilt (s : Tables) (xs : List Name) (ps : List path.PathStep) (i : ℕ) (qs : List TermStep) (bs : List (List Bond)) (Bs : List Bindings) : Type 0 where
+pub record AreBuiltAlong (s : Tables) (xs : List Name) (ps : List path.PathStep) (i : ℕ) (qs : List TermStep) (bs : List (List Bond)) (Bs : List Bindings) : Type 0 where
   pub all : HasAll s i qs bs
   pub are : map drawn (states_in s xs i qs bs) ≡ drawn_over xs (states_under (interpretation_of s) s.sizes.terms (versions_along i ps) Bs)
   pub count : length bs ≡ length ps + 1
@@ -156,7 +157,7 @@ here_there : (P : Program) (home : Procedure) (s : Tables) (K : List Kind) (c : 
 here_there P home s K c ps t i b terms versions within bounded version is =
     (omega (arith, version, versions, steps_up P home ps t), subst (λ n. AreBelow n b) (sym terms) (here_below P home ps c t K b bounded within is))
 
-along : (P : Program) (home : Procedure) (s : Tables) (K : List Kind) (c : path.Check) (R : Name → Type 0) (ps : List path.PathStep) (t : Terms) (i : ℕ) (qs : List TermStep) (bs : List (List Bond)) → IsOnWay P home s K c R ps t i qs bs → AreBuilt s (variable_names home) ps i qs bs (state_bindings P home ps c t)
+along : (P : Program) (home : Procedure) (s : Tables) (K : List Kind) (c : path.Check) (R : Name → Type 0) (ps : List path.PathStep) (t : Terms) (i : ℕ) (qs : List TermStep) (bs : List (List Bond)) → IsOnWay P home s K c R ps t i qs bs → AreBuiltAlong s (variable_names home) ps i qs bs (state_bindings P home ps c t)
 along P home s K c R [] t i [] [] I = absurd I.bindings
 along P home s K c R [] t i [] (b ∷ []) I =
     let there = here_there P home s K c [] t i b I.terms I.versions I.within I.bounded I.version I.bindings.0 in
@@ -172,16 +173,16 @@ along P home s K c R (p ∷ ps) t i (q ∷ qs) [] I = absurd I.bindings
 along P home s K c R (p ∷ ps) t i (q ∷ qs) (b ∷ bs) I =
     let xs = variable_names home in
     let z = step_walked P home p t in
-    let j = version_after p i in
+    let j = path_version p i in
     let there = here_there P home s K c (p ∷ ps) t i b I.terms I.versions I.within I.bounded I.version I.bindings.0 in
-    let next : version_after_kept q i ≡ j = kept_past q (term_step P home p t) i I.steps.0 ∙ prepared_past P home R p t i I.prepared.0 in
-    let rest : AreBuilt s xs ps j qs bs (state_bindings P home ps c z) = along P home s K c (ready_after p R) ps z j qs bs (record {
+    let next : version_after i (step_of q) ≡ j = kept_past q (term_step P home p t) i I.steps.0 ∙ prepared_past P home R p t i I.prepared.0 in
+    let rest : AreBuiltAlong s xs ps j qs bs (state_bindings P home ps c z) = along P home s K c (ready_after p R) ps z j qs bs (record {
       terms = I.terms;
       versions = I.versions;
       prepared = I.prepared.1;
       within = I.within;
       bounded = step_bounded P home p t I.bounded;
-      version = prepared_version P home R p t I.prepared.0 ∙ ap (version_after p) I.version;
+      version = prepared_version P home R p t I.prepared.0 ∙ ap (path_version p) I.version;
       steps = I.steps.1;
       bindings = I.bindings.1;
       own = I.own.1;
@@ -190,7 +191,7 @@ along P home s K c R (p ∷ ps) t i (q ∷ qs) (b ∷ bs) I =
     let first : Drawn = record { listed = xs; state = state_under (interpretation_of s) s.sizes.terms i B } in
     record {
       all = (there.0, there.1, subst (λ k. HasAll s k qs bs) (sym next) rest.all);
-      are = ap (λ d. d ∷ map drawn (states_in s xs (version_after_kept q i) qs bs)) (drawn_state s xs i b B I.bindings.0 I.own.0)
+      are = ap (λ d. d ∷ map drawn (states_in s xs (version_after i (step_of q)) qs bs)) (drawn_state s xs i b B I.bindings.0 I.own.0)
           ∙ ap (λ k. first ∷ map drawn (states_in s xs k qs bs)) next
           ∙ ap (λ ds. first ∷ ds) rest.are;
       count = omega (arith, rest.count);
@@ -198,7 +199,7 @@ along P home s K c R (p ∷ ps) t i (q ∷ qs) (b ∷ bs) I =
 
 -- a condition over terms, as it is kept, and a structure with its terms and versions
 pub are_built : (P : Program) (p : Procedure) (c : Condition) (y : Symbolic) (s : Tables) → IsTyped P → IsCondition P c → IsOf P c p → IsSymbolic P p c y → s.sizes.terms ≡ length y.terms → s.sizes.versions ≡ y.versions
-    → AreBuilt s (variable_names p) c.way.steps 0 y.steps.items y.bindings.items (symbolic_of P p c).bindings
+    → AreBuiltAlong s (variable_names p) c.way.steps 0 y.steps.items y.bindings.items (symbolic_of P p c).bindings
 are_built P p c y s typed is of kept_is terms versions =
     let f = path.meets_at p c.start in
     let ps = c.way.steps in

@@ -12,7 +12,7 @@ use Rattle.gh_assert.specs.Laws.{IsReadOff}
 use Rattle.gh_assert.proofs.Cells.{succ_at, at_succ}
 use Rattle.gh_assert.proofs.Hops.{hop_rows}
 use Rattle.gh_assert.proofs.Reading.{reading}
-use Rattle.gh_model.specs.Structures.{Structure}
+use Rattle.gh_model.specs.Structures.{HeapStructure}
 use Rattle.gh_model.specs.BuiltHeaps.{built}
 use Rattle.gh_model.specs.Representations.{Represents, IsInside, IsInsideAny, Fits, FitAll}
 use Rattle.gh_model.specs.Laws.{AssertionsAgree, BuiltAgrees}
@@ -33,7 +33,7 @@ hop_is_content V h x v named = (to, from)
     from e = subst (Hop V h x) (succ_at h x v e) ((hop_rows V h).content x (v, e) named)
 
 mutual
-  same_inside : (f : Formula) (s : Store) (V : List ℕ) (h : Heap) (m : Structure) → Represents V h m → HasNames f s h V → (z : ℕ) → Contains V z → IsInside f s m z ↔ Covers f s h z
+  same_inside : (f : Formula) (s : Store) (V : List ℕ) (h : Heap) (m : HeapStructure) → Represents V h m → HasNames f s h V → (z : ℕ) → Contains V z → IsInside f s m z ↔ Covers f s h z
   same_inside empty s V h m T n z cz = (λ u. u, λ u. u)
   same_inside (comparison l e r) s V h m T n z cz = (λ u. u, λ u. u)
   same_inside (points_to at to) s V h m T n z cz = (λ u. u, λ u. u)
@@ -43,7 +43,7 @@ mutual
   same_inside (cases t f g) s V h m T n z cz =
       same_choice (truth s t) (IsInside f s m z) (IsInside g s m z) (Covers f s h z) (Covers g s h z) (same_inside f s V h m T n.0 z cz) (same_inside g s V h m T n.1 z cz)
 
-  same_inside_any : (fs : Formulas) (s : Store) (V : List ℕ) (h : Heap) (m : Structure) → Represents V h m → HaveNames fs s h V → (z : ℕ) → Contains V z → IsInsideAny fs s m z ↔ CoversAny fs s h z
+  same_inside_any : (fs : Formulas) (s : Store) (V : List ℕ) (h : Heap) (m : HeapStructure) → Represents V h m → HaveNames fs s h V → (z : ℕ) → Contains V z → IsInsideAny fs s m z ↔ CoversAny fs s h z
   same_inside_any no_formulas s V h m T n z cz = (λ u. u, λ u. u)
   same_inside_any (formula_first f fs) s V h m T n z cz =
       let one = same_inside f s V h m T n.0 z cz in
@@ -51,7 +51,7 @@ mutual
       (λ u. elim u [ inl a ↦ inl (one.0 a) | inr b ↦ inr (all.0 b) ], λ u. elim u [ inl a ↦ inl (one.1 a) | inr b ↦ inr (all.1 b) ])
 
 mutual
-  same_fits : (f : Formula) (s : Store) (V : List ℕ) (h : Heap) (m : Structure) → Represents V h m → HasNames f s h V → Fits f s m V ↔ Reads f s h V
+  same_fits : (f : Formula) (s : Store) (V : List ℕ) (h : Heap) (m : HeapStructure) → Represents V h m → HasNames f s h V → Fits f s m V ↔ Reads f s h V
   same_fits empty s V h m T n = (λ u. u, λ u. u)
   same_fits (comparison l e r) s V h m T n = (λ u. u, λ u. u)
   same_fits (points_to at to) s V h m T n =
@@ -64,7 +64,7 @@ mutual
   same_fits (cases t f g) s V h m T n =
       same_choice (truth s t) (Fits f s m V) (Fits g s m V) (Reads f s h V) (Reads g s h V) (same_fits f s V h m T n.0) (same_fits g s V h m T n.1)
 
-  same_fit_all : (fs : Formulas) (s : Store) (V : List ℕ) (h : Heap) (m : Structure) → Represents V h m → HaveNames fs s h V → FitAll fs s m V ↔ ReadsAll fs s h V
+  same_fit_all : (fs : Formulas) (s : Store) (V : List ℕ) (h : Heap) (m : HeapStructure) → Represents V h m → HaveNames fs s h V → FitAll fs s m V ↔ ReadsAll fs s h V
   same_fit_all no_formulas s V h m T n = (λ u. u, λ u. u)
   same_fit_all (formula_first f fs) s V h m T n =
       let one = same_fits f s V h m T n.0 in

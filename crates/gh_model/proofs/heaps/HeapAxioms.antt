@@ -8,11 +8,11 @@ use Rattle.gh_assert.specs.Laws.{Rows, LinkRows}
 use Rattle.gh_assert.proofs.Rows.{rows}
 use Rattle.gh_assert.proofs.Hops.{hop_rows, hops_exist}
 use Rattle.gh_assert.proofs.WalkLaws.{unallocated_stay}
-use Rattle.gh_model.specs.Structures.{Structure, IsOrdered, IsLinked}
+use Rattle.gh_model.specs.Structures.{HeapStructure, IsOrdered, IsLinked}
 use Rattle.gh_model.specs.Laws.{HeapsAreModels, RowsAreTheOrder, LinkRowsOf, KeepsCells, AreLinks, RowsAreTheLinks}
 
 -- whatever else is said of its hops and cells
-pub is_ordered : (V : List ℕ) (h : Heap) (m : Structure) → ((x y z : ℕ) → Contains V x → Contains V y → Contains V z → Decides (m.between x y z) (Between h x y z)) → IsOrdered (Contains V) (λ x y. x ≡ y) m
+pub is_ordered : (V : List ℕ) (h : Heap) (m : HeapStructure) → ((x y z : ℕ) → Contains V x → Contains V y → Contains V z → Decides (m.between x y z) (Between h x y z)) → IsOrdered (Contains V) (λ x y. x ≡ y) m
 is_ordered V h m T = record {
   row_1 = λ x cx. (T x x x cx cx cx).1 (R.row_1 x);
   row_2 = λ x y cx cy b. R.row_2 x y ((T x y x cx cy cx).0 b);
@@ -52,7 +52,7 @@ heaps_are_models V h m c0 null own T = record {
     H : LinkRows (Contains V) (λ x y. x ≡ y) (Between h) (Hop V h) (Allocated h)
     H = (hop_rows V h).rows
 
-to_order : (m : Structure) → Rows (λ x y z. IsTrue (m.between x y z)) → IsOrdered (λ x. Unit {0}) (λ x y. x ≡ y) m
+to_order : (m : HeapStructure) → Rows (λ x y z. IsTrue (m.between x y z)) → IsOrdered (λ x. Unit {0}) (λ x y. x ≡ y) m
 to_order m R = record {
   row_1 = λ x nx. R.row_1 x;
   row_2 = λ x y nx ny a. R.row_2 x y a;
@@ -66,7 +66,7 @@ to_order m R = record {
   row_10 = λ x y u z nx ny nu nz a b. R.row_10 x y u z a b;
 }
 
-to_rows : (m : Structure) → IsOrdered (λ x. Unit {0}) (λ x y. x ≡ y) m → Rows (λ x y z. IsTrue (m.between x y z))
+to_rows : (m : HeapStructure) → IsOrdered (λ x. Unit {0}) (λ x y. x ≡ y) m → Rows (λ x y z. IsTrue (m.between x y z))
 to_rows m O = record {
   row_1 = λ x. O.row_1 x tt;
   row_2 = λ x y a. O.row_2 x y tt tt a;
@@ -83,7 +83,7 @@ to_rows m O = record {
 pub rows_are_the_order : RowsAreTheOrder
 rows_are_the_order m = (to_order m, to_rows m)
 
-to_links : (N : ℕ → Type 0) (E : ℕ → ℕ → Type 0) (m : Structure) → LinkRowsOf N E m × KeepsCells N E m → IsLinked N E m
+to_links : (N : ℕ → Type 0) (E : ℕ → ℕ → Type 0) (m : HeapStructure) → LinkRowsOf N E m × KeepsCells N E m → IsLinked N E m
 to_links N E m K = record {
   row_11 = λ x v nx nv a. K.0.row_11 x v (nx, nv, a);
   row_12 = λ x v w nx nv nw a b. K.0.row_12 x v w nw (nx, nv, a) b;
@@ -94,7 +94,7 @@ to_links N E m K = record {
   hops = K.1.hops;
 }
 
-from_links : (N : ℕ → Type 0) (E : ℕ → ℕ → Type 0) (m : Structure) → IsLinked N E m → LinkRowsOf N E m × KeepsCells N E m
+from_links : (N : ℕ → Type 0) (E : ℕ → ℕ → Type 0) (m : HeapStructure) → IsLinked N E m → LinkRowsOf N E m × KeepsCells N E m
 from_links N E m L = (
   record {
     row_11 = λ x v a. L.row_11 x v a.0 a.1 a.2;
@@ -105,7 +105,7 @@ from_links N E m L = (
   record { row_13 = L.row_13; null = L.null; hops = L.hops },
 )
 
-are_links : (N : ℕ → Type 0) (E : ℕ → ℕ → Type 0) (m : Structure) → AreLinks N E m
+are_links : (N : ℕ → Type 0) (E : ℕ → ℕ → Type 0) (m : HeapStructure) → AreLinks N E m
 are_links N E m = (to_links N E m, from_links N E m)
 
 pub rows_are_the_links : RowsAreTheLinks

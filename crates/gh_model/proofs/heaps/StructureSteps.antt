@@ -13,7 +13,7 @@ use Rattle.gh_assert.proofs.Kept.{cells_come_and_go, footprints_come_and_go, hop
 use Rattle.gh_assert.proofs.Splitting.{symmetric}
 use Rattle.gh_assert.proofs.Unions.{one_cell, is_one_cell, in_either, split_part, parts_apart}
 use Rattle.gh_assert.proofs.Unique.{get_removed, get_kept}
-use Rattle.gh_model.specs.Structures.{Structure}
+use Rattle.gh_model.specs.Structures.{HeapStructure}
 use Rattle.gh_model.specs.Representations.{Represents, AgreeOn}
 use Rattle.gh_model.specs.Transitions.{IsSetAside, IsAwayFrom, IsPut}
 use Rattle.gh_model.specs.StepLaws.{AreRepresented, WritesAreRepresented, NewsAreRepresented, FreesAreRepresented, CallsAreRepresented}
@@ -28,7 +28,7 @@ shared V h k b z v ph pk own from_h from_k = (
 )
 
 -- and so are the structures' hops
-shared_hops : (V : List ℕ) (h k : Heap) (m n : Structure) → AreRepresented V h k m n → (b : Heap) (z v : ℕ) → Contains V z → Contains V v → IsPart b h → IsPart b k → Owned V b → (Allocated h z → Allocated b z) → (Allocated k z → Allocated b z) → IsTrue (n.hop z v) ↔ IsTrue (m.hop z v)
+shared_hops : (V : List ℕ) (h k : Heap) (m n : HeapStructure) → AreRepresented V h k m n → (b : Heap) (z v : ℕ) → Contains V z → Contains V v → IsPart b h → IsPart b k → Owned V b → (Allocated h z → Allocated b z) → (Allocated k z → Allocated b z) → IsTrue (n.hop z v) ↔ IsTrue (m.hop z v)
 shared_hops V h k m n T b z v cz cv ph pk own from_h from_k =
     let same = shared V h k b z v ph pk own from_h from_k in
     let one = T.represents.hop z v cz cv in
@@ -36,7 +36,7 @@ shared_hops V h k m n T b z v cz cv ph pk own from_h from_k =
     (λ e. one.1 (same.0 (two.0 e)), λ e. two.1 (same.1 (one.0 e)))
 
 -- the hop to a named content
-hop_here : (V : List ℕ) (k : Heap) (n : Structure) → Represents V k n → (x v : ℕ) → Contains V x → Contains V v → get k x ≡ Some v → IsTrue (n.hop x v)
+hop_here : (V : List ℕ) (k : Heap) (n : HeapStructure) → Represents V k n → (x v : ℕ) → Contains V x → Contains V v → get k x ≡ Some v → IsTrue (n.hop x v)
 hop_here V k n T x v cx cv e =
     let at : succ k x ≡ v = succ_at k x v e in
     (T.hop x v cx cv).1 (subst (Hop V k x) at ((hop_rows V k).content x (v, e) (subst (Contains V) (sym at) cv)))

@@ -3,10 +3,10 @@ use Rattle.std.specs.Prelude.{◌≡◌, ◌↔◌, ℕ, ◌<◌, List, length, 
 use Rattle.std.proofs.Common.{sym, subst}
 use Rattle.gh_base.specs.declared.atom.Atom.TheVariants.{Btwn, Hop as HopAtom, Alloc}
 use Rattle.gh_base.specs.Meaning.{Interpretation}
+use Rattle.gh_base.specs.Atoms.{term}
 use Rattle.gh_assert.specs.Heaps.{Heap}
 use Rattle.gh_assert.specs.Hops.{Hop}
 use Rattle.gh_assert.specs.Walks.{Allocated, Between}
-use Rattle.gh_grass.specs.Bindings.{term}
 use Rattle.gh_symb.specs.Symbolic.{symbolic_of}
 use Rattle.gh_model.specs.BuiltHeaps.{built}
 use Rattle.gh_model.specs.BuiltTraces.{IsVersionBuilt, VersionsAreBuilt}
@@ -14,7 +14,7 @@ use Rattle.gh_model.specs.Classes.{classes}
 use Rattle.gh_model.specs.Depictions.{IsHeapDepicted}
 use Rattle.gh_model.specs.Homomorphisms.{IsHomomorphism}
 use Rattle.gh_model.specs.Representations.{Represents}
-use Rattle.gh_model.specs.Structures.{Structure}
+use Rattle.gh_model.specs.Structures.{HeapStructure}
 use Rattle.gh_model.specs.Versions.{equal_in, version_of}
 use Rattle.gh_model.proofs.heaps.BuiltHeap.{models_are_built, contents_are_hops}
 use Rattle.gh_model.proofs.locality.BuiltVersions.{ground}
@@ -26,7 +26,7 @@ along : (p q : Bool) (P : Type 0) → (p ≡ true) ↔ (q ≡ true) → Decides 
 along p q P same d = (λ u. d.0 (same.0 u), λ u. same.1 (d.1 u))
 
 -- what maps onto a structure that represents a heap depicts it
-maps_depict : (V : List ℕ) (m : Interpretation) (i : ℕ) (h : Heap) (M : Structure) → IsHomomorphism m i (length V) (value_at V) V M → Represents V h M → IsHeapDepicted V m i h
+maps_depict : (V : List ℕ) (m : Interpretation) (i : ℕ) (h : Heap) (M : HeapStructure) → IsHomomorphism m i (length V) (value_at V) V M → Represents V h M → IsHeapDepicted V m i h
 maps_depict V m i h M S R =
     let within : (t x : ℕ) → slice_get V t ≡ Some x → t < length V = within_list V in
     record {

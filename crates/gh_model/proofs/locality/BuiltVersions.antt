@@ -9,6 +9,7 @@ use Rattle.std.proofs.lemmas.List.Elements.{All-nil, All-cons, All-head, All-tai
 use Rattle.gh_base.specs.declared.atom.Term.{Term}
 use Rattle.gh_base.specs.declared.atom.Atom.TheVariants.{Hop, Alloc}
 use Rattle.gh_base.specs.Meaning.{Interpretation}
+use Rattle.gh_base.specs.Atoms.{term}
 use Rattle.gh_ast.specs.declared.Occ.{Occ}
 use Rattle.gh_ast.specs.Plain.{Formula, Procedure, Program}
 use Rattle.gh_ast.specs.Programs.{Name, names}
@@ -21,13 +22,12 @@ use Rattle.gh_assert.proofs.Unions.{part_splits, split_part, without}
 use Rattle.gh_path.specs.Graphs.{meets_at}
 use Rattle.gh_path.specs.Conditions.{Condition}
 use Rattle.gh_path.specs.Terms.{Kind, null, next, Bindings, Terms, walked, steps_walked, no_terms}
-use Rattle.gh_grass.specs.Bindings.{term}
-use Rattle.gh_grass.specs.Claims.{Claim, negation_of, claims_of, one_of, equality}
+use Rattle.gh_grass.specs.Claims.{GroundClaim, negation_of, claims_of, one_of, equality}
 use Rattle.gh_grass.specs.Truth.{truth, some_true, AreTrue}
 use Rattle.gh_grass.proofs.LawLemmas.{clauses_mean_formulas}
 use Rattle.gh_symb.specs.Symbolic.{under, Symbolic, begins, symbolic_of}
 use Rattle.gh_symb.specs.Formulas.{allocated, variables, successor, hops, leads, each, succeeds, successor_claims, successors_from, version_claims, versions_claims, meets, meets_whole, steps_claims, check_claims, claims, problem}
-use Rattle.gh_model.specs.Structures.{Structure, IsModel}
+use Rattle.gh_model.specs.Structures.{HeapStructure, IsModelOver}
 use Rattle.gh_model.specs.BuiltHeaps.{first, built}
 use Rattle.gh_model.specs.Representations.{AgreeOn}
 use Rattle.gh_model.specs.Classes.{numbers, class_of, classes, HasClasses}
@@ -37,7 +37,7 @@ use Rattle.gh_model.specs.BuiltTraces.{value_under, store_under, stands_at, cont
 use Rattle.gh_model.specs.Abstraction.{IsModelOf}
 use Rattle.gh_model.proofs.terms.Extension.{Within, stays, walked_grows}
 use Rattle.gh_model.proofs.terms.Denotation.{Sound, listed, formula_named}
-use Rattle.gh_model.proofs.terms.Callees.{Follows, Knows}
+use Rattle.gh_model.proofs.terms.Callees.{HasSuccessors, Knows}
 use Rattle.gh_model.proofs.heaps.BuiltHeap.{models_are_built, contents_are_hops}
 use Rattle.gh_model.proofs.heaps.HeapSteps.{next_is_successor}
 use Rattle.gh_model.proofs.heaps.Agreement.{assertions_agree}
@@ -49,26 +49,26 @@ use Rattle.gh_model.proofs.soundness.Interpretation.{value_at, value_of, there_a
 use Rattle.gh_model.proofs.ownership.Traces.{check_within, steps_within}
 use Rattle.gh_model.proofs.terms.Bounds.{IsBounded, place_below, still_below}
 
-abbrev pub T : Interpretation → Claim → Type 0
+abbrev pub T : Interpretation → GroundClaim → Type 0
 T m g = truth m g ≡ true
 
 -- all of a list, by its parts
-pub all_front : (m : Interpretation) (xs ys : List Claim) → AreTrue m (xs ++ ys) → AreTrue m xs
+pub all_front : (m : Interpretation) (xs ys : List GroundClaim) → AreTrue m (xs ++ ys) → AreTrue m xs
 all_front m [] ys A = All-nil (T m)
 all_front m (x ∷ xs) ys A = All-cons (T m) x xs (All-head (T m) x (xs ++ ys) A) (all_front m xs ys (All-tail (T m) x (xs ++ ys) A))
 
-pub all_back : (m : Interpretation) (xs ys : List Claim) → AreTrue m (xs ++ ys) → AreTrue m ys
+pub all_back : (m : Interpretation) (xs ys : List GroundClaim) → AreTrue m (xs ++ ys) → AreTrue m ys
 all_back m [] ys A = A
 all_back m (x ∷ xs) ys A = all_back m xs ys (All-tail (T m) x (xs ++ ys) A)
 
-flat_at : (m : Interpretation) (f : ℕ → List Claim) (k n i : ℕ) → AreTrue m (flat_map f (range_with_len k n)) → k ≤ i → i < k + n → AreTrue m (f i)
+flat_at : (m : Interpretation) (f : ℕ → List GroundClaim) (k n i : ℕ) → AreTrue m (flat_map f (range_with_len k n)) → k ≤ i → i < k + n → AreTrue m (f i)
 flat_at m f k zero i A a b = absurd (omega arith)
 flat_at m f k (suc n) i A a b = elim (cases_eq k i) [
   | inl same ↦ subst (λ j. AreTrue m (f j)) same (all_front m (f k) (flat_map f (range_with_len (k + 1) n)) A)
   | inr other ↦ flat_at m f (k + 1) n i (all_back m (f k) (flat_map f (range_with_len (k + 1) n)) A) (omega arith) (omega arith)
 ]
 
-each_at : (m : Interpretation) (f : Term → Claim) (k n z : ℕ) → AreTrue m (map f (map term (range_with_len k n))) → k ≤ z → z < k + n → T m (f (term z))
+each_at : (m : Interpretation) (f : Term → GroundClaim) (k n z : ℕ) → AreTrue m (map f (map term (range_with_len k n))) → k ≤ z → z < k + n → T m (f (term z))
 each_at m f k zero z A a b = absurd (omega arith)
 each_at m f k (suc n) z A a b = elim (cases_eq k z) [
   | inl same ↦ subst (λ j. T m (f (term j))) same (All-head (T m) (f (term k)) (map f (map term (range_with_len (k + 1) n))) A)
@@ -91,7 +91,7 @@ pub no_more : (a : Bool) → not a ≡ true → a ≡ true → ⊥
 no_more true e f = false≢true e
 no_more false e f = false≢true f
 
-some_at : (m : Interpretation) (f : Term → Claim) (k n : ℕ) → some_true m (claims_of (map f (map term (range_with_len k n)))) ≡ true → (z : ℕ) × (z < k + n) × T m (f (term z))
+some_at : (m : Interpretation) (f : Term → GroundClaim) (k n : ℕ) → some_true m (claims_of (map f (map term (range_with_len k n)))) ≡ true → (z : ℕ) × (z < k + n) × T m (f (term z))
 some_at m f k zero e = absurd (false≢true e)
 some_at m f k (suc n) e = elim (either (truth m (f (term k))) (some_true m (claims_of (map f (map term (range_with_len (k + 1) n))))) e) [
   | inl here ↦ (k, omega arith, here)
@@ -136,9 +136,9 @@ pub record AreGround (m : Interpretation) (K : List Kind) (V : List ℕ) (at : �
   pub count : length V ≡ length K
   pub null : slice_get V 0 ≡ Some 0
   pub listed : (t : ℕ) → t < length K → slice_get V t ≡ Some (at t)
-  pub model : (i : ℕ) → i < N → IsModel V (version_of m i)
+  pub model : (i : ℕ) → i < N → IsModelOver V (version_of m i)
   pub homomorphism : (i : ℕ) → i < N → IsHomomorphism m i (length K) (value_at V) V (version_of m i)
-  pub next : (i : ℕ) → i < N → Follows K V i (built V (version_of m i))
+  pub next : (i : ℕ) → i < N → HasSuccessors K V i (built V (version_of m i))
   pub heap : (i : ℕ) → i < N → heap_in m (length K) i ≡ built V (version_of m i)
 
 pub classes_homomorphism : (m : Interpretation) (i n : ℕ) (V : List ℕ) → 0 < n → V ≡ classes (equal_in m) n → length V ≡ n → slice_get V 0 ≡ Some 0 → ((t : ℕ) → t < n → slice_get V t ≡ Some (class_of (equal_in m) n t)) → HasClasses (equal_in m) n (version_of m i) → IsHomomorphism m i n (value_at V) V (version_of m i)
@@ -160,7 +160,7 @@ classes_homomorphism m i n V some is count first at C =
     }
 
 -- a term for what follows another has the value that follows
-pub follows_from_claims : (m : Interpretation) (K : List Kind) (V : List ℕ) (i : ℕ) → length V ≡ length K → IsModel V (version_of m i) → IsHomomorphism m i (length K) (value_at V) V (version_of m i) → AreTrue m (successors_from i 0 K) → Follows K V i (built V (version_of m i))
+pub follows_from_claims : (m : Interpretation) (K : List Kind) (V : List ℕ) (i : ℕ) → length V ≡ length K → IsModelOver V (version_of m i) → IsHomomorphism m i (length K) (value_at V) V (version_of m i) → AreTrue m (successors_from i 0 K) → HasSuccessors K V i (built V (version_of m i))
 follows_from_claims m K V i count model S A t u v e a =
     let M = version_of m i in
     let n = length K in
@@ -230,7 +230,7 @@ heap_is m n i C = by_look_ups (heap_in m n i) (built V M) (λ q. elim (allocated
     V : List ℕ
     V = classes (equal_in m) n
 
-    M : Structure
+    M : HeapStructure
     M = version_of m i
 
     there : (q v : ℕ) → get (built V M) q ≡ Some v → (q < n) × (stands_at m n i q ≡ true)

@@ -7,6 +7,7 @@ use Rattle.std.proofs.lemmas.List.Elements.{All-head, All-cons, All-nil}
 use Rattle.gh_base.specs.declared.atom.Atom.TheVariants.{Alloc}
 use Rattle.gh_base.specs.Meaning.{Interpretation}
 use Rattle.gh_base.specs.declared.place.Span.{Span}
+use Rattle.gh_base.specs.Atoms.{term}
 use Rattle.gh_ast.specs.declared.Occ.{Occ}
 use Rattle.gh_ast.specs.declared.Operand.TheVariants.{Var}
 use Rattle.gh_ast.specs.declared.Expr.{Expr}
@@ -18,7 +19,6 @@ use Rattle.gh_assert.specs.Meaning.{Store, Meaning, HasPart}
 use Rattle.gh_assert.specs.Walks.{Allocated}
 use Rattle.gh_path.specs.Graphs as path
 use Rattle.gh_path.specs.Terms.{Kind, Terms, used, term_of, exprs_used, expr_term, exprs_terms, walked, rebound, bound_inside, entry_walked, invariant_walked, check_walked}
-use Rattle.gh_grass.specs.Bindings.{term}
 use Rattle.gh_grass.specs.Claims.{negation_of}
 use Rattle.gh_grass.specs.Truth.{truth, AreTrue}
 use Rattle.gh_symb.specs.Symbolic.{under, term_check, check_used, needs_under, entered_under, ended_under, either_term, each_under}

@@ -10,6 +10,7 @@ use Rattle.std.proofs.lemmas.Slice.Eq.{bytes_eq-Decides}
 use Rattle.gh_base.specs.declared.atom.Term.{Term}
 use Rattle.gh_base.specs.declared.atom.Atom.TheVariants.{Alloc}
 use Rattle.gh_base.specs.Meaning.{Interpretation}
+use Rattle.gh_base.specs.Atoms.{term}
 use Rattle.gh_ast.specs.declared.Occ.{Occ}
 use Rattle.gh_ast.specs.declared.Operand.TheVariants.{Var}
 use Rattle.gh_ast.specs.declared.Expr.{Expr}
@@ -26,18 +27,17 @@ use Rattle.gh_assert.proofs.Cells.{by_look_ups, get_put, get_beside}
 use Rattle.gh_assert.proofs.Unique.{get_removed, get_kept}
 use Rattle.gh_path.specs.Graphs as path
 use Rattle.gh_path.specs.Terms.{Kind, with_value, Bindings, bound, all_bound, Terms, used, term_of, expr_used, expr_term, exprs_used, exprs_terms, walked, moved_on, bound_inside, call_walked, loop_walked, step_walked, rebound}
-use Rattle.gh_grass.specs.Bindings.{term}
 use Rattle.gh_grass.specs.Claims.{equality}
 use Rattle.gh_grass.specs.Footprints.{compared}
 use Rattle.gh_grass.specs.Truth.{truth, AreTrue}
 use Rattle.gh_symb.specs.Symbolic.{term_step, step_used, first_use, used_first, either_term}
 use Rattle.gh_symb.specs.Formulas.{allocated, step_claims}
 use Rattle.gh_trace.specs.Traces.{State, Takes}
-use Rattle.gh_model.specs.Structures.{Structure}
+use Rattle.gh_model.specs.Structures.{HeapStructure}
 use Rattle.gh_model.specs.BuiltHeaps.{built}
 use Rattle.gh_model.specs.Versions.{version_of}
 use Rattle.gh_model.specs.Transitions.{IsPut, IsFreed, StepsByNew}
-use Rattle.gh_model.specs.TermValues.{version_after}
+use Rattle.gh_model.specs.TermValues.{path_version}
 use Rattle.gh_model.specs.BuiltTraces.{value_under, store_under}
 use Rattle.gh_model.proofs.terms.Extension.{Within, stays, onto, bound_same, used_grows, visited_grows, expr_grows, exprs_grow, walked_grows, each_grows}
 use Rattle.gh_model.proofs.terms.Denotation.{Sound, listed, expr_value, exprs_values}
@@ -77,7 +77,7 @@ abbrev pub heap_of : Interpretation → List ℕ → ℕ → Heap
 heap_of m V i = built V (version_of m i)
 
 -- the built heap of a version, and the values of the variables' terms
-abbrev pub state_with : List ℕ → (ℕ → ℕ) → Structure → Bindings → State
+abbrev pub state_with : List ℕ → (ℕ → ℕ) → HeapStructure → Bindings → State
 state_with V at M b = record { store = store_under at b; heap = built V M }
 
 -- all that is known of a step
@@ -90,23 +90,23 @@ pub record IsLocal (P : Program) (home : Procedure) (m : Interpretation) (K : Li
   pub within : Within (step_walked P home p s).kinds K
   pub bounded : IsBounded s
   pub before : s.version < N
-  pub after : version_after p s.version < N
+  pub after : path_version p s.version < N
 
 -- the states before and after it
 abbrev pub state_before : Program → Procedure → Interpretation → List ℕ → (ℕ → ℕ) → path.Check → path.PathStep → List path.PathStep → Terms → State
 state_before P home m V at c p ps s = state_with V at (version_of m s.version) (here P home (p ∷ ps) c s)
 
 abbrev pub state_after : Program → Procedure → Interpretation → List ℕ → (ℕ → ℕ) → path.Check → path.PathStep → List path.PathStep → Terms → State
-state_after P home m V at c p ps s = state_with V at (version_of m (version_after p s.version)) (here P home ps c (step_walked P home p s))
+state_after P home m V at c p ps s = state_with V at (version_of m (path_version p s.version)) (here P home ps c (step_walked P home p s))
 
 pub sound_used : (P : Program) (home : Procedure) (m : Interpretation) (K : List Kind) (V : List ℕ) (at : ℕ → ℕ) (N : ℕ) (c : path.Check) (R : Name → Type 0) (p : path.PathStep) (ps : List path.PathStep) (s : Terms) → IsLocal P home m K V at N c R p ps s → Within (step_used home p s).kinds K
     → Sound K V (store_under at (here P home (p ∷ ps) c s)) (heap_of m V s.version) (step_used home p s)
 sound_used P home m K V at N c R p ps s I w = state_sound m K V at N I.ground s.version I.before (here P home (p ∷ ps) c s) (step_used home p s) (used_step_grows home p s).version w (used_step_bounded home p s I.bounded) (used_term P home p ps c s)
 
-pub sound_after : (P : Program) (home : Procedure) (m : Interpretation) (K : List Kind) (V : List ℕ) (at : ℕ → ℕ) (N : ℕ) (c : path.Check) (R : Name → Type 0) (p : path.PathStep) (ps : List path.PathStep) (s : Terms) → IsLocal P home m K V at N c R p ps s → (step_walked P home p s).version ≡ version_after p s.version
-    → Sound K V (store_under at (here P home ps c (step_walked P home p s))) (heap_of m V (version_after p s.version)) (step_walked P home p s)
+pub sound_after : (P : Program) (home : Procedure) (m : Interpretation) (K : List Kind) (V : List ℕ) (at : ℕ → ℕ) (N : ℕ) (c : path.Check) (R : Name → Type 0) (p : path.PathStep) (ps : List path.PathStep) (s : Terms) → IsLocal P home m K V at N c R p ps s → (step_walked P home p s).version ≡ path_version p s.version
+    → Sound K V (store_under at (here P home ps c (step_walked P home p s))) (heap_of m V (path_version p s.version)) (step_walked P home p s)
 sound_after P home m K V at N c R p ps s I version =
-    state_sound m K V at N I.ground (version_after p s.version) I.after (here P home ps c (step_walked P home p s)) (step_walked P home p s) version I.within (step_bounded P home p s I.bounded) (own_term P home ps c (step_walked P home p s))
+    state_sound m K V at N I.ground (path_version p s.version) I.after (here P home ps c (step_walked P home p s)) (step_walked P home p s) version I.within (step_bounded P home p s I.bounded) (own_term P home ps c (step_walked P home p s))
 
 -- a term's value
 pub at_is : (m : Interpretation) (K : List Kind) (V : List ℕ) (at : ℕ → ℕ) (N : ℕ) → AreGround m K V at N → (t v : ℕ) → slice_get V t ≡ Some v → at t ≡ v
@@ -362,7 +362,7 @@ call_version o q e ys ts s =
     let r = rebound s (bound_inside q ts) in
     ap (λ u. (call_walked u ys ts s).version) e ∙ (each_grows q.gives (with_results q r)).version ∙ renewed_version (results_of q) (moved_on (walked q.needs r)) ∙ ap (λ i. i + 1) (walked_grows q.needs r).version
 
-pub prepared_version : (P : Program) (home : Procedure) (R : Name → Type 0) (p : path.PathStep) (s : Terms) → IsPrepared P home R p → (step_walked P home p s).version ≡ version_after p s.version
+pub prepared_version : (P : Program) (home : Procedure) (R : Name → Type 0) (p : path.PathStep) (s : Terms) → IsPrepared P home R p → (step_walked P home p s).version ≡ path_version p s.version
 prepared_version P home R (path.accessed o) s A = (visited_grows o.name s).version
 prepared_version P home R (path.assume l e r) s A = (onto (expr_grows l s) (expr_grows r (expr_used l s))).version
 prepared_version P home R (path.assigned x e) s A = (expr_grows e s).version

@@ -11,12 +11,12 @@ use Rattle.gh_path.specs.Graphs as path
 use Rattle.gh_path.specs.Terms.{Kind, Terms, exprs_used, exprs_terms, check_walked, step_walked, steps_walked, no_terms}
 use Rattle.gh_grass.specs.Truth.{AreTrue}
 use Rattle.gh_symb.specs.Symbolic.{call_parts, loop_parts, begins, term_step, term_steps, term_check, state_bindings, symbolic_of}
-use Rattle.gh_symb.specs.Formulas.{step_claims, steps_claims, check_claims, version_after as version_past}
+use Rattle.gh_symb.specs.Formulas.{step_claims, steps_claims, check_claims, version_after}
 use Rattle.gh_trace.specs.Traces.{State, Takes, Passes, IsTrace, last_state, Counterexample}
 use Rattle.gh_trace.specs.Validity.{AreCounterexample}
 use Rattle.gh_model.specs.Versions.{equal_in}
 use Rattle.gh_model.specs.Classes.{class_of, classes}
-use Rattle.gh_model.specs.TermValues.{version_after}
+use Rattle.gh_model.specs.TermValues.{path_version}
 use Rattle.gh_model.specs.BuiltTraces.{store_under, heap_in, state_under, versions_along, states_under, LocalityHolds}
 use Rattle.gh_model.proofs.terms.Extension.{Within, walked_grows}
 use Rattle.gh_model.proofs.terms.Denotation.{Sound}
@@ -40,7 +40,7 @@ step_takes P home m K V at N c R (path.looped n) ps s I = loop_takes P home m K 
 step_takes P home m K V at N c R (path.answered es) ps s I = return_takes P home m K V at N c R es ps s I
 
 -- the version after a step, as its formulas count it
-pub prepared_past : (P : Program) (home : Procedure) (R : Name → Type 0) (p : path.PathStep) (s : Terms) (i : ℕ) → IsPrepared P home R p → version_past i (term_step P home p s) ≡ version_after p i
+pub prepared_past : (P : Program) (home : Procedure) (R : Name → Type 0) (p : path.PathStep) (s : Terms) (i : ℕ) → IsPrepared P home R p → version_after i (term_step P home p s) ≡ path_version p i
 prepared_past P home R (path.accessed o) s i A = refl
 prepared_past P home R (path.assume l e r) s i A = refl
 prepared_past P home R (path.assigned x e) s i A = refl
@@ -48,13 +48,13 @@ prepared_past P home R (path.made x) s i A = refl
 prepared_past P home R (path.written x e) s i A = refl
 prepared_past P home R (path.freed x) s i A = refl
 prepared_past P home R (path.called ys n es) s i A =
-    ap (λ o. version_past i (call_parts o (exprs_terms es (exprs_used es s)) (exprs_used es s))) A.1.entry.at
-prepared_past P home R (path.looped n) s i A = ap (λ o. version_past i (loop_parts o (variable_names home) s)) A.1
+    ap (λ o. version_after i (call_parts o (exprs_terms es (exprs_used es s)) (exprs_used es s))) A.1.entry.at
+prepared_past P home R (path.looped n) s i A = ap (λ o. version_after i (loop_parts o (variable_names home) s)) A.1
 prepared_past P home R (path.answered es) s i A = refl
 
 -- what was accessed stays so
 ready_next : (P : Program) (home : Procedure) (m : Interpretation) (K : List Kind) (V : List ℕ) (at : ℕ → ℕ) (N : ℕ) (c : path.Check) (R : Name → Type 0) (p : path.PathStep) (ps : List path.PathStep) (s : Terms) → IsLocal P home m K V at N c R p ps s → (n : Name) → ready_after p R n
-    → Allocated (heap_of m V (version_after p s.version)) (store_under at (here P home ps c (step_walked P home p s)) n)
+    → Allocated (heap_of m V (path_version p s.version)) (store_under at (here P home ps c (step_walked P home p s)) n)
 ready_next P home m K V at N c R (path.accessed o) ps s I n r =
     let p = path.accessed o in
     let takes = access_takes P home m K V at N c R o ps s I in
@@ -79,11 +79,11 @@ state_in P home m n c ps s i = state_under m n i (here P home ps c s)
 
 abbrev rest_in : Program → Procedure → Interpretation → ℕ → path.Check → List path.PathStep → Terms → ℕ → List State
 rest_in P home m n c [] s i = []
-rest_in P home m n c (p ∷ ps) s i = state_in P home m n c ps (step_walked P home p s) (version_after p i) ∷ rest_in P home m n c ps (step_walked P home p s) (version_after p i)
+rest_in P home m n c (p ∷ ps) s i = state_in P home m n c ps (step_walked P home p s) (path_version p i) ∷ rest_in P home m n c ps (step_walked P home p s) (path_version p i)
 
 states_are : (P : Program) (home : Procedure) (m : Interpretation) (n : ℕ) (c : path.Check) (ps : List path.PathStep) (s : Terms) (i : ℕ) → states_under m n (versions_along i ps) (state_bindings P home ps c s) ≡ state_in P home m n c ps s i ∷ rest_in P home m n c ps s i
 states_are P home m n c [] s i = refl
-states_are P home m n c (p ∷ ps) s i = ap (λ zs. state_in P home m n c (p ∷ ps) s i ∷ zs) (states_are P home m n c ps (step_walked P home p s) (version_after p i))
+states_are P home m n c (p ∷ ps) s i = ap (λ zs. state_in P home m n c (p ∷ ps) s i ∷ zs) (states_are P home m n c ps (step_walked P home p s) (path_version p i))
 
 -- all that is known from a state on
 record IsOnWay (P : Program) (home : Procedure) (m : Interpretation) (K : List Kind) (V : List ℕ) (at : ℕ → ℕ) (N : ℕ) (c : path.Check) (R : Name → Type 0) (ps : List path.PathStep) (s : Terms) (i : ℕ) : Type 0 where
@@ -123,11 +123,11 @@ along P home m K V N c typed G R (p ∷ ps) s i I check =
     let n = length K in
     let t = step_walked P home p s in
     let end = steps_walked P home ps t in
-    let version : t.version ≡ version_after p s.version = prepared_version P home R p s I.prepared.0 in
-    let version' : t.version ≡ version_after p i = version ∙ ap (version_after p) I.version in
+    let version : t.version ≡ path_version p s.version = prepared_version P home R p s I.prepared.0 in
+    let version' : t.version ≡ path_version p i = version ∙ ap (path_version p) I.version in
     let within : Within t.kinds K = λ j k e. I.within j k (check_within P home c end j k (steps_within P home ps t j k e)) in
     let before : s.version < N = omega (arith, I.last, steps_up P home (p ∷ ps) s) in
-    let after : version_after p s.version < N = subst (λ j. j < N) version (omega (arith, I.last, steps_up P home ps t)) in
+    let after : path_version p s.version < N = subst (λ j. j < N) version (omega (arith, I.last, steps_up P home ps t)) in
     let st = store_under at (here P home (p ∷ ps) c s) in
     let st' = store_under at (here P home ps c t) in
     let local : IsLocal P home m K V at N c R p ps s = record {
@@ -135,21 +135,21 @@ along P home m K V N c typed G R (p ∷ ps) s i I check =
       ground = G;
       prepared = I.prepared.0;
       ready = subst (λ j. (n : Name) → R n → Allocated (heap_of m V j) (st n)) (sym I.version) I.ready;
-      claims = subst (λ j. AreTrue m (step_claims K j (term_step P home p s))) (sym I.version) (all_front m (step_claims K i (term_step P home p s)) (steps_claims K (version_past i (term_step P home p s)) (term_steps P home ps t)) I.steps);
+      claims = subst (λ j. AreTrue m (step_claims K j (term_step P home p s))) (sym I.version) (all_front m (step_claims K i (term_step P home p s)) (steps_claims K (version_after i (term_step P home p s)) (term_steps P home ps t)) I.steps);
       within = within;
       bounded = I.bounded;
       before = before;
       after = after;
     } in
-    let built' : Takes P home p (make st (heap_of m V s.version)) (make st' (heap_of m V (version_after p s.version))) = step_takes P home m K V at N c R p ps s local in
-    let half : Takes P home p (make st (heap_in m n s.version)) (make st' (heap_of m V (version_after p s.version))) = subst (λ h. Takes P home p (make st h) (make st' (heap_of m V (version_after p s.version)))) (sym (G.heap s.version before)) built' in
-    let full : Takes P home p (make st (heap_in m n s.version)) (make st' (heap_in m n (version_after p s.version))) = subst (λ h. Takes P home p (make st (heap_in m n s.version)) (make st' h)) (sym (G.heap (version_after p s.version) after)) half in
-    let takes : Takes P home p (make st (heap_in m n i)) (make st' (heap_in m n (version_after p i))) = subst (λ j. Takes P home p (make st (heap_in m n j)) (make st' (heap_in m n (version_after p j)))) I.version full in
-    let rest = along P home m K V N c typed G (ready_after p R) ps t (version_after p i) (record {
+    let built' : Takes P home p (make st (heap_of m V s.version)) (make st' (heap_of m V (path_version p s.version))) = step_takes P home m K V at N c R p ps s local in
+    let half : Takes P home p (make st (heap_in m n s.version)) (make st' (heap_of m V (path_version p s.version))) = subst (λ h. Takes P home p (make st h) (make st' (heap_of m V (path_version p s.version)))) (sym (G.heap s.version before)) built' in
+    let full : Takes P home p (make st (heap_in m n s.version)) (make st' (heap_in m n (path_version p s.version))) = subst (λ h. Takes P home p (make st (heap_in m n s.version)) (make st' h)) (sym (G.heap (path_version p s.version) after)) half in
+    let takes : Takes P home p (make st (heap_in m n i)) (make st' (heap_in m n (path_version p i))) = subst (λ j. Takes P home p (make st (heap_in m n j)) (make st' (heap_in m n (path_version p j)))) I.version full in
+    let rest = along P home m K V N c typed G (ready_after p R) ps t (path_version p i) (record {
       prepared = I.prepared.1;
-      ready = subst (λ j. (n : Name) → ready_after p R n → Allocated (heap_of m V (version_after p j)) (st' n)) I.version (ready_next P home m K V at N c R p ps s local);
+      ready = subst (λ j. (n : Name) → ready_after p R n → Allocated (heap_of m V (path_version p j)) (st' n)) I.version (ready_next P home m K V at N c R p ps s local);
       steps = subst (λ j. AreTrue m (steps_claims K j (term_steps P home ps t))) (prepared_past P home R p s i I.prepared.0)
-          (all_back m (step_claims K i (term_step P home p s)) (steps_claims K (version_past i (term_step P home p s)) (term_steps P home ps t)) I.steps);
+          (all_back m (step_claims K i (term_step P home p s)) (steps_claims K (version_after i (term_step P home p s)) (term_steps P home ps t)) I.steps);
       within = I.within;
       bounded = step_bounded P home p s I.bounded;
       version = version';

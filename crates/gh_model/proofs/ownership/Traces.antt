@@ -24,7 +24,7 @@ use Rattle.gh_symb.specs.Symbolic.{under, call_parts, check_used, term_step, ter
 use Rattle.gh_trace.specs.Traces.{State, Replaced, Takes, IsTrace}
 use Rattle.gh_trace.specs.Laws.{HasOwnNames}
 use Rattle.gh_trace.proofs.Proper.{step_proper}
-use Rattle.gh_model.specs.TermValues.{version_after, HasStateValues, HasCellValues, HasResultValues, HaveValues}
+use Rattle.gh_model.specs.TermValues.{path_version, HasStateValues, HasCellValues, HasResultValues, HaveValues}
 use Rattle.gh_model.specs.TraceLaws.{TracesAreOwned}
 use Rattle.gh_model.proofs.terms.Extension.{Within, Grows, stays, onto, value_within, bound_same, used_grows, visited_grows, expr_grows, exprs_grow, walked_grows, each_grows}
 use Rattle.gh_model.proofs.terms.Denotation.{Sound, before, listed, variable_named, cell_named, formula_named, expr_value, exprs_values}
@@ -113,7 +113,7 @@ inside_version p ys b s = (each_grows p.gives (with_results p s)).version ∙ re
 call_version : (o : Option Procedure) (p : Procedure) → o ≡ Some p → (ys : List Name) (ts : List ℕ) (s : Terms) → (call_walked o ys ts s).version ≡ s.version + 1
 call_version o p e ys ts s = ap (λ q. (call_walked q ys ts s).version) e ∙ inside_version p ys s.bindings (rebound s (bound_inside p ts))
 
-pub step_version : (P : Program) (home : Procedure) (p : path.PathStep) (s : Terms) (x y : State) → Takes P home p x y → (step_walked P home p s).version ≡ version_after p s.version
+pub step_version : (P : Program) (home : Procedure) (p : path.PathStep) (s : Terms) (x y : State) → Takes P home p x y → (step_walked P home p s).version ≡ path_version p s.version
 step_version P home (path.accessed o) s x y t = (visited_grows o.name s).version
 step_version P home (path.assume l e r) s x y t = (onto (expr_grows l s) (expr_grows r (expr_used l s))).version
 step_version P home (path.assigned z e) s x y t = (expr_grows e s).version
@@ -161,7 +161,7 @@ pub record IsStep (P : Program) (home : Procedure) (K : List Kind) (V : List ℕ
   pub values : HasStateValues K V s.version (here P home (p ∷ ps) c s) x
   pub cells : HasCellValues V (term_step P home p s) y
   pub results : HasResultValues P V p (term_step P home p s) y
-  pub after : HasStateValues K V (version_after p s.version) (here P home ps c (step_walked P home p s)) y
+  pub after : HasStateValues K V (path_version p s.version) (here P home ps c (step_walked P home p s)) y
   pub takes : Takes P home p x y
   pub proper : IsProper x.heap
   pub owned : Owned V x.heap
@@ -171,7 +171,7 @@ pub sound_used : (P : Program) (home : Procedure) (K : List Kind) (V : List ℕ)
 sound_used P home K V c p ps s x y I w = sound_from K V s.version (here P home (p ∷ ps) c s) x (step_used home p s) I.null I.values (used_step_grows home p s).version w (used_term P home p ps c s)
 
 pub sound_after : (P : Program) (home : Procedure) (K : List Kind) (V : List ℕ) (c : path.Check) (p : path.PathStep) (ps : List path.PathStep) (s : Terms) (x y : State) → IsStep P home K V c p ps s x y → Sound K V y.store y.heap (step_walked P home p s)
-sound_after P home K V c p ps s x y I = sound_from K V (version_after p s.version) (here P home ps c (step_walked P home p s)) y (step_walked P home p s) I.null I.after (step_version P home p s x y I.takes) I.within (own_term P home ps c (step_walked P home p s))
+sound_after P home K V c p ps s x y I = sound_from K V (path_version p s.version) (here P home ps c (step_walked P home p s)) y (step_walked P home p s) I.null I.after (step_version P home p s x y I.takes) I.within (own_term P home ps c (step_walked P home p s))
 
 pub one_given : (a l : ℕ) → a ∷ [] ≡ l ∷ [] → a ≡ l
 one_given a l e = cc
@@ -315,7 +315,7 @@ owned_along P home K V c N null (p ∷ ps) s last x (y ∷ ys) w H T proper r A 
       values = H.0;
       cells = H.1;
       results = H.2;
-      after = first_values P home K V c ps t (version_after p s.version) y ys H.3;
+      after = first_values P home K V c ps t (path_version p s.version) y ys H.3;
       takes = T.0;
       proper = proper;
       owned = own;

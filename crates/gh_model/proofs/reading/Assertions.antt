@@ -6,6 +6,7 @@ use Rattle.std.proofs.lemmas.Bool.{cases_order, cases_eq, eqb-true, eq-eqb, fals
 use Rattle.gh_base.specs.declared.atom.Term.{Term}
 use Rattle.gh_base.specs.declared.atom.Atom.TheVariants.{Btwn, Alloc}
 use Rattle.gh_base.specs.Meaning.{Interpretation}
+use Rattle.gh_base.specs.Atoms.{term, terms_below}
 use Rattle.gh_ast.specs.declared.Operand.{Operand}
 use Rattle.gh_ast.specs.declared.Operand.TheVariants.{Null, Var}
 use Rattle.gh_ast.specs.declared.Expr.{Expr}
@@ -14,11 +15,10 @@ use Rattle.gh_ast.specs.Plain.{Test, compare, negation, conjunction, disjunction
 use Rattle.gh_ast.specs.Programs.{Name}
 use Rattle.gh_ast.specs.Names.{OperandIn, ExprIn, TestIn, TestsIn, FormulaIn, FormulasIn}
 use Rattle.gh_assert.specs.Meaning.{Store, value, plain_value, agrees, truth as store_truth, all_true as store_all, some_true as store_some}
-use Rattle.gh_grass.specs.Bindings.{term}
-use Rattle.gh_grass.specs.Claims.{Claim, atom, equivalence_of, claims_of, equality}
-use Rattle.gh_grass.specs.Footprints.{Variables, operand_term, plain_term, compared, tested, all_tested, footprint, footprints, members, terms_below, apart_here, apart, all_apart, structure, structures}
+use Rattle.gh_grass.specs.Claims.{GroundClaim, atom, equivalence_of, claims_of, equality}
+use Rattle.gh_grass.specs.Footprints.{Variables, operand_term, plain_term, compared, tested, all_tested, footprint, footprints, members, apart_here, apart, all_apart, structure, structures}
 use Rattle.gh_grass.specs.Truth.{truth, all_true, some_true, agree}
-use Rattle.gh_model.specs.Structures.{Structure, IsModel}
+use Rattle.gh_model.specs.Structures.{HeapStructure, IsModelOver}
 use Rattle.gh_model.specs.Representations.{IsInside, IsInsideAny, Fits, FitAll}
 use Rattle.gh_model.specs.Versions.{equal_in}
 use Rattle.gh_model.specs.Homomorphisms.{IsHomomorphism, HaveTerms, HasNext, AtCells, AtAllCells, FormulasArePreserved}
@@ -43,15 +43,15 @@ equal_truth m x y = elim (cases_order x y) [
 ]
 
 -- what is said of terms and of values, by their equality
-pub value_truth : (m : Interpretation) (i n : ℕ) (at : ℕ → ℕ) (V : List ℕ) (M : Structure) → IsHomomorphism m i n at V M → (x y : ℕ) → x < n → y < n → truth m (equality (term x) (term y)) ≡ (at x == at y)
+pub value_truth : (m : Interpretation) (i n : ℕ) (at : ℕ → ℕ) (V : List ℕ) (M : HeapStructure) → IsHomomorphism m i n at V M → (x y : ℕ) → x < n → y < n → truth m (equality (term x) (term y)) ≡ (at x == at y)
 value_truth m i n at V M S x y lx ly =
     equal_truth m x y ∙ same_test (equal_in m x y) (at x == at y) (λ e. eq-eqb (at x) (at y) ((S.equal x y lx ly).0 e)) (λ e. (S.equal x y lx ly).1 (eqb-true (at x) (at y) e))
 
-operand_value : (m : Interpretation) (i n : ℕ) (at : ℕ → ℕ) (V : List ℕ) (M : Structure) → IsHomomorphism m i n at V M → (b : Variables) (st : Store) (xs : List Name) → HaveTerms b n at st xs → (o : Operand) → OperandIn o xs → ((operand_term b o).0 < n) × (at (operand_term b o).0 ≡ value st o)
+operand_value : (m : Interpretation) (i n : ℕ) (at : ℕ → ℕ) (V : List ℕ) (M : HeapStructure) → IsHomomorphism m i n at V M → (b : Variables) (st : Store) (xs : List Name) → HaveTerms b n at st xs → (o : Operand) → OperandIn o xs → ((operand_term b o).0 < n) × (at (operand_term b o).0 ≡ value st o)
 operand_value m i n at V M S b st xs T (Null p) c = (S.some, S.null)
 operand_value m i n at V M S b st xs T (Var o) c = T o.name c
 
-plain_term_value : (m : Interpretation) (i n : ℕ) (at : ℕ → ℕ) (V : List ℕ) (M : Structure) → IsHomomorphism m i n at V M → (b : Variables) (st : Store) (xs : List Name) → HaveTerms b n at st xs → (e : Expr) → ExprIn e xs → ((plain_term b e).0 < n) × (at (plain_term b e).0 ≡ plain_value st e)
+plain_term_value : (m : Interpretation) (i n : ℕ) (at : ℕ → ℕ) (V : List ℕ) (M : HeapStructure) → IsHomomorphism m i n at V M → (b : Variables) (st : Store) (xs : List Name) → HaveTerms b n at st xs → (e : Expr) → ExprIn e xs → ((plain_term b e).0 < n) × (at (plain_term b e).0 ≡ plain_value st e)
 plain_term_value m i n at V M S b st xs T (Plain o) c = operand_value m i n at V M S b st xs T o c
 plain_term_value m i n at V M S b st xs T (Read o) c = (S.some, S.null)
 
@@ -60,7 +60,7 @@ compared_truth m true x y t is = is
 compared_truth m false x y t is = ap not is
 
 mutual
-  tested_truth : (m : Interpretation) (i n : ℕ) (at : ℕ → ℕ) (V : List ℕ) (M : Structure) → IsHomomorphism m i n at V M → (b : Variables) (st : Store) (xs : List Name) → HaveTerms b n at st xs → (t : Test) → TestIn t xs → truth m (tested b t) ≡ store_truth st t
+  tested_truth : (m : Interpretation) (i n : ℕ) (at : ℕ → ℕ) (V : List ℕ) (M : HeapStructure) → IsHomomorphism m i n at V M → (b : Variables) (st : Store) (xs : List Name) → HaveTerms b n at st xs → (t : Test) → TestIn t xs → truth m (tested b t) ≡ store_truth st t
   tested_truth m i n at V M S b st xs T (compare l e r) c =
       let x = plain_term_value m i n at V M S b st xs T l c.0 in
       let y = plain_term_value m i n at V M S b st xs T r c.1 in
@@ -70,12 +70,12 @@ mutual
   tested_truth m i n at V M S b st xs T (conjunction ts) c = all_tested_truth m i n at V M S b st xs T ts c
   tested_truth m i n at V M S b st xs T (disjunction ts) c = some_tested_truth m i n at V M S b st xs T ts c
 
-  all_tested_truth : (m : Interpretation) (i n : ℕ) (at : ℕ → ℕ) (V : List ℕ) (M : Structure) → IsHomomorphism m i n at V M → (b : Variables) (st : Store) (xs : List Name) → HaveTerms b n at st xs → (ts : Tests) → TestsIn ts xs → all_true m (claims_of (all_tested b ts)) ≡ store_all st ts
+  all_tested_truth : (m : Interpretation) (i n : ℕ) (at : ℕ → ℕ) (V : List ℕ) (M : HeapStructure) → IsHomomorphism m i n at V M → (b : Variables) (st : Store) (xs : List Name) → HaveTerms b n at st xs → (ts : Tests) → TestsIn ts xs → all_true m (claims_of (all_tested b ts)) ≡ store_all st ts
   all_tested_truth m i n at V M S b st xs T no_tests c = refl
   all_tested_truth m i n at V M S b st xs T (test_first t ts) c =
       ap (λ u. u && all_true m (claims_of (all_tested b ts))) (tested_truth m i n at V M S b st xs T t c.0) ∙ ap (λ u. store_truth st t && u) (all_tested_truth m i n at V M S b st xs T ts c.1)
 
-  some_tested_truth : (m : Interpretation) (i n : ℕ) (at : ℕ → ℕ) (V : List ℕ) (M : Structure) → IsHomomorphism m i n at V M → (b : Variables) (st : Store) (xs : List Name) → HaveTerms b n at st xs → (ts : Tests) → TestsIn ts xs → some_true m (claims_of (all_tested b ts)) ≡ store_some st ts
+  some_tested_truth : (m : Interpretation) (i n : ℕ) (at : ℕ → ℕ) (V : List ℕ) (M : HeapStructure) → IsHomomorphism m i n at V M → (b : Variables) (st : Store) (xs : List Name) → HaveTerms b n at st xs → (ts : Tests) → TestsIn ts xs → some_true m (claims_of (all_tested b ts)) ≡ store_some st ts
   some_tested_truth m i n at V M S b st xs T no_tests c = refl
   some_tested_truth m i n at V M S b st xs T (test_first t ts) c =
       ap (λ u. u || some_true m (claims_of (all_tested b ts))) (tested_truth m i n at V M S b st xs T t c.0) ∙ ap (λ u. store_truth st t || u) (some_tested_truth m i n at V M S b st xs T ts c.1)
@@ -109,24 +109,24 @@ pub none_is : IsTrue false ↔ ⊥
 none_is = (λ e. false≢true e, λ n. absurd n)
 
 -- a term that is a variable's, as values
-place_is : (m : Interpretation) (i n : ℕ) (at : ℕ → ℕ) (V : List ℕ) (M : Structure) → IsHomomorphism m i n at V M → (x z v : ℕ) → x < n → z < n → at x ≡ v → IsTrue (truth m (equality (term z) (term x))) ↔ (v ≡ at z)
+place_is : (m : Interpretation) (i n : ℕ) (at : ℕ → ℕ) (V : List ℕ) (M : HeapStructure) → IsHomomorphism m i n at V M → (x z v : ℕ) → x < n → z < n → at x ≡ v → IsTrue (truth m (equality (term z) (term x))) ↔ (v ≡ at z)
 place_is m i n at V M S x z v lx lz is =
     let same = equal_truth m z x in
     (λ e. sym is ∙ sym ((S.equal z x lz lx).0 (sym same ∙ e)), λ e. same ∙ (S.equal z x lz lx).1 (sym e ∙ sym is))
 
-pub equal_is : (m : Interpretation) (i n : ℕ) (at : ℕ → ℕ) (V : List ℕ) (M : Structure) → IsHomomorphism m i n at V M → (x y u v : ℕ) → x < n → y < n → at x ≡ u → at y ≡ v → IsTrue (truth m (equality (term x) (term y))) ↔ (u ≡ v)
+pub equal_is : (m : Interpretation) (i n : ℕ) (at : ℕ → ℕ) (V : List ℕ) (M : HeapStructure) → IsHomomorphism m i n at V M → (x y u v : ℕ) → x < n → y < n → at x ≡ u → at y ≡ v → IsTrue (truth m (equality (term x) (term y))) ↔ (u ≡ v)
 equal_is m i n at V M S x y u v lx ly ux vy =
     let same = equal_truth m x y in
     (λ e. sym ux ∙ (S.equal x y lx ly).0 (sym same ∙ e) ∙ vy, λ e. same ∙ (S.equal x y lx ly).1 (ux ∙ e ∙ sym vy))
 
-between_is : (m : Interpretation) (i n : ℕ) (at : ℕ → ℕ) (V : List ℕ) (M : Structure) → IsHomomorphism m i n at V M → (x y z u v w : ℕ) → x < n → y < n → z < n → at x ≡ u → at y ≡ v → at z ≡ w → IsTrue (m.table (Btwn i (term x) (term y) (term z))) ↔ IsTrue (M.between u v w)
+between_is : (m : Interpretation) (i n : ℕ) (at : ℕ → ℕ) (V : List ℕ) (M : HeapStructure) → IsHomomorphism m i n at V M → (x y z u v w : ℕ) → x < n → y < n → z < n → at x ≡ u → at y ≡ v → at z ≡ w → IsTrue (m.table (Btwn i (term x) (term y) (term z))) ↔ IsTrue (M.between u v w)
 between_is m i n at V M S x y z u v w lx ly lz ux vy wz =
     subst (λ a. IsTrue (m.table (Btwn i (term x) (term y) (term z))) ↔ IsTrue (M.between a v w)) ux
     (subst (λ a. IsTrue (m.table (Btwn i (term x) (term y) (term z))) ↔ IsTrue (M.between (at x) a w)) vy
     (subst (λ a. IsTrue (m.table (Btwn i (term x) (term y) (term z))) ↔ IsTrue (M.between (at x) (at y) a)) wz (S.between x y z lx ly lz)))
 
 mutual
-  footprint_is : (m : Interpretation) (i n : ℕ) (at : ℕ → ℕ) (V : List ℕ) (M : Structure) → IsHomomorphism m i n at V M → (b : Variables) (st : Store) (xs : List Name) → HaveTerms b n at st xs → (f : Formula) → FormulaIn f xs → (z : ℕ) → z < n → IsTrue (truth m (footprint b i (term z) f)) ↔ IsInside f st M (at z)
+  footprint_is : (m : Interpretation) (i n : ℕ) (at : ℕ → ℕ) (V : List ℕ) (M : HeapStructure) → IsHomomorphism m i n at V M → (b : Variables) (st : Store) (xs : List Name) → HaveTerms b n at st xs → (f : Formula) → FormulaIn f xs → (z : ℕ) → z < n → IsTrue (truth m (footprint b i (term z) f)) ↔ IsInside f st M (at z)
   footprint_is m i n at V M S b st xs T empty c z lz = none_is
   footprint_is m i n at V M S b st xs T (comparison l e r) c z lz = none_is
   footprint_is m i n at V M S b st xs T (points_to x y) c z lz = let t = T x.name c.0 in place_is m i n at V M S (b x.name).0 z (st x.name) t.0 lz t.1
@@ -144,26 +144,26 @@ mutual
       choice_is (truth m (tested b t)) (store_truth st t) (truth m (footprint b i (term z) f)) (truth m (footprint b i (term z) g)) (IsInside f st M (at z)) (IsInside g st M (at z))
       (tested_truth m i n at V M S b st xs T t c.0) (footprint_is m i n at V M S b st xs T f c.1 z lz) (footprint_is m i n at V M S b st xs T g c.2 z lz)
 
-  footprints_are : (m : Interpretation) (i n : ℕ) (at : ℕ → ℕ) (V : List ℕ) (M : Structure) → IsHomomorphism m i n at V M → (b : Variables) (st : Store) (xs : List Name) → HaveTerms b n at st xs → (fs : Formulas) → FormulasIn fs xs → (z : ℕ) → z < n → IsTrue (some_true m (claims_of (footprints b i (term z) fs))) ↔ IsInsideAny fs st M (at z)
+  footprints_are : (m : Interpretation) (i n : ℕ) (at : ℕ → ℕ) (V : List ℕ) (M : HeapStructure) → IsHomomorphism m i n at V M → (b : Variables) (st : Store) (xs : List Name) → HaveTerms b n at st xs → (fs : Formulas) → FormulasIn fs xs → (z : ℕ) → z < n → IsTrue (some_true m (claims_of (footprints b i (term z) fs))) ↔ IsInsideAny fs st M (at z)
   footprints_are m i n at V M S b st xs T no_formulas c z lz = none_is
   footprints_are m i n at V M S b st xs T (formula_first f fs) c z lz =
       or_is (truth m (footprint b i (term z) f)) (some_true m (claims_of (footprints b i (term z) fs))) (IsInside f st M (at z)) (IsInsideAny fs st M (at z))
       (footprint_is m i n at V M S b st xs T f c.0 z lz) (footprints_are m i n at V M S b st xs T fs c.1 z lz)
 
 -- all of some claims and of others
-pub all_in_row : (m : Interpretation) (xs ys : List Claim) (A B : Type 0) → IsTrue (all_true m (claims_of xs)) ↔ A → IsTrue (all_true m (claims_of ys)) ↔ B → IsTrue (all_true m (claims_of (xs ++ ys))) ↔ (A × B)
+pub all_in_row : (m : Interpretation) (xs ys : List GroundClaim) (A B : Type 0) → IsTrue (all_true m (claims_of xs)) ↔ A → IsTrue (all_true m (claims_of ys)) ↔ B → IsTrue (all_true m (claims_of (xs ++ ys))) ↔ (A × B)
 all_in_row m xs ys A B f g = subst (λ t. IsTrue t ↔ (A × B)) (sym (split xs)) (and_is (all_true m (claims_of xs)) (all_true m (claims_of ys)) A B f g)
   where
     grouped : (a b c : Bool) → ((a && b) && c) ≡ (a && (b && c))
     grouped true b c = refl
     grouped false b c = refl
 
-    split : (zs : List Claim) → all_true m (claims_of (zs ++ ys)) ≡ (all_true m (claims_of zs) && all_true m (claims_of ys))
+    split : (zs : List GroundClaim) → all_true m (claims_of (zs ++ ys)) ≡ (all_true m (claims_of zs) && all_true m (claims_of ys))
     split [] = refl
     split (z ∷ zs) = ap (λ t. truth m z && t) (split zs) ∙ sym (grouped (truth m z) (all_true m (claims_of zs)) (all_true m (claims_of ys)))
 
 -- a claim for each of n terms
-each_is : (m : Interpretation) (P : Term → Claim) (Q : ℕ → Type 0) (k n : ℕ) → ((z : ℕ) → k ≤ z → z < k + n → IsTrue (truth m (P (term z))) ↔ Q z) → IsTrue (all_true m (claims_of (map P (map term (range_with_len k n))))) ↔ ((z : ℕ) → k ≤ z → z < k + n → Q z)
+each_is : (m : Interpretation) (P : Term → GroundClaim) (Q : ℕ → Type 0) (k n : ℕ) → ((z : ℕ) → k ≤ z → z < k + n → IsTrue (truth m (P (term z))) ↔ Q z) → IsTrue (all_true m (claims_of (map P (map term (range_with_len k n))))) ↔ ((z : ℕ) → k ≤ z → z < k + n → Q z)
 each_is m P Q k zero f = (λ e z a b. absurd (omega arith), λ g. refl)
 each_is m P Q k (suc n) f =
     let first = f k (omega arith) (omega arith) in
@@ -173,13 +173,13 @@ each_is m P Q k (suc n) f =
       λ g. both.1 (g k (omega arith) (omega arith), λ z a b. g z (omega arith) (omega arith)),
     )
 
-pub each_term : (m : Interpretation) (P : Term → Claim) (Q : ℕ → Type 0) (n : ℕ) → ((z : ℕ) → z < n → IsTrue (truth m (P (term z))) ↔ Q z) → IsTrue (all_true m (claims_of (map P (terms_below n)))) ↔ ((z : ℕ) → z < n → Q z)
+pub each_term : (m : Interpretation) (P : Term → GroundClaim) (Q : ℕ → Type 0) (n : ℕ) → ((z : ℕ) → z < n → IsTrue (truth m (P (term z))) ↔ Q z) → IsTrue (all_true m (claims_of (map P (terms_below n)))) ↔ ((z : ℕ) → z < n → Q z)
 each_term m P Q n f =
     let r = each_is m P Q 0 n (λ z a b. f z (omega arith)) in
     (λ e z l. r.0 e z (omega arith) (omega arith), λ g. r.1 (λ z a b. g z (omega arith)))
 
 -- two members have no term in common
-apart_is : (m : Interpretation) (i n : ℕ) (at : ℕ → ℕ) (V : List ℕ) (M : Structure) → IsHomomorphism m i n at V M → (b : Variables) (st : Store) (xs : List Name) → HaveTerms b n at st xs → (f : Formula) → FormulaIn f xs → (fs : Formulas) → FormulasIn fs xs
+apart_is : (m : Interpretation) (i n : ℕ) (at : ℕ → ℕ) (V : List ℕ) (M : HeapStructure) → IsHomomorphism m i n at V M → (b : Variables) (st : Store) (xs : List Name) → HaveTerms b n at st xs → (f : Formula) → FormulaIn f xs → (fs : Formulas) → FormulasIn fs xs
     → IsTrue (all_true m (claims_of (flat_map (apart b i n f) (members fs)))) ↔ ((z : ℕ) → z < n → IsInside f st M (at z) → IsInsideAny fs st M (at z) → ⊥)
 apart_is m i n at V M S b st xs T f c no_formulas d = (λ e z l u v. v, λ g. refl)
 apart_is m i n at V M S b st xs T f c (formula_first g gs) d =
@@ -194,25 +194,25 @@ apart_is m i n at V M S b st xs T f c (formula_first g gs) d =
     )
 
 -- terms below n, or values
-pub over_values : (m : Interpretation) (i n : ℕ) (at : ℕ → ℕ) (V : List ℕ) (M : Structure) → IsHomomorphism m i n at V M → (Q : ℕ → Type 0) → ((z : ℕ) → z < n → Q (at z)) ↔ ((v : ℕ) → Contains V v → Q v)
+pub over_values : (m : Interpretation) (i n : ℕ) (at : ℕ → ℕ) (V : List ℕ) (M : HeapStructure) → IsHomomorphism m i n at V M → (Q : ℕ → Type 0) → ((z : ℕ) → z < n → Q (at z)) ↔ ((v : ℕ) → Contains V v → Q v)
 over_values m i n at V M S Q = (λ g v c. let t = S.made_for v c in subst Q t.2 (g t.0 t.1), λ g z l. g (at z) (S.named z l))
 
 -- what the members of a star say one by one, and that they are apart
-abbrev AllApart : Formulas → Store → Structure → List ℕ → Type 0
+abbrev AllApart : Formulas → Store → HeapStructure → List ℕ → Type 0
 AllApart no_formulas st M V = Unit {0}
 AllApart (formula_first f fs) st M V = ((v : ℕ) → Contains V v → IsInside f st M v → IsInsideAny fs st M v → ⊥) × AllApart fs st M V
 
-abbrev EachFits : Formulas → Store → Structure → List ℕ → Type 0
+abbrev EachFits : Formulas → Store → HeapStructure → List ℕ → Type 0
 EachFits no_formulas st M V = Unit {0}
 EachFits (formula_first f fs) st M V = Fits f st M V × EachFits fs st M V
 
-fit_all : (fs : Formulas) (st : Store) (M : Structure) (V : List ℕ) → (EachFits fs st M V × AllApart fs st M V) ↔ FitAll fs st M V
+fit_all : (fs : Formulas) (st : Store) (M : HeapStructure) (V : List ℕ) → (EachFits fs st M V × AllApart fs st M V) ↔ FitAll fs st M V
 fit_all no_formulas st M V = (λ u. tt, λ u. (tt, tt))
 fit_all (formula_first f fs) st M V =
     let rest = fit_all fs st M V in
     (λ u. (u.0.0, rest.0 (u.0.1, u.1.1), u.1.0), λ u. let r = rest.1 u.1 in ((u.0, r.0), (u.2, r.1)))
 
-all_apart_is : (m : Interpretation) (i n : ℕ) (at : ℕ → ℕ) (V : List ℕ) (M : Structure) → IsHomomorphism m i n at V M → (b : Variables) (st : Store) (xs : List Name) → HaveTerms b n at st xs → (fs : Formulas) → FormulasIn fs xs → IsTrue (all_true m (claims_of (all_apart b i n (members fs)))) ↔ AllApart fs st M V
+all_apart_is : (m : Interpretation) (i n : ℕ) (at : ℕ → ℕ) (V : List ℕ) (M : HeapStructure) → IsHomomorphism m i n at V M → (b : Variables) (st : Store) (xs : List Name) → HaveTerms b n at st xs → (fs : Formulas) → FormulasIn fs xs → IsTrue (all_true m (claims_of (all_apart b i n (members fs)))) ↔ AllApart fs st M V
 all_apart_is m i n at V M S b st xs T no_formulas c = (λ e. tt, λ u. refl)
 all_apart_is m i n at V M S b st xs T (formula_first f fs) c =
     let here = apart_is m i n at V M S b st xs T f c.0 fs c.1 in
@@ -221,7 +221,7 @@ all_apart_is m i n at V M S b st xs T (formula_first f fs) c =
     (λ e. there.0 (here.0 e), λ g. here.1 (there.1 g)) (all_apart_is m i n at V M S b st xs T fs c.1)
 
 -- a cell with a content
-content_is : (m : Interpretation) (i n : ℕ) (at : ℕ → ℕ) (V : List ℕ) (M : Structure) → IsModel V M → IsHomomorphism m i n at V M → (x t y u v : ℕ) → x < n → t < n → y < n → at x ≡ u → at y ≡ v → (IsTrue (M.alloc (at x)) → IsTrue (M.hop (at x) (at t))) → IsTrue (m.table (Alloc i (term x)) && (truth m (equality (term t) (term y)) && true)) ↔ IsTrue (M.hop u v)
+content_is : (m : Interpretation) (i n : ℕ) (at : ℕ → ℕ) (V : List ℕ) (M : HeapStructure) → IsModelOver V M → IsHomomorphism m i n at V M → (x t y u v : ℕ) → x < n → t < n → y < n → at x ≡ u → at y ≡ v → (IsTrue (M.alloc (at x)) → IsTrue (M.hop (at x) (at t))) → IsTrue (m.table (Alloc i (term x)) && (truth m (equality (term t) (term y)) && true)) ↔ IsTrue (M.hop u v)
 content_is m i n at V M model S x t y u v lx lt ly ux vy N =
     let both = and_is (m.table (Alloc i (term x))) (truth m (equality (term t) (term y)) && true) (IsTrue (M.alloc (at x))) (at t ≡ at y) (S.alloc x lx)
     (last_and (truth m (equality (term t) (term y))) (at t ≡ at y) (equal_is m i n at V M S t y (at t) (at y) lt ly refl refl)) in
@@ -235,7 +235,7 @@ content_is m i n at V M model S x t y u v lx lt ly ux vy N =
     (subst (λ a. IsTrue (m.table (Alloc i (term x)) && (truth m (equality (term t) (term y)) && true)) ↔ IsTrue (M.hop (at x) a)) vy one)
 
 mutual
-  part_is : (m : Interpretation) (i n : ℕ) (at : ℕ → ℕ) (V : List ℕ) (M : Structure) → IsModel V M → IsHomomorphism m i n at V M → (b : Variables) (next : Term → Term) (st : Store) (xs : List Name) → HaveTerms b n at st xs → (f : Formula) → FormulaIn f xs → AtCells (HasNext b next n at M) f → IsTrue (truth m (structure b next i n f)) ↔ Fits f st M V
+  part_is : (m : Interpretation) (i n : ℕ) (at : ℕ → ℕ) (V : List ℕ) (M : HeapStructure) → IsModelOver V M → IsHomomorphism m i n at V M → (b : Variables) (next : Term → Term) (st : Store) (xs : List Name) → HaveTerms b n at st xs → (f : Formula) → FormulaIn f xs → AtCells (HasNext b next n at M) f → IsTrue (truth m (structure b next i n f)) ↔ Fits f st M V
   part_is m i n at V M model S b next st xs T empty c N = (λ e. tt, λ u. refl)
   part_is m i n at V M model S b next st xs T (comparison l e r) c N =
       let p = operand_value m i n at V M S b st xs T l c.0 in
@@ -262,7 +262,7 @@ mutual
       choice_is (truth m (tested b t)) (store_truth st t) (truth m (structure b next i n f)) (truth m (structure b next i n g)) (Fits f st M V) (Fits g st M V)
       (tested_truth m i n at V M S b st xs T t c.0) (part_is m i n at V M model S b next st xs T f c.1 N.0) (part_is m i n at V M model S b next st xs T g c.2 N.1)
 
-  parts_are : (m : Interpretation) (i n : ℕ) (at : ℕ → ℕ) (V : List ℕ) (M : Structure) → IsModel V M → IsHomomorphism m i n at V M → (b : Variables) (next : Term → Term) (st : Store) (xs : List Name) → HaveTerms b n at st xs → (fs : Formulas) → FormulasIn fs xs → AtAllCells (HasNext b next n at M) fs → IsTrue (all_true m (claims_of (structures b next i n fs))) ↔ EachFits fs st M V
+  parts_are : (m : Interpretation) (i n : ℕ) (at : ℕ → ℕ) (V : List ℕ) (M : HeapStructure) → IsModelOver V M → IsHomomorphism m i n at V M → (b : Variables) (next : Term → Term) (st : Store) (xs : List Name) → HaveTerms b n at st xs → (fs : Formulas) → FormulasIn fs xs → AtAllCells (HasNext b next n at M) fs → IsTrue (all_true m (claims_of (structures b next i n fs))) ↔ EachFits fs st M V
   parts_are m i n at V M model S b next st xs T no_formulas c N = (λ e. tt, λ u. refl)
   parts_are m i n at V M model S b next st xs T (formula_first f fs) c N =
       and_is (truth m (structure b next i n f)) (all_true m (claims_of (structures b next i n fs))) (Fits f st M V) (EachFits fs st M V)

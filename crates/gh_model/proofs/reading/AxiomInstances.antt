@@ -8,13 +8,13 @@ use Rattle.std.proofs.Common.{refl, ◌∙◌, inl, inr, arith}
 use Rattle.gh_base.specs.declared.atom.Term.{Term}
 use Rattle.gh_base.specs.declared.atom.Atom.TheVariants.{Btwn, Hop, Alloc}
 use Rattle.gh_base.specs.Meaning.{Interpretation, lit_truth}
-use Rattle.gh_inst.specs.Schemas.{term}
+use Rattle.gh_base.specs.Atoms.{term}
 use Rattle.gh_inst.specs.Table.{AxiomRow, row, table}
 use Rattle.gh_inst.specs.Tuples.{tuples}
 use Rattle.gh_inst.specs.Instances.{name_of, clause_of, row_instances}
 use Rattle.gh_inst.specs.Violations.{IsInstanceTrue}
 use Rattle.gh_inst.proofs.SearchLemmas.{all_joined, range_below, tuples_are, IsTuple}
-use Rattle.gh_model.specs.Structures.{Structure, IsModel}
+use Rattle.gh_model.specs.Structures.{HeapStructure, IsModelOver}
 use Rattle.gh_model.specs.Homomorphisms.{IsHomomorphism, InstancesHold}
 use Rattle.gh_model.proofs.reading.Assertions.{equal_truth}
 
@@ -84,49 +84,49 @@ of_4 n P f (a ∷ b ∷ c ∷ []) is = absurd (omega (arith, is.0))
 of_4 n P f (a ∷ b ∷ c ∷ d ∷ []) is = f a.0 b.0 c.0 d.0 (All-head (Below n) a (b ∷ c ∷ d ∷ []) is.1) (All-head (Below n) b (c ∷ d ∷ []) (All-tail (Below n) a (b ∷ c ∷ d ∷ []) is.1)) (All-head (Below n) c (d ∷ []) (All-tail (Below n) b (c ∷ d ∷ []) (All-tail (Below n) a (b ∷ c ∷ d ∷ []) is.1))) (All-head (Below n) d ([]) (All-tail (Below n) c (d ∷ []) (All-tail (Below n) b (c ∷ d ∷ []) (All-tail (Below n) a (b ∷ c ∷ d ∷ []) is.1))))
 of_4 n P f (a ∷ b ∷ c ∷ d ∷ e ∷ es) is = absurd (omega (arith, is.0))
 
-row_1_true : (m : Interpretation) (i n : ℕ) (at : ℕ → ℕ) (V : List ℕ) (M : Structure) → IsModel V M → IsHomomorphism m i n at V M → (tuple : List Term) → IsTuple 1 n tuple → IsInstanceTrue m (name_of 1 i tuple)
+row_1_true : (m : Interpretation) (i n : ℕ) (at : ℕ → ℕ) (V : List ℕ) (M : HeapStructure) → IsModelOver V M → IsHomomorphism m i n at V M → (tuple : List Term) → IsTuple 1 n tuple → IsInstanceTrue m (name_of 1 i tuple)
 row_1_true m i n at V M R S = of_1 n (λ tuple. IsInstanceTrue m (name_of 1 i tuple)) (λ x lx. Any-from_list_any (lit_truth m) (clause_of (name_of 1 i (term x ∷ []))) (one (m.table (Btwn i (term x) (term x) (term x))) ((S.between x x x lx lx lx).1 (R.ordered.row_1 (at x) (S.named x lx)))))
 
-row_2_true : (m : Interpretation) (i n : ℕ) (at : ℕ → ℕ) (V : List ℕ) (M : Structure) → IsModel V M → IsHomomorphism m i n at V M → (tuple : List Term) → IsTuple 2 n tuple → IsInstanceTrue m (name_of 2 i tuple)
+row_2_true : (m : Interpretation) (i n : ℕ) (at : ℕ → ℕ) (V : List ℕ) (M : HeapStructure) → IsModelOver V M → IsHomomorphism m i n at V M → (tuple : List Term) → IsTuple 2 n tuple → IsInstanceTrue m (name_of 2 i tuple)
 row_2_true m i n at V M R S = of_2 n (λ tuple. IsInstanceTrue m (name_of 2 i tuple)) (λ x y lx ly. Any-from_list_any (lit_truth m) (clause_of (name_of 2 i (term x ∷ term y ∷ []))) (from_one (m.table (Btwn i (term x) (term y) (term x))) (nat_eq (m.class (min x y)) (m.class (max x y))) (λ a. (equal_truth m x y ∙ (S.equal x y lx ly).1 (R.ordered.row_2 (at x) (at y) (S.named x lx) (S.named y ly) ((S.between x y x lx ly lx).0 a))))))
 
-row_3_true : (m : Interpretation) (i n : ℕ) (at : ℕ → ℕ) (V : List ℕ) (M : Structure) → IsModel V M → IsHomomorphism m i n at V M → (tuple : List Term) → IsTuple 3 n tuple → IsInstanceTrue m (name_of 3 i tuple)
+row_3_true : (m : Interpretation) (i n : ℕ) (at : ℕ → ℕ) (V : List ℕ) (M : HeapStructure) → IsModelOver V M → IsHomomorphism m i n at V M → (tuple : List Term) → IsTuple 3 n tuple → IsInstanceTrue m (name_of 3 i tuple)
 row_3_true m i n at V M R S = of_3 n (λ tuple. IsInstanceTrue m (name_of 3 i tuple)) (λ x y z lx ly lz. Any-from_list_any (lit_truth m) (clause_of (name_of 3 i (term x ∷ term y ∷ term z ∷ []))) (one_of_two (m.table (Btwn i (term x) (term y) (term y))) (m.table (Btwn i (term x) (term z) (term z))) (m.table (Btwn i (term x) (term y) (term z))) (m.table (Btwn i (term x) (term z) (term y))) (λ a b. elim (R.ordered.row_3 (at x) (at y) (at z) (S.named x lx) (S.named y ly) (S.named z lz) ((S.between x y y lx ly ly).0 a) ((S.between x z z lx lz lz).0 b)) [ inl c ↦ inl ((S.between x y z lx ly lz).1 c) | inr c ↦ inr ((S.between x z y lx lz ly).1 c) ])))
 
-row_4_true : (m : Interpretation) (i n : ℕ) (at : ℕ → ℕ) (V : List ℕ) (M : Structure) → IsModel V M → IsHomomorphism m i n at V M → (tuple : List Term) → IsTuple 3 n tuple → IsInstanceTrue m (name_of 4 i tuple)
+row_4_true : (m : Interpretation) (i n : ℕ) (at : ℕ → ℕ) (V : List ℕ) (M : HeapStructure) → IsModelOver V M → IsHomomorphism m i n at V M → (tuple : List Term) → IsTuple 3 n tuple → IsInstanceTrue m (name_of 4 i tuple)
 row_4_true m i n at V M R S = of_3 n (λ tuple. IsInstanceTrue m (name_of 4 i tuple)) (λ x y z lx ly lz. Any-from_list_any (lit_truth m) (clause_of (name_of 4 i (term x ∷ term y ∷ term z ∷ []))) (from_one (m.table (Btwn i (term x) (term y) (term z))) (m.table (Btwn i (term x) (term y) (term y))) (λ a. (S.between x y y lx ly ly).1 (R.ordered.row_4 (at x) (at y) (at z) (S.named x lx) (S.named y ly) (S.named z lz) ((S.between x y z lx ly lz).0 a)))))
 
-row_5_true : (m : Interpretation) (i n : ℕ) (at : ℕ → ℕ) (V : List ℕ) (M : Structure) → IsModel V M → IsHomomorphism m i n at V M → (tuple : List Term) → IsTuple 3 n tuple → IsInstanceTrue m (name_of 5 i tuple)
+row_5_true : (m : Interpretation) (i n : ℕ) (at : ℕ → ℕ) (V : List ℕ) (M : HeapStructure) → IsModelOver V M → IsHomomorphism m i n at V M → (tuple : List Term) → IsTuple 3 n tuple → IsInstanceTrue m (name_of 5 i tuple)
 row_5_true m i n at V M R S = of_3 n (λ tuple. IsInstanceTrue m (name_of 5 i tuple)) (λ x y z lx ly lz. Any-from_list_any (lit_truth m) (clause_of (name_of 5 i (term x ∷ term y ∷ term z ∷ []))) (from_one (m.table (Btwn i (term x) (term y) (term z))) (m.table (Btwn i (term y) (term z) (term z))) (λ a. (S.between y z z ly lz lz).1 (R.ordered.row_5 (at x) (at y) (at z) (S.named x lx) (S.named y ly) (S.named z lz) ((S.between x y z lx ly lz).0 a)))))
 
-row_6_true : (m : Interpretation) (i n : ℕ) (at : ℕ → ℕ) (V : List ℕ) (M : Structure) → IsModel V M → IsHomomorphism m i n at V M → (tuple : List Term) → IsTuple 3 n tuple → IsInstanceTrue m (name_of 6 i tuple)
+row_6_true : (m : Interpretation) (i n : ℕ) (at : ℕ → ℕ) (V : List ℕ) (M : HeapStructure) → IsModelOver V M → IsHomomorphism m i n at V M → (tuple : List Term) → IsTuple 3 n tuple → IsInstanceTrue m (name_of 6 i tuple)
 row_6_true m i n at V M R S = of_3 n (λ tuple. IsInstanceTrue m (name_of 6 i tuple)) (λ x y z lx ly lz. Any-from_list_any (lit_truth m) (clause_of (name_of 6 i (term x ∷ term y ∷ term z ∷ []))) (from_two (m.table (Btwn i (term x) (term y) (term y))) (m.table (Btwn i (term y) (term z) (term z))) (m.table (Btwn i (term x) (term z) (term z))) (λ a b. (S.between x z z lx lz lz).1 (R.ordered.row_6 (at x) (at y) (at z) (S.named x lx) (S.named y ly) (S.named z lz) ((S.between x y y lx ly ly).0 a) ((S.between y z z ly lz lz).0 b)))))
 
-row_7_true : (m : Interpretation) (i n : ℕ) (at : ℕ → ℕ) (V : List ℕ) (M : Structure) → IsModel V M → IsHomomorphism m i n at V M → (tuple : List Term) → IsTuple 4 n tuple → IsInstanceTrue m (name_of 7 i tuple)
+row_7_true : (m : Interpretation) (i n : ℕ) (at : ℕ → ℕ) (V : List ℕ) (M : HeapStructure) → IsModelOver V M → IsHomomorphism m i n at V M → (tuple : List Term) → IsTuple 4 n tuple → IsInstanceTrue m (name_of 7 i tuple)
 row_7_true m i n at V M R S = of_4 n (λ tuple. IsInstanceTrue m (name_of 7 i tuple)) (λ x y u z lx ly lu lz. Any-from_list_any (lit_truth m) (clause_of (name_of 7 i (term x ∷ term y ∷ term u ∷ term z ∷ []))) (from_two (m.table (Btwn i (term x) (term y) (term z))) (m.table (Btwn i (term y) (term u) (term z))) (m.table (Btwn i (term x) (term y) (term u))) (λ a b. (S.between x y u lx ly lu).1 (R.ordered.row_7 (at x) (at y) (at u) (at z) (S.named x lx) (S.named y ly) (S.named u lu) (S.named z lz) ((S.between x y z lx ly lz).0 a) ((S.between y u z ly lu lz).0 b)))))
 
-row_8_true : (m : Interpretation) (i n : ℕ) (at : ℕ → ℕ) (V : List ℕ) (M : Structure) → IsModel V M → IsHomomorphism m i n at V M → (tuple : List Term) → IsTuple 4 n tuple → IsInstanceTrue m (name_of 8 i tuple)
+row_8_true : (m : Interpretation) (i n : ℕ) (at : ℕ → ℕ) (V : List ℕ) (M : HeapStructure) → IsModelOver V M → IsHomomorphism m i n at V M → (tuple : List Term) → IsTuple 4 n tuple → IsInstanceTrue m (name_of 8 i tuple)
 row_8_true m i n at V M R S = of_4 n (λ tuple. IsInstanceTrue m (name_of 8 i tuple)) (λ x y u z lx ly lu lz. Any-from_list_any (lit_truth m) (clause_of (name_of 8 i (term x ∷ term y ∷ term u ∷ term z ∷ []))) (from_two (m.table (Btwn i (term x) (term y) (term z))) (m.table (Btwn i (term y) (term u) (term z))) (m.table (Btwn i (term x) (term u) (term z))) (λ a b. (S.between x u z lx lu lz).1 (R.ordered.row_8 (at x) (at y) (at u) (at z) (S.named x lx) (S.named y ly) (S.named u lu) (S.named z lz) ((S.between x y z lx ly lz).0 a) ((S.between y u z ly lu lz).0 b)))))
 
-row_9_true : (m : Interpretation) (i n : ℕ) (at : ℕ → ℕ) (V : List ℕ) (M : Structure) → IsModel V M → IsHomomorphism m i n at V M → (tuple : List Term) → IsTuple 4 n tuple → IsInstanceTrue m (name_of 9 i tuple)
+row_9_true : (m : Interpretation) (i n : ℕ) (at : ℕ → ℕ) (V : List ℕ) (M : HeapStructure) → IsModelOver V M → IsHomomorphism m i n at V M → (tuple : List Term) → IsTuple 4 n tuple → IsInstanceTrue m (name_of 9 i tuple)
 row_9_true m i n at V M R S = of_4 n (λ tuple. IsInstanceTrue m (name_of 9 i tuple)) (λ x y u z lx ly lu lz. Any-from_list_any (lit_truth m) (clause_of (name_of 9 i (term x ∷ term y ∷ term u ∷ term z ∷ []))) (from_two (m.table (Btwn i (term x) (term y) (term z))) (m.table (Btwn i (term x) (term u) (term y))) (m.table (Btwn i (term x) (term u) (term z))) (λ a b. (S.between x u z lx lu lz).1 (R.ordered.row_9 (at x) (at y) (at u) (at z) (S.named x lx) (S.named y ly) (S.named u lu) (S.named z lz) ((S.between x y z lx ly lz).0 a) ((S.between x u y lx lu ly).0 b)))))
 
-row_10_true : (m : Interpretation) (i n : ℕ) (at : ℕ → ℕ) (V : List ℕ) (M : Structure) → IsModel V M → IsHomomorphism m i n at V M → (tuple : List Term) → IsTuple 4 n tuple → IsInstanceTrue m (name_of 10 i tuple)
+row_10_true : (m : Interpretation) (i n : ℕ) (at : ℕ → ℕ) (V : List ℕ) (M : HeapStructure) → IsModelOver V M → IsHomomorphism m i n at V M → (tuple : List Term) → IsTuple 4 n tuple → IsInstanceTrue m (name_of 10 i tuple)
 row_10_true m i n at V M R S = of_4 n (λ tuple. IsInstanceTrue m (name_of 10 i tuple)) (λ x y u z lx ly lu lz. Any-from_list_any (lit_truth m) (clause_of (name_of 10 i (term x ∷ term y ∷ term u ∷ term z ∷ []))) (from_two (m.table (Btwn i (term x) (term y) (term z))) (m.table (Btwn i (term x) (term u) (term y))) (m.table (Btwn i (term u) (term y) (term z))) (λ a b. (S.between u y z lu ly lz).1 (R.ordered.row_10 (at x) (at y) (at u) (at z) (S.named x lx) (S.named y ly) (S.named u lu) (S.named z lz) ((S.between x y z lx ly lz).0 a) ((S.between x u y lx lu ly).0 b)))))
 
-row_11_true : (m : Interpretation) (i n : ℕ) (at : ℕ → ℕ) (V : List ℕ) (M : Structure) → IsModel V M → IsHomomorphism m i n at V M → (tuple : List Term) → IsTuple 2 n tuple → IsInstanceTrue m (name_of 11 i tuple)
+row_11_true : (m : Interpretation) (i n : ℕ) (at : ℕ → ℕ) (V : List ℕ) (M : HeapStructure) → IsModelOver V M → IsHomomorphism m i n at V M → (tuple : List Term) → IsTuple 2 n tuple → IsInstanceTrue m (name_of 11 i tuple)
 row_11_true m i n at V M R S = of_2 n (λ tuple. IsInstanceTrue m (name_of 11 i tuple)) (λ x y lx ly. Any-from_list_any (lit_truth m) (clause_of (name_of 11 i (term x ∷ term y ∷ []))) (from_one (m.table (Hop i (term x) (term y))) (m.table (Btwn i (term x) (term y) (term y))) (λ a. (S.between x y y lx ly ly).1 (R.linked.row_11 (at x) (at y) (S.named x lx) (S.named y ly) ((S.hop x y lx ly).0 a)))))
 
-row_12_true : (m : Interpretation) (i n : ℕ) (at : ℕ → ℕ) (V : List ℕ) (M : Structure) → IsModel V M → IsHomomorphism m i n at V M → (tuple : List Term) → IsTuple 3 n tuple → IsInstanceTrue m (name_of 12 i tuple)
+row_12_true : (m : Interpretation) (i n : ℕ) (at : ℕ → ℕ) (V : List ℕ) (M : HeapStructure) → IsModelOver V M → IsHomomorphism m i n at V M → (tuple : List Term) → IsTuple 3 n tuple → IsInstanceTrue m (name_of 12 i tuple)
 row_12_true m i n at V M R S = of_3 n (λ tuple. IsInstanceTrue m (name_of 12 i tuple)) (λ x y z lx ly lz. Any-from_list_any (lit_truth m) (clause_of (name_of 12 i (term x ∷ term y ∷ term z ∷ []))) (one_of_two (m.table (Hop i (term x) (term y))) (m.table (Btwn i (term x) (term z) (term z))) (nat_eq (m.class (min z x)) (m.class (max z x))) (m.table (Btwn i (term x) (term y) (term z))) (λ a b. elim (R.linked.row_12 (at x) (at y) (at z) (S.named x lx) (S.named y ly) (S.named z lz) ((S.hop x y lx ly).0 a) ((S.between x z z lx lz lz).0 b)) [ inl c ↦ inl (equal_truth m z x ∙ (S.equal z x lz lx).1 c) | inr c ↦ inr ((S.between x y z lx ly lz).1 c) ])))
 
-row_13_true : (m : Interpretation) (i n : ℕ) (at : ℕ → ℕ) (V : List ℕ) (M : Structure) → IsModel V M → IsHomomorphism m i n at V M → (tuple : List Term) → IsTuple 2 n tuple → IsInstanceTrue m (name_of 13 i tuple)
+row_13_true : (m : Interpretation) (i n : ℕ) (at : ℕ → ℕ) (V : List ℕ) (M : HeapStructure) → IsModelOver V M → IsHomomorphism m i n at V M → (tuple : List Term) → IsTuple 2 n tuple → IsInstanceTrue m (name_of 13 i tuple)
 row_13_true m i n at V M R S = of_2 n (λ tuple. IsInstanceTrue m (name_of 13 i tuple)) (λ x y lx ly. Any-from_list_any (lit_truth m) (clause_of (name_of 13 i (term x ∷ term y ∷ []))) (thirteen (m.table (Alloc i (term x))) (m.table (Btwn i (term x) (term y) (term y))) (nat_eq (m.class (min x y)) (m.class (max x y))) (λ b. elim (R.linked.row_13 (at x) (at y) (S.named x lx) (S.named y ly) ((S.between x y y lx ly ly).0 b)) [ inl c ↦ inl ((S.alloc x lx).1 c) | inr c ↦ inr (equal_truth m x y ∙ (S.equal x y lx ly).1 c) ])))
 
-row_14_true : (m : Interpretation) (i n : ℕ) (at : ℕ → ℕ) (V : List ℕ) (M : Structure) → IsModel V M → IsHomomorphism m i n at V M → (tuple : List Term) → IsTuple 2 n tuple → IsInstanceTrue m (name_of 14 i tuple)
+row_14_true : (m : Interpretation) (i n : ℕ) (at : ℕ → ℕ) (V : List ℕ) (M : HeapStructure) → IsModelOver V M → IsHomomorphism m i n at V M → (tuple : List Term) → IsTuple 2 n tuple → IsInstanceTrue m (name_of 14 i tuple)
 row_14_true m i n at V M R S = of_2 n (λ tuple. IsInstanceTrue m (name_of 14 i tuple)) (λ x y lx ly. Any-from_list_any (lit_truth m) (clause_of (name_of 14 i (term x ∷ term y ∷ []))) (from_two (m.table (Hop i (term x) (term x))) (m.table (Btwn i (term x) (term y) (term y))) (nat_eq (m.class (min y x)) (m.class (max y x))) (λ a b. (equal_truth m y x ∙ (S.equal y x ly lx).1 (R.linked.row_14 (at x) (at y) (S.named x lx) (S.named y ly) ((S.hop x x lx lx).0 a) ((S.between x y y lx ly ly).0 b))))))
 
-row_15_true : (m : Interpretation) (i n : ℕ) (at : ℕ → ℕ) (V : List ℕ) (M : Structure) → IsModel V M → IsHomomorphism m i n at V M → (tuple : List Term) → IsTuple 2 n tuple → IsInstanceTrue m (name_of 15 i tuple)
+row_15_true : (m : Interpretation) (i n : ℕ) (at : ℕ → ℕ) (V : List ℕ) (M : HeapStructure) → IsModelOver V M → IsHomomorphism m i n at V M → (tuple : List Term) → IsTuple 2 n tuple → IsInstanceTrue m (name_of 15 i tuple)
 row_15_true m i n at V M R S = of_2 n (λ tuple. IsInstanceTrue m (name_of 15 i tuple)) (λ x y lx ly. Any-from_list_any (lit_truth m) (clause_of (name_of 15 i (term x ∷ term y ∷ []))) (from_one (m.table (Hop i (term x) (term y))) (m.table (Alloc i (term x))) (λ a. (S.alloc x lx).1 (R.linked.row_15 (at x) (at y) (S.named x lx) (S.named y ly) ((S.hop x y lx ly).0 a)))))
 
 -- the row at a place
@@ -137,7 +137,7 @@ nth k = get_or table k (row 0 1 [])
 abbrev RowTrue : Interpretation → ℕ → ℕ → AxiomRow → Type 0
 RowTrue m n versions r = All (IsInstanceTrue m) (row_instances n versions r)
 
-rows_true : (n versions : ℕ) (m : Interpretation) (at : ℕ → ℕ) (V : List ℕ) (M : ℕ → Structure) → ((i : ℕ) → i < versions → IsModel V (M i) × IsHomomorphism m i n at V (M i)) → All (RowTrue m n versions) table
+rows_true : (n versions : ℕ) (m : Interpretation) (at : ℕ → ℕ) (V : List ℕ) (M : ℕ → HeapStructure) → ((i : ℕ) → i < versions → IsModelOver V (M i) × IsHomomorphism m i n at V (M i)) → All (RowTrue m n versions) table
 rows_true n versions m at V M each =
     All-cons (RowTrue m n versions) (nth 0) (drop 1 table) (row_true m n versions (nth 0) (λ i l tuple is. row_1_true m i n at V (M i) (each i l).0 (each i l).1 tuple is)) (
     All-cons (RowTrue m n versions) (nth 1) (drop 2 table) (row_true m n versions (nth 1) (λ i l tuple is. row_2_true m i n at V (M i) (each i l).0 (each i l).1 tuple is)) (

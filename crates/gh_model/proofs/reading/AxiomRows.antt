@@ -10,7 +10,7 @@ use Rattle.gh_base.specs.declared.atom.Atom.TheVariants.{Btwn, Hop, Alloc}
 use Rattle.gh_base.specs.declared.sizes.Sizes.{Sizes}
 use Rattle.gh_base.specs.Meaning as congruence
 use Rattle.gh_base.specs.Meaning.{Interpretation, lit_truth}
-use Rattle.gh_inst.specs.Schemas.{term}
+use Rattle.gh_base.specs.Atoms.{term}
 use Rattle.gh_inst.specs.Table.{table, row_with}
 use Rattle.gh_inst.specs.Instances.{name_of, clause_of, instances, IsInstance}
 use Rattle.gh_inst.specs.Violations.{AreInstancesTrue, IsInstanceTrue}

@@ -3,14 +3,14 @@ use Rattle.std.specs.Prelude.{◌≡◌, ℕ, zero, suc, ◌+◌, ◌≤◌, ◌
 use Rattle.std.proofs.lemmas.Bool.{cases_eq}
 use Rattle.std.proofs.Common.{refl, sym, ◌∙◌, ap, subst, inl, inr, arith}
 use Rattle.gh_assert.proofs.Owned.{later_one, first_or_later}
-use Rattle.gh_model.specs.Structures.{Structure, Keeps}
+use Rattle.gh_model.specs.Structures.{HeapStructure, Keeps}
 use Rattle.gh_model.specs.BuiltHeaps.{first}
 use Rattle.gh_model.specs.Classes.{numbers, class_of, classes, IsCongruence}
 use Rattle.gh_model.specs.Laws.{ClassesAreModels}
 use Rattle.gh_model.proofs.heaps.Cells.{first_passes}
 
 -- what holds of terms holds of some of them, where equal ones are one
-some_keep : (N K : ℕ → Type 0) (E F : ℕ → ℕ → Type 0) (m : Structure) → ((x : ℕ) → K x → N x) → ((x y : ℕ) → K x → K y → E x y → F x y) → ((x v : ℕ) → K x → N v → IsTrue (m.hop x v) → (w : ℕ) × K w × IsTrue (m.hop x w)) → Keeps N E m → Keeps K F m
+some_keep : (N K : ℕ → Type 0) (E F : ℕ → ℕ → Type 0) (m : HeapStructure) → ((x : ℕ) → K x → N x) → ((x y : ℕ) → K x → K y → E x y → F x y) → ((x v : ℕ) → K x → N v → IsTrue (m.hop x v) → (w : ℕ) × K w × IsTrue (m.hop x w)) → Keeps N E m → Keeps K F m
 some_keep N K E F m in_N one hop M = record {
   ordered = record {
     row_1 = λ x kx. M.ordered.row_1 x (in_N x kx);
@@ -73,17 +73,17 @@ first_same p q [] e = refl
 first_same p q (v ∷ vs) e = ap (λ b. cond b v (first p vs)) (e v (0, omega arith, refl)) ∙ ap (cond (q v) v) (first_same p q vs (λ w c. e w (later_one v w vs c)))
 
 -- a term equals its class, which is a term
-class_term : (equal : ℕ → ℕ → Bool) (n : ℕ) (m : Structure) → IsCongruence equal n m → (t : ℕ) → t < n → (class_of equal n t < n) × IsTrue (equal t (class_of equal n t))
+class_term : (equal : ℕ → ℕ → Bool) (n : ℕ) (m : HeapStructure) → IsCongruence equal n m → (t : ℕ) → t < n → (class_of equal n t < n) × IsTrue (equal t (class_of equal n t))
 class_term equal n m C t l =
     let found = first_passes (equal t) (numbers 0 n) t (numbered 0 n t (omega arith) (omega arith)) (C.itself t l) in
     (omega (arith, below 0 n (class_of equal n t) found.0), found.1)
 
-same_class : (equal : ℕ → ℕ → Bool) (n : ℕ) (m : Structure) → IsCongruence equal n m → (x y : ℕ) → x < n → y < n → IsTrue (equal x y) → class_of equal n x ≡ class_of equal n y
+same_class : (equal : ℕ → ℕ → Bool) (n : ℕ) (m : HeapStructure) → IsCongruence equal n m → (x y : ℕ) → x < n → y < n → IsTrue (equal x y) → class_of equal n x ≡ class_of equal n y
 same_class equal n m C x y lx ly e = first_same (equal x) (equal y) (numbers 0 n) (λ v c.
     let lv : v < n = omega (arith, below 0 n v c) in
     same_test (equal x v) (equal y v) (C.on y x v ly lx lv (C.back x y lx ly e)) (C.on x y v lx ly lv e))
 
-own_class : (equal : ℕ → ℕ → Bool) (n : ℕ) (m : Structure) → IsCongruence equal n m → (c : ℕ) → Contains (classes equal n) c → (c < n) × (class_of equal n c ≡ c)
+own_class : (equal : ℕ → ℕ → Bool) (n : ℕ) (m : HeapStructure) → IsCongruence equal n m → (c : ℕ) → Contains (classes equal n) c → (c < n) × (class_of equal n c ≡ c)
 own_class equal n m C c named =
     let of = from_map (class_of equal n) (numbers 0 n) c named in
     let lt : of.0 < n = omega (arith, below 0 n of.0 of.1) in

@@ -11,7 +11,7 @@ use Rattle.gh_assert.specs.Heaps.{Heap}
 use Rattle.gh_assert.specs.Meaning.{Store}
 use Rattle.gh_assert.specs.Walks.{succ}
 use Rattle.gh_grass.specs.Footprints.{Variables}
-use Rattle.gh_model.specs.Structures.{Structure}
+use Rattle.gh_model.specs.Structures.{HeapStructure}
 use Rattle.gh_model.specs.Representations.{Represents, IsInside}
 use Rattle.gh_model.specs.Homomorphisms.{IsHomomorphism, HaveTerms, HasNext, AtCells, AtAllCells}
 use Rattle.gh_model.specs.ReadingLaws.{IsOwnedHeap, FormulasAreRead}
@@ -27,7 +27,7 @@ same_test : (p q : Bool) (P : Type 0) → Decides p P → Decides q P → (p ≡
 same_test p q P d e = (λ u. e.1 (d.0 u), λ u. d.1 (e.0 u))
 
 -- what is depicted maps onto what represents the heap
-depicted_homomorphism : (V : List ℕ) (m : Interpretation) (i : ℕ) (h : Heap) (M : Structure) → IsOwnedHeap V m i h → Represents V h M → IsHomomorphism m i (length V) (value_at V) V M
+depicted_homomorphism : (V : List ℕ) (m : Interpretation) (i : ℕ) (h : Heap) (M : HeapStructure) → IsOwnedHeap V m i h → Represents V h M → IsHomomorphism m i (length V) (value_at V) V M
 depicted_homomorphism V m i h M O R =
     let v = value_at V in
     let at : (t : ℕ) → t < length V → slice_get V t ≡ Some (v t) = there_at V in
@@ -48,7 +48,7 @@ depicted_homomorphism V m i h M O R =
     }
 
 -- where a single cell stands, its place hops to the term for what follows
-next_is_hop : (V : List ℕ) (h : Heap) (M : Structure) (b : Variables) (next : Term → Term) (st : Store) (x : Name) → Represents V h M → slice_get V (b x).0 ≡ Some (st x) → slice_get V (next (b x)).0 ≡ Some (succ h (st x)) → HasNext b next (length V) (value_at V) M x
+next_is_hop : (V : List ℕ) (h : Heap) (M : HeapStructure) (b : Variables) (next : Term → Term) (st : Store) (x : Name) → Represents V h M → slice_get V (b x).0 ≡ Some (st x) → slice_get V (next (b x)).0 ≡ Some (succ h (st x)) → HasNext b next (length V) (value_at V) M x
 next_is_hop V h M b next st x R here after =
     let at = value_of V (b x).0 (st x) here in
     let to = value_of V (next (b x)).0 (succ h (st x)) after in (
@@ -62,7 +62,7 @@ abbrev Follows : List ℕ → Heap → Variables → (Term → Term) → Store �
 Follows V h b next st x = slice_get V (next (b x)).0 ≡ Some (succ h (st x))
 
 mutual
-  cells_hop : (V : List ℕ) (h : Heap) (M : Structure) (b : Variables) (next : Term → Term) (st : Store) (xs : List Name) → Represents V h M → ((x : Name) → Contains xs x → slice_get V (b x).0 ≡ Some (st x))
+  cells_hop : (V : List ℕ) (h : Heap) (M : HeapStructure) (b : Variables) (next : Term → Term) (st : Store) (xs : List Name) → Represents V h M → ((x : Name) → Contains xs x → slice_get V (b x).0 ≡ Some (st x))
       → (f : Formula) → FormulaIn f xs → AtCells (Follows V h b next st) f → AtCells (HasNext b next (length V) (value_at V) M) f
   cells_hop V h M b next st xs R at empty i c = tt
   cells_hop V h M b next st xs R at (comparison l e r) i c = tt
@@ -72,7 +72,7 @@ mutual
   cells_hop V h M b next st xs R at (star fs) i c = all_cells_hop V h M b next st xs R at fs i c
   cells_hop V h M b next st xs R at (cases t f g) i c = (cells_hop V h M b next st xs R at f i.1 c.0, cells_hop V h M b next st xs R at g i.2 c.1)
 
-  all_cells_hop : (V : List ℕ) (h : Heap) (M : Structure) (b : Variables) (next : Term → Term) (st : Store) (xs : List Name) → Represents V h M → ((x : Name) → Contains xs x → slice_get V (b x).0 ≡ Some (st x))
+  all_cells_hop : (V : List ℕ) (h : Heap) (M : HeapStructure) (b : Variables) (next : Term → Term) (st : Store) (xs : List Name) → Represents V h M → ((x : Name) → Contains xs x → slice_get V (b x).0 ≡ Some (st x))
       → (fs : Formulas) → FormulasIn fs xs → AtAllCells (Follows V h b next st) fs → AtAllCells (HasNext b next (length V) (value_at V) M) fs
   all_cells_hop V h M b next st xs R at no_formulas i c = tt
   all_cells_hop V h M b next st xs R at (formula_first f fs) i c = (cells_hop V h M b next st xs R at f i.0 c.0, all_cells_hop V h M b next st xs R at fs i.1 c.1)
@@ -80,7 +80,7 @@ mutual
 pub formulas_are_read : FormulasAreRead
 formulas_are_read V m i b next st h xs f O T =
     let found = representations_exist V h O.proper O.owned in
-    let M : Structure = found.0 in
+    let M : HeapStructure = found.0 in
     let R : Represents V h M = found.1 in
     let model = heaps_are_models V h M (listed V 0 0 O.null) O.proper O.owned R in
     let map = depicted_homomorphism V m i h M O R in

@@ -7,6 +7,7 @@ use Rattle.std.proofs.lemmas.Bool.{cases_eq, cases_Bool, eqb-true, eq-eqb}
 use Rattle.std.proofs.lemmas.List.Elements.{All-nil, All-cons, All-append, All-map, All-weaker}
 use Rattle.gh_base.specs.declared.atom.Term.{Term}
 use Rattle.gh_base.specs.Meaning.{Interpretation}
+use Rattle.gh_base.specs.Atoms.{term, terms_below}
 use Rattle.gh_ast.specs.Plain.{Procedure, Program}
 use Rattle.gh_ast.proofs.Lists.{member_first, member_later, member_cases, only_member}
 use Rattle.gh_ast.specs.Rules.{IsTyped}
@@ -19,18 +20,16 @@ use Rattle.gh_inst.proofs.SearchLemmas.{all_joined, range_below}
 use Rattle.gh_path.specs.Graphs as path
 use Rattle.gh_path.specs.Conditions.{Condition, IsCondition, IsOf}
 use Rattle.gh_path.specs.Terms.{Kind, null, value, next, no_terms, steps_walked, check_walked}
-use Rattle.gh_grass.specs.Bindings.{term}
-use Rattle.gh_grass.specs.Claims.{Claim, negation_of, claims_of, one_of, equality}
-use Rattle.gh_grass.specs.Footprints.{terms_below}
+use Rattle.gh_grass.specs.Claims.{GroundClaim, negation_of, claims_of, one_of, equality}
 use Rattle.gh_grass.specs.Truth.{truth, some_true, AreTrue}
 use Rattle.gh_symb.specs.Symbolic.{begins, symbolic_of, term_steps, state_bindings}
 use Rattle.gh_symb.specs.Formulas.{allocated, variables, successor, hops, leads, each, succeeds, successor_claims, successors_from, version_claims, steps_claims, meets_whole, problem, versions_claims, check_claims}
 use Rattle.gh_trace.specs.Traces.{State, IsTrace, last_state}
 use Rattle.gh_trace.proofs.Proper.{step_proper}
-use Rattle.gh_model.specs.Structures.{Structure, IsModel}
+use Rattle.gh_model.specs.Structures.{HeapStructure, IsModelOver}
 use Rattle.gh_model.specs.Representations.{Represents}
 use Rattle.gh_model.specs.Homomorphisms.{IsPreserved}
-use Rattle.gh_model.specs.TermValues.{version_after, HaveValues, AreTermValues}
+use Rattle.gh_model.specs.TermValues.{path_version, HaveValues, AreTermValues}
 use Rattle.gh_model.specs.TraceLaws.{IsCounterexample}
 use Rattle.gh_model.specs.Abstraction.{Satisfies, TracesSatisfy}
 use Rattle.gh_model.proofs.terms.Extension.{Within, walked_grows}
@@ -54,10 +53,10 @@ heap_state : (ps : List path.PathStep) (x : State) (ys : List State) (i j : ℕ)
 heap_state [] x ys i j = (x, member_first x ys, refl)
 heap_state (p ∷ ps) x [] i j = (x, member_first x [], refl)
 heap_state (p ∷ ps) x (y ∷ ys) i j = elim (cases_Bool (j == i)) [
-  | inl yes' ↦ (x, member_first x (y ∷ ys), ap (λ b. cond b x.heap (heap_in ps y ys (version_after p i) j)) yes')
+  | inl yes' ↦ (x, member_first x (y ∷ ys), ap (λ b. cond b x.heap (heap_in ps y ys (path_version p i) j)) yes')
   | inr no' ↦
-      let r = heap_state ps y ys (version_after p i) j in
-      (r.0, member_later x r.0 (y ∷ ys) r.1, ap (λ b. cond b x.heap (heap_in ps y ys (version_after p i) j)) no' ∙ r.2)
+      let r = heap_state ps y ys (path_version p i) j in
+      (r.0, member_later x r.0 (y ∷ ys) r.1, ap (λ b. cond b x.heap (heap_in ps y ys (path_version p i) j)) no' ∙ r.2)
 ]
 
 all_proper : (P : Program) (home : Procedure) (ps : List path.PathStep) (x : State) (ys : List State) → IsTrace P home x ps ys → IsProper x.heap → (z : State) → Contains (x ∷ ys) z → IsProper z.heap
@@ -77,7 +76,7 @@ later_true true b e = refl
 later_true false b e = e
 
 -- one of the claims for each term
-some_range : (m : Interpretation) (P : Term → Claim) (k n z : ℕ) → k ≤ z → z < k + n → truth m (P (term z)) ≡ true → some_true m (claims_of (map P (map term (range_with_len k n)))) ≡ true
+some_range : (m : Interpretation) (P : Term → GroundClaim) (k n z : ℕ) → k ≤ z → z < k + n → truth m (P (term z)) ≡ true → some_true m (claims_of (map P (map term (range_with_len k n)))) ≡ true
 some_range m P k zero z a b e = absurd (omega arith)
 some_range m P k (suc n) z a b e = elim (cases_eq k z) [
   | inl same ↦ first_true (truth m (P (term k))) (some_true m (claims_of (map P (map term (range_with_len (k + 1) n))))) (ap (λ u. truth m (P (term u))) same ∙ e)
@@ -96,21 +95,21 @@ unless_test false b f = f refl
 one_last : (a : Bool) → a ≡ true → (a || false) ≡ true
 one_last a e = ap (λ c. c || false) e
 
-leads_true : (V : List ℕ) (K : List Kind) (H : ℕ → Heap) (M : ℕ → Structure) → AreVersions V K H M → (i x : ℕ) → x < length K → truth (reflection V M) (leads (length K) i (term x)) ≡ true
+leads_true : (V : List ℕ) (K : List Kind) (H : ℕ → Heap) (M : ℕ → HeapStructure) → AreVersions V K H M → (i x : ℕ) → x < length K → truth (reflection V M) (leads (length K) i (term x)) ≡ true
 leads_true V K H M A i x l = under_test ((M i).alloc (value_at V x)) (some_true (reflection V M) (claims_of (each (length K) (hops i (term x))))) (λ a.
     let S = reflection_homomorphism V M i (length K) A.kinds.count A.kinds.null in
     let next' = (A.models i).linked.hops (value_at V x) (S.named x l) a in
     let t = found_in V next'.0 next'.1 in
     some_range (reflection V M) (hops i (term x)) 0 (length K) t.0 (omega arith) (omega (arith, within_list V t.0 next'.0 t.1, A.kinds.count)) (ap ((M i).hop (value_at V x)) (value_of V t.0 next'.0 t.1) ∙ next'.2))
 
-succeeds_true : (V : List ℕ) (K : List Kind) (H : ℕ → Heap) (M : ℕ → Structure) → AreVersions V K H M → (i x t : ℕ) → slice_get K t ≡ Some (next i x) → AreTrue (reflection V M) (succeeds i x t)
+succeeds_true : (V : List ℕ) (K : List Kind) (H : ℕ → Heap) (M : ℕ → HeapStructure) → AreVersions V K H M → (i x t : ℕ) → slice_get K t ≡ Some (next i x) → AreTrue (reflection V M) (succeeds i x t)
 succeeds_true V K H M A i x t e =
     let f = A.kinds.follows t i x e in
     let at : value_at V x ≡ f.0 = value_of V x f.0 f.1 in
     let to : value_at V t ≡ succ (H i) f.0 = value_of V t (succ (H i) f.0) f.2 in
     let named = listed V x f.0 f.1 in
     let m = reflection V M in
-    let T : Claim → Type 0 = λ g. truth m g ≡ true in
+    let T : GroundClaim → Type 0 = λ g. truth m g ≡ true in
     let one : truth m (one_of (negation_of (allocated i (term x)) ∷ hops i (term x) (term t) ∷ [])) ≡ true = under_test ((M i).alloc (value_at V x)) ((M i).hop (value_at V x) (value_at V t) || false) (λ a.
     let hop = hop_to_content V (H i) (M i) (A.represents i) f.0 named (listed V t (succ (H i) f.0) f.2) (subst (λ u. IsTrue ((M i).alloc u)) at a) in
     one_last ((M i).hop (value_at V x) (value_at V t)) (ap (λ u. (M i).hop u (value_at V t)) at ∙ ap ((M i).hop f.0) to ∙ hop)) in
@@ -122,7 +121,7 @@ succeeds_true V K H M A i x t e =
     one_last (truth m (equality (term x) (term t))) (equal_truth m x t ∙ eq-eqb (value_at V x) (value_at V t) (at ∙ sym (succ_stays (H i) f.0 out) ∙ sym to))) in
     All-cons T (one_of (negation_of (allocated i (term x)) ∷ hops i (term x) (term t) ∷ [])) (one_of (allocated i (term x) ∷ equality (term x) (term t) ∷ []) ∷ []) one (All-cons T (one_of (allocated i (term x) ∷ equality (term x) (term t) ∷ [])) [] two (All-nil T))
 
-kind_true : (V : List ℕ) (K : List Kind) (H : ℕ → Heap) (M : ℕ → Structure) → AreVersions V K H M → (i t : ℕ) (k : Kind) → slice_get K t ≡ Some k → AreTrue (reflection V M) (successor_claims i t k)
+kind_true : (V : List ℕ) (K : List Kind) (H : ℕ → Heap) (M : ℕ → HeapStructure) → AreVersions V K H M → (i t : ℕ) (k : Kind) → slice_get K t ≡ Some k → AreTrue (reflection V M) (successor_claims i t k)
 kind_true V K H M A i t null e = All-nil (λ g. truth (reflection V M) g ≡ true)
 kind_true V K H M A i t (value n) e = All-nil (λ g. truth (reflection V M) g ≡ true)
 kind_true V K H M A i t (next j x) e = elim (cases_Bool (j == i)) [
@@ -130,7 +129,7 @@ kind_true V K H M A i t (next j x) e = elim (cases_Bool (j == i)) [
   | inr no' ↦ subst (λ b. AreTrue (reflection V M) (cond b (succeeds i x t) [])) (sym no') (All-nil (λ g. truth (reflection V M) g ≡ true))
 ]
 
-successors_true : (V : List ℕ) (K : List Kind) (H : ℕ → Heap) (M : ℕ → Structure) → AreVersions V K H M → (i t : ℕ) (ks : List Kind) → ((j : ℕ) (k : Kind) → slice_get ks j ≡ Some k → slice_get K (t + j) ≡ Some k) → AreTrue (reflection V M) (successors_from i t ks)
+successors_true : (V : List ℕ) (K : List Kind) (H : ℕ → Heap) (M : ℕ → HeapStructure) → AreVersions V K H M → (i t : ℕ) (ks : List Kind) → ((j : ℕ) (k : Kind) → slice_get ks j ≡ Some k → slice_get K (t + j) ≡ Some k) → AreTrue (reflection V M) (successors_from i t ks)
 successors_true V K H M A i t [] F = All-nil (λ g. truth (reflection V M) g ≡ true)
 successors_true V K H M A i t (k ∷ ks) F =
     let here' : t + 0 ≡ t = omega arith in
@@ -138,10 +137,10 @@ successors_true V K H M A i t (k ∷ ks) F =
     (kind_true V K H M A i t k (ap (slice_get K) (sym here') ∙ F 0 k refl))
     (successors_true V K H M A i (t + 1) ks (λ j l e. let up : t + 1 + j ≡ t + suc j = omega arith in ap (slice_get K) up ∙ F (suc j) l e))
 
-pub version_true : (V : List ℕ) (K : List Kind) (H : ℕ → Heap) (M : ℕ → Structure) → AreVersions V K H M → (i : ℕ) → AreTrue (reflection V M) (version_claims K i)
+pub version_true : (V : List ℕ) (K : List Kind) (H : ℕ → Heap) (M : ℕ → HeapStructure) → AreVersions V K H M → (i : ℕ) → AreTrue (reflection V M) (version_claims K i)
 version_true V K H M A i =
     let m = reflection V M in
-    let T : Claim → Type 0 = λ g. truth m g ≡ true in
+    let T : GroundClaim → Type 0 = λ g. truth m g ≡ true in
     let n = length K in
     let none : truth m (negation_of (allocated i (term 0))) ≡ true = off_test ((M i).alloc (value_at V 0)) (λ a. (A.models i).linked.null (subst (λ u. IsTrue ((M i).alloc u)) (value_of V 0 0 A.kinds.null) a)) in
     let each_leads : All T (each n (leads n i)) = All-map T (leads n i) (terms_below n) (All-map (λ z. T (leads n i z)) term (range_with_len 0 n) (All-weaker (λ k. k < n) (λ k. T (leads n i (term k))) (λ k l. leads_true V K H M A i k l) (range_with_len 0 n) (range_below 0 n n (omega arith)))) in
@@ -151,13 +150,13 @@ version_true V K H M A i =
 one_less : (a b : ℕ) → a ≡ b → a + 1 - 1 ≡ b
 one_less a b e = omega arith
 
-pub reflected : (P : Program) (p : Procedure) (c : Condition) (x : State) (ys : List State) (V : List ℕ) (H : ℕ → Heap) (M : ℕ → Structure) → IsTyped P → IsCounterexample P p c x ys → AreTermValues P p c x ys V → AreVersions V (symbolic_of P p c).terms H M → H 0 ≡ x.heap → HeapsAre H c.way.steps x ys 0 → Satisfies P p c (reflection V M)
+pub reflected : (P : Program) (p : Procedure) (c : Condition) (x : State) (ys : List State) (V : List ℕ) (H : ℕ → Heap) (M : ℕ → HeapStructure) → IsTyped P → IsCounterexample P p c x ys → AreTermValues P p c x ys V → AreVersions V (symbolic_of P p c).terms H M → H 0 ≡ x.heap → HeapsAre H c.way.steps x ys 0 → Satisfies P p c (reflection V M)
 reflected P p c x ys V H M typed C values A front heaps =
     let D = symbolic_of P p c in
     let K = D.terms in
     let n = length K in
     let m = reflection V M in
-    let T : Claim → Type 0 = λ g. truth m g ≡ true in
+    let T : GroundClaim → Type 0 = λ g. truth m g ≡ true in
     let sizes = (problem (symbolic_of P p c)).sizes in
     let f = path.meets_at p c.start in
     let ps = c.way.steps in
@@ -192,15 +191,15 @@ reflected P p c x ys V H M typed C values A front heaps =
 
 -- what is known of the versions of a counterexample
 pub versions_known : (P : Program) (p : Procedure) (c : Condition) (x : State) (ys : List State) (V : List ℕ) → IsTyped P → IsCondition P c → IsOf P c p → IsCounterexample P p c x ys → AreTermValues P p c x ys V
-    → IsKindValuation (heap_in c.way.steps x ys 0) V (symbolic_of P p c).terms → (M : ℕ → Structure) × AreVersions V (symbolic_of P p c).terms (heap_in c.way.steps x ys 0) M
+    → IsKindValuation (heap_in c.way.steps x ys 0) V (symbolic_of P p c).terms → (M : ℕ → HeapStructure) × AreVersions V (symbolic_of P p c).terms (heap_in c.way.steps x ys 0) M
 versions_known P p c x ys V typed is of C values kinds =
     let H = heap_in c.way.steps x ys 0 in
     let f = path.meets_at p c.start in
     let proper : (i : ℕ) → IsProper (H i) = λ i. (let z = heap_state c.way.steps x ys 0 i in subst IsProper (sym z.2) (all_proper P p c.way.steps x ys C.leads (met_are_proper f x.store x.heap C.begins) z.0 z.1)) in
     let owned : (i : ℕ) → Owned V (H i) = λ i. (let z = heap_state c.way.steps x ys 0 i in subst (Owned V) (sym z.2) (traces_are_owned P p c x ys V typed is of C values z.0 z.1)) in
-    let M : ℕ → Structure = λ i. (representations_exist V (H i) (proper i) (owned i)).0 in
+    let M : ℕ → HeapStructure = λ i. (representations_exist V (H i) (proper i) (owned i)).0 in
     let represents : (i : ℕ) → Represents V (H i) (M i) = λ i. (representations_exist V (H i) (proper i) (owned i)).1 in
-    let models : (i : ℕ) → IsModel V (M i) = λ i. heaps_are_models V (H i) (M i) (listed V 0 0 kinds.null) (proper i) (owned i) (represents i) in
+    let models : (i : ℕ) → IsModelOver V (M i) = λ i. heaps_are_models V (H i) (M i) (listed V 0 0 kinds.null) (proper i) (owned i) (represents i) in
     (M, record { kinds = kinds; proper = proper; owned = owned; represents = represents; models = models })
 
 pub traces_satisfy : TracesSatisfy

@@ -3,6 +3,7 @@ use Rattle.std.specs.Prelude.{◌≡◌, ℕ, List, [], ◌∷◌, map, slice_ge
 use Rattle.std.proofs.Common.{refl, sym, ◌∙◌, ap, subst}
 use Rattle.std.proofs.lemmas.List.Elements.{All-nil}
 use Rattle.gh_base.specs.declared.place.Span.{Span}
+use Rattle.gh_base.specs.Atoms.{term}
 use Rattle.gh_ast.specs.declared.Expr.{Expr}
 use Rattle.gh_ast.specs.Plain.{Formula, Procedure, Program}
 use Rattle.gh_ast.specs.Programs.{Name, parameters_of}
@@ -13,16 +14,15 @@ use Rattle.gh_assert.specs.Ownership.{Owned}
 use Rattle.gh_assert.proofs.Unions.{without, part_splits}
 use Rattle.gh_path.specs.Graphs as path
 use Rattle.gh_path.specs.Terms.{Kind, next, Bindings, Terms, used, term_of, exprs_used, exprs_terms, walked, rebound, bound_inside, entry_walked, invariant_walked, check_walked, step_walked, steps_walked}
-use Rattle.gh_grass.specs.Bindings.{term}
 use Rattle.gh_grass.specs.Claims.{negation_of}
 use Rattle.gh_grass.specs.Truth.{truth, AreTrue}
 use Rattle.gh_symb.specs.Symbolic.{under, each_under, needs_under, entered_under, ended_under, term_check, term_steps, check_used, first_use, either_term, state_bindings}
 use Rattle.gh_symb.specs.Formulas.{allocated, meets, meets_whole, check_claims}
 use Rattle.gh_trace.specs.Traces.{State, Passes, IsTrace, last_state}
 use Rattle.gh_trace.specs.Laws.{HasOwnNames}
-use Rattle.gh_model.specs.Structures.{Structure}
+use Rattle.gh_model.specs.Structures.{HeapStructure}
 use Rattle.gh_model.specs.Representations.{Represents, AgreeOn}
-use Rattle.gh_model.specs.TermValues.{version_after, HasStateValues, HaveValues}
+use Rattle.gh_model.specs.TermValues.{path_version, HasStateValues, HaveValues}
 use Rattle.gh_model.proofs.terms.Extension.{Within, Grows, stays, used_grows, exprs_grow, each_grows}
 use Rattle.gh_model.proofs.terms.Denotation.{Sound, listed, term_at, formula_named, exprs_values}
 use Rattle.gh_model.proofs.terms.Callees.{inside_before}
@@ -47,7 +47,7 @@ last_values P home K V H c [] s x (y ∷ ys) values at T = absurd T
 last_values P home K V H c (p ∷ ps) s x [] values at T = absurd T
 last_values P home K V H c (p ∷ ps) s x (y ∷ ys) values at T =
     let t = step_walked P home p s in
-    let version : t.version ≡ version_after p s.version = step_version P home p s x y T.0 in
+    let version : t.version ≡ path_version p s.version = step_version P home p s x y T.0 in
     last_values P home K V H c ps t y ys (subst (λ j. HaveValues P K V ps (term_steps P home ps t) (state_bindings P home ps c t) j y ys) (sym version) values.3) (subst (HeapsAre H ps y ys) (sym version) at.1) T.1
 
 used_check_grows : (home : Procedure) (c : path.Check) (s : Terms) → Grows s (check_used home c s)
@@ -69,27 +69,27 @@ off_test true n = absurd (n refl)
 off_test false n = refl
 
 -- what a structure says of an assertion in the last heap
-agree_there : (K : List Kind) (V : List ℕ) (H : ℕ → Heap) (M : ℕ → Structure) → AreVersions V K H M → (st : Store) (h : Heap) (f : Formula) (s : Terms) (i : ℕ) → H i ≡ h → Sound K V st h (walked f s) → AgreeOn V h (M i) st f
+agree_there : (K : List Kind) (V : List ℕ) (H : ℕ → Heap) (M : ℕ → HeapStructure) → AreVersions V K H M → (st : Store) (h : Heap) (f : Formula) (s : Terms) (i : ℕ) → H i ≡ h → Sound K V st h (walked f s) → AgreeOn V h (M i) st f
 agree_there K V H M A st h f s i at S =
     assertions_agree V h (M i) st f (subst IsProper at (A.proper i)) (subst (Owned V) at (A.owned i)) (subst (λ g. Represents V g (M i)) at (A.represents i)) (formula_named K V st h f s S)
 
-part_there : (K : List Kind) (V : List ℕ) (H : ℕ → Heap) (M : ℕ → Structure) → AreVersions V K H M → (st : Store) (h : Heap) (f : Formula) (s : Terms) → H s.version ≡ h → Sound K V st h (walked f s) → truth (reflection V M) (meets K (under f s)) ≡ true → HasPart f st h
+part_there : (K : List Kind) (V : List ℕ) (H : ℕ → Heap) (M : ℕ → HeapStructure) → AreVersions V K H M → (st : Store) (h : Heap) (f : Formula) (s : Terms) → H s.version ≡ h → Sound K V st h (walked f s) → truth (reflection V M) (meets K (under f s)) ≡ true → HasPart f st h
 part_there K V H M A st h f s at S e =
     let I = under_preserved K V H M A st h f s s.version refl at S in
     let agree = agree_there K V H M A st h f s s.version at S in
     let part = agree.part.0 (I.part.0 e) in
     (part.0, without h part.0, part_splits part.0 h part.1, part.2)
 
-part_fails : (K : List Kind) (V : List ℕ) (H : ℕ → Heap) (M : ℕ → Structure) → AreVersions V K H M → (st : Store) (h : Heap) (f : Formula) (s : Terms) → H s.version ≡ h → Sound K V st h (walked f s) → (HasPart f st h → ⊥) → truth (reflection V M) (negation_of (meets K (under f s))) ≡ true
+part_fails : (K : List Kind) (V : List ℕ) (H : ℕ → Heap) (M : ℕ → HeapStructure) → AreVersions V K H M → (st : Store) (h : Heap) (f : Formula) (s : Terms) → H s.version ≡ h → Sound K V st h (walked f s) → (HasPart f st h → ⊥) → truth (reflection V M) (negation_of (meets K (under f s))) ≡ true
 part_fails K V H M A st h f s at S fails = off_test (truth (reflection V M) (meets K (under f s))) (λ e. fails (part_there K V H M A st h f s at S e))
 
-whole_fails : (K : List Kind) (V : List ℕ) (H : ℕ → Heap) (M : ℕ → Structure) → AreVersions V K H M → (st : Store) (h : Heap) (f : Formula) (s : Terms) → H s.version ≡ h → Sound K V st h (walked f s) → (Meaning f st h → ⊥) → truth (reflection V M) (negation_of (meets_whole K (under f s))) ≡ true
+whole_fails : (K : List Kind) (V : List ℕ) (H : ℕ → Heap) (M : ℕ → HeapStructure) → AreVersions V K H M → (st : Store) (h : Heap) (f : Formula) (s : Terms) → H s.version ≡ h → Sound K V st h (walked f s) → (Meaning f st h → ⊥) → truth (reflection V M) (negation_of (meets_whole K (under f s))) ≡ true
 whole_fails K V H M A st h f s at S fails = off_test (truth (reflection V M) (meets_whole K (under f s))) (λ e.
     let I = under_preserved K V H M A st h f s s.version refl at S in
     let agree = agree_there K V H M A st h f s s.version at S in
     fails (agree.whole.0 (I.whole.0 e)))
 
-entry_true : (P : Program) (home : Procedure) (K : List Kind) (V : List ℕ) (H : ℕ → Heap) (M : ℕ → Structure) → AreVersions V K H M → ((q : Procedure) → Contains P.procedures q → HasOwnNames q) → (spot : Span) (n : ℕ) (es : List Expr) (s : Terms) (z : State) (i : ℕ)
+entry_true : (P : Program) (home : Procedure) (K : List Kind) (V : List ℕ) (H : ℕ → Heap) (M : ℕ → HeapStructure) → AreVersions V K H M → ((q : Procedure) → Contains P.procedures q → HasOwnNames q) → (spot : Span) (n : ℕ) (es : List Expr) (s : Terms) (z : State) (i : ℕ)
     → HasStateValues K V s.version (here P home [] (path.entry spot n es) s) z → H s.version ≡ z.heap → Sound K V z.store z.heap (exprs_used es s) → (Passes P home (path.entry spot n es) z → ⊥)
     → (o : Option Procedure) → slice_get P.procedures n ≡ o → Within (entry_walked o (exprs_terms es (exprs_used es s)) (exprs_used es s)).kinds K
     → AreTrue (reflection V M) (check_claims K i (needs_under o (exprs_terms es (exprs_used es s)) (exprs_used es s)))
@@ -108,21 +108,21 @@ entry_true P home K V H M A N spot n es s z i values at S fails (Some p) e w =
     subst (λ (r : Procedure). HasPart r.needs inside z.heap) same (part_there K V H M A inside z.heap p.needs s1 (ap H version ∙ at) first is))))
 
 -- the check of a loop, where it is entered and where its body ends
-entered_true : (K : List Kind) (V : List ℕ) (H : ℕ → Heap) (M : ℕ → Structure) → AreVersions V K H M → (i : ℕ) (st : Store) (h : Heap) (s : Terms) → H s.version ≡ h → (o : Option path.Loop)
+entered_true : (K : List Kind) (V : List ℕ) (H : ℕ → Heap) (M : ℕ → HeapStructure) → AreVersions V K H M → (i : ℕ) (st : Store) (h : Heap) (s : Terms) → H s.version ≡ h → (o : Option path.Loop)
     → (((l : path.Loop) → o ≡ Some l → HasPart l.invariant st h) → ⊥) → Sound K V st h (invariant_walked o s) → AreTrue (reflection V M) (check_claims K i (entered_under o s))
 entered_true K V H M A i st h s at None fails S = All-nil (λ u. truth (reflection V M) u ≡ true)
 entered_true K V H M A i st h s at (Some l) fails S =
     one_claim (reflection V M) (negation_of (meets K (under l.invariant s)))
     (part_fails K V H M A st h l.invariant s at S (λ part. fails (λ k is. subst (λ (j : path.Loop). HasPart j.invariant st h) (one_value (Some l) l k refl is) part)))
 
-ended_true : (K : List Kind) (V : List ℕ) (H : ℕ → Heap) (M : ℕ → Structure) → AreVersions V K H M → (i : ℕ) (st : Store) (h : Heap) (s : Terms) → H s.version ≡ h → (o : Option path.Loop)
+ended_true : (K : List Kind) (V : List ℕ) (H : ℕ → Heap) (M : ℕ → HeapStructure) → AreVersions V K H M → (i : ℕ) (st : Store) (h : Heap) (s : Terms) → H s.version ≡ h → (o : Option path.Loop)
     → (((l : path.Loop) → o ≡ Some l → Meaning l.invariant st h) → ⊥) → Sound K V st h (invariant_walked o s) → AreTrue (reflection V M) (check_claims K i (ended_under o s))
 ended_true K V H M A i st h s at None fails S = All-nil (λ u. truth (reflection V M) u ≡ true)
 ended_true K V H M A i st h s at (Some l) fails S =
     one_claim (reflection V M) (negation_of (meets_whole K (under l.invariant s)))
     (whole_fails K V H M A st h l.invariant s at S (λ met. fails (λ k is. subst (λ (j : path.Loop). Meaning j.invariant st h) (one_value (Some l) l k refl is) met)))
 
-pub check_true : (P : Program) (home : Procedure) (K : List Kind) (V : List ℕ) (H : ℕ → Heap) (M : ℕ → Structure) → AreVersions V K H M → ((q : Procedure) → Contains P.procedures q → HasOwnNames q) → (c : path.Check) (s : Terms) (z : State) (i : ℕ)
+pub check_true : (P : Program) (home : Procedure) (K : List Kind) (V : List ℕ) (H : ℕ → Heap) (M : ℕ → HeapStructure) → AreVersions V K H M → ((q : Procedure) → Contains P.procedures q → HasOwnNames q) → (c : path.Check) (s : Terms) (z : State) (i : ℕ)
     → i ≡ s.version → Within (check_walked P home c s).kinds K → HasStateValues K V s.version (here P home [] c s) z → H s.version ≡ z.heap → (Passes P home c z → ⊥) → AreTrue (reflection V M) (check_claims K i (term_check P home c s))
 check_true P home K V H M A N c s z i version w values at fails = by_check c s z i version w values at fails (sound_from K V s.version (here P home [] c s) z (check_used home c s) A.kinds.null values (used_check_grows home c s).version (λ j k e. w j k (check_used_within P home c s j k e)) (used_term P home c s))
   where

@@ -15,12 +15,13 @@ use Rattle.gh_inst.specs.declared.schema.Shape.TheVariants.{Equal, Btwn as Betwe
 use Rattle.gh_inst.specs.declared.schema.Pattern.{Pattern}
 use Rattle.gh_inst.specs.declared.naming.InstanceName.{InstanceName}
 use Rattle.std.specs.Prelude.{Option, Some, None}
+use Rattle.gh_base.specs.Atoms.{terms_below}
 use Rattle.gh_inst.specs.Schemas.{atom_of, lit_over, clause_over, term_at}
 use Rattle.gh_inst.specs.Table.{AxiomRow, table, row_with}
 use Rattle.gh_inst.specs.Instances.{instances, tuple_of, clause_of, clause_with}
 use Rattle.gh_inst.specs.Violations.{IsInstanceTrue}
-use Rattle.gh_grass.specs.Claims.{Claim, negation_of, equivalence_of, claims_of, all_of, one_of, equality}
-use Rattle.gh_grass.specs.Footprints.{Variables, compared, tested, all_tested, footprint, footprints, members, terms_below, apart_here, apart, all_apart, structure, structures}
+use Rattle.gh_grass.specs.Claims.{GroundClaim, negation_of, equivalence_of, claims_of, all_of, one_of, equality}
+use Rattle.gh_grass.specs.Footprints.{Variables, compared, tested, all_tested, footprint, footprints, members, apart_here, apart, all_apart, structure, structures}
 use Rattle.gh_grass.specs.Truth.{HasEarlier, HaveEarlier, IsOneBefore}
 use Rattle.gh_grass.proofs.LawLemmas.{formulas_give_clauses}
 use Rattle.gh_path.specs.Terms.{Kind, null, value, next}
@@ -30,22 +31,22 @@ use Rattle.gh_model.specs.Abstraction.{Satisfies, IsModelOf, TracesGiveModels}
 use Rattle.gh_model.proofs.soundness.Abstraction.{traces_satisfy}
 
 -- some claims define nothing
-abbrev pub Plain : List Claim → Type 0
+abbrev pub Plain : List GroundClaim → Type 0
 Plain fs = HaveEarlier 0 (claims_of fs)
 
-pub plain_append : (fs gs : List Claim) → Plain fs → Plain gs → Plain (fs ++ gs)
+pub plain_append : (fs gs : List GroundClaim) → Plain fs → Plain gs → Plain (fs ++ gs)
 plain_append [] gs p q = q
 plain_append (f ∷ fs) gs p q = (p.0, plain_append fs gs p.1 q)
 
-plain_map : {X : Type 0} (P : X → Claim) (zs : List X) → ((z : X) → HasEarlier 0 (P z)) → Plain (map P zs)
+plain_map : {X : Type 0} (P : X → GroundClaim) (zs : List X) → ((z : X) → HasEarlier 0 (P z)) → Plain (map P zs)
 plain_map P [] h = tt
 plain_map P (z ∷ zs) h = (h z, plain_map P zs h)
 
-plain_rows : {X : Type 0} (P : X → List Claim) (zs : List X) → ((z : X) → Plain (P z)) → Plain (flat_map P zs)
+plain_rows : {X : Type 0} (P : X → List GroundClaim) (zs : List X) → ((z : X) → Plain (P z)) → Plain (flat_map P zs)
 plain_rows P [] h = tt
 plain_rows P (z ∷ zs) h = plain_append (P z) (flat_map P zs) (h z) (plain_rows P zs h)
 
-pub all_plain : (fs : List Claim) → Plain fs → All (HasEarlier 0) fs
+pub all_plain : (fs : List GroundClaim) → Plain fs → All (HasEarlier 0) fs
 all_plain [] p = All-nil (HasEarlier 0)
 all_plain (f ∷ fs) p = All-cons (HasEarlier 0) f fs p.0 (all_plain fs p.1)
 
@@ -123,7 +124,7 @@ plain_kinds i t (k ∷ ks) = plain_append (successor_claims i t k) (successors_f
 pub plain_version : (ks : List Kind) (i : ℕ) → Plain (version_claims ks i)
 plain_version ks i = (tt, plain_append (each (length ks) (leads (length ks) i)) (successors_from i 0 ks) (plain_map (leads (length ks) i) (terms_below (length ks)) (λ x. (tt, plain_map (hops i x) (terms_below (length ks)) (λ z. tt)))) (plain_kinds i 0 ks))
 
-plain_pairs : (n : ℕ) (P : Term → Term → Claim) → ((z v : Term) → HasEarlier 0 (P z v)) → Plain (each_pair n P)
+plain_pairs : (n : ℕ) (P : Term → Term → GroundClaim) → ((z v : Term) → HasEarlier 0 (P z v)) → Plain (each_pair n P)
 plain_pairs n P h = plain_rows (λ z. each n (P z)) (terms_below n) (λ z. plain_map (P z) (terms_below n) (h z))
 
 plain_others : (n i : ℕ) (x : Term) → Plain (others_keep n i x)
@@ -135,8 +136,8 @@ plain_kept i u z = (tt, (plain_within u z, tt))
 plain_placed : (ks : List Kind) (i : ℕ) (u q : Under) → Plain (placed_claims ks i u q)
 plain_placed ks i u q =
     let n = length ks in
-    let P : Term → Claim = λ z. negation_of (all_of (kept i u z ∷ within q z ∷ [])) in
-    let Q : Term → Claim = λ z. equivalence_of (allocated (i + 1) z) (one_of (kept i u z ∷ within q z ∷ [])) in
+    let P : Term → GroundClaim = λ z. negation_of (all_of (kept i u z ∷ within q z ∷ [])) in
+    let Q : Term → GroundClaim = λ z. equivalence_of (allocated (i + 1) z) (one_of (kept i u z ∷ within q z ∷ [])) in
     let p : Plain (each n P) = plain_map P (terms_below n) (λ z. (plain_kept i u z, (plain_within q z, tt))) in
     let r : Plain (each n Q) = plain_map Q (terms_below n) (λ z. (tt, (plain_kept i u z, (plain_within q z, tt)))) in
     plain_append (meets ks q ∷ each n P) (each n Q) (plain_meets ks q, p) r
@@ -148,25 +149,25 @@ plain_alternatives ks i u (q ∷ r ∷ qs) = (plain_map (λ a. all_of (placed_cl
 
 plain_parts : (ks : List Kind) (i : ℕ) (u : Under) (qs : List Under) → Plain (parts_claims ks i u qs)
 plain_parts ks i u qs =
-    let R : Term → Term → Claim = λ z v. one_of (negation_of (kept i u z) ∷ keeps i z v ∷ []) in
+    let R : Term → Term → GroundClaim = λ z v. one_of (negation_of (kept i u z) ∷ keeps i z v ∷ []) in
     plain_append (meets ks u ∷ alternatives_claims ks i u qs) (kept_claims (length ks) i u) (plain_meets ks u, plain_alternatives ks i u qs)
     (plain_pairs (length ks) R (λ z v. (plain_kept i u z, ((tt, tt), tt))))
 
 plain_written : (n i : ℕ) (x e : Term) → Plain (written_claims n i x e)
 plain_written n i x e =
-    let P : Term → Claim = λ z. equivalence_of (allocated (i + 1) z) (allocated i z) in
+    let P : Term → GroundClaim = λ z. equivalence_of (allocated (i + 1) z) (allocated i z) in
     plain_append (each n P ++ hops (i + 1) x e ∷ []) (others_keep n i x) (plain_append (each n P) (hops (i + 1) x e ∷ []) (plain_map P (terms_below n) (λ z. (tt, tt))) (tt, tt)) (plain_others n i x)
 
 plain_made : (n i : ℕ) (l c : Term) → Plain (made_claims n i l c)
 plain_made n i l c =
-    let P : Term → Claim = λ z. equivalence_of (allocated (i + 1) z) (one_of (allocated i z ∷ equality z l ∷ [])) in
-    let first : List Claim = negation_of (allocated i l) ∷ [] in
+    let P : Term → GroundClaim = λ z. equivalence_of (allocated (i + 1) z) (one_of (allocated i z ∷ equality z l ∷ [])) in
+    let first : List GroundClaim = negation_of (allocated i l) ∷ [] in
     plain_append (first ++ each n P ++ hops (i + 1) l c ∷ []) (others_keep n i l)
     (plain_append (first ++ each n P) (hops (i + 1) l c ∷ []) (plain_append first (each n P) (tt, tt) (plain_map P (terms_below n) (λ z. (tt, (tt, (tt, tt)))))) (tt, tt)) (plain_others n i l)
 
 plain_freed : (n i : ℕ) (x : Term) → Plain (freed_claims n i x)
 plain_freed n i x =
-    let P : Term → Claim = λ z. equivalence_of (allocated (i + 1) z) (all_of (allocated i z ∷ negation_of (equality z x) ∷ [])) in
+    let P : Term → GroundClaim = λ z. equivalence_of (allocated (i + 1) z) (all_of (allocated i z ∷ negation_of (equality z x) ∷ [])) in
     plain_append (each n P) (others_keep n i x) (plain_map P (terms_below n) (λ z. (tt, (tt, (tt, tt))))) (plain_others n i x)
 
 plain_step : (ks : List Kind) (i : ℕ) (s : TermStep) → Plain (step_claims ks i s)

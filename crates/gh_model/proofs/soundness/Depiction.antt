@@ -3,17 +3,17 @@ use Rattle.std.specs.Prelude.{◌≡◌, ℕ, List, [], ◌∷◌, slice_get, So
 use Rattle.std.proofs.Common.{refl, sym, ◌∙◌, ap, subst}
 use Rattle.gh_base.specs.declared.atom.Atom.TheVariants.{Btwn, Hop as HopAtom, Alloc}
 use Rattle.gh_base.specs.Meaning.{Interpretation}
+use Rattle.gh_base.specs.Atoms.{term}
 use Rattle.gh_ast.specs.Plain.{Procedure, Program}
 use Rattle.gh_assert.specs.Heaps.{Heap}
 use Rattle.gh_assert.specs.Walks.{Allocated, Between}
 use Rattle.gh_assert.specs.Hops.{Hop}
 use Rattle.gh_path.specs.Graphs as path
-use Rattle.gh_grass.specs.Bindings.{term}
 use Rattle.gh_grass.specs.Truth.{IsOneBefore}
 use Rattle.gh_trace.specs.Traces.{State, IsTrace}
-use Rattle.gh_model.specs.Structures.{Structure}
+use Rattle.gh_model.specs.Structures.{HeapStructure}
 use Rattle.gh_model.specs.Representations.{Represents}
-use Rattle.gh_model.specs.TermValues.{version_after}
+use Rattle.gh_model.specs.TermValues.{path_version}
 use Rattle.gh_model.specs.Depictions.{IsHeapDepicted, AreHeapsDepicted, TracesAreDepicted}
 use Rattle.gh_model.proofs.terms.Denotation.{listed}
 use Rattle.gh_model.proofs.soundness.TraceValues.{heap_in, front_heap, HeapsAre, heaps_are}
@@ -22,7 +22,7 @@ use Rattle.gh_model.proofs.soundness.Abstraction.{reflected, versions_known}
 use Rattle.gh_model.proofs.soundness.ClauseModels.{model_from}
 use Rattle.gh_model.proofs.soundness.SuccessorVersions.{kinds_valued}
 
-heap_depicted : (V : List ℕ) (M : ℕ → Structure) (n : Interpretation) (i : ℕ) (h : Heap) → IsOneBefore 0 (reflection V M) n → Represents V h (M i) → IsHeapDepicted V n i h
+heap_depicted : (V : List ℕ) (M : ℕ → HeapStructure) (n : Interpretation) (i : ℕ) (h : Heap) → IsOneBefore 0 (reflection V M) n → Represents V h (M i) → IsHeapDepicted V n i h
 heap_depicted V M n i h B T = record {
   alloc = λ t x e.
       let same : n.table (Alloc i (term t)) ≡ (M i).alloc x = B.table (Alloc i (term t)) tt ∙ ap (M i).alloc (value_of V t x e) in
@@ -37,16 +37,16 @@ heap_depicted V M n i h B T = record {
       subst (λ b. Decides b (Hop V h x v)) (sym same) (T.hop x v (listed V t x e) (listed V u v f));
 }
 
-heaps_depicted : (P : Program) (home : Procedure) (V : List ℕ) (H : ℕ → Heap) (M : ℕ → Structure) (n : Interpretation) → IsOneBefore 0 (reflection V M) n → ((i : ℕ) → Represents V (H i) (M i)) → (ps : List path.PathStep) (i : ℕ) (x : State) (ys : List State) → IsTrace P home x ps ys → HeapsAre H ps x ys i → AreHeapsDepicted V n ps i x ys
+heaps_depicted : (P : Program) (home : Procedure) (V : List ℕ) (H : ℕ → Heap) (M : ℕ → HeapStructure) (n : Interpretation) → IsOneBefore 0 (reflection V M) n → ((i : ℕ) → Represents V (H i) (M i)) → (ps : List path.PathStep) (i : ℕ) (x : State) (ys : List State) → IsTrace P home x ps ys → HeapsAre H ps x ys i → AreHeapsDepicted V n ps i x ys
 heaps_depicted P home V H M n B T [] i x ys trace A = heap_depicted V M n i x.heap B (subst (λ h. Represents V h (M i)) A (T i))
 heaps_depicted P home V H M n B T (p ∷ ps) i x [] trace A = absurd trace
-heaps_depicted P home V H M n B T (p ∷ ps) i x (y ∷ ys) trace A = (heap_depicted V M n i x.heap B (subst (λ h. Represents V h (M i)) A.0 (T i)), heaps_depicted P home V H M n B T ps (version_after p i) y ys trace.1 A.1)
+heaps_depicted P home V H M n B T (p ∷ ps) i x (y ∷ ys) trace A = (heap_depicted V M n i x.heap B (subst (λ h. Represents V h (M i)) A.0 (T i)), heaps_depicted P home V H M n B T ps (path_version p i) y ys trace.1 A.1)
 
 pub traces_are_depicted : TracesAreDepicted
 traces_are_depicted P p c x ys V typed is of C values =
     let H = heap_in c.way.steps x ys 0 in
     let known = versions_known P p c x ys V typed is of C values (kinds_valued P p c x ys V typed of C values) in
-    let M : ℕ → Structure = known.0 in
+    let M : ℕ → HeapStructure = known.0 in
     let heaps : HeapsAre H c.way.steps x ys 0 = heaps_are P p H c.way.steps x ys 0 C.leads (λ j l. refl) in
     let made' = model_from P p c (reflection V M) (reflected P p c x ys V H M typed C values known.1 (front_heap c.way.steps x ys 0) heaps) in
     let n : Interpretation = made'.0 in

@@ -8,6 +8,7 @@ use Rattle.gh_base.specs.declared.atom.Atom.{Atom}
 use Rattle.gh_base.specs.declared.atom.Atom.TheVariants.{Eq, Btwn, Hop as HopAtom, Alloc, Def}
 use Rattle.gh_base.specs.declared.sizes.Sizes.{Sizes}
 use Rattle.gh_base.specs.Meaning.{Interpretation, IsCongruence}
+use Rattle.gh_base.specs.Atoms.{term}
 use Rattle.gh_ast.specs.declared.Occ.{Occ}
 use Rattle.gh_ast.specs.declared.Operand.{Operand}
 use Rattle.gh_ast.specs.declared.Operand.TheVariants.{Null, Var}
@@ -24,9 +25,8 @@ use Rattle.gh_assert.specs.Meaning.{Store}
 use Rattle.gh_assert.specs.Walks.{succ}
 use Rattle.gh_assert.proofs.Hops.{hop_rows}
 use Rattle.gh_path.specs.Terms.{Kind, next, Terms, used, term_of, followed, operand_used, expr_used, test_walked, tests_walked, walked, all_walked}
-use Rattle.gh_grass.specs.Bindings.{term}
 use Rattle.gh_symb.specs.Formulas.{variables, successor}
-use Rattle.gh_model.specs.Structures.{Structure, IsModel}
+use Rattle.gh_model.specs.Structures.{HeapStructure, IsModelOver}
 use Rattle.gh_model.specs.Representations.{Represents}
 use Rattle.gh_model.specs.Homomorphisms.{IsHomomorphism, HaveTerms, HasNext, AtCells, AtAllCells, IsPreserved}
 use Rattle.gh_model.proofs.terms.Extension.{Grows, onto, stays, used_bound, followed_there, first_at, first_there, operand_grows, expr_grows, tests_grow, walked_grows, all_grow}
@@ -41,7 +41,7 @@ value_at V t = unwrap_or (slice_get V t) 0
 pub value_of : (V : List ℕ) (t v : ℕ) → slice_get V t ≡ Some v → value_at V t ≡ v
 value_of V t v e = ap (λ o. unwrap_or o 0) e
 
-abbrev table_of : List ℕ → (ℕ → Structure) → Atom → Bool
+abbrev table_of : List ℕ → (ℕ → HeapStructure) → Atom → Bool
 table_of V M (Eq a b) = false
 table_of V M (Btwn i x y z) = (M i).between (value_at V x.0) (value_at V y.0) (value_at V z.0)
 table_of V M (HopAtom i x v) = (M i).hop (value_at V x.0) (value_at V v.0)
@@ -49,10 +49,10 @@ table_of V M (Alloc i x) = (M i).alloc (value_at V x.0)
 table_of V M (Def number) = false
 
 -- terms of one class have one value
-abbrev pub reflection : List ℕ → (ℕ → Structure) → Interpretation
+abbrev pub reflection : List ℕ → (ℕ → HeapStructure) → Interpretation
 reflection V M = record { class = value_at V; table = table_of V M }
 
-pub reflection_congruence : (s : Sizes) (V : List ℕ) (M : ℕ → Structure) → IsCongruence s (reflection V M)
+pub reflection_congruence : (s : Sizes) (V : List ℕ) (M : ℕ → HeapStructure) → IsCongruence s (reflection V M)
 reflection_congruence s V M = record {
   btwn = λ i x y z x' y' z' r r' a b c.
       ap (λ u. (M i).between u (value_at V y.0) (value_at V z.0)) a ∙ ap (λ u. (M i).between (value_at V x'.0) u (value_at V z.0)) b ∙ ap (λ u. (M i).between (value_at V x'.0) (value_at V y'.0) u) c;
@@ -77,7 +77,7 @@ found_in (u ∷ us) v c = elim (member_cases u us v c) [
   | inr later ↦ let r = found_in us v later in (suc r.0, r.1)
 ]
 
-pub reflection_homomorphism : (V : List ℕ) (M : ℕ → Structure) (i n : ℕ) → length V ≡ n → slice_get V 0 ≡ Some 0 → IsHomomorphism (reflection V M) i n (value_at V) V (M i)
+pub reflection_homomorphism : (V : List ℕ) (M : ℕ → HeapStructure) (i n : ℕ) → length V ≡ n → slice_get V 0 ≡ Some 0 → IsHomomorphism (reflection V M) i n (value_at V) V (M i)
 reflection_homomorphism V M i n count null = record {
   some = omega (arith, within_list V 0 0 null, count);
   null = value_of V 0 0 null;
@@ -159,13 +159,13 @@ successor_there K i u j e =
     ap (λ b. slice_get K (unwrap_or (cond b (Some (first_at i u K)) None) 0)) (lt-ltb (first_at i u K) (length K) at.1) ∙ at.0
 
 -- where a cell's content is named, the cell hops to it
-pub hop_to_content : (V : List ℕ) (h : Heap) (M : Structure) → Represents V h M → (x : ℕ) → Contains V x → Contains V (succ h x) → IsTrue (M.alloc x) → IsTrue (M.hop x (succ h x))
+pub hop_to_content : (V : List ℕ) (h : Heap) (M : HeapStructure) → Represents V h M → (x : ℕ) → Contains V x → Contains V (succ h x) → IsTrue (M.alloc x) → IsTrue (M.hop x (succ h x))
 hop_to_content V h M T x cx cs a =
     let there = (T.alloc x cx).0 a in
     (T.hop x (succ h x) cx cs).1 ((hop_rows V h).content x there cs)
 
 -- the next of a variable's term
-next_known : (K : List Kind) (V : List ℕ) (st : Store) (h : Heap) (M : Structure) (n : ℕ) (x : Name) (s t : Terms) → length V ≡ n → Represents V h M → Grows (followed x (used x s)) t → Sound K V st h t → HasNext (variables t.bindings) (successor K t.version) n (value_at V) M x
+next_known : (K : List Kind) (V : List ℕ) (st : Store) (h : Heap) (M : HeapStructure) (n : ℕ) (x : Name) (s t : Terms) → length V ≡ n → Represents V h M → Grows (followed x (used x s)) t → Sound K V st h t → HasNext (variables t.bindings) (successor K t.version) n (value_at V) M x
 next_known K V st h M n x s t count T g S =
     let there = followed_there x (used x s) in
     let b = used_bound x s in
@@ -188,7 +188,7 @@ next_known K V st h M n x s t count T g S =
     subst (λ u. Next (term u)) (sym is) fine
 
 mutual
-  pub cells_known : (K : List Kind) (V : List ℕ) (st : Store) (h : Heap) (M : Structure) (n : ℕ) (f : Formula) (s t : Terms) → length V ≡ n → Represents V h M → Grows (walked f s) t → Sound K V st h t → AtCells (HasNext (variables t.bindings) (successor K t.version) n (value_at V) M) f
+  pub cells_known : (K : List Kind) (V : List ℕ) (st : Store) (h : Heap) (M : HeapStructure) (n : ℕ) (f : Formula) (s t : Terms) → length V ≡ n → Represents V h M → Grows (walked f s) t → Sound K V st h t → AtCells (HasNext (variables t.bindings) (successor K t.version) n (value_at V) M) f
   cells_known K V st h M n empty s t count T g S = tt
   cells_known K V st h M n (comparison l e r) s t count T g S = tt
   cells_known K V st h M n (points_to x y) s t count T g S = next_known K V st h M n x.name s t count T (onto (operand_grows y (followed x.name (used x.name s))) g) S
@@ -199,13 +199,13 @@ mutual
       let r = test_walked e s in
       (cells_known K V st h M n f r t count T (onto (walked_grows f' (walked f r)) g) S, cells_known K V st h M n f' (walked f r) t count T g S)
 
-  all_cells_known : (K : List Kind) (V : List ℕ) (st : Store) (h : Heap) (M : Structure) (n : ℕ) (fs : Formulas) (s t : Terms) → length V ≡ n → Represents V h M → Grows (all_walked fs s) t → Sound K V st h t → AtAllCells (HasNext (variables t.bindings) (successor K t.version) n (value_at V) M) fs
+  all_cells_known : (K : List Kind) (V : List ℕ) (st : Store) (h : Heap) (M : HeapStructure) (n : ℕ) (fs : Formulas) (s t : Terms) → length V ≡ n → Represents V h M → Grows (all_walked fs s) t → Sound K V st h t → AtAllCells (HasNext (variables t.bindings) (successor K t.version) n (value_at V) M) fs
   all_cells_known K V st h M n no_formulas s t count T g S = tt
   all_cells_known K V st h M n (formula_first f fs) s t count T g S =
       (cells_known K V st h M n f s t count T (onto (all_grow fs (walked f s)) g) S, all_cells_known K V st h M n fs (walked f s) t count T g S)
 
 -- the formulas of an assertion that was walked
-pub walked_preserved : (K : List Kind) (V : List ℕ) (M : ℕ → Structure) (st : Store) (h : Heap) (n : ℕ) (f : Formula) (s : Terms) → length V ≡ n → IsModel V (M (walked f s).version) → Represents V h (M (walked f s).version) → Sound K V st h (walked f s)
+pub walked_preserved : (K : List Kind) (V : List ℕ) (M : ℕ → HeapStructure) (st : Store) (h : Heap) (n : ℕ) (f : Formula) (s : Terms) → length V ≡ n → IsModelOver V (M (walked f s).version) → Represents V h (M (walked f s).version) → Sound K V st h (walked f s)
     → IsPreserved (reflection V M) (walked f s).version n (value_at V) V (M (walked f s).version) (variables (walked f s).bindings) (successor K (walked f s).version) st f
 walked_preserved K V M st h n f s count model T S =
     let t = walked f s in

@@ -4,6 +4,7 @@ use Rattle.std.specs.FinMap.{get, insert, remove}
 use Rattle.std.proofs.Common.{refl, sym, ◌∙◌, ap, subst, arith}
 use Rattle.std.proofs.lemmas.List.Elements.{All-nil, All-cons, All-append}
 use Rattle.gh_base.specs.Meaning.{Interpretation}
+use Rattle.gh_base.specs.Atoms.{term}
 use Rattle.gh_ast.specs.declared.Occ.{Occ}
 use Rattle.gh_ast.specs.declared.Expr.{Expr}
 use Rattle.gh_ast.specs.Plain.{Formula, Procedure, Program}
@@ -16,20 +17,19 @@ use Rattle.gh_assert.proofs.Cells.{get_put, get_beside}
 use Rattle.gh_assert.proofs.Unique.{get_removed, get_kept}
 use Rattle.gh_path.specs.Graphs as path
 use Rattle.gh_path.specs.Terms.{Kind, next, Terms, used, term_of, expr_used, expr_term, exprs_used, exprs_terms, walked, each_walked, moved_on, rebound, bound_inside, call_walked, step_walked, steps_walked}
-use Rattle.gh_grass.specs.Bindings.{term}
-use Rattle.gh_grass.specs.Claims.{Claim}
+use Rattle.gh_grass.specs.Claims.{GroundClaim}
 use Rattle.gh_grass.specs.Footprints.{compared}
 use Rattle.gh_grass.specs.Truth.{truth, AreTrue}
 use Rattle.gh_symb.specs.Symbolic.{under, each_under, call_parts, loop_parts, term_step, term_steps, state_bindings}
-use Rattle.gh_symb.specs.Formulas.{allocated, variables, successor, parts_claims, step_claims, steps_claims, version_after as version_past}
+use Rattle.gh_symb.specs.Formulas.{allocated, variables, successor, parts_claims, step_claims, steps_claims, version_after}
 use Rattle.gh_trace.specs.Traces.{State, Replaced, Takes, IsTrace}
 use Rattle.gh_trace.specs.Laws.{HasOwnNames}
-use Rattle.gh_model.specs.Structures.{Structure}
+use Rattle.gh_model.specs.Structures.{HeapStructure}
 use Rattle.gh_model.specs.Representations.{Represents}
 use Rattle.gh_model.specs.Transitions.{IsPut, IsFreed, IsCalled, StepsByWrite, StepsByNew, StepsByFree, StepsByCall}
 use Rattle.gh_model.specs.StepLaws.{AreRepresented}
 use Rattle.gh_model.specs.Homomorphisms.{IsHomomorphism, IsPreserved}
-use Rattle.gh_model.specs.TermValues.{version_after, HasResultValues, HaveValues}
+use Rattle.gh_model.specs.TermValues.{path_version, HasResultValues, HaveValues}
 use Rattle.gh_model.proofs.terms.Extension.{Within, stays, bound_same, followed_grows, expr_grows, exprs_grow, walked_grows, each_grows}
 use Rattle.gh_model.proofs.terms.Denotation.{Sound, listed, term_at, formula_named, expr_value, exprs_values}
 use Rattle.gh_model.proofs.terms.Callees.{with_results, with_assigned, assigned_version, renewed_within, renewed_version, inside_before, inside_after}
@@ -44,7 +44,7 @@ use Rattle.gh_model.proofs.soundness.Interpretation.{value_at, value_of, within_
 use Rattle.gh_model.proofs.soundness.Versions.{AreVersions}
 
 -- the assertion, under the terms before its walk
-pub under_preserved : (K : List Kind) (V : List ℕ) (H : ℕ → Heap) (M : ℕ → Structure) → AreVersions V K H M → (st : Store) (h : Heap) (f : Formula) (s : Terms) (i : ℕ) → s.version ≡ i → H i ≡ h → Sound K V st h (walked f s)
+pub under_preserved : (K : List Kind) (V : List ℕ) (H : ℕ → Heap) (M : ℕ → HeapStructure) → AreVersions V K H M → (st : Store) (h : Heap) (f : Formula) (s : Terms) (i : ℕ) → s.version ≡ i → H i ≡ h → Sound K V st h (walked f s)
     → IsPreserved (reflection V M) i (length K) (value_at V) V (M i) (variables (walked f s).bindings) (successor K i) st f
 under_preserved K V H M A st h f s i version at S =
     let j = (walked f s).version in
@@ -53,7 +53,7 @@ under_preserved K V H M A st h f s i version at S =
     subst (λ k. IsPreserved (reflection V M) k (length K) (value_at V) V (M k) (variables (walked f s).bindings) (successor K k) st f) same
     (walked_preserved K V M st h (length K) f s A.kinds.count (A.models j) represents S)
 
-agree_both : (K : List Kind) (V : List ℕ) (H : ℕ → Heap) (M : ℕ → Structure) → AreVersions V K H M → (i j : ℕ) (h k : Heap) → H i ≡ h → H j ≡ k → AreRepresented V h k (M i) (M j)
+agree_both : (K : List Kind) (V : List ℕ) (H : ℕ → Heap) (M : ℕ → HeapStructure) → AreVersions V K H M → (i j : ℕ) (h k : Heap) → H i ≡ h → H j ≡ k → AreRepresented V h k (M i) (M j)
 agree_both K V H M A i j h k a b = record {
   proper = subst IsProper a (A.proper i);
   proper_after = subst IsProper b (A.proper j);
@@ -63,7 +63,7 @@ agree_both K V H M A i j h k a b = record {
   represents_after = subst (λ g. Represents V g (M j)) b (A.represents j);
 }
 
-homomorphism_at : (K : List Kind) (V : List ℕ) (H : ℕ → Heap) (M : ℕ → Structure) → AreVersions V K H M → (i : ℕ) → IsHomomorphism (reflection V M) i (length K) (value_at V) V (M i)
+homomorphism_at : (K : List Kind) (V : List ℕ) (H : ℕ → Heap) (M : ℕ → HeapStructure) → AreVersions V K H M → (i : ℕ) → IsHomomorphism (reflection V M) i (length K) (value_at V) V (M i)
 homomorphism_at K V H M A i = reflection_homomorphism V M i (length K) A.kinds.count A.kinds.null
 
 below : (V : List ℕ) (n t v : ℕ) → length V ≡ n → slice_get V t ≡ Some v → t < n
@@ -84,10 +84,10 @@ both_known e (Some u) (Some v) is = (u, v, refl, refl, cc)
 both_known e (Some u) None is = absurd cc
 both_known e None b is = absurd cc
 
-pub one_claim : (m : Interpretation) (g : Claim) → truth m g ≡ true → AreTrue m (g ∷ [])
+pub one_claim : (m : Interpretation) (g : GroundClaim) → truth m g ≡ true → AreTrue m (g ∷ [])
 one_claim m g e = All-cons (λ u. truth m u ≡ true) g [] e (All-nil (λ u. truth m u ≡ true))
 
-access_true : (P : Program) (home : Procedure) (K : List Kind) (V : List ℕ) (H : ℕ → Heap) (M : ℕ → Structure) → AreVersions V K H M → (c : path.Check) (o : Occ) (ps : List path.PathStep) (s : Terms) (x y : State) → IsStep P home K V c (path.accessed o) ps s x y → H s.version ≡ x.heap → AreTrue (reflection V M) (step_claims K s.version (term_step P home (path.accessed o) s))
+access_true : (P : Program) (home : Procedure) (K : List Kind) (V : List ℕ) (H : ℕ → Heap) (M : ℕ → HeapStructure) → AreVersions V K H M → (c : path.Check) (o : Occ) (ps : List path.PathStep) (s : Terms) (x y : State) → IsStep P home K V c (path.accessed o) ps s x y → H s.version ≡ x.heap → AreTrue (reflection V M) (step_claims K s.version (term_step P home (path.accessed o) s))
 access_true P home K V H M A c o ps s x y I at =
     let S : Sound K V x.store x.heap (used o.name s) = sound_used P home K V c (path.accessed o) ps s x y I (λ i k e. I.within i k ((followed_grows o.name (used o.name s)).kinds i k e)) in
     let t = term_of o.name (used o.name s) in
@@ -96,7 +96,7 @@ access_true P home K V H M A c o ps s x y I at =
     let T : Represents V x.heap (M s.version) = subst (λ g. Represents V g (M s.version)) at (A.represents s.version) in
     one_claim (reflection V M) (allocated s.version (term t)) (ap (M s.version).alloc is ∙ (T.alloc (x.store o.name) (listed V t (x.store o.name) value')).1 I.takes.0)
 
-assume_true : (P : Program) (home : Procedure) (K : List Kind) (V : List ℕ) (H : ℕ → Heap) (M : ℕ → Structure) → AreVersions V K H M → (c : path.Check) (l : Expr) (e : Bool) (r : Expr) (ps : List path.PathStep) (s : Terms) (x y : State) → IsStep P home K V c (path.assume l e r) ps s x y → AreTrue (reflection V M) (step_claims K s.version (term_step P home (path.assume l e r) s))
+assume_true : (P : Program) (home : Procedure) (K : List Kind) (V : List ℕ) (H : ℕ → Heap) (M : ℕ → HeapStructure) → AreVersions V K H M → (c : path.Check) (l : Expr) (e : Bool) (r : Expr) (ps : List path.PathStep) (s : Terms) (x y : State) → IsStep P home K V c (path.assume l e r) ps s x y → AreTrue (reflection V M) (step_claims K s.version (term_step P home (path.assume l e r) s))
 assume_true P home K V H M A c l e r ps s x y I =
     let T = expr_used r (expr_used l s) in
     let S : Sound K V x.store x.heap T = sound_used P home K V c (path.assume l e r) ps s x y I I.within in
@@ -109,7 +109,7 @@ assume_true P home K V H M A c l e r ps s x y I =
     one_claim (reflection V M) (compared (term (expr_term l T)) e (term (expr_term r T)))
     (compared_truth (reflection V M) e (term (expr_term l T)) (term (expr_term r T)) (u == v) same ∙ is)
 
-new_true : (P : Program) (home : Procedure) (K : List Kind) (V : List ℕ) (H : ℕ → Heap) (M : ℕ → Structure) → AreVersions V K H M → (c : path.Check) (o : Occ) (ps : List path.PathStep) (s : Terms) (x y : State) → IsStep P home K V c (path.made o) ps s x y → H s.version ≡ x.heap → H (s.version + 1) ≡ y.heap → AreTrue (reflection V M) (step_claims K s.version (term_step P home (path.made o) s))
+new_true : (P : Program) (home : Procedure) (K : List Kind) (V : List ℕ) (H : ℕ → Heap) (M : ℕ → HeapStructure) → AreVersions V K H M → (c : path.Check) (o : Occ) (ps : List path.PathStep) (s : Terms) (x y : State) → IsStep P home K V c (path.made o) ps s x y → H s.version ≡ x.heap → H (s.version + 1) ≡ y.heap → AreTrue (reflection V M) (step_claims K s.version (term_step P home (path.made o) s))
 new_true P home K V H M A c o ps s x y I at at' =
     let (l, v, some, free, gets, heap) = I.takes in
     let (l', v', el, ev, content) = I.cells in
@@ -125,7 +125,7 @@ new_true P home K V H M A c o ps s x y I at at' =
     (news_are_preserved (reflection V M) i n (value_at V) V (M i) (M (i + 1)) (homomorphism_at K V H M A i) (homomorphism_at K V H M A (i + 1)) (length s.kinds) (length s.kinds + 1) (below V n (length s.kinds) l A.kinds.count el') (below V n (length s.kinds + 1) v A.kinds.count ev')).1
     (subst (λ a. StepsByNew V (M i) (M (i + 1)) a (value_at V (length s.kinds + 1))) (sym (value_of V (length s.kinds) l el')) (subst (λ b. StepsByNew V (M i) (M (i + 1)) l b) (sym (value_of V (length s.kinds + 1) v ev')) says))
 
-write_true : (P : Program) (home : Procedure) (K : List Kind) (V : List ℕ) (H : ℕ → Heap) (M : ℕ → Structure) → AreVersions V K H M → (c : path.Check) (o : Occ) (e : Expr) (ps : List path.PathStep) (s : Terms) (x y : State) → IsStep P home K V c (path.written o e) ps s x y → H s.version ≡ x.heap → H (s.version + 1) ≡ y.heap → AreTrue (reflection V M) (step_claims K s.version (term_step P home (path.written o e) s))
+write_true : (P : Program) (home : Procedure) (K : List Kind) (V : List ℕ) (H : ℕ → Heap) (M : ℕ → HeapStructure) → AreVersions V K H M → (c : path.Check) (o : Occ) (e : Expr) (ps : List path.PathStep) (s : Terms) (x y : State) → IsStep P home K V c (path.written o e) ps s x y → H s.version ≡ x.heap → H (s.version + 1) ≡ y.heap → AreTrue (reflection V M) (step_claims K s.version (term_step P home (path.written o e) s))
 write_true P home K V H M A c o e ps s x y I at at' =
     let (v, gives, a, to) = I.takes in
     let T = expr_used e (used o.name s) in
@@ -140,7 +140,7 @@ write_true P home K V H M A c o e ps s x y I at at' =
     (writes_are_preserved (reflection V M) i n (value_at V) V (M i) (M (i + 1)) (homomorphism_at K V H M A i) (homomorphism_at K V H M A (i + 1)) tx te (below V n tx (x.store o.name) A.kinds.count ex) (below V n te v A.kinds.count ee)).1
     (subst (λ u. StepsByWrite V (M i) (M (i + 1)) u (value_at V te)) (sym (value_of V tx (x.store o.name) ex)) (subst (λ b. StepsByWrite V (M i) (M (i + 1)) (x.store o.name) b) (sym (value_of V te v ee)) says))
 
-free_true : (P : Program) (home : Procedure) (K : List Kind) (V : List ℕ) (H : ℕ → Heap) (M : ℕ → Structure) → AreVersions V K H M → (c : path.Check) (o : Occ) (ps : List path.PathStep) (s : Terms) (x y : State) → IsStep P home K V c (path.freed o) ps s x y → H s.version ≡ x.heap → H (s.version + 1) ≡ y.heap → AreTrue (reflection V M) (step_claims K s.version (term_step P home (path.freed o) s))
+free_true : (P : Program) (home : Procedure) (K : List Kind) (V : List ℕ) (H : ℕ → Heap) (M : ℕ → HeapStructure) → AreVersions V K H M → (c : path.Check) (o : Occ) (ps : List path.PathStep) (s : Terms) (x y : State) → IsStep P home K V c (path.freed o) ps s x y → H s.version ≡ x.heap → H (s.version + 1) ≡ y.heap → AreTrue (reflection V M) (step_claims K s.version (term_step P home (path.freed o) s))
 free_true P home K V H M A c o ps s x y I at at' =
     let (a, to) = I.takes in
     let T = used o.name s in
@@ -154,7 +154,7 @@ free_true P home K V H M A c o ps s x y I at at' =
     (subst (λ u. StepsByFree V (M i) (M (i + 1)) u) (sym (value_of V tx (x.store o.name) ex)) says)
 
 -- a part that gives way, and one that comes
-replaced_true : (K : List Kind) (V : List ℕ) (H : ℕ → Heap) (M : ℕ → Structure) → AreVersions V K H M → (f g : Formula) (s r : Terms) (i : ℕ) (st st' : Store) (h k : Heap) → s.version ≡ i → r.version ≡ i + 1 → H i ≡ h → H (i + 1) ≡ k → Sound K V st h (walked f s) → Sound K V st' k (walked g r) → Replaced f st h (Meaning g st') k
+replaced_true : (K : List Kind) (V : List ℕ) (H : ℕ → Heap) (M : ℕ → HeapStructure) → AreVersions V K H M → (f g : Formula) (s r : Terms) (i : ℕ) (st st' : Store) (h k : Heap) → s.version ≡ i → r.version ≡ i + 1 → H i ≡ h → H (i + 1) ≡ k → Sound K V st h (walked f s) → Sound K V st' k (walked g r) → Replaced f st h (Meaning g st') k
     → AreTrue (reflection V M) (parts_claims K i (under f s) (under g r ∷ []))
 replaced_true K V H M A f g s r i st st' h k vs vr at at' S S' R =
     let n = length K in
@@ -169,7 +169,7 @@ replaced_true K V H M A f g s r i st st' h k vs vr at at' S S' R =
     (subst (λ j. StepsByCall V (M j) (M (j + 1)) f g st st') (sym vs) says) in
     subst (λ j. AreTrue m (parts_claims K j (under f s) (under g r ∷ []))) vs step
 
-called_true : (P : Program) (home : Procedure) (K : List Kind) (V : List ℕ) (H : ℕ → Heap) (M : ℕ → Structure) → AreVersions V K H M → (c : path.Check) (ys : List Occ) (n : ℕ) (es : List Expr) (ps : List path.PathStep) (s : Terms) (x y : State) → IsStep P home K V c (path.called ys n es) ps s x y → H s.version ≡ x.heap → H (s.version + 1) ≡ y.heap → AreTrue (reflection V M) (step_claims K s.version (term_step P home (path.called ys n es) s))
+called_true : (P : Program) (home : Procedure) (K : List Kind) (V : List ℕ) (H : ℕ → Heap) (M : ℕ → HeapStructure) → AreVersions V K H M → (c : path.Check) (ys : List Occ) (n : ℕ) (es : List Expr) (ps : List path.PathStep) (s : Terms) (x y : State) → IsStep P home K V c (path.called ys n es) ps s x y → H s.version ≡ x.heap → H (s.version + 1) ≡ y.heap → AreTrue (reflection V M) (step_claims K s.version (term_step P home (path.called ys n es) s))
 called_true P home K V H M A c ys n es ps s x y I at at' =
     let (p, vs, found', give, C) = I.takes in
     let T = exprs_used es s in
@@ -195,7 +195,7 @@ called_true P home K V H M A c ys n es ps s x y I at at' =
     subst (λ o. AreTrue (reflection V M) (step_claims K s.version (call_parts o ts T))) (sym found')
     (part_one (reflection V M) K s.version (under p.needs s1) (each_under p.gives mid) (under g t) W.told one)
 
-looped_true : (P : Program) (home : Procedure) (K : List Kind) (V : List ℕ) (H : ℕ → Heap) (M : ℕ → Structure) → AreVersions V K H M → (c : path.Check) (n : ℕ) (ps : List path.PathStep) (s : Terms) (x y : State) → IsStep P home K V c (path.looped n) ps s x y → H s.version ≡ x.heap → H (s.version + 1) ≡ y.heap → AreTrue (reflection V M) (step_claims K s.version (term_step P home (path.looped n) s))
+looped_true : (P : Program) (home : Procedure) (K : List Kind) (V : List ℕ) (H : ℕ → Heap) (M : ℕ → HeapStructure) → AreVersions V K H M → (c : path.Check) (n : ℕ) (ps : List path.PathStep) (s : Terms) (x y : State) → IsStep P home K V c (path.looped n) ps s x y → H s.version ≡ x.heap → H (s.version + 1) ≡ y.heap → AreTrue (reflection V M) (step_claims K s.version (term_step P home (path.looped n) s))
 looped_true P home K V H M A c n ps s x y I at at' =
     let (l, is, R) = I.takes in
     let xs = variable_names home in
@@ -204,7 +204,7 @@ looped_true P home K V H M A c n ps s x y I at at' =
     replaced_true K V H M A l.invariant l.invariant s (with_assigned l xs s) s.version x.store y.store x.heap y.heap refl (assigned_version l xs s) at at' S.0 S.1 R.replaced in
     subst (λ o. AreTrue (reflection V M) (step_claims K s.version (loop_parts o xs s))) (sym is) one
 
-step_true : (P : Program) (home : Procedure) (K : List Kind) (V : List ℕ) (H : ℕ → Heap) (M : ℕ → Structure) → AreVersions V K H M → (c : path.Check) (p : path.PathStep) (ps : List path.PathStep) (s : Terms) (x y : State) → IsStep P home K V c p ps s x y → H s.version ≡ x.heap → H (version_after p s.version) ≡ y.heap → AreTrue (reflection V M) (step_claims K s.version (term_step P home p s))
+step_true : (P : Program) (home : Procedure) (K : List Kind) (V : List ℕ) (H : ℕ → Heap) (M : ℕ → HeapStructure) → AreVersions V K H M → (c : path.Check) (p : path.PathStep) (ps : List path.PathStep) (s : Terms) (x y : State) → IsStep P home K V c p ps s x y → H s.version ≡ x.heap → H (path_version p s.version) ≡ y.heap → AreTrue (reflection V M) (step_claims K s.version (term_step P home p s))
 step_true P home K V H M A c (path.accessed o) ps s x y I at at' = access_true P home K V H M A c o ps s x y I at
 step_true P home K V H M A c (path.assume l e r) ps s x y I at at' = assume_true P home K V H M A c l e r ps s x y I
 step_true P home K V H M A c (path.assigned o e) ps s x y I at at' = All-nil (λ g. truth (reflection V M) g ≡ true)
@@ -216,18 +216,18 @@ step_true P home K V H M A c (path.looped n) ps s x y I at at' = looped_true P h
 step_true P home K V H M A c (path.answered es) ps s x y I at at' = All-nil (λ g. truth (reflection V M) g ≡ true)
 
 -- the version after a step, read off its terms
-same_version : (P : Program) (home : Procedure) (p : path.PathStep) (s : Terms) (i : ℕ) (x y : State) → Takes P home p x y → version_past i (term_step P home p s) ≡ version_after p i
+same_version : (P : Program) (home : Procedure) (p : path.PathStep) (s : Terms) (i : ℕ) (x y : State) → Takes P home p x y → version_after i (term_step P home p s) ≡ path_version p i
 same_version P home (path.accessed o) s i x y t = refl
 same_version P home (path.assume l e r) s i x y t = refl
 same_version P home (path.assigned o e) s i x y t = refl
 same_version P home (path.made o) s i x y t = refl
 same_version P home (path.written o e) s i x y t = refl
 same_version P home (path.freed o) s i x y t = refl
-same_version P home (path.called ys n es) s i x y t = ap (λ o. version_past i (call_parts o (exprs_terms es (exprs_used es s)) (exprs_used es s))) t.2
-same_version P home (path.looped n) s i x y t = ap (λ o. version_past i (loop_parts o (variable_names home) s)) t.1
+same_version P home (path.called ys n es) s i x y t = ap (λ o. version_after i (call_parts o (exprs_terms es (exprs_used es s)) (exprs_used es s))) t.2
+same_version P home (path.looped n) s i x y t = ap (λ o. version_after i (loop_parts o (variable_names home) s)) t.1
 same_version P home (path.answered es) s i x y t = refl
 
-pub steps_true : (P : Program) (home : Procedure) (K : List Kind) (V : List ℕ) (H : ℕ → Heap) (M : ℕ → Structure) → AreVersions V K H M → (c : path.Check) → ((q : Procedure) → Contains P.procedures q → HasOwnNames q)
+pub steps_true : (P : Program) (home : Procedure) (K : List Kind) (V : List ℕ) (H : ℕ → Heap) (M : ℕ → HeapStructure) → AreVersions V K H M → (c : path.Check) → ((q : Procedure) → Contains P.procedures q → HasOwnNames q)
     → (ps : List path.PathStep) (s : Terms) (x : State) (ys : List State) → Within (steps_walked P home ps s).kinds K
     → HaveValues P K V ps (term_steps P home ps s) (state_bindings P home ps c s) s.version x ys → HeapsAre H ps x ys s.version → IsTrace P home x ps ys → AreTrue (reflection V M) (steps_claims K s.version (term_steps P home ps s))
 steps_true P home K V H M A c N [] s x ys w values at T = All-nil (λ g. truth (reflection V M) g ≡ true)
@@ -235,8 +235,8 @@ steps_true P home K V H M A c N (p ∷ ps) s x [] w values at T = absurd T
 steps_true P home K V H M A c N (p ∷ ps) s x (y ∷ ys) w values at T =
     let t = step_walked P home p s in
     let i = s.version in
-    let next' : H (version_after p i) ≡ y.heap = first_heap H ps y ys (version_after p i) at.1 in
-    let version : t.version ≡ version_after p i = step_version P home p s x y T.0 in
+    let next' : H (path_version p i) ≡ y.heap = first_heap H ps y ys (path_version p i) at.1 in
+    let version : t.version ≡ path_version p i = step_version P home p s x y T.0 in
     let I : IsStep P home K V c p ps s x y = record {
       own_names = N;
       null = A.kinds.null;
@@ -244,7 +244,7 @@ steps_true P home K V H M A c N (p ∷ ps) s x (y ∷ ys) w values at T =
       values = values.0;
       cells = values.1;
       results = values.2;
-      after = first_values P home K V c ps t (version_after p i) y ys values.3;
+      after = first_values P home K V c ps t (path_version p i) y ys values.3;
       takes = T.0;
       proper = subst IsProper at.0 (A.proper i);
       owned = subst (Owned V) at.0 (A.owned i);
@@ -252,7 +252,7 @@ steps_true P home K V H M A c N (p ∷ ps) s x (y ∷ ys) w values at T =
     let rest = steps_true P home K V H M A c N ps t y ys w
     (subst (λ j. HaveValues P K V ps (term_steps P home ps t) (state_bindings P home ps c t) j y ys) (sym version) values.3)
     (subst (HeapsAre H ps y ys) (sym version) at.1) T.1 in
-    let past : t.version ≡ version_past i (term_step P home p s) = version ∙ sym (same_version P home p s i x y T.0) in
-    All-append (λ g. truth (reflection V M) g ≡ true) (step_claims K i (term_step P home p s)) (steps_claims K (version_past i (term_step P home p s)) (term_steps P home ps t))
+    let past : t.version ≡ version_after i (term_step P home p s) = version ∙ sym (same_version P home p s i x y T.0) in
+    All-append (λ g. truth (reflection V M) g ≡ true) (step_claims K i (term_step P home p s)) (steps_claims K (version_after i (term_step P home p s)) (term_steps P home ps t))
     (step_true P home K V H M A c p ps s x y I at.0 next')
     (subst (λ j. AreTrue (reflection V M) (steps_claims K j (term_steps P home ps t))) past rest)

@@ -12,15 +12,15 @@ use Rattle.gh_ast.specs.Plain.{Formula, empty, comparison, points_to, cell, segm
 use Rattle.gh_ast.specs.Programs.{Name, names, results_of, variable_names}
 use Rattle.gh_ast.specs.Rules.{IsTyped}
 use Rattle.gh_assert.specs.Heaps.{Heap}
-use Rattle.gh_assert.specs.Walks.{succ}
 use Rattle.gh_path.specs.Graphs as path
 use Rattle.gh_path.specs.Conditions.{Condition, IsOf}
 use Rattle.gh_path.specs.Terms.{Kind, next, same_kind, added, with_value, bound, Terms, terms, used, used_as, term_of, followed, operand_used, expr_used, exprs_used, exprs_terms, test_walked, tests_walked, walked, all_walked, each_walked, moved_on, rebound, renewed, some_assigns, bound_inside, call_walked, loop_walked, step_walked, steps_walked, entry_walked, invariant_walked, check_walked, no_terms}
 use Rattle.gh_symb.specs.Symbolic.{term_steps, state_bindings, begins, symbolic_of}
 use Rattle.gh_trace.specs.Traces.{State, IsTrace}
-use Rattle.gh_model.specs.TermValues.{version_after, HaveValues, AreTermValues}
+use Rattle.gh_model.specs.TermValues.{path_version, HaveValues, AreTermValues}
 use Rattle.gh_model.specs.TraceLaws.{IsCounterexample}
 use Rattle.gh_model.proofs.terms.Extension.{walked_grows}
+use Rattle.gh_model.proofs.terms.Callees.{HasSuccessors}
 use Rattle.gh_model.proofs.soundness.WalkValues.{IsKindValuation, snoc_cases}
 use Rattle.gh_model.proofs.terms.Bounds.{check_version}
 use Rattle.gh_model.proofs.soundness.Interpretation.{value_at, there_at, within_list}
@@ -159,7 +159,7 @@ null_up : UpToNow no_terms
 null_up zero i u e = absurd cc
 null_up (suc t) i u e = absurd cc
 
-one_up : (p : path.PathStep) (i j : ℕ) → i ≤ j → (i ≡ j → ⊥) → version_after p i ≤ j
+one_up : (p : path.PathStep) (i j : ℕ) → i ≤ j → (i ≡ j → ⊥) → path_version p i ≤ j
 one_up (path.accessed o) i j l n = l
 one_up (path.assume a e r) i j l n = l
 one_up (path.assigned x e) i j l n = l
@@ -171,22 +171,19 @@ one_up (path.looped k) i j l n = omega (arith, l, n)
 one_up (path.answered es) i j l n = l
 
 -- in each version of the path what follows a term has its value
-abbrev Follows : (K : List Kind) (V : List ℕ) (h : Heap) (j : ℕ) → Type 0
-Follows K V h j = (t u v : ℕ) → slice_get K t ≡ Some (next j u) → slice_get V u ≡ Some v → slice_get V t ≡ Some (succ h v)
-
 follows_along : (P : Program) (home : Procedure) (K : List Kind) (V : List ℕ) (c : path.Check) (H : ℕ → Heap) (ps : List path.PathStep) (s : Terms) (x : State) (ys : List State)
     → HaveValues P K V ps (term_steps P home ps s) (state_bindings P home ps c s) s.version x ys → HeapsAre H ps x ys s.version → IsTrace P home x ps ys
-    → (j : ℕ) → s.version ≤ j → j ≤ (steps_walked P home ps s).version → Follows K V (H j) j
+    → (j : ℕ) → s.version ≤ j → j ≤ (steps_walked P home ps s).version → HasSuccessors K V j (H j)
 follows_along P home K V c H [] s x ys W A T j low high =
     let same : s.version ≡ j = omega (arith, low, high) in
-    subst (λ i. Follows K V (H i) i) same (subst (λ h. Follows K V h s.version) (sym A) W.next)
+    subst (λ i. HasSuccessors K V i (H i)) same (subst (λ h. HasSuccessors K V s.version h) (sym A) W.next)
 follows_along P home K V c H (p ∷ ps) s x [] W A T j low high = absurd W
 follows_along P home K V c H (p ∷ ps) s x (y ∷ ys) W A T j low high = elim (cases_eq s.version j) [
-  | inl same ↦ subst (λ i. Follows K V (H i) i) same (subst (λ h. Follows K V h s.version) (sym A.0) W.0.next)
+  | inl same ↦ subst (λ i. HasSuccessors K V i (H i)) same (subst (λ h. HasSuccessors K V s.version h) (sym A.0) W.0.next)
   | inr other ↦
       let t = step_walked P home p s in
-      let version : t.version ≡ version_after p s.version = step_version P home p s x y T.0 in
-      let above : version_after p s.version ≤ j = one_up p s.version j low (λ e. absurd (omega (arith, e, other))) in
+      let version : t.version ≡ path_version p s.version = step_version P home p s x y T.0 in
+      let above : path_version p s.version ≤ j = one_up p s.version j low (λ e. absurd (omega (arith, e, other))) in
       let from : t.version ≤ j = omega (arith, version, above) in
       follows_along P home K V c H ps t y ys (subst (λ i. HaveValues P K V ps (term_steps P home ps t) (state_bindings P home ps c t) i y ys) (sym version) W.3) (subst (HeapsAre H ps y ys) (sym version) A.1) T.1 j from high
 ]

@@ -12,7 +12,7 @@ use Rattle.gh_path.specs.Graphs as path
 use Rattle.gh_path.specs.Terms.{Kind, null, next, Bindings, unbound, bound, all_bound, Terms, expr_used, exprs_used, exprs_terms, rebound, bound_inside, entry_walked, invariant_walked, check_walked, step_walked, steps_walked, no_terms}
 use Rattle.gh_symb.specs.Symbolic.{TermStep, accessed, assumed, same, written, made, freed, parts, term_step, term_steps, step_used, check_used, first_use, used_first, either_term, state_bindings, begins, symbolic_of}
 use Rattle.gh_trace.specs.Traces.{State, Takes, IsTrace}
-use Rattle.gh_model.specs.TermValues.{version_after, HasStateValues, HasCellValues, HasResultValues, HaveValues, AreTermValues}
+use Rattle.gh_model.specs.TermValues.{path_version, HasStateValues, HasCellValues, HasResultValues, HaveValues, AreTermValues}
 use Rattle.gh_ast.specs.Rules.{IsTyped}
 use Rattle.gh_path.specs.Conditions.{Condition, IsOf}
 use Rattle.gh_model.specs.TraceLaws.{IsCounterexample, ValuesExist}
@@ -29,19 +29,19 @@ use Rattle.gh_model.proofs.ownership.Traces.{here, step_version}
 abbrev pub heap_in : List path.PathStep → State → List State → ℕ → ℕ → Heap
 heap_in [] x ys i j = x.heap
 heap_in (p ∷ ps) x [] i j = x.heap
-heap_in (p ∷ ps) x (y ∷ ys) i j = cond (j == i) x.heap (heap_in ps y ys (version_after p i) j)
+heap_in (p ∷ ps) x (y ∷ ys) i j = cond (j == i) x.heap (heap_in ps y ys (path_version p i) j)
 
 abbrev pub HeapsAre : (ℕ → Heap) → List path.PathStep → State → List State → ℕ → Type 0
 HeapsAre H [] x ys i = H i ≡ x.heap
 HeapsAre H (p ∷ ps) x [] i = H i ≡ x.heap
-HeapsAre H (p ∷ ps) x (y ∷ ys) i = (H i ≡ x.heap) × HeapsAre H ps y ys (version_after p i)
+HeapsAre H (p ∷ ps) x (y ∷ ys) i = (H i ≡ x.heap) × HeapsAre H ps y ys (path_version p i)
 
 pub front_heap : (ps : List path.PathStep) (x : State) (ys : List State) (i : ℕ) → heap_in ps x ys i i ≡ x.heap
 front_heap [] x ys i = refl
 front_heap (p ∷ ps) x [] i = refl
-front_heap (p ∷ ps) x (y ∷ ys) i = ap (λ b. cond b x.heap (heap_in ps y ys (version_after p i) i)) (eq-eqb i i refl)
+front_heap (p ∷ ps) x (y ∷ ys) i = ap (λ b. cond b x.heap (heap_in ps y ys (path_version p i) i)) (eq-eqb i i refl)
 
-goes_up : (p : path.PathStep) (i : ℕ) → i ≤ version_after p i
+goes_up : (p : path.PathStep) (i : ℕ) → i ≤ path_version p i
 goes_up (path.accessed o) i = omega arith
 goes_up (path.assume l e r) i = omega arith
 goes_up (path.assigned x e) i = omega arith
@@ -55,7 +55,7 @@ goes_up (path.answered es) i = omega arith
 not_up : (i : ℕ) → i + 1 ≡ i → ⊥
 not_up i e = omega arith
 
-same_heap : (P : Program) (home : Procedure) (p : path.PathStep) (i : ℕ) (x y : State) → Takes P home p x y → version_after p i ≡ i → y.heap ≡ x.heap
+same_heap : (P : Program) (home : Procedure) (p : path.PathStep) (i : ℕ) (x y : State) → Takes P home p x y → path_version p i ≡ i → y.heap ≡ x.heap
 same_heap P home (path.accessed o) i x y t e = ap (λ (z : State). z.heap) t.1
 same_heap P home (path.assume l e' r) i x y t e = ap (λ (z : State). z.heap) t.1
 same_heap P home (path.assigned z e') i x y t e = t.3
@@ -67,21 +67,21 @@ same_heap P home (path.looped n) i x y t e = absurd (not_up i e)
 same_heap P home (path.answered es) i x y t e = t.3
 
 -- past the first version the heaps are those of the rest
-past_heap : (P : Program) (home : Procedure) (p : path.PathStep) (ps : List path.PathStep) (x y : State) (ys : List State) (i j : ℕ) → Takes P home p x y → version_after p i ≤ j → heap_in (p ∷ ps) x (y ∷ ys) i j ≡ heap_in ps y ys (version_after p i) j
+past_heap : (P : Program) (home : Procedure) (p : path.PathStep) (ps : List path.PathStep) (x y : State) (ys : List State) (i j : ℕ) → Takes P home p x y → path_version p i ≤ j → heap_in (p ∷ ps) x (y ∷ ys) i j ≡ heap_in ps y ys (path_version p i) j
 past_heap P home p ps x y ys i j t l = elim (cases_Bool (j == i)) [
-  | inr off ↦ ap (λ b. cond b x.heap (heap_in ps y ys (version_after p i) j)) off
+  | inr off ↦ ap (λ b. cond b x.heap (heap_in ps y ys (path_version p i) j)) off
   | inl yes' ↦
       let equal : j ≡ i = eqb-true j i yes' in
-      let stays' : version_after p i ≡ i = omega (arith, goes_up p i, l) in
-      let at : version_after p i ≡ j = omega arith in
-      ap (λ b. cond b x.heap (heap_in ps y ys (version_after p i) j)) yes' ∙ sym (same_heap P home p i x y t stays') ∙ sym (front_heap ps y ys (version_after p i)) ∙ ap (heap_in ps y ys (version_after p i)) at
+      let stays' : path_version p i ≡ i = omega (arith, goes_up p i, l) in
+      let at : path_version p i ≡ j = omega arith in
+      ap (λ b. cond b x.heap (heap_in ps y ys (path_version p i) j)) yes' ∙ sym (same_heap P home p i x y t stays') ∙ sym (front_heap ps y ys (path_version p i)) ∙ ap (heap_in ps y ys (path_version p i)) at
 ]
 
 pub heaps_are : (P : Program) (home : Procedure) (H : ℕ → Heap) (ps : List path.PathStep) (x : State) (ys : List State) (i : ℕ) → IsTrace P home x ps ys → ((j : ℕ) → i ≤ j → H j ≡ heap_in ps x ys i j) → HeapsAre H ps x ys i
 heaps_are P home H [] x ys i T e = e i (omega arith)
 heaps_are P home H (p ∷ ps) x [] i T e = absurd T
 heaps_are P home H (p ∷ ps) x (y ∷ ys) i T e =
-    (e i (omega arith) ∙ front_heap (p ∷ ps) x (y ∷ ys) i, heaps_are P home H ps y ys (version_after p i) T.1 (λ j l. e j (omega (arith, goes_up p i, l)) ∙ past_heap P home p ps x y ys i j T.0 l))
+    (e i (omega arith) ∙ front_heap (p ∷ ps) x (y ∷ ys) i, heaps_are P home H ps y ys (path_version p i) T.1 (λ j l. e j (omega (arith, goes_up p i, l)) ∙ past_heap P home p ps x y ys i j T.0 l))
 
 pub first_heap : (H : ℕ → Heap) (ps : List path.PathStep) (x : State) (ys : List State) (i : ℕ) → HeapsAre H ps x ys i → H i ≡ x.heap
 first_heap H [] x ys i A = A
@@ -233,7 +233,7 @@ values_along P home H c over (p ∷ ps) s x [] V S A T = absurd T
 values_along P home H c over (p ∷ ps) s x (y ∷ ys) V S A T =
     let t = step_walked P home p s in
     let R = step_values H V P home p s x y over S A.0 T.0 in
-    let version : t.version ≡ version_after p s.version = step_version P home p s x y T.0 in
+    let version : t.version ≡ path_version p s.version = step_version P home p s x y T.0 in
     let I = values_along P home H c over ps t y ys R.values R.valued (subst (HeapsAre H ps y ys) (sym version) A.1) T.1 in
     let W = I.values in
     let K = (check_walked P home c (steps_walked P home ps t)).kinds in

@@ -9,7 +9,7 @@ use Rattle.gh_ast.proofs.Lists.{member_first, member_later, member_cases, no_mem
 use Rattle.gh_assert.specs.Heaps.{Heap}
 use Rattle.gh_assert.specs.Meaning.{Store, Meaning, MeetsOneOf}
 use Rattle.gh_path.specs.Terms.{Kind, Terms, walked, each_walked}
-use Rattle.gh_grass.specs.Claims.{Claim, negation_of, claims_of, all_of, one_of}
+use Rattle.gh_grass.specs.Claims.{GroundClaim, negation_of, claims_of, all_of, one_of}
 use Rattle.gh_grass.specs.Truth.{truth, some_true, AreTrue}
 use Rattle.gh_symb.specs.Symbolic.{Under, under, each_under, whole}
 use Rattle.gh_symb.specs.Formulas.{meets, meets_whole, placed_claims, kept_claims, alternatives_claims, parts_claims, check_claims}
@@ -60,17 +60,17 @@ one_met f s h gs t k R =
 pub met_one : (f : Formula) (s : Store) (h : Heap) (gs : List Formula) (g : Formula) (t : Store) (k : Heap) → Contains gs g → Replaced f s h (Meaning g t) k → Replaced f s h (MeetsOneOf gs t) k
 met_one f s h gs g t k there R = record { part = R.part; frame = R.frame; other = R.other; splits = R.splits; met = R.met; joins = R.joins; meets = (g, there, R.meets) }
 
-abbrev IsHeld : Interpretation → Claim → Type 0
+abbrev IsHeld : Interpretation → GroundClaim → Type 0
 IsHeld m f = truth m f ≡ true
 
-rows_part : (m : Interpretation) (fs gs : List Claim) → AreTrue m (fs ++ gs) → AreTrue m fs × AreTrue m gs
+rows_part : (m : Interpretation) (fs gs : List GroundClaim) → AreTrue m (fs ++ gs) → AreTrue m fs × AreTrue m gs
 rows_part m [] gs A = (All-nil (IsHeld m), A)
 rows_part m (f ∷ fs) gs A =
     let r = rows_part m fs gs (All-tail (IsHeld m) f (fs ++ gs) A) in
     (All-cons (IsHeld m) f fs (All-head (IsHeld m) f (fs ++ gs) A) r.0, r.1)
 
 -- one of some formulas
-some_held : (m : Interpretation) (F : Under → Claim) (us : List Under) → truth m (one_of (map F us)) ≡ true → (u : Under) × Contains us u × IsHeld m (F u)
+some_held : (m : Interpretation) (F : Under → GroundClaim) (us : List Under) → truth m (one_of (map F us)) ≡ true → (u : Under) × Contains us u × IsHeld m (F u)
 some_held m F [] e = absurd (false≢true e)
 some_held m F (u ∷ us) e = by_test (λ later. some_held m F us later) (truth m (F u)) refl e
   where
@@ -83,7 +83,7 @@ either_true : (a b : Bool) → b ≡ true → (a || b) ≡ true
 either_true true b e = refl
 either_true false b e = e
 
-held_some : (m : Interpretation) (F : Under → Claim) (us : List Under) (u : Under) → Contains us u → IsHeld m (F u) → truth m (one_of (map F us)) ≡ true
+held_some : (m : Interpretation) (F : Under → GroundClaim) (us : List Under) (u : Under) → Contains us u → IsHeld m (F u) → truth m (one_of (map F us)) ≡ true
 held_some m F [] u there e = absurd (no_member u there)
 held_some m F (v ∷ us) u there e = elim (member_cases v us u there) [
   | inl same ↦ ap (λ b. b || some_true m (claims_of (map F us))) (subst (λ w. IsHeld m (F w)) (sym same) e)
@@ -91,7 +91,7 @@ held_some m F (v ∷ us) u there e = elim (member_cases v us u there) [
 ]
 
 -- a part gives way to one of some alternatives where it gives way to that one
-abbrev placed_of : List Kind → ℕ → Under → Under → Claim
+abbrev placed_of : List Kind → ℕ → Under → Under → GroundClaim
 placed_of ks i u q = all_of (placed_claims ks i u q)
 
 one_placed : (m : Interpretation) (ks : List Kind) (i : ℕ) (u : Under) (qs : List Under) → AreTrue m (alternatives_claims ks i u qs) → (q : Under) × Contains qs q × AreTrue m (placed_claims ks i u q)

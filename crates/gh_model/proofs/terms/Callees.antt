@@ -164,8 +164,8 @@ renewed_known (x ∷ xs) s y c = renewed_known xs (renewed_one x s) y (elim c [
 ])
 
 -- what follows terms in a version
-abbrev pub Follows : List Kind → List ℕ → ℕ → Heap → Type 0
-Follows K V i h = (t u v : ℕ) → slice_get K t ≡ Some (next i u) → slice_get V u ≡ Some v → slice_get V t ≡ Some (succ h v)
+abbrev pub HasSuccessors : List Kind → List ℕ → ℕ → Heap → Type 0
+HasSuccessors K V i h = (t u v : ℕ) → slice_get K t ≡ Some (next i u) → slice_get V u ≡ Some v → slice_get V t ≡ Some (succ h v)
 
 pub counted : (V ts vs : List ℕ) → map (slice_get V) ts ≡ map Some vs → length ts ≡ length vs
 counted V ts vs e = sym (length-map ts (slice_get V)) ∙ ap length e ∙ length-map vs Some
@@ -181,7 +181,7 @@ nothing_bound V st y t e = absurd cc
 -- what a callee needs is walked under the arguments' terms
 pub inside_before : (K : List Kind) (V : List ℕ) (h : Heap) (p : Procedure) (ts vs : List ℕ) (t : Terms) (inside : Store)
     → FormulaIn p.needs (parameters_of p) → map (slice_get V) ts ≡ map Some vs → map inside (parameters_of p) ≡ vs
-    → slice_get V 0 ≡ Some 0 → Within (walked p.needs (rebound t (bound_inside p ts))).kinds K → Follows K V t.version h
+    → slice_get V 0 ≡ Some 0 → Within (walked p.needs (rebound t (bound_inside p ts))).kinds K → HasSuccessors K V t.version h
     → Sound K V inside h (walked p.needs (rebound t (bound_inside p ts)))
 inside_before K V h p ts vs t inside own e f null within N = record {
   null = null;
@@ -213,7 +213,7 @@ assigned_version l xs s = renewed_version (filter (some_assigns l.body) xs) (mov
 -- what a callee gives is walked in the next version
 pub inside_after : (K : List Kind) (V : List ℕ) (k : Heap) (p : Procedure) (ts vs : List ℕ) (t : Terms) (inside : Store)
     → FormulaIn p.needs (parameters_of p) → All (λ f. FormulaIn f (parameters_of p ++ results_of p)) p.gives → map (slice_get V) ts ≡ map Some vs → map inside (parameters_of p) ≡ vs
-    → slice_get V 0 ≡ Some 0 → Within (each_walked p.gives (with_results p (rebound t (bound_inside p ts)))).kinds K → Follows K V (t.version + 1) k
+    → slice_get V 0 ≡ Some 0 → Within (each_walked p.gives (with_results p (rebound t (bound_inside p ts)))).kinds K → HasSuccessors K V (t.version + 1) k
     → ((r : Name) (j : ℕ) → Contains (results_of p) r → (with_results p (rebound t (bound_inside p ts))).bindings r ≡ Some j → slice_get V j ≡ Some (inside r))
     → Sound K V inside k (each_walked p.gives (with_results p (rebound t (bound_inside p ts))))
 inside_after K V k p ts vs t inside own own' e f null within N R =

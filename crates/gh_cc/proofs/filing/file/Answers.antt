@@ -4,11 +4,10 @@ use Rattle.std.proofs.lemmas.Option.{slice_get-get_or}
 use Rattle.std.proofs.lemmas.List.{append-nil}
 use Rattle.gh_base.specs.declared.atom.Lit.{Lit}
 use Rattle.gh_base.specs.declared.atom.Atom.TheVariants.{Eq}
-use Rattle.gh_base.specs.Atoms.{number_of}
+use Rattle.gh_base.specs.Atoms.{number_of, term}
 use Rattle.gh_cc.specs.Signs.{find_lit}
 use Rattle.gh_cc.specs.Kept.{normal, reps}
 use Rattle.gh_base.proofs.ListLemmas.{get_within}
-use Rattle.gh_cc.proofs.PartitionLemmas.{term}
 use Rattle.gh_cc.proofs.FilingLemmas.{relation_of, put_files, entry_found, same_filed, IfNone_then, clash_same}
 use Rattle.gh_cc.proofs.filing.file.Goals as goal
 

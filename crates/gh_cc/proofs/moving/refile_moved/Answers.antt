@@ -1,8 +1,8 @@
 use Rattle.std.proofs.Common.{inl, inr, ap, subst, arith}
 use Rattle.std.proofs.lemmas.Bool.{cases_eq}
+use Rattle.gh_base.specs.Atoms.{term}
 use Rattle.gh_cc.specs.Kept.{IsFiled}
 use Rattle.gh_cc.specs.Uses.{Mentions, IsMoved}
-use Rattle.gh_cc.proofs.PartitionLemmas.{term}
 use Rattle.gh_cc.proofs.FilingLemmas.{grows_on, grows_filed}
 use Rattle.gh_cc.proofs.moving.refile_moved.Goals as goal
 use Rattle.gh_cc.proofs.moving.refile_moved.Goals.{then-is_moved+in_default, else-is_moved}
@@ -10,7 +10,7 @@ use Rattle.gh_cc.proofs.moving.refile_moved.Goals.{then-is_moved+in_default, els
 pub loop-t-preserved : goal.loop-t-preserved
 loop-t-preserved c =
     let i = c.loop-t.invariant in
-    let lits = c.args.standing.now.lits.now in
+    let lits = c.args.indexed.now.lits.now in
     let links = c.args.partition.now.links in
     elim c.if-is_moved.branch [
       | then-is_moved+in_default w ↦
@@ -20,9 +20,9 @@ loop-t-preserved c =
             tied = f.tied;
             grows = grows_on _ _ _ i.grows f.grows;
             filed = λ n k u at mentions below moved.
-                elim (cases_eq u.0 c.loop-t.t) as (λ _. IsFiled c.args.standing.now.sizes lits links now.entries k) [
+                elim (cases_eq u.0 c.loop-t.t) as (λ _. IsFiled c.args.indexed.now.sizes lits links now.entries k) [
                   | inl same ↦ f.filed n k at (subst (Mentions k.atom) (ap term same) mentions)
-                  | inr ne ↦ grows_filed c.args.standing.now.sizes lits links c.loop-t.signs now f.grows k
+                  | inr ne ↦ grows_filed c.args.indexed.now.sizes lits links c.loop-t.signs now f.grows k
                       (i.filed n k u at mentions (omega arith) moved)
                 ];
           })
@@ -32,7 +32,7 @@ loop-t-preserved c =
             grows = i.grows;
             filed = λ n k u at mentions below moved.
                 elim (cases_eq u.0 c.loop-t.t) as (λ _.
-                IsFiled c.args.standing.now.sizes lits links c.loop-t.signs.entries k) [
+                IsFiled c.args.indexed.now.sizes lits links c.loop-t.signs.entries k) [
                   | inl same ↦ absurd (w.if-is_moved.ensures (subst (IsMoved links) (ap term same) moved))
                   | inr ne ↦ i.filed n k u at mentions (omega arith) moved
                 ];

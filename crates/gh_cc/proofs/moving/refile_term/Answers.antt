@@ -17,13 +17,13 @@ loop-next-init c =
       within = e.within;
       here = e.here;
       filed = λ j k low at there.
-          absurd (e.none j low (get_within c.args.standing.now.uses.now.list j (Some c.args.term) at) at);
+          absurd (e.none j low (get_within c.args.indexed.now.uses.now.list j (Some c.args.term) at) at);
     }
 
 pub file-requires-clause-place : goal.file-requires-clause-place
 file-requires-clause-place c =
     let within = c.loop-next.invariant.within in
-    omega (arith, mentions_long c.args.standing.now.lits.now, ap length c.requires.uses)
+    omega (arith, mentions_long c.args.indexed.now.lits.now, ap length c.requires.uses)
 
 pub loop-next-preserved : goal.loop-next-preserved
 loop-next-preserved c =
@@ -37,17 +37,17 @@ loop-next-preserved c =
       here = e.here;
       filed = λ j k low at there.
           elim (cases_lt j (c.loop-next.next - 1)) as (λ _.
-          IsFiled c.args.standing.now.sizes c.args.standing.now.lits.now c.args.partition.now.links
+          IsFiled c.args.indexed.now.sizes c.args.indexed.now.lits.now c.args.partition.now.links
           c.file.new.signs.entries k) [
             | inl lt ↦ absurd (e.none j low lt at)
             | inr ge ↦ elim (cases_lt j c.loop-next.next) as (λ _.
-                IsFiled c.args.standing.now.sizes c.args.standing.now.lits.now c.args.partition.now.links
+                IsFiled c.args.indexed.now.sizes c.args.indexed.now.lits.now c.args.partition.now.links
                 c.file.new.signs.entries k) [
                   | inl here ↦
                       let is : j ≡ c.loop-next.next - 1 = omega arith in
-                      f.filed k (subst (λ n. slice_get c.args.standing.now.lits.now (n / 3) ≡ Some k) is there)
+                      f.filed k (subst (λ n. slice_get c.args.indexed.now.lits.now (n / 3) ≡ Some k) is there)
                   | inr past ↦
-                      grows_filed c.args.standing.now.sizes c.args.standing.now.lits.now c.args.partition.now.links
+                      grows_filed c.args.indexed.now.sizes c.args.indexed.now.lits.now c.args.partition.now.links
                       c.loop-next.signs c.file.new.signs f.grows k (i.filed j k past at there)
                 ]
           ];
@@ -55,7 +55,7 @@ loop-next-preserved c =
 
 pub returns-clause-filed : goal.returns-clause-filed
 returns-clause-filed c i l at mentions =
-    let w = mention_at c.args.standing.now.lits.now i l c.args.term at mentions in
-    let there : slice_get c.args.standing.now.uses.now.list w.0 ≡ Some (Some c.args.term) =
+    let w = mention_at c.args.indexed.now.lits.now i l c.args.term at mentions in
+    let there : slice_get c.args.indexed.now.uses.now.list w.0 ≡ Some (Some c.args.term) =
     ap (λ (ts : List (Option Term)). slice_get ts w.0) c.requires.uses ∙ w.2 in
-    c.loop-next.invariant.filed w.0 l (omega arith) there (ap (slice_get c.args.standing.now.lits.now) w.1 ∙ at)
+    c.loop-next.invariant.filed w.0 l (omega arith) there (ap (slice_get c.args.indexed.now.lits.now) w.1 ∙ at)

@@ -6,13 +6,13 @@ use Rattle.gh_cc.proofs.moving.refile_term.Given as goal
 
 abbrev pub invariant-loop-next : goal.invariant-loop-next
 invariant-loop-next l = record {
-  tied : AreTied l.standing.sizes l.standing.lits.now l.partition l.signs;
+  tied : AreTied l.indexed.sizes l.indexed.lits.now l.partition l.signs;
   grows : Grows l.initial.signs l.signs;
-  within : l.next ≤ length l.standing.uses.now.list;
-  here : (n : ℕ) → l.next ≡ suc n → slice_get l.standing.uses.now.list n ≡ Some (Some l.term);
-  filed : (j : ℕ) (k : Lit) → l.next ≤ j → slice_get l.standing.uses.now.list j ≡ Some (Some l.term)
-      → slice_get l.standing.lits.now (j / 3) ≡ Some k
-      → IsFiled l.standing.sizes l.standing.lits.now l.partition.links l.signs.entries k;
+  within : l.next ≤ length l.indexed.uses.now.list;
+  here : (n : ℕ) → l.next ≡ suc n → slice_get l.indexed.uses.now.list n ≡ Some (Some l.term);
+  filed : (j : ℕ) (k : Lit) → l.next ≤ j → slice_get l.indexed.uses.now.list j ≡ Some (Some l.term)
+      → slice_get l.indexed.lits.now (j / 3) ≡ Some k
+      → IsFiled l.indexed.sizes l.indexed.lits.now l.partition.links l.signs.entries k;
 }
 
 abbrev pub decreases-loop-next : goal.decreases-loop-next

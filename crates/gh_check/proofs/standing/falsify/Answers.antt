@@ -1,4 +1,4 @@
-use Rattle.std.proofs.Common.{◌≡◌, ◌∙◌, map, refl, sym, ap, subst, arith, take_all}
+use Rattle.std.proofs.Common.{◌≡◌, ◌↔◌, ◌∙◌, IsTrue, false, map, refl, sym, ap, subst, arith, take_all}
 use Rattle.std.specs.Prelude.{Contains}
 use Rattle.gh_base.specs.Atoms.{opposite}
 use Rattle.gh_sat.proofs.StatusLemmas.{nothing}
@@ -10,7 +10,7 @@ use Rattle.gh_check.proofs.standing.falsify.Goals as goal
 pub returns-then-is_false-clause-clash : goal.returns-then-is_false-clause-clash
 returns-then-is_false-clause-clash c = (
   (λ t. met_at c.args.fixed.now.lits c.args.lits.now c.loop-lit.lit-index nothing _ c.negated-negated.result c.loop-lit.above.lits c.loop-lit-test.true refl c.loop-lit.invariant.set c.negated-negated.ensures
-      (c.if-is_false.ensures.0 refl)),
+      (subst (λ (s : TruthSet). Contains s.lits (opposite c.negated-negated.result)) c.both.ensures (c.if-is_false.ensures.0 refl))),
   λ h. refl,
 )
 
@@ -20,12 +20,13 @@ loop-lit-init c = record { sizes = refl; set = c.requires.none; consistent = sub
 pub loop-lit-preserved : goal.loop-lit-preserved
 loop-lit-preserved c =
     let added = c.in_ok-add.ensures.added in
+    let exact = subst (λ (s : TruthSet). IsTrue false ↔ Contains s.lits (opposite c.negated-negated.result)) c.both.ensures c.if-is_false.ensures in
     record {
       sizes = ap (λ (t : TruthSet). t.sizes) added ∙ c.loop-lit.invariant.sizes;
       set = falsified_more c.args.lits.now c.loop-lit.lit-index nothing _ c.negated-negated.result c.loop-lit.above.lits _ c.loop-lit-test.true refl c.loop-lit.invariant.set c.negated-negated.ensures (ap (λ (t : TruthSet). t.lits) added);
       consistent = c.in_ok-add.ensures.consistent;
       apart = all_more (λ m. Contains c.args.fixed.now.lits m → ⊥) c.args.lits.now c.loop-lit.lit-index nothing c.loop-lit-test.true c.loop-lit.invariant.apart
-          (not_first c.args.fixed.now.lits c.loop-lit.above.lits _ c.negated-negated.result _ c.negated-negated.ensures c.if-is_false.ensures (λ t. absurd (cc)));
+          (not_first c.args.fixed.now.lits c.loop-lit.above.lits _ c.negated-negated.result false c.negated-negated.ensures exact (λ t. absurd (cc)));
     }
 
 pub returns-clause-clash : goal.returns-clause-clash
@@ -41,4 +42,5 @@ returns-clause-set c =
 
 pub add-requires-clause-not_false : goal.add-requires-clause-not_false
 add-requires-clause-not_false c =
-    not_second c.args.fixed.now.lits c.loop-lit.above.lits (opposite c.negated-negated.result) _ c.if-is_false.ensures (λ t. absurd (cc))
+    let exact = subst (λ (s : TruthSet). IsTrue false ↔ Contains s.lits (opposite c.negated-negated.result)) c.both.ensures c.if-is_false.ensures in
+    not_second c.args.fixed.now.lits c.loop-lit.above.lits (opposite c.negated-negated.result) false exact (λ t. absurd (cc))

@@ -1,4 +1,4 @@
-use Rattle.std.proofs.Common.{◌++◌, refl, arith}
+use Rattle.std.proofs.Common.{refl, arith}
 use Rattle.std.specs.Prelude.{Contains}
 use Rattle.gh_base.specs.Atoms.{opposite}
 use Rattle.gh_sat.proofs.StatusLemmas.{nothing}
@@ -7,7 +7,7 @@ use Rattle.gh_check.proofs.standing.none_false.Goals as goal
 
 pub loop-lit-preserved : goal.loop-lit-preserved
 loop-lit-preserved c =
-    all_more (λ m. Contains (c.args.fixed.now.lits ++ c.args.above.now.lits) (opposite m) → ⊥) c.args.lits.now c.loop-lit.lit-index nothing c.loop-lit-test.true c.loop-lit.invariant
+    all_more (λ m. Contains c.args.told.now.lits (opposite m) → ⊥) c.args.lits.now c.loop-lit.lit-index nothing c.loop-lit-test.true c.loop-lit.invariant
     (λ w. let f = c.if-is_false.ensures.1 w in absurd (cc))
 
 pub returns-then-is_false : goal.returns-then-is_false
@@ -17,4 +17,4 @@ returns-then-is_false c = (
 )
 
 pub returns : goal.returns
-returns c = ((λ t. all_done (λ m. Contains (c.args.fixed.now.lits ++ c.args.above.now.lits) (opposite m) → ⊥) c.args.lits.now c.loop-lit.lit-index (omega arith) c.loop-lit.invariant), λ h. refl)
+returns c = ((λ t. all_done (λ m. Contains c.args.told.now.lits (opposite m) → ⊥) c.args.lits.now c.loop-lit.lit-index (omega arith) c.loop-lit.invariant), λ h. refl)

@@ -1,4 +1,4 @@
-use Rattle.std.proofs.Common.{◌∙◌, ◌++◌, None, refl, sym, subst}
+use Rattle.std.proofs.Common.{◌∙◌, None, refl, sym, subst}
 use Rattle.std.specs.Prelude.{slice_index_or}
 use Rattle.gh_base.specs.Atoms.{AreInRange}
 use Rattle.gh_check.proofs.TruthLemmas.{at_within}
@@ -7,17 +7,14 @@ use Rattle.gh_check.proofs.standing.rests_at.Goals as goal
 
 pub returns-then-not-has_clause : goal.returns-then-not-has_clause
 returns-then-not-has_clause c =
-    ((λ t. no_clause_rests (c.args.fixed.now.lits ++ c.args.above.now.lits) (slice_index_or c.args.kept.now.clauses c.args.position None) (sym c.if-not-has_clause.ensures)), λ h. refl)
+    ((λ t. no_clause_rests c.args.told.now.lits (slice_index_or c.args.kept.now.clauses c.args.position None) (sym c.if-not-has_clause.ensures)), λ h. refl)
 
-pub rests-requires-clause-fixed : goal.rests-requires-clause-fixed
-rests-requires-clause-fixed c = subst (AreInRange c.args.fixed.now.sizes) (sym (c.lits.ensures ∙ c.clause-clause.ensures)) (at_within c.args.fixed.now.sizes c.args.kept.now c.args.position c.requires.fixed)
-
-pub rests-requires-clause-above : goal.rests-requires-clause-above
-rests-requires-clause-above c = subst (AreInRange c.args.above.now.sizes) (sym (c.lits.ensures ∙ c.clause-clause.ensures)) (at_within c.args.above.now.sizes c.args.kept.now c.args.position c.requires.above)
+pub rests-requires : goal.rests-requires
+rests-requires c = subst (AreInRange c.args.told.now.sizes) (sym (c.lits.ensures ∙ c.clause-clause.ensures)) (at_within c.args.told.now.sizes c.args.kept.now c.args.position c.requires)
 
 pub returns : goal.returns
 returns c =
-    let set = c.args.fixed.now.lits ++ c.args.above.now.lits in
+    let set = c.args.told.now.lits in
     let o = slice_index_or c.args.kept.now.clauses c.args.position None in
     let there = sym c.if-not-has_clause.ensures in
     let is = c.lits.ensures ∙ c.clause-clause.ensures in

@@ -1,8 +1,9 @@
 use Rattle.std.proofs.Common.{◌≡◌, ◌++◌, map}
+use Rattle.gh_base.specs.Atoms.{terms_below}
 use Rattle.gh_ast.specs.Plain.{formula_of}
 use Rattle.gh_grass.specs.Bindings.{bound_term}
 use Rattle.gh_grass.specs.Claims.{claims_list}
-use Rattle.gh_grass.specs.Footprints.{apart_here, terms_below}
+use Rattle.gh_grass.specs.Footprints.{apart_here}
 use Rattle.gh_grass.proofs.footprint.push_apart.Given as goal
 
 abbrev pub invariant-loop-z : goal.invariant-loop-z

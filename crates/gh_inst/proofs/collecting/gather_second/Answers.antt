@@ -2,9 +2,9 @@ use Rattle.std.proofs.Common.{◌-◌, ◌+◌, ◌∷◌, [], ◌∙◌, arith,
 use Rattle.std.proofs.lemmas.Result.{on_ok_weaker}
 use Rattle.std.proofs.lemmas.Nat.Bits.{shr_and_one}
 use Rattle.gh_base.specs.declared.atom.Term.{Term}
-use Rattle.gh_inst.specs.Schemas.{term}
 use Rattle.gh_inst.specs.Search.{tuples_with}
 use Rattle.std.proofs.lemmas.List.Elements.{All-nil}
+use Rattle.gh_base.specs.Atoms.{term}
 use Rattle.gh_inst.specs.Collecting.{IsTrueAt, place}
 use Rattle.gh_inst.proofs.SearchLemmas.{blocks_of}
 use Rattle.gh_inst.proofs.UpLemmas.{first_up, second_up, still_up}

@@ -1,6 +1,6 @@
 use Rattle.std.proofs.Common.{◌-◌, ◌∷◌, [], take}
 use Rattle.std.specs.List.{flat_map}
-use Rattle.gh_inst.specs.Tuples.{terms_below}
+use Rattle.gh_base.specs.Atoms.{terms_below}
 use Rattle.gh_inst.specs.Search.{tuples_with}
 use Rattle.gh_inst.specs.Collecting.{GathersAt, GoesUp, place}
 use Rattle.gh_inst.proofs.collecting.gather_second.Given as goal

@@ -1,5 +1,5 @@
 use Rattle.std.proofs.Common.{◌≡◌, ◌++◌, ◌-◌, take, replicate}
-use Rattle.gh_inst.specs.Schemas.{term}
+use Rattle.gh_base.specs.Atoms.{term}
 use Rattle.gh_inst.proofs.instances.name_at.Given as goal
 
 abbrev pub invariant-loop-i : goal.invariant-loop-i

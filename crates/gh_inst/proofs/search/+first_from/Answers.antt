@@ -4,18 +4,18 @@ use Rattle.gh_inst.proofs.SearchLemmas.{block_true, block_false}
 use Rattle.gh_inst.proofs.WalkLemmas.{walk_on, walk_found, walk_end}
 use Rattle.gh_inst.proofs.search.+first_from.Goals as goal
 
-pub returns-then-is_settled : goal.returns-then-is_settled
-returns-then-is_settled t c =
+pub returns-then-is_row_always_true : goal.returns-then-is_row_always_true
+returns-then-is_row_always_true t c =
     let a = c.args in
     block_true (interpretation_of a.structure.now) a.version (a.variables - a.first) a.structure.now.sizes.terms
-    a.lits.now (take a.first a.start) (c.is_settled.ensures.settled c.if-is_settled.true)
+    a.lits.now (take a.first a.start) (c.is_row_always_true.ensures.always c.if-is_row_always_true.true)
 
 pub returns-then-first-variables : goal.returns-then-first-variables
 returns-then-first-variables t c =
     let a = c.args in
     block_false (interpretation_of a.structure.now) a.version a.variables a.first a.structure.now.sizes.terms a.lits.now
     a.start c.if-first-variables.true
-    (c.is_settled.ensures.open (λ h. absurd cc) (rw c.if-first-variables.true c.requires.lits))
+    (c.is_row_always_true.ensures.open (λ h. absurd cc) (rw c.if-first-variables.true c.requires.lits))
 
 pub returns-then-is_some : goal.returns-then-is_some
 returns-then-is_some t c =

@@ -1,7 +1,7 @@
 use Rattle.std.proofs.Common.{Some, None, refl, ◌-◌, ◌+◌, ◌<◌, ◌∙◌, arith, sym, set}
 use Rattle.std.proofs.lemmas.Nat.Bits.{shr_and_one}
 use Rattle.gh_base.specs.Structures.{interpretation_of}
-use Rattle.gh_inst.specs.Schemas.{term}
+use Rattle.gh_base.specs.Atoms.{term}
 use Rattle.gh_inst.proofs.SearchLemmas.{block_false}
 use Rattle.gh_inst.proofs.OpenLemmas.{closed_block, skipped_block, set_below}
 use Rattle.gh_inst.proofs.WalkLemmas.{walk_past, walk_on, walk_found, walk_end}

@@ -4,7 +4,8 @@ use Rattle.std.specs.Int.{bit_at}
 use Rattle.gh_base.specs.declared.atom.Term.{Term}
 use Rattle.gh_base.specs.Meaning.{IsLitTrue}
 use Rattle.gh_base.specs.Structures.{interpretation_of}
-use Rattle.gh_inst.specs.Schemas.{term, lit_over}
+use Rattle.gh_base.specs.Atoms.{term}
+use Rattle.gh_inst.specs.Schemas.{lit_over}
 use Rattle.gh_inst.specs.Search.{IsAmong, IsRowTrue}
 use Rattle.gh_inst.proofs.words.open_terms.Given as goal
 

@@ -1,5 +1,5 @@
 use Rattle.std.proofs.Common.{◌≡◌, ◌++◌, drop}
-use Rattle.gh_lens.specs.Lines.{numbers_text}
+use Rattle.gh_log.specs.Texts.{numbers_text}
 use Rattle.gh_lens.proofs.lines.push_numbers.Given as goal
 
 abbrev pub invariant-loop-number : goal.invariant-loop-number

@@ -5,7 +5,7 @@ use Rattle.gh_assert.specs.Meaning.{HasPart}
 use Rattle.gh_assert.specs.Footprints.{IsFootprint}
 use Rattle.gh_assert.specs.Stores.{store_of}
 use Rattle.gh_trace.specs.Left.{left}
-use Rattle.gh_lens.proofs.Parting.{taking_goes, taking_stops}
+use Rattle.gh_lens.proofs.Parting.{taking_goes, taking_blocked}
 use Rattle.gh_lens.proofs.taking.taken.Goals as goal
 
 pub returns-in_default : goal.returns-in_default
@@ -13,7 +13,7 @@ returns-in_default c =
     let f = formula_of c.conjunct-item.result in
     let s = store_of c.args.store.now in
     let none : HasPart f s c.loop-conjunct.rest → ⊥ = subst (λ o. IfNone o (HasPart f s c.loop-conjunct.rest → ⊥)) c.in_default.is c.in_ok-places.ensures.none in
-    taking_stops c.args.conjuncts.now s c.args.heap.now c.loop-conjunct.rest c.loop-conjunct.conjunct-index c.conjunct-item.result c.loop-conjunct-test.true c.conjunct-item.is none c.loop-conjunct.invariant
+    taking_blocked c.args.conjuncts.now s c.args.heap.now c.loop-conjunct.rest c.loop-conjunct.conjunct-index c.conjunct-item.result c.loop-conjunct-test.true c.conjunct-item.is none c.loop-conjunct.invariant
 
 pub loop-conjunct-preserved : goal.loop-conjunct-preserved
 loop-conjunct-preserved c =

@@ -1,11 +1,11 @@
 use Rattle.std.proofs.Common.{◌≡◌, ◌∙◌, ◌++◌, ◌≤◌, [], Some, List, length, map, drop, refl, sym, ap, subst, append-nil, arith}
-use Rattle.std.specs.Prelude.{slice_get}
+use Rattle.std.specs.Prelude.{slice_get, ℕ, ◌<◌, get_or}
 use Rattle.std.proofs.Math.ListN.{drop_of_length-le}
 use Rattle.std.proofs.lemmas.List.{length-map}
 use Rattle.std.proofs.lemmas.List.Elements.{All-contains}
 use Rattle.std.proofs.lemmas.Option.{slice_get_within, get_or_from_slice_get}
 use Rattle.gh_ast.specs.declared.Procedure as whole
-use Rattle.gh_ast.specs.Plain.{Procedure, program_of, procedure_of}
+use Rattle.gh_ast.specs.Plain.{Procedure, program_of, procedure_of, Program}
 use Rattle.gh_ast.specs.WellFormed.{IsFormedProcedure}
 use Rattle.gh_path.specs.Conditions.{condition, from_procedures, courses_of, conditions}
 use Rattle.gh_path.specs.Roots.{AreStarts}
@@ -25,6 +25,11 @@ overflow_cast-index c =
     let long : length P.procedures ≡ length qs = ap (λ (rs : List whole.Procedure). length (map procedure_of rs)) (sym c.as_slice-procedure-items.ensures.value) ∙ length-map qs procedure_of in
     omega (arith, long, c.loop-index-test.true, c.requires.procedures)
 
+-- the procedure of a turn stands at its place in the program
+stands : (P : Program) (qs : List whole.Procedure) (i : ℕ) (x : whole.Procedure) → map procedure_of qs ≡ P.procedures → i < length qs → x ≡ get_or qs i x
+    → slice_get P.procedures i ≡ Some (procedure_of x)
+stands P qs i x same within is = subst (λ (ps : List Procedure). slice_get ps i ≡ Some (procedure_of x)) same (procedure_there qs i x within is)
+
 pub add_procedure-requires-clause-few : goal.add_procedure-requires-clause-few
 add_procedure-requires-clause-few c =
     let P = program_of c.args.program.now in
@@ -32,8 +37,7 @@ add_procedure-requires-clause-few c =
     let i = c.loop-index.index in
     let x = c.procedure-item.result in
     let same : map procedure_of qs ≡ P.procedures = ap (map procedure_of) c.as_slice-procedure-items.ensures.value in
-    let there : slice_get P.procedures i ≡ Some (procedure_of x) =
-    subst (λ (ps : List Procedure). slice_get ps i ≡ Some (procedure_of x)) same (procedure_there qs i x c.loop-index-test.true c.procedure-item.is) in
+    let there = stands P qs i x same c.loop-index-test.true c.procedure-item.is in
     few_there P i (procedure_of x) c.requires.paths there
 
 pub add_procedure-requires-clause-callees : goal.add_procedure-requires-clause-callees
@@ -43,8 +47,7 @@ add_procedure-requires-clause-callees c =
     let i = c.loop-index.index in
     let x = c.procedure-item.result in
     let same : map procedure_of qs ≡ P.procedures = ap (map procedure_of) c.as_slice-procedure-items.ensures.value in
-    let there : slice_get P.procedures i ≡ Some (procedure_of x) =
-    subst (λ (ps : List Procedure). slice_get ps i ≡ Some (procedure_of x)) same (procedure_there qs i x c.loop-index-test.true c.procedure-item.is) in
+    let there = stands P qs i x same c.loop-index-test.true c.procedure-item.is in
     body_calls P c.requires.typed (procedure_of x) (member P.procedures i (procedure_of x) there)
 
 pub add_procedure-requires-clause-formed : goal.add_procedure-requires-clause-formed
@@ -54,8 +57,7 @@ add_procedure-requires-clause-formed c =
     let i = c.loop-index.index in
     let x = c.procedure-item.result in
     let same : map procedure_of qs ≡ P.procedures = ap (map procedure_of) c.as_slice-procedure-items.ensures.value in
-    let there : slice_get P.procedures i ≡ Some (procedure_of x) =
-    subst (λ (ps : List Procedure). slice_get ps i ≡ Some (procedure_of x)) same (procedure_there qs i x c.loop-index-test.true c.procedure-item.is) in
+    let there = stands P qs i x same c.loop-index-test.true c.procedure-item.is in
     let formed : IsFormedProcedure (procedure_of x) = All-contains IsFormedProcedure P.procedures (procedure_of x) c.requires.formed (member P.procedures i (procedure_of x) there) in
     formed.body
 

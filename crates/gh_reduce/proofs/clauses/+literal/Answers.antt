@@ -1,7 +1,7 @@
 use Rattle.std.proofs.Common.{◌≡◌, ◌+◌, List, arith, sym, ◌∙◌, ap, subst, drop}
 use Rattle.gh_base.specs.declared.atom.Lit.{Lit}
 use Rattle.gh_grass.specs.declared.formula.Formula.{Formula}
-use Rattle.gh_grass.specs.Claims.{Claim, claim_of, claims_view, negation_of, conjunction_of, disjunction_of, equivalence_of}
+use Rattle.gh_grass.specs.Claims.{GroundClaim, claim_of, claims_view, negation_of, conjunction_of, disjunction_of, equivalence_of}
 use Rattle.gh_grass.specs.Clauses.{all_made}
 use Rattle.gh_grass.proofs.ClaimLemmas.{claim_of-And}
 use Rattle.gh_reduce.specs.Growth.{all_defined_in, IsWithin}
@@ -16,7 +16,7 @@ literal-literal-requires t c =
     let form : claim_of c.args.formula.now ≡ negation_of (claim_of a) =
     ap claim_of c.in-Not.is ∙ claim_of-Not c.in-Not.inner ∙ ap (λ (x : Formula). negation_of (claim_of x)) (sym c.deref.ensures) in
     let less = ap size form in
-    (omega (arith, less), subst (λ (f : Claim). IsWithin p.sizes f) form c.requires)
+    (omega (arith, less), subst (λ (f : GroundClaim). IsWithin p.sizes f) form c.requires)
 
 pub literal-literals-requires : goal.literal-literals-requires
 literal-literals-requires t c =
@@ -25,7 +25,7 @@ literal-literals-requires t c =
     let form : claim_of c.args.formula.now ≡ conjunction_of fs =
     ap claim_of c.in-And.is ∙ claim_of-And c.in-And.members ∙ ap (λ (xs : List Formula). conjunction_of (claims_view xs)) (sym c.as_slice.ensures.value) in
     let less = ap size form in
-    (omega (arith, less), subst (λ (f : Claim). IsWithin p.sizes f) form c.requires)
+    (omega (arith, less), subst (λ (f : GroundClaim). IsWithin p.sizes f) form c.requires)
 
 pub literal-literals-requires-in-Or : goal.literal-literals-requires-in-Or
 literal-literals-requires-in-Or t c =
@@ -34,7 +34,7 @@ literal-literals-requires-in-Or t c =
     let form : claim_of c.args.formula.now ≡ disjunction_of fs =
     ap claim_of c.in-Or.is ∙ claim_of-Or c.in-Or.members ∙ ap (λ (xs : List Formula). disjunction_of (claims_view xs)) (sym c.as_slice-in-Or.ensures.value) in
     let less = ap size form in
-    (omega (arith, less), subst (λ (f : Claim). IsWithin p.sizes f) form c.requires)
+    (omega (arith, less), subst (λ (f : GroundClaim). IsWithin p.sizes f) form c.requires)
 
 pub literal-literal-requires-in-Iff : goal.literal-literal-requires-in-Iff
 literal-literal-requires-in-Iff t c =
@@ -44,7 +44,7 @@ literal-literal-requires-in-Iff t c =
     ap claim_of c.in-Iff.is ∙ claim_of-Iff c.in-Iff.left c.in-Iff.right
     ∙ ap (λ (x : Formula). equivalence_of (claim_of x) (claim_of c.in-Iff.right.value)) (sym c.deref-in-Iff.ensures) in
     let less = ap size form in
-    (omega (arith, less), (subst (λ (f : Claim). IsWithin p.sizes f) form c.requires).0)
+    (omega (arith, less), (subst (λ (f : GroundClaim). IsWithin p.sizes f) form c.requires).0)
 
 pub literals-literal-requires : goal.literals-literal-requires
 literals-literal-requires t c =
@@ -63,7 +63,7 @@ literal-conjunction-requires t c =
     let fs = claims_view c.as_slice.result.now in
     let form : claim_of c.args.formula.now ≡ conjunction_of fs =
     ap claim_of c.in-And.is ∙ claim_of-And c.in-And.members ∙ ap (λ (xs : List Formula). conjunction_of (claims_view xs)) (sym c.as_slice.ensures.value) in
-    literals_in_range p c.literals.new.ground fs c.as_slice-in-And.result.now (subst (λ (f : Claim). IsWithin p.sizes f) form c.requires)
+    literals_in_range p c.literals.new.ground fs c.as_slice-in-And.result.now (subst (λ (f : GroundClaim). IsWithin p.sizes f) form c.requires)
     (c.as_slice-in-And.ensures.value ∙ c.in_ok-lits-in-And.ensures.literals) c.in_ok-lits-in-And.ensures.state
 
 pub literal-disjunction-requires : goal.literal-disjunction-requires
@@ -72,7 +72,7 @@ literal-disjunction-requires t c =
     let fs = claims_view c.as_slice-in-Or.result.now in
     let form : claim_of c.args.formula.now ≡ disjunction_of fs =
     ap claim_of c.in-Or.is ∙ claim_of-Or c.in-Or.members ∙ ap (λ (xs : List Formula). disjunction_of (claims_view xs)) (sym c.as_slice-in-Or.ensures.value) in
-    literals_in_range p c.literals-in-Or.new.ground fs c.as_slice-in-Or-2.result.now (subst (λ (f : Claim). IsWithin p.sizes f) form c.requires)
+    literals_in_range p c.literals-in-Or.new.ground fs c.as_slice-in-Or-2.result.now (subst (λ (f : GroundClaim). IsWithin p.sizes f) form c.requires)
     (c.as_slice-in-Or-2.ensures.value ∙ c.in_ok-lits-in-Or.ensures.literals) c.in_ok-lits-in-Or.ensures.state
 
 pub literal-literal-requires-in-Iff-2 : goal.literal-literal-requires-in-Iff-2
@@ -84,7 +84,7 @@ literal-literal-requires-in-Iff-2 t c =
     ap claim_of c.in-Iff.is ∙ claim_of-Iff c.in-Iff.left c.in-Iff.right
     ∙ ap (λ (x : Formula). equivalence_of (claim_of x) (claim_of c.in-Iff.right.value)) (sym c.deref-in-Iff.ensures)
     ∙ ap (λ (x : Formula). equivalence_of (claim_of a) (claim_of x)) (sym c.deref-in-Iff-2.ensures) in
-    let both = subst (λ (f : Claim). IsWithin p.sizes f) form c.requires in
+    let both = subst (λ (f : GroundClaim). IsWithin p.sizes f) form c.requires in
     let less = ap size form in
     (omega (arith, less), other_within p c.literal-in-Iff.new.ground (claim_of a) (claim_of b) both.1 c.in_ok-left-in-Iff.ensures.state)
 
@@ -97,7 +97,7 @@ literal-equivalence-requires-clause-left t c =
     ap claim_of c.in-Iff.is ∙ claim_of-Iff c.in-Iff.left c.in-Iff.right
     ∙ ap (λ (x : Formula). equivalence_of (claim_of x) (claim_of c.in-Iff.right.value)) (sym c.deref-in-Iff.ensures)
     ∙ ap (λ (x : Formula). equivalence_of (claim_of a) (claim_of x)) (sym c.deref-in-Iff-2.ensures) in
-    let both = subst (λ (f : Claim). IsWithin p.sizes f) form c.requires in
+    let both = subst (λ (f : GroundClaim). IsWithin p.sizes f) form c.requires in
     literal_stays p c.literal-in-Iff.new.ground c.literal-in-Iff-2.new.ground (claim_of a) (claim_of b) c.in_ok-left-in-Iff.left both.0
     c.in_ok-left-in-Iff.ensures.literal c.in_ok-left-in-Iff.ensures.state c.in_ok-right-in-Iff.ensures.state
 
@@ -110,7 +110,7 @@ literal-equivalence-requires-clause-right t c =
     ap claim_of c.in-Iff.is ∙ claim_of-Iff c.in-Iff.left c.in-Iff.right
     ∙ ap (λ (x : Formula). equivalence_of (claim_of x) (claim_of c.in-Iff.right.value)) (sym c.deref-in-Iff.ensures)
     ∙ ap (λ (x : Formula). equivalence_of (claim_of a) (claim_of x)) (sym c.deref-in-Iff-2.ensures) in
-    let both = subst (λ (f : Claim). IsWithin p.sizes f) form c.requires in
+    let both = subst (λ (f : GroundClaim). IsWithin p.sizes f) form c.requires in
     literal_in_range c.literal-in-Iff.new.ground c.literal-in-Iff-2.new.ground (claim_of b) c.in_ok-right-in-Iff.right
     (other_within p c.literal-in-Iff.new.ground (claim_of a) (claim_of b) both.1 c.in_ok-left-in-Iff.ensures.state)
     c.in_ok-right-in-Iff.ensures.literal c.in_ok-right-in-Iff.ensures.state

@@ -3,7 +3,7 @@ use Rattle.gh_base.specs.Grounds.{Problem}
 use Rattle.gh_grass.specs.Claims.{claim_of}
 use Rattle.gh_symb.specs.Formulas.{versions_claims, meets_whole, steps_claims, check_claims}
 use Rattle.gh_symb.specs.Encodings.{plain_kind}
-use Rattle.gh_symb.specs.declared.over_terms.Bound.{Bound}
+use Rattle.gh_symb.specs.declared.over_terms.BoundAssertion.{BoundAssertion}
 use Rattle.gh_symb.specs.declared.over_terms.TermStep.{TermStep}
 use Rattle.gh_symb.specs.declared.over_terms.TermCheck.{TermCheck}
 use Rattle.gh_reduce.specs.Growth.{stated_in}
@@ -29,7 +29,7 @@ add_formula-requires c =
     let here = inside_stays s ks _ a c.in_ok-add_versions.ensures at_p in
     let some = here.ready.some in
     let u = under_of c.start.result.now in
-    let h = subst (λ (b : Bound). IsUnderInside a.sizes.terms a.sizes.versions (under_of b)) (sym c.start.ensures) here.start in
+    let h = subst (λ (b : BoundAssertion). IsUnderInside a.sizes.terms a.sizes.versions (under_of b)) (sym c.start.ensures) here.start in
     claim_within a.sizes (meets_whole ks u) (claim_of c.in_ok-start.start) c.in_ok-start.ensures (whole_within a.sizes ks u here.ready.terms (omega (arith, some)) h)
 
 pub add_steps-requires : goal.add_steps-requires
@@ -84,5 +84,5 @@ returns c =
     let listed : ks ≡ s.terms = ap (map plain_kind) c.terms-terms.ensures in
     let at_p = c.requires.versions in
     let at_d : d.sizes.versions ≡ s.versions = same_versions p d ((vs ++ whole ∷ []) ++ steps_claims ks 0 ss) to_d ∙ at_p in
-    let is = claims_are s ks p.sizes.versions d.sizes.versions u ss k listed at_p at_d (ap (λ (x : Bound). under_of x) c.start.ensures) (ap (λ (x : List TermStep). map step_of x) c.steps.ensures) (ap (λ (x : TermCheck). check_of x) c.check.ensures) in
+    let is = claims_are s ks p.sizes.versions d.sizes.versions u ss k listed at_p at_d (ap (λ (x : BoundAssertion). under_of x) c.start.ensures) (ap (λ (x : List TermStep). map step_of x) c.steps.ensures) (ap (λ (x : TermCheck). check_of x) c.check.ensures) in
     to_e ∙ ap (stated_in p) is

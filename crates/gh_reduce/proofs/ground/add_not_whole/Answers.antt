@@ -3,7 +3,7 @@ use Rattle.std.proofs.lemmas.List.Elements.{All-head}
 use Rattle.gh_grass.specs.Claims.{claim_of, one_of}
 use Rattle.gh_symb.specs.Formulas.{meets_whole}
 use Rattle.gh_symb.specs.Encodings.{plain_kind}
-use Rattle.gh_symb.specs.declared.over_terms.Bound.{Bound}
+use Rattle.gh_symb.specs.declared.over_terms.BoundAssertion.{BoundAssertion}
 use Rattle.gh_symb.specs.Inside.{under_of, AllAreInside, IsUnderInside}
 use Rattle.gh_reduce.proofs.InsideLemmas.{whole_within}
 use Rattle.gh_reduce.proofs.PartLemmas.{is_one, one_within}
@@ -18,7 +18,7 @@ add_failing-requires c =
     let only = c.only-item.result in
     let some = c.requires.ready.some in
     let is : bs ≡ only ∷ [] = is_one bs only (omega (arith, c.in-len1.len_at_least, c.in-len1.len_below)) c.only-item.is in
-    let all = subst (λ (xs : List Bound). AllAreInside s.terms s.versions (map under_of xs)) is c.requires.inside in
+    let all = subst (λ (xs : List BoundAssertion). AllAreInside s.terms s.versions (map under_of xs)) is c.requires.inside in
     claim_within s (meets_whole ks (under_of only)) (claim_of c.in_ok-meets_whole-in-len1.field-0) c.in_ok-meets_whole-in-len1.ensures
     (whole_within s ks (under_of only) c.requires.ready.terms (omega (arith, some)) (All-head (IsUnderInside s.terms s.versions) (under_of only) [] all))
 

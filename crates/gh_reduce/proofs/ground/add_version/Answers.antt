@@ -1,6 +1,6 @@
 use Rattle.std.proofs.Common.{◌≡◌, ℕ, [], ◌∷◌, ◌++◌, length, map, sym, ◌∙◌, ap, arith}
 use Rattle.std.proofs.lemmas.List.{length-map}
-use Rattle.gh_grass.specs.Bindings.{term}
+use Rattle.gh_base.specs.Atoms.{term}
 use Rattle.gh_grass.specs.Claims.{claim_of, negation_of}
 use Rattle.gh_symb.specs.Formulas.{allocated, each, leads, successors_from}
 use Rattle.gh_symb.specs.Encodings.{plain_kind}

@@ -1,8 +1,7 @@
 use Rattle.std.proofs.Common.{ℕ, ap, arith}
 use Rattle.std.specs.List.{flat_map}
+use Rattle.gh_base.specs.Atoms.{term, terms_below}
 use Rattle.gh_reduce.proofs.RowLemmas.{pair_stays}
-use Rattle.gh_grass.specs.Bindings.{term}
-use Rattle.gh_grass.specs.Footprints.{terms_below}
 use Rattle.gh_symb.specs.Formulas.{each}
 use Rattle.gh_reduce.specs.Rows.{of_pair}
 use Rattle.gh_reduce.proofs.GrowthLemmas.{flat_more, same_terms}

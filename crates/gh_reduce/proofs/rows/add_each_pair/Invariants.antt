@@ -1,6 +1,6 @@
 use Rattle.std.proofs.Common.{◌≡◌}
 use Rattle.std.specs.List.{flat_map}
-use Rattle.gh_grass.specs.Footprints.{terms_below}
+use Rattle.gh_base.specs.Atoms.{terms_below}
 use Rattle.gh_symb.specs.Formulas.{each}
 use Rattle.gh_reduce.specs.Growth.{stated_in}
 use Rattle.gh_reduce.specs.Rows.{of_pair}

@@ -1,6 +1,6 @@
 use Rattle.std.proofs.Common.{◌<◌, sym, subst, arith}
-use Rattle.gh_grass.specs.Bindings.{term}
-use Rattle.gh_grass.specs.Claims.{Claim, claim_of}
+use Rattle.gh_base.specs.Atoms.{term}
+use Rattle.gh_grass.specs.Claims.{GroundClaim, claim_of}
 use Rattle.gh_symb.specs.Formulas.{each}
 use Rattle.gh_reduce.specs.Growth.{IsWithin}
 use Rattle.gh_reduce.specs.Rows.{of_term}
@@ -15,7 +15,7 @@ add_formula-requires c =
     let inside = term_stays c.args.ground.now c.loop-z.ground (each c.loop-z.z (of_term e)) e c.loop-z.invariant c.requires in
     let same = same_terms c.args.ground.now c.loop-z.ground (each c.loop-z.z (of_term e)) c.loop-z.invariant in
     let below : c.loop-z.z < s.terms = omega (arith, same, c.terms-z-end.ensures) in
-    subst (λ (f : Claim). IsWithin s f) (sym c.in_ok-formula.ensures) (term_within s e inside (term c.loop-z.z) below)
+    subst (λ (f : GroundClaim). IsWithin s f) (sym c.in_ok-formula.ensures) (term_within s e inside (term c.loop-z.z) below)
 
 pub loop-z-preserved : goal.loop-z-preserved
 loop-z-preserved c =

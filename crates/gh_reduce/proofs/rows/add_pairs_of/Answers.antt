@@ -1,6 +1,6 @@
 use Rattle.std.proofs.Common.{◌<◌, sym, subst, arith}
-use Rattle.gh_grass.specs.Bindings.{term}
-use Rattle.gh_grass.specs.Claims.{Claim, claim_of}
+use Rattle.gh_base.specs.Atoms.{term}
+use Rattle.gh_grass.specs.Claims.{GroundClaim, claim_of}
 use Rattle.gh_symb.specs.Formulas.{each}
 use Rattle.gh_reduce.specs.Growth.{IsWithin}
 use Rattle.gh_reduce.specs.Rows.{of_pair}
@@ -16,7 +16,7 @@ add_formula-requires c =
     let same = same_terms c.args.ground.now c.loop-v.ground (each c.loop-v.v (of_pair e c.args.z)) c.loop-v.invariant in
     let first : c.args.z.0 < s.terms = omega (arith, same, c.requires.term) in
     let second : c.loop-v.v < s.terms = omega (arith, same, c.terms-v-end.ensures) in
-    subst (λ (f : Claim). IsWithin s f) (sym c.in_ok-formula.ensures) (pair_within s e inside c.args.z (term c.loop-v.v) first second)
+    subst (λ (f : GroundClaim). IsWithin s f) (sym c.in_ok-formula.ensures) (pair_within s e inside c.args.z (term c.loop-v.v) first second)
 
 pub loop-v-preserved : goal.loop-v-preserved
 loop-v-preserved c =

@@ -1,7 +1,7 @@
 use Rattle.std.proofs.Common.{◌++◌, ◌∙◌, ap}
 use Rattle.std.specs.Prelude.{codes}
 use Rattle.std.specs.FinMap.{keys}
-use Rattle.gh_lens.specs.Lines.{numbers_text}
+use Rattle.gh_log.specs.Texts.{numbers_text}
 use Rattle.gh_lens.proofs.Assembling.{three}
 use Rattle.gh_scene.specs.Rows.{exchange_note}
 use Rattle.gh_scene.proofs.notes.exchange_note.Goals as goal

@@ -101,7 +101,7 @@ loop-place-preserved c =
       few = one_more P (HasTerms P) k d p here is.1 c.loop-place.invariant.few few;
       late = rw c.earlier-late.ensures (met_more P k d p c.loop-place.late passed here is.1 passes few c.loop-place.invariant.late);
       counts = λ none. counts_more P k d p c.loop-place.late passed c.loop-place.counts.items c.add.new.counts.items
-          c.count.result here is.1 passes (λ keeps. c.count.ensures P p d counted keeps) c.in_ok-add.ensures
+          c.count.result here is.1 passes (λ keeps. c.count.ensures.kept P p d counted keeps) c.in_ok-add.ensures
           c.loop-place.invariant.counts (sym c.earlier-late.ensures ∙ none);
     }
 

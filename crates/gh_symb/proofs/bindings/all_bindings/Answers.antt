@@ -1,7 +1,7 @@
 use Rattle.std.proofs.Common.{◌≡◌, ◌∙◌, ◌+◌, ◌++◌, ◌∷◌, [], sym, ap, subst, map, take}
 use Rattle.std.proofs.lemmas.List.{take_more, map-append}
 use Rattle.gh_symb.specs.Phases.{both}
-use Rattle.gh_symb.specs.Tables.{Bound, bound_by}
+use Rattle.gh_symb.specs.Tables.{Pairs, bound_by}
 use Rattle.gh_symb.specs.Encodings.{Each}
 use Rattle.gh_symb.specs.Fitting.{EncodesBinding}
 use Rattle.gh_symb.proofs.BindingLemmas.{either_encoded}
@@ -10,7 +10,7 @@ use Rattle.gh_symb.proofs.bindings.all_bindings.Goals as goal
 
 pub loop-state-preserved : goal.loop-state-preserved
 loop-state-preserved c =
-    let f = λ (es : Bound). both (bound_by es) (bound_by c.args.firsts.now) in
+    let f = λ (es : Pairs). both (bound_by es) (bound_by c.args.firsts.now) in
     let ss = c.args.states.now in
     let i = c.loop-state.state-index in
     let item = c.state-item.result in

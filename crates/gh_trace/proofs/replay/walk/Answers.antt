@@ -5,7 +5,7 @@ use Rattle.gh_path.specs.Kept.{step_of, check_of}
 use Rattle.gh_trace.specs.Kept.{state_of, drawn}
 use Rattle.gh_trace.specs.Replay.{FailsAfter}
 use Rattle.gh_trace.specs.Rest.{IsFailureAfter}
-use Rattle.gh_trace.proofs.Following.{Follows, follows_first, kept_more, kept_misses, kept_missing, more_fails, check_fails, check_refutes, past, some_state, no_state}
+use Rattle.gh_trace.proofs.Following.{CarriesBack, follows_first, kept_more, kept_misses, kept_missing, more_fails, check_fails, check_refutes, past, some_state, no_state}
 use Rattle.gh_trace.proofs.replay.walk.Goals as goal
 
 pub loop-i-init : goal.loop-i-init
@@ -69,7 +69,7 @@ returns-then-others-count-clause-failed c =
     let more : i < length others = omega (arith, end.count, c.if-others-count.true) in
     let y = element_at others i more in
     let fails = more_fails P p (map step_of rs) x (map drawn others) (state_of c.loop-i.before.now) (drawn y.0) (map drawn (drop (i + 1) others)) i
-    (subst (λ z. Follows P p (map step_of rs) x (map drawn others) [] (state_of c.loop-i.before.now) z i) (some_state others i y.0 more (sym y.1)) end.follows) k in
+    (subst (λ z. CarriesBack P p (map step_of rs) x (map drawn others) [] (state_of c.loop-i.before.now) z i) (some_state others i y.0 more (sym y.1)) end.follows) k in
     subst (IsFailureAfter P p c.args.condition.now x (map drawn others)) (sym c.failure-then-others-count.ensures) (subst (λ n. FailsAfter P p x (map step_of rs) k (map drawn others) (n + 1)) end.count fails)
 
 pub returns-then-branch-clause-failed : goal.returns-then-branch-clause-failed
@@ -83,7 +83,7 @@ returns-then-branch-clause-failed c =
     let k = check_of c.args.condition.now.check in
     let end = past P p rs x others (state_of c.loop-i.before.now) i c.len-count.result _ _ c.deref-step-items.ensures.value c.deref-step-items.ensures.len c.loop-i-test.false c.loop-i.auto.i-end c.len-count.ensures c.loop-i.invariant.follows in
     let last : length others ≤ i = omega (arith, end.count, c.if-others-count.false) in
-    let at_last = subst (λ z. Follows P p (map step_of rs) x (map drawn others) [] (state_of c.loop-i.before.now) z i) (no_state others i last) end.follows in
+    let at_last = subst (λ z. CarriesBack P p (map step_of rs) x (map drawn others) [] (state_of c.loop-i.before.now) z i) (no_state others i last) end.follows in
     subst (IsFailureAfter P p c.args.condition.now x (map drawn others)) (sym c.failure-then-branch.ensures)
     (subst (λ n. FailsAfter P p x (map step_of rs) k (map drawn others) (n + 1)) end.count
     (check_fails P p (map step_of rs) x (map drawn others) (state_of c.loop-i.before.now) i at_last k ((c.in_ok-passes.ensures c.args.condition.now.check.span).0 c.if-branch.true)))
@@ -98,6 +98,6 @@ returns-clause-refuted c =
     let i = c.loop-i.i in
     let end = past P p rs x others (state_of c.loop-i.before.now) i c.len-count.result _ _ c.deref-step-items.ensures.value c.deref-step-items.ensures.len c.loop-i-test.false c.loop-i.auto.i-end c.len-count.ensures c.loop-i.invariant.follows in
     let last : length others ≤ i = omega (arith, end.count, c.if-others-count.false) in
-    let at_last = subst (λ z. Follows P p (map step_of rs) x (map drawn others) [] (state_of c.loop-i.before.now) z i) (no_state others i last) end.follows in
+    let at_last = subst (λ z. CarriesBack P p (map step_of rs) x (map drawn others) [] (state_of c.loop-i.before.now) z i) (no_state others i last) end.follows in
     check_refutes P p (map step_of rs) x (map drawn others) (state_of c.loop-i.before.now) i at_last (check_of c.args.condition.now.check)
     (λ passes. (let t = (c.in_ok-passes.ensures c.args.condition.now.check.span).1 passes in absurd cc))

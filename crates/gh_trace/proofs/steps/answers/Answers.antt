@@ -1,18 +1,18 @@
-use Rattle.std.proofs.Common.{◌≡◌, ◌∙◌, sym, subst, ap, None, Some, map}
-use Rattle.std.specs.Prelude.{IfNone, IfSome, Any}
+use Rattle.std.proofs.Common.{◌≡◌, ◌∙◌, sym, subst, ap, Some, map}
+use Rattle.std.specs.Prelude.{IfNone, IfSome}
 use Rattle.gh_ast.specs.Plain.{procedure_of}
 use Rattle.gh_ast.specs.Programs.{names, results_of}
 use Rattle.gh_ast.proofs.Lists.{same_values}
 use Rattle.gh_assert.specs.Stores.{store_of}
-use Rattle.gh_assert.specs.Values.{result, Give, Gets}
-use Rattle.gh_trace.proofs.StepLemmas.{not_given}
+use Rattle.gh_assert.specs.Values.{result, Give, Gets, HasUnread}
+use Rattle.gh_assert.proofs.Given.{not_given}
 use Rattle.gh_trace.proofs.steps.answers.Goals as goal
 
 pub returns-in_default : goal.returns-in_default
 returns-in_default c =
     let s = store_of c.args.before.now.store in
     let h = c.args.before.now.heap in
-    let none : Any (λ e. result s h e ≡ None) c.args.exprs.now = subst (λ o. IfNone o (Any (λ e. result s h e ≡ None) c.args.exprs.now)) c.in_default.is c.in_ok-given.ensures.unread in
+    let none : HasUnread s h c.args.exprs.now = subst (λ o. IfNone o (HasUnread s h c.args.exprs.now)) c.in_default.is c.in_ok-given.ensures.unread in
     (λ f. absurd cc, λ takes. absurd (not_given s h c.args.exprs.now takes.0 none takes.1))
 
 pub returns-then-not-branch : goal.returns-then-not-branch

@@ -1,12 +1,12 @@
-use Rattle.std.proofs.Common.{◌≡◌, ◌∙◌, sym, ap, subst, None, length}
-use Rattle.std.specs.Prelude.{IfNone, IfSome, Any, slice_get}
+use Rattle.std.proofs.Common.{◌∙◌, sym, ap, subst, length}
+use Rattle.std.specs.Prelude.{IfNone, IfSome, slice_get}
 use Rattle.std.proofs.lemmas.Result.{IfOk-weaker}
 use Rattle.gh_ast.specs.Plain.{procedure_of, program_of}
 use Rattle.gh_ast.proofs.Lists.{not_both}
 use Rattle.gh_assert.specs.Stores.{store_of}
-use Rattle.gh_assert.specs.Values.{result, Give}
+use Rattle.gh_assert.specs.Values.{result, Give, HasUnread}
 use Rattle.gh_trace.specs.Kept.{state_of}
-use Rattle.gh_trace.proofs.StepLemmas.{not_given}
+use Rattle.gh_assert.proofs.Given.{not_given}
 use Rattle.gh_trace.proofs.CallLemmas.{IsCall, count_called, count_targets, calls_where}
 use Rattle.gh_trace.proofs.steps.calls.Goals as goal
 
@@ -20,7 +20,7 @@ pub returns-in_default-2 : goal.returns-in_default-2
 returns-in_default-2 c =
     let s = store_of c.args.before.now.store in
     let h = c.args.before.now.heap in
-    let none : Any (λ e. result s h e ≡ None) c.args.call.arguments.now = subst (λ o. IfNone o (Any (λ e. result s h e ≡ None) c.args.call.arguments.now)) c.in_default-2.is c.in_ok-given.ensures.unread in
+    let none : HasUnread s h c.args.call.arguments.now = subst (λ o. IfNone o (HasUnread s h c.args.call.arguments.now)) c.in_default-2.is c.in_ok-given.ensures.unread in
     (λ t. absurd cc, λ takes. absurd (not_given s h c.args.call.arguments.now takes.1 none takes.3))
 
 pub returns-then-as_slice : goal.returns-then-as_slice

@@ -4,7 +4,7 @@ use Rattle.gh_ast.specs.Plain.{procedure_of}
 use Rattle.gh_assert.specs.Values.{Give, HasUnread}
 use Rattle.gh_trace.specs.Kept.{state_of}
 use Rattle.gh_trace.proofs.CallLemmas.{count_entered}
-use Rattle.gh_trace.proofs.StepLemmas.{not_given}
+use Rattle.gh_assert.proofs.Given.{not_given}
 use Rattle.gh_trace.proofs.stores.entered.Goals as goal
 
 pub returns-in_default : goal.returns-in_default

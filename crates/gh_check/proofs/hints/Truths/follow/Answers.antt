@@ -4,13 +4,13 @@ use Rattle.gh_base.specs.declared.atom.Lit.{Lit}
 use Rattle.gh_base.specs.Atoms.{IsInRange}
 use Rattle.gh_check.specs.Kept.{clause_at}
 use Rattle.gh_check.specs.Truths.{TruthSet}
-use Rattle.gh_check.proofs.TruthLemmas.{Follows, follows_false, follows_unit, follows_open, follows_end, at_within}
+use Rattle.gh_check.proofs.TruthLemmas.{WalksTo, walks_false, walks_unit, walks_open, walks_end, at_within}
 use Rattle.gh_check.proofs.hints.Truths.follow.Goals as goal
 
 pub returns-in-False-clause-exact : goal.returns-in-False-clause-exact
 returns-in-False-clause-exact c =
     let all = c.in-False.ensures in
-    ((λ t. follows_false c.args.kept.now c.args.hints.now c.args.self.now.lits c.loop-hint.hint-index 0 _ c.loop-hint.self.lits c.loop-hint-test.true refl c.loop-hint.invariant.follows all), λ h. refl)
+    ((λ t. walks_false c.args.kept.now c.args.hints.now c.args.self.now.lits c.loop-hint.hint-index 0 _ c.loop-hint.self.lits c.loop-hint-test.true refl c.loop-hint.invariant.follows all), λ h. refl)
 
 pub add-requires-clause-range : goal.add-requires-clause-range
 add-requires-clause-range c =
@@ -27,8 +27,8 @@ loop-hint-preserved c =
     let added = c.in_ok-add-in-Unit.ensures.added in
     record {
       sizes = ap (λ (t : TruthSet). t.sizes) added ∙ c.loop-hint.invariant.sizes;
-      follows = subst (Follows c.args.kept.now c.args.hints.now c.args.self.now.lits (c.loop-hint.hint-index + 1)) (sym (ap (λ (t : TruthSet). t.lits) added))
-          (follows_unit c.args.kept.now c.args.hints.now c.args.self.now.lits c.loop-hint.hint-index 0 n c.loop-hint.self.lits c.loop-hint-test.true refl c.loop-hint.invariant.follows
+      follows = subst (WalksTo c.args.kept.now c.args.hints.now c.args.self.now.lits (c.loop-hint.hint-index + 1)) (sym (ap (λ (t : TruthSet). t.lits) added))
+          (walks_unit c.args.kept.now c.args.hints.now c.args.self.now.lits c.loop-hint.hint-index 0 n c.loop-hint.self.lits c.loop-hint-test.true refl c.loop-hint.invariant.follows
           c.args.self.now.sizes c.in-Unit.lit (at_within c.args.self.now.sizes c.args.kept.now n c.requires) one);
     }
 
@@ -37,11 +37,11 @@ returns-in-Open-clause-exact c =
     let no_false = c.in-Open.ensures.0 in
     let no_one = c.in-Open.ensures.1 in (
       (λ t. absurd (cc)),
-      λ h. absurd (follows_open c.args.kept.now c.args.hints.now c.args.self.now.lits c.loop-hint.hint-index 0 _ c.loop-hint.self.lits c.loop-hint-test.true refl c.loop-hint.invariant.follows no_false no_one h),
+      λ h. absurd (walks_open c.args.kept.now c.args.hints.now c.args.self.now.lits c.loop-hint.hint-index 0 _ c.loop-hint.self.lits c.loop-hint-test.true refl c.loop-hint.invariant.follows no_false no_one h),
     )
 
 pub returns-clause-exact : goal.returns-clause-exact
 returns-clause-exact c = (
   (λ t. absurd (cc)),
-  λ h. absurd (follows_end c.args.kept.now c.args.hints.now c.args.self.now.lits c.loop-hint.hint-index c.loop-hint.self.lits (omega arith) c.loop-hint.invariant.follows h),
+  λ h. absurd (walks_end c.args.kept.now c.args.hints.now c.args.self.now.lits c.loop-hint.hint-index c.loop-hint.self.lits (omega arith) c.loop-hint.invariant.follows h),
 )

@@ -1,7 +1,7 @@
 use Rattle.std.proofs.Common.{◌≡◌, arith, sym, ◌∙◌, length}
 use Rattle.std.specs.Prelude.{slice_index_or}
 use Rattle.std.proofs.lemmas.Nat.Bits.{shr_and_one}
-use Rattle.gh_inst.specs.Schemas.{term}
+use Rattle.gh_base.specs.Atoms.{term}
 use Rattle.gh_inst.proofs.SearchLemmas.{index_below}
 use Rattle.gh_inst.proofs.OpenLemmas.{not_among, lit_open, term_true, term_false, term_next, term_none}
 use Rattle.gh_inst.proofs.schema.Pattern.next_by.Goals as goal

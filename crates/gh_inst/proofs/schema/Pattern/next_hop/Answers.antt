@@ -1,6 +1,7 @@
 use Rattle.std.proofs.Common.{◌≡◌, ◌<◌, ◌+◌, Some, arith, sym, subst, length}
 use Rattle.std.specs.Prelude.{slice_get, slice_index_or}
-use Rattle.gh_inst.specs.Schemas.{term, places_of}
+use Rattle.gh_base.specs.Atoms.{term}
+use Rattle.gh_inst.specs.Schemas.{places_of}
 use Rattle.gh_inst.proofs.SearchLemmas.{got, index_below}
 use Rattle.gh_inst.proofs.WordLemmas.{hop_truths}
 use Rattle.gh_inst.proofs.OpenLemmas.{not_among, lit_open}

@@ -1,5 +1,5 @@
 use Rattle.std.proofs.Common.{◌≡◌, [], ◌∷◌, subst, refl, take, arith}
-use Rattle.gh_inst.specs.Schemas.{term}
+use Rattle.gh_base.specs.Atoms.{term}
 use Rattle.gh_log.specs.Reading.{SpellsNothing, SpellsBytes, SpellsTerms, ArePadded}
 use Rattle.gh_log.proofs.LineLemmas.{goes_term, goes_terms_end, padded_none, padded_more, no_terms_here, no_fifth}
 use Rattle.gh_log.proofs.Exits.{exit, not_ok}

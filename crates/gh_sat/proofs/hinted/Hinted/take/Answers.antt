@@ -18,9 +18,10 @@ not_in h block None b e n f = f
 not_in h block (Some x) b e n f = absurd (n e)
 
 -- one that does
-found_in : (h : Hinted) (block : ℕ) (o : Option ℕ) (b : Bool) → b ≡ is_some o → b ≡ true → FindsIn h block o → Finds h o
-found_in h block None b e t f = absurd cc
-found_in h block (Some place) b e t f = (block, f)
+found_in : (h : Hinted) (block : ℕ) (o : Option ℕ) (b : Bool) → b ≡ is_some o → b ≡ true → FindsIn h block o
+    → ((other next : ℕ) → other < block → LeadsTo h other next → ⊥) → Finds h o
+found_in h block None b e t f nowhere = absurd cc
+found_in h block (Some place) b e t f nowhere = (block, f, nowhere)
 
 pub returns-then-is_some-clause-was : goal.returns-then-is_some-clause-was
 returns-then-is_some-clause-was c =
@@ -38,7 +39,7 @@ returns-then-is_some-clause-found c =
     let found = subst (λ (h : Hinted). FindsIn h c.loop-block.block c.take_in-place.result) c.loop-block.invariant.same
     c.take_in-place.ensures.found in
     found_in c.args.self.now c.loop-block.block c.take_in-place.result c.is_some.result c.is_some.ensures
-    c.if-is_some.true found
+    c.if-is_some.true found c.loop-block.invariant.nowhere
 
 pub loop-block-preserved : goal.loop-block-preserved
 loop-block-preserved c =

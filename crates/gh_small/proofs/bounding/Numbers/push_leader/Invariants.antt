@@ -1,6 +1,7 @@
 use Rattle.std.proofs.Common.{◌≡◌, ◌∷◌, []}
 use Rattle.gh_base.specs.declared.atom.Atom.TheVariants.{Eq}
-use Rattle.gh_small.specs.Fewer.{term, positive, negative, leader, is_allocated, each}
+use Rattle.gh_base.specs.Atoms.{term, positive, negative}
+use Rattle.gh_small.specs.Fewer.{leader, is_allocated, each}
 use Rattle.gh_small.proofs.bounding.Numbers.push_leader.Given as goal
 
 abbrev pub invariant-loop-u : goal.invariant-loop-u

@@ -6,7 +6,7 @@ use Rattle.gh_symb.specs.Symbolic.{under, each_under}
 use Rattle.gh_symb.specs.Tables.{state}
 use Rattle.gh_symb.specs.Encodings.{Each}
 use Rattle.gh_symb.specs.Fitting.{EncodesUnder}
-use Rattle.gh_symb.specs.declared.over_terms.Bound.{Bound}
+use Rattle.gh_symb.specs.declared.over_terms.BoundAssertion.{BoundAssertion}
 use Rattle.gh_symb.proofs.EncodingLemmas.{each_encoded}
 use Rattle.gh_symb.proofs.scope.Scope.walk_bounds.Goals as goal
 
@@ -27,5 +27,5 @@ loop-alternative-preserved c =
     let encoded = each_encoded c.loop-alternative.bounds.items c.in_ok-walk_bound.field-0 us f fs s t all c.loop-alternative.invariant.encoded.1 c.in_ok-walk_bound.ensures.encodes c.in_ok-walk_bound.ensures.made rest in
     record {
       walk = ap (each_walked fs) c.in_ok-walk_bound.ensures.made ∙ ap (λ gs. each_walked gs s) (sym split) ∙ c.loop-alternative.invariant.walk;
-      encoded = (us ++ under f s ∷ [], subst (λ (bs : List Bound). Each EncodesUnder bs (us ++ under f s ∷ [])) (sym c.in_ok-push.ensures.items) encoded.0, encoded.1);
+      encoded = (us ++ under f s ∷ [], subst (λ (bs : List BoundAssertion). Each EncodesUnder bs (us ++ under f s ∷ [])) (sym c.in_ok-push.ensures.items) encoded.0, encoded.1);
     }

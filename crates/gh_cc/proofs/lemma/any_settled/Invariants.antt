@@ -1,7 +1,0 @@
-use Rattle.std.proofs.Common.{All, take}
-use Rattle.gh_cc.specs.Lemma.{IsSettled}
-use Rattle.gh_cc.proofs.lemma.any_settled.Given as goal
-
-abbrev pub invariant-loop-l : goal.invariant-loop-l
-invariant-loop-l l = All (λ k. IsSettled l.sizes l.partition.links l.keyed.lits.now k → ⊥)
-    (take l.l-index l.keyed.lits.now)
