@@ -1,5 +1,5 @@
-// An allocator that is loaded before the C library's: it refuses the call whose number is in REFUSE, counted from 1, and writes the number of all
-// calls into the file that REFUSE_COUNT names.
+// An allocator that is loaded before the C library's: it refuses the call whose number is in REFUSE, counted from 1, and
+// writes the number of all calls into the file that REFUSE_COUNT names.
 #define _GNU_SOURCE
 #include <dlfcn.h>
 #include <fcntl.h>
