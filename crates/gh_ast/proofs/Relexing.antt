@@ -54,14 +54,14 @@ abbrev ends_at : List Lexeme → List ℕ
 ends_at ls = spaced ls ++ 10 ∷ []
 
 -- the tokens of a text, of which these are the lexemes
-pub record IsRead (p : Span) (text : List ℕ) (ls : List Lexeme) : Type 0 where
+pub record ReadsAs (p : Span) (text : List ℕ) (ls : List Lexeme) : Type 0 where
   pub tokens : List Token
   pub end : Span
   pub reads : IsTokens p text tokens end []
   pub same : map lexeme_of tokens ≡ ls
 
-read_one : (l : Lexeme) (ls : List Lexeme) (p : Span) (b : ℕ) (rest : List ℕ) → IsLexeme l → IsEnd b → IsRead (moved_over p (lexeme_text l)) (b ∷ rest) ls
-    → IsRead p (lexeme_text l ++ b ∷ rest) (l ∷ ls)
+read_one : (l : Lexeme) (ls : List Lexeme) (p : Span) (b : ℕ) (rest : List ℕ) → IsLexeme l → IsEnd b → ReadsAs (moved_over p (lexeme_text l)) (b ∷ rest) ls
+    → ReadsAs p (lexeme_text l ++ b ∷ rest) (l ∷ ls)
 read_one l ls p b rest h e r =
     record {
       tokens = placed l p ∷ r.tokens;
@@ -70,17 +70,17 @@ read_one l ls p b rest h e r =
       same = ap (λ x. x ∷ map lexeme_of r.tokens) (unplaced l p) ∙ ap (λ x. l ∷ x) r.same;
     }
 
-blank_first : (text : List ℕ) (ls : List Lexeme) (p : Span) → IsRead (moved p 32) (text ++ 10 ∷ []) ls → IsRead p (32 ∷ text ++ 10 ∷ []) ls
+blank_first : (text : List ℕ) (ls : List Lexeme) (p : Span) → ReadsAs (moved p 32) (text ++ 10 ∷ []) ls → ReadsAs p (32 ∷ text ++ 10 ∷ []) ls
 blank_first text ls p r = record { tokens = r.tokens; end = r.end; reads = piece {w = 32 ∷ []} refl (a_blank 32 refl refl) r.reads refl; same = r.same }
 
-read_next : (l : Lexeme) (ls : List Lexeme) (p : Span) → IsLexeme l → IsRead (moved_over p (lexeme_text l)) (ends_at ls) ls → IsRead p ((lexeme_text l ++ spaced ls) ++ 10 ∷ []) (l ∷ ls)
+read_next : (l : Lexeme) (ls : List Lexeme) (p : Span) → IsLexeme l → ReadsAs (moved_over p (lexeme_text l)) (ends_at ls) ls → ReadsAs p ((lexeme_text l ++ spaced ls) ++ 10 ∷ []) (l ∷ ls)
 read_next l [] p h r =
-    subst (λ t. IsRead p t (l ∷ [])) (ap (λ t. t ++ 10 ∷ []) (sym (no_more (lexeme_text l)))) (read_one l [] p 10 [] h (record { plain = refl; name = refl }) r)
+    subst (λ t. ReadsAs p t (l ∷ [])) (ap (λ t. t ++ 10 ∷ []) (sym (no_more (lexeme_text l)))) (read_one l [] p 10 [] h (record { plain = refl; name = refl }) r)
 read_next l (m ∷ ls) p h r =
-    subst (λ t. IsRead p t (l ∷ m ∷ ls)) (sym (append_assoc (lexeme_text l) (spaced (m ∷ ls)) (10 ∷ [])))
+    subst (λ t. ReadsAs p t (l ∷ m ∷ ls)) (sym (append_assoc (lexeme_text l) (spaced (m ∷ ls)) (10 ∷ [])))
     (read_one l (m ∷ ls) p 32 ((lexeme_text m ++ spaced ls) ++ 10 ∷ []) h (record { plain = refl; name = refl }) r)
 
-read_all : (ls : List Lexeme) (p : Span) → AreLexemes ls → IsRead p (ends_at ls) ls
+read_all : (ls : List Lexeme) (p : Span) → AreLexemes ls → ReadsAs p (ends_at ls) ls
 read_all [] p h = record { tokens = []; end = moved p 10; reads = piece {w = 10 ∷ []} refl (a_blank 10 refl refl) nothing refl; same = refl }
 read_all (l ∷ ls) p h = blank_first (lexeme_text l ++ spaced ls) (l ∷ ls) p (read_next l ls (moved p 32) h.0 (read_all ls (moved_over (moved p 32) (lexeme_text l)) h.1))
 

@@ -40,7 +40,7 @@ IsFirstNamed (q ∷ qs) f p = ((name_of q ≡ f) × (p ≡ q)) ⊎ ((name_of q �
 
 -- the procedure that a call of the name means
 abbrev pub Declares : Program → Name → Procedure → Type 0
-Declares P f p = IsFirstNamed P.procedures f p
+Declares P f proc = IsFirstNamed P.procedures f proc
 
 -- the statements of the first block, then those of the second
 abbrev pub joined : Statements → Statements → Statements

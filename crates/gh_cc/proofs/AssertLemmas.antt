@@ -16,7 +16,7 @@ use Rattle.gh_cc.specs.declared.classes.Stage.{Stage}
 use Rattle.gh_cc.specs.declared.classes.ClashAt.{ClashAt}
 use Rattle.gh_cc.specs.Partitions.{Merged}
 use Rattle.gh_cc.specs.Signs.{Filed}
-use Rattle.gh_cc.specs.Asserted.{IsFree}
+use Rattle.gh_cc.specs.Asserted.{IsUnasserted}
 use Rattle.gh_cc.specs.Kept.{reps, IsClash, IsState, AllFiled, AreTied, LinksMore, Core, stage_at, first_clash}
 use Rattle.gh_cc.specs.Kept.{clash_before, IsStage, IsBefore, IsKept}
 use Rattle.gh_base.proofs.ListLemmas.{get_front, get_take}
@@ -132,7 +132,7 @@ early_stage c x p f found h t k below =
     s
 
 pub kept_assert : (c : Core) (x : Lit) (p : Merged) (f : Filed) (found : Option Clash) → IsKept c
-    → IsInRange c.sizes x.atom → IsFree c.lits x.atom → TakenIn c x p f found → IsKept (more_core c x p f found)
+    → IsInRange c.sizes x.atom → IsUnasserted c.lits x.atom → TakenIn c x p f found → IsKept (more_core c x p f found)
 kept_assert c x p f found h inside free t =
     let m = more_core c x p f found in
     let n = length_push c.lits x in

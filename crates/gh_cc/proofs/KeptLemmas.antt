@@ -21,7 +21,7 @@ use Rattle.gh_cc.specs.declared.clash.Clash.{Clash}
 use Rattle.gh_cc.specs.declared.clash.Clash.TheVariants.{Unequal, Opposite}
 use Rattle.gh_cc.specs.declared.classes.Stage.{Stage}
 use Rattle.gh_cc.specs.declared.classes.ClashAt.{ClashAt}
-use Rattle.gh_cc.specs.Asserted.{IsFree}
+use Rattle.gh_cc.specs.Asserted.{IsUnasserted}
 use Rattle.gh_cc.specs.Kept.{normal, reps, IsClash, Core, first_clash, NoClashBefore, IsStage}
 use Rattle.gh_base.proofs.ListLemmas.{get_push}
 use Rattle.gh_cc.proofs.PartitionLemmas.{rep_later, rep_front, rep_own, slice_get-contains}
@@ -142,7 +142,7 @@ few_lits s lits all apart =
     omega (arith, few, length-map lits f)
 
 -- a new atom keeps the atoms apart
-pub apart_push : (lits : List Lit) (x : Lit) → IsFree lits x.atom
+pub apart_push : (lits : List Lit) (x : Lit) → IsUnasserted lits x.atom
     → ((i j : ℕ) (l k : Lit) → slice_get lits i ≡ Some l → slice_get lits j ≡ Some k → l.atom ≡ k.atom → i ≡ j)
     → (i j : ℕ) (l k : Lit) → slice_get (lits ++ x ∷ []) i ≡ Some l → slice_get (lits ++ x ∷ []) j ≡ Some k
     → l.atom ≡ k.atom → i ≡ j

@@ -6,7 +6,7 @@ use Rattle.gh_base.specs.declared.atom.Lit.{Lit}
 use Rattle.gh_base.specs.declared.atom.Term.{Term}
 use Rattle.gh_base.specs.Atoms.{IsInRange, AreInRange, count_of}
 use Rattle.gh_cc.specs.declared.classes.Classes.TheInside.{Inside}
-use Rattle.gh_cc.specs.Asserted.{Asserted, IsFree}
+use Rattle.gh_cc.specs.Asserted.{Asserted, IsUnasserted}
 use Rattle.gh_cc.specs.Kept.{Core, IsKept}
 use Rattle.gh_cc.specs.Fields.{core_of}
 use Rattle.gh_cc.specs.Uses.{Mentioned, all_mentions, terms_in}
@@ -17,16 +17,16 @@ use Rattle.gh_cc.proofs.MoveLemmas.{mentions_long, mentions_push}
 pub record MayAssert (c : Core) (x : Lit) : Type 0 where
   pub kept : IsKept c
   pub inside : IsInRange c.sizes x.atom
-  pub free : IsFree c.lits x.atom
+  pub free : IsUnasserted c.lits x.atom
   pub in_range : AreInRange c.sizes (c.lits ++ x ∷ [])
   pub long : length (c.lits ++ x ∷ []) ≡ length c.lits + 1
   pub few : length (c.lits ++ x ∷ []) ≤ count_of c.sizes
 
 pub may_assert : (i : Inside) (x : Lit) (a : Asserted) → record { sizes = i.sizes; lits = i.lits.items } ≡ a
-    → IsKept (core_of i) → IsInRange a.sizes x.atom → IsFree a.lits x.atom → MayAssert (core_of i) x
+    → IsKept (core_of i) → IsInRange a.sizes x.atom → IsUnasserted a.lits x.atom → MayAssert (core_of i) x
 may_assert i x a is kept in_range free =
     let inside : IsInRange i.sizes x.atom = subst (λ (b : Asserted). IsInRange b.sizes x.atom) (sym is) in_range in
-    let open_here : IsFree i.lits.items x.atom = subst (λ (b : Asserted). IsFree b.lits x.atom) (sym is) free in
+    let open_here : IsUnasserted i.lits.items x.atom = subst (λ (b : Asserted). IsUnasserted b.lits x.atom) (sym is) free in
     let all : AreInRange i.sizes (i.lits.items ++ x ∷ []) =
     All-push (λ (l : Lit). IsInRange i.sizes l.atom) i.lits.items x kept.in_range inside in
     record {

@@ -13,7 +13,7 @@ use Rattle.gh_base.specs.Atoms.{opposite, IsInRange, AreInRange, number_of}
 use Rattle.gh_base.specs.Meaning.{Interpretation, IsCongruence, IsLitTrue, IsClauseTrue, atom_truth, lit_truth, under}
 use Rattle.gh_base.proofs.NumberLemmas.{apart}
 use Rattle.gh_base.proofs.UnitLemmas.{true_or_false}
-use Rattle.gh_cc.specs.Asserted.{EqualitiesHold, IsFree, IsConsistent, equality}
+use Rattle.gh_cc.specs.Asserted.{EqualitiesHold, IsUnasserted, IsConsistent, equality}
 use Rattle.gh_cc.specs.Kept.{at, normal, IsRelation}
 use Rattle.gh_cc.proofs.RefuteLemmas.{btwn_parts, hop_parts}
 use Rattle.gh_cc.specs.Partials.{IsGiven, IsStructureOf}
@@ -165,15 +165,15 @@ are_asserted_true s lits m st range known k d lt = let l : Lit = get_or lits k d
 
 -- an atom stands asserted, or it is free
 found_or_free : (s : Sizes) (lits : List Lit) (a : Atom) → AreInRange s lits → IsInRange s a
-    → ((l : Lit) × Contains lits l × (l.atom ≡ a)) ⊎ IsFree lits a
+    → ((l : Lit) × Contains lits l × (l.atom ≡ a)) ⊎ IsUnasserted lits a
 found_or_free s [] a range h = inr (λ k d lt. absurd (omega arith))
 found_or_free s (l ∷ ls) a range h =
     elim (cases_eq (number_of s l.atom) (number_of s a)) as (λ _. ((x : Lit) × Contains (l ∷ ls) x × (x.atom ≡ a))
-    ⊎ IsFree (l ∷ ls) a) [
+    ⊎ IsUnasserted (l ∷ ls) a) [
       | inl same ↦ inl (l, (0, omega arith, refl), apart s l.atom a (range 0 l (omega arith)) h same)
       | inr differ ↦
           elim (found_or_free s ls a (λ k d lt. range (suc k) d (omega arith)) h) as (λ _.
-          ((x : Lit) × Contains (l ∷ ls) x × (x.atom ≡ a)) ⊎ IsFree (l ∷ ls) a) [
+          ((x : Lit) × Contains (l ∷ ls) x × (x.atom ≡ a)) ⊎ IsUnasserted (l ∷ ls) a) [
             | inl w ↦ inl (w.0, (let lt = w.1.1 in (suc w.1.0, omega arith, w.1.2)), w.2)
             | inr free ↦ inr (All-cons (λ (x : Lit). x.atom ≢ a) l ls (λ e. differ (ap (number_of s) e)) free)
           ]

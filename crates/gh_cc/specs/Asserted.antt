@@ -14,8 +14,8 @@ pub record Asserted : Type 0 where
   pub lits : List Lit
 
 -- neither the atom nor its negation stands asserted
-abbrev pub IsFree : List Lit → Atom → Type 0
-IsFree lits atom = All (λ l. l.atom ≢ atom) lits
+abbrev pub IsUnasserted : List Lit → Atom → Type 0
+IsUnasserted lits atom = All (λ l. l.atom ≢ atom) lits
 
 abbrev pub equality : Term → Term → Lit
 equality a b = record { atom = Eq a b; positive = true }

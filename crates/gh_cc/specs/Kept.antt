@@ -93,8 +93,8 @@ AreFiledMoved a links entries = (i : ℕ) (l : Lit) (t : Term) → slice_get a.l
     → IsMoved links t → IsFiled a.sizes a.lits.now links entries l
 
 -- where there was no clash and they agreed with each literal before a place, they agree now with each literal
-abbrev pub Files : Bool → IndexedLits → ℕ → Merged → Merged → Filed → Filed → Type 0
-Files clashed a place old new old_filed new_filed = clashed ≡ false
+abbrev pub FilesLits : Bool → IndexedLits → ℕ → Merged → Merged → Filed → Filed → Type 0
+FilesLits clashed a place old new old_filed new_filed = clashed ≡ false
     → AllFiled a.sizes (take place a.lits.now) old.links old_filed.entries
     → AllFiled a.sizes a.lits.now new.links new_filed.entries
 

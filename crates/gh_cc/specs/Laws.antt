@@ -5,7 +5,7 @@ use Rattle.gh_base.specs.declared.atom.Lit.{Lit}
 use Rattle.gh_base.specs.declared.sizes.Sizes.{Sizes}
 use Rattle.gh_base.specs.Atoms.{opposite, IsInRange, AreInRange}
 use Rattle.gh_base.specs.Meaning.{Interpretation, IsLitTrue, IsClauseTrue, IsCongruence, atom_truth}
-use Rattle.gh_cc.specs.Asserted.{IsFree, IsConsistent}
+use Rattle.gh_cc.specs.Asserted.{IsUnasserted, IsConsistent}
 use Rattle.gh_cc.specs.Kept.{normal, IsRelation}
 use Rattle.gh_cc.specs.Partials.{IsStructureOf}
 
@@ -24,7 +24,7 @@ abbrev pub AreAssignedTrue : Type 0
 AreAssignedTrue =
     (s : Sizes) (lits : List Lit) (m : Interpretation) (clause : List Lit) → IsStructureOf s lits m → AreInRange s lits
     → IsConsistent s lits
-    → AreInRange s clause → All (λ l. IsFree lits l.atom → ⊥) clause
+    → AreInRange s clause → All (λ l. IsUnasserted lits l.atom → ⊥) clause
     → (All (λ l. Contains lits (opposite l)) clause → ⊥) → IsClauseTrue m clause
 
 -- all structures of the same literals give each atom one truth

@@ -4,7 +4,7 @@ ghost use Rattle.std.specs.Prelude.{◌≡◌, ◌<◌, ◌≤◌, ◌∷◌, �
 ghost use Rattle.gh_cc.specs.Kept.{first_clash, clash_before, IsRelation};
 ghost use Rattle.gh_base.specs.Atoms.{IsInRange, count_of};
 ghost use Rattle.gh_cc.specs.Fields.{most_filed};
-ghost use Rattle.gh_cc.specs.Asserted.{IsFree, AreEqual, HasTruth, HasNoTruth, IsConsistent, IsConflict};
+ghost use Rattle.gh_cc.specs.Asserted.{IsUnasserted, AreEqual, HasTruth, HasNoTruth, IsConsistent, IsConflict};
 
 use crate::clash::Clash;
 use crate::filing::{key, take_in};
@@ -122,7 +122,7 @@ impl Classes {
     /// often the class that is mentioned less is mentioned.
     pub fn assert(&mut self, lit: Lit)
         requires in_range { IsInRange self.old.sizes lit.atom }
-        requires free { IsFree self.old.lits lit.atom }
+        requires free { IsUnasserted self.old.lits lit.atom }
         ensures { self.new ≡ record self.old { lits = self.old.lits ++ lit ∷ [] } }
     {
         let place = self.lits.len() as u32;

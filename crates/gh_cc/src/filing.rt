@@ -6,7 +6,7 @@ ghost use Rattle.gh_base.specs.Atoms.{IsInRange, AreInRange, number_of, count_of
 ghost use Rattle.gh_cc.specs.Asserted.{equality};
 ghost use Rattle.gh_cc.specs.Uses.{all_mentions};
 ghost use Rattle.gh_cc.specs.Kept.{AreTied, Grows, LinksMore, IsClash, normal, reps, HaveOneSign, HaveTwoSigns};
-ghost use Rattle.gh_cc.specs.Kept.{IsFiledAt, Files};
+ghost use Rattle.gh_cc.specs.Kept.{IsFiledAt, FilesLits};
 
 use crate::clash::Clash;
 use crate::moving::{IndexedLits, merge_lighter, refile_moved};
@@ -117,7 +117,8 @@ pub(crate) fn take_in(
     ensures tied { AreTied indexed.now.sizes indexed.now.lits.now partition.new signs.new }
     ensures links { LinksMore partition.old partition.new }
     ensures grows { Grows signs.old signs.new }
-    ensures filed { IfNone result (Files clashed indexed.now place partition.old partition.new signs.old signs.new) }
+    ensures filed { IfNone result (
+        FilesLits clashed indexed.now place partition.old partition.new signs.old signs.new) }
     ensures clash { IfSome result (λ c. IsClash (reps partition.new.links) indexed.now.lits.now c) }
 {
     let lit = indexed.lits[place as usize];

@@ -15,7 +15,7 @@ use Rattle.gh_sat.specs.declared.trail.Step.{Step}
 use Rattle.gh_sat.specs.Trail.{Line, SearchState, IsTrueIn, IsFalseIn, IsFree, IsSound, open_level}
 use Rattle.gh_sat.specs.Status.{IsSettled, IsForced, AreForced}
 use Rattle.gh_sat.specs.Watch.{WasOpen}
-use Rattle.gh_sat.specs.Learn.{IsConflict}
+use Rattle.gh_sat.specs.Learn.{IsConflictAt}
 use Rattle.gh_sat.specs.Whole.{PropagatesTo}
 use Rattle.gh_base.proofs.ListLemmas.{get_within, get_front, get_push, get_last}
 use Rattle.gh_sat.proofs.TrailLemmas.{same_lit}
@@ -59,7 +59,7 @@ given_at_first s assumed h none i x at = given_below s assumed h none (suc i) i 
 pub false_refutes : (clauses : List (List Lit)) (assumed : List Lit) (trail : List Step) (k : ℕ) (c : List Lit) → slice_get clauses k ≡ Some c → IsFalseIn trail c → AreGiven clauses assumed trail → IsRefutedByUnits clauses assumed
 false_refutes clauses assumed trail k c at f g = inr (c, in_get clauses k c at, λ j d lt. given_true clauses assumed trail (opposite (get_or c j d)) g (f j d lt))
 
-pub conflict_refutes : (s : SearchState) (assumed : List Lit) (k : ℕ) → IsConflict s k → AreGiven s.clauses assumed s.trail → IsRefutedByUnits s.clauses assumed
+pub conflict_refutes : (s : SearchState) (assumed : List Lit) (k : ℕ) → IsConflictAt s k → AreGiven s.clauses assumed s.trail → IsRefutedByUnits s.clauses assumed
 conflict_refutes s assumed k c g = false_refutes s.clauses assumed s.trail k c.clause c.at c.is_false g
 
 -- a literal that is true already
@@ -79,7 +79,7 @@ module _ (s mid new : SearchState) (lit : Lit) (opens : mid ≡ open_level s lit
       let then : AreGiven mid.clauses assumed (mid.trail ++ grows.0) = given_more mid.clauses assumed (length mid.starts) mid.trail grows.0 grows.2 opened in
       subst (λ (cs : List (List Lit)). AreGiven cs assumed new.trail) (ap (λ (t : SearchState). t.clauses) opens) (subst (AreGiven mid.clauses assumed) (sym grows.1) then)
 
-  pub refuting_after : (k : ℕ) → IsConflict new k → IsRefuting s lit
+  pub refuting_after : (k : ℕ) → IsConflictAt new k → IsRefuting s lit
   refuting_after k c assumed there g =
       subst (λ (cs : List (List Lit)). IsRefutedByUnits cs assumed) same_clauses
       (conflict_refutes new assumed k c (subst (λ (cs : List (List Lit)). AreGiven cs assumed new.trail) (sym same_clauses) (given_then assumed there g)))
@@ -194,7 +194,7 @@ never_refuted s clause h calm f follows =
       | inr w ↦ let place = in_place s.clauses w.0 w.1 in calm.no_false place.0 w.0 place.1 (λ k d lt. all (opposite (get_or w.0 k d)) (w.2 k d lt))
     ]
 
-pub refuting_if : (s mid new : SearchState) (lit lit' : Lit) (r : Option ℕ) (b : Bool) → lit' ≡ lit → mid ≡ open_level s lit' → PropagatesTo mid new → IfSome r (IsConflict new) → b ≡ is_some r → IsTrue b → IsRefuting s lit
+pub refuting_if : (s mid new : SearchState) (lit lit' : Lit) (r : Option ℕ) (b : Bool) → lit' ≡ lit → mid ≡ open_level s lit' → PropagatesTo mid new → IfSome r (IsConflictAt new) → b ≡ is_some r → IsTrue b → IsRefuting s lit
 refuting_if s mid new lit lit' None b same opens moves conflict is holds = cc
 refuting_if s mid new lit lit' (Some k) b same opens moves conflict is holds = subst (IsRefuting s) same (refuting_after s mid new lit' opens moves k conflict)
 
@@ -222,7 +222,7 @@ goes_first old new lits None b none moves calm h is fails = record {
 }
 goes_first old new lits (Some k) b none moves calm h is fails = absurd (fails is)
 
-pub first_refutes : (old new : SearchState) (lits : List Lit) (r : Option ℕ) (b : Bool) → old.starts ≡ [] → PropagatesTo old new → IfSome r (IsConflict new) → IsSound new → b ≡ is_some r → IsTrue b → FollowsByUnits old.clauses lits
+pub first_refutes : (old new : SearchState) (lits : List Lit) (r : Option ℕ) (b : Bool) → old.starts ≡ [] → PropagatesTo old new → IfSome r (IsConflictAt new) → IsSound new → b ≡ is_some r → IsTrue b → FollowsByUnits old.clauses lits
 first_refutes old new lits None b none moves conflict h is holds = cc
 first_refutes old new lits (Some k) b none moves conflict h is holds =
     subst (λ (cs : List (List Lit)). IsRefutedByUnits cs (map opposite lits)) moves.clauses

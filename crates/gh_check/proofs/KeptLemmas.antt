@@ -10,9 +10,9 @@ use Rattle.gh_base.specs.declared.atom.Lit.{Lit}
 use Rattle.gh_base.specs.Grounds.{Problem}
 use Rattle.gh_base.specs.Hints.{IsShownByHints}
 use Rattle.gh_log.specs.Lines.{LogLine}
-use Rattle.gh_log.specs.Sections.{line_clause, clauses_of, Deletes, HasClauseAt, Stands, AllStand, AreAt, IsHinted}
+use Rattle.gh_log.specs.Sections.{line_clause, clauses_of, Deletes, HasClauseAt, IsUndeleted, AllUndeleted, AreAt, IsHinted}
 use Rattle.gh_log.proofs.NumberLemmas.{all_before}
-use Rattle.gh_check.specs.Kept.{Kept, IsLeft, IsFirst, stands_in, clause_at, named, IsWithin, AreWithin, present, AreDeleted, MayBeDeleted, AreLinesKept}
+use Rattle.gh_check.specs.Kept.{Kept, IsLeft, IsBeforeAll, stands_in, clause_at, named, IsWithin, AreWithin, present, AreDeleted, MayBeDeleted, AreLinesKept}
 
 -- the clause of the line at a place
 entry_at : (p : Problem) (lines : List LogLine) (place : ℕ) (c : List Lit) → slice_index_or (map (line_clause p) lines) place None ≡ Some c
@@ -46,7 +46,7 @@ module _ (p : Problem) (lines : List LogLine) (k : Kept) (h : AreLinesKept p lin
   none_first : slice_index_or k.clauses 0 None ≡ None
   none_first = ap (λ xs. slice_index_or xs 0 None) h.clauses
 
-  pub stands_forth : (position : ℕ) → IsTrue (stands_in k position) → Stands p lines position
+  pub stands_forth : (position : ℕ) → IsTrue (stands_in k position) → IsUndeleted p lines position
   stands_forth zero t =
       let parts = and_parts _ _ t in
       let some = some_is _ parts.0 in
@@ -68,23 +68,23 @@ module _ (p : Problem) (lines : List LogLine) (k : Kept) (h : AreLinesKept p lin
       let position_is : suc w.place ≡ position = sym (w.position_is ∙ add-one w.place) in
       subst (λ n. slice_index_or k.clauses n None ≡ Some c) position_is (read w.place ∙ entry_there p lines w.place w.line c w.at w.has)
 
-  pub stands_back : (position : ℕ) → Stands p lines position → IsTrue (stands_in k position)
+  pub stands_back : (position : ℕ) → IsUndeleted p lines position → IsTrue (stands_in k position)
   stands_back position s = and_make _ _ (ap is_some (there_is position s.clause s.there)) ((h.stand position).1 s.kept)
 
   pub clause_here : (position : ℕ) (c : List Lit) → HasClauseAt p lines position c → clause_at k position ≡ c
   clause_here position c w = ap (λ o. unwrap_or o []) (there_is position c w)
 
-  pub all_forth : (ks : List ℕ) → All (λ n. IsTrue (stands_in k n)) ks → AllStand p lines ks
+  pub all_forth : (ks : List ℕ) → All (λ n. IsTrue (stands_in k n)) ks → AllUndeleted p lines ks
   all_forth ks a i d lt = stands_forth (get_or ks i d) (a i d lt)
 
-  pub all_back : (ks : List ℕ) → AllStand p lines ks → All (λ n. IsTrue (stands_in k n)) ks
+  pub all_back : (ks : List ℕ) → AllUndeleted p lines ks → All (λ n. IsTrue (stands_in k n)) ks
   all_back ks a i d lt = stands_back (get_or ks i d) (a i d lt)
 
-  pub are_at : (ks : List ℕ) → AllStand p lines ks → AreAt p lines ks (named k ks)
+  pub are_at : (ks : List ℕ) → AllUndeleted p lines ks → AreAt p lines ks (named k ks)
   are_at [] a = tt
   are_at (n ∷ ks) a =
-      let s = All-head (Stands p lines) n ks a in
-      (subst (HasClauseAt p lines n) (sym (clause_here n s.clause s.there)) s.there, are_at ks (All-tail (Stands p lines) n ks a))
+      let s = All-head (IsUndeleted p lines) n ks a in
+      (subst (HasClauseAt p lines n) (sym (clause_here n s.clause s.there)) s.there, are_at ks (All-tail (IsUndeleted p lines) n ks a))
 
   pub are_named : (ks : List ℕ) (cs : List (List Lit)) → AreAt p lines ks cs → cs ≡ named k ks
   are_named [] [] a = refl
@@ -95,7 +95,7 @@ module _ (p : Problem) (lines : List LogLine) (k : Kept) (h : AreLinesKept p lin
       let there = are_named ks cs a.1 in
       λ i. here i ∷ there i
 
-  pub hinted_forth : (c : List Lit) (ks : List ℕ) → AllStand p lines ks → IsShownByHints (named k ks) c → IsHinted p lines c ks
+  pub hinted_forth : (c : List Lit) (ks : List ℕ) → AllUndeleted p lines ks → IsShownByHints (named k ks) c → IsHinted p lines c ks
   hinted_forth c ks a shown = record { stand = a; clauses = named k ks; at = are_at ks a; shown = shown }
 
   pub hinted_back : (c : List Lit) (ks : List ℕ) → IsHinted p lines c ks → IsShownByHints (named k ks) c
@@ -131,7 +131,7 @@ kept_push p lines k l h none within = kept_then p lines k k l h refl (λ n. ((λ
 none_within : (p : Problem) → AreWithin p.sizes (None ∷ [])
 none_within p = All-cons (IsWithin p.sizes) None [] (λ c f. absurd (cc)) (λ i d lt. absurd (omega arith))
 
-pub kept_first : (p : Problem) (lines : List LogLine) (k : Kept) → IsFirst p lines k → AreLinesKept p [] k
+pub kept_first : (p : Problem) (lines : List LogLine) (k : Kept) → IsBeforeAll p lines k → AreLinesKept p [] k
 kept_first p lines k f = record {
   clauses = f.clauses;
   stand = λ n. ((λ _. λ i d lt. absurd (omega arith)), (λ _. f.left n));

@@ -11,7 +11,7 @@ use Rattle.gh_inst.specs.declared.naming.InstanceName.{InstanceName}
 use Rattle.gh_inst.specs.Instances.{IsInstance, clause_of}
 use Rattle.gh_log.specs.Lines.{LogLine}
 use Rattle.gh_log.specs.Lines as line
-use Rattle.gh_log.specs.Sections.{AllStand, Deletes}
+use Rattle.gh_log.specs.Sections.{AllUndeleted, Deletes}
 use Rattle.gh_check.specs.declared.fault.FaultKind.TheVariants.{NotImplied, NoSuchLine}
 use Rattle.gh_check.specs.declared.lines.Outcome.{Outcome}
 use Rattle.gh_check.specs.declared.lines.Outcome.TheVariants.{Faulty, Holds}
@@ -42,18 +42,18 @@ pub learnt_taken : (p : Problem) (earlier : List LogLine) (k : Kept) (c : List L
 learnt_taken p earlier k c h range follows = record { kind = (range, subst (λ cs. FollowsByUnits cs c) (present_is p earlier k h) follows); within = λ x e. own_range p.sizes c x range e }
 
 -- a clause along hints
-pub hints_refused : (p : Problem) (earlier : List LogLine) (c : List Lit) (hints : List ℕ) → (AllStand p earlier hints → ⊥) → IsChecked p earlier (line.Hinted c hints) (Faulty NoSuchLine)
+pub hints_refused : (p : Problem) (earlier : List LogLine) (c : List Lit) (hints : List ℕ) → (AllUndeleted p earlier hints → ⊥) → IsChecked p earlier (line.Hinted c hints) (Faulty NoSuchLine)
 hints_refused p earlier c hints fails = ((λ kind. fails kind.1.stand), inr (fails, refl))
 
-pub range_refused : (p : Problem) (earlier : List LogLine) (c : List Lit) (hints : List ℕ) → AllStand p earlier hints → (AreInRange p.sizes c → ⊥)
+pub range_refused : (p : Problem) (earlier : List LogLine) (c : List Lit) (hints : List ℕ) → AllUndeleted p earlier hints → (AreInRange p.sizes c → ⊥)
     → IsChecked p earlier (line.Hinted c hints) (Faulty NotImplied)
 range_refused p earlier c hints stand fails = ((λ kind. fails kind.0), inl (stand, refl))
 
-pub hinted_refused : (p : Problem) (earlier : List LogLine) (k : Kept) (c : List Lit) (hints : List ℕ) → AreLinesKept p earlier k → AllStand p earlier hints
+pub hinted_refused : (p : Problem) (earlier : List LogLine) (k : Kept) (c : List Lit) (hints : List ℕ) → AreLinesKept p earlier k → AllUndeleted p earlier hints
     → (IsShownByHints (named k hints) c → ⊥) → IsChecked p earlier (line.Hinted c hints) (Faulty NotImplied)
 hinted_refused p earlier k c hints h stand fails = ((λ kind. fails (hinted_back p earlier k h c hints kind.1)), inl (stand, refl))
 
-pub hinted_taken : (p : Problem) (earlier : List LogLine) (k : Kept) (c : List Lit) (hints : List ℕ) → AreLinesKept p earlier k → AllStand p earlier hints → AreInRange p.sizes c
+pub hinted_taken : (p : Problem) (earlier : List LogLine) (k : Kept) (c : List Lit) (hints : List ℕ) → AreLinesKept p earlier k → AllUndeleted p earlier hints → AreInRange p.sizes c
     → IsShownByHints (named k hints) c → IsTaken p earlier (line.Hinted c hints)
 hinted_taken p earlier k c hints h stand range shown = record { kind = (range, hinted_forth p earlier k h c hints stand shown); within = λ x e. own_range p.sizes c x range e }
 

@@ -9,7 +9,7 @@ use Rattle.gh_base.specs.declared.atom.Lit.{Lit}
 use Rattle.gh_base.specs.Grounds.{Problem}
 use Rattle.gh_log.specs.Lines.{LogLine}
 use Rattle.gh_log.specs.Sections.{line_clause}
-use Rattle.gh_check.specs.Kept.{IsNamed, IsMarked}
+use Rattle.gh_check.specs.Kept.{IsNamed, AreMarked}
 
 -- the clauses of the lines that were taken
 abbrev pub entries : Problem → List LogLine → ℕ → List (Option (List Lit))
@@ -44,7 +44,7 @@ named_at p lines taken i l lt at all = subst (IsNamed p) (sym is) (all i l (with
     is : l ≡ slice_index_or (take taken lines) i l
     is = read lines taken i l lt at
 
-module _ (p : Problem) (lines : List LogLine) (taken : ℕ) (deleted : List Bool) (m : IsMarked p lines taken deleted) where
+module _ (p : Problem) (lines : List LogLine) (taken : ℕ) (deleted : List Bool) (m : AreMarked p lines taken deleted) where
   pub count_is : length (entries p lines taken) ≡ taken + 1
   count_is = let within = m.within in omega (arith, length-map (take taken lines) (line_clause p), length-take-le taken lines within)
 
@@ -57,7 +57,7 @@ module _ (p : Problem) (lines : List LogLine) (taken : ℕ) (deleted : List Bool
   pub next_within : (l : LogLine) → slice_get lines (length (entries p lines taken) - 1) ≡ Some l → taken < length lines
   next_within l next = slice_get_within lines taken l (next_at l next)
 
-  pub next_marked : (l : LogLine) → slice_get lines (length (entries p lines taken) - 1) ≡ Some l → IsNamed p l → IsMarked p lines (taken + 1) deleted
+  pub next_marked : (l : LogLine) → slice_get lines (length (entries p lines taken) - 1) ≡ Some l → IsNamed p l → AreMarked p lines (taken + 1) deleted
   next_marked l next named =
       let at = next_at l next in
       let lt = next_within l next in
@@ -89,7 +89,7 @@ pub none_first : (p : Problem) (lines : List LogLine) (taken position : ℕ) →
 none_first p lines taken position e = ap (λ n. slice_index_or (entries p lines taken) n None) e
 
 -- before the first line
-pub first_marked : (p : Problem) (lines : List LogLine) (deleted : List Bool) → length deleted ≡ length lines + 1 → IsMarked p lines 0 deleted
+pub first_marked : (p : Problem) (lines : List LogLine) (deleted : List Bool) → length deleted ≡ length lines + 1 → AreMarked p lines 0 deleted
 first_marked p lines deleted marks = record { within = omega arith; marks = marks; named = λ i d lt. absurd (omega arith) }
 
 -- an empty clause, as it is read

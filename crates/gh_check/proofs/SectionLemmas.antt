@@ -18,8 +18,8 @@ use Rattle.gh_check.specs.declared.fault.FaultKind.{FaultKind}
 use Rattle.gh_check.specs.Names.{fault_at}
 use Rattle.gh_check.specs.declared.lines.Earlier.{Earlier}
 use Rattle.gh_check.specs.declared.lines.Outcome.TheVariants.{Faulty, Holds}
-use Rattle.gh_check.specs.Kept.{Kept, IsFirst, IsNamed, HasNext, next_line, with_line, IsWithin, AreLinesKept}
-use Rattle.gh_check.specs.Lines.{IsTaken, IsChecked, IsKeptAfter, IsReady}
+use Rattle.gh_check.specs.Kept.{Kept, IsBeforeAll, IsNamed, HasNext, next_line, with_line, IsWithin, AreLinesKept}
+use Rattle.gh_check.specs.Lines.{IsTaken, IsChecked, IsKeptAfter, FitsSizes}
 use Rattle.gh_check.proofs.KeptLemmas.{kept_first}
 use Rattle.gh_check.specs.Answers.{IsSectionError, AreApart, AreOne}
 
@@ -109,11 +109,11 @@ pub record Reads (p : Problem) (first : ℕ) (lines : List LogLine) (i : ℕ) (e
   pub problem : e.kept.problem ≡ p
   pub lines_are : e.kept.lines ≡ lines
   pub kept : AreLinesKept p (take i lines) e.kept
-  pub ready : IsReady p.sizes e
+  pub ready : FitsSizes p.sizes e
   pub of_kind : AreOfKind p (take i lines)
   pub number : line ≡ first + i
 
-pub reads_first : (p : Problem) (first : ℕ) (lines : List LogLine) (e : Earlier) → IsFirst p lines e.kept → IsReady p.sizes e → Reads p first lines 0 e first
+pub reads_first : (p : Problem) (first : ℕ) (lines : List LogLine) (e : Earlier) → IsBeforeAll p lines e.kept → FitsSizes p.sizes e → Reads p first lines 0 e first
 reads_first p first lines e f ready = record {
   problem = f.problem;
   lines_are = f.lines_are;
@@ -149,9 +149,9 @@ has_next p first lines i l e new line lt at r problem same taken after = record 
 }
 
 pub reads_more : (p : Problem) (first : ℕ) (lines : List LogLine) (i : ℕ) (l : LogLine) (e mid new : Earlier) (line : ℕ) → i < length lines → slice_get lines i ≡ Some l → Reads p first lines i e line
-    → mid.kept.problem ≡ e.kept.problem → mid.kept.lines ≡ e.kept.lines → IsTaken p (take i lines) l → IsKeptAfter p (take i lines) l Holds mid.kept → IsReady p.sizes mid
+    → mid.kept.problem ≡ e.kept.problem → mid.kept.lines ≡ e.kept.lines → IsTaken p (take i lines) l → IsKeptAfter p (take i lines) l Holds mid.kept → FitsSizes p.sizes mid
     → ((m : LogLine) → next_line mid.kept ≡ Some m → new.kept ≡ with_line mid.kept (line_clause mid.kept.problem m))
-    → ((sizes : Sizes) (m : LogLine) → next_line mid.kept ≡ Some m → IsWithin sizes (line_clause mid.kept.problem m) → IsReady sizes mid → IsReady sizes new)
+    → ((sizes : Sizes) (m : LogLine) → next_line mid.kept ≡ Some m → IsWithin sizes (line_clause mid.kept.problem m) → FitsSizes sizes mid → FitsSizes sizes new)
     → Reads p first lines (i + 1) new (line + 1)
 reads_more p first lines i l e mid new line lt at r problem same taken after ready kept is_ready =
     let front : List LogLine = take i lines in

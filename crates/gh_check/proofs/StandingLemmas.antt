@@ -9,7 +9,7 @@ use Rattle.gh_base.specs.Propagation.{Propagated, given, forced, IsRefutedByUnit
 use Rattle.gh_base.specs.Hints.{HasAllButOne, IsRefutedByHints, refuted, joined}
 use Rattle.gh_check.specs.Kept.{Kept, clause_at, named, present, stands_in}
 use Rattle.gh_check.specs.Truths.{IsConsistent, IsMetBy}
-use Rattle.gh_check.specs.Standing.{AreGivenBy, IsStanding, MayStand, IsConfirmedBy}
+use Rattle.gh_check.specs.Standing.{AreGivenBy, IsStanding, IsStandingOf, IsConfirmedBy}
 use Rattle.gh_check.specs.declared.standing.Standing.{Standing}
 use Rattle.gh_base.specs.declared.sizes.Sizes.{Sizes}
 use Rattle.gh_check.proofs.AssumingLemmas.{in_opposites}
@@ -134,7 +134,7 @@ given_push entries e fixed h assumed l w =
 pub standing_push : (sizes : Sizes) (entries : List (Option (List Lit))) (e : Option (List Lit)) (s : Standing) → IsStanding sizes entries s → IsStanding sizes (entries ++ e ∷ []) s
 standing_push sizes entries e s h = record { fixed = h.fixed; above = h.above; given = given_push entries e s.fixed.lits h.given }
 
-pub may_push : (sizes : Sizes) (entries : List (Option (List Lit))) (e : Option (List Lit)) (standing : Option Standing) → MayStand sizes entries standing → MayStand sizes (entries ++ e ∷ []) standing
+pub may_push : (sizes : Sizes) (entries : List (Option (List Lit))) (e : Option (List Lit)) (standing : Option Standing) → IsStandingOf sizes entries standing → IsStandingOf sizes (entries ++ e ∷ []) standing
 may_push sizes entries e None h = tt
 may_push sizes entries e (Some s) h = standing_push sizes entries e s h
 

@@ -9,7 +9,7 @@ use Rattle.gh_base.specs.Grounds.{Problem}
 use Rattle.gh_inst.specs.Instances.{IsInstance}
 use Rattle.gh_log.specs.Lines.{LogLine}
 use Rattle.gh_log.specs.Lines as line
-use Rattle.gh_log.specs.Sections.{line_clause, AllStand, Deletes}
+use Rattle.gh_log.specs.Sections.{line_clause, AllUndeleted, Deletes}
 
 -- What callers see of `Positions`: the ground clauses and all lines of a section, the clauses of the lines that were
 -- taken, and which positions a line deletes. Both are by position, and position 0 is that of no line.
@@ -47,14 +47,14 @@ abbrev pub IsLeft : Kept → ℕ → Type 0
 IsLeft k position = slice_index_or k.deleted position false ≡ false
 
 -- what is kept before the first of these lines
-pub record IsFirst (p : Problem) (lines : List LogLine) (k : Kept) : Type 0 where
+pub record IsBeforeAll (p : Problem) (lines : List LogLine) (k : Kept) : Type 0 where
   pub problem : k.problem ≡ p
   pub lines_are : k.lines ≡ lines
   pub clauses : k.clauses ≡ None ∷ []
   pub left : (position : ℕ) → IsLeft k position
 
 -- so many of the lines were taken, whose axiom lines all name instances, and each position has a mark
-pub record IsMarked (p : Problem) (lines : List LogLine) (taken : ℕ) (deleted : List Bool) : Type 0 where
+pub record AreMarked (p : Problem) (lines : List LogLine) (taken : ℕ) (deleted : List Bool) : Type 0 where
   pub within : taken ≤ length lines
   pub marks : length deleted ≡ length lines + 1
   pub named : All (IsNamed p) (take taken lines)
@@ -108,4 +108,4 @@ pub record AreLinesKept (p : Problem) (lines : List LogLine) (k : Kept) : Type 0
 -- whether all positions stand after the lines of which this is kept
 abbrev pub TellsStanding : Kept → List ℕ → Bool → Type 0
 TellsStanding k positions told =
-    (p : Problem) (lines : List LogLine) → AreLinesKept p lines k → IsTrue told ↔ AllStand p lines positions
+    (p : Problem) (lines : List LogLine) → AreLinesKept p lines k → IsTrue told ↔ AllUndeleted p lines positions

@@ -6,7 +6,7 @@ use Rattle.gh_log.specs.Sections.{IsOfKind, IsFaultOf, line_clause}
 use Rattle.gh_base.specs.declared.sizes.Sizes.{Sizes}
 use Rattle.gh_check.specs.Kept.{Kept, next_line, with_line, AreLinesKept, IsWithin, AreWithin}
 use Rattle.gh_check.specs.Assuming.{IsBehind}
-use Rattle.gh_check.specs.Standing.{MayStand}
+use Rattle.gh_check.specs.Standing.{IsStandingOf}
 use Rattle.gh_check.specs.Names.{fault_number}
 use Rattle.gh_check.specs.declared.lines.Earlier.{Earlier}
 use Rattle.gh_check.specs.declared.lines.Outcome.{Outcome}
@@ -40,13 +40,13 @@ abbrev pub Leaves : Problem → Kept → LogLine → Outcome → Kept → Type 0
 Leaves p old line o new = (earlier : List LogLine) → AreLinesKept p earlier old → IsKeptAfter p earlier line o new
 
 -- what is kept fits clauses over these numbers
-pub record IsReady (sizes : Sizes) (e : Earlier) : Type 0 where
+pub record FitsSizes (sizes : Sizes) (e : Earlier) : Type 0 where
   pub within : AreWithin sizes e.kept.clauses
-  pub standing : MayStand sizes e.kept.clauses e.standing
+  pub standing : IsStandingOf sizes e.kept.clauses e.standing
   pub behind : IsBehind sizes e.kept.clauses e.units
   pub truths : e.truths.sizes ≡ sizes
 
 -- .. also when the line to be taken next was taken, if its clause is over these numbers
 abbrev pub StaysReady : Earlier → Earlier → Type 0
 StaysReady old new = (sizes : Sizes) (l : LogLine) → next_line old.kept ≡ Some l
-    → IsWithin sizes (line_clause old.kept.problem l) → IsReady sizes old → IsReady sizes new
+    → IsWithin sizes (line_clause old.kept.problem l) → FitsSizes sizes old → FitsSizes sizes new

@@ -26,8 +26,8 @@ pub record IsStanding (sizes : Sizes) (entries : List (Option (List Lit))) (s : 
   pub given : AreGivenBy (present entries) s.fixed.lits
 
 -- what stands, where it was made
-abbrev pub MayStand : Sizes → List (Option (List Lit)) → Option Standing → Type 0
-MayStand sizes entries standing = MatchOption standing ⊤ (λ s. IsStanding sizes entries s)
+abbrev pub IsStandingOf : Sizes → List (Option (List Lit)) → Option Standing → Type 0
+IsStandingOf sizes entries standing = MatchOption standing ⊤ (λ s. IsStanding sizes entries s)
 
 -- the clauses at the positions, in order, refute the set
 abbrev pub IsRefutedAt : Kept → List ℕ → List Lit → Type 0
@@ -70,4 +70,4 @@ IsJudged clauses clause told = MatchOption told ⊤ (λ b. IsTrue b ↔ FollowsB
 -- over all clauses over which the old standing stands, if it was made, the new one stands
 abbrev pub StandsOn : Sizes → Option Standing → Standing → Type 0
 StandsOn sizes old new =
-    (entries : List (Option (List Lit))) → MayStand sizes entries old → IsStanding sizes entries new
+    (entries : List (Option (List Lit))) → IsStandingOf sizes entries old → IsStanding sizes entries new

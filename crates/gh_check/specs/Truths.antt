@@ -31,12 +31,12 @@ pub record IsTable (table : Partial) (set : List Lit) : Type 0 where
   pub tells : (l : Lit) → IsInRange table.sizes l.atom → IsValueIn set l (value_of table l)
 
 -- a literal of the clause that isn't false
-abbrev pub IsOpenIn : List Lit → List Lit → Lit → Type 0
-IsOpenIn set clause l = Contains clause l × (Contains set (opposite l) → ⊥)
+abbrev pub IsNotFalse : List Lit → List Lit → Lit → Type 0
+IsNotFalse set clause l = Contains clause l × (Contains set (opposite l) → ⊥)
 
 -- a literal of the clause that isn't false is found, or none is and the clause is false
 abbrev pub FindsOpen : List Lit → List Lit → Option Lit → Type 0
-FindsOpen set clause found = MatchOption found (IsRefutedBy set clause) (IsOpenIn set clause)
+FindsOpen set clause found = MatchOption found (IsRefutedBy set clause) (IsNotFalse set clause)
 
 -- the set has a literal and its opposite
 abbrev pub HasBoth : List Lit → Type 0

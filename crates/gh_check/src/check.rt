@@ -3,8 +3,8 @@
 ghost use Rattle.std.specs.Prelude.{◌+◌, ◌≤◌, IfOk, IfErr, OnOk, length};
 ghost use Rattle.gh_log.specs.Sections.{IsValidSection};
 ghost use Rattle.gh_check.specs.Answers.{IsSectionError};
-ghost use Rattle.gh_check.specs.Kept.{IsFirst, HasNext, TakesLine};
-ghost use Rattle.gh_check.specs.Lines.{IsReady, StaysReady};
+ghost use Rattle.gh_check.specs.Kept.{IsBeforeAll, HasNext, TakesLine};
+ghost use Rattle.gh_check.specs.Lines.{FitsSizes, StaysReady};
 
 use crate::fault::{CheckError, FaultKind, LogFault};
 use crate::hints::Truths;
@@ -22,8 +22,8 @@ fn nothing_before<'s>(
     lines: &'s Lines,
 ) -> Result<Earlier<'s>, AllocError>
     requires { length lines.now ≤ 4294967295 }
-    ensures first { IfOk result (λ e. IsFirst ground.now lines.now e.kept) }
-    ensures ready { IfOk result (λ e. IsReady ground.now.sizes e) }
+    ensures first { IfOk result (λ e. IsBeforeAll ground.now lines.now e.kept) }
+    ensures ready { IfOk result (λ e. FitsSizes ground.now.sizes e) }
 {
     let kept = Positions::new(alloc, ground, lines)?;
     let truths = Truths::new(alloc, ground.sizes())?;

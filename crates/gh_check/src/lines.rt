@@ -9,9 +9,9 @@ ghost use Rattle.gh_base.specs.Grounds.{Problem};
 ghost use Rattle.gh_base.specs.Meaning.{IsEqualityClause};
 ghost use Rattle.gh_base.specs.Propagation.{FollowsByUnits};
 ghost use Rattle.gh_check.specs.Kept.{AreWithin, present};
-ghost use Rattle.gh_check.specs.Lines.{IsChecked, Answers, Leaves, IsReady, AnswersOver};
+ghost use Rattle.gh_check.specs.Lines.{IsChecked, Answers, Leaves, FitsSizes, AnswersOver};
 ghost use Rattle.gh_check.specs.Assuming.{IsBehind};
-ghost use Rattle.gh_check.specs.Standing.{MayStand};
+ghost use Rattle.gh_check.specs.Standing.{IsStandingOf};
 
 use crate::fault::FaultKind;
 use crate::hints::Truths;
@@ -98,12 +98,12 @@ fn is_implied(
     units: &mut Units,
     lits: &[Lit],
 ) -> Result<bool, AllocError>
-    requires standing { MayStand sizes kept.now.clauses standing.old }
+    requires standing { IsStandingOf sizes kept.now.clauses standing.old }
     requires behind { IsBehind sizes kept.now.clauses units.old }
     requires range { AreInRange sizes lits.now }
     requires within { AreWithin sizes kept.now.clauses }
     ensures exact { IfOk result (λ b. IsTrue b ↔ FollowsByUnits (present kept.now.clauses) lits.now) }
-    ensures standing { OnOk result (MayStand sizes kept.now.clauses standing.new) }
+    ensures standing { OnOk result (IsStandingOf sizes kept.now.clauses standing.new) }
     ensures behind { OnOk result (IsBehind sizes kept.now.clauses units.new) }
 {
     match judged(alloc, standing, sizes, kept, lits)? {
@@ -124,11 +124,11 @@ fn checked_learnt(
     units: &mut Units,
     lits: &[Lit],
 ) -> Result<Outcome, AllocError>
-    requires standing { MayStand sizes kept.now.clauses standing.old }
+    requires standing { IsStandingOf sizes kept.now.clauses standing.old }
     requires behind { IsBehind sizes kept.now.clauses units.old }
     requires within { AreWithin sizes kept.now.clauses }
     ensures checked { IfOk result (AnswersOver sizes kept.now (line_kind.Learnt lits.now)) }
-    ensures standing { OnOk result (MayStand sizes kept.now.clauses standing.new) }
+    ensures standing { OnOk result (IsStandingOf sizes kept.now.clauses standing.new) }
     ensures behind { OnOk result (IsBehind sizes kept.now.clauses units.new) }
 {
     if !are_in_range(sizes, lits) {
@@ -187,12 +187,12 @@ pub fn checked(
     before: &mut Earlier<'_>,
     line: LogLine<'_>,
 ) -> Result<Outcome, AllocError>
-    requires { IsReady ground.now.sizes before.old }
+    requires { FitsSizes ground.now.sizes before.old }
     ensures checked { IfOk result (Answers ground.now before.old.kept (line_of line.entry)) }
     ensures kept { IfOk result (λ o. Leaves ground.now before.old.kept (line_of line.entry) o before.new.kept) }
     ensures problem { OnOk result (before.new.kept.problem ≡ before.old.kept.problem) }
     ensures lines { OnOk result (before.new.kept.lines ≡ before.old.kept.lines) }
-    ensures ready { OnOk result (IsReady ground.now.sizes before.new) }
+    ensures ready { OnOk result (FitsSizes ground.now.sizes before.new) }
 {
     match line {
         LogLine::Axiom(name) => Ok(checked_axiom(alloc, ground, name)),

@@ -5,7 +5,7 @@ ghost use Rattle.std.specs.Prelude.{is_some, length, slice_index_or};
 ghost use Rattle.gh_log.specs.Lines.{LogLine as Line};
 ghost use Rattle.gh_log.specs.Sections.{line_clause};
 ghost use Rattle.gh_check.specs.Clauses.{lits_in, IsLineAt};
-ghost use Rattle.gh_check.specs.Kept.{IsFirst, HasNext, next_line, with_line, stands_in, clause_at, AreDeleted};
+ghost use Rattle.gh_check.specs.Kept.{IsBeforeAll, HasNext, next_line, with_line, stands_in, clause_at, AreDeleted};
 ghost use Rattle.gh_check.specs.Kept.{MayBeDeleted, TellsStanding};
 
 use crate::clauses::{LineClause, clause_of, has_clause};
@@ -28,7 +28,7 @@ pub struct Positions<'s> {
 impl<'s> Model for Positions<'s> {
     ghost use Rattle.std.specs.Prelude.{◌∷◌, None, map, take};
     ghost use Rattle.gh_log.specs.Sections.{line_clause};
-    ghost use Rattle.gh_check.specs.Kept.{Kept, IsMarked};
+    ghost use Rattle.gh_check.specs.Kept.{Kept, AreMarked};
 
     ghost Value = { Kept };
 
@@ -39,7 +39,7 @@ impl<'s> Model for Positions<'s> {
       deleted = k.deleted.items;
     } };
 
-    ghost invariant = { λ k. IsMarked k.ground.now k.lines.now k.taken k.deleted.items };
+    ghost invariant = { λ k. AreMarked k.ground.now k.lines.now k.taken k.deleted.items };
 }
 
 impl<'s> Positions<'s> {
@@ -50,7 +50,7 @@ impl<'s> Positions<'s> {
         lines: &'s Lines,
     ) -> Result<Positions<'s>, AllocError>
         requires { length lines.now ≤ 4294967295 }
-        ensures { IfOk result (IsFirst ground.now lines.now) }
+        ensures { IfOk result (IsBeforeAll ground.now lines.now) }
     {
         let deleted = vec![in alloc; false; lines.len() + 1]?;
         Ok(Positions {

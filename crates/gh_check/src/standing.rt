@@ -7,7 +7,7 @@ ghost use Rattle.gh_base.specs.declared.sizes.Sizes.{Sizes};
 ghost use Rattle.gh_base.specs.Atoms.{opposite, AreInRange};
 ghost use Rattle.gh_check.specs.Kept.{present, AreWithin};
 ghost use Rattle.gh_check.specs.Truths.{IsConsistent, IsMetBy};
-ghost use Rattle.gh_check.specs.Standing.{IsStanding, MayStand, IsAtRest, AreAtRest, IsClosedBy, IsJudged, KeepsGiven};
+ghost use Rattle.gh_check.specs.Standing.{IsStanding, IsStandingOf, IsAtRest, AreAtRest, IsClosedBy, IsJudged, KeepsGiven};
 ghost use Rattle.gh_check.specs.Standing.{RestsAt, IsRefutedAt, StandsOn};
 ghost use Rattle.gh_check.specs.Standing.{IsConfirmedBy, IsRefusedBy};
 
@@ -269,11 +269,11 @@ pub fn judged(
     kept: &Positions<'_>,
     lits: &[Lit],
 ) -> Result<Option<bool>, AllocError>
-    requires standing { MayStand sizes kept.now.clauses standing.old }
+    requires standing { IsStandingOf sizes kept.now.clauses standing.old }
     requires range { AreInRange sizes lits.now }
     requires within { AreWithin sizes kept.now.clauses }
     ensures judged { IfOk result (IsJudged (present kept.now.clauses) lits.now) }
-    ensures standing { OnOk result (MayStand sizes kept.now.clauses standing.new) }
+    ensures standing { OnOk result (IsStandingOf sizes kept.now.clauses standing.new) }
 {
     let mut found = begun(alloc, sizes, standing.take())?;
     let answer = found.judge(sizes, kept, lits)?;

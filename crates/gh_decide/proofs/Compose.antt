@@ -30,47 +30,47 @@ use Rattle.gh_assert.proofs.Agree.{Agree, same_meaning}
 use Rattle.gh_decide.proofs.Sound.{Sound, working, state, Keeps, Goes, Ending, keeps_on, not_empty, sound_set, sound_new, sound_write, sound_free, sound_give, sound_test, sound_loop_test}
 
 -- the loop has the number, and each way once around it is safe
-pub record IsRound (P : Program) (p : Procedure) (o : ℕ) (l : Loop) : Type 0 where
-  pub numbered : IsLoopAt p o l
-  pub safe : (x : State) → Meaning l.invariant x.store x.heap → Safe P p (once_around P o l) x
+pub record IsRound (P : Program) (proc : Procedure) (o : ℕ) (l : Loop) : Type 0 where
+  pub numbered : IsLoopAt proc o l
+  pub safe : (x : State) → Meaning l.invariant x.store x.heap → Safe P proc (once_around P o l) x
 
 -- so it is with some loops, which are numbered from o
 abbrev pub RoundsSafe : Program → Procedure → ℕ → List Loop → Type 0
-RoundsSafe P p o ls = (j : ℕ) (l : Loop) → slice_get ls j ≡ Some l → IsRound P p (o + j) l
+RoundsSafe P proc o ls = (j : ℕ) (l : Loop) → slice_get ls j ≡ Some l → IsRound P proc (o + j) l
 
 -- those of the first of two lists, and of the last
-first_rounds : (P : Program) (p : Procedure) (o : ℕ) (ls ms : List Loop) → RoundsSafe P p o (ls ++ ms) → RoundsSafe P p o ls
-first_rounds P p o ls ms rounds j l at = rounds j l (at_front ls ms j (slice_get_within ls j l at) ∙ at)
+first_rounds : (P : Program) (proc : Procedure) (o : ℕ) (ls ms : List Loop) → RoundsSafe P proc o (ls ++ ms) → RoundsSafe P proc o ls
+first_rounds P proc o ls ms rounds j l at = rounds j l (at_front ls ms j (slice_get_within ls j l at) ∙ at)
 
-last_rounds : (P : Program) (p : Procedure) (o : ℕ) (ls ms : List Loop) → RoundsSafe P p o (ls ++ ms) → RoundsSafe P p (o + length ls) ms
-last_rounds P p o ls ms rounds j l at =
+last_rounds : (P : Program) (proc : Procedure) (o : ℕ) (ls ms : List Loop) → RoundsSafe P proc o (ls ++ ms) → RoundsSafe P proc (o + length ls) ms
+last_rounds P proc o ls ms rounds j l at =
     let count : o + (length ls + j) ≡ (o + length ls) + j = omega arith in
-    subst (λ i. IsRound P p i l) count (rounds (length ls + j) l (at_back ls ms (length ls + j) j refl ∙ at))
+    subst (λ i. IsRound P proc i l) count (rounds (length ls + j) l (at_back ls ms (length ls + j) j refl ∙ at))
 
 -- the first loop, and those after it
-first_round : (P : Program) (p : Procedure) (o : ℕ) (l : Loop) (ls : List Loop) → RoundsSafe P p o (l ∷ ls) → IsRound P p o l
-first_round P p o l ls rounds = let count : o + 0 ≡ o = omega arith in subst (λ i. IsRound P p i l) count (rounds 0 l refl)
+first_round : (P : Program) (proc : Procedure) (o : ℕ) (l : Loop) (ls : List Loop) → RoundsSafe P proc o (l ∷ ls) → IsRound P proc o l
+first_round P proc o l ls rounds = let count : o + 0 ≡ o = omega arith in subst (λ i. IsRound P proc i l) count (rounds 0 l refl)
 
-later_rounds : (P : Program) (p : Procedure) (o : ℕ) (l : Loop) (ls : List Loop) → RoundsSafe P p o (l ∷ ls) → RoundsSafe P p (suc o) ls
-later_rounds P p o l ls rounds j m at = let count : o + suc j ≡ suc o + j = omega arith in subst (λ i. IsRound P p i m) count (rounds (suc j) m at)
+later_rounds : (P : Program) (proc : Procedure) (o : ℕ) (l : Loop) (ls : List Loop) → RoundsSafe P proc o (l ∷ ls) → RoundsSafe P proc (suc o) ls
+later_rounds P proc o l ls rounds j m at = let count : o + suc j ≡ suc o + j = omega arith in subst (λ i. IsRound P proc i m) count (rounds (suc j) m at)
 
 pub record Ready (P : Program) : Type 0 where
   pub typed : AllKeepRules P
-  pub bodies : (p : Procedure) → Contains P.procedures p → (x : State) → Meaning p.needs x.store x.heap → Safe P p (graph_from P p whole_body) x
-  pub rounds : (p : Procedure) → Contains P.procedures p → RoundsSafe P p 0 (loops_of p)
+  pub bodies : (proc : Procedure) → Contains P.procedures proc → (x : State) → Meaning proc.needs x.store x.heap → Safe P proc (graph_from P proc whole_body) x
+  pub rounds : (proc : Procedure) → Contains P.procedures proc → RoundsSafe P proc 0 (loops_of proc)
 
 -- what is known of statements that stand in the block b, whose first loop has the number o
-pub record Fits (P : Program) (p : Procedure) (b : Statements) (o : ℕ) (r : Statements) : Type 0 where
+pub record Fits (P : Program) (proc : Procedure) (b : Statements) (o : ℕ) (r : Statements) : Type 0 where
   pub assigns : (y : Name) → SomeAssigns r y → SomeAssigns b y
-  pub rounds : RoundsSafe P p o (all_loops r)
+  pub rounds : RoundsSafe P proc o (all_loops r)
   pub returns : AllLoopsReturnNot r
 
 -- for up to n steps: statements that are safe, before a rest that is sound wherever they lead, are sound
 abbrev pub AreSoundUpTo : Program → (Config → Type 0) → ℕ → Type 0
 AreSoundUpTo P E n =
-    (m : ℕ) → m ≤ n → (p : Procedure) → Contains P.procedures p → (b : Statements) (xs : List Name) (s0 : Store) (F : Heap) (below : List Activation) (q : Statements) (k : Graph) (o : ℕ) (r : Statements) →
-    Goes P E F b xs s0 k p q below m → AllReturnNot r ⊎ Ending P E F b xs s0 p below m → Fits P p b o r →
-    (s : Store) (a h : Heap) → Splits h a F → Safe P p (all_lowered P o r k) (state s a) → Keeps b xs s0 s → Sound P E m (working p s h (joined r q) below)
+    (m : ℕ) → m ≤ n → (proc : Procedure) → Contains P.procedures proc → (b : Statements) (xs : List Name) (s0 : Store) (F : Heap) (below : List Activation) (q : Statements) (k : Graph) (o : ℕ) (r : Statements) →
+    Goes P E F b xs s0 k proc q below m → AllReturnNot r ⊎ Ending P E F b xs s0 proc below m → Fits P proc b o r →
+    (s : Store) (a h : Heap) → Splits h a F → Safe P proc (all_lowered P o r k) (state s a) → Keeps b xs s0 s → Sound P E m (working proc s h (joined r q) below)
 
 nothing_joined : (r : Statements) → joined r no_statements ≡ r
 nothing_joined no_statements = refl
@@ -86,16 +86,16 @@ same_map (x ∷ xs) s t a =
     let others : map s xs ≡ map t xs = same_map xs s t (λ y c. a y (member_later x y xs c)) in
     rw (first, others) refl
 
-less_goes : (P : Program) (E : Config → Type 0) (F : Heap) (b : Statements) (xs : List Name) (s0 : Store) (g : Graph) (p : Procedure) (rest : Statements) (below : List Activation) (n m : ℕ) → m ≤ n → Goes P E F b xs s0 g p rest below n → Goes P E F b xs s0 g p rest below m
-less_goes P E F b xs s0 g p rest below n m l go j k = go j (omega (arith, l, k))
+less_goes : (P : Program) (E : Config → Type 0) (F : Heap) (b : Statements) (xs : List Name) (s0 : Store) (g : Graph) (proc : Procedure) (rest : Statements) (below : List Activation) (n m : ℕ) → m ≤ n → Goes P E F b xs s0 g proc rest below n → Goes P E F b xs s0 g proc rest below m
+less_goes P E F b xs s0 g proc rest below n m l go j k = go j (omega (arith, l, k))
 
-less_ending : (P : Program) (E : Config → Type 0) (F : Heap) (b : Statements) (xs : List Name) (s0 : Store) (p : Procedure) (below : List Activation) (n m : ℕ) → m ≤ n → Ending P E F b xs s0 p below n → Ending P E F b xs s0 p below m
-less_ending P E F b xs s0 p below n m l end = record { results_in = end.results_in; finish = λ j k. end.finish j (omega (arith, l, k)) }
+less_ending : (P : Program) (E : Config → Type 0) (F : Heap) (b : Statements) (xs : List Name) (s0 : Store) (proc : Procedure) (below : List Activation) (n m : ℕ) → m ≤ n → Ending P E F b xs s0 proc below n → Ending P E F b xs s0 proc below m
+less_ending P E F b xs s0 proc below n m l end = record { results_in = end.results_in; finish = λ j k. end.finish j (omega (arith, l, k)) }
 
-module _ (P : Program) (ready : Ready P) (E : Config → Type 0) (n : ℕ) (claim : AreSoundUpTo P E n) (p : Procedure) (is : Contains P.procedures p) (b : Statements) (xs : List Name) (s0 : Store) (F : Heap) (below : List Activation) (rest : Statements) (g : Graph) where
+module _ (P : Program) (ready : Ready P) (E : Config → Type 0) (n : ℕ) (claim : AreSoundUpTo P E n) (proc : Procedure) (is : Contains P.procedures proc) (b : Statements) (xs : List Name) (s0 : Store) (F : Heap) (below : List Activation) (rest : Statements) (g : Graph) where
   -- a call: the callee's run is shorter, and its end is the step of the path
-  sound_call : (m : ℕ) → m ≤ n → (ts : List Occ) (f : Occ) (es : List Expr) → Goes P E F b xs s0 g p rest below m → ((y : Name) → Contains (names ts) y → SomeAssigns b y) → (s : Store) (a h : Heap) → Splits h a F →
-      Safe P p (all_reads es (guarded (entry f.span (number_of P f.name) es) (called ts (number_of P f.name) es) g)) (state s a) → Keeps b xs s0 s → Sound P E (suc m) (working p s h (statement_first (call ts f es) rest) below)
+  sound_call : (m : ℕ) → m ≤ n → (ts : List Occ) (f : Occ) (es : List Expr) → Goes P E F b xs s0 g proc rest below m → ((y : Name) → Contains (names ts) y → SomeAssigns b y) → (s : Store) (a h : Heap) → Splits h a F →
+      Safe P proc (all_reads es (guarded (entry f.span (number_of P f.name) es) (called ts (number_of P f.name) es) g)) (state s a) → Keeps b xs s0 s → Sound P E (suc m) (working proc s h (statement_first (call ts f es) rest) below)
   sound_call m l ts f es go mine s a h split safe keeps = (
     λ fault. not_given s h es r.0 fault up,
     λ ended. absurd (not_empty (call ts f es) rest ended.0),
@@ -107,14 +107,14 @@ module _ (P : Program) (ready : Ready P) (E : Config → Type 0) (n : ℕ) (clai
       num : ℕ
       num = number_of P f.name
 
-      r : (vs : List ℕ) × Give s a es vs × Safe P p (guarded (entry f.span num es) (called ts num es) g) (state s a)
-      r = after_reads P p es (guarded (entry f.span num es) (called ts num es) g) (state s a) safe
+      r : (vs : List ℕ) × Give s a es vs × Safe P proc (guarded (entry f.span num es) (called ts num es) g) (state s a)
+      r = after_reads P proc es (guarded (entry f.span num es) (called ts num es) g) (state s a) safe
 
       up : Give s h es r.0
       up = gives_whole s h a F split es r.0 r.1
 
       caller : Activation
-      caller = record { procedure = p; store = s; rest = statement_first (call ts f es) rest }
+      caller = record { procedure = proc; store = s; rest = statement_first (call ts f es) rest }
 
       inside : (c : Procedure) (t : Store) → Declares P f.name c → map t (parameters_of c) ≡ r.0 → Sound P E m (working c t h (body_of c) (caller ∷ below))
       inside c t decl params =
@@ -145,7 +145,7 @@ module _ (P : Program) (ready : Ready P) (E : Config → Type 0) (n : ℕ) (clai
             λ d st.
                 let agree : Agree (parameters_of c) t u = λ y i. sym (keep y (typed.parameters_stay y i) (typed.distinct y i)) in
                 let whole = taken_back h' a' part.1 F sp (aside_apart h a F part.0 part.1 split part.2) in
-                let step : Takes P p (called ts num es) (state s a) (state st.0 (union a' part.1)) = (
+                let step : Takes P proc (called ts num es) (state s a) (state st.0 (union a' part.1)) = (
                   c,
                   r.0,
                   callee,
@@ -170,9 +170,9 @@ module _ (P : Program) (ready : Ready P) (E : Config → Type 0) (n : ℕ) (clai
           )
 
   -- a loop: round after round from its own start, and out by the step of the path
-  sound_loop : (m : ℕ) → m ≤ n → (o : ℕ) (at : Span) (test : Test) (i : Formula) (body : Statements) (close : Span) → Goes P E F b xs s0 g p rest below m →
-      IsRound P p o (while at test i body close) → RoundsSafe P p (suc o) (all_loops body) → AllReturnNot body → AllLoopsReturnNot body → ((y : Name) → SomeAssigns body y → SomeAssigns b y) →
-      (s : Store) (a h : Heap) → Splits h a F → Safe P p (guarded (loop_entry at o) (looped o) (tested test dead_end g)) (state s a) → Keeps b xs s0 s → Sound P E (suc m) (working p s h (statement_first (loop at test i body close) rest) below)
+  sound_loop : (m : ℕ) → m ≤ n → (o : ℕ) (at : Span) (test : Test) (i : Formula) (body : Statements) (close : Span) → Goes P E F b xs s0 g proc rest below m →
+      IsRound P proc o (while at test i body close) → RoundsSafe P proc (suc o) (all_loops body) → AllReturnNot body → AllLoopsReturnNot body → ((y : Name) → SomeAssigns body y → SomeAssigns b y) →
+      (s : Store) (a h : Heap) → Splits h a F → Safe P proc (guarded (loop_entry at o) (looped o) (tested test dead_end g)) (state s a) → Keeps b xs s0 s → Sound P E (suc m) (working proc s h (statement_first (loop at test i body close) rest) below)
   sound_loop m l o at test i body close go around rounds none inner mine s a h split safe keeps =
       again (suc m) (suc m) (omega arith) (omega arith) s part.0 h (set_aside h a F part.0 part.1 split part.2) part.3 (λ y _ _. refl)
     where
@@ -186,8 +186,8 @@ module _ (P : Program) (ready : Ready P) (E : Config → Type 0) (n : ℕ) (clai
       here = statement_first (loop at test i body close) rest
 
       once : (j : ℕ) → suc j ≤ suc m → (t : Store) (c k : Heap) → Splits k c (union part.1 F) → Meaning i t c → Keeps body [] s t →
-          ((e : ℕ) → e ≤ j → (t' : Store) (c' k' : Heap) → Splits k' c' (union part.1 F) → Meaning i t' c' → Keeps body [] s t' → Sound P E e (working p t' k' here below)) →
-          Sound P E (suc j) (working p t k here below)
+          ((e : ℕ) → e ≤ j → (t' : Store) (c' k' : Heap) → Splits k' c' (union part.1 F) → Meaning i t' c' → Keeps body [] s t' → Sound P E e (working proc t' k' here below)) →
+          Sound P E (suc j) (working proc t k here below)
       once j v t c k sp met keep more = (
         both.0,
         λ ended. absurd (not_empty (loop at test i body close) rest ended.0),
@@ -197,7 +197,7 @@ module _ (P : Program) (ready : Ready P) (E : Config → Type 0) (n : ℕ) (clai
           back : Splits k (union c part.1) F × Splits (union c part.1) c part.1
           back = taken_back k c part.1 F sp (aside_apart h a F part.0 part.1 split part.2)
 
-          out : Safe P p (tested test dead_end g) (state t (union c part.1))
+          out : Safe P proc (tested test dead_end g) (state t (union c part.1))
           out = safe.1 (state t (union c part.1)) (
             this,
             around.numbered,
@@ -210,14 +210,14 @@ module _ (P : Program) (ready : Ready P) (E : Config → Type 0) (n : ℕ) (clai
           kept : Keeps b xs s0 t
           kept y nb nx = keep y (λ q. nb (mine y q)) (no_member y) ∙ keeps y nb nx
 
-          both : (outcome t k test ≡ None → ⊥) × ((way : Bool) → outcome t k test ≡ Some way → Sound P E j (working p t k (cond way (joined body here) rest) below))
-          both = sound_loop_test P E j p t c part.1 k F (joined body here) rest below test (all_lowered P (suc o) body (ends (loop_end close o))) g sp back.0 back.1 (around.safe (state t c) met) out
-              (λ body_safe. claim j (omega (arith, v, l)) p is body [] s (union part.1 F) below here (ends (loop_end close o)) (suc o) body
+          both : (outcome t k test ≡ None → ⊥) × ((way : Bool) → outcome t k test ≡ Some way → Sound P E j (working proc t k (cond way (joined body here) rest) below))
+          both = sound_loop_test P E j proc t c part.1 k F (joined body here) rest below test (all_lowered P (suc o) body (ends (loop_end close o))) g sp back.0 back.1 (around.safe (state t c) met) out
+              (λ body_safe. claim j (omega (arith, v, l)) proc is body [] s (union part.1 F) below here (ends (loop_end close o)) (suc o) body
               (λ e le t' c' k' sp' done keep'. more e le t' c' k' sp' (done this around.numbered) keep')
               (inl none) (record { assigns = λ y q. q; rounds = rounds; returns = inner }) t c k sp body_safe keep)
               (λ rest_safe. go j (omega (arith, v)) t (union c part.1) k back.0 rest_safe kept)
 
-      again : (f j : ℕ) → j ≤ f → j ≤ suc m → (t : Store) (c k : Heap) → Splits k c (union part.1 F) → Meaning i t c → Keeps body [] s t → Sound P E j (working p t k here below)
+      again : (f j : ℕ) → j ≤ f → j ≤ suc m → (t : Store) (c k : Heap) → Splits k c (union part.1 F) → Meaning i t c → Keeps body [] s t → Sound P E j (working proc t k here below)
       again f zero u v t c k sp met keep = tt
       again zero (suc j) u v t c k sp met keep = absurd (omega (arith, u))
       again (suc f) (suc j) u v t c k sp met keep =
@@ -225,96 +225,96 @@ module _ (P : Program) (ready : Ready P) (E : Config → Type 0) (n : ℕ) (clai
 
 module _ (P : Program) (ready : Ready P) (E : Config → Type 0) where
   -- one statement, and then the rest of the block
-  by_first : (n : ℕ) → AreSoundUpTo P E n → (m : ℕ) → m ≤ n → (p : Procedure) → Contains P.procedures p → (b : Statements) (xs : List Name) (s0 : Store) (F : Heap) (below : List Activation) (q : Statements) (g : Graph) (o : ℕ) (st : Statement) →
-      Goes P E F b xs s0 g p q below m → ReturnsNot st ⊎ Ending P E F b xs s0 p below (suc m) → ((y : Name) → Assigns st y → SomeAssigns b y) → RoundsSafe P p o (loops st) → LoopsReturnNot st →
-      (s : Store) (a h : Heap) → Splits h a F → Safe P p (lowered P o st g) (state s a) → Keeps b xs s0 s → Sound P E (suc m) (working p s h (statement_first st q) below)
-  by_first n claim m l p is b xs s0 F below q g o (set x e) go end mine rounds returns s a h split safe keeps =
-      sound_set P E F b xs s0 g p q below m s a h x e go split safe (mine x.name refl) keeps
-  by_first n claim m l p is b xs s0 F below q g o (new x) go end mine rounds returns s a h split safe keeps =
-      sound_new P E F b xs s0 g p q below m s a h x go split safe (mine x.name refl) keeps
-  by_first n claim m l p is b xs s0 F below q g o (write x e) go end mine rounds returns s a h split safe keeps =
-      sound_write P E F b xs s0 g p q below m s a h x e go split safe keeps
-  by_first n claim m l p is b xs s0 F below q g o (free x) go end mine rounds returns s a h split safe keeps =
-      sound_free P E F b xs s0 g p q below m s a h x go split safe keeps
-  by_first n claim m l p is b xs s0 F below q g o (call ts f es) go end mine rounds returns s a h split safe keeps =
-      sound_call P ready E n claim p is b xs s0 F below q g m l ts f es go mine s a h split safe keeps
-  by_first n claim m l p is b xs s0 F below q g o (choice t r1 c1 r2 c2) go end mine rounds returns s a h split safe keeps =
-      let both = sound_test P E m p s a h F (joined r1 q) (joined r2 q) below t (all_lowered P o r1 g) (all_lowered P (o + length (all_loops r1)) r2 g) split safe
-      (λ one. claim m l p is b xs s0 F below q g o r1 go (first_end end) (record { assigns = λ y i. mine y (inl i); rounds = first_rounds P p o (all_loops r1) (all_loops r2) rounds; returns = returns.0 }) s a h split one keeps)
-      (λ two. claim m l p is b xs s0 F below q g (o + length (all_loops r1)) r2 go (second_end end)
-      (record { assigns = λ y i. mine y (inr i); rounds = last_rounds P p o (all_loops r1) (all_loops r2) rounds; returns = returns.1 }) s a h split two keeps) in (
+  by_first : (n : ℕ) → AreSoundUpTo P E n → (m : ℕ) → m ≤ n → (proc : Procedure) → Contains P.procedures proc → (b : Statements) (xs : List Name) (s0 : Store) (F : Heap) (below : List Activation) (q : Statements) (g : Graph) (o : ℕ) (st : Statement) →
+      Goes P E F b xs s0 g proc q below m → ReturnsNot st ⊎ Ending P E F b xs s0 proc below (suc m) → ((y : Name) → Assigns st y → SomeAssigns b y) → RoundsSafe P proc o (loops st) → LoopsReturnNot st →
+      (s : Store) (a h : Heap) → Splits h a F → Safe P proc (lowered P o st g) (state s a) → Keeps b xs s0 s → Sound P E (suc m) (working proc s h (statement_first st q) below)
+  by_first n claim m l proc is b xs s0 F below q g o (set x e) go end mine rounds returns s a h split safe keeps =
+      sound_set P E F b xs s0 g proc q below m s a h x e go split safe (mine x.name refl) keeps
+  by_first n claim m l proc is b xs s0 F below q g o (new x) go end mine rounds returns s a h split safe keeps =
+      sound_new P E F b xs s0 g proc q below m s a h x go split safe (mine x.name refl) keeps
+  by_first n claim m l proc is b xs s0 F below q g o (write x e) go end mine rounds returns s a h split safe keeps =
+      sound_write P E F b xs s0 g proc q below m s a h x e go split safe keeps
+  by_first n claim m l proc is b xs s0 F below q g o (free x) go end mine rounds returns s a h split safe keeps =
+      sound_free P E F b xs s0 g proc q below m s a h x go split safe keeps
+  by_first n claim m l proc is b xs s0 F below q g o (call ts f es) go end mine rounds returns s a h split safe keeps =
+      sound_call P ready E n claim proc is b xs s0 F below q g m l ts f es go mine s a h split safe keeps
+  by_first n claim m l proc is b xs s0 F below q g o (choice t r1 c1 r2 c2) go end mine rounds returns s a h split safe keeps =
+      let both = sound_test P E m proc s a h F (joined r1 q) (joined r2 q) below t (all_lowered P o r1 g) (all_lowered P (o + length (all_loops r1)) r2 g) split safe
+      (λ one. claim m l proc is b xs s0 F below q g o r1 go (first_end end) (record { assigns = λ y i. mine y (inl i); rounds = first_rounds P proc o (all_loops r1) (all_loops r2) rounds; returns = returns.0 }) s a h split one keeps)
+      (λ two. claim m l proc is b xs s0 F below q g (o + length (all_loops r1)) r2 go (second_end end)
+      (record { assigns = λ y i. mine y (inr i); rounds = last_rounds P proc o (all_loops r1) (all_loops r2) rounds; returns = returns.1 }) s a h split two keeps) in (
         both.0,
         λ ended. absurd (not_empty (choice t r1 c1 r2 c2) q ended.0),
         λ d st. subst (Sound P E m) (sym st.2) (both.1 st.0 st.1),
       )
     where
-      first_end : (AllReturnNot r1 × AllReturnNot r2) ⊎ Ending P E F b xs s0 p below (suc m) → AllReturnNot r1 ⊎ Ending P E F b xs s0 p below m
-      first_end e = elim e [ inl none ↦ inl none.0 | inr some ↦ inr (less_ending P E F b xs s0 p below (suc m) m (omega arith) some) ]
+      first_end : (AllReturnNot r1 × AllReturnNot r2) ⊎ Ending P E F b xs s0 proc below (suc m) → AllReturnNot r1 ⊎ Ending P E F b xs s0 proc below m
+      first_end e = elim e [ inl none ↦ inl none.0 | inr some ↦ inr (less_ending P E F b xs s0 proc below (suc m) m (omega arith) some) ]
 
-      second_end : (AllReturnNot r1 × AllReturnNot r2) ⊎ Ending P E F b xs s0 p below (suc m) → AllReturnNot r2 ⊎ Ending P E F b xs s0 p below m
-      second_end e = elim e [ inl none ↦ inl none.1 | inr some ↦ inr (less_ending P E F b xs s0 p below (suc m) m (omega arith) some) ]
-  by_first n claim m l p is b xs s0 F below q g o (loop at t i body close) go end mine rounds returns s a h split safe keeps =
-      sound_loop P ready E n claim p is b xs s0 F below q g m l o at t i body close go (first_round P p o (while at t i body close) (all_loops body) rounds) (later_rounds P p o (while at t i body close) (all_loops body) rounds) returns.0 returns.1 mine s a h split safe keeps
-  by_first n claim m l p is b xs s0 F below q g o (give at es) go end mine rounds returns s a h split safe keeps = elim end [
+      second_end : (AllReturnNot r1 × AllReturnNot r2) ⊎ Ending P E F b xs s0 proc below (suc m) → AllReturnNot r2 ⊎ Ending P E F b xs s0 proc below m
+      second_end e = elim e [ inl none ↦ inl none.1 | inr some ↦ inr (less_ending P E F b xs s0 proc below (suc m) m (omega arith) some) ]
+  by_first n claim m l proc is b xs s0 F below q g o (loop at t i body close) go end mine rounds returns s a h split safe keeps =
+      sound_loop P ready E n claim proc is b xs s0 F below q g m l o at t i body close go (first_round P proc o (while at t i body close) (all_loops body) rounds) (later_rounds P proc o (while at t i body close) (all_loops body) rounds) returns.0 returns.1 mine s a h split safe keeps
+  by_first n claim m l proc is b xs s0 F below q g o (give at es) go end mine rounds returns s a h split safe keeps = elim end [
     | inl none ↦ absurd none
-    | inr some ↦ sound_give P E F b xs s0 g p q below m s a h at es some split safe keeps
+    | inr some ↦ sound_give P E F b xs s0 g proc q below m s a h at es some split safe keeps
   ]
 
-  by_rest : (n : ℕ) → AreSoundUpTo P E n → (m : ℕ) → m ≤ suc n → (p : Procedure) → Contains P.procedures p → (b : Statements) (xs : List Name) (s0 : Store) (F : Heap) (below : List Activation) (q : Statements) (k : Graph) (o : ℕ) (r : Statements) →
-      Goes P E F b xs s0 k p q below m → AllReturnNot r ⊎ Ending P E F b xs s0 p below m → Fits P p b o r →
-      (s : Store) (a h : Heap) → Splits h a F → Safe P p (all_lowered P o r k) (state s a) → Keeps b xs s0 s → Sound P E m (working p s h (joined r q) below)
-  by_rest n claim m l p is b xs s0 F below q k o no_statements go end fits s a h split safe keeps = go m (omega arith) s a h split safe keeps
-  by_rest n claim zero l p is b xs s0 F below q k o (statement_first st r) go end fits s a h split safe keeps = tt
-  by_rest n claim (suc m) l p is b xs s0 F below q k o (statement_first st r) go end fits s a h split safe keeps =
-      by_first n claim m (omega (arith, l)) p is b xs s0 F below (joined r q) (all_lowered P (o + length (loops st)) r k) o st
-      (λ j lj t c h' sp sf kp. claim j (omega (arith, lj, l)) p is b xs s0 F below q k (o + length (loops st)) r (less_goes P E F b xs s0 k p q below (suc m) j (omega (arith, lj)) go) (rest_end j lj end)
-      (record { assigns = λ y i. fits.assigns y (inr i); rounds = last_rounds P p o (loops st) (all_loops r) fits.rounds; returns = fits.returns.1 }) t c h' sp sf kp)
-      (first_end end) (λ y i. fits.assigns y (inl i)) (first_rounds P p o (loops st) (all_loops r) fits.rounds) fits.returns.0 s a h split safe keeps
+  by_rest : (n : ℕ) → AreSoundUpTo P E n → (m : ℕ) → m ≤ suc n → (proc : Procedure) → Contains P.procedures proc → (b : Statements) (xs : List Name) (s0 : Store) (F : Heap) (below : List Activation) (q : Statements) (k : Graph) (o : ℕ) (r : Statements) →
+      Goes P E F b xs s0 k proc q below m → AllReturnNot r ⊎ Ending P E F b xs s0 proc below m → Fits P proc b o r →
+      (s : Store) (a h : Heap) → Splits h a F → Safe P proc (all_lowered P o r k) (state s a) → Keeps b xs s0 s → Sound P E m (working proc s h (joined r q) below)
+  by_rest n claim m l proc is b xs s0 F below q k o no_statements go end fits s a h split safe keeps = go m (omega arith) s a h split safe keeps
+  by_rest n claim zero l proc is b xs s0 F below q k o (statement_first st r) go end fits s a h split safe keeps = tt
+  by_rest n claim (suc m) l proc is b xs s0 F below q k o (statement_first st r) go end fits s a h split safe keeps =
+      by_first n claim m (omega (arith, l)) proc is b xs s0 F below (joined r q) (all_lowered P (o + length (loops st)) r k) o st
+      (λ j lj t c h' sp sf kp. claim j (omega (arith, lj, l)) proc is b xs s0 F below q k (o + length (loops st)) r (less_goes P E F b xs s0 k proc q below (suc m) j (omega (arith, lj)) go) (rest_end j lj end)
+      (record { assigns = λ y i. fits.assigns y (inr i); rounds = last_rounds P proc o (loops st) (all_loops r) fits.rounds; returns = fits.returns.1 }) t c h' sp sf kp)
+      (first_end end) (λ y i. fits.assigns y (inl i)) (first_rounds P proc o (loops st) (all_loops r) fits.rounds) fits.returns.0 s a h split safe keeps
     where
-      first_end : (ReturnsNot st × AllReturnNot r) ⊎ Ending P E F b xs s0 p below (suc m) → ReturnsNot st ⊎ Ending P E F b xs s0 p below (suc m)
+      first_end : (ReturnsNot st × AllReturnNot r) ⊎ Ending P E F b xs s0 proc below (suc m) → ReturnsNot st ⊎ Ending P E F b xs s0 proc below (suc m)
       first_end e = elim e [ inl none ↦ inl none.0 | inr some ↦ inr some ]
 
-      rest_end : (j : ℕ) → j ≤ m → (ReturnsNot st × AllReturnNot r) ⊎ Ending P E F b xs s0 p below (suc m) → AllReturnNot r ⊎ Ending P E F b xs s0 p below j
-      rest_end j lj e = elim e [ inl none ↦ inl none.1 | inr some ↦ inr (less_ending P E F b xs s0 p below (suc m) j (omega (arith, lj)) some) ]
+      rest_end : (j : ℕ) → j ≤ m → (ReturnsNot st × AllReturnNot r) ⊎ Ending P E F b xs s0 proc below (suc m) → AllReturnNot r ⊎ Ending P E F b xs s0 proc below j
+      rest_end j lj e = elim e [ inl none ↦ inl none.1 | inr some ↦ inr (less_ending P E F b xs s0 proc below (suc m) j (omega (arith, lj)) some) ]
 
   pub every : (n : ℕ) → AreSoundUpTo P E n
-  every zero zero l p is b xs s0 F below q k o r go end fits s a h split safe keeps = tt
-  every zero (suc m) l p is b xs s0 F below q k o r go end fits s a h split safe keeps = absurd (omega (arith, l))
-  every (suc n) m l p is b xs s0 F below q k o r go end fits s a h split safe keeps = by_rest n (every n) m l p is b xs s0 F below q k o r go end fits s a h split safe keeps
+  every zero zero l proc is b xs s0 F below q k o r go end fits s a h split safe keeps = tt
+  every zero (suc m) l proc is b xs s0 F below q k o r go end fits s a h split safe keeps = absurd (omega (arith, l))
+  every (suc n) m l proc is b xs s0 F below q k o r go end fits s a h split safe keeps = by_rest n (every n) m l proc is b xs s0 F below q k o r go end fits s a h split safe keeps
 
 -- from enough steps to whole runs
-sound_run : (P : Program) (p : Procedure) (frame : Heap) (c : Config) (ds : List Config) → Sound P (EndsWell p frame) (suc (length ds)) c → IsRun P c ds → IsGoodRun p frame c ds
-sound_run P p frame c [] sound run = record {
+sound_run : (P : Program) (proc : Procedure) (frame : Heap) (c : Config) (ds : List Config) → Sound P (EndsWell proc frame) (suc (length ds)) c → IsRun P c ds → IsGoodRun proc frame c ds
+sound_run P proc frame c [] sound run = record {
   never_faults = λ d there fault. elim (member_cases c [] d there) [ inl same ↦ sound.0 (subst Fault (sym same) fault) | inr none ↦ absurd (no_member d none) ];
   ends_well = sound.1;
 }
-sound_run P p frame c (d ∷ ds) sound run =
-    let rest = sound_run P p frame d ds (sound.2 d run.0) run.1 in record {
+sound_run P proc frame c (d ∷ ds) sound run =
+    let rest = sound_run P proc frame d ds (sound.2 d run.0) run.1 in record {
       never_faults = λ e there fault. elim (member_cases c (d ∷ ds) e there) [ inl same ↦ sound.0 (subst Fault (sym same) fault) | inr later ↦ rest.never_faults e later fault ];
       ends_well = rest.ends_well;
     }
 
 pub ready_is_good : (P : Program) → Ready P → IsGood P
-ready_is_good P ready p is s h part frame split met ds run =
-    sound_run P p frame (starting p s h []) ds
-    (subst (λ body. Sound P E n (working p s h body [])) (nothing_joined (body_of p))
-    (every P ready E n n (omega arith) p is (body_of p) (results_of p) s frame [] no_statements (ends (returned p.close)) 0 (body_of p)
+ready_is_good P ready proc is s h part frame split met ds run =
+    sound_run P proc frame (starting proc s h []) ds
+    (subst (λ body. Sound P E n (working proc s h body [])) (nothing_joined (body_of proc))
+    (every P ready E n n (omega arith) proc is (body_of proc) (results_of proc) s frame [] no_statements (ends (returned proc.close)) 0 (body_of proc)
     (λ j l t a k sp done keep. finish j l t a k sp done keep)
     (inr (record { results_in = λ y i. i; finish = finish }))
-    (record { assigns = λ y i. i; rounds = ready.rounds p is; returns = typed.loops_return_not })
-    s part h split (ready.bodies p is (state s part) met) (λ y _ _. refl)))
+    (record { assigns = λ y i. i; rounds = ready.rounds proc is; returns = typed.loops_return_not })
+    s part h split (ready.bodies proc is (state s part) met) (λ y _ _. refl)))
     run
   where
     E : Config → Type 0
-    E = EndsWell p frame
+    E = EndsWell proc frame
 
     n : ℕ
     n = suc (length ds)
 
-    typed : KeepsRules p
-    typed = ready.typed p is
+    typed : KeepsRules proc
+    typed = ready.typed proc is
 
-    finish : (j : ℕ) → j ≤ n → (t : Store) (a k : Heap) → Splits k a frame → MeetsOneOf p.gives t a → Keeps (body_of p) (results_of p) s t → Sound P E j (working p t k no_statements [])
+    finish : (j : ℕ) → j ≤ n → (t : Store) (a k : Heap) → Splits k a frame → MeetsOneOf proc.gives t a → Keeps (body_of proc) (results_of proc) s t → Sound P E j (working proc t k no_statements [])
     finish zero l t a k sp m keep = tt
     finish (suc j) l t a k sp m keep = (λ fault. fault, λ ended. (a, sp, m), λ d step. absurd step)
 
@@ -327,8 +327,8 @@ round_there o (m ∷ ls) (suc j) l at =
     subst (λ k. Contains (rounds o (m ∷ ls)) (round k)) count (member_later (round o) (round (suc o + j)) (rounds (suc o) ls) (round_there (suc o) ls j l at))
 
 -- the ways from it are those once around
-around_loop : (P : Program) (p : Procedure) (o : ℕ) (l : Loop) (x : State) → IsLoopAt p o l → Safe P p (graph_from P p (round o)) x → Safe P p (once_around P o l) x
-around_loop P p o l x at safe = subst (λ f. Safe P p (around P o f) x) at safe
+around_loop : (P : Program) (proc : Procedure) (o : ℕ) (l : Loop) (x : State) → IsLoopAt proc o l → Safe P proc (graph_from P proc (round o)) x → Safe P proc (once_around P o l) x
+around_loop P proc o l x at safe = subst (λ f. Safe P proc (around P o f) x) at safe
 
 -- and what its start meets is its invariant
 met_there : (p : Procedure) (o : ℕ) (l : Loop) (x : State) → IsLoopAt p o l → Meaning l.invariant x.store x.heap → Meaning (meets_at p (round o)) x.store x.heap
@@ -337,15 +337,15 @@ met_there p o l x at met = subst (λ f. Meaning (invariant_of f) x.store x.heap)
 pub composition : Composition
 composition P typed pass = ready_is_good P (record { typed = typed; bodies = bodies; rounds = around_each })
   where
-    bodies : (p : Procedure) → Contains P.procedures p → (x : State) → Meaning p.needs x.store x.heap → Safe P p (graph_from P p whole_body) x
-    bodies p is x met = from_paths P p (graph_from P p whole_body) x (pass p is whole_body (member_first whole_body (rounds 0 (loops_of p))) x met)
+    bodies : (proc : Procedure) → Contains P.procedures proc → (x : State) → Meaning proc.needs x.store x.heap → Safe P proc (graph_from P proc whole_body) x
+    bodies proc is x met = from_paths P proc (graph_from P proc whole_body) x (pass proc is whole_body (member_first whole_body (rounds 0 (loops_of proc))) x met)
 
-    at_start : (p : Procedure) → Contains P.procedures p → (o : ℕ) (l : Loop) → IsLoopAt p o l → Contains (rounds 0 (loops_of p)) (round o) → IsRound P p o l
-    at_start p is o l at there = record {
+    at_start : (proc : Procedure) → Contains P.procedures proc → (o : ℕ) (l : Loop) → IsLoopAt proc o l → Contains (rounds 0 (loops_of proc)) (round o) → IsRound P proc o l
+    at_start proc is o l at there = record {
       numbered = at;
-      safe = λ x met. around_loop P p o l x at
-          (from_paths P p (graph_from P p (round o)) x (pass p is (round o) (member_later whole_body (round o) (rounds 0 (loops_of p)) there) x (met_there p o l x at met)));
+      safe = λ x met. around_loop P proc o l x at
+          (from_paths P proc (graph_from P proc (round o)) x (pass proc is (round o) (member_later whole_body (round o) (rounds 0 (loops_of proc)) there) x (met_there proc o l x at met)));
     }
 
-    around_each : (p : Procedure) → Contains P.procedures p → RoundsSafe P p 0 (loops_of p)
-    around_each p is j l at = let count : j ≡ 0 + j = omega arith in at_start p is (0 + j) l (subst (λ k. IsLoopAt p k l) count at) (round_there 0 (loops_of p) j l at)
+    around_each : (proc : Procedure) → Contains P.procedures proc → RoundsSafe P proc 0 (loops_of proc)
+    around_each proc is j l at = let count : j ≡ 0 + j = omega arith in at_start proc is (0 + j) l (subst (λ k. IsLoopAt proc k l) count at) (round_there 0 (loops_of proc) j l at)

@@ -34,17 +34,17 @@ use Rattle.gh_decide.specs.Logs.{IsSectionOf}
 use Rattle.gh_decide.specs.Verdicts.{IsGroundOf, IsShown}
 
 -- a condition of an admitted program passes no limit
-pub never_refused : (P : Program) (p : Procedure) (c : Condition) (l : Limit) → IsAdmitted P → IsCondition P c → IsOf P c p → PassesLimit P p c l → ⊥
-never_refused P p c l admitted is of (inl many) = none_passes P (λ q d. most_terms < length (terms_of P q d.start d.way)) p c is of admitted.terms many.0
-never_refused P p c l admitted is of (inr many) = none_passes P (λ q d. most_versions < versions_of P q d.start d.way) p c is of admitted.versions many.1
+pub never_refused : (P : Program) (proc : Procedure) (c : Condition) (l : Limit) → IsAdmitted P → IsCondition P c → IsOf P c proc → PassesLimit P proc c l → ⊥
+never_refused P proc c l admitted is of (inl many) = none_passes P (λ q d. most_terms < length (terms_of P q d.start d.way)) proc c is of admitted.terms many.0
+never_refused P proc c l admitted is of (inr many) = none_passes P (λ q d. most_versions < versions_of P q d.start d.way) proc c is of admitted.versions many.1
 
 -- a valid section shows that a condition is valid
 pub section_shows : (P : Program) (c : Condition) (lines : List LogLine) → IsTyped P → IsCondition P c → IsSectionOf P c lines → IsConditionValid P c
-section_shows P c lines typed is (q, of, valid) p there = λ x ys against.
-    let same : q ≡ p = one_value (slice_get P.procedures c.procedure) q p of there in
-    let sound : IsValidSection (problem (symbolic_of P p c)) lines = subst (λ r. IsValidSection (problem (symbolic_of P r c)) lines) same valid in
-    let found = traces_give_models P p c x ys typed is there against in
-    refute (problem (symbolic_of P p c)) lines sound found.0 found.1.congruence found.1.clauses found.1.instances
+section_shows P c lines typed is (q, of, valid) proc there = λ x ys against.
+    let same : q ≡ proc = one_value (slice_get P.procedures c.procedure) q proc of there in
+    let sound : IsValidSection (problem (symbolic_of P proc c)) lines = subst (λ r. IsValidSection (problem (symbolic_of P r c)) lines) same valid in
+    let found = traces_give_models P proc c x ys typed is there against in
+    refute (problem (symbolic_of P proc c)) lines sound found.0 found.1.congruence found.1.clauses found.1.instances
 
 pub shown : (P : Program) (r : kept.Condition) (p : Problem) (s : Section) → IsTyped P → IsOne P r → IsGroundOf P r p → IsRefutationOf p s → IsShown P r s
 shown P r p s typed one ground is = record {

@@ -67,11 +67,11 @@ mutual
       (loops_return_not inside s (none_left (sites_in inside s) (all_sites_in inside ss) none), all_loops_return_not inside ss (none_right (sites_in inside s) (all_sites_in inside ss) none))
 
 pub typed_keep_rules : TypedKeepRules
-typed_keep_rules P typed p here = record {
-  parameters_stay = parameters_stay P typed p here;
-  distinct = results_are_not_parameters P typed p here;
-  needs_in = needs_are_parameters P typed p here;
-  loops_return_not = all_loops_return_not false (body_of p) (no_return_inside P typed p here);
+typed_keep_rules P typed proc here = record {
+  parameters_stay = parameters_stay P typed proc here;
+  distinct = results_are_not_parameters P typed proc here;
+  needs_in = needs_are_parameters P typed proc here;
+  loops_return_not = all_loops_return_not false (body_of proc) (no_return_inside P typed proc here);
 }
 
 pub typed_is_good : TypedIsGood

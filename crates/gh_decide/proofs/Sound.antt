@@ -37,13 +37,13 @@ Keeps b xs s t = (y : Name) → (SomeAssigns b y → ⊥) → (Contains xs y →
 
 -- wherever the graph g is safe in a heap beside the frame, the rest is sound for up to n steps
 abbrev pub Goes : Program → (Config → Type 0) → Heap → Statements → List Name → Store → Graph → Procedure → Statements → List Activation → ℕ → Type 0
-Goes P E F b xs s0 g p rest below n =
-    (j : ℕ) → j ≤ n → (t : Store) (a h : Heap) → Splits h a F → Safe P p g (state t a) → Keeps b xs s0 t → Sound P E j (working p t h rest below)
+Goes P E F b xs s0 g proc rest below n =
+    (j : ℕ) → j ≤ n → (t : Store) (a h : Heap) → Splits h a F → Safe P proc g (state t a) → Keeps b xs s0 t → Sound P E j (working proc t h rest below)
 
 -- where a procedure may return: its end is sound
-pub record Ending (P : Program) (E : Config → Type 0) (F : Heap) (b : Statements) (xs : List Name) (s0 : Store) (p : Procedure) (below : List Activation) (n : ℕ) : Type 0 where
-  pub results_in : (y : Name) → Contains (results_of p) y → Contains xs y
-  pub finish : (j : ℕ) → j ≤ n → (t : Store) (a h : Heap) → Splits h a F → MeetsOneOf p.gives t a → Keeps b xs s0 t → Sound P E j (working p t h no_statements below)
+pub record Ending (P : Program) (E : Config → Type 0) (F : Heap) (b : Statements) (xs : List Name) (s0 : Store) (proc : Procedure) (below : List Activation) (n : ℕ) : Type 0 where
+  pub results_in : (y : Name) → Contains (results_of proc) y → Contains xs y
+  pub finish : (j : ℕ) → j ≤ n → (t : Store) (a h : Heap) → Splits h a F → MeetsOneOf proc.gives t a → Keeps b xs s0 t → Sound P E j (working proc t h no_statements below)
 
 pub keeps_on : (b : Statements) (xs : List Name) (s0 s : Store) (ys : List Name) (vs : List ℕ) (t : Store) → Keeps b xs s0 s → Gets s ys vs t → ((y : Name) → Contains ys y → SomeAssigns b y ⊎ Contains xs y) → Keeps b xs s0 t
 keeps_on b xs s0 s ys vs t keeps gets in_either y nb nx = gets.kept y (λ c. elim (in_either y c) [ inl l ↦ nb l | inr r ↦ nx r ]) ∙ keeps y nb nx
@@ -51,10 +51,10 @@ keeps_on b xs s0 s ys vs t keeps gets in_either y nb nx = gets.kept y (λ c. eli
 pub not_empty : (s : Statement) (ss : Statements) → statement_first s ss ≡ no_statements → ⊥
 not_empty s ss e = absurd cc
 
-module _ (P : Program) (E : Config → Type 0) (F : Heap) (b : Statements) (xs : List Name) (s0 : Store) (g : Graph) (p : Procedure) (rest : Statements) (below : List Activation) (n : ℕ) (s : Store) (a h : Heap) where
-  pub sound_set : (x : Occ) (e : Expr) → Goes P E F b xs s0 g p rest below n → Splits h a F → Safe P p (reads e (moves (assigned x e) g)) (state s a) → SomeAssigns b x.name → Keeps b xs s0 s → Sound P E (suc n) (working p s h (statement_first (set x e) rest) below)
+module _ (P : Program) (E : Config → Type 0) (F : Heap) (b : Statements) (xs : List Name) (s0 : Store) (g : Graph) (proc : Procedure) (rest : Statements) (below : List Activation) (n : ℕ) (s : Store) (a h : Heap) where
+  pub sound_set : (x : Occ) (e : Expr) → Goes P E F b xs s0 g proc rest below n → Splits h a F → Safe P proc (reads e (moves (assigned x e) g)) (state s a) → SomeAssigns b x.name → Keeps b xs s0 s → Sound P E (suc n) (working proc s h (statement_first (set x e) rest) below)
   sound_set x e go split safe mine keeps =
-      let r = after_read P p e (moves (assigned x e) g) (state s a) safe in
+      let r = after_read P proc e (moves (assigned x e) g) (state s a) safe in
       let up : result s h e ≡ Some r.0 = reads_whole s h a F split e r.0 r.1 in (
         λ none. not_both (result s h e) r.0 up none,
         λ ended. absurd (not_empty (set x e) rest ended.0),
@@ -65,7 +65,7 @@ module _ (P : Program) (E : Config → Type 0) (F : Heap) (b : Statements) (xs :
             (go n (omega arith) st.1 a h split (r.2 (state st.1 a) (r.0, r.1, gets, refl)) (keeps_on b xs s0 s (x.name ∷ []) (r.0 ∷ []) st.1 keeps gets (λ y c. inl (subst (SomeAssigns b) (sym (only_member x.name y c)) mine)))),
       )
 
-  pub sound_new : (x : Occ) → Goes P E F b xs s0 g p rest below n → Splits h a F → Safe P p (moves (made x) g) (state s a) → SomeAssigns b x.name → Keeps b xs s0 s → Sound P E (suc n) (working p s h (statement_first (new x) rest) below)
+  pub sound_new : (x : Occ) → Goes P E F b xs s0 g proc rest below n → Splits h a F → Safe P proc (moves (made x) g) (state s a) → SomeAssigns b x.name → Keeps b xs s0 s → Sound P E (suc n) (working proc s h (statement_first (new x) rest) below)
   sound_new x go split safe mine keeps = (
     λ none. none,
     λ ended. absurd (not_empty (new x) rest ended.0),
@@ -76,10 +76,10 @@ module _ (P : Program) (E : Config → Type 0) (F : Heap) (b : Statements) (xs :
         (keeps_on b xs s0 s (x.name ∷ []) (st.0 ∷ []) st.2 keeps st.5 (λ y c. inl (subst (SomeAssigns b) (sym (only_member x.name y c)) mine)))),
   )
 
-  pub sound_write : (x : Occ) (e : Expr) → Goes P E F b xs s0 g p rest below n → Splits h a F → Safe P p (reads e (visits x (moves (written x e) g))) (state s a) → Keeps b xs s0 s → Sound P E (suc n) (working p s h (statement_first (write x e) rest) below)
+  pub sound_write : (x : Occ) (e : Expr) → Goes P E F b xs s0 g proc rest below n → Splits h a F → Safe P proc (reads e (visits x (moves (written x e) g))) (state s a) → Keeps b xs s0 s → Sound P E (suc n) (working proc s h (statement_first (write x e) rest) below)
   sound_write x e go split safe keeps =
-      let r = after_read P p e (visits x (moves (written x e) g)) (state s a) safe in
-      let w = after_visit P p x (moves (written x e) g) (state s a) r.2 in
+      let r = after_read P proc e (visits x (moves (written x e) g)) (state s a) safe in
+      let w = after_visit P proc x (moves (written x e) g) (state s a) r.2 in
       let up : result s h e ≡ Some r.0 = reads_whole s h a F split e r.0 r.1 in (
         λ f. elim f [ inl none ↦ not_both (result s h e) r.0 up none | inr none ↦ not_both (get h (s x.name)) w.0.0 (in_whole h a F split (s x.name) w.0.0 w.0.1) none ],
         λ ended. absurd (not_empty (write x e) rest ended.0),
@@ -90,9 +90,9 @@ module _ (P : Program) (E : Config → Type 0) (F : Heap) (b : Statements) (xs :
             (w.1 (state s (insert a (s x.name) st.0)) (st.0, r.1 ∙ ap Some same, w.0, refl)) keeps),
       )
 
-  pub sound_free : (x : Occ) → Goes P E F b xs s0 g p rest below n → Splits h a F → Safe P p (visits x (moves (freed x) g)) (state s a) → Keeps b xs s0 s → Sound P E (suc n) (working p s h (statement_first (free x) rest) below)
+  pub sound_free : (x : Occ) → Goes P E F b xs s0 g proc rest below n → Splits h a F → Safe P proc (visits x (moves (freed x) g)) (state s a) → Keeps b xs s0 s → Sound P E (suc n) (working proc s h (statement_first (free x) rest) below)
   sound_free x go split safe keeps =
-      let w = after_visit P p x (moves (freed x) g) (state s a) safe in (
+      let w = after_visit P proc x (moves (freed x) g) (state s a) safe in (
         λ none. not_both (get h (s x.name)) w.0.0 (in_whole h a F split (s x.name) w.0.0 w.0.1) none,
         λ ended. absurd (not_empty (free x) rest ended.0),
         λ d st.
@@ -100,17 +100,17 @@ module _ (P : Program) (E : Config → Type 0) (F : Heap) (b : Statements) (xs :
             (go n (omega arith) s (remove a (s x.name)) (remove h (s x.name)) (remove_beside h a F (s x.name) split (not_in_frame h a F split (s x.name) w.0)) (w.1 (state s (remove a (s x.name))) (w.0, refl)) keeps),
       )
 
-  pub sound_give : (at : Span) (es : List Expr) → Ending P E F b xs s0 p below (suc n) → Splits h a F → Safe P p (all_reads es (moves (answered es) (ends (returned at)))) (state s a) → Keeps b xs s0 s → Sound P E (suc n) (working p s h (statement_first (give at es) rest) below)
+  pub sound_give : (at : Span) (es : List Expr) → Ending P E F b xs s0 proc below (suc n) → Splits h a F → Safe P proc (all_reads es (moves (answered es) (ends (returned at)))) (state s a) → Keeps b xs s0 s → Sound P E (suc n) (working proc s h (statement_first (give at es) rest) below)
   sound_give at es end split safe keeps =
-      let r = after_reads P p es (moves (answered es) (ends (returned at))) (state s a) safe in
+      let r = after_reads P proc es (moves (answered es) (ends (returned at))) (state s a) safe in
       let up : Give s h es r.0 = gives_whole s h a F split es r.0 r.1 in (
         λ f. not_given s h es r.0 f up,
         λ ended. absurd (not_empty (give at es) rest ended.0),
         λ d st.
             let same : st.0 ≡ r.0 = same_values st.0 r.0 (sym st.2 ∙ up) in
-            let gets : Gets s (results_of p) r.0 st.1 = subst (λ vs. Gets s (results_of p) vs st.1) same st.3 in
-            let met : MeetsOneOf p.gives st.1 a = (r.2 (state st.1 a) (r.0, r.1, gets, refl)) in
-            let kept : Keeps b xs s0 st.1 = keeps_on b xs s0 s (results_of p) r.0 st.1 keeps gets (λ y c. inr (end.results_in y c)) in
+            let gets : Gets s (results_of proc) r.0 st.1 = subst (λ vs. Gets s (results_of proc) vs st.1) same st.3 in
+            let met : MeetsOneOf proc.gives st.1 a = (r.2 (state st.1 a) (r.0, r.1, gets, refl)) in
+            let kept : Keeps b xs s0 st.1 = keeps_on b xs s0 s (results_of proc) r.0 st.1 keeps gets (λ y c. inr (end.results_in y c)) in
             elim st.4 [
               | inl (alone, to) ↦ subst (Sound P E n) (sym to) (end.finish n (omega arith) st.1 a h split met kept)
               | inr pops ↦ (end.finish (suc n) (omega arith) st.1 a h split met kept).2 d pops
@@ -118,38 +118,38 @@ module _ (P : Program) (E : Config → Type 0) (F : Heap) (b : Statements) (xs :
       )
 
 -- a test goes one of two ways, each sound
-either_sound : (P : Program) (E : Config → Type 0) (n : ℕ) (p : Procedure) (s : Store) (h : Heap) (r1 r2 : Statements) (below : List Activation) (g1 g2 : Graph) (x : State) (way : Bool) → Safe P p (cond way g1 g2) x → (Safe P p g1 x → Sound P E n (working p s h r1 below)) → (Safe P p g2 x → Sound P E n (working p s h r2 below)) → Sound P E n (working p s h (cond way r1 r2) below)
-either_sound P E n p s h r1 r2 below g1 g2 x true safe f1 f2 = f1 safe
-either_sound P E n p s h r1 r2 below g1 g2 x false safe f1 f2 = f2 safe
+either_sound : (P : Program) (E : Config → Type 0) (n : ℕ) (proc : Procedure) (s : Store) (h : Heap) (r1 r2 : Statements) (below : List Activation) (g1 g2 : Graph) (x : State) (way : Bool) → Safe P proc (cond way g1 g2) x → (Safe P proc g1 x → Sound P E n (working proc s h r1 below)) → (Safe P proc g2 x → Sound P E n (working proc s h r2 below)) → Sound P E n (working proc s h (cond way r1 r2) below)
+either_sound P E n proc s h r1 r2 below g1 g2 x true safe f1 f2 = f1 safe
+either_sound P E n proc s h r1 r2 below g1 g2 x false safe f1 f2 = f2 safe
 
-pub sound_test : (P : Program) (E : Config → Type 0) (n : ℕ) (p : Procedure) (s : Store) (a h F : Heap) (r1 r2 : Statements) (below : List Activation) (t : Test) (g1 g2 : Graph) → Splits h a F → Safe P p (tested t g1 g2) (state s a) →
-    (Safe P p g1 (state s a) → Sound P E n (working p s h r1 below)) → (Safe P p g2 (state s a) → Sound P E n (working p s h r2 below)) →
-    (outcome s h t ≡ None → ⊥) × ((way : Bool) → outcome s h t ≡ Some way → Sound P E n (working p s h (cond way r1 r2) below))
-sound_test P E n p s a h F r1 r2 below t g1 g2 split safe f1 f2 =
-    let w = lead P p t g1 g2 (state s a) safe in
+pub sound_test : (P : Program) (E : Config → Type 0) (n : ℕ) (proc : Procedure) (s : Store) (a h F : Heap) (r1 r2 : Statements) (below : List Activation) (t : Test) (g1 g2 : Graph) → Splits h a F → Safe P proc (tested t g1 g2) (state s a) →
+    (Safe P proc g1 (state s a) → Sound P E n (working proc s h r1 below)) → (Safe P proc g2 (state s a) → Sound P E n (working proc s h r2 below)) →
+    (outcome s h t ≡ None → ⊥) × ((way : Bool) → outcome s h t ≡ Some way → Sound P E n (working proc s h (cond way r1 r2) below))
+sound_test P E n proc s a h F r1 r2 below t g1 g2 split safe f1 f2 =
+    let w = lead P proc t g1 g2 (state s a) safe in
     let up : outcome s h t ≡ Some w.0 = outcome_whole s h a F split t w.0 w.1 in (
       λ none. not_both (outcome s h t) w.0 up none,
       λ way e. let same : w.0 ≡ way = one_value (outcome s h t) w.0 way up e in
-          subst (λ v. Sound P E n (working p s h (cond v r1 r2) below)) same (either_sound P E n p s h r1 r2 below g1 g2 (state s a) w.0 w.2 f1 f2),
+          subst (λ v. Sound P E n (working proc s h (cond v r1 r2) below)) same (either_sound P E n proc s h r1 r2 below g1 g2 (state s a) w.0 w.2 f1 f2),
     )
 
 -- the test of a loop: true, it leads on in the loop's part; false, in that part with what was set aside
-pub sound_loop_test : (P : Program) (E : Config → Type 0) (n : ℕ) (p : Procedure) (s : Store) (c d h F : Heap) (r1 r2 : Statements) (below : List Activation) (t : Test) (g1 g2 : Graph) →
-    Splits h c (union d F) → Splits h (union c d) F → Splits (union c d) c d → Safe P p (tested t g1 dead_end) (state s c) → Safe P p (tested t dead_end g2) (state s (union c d)) →
-    (Safe P p g1 (state s c) → Sound P E n (working p s h r1 below)) → (Safe P p g2 (state s (union c d)) → Sound P E n (working p s h r2 below)) →
-    (outcome s h t ≡ None → ⊥) × ((way : Bool) → outcome s h t ≡ Some way → Sound P E n (working p s h (cond way r1 r2) below))
-sound_loop_test P E n p s c d h F r1 r2 below t g1 g2 small large inner safe out f1 f2 =
-    let w = lead P p t g1 dead_end (state s c) safe in
-    let v = lead P p t dead_end g2 (state s (union c d)) out in
+pub sound_loop_test : (P : Program) (E : Config → Type 0) (n : ℕ) (proc : Procedure) (s : Store) (c d h F : Heap) (r1 r2 : Statements) (below : List Activation) (t : Test) (g1 g2 : Graph) →
+    Splits h c (union d F) → Splits h (union c d) F → Splits (union c d) c d → Safe P proc (tested t g1 dead_end) (state s c) → Safe P proc (tested t dead_end g2) (state s (union c d)) →
+    (Safe P proc g1 (state s c) → Sound P E n (working proc s h r1 below)) → (Safe P proc g2 (state s (union c d)) → Sound P E n (working proc s h r2 below)) →
+    (outcome s h t ≡ None → ⊥) × ((way : Bool) → outcome s h t ≡ Some way → Sound P E n (working proc s h (cond way r1 r2) below))
+sound_loop_test P E n proc s c d h F r1 r2 below t g1 g2 small large inner safe out f1 f2 =
+    let w = lead P proc t g1 dead_end (state s c) safe in
+    let v = lead P proc t dead_end g2 (state s (union c d)) out in
     let up : outcome s h t ≡ Some w.0 = outcome_whole s h c (union d F) small t w.0 w.1 in
     let across : outcome s (union c d) t ≡ Some w.0 = outcome_whole s (union c d) c d inner t w.0 w.1 in
     let one : v.0 ≡ w.0 = one_value (outcome s (union c d) t) v.0 w.0 v.1 across in (
       λ none. not_both (outcome s h t) w.0 up none,
       λ way e. let same : w.0 ≡ way = one_value (outcome s h t) w.0 way up e in
-          subst (λ b. Sound P E n (working p s h (cond b r1 r2) below)) same
-          (ways w.0 w.2 (subst (λ b. Safe P p (cond b dead_end g2) (state s (union c d))) one v.2)),
+          subst (λ b. Sound P E n (working proc s h (cond b r1 r2) below)) same
+          (ways w.0 w.2 (subst (λ b. Safe P proc (cond b dead_end g2) (state s (union c d))) one v.2)),
     )
   where
-    ways : (b : Bool) → Safe P p (cond b g1 dead_end) (state s c) → Safe P p (cond b dead_end g2) (state s (union c d)) → Sound P E n (working p s h (cond b r1 r2) below)
+    ways : (b : Bool) → Safe P proc (cond b g1 dead_end) (state s c) → Safe P proc (cond b dead_end g2) (state s (union c d)) → Sound P E n (working proc s h (cond b r1 r2) below)
     ways true x y = f1 x
     ways false x y = f2 y

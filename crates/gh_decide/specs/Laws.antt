@@ -13,12 +13,12 @@ use Rattle.gh_decide.specs.Safe.{Safe, PathsPass, AllPass}
 
 -- a state is safe exactly where each path's check is passed
 abbrev pub SafeMeansPathsPass : Type 0
-SafeMeansPathsPass = (P : Program) (p : Procedure) (g : Graph) (x : State) → Safe P p g x ↔ PathsPass P p g x
+SafeMeansPathsPass = (P : Program) (proc : Procedure) (g : Graph) (x : State) → Safe P proc g x ↔ PathsPass P proc g x
 
 -- in a safe state a test has an outcome, and the way that it leads is safe
 abbrev pub TestsLead : Type 0
 TestsLead =
-    (P : Program) (p : Procedure) (t : Test) (g k : Graph) (x : State) → Safe P p (tested t g k) x → (way : Bool) × (outcome x.store x.heap t ≡ Some way) × Safe P p (cond way g k) x
+    (P : Program) (proc : Procedure) (t : Test) (g k : Graph) (x : State) → Safe P proc (tested t g k) x → (way : Bool) × (outcome x.store x.heap t ≡ Some way) × Safe P proc (cond way g k) x
 
 -- a program that keeps the rules is good where each check of each path is passed
 abbrev pub Composition : Type 0

@@ -13,7 +13,7 @@ use Rattle.gh_model.specs.Abstraction.{IsModelOf}
 
 -- the section is valid for the clauses of the condition
 abbrev pub IsSectionOf : Program → Condition → List LogLine → Type 0
-IsSectionOf P c lines = (p : Procedure) × IsOf P c p × IsValidSection (problem (symbolic_of P p c)) lines
+IsSectionOf P c lines = (proc : Procedure) × IsOf P c proc × IsValidSection (problem (symbolic_of P proc c)) lines
 
 -- the sections are as many as the conditions, and each is valid for the clauses of its condition
 abbrev pub AreValidSections : Program → List Condition → List (List LogLine) → Type 0
@@ -32,4 +32,4 @@ ValidLogsShowValidity = (P : Program) (log : List (List LogLine)) → IsTyped P 
 -- where a section is valid for a condition's clauses, these have no model
 abbrev pub ValidSectionsHaveNoModel : Type 0
 ValidSectionsHaveNoModel =
-    (P : Program) (p : Procedure) (c : Condition) (lines : List LogLine) (m : Interpretation) → IsValidSection (problem (symbolic_of P p c)) lines → IsModelOf P p c m → ⊥
+    (P : Program) (proc : Procedure) (c : Condition) (lines : List LogLine) (m : Interpretation) → IsValidSection (problem (symbolic_of P proc c)) lines → IsModelOf P proc c m → ⊥

@@ -2,7 +2,7 @@
 use Rattle.std.specs.Prelude.{◌≡◌, All}
 use Rattle.gh_ast.specs.Plain.{Program}
 use Rattle.gh_trace.specs.Validity.{ListedAreValid}
-use Rattle.gh_trace.specs.Refuted.{IsFirst}
+use Rattle.gh_trace.specs.Refuted.{ShowsFirst}
 use Rattle.gh_log.specs.declared.lines.Log.{Log}
 use Rattle.gh_log.specs.Spelled.{IsSpelled, lines_of}
 use Rattle.gh_decide.specs.Logs.{IsValidLog}
@@ -21,4 +21,4 @@ pub record IsVerified (P : Program) (kept : Log) : Type 0 where
 -- all conditions are valid, or the condition of the number is the first that isn't, which the trace shows
 abbrev pub IsOutcome : Program → Outcome → Type 0
 IsOutcome P (Verified log) = IsVerified P log
-IsOutcome P (Refuted number trace) = IsFirst P number trace
+IsOutcome P (Refuted number trace) = ShowsFirst P number trace

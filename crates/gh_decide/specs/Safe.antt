@@ -7,17 +7,17 @@ use Rattle.gh_path.specs.Graphs.{meets_at, graph_from}
 use Rattle.gh_path.specs.Paths.{Path}
 use Rattle.gh_trace.specs.Traces.{State, Takes, Passes, IsTrace, last_state}
 
--- from the state on, no path of the graph, which is one of the procedure p, comes to a check that fails
+-- from the state on, no path of the graph, which is one of the procedure proc, comes to a check that fails
 abbrev pub Safe : Program → Procedure → Graph → State → Type 0
-Safe P p dead_end x = Unit {0}
-Safe P p (ends c) x = Passes P p c x
-Safe P p (moves s g) x = (y : State) → Takes P p s x y → Safe P p g y
-Safe P p (guarded c s g) x = Passes P p c x × ((y : State) → Takes P p s x y → Safe P p g y)
-Safe P p (fork l e r g k) x = ((y : State) → Takes P p (assume l e r) x y → Safe P p g y) × ((y : State) → Takes P p (assume l (not e) r) x y → Safe P p k y)
+Safe P proc dead_end x = Unit {0}
+Safe P proc (ends c) x = Passes P proc c x
+Safe P proc (moves s g) x = (y : State) → Takes P proc s x y → Safe P proc g y
+Safe P proc (guarded c s g) x = Passes P proc c x × ((y : State) → Takes P proc s x y → Safe P proc g y)
+Safe P proc (fork l e r g k) x = ((y : State) → Takes P proc (assume l e r) x y → Safe P proc g y) × ((y : State) → Takes P proc (assume l (not e) r) x y → Safe P proc k y)
 
 -- the same by whole paths: each path's check is passed in the last state of each trace of the path from x
 abbrev pub PathsPass : Program → Procedure → Graph → State → Type 0
-PathsPass P p g x = (ss : List PathStep) (c : Check) → Path g ss c → (ys : List State) → IsTrace P p x ss ys → Passes P p c (last_state x ys)
+PathsPass P proc g x = (ss : List PathStep) (c : Check) → Path g ss c → (ys : List State) → IsTrace P proc x ss ys → Passes P proc c (last_state x ys)
 
 -- each check of each path from each start is passed
 abbrev pub AllPass : Program → Type 0

@@ -23,7 +23,7 @@ pub record IsWritable (s : Section) : Type 0 where
 
 -- these are the clauses of the condition that is kept
 abbrev pub IsGroundOf : Program → kept.Condition → Problem → Type 0
-IsGroundOf P r clauses = HoldsFor P r (λ P p c. clauses ≡ problem (symbolic_of P p c))
+IsGroundOf P r clauses = HoldsFor P r (λ P proc c. clauses ≡ problem (symbolic_of P proc c))
 
 -- the condition has no counterexample, and the section is valid for its clauses
 pub record IsShown (P : Program) (r : kept.Condition) (s : Section) : Type 0 where

@@ -36,7 +36,7 @@ pub fn over_terms<'a>(
 ) -> Result<Symbolic<'a>, AllocError>
     requires admitted { IsAdmitted (program_of typed.now) }
     requires one { IsOne (program_of typed.now) condition.now }
-    ensures { IfOk result (λ s. HoldsFor (program_of typed.now) condition.now (λ P p c. IsSymbolic P p c s)) }
+    ensures { IfOk result (λ s. HoldsFor (program_of typed.now) condition.now (λ P proc c. IsSymbolic P proc c s)) }
 {
     match symbolic(alloc, typed, condition) {
         Ok(symbolic) => Ok(symbolic),

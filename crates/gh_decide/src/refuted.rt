@@ -3,7 +3,7 @@
 ghost use Rattle.std.specs.Prelude.{◌≡◌, IfOk, IfNone, IfSome};
 ghost use Rattle.gh_ast.specs.Plain.{program_of};
 ghost use Rattle.gh_path.specs.Admitted.{IsAdmitted};
-ghost use Rattle.gh_trace.specs.Refuted.{IsFirst};
+ghost use Rattle.gh_trace.specs.Refuted.{ShowsFirst};
 ghost use Rattle.gh_trace.specs.Validity.{ListedAreValid};
 
 use crate::decide::{Verdict, decide_with};
@@ -23,7 +23,7 @@ pub fn first_refuted(
     requires same { program_of conditions.now ≡ program_of typed.now }
     requires admitted { IsAdmitted (program_of typed.now) }
     ensures none { IfOk result (λ found. IfNone found (ListedAreValid (program_of typed.now))) }
-    ensures first { IfOk result (λ found. IfSome found (λ f. IsFirst (program_of typed.now) f.number f.trace)) }
+    ensures first { IfOk result (λ found. IfSome found (λ f. ShowsFirst (program_of typed.now) f.number f.trace)) }
 {
     let mut known = Known::new();
     let mut walk = conditions.walk(alloc);

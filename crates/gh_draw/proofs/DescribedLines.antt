@@ -117,9 +117,9 @@ around_words : (P : Program) (o : ℕ) (f : Option Loop) → ((l : Loop) → f �
 around_words P o None h = tt
 around_words P o (Some l) h = once_words P o l (h l refl)
 
-start_words : (P : Program) (p : Procedure) → GoodProcedure p → (a : Start) → NameWords (graph_from P p a)
-start_words P p h whole_body = block_words P 0 (body_of p) (ends (returned p.close)) (body_good p.body h.body) tt
-start_words P p h (round o) = around_words P o (slice_get (loops_of p) o) (λ l at. good_at (loops_of p) o l (all_good_loops (body_of p) (body_good p.body h.body)) at)
+start_words : (P : Program) (proc : Procedure) → GoodProcedure proc → (a : Start) → NameWords (graph_from P proc a)
+start_words P proc h whole_body = block_words P 0 (body_of proc) (ends (returned proc.close)) (body_good proc.body h.body) tt
+start_words P proc h (round o) = around_words P o (slice_get (loops_of proc) o) (λ l at. good_at (loops_of proc) o l (all_good_loops (body_of proc) (body_good proc.body h.body)) at)
 
 path_words : {g : Graph} {ps : List PathStep} {c : Check} → Path g ps c → NameWords g → NamesWord c
 path_words at_end w = w
@@ -185,9 +185,9 @@ parts_other name origin check place n o c p = record {
 pub description_is_other : (source : List ℕ) (P : Program) (c : Condition) → Spells source P → Contains (conditions P) c → IsOtherLine (description P c)
 description_is_other source P c (ts, has, spells) there =
     let is = (all_are_listed P c).0 there in
-    let p = is.procedure in
+    let proc = is.procedure in
     let good = (program_is_good spells (tokens_are_good first_place has.0 (cleared source) [] ts has.1)).procedures in
-    let words = path_words is.leads (start_words P p (one_good P.procedures p good (contained_at P.procedures c.procedure p is.of)) c.start) in
+    let words = path_words is.leads (start_words P proc (one_good P.procedures proc good (contained_at P.procedures c.procedure proc is.of)) c.start) in
     let o = slice_get P.procedures c.procedure in
     parts_other (name_in o) (start_text (loops_in o) c.start) (check_text P c.way.check) (place_text (check_place c.way.check)) (name_in_line P.procedures good c.procedure) (start_line (loops_in o) c.start) (check_line P good c.way.check words)
     (place_line (check_place c.way.check))

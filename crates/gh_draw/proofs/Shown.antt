@@ -253,17 +253,17 @@ shown_file P t n xs f = parts f.condition
     all = are_states (variable_names f.trace.procedure) 0 f.states_text xs [] f.trace.states
 
     parts : ShowsCondition f.body n f.states_text → IsFileOf P t n xs
-    parts (mid, p, s) = record {
+    parts (mid, proc, s) = record {
       skipped = f.skips.skipped;
       others = f.skips.others;
-      whole = f.skips.whole ∙ ap (λ z. flat_map line f.skips.skipped ++ (codes "drawing\n" ++ z)) (p ∙ ap (λ z. codes "condition " ++ z) (s.shown ∙ ap (λ z. decimal n ++ (10 ∷ z)) all.text))
+      whole = f.skips.whole ∙ ap (λ z. flat_map line f.skips.skipped ++ (codes "drawing\n" ++ z)) (proc ∙ ap (λ z. codes "condition " ++ z) (s.shown ∙ ap (λ z. decimal n ++ (10 ∷ z)) all.text))
           ∙ sym (whole_apart (flat_map line f.skips.skipped) (decimal n) (kept_texts 0 xs));
       drawn = record { condition = f.trace.condition; procedure = f.trace.procedure; of = f.trace.of; at = f.trace.at; fits = s.fits; some = f.trace.some; states = all.drawn };
     }
 
 -- of one condition one procedure
-pub same_procedure : (P : Program) (c d : Condition) (p q : Procedure) → c ≡ d → IsOf P c p → IsOf P d q → p ≡ q
-same_procedure P c d p q same of there = one_value (slice_get P.procedures d.procedure) p q (subst (λ (e : Condition). IsOf P e p) same of) there
+pub same_procedure : (P : Program) (c d : Condition) (proc q : Procedure) → c ≡ d → IsOf P c proc → IsOf P d q → proc ≡ q
+same_procedure P c d proc q same of there = one_value (slice_get P.procedures d.procedure) proc q (subst (λ (e : Condition). IsOf P e proc) same of) there
 
 pub file_one : (P : Program) (t : List ℕ) (n m : ℕ) (xs ys : List State) → ShowsFile P t n xs → ShowsFile P t m ys → (n ≡ m) × (xs ≡ ys)
 file_one P t n m xs ys f g =
@@ -272,5 +272,5 @@ file_one P t n m xs ys f g =
     let same : f.trace.condition ≡ g.trace.condition = one_value (slice_get (conditions P) (m - 1)) f.trace.condition g.trace.condition (subst (λ z. slice_get (conditions P) (z - 1) ≡ Some f.trace.condition) numbers.0 f.trace.at.1) g.trace.at.1 in
     let procedures : f.trace.procedure ≡ g.trace.procedure = same_procedure P f.trace.condition g.trace.condition f.trace.procedure g.trace.procedure same f.trace.of g.trace.of in
     let ns = variable_names g.trace.procedure in
-    let moved : ShowsStates ns 0 g.states_text xs [] = subst (λ z. ShowsStates ns 0 z xs []) numbers.1 (subst (λ (p : Procedure). ShowsStates (variable_names p) 0 f.states_text xs []) procedures f.trace.states) in
+    let moved : ShowsStates ns 0 g.states_text xs [] = subst (λ z. ShowsStates ns 0 z xs []) numbers.1 (subst (λ (proc : Procedure). ShowsStates (variable_names proc) 0 f.states_text xs []) procedures f.trace.states) in
     (numbers.0, (states_one ns 0 g.states_text xs ys [] [] moved g.trace.states).0)

@@ -81,15 +81,15 @@ numbered_by_split P n c before after whole number =
 pub numbered_there : (P : Program) (n : ℕ) (c : Condition) → slice_get (conditions P) (n - 1) ≡ Some c → Contains (conditions P) c
 numbered_there P n c numbered = (n - 1, slice_get_within (conditions P) (n - 1) c numbered, get_or_from_slice_get (conditions P) (n - 1) c c numbered)
 
-names_apart : (P : Program) (c : Condition) (p : Procedure) → IsTyped P → IsOf P c p → AllPairs (λ x y. x ≢ y) (variable_names p)
-names_apart P c p typed of = variables_are_distinct P typed p (contained_at P.procedures c.procedure p of)
+names_apart : (P : Program) (c : Condition) (proc : Procedure) → IsTyped P → IsOf P c proc → AllPairs (λ x y. x ≢ y) (variable_names proc)
+names_apart P c proc typed of = variables_are_distinct P typed proc (contained_at P.procedures c.procedure proc of)
 
-pub numbered_told : (P : Program) (n : ℕ) (c : Condition) (p : Procedure) (xs : List State) → IsTyped P → IsOf P c p → All (IsDrawnState (variable_names p)) xs
-    → drawing_text n xs ≡ drawing n (variable_names p) (map state_of xs)
-numbered_told P n c p xs typed of are =
-    let ns = variable_names p in
+pub numbered_told : (P : Program) (n : ℕ) (c : Condition) (proc : Procedure) (xs : List State) → IsTyped P → IsOf P c proc → All (IsDrawnState (variable_names proc)) xs
+    → drawing_text n xs ≡ drawing n (variable_names proc) (map state_of xs)
+numbered_told P n c proc xs typed of are =
+    let ns = variable_names proc in
     drawing_apart (decimal n) (kept_texts 0 xs)
-    ∙ ap (λ z. line (codes "drawing") ++ line (codes "condition " ++ decimal n) ++ z ++ line (codes "end")) (states_told ns 0 xs (names_apart P c p typed of) are)
+    ∙ ap (λ z. line (codes "drawing") ++ line (codes "condition " ++ decimal n) ++ z ++ line (codes "end")) (states_told ns 0 xs (names_apart P c proc typed of) are)
 
 pub drawing_told : (P : Program) (n : ℕ) (xs : List State) → IsTyped P → (d : IsDrawnFor P n xs) → drawing_text n xs ≡ drawing n (variable_names d.procedure) (map state_of xs)
 drawing_told P n xs typed d = numbered_told P n d.condition d.procedure xs typed d.of d.states

@@ -53,7 +53,7 @@ all_there P r q fits is =
     let found : slice_get qs r.procedure ≡ Some (procedure_of q) =
     place_of procedure_of P.procedures.items r.procedure q (procedure_within P r fits) is in
     let same : fits.0 ≡ procedure_of q = one_value (slice_get qs r.procedure) fits.0 (procedure_of q) fits.1 found in
-    subst (λ p. IsThere (program_of P) p (condition_of r)) same fits.2
+    subst (λ proc. IsThere (program_of P) proc (condition_of r)) same fits.2
 
 -- a callee is told by its name
 pub tells_callee : (P : Program) (n : ℕ) (es : _) (q : Procedure) (old mid new : List ℕ) → HasKind (program_of P) (kind.CalleeEntry n es) → q ≡ slice_index_or P.procedures.items n q

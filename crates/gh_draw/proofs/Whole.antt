@@ -60,7 +60,7 @@ names_for P n r q ns (low, there) is named =
 moved : (P : Program) (n : ℕ) (ns : List Name) (t : List ℕ) (xs : List State) → AreNamesFor P n ns → ShowsTrace P n t xs → ShowsStates ns 0 t xs []
 moved P n ns t xs a s =
     let same = same_procedure P s.condition a.condition s.procedure a.procedure (same_numbered P n t xs a.condition a.at.1 s) s.of a.of in
-    subst (λ z. ShowsStates z 0 t xs []) (sym a.names) (subst (λ (p : Procedure). ShowsStates (variable_names p) 0 t xs []) same s.states)
+    subst (λ z. ShowsStates z 0 t xs []) (sym a.names) (subst (λ (proc : Procedure). ShowsStates (variable_names proc) 0 t xs []) same s.states)
 
 pub trace_no_states : (P : Program) (n : ℕ) (ns : List Name) (t left : List ℕ) → AreNamesFor P n ns → IsFrontRead (ShowsStates ns 0) t left None → (xs : List State) → ShowsTrace P n t xs → ⊥
 trace_no_states P n ns t left a none xs s = none xs [] (moved P n ns t xs a s)

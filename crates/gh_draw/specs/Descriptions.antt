@@ -41,5 +41,5 @@ check_text P (loop_end at n) = codes "loop end"
 
 abbrev pub description : Program → Condition → List ℕ
 description P c =
-    let p = slice_get P.procedures c.procedure in
-    name_in p ++ codes " from " ++ start_text (loops_in p) c.start ++ codes ": " ++ check_text P c.way.check ++ codes " at " ++ place_text (check_place c.way.check)
+    let proc = slice_get P.procedures c.procedure in
+    name_in proc ++ codes " from " ++ start_text (loops_in proc) c.start ++ codes ": " ++ check_text P c.way.check ++ codes " at " ++ place_text (check_place c.way.check)

@@ -15,7 +15,7 @@ abbrev pub HasStart : Procedure → kept_start.Start → Type 0
 HasStart p start = StartIsThere p (start_of start)
 
 abbrev pub HasKind : Program → kept_kind.CheckKind → Type 0
-HasKind P kind = (p : Procedure) × (at : Span) × CheckIsThere P p (asked_at kind at)
+HasKind P kind = (proc : Procedure) × (at : Span) × CheckIsThere P proc (asked_at kind at)
 
 -- a text to which the start is added
 abbrev pub TellsStart : Procedure → kept_start.Start → List ℕ → List ℕ → Type 0

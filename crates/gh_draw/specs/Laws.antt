@@ -27,8 +27,8 @@ DrawingsAreFiles = (P : Program) (n : ℕ) (xs : List State) → IsDrawnFor P n 
 
 -- what is read from the text of a drawing over the variables of its condition is that drawing
 abbrev pub DrawingsReadBack : Type 0
-DrawingsReadBack = (P : Program) (n : ℕ) (c : Condition) (p : Procedure) (xs : List State) (read : Option Drawing) → IsConditionAt P n c → IsValue n
-    → IsOf P c p → xs ≢ [] → All (HasVariables (variable_names p)) xs → All HasValues xs → IsDrawingIn P (drawing_text n xs) read → IsDrawingOf n xs read
+DrawingsReadBack = (P : Program) (n : ℕ) (c : Condition) (proc : Procedure) (xs : List State) (read : Option Drawing) → IsConditionAt P n c → IsValue n
+    → IsOf P c proc → xs ≢ [] → All (HasVariables (variable_names proc)) xs → All HasValues xs → IsDrawingIn P (drawing_text n xs) read → IsDrawingOf n xs read
 
 -- the text of a drawing is that of its states over the variables of its condition
 abbrev pub DrawingsAreTold : Type 0

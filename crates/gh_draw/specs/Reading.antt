@@ -121,13 +121,13 @@ pub record ShowsTrace (P : Program) (number : ℕ) (text : List ℕ) (ss : List 
   pub states : ShowsStates (variable_names procedure) 0 text ss []
 
 -- found, or there is none
-abbrev pub IsFound : {X : Type 0} → (X → Type 0) → Option X → Type 0
-IsFound P (Some x) = P x
-IsFound {X} P None = (x : X) → P x → ⊥
+abbrev pub IsOneOrNone : {X : Type 0} → (X → Type 0) → Option X → Type 0
+IsOneOrNone P (Some x) = P x
+IsOneOrNone {X} P None = (x : X) → P x → ⊥
 
 -- the states that the text shows for the condition of a number
 abbrev pub IsTraceFound : Program → ℕ → List ℕ → Option Trace → Type 0
-IsTraceFound P number text o = IsFound (ShowsTrace P number text) (option_map (λ t. t.states.items) o)
+IsTraceFound P number text o = IsOneOrNone (ShowsTrace P number text) (option_map (λ t. t.states.items) o)
 
 -- the place of the first line feed
 pub record IsLineEnd (text : List ℕ) (n : ℕ) : Type 0 where

@@ -14,7 +14,7 @@ use Rattle.gh_symb.specs.Encodings.{plain_kind, IsBinding}
 use Rattle.gh_symb.specs.Fitting.{EncodesBinding}
 use Rattle.gh_symb.specs.Tables.{Pairs, bound_by, state}
 use Rattle.gh_reduce.specs.Growth.{stated_in, IsWithin, AreWithin}
-use Rattle.gh_symb.specs.Inside.{binding_of, AreSuccessors, IsReady}
+use Rattle.gh_symb.specs.Inside.{binding_of, AreSuccessors, AreKinds}
 use Rattle.gh_symb.proofs.EncodedLemmas.{same_function}
 use Rattle.gh_reduce.proofs.InsideLemmas.{whole_within}
 use Rattle.gh_reduce.proofs.GrowthLemmas.{same_terms, same_versions}
@@ -91,7 +91,7 @@ pub record Kept (q : Question) (ks : List TermKind) (bonds : List Bond) : Type 0
   pub binding : binding_of bonds ≡ (question_walked q).bindings
   pub count : length ks ≡ length (question_walked q).kinds
   pub some : 1 ≤ length ks
-  pub ready : IsReady (length ks) (map plain_kind ks)
+  pub ready : AreKinds (length ks) (map plain_kind ks)
   pub names : (x : List ℕ) → (variables (binding_of bonds) x).0 < length ks
 
 pub kept : (q : Question) (a : QuestionTerms) → AreTerms q a → Kept q a.terms a.binding
@@ -106,12 +106,12 @@ kept q a A =
       binding = b;
       count = n;
       some = omega (arith, n, some);
-      ready = subst (λ k. IsReady k (map plain_kind a.terms)) (sym n) (subst (IsReady (length t.kinds)) (sym A.terms) (record { terms = refl; some = some; successors = λ k i x e. (successor_at (length t.kinds) (t.version + 1) t.kinds h.successors k i x e).0 }));
+      ready = subst (λ k. AreKinds k (map plain_kind a.terms)) (sym n) (subst (AreKinds (length t.kinds)) (sym A.terms) (record { terms = refl; some = some; successors = λ k i x e. (successor_at (length t.kinds) (t.version + 1) t.kinds h.successors k i x e).0 }));
       names = λ x. subst (λ k. (variables (binding_of a.binding) x).0 < k) (sym n) (subst (λ c. (variables c x).0 < length t.kinds) (sym b) (term_there x t h));
     }
 
-pub ready_at : (q : Question) (ks : List TermKind) (bonds : List Bond) (p : Problem) (n : ℕ) → Kept q ks bonds → p ≡ empty_problem n 1 → n ≡ length ks → IsReady p.sizes.terms (map plain_kind ks)
-ready_at q ks bonds p n k e m = subst (λ (x : Problem). IsReady x.sizes.terms (map plain_kind ks)) (sym e) (subst (λ i. IsReady i (map plain_kind ks)) (sym m) k.ready)
+pub ready_at : (q : Question) (ks : List TermKind) (bonds : List Bond) (p : Problem) (n : ℕ) → Kept q ks bonds → p ≡ empty_problem n 1 → n ≡ length ks → AreKinds p.sizes.terms (map plain_kind ks)
+ready_at q ks bonds p n k e m = subst (λ (x : Problem). AreKinds x.sizes.terms (map plain_kind ks)) (sym e) (subst (λ i. AreKinds i (map plain_kind ks)) (sym m) k.ready)
 
 -- a claim is in range of the clauses so far
 pub claim_at : (q : Question) (ks : List TermKind) (bonds : List Bond) (p r : Problem) (n : ℕ) (fs : List GroundClaim) (c : Claim) → Kept q ks bonds → p ≡ empty_problem n 1 → n ≡ length ks → r ≡ stated_in p fs

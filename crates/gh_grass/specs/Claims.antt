@@ -53,5 +53,5 @@ abbrev pub equality : Term → Term → GroundClaim
 equality a b = atom (equation a b)
 
 -- claims were added to those of some formulas
-abbrev pub Adds : Vec Formula Global → Vec Formula Global → List GroundClaim → Type 0
-Adds old new added = claims_list new.items ≡ claims_list old.items ++ added
+abbrev pub AddsClaims : Vec Formula Global → Vec Formula Global → List GroundClaim → Type 0
+AddsClaims old new added = claims_list new.items ≡ claims_list old.items ++ added

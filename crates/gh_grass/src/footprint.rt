@@ -1,7 +1,7 @@
 //! The formulas of an assertion: which terms are in its footprint, and that some part of the heap meets it.
 
 ghost use Rattle.std.specs.Prelude.{◌≡◌, IfOk, OnOk};
-ghost use Rattle.gh_grass.specs.Claims.{claim_of, claims_list, Adds};
+ghost use Rattle.gh_grass.specs.Claims.{claim_of, claims_list, AddsClaims};
 ghost use Rattle.gh_grass.specs.Footprints.{before_end, all_apart_of, apart_from, apart_here_of, apart_of};
 ghost use Rattle.gh_grass.specs.Footprints.{footprint_of, footprints_of, leads_to_of, structure_of, structures_of};
 
@@ -116,7 +116,7 @@ fn push_apart(
     second: &Assertion,
     formulas: &mut Vec<Formula>,
 ) -> Result<(), AllocError>
-    ensures { OnOk result (Adds formulas.old formulas.new (apart_of under.entry first.now second.now)) }
+    ensures { OnOk result (AddsClaims formulas.old formulas.new (apart_of under.entry first.now second.now)) }
 {
     for z in 0..under.terms {
         formulas.push(apart_at(alloc, under, first, second, Term(z))?)?;
@@ -132,7 +132,7 @@ fn push_apart_from(
     others: &[Assertion],
     formulas: &mut Vec<Formula>,
 ) -> Result<(), AllocError>
-    ensures { OnOk result (Adds formulas.old formulas.new (apart_from under.entry first.now others.now)) }
+    ensures { OnOk result (AddsClaims formulas.old formulas.new (apart_from under.entry first.now others.now)) }
 {
     for second in others {
         push_apart(alloc, under, first, second, formulas)?;
@@ -147,7 +147,7 @@ fn push_all_apart(
     members: &[Assertion],
     formulas: &mut Vec<Formula>,
 ) -> Result<(), AllocError>
-    ensures { OnOk result (Adds formulas.old formulas.new (all_apart_of under.entry members.now)) }
+    ensures { OnOk result (AddsClaims formulas.old formulas.new (all_apart_of under.entry members.now)) }
 {
     for (i, first) in members.iter().enumerate() {
         let others = &members[i + 1..];

@@ -17,7 +17,7 @@ use Rattle.gh_cc.specs.Kept.{normal, IsRelation}
 use Rattle.gh_cc.specs.Partials.{IsGiven, IsStructureOf}
 use Rattle.gh_cc.proofs.PartialLemmas.{not_both}
 use Rattle.gh_cc.proofs.RefuteLemmas.{btwn_parts, hop_parts}
-use Rattle.gh_ground.specs.Making.{AreClassesOf, truth_in, Kind, IsAtom, IsUpTo, IsOver, IsLike, Gives, AreGiven}
+use Rattle.gh_ground.specs.Making.{AreClassesOf, truth_in, Sort, IsAtom, IsOfFirst, IsOfClass, IsLike, MakesTrue, AreGiven}
 use Rattle.gh_ground.proofs.ClassLemmas.{equal_is, get_end}
 
 table_is : (t : Tables) (a : Atom) → IsRelation a → atom_truth (interpretation_of t) a ≡ truth_in t a
@@ -42,7 +42,7 @@ equality_not (Alloc v x) h e = e
 equality_not (Def k) h e = e
 
 -- one atom is set
-pub give_one : (old new : Tables) (b : Atom) → IsRelation b → IsInRange old.sizes b → ChangesTruth old new b true → Gives (IsAtom b) old new
+pub give_one : (old new : Tables) (b : Atom) → IsRelation b → IsInRange old.sizes b → ChangesTruth old new b true → MakesTrue (IsAtom b) old new
 give_one old new b r' inside c = record {
   sizes = c.sizes;
   classes = c.classes;
@@ -58,22 +58,22 @@ give_one old new b r' inside c = record {
 }
 
 -- a loop over the terms: at its begin, a turn, and at its end
-pub up_to_none : (x : Term) (P : Term → Kind) (t : Tables) → Gives (IsUpTo 0 x P) t t
+pub up_to_none : (x : Term) (P : Term → Sort) (t : Tables) → MakesTrue (IsOfFirst 0 x P) t t
 up_to_none x P t = record {
   sizes = refl;
   classes = refl;
   truths = λ a r h. (λ w. inl w, λ w. elim w as (λ _. truth_in t a ≡ true) [ inl was ↦ was | inr u ↦ let lt = u.below in absurd (omega arith) ]);
 }
 
-up_more : (i : ℕ) (x : Term) (P : Term → Kind) (s : Sizes) (cs : List Term) (a : Atom) → IsUpTo i x P s cs a → IsUpTo (i + 1) x P s cs a
+up_more : (i : ℕ) (x : Term) (P : Term → Sort) (s : Sizes) (cs : List Term) (a : Atom) → IsOfFirst i x P s cs a → IsOfFirst (i + 1) x P s cs a
 up_more i x P s cs a u = record { term = u.term; below = let lt = u.below in omega arith; same = u.same; is = u.is }
 
-pub up_to_other : (i : ℕ) (x : Term) (P : Term → Kind) (old t : Tables) → (class_at t.classes i ≡ class_at t.classes x.0 → ⊥) → Gives (IsUpTo i x P) old t → Gives (IsUpTo (i + 1) x P) old t
+pub up_to_other : (i : ℕ) (x : Term) (P : Term → Sort) (old t : Tables) → (class_at t.classes i ≡ class_at t.classes x.0 → ⊥) → MakesTrue (IsOfFirst i x P) old t → MakesTrue (IsOfFirst (i + 1) x P) old t
 up_to_other i x P old t ne g = record {
   sizes = g.sizes;
   classes = g.classes;
   truths = λ a r h. let w = g.truths a r h in (
-    λ e. elim (w.0 e) as (λ _. (truth_in old a ≡ true) ⊎ IsUpTo (i + 1) x P old.sizes old.classes a) [ inl was ↦ inl was | inr u ↦ inr (up_more i x P old.sizes old.classes a u) ],
+    λ e. elim (w.0 e) as (λ _. (truth_in old a ≡ true) ⊎ IsOfFirst (i + 1) x P old.sizes old.classes a) [ inl was ↦ inl was | inr u ↦ inr (up_more i x P old.sizes old.classes a u) ],
     λ e. elim e as (λ _. truth_in t a ≡ true) [
       | inl was ↦ w.1 (inl was)
       | inr u ↦ elim (cases_lt u.term.0 i) as (λ _. truth_in t a ≡ true) [
@@ -88,7 +88,7 @@ up_to_other i x P old t ne g = record {
   );
 }
 
-pub up_to_one : (i : ℕ) (x y : Term) (P : Term → Kind) (old t new : Tables) → y.0 ≡ i → class_at t.classes y.0 ≡ class_at t.classes x.0 → Gives (P y) t new → Gives (IsUpTo i x P) old t → Gives (IsUpTo (i + 1) x P) old new
+pub up_to_one : (i : ℕ) (x y : Term) (P : Term → Sort) (old t new : Tables) → y.0 ≡ i → class_at t.classes y.0 ≡ class_at t.classes x.0 → MakesTrue (P y) t new → MakesTrue (IsOfFirst i x P) old t → MakesTrue (IsOfFirst (i + 1) x P) old new
 up_to_one i x y P old t new at same step g = record {
   sizes = step.sizes ∙ g.sizes;
   classes = step.classes ∙ g.classes;
@@ -99,8 +99,8 @@ up_to_one i x y P old t new at same step g = record {
       let f : class_at t.classes ≡ class_at old.classes = ap class_at g.classes in
       let same' : class_at old.classes y.0 ≡ class_at old.classes x.0 = ap (λ (k : ℕ → ℕ). k y.0) (sym f) ∙ same ∙ ap (λ (k : ℕ → ℕ). k x.0) f in
       let moved : P y t.sizes t.classes a ≡ P y old.sizes old.classes a = λ j. P y (g.sizes j) (g.classes j) a in (
-        λ e. elim (v.0 e) as (λ _. (truth_in old a ≡ true) ⊎ IsUpTo (i + 1) x P old.sizes old.classes a) [
-          | inl was ↦ elim (w.0 was) as (λ _. (truth_in old a ≡ true) ⊎ IsUpTo (i + 1) x P old.sizes old.classes a) [
+        λ e. elim (v.0 e) as (λ _. (truth_in old a ≡ true) ⊎ IsOfFirst (i + 1) x P old.sizes old.classes a) [
+          | inl was ↦ elim (w.0 was) as (λ _. (truth_in old a ≡ true) ⊎ IsOfFirst (i + 1) x P old.sizes old.classes a) [
             | inl first ↦ inl first
             | inr u ↦ inr (up_more i x P old.sizes old.classes a u)
           ]
@@ -121,15 +121,15 @@ up_to_one i x y P old t new at same step g = record {
       );
 }
 
-pub up_to_all : (n : ℕ) (x : Term) (P : Term → Kind) (old new : Tables) → n ≡ old.sizes.terms → Gives (IsUpTo n x P) old new → Gives (IsOver x P) old new
+pub up_to_all : (n : ℕ) (x : Term) (P : Term → Sort) (old new : Tables) → n ≡ old.sizes.terms → MakesTrue (IsOfFirst n x P) old new → MakesTrue (IsOfClass x P) old new
 up_to_all n x P old new e g = record {
   sizes = g.sizes;
   classes = g.classes;
-  truths = λ a r h. subst (λ (k : ℕ). (truth_in new a ≡ true) ↔ ((truth_in old a ≡ true) ⊎ IsUpTo k x P old.sizes old.classes a)) e (g.truths a r h);
+  truths = λ a r h. subst (λ (k : ℕ). (truth_in new a ≡ true) ↔ ((truth_in old a ≡ true) ⊎ IsOfFirst k x P old.sizes old.classes a)) e (g.truths a r h);
 }
 
 -- all atoms over terms of the same classes
-exchanged : (P Q : Kind) (old new : Tables) → Gives P old new → ((a : Atom) → IsRelation a → IsInRange old.sizes a → P old.sizes old.classes a ↔ Q old.sizes old.classes a) → Gives Q old new
+exchanged : (P Q : Sort) (old new : Tables) → MakesTrue P old new → ((a : Atom) → IsRelation a → IsInRange old.sizes a → P old.sizes old.classes a ↔ Q old.sizes old.classes a) → MakesTrue Q old new
 exchanged P Q old new g f = record {
   sizes = g.sizes;
   classes = g.classes;
@@ -141,14 +141,14 @@ exchanged P Q old new g f = record {
       );
 }
 
-abbrev pub AllocOver : ℕ → Term → Kind
-AllocOver v x = IsOver x (λ t. IsAtom (Alloc v t))
+abbrev pub AllocOver : ℕ → Term → Sort
+AllocOver v x = IsOfClass x (λ t. IsAtom (Alloc v t))
 
-abbrev pub HopOver : ℕ → Term → Term → Kind
-HopOver v x y = IsOver x (λ t. IsOver y (λ u. IsAtom (Hop v t u)))
+abbrev pub HopOver : ℕ → Term → Term → Sort
+HopOver v x y = IsOfClass x (λ t. IsOfClass y (λ u. IsAtom (Hop v t u)))
 
-abbrev pub BtwnOver : ℕ → Term → Term → Term → Kind
-BtwnOver v x y z = IsOver x (λ t. IsOver y (λ u. IsOver z (λ w. IsAtom (Btwn v t u w))))
+abbrev pub BtwnOver : ℕ → Term → Term → Term → Sort
+BtwnOver v x y z = IsOfClass x (λ t. IsOfClass y (λ u. IsOfClass z (λ w. IsAtom (Btwn v t u w))))
 
 alloc_like : (s : Sizes) (cs : List Term) (v : ℕ) (x : Term) (a : Atom) → AllocOver v x s cs a → IsLike (Alloc v x) s cs a
 alloc_like s cs v x a w =
@@ -198,16 +198,16 @@ def_back : (s : Sizes) (cs : List Term) (k : ℕ) (a : Atom) → IsLike (Def k) 
 def_back s cs k (Def j) e = sym e
 def_back s cs k a e = cc
 
-pub like_alloc : (v : ℕ) (x : Term) (old new : Tables) → Gives (AllocOver v x) old new → Gives (IsLike (Alloc v x)) old new
+pub like_alloc : (v : ℕ) (x : Term) (old new : Tables) → MakesTrue (AllocOver v x) old new → MakesTrue (IsLike (Alloc v x)) old new
 like_alloc v x old new g = exchanged (AllocOver v x) (IsLike (Alloc v x)) old new g (λ a r h. (alloc_like old.sizes old.classes v x a, alloc_back old.sizes old.classes v x a h))
 
-pub like_hop : (v : ℕ) (x y : Term) (old new : Tables) → Gives (HopOver v x y) old new → Gives (IsLike (Hop v x y)) old new
+pub like_hop : (v : ℕ) (x y : Term) (old new : Tables) → MakesTrue (HopOver v x y) old new → MakesTrue (IsLike (Hop v x y)) old new
 like_hop v x y old new g = exchanged (HopOver v x y) (IsLike (Hop v x y)) old new g (λ a r h. (hop_like old.sizes old.classes v x y a, hop_back old.sizes old.classes v x y a h))
 
-pub like_btwn : (v : ℕ) (x y z : Term) (old new : Tables) → Gives (BtwnOver v x y z) old new → Gives (IsLike (Btwn v x y z)) old new
+pub like_btwn : (v : ℕ) (x y z : Term) (old new : Tables) → MakesTrue (BtwnOver v x y z) old new → MakesTrue (IsLike (Btwn v x y z)) old new
 like_btwn v x y z old new g = exchanged (BtwnOver v x y z) (IsLike (Btwn v x y z)) old new g (λ a r h. (btwn_like old.sizes old.classes v x y z a, btwn_back old.sizes old.classes v x y z a h))
 
-pub like_def : (k : ℕ) (old new : Tables) → Gives (IsAtom (Def k)) old new → Gives (IsLike (Def k)) old new
+pub like_def : (k : ℕ) (old new : Tables) → MakesTrue (IsAtom (Def k)) old new → MakesTrue (IsLike (Def k)) old new
 like_def k old new g = exchanged (IsAtom (Def k)) (IsLike (Def k)) old new g (λ a r h. (λ e. ap (normal (class_at old.classes)) (sym e), def_back old.sizes old.classes k a))
 
 -- a literal more
@@ -254,7 +254,7 @@ given_already lits l t within e h = given_nothing lits l t (λ _ r a r' inside s
 given_moved : (s t : Tables) (lits : List Lit) (a : Atom) → class_at s.classes ≡ class_at t.classes → IsGiven (interpretation_of s) lits a → IsGiven (interpretation_of t) lits a
 given_moved s t lits a e g = record { lit = g.lit; there = g.there; positive = g.positive; same = subst (λ (k : ℕ → ℕ). normal k g.lit.atom ≡ normal k a) e g.same }
 
-pub given_more : (lits : List Lit) (l : Lit) (old new : Tables) → l.positive ≡ true → Gives (IsLike l.atom) old new → AreGiven lits old → AreGiven (lits ++ l ∷ []) new
+pub given_more : (lits : List Lit) (l : Lit) (old new : Tables) → l.positive ≡ true → MakesTrue (IsLike l.atom) old new → AreGiven lits old → AreGiven (lits ++ l ∷ []) new
 given_more lits l old new positive g h a r inside =
     let here : IsInRange old.sizes a = subst (λ (z : Sizes). IsInRange z a) g.sizes inside in
     let w = g.truths a r here in

@@ -14,17 +14,17 @@ use Rattle.gh_inst.specs.Instances.{IsInstance, clause_of}
 use Rattle.gh_log.specs.Lines.{LogLine}
 use Rattle.gh_log.specs.Lines as line
 use Rattle.gh_log.specs.declared.lines.Section.{Section}
-use Rattle.gh_log.specs.Sections.{line_clause, Deletes, HasClauseAt, Stands, AllStand, AreAt, IsHinted, IsOfKind, AreOfKind, IsValidSection}
+use Rattle.gh_log.specs.Sections.{line_clause, Deletes, HasClauseAt, IsUndeleted, AllUndeleted, AreAt, IsHinted, IsOfKind, AreOfKind, IsValidSection}
 use Rattle.gh_log.specs.Spelled.{IsOfVersion}
 use Rattle.gh_log.proofs.KindLemmas.{kind_push}
 use Rattle.gh_sat.specs.Trail.{SearchState, IsSound, cut, most_clauses}
-use Rattle.gh_sat.specs.Learn.{IsConflict, IsLearnt, AreReasons, add_clause}
+use Rattle.gh_sat.specs.Learn.{IsConflictAt, IsLearnt, AreReasons, add_clause}
 use Rattle.gh_sat.specs.Theory.{PropagatesBeside}
-use Rattle.gh_sat.specs.Whole.{Adds}
+use Rattle.gh_sat.specs.Whole.{AddsClause}
 use Rattle.gh_base.proofs.ListLemmas.{get_within, get_some, get_last}
 use Rattle.gh_sat.proofs.LearnLemmas.{false_in_range}
 use Rattle.gh_sat.proofs.TheoryLemmas.{added_cut}
-use Rattle.gh_ground.specs.Kept.{HasLineEach, Keeps, IsAnswered, IsOpen, IsRefuted, IsEnded}
+use Rattle.gh_ground.specs.Kept.{HasLineEach, KeepsLines, IsAnswered, IsUndecided, IsFalseAtLevelZero, IsEnded}
 use Rattle.gh_ground.specs.Solving.{IsNoDeletion, RefutesProblem}
 
 -- the line of a clause with hints
@@ -66,7 +66,7 @@ no_deletions p s lines kept = all_clauses p lines s.clauses kept.clauses
 
 -- the clauses by number stand at the positions of their lines
 stand_at : (p : Problem) (s : SearchState) (lines : List LogLine) (ks : List ℕ) → HasLineEach p s lines → All (λ k. k < length s.clauses) ks
-    → AllStand p lines (map (λ k. k + 1) ks) × AreAt p lines (map (λ k. k + 1) ks) (map (λ k. slice_index_or s.clauses k []) ks)
+    → AllUndeleted p lines (map (λ k. k + 1) ks) × AreAt p lines (map (λ k. k + 1) ks) (map (λ k. slice_index_or s.clauses k []) ks)
 stand_at p s lines [] kept within = (λ k d lt. absurd (omega arith), tt)
 stand_at p s lines (k ∷ ks) kept within =
     let c = get_some s.clauses k (within 0 0 (omega arith)) in
@@ -75,8 +75,8 @@ stand_at p s lines (k ∷ ks) kept within =
     let there : HasClauseAt p lines (k + 1) c.0 = record { place = k; position_is = refl; line = l.0; at = l.1; has = l.2 } in
     let rest = stand_at p s lines ks kept (All-tail (λ n. n < length s.clauses) k ks within) in
     let none = no_deletions p s lines kept in
-    let stands : Stands p lines (k + 1) = record { clause = c.0; there = there; kept = λ j d lt. deletes_nothing (get_or lines j d) (k + 1) (none j d lt) } in
-    (All-cons (Stands p lines) (k + 1) (map (λ n. n + 1) ks) stands rest.0, (subst (HasClauseAt p lines (k + 1)) (sym is) there, rest.1))
+    let stands : IsUndeleted p lines (k + 1) = record { clause = c.0; there = there; kept = λ j d lt. deletes_nothing (get_or lines j d) (k + 1) (none j d lt) } in
+    (All-cons (IsUndeleted p lines) (k + 1) (map (λ n. n + 1) ks) stands rest.0, (subst (HasClauseAt p lines (k + 1)) (sym is) there, rest.1))
 
 -- reasons are hints
 hinted_by : (p : Problem) (s : SearchState) (lines : List LogLine) (reasons hints : List ℕ) (clause : List Lit) → HasLineEach p s lines → AreReasons s.clauses reasons clause → hints ≡ map (λ k. k + 1) reasons → IsHinted p lines clause hints
@@ -106,7 +106,7 @@ kept_first p s lines problem is clauses kinds version =
       ground = λ c there. subst (λ (cs : List (List Lit)). Contains cs c) (sym same) there;
     }
 
-pub keeps_same : (old new : SearchState) (lines : List LogLine) → new.sizes ≡ old.sizes → new.clauses ≡ old.clauses → Keeps old lines new lines
+pub keeps_same : (old new : SearchState) (lines : List LogLine) → new.sizes ≡ old.sizes → new.clauses ≡ old.clauses → KeepsLines old lines new lines
 keeps_same old new lines sizes clauses = record {
   keeps = λ p h. record {
     problem = h.problem;
@@ -120,7 +120,7 @@ keeps_same old new lines sizes clauses = record {
   longer = sym (append-nil lines);
 }
 
-pub keeps_then : (a b c : SearchState) (k l m : List LogLine) → Keeps a k b l → Keeps b l c m → Keeps a k c m
+pub keeps_then : (a b c : SearchState) (k l m : List LogLine) → KeepsLines a k b l → KeepsLines b l c m → KeepsLines a k c m
 keeps_then a b c k l m f g = record {
   keeps = λ p h. g.keeps p (f.keeps p h);
   more = f.more ++ g.more;
@@ -129,7 +129,7 @@ keeps_then a b c k l m f g = record {
 
 -- a line more for a clause more
 pub keeps_push : (old new : SearchState) (before after : List LogLine) (l : LogLine) (clause : List Lit) → after ≡ before ++ l ∷ [] → new.sizes ≡ old.sizes → new.clauses ≡ old.clauses ++ clause ∷ [] → IsOfVersion 2 l
-    → ((p : Problem) → HasLineEach p old before → (line_clause p l ≡ Some clause) × IsOfKind p before l) → Keeps old before new after
+    → ((p : Problem) → HasLineEach p old before → (line_clause p l ≡ Some clause) × IsOfKind p before l) → KeepsLines old before new after
 keeps_push old new before after l clause pushed sizes clauses version one = record {
   keeps = λ p h.
       let o = one p h in
@@ -153,14 +153,14 @@ some_same : {X : Type 0} (a b : X) → Some a ≡ Some b → a ≡ b
 some_same a b e = cc
 
 -- propagation adds no clause, or a lemma
-pub keeps_none : (old new : SearchState) (lines : List LogLine) (answer : Option ℕ) → PropagatesBeside (IsEqualityClause old.sizes) old new answer → None ≡ slice_get new.clauses (length old.clauses) → Keeps old lines new lines
+pub keeps_none : (old new : SearchState) (lines : List LogLine) (answer : Option ℕ) → PropagatesBeside (IsEqualityClause old.sizes) old new answer → None ≡ slice_get new.clauses (length old.clauses) → KeepsLines old lines new lines
 keeps_none old new lines answer moves none = elim moves.clauses [
   | inl same ↦ keeps_same old new lines moves.sizes same
   | inr w ↦ absurd (let at : slice_get new.clauses (length old.clauses) ≡ Some w.0 = ap (λ (cs : List (List Lit)). slice_get cs (length old.clauses)) w.2 ∙ get_last old.clauses w.0 in let e : None ≡ Some w.0 = none ∙ at in cc)
 ]
 
 pub keeps_lemma : (old new : SearchState) (before after : List LogLine) (c : List Lit) (answer : Option ℕ) → PropagatesBeside (IsEqualityClause old.sizes) old new answer → Some c ≡ slice_get new.clauses (length old.clauses)
-    → after ≡ before ++ line.Lemma c ∷ [] → Keeps old before new after
+    → after ≡ before ++ line.Lemma c ∷ [] → KeepsLines old before new after
 keeps_lemma old new before after c answer moves some pushed = elim moves.clauses [
   | inl same ↦ absurd (past_end old.clauses c (ap (λ (cs : List (List Lit)). slice_get cs (length old.clauses)) (sym same) ∙ sym some))
   | inr w ↦
@@ -173,17 +173,17 @@ keeps_lemma old new before after c answer moves some pushed = elim moves.clauses
 
 -- the line of a learnt clause has its reasons as hints
 pub keeps_learnt : (old new : SearchState) (before after : List LogLine) (k : ℕ) (clause : List Lit) (level : ℕ) (unit : Lit) (to : ℕ) (reasons : List ℕ) (l : LogLine) → IsSound old → IsLearnt old k clause level unit
-    → AreReasons old.clauses reasons clause → new ≡ cut (add_clause old clause) to → IsHintedLine clause (map (λ k. k + 1) reasons) l → after ≡ before ++ l ∷ [] → Keeps old before new after
+    → AreReasons old.clauses reasons clause → new ≡ cut (add_clause old clause) to → IsHintedLine clause (map (λ k. k + 1) reasons) l → after ≡ before ++ l ∷ [] → KeepsLines old before new after
 keeps_learnt old new before after k clause level unit to reasons l h learnt shown is hinted pushed =
     let hints : List ℕ = map (λ k. k + 1) reasons in
     keeps_push old new before after (line.Hinted clause hints) clause (pushed ∙ ap (λ (x : LogLine). before ++ x ∷ []) hinted) (ap (λ (t : SearchState). t.sizes) is) (ap (λ (t : SearchState). t.clauses) is) refl
     (λ p kept. (refl, (subst (λ (z : Sizes). AreInRange z clause) kept.sizes (false_in_range old clause h learnt.is_false), hinted_by p old before reasons hints clause kept shown refl)))
 
-pub sizes_added : (old new : SearchState) (clause : List Lit) → Adds old clause new → new.sizes ≡ old.sizes
+pub sizes_added : (old new : SearchState) (clause : List Lit) → AddsClause old clause new → new.sizes ≡ old.sizes
 sizes_added old new clause adds = let w = added_cut old new clause adds in ap (λ (t : SearchState). t.sizes) w.1
 
-pub keeps_instance : (old new : SearchState) (before after : List LogLine) (name : InstanceName) (clause : List Lit) → IsInstance old.sizes.terms old.sizes.versions name → clause ≡ clause_of name → Adds old clause new
-    → after ≡ before ++ line.Axiom name ∷ [] → Keeps old before new after
+pub keeps_instance : (old new : SearchState) (before after : List LogLine) (name : InstanceName) (clause : List Lit) → IsInstance old.sizes.terms old.sizes.versions name → clause ≡ clause_of name → AddsClause old clause new
+    → after ≡ before ++ line.Axiom name ∷ [] → KeepsLines old before new after
 keeps_instance old new before after name clause instance is adds pushed =
     let w = added_cut old new clause adds in
     keeps_push old new before after (line.Axiom name) clause pushed (ap (λ (t : SearchState). t.sizes) w.1) (ap (λ (t : SearchState). t.clauses) w.1) tt
@@ -208,22 +208,22 @@ pub none_left : (xs : List ℕ) → length xs ≡ 0 → xs ≡ []
 none_left [] e = λ i. []
 none_left (x ∷ xs) e = absurd (omega arith)
 
-pub answered_some : (s : SearchState) (a : Option ℕ) (k : ℕ) → IsAnswered s a → a ≡ Some k → IsConflict s k
-answered_some s a k h e = subst (λ (o : Option ℕ). IfSome o (IsConflict s)) e h.conflict
+pub answered_some : (s : SearchState) (a : Option ℕ) (k : ℕ) → IsAnswered s a → a ≡ Some k → IsConflictAt s k
+answered_some s a k h e = subst (λ (o : Option ℕ). IfSome o (IsConflictAt s)) e h.conflict
 
 -- what an answer says
-pub ended_open : (s : SearchState) (o : Option ℕ) → IsEnded s o → ((k : ℕ) → o ≡ Some k → ⊥) → IsOpen s
+pub ended_open : (s : SearchState) (o : Option ℕ) → IsEnded s o → ((k : ℕ) → o ≡ Some k → ⊥) → IsUndecided s
 ended_open s None h none = h
 ended_open s (Some k) h none = absurd (none k refl)
 
-pub ended_refuted : (s : SearchState) (o : Option ℕ) (k : ℕ) → IsEnded s o → o ≡ Some k → IsRefuted s k
+pub ended_refuted : (s : SearchState) (o : Option ℕ) (k : ℕ) → IsEnded s o → o ≡ Some k → IsFalseAtLevelZero s k
 ended_refuted s o k h e = subst (IsEnded s) e h
 
 pub kept_longer : (n : InstanceName) (before after more : List LogLine) → after ≡ before ++ more → Contains before (line.Axiom n) → Contains after (line.Axiom n)
 kept_longer n before after more is there = subst (λ (ls : List LogLine). Contains ls (line.Axiom n)) (sym is) (Contains-append_left before more (line.Axiom n) there)
 
 -- the names before a place and the next one have their lines
-pub added_more : (names : List InstanceName) (i : ℕ) (d n : InstanceName) (old new : SearchState) (before after : List LogLine) → i < length names → n ≡ get_or names i d → Keeps old before new after
+pub added_more : (names : List InstanceName) (i : ℕ) (d n : InstanceName) (old new : SearchState) (before after : List LogLine) → i < length names → n ≡ get_or names i d → KeepsLines old before new after
     → All (λ x. Contains before (line.Axiom x)) (take i names) → Contains after (line.Axiom n) → All (λ x. Contains after (line.Axiom x)) (take (i + 1) names)
 added_more names i d n old new before after lt at keeps all there =
     let P : InstanceName → Type 0 = λ x. Contains after (line.Axiom x) in

@@ -19,7 +19,7 @@ use Rattle.gh_log.specs.Lines as line
 use Rattle.gh_log.specs.Sections.{line_clause}
 use Rattle.gh_sat.specs.Trail.{SearchState}
 use Rattle.gh_sat.proofs.ListLemmas.{lt_le}
-use Rattle.gh_ground.specs.Kept.{HasLineEach, Keeps}
+use Rattle.gh_ground.specs.Kept.{HasLineEach, KeepsLines}
 use Rattle.gh_ground.specs.Solving.{IsModelOf}
 
 abbrev same_terms : List Term → List Term → Bool
@@ -181,8 +181,8 @@ listed_true p s ls m n kept all w =
     (in_some s.clauses (clause_of n) (subst (λ (cs : List (Option (List Lit))). Contains cs (Some (clause_of n))) kept.clauses (in_map p ls (line.Axiom n) w)))
 
 -- after a round fewer are missing
-pub round_less : (p : Problem) (s0 s1 s2 : SearchState) (l0 l1 l2 : List LogLine) (m : Interpretation) (z : Sizes) (names : List InstanceName) → z ≡ p.sizes → Keeps s0 l0 s1 l1 → HasLineEach p s1 l1 → All (IsClauseTrue m) s1.clauses
-    → All (IsFalseInstance z m) names → (names ≡ [] → ⊥) → Keeps s1 l1 s2 l2 → All (λ n. Contains l2 (line.Axiom n)) names
+pub round_less : (p : Problem) (s0 s1 s2 : SearchState) (l0 l1 l2 : List LogLine) (m : Interpretation) (z : Sizes) (names : List InstanceName) → z ≡ p.sizes → KeepsLines s0 l0 s1 l1 → HasLineEach p s1 l1 → All (IsClauseTrue m) s1.clauses
+    → All (IsFalseInstance z m) names → (names ≡ [] → ⊥) → KeepsLines s1 l1 s2 l2 → All (λ n. Contains l2 (line.Axiom n)) names
     → unlisted p l2 < unlisted p l0
 unfolding unlisted
 round_less p s0 s1 s2 l0 l1 l2 m z [] same first kept all falses some then added = absurd (some (λ i. []))

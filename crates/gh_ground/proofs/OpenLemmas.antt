@@ -11,7 +11,7 @@ use Rattle.gh_log.specs.Lines.{LogLine}
 use Rattle.gh_sat.specs.declared.trail.Step.{Step}
 use Rattle.gh_sat.specs.Theory.{lits_of}
 use Rattle.gh_sat.specs.Trail.{SearchState, IsSound}
-use Rattle.gh_ground.specs.Kept.{HasLineEach, IsOpen}
+use Rattle.gh_ground.specs.Kept.{HasLineEach, IsUndecided}
 use Rattle.gh_sat.proofs.TheoryLemmas.{in_lits, no_lit_free, refuted_false}
 use Rattle.gh_cc.specs.Partials.{IsStructureOf}
 use Rattle.gh_cc.proofs.PartialLemmas.{are_congruences, are_assigned_true}
@@ -47,5 +47,5 @@ module _ (s : SearchState) (sizes : Sizes) (steps : List Step) (m : Interpretati
   pub is_congruence : IsCongruence s.sizes m
   is_congruence = are_congruences s.sizes (lits_of s.trail) m structure
 
-  pub clauses_true : IsOpen s → All (IsClauseTrue m) s.clauses
+  pub clauses_true : IsUndecided s → All (IsClauseTrue m) s.clauses
   clauses_true calm = are_clauses_true s m structure calm.sound calm.settled calm.known calm.assigned

@@ -17,7 +17,7 @@ use Rattle.gh_inst.proofs.InstanceLemmas.{IsRowAt, row_at, row_there}
 use Rattle.gh_inst.proofs.ListedLemmas.{row_in, found_row}
 use Rattle.gh_log.specs.Lines.{LogLine}
 use Rattle.gh_log.specs.Lines as line
-use Rattle.gh_log.specs.Sections.{Stands, AllStand, IsOfKind, AreOfKind}
+use Rattle.gh_log.specs.Sections.{IsUndeleted, AllUndeleted, IsOfKind, AreOfKind}
 use Rattle.gh_log.specs.Spelled.{IsSpelledAtom, AreSpelled, AreNumbers, IsSpelledName, IsOfVersion, HasSpelledParts, IsSpelledLine}
 use Rattle.gh_ground.specs.Solving.{FitsTypes}
 
@@ -63,11 +63,11 @@ module _ (p : Problem) (fits : FitsTypes p) where
   spelled_clause c is = All-weaker (λ l. IsInRange p.sizes l.atom) (λ l. IsSpelledAtom l.atom) (λ l a. spelled_atom l.atom a) c is
 
   -- a position that stands is no greater than the number of lines
-  spelled_positions : (earlier : List LogLine) (positions : List ℕ) → length earlier ≤ 4294967295 → AllStand p earlier positions → AreNumbers positions
+  spelled_positions : (earlier : List LogLine) (positions : List ℕ) → length earlier ≤ 4294967295 → AllUndeleted p earlier positions → AreNumbers positions
   spelled_positions earlier positions few all =
-      All-weaker (Stands p earlier) (λ n. n ≤ 4294967295) (λ n s. within n s (get_within earlier s.there.place s.there.line s.there.at)) positions all
+      All-weaker (IsUndeleted p earlier) (λ n. n ≤ 4294967295) (λ n s. within n s (get_within earlier s.there.place s.there.line s.there.at)) positions all
     where
-      within : (n : ℕ) (s : Stands p earlier n) → s.there.place < length earlier → n ≤ 4294967295
+      within : (n : ℕ) (s : IsUndeleted p earlier n) → s.there.place < length earlier → n ≤ 4294967295
       within n s lt = omega (arith, s.there.position_is)
 
   spelled_parts : (earlier : List LogLine) (l : LogLine) → length earlier ≤ 4294967295 → IsOfKind p earlier l → HasSpelledParts l

@@ -11,12 +11,12 @@ use Rattle.gh_base.specs.Grounds.{Problem}
 use Rattle.gh_log.specs.Lines.{LogLine}
 use Rattle.gh_log.specs.Lines as line
 use Rattle.gh_log.specs.declared.lines.Section.{Section}
-use Rattle.gh_log.specs.Sections.{line_clause, HasClauseAt, Stands, AllStand, AreAt, IsHinted, IsOfKind, AreOfKind}
+use Rattle.gh_log.specs.Sections.{line_clause, HasClauseAt, IsUndeleted, AllUndeleted, AreAt, IsHinted, IsOfKind, AreOfKind}
 use Rattle.gh_log.specs.Spelled.{IsOfVersion}
 use Rattle.gh_log.proofs.KindLemmas.{kind_push}
 use Rattle.gh_base.proofs.ListLemmas.{get_within, get_front, get_last, get_push, get_take}
 use Rattle.gh_ground.specs.Solving.{hints_of, FitsTypes, IsNoDeletion, IsHintLater, IsTrimmed, RefutesProblem, IsRefutationOf}
-use Rattle.gh_ground.specs.Trimming.{IsKeptAt, AreKeptBefore, KeepsOnly, IsHintOfKept, AreNeeded, IsMoved}
+use Rattle.gh_ground.specs.Trimming.{IsKeptAt, AreKeptBefore, KeepsOnly, IsHintOfKept, AreNeeded, IsShifted}
 use Rattle.gh_ground.proofs.KeptLemmas.{no_kinds, deletes_nothing}
 use Rattle.gh_ground.proofs.SpelledLemmas.{spelled_lines}
 
@@ -117,7 +117,7 @@ all_at : {X : Type 0} (P : X → Type 0) (xs : List X) (k : ℕ) (x : X) → All
 all_at P xs k x all at = subst P (get_or_from_slice_get xs k x x at) (all k x (get_within xs k x at))
 
 -- a line that is moved has its clause
-same_clause : (p : Problem) (positions : List ℕ) (l m : LogLine) → IsNoDeletion l → IsMoved positions l m → line_clause p m ≡ line_clause p l
+same_clause : (p : Problem) (positions : List ℕ) (l m : LogLine) → IsNoDeletion l → IsShifted positions l m → line_clause p m ≡ line_clause p l
 same_clause p positions (line.Axiom n) m t e = ap (line_clause p) e
 same_clause p positions (line.Clause k) m t e = ap (line_clause p) e
 same_clause p positions (line.Lemma c) m t e = ap (line_clause p) e
@@ -125,7 +125,7 @@ same_clause p positions (line.Learnt c) m t e = ap (line_clause p) e
 same_clause p positions (line.Hinted c hints) m t e = ap (line_clause p) e
 same_clause p positions (line.Delete deleted) m t e = absurd t
 
-moved_stays : (positions : List ℕ) (l m : LogLine) → IsNoDeletion l → IsMoved positions l m → IsNoDeletion m
+moved_stays : (positions : List ℕ) (l m : LogLine) → IsNoDeletion l → IsShifted positions l m → IsNoDeletion m
 moved_stays positions (line.Axiom n) m t e = subst IsNoDeletion (sym e) tt
 moved_stays positions (line.Clause k) m t e = subst IsNoDeletion (sym e) tt
 moved_stays positions (line.Lemma c) m t e = subst IsNoDeletion (sym e) tt
@@ -133,7 +133,7 @@ moved_stays positions (line.Learnt c) m t e = subst IsNoDeletion (sym e) tt
 moved_stays positions (line.Hinted c hints) m t e = subst IsNoDeletion (sym e) tt
 moved_stays positions (line.Delete deleted) m t e = absurd t
 
-moved_version : (positions : List ℕ) (l m : LogLine) → IsNoDeletion l → IsOfVersion 2 l → IsMoved positions l m → IsOfVersion 2 m
+moved_version : (positions : List ℕ) (l m : LogLine) → IsNoDeletion l → IsOfVersion 2 l → IsShifted positions l m → IsOfVersion 2 m
 moved_version positions (line.Axiom n) m t v e = subst (IsOfVersion 2) (sym e) tt
 moved_version positions (line.Clause k) m t v e = subst (IsOfVersion 2) (sym e) tt
 moved_version positions (line.Lemma c) m t v e = subst (IsOfVersion 2) (sym e) tt
@@ -152,7 +152,7 @@ in_map f (y ∷ xs) x (zero, lt, e) = (zero, omega arith, ap f e)
 in_map f (y ∷ xs) x (suc k, lt, e) = let rest = in_map f xs x (k, omega arith, e) in (suc rest.0, omega (arith, rest.1), rest.2)
 
 -- the hint of a line that is moved
-hint_moved : (positions : List ℕ) (l m : LogLine) (j r : ℕ) → IsMoved positions l m → slice_get positions j ≡ Some r → Contains (hints_of l) (j + 1) → Contains (hints_of m) r
+hint_moved : (positions : List ℕ) (l m : LogLine) (j r : ℕ) → IsShifted positions l m → slice_get positions j ≡ Some r → Contains (hints_of l) (j + 1) → Contains (hints_of m) r
 hint_moved positions (line.Hinted c hints) m j r moved at there =
     let less : j + 1 - 1 ≡ j = omega arith in
     let is : slice_index positions (j + 1 - 1) ≡ r = ap (λ i. slice_index positions i) less ∙ get_or_from_slice_get positions j r 0 at in
@@ -168,7 +168,7 @@ moves_on positions more place l m within moves = λ j r lt at there. moves j r l
 module _ (p : Problem) (lines : List LogLine) (kept : List Bool) (place : ℕ) (new : List LogLine) (positions : List ℕ) (good : IsGood p lines) (h : IsRenumbered p lines kept place new positions) where
   -- what stood at the hints stands at the new ones
   hints_moved : (hints : List ℕ) (clauses : List (List Lit)) → AreKeptBefore kept place hints → AreAt p (take place lines) hints clauses
-      → AllStand p new (map (λ k. slice_index positions (k - 1)) hints) × AreAt p new (map (λ k. slice_index positions (k - 1)) hints) clauses
+      → AllUndeleted p new (map (λ k. slice_index positions (k - 1)) hints) × AreAt p new (map (λ k. slice_index positions (k - 1)) hints) clauses
   hints_moved [] [] all at = (λ k d lt. absurd (omega arith), tt)
   hints_moved [] (c ∷ cs) all at = absurd at
   hints_moved (k ∷ ks) [] all at = absurd at
@@ -179,11 +179,11 @@ module _ (p : Problem) (lines : List LogLine) (kept : List Bool) (place : ℕ) (
       let before : k - 1 ≡ one.place = let e = one.position_is in omega arith in
       let is : slice_index positions (k - 1) ≡ t.0 + 1 = ap (λ i. slice_index positions i) before ∙ get_or_from_slice_get positions one.place (t.0 + 1) 0 t.2 in
       let there : HasClauseAt p new (slice_index positions (k - 1)) c = record { place = t.0; position_is = is; line = t.1; at = t.3; has = t.4 ∙ one.has } in
-      let stands : Stands p new (slice_index positions (k - 1)) = record { clause = c; there = there; kept = λ j d lt. deletes_nothing (get_or new j d) (slice_index positions (k - 1)) (h.none j d lt) } in
+      let stands : IsUndeleted p new (slice_index positions (k - 1)) = record { clause = c; there = there; kept = λ j d lt. deletes_nothing (get_or new j d) (slice_index positions (k - 1)) (h.none j d lt) } in
       let rest = hints_moved ks cs (λ j d lt. all (suc j) d (omega arith)) at.1 in
-      (All-cons (Stands p new) (slice_index positions (k - 1)) (map (λ i. slice_index positions (i - 1)) ks) stands rest.0, (there, rest.1))
+      (All-cons (IsUndeleted p new) (slice_index positions (k - 1)) (map (λ i. slice_index positions (i - 1)) ks) stands rest.0, (there, rest.1))
 
-  kind_moved : (l m : LogLine) → IsNoDeletion l → IsOfVersion 2 l → AreKeptBefore kept place (hints_of l) → IsMoved positions l m → IsOfKind p (take place lines) l → IsOfKind p new m
+  kind_moved : (l m : LogLine) → IsNoDeletion l → IsOfVersion 2 l → AreKeptBefore kept place (hints_of l) → IsShifted positions l m → IsOfKind p (take place lines) l → IsOfKind p new m
   kind_moved (line.Axiom n) m t v all e kind = subst (IsOfKind p new) (sym e) kind
   kind_moved (line.Clause k) m t v all e kind = subst (IsOfKind p new) (sym e) kind
   kind_moved (line.Lemma c) m t v all e kind = subst (IsOfKind p new) (sym e) kind
@@ -194,7 +194,7 @@ module _ (p : Problem) (lines : List LogLine) (kept : List Bool) (place : ℕ) (
       subst (IsOfKind p new) (sym e) (kind.0, hinted)
   kind_moved (line.Delete deleted) m t v all e kind = absurd t
 
-  pub trim_kept : (l m : LogLine) → AreNeeded lines kept 0 → slice_get lines place ≡ Some l → IsKeptAt kept place → IsMoved positions l m → IsRenumbered p lines kept (place + 1) (new ++ m ∷ []) (positions ++ (length new + 1) ∷ [])
+  pub trim_kept : (l m : LogLine) → AreNeeded lines kept 0 → slice_get lines place ≡ Some l → IsKeptAt kept place → IsShifted positions l m → IsRenumbered p lines kept (place + 1) (new ++ m ∷ []) (positions ++ (length new + 1) ∷ [])
   trim_kept l m needed at is moved =
       let none = all_at IsNoDeletion lines place l good.none at in
       let version = all_at (IsOfVersion 2) lines place l good.version at in

@@ -9,7 +9,7 @@ use Rattle.gh_log.specs.Sections.{line_clause, AreOfKind}
 use Rattle.gh_log.specs.Spelled.{IsOfVersion}
 use Rattle.gh_ground.specs.declared.solver.Turn.{Turn}
 use Rattle.gh_ground.specs.declared.solver.Turn.TheVariants.{Ended, Answered}
-use Rattle.gh_sat.specs.Learn.{IsConflict}
+use Rattle.gh_sat.specs.Learn.{IsConflictAt}
 use Rattle.gh_sat.specs.Status.{IsSettled, AreAssigned}
 use Rattle.gh_sat.specs.Theory.{lits_of, HasNoConflict, PropagatesBeside}
 use Rattle.gh_sat.specs.Trail.{SearchState, IsSound}
@@ -25,7 +25,7 @@ pub record HasLineEach (p : Problem) (s : SearchState) (lines : List LogLine) : 
   pub ground : (c : List Lit) → Contains p.clauses c → Contains s.clauses c
 
 -- lines were added, and what was kept is
-pub record Keeps (old : SearchState) (before : List LogLine) (new : SearchState) (after : List LogLine) : Type 0 where
+pub record KeepsLines (old : SearchState) (before : List LogLine) (new : SearchState) (after : List LogLine) : Type 0 where
   pub keeps : (p : Problem) → HasLineEach p old before → HasLineEach p new after
   pub more : List LogLine
   pub longer : after ≡ before ++ more
@@ -37,27 +37,27 @@ Propagates old new answer = PropagatesBeside (IsEqualityClause old.sizes) old ne
 -- what holds of a search after an answer of its propagation
 pub record IsAnswered (s : SearchState) (answer : Option ℕ) : Type 0 where
   pub sound : IsSound s
-  pub conflict : IfSome answer (IsConflict s)
+  pub conflict : IfSome answer (IsConflictAt s)
   pub settled : IfNone answer (IsSettled s)
   pub consistent : IfNone answer (HasNoConflict (IsEqualityClause s.sizes) s.trail)
   pub known : IfNone answer (IsConsistent s.sizes (lits_of s.trail))
 
 -- all atoms of clauses have a truth, and no clause is false, nor one of equality
-pub record IsOpen (s : SearchState) : Type 0 where
+pub record IsUndecided (s : SearchState) : Type 0 where
   pub sound : IsSound s
   pub settled : IsSettled s
   pub known : IsConsistent s.sizes (lits_of s.trail)
   pub assigned : AreAssigned s
 
 -- the clause of number k is false at level 0
-pub record IsRefuted (s : SearchState) (k : ℕ) : Type 0 where
-  pub conflict : IsConflict s k
+pub record IsFalseAtLevelZero (s : SearchState) (k : ℕ) : Type 0 where
+  pub conflict : IsConflictAt s k
   pub first : s.starts ≡ []
 
 -- the search is over, with such an answer of its last propagation
 abbrev pub IsEnded : SearchState → Option ℕ → Type 0
-IsEnded s None = IsOpen s
-IsEnded s (Some k) = IsRefuted s k
+IsEnded s None = IsUndecided s
+IsEnded s (Some k) = IsFalseAtLevelZero s k
 
 -- what holds of the answer that a turn came to
 abbrev pub IfAnswered : Turn → (Option ℕ → Type 0) → Type 0

@@ -29,40 +29,40 @@ abbrev pub truth_in : Tables → Atom → Bool
 truth_in t a = (interpretation_of t).table a
 
 -- atoms of which something holds, whatever the terms and their classes
-abbrev pub Kind : Type 1
-Kind = Sizes → List Term → Atom → Type 0
+abbrev pub Sort : Type 1
+Sort = Sizes → List Term → Atom → Type 0
 
 -- one atom
-abbrev pub IsAtom : Atom → Kind
+abbrev pub IsAtom : Atom → Sort
 IsAtom b s cs a = a ≡ b
 
 -- those that are of a kind for one of the first terms that is of the same class as x
-pub record IsUpTo (n : ℕ) (x : Term) (P : Term → Kind) (s : Sizes) (cs : List Term) (a : Atom) : Type 0 where
+pub record IsOfFirst (n : ℕ) (x : Term) (P : Term → Sort) (s : Sizes) (cs : List Term) (a : Atom) : Type 0 where
   pub term : Term
   pub below : term.0 < n
   pub same : class_at cs term.0 ≡ class_at cs x.0
   pub is : P term s cs a
 
 -- .. for a term of the class of x
-abbrev pub IsOver : Term → (Term → Kind) → Kind
-IsOver x P s cs a = IsUpTo s.terms x P s cs a
+abbrev pub IsOfClass : Term → (Term → Sort) → Sort
+IsOfClass x P s cs a = IsOfFirst s.terms x P s cs a
 
 -- the atoms `Btwn` over the terms of the class of the third, of the second and the third, and of all three
-abbrev pub IsThird : ℕ → Term → Term → Term → Kind
-IsThird version x y z = IsOver z (λ t. IsAtom (Btwn version x y t))
+abbrev pub IsThird : ℕ → Term → Term → Term → Sort
+IsThird version x y z = IsOfClass z (λ t. IsAtom (Btwn version x y t))
 
-abbrev pub IsSecond : ℕ → Term → Term → Term → Kind
-IsSecond version x y z = IsOver y (λ t. IsThird version x t z)
+abbrev pub IsSecond : ℕ → Term → Term → Term → Sort
+IsSecond version x y z = IsOfClass y (λ t. IsThird version x t z)
 
-abbrev pub IsFirst : ℕ → Term → Term → Term → Kind
-IsFirst version x y z = IsOver x (λ t. IsSecond version t y z)
+abbrev pub IsTriple : ℕ → Term → Term → Term → Sort
+IsTriple version x y z = IsOfClass x (λ t. IsSecond version t y z)
 
 -- those over terms of the same classes
-abbrev pub IsLike : Atom → Kind
+abbrev pub IsLike : Atom → Sort
 IsLike b s cs a = normal (class_at cs) b ≡ normal (class_at cs) a
 
 -- the atoms of a kind became true, and no other truth was changed
-pub record Gives (P : Kind) (old new : Tables) : Type 0 where
+pub record MakesTrue (P : Sort) (old new : Tables) : Type 0 where
   pub sizes : new.sizes ≡ old.sizes
   pub classes : new.classes ≡ old.classes
   pub truths : (a : Atom) → IsRelation a → IsInRange old.sizes a → (truth_in new a ≡ true) ↔ ((truth_in old a ≡ true) ⊎ P old.sizes old.classes a)

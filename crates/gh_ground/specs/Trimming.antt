@@ -38,15 +38,15 @@ pub record AreNeeded (lines : List LogLine) (kept : List Bool) (from : ℕ) : Ty
   pub only : (k : ℕ) → IsKeptAt kept k → (length lines ≡ k + 1) ⊎ IsHintOfKept lines kept k
 
 -- the same line, with its hints moved by a table of new positions; deletions aren't kept
-abbrev pub IsMoved : List ℕ → LogLine → LogLine → Type 0
-IsMoved positions (line.Hinted c hints) new =
+abbrev pub IsShifted : List ℕ → LogLine → LogLine → Type 0
+IsShifted positions (line.Hinted c hints) new =
     new ≡ line.Hinted c (map (λ h. slice_index positions (h - 1)) hints)
-IsMoved positions (line.Delete deleted) new = ⊤
-IsMoved positions old new = new ≡ old
+IsShifted positions (line.Delete deleted) new = ⊤
+IsShifted positions old new = new ≡ old
 
 -- a line was added, with its hints moved
 abbrev pub AddsMoved : List ℕ → LogLine → List LogLine → List LogLine → Type 0
-AddsMoved positions old before after = (l : LogLine) × IsMoved positions old l × (after ≡ before ++ l ∷ [])
+AddsMoved positions old before after = (l : LogLine) × IsShifted positions old l × (after ≡ before ++ l ∷ [])
 
 -- a line was kept, with its hints moved by the positions so far
 abbrev pub MovesLine : Trimmed → LogLine → Trimmed → Type 0

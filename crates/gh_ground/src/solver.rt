@@ -11,10 +11,10 @@ ghost use Rattle.gh_inst.specs.Instances.{IsInstance};
 ghost use Rattle.gh_log.specs.Lines.{Axiom};
 ghost use Rattle.gh_log.specs.Sections.{line_clause, AreOfKind};
 ghost use Rattle.gh_log.specs.Spelled.{IsOfVersion};
-ghost use Rattle.gh_ground.specs.Kept.{HasLineEach, Keeps, Propagates, IsAnswered, IsOpen, IsRefuted};
+ghost use Rattle.gh_ground.specs.Kept.{HasLineEach, KeepsLines, Propagates, IsAnswered, IsUndecided, IsFalseAtLevelZero};
 ghost use Rattle.gh_ground.specs.Kept.{IsEnded, IfAnswered, IfEnded};
 ghost use Rattle.gh_ground.specs.Solving.{RefutesProblem};
-ghost use Rattle.gh_sat.specs.Learn.{IsConflict};
+ghost use Rattle.gh_sat.specs.Learn.{IsConflictAt};
 ghost use Rattle.gh_sat.specs.Measure.{LeavesLess};
 ghost use Rattle.gh_sat.specs.Trail.{IsSound};
 ghost use Rattle.gh_sat.specs.Whole.{GivesLast};
@@ -127,7 +127,7 @@ impl Solver {
         ensures moves { IfOk result (Propagates self.old.search self.new.search) }
         ensures last { OnOk result (GivesLast self.old.search self.new.search.trail) }
         ensures answered { IfOk result (λ o. IsAnswered self.new.search o) }
-        ensures keeps { OnOk result (Keeps self.old.search self.old.lines self.new.search self.new.lines) }
+        ensures keeps { OnOk result (KeepsLines self.old.search self.old.lines self.new.search self.new.lines) }
     {
         let before = self.search.count();
         let answer = self.search.propagate(alloc)?;
@@ -145,8 +145,8 @@ impl Solver {
         requires { IsAnswered self.old.search None }
         ensures less { IfOk result (λ t. IfAnswered t (λ _. LeavesLess self.old.search self.new.search)) }
         ensures answered { IfOk result (λ t. IfAnswered t (IsAnswered self.new.search)) }
-        ensures open { IfOk result (λ t. IfEnded t (IsOpen self.new.search)) }
-        ensures keeps { OnOk result (Keeps self.old.search self.old.lines self.new.search self.new.lines) }
+        ensures open { IfOk result (λ t. IfEnded t (IsUndecided self.new.search)) }
+        ensures keeps { OnOk result (KeepsLines self.old.search self.old.lines self.new.search self.new.lines) }
     {
         match self.search.decide_needed() {
             None => Ok(Turn::Ended),
@@ -161,11 +161,11 @@ impl Solver {
     // then two, six, 22 and so on, so that a row of them soon comes to the level of the last one.
     fn learn(&mut self, alloc: Global, conflict: u32) -> Result<Option<u32>, AllocError>
         requires sound { IsSound self.old.search }
-        requires conflict { IsConflict self.old.search conflict }
+        requires conflict { IsConflictAt self.old.search conflict }
         requires level { 0 < length self.old.search.starts }
         ensures less { OnOk result (LeavesLess self.old.search self.new.search) }
         ensures answered { IfOk result (IsAnswered self.new.search) }
-        ensures keeps { OnOk result (Keeps self.old.search self.old.lines self.new.search self.new.lines) }
+        ensures keeps { OnOk result (KeepsLines self.old.search self.old.lines self.new.search self.new.lines) }
     {
         let learnt = self.search.learn(alloc, conflict)?;
         self.search
@@ -187,7 +187,7 @@ impl Solver {
         ensures less { IfOk result (λ t. IfAnswered t (λ _. LeavesLess self.old.search self.new.search)) }
         ensures answered { IfOk result (λ t. IfAnswered t (IsAnswered self.new.search)) }
         ensures ended { IfOk result (λ t. IfEnded t (IsEnded self.new.search answer)) }
-        ensures keeps { OnOk result (Keeps self.old.search self.old.lines self.new.search self.new.lines) }
+        ensures keeps { OnOk result (KeepsLines self.old.search self.old.lines self.new.search self.new.lines) }
     {
         match answer {
             None => {
@@ -208,7 +208,7 @@ impl Solver {
     /// answers its number.
     pub(crate) fn conflict(&mut self, alloc: Global) -> Result<Option<u32>, AllocError>
         ensures ended { IfOk result (IsEnded self.new.search) }
-        ensures keeps { OnOk result (Keeps self.old.search self.old.lines self.new.search self.new.lines) }
+        ensures keeps { OnOk result (KeepsLines self.old.search self.old.lines self.new.search self.new.lines) }
     {
         let mut found = self.propagate(alloc)?;
         while let Turn::Answered(next) = self.turn(alloc, found)? {
@@ -219,7 +219,7 @@ impl Solver {
 
     /// The structure of what the trail asserts.
     pub(crate) fn structure(&self, alloc: Global) -> Result<Structure, AllocError>
-        requires open { IsOpen self.now.search }
+        requires open { IsUndecided self.now.search }
         requires kept { (p : Problem) × HasLineEach p self.now.search self.now.lines }
         ensures sizes { IfOk result (λ s. s.sizes ≡ self.now.search.sizes) }
         ensures clauses { IfOk result (λ s. All (IsClauseTrue (interpretation_of s)) self.now.search.clauses) }
@@ -235,7 +235,7 @@ impl Solver {
         requires { IsInstance self.old.search.sizes.terms self.old.search.sizes.versions name }
         ensures sizes { OnOk result (self.new.search.sizes ≡ self.old.search.sizes) }
         ensures added { OnOk result (Contains self.new.lines (Axiom name)) }
-        ensures keeps { OnOk result (Keeps self.old.search self.old.lines self.new.search self.new.lines) }
+        ensures keeps { OnOk result (KeepsLines self.old.search self.old.lines self.new.search self.new.lines) }
     {
         let sizes = self.search.assignment().sizes();
         let Some(clause) = instance(alloc, name, sizes.terms, sizes.versions) else {
@@ -254,7 +254,7 @@ impl Solver {
     ) -> Result<(), AllocError>
         requires { All (IsInstance self.old.search.sizes.terms self.old.search.sizes.versions) names.now }
         ensures added { OnOk result (All (λ name. Contains self.new.lines (Axiom name)) names.now) }
-        ensures keeps { OnOk result (Keeps self.old.search self.old.lines self.new.search self.new.lines) }
+        ensures keeps { OnOk result (KeepsLines self.old.search self.old.lines self.new.search self.new.lines) }
     {
         for name in names {
             self.add_instance(alloc, *name)?;
@@ -268,7 +268,7 @@ impl Solver {
         alloc: Global,
         conflict: u32,
     ) -> Result<Section, AllocError>
-        requires { IsRefuted self.search conflict }
+        requires { IsFalseAtLevelZero self.search conflict }
         ensures { IfOk result (λ s. (p : Problem) → HasLineEach p self.search self.lines → RefutesProblem p s) }
     {
         let _count = self.search.count();

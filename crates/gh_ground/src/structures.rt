@@ -8,7 +8,7 @@ ghost use Rattle.gh_base.specs.Structures.{interpretation_of};
 ghost use Rattle.gh_cc.specs.Kept.{IsRelation};
 ghost use Rattle.gh_cc.specs.Partials.{IsStructureOf};
 ghost use Rattle.gh_sat.specs.Theory.{lits_of};
-ghost use Rattle.gh_ground.specs.Making.{AreGiven, Gives, IsAtom, IsOver, IsThird, IsSecond, IsFirst, IsLike};
+ghost use Rattle.gh_ground.specs.Making.{AreGiven, MakesTrue, IsAtom, IsOfClass, IsThird, IsSecond, IsTriple, IsLike};
 ghost use Rattle.gh_ground.specs.Making.{KeepsClasses};
 
 use crate::classes::classes_of;
@@ -22,7 +22,7 @@ use std::alloc::{AllocError, Global};
 fn give(structure: &mut Structure, atom: Atom)
     requires range { IsInRange structure.old.sizes atom }
     requires relation { IsRelation atom }
-    ensures { Gives (IsAtom atom) structure.old structure.new }
+    ensures { MakesTrue (IsAtom atom) structure.old structure.new }
 {
     structure.set(atom, true);
 }
@@ -30,7 +30,7 @@ fn give(structure: &mut Structure, atom: Atom)
 // Makes the atoms true over the terms of a class.
 fn give_alloc(structure: &mut Structure, version: u8, x: Term)
     requires range { IsInRange structure.old.sizes (Alloc version x) }
-    ensures { Gives (IsOver x (λ t. IsAtom (Alloc version t))) structure.old structure.new }
+    ensures { MakesTrue (IsOfClass x (λ t. IsAtom (Alloc version t))) structure.old structure.new }
 {
     let class = structure.class(x).0;
     for other in 0..structure.terms() {
@@ -44,7 +44,7 @@ fn give_alloc(structure: &mut Structure, version: u8, x: Term)
 // Makes the atoms true whose second term is of a class.
 fn give_content(structure: &mut Structure, version: u8, x: Term, v: Term)
     requires range { IsInRange structure.old.sizes (Hop version x v) }
-    ensures { Gives (IsOver v (λ t. IsAtom (Hop version x t))) structure.old structure.new }
+    ensures { MakesTrue (IsOfClass v (λ t. IsAtom (Hop version x t))) structure.old structure.new }
 {
     let class = structure.class(v).0;
     for other in 0..structure.terms() {
@@ -58,7 +58,7 @@ fn give_content(structure: &mut Structure, version: u8, x: Term, v: Term)
 // Makes the atoms true over the terms of two classes.
 fn give_hop(structure: &mut Structure, version: u8, x: Term, v: Term)
     requires range { IsInRange structure.old.sizes (Hop version x v) }
-    ensures { Gives (IsOver x (λ t. IsOver v (λ u. IsAtom (Hop version t u)))) structure.old structure.new }
+    ensures { MakesTrue (IsOfClass x (λ t. IsOfClass v (λ u. IsAtom (Hop version t u)))) structure.old structure.new }
 {
     let class = structure.class(x).0;
     for other in 0..structure.terms() {
@@ -71,7 +71,7 @@ fn give_hop(structure: &mut Structure, version: u8, x: Term, v: Term)
 // Makes the atoms true whose third term is of a class.
 fn give_third(structure: &mut Structure, version: u8, x: Term, y: Term, z: Term)
     requires range { IsInRange structure.old.sizes (Btwn version x y z) }
-    ensures { Gives (IsThird version x y z) structure.old structure.new }
+    ensures { MakesTrue (IsThird version x y z) structure.old structure.new }
 {
     let class = structure.class(z).0;
     for other in 0..structure.terms() {
@@ -85,7 +85,7 @@ fn give_third(structure: &mut Structure, version: u8, x: Term, y: Term, z: Term)
 // Makes the atoms true whose second and third terms are of two classes.
 fn give_second(structure: &mut Structure, version: u8, x: Term, y: Term, z: Term)
     requires range { IsInRange structure.old.sizes (Btwn version x y z) }
-    ensures { Gives (IsSecond version x y z) structure.old structure.new }
+    ensures { MakesTrue (IsSecond version x y z) structure.old structure.new }
 {
     let class = structure.class(y).0;
     for other in 0..structure.terms() {
@@ -98,7 +98,7 @@ fn give_second(structure: &mut Structure, version: u8, x: Term, y: Term, z: Term
 // Makes the atoms true over the terms of three classes.
 fn give_btwn(structure: &mut Structure, version: u8, x: Term, y: Term, z: Term)
     requires range { IsInRange structure.old.sizes (Btwn version x y z) }
-    ensures { Gives (IsFirst version x y z) structure.old structure.new }
+    ensures { MakesTrue (IsTriple version x y z) structure.old structure.new }
 {
     let class = structure.class(x).0;
     for other in 0..structure.terms() {
@@ -112,7 +112,7 @@ fn give_btwn(structure: &mut Structure, version: u8, x: Term, y: Term, z: Term)
 fn give_like(structure: &mut Structure, atom: Atom)
     requires range { IsInRange structure.old.sizes atom }
     requires relation { IsRelation atom }
-    ensures { Gives (IsLike atom) structure.old structure.new }
+    ensures { MakesTrue (IsLike atom) structure.old structure.new }
 {
     match atom {
         Atom::Eq { .. } => unreachable!(),

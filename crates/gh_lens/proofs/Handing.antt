@@ -27,19 +27,19 @@ exchange_agrees : (f : Formula) (s t : Store) (h k : Heap) (e : Exchange) → ((
 exchange_agrees f s t h k e means x = record { part = x.part; splits = x.splits; meets = means x.part x.meets; handed = x.handed; joins = x.joins }
 
 -- the loop of a number hands over by its invariant
-pub loop_hands : (P : Program) (p : Procedure) (n : ℕ) (l : Loop) (x y : State) (o : Option Exchange) → IsLoopAt p n l → IfSome o (IsExchange l.invariant x.store x.heap y.heap)
-    → IfNone o ((other : Heap) → Replaced l.invariant x.store x.heap (λ z. z ≡ other) y.heap → ⊥) → IsHandedOr P p (looped n) x y o
-loop_hands P p n l x y (Some e) at some none = (l, at, some)
-loop_hands P p n l x y None at some none = λ e (m, there, ex).
-    let same : m ≡ l = one_value (slice_get (loops_of p) n) m l there at in
+pub loop_hands : (P : Program) (proc : Procedure) (n : ℕ) (l : Loop) (x y : State) (o : Option Exchange) → IsLoopAt proc n l → IfSome o (IsExchange l.invariant x.store x.heap y.heap)
+    → IfNone o ((other : Heap) → Replaced l.invariant x.store x.heap (λ z. z ≡ other) y.heap → ⊥) → IsHandedOr P proc (looped n) x y o
+loop_hands P proc n l x y (Some e) at some none = (l, at, some)
+loop_hands P proc n l x y None at some none = λ e (m, there, ex).
+    let same : m ≡ l = one_value (slice_get (loops_of proc) n) m l there at in
     no_exchange l.invariant x.store x.heap y.heap none e (subst (λ k. IsExchange k.invariant x.store x.heap y.heap e) same ex)
 
 -- the callee of a number hands over by what it requires of its arguments
-pub call_hands : (P : Program) (p : Procedure) (n : ℕ) (q : Procedure) (xs : List Occ) (es : List Expr) (x y : State) (given : List ℕ) (inside : Store) (o : Option Exchange) → IsCall P n q es x given → HasOwnNames q → map inside (parameters_of q) ≡ given
-    → IfSome o (IsExchange q.needs inside x.heap y.heap) → IfNone o ((other : Heap) → Replaced q.needs inside x.heap (λ z. z ≡ other) y.heap → ⊥) → IsHandedOr P p (called xs n es) x y o
-call_hands P p n q xs es x y given inside (Some e) call own arguments some none =
+pub call_hands : (P : Program) (proc : Procedure) (n : ℕ) (q : Procedure) (xs : List Occ) (es : List Expr) (x y : State) (given : List ℕ) (inside : Store) (o : Option Exchange) → IsCall P n q es x given → HasOwnNames q → map inside (parameters_of q) ≡ given
+    → IfSome o (IsExchange q.needs inside x.heap y.heap) → IfNone o ((other : Heap) → Replaced q.needs inside x.heap (λ z. z ≡ other) y.heap → ⊥) → IsHandedOr P proc (called xs n es) x y o
+call_hands P proc n q xs es x y given inside (Some e) call own arguments some none =
     (q, given, call.callee, call.gives, record { inside = inside; arguments = arguments; exchange = some })
-call_hands P p n q xs es x y given inside None call own arguments some none = refused
+call_hands P proc n q xs es x y given inside None call own arguments some none = refused
   where
     moved : (e : Exchange) (r : Procedure) (vs : List ℕ) → r ≡ q → vs ≡ given → IsCallExchange r vs x y e → IsExchange q.needs inside x.heap y.heap e
     moved e r vs same values ex =
@@ -47,7 +47,7 @@ call_hands P p n q xs es x y given inside None call own arguments some none = re
         exchange_agrees q.needs ex.inside inside x.heap y.heap e (λ a. same_meaning q.needs (parameters_of q) ex.inside inside a (maps_agree (parameters_of q) ex.inside inside there) own.needs_in)
         (subst (λ z. IsExchange z.needs ex.inside x.heap y.heap e) same ex.exchange)
 
-    refused : (e : Exchange) → IsHanded P p (called xs n es) x y e → ⊥
+    refused : (e : Exchange) → IsHanded P proc (called xs n es) x y e → ⊥
     refused e (r, vs, is, give, ex) =
         no_exchange q.needs inside x.heap y.heap none e
         (moved e r vs (one_value (slice_get P.procedures n) r q is call.callee) (same_values vs given (sym give ∙ call.gives)) ex)

@@ -26,7 +26,7 @@ use Rattle.gh_entail.specs.Asked.{IsAdmitted, IsAskRefusal}
 use Rattle.gh_entail.specs.Limits.{IsLimit, of_variables, of_atoms, of_terms}
 use Rattle.gh_entail.specs.declared.admit.AskError.TheVariants as ask
 use Rattle.gh_lens.specs.Assertions.{Subject, subjects_of, subjects, question_on, IsMeeting, IsRemark, AreRemarks}
-use Rattle.gh_lens.specs.Stated.{subject_of, Adds}
+use Rattle.gh_lens.specs.Stated.{subject_of, AddsRemarks}
 use Rattle.gh_lens.specs.declared.remarks.Stated.{Stated}
 use Rattle.gh_lens.specs.declared.remarks.Meeting.TheVariants.{Met, Unmet, Unknown}
 use Rattle.gh_lens.specs.declared.remarks.Remark.{Remark}
@@ -74,19 +74,19 @@ remarks_append (s ∷ ss) ts [] us a b = absurd a
 remarks_append (s ∷ ss) ts (r ∷ rs) us a b = (a.0, remarks_append ss ts rs us a.1 b)
 
 -- the next subject
-pub adds_next : (xs : List Stated) (i : ℕ) (x : Stated) (old mid new : List Remark) (r : Remark) → i < length xs → x ≡ get_or xs i x → Adds old mid (map subject_of (take i xs)) → IsRemark (subject_of x) r → new ≡ mid ++ r ∷ []
-    → Adds old new (map subject_of (take (i + 1) xs))
+pub adds_next : (xs : List Stated) (i : ℕ) (x : Stated) (old mid new : List Remark) (r : Remark) → i < length xs → x ≡ get_or xs i x → AddsRemarks old mid (map subject_of (take i xs)) → IsRemark (subject_of x) r → new ≡ mid ++ r ∷ []
+    → AddsRemarks old new (map subject_of (take (i + 1) xs))
 adds_next xs i x old mid new r within is (rs, e, are) one pushed =
     let taken : take (i + 1) xs ≡ take i xs ++ x ∷ [] = take_more xs i x within ∙ ap (λ y. take i xs ++ y ∷ []) (sym is) in
     let listed : map subject_of (take (i + 1) xs) ≡ map subject_of (take i xs) ++ subject_of x ∷ [] = ap (map subject_of) taken ∙ map-append subject_of (take i xs) (x ∷ []) in
     let all : AreRemarks (map subject_of (take i xs) ++ subject_of x ∷ []) (rs ++ r ∷ []) = remarks_append (map subject_of (take i xs)) (subject_of x ∷ []) rs (r ∷ []) are (one, tt) in
     (rs ++ r ∷ [], pushed ∙ ap (λ t. t ++ r ∷ []) e ∙ append_assoc old rs (r ∷ []), subst (λ ss. AreRemarks ss (rs ++ r ∷ [])) (sym listed) all)
 
-pub adds_none : (old : List Remark) → Adds old old []
+pub adds_none : (old : List Remark) → AddsRemarks old old []
 adds_none old = ([], sym (append-nil old), tt)
 
 -- the subjects of the next procedure
-pub remarks_next : (ps : List whole.Procedure) (i : ℕ) (p : whole.Procedure) (old new : List Remark) (ts : List Subject) → i < length ps → p ≡ get_or ps i p → AreRemarks (flat_map subjects_of (map procedure_of (take i ps))) old → Adds old new ts
+pub remarks_next : (ps : List whole.Procedure) (i : ℕ) (p : whole.Procedure) (old new : List Remark) (ts : List Subject) → i < length ps → p ≡ get_or ps i p → AreRemarks (flat_map subjects_of (map procedure_of (take i ps))) old → AddsRemarks old new ts
     → ts ≡ subjects_of (procedure_of p) → AreRemarks (flat_map subjects_of (map procedure_of (take (i + 1) ps))) new
 remarks_next ps i p old new ts within is before (rs, e, are) same =
     let front : List Subject = flat_map subjects_of (map procedure_of (take i ps)) in

@@ -16,14 +16,14 @@ use Rattle.gh_trace.proofs.CallLemmas.{IsCall}
 use Rattle.gh_lens.specs.Misses.{IsMiss, AreMisses, IsFailing, IsCheckOr, IsEntryOr, IsInvariantOr, IsFailingOr}
 
 -- where the entry of a callee fails
-pub entry_fails : (P : Program) (p : Procedure) (at : Span) (n : ℕ) (q : Procedure) (es : List Expr) (x : State) (given : List ℕ) (inside : Store) (text : List ℕ) → IsCall P n q es x given → map inside (parameters_of q) ≡ given
-    → IsMiss q.needs inside x.heap text → IsFailing P p (entry at n es) x text
-entry_fails P p at n q es x given inside text call arguments miss =
+pub entry_fails : (P : Program) (proc : Procedure) (at : Span) (n : ℕ) (q : Procedure) (es : List Expr) (x : State) (given : List ℕ) (inside : Store) (text : List ℕ) → IsCall P n q es x given → map inside (parameters_of q) ≡ given
+    → IsMiss q.needs inside x.heap text → IsFailing P proc (entry at n es) x text
+entry_fails P proc at n q es x given inside text call arguments miss =
     (q, given, call.callee, call.gives, record { inside = inside; arguments = arguments; miss = miss })
 
 -- a callee that isn't there is passed
 pub no_callee : (P : Program) (n : ℕ) (es : List Expr) (x : State) → slice_get P.procedures n ≡ None → IsEntryOr P n es x None
-no_callee P n es x none p at fails = fails (λ q vs inside is give params. absurd cc)
+no_callee P n es x none proc at fails = fails (λ q vs inside is give params. absurd cc)
 
 -- one alternative more
 pub misses_more : (fs : List Formula) (f : Formula) (s : Store) (h : Heap) (old line new : List ℕ) → AreMisses fs s h old → IsMiss f s h line → new ≡ old ++ line → AreMisses (fs ++ f ∷ []) s h new
@@ -44,14 +44,14 @@ misses_next xs i x s h old line new within is are one e =
     subst (λ fs. AreMisses fs s h new) (sym listed) (misses_more (map formula_of (take i xs)) (formula_of x) s h old line new are one e)
 
 -- the entry of a callee, by its kind
-pub callee_or : (P : Program) (p : Procedure) (n : ℕ) (es : Vec Expr Global) (given : List Expr) (x : State) (o : Option (List ℕ)) → given ≡ es.items → IsEntryOr P n given x o → IsFailingOr P p (kind.CalleeEntry n es) x o
-callee_or P p n es given x o e is = λ at. subst (λ gs. IsCheckOr P p (entry at n gs) x o) e (is p at)
+pub callee_or : (P : Program) (proc : Procedure) (n : ℕ) (es : Vec Expr Global) (given : List Expr) (x : State) (o : Option (List ℕ)) → given ≡ es.items → IsEntryOr P n given x o → IsFailingOr P proc (kind.CalleeEntry n es) x o
+callee_or P proc n es given x o e is = λ at. subst (λ gs. IsCheckOr P proc (entry at n gs) x o) e (is proc at)
 
 -- the entry and the end of a loop
-pub loop_entry_or : (P : Program) (p : Procedure) (n : ℕ) (x : State) (o : Option (List ℕ)) → IsInvariantOr p n x o → IsFailingOr P p (kind.LoopEntry n) x o
-loop_entry_or P p n x (Some t) some = λ at. some
-loop_entry_or P p n x None none = λ at fails. fails (λ l loop. absurd (none l loop))
+pub loop_entry_or : (P : Program) (proc : Procedure) (n : ℕ) (x : State) (o : Option (List ℕ)) → IsInvariantOr proc n x o → IsFailingOr P proc (kind.LoopEntry n) x o
+loop_entry_or P proc n x (Some t) some = λ at. some
+loop_entry_or P proc n x None none = λ at fails. fails (λ l loop. absurd (none l loop))
 
-pub loop_end_or : (P : Program) (p : Procedure) (n : ℕ) (x : State) (o : Option (List ℕ)) → IsInvariantOr p n x o → IsFailingOr P p (kind.LoopEnd n) x o
-loop_end_or P p n x (Some t) some = λ at. some
-loop_end_or P p n x None none = λ at fails. fails (λ l loop. absurd (none l loop))
+pub loop_end_or : (P : Program) (proc : Procedure) (n : ℕ) (x : State) (o : Option (List ℕ)) → IsInvariantOr proc n x o → IsFailingOr P proc (kind.LoopEnd n) x o
+loop_end_or P proc n x (Some t) some = λ at. some
+loop_end_or P proc n x None none = λ at fails. fails (λ l loop. absurd (none l loop))

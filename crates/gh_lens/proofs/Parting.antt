@@ -11,12 +11,12 @@ use Rattle.gh_assert.specs.Footprints.{IsFootprint}
 use Rattle.gh_grass.proofs.ClaimLemmas.{formulas_from}
 use Rattle.gh_trace.specs.Left.{left}
 use Rattle.gh_trace.proofs.Lefts.{left_is_rest}
-use Rattle.gh_lens.specs.Takings.{IsBlockedAt, Leaves, BreaksAfter, IsBrokenAt}
+use Rattle.gh_lens.specs.Takings.{IsBlockedAt, LeavesOver, BreaksAfter, IsBrokenAt}
 
 -- what comes of the later conjuncts on what is left comes of all of them
 pub record GoesOn (fs : Formulas) (s : Store) (h : Heap) (later : Formulas) (rest : Heap) : Type 0 where
   pub blocks : (g : Formula) (r : Heap) → IsBlockedAt later s rest g r → IsBlockedAt fs s h g r
-  pub leaves : (r : Heap) → Leaves later s rest r → Leaves fs s h r
+  pub leaves : (r : Heap) → LeavesOver later s rest r → LeavesOver fs s h r
 
 pub taking_begins : (xs : List Assertion) (s : Store) (h rest : Heap) → rest ≡ h → GoesOn (formulas_view xs) s h (formulas_view (drop 0 xs)) rest
 taking_begins xs s h rest e = subst (GoesOn (formulas_view xs) s h (formulas_view (drop 0 xs))) (sym e) (record { blocks = λ g r st. st; leaves = λ r l. l })
@@ -27,7 +27,7 @@ turn fs later f s h rest rest' places a e so =
     let is : rest' ≡ a.rest = e ∙ ap (left rest) a.places_are ∙ left_is_rest rest a.part a.rest a.splits in
     record {
       blocks = λ g r st. so.blocks g r (inr (a.part, a.rest, a.splits, a.meets, subst (λ z. IsBlockedAt later s z g r) is st));
-      leaves = λ r l. so.leaves r (a.part, a.rest, a.splits, a.meets, subst (λ z. Leaves later s z r) is l);
+      leaves = λ r l. so.leaves r (a.part, a.rest, a.splits, a.meets, subst (λ z. LeavesOver later s z r) is l);
     }
 
 pub taking_goes : (xs : List Assertion) (s : Store) (h rest rest' : Heap) (i : ℕ) (x : Assertion) (places : List ℕ) → i < length xs → x ≡ get_or xs i x
@@ -43,7 +43,7 @@ taking_blocked xs s h rest i x within is none so =
     let here = subst (λ fs. GoesOn (formulas_view xs) s h fs rest) (formulas_from xs i x within is) so in
     here.blocks (formula_of x) rest (inl (refl, refl, none))
 
-pub taking_ends : (xs : List Assertion) (s : Store) (h rest : Heap) (i : ℕ) → length xs ≤ i → GoesOn (formulas_view xs) s h (formulas_view (drop i xs)) rest → Leaves (formulas_view xs) s h rest
+pub taking_ends : (xs : List Assertion) (s : Store) (h rest : Heap) (i : ℕ) → length xs ≤ i → GoesOn (formulas_view xs) s h (formulas_view (drop i xs)) rest → LeavesOver (formulas_view xs) s h rest
 taking_ends xs s h rest i past so =
     let here = subst (λ ys. GoesOn (formulas_view xs) s h (formulas_view ys) rest) (drop_all i xs past) so in
     here.leaves rest refl

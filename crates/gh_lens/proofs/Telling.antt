@@ -42,54 +42,54 @@ not_empty P c xs against e =
     absurd cc
 
 -- the steps are told one by one
-pub no_steps : (P : Program) (p : Procedure) (rs : List kept_step.PathStep) (x : kept_state.State) (ys : List kept_state.State) (text : List ℕ) → rs ≡ [] → text ≡ [] → TellsSteps P p rs x ys text
-no_steps P p rs x ys text none e = subst (λ zs. TellsSteps P p zs x ys text) (sym none) e
+pub no_steps : (P : Program) (proc : Procedure) (rs : List kept_step.PathStep) (x : kept_state.State) (ys : List kept_state.State) (text : List ℕ) → rs ≡ [] → text ≡ [] → TellsSteps P proc rs x ys text
+no_steps P proc rs x ys text none e = subst (λ zs. TellsSteps P proc zs x ys text) (sym none) e
 
-pub no_states : (P : Program) (p : Procedure) (rs : List kept_step.PathStep) (x : kept_state.State) (ys : List kept_state.State) (text : List ℕ) → ys ≡ [] → text ≡ [] → TellsSteps P p rs x ys text
-no_states P p rs x ys text none e = subst (λ zs. TellsSteps P p rs x zs text) (sym none) (told (map step_of rs))
+pub no_states : (P : Program) (proc : Procedure) (rs : List kept_step.PathStep) (x : kept_state.State) (ys : List kept_state.State) (text : List ℕ) → ys ≡ [] → text ≡ [] → TellsSteps P proc rs x ys text
+no_states P proc rs x ys text none e = subst (λ zs. TellsSteps P proc rs x zs text) (sym none) (told (map step_of rs))
   where
-    told : (ss : List PathStep) → AreStepsTold P p ss x [] text
+    told : (ss : List PathStep) → AreStepsTold P proc ss x [] text
     told [] = e
     told (s ∷ ss) = e
 
-pub one_more : (P : Program) (p : Procedure) (rs later : List kept_step.PathStep) (r : kept_step.PathStep) (x y : kept_state.State) (all ys : List kept_state.State) (first rest text : List ℕ) → rs ≡ r ∷ later → all ≡ y ∷ ys
-    → TellsStep P p r x y first → TellsSteps P p later y ys rest → text ≡ first ++ rest → TellsSteps P p rs x all text
-one_more P p rs later r x y all ys first rest text steps states one more e =
-    let told : TellsSteps P p (r ∷ later) x (y ∷ ys) text = (first, rest, e, one, more) in
-    subst (λ zs. TellsSteps P p rs x zs text) (sym states) (subst (λ zs. TellsSteps P p zs x (y ∷ ys) text) (sym steps) told)
+pub one_more : (P : Program) (proc : Procedure) (rs later : List kept_step.PathStep) (r : kept_step.PathStep) (x y : kept_state.State) (all ys : List kept_state.State) (first rest text : List ℕ) → rs ≡ r ∷ later → all ≡ y ∷ ys
+    → TellsStep P proc r x y first → TellsSteps P proc later y ys rest → text ≡ first ++ rest → TellsSteps P proc rs x all text
+one_more P proc rs later r x y all ys first rest text steps states one more e =
+    let told : TellsSteps P proc (r ∷ later) x (y ∷ ys) text = (first, rest, e, one, more) in
+    subst (λ zs. TellsSteps P proc rs x zs text) (sym states) (subst (λ zs. TellsSteps P proc zs x (y ∷ ys) text) (sym steps) told)
 
 -- the lines of a condition, from its description to its check
-pub story_told : (P : Program) (r : kept.Condition) (p : Procedure) (x last : kept_state.State) (ys : List kept_state.State) (missed lines steps text : List ℕ) → IsOf P (condition_of r) p → state_of last ≡ last_state (state_of x) (map state_of ys)
-    → IsFailingOr P p r.check.kind (state_of last) (Some missed) → TellsHeading P r x lines → TellsSteps P p r.steps.items x ys steps → text ≡ lines ++ steps ++ line (codes "the check fails:") ++ missed → IsStoryOr P r x ys (Some text)
-story_told P r p x last ys missed lines steps text own end fails heads tells e =
+pub story_told : (P : Program) (r : kept.Condition) (proc : Procedure) (x last : kept_state.State) (ys : List kept_state.State) (missed lines steps text : List ℕ) → IsOf P (condition_of r) proc → state_of last ≡ last_state (state_of x) (map state_of ys)
+    → IsFailingOr P proc r.check.kind (state_of last) (Some missed) → TellsHeading P r x lines → TellsSteps P proc r.steps.items x ys steps → text ≡ lines ++ steps ++ line (codes "the check fails:") ++ missed → IsStoryOr P r x ys (Some text)
+story_told P r proc x last ys missed lines steps text own end fails heads tells e =
     record {
-      procedure = p;
+      procedure = proc;
       of = own;
       steps = steps;
       failing = missed;
       are_told = tells;
-      is_failing = subst (λ z. IsFailing P p (condition_of r).way.check z missed) end (fails r.check.span);
+      is_failing = subst (λ z. IsFailing P proc (condition_of r).way.check z missed) end (fails r.check.span);
       text_is = e ∙ ap (λ t. t ++ steps ++ line (codes "the check fails:") ++ missed) heads;
     }
 
 -- no lines, where the check is passed
-pub no_story : (P : Program) (r : kept.Condition) (p : Procedure) (x last : kept_state.State) (ys : List kept_state.State) → IsOf P (condition_of r) p → state_of last ≡ last_state (state_of x) (map state_of ys) → IsFailingOr P p r.check.kind (state_of last) None → IsStoryOr P r x ys None
-no_story P r p x last ys own end fails q of =
-    let same : p ≡ q = one_value (slice_get P.procedures r.procedure) p q own of in
+pub no_story : (P : Program) (r : kept.Condition) (proc : Procedure) (x last : kept_state.State) (ys : List kept_state.State) → IsOf P (condition_of r) proc → state_of last ≡ last_state (state_of x) (map state_of ys) → IsFailingOr P proc r.check.kind (state_of last) None → IsStoryOr P r x ys None
+no_story P r proc x last ys own end fails q of =
+    let same : proc ≡ q = one_value (slice_get P.procedures r.procedure) proc q own of in
     subst (λ t. (Passes P t (condition_of r).way.check (last_state (state_of x) (map state_of ys)) → ⊥) → ⊥) same
-    (subst (λ z. (Passes P p (condition_of r).way.check z → ⊥) → ⊥) end (fails r.check.span))
+    (subst (λ z. (Passes P proc (condition_of r).way.check z → ⊥) → ⊥) end (fails r.check.span))
 
 -- the numbers of the steps of a condition of the procedure are there
-pub steps_there : (P : Program) (p : Procedure) (r : kept.Condition) → IsScoped P r → IsOf P (condition_of r) p → All (StepIsThere P p) (map step_of r.steps.items)
-steps_there P p r (q, of, there) own =
-    let same : q ≡ p = one_value (slice_get P.procedures r.procedure) q p of own in
+pub steps_there : (P : Program) (proc : Procedure) (r : kept.Condition) → IsScoped P r → IsOf P (condition_of r) proc → All (StepIsThere P proc) (map step_of r.steps.items)
+steps_there P proc r (q, of, there) own =
+    let same : q ≡ proc = one_value (slice_get P.procedures r.procedure) q proc of own in
     subst (λ t. All (StepIsThere P t) (map step_of r.steps.items)) same there.steps
 
 -- and so are those of the first and of those after it
-pub first_and_later : (P : Program) (p : Procedure) (k : kept_step.PathStep) (ks rs : List kept_step.PathStep) → rs ≡ k ∷ ks → All (StepIsThere P p) (map step_of rs) → StepIsThere P p (step_of k) × All (StepIsThere P p) (map step_of ks)
-first_and_later P p k ks rs e there =
-    let all : All (StepIsThere P p) (step_of k ∷ map step_of ks) = subst (λ zs. All (StepIsThere P p) (map step_of zs)) e there in
-    (All-head (StepIsThere P p) (step_of k) (map step_of ks) all, All-tail (StepIsThere P p) (step_of k) (map step_of ks) all)
+pub first_and_later : (P : Program) (proc : Procedure) (k : kept_step.PathStep) (ks rs : List kept_step.PathStep) → rs ≡ k ∷ ks → All (StepIsThere P proc) (map step_of rs) → StepIsThere P proc (step_of k) × All (StepIsThere P proc) (map step_of ks)
+first_and_later P proc k ks rs e there =
+    let all : All (StepIsThere P proc) (step_of k ∷ map step_of ks) = subst (λ zs. All (StepIsThere P proc) (map step_of zs)) e there in
+    (All-head (StepIsThere P proc) (step_of k) (map step_of ks) all, All-tail (StepIsThere P proc) (step_of k) (map step_of ks) all)
 
 -- a counterexample is told
 pub told_whole : (P : Program) (r : kept.Condition) (xs ys : List kept_state.State) (x : kept_state.State) (text : List ℕ) → xs ≡ x ∷ ys → Refutes P (condition_of r) (map drawn xs) → IsStoryOr P r x ys (Some text) → IsToldFor P r xs text
@@ -100,7 +100,7 @@ told_by_a_story P r xs ys x states shown passes = fails_at_end P (condition_of r
 
 -- a condition that fits is of a procedure
 pub has_procedure : (P : Program) (r : kept.Condition) → IsScoped P r → slice_get P.procedures r.procedure ≡ None → ⊥
-has_procedure P r (p, of, there) none = let at : slice_get P.procedures r.procedure ≡ Some p = of in absurd cc
+has_procedure P r (proc, of, there) none = let at : slice_get P.procedures r.procedure ≡ Some proc = of in absurd cc
 
 -- the condition of a number, and what is drawn for it
 pub shown : (P : Program) (r : kept.Condition) (t : kept_trace.Trace) (xs : List kept_state.State) → Refutes P (condition_of r) (drawn_of t) → xs ≡ t.states.items → Refutes P (condition_of r) (map drawn xs)

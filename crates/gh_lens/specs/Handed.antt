@@ -26,20 +26,20 @@ pub record IsCallExchange (q : Procedure) (vs : List ℕ) (x y : State) (e : Exc
 
 -- only a call and a loop hand cells over: by what the callee requires, and by the invariant
 abbrev pub IsHanded : Program → Procedure → PathStep → State → State → Exchange → Type 0
-IsHanded P p (accessed o) x y e = ⊥
-IsHanded P p (assume l c r) x y e = ⊥
-IsHanded P p (assigned o v) x y e = ⊥
-IsHanded P p (made o) x y e = ⊥
-IsHanded P p (written o v) x y e = ⊥
-IsHanded P p (freed o) x y e = ⊥
-IsHanded P p (called xs n es) x y e = (q : Procedure) × (vs : List ℕ) × IsProcedureAt P n q × Give x.store x.heap es vs × IsCallExchange q vs x y e
-IsHanded P p (looped n) x y e = (l : Loop) × IsLoopAt p n l × IsExchange l.invariant x.store x.heap y.heap e
-IsHanded P p (answered es) x y e = ⊥
+IsHanded P proc (accessed o) x y e = ⊥
+IsHanded P proc (assume l c r) x y e = ⊥
+IsHanded P proc (assigned o v) x y e = ⊥
+IsHanded P proc (made o) x y e = ⊥
+IsHanded P proc (written o v) x y e = ⊥
+IsHanded P proc (freed o) x y e = ⊥
+IsHanded P proc (called xs n es) x y e = (q : Procedure) × (vs : List ℕ) × IsProcedureAt P n q × Give x.store x.heap es vs × IsCallExchange q vs x y e
+IsHanded P proc (looped n) x y e = (l : Loop) × IsLoopAt proc n l × IsExchange l.invariant x.store x.heap y.heap e
+IsHanded P proc (answered es) x y e = ⊥
 
 -- what is handed over; or nothing is
 abbrev pub IsHandedOr : Program → Procedure → PathStep → State → State → Option Exchange → Type 0
-IsHandedOr P p s x y (Some e) = IsHanded P p s x y e
-IsHandedOr P p s x y None = (e : Exchange) → IsHanded P p s x y e → ⊥
+IsHandedOr P proc s x y (Some e) = IsHanded P proc s x y e
+IsHandedOr P proc s x y None = (e : Exchange) → IsHanded P proc s x y e → ⊥
 
 -- what a step hands over between two states
 abbrev pub IsHandedIn : Setting → PathStep → kept_state.State → kept_state.State → Option Exchange → Type 0

@@ -29,20 +29,20 @@ abbrev pub TellsGroundWork : CheckKind → Bool → Type 0
 TellsGroundWork kind b = (at : Span) → b ≡ is_ground_work (asked_at kind at)
 
 -- the condition has no counterexample, or it has one
-abbrev pub IsFound : Program → Condition → Finding → Type 0
-IsFound P c Valid = IsConditionValid P c
-IsFound P c Refuted = (t : Trace) × Refutes P c (drawn_of t)
+abbrev pub IsFinding : Program → Condition → Finding → Type 0
+IsFinding P c Valid = IsConditionValid P c
+IsFinding P c Refuted = (t : Trace) × Refutes P c (drawn_of t)
 
 -- the same of a condition as it is kept
 abbrev pub IsFoundFor : Program → kept.Condition → Finding → Type 0
-IsFoundFor P r f = IsFound P (condition_of r) f
+IsFoundFor P r f = IsFinding P (condition_of r) f
 
 -- j tells of c, the k-th condition: its number, its description, whether it is ground work, and what is found
 pub record IsJudged (P : Program) (k : ℕ) (c : Condition) (j : Judged) : Type 0 where
   pub number : j.number ≡ k
   pub description : j.description ≡ description P c
   pub ground_work : j.is_ground_work ≡ is_ground_work c.way.check
-  pub found : IsFound P c j.finding
+  pub found : IsFinding P c j.finding
 
 -- the same of a condition as it is kept
 abbrev pub IsJudgedFor : Program → ℕ → kept.Condition → Judged → Type 0

@@ -17,7 +17,7 @@ use Rattle.gh_path.specs.Kept.{asked_at}
 use Rattle.gh_path.specs.declared.condition.CheckKind as kept
 use Rattle.gh_trace.specs.Traces.{State, Passes}
 use Rattle.gh_lens.specs.Statements.{operand_text, equality_text}
-use Rattle.gh_lens.specs.Takings.{conjuncts, IsBlockedAt, Leaves, IsReason}
+use Rattle.gh_lens.specs.Takings.{conjuncts, IsBlockedAt, LeavesOver, IsReason}
 use Rattle.gh_lens.specs.declared.taking.Reason.{Reason}
 use Rattle.gh_lens.specs.declared.taking.Reason.TheVariants.{Untrue, Missing, Shared, Content}
 
@@ -64,7 +64,7 @@ left_line rest = line (codes "  leaked:" ++ numbers_text (keys rest))
 -- one conjunct finds no part; or all find theirs, and cells are left over
 pub data IsMiss (f : Formula) (s : Store) (h : Heap) (text : List ℕ) : Type 0 where
   blocked : (g : Formula) (rest : Heap) (r : Reason) → IsBlockedAt (conjuncts f) s h g rest → IsReason g s h rest r → text ≡ blocked_line s g r → IsMiss f s h text
-  left_over : (rest : Heap) → Leaves (conjuncts f) s h rest → text ≡ left_line rest → IsMiss f s h text
+  left_over : (rest : Heap) → LeavesOver (conjuncts f) s h rest → text ≡ left_line rest → IsMiss f s h text
 
 -- a line for each of some alternatives
 abbrev pub AreMisses : List Formula → Store → Heap → List ℕ → Type 0
@@ -81,25 +81,25 @@ pub record IsEntryMiss (P : Program) (q : Procedure) (vs : List ℕ) (x : State)
   pub arguments : map inside (parameters_of q) ≡ vs
   pub miss : IsMiss q.needs inside x.heap text
 
--- where a check of the procedure p fails in a state
+-- where a check of the procedure proc fails in a state
 abbrev pub IsFailing : Program → Procedure → Check → State → List ℕ → Type 0
-IsFailing P p (access o) x text = text ≡ access_line o.name (x.store o.name)
-IsFailing P p (entry at n es) x text = (q : Procedure) × (vs : List ℕ) × IsProcedureAt P n q × Give x.store x.heap es vs × IsEntryMiss P q vs x text
-IsFailing P p (loop_entry at n) x text = (l : Loop) × IsLoopAt p n l × IsMiss l.invariant x.store x.heap text
-IsFailing P p (returned at) x text = AreMisses p.gives x.store x.heap text
-IsFailing P p (loop_end at n) x text = (l : Loop) × IsLoopAt p n l × IsMiss l.invariant x.store x.heap text
+IsFailing P proc (access o) x text = text ≡ access_line o.name (x.store o.name)
+IsFailing P proc (entry at n es) x text = (q : Procedure) × (vs : List ℕ) × IsProcedureAt P n q × Give x.store x.heap es vs × IsEntryMiss P q vs x text
+IsFailing P proc (loop_entry at n) x text = (l : Loop) × IsLoopAt proc n l × IsMiss l.invariant x.store x.heap text
+IsFailing P proc (returned at) x text = AreMisses proc.gives x.store x.heap text
+IsFailing P proc (loop_end at n) x text = (l : Loop) × IsLoopAt proc n l × IsMiss l.invariant x.store x.heap text
 
 -- where the check fails; or the check is passed, up to a double negation
 abbrev pub IsCheckOr : Program → Procedure → Check → State → Option (List ℕ) → Type 0
-IsCheckOr P p c x (Some text) = IsFailing P p c x text
-IsCheckOr P p c x None = (Passes P p c x → ⊥) → ⊥
+IsCheckOr P proc c x (Some text) = IsFailing P proc c x text
+IsCheckOr P proc c x None = (Passes P proc c x → ⊥) → ⊥
 
 -- the same of the entry of the procedure of a number, and of what is asked at any place
 abbrev pub IsEntryOr : Program → ℕ → List Expr → State → Option (List ℕ) → Type 0
-IsEntryOr P n es x o = (p : Procedure) (at : Span) → IsCheckOr P p (entry at n es) x o
+IsEntryOr P n es x o = (proc : Procedure) (at : Span) → IsCheckOr P proc (entry at n es) x o
 
 abbrev pub IsFailingOr : Program → Procedure → kept.CheckKind → State → Option (List ℕ) → Type 0
-IsFailingOr P p kind x o = (at : Span) → IsCheckOr P p (asked_at kind at) x o
+IsFailingOr P proc kind x o = (at : Span) → IsCheckOr P proc (asked_at kind at) x o
 
 -- where the invariant of the loop of a number fails; or there is no such loop
 abbrev pub IsInvariantOr : Procedure → ℕ → State → Option (List ℕ) → Type 0

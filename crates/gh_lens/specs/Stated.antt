@@ -9,5 +9,5 @@ abbrev pub subject_of : Stated → Subject
 subject_of s = record { kind = s.kind; procedure = procedure_of s.procedure.now; place = s.place; alternatives = map formula_of s.alternatives.now }
 
 -- more remarks, one for each of some subjects
-abbrev pub Adds : List Remark → List Remark → List Subject → Type 0
-Adds old new ss = (rs : List Remark) × (new ≡ old ++ rs) × AreRemarks ss rs
+abbrev pub AddsRemarks : List Remark → List Remark → List Subject → Type 0
+AddsRemarks old new ss = (rs : List Remark) × (new ≡ old ++ rs) × AreRemarks ss rs

@@ -122,6 +122,6 @@ abbrev pub line_text : Option Span → List ℕ
 line_text None = []
 line_text (Some p) = codes "line " ++ decimal p.line ++ codes ": "
 
--- `line L: STATEMENT`, in the procedure p
+-- `line L: STATEMENT`, in the procedure proc
 abbrev pub statement_text : Program → Procedure → PathStep → List ℕ
-statement_text P p s = line_text (step_place (loops_of p) s) ++ step_text P s
+statement_text P proc s = line_text (step_place (loops_of proc) s) ++ step_text P s

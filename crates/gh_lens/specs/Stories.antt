@@ -26,26 +26,26 @@ handed_text None = []
 handed_text (Some e) = exchange_text e
 
 -- the statement, what changes, and what is handed over
-pub record IsStepTold (P : Program) (p : Procedure) (s : PathStep) (x y : State) (text : List ℕ) : Type 0 where
+pub record IsStepTold (P : Program) (proc : Procedure) (s : PathStep) (x y : State) (text : List ℕ) : Type 0 where
   pub exchange : Option Exchange
-  pub handed : IsHandedOr P p s (state_of x) (state_of y) exchange
-  pub text_is : text ≡ line (statement_text P p s) ++ changes_text x y ++ handed_text exchange
+  pub handed : IsHandedOr P proc s (state_of x) (state_of y) exchange
+  pub text_is : text ≡ line (statement_text P proc s) ++ changes_text x y ++ handed_text exchange
 
 -- the same of a step as it is kept, and its statement alone
 abbrev pub TellsStep : Program → Procedure → kept_step.PathStep → State → State → List ℕ → Type 0
-TellsStep P p r x y text = IsStepTold P p (step_of r) x y text
+TellsStep P proc r x y text = IsStepTold P proc (step_of r) x y text
 
 abbrev pub TellsStatement : Program → Procedure → kept_step.PathStep → List ℕ → Type 0
-TellsStatement P p r text = text ≡ line (statement_text P p (step_of r))
+TellsStatement P proc r text = text ≡ line (statement_text P proc (step_of r))
 
 -- the steps in turn, as far as there are states
 abbrev pub AreStepsTold : Program → Procedure → List PathStep → State → List State → List ℕ → Type 0
-AreStepsTold P p [] x ys text = text ≡ []
-AreStepsTold P p (s ∷ ss) x [] text = text ≡ []
-AreStepsTold P p (s ∷ ss) x (y ∷ ys) text = (a : List ℕ) × (b : List ℕ) × (text ≡ a ++ b) × IsStepTold P p s x y a × AreStepsTold P p ss y ys b
+AreStepsTold P proc [] x ys text = text ≡ []
+AreStepsTold P proc (s ∷ ss) x [] text = text ≡ []
+AreStepsTold P proc (s ∷ ss) x (y ∷ ys) text = (a : List ℕ) × (b : List ℕ) × (text ≡ a ++ b) × IsStepTold P proc s x y a × AreStepsTold P proc ss y ys b
 
 abbrev pub TellsSteps : Program → Procedure → List kept_step.PathStep → State → List State → List ℕ → Type 0
-TellsSteps P p rs x ys text = AreStepsTold P p (map step_of rs) x ys text
+TellsSteps P proc rs x ys text = AreStepsTold P proc (map step_of rs) x ys text
 
 -- the condition and the first state
 abbrev pub heading : Program → Condition → State → List ℕ
@@ -66,7 +66,7 @@ pub record IsStory (P : Program) (c : Condition) (x : State) (ys : List State) (
 
 -- the check is passed in the last state, up to a double negation
 abbrev pub PassesAtEnd : Program → Condition → State → List State → Type 0
-PassesAtEnd P c x ys = (p : Procedure) → IsOf P c p → (Passes P p c.way.check (last_state (state_of x) (map state_of ys)) → ⊥) → ⊥
+PassesAtEnd P c x ys = (proc : Procedure) → IsOf P c proc → (Passes P proc c.way.check (last_state (state_of x) (map state_of ys)) → ⊥) → ⊥
 
 -- the story of the condition that is kept; or its check is passed
 abbrev pub IsStoryOr : Program → kept.Condition → State → List State → Option (List ℕ) → Type 0

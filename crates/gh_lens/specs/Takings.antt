@@ -27,13 +27,13 @@ IsBlockedAt (formula_first f fs) s h g rest =
     ((g ≡ f) × (rest ≡ h) × (HasPart f s h → ⊥)) ⊎ ((a : Heap) × (b : Heap) × Splits h a b × Meaning f s a × IsBlockedAt fs s b g rest)
 
 -- all conjuncts take their parts, and this is left over
-abbrev pub Leaves : Formulas → Store → Heap → Heap → Type 0
-Leaves no_formulas s h rest = rest ≡ h
-Leaves (formula_first f fs) s h rest = (a : Heap) × (b : Heap) × Splits h a b × Meaning f s a × Leaves fs s b rest
+abbrev pub LeavesOver : Formulas → Store → Heap → Heap → Type 0
+LeavesOver no_formulas s h rest = rest ≡ h
+LeavesOver (formula_first f fs) s h rest = (a : Heap) × (b : Heap) × Splits h a b × Meaning f s a × LeavesOver fs s b rest
 
 abbrev pub IsTaking : Formulas → Store → Heap → Taking → Type 0
 IsTaking fs s h (Blocked a rest) = IsBlockedAt fs s h (formula_of a.now) rest
-IsTaking fs s h (Whole rest) = Leaves fs s h rest
+IsTaking fs s h (Whole rest) = LeavesOver fs s h rest
 
 -- n cells on the way from x, none of them y, and then, at v, there is none left
 abbrev pub BreaksAfter : ℕ → ℕ → ℕ → Heap → ℕ → Type 0

@@ -3,7 +3,7 @@
 ghost use Rattle.std.specs.Prelude.{◌≡◌, IfOk, IfSome, IfNone};
 ghost use Rattle.gh_assert.specs.Heaps.{Heap as PlainHeap};
 ghost use Rattle.gh_trace.specs.Left.{left};
-ghost use Rattle.gh_trace.specs.Parts.{Stands};
+ghost use Rattle.gh_trace.specs.Parts.{StandsInPlace};
 ghost use Rattle.gh_lens.specs.Exchanges.{IsExchangeOf};
 
 use gh_assert::heap::Heap;
@@ -39,7 +39,7 @@ pub fn exchanged(
     after: &Heap,
 ) -> Result<Option<Exchange>, AllocError>
     ensures some { IfOk result (λ o. IfSome o (IsExchangeOf before.entry after.now)) }
-    ensures none { IfOk result (λ o. IfNone o ((other : PlainHeap) → Stands before.entry after.now other → ⊥)) }
+    ensures none { IfOk result (λ o. IfNone o ((other : PlainHeap) → StandsInPlace before.entry after.now other → ⊥)) }
 {
     let Some(handed) = footprint(alloc, before.store, before.heap, before.assertion)? else {
         return Ok(None);

@@ -7,7 +7,7 @@ ghost use Rattle.gh_path.specs.Walking.{loop_of};
 ghost use Rattle.gh_lens.specs.Assertions.{is_empty as is_emp_formula, is_bare as is_bare_list, question_on, IsMeeting};
 ghost use Rattle.gh_lens.specs.Assertions.{IsRemark, AreRemarks, requires_of, ensures_of, invariant_of, subjects_of};
 ghost use Rattle.gh_lens.specs.Assertions.{subjects};
-ghost use Rattle.gh_lens.specs.Stated.{subject_of, Adds};
+ghost use Rattle.gh_lens.specs.Stated.{subject_of, AddsRemarks};
 
 use crate::copies::{copy_assertion, copy_variables};
 use gh_ast::question::{Claim, Question};
@@ -186,7 +186,7 @@ fn push_remarks(
     remarks: &mut Vec<Remark>,
     stated: &[Stated<'_>],
 ) -> Result<(), AllocError>
-    ensures { IfOk result (λ _. Adds remarks.old.items remarks.new.items (map subject_of stated.entry.now)) }
+    ensures { IfOk result (λ _. AddsRemarks remarks.old.items remarks.new.items (map subject_of stated.entry.now)) }
 {
     for one in stated {
         let remark = remark_on(alloc, *one)?;

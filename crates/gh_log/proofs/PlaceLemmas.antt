@@ -394,7 +394,7 @@ refused_after text version ss at rest (Line k) u some small (inr h) =
     }
 
 -- a section whose next line was read
-pub record IsRead (version number : ℕ) (text : List ℕ) (lines : List LogLine) (rest : List ℕ) : Type 0 where
+pub record IsLineRead (version number : ℕ) (text : List ℕ) (lines : List LogLine) (rest : List ℕ) : Type 0 where
   pub front : text ≡ section_text number lines ++ rest
   pub spelled : All (IsSpelledLine version) lines
 
@@ -404,7 +404,7 @@ section_push number ls l =
     ∙ sym (append_assoc (header_text number) (flat_map line_text ls) (line_text l))
 
 pub line_more : (version number : ℕ) (text middle rest : List ℕ) (ls new : List LogLine) (l m : LogLine) → text ≡ section_text number ls ++ middle → All (IsSpelledLine version) ls
-    → SpellsLine version middle l rest → m ≡ l → new ≡ ls ++ m ∷ [] → IsRead version number text new rest
+    → SpellsLine version middle l rest → m ≡ l → new ≡ ls ++ m ∷ [] → IsLineRead version number text new rest
 line_more version number text middle rest ls new l m e a s same grown =
     let whole : new ≡ ls ++ l ∷ [] = grown ∙ ap (λ x. ls ++ x ∷ []) same in
     let there = ap (λ t. section_text number ls ++ t) s.parts.front ∙ sym (append_assoc (section_text number ls) (line_text l) rest) in

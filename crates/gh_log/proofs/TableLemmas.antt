@@ -12,7 +12,7 @@ use Rattle.gh_log.specs.Lines as plain
 use Rattle.gh_log.specs.declared.lines.Part.{Part}
 use Rattle.gh_log.specs.declared.lines.Entry.{Entry}
 use Rattle.gh_log.specs.declared.lines.Entry.TheVariants as entry
-use Rattle.gh_log.specs.Tables.{part_of, hinted_at, line_at, IsWithin, HasClause, HasParts, IsAdded, Extends}
+use Rattle.gh_log.specs.Tables.{part_of, hinted_at, line_at, LiesWithin, HasClause, HasParts, IsAdded, Extends}
 use Rattle.gh_log.specs.Tables.{literals_of, numbers_of, HoldLines, HoldEntries, MakesRoom, HoldsLiterals, HoldsNumbers}
 
 -- what stands between two places
@@ -21,10 +21,10 @@ between from to xs h =
     let whole : from + (to - from) ≡ to = omega (arith, h) in
     sym (drop-take from (to - from) xs) ∙ ap (λ n. drop from (take n xs)) whole
 
-part_kept : {X : Type 0} (old new : List X) (p : Part) → Extends new old → IsWithin (length old) p → part_of new p ≡ part_of old p
+part_kept : {X : Type 0} (old new : List X) (p : Part) → Extends new old → LiesWithin (length old) p → part_of new p ≡ part_of old p
 part_kept old new p e h = ap (drop p.from) (ap (take p.to) e.same ∙ take-append-le p.to old e.more h.below)
 
-within_more : {X : Type 0} (old new : List X) (p : Part) → Extends new old → IsWithin (length old) p → IsWithin (length new) p
+within_more : {X : Type 0} (old new : List X) (p : Part) → Extends new old → LiesWithin (length old) p → LiesWithin (length new) p
 within_more old new p e h =
     let n = ap length e.same in
     let m = length-append old e.more in

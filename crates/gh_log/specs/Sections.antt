@@ -40,13 +40,13 @@ pub record HasClauseAt (p : Problem) (lines : List LogLine) (position : ℕ) (cl
   pub has : line_clause p line ≡ Some clause
 
 -- the position is that of a line with a clause which no line deletes
-pub record Stands (p : Problem) (lines : List LogLine) (position : ℕ) : Type 0 where
+pub record IsUndeleted (p : Problem) (lines : List LogLine) (position : ℕ) : Type 0 where
   pub clause : List Lit
   pub there : HasClauseAt p lines position clause
   pub kept : All (λ l. Deletes l position → ⊥) lines
 
-abbrev pub AllStand : Problem → List LogLine → List ℕ → Type 0
-AllStand p lines positions = All (Stands p lines) positions
+abbrev pub AllUndeleted : Problem → List LogLine → List ℕ → Type 0
+AllUndeleted p lines positions = All (IsUndeleted p lines) positions
 
 -- the clauses at the positions, one by one
 abbrev pub AreAt : Problem → List LogLine → List ℕ → List (List Lit) → Type 0
@@ -57,7 +57,7 @@ AreAt p lines (k ∷ ks) (c ∷ cs) = HasClauseAt p lines k c × AreAt p lines k
 
 -- the clauses at the hints, which all stand, show the clause by unit propagation in their order
 pub record IsHinted (p : Problem) (earlier : List LogLine) (clause : List Lit) (hints : List ℕ) : Type 0 where
-  pub stand : AllStand p earlier hints
+  pub stand : AllUndeleted p earlier hints
   pub clauses : List (List Lit)
   pub at : AreAt p earlier hints clauses
   pub shown : IsShownByHints clauses clause
@@ -69,7 +69,7 @@ IsOfKind p earlier (line.Clause k) = k < length p.clauses
 IsOfKind p earlier (line.Lemma c) = IsEqualityClause p.sizes c
 IsOfKind p earlier (line.Learnt c) = AreInRange p.sizes c × FollowsByUnits (clauses_of p earlier) c
 IsOfKind p earlier (line.Hinted c hints) = AreInRange p.sizes c × IsHinted p earlier c hints
-IsOfKind p earlier (line.Delete positions) = AllStand p earlier positions × AllPairs ◌≢◌ positions
+IsOfKind p earlier (line.Delete positions) = AllUndeleted p earlier positions × AllPairs ◌≢◌ positions
 
 -- each line is of its kind, after the lines before it
 abbrev pub AreOfKind : Problem → List LogLine → Type 0
@@ -90,7 +90,7 @@ IsFaultOf p earlier (line.Clause k) number = number ≡ 2
 IsFaultOf p earlier (line.Lemma c) number = number ≡ 3
 IsFaultOf p earlier (line.Learnt c) number = number ≡ 4
 IsFaultOf p earlier (line.Hinted c hints) number =
-    (AllStand p earlier hints × (number ≡ 4)) ⊎ ((AllStand p earlier hints → ⊥) × (number ≡ 6))
+    (AllUndeleted p earlier hints × (number ≡ 4)) ⊎ ((AllUndeleted p earlier hints → ⊥) × (number ≡ 6))
 IsFaultOf p earlier (line.Delete positions) number = number ≡ 6
 
 -- a line that isn't of its kind, after lines that are

@@ -38,7 +38,7 @@ line_at literals numbers (entry.Hinted part) = hinted_at literals (part_of numbe
 line_at literals numbers (entry.Delete positions) = plain.Delete (part_of numbers positions)
 
 -- the part lies within a table of this length
-pub record IsWithin (length : ℕ) (part : Part) : Type 0 where
+pub record LiesWithin (length : ℕ) (part : Part) : Type 0 where
   pub order : part.from ≤ part.to
   pub below : part.to ≤ length
 
@@ -46,15 +46,15 @@ pub record IsWithin (length : ℕ) (part : Part) : Type 0 where
 abbrev pub HasClause : ℕ → List ℕ → Type 0
 HasClause length [] = ⊥
 HasClause length (from ∷ []) = ⊥
-HasClause length (from ∷ to ∷ hints) = IsWithin length (record { from = from; to = to })
+HasClause length (from ∷ to ∷ hints) = LiesWithin length (record { from = from; to = to })
 
 -- the parts of an entry lie within the tables
 abbrev pub HasParts : List Lit → List ℕ → Entry → Type 0
-HasParts literals numbers (entry.Lemma c) = IsWithin (length literals) c
-HasParts literals numbers (entry.Learnt c) = IsWithin (length literals) c
+HasParts literals numbers (entry.Lemma c) = LiesWithin (length literals) c
+HasParts literals numbers (entry.Learnt c) = LiesWithin (length literals) c
 HasParts literals numbers (entry.Hinted part) =
-    IsWithin (length numbers) part × HasClause (length literals) (part_of numbers part)
-HasParts literals numbers (entry.Delete positions) = IsWithin (length numbers) positions
+    LiesWithin (length numbers) part × HasClause (length literals) (part_of numbers part)
+HasParts literals numbers (entry.Delete positions) = LiesWithin (length numbers) positions
 HasParts literals numbers _ = ⊤
 
 -- the part is what was added to a table, whose length 32 bits count

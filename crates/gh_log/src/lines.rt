@@ -3,7 +3,7 @@
 ghost use Rattle.std.specs.Prelude.{◌≡◌, ◌<◌, ◌+◌, ◌^◌, ◌∷◌, ◌++◌, [], length, slice_get, Some, IfOk, OnOk, OnErr};
 ghost use Rattle.gh_log.specs.Lines.{Hinted};
 ghost use Rattle.gh_log.specs.Tables.{line_of, part_of, hinted_at, line_at};
-ghost use Rattle.gh_log.specs.Tables.{IsWithin, HasClause, HasParts, IsAdded, Extends, MakesRoom};
+ghost use Rattle.gh_log.specs.Tables.{LiesWithin, HasClause, HasParts, IsAdded, Extends, MakesRoom};
 ghost use Rattle.gh_log.specs.Tables.{HoldsLiterals, HoldsNumbers, HaveFewParts};
 
 use gh_base::atom::Lit;
@@ -142,7 +142,7 @@ fn enter(
 
 // A part of a table.
 fn shown<T: Copy>(table: &[T], part: Part) -> &[T]
-    requires { IsWithin (length table.now) part }
+    requires { LiesWithin (length table.now) part }
     ensures { result.now ≡ part_of table.now part }
 {
     &table[part.from as usize..part.to as usize]

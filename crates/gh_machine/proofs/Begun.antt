@@ -27,7 +27,7 @@ use Rattle.gh_assert.proofs.Unique.{apart}
 use Rattle.gh_assert.proofs.Proper.{at_proper}
 use Rattle.gh_assert.specs.Stores.{listed_names, listed, store_of, IsSet}
 use Rattle.gh_assert.specs.Values.{Gets}
-use Rattle.gh_machine.specs.Fits.{AreDistinct}
+use Rattle.gh_machine.specs.Fits.{AreAllDistinct}
 use Rattle.gh_machine.proofs.TypedFits.{distinct_left}
 use Rattle.gh_machine.specs.Configs.{beside, beginning, starts_of}
 
@@ -105,7 +105,7 @@ listed_later (x ∷ xs) (v ∷ vs) es y out =
     listed_later xs vs es y (λ there. out (member_later x y xs there))
 
 -- distinct names have the values beside them
-pub values_beside : (xs : List Name) (vs : List ℕ) (es : List Entry) → AreDistinct xs → length xs ≡ length vs → map (store_of (beside xs vs ++ es)) xs ≡ vs
+pub values_beside : (xs : List Name) (vs : List ℕ) (es : List Entry) → AreAllDistinct xs → length xs ≡ length vs → map (store_of (beside xs vs ++ es)) xs ≡ vs
 values_beside [] [] es apart same = refl
 values_beside [] (v ∷ vs) es apart same = absurd (omega (arith, same))
 values_beside (x ∷ xs) [] es apart same = absurd (omega (arith, same))
@@ -120,7 +120,7 @@ values_beside (x ∷ xs) (v ∷ vs) es apart same =
 pub begins_with : (p : Procedure) (vs ss : List ℕ) → length vs ≡ length (parameters_of p) → beginning p vs ss ≡ beside (parameters_of p) vs ++ beside (starts_of p) ss
 begins_with p vs ss same = ap (λ xs. beside xs (vs ++ ss)) (parameters_first p) ∙ beside_append (parameters_of p) (starts_of p) vs ss (sym same)
 
-pub arguments_given : (p : Procedure) (vs ss : List ℕ) → AreDistinct (parameters_of p) → length vs ≡ length (parameters_of p) → map (store_of (beginning p vs ss)) (parameters_of p) ≡ vs
+pub arguments_given : (p : Procedure) (vs ss : List ℕ) → AreAllDistinct (parameters_of p) → length vs ≡ length (parameters_of p) → map (store_of (beginning p vs ss)) (parameters_of p) ≡ vs
 arguments_given p vs ss apart same = ap (λ es. map (store_of es) (parameters_of p)) (begins_with p vs ss same) ∙ values_beside (parameters_of p) vs (beside (starts_of p) ss) apart (sym same)
 
 pub starts_chosen : (p : Procedure) (vs ss : List ℕ) → length vs ≡ length (parameters_of p) → (y : Name) → (Contains (parameters_of p) y → ⊥) → store_of (beginning p vs ss) y ≡ store_of (beside (starts_of p) ss) y

@@ -13,7 +13,7 @@ use Rattle.gh_assert.specs.Meaning.{Store}
 use Rattle.gh_assert.specs.Values.{result, outcome, Gets}
 use Rattle.gh_assert.proofs.Cells.{get_put, get_beside}
 use Rattle.gh_assert.proofs.Agree.{maps_agree}
-use Rattle.gh_machine.specs.Machine.{Activation, Config, continuing, starting, Answers, Pops, Returns, StepOn}
+use Rattle.gh_machine.specs.Machine.{Activation, Config, continuing, starting, HandsBack, Pops, Returns, StepOn}
 use Rattle.gh_machine.specs.Choices.{Choice, Follows}
 use Rattle.gh_machine.specs.Laws.{StepsAreChosen}
 
@@ -28,7 +28,7 @@ one_store xs t u same beside = λ i. λ y. at y i
 pub gets_one : (s : Store) (xs : List Name) (vs ws : List ℕ) (t u : Store) → vs ≡ ws → Gets s xs vs t → Gets s xs ws u → t ≡ u
 gets_one s xs vs ws t u same a b = one_store xs t u (a.given ∙ same ∙ sym b.given) (λ y out. a.kept y out ∙ sym (b.kept y out))
 
-answers_one : (rest : Statements) (a : Activation) (below : List Activation) (p : Procedure) (t : Store) (h : Heap) (d e : Config) → Answers rest a below p t h d → Answers rest a below p t h e → d ≡ e
+answers_one : (rest : Statements) (a : Activation) (below : List Activation) (p : Procedure) (t : Store) (h : Heap) (d e : Config) → HandsBack rest a below p t h d → HandsBack rest a below p t h e → d ≡ e
 answers_one (statement_first (call xs f es) rest) a below p t h d e (u, gets, to) (u', gets', to') =
     let same : u ≡ u' = gets_one a.store (names xs) (map t (results_of p)) (map t (results_of p)) u u' refl gets gets' in
     to ∙ ap (λ s. record { heap = h; top = record { procedure = a.procedure; store = s; rest = rest }; below = below }) same ∙ sym to'
@@ -76,15 +76,15 @@ determined P ch (statement_first (write x r) rest) c d e (v, reads, there, to) f
     let same : v ≡ v' = one_value (result c.top.store c.heap r) v v' reads reads' in
     to ∙ ap (λ w. continuing c c.top.store (insert c.heap (c.top.store x.name) w) rest) same ∙ sym to'
 determined P ch (statement_first (free x) rest) c d e (there, to) f (there', to') g = to ∙ sym to'
-determined P ch (statement_first (call xs n es) rest) c d e (p, vs, t, decl, gives, params, to) f (p', vs', t', decl', gives', params', to') g =
-    let same : p ≡ p' = is_one P.procedures n.name p p' decl decl' in
+determined P ch (statement_first (call xs n es) rest) c d e (proc, vs, t, decl, gives, params, to) f (p', vs', t', decl', gives', params', to') g =
+    let same : proc ≡ p' = is_one P.procedures n.name proc p' decl decl' in
     let values : vs ≡ vs' = same_values vs vs' (sym gives ∙ gives') in
-    let left : (y : Name) → (Contains (parameters_of p) y → ⊥) → t y ≡ ch.starts y = subst (λ z. (y : Name) → (Contains (parameters_of z.top.procedure) y → ⊥) → z.top.store y ≡ ch.starts y) to f in
+    let left : (y : Name) → (Contains (parameters_of proc) y → ⊥) → t y ≡ ch.starts y = subst (λ z. (y : Name) → (Contains (parameters_of z.top.procedure) y → ⊥) → z.top.store y ≡ ch.starts y) to f in
     let right : (y : Name) → (Contains (parameters_of p') y → ⊥) → t' y ≡ ch.starts y = subst (λ z. (y : Name) → (Contains (parameters_of z.top.procedure) y → ⊥) → z.top.store y ≡ ch.starts y) to' g in
-    let right' : (y : Name) → (Contains (parameters_of p) y → ⊥) → t' y ≡ ch.starts y = subst (λ q. (y : Name) → (Contains (parameters_of q) y → ⊥) → t' y ≡ ch.starts y) (sym same) right in
-    let params'' : map t' (parameters_of p) ≡ vs' = subst (λ q. map t' (parameters_of q) ≡ vs') (sym same) params' in
-    let stores : t ≡ t' = one_store (parameters_of p) t t' (params ∙ values ∙ sym params'') (λ y out. left y out ∙ sym (right' y out)) in
-    to ∙ ap (λ s. starting p s c.heap (c.top ∷ c.below)) stores ∙ ap (λ q. starting q t' c.heap (c.top ∷ c.below)) same ∙ sym to'
+    let right' : (y : Name) → (Contains (parameters_of proc) y → ⊥) → t' y ≡ ch.starts y = subst (λ q. (y : Name) → (Contains (parameters_of q) y → ⊥) → t' y ≡ ch.starts y) (sym same) right in
+    let params'' : map t' (parameters_of proc) ≡ vs' = subst (λ q. map t' (parameters_of q) ≡ vs') (sym same) params' in
+    let stores : t ≡ t' = one_store (parameters_of proc) t t' (params ∙ values ∙ sym params'') (λ y out. left y out ∙ sym (right' y out)) in
+    to ∙ ap (λ s. starting proc s c.heap (c.top ∷ c.below)) stores ∙ ap (λ q. starting q t' c.heap (c.top ∷ c.below)) same ∙ sym to'
 determined P ch (statement_first (choice test a ca b cb) rest) c d e (way, gives, to) f (way', gives', to') g =
     let same : way ≡ way' = one_value (outcome c.top.store c.heap test) way way' gives gives' in
     to ∙ ap (λ w. continuing c c.top.store c.heap (cond w (joined a rest) (joined b rest))) same ∙ sym to'
@@ -105,7 +105,7 @@ some P (statement_first (set x r) rest) c d w = (free_choice, tt)
 some P (statement_first (new x) rest) c d (l, v, t, nonnull, out, gets, to) = (record { location = l; content = v; starts = t }, ap (λ z. z.heap) to)
 some P (statement_first (write x r) rest) c d w = (free_choice, tt)
 some P (statement_first (free x) rest) c d w = (free_choice, tt)
-some P (statement_first (call xs n es) rest) c d (p, vs, t, decl, gives, params, to) = (record { location = 0; content = 0; starts = t }, λ y out. ap (λ z. z.top.store y) to)
+some P (statement_first (call xs n es) rest) c d (proc, vs, t, decl, gives, params, to) = (record { location = 0; content = 0; starts = t }, λ y out. ap (λ z. z.top.store y) to)
 some P (statement_first (choice test a ca b cb) rest) c d w = (free_choice, tt)
 some P (statement_first (loop at test inv body close) rest) c d w = (free_choice, tt)
 some P (statement_first (give at es) rest) c d w = (free_choice, tt)

@@ -7,7 +7,7 @@ use Rattle.gh_ast.specs.Plain.{set, new, write, free, call, choice, loop, give, 
 use Rattle.gh_assert.specs.Heaps.{Heap, Splits}
 use Rattle.gh_assert.specs.Meaning.{Store}
 use Rattle.gh_assert.specs.Values.{result, Give, outcome, HasUnread}
-use Rattle.gh_machine.specs.Machine.{Activation, Config, Answers, Pops, StepOn, FaultOn}
+use Rattle.gh_machine.specs.Machine.{Activation, Config, HandsBack, Pops, StepOn, FaultOn}
 use Rattle.gh_machine.specs.Framed.{holding}
 use Rattle.gh_machine.specs.Laws.{StepsKeepFrames}
 use Rattle.gh_ast.proofs.Lists.{same_values, cons_both, one_value}
@@ -25,7 +25,7 @@ all_there s a (e ∷ es) f =
     let others = all_there s a es (λ unread. f (unread_later s a e es unread)) in
     (first.0 ∷ others.0, cons_both (result s a e) first.0 (map (result s a) es) others.0 first.1 others.1)
 
-answers_framed : (rest : Statements) (b : Activation) (bs : List Activation) (p : Procedure) (t : Store) (h a F : Heap) (d : Config) → Splits h a F → Answers rest b bs p t h d → Splits d.heap a F × Answers rest b bs p t a (holding d a)
+answers_framed : (rest : Statements) (b : Activation) (bs : List Activation) (p : Procedure) (t : Store) (h a F : Heap) (d : Config) → Splits h a F → HandsBack rest b bs p t h d → Splits d.heap a F × HandsBack rest b bs p t a (holding d a)
 answers_framed (statement_first (call xs f es) rest) b bs p t h a F d split (u, gets, to) = (subst (λ z. Splits z.heap a F) (sym to) split, (u, gets, ap (λ z. holding z a) to))
 answers_framed rest b bs p t h a F d split w = absurd w
 
@@ -56,10 +56,10 @@ framed P (statement_first (free x) rest) c d a F split sound (there, to) =
     let at = there_is (get a (c.top.store x.name)) sound in
     let k = remove a (c.top.store x.name) in
     (k, subst (λ z. Splits z.heap k F) (sym to) (remove_beside c.heap a F (c.top.store x.name) split (not_in_frame c.heap a F split (c.top.store x.name) at)), (at, ap (λ z. holding z k) to))
-framed P (statement_first (call xs f es) rest) c d a F split sound (p, vs, t, decl, gives, params, to) =
+framed P (statement_first (call xs f es) rest) c d a F split sound (proc, vs, t, decl, gives, params, to) =
     let here = all_there c.top.store a es sound in
     let same : here.0 ≡ vs = same_values here.0 vs (sym (gives_whole c.top.store c.heap a F split es here.0 here.1) ∙ gives) in
-    (a, subst (λ z. Splits z.heap a F) (sym to) split, (p, vs, t, decl, subst (Give c.top.store a es) same here.1, params, ap (λ z. holding z a) to))
+    (a, subst (λ z. Splits z.heap a F) (sym to) split, (proc, vs, t, decl, subst (Give c.top.store a es) same here.1, params, ap (λ z. holding z a) to))
 framed P (statement_first (choice test r1 c1 r2 c2) rest) c d a F split sound (way, gives, to) =
     let here = there_is (outcome c.top.store a test) sound in
     let same : here.0 ≡ way = one_value (outcome c.top.store c.heap test) here.0 way (outcome_whole c.top.store c.heap a F split test here.0 here.1) gives in

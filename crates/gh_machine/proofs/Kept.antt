@@ -24,7 +24,7 @@ use Rattle.gh_assert.specs.declared.store.Entry.{Entry}
 use Rattle.gh_machine.specs.Machine.{continuing, FaultOn}
 use Rattle.gh_machine.specs.Fits.{Fits, AllFit, Awaits, StackFits}
 use Rattle.gh_machine.specs.Configs.{activation_of, config_of, beginning, starts_of, IsMadeFor, IsNext, Misfits, ListsVariables, AssignsVariables, AllAssignVariables}
-use Rattle.gh_machine.specs.Turns.{Comes, CallComes, ChoiceComes, LoopComes, Calls, AlwaysNext}
+use Rattle.gh_machine.specs.Turns.{ComesFirst, CallComes, ChoiceComes, LoopComes, Calls, AlwaysNext}
 use Rattle.gh_machine.specs.declared.config.Activation.{Activation}
 use Rattle.gh_machine.specs.declared.config.Config.{Config}
 use Rattle.gh_machine.specs.declared.step.Choice.{Choice}
@@ -47,32 +47,32 @@ some_there : (o : Option ℕ) → is_some o ≡ true → (v : ℕ) × (o ≡ Som
 some_there None is = absurd cc
 some_there (Some v) is = (v, refl)
 
-pub set_moves : (c : Config) (x : Occ) (e : Expr) (es : List Entry) (r : List Stmt) (v : ℕ) → Comes (set x e) c → Some v ≡ result (store_of c.top.store) c.heap e → IsSet c.top.store es x.name v → r ≡ drop 1 c.top.rest → AlwaysNext Moved (config_of c) (config_of (going c c.heap es r))
+pub set_moves : (c : Config) (x : Occ) (e : Expr) (es : List Entry) (r : List Stmt) (v : ℕ) → ComesFirst (set x e) c → Some v ≡ result (store_of c.top.store) c.heap e → IsSet c.top.store es x.name v → r ≡ drop 1 c.top.rest → AlwaysNext Moved (config_of c) (config_of (going c c.heap es r))
 set_moves c x e es r v comes reads is left P ch =
     moves P ch (config_of c) (config_of (going c c.heap es r)) (statement_first (set x e) (statements_view (drop 1 c.top.rest))) comes
     (v, store_of es, sym reads, set_gets c.top.store es x.name v is, goes c c.heap c.heap es r (statements_view (drop 1 c.top.rest)) refl (ap statements_view left)) tt (λ b. b) (λ b. b)
 
-pub new_moves : (c : Config) (x : Occ) (ch : Choice) (h : Heap) (es : List Entry) (r : List Stmt) → Comes (new x) c → ch.location ≢ 0 → get c.heap ch.location ≡ None → h ≡ insert c.heap ch.location ch.content → IsSet c.top.store es x.name ch.location → r ≡ drop 1 c.top.rest
+pub new_moves : (c : Config) (x : Occ) (ch : Choice) (h : Heap) (es : List Entry) (r : List Stmt) → ComesFirst (new x) c → ch.location ≢ 0 → get c.heap ch.location ≡ None → h ≡ insert c.heap ch.location ch.content → IsSet c.top.store es x.name ch.location → r ≡ drop 1 c.top.rest
     → (P : Program) → IsNext P ch Moved (config_of c) (config_of (going c h es r))
 new_moves c x ch h es r comes some out put is left P =
     moves P ch (config_of c) (config_of (going c h es r)) (statement_first (new x) (statements_view (drop 1 c.top.rest))) comes
     (ch.location, ch.content, store_of es, some, out, set_gets c.top.store es x.name ch.location is, goes c h (insert c.heap ch.location ch.content) es r (statements_view (drop 1 c.top.rest)) put (ap statements_view left)) put (λ b. b)
     (λ m. elim m [ inl null ↦ some null | inr there ↦ there out ])
 
-pub write_moves : (c : Config) (x : Occ) (e : Expr) (h : Heap) (r : List Stmt) (v at : ℕ) → Comes (write x e) c → Some v ≡ result (store_of c.top.store) c.heap e → at ≡ store_of c.top.store x.name → is_some (get c.heap at) ≡ true → h ≡ insert c.heap at v → r ≡ drop 1 c.top.rest
+pub write_moves : (c : Config) (x : Occ) (e : Expr) (h : Heap) (r : List Stmt) (v at : ℕ) → ComesFirst (write x e) c → Some v ≡ result (store_of c.top.store) c.heap e → at ≡ store_of c.top.store x.name → is_some (get c.heap at) ≡ true → h ≡ insert c.heap at v → r ≡ drop 1 c.top.rest
     → AlwaysNext Moved (config_of c) (config_of (going c h c.top.store r))
 write_moves c x e h r v at comes reads place there put left P ch =
     moves P ch (config_of c) (config_of (going c h c.top.store r)) (statement_first (write x e) (statements_view (drop 1 c.top.rest))) comes (
       v,
       sym reads,
-      some_there (get c.heap (store_of c.top.store x.name)) (subst (λ p. is_some (get c.heap p) ≡ true) place there),
-      goes c h (insert c.heap (store_of c.top.store x.name) v) c.top.store r (statements_view (drop 1 c.top.rest)) (put ∙ ap (λ p. insert c.heap p v) place) (ap statements_view left),
+      some_there (get c.heap (store_of c.top.store x.name)) (subst (λ at. is_some (get c.heap at) ≡ true) place there),
+      goes c h (insert c.heap (store_of c.top.store x.name) v) c.top.store r (statements_view (drop 1 c.top.rest)) (put ∙ ap (λ at. insert c.heap at v) place) (ap statements_view left),
     ) tt (λ b. b) (λ b. b)
 
-pub free_moves : (c : Config) (x : Occ) (h : Heap) (r : List Stmt) (at : ℕ) → Comes (free x) c → at ≡ store_of c.top.store x.name → is_some (get c.heap at) ≡ true → h ≡ remove c.heap at → r ≡ drop 1 c.top.rest → AlwaysNext Moved (config_of c) (config_of (going c h c.top.store r))
+pub free_moves : (c : Config) (x : Occ) (h : Heap) (r : List Stmt) (at : ℕ) → ComesFirst (free x) c → at ≡ store_of c.top.store x.name → is_some (get c.heap at) ≡ true → h ≡ remove c.heap at → r ≡ drop 1 c.top.rest → AlwaysNext Moved (config_of c) (config_of (going c h c.top.store r))
 free_moves c x h r at comes place there taken left P ch =
     moves P ch (config_of c) (config_of (going c h c.top.store r)) (statement_first (free x) (statements_view (drop 1 c.top.rest))) comes (
-      some_there (get c.heap (store_of c.top.store x.name)) (subst (λ p. is_some (get c.heap p) ≡ true) place there),
+      some_there (get c.heap (store_of c.top.store x.name)) (subst (λ at. is_some (get c.heap at) ≡ true) place there),
       goes c h (remove c.heap (store_of c.top.store x.name)) c.top.store r (statements_view (drop 1 c.top.rest)) (taken ∙ ap (remove c.heap) place) (ap statements_view left),
     ) tt (λ b. b) (λ b. b)
 
@@ -135,7 +135,7 @@ enters P ch c a below f es vs (xs, comes) made decl gives count store rest pushe
     )
     (λ y out. ap (λ es. store_of es y) store ∙ starts_chosen q vs ch.starts.items many y out)
     (λ b. b)
-    (λ (p, other, differs). differs (count ∙ ap (λ z. length (starts_of z)) (is_one P.procedures f.name q p decl other)))
+    (λ (proc, other, differs). differs (count ∙ ap (λ z. length (starts_of z)) (is_one P.procedures f.name q proc decl other)))
 
 pub call_moves : (P : Program) (ch : Choice) (c : Config) (a top : Activation) (below : Vec Activation Global) (f : Occ) (es : List Expr) (vs : List ℕ) (q : whole.Procedure) → top ≡ a → a.procedure.now ≡ q → CallComes f es c → IsMadeFor P c → Declares P f.name (procedure_of q)
     → Give (store_of c.top.store) c.heap es vs → length ch.starts.items ≡ length (starts_of (procedure_of q)) → a.store ≡ beginning (procedure_of q) vs ch.starts.items → statements_view a.rest ≡ body_of (procedure_of q) → below.items ≡ c.below.items ++ c.top ∷ []

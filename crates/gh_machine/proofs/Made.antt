@@ -15,8 +15,8 @@ use Rattle.gh_ast.proofs.TypedPrograms.{mention_is_variable}
 use Rattle.gh_assert.specs.Heaps.{Heap}
 use Rattle.gh_assert.specs.Meaning.{Store}
 use Rattle.gh_machine.specs.Machine as machine
-use Rattle.gh_machine.specs.Machine.{Answers, Pops, StepOn, Step}
-use Rattle.gh_machine.specs.Fits.{AreDistinct, ConfigFits}
+use Rattle.gh_machine.specs.Machine.{HandsBack, Pops, StepOn, Step}
+use Rattle.gh_machine.specs.Fits.{AreAllDistinct, ConfigFits}
 use Rattle.gh_machine.specs.Choices.{Follows}
 use Rattle.gh_machine.specs.Configs.{AllAssignVariables, AllListVariables, IsMadeFor, IsNext, IsReturn, Misfits, chosen, config_of}
 use Rattle.gh_machine.specs.Turns.{AlwaysNext, IsPopped}
@@ -28,7 +28,7 @@ use Rattle.gh_machine.proofs.TypedFits.{Within, within_left, within_right, typed
 use Rattle.gh_machine.proofs.Progress.{steps_fit}
 
 -- distinct names, pair by pair
-pub pairs_apart : (xs : List Name) → AreDistinct xs → AllPairs (λ x y. x ≢ y) xs
+pub pairs_apart : (xs : List Name) → AreAllDistinct xs → AllPairs (λ x y. x ≢ y) xs
 pairs_apart [] apart i j d before within same = absurd (omega (arith, within))
 pairs_apart (x ∷ xs) apart i zero d before within same = absurd (omega (arith, before))
 pairs_apart (x ∷ xs) apart zero (suc j) d before within same = apart.0 (subst (Contains xs) (sym same) (j, omega (arith, within), again xs j d (get_or xs j d) (omega (arith, within))))
@@ -95,7 +95,7 @@ in_way false a b y C f g is = g is
 abbrev All : machine.Config → Type 0
 All c = AllAssignVariables (c.top ∷ c.below)
 
-answer_assigns : (rest : Statements) (a : machine.Activation) (below : List machine.Activation) (q : Procedure) (t : Store) (h : Heap) (d : machine.Config) → ((y : Name) → SomeAssigns rest y → Contains (variable_names a.procedure) y) → AllAssignVariables below → Answers rest a below q t h d → All d
+answer_assigns : (rest : Statements) (a : machine.Activation) (below : List machine.Activation) (q : Procedure) (t : Store) (h : Heap) (d : machine.Config) → ((y : Name) → SomeAssigns rest y → Contains (variable_names a.procedure) y) → AllAssignVariables below → HandsBack rest a below q t h d → All d
 answer_assigns (statement_first (call xs f es) rest) a below q t h d top more (u, gets, to) = subst All (sym to) (λ y is. top y (inr is), more)
 answer_assigns rest a below q t h d top more w = absurd w
 

@@ -14,8 +14,8 @@ use Rattle.gh_assert.specs.Meaning.{Store}
 use Rattle.gh_assert.proofs.Unique.{apart}
 use Rattle.gh_assert.specs.Values.{result, Give, outcome, Gets}
 use Rattle.gh_ast.specs.Programs.{Name, names, parameters_of, results_of, joined}
-use Rattle.gh_machine.specs.Machine.{Activation, Config, starting, continuing, Answers, Pops, StepOn, FaultOn}
-use Rattle.gh_machine.specs.Fits.{AreDistinct, AllFit, ProgramFits, Awaits, StackFits, ConfigFits}
+use Rattle.gh_machine.specs.Machine.{Activation, Config, starting, continuing, HandsBack, Pops, StepOn, FaultOn}
+use Rattle.gh_machine.specs.Fits.{AreAllDistinct, AllFit, ProgramFits, Awaits, StackFits, ConfigFits}
 use Rattle.gh_machine.specs.Laws.{StepsFit, RunsGoOn}
 use Rattle.gh_ast.proofs.Lists.{member_first, member_later}
 use Rattle.gh_ast.proofs.Declared.{is_member}
@@ -41,7 +41,7 @@ maps_beside s x v (y ∷ ys) out =
     ap (λ ws. s y ∷ ws) (maps_beside s x v ys (λ i. out (member_later y x ys i)))
 
 -- distinct names can get values together
-pub some_gets : (s : Store) (xs : List Name) (vs : List ℕ) → AreDistinct xs → length xs ≡ length vs → (t : Store) × Gets s xs vs t
+pub some_gets : (s : Store) (xs : List Name) (vs : List ℕ) → AreAllDistinct xs → length xs ≡ length vs → (t : Store) × Gets s xs vs t
 some_gets s [] [] d e = (s, record { given = refl; kept = λ y n. refl })
 some_gets s [] (v ∷ vs) d e = absurd (omega (arith, e))
 some_gets s (x ∷ xs) [] d e = absurd (omega (arith, e))
@@ -54,7 +54,7 @@ some_gets s (x ∷ xs) (v ∷ vs) d e =
       },
     )
 
-one_name : (x : Name) → AreDistinct (x ∷ [])
+one_name : (x : Name) → AreAllDistinct (x ∷ [])
 one_name x = (λ i. absurd (omega (arith, i.1)), tt)
 
 pub same_length : (s : Store) (h : Heap) (es : List Expr) (vs : List ℕ) → Give s h es vs → length es ≡ length vs
@@ -84,7 +84,7 @@ above (d ∷ es) l w = ap (λ b. cond b (Some d.1) (find nat_cmp l es)) (apart l
 pub free_place : (h : Heap) → (l : ℕ) × (l ≢ 0) × (get h l ≡ None)
 free_place h = (suc (total (entries h)), (λ e. omega (arith, e)), get-entries h (suc (total (entries h))) ∙ above (entries h) (suc (total (entries h))) (omega arith))
 
-answered : (P : Program) (rest : Statements) (a : Activation) (below : List Activation) (q : Procedure) (t : Store) (h : Heap) → AllFit P a.procedure rest → Awaits rest q → (d : Config) × Answers rest a below q t h d
+answered : (P : Program) (rest : Statements) (a : Activation) (below : List Activation) (q : Procedure) (t : Store) (h : Heap) → AllFit P a.procedure rest → Awaits rest q → (d : Config) × HandsBack rest a below q t h d
 answered P (statement_first (call xs f es) rest) a below q t h fit wait =
     let u = some_gets a.store (names xs) (map t (results_of q)) fit.0.2 (named_length xs ∙ wait ∙ sym (mapped_length t (results_of q))) in
     (record { heap = h; top = record { procedure = a.procedure; store = u.0; rest = rest }; below = below }, (u.0, u.1, refl))
@@ -136,15 +136,15 @@ goes_on P all (statement_first (give at es) rest) c is fit stack sound open' =
 pub runs_go_on : RunsGoOn
 runs_go_on P all c fits sound unended = goes_on P all c.top.rest c fits.0 fits.1 fits.2 sound unended
 
-joined_fit : (P : Program) (p : Procedure) (a b : Statements) → AllFit P p a → AllFit P p b → AllFit P p (joined a b)
-joined_fit P p no_statements b f g = g
-joined_fit P p (statement_first s a) b f g = (f.0, joined_fit P p a b f.1 g)
+joined_fit : (P : Program) (proc : Procedure) (a b : Statements) → AllFit P proc a → AllFit P proc b → AllFit P proc (joined a b)
+joined_fit P proc no_statements b f g = g
+joined_fit P proc (statement_first s a) b f g = (f.0, joined_fit P proc a b f.1 g)
 
-way_fits : (P : Program) (p : Procedure) (way : Bool) (a b : Statements) → AllFit P p a → AllFit P p b → AllFit P p (cond way a b)
-way_fits P p true a b f g = f
-way_fits P p false a b f g = g
+way_fits : (P : Program) (proc : Procedure) (way : Bool) (a b : Statements) → AllFit P proc a → AllFit P proc b → AllFit P proc (cond way a b)
+way_fits P proc true a b f g = f
+way_fits P proc false a b f g = g
 
-answer_fits : (P : Program) (rest : Statements) (a : Activation) (below : List Activation) (q : Procedure) (t : Store) (h : Heap) (d : Config) → Contains P.procedures a.procedure → AllFit P a.procedure rest → StackFits P a.procedure below → Answers rest a below q t h d → ConfigFits P d
+answer_fits : (P : Program) (rest : Statements) (a : Activation) (below : List Activation) (q : Procedure) (t : Store) (h : Heap) (d : Config) → Contains P.procedures a.procedure → AllFit P a.procedure rest → StackFits P a.procedure below → HandsBack rest a below q t h d → ConfigFits P d
 answer_fits P (statement_first (call xs f es) rest) a below q t h d is fit stack (u, gets, to) = subst (ConfigFits P) (sym to) (is, fit.1, stack)
 answer_fits P rest a below q t h d is fit stack w = absurd w
 

@@ -6,11 +6,11 @@ use Rattle.gh_ast.specs.Plain.{set, new, write, free, call, choice, loop, give, 
 use Rattle.gh_ast.specs.Programs.{joined}
 use Rattle.gh_assert.specs.Heaps.{Heap}
 use Rattle.gh_assert.specs.Meaning.{Store}
-use Rattle.gh_machine.specs.Machine.{Activation, Config, starting, continuing, Answers, Pops, Step, StepOn, IsRun, last_of}
+use Rattle.gh_machine.specs.Machine.{Activation, Config, starting, continuing, HandsBack, Pops, Step, StepOn, IsRun, last_of}
 use Rattle.gh_machine.specs.Stacks.{onto, IsOver, IsAtEnd}
 use Rattle.gh_machine.specs.Laws.{RunsKeepStacks}
 
-over_answers : (b : List Activation) (rest : Statements) (a : Activation) (below : List Activation) (p : Procedure) (t : Store) (h : Heap) (d : Config) → Answers rest a below p t h d → Answers rest a (below ++ b) p t h (onto d b)
+over_answers : (b : List Activation) (rest : Statements) (a : Activation) (below : List Activation) (p : Procedure) (t : Store) (h : Heap) (d : Config) → HandsBack rest a below p t h d → HandsBack rest a (below ++ b) p t h (onto d b)
 over_answers b (statement_first (call xs f es) rest) a below p t h d (u, gets, to) = (u, gets, ap (λ z. onto z b) to)
 over_answers b rest a below p t h d w = absurd w
 
@@ -24,7 +24,7 @@ step_over P b (statement_first (set x e) rest) c d open' (v, t, reads, gets, to)
 step_over P b (statement_first (new x) rest) c d open' (l, v, t, some, out, gets, to) = (l, v, t, some, out, gets, ap (λ z. onto z b) to)
 step_over P b (statement_first (write x e) rest) c d open' (v, reads, there, to) = (v, reads, there, ap (λ z. onto z b) to)
 step_over P b (statement_first (free x) rest) c d open' (there, to) = (there, ap (λ z. onto z b) to)
-step_over P b (statement_first (call xs f es) rest) c d open' (p, vs, t, decl, gives, params, to) = (p, vs, t, decl, gives, params, ap (λ z. onto z b) to)
+step_over P b (statement_first (call xs f es) rest) c d open' (proc, vs, t, decl, gives, params, to) = (proc, vs, t, decl, gives, params, ap (λ z. onto z b) to)
 step_over P b (statement_first (choice test r1 c1 r2 c2) rest) c d open' (way, gives, to) = (way, gives, ap (λ z. onto z b) to)
 step_over P b (statement_first (loop at test inv body close) rest) c d open' (way, gives, to) = (way, gives, ap (λ z. onto z b) to)
 step_over P b (statement_first (give at es) rest) c d open' (vs, t, gives, gets, ends) = (
@@ -38,7 +38,7 @@ step_over P b (statement_first (give at es) rest) c d open' (vs, t, gives, gets,
   ],
 )
 
-under_answers : (b : List Activation) (rest : Statements) (a : Activation) (below : List Activation) (p : Procedure) (t : Store) (h : Heap) (e : Config) → Answers rest a (below ++ b) p t h e → (d : Config) × Answers rest a below p t h d × (e ≡ onto d b)
+under_answers : (b : List Activation) (rest : Statements) (a : Activation) (below : List Activation) (p : Procedure) (t : Store) (h : Heap) (e : Config) → HandsBack rest a (below ++ b) p t h e → (d : Config) × HandsBack rest a below p t h d × (e ≡ onto d b)
 under_answers b (statement_first (call xs f es) rest) a below p t h e (u, gets, to) =
     (record { heap = h; top = record { procedure = a.procedure; store = u; rest = rest }; below = below }, (u, gets, refl), to)
 under_answers b rest a below p t h e w = absurd w
@@ -57,7 +57,7 @@ step_under P b (statement_first (set x r) rest) c e open' (v, t, reads, gets, to
 step_under P b (statement_first (new x) rest) c e open' (l, v, t, some, out, gets, to) = (continuing c t (insert c.heap l v) rest, (l, v, t, some, out, gets, refl), to)
 step_under P b (statement_first (write x r) rest) c e open' (v, reads, there, to) = (continuing c c.top.store (insert c.heap (c.top.store x.name) v) rest, (v, reads, there, refl), to)
 step_under P b (statement_first (free x) rest) c e open' (there, to) = (continuing c c.top.store (remove c.heap (c.top.store x.name)) rest, (there, refl), to)
-step_under P b (statement_first (call xs f es) rest) c e open' (p, vs, t, decl, gives, params, to) = (starting p t c.heap (c.top ∷ c.below), (p, vs, t, decl, gives, params, refl), to)
+step_under P b (statement_first (call xs f es) rest) c e open' (proc, vs, t, decl, gives, params, to) = (starting proc t c.heap (c.top ∷ c.below), (proc, vs, t, decl, gives, params, refl), to)
 step_under P b (statement_first (choice test r1 c1 r2 c2) rest) c e open' (way, gives, to) =
     (continuing c c.top.store c.heap (cond way (joined r1 rest) (joined r2 rest)), (way, gives, refl), to)
 step_under P b (statement_first (loop at test inv body close) rest) c e open' (way, gives, to) =

@@ -11,7 +11,7 @@ use Rattle.gh_assert.proofs.Cells.{get_put}
 use Rattle.gh_assert.proofs.Frames.{in_whole, not_in_frame, put_beside, remove_beside, reads_whole, gives_whole, outcome_whole}
 use Rattle.gh_assert.proofs.Splitting.{whole}
 use Rattle.gh_assert.proofs.Proper.{none_both}
-use Rattle.gh_machine.specs.Machine.{Activation, Config, starting, continuing, Answers, Pops, Step, StepOn, Fault, IsRun}
+use Rattle.gh_machine.specs.Machine.{Activation, Config, starting, continuing, HandsBack, Pops, Step, StepOn, Fault, IsRun}
 use Rattle.gh_machine.specs.Framed.{holding, IsWithout, AreWithout}
 use Rattle.gh_machine.specs.Laws.{StepsTakeFrames, NeverFaults, RunsKeepFrames}
 use Rattle.gh_machine.proofs.Framed.{steps_keep_frames}
@@ -20,7 +20,7 @@ use Rattle.gh_machine.proofs.Framed.{steps_keep_frames}
 same_whole : (W K F a e : Heap) → Splits W a F → Splits K e F → e ≡ a → K ≡ W
 same_whole W K F a e split after same = whole K W a F (subst (λ h. Splits K h F) same after) split
 
-answers_taken : (rest : Statements) (b : Activation) (bs : List Activation) (p : Procedure) (t : Store) (W K F a : Heap) (e : Config) → Splits W a F → Splits K e.heap F → Answers rest b bs p t a e → Answers rest b bs p t W (holding e K)
+answers_taken : (rest : Statements) (b : Activation) (bs : List Activation) (p : Procedure) (t : Store) (W K F a : Heap) (e : Config) → Splits W a F → Splits K e.heap F → HandsBack rest b bs p t a e → HandsBack rest b bs p t W (holding e K)
 answers_taken (statement_first (call xs f es) rest) b bs p t W K F a e split after (u, gets, to) =
     let same : K ≡ W = same_whole W K F a e.heap split after (ap (λ z. z.heap) to) in
     (u, gets, ap (λ z. holding z K) to ∙ ap (λ h. record { heap = h; top = record { procedure = b.procedure; store = u; rest = rest }; below = bs }) same)
@@ -63,14 +63,14 @@ taken P (statement_first (free x) rest) b e W K F split after (there, to) = (
   (there.0, in_whole W b.heap F split (b.top.store x.name) there.0 there.1),
   goes_along b e b.top.store rest W K F (remove b.heap (b.top.store x.name)) (remove W (b.top.store x.name)) (remove_beside W b.heap F (b.top.store x.name) split (not_in_frame W b.heap F split (b.top.store x.name) there)) after to,
 )
-taken P (statement_first (call xs f es) rest) b e W K F split after (p, vs, t, decl, gives, params, to) = (
-  p,
+taken P (statement_first (call xs f es) rest) b e W K F split after (proc, vs, t, decl, gives, params, to) = (
+  proc,
   vs,
   t,
   decl,
   gives_whole b.top.store W b.heap F split es vs gives,
   params,
-  ap (λ z. holding z K) to ∙ ap (λ h. starting p t h (b.top ∷ b.below)) (same_whole W K F b.heap e.heap split after (ap (λ z. z.heap) to)),
+  ap (λ z. holding z K) to ∙ ap (λ h. starting proc t h (b.top ∷ b.below)) (same_whole W K F b.heap e.heap split after (ap (λ z. z.heap) to)),
 )
 taken P (statement_first (choice test r1 c1 r2 c2) rest) b e W K F split after (way, gives, to) =
     (way, outcome_whole b.top.store W b.heap F split test way gives, goes_on b e b.top.store (cond way (joined r1 rest) (joined r2 rest)) W K F split after to)

@@ -12,10 +12,10 @@ use Rattle.gh_ast.specs.Rules.{IsTyped}
 use Rattle.gh_ast.proofs.Lists.{member_first, member_later}
 use Rattle.gh_ast.proofs.Sites.{site_in_body}
 use Rattle.gh_ast.proofs.TypedPrograms.{variables_are_distinct, variables_split, targets_are_distinct, callee_is_known, counts_agree, values_are_counted}
-use Rattle.gh_machine.specs.Fits.{AreDistinct, Fits, AllFit}
+use Rattle.gh_machine.specs.Fits.{AreAllDistinct, Fits, AllFit}
 use Rattle.gh_machine.specs.Laws.{TypedFit}
 
-pub distinct_list : (xs : List Name) → AllPairs (λ x y. x ≢ y) xs → AreDistinct xs
+pub distinct_list : (xs : List Name) → AllPairs (λ x y. x ≢ y) xs → AreAllDistinct xs
 distinct_list [] apart = tt
 distinct_list (x ∷ xs) apart = (λ there. apart 0 (suc there.0) x (omega arith) (omega (arith, there.1)) (sym there.2), distinct_list xs (λ i j d l w. apart (suc i) (suc j) d (omega (arith, l)) (omega (arith, w))))
 

@@ -57,7 +57,7 @@ chosen c p = record { location = c.location; content = c.content; starts = store
 
 -- how many values the next statement leaves to choose for a callee's results and locals
 abbrev pub WantsStarts : Program → Statements → ℕ → Type 0
-WantsStarts P (statement_first (call xs f es) rest) n = (p : Procedure) × Declares P f.name p × (n ≡ length (starts_of p))
+WantsStarts P (statement_first (call xs f es) rest) n = (proc : Procedure) × Declares P f.name proc × (n ≡ length (starts_of proc))
 WantsStarts P ss n = n ≡ 0
 
 abbrev pub IsReturn : Statements → Type 0
@@ -71,7 +71,7 @@ ReturnsLast c = (c.below ≡ []) × IsReturn c.top.rest
 -- the location can't be had, or the values are not as many as the callee's results and locals
 abbrev pub Misfits : Program → Choice → Statements → Heap → Type 0
 Misfits P choice (statement_first (new x) rest) h = (choice.location ≡ 0) ⊎ (get h choice.location ≢ None)
-Misfits P choice (statement_first (call xs f es) rest) h = (p : Procedure) × Declares P f.name p × (length choice.starts.items ≢ length (starts_of p))
+Misfits P choice (statement_first (call xs f es) rest) h = (proc : Procedure) × Declares P f.name proc × (length choice.starts.items ≢ length (starts_of proc))
 Misfits P choice ss h = ⊥
 
 -- the answers of a step from c to d
@@ -90,19 +90,19 @@ IsNextOf P choice next c d = IsNext P choice next (config_of c) (config_of d)
 
 -- there are as many values as the procedure of a number has parameters
 abbrev pub AreArguments : Program → ℕ → List ℕ → Type 0
-AreArguments P n vs = (p : Procedure) → length vs ≡ length (parameters_of (slice_index_or P.procedures n p))
+AreArguments P n vs = (proc : Procedure) → length vs ≡ length (parameters_of (slice_index_or P.procedures n proc))
 
 -- there are as many values as the procedure of a number has results and locals
 abbrev pub AreStarts : Program → ℕ → List ℕ → Type 0
-AreStarts P n vs = (p : Procedure) → length vs ≡ length (starts_of (slice_index_or P.procedures n p))
+AreStarts P n vs = (proc : Procedure) → length vs ≡ length (starts_of (slice_index_or P.procedures n proc))
 
 -- no procedure has the name
 abbrev pub DeclaresNone : Program → Name → Type 0
-DeclaresNone P f = (p : Procedure) → Declares P f p → ⊥
+DeclaresNone P f = (proc : Procedure) → Declares P f proc → ⊥
 
 -- what is found for the name of a call: the procedure that it means, if there is one
 abbrev pub FindsDeclared : Program → Name → Option (Bor kept.Procedure) → Type 0
-FindsDeclared P f found = MatchOption found (DeclaresNone P f) (λ p. Declares P f (procedure_of p.now))
+FindsDeclared P f found = MatchOption found (DeclaresNone P f) (λ proc. Declares P f (procedure_of proc.now))
 
 -- variables of a store get the values of variables of another store, all at once
 abbrev pub GetsFrom : List Entry → List Occ → List Entry → List Occ → List Entry → Type 0

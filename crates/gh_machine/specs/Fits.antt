@@ -6,32 +6,32 @@ use Rattle.gh_ast.specs.Plain.{Procedure, Program}
 use Rattle.gh_ast.specs.Programs.{Name, names, parameters_of, results_of, body_of, Declares}
 use Rattle.gh_machine.specs.Machine.{Activation, Config}
 
-abbrev pub AreDistinct : List Name → Type 0
-AreDistinct [] = Unit {0}
-AreDistinct (x ∷ xs) = (Contains xs x → ⊥) × AreDistinct xs
+abbrev pub AreAllDistinct : List Name → Type 0
+AreAllDistinct [] = Unit {0}
+AreAllDistinct (x ∷ xs) = (Contains xs x → ⊥) × AreAllDistinct xs
 
 abbrev mutual
-  -- in the body of p, each call in the statement has a callee, the right counts and distinct targets, and each return
+  -- in the body of proc, each call in the statement has a callee, the right counts and distinct targets, and each return
   -- has the right count
   pub Fits : Program → Procedure → Statement → Type 0
-  Fits P p (call xs f es) =
-      ((q : Procedure) × Declares P f.name q) × ((q : Procedure) → Declares P f.name q → (length es ≡ length (parameters_of q)) × (length xs ≡ length (results_of q))) × AreDistinct (names xs)
-  Fits P p (choice t a c b d) = AllFit P p a × AllFit P p b
-  Fits P p (loop at t i body close) = AllFit P p body
-  Fits P p (give at es) = length es ≡ length (results_of p)
-  Fits P p s = Unit {0}
+  Fits P proc (call xs f es) =
+      ((q : Procedure) × Declares P f.name q) × ((q : Procedure) → Declares P f.name q → (length es ≡ length (parameters_of q)) × (length xs ≡ length (results_of q))) × AreAllDistinct (names xs)
+  Fits P proc (choice t a c b d) = AllFit P proc a × AllFit P proc b
+  Fits P proc (loop at t i body close) = AllFit P proc body
+  Fits P proc (give at es) = length es ≡ length (results_of proc)
+  Fits P proc s = Unit {0}
 
   pub AllFit : Program → Procedure → Statements → Type 0
-  AllFit P p no_statements = Unit {0}
-  AllFit P p (statement_first s ss) = Fits P p s × AllFit P p ss
+  AllFit P proc no_statements = Unit {0}
+  AllFit P proc (statement_first s ss) = Fits P proc s × AllFit P proc ss
 
-pub record ProcedureFits (P : Program) (p : Procedure) : Type 0 where
-  pub body : AllFit P p (body_of p)
-  pub parameters : AreDistinct (parameters_of p)
-  pub results : AreDistinct (results_of p)
+pub record ProcedureFits (P : Program) (proc : Procedure) : Type 0 where
+  pub body : AllFit P proc (body_of proc)
+  pub parameters : AreAllDistinct (parameters_of proc)
+  pub results : AreAllDistinct (results_of proc)
 
 abbrev pub ProgramFits : Program → Type 0
-ProgramFits P = (p : Procedure) → Contains P.procedures p → ProcedureFits P p
+ProgramFits P = (proc : Procedure) → Contains P.procedures proc → ProcedureFits P proc
 
 -- a caller has the call first in its rest, with a target for each result
 abbrev pub Awaits : Statements → Procedure → Type 0

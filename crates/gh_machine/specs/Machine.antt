@@ -29,15 +29,15 @@ abbrev pub continuing : Config → Store → Heap → Statements → Config
 continuing c t h rest = record { heap = h; top = record { procedure = c.top.procedure; store = t; rest = rest }; below = c.below }
 
 -- the caller's targets get the results' values from the store at the end, and the call is taken off
-abbrev pub Answers : Statements → Activation → List Activation → Procedure → Store → Heap → Config → Type 0
-Answers (statement_first (call xs f es) rest) a below p t h d =
+abbrev pub HandsBack : Statements → Activation → List Activation → Procedure → Store → Heap → Config → Type 0
+HandsBack (statement_first (call xs f es) rest) a below p t h d =
     (u : Store) × Gets a.store (names xs) (map t (results_of p)) u × (d ≡ record { heap = h; top = record { procedure = a.procedure; store = u; rest = rest }; below = below })
-Answers rest a below p t h d = ⊥
+HandsBack rest a below p t h d = ⊥
 
 -- an empty rest above another activation is popped
 abbrev pub Pops : List Activation → Procedure → Store → Heap → Config → Type 0
 Pops [] p t h d = ⊥
-Pops (a ∷ below) p t h d = Answers a.rest a below p t h d
+Pops (a ∷ below) p t h d = HandsBack a.rest a below p t h d
 
 -- a return leaves nothing of the rest, and pops where another activation waits
 abbrev pub Returns : Config → Store → Config → Type 0
@@ -55,7 +55,7 @@ StepOn P (statement_first (write x e) rest) c d =
 StepOn P (statement_first (free x) rest) c d =
     Allocated c.heap (c.top.store x.name) × (d ≡ continuing c c.top.store (remove c.heap (c.top.store x.name)) rest)
 StepOn P (statement_first (call xs f es) rest) c d =
-    (p : Procedure) × (vs : List ℕ) × (t : Store) × Declares P f.name p × Give c.top.store c.heap es vs × (map t (parameters_of p) ≡ vs) × (d ≡ starting p t c.heap (c.top ∷ c.below))
+    (proc : Procedure) × (vs : List ℕ) × (t : Store) × Declares P f.name proc × Give c.top.store c.heap es vs × (map t (parameters_of proc) ≡ vs) × (d ≡ starting proc t c.heap (c.top ∷ c.below))
 StepOn P (statement_first (choice test a ca b cb) rest) c d =
     (way : Bool) × (outcome c.top.store c.heap test ≡ Some way) × (d ≡ continuing c c.top.store c.heap (cond way (joined a rest) (joined b rest)))
 StepOn P (statement_first (loop at test inv body close) rest) c d =
@@ -106,5 +106,5 @@ pub record IsGoodRun (p : Procedure) (frame : Heap) (c : Config) (ds : List Conf
 -- a program is good: every run of each procedure, from each part that meets what it needs, with any frame beside it
 abbrev pub IsGood : Program → Type 0
 IsGood P =
-    (p : Procedure) → Contains P.procedures p → (s : Store) (h part frame : Heap) → Splits h part frame → Meaning p.needs s part →
-    (ds : List Config) → IsRun P (starting p s h []) ds → IsGoodRun p frame (starting p s h []) ds
+    (proc : Procedure) → Contains P.procedures proc → (s : Store) (h part frame : Heap) → Splits h part frame → Meaning proc.needs s part →
+    (ds : List Config) → IsRun P (starting proc s h []) ds → IsGoodRun proc frame (starting proc s h []) ds

@@ -15,21 +15,21 @@ use Rattle.gh_machine.specs.declared.step.Next.{Next}
 use Rattle.gh_machine.specs.declared.step.Next.TheVariants.{Moved, Ended}
 
 -- the statement is the next one
-abbrev pub Comes : Statement → Config → Type 0
-Comes s c = statements_view c.top.rest ≡ statement_first s (statements_view (drop 1 c.top.rest))
+abbrev pub ComesFirst : Statement → Config → Type 0
+ComesFirst s c = statements_view c.top.rest ≡ statement_first s (statements_view (drop 1 c.top.rest))
 
 -- a call, a choice, a loop or a return is the next statement, wherever it stands in the text
 abbrev pub CallComes : Occ → List Expr → Config → Type 0
-CallComes f es c = (xs : List Occ) × Comes (call xs f es) c
+CallComes f es c = (xs : List Occ) × ComesFirst (call xs f es) c
 
 abbrev pub ChoiceComes : Test → Part → Part → Config → Type 0
-ChoiceComes t a b c = Comes (choice t a.statements a.close b.statements b.close) c
+ChoiceComes t a b c = ComesFirst (choice t a.statements a.close b.statements b.close) c
 
 abbrev pub LoopComes : Test → Part → Config → Type 0
-LoopComes t body c = (at : Span) × (inv : Formula) × Comes (loop at t inv body.statements body.close) c
+LoopComes t body c = (at : Span) × (inv : Formula) × ComesFirst (loop at t inv body.statements body.close) c
 
 abbrev pub ReturnComes : List Expr → Config → Type 0
-ReturnComes es c = (at : Span) × Comes (give at es) c
+ReturnComes es c = (at : Span) × ComesFirst (give at es) c
 
 -- the statements begin with a call that has these targets
 abbrev pub Calls : List Occ → List Stmt → Type 0

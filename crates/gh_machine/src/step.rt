@@ -7,7 +7,7 @@ ghost use Rattle.gh_assert.specs.Stores.{listed_names};
 ghost use Rattle.gh_machine.specs.Fits.{Awaits};
 ghost use Rattle.gh_machine.specs.Configs.{config_of, IsNextOf, IsMadeFor, AllListVariables, FindsDeclared};
 ghost use Rattle.gh_machine.specs.Configs.{WantsStarts};
-ghost use Rattle.gh_machine.specs.Turns.{Comes, CallComes, ChoiceComes, LoopComes, ReturnComes, Calls, AlwaysNext};
+ghost use Rattle.gh_machine.specs.Turns.{ComesFirst, CallComes, ChoiceComes, LoopComes, ReturnComes, Calls, AlwaysNext};
 ghost use Rattle.gh_machine.specs.Turns.{IsPopped, IsMadeForSome};
 
 use crate::config::Config;
@@ -43,7 +43,7 @@ pub enum Next {
 }
 
 fn set_variable(config: &mut Config, target: &Occ, value: &Expr) -> Next
-    requires comes { Comes (plain.set target.now value.now) config.old }
+    requires comes { ComesFirst (plain.set target.now value.now) config.old }
     requires listed { Contains (listed_names config.old.top.store) target.now.name }
     requires lists { AllListVariables config.old }
     ensures next { AlwaysNext result (config_of config.old) (config_of config.new) }
@@ -58,7 +58,7 @@ fn set_variable(config: &mut Config, target: &Occ, value: &Expr) -> Next
 }
 
 fn make_cell(config: &mut Config, target: &Occ, choice: &Choice) -> Result<Next, AllocError>
-    requires comes { Comes (plain.new target.now) config.old }
+    requires comes { ComesFirst (plain.new target.now) config.old }
     requires listed { Contains (listed_names config.old.top.store) target.now.name }
     requires lists { AllListVariables config.old }
     ensures next { IfOk result (λ next. (P : plain.Program) → IsNextOf P choice.now next config.old config.new) }
@@ -75,7 +75,7 @@ fn make_cell(config: &mut Config, target: &Occ, choice: &Choice) -> Result<Next,
 }
 
 fn write_cell(config: &mut Config, at: &Occ, value: &Expr) -> Result<Next, AllocError>
-    requires comes { Comes (plain.write at.now value.now) config.old }
+    requires comes { ComesFirst (plain.write at.now value.now) config.old }
     requires lists { AllListVariables config.old }
     ensures next { IfOk result (λ next. AlwaysNext next (config_of config.old) (config_of config.new)) }
     ensures err { OnErr result (config_of config.new ≡ config_of config.old) }
@@ -94,7 +94,7 @@ fn write_cell(config: &mut Config, at: &Occ, value: &Expr) -> Result<Next, Alloc
 }
 
 fn free_cell(config: &mut Config, at: &Occ) -> Next
-    requires comes { Comes (plain.free at.now) config.old }
+    requires comes { ComesFirst (plain.free at.now) config.old }
     requires lists { AllListVariables config.old }
     ensures next { AlwaysNext result (config_of config.old) (config_of config.new) }
     ensures lists { AllListVariables config.new }

@@ -13,23 +13,23 @@ use Rattle.gh_trace.specs.Traces.{State}
 use Rattle.gh_model.specs.TraceLaws.{IsCounterexample}
 
 -- equality is a congruence, and all instances of the axioms and all formulas of the condition, which is one of the
--- procedure p, are true
-pub record Satisfies (P : Program) (p : Procedure) (c : Condition) (m : Interpretation) : Type 0 where
-  pub congruence : IsCongruence (problem (symbolic_of P p c)).sizes m
-  pub instances : AreInstancesTrue (problem (symbolic_of P p c)).sizes m
-  pub formulas : AreTrue m (claims (symbolic_of P p c))
+-- procedure proc, are true
+pub record Satisfies (P : Program) (proc : Procedure) (c : Condition) (m : Interpretation) : Type 0 where
+  pub congruence : IsCongruence (problem (symbolic_of P proc c)).sizes m
+  pub instances : AreInstancesTrue (problem (symbolic_of P proc c)).sizes m
+  pub formulas : AreTrue m (claims (symbolic_of P proc c))
 
 -- a counterexample gives an interpretation that satisfies its condition
 abbrev pub TracesSatisfy : Type 0
 TracesSatisfy =
-    (P : Program) (p : Procedure) (c : Condition) (x : State) (ys : List State) → IsTyped P → IsCondition P c → IsOf P c p → IsCounterexample P p c x ys →
-    (m : Interpretation) × Satisfies P p c m
+    (P : Program) (proc : Procedure) (c : Condition) (x : State) (ys : List State) → IsTyped P → IsCondition P c → IsOf P c proc → IsCounterexample P proc c x ys →
+    (m : Interpretation) × Satisfies P proc c m
 
 -- a model of the clauses of the condition and of the axioms
 abbrev pub IsModelOf : Program → Procedure → Condition → Interpretation → Type 0
-IsModelOf P p c m = IsModel (problem (symbolic_of P p c)) m
+IsModelOf P proc c m = IsModel (problem (symbolic_of P proc c)) m
 
 abbrev pub TracesGiveModels : Type 0
 TracesGiveModels =
-    (P : Program) (p : Procedure) (c : Condition) (x : State) (ys : List State) → IsTyped P → IsCondition P c → IsOf P c p → IsCounterexample P p c x ys →
-    (m : Interpretation) × IsModelOf P p c m
+    (P : Program) (proc : Procedure) (c : Condition) (x : State) (ys : List State) → IsTyped P → IsCondition P c → IsOf P c proc → IsCounterexample P proc c x ys →
+    (m : Interpretation) × IsModelOf P proc c m

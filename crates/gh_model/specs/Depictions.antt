@@ -35,5 +35,5 @@ pub record IsTraceDepicted (c : Condition) (x : State) (ys : List State) (V : Li
 -- a counterexample gives a model of the condition that depicts its heaps
 abbrev pub TracesAreDepicted : Type 0
 TracesAreDepicted =
-    (P : Program) (p : Procedure) (c : Condition) (x : State) (ys : List State) (V : List ℕ) → IsTyped P → IsCondition P c → IsOf P c p → IsCounterexample P p c x ys → AreTermValues P p c x ys V →
-    (m : Interpretation) × IsModelOf P p c m × IsTraceDepicted c x ys V m
+    (P : Program) (proc : Procedure) (c : Condition) (x : State) (ys : List State) (V : List ℕ) → IsTyped P → IsCondition P c → IsOf P c proc → IsCounterexample P proc c x ys → AreTermValues P proc c x ys V →
+    (m : Interpretation) × IsModelOf P proc c m × IsTraceDepicted c x ys V m

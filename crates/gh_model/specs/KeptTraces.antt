@@ -79,7 +79,7 @@ drawn_over xs ys = map (λ y. record { listed = xs; state = y }) ys
 
 -- the states that an interpretation builds for a kept condition, over the variables of its procedure
 abbrev pub AreBuilt : Program → kept_condition.Condition → Interpretation → List Drawn → Type 0
-AreBuilt P r m xs = HoldsFor P r (λ P p c. xs ≡ drawn_over (variable_names p) (built_trace P p c m))
+AreBuilt P r m xs = HoldsFor P r (λ P proc c. xs ≡ drawn_over (variable_names proc) (built_trace P proc c m))
 
 -- the trace of a structure for a kept condition
 abbrev pub IsTraceOf : Program → kept_condition.Condition → Tables → Trace → Type 0
@@ -88,5 +88,5 @@ IsTraceOf P r s t = AreBuilt P r (interpretation_of s) (drawn_of t)
 -- the trace of a model of a condition, drawn over the variables of its procedure, is a counterexample
 abbrev pub BuiltIsCounterexample : Type 0
 BuiltIsCounterexample =
-    (P : Program) (p : Procedure) (c : Condition) (m : Interpretation) → IsTyped P → IsCondition P c → IsOf P c p → IsModelOf P p c m →
-    Refutes P c (drawn_over (variable_names p) (built_trace P p c m))
+    (P : Program) (proc : Procedure) (c : Condition) (m : Interpretation) → IsTyped P → IsCondition P c → IsOf P c proc → IsModelOf P proc c m →
+    Refutes P c (drawn_over (variable_names proc) (built_trace P proc c m))

@@ -13,7 +13,7 @@ use Rattle.gh_base.specs.Meaning as congruence
 use Rattle.gh_base.specs.Meaning.{Interpretation}
 use Rattle.gh_inst.specs.Violations.{AreInstancesTrue}
 use Rattle.gh_model.specs.Versions.{equal_in, version_of, HasHops}
-use Rattle.gh_model.specs.Structures.{HeapStructure, IsOrdered, IsLinked, Keeps, IsModelOver}
+use Rattle.gh_model.specs.Structures.{HeapStructure, IsOrdered, IsLinked, KeepsAxioms, IsModelOver}
 use Rattle.gh_model.specs.BuiltHeaps.{built}
 use Rattle.gh_model.specs.Operands.{IsNamed}
 use Rattle.gh_model.specs.Representations.{Represents, AgreeOn}
@@ -72,7 +72,7 @@ CallsAreBuilt = (V : List ℕ) (m n : HeapStructure) (p q : Formula) (s t : Stor
 
 -- a structure on terms, whose equality is a congruence and which keeps the axioms, is a model over its classes
 abbrev pub ClassesAreModels : Type 0
-ClassesAreModels = (equal : ℕ → ℕ → Bool) (n : ℕ) (m : HeapStructure) → 0 < n → IsCongruence equal n m → Keeps (λ t. t < n) (λ x y. IsTrue (equal x y)) m → HasClasses equal n m
+ClassesAreModels = (equal : ℕ → ℕ → Bool) (n : ℕ) (m : HeapStructure) → 0 < n → IsCongruence equal n m → KeepsAxioms (λ t. t < n) (λ x y. IsTrue (equal x y)) m → HasClasses equal n m
 
 -- some structure represents an owned heap
 abbrev pub RepresentationsExist : Type 0
@@ -80,7 +80,7 @@ RepresentationsExist = (V : List ℕ) (h : Heap) → get h 0 ≡ None → Owned 
 
 -- a version of an interpretation in which all instances of the axioms are true keeps them over the terms
 abbrev pub InstancesAreKept : Type 0
-InstancesAreKept = (s : Sizes) (m : Interpretation) (i : ℕ) → i < s.versions → AreInstancesTrue s m → HasHops s.terms (version_of m i) → Keeps (λ t. t < s.terms) (λ x y. IsTrue (equal_in m x y)) (version_of m i)
+InstancesAreKept = (s : Sizes) (m : Interpretation) (i : ℕ) → i < s.versions → AreInstancesTrue s m → HasHops s.terms (version_of m i) → KeepsAxioms (λ t. t < s.terms) (λ x y. IsTrue (equal_in m x y)) (version_of m i)
 
 -- and where equality is a congruence, the classes of its terms are a model
 abbrev pub VersionsAreModels : Type 0

@@ -43,25 +43,25 @@ HasCellValues V (parts b a) y = Unit {0}
 -- a call's results have the values that its targets get, whatever alternative speaks of them
 abbrev pub HasResultValues : Program → List ℕ → path.PathStep → TermStep → State → Type 0
 HasResultValues P V (path.called ys n es) (parts b as') y =
-    (p : Procedure) (inside : Store) → IsProcedureAt P n p → map inside (results_of p) ≡ map y.store (names ys) →
-    (a : Under) → Contains as' a → (r : Name) (t : ℕ) → Contains (results_of p) r → a.binding r ≡ Some t → slice_get V t ≡ Some (inside r)
+    (proc : Procedure) (inside : Store) → IsProcedureAt P n proc → map inside (results_of proc) ≡ map y.store (names ys) →
+    (a : Under) → Contains as' a → (r : Name) (t : ℕ) → Contains (results_of proc) r → a.binding r ≡ Some t → slice_get V t ≡ Some (inside r)
 HasResultValues P V _ _ y = Unit {0}
 
 -- the states of a path, and the steps between them
 abbrev pub HaveValues : Program → List Kind → List ℕ → List path.PathStep → List TermStep → List Bindings → ℕ → State → List State → Type 0
 HaveValues P K V [] qs [] i x ys = ⊥
 HaveValues P K V [] qs (b ∷ bs) i x ys = HasStateValues K V i b x
-HaveValues P K V (p ∷ ps) [] bs i x ys = ⊥
-HaveValues P K V (p ∷ ps) (q ∷ qs) [] i x ys = ⊥
-HaveValues P K V (p ∷ ps) (q ∷ qs) (b ∷ bs) i x [] = ⊥
-HaveValues P K V (p ∷ ps) (q ∷ qs) (b ∷ bs) i x (y ∷ ys) =
-    HasStateValues K V i b x × HasCellValues V q y × HasResultValues P V p q y × HaveValues P K V ps qs bs (path_version p i) y ys
+HaveValues P K V (proc ∷ ps) [] bs i x ys = ⊥
+HaveValues P K V (proc ∷ ps) (q ∷ qs) [] i x ys = ⊥
+HaveValues P K V (proc ∷ ps) (q ∷ qs) (b ∷ bs) i x [] = ⊥
+HaveValues P K V (proc ∷ ps) (q ∷ qs) (b ∷ bs) i x (y ∷ ys) =
+    HasStateValues K V i b x × HasCellValues V q y × HasResultValues P V proc q y × HaveValues P K V ps qs bs (path_version proc i) y ys
 
 -- a value for each term. In a program that keeps the type rules there is one such list: a successor's value comes from
 -- that of an earlier term in a state of its version, each version having one heap; a value was made for a variable that
 -- is bound to it in the state where it is used, for a variable that a loop assigns, bound to it in the state after, for
 -- a new cell, or for a result
-pub record AreTermValues (P : Program) (p : Procedure) (c : Condition) (x : State) (ys : List State) (V : List ℕ) : Type 0 where
-  pub count : length V ≡ length (symbolic_of P p c).terms
+pub record AreTermValues (P : Program) (proc : Procedure) (c : Condition) (x : State) (ys : List State) (V : List ℕ) : Type 0 where
+  pub count : length V ≡ length (symbolic_of P proc c).terms
   pub null : slice_get V 0 ≡ Some 0
-  pub along : HaveValues P (symbolic_of P p c).terms V c.way.steps (symbolic_of P p c).steps (symbolic_of P p c).bindings 0 x ys
+  pub along : HaveValues P (symbolic_of P proc c).terms V c.way.steps (symbolic_of P proc c).steps (symbolic_of P proc c).bindings 0 x ys

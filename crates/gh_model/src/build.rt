@@ -239,7 +239,7 @@ pub fn build(
     structure: &Structure,
 ) -> Result<Trace, AllocError>
     requires of { IsOne (program_of typed.now) condition.now }
-    requires told { HoldsFor (program_of typed.now) condition.now (λ P p c. IsSymbolic P p c symbolic.now) }
+    requires told { HoldsFor (program_of typed.now) condition.now (λ P proc c. IsSymbolic P proc c symbolic.now) }
     requires terms { structure.now.sizes.terms ≡ length symbolic.now.terms }
     requires versions { structure.now.sizes.versions ≡ symbolic.now.versions }
     ensures { IfOk result (IsTraceOf (program_of typed.now) condition.now structure.now) }

@@ -16,7 +16,7 @@ use Rattle.gh_ast.proofs.OneAssertion.{one_member, one_formula, one_members, one
 use Rattle.gh_ast.proofs.Shorter.{shorter_test, shorter_assertion}
 use Rattle.gh_parse.specs.declared.cursor.Ahead.{Ahead}
 use Rattle.gh_parse.specs.declared.cursor.Ahead.TheVariants as ahead
-use Rattle.gh_parse.specs.Stops.{NoToken, Tok, tok, Any, any, Seq, seq, Opt, without, with, IsPlain, IsAny, goes_on, Stops}
+use Rattle.gh_parse.specs.Stops.{NoToken, Tok, tok, Any, any, Seq, seq, Opt, without, with, EndsHere, IsAny, goes_on, Stops}
 use Rattle.gh_parse.specs.Answers.{HasKey, IsAhead, SpellsComparison, IsBetween}
 use Rattle.gh_parse.proofs.Rules.{Exact, exact_tok, exact_seq, exact_with, exact_without, kept, each, form, by, past, told, begins, begins_not, nothing_here, next, after, in_opt, Ends, ends_tok, ends_seq, ends_opt, ends_by, ends_seq_any, sentences_tok}
 use Rattle.gh_parse.proofs.Turns.{Goes, before}
@@ -242,10 +242,10 @@ mutual
   exact_items _ _ _ (last_item a n) = kept _ (one_members _) (last_item a n) make_items (exact_seq (exact_item _ _ _ a) (exact_without (λ p. refl) n))
   exact_items _ _ _ (next_item a b) = kept _ (one_members _) (next_item a b) make_items (exact_seq (exact_item _ _ _ a) (exact_with _ (exact_items _ _ _ b)))
 
-pub ends_item : Ends IsPlain (Any SpellsItem)
+pub ends_item : Ends EndsHere (Any SpellsItem)
 ends_item = ends_by make_emp (ends_tok first_place refl)
 
-pub ends_assertion : Ends IsPlain (Any SpellsAssertion)
+pub ends_assertion : Ends EndsHere (Any SpellsAssertion)
 ends_assertion = ends_by make_assertion (ends_seq ends_item (ends_opt (λ p. refl)))
 
 pub ends_braced : (F : List Token → Type 0) → Ends F Braced
@@ -254,8 +254,8 @@ ends_braced F = ends_between (λ p. refl) (λ p. refl) ends_assertion
 pub exact_braced : (ts us : List Token) → Braced ts us → Exact Braced ts us
 exact_braced ts us a = exact_between (each exact_assertion) ts us a
 
-pub ends_choice : Ends IsPlain (Seq Braced (Seq (Tok (key kw.Else)) Braced))
-ends_choice = ends_seq_any (ends_braced IsAny) (sentences_tok first_place (ends_braced IsPlain))
+pub ends_choice : Ends EndsHere (Seq Braced (Seq (Tok (key kw.Else)) Braced))
+ends_choice = ends_seq_any (ends_braced IsAny) (sentences_tok first_place (ends_braced EndsHere))
 
 -- a word by which no item begins
 other_word : {k : Keyword} {p : Span} {xs r : List Token} → (k ≡ kw.Emp → ⊥) → (k ≡ kw.Acc → ⊥) → (k ≡ kw.Lseg → ⊥) → (k ≡ kw.If → ⊥) → (k ≡ kw.Null → ⊥)
@@ -268,7 +268,7 @@ other_word a b c d e (any (same null_operand y)) = e refl
 other_word a b c d e (any (different null_operand y)) = e refl
 
 pub no_item : {k : Keyword} {ts : List Token} → HasKey k ts → (k ≡ kw.Emp → ⊥) → (k ≡ kw.Acc → ⊥) → (k ≡ kw.Lseg → ⊥) → (k ≡ kw.If → ⊥) → (k ≡ kw.Null → ⊥)
-    → Stops IsPlain (Any SpellsItem) ts ts
+    → Stops EndsHere (Any SpellsItem) ts ts
 no_item f a b c d e = nothing_here ends_item (λ xs r s h. other_word a b c d e (subst (λ z. Any SpellsItem z r) (begins f.2 s).1 h))
 
 -- items one by one
@@ -276,7 +276,7 @@ pub assertion_alone : {ts us vs : List Token} {t : Formula} → SpellsItem ts t 
 assertion_alone {ts = ts} {t = t} a n e = subst (λ z. SpellsAssertion ts t z) (sym e) (one_item a n)
 
 pub assertion_start : {ts us vs : List Token} {p : Span} (xs ys : List Assertion) (c : Assertion) → SpellsItem ts (formula_of c) us → us ≡ sign sg.Star p ∷ vs → xs ≡ [] → ys ≡ xs ++ c ∷ []
-    → Goes IsPlain SpellsItems SpellsAssertion vs ts (λ l. star (before (λ d. formula_first (formula_of d)) ys l))
+    → Goes EndsHere SpellsItems SpellsAssertion vs ts (λ l. star (before (λ d. formula_first (formula_of d)) ys l))
 assertion_start {ts = ts} {p = p} xs ys c a e f g =
     record {
       forth = λ l rest h. rw (g, f) (items (subst (λ z. SpellsItem ts (formula_of c) z) e a) h);
@@ -284,7 +284,7 @@ assertion_start {ts = ts} {p = p} xs ys c a e f g =
     }
 
 pub items_rest : {ts us vs : List Token} {t : Formula} {p : Span} → SpellsItem ts t us → us ≡ sign sg.Star p ∷ vs
-    → (left : List Token) → Stops IsPlain (Any SpellsItems) vs left → Stops IsPlain (Any SpellsItems) ts left
+    → (left : List Token) → Stops EndsHere (Any SpellsItems) vs left → Stops EndsHere (Any SpellsItems) ts left
 items_rest {p = p} a e left s = form make_items part_items (next (each exact_item) (any a) (in_opt p e s))
 
 pub items_more : {ts us vs : List Token} {t : Formula} {p : Span} → SpellsItem ts t us → us ≡ sign sg.Star p ∷ vs → (l : Formulas) (rest : List Token) → SpellsItems vs l rest
@@ -317,7 +317,7 @@ pub exact_clause : {k : Keyword} → ((p : Span) → goes_on (key k p) ≡ true)
 exact_clause {k = k} g _ _ (any (no_clause n)) = kept _ (one_clause k _) (no_clause n) make_clause (exact_without g n)
 exact_clause {k = k} g _ _ (any (a_clause a)) = kept _ (one_clause k _) (a_clause a) make_clause (exact_with _ (exact_assertion _ _ _ a))
 
-pub ends_clause : {k : Keyword} → ((p : Span) → goes_on (key k p) ≡ true) → Ends IsPlain (Any (SpellsClause k))
+pub ends_clause : {k : Keyword} → ((p : Span) → goes_on (key k p) ≡ true) → Ends EndsHere (Any (SpellsClause k))
 ends_clause g = ends_by make_clause (ends_opt g)
 
 pub clause_missing : {k : Keyword} {ts us : List Token} → NoKey k ts → us ≡ ts → SpellsClause k ts empty us
@@ -360,7 +360,7 @@ pub exact_ensures : (ts us : List Token) → Any SpellsEnsures ts us → Exact (
 exact_ensures _ _ (any (no_clause n)) = kept _ (one_ensures _) (no_clause n) make_ensures (exact_without (λ p. refl) n)
 exact_ensures _ _ (any (a_clause a)) = kept _ (one_ensures _) (a_clause a) make_ensures (exact_with _ (exact_alternatives _ _ _ a))
 
-pub ends_ensures : Ends IsPlain (Any SpellsEnsures)
+pub ends_ensures : Ends EndsHere (Any SpellsEnsures)
 ends_ensures = ends_by make_ensures (ends_opt (λ p. refl))
 
 pub ensures_missing : {ts us : List Token} → NoKey kw.Ensures ts → us ≡ ts → SpellsEnsures ts (empty ∷ []) us
@@ -377,7 +377,7 @@ pub alternative_more : {ts us vs : List Token} {f : Formula} {p : Span} → Spel
 alternative_more {ts = ts} {f = f} a e l rest h = next_alternative (subst (λ z. SpellsAssertion ts f z) e a) h
 
 pub alternatives_rest : {ts us vs : List Token} {f : Formula} {p : Span} → SpellsAssertion ts f us → us ≡ sign sg.Or p ∷ vs
-    → (left : List Token) → Stops IsPlain (Any SpellsAlternatives) vs left → Stops IsPlain (Any SpellsAlternatives) ts left
+    → (left : List Token) → Stops EndsHere (Any SpellsAlternatives) vs left → Stops EndsHere (Any SpellsAlternatives) ts left
 alternatives_rest {p = p} a e left s = form make_alternatives part_alternatives (next (each exact_assertion) (any a) (in_opt p e s))
 
 -- an assertion more

@@ -12,7 +12,7 @@ use Rattle.gh_ast.specs.Tokens.{Token, named, key, sign, first_place}
 use Rattle.gh_ast.specs.Grammar.{NoSign, NoKey, SpellsExpr, plain, variable, SpellsValues, SpellsTargets, last_target, next_target, SpellsStatement, a_set, a_new, a_write, bare_call, a_call}
 use Rattle.gh_ast.specs.Readings.{IsUnique}
 use Rattle.gh_ast.proofs.OneStatement.{one_targets}
-use Rattle.gh_parse.specs.Stops.{Tok, tok, Any, any, Seq, seq, Then, and_then, Tail, ended, further, IsPlain, Stops}
+use Rattle.gh_parse.specs.Stops.{Tok, tok, Any, any, Seq, seq, Then, and_then, Tail, ended, further, EndsHere, Stops}
 use Rattle.gh_parse.specs.Answers.{HasSign}
 use Rattle.gh_parse.specs.Statements.{SpellsArguments, SpellsTargetsFrom, SpellsNamed}
 use Rattle.gh_parse.proofs.Rules.{Exact, exact_tok, exact_seq, exact_by, exact_ended, exact_further, kept, taken_tok, apart, by, past, here, told, begins, begins_not, nothing_here, Ends, ends_tok, ends_seq, ends_by, plain_first}
@@ -39,7 +39,7 @@ pub exact_arguments : (ts us : List Token) → Arguments ts us → Exact Argumen
 exact_arguments _ _ (any a) =
     exact_by make_arguments (part_arguments _) (exact_seq (exact_tok (taken_tok _ a.front)) (exact_seq (exact_values (λ e. cc) _ _ (any a.values)) (exact_tok tok)))
 
-pub ends_arguments : Ends IsPlain Arguments
+pub ends_arguments : Ends EndsHere Arguments
 ends_arguments = ends_by make_arguments (ends_seq (ends_tok first_place refl) (ends_seq (ends_values first_place refl) (ends_tok first_place refl)))
 
 -- targets
@@ -134,7 +134,7 @@ pub part_bare : {f : Occ} (p : Span) (xs r : List Token) → Any (SpellsNamed f)
 part_bare p _ _ (any (bare_call v)) = make_arguments _ _ (seq tok (seq (any v) tok))
 part_bare p _ _ (any (a_call t v)) = elim t [ ]
 
-pub ends_named : (o : Occ) → Ends IsPlain (Any (SpellsNamed o))
+pub ends_named : (o : Occ) → Ends EndsHere (Any (SpellsNamed o))
 ends_named o = ends_by make_bare ends_arguments
 
 -- `NAME := new Node ;`
@@ -175,7 +175,7 @@ pub in_set : {F : List Token → Type 0} {o : Occ} {p : Span} {ts us left : List
     → Stops F (Any (SpellsNamed o)) ts left
 in_set e n s = past e make_set (λ xs r d h. part_set xs r (begins_not n d) h) s
 
-pub ends_of_set : (rest : List Token) → IsPlain rest → (us : List Token) × IsPlain us × ((e : Expr) → EndOfSet e us rest)
+pub ends_of_set : (rest : List Token) → EndsHere rest → (us : List Token) × EndsHere us × ((e : Expr) → EndOfSet e us rest)
 ends_of_set rest h = (sign sg.Semicolon first_place ∷ rest, plain_first (sign sg.Semicolon first_place) rest refl, λ e. end_set)
 
 -- after the expression: no bracket, a bracket after no variable, or arguments
@@ -193,7 +193,7 @@ called_variable : {e : Expr} {p : Span} {xs ys r : List Token} → xs ≡ sign s
 called_variable g end_set = cc
 called_variable g (end_call a) = (_, refl)
 
-pub no_callee : {e : Expr} {ts : List Token} → HasSign sg.ParenOpen ts → ((f : Occ) → e ≡ expr.Plain (operand.Var f) → ⊥) → Stops IsPlain (EndOfSet e) ts ts
+pub no_callee : {e : Expr} {ts : List Token} → HasSign sg.ParenOpen ts → ((f : Occ) → e ≡ expr.Plain (operand.Var f) → ⊥) → Stops EndsHere (EndOfSet e) ts ts
 no_callee {e = e} g n =
     here [] (λ rest h. (let s = ends_of_set rest h in (s.0, s.1, s.2 e))) (λ xs r d h. (let v = called_variable (begins g.2 d).1 h in n v.0 v.1))
 
@@ -229,5 +229,5 @@ no_fit _ _ n m k l (any (bare_call v)) = k _ _ refl
 no_fit _ _ n m k l (any (a_call last_target v)) = n _ _ refl
 no_fit _ _ n m k l (any (a_call (next_target t) v)) = l _ _ refl
 
-pub no_named : {o : Occ} {ts : List Token} → NoSign sg.Assign ts → NoSign sg.Dot ts → NoSign sg.ParenOpen ts → NoSign sg.Comma ts → Stops IsPlain (Any (SpellsNamed o)) ts ts
+pub no_named : {o : Occ} {ts : List Token} → NoSign sg.Assign ts → NoSign sg.Dot ts → NoSign sg.ParenOpen ts → NoSign sg.Comma ts → Stops EndsHere (Any (SpellsNamed o)) ts ts
 no_named {o = o} n m k l = nothing_here (ends_named o) (λ xs r d h. no_fit xs r (begins_not n d) (begins_not m d) (begins_not k d) (begins_not l d) h)

@@ -11,7 +11,7 @@ use Rattle.gh_ast.specs.Grammar.{NoSign, SpellsAssertion}
 use Rattle.gh_ast.specs.QuestionGrammar.{SpellsPart, asserted, in_brackets, SpellsDenial, affirmed, denied, SpellsBoth, one_denial, denials, SpellsDenials, last_denial, next_denial, SpellsClaim, one_both, boths, SpellsBoths, last_both, next_both}
 use Rattle.gh_ast.specs.Readings.{IsUnique}
 use Rattle.gh_ast.proofs.OneQuestion.{one_denied, one_conjunction, one_claim}
-use Rattle.gh_parse.specs.Stops.{NoToken, Tok, tok, Any, any, Seq, seq, Opt, without, with, IsPlain, IsAny, IsAlike, SameNext, Stops}
+use Rattle.gh_parse.specs.Stops.{NoToken, Tok, tok, Any, any, Seq, seq, Opt, without, with, EndsHere, IsAny, IsAlike, SameNext, Stops}
 use Rattle.gh_parse.specs.Answers.{IsBetween}
 use Rattle.gh_parse.specs.Questions.{IsApart}
 use Rattle.gh_parse.proofs.Rules.{Ends, Exact, each, form, next, through, stuck_seq, opt_rest, begins_not}
@@ -251,7 +251,7 @@ pub exact_claim : (ts : List Token) (c : Claim) (us : List Token) → SpellsClai
 exact_claim ts c us a = exact_loose c (one_claim ts) a (loose_claim ts c us a)
 
 -- a claim before each rest that may follow, and it begins with nothing that goes on
-pub a_claim : (rest : List Token) → IsApart rest → (us : List Token) × IsPlain us × Any SpellsClaim us rest
+pub a_claim : (rest : List Token) → IsApart rest → (us : List Token) × EndsHere us × Any SpellsClaim us rest
 a_claim rest h =
     let b = (ends_braced IsAny).sentence rest tt in
     (b.0, b.1, make_claim _ rest (seq (make_both _ rest (seq (make_affirmed _ rest (make_braced _ rest b.2)) (without h.and))) (without h.or)))

@@ -6,7 +6,7 @@ use Rattle.gh_ast.specs.Tokens.{Token}
 use Rattle.gh_parse.specs.declared.error.ReadError.{ReadError}
 use Rattle.gh_parse.specs.declared.error.ReadError.TheVariants.{Unexpected, OutOfMemory}
 use Rattle.gh_parse.specs.Stops.{NoToken, Tok, Any, goes_on, Stops}
-use Rattle.gh_parse.specs.Answers.{IsRuleRefusal, IsRuleRead, IsMissing, IsTaken}
+use Rattle.gh_parse.specs.Answers.{IsRuleRefusal, IsRuleRead, IsMissing, TakesKind}
 use Rattle.gh_parse.proofs.Rules.{stops_tok}
 
 pub within : {F G : List Token → Type 0} {P Q : List Token → List Token → Type 0} {ts us left : List Token} (e : ReadError)
@@ -33,7 +33,7 @@ missing F k ts left OutOfMemory p f h = tt
 
 -- an answer for one token that is passed on
 pub along_token : {X : Type 0} {G : List Token → Type 0} {Q : List Token → X → List Token → Type 0} {k : X → Token} {ts left : List Token} (answer : Result X ReadError) (p : X)
-    → goes_on (k p) ≡ false → ((x : X) → ts ≡ k x ∷ left → Q ts x left) → (Stops G (Tok k) ts left → Stops G (Any Q) ts left) → IsTaken k ts answer left
+    → goes_on (k p) ≡ false → ((x : X) → ts ≡ k x ∷ left → Q ts x left) → (Stops G (Tok k) ts left → Stops G (Any Q) ts left) → TakesKind k ts answer left
     → IsRuleRead G Q ts (λ x. x) answer left
 along_token (Ok x) p g f s h = f x h
 along_token {G = G} {k = k} {ts = ts} {left = left} (Err e) p g f s h = within e s (missing G k ts left e p g h)

@@ -11,7 +11,7 @@ use Rattle.gh_ast.specs.Readings.{IsUnique}
 use Rattle.gh_ast.proofs.OneStatement.{no_var_first}
 use Rattle.gh_ast.proofs.OneProgram.{one_locals, one_inside, one_params, one_header, one_results, one_body, one_procedure_at}
 use Rattle.gh_ast.proofs.ShorterStatement.{shorter_locals}
-use Rattle.gh_parse.specs.Stops.{Tok, tok, Any, any, Seq, seq, Opt, without, with, Tail, ended, further, IsPlain, Stops}
+use Rattle.gh_parse.specs.Stops.{Tok, tok, Any, any, Seq, seq, Opt, without, with, Tail, ended, further, EndsHere, Stops}
 use Rattle.gh_parse.specs.Statements.{SpellsRun}
 use Rattle.gh_parse.specs.Procedures.{AddsLocals, Ended, SpellsEnded}
 use Rattle.gh_parse.proofs.Rules.{Exact, exact_tok, exact_seq, exact_with, exact_without, exact_ended, exact_further, kept, kept_rest, each, apart, apart_seq, by, form, told, next, after, Ends, ends_tok, ends_seq, ends_opt, ends_tail, ends_by}
@@ -37,7 +37,7 @@ part_locals _ _ (any (next_local l)) = seq tok (further (any l))
 pub no_comma_locals : (p : Span) (ts rest : List Token) → LocalsEnd (sign sg.Comma p ∷ ts) rest → ⊥
 no_comma_locals = apart_seq (sign sg.Comma) (apart (λ p q e. cc))
 
-pub ends_locals_end : Ends IsPlain LocalsEnd
+pub ends_locals_end : Ends EndsHere LocalsEnd
 ends_locals_end = ends_seq (ends_tok first_place refl) (ends_seq (ends_tok first_place refl) (ends_tok first_place refl))
 
 unique_locals : (ts : List Token) → IsUnique (SpellsLocals ts)
@@ -55,7 +55,7 @@ make_adds _ _ (any s) = any (record { locals = _; spelled = s; added = refl })
 pub part_adds : {old : List Occ} (xs r : List Token) → Any (AddsLocals old) xs r → Any SpellsLocals xs r
 part_adds _ _ (any a) = any a.spelled
 
-pub declared_start : (ts : List Token) (old : List Occ) → Goes IsPlain SpellsLocals (AddsLocals old) ts ts (λ xs. old ++ xs)
+pub declared_start : (ts : List Token) (old : List Occ) → Goes EndsHere SpellsLocals (AddsLocals old) ts ts (λ xs. old ++ xs)
 declared_start ts old = record { forth = λ xs rest s. record { locals = xs; spelled = s; added = refl }; back = λ left s. form make_adds part_adds s }
 
 locals_at : {ts us rest : List Token} {xs : List Occ} → ts ≡ us → SpellsLocals us xs rest → SpellsLocals ts xs rest
@@ -97,11 +97,11 @@ exact_inside _ _ _ (no_locals a) = kept _ (unique_inside _) (no_locals a) make_b
 exact_inside _ _ _ (some_locals a i) =
     kept _ (unique_inside _) (some_locals a i) make_declared (exact_seq (exact_tok tok) (exact_seq (exact_locals _ _ _ a) (exact_inside _ _ _ i)))
 
-pub ends_inside : Ends IsPlain (Any SpellsInside)
+pub ends_inside : Ends EndsHere (Any SpellsInside)
 ends_inside = ends_by make_body ends_run
 
-pub inside_more : {start ts us vs : List Token} {xs ys : List Occ} {p : Span} → Goes IsPlain SpellsInside SpellsInside ts start (inside_after xs) → ts ≡ key kw.Var p ∷ us → AddsLocals xs us ys vs
-    → Goes IsPlain SpellsInside SpellsInside vs start (inside_after ys)
+pub inside_more : {start ts us vs : List Token} {xs ys : List Occ} {p : Span} → Goes EndsHere SpellsInside SpellsInside ts start (inside_after xs) → ts ≡ key kw.Var p ∷ us → AddsLocals xs us ys vs
+    → Goes EndsHere SpellsInside SpellsInside vs start (inside_after ys)
 inside_more {start = start} {ts = ts} {us = us} {vs = vs} {xs = xs} {ys = ys} {p = p} g e a =
     let d : (zs : List Occ) → ys ++ zs ≡ xs ++ (a.locals ++ zs) = λ zs. ap (λ z. z ++ zs) a.added ∙ append_assoc xs a.locals zs in
     record {
@@ -114,7 +114,7 @@ inside_more {start = start} {ts = ts} {us = us} {vs = vs} {xs = xs} {ys = ys} {p
 pub inside_less : {ts us vs : List Token} {xs ys : List Occ} {p : Span} → ts ≡ key kw.Var p ∷ us → AddsLocals xs us ys vs → length vs < length ts
 inside_less {ts = ts} {us = us} {p = p} e a = let h = shorter_locals a.spelled in let d : length ts ≡ length (key kw.Var p ∷ us) = ap length e in omega arith
 
-pub inside_spelled : {start ts rest : List Token} {xs : List Occ} {p : Part} → Goes IsPlain SpellsInside SpellsInside ts start (inside_after xs) → SpellsRun ts p rest
+pub inside_spelled : {start ts rest : List Token} {xs : List Occ} {p : Part} → Goes EndsHere SpellsInside SpellsInside ts start (inside_after xs) → SpellsRun ts p rest
     → SpellsInside start (record { locals = xs; statements = p.statements; close = p.close }) rest
 inside_spelled {start = start} {rest = rest} {xs = xs} {p = p} g s =
     subst (λ z. SpellsInside start (record { locals = z; statements = p.statements; close = p.close }) rest) (append-nil xs)
@@ -148,7 +148,7 @@ exact_params _ _ _ (next_param l) =
     kept _ (unique_params _) (next_param l) make_params
     (exact_seq (exact_tok tok) (exact_seq (exact_tok tok) (exact_seq (exact_tok tok) (exact_further _ no_comma_params (exact_params _ _ _ l)))))
 
-pub ends_next_params : Ends IsPlain NextParams
+pub ends_next_params : Ends EndsHere NextParams
 ends_next_params = ends_tail (ends_tok first_place refl)
 
 params_at : {ts us rest : List Token} {xs : List Occ} → ts ≡ us → SpellsParams us xs rest → SpellsParams ts xs rest
@@ -180,7 +180,7 @@ pub exact_header : (ts : List Token) (l : List Occ) (us : List Token) → Spells
 exact_header _ _ _ no_params = kept _ (unique_header _) no_params make_no_params (exact_tok tok)
 exact_header _ _ _ (params l) = kept _ (unique_header _) (params l) make_header (exact_params _ _ _ l)
 
-pub ends_header : Ends IsPlain (Any SpellsHeader)
+pub ends_header : Ends EndsHere (Any SpellsHeader)
 ends_header = ends_by make_no_params (ends_tok first_place refl)
 
 pub header_none : {ts rest : List Token} {xs : List Occ} {p : Span} → ts ≡ sign sg.ParenClose p ∷ rest → xs ≡ [] → SpellsHeader ts xs rest
@@ -206,7 +206,7 @@ pub exact_results : (ts : List Token) (l : List Occ) (us : List Token) → Spell
 exact_results _ _ _ (no_results n) = kept _ (unique_results _) (no_results n) make_results (exact_without (λ p. refl) n)
 exact_results _ _ _ (results l) = kept _ (unique_results _) (results l) make_results (exact_with _ (exact_seq (exact_tok tok) (exact_header _ _ _ l)))
 
-pub ends_results : Ends IsPlain (Any SpellsResults)
+pub ends_results : Ends EndsHere (Any SpellsResults)
 ends_results = ends_by make_results (ends_opt (λ p. refl))
 
 pub results_none : {ts : List Token} {xs : List Occ} → NoKey kw.Returns ts → xs ≡ [] → SpellsResults ts xs ts
@@ -243,7 +243,7 @@ exact_body : {b : Option Inside} {c : Span} {ts us : List Token} → SpellsBody 
 exact_body no_body = kept_rest (rest_end no_body) make_no_body (exact_tok tok)
 exact_body (a_body i) = kept_rest (rest_end (a_body i)) make_end (exact_seq (exact_tok tok) (exact_inside _ _ _ i))
 
-pub ends_end : Ends IsPlain AnEnd
+pub ends_end : Ends EndsHere AnEnd
 ends_end = ends_by make_no_body (ends_tok first_place refl)
 
 pub ended_none : {ts rest : List Token} {p : Span} → ts ≡ sign sg.Semicolon p ∷ rest → SpellsEnded ts (record { body = None; close = p }) rest
@@ -288,10 +288,10 @@ exact_procedure _ _ _ (a_procedure h r f g b) =
     (exact_seq (exact_header _ _ _ h)
     (exact_seq (exact_results _ _ _ r) (exact_seq (exact_clause (λ p. refl) _ _ (any f)) (exact_seq (exact_ensures _ _ (any g)) (exact_body b))))))))
 
-pub ends_after_results : Ends IsPlain AfterResults
+pub ends_after_results : Ends EndsHere AfterResults
 ends_after_results = ends_seq (ends_clause (λ p. refl)) (ends_seq ends_ensures ends_end)
 
-pub ends_after_bracket : Ends IsPlain AfterBracket
+pub ends_after_bracket : Ends EndsHere AfterBracket
 ends_after_bracket = ends_seq ends_header (ends_seq ends_results ends_after_results)
 
 -- in what comes after the bracket

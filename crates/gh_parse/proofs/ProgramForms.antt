@@ -14,7 +14,7 @@ use Rattle.gh_ast.specs.Tokens.{Token, named, key, sign, first_place}
 use Rattle.gh_ast.specs.Grammar.{NoSign, NoKey, SpellsWord, by_name, by_key, SpellsFields, no_fields, one_field, SpellsProcedure, SpellsProcedures, no_procedures, one_procedure, SpellsProgram, a_program}
 use Rattle.gh_ast.specs.Readings.{IsUnique}
 use Rattle.gh_ast.proofs.OneProgram.{one_word, one_fields}
-use Rattle.gh_parse.specs.Stops.{Tok, tok, Any, any, Seq, seq, IsPlain, IsEnd, SameNext, same, none}
+use Rattle.gh_parse.specs.Stops.{Tok, tok, Any, any, Seq, seq, EndsHere, IsEnd, SameNext, same, none}
 use Rattle.gh_parse.specs.Procedures.{SpellsField, Shape, SpellsShape, SpellsAll, SpellsToEnd}
 use Rattle.gh_parse.proofs.Rules.{Exact, exact_tok, exact_seq, exact_by, kept, kept_rest, each, taken_tok, by, begins_not, next, Ends, ends_tok, ends_seq, ends_by, plain_end}
 use Rattle.gh_parse.proofs.Turns.{Goes}
@@ -39,7 +39,7 @@ pub exact_word : {k : Keyword} {text : List ℕ} (ts us : List Token) → Any (S
 exact_word {k = k} {text = text} _ _ (any by_name) = kept _ (unique_word k text _) by_name make_word (exact_tok tok)
 exact_word {k = k} {text = text} _ _ (any by_key) = kept _ (unique_word k text _) by_key make_reserved (exact_tok tok)
 
-pub ends_word : {k : Keyword} {text : List ℕ} → Ends IsPlain (Any (SpellsWord k text))
+pub ends_word : {k : Keyword} {text : List ℕ} → Ends EndsHere (Any (SpellsWord k text))
 ends_word = ends_by make_word (ends_tok a_name refl)
 
 pub word_reserved : {k : Keyword} {text name : List ℕ} {ts rest : List Token} {p : Span} → ts ≡ key k p ∷ rest → name ≡ text → SpellsWord k text ts (record { name = name; span = p }) rest
@@ -73,7 +73,7 @@ exact_field _ _ (any f) =
     (exact_seq (exact_tok (taken_tok _ f.begins))
     (exact_seq (exact_word _ _ (any f.name)) (exact_seq (exact_tok (taken_tok _ f.middle)) (exact_seq (exact_word _ _ (any f.type)) (exact_tok (taken_tok _ f.ends))))))
 
-pub ends_after_name : Ends IsPlain (Seq (Tok (sign sg.Colon)) (Seq FieldType (Tok (sign sg.Semicolon))))
+pub ends_after_name : Ends EndsHere (Seq (Tok (sign sg.Colon)) (Seq FieldType (Tok (sign sg.Semicolon))))
 ends_after_name = ends_seq (ends_tok first_place refl) (ends_seq ends_word (ends_tok first_place refl))
 
 -- more fields in front
@@ -119,11 +119,11 @@ exact_fields (one_field a b i) =
 pub exact_shape : (ts us : List Token) → AShape ts us → Exact AShape ts us
 exact_shape ts us (any b) = exact_fields b
 
-pub ends_shape : Ends IsPlain AShape
+pub ends_shape : Ends EndsHere AShape
 ends_shape = ends_by make_no_fields (ends_tok first_place refl)
 
-pub shape_more : {start ts us : List Token} {f : Field} (xs ys : List Field) → Goes IsPlain SpellsShape SpellsShape ts start (shape_after xs) → SpellsField ts f us → NoSign sg.BraceClose ts → ys ≡ xs ++ f ∷ []
-    → Goes IsPlain SpellsShape SpellsShape us start (shape_after ys)
+pub shape_more : {start ts us : List Token} {f : Field} (xs ys : List Field) → Goes EndsHere SpellsShape SpellsShape ts start (shape_after xs) → SpellsField ts f us → NoSign sg.BraceClose ts → ys ≡ xs ++ f ∷ []
+    → Goes EndsHere SpellsShape SpellsShape us start (shape_after ys)
 shape_more {start = start} {ts = ts} {us = us} {f = f} xs ys g s n e =
     let d : (zs : List Field) → ys ++ zs ≡ xs ++ (f ∷ zs) = λ zs. ap (λ z. z ++ zs) e ∙ append_assoc xs (f ∷ []) zs in
     record {
@@ -132,7 +132,7 @@ shape_more {start = start} {ts = ts} {us = us} {f = f} xs ys g s n e =
       back = λ left i. g.back left (by make_fields (λ zs q k j. part_fields zs q (begins_not n k) j) (next exact_field (any s) i));
     }
 
-pub shape_spelled : {start ts rest : List Token} {xs : List Field} {p : Span} → Goes IsPlain SpellsShape SpellsShape ts start (shape_after xs) → ts ≡ sign sg.BraceClose p ∷ rest
+pub shape_spelled : {start ts rest : List Token} {xs : List Field} {p : Span} → Goes EndsHere SpellsShape SpellsShape ts start (shape_after xs) → ts ≡ sign sg.BraceClose p ∷ rest
     → SpellsShape start (record { fields = xs; close = p }) rest
 shape_spelled {start = start} {rest = rest} {xs = xs} {p = p} g e =
     subst (λ z. SpellsFields start z p rest) (append-nil xs) (g.forth (record { fields = []; close = p }) rest (subst (λ z. SpellsFields z [] p rest) (sym e) no_fields))

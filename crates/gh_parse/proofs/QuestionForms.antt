@@ -9,9 +9,9 @@ use Rattle.gh_ast.specs.Questions.{Claim, Question}
 use Rattle.gh_ast.specs.Grammar.{NoKey, SpellsLocals, last_local, next_local}
 use Rattle.gh_ast.specs.QuestionGrammar.{SpellsClaim, SpellsVariables, no_variables, some_variables, SpellsQuestion, a_question}
 use Rattle.gh_ast.proofs.OneQuestion.{one_claim, one_variables}
-use Rattle.gh_parse.specs.Stops.{Tok, tok, Any, any, Seq, seq, IsPlain, IsAny, IsEnd, IsAlike, SameNext, same, none, Stops}
+use Rattle.gh_parse.specs.Stops.{Tok, tok, Any, any, Seq, seq, EndsHere, IsAny, IsEnd, IsAlike, SameNext, same, none, Stops}
 use Rattle.gh_parse.specs.Procedures.{AddsLocals, SpellsToEnd}
-use Rattle.gh_parse.specs.Questions.{IsApart, IsLast}
+use Rattle.gh_parse.specs.Questions.{IsApart, SpellsWhole}
 use Rattle.gh_parse.proofs.Rules.{Breaks, after_any, alike_same, begins_not, form, by, through, first_any, next, after, each, Sentences, plain_first, plain_end}
 use Rattle.gh_parse.proofs.ValueForms.{a_name}
 use Rattle.gh_parse.proofs.ProcedureForms.{make_adds}
@@ -23,12 +23,12 @@ apart_key p rest = record { and = λ q us e. cc; or = λ q us e. cc }
 
 -- a claim after which no token is left
 abbrev pub Last : List Token → List Token → Type 0
-Last = Any (IsLast SpellsClaim)
+Last = Any (SpellsWhole SpellsClaim)
 
 make_last : {rest : List Token} (xs : List Token) → rest ≡ [] → Any SpellsClaim xs rest → Last xs rest
 make_last xs e (any a) = any (record { spelled = a; end = e })
 
-a_last : (rest : List Token) → IsEnd rest → (us : List Token) × IsPlain us × Last us rest
+a_last : (rest : List Token) → IsEnd rest → (us : List Token) × EndsHere us × Last us rest
 a_last rest e = let a = a_claim rest (apart_end e) in (a.0, a.1, make_last a.0 e a.2)
 
 -- reading a last claim stops where reading a claim does
@@ -160,7 +160,7 @@ past_word {p = p} {ts = ts} {us = us} {left = left} {xs = xs} v e s =
     (through (f.taken ++ word ∷ []) (λ zs r h. make_question (at zs) h) (λ zs r d h. part_question (at zs) h) s)
 
 pub question_spelled : {ts us vs ws zs rest : List Token} {p q : Span} {xs : List Occ} {c d : Claim} → SpellsVariables ts xs us → us ≡ key kw.Requires p ∷ vs → SpellsClaim vs c ws → ws ≡ key kw.Ensures q ∷ zs
-    → IsLast SpellsClaim zs d rest → SpellsToEnd SpellsQuestion ts (record { variables = xs; span = p; left = c; right = d }) rest
+    → SpellsWhole SpellsClaim zs d rest → SpellsToEnd SpellsQuestion ts (record { variables = xs; span = p; left = c; right = d }) rest
 question_spelled {ts = ts} {vs = vs} {zs = zs} {xs = xs} {c = c} {d = d} v e a f l =
     record {
       spelled = a_question (subst (λ z. SpellsVariables ts xs z) e v) (subst (λ z. SpellsClaim vs c z) f a) (subst (λ z. SpellsClaim zs d z) l.end l.spelled);
@@ -255,7 +255,7 @@ locals_more ts us {xs = xs} rest l =
 any_more : {old : List Occ} (ts us : List Token) (rest : List Token) → Any (AddsLocals old) (ts ++ us) [] → Any SpellsLocals (ts ++ (us ++ rest)) rest
 any_more ts us rest (any a) = any (locals_more ts us rest a.spelled)
 
-breaks_locals : {old : List Occ} {us left : List Token} → Stops IsPlain (Any (AddsLocals old)) us left → Breaks IsAny (Any SpellsLocals) us left
+breaks_locals : {old : List Occ} {us left : List Token} → Stops EndsHere (Any (AddsLocals old)) us left → Breaks IsAny (Any SpellsLocals) us left
 breaks_locals {old = old} s =
     record {
       before = s.before;
@@ -264,7 +264,7 @@ breaks_locals {old = old} s =
       stuck = λ us rest d h. s.stuck us rest d (make_adds _ rest h);
     }
 
-pub stops_declaration : {old : List Occ} {ts us left : List Token} (p : Span) → NoKey kw.Requires ts → ts ≡ key kw.Var p ∷ us → Stops IsPlain (Any (AddsLocals old)) us left → Stops IsAny (Any SpellsVariables) ts left
+pub stops_declaration : {old : List Occ} {ts us left : List Token} (p : Span) → NoKey kw.Requires ts → ts ≡ key kw.Var p ∷ us → Stops EndsHere (Any (AddsLocals old)) us left → Stops IsAny (Any SpellsVariables) ts left
 stops_declaration {ts = ts} {us = us} {left = left} p n e s =
     by make_some (λ xs r d h. part_some xs r (begins_not n d) h)
     (subst (λ z. Stops IsAny (Seq (Tok (key kw.Var)) (Any SpellsLocals)) z left) (sym e) (after_any p (breaks_locals s)))

@@ -2,12 +2,12 @@
 use Rattle.std.proofs.Common.{◌≡◌, List, [], ◌∷◌, ◌++◌, append_assoc, true, false, refl, sym, ap, subst}
 use Rattle.gh_ast.specs.Tokens.{Token}
 use Rattle.gh_ast.specs.Readings.{IsUnique}
-use Rattle.gh_parse.specs.Stops.{NoToken, Tok, tok, Any, any, Seq, seq, Opt, without, with, Then, and_then, Tail, ended, further, goes_on, IsPlain, IsAny, IsEnd, IsAlike, SameNext, same, none, Stops}
+use Rattle.gh_parse.specs.Stops.{NoToken, Tok, tok, Any, any, Seq, seq, Opt, without, with, Then, and_then, Tail, ended, further, goes_on, EndsHere, IsAny, IsEnd, IsAlike, SameNext, same, none, Stops}
 
 pub alike_same : (t : Token) (ts us : List Token) → IsAlike (t ∷ ts) (t ∷ us)
 alike_same t ts us k g n rest e = let p : t ∷ ts ≡ k ∷ ts = cc in n ts p
 
-pub alike_plain : (ts us : List Token) → IsPlain us → IsAlike ts us
+pub alike_plain : (ts us : List Token) → EndsHere us → IsAlike ts us
 alike_plain ts us p k g n = p k g
 
 pub alike_after : (a us vs : List Token) → IsAlike us vs → IsAlike (a ++ us) (a ++ vs)
@@ -18,10 +18,10 @@ pub alike_next : {ts us : List Token} → SameNext ts us → IsAlike ts us
 alike_next (same {t = t} {ts = ts} {us = us}) = alike_same t ts us
 alike_next none = λ k g n. n
 
-pub plain_first : (k : Token) (rest : List Token) → goes_on k ≡ false → IsPlain (k ∷ rest)
+pub plain_first : (k : Token) (rest : List Token) → goes_on k ≡ false → EndsHere (k ∷ rest)
 plain_first k rest f j g more e = let p : k ≡ j = cc in let q = ap goes_on p in cc
 
-pub plain_end : (rest : List Token) → IsEnd rest → IsPlain rest
+pub plain_end : (rest : List Token) → IsEnd rest → EndsHere rest
 plain_end rest e k g more f = cc
 
 pub next_after : (a : List Token) {ts us : List Token} → SameNext ts us → SameNext (a ++ ts) (a ++ us)
@@ -104,15 +104,15 @@ each f _ _ (any a) = f _ _ _ a
 
 -- a rule has a sentence before each rest that may follow, and it begins with nothing that goes on
 pub record Ends (F : List Token → Type 0) (P : List Token → List Token → Type 0) : Type 0 where
-  pub sentence : (rest : List Token) → F rest → (us : List Token) × IsPlain us × P us rest
+  pub sentence : (rest : List Token) → F rest → (us : List Token) × EndsHere us × P us rest
 
 pub ends_tok : {X : Type 0} {F : List Token → Type 0} {k : X → Token} (p : X) → goes_on (k p) ≡ false → Ends F (Tok k)
 ends_tok {k = k} p f = record { sentence = λ rest h. (k p ∷ rest, plain_first (k p) rest f, tok) }
 
-pub ends_seq : {F : List Token → Type 0} {A B : List Token → List Token → Type 0} → Ends IsPlain A → Ends F B → Ends F (Seq A B)
+pub ends_seq : {F : List Token → Type 0} {A B : List Token → List Token → Type 0} → Ends EndsHere A → Ends F B → Ends F (Seq A B)
 ends_seq f g = record { sentence = λ rest h. (let b = g.sentence rest h in let a = f.sentence b.0 b.1 in (a.0, a.1, seq a.2 b.2)) }
 
-pub ends_opt : {X : Type 0} {k : X → Token} {A : List Token → List Token → Type 0} → ((p : X) → goes_on (k p) ≡ true) → Ends IsPlain (Opt k A)
+pub ends_opt : {X : Type 0} {k : X → Token} {A : List Token → List Token → Type 0} → ((p : X) → goes_on (k p) ≡ true) → Ends EndsHere (Opt k A)
 ends_opt {k = k} g = record { sentence = λ rest h. (rest, h, without (λ p. h (k p) (g p))) }
 
 pub ends_by : {F : List Token → Type 0} {P Q : List Token → List Token → Type 0} → ((xs r : List Token) → P xs r → Q xs r) → Ends F P → Ends F Q
@@ -135,7 +135,7 @@ stops_tok {k = k} {ts = ts} p f n =
 pub stuck_seq : {A B : List Token → List Token → Type 0} {ts rest : List Token} → ((us : List Token) → A ts us → ⊥) → Seq A B ts rest → ⊥
 stuck_seq n (seq a b) = n _ a
 
-pub first : {F : List Token → Type 0} {A B : List Token → List Token → Type 0} {ts left : List Token} → Ends F B → Stops IsPlain A ts left → Stops F (Seq A B) ts left
+pub first : {F : List Token → Type 0} {A B : List Token → List Token → Type 0} {ts left : List Token} → Ends F B → Stops EndsHere A ts left → Stops F (Seq A B) ts left
 first f s =
     record {
       before = s.before;
@@ -204,9 +204,9 @@ pub opt_rest : {X : Type 0} {k : X → Token} {A : List Token → List Token →
 opt_rest p e (without n) = absurd (n _ _ e)
 opt_rest {A = A} {ts = ts} {rest = rest} p e (with {ts = ys} a) = let p : ys ≡ ts = cc in subst (λ z. A z rest) p a
 
-pub in_opt : {X : Type 0} {k : X → Token} {A : List Token → List Token → Type 0} {ts us left : List Token} (p : X) → us ≡ k p ∷ ts → Stops IsPlain A ts left → Stops IsPlain (Opt k A) us left
+pub in_opt : {X : Type 0} {k : X → Token} {A : List Token → List Token → Type 0} {ts us left : List Token} (p : X) → us ≡ k p ∷ ts → Stops EndsHere A ts left → Stops EndsHere (Opt k A) us left
 in_opt {k = k} {A = A} {left = left} p e f =
-    subst (λ z. Stops IsPlain (Opt k A) z left) (sym e) (through (k p ∷ []) (λ xs r h. with h) (λ xs r d h. opt_rest p refl h) f)
+    subst (λ z. Stops EndsHere (Opt k A) z left) (sym e) (through (k p ∷ []) (λ xs r h. with h) (λ xs r d h. opt_rest p refl h) f)
 
 -- after a token
 pub after : {X : Type 0} {k : X → Token} {F : List Token → Type 0} {B : List Token → List Token → Type 0} {ts us left : List Token} (p : X) → ts ≡ k p ∷ us → Stops F B us left → Stops F (Seq (Tok k) B) ts left
@@ -235,7 +235,7 @@ stuck_then : {X : Type 0} {A : List Token → X → List Token → Type 0} {B : 
 stuck_then n (and_then a b) = n _ (any a)
 
 pub first_then : {X : Type 0} {A : List Token → X → List Token → Type 0} {B : X → List Token → List Token → Type 0} {ts left : List Token}
-    → ((rest : List Token) → IsPlain rest → (us : List Token) × IsPlain us × ((x : X) → B x us rest)) → Stops IsPlain (Any A) ts left → Stops IsPlain (Then A B) ts left
+    → ((rest : List Token) → EndsHere rest → (us : List Token) × EndsHere us × ((x : X) → B x us rest)) → Stops EndsHere (Any A) ts left → Stops EndsHere (Then A B) ts left
 first_then f s =
     record {
       before = s.before;
@@ -270,7 +270,7 @@ next_then {A = A} {B = B} {ts = ts} {us = us} {x = x} exact a s =
 
 -- here, after tokens with which it could have gone on
 pub here : {F : List Token → Type 0} {Q : List Token → List Token → Type 0} {us : List Token} (a : List Token)
-    → ((rest : List Token) → F rest → (vs : List Token) × IsPlain vs × Q (a ++ vs) rest)
+    → ((rest : List Token) → F rest → (vs : List Token) × EndsHere vs × Q (a ++ vs) rest)
     → ((xs r : List Token) → SameNext us xs → Q (a ++ xs) r → ⊥) → Stops F Q (a ++ us) us
 here {us = us} a more refuse =
     record {

@@ -2,7 +2,7 @@
 use Rattle.std.proofs.Common.{◌≡◌, ◌≤◌, List, [], ◌∷◌, length, refl, ap}
 use Rattle.gh_ast.specs.Plain.{Statement, no_statements, statement_first, statements_of, Part}
 use Rattle.gh_ast.specs.Tokens.{Token}
-use Rattle.gh_parse.specs.Stops.{IsPlain}
+use Rattle.gh_parse.specs.Stops.{EndsHere}
 use Rattle.gh_parse.specs.Statements.{SpellsRun}
 use Rattle.gh_parse.proofs.Turns.{Goes, before}
 
@@ -16,5 +16,5 @@ part_before xs p = record { statements = before statement_first xs p.statements;
 
 -- the loop over statements
 pub record Runs (start now : List Token) (xs : List Statement) : Type 0 where
-  pub goes : Goes IsPlain SpellsRun SpellsRun now start (λ p. part_before xs p)
+  pub goes : Goes EndsHere SpellsRun SpellsRun now start (λ p. part_before xs p)
   pub left : length now ≤ length start

@@ -95,12 +95,12 @@ pub one_more : (p : ℕ → Bool) (done : List ℕ) (b n m : ℕ) → n ≡ coun
 one_more p done b n m e f = f ∙ ap (λ x. n + x) (from_bool_is (p b)) ∙ ap (λ x. x + cond (p b) 1 0) e ∙ sym (sum_by_push (λ x. cond (p x) 1 0) done b)
 
 -- the counts after one byte more
-pub record IsNext (text done left more : List ℕ) (b o c : ℕ) : Type 0 where
+pub record IsByteMore (text done left more : List ℕ) (b o c : ℕ) : Type 0 where
   pub parts : (done ++ b ∷ []) ++ more ≡ cleared text
   pub opened : o ≡ count_by opens (done ++ b ∷ [])
   pub closed : c ≡ count_by closes (done ++ b ∷ [])
 
-deep_is : (text done left more : List ℕ) (b o c : ℕ) → IsNext text done left more b o c → (n : ℕ) → n ≡ length (done ++ b ∷ [])
+deep_is : (text done left more : List ℕ) (b o c : ℕ) → IsByteMore text done left more b o c → (n : ℕ) → n ≡ length (done ++ b ∷ [])
     → (IsTooDeep text n → c + 64 < o) × (c + 64 < o → IsTooDeep text n)
 deep_is text done left more b o c s n e =
     let front : take n (cleared text) ≡ done ++ b ∷ [] = ap (λ k. take k (cleared text)) e ∙ front_done text (done ++ b ∷ []) more s.parts in
@@ -111,7 +111,7 @@ deep_is text done left more b o c s n e =
 long_by_one : (done : List ℕ) (b : ℕ) → length (done ++ b ∷ []) ≡ length done + 1
 long_by_one done b = length-append done (b ∷ [])
 
-pub scan_deep : (text done left more : List ℕ) (p : Span) (o c b o' c' : ℕ) → IsScan text done left p o c → left ≡ b ∷ more → IsNext text done left more b o' c'
+pub scan_deep : (text done left more : List ℕ) (p : Span) (o c b o' c' : ℕ) → IsScan text done left p o c → left ≡ b ∷ more → IsByteMore text done left more b o' c'
     → c' + 64 < o' → IsDeepPlace text p
 scan_deep text done left more p o c b o' c' s f n deep =
     let size = done_within text done left s.parts in
@@ -129,7 +129,7 @@ moved_push : (done : List ℕ) (p : Span) (b : ℕ) → moved_over p (done ++ b 
 moved_push [] p b = refl
 moved_push (x ∷ done) p b = moved_push done (moved p x) b
 
-pub scan_next : (text done left more : List ℕ) (p q : Span) (o c b o' c' : ℕ) → IsScan text done left p o c → IsNext text done left more b o' c'
+pub scan_next : (text done left more : List ℕ) (p q : Span) (o c b o' c' : ℕ) → IsScan text done left p o c → IsByteMore text done left more b o' c'
     → o' ≤ c' + 64 → q ≡ moved p b → IsScan text (done ++ b ∷ []) more q o' c'
 scan_next text done left more p q o c b o' c' s n flat m =
     record {
@@ -172,7 +172,7 @@ from_bool_small true = omega arith
 from_bool_small false = omega arith
 
 pub next_of : (text done left more : List ℕ) (p : Span) (o c b x y : ℕ) (r s : Bool) → IsScan text done left p o c → left ≡ b ∷ more
-    → x ≡ from_bool r → r ≡ opens b → y ≡ from_bool s → s ≡ closes b → IsNext text done left more b (o + x) (c + y)
+    → x ≡ from_bool r → r ≡ opens b → y ≡ from_bool s → s ≡ closes b → IsByteMore text done left more b (o + x) (c + y)
 next_of text done left more p o c b x y r s scan f xe re ye se =
     record {
       parts = split_on text done left more b scan.parts f;

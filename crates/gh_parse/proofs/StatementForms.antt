@@ -14,7 +14,7 @@ use Rattle.gh_ast.specs.Readings.{IsUnique}
 use Rattle.gh_ast.proofs.OneStatement.{one_statement, one_block, one_statements}
 use Rattle.gh_ast.proofs.Shorter.{shorter_test, shorter_clause}
 use Rattle.gh_ast.proofs.ShorterStatement.{shorter_block, shorter_statement}
-use Rattle.gh_parse.specs.Stops.{Tok, tok, Any, any, Seq, seq, Opt, without, with, Then, and_then, IsPlain, Stops}
+use Rattle.gh_parse.specs.Stops.{Tok, tok, Any, any, Seq, seq, Opt, without, with, Then, and_then, EndsHere, Stops}
 use Rattle.gh_parse.specs.Answers.{IsBetween}
 use Rattle.gh_parse.specs.Statements.{SpellsNamed, SpellsPart, SpellsRun}
 use Rattle.gh_parse.proofs.Rules.{Exact, exact_tok, exact_seq, exact_with, exact_without, kept, kept_rest, each, taken_tok, by, form, begins_not, next, first_then, Ends, ends_tok, ends_seq, ends_by}
@@ -146,10 +146,10 @@ part_name xs r (any e) = taken_tok _ e
 from_arguments : {o : Occ} {ts rest : List Token} → Arguments ts rest → Any (SpellsNamed o) ts rest
 from_arguments (any a) = any (bare_spelled a)
 
-any_named : (rest : List Token) → IsPlain rest → (us : List Token) × IsPlain us × ((o : Occ) → Any (SpellsNamed o) us rest)
+any_named : (rest : List Token) → EndsHere rest → (us : List Token) × EndsHere us × ((o : Occ) → Any (SpellsNamed o) us rest)
 any_named rest h = let s = ends_arguments.sentence rest h in (s.0, s.1, λ o. from_arguments s.2)
 
-pub no_statement : {ts left : List Token} → NoKey kw.Free ts → NoKey kw.Return ts → NoKey kw.If ts → NoKey kw.While ts → Stops IsPlain (Tok named) ts left → Stops IsPlain AStatement ts left
+pub no_statement : {ts left : List Token} → NoKey kw.Free ts → NoKey kw.Return ts → NoKey kw.If ts → NoKey kw.While ts → Stops EndsHere (Tok named) ts left → Stops EndsHere AStatement ts left
 no_statement k l m n s =
     by make_named (λ xs r d h. part_named xs r (begins_not k d) (begins_not l d) (begins_not m d) (begins_not n d) h) (first_then any_named (form make_name part_name s))
 
@@ -176,10 +176,10 @@ block_parts (a_block a) = seq tok (a_run a)
 pub part_block : (xs r : List Token) → ABlock xs r → Seq (Tok (sign sg.BraceOpen)) ARun xs r
 part_block xs r (any b) = block_parts b
 
-pub ends_run : Ends IsPlain ARun
+pub ends_run : Ends EndsHere ARun
 ends_run = ends_by make_last (ends_tok first_place refl)
 
-pub ends_block : Ends IsPlain ABlock
+pub ends_block : Ends EndsHere ABlock
 ends_block = ends_by make_block (ends_seq (ends_tok first_place refl) ends_run)
 
 -- each statement is exact

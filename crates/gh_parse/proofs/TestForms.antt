@@ -9,7 +9,7 @@ use Rattle.gh_ast.specs.Tokens.{Token, sign, first_place}
 use Rattle.gh_ast.specs.Plain.{Test, compare, negation, conjunction, disjunction, Tests, no_tests, test_first, test_of}
 use Rattle.gh_ast.specs.Grammar.{NoSign, SpellsExpr, plain, SpellsLit, negated, bracketed, equated, distinguished, SpellsConj, one_lit, lits, SpellsLits, last_lit, next_lit, SpellsTest, one_conj, conjs, SpellsConjs, last_conj, next_conj}
 use Rattle.gh_ast.proofs.OneTest.{one_literal, one_conjunction, one_literals, one_test, one_conjunctions}
-use Rattle.gh_parse.specs.Stops.{Tok, tok, Any, any, Seq, seq, Opt, without, with, IsPlain, goes_on, Stops}
+use Rattle.gh_parse.specs.Stops.{Tok, tok, Any, any, Seq, seq, Opt, without, with, EndsHere, goes_on, Stops}
 use Rattle.gh_parse.specs.Answers.{SpellsComparison, IsBetween}
 use Rattle.gh_parse.proofs.Rules.{Exact, exact_tok, exact_seq, exact_with, exact_without, exact_by, kept, each, taken_tok, form, next, in_opt, Ends, ends_tok, ends_seq, ends_opt, ends_by}
 use Rattle.gh_parse.proofs.Turns.{Goes, before}
@@ -42,7 +42,7 @@ pub exact_within : {X : Type 0} {opening closing : Sign} {P : List Token → X �
 exact_within f = exact_by make_between (part_between _) (exact_seq (exact_tok tok) (exact_seq f (exact_tok tok)))
 
 pub ends_between : {X : Type 0} {F : List Token → Type 0} {opening closing : Sign} {P : List Token → X → List Token → Type 0}
-    → ((p : Span) → goes_on (sign opening p) ≡ false) → ((p : Span) → goes_on (sign closing p) ≡ false) → Ends IsPlain (Any P) → Ends F (Any (IsBetween opening closing P))
+    → ((p : Span) → goes_on (sign opening p) ≡ false) → ((p : Span) → goes_on (sign closing p) ≡ false) → Ends EndsHere (Any P) → Ends F (Any (IsBetween opening closing P))
 ends_between f g e = ends_by make_between (ends_seq (ends_tok first_place (f first_place)) (ends_seq e (ends_tok first_place (g first_place))))
 
 abbrev pub Guard : Bool → List Token → List Token → Type 0
@@ -89,7 +89,7 @@ exact_signs _ _ (unequal {p = p}) = record { taken = sign sg.Unequal p ∷ []; s
 pub exact_comparison : (ts us : List Token) → Any SpellsComparison ts us → Exact (Any SpellsComparison) ts us
 exact_comparison ts us a = exact_by make_comparison (part_comparison ts) (exact_signs ts us (part_comparison ts us a))
 
-pub ends_comparison : Ends IsPlain (Any SpellsComparison)
+pub ends_comparison : Ends EndsHere (Any SpellsComparison)
 ends_comparison = ends_by make_unequal (ends_tok first_place refl)
 
 -- literals
@@ -195,19 +195,19 @@ mutual
   exact_conjs {reads = reads} _ _ _ (last_conj a n) = kept _ (one_conjunctions reads _) (last_conj a n) make_conjs (exact_seq (exact_conj _ _ _ a) (exact_without (λ p. refl) n))
   exact_conjs {reads = reads} _ _ _ (next_conj a b) = kept _ (one_conjunctions reads _) (next_conj a b) make_conjs (exact_seq (exact_conj _ _ _ a) (exact_with _ (exact_conjs _ _ _ b)))
 
-pub ends_lit : (reads : Bool) → Ends IsPlain (Any (SpellsLit reads))
+pub ends_lit : (reads : Bool) → Ends EndsHere (Any (SpellsLit reads))
 ends_lit reads = ends_by make_equation (ends_seq (ends_expr reads) (ends_seq ends_comparison (ends_expr reads)))
 
-pub ends_conj : (reads : Bool) → Ends IsPlain (Any (SpellsConj reads))
+pub ends_conj : (reads : Bool) → Ends EndsHere (Any (SpellsConj reads))
 ends_conj reads = ends_by make_conj (ends_seq (ends_lit reads) (ends_opt (λ p. refl)))
 
-pub ends_test : (reads : Bool) → Ends IsPlain (Any (SpellsTest reads))
+pub ends_test : (reads : Bool) → Ends EndsHere (Any (SpellsTest reads))
 ends_test reads = ends_by make_test (ends_seq (ends_conj reads) (ends_opt (λ p. refl)))
 
 pub exact_guard : {reads : Bool} (ts us : List Token) → Guard reads ts us → Exact (Guard reads) ts us
 exact_guard ts us a = exact_between (each exact_test) ts us a
 
-pub ends_guard : (reads : Bool) → Ends IsPlain (Guard reads)
+pub ends_guard : (reads : Bool) → Ends EndsHere (Guard reads)
 ends_guard reads = ends_between (λ p. refl) (λ p. refl) (ends_test reads)
 
 -- literals one by one
@@ -215,7 +215,7 @@ pub conjunction_alone : {reads : Bool} {ts us vs : List Token} {t : Test} → Sp
 conjunction_alone {reads = reads} {ts = ts} {t = t} a n e = subst (λ z. SpellsConj reads ts t z) (sym e) (one_lit a n)
 
 pub conjunction_start : {reads : Bool} {ts us vs : List Token} {p : Span} (xs ys : List Cond) (c : Cond) → SpellsLit reads ts (test_of c) us → us ≡ sign sg.And p ∷ vs → xs ≡ [] → ys ≡ xs ++ c ∷ []
-    → Goes IsPlain (SpellsLits reads) (SpellsConj reads) vs ts (λ l. conjunction (before (λ d. test_first (test_of d)) ys l))
+    → Goes EndsHere (SpellsLits reads) (SpellsConj reads) vs ts (λ l. conjunction (before (λ d. test_first (test_of d)) ys l))
 conjunction_start {reads = reads} {ts = ts} {p = p} xs ys c a e f g =
     record {
       forth = λ l rest h. rw (g, f) (lits (subst (λ z. SpellsLit reads ts (test_of c) z) e a) h);
@@ -223,7 +223,7 @@ conjunction_start {reads = reads} {ts = ts} {p = p} xs ys c a e f g =
     }
 
 pub literals_rest : {reads : Bool} {ts us vs : List Token} {t : Test} {p : Span} → SpellsLit reads ts t us → us ≡ sign sg.And p ∷ vs
-    → (left : List Token) → Stops IsPlain (Any (SpellsLits reads)) vs left → Stops IsPlain (Any (SpellsLits reads)) ts left
+    → (left : List Token) → Stops EndsHere (Any (SpellsLits reads)) vs left → Stops EndsHere (Any (SpellsLits reads)) ts left
 literals_rest {p = p} a e left s = form make_lits part_lits (next (each exact_lit) (any a) (in_opt p e s))
 
 pub literals_more : {reads : Bool} {ts us vs : List Token} {t : Test} {p : Span} → SpellsLit reads ts t us → us ≡ sign sg.And p ∷ vs → (l : Tests) (rest : List Token) → SpellsLits reads vs l rest
@@ -238,7 +238,7 @@ pub test_alone : {reads : Bool} {ts us vs : List Token} {t : Test} → SpellsCon
 test_alone {reads = reads} {ts = ts} {t = t} a n e = subst (λ z. SpellsTest reads ts t z) (sym e) (one_conj a n)
 
 pub test_start : {reads : Bool} {ts us vs : List Token} {p : Span} (xs ys : List Cond) (c : Cond) → SpellsConj reads ts (test_of c) us → us ≡ sign sg.Or p ∷ vs → xs ≡ [] → ys ≡ xs ++ c ∷ []
-    → Goes IsPlain (SpellsConjs reads) (SpellsTest reads) vs ts (λ l. disjunction (before (λ d. test_first (test_of d)) ys l))
+    → Goes EndsHere (SpellsConjs reads) (SpellsTest reads) vs ts (λ l. disjunction (before (λ d. test_first (test_of d)) ys l))
 test_start {reads = reads} {ts = ts} {p = p} xs ys c a e f g =
     record {
       forth = λ l rest h. rw (g, f) (conjs (subst (λ z. SpellsConj reads ts (test_of c) z) e a) h);
@@ -246,7 +246,7 @@ test_start {reads = reads} {ts = ts} {p = p} xs ys c a e f g =
     }
 
 pub conjunctions_rest : {reads : Bool} {ts us vs : List Token} {t : Test} {p : Span} → SpellsConj reads ts t us → us ≡ sign sg.Or p ∷ vs
-    → (left : List Token) → Stops IsPlain (Any (SpellsConjs reads)) vs left → Stops IsPlain (Any (SpellsConjs reads)) ts left
+    → (left : List Token) → Stops EndsHere (Any (SpellsConjs reads)) vs left → Stops EndsHere (Any (SpellsConjs reads)) ts left
 conjunctions_rest {p = p} a e left s = form make_conjs part_conjs (next (each exact_conj) (any a) (in_opt p e s))
 
 pub conjunctions_more : {reads : Bool} {ts us vs : List Token} {t : Test} {p : Span} → SpellsConj reads ts t us → us ≡ sign sg.Or p ∷ vs → (l : Tests) (rest : List Token) → SpellsConjs reads vs l rest

@@ -12,7 +12,7 @@ use Rattle.gh_ast.specs.declared.sign.Keyword.TheVariants as kw
 use Rattle.gh_ast.specs.Tokens.{Token, named, key, sign, first_place}
 use Rattle.gh_ast.specs.Grammar.{SpellsOperand, null_operand, variable, SpellsExpr, plain, read, SpellsExprs, last_expr, next_expr, SpellsValues, no_values, some_values}
 use Rattle.gh_ast.proofs.OneValue.{one_operand, one_expr, one_exprs, one_values}
-use Rattle.gh_parse.specs.Stops.{NoToken, Tok, tok, Any, any, Seq, seq, Then, and_then, Tail, ended, further, goes_on, IsPlain, Stops}
+use Rattle.gh_parse.specs.Stops.{NoToken, Tok, tok, Any, any, Seq, seq, Then, and_then, Tail, ended, further, goes_on, EndsHere, Stops}
 use Rattle.gh_parse.proofs.Rules.{Exact, exact_tok, exact_seq, exact_ended, exact_further, kept, ExactAs, exact_any, begins, through, here, begins_not, by, apart, Ends, ends_tok, ends_by, plain_first}
 
 -- a name for sentences that are made up
@@ -34,11 +34,11 @@ pub exact_operand : (ts us : List Token) → Any SpellsOperand ts us → Exact (
 exact_operand _ _ (any null_operand) = kept _ (one_operand _) null_operand make_null (exact_tok tok)
 exact_operand _ _ (any variable) = kept _ (one_operand _) variable make_name (exact_tok tok)
 
-pub ends_operand : Ends IsPlain (Any SpellsOperand)
+pub ends_operand : Ends EndsHere (Any SpellsOperand)
 ends_operand = ends_by make_name (ends_tok a_name refl)
 
 -- an operand is a name where `null` isn't next
-pub in_operand : {ts left : List Token} → NoToken (key kw.Null) ts → Stops IsPlain (Tok named) ts left → Stops IsPlain (Any SpellsOperand) ts left
+pub in_operand : {ts left : List Token} → NoToken (key kw.Null) ts → Stops EndsHere (Tok named) ts left → Stops EndsHere (Any SpellsOperand) ts left
 in_operand n s = by make_name (λ xs r d h. part_name xs r (begins_not n d) h) s
 
 -- expressions
@@ -82,7 +82,7 @@ exact_as_expr _ _ us (read {o = o} {p = p} {q = q}) =
 pub exact_expr : {reads : Bool} (ts us : List Token) → Any (SpellsExpr reads) ts us → Exact (Any (SpellsExpr reads)) ts us
 exact_expr _ _ (any a) = exact_any (exact_as_expr _ _ _ a)
 
-pub ends_expr : (reads : Bool) → Ends IsPlain (Any (SpellsExpr reads))
+pub ends_expr : (reads : Bool) → Ends EndsHere (Any (SpellsExpr reads))
 ends_expr reads =
     record { sentence = λ rest h. (named a_name ∷ rest, plain_first (named a_name) rest refl, any (plain variable (λ p. h (sign sg.Dot p) refl))) }
 
@@ -103,7 +103,7 @@ pub part_expr : {reads : Bool} (xs r : List Token) → Any (SpellsExpr reads) xs
 part_expr _ _ (any (plain a n)) = and_then a (no_read n)
 part_expr _ _ (any read) = and_then variable (a_read refl)
 
-pub ends_of : (reads : Bool) (rest : List Token) → IsPlain rest → (us : List Token) × IsPlain us × ((o : Operand) → EndOf reads o us rest)
+pub ends_of : (reads : Bool) (rest : List Token) → EndsHere rest → (us : List Token) × EndsHere us × ((o : Operand) → EndOf reads o us rest)
 ends_of reads rest h = (rest, h, λ o. no_read (λ p. h (sign sg.Dot p) refl))
 
 -- after a dot only a read is left
@@ -111,7 +111,7 @@ only_read : {reads : Bool} {o : Operand} {p : Span} {xs ys r : List Token} → x
 only_read e (no_read n) = absurd (n _ _ e)
 only_read e (a_read t) = (t, _, refl)
 
-pub no_read_here : {reads : Bool} {o : Operand} {p : Span} {us vs : List Token} → us ≡ sign sg.Dot p ∷ vs → ((at : Occ) → reads ≡ true → o ≡ operand.Var at → ⊥) → Stops IsPlain (EndOf reads o) us us
+pub no_read_here : {reads : Bool} {o : Operand} {p : Span} {us vs : List Token} → us ≡ sign sg.Dot p ∷ vs → ((at : Occ) → reads ≡ true → o ≡ operand.Var at → ⊥) → Stops EndsHere (EndOf reads o) us us
 no_read_here {reads = reads} {o = o} e n =
     here [] (λ rest h. (rest, h, no_read (λ p. h (sign sg.Dot p) refl))) (λ xs r d h. (let k = only_read (begins e d).1 h in n k.1 k.0 k.2))
 
@@ -122,10 +122,10 @@ next_read : {reads : Bool} {o : Operand} {p : Span} {zs xs r : List Token} → z
 next_read e (no_read n) = absurd (n _ _ e)
 next_read {xs = xs} {r = r} e (a_read {q = q} t) = let k : key kw.Next q ∷ r ≡ xs = cc in subst (λ z. Tok (key kw.Next) z r) k tok
 
-pub in_read : {reads : Bool} {o : Occ} {us vs left : List Token} (p : Span) → reads ≡ true → us ≡ sign sg.Dot p ∷ vs → Stops IsPlain (Tok (key kw.Next)) vs left
-    → Stops IsPlain (EndOf reads (operand.Var o)) us left
+pub in_read : {reads : Bool} {o : Occ} {us vs left : List Token} (p : Span) → reads ≡ true → us ≡ sign sg.Dot p ∷ vs → Stops EndsHere (Tok (key kw.Next)) vs left
+    → Stops EndsHere (EndOf reads (operand.Var o)) us left
 in_read {reads = reads} {o = o} {left = left} p t e s =
-    subst (λ z. Stops IsPlain (EndOf reads (operand.Var o)) z left) (sym e) (through (sign sg.Dot p ∷ []) (make_read p t) (λ xs r d h. next_read refl h) s)
+    subst (λ z. Stops EndsHere (EndOf reads (operand.Var o)) z left) (sym e) (through (sign sg.Dot p ∷ []) (make_read p t) (λ xs r d h. next_read refl h) s)
 
 pub variable_is : {ts us : List Token} {o : Operand} {at : Occ} → o ≡ operand.Var at → SpellsOperand ts o us → SpellsOperand ts (operand.Var at) us
 variable_is {ts = ts} {us = us} e a = subst (λ z. SpellsOperand ts z us) e a
@@ -165,7 +165,7 @@ pub exact_values : {close : Sign} → (close ≡ sg.Comma → ⊥) → (ts us : 
 exact_values {close = close} c _ _ (any no_values) = kept _ (one_values close _ c) no_values make_no_values (exact_tok tok)
 exact_values {close = close} c _ _ (any (some_values a)) = kept _ (one_values close _ c) (some_values a) make_values (exact_exprs c _ _ _ a)
 
-pub ends_values : {close : Sign} (p : Span) → goes_on (sign close p) ≡ false → Ends IsPlain (Any (SpellsValues close))
+pub ends_values : {close : Sign} (p : Span) → goes_on (sign close p) ≡ false → Ends EndsHere (Any (SpellsValues close))
 ends_values p f = ends_by make_no_values (ends_tok p f)
 
 pub values_at : {close : Sign} {ts us r : List Token} (es : List Expr) → us ≡ ts → SpellsExprs close us es r → SpellsValues close ts es r

@@ -50,8 +50,8 @@ IsMissing k ts left Unexpected = IsGap k ts left
 IsMissing k ts left OutOfMemory = ⊤
 
 -- the answer where one token of the kind k is asked for
-abbrev pub IsTaken : {X : Type 0} → (X → Token) → List Token → Result X ReadError → List Token → Type 0
-IsTaken k ts answer left = MatchResult answer (λ x. ts ≡ k x ∷ left) (IsMissing k ts left)
+abbrev pub TakesKind : {X : Type 0} → (X → Token) → List Token → Result X ReadError → List Token → Type 0
+TakesKind k ts answer left = MatchResult answer (λ x. ts ≡ k x ∷ left) (IsMissing k ts left)
 
 -- the next token is this sign, or this reserved word
 abbrev pub HasSign : signs.Sign → List Token → Type 0

@@ -51,8 +51,8 @@ abbrev pub NotNext : Token → List Token → Type 0
 NotNext t ts = (rest : List Token) → ts ≡ t ∷ rest → ⊥
 
 -- what may follow: nothing that goes on, anything, or the end alone
-abbrev pub IsPlain : List Token → Type 0
-IsPlain ts = (t : Token) → goes_on t ≡ true → NotNext t ts
+abbrev pub EndsHere : List Token → Type 0
+EndsHere ts = (t : Token) → goes_on t ≡ true → NotNext t ts
 
 abbrev pub IsAny : List Token → Type 0
 IsAny ts = ⊤

@@ -6,7 +6,7 @@ ghost use Rattle.gh_ast.specs.Tokens.{sign};
 ghost use Rattle.gh_ast.specs.Grammar.{SpellsItem, SpellsAssertion, SpellsAlternatives, SpellsClause, SpellsEnsures};
 ghost use Rattle.gh_ast.specs.Plain.{formula_of};
 ghost use Rattle.gh_parse.specs.Views.{tokens_of};
-ghost use Rattle.gh_parse.specs.Stops.{IsPlain, IsAny, goes_on};
+ghost use Rattle.gh_parse.specs.Stops.{EndsHere, IsAny, goes_on};
 ghost use Rattle.gh_parse.specs.Answers.{IsReadBy, IsBetween, IsAhead, HasKey};
 
 use crate::cursor::{Ahead, Parser};
@@ -18,7 +18,7 @@ use std::alloc::Global;
 impl<'t> Parser<'t> {
     /// Reads an assertion after its word. One that is missing is `emp`.
     pub fn clause(&mut self, alloc: Global, word: Keyword) -> Result<Assertion, ReadError>
-        ensures { IsReadBy IsPlain (SpellsClause word) self.old formula_of result self.new }
+        ensures { IsReadBy EndsHere (SpellsClause word) self.old formula_of result self.new }
     {
         let Some(_) = self.take_key(word) else {
             return Ok(Assertion::Emp);
@@ -28,7 +28,7 @@ impl<'t> Parser<'t> {
 
     /// Reads what comes after `ensures`, if the word is there: alternatives. Missing ones are `emp` alone.
     pub fn ensured(&mut self, alloc: Global) -> Result<Vec<Assertion>, ReadError>
-        ensures read { IsReadBy IsPlain SpellsEnsures self.old (λ fs. map formula_of fs.items) result self.new }
+        ensures read { IsReadBy EndsHere SpellsEnsures self.old (λ fs. map formula_of fs.items) result self.new }
         ensures some { IfOk result (λ fs. 0 < length fs.items) }
     {
         let Some(_) = self.take_key(Keyword::Ensures) else {
@@ -41,7 +41,7 @@ impl<'t> Parser<'t> {
 
     // Reads one assertion or more with `||` between two.
     fn alternatives(&mut self, alloc: Global) -> Result<Vec<Assertion>, ReadError>
-        ensures read { IsReadBy IsPlain SpellsAlternatives self.old (λ fs. map formula_of fs.items) result self.new }
+        ensures read { IsReadBy EndsHere SpellsAlternatives self.old (λ fs. map formula_of fs.items) result self.new }
         ensures some { IfOk result (λ fs. 0 < length fs.items) }
     {
         let mut alternatives = Vec::new(alloc);
@@ -56,7 +56,7 @@ impl<'t> Parser<'t> {
     /// Reads an assertion: items with `&*&` between them.
     #[cycle(assertion)]
     pub fn assertion(&mut self, alloc: Global) -> Result<Assertion, ReadError>
-        ensures { IsReadBy IsPlain SpellsAssertion self.old formula_of result self.new }
+        ensures { IsReadBy EndsHere SpellsAssertion self.old formula_of result self.new }
     {
         let first = self.item(alloc)?;
         let Some(_) = self.take_sign(Sign::Star) else {
@@ -75,7 +75,7 @@ impl<'t> Parser<'t> {
     // Reads one member of an assertion.
     #[cycle(assertion)]
     fn item(&mut self, alloc: Global) -> Result<Assertion, ReadError>
-        ensures { IsReadBy IsPlain SpellsItem self.old formula_of result self.new }
+        ensures { IsReadBy EndsHere SpellsItem self.old formula_of result self.new }
     {
         match self.ahead() {
             Ahead::Name => self.named_item(alloc),
@@ -88,7 +88,7 @@ impl<'t> Parser<'t> {
     #[cycle(assertion)]
     fn item_by_word(&mut self, alloc: Global, word: Keyword) -> Result<Assertion, ReadError>
         requires { HasKey word (tokens_of self.old.rest.now) }
-        ensures { IsReadBy IsPlain SpellsItem self.old formula_of result self.new }
+        ensures { IsReadBy EndsHere SpellsItem self.old formula_of result self.new }
     {
         match word {
             Keyword::Emp => {
@@ -107,7 +107,7 @@ impl<'t> Parser<'t> {
     #[cycle(assertion)]
     fn cases(&mut self, alloc: Global) -> Result<Assertion, ReadError>
         requires { HasKey Keyword.If (tokens_of self.old.rest.now) }
-        ensures { IsReadBy IsPlain SpellsItem self.old formula_of result self.new }
+        ensures { IsReadBy EndsHere SpellsItem self.old formula_of result self.new }
     {
         self.expect_key(Keyword::If)?;
         let test = self.enclosed_test(alloc, false)?;
@@ -142,7 +142,7 @@ impl<'t> Parser<'t> {
     // Reads `acc ( NAME )`.
     fn acc(&mut self, alloc: Global) -> Result<Assertion, ReadError>
         requires { HasKey Keyword.Acc (tokens_of self.old.rest.now) }
-        ensures { IsReadBy IsPlain SpellsItem self.old formula_of result self.new }
+        ensures { IsReadBy EndsHere SpellsItem self.old formula_of result self.new }
     {
         self.expect_key(Keyword::Acc)?;
         self.expect_sign(Sign::ParenOpen)?;
@@ -154,7 +154,7 @@ impl<'t> Parser<'t> {
     // Reads `lseg ( operand , operand )`.
     fn lseg(&mut self, alloc: Global) -> Result<Assertion, ReadError>
         requires { HasKey Keyword.Lseg (tokens_of self.old.rest.now) }
-        ensures { IsReadBy IsPlain SpellsItem self.old formula_of result self.new }
+        ensures { IsReadBy EndsHere SpellsItem self.old formula_of result self.new }
     {
         self.expect_key(Keyword::Lseg)?;
         self.expect_sign(Sign::ParenOpen)?;
@@ -168,7 +168,7 @@ impl<'t> Parser<'t> {
     // Reads a cell or a comparison that begins with a name.
     fn named_item(&mut self, alloc: Global) -> Result<Assertion, ReadError>
         requires { IsAhead Ahead.Name (tokens_of self.old.rest.now) }
-        ensures { IsReadBy IsPlain SpellsItem self.old formula_of result self.new }
+        ensures { IsReadBy EndsHere SpellsItem self.old formula_of result self.new }
     {
         let at = self.expect_name(alloc)?;
         if let Some(_) = self.take_sign(Sign::Dot) {
@@ -189,7 +189,7 @@ impl<'t> Parser<'t> {
     // Reads a comparison that begins with `null`.
     fn null_item(&mut self, alloc: Global) -> Result<Assertion, ReadError>
         requires { HasKey Keyword.Null (tokens_of self.old.rest.now) }
-        ensures { IsReadBy IsPlain SpellsItem self.old formula_of result self.new }
+        ensures { IsReadBy EndsHere SpellsItem self.old formula_of result self.new }
     {
         let span = self.expect_key(Keyword::Null)?;
         let equal = self.comparison_sign()?;

@@ -2,7 +2,7 @@
 
 ghost use Rattle.gh_ast.specs.Plain.{statement_of};
 ghost use Rattle.gh_parse.specs.Views.{tokens_of};
-ghost use Rattle.gh_parse.specs.Stops.{IsPlain};
+ghost use Rattle.gh_parse.specs.Stops.{EndsHere};
 ghost use Rattle.gh_parse.specs.Answers.{IsReadBy, HasSign};
 ghost use Rattle.gh_parse.specs.Statements.{IsVariableOf, SpellsArguments, SpellsTargetsFrom, SpellsNamed};
 
@@ -25,7 +25,7 @@ fn variable_of(value: Expr) -> Option<Occ>
 impl<'t> Parser<'t> {
     /// Reads values in brackets and the semicolon after them.
     pub fn arguments(&mut self, alloc: Global) -> Result<Vec<Expr>, ReadError>
-        ensures { IsReadBy IsPlain SpellsArguments self.old (λ v. v.items) result self.new }
+        ensures { IsReadBy EndsHere SpellsArguments self.old (λ v. v.items) result self.new }
     {
         self.expect_sign(Sign::ParenOpen)?;
         let values = self.values(alloc, Sign::ParenClose)?;
@@ -35,7 +35,7 @@ impl<'t> Parser<'t> {
 
     /// Reads the other targets of a call and `:=` after the first.
     pub fn targets(&mut self, alloc: Global, first: Occ) -> Result<Vec<Occ>, ReadError>
-        ensures { IsReadBy IsPlain (SpellsTargetsFrom first) self.old (λ v. v.items) result self.new }
+        ensures { IsReadBy EndsHere (SpellsTargetsFrom first) self.old (λ v. v.items) result self.new }
     {
         let mut targets = Vec::new(alloc);
         let mut name = first;
@@ -52,7 +52,7 @@ impl<'t> Parser<'t> {
     /// Reads a call from the comma after its first target on.
     pub fn call_to_many(&mut self, alloc: Global, first: Occ) -> Result<Stmt, ReadError>
         requires { HasSign Sign.Comma (tokens_of self.old.rest.now) }
-        ensures { IsReadBy IsPlain (SpellsNamed first) self.old statement_of result self.new }
+        ensures { IsReadBy EndsHere (SpellsNamed first) self.old statement_of result self.new }
     {
         let targets = self.targets(alloc, first)?;
         let callee = self.expect_name(alloc)?;
@@ -67,7 +67,7 @@ impl<'t> Parser<'t> {
     /// Reads a call without targets from its bracket on.
     pub fn bare_call(&mut self, alloc: Global, callee: Occ) -> Result<Stmt, ReadError>
         requires { HasSign Sign.ParenOpen (tokens_of self.old.rest.now) }
-        ensures { IsReadBy IsPlain (SpellsNamed callee) self.old statement_of result self.new }
+        ensures { IsReadBy EndsHere (SpellsNamed callee) self.old statement_of result self.new }
     {
         let arguments = self.arguments(alloc)?;
         Ok(Stmt::Call {
@@ -80,7 +80,7 @@ impl<'t> Parser<'t> {
     /// Reads a write from the dot after its name on.
     pub fn write(&mut self, alloc: Global, at: Occ) -> Result<Stmt, ReadError>
         requires { HasSign Sign.Dot (tokens_of self.old.rest.now) }
-        ensures { IsReadBy IsPlain (SpellsNamed at) self.old statement_of result self.new }
+        ensures { IsReadBy EndsHere (SpellsNamed at) self.old statement_of result self.new }
     {
         self.expect_sign(Sign::Dot)?;
         self.expect_key(Keyword::Next)?;
@@ -93,7 +93,7 @@ impl<'t> Parser<'t> {
     /// Reads an assignment, an allocation or a call to one target, from `:=` on.
     pub fn assignment(&mut self, alloc: Global, target: Occ) -> Result<Stmt, ReadError>
         requires { HasSign Sign.Assign (tokens_of self.old.rest.now) }
-        ensures { IsReadBy IsPlain (SpellsNamed target) self.old statement_of result self.new }
+        ensures { IsReadBy EndsHere (SpellsNamed target) self.old statement_of result self.new }
     {
         self.expect_sign(Sign::Assign)?;
         if self.is_key(Keyword::New) {
@@ -122,7 +122,7 @@ impl<'t> Parser<'t> {
 
     /// Reads a statement from the token after its first name on.
     pub fn named_statement(&mut self, alloc: Global, name: Occ) -> Result<Stmt, ReadError>
-        ensures { IsReadBy IsPlain (SpellsNamed name) self.old statement_of result self.new }
+        ensures { IsReadBy EndsHere (SpellsNamed name) self.old statement_of result self.new }
     {
         if self.is_sign(Sign::Assign) {
             return self.assignment(alloc, name);

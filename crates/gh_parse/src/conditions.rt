@@ -4,7 +4,7 @@ ghost use Rattle.gh_ast.specs.declared.sign.Sign.TheVariants.{ParenOpen, ParenCl
 ghost use Rattle.gh_ast.specs.Grammar.{SpellsLit, SpellsConj, SpellsTest, NoSign};
 ghost use Rattle.gh_ast.specs.Plain.{test_of};
 ghost use Rattle.gh_parse.specs.Views.{tokens_of};
-ghost use Rattle.gh_parse.specs.Stops.{IsPlain};
+ghost use Rattle.gh_parse.specs.Stops.{EndsHere};
 ghost use Rattle.gh_parse.specs.Answers.{IsReadBy, IsBetween, SpellsComparison};
 
 use crate::cursor::Parser;
@@ -18,7 +18,7 @@ impl<'t> Parser<'t> {
     /// `reads` says so.
     #[cycle(condition)]
     pub fn test(&mut self, alloc: Global, reads: bool) -> Result<Cond, ReadError>
-        ensures { IsReadBy IsPlain (SpellsTest reads) self.old test_of result self.new }
+        ensures { IsReadBy EndsHere (SpellsTest reads) self.old test_of result self.new }
     {
         let first = self.conjunction(alloc, reads)?;
         let Some(_) = self.take_sign(Sign::Or) else {
@@ -37,7 +37,7 @@ impl<'t> Parser<'t> {
     // Reads literals with `&&` between them.
     #[cycle(condition)]
     fn conjunction(&mut self, alloc: Global, reads: bool) -> Result<Cond, ReadError>
-        ensures { IsReadBy IsPlain (SpellsConj reads) self.old test_of result self.new }
+        ensures { IsReadBy EndsHere (SpellsConj reads) self.old test_of result self.new }
     {
         let first = self.literal(alloc, reads)?;
         let Some(_) = self.take_sign(Sign::And) else {
@@ -56,7 +56,7 @@ impl<'t> Parser<'t> {
     // Reads a comparison, or a test in brackets that may be denied.
     #[cycle(condition)]
     fn literal(&mut self, alloc: Global, reads: bool) -> Result<Cond, ReadError>
-        ensures { IsReadBy IsPlain (SpellsLit reads) self.old test_of result self.new }
+        ensures { IsReadBy EndsHere (SpellsLit reads) self.old test_of result self.new }
     {
         if self.is_sign(Sign::ParenOpen) {
             return self.enclosed_test(alloc, reads);
@@ -71,7 +71,7 @@ impl<'t> Parser<'t> {
     /// Reads a test in round brackets.
     #[cycle(condition)]
     pub fn enclosed_test(&mut self, alloc: Global, reads: bool) -> Result<Cond, ReadError>
-        ensures { IsReadBy IsPlain (IsBetween ParenOpen ParenClose (SpellsTest reads)) self.old test_of result self.new }
+        ensures { IsReadBy EndsHere (IsBetween ParenOpen ParenClose (SpellsTest reads)) self.old test_of result self.new }
     {
         self.expect_sign(Sign::ParenOpen)?;
         let test = self.test(alloc, reads)?;
@@ -83,7 +83,7 @@ impl<'t> Parser<'t> {
     fn equation(&mut self, alloc: Global, reads: bool) -> Result<Cond, ReadError>
         requires plain { NoSign Bang (tokens_of self.old.rest.now) }
         requires bare { NoSign ParenOpen (tokens_of self.old.rest.now) }
-        ensures { IsReadBy IsPlain (SpellsLit reads) self.old test_of result self.new }
+        ensures { IsReadBy EndsHere (SpellsLit reads) self.old test_of result self.new }
     {
         let left = self.expr(alloc, reads)?;
         let equal = self.comparison_sign()?;
@@ -93,7 +93,7 @@ impl<'t> Parser<'t> {
 
     /// Reads `==` or `!=`, and says whether it is `==`.
     pub fn comparison_sign(&mut self) -> Result<bool, ReadError>
-        ensures { IsReadBy IsPlain SpellsComparison self.old (λ b. b) result self.new }
+        ensures { IsReadBy EndsHere SpellsComparison self.old (λ b. b) result self.new }
     {
         if let Some(_) = self.take_sign(Sign::Equal) {
             return Ok(true);

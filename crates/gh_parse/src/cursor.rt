@@ -3,7 +3,7 @@
 ghost use Rattle.std.specs.Prelude.{◌≡◌, IfNone};
 ghost use Rattle.gh_ast.specs.Tokens.{named, key, sign};
 ghost use Rattle.gh_parse.specs.Views.{tokens_of};
-ghost use Rattle.gh_parse.specs.Answers.{IsTaken, IsSignTaken, IsKeyTaken, IsAhead, IsSignNext, IsKeyNext, next_place};
+ghost use Rattle.gh_parse.specs.Answers.{TakesKind, IsSignTaken, IsKeyTaken, IsAhead, IsSignNext, IsKeyNext, next_place};
 
 use crate::error::ReadError;
 use crate::token::{Symbol, Token};
@@ -109,7 +109,7 @@ impl<'t> Parser<'t> {
 
     /// Takes a sign; an error where it isn't next.
     pub fn expect_sign(&mut self, wanted: Sign) -> Result<Span, ReadError>
-        ensures { IsTaken (sign wanted) (tokens_of self.old.rest.now) result (tokens_of self.new.rest.now) }
+        ensures { TakesKind (sign wanted) (tokens_of self.old.rest.now) result (tokens_of self.new.rest.now) }
     {
         match self.take_sign(wanted) {
             Some(span) => Ok(span),
@@ -119,7 +119,7 @@ impl<'t> Parser<'t> {
 
     /// Takes a reserved word; an error where it isn't next.
     pub fn expect_key(&mut self, wanted: Keyword) -> Result<Span, ReadError>
-        ensures { IsTaken (key wanted) (tokens_of self.old.rest.now) result (tokens_of self.new.rest.now) }
+        ensures { TakesKind (key wanted) (tokens_of self.old.rest.now) result (tokens_of self.new.rest.now) }
     {
         match self.take_key(wanted) {
             Some(span) => Ok(span),
@@ -129,7 +129,7 @@ impl<'t> Parser<'t> {
 
     /// Takes a name; an error where none is next.
     pub fn expect_name(&mut self, alloc: Global) -> Result<Occ, ReadError>
-        ensures { IsTaken named (tokens_of self.old.rest.now) result (tokens_of self.new.rest.now) }
+        ensures { TakesKind named (tokens_of self.old.rest.now) result (tokens_of self.new.rest.now) }
     {
         match self.rest {
             [first, rest @ ..] => match first.symbol {

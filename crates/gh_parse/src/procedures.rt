@@ -2,7 +2,7 @@
 
 ghost use Rattle.gh_ast.specs.Grammar.{SpellsInside, SpellsParams, SpellsHeader, SpellsResults, SpellsProcedure};
 ghost use Rattle.gh_ast.specs.Plain.{inside_of, procedure_of};
-ghost use Rattle.gh_parse.specs.Stops.{IsPlain};
+ghost use Rattle.gh_parse.specs.Stops.{EndsHere};
 ghost use Rattle.gh_parse.specs.Answers.{IsReadBy};
 ghost use Rattle.gh_parse.specs.Procedures.{AddsLocals, SpellsEnded, ended_of};
 
@@ -23,7 +23,7 @@ pub struct Ending {
 impl<'t> Parser<'t> {
     /// Reads a declaration from its first name on, and puts its names after the locals.
     pub fn declaration(&mut self, alloc: Global, locals: &mut Vec<Occ>) -> Result<(), ReadError>
-        ensures { IsReadBy IsPlain (AddsLocals locals.old.items) self.old (λ _. locals.new.items) result self.new }
+        ensures { IsReadBy EndsHere (AddsLocals locals.old.items) self.old (λ _. locals.new.items) result self.new }
     {
         'names: loop {
             locals.push(self.expect_name(alloc)?)?;
@@ -39,7 +39,7 @@ impl<'t> Parser<'t> {
 
     /// Reads declarations, statements and the brace after them.
     pub fn inside(&mut self, alloc: Global) -> Result<Body, ReadError>
-        ensures { IsReadBy IsPlain SpellsInside self.old inside_of result self.new }
+        ensures { IsReadBy EndsHere SpellsInside self.old inside_of result self.new }
     {
         let mut locals = Vec::new(alloc);
         'declarations: while self.is_key(Keyword::Var) {
@@ -52,7 +52,7 @@ impl<'t> Parser<'t> {
 
     /// Reads one or more parameters with commas between them, and the bracket after them.
     pub fn parameters(&mut self, alloc: Global) -> Result<Vec<Occ>, ReadError>
-        ensures { IsReadBy IsPlain SpellsParams self.old (λ v. v.items) result self.new }
+        ensures { IsReadBy EndsHere SpellsParams self.old (λ v. v.items) result self.new }
     {
         let mut names = Vec::new(alloc);
         'names: loop {
@@ -69,7 +69,7 @@ impl<'t> Parser<'t> {
 
     /// Reads none or more parameters, and the bracket after them.
     pub fn header(&mut self, alloc: Global) -> Result<Vec<Occ>, ReadError>
-        ensures { IsReadBy IsPlain SpellsHeader self.old (λ v. v.items) result self.new }
+        ensures { IsReadBy EndsHere SpellsHeader self.old (λ v. v.items) result self.new }
     {
         if !self.is_sign(Sign::ParenClose) {
             return self.parameters(alloc);
@@ -80,7 +80,7 @@ impl<'t> Parser<'t> {
 
     /// Reads the results of a procedure, which may be missing.
     pub fn results(&mut self, alloc: Global) -> Result<Vec<Occ>, ReadError>
-        ensures { IsReadBy IsPlain SpellsResults self.old (λ v. v.items) result self.new }
+        ensures { IsReadBy EndsHere SpellsResults self.old (λ v. v.items) result self.new }
     {
         if !self.is_key(Keyword::Returns) {
             return Ok(Vec::new(alloc));
@@ -92,7 +92,7 @@ impl<'t> Parser<'t> {
 
     /// Reads a body, or a semicolon in its place.
     pub fn ending(&mut self, alloc: Global) -> Result<Ending, ReadError>
-        ensures { IsReadBy IsPlain SpellsEnded self.old ended_of result self.new }
+        ensures { IsReadBy EndsHere SpellsEnded self.old ended_of result self.new }
     {
         if self.is_sign(Sign::Semicolon) {
             let close = self.expect_sign(Sign::Semicolon)?;
@@ -109,7 +109,7 @@ impl<'t> Parser<'t> {
 
     /// Reads a procedure. Missing contracts are `emp`.
     pub fn procedure(&mut self, alloc: Global) -> Result<Procedure, ReadError>
-        ensures { IsReadBy IsPlain SpellsProcedure self.old procedure_of result self.new }
+        ensures { IsReadBy EndsHere SpellsProcedure self.old procedure_of result self.new }
     {
         self.expect_key(Keyword::Procedure)?;
         let name = self.expect_name(alloc)?;

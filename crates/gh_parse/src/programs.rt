@@ -5,7 +5,7 @@ ghost use Rattle.gh_ast.specs.Grammar.{SpellsWord, SpellsProgram};
 ghost use Rattle.gh_ast.specs.Tokens.{keyword_text};
 ghost use Rattle.gh_ast.specs.Plain.{procedure_of, program_of};
 ghost use Rattle.gh_parse.specs.Views.{tokens_of};
-ghost use Rattle.gh_parse.specs.Stops.{IsPlain, IsEnd};
+ghost use Rattle.gh_parse.specs.Stops.{EndsHere, IsEnd};
 ghost use Rattle.gh_parse.specs.Answers.{IsReadBy};
 ghost use Rattle.gh_parse.specs.Procedures.{SpellsField, SpellsShape, SpellsAll, SpellsToEnd, shape_of};
 
@@ -34,7 +34,7 @@ impl<'t> Parser<'t> {
 
     /// Reads a name, or a reserved word as if it were one.
     pub fn word(&mut self, alloc: Global, reserved: Keyword) -> Result<Occ, ReadError>
-        ensures { IsReadBy IsPlain (SpellsWord reserved (keyword_text reserved)) self.old (λ o. o) result self.new }
+        ensures { IsReadBy EndsHere (SpellsWord reserved (keyword_text reserved)) self.old (λ o. o) result self.new }
     {
         if !self.is_key(reserved) {
             return self.expect_name(alloc);
@@ -46,7 +46,7 @@ impl<'t> Parser<'t> {
 
     /// Reads a field.
     pub fn field(&mut self, alloc: Global) -> Result<Field, ReadError>
-        ensures { IsReadBy IsPlain SpellsField self.old (λ f. f) result self.new }
+        ensures { IsReadBy EndsHere SpellsField self.old (λ f. f) result self.new }
     {
         self.expect_key(Keyword::Var)?;
         let name = self.word(alloc, Keyword::Next)?;
@@ -61,7 +61,7 @@ impl<'t> Parser<'t> {
 
     /// Reads fields, and the brace after them.
     pub fn fields(&mut self, alloc: Global) -> Result<Fields, ReadError>
-        ensures { IsReadBy IsPlain SpellsShape self.old shape_of result self.new }
+        ensures { IsReadBy EndsHere SpellsShape self.old shape_of result self.new }
     {
         let mut fields = Vec::new(alloc);
         'fields: while !self.is_sign(Sign::BraceClose) {

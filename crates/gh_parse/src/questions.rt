@@ -5,7 +5,7 @@ ghost use Rattle.gh_ast.specs.Questions.{claim_of, question_of};
 ghost use Rattle.gh_parse.specs.Stops.{IsAny, IsEnd};
 ghost use Rattle.gh_parse.specs.Answers.{IsReadBy};
 ghost use Rattle.gh_parse.specs.Procedures.{SpellsToEnd};
-ghost use Rattle.gh_parse.specs.Questions.{IsLast};
+ghost use Rattle.gh_parse.specs.Questions.{SpellsWhole};
 ghost use Rattle.gh_ast.specs.QuestionGrammar.{SpellsClaim};
 
 use crate::cursor::Parser;
@@ -48,7 +48,7 @@ impl<'t> Parser<'t> {
 
     // Reads a claim after which no token is left.
     fn last_claim(&mut self, alloc: Global) -> Result<Claim, ReadError>
-        ensures { IsReadBy IsEnd (IsLast SpellsClaim) self.old claim_of result self.new }
+        ensures { IsReadBy IsEnd (SpellsWhole SpellsClaim) self.old claim_of result self.new }
     {
         let claim = self.claim(alloc)?;
         if !self.is_end() {

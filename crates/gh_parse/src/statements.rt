@@ -3,7 +3,7 @@
 ghost use Rattle.gh_ast.specs.Grammar.{SpellsStatement};
 ghost use Rattle.gh_ast.specs.Plain.{statement_of, part_of};
 ghost use Rattle.gh_parse.specs.Views.{tokens_of};
-ghost use Rattle.gh_parse.specs.Stops.{IsPlain};
+ghost use Rattle.gh_parse.specs.Stops.{EndsHere};
 ghost use Rattle.gh_parse.specs.Answers.{IsReadBy, HasKey};
 ghost use Rattle.gh_parse.specs.Statements.{SpellsPart, SpellsRun};
 
@@ -17,7 +17,7 @@ impl<'t> Parser<'t> {
     /// Reads `free` and what follows it.
     pub fn free_statement(&mut self, alloc: Global) -> Result<Stmt, ReadError>
         requires { HasKey Keyword.Free (tokens_of self.old.rest.now) }
-        ensures { IsReadBy IsPlain SpellsStatement self.old statement_of result self.new }
+        ensures { IsReadBy EndsHere SpellsStatement self.old statement_of result self.new }
     {
         self.expect_key(Keyword::Free)?;
         let at = self.expect_name(alloc)?;
@@ -28,7 +28,7 @@ impl<'t> Parser<'t> {
     /// Reads `return` and what follows it.
     pub fn return_statement(&mut self, alloc: Global) -> Result<Stmt, ReadError>
         requires { HasKey Keyword.Return (tokens_of self.old.rest.now) }
-        ensures { IsReadBy IsPlain SpellsStatement self.old statement_of result self.new }
+        ensures { IsReadBy EndsHere SpellsStatement self.old statement_of result self.new }
     {
         let span = self.expect_key(Keyword::Return)?;
         let values = self.values(alloc, Sign::Semicolon)?;
@@ -40,7 +40,7 @@ impl<'t> Parser<'t> {
     #[cycle(statement)]
     pub fn if_statement(&mut self, alloc: Global) -> Result<Stmt, ReadError>
         requires { HasKey Keyword.If (tokens_of self.old.rest.now) }
-        ensures { IsReadBy IsPlain SpellsStatement self.old statement_of result self.new }
+        ensures { IsReadBy EndsHere SpellsStatement self.old statement_of result self.new }
     {
         self.expect_key(Keyword::If)?;
         let test = self.enclosed_test(alloc, true)?;
@@ -69,7 +69,7 @@ impl<'t> Parser<'t> {
     #[cycle(statement)]
     pub fn while_statement(&mut self, alloc: Global) -> Result<Stmt, ReadError>
         requires { HasKey Keyword.While (tokens_of self.old.rest.now) }
-        ensures { IsReadBy IsPlain SpellsStatement self.old statement_of result self.new }
+        ensures { IsReadBy EndsHere SpellsStatement self.old statement_of result self.new }
     {
         let span = self.expect_key(Keyword::While)?;
         let test = self.enclosed_test(alloc, true)?;
@@ -86,7 +86,7 @@ impl<'t> Parser<'t> {
     /// Reads a statement.
     #[cycle(statement)]
     pub fn statement(&mut self, alloc: Global) -> Result<Stmt, ReadError>
-        ensures { IsReadBy IsPlain SpellsStatement self.old statement_of result self.new }
+        ensures { IsReadBy EndsHere SpellsStatement self.old statement_of result self.new }
     {
         if self.is_key(Keyword::Free) {
             return self.free_statement(alloc);
@@ -107,7 +107,7 @@ impl<'t> Parser<'t> {
     /// Reads statements up to a brace that closes, and the brace.
     #[cycle(statement)]
     pub fn statements(&mut self, alloc: Global) -> Result<Block, ReadError>
-        ensures { IsReadBy IsPlain SpellsRun self.old part_of result self.new }
+        ensures { IsReadBy EndsHere SpellsRun self.old part_of result self.new }
     {
         let mut statements = Vec::new(alloc);
         'run: while !self.is_sign(Sign::BraceClose) {
@@ -120,7 +120,7 @@ impl<'t> Parser<'t> {
     /// Reads statements between braces.
     #[cycle(statement)]
     pub fn block(&mut self, alloc: Global) -> Result<Block, ReadError>
-        ensures { IsReadBy IsPlain SpellsPart self.old part_of result self.new }
+        ensures { IsReadBy EndsHere SpellsPart self.old part_of result self.new }
     {
         self.expect_sign(Sign::BraceOpen)?;
         self.statements(alloc)

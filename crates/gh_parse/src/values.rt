@@ -4,7 +4,7 @@ ghost use Rattle.std.specs.Prelude.{◌≡◌, ◌≢◌, false};
 ghost use Rattle.gh_base.specs.declared.place.Span.{Span};
 ghost use Rattle.gh_ast.specs.Tokens.{sign};
 ghost use Rattle.gh_ast.specs.Grammar.{SpellsOperand, SpellsExpr, SpellsExprs, SpellsValues};
-ghost use Rattle.gh_parse.specs.Stops.{IsPlain, goes_on};
+ghost use Rattle.gh_parse.specs.Stops.{EndsHere, goes_on};
 ghost use Rattle.gh_parse.specs.Answers.{IsReadBy};
 
 use crate::cursor::Parser;
@@ -17,7 +17,7 @@ impl<'t> Parser<'t> {
     /// Reads a name or `null`.
     #[tactic(auto, using(gh_ast::specs::Grammar::null_operand, gh_ast::specs::Grammar::variable))]
     pub fn operand(&mut self, alloc: Global) -> Result<Operand, ReadError>
-        ensures { IsReadBy IsPlain SpellsOperand self.old (λ o. o) result self.new }
+        ensures { IsReadBy EndsHere SpellsOperand self.old (λ o. o) result self.new }
     {
         if let Some(span) = self.take_key(Keyword::Null) {
             return Ok(Operand::Null { span });
@@ -28,7 +28,7 @@ impl<'t> Parser<'t> {
     /// Reads a name or `null`, or `NAME . next` where reads may stand.
     #[tactic(auto, using(gh_ast::specs::Grammar::plain, gh_ast::specs::Grammar::read))]
     pub fn expr(&mut self, alloc: Global, reads: bool) -> Result<Expr, ReadError>
-        ensures { IsReadBy IsPlain (SpellsExpr reads) self.old (λ e. e) result self.new }
+        ensures { IsReadBy EndsHere (SpellsExpr reads) self.old (λ e. e) result self.new }
     {
         let operand = self.operand(alloc)?;
         if !self.is_sign(Sign::Dot) {
@@ -49,7 +49,7 @@ impl<'t> Parser<'t> {
     pub fn exprs(&mut self, alloc: Global, close: Sign) -> Result<Vec<Expr>, ReadError>
         requires apart { close ≢ Sign.Comma }
         requires ends { (p : Span) → goes_on (sign close p) ≡ false }
-        ensures { IsReadBy IsPlain (SpellsExprs close) self.old (λ es. es.items) result self.new }
+        ensures { IsReadBy EndsHere (SpellsExprs close) self.old (λ es. es.items) result self.new }
     {
         let mut exprs = Vec::new(alloc);
         'members: loop {
@@ -66,7 +66,7 @@ impl<'t> Parser<'t> {
     pub fn values(&mut self, alloc: Global, close: Sign) -> Result<Vec<Expr>, ReadError>
         requires apart { close ≢ Sign.Comma }
         requires ends { (p : Span) → goes_on (sign close p) ≡ false }
-        ensures { IsReadBy IsPlain (SpellsValues close) self.old (λ es. es.items) result self.new }
+        ensures { IsReadBy EndsHere (SpellsValues close) self.old (λ es. es.items) result self.new }
     {
         if let Some(_) = self.take_sign(close) {
             return Ok(Vec::new(alloc));

@@ -61,8 +61,8 @@ mutual
       let m = n + length (loops s) in
       ahead_lowered P n s (all_lowered P m ss g) ∙ ap (before s) (ahead_block P m ss g)
 
-pub ahead_entry : (P : Program) (p : Procedure) → ahead (graph_from P p whole_body) ≡ entry_ahead p
-ahead_entry P p = ahead_block P 0 (body_of p) (ends (returned p.close))
+pub ahead_entry : (P : Program) (proc : Procedure) → ahead (graph_from P proc whole_body) ≡ entry_ahead proc
+ahead_entry P proc = ahead_block P 0 (body_of proc) (ends (returned proc.close))
 
 pub ahead_round : (P : Program) (n : ℕ) (l : Loop) → ahead (once_around P n l) ≡ round_ahead l
 ahead_round P n l =
@@ -139,25 +139,25 @@ tells_both a b xs ys one two = record {
   reach = omega (arith, one.reach, two.reach, reach_append steps_of xs ys);
 }
 
-tells_round : (P : Program) (p : Procedure) (n : ℕ) (l : Loop) → IsLoopAt p n l → CoursesTell (round_ahead l) (map (course (round n)) (ways (graph_from P p (round n))))
-tells_round P p n l is =
-    let same : graph_from P p (round n) ≡ once_around P n l = ap (around P n) is in
-    subst (λ a. CoursesTell a (map (course (round n)) (ways (graph_from P p (round n))))) (ap ahead same ∙ ahead_round P n l) (tells_start (round n) (graph_from P p (round n)))
+tells_round : (P : Program) (proc : Procedure) (n : ℕ) (l : Loop) → IsLoopAt proc n l → CoursesTell (round_ahead l) (map (course (round n)) (ways (graph_from P proc (round n))))
+tells_round P proc n l is =
+    let same : graph_from P proc (round n) ≡ once_around P n l = ap (around P n) is in
+    subst (λ a. CoursesTell a (map (course (round n)) (ways (graph_from P proc (round n))))) (ap ahead same ∙ ahead_round P n l) (tells_start (round n) (graph_from P proc (round n)))
 
 -- the loops from the number n on
-tells_rounds : (P : Program) (p : Procedure) (n : ℕ) (ls : List Loop) → drop n (loops_of p) ≡ ls → CoursesTell (rounds_ahead ls) (from_starts P p (rounds n ls))
-tells_rounds P p n [] left = record { count = refl; reach = refl }
-tells_rounds P p n (l ∷ ls) left =
-    tells_both (round_ahead l) (rounds_ahead ls) (map (course (round n)) (ways (graph_from P p (round n)))) (from_starts P p (rounds (suc n) ls))
-    (tells_round P p n l (first_of (loops_of p) n l ls left))
-    (tells_rounds P p (suc n) ls (sym (rest_of (loops_of p) n l ls left)))
+tells_rounds : (P : Program) (proc : Procedure) (n : ℕ) (ls : List Loop) → drop n (loops_of proc) ≡ ls → CoursesTell (rounds_ahead ls) (from_starts P proc (rounds n ls))
+tells_rounds P proc n [] left = record { count = refl; reach = refl }
+tells_rounds P proc n (l ∷ ls) left =
+    tells_both (round_ahead l) (rounds_ahead ls) (map (course (round n)) (ways (graph_from P proc (round n)))) (from_starts P proc (rounds (suc n) ls))
+    (tells_round P proc n l (first_of (loops_of proc) n l ls left))
+    (tells_rounds P proc (suc n) ls (sym (rest_of (loops_of proc) n l ls left)))
 
-pub procedure_tells : (P : Program) (p : Procedure) → CoursesTell (procedure_ahead p) (courses_of P p)
-procedure_tells P p =
-    let g = graph_from P p whole_body in
-    tells_both (entry_ahead p) (rounds_ahead (loops_of p)) (map (course whole_body) (ways g)) (from_starts P p (rounds 0 (loops_of p)))
-    (subst (λ a. CoursesTell a (map (course whole_body) (ways g))) (ahead_entry P p) (tells_start whole_body g))
-    (tells_rounds P p 0 (loops_of p) refl)
+pub procedure_tells : (P : Program) (proc : Procedure) → CoursesTell (procedure_ahead proc) (courses_of P proc)
+procedure_tells P proc =
+    let g = graph_from P proc whole_body in
+    tells_both (entry_ahead proc) (rounds_ahead (loops_of proc)) (map (course whole_body) (ways g)) (from_starts P proc (rounds 0 (loops_of proc)))
+    (subst (λ a. CoursesTell a (map (course whole_body) (ways g))) (ahead_entry P proc) (tells_start whole_body g))
+    (tells_rounds P proc 0 (loops_of proc) refl)
 
 -- some member is past a number exactly where the reach is
 pub reach_some : {A : Type 0} (f : A → ℕ) (n : ℕ) (xs : List A) → n + 1 < reach_by f xs → Any (λ x. n < f x) xs
@@ -178,18 +178,18 @@ some_reach f n (w ∷ xs) x i more = elim (member_cases w xs x i) [
 ]
 
 -- the limits, read off what lies ahead
-pub many_paths : (P : Program) (p : Procedure) → most_conditions < (procedure_ahead p).count → HasManyPaths P p
-many_paths P p more = omega (arith, (procedure_tells P p).count, more)
+pub many_paths : (P : Program) (proc : Procedure) → most_conditions < (procedure_ahead proc).count → HasManyPaths P proc
+many_paths P proc more = omega (arith, (procedure_tells P proc).count, more)
 
-pub few_paths : (P : Program) (p : Procedure) → (procedure_ahead p).count ≤ most_conditions → HasManyPaths P p → ⊥
-few_paths P p less many = omega (arith, (procedure_tells P p).count, less, many)
+pub few_paths : (P : Program) (proc : Procedure) → (procedure_ahead proc).count ≤ most_conditions → HasManyPaths P proc → ⊥
+few_paths P proc less many = omega (arith, (procedure_tells P proc).count, less, many)
 
-pub many_steps : (P : Program) (p : Procedure) → most_steps + 1 < (procedure_ahead p).reach → HasManySteps P p
-many_steps P p more = reach_some steps_of most_steps (courses_of P p) (omega (arith, (procedure_tells P p).reach, more))
+pub many_steps : (P : Program) (proc : Procedure) → most_steps + 1 < (procedure_ahead proc).reach → HasManySteps P proc
+many_steps P proc more = reach_some steps_of most_steps (courses_of P proc) (omega (arith, (procedure_tells P proc).reach, more))
 
-pub few_steps : (P : Program) (p : Procedure) → (procedure_ahead p).reach ≤ most_steps + 1 → HasManySteps P p → ⊥
-few_steps P p less many = omega (arith, (procedure_tells P p).reach, less, some_reach steps_of most_steps (courses_of P p) many.1 (many.0, many.2, many.3) many.4)
+pub few_steps : (P : Program) (proc : Procedure) → (procedure_ahead proc).reach ≤ most_steps + 1 → HasManySteps P proc → ⊥
+few_steps P proc less many = omega (arith, (procedure_tells P proc).reach, less, some_reach steps_of most_steps (courses_of P proc) many.1 (many.0, many.2, many.3) many.4)
 
 -- where there are few, the number is exact
-pub count_is : (P : Program) (p : Procedure) → (procedure_ahead p).count ≤ most_conditions → (procedure_ahead p).count ≡ length (courses_of P p)
-count_is P p less = omega (arith, (procedure_tells P p).count, less)
+pub count_is : (P : Program) (proc : Procedure) → (procedure_ahead proc).count ≤ most_conditions → (procedure_ahead proc).count ≡ length (courses_of P proc)
+count_is P proc less = omega (arith, (procedure_tells P proc).count, less)

@@ -33,7 +33,7 @@ at_first (q ∷ qs) f p at = elim (cases_Bool (bytes_eq (name_of q) f)) [
 ]
 
 pub callees_are_numbered : CalleesAreNumbered
-callees_are_numbered P f p = (at_first P.procedures f p, first_at P.procedures f p)
+callees_are_numbered P f proc = (at_first P.procedures f proc, first_at P.procedures f proc)
 
 pub assigns_decides : AssignsDecides
 assigns_decides s y = (assigns_is s y, assigns_true s y)

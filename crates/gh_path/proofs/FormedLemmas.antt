@@ -115,24 +115,24 @@ mutual
   all_loops_formed (statement_first s ss) formed = both_formed (loops s) (all_loops ss) (loops_formed s formed.0) (all_loops_formed ss formed.1)
 
 -- the loops from the number n on
-many_rounds : (P : Program) (p : Procedure) (n : ℕ) (ls : List Loop) → drop n (loops_of p) ≡ ls → AreFormedLoops ls → length ls ≤ length (from_starts P p (rounds n ls))
-many_rounds P p n [] left formed = omega arith
-many_rounds P p n (l ∷ ls) left formed =
-    let g = graph_from P p (round n) in
+many_rounds : (P : Program) (proc : Procedure) (n : ℕ) (ls : List Loop) → drop n (loops_of proc) ≡ ls → AreFormedLoops ls → length ls ≤ length (from_starts P proc (rounds n ls))
+many_rounds P proc n [] left formed = omega arith
+many_rounds P proc n (l ∷ ls) left formed =
+    let g = graph_from P proc (round n) in
     let first = map (course (round n)) (ways g) in
     let last = ends (loop_end l.close n) in
     let one : HasWay (once_around P n l) = way_tested true l.test (all_lowered P (suc n) l.body last) dead_end formed.0.0 (inl (way_block P (suc n) l.body last formed.0.1 (omega arith))) in
-    let same : length (ways g) ≡ length (ways (once_around P n l)) = ap (λ o. length (ways (around P n o))) (first_of (loops_of p) n l ls left) in
+    let same : length (ways g) ≡ length (ways (once_around P n l)) = ap (λ o. length (ways (around P n o))) (first_of (loops_of proc) n l ls left) in
     let long : length first ≡ length (ways g) = length-map (ways g) (course (round n)) in
     let more : length (l ∷ ls) ≡ length ls + 1 = omega arith in
-    omega (arith, one, same, long, more, many_rounds P p (suc n) ls (sym (rest_of (loops_of p) n l ls left)) formed.1, length-append first (from_starts P p (rounds (suc n) ls)))
+    omega (arith, one, same, long, more, many_rounds P proc (suc n) ls (sym (rest_of (loops_of proc) n l ls left)) formed.1, length-append first (from_starts P proc (rounds (suc n) ls)))
 
 formed_statements : (b : Option Inside) → IsFormedBody b → AreFormedStatements (statements_in b)
 formed_statements None formed = tt
 formed_statements (Some i) formed = formed
 
-pub few_loops : (P : Program) (p : Procedure) → IsFormedBody p.body → length (courses_of P p) ≤ most_conditions → length (loops_of p) ≤ most_conditions
-few_loops P p formed few =
-    let first = map (course whole_body) (ways (graph_from P p whole_body)) in
-    let rest = from_starts P p (rounds 0 (loops_of p)) in
-    omega (arith, many_rounds P p 0 (loops_of p) refl (all_loops_formed (body_of p) (formed_statements p.body formed)), few, length-append first rest)
+pub few_loops : (P : Program) (proc : Procedure) → IsFormedBody proc.body → length (courses_of P proc) ≤ most_conditions → length (loops_of proc) ≤ most_conditions
+few_loops P proc formed few =
+    let first = map (course whole_body) (ways (graph_from P proc whole_body)) in
+    let rest = from_starts P proc (rounds 0 (loops_of proc)) in
+    omega (arith, many_rounds P proc 0 (loops_of proc) refl (all_loops_formed (body_of proc) (formed_statements proc.body formed)), few, length-append first rest)

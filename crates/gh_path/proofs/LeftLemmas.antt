@@ -14,7 +14,7 @@ use Rattle.gh_path.specs.Kept.{start_of, condition_of}
 use Rattle.gh_path.specs.Shown.{AreHeld, Shows}
 use Rattle.gh_path.specs.Routes.{way, AreToCome, IsReached}
 use Rattle.gh_path.specs.Roots.{on_ways, graph_of, AreRoots, AreStarts, IsAfter}
-use Rattle.gh_path.specs.Walks.{AreLeft, IsBefore, come_to, IsAt, HasCome, Reaches, Gives, IsGiven, Lends, lent}
+use Rattle.gh_path.specs.Walks.{AreLeft, IsWalkBefore, come_to, IsAt, HasCome, Reaches, Gives, IsGiven, Lends, lent}
 use Rattle.gh_path.specs.declared.condition.Condition as kept
 use Rattle.gh_path.specs.declared.node.Asked.{Asked}
 use Rattle.gh_path.specs.declared.node.Node.{Node}
@@ -28,10 +28,10 @@ use Rattle.gh_path.specs.declared.walk.Walk.{Walk}
 pub at_left : (P : Program) (s : Walk) (cs : List Condition) → AreRoots P s.starts.now.nodes (s.present ∷ drop s.next s.starts.now.roots.items) cs →
     ((g : Graph) → Shows s.starts.now.nodes s.present.node g → AreToCome s.starts.now.nodes s.route.taken.items s.route.onward (ways g)) →
     AreHeld s.starts.now.nodes s.held.items s.condition.steps.items → AreLeft P s cs
-at_left P s cs (p, ds, root, rest, split) come held = record {
-  ways = ways (graph_of P p s.present);
+at_left P s cs (proc, ds, root, rest, split) come held = record {
+  ways = ways (graph_of P proc s.present);
   later = ds;
-  here = come (graph_of P p s.present) root.shows;
+  here = come (graph_of P proc s.present) root.shows;
   after = rest;
   are = split;
   held = held;
@@ -70,7 +70,7 @@ drop_one_more (suc k) (x ∷ xs) =
     let same : suc (k + 1) ≡ suc k + 1 = omega arith in
     drop_one_more k xs ∙ ap (λ n. drop n (x ∷ xs)) same
 
-passed : (P : Program) (s t : Walk) (ds : List Condition) (found : Option Asked) → IsBefore P s ds → Reaches s t found → t.given ≡ s.given → t.end ≡ s.end → IsBefore P (record t { given = t.given + 1 }) (drop 1 ds)
+passed : (P : Program) (s t : Walk) (ds : List Condition) (found : Option Asked) → IsWalkBefore P s ds → Reaches s t found → t.given ≡ s.given → t.end ≡ s.end → IsWalkBefore P (record t { given = t.given + 1 }) (drop 1 ds)
 passed P s t [] found before reach given end = record { count = omega (arith, before.count, given, end); left = λ less. absurd (omega (arith, before.count, given, end, less)) }
 passed P s t (d ∷ ds) found before reach given end =
     let more : length (d ∷ ds) ≡ length ds + 1 = omega arith in
@@ -84,12 +84,12 @@ passed P s t (d ∷ ds) found before reach given end =
         tail : (c : Condition) (cs : List Condition) → c ∷ cs ≡ d ∷ ds → cs ≡ ds
         tail c cs e = cc
 
-pub pass_one : (P : Program) (r s t : Walk) (cs : List Condition) (found : Option Asked) → r.given ≤ s.given → IsBefore P s (drop (s.given - r.given) cs) → Reaches s t found → t.given ≡ s.given → t.end ≡ s.end →
-    IsBefore P (record t { given = t.given + 1 }) (drop (t.given + 1 - r.given) cs)
+pub pass_one : (P : Program) (r s t : Walk) (cs : List Condition) (found : Option Asked) → r.given ≤ s.given → IsWalkBefore P s (drop (s.given - r.given) cs) → Reaches s t found → t.given ≡ s.given → t.end ≡ s.end →
+    IsWalkBefore P (record t { given = t.given + 1 }) (drop (t.given + 1 - r.given) cs)
 pass_one P r s t cs found low before reach given end =
     let k = s.given - r.given in
     let place : k + 1 ≡ t.given + 1 - r.given = omega (arith, low, given) in
-    subst (λ ds. IsBefore P (record t { given = t.given + 1 }) ds) (drop_one_more k cs ∙ ap (λ n. drop n cs) place)
+    subst (λ ds. IsWalkBefore P (record t { given = t.given + 1 }) ds) (drop_one_more k cs ∙ ap (λ n. drop n cs) place)
     (passed P s t (drop k cs) found before reach given end)
 
 -- what stands after a place in the last part of a list

@@ -83,13 +83,13 @@ mutual
   ]
 
 -- a loop of a procedure assigns variables of it alone
-pub loop_is_over : (P : Program) → IsTyped P → (p : Procedure) → Contains P.procedures p → (n : ℕ) (l : Loop) → IsLoopAt p n l → NamesIn (variable_names p) l.body
-loop_is_over P typed p declared n l at =
-    loops_names (variable_names p) (body_of p) l
+pub loop_is_over : (P : Program) → IsTyped P → (proc : Procedure) → Contains P.procedures proc → (n : ℕ) (l : Loop) → IsLoopAt proc n l → NamesIn (variable_names proc) l.body
+loop_is_over P typed proc declared n l at =
+    loops_names (variable_names proc) (body_of proc) l
     (λ y m.
-    let found = mentions false (body_of p) y m in
-    subst (Contains (variable_names p)) found.2 (mention_is_variable P typed p declared found.0 (site_in_body p (mentioned found.0) found.1)))
-    (n, slice_get_within (loops_of p) n l at, get_or_from_slice_get (loops_of p) n l l at)
+    let found = mentions false (body_of proc) y m in
+    subst (Contains (variable_names proc)) found.2 (mention_is_variable P typed proc declared found.0 (site_in_body proc (mentioned found.0) found.1)))
+    (n, slice_get_within (loops_of proc) n l at, get_or_from_slice_get (loops_of proc) n l l at)
 
 -- the test of what is assigned
 either_true : (a b : Bool) → (a ≡ true) ⊎ (b ≡ true) → (a || b) ≡ true

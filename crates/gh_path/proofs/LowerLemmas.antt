@@ -8,7 +8,7 @@ use Rattle.gh_ast.specs.declared.Stmt.{Stmt}
 use Rattle.gh_ast.specs.Plain.{Program, Test, Statement, test_of, tests_view, statement_of, statements_view}
 use Rattle.gh_path.specs.Graphs.{Graph, reads, all_reads, tested, all_tested, some_tested, loops, all_loops, lowered, all_lowered}
 use Rattle.gh_path.specs.Lowered.{first_loops}
-use Rattle.gh_path.specs.Shown.{Shows, Adds}
+use Rattle.gh_path.specs.Shown.{Shows, AddsNodes}
 use Rattle.gh_path.specs.declared.node.Node.{Node}
 use Rattle.gh_path.proofs.ShownLemmas.{then, still}
 use Rattle.gh_path.proofs.ListLemmas.{next}
@@ -18,57 +18,57 @@ earlier : {A : Type 0} (xs : List A) (left i : ℕ) (x : A) → i + 1 ≡ left �
 earlier xs left i x one within is = next xs i x within is ∙ ap (λ n. x ∷ drop n xs) one
 
 pub reads_more : (ns ms ks : List Node) (xs : List Expr) (left i : ℕ) (x : Expr) (a b : ℕ) (g : Graph) → i + 1 ≡ left → i < length xs → x ≡ get_or xs i x →
-    Adds ns ms a (all_reads (drop left xs) g) → ((h : Graph) → Shows ms a h → Adds ms ks b (reads x h)) → Adds ns ks b (all_reads (drop i xs) g)
+    AddsNodes ns ms a (all_reads (drop left xs) g) → ((h : Graph) → Shows ms a h → AddsNodes ms ks b (reads x h)) → AddsNodes ns ks b (all_reads (drop i xs) g)
 reads_more ns ms ks xs left i x a b g one within is adds more =
     let h = all_reads (drop left xs) g in
-    subst (λ ys. Adds ns ks b (all_reads ys g)) (sym (earlier xs left i x one within is)) (then ns ms ks a b h (reads x h) adds (more h adds.shows))
+    subst (λ ys. AddsNodes ns ks b (all_reads ys g)) (sym (earlier xs left i x one within is)) (then ns ms ks a b h (reads x h) adds (more h adds.shows))
 
 pub all_more : (ns ms ks : List Node) (xs : List Cond) (left i : ℕ) (x : Cond) (a b q : ℕ) (g k : Graph) → i + 1 ≡ left → i < length xs → x ≡ get_or xs i x →
-    Shows ns q k → Adds ns ms a (all_tested (tests_view (drop left xs)) g k) →
-    ((h m : Graph) → Shows ms a h → Shows ms q m → Adds ms ks b (tested (test_of x) h m)) → Adds ns ks b (all_tested (tests_view (drop i xs)) g k)
+    Shows ns q k → AddsNodes ns ms a (all_tested (tests_view (drop left xs)) g k) →
+    ((h m : Graph) → Shows ms a h → Shows ms q m → AddsNodes ms ks b (tested (test_of x) h m)) → AddsNodes ns ks b (all_tested (tests_view (drop i xs)) g k)
 all_more ns ms ks xs left i x a b q g k one within is other adds more =
     let h = all_tested (tests_view (drop left xs)) g k in
-    subst (λ ys. Adds ns ks b (all_tested (tests_view ys) g k)) (sym (earlier xs left i x one within is))
+    subst (λ ys. AddsNodes ns ks b (all_tested (tests_view ys) g k)) (sym (earlier xs left i x one within is))
     (then ns ms ks a b h (tested (test_of x) h k) adds (more h k adds.shows (still ns ms a q h k adds other)))
 
 pub some_more : (ns ms ks : List Node) (xs : List Cond) (left i : ℕ) (x : Cond) (a b q : ℕ) (g k : Graph) → i + 1 ≡ left → i < length xs → x ≡ get_or xs i x →
-    Shows ns q g → Adds ns ms a (some_tested (tests_view (drop left xs)) g k) →
-    ((m h : Graph) → Shows ms q m → Shows ms a h → Adds ms ks b (tested (test_of x) m h)) → Adds ns ks b (some_tested (tests_view (drop i xs)) g k)
+    Shows ns q g → AddsNodes ns ms a (some_tested (tests_view (drop left xs)) g k) →
+    ((m h : Graph) → Shows ms q m → Shows ms a h → AddsNodes ms ks b (tested (test_of x) m h)) → AddsNodes ns ks b (some_tested (tests_view (drop i xs)) g k)
 some_more ns ms ks xs left i x a b q g k one within is other adds more =
     let h = some_tested (tests_view (drop left xs)) g k in
-    subst (λ ys. Adds ns ks b (some_tested (tests_view ys) g k)) (sym (earlier xs left i x one within is))
+    subst (λ ys. AddsNodes ns ks b (some_tested (tests_view ys) g k)) (sym (earlier xs left i x one within is))
     (then ns ms ks a b h (tested (test_of x) g h) adds (more g h (still ns ms a q h g adds other) adds.shows))
 
 -- the first loop of the statement x has the number n, and that of those after it m
 pub block_more : (P : Program) (ns ms ks : List Node) (xs : List Stmt) (left i : ℕ) (x : Stmt) (n m a b : ℕ) (g : Graph) → i + 1 ≡ left → i < length xs → x ≡ get_or xs i x →
-    m ≡ n + length (loops (statement_of x)) → Adds ns ms a (all_lowered P m (statements_view (drop left xs)) g) → ((h : Graph) → Shows ms a h → Adds ms ks b (lowered P n (statement_of x) h)) →
-    Adds ns ks b (all_lowered P n (statements_view (drop i xs)) g)
+    m ≡ n + length (loops (statement_of x)) → AddsNodes ns ms a (all_lowered P m (statements_view (drop left xs)) g) → ((h : Graph) → Shows ms a h → AddsNodes ms ks b (lowered P n (statement_of x) h)) →
+    AddsNodes ns ks b (all_lowered P n (statements_view (drop i xs)) g)
 block_more P ns ms ks xs left i x n m a b g one within is sum adds more =
     let k = n + length (loops (statement_of x)) in
     let h = all_lowered P k (statements_view (drop left xs)) g in
-    let rest : Adds ns ms a h = subst (λ j. Adds ns ms a (all_lowered P j (statements_view (drop left xs)) g)) sum adds in
-    subst (λ ys. Adds ns ks b (all_lowered P n (statements_view ys) g)) (sym (earlier xs left i x one within is))
+    let rest : AddsNodes ns ms a h = subst (λ j. AddsNodes ns ms a (all_lowered P j (statements_view (drop left xs)) g)) sum adds in
+    subst (λ ys. AddsNodes ns ks b (all_lowered P n (statements_view ys) g)) (sym (earlier xs left i x one within is))
     (then ns ms ks a b h (lowered P n (statement_of x) h) rest (more h rest.shows))
 
 -- at the front of a list
-pub reads_whole : (ns ms : List Node) (xs : List Expr) (left a : ℕ) (g : Graph) → left ≡ 0 → Adds ns ms a (all_reads (drop left xs) g) → Adds ns ms a (all_reads xs g)
-reads_whole ns ms xs left a g none adds = subst (λ n. Adds ns ms a (all_reads (drop n xs) g)) none adds
+pub reads_whole : (ns ms : List Node) (xs : List Expr) (left a : ℕ) (g : Graph) → left ≡ 0 → AddsNodes ns ms a (all_reads (drop left xs) g) → AddsNodes ns ms a (all_reads xs g)
+reads_whole ns ms xs left a g none adds = subst (λ n. AddsNodes ns ms a (all_reads (drop n xs) g)) none adds
 
-pub all_whole : (ns ms : List Node) (xs : List Cond) (left a : ℕ) (g k : Graph) → left ≡ 0 → Adds ns ms a (all_tested (tests_view (drop left xs)) g k) → Adds ns ms a (all_tested (tests_view xs) g k)
-all_whole ns ms xs left a g k none adds = subst (λ n. Adds ns ms a (all_tested (tests_view (drop n xs)) g k)) none adds
+pub all_whole : (ns ms : List Node) (xs : List Cond) (left a : ℕ) (g k : Graph) → left ≡ 0 → AddsNodes ns ms a (all_tested (tests_view (drop left xs)) g k) → AddsNodes ns ms a (all_tested (tests_view xs) g k)
+all_whole ns ms xs left a g k none adds = subst (λ n. AddsNodes ns ms a (all_tested (tests_view (drop n xs)) g k)) none adds
 
-pub some_whole : (ns ms : List Node) (xs : List Cond) (left a : ℕ) (g k : Graph) → left ≡ 0 → Adds ns ms a (some_tested (tests_view (drop left xs)) g k) → Adds ns ms a (some_tested (tests_view xs) g k)
-some_whole ns ms xs left a g k none adds = subst (λ n. Adds ns ms a (some_tested (tests_view (drop n xs)) g k)) none adds
+pub some_whole : (ns ms : List Node) (xs : List Cond) (left a : ℕ) (g k : Graph) → left ≡ 0 → AddsNodes ns ms a (some_tested (tests_view (drop left xs)) g k) → AddsNodes ns ms a (some_tested (tests_view xs) g k)
+some_whole ns ms xs left a g k none adds = subst (λ n. AddsNodes ns ms a (some_tested (tests_view (drop n xs)) g k)) none adds
 
-pub block_whole : (P : Program) (ns ms : List Node) (xs : List Stmt) (n left a : ℕ) (g : Graph) → left ≡ 0 → Adds ns ms a (all_lowered P n (statements_view (drop left xs)) g) → Adds ns ms a (all_lowered P n (statements_view xs) g)
-block_whole P ns ms xs n left a g none adds = subst (λ k. Adds ns ms a (all_lowered P n (statements_view (drop k xs)) g)) none adds
+pub block_whole : (P : Program) (ns ms : List Node) (xs : List Stmt) (n left a : ℕ) (g : Graph) → left ≡ 0 → AddsNodes ns ms a (all_lowered P n (statements_view (drop left xs)) g) → AddsNodes ns ms a (all_lowered P n (statements_view xs) g)
+block_whole P ns ms xs n left a g none adds = subst (λ k. AddsNodes ns ms a (all_lowered P n (statements_view (drop k xs)) g)) none adds
 
 -- a test and a statement by their plain forms
-pub test_is : (ns ms : List Node) (i : ℕ) (x y : Test) (g k : Graph) → x ≡ y → Adds ns ms i (tested y g k) → Adds ns ms i (tested x g k)
-test_is ns ms i x y g k same adds = subst (λ z. Adds ns ms i (tested z g k)) (sym same) adds
+pub test_is : (ns ms : List Node) (i : ℕ) (x y : Test) (g k : Graph) → x ≡ y → AddsNodes ns ms i (tested y g k) → AddsNodes ns ms i (tested x g k)
+test_is ns ms i x y g k same adds = subst (λ z. AddsNodes ns ms i (tested z g k)) (sym same) adds
 
-pub statement_is : (P : Program) (n : ℕ) (ns ms : List Node) (i : ℕ) (x y : Statement) (g : Graph) → x ≡ y → Adds ns ms i (lowered P n y g) → Adds ns ms i (lowered P n x g)
-statement_is P n ns ms i x y g same adds = subst (λ z. Adds ns ms i (lowered P n z g)) (sym same) adds
+pub statement_is : (P : Program) (n : ℕ) (ns ms : List Node) (i : ℕ) (x y : Statement) (g : Graph) → x ≡ y → AddsNodes ns ms i (lowered P n y g) → AddsNodes ns ms i (lowered P n x g)
+statement_is P n ns ms i x y g same adds = subst (λ z. AddsNodes ns ms i (lowered P n z g)) (sym same) adds
 
 -- numbers of first loops: each of them, with how many loops come from its statement on, makes the same sum
 abbrev pub loops_from : ℕ → List Stmt → ℕ

@@ -24,88 +24,88 @@ use Rattle.gh_path.proofs.SuitLemmas.{body_calls, all_loops_called, inside_few}
 
 -- all numbers on the paths of a graph
 abbrev AllThere : Program → Procedure → Graph → Type 0
-AllThere P p dead_end = Unit {0}
-AllThere P p (ends c) = CheckIsThere P p c
-AllThere P p (moves s g) = StepIsThere P p s × AllThere P p g
-AllThere P p (guarded c s g) = CheckIsThere P p c × StepIsThere P p s × AllThere P p g
-AllThere P p (fork l e r g k) = AllThere P p g × AllThere P p k
+AllThere P proc dead_end = Unit {0}
+AllThere P proc (ends c) = CheckIsThere P proc c
+AllThere P proc (moves s g) = StepIsThere P proc s × AllThere P proc g
+AllThere P proc (guarded c s g) = CheckIsThere P proc c × StepIsThere P proc s × AllThere P proc g
+AllThere P proc (fork l e r g k) = AllThere P proc g × AllThere P proc k
 
-path_there : (P : Program) (p : Procedure) (g : Graph) (ss : List PathStep) (c : Check) → Path g ss c → AllThere P p g → All (StepIsThere P p) ss × CheckIsThere P p c
-path_there P p _ _ _ (at_end {c = c}) A = (All-nil (StepIsThere P p), A)
-path_there P p _ _ _ (arrived {g = g} {p = s} {c = c}) A = (All-nil (StepIsThere P p), A.0)
-path_there P p _ _ _ (Path.past {g = g} {d = d} {p = s} {ps = ss} {c = c} path) A =
-    let rest = path_there P p g ss c path A.2 in
-    (All-cons (StepIsThere P p) s ss A.1 rest.0, rest.1)
-path_there P p _ _ _ (Path.on {g = g} {p = s} {ps = ss} {c = c} path) A =
-    let rest = path_there P p g ss c path A.1 in
-    (All-cons (StepIsThere P p) s ss A.0 rest.0, rest.1)
-path_there P p _ _ _ (on_true {l = l} {e = e} {r = r} {g = g} {k = k} {ps = ss} {c = c} path) A =
-    let rest = path_there P p g ss c path A.0 in
-    (All-cons (StepIsThere P p) (assume l e r) ss tt rest.0, rest.1)
-path_there P p _ _ _ (on_false {l = l} {e = e} {r = r} {g = g} {k = k} {ps = ss} {c = c} path) A =
-    let rest = path_there P p k ss c path A.1 in
-    (All-cons (StepIsThere P p) (assume l (not e) r) ss tt rest.0, rest.1)
+path_there : (P : Program) (proc : Procedure) (g : Graph) (ss : List PathStep) (c : Check) → Path g ss c → AllThere P proc g → All (StepIsThere P proc) ss × CheckIsThere P proc c
+path_there P proc _ _ _ (at_end {c = c}) A = (All-nil (StepIsThere P proc), A)
+path_there P proc _ _ _ (arrived {g = g} {p = s} {c = c}) A = (All-nil (StepIsThere P proc), A.0)
+path_there P proc _ _ _ (Path.past {g = g} {d = d} {p = s} {ps = ss} {c = c} path) A =
+    let rest = path_there P proc g ss c path A.2 in
+    (All-cons (StepIsThere P proc) s ss A.1 rest.0, rest.1)
+path_there P proc _ _ _ (Path.on {g = g} {p = s} {ps = ss} {c = c} path) A =
+    let rest = path_there P proc g ss c path A.1 in
+    (All-cons (StepIsThere P proc) s ss A.0 rest.0, rest.1)
+path_there P proc _ _ _ (on_true {l = l} {e = e} {r = r} {g = g} {k = k} {ps = ss} {c = c} path) A =
+    let rest = path_there P proc g ss c path A.0 in
+    (All-cons (StepIsThere P proc) (assume l e r) ss tt rest.0, rest.1)
+path_there P proc _ _ _ (on_false {l = l} {e = e} {r = r} {g = g} {k = k} {ps = ss} {c = c} path) A =
+    let rest = path_there P proc k ss c path A.1 in
+    (All-cons (StepIsThere P proc) (assume l (not e) r) ss tt rest.0, rest.1)
 
-reads_there : (P : Program) (p : Procedure) (e : Expr) (g : Graph) → AllThere P p g → AllThere P p (reads e g)
-reads_there P p (Plain o) g A = A
-reads_there P p (Read o) g A = (tt, tt, A)
+reads_there : (P : Program) (proc : Procedure) (e : Expr) (g : Graph) → AllThere P proc g → AllThere P proc (reads e g)
+reads_there P proc (Plain o) g A = A
+reads_there P proc (Read o) g A = (tt, tt, A)
 
-all_reads_there : (P : Program) (p : Procedure) (es : List Expr) (g : Graph) → AllThere P p g → AllThere P p (all_reads es g)
-all_reads_there P p [] g A = A
-all_reads_there P p (e ∷ es) g A = reads_there P p e (all_reads es g) (all_reads_there P p es g A)
+all_reads_there : (P : Program) (proc : Procedure) (es : List Expr) (g : Graph) → AllThere P proc g → AllThere P proc (all_reads es g)
+all_reads_there P proc [] g A = A
+all_reads_there P proc (e ∷ es) g A = reads_there P proc e (all_reads es g) (all_reads_there P proc es g A)
 
 mutual
-  tested_there : (P : Program) (p : Procedure) (t : Test) (g k : Graph) → AllThere P p g → AllThere P p k → AllThere P p (tested t g k)
-  tested_there P p (compare l e r) g k A B = reads_there P p l (reads r (fork l e r g k)) (reads_there P p r (fork l e r g k) (A, B))
-  tested_there P p (negation t) g k A B = tested_there P p t k g B A
-  tested_there P p (conjunction ts) g k A B = all_tested_there P p ts g k A B
-  tested_there P p (disjunction ts) g k A B = some_tested_there P p ts g k A B
+  tested_there : (P : Program) (proc : Procedure) (t : Test) (g k : Graph) → AllThere P proc g → AllThere P proc k → AllThere P proc (tested t g k)
+  tested_there P proc (compare l e r) g k A B = reads_there P proc l (reads r (fork l e r g k)) (reads_there P proc r (fork l e r g k) (A, B))
+  tested_there P proc (negation t) g k A B = tested_there P proc t k g B A
+  tested_there P proc (conjunction ts) g k A B = all_tested_there P proc ts g k A B
+  tested_there P proc (disjunction ts) g k A B = some_tested_there P proc ts g k A B
 
-  all_tested_there : (P : Program) (p : Procedure) (ts : Tests) (g k : Graph) → AllThere P p g → AllThere P p k → AllThere P p (all_tested ts g k)
-  all_tested_there P p no_tests g k A B = A
-  all_tested_there P p (test_first t ts) g k A B = tested_there P p t (all_tested ts g k) k (all_tested_there P p ts g k A B) B
+  all_tested_there : (P : Program) (proc : Procedure) (ts : Tests) (g k : Graph) → AllThere P proc g → AllThere P proc k → AllThere P proc (all_tested ts g k)
+  all_tested_there P proc no_tests g k A B = A
+  all_tested_there P proc (test_first t ts) g k A B = tested_there P proc t (all_tested ts g k) k (all_tested_there P proc ts g k A B) B
 
-  some_tested_there : (P : Program) (p : Procedure) (ts : Tests) (g k : Graph) → AllThere P p g → AllThere P p k → AllThere P p (some_tested ts g k)
-  some_tested_there P p no_tests g k A B = B
-  some_tested_there P p (test_first t ts) g k A B = tested_there P p t g (some_tested ts g k) A (some_tested_there P p ts g k A B)
+  some_tested_there : (P : Program) (proc : Procedure) (ts : Tests) (g k : Graph) → AllThere P proc g → AllThere P proc k → AllThere P proc (some_tested ts g k)
+  some_tested_there P proc no_tests g k A B = B
+  some_tested_there P proc (test_first t ts) g k A B = tested_there P proc t g (some_tested ts g k) A (some_tested_there P proc ts g k A B)
 
 -- the loops of a statement are among those of the procedure from the number n on
 mutual
-  lowered_there : (P : Program) (p : Procedure) (n : ℕ) (s : Statement) (g : Graph) → CallsAreKnown P s → n + length (loops s) ≤ length (loops_of p) → AllThere P p g → AllThere P p (lowered P n s g)
-  lowered_there P p n (set x e) g known room A = reads_there P p e (moves (assigned x e) g) (tt, A)
-  lowered_there P p n (new x) g known room A = (tt, A)
-  lowered_there P p n (write x e) g known room A = reads_there P p e (visits x (moves (written x e) g)) (tt, tt, (tt, A))
-  lowered_there P p n (free x) g known room A = (tt, tt, (tt, A))
-  lowered_there P p n (call xs f es) g known room A =
+  lowered_there : (P : Program) (proc : Procedure) (n : ℕ) (s : Statement) (g : Graph) → CallsAreKnown P s → n + length (loops s) ≤ length (loops_of proc) → AllThere P proc g → AllThere P proc (lowered P n s g)
+  lowered_there P proc n (set x e) g known room A = reads_there P proc e (moves (assigned x e) g) (tt, A)
+  lowered_there P proc n (new x) g known room A = (tt, A)
+  lowered_there P proc n (write x e) g known room A = reads_there P proc e (visits x (moves (written x e) g)) (tt, tt, (tt, A))
+  lowered_there P proc n (free x) g known room A = (tt, tt, (tt, A))
+  lowered_there P proc n (call xs f es) g known room A =
       let m = number_of P f.name in
-      all_reads_there P p es (guarded (entry f.span m es) (called xs m es) g) (known, known, A)
-  lowered_there P p n (choice t a c b d) g known room A =
+      all_reads_there P proc es (guarded (entry f.span m es) (called xs m es) g) (known, known, A)
+  lowered_there P proc n (choice t a c b d) g known room A =
       let m = n + length (all_loops a) in
-      let both : n + (length (all_loops a) + length (all_loops b)) ≤ length (loops_of p) = omega (arith, room, length-append (all_loops a) (all_loops b)) in
-      tested_there P p t (all_lowered P n a g) (all_lowered P m b g) (all_there P p n a g known.0 (omega (arith, both)) A) (all_there P p m b g known.1 (omega (arith, both)) A)
-  lowered_there P p n (loop at t i body close) g known room A =
-      let low : n < length (loops_of p) = omega (arith, room) in
-      (low, low, tested_there P p t dead_end g tt A)
-  lowered_there P p n (give at es) g known room A = all_reads_there P p es (moves (answered es) (ends (returned at))) (tt, tt)
+      let both : n + (length (all_loops a) + length (all_loops b)) ≤ length (loops_of proc) = omega (arith, room, length-append (all_loops a) (all_loops b)) in
+      tested_there P proc t (all_lowered P n a g) (all_lowered P m b g) (all_there P proc n a g known.0 (omega (arith, both)) A) (all_there P proc m b g known.1 (omega (arith, both)) A)
+  lowered_there P proc n (loop at t i body close) g known room A =
+      let low : n < length (loops_of proc) = omega (arith, room) in
+      (low, low, tested_there P proc t dead_end g tt A)
+  lowered_there P proc n (give at es) g known room A = all_reads_there P proc es (moves (answered es) (ends (returned at))) (tt, tt)
 
-  all_there : (P : Program) (p : Procedure) (n : ℕ) (ss : Statements) (g : Graph) → AllCallsAreKnown P ss → n + length (all_loops ss) ≤ length (loops_of p) → AllThere P p g → AllThere P p (all_lowered P n ss g)
-  all_there P p n no_statements g known room A = A
-  all_there P p n (statement_first s ss) g known room A =
+  all_there : (P : Program) (proc : Procedure) (n : ℕ) (ss : Statements) (g : Graph) → AllCallsAreKnown P ss → n + length (all_loops ss) ≤ length (loops_of proc) → AllThere P proc g → AllThere P proc (all_lowered P n ss g)
+  all_there P proc n no_statements g known room A = A
+  all_there P proc n (statement_first s ss) g known room A =
       let m = n + length (loops s) in
-      let both : n + (length (loops s) + length (all_loops ss)) ≤ length (loops_of p) = omega (arith, room, length-append (loops s) (all_loops ss)) in
-      lowered_there P p n s (all_lowered P m ss g) known.0 (omega (arith, both)) (all_there P p m ss g known.1 (omega (arith, both)) A)
+      let both : n + (length (loops s) + length (all_loops ss)) ≤ length (loops_of proc) = omega (arith, room, length-append (loops s) (all_loops ss)) in
+      lowered_there P proc n s (all_lowered P m ss g) known.0 (omega (arith, both)) (all_there P proc m ss g known.1 (omega (arith, both)) A)
 
-around_there : (P : Program) (p : Procedure) (n : ℕ) (o : Option Loop) → AllCallsAreKnown P (body_of p) → slice_get (loops_of p) n ≡ o → AllThere P p (around P n o)
-around_there P p n None known is = tt
-around_there P p n (Some l) known is =
+around_there : (P : Program) (proc : Procedure) (n : ℕ) (o : Option Loop) → AllCallsAreKnown P (body_of proc) → slice_get (loops_of proc) n ≡ o → AllThere P proc (around P n o)
+around_there P proc n None known is = tt
+around_there P proc n (Some l) known is =
     let last = ends (loop_end l.close n) in
-    let low : n < length (loops_of p) = slice_get_within (loops_of p) n l is in
-    let room : suc n + length (all_loops l.body) ≤ length (loops_of p) = omega (arith, inside_few p n l is) in
-    tested_there P p l.test (all_lowered P (suc n) l.body last) dead_end (all_there P p (suc n) l.body last (all_loops_called P (body_of p) known n l is) room low) tt
+    let low : n < length (loops_of proc) = slice_get_within (loops_of proc) n l is in
+    let room : suc n + length (all_loops l.body) ≤ length (loops_of proc) = omega (arith, inside_few proc n l is) in
+    tested_there P proc l.test (all_lowered P (suc n) l.body last) dead_end (all_there P proc (suc n) l.body last (all_loops_called P (body_of proc) known n l is) room low) tt
 
-graph_there : (P : Program) (p : Procedure) (a : Start) → AllCallsAreKnown P (body_of p) → AllThere P p (graph_from P p a)
-graph_there P p whole_body known = all_there P p 0 (body_of p) (ends (returned p.close)) known (omega arith) tt
-graph_there P p (round n) known = around_there P p n (slice_get (loops_of p) n) known refl
+graph_there : (P : Program) (proc : Procedure) (a : Start) → AllCallsAreKnown P (body_of proc) → AllThere P proc (graph_from P proc a)
+graph_there P proc whole_body known = all_there P proc 0 (body_of proc) (ends (returned proc.close)) known (omega arith) tt
+graph_there P proc (round n) known = around_there P proc n (slice_get (loops_of proc) n) known refl
 
 rounds_there : (p : Procedure) (n : ℕ) (ls : List Loop) (a : Start) → n + length ls ≤ length (loops_of p) → Contains (rounds n ls) a → StartIsThere p a
 rounds_there p n [] a room there = absurd (no_member a there)
@@ -121,17 +121,17 @@ start_there p a there = elim (member_cases whole_body (rounds 0 (loops_of p)) a 
 ]
 
 pub numbers_are_there : NumbersAreThere
-numbers_are_there P c p typed is of =
-    let same : is.procedure ≡ p = same_some is.procedure p (sym is.of ∙ of) in
-    let begins : Contains (starts p) c.start = subst (λ q. Contains (starts q) c.start) same is.begins in
-    let leads : Path (graph_from P p c.start) c.way.steps c.way.check = subst (λ q. Path (graph_from P q c.start) c.way.steps c.way.check) same is.leads in
-    let known = body_calls P typed p (member P.procedures c.procedure p of) in
-    let both = path_there P p (graph_from P p c.start) c.way.steps c.way.check leads (graph_there P p c.start known) in
-    record { start = start_there p c.start begins; steps = both.0; check = both.1 }
+numbers_are_there P c proc typed is of =
+    let same : is.procedure ≡ proc = same_some is.procedure proc (sym is.of ∙ of) in
+    let begins : Contains (starts proc) c.start = subst (λ q. Contains (starts q) c.start) same is.begins in
+    let leads : Path (graph_from P proc c.start) c.way.steps c.way.check = subst (λ q. Path (graph_from P q c.start) c.way.steps c.way.check) same is.leads in
+    let known = body_calls P typed proc (member P.procedures c.procedure proc of) in
+    let both = path_there P proc (graph_from P proc c.start) c.way.steps c.way.check leads (graph_there P proc c.start known) in
+    record { start = start_there proc c.start begins; steps = both.0; check = both.1 }
 
 -- each step of a condition
-pub each_is_there : (P : Program) (p : Procedure) (c : Condition) → IsThere P p c → (s : PathStep) → Contains c.way.steps s → StepIsThere P p s
-each_is_there P p c there s among = All-contains (StepIsThere P p) c.way.steps s there.steps among
+pub each_is_there : (P : Program) (proc : Procedure) (c : Condition) → IsThere P proc c → (s : PathStep) → Contains c.way.steps s → StepIsThere P proc s
+each_is_there P proc c there s among = All-contains (StepIsThere P proc) c.way.steps s there.steps among
 
 -- each condition of a typed program fits it
 pub one_is_scoped : (P : Program) (r : kept_condition.Condition) → IsTyped P → IsOne P r → IsScoped P r

@@ -29,13 +29,13 @@ pub record IsTold (Q : Procedure → Type 0) (R : Ahead → Type 0) : Type 0 whe
 pub paths_told : (P : Program) → IsTold (HasManyPaths P) IsWide
 paths_told P = record {
   sound = many_paths P;
-  complete = λ p many. elim (over_or most_conditions (procedure_ahead p).count) [ inl over ↦ over | inr few ↦ absurd (few_paths P p few many) ];
+  complete = λ proc many. elim (over_or most_conditions (procedure_ahead proc).count) [ inl over ↦ over | inr few ↦ absurd (few_paths P proc few many) ];
 }
 
 pub steps_told : (P : Program) → IsTold (HasManySteps P) IsLong
 steps_told P = record {
   sound = many_steps P;
-  complete = λ p many. elim (over_or (most_steps + 1) (procedure_ahead p).reach) [ inl over ↦ over | inr few ↦ absurd (few_steps P p few many) ];
+  complete = λ proc many. elim (over_or (most_steps + 1) (procedure_ahead proc).reach) [ inl over ↦ over | inr few ↦ absurd (few_steps P proc few many) ];
 }
 
 -- none of the first k
@@ -68,29 +68,29 @@ none_of Q R told ps aheads same none p there q =
     (subst R (sym (ap (λ xs. get_or xs there.0 (procedure_ahead p)) same ∙ get_or-map procedure_ahead ps there.0 p (procedure_ahead p) there.1 ∙ ap procedure_ahead there.2)) (told.complete p q))
 
 -- with few conditions each
-pub exact : (P : Program) (p : Procedure) → (HasManyPaths P p → ⊥) → (procedure_ahead p).count ≡ length (courses_of P p)
-exact P p few = elim (over_or most_conditions (length (courses_of P p))) [ inl many ↦ absurd (few many) | inr less ↦ omega (arith, less, (procedure_tells P p).count) ]
+pub exact : (P : Program) (proc : Procedure) → (HasManyPaths P proc → ⊥) → (procedure_ahead proc).count ≡ length (courses_of P proc)
+exact P proc few = elim (over_or most_conditions (length (courses_of P proc))) [ inl many ↦ absurd (few many) | inr less ↦ omega (arith, less, (procedure_tells P proc).count) ]
 
-pub few_of : (P : Program) (p : Procedure) → (HasManyPaths P p → ⊥) → length (courses_of P p) ≤ most_conditions
-few_of P p few = elim (over_or most_conditions (length (courses_of P p))) [ inl many ↦ absurd (few many) | inr less ↦ less ]
+pub few_of : (P : Program) (proc : Procedure) → (HasManyPaths P proc → ⊥) → length (courses_of P proc) ≤ most_conditions
+few_of P proc few = elim (over_or most_conditions (length (courses_of P proc))) [ inl many ↦ absurd (few many) | inr less ↦ less ]
 
 -- the conditions of a procedure, and those of the others
-first_long : (P : Program) (n : ℕ) (p : Procedure) (ps : List Procedure) → length (from_procedures P n (p ∷ ps)) ≡ length (courses_of P p) + length (from_procedures P (suc n) ps)
-first_long P n p ps =
-    let one = map (condition n) (courses_of P p) in
-    let long : length one ≡ length (courses_of P p) = length-map (courses_of P p) (condition n) in
+first_long : (P : Program) (n : ℕ) (proc : Procedure) (ps : List Procedure) → length (from_procedures P n (proc ∷ ps)) ≡ length (courses_of P proc) + length (from_procedures P (suc n) ps)
+first_long P n proc ps =
+    let one = map (condition n) (courses_of P proc) in
+    let long : length one ≡ length (courses_of P proc) = length-map (courses_of P proc) (condition n) in
     omega (arith, long, length-append one (from_procedures P (suc n) ps))
 
 pub together : (P : Program) (n : ℕ) (ps : List Procedure) → NoneOf ps (HasManyPaths P) → all_counts (map procedure_ahead ps) ≡ length (from_procedures P n ps)
 together P n [] none = refl
-together P n (p ∷ ps) none =
-    omega (arith, exact P p (none p (member_first p ps)), together P (suc n) ps (λ q there. none q (member_later p q ps there)), first_long P n p ps)
+together P n (proc ∷ ps) none =
+    omega (arith, exact P proc (none proc (member_first proc ps)), together P (suc n) ps (λ q there. none q (member_later proc q ps there)), first_long P n proc ps)
 
 pub bounded : (P : Program) (n : ℕ) (ps : List Procedure) → NoneOf ps (HasManyPaths P) → length (from_procedures P n ps) ≤ most_conditions * length ps
 bounded P n [] none = omega arith
-bounded P n (p ∷ ps) none =
-    let longer : length (p ∷ ps) ≡ length ps + 1 = omega arith in
-    omega (arith, few_of P p (none p (member_first p ps)), bounded P (suc n) ps (λ q there. none q (member_later p q ps there)), first_long P n p ps, longer)
+bounded P n (proc ∷ ps) none =
+    let longer : length (proc ∷ ps) ≡ length ps + 1 = omega arith in
+    omega (arith, few_of P proc (none proc (member_first proc ps)), bounded P (suc n) ps (λ q there. none q (member_later proc q ps there)), first_long P n proc ps, longer)
 
 pub first_limit : (Q : Procedure → Type 0) (R : Ahead → Type 0) → IsTold Q R → (ps : List whole.Procedure) (aheads : List Ahead) → aheads ≡ map procedure_ahead (map procedure_of ps)
     → (k : ℕ) (r : whole.Procedure) (a : Ahead) (kind number : ℕ) (l : Limit) → k < length aheads → NoneBefore R aheads k → R (get_or aheads k a)

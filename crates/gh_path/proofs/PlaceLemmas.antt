@@ -25,8 +25,8 @@ use Rattle.gh_path.proofs.PassedLemmas.{few_of}
 pub procedure_there : (ps : List whole.Procedure) (i : ℕ) (r : whole.Procedure) → i < length ps → r ≡ get_or ps i r → slice_get (map procedure_of ps) i ≡ Some (procedure_of r)
 procedure_there ps i r within is = slice_get-map procedure_of ps i ∙ ap (option_map procedure_of) (slice_get_read ps (length ps) i r refl within is)
 
-pub few_there : (P : Program) (i : ℕ) (p : Procedure) → NoneHas P (HasManyPaths P) → slice_get P.procedures i ≡ Some p → length (courses_of P p) ≤ most_conditions
-few_there P i p none at = few_of P p (none p (member P.procedures i p at))
+pub few_there : (P : Program) (i : ℕ) (proc : Procedure) → NoneHas P (HasManyPaths P) → slice_get P.procedures i ≡ Some proc → length (courses_of P proc) ≤ most_conditions
+few_there P i proc none at = few_of P proc (none proc (member P.procedures i proc at))
 
 -- what is left of a list
 pub after_next : {A : Type 0} (xs ys zs : List A) (n m k : ℕ) → m ≡ length ys + k → IsAfter xs n (ys ++ zs) m → IsAfter xs n zs k
@@ -49,15 +49,15 @@ all_after xs n = record { front = []; split = refl; place = omega arith }
 pub roots_go : (P : Program) (ns : List Node) (rs : List Root) (i : ℕ) (r : Root) (cs : List Condition) → i < length rs → r ≡ get_or rs i r → AreRoots P ns (drop i rs) cs → AreRoots P ns (r ∷ drop (i + 1) rs) cs
 roots_go P ns rs i r cs within is roots = subst (λ qs. AreRoots P ns qs cs) (next rs i r within is) roots
 
-start_long : (P : Program) (p : Procedure) (n : ℕ) (a : Start) → length (from_start P p n a) ≡ length (ways (graph_from P p a))
-start_long P p n a = length-map (map (course a) (ways (graph_from P p a))) (condition n) ∙ length-map (ways (graph_from P p a)) (course a)
+start_long : (P : Program) (proc : Procedure) (n : ℕ) (a : Start) → length (from_start P proc n a) ≡ length (ways (graph_from P proc a))
+start_long P proc n a = length-map (map (course a) (ways (graph_from P proc a))) (condition n) ∙ length-map (ways (graph_from P proc a)) (course a)
 
 pub start_passed : (P : Program) (ns : List Node) (rs : List Root) (r : Root) (cs ds : List Condition) (n m k : ℕ) → m ≡ r.count + k → AreRoots P ns (r ∷ rs) ds → IsAfter cs n ds m →
     (es : List Condition) × AreRoots P ns rs es × IsAfter cs n es k
-start_passed P ns rs r cs ds n m k sum (p, es, root, rest, split) after =
+start_passed P ns rs r cs ds n m k sum (proc, es, root, rest, split) after =
     let a = start_of r.start in
-    let first = from_start P p r.procedure a in
-    (es, rest, after_next cs first es n m k (omega (arith, sum, root.count, start_long P p r.procedure a)) (subst (λ xs. IsAfter cs n xs m) split after))
+    let first = from_start P proc r.procedure a in
+    (es, rest, after_next cs first es n m k (omega (arith, sum, root.count, start_long P proc r.procedure a)) (subst (λ xs. IsAfter cs n xs m) split after))
 
 pub starts_over : (P : Program) (ns : List Node) (rs : List Root) (i : ℕ) (cs ds : List Condition) (n m : ℕ) → length rs ≤ i → AreRoots P ns (drop i rs) ds → IsAfter cs n ds m → length cs ≤ n
 starts_over P ns rs i cs ds n m past roots after =
@@ -65,35 +65,35 @@ starts_over P ns rs i cs ds n m past roots after =
     after_none cs n m (subst (λ xs. IsAfter cs n xs m) none after)
 
 -- what lies ahead of a start is how many ways it has
-course_long : (P : Program) (p : Procedure) (a : Start) (rest : List Start) → length (from_starts P p (a ∷ rest)) ≡ length (ways (graph_from P p a)) + length (from_starts P p rest)
-course_long P p a rest =
-    let one = map (course a) (ways (graph_from P p a)) in
-    let long : length one ≡ length (ways (graph_from P p a)) = length-map (ways (graph_from P p a)) (course a) in
-    omega (arith, long, length-append one (from_starts P p rest))
+course_long : (P : Program) (proc : Procedure) (a : Start) (rest : List Start) → length (from_starts P proc (a ∷ rest)) ≡ length (ways (graph_from P proc a)) + length (from_starts P proc rest)
+course_long P proc a rest =
+    let one = map (course a) (ways (graph_from P proc a)) in
+    let long : length one ≡ length (ways (graph_from P proc a)) = length-map (ways (graph_from P proc a)) (course a) in
+    omega (arith, long, length-append one (from_starts P proc rest))
 
-pub entry_count : (P : Program) (p : Procedure) → length (courses_of P p) ≤ most_conditions → (entry_ahead p).count ≡ length (ways (graph_from P p whole_body))
-entry_count P p few =
-    let g = graph_from P p whole_body in
-    let told : (entry_ahead p).count ≡ min (length (ways g)) (most_conditions + 1) = ap (λ (a : Ahead). a.count) (sym (ahead_entry P p)) ∙ (ahead_tells g).count in
-    omega (arith, told, few, course_long P p whole_body (rounds 0 (loops_of p)))
+pub entry_count : (P : Program) (proc : Procedure) → length (courses_of P proc) ≤ most_conditions → (entry_ahead proc).count ≡ length (ways (graph_from P proc whole_body))
+entry_count P proc few =
+    let g = graph_from P proc whole_body in
+    let told : (entry_ahead proc).count ≡ min (length (ways g)) (most_conditions + 1) = ap (λ (a : Ahead). a.count) (sym (ahead_entry P proc)) ∙ (ahead_tells g).count in
+    omega (arith, told, few, course_long P proc whole_body (rounds 0 (loops_of proc)))
 
-among_rounds : (P : Program) (p : Procedure) (k n : ℕ) (ls : List Loop) → n < length ls → length (ways (graph_from P p (round (k + n)))) ≤ length (from_starts P p (rounds k ls))
-among_rounds P p k n [] within = absurd (omega (arith, within))
-among_rounds P p k zero (m ∷ ls) within =
+among_rounds : (P : Program) (proc : Procedure) (k n : ℕ) (ls : List Loop) → n < length ls → length (ways (graph_from P proc (round (k + n)))) ≤ length (from_starts P proc (rounds k ls))
+among_rounds P proc k n [] within = absurd (omega (arith, within))
+among_rounds P proc k zero (m ∷ ls) within =
     let same : k + 0 ≡ k = omega arith in
-    let here : length (ways (graph_from P p (round (k + 0)))) ≡ length (ways (graph_from P p (round k))) = ap (λ j. length (ways (graph_from P p (round j)))) same in
-    omega (arith, here, course_long P p (round k) (rounds (suc k) ls))
-among_rounds P p k (suc n) (m ∷ ls) within =
+    let here : length (ways (graph_from P proc (round (k + 0)))) ≡ length (ways (graph_from P proc (round k))) = ap (λ j. length (ways (graph_from P proc (round j)))) same in
+    omega (arith, here, course_long P proc (round k) (rounds (suc k) ls))
+among_rounds P proc k (suc n) (m ∷ ls) within =
     let same : k + suc n ≡ suc k + n = omega arith in
-    let here : length (ways (graph_from P p (round (k + suc n)))) ≡ length (ways (graph_from P p (round (suc k + n)))) = ap (λ j. length (ways (graph_from P p (round j)))) same in
+    let here : length (ways (graph_from P proc (round (k + suc n)))) ≡ length (ways (graph_from P proc (round (suc k + n)))) = ap (λ j. length (ways (graph_from P proc (round j)))) same in
     let less : n < length ls = omega (arith, within) in
-    omega (arith, here, among_rounds P p (suc k) n ls less, course_long P p (round k) (rounds (suc k) ls))
+    omega (arith, here, among_rounds P proc (suc k) n ls less, course_long P proc (round k) (rounds (suc k) ls))
 
-pub round_count : (P : Program) (p : Procedure) (n : ℕ) (l : Loop) → IsLoopAt p n l → length (courses_of P p) ≤ most_conditions → (round_ahead l).count ≡ length (ways (graph_from P p (round n)))
-round_count P p n l is few =
+pub round_count : (P : Program) (proc : Procedure) (n : ℕ) (l : Loop) → IsLoopAt proc n l → length (courses_of P proc) ≤ most_conditions → (round_ahead l).count ≡ length (ways (graph_from P proc (round n)))
+round_count P proc n l is few =
     let g = once_around P n l in
     let told : (round_ahead l).count ≡ min (length (ways g)) (most_conditions + 1) = ap (λ (a : Ahead). a.count) (sym (ahead_round P n l)) ∙ (ahead_tells g).count in
-    let same : length (ways (graph_from P p (round n))) ≡ length (ways g) = ap (λ o. length (ways (around P n o))) is in
+    let same : length (ways (graph_from P proc (round n))) ≡ length (ways g) = ap (λ o. length (ways (around P n o))) is in
     let place : 0 + n ≡ n = omega arith in
-    let here : length (ways (graph_from P p (round (0 + n)))) ≡ length (ways (graph_from P p (round n))) = ap (λ j. length (ways (graph_from P p (round j)))) place in
-    omega (arith, told, same, here, among_rounds P p 0 n (loops_of p) (slice_get_within (loops_of p) n l is), few, course_long P p whole_body (rounds 0 (loops_of p)))
+    let here : length (ways (graph_from P proc (round (0 + n)))) ≡ length (ways (graph_from P proc (round n))) = ap (λ j. length (ways (graph_from P proc (round j)))) place in
+    omega (arith, told, same, here, among_rounds P proc 0 n (loops_of proc) (slice_get_within (loops_of proc) n l is), few, course_long P proc whole_body (rounds 0 (loops_of proc)))

@@ -7,7 +7,7 @@ use denote.Ref.{Bor}
 use Rattle.gh_ast.specs.declared.Expr.{Expr}
 use Rattle.gh_path.specs.Graphs.{Check, PathStep, assume, Graph, dead_end, ends, moves, guarded, fork}
 use Rattle.gh_path.specs.Paths.{Way, ways, after_step}
-use Rattle.gh_path.specs.Shown.{step_shown, asked_of, Shows, turned_if, step_past, step_from, from, opposite}
+use Rattle.gh_path.specs.Shown.{step_shown, asked_of, Shows, turned_if, step_past, step_from, from, other_way}
 use Rattle.gh_path.specs.Routes.{way, ways_from, steps_taken, AreOthers, AreBehind, AreToCome, IsReached, weight, other_weight, weights}
 use Rattle.gh_path.specs.declared.node.Step.{Step}
 use Rattle.gh_path.specs.declared.node.Asked.{Asked}
@@ -117,7 +117,7 @@ node_there ns i n there = get_or_from_slice_get ns i n DeadEnd there
 step_there : (ns : List Node) (i : ℕ) (n : Node) → slice_get ns i ≡ Some n → step_shown (step_from ns (from i)) ≡ step_shown (step_past n)
 step_there ns i n there = ap (λ m. step_shown (step_past m)) (node_there ns i n there)
 
-other_there : (ns : List Node) (i : ℕ) (n : Node) → slice_get ns i ≡ Some n → step_shown (step_from ns (opposite (from i))) ≡ step_shown (turned_if true (step_past n))
+other_there : (ns : List Node) (i : ℕ) (n : Node) → slice_get ns i ≡ Some n → step_shown (step_from ns (other_way (from i))) ≡ step_shown (turned_if true (step_past n))
 other_there ns i n there = ap (λ m. step_shown (turned_if true (step_past m))) (node_there ns i n there)
 
 -- at each kind of node
@@ -187,7 +187,7 @@ look_fork ns i ts new a e b j m ws there pushed come =
     let one = ways_from (zs ++ x ∷ []) is.0 in
     let two = ways_from (zs ++ y ∷ []) is.1 in
     let steps : steps_taken ns new ≡ zs ++ x ∷ [] = pushed_steps ns ts new t pushed ∙ ap (λ z. zs ++ z ∷ []) (step_there ns i (Fork a e b j m) there) in
-    let other : step_shown (step_from ns (opposite (from i))) ≡ y = other_there ns i (Fork a e b j m) there in
+    let other : step_shown (step_from ns (other_way (from i))) ≡ y = other_there ns i (Fork a e b j m) there in
     record {
       ahead = ways_from (steps_taken ns new) is.0;
       behind = two ++ come.behind;
@@ -221,11 +221,11 @@ back_over ns ts t ws none behind =
 
 -- to the other way of a comparison
 pub back_to : (ns : List Node) (ts new : List Taken) (t : Taken) (i : ℕ) (ws : List Way) → t.other ≡ Some i →
-    new ≡ ts ++ record { origin = opposite t.origin; other = None } ∷ [] → AreBehind ns [] (ts ++ t ∷ []) ws → AreToCome ns new (place.Node i) ws
+    new ≡ ts ++ record { origin = other_way t.origin; other = None } ∷ [] → AreBehind ns [] (ts ++ t ∷ []) ws → AreToCome ns new (place.Node i) ws
 back_to ns ts new t i ws some pushed behind =
     let last = behind_pop ns [] ts t ws behind in
     let o = subst (λ o. AreOthers ns (steps_taken ns ts) t.origin o last.others) some last.are_others in
-    let q : Taken = record { origin = opposite t.origin; other = None } in
+    let q : Taken = record { origin = other_way t.origin; other = None } in
     record {
       ahead = last.others;
       behind = last.behind;

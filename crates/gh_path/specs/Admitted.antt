@@ -17,15 +17,15 @@ most_steps = 256
 
 -- the limit 4 is passed: the procedure has more conditions
 abbrev pub HasManyPaths : Program → Procedure → Type 0
-HasManyPaths P p = most_conditions < length (courses_of P p)
+HasManyPaths P proc = most_conditions < length (courses_of P proc)
 
 -- .. or it isn't
 abbrev pub HasFewPaths : Program → Procedure → Type 0
-HasFewPaths P p = length (courses_of P p) ≤ most_conditions
+HasFewPaths P proc = length (courses_of P proc) ≤ most_conditions
 
 -- the limit 5 is passed: one of its conditions has more steps
 abbrev pub HasManySteps : Program → Procedure → Type 0
-HasManySteps P p = Any (λ c. most_steps < length c.way.steps) (courses_of P p)
+HasManySteps P proc = Any (λ c. most_steps < length c.way.steps) (courses_of P proc)
 
 -- the most terms, and the most versions of the heap, of a condition
 abbrev pub most_terms : ℕ
@@ -36,11 +36,11 @@ most_versions = 24
 
 -- the limit 6 is passed: one of its conditions has more terms
 abbrev pub HasManyTerms : Program → Procedure → Type 0
-HasManyTerms P p = Any (λ c. most_terms < length (terms_of P p c.start c.way)) (courses_of P p)
+HasManyTerms P proc = Any (λ c. most_terms < length (terms_of P proc c.start c.way)) (courses_of P proc)
 
 -- the limit 7 is passed: one of its conditions has more versions of the heap
 abbrev pub HasManyVersions : Program → Procedure → Type 0
-HasManyVersions P p = Any (λ c. most_versions < versions_of P p c.start c.way) (courses_of P p)
+HasManyVersions P proc = Any (λ c. most_versions < versions_of P proc c.start c.way) (courses_of P proc)
 
 -- no procedure of the list passes the limit
 abbrev pub NoneOf : List Procedure → (Procedure → Type 0) → Type 0

@@ -16,11 +16,11 @@ course a w = record { start = a; way = w }
 
 -- by start, then in the order of paths
 abbrev pub from_starts : Program → Procedure → List Start → List Course
-from_starts P p [] = []
-from_starts P p (a ∷ rest) = map (course a) (ways (graph_from P p a)) ++ from_starts P p rest
+from_starts P proc [] = []
+from_starts P proc (a ∷ rest) = map (course a) (ways (graph_from P proc a)) ++ from_starts P proc rest
 
 abbrev pub courses_of : Program → Procedure → List Course
-courses_of P p = from_starts P p (starts p)
+courses_of P proc = from_starts P proc (starts proc)
 
 -- a way from a start of the procedure of a number to a check
 pub record Condition : Type 0 where
@@ -34,7 +34,7 @@ condition n c = record { procedure = n; start = c.start; way = c.way }
 -- those of some procedures, numbered from n
 abbrev pub from_procedures : Program → ℕ → List Procedure → List Condition
 from_procedures P n [] = []
-from_procedures P n (p ∷ rest) = map (condition n) (courses_of P p) ++ from_procedures P (suc n) rest
+from_procedures P n (proc ∷ rest) = map (condition n) (courses_of P proc) ++ from_procedures P (suc n) rest
 
 -- by procedure, then by start, then in the order of paths: the first is number 1
 abbrev pub conditions : Program → List Condition
@@ -50,7 +50,7 @@ IsNoNumber P n = (n ≡ 0) ⊎ (length (conditions P) < n)
 
 -- the procedure that a condition is of
 abbrev pub IsOf : Program → Condition → Procedure → Type 0
-IsOf P c p = IsProcedureAt P c.procedure p
+IsOf P c proc = IsProcedureAt P c.procedure proc
 
 -- the numbers of a start, a step and a check are those of a loop of the procedure, or of a procedure of the program
 abbrev pub StartIsThere : Procedure → Start → Type 0
@@ -58,21 +58,21 @@ StartIsThere p whole_body = Unit {0}
 StartIsThere p (round n) = HasLoop p n
 
 abbrev pub StepIsThere : Program → Procedure → PathStep → Type 0
-StepIsThere P p (called xs n es) = HasProcedure P n
-StepIsThere P p (looped n) = HasLoop p n
-StepIsThere P p s = Unit {0}
+StepIsThere P proc (called xs n es) = HasProcedure P n
+StepIsThere P proc (looped n) = HasLoop proc n
+StepIsThere P proc s = Unit {0}
 
 abbrev pub CheckIsThere : Program → Procedure → Check → Type 0
-CheckIsThere P p (entry at n es) = HasProcedure P n
-CheckIsThere P p (loop_entry at n) = HasLoop p n
-CheckIsThere P p (loop_end at n) = HasLoop p n
-CheckIsThere P p c = Unit {0}
+CheckIsThere P proc (entry at n es) = HasProcedure P n
+CheckIsThere P proc (loop_entry at n) = HasLoop proc n
+CheckIsThere P proc (loop_end at n) = HasLoop proc n
+CheckIsThere P proc c = Unit {0}
 
--- all numbers of a condition of the procedure p are there
-pub record IsThere (P : Program) (p : Procedure) (c : Condition) : Type 0 where
-  pub start : StartIsThere p c.start
-  pub steps : All (StepIsThere P p) c.way.steps
-  pub check : CheckIsThere P p c.way.check
+-- all numbers of a condition of the procedure proc are there
+pub record IsThere (P : Program) (proc : Procedure) (c : Condition) : Type 0 where
+  pub start : StartIsThere proc c.start
+  pub steps : All (StepIsThere P proc) c.way.steps
+  pub check : CheckIsThere P proc c.way.check
 
 -- a path from one of the starts of one of the procedures
 pub record IsCondition (P : Program) (c : Condition) : Type 0 where

@@ -114,14 +114,14 @@ HasLoop p n = n < length (loops_of p)
 
 -- the procedure of a number
 abbrev pub IsProcedureAt : Program → ℕ → Procedure → Type 0
-IsProcedureAt P n p = slice_get P.procedures n ≡ Some p
+IsProcedureAt P n proc = slice_get P.procedures n ≡ Some proc
 
 abbrev pub HasProcedure : Program → ℕ → Type 0
 HasProcedure P n = n < length P.procedures
 
 -- the number of the first procedure of a name, or how many there are where there is none
 abbrev pub number_of : Program → Name → ℕ
-number_of P f = unwrap_or (position (λ p. bytes_eq (name_of p) f) P.procedures) (length P.procedures)
+number_of P f = unwrap_or (position (λ proc. bytes_eq (name_of proc) f) P.procedures) (length P.procedures)
 
 -- a statement before a graph, and a block; the first loop in it has the number n
 abbrev mutual
@@ -163,8 +163,8 @@ around P n None = dead_end
 
 -- the graph from a start
 abbrev pub graph_from : Program → Procedure → Start → Graph
-graph_from P p whole_body = all_lowered P 0 (body_of p) (ends (returned p.close))
-graph_from P p (round n) = around P n (slice_get (loops_of p) n)
+graph_from P proc whole_body = all_lowered P 0 (body_of proc) (ends (returned proc.close))
+graph_from P proc (round n) = around P n (slice_get (loops_of proc) n)
 
 -- the starts at so many loops, numbered from n
 abbrev pub rounds : ℕ → List Loop → List Start

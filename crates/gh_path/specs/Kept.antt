@@ -53,9 +53,9 @@ IsOne P r = Contains (conditions P) (condition_of r)
 
 -- Q holds of the plain form of a condition that is kept, and of the procedure that it is of, where there is one
 abbrev pub HoldsFor : Program → kept_condition.Condition → (Program → Procedure → Condition → Type 0) → Type 0
-HoldsFor P r Q = (p : Procedure) → IsOf P (condition_of r) p → Q P p (condition_of r)
+HoldsFor P r Q = (proc : Procedure) → IsOf P (condition_of r) proc → Q P proc (condition_of r)
 
 -- the condition that is kept is well scoped: it is of one of the program's procedures, and all its numbers are there.
 -- Each condition that a typed program has (`IsOne`) is, by `numbers_are_there`
 abbrev pub IsScoped : Program → kept_condition.Condition → Type 0
-IsScoped P r = (p : Procedure) × IsOf P (condition_of r) p × IsThere P p (condition_of r)
+IsScoped P r = (proc : Procedure) × IsOf P (condition_of r) proc × IsThere P proc (condition_of r)

@@ -9,7 +9,7 @@ use Rattle.gh_ast.specs.Limits.{AreFew}
 use Rattle.gh_path.specs.Graphs.{Graph, dead_end, guarded, loop_entry, looped, tested, lowered, all_lowered}
 use Rattle.gh_path.specs.Graphs.{loops, all_loops}
 use Rattle.gh_path.specs.Callees.{CallsAreKnown, AllCallsAreKnown}
-use Rattle.gh_path.specs.Shown.{Shows, Adds}
+use Rattle.gh_path.specs.Shown.{Shows, AddsNodes}
 use Rattle.gh_path.specs.declared.node.Node.{Node}
 use Rattle.gh_path.specs.declared.walker.Walker.{Walker}
 
@@ -57,11 +57,11 @@ Grows old new i = (length old ≤ length new) × (i < length new)
 
 -- nodes are added before `next`: for f g, whatever graph g that node shows
 abbrev pub AddsBefore : (Graph → Graph) → List Node → ℕ → List Node → ℕ → Type 0
-AddsBefore f old next new i = (g : Graph) → Shows old next g → Adds old new i (f g)
+AddsBefore f old next new i = (g : Graph) → Shows old next g → AddsNodes old new i (f g)
 
 -- nodes are added that lead to one of two nodes
 abbrev pub AddsChoice : (Graph → Graph → Graph) → List Node → ℕ → ℕ → List Node → ℕ → Type 0
-AddsChoice f old j k new i = (g h : Graph) → Shows old j g → Shows old k h → Adds old new i (f g h)
+AddsChoice f old j k new i = (g h : Graph) → Shows old j g → Shows old k h → AddsNodes old new i (f g h)
 
 -- nodes are added for a statement without loops before a node: the number of its first loop doesn't matter
 abbrev pub AddsPlain : Walker → Statement → List Node → ℕ → List Node → ℕ → Type 0
@@ -69,7 +69,7 @@ AddsPlain w d old next new i = AddsBefore (lowered (program_in w) 0 d) old next 
 
 -- nodes are added for such a statement after which nothing comes
 abbrev pub AddsEnd : Walker → Statement → List Node → List Node → ℕ → Type 0
-AddsEnd w d old new i = (g : Graph) → Adds old new i (lowered (program_in w) 0 d g)
+AddsEnd w d old new i = (g : Graph) → AddsNodes old new i (lowered (program_in w) 0 d g)
 
 -- nodes are added for a loop on the way, with its place, test and number
 abbrev pub AddsPass : Span → Cond → ℕ → List Node → ℕ → List Node → ℕ → Type 0

@@ -19,24 +19,24 @@ on_ways n a ws = map (condition n) (map (course a) ws)
 
 -- all that begin at a start
 abbrev pub from_start : Program → Procedure → ℕ → Start → List Condition
-from_start P p n a = on_ways n a (ways (graph_from P p a))
+from_start P proc n a = on_ways n a (ways (graph_from P proc a))
 
--- where a path from a start of the procedure p leads, read off the start as it is kept
+-- where a path from a start of the procedure proc leads, read off the start as it is kept
 abbrev pub graph_of : Program → Procedure → Root → Graph
-graph_of P p r = graph_from P p (start_of r.start)
+graph_of P proc r = graph_from P proc (start_of r.start)
 
--- a start of the procedure p, whose first node shows its graph, with the number of its ways
-pub record IsRoot (P : Program) (ns : List Node) (r : Root) (p : Procedure) : Type 0 where
-  pub procedure : IsProcedureAt P r.procedure p
-  pub shows : Shows ns r.node (graph_of P p r)
-  pub count : r.count ≡ length (ways (graph_of P p r))
+-- a start of the procedure proc, whose first node shows its graph, with the number of its ways
+pub record IsRoot (P : Program) (ns : List Node) (r : Root) (proc : Procedure) : Type 0 where
+  pub procedure : IsProcedureAt P r.procedure proc
+  pub shows : Shows ns r.node (graph_of P proc r)
+  pub count : r.count ≡ length (ways (graph_of P proc r))
 
 -- the conditions from some starts, in order
 abbrev pub AreRoots : Program → List Node → List Root → List Condition → Type 0
 AreRoots P ns [] cs = cs ≡ []
 AreRoots P ns (r ∷ rs) cs =
-    (p : Procedure) × (ds : List Condition) × IsRoot P ns r p × AreRoots P ns rs ds
-    × (cs ≡ from_start P p r.procedure (start_of r.start) ++ ds)
+    (proc : Procedure) × (ds : List Condition) × IsRoot P ns r proc × AreRoots P ns rs ds
+    × (cs ≡ from_start P proc r.procedure (start_of r.start) ++ ds)
 
 -- the starts are those of some conditions
 abbrev pub AreStarts : Program → Starts → List Condition → Type 0

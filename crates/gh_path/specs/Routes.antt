@@ -2,7 +2,7 @@
 use Rattle.std.specs.Prelude.{◌≡◌, ℕ, zero, suc, ◌+◌, ◌*◌, ◌<◌, List, [], ◌∷◌, ◌++◌, map, Option, Some, None, slice_get}
 use Rattle.gh_path.specs.Graphs.{Check, PathStep, Graph}
 use Rattle.gh_path.specs.Paths.{Way, ways}
-use Rattle.gh_path.specs.Shown.{step_shown, asked_of, Shows, LeadsBelow, step_from, steps_from, from, opposite}
+use Rattle.gh_path.specs.Shown.{step_shown, asked_of, Shows, LeadsBelow, step_from, steps_from, from, other_way}
 use Rattle.gh_path.specs.declared.node.Asked.{Asked}
 use Rattle.gh_path.specs.declared.node.Node.{Node}
 use Rattle.gh_path.specs.declared.node.Origin.{Origin}
@@ -29,7 +29,7 @@ steps_taken ns ts = steps_from ns (map (λ t. t.origin) ts)
 abbrev pub AreOthers : List Node → List PathStep → Origin → Option ℕ → List Way → Type 0
 AreOthers ns xs o None ws = ws ≡ []
 AreOthers ns xs o (Some i) ws =
-    (g : Graph) × Shows ns i g × (ws ≡ ways_from (xs ++ step_shown (step_from ns (opposite o)) ∷ []) g)
+    (g : Graph) × Shows ns i g × (ws ≡ ways_from (xs ++ step_shown (step_from ns (other_way o)) ∷ []) g)
 
 -- the ways from the comparisons among the steps that were taken after xs
 abbrev pub AreBehind : List Node → List PathStep → List Taken → List Way → Type 0
@@ -65,9 +65,9 @@ IsCome ns ts o (Found a) ws = IsReached ns ts o a ws
 IsCome ns ts o Over ws = ws ≡ []
 
 -- none: there is no way any more
-abbrev pub IsFound : List Node → List Taken → onward.Onward → Option Asked → List Way → Type 0
-IsFound ns ts o (Some a) ws = IsReached ns ts o a ws
-IsFound ns ts o None ws = ws ≡ []
+abbrev pub IsWayFound : List Node → List Taken → onward.Onward → Option Asked → List Way → Type 0
+IsWayFound ns ts o (Some a) ws = IsReached ns ts o a ws
+IsWayFound ns ts o None ws = ws ≡ []
 
 -- all ways that are still to come on a route
 abbrev pub AreOn : List Node → Route → List Way → Type 0
@@ -93,7 +93,7 @@ GoesOn ns r t come = (ws : List Way) → AreOn ns r ws → IsCome ns t.taken.ite
 
 -- as many turns as lead to the next check
 abbrev pub Arrives : List Node → Route → Route → Option Asked → Type 0
-Arrives ns r t found = (ws : List Way) → AreOn ns r ws → IsFound ns t.taken.items t.onward found ws
+Arrives ns r t found = (ws : List Way) → AreOn ns r ws → IsWayFound ns t.taken.items t.onward found ws
 
 -- all ways from a node are still to come
 abbrev pub BeginsAt : ℕ → Route → Type 0

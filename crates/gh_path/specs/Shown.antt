@@ -85,8 +85,8 @@ abbrev pub from : ℕ → Origin
 from i = record { place = i; turned = false }
 
 -- on the other way of the comparison
-abbrev pub opposite : Origin → Origin
-opposite o = record { place = o.place; turned = not o.turned }
+abbrev pub other_way : Origin → Origin
+other_way o = record { place = o.place; turned = not o.turned }
 
 -- the steps of some origins
 abbrev pub steps_from : List Node → List Origin → List PathStep
@@ -118,7 +118,7 @@ abbrev pub AreLinked : List Node → Type 0
 AreLinked ns = (i : ℕ) (n : Node) → slice_get ns i ≡ Some n → LeadsBelow i n
 
 -- nodes are added, of which the one at i shows the graph
-pub record Adds (old new : List Node) (i : ℕ) (g : Graph) : Type 0 where
+pub record AddsNodes (old new : List Node) (i : ℕ) (g : Graph) : Type 0 where
   pub more : List Node
   pub is : new ≡ old ++ more
   pub shows : Shows new i g

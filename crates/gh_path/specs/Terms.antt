@@ -189,22 +189,22 @@ abbrev pub loop_walked : Option Loop → List Name → Terms → Terms
 loop_walked None xs s = s
 loop_walked (Some l) xs s = walked l.invariant (renewed (filter (some_assigns l.body) xs) (moved_on (walked l.invariant s)))
 
--- the terms after a step of a path of the procedure p
+-- the terms after a step of a path of the procedure proc
 abbrev pub step_walked : Program → Procedure → PathStep → Terms → Terms
-step_walked P p (accessed o) s = followed o.name (used o.name s)
-step_walked P p (assume l e r) s = expr_used r (expr_used l s)
-step_walked P p (assigned x e) s = let t = expr_used e s in rebound t (bound t.bindings x.name (expr_term e t))
-step_walked P p (made x) s =
+step_walked P proc (accessed o) s = followed o.name (used o.name s)
+step_walked P proc (assume l e r) s = expr_used r (expr_used l s)
+step_walked P proc (assigned x e) s = let t = expr_used e s in rebound t (bound t.bindings x.name (expr_term e t))
+step_walked P proc (made x) s =
     terms (with_value (with_value s.kinds)) (bound s.bindings x.name (length s.kinds)) (s.version + 1)
-step_walked P p (written x e) s = moved_on (expr_used e (used x.name s))
-step_walked P p (freed x) s = moved_on (used x.name s)
-step_walked P p (called ys n es) s = let t = exprs_used es s in call_walked (slice_get P.procedures n) (names ys) (exprs_terms es t) t
-step_walked P p (looped n) s = loop_walked (slice_get (loops_of p) n) (variable_names p) s
-step_walked P p (answered es) s = let t = exprs_used es s in rebound t (all_bound t.bindings (results_of p) (exprs_terms es t))
+step_walked P proc (written x e) s = moved_on (expr_used e (used x.name s))
+step_walked P proc (freed x) s = moved_on (used x.name s)
+step_walked P proc (called ys n es) s = let t = exprs_used es s in call_walked (slice_get P.procedures n) (names ys) (exprs_terms es t) t
+step_walked P proc (looped n) s = loop_walked (slice_get (loops_of proc) n) (variable_names proc) s
+step_walked P proc (answered es) s = let t = exprs_used es s in rebound t (all_bound t.bindings (results_of proc) (exprs_terms es t))
 
 abbrev pub steps_walked : Program → Procedure → List PathStep → Terms → Terms
-steps_walked P p [] s = s
-steps_walked P p (x ∷ xs) s = steps_walked P p xs (step_walked P p x s)
+steps_walked P proc [] s = s
+steps_walked P proc (x ∷ xs) s = steps_walked P proc xs (step_walked P proc x s)
 
 abbrev pub entry_walked : Option Procedure → List ℕ → Terms → Terms
 entry_walked None ts s = s
@@ -216,24 +216,24 @@ invariant_walked (Some l) s = walked l.invariant s
 
 -- the terms of the check, in the last version
 abbrev pub check_walked : Program → Procedure → Check → Terms → Terms
-check_walked P p (access o) s = used o.name s
-check_walked P p (entry at n es) s = let t = exprs_used es s in entry_walked (slice_get P.procedures n) (exprs_terms es t) t
-check_walked P p (loop_entry at n) s = invariant_walked (slice_get (loops_of p) n) s
-check_walked P p (returned at) s = each_walked p.gives s
-check_walked P p (loop_end at n) s = invariant_walked (slice_get (loops_of p) n) s
+check_walked P proc (access o) s = used o.name s
+check_walked P proc (entry at n es) s = let t = exprs_used es s in entry_walked (slice_get P.procedures n) (exprs_terms es t) t
+check_walked P proc (loop_entry at n) s = invariant_walked (slice_get (loops_of proc) n) s
+check_walked P proc (returned at) s = each_walked proc.gives s
+check_walked P proc (loop_end at n) s = invariant_walked (slice_get (loops_of proc) n) s
 
 -- null alone, no variable with a term, the first version
 abbrev pub no_terms : Terms
 no_terms = terms (null ∷ []) unbound 0
 
--- the start assertion, the steps, and the check of a way of the procedure p
+-- the start assertion, the steps, and the check of a way of the procedure proc
 abbrev pub way_walked : Program → Procedure → Start → Way → Terms
-way_walked P p a w = check_walked P p w.check (steps_walked P p w.steps (walked (meets_at p a) no_terms))
+way_walked P proc a w = check_walked P proc w.check (steps_walked P proc w.steps (walked (meets_at proc a) no_terms))
 
 -- the kinds of the terms: that of the term t stands at the place t
 abbrev pub terms_of : Program → Procedure → Start → Way → List Kind
-terms_of P p a w = (way_walked P p a w).kinds
+terms_of P proc a w = (way_walked P proc a w).kinds
 
 -- how many versions of the heap there are
 abbrev pub versions_of : Program → Procedure → Start → Way → ℕ
-versions_of P p a w = (way_walked P p a w).version + 1
+versions_of P proc a w = (way_walked P proc a w).version + 1

@@ -27,26 +27,26 @@ pub record AreLeft (P : Program) (s : Walk) (cs : List Condition) : Type 0 where
   pub held : AreHeld s.starts.now.nodes s.held.items s.condition.steps.items
 
 -- these conditions of a program are still to come
-pub record IsBefore (P : Program) (s : Walk) (cs : List Condition) : Type 0 where
+pub record IsWalkBefore (P : Program) (s : Walk) (cs : List Condition) : Type 0 where
   pub count : length cs ≡ s.end - s.given
   pub left : s.given < s.end → AreLeft P s cs
 
 -- at a start, where `given` of `end` conditions have been passed, the others are still to come
 abbrev pub IsAtStart : Starts → Sought → ℕ → ℕ → Walk → Type 0
 IsAtStart s f given end w = (P : Program) (cs : List Condition) → length cs ≡ end - given →
-    (given < end → AreFrom P s f cs) → IsBefore P w cs
+    (given < end → AreFrom P s f cs) → IsWalkBefore P w cs
 
 -- all conditions of the starts are still to come, or those from the place n on
 abbrev pub WalksOver : Starts → ℕ → Walk → Type 0
-WalksOver s end w = (P : Program) (cs : List Condition) → AreStarts P s cs → length cs ≡ end → IsBefore P w cs
+WalksOver s end w = (P : Program) (cs : List Condition) → AreStarts P s cs → length cs ≡ end → IsWalkBefore P w cs
 
 abbrev pub WalksFrom : Starts → ℕ → ℕ → Walk → Type 0
 WalksFrom s end n w =
-    (P : Program) (cs : List Condition) → AreStarts P s cs → length cs ≡ end → IsBefore P w (drop n cs)
+    (P : Program) (cs : List Condition) → AreStarts P s cs → length cs ≡ end → IsWalkBefore P w (drop n cs)
 
 -- those before the place n are passed
 abbrev pub PassesTo : Walk → ℕ → Walk → Type 0
-PassesTo s n t = (P : Program) (cs : List Condition) → IsBefore P s cs → IsBefore P t (drop (n - s.given) cs)
+PassesTo s n t = (P : Program) (cs : List Condition) → IsWalkBefore P s cs → IsWalkBefore P t (drop (n - s.given) cs)
 
 -- from the present start, over the steps that were taken, to a check
 abbrev pub come_to : Walk → Asked → Condition
@@ -92,7 +92,7 @@ IsItem cs (Some (Err e)) ds = (cs ≢ []) × (ds ≡ [])
 -- one item more
 abbrev pub IsGiven : Walk → Option (Result kept.Condition AllocError) → Walk → Type 0
 IsGiven s r t =
-    (P : Program) (cs : List Condition) → IsBefore P s cs → (ds : List Condition) × IsItem cs r ds × IsBefore P t ds
+    (P : Program) (cs : List Condition) → IsWalkBefore P s cs → (ds : List Condition) × IsItem cs r ds × IsWalkBefore P t ds
 
 -- an item that is lent: the condition itself, none, or an error
 abbrev pub lent : Result Bool AllocError → kept.Condition → Option (Result kept.Condition AllocError)

@@ -8,7 +8,7 @@ ghost use Rattle.gh_path.specs.Admitted.{HasManyPaths, HasManySteps, NoneHas};
 ghost use Rattle.gh_path.specs.Conditions.{conditions};
 ghost use Rattle.gh_path.specs.Counting.{procedure_ahead};
 ghost use Rattle.gh_path.specs.Roots.{AreStarts};
-ghost use Rattle.gh_path.specs.Walks.{IsBefore};
+ghost use Rattle.gh_path.specs.Walks.{IsWalkBefore};
 
 use crate::ahead::Ahead;
 use crate::condition::Condition;
@@ -86,7 +86,7 @@ impl<'t> Conditions<'t> {
 
     /// A walk from the first condition on.
     pub fn walk(&self, alloc: Global) -> Walk<'_, 't>
-        ensures { IsBefore (program_of self.now) result (conditions (program_of self.now)) }
+        ensures { IsWalkBefore (program_of self.now) result (conditions (program_of self.now)) }
     {
         Walk::new(alloc, &self.starts, self.count)
     }

@@ -2,7 +2,7 @@
 
 ghost use Rattle.std.specs.Prelude.{◌≡◌, ◌+◌, ◌∷◌, ◌++◌, [], length, slice_get, slice_index_or, Some, IfOk, OnOk};
 ghost use Rattle.gh_path.specs.Shown.{KeepsStep, KeepsGoal, KeepsAsked, LeadsBelow, from, with_opposite, step_past};
-ghost use Rattle.gh_path.specs.Shown.{step_from, opposite};
+ghost use Rattle.gh_path.specs.Shown.{step_from, other_way};
 ghost use Rattle.gh_path.specs.declared.node.Node.{Node as Plain};
 ghost use Rattle.gh_path.specs.declared.node.Node.TheVariants.{DeadEnd};
 
@@ -228,8 +228,8 @@ impl Origin {
     }
 
     /// On the other way of the comparison.
-    pub(crate) fn opposite(self) -> Origin
-        ensures { result ≡ opposite self }
+    pub(crate) fn other_way(self) -> Origin
+        ensures { result ≡ other_way self }
     {
         Origin {
             place: self.place,

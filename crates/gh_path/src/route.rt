@@ -68,7 +68,7 @@ impl Route {
     {
         while let Some(last) = self.taken.pop() {
             if let Some(place) = last.other {
-                self.go(last.origin.opposite(), None, place)?;
+                self.go(last.origin.other_way(), None, place)?;
                 return Ok(Come::On);
             }
         }

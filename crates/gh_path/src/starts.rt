@@ -11,7 +11,7 @@ ghost use Rattle.gh_path.specs.Admitted.{HasManyPaths, HasFewPaths, NoneHas};
 ghost use Rattle.gh_path.specs.Callees.{AllCallsAreKnown};
 ghost use Rattle.gh_path.specs.Conditions.{conditions};
 ghost use Rattle.gh_path.specs.Lowered.{program_in, procedure_in, AllSuit};
-ghost use Rattle.gh_path.specs.Shown.{Adds};
+ghost use Rattle.gh_path.specs.Shown.{AddsNodes};
 ghost use Rattle.gh_path.specs.Roots.{AreStarts, AddsProcedure, AddsEntry, AddsLoop, IsSoughtIn};
 ghost use Rattle.gh_path.specs.Walking.{loop_of};
 ghost use Rattle.gh_path.specs.declared.starts.Root.{Root as Kept};
@@ -54,7 +54,7 @@ impl<'t> Walker<'t> {
     fn lower_entry(&self, alloc: Global, nodes: &mut Nodes<'t>) -> Result<usize, AllocError>
         requires { AllSuit self.now 0 (body_of (procedure_in self.now)) }
         ensures { IfOk result (λ i.
-            Adds nodes.old nodes.new i (graph_from (program_in self.now) (procedure_in self.now) whole_body)) }
+            AddsNodes nodes.old nodes.new i (graph_from (program_in self.now) (procedure_in self.now) whole_body)) }
     {
         let goal = Goal::Return;
         let span = self.procedure.close;
@@ -76,7 +76,7 @@ impl<'t> Walker<'t> {
     ) -> Result<usize, AllocError>
         requires { AllSuit self.now (number + 1) (loop_of turn.now).body }
         ensures { IfOk result (λ i.
-            Adds nodes.old nodes.new i (once_around (program_in self.now) number (loop_of turn.now))) }
+            AddsNodes nodes.old nodes.new i (once_around (program_in self.now) number (loop_of turn.now))) }
     {
         let goal = Goal::LoopEnd { number };
         let span = turn.body.close;

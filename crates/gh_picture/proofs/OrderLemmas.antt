@@ -8,7 +8,7 @@ use Rattle.gh_assert.specs.declared.heap.Cell.{Cell}
 use Rattle.gh_assert.specs.declared.store.Entry.{Entry}
 use Rattle.gh_picture.proofs.Numbers.{number_some}
 use Rattle.gh_picture.proofs.PlacingLemmas.{listed, same_or_other, spot, stands_of}
-use Rattle.gh_picture.specs.Placing.{Board, spot_on, Stands, StillStands, HasLines, AllStand, EachStands, MayBegin, StandsAbove, BeginsOn, AllBegin}
+use Rattle.gh_picture.specs.Placing.{Board, spot_on, StandsAt, StillStands, HasLines, AllPlaced, EachStands, MayBegin, StandsAbove, BeginsOn, AllBegin}
 use Rattle.gh_picture.specs.Spots.{number_in, no_cell, spot_at, is_led_to, heads, numbers, with_number, pointed, order_of, BeginsLine, AreInOrder, AreWithin}
 use Rattle.gh_picture.specs.declared.layout.Spot.{Spot}
 
@@ -76,7 +76,7 @@ of_number P k (c ∷ cs) all (suc i) h =
     let same : suc k + i ≡ k + suc i = omega arith in
     subst P same (of_number P (suc k) cs (All-tail P k (numbers (suc k) cs) all) i (omega (arith, h)))
 
-pub all_stand : (cells : List Cell) (es : List Entry) (b : Board) → EachStands b (order_of cells es) → AllStand b (length cells)
+pub all_stand : (cells : List Cell) (es : List Entry) (b : Board) → EachStands b (order_of cells es) → AllPlaced b (length cells)
 all_stand cells es b each i h =
     let P : ℕ → Type 0 = λ j. IsSome (spot_on b j) in
     let front = heads cells 0 cells ++ pointed cells es in
@@ -151,7 +151,7 @@ begins_line order ss line b = record {
   earlier = All-weaker (StandsAbove (map Some ss) line) (λ i. (spot_at ss i).line < line) (λ i at. above i at.0 at.1 at.2) b.before b.earlier;
 }
   where
-    above : (i : ℕ) (s : Spot) → Stands (map Some ss) i s → s.line < line → (spot_at ss i).line < line
+    above : (i : ℕ) (s : Spot) → StandsAt (map Some ss) i s → s.line < line → (spot_at ss i).line < line
     above i s at less = subst (λ (t : Spot). t.line < line) (sym (spot_is ss i s at)) less
 
 placed_in_order : (cells : List Cell) (order : List ℕ) (ss : List Spot) (line : ℕ) → HasLines cells (map Some ss) line → AllBegin order (map Some ss) line → AreInOrder order ss

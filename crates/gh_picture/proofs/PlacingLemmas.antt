@@ -7,8 +7,8 @@ use Rattle.std.proofs.lemmas.List.{length-map}
 use Rattle.std.proofs.lemmas.List.Sums.{sum_by-set, count_by-le-length}
 use Rattle.gh_assert.specs.declared.heap.Cell.{Cell}
 use Rattle.gh_picture.proofs.Numbers.{number_some}
-use Rattle.gh_picture.specs.Spots.{number_in, no_cell, no_spot, spot_at, AreSpots, cell_at, LeadsTo, Follows, IsNoLater, right_of}
-use Rattle.gh_picture.specs.Placing.{Board, spot_on, Stands, AreApart, StillStands, HasLines, IsBefore, IsAwaited, IsLedTo, AreLists, IsLineBegun, IsOnLine}
+use Rattle.gh_picture.specs.Spots.{number_in, no_cell, no_spot, spot_at, AreSpots, cell_at, LeadsTo, MayFollow, IsNoLater, right_of}
+use Rattle.gh_picture.specs.Placing.{Board, spot_on, StandsAt, ShareNoSpot, StillStands, HasLines, IsBefore, IsAwaited, IsLedTo, AreLists, IsLineBegun, IsOnLine}
 use Rattle.gh_picture.specs.declared.layout.Spot.{Spot}
 
 abbrev pub spot : ℕ → ℕ → Spot
@@ -21,20 +21,20 @@ same_or_other i j = by_test (nat_eq i j) refl
     by_test true e = inl (grind (arith, nat_tests))
     by_test false e = inr (grind (arith, nat_tests))
 
-stands_here : (b : Board) (i : ℕ) (s : Spot) → i < length b → Stands (set b i (Some s)) i s
+stands_here : (b : Board) (i : ℕ) (s : Spot) → i < length b → StandsAt (set b i (Some s)) i s
 stands_here b i s h = rw get_or-set_same
 
-stands_there : (b : Board) (i j : ℕ) (s t : Spot) → j ≢ i → Stands b j t → Stands (set b i (Some s)) j t
+stands_there : (b : Board) (i j : ℕ) (s t : Spot) → j ≢ i → StandsAt b j t → StandsAt (set b i (Some s)) j t
 stands_there b i j s t other h = rw get_or-set_other h
 
 -- what stands after a cell is placed
-after_set : (b : Board) (i j : ℕ) (s t : Spot) → i < length b → Stands (set b i (Some s)) j t → ((j ≡ i) × (t ≡ s)) ⊎ ((j ≢ i) × Stands b j t)
+after_set : (b : Board) (i j : ℕ) (s t : Spot) → i < length b → StandsAt (set b i (Some s)) j t → ((j ≡ i) × (t ≡ s)) ⊎ ((j ≢ i) × StandsAt b j t)
 after_set b i j s t h stands = by_place (same_or_other j i)
   where
-    by_place : (j ≡ i) ⊎ (j ≢ i) → ((j ≡ i) × (t ≡ s)) ⊎ ((j ≢ i) × Stands b j t)
+    by_place : (j ≡ i) ⊎ (j ≢ i) → ((j ≡ i) × (t ≡ s)) ⊎ ((j ≢ i) × StandsAt b j t)
     by_place (inl same) =
-        let moved : Stands (set b i (Some s)) i t = subst (λ (k : ℕ). Stands (set b i (Some s)) k t) same stands in
-        let here : Stands (set b i (Some s)) i s = stands_here b i s h in
+        let moved : StandsAt (set b i (Some s)) i t = subst (λ (k : ℕ). StandsAt (set b i (Some s)) k t) same stands in
+        let here : StandsAt (set b i (Some s)) i s = stands_here b i s h in
         let both : Some t ≡ Some s = sym moved ∙ here in
         inl (same, cc)
     by_place (inr other) =
@@ -57,7 +57,7 @@ begun cs b line from lines within = record {
 }
 
 -- the line has come to a cell that stands: it ends
-pub closes : (cs : List Cell) (b : Board) (line column next : ℕ) (t : Spot) → IsLineBegun cs b line column next → Stands b next t → HasLines cs b (line + 1)
+pub closes : (cs : List Cell) (b : Board) (line column next : ℕ) (t : Spot) → IsLineBegun cs b line column next → StandsAt b next t → HasLines cs b (line + 1)
 closes cs b line column next t begun stands = record {
   one_each = begun.one_each;
   some = omega arith;
@@ -81,9 +81,9 @@ closes cs b line column next t begun stands = record {
         let one : s.column + 1 ≡ column = ap (λ (z : Spot). z.column) e in
         inr (h.0 ∙ sym same, omega (arith, h.1, one))
 
-    joined : (i j : ℕ) (s : Spot) → ((u : Spot) × Stands b j u × Follows s u) ⊎ IsAwaited line column next s j → (u : Spot) × Stands b j u × Follows s u
+    joined : (i j : ℕ) (s : Spot) → ((u : Spot) × StandsAt b j u × MayFollow s u) ⊎ IsAwaited line column next s j → (u : Spot) × StandsAt b j u × MayFollow s u
     joined i j s (inl h) = h
-    joined i j s (inr h) = (t, subst (λ (k : ℕ). Stands b k t) (sym h.0) stands, inr (no_later s h.1 (begun.before next t stands)))
+    joined i j s (inr h) = (t, subst (λ (k : ℕ). StandsAt b k t) (sym h.0) stands, inr (no_later s h.1 (begun.before next t stands)))
 
 abbrev pub placed : Board → ℕ → ℕ → ℕ → Board
 placed b line column next = set b next (Some (spot line column))
@@ -94,47 +94,47 @@ inside cs b line column next begun = omega (arith, begun.within, begun.one_each)
 pub placed_kept : (b : Board) (line column next : ℕ) → spot_on b next ≡ None → StillStands b (placed b line column next)
 placed_kept b line column next free i s h = by_place (same_or_other i next)
   where
-    by_place : (i ≡ next) ⊎ (i ≢ next) → Stands (placed b line column next) i s
+    by_place : (i ≡ next) ⊎ (i ≢ next) → StandsAt (placed b line column next) i s
     by_place (inl same) =
         let none : spot_on b i ≡ None = subst (λ (k : ℕ). spot_on b k ≡ None) (sym same) free in
         let both : None ≡ Some s = sym none ∙ h in
         absurd cc
     by_place (inr other) = stands_there b next i (spot line column) s other h
 
-placed_apart : (cs : List Cell) (b : Board) (line column next : ℕ) → IsLineBegun cs b line column next → AreApart (placed b line column next)
+placed_apart : (cs : List Cell) (b : Board) (line column next : ℕ) → IsLineBegun cs b line column next → ShareNoSpot (placed b line column next)
 placed_apart cs b line column next begun i j s differ hi hj =
     by_both (after_set b next i (spot line column) s (inside cs b line column next begun) hi) (after_set b next j (spot line column) s (inside cs b line column next begun) hj)
   where
-    fresh : (k : ℕ) → Stands b k s → s ≡ spot line column → ⊥
+    fresh : (k : ℕ) → StandsAt b k s → s ≡ spot line column → ⊥
     fresh k h e = by_before (begun.before k s h)
       where
         by_before : IsBefore line column s → ⊥
         by_before (inl less) = omega (arith, less, ap (λ (z : Spot). z.line) e)
         by_before (inr less) = omega (arith, less.1, ap (λ (z : Spot). z.column) e)
 
-    by_both : ((i ≡ next) × (s ≡ spot line column)) ⊎ ((i ≢ next) × Stands b i s) → ((j ≡ next) × (s ≡ spot line column)) ⊎ ((j ≢ next) × Stands b j s) → ⊥
+    by_both : ((i ≡ next) × (s ≡ spot line column)) ⊎ ((i ≢ next) × StandsAt b i s) → ((j ≡ next) × (s ≡ spot line column)) ⊎ ((j ≢ next) × StandsAt b j s) → ⊥
     by_both (inl a) (inl c) = differ (a.0 ∙ sym c.0)
     by_both (inl a) (inr c) = fresh j c.1 a.1
     by_both (inr a) (inl c) = fresh i a.1 c.1
     by_both (inr a) (inr c) = begun.apart i j s differ a.1 c.1
 
 placed_before : (cs : List Cell) (b : Board) (line column next : ℕ) → IsLineBegun cs b line column next
-    → (i : ℕ) (s : Spot) → Stands (placed b line column next) i s → IsBefore line (column + 1) s
+    → (i : ℕ) (s : Spot) → StandsAt (placed b line column next) i s → IsBefore line (column + 1) s
 placed_before cs b line column next begun i s h = by_set (after_set b next i (spot line column) s (inside cs b line column next begun) h)
   where
     further : IsBefore line column s → IsBefore line (column + 1) s
     further (inl less) = inl less
     further (inr less) = inr (less.0, omega (arith, less.1))
 
-    by_set : ((i ≡ next) × (s ≡ spot line column)) ⊎ ((i ≢ next) × Stands b i s) → IsBefore line (column + 1) s
+    by_set : ((i ≡ next) × (s ≡ spot line column)) ⊎ ((i ≢ next) × StandsAt b i s) → IsBefore line (column + 1) s
     by_set (inl a) = inr (ap (λ (z : Spot). z.line) a.1, omega (arith, ap (λ (z : Spot). z.column) a.1))
     by_set (inr a) = further (begun.before i s a.1)
 
 placed_from_one : (cs : List Cell) (b : Board) (line column next : ℕ) → IsLineBegun cs b line column next
-    → (i : ℕ) (s : Spot) → Stands (placed b line column next) i s → 0 < s.line
+    → (i : ℕ) (s : Spot) → StandsAt (placed b line column next) i s → 0 < s.line
 placed_from_one cs b line column next begun i s h = by_set (after_set b next i (spot line column) s (inside cs b line column next begun) h)
   where
-    by_set : ((i ≡ next) × (s ≡ spot line column)) ⊎ ((i ≢ next) × Stands b i s) → 0 < s.line
+    by_set : ((i ≡ next) × (s ≡ spot line column)) ⊎ ((i ≢ next) × StandsAt b i s) → 0 < s.line
     by_set (inl a) = omega (arith, ap (λ (z : Spot). z.line) a.1, begun.some)
     by_set (inr a) = begun.from_one i s a.1
 
@@ -147,14 +147,14 @@ placed_fewer b line column next h free =
 
 -- what a cell leads to, after the next is placed
 placed_lines : (cs : List Cell) (b : Board) (line column next : ℕ) → IsLineBegun cs b line column next → spot_on b next ≡ None
-    → (i j : ℕ) (s : Spot) → i ≢ next → Stands b i s → LeadsTo cs i j → (t : Spot) × Stands (placed b line column next) j t × Follows s t
+    → (i j : ℕ) (s : Spot) → i ≢ next → StandsAt b i s → LeadsTo cs i j → (t : Spot) × StandsAt (placed b line column next) j t × MayFollow s t
 placed_lines cs b line column next begun free i j s other h leads = by_old (begun.in_lines i j s h leads)
   where
-    by_old : ((t : Spot) × Stands b j t × Follows s t) ⊎ IsAwaited line column next s j → (t : Spot) × Stands (placed b line column next) j t × Follows s t
+    by_old : ((t : Spot) × StandsAt b j t × MayFollow s t) ⊎ IsAwaited line column next s j → (t : Spot) × StandsAt (placed b line column next) j t × MayFollow s t
     by_old (inl (t, stands, follows)) = (t, placed_kept b line column next free j t stands, follows)
     by_old (inr (is, right)) =
-        let here : Stands (placed b line column next) next (spot line column) = stands_here b next (spot line column) (inside cs b line column next begun) in
-        (spot line column, subst (λ (k : ℕ). Stands (placed b line column next) k (spot line column)) (sym is) here, inl (sym right))
+        let here : StandsAt (placed b line column next) next (spot line column) = stands_here b next (spot line column) (inside cs b line column next begun) in
+        (spot line column, subst (λ (k : ℕ). StandsAt (placed b line column next) k (spot line column)) (sym is) here, inl (sym right))
 
 -- a cell to which another leads stays so
 led_to_stays : (cs : List Cell) (old new : Board) (j : ℕ) (t : Spot) → StillStands old new → IsLedTo cs old j t → IsLedTo cs new j t
@@ -166,7 +166,7 @@ placed_lists cs b line column next begun free j t h some = by_set (after_set b n
     kept : StillStands b (placed b line column next)
     kept = placed_kept b line column next free
 
-    by_set : ((j ≡ next) × (t ≡ spot line column)) ⊎ ((j ≢ next) × Stands b j t) → IsLedTo cs (placed b line column next) j t
+    by_set : ((j ≡ next) × (t ≡ spot line column)) ⊎ ((j ≢ next) × StandsAt b j t) → IsLedTo cs (placed b line column next) j t
     by_set (inl (is, here)) =
         let column_is : t.column ≡ column = ap (λ (z : Spot). z.column) here in
         let (i, s, stands, leads, right) = begun.comes (omega (arith, some, column_is)) in
@@ -189,8 +189,8 @@ goes_on cs b line column next other begun free leads within = record {
   comes = λ some. (next, spot line column, stands_here b next (spot line column) (inside cs b line column next begun), (begun.within, leads), refl);
 }
   where
-    by_set : (i j : ℕ) (s : Spot) → LeadsTo cs i j → ((i ≡ next) × (s ≡ spot line column)) ⊎ ((i ≢ next) × Stands b i s)
-        → ((t : Spot) × Stands (placed b line column next) j t × Follows s t) ⊎ IsAwaited line (column + 1) other s j
+    by_set : (i j : ℕ) (s : Spot) → LeadsTo cs i j → ((i ≡ next) × (s ≡ spot line column)) ⊎ ((i ≢ next) × StandsAt b i s)
+        → ((t : Spot) × StandsAt (placed b line column next) j t × MayFollow s t) ⊎ IsAwaited line (column + 1) other s j
     by_set i j s to (inl (is, here)) =
         let mine : number_in cs (cell_at cs next).to ≡ Some j = subst (λ (k : ℕ). number_in cs (cell_at cs k).to ≡ Some j) is to.1 in
         let both : Some j ≡ Some other = sym mine ∙ leads in
@@ -214,8 +214,8 @@ ends cs b line column next begun free leads = record {
     above s (inl h) = omega (arith, h)
     above s (inr h) = omega (arith, h.0)
 
-    by_set : (i j : ℕ) (s : Spot) → LeadsTo cs i j → ((i ≡ next) × (s ≡ spot line column)) ⊎ ((i ≢ next) × Stands b i s)
-        → (t : Spot) × Stands (placed b line column next) j t × Follows s t
+    by_set : (i j : ℕ) (s : Spot) → LeadsTo cs i j → ((i ≡ next) × (s ≡ spot line column)) ⊎ ((i ≢ next) × StandsAt b i s)
+        → (t : Spot) × StandsAt (placed b line column next) j t × MayFollow s t
     by_set i j s to (inl (is, here)) =
         let mine : number_in cs (cell_at cs next).to ≡ Some j = subst (λ (k : ℕ). number_in cs (cell_at cs k).to ≡ Some j) is to.1 in
         let both : None ≡ Some j = sym leads ∙ mine in
@@ -248,16 +248,16 @@ start_stands b line column next from h free (inr stands) = still_stands b (place
 
 -- the first cell of a line stands at its beginning, once it is placed
 pub line_stays : (b : Board) (line column next from : ℕ) → next < length b → spot_on b next ≡ None → IsOnLine b line from next column
-    → Stands (placed b line column next) from (spot line 0)
+    → StandsAt (placed b line column next) from (spot line 0)
 line_stays b line column next from h free (inl (same, first, none)) =
-    let at : Stands (placed b line column next) from (spot line column) = subst (λ (k : ℕ). Stands (placed b line column next) k (spot line column)) same (stands_here b next (spot line column) h) in
-    subst (λ (n : ℕ). Stands (placed b line column next) from (spot line n)) first at
+    let at : StandsAt (placed b line column next) from (spot line column) = subst (λ (k : ℕ). StandsAt (placed b line column next) k (spot line column)) same (stands_here b next (spot line column) h) in
+    subst (λ (n : ℕ). StandsAt (placed b line column next) from (spot line n)) first at
 line_stays b line column next from h free (inr stands) = placed_kept b line column next free from (spot line 0) stands
 
 -- and so it does where a line ends at a cell that stands
-pub line_closes : (b : Board) (line column next from : ℕ) (t : Spot) → Stands b next t → IsOnLine b line from next column → Stands b from (spot line 0)
+pub line_closes : (b : Board) (line column next from : ℕ) (t : Spot) → StandsAt b next t → IsOnLine b line from next column → StandsAt b from (spot line 0)
 line_closes b line column next from t at (inl (same, first, none)) =
-    let here : Stands b from t = subst (λ (k : ℕ). Stands b k t) same at in
+    let here : StandsAt b from t = subst (λ (k : ℕ). StandsAt b k t) same at in
     let both : None ≡ Some t = sym none ∙ here in
     absurd cc
 line_closes b line column next from t at (inr stands) = stands
@@ -273,7 +273,7 @@ pub all_spots : (cs : List Cell) (b : Board) (line : ℕ) (ss : List Spot) → H
 all_spots cs b line ss lines is = record {
   one_each = count;
   apart = λ i j less within same.
-      let first : Stands b i (spot_at ss j) = stands i (omega (arith, less, within)) ∙ ap (λ (s : Spot). Some s) same in
+      let first : StandsAt b i (spot_at ss j) = stands i (omega (arith, less, within)) ∙ ap (λ (s : Spot). Some s) same in
       lines.apart i j (spot_at ss j) (omega (arith, less)) first (stands j within);
   in_lines = λ i j leads. follows i j leads (lines.in_lines i j (spot_at ss i) (stands i leads.0) leads);
   lists = λ j within some. led_to j (lines.lists j (spot_at ss j) (stands j within) some);
@@ -282,16 +282,16 @@ all_spots cs b line ss lines is = record {
     count : length ss ≡ length cs
     count = sym (length-map ss (λ (s : Spot). Some s)) ∙ ap length is ∙ lines.one_each
 
-    stands : (i : ℕ) → i < length cs → Stands b i (spot_at ss i)
+    stands : (i : ℕ) → i < length cs → StandsAt b i (spot_at ss i)
     stands i h =
-        subst (λ (c : Board). Stands c i (spot_at ss i)) is (listed ss i (omega (arith, h, count)))
+        subst (λ (c : Board). StandsAt c i (spot_at ss i)) is (listed ss i (omega (arith, h, count)))
 
-    follows : (i j : ℕ) → LeadsTo cs i j → (t : Spot) × Stands b j t × Follows (spot_at ss i) t → Follows (spot_at ss i) (spot_at ss j)
+    follows : (i j : ℕ) → LeadsTo cs i j → (t : Spot) × StandsAt b j t × MayFollow (spot_at ss i) t → MayFollow (spot_at ss i) (spot_at ss j)
     follows i j leads (t, there, is_next) =
         let within : j < length cs = (number_some cs (cell_at cs i).to j no_cell leads.1).0 in
         let both : Some t ≡ Some (spot_at ss j) = sym there ∙ stands j within in
         let same : t ≡ spot_at ss j = cc in
-        subst (λ (u : Spot). Follows (spot_at ss i) u) same is_next
+        subst (λ (u : Spot). MayFollow (spot_at ss i) u) same is_next
 
     led_to : (j : ℕ) → IsLedTo cs b j (spot_at ss j) → (i : ℕ) × LeadsTo cs i j × (spot_at ss j ≡ right_of (spot_at ss i))
     led_to j (i, s, there, leads, right) =

@@ -36,14 +36,14 @@ abbrev pub IsNoLater : Spot → Spot → Type 0
 IsNoLater t s = (t.line < s.line) ⊎ ((t.line ≡ s.line) × (t.column ≤ s.column))
 
 -- where the next cell of a list may stand: at the right, or no later, where it is on another list or closes a cycle
-abbrev pub Follows : Spot → Spot → Type 0
-Follows s t = (t ≡ right_of s) ⊎ IsNoLater t s
+abbrev pub MayFollow : Spot → Spot → Type 0
+MayFollow s t = (t ≡ right_of s) ⊎ IsNoLater t s
 
 -- a spot for each cell; no two cells share one, lists go on to the right, and each line is one list
 pub record AreSpots (cells : List Cell) (spots : List Spot) : Type 0 where
   pub one_each : length spots ≡ length cells
   pub apart : (i j : ℕ) → i < j → j < length cells → spot_at spots i ≢ spot_at spots j
-  pub in_lines : (i j : ℕ) → LeadsTo cells i j → Follows (spot_at spots i) (spot_at spots j)
+  pub in_lines : (i j : ℕ) → LeadsTo cells i j → MayFollow (spot_at spots i) (spot_at spots j)
   pub lists : (j : ℕ) → j < length cells → 0 < (spot_at spots j).column → (i : ℕ) × LeadsTo cells i j × (spot_at spots j ≡ right_of (spot_at spots i))
 
 abbrev pub is_number : ℕ → Option ℕ → Bool

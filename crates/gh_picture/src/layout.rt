@@ -6,7 +6,7 @@ ghost use Rattle.std.specs.Ordering.{nat_cmp};
 ghost use Rattle.std.specs.FinMap as map;
 ghost use Rattle.gh_assert.specs.Cells.{pairs};
 ghost use Rattle.gh_picture.specs.Spots.{number_in, heads, pointed, numbers, order_of, AreSpots, AreInOrder, AreWithin};
-ghost use Rattle.gh_picture.specs.Placing.{AllBegin, AllStand, AreFlags, EachStands, HasLines, MayBegin, Stands};
+ghost use Rattle.gh_picture.specs.Placing.{AllBegin, AllPlaced, AreFlags, EachStands, HasLines, MayBegin, StandsAt};
 ghost use Rattle.gh_picture.specs.Placing.{StillStands, spot_on};
 
 use gh_assert::heap::{Cell, place};
@@ -100,7 +100,7 @@ fn place_line(cells: &[Cell], spots: &mut [Option<Spot>], line: usize, from: usi
     ensures lines { HasLines cells.now spots.new (line + 1) }
     ensures kept { StillStands spots.old spots.new }
     ensures placed { IsSome (spot_on spots.new from) }
-    ensures begins { spot_on spots.old from ≡ None → Stands spots.new from (record { line = line; column = 0 }) }
+    ensures begins { spot_on spots.old from ≡ None → StandsAt spots.new from (record { line = line; column = 0 }) }
 {
     let mut at = from;
     let mut column = 0;
@@ -152,7 +152,7 @@ fn place_each(cells: &[Cell], spots: &mut [Option<Spot>], order: &[usize]) -> us
 
 // The spots of cells that all stand.
 fn all_placed(alloc: Global, spots: &[Option<Spot>]) -> Result<Vec<Spot>, AllocError>
-    requires { AllStand spots.now (length spots.now) }
+    requires { AllPlaced spots.now (length spots.now) }
     ensures { IfOk result (λ placed. each Some placed.items ≡ spots.now) }
 {
     let mut placed = Vec::new(alloc);

@@ -8,17 +8,18 @@ use Rattle.gh_base.specs.Grounds.{Problem}
 use Rattle.gh_grass.specs.declared.formula.Formula.{Formula}
 use Rattle.gh_grass.specs.declared.formula.Formula.TheOpen.{Formula-F}
 use Rattle.gh_grass.specs.declared.formula.Formula.TheFolds.{fold-roll-Formula}
-use Rattle.gh_grass.specs.declared.formula.Formula.TheVariants.{Not, Or, Iff, rolls-Not, rolls-Or, rolls-Iff}
+use Rattle.gh_grass.specs.declared.formula.Formula.TheVariants.{Not, And, Or, Iff, rolls-Not, rolls-Or, rolls-Iff}
 use Rattle.gh_grass.specs.Claims.{GroundClaim, claim_step, claim_of, claims_view, atom, negation_of, conjunction_of, disjunction_of, equivalence_of, GroundClaims, no_claims, claim_first}
 use Rattle.gh_grass.specs.Clauses.{made, all_made, conjunction_clauses, disjunction_clauses, equivalence_clauses}
+use Rattle.gh_grass.proofs.ClaimLemmas.{claim_of-And}
 use Rattle.gh_grass.proofs.LawLemmas.{made_grows}
 use Rattle.gh_reduce.specs.Growth.{grown, defined_in, all_defined_in, IsWithin, AreWithin}
 use Rattle.gh_reduce.proofs.GrowthLemmas.{in_range_more, within_more, made_within, all_made_within, grown_grown}
 
-pub claim_of-Or : (v : Vec Formula Global) → claim_of (Or v) ≡ disjunction_of (claims_view v.items)
+claim_of-Or : (v : Vec Formula Global) → claim_of (Or v) ≡ disjunction_of (claims_view v.items)
 claim_of-Or v = ap claim_of (sym (rolls-Or v)) ∙ fold-roll-Formula GroundClaim claim_step (Formula-F.Or v)
 
-pub claim_of-Iff : (a b : Box Formula Global) → claim_of (Iff a b) ≡ equivalence_of (claim_of a.value) (claim_of b.value)
+claim_of-Iff : (a b : Box Formula Global) → claim_of (Iff a b) ≡ equivalence_of (claim_of a.value) (claim_of b.value)
 claim_of-Iff a b = ap claim_of (sym (rolls-Iff a b)) ∙ fold-roll-Formula GroundClaim claim_step (Formula-F.Iff a b)
 
 -- the members from a place on
@@ -83,8 +84,23 @@ equivalence_defined p q r e f a b l m form left first right second h =
     ∙ grown_grown p t.next (t.next + 1) (s.clauses ++ t.clauses) (equivalence_clauses t.next s.lit t.lit)
     ∙ ap (defined_in p) (sym form)
 
-pub claim_of-Not : (b : Box Formula Global) → claim_of (Not b) ≡ negation_of (claim_of b.value)
+claim_of-Not : (b : Box Formula Global) → claim_of (Not b) ≡ negation_of (claim_of b.value)
 claim_of-Not b = ap claim_of (sym (rolls-Not b)) ∙ fold-roll-Formula GroundClaim claim_step (Formula-F.Not b)
+
+-- what a formula says, by its form and what its members are
+pub says_not : (f a : Formula) (b : Box Formula Global) → f ≡ Not b → a ≡ b.value → claim_of f ≡ negation_of (claim_of a)
+says_not f a b form one = ap claim_of form ∙ claim_of-Not b ∙ ap (λ (x : Formula). negation_of (claim_of x)) (sym one)
+
+pub says_all : (f : Formula) (xs : List Formula) (v : Vec Formula Global) → f ≡ And v → xs ≡ v.items → claim_of f ≡ conjunction_of (claims_view xs)
+says_all f xs v form same = ap claim_of form ∙ claim_of-And v ∙ ap (λ (ys : List Formula). conjunction_of (claims_view ys)) (sym same)
+
+pub says_any : (f : Formula) (xs : List Formula) (v : Vec Formula Global) → f ≡ Or v → xs ≡ v.items → claim_of f ≡ disjunction_of (claims_view xs)
+says_any f xs v form same = ap claim_of form ∙ claim_of-Or v ∙ ap (λ (ys : List Formula). disjunction_of (claims_view ys)) (sym same)
+
+pub says_both : (f x y : Formula) (a b : Box Formula Global) → f ≡ Iff a b → x ≡ a.value → y ≡ b.value → claim_of f ≡ equivalence_of (claim_of x) (claim_of y)
+says_both f x y a b form one other =
+    ap claim_of form ∙ claim_of-Iff a b ∙ ap (λ (z : Formula). equivalence_of (claim_of z) (claim_of b.value)) (sym one)
+    ∙ ap (λ (z : Formula). equivalence_of (claim_of x) (claim_of z)) (sym other)
 
 -- how many formulas are in a formula, below itself
 abbrev mutual

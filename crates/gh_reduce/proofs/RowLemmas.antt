@@ -14,7 +14,7 @@ use Rattle.gh_reduce.specs.declared.rows.EachPair.TheVariants.{Others, Kept}
 use Rattle.gh_reduce.specs.Growth.{sized, stated_in, IsWithin, AreWithin}
 use Rattle.gh_reduce.proofs.GrowthLemmas.{stated_more, same_terms}
 use Rattle.gh_path.specs.Terms.{Kind}
-use Rattle.gh_symb.specs.Inside.{under_of, IsReady}
+use Rattle.gh_symb.specs.Inside.{under_of, AreKinds}
 use Rattle.gh_reduce.specs.Rows.{of_term, of_pair, IsEachTermInside, IsEachPairInside}
 use Rattle.gh_reduce.proofs.WithinLemmas.{below_within, equality_within}
 use Rattle.gh_reduce.proofs.InsideLemmas.{under_within}
@@ -77,8 +77,8 @@ first_one p q f g h is = h ∙ ap (λ (x : GroundClaim). stated_in p (x ∷ []))
 pub some_more : (p q r : Problem) (fs gs : List GroundClaim) → q ≡ stated_in p fs → r ≡ stated_in q gs → r ≡ stated_in p (fs ++ gs)
 some_more p q r fs gs e h = stated_more p q r fs gs e h
 
-pub ready_stays : (p q : Problem) (fs : List GroundClaim) (kinds : List Kind) → q ≡ stated_in p fs → IsReady p.sizes.terms kinds → IsReady q.sizes.terms kinds
-ready_stays p q fs kinds e h = subst (λ (x : Problem). IsReady x.sizes.terms kinds) (sym e) h
+pub ready_stays : (p q : Problem) (fs : List GroundClaim) (kinds : List Kind) → q ≡ stated_in p fs → AreKinds p.sizes.terms kinds → AreKinds q.sizes.terms kinds
+ready_stays p q fs kinds e h = subst (λ (x : Problem). AreKinds x.sizes.terms kinds) (sym e) h
 
 pub version_stays : (p q : Problem) (fs : List GroundClaim) (i : ℕ) → q ≡ stated_in p fs → i < p.sizes.versions → i < q.sizes.versions
 version_stays p q fs i e h = subst (λ (x : Problem). i < x.sizes.versions) (sym e) h

@@ -16,7 +16,7 @@ use Rattle.gh_symb.specs.Encoded.{IsSymbolic}
 use Rattle.gh_symb.specs.declared.over_terms.TermStep.{TermStep}
 use Rattle.gh_symb.specs.declared.over_terms.Symbolic.{Symbolic}
 use Rattle.gh_reduce.specs.Growth.{stated_in}
-use Rattle.gh_symb.specs.Inside.{step_of, IsReady, IsUnderInside, IsStepInside, AreStepsInside, IsCheckInside}
+use Rattle.gh_symb.specs.Inside.{step_of, AreKinds, IsUnderInside, IsStepInside, AreStepsInside, IsCheckInside}
 use Rattle.gh_symb.specs.Encoded.{plain_of}
 use Rattle.gh_symb.proofs.EncodedLemmas.{encoded_is}
 
@@ -59,12 +59,12 @@ finished s p q n v e terms versions h =
     h
     ∙ ap (λ (x : Problem). stated_in x (claims s)) (e ∙ ap (λ (k : ℕ). empty_problem k v) terms ∙ ap (empty_problem (length s.terms)) versions)
 
-pub told_problem : (P : Program) (p : Procedure) (c : Condition) (s : Symbolic) (q : Problem) → IsSymbolic P p c s → q ≡ problem (plain_of s) → q ≡ problem (plain.symbolic_of P p c)
-told_problem P p c s q h e = e ∙ ap problem (encoded_is P p c s h)
+pub told_problem : (P : Program) (proc : Procedure) (c : Condition) (s : Symbolic) (q : Problem) → IsSymbolic P proc c s → q ≡ problem (plain_of s) → q ≡ problem (plain.symbolic_of P proc c)
+told_problem P proc c s q h e = e ∙ ap problem (encoded_is P proc c s h)
 
 -- what a condition says of its terms and versions, at the numbers of a problem
 pub record InsideAt (n v : ℕ) (kinds : List Kind) (s : plain.Symbolic) : Type 0 where
-  pub ready : IsReady n kinds
+  pub ready : AreKinds n kinds
   pub some : 1 ≤ v
   pub start : IsUnderInside n v s.start
   pub steps : AreStepsInside n v 0 s.steps

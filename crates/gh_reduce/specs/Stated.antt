@@ -55,4 +55,4 @@ steps_stated ks steps = steps_claims ks 0 (map step_of steps)
 -- where y is the form over terms of a condition of some program, the result has that condition's clauses
 abbrev pub TellsProblem : Symbolic → Result Problem AllocError → Type 0
 TellsProblem y result =
-    (P : Program) (p : Procedure) (c : Condition) → IsSymbolic P p c y → IfOk result (λ q. q ≡ problem (symbolic_of P p c))
+    (P : Program) (proc : Procedure) (c : Condition) → IsSymbolic P proc c y → IfOk result (λ q. q ≡ problem (symbolic_of P proc c))

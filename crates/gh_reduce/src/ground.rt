@@ -5,7 +5,7 @@ ghost use Rattle.gh_path.specs.Terms.{next};
 ghost use Rattle.gh_symb.specs.Encodings.{plain_kind};
 ghost use Rattle.gh_symb.specs.Encoded.{plain_of};
 ghost use Rattle.gh_symb.specs.Inside.{under_of, step_of, check_of};
-ghost use Rattle.gh_symb.specs.Inside.{AllAreInside, AreStepsInside, IsCheckInside, IsReady, IsStepInside};
+ghost use Rattle.gh_symb.specs.Inside.{AllAreInside, AreStepsInside, IsCheckInside, AreKinds, IsStepInside};
 ghost use Rattle.gh_symb.specs.Formulas.{succeeds, successor_claims, successors_from, version_claims, version_after};
 ghost use Rattle.gh_symb.specs.Formulas.{written_claims, freed_claims, claims, problem};
 ghost use Rattle.gh_grass.specs.Claims.{claim_of, negation_of};
@@ -81,7 +81,7 @@ fn add_successors(
     terms: &TermList,
 ) -> Result<(), AllocError>
     requires version { version < ground.old.sizes.versions }
-    requires ready { IsReady ground.old.sizes.terms (kinds_of terms.now) }
+    requires ready { AreKinds ground.old.sizes.terms (kinds_of terms.now) }
     ensures { OnOk result (ground.new ≡ stated_in ground.old (successors_from version 0 (kinds_of terms.now))) }
 {
     for t in 0..terms.count() {
@@ -101,7 +101,7 @@ pub fn add_version(
     terms: &TermList,
 ) -> Result<(), AllocError>
     requires version { version < ground.old.sizes.versions }
-    requires ready { IsReady ground.old.sizes.terms (kinds_of terms.now) }
+    requires ready { AreKinds ground.old.sizes.terms (kinds_of terms.now) }
     ensures stated { OnOk result (ground.new ≡ stated_in ground.old (version_claims (kinds_of terms.now) version)) }
     ensures few { OnOk result (IsCountable ground.new) }
 {
@@ -118,7 +118,7 @@ pub fn add_version(
 }
 
 fn add_versions(alloc: Global, ground: &mut Ground, terms: &TermList) -> Result<(), AllocError>
-    requires { IsReady ground.old.sizes.terms (kinds_of terms.now) }
+    requires { AreKinds ground.old.sizes.terms (kinds_of terms.now) }
     ensures { OnOk result (ground.new ≡ stated_in ground.old (all_versions ground.old terms.now)) }
 {
     for version in 0..ground.versions() {
@@ -202,7 +202,7 @@ fn add_step(
     terms: &TermList,
 ) -> Result<(), AllocError>
     requires few { ground.old.sizes.versions < 256 }
-    requires ready { IsReady ground.old.sizes.terms (kinds_of terms.now) }
+    requires ready { AreKinds ground.old.sizes.terms (kinds_of terms.now) }
     requires inside { IsStepInside ground.old.sizes.terms ground.old.sizes.versions version (step_of step.now) }
     ensures { OnOk result (ground.new ≡ stated_in ground.old (step_stated (kinds_of terms.now) version step.now)) }
 {
@@ -255,7 +255,7 @@ fn add_steps(
     terms: &TermList,
 ) -> Result<(), AllocError>
     requires few { ground.old.sizes.versions < 256 }
-    requires ready { IsReady ground.old.sizes.terms (kinds_of terms.now) }
+    requires ready { AreKinds ground.old.sizes.terms (kinds_of terms.now) }
     requires some { 1 ≤ ground.old.sizes.versions }
     requires inside { AreStepsInside ground.old.sizes.terms ground.old.sizes.versions 0 (map step_of steps.now) }
     ensures { OnOk result (ground.new ≡ stated_in ground.old (steps_stated (kinds_of terms.now) steps.now)) }
@@ -284,7 +284,7 @@ fn add_not_whole(
     bounds: &[BoundAssertion],
     terms: &TermList,
 ) -> Result<(), AllocError>
-    requires ready { IsReady ground.old.sizes.terms (kinds_of terms.now) }
+    requires ready { AreKinds ground.old.sizes.terms (kinds_of terms.now) }
     requires inside { AllAreInside ground.old.sizes.terms ground.old.sizes.versions (map under_of bounds.now) }
     ensures { OnOk result (ground.new ≡ stated_in ground.old (none_is_met (kinds_of terms.now) bounds.now)) }
 {
@@ -302,7 +302,7 @@ fn add_check(
     check: &TermCheck,
     terms: &TermList,
 ) -> Result<(), AllocError>
-    requires ready { IsReady ground.old.sizes.terms (kinds_of terms.now) }
+    requires ready { AreKinds ground.old.sizes.terms (kinds_of terms.now) }
     requires some { 1 ≤ ground.old.sizes.versions }
     requires inside { IsCheckInside ground.old.sizes.terms ground.old.sizes.versions (check_of check.now) }
     ensures { OnOk result (ground.new ≡ stated_in ground.old (check_fails ground.old terms.now check.now)) }

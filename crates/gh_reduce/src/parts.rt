@@ -2,7 +2,7 @@
 
 ghost use Rattle.std.specs.Prelude.{◌≡◌, ◌<◌, IfOk, OnOk};
 ghost use Rattle.gh_grass.specs.Claims.{claim_of, claims_list};
-ghost use Rattle.gh_symb.specs.Inside.{IsReady};
+ghost use Rattle.gh_symb.specs.Inside.{AreKinds};
 ghost use Rattle.gh_reduce.specs.Growth.{stated_in};
 ghost use Rattle.gh_reduce.specs.Parts.{alternatives_stated, change_stated, one_is_placed, placed_list, IsChangeInside};
 ghost use Rattle.gh_reduce.specs.Rows.{kinds_of};
@@ -77,7 +77,7 @@ fn add_alternatives(
     terms: &TermList,
 ) -> Result<(), AllocError>
     requires few { ground.old.sizes.versions < 256 }
-    requires ready { IsReady ground.old.sizes.terms (kinds_of terms.now) }
+    requires ready { AreKinds ground.old.sizes.terms (kinds_of terms.now) }
     requires inside { IsChangeInside ground.old.sizes change }
     ensures { OnOk result (
         ground.new ≡ stated_in ground.old (alternatives_stated (kinds_of terms.now) change.entry)) }
@@ -103,7 +103,7 @@ pub fn add_part(
     terms: &TermList,
 ) -> Result<(), AllocError>
     requires few { ground.old.sizes.versions < 256 }
-    requires ready { IsReady ground.old.sizes.terms (kinds_of terms.now) }
+    requires ready { AreKinds ground.old.sizes.terms (kinds_of terms.now) }
     requires inside { IsChangeInside ground.old.sizes change }
     ensures { OnOk result (ground.new ≡ stated_in ground.old (change_stated (kinds_of terms.now) change.entry)) }
 {

@@ -6,7 +6,7 @@ use Rattle.gh_ast.specs.Plain.{set, new, write, free, call, choice, loop, give, 
 use Rattle.gh_machine.specs.Machine.{Config, Pops, StepOn, Step, HasEnded, IsRun, last_of}
 use Rattle.gh_machine.specs.Configs.{IsReturn, ReturnsLast}
 use Rattle.gh_machine.proofs.Faults.{ends_stop}
-use Rattle.gh_run.specs.Rule.{RuledStep, IsRuledRun, IsConcreteRun, SomeReturns, Counts}
+use Rattle.gh_run.specs.Rule.{RuledStep, IsRuledRun, IsConcreteRun, SomeReturns, CountsSteps}
 use Rattle.gh_machine.specs.declared.step.Next.{Next}
 use Rattle.gh_machine.specs.declared.step.Next.TheVariants.{Ended, NotAChoice}
 use Rattle.gh_run.specs.Halts.{IsRuledNext, Leads, IsReturned}
@@ -56,11 +56,11 @@ leads_more P c k d e l st goes = record {
 
 -- how many steps count
 
-counts_all : (c : Config) (ds : List Config) → (SomeReturns c ds → ⊥) → Counts c ds (length ds)
+counts_all : (c : Config) (ds : List Config) → (SomeReturns c ds → ⊥) → CountsSteps c ds (length ds)
 counts_all c [] none = refl
 counts_all c (d ∷ ds) none = inr (λ last. none (inl last), length ds, refl, counts_all d ds (λ s. none (inr s)))
 
-counts_but_last : (c : Config) (ds : List Config) (e : Config) → (SomeReturns c ds → ⊥) → ReturnsLast (last_of c ds) → Counts c (ds ++ e ∷ []) (length ds)
+counts_but_last : (c : Config) (ds : List Config) (e : Config) → (SomeReturns c ds → ⊥) → ReturnsLast (last_of c ds) → CountsSteps c (ds ++ e ∷ []) (length ds)
 counts_but_last c [] e none last = inl (last, refl)
 counts_but_last c (d ∷ ds) e none last = inr (λ now. none (inl now), length ds, refl, counts_but_last d ds e (λ s. none (inr s)) last)
 
@@ -83,11 +83,11 @@ ended_by P (statement_first (loop at t i b cb) rest) c d alone is st = absurd is
 
 pub record Halts (P : Program) (c : Config) (n k : ℕ) (d : Config) (run : List Config) : Type 0 where
   pub run_is : IsConcreteRun P c n run
-  pub counted : Counts c run k
+  pub counted : CountsSteps c run k
   pub last : last_of c run ≡ d
 
-counted_as : (c : Config) (ds : List Config) (k : ℕ) → length ds ≡ k → (SomeReturns c ds → ⊥) → Counts c ds k
-counted_as c ds k count none = subst (Counts c ds) count (counts_all c ds none)
+counted_as : (c : Config) (ds : List Config) (k : ℕ) → length ds ≡ k → (SomeReturns c ds → ⊥) → CountsSteps c ds k
+counted_as c ds k count none = subst (CountsSteps c ds) count (counts_all c ds none)
 
 pub halts_at : (P : Program) (c : Config) (n k : ℕ) (d : Config) → (l : Leads P c k d) → k ≤ n → (k < n → (e : Config) → RuledStep P d e → ⊥) → Halts P c n k d l.run
 halts_at P c n k d l within stands = record {
@@ -110,7 +110,7 @@ halts_returned P c n k e d l last st less = record {
     within = omega (arith, count_more l.run e k l.count, less);
     whole = λ more f to. ends_stop P e f (ended_by P d.top.rest d e last.0 last.1 (plain_step P d e st)) (plain_step P e f (subst (λ x. RuledStep P x f) (last_more c l.run e) to));
   };
-  counted = subst (Counts c (l.run ++ e ∷ [])) l.count (counts_but_last c l.run e l.goes_on (subst ReturnsLast (sym l.last) last));
+  counted = subst (CountsSteps c (l.run ++ e ∷ [])) l.count (counts_but_last c l.run e l.goes_on (subst ReturnsLast (sym l.last) last));
   last = last_more c l.run e;
 }
 

@@ -20,9 +20,9 @@ use Rattle.gh_run.proofs.Procedures.{one_number}
 use Rattle.gh_run.proofs.Telling.{lines_one, apart4, IsNamed, IsListed, IsHeaped, shows_entries, shows_heap, same_start, as_said}
 
 -- the lines of a state file, one after the other
-record Parts (P : Program) (text : List ℕ) (b : Begin) (p : Procedure) (r1 r2 r3 : List ℕ) : Type 0 where
-  first : IsNamed P text b.procedure p r1
-  second : IsListed (variable_names p) r1 b.store r2
+record Parts (P : Program) (text : List ℕ) (b : Begin) (proc : Procedure) (r1 r2 r3 : List ℕ) : Type 0 where
+  first : IsNamed P text b.procedure proc r1
+  second : IsListed (variable_names proc) r1 b.store r2
   third : IsHeaped r2 b.heap r3
 
 abbrev after_second : Begin → List ℕ → List ℕ
@@ -62,15 +62,15 @@ record AreOne (b c : Begin) : Type 0 where
   store : b.store ≡ c.store
   heap : b.heap ≡ c.heap
 
-are_one : (P : Program) (text : List ℕ) (b c : Begin) (p q : Procedure) (r1 r2 r3 s1 s2 s3 : List ℕ) → IsTyped P → Parts P text b p r1 r2 r3 → Parts P text c q s1 s2 s3 → AreOne b c
-are_one P text b c p q r1 r2 r3 s1 s2 s3 typed x y =
-    let start = same_start P text b.procedure c.procedure p q r1 s1 typed x.first y.first.numbered y.first.first.whole y.first.first.one in
-    let names : name_of p ≡ name_of q = ap name_of (sym start.procedure) in
+are_one : (P : Program) (text : List ℕ) (b c : Begin) (proc q : Procedure) (r1 r2 r3 s1 s2 s3 : List ℕ) → IsTyped P → Parts P text b proc r1 r2 r3 → Parts P text c q s1 s2 s3 → AreOne b c
+are_one P text b c proc q r1 r2 r3 s1 s2 s3 typed x y =
+    let start = same_start P text b.procedure c.procedure proc q r1 s1 typed x.first y.first.numbered y.first.first.whole y.first.first.one in
+    let names : name_of proc ≡ name_of q = ap name_of (sym start.procedure) in
     let second : IsListed (variable_names q) s1 b.store r2 = subst (λ z. IsListed (variable_names q) z b.store r2) start.rest (subst (λ z. IsListed (variable_names z) r1 b.store r2) (sym start.procedure) x.second) in
     let stores = one_store (variable_names q) s1 r2 s2 b.store c.store second y.second in
     let third : IsHeaped s2 b.heap r3 = subst (λ z. IsHeaped z b.heap r3) stores.1 x.third in
     let heaps = after_one (codes "heap") ShowsHeap heap_one s2 b.heap c.heap r3 s3 (shows_heap s2 b.heap r3 third) (shows_heap s2 c.heap s3 y.third) in
-    record { number = one_number P typed b.procedure c.procedure p q x.first.numbered y.first.numbered names; store = stores.0; heap = heaps.0 }
+    record { number = one_number P typed b.procedure c.procedure proc q x.first.numbered y.first.numbered names; store = stores.0; heap = heaps.0 }
 
 state_one : (P : Program) (text : List ℕ) (b c : Begin) → IsTyped P → IsStateFile P text b → IsStateFile P text c → b ≡ c
 state_one P text b c typed s t =

@@ -21,7 +21,7 @@ use Rattle.gh_machine.proofs.Progress.{steps_fit}
 use Rattle.gh_trace.specs.declared.state.State.{State}
 use Rattle.gh_trace.proofs.Listings.{listed_value}
 use Rattle.gh_run.specs.StateFiles.{BeginsIn}
-use Rattle.gh_run.specs.Rule.{IsLeastFree, IsByRule, RuledStep, IsRuledRun, IsConcreteRun, Counts}
+use Rattle.gh_run.specs.Rule.{IsLeastFree, IsByRule, RuledStep, IsRuledRun, IsConcreteRun, CountsSteps}
 use Rattle.gh_run.specs.Reports.{begun, IsStateOf, ComesTo, IsStopped, IsMet, IsReportOn}
 use Rattle.gh_run.specs.Laws.{ReportsAreOne}
 use Rattle.gh_run.specs.declared.state_file.Begin.{Begin}
@@ -71,7 +71,7 @@ one_run P c n (d ∷ ds) (e ∷ es) r s =
     let others = one_run P e (n - 1) ds es (subst (λ x. IsConcreteRun P x (n - 1) ds) first (rest_of P c d n ds r)) (rest_of P c e n es s) in
     λ i. first i ∷ others i
 
-one_count : (c : Config) (ds : List Config) (k m : ℕ) → Counts c ds k → Counts c ds m → k ≡ m
+one_count : (c : Config) (ds : List Config) (k m : ℕ) → CountsSteps c ds k → CountsSteps c ds m → k ≡ m
 one_count c [] k m a b = a ∙ sym b
 one_count c (d ∷ ds) k m a b = elim a [
   | inl (last, more) ↦ elim b [ inl (last', more') ↦ one_count d ds k m more more' | inr (goes, j, is, more') ↦ absurd (goes last) ]
@@ -107,8 +107,8 @@ one_state c s t apart a b =
 
 -- the procedure at work is one of the program's, so its variables are distinct
 
-start_fits : (P : Program) (b : Begin) (p : Procedure) → IsTyped P → BeginsIn P b p → ConfigFits P (begun p b)
-start_fits P b p typed begins = let here = member_at P b.procedure p begins.numbered in (here, (typed_fit P typed p here).body, tt)
+start_fits : (P : Program) (b : Begin) (proc : Procedure) → IsTyped P → BeginsIn P b proc → ConfigFits P (begun proc b)
+start_fits P b proc typed begins = let here = member_at P b.procedure proc begins.numbered in (here, (typed_fit P typed proc here).body, tt)
 
 run_fits : (P : Program) (c : Config) (ds : List Config) → IsTyped P → ConfigFits P c → IsRuledRun P c ds → ConfigFits P (last_of c ds)
 run_fits P c [] typed fits r = fits
@@ -126,7 +126,7 @@ are_one P c n ds es k m s t typed fits a b =
     let here = run_fits P c es typed fits b.run.ruled in
     record {
       run = run;
-      steps = one_count c es k m (subst (λ x. Counts c x k) run a.counted) b.counted;
+      steps = one_count c es k m (subst (λ x. CountsSteps c x k) run a.counted) b.counted;
       state = one_state (last_of c es) s t (variables_are_distinct P typed (last_of c es).top.procedure here.0) (subst (λ x. IsStateOf (last_of c x) s) run a.state) b.state;
     }
 
@@ -139,44 +139,44 @@ one_truth X Y false false p q f g = refl
 one_truth X Y true false p q f g = let wrong : IsTrue false = q.1 (f (p.0 refl)) in absurd cc
 one_truth X Y false true p q f g = let wrong : IsTrue false = p.1 (g (q.0 refl)) in absurd cc
 
-on_one : (P : Program) (p : Procedure) (c : Config) (n : ℕ) (r t : Report) → IsTyped P → ConfigFits P c → IsReportOn P p c n r → IsReportOn P p c n t → r ≡ t
-on_one P p c n Unmet Unmet typed fits a b = refl
-on_one P p c n Unmet (Stopped m t) typed fits a b = absurd (a b.0)
-on_one P p c n Unmet (Faulted m t) typed fits a b = absurd (a b.0)
-on_one P p c n Unmet (Ended m t y) typed fits a b = absurd (a b.0)
-on_one P p c n (Stopped k s) Unmet typed fits a b = absurd (b a.0)
-on_one P p c n (Stopped k s) (Stopped m t) typed fits (well, ds, comes, stopped) (well', es, comes', stopped') =
+on_one : (P : Program) (proc : Procedure) (c : Config) (n : ℕ) (r t : Report) → IsTyped P → ConfigFits P c → IsReportOn P proc c n r → IsReportOn P proc c n t → r ≡ t
+on_one P proc c n Unmet Unmet typed fits a b = refl
+on_one P proc c n Unmet (Stopped m t) typed fits a b = absurd (a b.0)
+on_one P proc c n Unmet (Faulted m t) typed fits a b = absurd (a b.0)
+on_one P proc c n Unmet (Ended m t y) typed fits a b = absurd (a b.0)
+on_one P proc c n (Stopped k s) Unmet typed fits a b = absurd (b a.0)
+on_one P proc c n (Stopped k s) (Stopped m t) typed fits (well, ds, comes, stopped) (well', es, comes', stopped') =
     let one = are_one P c n ds es k m s t typed fits comes comes' in
     λ i. Stopped (one.steps i) (one.state i)
-on_one P p c n (Stopped k s) (Faulted m t) typed fits (well, ds, comes, stopped) (well', es, comes', goes, fault) =
+on_one P proc c n (Stopped k s) (Faulted m t) typed fits (well, ds, comes, stopped) (well', es, comes', goes, fault) =
     let one = are_one P c n ds es k m s t typed fits comes comes' in
     absurd (goes (subst (IsStopped c n) one.run stopped))
-on_one P p c n (Stopped k s) (Ended m t y) typed fits (well, ds, comes, stopped) (well', es, comes', goes, ended, tells) =
+on_one P proc c n (Stopped k s) (Ended m t y) typed fits (well, ds, comes, stopped) (well', es, comes', goes, ended, tells) =
     let one = are_one P c n ds es k m s t typed fits comes comes' in
     absurd (goes (subst (IsStopped c n) one.run stopped))
-on_one P p c n (Faulted k s) Unmet typed fits a b = absurd (b a.0)
-on_one P p c n (Faulted k s) (Stopped m t) typed fits (well, ds, comes, goes, fault) (well', es, comes', stopped) =
+on_one P proc c n (Faulted k s) Unmet typed fits a b = absurd (b a.0)
+on_one P proc c n (Faulted k s) (Stopped m t) typed fits (well, ds, comes, goes, fault) (well', es, comes', stopped) =
     let one = are_one P c n ds es k m s t typed fits comes comes' in
     absurd (goes (subst (IsStopped c n) (sym one.run) stopped))
-on_one P p c n (Faulted k s) (Faulted m t) typed fits (well, ds, comes, goes, fault) (well', es, comes', goes', fault') =
+on_one P proc c n (Faulted k s) (Faulted m t) typed fits (well, ds, comes, goes, fault) (well', es, comes', goes', fault') =
     let one = are_one P c n ds es k m s t typed fits comes comes' in
     λ i. Faulted (one.steps i) (one.state i)
-on_one P p c n (Faulted k s) (Ended m t y) typed fits (well, ds, comes, goes, fault) (well', es, comes', goes', ended, tells) =
+on_one P proc c n (Faulted k s) (Ended m t y) typed fits (well, ds, comes, goes, fault) (well', es, comes', goes', ended, tells) =
     let one = are_one P c n ds es k m s t typed fits comes comes' in
     absurd (ended_well (last_of c ds) (subst (λ x. HasEnded (last_of c x)) (sym one.run) ended) fault)
-on_one P p c n (Ended k s x) Unmet typed fits a b = absurd (b a.0)
-on_one P p c n (Ended k s x) (Stopped m t) typed fits (well, ds, comes, goes, ended, tells) (well', es, comes', stopped) =
+on_one P proc c n (Ended k s x) Unmet typed fits a b = absurd (b a.0)
+on_one P proc c n (Ended k s x) (Stopped m t) typed fits (well, ds, comes, goes, ended, tells) (well', es, comes', stopped) =
     let one = are_one P c n ds es k m s t typed fits comes comes' in
     absurd (goes (subst (IsStopped c n) (sym one.run) stopped))
-on_one P p c n (Ended k s x) (Faulted m t) typed fits (well, ds, comes, goes, ended, tells) (well', es, comes', goes', fault) =
+on_one P proc c n (Ended k s x) (Faulted m t) typed fits (well, ds, comes, goes, ended, tells) (well', es, comes', goes', fault) =
     let one = are_one P c n ds es k m s t typed fits comes comes' in
     absurd (ended_well (last_of c es) (subst (λ z. HasEnded (last_of c z)) one.run ended) fault)
-on_one P p c n (Ended k s x) (Ended m t y) typed fits (well, ds, comes, goes, ended, tells) (well', es, comes', goes', ended', tells') =
+on_one P proc c n (Ended k s x) (Ended m t y) typed fits (well, ds, comes, goes, ended, tells) (well', es, comes', goes', ended', tells') =
     let one = are_one P c n ds es k m s t typed fits comes comes' in
-    let met = one_truth (IsMet p c (last_of c ds)) (IsMet p c (last_of c es)) x y tells tells' (λ w. subst (λ z. IsMet p c (last_of c z)) one.run w) (λ w. subst (λ z. IsMet p c (last_of c z)) (sym one.run) w) in
+    let met = one_truth (IsMet proc c (last_of c ds)) (IsMet proc c (last_of c es)) x y tells tells' (λ w. subst (λ z. IsMet proc c (last_of c z)) one.run w) (λ w. subst (λ z. IsMet proc c (last_of c z)) (sym one.run) w) in
     λ i. Ended (one.steps i) (one.state i) (met i)
 
 pub reports_are_one : ReportsAreOne
-reports_are_one P b n r t typed (p, begins, on) (q, begins', on') =
-    let same : q ≡ p = some_one q p (sym begins'.numbered ∙ begins.numbered) in
-    on_one P p (begun p b) n r t typed (start_fits P b p typed begins) on (subst (λ x. IsReportOn P x (begun x b) n t) same on')
+reports_are_one P b n r t typed (proc, begins, on) (q, begins', on') =
+    let same : q ≡ proc = some_one q proc (sym begins'.numbered ∙ begins.numbered) in
+    on_one P proc (begun proc b) n r t typed (start_fits P b proc typed begins) on (subst (λ x. IsReportOn P x (begun x b) n t) same on')

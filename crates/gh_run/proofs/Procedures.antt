@@ -30,11 +30,11 @@ repeated ps i j p q before first later same =
     }
 
 -- two procedures of a typed program with one name have one number
-pub one_number : (P : Program) → IsTyped P → (i j : ℕ) (p q : Procedure) → slice_get P.procedures i ≡ Some p → slice_get P.procedures j ≡ Some q → name_of p ≡ name_of q → i ≡ j
-one_number P typed i j p q first later same = elim (cases_eq i j) [ inl one ↦ one | inr other ↦ absurd (elim (apart i j other) [ inl less ↦ by_order i j p q less first later same | inr more ↦ by_order j i q p more later first (sym same) ]) ]
+pub one_number : (P : Program) → IsTyped P → (i j : ℕ) (proc q : Procedure) → slice_get P.procedures i ≡ Some proc → slice_get P.procedures j ≡ Some q → name_of proc ≡ name_of q → i ≡ j
+one_number P typed i j proc q first later same = elim (cases_eq i j) [ inl one ↦ one | inr other ↦ absurd (elim (apart i j other) [ inl less ↦ by_order i j proc q less first later same | inr more ↦ by_order j i q proc more later first (sym same) ]) ]
   where
-    by_order : (i j : ℕ) (p q : Procedure) → i < j → slice_get P.procedures i ≡ Some p → slice_get P.procedures j ≡ Some q → name_of p ≡ name_of q → ⊥
-    by_order i j p q less first later same = typed 2 q.name.span (duplicate_name refl (inl (repeated P.procedures i j p q less first later same)))
+    by_order : (i j : ℕ) (proc q : Procedure) → i < j → slice_get P.procedures i ≡ Some proc → slice_get P.procedures j ≡ Some q → name_of proc ≡ name_of q → ⊥
+    by_order i j proc q less first later same = typed 2 q.name.span (duplicate_name refl (inl (repeated P.procedures i j proc q less first later same)))
 
     apart : (i j : ℕ) → i ≢ j → (i < j) ⊎ (j < i)
     apart i j other = grind arith
@@ -42,8 +42,8 @@ one_number P typed i j p q first later same = elim (cases_eq i j) [ inl one ↦ 
 pub some_one : (p q : Procedure) → Some p ≡ Some q → p ≡ q
 some_one p q e = cc
 
-pub one_procedure : (P : Program) → IsTyped P → (i j : ℕ) (p q : Procedure) → slice_get P.procedures i ≡ Some p → slice_get P.procedures j ≡ Some q → name_of p ≡ name_of q → p ≡ q
-one_procedure P typed i j p q first later same = some_one p q (sym first ∙ ap (slice_get P.procedures) (one_number P typed i j p q first later same) ∙ later)
+pub one_procedure : (P : Program) → IsTyped P → (i j : ℕ) (proc q : Procedure) → slice_get P.procedures i ≡ Some proc → slice_get P.procedures j ≡ Some q → name_of proc ≡ name_of q → proc ≡ q
+one_procedure P typed i j proc q first later same = some_one proc q (sym first ∙ ap (slice_get P.procedures) (one_number P typed i j proc q first later same) ∙ later)
 
 -- the procedure that stands at the number
 pub is_at : (W : Whole) (n : ℕ) (r : whole.Procedure) (p : Procedure) → n < length W.procedures.items → r ≡ get_or W.procedures.items n r → slice_get (program_of W).procedures n ≡ Some p → procedure_of r ≡ p
@@ -52,8 +52,8 @@ is_at W n r p within is there = sym (at_number W n r within is p) ∙ get_or_fro
 pub number_within : (W : Whole) (n : ℕ) (p : Procedure) → slice_get (program_of W).procedures n ≡ Some p → n < length W.procedures.items
 number_within W n p there = omega (arith, slice_get_within (program_of W).procedures n p there, length-map W.procedures.items procedure_of)
 
-pub member_at : (P : Program) (n : ℕ) (p : Procedure) → slice_get P.procedures n ≡ Some p → Contains P.procedures p
-member_at P n p there = (n, slice_get_within P.procedures n p there, get_or_from_slice_get P.procedures n p p there)
+pub member_at : (P : Program) (n : ℕ) (proc : Procedure) → slice_get P.procedures n ≡ Some proc → Contains P.procedures proc
+member_at P n proc there = (n, slice_get_within P.procedures n proc there, get_or_from_slice_get P.procedures n proc proc there)
 
 -- the same where the program and the number are read first
 pub read_at : (W V : Whole) (n m : ℕ) (r : whole.Procedure) (p : Procedure) → V ≡ W → m ≡ n → r ≡ get_or V.procedures.items m r → slice_get (program_of W).procedures n ≡ Some p → procedure_of r ≡ p

@@ -11,7 +11,7 @@ use Rattle.gh_ast.proofs.Declared.{is_one}
 use Rattle.gh_assert.specs.Heaps.{Heap}
 use Rattle.gh_assert.specs.Meaning.{Store}
 use Rattle.gh_assert.specs.Stores.{store_of}
-use Rattle.gh_machine.specs.Machine.{Activation, Config, Answers, Pops, StepOn}
+use Rattle.gh_machine.specs.Machine.{Activation, Config, HandsBack, Pops, StepOn}
 use Rattle.gh_machine.specs.Choices.{Follows}
 use Rattle.gh_machine.specs.Choices as choices
 use Rattle.gh_machine.specs.Configs.{beside, starts_of, chosen, IsReturn, Misfits, IsNext, WantsStarts}
@@ -59,8 +59,8 @@ return_follows (statement_first (loop at t i b cb) rest) ch c d is = absurd is
 -- the rule's choice fits
 fits : (P : Program) (rest : Statements) (h : Heap) (wanted : ℕ) (ch : Choice) → IsRuledChoice h wanted ch → WantsStarts P rest wanted → Misfits P ch rest h → ⊥
 fits P (statement_first (new x) rest) h wanted ch is want misfit = elim misfit [ inl null ↦ is.location.not_null null | inr taken ↦ taken is.location.free ]
-fits P (statement_first (call xs f es) rest) h wanted ch is (p, there, count) (q, declared, other) =
-    let same : p ≡ q = is_one P.procedures f.name p q there declared in
+fits P (statement_first (call xs f es) rest) h wanted ch is (proc, there, count) (q, declared, other) =
+    let same : proc ≡ q = is_one P.procedures f.name proc q there declared in
     other (ap length is.starts ∙ length-replicate wanted 0 ∙ count ∙ ap (λ r. length (starts_of r)) same)
 fits P no_statements h wanted ch is want misfit = absurd misfit
 fits P (statement_first (set x e) rest) h wanted ch is want misfit = absurd misfit
@@ -104,7 +104,7 @@ taken_more h k l e = subst (λ m. m ≤ len h + 1) (sym (ap len e ∙ len-remove
 abbrev heap_of : Config → Heap
 heap_of c = c.heap
 
-answers_heap : (rest : Statements) (a : Activation) (below : List Activation) (p : Procedure) (t : Store) (h : Heap) (d : Config) → Answers rest a below p t h d → d.heap ≡ h
+answers_heap : (rest : Statements) (a : Activation) (below : List Activation) (p : Procedure) (t : Store) (h : Heap) (d : Config) → HandsBack rest a below p t h d → d.heap ≡ h
 answers_heap (statement_first (call xs f es) rest) a below p t h d (u, gets, to) = ap heap_of to
 answers_heap no_statements a below p t h d w = absurd w
 answers_heap (statement_first (set x e) rest) a below p t h d w = absurd w

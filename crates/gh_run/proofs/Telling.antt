@@ -80,9 +80,9 @@ end_is_one = no_member_of (codes "end") (λ e. absurd (omega (arith, e)), (λ e.
 
 -- the parts that are read
 
-pub record IsNamed (P : Program) (text : List ℕ) (n : ℕ) (p : Procedure) (rest : List ℕ) : Type 0 where
-  pub numbered : slice_get P.procedures n ≡ Some p
-  pub first : IsFirstLine text (codes "procedure " ++ name_of p) rest
+pub record IsNamed (P : Program) (text : List ℕ) (n : ℕ) (proc : Procedure) (rest : List ℕ) : Type 0 where
+  pub numbered : slice_get P.procedures n ≡ Some proc
+  pub first : IsFirstLine text (codes "procedure " ++ name_of proc) rest
 
 pub named : (P : Program) (text : List ℕ) (n : ℕ) (rest : List ℕ) → (s : ShowsProcedure P text n rest) → IsNamed P text n s.number.procedure rest
 named P text n rest s = record { numbered = s.number.numbered; first = subst (λ z. IsFirstLine text (codes "procedure " ++ z) rest) (sym s.number.named) s.first }
@@ -151,43 +151,43 @@ none_drawn = λ k d within. absurd (omega (arith, within, len-entries no_cells, 
 abbrev state : ℕ → List Entry → Heap → Begin
 state n es h = record { procedure = n; store = es; heap = h }
 
-pub told1 : (P : Program) (text : List ℕ) (n : ℕ) (p : Procedure) (r : List ℕ) → IsNamed P text n p r → AreAsSaid P text 1
-told1 P text n p r a =
-    let es = map entry_zero (variable_names p) in (
+pub told1 : (P : Program) (text : List ℕ) (n : ℕ) (proc : Procedure) (r : List ℕ) → IsNamed P text n proc r → AreAsSaid P text 1
+told1 P text n proc r a =
+    let es = map entry_zero (variable_names proc) in (
       state n es no_cells,
       record {
-        procedure = p;
-        begins = record { numbered = a.numbered; lists = zeros_list (variable_names p) };
-        values = zeros_fit (variable_names p);
+        procedure = proc;
+        begins = record { numbered = a.numbered; lists = zeros_list (variable_names proc) };
+        values = zeros_fit (variable_names proc);
         cells = none_drawn;
         rest = r;
-        whole = a.first.whole ∙ sym (apart1 (line (codes "procedure " ++ name_of p)) r);
-        lines = All-cons IsOneLine (codes "procedure " ++ name_of p) [] a.first.one (All-nil IsOneLine);
+        whole = a.first.whole ∙ sym (apart1 (line (codes "procedure " ++ name_of proc)) r);
+        lines = All-cons IsOneLine (codes "procedure " ++ name_of proc) [] a.first.one (All-nil IsOneLine);
         ends = λ h. absurd (omega (arith, h));
       },
     )
 
-pub told2 : (P : Program) (text : List ℕ) (n : ℕ) (p : Procedure) (r1 r2 : List ℕ) (es : List Entry) → IsNamed P text n p r1 → IsListed (variable_names p) r1 es r2 → AreAsSaid P text 2
-told2 P text n p r1 r2 es a b = (
+pub told2 : (P : Program) (text : List ℕ) (n : ℕ) (proc : Procedure) (r1 r2 : List ℕ) (es : List Entry) → IsNamed P text n proc r1 → IsListed (variable_names proc) r1 es r2 → AreAsSaid P text 2
+told2 P text n proc r1 r2 es a b = (
   state n es no_cells,
   record {
-    procedure = p;
+    procedure = proc;
     begins = record { numbered = a.numbered; lists = b.over };
     values = b.values;
     cells = none_drawn;
     rest = r2;
-    whole = a.first.whole ∙ ap (λ z. line (codes "procedure " ++ name_of p) ++ z) b.first.whole ∙ sym (apart2 (line (codes "procedure " ++ name_of p)) (line (entries_line es)) r2);
-    lines = All-cons IsOneLine (codes "procedure " ++ name_of p) (entries_line es ∷ []) a.first.one (All-cons IsOneLine (entries_line es) [] b.first.one (All-nil IsOneLine));
+    whole = a.first.whole ∙ ap (λ z. line (codes "procedure " ++ name_of proc) ++ z) b.first.whole ∙ sym (apart2 (line (codes "procedure " ++ name_of proc)) (line (entries_line es)) r2);
+    lines = All-cons IsOneLine (codes "procedure " ++ name_of proc) (entries_line es ∷ []) a.first.one (All-cons IsOneLine (entries_line es) [] b.first.one (All-nil IsOneLine));
     ends = λ h. absurd (omega (arith, h));
   },
 )
 
-pub told3 : (P : Program) (text : List ℕ) (n : ℕ) (p : Procedure) (r1 r2 r3 : List ℕ) (es : List Entry) (h : Heap) → IsNamed P text n p r1 → IsListed (variable_names p) r1 es r2 → IsHeaped r2 h r3 → Tells P text 3 (state n es h)
-told3 P text n p r1 r2 r3 es h a b c =
-    let L1 = codes "procedure " ++ name_of p in
+pub told3 : (P : Program) (text : List ℕ) (n : ℕ) (proc : Procedure) (r1 r2 r3 : List ℕ) (es : List Entry) (h : Heap) → IsNamed P text n proc r1 → IsListed (variable_names proc) r1 es r2 → IsHeaped r2 h r3 → Tells P text 3 (state n es h)
+told3 P text n proc r1 r2 r3 es h a b c =
+    let L1 = codes "procedure " ++ name_of proc in
     let L2 = entries_line es in
     record {
-      procedure = p;
+      procedure = proc;
       begins = record { numbered = a.numbered; lists = b.over };
       values = b.values;
       cells = c.cells;
@@ -197,41 +197,41 @@ told3 P text n p r1 r2 r3 es h a b c =
       ends = λ h. absurd (omega (arith, h));
     }
 
-all_lines : (P : Program) (text : List ℕ) (n : ℕ) (p : Procedure) (r1 r2 r3 : List ℕ) (es : List Entry) (h : Heap) → IsNamed P text n p r1 → IsListed (variable_names p) r1 es r2 → IsHeaped r2 h r3 → All IsOneLine (file_lines p (state n es h))
-all_lines P text n p r1 r2 r3 es h a b c =
-    let L1 = codes "procedure " ++ name_of p in
+all_lines : (P : Program) (text : List ℕ) (n : ℕ) (proc : Procedure) (r1 r2 r3 : List ℕ) (es : List Entry) (h : Heap) → IsNamed P text n proc r1 → IsListed (variable_names proc) r1 es r2 → IsHeaped r2 h r3 → All IsOneLine (file_lines proc (state n es h))
+all_lines P text n proc r1 r2 r3 es h a b c =
+    let L1 = codes "procedure " ++ name_of proc in
     let L2 = entries_line es in
     All-cons IsOneLine L1 (L2 ∷ heap_line h ∷ codes "end" ∷ []) a.first.one
     (All-cons IsOneLine L2 (heap_line h ∷ codes "end" ∷ []) b.first.one (All-cons IsOneLine (heap_line h) (codes "end" ∷ []) (heap_line_is_one h c.cells) (All-cons IsOneLine (codes "end") [] end_is_one (All-nil IsOneLine))))
 
-all_text : (P : Program) (text : List ℕ) (n : ℕ) (p : Procedure) (r1 r2 r3 r4 : List ℕ) (es : List Entry) (h : Heap) → IsNamed P text n p r1 → IsListed (variable_names p) r1 es r2 → IsHeaped r2 h r3 → r3 ≡ codes "end\n" ++ r4
-    → text ≡ flat_map line (file_lines p (state n es h)) ++ r4
-all_text P text n p r1 r2 r3 r4 es h a b c d =
-    let L1 = codes "procedure " ++ name_of p in
+all_text : (P : Program) (text : List ℕ) (n : ℕ) (proc : Procedure) (r1 r2 r3 r4 : List ℕ) (es : List Entry) (h : Heap) → IsNamed P text n proc r1 → IsListed (variable_names proc) r1 es r2 → IsHeaped r2 h r3 → r3 ≡ codes "end\n" ++ r4
+    → text ≡ flat_map line (file_lines proc (state n es h)) ++ r4
+all_text P text n proc r1 r2 r3 r4 es h a b c d =
+    let L1 = codes "procedure " ++ name_of proc in
     let L2 = entries_line es in
     a.first.whole ∙ ap (λ z. line L1 ++ z) (b.first.whole ∙ ap (λ z. line L2 ++ z) (c.whole ∙ ap (λ z. line (heap_line h) ++ z) d)) ∙ sym (apart4 (line L1) (line L2) (line (heap_line h)) (line (codes "end")) r4)
 
-pub told4 : (P : Program) (text : List ℕ) (n : ℕ) (p : Procedure) (r1 r2 r3 r4 : List ℕ) (es : List Entry) (h : Heap) → IsNamed P text n p r1 → IsListed (variable_names p) r1 es r2 → IsHeaped r2 h r3 → r3 ≡ codes "end\n" ++ r4 → Tells P text 4 (state n es h)
-told4 P text n p r1 r2 r3 r4 es h a b c d = record {
-  procedure = p;
+pub told4 : (P : Program) (text : List ℕ) (n : ℕ) (proc : Procedure) (r1 r2 r3 r4 : List ℕ) (es : List Entry) (h : Heap) → IsNamed P text n proc r1 → IsListed (variable_names proc) r1 es r2 → IsHeaped r2 h r3 → r3 ≡ codes "end\n" ++ r4 → Tells P text 4 (state n es h)
+told4 P text n proc r1 r2 r3 r4 es h a b c d = record {
+  procedure = proc;
   begins = record { numbered = a.numbered; lists = b.over };
   values = b.values;
   cells = c.cells;
   rest = r4;
-  whole = all_text P text n p r1 r2 r3 r4 es h a b c d;
-  lines = all_lines P text n p r1 r2 r3 es h a b c;
+  whole = all_text P text n proc r1 r2 r3 r4 es h a b c d;
+  lines = all_lines P text n proc r1 r2 r3 es h a b c;
   ends = λ h. absurd (omega (arith, h));
 }
 
-pub told5 : (P : Program) (text : List ℕ) (n : ℕ) (p : Procedure) (r1 r2 r3 r4 : List ℕ) (es : List Entry) (h : Heap) → IsNamed P text n p r1 → IsListed (variable_names p) r1 es r2 → IsHeaped r2 h r3 → r3 ≡ codes "end\n" ++ r4 → r4 ≡ [] → Tells P text 5 (state n es h)
-told5 P text n p r1 r2 r3 r4 es h a b c d e = record {
-  procedure = p;
+pub told5 : (P : Program) (text : List ℕ) (n : ℕ) (proc : Procedure) (r1 r2 r3 r4 : List ℕ) (es : List Entry) (h : Heap) → IsNamed P text n proc r1 → IsListed (variable_names proc) r1 es r2 → IsHeaped r2 h r3 → r3 ≡ codes "end\n" ++ r4 → r4 ≡ [] → Tells P text 5 (state n es h)
+told5 P text n proc r1 r2 r3 r4 es h a b c d e = record {
+  procedure = proc;
   begins = record { numbered = a.numbered; lists = b.over };
   values = b.values;
   cells = c.cells;
   rest = r4;
-  whole = all_text P text n p r1 r2 r3 r4 es h a b c d;
-  lines = all_lines P text n p r1 r2 r3 es h a b c;
+  whole = all_text P text n proc r1 r2 r3 r4 es h a b c d;
+  lines = all_lines P text n proc r1 r2 r3 es h a b c;
   ends = λ _. e;
 }
 
@@ -291,72 +291,72 @@ faulty1 P text left none = record {
 }
 
 -- what is told begins with the procedure that is read
-pub record IsSameStart (P : Program) (p q : Procedure) (r more : List ℕ) : Type 0 where
-  pub procedure : q ≡ p
+pub record IsSameStart (P : Program) (proc q : Procedure) (r more : List ℕ) : Type 0 where
+  pub procedure : q ≡ proc
   pub rest : r ≡ more
 
-pub same_start : (P : Program) (text : List ℕ) (n m : ℕ) (p q : Procedure) (r more : List ℕ) → IsTyped P → IsNamed P text n p r → slice_get P.procedures m ≡ Some q → text ≡ line (codes "procedure " ++ name_of q) ++ more → IsOneLine (codes "procedure " ++ name_of q) → IsSameStart P p q r more
-same_start P text n m p q r more typed a there whole one =
-    let both = lines_one (codes "procedure " ++ name_of p) (codes "procedure " ++ name_of q) r more a.first.one one (sym a.first.whole ∙ whole) in
-    let names : name_of p ≡ name_of q = append_cancel_left (codes "procedure ") (name_of p) (name_of q) both.0 in
-    record { procedure = one_procedure P typed m n q p there a.numbered (sym names); rest = both.1 }
+pub same_start : (P : Program) (text : List ℕ) (n m : ℕ) (proc q : Procedure) (r more : List ℕ) → IsTyped P → IsNamed P text n proc r → slice_get P.procedures m ≡ Some q → text ≡ line (codes "procedure " ++ name_of q) ++ more → IsOneLine (codes "procedure " ++ name_of q) → IsSameStart P proc q r more
+same_start P text n m proc q r more typed a there whole one =
+    let both = lines_one (codes "procedure " ++ name_of proc) (codes "procedure " ++ name_of q) r more a.first.one one (sym a.first.whole ∙ whole) in
+    let names : name_of proc ≡ name_of q = append_cancel_left (codes "procedure ") (name_of proc) (name_of q) both.0 in
+    record { procedure = one_procedure P typed m n q proc there a.numbered (sym names); rest = both.1 }
 
-pub faulty2 : (P : Program) (text : List ℕ) (n : ℕ) (p : Procedure) (r left : List ℕ) → IsTyped P → IsNamed P text n p r → IsFrontRead (ShowsStore (variable_names p)) r left None → IsFaultyLine P text 2
-faulty2 P text n p r left typed a none = record {
+pub faulty2 : (P : Program) (text : List ℕ) (n : ℕ) (proc : Procedure) (r left : List ℕ) → IsTyped P → IsNamed P text n proc r → IsFrontRead (ShowsStore (variable_names proc)) r left None → IsFaultyLine P text 2
+faulty2 P text n proc r left typed a none = record {
   low = omega arith;
-  before = λ k low less. as_said P text k 1 (omega (arith, less)) (omega arith) (told1 P text n p r a);
+  before = λ k low less. as_said P text k 1 (omega (arith, less)) (omega arith) (told1 P text n proc r a);
   here = λ (b, t).
       let L1 = codes "procedure " ++ name_of t.procedure in
       let L2 = entries_line b.store in
-      let s = same_start P text n b.procedure p t.procedure r (line L2 ++ t.rest) typed a t.begins.numbered (t.whole ∙ apart2 (line L1) (line L2) t.rest) (All-head IsOneLine L1 (L2 ∷ []) t.lines) in
-      none b.store t.rest (shows_store (variable_names p) r b.store t.rest (record {
+      let s = same_start P text n b.procedure proc t.procedure r (line L2 ++ t.rest) typed a t.begins.numbered (t.whole ∙ apart2 (line L1) (line L2) t.rest) (All-head IsOneLine L1 (L2 ∷ []) t.lines) in
+      none b.store t.rest (shows_store (variable_names proc) r b.store t.rest (record {
         over = t.begins.lists ∙ ap variable_names s.procedure;
         values = t.values;
         first = record { whole = s.rest; one = All-head IsOneLine L2 [] (All-tail IsOneLine L1 (L2 ∷ []) t.lines) };
       }));
 }
 
-pub faulty3 : (P : Program) (text : List ℕ) (n : ℕ) (p : Procedure) (r1 r2 left : List ℕ) (es : List Entry) → IsTyped P → IsNamed P text n p r1 → IsListed (variable_names p) r1 es r2 → IsFrontRead ShowsCellLine r2 left None → IsFaultyLine P text 3
-faulty3 P text n p r1 r2 left es typed a l none = record {
+pub faulty3 : (P : Program) (text : List ℕ) (n : ℕ) (proc : Procedure) (r1 r2 left : List ℕ) (es : List Entry) → IsTyped P → IsNamed P text n proc r1 → IsListed (variable_names proc) r1 es r2 → IsFrontRead ShowsCellLine r2 left None → IsFaultyLine P text 3
+faulty3 P text n proc r1 r2 left es typed a l none = record {
   low = omega arith;
-  before = λ k low less. as_said P text k 2 (omega (arith, less)) (omega arith) (told2 P text n p r1 r2 es a l);
+  before = λ k low less. as_said P text k 2 (omega (arith, less)) (omega arith) (told2 P text n proc r1 r2 es a l);
   here = λ (b, t).
       let L1 = codes "procedure " ++ name_of t.procedure in
       let L2 = entries_line b.store in
       let L3 = heap_line b.heap in
-      let s = same_start P text n b.procedure p t.procedure r1 (line L2 ++ (line L3 ++ t.rest)) typed a t.begins.numbered (t.whole ∙ apart3 (line L1) (line L2) (line L3) t.rest) (All-head IsOneLine L1 (L2 ∷ L3 ∷ []) t.lines) in
+      let s = same_start P text n b.procedure proc t.procedure r1 (line L2 ++ (line L3 ++ t.rest)) typed a t.begins.numbered (t.whole ∙ apart3 (line L1) (line L2) (line L3) t.rest) (All-head IsOneLine L1 (L2 ∷ L3 ∷ []) t.lines) in
       let one = All-head IsOneLine L2 (L3 ∷ []) (All-tail IsOneLine L1 (L2 ∷ L3 ∷ []) t.lines) in
       let both = lines_one (entries_line es) L2 r2 (line L3 ++ t.rest) l.first.one one (sym l.first.whole ∙ s.rest) in
       none b.heap t.rest (shows_heap r2 b.heap t.rest (record { cells = t.cells; whole = both.1 }));
 }
 
 -- what follows the third line
-after_third : (P : Program) (text : List ℕ) (n : ℕ) (p : Procedure) (r1 r2 r3 : List ℕ) (es : List Entry) (h : Heap) (b : Begin) (q : Procedure) (more : List ℕ) → IsTyped P → IsNamed P text n p r1 → IsListed (variable_names p) r1 es r2 → IsHeaped r2 h r3
+after_third : (P : Program) (text : List ℕ) (n : ℕ) (proc : Procedure) (r1 r2 r3 : List ℕ) (es : List Entry) (h : Heap) (b : Begin) (q : Procedure) (more : List ℕ) → IsTyped P → IsNamed P text n proc r1 → IsListed (variable_names proc) r1 es r2 → IsHeaped r2 h r3
     → slice_get P.procedures b.procedure ≡ Some q → All IsDrawnCell (entries b.heap) → All IsOneLine (file_lines q b) → text ≡ flat_map line (file_lines q b) ++ more → r3 ≡ codes "end\n" ++ more
-after_third P text n p r1 r2 r3 es h b q more typed a l c there cells lines whole =
+after_third P text n proc r1 r2 r3 es h b q more typed a l c there cells lines whole =
     let L1 = codes "procedure " ++ name_of q in
     let L2 = entries_line b.store in
     let L3 = heap_line b.heap in
     let L4 = codes "end" in
-    let s = same_start P text n b.procedure p q r1 (line L2 ++ (line L3 ++ (line L4 ++ more))) typed a there (whole ∙ apart4 (line L1) (line L2) (line L3) (line L4) more) (All-head IsOneLine L1 (L2 ∷ L3 ∷ L4 ∷ []) lines) in
+    let s = same_start P text n b.procedure proc q r1 (line L2 ++ (line L3 ++ (line L4 ++ more))) typed a there (whole ∙ apart4 (line L1) (line L2) (line L3) (line L4) more) (All-head IsOneLine L1 (L2 ∷ L3 ∷ L4 ∷ []) lines) in
     let one = All-head IsOneLine L2 (L3 ∷ L4 ∷ []) (All-tail IsOneLine L1 (L2 ∷ L3 ∷ L4 ∷ []) lines) in
     let second = lines_one (entries_line es) L2 r2 (line L3 ++ (line L4 ++ more)) l.first.one one (sym l.first.whole ∙ s.rest) in
     let third = lines_one (heap_line h) L3 r3 (line L4 ++ more) (heap_line_is_one h c.cells) (heap_line_is_one b.heap cells) (sym c.whole ∙ second.1) in
     third.1
 
-pub faulty4 : (P : Program) (text : List ℕ) (n : ℕ) (p : Procedure) (r1 r2 r3 left : List ℕ) (es : List Entry) (h : Heap) → IsTyped P → IsNamed P text n p r1 → IsListed (variable_names p) r1 es r2 → IsHeaped r2 h r3 → IsFrontRead (ShowsWord (codes "end\n")) r3 left None → IsFaultyLine P text 4
-faulty4 P text n p r1 r2 r3 left es h typed a l c none = record {
+pub faulty4 : (P : Program) (text : List ℕ) (n : ℕ) (proc : Procedure) (r1 r2 r3 left : List ℕ) (es : List Entry) (h : Heap) → IsTyped P → IsNamed P text n proc r1 → IsListed (variable_names proc) r1 es r2 → IsHeaped r2 h r3 → IsFrontRead (ShowsWord (codes "end\n")) r3 left None → IsFaultyLine P text 4
+faulty4 P text n proc r1 r2 r3 left es h typed a l c none = record {
   low = omega arith;
-  before = λ k low less. as_said P text k 3 (omega (arith, less)) (omega arith) (state n es h, told3 P text n p r1 r2 r3 es h a l c);
-  here = λ (b, t). none tt t.rest (after_third P text n p r1 r2 r3 es h b t.procedure t.rest typed a l c t.begins.numbered t.cells t.lines t.whole);
+  before = λ k low less. as_said P text k 3 (omega (arith, less)) (omega arith) (state n es h, told3 P text n proc r1 r2 r3 es h a l c);
+  here = λ (b, t). none tt t.rest (after_third P text n proc r1 r2 r3 es h b t.procedure t.rest typed a l c t.begins.numbered t.cells t.lines t.whole);
 }
 
-pub faulty5 : (P : Program) (text : List ℕ) (n : ℕ) (p : Procedure) (r1 r2 r3 r4 : List ℕ) (es : List Entry) (h : Heap) → IsTyped P → IsNamed P text n p r1 → IsListed (variable_names p) r1 es r2 → IsHeaped r2 h r3 → r3 ≡ codes "end\n" ++ r4 → r4 ≢ [] → IsFaultyLine P text 5
-faulty5 P text n p r1 r2 r3 r4 es h typed a l c d some = record {
+pub faulty5 : (P : Program) (text : List ℕ) (n : ℕ) (proc : Procedure) (r1 r2 r3 r4 : List ℕ) (es : List Entry) (h : Heap) → IsTyped P → IsNamed P text n proc r1 → IsListed (variable_names proc) r1 es r2 → IsHeaped r2 h r3 → r3 ≡ codes "end\n" ++ r4 → r4 ≢ [] → IsFaultyLine P text 5
+faulty5 P text n proc r1 r2 r3 r4 es h typed a l c d some = record {
   low = omega arith;
-  before = λ k low less. as_said P text k 4 (omega (arith, less)) (omega arith) (state n es h, told4 P text n p r1 r2 r3 r4 es h a l c d);
+  before = λ k low less. as_said P text k 4 (omega (arith, less)) (omega arith) (state n es h, told4 P text n proc r1 r2 r3 r4 es h a l c d);
   here = λ (b, t).
-      let after = after_third P text n p r1 r2 r3 es h b t.procedure t.rest typed a l c t.begins.numbered t.cells t.lines t.whole in
+      let after = after_third P text n proc r1 r2 r3 es h b t.procedure t.rest typed a l c t.begins.numbered t.cells t.lines t.whole in
       some (append_cancel_left (codes "end\n") r4 t.rest (sym d ∙ after) ∙ t.ends (omega arith));
 }
 
@@ -375,9 +375,9 @@ heap_count : (t : List ℕ) (h : Heap) (r : List ℕ) → IsHeaped t h r → len
 heap_count t h r s =
     omega (arith, len-entries h, cells_count (entries h), ap length s.whole, length-append (line (heap_line h)) r, length-append (heap_line h) (10 ∷ []), length-append (codes "heap") (flat_map cell_text (entries h)))
 
-pub few_cells : (P : Program) (text : List ℕ) (n : ℕ) (p : Procedure) (r1 r2 r3 : List ℕ) (es : List Entry) (h : Heap) → IsNamed P text n p r1 → IsListed (variable_names p) r1 es r2 → IsHeaped r2 h r3 → len h ≤ length text
-few_cells P text n p r1 r2 r3 es h a b c =
-    let first = shorter_by (line (codes "procedure " ++ name_of p)) text r1 a.first.whole in
+pub few_cells : (P : Program) (text : List ℕ) (n : ℕ) (proc : Procedure) (r1 r2 r3 : List ℕ) (es : List Entry) (h : Heap) → IsNamed P text n proc r1 → IsListed (variable_names proc) r1 es r2 → IsHeaped r2 h r3 → len h ≤ length text
+few_cells P text n proc r1 r2 r3 es h a b c =
+    let first = shorter_by (line (codes "procedure " ++ name_of proc)) text r1 a.first.whole in
     let second = shorter_by (line (entries_line es)) r1 r2 b.first.whole in
     let third = heap_count r2 h r3 c in
     omega (arith, first, second, third)

@@ -11,7 +11,7 @@ use Rattle.gh_machine.specs.Machine.{Config, Fault, HasEnded, EndsWell, last_of,
 use Rattle.gh_trace.specs.Traces.{Replaced}
 use Rattle.gh_trace.specs.declared.state.State.{State}
 use Rattle.gh_run.specs.StateFiles.{BeginsIn}
-use Rattle.gh_run.specs.Rule.{IsConcreteRun, SomeReturns, Counts}
+use Rattle.gh_run.specs.Rule.{IsConcreteRun, SomeReturns, CountsSteps}
 use Rattle.gh_run.specs.declared.state_file.Begin.{Begin}
 use Rattle.gh_run.specs.declared.simulate.Report.{Report}
 use Rattle.gh_run.specs.declared.simulate.Report.TheVariants.{Unmet, Faulted, Ended, Stopped}
@@ -22,7 +22,7 @@ begun p b = starting p (store_of b.store) b.heap []
 
 -- the configuration is that of the procedure that the state file names
 abbrev pub IsAtBegin : Program → Begin → kept.Config → Type 0
-IsAtBegin P b c = (p : Procedure) → BeginsIn P b p → config_of c ≡ begun p b
+IsAtBegin P b c = (proc : Procedure) → BeginsIn P b proc → config_of c ≡ begun proc b
 
 -- the values of the variables of the topmost activation, in their order, and the heap
 pub record IsStateOf (c : Config) (s : State) : Type 0 where
@@ -33,7 +33,7 @@ pub record IsStateOf (c : Config) (s : State) : Type 0 where
 -- the run, how many of its steps count, and the state at its end
 pub record ComesTo (P : Program) (c : Config) (n : ℕ) (ds : List Config) (steps : ℕ) (s : State) : Type 0 where
   pub run : IsConcreteRun P c n ds
-  pub counted : Counts c ds steps
+  pub counted : CountsSteps c ds steps
   pub state : IsStateOf (last_of c ds) s
 
 -- the run makes n steps, and none of them is the return of the first activation
@@ -58,12 +58,12 @@ abbrev pub IsCalledWell : Procedure → Config → Type 0
 IsCalledWell p c = HasPart p.needs c.top.store c.heap
 
 abbrev pub IsReportOn : Program → Procedure → Config → ℕ → Report → Type 0
-IsReportOn P p c n Unmet = IsCalledWell p c → ⊥
-IsReportOn P p c n (Stopped steps s) = IsCalledWell p c × (ds : List Config) × ComesTo P c n ds steps s × IsStopped c n ds
-IsReportOn P p c n (Faulted steps s) = IsCalledWell p c × (ds : List Config) × ComesTo P c n ds steps s × (IsStopped c n ds → ⊥) × Fault (last_of c ds)
-IsReportOn P p c n (Ended steps s met) =
-    IsCalledWell p c × (ds : List Config) × ComesTo P c n ds steps s × (IsStopped c n ds → ⊥) × HasEnded (last_of c ds) × (IsTrue met ↔ IsMet p c (last_of c ds))
+IsReportOn P proc c n Unmet = IsCalledWell proc c → ⊥
+IsReportOn P proc c n (Stopped steps s) = IsCalledWell proc c × (ds : List Config) × ComesTo P c n ds steps s × IsStopped c n ds
+IsReportOn P proc c n (Faulted steps s) = IsCalledWell proc c × (ds : List Config) × ComesTo P c n ds steps s × (IsStopped c n ds → ⊥) × Fault (last_of c ds)
+IsReportOn P proc c n (Ended steps s met) =
+    IsCalledWell proc c × (ds : List Config) × ComesTo P c n ds steps s × (IsStopped c n ds → ⊥) × HasEnded (last_of c ds) × (IsTrue met ↔ IsMet proc c (last_of c ds))
 
 -- the report on at most n steps
 abbrev pub IsReport : Program → Begin → ℕ → Report → Type 0
-IsReport P b n report = (p : Procedure) × BeginsIn P b p × IsReportOn P p (begun p b) n report
+IsReport P b n report = (proc : Procedure) × BeginsIn P b proc × IsReportOn P proc (begun proc b) n report

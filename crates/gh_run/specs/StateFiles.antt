@@ -13,12 +13,12 @@ use Rattle.gh_run.specs.declared.state_file.StateError.{StateError}
 use Rattle.gh_run.specs.declared.state_file.StateError.TheVariants.{Line, OutOfMemory}
 
 -- the procedure of the number, with a value for each of its variables in their order
-pub record BeginsIn (P : Program) (b : Begin) (p : Procedure) : Type 0 where
-  pub numbered : IsProcedureAt P b.procedure p
-  pub lists : listed_names b.store ≡ variable_names p
+pub record BeginsIn (P : Program) (b : Begin) (proc : Procedure) : Type 0 where
+  pub numbered : IsProcedureAt P b.procedure proc
+  pub lists : listed_names b.store ≡ variable_names proc
 
 abbrev pub FitsProgram : Program → Begin → Type 0
-FitsProgram P b = (p : Procedure) × BeginsIn P b p
+FitsProgram P b = (proc : Procedure) × BeginsIn P b proc
 
 -- the four lines: the procedure, its variables, the cells, the end
 abbrev pub file_lines : Procedure → Begin → List (List ℕ)

@@ -6,7 +6,7 @@ use Rattle.gh_base.specs.declared.atom.Lit.{Lit}
 use Rattle.gh_base.specs.Atoms.{opposite}
 use Rattle.gh_base.specs.Propagation.{Propagated, forced}
 use Rattle.gh_sat.specs.declared.trail.Step.{Step}
-use Rattle.gh_sat.specs.Trail.{SearchState, Stands, IsCaused, IsSound}
+use Rattle.gh_sat.specs.Trail.{SearchState, Stands, IsOpenedOrForced, IsSound}
 use Rattle.gh_base.proofs.ListLemmas.{get_within}
 use Rattle.gh_sat.proofs.LearnLemmas.{in_get}
 
@@ -14,7 +14,7 @@ use Rattle.gh_sat.proofs.LearnLemmas.{in_get}
 cause_given : (clauses : List (List Lit)) (assumed : List Lit) (trail : List Step) (starts : List ℕ) (i : ℕ) (lit : Lit)
     (level : ℕ) (reason : Option ℕ) → starts ≡ []
     → ((j : ℕ) (y : Step) → j < i → slice_get trail j ≡ Some y → Propagated clauses assumed y.lit)
-    → IsCaused clauses trail starts i lit level reason → Propagated clauses assumed lit
+    → IsOpenedOrForced clauses trail starts i lit level reason → Propagated clauses assumed lit
 cause_given clauses assumed trail starts i lit level None none before c =
     let at : slice_get [] c.0 ≡ Some i = subst (λ (xs : List ℕ). slice_get xs c.0 ≡ Some i) none c.2 in
     absurd (let lt = get_within [] c.0 i at in omega arith)

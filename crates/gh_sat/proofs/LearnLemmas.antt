@@ -11,10 +11,10 @@ use Rattle.gh_base.specs.Atoms.{opposite, AreInRange, IsInRange}
 use Rattle.gh_base.specs.Propagation.{Propagated, FollowsByUnits}
 use Rattle.gh_base.specs.Propagation.Propagated.{given, forced}
 use Rattle.gh_sat.specs.declared.trail.Step.{Step}
-use Rattle.gh_sat.specs.Trail.{Line, SearchState, cut, Stands, IsTrueIn, IsFalseIn, IsReason, IsLevelStart, IsCaused}
+use Rattle.gh_sat.specs.Trail.{Line, SearchState, cut, Stands, IsTrueIn, IsFalseIn, IsReason, IsLevelStart, IsOpenedOrForced}
 use Rattle.gh_sat.specs.Trail.{IsSound, IsUnitIn}
 use Rattle.gh_sat.specs.Watch.{WasOpen}
-use Rattle.gh_sat.specs.Learn.{Reached, Marking, IsMarked, HasMark, HaveReasons, IsLeft, IsPoint, IsFirstPoint}
+use Rattle.gh_sat.specs.Learn.{Reached, Marking, HasRound, HasMark, HaveReasons, IsLastMarked, IsPoint, IsFirstPoint}
 use Rattle.gh_sat.specs.Learn.{IsClauseOf, IsLearnt}
 use Rattle.gh_base.proofs.ListLemmas.{get_within, get_some, take_get, get_take}
 use Rattle.gh_sat.proofs.ListLemmas.{end_of_at}
@@ -23,7 +23,7 @@ use Rattle.gh_sat.proofs.MarkLemmas.{marks_some}
 use Rattle.gh_sat.proofs.ResolveLemmas.{reached_more, reached_within, complete, mark_at}
 
 pub reason_or_start : (s : SearchState) (i : ℕ) (lit : Lit) (level : ℕ) (o : Option ℕ)
-    → IsCaused s.clauses s.trail s.starts i lit level o
+    → IsOpenedOrForced s.clauses s.trail s.starts i lit level o
     → ((k : ℕ) × (o ≡ Some k) × IsReason s.clauses s.trail i lit k) ⊎ IsLevelStart s.starts level i
 reason_or_start s i lit level None h = inr h
 reason_or_start s i lit level (Some k) h = inl (k, refl, h)
@@ -85,7 +85,7 @@ in_map (x ∷ xs) y l (suc k, h, is) e =
 
 module _ (s : SearchState) (conflict : List Lit) (m : Marking) (place last : ℕ)
     (h : IsSound s) (here : slice_get s.starts last ≡ Some m.start) (n : length s.starts ≡ last + 1)
-    (p : IsLeft s.clauses s.trail conflict m place) where
+    (p : IsLastMarked s.clauses s.trail conflict m place) where
   t : Line
   t = record { sizes = s.sizes; steps = s.trail }
 
@@ -101,16 +101,16 @@ module _ (s : SearchState) (conflict : List Lit) (m : Marking) (place last : ℕ
       let b = h.split j x last m.start at here in
       elim (cases_lt j m.start) [ inl low ↦ absurd (let c = b.1 low in omega arith) | inr ge ↦ ge ]
 
-  reached_marked : (j : ℕ) → Reached s.clauses s.trail conflict (suc place) j → IsMarked m j
+  reached_marked : (j : ℕ) → Reached s.clauses s.trail conflict (suc place) j → HasRound m j
   reached_marked j r =
       complete (record { sizes = s.sizes; steps = s.trail }) s.clauses conflict m (place + 1) (suc place) j h.steps
       p.all p.resolved (omega arith) r
 
-  marked_reached : (j : ℕ) → IsMarked m j → Reached s.clauses s.trail conflict (suc place) j
+  marked_reached : (j : ℕ) → HasRound m j → Reached s.clauses s.trail conflict (suc place) j
   marked_reached j mark =
       reached_more s.clauses s.trail conflict (place + 1) (suc place) j (omega arith) (p.reached j mark)
 
-  pub only_place : (j : ℕ) → IsMarked m j → m.start ≤ j → j ≤ place → j ≡ place
+  pub only_place : (j : ℕ) → HasRound m j → m.start ≤ j → j ≤ place → j ≡ place
   only_place j mark ge le = elim (cases_eq j place) [
     | inl e ↦ e
     | inr ne ↦
@@ -162,7 +162,7 @@ module _ (s : SearchState) (conflict : List Lit) (m : Marking) (place last : ℕ
   }
 
   -- each marked step's literal is propagated
-  implied_below : (n j : ℕ) (x : Step) → j < n → slice_get s.trail j ≡ Some x → IsMarked m j
+  implied_below : (n j : ℕ) (x : Step) → j < n → slice_get s.trail j ≡ Some x → HasRound m j
       → Propagated s.clauses (map opposite (m.lower ++ opposite p.step.lit ∷ [])) x.lit
   implied_below zero j x lt at mark = absurd (omega arith)
   implied_below (suc n) j x lt at mark = elim (cases_lt j m.start) [
@@ -182,7 +182,7 @@ module _ (s : SearchState) (conflict : List Lit) (m : Marking) (place last : ℕ
       | inl past ↦
           let r = p.resolved j x (omega arith) at mark in
           let reason : IsReason s.clauses s.trail j x.lit r.0 =
-          subst (λ o. IsCaused s.clauses s.trail s.starts j x.lit x.level o) r.2 (h.caused j x at) in
+          subst (λ o. IsOpenedOrForced s.clauses s.trail s.starts j x.lit x.level o) r.2 (h.caused j x at) in
           let same : reason.clause ≡ r.1 = let a = reason.at in let b = r.3 in cc in
           forced r.1 x.lit (in_get s.clauses r.0 r.1 r.3) (subst (λ c. Contains c x.lit) same reason.there)
           (λ l there ne'. elim (All-contains (λ q. (q ≡ x.lit) ⊎ Stands s.trail j (opposite q)) reason.clause l
@@ -190,7 +190,7 @@ module _ (s : SearchState) (conflict : List Lit) (m : Marking) (place last : ℕ
             | inl e ↦ absurd (ne' e)
             | inr z ↦
                 let marked = All-contains (λ q. HasMark s.trail m q) r.1 l r.4 there in
-                let mark' : IsMarked m z.0 =
+                let mark' : HasRound m z.0 =
                 mark_at (record { sizes = s.sizes; steps = s.trail }) m l z.0 z.1 h.steps z.3
                 (ap (λ (q : Lit). q.atom) z.4) marked in
                 subst (Propagated s.clauses (map opposite (m.lower ++ opposite p.step.lit ∷ []))) z.4
@@ -206,7 +206,7 @@ module _ (s : SearchState) (conflict : List Lit) (m : Marking) (place last : ℕ
     in_get s.clauses k conflict at,
     λ i d lt.
         let z = f i d lt in
-        let mark : IsMarked m z.0 =
+        let mark : HasRound m z.0 =
         mark_at (record { sizes = s.sizes; steps = s.trail }) m (get_or conflict i d) z.0 z.1 h.steps z.3
         (ap (λ (q : Lit). q.atom) z.4) (p.all i d lt) in
         subst (Propagated s.clauses (map opposite (m.lower ++ opposite p.step.lit ∷ []))) z.4

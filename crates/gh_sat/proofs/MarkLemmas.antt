@@ -11,7 +11,7 @@ use Rattle.std.proofs.lemmas.List.Elements.{All-push, Contains-push, Contains-ap
 use Rattle.gh_base.specs.declared.atom.Lit.{Lit}
 use Rattle.gh_base.specs.Atoms.{opposite}
 use Rattle.gh_sat.specs.declared.trail.Step.{Step}
-use Rattle.gh_sat.specs.Learn.{Marking, IsMarked, HasMark, AllMarked, one_if, marked, IsBounded, AreMarks, MarksMore}
+use Rattle.gh_sat.specs.Learn.{Marking, HasRound, HasMark, AllMarked, one_if, marked, IsBounded, AreMarks, MarksMore}
 use Rattle.gh_base.proofs.ListLemmas.{get_within, get_take, take_get, get_set_same, get_set_other}
 use Rattle.gh_sat.proofs.TrailLemmas.{opposite_twice}
 
@@ -268,11 +268,11 @@ more_more trail xs l a b c p q = record {
   waiting = omega (arith, p.waiting, q.waiting);
 }
 
-pub has_more : (trail : List Step) (a b : Marking) (l : Lit) → ((j : ℕ) → IsMarked a j → IsMarked b j)
+pub has_more : (trail : List Step) (a b : Marking) (l : Lit) → ((j : ℕ) → HasRound a j → HasRound b j)
     → HasMark trail a l → HasMark trail b l
 has_more trail a b l keeps h = (h.0, h.1, h.2, h.3, keeps h.0 h.4)
 
-pub all_marked_more : (trail : List Step) (a b : Marking) (clause : List Lit) → ((j : ℕ) → IsMarked a j → IsMarked b j)
+pub all_marked_more : (trail : List Step) (a b : Marking) (clause : List Lit) → ((j : ℕ) → HasRound a j → HasRound b j)
     → AllMarked trail a clause → AllMarked trail b clause
 all_marked_more trail a b clause keeps h k d lt = has_more trail a b (get_or clause k d) keeps (h k d lt)
 
@@ -301,7 +301,7 @@ marks_down trail m p w h s e c = record {
 }
 
 -- a mark of the present level waits
-pub marks_some : (trail : List Step) (m : Marking) (j : ℕ) → AreMarks trail m → m.start ≤ j → j < m.end → IsMarked m j
+pub marks_some : (trail : List Step) (m : Marking) (j : ℕ) → AreMarks trail m → m.start ≤ j → j < m.end → HasRound m j
     → 0 < m.waiting
 marks_some trail m j h ge lt mark =
     let q : ℕ = j - m.start in

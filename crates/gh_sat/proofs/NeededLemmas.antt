@@ -12,23 +12,23 @@ use Rattle.gh_sat.specs.declared.rows.Numbered.{Numbered}
 use Rattle.gh_sat.specs.Rows.{row_of, rows_of}
 use Rattle.gh_sat.specs.declared.trail.Step.{Step}
 use Rattle.gh_sat.specs.Status.{IsAssigned, HasAtomAt, OccursIn}
-use Rattle.gh_sat.specs.Trail.{IsFree, IsValue}
+use Rattle.gh_sat.specs.Trail.{IsFree, IsTruth}
 use Rattle.gh_sat.specs.Watch.{AreListed, clauses_of}
 use Rattle.gh_sat.proofs.TrailLemmas.{same_lit}
 
-pub value_taken : (trail : List Step) (l : Lit) (o : Option Bool) → IsValue trail l o → is_some o ≡ true
+pub value_taken : (trail : List Step) (l : Lit) (o : Option Bool) → IsTruth trail l o → is_some o ≡ true
     → IsFree trail l.atom → ⊥
 value_taken trail l None v e free = cc
 value_taken trail l (Some true) v e free = free v.0 v.1 v.3 (ap (λ (k : Lit). k.atom) v.4)
 value_taken trail l (Some false) v e free = free v.0 v.1 v.3 (ap (λ (k : Lit). k.atom) v.4)
 
-pub value_free : (trail : List Step) (l : Lit) (o : Option Bool) → IsValue trail l o → is_some o ≡ false
+pub value_free : (trail : List Step) (l : Lit) (o : Option Bool) → IsTruth trail l o → is_some o ≡ false
     → IsFree trail l.atom
 value_free trail l None v e = v
 value_free trail l (Some b) v e = cc
 
 pub assigned_more : (trail : List Step) (clause : List Lit) (i : ℕ) (d : Lit) (o : Option Bool) → i < length clause
-    → IsAssigned trail (take i clause) → IsValue trail (get_or clause i d) o → is_some o ≡ true
+    → IsAssigned trail (take i clause) → IsTruth trail (get_or clause i d) o → is_some o ≡ true
     → IsAssigned trail (take (i + 1) clause)
 assigned_more trail clause i d o lt all v e =
     All-more (λ (l : Lit). IsFree trail l.atom → ⊥) clause i d lt all (value_taken trail (get_or clause i d) o v e)

@@ -12,13 +12,13 @@ use Rattle.gh_base.specs.declared.atom.Lit.{Lit}
 use Rattle.gh_base.specs.Atoms.{opposite}
 use Rattle.gh_base.specs.Hints.{HasAllButOne, IsRefutedByHints, refuted, joined}
 use Rattle.gh_sat.specs.declared.trail.Step.{Step}
-use Rattle.gh_sat.specs.Trail.{Line, SearchState, Stands, IsReason, IsCaused, IsFalseIn, AreSteps, IsSound}
-use Rattle.gh_sat.specs.Learn.{Marking, IsMarked, HasMark, AllMarked, AreMarks, ResolvedFrom, IsLeft, AreReasons}
+use Rattle.gh_sat.specs.Trail.{Line, SearchState, Stands, IsReason, IsOpenedOrForced, IsFalseIn, AreSteps, IsSound}
+use Rattle.gh_sat.specs.Learn.{Marking, HasRound, HasMark, AllMarked, AreMarks, ResolvedFrom, IsLastMarked, AreReasons}
 use Rattle.gh_sat.specs.Learn.{AllHaveReasons, reasons_of}
 use Rattle.gh_base.proofs.ListLemmas.{get_within, get_some}
 use Rattle.gh_sat.proofs.ListLemmas.{drop_past, lt_le}
 use Rattle.gh_sat.proofs.TrailLemmas.{opposite_twice, stands_below}
-use Rattle.gh_sat.proofs.ResolveLemmas.{IsRead, mark_at}
+use Rattle.gh_sat.proofs.ResolveLemmas.{HasReason, mark_at}
 use Rattle.gh_sat.proofs.LearnLemmas.{reason_or_start, in_map, only_place}
 
 pub drop_get : {X : Type 0} (xs : List X) (i : ℕ) (x : X) → slice_get xs i ≡ Some x → drop i xs ≡ x ∷ drop (i + 1) xs
@@ -80,13 +80,13 @@ reason_read clauses trail steps place x d o h at same read =
 -- .. where it reads one
 pub reason_held : (clauses : List (List Lit)) (trail steps : List Step) (m : Marking) (place : ℕ) (d : Step) (k : ℕ)
     → AllHaveReasons clauses trail → AreMarks trail m → place < m.end → steps ≡ trail
-    → (get_or steps place d).reason ≡ Some k → IsRead clauses trail place k
+    → (get_or steps place d).reason ≡ Some k → HasReason clauses trail place k
 reason_held clauses trail steps m place d k h marks lt same_steps read =
     let at = get_some trail place (lt_le lt marks.end) in
     let r = reason_read clauses trail steps place at.0 d (Some k) h at.1 same_steps read in
     let same : r.0 ≡ k = let e = r.1 in cc in
     let within = get_within clauses r.0 r.3.clause r.3.at in
-    subst (IsRead clauses trail place) same
+    subst (HasReason clauses trail place) same
     (record { step = at.0; at = at.1; within = within; why = r.2; reason = r.3 })
 
 reasons_nothing : (round : ℕ) (ss : List ℕ) → reasons_of round ss [] ≡ []
@@ -130,7 +130,7 @@ shows_false clauses k c set at all = record {
 -- what holds of the literals at a place of the trail: those of the marked steps before it are in the set, and the set
 -- stands before it
 pub record IsSetAt (trail : List Step) (m : Marking) (i : ℕ) (set : List Lit) : Type 0 where
-  pub has : (j : ℕ) (x : Step) → j < i → slice_get trail j ≡ Some x → IsMarked m j → Contains set x.lit
+  pub has : (j : ℕ) (x : Step) → j < i → slice_get trail j ≡ Some x → HasRound m j → Contains set x.lit
   pub only : (l : Lit) → Contains set l → Stands trail i l
 
 -- past a marked step its literal is in the set
@@ -150,11 +150,11 @@ set_marked trail m i set x h at = record {
   ];
 }
 
-set_unmarked : (trail : List Step) (m : Marking) (i : ℕ) (set : List Lit) → IsSetAt trail m i set → (IsMarked m i → ⊥)
+set_unmarked : (trail : List Step) (m : Marking) (i : ℕ) (set : List Lit) → IsSetAt trail m i set → (HasRound m i → ⊥)
     → IsSetAt trail m (i + 1) set
 set_unmarked trail m i set h n = record {
   has = λ j y lt at' mark. elim (cases_eq j i) as (λ _. Contains set y.lit) [
-    | inl e ↦ absurd (n (subst (IsMarked m) e mark))
+    | inl e ↦ absurd (n (subst (HasRound m) e mark))
     | inr ne ↦ h.has j y (omega arith) at' mark
   ];
   only = λ l there. stands_below trail i (i + 1) l (omega arith) (h.only l there);
@@ -164,7 +164,7 @@ set_unmarked trail m i set h n = record {
 set_has : (t : Line) (m : Marking) (i : ℕ) (set : List Lit) (l : Lit) → AreSteps t → IsSetAt t.steps m i set
     → HasMark t.steps m l → Stands t.steps i (opposite l) → Contains set (opposite l)
 set_has t m i set l v h mark z =
-    let mark' : IsMarked m z.0 = mark_at t m l z.0 z.1 v z.3 (ap (λ (q : Lit). q.atom) z.4) mark in
+    let mark' : HasRound m z.0 = mark_at t m l z.0 z.1 v z.3 (ap (λ (q : Lit). q.atom) z.4) mark in
     subst (Contains set) z.4 (h.has z.0 z.1 z.2 z.3 mark')
 
 -- the reason of a marked step has all literals but one
@@ -213,10 +213,10 @@ shown s conflict k m from (suc n) i set h at f all res long low e z =
     elim (cases_eq st.0 m.round) as (λ _. Shows s.clauses
     (reasons_of m.round (drop i m.stamps) (drop i s.trail) ++ k ∷ []) set) [
       | inl is ↦
-          let mark : IsMarked m i = st.1 ∙ ap Some is in
+          let mark : HasRound m i = st.1 ∙ ap Some is in
           let r = res i x.0 low x.1 mark in
           let reason : IsReason s.clauses s.trail i x.0.lit r.0 =
-          subst (λ o. IsCaused s.clauses s.trail s.starts i x.0.lit x.0.level o) r.2 (h.caused i x.0 x.1) in
+          subst (λ o. IsOpenedOrForced s.clauses s.trail s.starts i x.0.lit x.0.level o) r.2 (h.caused i x.0 x.1) in
           let rest = shown s conflict k m from n (i + 1) (x.0.lit ∷ set) h at f all res long (omega arith) (omega arith)
           (set_marked s.trail m i set x.0 z x.1) in
           let rest_is = reasons_of m.round (drop (i + 1) m.stamps) (drop (i + 1) s.trail) in
@@ -227,7 +227,7 @@ shown s conflict k m from (suc n) i set h at f all res long low e z =
           (reasons_of m.round (drop (i + 1) m.stamps) (drop (i + 1) s.trail) ++ k ∷ []) h.steps z x.1 r.3 r.4 reason
           rest)
       | inr ne ↦
-          let not : IsMarked m i → ⊥ = λ (mark : IsMarked m i). ne (let there = st.1 in cc) in
+          let not : HasRound m i → ⊥ = λ (mark : HasRound m i). ne (let there = st.1 in cc) in
           let rest = shown s conflict k m from n (i + 1) set h at f all res long (omega arith) (omega arith)
           (set_unmarked s.trail m i set z not) in
           subst (λ (ks : List ℕ). Shows s.clauses (ks ++ k ∷ []) set)
@@ -275,7 +275,7 @@ in_push_back (x ∷ xs) y l (suc k, lt, e) = elim (in_push_back xs y l (k, omega
 -- what is learnt, turned, are the literals that are marked up to the point
 set_learnt : (s : SearchState) (conflict : List Lit) (m : Marking) (place last : ℕ) → IsSound s
     → slice_get s.starts last ≡ Some m.start → length s.starts ≡ last + 1
-    → (p : IsLeft s.clauses s.trail conflict m place)
+    → (p : IsLastMarked s.clauses s.trail conflict m place)
     → IsSetAt s.trail m (place + 1) (map opposite (m.lower ++ opposite p.step.lit ∷ []))
 set_learnt s conflict m place last h here n p =
     let u = opposite p.step.lit in
@@ -297,7 +297,7 @@ set_learnt s conflict m place last h here n p =
             | inl low ↦
                 let r =
                 All-contains (λ q. (j : ℕ) × (z : Step) × (j < m.start) × (slice_get s.trail j ≡ Some z)
-                × (z.lit ≡ opposite q) × (z.level ≤ m.level) × IsMarked m j) m.lower y.0 p.marks.lower low in
+                × (z.lit ≡ opposite q) × (z.level ≤ m.level) × HasRound m j) m.lower y.0 p.marks.lower low in
                 (r.0, r.1, (let a = r.2 in let b = p.low in omega arith), r.3, r.4 ∙ y.2)
             | inr e ↦ (place, p.step, omega arith, p.at, sym (opposite_twice p.step.lit) ∙ ap opposite e ∙ y.2)
           ];
@@ -305,7 +305,7 @@ set_learnt s conflict m place last h here n p =
 
 pub learnt_shows : (s : SearchState) (conflict : List Lit) (m : Marking) (place last k : ℕ) → IsSound s
     → slice_get s.starts last ≡ Some m.start → length s.starts ≡ last + 1
-    → (p : IsLeft s.clauses s.trail conflict m place)
+    → (p : IsLastMarked s.clauses s.trail conflict m place)
     → slice_get s.clauses k ≡ Some conflict → IsFalseIn s.trail conflict
     → AreReasons s.clauses (reasons_of m.round (drop (place + 1) m.stamps) (drop (place + 1) s.trail) ++ k ∷ [])
     (m.lower ++ opposite p.step.lit ∷ [])

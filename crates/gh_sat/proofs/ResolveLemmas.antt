@@ -10,8 +10,8 @@ use Rattle.gh_base.specs.declared.atom.Lit.{Lit}
 use Rattle.gh_base.specs.Atoms.{opposite}
 use Rattle.gh_sat.specs.declared.trail.Step.{Step}
 use Rattle.gh_sat.specs.Trail.{Line, Stands, IsFalseIn, IsReason, AreSteps}
-use Rattle.gh_sat.specs.Learn.{Reached, Marking, IsMarked, HasMark, AllMarked, marked, marked_before, AreMarks}
-use Rattle.gh_sat.specs.Learn.{IsMarkedOrFalse, MarksMore, ResolvedFrom, AreReached, HaveReasons, IsAlone, IsLeft}
+use Rattle.gh_sat.specs.Learn.{Reached, Marking, HasRound, HasMark, AllMarked, marked, marked_before, AreMarks}
+use Rattle.gh_sat.specs.Learn.{IsMarkedOrFalse, MarksMore, ResolvedFrom, AreReached, HaveReasons, IsAlone, IsLastMarked}
 use Rattle.gh_sat.specs.Learn.Reached.{by_conflict, by_reason}
 use Rattle.gh_base.proofs.ListLemmas.{get_within, get_some}
 use Rattle.gh_sat.proofs.ListLemmas.{lt_le}
@@ -42,13 +42,13 @@ reached_more clauses trail conflict from low j h (by_reason i y k c _ x le at wh
 
 -- the mark of an atom is that of its place
 pub mark_at : (t : Line) (m : Marking) (l : Lit) (j : ℕ) (x : Step) → AreSteps t → slice_get t.steps j ≡ Some x
-    → x.lit.atom ≡ l.atom → HasMark t.steps m l → IsMarked m j
-mark_at t m l j x v at e h = subst (IsMarked m) (v.apart h.0 h.1 j x h.2 at (h.3 ∙ sym e)) h.4
+    → x.lit.atom ≡ l.atom → HasMark t.steps m l → HasRound m j
+mark_at t m l j x v at e h = subst (HasRound m) (v.apart h.0 h.1 j x h.2 at (h.3 ∙ sym e)) h.4
 
 -- what is reached is marked, where the marked steps from there on are resolved
 pub complete : (t : Line) (clauses : List (List Lit)) (conflict : List Lit) (m : Marking) (low from j : ℕ) → AreSteps t
     → AllMarked t.steps m conflict → ResolvedFrom clauses t.steps m low → low ≤ from
-    → Reached clauses t.steps conflict from j → IsMarked m j
+    → Reached clauses t.steps conflict from j → HasRound m j
 complete t clauses conflict m low from j v all res h (by_conflict _ x at there) =
     mark_at t m (opposite x.lit) j x v at refl (All-contains (HasMark t.steps m) conflict (opposite x.lit) all there)
 complete t clauses conflict m low from j v all res h (by_reason i y k c _ x le at why has at' there r) =
@@ -63,7 +63,7 @@ complete t clauses conflict m low from j v all res h (by_reason i y k c _ x le a
 
 -- between the last marked place and the end nothing is left to resolve
 pub resolved_last : (clauses : List (List Lit)) (trail : List Step) (m : Marking) (p : ℕ)
-    → ResolvedFrom clauses trail m m.end → ((j : ℕ) → p < j → j < m.end → IsMarked m j → ⊥)
+    → ResolvedFrom clauses trail m m.end → ((j : ℕ) → p < j → j < m.end → HasRound m j → ⊥)
     → ResolvedFrom clauses trail m (p + 1)
 resolved_last clauses trail m p r between j y le at mark = elim (cases_lt j m.end) [
   | inl lt ↦ absurd (between j (omega arith) lt mark)
@@ -73,7 +73,7 @@ resolved_last clauses trail m p r between j y le at mark = elim (cases_lt j m.en
 -- the last marked step has its reason's literals marked
 pub resolved_next : (clauses : List (List Lit)) (trail : List Step) (m n : Marking) (p w : ℕ) (x : Step) (k : ℕ)
     (c : List Lit)
-    → ResolvedFrom clauses trail m m.end → ((j : ℕ) → p < j → j < m.end → IsMarked m j → ⊥)
+    → ResolvedFrom clauses trail m m.end → ((j : ℕ) → p < j → j < m.end → HasRound m j → ⊥)
     → MarksMore trail c (record m { end = p; waiting = w }) n → slice_get trail p ≡ Some x → x.reason ≡ Some k
     → slice_get clauses k ≡ Some c → AllMarked trail n c → ResolvedFrom clauses trail n p
 resolved_next clauses trail m n p w x k c r between more at why has all j y le at' mark = elim (cases_eq j p) [
@@ -94,7 +94,7 @@ resolved_next clauses trail m n p w x k c r between more at why has all j y le a
 -- what is marked by the last marked step's reason is reached
 pub reached_next : (clauses : List (List Lit)) (trail : List Step) (conflict : List Lit) (m n : Marking) (p w : ℕ)
     (x : Step) (k : ℕ) (c : List Lit)
-    → AreReached clauses trail conflict m m.end → p < m.end → IsMarked m p
+    → AreReached clauses trail conflict m m.end → p < m.end → HasRound m p
     → MarksMore trail c (record m { end = p; waiting = w }) n → slice_get trail p ≡ Some x → x.reason ≡ Some k
     → slice_get clauses k ≡ Some c
     → AreReached clauses trail conflict n p
@@ -113,7 +113,7 @@ reached_last clauses trail conflict m p r lt j mark =
 -- no place past the last marked one is the one that is left
 pub none_past : (t : Line) (clauses : List (List Lit)) (conflict : List Lit) (m : Marking) (p : ℕ) → AreSteps t
     → AllMarked t.steps m conflict → ResolvedFrom clauses t.steps m m.end
-    → ((j : ℕ) → p < j → j < m.end → IsMarked m j → ⊥)
+    → ((j : ℕ) → p < j → j < m.end → HasRound m j → ⊥)
     → ((q : ℕ) → m.end ≤ q → IsAlone clauses t.steps conflict m.start q → ⊥) → (q : ℕ) → p < q
     → IsAlone clauses t.steps conflict m.start q → ⊥
 none_past t clauses conflict m p v all res between first q lt a = elim (cases_lt q m.end) [
@@ -135,7 +135,7 @@ none_at t clauses conflict m p r lt some a =
 
 pub none_from : (t : Line) (clauses : List (List Lit)) (conflict : List Lit) (m : Marking) (p : ℕ) → AreSteps t
     → AllMarked t.steps m conflict → ResolvedFrom clauses t.steps m m.end
-    → ((j : ℕ) → p < j → j < m.end → IsMarked m j → ⊥)
+    → ((j : ℕ) → p < j → j < m.end → HasRound m j → ⊥)
     → ((q : ℕ) → m.end ≤ q → IsAlone clauses t.steps conflict m.start q → ⊥)
     → AreReached clauses t.steps conflict m m.end → p < m.end → 0 < marked m.round (drop m.start (take p m.stamps))
     → (q : ℕ) → p ≤ q → IsAlone clauses t.steps conflict m.start q → ⊥
@@ -159,7 +159,7 @@ reason_at clauses trail start p stamps round x h s at long some = elim (cases_eq
 ]
 
 -- the step of a place has clause k as its reason
-pub record IsRead (clauses : List (List Lit)) (trail : List Step) (place k : ℕ) : Type 0 where
+pub record HasReason (clauses : List (List Lit)) (trail : List Step) (place k : ℕ) : Type 0 where
   pub step : Step
   pub at : slice_get trail place ≡ Some step
   pub within : k < length clauses
@@ -171,7 +171,7 @@ pub reason_is : (clauses : List (List Lit)) (trail steps : List Step) (first : �
     (o : Option ℕ) → HaveReasons clauses trail first → m.start ≡ first → AreMarks trail m
     → m.start ≤ place → place < m.end → m.waiting ≡ marked_before m place + 1 → (m.waiting - 1 ≡ 0 → ⊥) → steps ≡ trail
     → (get_or steps place d).reason ≡ o
-    → (k : ℕ) × (o ≡ Some k) × IsRead clauses trail place k
+    → (k : ℕ) × (o ≡ Some k) × HasReason clauses trail place k
 reason_is clauses trail steps first m place d o h e marks le lt w n same_steps read =
     let at = get_some trail place (lt_le lt marks.end) in
     let r = reason_at clauses trail m.start place m.stamps m.round at.0 (subst (HaveReasons clauses trail) (sym e) h) le
@@ -195,15 +195,15 @@ pub reason_of : (clauses : List (List Lit)) (trail steps : List Step) (first : �
     (k : ℕ) → HaveReasons clauses trail first → m.start ≡ first → AreMarks trail m
     → m.start ≤ place → place < m.end → m.waiting ≡ marked_before m place + 1 → (m.waiting - 1 ≡ 0 → ⊥) → steps ≡ trail
     → (get_or steps place d).reason ≡ Some k
-    → IsRead clauses trail place k
+    → HasReason clauses trail place k
 reason_of clauses trail steps first m place d k h e marks le lt w n same_steps read =
     let r = reason_is clauses trail steps first m place d (Some k) h e marks le lt w n same_steps read in
     let same : r.0 ≡ k = let e = r.1 in cc in
-    subst (IsRead clauses trail place) same r.2
+    subst (HasReason clauses trail place) same r.2
 
 -- the reason's literals are marked or false before
 pub reason_stands : (clauses : List (List Lit)) (trail : List Step) (m : Marking) (p k : ℕ) (c : List Lit)
-    → IsRead clauses trail p k → IsMarked m p → slice_get clauses k ≡ Some c
+    → HasReason clauses trail p k → HasRound m p → slice_get clauses k ≡ Some c
     → All (λ l. HasMark trail m l ⊎ Stands trail p (opposite l)) c
 reason_stands clauses trail m p k c read mark at =
     let x = read.step in
@@ -216,9 +216,9 @@ reason_stands clauses trail m p k c read mark at =
 
 -- after the last marked step was resolved all is marked and resolved as before
 pub resolved_turn : (clauses : List (List Lit)) (trail : List Step) (conflict : List Lit) (m n : Marking) (p w k : ℕ)
-    (c : List Lit) → IsRead clauses trail p k → slice_get clauses k ≡ Some c
+    (c : List Lit) → HasReason clauses trail p k → slice_get clauses k ≡ Some c
     → AllMarked trail m conflict → ResolvedFrom clauses trail m m.end
-    → ((j : ℕ) → p < j → j < m.end → IsMarked m j → ⊥)
+    → ((j : ℕ) → p < j → j < m.end → HasRound m j → ⊥)
     → MarksMore trail c (record m { end = p; waiting = w }) n → AllMarked trail n c
     → AllMarked trail n conflict × ResolvedFrom clauses trail n n.end
 resolved_turn clauses trail conflict m n p w k c read has all r between more every = (
@@ -238,9 +238,9 @@ pub is_left : (t : Line) (clauses : List (List Lit)) (conflict : List Lit) (m : 
     → AreMarks t.steps m → AllMarked t.steps m conflict → ResolvedFrom clauses t.steps m m.end
     → AreReached clauses t.steps conflict m m.end
     → ((q : ℕ) → m.end ≤ q → IsAlone clauses t.steps conflict m.start q → ⊥)
-    → m.start ≤ p → p < m.end → IsMarked m p → ((j : ℕ) → p < j → j < m.end → IsMarked m j → ⊥)
+    → m.start ≤ p → p < m.end → HasRound m p → ((j : ℕ) → p < j → j < m.end → HasRound m j → ⊥)
     → m.waiting ≡ marked m.round (drop m.start (take p m.stamps)) + 1 → w ≡ m.waiting - 1 → w ≡ 0
-    → IsLeft clauses t.steps conflict (record m { end = p; waiting = w }) p
+    → IsLastMarked clauses t.steps conflict (record m { end = p; waiting = w }) p
 is_left t clauses conflict m p w v h all res reached first low lt mark between fewer e z =
     let step = get_some t.steps p (let f = h.end in omega arith) in
     record {

@@ -13,8 +13,8 @@ use Rattle.gh_base.specs.Atoms.{opposite, IsInRange, AreInRange}
 use Rattle.gh_sat.specs.declared.rows.Numbered.{Numbered}
 use Rattle.gh_sat.specs.Rows.{numbered, row_of, EachNumbered}
 use Rattle.gh_sat.specs.declared.trail.Step.{Step}
-use Rattle.gh_sat.specs.Trail.{Line, IsTrueIn, IsFree, IsValue, AreSteps, AreValues}
-use Rattle.gh_sat.specs.Status.{IsBad}
+use Rattle.gh_sat.specs.Trail.{Line, IsTrueIn, IsFree, IsTruth, AreSteps, AreValues}
+use Rattle.gh_sat.specs.Status.{IsFalseOrUnit}
 
 -- what the code reads past the end of a clause
 abbrev pub nothing : Lit
@@ -42,7 +42,7 @@ pub not_free_opposite : (trail : List Step) (l : Lit) → IsTrueIn trail (opposi
 not_free_opposite trail l s f = f s.0 s.1 s.3 (ap (λ (m : Lit). m.atom) s.4)
 
 -- a clause with a true literal is neither
-pub true_good : (t : Line) (c : List Lit) (l : Lit) → AreSteps t → Contains c l → IsTrueIn t.steps l → IsBad t.steps c
+pub true_good : (t : Line) (c : List Lit) (l : Lit) → AreSteps t → Contains c l → IsTrueIn t.steps l → IsFalseOrUnit t.steps c
     → ⊥
 true_good t c l h there s (inl f) = not_both t l h s (All-contains (λ m. IsTrueIn t.steps (opposite m)) c l f there)
 true_good t c l h there s (inr (u, i)) =
@@ -53,7 +53,7 @@ true_good t c l h there s (inr (u, i)) =
 
 -- one with two literals that have no truth is neither
 pub two_good : (t : Line) (c : List Lit) (l u : Lit) → Contains c l → Contains c u → IsFree t.steps l.atom
-    → IsFree t.steps u.atom → (u ≡ l → ⊥) → IsBad t.steps c → ⊥
+    → IsFree t.steps u.atom → (u ≡ l → ⊥) → IsFalseOrUnit t.steps c → ⊥
 two_good t c l u there there' f g n (inl h) =
     not_free_opposite t.steps l (All-contains (λ m. IsTrueIn t.steps (opposite m)) c l h there) f
 two_good t c l u there there' f g n (inr (w, i)) =
@@ -150,7 +150,7 @@ pub exact_none : (trail : List Step) (l : Lit) → IsFree trail l.atom → IsTru
 exact_none trail l f =
     (λ e. absurd (let x : false ≡ true = e in cc), λ s. absurd (f s.0 s.1 s.3 (ap (λ (m : Lit). m.atom) s.4)))
 
-pub exact_some : (t : Line) (l : Lit) (b : Bool) → AreSteps t → IsValue t.steps l (Some b)
+pub exact_some : (t : Line) (l : Lit) (b : Bool) → AreSteps t → IsTruth t.steps l (Some b)
     → IsTrue b ↔ IsTrueIn t.steps l
 exact_some t l true steps h = (λ _. h, λ _. refl)
 exact_some t l false steps h = (λ e. absurd (let x : false ≡ true = e in cc), λ s. absurd (not_both t l steps s h))

@@ -12,10 +12,10 @@ use Rattle.gh_base.specs.declared.sizes.Sizes.{Sizes}
 use Rattle.gh_base.specs.Atoms.{opposite, IsInRange}
 use Rattle.gh_sat.specs.declared.trail.Step.{Step}
 use Rattle.gh_sat.specs.Trail.{SearchState, IsTrueIn, IsFalseIn, IsFree, IsSound, cut, end_of, open_level}
-use Rattle.gh_sat.specs.Whole.{Adds, PropagatesTo}
+use Rattle.gh_sat.specs.Whole.{AddsClause, PropagatesTo}
 use Rattle.gh_sat.specs.Watch.{WasOpen}
-use Rattle.gh_sat.specs.Learn.{IsConflict, add_clause}
-use Rattle.gh_sat.specs.Theory.{IsRefutedBy, HasNoLit, lits_of, IsTold, HasNoConflict, WereConsistent, IsBeside, PropagatesBeside}
+use Rattle.gh_sat.specs.Learn.{IsConflictAt, add_clause}
+use Rattle.gh_sat.specs.Theory.{IsRefutedBy, HasNoLit, lits_of, IsAsserted, HasNoConflict, WereConsistent, IsBeside, PropagatesBeside}
 use Rattle.gh_base.proofs.ListLemmas.{get_within, get_take, get_push, get_last}
 use Rattle.gh_sat.proofs.ListLemmas.{le_same}
 use Rattle.gh_sat.proofs.WholeLemmas.{take_take, take_whole, present_of, cut_none}
@@ -62,10 +62,10 @@ refuted_false xs c h k d lt = in_lits xs (opposite (get_or c k d)) (h k d lt)
 pub false_refuted : (xs : List Step) (c : List Lit) → IsFalseIn xs c → IsRefutedBy (lits_of xs) c
 false_refuted xs c h k d lt = lits_in xs (opposite (get_or c k d)) (h k d lt)
 
-told_long : (a : List Lit) (trail : List Step) → (t : IsTold a trail) → length a ≡ t.0
+told_long : (a : List Lit) (trail : List Step) → (t : IsAsserted a trail) → length a ≡ t.0
 told_long a trail t = ap length t.2 ∙ lits_long (take t.0 trail) ∙ length-take-le t.0 trail t.1
 
-pub told_grow : (a : List Lit) (trail added : List Step) → IsTold a trail → IsTold a (trail ++ added)
+pub told_grow : (a : List Lit) (trail added : List Step) → IsAsserted a trail → IsAsserted a (trail ++ added)
 told_grow a trail added t = (
   t.0,
   (let w = t.1 in omega (arith, length-append trail added)),
@@ -83,15 +83,15 @@ short n e xs h = elim (cases_lt (length xs) e) [
   | inr ge ↦ omega (arith, length-take-le e xs ge)
 ]
 
-pub told_cut : (a : List Lit) (trail : List Step) (e : ℕ) → IsTold a trail → length a ≤ length (take e trail)
-    → IsTold a (take e trail)
+pub told_cut : (a : List Lit) (trail : List Step) (e : ℕ) → IsAsserted a trail → length a ≤ length (take e trail)
+    → IsAsserted a (take e trail)
 told_cut a trail e t h =
     let n = told_long a trail t in
     let le : t.0 ≤ length (take e trail) = omega arith in
     (t.0, le, t.2 ∙ ap lits_of (sym (take_take t.0 e trail (short t.0 e trail le))))
 
-pub told_undo : (a b : List Lit) (trail : List Step) (e : ℕ) → IsTold a trail → length (take e trail) ≤ length a
-    → b ≡ take (length (take e trail)) a → IsTold b (take e trail)
+pub told_undo : (a b : List Lit) (trail : List Step) (e : ℕ) → IsAsserted a trail → length (take e trail) ≤ length a
+    → b ≡ take (length (take e trail)) a → IsAsserted b (take e trail)
 told_undo a b trail e t h is =
     let n = told_long a trail t in
     let m : ℕ = length (take e trail) in
@@ -105,7 +105,7 @@ told_undo a b trail e t h is =
 
 -- where all was told, a front is left
 pub told_front : (a b : List Lit) (new old : List Step) (added : List Step) → a ≡ lits_of new → new ≡ old ++ added
-    → b ≡ take (length old) a → IsTold b old
+    → b ≡ take (length old) a → IsAsserted b old
 told_front a b new old added all grown is = (
   length old,
   omega arith,
@@ -165,7 +165,7 @@ none_before s n x h at k d lt e =
     let lt' = o.0 in omega arith
 
 -- telling a trail step by step
-pub told_init : (a : List Lit) (trail steps : List Step) (place : ℕ) → IsTold a trail → steps ≡ trail → place ≡ length a
+pub told_init : (a : List Lit) (trail steps : List Step) (place : ℕ) → IsAsserted a trail → steps ≡ trail → place ≡ length a
     → (place ≤ length steps) × (a ≡ lits_of (take place steps))
 told_init a trail steps place t e p =
     let n : place ≡ t.0 = p ∙ told_long a trail t in
@@ -201,7 +201,7 @@ range_at s steps place d h e lt =
 
 -- a false clause of the theory is a conflict where it is added
 pub conflict_added : (s : SearchState) (c : List Lit) → IsSound s → IsFalseIn s.trail c → WasOpen s.trail s.starts c
-    → IsConflict (add_clause s c) (length s.clauses)
+    → IsConflictAt (add_clause s c) (length s.clauses)
 conflict_added s c h f was = record {
   clause = c;
   at = get_last s.clauses c;
@@ -247,7 +247,7 @@ beside_undo V a a' z z' s new level cs b is h le made same =
     )
 
 -- an added clause comes with a cut
-pub added_cut : (s new : SearchState) (c : List Lit) → Adds s c new
+pub added_cut : (s new : SearchState) (c : List Lit) → AddsClause s c new
     → (level : ℕ) × (new ≡ record (cut s level) { clauses = s.clauses ++ c ∷ [] })
 added_cut s new c (inl w) = (w.0, w.3)
 added_cut s new c (inr w) = (
@@ -263,7 +263,7 @@ beside_grow V a z s new h b p =
     let added = p.grows.0 in
     let low : (level start : ℕ) → slice_get s.starts level ≡ Some start → start ≤ length s.trail =
     λ level start at. let w = starts_low s h level start at in omega arith in
-    let told : IsTold a new.trail = subst (IsTold a) (sym p.grows.1) (told_grow a s.trail added b.0) in
+    let told : IsAsserted a new.trail = subst (IsAsserted a) (sym p.grows.1) (told_grow a s.trail added b.0) in
     let one : WereConsistent (V s.sizes) new.trail s.starts =
     subst (λ t. WereConsistent (V s.sizes) t s.starts) (sym p.grows.1)
     (consistent_grow (V s.sizes) s.trail added s.starts low b.2) in (
@@ -361,7 +361,7 @@ none_open V level start at c v f = absurd (let e : None ≡ Some start = at in c
 -- what holds before anything is asserted
 pub beside_nothing : (V : Sizes → List Lit → Type 0) (a : List Lit) (z sizes : Sizes) (cs : List (List Lit))
     (s : SearchState) → s ≡ (record { sizes = sizes; clauses = cs; trail = []; starts = [] }) → a ≡ [] → z ≡ sizes
-    → IsTold a s.trail × (z ≡ s.sizes) × WereConsistent (V s.sizes) s.trail s.starts
+    → IsAsserted a s.trail × (z ≡ s.sizes) × WereConsistent (V s.sizes) s.trail s.starts
 beside_nothing V a z sizes cs s is none same =
-    subst (λ (t : SearchState). IsTold a t.trail × (z ≡ t.sizes) × WereConsistent (V t.sizes) t.trail t.starts) (sym is)
+    subst (λ (t : SearchState). IsAsserted a t.trail × (z ≡ t.sizes) × WereConsistent (V t.sizes) t.trail t.starts) (sym is)
     ((0, omega arith, none), same, none_open V)

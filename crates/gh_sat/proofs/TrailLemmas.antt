@@ -18,7 +18,7 @@ use Rattle.gh_base.specs.Meaning.{under}
 use Rattle.gh_base.specs.Assignments.{Partial, value_of, value_at, with_value}
 use Rattle.gh_base.proofs.NumberLemmas.{number_below, apart}
 use Rattle.gh_sat.specs.declared.trail.Step.{Step}
-use Rattle.gh_sat.specs.Trail.{Stands, IsFree, IsValue, AreSteps, AreValues, ArePlaces, IsPassed, turned}
+use Rattle.gh_sat.specs.Trail.{Stands, IsFree, IsTruth, AreSteps, AreValues, ArePlaces, IsPassed, turned}
 use Rattle.gh_sat.specs.Trail.{IsAssignmentOf, unassigned}
 use Rattle.gh_base.proofs.ListLemmas.{get_within, get_front, get_push, get_last, take_get, get_set_same, get_set_other}
 use Rattle.gh_sat.proofs.ListLemmas.{fewer_left, more_left, some_left}
@@ -92,7 +92,7 @@ under_false false false e = cc
 
 -- the truth that the table tells
 value_by : (p : Partial) (trail : List Step) (l : Lit) (o : Option Bool) (r : Option Bool) → AreValues p trail
-    → IsInRange p.sizes l.atom → value_at p l.atom ≡ o → option_map (under l.positive) o ≡ r → IsValue trail l r
+    → IsInRange p.sizes l.atom → value_at p l.atom ≡ o → option_map (under l.positive) o ≡ r → IsTruth trail l r
 value_by p trail l None None v h e f = none_is_free p trail l.atom v (table_read p l.atom v.long h ∙ ap Some e)
 value_by p trail l None (Some b) v h e f = cc
 value_by p trail l (Some b) None v h e f = cc
@@ -104,7 +104,7 @@ value_by p trail l (Some b) (Some false) v h e f =
     v.back (opposite l) h (table_read p l.atom v.long h ∙ ap Some (e ∙ ap Some (under_false l.positive b t)))
 
 pub value_is : (p : Partial) (trail : List Step) (l : Lit) (r : Option Bool) → AreValues p trail
-    → IsInRange p.sizes l.atom → r ≡ value_of p l → IsValue trail l r
+    → IsInRange p.sizes l.atom → r ≡ value_of p l → IsTruth trail l r
 value_is p trail l r v h e = value_by p trail l (value_at p l.atom) r v h refl (sym e)
 
 -- the same, by the number of the atom
@@ -119,21 +119,21 @@ beq_under false true = refl
 beq_under false false = refl
 
 truth_by : (p : Partial) (trail : List Step) (l : Lit) (o : Option Bool) → AreValues p trail → IsInRange p.sizes l.atom
-    → value_at p l.atom ≡ o → IsValue trail l (option_map (λ t. beq t l.positive) o)
+    → value_at p l.atom ≡ o → IsTruth trail l (option_map (λ t. beq t l.positive) o)
 truth_by p trail l None v h e = value_by p trail l None None v h e refl
 truth_by p trail l (Some b) v h e =
-    subst (λ t. IsValue trail l (Some t)) (sym (beq_under l.positive b))
+    subst (λ t. IsTruth trail l (Some t)) (sym (beq_under l.positive b))
     (value_by p trail l (Some b) (Some (under l.positive b)) v h e refl)
 
 pub truth_is : (p : Partial) (trail : List Step) (l : Lit) (n : Numbered) (d o : Option Bool) → AreValues p trail
     → IsInRange p.sizes l.atom → n ≡ numbered p.sizes l
-    → get_or p.values n.number d ≡ o → IsValue trail l (option_map (λ t. beq t n.positive) o)
+    → get_or p.values n.number d ≡ o → IsTruth trail l (option_map (λ t. beq t n.positive) o)
 truth_is p trail l n d o v h e at =
     let read = table_read p l.atom v.long h in
     let here : get_or p.values (number_of p.sizes l.atom) d ≡ value_at p l.atom =
     get_or_from_slice_get p.values (number_of p.sizes l.atom) (value_at p l.atom) d read in
     let same : value_at p l.atom ≡ o = sym here ∙ ap (λ (m : Numbered). get_or p.values m.number d) (sym e) ∙ at in
-    subst (λ (m : Numbered). IsValue trail l (option_map (λ t. beq t m.positive) o)) (sym e)
+    subst (λ (m : Numbered). IsTruth trail l (option_map (λ t. beq t m.positive) o)) (sym e)
     (truth_by p trail l o v h same)
 
 pub assignment_is : (p : Partial) (trail : List Step) → AreValues p trail

@@ -14,7 +14,7 @@ use Rattle.gh_sat.specs.Trail.{Line, IsTrueIn, IsUnitIn, AreSteps, push}
 use Rattle.gh_sat.specs.declared.rows.Numbered.{Numbered}
 use Rattle.gh_sat.specs.declared.status.Hint.{Hint}
 use Rattle.gh_sat.specs.Rows.{numbered}
-use Rattle.gh_sat.specs.Status.{IsBad, IsPair, IsGuarded, IsForced, AreForced, Grows}
+use Rattle.gh_sat.specs.Status.{IsFalseOrUnit, IsPair, IsGuarded, IsForced, AreForced, Grows}
 use Rattle.gh_sat.specs.Watch.{AreGuarded, AreVisited, MoveHints, AreListed, ListsMore, clauses_of}
 use Rattle.gh_base.proofs.ListLemmas.{get_within, get_front, get_last, get_take, take_get, get_some, get_set_same}
 use Rattle.gh_base.proofs.ListLemmas.{get_set_other}
@@ -156,7 +156,7 @@ guarded_grown s old added known c h (inl t) = inl (t.0, t.1, true_grown old adde
 guarded_grown s old added known c h (inr p) = inr p
 
 -- two literals that aren't false make a clause neither false nor unit
-pub pair_good : (s : Sizes) (trail : List Step) (c : List Lit) (h : Hint) → IsPair s trail c h → IsBad trail c → ⊥
+pub pair_good : (s : Sizes) (trail : List Step) (c : List Lit) (h : Hint) → IsPair s trail c h → IsFalseOrUnit trail c → ⊥
 pair_good s trail c h p (inl f) = p.one_open (All-contains (λ m. IsTrueIn trail (opposite m)) c p.one f p.one_in)
 pair_good s trail c h p (inr (u, i)) =
     let one : p.one ≡ u = elim (All-contains (λ m. (m ≡ u) ⊎ IsTrueIn trail (opposite m)) c p.one i.others p.one_in) [
@@ -171,7 +171,7 @@ pair_good s trail c h p (inr (u, i)) =
     p.differ (one ∙ sym other)
 
 pub guarded_good : (t : Line) (c : List Lit) (h : Hint) → AreSteps t → IsGuarded t.sizes t.steps t.steps c h
-    → IsBad t.steps c → ⊥
+    → IsFalseOrUnit t.steps c → ⊥
 guarded_good t c h valid (inl w) bad = true_good t c w.0 valid w.1 w.2 bad
 guarded_good t c h valid (inr p) bad = pair_good t.sizes t.steps c h p bad
 
@@ -318,7 +318,7 @@ visited_end s clauses hints trail head looked w k c h lt at has =
 -- nothing waits
 pub guarded_all : (t : Line) (clauses : List (List Lit)) (hints : List Hint) (head looked k : ℕ) (c : List Lit)
     → AreSteps t → length t.steps ≤ head → length clauses ≤ looked → length hints ≡ length clauses
-    → AreGuarded t.sizes clauses hints t.steps head looked → slice_get clauses k ≡ Some c → IsBad t.steps c → ⊥
+    → AreGuarded t.sizes clauses hints t.steps head looked → slice_get clauses k ≡ Some c → IsFalseOrUnit t.steps c → ⊥
 guarded_all t clauses hints head looked k c valid h l long w at bad =
     let lt = get_within clauses k c at in
     let hint = get_some hints k (omega (arith, long, lt)) in
@@ -359,7 +359,7 @@ grows_long clauses level a b g = omega (arith, ap length g.1, length-append a g.
 
 -- a clause that got its last literal is neither false nor unit
 pub unit_good : (t : Line) (c : List Lit) (u : Lit) (x : Step) → AreSteps (push t x) → x.lit ≡ u → Contains c u
-    → IsBad (t.steps ++ x ∷ []) c → ⊥
+    → IsFalseOrUnit (t.steps ++ x ∷ []) c → ⊥
 unit_good t c u x valid e there bad =
     true_good (push t x) c u valid there
     (length t.steps, x, omega (arith, length_push t.steps x), get_last t.steps x, e) bad

@@ -10,13 +10,13 @@ use Rattle.gh_base.specs.declared.atom.Lit.{Lit}
 use Rattle.gh_base.specs.declared.sizes.Sizes.{Sizes}
 use Rattle.gh_base.specs.Atoms.{opposite, AreInRange}
 use Rattle.gh_sat.specs.declared.trail.Step.{Step}
-use Rattle.gh_sat.specs.Trail.{SearchState, Stands, IsTrueIn, IsFalseIn, IsLevelStart, IsCaused, AreSteps, IsSound, cut}
+use Rattle.gh_sat.specs.Trail.{SearchState, Stands, IsTrueIn, IsFalseIn, IsLevelStart, IsOpenedOrForced, AreSteps, IsSound, cut}
 use Rattle.gh_sat.specs.Trail.{end_of, open_level, most_clauses}
 use Rattle.gh_sat.specs.declared.status.Hint.{Hint}
-use Rattle.gh_sat.specs.Status.{IsBad, IsGuarded, IsSettled, IsForced, AreForced, Grows}
+use Rattle.gh_sat.specs.Status.{IsFalseOrUnit, IsGuarded, IsSettled, IsForced, AreForced, Grows}
 use Rattle.gh_sat.specs.Watch.{AreGuarded, MoveHints, ListsMore, WasOpen, clauses_of, code_of}
-use Rattle.gh_sat.specs.Learn.{IsTop, IsConflict, add_clause}
-use Rattle.gh_sat.specs.Whole.{IsWhole}
+use Rattle.gh_sat.specs.Learn.{IsTop, IsConflictAt, add_clause}
+use Rattle.gh_sat.specs.Whole.{IsUnderWay}
 use Rattle.gh_sat.specs.declared.rows.Numbered.{Numbered}
 use Rattle.gh_sat.specs.Rows.{row_of, rows_of}
 use Rattle.std.proofs.lemmas.List.{map-append}
@@ -106,7 +106,7 @@ steps_take s xs n h = record {
 pub caused_along : (clauses : List (List Lit)) (old new : List Step) (starts starts' : List ℕ) (i : ℕ) (lit : Lit)
     (level : ℕ) (reason : Option ℕ)
     → ((l : Lit) → Stands old i l → Stands new i l) → (IsLevelStart starts level i → IsLevelStart starts' level i)
-    → IsCaused clauses old starts i lit level reason → IsCaused clauses new starts' i lit level reason
+    → IsOpenedOrForced clauses old starts i lit level reason → IsOpenedOrForced clauses new starts' i lit level reason
 caused_along clauses old new starts starts' i lit level None f g h = g h
 caused_along clauses old new starts starts' i lit level (Some k) f g h = record {
   clause = h.clause;
@@ -117,9 +117,9 @@ caused_along clauses old new starts starts' i lit level (Some k) f g h = record 
 
 -- what is forced has its reason
 caused_forced : (clauses : List (List Lit)) (trail : List Step) (starts : List ℕ) (x : Step)
-    → IsForced clauses (length starts) trail x → IsCaused clauses trail starts (length trail) x.lit x.level x.reason
+    → IsForced clauses (length starts) trail x → IsOpenedOrForced clauses trail starts (length trail) x.lit x.level x.reason
 caused_forced clauses trail starts x f =
-    subst (λ r. IsCaused clauses trail starts (length trail) x.lit x.level r) (sym f.reason)
+    subst (λ r. IsOpenedOrForced clauses trail starts (length trail) x.lit x.level r) (sym f.reason)
     (record { clause = f.clause; at = f.at; there = f.unit.there; others = f.unit.others })
 
 pub sound_push : (s : SearchState) (y : Step) → IsSound s → IsForced s.clauses (length s.starts) s.trail y
@@ -132,10 +132,10 @@ sound_push s y h f valid = record {
     | inl old ↦
         caused_along s.clauses s.trail (s.trail ++ y ∷ []) s.starts s.starts i x.lit x.level x.reason
         (stands_push s.trail y i) (λ b. b) (h.caused i x old)
-    | inr new ↦ subst (λ z. IsCaused s.clauses (s.trail ++ y ∷ []) s.starts i z.lit z.level z.reason) new.1
+    | inr new ↦ subst (λ z. IsOpenedOrForced s.clauses (s.trail ++ y ∷ []) s.starts i z.lit z.level z.reason) new.1
         (caused_along s.clauses s.trail (s.trail ++ y ∷ []) s.starts s.starts i y.lit y.level y.reason
         (stands_push s.trail y i) (λ b. b)
-        (subst (λ j. IsCaused s.clauses s.trail s.starts j y.lit y.level y.reason) (sym new.0)
+        (subst (λ j. IsOpenedOrForced s.clauses s.trail s.starts j y.lit y.level y.reason) (sym new.0)
         (caused_forced s.clauses s.trail s.starts y f)))
   ];
   leveled = λ i x at. elim (get_push s.trail y i x at) [
@@ -182,7 +182,7 @@ sound_open s lit h valid =
             x.level x.reason (stands_push s.trail y i)
             (λ b. (b.0, b.1, get_front s.starts (length s.trail ∷ []) b.0 i b.2)) (h.caused i x old)
         | inr new ↦
-            subst (λ z. IsCaused s.clauses (s.trail ++ y ∷ []) (s.starts ++ length s.trail ∷ []) i z.lit z.level
+            subst (λ z. IsOpenedOrForced s.clauses (s.trail ++ y ∷ []) (s.starts ++ length s.trail ∷ []) i z.lit z.level
             z.reason) new.1
             (length s.starts, omega arith, get_last s.starts (length s.trail) ∙ ap Some (sym new.0))
       ];
@@ -253,7 +253,7 @@ sound_cut s level start h here =
 
 caused_add : (clauses : List (List Lit)) (c : List Lit) (trail : List Step) (starts : List ℕ) (i : ℕ) (lit : Lit)
     (level : ℕ) (reason : Option ℕ)
-    → IsCaused clauses trail starts i lit level reason → IsCaused (clauses ++ c ∷ []) trail starts i lit level reason
+    → IsOpenedOrForced clauses trail starts i lit level reason → IsOpenedOrForced (clauses ++ c ∷ []) trail starts i lit level reason
 caused_add clauses c trail starts i lit level None h = h
 caused_add clauses c trail starts i lit level (Some k) h = record {
   clause = h.clause;
@@ -282,11 +282,11 @@ take_same s added level start h here =
     take-append-le start s.trail added (omega arith)
 
 pub whole_grow : (s : SearchState) (counts : List ℕ) (looked head looked' head' : ℕ) (lists : List (List ℕ))
-    (hints hints' : List Hint) (new : List Step) → IsWhole s counts looked head lists hints
+    (hints hints' : List Hint) (new : List Step) → IsUnderWay s counts looked head lists hints
     → Grows s.clauses (length s.starts) s.trail new
     → AreSteps (record { sizes = s.sizes; steps = new }) → looked' ≤ length s.clauses → head' ≤ length new
     → MoveHints s.sizes s.clauses s.trail hints hints' → AreGuarded s.sizes s.clauses hints' new head' looked'
-    → IsWhole (record s { trail = new }) counts looked' head' lists hints'
+    → IsUnderWay (record s { trail = new }) counts looked' head' lists hints'
 whole_grow s counts looked head looked' head' lists hints hints' new h g valid within before m w =
     let added = g.0 in
     let valid' : AreSteps (record { sizes = s.sizes; steps = s.trail ++ added }) =
@@ -315,10 +315,10 @@ whole_grow s counts looked head looked' head' lists hints hints' new h g valid w
     }
 
 pub whole_open : (s : SearchState) (counts : List ℕ) (looked head n : ℕ) (lists : List (List ℕ)) (hints : List Hint)
-    (lit : Lit) → IsWhole s counts looked head lists hints → IsSettled s
+    (lit : Lit) → IsUnderWay s counts looked head lists hints → IsSettled s
     → (n ≡ 0) ⊎ ((n ≡ looked) × (head ≡ length s.trail))
     → AreSteps (record { sizes = s.sizes; steps = (open_level s lit).trail })
-    → IsWhole (open_level s lit) (counts ++ n ∷ []) looked head lists hints
+    → IsUnderWay (open_level s lit) (counts ++ n ∷ []) looked head lists hints
 whole_open s counts looked head n lists hints lit h calm few valid =
     let y : Step = record { lit = lit; level = length s.starts + 1; reason = None } in
     let front : take (length s.trail) (s.trail ++ y ∷ []) ≡ s.trail =
@@ -375,9 +375,9 @@ whole_open s counts looked head n lists hints lit h calm few valid =
     }
 
 pub whole_cut : (s : SearchState) (counts : List ℕ) (looked head : ℕ) (lists : List (List ℕ)) (hints : List Hint)
-    (level start count : ℕ) → IsWhole s counts looked head lists hints → slice_get s.starts level ≡ Some start
+    (level start count : ℕ) → IsUnderWay s counts looked head lists hints → slice_get s.starts level ≡ Some start
     → slice_get counts level ≡ Some count
-    → IsWhole (record s { trail = take start s.trail; starts = take level s.starts }) (take level counts) count start
+    → IsUnderWay (record s { trail = take start s.trail; starts = take level s.starts }) (take level counts) count start
     lists hints
 whole_cut s counts looked head lists hints level start count h here here' =
     let b = h.sound.starts level start here in
@@ -413,8 +413,8 @@ whole_cut s counts looked head lists hints level start count h here here' =
     }
 
 pub whole_lists : (s : SearchState) (counts : List ℕ) (looked head : ℕ) (lists lists' : List (List ℕ))
-    (hints : List Hint) → IsWhole s counts looked head lists hints → ListsMore lists lists'
-    → IsWhole s counts looked head lists' hints
+    (hints : List Hint) → IsUnderWay s counts looked head lists hints → ListsMore lists lists'
+    → IsUnderWay s counts looked head lists' hints
 whole_lists s counts looked head lists lists' hints h more = record {
   sound = h.sound;
   guarded = h.guarded;
@@ -431,10 +431,10 @@ whole_lists s counts looked head lists lists' hints h more = record {
 }
 
 pub whole_add : (s : SearchState) (counts : List ℕ) (looked head : ℕ) (lists : List (List ℕ)) (hints : List Hint)
-    (c : List Lit) (hint : Hint) → IsWhole s counts looked head lists hints → AreInRange s.sizes c
+    (c : List Lit) (hint : Hint) → IsUnderWay s counts looked head lists hints → AreInRange s.sizes c
     → WasOpen s.trail s.starts c
     → ((m : Lit) → Contains c m → Contains (clauses_of s.sizes lists m) (length s.clauses))
-    → length s.clauses < most_clauses → IsWhole (add_clause s c) counts looked head lists (hints ++ hint ∷ [])
+    → length s.clauses < most_clauses → IsUnderWay (add_clause s c) counts looked head lists (hints ++ hint ∷ [])
 whole_add s counts looked head lists hints c hint h range was listed few =
     let old : (k : ℕ) (d : List Lit) → k < length s.clauses → slice_get (s.clauses ++ c ∷ []) k ≡ Some d
     → slice_get s.clauses k ≡ Some d = λ k d lt at. get_front_back s.clauses (c ∷ []) k d lt at in
@@ -468,8 +468,8 @@ whole_add s counts looked head lists hints c hint h range was listed few =
 
 -- a false clause has a literal of the present level, where it wasn't false when that was opened
 pub conflict_of : (s : SearchState) (counts : List ℕ) (looked head : ℕ) (lists : List (List ℕ)) (hints : List Hint)
-    (k : ℕ) (c : List Lit) → IsWhole s counts looked head lists hints → slice_get s.clauses k ≡ Some c
-    → IsFalseIn s.trail c → IsConflict s k
+    (k : ℕ) (c : List Lit) → IsUnderWay s counts looked head lists hints → slice_get s.clauses k ≡ Some c
+    → IsFalseIn s.trail c → IsConflictAt s k
 conflict_of s counts looked head lists hints k c h at f = record {
   clause = c;
   at = at;
@@ -477,26 +477,26 @@ conflict_of s counts looked head lists hints k c h at f = record {
   present = λ pos. present_of s c h.sound f (h.were_open k c at) pos;
 }
 
-pub settled_from : (s : SearchState) → ((k : ℕ) (c : List Lit) → slice_get s.clauses k ≡ Some c → IsBad s.trail c → ⊥)
+pub settled_from : (s : SearchState) → ((k : ℕ) (c : List Lit) → slice_get s.clauses k ≡ Some c → IsFalseOrUnit s.trail c → ⊥)
     → IsSettled s
 settled_from s h = record { no_false = λ k c at f. h k c at (inl f); no_unit = λ k c u at i. h k c at (inr (u, i)) }
 
 -- what a cut leaves, as the code makes it
 pub cut_whole : (s : SearchState) (z : Sizes) (trail : List Step) (starts counts counts' : List ℕ)
     (looked head count start level : ℕ) (lists : List (List ℕ)) (hints : List Hint)
-    → IsWhole s counts looked head lists hints
+    → IsUnderWay s counts looked head lists hints
     → slice_get s.starts level ≡ Some start → slice_get counts level ≡ Some count → z ≡ s.sizes
     → trail ≡ take start s.trail → starts ≡ take level s.starts → counts' ≡ take level counts
-    → IsWhole (record { sizes = z; clauses = s.clauses; trail = trail; starts = starts }) counts' count start lists
+    → IsUnderWay (record { sizes = z; clauses = s.clauses; trail = trail; starts = starts }) counts' count start lists
     hints
 cut_whole s z trail starts counts counts' looked head count start level lists hints h here here' e1 e2 e3 e4 =
-    subst (λ (w : Sizes). IsWhole (record { sizes = w; clauses = s.clauses; trail = trail; starts = starts }) counts'
+    subst (λ (w : Sizes). IsUnderWay (record { sizes = w; clauses = s.clauses; trail = trail; starts = starts }) counts'
     count start lists hints) (sym e1)
-    (subst (λ (t : List Step). IsWhole (record s { trail = t; starts = starts }) counts' count start lists hints)
+    (subst (λ (t : List Step). IsUnderWay (record s { trail = t; starts = starts }) counts' count start lists hints)
     (sym e2)
-    (subst (λ (t : List ℕ). IsWhole (record s { trail = take start s.trail; starts = t }) counts' count start lists
+    (subst (λ (t : List ℕ). IsUnderWay (record s { trail = take start s.trail; starts = t }) counts' count start lists
     hints) (sym e3)
-    (subst (λ (t : List ℕ). IsWhole (record s { trail = take start s.trail; starts = take level s.starts }) t count
+    (subst (λ (t : List ℕ). IsUnderWay (record s { trail = take start s.trail; starts = take level s.starts }) t count
     start lists hints) (sym e4)
     (whole_cut s counts looked head lists hints level start count h here here'))))
 
@@ -572,28 +572,28 @@ open_under s c top h t =
 
 pub cut_add_whole : (s : SearchState) (z : Sizes) (trail : List Step) (starts counts counts' : List ℕ)
     (looked head count start level : ℕ) (lists : List (List ℕ)) (hints hints' : List Hint) (c : List Lit) (hint : Hint)
-    (clauses : List (List Lit)) → IsWhole s counts looked head lists hints
+    (clauses : List (List Lit)) → IsUnderWay s counts looked head lists hints
     → slice_get s.starts level ≡ Some start → slice_get counts level ≡ Some count → z ≡ s.sizes
     → trail ≡ take start s.trail → starts ≡ take level s.starts → counts' ≡ take level counts
     → clauses ≡ s.clauses ++ c ∷ [] → hints' ≡ hints ++ hint ∷ []
     → AreInRange s.sizes c → WasOpen (cut s level).trail (cut s level).starts c
     → ((m : Lit) → Contains c m → Contains (clauses_of s.sizes lists m) (length s.clauses))
     → length s.clauses < most_clauses
-    → IsWhole (record { sizes = z; clauses = clauses; trail = trail; starts = starts }) counts' count start lists hints'
+    → IsUnderWay (record { sizes = z; clauses = clauses; trail = trail; starts = starts }) counts' count start lists hints'
 cut_add_whole s z trail starts counts counts' looked head count start level lists hints hints' c hint clauses h here
     here' e1 e2 e3 e4 e5 e6 range was listed few =
-    subst (λ (x : List Hint). IsWhole (record { sizes = z; clauses = clauses; trail = trail; starts = starts }) counts'
+    subst (λ (x : List Hint). IsUnderWay (record { sizes = z; clauses = clauses; trail = trail; starts = starts }) counts'
     count start lists x) (sym e6)
-    (subst (λ (w : Sizes). IsWhole (record { sizes = w; clauses = clauses; trail = trail; starts = starts }) counts'
+    (subst (λ (w : Sizes). IsUnderWay (record { sizes = w; clauses = clauses; trail = trail; starts = starts }) counts'
     count start lists (hints ++ hint ∷ [])) (sym e1)
-    (subst (λ (t : List Step). IsWhole (record s { clauses = clauses; trail = t; starts = starts }) counts' count start
+    (subst (λ (t : List Step). IsUnderWay (record s { clauses = clauses; trail = t; starts = starts }) counts' count start
     lists (hints ++ hint ∷ [])) (sym e2)
-    (subst (λ (t : List ℕ). IsWhole (record s { clauses = clauses; trail = take start s.trail; starts = t }) counts'
+    (subst (λ (t : List ℕ). IsUnderWay (record s { clauses = clauses; trail = take start s.trail; starts = t }) counts'
     count start lists (hints ++ hint ∷ [])) (sym e3)
-    (subst (λ (t : List ℕ). IsWhole
+    (subst (λ (t : List ℕ). IsUnderWay
     (record s { clauses = clauses; trail = take start s.trail; starts = take level s.starts }) t count start lists
     (hints ++ hint ∷ [])) (sym e4)
-    (subst (λ (cs : List (List Lit)). IsWhole
+    (subst (λ (cs : List (List Lit)). IsUnderWay
     (record s { clauses = cs; trail = take start s.trail; starts = take level s.starts }) (take level counts) count
     start lists (hints ++ hint ∷ [])) (sym e5)
     (whole_add (record s { trail = take start s.trail; starts = take level s.starts }) (take level counts) count start
@@ -602,9 +602,9 @@ cut_add_whole s z trail starts counts counts' looked head count start level list
     (end_of_at s.starts level (length s.trail) start here) was) listed few))))))
 
 pub whole_retract : (s : SearchState) (counts : List ℕ) (looked head place : ℕ) (lists : List (List ℕ))
-    (hints : List Hint) → IsWhole s counts looked head lists hints → place ≤ length s.trail
+    (hints : List Hint) → IsUnderWay s counts looked head lists hints → place ≤ length s.trail
     → ((level start : ℕ) → slice_get s.starts level ≡ Some start → start < place) → length s.starts ≤ place
-    → IsWhole (record s { trail = take place s.trail }) counts 0 place lists hints
+    → IsUnderWay (record s { trail = take place s.trail }) counts 0 place lists hints
 whole_retract s counts looked head place lists hints h within present levels =
     let long : length (take place s.trail) ≡ place = length-take-le place s.trail within in
     let same : (level start : ℕ) → slice_get s.starts level ≡ Some start

@@ -5,7 +5,7 @@ use Rattle.gh_sat.specs.declared.learner.Learner.TheInside.{Inside}
 use Rattle.gh_sat.specs.Trail.{SearchState}
 use Rattle.gh_sat.specs.Learn.{marks_of, IsBounded}
 use Rattle.gh_sat.specs.Rows.{rows_of}
-use Rattle.gh_sat.specs.Whole.{IsWhole}
+use Rattle.gh_sat.specs.Whole.{IsUnderWay}
 
 -- the search that the fields tell
 abbrev pub search_of : Inside → SearchState
@@ -15,7 +15,7 @@ search_of s =
 -- the search is whole, all levels have room, each place has a stamp, and each clause its row
 abbrev pub HoldsSearch : Inside → Type 0
 HoldsSearch s =
-    IsWhole (search_of s) s.counts.items s.looked s.head s.occurrences s.hints.items
+    IsUnderWay (search_of s) s.counts.items s.looked s.head s.occurrences s.hints.items
     × (count_of s.trail.sizes ≤ vec_capacity s.starts)
     × (count_of s.trail.sizes ≤ vec_capacity s.counts)
     × IsBounded (marks_of s.marks)

@@ -43,9 +43,9 @@ FindsIn h block None = (place : ℕ) → LeadsTo h block place → ⊥
 FindsIn h block (Some place) = LeadsTo h block place
 
 -- a place is found to which the first block leads that leads to one, and none exactly where no block does
-abbrev pub Finds : Hinted → Option ℕ → Type 0
-Finds h None = (block place : ℕ) → LeadsTo h block place → ⊥
-Finds h (Some place) =
+abbrev pub FindsHinted : Hinted → Option ℕ → Type 0
+FindsHinted h None = (block place : ℕ) → LeadsTo h block place → ⊥
+FindsHinted h (Some place) =
     (block : ℕ) × LeadsTo h block place × ((other next : ℕ) → other < block → LeadsTo h other next → ⊥)
 
 -- nothing is hinted at

@@ -42,7 +42,7 @@ pub record IsClauseOf (s : SearchState) (conflict : List Lit) (place : ℕ) (cla
       → Reached s.clauses s.trail conflict (suc place) j → Contains clause (opposite x.lit)
 
 -- the clause of number k is false, and above level 0 it has a literal of the present level
-pub record IsConflict (s : SearchState) (k : ℕ) : Type 0 where
+pub record IsConflictAt (s : SearchState) (k : ℕ) : Type 0 where
   pub clause : List Lit
   pub at : slice_get s.clauses k ≡ Some clause
   pub is_false : IsFalseIn s.trail clause
@@ -108,12 +108,12 @@ marks_of m = record {
 }
 
 -- the place has the mark of this round
-abbrev pub IsMarked : Marking → ℕ → Type 0
-IsMarked m j = slice_get m.stamps j ≡ Some m.round
+abbrev pub HasRound : Marking → ℕ → Type 0
+HasRound m j = slice_get m.stamps j ≡ Some m.round
 
 -- the place of the literal's atom has the mark of this round
 abbrev pub HasMark : List Step → Marking → Lit → Type 0
-HasMark trail m l = (j : ℕ) × (x : Step) × (slice_get trail j ≡ Some x) × (x.lit.atom ≡ l.atom) × IsMarked m j
+HasMark trail m l = (j : ℕ) × (x : Step) × (slice_get trail j ≡ Some x) × (x.lit.atom ≡ l.atom) × HasRound m j
 
 -- .. or the literal is false by a step before the end
 abbrev pub IsMarkedOrFalse : List Step → Marking → Lit → Type 0
@@ -146,8 +146,8 @@ pub record AreMarks (trail : List Step) (m : Marking) : Type 0 where
   pub end : m.end ≤ length trail
   pub long : length trail ≤ length m.stamps
   pub lower : All (λ l. (j : ℕ) × (x : Step) × (j < m.start) × (slice_get trail j ≡ Some x) × (x.lit ≡ opposite l)
-      × (x.level ≤ m.level) × IsMarked m j) m.lower
-  pub lower_all : (j : ℕ) (x : Step) → j < m.start → slice_get trail j ≡ Some x → IsMarked m j
+      × (x.level ≤ m.level) × HasRound m j) m.lower
+  pub lower_all : (j : ℕ) (x : Step) → j < m.start → slice_get trail j ≡ Some x → HasRound m j
       → Contains m.lower (opposite x.lit)
   pub greatest : (m.level ≡ 0) ⊎ ((j : ℕ) × (x : Step) × (j < m.start) × (slice_get trail j ≡ Some x)
       × Contains m.lower (opposite x.lit) × (x.level ≡ m.level))
@@ -171,9 +171,9 @@ pub record MarksMore (trail : List Step) (clause : List Lit) (old new : Marking)
   pub end : new.end ≡ old.end
   pub long : length new.stamps ≡ length old.stamps
   pub bounded : IsBounded new
-  pub keeps : (j : ℕ) → IsMarked old j → IsMarked new j
-  pub only : (j : ℕ) → IsMarked new j
-      → IsMarked old j ⊎ ((x : Step) × (j < old.end) × (slice_get trail j ≡ Some x) × Contains clause (opposite x.lit))
+  pub keeps : (j : ℕ) → HasRound old j → HasRound new j
+  pub only : (j : ℕ) → HasRound new j
+      → HasRound old j ⊎ ((x : Step) × (j < old.end) × (slice_get trail j ≡ Some x) × Contains clause (opposite x.lit))
   pub waiting : old.waiting ≤ new.waiting
 
 -- the marked step's reason has its literals marked
@@ -183,11 +183,11 @@ IsResolved clauses trail m x =
 
 abbrev pub ResolvedFrom : List (List Lit) → List Step → Marking → ℕ → Type 0
 ResolvedFrom clauses trail m place =
-    (j : ℕ) (x : Step) → place ≤ j → slice_get trail j ≡ Some x → IsMarked m j → IsResolved clauses trail m x
+    (j : ℕ) (x : Step) → place ≤ j → slice_get trail j ≡ Some x → HasRound m j → IsResolved clauses trail m x
 
 -- what is marked is reached by resolving from this place on
 abbrev pub AreReached : List (List Lit) → List Step → List Lit → Marking → ℕ → Type 0
-AreReached clauses trail conflict m from = (j : ℕ) → IsMarked m j → Reached clauses trail conflict from j
+AreReached clauses trail conflict m from = (j : ℕ) → HasRound m j → Reached clauses trail conflict from j
 
 -- each step after the start has its reason
 abbrev pub HaveReasons : List (List Lit) → List Step → ℕ → Type 0
@@ -223,11 +223,11 @@ pub record IsAlone (clauses : List (List Lit)) (trail : List Step) (conflict : L
   pub alone : (j : ℕ) → Reached clauses trail conflict (suc place) j → start ≤ j → j ≤ place → j ≡ place
 
 -- the one marked step from the start on that is left
-pub record IsLeft (clauses : List (List Lit)) (trail : List Step) (conflict : List Lit) (m : Marking)
+pub record IsLastMarked (clauses : List (List Lit)) (trail : List Step) (conflict : List Lit) (m : Marking)
     (place : ℕ) : Type 0 where
   pub step : Step
   pub at : slice_get trail place ≡ Some step
-  pub is : IsMarked m place
+  pub is : HasRound m place
   pub low : m.start ≤ place
   pub marks : AreMarks trail m
   pub end : m.end ≡ place

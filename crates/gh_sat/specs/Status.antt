@@ -14,13 +14,13 @@ use Rattle.gh_sat.specs.declared.status.Status.TheVariants.{False, Unit as IsOne
 use Rattle.gh_sat.specs.Trail.{Line, SearchState, IsFree, IsTrueIn, IsFalseIn, IsUnitIn}
 
 -- the clause is false, or unit
-abbrev pub IsBad : List Step → List Lit → Type 0
-IsBad trail clause = IsFalseIn trail clause ⊎ ((u : Lit) × IsUnitIn trail clause u)
+abbrev pub IsFalseOrUnit : List Step → List Lit → Type 0
+IsFalseOrUnit trail clause = IsFalseIn trail clause ⊎ ((u : Lit) × IsUnitIn trail clause u)
 
 abbrev pub IsStatus : List Step → List Lit → Status → Type 0
 IsStatus trail clause False = IsFalseIn trail clause
 IsStatus trail clause (IsOne unit) = IsUnitIn trail clause unit
-IsStatus trail clause (Open hint) = IsBad trail clause → ⊥
+IsStatus trail clause (Open hint) = IsFalseOrUnit trail clause → ⊥
 
 -- the hint has the numbers of two literals of the clause that aren't false by the steps that are known
 pub record IsPair (s : Sizes) (known : List Step) (clause : List Lit) (hint : Hint) : Type 0 where
@@ -47,10 +47,10 @@ StaysGuarded t hint gone =
     → IsGuarded t.sizes t.steps (take (head + 1) t.steps) clause hint
 
 -- where the clause is open, its hint stays or has two literals that aren't false
-abbrev pub IsMoved : Sizes → List Step → List Lit → Hint → Status → Type 0
-IsMoved s trail clause old (Open hint) =
+abbrev pub KeepsHint : Sizes → List Step → List Lit → Hint → Status → Type 0
+KeepsHint s trail clause old (Open hint) =
     IsGuarded s trail trail clause hint × ((hint ≡ old) ⊎ IsPair s trail clause hint)
-IsMoved s trail clause old status = ⊤
+KeepsHint s trail clause old status = ⊤
 
 -- each atom of the clause has a truth
 abbrev pub IsAssigned : List Step → List Lit → Type 0
@@ -74,7 +74,7 @@ OccursIn clauses atom = Any (λ c. HasAtom c atom) clauses
 
 -- no clause is false or unit
 abbrev pub HasNoBad : List (List Lit) → List Step → Type 0
-HasNoBad clauses trail = (k : ℕ) (c : List Lit) → slice_get clauses k ≡ Some c → IsBad trail c → ⊥
+HasNoBad clauses trail = (k : ℕ) (c : List Lit) → slice_get clauses k ≡ Some c → IsFalseOrUnit trail c → ⊥
 
 -- the same of a search
 pub record IsSettled (s : SearchState) : Type 0 where

@@ -15,8 +15,8 @@ abbrev pub IsRefutedBy : List Lit → List Lit → Type 0
 IsRefutedBy asserted clause = All (λ l. Contains asserted (opposite l)) clause
 
 -- a clause of the theory is refuted by what is asserted
-abbrev pub IsRefuted : (List Lit → Type 0) → List Lit → List Lit → Type 0
-IsRefuted valid asserted clause = valid clause × IsRefutedBy asserted clause
+abbrev pub RefutesOne : (List Lit → Type 0) → List Lit → List Lit → Type 0
+RefutesOne valid asserted clause = valid clause × IsRefutedBy asserted clause
 
 -- no clause of the theory is refuted
 abbrev pub HasNoRefuted : (List Lit → Type 0) → List Lit → Type 0
@@ -30,8 +30,8 @@ abbrev pub lits_of : List Step → List Lit
 lits_of trail = map (λ (x : Step). x.lit) trail
 
 -- a front of the trail is asserted
-abbrev pub IsTold : List Lit → List Step → Type 0
-IsTold asserted trail = (n : ℕ) × (n ≤ length trail) × (asserted ≡ lits_of (take n trail))
+abbrev pub IsAsserted : List Lit → List Step → Type 0
+IsAsserted asserted trail = (n : ℕ) × (n ≤ length trail) × (asserted ≡ lits_of (take n trail))
 
 -- no clause of the theory is false
 abbrev pub HasNoConflict : (List Lit → Type 0) → List Step → Type 0
@@ -49,7 +49,7 @@ IsConsistentWith valid s = HasNoConflict (valid s.sizes) s.trail
 -- a theory over the sizes of a search is told a front of its trail, and had no conflict when a level was opened
 abbrev pub IsBeside : (Sizes → List Lit → Type 0) → List Lit → Sizes → SearchState → Type 0
 IsBeside valid asserted sizes s =
-    IsTold asserted s.trail × (sizes ≡ s.sizes) × WereConsistent (valid s.sizes) s.trail s.starts
+    IsAsserted asserted s.trail × (sizes ≡ s.sizes) × WereConsistent (valid s.sizes) s.trail s.starts
 
 -- a clause of the theory is added
 abbrev pub AddsValid : (List Lit → Type 0) → SearchState → SearchState → Type 0

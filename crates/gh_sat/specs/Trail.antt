@@ -58,10 +58,10 @@ pub record IsUnitIn (trail : List Step) (clause : List Lit) (unit : Lit) : Type 
   pub others : All (λ l. (l ≡ unit) ⊎ IsTrueIn trail (opposite l)) clause
 
 -- the truth of a literal
-abbrev pub IsValue : List Step → Lit → Option Bool → Type 0
-IsValue trail l (Some true) = IsTrueIn trail l
-IsValue trail l (Some false) = IsTrueIn trail (opposite l)
-IsValue trail l None = IsFree trail l.atom
+abbrev pub IsTruth : List Step → Lit → Option Bool → Type 0
+IsTruth trail l (Some true) = IsTrueIn trail l
+IsTruth trail l (Some false) = IsTrueIn trail (opposite l)
+IsTruth trail l None = IsFree trail l.atom
 
 -- each atom is in range and stands once
 pub record AreSteps (t : Line) : Type 0 where
@@ -83,9 +83,9 @@ abbrev pub IsLevelStart : List ℕ → ℕ → ℕ → Type 0
 IsLevelStart starts level i = (below : ℕ) × (level ≡ suc below) × (slice_get starts below ≡ Some i)
 
 -- the literal at place i opens its level, or follows by the clause that is its reason
-abbrev pub IsCaused : List (List Lit) → List Step → List ℕ → ℕ → Lit → ℕ → Option ℕ → Type 0
-IsCaused clauses trail starts i lit level None = IsLevelStart starts level i
-IsCaused clauses trail starts i lit level (Some k) = IsReason clauses trail i lit k
+abbrev pub IsOpenedOrForced : List (List Lit) → List Step → List ℕ → ℕ → Lit → ℕ → Option ℕ → Type 0
+IsOpenedOrForced clauses trail starts i lit level None = IsLevelStart starts level i
+IsOpenedOrForced clauses trail starts i lit level (Some k) = IsReason clauses trail i lit k
 
 -- what is true of every search
 pub record IsSound (s : SearchState) : Type 0 where
@@ -93,7 +93,7 @@ pub record IsSound (s : SearchState) : Type 0 where
   pub steps : AreSteps (record { sizes = s.sizes; steps = s.trail })
   -- a decision opens its level, and each other literal has its reason
   pub caused : (i : ℕ) (x : Step) → slice_get s.trail i ≡ Some x
-      → IsCaused s.clauses s.trail s.starts i x.lit x.level x.reason
+      → IsOpenedOrForced s.clauses s.trail s.starts i x.lit x.level x.reason
   pub leveled : (i : ℕ) (x : Step) → slice_get s.trail i ≡ Some x → x.level ≤ length s.starts
   -- the steps before a level's start are those of lower levels
   pub split : (i : ℕ) (x : Step) (level start : ℕ) → slice_get s.trail i ≡ Some x
@@ -155,7 +155,7 @@ AreTrailTables p places trail cursor room =
 -- an assignment that tells the truth of each literal by the trail
 pub record IsAssignmentOf (p : Partial) (t : Line) : Type 0 where
   pub sizes : p.sizes ≡ t.sizes
-  pub tells : (l : Lit) → IsInRange t.sizes l.atom → IsValue t.steps l (value_of p l)
+  pub tells : (l : Lit) → IsInRange t.sizes l.atom → IsTruth t.steps l (value_of p l)
 
 -- some clauses, and nothing on the trail
 abbrev pub search_over : Sizes → List (List Lit) → SearchState

@@ -11,7 +11,7 @@ use Rattle.gh_sat.specs.Learn.{IsTop, add_clause}
 
 -- `counts` tells for each level how many clauses had been looked at when it was opened, `looked` clauses were looked
 -- at, and the trail is propagated up to `head`
-pub record IsWhole (s : SearchState) (counts : List ℕ) (looked head : ℕ) (lists : List (List ℕ))
+pub record IsUnderWay (s : SearchState) (counts : List ℕ) (looked head : ℕ) (lists : List (List ℕ))
     (hints : List Hint) : Type 0 where
   pub sound : IsSound s
   pub guarded : AreGuarded s.sizes s.clauses hints s.trail head looked
@@ -38,7 +38,7 @@ abbrev pub GivesLast : SearchState → List Step → Type 0
 GivesLast s new = PutsLastFirst s.clauses (length s.starts) s.trail new
 
 -- a false clause is added last and the trail cut to the greatest level of its literals; any other one is added
-abbrev pub Adds : SearchState → List Lit → SearchState → Type 0
-Adds old clause new =
+abbrev pub AddsClause : SearchState → List Lit → SearchState → Type 0
+AddsClause old clause new =
     ((top : ℕ) × IsFalseIn old.trail clause × IsTop old.trail clause top × (new ≡ add_clause (cut old top) clause))
     ⊎ ((IsFalseIn old.trail clause → ⊥) × (new ≡ add_clause old clause))

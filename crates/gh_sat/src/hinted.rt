@@ -2,7 +2,7 @@
 //! speaks of.
 
 ghost use Rattle.std.specs.Prelude.{◌≡◌, IfOk, IfSome, IfNone};
-ghost use Rattle.gh_sat.specs.Hinted.{Clears, HasBit, FindsLowest, FindsIn, Finds, HintsNothing};
+ghost use Rattle.gh_sat.specs.Hinted.{Clears, HasBit, FindsLowest, FindsIn, FindsHinted, HintsNothing};
 
 use std::alloc::{AllocError, Global};
 
@@ -86,7 +86,7 @@ impl Hinted {
     pub fn take(&mut self) -> Option<usize>
         ensures was { IfSome result (HasBit self.old.places.items) }
         ensures taken { IfSome result (Clears self.old.places.items self.new.places.items) }
-        ensures found { Finds self.old result }
+        ensures found { FindsHinted self.old result }
         ensures none { IfNone result (self.new.places.items ≡ self.old.places.items) }
     {
         for block in 0..self.blocks.len() {

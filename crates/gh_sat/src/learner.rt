@@ -190,8 +190,8 @@ impl Learner {
     ghost use Rattle.gh_sat.specs.Trail.{SearchState, IsFree, IsAssignmentOf, IsSound, cut, open_level};
     ghost use Rattle.gh_sat.specs.Status.{IsSettled, AreAssigned, OccursIn};
     ghost use Rattle.gh_sat.specs.Watch.{WasOpen};
-    ghost use Rattle.gh_sat.specs.Learn.{IsConflict, IsLearnt, AreReasons, add_clause};
-    ghost use Rattle.gh_sat.specs.Whole.{PropagatesTo, GivesLast, Adds};
+    ghost use Rattle.gh_sat.specs.Learn.{IsConflictAt, IsLearnt, AreReasons, add_clause};
+    ghost use Rattle.gh_sat.specs.Whole.{PropagatesTo, GivesLast, AddsClause};
 
     /// A search with no clause.
     pub fn empty(alloc: Global, sizes: Sizes) -> Result<Learner, AllocError>
@@ -255,7 +255,7 @@ impl Learner {
     /// are at most `MOST_CLAUSES`: where there are as many, none is added, as where memory runs out.
     pub fn add(&mut self, clause: Clause) -> Result<(), AllocError>
         requires { AreInRange self.old.sizes clause }
-        ensures ok { OnOk result (Adds self.old clause self.new) }
+        ensures ok { OnOk result (AddsClause self.old clause self.new) }
         ensures few { OnOk result (length self.new.clauses ≤ most_clauses) }
         ensures err { OnErr result (self.new ≡ self.old) }
     {
@@ -354,7 +354,7 @@ impl Learner {
     pub fn propagate(&mut self) -> Option<u32>
         ensures moves { PropagatesTo self.old self.new }
         ensures last { GivesLast self.old self.new.trail }
-        ensures conflict { IfSome result (λ k. IsConflict self.new k) }
+        ensures conflict { IfSome result (λ k. IsConflictAt self.new k) }
         ensures settled { IfNone result (IsSettled self.new) }
         ensures sound { IsSound self.new }
         ensures few { length self.new.clauses ≤ most_clauses }
@@ -459,7 +459,7 @@ impl Learner {
 
     /// Adds the clause of the first unique implication point of a false clause, as [`Learner::insert`] does.
     pub fn learn(&mut self, alloc: Global, conflict: u32) -> Result<Learnt, AllocError>
-        requires conflict { IsConflict self.old conflict }
+        requires conflict { IsConflictAt self.old conflict }
         requires level { 0 < length self.old.starts }
         ensures learnt { IfOk result (λ l. IsLearnt self.old conflict l.clause l.level l.unit) }
         ensures added { IfOk result (λ l. self.new ≡ add_clause self.old l.clause) }
@@ -494,7 +494,7 @@ impl Learner {
     /// Where a clause is false at level 0, numbers of clauses that, taken as hints in this order, show the empty
     /// clause.
     pub fn refutation(&mut self, alloc: Global, conflict: u32) -> Result<Vec<u32>, AllocError>
-        requires conflict { IsConflict self.old conflict }
+        requires conflict { IsConflictAt self.old conflict }
         requires level { self.old.starts ≡ [] }
         ensures reasons { IfOk result (λ v. AreReasons self.old.clauses v.items []) }
         ensures same { self.new ≡ self.old }

@@ -3,8 +3,8 @@
 ghost use Rattle.std.specs.Prelude.{◌≡◌, ℕ, ◌+◌, ◌<◌, ◌≤◌, [], ◌∷◌, length, All, OnOk, IfOk};
 ghost use Rattle.gh_base.specs.Atoms.{AreInRange, IsInRange};
 ghost use Rattle.gh_sat.specs.Trail.{IsFalseIn, AreSteps};
-ghost use Rattle.gh_sat.specs.Learn.{marks_of, IsMarked, HasMark, AllMarked, IsBounded, AreMarks, MarksMore};
-ghost use Rattle.gh_sat.specs.Learn.{HaveReasons, IsLeft, AreMarksWithin, IsMarkedOrFalse, IsPresent, marked_before};
+ghost use Rattle.gh_sat.specs.Learn.{marks_of, HasRound, HasMark, AllMarked, IsBounded, AreMarks, MarksMore};
+ghost use Rattle.gh_sat.specs.Learn.{HaveReasons, IsLastMarked, AreMarksWithin, IsMarkedOrFalse, IsPresent, marked_before};
 
 use crate::trail::Trail;
 use gh_base::atom::Lit;
@@ -40,7 +40,7 @@ pub fn begin(marks: &mut Marks, start: usize, end: usize)
     requires { IsBounded (marks_of marks.old) }
     ensures bounded { IsBounded (marks_of marks.new) }
     ensures none { AreMarksWithin start end (length marks.old.stamps.items) (marks_of marks.new) }
-    ensures unmarked { (j : ℕ) → IsMarked (marks_of marks.new) j → ⊥ }
+    ensures unmarked { (j : ℕ) → HasRound (marks_of marks.new) j → ⊥ }
     ensures long { length marks.new.stamps.items ≡ length marks.old.stamps.items }
     ensures start { marks.new.start ≡ start }
     ensures end { marks.new.end ≡ end }
@@ -104,8 +104,8 @@ pub fn last_marked(marks: &Marks) -> usize
     requires waiting { marks.now.waiting ≡ marked_before (marks_of marks.now) marks.now.end }
     ensures within { result < marks.now.end }
     ensures start { marks.now.start ≤ result }
-    ensures is { IsMarked (marks_of marks.now) result }
-    ensures between { (j : ℕ) → result < j → j < marks.now.end → IsMarked (marks_of marks.now) j → ⊥ }
+    ensures is { HasRound (marks_of marks.now) result }
+    ensures between { (j : ℕ) → result < j → j < marks.now.end → HasRound (marks_of marks.now) j → ⊥ }
     ensures fewer { marks.now.waiting ≡ marked_before (marks_of marks.now) result + 1 }
 {
     let mut i = marks.end;
@@ -126,7 +126,7 @@ pub fn resolve(
     conflict: &[Lit],
 ) -> Result<usize, AllocError>
     requires marks { AreMarks trail.now.steps (marks_of marks.old) }
-    requires unmarked { (j : ℕ) → IsMarked (marks_of marks.old) j → ⊥ }
+    requires unmarked { (j : ℕ) → HasRound (marks_of marks.old) j → ⊥ }
     requires bounded { IsBounded (marks_of marks.old) }
     requires end { marks.old.end ≡ length trail.now.steps }
     requires range { All (AreInRange trail.now.sizes) clauses.now }
@@ -135,7 +135,8 @@ pub fn resolve(
     requires all_false { IsFalseIn trail.now.steps conflict.now }
     requires present { IsPresent trail.now.steps marks.old.start conflict.now }
     requires valid { AreSteps trail.now }
-    ensures point { IfOk result (λ place. IsLeft clauses.now trail.now.steps conflict.now (marks_of marks.new) place) }
+    ensures point { IfOk result (λ place.
+        IsLastMarked clauses.now trail.now.steps conflict.now (marks_of marks.new) place) }
     ensures round { marks.new.round ≡ marks.old.round }
     ensures bounded { IsBounded (marks_of marks.new) }
     ensures long { length marks.new.stamps.items ≡ length marks.old.stamps.items }

@@ -6,9 +6,9 @@ ghost use Rattle.gh_base.specs.Atoms.{IsInRange, AreInRange};
 ghost use Rattle.gh_sat.specs.Trail.{SearchState, IsAssignmentOf, IsSound, IsFree, cut, AllHaveTruth, OpensLevel};
 ghost use Rattle.gh_sat.specs.Trail.{search_over, most_clauses};
 ghost use Rattle.gh_sat.specs.Status.{IsSettled, AreAssigned, OccursIn};
-ghost use Rattle.gh_sat.specs.Learn.{IsConflict, IsLearnt, AreReasons, add_clause};
-ghost use Rattle.gh_sat.specs.Whole.{GivesLast, Adds};
-ghost use Rattle.gh_sat.specs.Theory.{lits_of, IsTold, IsConsistentWith, WereConsistent, PropagatesBeside, AddsValid};
+ghost use Rattle.gh_sat.specs.Learn.{IsConflictAt, IsLearnt, AreReasons, add_clause};
+ghost use Rattle.gh_sat.specs.Whole.{GivesLast, AddsClause};
+ghost use Rattle.gh_sat.specs.Theory.{lits_of, IsAsserted, IsConsistentWith, WereConsistent, PropagatesBeside, AddsValid};
 
 use crate::learner::{Learner, Learnt};
 use crate::theory::Theory;
@@ -40,7 +40,7 @@ impl<T: Theory> Model for Search<T> {
 
 // Asserts what the theory doesn't know yet of the trail.
 fn tell<T: Theory>(learner: &Learner, theory: &mut T)
-    requires told { IsTold (T.asserted theory.old) learner.now.trail }
+    requires told { IsAsserted (T.asserted theory.old) learner.now.trail }
     requires sizes { T.sizes theory.old ≡ learner.now.sizes }
     ensures told { T.asserted theory.new ≡ lits_of learner.now.trail }
     ensures sizes { T.sizes theory.new ≡ learner.now.sizes }
@@ -66,7 +66,7 @@ fn refute<T: Theory>(
     requires consistent { WereConsistent (T.valid learner.old.sizes) learner.old.trail learner.old.starts }
     ensures number { IfOk result (λ o. IfSome o (λ k. k ≡ length learner.old.clauses)) }
     ensures added { IfOk result (λ o. IfSome o (λ _. AddsValid (T.valid learner.old.sizes) learner.old learner.new)) }
-    ensures conflict { IfOk result (λ o. IfSome o (λ k. IsConflict learner.new k)) }
+    ensures conflict { IfOk result (λ o. IfSome o (λ k. IsConflictAt learner.new k)) }
     ensures none { IfOk result (λ o. IfNone o (IsConsistentWith T.valid learner.old)) }
     ensures known { IfOk result (λ o. IfNone o (T.known learner.old.sizes (lits_of learner.old.trail))) }
     ensures same { IfOk result (λ o. IfNone o (learner.new ≡ learner.old)) }
@@ -141,7 +141,7 @@ impl<T: Theory> Search<T> {
     pub fn propagate(&mut self, alloc: Global) -> Result<Option<u32>, AllocError>
         ensures moves { IfOk result (λ o. PropagatesBeside (T.valid self.old.sizes) self.old self.new o) }
         ensures last { OnOk result (GivesLast self.old self.new.trail) }
-        ensures conflict { IfOk result (λ o. IfSome o (λ k. IsConflict self.new k)) }
+        ensures conflict { IfOk result (λ o. IfSome o (λ k. IsConflictAt self.new k)) }
         ensures settled { IfOk result (λ o. IfNone o (IsSettled self.new)) }
         ensures consistent { IfOk result (λ o. IfNone o (IsConsistentWith T.valid self.new)) }
         ensures known { IfOk result (λ o. IfNone o (T.known self.new.sizes (lits_of self.new.trail))) }
@@ -209,7 +209,7 @@ impl<T: Theory> Search<T> {
     /// Adds the clause of the first unique implication point of a false clause last, with no cut. There are at
     /// most `MOST_CLAUSES`: where there are as many, none is added, as where memory runs out.
     pub fn learn(&mut self, alloc: Global, k: u32) -> Result<Learnt, AllocError>
-        requires conflict { IsConflict self.old k }
+        requires conflict { IsConflictAt self.old k }
         requires level { 0 < length self.old.starts }
         ensures learnt { IfOk result (λ l. IsLearnt self.old k l.clause l.level l.unit) }
         ensures added { IfOk result (λ l. self.new ≡ add_clause self.old l.clause) }
@@ -223,7 +223,7 @@ impl<T: Theory> Search<T> {
     /// Where a clause is false at level 0, numbers of clauses that, taken as hints in this order, show the empty
     /// clause.
     pub fn refutation(&mut self, alloc: Global, k: u32) -> Result<Vec<u32>, AllocError>
-        requires conflict { IsConflict self.old k }
+        requires conflict { IsConflictAt self.old k }
         requires level { self.old.starts ≡ [] }
         ensures reasons { IfOk result (λ v. AreReasons self.old.clauses v.items []) }
         ensures same { self.new ≡ self.old }
@@ -247,7 +247,7 @@ impl<T: Theory> Search<T> {
     /// are at most `MOST_CLAUSES`: where there are as many, none is added, as where memory runs out.
     pub fn add(&mut self, clause: Clause) -> Result<(), AllocError>
         requires { AreInRange self.old.sizes clause }
-        ensures ok { OnOk result (Adds self.old clause self.new) }
+        ensures ok { OnOk result (AddsClause self.old clause self.new) }
         ensures few { OnOk result (length self.new.clauses ≤ most_clauses) }
         ensures err { OnErr result (self.new ≡ self.old) }
     {

@@ -4,7 +4,7 @@ ghost use Rattle.std.specs.Prelude.{◌≡◌, IsTrue};
 ghost use Rattle.gh_base.specs.declared.atom.Lit.{Lit};
 ghost use Rattle.gh_base.specs.Atoms.{AreInRange, IsInRange};
 ghost use Rattle.gh_sat.specs.Rows.{numbered, row_of, EachNumbered};
-ghost use Rattle.gh_sat.specs.Status.{IsStatus, IsMoved, StaysGuarded};
+ghost use Rattle.gh_sat.specs.Status.{IsStatus, KeepsHint, StaysGuarded};
 ghost use Rattle.gh_sat.specs.Trail.{IsLitFalse};
 
 use crate::rows::Numbered;
@@ -48,7 +48,7 @@ pub fn status_of(trail: &Trail, clause: &[Lit], row: &[Numbered], hint: Hint) ->
     requires range { AreInRange trail.now.sizes clause.now }
     requires row { row.now ≡ row_of trail.now.sizes clause.now }
     ensures status { IsStatus trail.now.steps clause.now result }
-    ensures moved { IsMoved trail.now.sizes trail.now.steps clause.now hint result }
+    ensures moved { KeepsHint trail.now.sizes trail.now.steps clause.now hint result }
 {
     let mut found: Option<usize> = None;
     for place in 0..row.len() {

@@ -4,7 +4,7 @@ ghost use Rattle.std.specs.Prelude.{◌≡◌, ◌≤◌, List, [], ◌∷◌, �
 ghost use Rattle.gh_base.specs.declared.atom.Lit.{Lit};
 ghost use Rattle.gh_base.specs.declared.sizes.Sizes.{Sizes};
 ghost use Rattle.gh_base.specs.Atoms.{IsInRange};
-ghost use Rattle.gh_sat.specs.Theory.{HasNoLit, IsRefuted, HasNoRefuted};
+ghost use Rattle.gh_sat.specs.Theory.{HasNoLit, RefutesOne, HasNoRefuted};
 
 use gh_base::atom::{Atom, Lit};
 use gh_base::clause::Clause;
@@ -51,7 +51,7 @@ pub trait Theory: Drop {
 
     /// A clause of the theory that is false under what is asserted, if there is one.
     fn conflict(&self, alloc: Global) -> Result<Option<Clause>, AllocError>
-        ensures found { IfOk result (λ o. IfSome o (λ c. IsRefuted (valid (sizes self.now)) (asserted self.now) c)) }
+        ensures found { IfOk result (λ o. IfSome o (λ c. RefutesOne (valid (sizes self.now)) (asserted self.now) c)) }
         ensures none { IfOk result (λ o. IfNone o (HasNoRefuted (valid (sizes self.now)) (asserted self.now))) }
         ensures known { IfOk result (λ o. IfNone o (known (sizes self.now) (asserted self.now))) };
 }

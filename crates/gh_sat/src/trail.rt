@@ -122,7 +122,7 @@ impl Trail {
     ghost use Rattle.gh_sat.specs.declared.trail.Step.{Step};
     ghost use Rattle.gh_base.specs.declared.atom.Lit.{Lit};
     ghost use Rattle.gh_sat.specs.Rows.{numbered};
-    ghost use Rattle.gh_sat.specs.Trail.{Line, IsFree, IsTrueIn, IsValue, AreSteps, IsAssignmentOf, push};
+    ghost use Rattle.gh_sat.specs.Trail.{Line, IsFree, IsTrueIn, IsTruth, AreSteps, IsAssignmentOf, push};
 
     /// A trail with no step.
     pub fn new(alloc: Global, sizes: Sizes) -> Result<Trail, AllocError>
@@ -166,7 +166,7 @@ impl Trail {
     /// The truth of a literal.
     pub fn value(&self, lit: Lit) -> Option<bool>
         requires { IsInRange self.now.sizes lit.atom }
-        ensures value { IsValue self.now.steps lit result }
+        ensures value { IsTruth self.now.steps lit result }
         ensures valid { AreSteps self.now }
     {
         self.values.value(lit)
@@ -175,7 +175,7 @@ impl Trail {
     /// The truth of a literal by the number of its atom.
     pub fn truth(&self, lit: Numbered) -> Option<bool>
         requires { (l : Lit) × IsInRange self.now.sizes l.atom × (lit ≡ numbered self.now.sizes l) }
-        ensures value { EachNumbered self.now.sizes lit (λ l. IsValue self.now.steps l result) }
+        ensures value { EachNumbered self.now.sizes lit (λ l. IsTruth self.now.steps l result) }
         ensures valid { AreSteps self.now }
     {
         match self.values.values()[lit.number as usize] {

@@ -10,12 +10,12 @@ use Rattle.gh_small.specs.Smallest.{IsLeast, IsSmallest}
 use Rattle.gh_small.specs.declared.found.Smallest.{Smallest}
 use Rattle.gh_trace.proofs.FirstRefuted.{kept_first}
 use Rattle.gh_trace.specs.Kept.{drawn_of}
-use Rattle.gh_trace.specs.Refuted.{IsFirst}
+use Rattle.gh_trace.specs.Refuted.{ShowsFirst}
 use Rattle.gh_trace.specs.Replay.{Refutes}
 use Rattle.gh_trace.specs.declared.state.Trace.{Trace}
 
 -- the smallest counterexample is one of that condition
-pub least_first : (P : Program) (k : ℕ) (t : Trace) (r : kept.Condition) (s : Smallest) → IsFirst P k t → IsNumbered P k (Some r) → IsSmallest P r s → IsLeastFirst P (record { condition = k; trace = s.trace })
+pub least_first : (P : Program) (k : ℕ) (t : Trace) (r : kept.Condition) (s : Smallest) → ShowsFirst P k t → IsNumbered P k (Some r) → IsSmallest P r s → IsLeastFirst P (record { condition = k; trace = s.trace })
 least_first P k t r s f n is =
     let same : condition_of r ≡ f.condition = kept_first P k t r f n in
     record {

@@ -21,14 +21,14 @@ use Rattle.gh_trace.specs.Replay.{Refutes}
 use Rattle.gh_trace.specs.Traces.{last_state}
 
 -- the rows and the title make up a scene
-pub scene_over : (P : Program) (p : Procedure) (r : kept.Condition) (x : State) (ys xs : List State) (scene : Scene) (spare left : Heap) (title : List ℕ) (start : Row) (none pushed new : List Row)
-    → IsOf P (condition_of r) p → xs ≡ x ∷ ys → Describes P r title → scene.title ≡ title → scene.rows.items ≡ new
-    → IsSpare p (condition_of r).way.check (last_state (state_of x) (map state_of ys)) spare → left ≡ left_at_end ys spare → IsStartRow x left start
-    → none ≡ [] → pushed ≡ none ++ start ∷ [] → AddsRows P p (map step_of r.steps.items) xs spare pushed new → IsSceneFor P r x ys scene
-scene_over P p r x ys xs scene spare left title start none pushed new own states told titled rows spared at_left is_start empty push adds =
+pub scene_over : (P : Program) (proc : Procedure) (r : kept.Condition) (x : State) (ys xs : List State) (scene : Scene) (spare left : Heap) (title : List ℕ) (start : Row) (none pushed new : List Row)
+    → IsOf P (condition_of r) proc → xs ≡ x ∷ ys → Describes P r title → scene.title ≡ title → scene.rows.items ≡ new
+    → IsSpare proc (condition_of r).way.check (last_state (state_of x) (map state_of ys)) spare → left ≡ left_at_end ys spare → IsStartRow x left start
+    → none ≡ [] → pushed ≡ none ++ start ∷ [] → AddsRows P proc (map step_of r.steps.items) xs spare pushed new → IsSceneFor P r x ys scene
+scene_over P proc r x ys xs scene spare left title start none pushed new own states told titled rows spared at_left is_start empty push adds =
     let first : pushed ≡ start ∷ [] = push ∙ ap (λ rs. rs ++ start ∷ []) empty in
     record {
-      procedure = p;
+      procedure = proc;
       of = own;
       title = titled ∙ told;
       spare = spare;
@@ -37,7 +37,7 @@ scene_over P p r x ys xs scene spare left title start none pushed new own states
       rest = adds.rest;
       rows = rows ∙ adds.whole ∙ ap (λ rs. rs ++ adds.rest) first;
       first_is = subst (λ h. IsStartRow x h start) at_left is_start;
-      rest_are = subst (λ zs. AreRows P p (map step_of r.steps.items) zs spare adds.rest) states adds.rows;
+      rest_are = subst (λ zs. AreRows P proc (map step_of r.steps.items) zs spare adds.rest) states adds.rows;
     }
 
 -- a drawing that is a counterexample
@@ -50,5 +50,5 @@ pub sketch_fails : (P : Program) (n k : ℕ) (r : kept.Condition) (xs : List Sta
 sketch_fails P n k r xs found failure = (condition_of r, found, failure)
 
 -- a drawing of no states
-pub no_states : (P : Program) (n : ℕ) (r : kept.Condition) (p : Procedure) (xs : List State) → IsNumbered P n (Some r) → IsOf P (condition_of r) p → xs ≡ [] → IsSketch P n xs (Fails 0)
-no_states P n r p xs found own e = subst (λ ys. IsSketch P n ys (Fails 0)) (sym e) (condition_of r, found, (p, own, refl))
+pub no_states : (P : Program) (n : ℕ) (r : kept.Condition) (proc : Procedure) (xs : List State) → IsNumbered P n (Some r) → IsOf P (condition_of r) proc → xs ≡ [] → IsSketch P n xs (Fails 0)
+no_states P n r proc xs found own e = subst (λ ys. IsSketch P n ys (Fails 0)) (sym e) (condition_of r, found, (proc, own, refl))

@@ -42,11 +42,11 @@ pub record IsRowUnder (statement note : List ℕ) (old : State) (apart spare : H
   pub roles_are : row.roles.items ≡ roles_of old.heap apart spare new.heap
   pub changes_are : row.changes.items ≡ changes_of (store_of old.store) new.store
 
--- the row of the state y, to which a step of the procedure p leads from x
-pub record IsRowOf (P : Program) (p : Procedure) (s : PathStep) (x y : State) (spare : Heap) (row : Row) : Type 0 where
+-- the row of the state y, to which a step of the procedure proc leads from x
+pub record IsRowOf (P : Program) (proc : Procedure) (s : PathStep) (x y : State) (spare : Heap) (row : Row) : Type 0 where
   pub exchange : Option Exchange
-  pub handed : IsHandedOr P p s (state_of x) (state_of y) exchange
-  pub is : IsRowUnder (statement_text P p s) (note_text exchange) x (aside exchange) spare y row
+  pub handed : IsHandedOr P proc s (state_of x) (state_of y) exchange
+  pub is : IsRowUnder (statement_text P proc s) (note_text exchange) x (aside exchange) spare y row
 
 -- the row of the first state, which is compared with itself
 abbrev pub IsStartRow : State → Heap → Row → Type 0
@@ -59,17 +59,17 @@ left_at_end (y ∷ ys) spare = finite.empty
 
 -- a row for each state after the first, in turn
 abbrev pub AreRows : Program → Procedure → List PathStep → List State → Heap → List Row → Type 0
-AreRows P p [] xs spare rows = rows ≡ []
-AreRows P p (s ∷ ss) [] spare rows = rows ≡ []
-AreRows P p (s ∷ ss) (x ∷ []) spare rows = rows ≡ []
-AreRows P p (s ∷ ss) (x ∷ y ∷ ys) spare rows =
-    (r : Row) × (rs : List Row) × (rows ≡ r ∷ rs) × IsRowOf P p s x y (left_at_end ys spare) r × AreRows P p ss (y ∷ ys) spare rs
+AreRows P proc [] xs spare rows = rows ≡ []
+AreRows P proc (s ∷ ss) [] spare rows = rows ≡ []
+AreRows P proc (s ∷ ss) (x ∷ []) spare rows = rows ≡ []
+AreRows P proc (s ∷ ss) (x ∷ y ∷ ys) spare rows =
+    (r : Row) × (rs : List Row) × (rows ≡ r ∷ rs) × IsRowOf P proc s x y (left_at_end ys spare) r × AreRows P proc ss (y ∷ ys) spare rs
 
 -- a row for each state after the first is added
-pub record AddsRows (P : Program) (p : Procedure) (ss : List PathStep) (xs : List State) (spare : Heap) (old new : List Row) : Type 0 where
+pub record AddsRows (P : Program) (proc : Procedure) (ss : List PathStep) (xs : List State) (spare : Heap) (old new : List Row) : Type 0 where
   pub rest : List Row
   pub whole : new ≡ old ++ rest
-  pub rows : AreRows P p ss xs spare rest
+  pub rows : AreRows P proc ss xs spare rest
 
 -- the row of a state that a kept step leads to
 abbrev pub IsRowFor : Setting → kept.PathStep → State → State → Heap → Row → Type 0

@@ -5,7 +5,7 @@ use Rattle.gh_ast.specs.Plain.{Formula, Procedure}
 use Rattle.gh_assert.specs.Heaps.{Heap}
 use Rattle.gh_assert.specs.Meaning.{Store}
 use Rattle.gh_base.specs.declared.place.Span.{Span}
-use Rattle.gh_lens.specs.Takings.{conjuncts, Leaves}
+use Rattle.gh_lens.specs.Takings.{conjuncts, LeavesOver}
 use Rattle.gh_path.specs.Graphs.{Check, Loop, access, entry, loop_entry, returned, loop_end, loops_of}
 use Rattle.gh_path.specs.Kept.{asked_at}
 use Rattle.gh_path.specs.declared.condition.CheckKind as kept_kind
@@ -31,11 +31,11 @@ asked_whole p (loop_end at n) = asked_round (slice_get (loops_of p) n)
 
 -- a conjunct of the assertion finds no part
 abbrev pub LeavesNothing : Formula → Store → Heap → Type 0
-LeavesNothing f s h = (r : Heap) → Leaves (conjuncts f) s h r → ⊥
+LeavesNothing f s h = (r : Heap) → LeavesOver (conjuncts f) s h r → ⊥
 
 -- what is found to be left: a heap that the conjuncts leave, or none where one of them finds no part
 abbrev pub IsLeft : Formula → Store → Heap → Option Heap → Type 0
-IsLeft f s h o = IfSome o (Leaves (conjuncts f) s h)
+IsLeft f s h o = IfSome o (LeavesOver (conjuncts f) s h)
 
 abbrev pub IsNoneLeft : Formula → Store → Heap → Option Heap → Type 0
 IsNoneLeft f s h o = IfNone o (LeavesNothing f s h)
@@ -43,7 +43,7 @@ IsNoneLeft f s h o = IfNone o (LeavesNothing f s h)
 -- what the first alternative leaves whose conjuncts all take their parts; nothing, where there is none
 abbrev pub IsLeftOver : List Formula → Store → Heap → Heap → Type 0
 IsLeftOver [] s h rest = rest ≡ map.empty
-IsLeftOver (f ∷ fs) s h rest = Leaves (conjuncts f) s h rest ⊎ (LeavesNothing f s h × IsLeftOver fs s h rest)
+IsLeftOver (f ∷ fs) s h rest = LeavesOver (conjuncts f) s h rest ⊎ (LeavesNothing f s h × IsLeftOver fs s h rest)
 
 -- the cells of a state that are left over at a check
 abbrev pub IsSpare : Procedure → Check → State → Heap → Type 0

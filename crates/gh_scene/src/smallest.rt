@@ -2,7 +2,7 @@
 
 ghost use Rattle.std.specs.Prelude.{◌≡◌, IfOk, Some};
 ghost use Rattle.gh_ast.specs.Plain.{program_of};
-ghost use Rattle.gh_trace.specs.Refuted.{IsFirst};
+ghost use Rattle.gh_trace.specs.Refuted.{ShowsFirst};
 ghost use Rattle.gh_path.specs.Admitted.{IsAdmitted};
 ghost use Rattle.gh_scene.specs.Smallests.{IsLeastFirst, IsSmallestDrawing};
 ghost use Rattle.gh_trace.specs.declared.state.Trace as drawn;
@@ -23,7 +23,7 @@ fn refuted(
 ) -> Result<Drawing, AllocError>
     requires same { program_of conditions.now ≡ program_of typed.now }
     requires admitted { IsAdmitted (program_of typed.now) }
-    requires first { (t : drawn.Trace) × IsFirst (program_of typed.now) number t }
+    requires first { (t : drawn.Trace) × ShowsFirst (program_of typed.now) number t }
     ensures { IfOk result (IsLeastFirst (program_of typed.now)) }
 {
     let Some(condition) = conditions.condition(alloc, number)? else {

@@ -2,7 +2,7 @@
 
 ghost use Rattle.std.specs.Prelude.{◌≡◌, ◌≤◌, ◌↔◌, [], false, Contains, IfOk, IfSome, IfNone, IsTrue, ⊤};
 ghost use Rattle.gh_base.specs.declared.atom.Atom.TheVariants.{Def};
-ghost use Rattle.gh_sat.specs.Learn.{IsConflict};
+ghost use Rattle.gh_sat.specs.Learn.{IsConflictAt};
 ghost use Rattle.gh_sat.specs.Measure.{LeavesLess};
 ghost use Rattle.gh_sat.specs.Status.{IsSettled};
 ghost use Rattle.gh_sat.specs.Theory.{IsConsistentWith};
@@ -143,7 +143,7 @@ fn problem(alloc: Global, defs: u32, rows: &[&[i32]]) -> Result<Ground, AllocErr
 
 // Decides until a clause is false, if one comes to be.
 fn next_conflict(alloc: Global, search: &mut Search<Apart>) -> Result<Option<u32>, AllocError>
-    ensures { IfOk result (λ o. IfSome o (λ k. IsConflict search.new k)) }
+    ensures { IfOk result (λ o. IfSome o (λ k. IsConflictAt search.new k)) }
 {
     for _round in 0..100000 {
         let conflict = search.propagate(alloc)?;
@@ -179,12 +179,12 @@ fn turn<T: Theory>(
     answer: Option<u32>,
 ) -> Result<Option<Option<u32>>, AllocError>
     requires sound { IsSound search.old }
-    requires conflict { IfSome answer (λ k. IsConflict search.old k) }
+    requires conflict { IfSome answer (λ k. IsConflictAt search.old k) }
     requires settled { IfNone answer (IsSettled search.old) }
     requires consistent { IfNone answer (IsConsistentWith T.valid search.old) }
     ensures less { IfOk result (λ o. IfSome o (λ _. LeavesLess search.old search.new)) }
     ensures sound { IfOk result (λ o. IfSome o (λ _. IsSound search.new)) }
-    ensures conflict { IfOk result (λ o. IfSome o (λ next. IfSome next (λ k. IsConflict search.new k))) }
+    ensures conflict { IfOk result (λ o. IfSome o (λ next. IfSome next (λ k. IsConflictAt search.new k))) }
     ensures settled { IfOk result (λ o. IfSome o (λ next. IfNone next (IsSettled search.new))) }
     ensures consistent { IfOk result (λ o. IfSome o (λ next. IfNone next (IsConsistentWith T.valid search.new))) }
 {

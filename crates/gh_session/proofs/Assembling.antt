@@ -23,10 +23,10 @@ use Rattle.gh_session.specs.Essences.{Essence, contract_of, round_of, no_contrac
 use Rattle.gh_session.specs.Views.{contract_view, round_view, start_view, step_view, check_view, essence_view}
 use Rattle.gh_session.specs.declared.essence.Essence as kept_essence
 
-pub assembled : (P : Program) (p : Procedure) (c : Condition) (e : kept_essence.Essence) (ps ls : List ℕ) (table : List Procedure) (vars : List plain_name.Name) (loops : List Loop) → ps ≡ procedures_of c → ls ≡ rounds_of c → table ≡ P.procedures → vars ≡ variable_names p → loops ≡ loops_of p →
-    e.variables.items ≡ variable_names p → map contract_view e.contracts.items ≡ map (λ n. get_or (map contract_of table) n no_contract) ps → map round_view e.loops.items ≡ map (λ n. get_or (map (round_of vars) loops) n no_round) ls →
-    start_view e.start ≡ start_in ls c.start → map step_view e.steps.items ≡ map (step_in ps ls) c.way.steps → check_view e.check ≡ check_in ps ls c.way.check → essence_view e ≡ essence P p c
-assembled P p c e ps ls table vars loops is_ps is_ls is_table is_vars is_loops variables contracts rounds start steps check = λ i. record {
+pub assembled : (P : Program) (proc : Procedure) (c : Condition) (e : kept_essence.Essence) (ps ls : List ℕ) (table : List Procedure) (vars : List plain_name.Name) (loops : List Loop) → ps ≡ procedures_of c → ls ≡ rounds_of c → table ≡ P.procedures → vars ≡ variable_names proc → loops ≡ loops_of proc →
+    e.variables.items ≡ variable_names proc → map contract_view e.contracts.items ≡ map (λ n. get_or (map contract_of table) n no_contract) ps → map round_view e.loops.items ≡ map (λ n. get_or (map (round_of vars) loops) n no_round) ls →
+    start_view e.start ≡ start_in ls c.start → map step_view e.steps.items ≡ map (step_in ps ls) c.way.steps → check_view e.check ≡ check_in ps ls c.way.check → essence_view e ≡ essence P proc c
+assembled P proc c e ps ls table vars loops is_ps is_ls is_table is_vars is_loops variables contracts rounds start steps check = λ i. record {
   variables = variables i;
   contracts = (contracts ∙ (λ j. map (λ n. get_or (map contract_of (is_table j)) n no_contract) (is_ps j))) i;
   loops = (rounds ∙ (λ j. map (λ n. get_or (map (round_of (is_vars j)) (is_loops j)) n no_round) (is_ls j))) i;
@@ -44,6 +44,6 @@ pub made_round : (f : Assertion) (ns : Vec Name Global) (xs : List plain_name.Na
     (let r : kept_round.Round = record { invariant = f; assigned = ns } in round_view r) ≡ round_of xs (loop_of w)
 made_round f ns xs w is named = λ i. record { invariant = is i; assigned = (named ∙ ap (λ ss. filter (some_assigns ss) xs) (sym (part_of-statements w.body.now))) i }
 
-pub gives_essence : (P Q : whole.Program) (r : kept_condition.Condition) (p : Procedure) (E : Essence) → P ≡ Q → IsTyped (program_of P) → IsOne (program_of Q) r → slice_get (program_of P).procedures r.procedure ≡ Some p → E ≡ essence (program_of P) p (condition_of r) →
+pub gives_essence : (P Q : whole.Program) (r : kept_condition.Condition) (proc : Procedure) (E : Essence) → P ≡ Q → IsTyped (program_of P) → IsOne (program_of Q) r → slice_get (program_of P).procedures r.procedure ≡ Some proc → E ≡ essence (program_of P) proc (condition_of r) →
     HasEssence (program_of Q) (condition_of r) E
-gives_essence P Q r p E same typed one at is = subst (λ R. IsOne (program_of R) r → HasEssence (program_of R) (condition_of r) E) same (λ o. record { typed = typed; one = o; procedure = p; of = at; is = sym is }) one
+gives_essence P Q r proc E same typed one at is = subst (λ R. IsOne (program_of R) r → HasEssence (program_of R) (condition_of r) E) same (λ o. record { typed = typed; one = o; procedure = proc; of = at; is = sym is }) one

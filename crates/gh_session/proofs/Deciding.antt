@@ -27,11 +27,11 @@ use Rattle.gh_session.specs.Meaning as of
 use Rattle.gh_session.proofs.Placing.{front, at_place}
 use Rattle.gh_session.proofs.Places.{result_stays, results_stay, meaning_stays}
 
--- E has the procedures ps of P and the loops ls of p at their places
-pub record Knows (P : Program) (p : Procedure) (ps ls : List ℕ) (E : Essence) : Type 0 where
-  pub own_is : own E ≡ contract_of p
+-- E has the procedures ps of P and the loops ls of proc at their places
+pub record Knows (P : Program) (proc : Procedure) (ps ls : List ℕ) (E : Essence) : Type 0 where
+  pub own_is : own E ≡ contract_of proc
   pub callees : (n : ℕ) (q : Procedure) → Contains ps n → slice_get P.procedures n ≡ Some q → contract_at E (place n ps) ≡ contract_of q
-  pub loops : (n : ℕ) (l : Loop) → Contains ls n → IsLoopAt p n l → round_at E (place n ls) ≡ round_of (variable_names p) l
+  pub loops : (n : ℕ) (l : Loop) → Contains ls n → IsLoopAt proc n l → round_at E (place n ls) ≡ round_of (variable_names proc) l
 
 looked : {A B : Type 0} (f : A → B) (d : B) (table : List A) (ns : List ℕ) (k n : ℕ) (a : A) → slice_get ns k ≡ Some n → slice_get table n ≡ Some a →
     get_or (map (λ m. get_or (map f table) m d) ns) k d ≡ f a
@@ -41,11 +41,11 @@ looked f d table ns k n a at is =
     ∙ ap (option_map (λ m. get_or (map f table) m d)) at
     ∙ ap Some (get_or_from_slice_get (map f table) n (f a) d (slice_get-map f table n ∙ ap (option_map f) is)))
 
-pub knows : (P : Program) (p : Procedure) (c : Condition) → IsOf P c p → Knows P p (procedures_of c) (rounds_of c) (essence P p c)
-knows P p c is = record {
-  own_is = looked contract_of no_contract P.procedures (procedures_of c) 0 c.procedure p (front c.procedure (c.procedure ∷ []) (flat_map callees_in c.way.steps ++ callees_at c.way.check) refl) is;
+pub knows : (P : Program) (proc : Procedure) (c : Condition) → IsOf P c proc → Knows P proc (procedures_of c) (rounds_of c) (essence P proc c)
+knows P proc c is = record {
+  own_is = looked contract_of no_contract P.procedures (procedures_of c) 0 c.procedure proc (front c.procedure (c.procedure ∷ []) (flat_map callees_in c.way.steps ++ callees_at c.way.check) refl) is;
   callees = λ n q there at. looked contract_of no_contract P.procedures (procedures_of c) (place n (procedures_of c)) n q (at_place n (procedures_of c) there) at;
-  loops = λ n l there at. looked (round_of (variable_names p)) no_round (loops_of p) (rounds_of c) (place n (rounds_of c)) n l (at_place n (rounds_of c) there) at;
+  loops = λ n l there at. looked (round_of (variable_names proc)) no_round (loops_of proc) (rounds_of c) (place n (rounds_of c)) n l (at_place n (rounds_of c) there) at;
 }
 
 -- two ways of one path
@@ -99,10 +99,10 @@ at_below (x ∷ xs) zero low = (x, refl)
 at_below (x ∷ xs) (suc n) low = at_below xs n (omega (arith, low))
 
 abbrev pub SameTakes : Program → Procedure → Essence → List ℕ → List ℕ → State → State → path.PathStep → Type 0
-SameTakes P p E ps ls x y s = trace.Takes P p s x y ↔ of.Takes E (step_in ps ls s) x y
+SameTakes P proc E ps ls x y s = trace.Takes P proc s x y ↔ of.Takes E (step_in ps ls s) x y
 
-call_takes : (P : Program) (p : Procedure) (ps ls : List ℕ) (E : Essence) → Knows P p ps ls E → (x y : State) (xs : List Occ) (n : ℕ) (es : List Expr) → HasProcedure P n → Contains ps n → SameTakes P p E ps ls x y (path.called xs n es)
-call_takes P p ps ls E K x y xs n es low there = (
+call_takes : (P : Program) (proc : Procedure) (ps ls : List ℕ) (E : Essence) → Knows P proc ps ls E → (x y : State) (xs : List Occ) (n : ℕ) (es : List Expr) → HasProcedure P n → Contains ps n → SameTakes P proc E ps ls x y (path.called xs n es)
+call_takes P proc ps ls E K x y xs n es low there = (
   λ (r, vs, at, gives, c). (vs, (give x.store x.heap es vs).0 gives, subst (λ k. of.Called k vs (names xs) x y) (sym (K.callees n r there at)) ((called r vs (names xs) x y).0 c)),
   λ (vs, gives, c). (q.0, vs, q.1, (give x.store x.heap es vs).1 gives, (called q.0 vs (names xs) x y).1 (subst (λ k. of.Called k vs (names xs) x y) (K.callees n q.0 there q.1) c)),
 )
@@ -126,44 +126,44 @@ around p l x y over = (
     both : Replaced l.invariant x.store x.heap (Meaning l.invariant y.store) y.heap ↔ Replaced (bare_formula l.invariant) x.store x.heap (Meaning (bare_formula l.invariant) y.store) y.heap
     both = replaced l.invariant x.store x.heap (Meaning l.invariant y.store) (Meaning (bare_formula l.invariant) y.store) y.heap (meaning l.invariant y.store)
 
-loop_takes : (P : Program) (p : Procedure) (ps ls : List ℕ) (E : Essence) → Knows P p ps ls E → LoopsAreOver p → (x y : State) (n : ℕ) → HasLoop p n → Contains ls n → SameTakes P p E ps ls x y (path.looped n)
-loop_takes P p ps ls E K over x y n low there = (
-  λ (k, at, r). subst (λ m. RoundAround m x y) (sym (K.loops n k there at)) ((around p k x y (over n k at)).0 r),
-  λ t. (l.0, l.1, (around p l.0 x y (over n l.0 l.1)).1 (subst (λ m. RoundAround m x y) (K.loops n l.0 there l.1) t)),
+loop_takes : (P : Program) (proc : Procedure) (ps ls : List ℕ) (E : Essence) → Knows P proc ps ls E → LoopsAreOver proc → (x y : State) (n : ℕ) → HasLoop proc n → Contains ls n → SameTakes P proc E ps ls x y (path.looped n)
+loop_takes P proc ps ls E K over x y n low there = (
+  λ (k, at, r). subst (λ m. RoundAround m x y) (sym (K.loops n k there at)) ((around proc k x y (over n k at)).0 r),
+  λ t. (l.0, l.1, (around proc l.0 x y (over n l.0 l.1)).1 (subst (λ m. RoundAround m x y) (K.loops n l.0 there l.1) t)),
 )
   where
-    l : (k : Loop) × IsLoopAt p n k
-    l = at_below (loops_of p) n low
+    l : (k : Loop) × IsLoopAt proc n k
+    l = at_below (loops_of proc) n low
 
-pub takes : (P : Program) (p : Procedure) (ps ls : List ℕ) (E : Essence) → Knows P p ps ls E → LoopsAreOver p → (x y : State) (s : path.PathStep) → StepIsThere P p s → Within ps (callees_in s) → Within ls (loops_in s) → SameTakes P p E ps ls x y s
-takes P p ps ls E K over x y (path.accessed a) there wp wl = (λ t. t, λ t. t)
-takes P p ps ls E K over x y (path.assume l e r) there wp wl =
+pub takes : (P : Program) (proc : Procedure) (ps ls : List ℕ) (E : Essence) → Knows P proc ps ls E → LoopsAreOver proc → (x y : State) (s : path.PathStep) → StepIsThere P proc s → Within ps (callees_in s) → Within ls (loops_in s) → SameTakes P proc E ps ls x y s
+takes P proc ps ls E K over x y (path.accessed a) there wp wl = (λ t. t, λ t. t)
+takes P proc ps ls E K over x y (path.assume l e r) there wp wl =
     along (sym (λ i. (compared e (result_stays x.store x.heap l i) (result_stays x.store x.heap r i) ≡ Some true) × (y ≡ x)))
-takes P p ps ls E K over x y (path.assigned a e) there wp wl = (
+takes P proc ps ls E K over x y (path.assigned a e) there wp wl = (
   λ (v, gives, gets, stays). (v, result_stays x.store x.heap e ∙ gives, gets, stays),
   λ (v, gives, gets, stays). (v, sym (result_stays x.store x.heap e) ∙ gives, gets, stays),
 )
-takes P p ps ls E K over x y (path.written a e) there wp wl = (
+takes P proc ps ls E K over x y (path.written a e) there wp wl = (
   λ (v, gives, here, to). (v, result_stays x.store x.heap e ∙ gives, here, to),
   λ (v, gives, here, to). (v, sym (result_stays x.store x.heap e) ∙ gives, here, to),
 )
-takes P p ps ls E K over x y (path.made a) there wp wl = (λ t. t, λ t. t)
-takes P p ps ls E K over x y (path.freed a) there wp wl = (λ t. t, λ t. t)
-takes P p ps ls E K over x y (path.called xs n es) there wp wl = call_takes P p ps ls E K x y xs n es there (wp n (member_first n []))
-takes P p ps ls E K over x y (path.looped n) there wp wl = loop_takes P p ps ls E K over x y n there (wl n (member_first n []))
-takes P p ps ls E K over x y (path.answered es) there wp wl = (
+takes P proc ps ls E K over x y (path.made a) there wp wl = (λ t. t, λ t. t)
+takes P proc ps ls E K over x y (path.freed a) there wp wl = (λ t. t, λ t. t)
+takes P proc ps ls E K over x y (path.called xs n es) there wp wl = call_takes P proc ps ls E K x y xs n es there (wp n (member_first n []))
+takes P proc ps ls E K over x y (path.looped n) there wp wl = loop_takes P proc ps ls E K over x y n there (wl n (member_first n []))
+takes P proc ps ls E K over x y (path.answered es) there wp wl = (
   λ (vs, gives, gets, stays). (vs, (give x.store x.heap es vs).0 gives, subst (λ (k : Contract). Gets x.store k.results vs y.store) (sym K.own_is) gets, stays),
   λ (vs, gives, gets, stays). (vs, (give x.store x.heap es vs).1 gives, subst (λ (k : Contract). Gets x.store k.results vs y.store) K.own_is gets, stays),
 )
 
 abbrev pub SamePasses : Program → Procedure → Essence → List ℕ → List ℕ → State → path.Check → Type 0
-SamePasses P p E ps ls x c = trace.Passes P p c x ↔ of.Passes E (check_in ps ls c) x
+SamePasses P proc E ps ls x c = trace.Passes P proc c x ↔ of.Passes E (check_in ps ls c) x
 
 abbrev Enters : Contract → List Expr → State → Type 0
 Enters k es x = (vs : List ℕ) (inside : Store) → Give x.store x.heap es vs → map inside k.parameters ≡ vs → HasPart k.needs inside x.heap
 
-entry_passes : (P : Program) (p : Procedure) (ps ls : List ℕ) (E : Essence) → Knows P p ps ls E → (x : State) (at : Span) (n : ℕ) (es : List Expr) → HasProcedure P n → Contains ps n → SamePasses P p E ps ls x (path.entry at n es)
-entry_passes P p ps ls E K x at n es low there = (
+entry_passes : (P : Program) (proc : Procedure) (ps ls : List ℕ) (E : Essence) → Knows P proc ps ls E → (x : State) (at : Span) (n : ℕ) (es : List Expr) → HasProcedure P n → Contains ps n → SamePasses P proc E ps ls x (path.entry at n es)
+entry_passes P proc ps ls E K x at n es low there = (
   λ passed. subst (λ k. Enters k (map bare_expr es) x) (sym (K.callees n q.0 there q.1))
       (λ vs inside gives arguments. (part q.0.needs inside x.heap).0 (passed q.0 vs inside q.1 ((give x.store x.heap es vs).1 gives) arguments)),
   λ passed r vs inside is gives arguments.
@@ -174,41 +174,41 @@ entry_passes P p ps ls E K x at n es low there = (
     q = at_below P.procedures n low
 
 -- what is said of the loop of a number is said of it at its place in the essence
-round_passes : (P : Program) (p : Procedure) (ps ls : List ℕ) (E : Essence) → Knows P p ps ls E → (Q : Formula → Type 0) → ((f : Formula) → Q f ↔ Q (bare_formula f)) → (n : ℕ) → HasLoop p n → Contains ls n →
-    ((l : Loop) → IsLoopAt p n l → Q l.invariant) ↔ Q (round_at E (place n ls)).invariant
-round_passes P p ps ls E K Q bare n low there = (
+round_passes : (P : Program) (proc : Procedure) (ps ls : List ℕ) (E : Essence) → Knows P proc ps ls E → (Q : Formula → Type 0) → ((f : Formula) → Q f ↔ Q (bare_formula f)) → (n : ℕ) → HasLoop proc n → Contains ls n →
+    ((l : Loop) → IsLoopAt proc n l → Q l.invariant) ↔ Q (round_at E (place n ls)).invariant
+round_passes P proc ps ls E K Q bare n low there = (
   λ all. subst (λ (k : Round). Q k.invariant) (sym (K.loops n l.0 there l.1)) ((bare l.0.invariant).0 (all l.0 l.1)),
   λ one k at. (bare k.invariant).1 (subst (λ (m : Round). Q m.invariant) (K.loops n k there at) one),
 )
   where
-    l : (k : Loop) × IsLoopAt p n k
-    l = at_below (loops_of p) n low
+    l : (k : Loop) × IsLoopAt proc n k
+    l = at_below (loops_of proc) n low
 
-pub passes : (P : Program) (p : Procedure) (ps ls : List ℕ) (E : Essence) → Knows P p ps ls E → (x : State) (c : path.Check) → CheckIsThere P p c → Within ps (callees_at c) → Within ls (loops_at c) → SamePasses P p E ps ls x c
-passes P p ps ls E K x (path.access a) there wp wl = (λ t. t, λ t. t)
-passes P p ps ls E K x (path.entry at n es) there wp wl = entry_passes P p ps ls E K x at n es there (wp n (member_first n []))
-passes P p ps ls E K x (path.loop_entry at n) there wp wl = round_passes P p ps ls E K (λ f. HasPart f x.store x.heap) (λ f. part f x.store x.heap) n there (wl n (member_first n []))
-passes P p ps ls E K x (path.returned at) there wp wl =
-    subst (λ (k : Contract). MeetsOneOf p.gives x.store x.heap ↔ MeetsOneOf k.gives x.store x.heap) (sym K.own_is) (one_of p.gives x.store x.heap)
-passes P p ps ls E K x (path.loop_end at n) there wp wl = round_passes P p ps ls E K (λ f. Meaning f x.store x.heap) (λ f. meaning f x.store x.heap) n there (wl n (member_first n []))
+pub passes : (P : Program) (proc : Procedure) (ps ls : List ℕ) (E : Essence) → Knows P proc ps ls E → (x : State) (c : path.Check) → CheckIsThere P proc c → Within ps (callees_at c) → Within ls (loops_at c) → SamePasses P proc E ps ls x c
+passes P proc ps ls E K x (path.access a) there wp wl = (λ t. t, λ t. t)
+passes P proc ps ls E K x (path.entry at n es) there wp wl = entry_passes P proc ps ls E K x at n es there (wp n (member_first n []))
+passes P proc ps ls E K x (path.loop_entry at n) there wp wl = round_passes P proc ps ls E K (λ f. HasPart f x.store x.heap) (λ f. part f x.store x.heap) n there (wl n (member_first n []))
+passes P proc ps ls E K x (path.returned at) there wp wl =
+    subst (λ (k : Contract). MeetsOneOf proc.gives x.store x.heap ↔ MeetsOneOf k.gives x.store x.heap) (sym K.own_is) (one_of proc.gives x.store x.heap)
+passes P proc ps ls E K x (path.loop_end at n) there wp wl = round_passes P proc ps ls E K (λ f. Meaning f x.store x.heap) (λ f. meaning f x.store x.heap) n there (wl n (member_first n []))
 
 abbrev pub SameStarts : Procedure → Essence → List ℕ → State → path.Start → Type 0
 SameStarts p E ls x a = Meaning (path.meets_at p a) x.store x.heap ↔ StartsIn E (start_in ls a) x
 
-pub starts : (P : Program) (p : Procedure) (ps ls : List ℕ) (E : Essence) → Knows P p ps ls E → (x : State) (a : path.Start) → StartIsThere p a → Within ls (loops_from a) → SameStarts p E ls x a
-starts P p ps ls E K x path.whole_body there wl = subst (λ (k : Contract). Meaning p.needs x.store x.heap ↔ Meaning k.needs x.store x.heap) (sym K.own_is) (meaning p.needs x.store x.heap)
-starts P p ps ls E K x (path.round n) there wl =
-    let l = at_below (loops_of p) n there in
-    let is : path.meets_at p (path.round n) ≡ l.0.invariant = ap path.invariant_of l.1 in
+pub starts : (P : Program) (proc : Procedure) (ps ls : List ℕ) (E : Essence) → Knows P proc ps ls E → (x : State) (a : path.Start) → StartIsThere proc a → Within ls (loops_from a) → SameStarts proc E ls x a
+starts P proc ps ls E K x path.whole_body there wl = subst (λ (k : Contract). Meaning proc.needs x.store x.heap ↔ Meaning k.needs x.store x.heap) (sym K.own_is) (meaning proc.needs x.store x.heap)
+starts P proc ps ls E K x (path.round n) there wl =
+    let l = at_below (loops_of proc) n there in
+    let is : path.meets_at proc (path.round n) ≡ l.0.invariant = ap path.invariant_of l.1 in
     subst (λ f. Meaning f x.store x.heap ↔ Meaning (round_at E (place n ls)).invariant x.store x.heap) (sym is)
     (subst (λ (k : Round). Meaning l.0.invariant x.store x.heap ↔ Meaning k.invariant x.store x.heap) (sym (K.loops n l.0 (wl n (member_first n [])) l.1)) (meaning l.0.invariant x.store x.heap))
 
-pub traces : (P : Program) (p : Procedure) (ps ls : List ℕ) (E : Essence) → Knows P p ps ls E → LoopsAreOver p → (ss : List path.PathStep) (x : State) (ys : List State) → ((s : path.PathStep) → Contains ss s → StepIsThere P p s) →
-    Within ps (flat_map callees_in ss) → Within ls (flat_map loops_in ss) → trace.IsTrace P p x ss ys ↔ of.IsTrace E x (map (step_in ps ls) ss) ys
-traces P p ps ls E K over [] x [] are wp wl = (λ t. t, λ t. t)
-traces P p ps ls E K over [] x (y ∷ ys) are wp wl = (λ t. t, λ t. t)
-traces P p ps ls E K over (s ∷ ss) x [] are wp wl = (λ t. t, λ t. t)
-traces P p ps ls E K over (s ∷ ss) x (y ∷ ys) are wp wl =
-    let first = takes P p ps ls E K over x y s (are s (member_first s ss)) (λ n there. wp n (Contains-append_left (callees_in s) (flat_map callees_in ss) n there)) (λ n there. wl n (Contains-append_left (loops_in s) (flat_map loops_in ss) n there)) in
-    let more = traces P p ps ls E K over ss y ys (λ t there. are t (member_later s t ss there)) (λ n there. wp n (Contains-append_right (callees_in s) (flat_map callees_in ss) n there)) (λ n there. wl n (Contains-append_right (loops_in s) (flat_map loops_in ss) n there)) in
+pub traces : (P : Program) (proc : Procedure) (ps ls : List ℕ) (E : Essence) → Knows P proc ps ls E → LoopsAreOver proc → (ss : List path.PathStep) (x : State) (ys : List State) → ((s : path.PathStep) → Contains ss s → StepIsThere P proc s) →
+    Within ps (flat_map callees_in ss) → Within ls (flat_map loops_in ss) → trace.IsTrace P proc x ss ys ↔ of.IsTrace E x (map (step_in ps ls) ss) ys
+traces P proc ps ls E K over [] x [] are wp wl = (λ t. t, λ t. t)
+traces P proc ps ls E K over [] x (y ∷ ys) are wp wl = (λ t. t, λ t. t)
+traces P proc ps ls E K over (s ∷ ss) x [] are wp wl = (λ t. t, λ t. t)
+traces P proc ps ls E K over (s ∷ ss) x (y ∷ ys) are wp wl =
+    let first = takes P proc ps ls E K over x y s (are s (member_first s ss)) (λ n there. wp n (Contains-append_left (callees_in s) (flat_map callees_in ss) n there)) (λ n there. wl n (Contains-append_left (loops_in s) (flat_map loops_in ss) n there)) in
+    let more = traces P proc ps ls E K over ss y ys (λ t there. are t (member_later s t ss there)) (λ n there. wp n (Contains-append_right (callees_in s) (flat_map callees_in ss) n there)) (λ n there. wl n (Contains-append_right (loops_in s) (flat_map loops_in ss) n there)) in
     (λ t. (first.0 t.0, more.0 t.1), λ t. (first.1 t.0, more.1 t.1))

@@ -15,7 +15,7 @@ use Rattle.gh_trace.specs.declared.state.Trace.{Trace}
 use Rattle.gh_trace.proofs.FirstRefuted.{taken_more}
 use Rattle.gh_session.specs.Essences.{Essence}
 use Rattle.gh_session.specs.Laws.{HasEssence}
-use Rattle.gh_session.specs.Known.{Known, known, essences, Adds, Learns}
+use Rattle.gh_session.specs.Known.{Known, known, essences, AddsKnown, LearnsEssence}
 use Rattle.gh_session.specs.Decided.{AreEssences, AreNew, none, is_known, is_new, Grows, AreDecided}
 
 taken : (P : Program) (k : ℕ) (c : Condition) → slice_get (conditions P) k ≡ Some c → take (k + 1) (conditions P) ≡ take k (conditions P) ++ c ∷ []
@@ -59,7 +59,7 @@ none_decided P old = record {
 }
 
 grown : (P : Program) (cs : List Condition) (c : Condition) (answer : Option Trace) (new_one : Bool) (E : Essence) (old mid new : List Known) (n : ℕ) → HasEssence P c E →
-    Adds mid E answer new_one new → Grows P cs old n mid → Grows P (cs ++ c ∷ []) old (n + cond new_one 1 0) new
+    AddsKnown mid E answer new_one new → Grows P cs old n mid → Grows P (cs ++ c ∷ []) old (n + cond new_one 1 0) new
 grown P cs c answer false E old mid new n is adds before = record {
   all = before.all ++ E ∷ [];
   are = essences_more P cs before.all c E before.are is;
@@ -82,14 +82,14 @@ grown P cs c answer true E old mid new n is adds before = record {
       omega (arith, before.count, longer);
 }
 
-pub grown_one : (P : Program) (k : ℕ) (r : kept.Condition) (answer : Option Trace) (new_one : Bool) (old mid new : List Known) (n : ℕ) → IsNumbered P (k + 1) (Some r) → Learns P r mid answer new_one new →
+pub grown_one : (P : Program) (k : ℕ) (r : kept.Condition) (answer : Option Trace) (new_one : Bool) (old mid new : List Known) (n : ℕ) → IsNumbered P (k + 1) (Some r) → LearnsEssence P r mid answer new_one new →
     AreDecided P k old n mid → Grows P (take (k + 1) (conditions P)) old (n + cond new_one 1 0) new
 grown_one P k r answer new_one old mid new n found learns before =
     subst (λ cs. Grows P cs old (n + cond new_one 1 0) new) (sym (taken P k (condition_of r) (at_place P k r found)))
     (grown P (take k (conditions P)) (condition_of r) answer new_one learns.essence old mid new n learns.has learns.adds before.grows)
 
 -- one condition more is valid
-pub decided_more : (P : Program) (k : ℕ) (r : kept.Condition) (answer : Option Trace) (new_one : Bool) (old mid new : List Known) (n : ℕ) → IsNumbered P (k + 1) (Some r) → Learns P r mid answer new_one new →
+pub decided_more : (P : Program) (k : ℕ) (r : kept.Condition) (answer : Option Trace) (new_one : Bool) (old mid new : List Known) (n : ℕ) → IsNumbered P (k + 1) (Some r) → LearnsEssence P r mid answer new_one new →
     HasNoCounterexample P r → AreDecided P k old n mid → AreDecided P (k + 1) old (n + cond new_one 1 0) new
 decided_more P k r answer new_one old mid new n found learns passes before =
     record {

@@ -3,7 +3,7 @@ use Rattle.std.specs.Prelude.{◌≡◌, ℕ, List, [], ◌∷◌, ◌++◌, len
 use Rattle.gh_ast.specs.Plain.{Program}
 use Rattle.gh_path.specs.Conditions.{Condition, conditions}
 use Rattle.gh_path.specs.declared.condition.Condition as kept
-use Rattle.gh_trace.specs.Refuted.{IsFirst}
+use Rattle.gh_trace.specs.Refuted.{ShowsFirst}
 use Rattle.gh_trace.specs.Validity.{IsConditionValid, ListedAreValid}
 use Rattle.gh_trace.specs.declared.refutation.Refutation.{Refutation}
 use Rattle.gh_session.specs.declared.kept.Kept.{Kept}
@@ -11,17 +11,17 @@ use Rattle.gh_session.specs.declared.session.Lesson.{Lesson}
 use Rattle.gh_session.specs.declared.session.SessionOutcome.{SessionOutcome}
 use Rattle.gh_session.specs.Essences.{Essence}
 use Rattle.gh_session.specs.Laws.{HasEssence}
-use Rattle.gh_session.specs.Known.{Known, essences, Learns}
+use Rattle.gh_session.specs.Known.{Known, essences, LearnsEssence}
 use Rattle.gh_session.specs.Places.{knowledge}
 
 -- what is learnt for the condition r of P, of what is kept before and after
 abbrev pub IsLessonOn : Program → kept.Condition → List Kept → List Kept → Lesson → Type 0
-IsLessonOn P r old new l = Learns P r (knowledge old) l.answer l.is_new (knowledge new)
+IsLessonOn P r old new l = LearnsEssence P r (knowledge old) l.answer l.is_new (knowledge new)
 
 -- no refutation: all conditions are valid
 abbrev pub IsOutcome : Program → Option Refutation → Type 0
 IsOutcome P None = ListedAreValid P
-IsOutcome P (Some r) = IsFirst P r.number r.trace
+IsOutcome P (Some r) = ShowsFirst P r.number r.trace
 
 -- the conditions up to the first that isn't valid, or to the last
 abbrev pub asked : Program → Option Refutation → List Condition

@@ -129,13 +129,13 @@ check_in ps ls (path.loop_entry at n) = loop_entry (place n ls)
 check_in ps ls (path.returned at) = returned
 check_in ps ls (path.loop_end at n) = loop_end (place n ls)
 
--- the essence of the condition c of the procedure p of the program P
+-- the essence of the condition c of the procedure proc of the program P
 abbrev pub essence : Program → Procedure → Condition → Essence
-essence P p c =
+essence P proc c =
     record {
-      variables = variable_names p;
+      variables = variable_names proc;
       contracts = map (contract_at P.procedures) (procedures_of c);
-      loops = map (round_at (variable_names p) (loops_of p)) (rounds_of c);
+      loops = map (round_at (variable_names proc) (loops_of proc)) (rounds_of c);
       start = start_in (rounds_of c) c.start;
       steps = map (step_in (procedures_of c) (rounds_of c)) c.way.steps;
       check = check_in (procedures_of c) (rounds_of c) c.way.check;

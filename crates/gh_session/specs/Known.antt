@@ -30,12 +30,12 @@ abbrev pub AreRight : List Known → Type 0
 AreRight ks = (k : Known) → Contains ks k → IsRight k
 
 -- the essence was known, and nothing is added; or it is new, and is added last with its answer
-abbrev pub Adds : List Known → Essence → Option Trace → Bool → List Known → Type 0
-Adds old E answer false new = Contains (essences old) E × (new ≡ old)
-Adds old E answer true new = (Contains (essences old) E → ⊥) × (new ≡ old ++ known E answer ∷ [])
+abbrev pub AddsKnown : List Known → Essence → Option Trace → Bool → List Known → Type 0
+AddsKnown old E answer false new = Contains (essences old) E × (new ≡ old)
+AddsKnown old E answer true new = (Contains (essences old) E → ⊥) × (new ≡ old ++ known E answer ∷ [])
 
 -- the same for the essence of the condition r of P
-pub record Learns (P : Program) (r : kept.Condition) (old : List Known) (answer : Option Trace) (added : Bool) (new : List Known) : Type 0 where
+pub record LearnsEssence (P : Program) (r : kept.Condition) (old : List Known) (answer : Option Trace) (added : Bool) (new : List Known) : Type 0 where
   pub essence : Essence
   pub has : HasEssence P (condition_of r) essence
-  pub adds : Adds old essence answer added new
+  pub adds : AddsKnown old essence answer added new

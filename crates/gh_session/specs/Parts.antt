@@ -11,8 +11,8 @@ pub record IsBare (line bare : List ℕ) : Type 0 where
   pub whole : (front : List ℕ) → line ≡ front ++ line_end → front ≡ bare
 
 -- the next line, if there is one, begins with `%`
-abbrev pub IsBefore : List ℕ → Type 0
-IsBefore rest = (l : List ℕ) (ls : List (List ℕ)) → lines rest ≡ l ∷ ls → IsMarked l
+abbrev pub ComesBefore : List ℕ → Type 0
+ComesBefore rest = (l : List ℕ) (ls : List (List ℕ)) → lines rest ≡ l ∷ ls → IsMarked l
 
 -- the lines before the first that begins with `%`
 pub record IsFirstPart (text : List ℕ) (part : Part) : Type 0 where
@@ -20,7 +20,7 @@ pub record IsFirstPart (text : List ℕ) (part : Part) : Type 0 where
   pub whole : lines text ≡ taken ++ lines part.rest.now
   pub plain : ArePlain taken part.text.now
   pub count : part.lines ≡ length taken
-  pub next : IsBefore part.rest.now
+  pub next : ComesBefore part.rest.now
   pub short : part.lines + length part.rest.now ≤ length text
 
 -- what is read before the rest
@@ -29,5 +29,5 @@ pub record IsReadBefore (text : List ℕ) (head : List ℕ) (es : List Edit) (nu
   pub whole : lines text ≡ before ++ lines rest
   pub read : AreSessionLines head es before
   pub number_is : number ≡ length before
-  pub next : IsBefore rest
+  pub next : ComesBefore rest
   pub short : number + length rest ≤ length text

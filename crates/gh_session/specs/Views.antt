@@ -63,6 +63,6 @@ AreContractsAt qs ns ks = map contract_view ks ≡ map (plain.contract_at qs) ns
 abbrev pub AreRoundsAt : List Name → List Loop → List ℕ → List kept_round.Round → Type 0
 AreRoundsAt xs ls ns rs = map round_view rs ≡ map (plain.round_at xs ls) ns
 
--- e is the essence of the condition r of the procedure p, as it is kept
+-- e is the essence of the condition r of the procedure proc, as it is kept
 abbrev pub IsEssenceIn : Program → Procedure → condition.Condition → kept_essence.Essence → Type 0
-IsEssenceIn P p r e = essence_view e ≡ plain.essence P p (condition_of r)
+IsEssenceIn P proc r e = essence_view e ≡ plain.essence P proc (condition_of r)

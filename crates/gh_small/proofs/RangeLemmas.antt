@@ -7,11 +7,11 @@ use Rattle.gh_base.specs.declared.sizes.Sizes.{Sizes}
 use Rattle.gh_base.specs.Atoms.{IsInRange, AreInRange, term, positive, negative}
 use Rattle.gh_small.specs.declared.bounding.Numbers.{Numbers}
 use Rattle.gh_small.specs.Fewer.{earlier, is_allocated, leader, counter, leader_clause, begins, raises, keeps, last_clause}
-use Rattle.gh_small.specs.Bounded.{IsWithin}
+use Rattle.gh_small.specs.Bounded.{AreSizes}
 use Rattle.gh_small.proofs.EachLemmas.{pair_all, each_all}
 use Rattle.gh_small.proofs.NumberLemmas.{counter_below, leader_below}
 
-module _ (c : Numbers) (s : Sizes) (w : IsWithin c s) where
+module _ (c : Numbers) (s : Sizes) (w : AreSizes c s) where
   abbrev Range : Lit → Type 0
   Range l = IsInRange s l.atom
 

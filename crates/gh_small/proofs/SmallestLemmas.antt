@@ -47,7 +47,7 @@ begins_first m n vs (p ∷ ps) (b ∷ bs) x xs e = refl
 -- what is lowest shows what is least
 shows_least : (P : Program) (q : Procedure) (c : Condition) (cells : ℕ) (o : Option Section) → IsTyped P → IsCondition P c → IsOf P c q → IsProblem (problem (symbolic_of P q c)) →
     IsLowest (problem (symbolic_of P q c)) cells o → IsLeast P c cells
-shows_least P q c cells None typed is of known e = λ p its x ys against. omega (arith, e)
+shows_least P q c cells None typed is of known e = λ proc its x ys against. omega (arith, e)
 shows_least P q c cells (Some s) typed is of known h = sections_show P q c s.lines cells typed is of known (omega (arith, h.0)) h.1.valid
 
 module _ (P : Program) (r : kept.Condition) (p : Problem) (f : Fewest) (t : Trace) (typed : IsTyped P) (ground : IsGroundOf P r p) (known : IsProblem p) (is : IsFewest p f)

@@ -29,10 +29,10 @@ first_depicted V m (p ∷ ps) x [] h = absurd h
 first_depicted V m (p ∷ ps) x (y ∷ ys) h = h.0
 
 pub small_traces : SmallTracesAreModels
-small_traces P p c x ys k typed is of known some against few =
-    let g = problem (symbolic_of P p c) in
-    let V = values_exist P p c x ys typed is of against in
-    let m = traces_are_depicted P p c x ys V.0 typed is of against V.1 in
+small_traces P proc c x ys k typed is of known some against few =
+    let g = problem (symbolic_of P proc c) in
+    let V = values_exist P proc c x ys typed is of against in
+    let m = traces_are_depicted P proc c x ys V.0 typed is of against V.1 in
     let first = first_depicted V.0 m.0 c.way.steps x ys m.2.along in
     let many : length V.0 ≡ g.sizes.terms = V.1.count in
     let at : (t : ℕ) → t < g.sizes.terms → slice_get V.0 t ≡ Some (get_or V.0 t 0) = λ t lt. slice_get-get_or V.0 t 0 (omega arith) in
@@ -42,11 +42,11 @@ small_traces P p c x ys k typed is of known some against few =
     (made.0, made.2)
 
 pub sections_show : SectionsShowLeast
-sections_show P p c lines k typed is of known some valid q its x ys against = elim (cases_lt (len x.heap) k) as (λ _. k ≤ len x.heap) [
+sections_show P proc c lines k typed is of known some valid q its x ys against = elim (cases_lt (len x.heap) k) as (λ _. k ≤ len x.heap) [
   | inl few ↦
-      let same : q ≡ p = one_value (slice_get P.procedures c.procedure) q p its of in
-      let here : IsCounterexample P p c x ys = subst (λ (o : Procedure). IsCounterexample P o c x ys) same against in
-      let made = small_traces P p c x ys k typed is of known some here few in
-      absurd (refute (bounded_by (problem (symbolic_of P p c)) k) lines valid made.0 made.1.congruence made.1.clauses made.1.instances)
+      let same : q ≡ proc = one_value (slice_get P.procedures c.procedure) q proc its of in
+      let here : IsCounterexample P proc c x ys = subst (λ (o : Procedure). IsCounterexample P o c x ys) same against in
+      let made = small_traces P proc c x ys k typed is of known some here few in
+      absurd (refute (bounded_by (problem (symbolic_of P proc c)) k) lines valid made.0 made.1.congruence made.1.clauses made.1.instances)
   | inr many ↦ many
 ]

@@ -41,7 +41,7 @@ pub record IsNumbered (c : Numbers) : Type 0 where
   pub room : c.first + c.terms + c.terms * c.cells < 2 ^ 32
 
 -- the sizes have these terms, some version, and the new definitions
-pub record IsWithin (c : Numbers) (s : Sizes) : Type 0 where
+pub record AreSizes (c : Numbers) (s : Sizes) : Type 0 where
   pub terms : s.terms ≡ c.terms
   pub versions : 1 ≤ s.versions
   pub defs : c.first + c.terms + c.terms * c.cells ≤ s.defs

@@ -64,12 +64,12 @@ BoundedIsPossible =
 -- a counterexample with fewer than k cells in its first heap gives a model of the bounded clauses of its condition
 abbrev pub SmallTracesAreModels : Type 0
 SmallTracesAreModels =
-    (P : Program) (p : Procedure) (c : Condition) (x : State) (ys : List State) (k : ℕ) → IsTyped P → IsCondition P c → IsOf P c p
-    → IsProblem (problem (symbolic_of P p c)) → 1 ≤ k → IsCounterexample P p c x ys → len x.heap < k
-    → (m : Interpretation) × IsModel (bounded_by (problem (symbolic_of P p c)) k) m
+    (P : Program) (proc : Procedure) (c : Condition) (x : State) (ys : List State) (k : ℕ) → IsTyped P → IsCondition P c → IsOf P c proc
+    → IsProblem (problem (symbolic_of P proc c)) → 1 ≤ k → IsCounterexample P proc c x ys → len x.heap < k
+    → (m : Interpretation) × IsModel (bounded_by (problem (symbolic_of P proc c)) k) m
 
 -- so where a section is valid for these clauses, no counterexample has fewer than k cells in its first heap
 abbrev pub SectionsShowLeast : Type 0
 SectionsShowLeast =
-    (P : Program) (p : Procedure) (c : Condition) (lines : List LogLine) (k : ℕ) → IsTyped P → IsCondition P c → IsOf P c p
-    → IsProblem (problem (symbolic_of P p c)) → 1 ≤ k → IsValidSection (bounded_by (problem (symbolic_of P p c)) k) lines → IsLeast P c k
+    (P : Program) (proc : Procedure) (c : Condition) (lines : List LogLine) (k : ℕ) → IsTyped P → IsCondition P c → IsOf P c proc
+    → IsProblem (problem (symbolic_of P proc c)) → 1 ≤ k → IsValidSection (bounded_by (problem (symbolic_of P proc c)) k) lines → IsLeast P c k

@@ -21,7 +21,7 @@ first_cells (x ∷ xs) = len x.state.heap
 
 -- no counterexample of the condition has fewer cells in its first heap
 abbrev pub IsLeast : Program → Condition → ℕ → Type 0
-IsLeast P c cells = (p : Procedure) → IsOf P c p → (x : State) (ys : List State) → IsCounterexample P p c x ys → cells ≤ len x.heap
+IsLeast P c cells = (proc : Procedure) → IsOf P c proc → (x : State) (ys : List State) → IsCounterexample P proc c x ys → cells ≤ len x.heap
 
 -- the trace is a counterexample with so many cells in its first heap, and none has fewer; where there is a cell, the
 -- section shows that
@@ -29,13 +29,13 @@ pub record IsSmallest (P : Program) (r : kept.Condition) (s : Smallest) : Type 0
   pub counterexample : Refutes P (condition_of r) (drawn_of s.trace)
   pub count : s.cells ≡ first_cells (drawn_of s.trace)
   pub least : IsLeast P (condition_of r) s.cells
-  pub lowest : HoldsFor P r (λ P p c. IsLowest (problem (symbolic_of P p c)) s.cells s.section)
+  pub lowest : HoldsFor P r (λ P proc c. IsLowest (problem (symbolic_of P proc c)) s.cells s.section)
 
 -- the condition is valid, or this is the smallest of its counterexamples
-abbrev pub IsFound : Program → kept.Condition → Option Smallest → Type 0
-IsFound P r None = HasNoCounterexample P r
-IsFound P r (Some s) = IsSmallest P r s
+abbrev pub IsSmallestFound : Program → kept.Condition → Option Smallest → Type 0
+IsSmallestFound P r None = HasNoCounterexample P r
+IsSmallestFound P r (Some s) = IsSmallest P r s
 
 -- nothing is found exactly where the condition has no counterexample
 abbrev pub FoundIsExact : Type 0
-FoundIsExact = (P : Program) (r : kept.Condition) (found : Option Smallest) → IsFound P r found → (found ≡ None) ↔ HasNoCounterexample P r
+FoundIsExact = (P : Program) (r : kept.Condition) (found : Option Smallest) → IsSmallestFound P r found → (found ≡ None) ↔ HasNoCounterexample P r

@@ -5,7 +5,7 @@ ghost use Rattle.gh_base.specs.declared.sizes.Sizes.{Sizes};
 ghost use Rattle.gh_base.specs.Atoms.{AreInRange, positive, negative};
 ghost use Rattle.gh_small.specs.Fewer.{leader, counter, leader_clause, begins, raises, keeps, counter_clauses};
 ghost use Rattle.gh_small.specs.Fewer.{counter_row, all_leaders, all_counters, last_clause};
-ghost use Rattle.gh_small.specs.Bounded.{bounded_by, with_defs, Gains, HasRoom, HasRoomFor, IsNumbered, IsWithin};
+ghost use Rattle.gh_small.specs.Bounded.{bounded_by, with_defs, Gains, HasRoom, HasRoomFor, IsNumbered, AreSizes};
 
 use gh_base::atom::{Atom, Lit, Term};
 use gh_base::clause::Clause;
@@ -67,7 +67,7 @@ impl Numbers {
         requires within { t < self.terms }
         requires numbered { IsNumbered self }
         ensures clause { result ≡ begins self.terms self.first self.cells t }
-        ensures in_range { (s : Sizes) → IsWithin self s → AreInRange s result }
+        ensures in_range { (s : Sizes) → AreSizes self s → AreInRange s result }
     {
         Clause::from_array(
             alloc,
@@ -81,7 +81,7 @@ impl Numbers {
         requires below { j + 1 < self.cells }
         requires numbered { IsNumbered self }
         ensures clause { result ≡ raises self.terms self.first self.cells t j }
-        ensures in_range { (s : Sizes) → IsWithin self s → AreInRange s result }
+        ensures in_range { (s : Sizes) → AreSizes self s → AreInRange s result }
     {
         Clause::from_array(
             alloc,
@@ -99,7 +99,7 @@ impl Numbers {
         requires below { j < self.cells }
         requires numbered { IsNumbered self }
         ensures clause { result ≡ keeps self.terms self.first self.cells t j }
-        ensures in_range { (s : Sizes) → IsWithin self s → AreInRange s result }
+        ensures in_range { (s : Sizes) → AreSizes self s → AreInRange s result }
     {
         Clause::from_array(
             alloc,
@@ -113,7 +113,7 @@ impl Numbers {
     // Adds the clause of a leader.
     fn push_leader(self, alloc: Global, ground: &mut Ground, t: u8) -> Result<(), AllocError>
         requires numbered { IsNumbered self }
-        requires sizes { IsWithin self ground.old.sizes }
+        requires sizes { AreSizes self ground.old.sizes }
         requires within { t < self.terms }
         requires room { length ground.old.clauses < 4294967294 }
         ensures { OnOk result (Gains ground.old ground.new (leader_clause self.first t ∷ [])) }
@@ -143,7 +143,7 @@ impl Numbers {
         j: u32,
     ) -> Result<(), AllocError>
         requires numbered { IsNumbered self }
-        requires sizes { IsWithin self ground.old.sizes }
+        requires sizes { AreSizes self ground.old.sizes }
         requires within { t < self.terms }
         requires below { j < self.cells }
         requires room { HasRoomFor ground.old (counter_clauses self.terms self.first self.cells t j) }
@@ -170,7 +170,7 @@ impl Numbers {
     // Adds the clauses of all leaders.
     fn push_leaders(self, alloc: Global, ground: &mut Ground) -> Result<(), AllocError>
         requires numbered { IsNumbered self }
-        requires sizes { IsWithin self ground.old.sizes }
+        requires sizes { AreSizes self ground.old.sizes }
         requires room { HasRoomFor ground.old (all_leaders self.terms self.first) }
         ensures { OnOk result (Gains ground.old ground.new (all_leaders self.terms self.first)) }
     {
@@ -183,7 +183,7 @@ impl Numbers {
     // Adds the clauses of the counters of a term.
     fn push_row(self, alloc: Global, ground: &mut Ground, t: u8) -> Result<(), AllocError>
         requires numbered { IsNumbered self }
-        requires sizes { IsWithin self ground.old.sizes }
+        requires sizes { AreSizes self ground.old.sizes }
         requires within { t < self.terms }
         requires room { HasRoomFor ground.old (counter_row self.terms self.first self.cells t) }
         ensures { OnOk result (Gains ground.old ground.new (counter_row self.terms self.first self.cells t)) }
@@ -197,7 +197,7 @@ impl Numbers {
     // Adds the clauses of all counters.
     fn push_counters(self, alloc: Global, ground: &mut Ground) -> Result<(), AllocError>
         requires numbered { IsNumbered self }
-        requires sizes { IsWithin self ground.old.sizes }
+        requires sizes { AreSizes self ground.old.sizes }
         requires room { HasRoomFor ground.old (all_counters self.terms self.first self.cells) }
         ensures { OnOk result (Gains ground.old ground.new (all_counters self.terms self.first self.cells)) }
     {

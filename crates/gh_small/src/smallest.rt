@@ -4,7 +4,7 @@ ghost use Rattle.std.specs.Prelude.{IfOk};
 ghost use Rattle.gh_ast.specs.Plain.{program_of};
 ghost use Rattle.gh_path.specs.Admitted.{IsAdmitted};
 ghost use Rattle.gh_path.specs.Kept.{IsOne};
-ghost use Rattle.gh_small.specs.Smallest.{IsFound};
+ghost use Rattle.gh_small.specs.Smallest.{IsSmallestFound};
 
 use crate::descent::descend;
 use crate::found::Smallest;
@@ -25,7 +25,7 @@ pub fn smallest(
 ) -> Result<Option<Smallest>, AllocError>
     requires admitted { IsAdmitted (program_of typed.now) }
     requires one { IsOne (program_of typed.now) condition.now }
-    ensures { IfOk result (λ found. IsFound (program_of typed.now) condition.now found) }
+    ensures { IfOk result (λ found. IsSmallestFound (program_of typed.now) condition.now found) }
 {
     let symbolic = over_terms(alloc, typed, condition)?;
     let ground = ground(alloc, &symbolic)?;

@@ -80,20 +80,20 @@ from_model p r (m, h) =
 pub scripts_mean_models : ScriptsMeanModels
 scripts_mean_models p is = (to_model p, from_model p is.in_range)
 
-to_counterexample : (P : Program) (p : Procedure) (c : Condition) → IsTyped P → IsCondition P c → IsOf P c p → HasModel (problem (symbolic_of P p c)) → HasCounterexample P c
-to_counterexample P p c t is of (m, h) =
-    (built_trace P p c m, locality_holds P p c m t is of (record { congruence = h.congruence; instances = h.instances; clauses = h.clauses }))
+to_counterexample : (P : Program) (proc : Procedure) (c : Condition) → IsTyped P → IsCondition P c → IsOf P c proc → HasModel (problem (symbolic_of P proc c)) → HasCounterexample P c
+to_counterexample P proc c t is of (m, h) =
+    (built_trace P proc c m, locality_holds P proc c m t is of (record { congruence = h.congruence; instances = h.instances; clauses = h.clauses }))
 
 -- the procedure of a condition is one
-at_procedure : (P : Program) (p q : Procedure) (c : Condition) (x : State) (ys : List State) → IsOf P c p → IsOf P c q → IsCounterexample P q c x ys → IsCounterexample P p c x ys
-at_procedure P p q c x ys of its h =
-    let same : q ≡ p = one_value (slice_get P.procedures c.procedure) q p its of in
+at_procedure : (P : Program) (proc q : Procedure) (c : Condition) (x : State) (ys : List State) → IsOf P c proc → IsOf P c q → IsCounterexample P q c x ys → IsCounterexample P proc c x ys
+at_procedure P proc q c x ys of its h =
+    let same : q ≡ proc = one_value (slice_get P.procedures c.procedure) q proc its of in
     subst (λ (o : Procedure). IsCounterexample P o c x ys) same h
 
-from_counterexample : (P : Program) (p : Procedure) (c : Condition) → IsTyped P → IsCondition P c → IsOf P c p → (xs : List State) → AreCounterexample P c xs → HasModel (problem (symbolic_of P p c))
-from_counterexample P p c t is of [] h = absurd h
-from_counterexample P p c t is of (x ∷ ys) (q, its, h) =
-    let m = traces_give_models P p c x ys t is of (at_procedure P p q c x ys of its h) in
+from_counterexample : (P : Program) (proc : Procedure) (c : Condition) → IsTyped P → IsCondition P c → IsOf P c proc → (xs : List State) → AreCounterexample P c xs → HasModel (problem (symbolic_of P proc c))
+from_counterexample P proc c t is of [] h = absurd h
+from_counterexample P proc c t is of (x ∷ ys) (q, its, h) =
+    let m = traces_give_models P proc c x ys t is of (at_procedure P proc q c x ys of its h) in
     (m.0, record { congruence = m.1.congruence; instances = m.1.instances; clauses = m.1.clauses })
 
 -- a valid condition has no counterexample
@@ -102,10 +102,10 @@ not_valid P c valid [] h = h
 not_valid P c valid (x ∷ ys) (q, its, h) = valid q its x ys h
 
 pub scripts_decide : ScriptsDecide
-scripts_decide P p c t is of known =
-    let s = problem (symbolic_of P p c) in
-    let satisfied : HasCounterexample P c → IsSatisfiable (script_of s) = λ h. from_model s known.in_range (from_counterexample P p c t is of h.0 h.1) in
-    let refuted : IsSatisfiable (script_of s) → HasCounterexample P c = λ h. to_counterexample P p c t is of (to_model s h) in
+scripts_decide P proc c t is of known =
+    let s = problem (symbolic_of P proc c) in
+    let satisfied : HasCounterexample P c → IsSatisfiable (script_of s) = λ h. from_model s known.in_range (from_counterexample P proc c t is of h.0 h.1) in
+    let refuted : IsSatisfiable (script_of s) → HasCounterexample P c = λ h. to_counterexample P proc c t is of (to_model s h) in
     record {
       satisfiable = (refuted, satisfied);
       unsatisfiable = (λ none q its x ys h. none (satisfied (x ∷ ys, (q, its, h))), λ valid h. let w = refuted h in not_valid P c valid w.0 w.1);

@@ -32,14 +32,14 @@ pub record DecidesCondition (P : Program) (c : Condition) (script : Problem) : T
 -- and so for each condition of which these are the clauses
 abbrev pub DecidesItsConditions : Problem → Problem → Type 0
 DecidesItsConditions clauses script =
-    (P : Program) (p : Procedure) (c : Condition) → IsTyped P → IsCondition P c → IsOf P c p → clauses ≡ problem (symbolic_of P p c)
+    (P : Program) (proc : Procedure) (c : Condition) → IsTyped P → IsCondition P c → IsOf P c proc → clauses ≡ problem (symbolic_of P proc c)
     → DecidesCondition P c script
 
 -- the script of a condition's clauses decides the condition
 abbrev pub ScriptsDecide : Type 0
 ScriptsDecide =
-    (P : Program) (p : Procedure) (c : Condition) → IsTyped P → IsCondition P c → IsOf P c p → IsProblem (problem (symbolic_of P p c))
-    → DecidesCondition P c (script_of (problem (symbolic_of P p c)))
+    (P : Program) (proc : Procedure) (c : Condition) → IsTyped P → IsCondition P c → IsOf P c proc → IsProblem (problem (symbolic_of P proc c))
+    → DecidesCondition P c (script_of (problem (symbolic_of P proc c)))
 
 -- two scripts that have one text are one
 abbrev pub TextsAreOne : Type 0

@@ -27,11 +27,11 @@ use Rattle.gh_symb.proofs.StepLemmas.{called_procedure, callee_within}
 use Rattle.gh_symb.proofs.TableLemmas.{head_of}
 
 -- the procedure of a condition
-pub its_procedure : (P : whole_program.Program) (ps : List whole.Procedure) (n : ℕ) (q : whole.Procedure) (p : Procedure) → ps ≡ P.procedures.items → q ≡ get_or ps n q →
-    slice_get (program_of P).procedures n ≡ Some p → procedure_of q ≡ p
-its_procedure P ps n q p same is at =
-    let there : slice_get (map procedure_of ps) n ≡ Some p = ap (λ xs. slice_get (map procedure_of xs) n) same ∙ at in
-    let here : get_or (map procedure_of ps) n (procedure_of q) ≡ p = get_or_from_slice_get (map procedure_of ps) n p (procedure_of q) there in
+pub its_procedure : (P : whole_program.Program) (ps : List whole.Procedure) (n : ℕ) (q : whole.Procedure) (proc : Procedure) → ps ≡ P.procedures.items → q ≡ get_or ps n q →
+    slice_get (program_of P).procedures n ≡ Some proc → procedure_of q ≡ proc
+its_procedure P ps n q proc same is at =
+    let there : slice_get (map procedure_of ps) n ≡ Some proc = ap (λ xs. slice_get (map procedure_of xs) n) same ∙ at in
+    let here : get_or (map procedure_of ps) n (procedure_of q) ≡ proc = get_or_from_slice_get (map procedure_of ps) n proc (procedure_of q) there in
     ap procedure_of is ∙ sym (get_or-map procedure_of ps n q) ∙ here
 
 -- the procedure's number of a condition that fits the program is there, and what stands at it is the procedure
@@ -47,12 +47,12 @@ scoped_of P Q r q same fits is =
     (called_procedure Q r.procedure q (scoped_within P Q r same fits) is)
 
 -- .. and all numbers are there
-pub scoped_there : (P : Program) (r : kept_condition.Condition) (p : Procedure) → IsScoped P r → IsOf P (condition_of r) p → IsThere P p (condition_of r)
-scoped_there P r p fits of = subst (λ q. IsThere P q (condition_of r)) (one_value (slice_get P.procedures r.procedure) fits.0 p fits.1 of) fits.2
+pub scoped_there : (P : Program) (r : kept_condition.Condition) (proc : Procedure) → IsScoped P r → IsOf P (condition_of r) proc → IsThere P proc (condition_of r)
+scoped_there P r proc fits of = subst (λ q. IsThere P q (condition_of r)) (one_value (slice_get P.procedures r.procedure) fits.0 proc fits.1 of) fits.2
 
 -- what holds of a condition and the procedure of its context holds for it
-pub holds_here : (P : Program) (r : kept_condition.Condition) (p : Procedure) (Q : Program → Procedure → Condition → Type 0) → IsOf P (condition_of r) p → Q P p (condition_of r) → HoldsFor P r Q
-holds_here P r p Q of here = λ q other. subst (λ x. Q P x (condition_of r)) (one_value (slice_get P.procedures r.procedure) p q of other) here
+pub holds_here : (P : Program) (r : kept_condition.Condition) (proc : Procedure) (Q : Program → Procedure → Condition → Type 0) → IsOf P (condition_of r) proc → Q P proc (condition_of r) → HoldsFor P r Q
+holds_here P r proc Q of here = λ q other. subst (λ x. Q P x (condition_of r)) (one_value (slice_get P.procedures r.procedure) proc q of other) here
 
 -- the numbers of the check, and of a step that is left, are there
 pub has_check : {P : Program} {r : kept_condition.Condition} {set : Context} → IsContextOf P r set →
@@ -63,29 +63,29 @@ has_check {P} {r} {set} is =
 pub has_next : {P : Program} {k : kept_condition.Condition} {set : Context} → IsContextOf P k set → (rs : List kept_step.PathStep) (i : ℕ) {r : kept_step.PathStep} → rs ≡ k.steps.items →
     i < length rs → r ≡ get_or rs i r → StepIsThere (program_in set) (procedure_in set) (step_of r)
 has_next {P} {k} {set} of rs i {r} same within is =
-    let p = procedure_in set in
-    let all : All (StepIsThere P p) (map step_of rs) = subst (λ xs. All (StepIsThere P p) (map step_of xs)) (sym same) of.there.steps in
-    let here : StepIsThere P p (get_or (map step_of rs) i (step_of r)) = all i (step_of r) (omega (arith, within, length-map rs step_of)) in
+    let proc = procedure_in set in
+    let all : All (StepIsThere P proc) (map step_of rs) = subst (λ xs. All (StepIsThere P proc) (map step_of xs)) (sym same) of.there.steps in
+    let here : StepIsThere P proc (get_or (map step_of rs) i (step_of r)) = all i (step_of r) (omega (arith, within, length-map rs step_of)) in
     let one : get_or (map step_of rs) i (step_of r) ≡ step_of r = get_or-map step_of rs i r ∙ ap step_of (sym is) in
-    subst (λ Q. StepIsThere Q p (step_of r)) (sym of.program) (subst (StepIsThere P p) one here)
+    subst (λ Q. StepIsThere Q proc (step_of r)) (sym of.program) (subst (StepIsThere P proc) one here)
 
 -- the next of some steps
-pub gone_next : (P : Program) (p : Procedure) (rs : List kept_step.PathStep) (i : ℕ) (r : kept_step.PathStep) (c : Condition) (s t : Terms) → i < length rs → r ≡ get_or rs i r →
-    Remains P p (map step_of (drop i rs)) c s → t ≡ step_walked P p (step_of r) s → Remains P p (map step_of (drop (i + 1) rs)) c t
-gone_next P p rs i r c s t within is left walks =
-    let now : Remains P p (step_of r ∷ map step_of (drop (i + 1) rs)) c s = subst (λ xs. Remains P p (map step_of xs) c s) (head_of rs i r within is) left in
-    ap (steps_walked P p (map step_of (drop (i + 1) rs))) walks ∙ now
+pub gone_next : (P : Program) (proc : Procedure) (rs : List kept_step.PathStep) (i : ℕ) (r : kept_step.PathStep) (c : Condition) (s t : Terms) → i < length rs → r ≡ get_or rs i r →
+    Remains P proc (map step_of (drop i rs)) c s → t ≡ step_walked P proc (step_of r) s → Remains P proc (map step_of (drop (i + 1) rs)) c t
+gone_next P proc rs i r c s t within is left walks =
+    let now : Remains P proc (step_of r ∷ map step_of (drop (i + 1) rs)) c s = subst (λ xs. Remains P proc (map step_of xs) c s) (head_of rs i r within is) left in
+    ap (steps_walked P proc (map step_of (drop (i + 1) rs))) walks ∙ now
 
 -- a walk that has passed the limit has passed it at the end
-pub many : (P : Program) (p : Procedure) (steps : List PathStep) (c : Condition) (s : Terms) → Remains P p steps c s → most_terms < length s.kinds → HasTerms P p c
-many P p steps c s left over =
-    let last = steps_walked P p c.way.steps (begins p c.start) in
-    let on : size s ≤ size last = subst (λ t. size s ≤ size t) left (steps_grow P p steps s) in
-    let end : size last ≤ size (check_walked P p c.way.check last) = check_grows P p c.way.check last in
-    let all : size (check_walked P p c.way.check last) ≡ length (terms_of P p c.start c.way) = refl in
+pub many : (P : Program) (proc : Procedure) (steps : List PathStep) (c : Condition) (s : Terms) → Remains P proc steps c s → most_terms < length s.kinds → HasTerms P proc c
+many P proc steps c s left over =
+    let last = steps_walked P proc c.way.steps (begins proc c.start) in
+    let on : size s ≤ size last = subst (λ t. size s ≤ size t) left (steps_grow P proc steps s) in
+    let end : size last ≤ size (check_walked P proc c.way.check last) = check_grows P proc c.way.check last in
+    let all : size (check_walked P proc c.way.check last) ≡ length (terms_of P proc c.start c.way) = refl in
     omega (arith, over, on, end, all)
 
 -- where no step is left
-pub ended : (P : Program) (p : Procedure) (c : Condition) (s : Terms) → Remains P p [] c s → (kinds : List Kind) (version : ℕ) →
-    EndsWith (check_walked P p c.way.check s) kinds version → EndsWith (way_walked P p c.start c.way) kinds version
-ended P p c s left kinds version ends = subst (λ t. EndsWith (check_walked P p c.way.check t) kinds version) left ends
+pub ended : (P : Program) (proc : Procedure) (c : Condition) (s : Terms) → Remains P proc [] c s → (kinds : List Kind) (version : ℕ) →
+    EndsWith (check_walked P proc c.way.check s) kinds version → EndsWith (way_walked P proc c.start c.way) kinds version
+ended P proc c s left kinds version ends = subst (λ t. EndsWith (check_walked P proc c.way.check t) kinds version) left ends

@@ -63,38 +63,38 @@ same_length R [] (b ∷ bs) each = absurd each
 same_length R (a ∷ as') [] each = absurd each
 same_length R (a ∷ as') (b ∷ bs) each = ap suc (same_length R as' bs each.1)
 
-one_more_state : (P : Program) (p : Procedure) (xs : List PathStep) (k : Check) (s : Terms) → length (state_bindings P p xs k s) ≡ length (term_steps P p xs s) + 1
-one_more_state P p [] k s = refl
-one_more_state P p (x ∷ xs) k s =
-    let rest = one_more_state P p xs k (step_walked P p x s) in
+one_more_state : (P : Program) (proc : Procedure) (xs : List PathStep) (k : Check) (s : Terms) → length (state_bindings P proc xs k s) ≡ length (term_steps P proc xs s) + 1
+one_more_state P proc [] k s = refl
+one_more_state P proc (x ∷ xs) k s =
+    let rest = one_more_state P proc xs k (step_walked P proc x s) in
     omega (arith, rest)
 
 -- a condition over terms has one state more than steps
-pub states_of_steps : (P : Program) (p : Procedure) (c : Condition) (steps : List TermStep) (bindings : List (List Bond)) →
-    Each IsTermStep steps (symbolic_of P p c).steps → Each IsBinding bindings (symbolic_of P p c).bindings → length bindings ≡ length steps + 1
-states_of_steps P p c steps bindings each_step each_binding =
-    same_length IsBinding bindings (symbolic_of P p c).bindings each_binding
-    ∙ one_more_state P p c.way.steps c.way.check (begins p c.start)
-    ∙ ap (λ n. n + 1) (sym (same_length IsTermStep steps (symbolic_of P p c).steps each_step))
+pub states_of_steps : (P : Program) (proc : Procedure) (c : Condition) (steps : List TermStep) (bindings : List (List Bond)) →
+    Each IsTermStep steps (symbolic_of P proc c).steps → Each IsBinding bindings (symbolic_of P proc c).bindings → length bindings ≡ length steps + 1
+states_of_steps P proc c steps bindings each_step each_binding =
+    same_length IsBinding bindings (symbolic_of P proc c).bindings each_binding
+    ∙ one_more_state P proc c.way.steps c.way.check (begins proc c.start)
+    ∙ ap (λ n. n + 1) (sym (same_length IsTermStep steps (symbolic_of P proc c).steps each_step))
 
-pub encoded_is : (P : Program) (p : Procedure) (c : Condition) (s : Symbolic) → IsSymbolic P p c s → plain_of s ≡ symbolic_of P p c
-encoded_is P p c s h =
-    let start = under_is s.start (symbolic_of P p c).start h.start in
-    let steps = all_same IsTermStep step_of step_is s.steps.items (symbolic_of P p c).steps h.steps in
-    let check = check_is s.check (symbolic_of P p c).check h.check in
-    let bindings = all_same IsBinding binding_of binding_is s.bindings.items (symbolic_of P p c).bindings h.bindings in
+pub encoded_is : (P : Program) (proc : Procedure) (c : Condition) (s : Symbolic) → IsSymbolic P proc c s → plain_of s ≡ symbolic_of P proc c
+encoded_is P proc c s h =
+    let start = under_is s.start (symbolic_of P proc c).start h.start in
+    let steps = all_same IsTermStep step_of step_is s.steps.items (symbolic_of P proc c).steps h.steps in
+    let check = check_is s.check (symbolic_of P proc c).check h.check in
+    let bindings = all_same IsBinding binding_of binding_is s.bindings.items (symbolic_of P proc c).bindings h.bindings in
     λ i. record { terms = h.terms i; versions = h.versions i; start = start i; steps = steps i; check = check i; bindings = bindings i }
 
 -- its terms and versions are those of the condition
-pub encoded_inside : (P : Program) (p : Procedure) (c : Condition) (ks : List Kind) (v : ℕ) (start : BoundAssertion) (steps : List TermStep) (check : TermCheck) →
-    ks ≡ (symbolic_of P p c).terms → v ≡ (symbolic_of P p c).versions → IsUnder start (symbolic_of P p c).start → Each IsTermStep steps (symbolic_of P p c).steps → IsTermCheck check (symbolic_of P p c).check →
+pub encoded_inside : (P : Program) (proc : Procedure) (c : Condition) (ks : List Kind) (v : ℕ) (start : BoundAssertion) (steps : List TermStep) (check : TermCheck) →
+    ks ≡ (symbolic_of P proc c).terms → v ≡ (symbolic_of P proc c).versions → IsUnder start (symbolic_of P proc c).start → Each IsTermStep steps (symbolic_of P proc c).steps → IsTermCheck check (symbolic_of P proc c).check →
     IsInside ks v (under_of start) (map step_of steps) (check_of check)
-encoded_inside P p c ks v start steps check terms versions starts each asks =
-    let s = symbolic_of P p c in
+encoded_inside P proc c ks v start steps check terms versions starts each asks =
+    let s = symbolic_of P proc c in
     let told : plain.Symbolic = record { terms = ks; versions = v; start = under_of start; steps = map step_of steps; check = check_of check; bindings = s.bindings } in
     let same : told ≡ s =
     let at_start = under_is start s.start starts in
     let at_steps = all_same IsTermStep step_of step_is steps s.steps each in
     let at_check = check_is check s.check asks in
     λ i. record { terms = terms i; versions = versions i; start = at_start i; steps = at_steps i; check = at_check i; bindings = s.bindings } in
-    subst IsItselfInside (sym same) (conditions_are_inside P p c)
+    subst IsItselfInside (sym same) (conditions_are_inside P proc c)

@@ -65,46 +65,46 @@ bindings_exact n a (e ∷ es) (b ∷ bs) h each =
     (λ x. each.0 x (below a (there x)), bindings_exact n a es bs (All-tail (IsThere n) b bs h) each.1)
 
 -- a condition that passes no limit has few terms and versions
-few_terms : (P : Program) (p : Procedure) (c : Condition) → PassesNone P p c → length (terms_of P p c.start c.way) ≤ most_terms
-few_terms P p c passes = elim (over_or most_terms (length (terms_of P p c.start c.way))) [ inl many ↦ absurd (passes.terms many) | inr few ↦ few ]
+few_terms : (P : Program) (proc : Procedure) (c : Condition) → PassesNone P proc c → length (terms_of P proc c.start c.way) ≤ most_terms
+few_terms P proc c passes = elim (over_or most_terms (length (terms_of P proc c.start c.way))) [ inl many ↦ absurd (passes.terms many) | inr few ↦ few ]
 
-few_versions : (P : Program) (p : Procedure) (c : Condition) → PassesNone P p c → versions_of P p c.start c.way ≤ most_versions
-few_versions P p c passes = elim (over_or most_versions (versions_of P p c.start c.way)) [ inl many ↦ absurd (passes.versions many) | inr few ↦ few ]
+few_versions : (P : Program) (proc : Procedure) (c : Condition) → PassesNone P proc c → versions_of P proc c.start c.way ≤ most_versions
+few_versions P proc c passes = elim (over_or most_versions (versions_of P proc c.start c.way)) [ inl many ↦ absurd (passes.versions many) | inr few ↦ few ]
 
-pub few_numbers : (P : Program) (p : Procedure) (c : Condition) (w : Walked) → IsWalked P p c w → PassesNone P p c → (length w.kinds ≤ most_terms) × (w.version + 1 ≤ most_versions)
-few_numbers P p c w h passes =
-    let terms : length w.kinds ≡ length (terms_of P p c.start c.way) = ap length h.kinds_are in
-    let few = few_terms P p c passes in
-    let few_too = few_versions P p c passes in
+pub few_numbers : (P : Program) (proc : Procedure) (c : Condition) (w : Walked) → IsWalked P proc c w → PassesNone P proc c → (length w.kinds ≤ most_terms) × (w.version + 1 ≤ most_versions)
+few_numbers P proc c w h passes =
+    let terms : length w.kinds ≡ length (terms_of P proc c.start c.way) = ap length h.kinds_are in
+    let few = few_terms P proc c passes in
+    let few_too = few_versions P proc c passes in
     let versions = h.versions_are in
     (omega (arith, terms, few), omega (arith, versions, few_too))
 
-pub short_kinds : (P : Program) (p : Procedure) (c : Condition) (w : Walked) → IsWalked P p c w → PassesNone P p c → AreSuccessors 256 256 w.kinds
-short_kinds P p c w h passes =
-    let few = few_terms P p c passes in
-    let few_too = few_versions P p c passes in
+pub short_kinds : (P : Program) (proc : Procedure) (c : Condition) (w : Walked) → IsWalked P proc c w → PassesNone P proc c → AreSuccessors 256 256 w.kinds
+short_kinds P proc c w h passes =
+    let few = few_terms P proc c passes in
+    let few_too = few_versions P proc c passes in
     subst (AreSuccessors 256 256) (sym h.kinds_are)
-    (successors_more (length (terms_of P p c.start c.way)) 256 (versions_of P p c.start c.way) 256 (omega (arith, few)) (omega (arith, few_too)) (terms_of P p c.start c.way) (condition_sound P p c).successors)
+    (successors_more (length (terms_of P proc c.start c.way)) 256 (versions_of P proc c.start c.way) 256 (omega (arith, few)) (omega (arith, few_too)) (terms_of P proc c.start c.way) (condition_sound P proc c).successors)
 
 -- all that is encoded is that of the condition
-pub record IsExact (P : Program) (p : Procedure) (c : Condition) (w : Walked) : Type 0 where
-  pub start_is : IsUnder w.start (symbolic_of P p c).start
-  pub steps_are : Each IsTermStep w.steps.items (symbolic_of P p c).steps
-  pub check_is : IsTermCheck w.check (symbolic_of P p c).check
-  pub bindings_are : Each IsBinding w.bindings.items (symbolic_of P p c).bindings
+pub record IsExact (P : Program) (proc : Procedure) (c : Condition) (w : Walked) : Type 0 where
+  pub start_is : IsUnder w.start (symbolic_of P proc c).start
+  pub steps_are : Each IsTermStep w.steps.items (symbolic_of P proc c).steps
+  pub check_is : IsTermCheck w.check (symbolic_of P proc c).check
+  pub bindings_are : Each IsBinding w.bindings.items (symbolic_of P proc c).bindings
 
-pub exact : (P : Program) (p : Procedure) (c : Condition) (w : Walked) → IsWalked P p c w → PassesNone P p c → IsExact P p c w
-exact P p c w h passes =
-    let n = length (terms_of P p c.start c.way) in
-    let v = versions_of P p c.start c.way in
-    let few = few_terms P p c passes in
-    let few_too = few_versions P p c passes in
+pub exact : (P : Program) (proc : Procedure) (c : Condition) (w : Walked) → IsWalked P proc c w → PassesNone P proc c → IsExact P proc c w
+exact P proc c w h passes =
+    let n = length (terms_of P proc c.start c.way) in
+    let v = versions_of P proc c.start c.way in
+    let few = few_terms P proc c passes in
+    let few_too = few_versions P proc c passes in
     let a : n ≤ 256 = omega (arith, few) in
     let b : v ≤ 256 = omega (arith, few_too) in
-    let inside = conditions_are_inside P p c in
+    let inside = conditions_are_inside P proc c in
     record {
-      start_is = h.start_is (under_fits n v a b (symbolic_of P p c).start inside.start_is);
-      steps_are = steps_exact n v 0 a b w.steps.items (symbolic_of P p c).steps inside.steps_are h.steps_are;
-      check_is = h.check_is (check_fits n v a b (symbolic_of P p c).check inside.check_is);
-      bindings_are = bindings_exact n a w.bindings.items (symbolic_of P p c).bindings (condition_states P p c) h.bindings_are;
+      start_is = h.start_is (under_fits n v a b (symbolic_of P proc c).start inside.start_is);
+      steps_are = steps_exact n v 0 a b w.steps.items (symbolic_of P proc c).steps inside.steps_are h.steps_are;
+      check_is = h.check_is (check_fits n v a b (symbolic_of P proc c).check inside.check_is);
+      bindings_are = bindings_exact n a w.bindings.items (symbolic_of P proc c).bindings (condition_states P proc c) h.bindings_are;
     }

@@ -17,8 +17,8 @@ use Rattle.gh_symb.specs.Fitting.{EncodesBinding, EncodesUnder, EncodesStep, Enc
 use Rattle.gh_symb.specs.Walked.{IsWalked}
 use Rattle.gh_symb.specs.Phases.{under_bindings, loop_done, loop_encoding, step_done, step_encoding, learned, both}
 use Rattle.gh_symb.specs.Steps.{EndsWith, IsCount}
-use Rattle.gh_symb.specs.Following.{met, known, first_uses, Follows, Followed}
-use Rattle.gh_symb.specs.Reads.{Learns}
+use Rattle.gh_symb.specs.Following.{met, known, first_uses, IsFollowed, Followed}
+use Rattle.gh_symb.specs.Reads.{LearnsTerms}
 use Rattle.gh_symb.specs.Contexts.{program_in, procedure_in}
 use Rattle.gh_symb.specs.Tables.{Pairs, bound_by}
 use Rattle.gh_symb.specs.Walkers.{terms_at, UsesStep, DoesStep, ReadsStep}
@@ -40,16 +40,16 @@ loop_done_walked None xs s = refl
 loop_done_walked (Some l) xs s = refl
 
 -- a step is its uses, and then the rest
-pub done_walked : (P : Program) (p : Procedure) (x : PathStep) (s : Terms) → step_done P p x (step_used p x s) ≡ step_walked P p x s
-done_walked P p (accessed o) s = refl
-done_walked P p (assume l e r) s = refl
-done_walked P p (assigned x e) s = refl
-done_walked P p (made x) s = refl
-done_walked P p (written x e) s = refl
-done_walked P p (freed x) s = refl
-done_walked P p (called ys n es) s = refl
-done_walked P p (looped n) s = loop_done_walked (slice_get (loops_of p) n) (variable_names p) s
-done_walked P p (answered es) s = refl
+pub done_walked : (P : Program) (proc : Procedure) (x : PathStep) (s : Terms) → step_done P proc x (step_used proc x s) ≡ step_walked P proc x s
+done_walked P proc (accessed o) s = refl
+done_walked P proc (assume l e r) s = refl
+done_walked P proc (assigned x e) s = refl
+done_walked P proc (made x) s = refl
+done_walked P proc (written x e) s = refl
+done_walked P proc (freed x) s = refl
+done_walked P proc (called ys n es) s = refl
+done_walked P proc (looped n) s = loop_done_walked (slice_get (loops_of proc) n) (variable_names proc) s
+done_walked P proc (answered es) s = refl
 
 loop_encoding_is : (o : Option Loop) (xs : List Name) (s t : Terms) → t ≡ invariant_walked o s → t.version ≡ s.version → loop_encoding o xs t ≡ loop_parts o xs s
 loop_encoding_is None xs s t e v = refl
@@ -57,16 +57,16 @@ loop_encoding_is (Some l) xs s t e v =
     ap (λ i. plain.parts (under_bindings l.invariant t.bindings i) (under l.invariant (renewed (filter (some_assigns l.body) xs) (moved_on t)) ∷ [])) v
     ∙ ap (λ (q : Terms). plain.parts (under_bindings l.invariant q.bindings s.version) (under l.invariant (renewed (filter (some_assigns l.body) xs) (moved_on q)) ∷ [])) e
 
-pub encoding_is : (P : Program) (p : Procedure) (x : PathStep) (s t : Terms) → t ≡ step_used p x s → t.version ≡ s.version → step_encoding P p x t ≡ term_step P p x s
-encoding_is P p (accessed o) s t e v = ap (step_encoding P p (accessed o)) e
-encoding_is P p (assume l i r) s t e v = ap (step_encoding P p (assume l i r)) e
-encoding_is P p (assigned x i) s t e v = refl
-encoding_is P p (made x) s t e v = ap (step_encoding P p (made x)) e
-encoding_is P p (written x i) s t e v = ap (step_encoding P p (written x i)) e
-encoding_is P p (freed x) s t e v = ap (step_encoding P p (freed x)) e
-encoding_is P p (called ys n es) s t e v = ap (step_encoding P p (called ys n es)) e
-encoding_is P p (looped n) s t e v = loop_encoding_is (slice_get (loops_of p) n) (variable_names p) s t e v
-encoding_is P p (answered es) s t e v = refl
+pub encoding_is : (P : Program) (proc : Procedure) (x : PathStep) (s t : Terms) → t ≡ step_used proc x s → t.version ≡ s.version → step_encoding P proc x t ≡ term_step P proc x s
+encoding_is P proc (accessed o) s t e v = ap (step_encoding P proc (accessed o)) e
+encoding_is P proc (assume l i r) s t e v = ap (step_encoding P proc (assume l i r)) e
+encoding_is P proc (assigned x i) s t e v = refl
+encoding_is P proc (made x) s t e v = ap (step_encoding P proc (made x)) e
+encoding_is P proc (written x i) s t e v = ap (step_encoding P proc (written x i)) e
+encoding_is P proc (freed x) s t e v = ap (step_encoding P proc (freed x)) e
+encoding_is P proc (called ys n es) s t e v = ap (step_encoding P proc (called ys n es)) e
+encoding_is P proc (looped n) s t e v = loop_encoding_is (slice_get (loops_of proc) n) (variable_names proc) s t e v
+encoding_is P proc (answered es) s t e v = refl
 
 -- what is known after a step is what was known before: `a` before it, `b` once it has used its variables, `c` after it
 turn : (a b c f later : Option ℕ) → (c ≡ None → b ≡ None) → (b ≡ None → a ≡ None) → (a ≡ None → f ≡ None) → known c (learned a b f) later ≡ known a f (used_first b c later)
@@ -85,54 +85,54 @@ last_turn None None f lack = lack refl
 none_learned : (a b f : Option ℕ) → a ≡ None → b ≡ None → f ≡ None → learned a b f ≡ None
 none_learned a b f one two three = rw (one, two) three
 
-pub begun : (P : Program) (p : Procedure) (c : Condition) (s : Terms) (firsts : Bindings) → s ≡ begins p c.start → ((y : Name) → firsts y ≡ None) →
-    Follows P p c.way.steps c s firsts [] []
-begun P p c s firsts same none = record {
-  lead = ap (steps_walked P p c.way.steps) same;
+pub begun : (P : Program) (proc : Procedure) (c : Condition) (s : Terms) (firsts : Bindings) → s ≡ begins proc c.start → ((y : Name) → firsts y ≡ None) →
+    IsFollowed P proc c.way.steps c s firsts [] []
+begun P proc c s firsts same none = record {
+  lead = ap (steps_walked P proc c.way.steps) same;
   plain_steps = [];
   are_encodings = tt;
-  all_steps = ap (term_steps P p c.way.steps) same;
-  meet = ap (met P p c.way.steps) same;
+  all_steps = ap (term_steps P proc c.way.steps) same;
+  meet = ap (met P proc c.way.steps) same;
   lack = λ y lacks. none y;
   first = λ y.
-      ap (λ f. known (s.bindings y) f (first_use P p c.way.steps c.way.check s y)) (none y)
-      ∙ ap (λ (q : Terms). known (q.bindings y) None (first_use P p c.way.steps c.way.check q y)) same;
+      ap (λ f. known (s.bindings y) f (first_use P proc c.way.steps c.way.check s y)) (none y)
+      ∙ ap (λ (q : Terms). known (q.bindings y) None (first_use P proc c.way.steps c.way.check q y)) same;
 }
 
 -- a step is walked: from s it uses its variables, which leads to t, and then leads to u
-pub gone_on : (P : Program) (p : Procedure) (x : PathStep) (xs : List PathStep) (c : Condition) (s t u : Terms) (firsts learns : Bindings) (states : List Bindings) (encoded : List TermStep) (one : TermStep) →
-    Follows P p (x ∷ xs) c s firsts states encoded → t ≡ step_used p x s → t.version ≡ s.version → u ≡ step_done P p x t → EncodesStep one (step_encoding P p x t) →
-    ((y : Name) → learns y ≡ learned (s.bindings y) (t.bindings y) (firsts y)) → Follows P p xs c u learns (states ++ s.bindings ∷ []) (encoded ++ one ∷ [])
-gone_on P p x xs c s t u firsts learns states encoded one left uses version does encodes learn =
-    let walks : u ≡ step_walked P p x s = does ∙ ap (step_done P p x) uses ∙ done_walked P p x s in
-    let same_step : step_encoding P p x t ≡ term_step P p x s = encoding_is P p x s t uses version in
+pub gone_on : (P : Program) (proc : Procedure) (x : PathStep) (xs : List PathStep) (c : Condition) (s t u : Terms) (firsts learns : Bindings) (states : List Bindings) (encoded : List TermStep) (one : TermStep) →
+    IsFollowed P proc (x ∷ xs) c s firsts states encoded → t ≡ step_used proc x s → t.version ≡ s.version → u ≡ step_done P proc x t → EncodesStep one (step_encoding P proc x t) →
+    ((y : Name) → learns y ≡ learned (s.bindings y) (t.bindings y) (firsts y)) → IsFollowed P proc xs c u learns (states ++ s.bindings ∷ []) (encoded ++ one ∷ [])
+gone_on P proc x xs c s t u firsts learns states encoded one left uses version does encodes learn =
+    let walks : u ≡ step_walked P proc x s = does ∙ ap (step_done P proc x) uses ∙ done_walked P proc x s in
+    let same_step : step_encoding P proc x t ≡ term_step P proc x s = encoding_is P proc x s t uses version in
     let after : (y : Name) → u.bindings y ≡ None → t.bindings y ≡ None =
-    λ y none. ap (λ (q : Terms). q.bindings y) uses ∙ step_lacks P p x s y (ap (λ (q : Terms). q.bindings y) (sym walks) ∙ none) in
+    λ y none. ap (λ (q : Terms). q.bindings y) uses ∙ step_lacks P proc x s y (ap (λ (q : Terms). q.bindings y) (sym walks) ∙ none) in
     let before : (y : Name) → t.bindings y ≡ None → s.bindings y ≡ None =
-    λ y none. use_lacks p x s y (ap (λ (q : Terms). q.bindings y) (sym uses) ∙ none) in
+    λ y none. use_lacks proc x s y (ap (λ (q : Terms). q.bindings y) (sym uses) ∙ none) in
     record {
-      lead = ap (steps_walked P p xs) walks ∙ left.lead;
-      plain_steps = left.plain_steps ++ term_step P p x s ∷ [];
-      are_encodings = each_more EncodesStep encoded left.plain_steps one (term_step P p x s) left.are_encodings (subst (EncodesStep one) same_step encodes);
-      all_steps = append_assoc left.plain_steps (term_step P p x s ∷ []) (term_steps P p xs u)
-          ∙ ap (λ q. left.plain_steps ++ term_step P p x s ∷ term_steps P p xs q) walks ∙ left.all_steps;
-      meet = append_assoc states (s.bindings ∷ []) (met P p xs u) ∙ ap (λ q. states ++ s.bindings ∷ met P p xs q) walks ∙ left.meet;
+      lead = ap (steps_walked P proc xs) walks ∙ left.lead;
+      plain_steps = left.plain_steps ++ term_step P proc x s ∷ [];
+      are_encodings = each_more EncodesStep encoded left.plain_steps one (term_step P proc x s) left.are_encodings (subst (EncodesStep one) same_step encodes);
+      all_steps = append_assoc left.plain_steps (term_step P proc x s ∷ []) (term_steps P proc xs u)
+          ∙ ap (λ q. left.plain_steps ++ term_step P proc x s ∷ term_steps P proc xs q) walks ∙ left.all_steps;
+      meet = append_assoc states (s.bindings ∷ []) (met P proc xs u) ∙ ap (λ q. states ++ s.bindings ∷ met P proc xs q) walks ∙ left.meet;
       lack = λ y none.
           let mid = after y none in
           learn y ∙ none_learned (s.bindings y) (t.bindings y) (firsts y) (before y mid) mid (left.lack y (before y mid));
       first = λ y.
-          ap (λ f. known (u.bindings y) f (first_use P p xs c.way.check u y)) (learn y)
-          ∙ turn (s.bindings y) (t.bindings y) (u.bindings y) (firsts y) (first_use P p xs c.way.check u y) (after y) (before y) (left.lack y)
-          ∙ ap (λ (q : Terms). known (s.bindings y) (firsts y) (used_first (q.bindings y) (u.bindings y) (first_use P p xs c.way.check u y))) uses
-          ∙ ap (λ (q : Terms). known (s.bindings y) (firsts y) (used_first ((step_used p x s).bindings y) (q.bindings y) (first_use P p xs c.way.check q y))) walks
+          ap (λ f. known (u.bindings y) f (first_use P proc xs c.way.check u y)) (learn y)
+          ∙ turn (s.bindings y) (t.bindings y) (u.bindings y) (firsts y) (first_use P proc xs c.way.check u y) (after y) (before y) (left.lack y)
+          ∙ ap (λ (q : Terms). known (s.bindings y) (firsts y) (used_first (q.bindings y) (u.bindings y) (first_use P proc xs c.way.check u y))) uses
+          ∙ ap (λ (q : Terms). known (s.bindings y) (firsts y) (used_first ((step_used proc x s).bindings y) (q.bindings y) (first_use P proc xs c.way.check q y))) walks
           ∙ left.first y;
     }
 
 -- where no step is left, the check's uses are learned
-pub ended : (P : Program) (p : Procedure) (c : Condition) (s : Terms) (b firsts learns : Bindings) (states : List Bindings) (encoded : List TermStep) →
-    Follows P p [] c s firsts states encoded → b ≡ (check_used p c.way.check s).bindings → ((y : Name) → learns y ≡ learned (s.bindings y) (b y) (firsts y)) →
-    Followed P p c s learns (states ++ s.bindings ∷ []) encoded
-ended P p c s b firsts learns states encoded left used learn = record {
+pub ended : (P : Program) (proc : Procedure) (c : Condition) (s : Terms) (b firsts learns : Bindings) (states : List Bindings) (encoded : List TermStep) →
+    IsFollowed P proc [] c s firsts states encoded → b ≡ (check_used proc c.way.check s).bindings → ((y : Name) → learns y ≡ learned (s.bindings y) (b y) (firsts y)) →
+    Followed P proc c s learns (states ++ s.bindings ∷ []) encoded
+ended P proc c s b firsts learns states encoded left used learn = record {
   last = left.lead;
   are_encodings = subst (Each EncodesStep encoded) (sym (append-nil left.plain_steps) ∙ left.all_steps) left.are_encodings;
   meet = left.meet;
@@ -152,69 +152,69 @@ small_too e fits = subst (λ (q : Option ℕ). unwrap_or q 0 < 256) (sym e) fits
 passed : (a b later : Option ℕ) → a ≡ None → b ≡ None → later ≡ used_first a b later
 passed a b later one two = rw (one, two) refl
 
-all_encoded : (P : Program) (p : Procedure) (k : Check) (xs : List PathStep) (s : Terms) (firsts : Bindings) (bs : List (List Bond)) →
-    ((y : Name) → s.bindings y ≡ None → first_use P p xs k s y ≡ firsts y) → Each EncodesBinding bs (map (λ b. both b firsts) (met P p xs s)) → Each EncodesBinding bs (state_bindings P p xs k s)
-all_encoded P p k [] s firsts [] same all = absurd all
-all_encoded P p k [] s firsts (b ∷ bs) same all =
-    (λ y fits. let e = same_either (s.bindings y) (first_use P p [] k s y) (firsts y) (same y) in all.0 y (small_too e fits) ∙ e, all.1)
-all_encoded P p k (x ∷ xs) s firsts [] same all = absurd all
-all_encoded P p k (x ∷ xs) s firsts (b ∷ bs) same all =
-    (λ y fits. let e = same_either (s.bindings y) (first_use P p (x ∷ xs) k s y) (firsts y) (same y) in all.0 y (small_too e fits) ∙ e, all_encoded P p k xs (step_walked P p x s) firsts bs later all.1)
+all_encoded : (P : Program) (proc : Procedure) (k : Check) (xs : List PathStep) (s : Terms) (firsts : Bindings) (bs : List (List Bond)) →
+    ((y : Name) → s.bindings y ≡ None → first_use P proc xs k s y ≡ firsts y) → Each EncodesBinding bs (map (λ b. both b firsts) (met P proc xs s)) → Each EncodesBinding bs (state_bindings P proc xs k s)
+all_encoded P proc k [] s firsts [] same all = absurd all
+all_encoded P proc k [] s firsts (b ∷ bs) same all =
+    (λ y fits. let e = same_either (s.bindings y) (first_use P proc [] k s y) (firsts y) (same y) in all.0 y (small_too e fits) ∙ e, all.1)
+all_encoded P proc k (x ∷ xs) s firsts [] same all = absurd all
+all_encoded P proc k (x ∷ xs) s firsts (b ∷ bs) same all =
+    (λ y fits. let e = same_either (s.bindings y) (first_use P proc (x ∷ xs) k s y) (firsts y) (same y) in all.0 y (small_too e fits) ∙ e, all_encoded P proc k xs (step_walked P proc x s) firsts bs later all.1)
   where
-    later : (y : Name) → (step_walked P p x s).bindings y ≡ None → first_use P p xs k (step_walked P p x s) y ≡ firsts y
+    later : (y : Name) → (step_walked P proc x s).bindings y ≡ None → first_use P proc xs k (step_walked P proc x s) y ≡ firsts y
     later y none =
-        let mid : (step_used p x s).bindings y ≡ None = step_lacks P p x s y none in
-        passed ((step_used p x s).bindings y) ((step_walked P p x s).bindings y) (first_use P p xs k (step_walked P p x s) y) mid none ∙ same y (use_lacks p x s y mid)
+        let mid : (step_used proc x s).bindings y ≡ None = step_lacks P proc x s y none in
+        passed ((step_used proc x s).bindings y) ((step_walked P proc x s).bindings y) (first_use P proc xs k (step_walked P proc x s) y) mid none ∙ same y (use_lacks proc x s y mid)
 
 -- the bindings at the states, once the first uses are known
-pub bindings_encoded : (P : Program) (p : Procedure) (c : Condition) (firsts : Bindings) (bs : List (List Bond)) →
-    ((y : Name) → firsts y ≡ first_uses P p c y) → Each EncodesBinding bs (map (λ b. both b firsts) (met P p c.way.steps (begins p c.start))) →
-    Each EncodesBinding bs (state_bindings P p c.way.steps c.way.check (begins p c.start))
-bindings_encoded P p c firsts bs first all = all_encoded P p c.way.check c.way.steps (begins p c.start) firsts bs at_start all
+pub bindings_encoded : (P : Program) (proc : Procedure) (c : Condition) (firsts : Bindings) (bs : List (List Bond)) →
+    ((y : Name) → firsts y ≡ first_uses P proc c y) → Each EncodesBinding bs (map (λ b. both b firsts) (met P proc c.way.steps (begins proc c.start))) →
+    Each EncodesBinding bs (state_bindings P proc c.way.steps c.way.check (begins proc c.start))
+bindings_encoded P proc c firsts bs first all = all_encoded P proc c.way.check c.way.steps (begins proc c.start) firsts bs at_start all
   where
-    at_start : (y : Name) → (begins p c.start).bindings y ≡ None → first_use P p c.way.steps c.way.check (begins p c.start) y ≡ firsts y
-    at_start y none = sym (first y ∙ ap (λ o. known o None (first_use P p c.way.steps c.way.check (begins p c.start) y)) none)
+    at_start : (y : Name) → (begins proc c.start).bindings y ≡ None → first_use P proc c.way.steps c.way.check (begins proc c.start) y ≡ firsts y
+    at_start y none = sym (first y ∙ ap (λ o. known o None (first_use P proc c.way.steps c.way.check (begins proc c.start) y)) none)
 
-pub gone_on_to : (P : Program) (p : Procedure) (x : PathStep) (xs : List PathStep) (c : Condition) (s t u : Terms) (firsts learns : Bindings) (states after : List Bindings) (encoded later : List TermStep) (one : TermStep) →
-    Follows P p (x ∷ xs) c s firsts states encoded → t ≡ step_used p x s → t.version ≡ s.version → u ≡ step_done P p x t → EncodesStep one (step_encoding P p x t) →
-    ((y : Name) → learns y ≡ learned (s.bindings y) (t.bindings y) (firsts y)) → after ≡ states ++ s.bindings ∷ [] → later ≡ encoded ++ one ∷ [] → Follows P p xs c u learns after later
-gone_on_to P p x xs c s t u firsts learns states after encoded later one left uses version does encodes learn a l =
-    subst (λ ss. Follows P p xs c u learns ss later) (sym a)
-    (subst (λ ts. Follows P p xs c u learns (states ++ s.bindings ∷ []) ts) (sym l) (gone_on P p x xs c s t u firsts learns states encoded one left uses version does encodes learn))
+pub gone_on_to : (P : Program) (proc : Procedure) (x : PathStep) (xs : List PathStep) (c : Condition) (s t u : Terms) (firsts learns : Bindings) (states after : List Bindings) (encoded later : List TermStep) (one : TermStep) →
+    IsFollowed P proc (x ∷ xs) c s firsts states encoded → t ≡ step_used proc x s → t.version ≡ s.version → u ≡ step_done P proc x t → EncodesStep one (step_encoding P proc x t) →
+    ((y : Name) → learns y ≡ learned (s.bindings y) (t.bindings y) (firsts y)) → after ≡ states ++ s.bindings ∷ [] → later ≡ encoded ++ one ∷ [] → IsFollowed P proc xs c u learns after later
+gone_on_to P proc x xs c s t u firsts learns states after encoded later one left uses version does encodes learn a l =
+    subst (λ ss. IsFollowed P proc xs c u learns ss later) (sym a)
+    (subst (λ ts. IsFollowed P proc xs c u learns (states ++ s.bindings ∷ []) ts) (sym l) (gone_on P proc x xs c s t u firsts learns states encoded one left uses version does encodes learn))
 
 -- the next of some steps, as a walk comes to it: what was met before it and what it uses are kept
 pub gone_past : (set : Context) (P : Program) → program_in set ≡ P → (rs : List kept_step.PathStep) (i : ℕ) (r : kept_step.PathStep) (c : Condition) (u v w : Walker)
     (before firsts learns : Pairs) (states after : List Pairs) (encoded later : List TermStep) (one : TermStep) → i < length rs → r ≡ get_or rs i r →
-    Follows P (procedure_in set) (map step_of (drop i rs)) c (terms_at u) (bound_by firsts) (map bound_by states) encoded → before ≡ u.scope →
-    UsesStep set r u v → v.version ≡ u.version → DoesStep set r v w → ReadsStep set r v one → Learns before v.scope firsts learns →
-    after ≡ states ++ before ∷ [] → later ≡ encoded ++ one ∷ [] → Follows P (procedure_in set) (map step_of (drop (i + 1) rs)) c (terms_at w) (bound_by learns) (map bound_by after) later
+    IsFollowed P (procedure_in set) (map step_of (drop i rs)) c (terms_at u) (bound_by firsts) (map bound_by states) encoded → before ≡ u.scope →
+    UsesStep set r u v → v.version ≡ u.version → DoesStep set r v w → ReadsStep set r v one → LearnsTerms before v.scope firsts learns →
+    after ≡ states ++ before ∷ [] → later ≡ encoded ++ one ∷ [] → IsFollowed P (procedure_in set) (map step_of (drop (i + 1) rs)) c (terms_at w) (bound_by learns) (map bound_by after) later
 gone_past set P program rs i r c u v w before firsts learns states after encoded later one within is left copied uses version does reads learn a l =
-    let p = procedure_in set in
+    let proc = procedure_in set in
     let x = step_of r in
     let s = terms_at u in
     let t = terms_at v in
-    let now : Follows P p (map step_of (r ∷ drop (i + 1) rs)) c s (bound_by firsts) (map bound_by states) encoded =
-    subst (λ xs. Follows P p (map step_of xs) c s (bound_by firsts) (map bound_by states) encoded) (head_of rs i r within is) left in
+    let now : IsFollowed P proc (map step_of (r ∷ drop (i + 1) rs)) c s (bound_by firsts) (map bound_by states) encoded =
+    subst (λ xs. IsFollowed P proc (map step_of xs) c s (bound_by firsts) (map bound_by states) encoded) (head_of rs i r within is) left in
     let learnt : (y : Name) → bound_by learns y ≡ learned (s.bindings y) (t.bindings y) (bound_by firsts y) = λ y. rw copied at (learn y) in
     let meets : map bound_by after ≡ map bound_by states ++ s.bindings ∷ [] =
     ap (map bound_by) a ∙ map-append bound_by states (before ∷ []) ∙ ap (λ es. map bound_by states ++ bound_by es ∷ []) copied in
-    gone_on_to P p x (map step_of (drop (i + 1) rs)) c s t (terms_at w) (bound_by firsts) (bound_by learns) (map bound_by states) (map bound_by after) encoded later one now
-    uses version (subst (λ Q. terms_at w ≡ step_done Q p x t) program does) (subst (λ Q. EncodesStep one (step_encoding Q p x t)) program reads) learnt meets l
+    gone_on_to P proc x (map step_of (drop (i + 1) rs)) c s t (terms_at w) (bound_by firsts) (bound_by learns) (map bound_by states) (map bound_by after) encoded later one now
+    uses version (subst (λ Q. terms_at w ≡ step_done Q proc x t) program does) (subst (λ Q. EncodesStep one (step_encoding Q proc x t)) program reads) learnt meets l
 
 -- a walk to the end of a condition
-pub is_walked : (P : Program) (p : Procedure) (c : Condition) (s : Terms) (firsts : Bindings) (states : List Bindings) (w : Walked) →
-    Followed P p c s firsts states w.steps.items → EndsWith (check_walked P p c.way.check s) w.kinds w.version → EncodesCheck w.check (term_check P p c.way.check s) →
-    EncodesUnder w.start (under (meets_at p c.start) no_terms) → Each EncodesBinding w.bindings.items (map (λ b. both b firsts) states) →
-    (length (terms_of P p c.start c.way) ≡ length w.kinds → versions_of P p c.start c.way ≡ w.version + 1 → IsCount P p c w.counts) → IsWalked P p c w
-is_walked P p c s firsts states w f ends asks starts binds counts =
-    let whole : EndsWith (way_walked P p c.start c.way) w.kinds w.version = subst (λ q. EndsWith (check_walked P p c.way.check q) w.kinds w.version) f.last ends in
+pub is_walked : (P : Program) (proc : Procedure) (c : Condition) (s : Terms) (firsts : Bindings) (states : List Bindings) (w : Walked) →
+    Followed P proc c s firsts states w.steps.items → EndsWith (check_walked P proc c.way.check s) w.kinds w.version → EncodesCheck w.check (term_check P proc c.way.check s) →
+    EncodesUnder w.start (under (meets_at proc c.start) no_terms) → Each EncodesBinding w.bindings.items (map (λ b. both b firsts) states) →
+    (length (terms_of P proc c.start c.way) ≡ length w.kinds → versions_of P proc c.start c.way ≡ w.version + 1 → IsCount P proc c w.counts) → IsWalked P proc c w
+is_walked P proc c s firsts states w f ends asks starts binds counts =
+    let whole : EndsWith (way_walked P proc c.start c.way) w.kinds w.version = subst (λ q. EndsWith (check_walked P proc c.way.check q) w.kinds w.version) f.last ends in
     record {
       kinds_are = whole.kinds_are;
       versions_are = ap (λ v. v + 1) whole.version_is;
       counts_are = counts (ap length (sym whole.kinds_are)) (ap (λ v. v + 1) (sym whole.version_is));
       start_is = starts;
       steps_are = f.are_encodings;
-      check_is = subst (λ q. EncodesCheck w.check (term_check P p c.way.check q)) f.last asks;
-      bindings_are = bindings_encoded P p c firsts w.bindings.items f.first
+      check_is = subst (λ q. EncodesCheck w.check (term_check P proc c.way.check q)) f.last asks;
+      bindings_are = bindings_encoded P proc c firsts w.bindings.items f.first
           (subst (λ ms. Each EncodesBinding w.bindings.items (map (λ b. both b firsts) ms)) f.meet binds);
     }

@@ -105,22 +105,22 @@ loop_grows (Some l) xs s =
     let t = moved_on (walked l.invariant s) in
     onto (walked_grows l.invariant s) (onto (renewed_grows (filter (some_assigns l.body) xs) t) (walked_grows l.invariant (renewed (filter (some_assigns l.body) xs) t)))
 
-step_grows : (P : Program) (p : Procedure) (x : PathStep) (s : Terms) → size s ≤ size (step_walked P p x s)
-step_grows P p (accessed o) s = visited_grows o.name s
-step_grows P p (assume l e r) s = onto (expr_grows l s) (expr_grows r (expr_used l s))
-step_grows P p (assigned x e) s = expr_grows e s
-step_grows P p (made x) s = onto (value_grows s.kinds) (value_grows (with_value s.kinds))
-step_grows P p (written x e) s = onto (used_grows x.name s) (expr_grows e (used x.name s))
-step_grows P p (freed x) s = used_grows x.name s
-step_grows P p (called ys n es) s =
+step_grows : (P : Program) (proc : Procedure) (x : PathStep) (s : Terms) → size s ≤ size (step_walked P proc x s)
+step_grows P proc (accessed o) s = visited_grows o.name s
+step_grows P proc (assume l e r) s = onto (expr_grows l s) (expr_grows r (expr_used l s))
+step_grows P proc (assigned x e) s = expr_grows e s
+step_grows P proc (made x) s = onto (value_grows s.kinds) (value_grows (with_value s.kinds))
+step_grows P proc (written x e) s = onto (used_grows x.name s) (expr_grows e (used x.name s))
+step_grows P proc (freed x) s = used_grows x.name s
+step_grows P proc (called ys n es) s =
     let t = exprs_used es s in
     onto (exprs_grow es s) (call_grows (slice_get P.procedures n) (names ys) (exprs_terms es t) t)
-step_grows P p (looped n) s = loop_grows (slice_get (loops_of p) n) (variable_names p) s
-step_grows P p (answered es) s = exprs_grow es s
+step_grows P proc (looped n) s = loop_grows (slice_get (loops_of proc) n) (variable_names proc) s
+step_grows P proc (answered es) s = exprs_grow es s
 
-pub steps_grow : (P : Program) (p : Procedure) (xs : List PathStep) (s : Terms) → size s ≤ size (steps_walked P p xs s)
-steps_grow P p [] s = same (size s)
-steps_grow P p (x ∷ xs) s = onto (step_grows P p x s) (steps_grow P p xs (step_walked P p x s))
+pub steps_grow : (P : Program) (proc : Procedure) (xs : List PathStep) (s : Terms) → size s ≤ size (steps_walked P proc xs s)
+steps_grow P proc [] s = same (size s)
+steps_grow P proc (x ∷ xs) s = onto (step_grows P proc x s) (steps_grow P proc xs (step_walked P proc x s))
 
 pub entry_grows : (o : Option Procedure) (ts : List ℕ) (s : Terms) → size s ≤ size (entry_walked o ts s)
 entry_grows None ts s = same (size s)
@@ -130,11 +130,11 @@ invariant_grows : (o : Option Loop) (s : Terms) → size s ≤ size (invariant_w
 invariant_grows None s = same (size s)
 invariant_grows (Some l) s = walked_grows l.invariant s
 
-pub check_grows : (P : Program) (p : Procedure) (c : Check) (s : Terms) → size s ≤ size (check_walked P p c s)
-check_grows P p (access o) s = used_grows o.name s
-check_grows P p (entry at n es) s =
+pub check_grows : (P : Program) (proc : Procedure) (c : Check) (s : Terms) → size s ≤ size (check_walked P proc c s)
+check_grows P proc (access o) s = used_grows o.name s
+check_grows P proc (entry at n es) s =
     let t = exprs_used es s in
     onto (exprs_grow es s) (entry_grows (slice_get P.procedures n) (exprs_terms es t) t)
-check_grows P p (loop_entry at n) s = invariant_grows (slice_get (loops_of p) n) s
-check_grows P p (returned at) s = each_grows p.gives s
-check_grows P p (loop_end at n) s = invariant_grows (slice_get (loops_of p) n) s
+check_grows P proc (loop_entry at n) s = invariant_grows (slice_get (loops_of proc) n) s
+check_grows P proc (returned at) s = each_grows proc.gives s
+check_grows P proc (loop_end at n) s = invariant_grows (slice_get (loops_of proc) n) s

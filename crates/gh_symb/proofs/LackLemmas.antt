@@ -91,16 +91,16 @@ loop_lacks (Some l) ys s x none =
     renewed_lacks (filter (some_assigns l.body) ys) t x (walked_lacks l.invariant (renewed (filter (some_assigns l.body) ys) t) x none)
 
 -- what a step does after its uses
-pub step_lacks : (P : Program) (p : Procedure) (a : PathStep) (s : Terms) (x : Name) → Lacks (step_walked P p a s) x → Lacks (step_used p a s) x
-step_lacks P p (accessed o) s x none = none
-step_lacks P p (assume l e r) s x none = none
-step_lacks P p (assigned y e) s x none = bound_lacks (expr_used e s).bindings y.name (expr_term e (expr_used e s)) x none
-step_lacks P p (made y) s x none = bound_lacks s.bindings y.name (length s.kinds) x none
-step_lacks P p (written y e) s x none = none
-step_lacks P p (freed y) s x none = none
-step_lacks P p (called ys n es) s x none = call_lacks (slice_get P.procedures n) (names ys) (exprs_terms es (exprs_used es s)) (exprs_used es s) x none
-step_lacks P p (looped n) s x none = loop_lacks (slice_get (loops_of p) n) (variable_names p) s x none
-step_lacks P p (answered es) s x none = all_bound_lacks (exprs_used es s).bindings (results_of p) (exprs_terms es (exprs_used es s)) x none
+pub step_lacks : (P : Program) (proc : Procedure) (a : PathStep) (s : Terms) (x : Name) → Lacks (step_walked P proc a s) x → Lacks (step_used proc a s) x
+step_lacks P proc (accessed o) s x none = none
+step_lacks P proc (assume l e r) s x none = none
+step_lacks P proc (assigned y e) s x none = bound_lacks (expr_used e s).bindings y.name (expr_term e (expr_used e s)) x none
+step_lacks P proc (made y) s x none = bound_lacks s.bindings y.name (length s.kinds) x none
+step_lacks P proc (written y e) s x none = none
+step_lacks P proc (freed y) s x none = none
+step_lacks P proc (called ys n es) s x none = call_lacks (slice_get P.procedures n) (names ys) (exprs_terms es (exprs_used es s)) (exprs_used es s) x none
+step_lacks P proc (looped n) s x none = loop_lacks (slice_get (loops_of proc) n) (variable_names proc) s x none
+step_lacks P proc (answered es) s x none = all_bound_lacks (exprs_used es s).bindings (results_of proc) (exprs_terms es (exprs_used es s)) x none
 
 invariant_lacks : (o : Option Loop) (s : Terms) (x : Name) → Lacks (invariant_walked o s) x → Lacks s x
 invariant_lacks None s x none = none

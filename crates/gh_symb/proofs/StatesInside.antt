@@ -40,16 +40,16 @@ loop_grows (Some l) xs s =
     onto (renewed_grows (filter (some_assigns l.body) xs) t) (walked_grows l.invariant (renewed (filter (some_assigns l.body) xs) t))
 
 -- what a step does once its variables are used adds terms
-rest_grows : (P : Program) (p : Procedure) (x : path.PathStep) (s : Terms) → length (step_used p x s).kinds ≤ length (step_walked P p x s).kinds
-rest_grows P p (path.accessed o) s = followed_grows o.name (used o.name s)
-rest_grows P p (path.assume l e r) s = same _
-rest_grows P p (path.assigned x e) s = same _
-rest_grows P p (path.made x) s = onto (value_grows s.kinds) (value_grows (with_value s.kinds))
-rest_grows P p (path.written x e) s = same _
-rest_grows P p (path.freed x) s = same _
-rest_grows P p (path.called ys n es) s = let t = exprs_used es s in call_grows (slice_get P.procedures n) (names ys) (exprs_terms es t) t
-rest_grows P p (path.looped n) s = loop_grows (slice_get (loops_of p) n) (variable_names p) s
-rest_grows P p (path.answered es) s = same _
+rest_grows : (P : Program) (proc : Procedure) (x : path.PathStep) (s : Terms) → length (step_used proc x s).kinds ≤ length (step_walked P proc x s).kinds
+rest_grows P proc (path.accessed o) s = followed_grows o.name (used o.name s)
+rest_grows P proc (path.assume l e r) s = same _
+rest_grows P proc (path.assigned x e) s = same _
+rest_grows P proc (path.made x) s = onto (value_grows s.kinds) (value_grows (with_value s.kinds))
+rest_grows P proc (path.written x e) s = same _
+rest_grows P proc (path.freed x) s = same _
+rest_grows P proc (path.called ys n es) s = let t = exprs_used es s in call_grows (slice_get P.procedures n) (names ys) (exprs_terms es t) t
+rest_grows P proc (path.looped n) s = loop_grows (slice_get (loops_of proc) n) (variable_names proc) s
+rest_grows P proc (path.answered es) s = same _
 
 ask_extends : (p : Procedure) (k : path.Check) (s : Terms) → Extends s (check_used p k s)
 ask_extends p (path.access o) s = used_extends o.name s
@@ -58,28 +58,28 @@ ask_extends p (path.loop_entry at n) s = invariant_extends (slice_get (loops_of 
 ask_extends p (path.returned at) s = each_extends p.gives s
 ask_extends p (path.loop_end at n) s = invariant_extends (slice_get (loops_of p) n) s
 
-ask_grows : (P : Program) (p : Procedure) (k : path.Check) (s : Terms) → length (check_used p k s).kinds ≤ length (check_walked P p k s).kinds
-ask_grows P p (path.access o) s = same _
-ask_grows P p (path.entry at n es) s = let t = exprs_used es s in entry_grows (slice_get P.procedures n) (exprs_terms es t) t
-ask_grows P p (path.loop_entry at n) s = same _
-ask_grows P p (path.returned at) s = same _
-ask_grows P p (path.loop_end at n) s = same _
+ask_grows : (P : Program) (proc : Procedure) (k : path.Check) (s : Terms) → length (check_used proc k s).kinds ≤ length (check_walked P proc k s).kinds
+ask_grows P proc (path.access o) s = same _
+ask_grows P proc (path.entry at n es) s = let t = exprs_used es s in entry_grows (slice_get P.procedures n) (exprs_terms es t) t
+ask_grows P proc (path.loop_entry at n) s = same _
+ask_grows P proc (path.returned at) s = same _
+ask_grows P proc (path.loop_end at n) s = same _
 
-first_there : (n : ℕ) (P : Program) (p : Procedure) (xs : List path.PathStep) (k : path.Check) (s : Terms) → Sound s → length (check_walked P p k (steps_walked P p xs s)).kinds ≤ n → IsThere n (first_use P p xs k s)
-first_there n P p [] k s h l y =
-    let grows = ask_grows P p k s in
-    variables_there n (check_used p k s) ((ask_extends p k s).sound h) (omega (arith, l, grows)) y
-first_there n P p (x ∷ xs) k s h l y =
-    let t = step_walked P p x s in
-    let g = step_goes P p x s h in
-    let rest = steps_go P p xs t (g.sound h) in
-    let last = check_goes P p k (steps_walked P p xs t) (rest.sound (g.sound h)) in
-    let grows = rest_grows P p x s in
+first_there : (n : ℕ) (P : Program) (proc : Procedure) (xs : List path.PathStep) (k : path.Check) (s : Terms) → Sound s → length (check_walked P proc k (steps_walked P proc xs s)).kinds ≤ n → IsThere n (first_use P proc xs k s)
+first_there n P proc [] k s h l y =
+    let grows = ask_grows P proc k s in
+    variables_there n (check_used proc k s) ((ask_extends proc k s).sound h) (omega (arith, l, grows)) y
+first_there n P proc (x ∷ xs) k s h l y =
+    let t = step_walked P proc x s in
+    let g = step_goes P proc x s h in
+    let rest = steps_go P proc xs t (g.sound h) in
+    let last = check_goes P proc k (steps_walked P proc xs t) (rest.sound (g.sound h)) in
+    let grows = rest_grows P proc x s in
     let size = rest.size in
     let last_size = last.size in
-    by_use ((step_used p x s).bindings y) (t.bindings y) (first_use P p xs k t y)
-    (variables_there n (step_used p x s) ((use_extends p x s).sound h) (omega (arith, l, grows, size, last_size)) y)
-    (first_there n P p xs k t (g.sound h) l y)
+    by_use ((step_used proc x s).bindings y) (t.bindings y) (first_use P proc xs k t y)
+    (variables_there n (step_used proc x s) ((use_extends proc x s).sound h) (omega (arith, l, grows, size, last_size)) y)
+    (first_there n P proc xs k t (g.sound h) l y)
   where
     by_use : (a b c : Option ℕ) → unwrap_or a 0 < n → unwrap_or c 0 < n → unwrap_or (used_first a b c) 0 < n
     by_use (Some i) b c first later = first
@@ -90,27 +90,27 @@ either_there : (n : ℕ) (a b : Option ℕ) → unwrap_or a 0 < n → unwrap_or 
 either_there n (Some i) b first later = first
 either_there n None b first later = later
 
-states_there : (n : ℕ) (P : Program) (p : Procedure) (xs : List path.PathStep) (k : path.Check) (s : Terms) → Sound s → length (check_walked P p k (steps_walked P p xs s)).kinds ≤ n → All (IsThere n) (state_bindings P p xs k s)
-states_there n P p [] k s h l =
-    let last = check_goes P p k s h in
+states_there : (n : ℕ) (P : Program) (proc : Procedure) (xs : List path.PathStep) (k : path.Check) (s : Terms) → Sound s → length (check_walked P proc k (steps_walked P proc xs s)).kinds ≤ n → All (IsThere n) (state_bindings P proc xs k s)
+states_there n P proc [] k s h l =
+    let last = check_goes P proc k s h in
     let size = last.size in
-    All-cons (IsThere n) (λ y. either_term (s.bindings y) (first_use P p [] k s y)) []
-    (λ y. either_there n (s.bindings y) (first_use P p [] k s y) (variables_there n s h (omega (arith, l, size)) y) (first_there n P p [] k s h l y))
+    All-cons (IsThere n) (λ y. either_term (s.bindings y) (first_use P proc [] k s y)) []
+    (λ y. either_there n (s.bindings y) (first_use P proc [] k s y) (variables_there n s h (omega (arith, l, size)) y) (first_there n P proc [] k s h l y))
     (All-nil (IsThere n))
-states_there n P p (x ∷ xs) k s h l =
-    let t = step_walked P p x s in
-    let g = step_goes P p x s h in
-    let rest = steps_go P p xs t (g.sound h) in
-    let last = check_goes P p k (steps_walked P p xs t) (rest.sound (g.sound h)) in
+states_there n P proc (x ∷ xs) k s h l =
+    let t = step_walked P proc x s in
+    let g = step_goes P proc x s h in
+    let rest = steps_go P proc xs t (g.sound h) in
+    let last = check_goes P proc k (steps_walked P proc xs t) (rest.sound (g.sound h)) in
     let first_size = g.size in
     let size = rest.size in
     let last_size = last.size in
-    All-cons (IsThere n) (λ y. either_term (s.bindings y) (first_use P p (x ∷ xs) k s y)) (state_bindings P p xs k t)
-    (λ y. either_there n (s.bindings y) (first_use P p (x ∷ xs) k s y) (variables_there n s h (omega (arith, l, first_size, size, last_size)) y) (first_there n P p (x ∷ xs) k s h l y))
-    (states_there n P p xs k t (g.sound h) l)
+    All-cons (IsThere n) (λ y. either_term (s.bindings y) (first_use P proc (x ∷ xs) k s y)) (state_bindings P proc xs k t)
+    (λ y. either_there n (s.bindings y) (first_use P proc (x ∷ xs) k s y) (variables_there n s h (omega (arith, l, first_size, size, last_size)) y) (first_there n P proc (x ∷ xs) k s h l y))
+    (states_there n P proc xs k t (g.sound h) l)
 
-pub condition_states : (P : Program) (p : Procedure) (c : Condition) → All (IsThere (length (terms_of P p c.start c.way))) (symbolic_of P p c).bindings
-condition_states P p c =
-    let n = length (terms_of P p c.start c.way) in
-    let begun = (walked_extends (meets_at p c.start) no_terms).sound no_terms_sound in
-    states_there n P p c.way.steps c.way.check (begins p c.start) begun (same n)
+pub condition_states : (P : Program) (proc : Procedure) (c : Condition) → All (IsThere (length (terms_of P proc c.start c.way))) (symbolic_of P proc c).bindings
+condition_states P proc c =
+    let n = length (terms_of P proc c.start c.way) in
+    let begun = (walked_extends (meets_at proc c.start) no_terms).sound no_terms_sound in
+    states_there n P proc c.way.steps c.way.check (begins proc c.start) begun (same n)

@@ -7,4 +7,4 @@ use Rattle.gh_symb.proofs.StatesInside.{use_extends}
 
 -- no use begins a version
 pub two_parts : StepsHaveTwoParts
-two_parts P p x s = (sym (done_walked P p x s), sym (encoding_is P p x s (step_used p x s) refl (use_extends p x s).version))
+two_parts P proc x s = (sym (done_walked P proc x s), sym (encoding_is P proc x s (step_used proc x s) refl (use_extends proc x s).version))

@@ -183,10 +183,10 @@ loop_inside n v (Some l) xs s h =
       after = sym (at_end ∙ at_b ∙ ap (λ i. i + 1) at_a);
     }
 
-pub step_goes : (P : Program) (p : Procedure) (x : path.PathStep) (s : Terms) → Sound s → Goes s (step_walked P p x s)
-step_goes P p (path.accessed o) s h = extended s (step_walked P p (path.accessed o) s) (extends_onto (used_extends o.name s) (followed_extends o.name (used o.name s)))
-step_goes P p (path.assume l e r) s h = extended s (step_walked P p (path.assume l e r) s) (extends_onto (expr_extends l s) (expr_extends r (expr_used l s)))
-step_goes P p (path.assigned x e) s h =
+pub step_goes : (P : Program) (proc : Procedure) (x : path.PathStep) (s : Terms) → Sound s → Goes s (step_walked P proc x s)
+step_goes P proc (path.accessed o) s h = extended s (step_walked P proc (path.accessed o) s) (extends_onto (used_extends o.name s) (followed_extends o.name (used o.name s)))
+step_goes P proc (path.assume l e r) s h = extended s (step_walked P proc (path.assume l e r) s) (extends_onto (expr_extends l s) (expr_extends r (expr_used l s)))
+step_goes P proc (path.assigned x e) s h =
     let t = expr_used e s in
     let g = extended s t (expr_extends e s) in
     record {
@@ -195,7 +195,7 @@ step_goes P p (path.assigned x e) s h =
       sound = λ k. rebound_sound t (bound t.bindings x.name (expr_term e t)) (g.sound k)
           (bound_one (length t.kinds) t.bindings x.name (expr_term e t) (g.sound k).bindings (expr_there e s t (extends_same t) (g.sound k)));
     }
-step_goes P p (path.made x) s h =
+step_goes P proc (path.made x) s h =
     let one = renewed_one x.name s in
     let t = terms (with_value s.kinds) (bound s.bindings x.name (length s.kinds)) s.version in
     let size = value_size (with_value s.kinds) in
@@ -210,26 +210,26 @@ step_goes P p (path.made x) s h =
         bindings = bound_more (length (with_value s.kinds)) (length (with_value (with_value s.kinds))) (bound s.bindings x.name (length s.kinds)) (omega (arith, size)) mid.bindings;
       };
     }
-step_goes P p (path.written x e) s h =
+step_goes P proc (path.written x e) s h =
     let t = expr_used e (used x.name s) in
     goes_onto (extended s t (extends_onto (used_extends x.name s) (expr_extends e (used x.name s)))) (moved t)
-step_goes P p (path.freed x) s h = goes_onto (extended s (used x.name s) (used_extends x.name s)) (moved (used x.name s))
-step_goes P p (path.called ys n es) s h =
+step_goes P proc (path.freed x) s h = goes_onto (extended s (used x.name s) (used_extends x.name s)) (moved (used x.name s))
+step_goes P proc (path.called ys n es) s h =
     let t = exprs_used es s in
     goes_onto (extended s t (exprs_extend es s)) (call_goes (slice_get P.procedures n) (names ys) (exprs_terms es t) t ((exprs_extend es s).sound h) (arguments_below es s h))
-step_goes P p (path.looped n) s h = loop_goes (slice_get (loops_of p) n) (variable_names p) s
-step_goes P p (path.answered es) s h =
+step_goes P proc (path.looped n) s h = loop_goes (slice_get (loops_of proc) n) (variable_names proc) s
+step_goes P proc (path.answered es) s h =
     let t = exprs_used es s in
     let g = extended s t (exprs_extend es s) in
     record {
       size = g.size;
       version = g.version;
-      sound = λ k. rebound_sound t (all_bound t.bindings (results_of p) (exprs_terms es t)) (g.sound k)
-          (all_bound_in (length t.kinds) t.bindings (results_of p) (exprs_terms es t) (g.sound k).bindings (arguments_below es s k));
+      sound = λ k. rebound_sound t (all_bound t.bindings (results_of proc) (exprs_terms es t)) (g.sound k)
+          (all_bound_in (length t.kinds) t.bindings (results_of proc) (exprs_terms es t) (g.sound k).bindings (arguments_below es s k));
     }
 
-step_inside : (n v : ℕ) (P : Program) (p : Procedure) (x : path.PathStep) (s : Terms) → Sound s → Inside n v s (step_walked P p x s) (term_step P p x s)
-step_inside n v P p (path.accessed o) s h =
+step_inside : (n v : ℕ) (P : Program) (proc : Procedure) (x : path.PathStep) (s : Terms) → Sound s → Inside n v s (step_walked P proc x s) (term_step P proc x s)
+step_inside n v P proc (path.accessed o) s h =
     let t = used o.name s in
     let f = used_extends o.name s in
     let g = followed_extends o.name t in
@@ -237,7 +237,7 @@ step_inside n v P p (path.accessed o) s h =
     let size = extends_size t (followed o.name t) g in
     let same = g.version ∙ f.version in
     record { inside = λ l m. (omega (arith, l, there, size), omega (arith, m, same)); after = sym same }
-step_inside n v P p (path.assume l e r) s h =
+step_inside n v P proc (path.assume l e r) s h =
     let a = expr_used l s in
     let t = expr_used r a in
     let f = expr_extends l s in
@@ -246,12 +246,12 @@ step_inside n v P p (path.assume l e r) s h =
     let left = expr_there l s t g sound in
     let right = expr_there r a t (extends_same t) sound in
     record { inside = λ k m. (omega (arith, k, left), omega (arith, k, right)); after = sym (g.version ∙ f.version) }
-step_inside n v P p (path.assigned x e) s h = record { inside = λ l m. tt; after = sym (expr_extends e s).version }
-step_inside n v P p (path.made x) s h =
+step_inside n v P proc (path.assigned x e) s h = record { inside = λ l m. tt; after = sym (expr_extends e s).version }
+step_inside n v P proc (path.made x) s h =
     let size = value_size (with_value s.kinds) in
     let first = value_size s.kinds in
     record { inside = λ l m. (omega (arith, l, size, first), omega (arith, l, size, first), m); after = refl }
-step_inside n v P p (path.written x e) s h =
+step_inside n v P proc (path.written x e) s h =
     let a = used x.name s in
     let t = expr_used e a in
     let f = used_extends x.name s in
@@ -261,12 +261,12 @@ step_inside n v P p (path.written x e) s h =
     let content = expr_there e a t (extends_same t) sound in
     let same = g.version ∙ f.version in
     record { inside = λ l m. (omega (arith, l, place), omega (arith, l, content), omega (arith, m, same)); after = ap (λ i. i + 1) (sym same) }
-step_inside n v P p (path.freed x) s h =
+step_inside n v P proc (path.freed x) s h =
     let f = used_extends x.name s in
     let there = term_there x.name (used x.name s) (f.sound h) in
     let same = f.version in
     record { inside = λ l m. (omega (arith, l, there), omega (arith, m, same)); after = ap (λ i. i + 1) (sym same) }
-step_inside n v P p (path.called ys m es) s h =
+step_inside n v P proc (path.called ys m es) s h =
     let t = exprs_used es s in
     let g = exprs_extend es s in
     let o = slice_get P.procedures m in
@@ -274,25 +274,25 @@ step_inside n v P p (path.called ys m es) s h =
     let step = call_parts o (exprs_terms es t) t in
     subst (λ (i : ℕ). Inside n v (terms s.kinds s.bindings i) (call_walked o (names ys) (exprs_terms es t) t) step) g.version
     (record { inside = c.inside; after = c.after })
-step_inside n v P p (path.looped m) s h = loop_inside n v (slice_get (loops_of p) m) (variable_names p) s h
-step_inside n v P p (path.answered es) s h = record { inside = λ l m. tt; after = sym (exprs_extend es s).version }
+step_inside n v P proc (path.looped m) s h = loop_inside n v (slice_get (loops_of proc) m) (variable_names proc) s h
+step_inside n v P proc (path.answered es) s h = record { inside = λ l m. tt; after = sym (exprs_extend es s).version }
 
-pub steps_go : (P : Program) (p : Procedure) (xs : List path.PathStep) (s : Terms) → Sound s → Goes s (steps_walked P p xs s)
-steps_go P p [] s h = goes_same s
-steps_go P p (x ∷ xs) s h = let g = step_goes P p x s h in goes_onto g (steps_go P p xs (step_walked P p x s) (g.sound h))
+pub steps_go : (P : Program) (proc : Procedure) (xs : List path.PathStep) (s : Terms) → Sound s → Goes s (steps_walked P proc xs s)
+steps_go P proc [] s h = goes_same s
+steps_go P proc (x ∷ xs) s h = let g = step_goes P proc x s h in goes_onto g (steps_go P proc xs (step_walked P proc x s) (g.sound h))
 
-steps_inside : (n v : ℕ) (P : Program) (p : Procedure) (xs : List path.PathStep) (s : Terms) → Sound s → length (steps_walked P p xs s).kinds ≤ n → (steps_walked P p xs s).version < v
-    → AreStepsInside n v s.version (term_steps P p xs s)
-steps_inside n v P p [] s h l m = tt
-steps_inside n v P p (x ∷ xs) s h l m =
-    let t = step_walked P p x s in
-    let g = step_goes P p x s h in
-    let rest = steps_go P p xs t (g.sound h) in
+steps_inside : (n v : ℕ) (P : Program) (proc : Procedure) (xs : List path.PathStep) (s : Terms) → Sound s → length (steps_walked P proc xs s).kinds ≤ n → (steps_walked P proc xs s).version < v
+    → AreStepsInside n v s.version (term_steps P proc xs s)
+steps_inside n v P proc [] s h l m = tt
+steps_inside n v P proc (x ∷ xs) s h l m =
+    let t = step_walked P proc x s in
+    let g = step_goes P proc x s h in
+    let rest = steps_go P proc xs t (g.sound h) in
     let size = rest.size in
     let version = rest.version in
-    let here = step_inside n v P p x s h in (
+    let here = step_inside n v P proc x s h in (
       here.inside (omega (arith, l, size)) (omega (arith, m, version)),
-      subst (λ (i : ℕ). AreStepsInside n v i (term_steps P p xs t)) (sym here.after) (steps_inside n v P p xs t (g.sound h) l m),
+      subst (λ (i : ℕ). AreStepsInside n v i (term_steps P proc xs t)) (sym here.after) (steps_inside n v P proc xs t (g.sound h) l m),
     )
 
 entry_inside : (n v : ℕ) (o : Option Procedure) (ts : List ℕ) (s : Terms) → Sound s → AreBelow (length s.kinds) ts → length (entry_walked o ts s).kinds ≤ n → s.version < v → IsCheckInside n v (needs_under o ts s)
@@ -307,16 +307,16 @@ ended_inside : (n v : ℕ) (o : Option Loop) (s : Terms) → Sound s → length 
 ended_inside n v None s h l m = All-nil (IsUnderInside n v)
 ended_inside n v (Some r) s h l m = one_inside n v (under r.invariant s) (under_inside n v r.invariant s h l m)
 
-check_inside : (n v : ℕ) (P : Program) (p : Procedure) (k : path.Check) (s : Terms) → Sound s → length (check_walked P p k s).kinds ≤ n → s.version < v → IsCheckInside n v (term_check P p k s)
-check_inside n v P p (path.access o) s h l m = let there = term_there o.name (used o.name s) ((used_extends o.name s).sound h) in omega (arith, l, there)
-check_inside n v P p (path.entry at c es) s h l m =
+check_inside : (n v : ℕ) (P : Program) (proc : Procedure) (k : path.Check) (s : Terms) → Sound s → length (check_walked P proc k s).kinds ≤ n → s.version < v → IsCheckInside n v (term_check P proc k s)
+check_inside n v P proc (path.access o) s h l m = let there = term_there o.name (used o.name s) ((used_extends o.name s).sound h) in omega (arith, l, there)
+check_inside n v P proc (path.entry at c es) s h l m =
     let t = exprs_used es s in
     let g = exprs_extend es s in
     let same = g.version in
     entry_inside n v (slice_get P.procedures c) (exprs_terms es t) t (g.sound h) (arguments_below es s h) l (omega (arith, m, same))
-check_inside n v P p (path.loop_entry at c) s h l m = entered_inside n v (slice_get (loops_of p) c) s h l m
-check_inside n v P p (path.returned at) s h l m = each_inside n v p.gives s h l m
-check_inside n v P p (path.loop_end at c) s h l m = ended_inside n v (slice_get (loops_of p) c) s h l m
+check_inside n v P proc (path.loop_entry at c) s h l m = entered_inside n v (slice_get (loops_of proc) c) s h l m
+check_inside n v P proc (path.returned at) s h l m = each_inside n v proc.gives s h l m
+check_inside n v P proc (path.loop_end at c) s h l m = ended_inside n v (slice_get (loops_of proc) c) s h l m
 
 entry_goes : (o : Option Procedure) (ts : List ℕ) (s : Terms) → Sound s → AreBelow (length s.kinds) ts → Goes s (entry_walked o ts s)
 entry_goes None ts s h k = goes_same s
@@ -328,41 +328,41 @@ invariant_goes : (o : Option Loop) (s : Terms) → Goes s (invariant_walked o s)
 invariant_goes None s = goes_same s
 invariant_goes (Some r) s = walked_goes r.invariant s
 
-pub check_goes : (P : Program) (p : Procedure) (k : path.Check) (s : Terms) → Sound s → Goes s (check_walked P p k s)
-check_goes P p (path.access o) s h = extended s (used o.name s) (used_extends o.name s)
-check_goes P p (path.entry at n es) s h =
+pub check_goes : (P : Program) (proc : Procedure) (k : path.Check) (s : Terms) → Sound s → Goes s (check_walked P proc k s)
+check_goes P proc (path.access o) s h = extended s (used o.name s) (used_extends o.name s)
+check_goes P proc (path.entry at n es) s h =
     let t = exprs_used es s in
     let g = exprs_extend es s in
     goes_onto (extended s t g) (entry_goes (slice_get P.procedures n) (exprs_terms es t) t (g.sound h) (arguments_below es s h))
-check_goes P p (path.loop_entry at n) s h = invariant_goes (slice_get (loops_of p) n) s
-check_goes P p (path.returned at) s h = each_goes p.gives s
-check_goes P p (path.loop_end at n) s h = invariant_goes (slice_get (loops_of p) n) s
+check_goes P proc (path.loop_entry at n) s h = invariant_goes (slice_get (loops_of proc) n) s
+check_goes P proc (path.returned at) s h = each_goes proc.gives s
+check_goes P proc (path.loop_end at n) s h = invariant_goes (slice_get (loops_of proc) n) s
 
 pub no_terms_sound : Sound no_terms
 no_terms_sound = record { some = omega arith; successors = tt; bindings = nothing_bound 1 }
 
 -- a condition leads to terms that are listed
-pub condition_sound : (P : Program) (p : Procedure) (c : Condition) → Sound (way_walked P p c.start c.way)
-condition_sound P p c =
-    let first = begins p c.start in
-    let mid = steps_walked P p c.way.steps first in
-    let begun = (walked_extends (meets_at p c.start) no_terms).sound no_terms_sound in
-    let sound = (steps_go P p c.way.steps first begun).sound begun in
-    (check_goes P p c.way.check mid sound).sound sound
+pub condition_sound : (P : Program) (proc : Procedure) (c : Condition) → Sound (way_walked P proc c.start c.way)
+condition_sound P proc c =
+    let first = begins proc c.start in
+    let mid = steps_walked P proc c.way.steps first in
+    let begun = (walked_extends (meets_at proc c.start) no_terms).sound no_terms_sound in
+    let sound = (steps_go P proc c.way.steps first begun).sound begun in
+    (check_goes P proc c.way.check mid sound).sound sound
 
 abbrev pub IsItselfInside : Symbolic → Type 0
 IsItselfInside s = IsInside s.terms s.versions s.start s.steps s.check
 
-pub conditions_are_inside : (P : Program) (p : Procedure) (c : Condition) → IsItselfInside (symbolic_of P p c)
-conditions_are_inside P p c =
-    let first = begins p c.start in
-    let f = walked_extends (meets_at p c.start) no_terms in
+pub conditions_are_inside : (P : Program) (proc : Procedure) (c : Condition) → IsItselfInside (symbolic_of P proc c)
+conditions_are_inside P proc c =
+    let first = begins proc c.start in
+    let f = walked_extends (meets_at proc c.start) no_terms in
     let sound = f.sound no_terms_sound in
-    let mid = steps_walked P p c.way.steps first in
-    let g = steps_go P p c.way.steps first sound in
-    let last = check_walked P p c.way.check mid in
-    let k = check_goes P p c.way.check mid (g.sound sound) in
-    let whole = condition_sound P p c in
+    let mid = steps_walked P proc c.way.steps first in
+    let g = steps_go P proc c.way.steps first sound in
+    let last = check_walked P proc c.way.check mid in
+    let k = check_goes P proc c.way.check mid (g.sound sound) in
+    let whole = condition_sound P proc c in
     let n = length last.kinds in
     let v = last.version + 1 in
     let size = g.size in
@@ -373,7 +373,7 @@ conditions_are_inside P p c =
     record {
       terms = record { terms = refl; some = whole.some; successors = λ t i x e. (successor_at n v last.kinds whole.successors t i x e).0 };
       some_versions = omega arith;
-      start_is = under_inside n v (meets_at p c.start) no_terms no_terms_sound (omega (arith, size, later)) (omega arith);
-      steps_are = subst (λ (i : ℕ). AreStepsInside n v i (term_steps P p c.way.steps first)) zero_first (steps_inside n v P p c.way.steps first sound later (omega (arith, latest)));
-      check_is = check_inside n v P p c.way.check mid (g.sound sound) (omega arith) (omega (arith, latest));
+      start_is = under_inside n v (meets_at proc c.start) no_terms no_terms_sound (omega (arith, size, later)) (omega arith);
+      steps_are = subst (λ (i : ℕ). AreStepsInside n v i (term_steps P proc c.way.steps first)) zero_first (steps_inside n v P proc c.way.steps first sound later (omega (arith, latest)));
+      check_is = check_inside n v P proc c.way.check mid (g.sound sound) (omega arith) (omega (arith, latest));
     }

@@ -19,11 +19,11 @@ plain_of s =
       bindings = map binding_of s.bindings.items;
     }
 
--- s encodes the condition c of the procedure p over terms
-pub record IsSymbolic (P : Program) (p : Procedure) (c : Condition) (s : Symbolic) : Type 0 where
-  pub terms : map plain_kind s.terms ≡ (plain.symbolic_of P p c).terms
-  pub versions : s.versions ≡ (plain.symbolic_of P p c).versions
-  pub start : IsUnder s.start (plain.symbolic_of P p c).start
-  pub steps : Each IsTermStep s.steps.items (plain.symbolic_of P p c).steps
-  pub check : IsTermCheck s.check (plain.symbolic_of P p c).check
-  pub bindings : Each IsBinding s.bindings.items (plain.symbolic_of P p c).bindings
+-- s encodes the condition c of the procedure proc over terms
+pub record IsSymbolic (P : Program) (proc : Procedure) (c : Condition) (s : Symbolic) : Type 0 where
+  pub terms : map plain_kind s.terms ≡ (plain.symbolic_of P proc c).terms
+  pub versions : s.versions ≡ (plain.symbolic_of P proc c).versions
+  pub start : IsUnder s.start (plain.symbolic_of P proc c).start
+  pub steps : Each IsTermStep s.steps.items (plain.symbolic_of P proc c).steps
+  pub check : IsTermCheck s.check (plain.symbolic_of P proc c).check
+  pub bindings : Each IsBinding s.bindings.items (plain.symbolic_of P proc c).bindings

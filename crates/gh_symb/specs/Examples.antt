@@ -104,7 +104,7 @@ abbrev pub all_told : {A : Type 0} → (Procedure → Condition → A) → Progr
 all_told f P = flat_map (λ c. told f c (slice_get P.procedures c.procedure)) (conditions P)
 
 abbrev pub size_of : Program → Procedure → Condition → Size
-size_of P p c = size (versions_of P p c.start c.way) (length (terms_of P p c.start c.way))
+size_of P proc c = size (versions_of P proc c.start c.way) (length (terms_of P proc c.start c.way))
 
 abbrev pub sizes : Program → List Size
 sizes P = all_told (size_of P) P
@@ -140,7 +140,7 @@ used_late = record { fields = []; close = at 1 32; procedures = late ∷ [] }
 
 -- the terms of the variables of its procedure at each state of a condition
 abbrev pub states_of : Program → Procedure → Condition → List (List (Option ℕ))
-states_of P p c = map (λ b. map b (variable_names p)) (symbolic_of P p c).bindings
+states_of P proc c = map (λ b. map b (variable_names proc)) (symbolic_of P proc c).bindings
 
 abbrev pub all_states : Program → List (List (List (Option ℕ)))
 all_states P = all_told (states_of P) P

@@ -72,14 +72,14 @@ AreSuccessors n versions (value m ∷ ks) = AreSuccessors n versions ks
 AreSuccessors n versions (next i x ∷ ks) = (x < n) × (i < versions) × AreSuccessors n versions ks
 
 -- there are n terms, and each successor in the list is that of one of them
-pub record IsReady (n : ℕ) (kinds : List Kind) : Type 0 where
+pub record AreKinds (n : ℕ) (kinds : List Kind) : Type 0 where
   pub terms : n ≡ length kinds
   pub some : 1 ≤ n
   pub successors : (t i x : ℕ) → slice_get kinds t ≡ Some (next i x) → x < n
 
 -- the terms and the versions of a condition over terms are there
 pub record IsInside (kinds : List Kind) (versions : ℕ) (start : plain.Under) (steps : List plain.TermStep) (check : plain.TermCheck) : Type 0 where
-  pub terms : IsReady (length kinds) kinds
+  pub terms : AreKinds (length kinds) kinds
   pub some_versions : 1 ≤ versions
   pub start_is : IsUnderInside (length kinds) versions start
   pub steps_are : AreStepsInside (length kinds) versions 0 steps

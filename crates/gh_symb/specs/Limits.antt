@@ -8,12 +8,12 @@ use Rattle.gh_path.specs.Terms.{terms_of, versions_of}
 use Rattle.gh_symb.specs.declared.limits.SymbolicError.{SymbolicError}
 use Rattle.gh_symb.specs.declared.limits.SymbolicError.TheVariants.{Limit, OutOfMemory}
 
--- the condition c of the procedure p has more terms than the limit; it has more versions than the limit
+-- the condition c of the procedure proc has more terms than the limit; it has more versions than the limit
 abbrev pub HasTerms : Program → Procedure → Condition → Type 0
-HasTerms P p c = most_terms < length (terms_of P p c.start c.way)
+HasTerms P proc c = most_terms < length (terms_of P proc c.start c.way)
 
 abbrev pub HasVersions : Program → Procedure → Condition → Type 0
-HasVersions P p c = most_versions < versions_of P p c.start c.way
+HasVersions P proc c = most_versions < versions_of P proc c.start c.way
 
 -- the limit is reported at the name of the procedure p, with its kind and a count
 pub record IsLimitOf (p : Procedure) (kind count : ℕ) (l : limit.Limit) : Type 0 where
@@ -23,16 +23,16 @@ pub record IsLimitOf (p : Procedure) (kind count : ℕ) (l : limit.Limit) : Type
 
 -- the limit that a condition passes, terms before versions; counting stops one past the limit
 abbrev pub PassesLimit : Program → Procedure → Condition → limit.Limit → Type 0
-PassesLimit P p c l =
-    (HasTerms P p c × IsLimitOf p 6 (most_terms + 1) l) ⊎ ((HasTerms P p c → ⊥) × HasVersions P p c × IsLimitOf p 7 (most_versions + 1) l)
+PassesLimit P proc c l =
+    (HasTerms P proc c × IsLimitOf proc 6 (most_terms + 1) l) ⊎ ((HasTerms P proc c → ⊥) × HasVersions P proc c × IsLimitOf proc 7 (most_versions + 1) l)
 
-pub record PassesNone (P : Program) (p : Procedure) (c : Condition) : Type 0 where
-  pub terms : HasTerms P p c → ⊥
-  pub versions : HasVersions P p c → ⊥
+pub record PassesNone (P : Program) (proc : Procedure) (c : Condition) : Type 0 where
+  pub terms : HasTerms P proc c → ⊥
+  pub versions : HasVersions P proc c → ⊥
 
 abbrev pub Passes : Program → Procedure → Condition → Option limit.Limit → Type 0
-Passes P p c None = PassesNone P p c
-Passes P p c (Some l) = PassesLimit P p c l
+Passes P proc c None = PassesNone P proc c
+Passes P proc c (Some l) = PassesLimit P proc c l
 
 -- the limit of the first procedure with a condition that passes one: terms over the whole program before versions
 abbrev pub IsAdmitRefusal : Program → SymbolicError → Type 0
@@ -41,8 +41,8 @@ IsAdmitRefusal P OutOfMemory = ⊤
 
 -- the refusal of one condition
 abbrev pub IsConditionRefusal : Program → Procedure → Condition → SymbolicError → Type 0
-IsConditionRefusal P p c (Limit l) = PassesLimit P p c l
-IsConditionRefusal P p c OutOfMemory = ⊤
+IsConditionRefusal P proc c (Limit l) = PassesLimit P proc c l
+IsConditionRefusal P proc c OutOfMemory = ⊤
 
 abbrev pub IsRefusedBy : SymbolicError → Program → Procedure → Condition → Type 0
-IsRefusedBy e P p c = IsConditionRefusal P p c e
+IsRefusedBy e P proc c = IsConditionRefusal P proc c e

@@ -7,16 +7,16 @@ use Rattle.gh_path.specs.Conditions.{Condition, conditions}
 use Rattle.gh_path.specs.Terms.{terms_of, versions_of}
 use Rattle.gh_symb.specs.declared.count.Count.{Count}
 
--- how many terms and versions of the heap a condition of the procedure p has
+-- how many terms and versions of the heap a condition of the procedure proc has
 abbrev pub count_of : Program → Procedure → Condition → Count
-count_of P p c = record { terms = length (terms_of P p c.start c.way); versions = versions_of P p c.start c.way }
+count_of P proc c = record { terms = length (terms_of P proc c.start c.way); versions = versions_of P proc c.start c.way }
 
 abbrev pub no_count : Count
 no_count = record { terms = 0; versions = 0 }
 
 abbrev pub count_in : Program → Option Procedure → Condition → Count
 count_in P None c = no_count
-count_in P (Some p) c = count_of P p c
+count_in P (Some proc) c = count_of P proc c
 
 -- the same of a condition of a program, by its procedure; and of all conditions, in order
 abbrev pub condition_count : Program → Condition → Count

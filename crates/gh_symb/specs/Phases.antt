@@ -25,32 +25,32 @@ loop_encoding (Some l) xs t =
 
 -- the terms after a step whose variables are used
 abbrev pub step_done : Program → Procedure → path.PathStep → Terms → Terms
-step_done P p (path.accessed o) t = followed o.name t
-step_done P p (path.assume l e r) t = t
-step_done P p (path.assigned x e) t = rebound t (bound t.bindings x.name (expr_term e t))
-step_done P p (path.made x) t = terms (with_value (with_value t.kinds)) (bound t.bindings x.name (length t.kinds)) (t.version + 1)
-step_done P p (path.written x e) t = moved_on t
-step_done P p (path.freed x) t = moved_on t
-step_done P p (path.called ys n es) t = call_walked (slice_get P.procedures n) (names ys) (exprs_terms es t) t
-step_done P p (path.looped n) t = loop_done (slice_get (loops_of p) n) (variable_names p) t
-step_done P p (path.answered es) t = rebound t (all_bound t.bindings (results_of p) (exprs_terms es t))
+step_done P proc (path.accessed o) t = followed o.name t
+step_done P proc (path.assume l e r) t = t
+step_done P proc (path.assigned x e) t = rebound t (bound t.bindings x.name (expr_term e t))
+step_done P proc (path.made x) t = terms (with_value (with_value t.kinds)) (bound t.bindings x.name (length t.kinds)) (t.version + 1)
+step_done P proc (path.written x e) t = moved_on t
+step_done P proc (path.freed x) t = moved_on t
+step_done P proc (path.called ys n es) t = call_walked (slice_get P.procedures n) (names ys) (exprs_terms es t) t
+step_done P proc (path.looped n) t = loop_done (slice_get (loops_of proc) n) (variable_names proc) t
+step_done P proc (path.answered es) t = rebound t (all_bound t.bindings (results_of proc) (exprs_terms es t))
 
 -- a step over terms, once its variables are used
 abbrev pub step_encoding : Program → Procedure → path.PathStep → Terms → plain.TermStep
-step_encoding P p (path.accessed o) t = plain.accessed (term_of o.name t)
-step_encoding P p (path.assume l e r) t = plain.assumed (expr_term l t) e (expr_term r t)
-step_encoding P p (path.assigned x e) t = plain.same
-step_encoding P p (path.made x) t = plain.made (length t.kinds) (length t.kinds + 1)
-step_encoding P p (path.written x e) t = plain.written (term_of x.name t) (expr_term e t)
-step_encoding P p (path.freed x) t = plain.freed (term_of x.name t)
-step_encoding P p (path.called ys n es) t = call_parts (slice_get P.procedures n) (exprs_terms es t) t
-step_encoding P p (path.looped n) t = loop_encoding (slice_get (loops_of p) n) (variable_names p) t
-step_encoding P p (path.answered es) t = plain.same
+step_encoding P proc (path.accessed o) t = plain.accessed (term_of o.name t)
+step_encoding P proc (path.assume l e r) t = plain.assumed (expr_term l t) e (expr_term r t)
+step_encoding P proc (path.assigned x e) t = plain.same
+step_encoding P proc (path.made x) t = plain.made (length t.kinds) (length t.kinds + 1)
+step_encoding P proc (path.written x e) t = plain.written (term_of x.name t) (expr_term e t)
+step_encoding P proc (path.freed x) t = plain.freed (term_of x.name t)
+step_encoding P proc (path.called ys n es) t = call_parts (slice_get P.procedures n) (exprs_terms es t) t
+step_encoding P proc (path.looped n) t = loop_encoding (slice_get (loops_of proc) n) (variable_names proc) t
+step_encoding P proc (path.answered es) t = plain.same
 
 -- both parts, one after the other, are the whole step
 abbrev pub StepsHaveTwoParts : Type 0
-StepsHaveTwoParts = (P : Program) (p : Procedure) (x : path.PathStep) (s : Terms) → let t = step_used p x s in
-    (step_walked P p x s ≡ step_done P p x t) × (term_step P p x s ≡ step_encoding P p x t)
+StepsHaveTwoParts = (P : Program) (proc : Procedure) (x : path.PathStep) (s : Terms) → let t = step_used proc x s in
+    (step_walked P proc x s ≡ step_done P proc x t) × (term_step P proc x s ≡ step_encoding P proc x t)
 
 -- these terms, and others where there are none
 abbrev pub both : Bindings → Bindings → Bindings

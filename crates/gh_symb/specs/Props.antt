@@ -7,7 +7,7 @@ use Rattle.gh_path.specs.Terms.{Kind}
 use Rattle.gh_symb.specs.Symbolic as plain
 use Rattle.gh_symb.specs.Symbolic.{accessed, assumed, same, written, made, freed, parts, access, sub, whole}
 use Rattle.gh_symb.specs.Formulas.{version_after}
-use Rattle.gh_symb.specs.Inside.{IsUnderInside, AllAreInside, IsStepInside, AreStepsInside, IsCheckInside, IsReady}
+use Rattle.gh_symb.specs.Inside.{IsUnderInside, AllAreInside, IsStepInside, AreStepsInside, IsCheckInside, AreKinds}
 use Rattle.gh_symb.specs.Inside.{IsInside}
 
 IsUnderInside-prop : (n v : ℕ) (u : plain.Under) → IsProp (IsUnderInside n v u)
@@ -37,8 +37,8 @@ IsCheckInside-prop n v (access x) = le_prop
 IsCheckInside-prop n v (sub u) = IsUnderInside-prop n v u
 IsCheckInside-prop n v (whole us) = AllAreInside-prop n v us
 
-IsReady-prop : (n : ℕ) (ks : List Kind) → IsProp (IsReady n ks)
-IsReady-prop n ks p q = λ i. record {
+AreKinds-prop : (n : ℕ) (ks : List Kind) → IsProp (AreKinds n ks)
+AreKinds-prop n ks p q = λ i. record {
   terms = ℕ_set n (length ks) p.terms q.terms i;
   some = le_prop p.some q.some i;
   successors = Π_prop (λ t. Π_prop (λ j. Π_prop (λ x. Π_prop (λ e. le_prop)))) p.successors q.successors i;
@@ -46,7 +46,7 @@ IsReady-prop n ks p q = λ i. record {
 
 pub IsInside-prop : (ks : List Kind) (v : ℕ) (start : plain.Under) (steps : List plain.TermStep) (check : plain.TermCheck) → IsProp (IsInside ks v start steps check)
 IsInside-prop ks v start steps check p q = λ i. record {
-  terms = IsReady-prop (length ks) ks p.terms q.terms i;
+  terms = AreKinds-prop (length ks) ks p.terms q.terms i;
   some_versions = le_prop p.some_versions q.some_versions i;
   start_is = IsUnderInside-prop (length ks) v start p.start_is q.start_is i;
   steps_are = AreStepsInside-prop (length ks) v 0 steps p.steps_are q.steps_are i;

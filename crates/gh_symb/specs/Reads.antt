@@ -53,5 +53,5 @@ abbrev pub LearnsOne : Pairs → Entry → Pairs → Pairs → Type 0
 LearnsOne before e old new = bound_by new ≡ bound_unless (bound_by before e.name.now) (bound_by old) e.name.now e.term
 
 -- the variables that had no term before and have one now are bound to it
-abbrev pub Learns : Pairs → Pairs → Pairs → Pairs → Type 0
-Learns before now old new = (x : Name) → bound_by new x ≡ learned (bound_by before x) (bound_by now x) (bound_by old x)
+abbrev pub LearnsTerms : Pairs → Pairs → Pairs → Pairs → Type 0
+LearnsTerms before now old new = (x : Name) → bound_by new x ≡ learned (bound_by before x) (bound_by now x) (bound_by old x)

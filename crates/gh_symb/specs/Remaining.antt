@@ -8,4 +8,4 @@ use Rattle.gh_symb.specs.Symbolic.{begins}
 
 -- the steps that are left lead to the terms to which all steps lead
 abbrev pub Remains : Program → Procedure → List PathStep → Condition → Terms → Type 0
-Remains P p steps c s = steps_walked P p steps s ≡ steps_walked P p c.way.steps (begins p c.start)
+Remains P proc steps c s = steps_walked P proc steps s ≡ steps_walked P proc c.way.steps (begins proc c.start)

@@ -54,17 +54,17 @@ KeepsHeap (step.Return es) = Unit {0}
 KeepsHeap s = ⊥
 
 -- a condition has so many terms and versions, and no more terms than the limit
-pub record AreCounted (P : Program) (p : Procedure) (c : Condition) (terms versions : ℕ) : Type 0 where
-  pub terms_are : length (terms_of P p c.start c.way) ≡ terms
-  pub versions_are : versions_of P p c.start c.way ≡ versions
+pub record AreCounted (P : Program) (proc : Procedure) (c : Condition) (terms versions : ℕ) : Type 0 where
+  pub terms_are : length (terms_of P proc c.start c.way) ≡ terms
+  pub versions_are : versions_of P proc c.start c.way ≡ versions
   pub few : terms ≤ most_terms
 
 -- the numbers of terms and versions of a condition, or that there are too many terms
 abbrev pub IsCount : Program → Procedure → Condition → Counted → Type 0
-IsCount P p c (Within terms versions) = AreCounted P p c terms versions
-IsCount P p c ManyTerms = most_terms < length (terms_of P p c.start c.way)
+IsCount P proc c (Within terms versions) = AreCounted P proc c terms versions
+IsCount P proc c ManyTerms = most_terms < length (terms_of P proc c.start c.way)
 
 -- the count of each condition that has so many terms and versions
 abbrev pub IsCountOf : ℕ → ℕ → Counted → Type 0
 IsCountOf terms versions n =
-    (P : Program) (p : Procedure) (c : Condition) → length (terms_of P p c.start c.way) ≡ terms → versions_of P p c.start c.way ≡ versions → IsCount P p c n
+    (P : Program) (proc : Procedure) (c : Condition) → length (terms_of P proc c.start c.way) ≡ terms → versions_of P proc c.start c.way ≡ versions → IsCount P proc c n

@@ -59,21 +59,21 @@ loop_parts None xs s = same
 loop_parts (Some l) xs s =
     parts (under l.invariant s) (under l.invariant (renewed (filter (some_assigns l.body) xs) (moved_on (walked l.invariant s))) ∷ [])
 
--- a step of a path of the procedure p over terms, from the terms before it
+-- a step of a path of the procedure proc over terms, from the terms before it
 abbrev pub term_step : Program → Procedure → path.PathStep → Terms → TermStep
-term_step P p (path.accessed o) s = accessed (term_of o.name (used o.name s))
-term_step P p (path.assume l e r) s = let t = expr_used r (expr_used l s) in assumed (expr_term l t) e (expr_term r t)
-term_step P p (path.assigned x e) s = same
-term_step P p (path.made x) s = made (length s.kinds) (length s.kinds + 1)
-term_step P p (path.written x e) s = let t = expr_used e (used x.name s) in written (term_of x.name t) (expr_term e t)
-term_step P p (path.freed x) s = freed (term_of x.name (used x.name s))
-term_step P p (path.called ys n es) s = let t = exprs_used es s in call_parts (slice_get P.procedures n) (exprs_terms es t) t
-term_step P p (path.looped n) s = loop_parts (slice_get (loops_of p) n) (variable_names p) s
-term_step P p (path.answered es) s = same
+term_step P proc (path.accessed o) s = accessed (term_of o.name (used o.name s))
+term_step P proc (path.assume l e r) s = let t = expr_used r (expr_used l s) in assumed (expr_term l t) e (expr_term r t)
+term_step P proc (path.assigned x e) s = same
+term_step P proc (path.made x) s = made (length s.kinds) (length s.kinds + 1)
+term_step P proc (path.written x e) s = let t = expr_used e (used x.name s) in written (term_of x.name t) (expr_term e t)
+term_step P proc (path.freed x) s = freed (term_of x.name (used x.name s))
+term_step P proc (path.called ys n es) s = let t = exprs_used es s in call_parts (slice_get P.procedures n) (exprs_terms es t) t
+term_step P proc (path.looped n) s = loop_parts (slice_get (loops_of proc) n) (variable_names proc) s
+term_step P proc (path.answered es) s = same
 
 abbrev pub term_steps : Program → Procedure → List path.PathStep → Terms → List TermStep
-term_steps P p [] s = []
-term_steps P p (x ∷ xs) s = term_step P p x s ∷ term_steps P p xs (step_walked P p x s)
+term_steps P proc [] s = []
+term_steps P proc (x ∷ xs) s = term_step P proc x s ∷ term_steps P proc xs (step_walked P proc x s)
 
 -- what is asked where a procedure is called, its parameters bound to the terms of the arguments
 abbrev pub needs_under : Option Procedure → List ℕ → Terms → TermCheck
@@ -89,13 +89,13 @@ abbrev pub ended_under : Option Loop → Terms → TermCheck
 ended_under None s = whole []
 ended_under (Some l) s = whole (under l.invariant s ∷ [])
 
--- a check of the procedure p over terms, from the terms before it
+-- a check of the procedure proc over terms, from the terms before it
 abbrev pub term_check : Program → Procedure → path.Check → Terms → TermCheck
-term_check P p (path.access o) s = access (term_of o.name (used o.name s))
-term_check P p (path.entry at n es) s = let t = exprs_used es s in needs_under (slice_get P.procedures n) (exprs_terms es t) t
-term_check P p (path.loop_entry at n) s = entered_under (slice_get (loops_of p) n) s
-term_check P p (path.returned at) s = whole (each_under p.gives s)
-term_check P p (path.loop_end at n) s = ended_under (slice_get (loops_of p) n) s
+term_check P proc (path.access o) s = access (term_of o.name (used o.name s))
+term_check P proc (path.entry at n es) s = let t = exprs_used es s in needs_under (slice_get P.procedures n) (exprs_terms es t) t
+term_check P proc (path.loop_entry at n) s = entered_under (slice_get (loops_of proc) n) s
+term_check P proc (path.returned at) s = whole (each_under proc.gives s)
+term_check P proc (path.loop_end at n) s = ended_under (slice_get (loops_of proc) n) s
 
 -- the variables that a step uses have terms, and nothing is assigned yet
 abbrev pub step_used : Procedure → path.PathStep → Terms → Terms
@@ -125,10 +125,10 @@ used_first None None later = later
 
 -- the term that a variable gets at its first use; none where it is assigned before
 abbrev pub first_use : Program → Procedure → List path.PathStep → path.Check → Terms → Bindings
-first_use P p [] k s y = (check_used p k s).bindings y
-first_use P p (x ∷ xs) k s y =
-    let t = step_walked P p x s in
-    used_first ((step_used p x s).bindings y) (t.bindings y) (first_use P p xs k t y)
+first_use P proc [] k s y = (check_used proc k s).bindings y
+first_use P proc (x ∷ xs) k s y =
+    let t = step_walked P proc x s in
+    used_first ((step_used proc x s).bindings y) (t.bindings y) (first_use P proc xs k t y)
 
 -- what a variable got before, else what it gets at its first use
 abbrev pub either_term : Option ℕ → Option ℕ → Option ℕ
@@ -137,9 +137,9 @@ either_term None later = later
 
 -- the terms of the variables at each state
 abbrev pub state_bindings : Program → Procedure → List path.PathStep → path.Check → Terms → List Bindings
-state_bindings P p [] k s = (λ y. either_term (s.bindings y) (first_use P p [] k s y)) ∷ []
-state_bindings P p (x ∷ xs) k s =
-    (λ y. either_term (s.bindings y) (first_use P p (x ∷ xs) k s y)) ∷ state_bindings P p xs k (step_walked P p x s)
+state_bindings P proc [] k s = (λ y. either_term (s.bindings y) (first_use P proc [] k s y)) ∷ []
+state_bindings P proc (x ∷ xs) k s =
+    (λ y. either_term (s.bindings y) (first_use P proc (x ∷ xs) k s y)) ∷ state_bindings P proc xs k (step_walked P proc x s)
 
 pub record Symbolic : Type 0 where
   pub terms : List Kind
@@ -154,13 +154,13 @@ abbrev pub begins : Procedure → Start → Terms
 begins p a = walked (meets_at p a) no_terms
 
 abbrev pub symbolic_of : Program → Procedure → Condition → Symbolic
-symbolic_of P p c =
-    let first = begins p c.start in
+symbolic_of P proc c =
+    let first = begins proc c.start in
     record {
-      terms = terms_of P p c.start c.way;
-      versions = versions_of P p c.start c.way;
-      start = under (meets_at p c.start) no_terms;
-      steps = term_steps P p c.way.steps first;
-      check = term_check P p c.way.check (steps_walked P p c.way.steps first);
-      bindings = state_bindings P p c.way.steps c.way.check first;
+      terms = terms_of P proc c.start c.way;
+      versions = versions_of P proc c.start c.way;
+      start = under (meets_at proc c.start) no_terms;
+      steps = term_steps P proc c.way.steps first;
+      check = term_check P proc c.way.check (steps_walked P proc c.way.steps first);
+      bindings = state_bindings P proc c.way.steps c.way.check first;
     }

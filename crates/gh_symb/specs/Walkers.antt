@@ -64,10 +64,10 @@ ReadsStep s r v encoded = EncodesStep encoded (step_encoding (program_in s) (pro
 
 -- the same whatever the program is
 abbrev pub DoesAnywhere : kept_step.PathStep → Walker → Walker → Type 0
-DoesAnywhere r v w = (P : Program) (p : Procedure) → Goes (step_done P p (step_of r)) v w
+DoesAnywhere r v w = (P : Program) (proc : Procedure) → Goes (step_done P proc (step_of r)) v w
 
 abbrev pub ReadsAnywhere : kept_step.PathStep → Walker → TermStep → Type 0
-ReadsAnywhere r v encoded = (P : Program) (p : Procedure) → EncodesStep encoded (step_encoding P p (step_of r) (terms_at v))
+ReadsAnywhere r v encoded = (P : Program) (proc : Procedure) → EncodesStep encoded (step_encoding P proc (step_of r) (terms_at v))
 
 -- the invariant of the loop of a number is walked
 abbrev pub WalksInvariant : Context → ℕ → Walker → Walker → Type 0

@@ -4,7 +4,7 @@ ghost use Rattle.std.specs.Prelude.{IfOk, OnOk};
 ghost use Rattle.gh_symb.specs.Tables.{bound_by, Walks};
 ghost use Rattle.gh_symb.specs.Fitting.{EncodesBeside, EncodesBinding};
 ghost use Rattle.gh_symb.specs.Inside.{binding_of};
-ghost use Rattle.gh_symb.specs.Reads.{walked_of, Learns, ReadsBound, ReadsEach, ReadsStates, ReadsWalked, WalksEach};
+ghost use Rattle.gh_symb.specs.Reads.{walked_of, LearnsTerms, ReadsBound, ReadsEach, ReadsStates, ReadsWalked, WalksEach};
 
 use crate::kinds::Kinds;
 use crate::numbers::{short, term_of};
@@ -88,7 +88,7 @@ impl<'a> Scope<'a> {
 
     /// Variables that had no term before and have one now are remembered with it.
     pub fn learn(&mut self, before: &Scope<'a>, now: &Scope<'a>) -> Result<(), AllocError>
-        ensures { OnOk result (Learns before.now now.now self.old self.new) }
+        ensures { OnOk result (LearnsTerms before.now now.now self.old self.new) }
     {
         for entry in now.entries() {
             self.learn_one(before, entry)?;

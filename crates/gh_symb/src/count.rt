@@ -31,10 +31,10 @@ pub struct Count {
 impl Counted {
     /// The numbers where the limits are kept, else zeros.
     pub(crate) fn count(self) -> Count
-        ensures kept { (P : Program) (p : Procedure) (c : Condition) → IsCount P p c self →
-            PassesNone P p c → result ≡ count_of P p c }
-        ensures zeros { (P : Program) (p : Procedure) (c : Condition) → IsCount P p c self →
-            (PassesNone P p c → ⊥) → result ≡ no_count }
+        ensures kept { (P : Program) (proc : Procedure) (c : Condition) → IsCount P proc c self →
+            PassesNone P proc c → result ≡ count_of P proc c }
+        ensures zeros { (P : Program) (proc : Procedure) (c : Condition) → IsCount P proc c self →
+            (PassesNone P proc c → ⊥) → result ≡ no_count }
     {
         match self {
             Counted::Within { terms, versions } => {

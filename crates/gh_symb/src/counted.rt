@@ -15,7 +15,7 @@ use std::alloc::{AllocError, Global};
 /// Counts the terms and versions of a condition of a program.
 pub fn counted(alloc: Global, typed: &Typed, condition: &Condition) -> Result<Counted, AllocError>
     requires { IsScoped (program_of typed.now) condition.now }
-    ensures { IfOk result (λ n. HoldsFor (program_of typed.now) condition.now (λ P p c. IsCount P p c n)) }
+    ensures { IfOk result (λ n. HoldsFor (program_of typed.now) condition.now (λ P proc c. IsCount P proc c n)) }
 {
     let context = context_of(typed, condition);
     let mut walker = Walker::new(alloc)?;

@@ -48,7 +48,7 @@ fn limit_at(procedure: &Procedure, kind: u8, count: u32) -> Limit
 /// The limit on terms, as a condition of a program passes it.
 pub(crate) fn terms_limit(typed: &Typed, condition: &Condition) -> Limit
     requires { IsScoped (program_of typed.now) condition.now }
-    ensures { HoldsFor (program_of typed.now) condition.now (λ P p c. IsLimitOf p 6 (most_terms + 1) result) }
+    ensures { HoldsFor (program_of typed.now) condition.now (λ P proc c. IsLimitOf proc 6 (most_terms + 1) result) }
 {
     let procedure = &typed.program().procedures[condition.procedure as usize];
     limit_at(procedure, 6, MOST_TERMS as u32 + 1)
@@ -58,7 +58,8 @@ pub(crate) fn terms_limit(typed: &Typed, condition: &Condition) -> Limit
 /// kind 7.
 pub(crate) fn limit_of(typed: &Typed, condition: &Condition, counts: Counted) -> Option<Limit>
     requires { IsScoped (program_of typed.now) condition.now }
-    ensures { HoldsFor (program_of typed.now) condition.now (λ P p c. IsCount P p c counts → Passes P p c result) }
+    ensures { HoldsFor (program_of typed.now) condition.now (λ P proc c.
+        IsCount P proc c counts → Passes P proc c result) }
 {
     match counts {
         Counted::ManyTerms => Some(terms_limit(typed, condition)),

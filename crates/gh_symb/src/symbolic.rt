@@ -41,7 +41,7 @@ fn walk<'a>(
     condition: &'a Condition,
 ) -> Result<Option<Walked<'a>>, AllocError>
     requires { IsScoped (program_of typed.now) condition.now }
-    ensures { IfOk result (λ o. HoldsFor (program_of typed.now) condition.now (λ P p c. IsWalkedFar P p c o)) }
+    ensures { IfOk result (λ o. HoldsFor (program_of typed.now) condition.now (λ P proc c. IsWalkedFar P proc c o)) }
 {
     let context = context_of(typed, condition);
     let mut walker = Walker::new(alloc)?;
@@ -79,7 +79,7 @@ fn walk<'a>(
 
 /// The condition over terms of a condition that passes no limit.
 fn encode<'a>(alloc: Global, walked: Walked<'a>) -> Result<Symbolic<'a>, AllocError>
-    requires { (P : Program) × (p : Procedure) × (c : plain.Condition) × IsWithinLimits P p c walked }
+    requires { (P : Program) × (proc : Procedure) × (c : plain.Condition) × IsWithinLimits P proc c walked }
     ensures { IfOk result (EncodesWalked walked.entry) }
 {
     let terms = walked.kinds.encode(alloc)?;
@@ -101,7 +101,8 @@ pub fn symbolic<'a>(
     condition: &'a Condition,
 ) -> Result<Symbolic<'a>, SymbolicError>
     requires { IsScoped (program_of typed.now) condition.now }
-    ensures encoded { IfOk result (λ s. HoldsFor (program_of typed.now) condition.now (λ P p c. IsSymbolic P p c s)) }
+    ensures encoded { IfOk result (λ s.
+        HoldsFor (program_of typed.now) condition.now (λ P proc c. IsSymbolic P proc c s)) }
     ensures few { IfOk result (λ _. HoldsFor (program_of typed.now) condition.now PassesNone) }
     ensures refused { IfErr result (λ e. HoldsFor (program_of typed.now) condition.now (IsRefusedBy e)) }
 {

@@ -15,7 +15,7 @@ use Rattle.gh_top.specs.Laws.{FirstsAreOne}
 use Rattle.gh_top.specs.Reports.{IsFirstRefuted}
 use Rattle.gh_trace.proofs.FirstRefuted.{first_at, first_low}
 use Rattle.gh_trace.specs.Kept.{state_of, drawn}
-use Rattle.gh_trace.specs.Refuted.{IsFirst}
+use Rattle.gh_trace.specs.Refuted.{ShowsFirst}
 use Rattle.gh_trace.specs.Replay as replay
 use Rattle.gh_trace.specs.Traces.{Counterexample}
 use Rattle.gh_trace.specs.Traces as plain
@@ -23,7 +23,7 @@ use Rattle.gh_trace.specs.Validity.{AreCounterexample}
 use Rattle.gh_trace.specs.declared.state.State.{State}
 use Rattle.gh_trace.specs.declared.state.Trace.{Trace}
 
-pub first_reported : (P : Program) (k : ℕ) (t : Trace) → IsTyped P → (f : IsFirst P k t) → All HasValues t.states.items → IsFirstRefuted P k f.condition (map state_of t.states.items)
+pub first_reported : (P : Program) (k : ℕ) (t : Trace) → IsTyped P → (f : ShowsFirst P k t) → All HasValues t.states.items → IsFirstRefuted P k f.condition (map state_of t.states.items)
 first_reported P k t typed f values =
     let told = told_of_refuted P k f.condition t.states.items typed (first_low P k t f, first_at P k t f) f.refutes values in
     record {
@@ -35,13 +35,13 @@ first_reported P k t typed f values =
     }
 
 -- its drawing is one over the variables of its procedure
-pub first_drawn : (P : Program) (k : ℕ) (t : Trace) (typed : IsTyped P) (f : IsFirst P k t) (values : All HasValues t.states.items)
+pub first_drawn : (P : Program) (k : ℕ) (t : Trace) (typed : IsTyped P) (f : ShowsFirst P k t) (values : All HasValues t.states.items)
     → drawing_text k t.states.items ≡ drawing k (variable_names (first_reported P k t typed f values).procedure) (map state_of t.states.items)
 first_drawn P k t typed f values =
     let told = told_of_refuted P k f.condition t.states.items typed (first_low P k t f, first_at P k t f) f.refutes values in
     let reported = first_reported P k t typed f values in
     let same : told.procedure ≡ reported.procedure = one_value (slice_get P.procedures f.condition.procedure) told.procedure reported.procedure told.of reported.of in
-    told.text ∙ ap (λ (p : Procedure). drawing k (variable_names p) (map state_of t.states.items)) same
+    told.text ∙ ap (λ (proc : Procedure). drawing k (variable_names proc) (map state_of t.states.items)) same
 
 plain_states : (ss : List State) → map state_of ss ≡ map (λ (x : replay.Drawn). x.state) (map drawn ss)
 plain_states [] = refl
@@ -54,22 +54,22 @@ drawn_over ns (s ∷ ss) over x there = elim (member_cases (drawn s) (map drawn 
   | inr later ↦ drawn_over ns ss (All-tail (HasVariables ns) s ss over) x later
 ]
 
-drawn_refute : (P : Program) (c : Condition) (p : Procedure) (ss : List State) → AreCounterexample P c (map state_of ss) → IsOf P c p → All (HasVariables (variable_names p)) ss
+drawn_refute : (P : Program) (c : Condition) (proc : Procedure) (ss : List State) → AreCounterexample P c (map state_of ss) → IsOf P c proc → All (HasVariables (variable_names proc)) ss
     → replay.Refutes P c (map drawn ss)
-drawn_refute P c p [] against of over = absurd against
-drawn_refute P c p (s ∷ ss) (q, its, against) of over = record {
-  procedure = p;
+drawn_refute P c proc [] against of over = absurd against
+drawn_refute P c proc (s ∷ ss) (q, its, against) of over = record {
+  procedure = proc;
   of = of;
   first = drawn s;
   others = map drawn ss;
   states = refl;
-  over = drawn_over (variable_names p) (s ∷ ss) over;
+  over = drawn_over (variable_names proc) (s ∷ ss) over;
   counterexample =
-      let here = subst (λ (x : Procedure). Counterexample P x (meets_at x c.start) c.way.steps c.way.check (state_of s) (map state_of ss)) (one_value (slice_get P.procedures c.procedure) q p its of) against in
-      subst (λ (ys : List plain.State). Counterexample P p (meets_at p c.start) c.way.steps c.way.check (state_of s) ys) (plain_states ss) here;
+      let here = subst (λ (x : Procedure). Counterexample P x (meets_at x c.start) c.way.steps c.way.check (state_of s) (map state_of ss)) (one_value (slice_get P.procedures c.procedure) q proc its of) against in
+      subst (λ (ys : List plain.State). Counterexample P proc (meets_at proc c.start) c.way.steps c.way.check (state_of s) ys) (plain_states ss) here;
 }
 
-first_decided : (P : Program) (k : ℕ) (c : Condition) (t : Trace) → (f : IsFirstRefuted P k c (map state_of t.states.items)) → All (HasVariables (variable_names f.procedure)) t.states.items → IsFirst P k t
+first_decided : (P : Program) (k : ℕ) (c : Condition) (t : Trace) → (f : IsFirstRefuted P k c (map state_of t.states.items)) → All (HasVariables (variable_names f.procedure)) t.states.items → ShowsFirst P k t
 first_decided P k c t f over = record {
   before = f.reached.before;
   condition = c;

@@ -32,7 +32,7 @@ parse_refused text (parsing.Syntax span) short why = (text, refl, record { short
 parse_refused text parsing.OutOfMemory short why = tt
 
 pub parsed_text : (text : List ℕ) (P : Program) → length text ≤ most_bytes → IsParsed text P → IsText text P
-parsed_text text P short p = record { readable = record { short = short; characters = p.characters; shallow = p.shallow }; spells = p.spelled }
+parsed_text text P short proc = record { readable = record { short = short; characters = proc.characters; shallow = proc.shallow }; spells = proc.spelled }
 
 pub check_refused : (text : List ℕ) (P : Program) (e : CheckError) → IsText text P → checked.IsCheckRefusal P e → IsFrontError (Some text) (of_check e)
 check_refused text P (checking.TypeError number span) spelled why = (text, P, refl, spelled, first_numbered P number span why)
@@ -54,11 +54,11 @@ terms_refused P of_symbolic.OutOfMemory typed keeps few short why text spelled =
 pub list_exit : {T : Type 0} (P : Program) (e : ConditionsError) (result : Result T FrontError) → IsTyped P → KeepsLimits P → listing.IsConditionsRefusal P e → IsErrAnd result (λ f. f ≡ of_list e)
     → IfErr result (λ x. (text : List ℕ) → IsText text P → IsFrontError (Some text) x)
 list_exit P e result typed keeps why is =
-    let p = err_from_is_err_and result is in
-    rw (p.1, p.2) (list_refused P e typed keeps why)
+    let proc = err_from_is_err_and result is in
+    rw (proc.1, proc.2) (list_refused P e typed keeps why)
 
 pub terms_exit : {T : Type 0} (P : Program) (e : SymbolicError) (result : Result T FrontError) → IsTyped P → KeepsLimits P → NoneHas P (HasManyPaths P) → NoneHas P (HasManySteps P) → symbolic.IsAdmitRefusal P e
     → IsErrAnd result (λ f. f ≡ of_terms e) → IfErr result (λ x. (text : List ℕ) → IsText text P → IsFrontError (Some text) x)
 terms_exit P e result typed keeps few short why is =
-    let p = err_from_is_err_and result is in
-    rw (p.1, p.2) (terms_refused P e typed keeps few short why)
+    let proc = err_from_is_err_and result is in
+    rw (proc.1, proc.2) (terms_refused P e typed keeps few short why)

@@ -16,7 +16,7 @@ use Rattle.gh_decide.proofs.Listed.{valid_logs_show_validity}
 use Rattle.gh_draw.specs.Drawings.{line}
 use Rattle.gh_top.specs.Words.{IsRequest, IsInLimits, IsOnProgram, words_of}
 use Rattle.gh_top.specs.Sources.{source_of, most_from, second_file}
-use Rattle.gh_top.specs.Files.{Shows, IsWithin, IsFileRead, IsSecondWithin, IsSourceRead}
+use Rattle.gh_top.specs.Files.{Shows, IsNoLonger, IsFileRead, IsSecondWithin, IsSourceRead}
 use Rattle.gh_top.specs.Rechecks.{most_logged}
 use Rattle.gh_top.specs.Runs.{most_stated}
 use Rattle.gh_draw.specs.Drawings.{most_drawn}
@@ -178,9 +178,9 @@ good words files s u (smallest_verified a v) e = good_one words files _ _ a (typ
 good words files s u (smallest_refuted a f) e = absurd cc
 good words files s u (stress_verified a v) e = good_one words files _ _ a (typed_is_good _ a.accepted.admitted.typed v)
 good words files s u (stress_refuted a f) e = absurd cc
-good words files s u (smt_listed p c a at of few decides) e = absurd cc
+good words files s u (smt_listed proc c a at of few decides) e = absurd cc
 good words files s u (smt_no_condition a past) e = absurd cc
-good words files s u (smt_too_long p c a at of many) e = absurd cc
+good words files s u (smt_too_long proc c a at of many) e = absurd cc
 good words files s u (run_refused a why) e = absurd cc
 good words files s u (run_unmet a from) e = absurd cc
 good words files s u (run_stopped k x a from) e = absurd cc
@@ -190,8 +190,8 @@ good words files s u (run_failed k x a from) e = absurd cc
 good words files s u (session_refused a w) e = absurd cc
 good words files s u (session_listed a w) e = absurd cc
 good words files s u (entail_refused x a h) e = absurd cc
-good words files s u (entail_verified a p v) e = λ r P asks. absurd (no_program words _ r a asks.request asks.on_program)
-good words files s u (entail_refuted a p f) e = absurd cc
+good words files s u (entail_verified a proc v) e = λ r P asks. absurd (no_program words _ r a asks.request asks.on_program)
+good words files s u (entail_refuted a proc f) e = absurd cc
 
 pub is_whole : (t : Option Table) (words : List (List ℕ)) (w : Writing) (s : Status) (u : List ℕ) → HasAnswer t words s u → Writes w u → IsWrittenWhole t words w s
 is_whole t words w s u a written = record { text = u; given = a; written = written; good = λ e. good words a.files s u a.answer e }
@@ -319,16 +319,16 @@ abbrev number_in_pair : Option (List ℕ × ℕ) → ℕ
 number_in_pair None = 0
 number_in_pair (Some x) = x.1
 
-within_limit : (r : Request) (name : List ℕ) (most : ℕ) (file : FileText) → second_file r ≡ Some (name, most) → IsSecondWithin r file → IsWithin most file
-within_limit r name most file is (other, limit, e, within) = subst (λ m. IsWithin m file) (ap number_in_pair (sym e ∙ is)) within
+within_limit : (r : Request) (name : List ℕ) (most : ℕ) (file : FileText) → second_file r ≡ Some (name, most) → IsSecondWithin r file → IsNoLonger most file
+within_limit r name most file is (other, limit, e, within) = subst (λ m. IsNoLonger m file) (ap number_in_pair (sym e ∙ is)) within
 
-pub recheck_within : (file log : List ℕ) (second : FileText) → IsSecondWithin (Recheck file log) second → IsWithin most_logged second
+pub recheck_within : (file log : List ℕ) (second : FileText) → IsSecondWithin (Recheck file log) second → IsNoLonger most_logged second
 recheck_within file log second h = within_limit (Recheck file log) log most_logged second refl h
 
-pub replay_within : (file drawing : List ℕ) (second : FileText) → IsSecondWithin (Replay file drawing) second → IsWithin most_drawn second
+pub replay_within : (file drawing : List ℕ) (second : FileText) → IsSecondWithin (Replay file drawing) second → IsNoLonger most_drawn second
 replay_within file drawing second h = within_limit (Replay file drawing) drawing most_drawn second refl h
 
-pub state_within : (file state : List ℕ) (n : ℕ) (second : FileText) → IsSecondWithin (Run file state n) second → IsWithin most_stated second
+pub state_within : (file state : List ℕ) (n : ℕ) (second : FileText) → IsSecondWithin (Run file state n) second → IsNoLonger most_stated second
 state_within file state n second h = within_limit (Run file state n) state most_stated second refl h
 
 on_second : (r : Request) (name : List ℕ) (most : ℕ) (P : Program) (file : FileText) (s : Status) (u : List ℕ) → second_file r ≡ Some (name, most)
@@ -373,7 +373,7 @@ session_replied t r name file s u is read answer words asks =
     let f = one_file t words (Session name) read.bytes asks read.are in
     record { files = f.0; told = f.1; answer = session_row words f.0 name read.bytes s u asks f.2 (answer read.bytes read.shows) }
 
-pub session_within : (t : Option Table) (r : Request) (name : List ℕ) (file : FileText) → r ≡ Session name → IsSourceRead t (source_of r) file → IsWithin most_edited file
+pub session_within : (t : Option Table) (r : Request) (name : List ℕ) (file : FileText) → r ≡ Session name → IsSourceRead t (source_of r) file → IsNoLonger most_edited file
 session_within t r name file is read = let read : IsSourceRead t (source_of (Session name)) file = subst (λ q. IsSourceRead t (source_of q) file) is read in read.within
 
 pub on_program : (r : Request) → ((file : List ℕ) → r ≡ Session file → ⊥) → ((file : List ℕ) → r ≡ Entail file → ⊥) → IsOnProgram r

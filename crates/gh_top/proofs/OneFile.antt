@@ -151,7 +151,7 @@ same_fault P log n m at there f g before lines condition =
     subst (λ c. IsFirstFault (problem (symbolic_of P f.procedure c)) g.lines n f.place) condition
     (subst (λ ls. IsFirstFault (problem (symbolic_of P f.procedure f.condition)) ls n f.place) lines f.fault) in
     let moved : IsFirstFault (problem (symbolic_of P g.procedure g.condition)) g.lines n f.place =
-    subst (λ p. IsFirstFault (problem (symbolic_of P p g.condition)) g.lines n f.place) procedure there in
+    subst (λ proc. IsFirstFault (problem (symbolic_of P proc g.condition)) g.lines n f.place) procedure there in
     let both = one (problem (symbolic_of P g.procedure g.condition)) g.lines n f.place m g.place moved g.fault in
     record {
       number = both.0;

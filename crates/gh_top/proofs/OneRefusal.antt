@@ -150,7 +150,7 @@ one_in_text P l m (of_atoms few fewer a) (of_atoms less others b) = one_atoms P.
 one_passed : (P : Program) (Q : Procedure → Type 0) (kind limit : ℕ) (l m : Limit) → Passed P Q kind limit l → Passed P Q kind limit m → l ≡ m
 one_passed P Q kind limit l m a b =
     let same = one_first_with Q P.procedures a.procedure b.procedure a.first b.first in
-    limits_are_one l m (a.kind_is ∙ sym b.kind_is) (a.span ∙ ap (λ p. p.name.span) same ∙ sym b.span) (a.count ∙ sym b.count)
+    limits_are_one l m (a.kind_is ∙ sym b.kind_is) (a.span ∙ ap (λ proc. proc.name.span) same ∙ sym b.span) (a.count ∙ sym b.count)
 
 pub one_limit : (P : Program) (l m : Limit) → IsFirstLimit P l → IsFirstLimit P m → l ≡ m
 one_limit P l m (of_text a) (of_text b) = one_in_text P l m a b
@@ -273,9 +273,9 @@ refusal_case : (bytes : Option (List ℕ)) (x : Refusal) → IsProgramRefused by
 refusal_case bytes Absent e = no_file e refl
 refusal_case bytes TooLong (t, e, long) = long_file t e long refl
 refusal_case bytes (Byte k) (t, e, short, first) = short_file t e short (at_byte k refl first)
-refusal_case bytes (Deep p) (t, e, d) = short_file t e d.short (at_deep d.deep.0 (ap Deep d.deep.2) d.characters d.deep.1)
-refusal_case bytes (Syntax p) (t, e, readable, none, place) = short_file t e readable.short (at_syntax p refl readable none place)
-refusal_case bytes (TypeError r p) (t, P, e, is, broken) = short_file t e is.readable.short (at_error P r p refl is.readable is.spells broken)
+refusal_case bytes (Deep proc) (t, e, d) = short_file t e d.short (at_deep d.deep.0 (ap Deep d.deep.2) d.characters d.deep.1)
+refusal_case bytes (Syntax proc) (t, e, readable, none, place) = short_file t e readable.short (at_syntax proc refl readable none place)
+refusal_case bytes (TypeError r proc) (t, P, e, is, broken) = short_file t e is.readable.short (at_error P r proc refl is.readable is.spells broken)
 refusal_case bytes (LimitPassed l) (t, P, e, is, typed, passed) = short_file t e is.readable.short (at_limit P l refl is.readable is.spells typed passed)
 
 pub one_refusal : (bytes : Option (List ℕ)) (x y : Refusal) → IsProgramRefused bytes x → IsProgramRefused bytes y → x ≡ y

@@ -76,21 +76,21 @@ use Rattle.gh_trace.specs.Validity.{IsConditionValid, ListedAreValid, AreCounter
 pub a_text : (t u : List ℕ) → Some u ≡ Some t → u ≡ t
 a_text t u e = cc
 
-pub first_has : (P : Program) (Q : Procedure → Type 0) (p : Procedure) → NoneHas P Q → IsFirstWith Q P.procedures p → ⊥
-first_has P Q p none first = none p (first.place, first.within, first.element) first.holds
+pub first_has : (P : Program) (Q : Procedure → Type 0) (proc : Procedure) → NoneHas P Q → IsFirstWith Q P.procedures proc → ⊥
+first_has P Q proc none first = none proc (first.place, first.within, first.element) first.holds
 
 pub passed_has : (P : Program) (Q : Procedure → Type 0) (kind limit : ℕ) (l : Limit) → NoneHas P Q → Passed P Q kind limit l → ⊥
 passed_has P Q kind limit l none passed = first_has P Q passed.procedure none passed.first
 
 pub few_variables : (P : Program) → HaveFewVariables P → NoneHas P (λ q. 32 < length (variables_of q))
-few_variables P all p (k, within, at) many =
-    let few = all k p within in
-    let here : length (variables_of p) ≤ 32 = subst (λ q. length (variables_of q) ≤ 32) at few in
+few_variables P all proc (k, within, at) many =
+    let few = all k proc within in
+    let here : length (variables_of proc) ≤ 32 = subst (λ q. length (variables_of q) ≤ 32) at few in
     absurd (omega (arith, here, many))
 
 few_atoms : (P : Program) → KeepsLimits P → NoneHas P (λ q. Any (λ n. 32 < n) (atom_counts q))
-few_atoms P keeps p (k, within, at) (j, n, low, there, many) =
-    let counts : All (λ m. m ≤ 32) (atom_counts p) = subst (λ q. All (λ m. m ≤ 32) (atom_counts q)) at (keeps.atoms k p within) in
+few_atoms P keeps proc (k, within, at) (j, n, low, there, many) =
+    let counts : All (λ m. m ≤ 32) (atom_counts proc) = subst (λ q. All (λ m. m ≤ 32) (atom_counts q)) at (keeps.atoms k proc within) in
     let here : n ≤ 32 = subst (λ m. m ≤ 32) there (counts j n low) in
     absurd (omega (arith, here, many))
 
@@ -113,11 +113,11 @@ not_accepted text TooLong P (t, e, long) a =
     let short : length t ≤ most_bytes = subst (λ u. length u ≤ most_bytes) same a.spelled.readable.short in
     absurd (omega (arith, long, short))
 not_accepted text (Byte k) P (t, e, short, first) a = a.spelled.readable.characters k (rw (a_text t text e) first)
-not_accepted text (Deep p) P (t, e, deep) a = a.spelled.readable.shallow deep.deep.0 (rw (a_text t text e) deep.deep.1)
-not_accepted text (Syntax p) P (t, e, readable, none, place) a = none P (rw (a_text t text e) at a.spelled.spells)
-not_accepted text (TypeError r p) P (t, Q, e, is, broken) a =
+not_accepted text (Deep proc) P (t, e, deep) a = a.spelled.readable.shallow deep.deep.0 (rw (a_text t text e) deep.deep.1)
+not_accepted text (Syntax proc) P (t, e, readable, none, place) a = none P (rw (a_text t text e) at a.spelled.spells)
+not_accepted text (TypeError r proc) P (t, Q, e, is, broken) a =
     let one : Q ≡ P = one_spelled text Q P (rw (a_text t text e) is.spells) a.spelled.spells in
-    a.admitted.typed (rule_number r) p (rw one at broken).here
+    a.admitted.typed (rule_number r) proc (rw one at broken).here
 not_accepted text (LimitPassed l) P (t, Q, e, is, typed, passed) a =
     let one : Q ≡ P = one_spelled text Q P (rw (a_text t text e) is.spells) a.spelled.spells in
     limit_passed P l a.admitted (rw one at passed)
@@ -155,7 +155,7 @@ IsDecided P s = ((s ≡ Verified) × ListedAreValid P) ⊎ ((s ≡ Refuted) × (
 
 not_refuted : (P : Program) (c : Condition) (xs : List State) → IsConditionValid P c → AreCounterexample P c xs → ⊥
 not_refuted P c [] valid r = r
-not_refuted P c (x ∷ ys) valid (p, of, r) = valid p of x ys r
+not_refuted P c (x ∷ ys) valid (proc, of, r) = valid proc of x ys r
 
 not_decided : (P : Program) (k : ℕ) (c : Condition) (xs : List State) → ListedAreValid P → IsFirstRefuted P k c xs → ⊥
 not_decided P k c xs valid f =
@@ -176,13 +176,13 @@ one_log text log other a b = (one_text a.version b.version log other a.spelled b
 
 -- the section after valid ones
 pub section_at : (P : Program) (earlier : List Condition) (c : Condition) (later : List Condition) (before : List (List LogLine)) (s : List LogLine) (after : List (List LogLine)) →
-    AreValidSections P earlier before → AreValidSections P (earlier ++ c ∷ later) (before ++ s ∷ after) → (p : Procedure) → IsOf P c p → IsValidSection (problem (symbolic_of P p c)) s
-section_at P [] c later [] s after v w p of =
+    AreValidSections P earlier before → AreValidSections P (earlier ++ c ∷ later) (before ++ s ∷ after) → (proc : Procedure) → IsOf P c proc → IsValidSection (problem (symbolic_of P proc c)) s
+section_at P [] c later [] s after v w proc of =
     let (q, its, valid) = w.0 in
-    subst (λ x. IsValidSection (problem (symbolic_of P x c)) s) (one_value (slice_get P.procedures c.procedure) q p its of) valid
-section_at P [] c later (t ∷ before) s after v w p of = absurd v
-section_at P (d ∷ earlier) c later [] s after v w p of = absurd v
-section_at P (d ∷ earlier) c later (t ∷ before) s after v w p of = section_at P earlier c later before s after v.1 w.1 p of
+    subst (λ x. IsValidSection (problem (symbolic_of P x c)) s) (one_value (slice_get P.procedures c.procedure) q proc its of) valid
+section_at P [] c later (t ∷ before) s after v w proc of = absurd v
+section_at P (d ∷ earlier) c later [] s after v w proc of = absurd v
+section_at P (d ∷ earlier) c later (t ∷ before) s after v w proc of = section_at P earlier c later before s after v.1 w.1 proc of
 
 no_first_fault : (P : Program) (log : List (List LogLine)) (number at : ℕ) → IsValidLog P log → IsFirstFaultIn P log number at → ⊥
 no_first_fault P log number at v f =
@@ -243,9 +243,9 @@ one_replayed P bytes s t (inr (e, u, w)) (inr (f, v, x)) = e ∙ sym f
 
 abbrev IsScripted : Program → ℕ → Status → Type 0
 IsScripted P n s =
-    ((s ≡ Listed) × (p : Procedure) × (c : Condition) × IsConditionAt P n c × IsOf P c p × (asserted_count P p c ≤ most_asserted))
+    ((s ≡ Listed) × (proc : Procedure) × (c : Condition) × IsConditionAt P n c × IsOf P c proc × (asserted_count P proc c ≤ most_asserted))
     ⊎ ((s ≡ LogRefused) × (length (conditions P) < n))
-    ⊎ ((s ≡ TextRefused) × (p : Procedure) × (c : Condition) × IsConditionAt P n c × IsOf P c p × (most_asserted < asserted_count P p c))
+    ⊎ ((s ≡ TextRefused) × (proc : Procedure) × (c : Condition) × IsConditionAt P n c × IsOf P c proc × (most_asserted < asserted_count P proc c))
 
 pub one_at : (P : Program) (n : ℕ) (c d : Condition) → IsConditionAt P n c → IsConditionAt P n d → c ≡ d
 one_at P n c d a b = one_value (slice_get (conditions P) (n - 1)) c d a.1 b.1
@@ -254,28 +254,28 @@ pub not_past : (P : Program) (n : ℕ) (c : Condition) → IsConditionAt P n c �
 not_past P n c a past = let within = slice_get_within (conditions P) (n - 1) c a.1 in let low = a.0 in absurd (omega (arith, low, within, past))
 
 -- what is told of the condition of a number and of its procedure is one
-pub one_told : {X : Type 0} (P : Program) (n : ℕ) (p q : Procedure) (c d : Condition) → IsConditionAt P n c → IsConditionAt P n d → IsOf P c p → IsOf P d q → (told : Procedure → Condition → X) → told p c ≡ told q d
-one_told P n p q c d a b of its told =
+pub one_told : {X : Type 0} (P : Program) (n : ℕ) (proc q : Procedure) (c d : Condition) → IsConditionAt P n c → IsConditionAt P n d → IsOf P c proc → IsOf P d q → (told : Procedure → Condition → X) → told proc c ≡ told q d
+one_told P n proc q c d a b of its told =
     let same : c ≡ d = one_at P n c d a b in
-    let here : IsOf P d p = subst (λ x. IsOf P x p) same of in
-    ap (told p) same ∙ ap (λ x. told x d) (one_value (slice_get P.procedures d.procedure) p q here its)
+    let here : IsOf P d proc = subst (λ x. IsOf P x proc) same of in
+    ap (told proc) same ∙ ap (λ x. told x d) (one_value (slice_get P.procedures d.procedure) proc q here its)
 
-pub not_long : (P : Program) (n : ℕ) (p q : Procedure) (c d : Condition) → IsConditionAt P n c → IsConditionAt P n d → IsOf P c p → IsOf P d q → asserted_count P p c ≤ most_asserted
+pub not_long : (P : Program) (n : ℕ) (proc q : Procedure) (c d : Condition) → IsConditionAt P n c → IsConditionAt P n d → IsOf P c proc → IsOf P d q → asserted_count P proc c ≤ most_asserted
     → most_asserted < asserted_count P q d → ⊥
-not_long P n p q c d a b of its few many =
-    let same = one_told P n p q c d a b of its (asserted_count P) in
+not_long P n proc q c d a b of its few many =
+    let same = one_told P n proc q c d a b of its (asserted_count P) in
     absurd (omega (arith, same, few, many))
 
 one_scripted : (P : Program) (n : ℕ) (s t : Status) → IsScripted P n s → IsScripted P n t → s ≡ t
-one_scripted P n s t (inl (e, p, c, a, of, few)) (inl (f, q, d, b, its, less)) = e ∙ sym f
-one_scripted P n s t (inl (e, p, c, a, of, few)) (inr (inl (f, past))) = absurd (not_past P n c a past)
-one_scripted P n s t (inl (e, p, c, a, of, few)) (inr (inr (f, q, d, b, its, many))) = absurd (not_long P n p q c d a b of its few many)
+one_scripted P n s t (inl (e, proc, c, a, of, few)) (inl (f, q, d, b, its, less)) = e ∙ sym f
+one_scripted P n s t (inl (e, proc, c, a, of, few)) (inr (inl (f, past))) = absurd (not_past P n c a past)
+one_scripted P n s t (inl (e, proc, c, a, of, few)) (inr (inr (f, q, d, b, its, many))) = absurd (not_long P n proc q c d a b of its few many)
 one_scripted P n s t (inr (inl (e, past))) (inl (f, q, d, b, its, less)) = absurd (not_past P n d b past)
 one_scripted P n s t (inr (inl (e, past))) (inr (inl (f, more))) = e ∙ sym f
 one_scripted P n s t (inr (inl (e, past))) (inr (inr (f, q, d, b, its, many))) = absurd (not_past P n d b past)
-one_scripted P n s t (inr (inr (e, p, c, a, of, many))) (inl (f, q, d, b, its, less)) = absurd (not_long P n q p d c b a its of less many)
-one_scripted P n s t (inr (inr (e, p, c, a, of, many))) (inr (inl (f, past))) = absurd (not_past P n c a past)
-one_scripted P n s t (inr (inr (e, p, c, a, of, many))) (inr (inr (f, q, d, b, its, more))) = e ∙ sym f
+one_scripted P n s t (inr (inr (e, proc, c, a, of, many))) (inl (f, q, d, b, its, less)) = absurd (not_long P n q proc d c b a its of less many)
+one_scripted P n s t (inr (inr (e, proc, c, a, of, many))) (inr (inl (f, past))) = absurd (not_past P n c a past)
+one_scripted P n s t (inr (inr (e, proc, c, a, of, many))) (inr (inr (f, q, d, b, its, more))) = e ∙ sym f
 
 -- runs
 
@@ -403,9 +403,9 @@ given words files s u (smallest_verified {f = f} {P = P} a v) = judged (Smallest
 given words files s u (smallest_refuted {f = f} {P = P} a r) = judged (Smallest f) P a (inr (refl, r.number, r.condition, r.states, r.first))
 given words files s u (stress_verified {n = n} {P = P} a v) = judged (Stress n) P a (inl (refl, v))
 given words files s u (stress_refuted {n = n} {P = P} a r) = judged (Stress n) P a (inr (refl, r.number, r.condition, r.states, r.first))
-given words files s u (smt_listed {f = f} {n = n} {P = P} p c a found of few decides) = judged (Smt f n) P a (inl (refl, p, c, found, of, few))
+given words files s u (smt_listed {f = f} {n = n} {P = P} proc c a found of few decides) = judged (Smt f n) P a (inl (refl, proc, c, found, of, few))
 given words files s u (smt_no_condition {f = f} {n = n} {P = P} a past) = judged (Smt f n) P a (inr (inl (refl, past)))
-given words files s u (smt_too_long {f = f} {n = n} {P = P} p c a found of many) = judged (Smt f n) P a (inr (inr (refl, p, c, found, of, many)))
+given words files s u (smt_too_long {f = f} {n = n} {P = P} proc c a found of many) = judged (Smt f n) P a (inr (inr (refl, proc, c, found, of, many)))
 given words files s u (run_refused {f = f} {x = x} {u = v} {n = n} {P = P} a w) = judged (Run f x n) P a (inr (refl, v, w))
 given words files s u (run_unmet {f = f} {x = x} {n = n} {P = P} a from) = judged (Run f x n) P a (inl (report.Unmet, refl, from))
 given words files s u (run_stopped {f = f} {x = x} {n = n} {P = P} k y a from) = judged (Run f x n) P a (inl (report.Stopped k y, refl, from))
@@ -415,8 +415,8 @@ given words files s u (run_failed {f = f} {x = x} {n = n} {P = P} k y a from) = 
 given words files s u (session_refused {f = f} {u = v} a w) = in_session f a (inr (refl, v, w))
 given words files s u (session_listed {f = f} {u = v} a r) = in_session f a (inl (refl, v, r))
 given words files s u (entail_refused {f = f} x a w) = of_question f a (inr (inr (refl, x, w)))
-given words files s u (entail_verified {f = f} {q = q} a p v) = of_question f a (inl (refl, q, p, v.entailed))
-given words files s u (entail_refuted {f = f} {u = v} {q = q} a p r) = of_question f a (inr (inl (refl, q, v, p, r)))
+given words files s u (entail_verified {f = f} {q = q} a proc v) = of_question f a (inl (refl, q, proc, v.entailed))
+given words files s u (entail_refuted {f = f} {u = v} {q = q} a proc r) = of_question f a (inr (inl (refl, q, v, proc, r)))
 
 one_judged : (files : Files) (r : Request) (P : Program) (s t : Status) → IsTyped P → IsJudged files r P s → IsJudged files r P t → s ≡ t
 one_judged files (Check f) P s t typed a b = one_decided P s t a b
@@ -435,7 +435,7 @@ one_judged files (Entail f) P s t typed a b = absurd a
 asks_or_refused : (words : List (List ℕ)) (files : Files) (r q : Request) (x : Refusal) (P : Program) → IsRequest words r → IsProgramRefused (asked_text r files) x → Asks words files q P → ⊥
 asks_or_refused words files r q x P a w b =
     let same = one_request words r q a b.request in
-    let here : IsProgramRefused (asked_text q files) x = subst (λ p. IsProgramRefused (asked_text p files) x) same w in
+    let here : IsProgramRefused (asked_text q files) x = subst (λ proc. IsProgramRefused (asked_text proc files) x) same w in
     not_accepted b.text x P (subst (λ o. IsProgramRefused o x) b.bytes here) b.accepted
 
 off_program : (words : List (List ℕ)) (r q : Request) → IsRequest words r → IsOnProgram r → IsRequest words q → (IsOnProgram q → ⊥) → ⊥
@@ -457,7 +457,7 @@ module _ {X : Type 0} (words : List (List ℕ)) (files : Files) (U : X → Type 
   one_given x y (no_request e h) (of_question f a v) = absurd (h (Entail f) a)
   one_given x y (text_refused r v e a on w) (no_request f k) = absurd (k r a)
   one_given x y (text_refused r v e a on w) (text_refused q o f b of z) =
-      let here : IsProgramRefused (asked_text q files) v = subst (λ p. IsProgramRefused (asked_text p files) v) (one_request words r q a b) w in
+      let here : IsProgramRefused (asked_text q files) v = subst (λ proc. IsProgramRefused (asked_text proc files) v) (one_request words r q a b) w in
       one_refused q v o x y here z e f
   one_given x y (text_refused r v e a on w) (judged q P b z) = absurd (asks_or_refused words files r q v P a w b)
   one_given x y (text_refused r v e a on w) (in_session f b z) = absurd (off_program words r (Session f) a on b (λ h. h))
@@ -467,7 +467,7 @@ module _ {X : Type 0} (words : List (List ℕ)) (files : Files) (U : X → Type 
   one_given x y (judged r P a v) (judged q Q b w) =
       let request : q ≡ r = one_request words q r b.request a.request in
       let program : Q ≡ P = one_program_asked words files q r Q P b a in
-      let here : J r P y = subst (λ p. J r p y) program (subst (λ p. J p Q y) request w) in
+      let here : J r P y = subst (λ proc. J r proc y) program (subst (λ proc. J proc Q y) request w) in
       one_judged_x r P x y a.accepted.admitted.typed v here
   one_given x y (judged r P a v) (in_session f b w) = absurd (off_program words r (Session f) a.request a.on_program b (λ h. h))
   one_given x y (judged r P a v) (of_question f b w) = absurd (off_program words r (Entail f) a.request a.on_program b (λ h. h))

@@ -55,20 +55,20 @@ one_replay_text P bytes u v (inr w) (inr x) = one_drawing_refusal P bytes u v w 
 
 abbrev IsScriptText : Program → ℕ → List ℕ → Type 0
 IsScriptText P n u =
-    ((p : Procedure) × (c : Condition) × IsConditionAt P n c × IsOf P c p × (asserted_count P p c ≤ most_asserted) × (u ≡ smt_text P p c))
+    ((proc : Procedure) × (c : Condition) × IsConditionAt P n c × IsOf P c proc × (asserted_count P proc c ≤ most_asserted) × (u ≡ smt_text P proc c))
     ⊎ ((length (conditions P) < n) × (u ≡ unnumbered_text P n))
-    ⊎ ((p : Procedure) × (c : Condition) × IsConditionAt P n c × IsOf P c p × (most_asserted < asserted_count P p c) × (u ≡ too_long_text P p c))
+    ⊎ ((proc : Procedure) × (c : Condition) × IsConditionAt P n c × IsOf P c proc × (most_asserted < asserted_count P proc c) × (u ≡ too_long_text P proc c))
 
 one_script_text : (P : Program) (n : ℕ) (u v : List ℕ) → IsScriptText P n u → IsScriptText P n v → u ≡ v
-one_script_text P n u v (inl (p, c, a, of, few, e)) (inl (q, d, b, its, less, f)) = e ∙ one_told P n p q c d a b of its (smt_text P) ∙ sym f
-one_script_text P n u v (inl (p, c, a, of, few, e)) (inr (inl (past, f))) = absurd (not_past P n c a past)
-one_script_text P n u v (inl (p, c, a, of, few, e)) (inr (inr (q, d, b, its, many, f))) = absurd (not_long P n p q c d a b of its few many)
+one_script_text P n u v (inl (proc, c, a, of, few, e)) (inl (q, d, b, its, less, f)) = e ∙ one_told P n proc q c d a b of its (smt_text P) ∙ sym f
+one_script_text P n u v (inl (proc, c, a, of, few, e)) (inr (inl (past, f))) = absurd (not_past P n c a past)
+one_script_text P n u v (inl (proc, c, a, of, few, e)) (inr (inr (q, d, b, its, many, f))) = absurd (not_long P n proc q c d a b of its few many)
 one_script_text P n u v (inr (inl (past, e))) (inl (q, d, b, its, less, f)) = absurd (not_past P n d b past)
 one_script_text P n u v (inr (inl (past, e))) (inr (inl (more, f))) = e ∙ sym f
 one_script_text P n u v (inr (inl (past, e))) (inr (inr (q, d, b, its, many, f))) = absurd (not_past P n d b past)
-one_script_text P n u v (inr (inr (p, c, a, of, many, e))) (inl (q, d, b, its, less, f)) = absurd (not_long P n q p d c b a its of less many)
-one_script_text P n u v (inr (inr (p, c, a, of, many, e))) (inr (inl (past, f))) = absurd (not_past P n c a past)
-one_script_text P n u v (inr (inr (p, c, a, of, many, e))) (inr (inr (q, d, b, its, more, f))) = e ∙ one_told P n p q c d a b of its (too_long_text P) ∙ sym f
+one_script_text P n u v (inr (inr (proc, c, a, of, many, e))) (inl (q, d, b, its, less, f)) = absurd (not_long P n q proc d c b a its of less many)
+one_script_text P n u v (inr (inr (proc, c, a, of, many, e))) (inr (inl (past, f))) = absurd (not_past P n c a past)
+one_script_text P n u v (inr (inr (proc, c, a, of, many, e))) (inr (inr (q, d, b, its, more, f))) = e ∙ one_told P n proc q c d a b of its (too_long_text P) ∙ sym f
 
 abbrev run_text : Report → List ℕ
 run_text report.Unmet = unmet_text
@@ -147,9 +147,9 @@ told words files s u (smallest_verified {f = f} {P = P} a v) free = judged (Smal
 told words files s u (smallest_refuted {f = f} a r) free = absurd (free (Smallest f) a.request smallest_trace)
 told words files s u (stress_verified {n = n} {P = P} a v) free = judged (Stress n) P a refl
 told words files s u (stress_refuted {n = n} a r) free = absurd (free (Stress n) a.request stress_trace)
-told words files s u (smt_listed {f = f} {n = n} {P = P} p c a found of few decides) free = judged (Smt f n) P a (inl (p, c, found, of, few, refl))
+told words files s u (smt_listed {f = f} {n = n} {P = P} proc c a found of few decides) free = judged (Smt f n) P a (inl (proc, c, found, of, few, refl))
 told words files s u (smt_no_condition {f = f} {n = n} {P = P} a past) free = judged (Smt f n) P a (inr (inl (past, refl)))
-told words files s u (smt_too_long {f = f} {n = n} {P = P} p c a found of many) free = judged (Smt f n) P a (inr (inr (p, c, found, of, many, refl)))
+told words files s u (smt_too_long {f = f} {n = n} {P = P} proc c a found of many) free = judged (Smt f n) P a (inr (inr (proc, c, found, of, many, refl)))
 told words files s u (run_refused {f = f} {x = x} {n = n} {P = P} a w) free = judged (Run f x n) P a (inr w)
 told words files s u (run_unmet {f = f} {x = x} {n = n} {P = P} a from) free = judged (Run f x n) P a (inl (report.Unmet, from, refl))
 told words files s u (run_stopped {f = f} {x = x} {n = n} {P = P} k y a from) free = judged (Run f x n) P a (inl (report.Stopped k y, from, refl))
@@ -159,8 +159,8 @@ told words files s u (run_failed {f = f} {x = x} {n = n} {P = P} k y a from) fre
 told words files s u (session_refused {f = f} a w) free = in_session f a w
 told words files s u (session_listed {f = f} a r) free = absurd (free (Session f) a session_traces)
 told words files s u (entail_refused {f = f} x a w) free = of_question f a (x, w, refl)
-told words files s u (entail_verified {f = f} a p v) free = absurd (free (Entail f) a section_of)
-told words files s u (entail_refuted {f = f} a p r) free = absurd (free (Entail f) a entail_state)
+told words files s u (entail_verified {f = f} a proc v) free = absurd (free (Entail f) a section_of)
+told words files s u (entail_refuted {f = f} a proc r) free = absurd (free (Entail f) a entail_state)
 
 pub texts_are_one : TextsAreOne
 texts_are_one words files s u v a b free =

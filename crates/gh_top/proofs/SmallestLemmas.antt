@@ -13,7 +13,7 @@ use Rattle.gh_trace.specs.Kept.{state_of, drawn}
 use Rattle.gh_trace.specs.declared.state.State.{State}
 use Rattle.gh_log.specs.declared.lines.Section.{Section}
 use Rattle.gh_log.specs.Spelled.{IsSpelledLine}
-use Rattle.gh_trace.specs.Refuted.{IsFirst}
+use Rattle.gh_trace.specs.Refuted.{ShowsFirst}
 use Rattle.gh_trace.specs.Validity.{ListedAreValid}
 use Rattle.gh_trace.proofs.FirstRefuted.{kept_first, numbered_one, condition_one}
 use Rattle.gh_draw.specs.Descriptions.{description}
@@ -33,10 +33,10 @@ use Rattle.gh_top.specs.declared.words.Request.TheVariants as request
 use Rattle.gh_top.specs.declared.status.Status.{Status}
 use Rattle.gh_top.specs.declared.status.Status.TheVariants.{Verified, Refuted}
 
-lines_spelled : (P : Program) (p : Procedure) (c : Condition) (cells : ℕ) (o : Option Section) → IsLowest (problem (symbolic_of P p c)) cells o
+lines_spelled : (P : Program) (proc : Procedure) (c : Condition) (cells : ℕ) (o : Option Section) → IsLowest (problem (symbolic_of P proc c)) cells o
     → IfSome o (λ s. All (IsSpelledLine 2) s.lines)
-lines_spelled P p c cells None h = tt
-lines_spelled P p c cells (Some s) h = h.1.writable.spelled
+lines_spelled P proc c cells None h = tt
+lines_spelled P proc c cells (Some s) h = h.1.writable.spelled
 
 -- its section can be spelled
 pub section_spelled : (P : Program) (k : ℕ) (r : kept.Condition) (s : Smallest) → IsNumbered P k (Some r) → IsSmallest P r s → IfSome s.section (λ x. All (IsSpelledLine 2) x.lines)
@@ -44,9 +44,9 @@ section_spelled P k r s n is =
     let one = condition_one P r (numbered_one P k r n) in
     lines_spelled P one.procedure (condition_of r) s.cells s.section (is.lowest one.procedure one.of)
 
-bound_told : (P : Program) (p : Procedure) (c : Condition) (cells : ℕ) (o : Option Section) → IsLowest (problem (symbolic_of P p c)) cells o → IsBoundText P p c cells (section_text o)
-bound_told P p c cells None e = subst (λ n. IsBoundText P p c n []) (sym e) no_cell
-bound_told P p c cells (Some s) h =
+bound_told : (P : Program) (proc : Procedure) (c : Condition) (cells : ℕ) (o : Option Section) → IsLowest (problem (symbolic_of P proc c)) cells o → IsBoundText P proc c cells (section_text o)
+bound_told P proc c cells None e = subst (λ n. IsBoundText P proc c n []) (sym e) no_cell
+bound_told P proc c cells (Some s) h =
     some_cells s.lines h.0 h.1.valid (alone_spelled s.lines h.1.writable.spelled)
 
 same_cells : (ss : List State) → first_cells (map drawn ss) ≡ cells_at_first (map state_of ss)
@@ -57,7 +57,7 @@ assembled : (front d e shown bound first second third fourth : List ℕ) → fir
 assembled front d e shown bound first second third fourth a b c f = rw (f, c, b, a) (simp append_assoc)
 
 -- the pieces of the report make it up
-pub reported : (P : Program) (k n : ℕ) (s : Smallest) (r : kept.Condition) (front d shown bound first second third fourth : List ℕ) → IsTyped P → IsFirst P k s.trace → IsNumbered P k (Some r) → IsSmallest P r s
+pub reported : (P : Program) (k n : ℕ) (s : Smallest) (r : kept.Condition) (front d shown bound first second third fourth : List ℕ) → IsTyped P → ShowsFirst P k s.trace → IsNumbered P k (Some r) → IsSmallest P r s
     → All HasValues s.trace.states.items → n ≡ length (conditions P)
     → front ≡ smallest_line k n s.cells
     → Describes P r d → shown ≡ drawing_text k s.trace.states.items → bound ≡ section_text s.section
@@ -67,9 +67,9 @@ reported P k n s r front d shown bound first second third fourth typed f there i
     let same : condition_of r ≡ c = kept_first P k s.trace r f there in
     let refuted = first_reported P k s.trace typed f values in
     let text : d ≡ description P c = described ∙ ap (description P) same in
-    let p : Procedure = refuted.procedure in
-    let here : IsOf P (condition_of r) p = subst (λ (b : Condition). IsOf P b p) (sym same) refuted.of in
-    let lowest : IsLowest (problem (symbolic_of P p c)) s.cells s.section = subst (λ (b : Condition). IsLowest (problem (symbolic_of P p b)) s.cells s.section) same (is.lowest p here) in
+    let proc : Procedure = refuted.procedure in
+    let here : IsOf P (condition_of r) proc = subst (λ (b : Condition). IsOf P b proc) (sym same) refuted.of in
+    let lowest : IsLowest (problem (symbolic_of P proc c)) s.cells s.section = subst (λ (b : Condition). IsLowest (problem (symbolic_of P proc b)) s.cells s.section) same (is.lowest proc here) in
     record {
       number = k;
       cells = s.cells;
@@ -79,7 +79,7 @@ reported P k n s r front d shown bound first second third fourth typed f there i
       first = refuted;
       count = is.count ∙ same_cells s.trace.states.items;
       least = subst (λ (b : Condition). IsLeast P b s.cells) same is.least;
-      shown = subst (IsBoundText P p c s.cells) (sym bounded) (bound_told P p c s.cells s.section lowest);
+      shown = subst (IsBoundText P proc c s.cells) (sym bounded) (bound_told P proc c s.cells s.section lowest);
       text_is =
           assembled front d (codes "\n") shown bound first second third fourth a b e g
           ∙ ap (λ z. (z ++ (d ++ codes "\n") ++ shown) ++ bound) begun

@@ -87,9 +87,9 @@ pub data Answer (words : List (List ℕ)) (files : Files) : Status → List ℕ 
   stress_verified : {n : ℕ} {P : Program} → Asks words files (Stress n) P → ListedAreValid P → Answer words files Verified (stressed_text n P)
   stress_refuted : {n : ℕ} {u : List ℕ} {P : Program} → Asks words files (Stress n) P → IsRefutation P u → Answer words files Refuted u
   -- smt FILE K
-  smt_listed : {f : List ℕ} {n : ℕ} {P : Program} (p : Procedure) (c : Condition) → Asks words files (Smt f n) P → IsConditionAt P n c → IsOf P c p → asserted_count P p c ≤ most_asserted → IsDecidedByScript P p c → Answer words files Listed (smt_text P p c)
+  smt_listed : {f : List ℕ} {n : ℕ} {P : Program} (proc : Procedure) (c : Condition) → Asks words files (Smt f n) P → IsConditionAt P n c → IsOf P c proc → asserted_count P proc c ≤ most_asserted → IsDecidedByScript P proc c → Answer words files Listed (smt_text P proc c)
   smt_no_condition : {f : List ℕ} {n : ℕ} {P : Program} → Asks words files (Smt f n) P → length (conditions P) < n → Answer words files LogRefused (unnumbered_text P n)
-  smt_too_long : {f : List ℕ} {n : ℕ} {P : Program} (p : Procedure) (c : Condition) → Asks words files (Smt f n) P → IsConditionAt P n c → IsOf P c p → most_asserted < asserted_count P p c → Answer words files TextRefused (too_long_text P p c)
+  smt_too_long : {f : List ℕ} {n : ℕ} {P : Program} (proc : Procedure) (c : Condition) → Asks words files (Smt f n) P → IsConditionAt P n c → IsOf P c proc → most_asserted < asserted_count P proc c → Answer words files TextRefused (too_long_text P proc c)
   -- run FILE STATE N
   run_refused : {f x u : List ℕ} {n : ℕ} {P : Program} → Asks words files (Run f x n) P → IsStateRefusal P (files 2) u → Answer words files LogRefused u
   run_unmet : {f x : List ℕ} {n : ℕ} {P : Program} → Asks words files (Run f x n) P → IsRunFrom P (files 2) n report.Unmet → Answer words files Unmet unmet_text

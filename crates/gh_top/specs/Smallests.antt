@@ -24,17 +24,17 @@ abbrev pub cells_at_first : List State → ℕ
 cells_at_first [] = 0
 cells_at_first (x ∷ xs) = len x.heap
 
--- the number, the cells, the description and the drawing of a condition of the procedure p
+-- the number, the cells, the description and the drawing of a condition of the procedure proc
 abbrev pub smallest_text : Program → Procedure → ℕ → ℕ → Condition → List State → List ℕ
-smallest_text P p k cells c xs =
-    smallest_line k (length (conditions P)) cells ++ line (description P c) ++ drawing k (variable_names p) xs
+smallest_text P proc k cells c xs =
+    smallest_line k (length (conditions P)) cells ++ line (description P c) ++ drawing k (variable_names proc) xs
 
 -- the text of a log of version 2 whose one section is valid for the condition's clauses with the bound; nothing where
 -- there is no cell
-pub data IsBoundText (P : Program) (p : Procedure) (c : Condition) : ℕ → List ℕ → Type 0 where
-  no_cell : IsBoundText P p c 0 []
-  some_cells : {cells : ℕ} (section : List LogLine) → 0 < cells → IsValidSection (bounded_by (problem (symbolic_of P p c)) cells) section → IsSpelled 2 (section ∷ [])
-      → IsBoundText P p c cells (log_text 2 (section ∷ []))
+pub data IsBoundText (P : Program) (proc : Procedure) (c : Condition) : ℕ → List ℕ → Type 0 where
+  no_cell : IsBoundText P proc c 0 []
+  some_cells : {cells : ℕ} (section : List LogLine) → 0 < cells → IsValidSection (bounded_by (problem (symbolic_of P proc c)) cells) section → IsSpelled 2 (section ∷ [])
+      → IsBoundText P proc c cells (log_text 2 (section ∷ []))
 
 -- the text of a log of version 2 with this section; nothing where there is none
 abbrev pub section_text : Option Section → List ℕ

@@ -4,7 +4,7 @@
 ghost use Rattle.std.specs.Prelude.{◌≡◌, ◌++◌, ◌≤◌, [], IfOk, OnOk, Some, length};
 ghost use Rattle.gh_ast.specs.Plain.{program_of};
 ghost use Rattle.gh_top.specs.Answering.{IsAnswerOn, IsVerdictOn};
-ghost use Rattle.gh_top.specs.Files.{IsWithin};
+ghost use Rattle.gh_top.specs.Files.{IsNoLonger};
 ghost use Rattle.gh_top.specs.Refusals.{refusal_text};
 ghost use Rattle.gh_top.specs.Sessions.{most_edited, answer_line as line_of_answer, AreAnswers, IsSessionAnswer};
 ghost use Rattle.gh_top.specs.Sessions.{texts_after};
@@ -152,7 +152,7 @@ fn session_report(alloc: Global, text: &[u8]) -> Result<Report, AllocError>
 
 /// What `session` answers for a session file.
 pub fn session(alloc: Global, file: &FileText) -> Result<Report, AllocError>
-    requires within { IsWithin most_edited file.now }
+    requires within { IsNoLonger most_edited file.now }
     ensures { IfOk result (λ r. RepliesToSessionFile file.now r.status r.text) }
 {
     match file {

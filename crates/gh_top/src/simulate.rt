@@ -4,7 +4,7 @@ ghost use Rattle.std.specs.Prelude.{◌≡◌, ◌≤◌, ◌++◌, IfOk, length
 ghost use Rattle.std.specs.Fmt.{decimal};
 ghost use Rattle.gh_ast.specs.Plain.{program_of};
 ghost use Rattle.gh_draw.specs.Drawings.{line};
-ghost use Rattle.gh_top.specs.Files.{IsWithin};
+ghost use Rattle.gh_top.specs.Files.{IsNoLonger};
 ghost use Rattle.gh_top.specs.Replies.{RepliesOnText, RepliesOnState, run_of};
 ghost use Rattle.gh_top.specs.Runs.{most_stated, with_state, IsRunReport};
 
@@ -103,7 +103,7 @@ pub fn simulate(
     state: &FileText,
     number: u32,
 ) -> Result<Report, AllocError>
-    requires within { IsWithin most_stated state.now }
+    requires within { IsNoLonger most_stated state.now }
     requires limit { number ≤ 1000000 }
     ensures { IfOk result (RepliesOnState number (program_of admitted.now) state.now) }
 {

@@ -3,7 +3,7 @@
 
 ghost use Rattle.std.specs.Prelude.{◌≡◌, IfOk, IfSome, All, Some};
 ghost use Rattle.gh_ast.specs.Plain.{program_of};
-ghost use Rattle.gh_trace.specs.Refuted.{IsFirst};
+ghost use Rattle.gh_trace.specs.Refuted.{ShowsFirst};
 ghost use Rattle.gh_log.specs.Spelled.{IsSpelledLine};
 ghost use Rattle.gh_path.specs.Answers.{IsNumbered};
 ghost use Rattle.gh_small.specs.Smallest.{IsSmallest};
@@ -58,7 +58,7 @@ fn smallest_report(
     found: Smallest,
 ) -> Result<Report, AllocError>
     requires numbered { IsNumbered (program_of admitted.now) number (Some condition.now) }
-    requires first { IsFirst (program_of admitted.now) number found.trace }
+    requires first { ShowsFirst (program_of admitted.now) number found.trace }
     requires smallest { IsSmallest (program_of admitted.now) condition.now found }
     ensures status { IfOk result (λ r. r.status ≡ Status.Refuted) }
     ensures text { IfOk result (λ r. IsSmallestReport (program_of admitted.now) r.text) }
@@ -85,7 +85,7 @@ fn smallest_report(
 
 // The report on the first condition that isn't valid.
 fn refuted(alloc: Global, admitted: &Admitted, number: u32) -> Result<Report, AllocError>
-    requires { (t : drawn.Trace) × IsFirst (program_of admitted.now) number t }
+    requires { (t : drawn.Trace) × ShowsFirst (program_of admitted.now) number t }
     ensures status { IfOk result (λ r. r.status ≡ Status.Refuted) }
     ensures text { IfOk result (λ r. IsSmallestReport (program_of admitted.now) r.text) }
 {

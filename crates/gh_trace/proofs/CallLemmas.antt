@@ -43,22 +43,22 @@ never_entered P n q r es x vs inside callee none is give arguments =
     let values : vs ≡ map inside (parameters_of q) = sym arguments ∙ ap (λ (z : Procedure). map inside (parameters_of z)) same in
     none inside (subst (λ (ws : List ℕ). Give x.store x.heap es ws) values give)
 
-pub count_called : (P : Program) (p : Procedure) (n : ℕ) (q : Procedure) (xs : List Occ) (es : List Expr) (x y : State) (given : List ℕ) → IsCall P n q es x given → Takes P p (called xs n es) x y → length given ≡ length q.parameters
-count_called P p n q xs es x y given call (r, vs, is, give, c) = count_given P n q r es x given vs c.inside call is give c.arguments
+pub count_called : (P : Program) (proc : Procedure) (n : ℕ) (q : Procedure) (xs : List Occ) (es : List Expr) (x y : State) (given : List ℕ) → IsCall P n q es x given → Takes P proc (called xs n es) x y → length given ≡ length q.parameters
+count_called P proc n q xs es x y given call (r, vs, is, give, c) = count_given P n q r es x given vs c.inside call is give c.arguments
 
-pub count_targets : (P : Program) (p : Procedure) (n : ℕ) (q : Procedure) (xs : List Occ) (es : List Expr) (x y : State) → IsProcedureAt P n q → Takes P p (called xs n es) x y → length xs ≡ length q.results
-count_targets P p n q xs es x y callee (r, vs, is, give, c) =
+pub count_targets : (P : Program) (proc : Procedure) (n : ℕ) (q : Procedure) (xs : List Occ) (es : List Expr) (x y : State) → IsProcedureAt P n q → Takes P proc (called xs n es) x y → length xs ≡ length q.results
+count_targets P proc n q xs es x y callee (r, vs, is, give, c) =
     let same : r ≡ q = one_value (slice_get P.procedures n) r q is callee in
     sym (length-map (names xs) y.store ∙ length-map xs (λ (o : Occ). o.name)) ∙ ap length c.targets.given ∙ length-map (results_of r) c.inside ∙ length-map r.results (λ (o : Occ). o.name) ∙ ap (λ (z : Procedure). length z.results) same
 
-pub calls_where : (P : Program) (p : Procedure) (n : ℕ) (q : Procedure) (xs : List Occ) (es : List Expr) (x y : State) (given : List ℕ) (inside : Store) → IsCall P n q es x given → HasOwnNames q → map inside (parameters_of q) ≡ given
-    → map inside (results_of q) ≡ map y.store (names xs) → Kept (names xs) x.store y.store → Replaced q.needs inside x.heap (MeetsOneOf q.gives inside) y.heap ↔ Takes P p (called xs n es) x y
-calls_where P p n q xs es x y given inside call own arguments results kept =
-    let r = calls_are_one P p xs n es x y q given inside own call.callee call.gives arguments results in
+pub calls_where : (P : Program) (proc : Procedure) (n : ℕ) (q : Procedure) (xs : List Occ) (es : List Expr) (x y : State) (given : List ℕ) (inside : Store) → IsCall P n q es x given → HasOwnNames q → map inside (parameters_of q) ≡ given
+    → map inside (results_of q) ≡ map y.store (names xs) → Kept (names xs) x.store y.store → Replaced q.needs inside x.heap (MeetsOneOf q.gives inside) y.heap ↔ Takes P proc (called xs n es) x y
+calls_where P proc n q xs es x y given inside call own arguments results kept =
+    let r = calls_are_one P proc xs n es x y q given inside own call.callee call.gives arguments results in
     (λ replaced. r.1 (kept, replaced), λ takes. (r.0 takes).1)
 
-pub enters_where : (P : Program) (p : Procedure) (at : Span) (n : ℕ) (q : Procedure) (es : List Expr) (x : State) (given : List ℕ) (inside : Store) → IsCall P n q es x given → HasOwnNames q → map inside (parameters_of q) ≡ given
-    → HasPart q.needs inside x.heap ↔ Passes P p (entry at n es) x
-enters_where P p at n q es x given inside call own arguments =
-    let r = entries_are_one P p at n es x q given inside own call.callee call.gives arguments in
+pub enters_where : (P : Program) (proc : Procedure) (at : Span) (n : ℕ) (q : Procedure) (es : List Expr) (x : State) (given : List ℕ) (inside : Store) → IsCall P n q es x given → HasOwnNames q → map inside (parameters_of q) ≡ given
+    → HasPart q.needs inside x.heap ↔ Passes P proc (entry at n es) x
+enters_where P proc at n q es x given inside call own arguments =
+    let r = entries_are_one P proc at n es x q given inside own call.callee call.gives arguments in
     (λ part. r.1 part, λ passes. r.0 passes)

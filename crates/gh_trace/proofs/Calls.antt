@@ -32,13 +32,13 @@ parts_are_replaced = record {
 }
 
 pub entries_are_one : EntriesAreOne
-entries_are_one P p at n es x q vs inside own is gives params = (λ passed. passed q vs inside is gives params, back)
+entries_are_one P proc at n es x q vs inside own is gives params = (λ passed. passed q vs inside is gives params, back)
   where
     here : (inside' : Store) → map inside' (parameters_of q) ≡ vs → HasPart q.needs inside x.heap → HasPart q.needs inside' x.heap
     here inside' params' (a, b, split, m) =
         (a, b, split, same_meaning q.needs (parameters_of q) inside inside' a (maps_agree (parameters_of q) inside inside' (params ∙ sym params')) own.needs_in m)
 
-    back : HasPart q.needs inside x.heap → Passes P p (entry at n es) x
+    back : HasPart q.needs inside x.heap → Passes P proc (entry at n es) x
     back part r ws inside' is' gives' params' =
         let same : q ≡ r = one_value (slice_get P.procedures n) q r is is' in
         let values : ws ≡ vs = same_values ws vs (sym gives' ∙ gives) in
@@ -50,7 +50,7 @@ replaced_agrees f s s' Q R h k before after r =
     record { part = r.part; frame = r.frame; other = r.other; splits = r.splits; met = before r.part r.met; joins = r.joins; meets = after r.other r.meets }
 
 pub calls_are_one : CallsAreOne
-calls_are_one P p xs n es x y q vs inside own is gives params results = (
+calls_are_one P proc xs n es x y q vs inside own is gives params results = (
   λ (r, ws, is', gives', c).
       let same : r ≡ q = one_value (slice_get P.procedures n) r q is' is in
       let values : ws ≡ vs = same_values ws vs (sym gives' ∙ gives) in

@@ -12,7 +12,7 @@ use Rattle.gh_path.specs.declared.condition.Condition as kept
 use Rattle.gh_path.proofs.Listed.{all_are_listed}
 use Rattle.gh_path.proofs.Numbers.{numbers_are_there}
 use Rattle.gh_trace.specs.Kept.{drawn_of, HasNoCounterexample}
-use Rattle.gh_trace.specs.Refuted.{IsFirst}
+use Rattle.gh_trace.specs.Refuted.{ShowsFirst}
 use Rattle.gh_trace.specs.Replay.{Refutes}
 use Rattle.gh_trace.specs.Validity.{IsConditionValid}
 use Rattle.gh_trace.specs.declared.state.Trace.{Trace}
@@ -68,14 +68,14 @@ pub has_procedure : (P : Program) (r : kept.Condition) → IsOne P r → slice_g
 has_procedure P r one none = let is = condition_one P r one in not_both (slice_get P.procedures r.procedure) is.procedure is.of none
 
 -- and all its numbers are there
-pub is_there : (P : Program) (p : Procedure) (r : kept.Condition) → IsTyped P → IsOne P r → IsOf P (condition_of r) p → IsThere P p (condition_of r)
-is_there P p r typed one of = numbers_are_there P (condition_of r) p typed (condition_one P r one) of
+pub is_there : (P : Program) (proc : Procedure) (r : kept.Condition) → IsTyped P → IsOne P r → IsOf P (condition_of r) proc → IsThere P proc (condition_of r)
+is_there P proc r typed one of = numbers_are_there P (condition_of r) proc typed (condition_one P r one) of
 
 -- the first that isn't valid
 
 -- the next condition is refuted, after valid ones
 pub next_refuted : (P : Program) (k : ℕ) (r : kept.Condition) (t : Trace) → IsNumbered P (k + 1) (Some r) → Refutes P (condition_of r) (drawn_of t) →
-    ((d : Condition) → Contains (take k (conditions P)) d → IsConditionValid P d) → IsFirst P (k + 1) t
+    ((d : Condition) → Contains (take k (conditions P)) d → IsConditionValid P d) → ShowsFirst P (k + 1) t
 next_refuted P k r t found against valid =
     let c : Condition = condition_of r in
     let at : slice_get (conditions P) k ≡ Some c = next_one P k r found in
@@ -89,32 +89,32 @@ next_refuted P k r t found against valid =
       refutes = against;
     }
 
-pub first_at : (P : Program) (k : ℕ) (t : Trace) → (f : IsFirst P k t) → slice_get (conditions P) (k - 1) ≡ Some f.condition
+pub first_at : (P : Program) (k : ℕ) (t : Trace) → (f : ShowsFirst P k t) → slice_get (conditions P) (k - 1) ≡ Some f.condition
 first_at P k t f =
     let place : k - 1 ≡ length f.before = omega (arith, f.number_is) in
     rw (f.whole, place) (at_seam f.before f.condition f.after)
 
-pub first_low : (P : Program) (k : ℕ) (t : Trace) → IsFirst P k t → 1 ≤ k
+pub first_low : (P : Program) (k : ℕ) (t : Trace) → ShowsFirst P k t → 1 ≤ k
 first_low P k t f = omega (arith, f.number_is)
 
-pub first_there : (P : Program) (k : ℕ) (t : Trace) → IsFirst P k t → IsNumbered P k None → ⊥
+pub first_there : (P : Program) (k : ℕ) (t : Trace) → ShowsFirst P k t → IsNumbered P k None → ⊥
 first_there P k t f (inl none) = omega (arith, none, f.number_is)
 first_there P k t f (inr past) = omega (arith, past, f.number_is, slice_get_within (conditions P) (k - 1) f.condition (first_at P k t f))
 
 -- the condition that is kept is the first that isn't valid
-pub kept_first : (P : Program) (k : ℕ) (t : Trace) (r : kept.Condition) → (f : IsFirst P k t) → IsNumbered P k (Some r) → condition_of r ≡ f.condition
+pub kept_first : (P : Program) (k : ℕ) (t : Trace) (r : kept.Condition) → (f : ShowsFirst P k t) → IsNumbered P k (Some r) → condition_of r ≡ f.condition
 kept_first P k t r f (low, there) = one_value (slice_get (conditions P) (k - 1)) (condition_of r) f.condition there (first_at P k t f)
 
-pub first_one : (P : Program) (k : ℕ) (t : Trace) (r : kept.Condition) → IsFirst P k t → IsNumbered P k (Some r) → IsOne P r
+pub first_one : (P : Program) (k : ℕ) (t : Trace) (r : kept.Condition) → ShowsFirst P k t → IsNumbered P k (Some r) → IsOne P r
 first_one P k t r f n = numbered_one P k r n
 
-pub never_valid : (P : Program) (k : ℕ) (t : Trace) (r : kept.Condition) → IsFirst P k t → IsNumbered P k (Some r) → HasNoCounterexample P r → ⊥
+pub never_valid : (P : Program) (k : ℕ) (t : Trace) (r : kept.Condition) → ShowsFirst P k t → IsNumbered P k (Some r) → HasNoCounterexample P r → ⊥
 never_valid P k t r f n valid =
     let against : Refutes P (condition_of r) (drawn_of t) = subst (λ c. Refutes P c (drawn_of t)) (sym (kept_first P k t r f n)) f.refutes in
     valid against.procedure against.of against.first.state _ against.counterexample
 
 -- another counterexample of that condition shows it too
-pub still_first : (P : Program) (k : ℕ) (t u : Trace) → (f : IsFirst P k t) → Refutes P f.condition (drawn_of u) → IsFirst P k u
+pub still_first : (P : Program) (k : ℕ) (t u : Trace) → (f : ShowsFirst P k t) → Refutes P f.condition (drawn_of u) → ShowsFirst P k u
 still_first P k t u f refutes = record {
   before = f.before;
   condition = f.condition;

@@ -17,7 +17,7 @@ use Rattle.gh_assert.specs.declared.store.Entry.{Entry}
 use Rattle.gh_assert.specs.Stores.{listed_names, store_of, AreDistinct, IsListedAt}
 use Rattle.gh_assert.proofs.Entries.{listed_here, unlisted}
 use Rattle.gh_trace.specs.declared.targets.Targets.{Targets}
-use Rattle.gh_trace.specs.Targets.{IsTarget, Keeps, entries_of}
+use Rattle.gh_trace.specs.Targets.{IsTarget, KeepsOthers, entries_of}
 
 -- the members from a place on
 pub next : {X : Type 0} (xs : List X) (i : ℕ) (x : X) → i < length xs → x ≡ get_or xs i x → drop i xs ≡ x ∷ drop (i + 1) xs
@@ -92,7 +92,7 @@ in_or_out (e ∷ es) n = elim (cases_Bool (bytes_eq e.name n)) [
 ]
 
 -- names that aren't listed have the value 0 in both
-pub all_kept : (ts : Targets) (old new : List Entry) → listed_names new ≡ listed_names old → KeptOf ts old new old → Keeps ts old new
+pub all_kept : (ts : Targets) (old new : List Entry) → listed_names new ≡ listed_names old → KeptOf ts old new old → KeepsOthers ts old new
 all_kept ts old new names kept n out = elim (in_or_out old n) [
   | inl there ↦ kept n out there
   | inr none ↦ ap (λ o. unwrap_or o 0) (unlisted new n (λ there. none (subst (λ ns. Contains ns n) names there))) ∙ sym (ap (λ o. unwrap_or o 0) (unlisted old n none))

@@ -22,7 +22,7 @@ use Rattle.gh_trace.specs.declared.steps.Call.{Call}
 
 -- a step that says the same in each procedure
 abbrev pub DecidesTaken : graph.PathStep → State → State → Bool → Type 0
-DecidesTaken s x y b = (P : Program) (p : Procedure) → IsTrue b ↔ Takes P p s (state_of x) (state_of y)
+DecidesTaken s x y b = (P : Program) (proc : Procedure) → IsTrue b ↔ Takes P proc s (state_of x) (state_of y)
 
 -- a step in the setting
 abbrev pub DecidesIn : Setting → graph.PathStep → State → State → Bool → Type 0

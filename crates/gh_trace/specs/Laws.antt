@@ -19,16 +19,16 @@ use Rattle.gh_trace.specs.Replay.{Drawn, FirstFailure, Refutes}
 pub record FailuresAreOne : Type 0 where
   pub one : (P : Program) (c : Condition) (xs : List Drawn) (n m : ℕ) → FirstFailure P c xs n → FirstFailure P c xs m → n ≡ m
   pub none : (P : Program) (c : Condition) (xs : List Drawn) → Refutes P c xs → (n : ℕ) → FirstFailure P c xs n → ⊥
-  pub some : (P : Program) (c : Condition) (p : Procedure) (xs : List Drawn) → IsOf P c p → ((n : ℕ) → FirstFailure P c xs n → ⊥) → (Refutes P c xs → ⊥) → ⊥
+  pub some : (P : Program) (c : Condition) (proc : Procedure) (xs : List Drawn) → IsOf P c proc → ((n : ℕ) → FirstFailure P c xs n → ⊥) → (Refutes P c xs → ⊥) → ⊥
   pub within : (P : Program) (c : Condition) (xs : List Drawn) (n : ℕ) → FirstFailure P c xs n → n ≤ suc (length c.way.steps)
 
 -- from a heap that meets an assertion no trace leads to a cell at null
 abbrev pub TracesAreProper : Type 0
-TracesAreProper = (P : Program) (p : Procedure) (f : Formula) (x : State) (ss : List PathStep) (ys : List State) → Meaning f x.store x.heap → IsTrace P p x ss ys → IsProper (last_state x ys).heap
+TracesAreProper = (P : Program) (proc : Procedure) (f : Formula) (x : State) (ss : List PathStep) (ys : List State) → Meaning f x.store x.heap → IsTrace P proc x ss ys → IsProper (last_state x ys).heap
 
 -- a check that doesn't fail is passed
 abbrev pub ChecksAreDecided : Type 0
-ChecksAreDecided = (P : Program) (p : Procedure) (c : Check) (x : State) → IsProper x.heap → ((Passes P p c x → ⊥) → ⊥) → Passes P p c x
+ChecksAreDecided = (P : Program) (proc : Procedure) (c : Check) (x : State) → IsProper x.heap → ((Passes P proc c x → ⊥) → ⊥) → Passes P proc c x
 
 -- any split that shows the part tells what stays: the rest of the heap is judged by Q
 abbrev pub IsToldBySplits : Formula → Store → Heap → (Heap → Type 0) → Heap → Type 0
@@ -48,15 +48,15 @@ pub record HasOwnNames (p : Procedure) : Type 0 where
 -- any store that gives the parameters the arguments' values decides the check of a call
 abbrev pub EntriesAreOne : Type 0
 EntriesAreOne =
-    (P : Program) (p : Procedure) (at : Span) (n : ℕ) (es : List Expr) (x : State) (q : Procedure) (vs : List ℕ) (inside : Store) → HasOwnNames q → IsProcedureAt P n q →
-    Give x.store x.heap es vs → map inside (parameters_of q) ≡ vs → Passes P p (entry at n es) x ↔ HasPart q.needs inside x.heap
+    (P : Program) (proc : Procedure) (at : Span) (n : ℕ) (es : List Expr) (x : State) (q : Procedure) (vs : List ℕ) (inside : Store) → HasOwnNames q → IsProcedureAt P n q →
+    Give x.store x.heap es vs → map inside (parameters_of q) ≡ vs → Passes P proc (entry at n es) x ↔ HasPart q.needs inside x.heap
 
 -- and one that also gives the results what the targets got decides its step
 abbrev pub CallsAreOne : Type 0
 CallsAreOne =
-    (P : Program) (p : Procedure) (xs : List Occ) (n : ℕ) (es : List Expr) (x y : State) (q : Procedure) (vs : List ℕ) (inside : Store) → HasOwnNames q → IsProcedureAt P n q →
+    (P : Program) (proc : Procedure) (xs : List Occ) (n : ℕ) (es : List Expr) (x y : State) (q : Procedure) (vs : List ℕ) (inside : Store) → HasOwnNames q → IsProcedureAt P n q →
     Give x.store x.heap es vs → map inside (parameters_of q) ≡ vs → map inside (results_of q) ≡ map y.store (names xs) →
-    Takes P p (called xs n es) x y ↔ (((m : Name) → (Contains (names xs) m → ⊥) → y.store m ≡ x.store m) × Replaced q.needs inside x.heap (MeetsOneOf q.gives inside) y.heap)
+    Takes P proc (called xs n es) x y ↔ (((m : Name) → (Contains (names xs) m → ⊥) → y.store m ≡ x.store m) × Replaced q.needs inside x.heap (MeetsOneOf q.gives inside) y.heap)
 
 -- a test without reads, as those of assertions are, gives in any heap the truth that it has in an assertion
 abbrev pub TestsGiveTheirTruth : Type 0

@@ -20,8 +20,8 @@ abbrev pub GivesWay : Part → (Heap → Type 0) → Heap → Type 0
 GivesWay p Q k = Replaced (formula_of p.assertion.now) (store_of p.store.now) p.heap.now Q k
 
 -- the heap stands in k in the place of that part
-abbrev pub Stands : Part → Heap → Heap → Type 0
-Stands p k other = GivesWay p (λ h. h ≡ other) k
+abbrev pub StandsInPlace : Part → Heap → Heap → Type 0
+StandsInPlace p k other = GivesWay p (λ h. h ≡ other) k
 
 -- a part that meets what the procedure needs gives way to one that meets an alternative of what it gives
 abbrev pub IsAnswered : Procedure → Store → Heap → Heap → Type 0

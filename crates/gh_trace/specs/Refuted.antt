@@ -8,7 +8,7 @@ use Rattle.gh_trace.specs.Validity.{IsConditionValid}
 use Rattle.gh_trace.specs.declared.state.Trace.{Trace}
 
 -- the condition of the number is the first that isn't valid, and the trace shows it
-pub record IsFirst (P : Program) (number : ℕ) (trace : Trace) : Type 0 where
+pub record ShowsFirst (P : Program) (number : ℕ) (trace : Trace) : Type 0 where
   pub before : List Condition
   pub condition : Condition
   pub after : List Condition

@@ -18,23 +18,23 @@ Begins p f x = (x.listed ≡ variable_names p) × Meaning f x.state.store x.stat
 
 -- the store is over the variables, and the step leads to the state
 abbrev pub LeadsTo : Program → Procedure → PathStep → State → Drawn → Type 0
-LeadsTo P p s x y = (y.listed ≡ variable_names p) × Takes P p s x y.state
+LeadsTo P proc s x y = (y.listed ≡ variable_names proc) × Takes P proc s x y.state
 
 -- a state is missing, or the step doesn't lead to it; or at the end the check is passed, or more states follow. These
 -- steps are counted from 1, and the check as one more
 abbrev pub FailsAfter : Program → Procedure → State → List PathStep → Check → List Drawn → ℕ → Type 0
-FailsAfter P p x [] c [] n = Passes P p c x × (n ≡ 1)
-FailsAfter P p x [] c (y ∷ ys) n = n ≡ 1
-FailsAfter P p x (s ∷ ss) c [] n = n ≡ 1
-FailsAfter P p x (s ∷ ss) c (y ∷ ys) n = ((LeadsTo P p s x y → ⊥) × (n ≡ 1)) ⊎ (LeadsTo P p s x y × (k : ℕ) × (n ≡ suc k) × FailsAfter P p y.state ss c ys k)
+FailsAfter P proc x [] c [] n = Passes P proc c x × (n ≡ 1)
+FailsAfter P proc x [] c (y ∷ ys) n = n ≡ 1
+FailsAfter P proc x (s ∷ ss) c [] n = n ≡ 1
+FailsAfter P proc x (s ∷ ss) c (y ∷ ys) n = ((LeadsTo P proc s x y → ⊥) × (n ≡ 1)) ⊎ (LeadsTo P proc s x y × (k : ℕ) × (n ≡ suc k) × FailsAfter P proc y.state ss c ys k)
 
 -- the number of the first step that fails: 0 where there is no first state, or the start isn't as it should be
 abbrev pub FailsFirst : Program → Procedure → Formula → List PathStep → Check → List Drawn → ℕ → Type 0
-FailsFirst P p f ss c [] n = n ≡ 0
-FailsFirst P p f ss c (x ∷ ys) n = ((Begins p f x → ⊥) × (n ≡ 0)) ⊎ (Begins p f x × FailsAfter P p x.state ss c ys n)
+FailsFirst P proc f ss c [] n = n ≡ 0
+FailsFirst P proc f ss c (x ∷ ys) n = ((Begins proc f x → ⊥) × (n ≡ 0)) ⊎ (Begins proc f x × FailsAfter P proc x.state ss c ys n)
 
 abbrev pub FirstFailure : Program → Condition → List Drawn → ℕ → Type 0
-FirstFailure P c xs n = (p : Procedure) × IsOf P c p × FailsFirst P p (meets_at p c.start) c.way.steps c.way.check xs n
+FirstFailure P c xs n = (proc : Procedure) × IsOf P c proc × FailsFirst P proc (meets_at proc c.start) c.way.steps c.way.check xs n
 
 -- all stores are over the variables, and the states are a counterexample
 pub record Refutes (P : Program) (c : Condition) (xs : List Drawn) : Type 0 where

@@ -12,8 +12,8 @@ IsTarget (Names os) n = Contains (names os.now) n
 IsTarget (Body b) n = SomeAssigns (part_of b.now).statements n
 
 -- each name that is no target has the same value in both
-abbrev pub Keeps : Targets → List Entry → List Entry → Type 0
-Keeps ts old new = (n : Name) → (IsTarget ts n → ⊥) → store_of new n ≡ store_of old n
+abbrev pub KeepsOthers : Targets → List Entry → List Entry → Type 0
+KeepsOthers ts old new = (n : Name) → (IsTarget ts n → ⊥) → store_of new n ≡ store_of old n
 
 -- names with values beside them, as many as there are of both
 abbrev pub entries_of : List Name → List ℕ → List Entry

@@ -42,44 +42,44 @@ pub record Around (l : Loop) (x y : State) : Type 0 where
   pub replaced : Replaced l.invariant x.store x.heap (Meaning l.invariant y.store) y.heap
   pub kept : (n : Name) → (SomeAssigns l.body n → ⊥) → y.store n ≡ x.store n
 
--- a step of a path of the procedure p leads from one state to another; that of a number that isn't there nowhere
+-- a step of a path of the procedure proc leads from one state to another; that of a number that isn't there nowhere
 abbrev pub Takes : Program → Procedure → PathStep → State → State → Type 0
-Takes P p (accessed o) x y = Allocated x.heap (x.store o.name) × (y ≡ x)
-Takes P p (assume l e r) x y = (compared e (result x.store x.heap l) (result x.store x.heap r) ≡ Some true) × (y ≡ x)
-Takes P p (assigned o e) x y = (v : ℕ) × (result x.store x.heap e ≡ Some v) × Gets x.store (o.name ∷ []) (v ∷ []) y.store × (y.heap ≡ x.heap)
-Takes P p (made o) x y = (l : ℕ) × (v : ℕ) × (l ≢ 0) × (get x.heap l ≡ None) × Gets x.store (o.name ∷ []) (l ∷ []) y.store × (y.heap ≡ insert x.heap l v)
-Takes P p (written o e) x y =
+Takes P proc (accessed o) x y = Allocated x.heap (x.store o.name) × (y ≡ x)
+Takes P proc (assume l e r) x y = (compared e (result x.store x.heap l) (result x.store x.heap r) ≡ Some true) × (y ≡ x)
+Takes P proc (assigned o e) x y = (v : ℕ) × (result x.store x.heap e ≡ Some v) × Gets x.store (o.name ∷ []) (v ∷ []) y.store × (y.heap ≡ x.heap)
+Takes P proc (made o) x y = (l : ℕ) × (v : ℕ) × (l ≢ 0) × (get x.heap l ≡ None) × Gets x.store (o.name ∷ []) (l ∷ []) y.store × (y.heap ≡ insert x.heap l v)
+Takes P proc (written o e) x y =
     (v : ℕ) × (result x.store x.heap e ≡ Some v) × Allocated x.heap (x.store o.name) × (y ≡ record { store = x.store; heap = insert x.heap (x.store o.name) v })
-Takes P p (freed o) x y = Allocated x.heap (x.store o.name) × (y ≡ record { store = x.store; heap = remove x.heap (x.store o.name) })
-Takes P p (called xs n es) x y = (q : Procedure) × (vs : List ℕ) × IsProcedureAt P n q × Give x.store x.heap es vs × Called q vs (names xs) x y
-Takes P p (looped n) x y = (l : Loop) × IsLoopAt p n l × Around l x y
-Takes P p (answered es) x y = (vs : List ℕ) × Give x.store x.heap es vs × Gets x.store (results_of p) vs y.store × (y.heap ≡ x.heap)
+Takes P proc (freed o) x y = Allocated x.heap (x.store o.name) × (y ≡ record { store = x.store; heap = remove x.heap (x.store o.name) })
+Takes P proc (called xs n es) x y = (q : Procedure) × (vs : List ℕ) × IsProcedureAt P n q × Give x.store x.heap es vs × Called q vs (names xs) x y
+Takes P proc (looped n) x y = (l : Loop) × IsLoopAt proc n l × Around l x y
+Takes P proc (answered es) x y = (vs : List ℕ) × Give x.store x.heap es vs × Gets x.store (results_of proc) vs y.store × (y.heap ≡ x.heap)
 
 -- the check is passed in the state, as is one of a number that isn't there
 abbrev pub Passes : Program → Procedure → Check → State → Type 0
-Passes P p (access o) x = Allocated x.heap (x.store o.name)
-Passes P p (entry at n es) x =
+Passes P proc (access o) x = Allocated x.heap (x.store o.name)
+Passes P proc (entry at n es) x =
     (q : Procedure) (vs : List ℕ) (inside : Store) → IsProcedureAt P n q → Give x.store x.heap es vs → map inside (parameters_of q) ≡ vs → HasPart q.needs inside x.heap
-Passes P p (loop_entry at n) x = (l : Loop) → IsLoopAt p n l → HasPart l.invariant x.store x.heap
-Passes P p (returned at) x = MeetsOneOf p.gives x.store x.heap
-Passes P p (loop_end at n) x = (l : Loop) → IsLoopAt p n l → Meaning l.invariant x.store x.heap
+Passes P proc (loop_entry at n) x = (l : Loop) → IsLoopAt proc n l → HasPart l.invariant x.store x.heap
+Passes P proc (returned at) x = MeetsOneOf proc.gives x.store x.heap
+Passes P proc (loop_end at n) x = (l : Loop) → IsLoopAt proc n l → Meaning l.invariant x.store x.heap
 
 -- one state for each step, after the first state
 abbrev pub IsTrace : Program → Procedure → State → List PathStep → List State → Type 0
-IsTrace P p x [] [] = Unit {0}
-IsTrace P p x [] (y ∷ ys) = ⊥
-IsTrace P p x (s ∷ ss) [] = ⊥
-IsTrace P p x (s ∷ ss) (y ∷ ys) = Takes P p s x y × IsTrace P p y ss ys
+IsTrace P proc x [] [] = Unit {0}
+IsTrace P proc x [] (y ∷ ys) = ⊥
+IsTrace P proc x (s ∷ ss) [] = ⊥
+IsTrace P proc x (s ∷ ss) (y ∷ ys) = Takes P proc s x y × IsTrace P proc y ss ys
 
 abbrev pub last_state : State → List State → State
 last_state x [] = x
 last_state x (y ∷ ys) = last_state y ys
 
 -- the first heap meets the assertion whole, the steps lead on, and in the last state the check fails
-pub record Counterexample (P : Program) (p : Procedure) (f : Formula) (ss : List PathStep) (c : Check) (x : State) (ys : List State) : Type 0 where
+pub record Counterexample (P : Program) (proc : Procedure) (f : Formula) (ss : List PathStep) (c : Check) (x : State) (ys : List State) : Type 0 where
   pub begins : Meaning f x.store x.heap
-  pub leads : IsTrace P p x ss ys
-  pub fails : Passes P p c (last_state x ys) → ⊥
+  pub leads : IsTrace P proc x ss ys
+  pub fails : Passes P proc c (last_state x ys) → ⊥
 
 abbrev pub IsValid : Program → Procedure → Formula → List PathStep → Check → Type 0
-IsValid P p f ss c = (x : State) (ys : List State) → Counterexample P p f ss c x ys → ⊥
+IsValid P proc f ss c = (x : State) (ys : List State) → Counterexample P proc f ss c x ys → ⊥

@@ -6,7 +6,7 @@ use Rattle.gh_path.specs.Conditions.{Condition, conditions, IsOf}
 use Rattle.gh_trace.specs.Traces.{State, Counterexample, IsValid}
 
 abbrev pub IsConditionValid : Program → Condition → Type 0
-IsConditionValid P c = (p : Procedure) → IsOf P c p → IsValid P p (meets_at p c.start) c.way.steps c.way.check
+IsConditionValid P c = (proc : Procedure) → IsOf P c proc → IsValid P proc (meets_at proc c.start) c.way.steps c.way.check
 
 -- each of the listed conditions is valid
 abbrev pub ListedAreValid : Program → Type 0
@@ -15,4 +15,4 @@ ListedAreValid P = (c : Condition) → Contains (conditions P) c → IsCondition
 -- the list of states is a counterexample of the condition
 abbrev pub AreCounterexample : Program → Condition → List State → Type 0
 AreCounterexample P c [] = ⊥
-AreCounterexample P c (x ∷ ys) = (p : Procedure) × IsOf P c p × Counterexample P p (meets_at p c.start) c.way.steps c.way.check x ys
+AreCounterexample P c (x ∷ ys) = (proc : Procedure) × IsOf P c proc × Counterexample P proc (meets_at proc c.start) c.way.steps c.way.check x ys

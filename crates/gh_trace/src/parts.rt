@@ -4,7 +4,7 @@ ghost use Rattle.std.specs.Prelude.{◌↔◌, IfOk, IfSome, IfNone, IsTrue};
 ghost use Rattle.gh_ast.specs.Plain.{procedure_of};
 ghost use Rattle.gh_assert.specs.Heaps.{Heap};
 ghost use Rattle.gh_assert.specs.Stores.{store_of};
-ghost use Rattle.gh_trace.specs.Parts.{Meets, GivesWay, Stands, DecidesAnswer, HasMet};
+ghost use Rattle.gh_trace.specs.Parts.{Meets, GivesWay, StandsInPlace, DecidesAnswer, HasMet};
 
 use crate::heaps::outside_frame;
 use gh_assert::heap::Heap;
@@ -37,8 +37,8 @@ pub fn replacement(
     before: Part<'_>,
     after: &Heap,
 ) -> Result<Option<Heap>, AllocError>
-    ensures found { IfOk result (λ o. IfSome o (Stands before.entry after.now)) }
-    ensures none { IfOk result (λ o. IfNone o ((other : Heap) → Stands before.entry after.now other → ⊥)) }
+    ensures found { IfOk result (λ o. IfSome o (StandsInPlace before.entry after.now)) }
+    ensures none { IfOk result (λ o. IfNone o ((other : Heap) → StandsInPlace before.entry after.now other → ⊥)) }
 {
     let Some(places) = footprint(alloc, before.store, before.heap, before.assertion)? else {
         return Ok(None);

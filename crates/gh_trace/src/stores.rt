@@ -8,7 +8,7 @@ ghost use Rattle.gh_assert.specs.Stores.{store_of, listed_names, AreDistinct};
 ghost use Rattle.gh_assert.specs.Values.{Gets};
 ghost use Rattle.gh_trace.specs.Kept.{state_of};
 ghost use Rattle.gh_trace.specs.Settings.{HasDistinctNames, IsEnteredOr};
-ghost use Rattle.gh_trace.specs.Targets.{Keeps, entries_of};
+ghost use Rattle.gh_trace.specs.Targets.{KeepsOthers, entries_of};
 
 use crate::state::State;
 use crate::targets::{Targets, is_same};
@@ -72,7 +72,7 @@ pub(crate) fn value(store: &Store, name: &Name) -> u32
 /// Whether all variables but the targets keep their values.
 pub(crate) fn keeps(before: &Store, after: &Store, targets: Targets<'_>) -> bool
     requires { listed_names after.now ≡ listed_names before.now }
-    ensures { IsTrue result ↔ Keeps targets.entry before.now after.now }
+    ensures { IsTrue result ↔ KeepsOthers targets.entry before.now after.now }
 {
     for entry in before.entries() {
         if value(after, &entry.name) != entry.value && !targets.has(&entry.name) {

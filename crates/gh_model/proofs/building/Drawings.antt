@@ -27,22 +27,22 @@ all_over xs (y ∷ ys) d there = elim (member_cases (record { listed = xs; state
 ]
 
 -- a counterexample that is drawn over the variables of the condition's procedure refutes the condition
-pub drawn_refutes : (P : Program) (p : Procedure) (c : Condition) (ys : List State) → IsOf P c p → whole.AreCounterexample P c ys → Refutes P c (drawn_over (variable_names p) ys)
-drawn_refutes P p c [] of R = absurd R
-drawn_refutes P p c (y ∷ ys) of R =
+pub drawn_refutes : (P : Program) (proc : Procedure) (c : Condition) (ys : List State) → IsOf P c proc → whole.AreCounterexample P c ys → Refutes P c (drawn_over (variable_names proc) ys)
+drawn_refutes P proc c [] of R = absurd R
+drawn_refutes P proc c (y ∷ ys) of R =
     let (q, of', C) = R in
-    let xs = variable_names p in
-    let same : q ≡ p = one_value (slice_get P.procedures c.procedure) q p of' of in
-    let C' : IsCounterexample P p c y ys = subst (λ (r : Procedure). IsCounterexample P r c y ys) same C in
+    let xs = variable_names proc in
+    let same : q ≡ proc = one_value (slice_get P.procedures c.procedure) q proc of' of in
+    let C' : IsCounterexample P proc c y ys = subst (λ (r : Procedure). IsCounterexample P r c y ys) same C in
     record {
-      procedure = p;
+      procedure = proc;
       of = of;
       first = record { listed = xs; state = y };
       others = drawn_over xs ys;
       states = refl;
       over = all_over xs (y ∷ ys);
-      counterexample = subst (Counterexample P p (meets_at p c.start) c.way.steps c.way.check y) (sym (states_of xs ys)) C';
+      counterexample = subst (Counterexample P proc (meets_at proc c.start) c.way.steps c.way.check y) (sym (states_of xs ys)) C';
     }
 
 pub built_is_counterexample : BuiltIsCounterexample
-built_is_counterexample P p c m typed is of I = drawn_refutes P p c (built_trace P p c m) of (locality_holds P p c m typed is of I)
+built_is_counterexample P proc c m typed is of I = drawn_refutes P proc c (built_trace P proc c m) of (locality_holds P proc c m typed is of I)

@@ -88,7 +88,7 @@ loop_used_within : (o : Option path.Loop) (xs : List Name) (s : Terms) → Withi
 loop_used_within None xs s = λ i k f. f
 loop_used_within (Some l) xs s = λ i k f. (walked_grows l.invariant (with_assigned l xs s)).kinds i k (assigned_within l xs s i k f)
 
-used_within : (P : Program) (home : Procedure) (p : path.PathStep) (s : Terms) → Within (step_used home p s).kinds (step_walked P home p s).kinds
+used_within : (P : Program) (home : Procedure) (proc : path.PathStep) (s : Terms) → Within (step_used home proc s).kinds (step_walked P home proc s).kinds
 used_within P home (path.accessed o) s = follow_within o.name (used o.name s)
 used_within P home (path.assume l e r) s = λ i k f. f
 used_within P home (path.assigned x e) s = λ i k f. f
@@ -116,11 +116,11 @@ on_the_way P home ps c s i k e = check_within P home c (steps_walked P home ps s
 -- a term of a variable that is used later is listed at the end
 first_below : (P : Program) (home : Procedure) (ps : List path.PathStep) (c : path.Check) (s : Terms) → IsBounded s → (y : Name) (t : ℕ) → first_use P home ps c s y ≡ Some t → t < length (at_end P home ps c s)
 first_below P home [] c s B y t e = still_below (check_used home c s).kinds (check_walked P home c s).kinds t (check_used_within P home c s) ((check_used_bounded home c s B).below y t e)
-first_below P home (p ∷ ps) c s B y t e =
-    let z = step_walked P home p s in
-    elim (first_cases ((step_used home p s).bindings y) (z.bindings y) (first_use P home ps c z y) t e) [
-      | inl now ↦ still_below (step_used home p s).kinds (at_end P home ps c z) t (λ i k f. on_the_way P home ps c z i k (used_within P home p s i k f)) ((used_step_bounded home p s B).below y t now)
-      | inr later ↦ first_below P home ps c z (step_bounded P home p s B) y t later
+first_below P home (proc ∷ ps) c s B y t e =
+    let z = step_walked P home proc s in
+    elim (first_cases ((step_used home proc s).bindings y) (z.bindings y) (first_use P home ps c z y) t e) [
+      | inl now ↦ still_below (step_used home proc s).kinds (at_end P home ps c z) t (λ i k f. on_the_way P home ps c z i k (used_within P home proc s i k f)) ((used_step_bounded home proc s B).below y t now)
+      | inr later ↦ first_below P home ps c z (step_bounded P home proc s B) y t later
     ]
 
 -- so is the term of each variable at a state
@@ -168,26 +168,26 @@ along P home s K c R [] t i [] (b ∷ []) I =
     }
 along P home s K c R [] t i [] (b ∷ d ∷ bs) I = absurd I.bindings.1
 along P home s K c R [] t i (q ∷ qs) bs I = absurd I.steps
-along P home s K c R (p ∷ ps) t i [] bs I = absurd I.steps
-along P home s K c R (p ∷ ps) t i (q ∷ qs) [] I = absurd I.bindings
-along P home s K c R (p ∷ ps) t i (q ∷ qs) (b ∷ bs) I =
+along P home s K c R (proc ∷ ps) t i [] bs I = absurd I.steps
+along P home s K c R (proc ∷ ps) t i (q ∷ qs) [] I = absurd I.bindings
+along P home s K c R (proc ∷ ps) t i (q ∷ qs) (b ∷ bs) I =
     let xs = variable_names home in
-    let z = step_walked P home p t in
-    let j = path_version p i in
-    let there = here_there P home s K c (p ∷ ps) t i b I.terms I.versions I.within I.bounded I.version I.bindings.0 in
-    let next : version_after i (step_of q) ≡ j = kept_past q (term_step P home p t) i I.steps.0 ∙ prepared_past P home R p t i I.prepared.0 in
-    let rest : AreBuiltAlong s xs ps j qs bs (state_bindings P home ps c z) = along P home s K c (ready_after p R) ps z j qs bs (record {
+    let z = step_walked P home proc t in
+    let j = path_version proc i in
+    let there = here_there P home s K c (proc ∷ ps) t i b I.terms I.versions I.within I.bounded I.version I.bindings.0 in
+    let next : version_after i (step_of q) ≡ j = kept_past q (term_step P home proc t) i I.steps.0 ∙ prepared_past P home R proc t i I.prepared.0 in
+    let rest : AreBuiltAlong s xs ps j qs bs (state_bindings P home ps c z) = along P home s K c (ready_after proc R) ps z j qs bs (record {
       terms = I.terms;
       versions = I.versions;
       prepared = I.prepared.1;
       within = I.within;
-      bounded = step_bounded P home p t I.bounded;
-      version = prepared_version P home R p t I.prepared.0 ∙ ap (path_version p) I.version;
+      bounded = step_bounded P home proc t I.bounded;
+      version = prepared_version P home R proc t I.prepared.0 ∙ ap (path_version proc) I.version;
       steps = I.steps.1;
       bindings = I.bindings.1;
       own = I.own.1;
     }) in
-    let B = here P home (p ∷ ps) c t in
+    let B = here P home (proc ∷ ps) c t in
     let first : Drawn = record { listed = xs; state = state_under (interpretation_of s) s.sizes.terms i B } in
     record {
       all = (there.0, there.1, subst (λ k. HasAll s k qs bs) (sym next) rest.all);
@@ -198,37 +198,37 @@ along P home s K c R (p ∷ ps) t i (q ∷ qs) (b ∷ bs) I =
     }
 
 -- a condition over terms, as it is kept, and a structure with its terms and versions
-pub are_built : (P : Program) (p : Procedure) (c : Condition) (y : Symbolic) (s : Tables) → IsTyped P → IsCondition P c → IsOf P c p → IsSymbolic P p c y → s.sizes.terms ≡ length y.terms → s.sizes.versions ≡ y.versions
-    → AreBuiltAlong s (variable_names p) c.way.steps 0 y.steps.items y.bindings.items (symbolic_of P p c).bindings
-are_built P p c y s typed is of kept_is terms versions =
-    let f = path.meets_at p c.start in
+pub are_built : (P : Program) (proc : Procedure) (c : Condition) (y : Symbolic) (s : Tables) → IsTyped P → IsCondition P c → IsOf P c proc → IsSymbolic P proc c y → s.sizes.terms ≡ length y.terms → s.sizes.versions ≡ y.versions
+    → AreBuiltAlong s (variable_names proc) c.way.steps 0 y.steps.items y.bindings.items (symbolic_of P proc c).bindings
+are_built P proc c y s typed is of kept_is terms versions =
+    let f = path.meets_at proc c.start in
     let ps = c.way.steps in
     let k = c.way.check in
-    let t = begins p c.start in
-    along P p s (symbolic_of P p c).terms k Nowhere ps t 0 y.steps.items y.bindings.items (record {
+    let t = begins proc c.start in
+    along P proc s (symbolic_of P proc c).terms k Nowhere ps t 0 y.steps.items y.bindings.items (record {
       terms = terms ∙ sym (length-map y.terms plain_kind) ∙ ap length kept_is.terms;
-      versions = versions ∙ kept_is.versions ∙ ap (λ i. i + 1) (check_version P p k (steps_walked P p ps t));
-      prepared = paths_are_prepared P p c typed is of;
+      versions = versions ∙ kept_is.versions ∙ ap (λ i. i + 1) (check_version P proc k (steps_walked P proc ps t));
+      prepared = paths_are_prepared P proc c typed is of;
       within = λ i l e. e;
       bounded = walked_bounded f no_terms none_bounded;
       version = (walked_grows f no_terms).version;
       steps = kept_is.steps;
       bindings = kept_is.bindings;
-      own = only_variables_have_terms P p c typed is of;
+      own = only_variables_have_terms P proc c typed is of;
     })
 
 -- the states of the trace
-pub built_is : (P : Program) (p : Procedure) (c : Condition) (y : Symbolic) (s : Tables) → IsTyped P → IsCondition P c → IsOf P c p → IsSymbolic P p c y → s.sizes.terms ≡ length y.terms → s.sizes.versions ≡ y.versions
-    → map drawn (states_in s (variable_names p) 0 y.steps.items y.bindings.items) ≡ drawn_over (variable_names p) (built_trace P p c (interpretation_of s))
-built_is P p c y s typed is of kept_is terms versions =
-    let xs = variable_names p in
-    let count : s.sizes.terms ≡ length (symbolic_of P p c).terms = terms ∙ sym (length-map y.terms plain_kind) ∙ ap length kept_is.terms in
-    (are_built P p c y s typed is of kept_is terms versions).are
-    ∙ ap (λ n. drawn_over xs (states_under (interpretation_of s) n (versions_along 0 c.way.steps) (symbolic_of P p c).bindings)) count
+pub built_is : (P : Program) (proc : Procedure) (c : Condition) (y : Symbolic) (s : Tables) → IsTyped P → IsCondition P c → IsOf P c proc → IsSymbolic P proc c y → s.sizes.terms ≡ length y.terms → s.sizes.versions ≡ y.versions
+    → map drawn (states_in s (variable_names proc) 0 y.steps.items y.bindings.items) ≡ drawn_over (variable_names proc) (built_trace P proc c (interpretation_of s))
+built_is P proc c y s typed is of kept_is terms versions =
+    let xs = variable_names proc in
+    let count : s.sizes.terms ≡ length (symbolic_of P proc c).terms = terms ∙ sym (length-map y.terms plain_kind) ∙ ap length kept_is.terms in
+    (are_built P proc c y s typed is of kept_is terms versions).are
+    ∙ ap (λ n. drawn_over xs (states_under (interpretation_of s) n (versions_along 0 c.way.steps) (symbolic_of P proc c).bindings)) count
 
 -- the numbers of a condition's problem are those of its terms and versions
-pub numbers_are : (P : Program) (p : Procedure) (c : Condition) (y : Symbolic) (s : Tables) → IsSymbolic P p c y → s.sizes ≡ (problem (symbolic_of P p c)).sizes → (s.sizes.terms ≡ length y.terms) × (s.sizes.versions ≡ y.versions)
-numbers_are P p c y s kept_is sizes = (
+pub numbers_are : (P : Program) (proc : Procedure) (c : Condition) (y : Symbolic) (s : Tables) → IsSymbolic P proc c y → s.sizes ≡ (problem (symbolic_of P proc c)).sizes → (s.sizes.terms ≡ length y.terms) × (s.sizes.versions ≡ y.versions)
+numbers_are P proc c y s kept_is sizes = (
   ap (λ (z : Sizes). z.terms) sizes ∙ sym (ap length kept_is.terms) ∙ length-map y.terms plain_kind,
   ap (λ (z : Sizes). z.versions) sizes ∙ sym kept_is.versions,
 )

@@ -49,10 +49,10 @@ maps_depict V m i h M S R =
     }
 
 pub versions_are_built : VersionsAreBuilt
-versions_are_built P p c m i is below =
-    let n = length (symbolic_of P p c).terms in
+versions_are_built P proc c m i is below =
+    let n = length (symbolic_of P proc c).terms in
     let V = classes (equal_in m) n in
-    let G = ground P p c m is in
+    let G = ground P proc c m is in
     let M = version_of m i in
     let model = G.model i below in
     let B = models_are_built V M model in

@@ -182,8 +182,8 @@ follows_from_claims m K V i count model S A t u v e a =
     ] in
     there_at V t (omega (arith, lt, count)) ∙ ap Some (sym (next_is_successor V M model v (value_at V t) (listed V u v a) (S.named t lt) hop or'))
 
-pub all_claims : (P : Program) (p : Procedure) (c : Condition) (m : Interpretation) → IsModelOf P p c m → AreTrue m (claims (symbolic_of P p c))
-all_claims P p c m I = clauses_mean_formulas m (claims (symbolic_of P p c)) 0 I.clauses
+pub all_claims : (P : Program) (proc : Procedure) (c : Condition) (m : Interpretation) → IsModelOf P proc c m → AreTrue m (claims (symbolic_of P proc c))
+all_claims P proc c m I = clauses_mean_formulas m (claims (symbolic_of P proc c)) 0 I.clauses
 
 -- the heap of a state is the built heap
 cells_at : (stands : ℕ → Bool) (to : ℕ → ℕ) (n q : ℕ) → q < n → stands q ≡ true → get (cells_below stands to n) q ≡ Some (to q)
@@ -279,20 +279,20 @@ parts_true s m A =
       check = all_back m (a ++ b ∷ [] ++ c) d A;
     }
 
-pub ground : (P : Program) (p : Procedure) (c : Condition) (m : Interpretation) → IsModelOf P p c m
-    → AreGround m (symbolic_of P p c).terms (classes (equal_in m) (length (symbolic_of P p c).terms)) (class_of (equal_in m) (length (symbolic_of P p c).terms)) (symbolic_of P p c).versions
-ground P p c m I =
-    let K = (symbolic_of P p c).terms in
+pub ground : (P : Program) (proc : Procedure) (c : Condition) (m : Interpretation) → IsModelOf P proc c m
+    → AreGround m (symbolic_of P proc c).terms (classes (equal_in m) (length (symbolic_of P proc c).terms)) (class_of (equal_in m) (length (symbolic_of P proc c).terms)) (symbolic_of P proc c).versions
+ground P proc c m I =
+    let K = (symbolic_of P proc c).terms in
     let n = length K in
-    let N = (symbolic_of P p c).versions in
+    let N = (symbolic_of P proc c).versions in
     let E = equal_in m in
     let V : List ℕ = classes E n in
-    let s = begins p c.start in
-    let first : slice_get K 0 ≡ Some null = check_within P p c.way.check (steps_walked P p c.way.steps s) 0 null (steps_within P p c.way.steps s 0 null ((walked_grows (meets_at p c.start) no_terms).kinds 0 null refl)) in
+    let s = begins proc c.start in
+    let first : slice_get K 0 ≡ Some null = check_within P proc c.way.check (steps_walked P proc c.way.steps s) 0 null (steps_within P proc c.way.steps s 0 null ((walked_grows (meets_at proc c.start) no_terms).kinds 0 null refl)) in
     let some : 0 < n = place_below K 0 null first in
     let count : length V ≡ n = length-map (numbers 0 n) (class_of E n) ∙ count_numbers 0 n in
-    let said : (i : ℕ) → i < N → AreTrue m (version_claims K i) = λ i l. flat_at m (version_claims K) 0 N i (parts_true (symbolic_of P p c) m (all_claims P p c m I)).versions (omega arith) (omega (arith, l)) in
-    let C : (i : ℕ) → i < N → HasClasses E n (version_of m i) = λ i l. versions_are_models (problem (symbolic_of P p c)).sizes m i l some I.congruence I.instances (has_hops m K i (said i l)) in
+    let said : (i : ℕ) → i < N → AreTrue m (version_claims K i) = λ i l. flat_at m (version_claims K) 0 N i (parts_true (symbolic_of P proc c) m (all_claims P proc c m I)).versions (omega arith) (omega (arith, l)) in
+    let C : (i : ℕ) → i < N → HasClasses E n (version_of m i) = λ i l. versions_are_models (problem (symbolic_of P proc c)).sizes m i l some I.congruence I.instances (has_hops m K i (said i l)) in
     let listed' : (t : ℕ) → t < n → slice_get V t ≡ Some (class_of E n t) = λ t l. let zero' : 0 + t ≡ t = omega arith in class_at (class_of E n) 0 n t l ∙ ap (λ u. Some (class_of E n u)) zero' in
     let version : 0 < N = omega arith in
     let null' : slice_get V 0 ≡ Some 0 = listed' 0 some ∙ ap Some (C 0 version).null in

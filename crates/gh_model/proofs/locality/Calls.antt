@@ -87,31 +87,31 @@ renewed_outside (x ∷ xs) s n out =
 pub loop_takes : (P : Program) (home : Procedure) (m : Interpretation) (K : List Kind) (V : List ℕ) (at : ℕ → ℕ) (N : ℕ) (c : path.Check) (R : Name → Type 0) (n : ℕ) (ps : List path.PathStep) (s : Terms) → IsLocal P home m K V at N c R (path.looped n) ps s
     → Takes P home (path.looped n) (state_before P home m V at c (path.looped n) ps s) (state_after P home m V at c (path.looped n) ps s)
 loop_takes P home m K V at N c R n ps s I =
-    let p = path.looped n in
+    let proc = path.looped n in
     let (l, is) = I.prepared in
     let xs = variable_names home in
     let f = l.invariant in
     let zs = filter (some_assigns l.body) xs in
     let u = walked f s in
     let mid : Terms = with_assigned l xs s in
-    let st = store_under at (here P home (p ∷ ps) c s) in
-    let st' = store_under at (here P home ps c (step_walked P home p s)) in
+    let st = store_under at (here P home (proc ∷ ps) c s) in
+    let st' = store_under at (here P home ps c (step_walked P home proc s)) in
     let claims : AreTrue m (step_claims K s.version (loop_parts (Some l) xs s)) = subst (λ o. AreTrue m (step_claims K s.version (loop_parts o xs s))) is I.claims in
     let all : Within (walked f mid).kinds K = subst (λ o. Within (loop_walked o xs s).kinds K) is I.within in
     let few : Within u.kinds K = λ i k e. all i k ((walked_grows f mid).kinds i k (assigned_within l xs s i k e)) in
     let S : Sound K V st (heap_of m V s.version) u = subst (λ o. Sound K V st (heap_of m V s.version) (invariant_walked o s)) is
-    (sound_used P home m K V at N c R p ps s I (subst (λ o. Within (invariant_walked o s).kinds K) (sym is) few)) in
+    (sound_used P home m K V at N c R proc ps s I (subst (λ o. Within (invariant_walked o s).kinds K) (sym is) few)) in
     let S' : Sound K V st' (heap_of m V (s.version + 1)) (walked f mid) = subst (λ o. Sound K V st' (heap_of m V (s.version + 1)) (loop_walked o xs s)) is
-    (sound_after P home m K V at N c R p ps s I (prepared_version P home R p s I.prepared)) in
+    (sound_after P home m K V at N c R proc ps s I (prepared_version P home R proc s I.prepared)) in
     let r : Replaced f st (heap_of m V s.version) (Meaning f st') (heap_of m V (s.version + 1)) = replaced m K V at N I.ground f f st st' s mid I.before I.after (assigned_version l xs s) S S' claims in
     let ns = names (in_formula f) in
     let own : FormulaIn f ns = formula_in f ns (λ o c. member_map (λ (q : Occ). q.name) (in_formula f) o c) in
     let known : AllBound mid ns = λ x c. (let o = occurrence_of (in_formula f) x c in renewed_known zs (moved_on u) x (inr (subst (λ y. Knows u.bindings y) o.2 (formula_known f s o.0 o.1)))) in
     let keep : (walked f mid).bindings ≡ mid.bindings = walk_keeps f ns mid own known in
-    let stays : (y : Name) → (SomeAssigns l.body y → ⊥) → (step_walked P home p s).bindings y ≡ (step_used home p s).bindings y = λ y out.
+    let stays : (y : Name) → (SomeAssigns l.body y → ⊥) → (step_walked P home proc s).bindings y ≡ (step_used home proc s).bindings y = λ y out.
     subst (λ o. (loop_walked o xs s).bindings y ≡ (invariant_walked o s).bindings y) (sym is)
     (ap (λ (b : Bindings). b y) keep ∙ renewed_outside zs (moved_on u) y (λ there. out (listed_assigned xs l y there))) in
-    (l, is, record { replaced = r; kept = λ y out. ap (value_under at) (sym (term_stays P home p ps c s y (stays y out))) })
+    (l, is, record { replaced = r; kept = λ y out. ap (value_under at) (sym (term_stays P home proc ps c s y (stays y out))) })
 
 -- the parameters' values
 pub parameter_values : (m : Interpretation) (K : List Kind) (V : List ℕ) (at : ℕ → ℕ) (N : ℕ) → AreGround m K V at N → (b : Bindings) (ns : List Name) (ts vs : List ℕ) → Distinct ns → length ts ≡ length ns → map (slice_get V) ts ≡ map Some vs
@@ -134,7 +134,7 @@ result_terms W inside t (r ∷ rs) G known =
 pub call_takes : (P : Program) (home : Procedure) (m : Interpretation) (K : List Kind) (V : List ℕ) (at : ℕ → ℕ) (N : ℕ) (c : path.Check) (R : Name → Type 0) (ys : List Occ) (n : ℕ) (es : List Expr) (ps : List path.PathStep) (s : Terms) → IsLocal P home m K V at N c R (path.called ys n es) ps s
     → Takes P home (path.called ys n es) (state_before P home m V at c (path.called ys n es) ps s) (state_after P home m V at c (path.called ys n es) ps s)
 call_takes P home m K V at N c R ys n es ps s I =
-    let p = path.called ys n es in
+    let proc = path.called ys n es in
     let fit = I.prepared.1 in
     let q = fit.entry.callee in
     let G = I.ground in
@@ -150,13 +150,13 @@ call_takes P home m K V at N c R ys n es ps s I =
     let u : Terms = walked q.needs r in
     let mid : Terms = with_results q r in
     let after : Terms = each_walked q.gives mid in
-    let st = store_under at (here P home (p ∷ ps) c s) in
+    let st = store_under at (here P home (proc ∷ ps) c s) in
     let inside : Store = store_under at after.bindings in
     let claims : AreTrue m (parts_claims K i (under q.needs r) (each_under q.gives mid)) = subst (λ o. AreTrue m (step_claims K i (call_parts o ts T))) found I.claims in
     let all : Within after.kinds K = subst (λ o. Within (call_walked o (names ys) ts T).kinds K) found I.within in
     let some : Within u.kinds K = λ j k e. all j k ((each_grows q.gives mid).kinds j k (renewed_within (results_of q) (moved_on u) j k e)) in
     let few : Within T.kinds K = λ j k e. all j k (call_within q r j k e) in
-    let S : Sound K V st (heap_of m V i) T = sound_used P home m K V at N c R p ps s I few in
+    let S : Sound K V st (heap_of m V i) T = sound_used P home m K V at N c R proc ps s I few in
     let (vs, gives) = exprs_result R st (heap_of m V i) es I.prepared.0 I.ready in
     let args : map (slice_get V) ts ≡ map Some vs = exprs_values K V st (heap_of m V i) es vs s S gives in
     let count : length ts ≡ length (parameters_of q) = length-map es (λ e. expr_term e T) ∙ fit.entry.arguments in
@@ -187,6 +187,6 @@ call_takes P home m K V at N c R ys n es ps s I =
     (met_one q.needs inside (heap_of m V T.version) q.gives g inside (heap_of m V (T.version + 1)) W.member done) in
     let rs = map (λ x. term_of x after) (results_of q) in
     let known : (x : Name) → Contains (results_of q) x → Knows after.bindings x = λ x there. (let k = renewed_known (results_of q) (moved_on u) x (inl there) in (k.0, (each_grows q.gives mid).bindings x k.0 k.1)) in
-    let targets = step_gets P home m K V at N c p ps s G (names ys) rs (map inside (results_of q)) (ap (λ o. (call_walked o (names ys) ts T).bindings) found) fit.distinct (length-map (results_of q) (λ x. term_of x after) ∙ sym fit.targets)
+    let targets = step_gets P home m K V at N c proc ps s G (names ys) rs (map inside (results_of q)) (ap (λ o. (call_walked o (names ys) ts T).bindings) found) fit.distinct (length-map (results_of q) (λ x. term_of x after) ∙ sym fit.targets)
     (result_terms V inside after (results_of q) last.bound known) in
     (q, vs, found, gives, record { inside = inside; arguments = params; targets = targets; replaced = done' })

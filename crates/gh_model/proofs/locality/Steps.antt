@@ -57,19 +57,19 @@ not_both : (o : Option ℕ) (u : ℕ) → o ≡ Some u → o ≡ None → ⊥
 not_both o u e f = absurd cc
 
 -- a variable that a step doesn't assign keeps its term
-pub term_stays : (P : Program) (home : Procedure) (p : path.PathStep) (ps : List path.PathStep) (c : path.Check) (s : Terms) (y : Name) → (step_walked P home p s).bindings y ≡ (step_used home p s).bindings y → here P home (p ∷ ps) c s y ≡ here P home ps c (step_walked P home p s) y
-term_stays P home p ps c s y same = by_used ((step_used home p s).bindings y) refl
+pub term_stays : (P : Program) (home : Procedure) (proc : path.PathStep) (ps : List path.PathStep) (c : path.Check) (s : Terms) (y : Name) → (step_walked P home proc s).bindings y ≡ (step_used home proc s).bindings y → here P home (proc ∷ ps) c s y ≡ here P home ps c (step_walked P home proc s) y
+term_stays P home proc ps c s y same = by_used ((step_used home proc s).bindings y) refl
   where
-    by_own : (o : Option ℕ) → s.bindings y ≡ o → (step_used home p s).bindings y ≡ None → here P home (p ∷ ps) c s y ≡ here P home ps c (step_walked P home p s) y
-    by_own (Some u) g f = absurd (not_both ((step_used home p s).bindings y) u ((used_step_grows home p s).bindings y u g) f)
+    by_own : (o : Option ℕ) → s.bindings y ≡ o → (step_used home proc s).bindings y ≡ None → here P home (proc ∷ ps) c s y ≡ here P home ps c (step_walked P home proc s) y
+    by_own (Some u) g f = absurd (not_both ((step_used home proc s).bindings y) u ((used_step_grows home proc s).bindings y u g) f)
     by_own None g f =
-        ap (λ o. either_term o (first_use P home (p ∷ ps) c s y)) g
-        ∙ ap (λ o. used_first o ((step_walked P home p s).bindings y) (first_use P home ps c (step_walked P home p s) y)) f
-        ∙ ap (λ o. used_first None o (first_use P home ps c (step_walked P home p s) y)) (same ∙ f)
-        ∙ sym (ap (λ o. either_term o (first_use P home ps c (step_walked P home p s) y)) (same ∙ f))
+        ap (λ o. either_term o (first_use P home (proc ∷ ps) c s y)) g
+        ∙ ap (λ o. used_first o ((step_walked P home proc s).bindings y) (first_use P home ps c (step_walked P home proc s) y)) f
+        ∙ ap (λ o. used_first None o (first_use P home ps c (step_walked P home proc s) y)) (same ∙ f)
+        ∙ sym (ap (λ o. either_term o (first_use P home ps c (step_walked P home proc s) y)) (same ∙ f))
 
-    by_used : (o : Option ℕ) → (step_used home p s).bindings y ≡ o → here P home (p ∷ ps) c s y ≡ here P home ps c (step_walked P home p s) y
-    by_used (Some u) f = used_term P home p ps c s y u f ∙ sym (own_term P home ps c (step_walked P home p s) y u (same ∙ f))
+    by_used : (o : Option ℕ) → (step_used home proc s).bindings y ≡ o → here P home (proc ∷ ps) c s y ≡ here P home ps c (step_walked P home proc s) y
+    by_used (Some u) f = used_term P home proc ps c s y u f ∙ sym (own_term P home ps c (step_walked P home proc s) y u (same ∙ f))
     by_used None f = by_own (s.bindings y) refl f
 
 -- the heap of a version
@@ -81,32 +81,32 @@ abbrev pub state_with : List ℕ → (ℕ → ℕ) → HeapStructure → Binding
 state_with V at M b = record { store = store_under at b; heap = built V M }
 
 -- all that is known of a step
-pub record IsLocal (P : Program) (home : Procedure) (m : Interpretation) (K : List Kind) (V : List ℕ) (at : ℕ → ℕ) (N : ℕ) (c : path.Check) (R : Name → Type 0) (p : path.PathStep) (ps : List path.PathStep) (s : Terms) : Type 0 where
+pub record IsLocal (P : Program) (home : Procedure) (m : Interpretation) (K : List Kind) (V : List ℕ) (at : ℕ → ℕ) (N : ℕ) (c : path.Check) (R : Name → Type 0) (proc : path.PathStep) (ps : List path.PathStep) (s : Terms) : Type 0 where
   pub typed : IsTyped P
   pub ground : AreGround m K V at N
-  pub prepared : IsPrepared P home R p
-  pub ready : (n : Name) → R n → Allocated (heap_of m V s.version) (store_under at (here P home (p ∷ ps) c s) n)
-  pub claims : AreTrue m (step_claims K s.version (term_step P home p s))
-  pub within : Within (step_walked P home p s).kinds K
+  pub prepared : IsPrepared P home R proc
+  pub ready : (n : Name) → R n → Allocated (heap_of m V s.version) (store_under at (here P home (proc ∷ ps) c s) n)
+  pub claims : AreTrue m (step_claims K s.version (term_step P home proc s))
+  pub within : Within (step_walked P home proc s).kinds K
   pub bounded : IsBounded s
   pub before : s.version < N
-  pub after : path_version p s.version < N
+  pub after : path_version proc s.version < N
 
 -- the states before and after it
 abbrev pub state_before : Program → Procedure → Interpretation → List ℕ → (ℕ → ℕ) → path.Check → path.PathStep → List path.PathStep → Terms → State
-state_before P home m V at c p ps s = state_with V at (version_of m s.version) (here P home (p ∷ ps) c s)
+state_before P home m V at c proc ps s = state_with V at (version_of m s.version) (here P home (proc ∷ ps) c s)
 
 abbrev pub state_after : Program → Procedure → Interpretation → List ℕ → (ℕ → ℕ) → path.Check → path.PathStep → List path.PathStep → Terms → State
-state_after P home m V at c p ps s = state_with V at (version_of m (path_version p s.version)) (here P home ps c (step_walked P home p s))
+state_after P home m V at c proc ps s = state_with V at (version_of m (path_version proc s.version)) (here P home ps c (step_walked P home proc s))
 
-pub sound_used : (P : Program) (home : Procedure) (m : Interpretation) (K : List Kind) (V : List ℕ) (at : ℕ → ℕ) (N : ℕ) (c : path.Check) (R : Name → Type 0) (p : path.PathStep) (ps : List path.PathStep) (s : Terms) → IsLocal P home m K V at N c R p ps s → Within (step_used home p s).kinds K
-    → Sound K V (store_under at (here P home (p ∷ ps) c s)) (heap_of m V s.version) (step_used home p s)
-sound_used P home m K V at N c R p ps s I w = state_sound m K V at N I.ground s.version I.before (here P home (p ∷ ps) c s) (step_used home p s) (used_step_grows home p s).version w (used_step_bounded home p s I.bounded) (used_term P home p ps c s)
+pub sound_used : (P : Program) (home : Procedure) (m : Interpretation) (K : List Kind) (V : List ℕ) (at : ℕ → ℕ) (N : ℕ) (c : path.Check) (R : Name → Type 0) (proc : path.PathStep) (ps : List path.PathStep) (s : Terms) → IsLocal P home m K V at N c R proc ps s → Within (step_used home proc s).kinds K
+    → Sound K V (store_under at (here P home (proc ∷ ps) c s)) (heap_of m V s.version) (step_used home proc s)
+sound_used P home m K V at N c R proc ps s I w = state_sound m K V at N I.ground s.version I.before (here P home (proc ∷ ps) c s) (step_used home proc s) (used_step_grows home proc s).version w (used_step_bounded home proc s I.bounded) (used_term P home proc ps c s)
 
-pub sound_after : (P : Program) (home : Procedure) (m : Interpretation) (K : List Kind) (V : List ℕ) (at : ℕ → ℕ) (N : ℕ) (c : path.Check) (R : Name → Type 0) (p : path.PathStep) (ps : List path.PathStep) (s : Terms) → IsLocal P home m K V at N c R p ps s → (step_walked P home p s).version ≡ path_version p s.version
-    → Sound K V (store_under at (here P home ps c (step_walked P home p s))) (heap_of m V (path_version p s.version)) (step_walked P home p s)
-sound_after P home m K V at N c R p ps s I version =
-    state_sound m K V at N I.ground (path_version p s.version) I.after (here P home ps c (step_walked P home p s)) (step_walked P home p s) version I.within (step_bounded P home p s I.bounded) (own_term P home ps c (step_walked P home p s))
+pub sound_after : (P : Program) (home : Procedure) (m : Interpretation) (K : List Kind) (V : List ℕ) (at : ℕ → ℕ) (N : ℕ) (c : path.Check) (R : Name → Type 0) (proc : path.PathStep) (ps : List path.PathStep) (s : Terms) → IsLocal P home m K V at N c R proc ps s → (step_walked P home proc s).version ≡ path_version proc s.version
+    → Sound K V (store_under at (here P home ps c (step_walked P home proc s))) (heap_of m V (path_version proc s.version)) (step_walked P home proc s)
+sound_after P home m K V at N c R proc ps s I version =
+    state_sound m K V at N I.ground (path_version proc s.version) I.after (here P home ps c (step_walked P home proc s)) (step_walked P home proc s) version I.within (step_bounded P home proc s I.bounded) (own_term P home ps c (step_walked P home proc s))
 
 -- a term's value
 pub at_is : (m : Interpretation) (K : List Kind) (V : List ℕ) (at : ℕ → ℕ) (N : ℕ) → AreGround m K V at N → (t v : ℕ) → slice_get V t ≡ Some v → at t ≡ v
@@ -190,29 +190,29 @@ all_at m K V at N G (t ∷ ts) (v ∷ vs) e =
     cons_numbers (at t) v (map at ts) vs (at_is m K V at N G t v both.0) (all_at m K V at N G ts vs both.1)
 
 -- a step that assigns some variables
-pub step_gets : (P : Program) (home : Procedure) (m : Interpretation) (K : List Kind) (V : List ℕ) (at : ℕ → ℕ) (N : ℕ) (c : path.Check) (p : path.PathStep) (ps : List path.PathStep) (s : Terms) → AreGround m K V at N → (ys : List Name) (ts vs : List ℕ)
-    → (step_walked P home p s).bindings ≡ all_bound (step_used home p s).bindings ys ts → Distinct ys → length ts ≡ length ys → map (slice_get V) ts ≡ map Some vs
-    → Gets (store_under at (here P home (p ∷ ps) c s)) ys vs (store_under at (here P home ps c (step_walked P home p s)))
-step_gets P home m K V at N c p ps s G ys ts vs is D count e =
-    let t = step_walked P home p s in
-    let terms : map t.bindings ys ≡ map Some ts = ap (λ (b : Bindings). map b ys) is ∙ bound_terms (step_used home p s).bindings ys ts D count in
+pub step_gets : (P : Program) (home : Procedure) (m : Interpretation) (K : List Kind) (V : List ℕ) (at : ℕ → ℕ) (N : ℕ) (c : path.Check) (proc : path.PathStep) (ps : List path.PathStep) (s : Terms) → AreGround m K V at N → (ys : List Name) (ts vs : List ℕ)
+    → (step_walked P home proc s).bindings ≡ all_bound (step_used home proc s).bindings ys ts → Distinct ys → length ts ≡ length ys → map (slice_get V) ts ≡ map Some vs
+    → Gets (store_under at (here P home (proc ∷ ps) c s)) ys vs (store_under at (here P home ps c (step_walked P home proc s)))
+step_gets P home m K V at N c proc ps s G ys ts vs is D count e =
+    let t = step_walked P home proc s in
+    let terms : map t.bindings ys ≡ map Some ts = ap (λ (b : Bindings). map b ys) is ∙ bound_terms (step_used home proc s).bindings ys ts D count in
     record {
       given = store_values at (here P home ps c t) t.bindings ys ts (own_term P home ps c t) terms ∙ all_at m K V at N G ts vs e;
-      kept = λ y out. ap (value_under at) (sym (term_stays P home p ps c s y (ap (λ (b : Bindings). b y) is ∙ bound_outside (step_used home p s).bindings ys ts y out)));
+      kept = λ y out. ap (value_under at) (sym (term_stays P home proc ps c s y (ap (λ (b : Bindings). b y) is ∙ bound_outside (step_used home proc s).bindings ys ts y out)));
     }
 
 pub access_takes : (P : Program) (home : Procedure) (m : Interpretation) (K : List Kind) (V : List ℕ) (at : ℕ → ℕ) (N : ℕ) (c : path.Check) (R : Name → Type 0) (o : Occ) (ps : List path.PathStep) (s : Terms) → IsLocal P home m K V at N c R (path.accessed o) ps s
     → Takes P home (path.accessed o) (state_before P home m V at c (path.accessed o) ps s) (state_after P home m V at c (path.accessed o) ps s)
 access_takes P home m K V at N c R o ps s I =
-    let p = path.accessed o in
+    let proc = path.accessed o in
     let u = used o.name s in
-    let st = store_under at (here P home (p ∷ ps) c s) in
+    let st = store_under at (here P home (proc ∷ ps) c s) in
     let h = heap_of m V s.version in
-    let S : Sound K V st h u = sound_used P home m K V at N c R p ps s I (λ i k e. I.within i k (follow_within o.name u i k e)) in
+    let S : Sound K V st h u = sound_used P home m K V at N c R proc ps s I (λ i k e. I.within i k (follow_within o.name u i k e)) in
     let there : slice_get V (term_of o.name u) ≡ Some (st o.name) = expr_value K V st h (Plain (Var o)) s u (st o.name) (stays u) S refl in
     let said = All-head (T m) (allocated s.version (term (term_of o.name u))) [] I.claims in (
       (alloc_is m K V at N I.ground s.version I.before (term_of o.name u) (st o.name) there).0 said,
-      same_state (store_under at (here P home ps c (step_walked P home p s))) st h h (λ n. ap (value_under at) (sym (term_stays P home p ps c s n refl))) refl,
+      same_state (store_under at (here P home ps c (step_walked P home proc s))) st h h (λ n. ap (value_under at) (sym (term_stays P home proc ps c s n refl))) refl,
     )
 
 compared_is : (m : Interpretation) (x y : Term) (e t : Bool) → truth m (equality x y) ≡ t → truth m (compared x e y) ≡ agrees e t
@@ -222,12 +222,12 @@ compared_is m x y false t is = ap not is
 pub assume_takes : (P : Program) (home : Procedure) (m : Interpretation) (K : List Kind) (V : List ℕ) (at : ℕ → ℕ) (N : ℕ) (c : path.Check) (R : Name → Type 0) (l : Expr) (e : Bool) (r : Expr) (ps : List path.PathStep) (s : Terms) → IsLocal P home m K V at N c R (path.assume l e r) ps s
     → Takes P home (path.assume l e r) (state_before P home m V at c (path.assume l e r) ps s) (state_after P home m V at c (path.assume l e r) ps s)
 assume_takes P home m K V at N c R l e r ps s I =
-    let p = path.assume l e r in
+    let proc = path.assume l e r in
     let t = expr_used r (expr_used l s) in
     let i = s.version in
-    let st = store_under at (here P home (p ∷ ps) c s) in
+    let st = store_under at (here P home (proc ∷ ps) c s) in
     let h = heap_of m V i in
-    let S : Sound K V st h t = sound_used P home m K V at N c R p ps s I I.within in
+    let S : Sound K V st h t = sound_used P home m K V at N c R proc ps s I I.within in
     let (u, ru) = expr_result R st h l I.prepared.0 I.ready in
     let (v, rv) = expr_result R st h r I.prepared.1 I.ready in
     let a : slice_get V (expr_term l t) ≡ Some u = expr_value K V st h l s t u (expr_grows r (expr_used l s)) S ru in
@@ -238,32 +238,32 @@ assume_takes P home m K V at N c R l e r ps s I =
     let said : truth m (compared (term (expr_term l t)) e (term (expr_term r t))) ≡ true = All-head (T m) (compared (term (expr_term l t)) e (term (expr_term r t))) [] I.claims in
     let is : agrees e (u == v) ≡ true = sym (compared_is m (term (expr_term l t)) (term (expr_term r t)) e (u == v) equal) ∙ said in (
       ap (λ w. outcome_of e w (result st h r)) ru ∙ ap (outcome_of e (Some u)) rv ∙ ap Some is,
-      same_state (store_under at (here P home ps c (step_walked P home p s))) st h h (λ n. ap (value_under at) (sym (term_stays P home p ps c s n refl))) refl,
+      same_state (store_under at (here P home ps c (step_walked P home proc s))) st h h (λ n. ap (value_under at) (sym (term_stays P home proc ps c s n refl))) refl,
     )
 
 pub set_takes : (P : Program) (home : Procedure) (m : Interpretation) (K : List Kind) (V : List ℕ) (at : ℕ → ℕ) (N : ℕ) (c : path.Check) (R : Name → Type 0) (o : Occ) (e : Expr) (ps : List path.PathStep) (s : Terms) → IsLocal P home m K V at N c R (path.assigned o e) ps s
     → Takes P home (path.assigned o e) (state_before P home m V at c (path.assigned o e) ps s) (state_after P home m V at c (path.assigned o e) ps s)
 set_takes P home m K V at N c R o e ps s I =
-    let p = path.assigned o e in
+    let proc = path.assigned o e in
     let t = expr_used e s in
-    let st = store_under at (here P home (p ∷ ps) c s) in
+    let st = store_under at (here P home (proc ∷ ps) c s) in
     let h = heap_of m V s.version in
-    let S : Sound K V st h t = sound_used P home m K V at N c R p ps s I I.within in
+    let S : Sound K V st h t = sound_used P home m K V at N c R proc ps s I I.within in
     let (v, rv) = expr_result R st h e I.prepared I.ready in
     let a : slice_get V (expr_term e t) ≡ Some v = expr_value K V st h e s t v (stays t) S rv in
-    (v, rv, step_gets P home m K V at N c p ps s I.ground (o.name ∷ []) (expr_term e t ∷ []) (v ∷ []) refl ((λ n. no_member o.name n), tt) refl (ap (λ w. w ∷ []) a), refl)
+    (v, rv, step_gets P home m K V at N c proc ps s I.ground (o.name ∷ []) (expr_term e t ∷ []) (v ∷ []) refl ((λ n. no_member o.name n), tt) refl (ap (λ w. w ∷ []) a), refl)
 
 pub return_takes : (P : Program) (home : Procedure) (m : Interpretation) (K : List Kind) (V : List ℕ) (at : ℕ → ℕ) (N : ℕ) (c : path.Check) (R : Name → Type 0) (es : List Expr) (ps : List path.PathStep) (s : Terms) → IsLocal P home m K V at N c R (path.answered es) ps s
     → Takes P home (path.answered es) (state_before P home m V at c (path.answered es) ps s) (state_after P home m V at c (path.answered es) ps s)
 return_takes P home m K V at N c R es ps s I =
-    let p = path.answered es in
+    let proc = path.answered es in
     let t = exprs_used es s in
-    let st = store_under at (here P home (p ∷ ps) c s) in
+    let st = store_under at (here P home (proc ∷ ps) c s) in
     let h = heap_of m V s.version in
-    let S : Sound K V st h t = sound_used P home m K V at N c R p ps s I I.within in
+    let S : Sound K V st h t = sound_used P home m K V at N c R proc ps s I I.within in
     let (vs, rv) = exprs_result R st h es I.prepared.0 I.ready in
     let a : map (slice_get V) (exprs_terms es t) ≡ map Some vs = exprs_values K V st h es vs s S rv in
-    (vs, rv, step_gets P home m K V at N c p ps s I.ground (results_of home) (exprs_terms es t) vs refl I.prepared.2 (length-map es (λ e. expr_term e t) ∙ I.prepared.1) a, refl)
+    (vs, rv, step_gets P home m K V at N c proc ps s I.ground (results_of home) (exprs_terms es t) vs refl I.prepared.2 (length-map es (λ e. expr_term e t) ∙ I.prepared.1) a, refl)
 
 heap_put : (h k : Heap) (x v : ℕ) → IsPut h k x v → k ≡ insert h x v
 heap_put h k x v p = by_look_ups k (insert h x v) (λ q. elim (cases_eq q x) [
@@ -280,7 +280,7 @@ heap_freed h k x p = by_look_ups k (remove h x) (λ q. elim (cases_eq q x) [
 pub new_takes : (P : Program) (home : Procedure) (m : Interpretation) (K : List Kind) (V : List ℕ) (at : ℕ → ℕ) (N : ℕ) (c : path.Check) (R : Name → Type 0) (o : Occ) (ps : List path.PathStep) (s : Terms) → IsLocal P home m K V at N c R (path.made o) ps s
     → Takes P home (path.made o) (state_before P home m V at c (path.made o) ps s) (state_after P home m V at c (path.made o) ps s)
 new_takes P home m K V at N c R o ps s I =
-    let p = path.made o in
+    let proc = path.made o in
     let i = s.version in
     let n = length K in
     let G = I.ground in
@@ -299,23 +299,23 @@ new_takes P home m K V at N c R o ps s I =
       value_at V (l + 1),
       some,
       put.0,
-      step_gets P home m K V at N c p ps s G (o.name ∷ []) (l ∷ []) (value_at V l ∷ []) refl ((λ e. no_member o.name e), tt) refl (ap (λ w. w ∷ []) here'),
+      step_gets P home m K V at N c proc ps s G (o.name ∷ []) (l ∷ []) (value_at V l ∷ []) refl ((λ e. no_member o.name e), tt) refl (ap (λ w. w ∷ []) here'),
       heap_put (heap_of m V i) (heap_of m V (i + 1)) (value_at V l) (value_at V (l + 1)) put.1,
     )
 
 pub write_takes : (P : Program) (home : Procedure) (m : Interpretation) (K : List Kind) (V : List ℕ) (at : ℕ → ℕ) (N : ℕ) (c : path.Check) (R : Name → Type 0) (o : Occ) (e : Expr) (ps : List path.PathStep) (s : Terms) → IsLocal P home m K V at N c R (path.written o e) ps s
     → Takes P home (path.written o e) (state_before P home m V at c (path.written o e) ps s) (state_after P home m V at c (path.written o e) ps s)
 write_takes P home m K V at N c R o e ps s I =
-    let p = path.written o e in
+    let proc = path.written o e in
     let i = s.version in
     let n = length K in
     let G = I.ground in
     let M = version_of m i in
     let M' = version_of m (i + 1) in
     let t = expr_used e (used o.name s) in
-    let st = store_under at (here P home (p ∷ ps) c s) in
+    let st = store_under at (here P home (proc ∷ ps) c s) in
     let h = heap_of m V i in
-    let S : Sound K V st h t = sound_used P home m K V at N c R p ps s I I.within in
+    let S : Sound K V st h t = sound_used P home m K V at N c R proc ps s I I.within in
     let (v, rv) = expr_result R st h e I.prepared.0 I.ready in
     let x = term_of o.name t in
     let a : slice_get V x ≡ Some (st o.name) = expr_value K V st h (Plain (Var o)) s t (st o.name) (expr_grows e (used o.name s)) S refl in
@@ -329,22 +329,22 @@ write_takes P home m K V at N c R o e ps s I =
       v,
       rv,
       I.ready o.name I.prepared.1,
-      same_state (store_under at (here P home ps c (step_walked P home p s))) st (heap_of m V (i + 1)) (insert h (st o.name) v) (λ y. ap (value_under at) (sym (term_stays P home p ps c s y refl))) (heap_put h (heap_of m V (i + 1)) (st o.name) v put'),
+      same_state (store_under at (here P home ps c (step_walked P home proc s))) st (heap_of m V (i + 1)) (insert h (st o.name) v) (λ y. ap (value_under at) (sym (term_stays P home proc ps c s y refl))) (heap_put h (heap_of m V (i + 1)) (st o.name) v put'),
     )
 
 pub free_takes : (P : Program) (home : Procedure) (m : Interpretation) (K : List Kind) (V : List ℕ) (at : ℕ → ℕ) (N : ℕ) (c : path.Check) (R : Name → Type 0) (o : Occ) (ps : List path.PathStep) (s : Terms) → IsLocal P home m K V at N c R (path.freed o) ps s
     → Takes P home (path.freed o) (state_before P home m V at c (path.freed o) ps s) (state_after P home m V at c (path.freed o) ps s)
 free_takes P home m K V at N c R o ps s I =
-    let p = path.freed o in
+    let proc = path.freed o in
     let i = s.version in
     let n = length K in
     let G = I.ground in
     let M = version_of m i in
     let M' = version_of m (i + 1) in
     let t = used o.name s in
-    let st = store_under at (here P home (p ∷ ps) c s) in
+    let st = store_under at (here P home (proc ∷ ps) c s) in
     let h = heap_of m V i in
-    let S : Sound K V st h t = sound_used P home m K V at N c R p ps s I I.within in
+    let S : Sound K V st h t = sound_used P home m K V at N c R proc ps s I I.within in
     let x = term_of o.name t in
     let a : slice_get V x ≡ Some (st o.name) = expr_value K V st h (Plain (Var o)) s t (st o.name) (stays t) S refl in
     let lx = below_count m K V at N G x (st o.name) a in
@@ -353,7 +353,7 @@ free_takes P home m K V at N c R o ps s I =
     let put = frees_are_built V M M' (G.model i I.before) (G.model (i + 1) I.after) (value_at V x) (Q.named x lx) said in
     let put' : IsFreed h (heap_of m V (i + 1)) (st o.name) = subst (IsFreed h (heap_of m V (i + 1))) (value_of V x (st o.name) a) put in (
       I.ready o.name I.prepared,
-      same_state (store_under at (here P home ps c (step_walked P home p s))) st (heap_of m V (i + 1)) (remove h (st o.name)) (λ y. ap (value_under at) (sym (term_stays P home p ps c s y refl))) (heap_freed h (heap_of m V (i + 1)) (st o.name) put'),
+      same_state (store_under at (here P home ps c (step_walked P home proc s))) st (heap_of m V (i + 1)) (remove h (st o.name)) (λ y. ap (value_under at) (sym (term_stays P home proc ps c s y refl))) (heap_freed h (heap_of m V (i + 1)) (st o.name) put'),
     )
 
 -- the version after a step of a path
@@ -362,7 +362,7 @@ call_version o q e ys ts s =
     let r = rebound s (bound_inside q ts) in
     ap (λ u. (call_walked u ys ts s).version) e ∙ (each_grows q.gives (with_results q r)).version ∙ renewed_version (results_of q) (moved_on (walked q.needs r)) ∙ ap (λ i. i + 1) (walked_grows q.needs r).version
 
-pub prepared_version : (P : Program) (home : Procedure) (R : Name → Type 0) (p : path.PathStep) (s : Terms) → IsPrepared P home R p → (step_walked P home p s).version ≡ path_version p s.version
+pub prepared_version : (P : Program) (home : Procedure) (R : Name → Type 0) (proc : path.PathStep) (s : Terms) → IsPrepared P home R proc → (step_walked P home proc s).version ≡ path_version proc s.version
 prepared_version P home R (path.accessed o) s A = (visited_grows o.name s).version
 prepared_version P home R (path.assume l e r) s A = (onto (expr_grows l s) (expr_grows r (expr_used l s))).version
 prepared_version P home R (path.assigned x e) s A = (expr_grows e s).version

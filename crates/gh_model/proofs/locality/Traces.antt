@@ -28,7 +28,7 @@ use Rattle.gh_model.proofs.locality.Steps.{heap_of, make, IsLocal, state_before,
 use Rattle.gh_model.proofs.locality.Calls.{loop_takes, call_takes}
 use Rattle.gh_model.proofs.locality.Checks.{check_fails}
 
-step_takes : (P : Program) (home : Procedure) (m : Interpretation) (K : List Kind) (V : List ℕ) (at : ℕ → ℕ) (N : ℕ) (c : path.Check) (R : Name → Type 0) (p : path.PathStep) (ps : List path.PathStep) (s : Terms) → IsLocal P home m K V at N c R p ps s → Takes P home p (state_before P home m V at c p ps s) (state_after P home m V at c p ps s)
+step_takes : (P : Program) (home : Procedure) (m : Interpretation) (K : List Kind) (V : List ℕ) (at : ℕ → ℕ) (N : ℕ) (c : path.Check) (R : Name → Type 0) (proc : path.PathStep) (ps : List path.PathStep) (s : Terms) → IsLocal P home m K V at N c R proc ps s → Takes P home proc (state_before P home m V at c proc ps s) (state_after P home m V at c proc ps s)
 step_takes P home m K V at N c R (path.accessed o) ps s I = access_takes P home m K V at N c R o ps s I
 step_takes P home m K V at N c R (path.assume l e r) ps s I = assume_takes P home m K V at N c R l e r ps s I
 step_takes P home m K V at N c R (path.assigned o e) ps s I = set_takes P home m K V at N c R o e ps s I
@@ -40,7 +40,7 @@ step_takes P home m K V at N c R (path.looped n) ps s I = loop_takes P home m K 
 step_takes P home m K V at N c R (path.answered es) ps s I = return_takes P home m K V at N c R es ps s I
 
 -- the version after a step, as its formulas count it
-pub prepared_past : (P : Program) (home : Procedure) (R : Name → Type 0) (p : path.PathStep) (s : Terms) (i : ℕ) → IsPrepared P home R p → version_after i (term_step P home p s) ≡ path_version p i
+pub prepared_past : (P : Program) (home : Procedure) (R : Name → Type 0) (proc : path.PathStep) (s : Terms) (i : ℕ) → IsPrepared P home R proc → version_after i (term_step P home proc s) ≡ path_version proc i
 prepared_past P home R (path.accessed o) s i A = refl
 prepared_past P home R (path.assume l e r) s i A = refl
 prepared_past P home R (path.assigned x e) s i A = refl
@@ -53,12 +53,12 @@ prepared_past P home R (path.looped n) s i A = ap (λ o. version_after i (loop_p
 prepared_past P home R (path.answered es) s i A = refl
 
 -- what was accessed stays so
-ready_next : (P : Program) (home : Procedure) (m : Interpretation) (K : List Kind) (V : List ℕ) (at : ℕ → ℕ) (N : ℕ) (c : path.Check) (R : Name → Type 0) (p : path.PathStep) (ps : List path.PathStep) (s : Terms) → IsLocal P home m K V at N c R p ps s → (n : Name) → ready_after p R n
-    → Allocated (heap_of m V (path_version p s.version)) (store_under at (here P home ps c (step_walked P home p s)) n)
+ready_next : (P : Program) (home : Procedure) (m : Interpretation) (K : List Kind) (V : List ℕ) (at : ℕ → ℕ) (N : ℕ) (c : path.Check) (R : Name → Type 0) (proc : path.PathStep) (ps : List path.PathStep) (s : Terms) → IsLocal P home m K V at N c R proc ps s → (n : Name) → ready_after proc R n
+    → Allocated (heap_of m V (path_version proc s.version)) (store_under at (here P home ps c (step_walked P home proc s)) n)
 ready_next P home m K V at N c R (path.accessed o) ps s I n r =
-    let p = path.accessed o in
+    let proc = path.accessed o in
     let takes = access_takes P home m K V at N c R o ps s I in
-    let x = state_before P home m V at c p ps s in
+    let x = state_before P home m V at c proc ps s in
     let before : Allocated x.heap (x.store n) = elim r [
       | inl same ↦ subst (λ y. Allocated x.heap (x.store y)) (sym same) takes.0
       | inr old ↦ I.ready n old
@@ -79,11 +79,11 @@ state_in P home m n c ps s i = state_under m n i (here P home ps c s)
 
 abbrev rest_in : Program → Procedure → Interpretation → ℕ → path.Check → List path.PathStep → Terms → ℕ → List State
 rest_in P home m n c [] s i = []
-rest_in P home m n c (p ∷ ps) s i = state_in P home m n c ps (step_walked P home p s) (path_version p i) ∷ rest_in P home m n c ps (step_walked P home p s) (path_version p i)
+rest_in P home m n c (proc ∷ ps) s i = state_in P home m n c ps (step_walked P home proc s) (path_version proc i) ∷ rest_in P home m n c ps (step_walked P home proc s) (path_version proc i)
 
 states_are : (P : Program) (home : Procedure) (m : Interpretation) (n : ℕ) (c : path.Check) (ps : List path.PathStep) (s : Terms) (i : ℕ) → states_under m n (versions_along i ps) (state_bindings P home ps c s) ≡ state_in P home m n c ps s i ∷ rest_in P home m n c ps s i
 states_are P home m n c [] s i = refl
-states_are P home m n c (p ∷ ps) s i = ap (λ zs. state_in P home m n c (p ∷ ps) s i ∷ zs) (states_are P home m n c ps (step_walked P home p s) (path_version p i))
+states_are P home m n c (proc ∷ ps) s i = ap (λ zs. state_in P home m n c (proc ∷ ps) s i ∷ zs) (states_are P home m n c ps (step_walked P home proc s) (path_version proc i))
 
 -- all that is known from a state on
 record IsOnWay (P : Program) (home : Procedure) (m : Interpretation) (K : List Kind) (V : List ℕ) (at : ℕ → ℕ) (N : ℕ) (c : path.Check) (R : Name → Type 0) (ps : List path.PathStep) (s : Terms) (i : ℕ) : Type 0 where
@@ -118,40 +118,40 @@ along P home m K V N c typed G R [] s i I check =
     } in
     let fails' : Passes P home c (make st (heap_in m (length K) s.version)) → ⊥ = subst (λ h. Passes P home c (make st h) → ⊥) (sym (G.heap s.version before)) fails in
     record { leads = tt; fails = subst (λ j. Passes P home c (make st (heap_in m (length K) j)) → ⊥) I.version fails' }
-along P home m K V N c typed G R (p ∷ ps) s i I check =
+along P home m K V N c typed G R (proc ∷ ps) s i I check =
     let at = class_of (equal_in m) (length K) in
     let n = length K in
-    let t = step_walked P home p s in
+    let t = step_walked P home proc s in
     let end = steps_walked P home ps t in
-    let version : t.version ≡ path_version p s.version = prepared_version P home R p s I.prepared.0 in
-    let version' : t.version ≡ path_version p i = version ∙ ap (path_version p) I.version in
+    let version : t.version ≡ path_version proc s.version = prepared_version P home R proc s I.prepared.0 in
+    let version' : t.version ≡ path_version proc i = version ∙ ap (path_version proc) I.version in
     let within : Within t.kinds K = λ j k e. I.within j k (check_within P home c end j k (steps_within P home ps t j k e)) in
-    let before : s.version < N = omega (arith, I.last, steps_up P home (p ∷ ps) s) in
-    let after : path_version p s.version < N = subst (λ j. j < N) version (omega (arith, I.last, steps_up P home ps t)) in
-    let st = store_under at (here P home (p ∷ ps) c s) in
+    let before : s.version < N = omega (arith, I.last, steps_up P home (proc ∷ ps) s) in
+    let after : path_version proc s.version < N = subst (λ j. j < N) version (omega (arith, I.last, steps_up P home ps t)) in
+    let st = store_under at (here P home (proc ∷ ps) c s) in
     let st' = store_under at (here P home ps c t) in
-    let local : IsLocal P home m K V at N c R p ps s = record {
+    let local : IsLocal P home m K V at N c R proc ps s = record {
       typed = typed;
       ground = G;
       prepared = I.prepared.0;
       ready = subst (λ j. (n : Name) → R n → Allocated (heap_of m V j) (st n)) (sym I.version) I.ready;
-      claims = subst (λ j. AreTrue m (step_claims K j (term_step P home p s))) (sym I.version) (all_front m (step_claims K i (term_step P home p s)) (steps_claims K (version_after i (term_step P home p s)) (term_steps P home ps t)) I.steps);
+      claims = subst (λ j. AreTrue m (step_claims K j (term_step P home proc s))) (sym I.version) (all_front m (step_claims K i (term_step P home proc s)) (steps_claims K (version_after i (term_step P home proc s)) (term_steps P home ps t)) I.steps);
       within = within;
       bounded = I.bounded;
       before = before;
       after = after;
     } in
-    let built' : Takes P home p (make st (heap_of m V s.version)) (make st' (heap_of m V (path_version p s.version))) = step_takes P home m K V at N c R p ps s local in
-    let half : Takes P home p (make st (heap_in m n s.version)) (make st' (heap_of m V (path_version p s.version))) = subst (λ h. Takes P home p (make st h) (make st' (heap_of m V (path_version p s.version)))) (sym (G.heap s.version before)) built' in
-    let full : Takes P home p (make st (heap_in m n s.version)) (make st' (heap_in m n (path_version p s.version))) = subst (λ h. Takes P home p (make st (heap_in m n s.version)) (make st' h)) (sym (G.heap (path_version p s.version) after)) half in
-    let takes : Takes P home p (make st (heap_in m n i)) (make st' (heap_in m n (path_version p i))) = subst (λ j. Takes P home p (make st (heap_in m n j)) (make st' (heap_in m n (path_version p j)))) I.version full in
-    let rest = along P home m K V N c typed G (ready_after p R) ps t (path_version p i) (record {
+    let built' : Takes P home proc (make st (heap_of m V s.version)) (make st' (heap_of m V (path_version proc s.version))) = step_takes P home m K V at N c R proc ps s local in
+    let half : Takes P home proc (make st (heap_in m n s.version)) (make st' (heap_of m V (path_version proc s.version))) = subst (λ h. Takes P home proc (make st h) (make st' (heap_of m V (path_version proc s.version)))) (sym (G.heap s.version before)) built' in
+    let full : Takes P home proc (make st (heap_in m n s.version)) (make st' (heap_in m n (path_version proc s.version))) = subst (λ h. Takes P home proc (make st (heap_in m n s.version)) (make st' h)) (sym (G.heap (path_version proc s.version) after)) half in
+    let takes : Takes P home proc (make st (heap_in m n i)) (make st' (heap_in m n (path_version proc i))) = subst (λ j. Takes P home proc (make st (heap_in m n j)) (make st' (heap_in m n (path_version proc j)))) I.version full in
+    let rest = along P home m K V N c typed G (ready_after proc R) ps t (path_version proc i) (record {
       prepared = I.prepared.1;
-      ready = subst (λ j. (n : Name) → ready_after p R n → Allocated (heap_of m V (path_version p j)) (st' n)) I.version (ready_next P home m K V at N c R p ps s local);
-      steps = subst (λ j. AreTrue m (steps_claims K j (term_steps P home ps t))) (prepared_past P home R p s i I.prepared.0)
-          (all_back m (step_claims K i (term_step P home p s)) (steps_claims K (version_after i (term_step P home p s)) (term_steps P home ps t)) I.steps);
+      ready = subst (λ j. (n : Name) → ready_after proc R n → Allocated (heap_of m V (path_version proc j)) (st' n)) I.version (ready_next P home m K V at N c R proc ps s local);
+      steps = subst (λ j. AreTrue m (steps_claims K j (term_steps P home ps t))) (prepared_past P home R proc s i I.prepared.0)
+          (all_back m (step_claims K i (term_step P home proc s)) (steps_claims K (version_after i (term_step P home proc s)) (term_steps P home ps t)) I.steps);
       within = I.within;
-      bounded = step_bounded P home p s I.bounded;
+      bounded = step_bounded P home proc s I.bounded;
       version = version';
       last = I.last;
     }) check in
@@ -161,29 +161,29 @@ pub none_bounded : IsBounded no_terms
 none_bounded = record { some = omega arith; below = λ y t e. absurd cc }
 
 pub locality_holds : LocalityHolds
-locality_holds P p c m typed is of I =
-    let S = symbolic_of P p c in
+locality_holds P proc c m typed is of I =
+    let S = symbolic_of P proc c in
     let K = S.terms in
     let n = length K in
     let N = S.versions in
     let V : List ℕ = classes (equal_in m) n in
     let at = class_of (equal_in m) n in
-    let f = path.meets_at p c.start in
+    let f = path.meets_at proc c.start in
     let ps = c.way.steps in
     let k = c.way.check in
-    let s = begins p c.start in
-    let end = steps_walked P p ps s in
-    let G = ground P p c m I in
-    let parts = parts_true S m (all_claims P p c m I) in
+    let s = begins proc c.start in
+    let end = steps_walked P proc ps s in
+    let G = ground P proc c m I in
+    let parts = parts_true S m (all_claims P proc c m I) in
     let version : s.version ≡ 0 = (walked_grows f no_terms).version in
-    let last : N ≡ end.version + 1 = ap (λ i. i + 1) (check_version P p k end) in
-    let within : Within (check_walked P p k end).kinds K = λ i l e. e in
-    let first : Within s.kinds K = λ i l e. check_within P p k end i l (steps_within P p ps s i l e) in
+    let last : N ≡ end.version + 1 = ap (λ i. i + 1) (check_version P proc k end) in
+    let within : Within (check_walked P proc k end).kinds K = λ i l e. e in
+    let first : Within s.kinds K = λ i l e. check_within P proc k end i l (steps_within P proc ps s i l e) in
     let bounded : IsBounded s = walked_bounded f no_terms none_bounded in
     let some : 0 < N = omega (arith, last) in
-    let sound : Sound K V (store_under at (here P p ps k s)) (heap_of m V 0) s = state_sound m K V at N G 0 some (here P p ps k s) s version first bounded (own_term P p ps k s) in
-    let led = along P p m K V N k typed G Nowhere ps s 0 (record {
-      prepared = paths_are_prepared P p c typed is of;
+    let sound : Sound K V (store_under at (here P proc ps k s)) (heap_of m V 0) s = state_sound m K V at N G 0 some (here P proc ps k s) s version first bounded (own_term P proc ps k s) in
+    let led = along P proc m K V N k typed G Nowhere ps s 0 (record {
+      prepared = paths_are_prepared P proc c typed is of;
       ready = λ y r. absurd r;
       steps = parts.steps;
       within = within;
@@ -191,12 +191,12 @@ locality_holds P p c m typed is of I =
       version = version;
       last = last;
     }) parts.check in
-    let st = store_under at (here P p ps k s) in
+    let st = store_under at (here P proc ps k s) in
     let begins' : Meaning f st (heap_of m V 0) = (whole_is m K V at N G st f no_terms some sound).0 parts.start in
-    let done : Counterexample P p f ps k (state_in P p m n k ps s 0) (rest_in P p m n k ps s 0) = record {
+    let done : Counterexample P proc f ps k (state_in P proc m n k ps s 0) (rest_in P proc m n k ps s 0) = record {
       begins = subst (Meaning f st) (sym (G.heap 0 some)) begins';
       leads = led.leads;
       fails = led.fails;
     } in
-    let all : AreCounterexample P c (state_in P p m n k ps s 0 ∷ rest_in P p m n k ps s 0) = (p, of, done) in
-    subst (AreCounterexample P c) (sym (states_are P p m n k ps s 0)) all
+    let all : AreCounterexample P c (state_in P proc m n k ps s 0 ∷ rest_in P proc m n k ps s 0) = (proc, of, done) in
+    subst (AreCounterexample P c) (sym (states_are P proc m n k ps s 0)) all

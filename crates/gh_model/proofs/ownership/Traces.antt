@@ -51,7 +51,7 @@ loop_within : (o : Option path.Loop) (xs : List Name) (s : Terms) → Within s.k
 loop_within None xs s = λ i k e. e
 loop_within (Some l) xs s = λ i k e. (walked_grows l.invariant (with_assigned l xs s)).kinds i k (assigned_within l xs s i k ((walked_grows l.invariant s).kinds i k e))
 
-pub step_within : (P : Program) (home : Procedure) (p : path.PathStep) (s : Terms) → Within s.kinds (step_walked P home p s).kinds
+pub step_within : (P : Program) (home : Procedure) (proc : path.PathStep) (s : Terms) → Within s.kinds (step_walked P home proc s).kinds
 step_within P home (path.accessed o) s = (visited_grows o.name s).kinds
 step_within P home (path.assume l e r) s = (onto (expr_grows l s) (expr_grows r (expr_used l s))).kinds
 step_within P home (path.assigned x e) s = (expr_grows e s).kinds
@@ -64,7 +64,7 @@ step_within P home (path.answered es) s = (exprs_grow es s).kinds
 
 pub steps_within : (P : Program) (home : Procedure) (ps : List path.PathStep) (s : Terms) → Within s.kinds (steps_walked P home ps s).kinds
 steps_within P home [] s = λ i k e. e
-steps_within P home (p ∷ ps) s = chain s.kinds (step_walked P home p s).kinds (steps_walked P home (p ∷ ps) s).kinds (step_within P home p s) (steps_within P home ps (step_walked P home p s))
+steps_within P home (proc ∷ ps) s = chain s.kinds (step_walked P home proc s).kinds (steps_walked P home (proc ∷ ps) s).kinds (step_within P home proc s) (steps_within P home ps (step_walked P home proc s))
 
 pub entry_within : (o : Option Procedure) (ts : List ℕ) (s : Terms) → Within s.kinds (entry_walked o ts s).kinds
 entry_within None ts s = λ i k e. e
@@ -113,7 +113,7 @@ inside_version p ys b s = (each_grows p.gives (with_results p s)).version ∙ re
 call_version : (o : Option Procedure) (p : Procedure) → o ≡ Some p → (ys : List Name) (ts : List ℕ) (s : Terms) → (call_walked o ys ts s).version ≡ s.version + 1
 call_version o p e ys ts s = ap (λ q. (call_walked q ys ts s).version) e ∙ inside_version p ys s.bindings (rebound s (bound_inside p ts))
 
-pub step_version : (P : Program) (home : Procedure) (p : path.PathStep) (s : Terms) (x y : State) → Takes P home p x y → (step_walked P home p s).version ≡ path_version p s.version
+pub step_version : (P : Program) (home : Procedure) (proc : path.PathStep) (s : Terms) (x y : State) → Takes P home proc x y → (step_walked P home proc s).version ≡ path_version proc s.version
 step_version P home (path.accessed o) s x y t = (visited_grows o.name s).version
 step_version P home (path.assume l e r) s x y t = (onto (expr_grows l s) (expr_grows r (expr_used l s))).version
 step_version P home (path.assigned z e) s x y t = (expr_grows e s).version
@@ -135,14 +135,14 @@ here P home ps c s = λ y. either_term (s.bindings y) (first_use P home ps c s y
 pub own_term : (P : Program) (home : Procedure) (ps : List path.PathStep) (c : path.Check) (s : Terms) (y : Name) (t : ℕ) → s.bindings y ≡ Some t → here P home ps c s y ≡ Some t
 own_term P home ps c s y t e = ap (λ o. either_term o (first_use P home ps c s y)) e
 
-pub used_term : (P : Program) (home : Procedure) (p : path.PathStep) (ps : List path.PathStep) (c : path.Check) (s : Terms) (y : Name) (t : ℕ) → (step_used home p s).bindings y ≡ Some t → here P home (p ∷ ps) c s y ≡ Some t
-used_term P home p ps c s y t e = by_binding (s.bindings y) refl
+pub used_term : (P : Program) (home : Procedure) (proc : path.PathStep) (ps : List path.PathStep) (c : path.Check) (s : Terms) (y : Name) (t : ℕ) → (step_used home proc s).bindings y ≡ Some t → here P home (proc ∷ ps) c s y ≡ Some t
+used_term P home proc ps c s y t e = by_binding (s.bindings y) refl
   where
-    by_binding : (o : Option ℕ) → s.bindings y ≡ o → either_term (s.bindings y) (first_use P home (p ∷ ps) c s y) ≡ Some t
-    by_binding (Some u) f = ap (λ o. either_term o (first_use P home (p ∷ ps) c s y)) f ∙ sym ((used_step_grows home p s).bindings y u f) ∙ e
+    by_binding : (o : Option ℕ) → s.bindings y ≡ o → either_term (s.bindings y) (first_use P home (proc ∷ ps) c s y) ≡ Some t
+    by_binding (Some u) f = ap (λ o. either_term o (first_use P home (proc ∷ ps) c s y)) f ∙ sym ((used_step_grows home proc s).bindings y u f) ∙ e
     by_binding None f =
-        ap (λ o. either_term o (first_use P home (p ∷ ps) c s y)) f
-        ∙ ap (λ o. used_first o ((step_walked P home p s).bindings y) (first_use P home ps c (step_walked P home p s) y)) e
+        ap (λ o. either_term o (first_use P home (proc ∷ ps) c s y)) f
+        ∙ ap (λ o. used_first o ((step_walked P home proc s).bindings y) (first_use P home ps c (step_walked P home proc s) y)) e
 
 -- terms whose bindings are those of a state
 pub sound_from : (K : List Kind) (V : List ℕ) (i : ℕ) (b : Bindings) (x : State) (T : Terms) → slice_get V 0 ≡ Some 0 → HasStateValues K V i b x → T.version ≡ i → Within T.kinds K → ((y : Name) (t : ℕ) → T.bindings y ≡ Some t → b y ≡ Some t) → Sound K V x.store x.heap T
@@ -154,24 +154,24 @@ sound_from K V i b x T null H v w B = record {
 }
 
 -- all that is known of a step and of the states before and after it
-pub record IsStep (P : Program) (home : Procedure) (K : List Kind) (V : List ℕ) (c : path.Check) (p : path.PathStep) (ps : List path.PathStep) (s : Terms) (x y : State) : Type 0 where
+pub record IsStep (P : Program) (home : Procedure) (K : List Kind) (V : List ℕ) (c : path.Check) (proc : path.PathStep) (ps : List path.PathStep) (s : Terms) (x y : State) : Type 0 where
   pub own_names : (q : Procedure) → Contains P.procedures q → HasOwnNames q
   pub null : slice_get V 0 ≡ Some 0
-  pub within : Within (step_walked P home p s).kinds K
-  pub values : HasStateValues K V s.version (here P home (p ∷ ps) c s) x
-  pub cells : HasCellValues V (term_step P home p s) y
-  pub results : HasResultValues P V p (term_step P home p s) y
-  pub after : HasStateValues K V (path_version p s.version) (here P home ps c (step_walked P home p s)) y
-  pub takes : Takes P home p x y
+  pub within : Within (step_walked P home proc s).kinds K
+  pub values : HasStateValues K V s.version (here P home (proc ∷ ps) c s) x
+  pub cells : HasCellValues V (term_step P home proc s) y
+  pub results : HasResultValues P V proc (term_step P home proc s) y
+  pub after : HasStateValues K V (path_version proc s.version) (here P home ps c (step_walked P home proc s)) y
+  pub takes : Takes P home proc x y
   pub proper : IsProper x.heap
   pub owned : Owned V x.heap
 
 -- the terms before a step, and those after it
-pub sound_used : (P : Program) (home : Procedure) (K : List Kind) (V : List ℕ) (c : path.Check) (p : path.PathStep) (ps : List path.PathStep) (s : Terms) (x y : State) → IsStep P home K V c p ps s x y → Within (step_used home p s).kinds K → Sound K V x.store x.heap (step_used home p s)
-sound_used P home K V c p ps s x y I w = sound_from K V s.version (here P home (p ∷ ps) c s) x (step_used home p s) I.null I.values (used_step_grows home p s).version w (used_term P home p ps c s)
+pub sound_used : (P : Program) (home : Procedure) (K : List Kind) (V : List ℕ) (c : path.Check) (proc : path.PathStep) (ps : List path.PathStep) (s : Terms) (x y : State) → IsStep P home K V c proc ps s x y → Within (step_used home proc s).kinds K → Sound K V x.store x.heap (step_used home proc s)
+sound_used P home K V c proc ps s x y I w = sound_from K V s.version (here P home (proc ∷ ps) c s) x (step_used home proc s) I.null I.values (used_step_grows home proc s).version w (used_term P home proc ps c s)
 
-pub sound_after : (P : Program) (home : Procedure) (K : List Kind) (V : List ℕ) (c : path.Check) (p : path.PathStep) (ps : List path.PathStep) (s : Terms) (x y : State) → IsStep P home K V c p ps s x y → Sound K V y.store y.heap (step_walked P home p s)
-sound_after P home K V c p ps s x y I = sound_from K V (path_version p s.version) (here P home ps c (step_walked P home p s)) y (step_walked P home p s) I.null I.after (step_version P home p s x y I.takes) I.within (own_term P home ps c (step_walked P home p s))
+pub sound_after : (P : Program) (home : Procedure) (K : List Kind) (V : List ℕ) (c : path.Check) (proc : path.PathStep) (ps : List path.PathStep) (s : Terms) (x y : State) → IsStep P home K V c proc ps s x y → Sound K V y.store y.heap (step_walked P home proc s)
+sound_after P home K V c proc ps s x y I = sound_from K V (path_version proc s.version) (here P home ps c (step_walked P home proc s)) y (step_walked P home proc s) I.null I.after (step_version P home proc s x y I.takes) I.within (own_term P home ps c (step_walked P home proc s))
 
 pub one_given : (a l : ℕ) → a ∷ [] ≡ l ∷ [] → a ≡ l
 one_given a l e = cc
@@ -219,27 +219,27 @@ replaced_owned V f st h g t k R n m own =
 
 called_owned : (P : Program) (home : Procedure) (K : List Kind) (V : List ℕ) (c : path.Check) (ys : List Occ) (n : ℕ) (es : List Expr) (ps : List path.PathStep) (s : Terms) (x y : State) → IsStep P home K V c (path.called ys n es) ps s x y → Owned V y.heap
 called_owned P home K V c ys n es ps s x y I =
-    let (p, vs, found, give, C) = I.takes in
+    let (proc, vs, found, give, C) = I.takes in
     let T = exprs_used es s in
     let ts = exprs_terms es T in
-    let own = I.own_names p (numbered P.procedures n p found) in
-    let mid = with_results p (rebound T (bound_inside p ts)) in
-    let all : Within (each_walked p.gives mid).kinds K = subst (λ o. Within (call_walked o (names ys) ts T).kinds K) found I.within in
-    let some : Within (walked p.needs (rebound T (bound_inside p ts))).kinds K = λ i k e. all i k ((each_grows p.gives mid).kinds i k (renewed_within (results_of p) (moved_on (walked p.needs (rebound T (bound_inside p ts)))) i k e)) in
-    let few : Within T.kinds K = λ i k e. some i k ((walked_grows p.needs (rebound T (bound_inside p ts))).kinds i k e) in
+    let own = I.own_names proc (numbered P.procedures n proc found) in
+    let mid = with_results proc (rebound T (bound_inside proc ts)) in
+    let all : Within (each_walked proc.gives mid).kinds K = subst (λ o. Within (call_walked o (names ys) ts T).kinds K) found I.within in
+    let some : Within (walked proc.needs (rebound T (bound_inside proc ts))).kinds K = λ i k e. all i k ((each_grows proc.gives mid).kinds i k (renewed_within (results_of proc) (moved_on (walked proc.needs (rebound T (bound_inside proc ts)))) i k e)) in
+    let few : Within T.kinds K = λ i k e. some i k ((walked_grows proc.needs (rebound T (bound_inside proc ts))).kinds i k e) in
     let S : Sound K V x.store x.heap T = sound_used P home K V c (path.called ys n es) ps s x y I few in
     let values = exprs_values K V x.store x.heap es vs s S give in
-    let R : HasResultValues P V (path.called ys n es) (call_parts (Some p) ts T) y = subst (λ o. HasResultValues P V (path.called ys n es) (call_parts o ts T) y) found I.results in
+    let R : HasResultValues P V (path.called ys n es) (call_parts (Some proc) ts T) y = subst (λ o. HasResultValues P V (path.called ys n es) (call_parts o ts T) y) found I.results in
     let version : T.version ≡ s.version = (exprs_grow es s).version in
-    let first = inside_before K V x.heap p ts vs T C.inside own.needs_in values C.arguments I.null some (λ t u v e. I.values.next t u v (e ∙ ap (λ i. Some (next i u)) version)) in
-    let (g, there, R') = one_met p.needs C.inside x.heap p.gives C.inside y.heap C.replaced in
-    let (t, W) = walked_there p.gives mid g there in
-    let results : (r : Name) (j : ℕ) → Contains (results_of p) r → mid.bindings r ≡ Some j → slice_get V j ≡ Some (C.inside r) =
-    λ r j c e. R p C.inside found (sym C.targets.given) (under g t) W.told r j c ((walked_grows g t).bindings r j (W.first.bindings r j e)) in
-    let last = inside_after K V y.heap p ts vs T C.inside own.needs_in own.gives_in values C.arguments I.null all (λ t u v e. I.after.next t u v (e ∙ ap (λ i. Some (next (i + 1) u)) version)) results in
-    replaced_owned V p.needs C.inside x.heap g C.inside y.heap R'
-    (formula_named K V C.inside x.heap p.needs (rebound T (bound_inside p ts)) first)
-    (formula_named K V C.inside y.heap g t (alternative_sound K V C.inside y.heap p.gives mid g t W last))
+    let first = inside_before K V x.heap proc ts vs T C.inside own.needs_in values C.arguments I.null some (λ t u v e. I.values.next t u v (e ∙ ap (λ i. Some (next i u)) version)) in
+    let (g, there, R') = one_met proc.needs C.inside x.heap proc.gives C.inside y.heap C.replaced in
+    let (t, W) = walked_there proc.gives mid g there in
+    let results : (r : Name) (j : ℕ) → Contains (results_of proc) r → mid.bindings r ≡ Some j → slice_get V j ≡ Some (C.inside r) =
+    λ r j c e. R proc C.inside found (sym C.targets.given) (under g t) W.told r j c ((walked_grows g t).bindings r j (W.first.bindings r j e)) in
+    let last = inside_after K V y.heap proc ts vs T C.inside own.needs_in own.gives_in values C.arguments I.null all (λ t u v e. I.after.next t u v (e ∙ ap (λ i. Some (next (i + 1) u)) version)) results in
+    replaced_owned V proc.needs C.inside x.heap g C.inside y.heap R'
+    (formula_named K V C.inside x.heap proc.needs (rebound T (bound_inside proc ts)) first)
+    (formula_named K V C.inside y.heap g t (alternative_sound K V C.inside y.heap proc.gives mid g t W last))
     I.owned
 
 -- the terms before a loop, and those after it
@@ -265,7 +265,7 @@ looped_owned P home K V c n ps s x y I =
     (formula_named K V y.store y.heap l.invariant (with_assigned l (variable_names home) s) S.1)
     I.owned
 
-step_owned : (P : Program) (home : Procedure) (K : List Kind) (V : List ℕ) (c : path.Check) (p : path.PathStep) (ps : List path.PathStep) (s : Terms) (x y : State) (last : Option Name) → IsStep P home K V c p ps s x y → Accessed V last x → IsReady last p → Owned V y.heap
+step_owned : (P : Program) (home : Procedure) (K : List Kind) (V : List ℕ) (c : path.Check) (proc : path.PathStep) (ps : List path.PathStep) (s : Terms) (x y : State) (last : Option Name) → IsStep P home K V c proc ps s x y → Accessed V last x → IsReady last proc → Owned V y.heap
 step_owned P home K V c (path.accessed o) ps s x y last I A r = subst (λ (z : State). Owned V z.heap) (sym I.takes.1) I.owned
 step_owned P home K V c (path.assume l e r') ps s x y last I A r = subst (λ (z : State). Owned V z.heap) (sym I.takes.1) I.owned
 step_owned P home K V c (path.assigned o e) ps s x y last I A r = subst (Owned V) (sym I.takes.3) I.owned
@@ -279,7 +279,7 @@ step_owned P home K V c (path.answered es) ps s x y last I A r = subst (Owned V)
 same_name : (n m : Name) → Some n ≡ Some m → n ≡ m
 same_name n m e = cc
 
-step_accessed : (P : Program) (home : Procedure) (K : List Kind) (V : List ℕ) (c : path.Check) (p : path.PathStep) (ps : List path.PathStep) (s : Terms) (x y : State) → IsStep P home K V c p ps s x y → Accessed V (accesses p) y
+step_accessed : (P : Program) (home : Procedure) (K : List Kind) (V : List ℕ) (c : path.Check) (proc : path.PathStep) (ps : List path.PathStep) (s : Terms) (x y : State) → IsStep P home K V c proc ps s x y → Accessed V (accesses proc) y
 step_accessed P home K V c (path.accessed o) ps s x y I n e =
     let S : Sound K V y.store y.heap (followed o.name (used o.name s)) = sound_after P home K V c (path.accessed o) ps s x y I in
     let named = cell_named K V y.store y.heap o.name s S in
@@ -296,8 +296,8 @@ step_accessed P home K V c (path.answered es) ps s x y I n e = absurd cc
 -- what is said of the first of the states
 pub first_values : (P : Program) (home : Procedure) (K : List Kind) (V : List ℕ) (c : path.Check) (ps : List path.PathStep) (s : Terms) (i : ℕ) (x : State) (ys : List State) → HaveValues P K V ps (term_steps P home ps s) (state_bindings P home ps c s) i x ys → HasStateValues K V i (here P home ps c s) x
 first_values P home K V c [] s i x ys H = H
-first_values P home K V c (p ∷ ps) s i x [] H = absurd H
-first_values P home K V c (p ∷ ps) s i x (y ∷ ys) H = H.0
+first_values P home K V c (proc ∷ ps) s i x [] H = absurd H
+first_values P home K V c (proc ∷ ps) s i x (y ∷ ys) H = H.0
 
 owned_along : (P : Program) (home : Procedure) (K : List Kind) (V : List ℕ) (c : path.Check) → ((q : Procedure) → Contains P.procedures q → HasOwnNames q) → slice_get V 0 ≡ Some 0
     → (ps : List path.PathStep) (s : Terms) (last : Option Name) (x : State) (ys : List State) → Within (steps_walked P home ps s).kinds K
@@ -305,43 +305,43 @@ owned_along : (P : Program) (home : Procedure) (K : List Kind) (V : List ℕ) (c
     → (z : State) → Contains (x ∷ ys) z → Owned V z.heap
 owned_along P home K V c N null [] s last x [] w H T proper r A own z there = subst (λ (u : State). Owned V u.heap) (sym (only_member x z there)) own
 owned_along P home K V c N null [] s last x (y ∷ ys) w H T proper r A own z there = absurd T
-owned_along P home K V c N null (p ∷ ps) s last x [] w H T proper r A own z there = absurd T
-owned_along P home K V c N null (p ∷ ps) s last x (y ∷ ys) w H T proper r A own z there =
-    let t = step_walked P home p s in
-    let I : IsStep P home K V c p ps s x y = record {
+owned_along P home K V c N null (proc ∷ ps) s last x [] w H T proper r A own z there = absurd T
+owned_along P home K V c N null (proc ∷ ps) s last x (y ∷ ys) w H T proper r A own z there =
+    let t = step_walked P home proc s in
+    let I : IsStep P home K V c proc ps s x y = record {
       own_names = N;
       null = null;
       within = chain t.kinds (steps_walked P home ps t).kinds K (steps_within P home ps t) w;
       values = H.0;
       cells = H.1;
       results = H.2;
-      after = first_values P home K V c ps t (path_version p s.version) y ys H.3;
+      after = first_values P home K V c ps t (path_version proc s.version) y ys H.3;
       takes = T.0;
       proper = proper;
       owned = own;
     } in
-    let rest : HaveValues P K V ps (term_steps P home ps t) (state_bindings P home ps c t) t.version y ys = subst (λ i. HaveValues P K V ps (term_steps P home ps t) (state_bindings P home ps c t) i y ys) (sym (step_version P home p s x y T.0)) H.3 in
+    let rest : HaveValues P K V ps (term_steps P home ps t) (state_bindings P home ps c t) t.version y ys = subst (λ i. HaveValues P K V ps (term_steps P home ps t) (state_bindings P home ps c t) i y ys) (sym (step_version P home proc s x y T.0)) H.3 in
     elim (member_cases x (y ∷ ys) z there) [
       | inl same ↦ subst (λ (u : State). Owned V u.heap) same own
-      | inr later ↦ owned_along P home K V c N null ps t (accesses p) y ys w rest T.1 (step_proper P home p x y T.0 proper) r.1 (step_accessed P home K V c p ps s x y I) (step_owned P home K V c p ps s x y last I A r.0) z later
+      | inr later ↦ owned_along P home K V c N null ps t (accesses proc) y ys w rest T.1 (step_proper P home proc x y T.0 proper) r.1 (step_accessed P home K V c proc ps s x y I) (step_owned P home K V c proc ps s x y last I A r.0) z later
     ]
 
 pub own_names : (P : Program) → IsTyped P → (q : Procedure) → Contains P.procedures q → HasOwnNames q
 own_names P typed q q' = record { needs_in = needs_are_parameters P typed q q'; gives_in = all_of_members (λ f. FormulaIn f (parameters_of q ++ results_of q)) q.gives (gives_are_contract P typed q q') }
 
 pub traces_are_owned : TracesAreOwned
-traces_are_owned P p c x ys V typed is of C values =
-    let K = (symbolic_of P p c).terms in
-    let f = path.meets_at p c.start in
+traces_are_owned P proc c x ys V typed is of C values =
+    let K = (symbolic_of P proc c).terms in
+    let f = path.meets_at proc c.start in
     let ps = c.way.steps in
     let k = c.way.check in
-    let s = begins p c.start in
-    let w : Within (steps_walked P p ps s).kinds K = check_within P p k (steps_walked P p ps s) in
+    let s = begins proc c.start in
+    let w : Within (steps_walked P proc ps s).kinds K = check_within P proc k (steps_walked P proc ps s) in
     let version : s.version ≡ 0 = (walked_grows f no_terms).version in
-    let first = first_values P p K V k ps s 0 x ys values.along in
-    let S : Sound K V x.store x.heap s = sound_from K V 0 (here P p ps k s) x s values.null first version (chain s.kinds (steps_walked P p ps s).kinds K (steps_within P p ps s) w) (own_term P p ps k s) in
+    let first = first_values P proc K V k ps s 0 x ys values.along in
+    let S : Sound K V x.store x.heap s = sound_from K V 0 (here P proc ps k s) x s values.null first version (chain s.kinds (steps_walked P proc ps s).kinds K (steps_within P proc ps s) w) (own_term P proc ps k s) in
     let own : Owned V x.heap = footprints_are_owned V x.heap x.heap x.store f (λ q v e. e) (formula_named K V x.store x.heap f no_terms S) C.begins in
-    owned_along P p K V k (own_names P typed) values.null ps s None x ys w
-    (subst (λ i. HaveValues P K V ps (term_steps P p ps s) (state_bindings P p ps k s) i x ys) (sym version) values.along)
-    C.leads (met_are_proper f x.store x.heap C.begins) (start_ready P p c.start ps k (its_path P p c is of))
+    owned_along P proc K V k (own_names P typed) values.null ps s None x ys w
+    (subst (λ i. HaveValues P K V ps (term_steps P proc ps s) (state_bindings P proc ps k s) i x ys) (sym version) values.along)
+    C.leads (met_are_proper f x.store x.heap C.begins) (start_ready P proc c.start ps k (its_path P proc c is of))
     (λ n e. absurd cc) own

@@ -116,9 +116,9 @@ around_ready : (P : Program) (n : ℕ) (o : Option Loop) → AllReady None (arou
 around_ready P n (Some l) = round_ready P n l
 around_ready P n None = tt
 
-graph_ready : (P : Program) (p : Procedure) (a : Start) → AllReady None (graph_from P p a)
-graph_ready P p whole_body = all_ready P 0 (body_of p) _ tt
-graph_ready P p (round n) = around_ready P n (slice_get (loops_of p) n)
+graph_ready : (P : Program) (proc : Procedure) (a : Start) → AllReady None (graph_from P proc a)
+graph_ready P proc whole_body = all_ready P 0 (body_of proc) _ tt
+graph_ready P proc (round n) = around_ready P n (slice_get (loops_of proc) n)
 
-pub start_ready : (P : Program) (p : Procedure) (a : Start) (ps : List PathStep) (c : Check) → Path (graph_from P p a) ps c → AreReady None ps
-start_ready P p a ps c path = path_ready None (graph_from P p a) ps c path (graph_ready P p a)
+pub start_ready : (P : Program) (proc : Procedure) (a : Start) (ps : List PathStep) (c : Check) → Path (graph_from P proc a) ps c → AreReady None ps
+start_ready P proc a ps c path = path_ready None (graph_from P proc a) ps c path (graph_ready P proc a)

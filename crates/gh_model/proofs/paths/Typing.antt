@@ -53,22 +53,22 @@ IsFitLoop p n = (l : Loop) × IsLoopAt p n l
 
 -- where the variables of R were accessed since the last other step
 abbrev pub IsPrepared : Program → Procedure → (Name → Type 0) → PathStep → Type 0
-IsPrepared P p R (accessed o) = Unit {0}
-IsPrepared P p R (assume l e r) = ExprReady R l × ExprReady R r
-IsPrepared P p R (assigned x e) = ExprReady R e
-IsPrepared P p R (made x) = Unit {0}
-IsPrepared P p R (written x e) = ExprReady R e × R x.name
-IsPrepared P p R (freed x) = R x.name
-IsPrepared P p R (called ts n es) = ExprsReady R es × IsFitCall P ts n es
-IsPrepared P p R (looped n) = IsFitLoop p n
-IsPrepared P p R (answered es) = ExprsReady R es × (length es ≡ length (results_of p)) × Distinct (results_of p)
+IsPrepared P proc R (accessed o) = Unit {0}
+IsPrepared P proc R (assume l e r) = ExprReady R l × ExprReady R r
+IsPrepared P proc R (assigned x e) = ExprReady R e
+IsPrepared P proc R (made x) = Unit {0}
+IsPrepared P proc R (written x e) = ExprReady R e × R x.name
+IsPrepared P proc R (freed x) = R x.name
+IsPrepared P proc R (called ts n es) = ExprsReady R es × IsFitCall P ts n es
+IsPrepared P proc R (looped n) = IsFitLoop proc n
+IsPrepared P proc R (answered es) = ExprsReady R es × (length es ≡ length (results_of proc)) × Distinct (results_of proc)
 
 abbrev pub IsCheckPrepared : Program → Procedure → (Name → Type 0) → Check → Type 0
-IsCheckPrepared P p R (access o) = Unit {0}
-IsCheckPrepared P p R (entry at n es) = ExprsReady R es × IsFitEntry P n es
-IsCheckPrepared P p R (loop_entry at n) = IsFitLoop p n
-IsCheckPrepared P p R (returned at) = Unit {0}
-IsCheckPrepared P p R (loop_end at n) = IsFitLoop p n
+IsCheckPrepared P proc R (access o) = Unit {0}
+IsCheckPrepared P proc R (entry at n es) = ExprsReady R es × IsFitEntry P n es
+IsCheckPrepared P proc R (loop_entry at n) = IsFitLoop proc n
+IsCheckPrepared P proc R (returned at) = Unit {0}
+IsCheckPrepared P proc R (loop_end at n) = IsFitLoop proc n
 
 abbrev pub Nowhere : Name → Type 0
 Nowhere n = ⊥
@@ -85,22 +85,22 @@ ready_after (looped m) R n = ⊥
 ready_after (answered es) R n = ⊥
 
 abbrev pub ArePrepared : Program → Procedure → (Name → Type 0) → List PathStep → Check → Type 0
-ArePrepared P p R [] c = IsCheckPrepared P p R c
-ArePrepared P p R (s ∷ ss) c = IsPrepared P p R s × ArePrepared P p (ready_after s R) ss c
+ArePrepared P proc R [] c = IsCheckPrepared P proc R c
+ArePrepared P proc R (s ∷ ss) c = IsPrepared P proc R s × ArePrepared P proc (ready_after s R) ss c
 
 -- the same of each path of a graph, where the numbers are those of procedures and loops
 abbrev WillBePrepared : Program → Procedure → (Name → Type 0) → PathStep → Type 0
-WillBePrepared P p R s = StepIsThere P p s → IsPrepared P p R s
+WillBePrepared P proc R s = StepIsThere P proc s → IsPrepared P proc R s
 
 abbrev CheckWillBePrepared : Program → Procedure → (Name → Type 0) → Check → Type 0
-CheckWillBePrepared P p R c = CheckIsThere P p c → IsCheckPrepared P p R c
+CheckWillBePrepared P proc R c = CheckIsThere P proc c → IsCheckPrepared P proc R c
 
 abbrev AllPrepared : Program → Procedure → (Name → Type 0) → Graph → Type 0
-AllPrepared P p R dead_end = Unit {0}
-AllPrepared P p R (ends c) = CheckWillBePrepared P p R c
-AllPrepared P p R (moves s g) = WillBePrepared P p R s × AllPrepared P p (ready_after s R) g
-AllPrepared P p R (guarded c s g) = CheckWillBePrepared P p R c × WillBePrepared P p R s × AllPrepared P p (ready_after s R) g
-AllPrepared P p R (fork l e r g k) = ExprReady R l × ExprReady R r × AllPrepared P p Nowhere g × AllPrepared P p Nowhere k
+AllPrepared P proc R dead_end = Unit {0}
+AllPrepared P proc R (ends c) = CheckWillBePrepared P proc R c
+AllPrepared P proc R (moves s g) = WillBePrepared P proc R s × AllPrepared P proc (ready_after s R) g
+AllPrepared P proc R (guarded c s g) = CheckWillBePrepared P proc R c × WillBePrepared P proc R s × AllPrepared P proc (ready_after s R) g
+AllPrepared P proc R (fork l e r g k) = ExprReady R l × ExprReady R r × AllPrepared P proc Nowhere g × AllPrepared P proc Nowhere k
 
 -- a number below the count is that of a loop
 loop_there : (p : Procedure) (n : ℕ) → HasLoop p n → IsFitLoop p n
@@ -108,55 +108,55 @@ loop_there p n there = got (loops_of p) n there
 
 -- the numbers of steps
 abbrev AreThere : Program → Procedure → List PathStep → Type 0
-AreThere P p ss = All (StepIsThere P p) ss
+AreThere P proc ss = All (StepIsThere P proc) ss
 
-first_there : (P : Program) (p : Procedure) (s : PathStep) (ss : List PathStep) → AreThere P p (s ∷ ss) → StepIsThere P p s
-first_there P p s ss T = All-head (StepIsThere P p) s ss T
+first_there : (P : Program) (proc : Procedure) (s : PathStep) (ss : List PathStep) → AreThere P proc (s ∷ ss) → StepIsThere P proc s
+first_there P proc s ss T = All-head (StepIsThere P proc) s ss T
 
-others_there : (P : Program) (p : Procedure) (s : PathStep) (ss : List PathStep) → AreThere P p (s ∷ ss) → AreThere P p ss
-others_there P p s ss T = All-tail (StepIsThere P p) s ss T
+others_there : (P : Program) (proc : Procedure) (s : PathStep) (ss : List PathStep) → AreThere P proc (s ∷ ss) → AreThere P proc ss
+others_there P proc s ss T = All-tail (StepIsThere P proc) s ss T
 
-path_prepared : (P : Program) (p : Procedure) (R : Name → Type 0) (g : Graph) (ss : List PathStep) (c : Check) → Path g ss c → AreThere P p ss → CheckIsThere P p c → AllPrepared P p R g → ArePrepared P p R ss c
-path_prepared P p R g ss c (at_end {c = d}) T C A = A C
-path_prepared P p R g ss c (arrived {g = h} {p = s} {c = d}) T C A = A.0 C
-path_prepared P p R g ss c (past {g = h} {d = d} {p = s} {ps = qs} {c = k} rest) T C A =
-    (A.1 (first_there P p s qs T), path_prepared P p (ready_after s R) h qs k rest (others_there P p s qs T) C A.2)
-path_prepared P p R g ss c (on {g = h} {p = s} {ps = qs} {c = k} rest) T C A =
-    (A.0 (first_there P p s qs T), path_prepared P p (ready_after s R) h qs k rest (others_there P p s qs T) C A.1)
-path_prepared P p R g ss c (on_true {l = l} {e = e} {r = r} {g = h} {k = h'} {ps = qs} {c = k} rest) T C A =
-    ((A.0, A.1), path_prepared P p Nowhere h qs k rest (others_there P p (assume l e r) qs T) C A.2)
-path_prepared P p R g ss c (on_false {l = l} {e = e} {r = r} {g = h} {k = h'} {ps = qs} {c = k} rest) T C A =
-    ((A.0, A.1), path_prepared P p Nowhere h' qs k rest (others_there P p (assume l (not e) r) qs T) C A.3)
+path_prepared : (P : Program) (proc : Procedure) (R : Name → Type 0) (g : Graph) (ss : List PathStep) (c : Check) → Path g ss c → AreThere P proc ss → CheckIsThere P proc c → AllPrepared P proc R g → ArePrepared P proc R ss c
+path_prepared P proc R g ss c (at_end {c = d}) T C A = A C
+path_prepared P proc R g ss c (arrived {g = h} {p = s} {c = d}) T C A = A.0 C
+path_prepared P proc R g ss c (past {g = h} {d = d} {p = s} {ps = qs} {c = k} rest) T C A =
+    (A.1 (first_there P proc s qs T), path_prepared P proc (ready_after s R) h qs k rest (others_there P proc s qs T) C A.2)
+path_prepared P proc R g ss c (on {g = h} {p = s} {ps = qs} {c = k} rest) T C A =
+    (A.0 (first_there P proc s qs T), path_prepared P proc (ready_after s R) h qs k rest (others_there P proc s qs T) C A.1)
+path_prepared P proc R g ss c (on_true {l = l} {e = e} {r = r} {g = h} {k = h'} {ps = qs} {c = k} rest) T C A =
+    ((A.0, A.1), path_prepared P proc Nowhere h qs k rest (others_there P proc (assume l e r) qs T) C A.2)
+path_prepared P proc R g ss c (on_false {l = l} {e = e} {r = r} {g = h} {k = h'} {ps = qs} {c = k} rest) T C A =
+    ((A.0, A.1), path_prepared P proc Nowhere h' qs k rest (others_there P proc (assume l (not e) r) qs T) C A.3)
 
 expr_more : (R S : Name → Type 0) (e : Expr) → ((n : Name) → R n → S n) → ExprReady R e → ExprReady S e
 expr_more R S (Plain o) f A = tt
 expr_more R S (Read o) f A = f o.name A
 
 -- an expression's variable is accessed before it is read
-reads_prepared : (P : Program) (p : Procedure) (R : Name → Type 0) (e : Expr) (g : Graph) → ((S : Name → Type 0) → ((n : Name) → R n → S n) → ExprReady S e → AllPrepared P p S g) → AllPrepared P p R (reads e g)
-reads_prepared P p R (Plain o) g k = k R (λ n r. r) tt
-reads_prepared P p R (Read o) g k = (λ c. tt, λ c. tt, k (ready_after (accessed o) R) (λ n r. inr r) (inl refl))
+reads_prepared : (P : Program) (proc : Procedure) (R : Name → Type 0) (e : Expr) (g : Graph) → ((S : Name → Type 0) → ((n : Name) → R n → S n) → ExprReady S e → AllPrepared P proc S g) → AllPrepared P proc R (reads e g)
+reads_prepared P proc R (Plain o) g k = k R (λ n r. r) tt
+reads_prepared P proc R (Read o) g k = (λ c. tt, λ c. tt, k (ready_after (accessed o) R) (λ n r. inr r) (inl refl))
 
-all_reads_prepared : (P : Program) (p : Procedure) (R : Name → Type 0) (es : List Expr) (g : Graph) → ((S : Name → Type 0) → ((n : Name) → R n → S n) → ExprsReady S es → AllPrepared P p S g) → AllPrepared P p R (all_reads es g)
-all_reads_prepared P p R [] g k = k R (λ n r. r) tt
-all_reads_prepared P p R (e ∷ es) g k =
-    reads_prepared P p R e (all_reads es g) (λ S f a. all_reads_prepared P p S es g (λ T h b. k T (λ n r. h n (f n r)) (expr_more S T e h a, b)))
+all_reads_prepared : (P : Program) (proc : Procedure) (R : Name → Type 0) (es : List Expr) (g : Graph) → ((S : Name → Type 0) → ((n : Name) → R n → S n) → ExprsReady S es → AllPrepared P proc S g) → AllPrepared P proc R (all_reads es g)
+all_reads_prepared P proc R [] g k = k R (λ n r. r) tt
+all_reads_prepared P proc R (e ∷ es) g k =
+    reads_prepared P proc R e (all_reads es g) (λ S f a. all_reads_prepared P proc S es g (λ T h b. k T (λ n r. h n (f n r)) (expr_more S T e h a, b)))
 
 mutual
-  tested_prepared : (P : Program) (p : Procedure) (t : Test) (g k : Graph) → AllPrepared P p Nowhere g → AllPrepared P p Nowhere k → AllPrepared P p Nowhere (tested t g k)
-  tested_prepared P p (compare l e r) g k A B =
-      reads_prepared P p Nowhere l (reads r (fork l e r g k)) (λ S f a. reads_prepared P p S r (fork l e r g k) (λ T h b. (expr_more S T l h a, b, A, B)))
-  tested_prepared P p (negation t) g k A B = tested_prepared P p t k g B A
-  tested_prepared P p (conjunction ts) g k A B = all_tested_prepared P p ts g k A B
-  tested_prepared P p (disjunction ts) g k A B = some_tested_prepared P p ts g k A B
+  tested_prepared : (P : Program) (proc : Procedure) (t : Test) (g k : Graph) → AllPrepared P proc Nowhere g → AllPrepared P proc Nowhere k → AllPrepared P proc Nowhere (tested t g k)
+  tested_prepared P proc (compare l e r) g k A B =
+      reads_prepared P proc Nowhere l (reads r (fork l e r g k)) (λ S f a. reads_prepared P proc S r (fork l e r g k) (λ T h b. (expr_more S T l h a, b, A, B)))
+  tested_prepared P proc (negation t) g k A B = tested_prepared P proc t k g B A
+  tested_prepared P proc (conjunction ts) g k A B = all_tested_prepared P proc ts g k A B
+  tested_prepared P proc (disjunction ts) g k A B = some_tested_prepared P proc ts g k A B
 
-  all_tested_prepared : (P : Program) (p : Procedure) (ts : Tests) (g k : Graph) → AllPrepared P p Nowhere g → AllPrepared P p Nowhere k → AllPrepared P p Nowhere (all_tested ts g k)
-  all_tested_prepared P p no_tests g k A B = A
-  all_tested_prepared P p (test_first t ts) g k A B = tested_prepared P p t (all_tested ts g k) k (all_tested_prepared P p ts g k A B) B
+  all_tested_prepared : (P : Program) (proc : Procedure) (ts : Tests) (g k : Graph) → AllPrepared P proc Nowhere g → AllPrepared P proc Nowhere k → AllPrepared P proc Nowhere (all_tested ts g k)
+  all_tested_prepared P proc no_tests g k A B = A
+  all_tested_prepared P proc (test_first t ts) g k A B = tested_prepared P proc t (all_tested ts g k) k (all_tested_prepared P proc ts g k A B) B
 
-  some_tested_prepared : (P : Program) (p : Procedure) (ts : Tests) (g k : Graph) → AllPrepared P p Nowhere g → AllPrepared P p Nowhere k → AllPrepared P p Nowhere (some_tested ts g k)
-  some_tested_prepared P p no_tests g k A B = B
-  some_tested_prepared P p (test_first t ts) g k A B = tested_prepared P p t g (some_tested ts g k) A (some_tested_prepared P p ts g k A B)
+  some_tested_prepared : (P : Program) (proc : Procedure) (ts : Tests) (g k : Graph) → AllPrepared P proc Nowhere g → AllPrepared P proc Nowhere k → AllPrepared P proc Nowhere (some_tested ts g k)
+  some_tested_prepared P proc no_tests g k A B = B
+  some_tested_prepared P proc (test_first t ts) g k A B = tested_prepared P proc t g (some_tested ts g k) A (some_tested_prepared P proc ts g k A B)
 
 -- what the type rules say of a site
 abbrev IsFitSite : Program → Procedure → Site → Type 0

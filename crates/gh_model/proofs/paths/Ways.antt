@@ -8,9 +8,9 @@ use Rattle.gh_path.specs.Paths.{Path}
 use Rattle.gh_path.specs.Conditions.{Condition, IsCondition, IsOf}
 use Rattle.gh_path.proofs.ListLemmas.{member}
 
-pub its_declared : (P : Program) (p : Procedure) (c : Condition) → IsOf P c p → Contains P.procedures p
-its_declared P p c of = member P.procedures c.procedure p of
+pub its_declared : (P : Program) (proc : Procedure) (c : Condition) → IsOf P c proc → Contains P.procedures proc
+its_declared P proc c of = member P.procedures c.procedure proc of
 
-pub its_path : (P : Program) (p : Procedure) (c : Condition) → IsCondition P c → IsOf P c p → Path (graph_from P p c.start) c.way.steps c.way.check
-its_path P p c is of =
-    subst (λ (q : Procedure). Path (graph_from P q c.start) c.way.steps c.way.check) (one_value (slice_get P.procedures c.procedure) is.procedure p is.of of) is.leads
+pub its_path : (P : Program) (proc : Procedure) (c : Condition) → IsCondition P c → IsOf P c proc → Path (graph_from P proc c.start) c.way.steps c.way.check
+its_path P proc c is of =
+    subst (λ (q : Procedure). Path (graph_from P q c.start) c.way.steps c.way.check) (one_value (slice_get P.procedures c.procedure) is.procedure proc is.of of) is.leads

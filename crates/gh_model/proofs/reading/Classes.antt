@@ -3,14 +3,14 @@ use Rattle.std.specs.Prelude.{◌≡◌, ℕ, zero, suc, ◌+◌, ◌≤◌, ◌
 use Rattle.std.proofs.lemmas.Bool.{cases_eq}
 use Rattle.std.proofs.Common.{refl, sym, ◌∙◌, ap, subst, inl, inr, arith}
 use Rattle.gh_assert.proofs.Owned.{later_one, first_or_later}
-use Rattle.gh_model.specs.Structures.{HeapStructure, Keeps}
+use Rattle.gh_model.specs.Structures.{HeapStructure, KeepsAxioms}
 use Rattle.gh_model.specs.BuiltHeaps.{first}
 use Rattle.gh_model.specs.Classes.{numbers, class_of, classes, IsCongruence}
 use Rattle.gh_model.specs.Laws.{ClassesAreModels}
 use Rattle.gh_model.proofs.heaps.Cells.{first_passes}
 
 -- what holds of terms holds of some of them, where equal ones are one
-some_keep : (N K : ℕ → Type 0) (E F : ℕ → ℕ → Type 0) (m : HeapStructure) → ((x : ℕ) → K x → N x) → ((x y : ℕ) → K x → K y → E x y → F x y) → ((x v : ℕ) → K x → N v → IsTrue (m.hop x v) → (w : ℕ) × K w × IsTrue (m.hop x w)) → Keeps N E m → Keeps K F m
+some_keep : (N K : ℕ → Type 0) (E F : ℕ → ℕ → Type 0) (m : HeapStructure) → ((x : ℕ) → K x → N x) → ((x y : ℕ) → K x → K y → E x y → F x y) → ((x v : ℕ) → K x → N v → IsTrue (m.hop x v) → (w : ℕ) × K w × IsTrue (m.hop x w)) → KeepsAxioms N E m → KeepsAxioms K F m
 some_keep N K E F m in_N one hop M = record {
   ordered = record {
     row_1 = λ x kx. M.ordered.row_1 x (in_N x kx);

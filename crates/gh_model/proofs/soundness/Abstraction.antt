@@ -62,10 +62,10 @@ heap_state (p ∷ ps) x (y ∷ ys) i j = elim (cases_Bool (j == i)) [
 all_proper : (P : Program) (home : Procedure) (ps : List path.PathStep) (x : State) (ys : List State) → IsTrace P home x ps ys → IsProper x.heap → (z : State) → Contains (x ∷ ys) z → IsProper z.heap
 all_proper P home [] x [] T proper z there = subst (λ (u : State). IsProper u.heap) (sym (only_member x z there)) proper
 all_proper P home [] x (y ∷ ys) T proper z there = absurd T
-all_proper P home (p ∷ ps) x [] T proper z there = absurd T
-all_proper P home (p ∷ ps) x (y ∷ ys) T proper z there = elim (member_cases x (y ∷ ys) z there) [
+all_proper P home (proc ∷ ps) x [] T proper z there = absurd T
+all_proper P home (proc ∷ ps) x (y ∷ ys) T proper z there = elim (member_cases x (y ∷ ys) z there) [
   | inl same ↦ subst (λ (u : State). IsProper u.heap) same proper
-  | inr later ↦ all_proper P home ps y ys T.1 (step_proper P home p x y T.0 proper) z later
+  | inr later ↦ all_proper P home ps y ys T.1 (step_proper P home proc x y T.0 proper) z later
 ]
 
 first_true : (a b : Bool) → a ≡ true → (a || b) ≡ true
@@ -150,37 +150,37 @@ version_true V K H M A i =
 one_less : (a b : ℕ) → a ≡ b → a + 1 - 1 ≡ b
 one_less a b e = omega arith
 
-pub reflected : (P : Program) (p : Procedure) (c : Condition) (x : State) (ys : List State) (V : List ℕ) (H : ℕ → Heap) (M : ℕ → HeapStructure) → IsTyped P → IsCounterexample P p c x ys → AreTermValues P p c x ys V → AreVersions V (symbolic_of P p c).terms H M → H 0 ≡ x.heap → HeapsAre H c.way.steps x ys 0 → Satisfies P p c (reflection V M)
-reflected P p c x ys V H M typed C values A front heaps =
-    let D = symbolic_of P p c in
+pub reflected : (P : Program) (proc : Procedure) (c : Condition) (x : State) (ys : List State) (V : List ℕ) (H : ℕ → Heap) (M : ℕ → HeapStructure) → IsTyped P → IsCounterexample P proc c x ys → AreTermValues P proc c x ys V → AreVersions V (symbolic_of P proc c).terms H M → H 0 ≡ x.heap → HeapsAre H c.way.steps x ys 0 → Satisfies P proc c (reflection V M)
+reflected P proc c x ys V H M typed C values A front heaps =
+    let D = symbolic_of P proc c in
     let K = D.terms in
     let n = length K in
     let m = reflection V M in
     let T : GroundClaim → Type 0 = λ g. truth m g ≡ true in
-    let sizes = (problem (symbolic_of P p c)).sizes in
-    let f = path.meets_at p c.start in
+    let sizes = (problem (symbolic_of P proc c)).sizes in
+    let f = path.meets_at proc c.start in
     let ps = c.way.steps in
     let k = c.way.check in
-    let s = begins p c.start in
-    let sN = steps_walked P p ps s in
-    let w : Within sN.kinds K = check_within P p k sN in
+    let s = begins proc c.start in
+    let sN = steps_walked P proc ps s in
+    let w : Within sN.kinds K = check_within P proc k sN in
     let version : s.version ≡ 0 = (walked_grows f no_terms).version in
-    let first = first_values P p K V k ps s 0 x ys values.along in
-    let S : Sound K V x.store x.heap s = sound_from K V 0 (here P p ps k s) x s values.null first version (λ i k e. w i k (steps_within P p ps s i k e)) (own_term P p ps k s) in
+    let first = first_values P proc K V k ps s 0 x ys values.along in
+    let S : Sound K V x.store x.heap s = sound_from K V 0 (here P proc ps k s) x s values.null first version (λ i k e. w i k (steps_within P proc ps s i k e)) (own_term P proc ps k s) in
     let at_version : (i : ℕ) → i ≡ 0 → Represents V x.heap (M i) = λ i e. subst (λ j. Represents V x.heap (M j)) (sym e) (subst (λ h. Represents V h (M 0)) front (A.represents 0)) in
     let preserved : IsPreserved m s.version n (value_at V) V (M s.version) (variables s.bindings) (successor K s.version) x.store f = walked_preserved K V M x.store x.heap n f no_terms A.kinds.count (A.models s.version) (at_version s.version version) S in
     let at_start : IsPreserved m 0 n (value_at V) V (M 0) (variables s.bindings) (successor K 0) x.store f = subst (λ i. IsPreserved m i n (value_at V) V (M i) (variables s.bindings) (successor K i) x.store f) version preserved in
     let agree = assertions_agree V x.heap (M 0) x.store f (subst IsProper front (A.proper 0)) (subst (Owned V) front (A.owned 0)) (at_version 0 refl) (formula_named K V x.store x.heap f no_terms S) in
     let at_heaps : HeapsAre H ps x ys s.version = subst (HeapsAre H ps x ys) (sym version) heaps in
-    let along : HaveValues P K V ps (term_steps P p ps s) (state_bindings P p ps k s) s.version x ys = subst (λ i. HaveValues P K V ps (term_steps P p ps s) (state_bindings P p ps k s) i x ys) (sym version) values.along in
-    let steps = steps_true P p K V H M A k (own_names P typed) ps s x ys w along at_heaps C.leads in
-    let last = last_values P p K V H k ps s x ys along at_heaps C.leads in
+    let along : HaveValues P K V ps (term_steps P proc ps s) (state_bindings P proc ps k s) s.version x ys = subst (λ i. HaveValues P K V ps (term_steps P proc ps s) (state_bindings P proc ps k s) i x ys) (sym version) values.along in
+    let steps = steps_true P proc K V H M A k (own_names P typed) ps s x ys w along at_heaps C.leads in
+    let last = last_values P proc K V H k ps s x ys along at_heaps C.leads in
     let i = D.versions - 1 in
-    let end : i ≡ sN.version = one_less (check_walked P p k sN).version sN.version (check_version P p k sN) in
-    let check : AreTrue m (check_claims K i D.check) = check_true P p K V H M A (own_names P typed) k sN (last_state x ys) i end (λ j k e. e) last.values last.heap C.fails in
+    let end : i ≡ sN.version = one_less (check_walked P proc k sN).version sN.version (check_version P proc k sN) in
+    let check : AreTrue m (check_claims K i D.check) = check_true P proc K V H M A (own_names P typed) k sN (last_state x ys) i end (λ j k e. e) last.values last.heap C.fails in
     let versions : AreTrue m (versions_claims K D.versions) = all_joined T (version_claims K) (range_with_len 0 D.versions) (λ k d l. version_true V K H M A _) in
     let start : AreTrue m (meets_whole K D.start ∷ []) = All-cons T (meets_whole K D.start) [] (at_start.whole.1 (agree.whole.1 C.begins)) (All-nil T) in
-    let all_steps : AreTrue m (steps_claims K 0 D.steps) = subst (λ i. AreTrue m (steps_claims K i (term_steps P p ps s))) version steps in
+    let all_steps : AreTrue m (steps_claims K 0 D.steps) = subst (λ i. AreTrue m (steps_claims K i (term_steps P proc ps s))) version steps in
     let one = All-append T (versions_claims K D.versions) (meets_whole K D.start ∷ []) versions start in
     let two = All-append T (versions_claims K D.versions ++ meets_whole K D.start ∷ []) (steps_claims K 0 D.steps) one all_steps in
     record {
@@ -190,21 +190,21 @@ reflected P p c x ys V H M typed C values A front heaps =
     }
 
 -- what is known of the versions of a counterexample
-pub versions_known : (P : Program) (p : Procedure) (c : Condition) (x : State) (ys : List State) (V : List ℕ) → IsTyped P → IsCondition P c → IsOf P c p → IsCounterexample P p c x ys → AreTermValues P p c x ys V
-    → IsKindValuation (heap_in c.way.steps x ys 0) V (symbolic_of P p c).terms → (M : ℕ → HeapStructure) × AreVersions V (symbolic_of P p c).terms (heap_in c.way.steps x ys 0) M
-versions_known P p c x ys V typed is of C values kinds =
+pub versions_known : (P : Program) (proc : Procedure) (c : Condition) (x : State) (ys : List State) (V : List ℕ) → IsTyped P → IsCondition P c → IsOf P c proc → IsCounterexample P proc c x ys → AreTermValues P proc c x ys V
+    → IsKindValuation (heap_in c.way.steps x ys 0) V (symbolic_of P proc c).terms → (M : ℕ → HeapStructure) × AreVersions V (symbolic_of P proc c).terms (heap_in c.way.steps x ys 0) M
+versions_known P proc c x ys V typed is of C values kinds =
     let H = heap_in c.way.steps x ys 0 in
-    let f = path.meets_at p c.start in
-    let proper : (i : ℕ) → IsProper (H i) = λ i. (let z = heap_state c.way.steps x ys 0 i in subst IsProper (sym z.2) (all_proper P p c.way.steps x ys C.leads (met_are_proper f x.store x.heap C.begins) z.0 z.1)) in
-    let owned : (i : ℕ) → Owned V (H i) = λ i. (let z = heap_state c.way.steps x ys 0 i in subst (Owned V) (sym z.2) (traces_are_owned P p c x ys V typed is of C values z.0 z.1)) in
+    let f = path.meets_at proc c.start in
+    let proper : (i : ℕ) → IsProper (H i) = λ i. (let z = heap_state c.way.steps x ys 0 i in subst IsProper (sym z.2) (all_proper P proc c.way.steps x ys C.leads (met_are_proper f x.store x.heap C.begins) z.0 z.1)) in
+    let owned : (i : ℕ) → Owned V (H i) = λ i. (let z = heap_state c.way.steps x ys 0 i in subst (Owned V) (sym z.2) (traces_are_owned P proc c x ys V typed is of C values z.0 z.1)) in
     let M : ℕ → HeapStructure = λ i. (representations_exist V (H i) (proper i) (owned i)).0 in
     let represents : (i : ℕ) → Represents V (H i) (M i) = λ i. (representations_exist V (H i) (proper i) (owned i)).1 in
     let models : (i : ℕ) → IsModelOver V (M i) = λ i. heaps_are_models V (H i) (M i) (listed V 0 0 kinds.null) (proper i) (owned i) (represents i) in
     (M, record { kinds = kinds; proper = proper; owned = owned; represents = represents; models = models })
 
 pub traces_satisfy : TracesSatisfy
-traces_satisfy P p c x ys typed is of C =
-    let f = found P p c x ys typed of C in
+traces_satisfy P proc c x ys typed is of C =
+    let f = found P proc c x ys typed of C in
     let H = heap_in c.way.steps x ys 0 in
-    let known = versions_known P p c x ys f.0 typed is of C f.1 f.2 in
-    (reflection f.0 known.0, reflected P p c x ys f.0 H known.0 typed C f.1 known.1 (front_heap c.way.steps x ys 0) (heaps_are P p H c.way.steps x ys 0 C.leads (λ j l. refl)))
+    let known = versions_known P proc c x ys f.0 typed is of C f.1 f.2 in
+    (reflection f.0 known.0, reflected P proc c x ys f.0 H known.0 typed C f.1 known.1 (front_heap c.way.steps x ys 0) (heaps_are P proc H c.way.steps x ys 0 C.leads (λ j l. refl)))

@@ -44,10 +44,10 @@ pub last_values : (P : Program) (home : Procedure) (K : List Kind) (V : List ℕ
     → IsLast K V H (here P home [] c (steps_walked P home ps s)) (steps_walked P home ps s) (last_state x ys)
 last_values P home K V H c [] s x [] values at T = record { values = values; heap = at }
 last_values P home K V H c [] s x (y ∷ ys) values at T = absurd T
-last_values P home K V H c (p ∷ ps) s x [] values at T = absurd T
-last_values P home K V H c (p ∷ ps) s x (y ∷ ys) values at T =
-    let t = step_walked P home p s in
-    let version : t.version ≡ path_version p s.version = step_version P home p s x y T.0 in
+last_values P home K V H c (proc ∷ ps) s x [] values at T = absurd T
+last_values P home K V H c (proc ∷ ps) s x (y ∷ ys) values at T =
+    let t = step_walked P home proc s in
+    let version : t.version ≡ path_version proc s.version = step_version P home proc s x y T.0 in
     last_values P home K V H c ps t y ys (subst (λ j. HaveValues P K V ps (term_steps P home ps t) (state_bindings P home ps c t) j y ys) (sym version) values.3) (subst (HeapsAre H ps y ys) (sym version) at.1) T.1
 
 used_check_grows : (home : Procedure) (c : path.Check) (s : Terms) → Grows s (check_used home c s)
@@ -94,18 +94,18 @@ entry_true : (P : Program) (home : Procedure) (K : List Kind) (V : List ℕ) (H 
     → (o : Option Procedure) → slice_get P.procedures n ≡ o → Within (entry_walked o (exprs_terms es (exprs_used es s)) (exprs_used es s)).kinds K
     → AreTrue (reflection V M) (check_claims K i (needs_under o (exprs_terms es (exprs_used es s)) (exprs_used es s)))
 entry_true P home K V H M A N spot n es s z i values at S fails None e w = All-nil (λ u. truth (reflection V M) u ≡ true)
-entry_true P home K V H M A N spot n es s z i values at S fails (Some p) e w =
+entry_true P home K V H M A N spot n es s z i values at S fails (Some proc) e w =
     let T = exprs_used es s in
     let ts = exprs_terms es T in
-    let s1 = rebound T (bound_inside p ts) in
+    let s1 = rebound T (bound_inside proc ts) in
     let version : T.version ≡ s.version = (exprs_grow es s).version in
-    one_claim (reflection V M) (negation_of (meets K (under p.needs s1))) (off_test (truth (reflection V M) (meets K (under p.needs s1))) (λ is. fails (λ q vs inside callee give args.
-    let same : p ≡ q = one_value (slice_get P.procedures n) p q e callee in
+    one_claim (reflection V M) (negation_of (meets K (under proc.needs s1))) (off_test (truth (reflection V M) (meets K (under proc.needs s1))) (λ is. fails (λ q vs inside callee give args.
+    let same : proc ≡ q = one_value (slice_get P.procedures n) proc q e callee in
     let own = N q (numbered P.procedures n q callee) in
-    let own' : HasOwnNames p = subst HasOwnNames (sym same) own in
-    let args' : map inside (parameters_of p) ≡ vs = subst (λ (r : Procedure). map inside (parameters_of r) ≡ vs) (sym same) args in
-    let first = inside_before K V z.heap p ts vs T inside own'.needs_in (exprs_values K V z.store z.heap es vs s S give) args' A.kinds.null w (λ t u v a. values.next t u v (a ∙ ap (λ j. Some (next j u)) version)) in
-    subst (λ (r : Procedure). HasPart r.needs inside z.heap) same (part_there K V H M A inside z.heap p.needs s1 (ap H version ∙ at) first is))))
+    let own' : HasOwnNames proc = subst HasOwnNames (sym same) own in
+    let args' : map inside (parameters_of proc) ≡ vs = subst (λ (r : Procedure). map inside (parameters_of r) ≡ vs) (sym same) args in
+    let first = inside_before K V z.heap proc ts vs T inside own'.needs_in (exprs_values K V z.store z.heap es vs s S give) args' A.kinds.null w (λ t u v a. values.next t u v (a ∙ ap (λ j. Some (next j u)) version)) in
+    subst (λ (r : Procedure). HasPart r.needs inside z.heap) same (part_there K V H M A inside z.heap proc.needs s1 (ap H version ∙ at) first is))))
 
 -- the check of a loop, where it is entered and where its body ends
 entered_true : (K : List Kind) (V : List ℕ) (H : ℕ → Heap) (M : ℕ → HeapStructure) → AreVersions V K H M → (i : ℕ) (st : Store) (h : Heap) (s : Terms) → H s.version ≡ h → (o : Option path.Loop)

@@ -138,9 +138,9 @@ plain_placed ks i u q =
     let n = length ks in
     let P : Term → GroundClaim = λ z. negation_of (all_of (kept i u z ∷ within q z ∷ [])) in
     let Q : Term → GroundClaim = λ z. equivalence_of (allocated (i + 1) z) (one_of (kept i u z ∷ within q z ∷ [])) in
-    let p : Plain (each n P) = plain_map P (terms_below n) (λ z. (plain_kept i u z, (plain_within q z, tt))) in
+    let proc : Plain (each n P) = plain_map P (terms_below n) (λ z. (plain_kept i u z, (plain_within q z, tt))) in
     let r : Plain (each n Q) = plain_map Q (terms_below n) (λ z. (tt, (plain_kept i u z, (plain_within q z, tt)))) in
-    plain_append (meets ks q ∷ each n P) (each n Q) (plain_meets ks q, p) r
+    plain_append (meets ks q ∷ each n P) (each n Q) (plain_meets ks q, proc) r
 
 plain_alternatives : (ks : List Kind) (i : ℕ) (u : Under) (qs : List Under) → Plain (alternatives_claims ks i u qs)
 plain_alternatives ks i u [] = (tt, tt)
@@ -233,11 +233,11 @@ pub instance_stays : (m n : Interpretation) → IsOneBefore 0 m n → (name : In
 instance_stays m n B name t = Any-from_list_any (lit_truth n) (clause_of name) (sym (row_stays m n B name (row_with name.row table)) ∙ list_any-from_Any (lit_truth m) (clause_of name) t)
 
 -- definitions can be given values that make all clauses true
-pub model_from : (P : Program) (p : Procedure) (c : Condition) (m : Interpretation) → Satisfies P p c m → (n : Interpretation) × IsOneBefore 0 m n × IsModelOf P p c n
-model_from P p c m S =
-    let fs = claims (symbolic_of P p c) in
-    let made' = formulas_give_clauses m fs 0 (all_plain fs (plain_claims (symbolic_of P p c))) S.formulas in
-    let sizes = (problem (symbolic_of P p c)).sizes in (
+pub model_from : (P : Program) (proc : Procedure) (c : Condition) (m : Interpretation) → Satisfies P proc c m → (n : Interpretation) × IsOneBefore 0 m n × IsModelOf P proc c n
+model_from P proc c m S =
+    let fs = claims (symbolic_of P proc c) in
+    let made' = formulas_give_clauses m fs 0 (all_plain fs (plain_claims (symbolic_of P proc c))) S.formulas in
+    let sizes = (problem (symbolic_of P proc c)).sizes in (
       made'.0,
       made'.1,
       record {
@@ -248,7 +248,7 @@ model_from P p c m S =
     )
 
 pub traces_give_models : TracesGiveModels
-traces_give_models P p c x ys typed is of C =
-    let (m, S) = traces_satisfy P p c x ys typed is of C in
-    let made' = model_from P p c m S in
+traces_give_models P proc c x ys typed is of C =
+    let (m, S) = traces_satisfy P proc c x ys typed is of C in
+    let made' = model_from P proc c m S in
     (made'.0, made'.2)

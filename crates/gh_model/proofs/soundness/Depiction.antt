@@ -39,22 +39,22 @@ heap_depicted V M n i h B T = record {
 
 heaps_depicted : (P : Program) (home : Procedure) (V : List ℕ) (H : ℕ → Heap) (M : ℕ → HeapStructure) (n : Interpretation) → IsOneBefore 0 (reflection V M) n → ((i : ℕ) → Represents V (H i) (M i)) → (ps : List path.PathStep) (i : ℕ) (x : State) (ys : List State) → IsTrace P home x ps ys → HeapsAre H ps x ys i → AreHeapsDepicted V n ps i x ys
 heaps_depicted P home V H M n B T [] i x ys trace A = heap_depicted V M n i x.heap B (subst (λ h. Represents V h (M i)) A (T i))
-heaps_depicted P home V H M n B T (p ∷ ps) i x [] trace A = absurd trace
-heaps_depicted P home V H M n B T (p ∷ ps) i x (y ∷ ys) trace A = (heap_depicted V M n i x.heap B (subst (λ h. Represents V h (M i)) A.0 (T i)), heaps_depicted P home V H M n B T ps (path_version p i) y ys trace.1 A.1)
+heaps_depicted P home V H M n B T (proc ∷ ps) i x [] trace A = absurd trace
+heaps_depicted P home V H M n B T (proc ∷ ps) i x (y ∷ ys) trace A = (heap_depicted V M n i x.heap B (subst (λ h. Represents V h (M i)) A.0 (T i)), heaps_depicted P home V H M n B T ps (path_version proc i) y ys trace.1 A.1)
 
 pub traces_are_depicted : TracesAreDepicted
-traces_are_depicted P p c x ys V typed is of C values =
+traces_are_depicted P proc c x ys V typed is of C values =
     let H = heap_in c.way.steps x ys 0 in
-    let known = versions_known P p c x ys V typed is of C values (kinds_valued P p c x ys V typed of C values) in
+    let known = versions_known P proc c x ys V typed is of C values (kinds_valued P proc c x ys V typed of C values) in
     let M : ℕ → HeapStructure = known.0 in
-    let heaps : HeapsAre H c.way.steps x ys 0 = heaps_are P p H c.way.steps x ys 0 C.leads (λ j l. refl) in
-    let made' = model_from P p c (reflection V M) (reflected P p c x ys V H M typed C values known.1 (front_heap c.way.steps x ys 0) heaps) in
+    let heaps : HeapsAre H c.way.steps x ys 0 = heaps_are P proc H c.way.steps x ys 0 C.leads (λ j l. refl) in
+    let made' = model_from P proc c (reflection V M) (reflected P proc c x ys V H M typed C values known.1 (front_heap c.way.steps x ys 0) heaps) in
     let n : Interpretation = made'.0 in
     let class_of : (t v : ℕ) → slice_get V t ≡ Some v → n.class t ≡ v = λ t v e. ap (λ (g : ℕ → ℕ). g t) made'.1.class ∙ value_of V t v e in (
       n,
       made'.2,
       record {
         classes = λ t u v w e f. (λ same. sym (class_of t v e) ∙ same ∙ class_of u w f, λ same. class_of t v e ∙ same ∙ sym (class_of u w f));
-        along = heaps_depicted P p V H M n made'.1 known.1.represents c.way.steps 0 x ys C.leads heaps;
+        along = heaps_depicted P proc V H M n made'.1 known.1.represents c.way.steps 0 x ys C.leads heaps;
       },
     )

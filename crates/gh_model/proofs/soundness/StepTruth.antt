@@ -171,29 +171,29 @@ replaced_true K V H M A f g s r i st st' h k vs vr at at' S S' R =
 
 called_true : (P : Program) (home : Procedure) (K : List Kind) (V : List ℕ) (H : ℕ → Heap) (M : ℕ → HeapStructure) → AreVersions V K H M → (c : path.Check) (ys : List Occ) (n : ℕ) (es : List Expr) (ps : List path.PathStep) (s : Terms) (x y : State) → IsStep P home K V c (path.called ys n es) ps s x y → H s.version ≡ x.heap → H (s.version + 1) ≡ y.heap → AreTrue (reflection V M) (step_claims K s.version (term_step P home (path.called ys n es) s))
 called_true P home K V H M A c ys n es ps s x y I at at' =
-    let (p, vs, found', give, C) = I.takes in
+    let (proc, vs, found', give, C) = I.takes in
     let T = exprs_used es s in
     let ts = exprs_terms es T in
-    let own = I.own_names p (numbered P.procedures n p found') in
-    let s1 : Terms = rebound T (bound_inside p ts) in
-    let mid : Terms = with_results p s1 in
-    let all : Within (each_walked p.gives mid).kinds K = subst (λ o. Within (call_walked o (names ys) ts T).kinds K) found' I.within in
-    let some : Within (walked p.needs s1).kinds K = λ i k e. all i k ((each_grows p.gives mid).kinds i k (renewed_within (results_of p) (moved_on (walked p.needs s1)) i k e)) in
-    let few : Within T.kinds K = λ i k e. some i k ((walked_grows p.needs s1).kinds i k e) in
+    let own = I.own_names proc (numbered P.procedures n proc found') in
+    let s1 : Terms = rebound T (bound_inside proc ts) in
+    let mid : Terms = with_results proc s1 in
+    let all : Within (each_walked proc.gives mid).kinds K = subst (λ o. Within (call_walked o (names ys) ts T).kinds K) found' I.within in
+    let some : Within (walked proc.needs s1).kinds K = λ i k e. all i k ((each_grows proc.gives mid).kinds i k (renewed_within (results_of proc) (moved_on (walked proc.needs s1)) i k e)) in
+    let few : Within T.kinds K = λ i k e. some i k ((walked_grows proc.needs s1).kinds i k e) in
     let S : Sound K V x.store x.heap T = sound_used P home K V c (path.called ys n es) ps s x y I few in
     let values = exprs_values K V x.store x.heap es vs s S give in
-    let R : HasResultValues P V (path.called ys n es) (call_parts (Some p) ts T) y = subst (λ o. HasResultValues P V (path.called ys n es) (call_parts o ts T) y) found' I.results in
+    let R : HasResultValues P V (path.called ys n es) (call_parts (Some proc) ts T) y = subst (λ o. HasResultValues P V (path.called ys n es) (call_parts o ts T) y) found' I.results in
     let version : T.version ≡ s.version = (exprs_grow es s).version in
-    let first = inside_before K V x.heap p ts vs T C.inside own.needs_in values C.arguments I.null some (λ t u v e. I.values.next t u v (e ∙ ap (λ i. Some (next i u)) version)) in
-    let (g, there, R') = one_met p.needs C.inside x.heap p.gives C.inside y.heap C.replaced in
-    let (t, W) = walked_there p.gives mid g there in
-    let results : (r : Name) (j : ℕ) → Contains (results_of p) r → mid.bindings r ≡ Some j → slice_get V j ≡ Some (C.inside r) =
-    λ r j c e. R p C.inside found' (sym C.targets.given) (under g t) W.told r j c ((walked_grows g t).bindings r j (W.first.bindings r j e)) in
-    let last = inside_after K V y.heap p ts vs T C.inside own.needs_in own.gives_in values C.arguments I.null all (λ t u v e. I.after.next t u v (e ∙ ap (λ i. Some (next (i + 1) u)) version)) results in
-    let later : mid.version ≡ s.version + 1 = renewed_version (results_of p) (moved_on (walked p.needs s1)) ∙ ap (λ i. i + 1) ((walked_grows p.needs s1).version ∙ version) in
-    let one = replaced_true K V H M A p.needs g s1 t s.version C.inside C.inside x.heap y.heap version (W.first.version ∙ later) at at' first (alternative_sound K V C.inside y.heap p.gives mid g t W last) R' in
+    let first = inside_before K V x.heap proc ts vs T C.inside own.needs_in values C.arguments I.null some (λ t u v e. I.values.next t u v (e ∙ ap (λ i. Some (next i u)) version)) in
+    let (g, there, R') = one_met proc.needs C.inside x.heap proc.gives C.inside y.heap C.replaced in
+    let (t, W) = walked_there proc.gives mid g there in
+    let results : (r : Name) (j : ℕ) → Contains (results_of proc) r → mid.bindings r ≡ Some j → slice_get V j ≡ Some (C.inside r) =
+    λ r j c e. R proc C.inside found' (sym C.targets.given) (under g t) W.told r j c ((walked_grows g t).bindings r j (W.first.bindings r j e)) in
+    let last = inside_after K V y.heap proc ts vs T C.inside own.needs_in own.gives_in values C.arguments I.null all (λ t u v e. I.after.next t u v (e ∙ ap (λ i. Some (next (i + 1) u)) version)) results in
+    let later : mid.version ≡ s.version + 1 = renewed_version (results_of proc) (moved_on (walked proc.needs s1)) ∙ ap (λ i. i + 1) ((walked_grows proc.needs s1).version ∙ version) in
+    let one = replaced_true K V H M A proc.needs g s1 t s.version C.inside C.inside x.heap y.heap version (W.first.version ∙ later) at at' first (alternative_sound K V C.inside y.heap proc.gives mid g t W last) R' in
     subst (λ o. AreTrue (reflection V M) (step_claims K s.version (call_parts o ts T))) (sym found')
-    (part_one (reflection V M) K s.version (under p.needs s1) (each_under p.gives mid) (under g t) W.told one)
+    (part_one (reflection V M) K s.version (under proc.needs s1) (each_under proc.gives mid) (under g t) W.told one)
 
 looped_true : (P : Program) (home : Procedure) (K : List Kind) (V : List ℕ) (H : ℕ → Heap) (M : ℕ → HeapStructure) → AreVersions V K H M → (c : path.Check) (n : ℕ) (ps : List path.PathStep) (s : Terms) (x y : State) → IsStep P home K V c (path.looped n) ps s x y → H s.version ≡ x.heap → H (s.version + 1) ≡ y.heap → AreTrue (reflection V M) (step_claims K s.version (term_step P home (path.looped n) s))
 looped_true P home K V H M A c n ps s x y I at at' =
@@ -204,7 +204,7 @@ looped_true P home K V H M A c n ps s x y I at at' =
     replaced_true K V H M A l.invariant l.invariant s (with_assigned l xs s) s.version x.store y.store x.heap y.heap refl (assigned_version l xs s) at at' S.0 S.1 R.replaced in
     subst (λ o. AreTrue (reflection V M) (step_claims K s.version (loop_parts o xs s))) (sym is) one
 
-step_true : (P : Program) (home : Procedure) (K : List Kind) (V : List ℕ) (H : ℕ → Heap) (M : ℕ → HeapStructure) → AreVersions V K H M → (c : path.Check) (p : path.PathStep) (ps : List path.PathStep) (s : Terms) (x y : State) → IsStep P home K V c p ps s x y → H s.version ≡ x.heap → H (path_version p s.version) ≡ y.heap → AreTrue (reflection V M) (step_claims K s.version (term_step P home p s))
+step_true : (P : Program) (home : Procedure) (K : List Kind) (V : List ℕ) (H : ℕ → Heap) (M : ℕ → HeapStructure) → AreVersions V K H M → (c : path.Check) (proc : path.PathStep) (ps : List path.PathStep) (s : Terms) (x y : State) → IsStep P home K V c proc ps s x y → H s.version ≡ x.heap → H (path_version proc s.version) ≡ y.heap → AreTrue (reflection V M) (step_claims K s.version (term_step P home proc s))
 step_true P home K V H M A c (path.accessed o) ps s x y I at at' = access_true P home K V H M A c o ps s x y I at
 step_true P home K V H M A c (path.assume l e r) ps s x y I at at' = assume_true P home K V H M A c l e r ps s x y I
 step_true P home K V H M A c (path.assigned o e) ps s x y I at at' = All-nil (λ g. truth (reflection V M) g ≡ true)
@@ -216,7 +216,7 @@ step_true P home K V H M A c (path.looped n) ps s x y I at at' = looped_true P h
 step_true P home K V H M A c (path.answered es) ps s x y I at at' = All-nil (λ g. truth (reflection V M) g ≡ true)
 
 -- the version after a step, read off its terms
-same_version : (P : Program) (home : Procedure) (p : path.PathStep) (s : Terms) (i : ℕ) (x y : State) → Takes P home p x y → version_after i (term_step P home p s) ≡ path_version p i
+same_version : (P : Program) (home : Procedure) (proc : path.PathStep) (s : Terms) (i : ℕ) (x y : State) → Takes P home proc x y → version_after i (term_step P home proc s) ≡ path_version proc i
 same_version P home (path.accessed o) s i x y t = refl
 same_version P home (path.assume l e r) s i x y t = refl
 same_version P home (path.assigned o e) s i x y t = refl
@@ -231,20 +231,20 @@ pub steps_true : (P : Program) (home : Procedure) (K : List Kind) (V : List ℕ)
     → (ps : List path.PathStep) (s : Terms) (x : State) (ys : List State) → Within (steps_walked P home ps s).kinds K
     → HaveValues P K V ps (term_steps P home ps s) (state_bindings P home ps c s) s.version x ys → HeapsAre H ps x ys s.version → IsTrace P home x ps ys → AreTrue (reflection V M) (steps_claims K s.version (term_steps P home ps s))
 steps_true P home K V H M A c N [] s x ys w values at T = All-nil (λ g. truth (reflection V M) g ≡ true)
-steps_true P home K V H M A c N (p ∷ ps) s x [] w values at T = absurd T
-steps_true P home K V H M A c N (p ∷ ps) s x (y ∷ ys) w values at T =
-    let t = step_walked P home p s in
+steps_true P home K V H M A c N (proc ∷ ps) s x [] w values at T = absurd T
+steps_true P home K V H M A c N (proc ∷ ps) s x (y ∷ ys) w values at T =
+    let t = step_walked P home proc s in
     let i = s.version in
-    let next' : H (path_version p i) ≡ y.heap = first_heap H ps y ys (path_version p i) at.1 in
-    let version : t.version ≡ path_version p i = step_version P home p s x y T.0 in
-    let I : IsStep P home K V c p ps s x y = record {
+    let next' : H (path_version proc i) ≡ y.heap = first_heap H ps y ys (path_version proc i) at.1 in
+    let version : t.version ≡ path_version proc i = step_version P home proc s x y T.0 in
+    let I : IsStep P home K V c proc ps s x y = record {
       own_names = N;
       null = A.kinds.null;
       within = λ j k e. w j k (steps_within P home ps t j k e);
       values = values.0;
       cells = values.1;
       results = values.2;
-      after = first_values P home K V c ps t (path_version p i) y ys values.3;
+      after = first_values P home K V c ps t (path_version proc i) y ys values.3;
       takes = T.0;
       proper = subst IsProper at.0 (A.proper i);
       owned = subst (Owned V) at.0 (A.owned i);
@@ -252,7 +252,7 @@ steps_true P home K V H M A c N (p ∷ ps) s x (y ∷ ys) w values at T =
     let rest = steps_true P home K V H M A c N ps t y ys w
     (subst (λ j. HaveValues P K V ps (term_steps P home ps t) (state_bindings P home ps c t) j y ys) (sym version) values.3)
     (subst (HeapsAre H ps y ys) (sym version) at.1) T.1 in
-    let past : t.version ≡ version_after i (term_step P home p s) = version ∙ sym (same_version P home p s i x y T.0) in
-    All-append (λ g. truth (reflection V M) g ≡ true) (step_claims K i (term_step P home p s)) (steps_claims K (version_after i (term_step P home p s)) (term_steps P home ps t))
-    (step_true P home K V H M A c p ps s x y I at.0 next')
+    let past : t.version ≡ version_after i (term_step P home proc s) = version ∙ sym (same_version P home proc s i x y T.0) in
+    All-append (λ g. truth (reflection V M) g ≡ true) (step_claims K i (term_step P home proc s)) (steps_claims K (version_after i (term_step P home proc s)) (term_steps P home ps t))
+    (step_true P home K V H M A c proc ps s x y I at.0 next')
     (subst (λ j. AreTrue (reflection V M) (steps_claims K j (term_steps P home ps t))) past rest)

@@ -27,13 +27,13 @@ use Rattle.gh_model.proofs.soundness.WalkValues.{More, front_of, last_of, IsKind
 use Rattle.gh_path.proofs.LoopVariables.{NamesIn, assigned_listed}
 
 -- values after a step: `u` are the terms once its variables are used, `t` those at its end
-pub record StepValues (H : ℕ → Heap) (V : List ℕ) (P : Program) (p : path.PathStep) (x y : State) (u t : Terms) (q : TermStep) : Type 0 where
+pub record StepValues (H : ℕ → Heap) (V : List ℕ) (P : Program) (proc : path.PathStep) (x y : State) (u t : Terms) (q : TermStep) : Type 0 where
   pub values : List ℕ
   pub more : More V values
   pub valued : IsValuation H values y.store t
   pub used : Gives values x.store u.bindings
   pub cells : HasCellValues values q y
-  pub results : HasResultValues P values p q y
+  pub results : HasResultValues P values proc q y
   pub kept : (n : Name) → t.bindings n ≡ None → y.store n ≡ x.store n
 
 but_given : (V : List ℕ) (st : Store) (xs : List Name) (vs : List ℕ) (st' : Store) (b : Bindings) → Gets st xs vs st' → Gives V st b → GivesBut xs V st' b
@@ -124,23 +124,23 @@ result_terms W inside T (r ∷ rs) G known =
     (ap (λ o. slice_get W (unwrap_or o 0)) k.1 ∙ G r k.0 k.1) (result_terms W inside T rs G (λ n c. known n (member_later r n rs c)))
 
 -- a call of a procedure
-call_values : (H : ℕ → Heap) (V : List ℕ) (P : Program) (p : Procedure) (ys : List Occ) (n : ℕ) (es : List Expr) (vs : List ℕ) (T : Terms) (x y : State) → IsValuation H V x.store T → H T.version ≡ x.heap → map (slice_get V) (exprs_terms es T) ≡ map Some vs
-    → IsProcedureAt P n p → Called p vs (names ys) x y
-    → StepValues H V P (path.called ys n es) x y T (call_walked (Some p) (names ys) (exprs_terms es T) T) (call_parts (Some p) (exprs_terms es T) T)
-call_values H V P p ys n es vs T x y S at args callee C =
+call_values : (H : ℕ → Heap) (V : List ℕ) (P : Program) (proc : Procedure) (ys : List Occ) (n : ℕ) (es : List Expr) (vs : List ℕ) (T : Terms) (x y : State) → IsValuation H V x.store T → H T.version ≡ x.heap → map (slice_get V) (exprs_terms es T) ≡ map Some vs
+    → IsProcedureAt P n proc → Called proc vs (names ys) x y
+    → StepValues H V P (path.called ys n es) x y T (call_walked (Some proc) (names ys) (exprs_terms es T) T) (call_parts (Some proc) (exprs_terms es T) T)
+call_values H V P proc ys n es vs T x y S at args callee C =
     let ts = exprs_terms es T in
-    let s : Terms = rebound T (bound_inside p ts) in
-    let start : IsValuation H V C.inside s = record { kinds = S.kinds; gives = all_give V C.inside unbound (parameters_of p) ts vs args C.arguments (λ n t e. absurd cc) } in
-    let E = walked_valued H C.inside p.needs V s start in
-    let F = renewed_valued H C.inside (results_of p) E.values (moved_on (walked p.needs s)) E.valued.kinds (λ n t e. inr (E.valued.gives n t e)) in
-    let G = each_valued H C.inside p.gives F.values (with_results p s) F.valued in
-    let after : Terms = each_walked p.gives (with_results p s) in
+    let s : Terms = rebound T (bound_inside proc ts) in
+    let start : IsValuation H V C.inside s = record { kinds = S.kinds; gives = all_give V C.inside unbound (parameters_of proc) ts vs args C.arguments (λ n t e. absurd cc) } in
+    let E = walked_valued H C.inside proc.needs V s start in
+    let F = renewed_valued H C.inside (results_of proc) E.values (moved_on (walked proc.needs s)) E.valued.kinds (λ n t e. inr (E.valued.gives n t e)) in
+    let G = each_valued H C.inside proc.gives F.values (with_results proc s) F.valued in
+    let after : Terms = each_walked proc.gives (with_results proc s) in
     let more : More V G.values = λ t v e. G.more t v (F.more t v (E.more t v e)) in
-    let known : (r : Name) → Contains (results_of p) r → Knows after.bindings r = λ r c.
-    (let k = renewed_known (results_of p) (moved_on (walked p.needs s)) r (inl c) in (k.0, (each_grows p.gives (with_results p s)).bindings r k.0 k.1)) in
-    let terms' : map (slice_get G.values) (map (λ r. term_of r after) (results_of p)) ≡ map Some (map C.inside (results_of p)) = result_terms G.values C.inside after (results_of p) G.valued.gives known in
+    let known : (r : Name) → Contains (results_of proc) r → Knows after.bindings r = λ r c.
+    (let k = renewed_known (results_of proc) (moved_on (walked proc.needs s)) r (inl c) in (k.0, (each_grows proc.gives (with_results proc s)).bindings r k.0 k.1)) in
+    let terms' : map (slice_get G.values) (map (λ r. term_of r after) (results_of proc)) ≡ map Some (map C.inside (results_of proc)) = result_terms G.values C.inside after (results_of proc) G.valued.gives known in
     let outer : Gives G.values x.store T.bindings = gives_more V G.values x.store T.bindings more S.gives in
-    let A = assign H G.values (names ys) (map (λ r. term_of r after) (results_of p)) (map C.inside (results_of p)) (rebound after T.bindings) x y (record { kinds = G.valued.kinds; gives = outer }) terms' C.targets in
+    let A = assign H G.values (names ys) (map (λ r. term_of r after) (results_of proc)) (map C.inside (results_of proc)) (rebound after T.bindings) x y (record { kinds = G.valued.kinds; gives = outer }) terms' C.targets in
     record {
       values = G.values;
       more = more;
@@ -148,24 +148,24 @@ call_values H V P p ys n es vs T x y S at args callee C =
       used = outer;
       cells = tt;
       results = λ q inside' callee' targets a chosen r t c e.
-          let (g, u, is, W) = alternative_of p.gives (with_results p s) a chosen in
+          let (g, u, is, W) = alternative_of proc.gives (with_results proc s) a chosen in
           let e' : after.bindings r ≡ Some t = W.last.bindings r t (ap (λ (w : Under). w.binding r) (sym is) ∙ e) in
-          let same : q ≡ p = one_value (slice_get P.procedures n) q p callee' callee in
-          let c' : Contains (results_of p) r = subst (λ (z : Procedure). Contains (results_of z) r) same c in
-          let targets' : map inside' (results_of p) ≡ map y.store (names ys) = subst (λ (z : Procedure). map inside' (results_of z) ≡ map y.store (names ys)) same targets in
-          G.valued.gives r t e' ∙ ap Some (sym (same_at inside' C.inside (results_of p) r (targets' ∙ C.targets.given) c'));
+          let same : q ≡ proc = one_value (slice_get P.procedures n) q proc callee' callee in
+          let c' : Contains (results_of proc) r = subst (λ (z : Procedure). Contains (results_of z) r) same c in
+          let targets' : map inside' (results_of proc) ≡ map y.store (names ys) = subst (λ (z : Procedure). map inside' (results_of z) ≡ map y.store (names ys)) same targets in
+          G.valued.gives r t e' ∙ ap Some (sym (same_at inside' C.inside (results_of proc) r (targets' ∙ C.targets.given) c'));
       kept = A.kept;
     }
 
 called_values : (H : ℕ → Heap) (V : List ℕ) (P : Program) (home : Procedure) (ys : List Occ) (n : ℕ) (es : List Expr) (s : Terms) (x y : State) → IsValuation H V x.store s → H s.version ≡ x.heap → Takes P home (path.called ys n es) x y → StepValues H V P (path.called ys n es) x y (exprs_used es s) (step_walked P home (path.called ys n es) s) (term_step P home (path.called ys n es) s)
 called_values H V P home ys n es s x y S at takes =
-    let (p, vs, callee, give, C) = takes in
+    let (proc, vs, callee, give, C) = takes in
     let T = exprs_used es s in
     let E = exprs_valued H V x.store es s S in
     let here : H T.version ≡ x.heap = ap H (exprs_grow es s).version ∙ at in
     let args = exprs_values T.kinds E.values x.store x.heap es vs s (sound_of H E.values x.store x.heap T here E.valued) give in
-    let R = call_values H E.values P p ys n es vs T x y E.valued here args callee C in
-    let Q : StepValues H V P (path.called ys n es) x y T (call_walked (Some p) (names ys) (exprs_terms es T) T) (call_parts (Some p) (exprs_terms es T) T) = record {
+    let R = call_values H E.values P proc ys n es vs T x y E.valued here args callee C in
+    let Q : StepValues H V P (path.called ys n es) x y T (call_walked (Some proc) (names ys) (exprs_terms es T) T) (call_parts (Some proc) (exprs_terms es T) T) = record {
       values = R.values;
       more = λ t v e. R.more t v (E.more t v e);
       valued = R.valued;
@@ -217,7 +217,7 @@ looped_values H V P home n s x y over S takes =
     subst (λ o. StepValues H V P (path.looped n) x y (invariant_walked o s) (loop_walked o xs s) (loop_parts o xs s)) (sym is) (loop_values H V P xs n l s x y (over n l is) S A)
 
 -- each step
-pub step_values : (H : ℕ → Heap) (V : List ℕ) (P : Program) (home : Procedure) (p : path.PathStep) (s : Terms) (x y : State) → LoopsAreOver home → IsValuation H V x.store s → H s.version ≡ x.heap → Takes P home p x y → StepValues H V P p x y (step_used home p s) (step_walked P home p s) (term_step P home p s)
+pub step_values : (H : ℕ → Heap) (V : List ℕ) (P : Program) (home : Procedure) (proc : path.PathStep) (s : Terms) (x y : State) → LoopsAreOver home → IsValuation H V x.store s → H s.version ≡ x.heap → Takes P home proc x y → StepValues H V P proc x y (step_used home proc s) (step_walked P home proc s) (term_step P home proc s)
 step_values H V P home (path.accessed o) s x y over S at takes =
     let E = visited_valued H V x.store o.name s S in
     subst (λ (z : State). StepValues H V P (path.accessed o) x z (used o.name s) (followed o.name (used o.name s)) (term_step P home (path.accessed o) s)) (sym takes.1)

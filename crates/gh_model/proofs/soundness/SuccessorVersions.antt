@@ -125,7 +125,7 @@ loop_up (Some l) xs s B =
     let zs = filter (some_assigns l.body) xs in
     walked_up l.invariant (renewed zs (moved_on (walked l.invariant s))) (then_up l.invariant zs s B)
 
-step_up : (P : Program) (home : Procedure) (p : path.PathStep) (s : Terms) → UpToNow s → UpToNow (step_walked P home p s)
+step_up : (P : Program) (home : Procedure) (proc : path.PathStep) (s : Terms) → UpToNow s → UpToNow (step_walked P home proc s)
 step_up P home (path.accessed o) s B = visited_up o.name s B
 step_up P home (path.assume l e r) s B = expr_up r (expr_used l s) (expr_up l s B)
 step_up P home (path.assigned x e) s B = expr_up e s B
@@ -138,7 +138,7 @@ step_up P home (path.answered es) s B = exprs_up es s B
 
 steps_up : (P : Program) (home : Procedure) (ps : List path.PathStep) (s : Terms) → UpToNow s → UpToNow (steps_walked P home ps s)
 steps_up P home [] s B = B
-steps_up P home (p ∷ ps) s B = steps_up P home ps (step_walked P home p s) (step_up P home p s B)
+steps_up P home (proc ∷ ps) s B = steps_up P home ps (step_walked P home proc s) (step_up P home proc s B)
 
 entry_up : (o : Option Procedure) (ts : List ℕ) (s : Terms) → UpToNow s → UpToNow (entry_walked o ts s)
 entry_up None ts s B = B
@@ -177,33 +177,33 @@ follows_along : (P : Program) (home : Procedure) (K : List Kind) (V : List ℕ) 
 follows_along P home K V c H [] s x ys W A T j low high =
     let same : s.version ≡ j = omega (arith, low, high) in
     subst (λ i. HasSuccessors K V i (H i)) same (subst (λ h. HasSuccessors K V s.version h) (sym A) W.next)
-follows_along P home K V c H (p ∷ ps) s x [] W A T j low high = absurd W
-follows_along P home K V c H (p ∷ ps) s x (y ∷ ys) W A T j low high = elim (cases_eq s.version j) [
+follows_along P home K V c H (proc ∷ ps) s x [] W A T j low high = absurd W
+follows_along P home K V c H (proc ∷ ps) s x (y ∷ ys) W A T j low high = elim (cases_eq s.version j) [
   | inl same ↦ subst (λ i. HasSuccessors K V i (H i)) same (subst (λ h. HasSuccessors K V s.version h) (sym A.0) W.0.next)
   | inr other ↦
-      let t = step_walked P home p s in
-      let version : t.version ≡ path_version p s.version = step_version P home p s x y T.0 in
-      let above : path_version p s.version ≤ j = one_up p s.version j low (λ e. absurd (omega (arith, e, other))) in
+      let t = step_walked P home proc s in
+      let version : t.version ≡ path_version proc s.version = step_version P home proc s x y T.0 in
+      let above : path_version proc s.version ≤ j = one_up proc s.version j low (λ e. absurd (omega (arith, e, other))) in
       let from : t.version ≤ j = omega (arith, version, above) in
       follows_along P home K V c H ps t y ys (subst (λ i. HaveValues P K V ps (term_steps P home ps t) (state_bindings P home ps c t) i y ys) (sym version) W.3) (subst (HeapsAre H ps y ys) (sym version) A.1) T.1 j from high
 ]
 
 -- any values of the terms are values of their kinds
-pub kinds_valued : (P : Program) (p : Procedure) (c : Condition) (x : State) (ys : List State) (V : List ℕ) → IsTyped P → IsOf P c p → IsCounterexample P p c x ys → AreTermValues P p c x ys V → IsKindValuation (heap_in c.way.steps x ys 0) V (symbolic_of P p c).terms
-kinds_valued P p c x ys V typed of C values =
-    let f = found P p c x ys typed of C in
-    let K = (symbolic_of P p c).terms in
+pub kinds_valued : (P : Program) (proc : Procedure) (c : Condition) (x : State) (ys : List State) (V : List ℕ) → IsTyped P → IsOf P c proc → IsCounterexample P proc c x ys → AreTermValues P proc c x ys V → IsKindValuation (heap_in c.way.steps x ys 0) V (symbolic_of P proc c).terms
+kinds_valued P proc c x ys V typed of C values =
+    let f = found P proc c x ys typed of C in
+    let K = (symbolic_of P proc c).terms in
     let ps = c.way.steps in
     let k = c.way.check in
     let H = heap_in ps x ys 0 in
-    let m = path.meets_at p c.start in
-    let s = begins p c.start in
-    let sN = steps_walked P p ps s in
+    let m = path.meets_at proc c.start in
+    let s = begins proc c.start in
+    let sN = steps_walked P proc ps s in
     let version : s.version ≡ 0 = (walked_grows m no_terms).version in
-    let up : UpTo K (check_walked P p k sN).version = check_up P p k sN (steps_up P p ps s (walked_up m no_terms null_up)) in
-    let end : (check_walked P p k sN).version ≡ sN.version = check_version P p k sN in
-    let heaps : HeapsAre H ps x ys s.version = subst (HeapsAre H ps x ys) (sym version) (heaps_are P p H ps x ys 0 C.leads (λ j l. refl)) in
-    let along : HaveValues P K V ps (term_steps P p ps s) (state_bindings P p ps k s) s.version x ys = subst (λ i. HaveValues P K V ps (term_steps P p ps s) (state_bindings P p ps k s) i x ys) (sym version) values.along in
+    let up : UpTo K (check_walked P proc k sN).version = check_up P proc k sN (steps_up P proc ps s (walked_up m no_terms null_up)) in
+    let end : (check_walked P proc k sN).version ≡ sN.version = check_version P proc k sN in
+    let heaps : HeapsAre H ps x ys s.version = subst (HeapsAre H ps x ys) (sym version) (heaps_are P proc H ps x ys 0 C.leads (λ j l. refl)) in
+    let along : HaveValues P K V ps (term_steps P proc ps s) (state_bindings P proc ps k s) s.version x ys = subst (λ i. HaveValues P K V ps (term_steps P proc ps s) (state_bindings P proc ps k s) i x ys) (sym version) values.along in
     record {
       count = values.count;
       null = values.null;
@@ -213,5 +213,5 @@ kinds_valued P p c x ys V typed of C values =
           let there = there_at V u below in
           let low : s.version ≤ i = omega (arith, version) in
           let high : i ≤ sN.version = omega (arith, up t i u e, end) in
-          (value_at V u, there, follows_along P p K V k H ps s x ys along heaps C.leads i low high t u (value_at V u) e there);
+          (value_at V u, there, follows_along P proc K V k H ps s x ys along heaps C.leads i low high t u (value_at V u) e there);
     }

@@ -55,7 +55,7 @@ goes_up (path.answered es) i = omega arith
 not_up : (i : ℕ) → i + 1 ≡ i → ⊥
 not_up i e = omega arith
 
-same_heap : (P : Program) (home : Procedure) (p : path.PathStep) (i : ℕ) (x y : State) → Takes P home p x y → path_version p i ≡ i → y.heap ≡ x.heap
+same_heap : (P : Program) (home : Procedure) (proc : path.PathStep) (i : ℕ) (x y : State) → Takes P home proc x y → path_version proc i ≡ i → y.heap ≡ x.heap
 same_heap P home (path.accessed o) i x y t e = ap (λ (z : State). z.heap) t.1
 same_heap P home (path.assume l e' r) i x y t e = ap (λ (z : State). z.heap) t.1
 same_heap P home (path.assigned z e') i x y t e = t.3
@@ -67,21 +67,21 @@ same_heap P home (path.looped n) i x y t e = absurd (not_up i e)
 same_heap P home (path.answered es) i x y t e = t.3
 
 -- past the first version the heaps are those of the rest
-past_heap : (P : Program) (home : Procedure) (p : path.PathStep) (ps : List path.PathStep) (x y : State) (ys : List State) (i j : ℕ) → Takes P home p x y → path_version p i ≤ j → heap_in (p ∷ ps) x (y ∷ ys) i j ≡ heap_in ps y ys (path_version p i) j
-past_heap P home p ps x y ys i j t l = elim (cases_Bool (j == i)) [
-  | inr off ↦ ap (λ b. cond b x.heap (heap_in ps y ys (path_version p i) j)) off
+past_heap : (P : Program) (home : Procedure) (proc : path.PathStep) (ps : List path.PathStep) (x y : State) (ys : List State) (i j : ℕ) → Takes P home proc x y → path_version proc i ≤ j → heap_in (proc ∷ ps) x (y ∷ ys) i j ≡ heap_in ps y ys (path_version proc i) j
+past_heap P home proc ps x y ys i j t l = elim (cases_Bool (j == i)) [
+  | inr off ↦ ap (λ b. cond b x.heap (heap_in ps y ys (path_version proc i) j)) off
   | inl yes' ↦
       let equal : j ≡ i = eqb-true j i yes' in
-      let stays' : path_version p i ≡ i = omega (arith, goes_up p i, l) in
-      let at : path_version p i ≡ j = omega arith in
-      ap (λ b. cond b x.heap (heap_in ps y ys (path_version p i) j)) yes' ∙ sym (same_heap P home p i x y t stays') ∙ sym (front_heap ps y ys (path_version p i)) ∙ ap (heap_in ps y ys (path_version p i)) at
+      let stays' : path_version proc i ≡ i = omega (arith, goes_up proc i, l) in
+      let at : path_version proc i ≡ j = omega arith in
+      ap (λ b. cond b x.heap (heap_in ps y ys (path_version proc i) j)) yes' ∙ sym (same_heap P home proc i x y t stays') ∙ sym (front_heap ps y ys (path_version proc i)) ∙ ap (heap_in ps y ys (path_version proc i)) at
 ]
 
 pub heaps_are : (P : Program) (home : Procedure) (H : ℕ → Heap) (ps : List path.PathStep) (x : State) (ys : List State) (i : ℕ) → IsTrace P home x ps ys → ((j : ℕ) → i ≤ j → H j ≡ heap_in ps x ys i j) → HeapsAre H ps x ys i
 heaps_are P home H [] x ys i T e = e i (omega arith)
-heaps_are P home H (p ∷ ps) x [] i T e = absurd T
-heaps_are P home H (p ∷ ps) x (y ∷ ys) i T e =
-    (e i (omega arith) ∙ front_heap (p ∷ ps) x (y ∷ ys) i, heaps_are P home H ps y ys (path_version p i) T.1 (λ j l. e j (omega (arith, goes_up p i, l)) ∙ past_heap P home p ps x y ys i j T.0 l))
+heaps_are P home H (proc ∷ ps) x [] i T e = absurd T
+heaps_are P home H (proc ∷ ps) x (y ∷ ys) i T e =
+    (e i (omega arith) ∙ front_heap (proc ∷ ps) x (y ∷ ys) i, heaps_are P home H ps y ys (path_version proc i) T.1 (λ j l. e j (omega (arith, goes_up proc i, l)) ∙ past_heap P home proc ps x y ys i j T.0 l))
 
 pub first_heap : (H : ℕ → Heap) (ps : List path.PathStep) (x : State) (ys : List State) (i : ℕ) → HeapsAre H ps x ys i → H i ≡ x.heap
 first_heap H [] x ys i A = A
@@ -180,18 +180,18 @@ record Along (P : Program) (home : Procedure) (H : ℕ → Heap) (c : path.Check
   first : FirstGives P home ps c s values x.store
 
 -- a step's first uses, from those after it
-first_before : (P : Program) (home : Procedure) (p : path.PathStep) (ps : List path.PathStep) (c : path.Check) (s : Terms) (W : List ℕ) (x y : State) → Gives W x.store (step_used home p s).bindings → ((n : Name) → (step_walked P home p s).bindings n ≡ None → y.store n ≡ x.store n) → FirstGives P home ps c (step_walked P home p s) W y.store → FirstGives P home (p ∷ ps) c s W x.store
-first_before P home p ps c s W x y G kept F n t e = by_used ((step_used home p s).bindings n) refl
+first_before : (P : Program) (home : Procedure) (proc : path.PathStep) (ps : List path.PathStep) (c : path.Check) (s : Terms) (W : List ℕ) (x y : State) → Gives W x.store (step_used home proc s).bindings → ((n : Name) → (step_walked P home proc s).bindings n ≡ None → y.store n ≡ x.store n) → FirstGives P home ps c (step_walked P home proc s) W y.store → FirstGives P home (proc ∷ ps) c s W x.store
+first_before P home proc ps c s W x y G kept F n t e = by_used ((step_used home proc s).bindings n) refl
   where
-    by_bound : (o : Option ℕ) → (step_walked P home p s).bindings n ≡ o → used_first None o (first_use P home ps c (step_walked P home p s) n) ≡ Some t → slice_get W t ≡ Some (x.store n)
+    by_bound : (o : Option ℕ) → (step_walked P home proc s).bindings n ≡ o → used_first None o (first_use P home ps c (step_walked P home proc s) n) ≡ Some t → slice_get W t ≡ Some (x.store n)
     by_bound (Some u) f g = absurd cc
     by_bound None f g = F n t g ∙ ap Some (kept n f)
 
-    by_used : (o : Option ℕ) → (step_used home p s).bindings n ≡ o → slice_get W t ≡ Some (x.store n)
+    by_used : (o : Option ℕ) → (step_used home proc s).bindings n ≡ o → slice_get W t ≡ Some (x.store n)
     by_used (Some u) f =
-        let is : u ≡ t = same_term u t (sym (ap (λ o. used_first o ((step_walked P home p s).bindings n) (first_use P home ps c (step_walked P home p s) n)) f) ∙ e) in
+        let is : u ≡ t = same_term u t (sym (ap (λ o. used_first o ((step_walked P home proc s).bindings n) (first_use P home ps c (step_walked P home proc s) n)) f) ∙ e) in
         ap (slice_get W) (sym is) ∙ G n u f
-    by_used None f = by_bound ((step_walked P home p s).bindings n) refl (sym (ap (λ o. used_first o ((step_walked P home p s).bindings n) (first_use P home ps c (step_walked P home p s) n)) f) ∙ e)
+    by_used None f = by_bound ((step_walked P home proc s).bindings n) refl (sym (ap (λ o. used_first o ((step_walked P home proc s).bindings n) (first_use P home ps c (step_walked P home proc s) n)) f) ∙ e)
 
 cells_more : (V W : List ℕ) (q : TermStep) (y : State) → More V W → HasCellValues V q y → HasCellValues W q y
 cells_more V W (made l t) y m c = (c.0, c.1, m l c.0 c.2, m t c.1 c.3, c.4)
@@ -202,8 +202,8 @@ cells_more V W (written t u) y m c = tt
 cells_more V W (freed t) y m c = tt
 cells_more V W (parts b a) y m c = tt
 
-results_more : (P : Program) (V W : List ℕ) (p : path.PathStep) (q : TermStep) (y : State) → More V W → HasResultValues P V p q y → HasResultValues P W p q y
-results_more P V W (path.called ys n es) (parts b as') y m R = λ p inside d e a there r t c g. m t (inside r) (R p inside d e a there r t c g)
+results_more : (P : Program) (V W : List ℕ) (proc : path.PathStep) (q : TermStep) (y : State) → More V W → HasResultValues P V proc q y → HasResultValues P W proc q y
+results_more P V W (path.called ys n es) (parts b as') y m R = λ proc inside d e a there r t c g. m t (inside r) (R proc inside d e a there r t c g)
 results_more P V W (path.called ys n es) (made l t) y m R = tt
 results_more P V W (path.called ys n es) (accessed t) y m R = tt
 results_more P V W (path.called ys n es) (assumed t e u) y m R = tt
@@ -229,24 +229,24 @@ values_along P home H c over [] s x ys V S A T =
       along = state_values H C.values (check_walked P home c s).kinds s.version (here P home [] c s) x C.kinds A (here_gives P home [] c s C.values x.store (gives_more V C.values x.store s.bindings C.more S.gives) C.used);
       first = C.used;
     }
-values_along P home H c over (p ∷ ps) s x [] V S A T = absurd T
-values_along P home H c over (p ∷ ps) s x (y ∷ ys) V S A T =
-    let t = step_walked P home p s in
-    let R = step_values H V P home p s x y over S A.0 T.0 in
-    let version : t.version ≡ path_version p s.version = step_version P home p s x y T.0 in
+values_along P home H c over (proc ∷ ps) s x [] V S A T = absurd T
+values_along P home H c over (proc ∷ ps) s x (y ∷ ys) V S A T =
+    let t = step_walked P home proc s in
+    let R = step_values H V P home proc s x y over S A.0 T.0 in
+    let version : t.version ≡ path_version proc s.version = step_version P home proc s x y T.0 in
     let I = values_along P home H c over ps t y ys R.values R.valued (subst (HeapsAre H ps y ys) (sym version) A.1) T.1 in
     let W = I.values in
     let K = (check_walked P home c (steps_walked P home ps t)).kinds in
     let more : More V W = λ j v e. I.more j v (R.more j v e) in
-    let first : FirstGives P home (p ∷ ps) c s W x.store = first_before P home p ps c s W x y (gives_more R.values W x.store (step_used home p s).bindings I.more R.used) R.kept I.first in
+    let first : FirstGives P home (proc ∷ ps) c s W x.store = first_before P home proc ps c s W x y (gives_more R.values W x.store (step_used home proc s).bindings I.more R.used) R.kept I.first in
     record {
       values = W;
       more = more;
       kinds = I.kinds;
       along = (
-        state_values H W K s.version (here P home (p ∷ ps) c s) x I.kinds A.0 (here_gives P home (p ∷ ps) c s W x.store (gives_more V W x.store s.bindings more S.gives) first),
-        cells_more R.values W (term_step P home p s) y I.more R.cells,
-        results_more P R.values W p (term_step P home p s) y I.more R.results,
+        state_values H W K s.version (here P home (proc ∷ ps) c s) x I.kinds A.0 (here_gives P home (proc ∷ ps) c s W x.store (gives_more V W x.store s.bindings more S.gives) first),
+        cells_more R.values W (term_step P home proc s) y I.more R.cells,
+        results_more P R.values W proc (term_step P home proc s) y I.more R.results,
         subst (λ i. HaveValues P K W ps (term_steps P home ps t) (state_bindings P home ps c t) i y ys) version I.along,
       );
       first = first;
@@ -260,26 +260,26 @@ null_kinds H = record { count = refl; null = refl; follows = λ t i u e. null_on
     null_only zero i u e = absurd cc
     null_only (suc t) i u e = absurd cc
 
-pub found : (P : Program) (p : Procedure) (c : Condition) (x : State) (ys : List State) → IsTyped P → IsOf P c p → IsCounterexample P p c x ys → (V : List ℕ) × AreTermValues P p c x ys V × IsKindValuation (heap_in c.way.steps x ys 0) V (symbolic_of P p c).terms
-found P p c x ys typed of C =
+pub found : (P : Program) (proc : Procedure) (c : Condition) (x : State) (ys : List State) → IsTyped P → IsOf P c proc → IsCounterexample P proc c x ys → (V : List ℕ) × AreTermValues P proc c x ys V × IsKindValuation (heap_in c.way.steps x ys 0) V (symbolic_of P proc c).terms
+found P proc c x ys typed of C =
     let ps = c.way.steps in
     let k = c.way.check in
     let H = heap_in ps x ys 0 in
-    let f = path.meets_at p c.start in
-    let s = begins p c.start in
+    let f = path.meets_at proc c.start in
+    let s = begins proc c.start in
     let version : s.version ≡ 0 = (walked_grows f no_terms).version in
     let E = walked_valued H x.store f (0 ∷ []) no_terms (record { kinds = null_kinds H; gives = λ n t e. absurd cc }) in
-    let A : HeapsAre H ps x ys 0 = heaps_are P p H ps x ys 0 C.leads (λ j l. refl) in
-    let over : LoopsAreOver p = loop_is_over P typed p (its_declared P p c of) in
-    let I = values_along P p H k over ps s x ys E.values E.valued (subst (HeapsAre H ps x ys) (sym version) A) C.leads in (
+    let A : HeapsAre H ps x ys 0 = heaps_are P proc H ps x ys 0 C.leads (λ j l. refl) in
+    let over : LoopsAreOver proc = loop_is_over P typed proc (its_declared P proc c of) in
+    let I = values_along P proc H k over ps s x ys E.values E.valued (subst (HeapsAre H ps x ys) (sym version) A) C.leads in (
       I.values,
       record {
         count = I.kinds.count;
         null = I.kinds.null;
-        along = subst (λ i. HaveValues P (symbolic_of P p c).terms I.values ps (term_steps P p ps s) (state_bindings P p ps k s) i x ys) version I.along;
+        along = subst (λ i. HaveValues P (symbolic_of P proc c).terms I.values ps (term_steps P proc ps s) (state_bindings P proc ps k s) i x ys) version I.along;
       },
       I.kinds,
     )
 
 pub values_exist : ValuesExist
-values_exist P p c x ys typed is of C = let f = found P p c x ys typed of C in (f.0, f.1)
+values_exist P proc c x ys typed is of C = let f = found P proc c x ys typed of C in (f.0, f.1)

@@ -156,9 +156,9 @@ either_cases None r t e = inr e
 
 first_of : (P : Program) (home : Procedure) (ps : List PathStep) (k : Check) (s : Terms) → PathIn home ps k → AreOf (variable_names home) s.bindings → AreOf (variable_names home) (first_use P home ps k s)
 first_of P home [] k s c B y t e = check_used_of home k s c B y t e
-first_of P home (p ∷ ps) k s c B y t e = elim (first_cases ((step_used home p s).bindings y) ((step_walked P home p s).bindings y) (first_use P home ps k (step_walked P home p s) y) t e) [
-  | inl here ↦ step_used_of home p s c.0 B y t here
-  | inr later ↦ first_of P home ps k (step_walked P home p s) c.1 (step_of P home p s c.0 B) y t later
+first_of P home (proc ∷ ps) k s c B y t e = elim (first_cases ((step_used home proc s).bindings y) ((step_walked P home proc s).bindings y) (first_use P home ps k (step_walked P home proc s) y) t e) [
+  | inl here ↦ step_used_of home proc s c.0 B y t here
+  | inr later ↦ first_of P home ps k (step_walked P home proc s) c.1 (step_of P home proc s c.0 B) y t later
 ]
 
 either_of : (P : Program) (home : Procedure) (ps : List PathStep) (k : Check) (s : Terms) → PathIn home ps k → AreOf (variable_names home) s.bindings → AreOf (variable_names home) (λ x. either_term (s.bindings x) (first_use P home ps k s x))
@@ -169,13 +169,13 @@ either_of P home ps k s c B y t e = elim (either_cases (s.bindings y) (first_use
 
 states_of : (P : Program) (home : Procedure) (ps : List PathStep) (k : Check) (s : Terms) → PathIn home ps k → AreOf (variable_names home) s.bindings → AllAreOf (variable_names home) (state_bindings P home ps k s)
 states_of P home [] k s c B = (either_of P home [] k s c B, tt)
-states_of P home (p ∷ ps) k s c B = (either_of P home (p ∷ ps) k s c B, states_of P home ps k (step_walked P home p s) c.1 (step_of P home p s c.0 B))
+states_of P home (proc ∷ ps) k s c B = (either_of P home (proc ∷ ps) k s c B, states_of P home ps k (step_walked P home proc s) c.1 (step_of P home proc s c.0 B))
 
 pub only_variables_have_terms : OnlyVariablesHaveTerms
-only_variables_have_terms P p c typed is of =
-    let S = start_in P typed p (its_declared P p c of) c.start in
-    states_of P p c.way.steps c.way.check (begins p c.start) (S.graph c.way.steps c.way.check (its_path P p c is of))
-    (walked_of (variable_names p) (meets_at p c.start) no_terms S.meets (λ y t e. absurd cc))
+only_variables_have_terms P proc c typed is of =
+    let S = start_in P typed proc (its_declared P proc c of) c.start in
+    states_of P proc c.way.steps c.way.check (begins proc c.start) (S.graph c.way.steps c.way.check (its_path P proc c is of))
+    (walked_of (variable_names proc) (meets_at proc c.start) no_terms S.meets (λ y t e. absurd cc))
 
 -- a name that is no variable has no term
 pub no_term_outside : (xs : List Name) (b : Bindings) → AreOf xs b → (y : Name) → (Contains xs y → ⊥) → b y ≡ None

@@ -221,7 +221,7 @@ used_step_bounded home (path.called ys n es) s B = exprs_bounded es s B
 used_step_bounded home (path.looped n) s B = invariant_bounded (slice_get (path.loops_of home) n) s B
 used_step_bounded home (path.answered es) s B = exprs_bounded es s B
 
-pub step_bounded : (P : Program) (home : Procedure) (p : path.PathStep) (s : Terms) → IsBounded s → IsBounded (step_walked P home p s)
+pub step_bounded : (P : Program) (home : Procedure) (proc : path.PathStep) (s : Terms) → IsBounded s → IsBounded (step_walked P home proc s)
 step_bounded P home (path.accessed o) s B = visited_bounded o.name s B
 step_bounded P home (path.assume l e r) s B = expr_bounded r (expr_used l s) (expr_bounded l s B)
 step_bounded P home (path.assigned x e) s B =
@@ -260,7 +260,7 @@ loop_up : (o : Option path.Loop) (xs : List Name) (s : Terms) → s.version ≤ 
 loop_up None xs s = omega arith
 loop_up (Some l) xs s = omega (arith, loop_version l xs s)
 
-pub step_up : (P : Program) (home : Procedure) (p : path.PathStep) (s : Terms) → s.version ≤ (step_walked P home p s).version
+pub step_up : (P : Program) (home : Procedure) (proc : path.PathStep) (s : Terms) → s.version ≤ (step_walked P home proc s).version
 step_up P home (path.accessed o) s = omega (arith, (visited_grows o.name s).version)
 step_up P home (path.assume l e r) s = omega (arith, (onto (expr_grows l s) (expr_grows r (expr_used l s))).version)
 step_up P home (path.assigned x e) s = omega (arith, (expr_grows e s).version)
@@ -273,7 +273,7 @@ step_up P home (path.answered es) s = omega (arith, (exprs_grow es s).version)
 
 pub steps_up : (P : Program) (home : Procedure) (ps : List path.PathStep) (s : Terms) → s.version ≤ (steps_walked P home ps s).version
 steps_up P home [] s = omega arith
-steps_up P home (p ∷ ps) s = omega (arith, step_up P home p s, steps_up P home ps (step_walked P home p s))
+steps_up P home (proc ∷ ps) s = omega (arith, step_up P home proc s, steps_up P home ps (step_walked P home proc s))
 
 entry_version : (o : Option Procedure) (ts : List ℕ) (s : Terms) → (entry_walked o ts s).version ≡ s.version
 entry_version None ts s = refl

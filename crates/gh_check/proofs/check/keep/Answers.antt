@@ -3,7 +3,7 @@ use Rattle.std.proofs.lemmas.List.Elements.{All-push}
 use Rattle.gh_log.specs.Sections.{line_clause}
 use Rattle.gh_check.specs.Kept.{Kept, IsWithin, AreWithin}
 use Rattle.gh_check.specs.Assuming.{IsBehind}
-use Rattle.gh_check.specs.Standing.{MayStand}
+use Rattle.gh_check.specs.Standing.{IsStandingOf}
 use Rattle.gh_check.proofs.UnitsLemmas.{behind_push}
 use Rattle.gh_check.proofs.StandingLemmas.{may_push}
 use Rattle.gh_check.proofs.check.keep.Goals as goal
@@ -16,7 +16,7 @@ returns-clause-ready c =
     let same : c.advance.new.self.clauses ≡ old.kept.clauses ++ clause ∷ [] = ap (λ (k : Kept). k.clauses) (c.advance.ensures l next) in
     record {
       within = subst (AreWithin sizes) (sym same) (All-push (IsWithin sizes) old.kept.clauses clause ready.within within);
-      standing = subst (λ es. MayStand sizes es old.standing) (sym same) (may_push sizes old.kept.clauses clause old.standing ready.standing);
+      standing = subst (λ es. IsStandingOf sizes es old.standing) (sym same) (may_push sizes old.kept.clauses clause old.standing ready.standing);
       behind = subst (λ es. IsBehind sizes es old.units) (sym same) (behind_push sizes old.kept.clauses clause old.units ready.behind);
       truths = ready.truths;
     }

@@ -5,7 +5,7 @@ use Rattle.gh_log.specs.declared.lines.LogLine.{LogLine}
 use Rattle.gh_check.specs.Lines.{IsChecked, IsKeptAfter}
 use Rattle.gh_check.specs.Kept.{AreWithin}
 use Rattle.gh_check.specs.Assuming.{IsBehind}
-use Rattle.gh_check.specs.Standing.{MayStand}
+use Rattle.gh_check.specs.Standing.{IsStandingOf}
 use Rattle.gh_check.proofs.LineLemmas.{kept_after}
 use Rattle.gh_check.proofs.lines.checked.Goals as goal
 
@@ -63,7 +63,7 @@ returns-in-Delete-clause-ready c =
     let same = sym c.checked_deletion.ensures.clauses in
     record {
       within = subst (AreWithin c.args.ground.now.sizes) same c.requires.within;
-      standing = subst (λ es. MayStand c.args.ground.now.sizes es c.args.before.now.standing) same c.requires.standing;
+      standing = subst (λ es. IsStandingOf c.args.ground.now.sizes es c.args.before.now.standing) same c.requires.standing;
       behind = subst (λ es. IsBehind c.args.ground.now.sizes es c.args.before.now.units) same c.requires.behind;
       truths = c.requires.truths;
     }

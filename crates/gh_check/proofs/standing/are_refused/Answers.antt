@@ -3,7 +3,7 @@ use Rattle.std.specs.Prelude.{Contains}
 use Rattle.std.proofs.lemmas.List.Elements.{All-contains}
 use Rattle.gh_base.specs.Atoms.{opposite}
 use Rattle.gh_sat.specs.Theory.{IsRefutedBy}
-use Rattle.gh_check.specs.Truths.{TruthSet, IsOpenIn}
+use Rattle.gh_check.specs.Truths.{TruthSet, IsNotFalse}
 use Rattle.gh_check.proofs.standing.are_refused.Goals as goal
 
 pub returns-in-None : goal.returns-in-None
@@ -13,7 +13,7 @@ returns-in-None c =
 
 pub returns-in-Some : goal.returns-in-Some
 returns-in-Some c =
-    let found = subst (λ (t : TruthSet). IsOpenIn t.lits c.args.lits.now c.in-Some._one) c.both.ensures c.in-Some.ensures in (
+    let found = subst (λ (t : TruthSet). IsNotFalse t.lits c.args.lits.now c.in-Some._one) c.both.ensures c.in-Some.ensures in (
       (λ t. absurd (cc)),
       (λ h. absurd (found.1 (All-contains (λ m. Contains (c.args.fixed.now.lits ++ c.args.above.now.lits) (opposite m)) c.args.lits.now c.in-Some._one h.falsified found.0))),
     )

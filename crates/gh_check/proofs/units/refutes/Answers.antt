@@ -1,6 +1,6 @@
 use Rattle.std.proofs.Common.{◌≡◌, Some, true, subst}
 use Rattle.gh_base.specs.Assignments.{value_of}
-use Rattle.gh_sat.specs.Trail.{IsValue, IsTrueIn}
+use Rattle.gh_sat.specs.Trail.{IsTruth, IsTrueIn}
 use Rattle.gh_check.proofs.AssumingLemmas.{true_refutes, refuting_if, assumed_if}
 use Rattle.gh_check.proofs.units.refutes.Goals as goal
 
@@ -8,7 +8,7 @@ pub returns-in-Some-true-clause-refuting : goal.returns-in-Some-true-clause-refu
 returns-in-Some-true-clause-refuting c =
     let s = c.args.learner.now in
     let e : value_of c.assignment.result.now c.args.lit ≡ Some true = cc in
-    let t : IsTrueIn s.trail c.args.lit = subst (IsValue s.trail c.args.lit) e (c.assignment.ensures.tells c.args.lit c.requires.range) in
+    let t : IsTrueIn s.trail c.args.lit = subst (IsTruth s.trail c.args.lit) e (c.assignment.ensures.tells c.args.lit c.requires.range) in
     λ yes. true_refutes s c.args.lit t
 
 pub returns-in-None-clause-refuting : goal.returns-in-None-clause-refuting

@@ -2,7 +2,7 @@ use Rattle.std.proofs.Common.{◌≡◌, ◌+◌, List, length, Some, refl, sym,
 use Rattle.gh_ast.specs.Plain.{program_of}
 use Rattle.gh_path.specs.Answers.{IsNumbered}
 use Rattle.gh_path.specs.Conditions.{conditions}
-use Rattle.gh_path.specs.Walks.{IsBefore}
+use Rattle.gh_path.specs.Walks.{IsWalkBefore}
 use Rattle.gh_path.proofs.GivenLemmas.{lent_one, lent_on, lent_none}
 use Rattle.gh_log.specs.declared.lines.Section.{Section}
 use Rattle.gh_decide.specs.Decided.{AreDecided}
@@ -14,7 +14,7 @@ use Rattle.gh_decide.proofs.outcome.decide_all.Goals as goal
 
 pub loop-place-init : goal.loop-place-init
 loop-place-init c = record {
-  before = subst (λ Q. IsBefore Q c.walk-walk.result (conditions Q)) c.requires.same c.walk-walk.ensures;
+  before = subst (λ Q. IsWalkBefore Q c.walk-walk.result (conditions Q)) c.requires.same c.walk-walk.ensures;
   decided = subst (λ (ss : List Section). AreDecided (program_of c.args.typed.now) 0 ss) (sym c.new-sections.ensures.items) (none_decided (program_of c.args.typed.now));
 }
 

@@ -2,7 +2,7 @@ use Rattle.std.proofs.Common.{◌≡◌, ◌+◌, length, Some, subst, arith, �
 use Rattle.gh_ast.specs.Plain.{program_of}
 use Rattle.gh_path.specs.Answers.{IsNumbered}
 use Rattle.gh_path.specs.Conditions.{conditions}
-use Rattle.gh_path.specs.Walks.{IsBefore}
+use Rattle.gh_path.specs.Walks.{IsWalkBefore}
 use Rattle.gh_path.proofs.GivenLemmas.{lent_one, lent_on, lent_none}
 use Rattle.gh_decide.specs.Verdicts.{IsVerdict}
 use Rattle.gh_decide.specs.declared.decide.Verdict.TheVariants.{Refuted}
@@ -12,7 +12,7 @@ use Rattle.gh_decide.proofs.refuted.first_refuted.Goals as goal
 
 pub loop-place-init : goal.loop-place-init
 loop-place-init c = record {
-  before = subst (λ Q. IsBefore Q c.walk-walk.result (conditions Q)) c.requires.same c.walk-walk.ensures;
+  before = subst (λ Q. IsWalkBefore Q c.walk-walk.result (conditions Q)) c.requires.same c.walk-walk.ensures;
   valid = none_valid (program_of c.args.typed.now);
 }
 

@@ -1,12 +1,12 @@
 use Rattle.std.proofs.Common.{drop}
 use Rattle.gh_ast.specs.Plain.{program_of}
 use Rattle.gh_path.specs.Conditions.{conditions}
-use Rattle.gh_path.specs.Walks.{IsBefore}
+use Rattle.gh_path.specs.Walks.{IsWalkBefore}
 use Rattle.gh_decide.specs.Decided.{AreValidUpTo}
 use Rattle.gh_decide.proofs.refuted.first_refuted.Given as goal
 
 abbrev pub invariant-loop-place : goal.invariant-loop-place
 invariant-loop-place l = record {
-  before : IsBefore (program_of l.typed) l.walk (drop l.place (conditions (program_of l.typed)));
+  before : IsWalkBefore (program_of l.typed) l.walk (drop l.place (conditions (program_of l.typed)));
   valid : AreValidUpTo (program_of l.typed) l.place;
 }

@@ -6,14 +6,14 @@ use Rattle.gh_log.specs.Lines.{LogLine}
 use Rattle.gh_log.specs.Tables.{line_of}
 use Rattle.gh_ground.specs.declared.trim.Trimmed.{Trimmed}
 use Rattle.gh_ground.specs.Solving.{FitsTypes}
-use Rattle.gh_ground.specs.Trimming.{AreNeeded, IsMoved}
+use Rattle.gh_ground.specs.Trimming.{AreNeeded, IsShifted}
 use Rattle.gh_ground.proofs.TrimLemmas.{IsGood, IsRenumbered, fits_types, read_mark, trim_kept, trim_passed, trimmed_refutes}
 use Rattle.gh_ground.proofs.trim.trim.Goals as goal
 use Rattle.gh_ground.proofs.trim.trim.Goals.{then-index+in_ok-take, else-index+in_ok-pass}
 
 -- a line more was kept
 turn_kept : (p : Problem) (lines : List LogLine) (kept : List Bool) (place : ℕ) (old new : List LogLine) (positions moved : List ℕ) (l : LogLine) → AreNeeded lines kept 0 → slice_get lines place ≡ Some l → slice_get kept place ≡ Some true
-    → (w : (m : LogLine) × IsMoved positions l m × (new ≡ old ++ m ∷ [])) → moved ≡ positions ++ (length old + 1) ∷ [] → IsGood p lines → IsRenumbered p lines kept place old positions → IsRenumbered p lines kept (place + 1) new moved
+    → (w : (m : LogLine) × IsShifted positions l m × (new ≡ old ++ m ∷ [])) → moved ≡ positions ++ (length old + 1) ∷ [] → IsGood p lines → IsRenumbered p lines kept place old positions → IsRenumbered p lines kept (place + 1) new moved
 turn_kept p lines kept place old new positions moved l needed at is w e good h =
     subst (λ (ls : List LogLine). IsRenumbered p lines kept (place + 1) ls moved) (sym w.2)
     (subst (λ (ks : List ℕ). IsRenumbered p lines kept (place + 1) (old ++ w.0 ∷ []) ks) (sym e) (trim_kept p lines kept place old positions good h l w.0 needed at is w.1))

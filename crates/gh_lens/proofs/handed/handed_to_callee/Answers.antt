@@ -22,7 +22,7 @@ returns-in_default-2 c xs e (r, vs, is, give, ex) =
 pub returns : goal.returns
 returns c =
     let P = program_of c.args.setting.typed.now in
-    let p = procedure_of c.args.setting.procedure.now in
+    let proc = procedure_of c.args.setting.procedure.now in
     let q = procedure_of c.in-Some.callee.now in
     let x = state_of c.args.before.now in
     let y = state_of c.args.after.now in
@@ -31,5 +31,5 @@ returns c =
     let entered : IsEntered q es x inside = subst (IsEnteredOr q es x) c.in-Some-2.is c.in_ok-inside.ensures in
     let call : IsCall P c.args.callee q es x _ = record { callee = c.in-Some.ensures.some; gives = entered } in
     with_both c.exchanged.result _ _ _
-    (λ o some none xs. call_hands P p c.args.callee q xs es x y _ inside o call c.in-Some.ensures.own refl some none)
+    (λ o some none xs. call_hands P proc c.args.callee q xs es x y _ inside o call c.in-Some.ensures.own refl some none)
     c.exchanged.ensures.some c.exchanged.ensures.none

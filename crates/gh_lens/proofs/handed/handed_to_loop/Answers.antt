@@ -11,7 +11,7 @@ unreachable-requires c = stands_there (loops_of (procedure_of c.args.setting.pro
 pub returns : goal.returns
 returns c =
     let P = program_of c.args.setting.typed.now in
-    let p = procedure_of c.args.setting.procedure.now in
+    let proc = procedure_of c.args.setting.procedure.now in
     with_both c.exchanged.result _ _ _
-    (λ o some none. loop_hands P p c.args.number (loop_of c.in-Some.round) (state_of c.args.before.now) (state_of c.args.after.now) o c.in-Some.ensures.some some none)
+    (λ o some none. loop_hands P proc c.args.number (loop_of c.in-Some.round) (state_of c.args.before.now) (state_of c.args.after.now) o c.in-Some.ensures.some some none)
     c.exchanged.ensures.some c.exchanged.ensures.none

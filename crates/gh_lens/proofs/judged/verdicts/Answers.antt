@@ -2,7 +2,7 @@ use Rattle.std.proofs.Common.{◌≡◌, ◌+◌, List, [], length, Some, ◌∙
 use Rattle.gh_ast.specs.Plain.{program_of}
 use Rattle.gh_path.specs.Answers.{IsNumbered}
 use Rattle.gh_path.specs.Conditions.{conditions}
-use Rattle.gh_path.specs.Walks.{IsBefore}
+use Rattle.gh_path.specs.Walks.{IsWalkBefore}
 use Rattle.gh_path.proofs.GivenLemmas.{lent_one, lent_on, lent_none}
 use Rattle.gh_trace.proofs.FirstRefuted.{is_one}
 use Rattle.gh_lens.specs.Judgements.{AreJudged}
@@ -12,7 +12,7 @@ use Rattle.gh_lens.proofs.judged.verdicts.Goals as goal
 
 pub loop-place-init : goal.loop-place-init
 loop-place-init g c = record {
-  before = subst (λ Q. IsBefore Q c.walk-walk.result (conditions Q)) c.requires.same c.walk-walk.ensures;
+  before = subst (λ Q. IsWalkBefore Q c.walk-walk.result (conditions Q)) c.requires.same c.walk-walk.ensures;
   judged = subst (λ (js : List Judged). AreJudged (program_of c.args.typed.now) 1 [] js) (sym c.new-all.ensures.items) tt;
 }
 

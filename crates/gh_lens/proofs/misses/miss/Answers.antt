@@ -1,7 +1,7 @@
 use Rattle.std.proofs.lemmas.Result.{IfOk-weaker}
 use Rattle.gh_ast.specs.Plain.{formula_of}
 use Rattle.gh_assert.specs.Stores.{store_of}
-use Rattle.gh_lens.specs.Takings.{conjuncts, IsBlockedAt, Leaves}
+use Rattle.gh_lens.specs.Takings.{conjuncts, IsBlockedAt, LeavesOver}
 use Rattle.gh_lens.specs.Misses.{IsMiss, blocked, left_over}
 use Rattle.gh_lens.proofs.misses.miss.Goals as goal
 
@@ -19,5 +19,5 @@ returns-in-Whole c =
     let f = formula_of c.args.assertion.now in
     let s = store_of c.args.store.now in
     let h = c.args.heap.now in
-    let leaves : Leaves (conjuncts f) s h c.in-Whole.rest = rw (c.in-Whole.is, c.conjuncts.ensures) at c.in_ok-conjunct.ensures in
+    let leaves : LeavesOver (conjuncts f) s h c.in-Whole.rest = rw (c.in-Whole.is, c.conjuncts.ensures) at c.in_ok-conjunct.ensures in
     IfOk-weaker c.left_line.result _ (IsMiss f s h) (λ t e. left_over c.in-Whole.rest leaves e) c.left_line.ensures

@@ -32,11 +32,11 @@ states-requires-clause-all c =
     let P = program_of T in
     let r = c.args.condition.now in
     let same = c.program-program.ensures.same in
-    let p = procedure_of c.index-procedure.result.now in
+    let proc = procedure_of c.index-procedure.result.now in
     let typed : IsTyped P = subst (λ Q. IsTyped (program_of Q)) same c.program-program.ensures.typed in
-    let of : IsOf P (condition_of r) p =
+    let of : IsOf P (condition_of r) proc =
     scoped_of T c.program-program.result.now r c.index-procedure.result.now same (one_is_scoped P r typed c.requires.of) c.index-procedure.ensures in
-    (are_built P p (condition_of r) c.args.symbolic.now c.args.structure.now typed (condition_one P r c.requires.of) of (c.requires.told p of) c.requires.terms c.requires.versions).all
+    (are_built P proc (condition_of r) c.args.symbolic.now c.args.structure.now typed (condition_one P r c.requires.of) of (c.requires.told proc of) c.requires.terms c.requires.versions).all
 
 pub states-requires-clause-distinct : goal.states-requires-clause-distinct
 states-requires-clause-distinct c =
@@ -44,11 +44,11 @@ states-requires-clause-distinct c =
     let P = program_of T in
     let r = c.args.condition.now in
     let same = c.program-program.ensures.same in
-    let p = procedure_of c.index-procedure.result.now in
+    let proc = procedure_of c.index-procedure.result.now in
     let typed : IsTyped P = subst (λ Q. IsTyped (program_of Q)) same c.program-program.ensures.typed in
-    let of : IsOf P (condition_of r) p =
+    let of : IsOf P (condition_of r) proc =
     scoped_of T c.program-program.result.now r c.index-procedure.result.now same (one_is_scoped P r typed c.requires.of) c.index-procedure.ensures in
-    variables_are_distinct P typed p (its_declared P p (condition_of r) of)
+    variables_are_distinct P typed proc (its_declared P proc (condition_of r) of)
 
 pub returns : goal.returns
 returns c =
@@ -58,12 +58,12 @@ returns c =
     let y = c.args.symbolic.now in
     let s = c.args.structure.now in
     let same = c.program-program.ensures.same in
-    let p = procedure_of c.index-procedure.result.now in
+    let proc = procedure_of c.index-procedure.result.now in
     let typed : IsTyped P = subst (λ Q. IsTyped (program_of Q)) same c.program-program.ensures.typed in
-    let of : IsOf P (condition_of r) p =
+    let of : IsOf P (condition_of r) proc =
     scoped_of T c.program-program.result.now r c.index-procedure.result.now same (one_is_scoped P r typed c.requires.of) c.index-procedure.ensures in
     IfOk-weaker c.states.result _ _ (λ t w q of'.
     ap (map drawn) w
-    ∙ ap (λ z. map drawn (states_in s (variable_names z) 0 y.steps.items y.bindings.items)) (one_value (slice_get P.procedures r.procedure) p q of of')
+    ∙ ap (λ z. map drawn (states_in s (variable_names z) 0 y.steps.items y.bindings.items)) (one_value (slice_get P.procedures r.procedure) proc q of of')
     ∙ built_is P q (condition_of r) y s typed (condition_one P r c.requires.of) of' (c.requires.told q of') c.requires.terms c.requires.versions
     ) c.states.ensures

@@ -9,7 +9,7 @@ use Rattle.gh_model.proofs.soundness.ClauseModels.{traces_give_models}
 use Rattle.gh_model.proofs.laws.sections_show_validity.Goals as goal
 
 pub returns : goal.returns
-returns c = λ P p k lines typed is of valid q of' x ys against.
-    let here = subst (λ (r : Procedure). IsCounterexample P r k x ys) (one_value (slice_get P.procedures k.procedure) q p of' of) against in
-    let found = traces_give_models P p k x ys typed is of here in
-    refute (problem (symbolic_of P p k)) lines valid found.0 found.1.congruence found.1.clauses found.1.instances
+returns c = λ P proc k lines typed is of valid q of' x ys against.
+    let here = subst (λ (r : Procedure). IsCounterexample P r k x ys) (one_value (slice_get P.procedures k.procedure) q proc of' of) against in
+    let found = traces_give_models P proc k x ys typed is of here in
+    refute (problem (symbolic_of P proc k)) lines valid found.0 found.1.congruence found.1.clauses found.1.instances

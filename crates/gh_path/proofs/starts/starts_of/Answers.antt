@@ -67,13 +67,13 @@ loop-index-preserved c =
     let qs = c.as_slice-procedure-items.result.now in
     let i = c.loop-index.index in
     let x = c.procedure-item.result in
-    let p = procedure_of x in
+    let proc = procedure_of x in
     let before = c.loop-index.invariant in
     let same : map procedure_of qs ≡ P.procedures = ap (map procedure_of) c.as_slice-procedure-items.ensures.value in
-    let there : slice_get P.procedures i ≡ Some p = subst (λ (ps : List Procedure). slice_get ps i ≡ Some p) same (procedure_there qs i x c.loop-index-test.true c.procedure-item.is) in (
-      before.0 ++ map (condition i) (courses_of P p),
+    let there : slice_get P.procedures i ≡ Some proc = subst (λ (ps : List Procedure). slice_get ps i ≡ Some proc) same (procedure_there qs i x c.loop-index-test.true c.procedure-item.is) in (
+      before.0 ++ map (condition i) (courses_of P proc),
       c.in_ok-add_procedure.ensures before.0 before.1 there,
-      procedures_go P P.procedures i p before.0 (conditions P) (slice_get_within P.procedures i p there) (sym (get_or_from_slice_get P.procedures i p p there)) before.2,
+      procedures_go P P.procedures i proc before.0 (conditions P) (slice_get_within P.procedures i proc there) (sym (get_or_from_slice_get P.procedures i proc proc there)) before.2,
     )
 
 pub returns : goal.returns

@@ -3,7 +3,7 @@ use Rattle.std.proofs.Common.{arith, ◌∙◌, sym, subst}
 use Rattle.std.proofs.lemmas.Grind.{common_steps}
 use Rattle.std.proofs.lemmas.Result.{IfOk-weaker}
 use Rattle.gh_picture.specs.Spots.{order_of, AreInOrder, AreSpots, AreWithin}
-use Rattle.gh_picture.specs.Placing.{AllBegin, AllStand, EachStands}
+use Rattle.gh_picture.specs.Placing.{AllBegin, AllPlaced, EachStands}
 use Rattle.gh_picture.proofs.OrderLemmas.{all_stand, in_order, order_within}
 use Rattle.gh_picture.proofs.PlacingLemmas.{all_spots}
 use Rattle.gh_picture.proofs.layout.spots_of.Goals as goal
@@ -18,7 +18,7 @@ all_placed-requires c =
     let whole : c.as_slice-2.result.now ≡ b = grind (arith, common_steps) in
     let each : EachStands b (order_of c.args.cells.now c.args.entries.now) = subst (EachStands b) (c.as_slice.ensures.value ∙ c.in_ok-order.ensures) c.place_each-lines.ensures.all in
     let count : length b ≡ length c.args.cells.now = c.place_each-lines.ensures.lines.one_each in
-    subst (λ z. AllStand z (length z)) (sym whole) (subst (AllStand b) (sym count) (all_stand c.args.cells.now c.args.entries.now b each))
+    subst (λ z. AllPlaced z (length z)) (sym whole) (subst (AllPlaced b) (sym count) (all_stand c.args.cells.now c.args.entries.now b each))
 
 pub returns-clause-lists : goal.returns-clause-lists
 returns-clause-lists c =

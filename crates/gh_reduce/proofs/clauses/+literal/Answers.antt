@@ -1,12 +1,10 @@
-use Rattle.std.proofs.Common.{◌≡◌, ◌+◌, List, arith, sym, ◌∙◌, ap, subst, drop}
+use Rattle.std.proofs.Common.{◌≡◌, ◌+◌, List, arith, sym, refl, ◌∙◌, ap, subst, drop}
 use Rattle.gh_base.specs.declared.atom.Lit.{Lit}
-use Rattle.gh_grass.specs.declared.formula.Formula.{Formula}
 use Rattle.gh_grass.specs.Claims.{GroundClaim, claim_of, claims_view, negation_of, conjunction_of, disjunction_of, equivalence_of}
 use Rattle.gh_grass.specs.Clauses.{all_made}
-use Rattle.gh_grass.proofs.ClaimLemmas.{claim_of-And}
 use Rattle.gh_reduce.specs.Growth.{all_defined_in, IsWithin}
 use Rattle.gh_reduce.proofs.GrowthLemmas.{Going, goes_on, goes_at}
-use Rattle.gh_reduce.proofs.LiteralLemmas.{size, member_smaller, claim_of-Not, claim_of-Or, claim_of-Iff, claims_from, literals_in_range, literal_in_range, other_within, literal_stays, conjunction_defined, disjunction_defined, equivalence_defined}
+use Rattle.gh_reduce.proofs.LiteralLemmas.{size, member_smaller, says_not, says_all, says_any, says_both, claims_from, literals_in_range, literal_in_range, other_within, literal_stays, conjunction_defined, disjunction_defined, equivalence_defined}
 use Rattle.gh_reduce.proofs.clauses.+literal.Goals as goal
 
 pub literal-literal-requires : goal.literal-literal-requires
@@ -14,7 +12,7 @@ literal-literal-requires t c =
     let p = c.args.ground.now in
     let a = c.deref.result.now in
     let form : claim_of c.args.formula.now ≡ negation_of (claim_of a) =
-    ap claim_of c.in-Not.is ∙ claim_of-Not c.in-Not.inner ∙ ap (λ (x : Formula). negation_of (claim_of x)) (sym c.deref.ensures) in
+    says_not c.args.formula.now a c.in-Not.inner c.in-Not.is c.deref.ensures in
     let less = ap size form in
     (omega (arith, less), subst (λ (f : GroundClaim). IsWithin p.sizes f) form c.requires)
 
@@ -23,7 +21,7 @@ literal-literals-requires t c =
     let p = c.args.ground.now in
     let fs = claims_view c.as_slice.result.now in
     let form : claim_of c.args.formula.now ≡ conjunction_of fs =
-    ap claim_of c.in-And.is ∙ claim_of-And c.in-And.members ∙ ap (λ (xs : List Formula). conjunction_of (claims_view xs)) (sym c.as_slice.ensures.value) in
+    says_all c.args.formula.now c.as_slice.result.now c.in-And.members c.in-And.is c.as_slice.ensures.value in
     let less = ap size form in
     (omega (arith, less), subst (λ (f : GroundClaim). IsWithin p.sizes f) form c.requires)
 
@@ -32,7 +30,7 @@ literal-literals-requires-in-Or t c =
     let p = c.args.ground.now in
     let fs = claims_view c.as_slice-in-Or.result.now in
     let form : claim_of c.args.formula.now ≡ disjunction_of fs =
-    ap claim_of c.in-Or.is ∙ claim_of-Or c.in-Or.members ∙ ap (λ (xs : List Formula). disjunction_of (claims_view xs)) (sym c.as_slice-in-Or.ensures.value) in
+    says_any c.args.formula.now c.as_slice-in-Or.result.now c.in-Or.members c.in-Or.is c.as_slice-in-Or.ensures.value in
     let less = ap size form in
     (omega (arith, less), subst (λ (f : GroundClaim). IsWithin p.sizes f) form c.requires)
 
@@ -41,8 +39,7 @@ literal-literal-requires-in-Iff t c =
     let p = c.args.ground.now in
     let a = c.deref-in-Iff.result.now in
     let form : claim_of c.args.formula.now ≡ equivalence_of (claim_of a) (claim_of c.in-Iff.right.value) =
-    ap claim_of c.in-Iff.is ∙ claim_of-Iff c.in-Iff.left c.in-Iff.right
-    ∙ ap (λ (x : Formula). equivalence_of (claim_of x) (claim_of c.in-Iff.right.value)) (sym c.deref-in-Iff.ensures) in
+    says_both c.args.formula.now a c.in-Iff.right.value c.in-Iff.left c.in-Iff.right c.in-Iff.is c.deref-in-Iff.ensures refl in
     let less = ap size form in
     (omega (arith, less), (subst (λ (f : GroundClaim). IsWithin p.sizes f) form c.requires).0)
 
@@ -62,7 +59,7 @@ literal-conjunction-requires t c =
     let p = c.args.ground.now in
     let fs = claims_view c.as_slice.result.now in
     let form : claim_of c.args.formula.now ≡ conjunction_of fs =
-    ap claim_of c.in-And.is ∙ claim_of-And c.in-And.members ∙ ap (λ (xs : List Formula). conjunction_of (claims_view xs)) (sym c.as_slice.ensures.value) in
+    says_all c.args.formula.now c.as_slice.result.now c.in-And.members c.in-And.is c.as_slice.ensures.value in
     literals_in_range p c.literals.new.ground fs c.as_slice-in-And.result.now (subst (λ (f : GroundClaim). IsWithin p.sizes f) form c.requires)
     (c.as_slice-in-And.ensures.value ∙ c.in_ok-lits-in-And.ensures.literals) c.in_ok-lits-in-And.ensures.state
 
@@ -71,7 +68,7 @@ literal-disjunction-requires t c =
     let p = c.args.ground.now in
     let fs = claims_view c.as_slice-in-Or.result.now in
     let form : claim_of c.args.formula.now ≡ disjunction_of fs =
-    ap claim_of c.in-Or.is ∙ claim_of-Or c.in-Or.members ∙ ap (λ (xs : List Formula). disjunction_of (claims_view xs)) (sym c.as_slice-in-Or.ensures.value) in
+    says_any c.args.formula.now c.as_slice-in-Or.result.now c.in-Or.members c.in-Or.is c.as_slice-in-Or.ensures.value in
     literals_in_range p c.literals-in-Or.new.ground fs c.as_slice-in-Or-2.result.now (subst (λ (f : GroundClaim). IsWithin p.sizes f) form c.requires)
     (c.as_slice-in-Or-2.ensures.value ∙ c.in_ok-lits-in-Or.ensures.literals) c.in_ok-lits-in-Or.ensures.state
 
@@ -81,9 +78,7 @@ literal-literal-requires-in-Iff-2 t c =
     let a = c.deref-in-Iff.result.now in
     let b = c.deref-in-Iff-2.result.now in
     let form : claim_of c.args.formula.now ≡ equivalence_of (claim_of a) (claim_of b) =
-    ap claim_of c.in-Iff.is ∙ claim_of-Iff c.in-Iff.left c.in-Iff.right
-    ∙ ap (λ (x : Formula). equivalence_of (claim_of x) (claim_of c.in-Iff.right.value)) (sym c.deref-in-Iff.ensures)
-    ∙ ap (λ (x : Formula). equivalence_of (claim_of a) (claim_of x)) (sym c.deref-in-Iff-2.ensures) in
+    says_both c.args.formula.now a b c.in-Iff.left c.in-Iff.right c.in-Iff.is c.deref-in-Iff.ensures c.deref-in-Iff-2.ensures in
     let both = subst (λ (f : GroundClaim). IsWithin p.sizes f) form c.requires in
     let less = ap size form in
     (omega (arith, less), other_within p c.literal-in-Iff.new.ground (claim_of a) (claim_of b) both.1 c.in_ok-left-in-Iff.ensures.state)
@@ -94,9 +89,7 @@ literal-equivalence-requires-clause-left t c =
     let a = c.deref-in-Iff.result.now in
     let b = c.deref-in-Iff-2.result.now in
     let form : claim_of c.args.formula.now ≡ equivalence_of (claim_of a) (claim_of b) =
-    ap claim_of c.in-Iff.is ∙ claim_of-Iff c.in-Iff.left c.in-Iff.right
-    ∙ ap (λ (x : Formula). equivalence_of (claim_of x) (claim_of c.in-Iff.right.value)) (sym c.deref-in-Iff.ensures)
-    ∙ ap (λ (x : Formula). equivalence_of (claim_of a) (claim_of x)) (sym c.deref-in-Iff-2.ensures) in
+    says_both c.args.formula.now a b c.in-Iff.left c.in-Iff.right c.in-Iff.is c.deref-in-Iff.ensures c.deref-in-Iff-2.ensures in
     let both = subst (λ (f : GroundClaim). IsWithin p.sizes f) form c.requires in
     literal_stays p c.literal-in-Iff.new.ground c.literal-in-Iff-2.new.ground (claim_of a) (claim_of b) c.in_ok-left-in-Iff.left both.0
     c.in_ok-left-in-Iff.ensures.literal c.in_ok-left-in-Iff.ensures.state c.in_ok-right-in-Iff.ensures.state
@@ -107,9 +100,7 @@ literal-equivalence-requires-clause-right t c =
     let a = c.deref-in-Iff.result.now in
     let b = c.deref-in-Iff-2.result.now in
     let form : claim_of c.args.formula.now ≡ equivalence_of (claim_of a) (claim_of b) =
-    ap claim_of c.in-Iff.is ∙ claim_of-Iff c.in-Iff.left c.in-Iff.right
-    ∙ ap (λ (x : Formula). equivalence_of (claim_of x) (claim_of c.in-Iff.right.value)) (sym c.deref-in-Iff.ensures)
-    ∙ ap (λ (x : Formula). equivalence_of (claim_of a) (claim_of x)) (sym c.deref-in-Iff-2.ensures) in
+    says_both c.args.formula.now a b c.in-Iff.left c.in-Iff.right c.in-Iff.is c.deref-in-Iff.ensures c.deref-in-Iff-2.ensures in
     let both = subst (λ (f : GroundClaim). IsWithin p.sizes f) form c.requires in
     literal_in_range c.literal-in-Iff.new.ground c.literal-in-Iff-2.new.ground (claim_of b) c.in_ok-right-in-Iff.right
     (other_within p c.literal-in-Iff.new.ground (claim_of a) (claim_of b) both.1 c.in_ok-left-in-Iff.ensures.state)
@@ -120,7 +111,7 @@ pub literal-returns-in_ok-conjunction-in-And-clause-state :
 literal-returns-in_ok-conjunction-in-And-clause-state t c =
     let fs = claims_view c.as_slice.result.now in
     conjunction_defined c.args.ground.now c.literals.new.ground c.conjunction.new.ground (claim_of c.args.formula.now) fs c.as_slice-in-And.result.now
-    (ap claim_of c.in-And.is ∙ claim_of-And c.in-And.members ∙ ap (λ (xs : List Formula). conjunction_of (claims_view xs)) (sym c.as_slice.ensures.value))
+    (says_all c.args.formula.now c.as_slice.result.now c.in-And.members c.in-And.is c.as_slice.ensures.value)
     (c.as_slice-in-And.ensures.value ∙ c.in_ok-lits-in-And.ensures.literals) c.in_ok-lits-in-And.ensures.state c.in_ok-conjunction-in-And.ensures.state
 
 pub literal-returns-in_ok-disjunction-in-Or-clause-state :
@@ -128,7 +119,7 @@ pub literal-returns-in_ok-disjunction-in-Or-clause-state :
 literal-returns-in_ok-disjunction-in-Or-clause-state t c =
     let fs = claims_view c.as_slice-in-Or.result.now in
     disjunction_defined c.args.ground.now c.literals-in-Or.new.ground c.disjunction.new.ground (claim_of c.args.formula.now) fs c.as_slice-in-Or-2.result.now
-    (ap claim_of c.in-Or.is ∙ claim_of-Or c.in-Or.members ∙ ap (λ (xs : List Formula). disjunction_of (claims_view xs)) (sym c.as_slice-in-Or.ensures.value))
+    (says_any c.args.formula.now c.as_slice-in-Or.result.now c.in-Or.members c.in-Or.is c.as_slice-in-Or.ensures.value)
     (c.as_slice-in-Or-2.ensures.value ∙ c.in_ok-lits-in-Or.ensures.literals) c.in_ok-lits-in-Or.ensures.state c.in_ok-disjunction-in-Or.ensures.state
 
 pub literal-returns-in_ok-equivalence-in-Iff-clause-state :
@@ -138,9 +129,7 @@ literal-returns-in_ok-equivalence-in-Iff-clause-state t c =
     let b = c.deref-in-Iff-2.result.now in
     equivalence_defined c.args.ground.now c.literal-in-Iff.new.ground c.literal-in-Iff-2.new.ground c.equivalence.new.ground (claim_of c.args.formula.now) (claim_of a) (claim_of b)
     c.in_ok-left-in-Iff.left c.in_ok-right-in-Iff.right
-    (ap claim_of c.in-Iff.is ∙ claim_of-Iff c.in-Iff.left c.in-Iff.right
-    ∙ ap (λ (x : Formula). equivalence_of (claim_of x) (claim_of c.in-Iff.right.value)) (sym c.deref-in-Iff.ensures)
-    ∙ ap (λ (x : Formula). equivalence_of (claim_of a) (claim_of x)) (sym c.deref-in-Iff-2.ensures))
+    (says_both c.args.formula.now a b c.in-Iff.left c.in-Iff.right c.in-Iff.is c.deref-in-Iff.ensures c.deref-in-Iff-2.ensures)
     c.in_ok-left-in-Iff.ensures.literal c.in_ok-left-in-Iff.ensures.state c.in_ok-right-in-Iff.ensures.literal c.in_ok-right-in-Iff.ensures.state c.in_ok-equivalence-in-Iff.ensures.state
 
 pub literals-loop-formula-preserved : goal.literals-loop-formula-preserved

@@ -4,7 +4,7 @@ use Rattle.gh_symb.specs.Symbolic.{TermStep}
 use Rattle.gh_symb.specs.Formulas.{step_claims, steps_claims, version_after}
 use Rattle.gh_symb.specs.Encodings.{plain_kind}
 use Rattle.gh_reduce.specs.Growth.{stated_in}
-use Rattle.gh_symb.specs.Inside.{step_of, IsReady, AreStepsInside}
+use Rattle.gh_symb.specs.Inside.{step_of, AreKinds, AreStepsInside}
 use Rattle.gh_reduce.proofs.GrowthLemmas.{stated_first, same_terms, same_versions}
 use Rattle.gh_reduce.proofs.WalkLemmas.{steps_from, step_version}
 use Rattle.gh_reduce.proofs.ground.add_steps.Goals as goal
@@ -17,7 +17,7 @@ add_step-requires c =
     let split = steps_from ss i c.step-item.result c.loop-step-test.true c.step-item.is in
     record {
       few = omega (arith, c.loop-step.invariant.versions, c.requires.few);
-      ready = subst (λ (n : ℕ). IsReady n (map plain_kind c.args.terms.now)) (sym c.loop-step.invariant.terms) c.requires.ready;
+      ready = subst (λ (n : ℕ). AreKinds n (map plain_kind c.args.terms.now)) (sym c.loop-step.invariant.terms) c.requires.ready;
       inside = (subst (λ (xs : List TermStep). AreStepsInside s.terms s.versions c.loop-step.version xs) split c.loop-step.invariant.inside).0;
     }
 

@@ -28,7 +28,7 @@ returns-clause-is c =
     (c.count.ensures ∙ ap length c.terms-terms.ensures ∙ sym (length-map c.args.symbolic.now.terms plain_kind)) c.versions.ensures c.in_ok-add_condition.ensures
 
 pub returns-clause-told : goal.returns-clause-told
-returns-clause-told c = λ P p k h.
-    told_problem P p k c.args.symbolic.now c.add_condition.new.ground h
+returns-clause-told c = λ P proc k h.
+    told_problem P proc k c.args.symbolic.now c.add_condition.new.ground h
     (finished (plain_of c.args.symbolic.now) c.new-ground.result c.add_condition.new.ground c.count.result c.versions.result c.new-ground.ensures
     (c.count.ensures ∙ ap length c.terms-terms.ensures ∙ sym (length-map c.args.symbolic.now.terms plain_kind)) c.versions.ensures c.in_ok-add_condition.ensures)

@@ -41,8 +41,8 @@ read_store_line-requires c =
     let P = program_of c.args.typed.now in
     let at = (goal.at.read_store_line-requires c).After-as_slice in
     let shown : ShowsProcedure P c.args.text.now c.in-Some.number c.read_procedure.new.cursor.text.now = c.in-Some.ensures in
-    let p = shown.number.procedure in
-    subst AreDistinctNames (sym (names_at at)) (variables_are_distinct P (typed_at at) p (member_at P c.in-Some.number p shown.number.numbered))
+    let proc = shown.number.procedure in
+    subst AreDistinctNames (sym (names_at at)) (variables_are_distinct P (typed_at at) proc (member_at P c.in-Some.number proc shown.number.numbered))
 
 pub returns-in_default : goal.returns-in_default
 returns-in_default c =
@@ -57,11 +57,11 @@ returns-in_default-2 c =
     let at = (goal.at.returns-in_default-2 c).After-as_slice in
     let r1 = c.read_procedure.new.cursor.text.now in
     let shown : ShowsProcedure P text n r1 = c.in-Some.ensures in
-    let p = shown.number.procedure in
+    let proc = shown.number.procedure in
     let r2 = c.read_store_line.new.cursor.text.now in
     let store = subst (λ ns. IsFrontRead (ShowsStore ns) r1 r2 c.in_ok-store.field-0) (names_at at) c.in_ok-store.ensures in
-    let none = subst (λ o. IsFrontRead (ShowsStore (variable_names p)) r1 r2 o) c.in_default-2.is store in
-    record { read = tt; refused = refused P text c.faulty-in_default-2.result 2 c.faulty-in_default-2.ensures (faulty2 P text n p r1 r2 (typed_at at) (named P text n r1 shown) none); fits = tt; few = tt }
+    let none = subst (λ o. IsFrontRead (ShowsStore (variable_names proc)) r1 r2 o) c.in_default-2.is store in
+    record { read = tt; refused = refused P text c.faulty-in_default-2.result 2 c.faulty-in_default-2.ensures (faulty2 P text n proc r1 r2 (typed_at at) (named P text n r1 shown) none); fits = tt; few = tt }
 
 pub returns-in_default-3 : goal.returns-in_default-3
 returns-in_default-3 c =
@@ -70,7 +70,7 @@ returns-in_default-3 c =
     let n = c.in-Some.number in
     let r1 = c.read_procedure.new.cursor.text.now in
     let shown : ShowsProcedure P text n r1 = c.in-Some.ensures in
-    let p = shown.number.procedure in
+    let proc = shown.number.procedure in
     let a = named P text n r1 shown in
     let r2 = c.read_store_line.new.cursor.text.now in
     let es = c.in-Some-2.store in
@@ -78,7 +78,7 @@ returns-in_default-3 c =
     let l = listed_at at.In-Some-2 (names_at at.After-as_slice) in
     let r3 = c.read_heap_line.new.cursor.text.now in
     let none = subst (λ o. IsFrontRead ShowsCellLine r2 r3 o) c.in_default-3.is c.in_ok-heap.ensures in
-    record { read = tt; refused = refused P text c.faulty-in_default-3.result 3 c.faulty-in_default-3.ensures (faulty3 P text n p r1 r2 r3 es (typed_at at.After-as_slice) a l none); fits = tt; few = tt }
+    record { read = tt; refused = refused P text c.faulty-in_default-3.result 3 c.faulty-in_default-3.ensures (faulty3 P text n proc r1 r2 r3 es (typed_at at.After-as_slice) a l none); fits = tt; few = tt }
 
 pub returns-then-is_none : goal.returns-then-is_none
 returns-then-is_none c =
@@ -87,7 +87,7 @@ returns-then-is_none c =
     let n = c.in-Some.number in
     let r1 = c.read_procedure.new.cursor.text.now in
     let shown : ShowsProcedure P text n r1 = c.in-Some.ensures in
-    let p = shown.number.procedure in
+    let proc = shown.number.procedure in
     let a = named P text n r1 shown in
     let r2 = c.read_store_line.new.cursor.text.now in
     let es = c.in-Some-2.store in
@@ -98,7 +98,7 @@ returns-then-is_none c =
     let m = heaped_at at.In-Some-3 in
     let r4 = c.take.new.self.text.now in
     let none = word_missing (codes "end\n") r3 r4 c.take.result c.take.ensures.read c.if-is_none.ensures in
-    record { read = tt; refused = refused P text c.faulty-then-is_none.result 4 c.faulty-then-is_none.ensures (faulty4 P text n p r1 r2 r3 r4 es h (typed_at at.After-as_slice) a l m none); fits = tt; few = tt }
+    record { read = tt; refused = refused P text c.faulty-then-is_none.result 4 c.faulty-then-is_none.ensures (faulty4 P text n proc r1 r2 r3 r4 es h (typed_at at.After-as_slice) a l m none); fits = tt; few = tt }
 
 pub returns-then-not-is_empty : goal.returns-then-not-is_empty
 returns-then-not-is_empty c =
@@ -107,7 +107,7 @@ returns-then-not-is_empty c =
     let n = c.in-Some.number in
     let r1 = c.read_procedure.new.cursor.text.now in
     let shown : ShowsProcedure P text n r1 = c.in-Some.ensures in
-    let p = shown.number.procedure in
+    let proc = shown.number.procedure in
     let a = named P text n r1 shown in
     let r2 = c.read_store_line.new.cursor.text.now in
     let es = c.in-Some-2.store in
@@ -119,7 +119,7 @@ returns-then-not-is_empty c =
     let r4 = c.take.new.self.text.now in
     let end = word_taken (codes "end\n") r3 r4 c.take.result c.take.ensures.read c.if-is_none.ensures in
     let some = is_something r4 c.if-not-is_empty.ensures in
-    record { read = tt; refused = refused P text c.faulty-then-not-is_empty.result 5 c.faulty-then-not-is_empty.ensures (faulty5 P text n p r1 r2 r3 r4 es h (typed_at at.After-as_slice) a l m end some); fits = tt; few = tt }
+    record { read = tt; refused = refused P text c.faulty-then-not-is_empty.result 5 c.faulty-then-not-is_empty.ensures (faulty5 P text n proc r1 r2 r3 r4 es h (typed_at at.After-as_slice) a l m end some); fits = tt; few = tt }
 
 pub returns : goal.returns
 returns c =
@@ -128,7 +128,7 @@ returns c =
     let n = c.in-Some.number in
     let r1 = c.read_procedure.new.cursor.text.now in
     let shown : ShowsProcedure P text n r1 = c.in-Some.ensures in
-    let p = shown.number.procedure in
+    let proc = shown.number.procedure in
     let a = named P text n r1 shown in
     let r2 = c.read_store_line.new.cursor.text.now in
     let es = c.in-Some-2.store in
@@ -140,5 +140,5 @@ returns c =
     let r4 = c.take.new.self.text.now in
     let end = word_taken (codes "end\n") r3 r4 c.take.result c.take.ensures.read c.if-is_none.ensures in
     let none = is_nothing r4 c.if-not-is_empty.ensures in
-    let tells = told5 P text n p r1 r2 r3 r4 es h a l m end none in
-    record { read = tells; refused = tt; fits = (tells.procedure, tells.begins); few = few_cells P text n p r1 r2 r3 es h a l m }
+    let tells = told5 P text n proc r1 r2 r3 r4 es h a l m end none in
+    record { read = tells; refused = tt; fits = (tells.procedure, tells.begins); few = few_cells P text n proc r1 r2 r3 es h a l m }

@@ -8,7 +8,7 @@ use Rattle.std.proofs.lemmas.List.Elements.{All-push, Contains-push, Contains-ap
 use Rattle.gh_base.specs.declared.atom.Lit.{Lit}
 use Rattle.gh_base.specs.Atoms.{opposite}
 use Rattle.gh_sat.specs.declared.trail.Step.{Step}
-use Rattle.gh_sat.specs.Trail.{IsTrueIn, IsFalseIn, IsFree, IsValue}
+use Rattle.gh_sat.specs.Trail.{IsTrueIn, IsFalseIn, IsFree, IsTruth}
 use Rattle.gh_sat.specs.Learn.{IsTop}
 use Rattle.gh_sat.proofs.StatusLemmas.{nothing, not_both, not_free_opposite}
 use Rattle.gh_sat.proofs.learner.top_of.Goals as goal
@@ -41,14 +41,14 @@ pub returns-in-None-clause-none : goal.returns-in-None-clause-none
 returns-in-None-clause-none c =
     let l = get_or c.args.clause.now c.loop-lit.lit-index nothing in
     let free : IsFree c.args.trail.now.steps l.atom =
-    subst (λ (o : Option Bool). IsValue c.args.trail.now.steps l o) c.in-None.is c.value.ensures.value in
+    subst (λ (o : Option Bool). IsTruth c.args.trail.now.steps l o) c.in-None.is c.value.ensures.value in
     λ f. not_free_opposite c.args.trail.now.steps l (f c.loop-lit.lit-index nothing c.loop-lit-test.true) free
 
 pub returns-in-Some-true-clause-none : goal.returns-in-Some-true-clause-none
 returns-in-Some-true-clause-none c =
     let l = get_or c.args.clause.now c.loop-lit.lit-index nothing in
     let is : IsTrueIn c.args.trail.now.steps l =
-    subst (λ (o : Option Bool). IsValue c.args.trail.now.steps l o)
+    subst (λ (o : Option Bool). IsTruth c.args.trail.now.steps l o)
     (c.in-Some-true.is ∙ ap Some c.in-Some-true.field-0-test) c.value.ensures.value in
     λ f. not_both c.args.trail.now l c.requires.valid is (f c.loop-lit.lit-index nothing c.loop-lit-test.true)
 
@@ -59,7 +59,7 @@ loop-lit-preserved c =
     let l = get_or c.args.clause.now c.loop-lit.lit-index nothing in
     let front = take c.loop-lit.lit-index c.args.clause.now in
     let s : IsTrueIn trail (opposite l) =
-    subst (λ (o : Option Bool). IsValue trail l o) (c.in-Some-false.is ∙ ap Some c.in-Some-false.field-0-test)
+    subst (λ (o : Option Bool). IsTruth trail l o) (c.in-Some-false.is ∙ ap Some c.in-Some-false.field-0-test)
     c.value.ensures.value in
     let place : c.place-place.result ≡ s.0 = c.place-place.ensures s.0 s.1 s.3 (ap (λ (m : Lit). m.atom) s.4) in
     let step : get_or c.steps.result.now c.place-place.result no_step ≡ s.1 =

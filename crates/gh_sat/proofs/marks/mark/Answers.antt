@@ -7,7 +7,7 @@ use Rattle.gh_base.specs.declared.atom.Lit.{Lit}
 use Rattle.gh_base.specs.Atoms.{opposite}
 use Rattle.gh_sat.specs.declared.trail.Step.{Step}
 use Rattle.gh_sat.specs.Trail.{Stands}
-use Rattle.gh_sat.specs.Learn.{Marking, marks_of, IsMarked, HasMark, AreMarks}
+use Rattle.gh_sat.specs.Learn.{Marking, marks_of, HasRound, HasMark, AreMarks}
 use Rattle.gh_base.proofs.ListLemmas.{get_within}
 use Rattle.gh_sat.proofs.MarkLemmas.{mark_high, mark_low, more_mark, has_mark, marked_few}
 use Rattle.gh_sat.proofs.marks.mark.Goals.{Else-index-marks}
@@ -28,7 +28,7 @@ found : (trail : List Step) (m : Marking) (lit : Lit) (place stamp : ℕ) → Ar
     → stamp ≡ get_or m.stamps place stamp → (stamp ≡ m.round → ⊥) → Found trail m lit place stamp
 found trail m lit place stamp h (inl k) where_is read free =
     let e = where_is k.0 k.1 k.2 k.3 in
-    absurd (free (read ∙ get_or_from_slice_get m.stamps place m.round stamp (subst (IsMarked m) (sym e) k.4)))
+    absurd (free (read ∙ get_or_from_slice_get m.stamps place m.round stamp (subst (HasRound m) (sym e) k.4)))
 found trail m lit place stamp h (inr s) where_is read free =
     let e = where_is s.0 s.1 s.3 (ap (λ (l : Lit). l.atom) s.4) in
     let lt : s.0 < length trail = get_within trail s.0 s.1 s.3 in

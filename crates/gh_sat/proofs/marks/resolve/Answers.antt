@@ -2,11 +2,11 @@ use Rattle.std.proofs.Common.{◌≡◌, ◌<◌, ◌-◌, ◌∙◌, ℕ, ◌�
 use Rattle.std.proofs.Common.{None}
 use Rattle.std.proofs.lemmas.List.Elements.{All-contains}
 use Rattle.gh_base.specs.declared.atom.Lit.{Lit}
-use Rattle.gh_sat.specs.Learn.{marks_of, IsMarked, HasMark, AreReached, IsAlone}
+use Rattle.gh_sat.specs.Learn.{marks_of, HasRound, HasMark, AreReached, IsAlone}
 use Rattle.gh_sat.specs.Learn.Reached.{by_conflict}
 use Rattle.gh_base.proofs.ListLemmas.{get_within}
 use Rattle.gh_sat.proofs.MarkLemmas.{marks_some}
-use Rattle.gh_sat.proofs.ResolveLemmas.{IsRead, false_before, resolved_none, clause_read, mark_at, reached_within}
+use Rattle.gh_sat.proofs.ResolveLemmas.{HasReason, false_before, resolved_none, clause_read, mark_at, reached_within}
 use Rattle.gh_sat.proofs.ResolveLemmas.{is_left, resolved_turn, reached_next, none_from, reason_is, reason_of}
 use Rattle.gh_sat.proofs.ResolveLemmas.{reason_stands}
 use Rattle.gh_sat.proofs.marks.resolve.Goals as goal
@@ -28,7 +28,7 @@ loop-marks-init c =
       some =
           let there : HasMark t.steps m p.0 =
           All-contains (λ (l : Lit). HasMark t.steps m l) c.args.conflict.now p.0 e.all p.1 in
-          let mark : IsMarked m p.2 =
+          let mark : HasRound m p.2 =
           mark_at t m p.0 p.2 p.3 c.requires.valid p.5 (ap (λ (l : Lit). l.atom) p.6) there in
           let below : p.2 < m.end = omega (arith, end, get_within t.steps p.2 p.3 p.5) in
           marks_some t.steps m p.2 e.marks (omega (arith, p.4, e.more.start)) below mark;
@@ -65,7 +65,7 @@ returns-in-None-clause-point c =
     let none = r.1 in cc
 
 -- the reason of the last marked step, as the code reads it
-read_at : (c : In-Some) → IsRead c.args.clauses.now c.args.trail.now.steps c.last_marked-place.result c.in-Some.k
+read_at : (c : In-Some) → HasReason c.args.clauses.now c.args.trail.now.steps c.last_marked-place.result c.in-Some.k
 read_at c =
     let i = c.loop-marks.invariant in
     let p = c.last_marked-place.ensures in

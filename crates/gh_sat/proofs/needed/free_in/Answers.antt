@@ -1,7 +1,7 @@
 use Rattle.std.proofs.Common.{get_or}
 use Rattle.gh_base.specs.declared.atom.Lit.{Lit}
 use Rattle.gh_base.specs.Atoms.{IsInRange}
-use Rattle.gh_sat.specs.Trail.{IsFree, IsValue}
+use Rattle.gh_sat.specs.Trail.{IsFree, IsTruth}
 use Rattle.gh_sat.proofs.NeededLemmas.{assigned_more, all_taken, value_free}
 use Rattle.gh_sat.proofs.StatusLemmas.{nothing, row_has, row_each, row_range, row_within, row_past}
 use Rattle.gh_sat.proofs.needed.free_in.Goals as goal
@@ -15,14 +15,14 @@ truth-requires c =
 -- the literal at the place is in range, and its truth is known
 value_at : (c : After-truth) → IsInRange c.args.trail.now.sizes
     (get_or c.args.clause.now c.loop-place.place nothing).atom
-    × IsValue c.args.trail.now.steps (get_or c.args.clause.now c.loop-place.place nothing) c.truth.result
+    × IsTruth c.args.trail.now.steps (get_or c.args.clause.now c.loop-place.place nothing) c.truth.result
 value_at c =
     let t = c.args.trail.now in
     let clause = c.args.clause.now in
     let row = c.args.row.now in
     let i = c.loop-place.place in (
       row_range t.sizes clause row i c.requires.range c.requires.row c.loop-place-test.true,
-      row_each t.sizes clause row i _ (λ (l : Lit). IsValue t.steps l c.truth.result) c.requires.range c.requires.row
+      row_each t.sizes clause row i _ (λ (l : Lit). IsTruth t.steps l c.truth.result) c.requires.range c.requires.row
           c.loop-place-test.true c.truth.ensures.value,
     )
 

@@ -9,7 +9,7 @@ use Rattle.gh_base.specs.Atoms.{opposite}
 use Rattle.gh_sat.specs.declared.status.Hint.{Hint}
 use Rattle.gh_sat.specs.declared.trail.Step.{Step}
 use Rattle.gh_sat.specs.Trail.{Line, IsUnitIn, IsFalseIn, IsTrueIn}
-use Rattle.gh_sat.specs.Status.{IsBad, IsGuarded, IsForced, Grows}
+use Rattle.gh_sat.specs.Status.{IsFalseOrUnit, IsGuarded, IsForced, Grows}
 use Rattle.gh_base.proofs.ListLemmas.{get_last, get_set_same}
 use Rattle.gh_sat.proofs.StatusLemmas.{not_free_opposite}
 use Rattle.gh_sat.proofs.WatchLemmas.{grows_not, grows_one, one_unit, moves_same, moves_set}
@@ -91,7 +91,7 @@ returns-in-Open-clause-unit c = λ d u at i.
     let is = same c.args.database.now.clauses.now c.args.k c.lits-lits.result.now d
     (read c.args.database.now.clauses.now c.args.k c.index-clauses-k.result c.lits-lits.result.now c.index-clauses-k.is
     c.lits-lits.ensures c.requires.within) at in
-    absurd (c.in-Open.ensures.status (subst (IsBad c.args.trail.now.steps) (sym is) (inr (u, i))))
+    absurd (c.in-Open.ensures.status (subst (IsFalseOrUnit c.args.trail.now.steps) (sym is) (inr (u, i))))
 
 pub returns-in-Open-clause-propagates : goal.returns-in-Open-clause-propagates
 returns-in-Open-clause-propagates c =

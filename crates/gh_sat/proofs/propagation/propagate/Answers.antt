@@ -7,7 +7,7 @@ use Rattle.gh_base.specs.declared.sizes.Sizes.{Sizes}
 use Rattle.gh_base.specs.Atoms.{count_of}
 use Rattle.gh_sat.specs.declared.status.Hint.{Hint}
 use Rattle.gh_sat.specs.Trail.{Line, AreSteps}
-use Rattle.gh_sat.specs.Status.{IsBad}
+use Rattle.gh_sat.specs.Status.{IsFalseOrUnit}
 use Rattle.gh_sat.specs.Watch.{AreGuarded, AreListed}
 use Rattle.gh_sat.proofs.WatchLemmas.{grows_on, guarded_all, grown_from}
 use Rattle.gh_sat.proofs.PropagationLemmas.{propagates_on, propagates_long, propagates_guarded, ready_on}
@@ -128,7 +128,7 @@ returns-clause-guarded c =
 settled : (t : Line) (clauses : List (List Lit)) (hints : List Hint) (head looked : ℕ) (o : Option ℕ) → AreSteps t
     → IfNone o (head ≡ length t.steps) → looked ≡ length clauses → length hints ≡ length clauses
     → AreGuarded t.sizes clauses hints t.steps head looked
-    → IfNone o ((k : ℕ) (c : List Lit) → slice_get clauses k ≡ Some c → IsBad t.steps c → ⊥)
+    → IfNone o ((k : ℕ) (c : List Lit) → slice_get clauses k ≡ Some c → IsFalseOrUnit t.steps c → ⊥)
 settled t clauses hints head looked None valid h e long w =
     λ k c at bad. guarded_all t clauses hints head looked k c valid (omega (arith, h)) (omega (arith, e)) long w at bad
 settled t clauses hints head looked (Some x) valid h e long w = tt

@@ -4,7 +4,7 @@ use Rattle.gh_sat.specs.Learn.{marks_of}
 use Rattle.gh_base.proofs.ListLemmas.{get_some}
 use Rattle.gh_sat.proofs.ListLemmas.{lt_le}
 use Rattle.gh_sat.proofs.MarkLemmas.{marks_some}
-use Rattle.gh_sat.proofs.ResolveLemmas.{IsRead, false_before, resolved_none, clause_read, resolved_turn, reason_stands}
+use Rattle.gh_sat.proofs.ResolveLemmas.{HasReason, false_before, resolved_none, clause_read, resolved_turn, reason_stands}
 use Rattle.gh_sat.proofs.ReasonLemmas.{reason_read, reason_held}
 use Rattle.gh_sat.proofs.reasons.mark_reached.Goals as goal
 use Rattle.gh_sat.proofs.reasons.mark_reached.Goals.{In-Some}
@@ -36,7 +36,7 @@ unreachable-requires c =
     c.in_default.not-Some r.0 r.1
 
 -- the reason of the last marked step, as the code reads it
-read_at : (c : In-Some) → IsRead c.args.clauses.now c.args.trail.now.steps c.last_marked-place.result c.in-Some.k
+read_at : (c : In-Some) → HasReason c.args.clauses.now c.args.trail.now.steps c.last_marked-place.result c.in-Some.k
 read_at c =
     reason_held c.args.clauses.now c.args.trail.now.steps c.steps.result.now (marks_of c.loop-marks.marks)
     c.last_marked-place.result _ c.in-Some.k c.requires.reasons c.loop-marks.invariant.marks

@@ -2,7 +2,7 @@ use Rattle.std.proofs.Common.{List, Option, sym, subst}
 use Rattle.std.specs.Prelude.{IfSome, IfNone}
 use Rattle.gh_base.specs.declared.atom.Lit.{Lit}
 use Rattle.gh_sat.specs.Trail.{SearchState, IsFalseIn, IsSound}
-use Rattle.gh_sat.specs.Learn.{IsConflict, add_clause}
+use Rattle.gh_sat.specs.Learn.{IsConflictAt, add_clause}
 use Rattle.gh_sat.specs.Theory.{IsRefutedBy}
 use Rattle.gh_sat.proofs.LearnLemmas.{false_in_range}
 use Rattle.gh_sat.proofs.WholeLemmas.{sound_add}
@@ -46,8 +46,8 @@ returns-in_ok-insert-in-Some-clause-conflict g c =
     let r = refuted g (goal.at.returns-in_ok-insert-in-Some-clause-conflict g c).In-Some in
     let h = conflict_added s c.in-Some.clause c.requires.sound r.1
     (λ level start at f. c.requires.consistent level start at c.in-Some.clause r.0 f) in
-    subst (λ (t : SearchState). IsConflict t c.count-number.result) (sym c.in_ok-insert-in-Some.ensures.ok)
-    (subst (IsConflict (add_clause s c.in-Some.clause)) (sym c.count-number.ensures.count) h)
+    subst (λ (t : SearchState). IsConflictAt t c.count-number.result) (sym c.in_ok-insert-in-Some.ensures.ok)
+    (subst (IsConflictAt (add_clause s c.in-Some.clause)) (sym c.count-number.ensures.count) h)
 
 pub returns-in_ok-insert-in-Some-clause-sound : goal.returns-in_ok-insert-in-Some-clause-sound
 returns-in_ok-insert-in-Some-clause-sound g c =

@@ -12,7 +12,7 @@ use Rattle.gh_sat.specs.declared.status.Hint.{Hint}
 use Rattle.gh_sat.specs.declared.trail.Step.{Step}
 use Rattle.gh_sat.specs.Rows.{numbered, row_of}
 use Rattle.gh_sat.specs.Status.{IsPair}
-use Rattle.gh_sat.specs.Trail.{IsValue, IsTrueIn, IsFalseIn}
+use Rattle.gh_sat.specs.Trail.{IsTruth, IsTrueIn, IsFalseIn}
 use Rattle.gh_sat.proofs.StatusLemmas.{nothing, IsFoundOrFalse, false_found, in_at}
 use Rattle.gh_sat.proofs.StatusLemmas.{row_is, row_has, row_each, row_within, row_one, row_past}
 use Rattle.gh_sat.proofs.WatchLemmas.{guarded_good, pair_good}
@@ -172,7 +172,7 @@ literal c = get_or c.args.clause.now c.in-Some-found.place nothing
 
 -- it stands in the clause, its truth is known, and the others are false
 found_at : (c : After-truth) → Contains c.args.clause.now (literal c)
-    × IsValue c.args.trail.now.steps (literal c) c.truth.result
+    × IsTruth c.args.trail.now.steps (literal c) c.truth.result
     × All (IsFoundOrFalse c.args.trail.now.steps c.args.clause.now (Some c.in-Some-found.place)) c.args.clause.now
 found_at c =
     let s = c.args.trail.now.sizes in
@@ -183,7 +183,7 @@ found_at c =
     let loop = c.loop-place in
     let within = found_within row loop.found i c.in-Some-found.is loop.invariant.within in (
       in_at clause i nothing (row_within s clause row i c.requires.row within),
-      row_each s clause row i _ (λ (l : Lit). IsValue steps l c.truth.result) c.requires.range c.requires.row within
+      row_each s clause row i _ (λ (l : Lit). IsTruth steps l c.truth.result) c.requires.range c.requires.row within
           c.truth.ensures.value,
       whole_of steps s clause row loop.found (Some i) loop.place c.requires.row c.loop-place-test.false
           c.in-Some-found.is loop.invariant.so_far,
@@ -195,7 +195,7 @@ returns-in-None-truth-clause-status c =
     let f = found_at d in
     record {
       there = f.0;
-      free = subst (λ (o : Option Bool). IsValue c.args.trail.now.steps (literal d) o) c.in-None-truth.is f.1;
+      free = subst (λ (o : Option Bool). IsTruth c.args.trail.now.steps (literal d) o) c.in-None-truth.is f.1;
       others = f.2;
     }
 
@@ -204,7 +204,7 @@ returns-in-Some-true-clause-moved c =
     let d = (goal.at.returns-in-Some-true-clause-moved c).After-truth in
     let f = found_at d in
     let is : IsTrueIn c.args.trail.now.steps (literal d) =
-    subst (λ (o : Option Bool). IsValue c.args.trail.now.steps (literal d) o)
+    subst (λ (o : Option Bool). IsTruth c.args.trail.now.steps (literal d) o)
     (c.in-Some-true.is ∙ ap Some c.in-Some-true.field-0-test) f.1 in
     (inl (literal d, f.0, is), inl refl)
 
@@ -219,7 +219,7 @@ returns-in-Some-false-clause-status c =
     let steps = c.args.trail.now.steps in
     let f = found_at d in
     let is : IsTrueIn steps (opposite (literal d)) =
-    subst (λ (o : Option Bool). IsValue steps (literal d) o)
+    subst (λ (o : Option Bool). IsTruth steps (literal d) o)
     (c.in-Some-false.is ∙ ap Some c.in-Some-false.field-0-test) f.1 in
     λ k e lt. elim (f.2 k e lt) [
       | inl same ↦ subst (λ (m : Lit). IsTrueIn steps (opposite m)) (sym same) is

@@ -30,9 +30,9 @@ returns-in_default-split_first-2 t c =
 pub returns : goal.returns
 returns t c =
     let P = program_of c.args.setting.typed.now in
-    let p = procedure_of c.args.setting.procedure.now in
+    let proc = procedure_of c.args.setting.procedure.now in
     IfOk-weaker c.push_rows.result _ _
-    (λ r later. row_first P p c.in-Some.step.now c.in-Some.later.now c.args.steps.now c.in-Some-split_first.before.now c.in-Some-split_first-2.after.now c.in-Some-split_first-2.rest.now c.in-Some-split_first.others.now c.args.states.now
+    (λ r later. row_first P proc c.in-Some.step.now c.in-Some.later.now c.args.steps.now c.in-Some-split_first.before.now c.in-Some-split_first-2.after.now c.in-Some-split_first-2.rest.now c.in-Some-split_first.others.now c.args.states.now
     c.args.spare.now c.in_ok-left.left c.args.rows.now.items c.push.new.self.items c.push_rows.new.rows.items c.in_ok-row.row
     c.in-Some.ensures.cases.0 c.in-Some-split_first.ensures.cases.0 c.in-Some-split_first-2.ensures.cases.0 c.in_ok-left.ensures c.in_ok-push.ensures.items c.in_ok-row.ensures later)
     c.push_rows.ensures

@@ -1,6 +1,6 @@
 use Rattle.gh_ast.specs.Plain.{program_of}
 use Rattle.gh_decide.specs.Outcomes.{IsVerified}
-use Rattle.gh_trace.specs.Refuted.{IsFirst}
+use Rattle.gh_trace.specs.Refuted.{ShowsFirst}
 use Rattle.gh_scene.proofs.smallest.smallest_drawing.Goals as goal
 
 pub returns-in-Verified : goal.returns-in-Verified
@@ -10,5 +10,5 @@ returns-in-Verified c =
 
 pub refuted-requires-clause-first : goal.refuted-requires-clause-first
 refuted-requires-clause-first c =
-    let first : IsFirst (program_of c.args.typed.now) c.in-Refuted.number c.in-Refuted.trace = rw c.in-Refuted.is at c.in_ok-decide_all.ensures in
+    let first : ShowsFirst (program_of c.args.typed.now) c.in-Refuted.number c.in-Refuted.trace = rw c.in-Refuted.is at c.in_ok-decide_all.ensures in
     (c.in-Refuted.trace, first)

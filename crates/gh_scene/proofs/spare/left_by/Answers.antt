@@ -1,12 +1,12 @@
 use Rattle.gh_ast.specs.Plain.{formula_of}
 use Rattle.gh_assert.specs.Stores.{store_of}
-use Rattle.gh_lens.specs.Takings.{conjuncts, IsBlockedAt, Leaves}
+use Rattle.gh_lens.specs.Takings.{conjuncts, IsBlockedAt, LeavesOver}
 use Rattle.gh_scene.proofs.Leaving.{blocked_leave_none}
 use Rattle.gh_scene.proofs.spare.left_by.Goals as goal
 
 pub returns-in-Whole-clause-some : goal.returns-in-Whole-clause-some
 returns-in-Whole-clause-some c =
-    let leaves : Leaves (conjuncts (formula_of c.args.assertion.now)) (store_of c.args.store.now) c.args.heap.now c.in-Whole.rest = rw (c.in-Whole.is, c.conjuncts.ensures) at c.in_ok-rest.ensures in
+    let leaves : LeavesOver (conjuncts (formula_of c.args.assertion.now)) (store_of c.args.store.now) c.args.heap.now c.in-Whole.rest = rw (c.in-Whole.is, c.conjuncts.ensures) at c.in_ok-rest.ensures in
     leaves
 
 pub returns-clause-none : goal.returns-clause-none

@@ -2,7 +2,7 @@ use Rattle.std.proofs.Common.{subst}
 use Rattle.std.specs.Prelude.{IfSome, IfNone}
 use Rattle.gh_ast.specs.Plain.{formula_of}
 use Rattle.gh_assert.specs.Stores.{store_of}
-use Rattle.gh_lens.specs.Takings.{conjuncts, Leaves}
+use Rattle.gh_lens.specs.Takings.{conjuncts, LeavesOver}
 use Rattle.gh_scene.specs.Spare.{LeavesNothing}
 use Rattle.gh_scene.proofs.Leaving.{passes_on, found_here, none_found}
 use Rattle.gh_scene.proofs.spare.left_over.Goals as goal
@@ -15,7 +15,7 @@ returns-in-Some c =
     let x = c.alternative-item.result in
     let s = store_of c.args.store.now in
     let h = c.args.heap.now in
-    let leaves : Leaves (conjuncts (formula_of x)) s h c.in-Some.rest = subst (λ o. IfSome o (Leaves (conjuncts (formula_of x)) s h)) c.in-Some.is c.in_ok-rest.ensures.some in
+    let leaves : LeavesOver (conjuncts (formula_of x)) s h c.in-Some.rest = subst (λ o. IfSome o (LeavesOver (conjuncts (formula_of x)) s h)) c.in-Some.is c.in_ok-rest.ensures.some in
     found_here c.args.alternatives.now c.loop-alternative.alternative-index x s h c.in-Some.rest c.loop-alternative-test.true c.alternative-item.is leaves c.loop-alternative.invariant
 
 pub loop-alternative-preserved : goal.loop-alternative-preserved

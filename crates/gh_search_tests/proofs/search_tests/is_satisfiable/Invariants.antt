@@ -1,5 +1,5 @@
 use Rattle.std.specs.Prelude.{IfSome, IfNone}
-use Rattle.gh_sat.specs.Learn.{IsConflict}
+use Rattle.gh_sat.specs.Learn.{IsConflictAt}
 use Rattle.gh_sat.specs.Measure.{left}
 use Rattle.gh_sat.specs.Status.{IsSettled}
 use Rattle.gh_sat.specs.Theory.{HasNoConflict}
@@ -9,7 +9,7 @@ use Rattle.gh_search_tests.proofs.search_tests.is_satisfiable.Given as goal
 abbrev pub invariant-loop-next : goal.invariant-loop-next
 invariant-loop-next g l = record {
   sound : IsSound l.search;
-  conflict : IfSome l.answer (λ k. IsConflict l.search k);
+  conflict : IfSome l.answer (λ k. IsConflictAt l.search k);
   settled : IfNone l.answer (IsSettled l.search);
   consistent : IfNone l.answer (HasNoConflict (g.T.Theory.valid l.search.sizes) l.search.trail);
 }

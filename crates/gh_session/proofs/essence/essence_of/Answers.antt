@@ -20,10 +20,10 @@ pub returns : goal.returns
 returns c =
     let P = program_of c.args.typed.now in
     let r = c.args.condition.now in
-    let p = procedure_of c.in-Some.procedure.now in
+    let proc = procedure_of c.in-Some.procedure.now in
     let e = c.in_ok-essence_in.field-0 in
     let same = c.program-program.ensures.same in
-    let of : IsOf P (condition_of r) p = subst (λ (Q : whole.Program). IsProcedureAt (program_of Q) r.procedure p) same c.in-Some.ensures.some in
+    let of : IsOf P (condition_of r) proc = subst (λ (Q : whole.Program). IsProcedureAt (program_of Q) r.procedure proc) same c.in-Some.ensures.some in
     let typed : IsTyped P = subst (λ (Q : whole.Program). IsTyped (program_of Q)) same c.program-program.ensures.typed in
-    let told : IsEssenceIn P p r e = subst (λ (Q : whole.Program). IsEssenceIn (program_of Q) p r e) same c.in_ok-essence_in.ensures in
-    record { typed = typed; one = c.requires; procedure = p; of = of; is = sym told }
+    let told : IsEssenceIn P proc r e = subst (λ (Q : whole.Program). IsEssenceIn (program_of Q) proc r e) same c.in_ok-essence_in.ensures in
+    record { typed = typed; one = c.requires; procedure = proc; of = of; is = sym told }

@@ -7,7 +7,7 @@ use Rattle.gh_path.specs.Admitted.{most_terms, most_versions}
 use Rattle.gh_path.specs.Answers.{IsNumbered}
 use Rattle.gh_path.specs.Conditions.{conditions}
 use Rattle.gh_path.specs.Kept.{condition_of}
-use Rattle.gh_path.specs.Walks.{IsBefore}
+use Rattle.gh_path.specs.Walks.{IsWalkBefore}
 use Rattle.gh_path.proofs.GivenLemmas.{lent_one, lent_on, lent_none}
 use Rattle.gh_symb.specs.Limits.{HasTerms, Passes}
 use Rattle.gh_symb.specs.Met.{IsMet}
@@ -17,7 +17,7 @@ use Rattle.gh_symb.proofs.admit.admit_counted.Goals as goal
 
 pub loop-place-init : goal.loop-place-init
 loop-place-init c = record {
-  before = subst (λ Q. IsBefore Q c.walk-walk.result (conditions Q)) c.requires c.walk-walk.ensures;
+  before = subst (λ Q. IsWalkBefore Q c.walk-walk.result (conditions Q)) c.requires c.walk-walk.ensures;
   few = λ j d p less at of holds. omega (arith, less);
   late = λ j d p less at of holds. omega (arith, less);
   counts = λ none. c.new-counts.ensures.items;
@@ -59,15 +59,15 @@ returns-in-Some-clause-refused c =
     c.if-not-more.false c.condition-condition.ensures c.loop-place.invariant.before c.advance.ensures.next in
     let typed : IsTyped P = subst (λ Q. IsTyped (program_of Q)) c.program-program.ensures.same c.program-program.ensures.typed in
     let is = numbered_is_scoped P (k + 1) r typed found in
-    let p = is.0 in
+    let proc = is.0 in
     let d = condition_of r in
-    let passes : Passes P p d c.limit_of-passed.result = c.limit_of-passed.ensures p is.1 (c.in_ok-found.ensures p is.1) in
-    let many = many_terms P p d c.limit_of-passed.result c.in-Some.limit passes c.in-Some.ensures in
+    let passes : Passes P proc d c.limit_of-passed.result = c.limit_of-passed.ensures proc is.1 (c.in_ok-found.ensures proc is.1) in
+    let many = many_terms P proc d c.limit_of-passed.result c.in-Some.limit passes c.in-Some.ensures in
     inl (first_passed P (ManyTerms P) (k + 1) 6 (most_terms + 1) c.in-Some.limit
     (record {
       place = k;
       condition = d;
-      procedure = p;
+      procedure = proc;
       within = omega arith;
       at = number_at P k r found;
       of = is.1;
@@ -88,20 +88,20 @@ loop-place-preserved c =
     c.loop-place.invariant.before c.advance.ensures.next in
     let typed : IsTyped P = subst (λ Q. IsTyped (program_of Q)) c.program-program.ensures.same c.program-program.ensures.typed in
     let is = numbered_is_scoped P (k + 1) r typed found in
-    let p = is.0 in
+    let proc = is.0 in
     let d = condition_of r in
     let here : slice_get (conditions P) k ≡ Some d = number_at P k r found in
-    let counted : IsCount P p d c.in_ok-found.found = c.in_ok-found.ensures p is.1 in
+    let counted : IsCount P proc d c.in_ok-found.found = c.in_ok-found.ensures proc is.1 in
     let passed = c.limit_of-passed.result in
-    let passes : Passes P p d passed = c.limit_of-passed.ensures p is.1 counted in
-    let few = few_terms P p d passed passes c.in_default.ensures in
+    let passes : Passes P proc d passed = c.limit_of-passed.ensures proc is.1 counted in
+    let few = few_terms P proc d passed passes c.in_default.ensures in
     record {
       before = lent_on P s t k c.advance.result c.in_ok-more.more c.in_ok-more.was c.if-not-more.false
           c.loop-place.invariant.before c.advance.ensures.next;
-      few = one_more P (HasTerms P) k d p here is.1 c.loop-place.invariant.few few;
-      late = rw c.earlier-late.ensures (met_more P k d p c.loop-place.late passed here is.1 passes few c.loop-place.invariant.late);
-      counts = λ none. counts_more P k d p c.loop-place.late passed c.loop-place.counts.items c.add.new.counts.items
-          c.count.result here is.1 passes (λ keeps. c.count.ensures.kept P p d counted keeps) c.in_ok-add.ensures
+      few = one_more P (HasTerms P) k d proc here is.1 c.loop-place.invariant.few few;
+      late = rw c.earlier-late.ensures (met_more P k d proc c.loop-place.late passed here is.1 passes few c.loop-place.invariant.late);
+      counts = λ none. counts_more P k d proc c.loop-place.late passed c.loop-place.counts.items c.add.new.counts.items
+          c.count.result here is.1 passes (λ keeps. c.count.ensures.kept P proc d counted keeps) c.in_ok-add.ensures
           c.loop-place.invariant.counts (sym c.earlier-late.ensures ∙ none);
     }
 

@@ -15,4 +15,4 @@ returns c =
     let T = c.args.typed.now in
     let q = c.index-procedure.result.now in
     let of = scoped_of T c.program.result.now c.args.condition.now q c.program.ensures.same c.requires c.index-procedure.ensures in
-    holds_here (program_of T) c.args.condition.now (procedure_of q) (λ P p d. IsLimitOf p 6 (most_terms + 1) c.limit_at.result) of c.limit_at.ensures
+    holds_here (program_of T) c.args.condition.now (procedure_of q) (λ P proc d. IsLimitOf proc 6 (most_terms + 1) c.limit_at.result) of c.limit_at.ensures

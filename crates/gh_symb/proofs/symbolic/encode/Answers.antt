@@ -6,10 +6,10 @@ use Rattle.gh_symb.proofs.symbolic.encode.Goals as goal
 pub encode-requires : goal.encode-requires
 encode-requires c =
     let P = c.requires.0 in
-    let p = c.requires.1 in
+    let proc = c.requires.1 in
     let d = c.requires.2 in
     let h = c.requires.3 in
-    record { few = (few_numbers P p d c.args.walked h.walked h.few).0; short = short_kinds P p d c.args.walked h.walked h.few }
+    record { few = (few_numbers P proc d c.args.walked h.walked h.few).0; short = short_kinds P proc d c.args.walked h.walked h.few }
 
 pub overflow_cast-versions : goal.overflow_cast-versions
 overflow_cast-versions c =
@@ -19,8 +19,8 @@ overflow_cast-versions c =
     omega (arith, versions)
 
 pub returns : goal.returns
-returns c = λ P p d h.
-    let parts = exact P p d c.args.walked h.walked h.few in
+returns c = λ P proc d h.
+    let parts = exact P proc d c.args.walked h.walked h.few in
     record {
       terms = c.in_ok-terms.ensures ∙ h.walked.kinds_are;
       versions = h.walked.versions_are;
@@ -33,12 +33,12 @@ returns c = λ P p d h.
 pub invariant_of-result : goal.invariant_of-result
 invariant_of-result c =
     let P = c.requires.0 in
-    let p = c.requires.1 in
+    let proc = c.requires.1 in
     let d = c.requires.2 in
     let w = c.args.walked in
     let h = c.requires.3 in
-    let parts = exact P p d w h.walked h.few in
+    let parts = exact P proc d w h.walked h.few in
     record {
-      states = states_of_steps P p d w.steps.items w.bindings.items parts.steps_are parts.bindings_are;
-      inside = encoded_inside P p d _ (w.version + 1) w.start w.steps.items w.check (c.in_ok-terms.ensures ∙ h.walked.kinds_are) h.walked.versions_are parts.start_is parts.steps_are parts.check_is;
+      states = states_of_steps P proc d w.steps.items w.bindings.items parts.steps_are parts.bindings_are;
+      inside = encoded_inside P proc d _ (w.version + 1) w.start w.steps.items w.check (c.in_ok-terms.ensures ∙ h.walked.kinds_are) h.walked.versions_are parts.start_is parts.steps_are parts.check_is;
     }

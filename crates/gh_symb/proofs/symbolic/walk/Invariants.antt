@@ -1,7 +1,7 @@
 use Rattle.std.proofs.Common.{◌≤◌, drop, map}
 use Rattle.gh_ast.specs.Plain.{program_of}
 use Rattle.gh_path.specs.Kept.{step_of, condition_of}
-use Rattle.gh_symb.specs.Following.{Follows}
+use Rattle.gh_symb.specs.Following.{IsFollowed}
 use Rattle.gh_symb.specs.Contexts.{procedure_in}
 use Rattle.gh_symb.specs.Tables.{bound_by}
 use Rattle.gh_symb.specs.Walkers.{terms_at}
@@ -10,6 +10,6 @@ use Rattle.gh_symb.proofs.symbolic.walk.Given as goal
 abbrev pub invariant-loop-step : goal.invariant-loop-step
 invariant-loop-step l = record {
   few : l.walker.version ≤ l.step-index;
-  left : Follows (program_of l.typed) (procedure_in l.context) (map step_of (drop l.step-index l.step-items)) (condition_of l.condition) (terms_at l.walker)
+  left : IsFollowed (program_of l.typed) (procedure_in l.context) (map step_of (drop l.step-index l.step-items)) (condition_of l.condition) (terms_at l.walker)
       (bound_by l.firsts) (map bound_by l.states.items) l.steps.items;
 }

@@ -19,5 +19,5 @@ pub returns-in_ok-verified_line-in-None : goal.returns-in_ok-verified_line-in-No
 returns-in_ok-verified_line-in-None c =
     let P = program_of c.args.admitted.now in
     let valid : ListedAreValid P = (rw c.in-None.is at c.requires).outcome in
-    let count : c.count-count.result ≡ length (conditions P) = c.count-count.ensures ∙ ap (λ p. length (conditions (program_of p))) c.conditions.ensures in
+    let count : c.count-count.result ≡ length (conditions P) = c.count-count.ensures ∙ ap (λ proc. length (conditions (program_of proc))) c.conditions.ensures in
     is_verified P c.count-count.result _ _ valid count c.verified.ensures.status (c.verified.ensures.text ∙ c.in_ok-verified_line-in-None.ensures)

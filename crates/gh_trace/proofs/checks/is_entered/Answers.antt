@@ -27,7 +27,7 @@ returns-in_default-2 c at =
 pub returns : goal.returns
 returns c =
     let P = program_of c.args.setting.typed.now in
-    let p = procedure_of c.args.setting.procedure.now in
+    let proc = procedure_of c.args.setting.procedure.now in
     let q = procedure_of c.in-Some.callee.now in
     let x = state_of c.args.state.now in
     let es = c.args.arguments.now in
@@ -35,5 +35,5 @@ returns c =
     IfOk-weaker c.has_part.result _ _
     (λ b w at.
     let call : IsCall P c.args.callee q es x _ = record { callee = c.in-Some.ensures.some; gives = entered } in
-    let r = enters_where P p at c.args.callee q es x _ (store_of c.in-Some-2.inside) call c.in-Some.ensures.own refl in
+    let r = enters_where P proc at c.args.callee q es x _ (store_of c.in-Some-2.inside) call c.in-Some.ensures.own refl in
     (λ t. r.0 (w.0 t), λ passes. w.1 (r.1 passes))) c.has_part.ensures

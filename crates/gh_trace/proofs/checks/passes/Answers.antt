@@ -17,10 +17,10 @@ returns-in-Access c =
 pub returns-in-CalleeEntry : goal.returns-in-CalleeEntry
 returns-in-CalleeEntry c =
     let P = program_of c.args.setting.typed.now in
-    let p = procedure_of c.args.setting.procedure.now in
+    let proc = procedure_of c.args.setting.procedure.now in
     let x = state_of c.args.state.now in
     decided_check c.is_entered.result c.args.setting c.args.kind.now _ _ c.args.state.now c.in-CalleeEntry.is
-    (λ b w at. subst (λ es. IsTrue b ↔ Passes P p (entry at c.in-CalleeEntry.callee es) x) c.as_slice.ensures.value (w at)) c.is_entered.ensures
+    (λ b w at. subst (λ es. IsTrue b ↔ Passes P proc (entry at c.in-CalleeEntry.callee es) x) c.as_slice.ensures.value (w at)) c.is_entered.ensures
 
 pub returns-in-LoopEntry : goal.returns-in-LoopEntry
 returns-in-LoopEntry c =

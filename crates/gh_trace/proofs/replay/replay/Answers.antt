@@ -19,43 +19,43 @@ begins-requires-clause-there c = (is_there (program_of c.args.typed.now) (proced
 pub returns-in_default-split_first-clause-failed : goal.returns-in_default-split_first-clause-failed
 returns-in_default-split_first-clause-failed c =
     let P = program_of c.args.typed.now in
-    let p = procedure_of c.in-Some.procedure.now in
+    let proc = procedure_of c.in-Some.procedure.now in
     let r = c.args.condition.now in
     let none : [] ≡ c.args.trace.now.states.items = sym (nil_from_length c.as_slice-2.result.now c.in_default-split_first.ensures.cases) ∙ c.as_slice-2.ensures.value in
     subst (λ zs. IsFailure P r (map drawn zs) c.failure.result) none
-    (subst (IsFailure P r []) (sym c.failure.ensures) (nothing_fails P p r c.in-Some.ensures.some))
+    (subst (IsFailure P r []) (sym c.failure.ensures) (nothing_fails P proc r c.in-Some.ensures.some))
 
 pub returns-then-not-branch-clause-failed : goal.returns-then-not-branch-clause-failed
 returns-then-not-branch-clause-failed c =
     let P = program_of c.args.typed.now in
-    let p = procedure_of c.in-Some.procedure.now in
+    let proc = procedure_of c.in-Some.procedure.now in
     let r = c.args.condition.now in
     let x = c.in-Some-split_first.first.now in
     let ys = c.in-Some-split_first.others.now in
     let whole : x ∷ ys ≡ c.args.trace.now.states.items = sym c.in-Some-split_first.ensures.cases.0 ∙ c.as_slice-2.ensures.value in
     subst (λ zs. IsFailure P r (map drawn zs) c.failure-then-not-branch.result) whole
     (subst (IsFailure P r (drawn x ∷ map drawn ys)) (sym c.failure-then-not-branch.ensures)
-    (start_fails P p r (drawn x) (map drawn ys) c.in-Some.ensures.some (λ begins. (let t = c.in_ok-begins.ensures.begins.1 begins in absurd cc))))
+    (start_fails P proc r (drawn x) (map drawn ys) c.in-Some.ensures.some (λ begins. (let t = c.in_ok-begins.ensures.begins.1 begins in absurd cc))))
 
 pub returns-clause-refuted : goal.returns-clause-refuted
 returns-clause-refuted c =
     let P = program_of c.args.typed.now in
-    let p = procedure_of c.in-Some.procedure.now in
+    let proc = procedure_of c.in-Some.procedure.now in
     let r = c.args.condition.now in
     let x = c.in-Some-split_first.first.now in
     let ys = c.in-Some-split_first.others.now in
     let whole : x ∷ ys ≡ c.args.trace.now.states.items = sym c.in-Some-split_first.ensures.cases.0 ∙ c.as_slice-2.ensures.value in
     subst (λ zs. OnOk c.walk.result (Refutes P (condition_of r) (map drawn zs))) whole
-    (on_ok_weaker c.walk.result (λ after. refutes_whole P p r (drawn x) (map drawn ys) c.in-Some.ensures.some (c.in_ok-begins.ensures.begins.0 c.if-not-branch.false) after) c.walk.ensures.refuted)
+    (on_ok_weaker c.walk.result (λ after. refutes_whole P proc r (drawn x) (map drawn ys) c.in-Some.ensures.some (c.in_ok-begins.ensures.begins.0 c.if-not-branch.false) after) c.walk.ensures.refuted)
 
 pub returns-clause-failed : goal.returns-clause-failed
 returns-clause-failed c =
     let P = program_of c.args.typed.now in
-    let p = procedure_of c.in-Some.procedure.now in
+    let proc = procedure_of c.in-Some.procedure.now in
     let r = c.args.condition.now in
     let x = c.in-Some-split_first.first.now in
     let ys = c.in-Some-split_first.others.now in
     let whole : x ∷ ys ≡ c.args.trace.now.states.items = sym c.in-Some-split_first.ensures.cases.0 ∙ c.as_slice-2.ensures.value in
     subst (λ zs. IfErr c.walk.result (IsFailure P r (map drawn zs))) whole
     (MatchResult-weaker c.walk.result c.walk.ensures.failed (λ u is. is)
-    (λ e after. fails_whole P p r (drawn x) (map drawn ys) e c.in-Some.ensures.some (c.in_ok-begins.ensures.begins.0 c.if-not-branch.false) after))
+    (λ e after. fails_whole P proc r (drawn x) (map drawn ys) e c.in-Some.ensures.some (c.in_ok-begins.ensures.begins.0 c.if-not-branch.false) after))

@@ -17,41 +17,41 @@ loop-i-init c = record {
 pub returns-in_default-clause-failed : goal.returns-in_default-clause-failed
 returns-in_default-clause-failed c =
     let P = program_of c.args.setting.typed.now in
-    let p = procedure_of c.args.setting.procedure.now in
+    let proc = procedure_of c.args.setting.procedure.now in
     let rs = c.args.condition.now.steps.items in
     let x = state_of c.args.first.now in
     let others = c.args.others.now in
     let i = c.loop-i.i in
     let r = c.step-item.result in
-    subst (IsFailureAfter P p c.args.condition.now x (map drawn others)) (sym c.failure.ensures)
-    (kept_missing P p rs x (state_of c.loop-i.before.now) others i r (subst (λ zs. i < length zs) c.deref-step-items.ensures.value c.loop-i-test.true) (subst (λ zs. r ≡ get_or zs i r) c.deref-step-items.ensures.value c.step-item.is)
+    subst (IsFailureAfter P proc c.args.condition.now x (map drawn others)) (sym c.failure.ensures)
+    (kept_missing P proc rs x (state_of c.loop-i.before.now) others i r (subst (λ zs. i < length zs) c.deref-step-items.ensures.value c.loop-i-test.true) (subst (λ zs. r ≡ get_or zs i r) c.deref-step-items.ensures.value c.step-item.is)
     c.in_default.ensures.lookup.3 c.loop-i.invariant.follows (check_of c.args.condition.now.check))
 
 pub returns-then-not-branch-clause-failed : goal.returns-then-not-branch-clause-failed
 returns-then-not-branch-clause-failed c =
     let P = program_of c.args.setting.typed.now in
-    let p = procedure_of c.args.setting.procedure.now in
+    let proc = procedure_of c.args.setting.procedure.now in
     let rs = c.args.condition.now.steps.items in
     let x = state_of c.args.first.now in
     let others = c.args.others.now in
     let i = c.loop-i.i in
     let r = c.step-item.result in
-    subst (IsFailureAfter P p c.args.condition.now x (map drawn others)) (sym c.failure-then-not-branch.ensures)
-    (kept_misses P p rs x (state_of c.loop-i.before.now) others i r c.in-Some.after.now (subst (λ zs. i < length zs) c.deref-step-items.ensures.value c.loop-i-test.true)
+    subst (IsFailureAfter P proc c.args.condition.now x (map drawn others)) (sym c.failure-then-not-branch.ensures)
+    (kept_misses P proc rs x (state_of c.loop-i.before.now) others i r c.in-Some.after.now (subst (λ zs. i < length zs) c.deref-step-items.ensures.value c.loop-i-test.true)
     (subst (λ zs. r ≡ get_or zs i r) c.deref-step-items.ensures.value c.step-item.is) c.in-Some.ensures.lookup.3.0 c.in-Some.ensures.lookup.1
     (λ leads. (let t = c.in_ok-is_next.ensures.next.1 leads in absurd cc)) c.loop-i.invariant.follows (check_of c.args.condition.now.check))
 
 pub loop-i-preserved : goal.loop-i-preserved
 loop-i-preserved c =
     let P = program_of c.args.setting.typed.now in
-    let p = procedure_of c.args.setting.procedure.now in
+    let proc = procedure_of c.args.setting.procedure.now in
     let rs = c.args.condition.now.steps.items in
     let x = state_of c.args.first.now in
     let others = c.args.others.now in
     let i = c.loop-i.i in
     let r = c.step-item.result in
     record {
-      follows = kept_more P p rs x (state_of c.loop-i.before.now) others i r c.in-Some.after.now (subst (λ zs. i < length zs) c.deref-step-items.ensures.value c.loop-i-test.true)
+      follows = kept_more P proc rs x (state_of c.loop-i.before.now) others i r c.in-Some.after.now (subst (λ zs. i < length zs) c.deref-step-items.ensures.value c.loop-i-test.true)
           (subst (λ zs. r ≡ get_or zs i r) c.deref-step-items.ensures.value c.step-item.is) c.in-Some.ensures.lookup.3.0 c.in-Some.ensures.lookup.1 (c.in_ok-is_next.ensures.next.0 c.if-not-branch.false) c.loop-i.invariant.follows;
       over = c.in_ok-is_next.ensures.over c.if-not-branch.false;
     }
@@ -59,45 +59,45 @@ loop-i-preserved c =
 pub returns-then-others-count-clause-failed : goal.returns-then-others-count-clause-failed
 returns-then-others-count-clause-failed c =
     let P = program_of c.args.setting.typed.now in
-    let p = procedure_of c.args.setting.procedure.now in
+    let proc = procedure_of c.args.setting.procedure.now in
     let rs = c.args.condition.now.steps.items in
     let x = state_of c.args.first.now in
     let others = c.args.others.now in
     let i = c.loop-i.i in
     let k = check_of c.args.condition.now.check in
-    let end = past P p rs x others (state_of c.loop-i.before.now) i c.len-count.result _ _ c.deref-step-items.ensures.value c.deref-step-items.ensures.len c.loop-i-test.false c.loop-i.auto.i-end c.len-count.ensures c.loop-i.invariant.follows in
+    let end = past P proc rs x others (state_of c.loop-i.before.now) i c.len-count.result _ _ c.deref-step-items.ensures.value c.deref-step-items.ensures.len c.loop-i-test.false c.loop-i.auto.i-end c.len-count.ensures c.loop-i.invariant.follows in
     let more : i < length others = omega (arith, end.count, c.if-others-count.true) in
     let y = element_at others i more in
-    let fails = more_fails P p (map step_of rs) x (map drawn others) (state_of c.loop-i.before.now) (drawn y.0) (map drawn (drop (i + 1) others)) i
-    (subst (λ z. CarriesBack P p (map step_of rs) x (map drawn others) [] (state_of c.loop-i.before.now) z i) (some_state others i y.0 more (sym y.1)) end.follows) k in
-    subst (IsFailureAfter P p c.args.condition.now x (map drawn others)) (sym c.failure-then-others-count.ensures) (subst (λ n. FailsAfter P p x (map step_of rs) k (map drawn others) (n + 1)) end.count fails)
+    let fails = more_fails P proc (map step_of rs) x (map drawn others) (state_of c.loop-i.before.now) (drawn y.0) (map drawn (drop (i + 1) others)) i
+    (subst (λ z. CarriesBack P proc (map step_of rs) x (map drawn others) [] (state_of c.loop-i.before.now) z i) (some_state others i y.0 more (sym y.1)) end.follows) k in
+    subst (IsFailureAfter P proc c.args.condition.now x (map drawn others)) (sym c.failure-then-others-count.ensures) (subst (λ n. FailsAfter P proc x (map step_of rs) k (map drawn others) (n + 1)) end.count fails)
 
 pub returns-then-branch-clause-failed : goal.returns-then-branch-clause-failed
 returns-then-branch-clause-failed c =
     let P = program_of c.args.setting.typed.now in
-    let p = procedure_of c.args.setting.procedure.now in
+    let proc = procedure_of c.args.setting.procedure.now in
     let rs = c.args.condition.now.steps.items in
     let x = state_of c.args.first.now in
     let others = c.args.others.now in
     let i = c.loop-i.i in
     let k = check_of c.args.condition.now.check in
-    let end = past P p rs x others (state_of c.loop-i.before.now) i c.len-count.result _ _ c.deref-step-items.ensures.value c.deref-step-items.ensures.len c.loop-i-test.false c.loop-i.auto.i-end c.len-count.ensures c.loop-i.invariant.follows in
+    let end = past P proc rs x others (state_of c.loop-i.before.now) i c.len-count.result _ _ c.deref-step-items.ensures.value c.deref-step-items.ensures.len c.loop-i-test.false c.loop-i.auto.i-end c.len-count.ensures c.loop-i.invariant.follows in
     let last : length others ≤ i = omega (arith, end.count, c.if-others-count.false) in
-    let at_last = subst (λ z. CarriesBack P p (map step_of rs) x (map drawn others) [] (state_of c.loop-i.before.now) z i) (no_state others i last) end.follows in
-    subst (IsFailureAfter P p c.args.condition.now x (map drawn others)) (sym c.failure-then-branch.ensures)
-    (subst (λ n. FailsAfter P p x (map step_of rs) k (map drawn others) (n + 1)) end.count
-    (check_fails P p (map step_of rs) x (map drawn others) (state_of c.loop-i.before.now) i at_last k ((c.in_ok-passes.ensures c.args.condition.now.check.span).0 c.if-branch.true)))
+    let at_last = subst (λ z. CarriesBack P proc (map step_of rs) x (map drawn others) [] (state_of c.loop-i.before.now) z i) (no_state others i last) end.follows in
+    subst (IsFailureAfter P proc c.args.condition.now x (map drawn others)) (sym c.failure-then-branch.ensures)
+    (subst (λ n. FailsAfter P proc x (map step_of rs) k (map drawn others) (n + 1)) end.count
+    (check_fails P proc (map step_of rs) x (map drawn others) (state_of c.loop-i.before.now) i at_last k ((c.in_ok-passes.ensures c.args.condition.now.check.span).0 c.if-branch.true)))
 
 pub returns-clause-refuted : goal.returns-clause-refuted
 returns-clause-refuted c =
     let P = program_of c.args.setting.typed.now in
-    let p = procedure_of c.args.setting.procedure.now in
+    let proc = procedure_of c.args.setting.procedure.now in
     let rs = c.args.condition.now.steps.items in
     let x = state_of c.args.first.now in
     let others = c.args.others.now in
     let i = c.loop-i.i in
-    let end = past P p rs x others (state_of c.loop-i.before.now) i c.len-count.result _ _ c.deref-step-items.ensures.value c.deref-step-items.ensures.len c.loop-i-test.false c.loop-i.auto.i-end c.len-count.ensures c.loop-i.invariant.follows in
+    let end = past P proc rs x others (state_of c.loop-i.before.now) i c.len-count.result _ _ c.deref-step-items.ensures.value c.deref-step-items.ensures.len c.loop-i-test.false c.loop-i.auto.i-end c.len-count.ensures c.loop-i.invariant.follows in
     let last : length others ≤ i = omega (arith, end.count, c.if-others-count.false) in
-    let at_last = subst (λ z. CarriesBack P p (map step_of rs) x (map drawn others) [] (state_of c.loop-i.before.now) z i) (no_state others i last) end.follows in
-    check_refutes P p (map step_of rs) x (map drawn others) (state_of c.loop-i.before.now) i at_last (check_of c.args.condition.now.check)
+    let at_last = subst (λ z. CarriesBack P proc (map step_of rs) x (map drawn others) [] (state_of c.loop-i.before.now) z i) (no_state others i last) end.follows in
+    check_refutes P proc (map step_of rs) x (map drawn others) (state_of c.loop-i.before.now) i at_last (check_of c.args.condition.now.check)
     (λ passes. (let t = (c.in_ok-passes.ensures c.args.condition.now.check.span).1 passes in absurd cc))

@@ -26,7 +26,7 @@ returns-in_default-2 c =
 pub returns-then-as_slice : goal.returns-then-as_slice
 returns-then-as_slice c =
     let P = program_of c.args.setting.typed.now in
-    let p = procedure_of c.args.setting.procedure.now in
+    let proc = procedure_of c.args.setting.procedure.now in
     let q = procedure_of c.in-Some.callee.now in
     let x = state_of c.args.before.now in
     let es = c.args.call.arguments.now in
@@ -36,7 +36,7 @@ returns-then-as_slice c =
     } in (
       λ t. absurd cc,
       λ takes. absurd (c.if-as_slice.true
-          (ap length c.as_slice.ensures.value ∙ count_called P p c.args.call.callee q c.args.call.targets.now es x (state_of c.args.after.now) c.in-Some-2.given.items call takes ∙ sym (ap length c.as_slice-2.ensures.value))),
+          (ap length c.as_slice.ensures.value ∙ count_called P proc c.args.call.callee q c.args.call.targets.now es x (state_of c.args.after.now) c.in-Some-2.given.items call takes ∙ sym (ap length c.as_slice-2.ensures.value))),
     )
 
 pub returns-then-targets-as_slice : goal.returns-then-targets-as_slice
@@ -50,7 +50,7 @@ returns-then-targets-as_slice c = (
 pub returns : goal.returns
 returns c =
     let P = program_of c.args.setting.typed.now in
-    let p = procedure_of c.args.setting.procedure.now in
+    let proc = procedure_of c.args.setting.procedure.now in
     let q = procedure_of c.in-Some.callee.now in
     let x = state_of c.args.before.now in
     let y = state_of c.args.after.now in
@@ -60,6 +60,6 @@ returns c =
     IfOk-weaker c.is_answered.result _ _
     (λ b w.
     let call : IsCall P c.args.call.callee q es x c.as_slice-4.result.now = record { callee = c.in-Some.ensures.some; gives = subst (λ vs. Give x.store x.heap es vs) (sym c.as_slice-4.ensures.value) gives } in
-    let r = calls_where P p c.args.call.callee q xs es x y c.as_slice-4.result.now (store_of c.in_ok-inside.inside) call c.in-Some.ensures.own c.in_ok-inside.ensures.given
+    let r = calls_where P proc c.args.call.callee q xs es x y c.as_slice-4.result.now (store_of c.in_ok-inside.inside) call c.in-Some.ensures.own c.in_ok-inside.ensures.given
     (c.in_ok-inside.ensures.results ∙ c.as_slice-5.ensures.value ∙ c.in_ok-results.ensures) (c.keeps.ensures.0 c.if-not-keeps.false) in
     (λ t. r.0 (w.0 t), λ takes. w.1 (r.1 takes))) c.is_answered.ensures

@@ -28,13 +28,13 @@ returns-in-Free c = decided_taken c.frees.result c.args.setting c.args.step.now 
 pub returns-in-Call : goal.returns-in-Call
 returns-in-Call c =
     let P = program_of c.args.setting.typed.now in
-    let p = procedure_of c.args.setting.procedure.now in
+    let proc = procedure_of c.args.setting.procedure.now in
     let x = state_of c.args.before.now in
     let y = state_of c.args.after.now in
     decided_kept c.calls.result c.args.setting c.args.step.now _ _ c.args.before.now c.args.after.now c.in-Call.is
     (λ b w.
-    subst (λ es. IsTrue b ↔ Takes P p (called c.in-Call.targets.items c.in-Call.callee es) x y) c.as_slice-in-Call.ensures.value
-    (subst (λ xs. IsTrue b ↔ Takes P p (called xs c.in-Call.callee c.as_slice-in-Call.result.now) x y) c.as_slice.ensures.value w)) c.calls.ensures
+    subst (λ es. IsTrue b ↔ Takes P proc (called c.in-Call.targets.items c.in-Call.callee es) x y) c.as_slice-in-Call.ensures.value
+    (subst (λ xs. IsTrue b ↔ Takes P proc (called xs c.in-Call.callee c.as_slice-in-Call.result.now) x y) c.as_slice.ensures.value w)) c.calls.ensures
 
 pub returns-in-Loop : goal.returns-in-Loop
 returns-in-Loop c = decided_kept c.goes_around.result c.args.setting c.args.step.now _ _ c.args.before.now c.args.after.now c.in-Loop.is (λ b w. w) c.goes_around.ensures
@@ -42,8 +42,8 @@ returns-in-Loop c = decided_kept c.goes_around.result c.args.setting c.args.step
 pub returns-in-Return : goal.returns-in-Return
 returns-in-Return c =
     let P = program_of c.args.setting.typed.now in
-    let p = procedure_of c.args.setting.procedure.now in
+    let proc = procedure_of c.args.setting.procedure.now in
     let x = state_of c.args.before.now in
     let y = state_of c.args.after.now in
     decided_kept c.answers.result c.args.setting c.args.step.now _ _ c.args.before.now c.args.after.now c.in-Return.is
-    (λ b w. subst (λ es. IsTrue b ↔ Takes P p (answered es) x y) c.as_slice-in-Return.ensures.value w) c.answers.ensures
+    (λ b w. subst (λ es. IsTrue b ↔ Takes P proc (answered es) x y) c.as_slice-in-Return.ensures.value w) c.answers.ensures

@@ -8,7 +8,7 @@ use Rattle.gh_trace.proofs.StepLemmas.{there_at, other_contents, state_keeps, wr
 use Rattle.gh_trace.proofs.steps.writes.Goals as goal
 
 pub returns-then-ne : goal.returns-then-ne
-returns-then-ne c P p =
+returns-then-ne c P proc =
     let s = store_of c.args.before.now.store in
     let h = c.args.before.now.heap in
     let v = sym c.expr_value.ensures ∙ c.in-Some.is in (
@@ -18,7 +18,7 @@ returns-then-ne c P p =
     )
 
 pub returns-then-not-keeps : goal.returns-then-not-keeps
-returns-then-not-keeps c P p =
+returns-then-not-keeps c P proc =
     let s = store_of c.args.before.now.store in
     let h = c.args.before.now.heap in
     (λ f. absurd cc, λ takes. (let kept = c.keeps.ensures.1 (state_keeps s (store_of c.args.after.now.store) (insert h (s c.args.at.now.name) takes.0) c.args.after.now.heap takes.3) in absurd cc))
@@ -29,9 +29,9 @@ returns c =
     let t = store_of c.args.after.now.store in
     let h = c.args.before.now.heap in
     let k = c.args.after.now.heap in
-    let p = s c.args.at.now.name in
-    let at = there_at h p c.value_of-place.result c.get.result c.is_none.result c.value_of-place.ensures c.get.ensures c.is_none.ensures c.if-is_none.false in
+    let proc = s c.args.at.now.name in
+    let at = there_at h proc c.value_of-place.result c.get.result c.is_none.result c.value_of-place.ensures c.get.ensures c.is_none.ensures c.if-is_none.false in
     let v = sym c.expr_value.ensures ∙ c.in-Some.is in
     let there = sym c.get-2.ensures ∙ same_contents c.get-2.result (Some c.in-Some.value) (sym c.ne.ensures ∙ c.if-ne.false) in
-    let r = writes_where s t h k p c.value_of-place.result c.in-Some.value (result s h c.args.expr.now) c.value_of-place.ensures v at there (c.keeps.ensures.0 c.if-not-keeps.false) in
-    IfOk-weaker c.is_same_outside.result _ _ (λ b w P p. (λ is. r.0 (w.0 is), λ takes. w.1 (r.1 takes))) c.is_same_outside.ensures
+    let r = writes_where s t h k proc c.value_of-place.result c.in-Some.value (result s h c.args.expr.now) c.value_of-place.ensures v at there (c.keeps.ensures.0 c.if-not-keeps.false) in
+    IfOk-weaker c.is_same_outside.result _ _ (λ b w P proc. (λ is. r.0 (w.0 is), λ takes. w.1 (r.1 takes))) c.is_same_outside.ensures

@@ -1,14 +1,14 @@
 use Rattle.std.proofs.Common.{ap, sym, subst}
 use Rattle.gh_sat.specs.Trail.{SearchState}
 use Rattle.gh_sat.proofs.MeasureLemmas.{turn_decided}
-use Rattle.gh_ground.specs.Kept.{IsOpen}
+use Rattle.gh_ground.specs.Kept.{IsUndecided}
 use Rattle.gh_ground.proofs.KeptLemmas.{keeps_same, keeps_then}
 use Rattle.gh_ground.proofs.solver.Solver.decide.Goals as goal
 
 pub returns-in-None-clause-open : goal.returns-in-None-clause-open
 returns-in-None-clause-open c =
     let r = c.requires in
-    subst IsOpen (sym c.in-None.ensures.none.0) (record { sound = r.sound; settled = r.settled; known = r.known; assigned = c.in-None.ensures.none.1 })
+    subst IsUndecided (sym c.in-None.ensures.none.0) (record { sound = r.sound; settled = r.settled; known = r.known; assigned = c.in-None.ensures.none.1 })
 
 pub returns-in-None-clause-keeps : goal.returns-in-None-clause-keeps
 returns-in-None-clause-keeps c =

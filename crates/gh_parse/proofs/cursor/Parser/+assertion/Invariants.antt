@@ -2,7 +2,7 @@ use Rattle.std.proofs.Common.{◌+◌, ◌*◌, ◌<◌, length}
 use Rattle.gh_ast.specs.Grammar.{SpellsAssertion, SpellsItems}
 use Rattle.gh_ast.specs.Plain.{star, formula_first, formula_of}
 use Rattle.gh_parse.specs.Views.{tokens_of}
-use Rattle.gh_parse.specs.Stops.{IsPlain}
+use Rattle.gh_parse.specs.Stops.{EndsHere}
 use Rattle.gh_parse.proofs.Turns.{Goes, before}
 use Rattle.gh_parse.proofs.cursor.Parser.+assertion.Given as goal
 
@@ -24,7 +24,7 @@ decreases-enclosed_assertion l = 5 * length (tokens_of l.self.now.rest.now)
 abbrev pub invariant-assertion-members : goal.invariant-assertion-members
 invariant-assertion-members l = record {
   goes :
-      Goes IsPlain SpellsItems SpellsAssertion (tokens_of l.self.rest.now) (tokens_of l.fn.self.rest.now)
+      Goes EndsHere SpellsItems SpellsAssertion (tokens_of l.self.rest.now) (tokens_of l.fn.self.rest.now)
       (λ ts. star (before (λ c. formula_first (formula_of c)) l.members.items ts));
   shorter : length (tokens_of l.self.rest.now) < length (tokens_of l.fn.self.rest.now);
 }

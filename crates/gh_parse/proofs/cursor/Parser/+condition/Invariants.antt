@@ -2,7 +2,7 @@ use Rattle.std.proofs.Common.{◌+◌, ◌*◌, ◌<◌, length}
 use Rattle.gh_ast.specs.Grammar.{SpellsConj, SpellsLits, SpellsTest, SpellsConjs}
 use Rattle.gh_ast.specs.Plain.{conjunction, disjunction, test_first, test_of}
 use Rattle.gh_parse.specs.Views.{tokens_of}
-use Rattle.gh_parse.specs.Stops.{IsPlain}
+use Rattle.gh_parse.specs.Stops.{EndsHere}
 use Rattle.gh_parse.proofs.Turns.{Goes, before}
 use Rattle.gh_parse.proofs.cursor.Parser.+condition.Given as goal
 
@@ -21,7 +21,7 @@ decreases-enclosed_test l = 4 * length (tokens_of l.self.now.rest.now)
 abbrev pub invariant-conjunction-members : goal.invariant-conjunction-members
 invariant-conjunction-members l = record {
   goes :
-      Goes IsPlain (SpellsLits l.reads) (SpellsConj l.reads) (tokens_of l.self.rest.now) (tokens_of l.fn.self.rest.now)
+      Goes EndsHere (SpellsLits l.reads) (SpellsConj l.reads) (tokens_of l.self.rest.now) (tokens_of l.fn.self.rest.now)
       (λ ts. conjunction (before (λ c. test_first (test_of c)) l.members.items ts));
   shorter : length (tokens_of l.self.rest.now) < length (tokens_of l.fn.self.rest.now);
 }
@@ -32,7 +32,7 @@ decreases-conjunction-members l = length (tokens_of l.self.rest.now)
 abbrev pub invariant-test-members : goal.invariant-test-members
 invariant-test-members l = record {
   goes :
-      Goes IsPlain (SpellsConjs l.reads) (SpellsTest l.reads) (tokens_of l.self.rest.now) (tokens_of l.fn.self.rest.now)
+      Goes EndsHere (SpellsConjs l.reads) (SpellsTest l.reads) (tokens_of l.self.rest.now) (tokens_of l.fn.self.rest.now)
       (λ ts. disjunction (before (λ c. test_first (test_of c)) l.members.items ts));
   shorter : length (tokens_of l.self.rest.now) < length (tokens_of l.fn.self.rest.now);
 }

@@ -1,14 +1,14 @@
 use Rattle.std.proofs.Common.{◌++◌, length}
 use Rattle.gh_ast.specs.Grammar.{SpellsLocals}
 use Rattle.gh_parse.specs.Views.{tokens_of}
-use Rattle.gh_parse.specs.Stops.{IsPlain}
+use Rattle.gh_parse.specs.Stops.{EndsHere}
 use Rattle.gh_parse.specs.Procedures.{AddsLocals}
 use Rattle.gh_parse.proofs.Turns.{Goes}
 use Rattle.gh_parse.proofs.cursor.Parser.declaration.Given as goal
 
 abbrev pub invariant-names : goal.invariant-names
 invariant-names l =
-    Goes IsPlain SpellsLocals (AddsLocals l.fn.locals.items) (tokens_of l.self.rest.now) (tokens_of l.fn.self.rest.now) (λ xs. l.locals.items ++ xs)
+    Goes EndsHere SpellsLocals (AddsLocals l.fn.locals.items) (tokens_of l.self.rest.now) (tokens_of l.fn.self.rest.now) (λ xs. l.locals.items ++ xs)
 
 abbrev pub decreases-names : goal.decreases-names
 decreases-names l = length (tokens_of l.self.rest.now)

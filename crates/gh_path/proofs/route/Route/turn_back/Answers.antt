@@ -9,7 +9,7 @@ returns-in-Some-other-clause-come c = λ nodes ws behind.
     let at : AreBehind nodes [] (c.pop.new.self.items ++ c.in-Some.last ∷ []) ws = subst (λ ts. AreBehind nodes [] ts ws) c.in-Some.ensures.items back in
     rw c.in_ok-go.ensures.onward
     (back_to nodes c.pop.new.self.items c.go.new.self.taken.items c.in-Some.last c.in-Some-other.place ws c.in-Some-other.is
-    (rw c.opposite.ensures at c.in_ok-go.ensures.taken) at)
+    (rw c.other_way.ensures at c.in_ok-go.ensures.taken) at)
 
 pub returns-in-Some-other-clause-less : goal.returns-in-Some-other-clause-less
 returns-in-Some-other-clause-less c =
@@ -17,7 +17,7 @@ returns-in-Some-other-clause-less c =
     ap weights c.in-Some.ensures.items ∙ weights_push c.pop.new.self.items c.in-Some.last in
     let here : other_weight c.in-Some.last.other ≡ weight c.in-Some-other.place = ap other_weight c.in-Some-other.is in
     let total : weights c.go.new.self.taken.items ≡ weights c.pop.new.self.items + 0 =
-    ap weights c.in_ok-go.ensures.taken ∙ weights_push c.pop.new.self.items (record { origin = c.opposite.result; other = None }) in
+    ap weights c.in_ok-go.ensures.taken ∙ weights_push c.pop.new.self.items (record { origin = c.other_way.result; other = None }) in
     let on : onward_weight c.go.new.self.onward ≡ weight c.in-Some-other.place = ap onward_weight c.in_ok-go.ensures.onward in
     omega (arith, popped, here, total, on, c.loop-last.invariant.weighs)
 

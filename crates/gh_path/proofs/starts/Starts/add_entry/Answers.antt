@@ -11,7 +11,7 @@ use Rattle.gh_path.proofs.starts.Starts.add_entry.Goals as goal
 pub returns : goal.returns
 returns c = λ cs are there.
     let P = program_of c.args.walker.now.program.now in
-    let p = procedure_of c.args.walker.now.procedure.now in
-    let count : c.entry_ahead-count.result.count ≡ length (ways (graph_from P p whole_body)) = ap (λ (a : Ahead). a.count) c.entry_ahead-count.ensures ∙ entry_count P p c.requires.few in
-    started P c.args.self.now (record { nodes = c.lower_entry.new.nodes; roots = c.push.new.self }) (record { procedure = c.args.procedure; start = Entry; node = c.in_ok-node.node; count = c.entry_ahead-count.result.count }) p cs
+    let proc = procedure_of c.args.walker.now.procedure.now in
+    let count : c.entry_ahead-count.result.count ≡ length (ways (graph_from P proc whole_body)) = ap (λ (a : Ahead). a.count) c.entry_ahead-count.ensures ∙ entry_count P proc c.requires.few in
+    started P c.args.self.now (record { nodes = c.lower_entry.new.nodes; roots = c.push.new.self }) (record { procedure = c.args.procedure; start = Entry; node = c.in_ok-node.node; count = c.entry_ahead-count.result.count }) proc cs
     c.in_ok-node.ensures c.in_ok-push.ensures.items there count are

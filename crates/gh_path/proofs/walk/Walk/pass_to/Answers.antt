@@ -1,5 +1,5 @@
 use Rattle.std.proofs.Common.{◌≡◌, ◌-◌, drop, ap, subst, arith}
-use Rattle.gh_path.specs.Walks.{IsBefore}
+use Rattle.gh_path.specs.Walks.{IsWalkBefore}
 use Rattle.gh_path.proofs.LeftLemmas.{pass_one}
 use Rattle.gh_path.proofs.walk.Walk.pass_to.Goals as goal
 
@@ -10,7 +10,7 @@ loop-self-init c = record {
   passed = λ P cs before.
       let n = c.args.self.now.given in
       let none : 0 ≡ n - n = omega arith in
-      subst (IsBefore P c.args.self.now) (ap (λ k. drop k cs) none) before;
+      subst (IsWalkBefore P c.args.self.now) (ap (λ k. drop k cs) none) before;
 }
 
 pub loop-self-preserved : goal.loop-self-preserved
@@ -30,4 +30,4 @@ returns c = λ P cs before.
     let t = c.loop-self.self in
     let place : t.given - s.given ≡ c.args.place - s.given =
     omega (arith, c.loop-self.invariant.low, c.loop-self.invariant.near, c.loop-self-test.false) in
-    subst (IsBefore P t) (ap (λ k. drop k cs) place) (c.loop-self.invariant.passed P cs before)
+    subst (IsWalkBefore P t) (ap (λ k. drop k cs) place) (c.loop-self.invariant.passed P cs before)

@@ -4,7 +4,7 @@ use Rattle.gh_ast.specs.Plain.{program_of, part_of, test_of, statement_of, state
 use Rattle.gh_ast.proofs.PlainLemmas.{statement_of-New, statement_of-While, statement_of-Return}
 use Rattle.gh_path.specs.Graphs.{made, loops, all_loops, lowered, all_lowered, tested}
 use Rattle.gh_path.specs.Lowered.{first_loops}
-use Rattle.gh_path.specs.Shown.{Adds}
+use Rattle.gh_path.specs.Shown.{AddsNodes}
 use Rattle.gh_path.proofs.NumberLemmas.{choice_at}
 use Rattle.gh_path.proofs.ShownLemmas.{add_move, then, still}
 use Rattle.gh_path.proofs.LowerLemmas.{block_more, block_whole, statement_is, loops_from, loops_at, first_loop}
@@ -38,7 +38,7 @@ lower_block-loop-left-preserved t c =
           let same : k ≡ n = omega (arith, sum, here) in
           block_more P c.args.nodes.now c.loop-left.nodes c.lower_statement.new.nodes ss c.loop-left.left i x n m c.loop-left.place c.in_ok-place.place g one within c.index-statements-left.is refl
           (c.loop-left.invariant.adds m g later shows)
-          (λ h on. subst (λ j. Adds c.loop-left.nodes c.lower_statement.new.nodes c.in_ok-place.place (lowered P j (statement_of x) h)) same (c.in_ok-place.ensures.adds h on));
+          (λ h on. subst (λ j. AddsNodes c.loop-left.nodes c.lower_statement.new.nodes c.in_ok-place.place (lowered P j (statement_of x) h)) same (c.in_ok-place.ensures.adds h on));
     }
 
 pub lower_block-returns-clause-adds : goal.lower_block-returns-clause-adds
@@ -75,9 +75,9 @@ lower_statement-returns-in_ok-place-in-If-clause-adds t c = λ g shows.
     let later : c.saturating_add-later.result ≡ m = omega (arith, sum, room, length-append (all_loops a) (all_loops b)) in
     let g1 = all_lowered P n a g in
     let g2 = all_lowered P m b g in
-    let one : Adds ns n1 yes g1 = c.in_ok-yes-in-If.ensures.adds g shows in
-    let other : Adds n1 n2 no (all_lowered P c.saturating_add-later.result b g) = c.in_ok-no-in-If.ensures.adds g (still ns n1 yes c.args.next g1 g one shows) in
-    let two : Adds n1 n2 no g2 = subst (λ k. Adds n1 n2 no (all_lowered P k b g)) later other in
+    let one : AddsNodes ns n1 yes g1 = c.in_ok-yes-in-If.ensures.adds g shows in
+    let other : AddsNodes n1 n2 no (all_lowered P c.saturating_add-later.result b g) = c.in_ok-no-in-If.ensures.adds g (still ns n1 yes c.args.next g1 g one shows) in
+    let two : AddsNodes n1 n2 no g2 = subst (λ k. AddsNodes n1 n2 no (all_lowered P k b g)) later other in
     let three = c.in_ok-place-in-If.ensures.adds g1 g2 (still n1 n2 no yes g2 g1 two one.shows) two.shows in
     let both = then ns n1 n2 yes no g1 g2 one two in
     statement_is P n ns c.lower_test.new.nodes c.in_ok-place-in-If.place (statement_of c.args.statement.now) s g is

@@ -4,7 +4,7 @@ use Rattle.std.specs.Option.{is_some}
 use Rattle.std.proofs.lemmas.Bool.{cases_lt}
 use Rattle.gh_base.proofs.ListLemmas.{get_within}
 use Rattle.gh_sat.specs.declared.hinted.Hinted.{Hinted}
-use Rattle.gh_sat.specs.Hinted.{Clears, HasBit, LeadsTo, FindsIn, Finds}
+use Rattle.gh_sat.specs.Hinted.{Clears, HasBit, LeadsTo, FindsIn, FindsHinted}
 use Rattle.gh_sat.proofs.hinted.Hinted.take.Goals as goal
 
 none_of : (o : Option ℕ) (b : Bool) (P : Type 0) → b ≡ is_some o → (b ≡ true → ⊥) → IfNone o P → P
@@ -19,7 +19,7 @@ not_in h block (Some x) b e n f = absurd (n e)
 
 -- one that does
 found_in : (h : Hinted) (block : ℕ) (o : Option ℕ) (b : Bool) → b ≡ is_some o → b ≡ true → FindsIn h block o
-    → ((other next : ℕ) → other < block → LeadsTo h other next → ⊥) → Finds h o
+    → ((other next : ℕ) → other < block → LeadsTo h other next → ⊥) → FindsHinted h o
 found_in h block None b e t f nowhere = absurd cc
 found_in h block (Some place) b e t f nowhere = (block, f, nowhere)
 

@@ -4,18 +4,18 @@ use Rattle.gh_base.specs.declared.atom.Lit.{Lit}
 use Rattle.gh_sat.specs.Trail.{SearchState, IsFalseIn, cut}
 use Rattle.gh_sat.specs.Watch.{WasOpen}
 use Rattle.gh_sat.specs.Learn.{IsTop, add_clause}
-use Rattle.gh_sat.specs.Whole.{Adds}
+use Rattle.gh_sat.specs.Whole.{AddsClause}
 use Rattle.gh_sat.specs.contracts.learner.Learner.{the_view}
 use Rattle.gh_sat.proofs.WholeLemmas.{open_unless, open_under}
 use Rattle.gh_sat.proofs.learner.Learner.add.Goals as goal
 
 added_other : (s now new : SearchState) (c : List Lit) (r : Result (Unit {0}) AllocError) → s ≡ now
-    → (IsFalseIn s.trail c → ⊥) → OnOk r (new ≡ add_clause now c) → OnOk r (Adds now c new)
+    → (IsFalseIn s.trail c → ⊥) → OnOk r (new ≡ add_clause now c) → OnOk r (AddsClause now c new)
 added_other s now new c (Ok x) is n e = inr ((λ f. n (subst (λ (t : SearchState). IsFalseIn t.trail c) (sym is) f)), e)
 added_other s now new c (Err x) is n e = tt
 
 added_false : (s now new : SearchState) (c : List Lit) (top : ℕ) (r : Result (Unit {0}) AllocError) → s ≡ now
-    → IsFalseIn s.trail c → IsTop s.trail c top → OnOk r (new ≡ add_clause (cut now top) c) → OnOk r (Adds now c new)
+    → IsFalseIn s.trail c → IsTop s.trail c top → OnOk r (new ≡ add_clause (cut now top) c) → OnOk r (AddsClause now c new)
 added_false s now new c top (Ok x) is f t e =
     inl (
       top,

@@ -9,7 +9,7 @@ use Rattle.gh_sat.specs.declared.status.Hint.{Hint}
 use Rattle.gh_sat.specs.declared.trail.Step.{Step}
 use Rattle.gh_sat.specs.Trail.{Line, SearchState, AreSteps, IsFree, open_level, push}
 use Rattle.gh_sat.specs.Status.{IsSettled}
-use Rattle.gh_sat.specs.Whole.{IsWhole}
+use Rattle.gh_sat.specs.Whole.{IsUnderWay}
 use Rattle.gh_sat.specs.contracts.learner.Learner.{the_view}
 use Rattle.gh_sat.proofs.ListLemmas.{le_along, le_le}
 use Rattle.gh_sat.proofs.WholeLemmas.{whole_open}
@@ -39,17 +39,17 @@ whole_of : (s : SearchState) (z : Sizes) (trail : List Step) (starts counts : Li
     (counts' : List ℕ) (lists : List (List ℕ)) (hints : List Hint) (lit : Lit) → z ≡ s.sizes
     → trail ≡ (open_level s lit).trail
     → starts ≡ s.starts ++ start ∷ [] → start ≡ length s.trail → counts' ≡ counts ++ count ∷ []
-    → IsWhole (open_level s lit) (counts ++ count ∷ []) looked head lists hints
-    → IsWhole (record { sizes = z; clauses = s.clauses; trail = trail; starts = starts }) counts' looked head lists
+    → IsUnderWay (open_level s lit) (counts ++ count ∷ []) looked head lists hints
+    → IsUnderWay (record { sizes = z; clauses = s.clauses; trail = trail; starts = starts }) counts' looked head lists
     hints
 whole_of s z trail starts counts looked head count start counts' lists hints lit e1 e2 e3 e4 e5 h =
-    subst (λ (w : Sizes). IsWhole (record { sizes = w; clauses = s.clauses; trail = trail; starts = starts }) counts'
+    subst (λ (w : Sizes). IsUnderWay (record { sizes = w; clauses = s.clauses; trail = trail; starts = starts }) counts'
     looked head lists hints) (sym e1)
-    (subst (λ (t : List Step). IsWhole (record s { trail = t; starts = starts }) counts' looked head lists hints)
+    (subst (λ (t : List Step). IsUnderWay (record s { trail = t; starts = starts }) counts' looked head lists hints)
     (sym e2)
-    (subst (λ (t : List ℕ). IsWhole (record s { trail = (open_level s lit).trail; starts = t }) counts' looked head
+    (subst (λ (t : List ℕ). IsUnderWay (record s { trail = (open_level s lit).trail; starts = t }) counts' looked head
     lists hints) (sym (e3 ∙ ap (λ n. s.starts ++ n ∷ []) e4))
-    (subst (λ (t : List ℕ). IsWhole (open_level s lit) t looked head lists hints) (sym e5) h)))
+    (subst (λ (t : List ℕ). IsUnderWay (open_level s lit) t looked head lists hints) (sym e5) h)))
 
 -- the trail has the decision
 put_is : (c : After-put) → c.put.new.self ≡ push c.self.inside.trail

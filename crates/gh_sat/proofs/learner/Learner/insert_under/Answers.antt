@@ -6,7 +6,7 @@ use Rattle.gh_sat.specs.declared.status.Hint.{Hint}
 use Rattle.gh_sat.specs.Trail.{SearchState, cut, most_clauses}
 use Rattle.gh_sat.specs.Watch.{WasOpen, clauses_of}
 use Rattle.gh_sat.specs.Learn.{add_clause}
-use Rattle.gh_sat.specs.Whole.{IsWhole}
+use Rattle.gh_sat.specs.Whole.{IsUnderWay}
 use Rattle.gh_sat.specs.Rows.{rows_of}
 use Rattle.gh_sat.proofs.WholeLemmas.{rows_push, rows_sized}
 use Rattle.std.proofs.Common.{◌++◌, ◌∷◌, []}
@@ -34,10 +34,10 @@ invariant_of-self-in_err-push c =
     let s = the_view c.self.inside in
     let h = whole_lists s c.self.inside.counts.items c.self.inside.looked c.self.inside.head c.self.inside.occurrences
     c.note.new.self c.self.inside.hints.items i.0 c.note.ensures.more in (
-      subst (λ (cs : List (List Lit)). IsWhole (record s { clauses = cs }) c.self.inside.counts.items
+      subst (λ (cs : List (List Lit)). IsUnderWay (record s { clauses = cs }) c.self.inside.counts.items
           c.self.inside.looked c.self.inside.head c.note.new.self c.next_row.new.hints.items)
           (sym c.in_err-push.ensures.items)
-          (subst (λ (x : List Hint). IsWhole s c.self.inside.counts.items c.self.inside.looked c.self.inside.head
+          (subst (λ (x : List Hint). IsUnderWay s c.self.inside.counts.items c.self.inside.looked c.self.inside.head
           c.note.new.self x) (sym c.next_row.ensures.hints) h),
       i.1,
       i.2,
@@ -50,7 +50,7 @@ invariant_of-self-in_err-push c =
 pub invariant_of-self-in_err-row : goal.invariant_of-self-in_err-row
 invariant_of-self-in_err-row c =
     let i = c.self.invariant in (
-      subst (λ (x : List Hint). IsWhole (the_view c.self.inside) c.self.inside.counts.items c.self.inside.looked
+      subst (λ (x : List Hint). IsUnderWay (the_view c.self.inside) c.self.inside.counts.items c.self.inside.looked
           c.self.inside.head c.note.new.self x) (sym c.next_row.ensures.hints)
           (whole_lists (the_view c.self.inside) c.self.inside.counts.items c.self.inside.looked c.self.inside.head
           c.self.inside.occurrences c.note.new.self c.self.inside.hints.items i.0 c.note.ensures.more),
@@ -72,7 +72,7 @@ listed_is c m there =
     (c.in_ok-note.ensures.listed m (subst (λ (l : List Lit). Contains l m) (sym c.lits.ensures) there)))
 
 -- nothing else changes by that
-noted : (c : In_ok-push) → IsWhole (the_view c.self.inside) c.self.inside.counts.items c.self.inside.looked
+noted : (c : In_ok-push) → IsUnderWay (the_view c.self.inside) c.self.inside.counts.items c.self.inside.looked
     c.self.inside.head c.note.new.self c.self.inside.hints.items
 noted c =
     whole_lists (the_view c.self.inside) c.self.inside.counts.items c.self.inside.looked c.self.inside.head
@@ -146,10 +146,10 @@ invariant_of-self-then-level-len c =
     let listed = listed_is d in
     let hints : c.push_reserved-2.new.self.items ≡ c.self.inside.hints.items ++ c.default.result ∷ [] =
     c.push_reserved-2.ensures.items ∙ ap (λ (x : List Hint). x ++ c.default.result ∷ []) c.next_row.ensures.hints in (
-      subst (λ (cs : List (List Lit)). IsWhole (record s { clauses = cs }) c.self.inside.counts.items
+      subst (λ (cs : List (List Lit)). IsUnderWay (record s { clauses = cs }) c.self.inside.counts.items
           c.self.inside.looked c.self.inside.head c.note.new.self c.push_reserved-2.new.self.items)
           (sym c.in_ok-push.ensures.items)
-          (subst (λ (x : List Hint). IsWhole (add_clause s c.args.clause) c.self.inside.counts.items
+          (subst (λ (x : List Hint). IsUnderWay (add_clause s c.args.clause) c.self.inside.counts.items
           c.self.inside.looked c.self.inside.head c.note.new.self x) (sym hints)
           (whole_add s c.self.inside.counts.items c.self.inside.looked c.self.inside.head c.note.new.self
           c.self.inside.hints.items c.args.clause c.default.result h range was listed few)),

@@ -8,7 +8,7 @@ use Rattle.gh_base.specs.Atoms.{opposite, AreInRange}
 use Rattle.gh_sat.specs.declared.trail.Step.{Step}
 use Rattle.gh_sat.specs.Trail.{Line, SearchState, IsSound, IsFalseIn}
 use Rattle.gh_sat.specs.Watch.{WasOpen}
-use Rattle.gh_sat.specs.Learn.{Marking, HaveReasons, IsConflict, IsLearnt, AreReasons, marks_of, reasons_of, IsLeft}
+use Rattle.gh_sat.specs.Learn.{Marking, HaveReasons, IsConflictAt, IsLearnt, AreReasons, marks_of, reasons_of, IsLastMarked}
 use Rattle.gh_sat.specs.contracts.learner.Learner.{the_view}
 use Rattle.gh_base.proofs.ListLemmas.{get_within}
 use Rattle.gh_sat.proofs.ListLemmas.{le_along}
@@ -24,14 +24,14 @@ record Begun (s : SearchState) (k start : ℕ) (lits : List Lit) : Type 0 where
   here : slice_get s.starts last ≡ Some start
   long : length s.starts ≡ last + 1
   within : start ≤ length s.trail
-  conflict : IsConflict s k
+  conflict : IsConflictAt s k
   same : conflict.clause ≡ lits
 
-begun : (s now : SearchState) (k len start : ℕ) (c lits : List Lit) → IsSound s → s ≡ now → IsConflict now k
+begun : (s now : SearchState) (k len start : ℕ) (c lits : List Lit) → IsSound s → s ≡ now → IsConflictAt now k
     → 0 < length now.starts → len ≡ length s.starts
     → start ≡ get_or s.starts (len - 1) start → c ≡ get_or s.clauses k c → lits ≡ c → Begun s k start lits
 begun s now k len start c lits h is conflict some count at read same =
-    let conflict' : IsConflict s k = subst (λ (t : SearchState). IsConflict t k) (sym is) conflict in
+    let conflict' : IsConflictAt s k = subst (λ (t : SearchState). IsConflictAt t k) (sym is) conflict in
     let some' : 0 < length s.starts = subst (λ (t : SearchState). 0 < length t.starts) (sym is) some in
     let here : slice_get s.starts (len - 1) ≡ Some start =
     slice_get_read s.starts (length s.starts) (len - 1) start (λ _. length s.starts) (omega arith) at in
@@ -101,8 +101,8 @@ resolve-requires-clause-present c =
     (p.0, subst (λ l. Contains l p.0) b.same p.1, p.2, p.3, le_along (sym c.begin.ensures.start) refl high, p.4, p.5)
 
 left : (s : SearchState) (clauses : List (List Lit)) (conflict : List Lit) (m : Marking) (place : ℕ)
-    → clauses ≡ s.clauses → IsLeft clauses s.trail conflict m place → IsLeft s.clauses s.trail conflict m place
-left s clauses conflict m place e p = subst (λ cs. IsLeft cs s.trail conflict m place) e p
+    → clauses ≡ s.clauses → IsLastMarked clauses s.trail conflict m place → IsLastMarked s.clauses s.trail conflict m place
+left s clauses conflict m place e p = subst (λ cs. IsLastMarked cs s.trail conflict m place) e p
 
 abbrev no_step : Step
 no_step = record { lit = nothing; level = 0; reason = None }
@@ -110,7 +110,7 @@ no_step = record { lit = nothing; level = 0; reason = None }
 -- what is learnt, as the code makes it
 made : (s : SearchState) (m : Marking) (k start place : ℕ) (lits : List Lit) (steps : List Step) (u : Lit)
     (clause : List Lit)
-    → IsSound s → Begun s k start lits → m.start ≡ start → IsLeft s.clauses s.trail lits m place → steps ≡ s.trail
+    → IsSound s → Begun s k start lits → m.start ≡ start → IsLastMarked s.clauses s.trail lits m place → steps ≡ s.trail
     → u ≡ opposite (get_or steps place no_step).lit
     → clause ≡ m.lower ++ u ∷ [] → IsLearnt s k clause m.level u
 made s m k start place lits steps u clause h b at p same is e =
@@ -126,7 +126,7 @@ made s m k start place lits steps u clause h b at p same is e =
 -- and its reasons
 made_reasons : (s : SearchState) (m : Marking) (k start place : ℕ) (lits : List Lit) (steps : List Step) (u : Lit)
     (clause : List Lit) (reasons : List ℕ)
-    → IsSound s → Begun s k start lits → m.start ≡ start → IsLeft s.clauses s.trail lits m place → steps ≡ s.trail
+    → IsSound s → Begun s k start lits → m.start ≡ start → IsLastMarked s.clauses s.trail lits m place → steps ≡ s.trail
     → u ≡ opposite (get_or steps place no_step).lit
     → clause ≡ m.lower ++ u ∷ [] → reasons ≡ reasons_of m.round (drop (place + 1) m.stamps) (drop (place + 1) s.trail)
     ++ k ∷ [] → AreReasons s.clauses reasons clause
@@ -143,7 +143,7 @@ made_reasons s m k start place lits steps u clause reasons h b at p same is e al
     (subst (IsFalseIn s.trail) b.same b.conflict.is_false)))
 
 -- the step at the place is the one marked step that is left
-remains : (c : In_ok-place) → IsLeft (the_view c.self.inside).clauses (the_view c.self.inside).trail c.lits.result.now
+remains : (c : In_ok-place) → IsLastMarked (the_view c.self.inside).clauses (the_view c.self.inside).trail c.lits.result.now
     (marks_of c.resolve.new.marks) c.in_ok-place.place
 remains c =
     left (the_view c.self.inside) c.as_slice.result.now c.lits.result.now (marks_of c.resolve.new.marks)
@@ -151,7 +151,7 @@ remains c =
 
 -- the clause is learnt
 lesson : (c : In_ok-clause) → Begun (the_view c.self.inside) c.args.conflict c.index.result.now c.lits.result.now
-    → IsLeft (the_view c.self.inside).clauses (the_view c.self.inside).trail c.lits.result.now
+    → IsLastMarked (the_view c.self.inside).clauses (the_view c.self.inside).trail c.lits.result.now
     (marks_of c.resolve.new.marks) c.in_ok-place.place
     → IsLearnt (the_view c.self.inside) c.args.conflict c.in_ok-clause.clause (marks_of c.resolve.new.marks).level
     c.negated-unit.result

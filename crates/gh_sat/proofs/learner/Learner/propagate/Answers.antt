@@ -9,11 +9,11 @@ use Rattle.gh_base.specs.Atoms.{AreInRange, count_of}
 use Rattle.gh_sat.specs.Rows.{rows_of}
 use Rattle.gh_sat.specs.declared.trail.Step.{Step}
 use Rattle.gh_sat.specs.Trail.{SearchState, AreSteps}
-use Rattle.gh_sat.specs.Status.{IsBad, IsSettled, Grows, IsFalseClause}
+use Rattle.gh_sat.specs.Status.{IsFalseOrUnit, IsSettled, Grows, IsFalseClause}
 use Rattle.gh_sat.specs.declared.status.Hint.{Hint}
 use Rattle.gh_sat.specs.Watch.{AreGuarded, MoveHints, AreListed}
-use Rattle.gh_sat.specs.Learn.{IsConflict}
-use Rattle.gh_sat.specs.Whole.{IsWhole, GivesLast}
+use Rattle.gh_sat.specs.Learn.{IsConflictAt}
+use Rattle.gh_sat.specs.Whole.{IsUnderWay, GivesLast}
 use Rattle.gh_sat.specs.contracts.learner.Learner.{the_view}
 use Rattle.gh_sat.proofs.ListLemmas.{le_along}
 use Rattle.gh_sat.proofs.WholeLemmas.{rows_sized}
@@ -64,10 +64,10 @@ invariant_of-self c =
     let written : (with_items c.self.inside.hints c.propagate.new.hints).items ≡ c.propagate.new.hints =
     with_items_is c.self.inside.hints c.propagate.new.hints (p.propagates.moves.long ∙ c.as_mut_slice.ensures.len) in
     let count : count_of s.sizes ≡ count_of c.propagate.new.trail.sizes = ap count_of (sym p.propagates.sizes) in (
-      subst (λ (z : Sizes). IsWhole (record { sizes = z; clauses = s.clauses; trail = new; starts = s.starts })
+      subst (λ (z : Sizes). IsUnderWay (record { sizes = z; clauses = s.clauses; trail = new; starts = s.starts })
           c.self.inside.counts.items c.propagate.new.looked c.propagate.new.head c.self.inside.occurrences
           (with_items c.self.inside.hints c.propagate.new.hints).items) (sym p.propagates.sizes)
-          (subst (λ (x : List Hint). IsWhole (record s { trail = new }) c.self.inside.counts.items
+          (subst (λ (x : List Hint). IsUnderWay (record s { trail = new }) c.self.inside.counts.items
           c.propagate.new.looked c.propagate.new.head c.self.inside.occurrences x) (sym written) h),
       le_along count refl i.1,
       le_along count refl i.2,
@@ -91,13 +91,13 @@ returns-clause-last c =
     subst (λ (t : SearchState). GivesLast t new) c.self.view_is here
 
 conflicts : (t : SearchState) (counts : List ℕ) (looked head : ℕ) (lists : List (List ℕ)) (hints : List Hint)
-    (o : Option ℕ) → IsWhole t counts looked head lists hints → IfSome o (λ k. IsFalseClause t.clauses t.trail k)
-    → IfSome o (λ k. IsConflict t k)
+    (o : Option ℕ) → IsUnderWay t counts looked head lists hints → IfSome o (λ k. IsFalseClause t.clauses t.trail k)
+    → IfSome o (λ k. IsConflictAt t k)
 conflicts t counts looked head lists hints None h f = tt
 conflicts t counts looked head lists hints (Some k) h f = conflict_of t counts looked head lists hints k f.0 h f.1 f.2
 
 settles : (t : SearchState) (o : Option ℕ)
-    → IfNone o ((k : ℕ) (c : List Lit) → slice_get t.clauses k ≡ Some c → IsBad t.trail c → ⊥) → IfNone o (IsSettled t)
+    → IfNone o ((k : ℕ) (c : List Lit) → slice_get t.clauses k ≡ Some c → IsFalseOrUnit t.trail c → ⊥) → IfNone o (IsSettled t)
 settles t None f = settled_from t f
 settles t (Some k) f = tt
 
@@ -127,7 +127,7 @@ returns-clause-settled c =
     let t = state (goal.at.returns-clause-settled c).After-propagate in
     settles t c.propagate.result
     (subst (λ (x : List (List Lit)). IfNone c.propagate.result
-    ((k : ℕ) (d : List Lit) → slice_get x k ≡ Some d → IsBad new d → ⊥)) c.as_slice.ensures.value p.settled)
+    ((k : ℕ) (d : List Lit) → slice_get x k ≡ Some d → IsFalseOrUnit new d → ⊥)) c.as_slice.ensures.value p.settled)
 
 pub returns-clause-sound : goal.returns-clause-sound
 returns-clause-sound c = (invariant_of-self c).0.sound

@@ -3,17 +3,17 @@ use Rattle.std.specs.Prelude.{slice_get}
 use Rattle.std.proofs.lemmas.Option.{slice_get_read}
 use Rattle.gh_base.specs.declared.atom.Lit.{Lit}
 use Rattle.gh_sat.specs.Trail.{SearchState, IsFalseIn}
-use Rattle.gh_sat.specs.Learn.{IsConflict, AreReasons, ResolvedFrom, marks_of}
+use Rattle.gh_sat.specs.Learn.{IsConflictAt, AreReasons, ResolvedFrom, marks_of}
 use Rattle.gh_sat.specs.contracts.learner.Learner.{the_view}
 use Rattle.gh_base.proofs.ListLemmas.{get_within}
 use Rattle.gh_sat.proofs.ReasonLemmas.{refutation_shows}
 use Rattle.gh_sat.proofs.learner.Learner.refutation.Goals as goal
 
 -- the false clause, as the code reads it
-read_false : (s now : SearchState) (k : ℕ) (c lits : List Lit) → s ≡ now → IsConflict now k → c ≡ get_or s.clauses k c
+read_false : (s now : SearchState) (k : ℕ) (c lits : List Lit) → s ≡ now → IsConflictAt now k → c ≡ get_or s.clauses k c
     → lits ≡ c → (slice_get s.clauses k ≡ Some lits) × IsFalseIn s.trail lits
 read_false s now k c lits is conflict read same =
-    let here : IsConflict s k = subst (λ (t : SearchState). IsConflict t k) (sym is) conflict in
+    let here : IsConflictAt s k = subst (λ (t : SearchState). IsConflictAt t k) (sym is) conflict in
     let there : slice_get s.clauses k ≡ Some c =
     slice_get_read s.clauses (length s.clauses) k c (λ _. length s.clauses) (get_within s.clauses k here.clause here.at)
     read in

@@ -4,7 +4,7 @@ use Rattle.gh_base.specs.declared.sizes.Sizes.{Sizes}
 use Rattle.gh_base.specs.Atoms.{count_of}
 use Rattle.gh_sat.specs.declared.trail.Step.{Step}
 use Rattle.gh_sat.specs.Trail.{SearchState}
-use Rattle.gh_sat.specs.Whole.{IsWhole}
+use Rattle.gh_sat.specs.Whole.{IsUnderWay}
 use Rattle.gh_sat.specs.contracts.learner.Learner.{the_view}
 use Rattle.gh_sat.proofs.ListLemmas.{le_along}
 use Rattle.gh_sat.proofs.WholeLemmas.{rows_sized}
@@ -25,13 +25,13 @@ invariant_of-self c =
     let levels : length s.starts ≤ c.args.place =
     subst (λ (t : SearchState). length t.starts ≤ c.args.place) (sym c.self.view_is) r.levels in
     let count : count_of s.sizes ≡ count_of c.erase.new.self.sizes = ap count_of (sym e.sizes) in (
-      subst (λ (z : Sizes). IsWhole (record {
+      subst (λ (z : Sizes). IsUnderWay (record {
         sizes = z;
         clauses = s.clauses;
         trail = c.erase.new.self.steps;
         starts = s.starts;
       }) c.self.inside.counts.items 0 c.args.place c.self.inside.occurrences c.self.inside.hints.items) (sym e.sizes)
-          (subst (λ (t : List Step). IsWhole (record s { trail = t }) c.self.inside.counts.items 0 c.args.place
+          (subst (λ (t : List Step). IsUnderWay (record s { trail = t }) c.self.inside.counts.items 0 c.args.place
           c.self.inside.occurrences c.self.inside.hints.items) (sym e.steps)
           (whole_retract s c.self.inside.counts.items c.self.inside.looked c.self.inside.head c.args.place
           c.self.inside.occurrences c.self.inside.hints.items i.0 within present levels)),

@@ -1,6 +1,6 @@
 use Rattle.std.proofs.Common.{◌≡◌, ◌∙◌, ◌≤◌, ◌++◌, ◌∷◌, [], ℕ, arith, ap, sym, subst, length, take}
 use Rattle.gh_sat.specs.Trail.{SearchState}
-use Rattle.gh_sat.specs.Whole.{Adds}
+use Rattle.gh_sat.specs.Whole.{AddsClause}
 use Rattle.gh_sat.specs.Theory.{IsBeside}
 use Rattle.gh_sat.proofs.TheoryLemmas.{beside_cut, beside_undo, added_cut}
 use Rattle.gh_sat.proofs.search.Search.add.Goals as goal
@@ -34,8 +34,8 @@ invariant_of-self-else-mark-length g c =
 
 pub returns-then-mark-length-clause-ok : goal.returns-then-mark-length-clause-ok
 returns-then-mark-length-clause-ok g c =
-    subst (λ (t : SearchState). Adds t c.args.clause c.add.new.self) c.self.view_is c.in_ok-add.ensures.ok
+    subst (λ (t : SearchState). AddsClause t c.args.clause c.add.new.self) c.self.view_is c.in_ok-add.ensures.ok
 
 pub returns-else-mark-length-clause-ok : goal.returns-else-mark-length-clause-ok
 returns-else-mark-length-clause-ok g c =
-    subst (λ (t : SearchState). Adds t c.args.clause c.add.new.self) c.self.view_is c.in_ok-add.ensures.ok
+    subst (λ (t : SearchState). AddsClause t c.args.clause c.add.new.self) c.self.view_is c.in_ok-add.ensures.ok

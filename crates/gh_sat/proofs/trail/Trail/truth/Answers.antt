@@ -3,7 +3,7 @@ use mathlib.Core.Bool.{beq}
 use Rattle.gh_base.specs.declared.atom.Lit.{Lit}
 use Rattle.gh_base.specs.Atoms.{IsInRange}
 use Rattle.gh_sat.specs.Rows.{numbered}
-use Rattle.gh_sat.specs.Trail.{Line, IsValue}
+use Rattle.gh_sat.specs.Trail.{Line, IsTruth}
 use Rattle.gh_sat.specs.declared.rows.Numbered.{Numbered}
 use Rattle.gh_sat.proofs.TrailLemmas.{number_fits, truth_is}
 use Rattle.gh_sat.proofs.trail.Trail.truth.Goals as goal
@@ -22,7 +22,7 @@ pub returns-in-None-clause-value : goal.returns-in-None-clause-value
 returns-in-None-clause-value c =
     let s = c.self.inside in
     subst (λ (t : Line). (l : Lit) → IsInRange t.sizes l.atom → c.args.lit ≡ numbered t.sizes l
-    → IsValue t.steps l None) c.self.view_is
+    → IsTruth t.steps l None) c.self.view_is
     (λ l r e. truth_is s.values s.steps.items l c.args.lit _ _ c.self.invariant.0 r e
     (rw c.values.ensures at c.in-None.is))
 
@@ -30,6 +30,6 @@ pub returns-in-Some-clause-value : goal.returns-in-Some-clause-value
 returns-in-Some-clause-value c =
     let s = c.self.inside in
     subst (λ (t : Line). (l : Lit) → IsInRange t.sizes l.atom → c.args.lit ≡ numbered t.sizes l
-    → IsValue t.steps l (Some (beq c.in-Some.truth c.args.lit.positive))) c.self.view_is
+    → IsTruth t.steps l (Some (beq c.in-Some.truth c.args.lit.positive))) c.self.view_is
     (λ l r e. truth_is s.values s.steps.items l c.args.lit _ _ c.self.invariant.0 r e
     (rw c.values.ensures at c.in-Some.is))

@@ -2,7 +2,7 @@ use Rattle.std.proofs.Common.{◌≡◌, ◌+◌, length, Some, take, cond, sym,
 use Rattle.gh_ast.specs.Plain.{program_of}
 use Rattle.gh_path.specs.Answers.{IsNumbered}
 use Rattle.gh_path.specs.Conditions.{conditions}
-use Rattle.gh_path.specs.Walks.{IsBefore}
+use Rattle.gh_path.specs.Walks.{IsWalkBefore}
 use Rattle.gh_path.proofs.GivenLemmas.{lent_one, lent_on, lent_none}
 use Rattle.gh_trace.specs.Kept.{drawn_of, HasNoCounterexample}
 use Rattle.gh_trace.specs.Replay.{Refutes}
@@ -15,7 +15,7 @@ use Rattle.gh_session.proofs.session.Session.decide_all.Goals as goal
 
 pub loop-place-init : goal.loop-place-init
 loop-place-init g c = record {
-  before = subst (λ Q. IsBefore Q c.walk-walk.result (conditions Q)) c.requires.same c.walk-walk.ensures;
+  before = subst (λ Q. IsWalkBefore Q c.walk-walk.result (conditions Q)) c.requires.same c.walk-walk.ensures;
   decided = none_decided (program_of c.args.typed.now) (knowledge c.args.self.now);
   few = omega arith;
   calls = omega arith;

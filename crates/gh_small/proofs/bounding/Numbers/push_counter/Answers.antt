@@ -1,6 +1,6 @@
 use Rattle.std.proofs.Common.{arith, subst, sym, ap}
 use Rattle.gh_base.specs.Grounds.{Problem}
-use Rattle.gh_small.specs.Bounded.{IsWithin}
+use Rattle.gh_small.specs.Bounded.{AreSizes}
 use Rattle.gh_small.proofs.PushLemmas.{pushed_begin, pushed_later}
 use Rattle.gh_small.proofs.bounding.Numbers.push_counter.Goals as goal
 
@@ -9,7 +9,7 @@ push-requires-else-j-eq0-2-clause-in_range c = c.raises.ensures.in_range _ c.req
 
 pub push-requires-else-j-eq0-2-2-clause-in_range :
     goal.push-requires-else-j-eq0-2-2-clause-in_range
-push-requires-else-j-eq0-2-2-clause-in_range c = c.keeps-else-j-eq0-2.ensures.in_range _ (subst (IsWithin c.args.self) (sym (ap (λ (p : Problem). p.sizes) c.in_ok-push-4.ensures.ok)) c.requires.sizes)
+push-requires-else-j-eq0-2-2-clause-in_range c = c.keeps-else-j-eq0-2.ensures.in_range _ (subst (AreSizes c.args.self) (sym (ap (λ (p : Problem). p.sizes) c.in_ok-push-4.ensures.ok)) c.requires.sizes)
 
 pub returns-in_ok-push-3 : goal.returns-in_ok-push-3
 returns-in_ok-push-3 c =
